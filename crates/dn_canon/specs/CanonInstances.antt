@@ -1,0 +1,26 @@
+-- Which instances are canonical, by form (this project's profile).
+use Rattle.std.specs.Prelude.{ℤ, List, [], ◌∷◌, IsTrue}
+use Rattle.std.specs.List.{AllByRecursion}
+use Rattle.dn_bundle.specs.declared.arc.Form.{Form}
+use Rattle.dn_bundle.specs.Kinds.{ArcKind, costs, capacities, lengths}
+use Rattle.dn_instance.specs.Pairs.{pair_le, bundle}
+use Rattle.dn_instance.specs.Instances.{Graph, Instance, MinCostFlow, MaxFlow, ShortestPaths, Sources, Queries, Coordinates}
+
+-- the arcs stand by rising (SRC, DST)
+abbrev pub AreInOrder : {Arc : Type 0} → List ((ℤ × ℤ) × Arc) → Type 0
+AreInOrder [] = Unit {0}
+AreInOrder (a ∷ rest) = AllByRecursion (λ b. IsTrue (pair_le a.0 b.0)) rest × AreInOrder rest
+
+-- and those of each ordered pair are the canonical ones
+pub record IsCanonGraph {Arc : Type 0} (kind : ArcKind Arc) (form : Form) (graph : Graph Arc) : Type 0 where
+  pub in_order : AreInOrder graph.arcs
+  pub canonical : (p : ℤ × ℤ) → kind.IsCanon form (bundle p graph.arcs)
+
+-- a companion is canonical as it is
+abbrev pub IsCanonInstance : Form → Instance → Type 0
+IsCanonInstance form (MinCostFlow supplies graph) = IsCanonGraph costs form graph
+IsCanonInstance form (MaxFlow source sink graph) = IsCanonGraph capacities form graph
+IsCanonInstance form (ShortestPaths graph) = IsCanonGraph lengths form graph
+IsCanonInstance form (Sources ids) = Unit {0}
+IsCanonInstance form (Queries pairs) = Unit {0}
+IsCanonInstance form (Coordinates points) = Unit {0}

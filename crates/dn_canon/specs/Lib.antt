@@ -1,0 +1,3 @@
+pub mod CanonInstances
+pub mod Prints
+pub mod CanonTexts

@@ -1,0 +1,7 @@
+//! The first difference between two instances.
+#![tactic(auto)]
+
+pub mod laws;
+pub mod verdict;
+
+pub use verdict::Verdict;

@@ -1,0 +1,44 @@
+-- What a text describes. `min` and `max` problems: First DIMACS Challenge, network flow format. `sp` graphs and their
+-- companions: Ninth DIMACS Challenge, shortest-path formats.
+use Rattle.std.specs.Prelude.{ℤ, pos, List}
+use Rattle.dn_line.specs.declared.kind.Kind.{Kind}
+use Rattle.dn_line.specs.declared.kind.Kind.TheVariants.{Min, Max, Sp, Ss, P2p, Co}
+use Rattle.dn_bundle.specs.declared.arc.LengthArc.{LengthArc}
+use Rattle.dn_bundle.specs.declared.arc.CapArc.{CapArc}
+use Rattle.dn_bundle.specs.declared.arc.CostArc.{CostArc}
+
+-- nodes 1 to `nodes`, and the arcs in file order, each at its ordered pair (SRC, DST)
+pub record Graph (Arc : Type 0) : Type 0 where
+  pub nodes : ℤ
+  pub arcs : List ((ℤ × ℤ) × Arc)
+
+pub data Instance : Type 0 where
+  -- `min`: the flow of each node whose flow is not 0, by rising ID, and the arcs
+  MinCostFlow : List (ℤ × ℤ) → Graph CostArc → Instance
+  -- `max`: source, sink and arcs
+  MaxFlow : ℤ → ℤ → Graph CapArc → Instance
+  -- `sp`: arcs
+  ShortestPaths : Graph LengthArc → Instance
+  -- `ss`: IDs in file order
+  Sources : List ℤ → Instance
+  -- `p2p`: pairs of IDs in file order
+  Queries : List (ℤ × ℤ) → Instance
+  -- `co`: X and Y of each ID, by rising ID
+  Coordinates : List (ℤ × (ℤ × ℤ)) → Instance
+
+abbrev pub kind_of : Instance → Kind
+kind_of (MinCostFlow supplies graph) = Min
+kind_of (MaxFlow source sink graph) = Max
+kind_of (ShortestPaths graph) = Sp
+kind_of (Sources ids) = Ss
+kind_of (Queries pairs) = P2p
+kind_of (Coordinates points) = Co
+
+-- NODES; 0 for a companion
+abbrev pub nodes_of : Instance → ℤ
+nodes_of (MinCostFlow supplies graph) = graph.nodes
+nodes_of (MaxFlow source sink graph) = graph.nodes
+nodes_of (ShortestPaths graph) = graph.nodes
+nodes_of (Sources ids) = pos 0
+nodes_of (Queries pairs) = pos 0
+nodes_of (Coordinates points) = pos 0

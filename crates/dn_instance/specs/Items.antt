@@ -1,0 +1,124 @@
+-- What a list of items says: the items that the lines of a text spell, in order.
+use Rattle.std.specs.Prelude.{ℕ, ℤ, pos, List, [], ◌∷◌, length, Bool, true, false, cond, filter, filter_map, fold, Option, Some, None, option_and_then}
+use Rattle.std.specs.Option.{option_or, option_map}
+use Rattle.std.specs.Ordering.{int_cmp, int_eq}
+use Rattle.std.specs.BTreeMap.{insert_entry}
+use Rattle.dn_line.specs.declared.kind.Kind.{Kind}
+use Rattle.dn_line.specs.declared.kind.Kind.TheVariants as Kinds
+use Rattle.dn_line.specs.declared.kind.Letter.{Letter}
+use Rattle.dn_line.specs.declared.kind.Letter.TheVariants.{S, T}
+use Rattle.dn_line.specs.declared.line.Line.{Line}
+use Rattle.dn_line.specs.declared.line.Line.TheVariants as Item
+use Rattle.dn_bundle.specs.Kinds.{ArcKind, costs, capacities, lengths}
+use Rattle.dn_bundle.specs.declared.arc.CapArc.{CapArc}
+use Rattle.dn_instance.specs.Instances.{Graph, Instance, MinCostFlow, MaxFlow, ShortestPaths, Sources, Queries, Coordinates}
+
+-- what a problem line declares: NODES is 0 for a companion; `count` is the number of counted lines
+pub record Problem : Type 0 where
+  pub kind : Kind
+  pub nodes : ℤ
+  pub count : ℤ
+
+abbrev pub problem_in : Line → Option Problem
+problem_in (Item.Graph kind nodes arcs) = Some (record { kind = kind; nodes = nodes; count = arcs })
+problem_in (Item.Aux kind count) = Some (record { kind = kind; nodes = pos 0; count = count })
+problem_in _ = None
+
+-- the first problem that is declared
+abbrev pub problem_of : List Line → Option Problem
+problem_of [] = None
+problem_of (i ∷ rest) = option_or (problem_in i) (problem_of rest)
+
+abbrev pub kind_known : List Line → Option Kind
+kind_known items = option_map (λ (p : Problem). p.kind) (problem_of items)
+
+-- an arc, or a line of a companion's list: what ARCS and K count
+abbrev pub is_counted : Line → Bool
+is_counted (Item.MinArc src dst low cap cost) = true
+is_counted (Item.MaxArc src dst cap) = true
+is_counted (Item.SpArc src dst length) = true
+is_counted (Item.Source id) = true
+is_counted (Item.Query first second) = true
+is_counted (Item.Point id x y) = true
+is_counted _ = false
+
+abbrev pub counted : List Line → ℕ
+counted items = length (filter is_counted items)
+
+-- an arc's ordered pair, and the numbers after it
+abbrev pub arc_numbers : Line → Option ((ℤ × ℤ) × List ℤ)
+arc_numbers (Item.MinArc src dst low cap cost) = Some ((src, dst), low ∷ cap ∷ cost ∷ [])
+arc_numbers (Item.MaxArc src dst cap) = Some ((src, dst), cap ∷ [])
+arc_numbers (Item.SpArc src dst length) = Some ((src, dst), length ∷ [])
+arc_numbers _ = None
+
+abbrev pub placed_arc : {Arc : Type 0} → ArcKind Arc → (ℤ × ℤ) × List ℤ → Option ((ℤ × ℤ) × Arc)
+placed_arc kind a = option_map (λ arc. (a.0, arc)) (kind.arc_of a.1)
+
+abbrev pub arc_in : {Arc : Type 0} → ArcKind Arc → Line → Option ((ℤ × ℤ) × Arc)
+arc_in kind i = option_and_then (placed_arc kind) (arc_numbers i)
+
+-- the arcs, in order
+abbrev pub arcs_of : {Arc : Type 0} → ArcKind Arc → List Line → List ((ℤ × ℤ) × Arc)
+arcs_of kind items = filter_map (arc_in kind) items
+
+-- entries by rising key
+abbrev pub by_key : {X : Type 0} → List (ℤ × X) → List (ℤ × X)
+by_key entries = fold (λ m e. insert_entry int_cmp m e.0 e.1) [] entries
+
+-- a node's flow, unless it is 0
+abbrev pub supply_in : Line → Option (ℤ × ℤ)
+supply_in (Item.Supply id flow) = cond (int_eq flow (pos 0)) None (Some (id, flow))
+supply_in _ = None
+
+abbrev pub supplies_of : List Line → List (ℤ × ℤ)
+supplies_of items = by_key (filter_map supply_in items)
+
+abbrev pub same_letter : Letter → Letter → Bool
+same_letter S S = true
+same_letter S T = false
+same_letter T S = false
+same_letter T T = true
+
+-- the node that a line names for this letter
+abbrev pub terminal_in : Letter → Line → Option ℤ
+terminal_in letter (Item.Terminal id l) = cond (same_letter letter l) (Some id) None
+terminal_in letter _ = None
+
+-- the first node that is named for this letter
+abbrev pub terminal_of : Letter → List Line → Option ℤ
+terminal_of letter [] = None
+terminal_of letter (i ∷ rest) = option_or (terminal_in letter i) (terminal_of letter rest)
+
+abbrev pub source_in : Line → Option ℤ
+source_in (Item.Source id) = Some id
+source_in _ = None
+
+abbrev pub query_in : Line → Option (ℤ × ℤ)
+query_in (Item.Query first second) = Some (first, second)
+query_in _ = None
+
+abbrev pub point_in : Line → Option (ℤ × (ℤ × ℤ))
+point_in (Item.Point id x y) = Some (id, (x, y))
+point_in _ = None
+
+abbrev pub graph_of : {Arc : Type 0} → ArcKind Arc → ℤ → List Line → Graph Arc
+graph_of kind nodes items = record { nodes = nodes; arcs = arcs_of kind items }
+
+-- a `max` problem has a source and a sink
+abbrev pub max_flow : Option ℤ → Option ℤ → Graph CapArc → Option Instance
+max_flow (Some source) (Some sink) graph = Some (MaxFlow source sink graph)
+max_flow _ _ graph = None
+
+-- the instance of a problem of this kind with these items
+abbrev pub instance_as : Kind → ℤ → List Line → Option Instance
+instance_as Kinds.Min nodes items = Some (MinCostFlow (supplies_of items) (graph_of costs nodes items))
+instance_as Kinds.Max nodes items = max_flow (terminal_of S items) (terminal_of T items) (graph_of capacities nodes items)
+instance_as Kinds.Sp nodes items = Some (ShortestPaths (graph_of lengths nodes items))
+instance_as Kinds.Ss nodes items = Some (Sources (filter_map source_in items))
+instance_as Kinds.P2p nodes items = Some (Queries (filter_map query_in items))
+instance_as Kinds.Co nodes items = Some (Coordinates (by_key (filter_map point_in items)))
+
+-- the instance that the items make: that of the problem declared, where it has all that it needs
+abbrev pub instance_of : List Line → Option Instance
+instance_of items = option_and_then (λ (p : Problem). instance_as p.kind p.nodes items) (problem_of items)

@@ -1,0 +1,9 @@
+pub mod Pairs
+pub mod Instances
+pub mod Validity
+pub mod Sameness
+pub mod EntryCount
+pub mod Items
+pub mod TextFaults
+pub mod Texts
+pub mod Tables

@@ -1,0 +1,20 @@
+-- When two instances are the same problem (this project's profile).
+use Rattle.std.specs.Prelude.{◌≡◌, ℤ}
+use Rattle.dn_bundle.specs.Kinds.{ArcKind, costs, capacities, lengths}
+use Rattle.dn_instance.specs.Pairs.{bundle}
+use Rattle.dn_instance.specs.Instances.{Graph, Instance, MinCostFlow, MaxFlow, ShortestPaths, Sources, Queries, Coordinates}
+
+-- the same NODES, and at each ordered pair arcs that mean the same
+pub record SameGraph {Arc : Type 0} (kind : ArcKind Arc) (G H : Graph Arc) : Type 0 where
+  pub nodes : G.nodes ≡ H.nodes
+  pub bundles : (p : ℤ × ℤ) → kind.Same (bundle p G.arcs) (bundle p H.arcs)
+
+-- the same kind, supplies or terminals, graph, list of items or map of points
+abbrev pub IsSame : Instance → Instance → Type 0
+IsSame (MinCostFlow s G) (MinCostFlow t H) = (s ≡ t) × SameGraph costs G H
+IsSame (MaxFlow a b G) (MaxFlow c d H) = (a ≡ c) × (b ≡ d) × SameGraph capacities G H
+IsSame (ShortestPaths G) (ShortestPaths H) = SameGraph lengths G H
+IsSame (Sources xs) (Sources ys) = xs ≡ ys
+IsSame (Queries xs) (Queries ys) = xs ≡ ys
+IsSame (Coordinates xs) (Coordinates ys) = xs ≡ ys
+IsSame _ _ = ⊥

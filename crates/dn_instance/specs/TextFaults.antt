@@ -1,0 +1,179 @@
+-- The faults that a line has after the items of the lines before it, and those at the end. Their numbers and the
+-- order of checking are this project's profile; what is a fault is of the formats, as docs/FORMAT.md says of each.
+use Rattle.std.specs.Prelude.{ℕ, ◌-◌, ◌^◌, ℤ, pos, List, [], ◌∷◌, ◌++◌, Bool, true, false, ◌&&◌, ◌||◌, not, cond, nat_le, is_none, is_some, Option, Some, None, Result, Ok, Err, int_lt}
+use Rattle.std.specs.List.{list_any, list_all}
+use Rattle.std.specs.Ordering.{int_eq}
+use Rattle.dn_line.specs.declared.kind.Kind.{Kind}
+use Rattle.dn_line.specs.declared.kind.Kind.TheVariants as Kinds
+use Rattle.dn_line.specs.declared.kind.Letter.{Letter}
+use Rattle.dn_line.specs.declared.kind.Letter.TheVariants as Letters
+use Rattle.dn_line.specs.declared.line.Line.{Line}
+use Rattle.dn_line.specs.declared.line.Line.TheVariants as Item
+use Rattle.dn_line.specs.declared.word.Keyword.{Keyword}
+use Rattle.dn_line.specs.declared.word.Keyword.TheVariants as Key
+use Rattle.dn_line.specs.declared.word.Word.{Word}
+use Rattle.dn_line.specs.declared.code.Code.{Code}
+use Rattle.dn_line.specs.declared.code.Code.TheVariants.{LateNode, TooManyLines, NodeOutOfRange, RepeatedNode, SameTerminal, LowAboveCap, SumTooLarge, NoProblem, MissingTerminal, TooFewLines, TooLong}
+use Rattle.dn_line.specs.Words.{first, is_skip}
+use Rattle.dn_line.specs.Faults.{Test, first_fault, head_tests, field_tests, fields}
+use Rattle.dn_line.specs.Reading.{words_read}
+use Rattle.dn_bundle.specs.Kinds.{ArcKind, costs, capacities}
+use Rattle.dn_instance.specs.Pairs.{bundle}
+use Rattle.dn_instance.specs.Items.{Problem, problem_of, kind_known, counted, arcs_of, arc_in, same_letter, terminal_of}
+
+-- the item that a line spells, if it spells one
+abbrev pub item_read : Result Line Code → Option Line
+item_read (Ok Item.Skip) = None
+item_read (Ok i) = Some i
+item_read (Err code) = None
+
+-- the line's number is 2^63 - 1 at least
+abbrev pub is_too_long : ℕ → Bool
+is_too_long number = nat_le (2 ^ 63 - 1) number
+
+abbrev pub is_arc : Line → Bool
+is_arc (Item.MinArc src dst low cap cost) = true
+is_arc (Item.MaxArc src dst cap) = true
+is_arc (Item.SpArc src dst length) = true
+is_arc _ = false
+
+abbrev pub is_node_letter : Option Keyword → Bool
+is_node_letter (Some Key.N) = true
+is_node_letter _ = false
+
+-- the letter of a counted line
+abbrev pub is_counted_letter : Option Keyword → Bool
+is_counted_letter (Some Key.A) = true
+is_counted_letter (Some Key.S) = true
+is_counted_letter (Some Key.Q) = true
+is_counted_letter (Some Key.V) = true
+is_counted_letter _ = false
+
+-- an `n` line after an `a` line
+abbrev pub is_late_node : List Line → List Word → Bool
+is_late_node before ws = is_node_letter (first ws) && list_any is_arc before
+
+-- as many counted lines as declared
+abbrev pub is_full : Option Problem → ℕ → Bool
+is_full None count = false
+is_full (Some p) count = not (int_lt (pos count) p.count)
+
+-- a counted line when as many as declared were read
+abbrev pub is_surplus : List Line → List Word → Bool
+is_surplus before ws = is_counted_letter (first ws) && is_full (problem_of before) (counted before)
+
+-- the nodes that a line names
+abbrev pub ids_in : Line → List ℤ
+ids_in (Item.Supply id flow) = id ∷ []
+ids_in (Item.Terminal id letter) = id ∷ []
+ids_in (Item.MinArc src dst low cap cost) = src ∷ dst ∷ []
+ids_in (Item.MaxArc src dst cap) = src ∷ dst ∷ []
+ids_in (Item.SpArc src dst length) = src ∷ dst ∷ []
+ids_in (Item.Source id) = id ∷ []
+ids_in (Item.Query first second) = first ∷ second ∷ []
+ids_in (Item.Point id x y) = id ∷ []
+ids_in _ = []
+
+abbrev pub is_companion : Kind → Bool
+is_companion Kinds.Ss = true
+is_companion Kinds.P2p = true
+is_companion Kinds.Co = true
+is_companion _ = false
+
+-- 1 to NODES; in a companion, at least 1
+abbrev pub is_in_range : Option Problem → ℤ → Bool
+is_in_range None id = false
+is_in_range (Some p) id = int_lt (pos 0) id && (is_companion p.kind || not (int_lt p.nodes id))
+
+-- an ID, SRC or DST out of range
+abbrev pub is_stray : List Line → Line → Bool
+is_stray before i = not (list_all (is_in_range (problem_of before)) (ids_in i))
+
+abbrev pub has_supply : ℤ → Line → Bool
+has_supply id (Item.Supply i flow) = int_eq i id
+has_supply id _ = false
+
+abbrev pub has_point : ℤ → Line → Bool
+has_point id (Item.Point i x y) = int_eq i id
+has_point id _ = false
+
+-- a second node line or point for an ID, a second line for a terminal
+abbrev pub is_repeated : List Line → Line → Bool
+is_repeated before (Item.Supply id flow) = list_any (has_supply id) before
+is_repeated before (Item.Terminal id letter) = is_some (terminal_of letter before)
+is_repeated before (Item.Point id x y) = list_any (has_point id) before
+is_repeated before _ = false
+
+abbrev pub other_letter : Letter → Letter
+other_letter Letters.S = Letters.T
+other_letter Letters.T = Letters.S
+
+abbrev pub is_id : ℤ → Option ℤ → Bool
+is_id id None = false
+is_id id (Some other) = int_eq other id
+
+-- source and sink are one node
+abbrev pub is_same_terminal : List Line → Line → Bool
+is_same_terminal before (Item.Terminal id letter) = is_id id (terminal_of (other_letter letter) before)
+is_same_terminal before _ = false
+
+-- LOW is above CAP
+abbrev pub is_low_above_cap : Line → Bool
+is_low_above_cap (Item.MinArc src dst low cap cost) = int_lt cap low
+is_low_above_cap _ = false
+
+-- the CAPs of these arcs and this one at its ordered pair sum past 2^63 - 1
+abbrev pub passes : {Arc : Type 0} → ArcKind Arc → List ((ℤ × ℤ) × Arc) → Option ((ℤ × ℤ) × Arc) → Bool
+passes kind before None = false
+passes kind before (Some a) = int_lt (pos (2 ^ 63 - 1)) (kind.capacity (bundle a.0 before ++ a.1 ∷ []))
+
+-- the CAPs of this pair's earlier arcs and this one sum past 2^63 - 1
+abbrev pub is_sum_too_large : List Line → Line → Bool
+is_sum_too_large before (Item.MinArc src dst low cap cost) = passes costs (arcs_of costs before) (arc_in costs (Item.MinArc src dst low cap cost))
+is_sum_too_large before (Item.MaxArc src dst cap) = passes capacities (arcs_of capacities before) (arc_in capacities (Item.MaxArc src dst cap))
+is_sum_too_large before _ = false
+
+-- a fault of the item, where the line spells one
+abbrev pub on_item : (Line → Bool) → Option Line → Bool
+on_item test None = false
+on_item test (Some i) = test i
+
+-- the faults of an item after those before it, in the order of checking
+abbrev pub item_tests : List Line → Option Line → List Test
+item_tests before i =
+    (NodeOutOfRange, on_item (is_stray before) i)
+    ∷ (RepeatedNode, on_item (is_repeated before) i)
+    ∷ (SameTerminal, on_item (is_same_terminal before) i)
+    ∷ (LowAboveCap, on_item is_low_above_cap i)
+    ∷ (SumTooLarge, on_item (is_sum_too_large before) i)
+    ∷ []
+
+-- the faults of a line that need the lines before it
+abbrev pub order_tests : List Line → List Word → List Test
+order_tests before ws = (LateNode, is_late_node before ws) ∷ (TooManyLines, is_surplus before ws) ∷ []
+
+-- the faults of a line after these items, in the order of checking
+abbrev pub line_tests : List Line → List Word → List Test
+line_tests before ws =
+    let known = kind_known before in
+    head_tests known ws ++ (order_tests before ws ++ (field_tests (fields known ws) ++ item_tests before (item_read (words_read known ws))))
+
+-- the first fault of the line of this number after these items; a skipped line can only be too long
+abbrev pub line_fault : ℕ → List Line → List Word → Option Code
+line_fault number before ws = first_fault ((TooLong, is_too_long number) ∷ cond (is_skip ws) [] (line_tests before ws))
+
+-- a `max` problem without source or sink
+abbrev pub lacks_terminal : Option Kind → List Line → Bool
+lacks_terminal (Some Kinds.Max) items = is_none (terminal_of Letters.S items) || is_none (terminal_of Letters.T items)
+lacks_terminal _ items = false
+
+-- the faults at the end, in the order of checking
+abbrev pub end_tests : List Line → List Test
+end_tests items =
+    (NoProblem, is_none (problem_of items))
+    ∷ (MissingTerminal, lacks_terminal (kind_known items) items)
+    ∷ (TooFewLines, not (is_full (problem_of items) (counted items)))
+    ∷ []
+
+abbrev pub end_fault : List Line → Option Code
+end_fault items = first_fault (end_tests items)

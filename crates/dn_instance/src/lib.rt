@@ -1,0 +1,7 @@
+//! Whole texts: the instance that a text reads as, or its first fault; what an instance means.
+#![tactic(auto)]
+
+pub mod laws;
+pub mod place;
+
+pub use place::Place;
