@@ -1,3 +1,4 @@
 pub mod CanonInstances
 pub mod Prints
 pub mod CanonTexts
+pub mod Examples

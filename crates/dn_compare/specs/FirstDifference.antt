@@ -1,9 +1,9 @@
 -- The first difference between two instances, in the order of the verdicts: what stands before it is the same (this
 -- project's profile).
-use Rattle.std.specs.Prelude.{◌≡◌, ◌≢◌, ℕ, ℤ, List, length}
-use Rattle.dn_bundle.specs.Kinds.{ArcKind, costs, capacities, lengths}
+use Rattle.std.specs.Prelude.{◌≡◌, ◌≢◌, ℕ, ℤ, length}
+use Rattle.dn_bundle.specs.Kinds.{costs, capacities, lengths}
 use Rattle.dn_bundle.specs.declared.difference.How.{How}
-use Rattle.dn_instance.specs.Instances.{Graph, Instance, MinCostFlow, MaxFlow, ShortestPaths, Sources, Queries, Coordinates, kind_of, nodes_of}
+use Rattle.dn_instance.specs.Instances.{Instance, MinCostFlow, MaxFlow, ShortestPaths, Sources, Queries, Coordinates, kind_of, nodes_of}
 use Rattle.dn_instance.specs.Sameness.{IsSame}
 use Rattle.dn_compare.specs.Parting.{FlowsPart, GraphsPart, ListsPart, PointsPart}
 use Rattle.dn_compare.specs.declared.verdict.Verdict.{Verdict}

@@ -10,48 +10,21 @@ pub enum Verdict {
     /// They are the same problem.
     Same,
     /// Their kinds.
-    Kind {
-        left: Kind,
-        right: Kind,
-    },
+    Kind { left: Kind, right: Kind },
     /// Their numbers of nodes.
-    Nodes {
-        left: i64,
-        right: i64,
-    },
+    Nodes { left: i64, right: i64 },
     /// The flows of a node of `min` problems, 0 where it has none; the least such ID.
-    Supply {
-        id: i64,
-        left: i64,
-        right: i64,
-    },
+    Supply { id: i64, left: i64, right: i64 },
     /// The sources of `max` problems.
-    Source {
-        left: i64,
-        right: i64,
-    },
+    Source { left: i64, right: i64 },
     /// The sinks of `max` problems.
-    Sink {
-        left: i64,
-        right: i64,
-    },
+    Sink { left: i64, right: i64 },
     /// What the arcs from `src` to `dst` mean; the least such pair.
-    Pair {
-        src: i64,
-        dst: i64,
-        how: How,
-    },
+    Pair { src: i64, dst: i64, how: How },
     /// The numbers of items of `ss` or `p2p` lists.
-    Length {
-        left: u64,
-        right: u64,
-    },
+    Length { left: u64, right: u64 },
     /// The item at this place of the lists, counted from 1; the least such place.
-    Item {
-        index: u64,
-    },
+    Item { index: u64 },
     /// The point of this ID, or that one has none; the least such ID.
-    Point {
-        id: i64,
-    },
+    Point { id: i64 },
 }

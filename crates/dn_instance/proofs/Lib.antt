@@ -1,0 +1,5 @@
+pub mod FirstFaults
+pub mod SameLaws
+pub mod CleanItems
+pub mod MapLaws
+pub mod ValidLaws

@@ -3,7 +3,7 @@ use Rattle.std.specs.Prelude.{ℕ, ℤ, List, length, map, sum_by}
 use Rattle.dn_bundle.specs.Entries.{distinct}
 use Rattle.dn_bundle.specs.Kinds.{ArcKind, costs, capacities, lengths}
 use Rattle.dn_instance.specs.Pairs.{bundle, same_pair}
-use Rattle.dn_instance.specs.Instances.{Graph, Instance, MinCostFlow, MaxFlow, ShortestPaths, Sources, Queries, Coordinates}
+use Rattle.dn_instance.specs.Instances.{Instance, MinCostFlow, MaxFlow, ShortestPaths, Sources, Queries, Coordinates}
 
 -- the entries of each ordered pair that has arcs, summed
 abbrev pub graph_entries : {Arc : Type 0} → ArcKind Arc → List ((ℤ × ℤ) × Arc) → ℕ

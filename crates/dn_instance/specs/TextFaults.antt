@@ -19,7 +19,7 @@ use Rattle.dn_line.specs.Faults.{Test, first_fault, head_tests, field_tests, fie
 use Rattle.dn_line.specs.Reading.{words_read}
 use Rattle.dn_bundle.specs.Kinds.{ArcKind, costs, capacities}
 use Rattle.dn_instance.specs.Pairs.{bundle}
-use Rattle.dn_instance.specs.Items.{Problem, problem_of, kind_known, counted, arcs_of, arc_in, same_letter, terminal_of}
+use Rattle.dn_instance.specs.Items.{Problem, problem_of, kind_known, counted, arcs_of, arc_in, terminal_of}
 
 -- the item that a line spells, if it spells one
 abbrev pub item_read : Result Line Code → Option Line

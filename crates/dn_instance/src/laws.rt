@@ -1,9 +1,59 @@
 // What the definitions of texts and instances say of one another.
-ghost use Rattle.std.specs.Prelude.{◌≡◌, ℕ, List};
-ghost use Rattle.dn_instance.specs.Instances.{Instance};
-ghost use Rattle.dn_instance.specs.Texts.{Reads};
+ghost use Rattle.std.specs.Prelude.{◌≡◌, ◌⊎◌, ℕ, ℤ, List};
+ghost use Rattle.std.specs.List.Sorted.{IsPermutation};
+ghost use Rattle.dn_line.specs.declared.code.Code.{Code};
+ghost use Rattle.dn_bundle.specs.declared.arc.LengthArc.{LengthArc};
+ghost use Rattle.dn_bundle.specs.declared.arc.CapArc.{CapArc};
+ghost use Rattle.dn_bundle.specs.declared.arc.CostArc.{CostArc};
+ghost use Rattle.dn_bundle.specs.Kinds.{lengths, capacities, costs};
+ghost use Rattle.dn_bundle.specs.Meanings.{SameLength, SameTotal, SameCurve};
+ghost use Rattle.dn_instance.specs.declared.place.Place.{Place};
+ghost use Rattle.dn_instance.specs.Instances.{Graph, Instance};
+ghost use Rattle.dn_instance.specs.Sameness.{IsSame, SameGraph};
+ghost use Rattle.dn_instance.specs.Pairs.{bundle};
+ghost use Rattle.dn_instance.specs.Tables.{TableStandsFor};
+ghost use Rattle.dn_instance.specs.Texts.{Reads, IsFirstFault};
+ghost use Rattle.dn_instance.specs.Validity.{IsValid};
 
 /// A text reads as one instance at most.
 pub fn one_reading()
     ensures { (t : List ℕ) (I J : Instance) → Reads t I → Reads t J → I ≡ J }
+{}
+
+/// A text has one first fault at most: one place, and one code there.
+pub fn one_first_fault()
+    ensures place { (t : List ℕ) (p q : Place) (c d : Code) → IsFirstFault t p c → IsFirstFault t q d → p ≡ q }
+    ensures code { (t : List ℕ) (p q : Place) (c d : Code) → IsFirstFault t p c → IsFirstFault t q d → c ≡ d }
+{}
+
+/// A text reads as an instance exactly if it has no first fault.
+pub fn accepted_or_faulty()
+    ensures either { (t : List ℕ) → ((I : Instance) × Reads t I) ⊎ ((p : Place) × (c : Code) × IsFirstFault t p c) }
+    ensures not_both { (t : List ℕ) (I : Instance) (p : Place) (c : Code) → Reads t I → IsFirstFault t p c → ⊥ }
+{}
+
+/// What a text reads as is valid.
+pub fn valid_reading()
+    ensures { (t : List ℕ) (I : Instance) → Reads t I → IsValid I }
+{}
+
+/// Being the same problem is an equivalence.
+pub fn same_instance()
+    ensures reflexive { (I : Instance) → IsSame I I }
+    ensures symmetric { (I J : Instance) → IsSame I J → IsSame J I }
+    ensures transitive { (I J K : Instance) → IsSame I J → IsSame J K → IsSame I K }
+{}
+
+/// A graph does not depend on the order of its arcs.
+pub fn any_order()
+    ensures lengths { (nodes : ℤ) (xs ys : List ((ℤ × ℤ) × LengthArc)) → IsPermutation xs ys → SameGraph lengths (record { nodes = nodes; arcs = xs }) (record { nodes = nodes; arcs = ys }) }
+    ensures capacities { (nodes : ℤ) (xs ys : List ((ℤ × ℤ) × CapArc)) → IsPermutation xs ys → SameGraph capacities (record { nodes = nodes; arcs = xs }) (record { nodes = nodes; arcs = ys }) }
+    ensures costs { (nodes : ℤ) (xs ys : List ((ℤ × ℤ) × CostArc)) → IsPermutation xs ys → SameGraph costs (record { nodes = nodes; arcs = xs }) (record { nodes = nodes; arcs = ys }) }
+{}
+
+/// A table of bundles stands for arcs of one meaning: what it stands for means the same at each pair.
+pub fn one_table_meaning()
+    ensures lengths { (table : List ((ℤ × ℤ) × List LengthArc)) (xs ys : List ((ℤ × ℤ) × LengthArc)) (p : ℤ × ℤ) → TableStandsFor lengths (λ b. b) table xs → TableStandsFor lengths (λ b. b) table ys → SameLength (bundle p xs) (bundle p ys) }
+    ensures capacities { (table : List ((ℤ × ℤ) × List CapArc)) (xs ys : List ((ℤ × ℤ) × CapArc)) (p : ℤ × ℤ) → TableStandsFor capacities (λ b. b) table xs → TableStandsFor capacities (λ b. b) table ys → SameTotal (bundle p xs) (bundle p ys) }
+    ensures costs { (table : List ((ℤ × ℤ) × List CostArc)) (xs ys : List ((ℤ × ℤ) × CostArc)) (p : ℤ × ℤ) → TableStandsFor costs (λ b. b) table xs → TableStandsFor costs (λ b. b) table ys → SameCurve (bundle p xs) (bundle p ys) }
 {}

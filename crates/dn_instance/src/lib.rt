@@ -1,6 +1,7 @@
 //! Whole texts: the instance that a text reads as, or its first fault; what an instance means.
 #![tactic(auto)]
 
+pub mod examples;
 pub mod laws;
 pub mod place;
 

@@ -1,0 +1,202 @@
+-- The first fault of a text, found line by line.
+use Rattle.std.proofs.Common.{◌≡◌, ℕ, zero, suc, ◌+◌, ◌-◌, ◌<◌, List, [], ◌∷◌, ◌++◌, length, Bool, true, false, cond, ◌||◌, Option, Some, None, is_none, ◌⊎◌, inl, inr, refl, sym, ap, ◌∙◌, subst, arith, append_assoc, append-nil, length-append}
+use Rattle.dn_line.specs.declared.code.Code.{Code}
+use Rattle.dn_line.specs.declared.kind.Kind.{Kind}
+use Rattle.dn_line.specs.declared.kind.Kind.TheVariants as Kinds
+use Rattle.dn_line.specs.declared.kind.Letter.TheVariants.{S, T}
+use Rattle.dn_line.specs.declared.line.Line.{Line}
+use Rattle.dn_line.specs.Words.{said_words}
+use Rattle.dn_line.specs.Pieces.{lines}
+use Rattle.dn_instance.specs.declared.place.Place.{Place}
+use Rattle.dn_instance.specs.declared.place.Place.TheVariants as Places
+use Rattle.std.proofs.Common.{ℤ, option_and_then}
+use Rattle.std.specs.Option.{option_map}
+use Rattle.dn_bundle.specs.Kinds.{capacities}
+use Rattle.dn_bundle.specs.declared.arc.CapArc.{CapArc}
+use Rattle.dn_line.specs.declared.code.Code.TheVariants.{NoProblem, MissingTerminal}
+use Rattle.dn_instance.specs.Instances.{Graph, Instance}
+use Rattle.dn_instance.specs.Items.{Problem, problem_of, instance_of, instance_as, terminal_of, kind_known, max_flow, graph_of}
+use Rattle.dn_instance.specs.TextFaults.{line_fault, end_fault, lacks_terminal}
+use Rattle.dn_instance.specs.Texts.{items_of, FaultAt, IsClean, IsFirstFaultAt, IsFirstFault, Reads}
+
+-- the fault of the line that follows these lines
+abbrev pub fault_after : List (List ℕ) → List ℕ → Option Code
+fault_after before l = line_fault (length before + 1) (items_of before) (said_words l)
+
+-- two ways to part one list at the same place are one
+pub same_front : {X : Type 0} (a b : List X) (x y : X) (xs ys : List X) → a ++ x ∷ xs ≡ b ++ y ∷ ys → length a ≡ length b → (a ≡ b) × (x ≡ y)
+same_front [] [] x y xs ys e h = let same : x ≡ y = cc in (refl, same)
+same_front [] (d ∷ b) x y xs ys e h = absurd (omega arith)
+same_front (c ∷ a) [] x y xs ys e h = absurd (omega arith)
+same_front (c ∷ a) (d ∷ b) x y xs ys e h =
+    let heads : c ≡ d = cc in
+    let rest : a ++ x ∷ xs ≡ b ++ y ∷ ys = cc in
+    let r = same_front a b x y xs ys rest (omega arith) in
+    (ap (λ z. z ∷ a) heads ∙ ap (λ z. d ∷ z) r.0, r.1)
+
+-- the fault at a line is that of the line after those before it
+pub fault_there : (ls before after : List (List ℕ)) (l : List ℕ) (n : ℕ) (c : Code) → ls ≡ before ++ l ∷ after → n ≡ length before + 1 → FaultAt ls n c → fault_after before l ≡ Some c
+fault_there ls before after l n c e m f =
+    let number : length f.before ≡ length before = (let h = f.number_is in omega arith) in
+    let r = same_front f.before before f.line l f.after after (sym f.lines_are ∙ e) number in
+    subst (λ (k : ℕ). line_fault k (items_of before) (said_words l) ≡ Some c) m
+    (subst (λ (x : List ℕ). line_fault n (items_of before) (said_words x) ≡ Some c) r.1
+    (subst (λ (b : List (List ℕ)). line_fault n (items_of b) (said_words f.line) ≡ Some c) r.0 f.fault_is))
+
+-- a line of a clean text has no fault
+pub clean_there : (ls before after : List (List ℕ)) (l : List ℕ) → ls ≡ before ++ l ∷ after → IsClean ls → fault_after before l ≡ None
+clean_there ls before after l e clean = by_fault (fault_after before l) refl
+  where
+    by_fault : (f : Option Code) → fault_after before l ≡ f → fault_after before l ≡ None
+    by_fault None h = h
+    by_fault (Some c) h = absurd (clean (length before + 1) c (record { before = before; line = l; after = after; lines_are = e; number_is = refl; fault_is = h }))
+
+-- the faults of the lines come after the first k
+abbrev NoneUpTo : List (List ℕ) → ℕ → Type 0
+NoneUpTo ls k = (n : ℕ) (c : Code) → FaultAt ls n c → k < n
+
+one_more : (before : List (List ℕ)) (l : List ℕ) (after : List (List ℕ)) → before ++ l ∷ after ≡ (before ++ l ∷ []) ++ after
+one_more before l after = sym (append_assoc before (l ∷ []) after)
+
+-- a line without fault puts off the first one
+later : (ls before after : List (List ℕ)) (l : List ℕ) → ls ≡ before ++ l ∷ after → NoneUpTo ls (length before) → fault_after before l ≡ None → NoneUpTo ls (length (before ++ l ∷ []))
+later ls before after l e none h n c f =
+    by_number (n - (length before + 1)) refl
+  where
+    past : length before < n
+    past = none n c f
+
+    by_number : (d : ℕ) → n - (length before + 1) ≡ d → length (before ++ l ∷ []) < n
+    by_number zero g =
+        let there : fault_after before l ≡ Some c = fault_there ls before after l n c e (let p = past in omega arith) f in
+        let never : None ≡ Some c = sym h ∙ there in
+        cc
+    by_number (suc d) g = let p = past in omega (arith, length-append before (l ∷ []))
+
+abbrev or_later : Option Code → ℕ → Option (ℕ × Code) → Option (ℕ × Code)
+or_later None n found = found
+or_later (Some c) n found = Some (n, c)
+
+-- the first fault of the lines that follow these, line by line
+abbrev pub found_in : List (List ℕ) → List (List ℕ) → Option (ℕ × Code)
+found_in before [] = None
+found_in before (l ∷ rest) = or_later (fault_after before l) (length before + 1) (found_in (before ++ l ∷ []) rest)
+
+-- no fault, or this first one
+abbrev Found : List (List ℕ) → Option (ℕ × Code) → Type 0
+Found ls None = IsClean ls
+Found ls (Some f) = IsFirstFaultAt ls f.0 f.1
+
+found_here : (ls before after : List (List ℕ)) (l : List ℕ) (f : Option Code) (found : Option (ℕ × Code)) → ls ≡ before ++ l ∷ after → NoneUpTo ls (length before) → fault_after before l ≡ f
+    → (fault_after before l ≡ None → Found ls found) → Found ls (or_later f (length before + 1) found)
+found_here ls before after l None found e none h go = go h
+found_here ls before after l (Some c) found e none h go =
+    record {
+      at = record { before = before; line = l; after = after; lines_are = e; number_is = refl; fault_is = h };
+      first = λ n d g. (let p = none n d g in omega arith);
+    }
+
+found_from : (ls before rest : List (List ℕ)) → ls ≡ before ++ rest → NoneUpTo ls (length before) → Found ls (found_in before rest)
+found_from ls before [] e none = λ n c f.
+    let p = none n c f in
+    let m = f.number_is in
+    let all : length ls ≡ length before = ap length e ∙ ap length (append-nil before) in
+    let parts : length ls ≡ length f.before + suc (length f.after) = ap length f.lines_are ∙ length-append f.before (f.line ∷ f.after) in
+    omega arith
+found_from ls before (l ∷ rest) e none =
+    found_here ls before rest l (fault_after before l) (found_in (before ++ l ∷ []) rest) e none refl
+    (λ h. found_from ls (before ++ l ∷ []) rest (e ∙ one_more before l rest) (later ls before rest l e none h))
+
+found_is : (ls : List (List ℕ)) → Found ls (found_in [] ls)
+found_is ls = found_from ls [] ls refl (λ n c f. (let m = f.number_is in omega arith))
+
+-- the fault that is found line by line is the first
+pub first_is : (ls : List (List ℕ)) (n : ℕ) (c : Code) → found_in [] ls ≡ Some (n, c) → IsFirstFaultAt ls n c
+first_is ls n c h = subst (Found ls) h (found_is ls)
+
+-- where none is found, there is none
+pub clean_is : (ls : List (List ℕ)) → found_in [] ls ≡ None → IsClean ls
+clean_is ls h = subst (Found ls) h (found_is ls)
+
+-- what holds of no line, and goes on over a line without fault, holds of a clean text
+clean_from : (P : List (List ℕ) → Type 0) (ls before rest : List (List ℕ)) → ls ≡ before ++ rest → IsClean ls
+    → ((b : List (List ℕ)) (l : List ℕ) → fault_after b l ≡ None → P b → P (b ++ l ∷ [])) → P before → P ls
+clean_from P ls before [] e clean step here = subst P (sym (append-nil before) ∙ sym e) here
+clean_from P ls before (l ∷ rest) e clean step here =
+    clean_from P ls (before ++ l ∷ []) rest (e ∙ one_more before l rest) clean step (step before l (clean_there ls before rest l e clean) here)
+
+pub by_clean_lines : (P : List (List ℕ) → Type 0) (ls : List (List ℕ)) → IsClean ls
+    → ((b : List (List ℕ)) (l : List ℕ) → fault_after b l ≡ None → P b → P (b ++ l ∷ [])) → P [] → P ls
+by_clean_lines P ls clean step none = clean_from P ls [] ls refl clean step none
+
+same_number : (ls : List (List ℕ)) (m n : ℕ) (c d : Code) → IsFirstFaultAt ls m c → IsFirstFaultAt ls n d → m ≡ n
+same_number ls m n c d f g = let a = f.first n d g.at in let b = g.first m c f.at in omega arith
+
+pub same_place : (t : List ℕ) (p q : Place) (c d : Code) → IsFirstFault t p c → IsFirstFault t q d → p ≡ q
+same_place t (Places.Line m) (Places.Line n) c d f g = ap (λ k. Places.Line k) (same_number (lines t) m n c d f g)
+same_place t (Places.Line m) Places.End c d f g = absurd (g.clean m c f.at)
+same_place t Places.End (Places.Line n) c d f g = absurd (f.clean n d g.at)
+same_place t Places.End Places.End c d f g = refl
+
+some_same : (c d : Code) (x y : Option Code) → x ≡ Some c → y ≡ Some d → x ≡ y → c ≡ d
+some_same c d x y e f g = cc
+
+pub same_code : (t : List ℕ) (p q : Place) (c d : Code) → IsFirstFault t p c → IsFirstFault t q d → c ≡ d
+same_code t (Places.Line m) (Places.Line n) c d f g =
+    let same = same_number (lines t) m n c d f g in
+    let a = f.at in
+    let b = g.at in
+    let there = fault_there (lines t) a.before a.after a.line n d a.lines_are (sym same ∙ a.number_is) b in
+    let here = fault_there (lines t) a.before a.after a.line m c a.lines_are a.number_is a in
+    some_same c d _ _ here there refl
+same_code t (Places.Line m) Places.End c d f g = absurd (g.clean m c f.at)
+same_code t Places.End (Places.Line n) c d f g = absurd (f.clean n d g.at)
+same_code t Places.End Places.End c d f g = some_same c d _ _ f.fault_is g.fault_is refl
+
+pub not_both : (t : List ℕ) (I : Instance) (p : Place) (c : Code) → Reads t I → IsFirstFault t p c → ⊥
+not_both t I (Places.Line n) c r f = r.clean n c f.at
+not_both t I Places.End c r f = let never : None ≡ Some c = sym r.whole ∙ f.fault_is in cc
+
+-- the first test fails where no fault is found
+pub none_first : {X : Type 0} (b : Bool) (x : X) (rest : Option X) → cond b (Some x) rest ≡ None → (b ≡ false) × (rest ≡ None)
+none_first true x rest h = cc
+none_first false x rest h = (refl, h)
+
+with_terminals : (a b : Option ℤ) (G : Graph CapArc) → (is_none a || is_none b) ≡ false → (I : Instance) × (max_flow a b G ≡ Some I)
+with_terminals None b G h = cc
+with_terminals (Some a) None G h = cc
+with_terminals (Some a) (Some b) G h = (_, refl)
+
+of_kind : (k : Kind) (nodes : ℤ) (items : List Line) → lacks_terminal (Some k) items ≡ false → (I : Instance) × (instance_as k nodes items ≡ Some I)
+of_kind Kinds.Min nodes items h = (_, refl)
+of_kind Kinds.Max nodes items h = with_terminals (terminal_of S items) (terminal_of T items) (graph_of capacities nodes items) h
+of_kind Kinds.Sp nodes items h = (_, refl)
+of_kind Kinds.Ss nodes items h = (_, refl)
+of_kind Kinds.P2p nodes items h = (_, refl)
+of_kind Kinds.Co nodes items h = (_, refl)
+
+of_problem : (o : Option Problem) (items : List Line) → is_none o ≡ false → lacks_terminal (option_map (λ (p : Problem). p.kind) o) items ≡ false
+    → (I : Instance) × (option_and_then (λ (p : Problem). instance_as p.kind p.nodes items) o ≡ Some I)
+of_problem None items h g = cc
+of_problem (Some p) items h g = of_kind p.kind p.nodes items g
+
+-- items that lack nothing at the end make an instance
+made : (items : List Line) → end_fault items ≡ None → (I : Instance) × (instance_of items ≡ Some I)
+made items h =
+    let one = none_first (is_none (problem_of items)) NoProblem _ h in
+    let two = none_first (lacks_terminal (kind_known items) items) MissingTerminal _ one.1 in
+    of_problem (problem_of items) items one.0 two.0
+
+abbrev Either : List ℕ → Type 0
+Either t = ((I : Instance) × Reads t I) ⊎ ((p : Place) × (c : Code) × IsFirstFault t p c)
+
+at_end : (t : List ℕ) (f : Option Code) → IsClean (lines t) → end_fault (items_of (lines t)) ≡ f → Either t
+at_end t None clean h = let m = made (items_of (lines t)) h in inl (m.0, record { clean = clean; whole = h; instance_is = m.1 })
+at_end t (Some c) clean h = inr (Places.End, c, record { clean = clean; fault_is = h })
+
+by_found : (t : List ℕ) (f : Option (ℕ × Code)) → Found (lines t) f → Either t
+by_found t None clean = at_end t (end_fault (items_of (lines t))) clean refl
+by_found t (Some f) first = inr (Places.Line f.0, f.1, first)
+
+pub either : (t : List ℕ) → Either t
+either t = by_found t (found_in [] (lines t)) (found_is (lines t))

@@ -1,0 +1,90 @@
+-- Being the same problem is an equivalence, and does not depend on the order of arcs.
+use Rattle.std.proofs.Common.{ℤ, List, ◌∷◌, Bool, true, false, cond, refl, sym, ◌∙◌}
+use Rattle.std.specs.List.Sorted.{IsPermutation}
+use Rattle.dn_bundle.specs.Meanings.{IsMeaning}
+use Rattle.dn_bundle.specs.Kinds.{ArcKind, lengths, capacities, costs}
+use Rattle.dn_bundle.specs.Laws.Orders.{any_order}
+use Rattle.dn_bundle.specs.Laws.Lengths.{length_meaning}
+use Rattle.dn_bundle.specs.Laws.Totals.{total_meaning}
+use Rattle.dn_bundle.specs.Laws.Curves.{curve_meaning}
+use Rattle.dn_instance.specs.Pairs.{bundle, same_pair}
+use Rattle.dn_instance.specs.Instances.{Graph, Instance, MinCostFlow, MaxFlow, ShortestPaths, Sources, Queries, Coordinates}
+use Rattle.dn_instance.specs.Tables.{told_at, TableStandsFor}
+use Rattle.dn_instance.specs.Sameness.{SameGraph, IsSame}
+
+module _ {Arc : Type 0} (kind : ArcKind Arc) (meaning : IsMeaning kind.Same) where
+  pub graph_refl : (G : Graph Arc) → SameGraph kind G G
+  graph_refl G = record { nodes = refl; bundles = λ p. meaning.same_refl (bundle p G.arcs) }
+
+  pub graph_sym : (G H : Graph Arc) → SameGraph kind G H → SameGraph kind H G
+  graph_sym G H s = record { nodes = sym s.nodes; bundles = λ p. meaning.same_sym (bundle p G.arcs) (bundle p H.arcs) (s.bundles p) }
+
+  pub graph_trans : (G H K : Graph Arc) → SameGraph kind G H → SameGraph kind H K → SameGraph kind G K
+  graph_trans G H K s t = record {
+    nodes = s.nodes ∙ t.nodes;
+    bundles = λ p. meaning.same_trans (bundle p G.arcs) (bundle p H.arcs) (bundle p K.arcs) (s.bundles p) (t.bundles p);
+  }
+
+  -- arcs with their pairs, by what they mean at each pair
+  pub record SameAt (xs ys : List ((ℤ × ℤ) × Arc)) : Type 0 where
+    pub at : (p : ℤ × ℤ) → kind.Same (bundle p xs) (bundle p ys)
+
+  more_at : (t : Bool) (a : Arc) (xs ys : List Arc) → kind.Same xs ys → kind.Same (cond t (a ∷ xs) xs) (cond t (a ∷ ys) ys)
+  more_at true a xs ys s = meaning.same_more a xs ys s
+  more_at false a xs ys s = s
+
+  swap_at : (s t : Bool) (a b : Arc) (xs : List Arc) → kind.Same (cond s (a ∷ cond t (b ∷ xs) xs) (cond t (b ∷ xs) xs)) (cond t (b ∷ cond s (a ∷ xs) xs) (cond s (a ∷ xs) xs))
+  swap_at true true a b xs = meaning.same_swap a b xs
+  swap_at true false a b xs = meaning.same_refl (a ∷ xs)
+  swap_at false true a b xs = meaning.same_refl (b ∷ xs)
+  swap_at false false a b xs = meaning.same_refl xs
+
+  placed_meaning : IsMeaning SameAt
+  placed_meaning = record {
+    same_refl = λ xs. record { at = λ p. meaning.same_refl (bundle p xs) };
+    same_sym = λ xs ys s. record { at = λ p. meaning.same_sym (bundle p xs) (bundle p ys) (s.at p) };
+    same_trans = λ xs ys zs s t. record { at = λ p. meaning.same_trans (bundle p xs) (bundle p ys) (bundle p zs) (s.at p) (t.at p) };
+    same_more = λ a xs ys s. record { at = λ p. more_at (same_pair p a.0) a.1 (bundle p xs) (bundle p ys) (s.at p) };
+    same_swap = λ a b xs. record { at = λ p. swap_at (same_pair p a.0) (same_pair p b.0) a.1 b.1 (bundle p xs) };
+  }
+
+  pub graph_order : (nodes : ℤ) (xs ys : List ((ℤ × ℤ) × Arc)) → IsPermutation xs ys → SameGraph kind (record { nodes = nodes; arcs = xs }) (record { nodes = nodes; arcs = ys })
+  graph_order nodes xs ys h = let s = any_order SameAt placed_meaning xs ys h in record { nodes = refl; bundles = s.at }
+
+  -- what one table stands for means the same
+  pub table_one : {B : Type 0} (tells : B → List Arc) (table : List ((ℤ × ℤ) × B)) (xs ys : List ((ℤ × ℤ) × Arc)) (p : ℤ × ℤ) → TableStandsFor kind tells table xs → TableStandsFor kind tells table ys → kind.Same (bundle p xs) (bundle p ys)
+  table_one tells table xs ys p s t =
+      let told = told_at tells table p in
+      meaning.same_trans (bundle p xs) told (bundle p ys) (meaning.same_sym told (bundle p xs) (s.stands p).same) (t.stands p).same
+
+pub refl_of : (I : Instance) → IsSame I I
+refl_of (MinCostFlow s G) = (refl, graph_refl costs curve_meaning G)
+refl_of (MaxFlow a b G) = (refl, refl, graph_refl capacities total_meaning G)
+refl_of (ShortestPaths G) = graph_refl lengths length_meaning G
+refl_of (Sources xs) = refl
+refl_of (Queries xs) = refl
+refl_of (Coordinates xs) = refl
+
+pub sym_of : (I J : Instance) → IsSame I J → IsSame J I
+sym_of (MinCostFlow s G) (MinCostFlow t H) e = (sym e.0, graph_sym costs curve_meaning G H e.1)
+sym_of (MaxFlow a b G) (MaxFlow c d H) e = (sym e.0, sym e.1, graph_sym capacities total_meaning G H e.2)
+sym_of (ShortestPaths G) (ShortestPaths H) e = graph_sym lengths length_meaning G H e
+sym_of (Sources xs) (Sources ys) e = sym e
+sym_of (Queries xs) (Queries ys) e = sym e
+sym_of (Coordinates xs) (Coordinates ys) e = sym e
+sym_of _ _ e = absurd e
+
+pub trans_of : (I J K : Instance) → IsSame I J → IsSame J K → IsSame I K
+trans_of (MinCostFlow s G) (MinCostFlow t H) (MinCostFlow u K) e f = (e.0 ∙ f.0, graph_trans costs curve_meaning G H K e.1 f.1)
+trans_of (MaxFlow a b G) (MaxFlow c d H) (MaxFlow g h K) e f = (e.0 ∙ f.0, e.1 ∙ f.1, graph_trans capacities total_meaning G H K e.2 f.2)
+trans_of (ShortestPaths G) (ShortestPaths H) (ShortestPaths K) e f = graph_trans lengths length_meaning G H K e f
+trans_of (Sources xs) (Sources ys) (Sources zs) e f = e ∙ f
+trans_of (Queries xs) (Queries ys) (Queries zs) e f = e ∙ f
+trans_of (Coordinates xs) (Coordinates ys) (Coordinates zs) e f = e ∙ f
+trans_of (MinCostFlow s G) (MinCostFlow t H) _ e f = absurd f
+trans_of (MaxFlow a b G) (MaxFlow c d H) _ e f = absurd f
+trans_of (ShortestPaths G) (ShortestPaths H) _ e f = absurd f
+trans_of (Sources xs) (Sources ys) _ e f = absurd f
+trans_of (Queries xs) (Queries ys) _ e f = absurd f
+trans_of (Coordinates xs) (Coordinates ys) _ e f = absurd f
+trans_of _ _ _ e f = absurd e
