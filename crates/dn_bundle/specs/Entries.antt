@@ -1,5 +1,5 @@
 -- How many entries the arcs of one ordered pair come to: what has to be kept of them (this project's profile).
-use Rattle.std.specs.Prelude.{ℕ, ◌+◌, ℤ, pos, List, [], ◌∷◌, length, Bool, cond, filter, map, int_lt}
+use Rattle.std.specs.Prelude.{ℕ, ◌+◌, pos, List, [], ◌∷◌, length, Bool, cond, filter, map, int_lt}
 use Rattle.std.specs.List.{list_any}
 use Rattle.std.specs.Ordering.{int_eq}
 use Rattle.dn_bundle.specs.Capacities.{total_cap}

@@ -6,3 +6,9 @@ pub mod Canonical
 pub mod Differences
 pub mod Entries
 pub mod Kinds
+pub mod Fillings
+pub mod Examples
+pub mod Bundles
+pub mod LeastTold
+pub mod TotalTold
+pub mod Laws

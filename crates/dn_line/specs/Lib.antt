@@ -2,7 +2,9 @@ pub use Rattle.dn_num.specs.Number
 pub mod Names
 pub mod Pieces
 pub mod Words
+pub mod Runs
 pub mod Table
 pub mod Spelling
 pub mod Faults
+pub mod Firsts
 pub mod Reading

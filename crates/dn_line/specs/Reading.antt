@@ -97,3 +97,8 @@ words_read known ws = cond (is_skip ws) (Ok Items.Skip) (unless (first_fault (ow
 -- what a line without its line feed reads as
 abbrev pub line_read : Option Kind → List ℕ → Result Line Code
 line_read known l = words_read known (said_words l)
+
+-- the answer about the fields, where the head has no fault
+abbrev pub then_fields : Result Head Code → Result Line Code → Result Line Code
+then_fields (Ok h) r = r
+then_fields (Err c) r = Err c

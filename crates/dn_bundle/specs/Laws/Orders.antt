@@ -1,0 +1,37 @@
+use Rattle.std.specs.Prelude.{ℕ, suc, zero, ◌<◌, List, [], ◌∷◌, ◌++◌, length}
+use Rattle.std.proofs.Common.{subst, arith, get_or, set}
+use Rattle.std.proofs.lemmas.List.Sorted.{IsPermutation-keeps}
+use Rattle.std.proofs.lemmas.List.Edits.{swap_is}
+use Rattle.std.specs.List.{swap}
+use Rattle.std.specs.List.Sorted.{IsPermutation}
+use Rattle.dn_bundle.specs.Meanings.{IsMeaning}
+
+-- the arc at a place, with the one at the front in its stead
+to_front : {Arc : Type 0} (Same : List Arc → List Arc → Type 0) → IsMeaning Same → (l : List Arc) (j : ℕ) (a d : Arc) → j < length l → Same (a ∷ l) (get_or l j d ∷ set l j a)
+to_front Same m [] j a d h = absurd (omega arith)
+to_front Same m (x ∷ l) zero a d h = m.same_swap a x l
+to_front Same m (x ∷ l) (suc j) a d h =
+    m.same_trans _ _ _ (m.same_swap a x l) (m.same_trans _ _ _ (m.same_more x _ _ (to_front Same m l j a d (omega arith))) (m.same_swap x (get_or l j d) (set l j a)))
+
+exchanged : {Arc : Type 0} (Same : List Arc → List Arc → Type 0) → IsMeaning Same → (l : List Arc) (i j : ℕ) (d : Arc) → i < length l → j < length l → Same l (set (set l i (get_or l j d)) j (get_or l i d))
+exchanged Same m [] i j d h k = absurd (omega arith)
+exchanged Same m (x ∷ l) zero zero d h k = m.same_refl _
+exchanged Same m (x ∷ l) zero (suc j) d h k = to_front Same m l j x d (omega arith)
+exchanged Same m (x ∷ l) (suc i) zero d h k = to_front Same m l i x d (omega arith)
+exchanged Same m (x ∷ l) (suc i) (suc j) d h k = m.same_more x _ _ (exchanged Same m l i j d (omega arith) (omega arith))
+
+swapped : {Arc : Type 0} (Same : List Arc → List Arc → Type 0) → IsMeaning Same → (l : List Arc) (i j : ℕ) → i < length l → j < length l → Same l (swap l i j)
+swapped Same m [] i j h k = absurd (omega arith)
+swapped Same m (x ∷ l) i j h k = subst (Same (x ∷ l)) (swap_is (x ∷ l) i j x h k) (exchanged Same m (x ∷ l) i j x h k)
+
+-- the order of arcs does not matter
+pub any_order : {Arc : Type 0} (Same : List Arc → List Arc → Type 0) → IsMeaning Same → (xs ys : List Arc) → IsPermutation xs ys → Same xs ys
+any_order Same m xs ys p = IsPermutation-keeps xs (Same xs) (m.same_refl xs) (λ l i j h k s. m.same_trans _ _ _ s (swapped Same m l i j h k)) ys p
+
+pub at_end : {Arc : Type 0} (Same : List Arc → List Arc → Type 0) → IsMeaning Same → (xs : List Arc) (a : Arc) → Same (xs ++ a ∷ []) (a ∷ xs)
+at_end Same m [] a = m.same_refl _
+at_end Same m (x ∷ xs) a = m.same_trans _ _ _ (m.same_more x _ _ (at_end Same m xs a)) (m.same_swap x a xs)
+
+-- one arc more at the end
+pub same_push : {Arc : Type 0} (Same : List Arc → List Arc → Type 0) → IsMeaning Same → (xs ys : List Arc) (a : Arc) → Same xs ys → Same (xs ++ a ∷ []) (ys ++ a ∷ [])
+same_push Same m xs ys a s = m.same_trans _ _ _ (at_end Same m xs a) (m.same_trans _ _ _ (m.same_more a xs ys s) (m.same_sym _ _ (at_end Same m ys a)))

@@ -1,0 +1,98 @@
+// What the parallel arcs of one ordered pair of nodes mean.
+ghost use Rattle.std.specs.Prelude.{◌≡◌, ℕ, ◌+◌, ◌-◌, ◌^◌, ℤ, pos, ◌<ℤ◌, ◌↔◌, List, [], ◌∷◌, ◌++◌, length, IsTrue, OnOk, OnErr, MatchOption, slice_get};
+ghost use Rattle.std.specs.Option.{option_copied};
+ghost use Rattle.dn_bundle.specs.Kinds.{ArcKind};
+ghost use Rattle.dn_bundle.specs.Bundles.{IsKind, IsDetermined, NumbersFit, told_of};
+ghost use Rattle.dn_bundle.specs.declared.arc.Form.{Form};
+
+use crate::arc::{Form, Parts};
+use crate::difference::How;
+use std::alloc::Global;
+use thiserror::Error;
+
+/// Why a bundle takes no further arc.
+#[derive(Clone, Copy, Debug, PartialEq, Eq, Error)]
+pub enum BundleFault {
+    /// The capacities would sum past 2^63-1.
+    #[error("the capacities sum past 2^63-1")]
+    Sum,
+    /// Memory was wanted.
+    #[error("out of memory")]
+    Memory,
+}
+
+/// What the arcs of one ordered pair mean, merged as they come.
+pub trait Bundle: Sized + Drop {
+    type Arc: Parts;
+
+    /// What its arcs are, and what they mean.
+    ghost kind: { ArcKind Self.Arc };
+
+    /// The canonical arcs that it tells, by form. It stands for the arcs that mean the same.
+    ghost told: { Form → Self → List Self.Arc };
+
+    /// The bundle of no arcs.
+    fn empty(alloc: Global) -> Self
+        ensures { (form : Form) → told form result ≡ [] };
+
+    /// Whether a problem may have this arc.
+    fn is_arc(arc: &Self::Arc) -> bool
+        ensures { IsTrue result ↔ kind.IsArc arc.now };
+
+    /// Adds an arc. On a fault nothing has changed; `Sum` comes before any growth.
+    fn add(&mut self, arc: Self::Arc) -> Result<(), BundleFault>
+        requires { kind.IsArc arc }
+        ensures ok { OnOk result (kind.Same (told Form.One self.new) (told Form.One self.old ++ arc ∷ [])) }
+        ensures err { OnErr result (self.new ≡ self.old) }
+        ensures sum { (result ≡ Err BundleFault.Sum)
+            ↔ (pos (2 ^ 63 - 1) <ℤ kind.capacity (told Form.One self.old ++ arc ∷ [])) };
+
+    /// Whether the meaning is that of no arcs.
+    fn is_nothing(&self) -> bool
+        ensures { IsTrue result ↔ kind.Same (told Form.One self.now) [] };
+
+    /// Whether both mean the same.
+    fn same(&self, other: &Self) -> bool
+        ensures { IsTrue result ↔ kind.Same (told Form.One self.now) (told Form.One other.now) }
+    {
+        Self::how(Some(self), Some(other)).is_none()
+    }
+
+    /// Where they first differ, if they do. `None` is the bundle of no arcs.
+    fn how(left: Option<&Self>, right: Option<&Self>) -> Option<How>
+        ensures answer { MatchOption result
+            (kind.Same (told_of (told Form.One) (option_copied left.entry)) (told_of (told Form.One) (option_copied right.entry)))
+            (kind.Differ (told_of (told Form.One) (option_copied left.entry)) (told_of (told Form.One) (option_copied right.entry))) };
+
+    /// How many entries it comes to.
+    fn entries(&self) -> u64
+        ensures { result ≡ kind.entries (told Form.One self.now) };
+
+    /// How many canonical arcs it tells.
+    fn canon_len(&self, form: Form) -> u64
+        ensures { result ≡ length (told form self.now) };
+
+    /// The canonical arc at `i`, counted from 0; `None` from `canon_len` on.
+    fn canon_arc(&self, i: u64, form: Form) -> Option<Self::Arc>
+        ensures { result ≡ slice_get (told form self.now) i };
+
+    /// The canonical arc after this one, so that a walk over all of them goes on from where it stands.
+    fn canon_after(&self, arc: &Self::Arc, form: Form) -> Option<Self::Arc>
+        ensures { (i : ℕ) → slice_get (told form self.now) i ≡ Some arc.now
+            → result ≡ slice_get (told form self.now) (i + 1) };
+
+    /// The laws of its kind.
+    ghost laws: { IsKind kind };
+
+    /// What it tells is canonical.
+    ghost canonical: { (form : Form) (b : Self) → kind.IsCanon form (told form b) };
+
+    /// What it tells in either form means the same.
+    ghost same_forms: { (b : Self) → kind.Same (told Form.Two b) (told Form.One b) };
+
+    /// The numbers of what it tells have 64 bits.
+    ghost fit: { (form : Form) (b : Self) → NumbersFit kind (told form b) };
+
+    /// An arc's numbers are those of its line.
+    ghost same_numbers: { (a : Self.Arc) → kind.numbers a ≡ Self.Arc.numbers a };
+}

@@ -1,0 +1,71 @@
+// What the definitions of bundles say of one another.
+ghost use Rattle.std.specs.Prelude.{◌≡◌, ◌↔◌, ℤ, pos, List, [], ◌∷◌, ◌++◌};
+ghost use Rattle.std.specs.List.Sorted.{IsPermutation};
+ghost use Rattle.dn_bundle.specs.Splits.{LeastCost};
+ghost use Rattle.dn_bundle.specs.Meanings.{IsMeaning, SameLength, SameTotal, SameCurve};
+ghost use Rattle.dn_bundle.specs.Canonical.{AreCanonLengths, AreCanonCaps, AreCanonCosts};
+ghost use Rattle.dn_bundle.specs.Fillings.{IsFilling};
+ghost use Rattle.dn_bundle.specs.Differences.{LengthsDiffer, TotalsDiffer, CurvesDiffer};
+ghost use Rattle.dn_bundle.specs.declared.arc.LengthArc.{LengthArc};
+ghost use Rattle.dn_bundle.specs.declared.arc.CapArc.{CapArc};
+ghost use Rattle.dn_bundle.specs.declared.arc.CostArc.{CostArc};
+ghost use Rattle.dn_bundle.specs.declared.arc.Form.{Form};
+ghost use Rattle.dn_bundle.specs.declared.difference.How.{How};
+
+use crate::arc::Form;
+
+/// An amount has at most one least cost.
+pub fn one_least_cost()
+    ensures { (arcs : List CostArc) (x j k : ℤ) → LeastCost arcs x j → LeastCost arcs x k → j ≡ k }
+{}
+
+/// No arcs carry the amount 0 at the cost 0, and no other amount.
+pub fn no_arcs()
+    ensures nothing { LeastCost [] (pos 0) (pos 0) }
+    ensures only { (x k : ℤ) → LeastCost [] x k → (x ≡ pos 0) × (k ≡ pos 0) }
+{}
+
+/// Meaning the same is an equivalence of lists of arcs that does not depend on their order and that more arcs keep.
+pub fn meanings()
+    ensures lengths { IsMeaning SameLength }
+    ensures capacities { IsMeaning SameTotal }
+    ensures costs { IsMeaning SameCurve }
+{}
+
+/// The order of arcs does not matter.
+pub fn any_order()
+    ensures lengths { (xs ys : List LengthArc) → IsPermutation xs ys → SameLength xs ys }
+    ensures capacities { (xs ys : List CapArc) → IsPermutation xs ys → SameTotal xs ys }
+    ensures costs { (xs ys : List CostArc) → IsPermutation xs ys → SameCurve xs ys }
+{}
+
+/// Arcs that mean the same still do so when the same arc comes after them.
+pub fn one_more()
+    ensures lengths { (xs ys : List LengthArc) (a : LengthArc) → SameLength xs ys → SameLength (xs ++ a ∷ []) (ys ++ a ∷ []) }
+    ensures capacities { (xs ys : List CapArc) (a : CapArc) → SameTotal xs ys → SameTotal (xs ++ a ∷ []) (ys ++ a ∷ []) }
+    ensures costs { (xs ys : List CostArc) (a : CostArc) → SameCurve xs ys → SameCurve (xs ++ a ∷ []) (ys ++ a ∷ []) }
+{}
+
+/// The least cost of x among canonical arcs of a `min` pair is the forced cost plus what the units beyond the forced
+/// ones cost when they are filled into the free capacities by rising cost.
+pub fn exchange()
+    ensures { (form : Form) (arcs : List CostArc) → AreCanonCosts form arcs → (x k : ℤ) → LeastCost arcs x k ↔ IsFilling arcs x k }
+{}
+
+/// Canonical arcs of a `min` pair in one form that mean the same are the same.
+pub fn determination(form: Form)
+    ensures { (xs ys : List CostArc) → AreCanonCosts form xs → AreCanonCosts form ys → SameCurve xs ys → xs ≡ ys }
+{}
+
+/// Canonical arcs of an `sp` or a `max` pair that mean the same are the same.
+pub fn determination_of_sums()
+    ensures lengths { (xs ys : List LengthArc) → AreCanonLengths xs → AreCanonLengths ys → SameLength xs ys → xs ≡ ys }
+    ensures capacities { (xs ys : List CapArc) → AreCanonCaps xs → AreCanonCaps ys → SameTotal xs ys → xs ≡ ys }
+{}
+
+/// Arcs that mean the same differ nowhere.
+pub fn differences()
+    ensures lengths { (xs ys : List LengthArc) (how : How) → LengthsDiffer xs ys how → SameLength xs ys → ⊥ }
+    ensures capacities { (xs ys : List CapArc) (how : How) → TotalsDiffer xs ys how → SameTotal xs ys → ⊥ }
+    ensures costs { (xs ys : List CostArc) (how : How) → CurvesDiffer xs ys how → SameCurve xs ys → ⊥ }
+{}

@@ -1,0 +1,97 @@
+// The least length of the arcs of a pair.
+ghost use Rattle.std.specs.Prelude.{◌≡◌, ℤ, List, [], ◌∷◌, FitsSigned, MatchOption, refl};
+ghost use Rattle.std.specs.Int.{w64};
+ghost use Rattle.std.specs.Option.{ForSome};
+ghost use Rattle.std.proofs.Props.{props};
+ghost use Rattle.dn_bundle.specs.Kinds.{lengths};
+ghost use Rattle.dn_bundle.specs.Lengths.{LeastLength};
+ghost use Rattle.dn_bundle.specs.LeastTold.{length_told};
+ghost use Rattle.dn_bundle.specs.Laws.LengthKind.{length_kind, length_canonical, length_fit};
+
+use crate::arc::{Form, LengthArc};
+use crate::bundle::{Bundle, BundleFault};
+use crate::difference::How;
+use std::alloc::Global;
+
+/// The least length of the arcs of an `sp` pair, if there is an arc.
+#[derive(Drop)]
+pub struct Least {
+    length: Option<i64>,
+    ghost fits: { ForSome length (λ w. FitsSigned w64 w) } by { Prim.hlevel props },
+}
+
+impl Least {
+    /// The least length, or `None` where there is no arc.
+    pub fn get(&self) -> Option<i64>
+        ensures { MatchOption result (⟦<Least as Bundle>⟧.told Form.One self.now ≡ []) (LeastLength (⟦<Least as Bundle>⟧.told Form.One self.now)) }
+    {
+        self.length
+    }
+}
+
+impl Bundle for Least {
+    type Arc = LengthArc;
+
+    ghost kind = { lengths };
+
+    ghost told = { λ form b. length_told b.length };
+
+    ghost laws = { length_kind };
+
+    ghost canonical = { λ form b. length_canonical b.length };
+
+    ghost same_forms = { λ b. length_kind.meaning.same_refl (length_told b.length) };
+
+    ghost fit = { λ form b. length_fit b.length b.fits };
+
+    ghost same_numbers = { λ a. refl };
+
+    fn empty(_alloc: Global) -> Least {
+        Least { length: None }
+    }
+
+    fn is_arc(_arc: &LengthArc) -> bool {
+        true
+    }
+
+    fn add(&mut self, arc: LengthArc) -> Result<(), BundleFault> {
+        match self.length {
+            Some(least) if least <= arc.length => {}
+            _ => self.length = Some(arc.length),
+        }
+        Ok(())
+    }
+
+    fn is_nothing(&self) -> bool {
+        self.length.is_none()
+    }
+
+    fn how(left: Option<&Least>, right: Option<&Least>) -> Option<How> {
+        let left = left.and_then(|bundle| bundle.length);
+        let right = right.and_then(|bundle| bundle.length);
+        if left == right {
+            None
+        } else {
+            Some(How::Lengths { left, right })
+        }
+    }
+
+    fn entries(&self) -> u64 {
+        if self.length.is_some() { 1 } else { 0 }
+    }
+
+    fn canon_len(&self, _form: Form) -> u64 {
+        if self.length.is_some() { 1 } else { 0 }
+    }
+
+    fn canon_arc(&self, i: u64, _form: Form) -> Option<LengthArc> {
+        match self.length {
+            Some(length) if i == 0 => Some(LengthArc { length }),
+            _ => None,
+        }
+    }
+
+    fn canon_after(&self, _arc: &LengthArc, _form: Form) -> Option<LengthArc> {
+        None
+    }
+}

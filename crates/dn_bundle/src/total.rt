@@ -1,0 +1,98 @@
+// The total capacity of the arcs of a pair.
+ghost use Rattle.std.specs.Prelude.{◌≡◌, ◌-◌, ◌^◌, pos, ◌≤ℤ◌, refl};
+ghost use Rattle.dn_bundle.specs.Kinds.{capacities};
+ghost use Rattle.dn_bundle.specs.Capacities.{total_cap};
+ghost use Rattle.dn_bundle.specs.TotalTold.{cap_told};
+ghost use Rattle.dn_bundle.specs.Laws.TotalKind.{total_kind, total_canonical, total_fit};
+
+use crate::arc::{CapArc, Form};
+use crate::bundle::{Bundle, BundleFault};
+use crate::difference::How;
+use std::alloc::Global;
+
+/// The total capacity of the arcs of a `max` pair, 0 where there is no arc.
+#[derive(Drop)]
+pub struct Total {
+    total: i64,
+    ghost some: { pos 0 ≤ℤ total },
+    ghost most: { total ≤ℤ pos (2 ^ 63 - 1) },
+}
+
+impl Total {
+    /// The total capacity.
+    pub fn get(&self) -> i64
+        ensures { result ≡ total_cap (⟦<Total as Bundle>⟧.told Form.One self.now) }
+    {
+        self.total
+    }
+}
+
+impl Bundle for Total {
+    type Arc = CapArc;
+
+    ghost kind = { capacities };
+
+    ghost told = { λ form b. cap_told b.total };
+
+    ghost laws = { total_kind };
+
+    ghost canonical = { λ form b. total_canonical b.total };
+
+    ghost same_forms = { λ b. total_kind.meaning.same_refl (cap_told b.total) };
+
+    ghost fit = { λ form b. total_fit b.total b.some b.most };
+
+    ghost same_numbers = { λ a. refl };
+
+    fn empty(_alloc: Global) -> Total {
+        Total { total: 0 }
+    }
+
+    fn is_arc(arc: &CapArc) -> bool {
+        0 <= arc.cap
+    }
+
+    fn add(&mut self, arc: CapArc) -> Result<(), BundleFault> {
+        match self.total.checked_add(arc.cap) {
+            Some(total) => {
+                self.total = total;
+                Ok(())
+            }
+            None => Err(BundleFault::Sum),
+        }
+    }
+
+    fn is_nothing(&self) -> bool {
+        self.total == 0
+    }
+
+    fn how(left: Option<&Total>, right: Option<&Total>) -> Option<How> {
+        let left = left.map_or(0, |bundle| bundle.total);
+        let right = right.map_or(0, |bundle| bundle.total);
+        if left == right {
+            None
+        } else {
+            Some(How::Totals { left, right })
+        }
+    }
+
+    fn entries(&self) -> u64 {
+        if self.total == 0 { 0 } else { 1 }
+    }
+
+    fn canon_len(&self, _form: Form) -> u64 {
+        if self.total == 0 { 0 } else { 1 }
+    }
+
+    fn canon_arc(&self, i: u64, _form: Form) -> Option<CapArc> {
+        if self.total == 0 || i != 0 {
+            None
+        } else {
+            Some(CapArc { cap: self.total })
+        }
+    }
+
+    fn canon_after(&self, _arc: &CapArc, _form: Form) -> Option<CapArc> {
+        None
+    }
+}
