@@ -1,5 +1,7 @@
+pub mod PairLaws
 pub mod FirstFaults
 pub mod SameLaws
 pub mod CleanItems
 pub mod MapLaws
 pub mod ValidLaws
+pub mod TableLaws

@@ -27,6 +27,7 @@ use Rattle.dn_instance.specs.Validity.{Fits, IsNode, IsId, IsPlaced, IsValidGrap
 use Rattle.dn_instance.specs.Items.{Problem, problem_in, problem_of, kind_known, arcs_of, arc_in, by_key, supply_in, supplies_of, terminal_in, terminal_of, source_in, query_in, point_in, graph_of, max_flow, instance_as}
 use Rattle.dn_instance.specs.TextFaults.{is_in_range, ids_in, is_companion, is_id, other_letter, passes}
 use Rattle.dn_instance.specs.Texts.{items_of, IsClean, Reads}
+use Rattle.dn_instance.proofs.PairLaws.{pair_is}
 use Rattle.dn_instance.proofs.CleanItems.{IsNext, by_items, problem_push, or_none, or_assoc}
 use Rattle.dn_instance.proofs.MapLaws.{each_put, map_put, by_key_push, no_keys}
 
@@ -104,15 +105,6 @@ module _ {Arc : Type 0} where
       by_test : (t : Bool) (us vs ws : List Arc) → ws ≡ us ++ vs → cond t (x.1 ∷ ws) ws ≡ cond t (x.1 ∷ us) us ++ vs
       by_test true us vs ws e = ap (λ l. x.1 ∷ l) e
       by_test false us vs ws e = e
-
-equal_is : (o : Ordering) → is_eq o ≡ true → o ≡ Equal
-equal_is Less h = cc
-equal_is Equal h = refl
-equal_is Greater h = cc
-
--- pairs that compare equal are one
-pub pair_is : (p q : ℤ × ℤ) → same_pair p q ≡ true → p ≡ q
-pair_is p q h = exact_pairs int_cmp int_cmp exact_signed exact_signed p q (equal_is (pair_cmp p q) h)
 
 module _ {Arc : Type 0} (kind : ArcKind Arc) where
   -- one arc more, where its capacity may be added

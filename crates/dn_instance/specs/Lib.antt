@@ -7,3 +7,4 @@ pub mod Items
 pub mod TextFaults
 pub mod Texts
 pub mod Tables
+pub mod TableSteps

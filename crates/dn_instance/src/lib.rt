@@ -4,5 +4,7 @@
 pub mod examples;
 pub mod laws;
 pub mod place;
+pub mod table;
 
 pub use place::Place;
+pub use table::{Pairs, Table};

@@ -1,0 +1,22 @@
+-- Ordered pairs as keys.
+use Rattle.std.proofs.Common.{◌≡◌, ℤ, true, refl, subst, to_z, of_z, w64}
+use Rattle.std.specs.Int.RustNames.{FitsSigned}
+use Rattle.std.proofs.lemmas.Int.{to_z-of_z}
+use Rattle.std.proofs.lemmas.Map.Lookups.{exact_pairs, exact_signed}
+use Rattle.std.specs.Ordering.{int_cmp, is_eq}
+use Rattle.std.specs.declared.cmp.Ordering.{Ordering}
+use Rattle.std.specs.declared.cmp.Ordering.TheVariants.{Less, Equal, Greater}
+use Rattle.dn_instance.specs.Pairs.{pair_cmp, same_pair}
+
+-- the key, as a call passes it
+pub key_is : (u v : ℤ) → FitsSigned w64 u → FitsSigned w64 v → (P : ℤ × ℤ → Type 0) → P (to_z w64 (of_z w64 u), to_z w64 (of_z w64 v)) → P (u, v)
+key_is u v p q P h = subst (λ b. P (u, b)) (to_z-of_z w64 v q) (subst (λ a. P (a, to_z w64 (of_z w64 v))) (to_z-of_z w64 u p) h)
+
+equal_is : (o : Ordering) → is_eq o ≡ true → o ≡ Equal
+equal_is Less h = cc
+equal_is Equal h = refl
+equal_is Greater h = cc
+
+-- pairs that compare equal are one
+pub pair_is : (p q : ℤ × ℤ) → same_pair p q ≡ true → p ≡ q
+pair_is p q h = exact_pairs int_cmp int_cmp exact_signed exact_signed p q (equal_is (pair_cmp p q) h)

@@ -1,0 +1,19 @@
+-- What an iterator over a table shows, and what a table becomes as an arc comes.
+use Rattle.std.specs.Prelude.{◌≡◌, ◌↔◌, ℤ, List, [], ◌∷◌, ◌++◌, None, false, IsSome}
+use Rattle.std.specs.Borrow.{Bor}
+use Rattle.std.specs.Map.{lookup}
+use Rattle.dn_bundle.specs.Kinds.{ArcKind}
+use Rattle.dn_instance.specs.Pairs.{same_pair}
+use Rattle.dn_instance.specs.Tables.{told_at}
+
+-- what the iterator shows of an item
+abbrev pub entry_of : {B : Type 0} → (ℤ × ℤ) × Bor B → (ℤ × ℤ) × B
+entry_of x = (x.0, x.1.now)
+
+-- the table has taken an arc at this pair, and nothing elsewhere: its bundle there means the arcs so far and this one;
+-- where it had none, it has one now exactly if the arc means anything
+pub record Grows {B Arc : Type 0} (kind : ArcKind Arc) (tells : B → List Arc) (old new : List ((ℤ × ℤ) × B)) (pair : ℤ × ℤ) (arc : Arc) : Type 0 where
+  pub here : kind.Same (told_at tells new pair) (told_at tells old pair ++ arc ∷ [])
+  pub kept : IsSome (lookup (same_pair pair) old) → IsSome (lookup (same_pair pair) new)
+  pub fresh : lookup (same_pair pair) old ≡ None → (lookup (same_pair pair) new ≡ None) ↔ kind.Same (told_at tells new pair) []
+  pub others : (p : ℤ × ℤ) → same_pair pair p ≡ false → lookup (same_pair p) new ≡ lookup (same_pair p) old
