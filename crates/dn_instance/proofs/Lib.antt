@@ -5,3 +5,4 @@ pub mod CleanItems
 pub mod MapLaws
 pub mod ValidLaws
 pub mod TableLaws
+pub mod TellsLaws

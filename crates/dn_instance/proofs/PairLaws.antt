@@ -1,9 +1,10 @@
 -- Ordered pairs as keys.
-use Rattle.std.proofs.Common.{◌≡◌, ℤ, true, refl, subst, to_z, of_z, w64}
+use Rattle.std.proofs.Common.{◌≡◌, ℤ, Bool, true, false, refl, sym, ap, ◌∙◌, subst, to_z, of_z, w64}
 use Rattle.std.specs.Int.RustNames.{FitsSigned}
 use Rattle.std.proofs.lemmas.Int.{to_z-of_z}
 use Rattle.std.proofs.lemmas.Map.Lookups.{exact_pairs, exact_signed}
-use Rattle.std.specs.Ordering.{int_cmp, is_eq}
+use Rattle.std.specs.Ordering.{int_cmp, is_eq, ordering_reverse}
+use Rattle.std.proofs.lemmas.Cmp.{int_cmp_total}
 use Rattle.std.specs.declared.cmp.Ordering.{Ordering}
 use Rattle.std.specs.declared.cmp.Ordering.TheVariants.{Less, Equal, Greater}
 use Rattle.dn_instance.specs.Pairs.{pair_cmp, same_pair}
@@ -20,3 +21,23 @@ equal_is Greater h = cc
 -- pairs that compare equal are one
 pub pair_is : (p q : ℤ × ℤ) → same_pair p q ≡ true → p ≡ q
 pair_is p q h = exact_pairs int_cmp int_cmp exact_signed exact_signed p q (equal_is (pair_cmp p q) h)
+
+self_equal : (o : Ordering) → o ≡ ordering_reverse o → o ≡ Equal
+self_equal Less e = cc
+self_equal Equal e = refl
+self_equal Greater e = cc
+
+int_self : (z : ℤ) → int_cmp z z ≡ Equal
+int_self z = self_equal (int_cmp z z) (int_cmp_total.antisymm z z)
+
+-- a pair is the same as itself
+pub pair_self : (p : ℤ × ℤ) → same_pair p p ≡ true
+pair_self p = rw (int_self p.0, int_self p.1) refl
+
+-- and the same both ways
+pub other_pair : (p q : ℤ × ℤ) → same_pair p q ≡ false → same_pair q p ≡ false
+other_pair p q h = by_test (same_pair q p) refl
+  where
+    by_test : (t : Bool) → same_pair q p ≡ t → same_pair q p ≡ false
+    by_test false e = e
+    by_test true e = (let one : q ≡ p = pair_is q p e in let never : true ≡ false = sym (pair_self p) ∙ ap (same_pair p) (sym one) ∙ h in cc)

@@ -98,7 +98,8 @@ all_push P [] x all here = (here, tt)
 all_push P (y ∷ xs) x all here = (all.0, all_push P xs x all.1 here)
 
 module _ {Arc : Type 0} where
-  bundle_push : (p : ℤ × ℤ) (xs : List ((ℤ × ℤ) × Arc)) (a : (ℤ × ℤ) × Arc) → bundle p (xs ++ a ∷ []) ≡ bundle p xs ++ cond (same_pair p a.0) (a.1 ∷ []) []
+  -- the bundle with one arc more
+  pub bundle_push : (p : ℤ × ℤ) (xs : List ((ℤ × ℤ) × Arc)) (a : (ℤ × ℤ) × Arc) → bundle p (xs ++ a ∷ []) ≡ bundle p xs ++ cond (same_pair p a.0) (a.1 ∷ []) []
   bundle_push p [] a = refl
   bundle_push p (x ∷ xs) a = by_test (same_pair p x.0) (bundle p xs) (cond (same_pair p a.0) (a.1 ∷ []) []) (bundle p (xs ++ a ∷ [])) (bundle_push p xs a)
     where

@@ -2,8 +2,8 @@
 use Rattle.std.specs.Prelude.{◌≡◌, ◌↔◌, ℤ, List, [], ◌∷◌, ◌++◌, None, false, IsSome}
 use Rattle.std.specs.Borrow.{Bor}
 use Rattle.std.specs.Map.{lookup}
-use Rattle.dn_bundle.specs.Kinds.{ArcKind}
-use Rattle.dn_instance.specs.Pairs.{same_pair}
+use Rattle.dn_bundle.specs.Kinds.{ArcKind, StandsFor}
+use Rattle.dn_instance.specs.Pairs.{same_pair, bundle}
 use Rattle.dn_instance.specs.Tables.{told_at}
 
 -- what the iterator shows of an item
@@ -17,3 +17,8 @@ pub record Grows {B Arc : Type 0} (kind : ArcKind Arc) (tells : B → List Arc) 
   pub kept : IsSome (lookup (same_pair pair) old) → IsSome (lookup (same_pair pair) new)
   pub fresh : lookup (same_pair pair) old ≡ None → (lookup (same_pair pair) new ≡ None) ↔ kind.Same (told_at tells new pair) []
   pub others : (p : ℤ × ℤ) → same_pair pair p ≡ false → lookup (same_pair p) new ≡ lookup (same_pair p) old
+
+-- the table tells at each pair what these arcs mean there, and has a bundle exactly where they mean anything
+pub record Tells {B Arc : Type 0} (kind : ArcKind Arc) (tells : B → List Arc) (table : List ((ℤ × ℤ) × B)) (arcs : List ((ℤ × ℤ) × Arc)) : Type 0 where
+  pub stands : (p : ℤ × ℤ) → StandsFor kind (told_at tells table p) (bundle p arcs)
+  pub absent : (p : ℤ × ℤ) → (lookup (same_pair p) table ≡ None) ↔ kind.Same (bundle p arcs) []

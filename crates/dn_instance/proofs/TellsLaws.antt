@@ -1,0 +1,98 @@
+-- A table that tells what arcs mean, as one arc more comes.
+use Rattle.std.proofs.Common.{◌≡◌, ◌↔◌, ℤ, List, [], ◌∷◌, ◌++◌, Bool, true, false, cond, Option, Some, None, IsSome, is_some, refl, sym, ap, ◌∙◌, subst, append-nil}
+use Rattle.std.specs.List.{AllByRecursion}
+use Rattle.std.specs.Map.{lookup}
+use Rattle.dn_bundle.specs.declared.arc.Form.TheVariants.{One}
+use Rattle.dn_bundle.specs.Kinds.{ArcKind, StandsFor}
+use Rattle.dn_bundle.specs.Bundles.{IsKind}
+use Rattle.dn_bundle.specs.Laws.Orders.{same_push}
+use Rattle.dn_instance.specs.Pairs.{same_pair, bundle}
+use Rattle.dn_instance.specs.Tables.{told_by, told_at}
+use Rattle.dn_instance.specs.TableSteps.{Grows, Tells}
+use Rattle.dn_instance.proofs.PairLaws.{pair_is, pair_self, other_pair}
+use Rattle.dn_instance.proofs.ValidLaws.{bundle_push}
+
+-- arcs of a problem, wherever they stand
+abbrev pub AreArcs : {Arc : Type 0} → ArcKind Arc → List ((ℤ × ℤ) × Arc) → Type 0
+AreArcs kind arcs = AllByRecursion (λ a. kind.IsArc a.1) arcs
+
+-- what means something still does with an arc more
+abbrev pub Stays : {Arc : Type 0} → ArcKind Arc → Type 0
+Stays {Arc} kind = (xs : List Arc) (a : Arc) → AllByRecursion kind.IsArc xs → kind.IsArc a → kind.Same (xs ++ a ∷ []) [] → kind.Same xs []
+
+module _ {B Arc : Type 0} (kind : ArcKind Arc) (tells : B → List Arc) (laws : IsKind kind) (canonical : (b : B) → kind.IsCanon One (tells b)) where
+  told_canon : (o : Option B) → kind.IsCanon One (told_by tells o)
+  told_canon None = laws.none_canon One
+  told_canon (Some b) = canonical b
+
+  -- no arcs, and no bundles
+  pub tells_none : Tells kind tells [] []
+  tells_none = record {
+    stands = λ p. record { canonical = laws.none_canon One; same = laws.meaning.same_refl [] };
+    absent = λ p. (λ e. laws.meaning.same_refl [], λ s. refl);
+  }
+
+bundle_arcs : {Arc : Type 0} (kind : ArcKind Arc) (p : ℤ × ℤ) (arcs : List ((ℤ × ℤ) × Arc)) → AreArcs kind arcs → AllByRecursion kind.IsArc (bundle p arcs)
+bundle_arcs kind p [] h = tt
+bundle_arcs kind p (a ∷ rest) h = by_test (same_pair p a.0) (bundle_arcs kind p rest h.1)
+  where
+    by_test : (t : Bool) → AllByRecursion kind.IsArc (bundle p rest) → AllByRecursion kind.IsArc (cond t (a.1 ∷ bundle p rest) (bundle p rest))
+    by_test true all = (h.0, all)
+    by_test false all = all
+
+module _ {B Arc : Type 0} (kind : ArcKind Arc) (tells : B → List Arc) (laws : IsKind kind) (canonical : (b : B) → kind.IsCanon One (tells b)) (stays : Stays kind)
+    (m n : List ((ℤ × ℤ) × B)) (arcs : List ((ℤ × ℤ) × Arc)) (pair : ℤ × ℤ) (arc : Arc) (old : Tells kind tells m arcs) (are : AreArcs kind arcs) (is : kind.IsArc arc) (grows : Grows kind tells m n pair arc) where
+  bundle_here : bundle pair (arcs ++ (pair, arc) ∷ []) ≡ bundle pair arcs ++ arc ∷ []
+  bundle_here = bundle_push pair arcs (pair, arc) ∙ ap (λ t. bundle pair arcs ++ cond t (arc ∷ []) []) (pair_self pair)
+
+  bundle_there : (p : ℤ × ℤ) → same_pair p pair ≡ false → bundle p (arcs ++ (pair, arc) ∷ []) ≡ bundle p arcs
+  bundle_there p e = bundle_push p arcs (pair, arc) ∙ ap (λ t. bundle p arcs ++ cond t (arc ∷ []) []) e ∙ append-nil (bundle p arcs)
+
+  same_here : kind.Same (told_at tells n pair) (bundle pair (arcs ++ (pair, arc) ∷ []))
+  same_here =
+      subst (kind.Same (told_at tells n pair)) (sym bundle_here)
+      (laws.meaning.same_trans (told_at tells n pair) (told_at tells m pair ++ arc ∷ []) (bundle pair arcs ++ arc ∷ []) grows.here
+      (same_push kind.Same laws.meaning (told_at tells m pair) (bundle pair arcs) arc (old.stands pair).same))
+
+  some_not_none : (b : B) → lookup (same_pair pair) m ≡ Some b → lookup (same_pair pair) n ≡ None → ⊥
+  some_not_none b e g =
+      let some : IsSome (lookup (same_pair pair) n) = grows.kept (subst IsSome (sym e) refl) in
+      let never : false ≡ true = sym (ap is_some g) ∙ some in
+      cc
+
+  absent_here : (lookup (same_pair pair) n ≡ None) ↔ kind.Same (bundle pair (arcs ++ (pair, arc) ∷ [])) []
+  absent_here = by_old (lookup (same_pair pair) m) refl
+    where
+      by_old : (o : Option B) → lookup (same_pair pair) m ≡ o → (lookup (same_pair pair) n ≡ None) ↔ kind.Same (bundle pair (arcs ++ (pair, arc) ∷ [])) []
+      by_old None e =
+          let f = grows.fresh e in
+          let told = told_at tells n pair in
+          let here = bundle pair (arcs ++ (pair, arc) ∷ []) in
+          (λ g. laws.meaning.same_trans here told [] (laws.meaning.same_sym told here same_here) (f.0 g), λ s. f.1 (laws.meaning.same_trans told here [] same_here s))
+      by_old (Some b) e = (
+        λ g. absurd (some_not_none b e g),
+        λ s.
+            let nothing = stays (bundle pair arcs) arc (bundle_arcs kind pair arcs are) is (subst (λ l. kind.Same l []) bundle_here s) in
+            let gone : lookup (same_pair pair) m ≡ None = (old.absent pair).1 nothing in
+            let never : None ≡ Some b = sym gone ∙ e in
+            cc,
+      )
+
+  stands_at : (p : ℤ × ℤ) (t : Bool) → same_pair pair p ≡ t → StandsFor kind (told_at tells n p) (bundle p (arcs ++ (pair, arc) ∷ []))
+  stands_at p true e =
+      subst (λ q. StandsFor kind (told_at tells n q) (bundle q (arcs ++ (pair, arc) ∷ []))) (pair_is pair p e)
+      (record { canonical = told_canon kind tells laws canonical (lookup (same_pair pair) n); same = same_here })
+  stands_at p false e = record {
+    canonical = told_canon kind tells laws canonical (lookup (same_pair p) n);
+    same = subst (λ l. kind.Same (told_at tells n p) l) (sym (bundle_there p (other_pair pair p e))) (subst (λ o. kind.Same (told_by tells o) (bundle p arcs)) (sym (grows.others p e)) (old.stands p).same);
+  }
+
+  absent_at : (p : ℤ × ℤ) (t : Bool) → same_pair pair p ≡ t → (lookup (same_pair p) n ≡ None) ↔ kind.Same (bundle p (arcs ++ (pair, arc) ∷ [])) []
+  absent_at p true e = subst (λ q. (lookup (same_pair q) n ≡ None) ↔ kind.Same (bundle q (arcs ++ (pair, arc) ∷ [])) []) (pair_is pair p e) absent_here
+  absent_at p false e =
+      subst (λ l. (lookup (same_pair p) n ≡ None) ↔ kind.Same l []) (sym (bundle_there p (other_pair pair p e)))
+      (subst (λ o. (o ≡ None) ↔ kind.Same (bundle p arcs) []) (sym (grows.others p e)) (old.absent p))
+
+  -- with one arc more
+  pub tells_more : Tells kind tells n (arcs ++ (pair, arc) ∷ [])
+  tells_more = record { stands = λ p. stands_at p (same_pair pair p) refl; absent = λ p. absent_at p (same_pair pair p) refl }
