@@ -1,5 +1,5 @@
 -- A table that tells what arcs mean, as one arc more comes.
-use Rattle.std.proofs.Common.{◌≡◌, ◌↔◌, ℤ, List, [], ◌∷◌, ◌++◌, Bool, true, false, cond, Option, Some, None, IsSome, is_some, refl, sym, ap, ◌∙◌, subst, append-nil}
+use Rattle.std.proofs.Common.{◌≡◌, ◌↔◌, ℤ, pos, ◌<ℤ◌, int_lt, ◌-◌, ◌^◌, ◌&&◌, arith, List, [], ◌∷◌, ◌++◌, Bool, true, false, cond, Option, Some, None, IsSome, is_some, refl, sym, ap, ◌∙◌, subst, append-nil}
 use Rattle.std.specs.List.{AllByRecursion}
 use Rattle.std.specs.Map.{lookup}
 use Rattle.dn_bundle.specs.declared.arc.Form.TheVariants.{One}
@@ -8,17 +8,13 @@ use Rattle.dn_bundle.specs.Bundles.{IsKind}
 use Rattle.dn_bundle.specs.Laws.Orders.{same_push}
 use Rattle.dn_instance.specs.Pairs.{same_pair, bundle}
 use Rattle.dn_instance.specs.Tables.{told_by, told_at}
-use Rattle.dn_instance.specs.TableSteps.{Grows, Tells}
+use Rattle.dn_instance.specs.TableSteps.{Grows, Tells, AreArcs, Stays}
 use Rattle.dn_instance.proofs.PairLaws.{pair_is, pair_self, other_pair}
-use Rattle.dn_instance.proofs.ValidLaws.{bundle_push}
-
--- arcs of a problem, wherever they stand
-abbrev pub AreArcs : {Arc : Type 0} → ArcKind Arc → List ((ℤ × ℤ) × Arc) → Type 0
-AreArcs kind arcs = AllByRecursion (λ a. kind.IsArc a.1) arcs
-
--- what means something still does with an arc more
-abbrev pub Stays : {Arc : Type 0} → ArcKind Arc → Type 0
-Stays {Arc} kind = (xs : List Arc) (a : Arc) → AllByRecursion kind.IsArc xs → kind.IsArc a → kind.Same (xs ++ a ∷ []) [] → kind.Same xs []
+use Rattle.dn_instance.specs.TextFaults.{passes}
+use Rattle.dn_instance.specs.ItemFaults.{in_graph, arc_fault}
+use Rattle.dn_line.specs.declared.code.Code.TheVariants.{SumTooLarge}
+use Rattle.std.proofs.lemmas.Int.{ints, by_lt_z}
+use Rattle.dn_instance.proofs.ValidLaws.{bundle_push, all_push}
 
 module _ {B Arc : Type 0} (kind : ArcKind Arc) (tells : B → List Arc) (laws : IsKind kind) (canonical : (b : B) → kind.IsCanon One (tells b)) where
   told_canon : (o : Option B) → kind.IsCanon One (told_by tells o)
@@ -96,3 +92,33 @@ module _ {B Arc : Type 0} (kind : ArcKind Arc) (tells : B → List Arc) (laws : 
   -- with one arc more
   pub tells_more : Tells kind tells n (arcs ++ (pair, arc) ∷ [])
   tells_more = record { stands = λ p. stands_at p (same_pair pair p) refl; absent = λ p. absent_at p (same_pair pair p) refl }
+
+-- the capacity of what a table tells at a pair, with an arc more, is that of the arcs
+pub told_capacity : {B Arc : Type 0} (kind : ArcKind Arc) (tells : B → List Arc) → IsKind kind → (m : List ((ℤ × ℤ) × B)) (arcs : List ((ℤ × ℤ) × Arc)) (p : ℤ × ℤ) (arc : Arc) → Tells kind tells m arcs → AreArcs kind arcs → kind.IsArc arc
+    → kind.capacity (told_at tells m p ++ arc ∷ []) ≡ kind.capacity (bundle p arcs ++ arc ∷ [])
+told_capacity kind tells laws m arcs p arc old are is =
+    laws.same_capacity (told_at tells m p ++ arc ∷ []) (bundle p arcs ++ arc ∷ [])
+    (all_push kind.IsArc (told_at tells m p) arc (laws.canon_arcs One (told_at tells m p) (old.stands p).canonical) is)
+    (all_push kind.IsArc (bundle p arcs) arc (bundle_arcs kind p arcs are) is)
+    (same_push kind.Same laws.meaning (told_at tells m p) (bundle p arcs) arc (old.stands p).same)
+
+past_none : (x y : ℤ) → (x <ℤ y → ⊥) → int_lt x y ≡ false
+past_none x y h = by_lt_z x y (λ lt. absurd (h lt)) (λ le. grind (arith, ints))
+
+-- an arc that a table has taken has no fault
+pub taken_fault : {Arc : Type 0} (kind : ArcKind Arc) (nodes : ℤ) (arcs : List ((ℤ × ℤ) × Arc)) (is : Bool) (a : (ℤ × ℤ) × Arc) → (in_graph nodes a.0.0 && in_graph nodes a.0.1) ≡ true → is ≡ true → passes kind arcs (Some a) ≡ false → arc_fault kind nodes arcs is a ≡ None
+taken_fault kind nodes arcs is a e f g = rw (e, f, g) refl
+
+pub sum_fault : {Arc : Type 0} (kind : ArcKind Arc) (nodes : ℤ) (arcs : List ((ℤ × ℤ) × Arc)) (is : Bool) (a : (ℤ × ℤ) × Arc) → (in_graph nodes a.0.0 && in_graph nodes a.0.1) ≡ true → is ≡ true → passes kind arcs (Some a) ≡ true → arc_fault kind nodes arcs is a ≡ Some SumTooLarge
+sum_fault kind nodes arcs is a e f g = rw (e, f, g) refl
+
+-- whether the sum passes, by what the table answers
+pub sum_passes : {B Arc F : Type 0} (kind : ArcKind Arc) (tells : B → List Arc) → IsKind kind → (m : List ((ℤ × ℤ) × B)) (arcs : List ((ℤ × ℤ) × Arc)) (p : ℤ × ℤ) (arc : Arc) → Tells kind tells m arcs → AreArcs kind arcs → kind.IsArc arc
+    → F ↔ (pos (2 ^ 63 - 1) <ℤ kind.capacity (told_at tells m p ++ arc ∷ [])) → (F → passes kind arcs (Some (p, arc)) ≡ true) × ((F → ⊥) → passes kind arcs (Some (p, arc)) ≡ false)
+sum_passes kind tells laws m arcs p arc old are is h =
+    let e = told_capacity kind tells laws m arcs p arc old are is in
+    let past = kind.capacity (bundle p arcs ++ arc ∷ []) in
+    (
+      λ f. (let lt : pos (2 ^ 63 - 1) <ℤ past = subst (λ z. pos (2 ^ 63 - 1) <ℤ z) e (h.0 f) in grind (arith, ints)),
+      λ no. past_none (pos (2 ^ 63 - 1)) past (λ lt. no (h.1 (subst (λ z. pos (2 ^ 63 - 1) <ℤ z) (sym e) lt))),
+    )

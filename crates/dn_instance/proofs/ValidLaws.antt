@@ -93,7 +93,7 @@ ids_in_range : (before : List Line) (i : Line) (p : Problem) → problem_of befo
 ids_in_range before i p h n = ap (λ o. list_all (is_in_range o) (ids_in i)) (sym h) ∙ not_false (list_all (is_in_range (problem_of before)) (ids_in i)) n.in_range
 
 -- what holds of each element, and of one more
-all_push : {X : Type 0} (P : X → Type 0) (xs : List X) (x : X) → AllByRecursion P xs → P x → AllByRecursion P (xs ++ x ∷ [])
+pub all_push : {X : Type 0} (P : X → Type 0) (xs : List X) (x : X) → AllByRecursion P xs → P x → AllByRecursion P (xs ++ x ∷ [])
 all_push P [] x all here = (here, tt)
 all_push P (y ∷ xs) x all here = (all.0, all_push P xs x all.1 here)
 

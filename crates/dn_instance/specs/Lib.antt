@@ -8,3 +8,4 @@ pub mod TextFaults
 pub mod Texts
 pub mod Tables
 pub mod TableSteps
+pub mod ItemFaults

@@ -1,6 +1,7 @@
 -- What an iterator over a table shows, and what a table becomes as an arc comes.
 use Rattle.std.specs.Prelude.{◌≡◌, ◌↔◌, ℤ, List, [], ◌∷◌, ◌++◌, None, false, IsSome}
 use Rattle.std.specs.Borrow.{Bor}
+use Rattle.std.specs.List.{AllByRecursion}
 use Rattle.std.specs.Map.{lookup}
 use Rattle.dn_bundle.specs.Kinds.{ArcKind, StandsFor}
 use Rattle.dn_instance.specs.Pairs.{same_pair, bundle}
@@ -22,3 +23,11 @@ pub record Grows {B Arc : Type 0} (kind : ArcKind Arc) (tells : B → List Arc) 
 pub record Tells {B Arc : Type 0} (kind : ArcKind Arc) (tells : B → List Arc) (table : List ((ℤ × ℤ) × B)) (arcs : List ((ℤ × ℤ) × Arc)) : Type 0 where
   pub stands : (p : ℤ × ℤ) → StandsFor kind (told_at tells table p) (bundle p arcs)
   pub absent : (p : ℤ × ℤ) → (lookup (same_pair p) table ≡ None) ↔ kind.Same (bundle p arcs) []
+
+-- arcs of a problem, wherever they stand
+abbrev pub AreArcs : {Arc : Type 0} → ArcKind Arc → List ((ℤ × ℤ) × Arc) → Type 0
+AreArcs kind arcs = AllByRecursion (λ a. kind.IsArc a.1) arcs
+
+-- what means something still does with an arc more
+abbrev pub Stays : {Arc : Type 0} → ArcKind Arc → Type 0
+Stays {Arc} kind = (xs : List Arc) (a : Arc) → AllByRecursion kind.IsArc xs → kind.IsArc a → kind.Same (xs ++ a ∷ []) [] → kind.Same xs []

@@ -1,7 +1,9 @@
 //! Whole texts: the instance that a text reads as, or its first fault; what an instance means.
 #![tactic(auto)]
 
+mod arcs;
 pub mod examples;
+mod item_fault;
 pub mod laws;
 pub mod place;
 pub mod table;

@@ -1,0 +1,52 @@
+// Arcs as they come, merged into the bundles of their pairs.
+ghost use Rattle.std.specs.Prelude.{◌≡◌, ◌↔◌, ℤ, List, [], ◌∷◌, ◌++◌, Bool, IsTrue, OnOk, OnErr, ◌&&◌};
+ghost use Rattle.dn_bundle.specs.declared.arc.Form.{Form};
+ghost use Rattle.dn_instance.specs.ItemFaults.{Answers, in_graph, arc_fault};
+ghost use Rattle.dn_instance.specs.TableSteps.{Tells, AreArcs, Stays};
+
+use crate::item_fault::ItemFault;
+use crate::table::Table;
+use dn_bundle::{Bundle, BundleFault, Form};
+use dn_line::Code;
+use std::alloc::Global;
+
+// Whether a graph of this many nodes has the node.
+pub(crate) fn in_graph(nodes: &i64, id: &i64) -> bool
+    ensures { result ≡ in_graph nodes.now id.now }
+{
+    0 < *id && *id <= *nodes
+}
+
+// Whether it has both nodes of a pair.
+fn joins_nodes(nodes: &i64, pair: &(i64, i64)) -> bool
+    ensures { result ≡ (in_graph nodes.now pair.now.0 && in_graph nodes.now pair.now.1) }
+{
+    in_graph(nodes, &pair.0) && in_graph(nodes, &pair.1)
+}
+
+// Takes an arc between the nodes of a pair. On a fault nothing has changed.
+pub(crate) fn take_arc<B: Bundle>(
+    table: &mut Table<B>,
+    alloc: Global,
+    nodes: &i64,
+    pair: (i64, i64),
+    arc: B::Arc,
+) -> Result<(), ItemFault>
+    ensures answer { (arcs : List ((ℤ × ℤ) × B.Arc)) (is : Bool) → Tells B.kind (B.told Form.One) table.old arcs → AreArcs B.kind arcs → (IsTrue is ↔ B.kind.IsArc arc)
+        → Answers result (arc_fault B.kind nodes.now arcs is (pair, arc)) }
+    ensures stands { (arcs : List ((ℤ × ℤ) × B.Arc)) → Stays B.kind → Tells B.kind (B.told Form.One) table.old arcs → AreArcs B.kind arcs
+        → OnOk result (Tells B.kind (B.told Form.One) table.new (arcs ++ (pair, arc) ∷ [])) }
+    ensures err { OnErr result (table.new ≡ table.old) }
+{
+    if !joins_nodes(nodes, &pair) {
+        return Err(ItemFault::Text(Code::NodeOutOfRange));
+    }
+    if !B::is_arc(&arc) {
+        return Err(ItemFault::Text(Code::LowAboveCap));
+    }
+    match table.add(alloc, pair, arc) {
+        Ok(()) => Ok(()),
+        Err(BundleFault::Sum) => Err(ItemFault::Text(Code::SumTooLarge)),
+        Err(BundleFault::Memory) => Err(ItemFault::Memory),
+    }
+}
