@@ -6,3 +6,4 @@ pub mod MapLaws
 pub mod ValidLaws
 pub mod TableLaws
 pub mod TellsLaws
+pub mod ArcItems

@@ -129,7 +129,7 @@ module _ {Arc : Type 0} (kind : ArcKind Arc) where
           subst (λ l. kind.capacity l ≤ℤ pos (2 ^ 63 - 1)) (sym here) (v.capacities p)
 
   -- the arcs with those of one item more
-  arcs_push : (before : List Line) (i : Line) → arcs_of kind (before ++ i ∷ []) ≡ arcs_of kind before ++ arcs_of kind (i ∷ [])
+  pub arcs_push : (before : List Line) (i : Line) → arcs_of kind (before ++ i ∷ []) ≡ arcs_of kind before ++ arcs_of kind (i ∷ [])
   arcs_push before i = filter_map-append (arc_in kind) before (i ∷ [])
 
   graph_grown : (nodes : ℤ) (before : List Line) (i : Line) (a : (ℤ × ℤ) × Arc) → arcs_of kind (i ∷ []) ≡ a ∷ [] → IsValidGraph kind (graph_of kind nodes before) → IsPlaced kind nodes a → passes kind (arcs_of kind before) (Some a) ≡ false

@@ -9,3 +9,4 @@ pub mod Texts
 pub mod Tables
 pub mod TableSteps
 pub mod ItemFaults
+pub mod Holdings

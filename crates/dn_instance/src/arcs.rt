@@ -1,13 +1,21 @@
 // Arcs as they come, merged into the bundles of their pairs.
 ghost use Rattle.std.specs.Prelude.{◌≡◌, ◌↔◌, ℤ, List, [], ◌∷◌, ◌++◌, Bool, IsTrue, OnOk, OnErr, ◌&&◌};
 ghost use Rattle.dn_bundle.specs.declared.arc.Form.{Form};
+ghost use Rattle.std.specs.Prelude.{Some, pos, ◌≤ℤ◌};
+ghost use Rattle.dn_line.specs.Faults.{first_fault};
+ghost use Rattle.dn_bundle.specs.Kinds.{lengths, capacities};
+ghost use Rattle.dn_bundle.specs.TotalTold.{cap_told};
+ghost use Rattle.dn_bundle.specs.LeastTold.{length_told};
+ghost use Rattle.dn_instance.specs.Items.{Problem, problem_of};
+ghost use Rattle.dn_instance.specs.TextFaults.{item_tests};
+ghost use Rattle.dn_instance.specs.Holdings.{TableHolds};
 ghost use Rattle.dn_instance.specs.ItemFaults.{Answers, in_graph, arc_fault};
 ghost use Rattle.dn_instance.specs.TableSteps.{Tells, AreArcs, Stays};
 
 use crate::item_fault::ItemFault;
 use crate::table::Table;
-use dn_bundle::{Bundle, BundleFault, Form};
-use dn_line::Code;
+use dn_bundle::{Bundle, BundleFault, CapArc, Form, Least, LengthArc, Total};
+use dn_line::{Code, Kind, Line};
 use std::alloc::Global;
 
 // Whether a graph of this many nodes has the node.
@@ -49,4 +57,37 @@ pub(crate) fn take_arc<B: Bundle>(
         Err(BundleFault::Sum) => Err(ItemFault::Text(Code::SumTooLarge)),
         Err(BundleFault::Memory) => Err(ItemFault::Memory),
     }
+}
+
+// Takes the arc of an `sp` line.
+pub(crate) fn take_length_arc(
+    table: &mut Table<Least>,
+    alloc: Global,
+    nodes: &i64,
+    pair: (i64, i64),
+    arc: LengthArc,
+) -> Result<(), ItemFault>
+    ensures answer { (before : List Line) (p : Problem) → problem_of before ≡ Some p → p.kind ≡ Kind.Sp → p.nodes ≡ nodes.now → TableHolds lengths (λ b. length_told b.length) table.old before
+        → Answers result (first_fault (item_tests before (Some (Line.SpArc pair.0 pair.1 arc.length)))) }
+    ensures stands { (before : List Line) → TableHolds lengths (λ b. length_told b.length) table.old before
+        → OnOk result (TableHolds lengths (λ b. length_told b.length) table.new (before ++ Line.SpArc pair.0 pair.1 arc.length ∷ [])) }
+{
+    take_arc(table, alloc, nodes, pair, arc)
+}
+
+// Takes the arc of a `max` line, whose CAP is not below 0.
+pub(crate) fn take_cap_arc(
+    table: &mut Table<Total>,
+    alloc: Global,
+    nodes: &i64,
+    pair: (i64, i64),
+    arc: CapArc,
+) -> Result<(), ItemFault>
+    requires { pos 0 ≤ℤ arc.cap }
+    ensures answer { (before : List Line) (p : Problem) → problem_of before ≡ Some p → p.kind ≡ Kind.Max → p.nodes ≡ nodes.now → TableHolds capacities (λ b. cap_told b.total) table.old before
+        → Answers result (first_fault (item_tests before (Some (Line.MaxArc pair.0 pair.1 arc.cap)))) }
+    ensures stands { (before : List Line) → TableHolds capacities (λ b. cap_told b.total) table.old before
+        → OnOk result (TableHolds capacities (λ b. cap_told b.total) table.new (before ++ Line.MaxArc pair.0 pair.1 arc.cap ∷ [])) }
+{
+    take_arc(table, alloc, nodes, pair, arc)
 }

@@ -1,0 +1,86 @@
+-- Arc lines after the items before them: their first fault, and what the table comes to hold.
+use Rattle.std.proofs.Common.{◌≡◌, ℤ, pos, ◌≤ℤ◌, ◌+ℤ◌, List, [], ◌∷◌, ◌++◌, Bool, true, false, cond, not, ◌&&◌, ◌||◌, int_lt, Option, Some, None, refl, sym, ap, ◌∙◌, subst, arith, inl, inr}
+use Rattle.std.proofs.lemmas.Int.{ints}
+use Rattle.std.specs.List.{list_all, AllByRecursion}
+use Rattle.dn_line.specs.declared.code.Code.{Code}
+use Rattle.dn_line.specs.declared.code.Code.TheVariants.{NodeOutOfRange, SumTooLarge}
+use Rattle.dn_line.specs.declared.kind.Kind.TheVariants as Kinds
+use Rattle.dn_line.specs.declared.line.Line.{Line}
+use Rattle.dn_line.specs.declared.line.Line.TheVariants as Item
+use Rattle.dn_line.specs.Faults.{first_fault}
+use Rattle.dn_bundle.specs.Kinds.{ArcKind, lengths, capacities, costs}
+use Rattle.dn_bundle.specs.Capacities.{total_cap}
+use Rattle.dn_bundle.specs.Canonical.{IsCapArc}
+use Rattle.dn_bundle.specs.Laws.Lengths.{least_of}
+use Rattle.dn_bundle.specs.declared.arc.LengthArc.{LengthArc}
+use Rattle.dn_bundle.specs.declared.arc.CapArc.{CapArc}
+use Rattle.dn_instance.specs.Items.{Problem, problem_of, arcs_of, arc_in}
+use Rattle.dn_instance.specs.TextFaults.{is_companion, is_in_range, item_tests, passes}
+use Rattle.dn_instance.specs.ItemFaults.{in_graph, arc_fault}
+use Rattle.dn_instance.specs.Holdings.{TableHolds}
+use Rattle.dn_instance.specs.TableSteps.{Tells, AreArcs, Stays}
+use Rattle.dn_instance.proofs.ValidLaws.{all_push, arcs_push}
+
+-- both nodes of a pair in range
+pub ends_range : (p : Problem) (s d : ℤ) → is_companion p.kind ≡ false → list_all (is_in_range (Some p)) (s ∷ d ∷ []) ≡ (in_graph p.nodes s && in_graph p.nodes d)
+ends_range p s d c = rw c (and_true (in_graph p.nodes s) (in_graph p.nodes d))
+  where
+    and_true : (a b : Bool) → (a && (b && true)) ≡ (a && b)
+    and_true true true = refl
+    and_true true false = refl
+    and_true false b = refl
+
+stray_is : (before : List Line) (p : Problem) (i : Line) (s d : ℤ) → problem_of before ≡ Some p → is_companion p.kind ≡ false → not (list_all (is_in_range (problem_of before)) (s ∷ d ∷ [])) ≡ not (in_graph p.nodes s && in_graph p.nodes d)
+stray_is before p i s d h c = ap (λ o. not (list_all (is_in_range o) (s ∷ d ∷ []))) h ∙ ap not (ends_range p s d c)
+
+pub length_item : (before : List Line) (p : Problem) (s d l : ℤ) → problem_of before ≡ Some p → p.kind ≡ Kinds.Sp
+    → first_fault (item_tests before (Some (Item.SpArc s d l))) ≡ arc_fault lengths p.nodes (arcs_of lengths before) true ((s, d), record { length = l })
+length_item before p s d l h k = ap (λ (b : Bool). let f : Option Code = cond b (Some NodeOutOfRange) None in f) (stray_is before p (Item.SpArc s d l) s d h (ap is_companion k))
+
+pub length_grown : (before : List Line) (s d l : ℤ) → arcs_of lengths (before ++ Item.SpArc s d l ∷ []) ≡ arcs_of lengths before ++ ((s, d), record { length = l }) ∷ []
+length_grown before s d l = arcs_push lengths before (Item.SpArc s d l)
+
+-- the table with one arc line more
+pub table_grown : {B Arc : Type 0} (kind : ArcKind Arc) (tells : B → List Arc) (table : List ((ℤ × ℤ) × B)) (before : List Line) (i : Line) (a : (ℤ × ℤ) × Arc) → arcs_of kind (before ++ i ∷ []) ≡ arcs_of kind before ++ a ∷ []
+    → AreArcs kind (arcs_of kind before) → kind.IsArc a.1 → Tells kind tells table (arcs_of kind before ++ a ∷ []) → TableHolds kind tells table (before ++ i ∷ [])
+table_grown kind tells table before i a e are is t = record {
+  tells_them = subst (Tells kind tells table) (sym e) t;
+  are_arcs = subst (AreArcs kind) (sym e) (all_push (λ b. kind.IsArc b.1) (arcs_of kind before) a are is);
+}
+
+no_arcs_more : {A : Type 0} (xs : List A) (a : A) → xs ++ a ∷ [] ≡ [] → ⊥
+no_arcs_more [] a e = cc
+no_arcs_more (x ∷ xs) a e = cc
+
+-- an arc has a length
+pub length_stays : Stays lengths
+length_stays xs a are is same = elim (least_of (xs ++ a ∷ [])) [
+  | inl e ↦ absurd (no_arcs_more xs a e)
+  | inr w ↦ absurd (same.there w.0 w.1).has
+]
+
+total_append : (xs : List CapArc) (a : CapArc) → total_cap (xs ++ a ∷ []) ≡ total_cap xs +ℤ a.cap
+total_append [] a = omega (arith, ints)
+total_append (x ∷ xs) a = let i = total_append xs a in omega (arith, ints)
+
+total_some : (xs : List CapArc) → AllByRecursion IsCapArc xs → pos 0 ≤ℤ total_cap xs
+total_some [] h = omega (arith, ints)
+total_some (x ∷ xs) h = let i = total_some xs h.1 in let s = h.0.some in omega (arith, ints)
+
+-- a capacity does not go away
+pub cap_stays : Stays capacities
+cap_stays xs a are is same =
+    let e = same.is in
+    let f = total_append xs a in
+    let g = total_some xs are in
+    let h = is.some in
+    record { is = omega (arith, ints) }
+
+pub cap_item : (before : List Line) (p : Problem) (s d c : ℤ) → problem_of before ≡ Some p → p.kind ≡ Kinds.Max
+    → first_fault (item_tests before (Some (Item.MaxArc s d c))) ≡ arc_fault capacities p.nodes (arcs_of capacities before) true ((s, d), record { cap = c })
+cap_item before p s d c h k =
+    ap (λ (b : Bool). let f : Option Code = cond b (Some NodeOutOfRange) (cond (passes capacities (arcs_of capacities before) (Some ((s, d), record { cap = c }))) (Some SumTooLarge) None) in f)
+    (stray_is before p (Item.MaxArc s d c) s d h (ap is_companion k))
+
+pub cap_grown : (before : List Line) (s d c : ℤ) → arcs_of capacities (before ++ Item.MaxArc s d c ∷ []) ≡ arcs_of capacities before ++ ((s, d), record { cap = c }) ∷ []
+cap_grown before s d c = arcs_push capacities before (Item.MaxArc s d c)
