@@ -4,6 +4,7 @@
 mod arcs;
 pub mod examples;
 mod item_fault;
+mod items;
 pub mod laws;
 pub mod place;
 pub mod table;

@@ -1,0 +1,136 @@
+// Items other than arcs, as they come.
+ghost use Rattle.std.specs.Prelude.{◌≡◌, ◌||◌, ◌&&◌, ℤ, List, [], ◌∷◌, ◌++◌, OnOk, OnErr, Some, IsTrue, pos, int_lt, is_some, cond, true, Err};
+ghost use Rattle.std.specs.BTreeMap as Map;
+ghost use Rattle.std.specs.BTreeSet as Set;
+ghost use Rattle.std.specs.Ordering.{int_cmp, int_eq};
+ghost use Rattle.dn_instance.specs.ItemFaults.{Answers, supply_fault, terminal_fault, id_fault, pair_fault, point_fault};
+
+use crate::arcs::in_graph;
+use crate::item_fault::ItemFault;
+use dn_line::Code;
+use std::collections::{BTreeMap, BTreeSet};
+
+// Takes the terminal of a `max` node line, beside the other one. On a fault nothing has changed.
+pub(crate) fn take_terminal(
+    own: &mut Option<i64>,
+    other: &Option<i64>,
+    nodes: &i64,
+    id: &i64,
+) -> Result<(), ItemFault>
+    ensures answer { Answers result (terminal_fault nodes.now own.old other.now id.now) }
+    ensures ok { OnOk result (own.new ≡ Some id.now) }
+    ensures err { OnErr result (own.new ≡ own.old) }
+{
+    if !in_graph(nodes, id) {
+        return Err(ItemFault::Text(Code::NodeOutOfRange));
+    }
+    if own.is_some() {
+        return Err(ItemFault::Text(Code::RepeatedNode));
+    }
+    if let Some(node) = other {
+        if *node == *id {
+            return Err(ItemFault::Text(Code::SameTerminal));
+        }
+    }
+    *own = Some(*id);
+    Ok(())
+}
+
+// Takes the ID of an `ss` line. On a fault nothing has changed.
+pub(crate) fn take_source(ids: &mut Vec<i64>, id: &i64) -> Result<(), ItemFault>
+    ensures answer { Answers result (id_fault id.now) }
+    ensures ok { OnOk result (ids.new.items ≡ ids.old.items ++ id.now ∷ []) }
+    ensures err { OnErr result (ids.new.items ≡ ids.old.items) }
+{
+    if *id <= 0 {
+        return Err(ItemFault::Text(Code::NodeOutOfRange));
+    }
+    match ids.push(*id) {
+        Ok(()) => Ok(()),
+        Err(_) => Err(ItemFault::Memory),
+    }
+}
+
+// Takes the IDs of a `p2p` line. On a fault nothing has changed.
+pub(crate) fn take_query(pairs: &mut Vec<(i64, i64)>, pair: (i64, i64)) -> Result<(), ItemFault>
+    ensures answer { Answers result (pair_fault pair) }
+    ensures ok { OnOk result (pairs.new.items ≡ pairs.old.items ++ pair ∷ []) }
+    ensures err { OnErr result (pairs.new.items ≡ pairs.old.items) }
+{
+    if pair.0 <= 0 || pair.1 <= 0 {
+        return Err(ItemFault::Text(Code::NodeOutOfRange));
+    }
+    match pairs.push(pair) {
+        Ok(()) => Ok(()),
+        Err(_) => Err(ItemFault::Memory),
+    }
+}
+
+// Takes the point of a `co` line. On a fault nothing has changed.
+pub(crate) fn take_point(points: &mut BTreeMap<i64, (i64, i64)>, id: &i64, at: (i64, i64)) -> Result<(), ItemFault>
+    ensures answer { Answers result (point_fault (is_some (Map.get int_cmp points.old id.now)) id.now) }
+    ensures ok { OnOk result (points.new.entries ≡ Map.insert_entry int_cmp points.old.entries id.now at) }
+    ensures err { OnErr result (points.new.entries ≡ points.old.entries) }
+{
+    if *id <= 0 {
+        return Err(ItemFault::Text(Code::NodeOutOfRange));
+    }
+    if points.contains_key(id) {
+        return Err(ItemFault::Text(Code::RepeatedNode));
+    }
+    match points.insert(*id, at) {
+        Ok(_) => Ok(()),
+        Err(_) => Err(ItemFault::Memory),
+    }
+}
+
+// Takes a flow other than 0 of a node that had no line. On want of memory nothing has changed.
+fn put_flow(supplies: &mut BTreeMap<i64, i64>, id: &i64, flow: &i64) -> Result<(), ItemFault>
+    ensures ok { OnOk result (supplies.new.entries ≡ Map.insert_entry int_cmp supplies.old.entries id.now flow.now) }
+    ensures err { OnErr result (supplies.new.entries ≡ supplies.old.entries) }
+    ensures memory { OnErr result (result ≡ Err ItemFault.Memory) }
+{
+    match supplies.insert(*id, *flow) {
+        Ok(_) => Ok(()),
+        Err(_) => Err(ItemFault::Memory),
+    }
+}
+
+// Notes a node whose line gives it the flow 0.
+fn put_idle(idle: &mut BTreeSet<i64>, id: &i64) -> Result<(), ItemFault>
+    ensures ok { OnOk result ((q : ℤ) → Set.contains int_cmp idle.new q ≡ cond (Map.is_at (int_cmp id.now) q) true (Set.contains int_cmp idle.old q)) }
+    ensures err { OnErr result (idle.new.keys ≡ idle.old.keys) }
+    ensures memory { OnErr result (result ≡ Err ItemFault.Memory) }
+{
+    match idle.insert(*id) {
+        Ok(_) => Ok(()),
+        Err(_) => Err(ItemFault::Memory),
+    }
+}
+
+// Takes the flow of a `min` node line: beside the supplies, the nodes are kept whose lines give them the flow 0. On a
+// fault nothing has changed.
+pub(crate) fn take_supply(
+    supplies: &mut BTreeMap<i64, i64>,
+    idle: &mut BTreeSet<i64>,
+    nodes: &i64,
+    id: &i64,
+    flow: &i64,
+) -> Result<(), ItemFault>
+    ensures answer { Answers result (supply_fault nodes.now (is_some (Map.get int_cmp supplies.old id.now) || Set.contains int_cmp idle.old id.now) id.now) }
+    ensures supplies { OnOk result (supplies.new.entries ≡ cond (int_eq flow.now (pos 0)) supplies.old.entries (Map.insert_entry int_cmp supplies.old.entries id.now flow.now)) }
+    ensures idle { OnOk result ((q : ℤ) → Set.contains int_cmp idle.new q ≡ (Set.contains int_cmp idle.old q || (int_eq flow.now (pos 0) && Map.is_at (int_cmp id.now) q))) }
+    ensures err { OnErr result ((supplies.new.entries ≡ supplies.old.entries) × (idle.new.keys ≡ idle.old.keys)) }
+{
+    if !in_graph(nodes, id) {
+        return Err(ItemFault::Text(Code::NodeOutOfRange));
+    }
+    if supplies.contains_key(id) || idle.contains(id) {
+        return Err(ItemFault::Text(Code::RepeatedNode));
+    }
+    if *flow == 0 {
+        put_idle(idle, id)
+    } else {
+        put_flow(supplies, id, flow)
+    }
+}
