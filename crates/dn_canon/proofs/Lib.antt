@@ -1,1 +1,11 @@
 pub mod ExampleLaws
+pub mod RowLaws
+pub mod ItemLaws
+pub mod PartLaws
+pub mod OrderLaws
+pub mod ArcItems
+pub mod KeyLaws
+pub mod InstanceItems
+pub mod FollowLaws
+pub mod PrintLaws
+pub mod TextLaws

@@ -1,4 +1,5 @@
 pub mod CanonInstances
 pub mod Prints
 pub mod CanonTexts
+pub mod CanonReadings
 pub mod Examples

@@ -1,0 +1,219 @@
+-- The rows of an instance and the items that they spell.
+use Rattle.std.proofs.Common.{◌≡◌, ◌≢◌, inl, inr, ℕ, suc, ℤ, pos, List, [], ◌∷◌, ◌++◌, length, Bool, true, false, cond, map, Option, Some, None, refl, ap, ◌∙◌, append-nil}
+use Rattle.std.proofs.lemmas.Bool.{cases_Bool}
+use Rattle.std.proofs.lemmas.Bool.Decides.{Decides-int_eq}
+use Rattle.std.proofs.lemmas.List.Elements.{filter_map-append}
+use Rattle.std.specs.List.{AllByRecursion, filter_map, cons_option}
+use Rattle.std.specs.Ordering.{int_eq}
+use Rattle.dn_num.proofs.ShortestLaws.{decimal_reads}
+use Rattle.dn_line.specs.Number.{number_read}
+use Rattle.dn_line.specs.Names.{kind_name}
+use Rattle.dn_line.specs.Reading.{number_or_zero}
+use Rattle.dn_line.specs.declared.kind.Kind.{Kind}
+use Rattle.dn_line.specs.declared.kind.Kind.TheVariants as Kinds
+use Rattle.dn_line.specs.declared.kind.Letter.TheVariants as Letters
+use Rattle.dn_line.specs.declared.line.Line.{Line}
+use Rattle.dn_line.specs.declared.line.Line.TheVariants as Item
+use Rattle.dn_line.specs.declared.word.Keyword.{Keyword}
+use Rattle.dn_line.specs.declared.word.Keyword.TheVariants as Key
+use Rattle.dn_line.specs.Words.{keyword_text}
+use Rattle.dn_bundle.specs.Kinds.{ArcKind, lengths, capacities, costs}
+use Rattle.dn_instance.specs.Instances.{Graph, Instance, MinCostFlow, MaxFlow, ShortestPaths, Sources, Queries, Coordinates, kind_of, nodes_of}
+use Rattle.dn_instance.specs.Validity.{IsSupply, AreSupplies, IsValid}
+use Rattle.dn_instance.specs.Items.{counted, is_counted, arc_in, arcs_of, supply_in, supplies_of, source_in, query_in, point_in, by_key, graph_of, instance_as, instance_of}
+use Rattle.dn_canon.specs.Prints.{row, graph_row, companion_row, supply_row, terminal_row, arc_row, source_row, query_row, point_row, rows}
+use Rattle.dn_canon.proofs.RowLaws.{Row, IsInk, AllWords, number_word, number_words}
+use Rattle.dn_canon.proofs.ItemLaws.{IsHead}
+use Rattle.dn_canon.proofs.PartLaws.{all_append, all_map}
+use Rattle.dn_canon.proofs.ArcItems.{min_item, max_item, sp_item, min_items, max_items, sp_items, arcs_back}
+use Rattle.dn_canon.proofs.KeyLaws.{by_key_rising}
+
+-- the number of counted lines
+abbrev pub count_of : Instance → ℕ
+count_of (MinCostFlow supplies graph) = length graph.arcs
+count_of (MaxFlow source sink graph) = length graph.arcs
+count_of (ShortestPaths graph) = length graph.arcs
+count_of (Sources ids) = length ids
+count_of (Queries pairs) = length pairs
+count_of (Coordinates points) = length points
+
+-- the problem line's row, and its item
+abbrev pub head_row : Instance → Row
+head_row (MinCostFlow supplies graph) = graph_row Kinds.Min graph.nodes (length graph.arcs)
+head_row (MaxFlow source sink graph) = graph_row Kinds.Max graph.nodes (length graph.arcs)
+head_row (ShortestPaths graph) = graph_row Kinds.Sp graph.nodes (length graph.arcs)
+head_row (Sources ids) = companion_row Kinds.Ss (length ids)
+head_row (Queries pairs) = companion_row Kinds.P2p (length pairs)
+head_row (Coordinates points) = companion_row Kinds.Co (length points)
+
+abbrev pub head_item : Instance → Line
+head_item (MinCostFlow supplies graph) = Item.Graph Kinds.Min graph.nodes (pos (length graph.arcs))
+head_item (MaxFlow source sink graph) = Item.Graph Kinds.Max graph.nodes (pos (length graph.arcs))
+head_item (ShortestPaths graph) = Item.Graph Kinds.Sp graph.nodes (pos (length graph.arcs))
+head_item (Sources ids) = Item.Aux Kinds.Ss (pos (length ids))
+head_item (Queries pairs) = Item.Aux Kinds.P2p (pos (length pairs))
+head_item (Coordinates points) = Item.Aux Kinds.Co (pos (length points))
+
+-- the item of a supply
+abbrev pub supply_item : ℤ × ℤ → Line
+supply_item s = Item.Supply s.0 s.1
+
+-- of a query
+abbrev pub query_item : ℤ × ℤ → Line
+query_item q = Item.Query q.0 q.1
+
+-- of a point
+abbrev pub point_item : ℤ × (ℤ × ℤ) → Line
+point_item p = Item.Point p.0 p.1.0 p.1.1
+
+-- the rows after it, and their items
+abbrev pub body_rows : Instance → List Row
+body_rows (MinCostFlow supplies graph) = map supply_row supplies ++ map (arc_row costs) graph.arcs
+body_rows (MaxFlow source sink graph) = terminal_row source Key.S ∷ terminal_row sink Key.T ∷ map (arc_row capacities) graph.arcs
+body_rows (ShortestPaths graph) = map (arc_row lengths) graph.arcs
+body_rows (Sources ids) = map source_row ids
+body_rows (Queries pairs) = map query_row pairs
+body_rows (Coordinates points) = map point_row points
+
+-- the items after the problem line
+abbrev pub body_of : Instance → List Line
+body_of (MinCostFlow supplies graph) = map supply_item supplies ++ map min_item graph.arcs
+body_of (MaxFlow source sink graph) = Item.Terminal source Letters.S ∷ Item.Terminal sink Letters.T ∷ map max_item graph.arcs
+body_of (ShortestPaths graph) = map sp_item graph.arcs
+body_of (Sources ids) = map Item.Source ids
+body_of (Queries pairs) = map query_item pairs
+body_of (Coordinates points) = map point_item points
+
+-- the rows are the first one and those after it
+pub rows_are : (I : Instance) → rows I ≡ head_row I ∷ body_rows I
+rows_are (MinCostFlow supplies graph) = refl
+rows_are (MaxFlow source sink graph) = refl
+rows_are (ShortestPaths graph) = refl
+rows_are (Sources ids) = refl
+rows_are (Queries pairs) = refl
+rows_are (Coordinates points) = refl
+
+-- a row of a keyword and numbers is of words
+row_words : (key : Keyword) (ns : List ℤ) → IsInk (keyword_text key) → AllWords (row key ns)
+row_words key ns h = (h, number_words ns)
+
+-- so is that of a graph
+graph_words : (k : Kind) (nodes : ℤ) (n : ℕ) → IsInk (kind_name k) → AllWords (graph_row k nodes n)
+graph_words k nodes n h = ((refl, tt), (h, (number_word nodes, (number_word (pos n), tt))))
+
+-- that of a companion
+companion_words : (k : Kind) (n : ℕ) → IsInk (kind_name k) → AllWords (companion_row k n)
+companion_words k n h = ((refl, tt), ((refl, (refl, (refl, tt))), ((refl, (refl, tt)), (h, (number_word (pos n), tt)))))
+
+-- and those of arcs
+arc_words : {Arc : Type 0} (kind : ArcKind Arc) (arcs : List ((ℤ × ℤ) × Arc)) → AllByRecursion AllWords (map (arc_row kind) arcs)
+arc_words kind arcs = all_map AllWords (arc_row kind) (λ a. row_words Key.A (a.0.0 ∷ a.0.1 ∷ kind.numbers a.1) (refl, tt)) arcs
+
+-- each row after the problem line's is of words
+pub body_words : (I : Instance) → AllByRecursion AllWords (body_rows I)
+body_words (MinCostFlow supplies graph) =
+    all_append AllWords (map supply_row supplies) (map (arc_row costs) graph.arcs)
+    (all_map AllWords supply_row (λ s. row_words Key.N (s.0 ∷ s.1 ∷ []) (refl, tt)) supplies)
+    (arc_words costs graph.arcs)
+body_words (MaxFlow source sink graph) = (
+  ((refl, tt), (number_word source, ((refl, tt), tt))),
+  (((refl, tt), (number_word sink, ((refl, tt), tt))), arc_words capacities graph.arcs),
+)
+body_words (ShortestPaths graph) = arc_words lengths graph.arcs
+body_words (Sources ids) = all_map AllWords source_row (λ i. row_words Key.S (i ∷ []) (refl, tt)) ids
+body_words (Queries pairs) = all_map AllWords query_row (λ q. row_words Key.Q (q.0 ∷ q.1 ∷ []) (refl, tt)) pairs
+body_words (Coordinates points) = all_map AllWords point_row (λ p. row_words Key.V (p.0 ∷ p.1.0 ∷ p.1.1 ∷ []) (refl, tt)) points
+
+-- the problem line names the kind
+pub head_is : (I : Instance) → IsHead (head_row I) (head_item I) (kind_of I)
+head_is (MinCostFlow supplies graph) = record { words = graph_words Kinds.Min graph.nodes (length graph.arcs) (refl, (refl, (refl, tt))); kind = refl; declares = refl }
+head_is (MaxFlow source sink graph) = record { words = graph_words Kinds.Max graph.nodes (length graph.arcs) (refl, (refl, (refl, tt))); kind = refl; declares = refl }
+head_is (ShortestPaths graph) = record { words = graph_words Kinds.Sp graph.nodes (length graph.arcs) (refl, (refl, tt)); kind = refl; declares = refl }
+head_is (Sources ids) = record { words = companion_words Kinds.Ss (length ids) (refl, (refl, tt)); kind = refl; declares = refl }
+head_is (Queries pairs) = record { words = companion_words Kinds.P2p (length pairs) (refl, (refl, (refl, tt))); kind = refl; declares = refl }
+head_is (Coordinates points) = record { words = companion_words Kinds.Co (length points) (refl, (refl, tt)); kind = refl; declares = refl }
+
+-- NODES as a problem line's row says it; 0 for a companion
+abbrev pub nodes_in : Row → ℤ
+nodes_in (p ∷ name ∷ nodes ∷ arcs ∷ []) = number_or_zero (number_read nodes)
+nodes_in _ = pos 0
+
+-- NODES is read back
+pub nodes_back : (I : Instance) → IsValid I → nodes_in (head_row I) ≡ nodes_of I
+nodes_back (MinCostFlow supplies graph) v = ap number_or_zero (decimal_reads graph.nodes v.0.nodes_fit)
+nodes_back (MaxFlow source sink graph) v = ap number_or_zero (decimal_reads graph.nodes v.0.nodes_fit)
+nodes_back (ShortestPaths graph) v = ap number_or_zero (decimal_reads graph.nodes v.nodes_fit)
+nodes_back (Sources ids) v = refl
+nodes_back (Queries pairs) v = refl
+nodes_back (Coordinates points) v = refl
+
+-- items that give their elements give the list
+items_back : {X : Type 0} (f : Line → Option X) (item : X → Line) (P : X → Type 0) → ((x : X) → P x → f (item x) ≡ Some x) → (xs : List X) → AllByRecursion P xs → filter_map f (map item xs) ≡ xs
+items_back f item P h [] all = refl
+items_back {X} f item P h (x ∷ xs) all = ap (λ (o : Option X). cons_option o (filter_map f (map item xs))) (h x all.0) ∙ ap (λ l. x ∷ l) (items_back f item P h xs all.1)
+
+-- items that give nothing give none
+pub no_items : {X Y : Type 0} (f : Line → Option X) (item : Y → Line) → ((y : Y) → f (item y) ≡ None) → (ys : List Y) → filter_map f (map item ys) ≡ []
+no_items f item h [] = refl
+no_items {X} f item h (y ∷ ys) = ap (λ (o : Option X). cons_option o (filter_map f (map item ys))) (h y) ∙ no_items f item h ys
+
+-- items of which none is counted
+pub none_counted : {X : Type 0} (item : X → Line) → ((x : X) → is_counted (item x) ≡ false) → (xs : List X) → counted (map item xs) ≡ 0
+none_counted item h [] = refl
+none_counted item h (x ∷ xs) = rw (h x) (none_counted item h xs)
+
+-- items of which each is
+pub all_counted : {X : Type 0} (item : X → Line) → ((x : X) → is_counted (item x) ≡ true) → (xs : List X) → counted (map item xs) ≡ length xs
+all_counted item h [] = refl
+all_counted item h (x ∷ xs) = rw (h x) (ap suc (all_counted item h xs))
+
+-- what always holds
+always : {X : Type 0} (xs : List X) → AllByRecursion (λ (x : X). Unit {0}) xs
+always [] = tt
+always (x ∷ xs) = (tt, always xs)
+
+-- numbers that are not the same are told apart
+pub differ : (a b : ℤ) → a ≢ b → int_eq a b ≡ false
+differ a b n = elim (cases_Bool (int_eq a b)) [ inl is ↦ absurd (n ((Decides-int_eq a b).0 is)) | inr is_not ↦ is_not ]
+
+-- the item of a supply gives it back
+supply_back : (nodes : ℤ) (s : ℤ × ℤ) → IsSupply nodes s → supply_in (supply_item s) ≡ Some s
+supply_back nodes s h = ap (λ (t : Bool). let o : Option (ℤ × ℤ) = cond t None (Some (s.0, s.1)) in o) (differ s.1 (pos 0) h.some)
+
+-- the items give the supplies back
+supplies_back : (graph : Graph _) (supplies : List (ℤ × ℤ)) → AreSupplies graph.nodes supplies → supplies_of (map supply_item supplies ++ map min_item graph.arcs) ≡ supplies
+supplies_back graph supplies v =
+    ap by_key (
+    filter_map-append supply_in (map supply_item supplies) (map min_item graph.arcs)
+    ∙ ap (λ l. l ++ filter_map supply_in (map min_item graph.arcs)) (items_back supply_in supply_item (IsSupply graph.nodes) (supply_back graph.nodes) supplies v.each)
+    ∙ ap (λ l. supplies ++ l) (no_items supply_in min_item min_items.no_supply graph.arcs)
+    ∙ append-nil supplies)
+    ∙ by_key_rising supplies v.map
+
+-- and the arcs
+min_arcs_back : (graph : Graph _) (supplies : List (ℤ × ℤ)) → arcs_of costs (map supply_item supplies ++ map min_item graph.arcs) ≡ graph.arcs
+min_arcs_back graph supplies =
+    filter_map-append (arc_in costs) (map supply_item supplies) (map min_item graph.arcs)
+    ∙ ap (λ l. l ++ arcs_of costs (map min_item graph.arcs)) (no_items (arc_in costs) supply_item (λ s. refl) supplies)
+    ∙ arcs_back costs Kinds.Min min_item min_items graph.arcs
+
+-- the items after the problem line make the instance
+pub body_makes : (I : Instance) → IsValid I → instance_as (kind_of I) (nodes_of I) (body_of I) ≡ Some I
+body_makes (MinCostFlow supplies graph) v =
+    ap (λ s. Some (MinCostFlow s (graph_of costs graph.nodes (body_of (MinCostFlow supplies graph))))) (supplies_back graph supplies v.1)
+    ∙ ap (λ arcs. Some (MinCostFlow supplies (record { nodes = graph.nodes; arcs = arcs }))) (min_arcs_back graph supplies)
+body_makes (MaxFlow source sink graph) v = ap (λ arcs. Some (MaxFlow source sink (record { nodes = graph.nodes; arcs = arcs }))) (arcs_back capacities Kinds.Max max_item max_items graph.arcs)
+body_makes (ShortestPaths graph) v = ap (λ arcs. Some (ShortestPaths (record { nodes = graph.nodes; arcs = arcs }))) (arcs_back lengths Kinds.Sp sp_item sp_items graph.arcs)
+body_makes (Sources ids) v = ap (λ l. Some (Sources l)) (items_back source_in Item.Source (λ i. Unit {0}) (λ i h. refl) ids (always ids))
+body_makes (Queries pairs) v = ap (λ l. Some (Queries l)) (items_back query_in query_item (λ q. Unit {0}) (λ q h. refl) pairs (always pairs))
+body_makes (Coordinates points) v =
+    ap (λ l. Some (Coordinates l)) (ap by_key (items_back point_in point_item (λ p. Unit {0}) (λ p h. refl) points (always points)) ∙ by_key_rising points v.map)
+
+-- all items make it
+pub items_make : (I : Instance) → IsValid I → instance_of (head_item I ∷ body_of I) ≡ Some I
+items_make (MinCostFlow supplies graph) v = body_makes (MinCostFlow supplies graph) v
+items_make (MaxFlow source sink graph) v = body_makes (MaxFlow source sink graph) v
+items_make (ShortestPaths graph) v = body_makes (ShortestPaths graph) v
+items_make (Sources ids) v = body_makes (Sources ids) v
+items_make (Queries pairs) v = body_makes (Queries pairs) v
+items_make (Coordinates points) v = body_makes (Coordinates points) v

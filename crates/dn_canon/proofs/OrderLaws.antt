@@ -1,0 +1,89 @@
+-- Arcs by rising pair are determined by those of each pair.
+use Rattle.std.proofs.Common.{◌≡◌, ℤ, List, [], ◌∷◌, Bool, true, false, cond, refl, sym, ap, ◌∙◌, IsTrue}
+use Rattle.std.specs.Cmp.{IsTotalOrder}
+use Rattle.std.specs.List.{AllByRecursion}
+use Rattle.std.specs.Ordering.{int_cmp, is_eq, is_le, ordering_reverse}
+use Rattle.std.specs.declared.cmp.Ordering.{Ordering}
+use Rattle.std.specs.declared.cmp.Ordering.TheVariants.{Less, Equal, Greater}
+use Rattle.std.proofs.lemmas.Cmp.{then_total, int_cmp_total}
+use Rattle.dn_instance.proofs.PairLaws.{pair_is, pair_self}
+use Rattle.dn_instance.specs.Pairs.{pair_cmp, same_pair, pair_le, bundle}
+use Rattle.dn_canon.specs.CanonInstances.{AreInOrder}
+
+-- pairs by SRC
+by_first : IsTotalOrder (λ (p q : ℤ × ℤ). int_cmp p.0 q.0)
+by_first = record { antisymm = λ p q. int_cmp_total.antisymm p.0 q.0; trans = λ p q r. int_cmp_total.trans p.0 q.0 r.0; congr = λ p q r. int_cmp_total.congr p.0 q.0 r.0 }
+
+-- pairs by DST
+by_second : IsTotalOrder (λ (p q : ℤ × ℤ). int_cmp p.1 q.1)
+by_second = record { antisymm = λ p q. int_cmp_total.antisymm p.1 q.1; trans = λ p q r. int_cmp_total.trans p.1 q.1 r.1; congr = λ p q r. int_cmp_total.congr p.1 q.1 r.1 }
+
+-- pairs by both are in a total order
+pair_total : IsTotalOrder pair_cmp
+pair_total = then_total by_first by_second
+
+-- what comes after is what the other comes before
+reversed : (o : Ordering) → Greater ≡ ordering_reverse o → o ≡ Less
+reversed Less e = refl
+reversed Equal e = cc
+reversed Greater e = cc
+
+-- two pairs the other way round
+flipped : (p q : ℤ × ℤ) → pair_cmp p q ≡ Greater → pair_cmp q p ≡ Less
+flipped p q e = reversed (pair_cmp q p) (sym e ∙ pair_total.antisymm p q)
+
+-- a pair before p is before what does not stand before p
+before_less : (p k q : ℤ × ℤ) → pair_cmp p k ≡ Less → pair_le k q ≡ true → pair_cmp p q ≡ Less
+before_less p k q h n = by_order (pair_cmp k q) refl n
+  where
+    by_order : (o : Ordering) → pair_cmp k q ≡ o → is_le o ≡ true → pair_cmp p q ≡ Less
+    by_order Less e t = pair_total.trans p k q h e
+    by_order Equal e t = ap (pair_cmp p) (sym (pair_is k q (ap is_eq e))) ∙ h
+    by_order Greater e t = cc
+
+module _ {Arc : Type 0} where
+  -- no arc stands at an earlier pair
+  abbrev NoneBefore : ℤ × ℤ → List ((ℤ × ℤ) × Arc) → Type 0
+  NoneBefore p xs = AllByRecursion (λ b. IsTrue (pair_le p b.0)) xs
+
+  -- at a pair before the first there are none
+  none_at : (p k : ℤ × ℤ) (ys : List ((ℤ × ℤ) × Arc)) → pair_cmp p k ≡ Less → NoneBefore k ys → bundle p ys ≡ []
+  none_at p k [] h n = refl
+  none_at p k (b ∷ ys) h n = ap (λ o. cond (is_eq o) (b.1 ∷ bundle p ys) (bundle p ys)) (before_less p k b.0 h n.0) ∙ none_at p k ys h n.1
+
+  -- nor where the first of a list comes later
+  none_from : (p : ℤ × ℤ) (b : (ℤ × ℤ) × Arc) (ys : List ((ℤ × ℤ) × Arc)) → pair_cmp p b.0 ≡ Less → NoneBefore b.0 ys → bundle p (b ∷ ys) ≡ []
+  none_from p b ys h n = ap (λ o. cond (is_eq o) (b.1 ∷ bundle p ys) (bundle p ys)) h ∙ none_at p b.0 ys h n
+
+  -- at the pair of the first there is the first
+  at_head : (a : (ℤ × ℤ) × Arc) (xs : List ((ℤ × ℤ) × Arc)) → bundle a.0 (a ∷ xs) ≡ a.1 ∷ bundle a.0 xs
+  at_head a xs = ap (λ t. cond t (a.1 ∷ bundle a.0 xs) (bundle a.0 xs)) (pair_self a.0)
+
+  -- arcs in order with the same bundles begin at one pair
+  same_key : (a b : (ℤ × ℤ) × Arc) (xs ys : List ((ℤ × ℤ) × Arc)) → AreInOrder (a ∷ xs) → AreInOrder (b ∷ ys) → ((q : ℤ × ℤ) → bundle q (a ∷ xs) ≡ bundle q (b ∷ ys)) → (o : Ordering) → pair_cmp a.0 b.0 ≡ o → a.0 ≡ b.0
+  same_key a b xs ys r s h Less e = let no = sym (at_head a xs) ∙ h a.0 ∙ none_from a.0 b ys e s.0 in cc
+  same_key a b xs ys r s h Equal e = pair_is a.0 b.0 (ap is_eq e)
+  same_key a b xs ys r s h Greater e = let no = sym (at_head b ys) ∙ sym (h b.0) ∙ none_from b.0 a xs (flipped a.0 b.0 e) r.0 in cc
+
+  -- what is left of a bundle
+  rest_one : (t : Bool) (x : Arc) (xs ys : List Arc) → cond t (x ∷ xs) xs ≡ cond t (x ∷ ys) ys → xs ≡ ys
+  rest_one true x xs ys e = cc
+  rest_one false x xs ys e = e
+
+  -- an arc and its pair
+  placed_is : (p q : ℤ × ℤ) (x y : Arc) → p ≡ q → x ≡ y → (let a : (ℤ × ℤ) × Arc = (p, x) in a) ≡ (q, y)
+  placed_is p q x y e f = cc
+
+  -- arcs in order are the same where those of each pair are
+  pub order_one : (xs ys : List ((ℤ × ℤ) × Arc)) → AreInOrder xs → AreInOrder ys → ((q : ℤ × ℤ) → bundle q xs ≡ bundle q ys) → xs ≡ ys
+  order_one [] [] r s h = refl
+  order_one [] (b ∷ ys) r s h = let no = h b.0 ∙ at_head b ys in cc
+  order_one (a ∷ xs) [] r s h = let no = sym (at_head a xs) ∙ h a.0 in cc
+  order_one (a ∷ xs) (b ∷ ys) r s h =
+      let key : a.0 ≡ b.0 = same_key a b xs ys r s h (pair_cmp a.0 b.0) refl in
+      let heads : a.1 ∷ bundle a.0 xs ≡ b.1 ∷ bundle b.0 ys = sym (at_head a xs) ∙ h a.0 ∙ ap (λ p. bundle p (b ∷ ys)) key ∙ at_head b ys in
+      let arc : a.1 ≡ b.1 = cc in
+      let here : a ≡ b = placed_is a.0 b.0 a.1 b.1 key arc in
+      let tails : (q : ℤ × ℤ) → bundle q xs ≡ bundle q ys = λ q. rest_one (same_pair q a.0) a.1 (bundle q xs) (bundle q ys) (h q ∙ ap (λ (c : (ℤ × ℤ) × Arc). bundle q (c ∷ ys)) (sym here)) in
+      let rest : xs ≡ ys = order_one xs ys r.1 s.1 tails in
+      cc

@@ -1,0 +1,46 @@
+-- Lists parted at an element: what stands before it, and rows and items of the elements one by one.
+use Rattle.std.proofs.Common.{◌≡◌, ◌<◌, List, [], ◌∷◌, ◌++◌, length, map, refl, ap, sym, subst, arith, append_assoc, append-nil, length-append}
+use Rattle.std.specs.List.{AllByRecursion}
+use Rattle.dn_line.specs.declared.line.Line.{Line}
+use Rattle.dn_line.specs.Words.{said}
+use Rattle.dn_canon.proofs.RowLaws.{Row}
+use Rattle.dn_canon.proofs.ItemLaws.{Follows, AllFollow}
+
+-- what holds of each element holds of the one at which the list is parted
+pub all_at : {X : Type 0} (P : X → Type 0) (xs d : List X) (x : X) (r : List X) → xs ≡ d ++ x ∷ r → AllByRecursion P xs → P x
+all_at {X} P xs d x r e h = at d (subst (AllByRecursion P) e h)
+  where
+    at : (d : List X) → AllByRecursion P (d ++ x ∷ r) → P x
+    at [] h = h.0
+    at (y ∷ d) h = at d h.1
+
+-- fewer stand before it than there are
+pub fewer : {X : Type 0} (xs d : List X) (x : X) (r : List X) → xs ≡ d ++ x ∷ r → length d < length xs
+fewer xs d x r e = let n = ap length e in omega (arith, length-append d (x ∷ r))
+
+-- what holds of each element of two lists
+pub all_append : {X : Type 0} (P : X → Type 0) (xs ys : List X) → AllByRecursion P xs → AllByRecursion P ys → AllByRecursion P (xs ++ ys)
+all_append P [] ys h g = g
+all_append P (x ∷ xs) ys h g = (h.0, all_append P xs ys h.1 g)
+
+-- what holds of what each element becomes
+pub all_map : {X Y : Type 0} (P : Y → Type 0) (f : X → Y) → ((x : X) → P (f x)) → (xs : List X) → AllByRecursion P (map f xs)
+all_map P f h [] = tt
+all_map P f h (x ∷ xs) = (h x, all_map P f h xs)
+
+-- items that follow the ones before, and more items that follow all of these
+pub follow_append : (before : List Line) (rs ss : List Row) (xs ys : List Line) → AllFollow before rs xs → AllFollow (before ++ xs) ss ys → AllFollow before (rs ++ ss) (xs ++ ys)
+follow_append before [] ss [] ys f g = subst (λ b. AllFollow b ss ys) (append-nil before) g
+follow_append before [] ss (x ∷ xs) ys f g = absurd f
+follow_append before (r ∷ rs) ss [] ys f g = absurd f
+follow_append before (r ∷ rs) ss (x ∷ xs) ys f g = (f.0, follow_append (before ++ x ∷ []) rs ss xs ys f.1 (subst (λ b. AllFollow b ss ys) (sym (append_assoc before (x ∷ []) xs)) g))
+
+-- items of elements follow, if each follows those of the elements before it
+pub each_follow : {X : Type 0} (row : X → Row) (item : X → Line) (before : List Line) (xs : List X)
+    → ((d : List X) (x : X) (r : List X) → xs ≡ d ++ x ∷ r → Follows (before ++ map item d) (map said (row x)) (item x)) → AllFollow before (map row xs) (map item xs)
+each_follow row item before [] h = tt
+each_follow row item before (x ∷ xs) h = (
+  subst (λ b. Follows b (map said (row x)) (item x)) (append-nil before) (h [] x xs refl),
+  each_follow row item (before ++ item x ∷ []) xs
+      (λ d y r e. subst (λ b. Follows b (map said (row y)) (item y)) (sym (append_assoc before (item x ∷ []) (map item d))) (h (x ∷ d) y r (ap (λ l. x ∷ l) e))),
+)

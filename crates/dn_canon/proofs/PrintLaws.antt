@@ -1,0 +1,81 @@
+-- The printed text of a valid instance reads as it, and is the text of no other.
+use Rattle.std.proofs.Common.{◌≡◌, ℕ, ◌-◌, ◌<◌, ◌^◌, ℤ, List, [], ◌∷◌, length, map, Some, None, sym, ap, ◌∙◌, subst, arith}
+use Rattle.std.proofs.lemmas.List.{length-map}
+use Rattle.std.specs.List.{AllByRecursion, concat}
+use Rattle.dn_line.specs.Pieces.{lines}
+use Rattle.dn_line.specs.Words.{said}
+use Rattle.dn_line.specs.declared.kind.Kind.{Kind}
+use Rattle.dn_line.specs.declared.line.Line.{Line}
+use Rattle.dn_instance.specs.Instances.{Instance, kind_of, nodes_of}
+use Rattle.dn_instance.specs.Validity.{IsValid}
+use Rattle.dn_instance.specs.Items.{instance_as, instance_of}
+use Rattle.dn_instance.specs.TextFaults.{end_fault}
+use Rattle.dn_instance.specs.Texts.{kind_in, items_of, IsClean, Reads}
+use Rattle.dn_instance.proofs.CleanItems.{items_under}
+use Rattle.dn_canon.specs.Prints.{line_text, print}
+use Rattle.dn_canon.proofs.RowLaws.{Row, line_of, AllWords, lines_are, rows_one}
+use Rattle.dn_canon.proofs.ItemLaws.{body_items, items_are, rows_clean}
+use Rattle.dn_canon.proofs.InstanceItems.{count_of, head_row, head_item, body_rows, body_of, rows_are, body_words, head_is, nodes_in, nodes_back, body_makes, items_make}
+use Rattle.dn_canon.proofs.FollowLaws.{head_follows, body_follows, end_clean, count_rows}
+
+-- the rows of an instance
+abbrev all_rows : Instance → List Row
+all_rows I = head_row I ∷ body_rows I
+
+-- each is of words
+all_words : (I : Instance) → AllByRecursion AllWords (all_rows I)
+all_words I = ((head_is I).words, body_words I)
+
+-- the text is that of the rows
+text_is : (I : Instance) → print I ≡ concat (map line_text (all_rows I))
+text_is I = ap (λ rs. concat (map line_text rs)) (rows_are I)
+
+-- the lines of a printed text are its rows' lines
+print_lines : (I : Instance) → lines (print I) ≡ map line_of (all_rows I)
+print_lines I = ap lines (text_is I) ∙ lines_are (all_rows I) (all_words I)
+
+-- the items of the lines after the problem line
+body_back : (I : Instance) → IsValid I → items_under (Some (kind_of I)) (map line_of (body_rows I)) ≡ body_of I
+body_back I v = body_items (head_row I) (head_item I) (kind_of I) (head_is I) [] (body_rows I) (body_of I) (body_words I) (body_follows I v)
+
+-- the lines read as the instance
+record LinesRead (ls : List (List ℕ)) (I : Instance) : Type 0 where
+  clean : IsClean ls
+  whole : end_fault (items_of ls) ≡ None
+  instance_is : instance_of (items_of ls) ≡ Some I
+
+-- the rows' lines read as the instance
+rows_read : (I : Instance) → IsValid I → length (map line_of (all_rows I)) < 2 ^ 63 - 1 → LinesRead (map line_of (all_rows I)) I
+rows_read I v few =
+    let count : count_of I < 2 ^ 63 = omega (arith, length-map (all_rows I) line_of, count_rows I) in
+    let starts = head_follows I v count in
+    let items = items_are (head_row I) (head_item I) (kind_of I) (head_is I) starts (map line_of (body_rows I)) ∙ ap (λ l. head_item I ∷ l) (body_back I v) in
+    record {
+      clean = rows_clean (head_row I) (head_item I) (kind_of I) (head_is I) starts (body_rows I) (body_of I) (body_words I) (body_follows I v) few;
+      whole = ap end_fault items ∙ end_clean I;
+      instance_is = ap instance_of items ∙ items_make I v;
+    }
+
+-- a printed text of not too many lines reads as what it prints
+pub print_reads : (I : Instance) → IsValid I → length (lines (print I)) < 2 ^ 63 - 1 → Reads (print I) I
+print_reads I v few =
+    let r : LinesRead (lines (print I)) I = subst (λ ls. LinesRead ls I) (sym (print_lines I)) (rows_read I v (subst (λ ls. length ls < 2 ^ 63 - 1) (print_lines I) few)) in
+    record { clean = r.clean; whole = r.whole; instance_is = r.instance_is }
+
+-- the same kind, NODES and items make the same instance
+made_one : (k l : Kind) (m n : ℤ) (xs ys : List Line) (I J : Instance) → k ≡ l → m ≡ n → xs ≡ ys → instance_as k m xs ≡ Some I → instance_as l n ys ≡ Some J → I ≡ J
+made_one k l m n xs ys I J e f g h i =
+    let same : Some I ≡ Some J = sym h ∙ ap (λ z. instance_as z m xs) e ∙ ap (λ z. instance_as l z xs) f ∙ ap (instance_as l n) g ∙ i in
+    cc
+
+-- valid instances that print the same are the same
+pub print_one : (I J : Instance) → IsValid I → IsValid J → print I ≡ print J → I ≡ J
+print_one I J v w e =
+    let same : all_rows I ≡ all_rows J = rows_one (all_rows I) (all_rows J) (all_words I) (all_words J) (sym (text_is I) ∙ e ∙ text_is J) in
+    let heads : head_row I ≡ head_row J = cc in
+    let bodies : body_rows I ≡ body_rows J = cc in
+    let named : Some (kind_of I) ≡ Some (kind_of J) = sym (head_is I).kind ∙ ap (λ r. kind_in (map said r)) heads ∙ (head_is J).kind in
+    let kinds : kind_of I ≡ kind_of J = cc in
+    let nodes : nodes_of I ≡ nodes_of J = sym (nodes_back I v) ∙ ap nodes_in heads ∙ nodes_back J w in
+    let items : body_of I ≡ body_of J = sym (body_back I v) ∙ ap (λ k. items_under (Some k) (map line_of (body_rows I))) kinds ∙ ap (λ rs. items_under (Some (kind_of J)) (map line_of rs)) bodies ∙ body_back J w in
+    made_one (kind_of I) (kind_of J) (nodes_of I) (nodes_of J) (body_of I) (body_of J) I J kinds nodes items (body_makes I v) (body_makes J w)

@@ -1,0 +1,167 @@
+-- The lines of printed rows, and the words of each.
+use Rattle.std.proofs.Common.{◌≡◌, ℕ, zero, suc, ◌/◌, ◌%◌, ℤ, pos, negsuc, List, [], ◌∷◌, ◌++◌, Bool, true, false, cond, nat_lt, nat_eq, map, refl, sym, ap, ◌∙◌, subst, append_assoc, append-nil, arith}
+use Rattle.std.proofs.lemmas.Bool.Decides.{nat_tests}
+use Rattle.std.proofs.lemmas.List.Elements.{All-nil, All-cons}
+use Rattle.std.specs.List.{All, AllByRecursion, join_with_byte, concat}
+use Rattle.std.specs.Fmt.{digits, digits_onto, digit_glyph, decimal, signed_decimal}
+use Rattle.dn_line.specs.Pieces.{parts, lines, is_line_feed}
+use Rattle.dn_line.specs.Words.{is_blank, words, said, said_words}
+use Rattle.dn_line.specs.Runs.{AllBlank, IsWord, AreRuns}
+use Rattle.dn_line.proofs.RunLaws.{runs_only}
+use Rattle.dn_canon.specs.Prints.{line_text}
+
+-- the words of one line
+abbrev pub Row : Type 0
+Row = List (List ℕ)
+
+-- the line of a row, without its line feed
+abbrev pub line_of : Row → List ℕ
+line_of = join_with_byte 32
+
+-- bytes above the space, neither blanks nor line feeds
+abbrev AllInk : List ℕ → Type 0
+AllInk w = AllByRecursion (λ b. let t : Bool = nat_lt 32 b in t ≡ true) w
+
+-- such bytes, one at least
+abbrev pub IsInk : List ℕ → Type 0
+IsInk [] = ⊥
+IsInk (b ∷ bs) = AllInk (b ∷ bs)
+
+-- each word of the row is one
+abbrev pub AllWords : Row → Type 0
+AllWords = AllByRecursion IsInk
+
+-- a word is of such bytes
+ink_of : (w : List ℕ) → IsInk w → AllInk w
+ink_of [] h = absurd h
+ink_of (b ∷ bs) h = h
+
+-- no line feed
+abbrev NoFeed : List ℕ → Type 0
+NoFeed = AllByRecursion (λ b. is_line_feed b ≡ false)
+
+-- a byte above the space is no blank
+ink_plain : (b : ℕ) → nat_lt 32 b ≡ true → is_blank b ≡ false
+ink_plain b h = grind (arith, nat_tests)
+
+-- nor a line feed
+ink_no_feed : (b : ℕ) → nat_lt 32 b ≡ true → is_line_feed b ≡ false
+ink_no_feed b h = grind (arith, nat_tests)
+
+-- a word holds no blank
+no_blank : (w : List ℕ) → AllInk w → All (λ b. is_blank b ≡ false) w
+no_blank [] h = All-nil (λ b. is_blank b ≡ false)
+no_blank (b ∷ bs) h = All-cons (λ b. is_blank b ≡ false) b bs (ink_plain b h.0) (no_blank bs h.1)
+
+-- so it is a word of a line
+word_is : (w : List ℕ) → IsInk w → IsWord w
+word_is [] h = absurd h
+word_is (b ∷ bs) h = (λ e. cc, no_blank (b ∷ bs) h)
+
+-- no line feed in either part
+feed_append : (l m : List ℕ) → NoFeed l → NoFeed m → NoFeed (l ++ m)
+feed_append [] m h k = k
+feed_append (b ∷ bs) m h k = (h.0, feed_append bs m h.1 k)
+
+-- a word holds no line feed
+word_feed : (w : List ℕ) → AllInk w → NoFeed w
+word_feed [] h = tt
+word_feed (b ∷ bs) h = (ink_no_feed b h.0, word_feed bs h.1)
+
+-- the line of a row holds no line feed
+line_feed : (r : Row) → AllWords r → NoFeed (line_of r)
+line_feed [] h = tt
+line_feed (w ∷ []) h = word_feed w (ink_of w h.0)
+line_feed (w ∷ x ∷ xs) h = feed_append w (32 ∷ line_of (x ∷ xs)) (word_feed w (ink_of w h.0)) (refl, line_feed (x ∷ xs) h.1)
+
+-- after blanks, the words of a row are the runs of its line
+row_runs : (gap : List ℕ) (r : Row) → AllBlank gap → AllWords r → AreRuns (gap ++ line_of r) r
+row_runs gap [] g h = subst AllBlank (sym (append-nil gap)) g
+row_runs gap (w ∷ []) g h = record {
+  gap = gap;
+  rest = [];
+  line_is = ap (λ l. gap ++ l) (sym (append-nil w));
+  blanks = g;
+  word = word_is w h.0;
+  breaks = tt;
+  goes = All-nil (λ b. is_blank b ≡ true);
+}
+row_runs gap (w ∷ x ∷ xs) g h = record {
+  gap = gap;
+  rest = 32 ∷ line_of (x ∷ xs);
+  line_is = refl;
+  blanks = g;
+  word = word_is w h.0;
+  breaks = refl;
+  goes = row_runs (32 ∷ []) (x ∷ xs) (All-cons (λ b. is_blank b ≡ true) 32 [] refl (All-nil (λ b. is_blank b ≡ true))) h.1;
+}
+
+-- the words of a row's line are the row
+words_are : (r : Row) → AllWords r → words (line_of r) ≡ r
+words_are r h = sym (runs_only (line_of r) r (row_runs [] r (All-nil (λ b. is_blank b ≡ true)) h))
+
+-- and they say what its words say
+pub said_are : (r : Row) → AllWords r → said_words (line_of r) ≡ map said r
+said_are r h = ap (map said) (words_are r h)
+
+-- the first line feed ends the first line
+first_part : (l rest : List ℕ) → NoFeed l → parts is_line_feed (l ++ 10 ∷ rest) ≡ (l ∷ (parts is_line_feed rest).0, (parts is_line_feed rest).1)
+first_part [] rest h = refl
+first_part (b ∷ bs) rest h = rw (h.0, first_part bs rest h.1) refl
+
+-- and the first line
+first_line : (l rest : List ℕ) → NoFeed l → lines ((l ++ 10 ∷ []) ++ rest) ≡ l ∷ lines rest
+first_line l rest h = rw append_assoc (rw (first_part l rest h) refl)
+
+-- the lines of printed rows are the rows' lines
+pub lines_are : (rs : List Row) → AllByRecursion AllWords rs → lines (concat (map line_text rs)) ≡ map line_of rs
+lines_are [] h = refl
+lines_are (r ∷ rs) h = first_line (line_of r) (concat (map line_text rs)) (line_feed r h.0) ∙ ap (λ ls. line_of r ∷ ls) (lines_are rs h.1)
+
+-- the words of the rows' lines are the rows
+all_words_are : (rs : List Row) → AllByRecursion AllWords rs → map words (map line_of rs) ≡ rs
+all_words_are [] h = refl
+all_words_are (r ∷ rs) h = ap (λ x. x ∷ map words (map line_of rs)) (words_are r h.0) ∙ ap (λ xs. r ∷ xs) (all_words_are rs h.1)
+
+-- rows of one text are the same
+pub rows_one : (rs ss : List Row) → AllByRecursion AllWords rs → AllByRecursion AllWords ss → concat (map line_text rs) ≡ concat (map line_text ss) → rs ≡ ss
+rows_one rs ss h k e =
+    let same_lines : map line_of rs ≡ map line_of ss = sym (lines_are rs h) ∙ ap lines e ∙ lines_are ss k in
+    sym (all_words_are rs h) ∙ ap (map words) same_lines ∙ all_words_are ss k
+
+-- a digit is above the space
+glyph_ink : (d : ℕ) → nat_lt 32 (digit_glyph false d) ≡ true
+glyph_ink d = grind (arith, nat_tests)
+
+-- digits written before a word make a word
+more_digits : (k n c : ℕ) (acc : List ℕ) → IsInk (c ∷ acc) → IsInk (digits_onto k 10 false n (c ∷ acc))
+more_digits zero n c acc h = h
+more_digits (suc k) n c acc h =
+    let g = digit_glyph false (n % 10) in
+    elim (nat_eq (n / 10) 0) as (λ t. IsInk (cond t (g ∷ c ∷ acc) (digits_onto k 10 false (n / 10) (g ∷ c ∷ acc)))) [
+      | true ↦ (glyph_ink (n % 10), h)
+      | false ↦ more_digits k (n / 10) g (c ∷ acc) (glyph_ink (n % 10), h)
+    ]
+
+-- digits are a word
+some_digits : (k n : ℕ) → IsInk (digits_onto (suc k) 10 false n [])
+some_digits k n = by_test (nat_eq (n / 10) 0) (digit_glyph false (n % 10)) (glyph_ink (n % 10))
+  where
+    by_test : (t : Bool) (g : ℕ) → nat_lt 32 g ≡ true → IsInk (cond t (g ∷ []) (digits_onto k 10 false (n / 10) (g ∷ [])))
+    by_test true g e = (e, tt)
+    by_test false g e = more_digits k (n / 10) g [] (e, tt)
+
+-- so is a decimal
+decimal_word : (n : ℕ) → IsInk (decimal n)
+unfolding digits
+decimal_word n = some_digits 63 n
+
+-- a number's text is a word
+pub number_word : (n : ℤ) → IsInk (signed_decimal n)
+number_word (pos n) = decimal_word n
+number_word (negsuc n) = (refl, ink_of (decimal (suc n)) (decimal_word (suc n)))
+
+-- and so are those of numbers
+pub number_words : (ns : List ℤ) → AllWords (map signed_decimal ns)
+number_words [] = tt
+number_words (n ∷ ns) = (number_word n, number_words ns)

@@ -1,0 +1,103 @@
+-- Canonical texts: the same bytes exactly where the problem is the same, and what they read as.
+use Rattle.std.proofs.Common.{◌≡◌, ◌↔◌, ℕ, ◌+◌, ◌-◌, ◌<◌, ◌^◌, ℤ, List, [], ◌∷◌, ◌++◌, length, false, Some, sym, ap, ◌∙◌, subst, arith, length-append}
+use Rattle.std.proofs.lemmas.Bool.Decides.{nat_tests}
+use Rattle.dn_line.specs.Pieces.{lines}
+use Rattle.dn_line.specs.declared.code.Code.TheVariants.{TooLong}
+use Rattle.dn_bundle.specs.declared.arc.Form.{Form}
+use Rattle.dn_bundle.specs.Kinds.{ArcKind, lengths, capacities, costs}
+use Rattle.dn_bundle.specs.Bundles.{IsDetermined}
+use Rattle.dn_bundle.specs.Laws.LengthKind.{length_determined}
+use Rattle.dn_bundle.specs.Laws.TotalKind.{total_determined}
+use Rattle.dn_bundle.specs.Laws.FormTwo.{determination_of_forms}
+use Rattle.dn_instance.specs.Instances.{Graph, Instance, MinCostFlow, MaxFlow, ShortestPaths, Sources, Queries, Coordinates}
+use Rattle.dn_instance.specs.Pairs.{bundle}
+use Rattle.dn_instance.specs.Sameness.{SameGraph, IsSame}
+use Rattle.dn_instance.specs.TextFaults.{is_too_long}
+use Rattle.dn_instance.specs.Texts.{Reads}
+use Rattle.dn_instance.proofs.FirstFaults.{by_clean_lines, none_first}
+use Rattle.dn_instance.proofs.SameLaws.{refl_of, sym_of, trans_of}
+use Rattle.dn_canon.specs.CanonInstances.{IsCanonGraph, IsCanonInstance}
+use Rattle.dn_canon.specs.CanonTexts.{IsCanonOf}
+use Rattle.dn_canon.specs.CanonReadings.{ReadsTwice}
+use Rattle.dn_canon.specs.Prints.{print}
+use Rattle.dn_canon.proofs.OrderLaws.{order_one}
+use Rattle.dn_canon.proofs.PrintLaws.{print_one, print_reads}
+
+-- graphs of the same parts
+graph_is : {Arc : Type 0} (m n : ℤ) (xs ys : List ((ℤ × ℤ) × Arc)) → m ≡ n → xs ≡ ys → (let G : Graph Arc = record { nodes = m; arcs = xs } in G) ≡ record { nodes = n; arcs = ys }
+graph_is m n xs ys e f = cc
+
+-- canonical graphs that mean the same are the same
+graph_one : {Arc : Type 0} (kind : ArcKind Arc) → IsDetermined kind → (form : Form) (G H : Graph Arc) → IsCanonGraph kind form G → IsCanonGraph kind form H → SameGraph kind G H → G ≡ H
+graph_one kind determined form G H c d s =
+    graph_is G.nodes H.nodes G.arcs H.arcs s.nodes
+    (order_one G.arcs H.arcs c.in_order d.in_order (λ q. determined form (bundle q G.arcs) (bundle q H.arcs) (c.canonical q) (d.canonical q) (s.bundles q)))
+
+-- `min` problems of the same parts
+min_is : (s t : List (ℤ × ℤ)) (G H : Graph _) → s ≡ t → G ≡ H → MinCostFlow s G ≡ MinCostFlow t H
+min_is s t G H e f = cc
+
+-- `max` problems of the same parts
+max_is : (a b c d : ℤ) (G H : Graph _) → a ≡ c → b ≡ d → G ≡ H → MaxFlow a b G ≡ MaxFlow c d H
+max_is a b c d G H e f g = cc
+
+-- canonical instances that are the same problem are the same
+canon_one : (form : Form) (I J : Instance) → IsCanonInstance form I → IsCanonInstance form J → IsSame I J → I ≡ J
+canon_one form (MinCostFlow s G) (MinCostFlow t H) c d e = min_is s t G H e.0 (graph_one costs determination_of_forms form G H c d e.1)
+canon_one form (MaxFlow a b G) (MaxFlow a' b' H) c d e = max_is a b a' b' G H e.0 e.1 (graph_one capacities total_determined form G H c d e.2)
+canon_one form (ShortestPaths G) (ShortestPaths H) c d e = ap ShortestPaths (graph_one lengths length_determined form G H c d e)
+canon_one form (Sources xs) (Sources ys) c d e = ap Sources e
+canon_one form (Queries xs) (Queries ys) c d e = ap Queries e
+canon_one form (Coordinates xs) (Coordinates ys) c d e = ap Coordinates e
+canon_one form _ _ c d e = absurd e
+
+-- the same bytes, the same problem
+bytes_same : (form : Form) (t u : List ℕ) (I J : Instance) → IsCanonOf form t I → IsCanonOf form u J → t ≡ u → IsSame I J
+bytes_same form t u I J (C, c) (D, d) e =
+    let one : C ≡ D = print_one C D c.valid d.valid (sym c.text_is ∙ e ∙ d.text_is) in
+    trans_of I C J c.same (sym_of J C (subst (IsSame J) (sym one) d.same))
+
+-- the same problem, the same bytes
+same_bytes : (form : Form) (t u : List ℕ) (I J : Instance) → IsCanonOf form t I → IsCanonOf form u J → IsSame I J → t ≡ u
+same_bytes form t u I J (C, c) (D, d) s =
+    let one = canon_one form C D c.canonical d.canonical (trans_of C I D (sym_of I C c.same) (trans_of I J D s d.same)) in
+    c.text_is ∙ ap print one ∙ sym d.text_is
+
+-- the bytes are the same exactly where the problem is
+pub texts_agree : (form : Form) (t u : List ℕ) (I J : Instance) → IsCanonOf form t I → IsCanonOf form u J → (t ≡ u) ↔ IsSame I J
+texts_agree form t u I J c d = (bytes_same form t u I J c d, same_bytes form t u I J c d)
+
+-- one instance
+some_one : (I J : Instance) → Some I ≡ Some J → I ≡ J
+some_one I J e = cc
+
+-- a canonical text of not too many lines reads as one instance, whose canonical text it is
+pub reads_twice : (form : Form) (t : List ℕ) (I : Instance) → length (lines t) < 2 ^ 63 - 1 → IsCanonOf form t I → (J : Instance) × ReadsTwice form t I J
+reads_twice form t I few (C, c) =
+    let reads : Reads t C = subst (λ s. Reads s C) (sym c.text_is) (print_reads C c.valid (subst (λ s. length (lines s) < 2 ^ 63 - 1) c.text_is few)) in
+    let own : IsCanonOf form t C = (C, record { valid = c.valid; canonical = c.canonical; text_is = c.text_is; same = refl_of C }) in (
+      C,
+      record {
+        back = record { reads = reads; same = c.same; only = λ K r. some_one K C (sym r.instance_is ∙ reads.instance_is) };
+        again = own;
+        only = λ u d. same_bytes form u t C C d own (refl_of C);
+      },
+    )
+
+-- a line that is not too far down
+short : (n : ℕ) → is_too_long n ≡ false → n < 2 ^ 63 - 1
+short n h = grind (arith, nat_tests)
+
+-- a text that is accepted has not too many lines
+reads_few : (t : List ℕ) (I : Instance) → Reads t I → length (lines t) < 2 ^ 63 - 1
+reads_few t I r = by_clean_lines (λ ls. length ls < 2 ^ 63 - 1) (lines t) r.clean (λ b l h few. few_more b l (short (length b + 1) (none_first (is_too_long (length b + 1)) TooLong _ h).0)) (omega arith)
+  where
+    few_more : (b : List (List ℕ)) (l : List ℕ) → length b + 1 < 2 ^ 63 - 1 → length (b ++ l ∷ []) < 2 ^ 63 - 1
+    few_more b l h = omega (arith, length-append b (l ∷ []))
+
+-- what a canonical text reads as has the canonical texts of what it was made of
+pub forms_cross : (from to : Form) (t u v : List ℕ) (I J : Instance) → IsCanonOf from t I → Reads t J → IsCanonOf to u I → IsCanonOf to v J → u ≡ v
+forms_cross from to t u v I J c r d e =
+    let (K, back) = reads_twice from t I (reads_few t J r) c in
+    let one : J ≡ K = back.back.only J r in
+    same_bytes to u v I J d e (subst (IsSame I) (sym one) back.back.same)
