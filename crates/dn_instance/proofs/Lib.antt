@@ -7,3 +7,4 @@ pub mod ValidLaws
 pub mod TableLaws
 pub mod TellsLaws
 pub mod ArcItems
+pub mod DraftLaws

@@ -1,15 +1,16 @@
 -- Entries put into their places by rising key.
-use Rattle.std.proofs.Common.{◌≡◌, ℤ, List, [], ◌∷◌, ◌++◌, refl, ap, ◌∙◌, subst}
-use Rattle.std.specs.List.{AllByRecursion}
+use Rattle.std.proofs.Common.{◌≡◌, ℤ, List, [], ◌∷◌, ◌++◌, refl, sym, ap, ◌∙◌, subst, Bool, true, false, cond, ◌||◌, Option, Some, is_some}
+use Rattle.std.specs.List.{AllByRecursion, fold, list_any}
 use Rattle.std.specs.List.Sorted.{IsStrictlySortedBy}
-use Rattle.std.specs.Map.{keys_of}
+use Rattle.std.specs.Map.{keys_of, lookup}
 use Rattle.std.specs.Ordering.{int_cmp, match_ordering, ordering_reverse}
-use Rattle.std.specs.BTreeMap.{insert_entry}
+use Rattle.std.specs.BTreeMap.{insert_entry, is_at}
 use Rattle.std.specs.declared.cmp.Ordering.{Ordering}
 use Rattle.std.specs.declared.cmp.Ordering.TheVariants.{Less, Equal, Greater}
 use Rattle.std.proofs.lemmas.Cmp.{int_cmp_total}
 use Rattle.std.proofs.lemmas.Map.Lookups.{exact_signed}
 use Rattle.std.proofs.lemmas.List.Sums.{fold-append}
+use Rattle.dn_instance.proofs.PairLaws.{int_self, sought_is}
 use Rattle.dn_instance.specs.Items.{by_key}
 use Rattle.dn_instance.specs.Validity.{IsMap}
 
@@ -63,3 +64,60 @@ by_key_push es e = fold-append (λ m x. insert_entry int_cmp m x.0 x.1) [] es (e
 pub no_keys : IsStrictlySortedBy int_cmp []
 unfolding IsStrictlySortedBy
 no_keys = tt
+
+-- whether a key is the one that is sought
+abbrev Sought : ℤ → ℤ → Bool
+Sought q k = is_at (int_cmp q) k
+
+found_by : {X : Type 0} (q k : ℤ) (v : X) (e : ℤ × X) (es : List (ℤ × X)) (rest : List (ℤ × X)) (r : Ordering) → int_cmp k e.0 ≡ r → lookup (is_at (int_cmp q)) rest ≡ cond (Sought q k) (Some v) (lookup (is_at (int_cmp q)) es)
+    → lookup (is_at (int_cmp q)) (match_ordering r ((k, v) ∷ e ∷ es) ((e.0, v) ∷ es) (e ∷ rest)) ≡ cond (Sought q k) (Some v) (lookup (is_at (int_cmp q)) (e ∷ es))
+found_by q k v e es rest Less h i = refl
+found_by q k v e es rest Equal h i = by_test (Sought q e.0) refl
+  where
+    same : Sought q k ≡ Sought q e.0
+    same = ap (Sought q) (exact_signed k e.0 h)
+    by_test : (t : Bool) → Sought q e.0 ≡ t → cond (Sought q e.0) (Some v) (lookup (is_at (int_cmp q)) es) ≡ cond (Sought q k) (Some v) (cond (Sought q e.0) (Some e.1) (lookup (is_at (int_cmp q)) es))
+    by_test true t = rw (same, t) refl
+    by_test false t = rw (same, t) refl
+found_by q k v e es rest Greater h i = by_tests (Sought q e.0) (Sought q k) refl refl
+  where
+    by_tests : (s t : Bool) → Sought q e.0 ≡ s → Sought q k ≡ t → cond (Sought q e.0) (Some e.1) (lookup (is_at (int_cmp q)) rest) ≡ cond (Sought q k) (Some v) (cond (Sought q e.0) (Some e.1) (lookup (is_at (int_cmp q)) es))
+    by_tests true true a b =
+        let here = sought_is q e.0 a in
+        let there = sought_is q k b in
+        let one : int_cmp k e.0 ≡ Equal = ap (λ z. int_cmp z e.0) (sym there) ∙ ap (λ z. int_cmp q z) (sym here) ∙ int_self q in
+        let never : Greater ≡ Equal = sym h ∙ one in
+        cc
+    by_tests true false a b = rw (a, b) refl
+    by_tests false true a b = rw (a, i, b) refl
+    by_tests false false a b = rw (a, i, b) refl
+
+-- what is found among entries with one put in
+pub lookup_put : {X : Type 0} (q k : ℤ) (v : X) (es : List (ℤ × X)) → lookup (is_at (int_cmp q)) (insert_entry int_cmp es k v) ≡ cond (Sought q k) (Some v) (lookup (is_at (int_cmp q)) es)
+lookup_put q k v [] = refl
+lookup_put q k v (e ∷ es) = found_by q k v e es (insert_entry int_cmp es k v) (int_cmp k e.0) refl (lookup_put q k v es)
+
+some_cond : {X : Type 0} (t : Bool) (v : X) (o : Option X) → is_some (cond t (Some v) o) ≡ (t || is_some o)
+some_cond true v o = refl
+some_cond false v o = refl
+
+or_swap : (a b c : Bool) → ((a || b) || c) ≡ (b || (a || c))
+or_swap true true c = refl
+or_swap true false c = refl
+or_swap false b c = refl
+
+found_fold : {X : Type 0} (q : ℤ) (m es : List (ℤ × X)) → is_some (lookup (is_at (int_cmp q)) (fold (λ n e. insert_entry int_cmp n e.0 e.1) m es)) ≡ (is_some (lookup (is_at (int_cmp q)) m) || list_any (λ e. Sought q e.0) es)
+found_fold q m [] = sym (or_none_right (is_some (lookup (is_at (int_cmp q)) m)))
+  where
+    or_none_right : (a : Bool) → (a || false) ≡ a
+    or_none_right true = refl
+    or_none_right false = refl
+found_fold q m (e ∷ es) =
+    found_fold q (insert_entry int_cmp m e.0 e.1) es
+    ∙ ap (λ o. is_some o || list_any (λ x. Sought q x.0) es) (lookup_put q e.0 e.1 m)
+    ∙ ap (λ b. b || list_any (λ x. Sought q x.0) es) (some_cond (Sought q e.0) e.1 (lookup (is_at (int_cmp q)) m))
+    ∙ or_swap (Sought q e.0) (is_some (lookup (is_at (int_cmp q)) m)) (list_any (λ x. Sought q x.0) es)
+
+-- a key is found among entries by rising key exactly if it is among the entries
+pub found_by_key : {X : Type 0} (q : ℤ) (es : List (ℤ × X)) → is_some (lookup (is_at (int_cmp q)) (by_key es)) ≡ list_any (λ e. Sought q e.0) es
+found_by_key q es = found_fold q [] es

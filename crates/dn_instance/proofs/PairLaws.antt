@@ -27,8 +27,13 @@ self_equal Less e = cc
 self_equal Equal e = refl
 self_equal Greater e = cc
 
-int_self : (z : ℤ) → int_cmp z z ≡ Equal
+-- a number compares equal to itself
+pub int_self : (z : ℤ) → int_cmp z z ≡ Equal
 int_self z = self_equal (int_cmp z z) (int_cmp_total.antisymm z z)
+
+-- a key that is found is the one sought
+pub sought_is : (q k : ℤ) → is_eq (int_cmp q k) ≡ true → q ≡ k
+sought_is q k h = exact_signed q k (equal_is (int_cmp q k) h)
 
 -- a pair is the same as itself
 pub pair_self : (p : ℤ × ℤ) → same_pair p p ≡ true

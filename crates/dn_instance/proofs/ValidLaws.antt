@@ -204,7 +204,7 @@ supplies_grown nodes before id flow node fit s = by_test (int_eq flow (pos 0)) r
           each = each_put id flow (IsSupply nodes) (supplies_of before) (record { node = node; some = some; fits = fit }) s.each;
         })
 
-int_eq_self : (z : ℤ) → int_eq z z ≡ true
+pub int_eq_self : (z : ℤ) → int_eq z z ≡ true
 int_eq_self (pos n) = grind (arith, nat_tests)
 int_eq_self (negsuc n) = grind (arith, nat_tests)
 
@@ -220,7 +220,7 @@ sink_named : (nodes id : ℤ) (s : Option ℤ) → IsNode nodes id → AreEnds n
 sink_named nodes id None node ends h = node
 sink_named nodes id (Some a) node ends h = record { source_is = ends; sink_is = node; differ = apart a id h }
 
-terminal_push : (letter : Letter) (before : List Line) (i : Line) → terminal_of letter (before ++ i ∷ []) ≡ option_or (terminal_of letter before) (terminal_in letter i)
+pub terminal_push : (letter : Letter) (before : List Line) (i : Line) → terminal_of letter (before ++ i ∷ []) ≡ option_or (terminal_of letter before) (terminal_in letter i)
 terminal_push letter [] i = or_none (terminal_in letter i)
 terminal_push letter (x ∷ xs) i = ap (option_or (terminal_in letter x)) (terminal_push letter xs i) ∙ or_assoc (terminal_in letter x) (terminal_of letter xs) (terminal_in letter i)
 
@@ -266,7 +266,7 @@ ends_in_range p src dst c h =
 kept : {X : Type 0} (f : Line → Option X) (before : List Line) (i : Line) → f i ≡ None → filter_map f (before ++ i ∷ []) ≡ filter_map f before
 kept f before i e = filter_map-append f before (i ∷ []) ∙ ap (λ (o : Option _). filter_map f before ++ filter_map (λ x. x) (o ∷ [])) e ∙ append-nil (filter_map f before)
 
-grown : {X : Type 0} (f : Line → Option X) (before : List Line) (i : Line) (x : X) → f i ≡ Some x → filter_map f (before ++ i ∷ []) ≡ filter_map f before ++ x ∷ []
+pub grown : {X : Type 0} (f : Line → Option X) (before : List Line) (i : Line) (x : X) → f i ≡ Some x → filter_map f (before ++ i ∷ []) ≡ filter_map f before ++ x ∷ []
 grown f before i x e = filter_map-append f before (i ∷ []) ∙ ap (λ (o : Option _). filter_map f before ++ filter_map (λ y. y) (o ∷ [])) e
 
 -- one item more of a problem

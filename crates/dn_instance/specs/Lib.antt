@@ -10,3 +10,4 @@ pub mod Tables
 pub mod TableSteps
 pub mod ItemFaults
 pub mod Holdings
+pub mod Drafts

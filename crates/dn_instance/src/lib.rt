@@ -2,6 +2,7 @@
 #![tactic(auto)]
 
 mod arcs;
+mod draft;
 pub mod examples;
 mod item_fault;
 mod items;

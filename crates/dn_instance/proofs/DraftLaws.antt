@@ -1,0 +1,191 @@
+-- One item more of an instance in the making: what the answer says, and what it comes to hold.
+use Rattle.std.proofs.Common.{◌≡◌, ℤ, pos, List, [], ◌∷◌, ◌++◌, Bool, true, false, cond, not, ◌&&◌, ◌||◌, int_lt, Option, Some, None, is_some, Result, Ok, Err, OnOk, filter_map, refl, sym, ap, ◌∙◌, subst, arith, append-nil, Vec, Global}
+use Rattle.std.proofs.lemmas.Int.{ints}
+use Rattle.std.proofs.lemmas.Bool.Decides.{nat_tests}
+use Rattle.std.proofs.lemmas.Result.{on_ok_weaker}
+use Rattle.std.specs.List.{list_all, list_any, fold}
+use Rattle.std.specs.Option.{option_or}
+use Rattle.std.specs.Ordering.{int_cmp, int_eq, is_eq, match_ordering}
+use Rattle.std.specs.declared.cmp.Ordering.{Ordering}
+use Rattle.std.specs.declared.cmp.Ordering.TheVariants.{Less, Equal, Greater}
+use Rattle.std.specs.BTreeMap.{BTreeMap, is_at, insert_entry}
+use Rattle.std.specs.Map.{lookup}
+use Rattle.dn_line.specs.declared.code.Code.{Code}
+use Rattle.dn_line.specs.declared.code.Code.TheVariants.{NodeOutOfRange, RepeatedNode, SameTerminal}
+use Rattle.dn_line.specs.declared.kind.Kind.TheVariants as Kinds
+use Rattle.dn_line.specs.declared.kind.Letter.TheVariants.{S, T}
+use Rattle.dn_line.specs.declared.line.Line.{Line}
+use Rattle.dn_line.specs.declared.line.Line.TheVariants as Item
+use Rattle.dn_line.specs.Faults.{first_fault}
+use Rattle.dn_instance.specs.declared.draft.Draft.{Draft}
+use Rattle.dn_instance.specs.declared.draft.Draft.TheVariants as Drafts
+use Rattle.dn_instance.specs.declared.item_fault.ItemFault.{ItemFault}
+use Rattle.dn_instance.specs.Drafts.{draft_kind, Holds}
+use Rattle.dn_instance.specs.Items.{Problem, problem_of, arcs_of, terminal_of, terminal_in, source_in, query_in, point_in, by_key}
+use Rattle.dn_instance.specs.ItemFaults.{Answers, in_graph, terminal_fault, id_fault, pair_fault, point_fault}
+use Rattle.dn_instance.specs.TextFaults.{is_companion, is_in_range, is_id, item_tests, has_point}
+use Rattle.dn_instance.proofs.ValidLaws.{terminal_push, grown, int_eq_self, arcs_push}
+use Rattle.dn_bundle.specs.Kinds.{ArcKind, capacities}
+use Rattle.dn_bundle.specs.TotalTold.{cap_told}
+use Rattle.dn_bundle.specs.declared.total.Total.{Total}
+use Rattle.dn_instance.specs.Holdings.{TableHolds}
+use Rattle.dn_instance.specs.TableSteps.{Tells, AreArcs}
+use Rattle.dn_instance.proofs.FirstFaults.{none_first}
+use Rattle.dn_instance.proofs.CleanItems.{or_none}
+use Rattle.dn_instance.proofs.MapLaws.{by_key_push, found_by_key}
+use Rattle.dn_instance.proofs.PairLaws.{int_self, sought_is}
+
+-- the answer on an item is that of its first fault
+abbrev pub Answering : ℤ → Draft → Line → Result (Unit {0}) ItemFault → Type 0
+Answering nodes d l r = (before : List Line) (p : Problem) → problem_of before ≡ Some p → p.kind ≡ draft_kind d → p.nodes ≡ nodes → Holds d before → Answers r (first_fault (item_tests before (Some l)))
+
+-- what is held with the item, where it is taken
+abbrev pub Standing : Draft → Line → Draft → Result (Unit {0}) ItemFault → Type 0
+Standing d l e r = (before : List Line) → Holds d before → OnOk r (Holds e (before ++ l ∷ []))
+
+pub to_answer : (nodes : ℤ) (d d' : Draft) (l l' : Line) (r r' : Result (Unit {0}) ItemFault) → d ≡ d' → l ≡ l' → r ≡ r' → Answering nodes d' l' r' → Answering nodes d l r
+to_answer nodes d d' l l' r r' e f g h = subst (λ x. Answering nodes x l r) (sym e) (subst (λ x. Answering nodes d' x r) (sym f) (subst (Answering nodes d' l') (sym g) h))
+
+pub to_stand : (d d' : Draft) (l l' : Line) (e e' : Draft) (r r' : Result (Unit {0}) ItemFault) → d ≡ d' → l ≡ l' → e ≡ e' → r ≡ r' → Standing d' l' e' r' → Standing d l e r
+to_stand d d' l l' e e' r r' a b c f h =
+    subst (λ x. Standing x l e r) (sym a) (subst (λ x. Standing d' x e r) (sym b) (subst (λ x. Standing d' l' x r) (sym c) (subst (Standing d' l' e') (sym f) h)))
+
+and_one : (a : Bool) → (a && true) ≡ a
+and_one true = refl
+and_one false = refl
+
+-- one node of a graph in range
+one_range : (p : Problem) (id : ℤ) → is_companion p.kind ≡ false → list_all (is_in_range (Some p)) (id ∷ []) ≡ in_graph p.nodes id
+one_range p id c = rw c (and_one (in_graph p.nodes id))
+
+-- one ID of a companion
+one_id : (p : Problem) (id : ℤ) → is_companion p.kind ≡ true → list_all (is_in_range (Some p)) (id ∷ []) ≡ int_lt (pos 0) id
+one_id p id c = rw c (and_one (int_lt (pos 0) id && true) ∙ and_one (int_lt (pos 0) id))
+
+two_ids : (p : Problem) (a b : ℤ) → is_companion p.kind ≡ true → list_all (is_in_range (Some p)) (a ∷ b ∷ []) ≡ (int_lt (pos 0) a && int_lt (pos 0) b)
+two_ids p a b c = rw c (by_tests (int_lt (pos 0) a) (int_lt (pos 0) b))
+  where
+    by_tests : (x y : Bool) → ((x && true) && ((y && true) && true)) ≡ (x && y)
+    by_tests true true = refl
+    by_tests true false = refl
+    by_tests false y = refl
+
+module _ (before : List Line) (p : Problem) (h : problem_of before ≡ Some p) where
+  stray_one : (id : ℤ) → is_companion p.kind ≡ false → not (list_all (is_in_range (problem_of before)) (id ∷ [])) ≡ not (in_graph p.nodes id)
+  stray_one id c = ap (λ o. not (list_all (is_in_range o) (id ∷ []))) h ∙ ap not (one_range p id c)
+
+  stray_id : (id : ℤ) → is_companion p.kind ≡ true → not (list_all (is_in_range (problem_of before)) (id ∷ [])) ≡ not (int_lt (pos 0) id)
+  stray_id id c = ap (λ o. not (list_all (is_in_range o) (id ∷ []))) h ∙ ap not (one_id p id c)
+
+  stray_ids : (a b : ℤ) → is_companion p.kind ≡ true → not (list_all (is_in_range (problem_of before)) (a ∷ b ∷ [])) ≡ not (int_lt (pos 0) a && int_lt (pos 0) b)
+  stray_ids a b c = ap (λ o. not (list_all (is_in_range o) (a ∷ b ∷ []))) h ∙ ap not (two_ids p a b c)
+
+-- a choice of a fault or a later one
+abbrev or_else : Bool → Code → Option Code → Option Code
+or_else b c later = cond b (Some c) later
+
+pub source_answer : (nodes id : ℤ) (a b : Option ℤ) (t : _) (r : Result (Unit {0}) ItemFault) → Answers r (terminal_fault nodes a b id) → Answering nodes (Drafts.Max a b t) (Item.Terminal id S) r
+source_answer nodes id a b t r ans before p h k n holds =
+    subst (Answers r)
+    (sym (ap (λ x. or_else x NodeOutOfRange (or_else (is_some (terminal_of S before)) RepeatedNode (or_else (is_id id (terminal_of T before)) SameTerminal None))) (stray_one before p h id (ap is_companion k))
+    ∙ ap (λ m. terminal_fault m (terminal_of S before) (terminal_of T before) id) n
+    ∙ ap (λ x. terminal_fault nodes x (terminal_of T before) id) (sym holds.0)
+    ∙ ap (λ x. terminal_fault nodes a x id) (sym holds.1)))
+    ans
+
+pub sink_answer : (nodes id : ℤ) (a b : Option ℤ) (t : _) (r : Result (Unit {0}) ItemFault) → Answers r (terminal_fault nodes b a id) → Answering nodes (Drafts.Max a b t) (Item.Terminal id T) r
+sink_answer nodes id a b t r ans before p h k n holds =
+    subst (Answers r)
+    (sym (ap (λ x. or_else x NodeOutOfRange (or_else (is_some (terminal_of T before)) RepeatedNode (or_else (is_id id (terminal_of S before)) SameTerminal None))) (stray_one before p h id (ap is_companion k))
+    ∙ ap (λ m. terminal_fault m (terminal_of T before) (terminal_of S before) id) n
+    ∙ ap (λ x. terminal_fault nodes x (terminal_of S before) id) (sym holds.1)
+    ∙ ap (λ x. terminal_fault nodes b x id) (sym holds.0)))
+    ans
+
+pub id_answer : (nodes id : ℤ) (ids : _) (r : Result (Unit {0}) ItemFault) → Answers r (id_fault id) → Answering nodes (Drafts.Ss ids) (Item.Source id) r
+id_answer nodes id ids r ans before p h k n holds = subst (Answers r) (sym (ap (λ x. or_else x NodeOutOfRange None) (stray_id before p h id (ap is_companion k)))) ans
+
+pub pair_answer : (nodes : ℤ) (pair : ℤ × ℤ) (pairs : _) (r : Result (Unit {0}) ItemFault) → Answers r (pair_fault pair) → Answering nodes (Drafts.P2p pairs) (Item.Query pair.0 pair.1) r
+pair_answer nodes pair pairs r ans before p h k n holds = subst (Answers r) (sym (ap (λ x. or_else x NodeOutOfRange None) (stray_ids before p h pair.0 pair.1 (ap is_companion k)))) ans
+
+int_eq_is : (a b : ℤ) → int_eq a b ≡ true → a ≡ b
+int_eq_is a b h = grind (arith, ints, nat_tests)
+
+sought_eq : (q k : ℤ) (t : Bool) → is_at (int_cmp q) k ≡ t → is_at (int_cmp q) k ≡ int_eq k q
+sought_eq q k true h = let same : q ≡ k = sought_is q k h in h ∙ sym (ap (λ z. int_eq k z) same ∙ int_eq_self k)
+sought_eq q k false h = h ∙ sym (not_equal (int_eq k q) refl)
+  where
+    not_equal : (t : Bool) → int_eq k q ≡ t → int_eq k q ≡ false
+    not_equal false e = e
+    not_equal true e =
+        let same : k ≡ q = int_eq_is k q e in
+        let never : true ≡ false = sym (ap is_eq (int_self q)) ∙ ap (λ z. is_eq (int_cmp q z)) (sym same) ∙ h in
+        cc
+
+points_named : (q : ℤ) (items : List Line) → list_any (λ e. is_at (int_cmp q) e.0) (filter_map point_in items) ≡ list_any (has_point q) items
+points_named q [] = refl
+points_named q (Item.Point id x y ∷ rest) = ap (λ b. b || list_any (λ e. is_at (int_cmp q) e.0) (filter_map point_in rest)) (sought_eq q id (is_at (int_cmp q) id) refl) ∙ ap (λ b. int_eq id q || b) (points_named q rest)
+points_named q (_ ∷ rest) = points_named q rest
+
+pub point_answer : (nodes id x y : ℤ) (points : BTreeMap ℤ (ℤ × ℤ)) (r : Result (Unit {0}) ItemFault) → Answers r (point_fault (is_some (lookup (is_at (int_cmp id)) points.entries)) id) → Answering nodes (Drafts.Co points) (Item.Point id x y) r
+point_answer nodes id x y points r ans before p h k n holds =
+    subst (Answers r)
+    (sym (ap (λ z. or_else z NodeOutOfRange (or_else (list_any (has_point id) before) RepeatedNode None)) (stray_id before p h id (ap is_companion k))
+    ∙ ap (λ b. point_fault b id) (sym (points_named id before) ∙ sym (found_by_key id (filter_map point_in before)) ∙ ap (λ m. is_some (lookup (is_at (int_cmp id)) m)) (sym holds))))
+    ans
+
+not_some_is : {X : Type 0} (o : Option X) → is_some o ≡ false → o ≡ None
+not_some_is None h = refl
+not_some_is (Some x) h = cc
+
+-- a table holds what it held where an item is no arc
+table_kept : {B Arc : Type 0} (kind : ArcKind Arc) (tells : B → List Arc) (table : List ((ℤ × ℤ) × B)) (before : List Line) (i : Line) → arcs_of kind (i ∷ []) ≡ [] → TableHolds kind tells table before → TableHolds kind tells table (before ++ i ∷ [])
+table_kept kind tells table before i e t =
+    let same : arcs_of kind (before ++ i ∷ []) ≡ arcs_of kind before = arcs_push kind before i ∙ ap (λ l. arcs_of kind before ++ l) e ∙ append-nil (arcs_of kind before) in
+    record { tells_them = subst (Tells kind tells table) (sym same) t.tells_them; are_arcs = subst (AreArcs kind) (sym same) t.are_arcs }
+
+pub source_stand : (nodes id : ℤ) (a b a' : Option ℤ) (t : _) (r : Result (Unit {0}) ItemFault) → Answers r (terminal_fault nodes a b id) → OnOk r (a' ≡ Some id) → Standing (Drafts.Max a b t) (Item.Terminal id S) (Drafts.Max a' b t) r
+source_stand nodes id a b a' t (Err e) ans ok before holds = tt
+source_stand nodes id a b a' t (Ok x) ans ok before holds =
+    let one = none_first (not (in_graph nodes id)) NodeOutOfRange _ ans in
+    let two = none_first (is_some a) RepeatedNode _ one.1 in
+    let none : terminal_of S before ≡ None = sym holds.0 ∙ not_some_is a two.0 in
+    (
+      ok ∙ sym (terminal_push S before (Item.Terminal id S) ∙ ap (λ o. option_or o (Some id)) none),
+      holds.1 ∙ sym (terminal_push T before (Item.Terminal id S) ∙ or_none (terminal_of T before)),
+      table_kept capacities _ t before (Item.Terminal id S) refl holds.2,
+    )
+
+pub sink_stand : (nodes id : ℤ) (a b b' : Option ℤ) (t : _) (r : Result (Unit {0}) ItemFault) → Answers r (terminal_fault nodes b a id) → OnOk r (b' ≡ Some id) → Standing (Drafts.Max a b t) (Item.Terminal id T) (Drafts.Max a b' t) r
+sink_stand nodes id a b b' t (Err e) ans ok before holds = tt
+sink_stand nodes id a b b' t (Ok x) ans ok before holds =
+    let one = none_first (not (in_graph nodes id)) NodeOutOfRange _ ans in
+    let two = none_first (is_some b) RepeatedNode _ one.1 in
+    let none : terminal_of T before ≡ None = sym holds.1 ∙ not_some_is b two.0 in
+    (
+      holds.0 ∙ sym (terminal_push S before (Item.Terminal id T) ∙ or_none (terminal_of S before)),
+      ok ∙ sym (terminal_push T before (Item.Terminal id T) ∙ ap (λ o. option_or o (Some id)) none),
+      table_kept capacities _ t before (Item.Terminal id T) refl holds.2,
+    )
+
+-- an arc leaves the terminals
+pub cap_stand : (a b : Option ℤ) (t t' : _) (src dst cap : ℤ) (r : Result (Unit {0}) ItemFault)
+    → ((before : List Line) → TableHolds capacities (λ (x : Total). cap_told x.total) t before → OnOk r (TableHolds capacities (λ (x : Total). cap_told x.total) t' (before ++ Item.MaxArc src dst cap ∷ [])))
+    → Standing (Drafts.Max a b t) (Item.MaxArc src dst cap) (Drafts.Max a b t') r
+cap_stand a b t t' src dst cap r ok before holds =
+    let i = Item.MaxArc src dst cap in
+    on_ok_weaker r
+    (λ table. (holds.0 ∙ sym (terminal_push S before i ∙ or_none (terminal_of S before)), holds.1 ∙ sym (terminal_push T before i ∙ or_none (terminal_of T before)), table))
+    (ok before holds.2)
+
+pub id_stand : (id : ℤ) (ids ids' : Vec ℤ Global) (r : Result (Unit {0}) ItemFault) → OnOk r (ids'.items ≡ ids.items ++ id ∷ []) → Standing (Drafts.Ss ids) (Item.Source id) (Drafts.Ss ids') r
+id_stand id ids ids' r ok before holds = on_ok_weaker r (λ e. e ∙ ap (λ l. l ++ id ∷ []) holds ∙ sym (grown source_in before (Item.Source id) id refl)) ok
+
+pub pair_stand : (pair : ℤ × ℤ) (pairs pairs' : Vec (ℤ × ℤ) Global) (r : Result (Unit {0}) ItemFault) → OnOk r (pairs'.items ≡ pairs.items ++ pair ∷ []) → Standing (Drafts.P2p pairs) (Item.Query pair.0 pair.1) (Drafts.P2p pairs') r
+pair_stand pair pairs pairs' r ok before holds = on_ok_weaker r (λ e. e ∙ ap (λ l. l ++ pair ∷ []) holds ∙ sym (grown query_in before (Item.Query pair.0 pair.1) pair refl)) ok
+
+pub point_stand : (id x y : ℤ) (points points' : BTreeMap ℤ (ℤ × ℤ)) (r : Result (Unit {0}) ItemFault) → OnOk r (points'.entries ≡ insert_entry int_cmp points.entries id (x, y)) → Standing (Drafts.Co points) (Item.Point id x y) (Drafts.Co points') r
+point_stand id x y points points' r ok before holds =
+    on_ok_weaker r
+    (λ e. e ∙ ap (λ m. insert_entry int_cmp m id (x, y)) holds ∙ sym (ap by_key (grown point_in before (Item.Point id x y) (id, (x, y)) refl) ∙ by_key_push (filter_map point_in before) (id, (x, y))))
+    ok
