@@ -1,8 +1,13 @@
+pub mod AnswerLaws
 pub mod FaultLaws
 pub mod FieldLaws
+pub mod FrontLaws
 pub mod KeywordLaws
+pub mod LineReaderLaws
+pub mod LineStateLaws
+pub mod OpenWordLaws
+pub mod PartsLaws
 pub mod PieceLaws
+pub mod ReadingLaws
 pub mod RunLaws
 pub mod SpellingLaws
-pub mod ReadingLaws
-pub mod AnswerLaws
