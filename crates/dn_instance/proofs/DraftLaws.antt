@@ -1,5 +1,5 @@
 -- One item more of an instance in the making: what the answer says, and what it comes to hold.
-use Rattle.std.proofs.Common.{◌≡◌, ℤ, pos, List, [], ◌∷◌, ◌++◌, Bool, true, false, cond, not, ◌&&◌, ◌||◌, int_lt, Option, Some, None, is_some, Result, Ok, Err, OnOk, filter_map, refl, sym, ap, ◌∙◌, subst, arith, append-nil, Vec, Global}
+use Rattle.std.proofs.Common.{◌≡◌, ℤ, pos, List, [], ◌∷◌, ◌++◌, Bool, true, false, cond, not, ◌&&◌, ◌||◌, int_lt, Option, Some, None, is_some, IsSome, Result, Ok, Err, OnOk, filter_map, refl, sym, ap, ◌∙◌, subst, arith, append-nil, Vec, Global}
 use Rattle.std.proofs.lemmas.Int.{ints}
 use Rattle.std.proofs.lemmas.Bool.Decides.{nat_tests}
 use Rattle.std.proofs.lemmas.Result.{on_ok_weaker}
@@ -13,7 +13,9 @@ use Rattle.std.specs.Map.{lookup}
 use Rattle.dn_line.specs.declared.code.Code.{Code}
 use Rattle.dn_line.specs.declared.code.Code.TheVariants.{NodeOutOfRange, RepeatedNode, SameTerminal}
 use Rattle.dn_line.specs.declared.kind.Kind.TheVariants as Kinds
+use Rattle.dn_line.specs.declared.kind.Letter.{Letter}
 use Rattle.dn_line.specs.declared.kind.Letter.TheVariants.{S, T}
+use Rattle.dn_line.specs.Spelling.{kind_before}
 use Rattle.dn_line.specs.declared.line.Line.{Line}
 use Rattle.dn_line.specs.declared.line.Line.TheVariants as Item
 use Rattle.dn_line.specs.Faults.{first_fault}
@@ -21,11 +23,13 @@ use Rattle.dn_instance.specs.declared.draft.Draft.{Draft}
 use Rattle.dn_instance.specs.declared.draft.Draft.TheVariants as Drafts
 use Rattle.dn_instance.specs.declared.item_fault.ItemFault.{ItemFault}
 use Rattle.dn_instance.specs.Drafts.{draft_kind, Holds}
-use Rattle.dn_instance.specs.Items.{Problem, problem_of, arcs_of, terminal_of, terminal_in, source_in, query_in, point_in, by_key}
+use Rattle.dn_instance.specs.Items.{Problem, problem_of, problem_in, arcs_of, terminal_of, terminal_in, source_in, query_in, point_in, by_key}
 use Rattle.dn_instance.specs.ItemFaults.{Answers, in_graph, terminal_fault, id_fault, pair_fault, point_fault}
 use Rattle.dn_instance.specs.TextFaults.{is_companion, is_in_range, is_id, item_tests, has_point}
 use Rattle.dn_instance.proofs.ValidLaws.{terminal_push, grown, int_eq_self, arcs_push}
-use Rattle.dn_bundle.specs.Kinds.{ArcKind, capacities}
+use Rattle.dn_bundle.specs.Bundles.{IsKind}
+use Rattle.dn_bundle.specs.declared.arc.Form.TheVariants.{One}
+use Rattle.dn_bundle.specs.Kinds.{ArcKind, lengths, capacities}
 use Rattle.dn_bundle.specs.TotalTold.{cap_told}
 use Rattle.dn_bundle.specs.declared.total.Total.{Total}
 use Rattle.dn_instance.specs.Holdings.{TableHolds}
@@ -189,3 +193,67 @@ point_stand id x y points points' r ok before holds =
     on_ok_weaker r
     (λ e. e ∙ ap (λ m. insert_entry int_cmp m id (x, y)) holds ∙ sym (ap by_key (grown point_in before (Item.Point id x y) (id, (x, y)) refl) ∙ by_key_push (filter_map point_in before) (id, (x, y))))
     ok
+
+-- a table without bundles tells no arcs
+pub none_told : {B Arc : Type 0} (kind : ArcKind Arc) (tells : B → List Arc) → IsKind kind → TableHolds kind tells [] []
+none_told kind tells laws = record {
+  tells_them = record {
+    stands = λ p. record { canonical = laws.none_canon One; same = laws.meaning.same_refl [] };
+    absent = λ p. (λ e. laws.meaning.same_refl [], λ s. refl);
+  };
+  are_arcs = tt;
+}
+
+-- a problem line adds nothing to what no items make
+pub held_problem : (d : Draft) (i : Line) → IsSome (problem_in i) → Holds d [] → Holds d (i ∷ [])
+held_problem d (Item.Graph k n c) h holds = by_kind d holds
+  where
+    by_kind : (d : Draft) → Holds d [] → Holds d (Item.Graph k n c ∷ [])
+    by_kind (Drafts.Max a b t) holds = (holds.0, holds.1, table_kept capacities _ t [] (Item.Graph k n c) refl holds.2)
+    by_kind (Drafts.Sp t) holds = table_kept lengths _ t [] (Item.Graph k n c) refl holds
+    by_kind (Drafts.Ss ids) holds = holds
+    by_kind (Drafts.P2p pairs) holds = holds
+    by_kind (Drafts.Co points) holds = holds
+held_problem d (Item.Aux k c) h holds = by_kind d holds
+  where
+    by_kind : (d : Draft) → Holds d [] → Holds d (Item.Aux k c ∷ [])
+    by_kind (Drafts.Max a b t) holds = (holds.0, holds.1, table_kept capacities _ t [] (Item.Aux k c) refl holds.2)
+    by_kind (Drafts.Sp t) holds = table_kept lengths _ t [] (Item.Aux k c) refl holds
+    by_kind (Drafts.Ss ids) holds = holds
+    by_kind (Drafts.P2p pairs) holds = holds
+    by_kind (Drafts.Co points) holds = holds
+held_problem d Item.Skip h holds = cc
+held_problem d (Item.Supply _ _) h holds = cc
+held_problem d (Item.Terminal _ _) h holds = cc
+held_problem d (Item.MinArc _ _ _ _ _) h holds = cc
+held_problem d (Item.MaxArc _ _ _) h holds = cc
+held_problem d (Item.SpArc _ _ _) h holds = cc
+held_problem d (Item.Source _) h holds = cc
+held_problem d (Item.Query _ _) h holds = cc
+held_problem d (Item.Point _ _ _) h holds = cc
+
+-- no line of a kind of text but its own
+pub no_max : (i : Line) → Some Kinds.Max ≡ kind_before i → ((id : ℤ) (letter : Letter) → i ≡ Item.Terminal id letter → ⊥) → ((src dst cap : ℤ) → i ≡ Item.MaxArc src dst cap → ⊥) → ⊥
+no_max (Item.Terminal id letter) h n a = n id letter refl
+no_max (Item.MaxArc src dst cap) h n a = a src dst cap refl
+no_max _ h n a = cc
+
+pub no_sp : (i : Line) → Some Kinds.Sp ≡ kind_before i → ((src dst length : ℤ) → i ≡ Item.SpArc src dst length → ⊥) → ⊥
+no_sp (Item.SpArc src dst length) h a = a src dst length refl
+no_sp _ h a = cc
+
+pub no_ss : (i : Line) → Some Kinds.Ss ≡ kind_before i → ((id : ℤ) → i ≡ Item.Source id → ⊥) → ⊥
+no_ss (Item.Source id) h a = a id refl
+no_ss _ h a = cc
+
+pub no_p2p : (i : Line) → Some Kinds.P2p ≡ kind_before i → ((first second : ℤ) → i ≡ Item.Query first second → ⊥) → ⊥
+no_p2p (Item.Query first second) h a = a first second refl
+no_p2p _ h a = cc
+
+pub no_co : (i : Line) → Some Kinds.Co ≡ kind_before i → ((id x y : ℤ) → i ≡ Item.Point id x y → ⊥) → ⊥
+no_co (Item.Point id x y) h a = a id x y refl
+no_co _ h a = cc
+
+-- a refused item leaves nothing to show
+pub refused : (d : Draft) (l : Line) (e : Draft) (r : Result (Unit {0}) ItemFault) (f : ItemFault) → r ≡ Err f → Standing d l e r
+refused d l e r f h before holds = subst (λ x. OnOk x (Holds e (before ++ l ∷ []))) (sym h) tt

@@ -8,3 +8,5 @@ pub mod TableLaws
 pub mod TellsLaws
 pub mod ArcItems
 pub mod DraftLaws
+pub mod ProgressLaws
+pub mod NextLaws

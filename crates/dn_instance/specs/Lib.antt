@@ -11,3 +11,5 @@ pub mod TableSteps
 pub mod ItemFaults
 pub mod Holdings
 pub mod Drafts
+pub mod Progresses
+pub mod TextsSoFar

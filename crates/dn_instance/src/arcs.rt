@@ -75,7 +75,7 @@ pub(crate) fn take_length_arc(
     take_arc(table, alloc, nodes, pair, arc)
 }
 
-// Takes the arc of a `max` line, whose CAP is not below 0.
+// Takes the arc of a `max` line.
 pub(crate) fn take_cap_arc(
     table: &mut Table<Total>,
     alloc: Global,
@@ -83,10 +83,9 @@ pub(crate) fn take_cap_arc(
     pair: (i64, i64),
     arc: CapArc,
 ) -> Result<(), ItemFault>
-    requires { pos 0 ≤ℤ arc.cap }
-    ensures answer { (before : List Line) (p : Problem) → problem_of before ≡ Some p → p.kind ≡ Kind.Max → p.nodes ≡ nodes.now → TableHolds capacities (λ b. cap_told b.total) table.old before
+    ensures answer { pos 0 ≤ℤ arc.cap → (before : List Line) (p : Problem) → problem_of before ≡ Some p → p.kind ≡ Kind.Max → p.nodes ≡ nodes.now → TableHolds capacities (λ b. cap_told b.total) table.old before
         → Answers result (first_fault (item_tests before (Some (Line.MaxArc pair.0 pair.1 arc.cap)))) }
-    ensures stands { (before : List Line) → TableHolds capacities (λ b. cap_told b.total) table.old before
+    ensures stands { pos 0 ≤ℤ arc.cap → (before : List Line) → TableHolds capacities (λ b. cap_told b.total) table.old before
         → OnOk result (TableHolds capacities (λ b. cap_told b.total) table.new (before ++ Line.MaxArc pair.0 pair.1 arc.cap ∷ [])) }
 {
     take_arc(table, alloc, nodes, pair, arc)

@@ -1,11 +1,12 @@
 // An instance in the making: what the items after the problem line have made so far.
-ghost use Rattle.std.specs.Prelude.{◌≡◌, List, ◌∷◌, ◌++◌, [], OnOk, OnErr, Some};
+ghost use Rattle.std.specs.Prelude.{◌≡◌, List, ◌∷◌, ◌++◌, [], OnOk, OnErr, Some, None};
 ghost use Rattle.dn_line.specs.declared.line.Line.{Line};
 ghost use Rattle.dn_line.specs.Faults.{first_fault};
 ghost use Rattle.dn_line.specs.Spelling.{kind_before};
 ghost use Rattle.dn_instance.specs.Items.{Problem, problem_of};
 ghost use Rattle.dn_instance.specs.TextFaults.{item_tests};
 ghost use Rattle.dn_instance.specs.ItemFaults.{Answers};
+ghost use Rattle.dn_instance.specs.declared.draft.Draft.{Draft};
 ghost use Rattle.dn_instance.specs.Drafts.{draft_kind, Holds, HasSigns};
 
 use crate::arcs::{take_cap_arc, take_length_arc};
@@ -13,7 +14,7 @@ use crate::item_fault::ItemFault;
 use crate::items::{take_point, take_query, take_source, take_terminal};
 use crate::table::Table;
 use dn_bundle::{CapArc, Least, LengthArc, Total};
-use dn_line::{Kind, Letter, Line};
+use dn_line::{Code, Kind, Letter, Line};
 use std::alloc::Global;
 use std::collections::BTreeMap;
 
@@ -31,6 +32,25 @@ pub(crate) enum Draft {
 }
 
 impl Draft {
+    // What no items make.
+    pub(crate) fn new(alloc: Global, kind: &Kind) -> Option<Draft>
+        ensures some { (d : Draft) → result ≡ Some d → (draft_kind d ≡ kind.now) × Holds d [] }
+        ensures none { result ≡ None → kind.now ≡ Kind.Min }
+    {
+        match kind {
+            Kind::Min => None,
+            Kind::Max => Some(Draft::Max {
+                source: None,
+                sink: None,
+                table: Table::new(alloc),
+            }),
+            Kind::Sp => Some(Draft::Sp(Table::new(alloc))),
+            Kind::Ss => Some(Draft::Ss(Vec::new(alloc))),
+            Kind::P2p => Some(Draft::P2p(Vec::new(alloc))),
+            Kind::Co => Some(Draft::Co(BTreeMap::new(alloc))),
+        }
+    }
+
     // The kind of text that it is of.
     pub(crate) fn kind(&self) -> Kind
         ensures { result ≡ draft_kind self.now }
@@ -44,13 +64,12 @@ impl Draft {
         }
     }
 
-    // Takes the next item of this kind of text.
+    // Takes the next item. One that this kind of text does not have is refused.
     pub(crate) fn take(&mut self, alloc: Global, nodes: &i64, line: Line) -> Result<(), ItemFault>
-        requires kind { Some (draft_kind self.old) ≡ kind_before line }
-        requires signs { HasSigns line }
-        ensures answer { (before : List Line) (p : Problem) → problem_of before ≡ Some p → p.kind ≡ draft_kind self.old → p.nodes ≡ nodes.now → Holds self.old before
+        ensures answer { Some (draft_kind self.old) ≡ kind_before line → HasSigns line → (before : List Line) (p : Problem) → problem_of before ≡ Some p → p.kind ≡ draft_kind self.old → p.nodes ≡ nodes.now → Holds self.old before
             → Answers result (first_fault (item_tests before (Some line))) }
-        ensures stands { (before : List Line) → Holds self.old before → OnOk result (Holds self.new (before ++ line ∷ [])) }
+        ensures stands { HasSigns line → (before : List Line) → Holds self.old before → OnOk result (Holds self.new (before ++ line ∷ [])) }
+        ensures kept { draft_kind self.new ≡ draft_kind self.old }
     {
         match (self, line) {
             (Draft::Max { table, .. }, Line::MaxArc { src, dst, cap }) => {
@@ -66,7 +85,7 @@ impl Draft {
             (Draft::Ss(ids), Line::Source { id }) => take_source(ids, &id),
             (Draft::P2p(pairs), Line::Query { first, second }) => take_query(pairs, (first, second)),
             (Draft::Co(points), Line::Point { id, x, y }) => take_point(points, &id, (x, y)),
-            _ => unreachable!(),
+            _ => Err(ItemFault::Text(Code::WrongLine)),
         }
     }
 }

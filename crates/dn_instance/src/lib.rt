@@ -8,7 +8,9 @@ mod item_fault;
 mod items;
 pub mod laws;
 pub mod place;
+mod progress;
 pub mod table;
+mod text_so_far;
 
 pub use place::Place;
 pub use table::{Pairs, Table};

@@ -1,13 +1,14 @@
-use Rattle.std.proofs.Common.{rules, w64, ap, ◌∙◌}
+use Rattle.std.proofs.Common.{rules, w64, Some, ap, sym, subst, ◌∙◌}
 use Rattle.std.specs.Int.RustNames.{FitsSigned}
 use Rattle.std.proofs.lemmas.Int.{to_z-of_z}
 use Rattle.dn_line.specs.declared.line.Line.TheVariants.{Terminal}
-use Rattle.dn_instance.proofs.DraftLaws.{to_answer, to_stand, source_answer, sink_answer, id_answer, pair_answer, point_answer, source_stand, sink_stand, cap_stand, id_stand, pair_stand, point_stand}
+use Rattle.dn_instance.specs.Drafts.{HasSigns, draft_kind}
+use Rattle.dn_instance.proofs.DraftLaws.{to_answer, to_stand, source_answer, sink_answer, id_answer, pair_answer, point_answer, source_stand, sink_stand, cap_stand, id_stand, pair_stand, point_stand, no_max, no_sp, no_ss, no_p2p, no_co, refused}
 use Rattle.dn_instance.proofs.draft.Draft.take.Goals as goal
-use Rattle.dn_instance.proofs.draft.Draft.take.Goals.{in-Max-MaxArc, in-Max-Terminal+in-S, in-Max-Terminal+in-T, in-Sp-SpArc, in-Ss-Source, in-P2p-Query, in-Co-Point}
+use Rattle.dn_instance.proofs.draft.Draft.take.Goals.{in-Max-MaxArc, in-Max-Terminal+in-S, in-Max-Terminal+in-T, in-Sp-SpArc, in-Ss-Source, in-P2p-Query, in-Co-Point, in_default, in_default-2, in_default-3, in_default-4, in_default-5}
 
 pub returns-clause-answer : goal.returns-clause-answer
-returns-clause-answer c =
+returns-clause-answer c kind signs =
     elim c.match-self.branch [
       | in-Max-MaxArc w ↦
         (let fs : FitsSigned w64 w.in-Max-MaxArc.src = search rules in
@@ -15,7 +16,7 @@ returns-clause-answer c =
           let fc : FitsSigned w64 w.in-Max-MaxArc.cap = search rules in
           let ans = simp to_z-of_z at w.take_cap_arc.ensures.answer in
           to_answer c.args.nodes.now c.args.self.now _ c.args.line _ c.match-self.result _ w.in-Max-MaxArc.is-0 w.in-Max-MaxArc.is-1 w.result-is
-          (λ before p h k n holds. ans before p h k n holds.2))
+          (λ before p h k n holds. ans (subst HasSigns w.in-Max-MaxArc.is-1 signs) before p h k n holds.2))
       | in-Max-Terminal+in-S w ↦
         (let fi : FitsSigned w64 w.in-Max-Terminal.id = search rules in
           let ans = simp to_z-of_z at w.take_terminal.ensures.answer in
@@ -48,10 +49,15 @@ returns-clause-answer c =
           let ans = simp to_z-of_z at w.take_point.ensures.answer in
           to_answer c.args.nodes.now c.args.self.now _ c.args.line _ c.match-self.result _ w.in-Co-Point.is-0 w.in-Co-Point.is-1 w.result-is
           (point_answer c.args.nodes.now w.in-Co-Point.id w.in-Co-Point.x w.in-Co-Point.y w.in-Co-Point.points w.take_point.result ans))
+      | in_default w ↦ absurd (no_max c.args.line (ap (λ d. Some (draft_kind d)) (sym w.in_default.is-0) ∙ kind) w.in_default.not-Terminal-1 w.in_default.not-MaxArc-1)
+      | in_default-2 w ↦ absurd (no_sp c.args.line (ap (λ d. Some (draft_kind d)) (sym w.in_default.is-0) ∙ kind) w.in_default.not-SpArc-1)
+      | in_default-3 w ↦ absurd (no_ss c.args.line (ap (λ d. Some (draft_kind d)) (sym w.in_default.is-0) ∙ kind) w.in_default.not-Source-1)
+      | in_default-4 w ↦ absurd (no_p2p c.args.line (ap (λ d. Some (draft_kind d)) (sym w.in_default.is-0) ∙ kind) w.in_default.not-Query-1)
+      | in_default-5 w ↦ absurd (no_co c.args.line (ap (λ d. Some (draft_kind d)) (sym w.in_default.is-0) ∙ kind) w.in_default.not-Point-1)
     ]
 
 pub returns-clause-stands : goal.returns-clause-stands
-returns-clause-stands c =
+returns-clause-stands c signs =
     elim c.match-self.branch [
       | in-Max-MaxArc w ↦
         (let fs : FitsSigned w64 w.in-Max-MaxArc.src = search rules in
@@ -59,7 +65,7 @@ returns-clause-stands c =
           let fc : FitsSigned w64 w.in-Max-MaxArc.cap = search rules in
           let ok = simp to_z-of_z at w.take_cap_arc.ensures.stands in
           to_stand c.args.self.now _ c.args.line _ c.match-self.self _ c.match-self.result _ w.in-Max-MaxArc.is-0 w.in-Max-MaxArc.is-1 w.self-is w.result-is
-          (cap_stand _ _ _ _ w.in-Max-MaxArc.src w.in-Max-MaxArc.dst w.in-Max-MaxArc.cap w.take_cap_arc.result ok))
+          (cap_stand _ _ _ _ w.in-Max-MaxArc.src w.in-Max-MaxArc.dst w.in-Max-MaxArc.cap w.take_cap_arc.result (ok (subst HasSigns w.in-Max-MaxArc.is-1 signs))))
       | in-Max-Terminal+in-S w ↦
         (let fi : FitsSigned w64 w.in-Max-Terminal.id = search rules in
           let ans = simp to_z-of_z at w.take_terminal.ensures.answer in
@@ -96,4 +102,9 @@ returns-clause-stands c =
           let ok = simp to_z-of_z at w.take_point.ensures.ok in
           to_stand c.args.self.now _ c.args.line _ c.match-self.self _ c.match-self.result _ w.in-Co-Point.is-0 w.in-Co-Point.is-1 w.self-is w.result-is
           (point_stand w.in-Co-Point.id w.in-Co-Point.x w.in-Co-Point.y w.in-Co-Point.points w.take_point.new.points w.take_point.result ok))
+      | in_default w ↦ refused c.args.self.now c.args.line c.match-self.self c.match-self.result _ w.result-is
+      | in_default-2 w ↦ refused c.args.self.now c.args.line c.match-self.self c.match-self.result _ w.result-is
+      | in_default-3 w ↦ refused c.args.self.now c.args.line c.match-self.self c.match-self.result _ w.result-is
+      | in_default-4 w ↦ refused c.args.self.now c.args.line c.match-self.self c.match-self.result _ w.result-is
+      | in_default-5 w ↦ refused c.args.self.now c.args.line c.match-self.self c.match-self.result _ w.result-is
     ]

@@ -1,0 +1,110 @@
+// What has been read from the problem line on.
+ghost use Rattle.std.specs.Prelude.{◌≡◌, List, ◌∷◌, ◌++◌, [], OnOk, Some, None, Option, IsSome};
+ghost use Rattle.dn_line.specs.declared.line.Line.{Line};
+ghost use Rattle.dn_line.specs.declared.word.Word.{Word};
+ghost use Rattle.dn_line.specs.Words.{first};
+ghost use Rattle.dn_line.specs.Table.{kind_named};
+ghost use Rattle.dn_line.specs.Faults.{first_fault, head_tests};
+ghost use Rattle.dn_line.specs.Reading.{head_of};
+ghost use Rattle.dn_line.specs.Spelling.{kind_before};
+ghost use Rattle.std.specs.Option.{option_map};
+ghost use Rattle.dn_instance.specs.TextFaults.{item_tests, order_tests};
+ghost use Rattle.dn_instance.specs.ItemFaults.{Answers};
+ghost use Rattle.dn_instance.specs.Drafts.{draft_kind, HasSigns};
+ghost use Rattle.dn_instance.specs.declared.progress.Progress.{Progress};
+ghost use Rattle.dn_instance.specs.Progresses.{IsAt, HasRoom};
+ghost use Rattle.dn_instance.specs.Items.{Problem, problem_in, is_counted};
+
+use crate::draft::Draft;
+use crate::item_fault::ItemFault;
+use dn_line::{Code, Head, Kind, Line};
+use std::alloc::Global;
+
+#[derive(Drop)]
+pub(crate) struct Progress {
+    nodes: i64,
+    count: i64,
+    counted: i64,
+    draft: Draft,
+}
+
+impl Progress {
+    // What has been read with the first item, if it is a problem line.
+    pub(crate) fn begin(alloc: Global, problem: &Line) -> Option<Progress>
+        ensures some { (p : Progress) → result ≡ Some p → IsAt p (problem.now ∷ []) }
+        ensures none { result ≡ None → IsSome (problem_in problem.now) → option_map (λ (p : Problem). p.kind) (problem_in problem.now) ≡ Some Kind.Min }
+    {
+        match problem {
+            Line::Graph { kind, nodes, arcs } => Progress::new(alloc, kind, nodes, arcs),
+            Line::Aux { kind, count } => Progress::new(alloc, kind, &0, count),
+            _ => None,
+        }
+    }
+
+    // What has been read with a problem line that declares this.
+    fn new(alloc: Global, kind: &Kind, nodes: &i64, count: &i64) -> Option<Progress>
+        ensures some { (p : Progress) (i : Line) → result ≡ Some p → problem_in i ≡ Some (record { kind = kind.now; nodes = nodes.now; count = count.now }) → IsAt p (i ∷ []) }
+        ensures none { result ≡ None → kind.now ≡ Kind.Min }
+    {
+        let draft = Draft::new(alloc, kind)?;
+        Some(Progress {
+            nodes: *nodes,
+            count: *count,
+            counted: 0,
+            draft,
+        })
+    }
+
+    // The kind of text that it is.
+    pub(crate) fn kind(&self) -> Kind
+        ensures { result ≡ draft_kind self.now.draft }
+    {
+        self.draft.kind()
+    }
+
+    // The first fault of a line by those before it, before its fields are judged.
+    pub(crate) fn check_order(&self, head: Head) -> Option<Code>
+        ensures answer { (before : List Line) (ws : List Word) → IsAt self.now before → first_fault (head_tests (Some (draft_kind self.now.draft)) ws) ≡ None
+            → head ≡ head_of (first ws) (kind_named ws) → result ≡ first_fault (order_tests before ws) }
+        ensures skip { head ≡ Head.Skip → result ≡ None }
+    {
+        match head {
+            Head::Node if 0 < self.counted => Some(Code::LateNode),
+            Head::Arc | Head::Source | Head::Query | Head::Point if self.count <= self.counted => {
+                Some(Code::TooManyLines)
+            }
+            _ => None,
+        }
+    }
+
+    // Takes the next item.
+    pub(crate) fn take(&mut self, alloc: Global, item: Line) -> Result<(), ItemFault>
+        ensures answer { Some (draft_kind self.old.draft) ≡ kind_before item → HasSigns item → (before : List Line) → IsAt self.old before → Answers result (first_fault (item_tests before (Some item))) }
+        ensures stands { Some (draft_kind self.old.draft) ≡ kind_before item → HasSigns item → (before : List Line) → IsAt self.old before → HasRoom before item → OnOk result (IsAt self.new (before ++ item ∷ [])) }
+    {
+        match self.draft.take(alloc, &self.nodes, item) {
+            Ok(()) => {
+                if is_counted(&item) {
+                    self.counted = self.counted.saturating_add(1);
+                }
+                Ok(())
+            }
+            Err(fault) => Err(fault),
+        }
+    }
+}
+
+// Whether a problem line counts lines as this one.
+fn is_counted(item: &Line) -> bool
+    ensures { result ≡ is_counted item.now }
+{
+    matches!(
+        item,
+        Line::MinArc { .. }
+            | Line::MaxArc { .. }
+            | Line::SpArc { .. }
+            | Line::Source { .. }
+            | Line::Query { .. }
+            | Line::Point { .. }
+    )
+}
