@@ -1,2 +1,13 @@
 pub mod ExampleLaws
 pub mod BundleLaws
+pub mod StepLaws
+pub mod WideLaws
+pub mod GrowLaws
+pub mod FixedLaws
+pub mod CurveLaws
+pub mod WalkLaws
+pub mod FormLaws
+pub mod LenLaws
+pub mod GapLaws
+pub mod PartLaws
+pub mod FoldLaws

@@ -15,3 +15,11 @@ pub mod Differences
 pub mod FillMeanings
 pub mod LengthKind
 pub mod TotalKind
+pub mod Adds
+pub mod StepArcs
+pub mod Means
+pub mod Joins
+pub mod Told
+pub mod Sound
+pub mod Canons
+pub mod CostKind

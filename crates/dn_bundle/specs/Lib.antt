@@ -11,4 +11,9 @@ pub mod Examples
 pub mod Bundles
 pub mod LeastTold
 pub mod TotalTold
+pub mod Steps
+pub mod Means
+pub mod CurveTold
+pub mod FixedArcs
+pub mod Gaps
 pub mod Laws

@@ -1,8 +1,8 @@
 // What the parallel arcs of one ordered pair of nodes mean.
-ghost use Rattle.std.specs.Prelude.{◌≡◌, ℕ, ◌+◌, ◌-◌, ◌^◌, ℤ, pos, ◌<ℤ◌, ◌↔◌, List, [], ◌∷◌, ◌++◌, length, IsTrue, OnOk, OnErr, MatchOption, slice_get};
+ghost use Rattle.std.specs.Prelude.{◌≡◌, ℕ, ◌+◌, ◌-◌, ◌^◌, ℤ, pos, ◌<ℤ◌, ◌↔◌, Bool, List, [], ◌∷◌, ◌++◌, length, IsTrue, OnOk, OnErr, MatchOption, slice_get};
 ghost use Rattle.std.specs.Option.{option_copied};
 ghost use Rattle.dn_bundle.specs.Kinds.{ArcKind};
-ghost use Rattle.dn_bundle.specs.Bundles.{IsKind, IsDetermined, NumbersFit, told_of};
+ghost use Rattle.dn_bundle.specs.Bundles.{IsKind, NumbersFit, told_of};
 ghost use Rattle.dn_bundle.specs.declared.arc.Form.{Form};
 
 use crate::arc::{Form, Parts};
@@ -31,6 +31,9 @@ pub trait Bundle: Sized + Drop {
     /// The canonical arcs that it tells, by form. It stands for the arcs that mean the same.
     ghost told: { Form → Self → List Self.Arc };
 
+    /// Whether it may want memory as it takes arcs.
+    ghost wants_memory: { Bool };
+
     /// The bundle of no arcs.
     fn empty(alloc: Global) -> Self
         ensures { (form : Form) → told form result ≡ [] };
@@ -45,7 +48,8 @@ pub trait Bundle: Sized + Drop {
         ensures ok { OnOk result (kind.Same (told Form.One self.new) (told Form.One self.old ++ arc ∷ [])) }
         ensures err { OnErr result (self.new ≡ self.old) }
         ensures sum { (result ≡ Err BundleFault.Sum)
-            ↔ (pos (2 ^ 63 - 1) <ℤ kind.capacity (told Form.One self.old ++ arc ∷ [])) };
+            ↔ (pos (2 ^ 63 - 1) <ℤ kind.capacity (told Form.One self.old ++ arc ∷ [])) }
+        ensures memory { (result ≡ Err BundleFault.Memory) → IsTrue wants_memory };
 
     /// Whether the meaning is that of no arcs.
     fn is_nothing(&self) -> bool

@@ -1,11 +1,16 @@
 // What the definitions of bundles say of one another.
-ghost use Rattle.std.specs.Prelude.{◌≡◌, ◌↔◌, ℤ, pos, List, [], ◌∷◌, ◌++◌};
+ghost use Rattle.std.specs.Prelude.{◌≡◌, ◌↔◌, ℤ, pos, List, [], ◌∷◌, ◌++◌, length};
+ghost use Rattle.std.specs.List.{AllByRecursion};
 ghost use Rattle.std.specs.List.Sorted.{IsPermutation};
 ghost use Rattle.dn_bundle.specs.Splits.{LeastCost};
 ghost use Rattle.dn_bundle.specs.Meanings.{IsMeaning, SameLength, SameTotal, SameCurve};
-ghost use Rattle.dn_bundle.specs.Canonical.{AreCanonLengths, AreCanonCaps, AreCanonCosts};
-ghost use Rattle.dn_bundle.specs.Fillings.{IsFilling};
+ghost use Rattle.dn_bundle.specs.Canonical.{IsCostArc, AreCanonLengths, AreCanonCaps, AreCanonCosts};
+ghost use Rattle.dn_bundle.specs.Fillings.{IsFilling, forced_units, forced_cost, free_costs};
 ghost use Rattle.dn_bundle.specs.Differences.{LengthsDiffer, TotalsDiffer, CurvesDiffer};
+ghost use Rattle.dn_bundle.specs.Bundles.{IsDetermined};
+ghost use Rattle.dn_bundle.specs.Laws.LengthKind.{length_determined};
+ghost use Rattle.dn_bundle.specs.Laws.TotalKind.{total_determined};
+ghost use Rattle.dn_bundle.specs.Laws.CostKind.{cost_determined};
 ghost use Rattle.dn_bundle.specs.declared.arc.LengthArc.{LengthArc};
 ghost use Rattle.dn_bundle.specs.declared.arc.CapArc.{CapArc};
 ghost use Rattle.dn_bundle.specs.declared.arc.CostArc.{CostArc};
@@ -13,6 +18,10 @@ ghost use Rattle.dn_bundle.specs.declared.arc.Form.{Form};
 ghost use Rattle.dn_bundle.specs.declared.difference.How.{How};
 
 use crate::arc::Form;
+use crate::bundle::Bundle;
+use crate::curve::Curve;
+use crate::least::Least;
+use crate::total::Total;
 
 /// An amount has at most one least cost.
 pub fn one_least_cost()
@@ -63,9 +72,38 @@ pub fn determination_of_sums()
     ensures capacities { (xs ys : List CapArc) → AreCanonCaps xs → AreCanonCaps ys → SameTotal xs ys → xs ≡ ys }
 {}
 
+/// The forced units, what they cost, and how many costs have free capacity follow from the meaning.
+pub fn parts_of_meaning()
+    ensures units { (xs ys : List CostArc) → AllByRecursion IsCostArc xs → AllByRecursion IsCostArc ys → SameCurve xs ys → forced_units xs ≡ forced_units ys }
+    ensures cost { (xs ys : List CostArc) → AllByRecursion IsCostArc xs → AllByRecursion IsCostArc ys → SameCurve xs ys → forced_cost xs ≡ forced_cost ys }
+    ensures costs { (xs ys : List CostArc) → AllByRecursion IsCostArc xs → AllByRecursion IsCostArc ys → SameCurve xs ys → length (free_costs xs) ≡ length (free_costs ys) }
+{}
+
 /// Arcs that mean the same differ nowhere.
 pub fn differences()
     ensures lengths { (xs ys : List LengthArc) (how : How) → LengthsDiffer xs ys how → SameLength xs ys → ⊥ }
     ensures capacities { (xs ys : List CapArc) (how : How) → TotalsDiffer xs ys how → SameTotal xs ys → ⊥ }
     ensures costs { (xs ys : List CostArc) (how : How) → CurvesDiffer xs ys how → SameCurve xs ys → ⊥ }
 {}
+
+/// The order of arcs does not matter to a bundle.
+pub fn any_order_of<B: Bundle>()
+    ensures { (xs ys : List B.Arc) → IsPermutation xs ys → B.kind.Same xs ys }
+{}
+
+/// Canonical arcs that mean the same are the same, in each form.
+pub trait Determined: Bundle {
+    ghost determined: { IsDetermined Self.kind };
+}
+
+impl Determined for Least {
+    ghost determined = { length_determined };
+}
+
+impl Determined for Total {
+    ghost determined = { total_determined };
+}
+
+impl Determined for Curve {
+    ghost determined = { cost_determined };
+}

@@ -1,5 +1,5 @@
 // The least length of the arcs of a pair.
-ghost use Rattle.std.specs.Prelude.{◌≡◌, ℤ, List, [], ◌∷◌, FitsSigned, MatchOption, refl};
+ghost use Rattle.std.specs.Prelude.{◌≡◌, ℤ, List, [], ◌∷◌, FitsSigned, MatchOption, refl, false};
 ghost use Rattle.std.specs.Int.{w64};
 ghost use Rattle.std.specs.Option.{ForSome};
 ghost use Rattle.std.proofs.Props.{props};
@@ -36,6 +36,8 @@ impl Bundle for Least {
 
     ghost told = { λ form b. length_told b.length };
 
+    ghost wants_memory = { false };
+
     ghost laws = { length_kind };
 
     ghost canonical = { λ form b. length_canonical b.length };
@@ -63,17 +65,16 @@ impl Bundle for Least {
     }
 
     fn is_nothing(&self) -> bool {
-        self.length.is_none()
+        self.get().is_none()
     }
 
     fn how(left: Option<&Least>, right: Option<&Least>) -> Option<How> {
         let left = left.and_then(|bundle| bundle.length);
         let right = right.and_then(|bundle| bundle.length);
         if left == right {
-            None
-        } else {
-            Some(How::Lengths { left, right })
+            return None;
         }
+        Some(How::Lengths { left, right })
     }
 
     fn entries(&self) -> u64 {
@@ -81,7 +82,7 @@ impl Bundle for Least {
     }
 
     fn canon_len(&self, _form: Form) -> u64 {
-        if self.length.is_some() { 1 } else { 0 }
+        self.entries()
     }
 
     fn canon_arc(&self, i: u64, _form: Form) -> Option<LengthArc> {

@@ -1,5 +1,5 @@
 // The total capacity of the arcs of a pair.
-ghost use Rattle.std.specs.Prelude.{◌≡◌, ◌-◌, ◌^◌, pos, ◌≤ℤ◌, refl};
+ghost use Rattle.std.specs.Prelude.{◌≡◌, ◌-◌, ◌^◌, pos, ◌≤ℤ◌, refl, false};
 ghost use Rattle.dn_bundle.specs.Kinds.{capacities};
 ghost use Rattle.dn_bundle.specs.Capacities.{total_cap};
 ghost use Rattle.dn_bundle.specs.TotalTold.{cap_told};
@@ -34,6 +34,8 @@ impl Bundle for Total {
 
     ghost told = { λ form b. cap_told b.total };
 
+    ghost wants_memory = { false };
+
     ghost laws = { total_kind };
 
     ghost canonical = { λ form b. total_canonical b.total };
@@ -53,43 +55,39 @@ impl Bundle for Total {
     }
 
     fn add(&mut self, arc: CapArc) -> Result<(), BundleFault> {
-        match self.total.checked_add(arc.cap) {
-            Some(total) => {
-                self.total = total;
-                Ok(())
-            }
-            None => Err(BundleFault::Sum),
-        }
+        let Some(total) = self.total.checked_add(arc.cap) else {
+            return Err(BundleFault::Sum);
+        };
+        *self = Total { total };
+        Ok(())
     }
 
     fn is_nothing(&self) -> bool {
-        self.total == 0
+        self.get() == 0
     }
 
     fn how(left: Option<&Total>, right: Option<&Total>) -> Option<How> {
         let left = left.map_or(0, |bundle| bundle.total);
         let right = right.map_or(0, |bundle| bundle.total);
         if left == right {
-            None
-        } else {
-            Some(How::Totals { left, right })
+            return None;
         }
+        Some(How::Totals { left, right })
     }
 
     fn entries(&self) -> u64 {
-        if self.total == 0 { 0 } else { 1 }
+        if self.is_nothing() { 0 } else { 1 }
     }
 
     fn canon_len(&self, _form: Form) -> u64 {
-        if self.total == 0 { 0 } else { 1 }
+        self.entries()
     }
 
     fn canon_arc(&self, i: u64, _form: Form) -> Option<CapArc> {
-        if self.total == 0 || i != 0 {
-            None
-        } else {
-            Some(CapArc { cap: self.total })
+        if i != 0 || self.is_nothing() {
+            return None;
         }
+        Some(CapArc { cap: self.total })
     }
 
     fn canon_after(&self, _arc: &CapArc, _form: Form) -> Option<CapArc> {

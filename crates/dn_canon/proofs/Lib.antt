@@ -9,3 +9,6 @@ pub mod InstanceItems
 pub mod FollowLaws
 pub mod PrintLaws
 pub mod TextLaws
+pub mod PutLaws
+pub mod LineLaws
+pub mod ToldLaws

@@ -43,7 +43,7 @@ before_less p k q h n = by_order (pair_cmp k q) refl n
 
 module _ {Arc : Type 0} where
   -- no arc stands at an earlier pair
-  abbrev NoneBefore : ℤ × ℤ → List ((ℤ × ℤ) × Arc) → Type 0
+  abbrev pub NoneBefore : ℤ × ℤ → List ((ℤ × ℤ) × Arc) → Type 0
   NoneBefore p xs = AllByRecursion (λ b. IsTrue (pair_le p b.0)) xs
 
   -- at a pair before the first there are none
@@ -56,7 +56,7 @@ module _ {Arc : Type 0} where
   none_from p b ys h n = ap (λ o. cond (is_eq o) (b.1 ∷ bundle p ys) (bundle p ys)) h ∙ none_at p b.0 ys h n
 
   -- at the pair of the first there is the first
-  at_head : (a : (ℤ × ℤ) × Arc) (xs : List ((ℤ × ℤ) × Arc)) → bundle a.0 (a ∷ xs) ≡ a.1 ∷ bundle a.0 xs
+  pub at_head : (a : (ℤ × ℤ) × Arc) (xs : List ((ℤ × ℤ) × Arc)) → bundle a.0 (a ∷ xs) ≡ a.1 ∷ bundle a.0 xs
   at_head a xs = ap (λ t. cond t (a.1 ∷ bundle a.0 xs) (bundle a.0 xs)) (pair_self a.0)
 
   -- arcs in order with the same bundles begin at one pair

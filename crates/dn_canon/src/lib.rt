@@ -1,6 +1,21 @@
 //! Canonical texts: which instances are canonical in each form, how an instance is printed, and which text is the
-//! canonical one of an instance.
+//! canonical one of an instance; where the bytes of a text go, and how a text is written without memory.
 #![tactic(auto)]
 
+pub mod bytes;
+mod canon;
 pub mod examples;
 pub mod laws;
+mod line;
+pub mod room;
+mod rows;
+pub mod sink;
+#[cfg(test)]
+mod tests;
+pub mod to_write;
+mod writer;
+
+pub use bytes::Bytes;
+pub use room::Room;
+pub use sink::{Sink, SinkFault};
+pub use to_write::ToWrite;

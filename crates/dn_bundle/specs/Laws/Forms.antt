@@ -64,10 +64,6 @@ mixed_ordered (a ∷ rest) m r = (m.0.is_arc, (λ some. none_cheaper a.cost rest
 pub form_two_ordered : (arcs : List CostArc) → IsFormTwo arcs → AreOrdered arcs
 form_two_ordered arcs f = mixed_ordered arcs f.each f.rising
 
-each_free_arc : (arcs : List CostArc) → AllByRecursion IsFreeArc arcs → AllByRecursion IsCostArc arcs
-each_free_arc [] f = tt
-each_free_arc (a ∷ rest) f = (free_arc_is a f.0, each_free_arc rest f.1)
-
 each_ordered_arc : (arcs : List CostArc) → AreOrdered arcs → AllByRecursion IsCostArc arcs
 each_ordered_arc [] o = tt
 each_ordered_arc (a ∷ rest) o = (o.0, each_ordered_arc rest o.2)
@@ -111,7 +107,7 @@ fill_past a rest y o none h =
     let z = fill_zero rest o in
     omega (arith, ints))
 
-apart : (fixed free : List CostArc) → AllByRecursion IsFixedArc fixed → AreFree free → IsApart (fixed ++ free) fixed free
+pub apart : (fixed free : List CostArc) → AllByRecursion IsFixedArc fixed → AreFree free → IsApart (fixed ++ free) fixed free
 apart [] free f g = free_apart free g.each
 apart (a ∷ rest) free f g =
     let i = apart rest free f.1 g in

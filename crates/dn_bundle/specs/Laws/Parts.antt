@@ -9,12 +9,18 @@ use Rattle.dn_bundle.specs.Fillings.{forced_units, forced_cost, room, free_room,
 use Rattle.dn_bundle.specs.Laws.Fills.{AreOrdered, fill_low, fill_high}
 use Rattle.dn_bundle.specs.Laws.Forms.{AreAbove, AreFree, AreFixed, IsApart, fill_past}
 
+pub test_yes : (x y : ℤ) → x <ℤ y → int_lt x y ≡ true
+test_yes x y h = grind (arith, ints)
+
+pub test_no : (x y : ℤ) → y ≤ℤ x → int_lt x y ≡ false
+test_no x y h = grind (arith, ints)
+
 -- by a test: what holds in both cases
 pub by_test : {A : Type 0} (P : A → Type 0) (x y : ℤ) (a b : A) → (x <ℤ y → P a) → (y ≤ℤ x → P b) → P (cond (int_lt x y) a b)
 by_test P x y a b f g =
     by_lt_z x y
-    (λ lt. let e : int_lt x y ≡ true = grind (arith, ints) in subst (λ t. P (cond t a b)) (sym e) (f lt))
-    (λ le. let e : int_lt x y ≡ false = grind (arith, ints) in subst (λ t. P (cond t a b)) (sym e) (g le))
+    (λ lt. subst (λ t. P (cond t a b)) (sym (test_yes x y lt)) (f lt))
+    (λ le. subst (λ t. P (cond t a b)) (sym (test_no x y le)) (g le))
 
 -- the fixed part of an arc, and the free one
 abbrev pub fixed_part : CostArc → CostArc

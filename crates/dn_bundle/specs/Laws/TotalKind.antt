@@ -16,6 +16,7 @@ use Rattle.dn_bundle.specs.Differences.{TotalsDiffer}
 use Rattle.dn_bundle.specs.TotalTold.{cap_told}
 use Rattle.dn_bundle.specs.Laws.Totals.{total_meaning, totals_determined, totals_differ}
 use Rattle.dn_bundle.specs.Laws.Parts.{by_test}
+use Rattle.dn_bundle.specs.Laws.Means.{fits_some}
 
 abbrev all_numbers : Option CapArc → List ℤ
 all_numbers None = []
@@ -75,12 +76,4 @@ pub total_canonical : (z : ℤ) → AreCanonCaps (cap_told z)
 total_canonical z = by_test AreCanonCaps (pos 0) z (record { cap = z } ∷ []) [] (λ lt. omega (arith, ints)) (λ le. tt)
 
 pub total_fit : (z : ℤ) → pos 0 ≤ℤ z → z ≤ℤ pos (2 ^ 63 - 1) → NumbersFit capacities (cap_told z)
-total_fit z h g = by_test (NumbersFit capacities) (pos 0) z (record { cap = z } ∷ []) [] (λ lt. ((fits z h g, tt), tt)) (λ le. tt)
-  where
-    fits : (z : ℤ) → pos 0 ≤ℤ z → z ≤ℤ pos (2 ^ 63 - 1) → FitsSigned w64 z
-    fits (pos n) h g = record { sfits = omega (arith, ints) }
-    fits (negsuc n) h g = absurd (omega (arith, ints))
-
--- what a total tells has that total
-pub total_told : (z : ℤ) → pos 0 ≤ℤ z → total_cap (cap_told z) ≡ z
-total_told z h = by_test (λ (l : List CapArc). total_cap l ≡ z) (pos 0) z (record { cap = z } ∷ []) [] (λ lt. omega (arith, ints)) (λ le. omega (arith, ints))
+total_fit z h g = by_test (NumbersFit capacities) (pos 0) z (record { cap = z } ∷ []) [] (λ lt. ((fits_some z h g, tt), tt)) (λ le. tt)

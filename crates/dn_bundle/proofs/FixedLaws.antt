@@ -1,0 +1,56 @@
+use Rattle.std.proofs.Common.{◌≡◌, ◌-◌, ◌^◌, ℤ, pos, negsuc, ◌+ℤ◌, ◌-ℤ◌, ◌≤ℤ◌, ◌<ℤ◌, [], ◌∷◌, refl, sym, ap, ◌∙◌, arith, w64, to_z, of_z, cond}
+use Rattle.std.specs.Int.RustNames.{FitsSigned}
+use Rattle.std.proofs.lemmas.Int.{ints, to_z-of_z}
+use Rattle.dn_bundle.specs.Means.{IsFloor}
+use Rattle.dn_bundle.specs.CurveTold.{fixed_arc, spread_arcs, fixed_arcs}
+use Rattle.dn_bundle.specs.Laws.FormOne.{fixed_same}
+use Rattle.dn_bundle.specs.Laws.Parts.{test_yes, test_no}
+use Rattle.dn_bundle.specs.Laws.Told.{spread_carries, fixed_carries}
+
+-- the units spread by their cost for each are the fixed arcs
+floor_arcs : (units cost each rest : ℤ) → pos 0 <ℤ units → IsFloor cost units each rest → spread_arcs units each rest ≡ fixed_arcs units cost
+floor_arcs units cost each rest h f =
+    let a = spread_carries units each rest cost h f in
+    let b = fixed_carries units cost (omega (arith, ints)) (λ e. absurd (omega (arith, ints))) in
+    fixed_same _ _ a.are b.are (a.units_is ∙ sym b.units_is) (a.cost_is ∙ sym b.cost_is)
+
+pub not_zero : (z : ℤ) → FitsSigned w64 z → (of_z w64 z ≡ 0 → ⊥) → pos 0 ≤ℤ z → pos 0 <ℤ z
+not_zero (pos n) f h g = omega (arith, ints)
+not_zero (negsuc n) f h g = absurd (omega (arith, ints))
+
+pub is_zero : (z : ℤ) → FitsSigned w64 z → of_z w64 z ≡ 0 → z ≡ pos 0
+is_zero z f h = sym (to_z-of_z w64 z f) ∙ ap (to_z w64) h
+
+fits_less : (units rest : ℤ) → FitsSigned w64 units → pos 0 ≤ℤ rest → rest <ℤ units → FitsSigned w64 (units -ℤ rest)
+fits_less (pos u) (pos r) f h g = fits_pos ((pos u) -ℤ (pos r)) (omega (arith, ints)) (omega (arith, ints, f.sfits))
+  where
+    fits_pos : (z : ℤ) → pos 0 ≤ℤ z → z ≤ℤ pos (2 ^ 63 - 1) → FitsSigned w64 z
+    fits_pos (pos n) h k = record { sfits = omega (arith, ints) }
+    fits_pos (negsuc n) h k = absurd (omega (arith, ints))
+fits_less (negsuc u) rest f h g = absurd (omega (arith, ints))
+fits_less (pos u) (negsuc r) f h g = absurd (omega (arith, ints))
+
+-- the fixed arcs, as the code makes them
+module _ (units cost each rest : ℤ) (fu : FitsSigned w64 units) (fe : FitsSigned w64 each) (fr : FitsSigned w64 rest) (some : pos 0 ≤ℤ units) (nonzero : of_z w64 units ≡ 0 → ⊥) (f : IsFloor cost units each rest) where
+  pub one_fixed : of_z w64 rest ≡ 0 → fixed_arc (to_z w64 (of_z w64 units)) (to_z w64 (of_z w64 each)) ∷ [] ≡ fixed_arcs units cost
+  one_fixed z =
+      let lt = not_zero units fu nonzero some in
+      let e = is_zero rest fr z in
+      ap (λ u. fixed_arc u (to_z w64 (of_z w64 each)) ∷ []) (to_z-of_z w64 units fu) ∙ ap (λ p. fixed_arc units p ∷ []) (to_z-of_z w64 each fe)
+      ∙ ap (λ b. cond b (fixed_arc (units -ℤ rest) each ∷ fixed_arc rest (each +ℤ pos 1) ∷ []) (fixed_arc units each ∷ [])) (sym (test_no (pos 0) rest (omega (arith, ints))))
+      ∙ floor_arcs units cost each rest lt f
+
+  pub two_fixed : (of_z w64 rest ≡ 0 → ⊥) → fixed_arc (to_z w64 (of_z w64 (to_z w64 (of_z w64 units) -ℤ to_z w64 (of_z w64 rest)))) (to_z w64 (of_z w64 each)) ∷ fixed_arc (to_z w64 (of_z w64 rest)) (to_z w64 (of_z w64 each) +ℤ pos 1) ∷ [] ≡ fixed_arcs units cost
+  two_fixed z =
+      let lt = not_zero units fu nonzero some in
+      let left = not_zero rest fr z f.low in
+      let e1 : to_z w64 (of_z w64 units) -ℤ to_z w64 (of_z w64 rest) ≡ units -ℤ rest = rw (to_z-of_z w64 units fu, to_z-of_z w64 rest fr) refl in
+      let e2 = ap (λ z. to_z w64 (of_z w64 z)) e1 ∙ to_z-of_z w64 (units -ℤ rest) (fits_less units rest fu f.low f.high) in
+      ap (λ u. fixed_arc u (to_z w64 (of_z w64 each)) ∷ fixed_arc (to_z w64 (of_z w64 rest)) (to_z w64 (of_z w64 each) +ℤ pos 1) ∷ []) e2
+      ∙ ap (λ p. fixed_arc (units -ℤ rest) p ∷ fixed_arc (to_z w64 (of_z w64 rest)) (p +ℤ pos 1) ∷ []) (to_z-of_z w64 each fe)
+      ∙ ap (λ r. fixed_arc (units -ℤ rest) each ∷ fixed_arc r (each +ℤ pos 1) ∷ []) (to_z-of_z w64 rest fr)
+      ∙ ap (λ b. cond b (fixed_arc (units -ℤ rest) each ∷ fixed_arc rest (each +ℤ pos 1) ∷ []) (fixed_arc units each ∷ [])) (sym (test_yes (pos 0) rest left))
+      ∙ floor_arcs units cost each rest lt f
+
+pub zero_is : (z : ℤ) → z ≡ pos 0 → of_z w64 z ≡ 0
+zero_is z e = ap (of_z w64) e

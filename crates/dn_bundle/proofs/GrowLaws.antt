@@ -1,0 +1,159 @@
+use Rattle.std.proofs.Common.{◌≡◌, ◌-◌, ◌^◌, ℤ, pos, negsuc, ◌+ℤ◌, ◌-ℤ◌, ◌*ℤ◌, ◌≤ℤ◌, ◌<ℤ◌, List, [], ◌∷◌, ◌++◌, map, refl, sym, ap, ◌∙◌, subst, arith, w64, to_z, of_z, cond, Result, Ok, Err, IfErr}
+use Rattle.std.specs.Int.{w128}
+use Rattle.std.specs.Int.RustNames.{FitsSigned, int_lt}
+use Rattle.std.specs.List.{AllByRecursion}
+use Rattle.std.proofs.lemmas.Int.{ints, to_z-of_z, by_lt_z}
+use Rattle.dn_bundle.specs.declared.arc.CostArc.{CostArc}
+use Rattle.dn_bundle.specs.declared.arc.Form.TheVariants.{One}
+use Rattle.dn_bundle.specs.declared.bundle.BundleFault.{BundleFault}
+use Rattle.dn_bundle.specs.declared.bundle.BundleFault.TheVariants.{Sum, Memory}
+use Rattle.dn_bundle.specs.declared.curve.Curve.{Curve}
+use Rattle.dn_bundle.specs.Splits.{cost_cap}
+use Rattle.dn_bundle.specs.Meanings.{SameCurve}
+use Rattle.dn_bundle.specs.Canonical.{IsCostArc}
+use Rattle.dn_bundle.specs.Steps.{put_step, add_step, AreSteps, steps_room}
+use Rattle.dn_bundle.specs.CurveTold.{free_arc, step_arc, told, IsSound}
+use Rattle.dn_bundle.specs.Laws.Splits.{SameAbove}
+use Rattle.dn_bundle.specs.Laws.Curves.{above_meaning}
+use Rattle.dn_bundle.specs.Laws.Parts.{by_test}
+use Rattle.dn_bundle.specs.Laws.Adds.{above_none}
+use Rattle.dn_bundle.specs.Laws.Means.{more_mean, fits_some}
+use Rattle.dn_bundle.specs.Laws.StepArcs.{steps_some, put_steps, put_room, put_above}
+use Rattle.dn_bundle.specs.Laws.CostKind.{cost_kind}
+use Rattle.dn_bundle.specs.Laws.Sound.{IsSound-prop, none_is, sound_cap, told_added}
+use Rattle.dn_bundle.proofs.WideLaws.{more_fits}
+
+pub most : (z : ℤ) → FitsSigned w64 z → z ≤ℤ pos (2 ^ 63 - 1)
+most (pos n) f = omega (arith, ints, f.sfits)
+most (negsuc n) f = omega (arith, ints)
+
+-- a curve whose steps are as they were is as it was
+pub same_steps : (old : Curve) (steps : List (ℤ × ℤ)) (sound : IsSound old.units old.cost old.total steps) → steps ≡ old.steps → record { units = old.units; cost = old.cost; total = old.total; steps = steps; sound = sound } ≡ old
+same_steps old steps sound e =
+    let P : List (ℤ × ℤ) → Type 0 = λ z. (s : IsSound old.units old.cost old.total z) → record { units = old.units; cost = old.cost; total = old.total; steps = z; sound = s } ≡ old in
+    subst P (sym e) (λ s. ap (λ (p : IsSound old.units old.cost old.total old.steps). let c : Curve = record { units = old.units; cost = old.cost; total = old.total; steps = old.steps; sound = p } in c) (IsSound-prop old.units old.cost old.total old.steps s old.sound)) sound
+
+abbrev CostsFit : List (ℤ × ℤ) → Type 0
+CostsFit steps = AllByRecursion (λ (step : ℤ × ℤ). FitsSigned w64 step.0) steps
+
+fit_put : (steps : List (ℤ × ℤ)) (more : ℤ × ℤ) → FitsSigned w64 more.0 → CostsFit steps → CostsFit (put_step steps more)
+fit_put [] more f g = (f, tt)
+fit_put (step ∷ rest) more f g =
+    by_test CostsFit more.0 step.0 (more ∷ step ∷ rest) (cond (int_lt step.0 more.0) (step ∷ put_step rest more) ((step.0, step.1 +ℤ more.1) ∷ rest))
+    (λ lt. (f, g))
+    (λ le. by_test CostsFit step.0 more.0 (step ∷ put_step rest more) ((step.0, step.1 +ℤ more.1) ∷ rest) (λ lt. (g.0, fit_put rest more f g.1)) (λ ge. g))
+
+-- a curve, an arc, and the total with it
+module _ (units cost total : ℤ) (steps : List (ℤ × ℤ)) (a : CostArc) (total' : ℤ) (s : IsSound units cost total steps) (h : IsCostArc a) (e : total' ≡ total +ℤ a.cap) (ft : FitsSigned w64 total') where
+  pub units_most : (units +ℤ a.low) ≤ℤ pos (2 ^ 63 - 1)
+  units_most =
+      let whole = s.whole in
+      let left = steps_some steps s.rising in
+      let room = h.room in
+      let m = most total' ft in
+      omega (arith, ints)
+
+  pub cost_fits : FitsSigned w64 a.cost → FitsSigned w128 (cost +ℤ (a.low *ℤ a.cost))
+  cost_fits f = more_fits cost a.low a.cost units s.some h.some units_most f s.mean
+
+  pub units_fit : FitsSigned w64 (units +ℤ a.low)
+  units_fit = let some = s.some in let low = h.some in fits_some (units +ℤ a.low) (omega (arith, ints)) units_most
+
+  pub room_fits : FitsSigned w64 (a.cap -ℤ a.low)
+  room_fits =
+      let whole = s.whole in
+      let left = steps_some steps s.rising in
+      let some = s.some in
+      let low = h.some in
+      let room = h.room in
+      let m = most total' ft in
+      fits_some (a.cap -ℤ a.low) (omega (arith, ints)) (omega (arith, ints))
+
+  abbrev more : ℤ × ℤ
+  more = (a.cost, a.cap -ℤ a.low)
+
+  added : SameAbove (map step_arc (add_step steps more)) (free_arc a.cost (a.cap -ℤ a.low) ∷ map step_arc steps)
+  added =
+      let room = h.room in
+      by_test (λ (l : List (ℤ × ℤ)). SameAbove (map step_arc l) (free_arc a.cost (a.cap -ℤ a.low) ∷ map step_arc steps)) (pos 0) (a.cap -ℤ a.low) (put_step steps more) steps
+      (λ lt. put_above steps more (omega (arith, ints)) s.rising)
+      (λ le. above_meaning.same_sym _ _ (above_none a.cost (a.cap -ℤ a.low) (map step_arc steps) (omega (arith, ints))))
+
+  rises : AreSteps (add_step steps more)
+  rises = by_test AreSteps (pos 0) (a.cap -ℤ a.low) (put_step steps more) steps (λ lt. put_steps steps more (omega (arith, ints)) s.rising) (λ le. s.rising)
+
+  rooms : steps_room (add_step steps more) ≡ steps_room steps +ℤ (a.cap -ℤ a.low)
+  rooms =
+      let room = h.room in
+      by_test (λ (l : List (ℤ × ℤ)). steps_room l ≡ steps_room steps +ℤ (a.cap -ℤ a.low)) (pos 0) (a.cap -ℤ a.low) (put_step steps more) steps (λ lt. put_room steps more) (λ le. omega (arith, ints))
+
+  module _ (fk : FitsSigned w64 a.cost) where
+    grown : IsSound (units +ℤ a.low) (cost +ℤ (a.low *ℤ a.cost)) total' (add_step steps more)
+    grown =
+        let some = s.some in
+        let low = h.some in
+        let whole = s.whole in
+        let r = rooms in
+        record {
+          some = omega (arith, ints);
+          mean = more_mean cost a.low a.cost units s.some h.some fk s.mean;
+          whole = omega (arith, ints);
+          most = most total' ft;
+          rising = rises;
+          fit = by_test CostsFit (pos 0) (a.cap -ℤ a.low) (put_step steps more) steps (λ lt. fit_put steps more fk s.fit) (λ le. s.fit);
+        }
+
+    -- the values as the code keeps them
+    module _ (u c t : ℤ) (l : List (ℤ × ℤ)) (eu : u ≡ units +ℤ a.low) (ec : c ≡ cost +ℤ (a.low *ℤ a.cost)) (et : t ≡ total') (el : l ≡ add_step steps more) where
+      pub grown_sound : IsSound u c t l
+      grown_sound =
+          subst (λ z. IsSound z c t l) (sym eu) (subst (λ z. IsSound (units +ℤ a.low) z t l) (sym ec)
+          (subst (λ z. IsSound (units +ℤ a.low) (cost +ℤ (a.low *ℤ a.cost)) z l) (sym et)
+          (subst (λ z. IsSound (units +ℤ a.low) (cost +ℤ (a.low *ℤ a.cost)) total' z) (sym el) grown)))
+
+      pub grown_same : SameCurve (told One u c l) (told One units cost steps ++ a ∷ [])
+      grown_same =
+          let n = grown_sound in
+          told_added units cost u c steps l a s.some (none_is units cost total steps s) s.rising n.some (none_is u c t l n) n.rising eu ec
+          (subst (λ z. SameAbove (map step_arc z) (free_arc a.cost (a.cap -ℤ a.low) ∷ map step_arc steps)) (sym el) added)
+
+  -- the step as the code makes it
+  pub step_is : FitsSigned w64 a.cost → FitsSigned w64 a.low → FitsSigned w64 a.cap → (to_z w64 (of_z w64 a.cost), to_z w64 (of_z w64 (to_z w64 (of_z w64 a.cap) -ℤ to_z w64 (of_z w64 a.low)))) ≡ more
+  step_is f g k =
+      ap (λ z. (z, to_z w64 (of_z w64 (to_z w64 (of_z w64 a.cap) -ℤ to_z w64 (of_z w64 a.low))))) (to_z-of_z w64 a.cost f)
+      ∙ ap (λ z. (a.cost, z)) ((rw (to_z-of_z w64 a.cap k, to_z-of_z w64 a.low g) refl) ∙ to_z-of_z w64 (a.cap -ℤ a.low) room_fits)
+
+  pub units_are : FitsSigned w64 units → FitsSigned w64 a.low → to_z w64 (of_z w64 (to_z w64 (of_z w64 units) +ℤ to_z w64 (of_z w64 a.low))) ≡ units +ℤ a.low
+  units_are f g = (rw (to_z-of_z w64 units f, to_z-of_z w64 a.low g) refl) ∙ to_z-of_z w64 (units +ℤ a.low) units_fit
+
+-- the sum of capacities with an arc more
+pushed : (units cost total : ℤ) (steps : List (ℤ × ℤ)) (a : CostArc) → IsSound units cost total steps → cost_cap (told One units cost steps ++ a ∷ []) ≡ total +ℤ a.cap
+pushed units cost total steps a s =
+    let e = cost_kind.capacity_append (told One units cost steps) (a ∷ []) in
+    let f = sound_cap units cost total steps s One in
+    omega (arith, ints)
+
+two_are : (a b : ℤ) → FitsSigned w64 a → FitsSigned w64 b → to_z w64 (of_z w64 a) +ℤ to_z w64 (of_z w64 b) ≡ a +ℤ b
+two_are a b f g = rw (to_z-of_z w64 a f, to_z-of_z w64 b g) refl
+
+-- the sum does not fit
+pub too_much : (units cost total : ℤ) (steps : List (ℤ × ℤ)) (a : CostArc) → IsSound units cost total steps → IsCostArc a → FitsSigned w64 total → FitsSigned w64 a.cap → (FitsSigned w64 (to_z w64 (of_z w64 total) +ℤ to_z w64 (of_z w64 a.cap)) → ⊥) → pos (2 ^ 63 - 1) <ℤ cost_cap (told One units cost steps ++ a ∷ [])
+too_much units cost total steps a s h f g n =
+    let whole = s.whole in
+    let left = steps_some steps s.rising in
+    let some = s.some in
+    let low = h.some in
+    let room = h.room in
+    subst (λ z. pos (2 ^ 63 - 1) <ℤ z) (sym (pushed units cost total steps a s))
+    (by_lt_z (pos (2 ^ 63 - 1)) (total +ℤ a.cap) (λ lt. lt) (λ le. absurd (n (subst (FitsSigned w64) (sym (two_are total a.cap f g)) (fits_some (total +ℤ a.cap) (omega (arith, ints)) le)))))
+
+-- the sum fits
+pub not_too_much : (units cost total : ℤ) (steps : List (ℤ × ℤ)) (a : CostArc) → IsSound units cost total steps → FitsSigned w64 total → FitsSigned w64 a.cap → FitsSigned w64 (to_z w64 (of_z w64 total) +ℤ to_z w64 (of_z w64 a.cap)) → pos (2 ^ 63 - 1) <ℤ cost_cap (told One units cost steps ++ a ∷ []) → ⊥
+not_too_much units cost total steps a s f g fits n =
+    let e = pushed units cost total steps a s in
+    let m = most (total +ℤ a.cap) (subst (FitsSigned w64) (two_are total a.cap f g) fits) in
+    absurd (omega (arith, ints))
+
+pub memory_alone : (r : Result (Unit {0}) BundleFault) → IfErr r (λ e. e ≡ Memory) → r ≡ Err Sum → ⊥
+memory_alone (Ok u) h e = cc
+memory_alone (Err f) h e = cc

@@ -1,0 +1,433 @@
+// The least cost of each amount.
+ghost use Rattle.std.specs.Prelude.{◌≡◌, ◌-◌, ◌^◌, ℤ, pos, ◌+ℤ◌, ◌≤ℤ◌, ◌<ℤ◌, List, [], ◌∷◌, ◌++◌, length, map, filter, slice_get, OnOk, OnErr, IfErr, MatchOption, refl, ℕ, ◌+◌, Some, find, cond, int_lt, FitsSigned, true};
+ghost use Rattle.std.specs.Option.{option_map, ForSome};
+ghost use Rattle.std.specs.Int.{w64};
+ghost use Rattle.dn_bundle.specs.Steps.{has_step};
+ghost use Rattle.dn_bundle.specs.Kinds.{costs};
+ghost use Rattle.dn_bundle.specs.Meanings.{SameCurve};
+ghost use Rattle.dn_bundle.specs.Canonical.{IsCostArc, has_low};
+ghost use Rattle.dn_bundle.specs.Fillings.{forced_units, forced_cost, free_costs};
+ghost use Rattle.dn_bundle.specs.Differences.{IsCostOf, IsGap};
+ghost use Rattle.dn_bundle.specs.CurveTold.{told, fixed_arc, fixed_arcs, step_arc, joined_head, IsSound};
+ghost use Rattle.dn_bundle.specs.FixedArcs.{fixed_list, HasNext, is_free};
+ghost use Rattle.dn_bundle.specs.Laws.Sound.{IsSound-prop, sound_canonical, sound_same, sound_fit};
+ghost use Rattle.dn_bundle.specs.Laws.CostKind.{cost_kind};
+ghost use Rattle.dn_bundle.specs.declared.arc.Form.{Form};
+ghost use Rattle.dn_bundle.specs.declared.difference.How.TheVariants.{Costs};
+
+use crate::arc::{CostArc, Form};
+use crate::bundle::{Bundle, BundleFault};
+use crate::difference::{Gap, How};
+use crate::gap::first_gap;
+use crate::steps::Steps;
+use crate::wide::{floor, more_cost};
+use std::alloc::Global;
+
+/// The fixed arcs of a curve: `above` units cost one more than `cost`.
+#[derive(Clone, Copy, Debug, PartialEq, Eq)]
+pub enum Fixed {
+    Zero,
+    One { units: i64, cost: i64 },
+    Two { units: i64, cost: i64, above: i64 },
+}
+
+/// The least cost of each amount that the arcs of a `min` pair can carry.
+#[derive(Drop)]
+pub struct Curve {
+    // The forced units, and what they cost.
+    units: i64,
+    cost: i128,
+    // The capacities together.
+    total: i64,
+    // The free capacity by rising cost.
+    steps: Steps,
+    ghost sound: { IsSound units cost total steps } by { IsSound-prop units cost total steps },
+}
+
+impl Curve {
+    /// The forced units, and what they cost.
+    pub fn forced(&self) -> (i64, i128)
+        ensures units { result.0 ≡ forced_units (⟦<Curve as Bundle>⟧.told Form.One self.now) }
+        ensures cost { result.1 ≡ forced_cost (⟦<Curve as Bundle>⟧.told Form.One self.now) }
+    {
+        (self.units, self.cost)
+    }
+
+    /// The fixed arcs of form 1.
+    pub fn fixed(&self) -> Fixed
+        ensures { fixed_list result ≡ filter has_low (⟦<Curve as Bundle>⟧.told Form.One self.now) }
+    {
+        self.spread()
+    }
+
+    /// How many costs have free capacity.
+    pub fn free_len(&self) -> u64
+        ensures arcs { result ≡ length (filter is_free (⟦<Curve as Bundle>⟧.told Form.One self.now)) }
+        ensures costs { result ≡ length (free_costs (⟦<Curve as Bundle>⟧.told Form.One self.now)) }
+    {
+        self.steps.len()
+    }
+
+    /// The free arc at `i` by rising cost, counted from 0: its cost, and its capacity.
+    pub fn free(&self, i: u64) -> Option<(i64, i64)>
+        ensures { option_map step_arc result ≡ slice_get (filter is_free (⟦<Curve as Bundle>⟧.told Form.One self.now)) i }
+    {
+        self.steps.get(i)
+    }
+
+    /// The least cost of carrying `x`, or `None` where no split of it exists.
+    pub fn least(&self, x: i64) -> Option<i128>
+        ensures { IsCostOf (⟦<Curve as Bundle>⟧.told Form.One self.now) x result }
+    {
+        if x < self.units {
+            return None;
+        }
+        let mut taken = self.units;
+        let mut cost = self.cost;
+        for step in self.steps.iter() {
+            let left = x - taken;
+            if left <= step.1 {
+                return Some(more_cost(&cost, &left, &step.0));
+            }
+            cost = more_cost(&cost, &step.1, &step.0);
+            taken += step.1;
+        }
+        if x == taken { Some(cost) } else { None }
+    }
+
+    /// The least amount at which the curves differ, and the least cost there on each side.
+    pub fn gap(&self, other: &Curve) -> Option<Gap>
+        ensures { MatchOption result
+            (SameCurve (⟦<Curve as Bundle>⟧.told Form.One self.now) (⟦<Curve as Bundle>⟧.told Form.One other.now))
+            (IsGap (⟦<Curve as Bundle>⟧.told Form.One self.now) (⟦<Curve as Bundle>⟧.told Form.One other.now)) }
+    {
+        if self.units < other.units {
+            Some(Gap {
+                amount: self.units,
+                left: Some(self.cost),
+                right: None,
+            })
+        } else if other.units < self.units {
+            Some(Gap {
+                amount: other.units,
+                left: None,
+                right: Some(other.cost),
+            })
+        } else if self.cost != other.cost {
+            Some(Gap {
+                amount: self.units,
+                left: Some(self.cost),
+                right: Some(other.cost),
+            })
+        } else {
+            first_gap(self.units, self.cost, self.steps.iter(), other.steps.iter())
+        }
+    }
+
+    // Where the curve and that of no arcs, on the right, first differ.
+    fn gap_to_none(&self) -> Option<Gap>
+        ensures { MatchOption result
+            (SameCurve (told Form.One self.now.units self.now.cost self.now.steps) [])
+            (IsGap (told Form.One self.now.units self.now.cost self.now.steps) []) }
+    {
+        if self.units != 0 {
+            return Some(Gap {
+                amount: 0,
+                left: None,
+                right: Some(0),
+            });
+        }
+        let step = self.steps.first()?;
+        Some(Gap {
+            amount: 1,
+            left: Some(step.0 as i128),
+            right: None,
+        })
+    }
+
+    // Where the curve of no arcs, on the left, and this one first differ.
+    fn gap_from_none(&self) -> Option<Gap>
+        ensures { MatchOption result
+            (SameCurve [] (told Form.One self.now.units self.now.cost self.now.steps))
+            (IsGap [] (told Form.One self.now.units self.now.cost self.now.steps)) }
+    {
+        let gap = self.gap_to_none()?;
+        Some(Gap {
+            amount: gap.amount,
+            left: gap.right,
+            right: gap.left,
+        })
+    }
+
+    // The fixed arcs.
+    fn spread(&self) -> Fixed
+        ensures value { fixed_list result ≡ fixed_arcs self.now.units self.now.cost }
+        ensures next { HasNext result }
+    {
+        if self.units == 0 {
+            return Fixed::Zero;
+        }
+        let (each, rest) = floor(&self.cost, &self.units);
+        if rest == 0 {
+            Fixed::One {
+                units: self.units,
+                cost: each,
+            }
+        } else {
+            Fixed::Two {
+                units: self.units - rest,
+                cost: each,
+                above: rest,
+            }
+        }
+    }
+
+    // Takes an arc that leaves this total.
+    fn grow(&mut self, arc: CostArc, total: i64) -> Result<(), BundleFault>
+        requires arc { IsCostArc arc }
+        requires total { total ≡ self.old.total +ℤ arc.cap }
+        ensures ok { OnOk result (SameCurve (told Form.One self.new.units self.new.cost self.new.steps) (told Form.One self.old.units self.old.cost self.old.steps ++ arc ∷ [])) }
+        ensures err { OnErr result (self.new ≡ self.old) }
+        ensures memory { IfErr result (λ e. e ≡ BundleFault.Memory) }
+    {
+        match self.steps.add((arc.cost, arc.cap - arc.low)) {
+            Err(_) => Err(BundleFault::Memory),
+            Ok(()) => {
+                self.cost = more_cost(&self.cost, &arc.low, &arc.cost);
+                self.units += arc.low;
+                self.total = total;
+                Ok(())
+            }
+        }
+    }
+}
+
+// A difference in costs.
+fn by_costs(gap: Option<Gap>) -> Option<How>
+    ensures { result ≡ option_map Costs gap }
+{
+    match gap {
+        Some(gap) => Some(How::Costs(gap)),
+        None => None,
+    }
+}
+
+fn fixed_at(units: i64, cost: i64) -> CostArc
+    ensures { result ≡ fixed_arc units cost }
+{
+    CostArc {
+        low: units,
+        cap: units,
+        cost,
+    }
+}
+
+fn free_at(step: (i64, i64)) -> CostArc
+    ensures { result ≡ step_arc step }
+{
+    CostArc {
+        low: 0,
+        cap: step.1,
+        cost: step.0,
+    }
+}
+
+fn free_of(step: Option<(i64, i64)>) -> Option<CostArc>
+    ensures { result ≡ option_map step_arc step }
+{
+    match step {
+        Some(step) => Some(free_at(step)),
+        None => None,
+    }
+}
+
+// The first of a fixed arc and the free capacity; at one cost they are one arc.
+fn join(fixed: CostArc, step: Option<(i64, i64)>) -> CostArc
+    requires { ForSome step (λ step. fixed.cost ≡ step.0 → FitsSigned w64 (fixed.cap +ℤ step.1)) }
+    ensures { result ≡ joined_head fixed (option_map step_arc step) }
+{
+    match step {
+        Some(step) if step.0 < fixed.cost => free_at(step),
+        Some(step) if step.0 == fixed.cost => CostArc {
+            low: fixed.low,
+            cap: fixed.cap + step.1,
+            cost: step.0,
+        },
+        _ => fixed,
+    }
+}
+
+impl Curve {
+    // The first canonical arc.
+    fn first_arc(&self, form: Form) -> Option<CostArc>
+        ensures { result ≡ slice_get (told form self.now.units self.now.cost self.now.steps) 0 }
+    {
+        let step = self.steps.first();
+        let Some(fixed) = self.first_fixed() else {
+            return free_of(step);
+        };
+        match form {
+            Form::One => Some(fixed),
+            Form::Two => Some(join(fixed, step)),
+        }
+    }
+
+    // The first fixed arc.
+    fn first_fixed(&self) -> Option<CostArc>
+        ensures { result ≡ slice_get (fixed_arcs self.now.units self.now.cost) 0 }
+    {
+        match self.spread() {
+            Fixed::Zero => None,
+            Fixed::One { units, cost } => Some(fixed_at(units, cost)),
+            Fixed::Two { units, cost, .. } => Some(fixed_at(units, cost)),
+        }
+    }
+
+    // The first fixed arc past a cost.
+    fn fixed_past(&self, past: &i64) -> Option<CostArc>
+        ensures { result ≡ find (λ b. int_lt past.now b.cost) (fixed_arcs self.now.units self.now.cost) }
+    {
+        match self.spread() {
+            Fixed::One { units, cost } if *past < cost => Some(fixed_at(units, cost)),
+            Fixed::Two { units, cost, .. } if *past < cost => Some(fixed_at(units, cost)),
+            Fixed::Two { cost, above, .. } if *past == cost => Some(fixed_at(above, cost + 1)),
+            _ => None,
+        }
+    }
+
+    // How many canonical arcs form 1 has.
+    fn len_one(&self) -> u64
+        ensures { result ≡ length (told Form.One self.now.units self.now.cost self.now.steps) }
+    {
+        match self.spread() {
+            Fixed::Zero => self.steps.len(),
+            Fixed::One { .. } => self.steps.len() + 1,
+            Fixed::Two { .. } => self.steps.len() + 2,
+        }
+    }
+
+    // How many canonical arcs form 2 has.
+    fn len_two(&self) -> u64
+        ensures { result ≡ length (told Form.Two self.now.units self.now.cost self.now.steps) }
+    {
+        match self.spread() {
+            Fixed::Zero => self.steps.len(),
+            Fixed::One { cost, .. } => self.steps.len() + self.missing(&cost),
+            Fixed::Two { cost, .. } => self.steps.len()
+                + self.missing(&cost)
+                + self.missing(&(cost + 1)),
+        }
+    }
+
+    // One where no free capacity stands at the cost.
+    fn missing(&self, cost: &i64) -> u64
+        ensures { result ≡ cond (has_step self.now.steps cost.now) 0 1 }
+    {
+        if self.steps.has(cost) { 0 } else { 1 }
+    }
+
+    // The canonical arc of form 1 after an arc.
+    fn after_one(&self, arc: &CostArc) -> Option<CostArc>
+        ensures { (i : ℕ) → slice_get (told Form.One self.now.units self.now.cost self.now.steps) i ≡ Some arc.now
+            → result ≡ slice_get (told Form.One self.now.units self.now.cost self.now.steps) (i + 1) }
+    {
+        if arc.low == 0 {
+            return free_of(self.steps.past(&arc.cost));
+        }
+        match self.fixed_past(&arc.cost) {
+            Some(fixed) => Some(fixed),
+            None => free_of(self.steps.first()),
+        }
+    }
+
+    // The canonical arc of form 2 past a cost.
+    fn past_two(&self, past: &i64) -> Option<CostArc>
+        ensures { result ≡ find (λ b. int_lt past.now b.cost) (told Form.Two self.now.units self.now.cost self.now.steps) }
+    {
+        let step = self.steps.past(past);
+        match self.fixed_past(past) {
+            Some(fixed) => Some(join(fixed, step)),
+            None => free_of(step),
+        }
+    }
+}
+
+impl Bundle for Curve {
+    type Arc = CostArc;
+
+    ghost kind = { costs };
+
+    ghost told = { λ form b. told form b.units b.cost b.steps };
+
+    ghost wants_memory = { true };
+
+    ghost laws = { cost_kind };
+
+    ghost canonical = { λ form b. sound_canonical b.units b.cost b.total b.steps b.sound form };
+
+    ghost same_forms = { λ b. sound_same b.units b.cost b.total b.steps b.sound };
+
+    ghost fit = { λ form b. sound_fit b.units b.cost b.total b.steps b.sound form };
+
+    ghost same_numbers = { λ a. refl };
+
+    fn empty(alloc: Global) -> Curve {
+        Curve {
+            units: 0,
+            cost: 0,
+            total: 0,
+            steps: Steps::new(alloc),
+        }
+    }
+
+    fn is_arc(arc: &CostArc) -> bool {
+        0 <= arc.low && arc.low <= arc.cap
+    }
+
+    fn add(&mut self, arc: CostArc) -> Result<(), BundleFault> {
+        match self.total.checked_add(arc.cap) {
+            Some(total) => self.grow(arc, total),
+            None => Err(BundleFault::Sum),
+        }
+    }
+
+    fn is_nothing(&self) -> bool {
+        self.total == 0
+    }
+
+    fn how(left: Option<&Curve>, right: Option<&Curve>) -> Option<How> {
+        match (left, right) {
+            (None, None) => None,
+            (Some(left), None) => by_costs(left.gap_to_none()),
+            (None, Some(right)) => by_costs(right.gap_from_none()),
+            (Some(left), Some(right)) => by_costs(left.gap(right)),
+        }
+    }
+
+    fn entries(&self) -> u64 {
+        let forced: u64 = if self.units == 0 { 0 } else { 1 };
+        forced + self.steps.len()
+    }
+
+    fn canon_len(&self, form: Form) -> u64 {
+        match form {
+            Form::One => self.len_one(),
+            Form::Two => self.len_two(),
+        }
+    }
+
+    fn canon_arc(&self, i: u64, form: Form) -> Option<CostArc> {
+        let mut arc = self.first_arc(form)?;
+        for _k in 0..i {
+            arc = self.canon_after(&arc, form)?;
+        }
+        Some(arc)
+    }
+
+    fn canon_after(&self, arc: &CostArc, form: Form) -> Option<CostArc> {
+        match form {
+            Form::One => self.after_one(arc),
+            Form::Two => self.past_two(&arc.cost),
+        }
+    }
+}

@@ -1,0 +1,204 @@
+// Free capacity by rising cost.
+ghost use Rattle.std.specs.Prelude.{◌≡◌, ◌-◌, ◌^◌, ℤ, pos, ◌+ℤ◌, ◌≤ℤ◌, List, [], length, slice_get, OnOk, OnErr, ◌≤◌};
+ghost use Rattle.std.specs.Iterator.{YieldsFirst, item_count};
+ghost use Rattle.dn_bundle.specs.Steps.{put_step, add_step, step_past, has_step, AreSteps, steps_room};
+
+use std::alloc::{AllocError, Global};
+use std::collections::BTreeMap;
+use std::collections::btree_map::Iter;
+use std::marker::Model;
+use std::ops::Bound;
+
+/// Free capacity by rising cost. The least cost stands beside the map, so that one step takes no memory.
+#[derive(Drop)]
+pub struct Steps {
+    first: Option<(i64, i64)>,
+    rest: BTreeMap<i64, i64>,
+}
+
+impl Model for Steps {
+    ghost use Rattle.std.specs.Prelude.{ℤ, List};
+
+    ghost Value = { List (ℤ × ℤ) };
+
+    ghost use Rattle.dn_bundle.specs.Steps.{steps_of, IsFirst};
+
+    ghost view = { λ a. steps_of a.first a.rest.entries };
+
+    ghost invariant = { λ a. IsFirst a.first a.rest.entries };
+}
+
+// Puts capacity into a map, which joins what is there.
+fn put_in(map: &mut BTreeMap<i64, i64>, step: (i64, i64)) -> Result<(), AllocError>
+    requires some { pos 0 ≤ℤ step.1 }
+    requires steps { AreSteps map.old.entries }
+    requires fits { (steps_room map.old.entries +ℤ step.1) ≤ℤ pos (2 ^ 63 - 1) }
+    ensures ok { OnOk result (map.new.entries ≡ put_step map.old.entries step) }
+    ensures err { OnErr result (map.new.entries ≡ map.old.entries) }
+{
+    let held = map.get(&step.0).copied().unwrap_or(0);
+    map.insert(step.0, held + step.1)?;
+    Ok(())
+}
+
+// The first step past a cost.
+fn past_in(map: &BTreeMap<i64, i64>, cost: &i64) -> Option<(i64, i64)>
+    ensures { result ≡ step_past map.now.entries cost.now }
+{
+    let mut past = map.range((Bound::Excluded(*cost), Bound::Unbounded));
+    let (each, room) = past.next()?;
+    Some((*each, *room))
+}
+
+// Whether there is capacity at a cost.
+fn has_in(map: &BTreeMap<i64, i64>, cost: &i64) -> bool
+    ensures { result ≡ has_step map.now.entries cost.now }
+{
+    map.contains_key(cost)
+}
+
+impl Steps {
+    /// No free capacity.
+    pub fn new(alloc: Global) -> Steps
+        ensures { result ≡ [] }
+    {
+        Steps {
+            first: None,
+            rest: BTreeMap::new(alloc),
+        }
+    }
+
+    /// How many costs have free capacity.
+    pub fn len(&self) -> u64
+        ensures len { result ≡ length self.now }
+        ensures small { result ≤ 2 ^ 63 }
+    {
+        match self.first {
+            Some(_) => (self.rest.len() as u64).saturating_add(1),
+            None => 0,
+        }
+    }
+
+    /// The least cost, and the capacity at it.
+    pub fn first(&self) -> Option<(i64, i64)>
+        ensures { result ≡ slice_get self.now 0 }
+    {
+        self.first
+    }
+
+    /// The step at `i` by rising cost, counted from 0.
+    pub fn get(&self, i: u64) -> Option<(i64, i64)>
+        ensures { result ≡ slice_get self.now i }
+    {
+        let mut left = i;
+        for step in self.iter() {
+            if left == 0 {
+                return Some(step);
+            }
+            left -= 1;
+        }
+        None
+    }
+
+    /// The first step past a cost.
+    pub fn past(&self, cost: &i64) -> Option<(i64, i64)>
+        ensures { result ≡ step_past self.now cost.now }
+    {
+        match &self.first {
+            Some(first) if first.0 <= *cost => past_in(&self.rest, cost),
+            first => *first,
+        }
+    }
+
+    /// Whether there is capacity at a cost.
+    pub fn has(&self, cost: &i64) -> bool
+        ensures { result ≡ has_step self.now cost.now }
+    {
+        match &self.first {
+            Some(first) => *cost == first.0 || has_in(&self.rest, cost),
+            None => false,
+        }
+    }
+
+    // Puts capacity at a cost, which joins what is there. On an error nothing has changed.
+    fn put(&mut self, step: (i64, i64)) -> Result<(), AllocError>
+        requires some { pos 1 ≤ℤ step.1 }
+        requires steps { AreSteps self.old }
+        requires fits { (steps_room self.old +ℤ step.1) ≤ℤ pos (2 ^ 63 - 1) }
+        ensures ok { OnOk result (self.new ≡ put_step self.old step) }
+        ensures err { OnErr result (self.new ≡ self.old) }
+    {
+        match self.first {
+            None => self.first = Some(step),
+            Some(least) => {
+                if step.0 < least.0 {
+                    self.rest.insert(least.0, least.1)?;
+                    self.first = Some(step);
+                } else if least.0 < step.0 {
+                    put_in(&mut self.rest, step)?;
+                } else {
+                    self.first = Some((least.0, least.1 + step.1));
+                }
+            }
+        }
+        Ok(())
+    }
+
+    /// Puts capacity at a cost, if there is any. On an error nothing has changed.
+    pub fn add(&mut self, step: (i64, i64)) -> Result<(), AllocError>
+        requires some { pos 0 ≤ℤ step.1 }
+        requires steps { AreSteps self.old }
+        requires fits { (steps_room self.old +ℤ step.1) ≤ℤ pos (2 ^ 63 - 1) }
+        ensures ok { OnOk result (self.new ≡ add_step self.old step) }
+        ensures err { OnErr result (self.new ≡ self.old) }
+    {
+        if 0 < step.1 { self.put(step) } else { Ok(()) }
+    }
+
+    /// The steps by rising cost.
+    pub fn iter(&self) -> StepsIter<'_>
+        ensures { result ≡ self.now }
+    {
+        StepsIter {
+            first: self.first,
+            rest: self.rest.iter(),
+        }
+    }
+}
+
+/// The steps that are left, by rising cost.
+#[derive(Drop)]
+pub struct StepsIter<'a> {
+    first: Option<(i64, i64)>,
+    rest: Iter<'a, i64, i64>,
+}
+
+impl<'a> Model for StepsIter<'a> {
+    ghost use Rattle.std.specs.Prelude.{ℤ, List, ◌++◌};
+    ghost use Rattle.std.specs.Option.{option_to_list};
+
+    ghost Value = { List (ℤ × ℤ) };
+
+    ghost view = { λ a. option_to_list a.first ++ a.rest };
+}
+
+impl<'a> Iterator for StepsIter<'a> {
+    type Item = (i64, i64);
+
+    ghost next_gives = { YieldsFirst (λ s. s) };
+
+    ghost remaining = { item_count (λ s. s) };
+
+    fn next(&mut self) -> Option<(i64, i64)> {
+        match self.first {
+            Some(step) => {
+                self.first = None;
+                Some(step)
+            }
+            None => {
+                let (cost, room) = self.rest.next()?;
+                Some((*cost, *room))
+            }
+        }
+    }
+}

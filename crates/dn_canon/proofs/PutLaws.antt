@@ -1,0 +1,144 @@
+-- How a text goes into a sink piece by piece.
+use Rattle.std.proofs.Common.{◌≡◌, ℕ, ◌+◌, ◌-◌, ◌<◌, ◌≤◌, ℤ, List, [], ◌∷◌, ◌++◌, length, map, take, drop, Bool, Option, Some, None, Result, Ok, Err, IsErr, IsTrue, slice_get, get_or, suc, zero, refl, ap, sym, ◌∙◌, subst, arith, append_assoc, append-nil, take-append-drop}
+use Rattle.std.proofs.Math.Seq.{drop-cons}
+use Rattle.std.proofs.lemmas.List.{take_all, drop_all, length-drop, drop-drop, map-append}
+use Rattle.std.proofs.lemmas.List.Folds.{concat-append}
+use Rattle.std.proofs.lemmas.Option.{slice_get_within, slice_get-get_or, get_or_from_slice_get}
+use Rattle.std.proofs.lemmas.Result.{MatchResult-from_err}
+use Rattle.std.proofs.KnownBytes.{Appends-trans, Appends-nil}
+use Rattle.std.specs.Borrow.{Bor}
+use Rattle.std.specs.List.{concat}
+use Rattle.dn_line.specs.declared.kind.Kind.{Kind}
+use Rattle.dn_line.specs.declared.word.Keyword.TheVariants.{A, S, T}
+use Rattle.dn_bundle.specs.Kinds.{ArcKind}
+use Rattle.dn_instance.specs.Instances.{Graph}
+use Rattle.dn_canon.specs.declared.sink.SinkFault.{SinkFault}
+use Rattle.dn_canon.specs.Sinks.{Took}
+use Rattle.dn_canon.specs.Prints.{line_text, row, graph_row, companion_row, terminal_row, arc_row, graph_rows}
+use Rattle.dn_canon.specs.Puts.{HasPut, PutsFront, Puts}
+use Rattle.dn_canon.specs.ToldArcs.{placed, told_arcs}
+use Rattle.dn_canon.specs.Writes.{text_of, node_rows}
+use Rattle.dn_canon.specs.declared.writer.NodeLines.{NodeLines}
+use Rattle.dn_canon.specs.declared.writer.NodeLines.TheVariants.{Terminals}
+
+-- nothing is put so far
+pub put_from : {K : Type 0} {taken : K → Option (List ℕ)} {has_failed : K → Bool} {a : K} {left all : List ℕ} → left ≡ all → HasPut taken has_failed a a left all
+put_from {K} {taken} {has_failed} {a} {left} {all} e = record { put = []; bytes = Appends-nil (taken a); whole = e; stays = λ f. f }
+
+-- the next n bytes of a piece are put
+pub put_part : {K : Type 0} (taken : K → Option (List ℕ)) (has_failed : K → Bool) (a b c : K) (piece : List ℕ) (at n : ℕ) → HasPut taken has_failed a b (drop at piece) piece
+    → Took (taken b) (taken c) (has_failed c) (take (length piece - at) (drop at piece)) n → (IsTrue (has_failed b) → IsTrue (has_failed c)) → HasPut taken has_failed a c (drop (at + n) piece) piece
+put_part taken has_failed a b c piece at n h t stays =
+    let rest : take (length piece - at) (drop at piece) ≡ drop at piece = take_all (length piece - at) (drop at piece) (omega (arith, length-drop at piece)) in
+    let front : take n (take (length piece - at) (drop at piece)) ++ drop (at + n) piece ≡ drop at piece =
+    ap (λ l. take n l ++ drop (at + n) piece) rest ∙ ap (λ l. take n (drop at piece) ++ l) (sym (drop-drop n at piece)) ∙ take-append-drop n (drop at piece) in
+    record {
+      put = h.put ++ take n (take (length piece - at) (drop at piece));
+      bytes = Appends-trans (taken a) (taken b) (taken c) h.put _ h.bytes t.bytes;
+      whole = append_assoc h.put _ (drop (at + n) piece) ∙ ap (λ l. h.put ++ l) front ∙ h.whole;
+      stays = λ f. stays (h.stays f);
+    }
+
+module _ {K : Type 0} {taken : K → Option (List ℕ)} {has_failed : K → Bool} {a b c : K} where
+  -- the next piece is put
+  pub put_more : {x rest all : List ℕ} → HasPut taken has_failed a b (x ++ rest) all → HasPut taken has_failed b c [] x → HasPut taken has_failed a c rest all
+  put_more {x} {rest} {all} h p = record {
+    put = h.put ++ p.put;
+    bytes = Appends-trans (taken a) (taken b) (taken c) h.put p.put h.bytes p.bytes;
+    whole = append_assoc h.put p.put rest ∙ ap (λ l. h.put ++ (l ++ rest)) (sym (append-nil p.put) ∙ p.whole) ∙ h.whole;
+    stays = λ f. p.stays (h.stays f);
+  }
+
+  -- a front of the next piece is put
+  pub put_stop : (x rest : List ℕ) {all : List ℕ} → HasPut taken has_failed a b (x ++ rest) all → PutsFront taken has_failed b c x → PutsFront taken has_failed a c all
+  put_stop x rest {all} h f = record {
+    left = f.left ++ rest;
+    has = record {
+      put = h.put ++ f.has.put;
+      bytes = Appends-trans (taken a) (taken b) (taken c) h.put f.has.put h.bytes f.has.bytes;
+      whole =
+          append_assoc h.put f.has.put (f.left ++ rest) ∙ ap (λ l. h.put ++ l) (sym (append_assoc f.has.put f.left rest) ∙ ap (λ l. l ++ rest) f.has.whole)
+          ∙ h.whole;
+      stays = λ t. f.has.stays (h.stays t);
+    };
+    failed = f.failed;
+  }
+
+  -- the line of the next row is put
+  pub row_more : {X : Type 0} {all line : List ℕ} (row : X → List (List ℕ)) (left rest : List X) (x : X) → left ≡ x ∷ rest → line ≡ line_text (row x)
+      → HasPut taken has_failed a b (text_of (map row left)) all → HasPut taken has_failed b c [] line → HasPut taken has_failed a c (text_of (map row rest)) all
+  row_more {X} {all} {line} row left rest x e f h p =
+      put_more (subst (λ xs. HasPut taken has_failed a b (text_of (map row xs)) all) e h) (subst (λ l. HasPut taken has_failed b c [] l) f p)
+
+  -- a front of it is put
+  pub row_stop : {X : Type 0} {all line : List ℕ} (row : X → List (List ℕ)) (left rest : List X) (x : X) → left ≡ x ∷ rest → line ≡ line_text (row x)
+      → HasPut taken has_failed a b (text_of (map row left)) all → PutsFront taken has_failed b c line → PutsFront taken has_failed a c all
+  row_stop {X} {all} {line} row left rest x e f h p =
+      put_stop (line_text (row x)) (text_of (map row rest)) (subst (λ xs. HasPut taken has_failed a b (text_of (map row xs)) all) e h) (subst (λ l. PutsFront taken has_failed b c l) f p)
+
+-- what is left is put
+pub put_last : {K : Type 0} (taken : K → Option (List ℕ)) (has_failed : K → Bool) (a b c : K) (x all : List ℕ) (r : Result (Unit {0}) SinkFault) → HasPut taken has_failed a b x all → Puts taken has_failed b c x r → Puts taken has_failed a c all r
+put_last taken has_failed a b c x all (Ok u) h p = put_more (subst (λ l. HasPut taken has_failed a b l all) (sym (append-nil x)) h) p
+put_last taken has_failed a b c x all (Err e) h p = put_stop x [] (subst (λ l. HasPut taken has_failed a b l all) (sym (append-nil x)) h) p
+
+-- a refused call hands on its fault
+pub stopped : {K : Type 0} {taken : K → Option (List ℕ)} {has_failed : K → Bool} {a b : K} {all : List ℕ} (r : Result (Unit {0}) SinkFault) → IsErr r → PutsFront taken has_failed a b all → Puts taken has_failed a b all r
+stopped r is f = MatchResult-from_err r _ _ is (λ e. f)
+
+-- the rows of two lists
+text-append : (rs ss : List (List (List ℕ))) → text_of (rs ++ ss) ≡ text_of rs ++ text_of ss
+text-append rs ss = ap concat (map-append line_text rs ss) ∙ concat-append (map line_text rs) (map line_text ss)
+
+-- the arcs of the next bundle, and those of the bundles after it
+pub bundle_text : {B Arc : Type 0} (kind : ArcKind Arc) (tells : B → List Arc) (left rest : List ((ℤ × ℤ) × B)) (e : (ℤ × ℤ) × B) → left ≡ e ∷ rest
+    → text_of (map (arc_row kind) (told_arcs tells left)) ≡ text_of (map (arc_row kind) (placed e.0 (tells e.1))) ++ text_of (map (arc_row kind) (told_arcs tells rest))
+bundle_text kind tells left rest e is =
+    ap (λ es. text_of (map (arc_row kind) (told_arcs tells es))) is ∙ ap text_of (map-append (arc_row kind) (placed e.0 (tells e.1)) (told_arcs tells rest))
+    ∙ text-append (map (arc_row kind) (placed e.0 (tells e.1))) (map (arc_row kind) (told_arcs tells rest))
+
+-- the elements from one on
+pub drop_get : {X : Type 0} (xs : List X) (i : ℕ) (x : X) → slice_get xs i ≡ Some x → drop i xs ≡ x ∷ drop (i + 1) xs
+drop_get xs i x e =
+    let next : suc i ≡ i + 1 = omega arith in
+    drop-cons xs i x (slice_get_within xs i x e) ∙ ap (λ y. y ∷ drop (suc i) xs) (get_or_from_slice_get xs i x x e) ∙ ap (λ n. x ∷ drop n xs) next
+
+none_past : {X : Type 0} (xs : List X) (i : ℕ) → i < length xs → slice_get xs i ≡ None → ⊥
+none_past [] i h e = omega arith
+none_past (x ∷ xs) zero h e = cc
+none_past (x ∷ xs) (suc i) h e = none_past xs i (omega arith) e
+
+-- there is an element below the length
+pub some_below : {X : Type 0} (xs : List X) (i : ℕ) (o : Option X) → i < length xs → o ≡ slice_get xs i → ((x : X) → o ≡ Some x → ⊥) → ⊥
+some_below xs i None h e n = none_past xs i h (sym e)
+some_below xs i (Some x) h e n = n x refl
+
+-- the element at an index, and those after it
+pub drop_here : {X : Type 0} (xs : List X) (i : ℕ) (d : X) → i < length xs → drop i xs ≡ get_or xs i d ∷ drop (i + 1) xs
+drop_here xs i d h = drop_get xs i (get_or xs i d) (slice_get-get_or xs i d h)
+
+-- no row is left
+pub rows_done : {K : Type 0} {taken : K → Option (List ℕ)} {has_failed : K → Bool} {a b : K} {all : List ℕ} {X : Type 0} (row : X → List (List ℕ)) (xs : List X) (i : ℕ) → length xs ≤ i
+    → HasPut taken has_failed a b (text_of (map row (drop i xs))) all → HasPut taken has_failed a b [] all
+rows_done {K} {taken} {has_failed} {a} {b} {all} row xs i h has = subst (λ l. HasPut taken has_failed a b (text_of (map row l)) all) (drop_all i xs h) has
+
+-- a graph's text, in parts
+pub graph_text : {Arc : Type 0} (arcs : ArcKind Arc) (kind : Kind) (graph : Graph Arc) (nodes : List (List (List ℕ))) (count : ℕ) (line : List ℕ) → line ≡ line_text (graph_row kind graph.nodes count) → count ≡ length graph.arcs
+    → line ++ (text_of nodes ++ (text_of (map (arc_row arcs) graph.arcs) ++ [])) ≡ text_of (graph_rows arcs kind graph nodes)
+graph_text arcs kind graph nodes count line e f =
+    ap (λ l. line ++ (text_of nodes ++ l)) (append-nil (text_of (map (arc_row arcs) graph.arcs)))
+    ∙ ap (λ l. line ++ l) (sym (text-append nodes (map (arc_row arcs) graph.arcs)))
+    ∙ ap (λ l. l ++ text_of (nodes ++ map (arc_row arcs) graph.arcs)) (e ∙ ap (λ n. line_text (graph_row kind graph.nodes n)) f)
+
+-- an arc's line
+pub arc_text : {Arc : Type 0} (arcs : ArcKind Arc) (pair : ℤ × ℤ) (arc : Arc) (ns : List ℤ) (line : List ℕ) → line ≡ line_text (row A (pair.0 ∷ pair.1 ∷ ns)) → arcs.numbers arc ≡ ns → line ≡ line_text (arc_row arcs (pair, arc))
+arc_text arcs pair arc ns line e f = e ∙ ap (λ ms. line_text (row A (pair.0 ∷ pair.1 ∷ ms))) (sym f)
+
+-- a companion's problem line, and what comes after it
+pub companion_text : (kind : Kind) (n m : ℕ) (line rest : List ℕ) → line ≡ line_text (companion_row kind n) → n ≡ m → line ++ rest ≡ line_text (companion_row kind m) ++ rest
+companion_text kind n m line rest e f = ap (λ l. l ++ rest) (e ∙ ap (λ k. line_text (companion_row kind k)) f)
+
+-- the source's line, and the sink's
+pub terminals_text : (nodes : NodeLines) (source target : Bor ℤ) (first second : List ℕ) → nodes ≡ Terminals source target → first ≡ line_text (terminal_row source.now S) → second ≡ line_text (terminal_row target.now T)
+    → first ++ second ≡ text_of (node_rows nodes)
+terminals_text nodes source target first second is e f =
+    ap (λ l. l ++ second) e ∙ ap (λ l. line_text (terminal_row source.now S) ++ l) (f ∙ sym (append-nil (line_text (terminal_row target.now T)))) ∙ ap (λ n. text_of (node_rows n)) (sym is)

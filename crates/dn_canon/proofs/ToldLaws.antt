@@ -1,0 +1,214 @@
+-- The arcs that the bundles of a table tell make the canonical graph of what the table stands for.
+use Rattle.std.proofs.Common.{◌≡◌, ℤ, pos, negsuc, ◌-◌, ◌^◌, ◌≤ℤ◌, List, [], ◌∷◌, ◌++◌, Bool, true, false, cond, Option, Some, None, w64, refl, sym, ap, ◌∙◌, subst, arith, append-nil}
+use Rattle.std.proofs.lemmas.Bool.Decides.{nat_tests}
+use Rattle.std.proofs.lemmas.Map.Keys.{sorted_head, sorted_tail}
+use Rattle.std.specs.Int.RustNames.{FitsSigned}
+use Rattle.std.specs.List.{AllByRecursion}
+use Rattle.std.specs.List.Sorted.{IsStrictlySortedBy}
+use Rattle.std.specs.Map.{keys_of, lookup}
+use Rattle.std.specs.Ordering.{is_eq, is_le}
+use Rattle.std.specs.declared.cmp.Ordering.{Ordering}
+use Rattle.std.specs.declared.cmp.Ordering.TheVariants.{Less, Equal, Greater}
+use Rattle.dn_line.specs.Number.{fits}
+use Rattle.dn_bundle.specs.declared.arc.Form.{Form}
+use Rattle.dn_bundle.specs.declared.arc.Form.TheVariants.{One, Two}
+use Rattle.dn_bundle.specs.Kinds.{ArcKind, StandsFor, costs, capacities, lengths}
+use Rattle.dn_bundle.specs.declared.arc.LengthArc.{LengthArc}
+use Rattle.dn_bundle.specs.declared.arc.CapArc.{CapArc}
+use Rattle.dn_bundle.specs.declared.arc.CostArc.{CostArc}
+use Rattle.dn_bundle.specs.Bundles.{IsKind, NumbersFit}
+use Rattle.dn_instance.specs.Instances.{Graph, Instance, MinCostFlow, MaxFlow, ShortestPaths, Sources, Queries, Coordinates}
+use Rattle.dn_instance.specs.Pairs.{pair_cmp, same_pair, bundle}
+use Rattle.dn_instance.specs.Tables.{told_by, told_at}
+use Rattle.dn_instance.specs.Validity.{Fits, IsNode, IsPlaced, IsValidGraph, IsValid, AreSupplies, AreTerminals}
+use Rattle.dn_instance.proofs.PairLaws.{pair_is, pair_self}
+use Rattle.dn_canon.specs.CanonInstances.{AreInOrder}
+use Rattle.dn_canon.specs.CanonTexts.{IsCanonOf}
+use Rattle.dn_canon.specs.Prints.{print}
+use Rattle.dn_canon.specs.ToldArcs.{placed, told_arcs, told_graph, IsCanonFor}
+use Rattle.dn_canon.proofs.OrderLaws.{NoneBefore, at_head}
+
+-- an instance without a graph
+abbrev pub IsCompanion : Instance → Type 0
+IsCompanion (Sources ids) = Unit {0}
+IsCompanion (Queries pairs) = Unit {0}
+IsCompanion (Coordinates points) = Unit {0}
+IsCompanion _ = ⊥
+
+-- what bundles tell in each form is canonical, means the same in both, and has numbers of 64 bits
+pub record TellsCanon {B Arc : Type 0} (kind : ArcKind Arc) (told : Form → B → List Arc) : Type 0 where
+  pub canonical : (form : Form) (b : B) → kind.IsCanon form (told form b)
+  pub same_forms : (b : B) → kind.Same (told Two b) (told One b)
+  pub fit : (form : Form) (b : B) → NumbersFit kind (told form b)
+
+equal_le : (o : Ordering) → is_eq o ≡ true → is_le o ≡ true
+equal_le Less e = refl
+equal_le Equal e = refl
+equal_le Greater e = cc
+
+fits_signed : (n : ℤ) → FitsSigned w64 n → fits n ≡ true
+fits_signed (pos n) f = (let h = f.sfits in grind (arith, nat_tests))
+fits_signed (negsuc n) f = (let h = f.sfits in grind (arith, nat_tests))
+
+all_fit : (ns : List ℤ) → AllByRecursion (FitsSigned w64) ns → AllByRecursion Fits ns
+all_fit [] h = tt
+all_fit (n ∷ ns) h = (fits_signed n h.0, all_fit ns h.1)
+
+module _ {Arc : Type 0} where
+  -- the arcs of a pair, where those of one pair come first
+  bundle_placed : (q p : ℤ × ℤ) (xs : List Arc) (rest : List ((ℤ × ℤ) × Arc)) → bundle q (placed p xs ++ rest) ≡ cond (same_pair q p) (xs ++ bundle q rest) (bundle q rest)
+  bundle_placed q p [] rest = by_test (same_pair q p) (bundle q rest)
+    where
+      by_test : (t : Bool) (ys : List Arc) → ys ≡ cond t ys ys
+      by_test true ys = refl
+      by_test false ys = refl
+  bundle_placed q p (x ∷ xs) rest = ap (λ l. cond (same_pair q p) (x ∷ l) l) (bundle_placed q p xs rest) ∙ by_test (same_pair q p) xs (bundle q rest)
+    where
+      by_test : (t : Bool) (ys zs : List Arc) → cond t (x ∷ cond t (ys ++ zs) zs) (cond t (ys ++ zs) zs) ≡ cond t ((x ∷ ys) ++ zs) zs
+      by_test true ys zs = refl
+      by_test false ys zs = refl
+
+  -- arcs of one pair, and arcs in order none of which stands before it
+  order_placed : (p : ℤ × ℤ) (xs : List Arc) (rest : List ((ℤ × ℤ) × Arc)) → NoneBefore p rest → AreInOrder rest → NoneBefore p (placed p xs ++ rest) × AreInOrder (placed p xs ++ rest)
+  order_placed p [] rest n r = (n, r)
+  order_placed p (x ∷ xs) rest n r = let more = order_placed p xs rest n r in ((equal_le (pair_cmp p p) (pair_self p), more.0), (more.0, more.1))
+
+  before_placed : (k p : ℤ × ℤ) (xs : List Arc) (rest : List ((ℤ × ℤ) × Arc)) → pair_cmp k p ≡ Less → NoneBefore k rest → NoneBefore k (placed p xs ++ rest)
+  before_placed k p [] rest e n = n
+  before_placed k p (x ∷ xs) rest e n = (ap is_le e, before_placed k p xs rest e n)
+
+  -- what holds of the arcs of each pair holds of each arc
+  all_from : (P : (ℤ × ℤ) × Arc → Type 0) (arcs : List ((ℤ × ℤ) × Arc)) → ((q : ℤ × ℤ) → AllByRecursion (λ x. P (q, x)) (bundle q arcs)) → AllByRecursion P arcs
+  all_from P [] h = tt
+  all_from P (a ∷ rest) h =
+      let here : AllByRecursion (λ x. P (a.0, x)) (a.1 ∷ bundle a.0 rest) = subst (AllByRecursion (λ x. P (a.0, x))) (at_head a rest) (h a.0) in
+      (here.0, all_from P rest (λ q. tail q (same_pair q a.0) (h q)))
+    where
+      tail : (q : ℤ × ℤ) (t : Bool) → AllByRecursion (λ x. P (q, x)) (cond t (a.1 ∷ bundle q rest) (bundle q rest)) → AllByRecursion (λ x. P (q, x)) (bundle q rest)
+      tail q true e = e.1
+      tail q false e = e
+
+  -- and what holds of each arc, of the arcs of each pair
+  all_at_pair : (P : (ℤ × ℤ) × Arc → Type 0) (Q : Arc → Type 0) → ((a : (ℤ × ℤ) × Arc) → P a → Q a.1) → (q : ℤ × ℤ) (arcs : List ((ℤ × ℤ) × Arc)) → AllByRecursion P arcs → AllByRecursion Q (bundle q arcs)
+  all_at_pair P Q h q [] all = tt
+  all_at_pair P Q h q (a ∷ rest) all = by_test (same_pair q a.0) (all_at_pair P Q h q rest all.1)
+    where
+      by_test : (t : Bool) → AllByRecursion Q (bundle q rest) → AllByRecursion Q (cond t (a.1 ∷ bundle q rest) (bundle q rest))
+      by_test true more = (h a all.0, more)
+      by_test false more = more
+
+  -- a pair that has an arc joins two nodes
+  nodes_at : (kind : ArcKind Arc) (n : ℤ) (arcs : List ((ℤ × ℤ) × Arc)) (q : ℤ × ℤ) (x : Arc) (xs : List Arc) → AllByRecursion (IsPlaced kind n) arcs → bundle q arcs ≡ x ∷ xs → IsNode n q.0 × IsNode n q.1
+  nodes_at kind n [] q x xs v e = cc
+  nodes_at kind n (a ∷ rest) q x xs v e = by_test (same_pair q a.0) refl e (nodes_at kind n rest q x xs v.1)
+    where
+      by_test : (t : Bool) → same_pair q a.0 ≡ t → cond t (a.1 ∷ bundle q rest) (bundle q rest) ≡ x ∷ xs → (bundle q rest ≡ x ∷ xs → IsNode n q.0 × IsNode n q.1) → IsNode n q.0 × IsNode n q.1
+      by_test true f g h = subst (λ (p : ℤ × ℤ). IsNode n p.0 × IsNode n p.1) (sym (pair_is q a.0 f)) (v.0.tail, v.0.head)
+      by_test false f g h = h g
+
+  module _ {B : Type 0} (tells : B → List Arc) where
+    none_before : (k : ℤ × ℤ) (es : List ((ℤ × ℤ) × B)) → AllByRecursion (λ y. pair_cmp k y ≡ Less) (keys_of es) → NoneBefore k (told_arcs tells es)
+    none_before k [] h = tt
+    none_before k (e ∷ es) h = before_placed k e.0 (tells e.1) (told_arcs tells es) h.0 (none_before k es h.1)
+
+    -- the told arcs stand by rising pair
+    told_order : (es : List ((ℤ × ℤ) × B)) → IsStrictlySortedBy pair_cmp (keys_of es) → AreInOrder (told_arcs tells es)
+    told_order [] s = tt
+    told_order (e ∷ es) s =
+        (order_placed e.0 (tells e.1) (told_arcs tells es) (none_before e.0 es (sorted_head pair_cmp e.0 (keys_of es) s)) (told_order es (sorted_tail pair_cmp e.0 (keys_of es) s))).1
+
+    none_told : (k : ℤ × ℤ) (es : List ((ℤ × ℤ) × B)) → AllByRecursion (λ y. pair_cmp k y ≡ Less) (keys_of es) → bundle k (told_arcs tells es) ≡ []
+    none_told k [] h = refl
+    none_told k (e ∷ es) h =
+        bundle_placed k e.0 (tells e.1) (told_arcs tells es)
+        ∙ ap (λ o. cond (is_eq o) (tells e.1 ++ bundle k (told_arcs tells es)) (bundle k (told_arcs tells es))) h.0
+        ∙ none_told k es h.1
+
+    -- those of a pair are what its bundle tells
+    told_bundle : (q : ℤ × ℤ) (es : List ((ℤ × ℤ) × B)) → IsStrictlySortedBy pair_cmp (keys_of es) → bundle q (told_arcs tells es) ≡ told_at tells es q
+    told_bundle q [] s = refl
+    told_bundle q (e ∷ es) s =
+        bundle_placed q e.0 (tells e.1) (told_arcs tells es) ∙ by_test (same_pair q e.0) refl (told_bundle q es (sorted_tail pair_cmp e.0 (keys_of es) s))
+      where
+        by_test : (t : Bool) → same_pair q e.0 ≡ t → bundle q (told_arcs tells es) ≡ told_at tells es q
+            → cond t (tells e.1 ++ bundle q (told_arcs tells es)) (bundle q (told_arcs tells es)) ≡ told_by tells (cond t (Some e.1) (lookup (same_pair q) es))
+        by_test true f r =
+            ap (λ l. tells e.1 ++ l) (subst (λ p. bundle p (told_arcs tells es) ≡ []) (sym (pair_is q e.0 f)) (none_told e.0 es (sorted_head pair_cmp e.0 (keys_of es) s)))
+            ∙ append-nil (tells e.1)
+        by_test false f r = r
+
+module _ {B Arc : Type 0} (kind : ArcKind Arc) (laws : IsKind kind) (told : Form → B → List Arc) (tells : TellsCanon kind told) (form : Form) where
+  same_one : (f : Form) (b : B) → kind.Same (told f b) (told One b)
+  same_one One b = laws.meaning.same_refl (told One b)
+  same_one Two b = tells.same_forms b
+
+  at_same : (o : Option B) → kind.Same (told_by (told form) o) (told_by (told One) o)
+  at_same None = laws.meaning.same_refl []
+  at_same (Some b) = same_one form b
+
+  at_canon : (o : Option B) → kind.IsCanon form (told_by (told form) o)
+  at_canon None = laws.none_canon form
+  at_canon (Some b) = tells.canonical form b
+
+  at_fit : (o : Option B) → NumbersFit kind (told_by (told form) o)
+  at_fit None = tt
+  at_fit (Some b) = tells.fit form b
+
+  -- arcs between two nodes, with numbers of 64 bits
+  each_placed : (n : ℤ) (q : ℤ × ℤ) → IsNode n q.0 × IsNode n q.1 → (xs : List Arc) → AllByRecursion kind.IsArc xs → NumbersFit kind xs → AllByRecursion (λ x. IsPlaced kind n (q, x)) xs
+  each_placed n q h [] is fit = tt
+  each_placed n q h (x ∷ xs) is fit = (
+    record { tail = h.0; head = h.1; is_arc = is.0; numbers = all_fit (kind.numbers x) fit.0 },
+    each_placed n q h xs is.1 fit.1,
+  )
+
+  -- canonical arcs that mean what placed arcs of the pair do
+  placed_at : (n : ℤ) (q : ℤ × ℤ) (arcs : List ((ℤ × ℤ) × Arc)) (xs : List Arc) → AllByRecursion (IsPlaced kind n) arcs → kind.IsCanon form xs → NumbersFit kind xs → kind.Same xs (bundle q arcs) → AllByRecursion (λ x. IsPlaced kind n (q, x)) xs
+  placed_at n q arcs xs v c fit s = by_bundle (bundle q arcs) refl s
+    where
+      by_bundle : (bs : List Arc) → bundle q arcs ≡ bs → kind.Same xs bs → AllByRecursion (λ x. IsPlaced kind n (q, x)) xs
+      by_bundle [] f g = subst (AllByRecursion (λ x. IsPlaced kind n (q, x))) (sym (laws.nothing_told form xs c g)) tt
+      by_bundle (b ∷ bs) f g = each_placed n q (nodes_at kind n arcs q b bs v f) xs (laws.canon_arcs form xs c) fit
+
+  -- the told arcs make the canonical graph
+  pub told_canon : (nodes : ℤ) (table : List ((ℤ × ℤ) × B)) (arcs : List ((ℤ × ℤ) × Arc)) → IsStrictlySortedBy pair_cmp (keys_of table)
+      → ((p : ℤ × ℤ) → StandsFor kind (told_at (told One) table p) (bundle p arcs)) → IsValidGraph kind (record { nodes = nodes; arcs = arcs })
+      → IsCanonFor kind form (record { nodes = nodes; arcs = arcs }) (told_graph (told form) nodes table)
+  told_canon nodes table arcs rising stands valid =
+      let all = told_arcs (told form) table in
+      let at : (q : ℤ × ℤ) → bundle q all ≡ told_at (told form) table q = λ q. told_bundle (told form) q table rising in
+      let canon : (q : ℤ × ℤ) → kind.IsCanon form (bundle q all) = λ q. subst (kind.IsCanon form) (sym (at q)) (at_canon (lookup (same_pair q) table)) in
+      let fit : (q : ℤ × ℤ) → NumbersFit kind (bundle q all) = λ q. subst (NumbersFit kind) (sym (at q)) (at_fit (lookup (same_pair q) table)) in
+      let means : (q : ℤ × ℤ) → kind.Same (bundle q all) (bundle q arcs) =
+      λ q. subst (λ l. kind.Same l (bundle q arcs)) (sym (at q))
+      (laws.meaning.same_trans (told_at (told form) table q) (told_at (told One) table q) (bundle q arcs) (at_same (lookup (same_pair q) table)) (stands q).same) in
+      let are : (q : ℤ × ℤ) → AllByRecursion kind.IsArc (bundle q arcs) = λ q. all_at_pair (IsPlaced kind nodes) kind.IsArc (λ a p. p.is_arc) q arcs valid.placed in
+      record {
+        valid = record {
+          some_nodes = valid.some_nodes;
+          nodes_fit = valid.nodes_fit;
+          placed = all_from (IsPlaced kind nodes) all (λ q. placed_at nodes q arcs (bundle q all) valid.placed (canon q) (fit q) (means q));
+          capacities = λ q. subst (λ z. z ≤ℤ pos (2 ^ 63 - 1)) (laws.same_capacity (bundle q arcs) (bundle q all) (are q) (laws.canon_arcs form (bundle q all) (canon q)) (laws.meaning.same_sym (bundle q all) (bundle q arcs) (means q))) (valid.capacities q);
+        };
+        canonical = record { in_order = told_order (told form) table rising; canonical = canon };
+        same = record { nodes = refl; bundles = λ q. laws.meaning.same_sym (bundle q all) (bundle q arcs) (means q) };
+      }
+
+-- the canonical text of a `min` problem is that of its supplies and its canonical graph
+pub min_canon : (form : Form) (supplies : List (ℤ × ℤ)) (G H : Graph CostArc) → IsCanonFor costs form G H → AreSupplies H.nodes supplies → IsCanonOf form (print (MinCostFlow supplies H)) (MinCostFlow supplies G)
+min_canon form supplies G H c are = (MinCostFlow supplies H, record { valid = (c.valid, are); canonical = c.canonical; text_is = refl; same = (refl, c.same) })
+
+-- that of a `max` problem, of its source, its sink and its canonical graph
+pub max_canon : (form : Form) (source sink : ℤ) (G H : Graph CapArc) → IsCanonFor capacities form G H → AreTerminals H.nodes source sink → IsCanonOf form (print (MaxFlow source sink H)) (MaxFlow source sink G)
+max_canon form source sink G H c are = (MaxFlow source sink H, record { valid = (c.valid, are); canonical = c.canonical; text_is = refl; same = (refl, refl, c.same) })
+
+-- that of an `sp` graph, of its canonical graph
+pub sp_canon : (form : Form) (G H : Graph LengthArc) → IsCanonFor lengths form G H → IsCanonOf form (print (ShortestPaths H)) (ShortestPaths G)
+sp_canon form G H c = (ShortestPaths H, record { valid = c.valid; canonical = c.canonical; text_is = refl; same = c.same })
+
+-- a companion's text is its canonical text
+pub companion_canon : (form : Form) (I : Instance) → IsCompanion I → IsValid I → IsCanonOf form (print I) I
+companion_canon form (Sources ids) c v = (Sources ids, record { valid = v; canonical = tt; text_is = refl; same = refl })
+companion_canon form (Queries pairs) c v = (Queries pairs, record { valid = v; canonical = tt; text_is = refl; same = refl })
+companion_canon form (Coordinates points) c v = (Coordinates points, record { valid = v; canonical = tt; text_is = refl; same = refl })
+companion_canon form _ c v = absurd c

@@ -1,0 +1,37 @@
+use Rattle.std.proofs.Common.{map, drop, refl, sym, ap, ◌∙◌, ◌+◌, subst, arith, ℕ, List}
+use Rattle.dn_canon.specs.Prints.{arc_row}
+use Rattle.dn_canon.specs.Puts.{HasPut}
+use Rattle.dn_canon.specs.ToldArcs.{placed}
+use Rattle.dn_canon.specs.Writes.{text_of}
+use Rattle.dn_canon.proofs.PutLaws.{put_from, row_more, row_stop, stopped, drop_get, some_below, arc_text}
+use Rattle.dn_canon.proofs.writer.put_bundle.Goals as goal
+use Rattle.dn_canon.proofs.writer.put_bundle.Goals.{in-Some+in_ok-put, in_default}
+
+pub loop-init : goal.loop-init
+loop-init g c = record { next = c.canon_arc-next.ensures; has = put_from refl }
+
+pub returns-in_err-put : goal.returns-in_err-put
+returns-in_err-put g c =
+    let told = g.B.Bundle.told c.args.form c.args.bundle.now in
+    stopped c.from_residual.result c.from_residual.ensures.0
+    (row_stop (arc_row g.B.Bundle.kind) (placed c.args.pair.now (drop c.loop.counter told)) (placed c.args.pair.now (drop (c.loop.counter + 1) told)) (c.args.pair.now, c.in-Some.arc)
+    (ap (placed c.args.pair.now) (drop_get told c.loop.counter c.in-Some.arc (sym c.loop.invariant.next ∙ c.in-Some.is)))
+    (arc_text g.B.Bundle.kind c.args.pair.now c.in-Some.arc _ c.arc_line.result c.arc_line.ensures (g.met.B.Bundle.same_numbers c.in-Some.arc)) c.loop.invariant.has c.in_err-put.ensures)
+
+pub loop-preserved : goal.loop-preserved
+loop-preserved g c =
+    let told = g.B.Bundle.told c.args.form c.args.bundle.now in
+    let text : ℕ → List ℕ = λ i. text_of (map (arc_row g.B.Bundle.kind) (placed c.args.pair.now (drop i told))) in
+    elim c.match-next.branch [
+      | in-Some+in_ok-put w ↦
+          let here = sym c.loop.invariant.next ∙ w.in-Some.is in
+          record {
+            next = w.next-is ∙ w.canon_after-next.ensures c.loop.counter here;
+            has =
+                subst (λ s. HasPut g.K.Sink.taken g.K.Sink.has_failed c.args.sink.now s (text (c.loop.counter + 1)) (text 0)) (sym w.sink-is)
+                (row_more (arc_row g.B.Bundle.kind) (placed c.args.pair.now (drop c.loop.counter told)) (placed c.args.pair.now (drop (c.loop.counter + 1) told)) (c.args.pair.now, w.in-Some.arc)
+                (ap (placed c.args.pair.now) (drop_get told c.loop.counter w.in-Some.arc here))
+                (arc_text g.B.Bundle.kind c.args.pair.now w.in-Some.arc _ w.arc_line.result w.arc_line.ensures (g.met.B.Bundle.same_numbers w.in-Some.arc)) c.loop.invariant.has w.in_ok-put.ensures);
+          }
+      | in_default w ↦ absurd (some_below told c.loop.counter c.loop.next (omega arith) c.loop.invariant.next w.in_default.not-Some)
+    ]

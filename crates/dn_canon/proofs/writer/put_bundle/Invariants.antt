@@ -1,0 +1,14 @@
+use Rattle.std.proofs.Common.{◌≡◌, map, drop, slice_get}
+use Rattle.dn_canon.specs.Prints.{arc_row}
+use Rattle.dn_canon.specs.Puts.{HasPut}
+use Rattle.dn_canon.specs.ToldArcs.{placed}
+use Rattle.dn_canon.specs.Writes.{text_of}
+use Rattle.dn_canon.proofs.writer.put_bundle.Given as goal
+
+abbrev pub invariant-loop : goal.invariant-loop
+invariant-loop g l =
+    let told = g.B.Bundle.told l.form l.bundle in
+    record {
+      next : l.next ≡ slice_get told l.counter;
+      has : HasPut g.K.Sink.taken g.K.Sink.has_failed l.fn.sink l.sink (text_of (map (arc_row g.B.Bundle.kind) (placed l.pair (drop l.counter told)))) (text_of (map (arc_row g.B.Bundle.kind) (placed l.pair told)));
+    }

@@ -1,0 +1,28 @@
+use Rattle.std.proofs.Common.{map, ap, ◌∙◌, subst}
+use Rattle.dn_canon.specs.Prints.{arc_row}
+use Rattle.dn_canon.specs.Puts.{HasPut}
+use Rattle.dn_canon.specs.ToldArcs.{told_arcs}
+use Rattle.dn_canon.specs.Writes.{text_of}
+use Rattle.dn_canon.proofs.PutLaws.{put_from, put_more, put_stop, stopped, bundle_text}
+use Rattle.dn_canon.proofs.writer.put_table.Goals as goal
+
+pub loop-pair-init : goal.loop-pair-init
+loop-pair-init g c =
+    put_from (ap (λ t. text_of (map (arc_row g.B.Bundle.kind) (told_arcs (g.B.Bundle.told c.args.form) t))) (c.into_iter-pair-iterator.ensures.into_iter_gives ∙ c.pairs-pair-items.ensures.value))
+
+pub loop-pair-preserved : goal.loop-pair-preserved
+loop-pair-preserved g c =
+    let all = text_of (map (arc_row g.B.Bundle.kind) (told_arcs (g.B.Bundle.told c.args.form) c.args.table.now)) in
+    put_more
+    (subst (λ l. HasPut g.K.Sink.taken g.K.Sink.has_failed c.args.sink.now c.loop-pair.sink l all)
+    (bundle_text g.B.Bundle.kind (g.B.Bundle.told c.args.form) c.loop-pair.pair-iterator c.next.new.self (c.in-Some.pair, c.in-Some.bundle.now) c.in-Some.ensures.steps) c.loop-pair.invariant)
+    c.in_ok-put_bundle.ensures
+
+pub returns-in_err-put_bundle : goal.returns-in_err-put_bundle
+returns-in_err-put_bundle g c =
+    let all = text_of (map (arc_row g.B.Bundle.kind) (told_arcs (g.B.Bundle.told c.args.form) c.args.table.now)) in
+    stopped c.from_residual.result c.from_residual.ensures.0
+    (put_stop _ _
+    (subst (λ l. HasPut g.K.Sink.taken g.K.Sink.has_failed c.args.sink.now c.loop-pair.sink l all)
+    (bundle_text g.B.Bundle.kind (g.B.Bundle.told c.args.form) c.loop-pair.pair-iterator c.next.new.self (c.in-Some.pair, c.in-Some.bundle.now) c.in-Some.ensures.steps) c.loop-pair.invariant)
+    c.in_err-put_bundle.ensures)

@@ -1,0 +1,83 @@
+// A sink over a slice.
+ghost use Rattle.std.specs.Prelude.{◌≡◌, [], length, false, Some, Ok, IsTrue, IsOk, IfOk, OnErr};
+ghost use Rattle.std.specs.Io.KnownBytes.{Keeps};
+ghost use Rattle.dn_canon.specs.Sinks.{Took, Refused, room_for, filled};
+
+use crate::sink::{Sink, SinkFault};
+use std::marker::Model;
+
+/// Fills a slice from its front. Has failed once it took 0 bytes of a piece that is not empty.
+#[derive(Drop)]
+pub struct Room<'a> {
+    room: &'a mut [u8],
+    used: usize,
+    failed: bool,
+}
+
+impl<'a> Model for Room<'a> {
+    ghost use Rattle.std.specs.Prelude.{◌≡◌, ◌≤◌, length, take, IsTrue};
+    ghost use Rattle.dn_canon.specs.Sinks.{Filled};
+
+    ghost Value = { Filled };
+
+    ghost view = { λ s. record { size = length s.room.now; bytes = take s.used s.room.now; failed = s.failed } };
+
+    ghost invariant = { λ s. s.used ≤ length s.room.now };
+}
+
+impl<'a> Room<'a> {
+    /// A slice with nothing in it yet.
+    pub fn new(room: &'a mut [u8]) -> Room<'a>
+        ensures size { result.size ≡ length room.entry.now }
+        ensures bytes { result.bytes ≡ [] }
+        ensures fine { result.failed ≡ false }
+    {
+        Room {
+            room,
+            used: 0,
+            failed: false,
+        }
+    }
+
+    /// The bytes taken.
+    pub fn taken(&self) -> &[u8]
+        ensures { result.now ≡ self.now.bytes }
+    {
+        &self.room[..self.used]
+    }
+}
+
+impl<'a> Sink for Room<'a> {
+    ghost taken = { λ s. Some s.bytes };
+
+    ghost has_failed = { λ s. s.failed };
+
+    // Takes what has room, and never answers a fault.
+    fn put(&mut self, piece: &[u8]) -> Result<usize, SinkFault>
+        ensures ok { IfOk result (λ n. Took (Some self.old.bytes) (Some self.new.bytes) self.new.failed piece.now n) }
+        ensures err { OnErr result (Refused (Some self.old.bytes) (Some self.new.bytes) self.new.failed) }
+        ensures stays { IsTrue self.old.failed → IsTrue self.new.failed }
+        ensures room { result ≡ Ok (room_for self.old piece.now) }
+        ensures fills { self.new ≡ filled self.old piece.now }
+    {
+        let left = self.room.len() - self.used;
+        let n = left.min(piece.len());
+        self.room[self.used..self.used + n].copy_from_slice(&piece[..n]);
+        self.used += n;
+        if n == 0 && !piece.is_empty() {
+            self.failed = true;
+        }
+        Ok(n)
+    }
+
+    // Changes nothing, and always answers `Ok`.
+    fn flush(&mut self) -> Result<(), SinkFault>
+        ensures bytes { Keeps (Some self.old.bytes) (Some self.new.bytes) }
+        ensures err { OnErr result (IsTrue self.new.failed) }
+        ensures stays { IsTrue self.old.failed → IsTrue self.new.failed }
+        ensures always { IsOk result }
+        ensures same { self.new ≡ self.old }
+    {
+        Ok(())
+    }
+}

@@ -1,0 +1,75 @@
+// A sink over a writer.
+ghost use Rattle.std.specs.Prelude.{◌≡◌, false, IsTrue, IsErr, IfOk, OnErr};
+ghost use Rattle.std.specs.Io.KnownBytes.{Keeps};
+ghost use Rattle.dn_canon.specs.Sinks.{Took, Refused};
+
+use crate::sink::{Sink, SinkFault};
+use std::io::Write;
+
+/// Hands the bytes to a writer. Every error of the writer is a failure, and so is it to take 0 bytes of a piece that is
+/// not empty; a failed sink does not write again.
+#[derive(Drop)]
+pub struct ToWrite<W: Write> {
+    writer: W,
+    failed: bool,
+}
+
+impl<W: Write> ToWrite<W> {
+    /// A sink that has taken what the writer holds.
+    pub fn new(writer: W) -> ToWrite<W>
+        ensures taken { ⟦<ToWrite<W> as Sink>⟧.taken result ≡ W.contents writer }
+        ensures fine { ⟦<ToWrite<W> as Sink>⟧.has_failed result ≡ false }
+    {
+        ToWrite {
+            writer,
+            failed: false,
+        }
+    }
+}
+
+impl<W: Write> Sink for ToWrite<W> {
+    ghost taken = { λ s. W.contents s.writer };
+
+    ghost has_failed = { λ s. s.failed };
+
+    // Once it has failed, it takes nothing.
+    fn put(&mut self, piece: &[u8]) -> Result<usize, SinkFault>
+        ensures ok { IfOk result (λ n. Took (⟦<ToWrite<W> as Sink>⟧.taken self.old) (⟦<ToWrite<W> as Sink>⟧.taken self.new) (⟦<ToWrite<W> as Sink>⟧.has_failed self.new) piece.now n) }
+        ensures err { OnErr result (Refused (⟦<ToWrite<W> as Sink>⟧.taken self.old) (⟦<ToWrite<W> as Sink>⟧.taken self.new) (⟦<ToWrite<W> as Sink>⟧.has_failed self.new)) }
+        ensures stays { IsTrue (⟦<ToWrite<W> as Sink>⟧.has_failed self.old) → IsTrue (⟦<ToWrite<W> as Sink>⟧.has_failed self.new) }
+        ensures again { IsTrue (⟦<ToWrite<W> as Sink>⟧.has_failed self.old) → IsErr result }
+    {
+        if self.failed {
+            return Err(SinkFault);
+        }
+        match self.writer.write(piece) {
+            Ok(n) => {
+                if n == 0 && !piece.is_empty() {
+                    self.failed = true;
+                }
+                Ok(n)
+            }
+            Err(_) => {
+                self.failed = true;
+                Err(SinkFault)
+            }
+        }
+    }
+
+    // Once it has failed, it answers a fault.
+    fn flush(&mut self) -> Result<(), SinkFault>
+        ensures bytes { Keeps (⟦<ToWrite<W> as Sink>⟧.taken self.old) (⟦<ToWrite<W> as Sink>⟧.taken self.new) }
+        ensures err { OnErr result (IsTrue (⟦<ToWrite<W> as Sink>⟧.has_failed self.new)) }
+        ensures stays { IsTrue (⟦<ToWrite<W> as Sink>⟧.has_failed self.old) → IsTrue (⟦<ToWrite<W> as Sink>⟧.has_failed self.new) }
+        ensures again { IsTrue (⟦<ToWrite<W> as Sink>⟧.has_failed self.old) → IsErr result }
+    {
+        if self.failed {
+            return Err(SinkFault);
+        }
+        if self.writer.flush().is_err() {
+            self.failed = true;
+            return Err(SinkFault);
+        }
+        Ok(())
+    }
+}

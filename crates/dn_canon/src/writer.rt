@@ -1,0 +1,201 @@
+// Writes the canonical text of what tables, lists and maps tell, a line a put, without memory of its own.
+ghost use Rattle.std.specs.Prelude.{◌≡◌, ◌<◌, ◌≤◌, ◌^◌, ℤ, List, [], length, map, MatchOption};
+ghost use Rattle.std.specs.List.Sorted.{IsStrictlySortedBy};
+ghost use Rattle.std.specs.Map.{keys_of};
+ghost use Rattle.dn_instance.specs.Instances.{Sources, Queries, Coordinates};
+ghost use Rattle.dn_instance.specs.Pairs.{pair_cmp};
+ghost use Rattle.dn_instance.specs.TableSteps.{Tells};
+ghost use Rattle.dn_instance.specs.Validity.{IsValidGraph};
+ghost use Rattle.dn_canon.specs.Lines.{AreShort};
+ghost use Rattle.dn_canon.specs.Prints.{arc_row, supply_row, graph_rows, print};
+ghost use Rattle.dn_canon.specs.Puts.{Puts};
+ghost use Rattle.dn_canon.specs.ToldArcs.{placed, told_arcs, told_graph, IsCanonFor};
+ghost use Rattle.dn_canon.specs.Writes.{text_of, node_rows, Writes};
+
+use crate::rows::{
+    arc_line, companion_line, end_line, graph_line, point_line, query_line, source_line,
+    start_line, supply_line,
+};
+use crate::sink::{Sink, SinkFault};
+use dn_bundle::{Bundle, Form};
+use dn_instance::Table;
+use dn_line::Kind;
+use std::collections::BTreeMap;
+
+// Why a text was not written.
+#[derive(Clone, Copy, Debug, PartialEq, Eq)]
+pub(crate) enum WriteFault {
+    // The sink failed.
+    Write,
+    // The text has more counted lines than 2^63-1.
+    CountTooLarge,
+}
+
+// What stands before the arcs of a graph.
+#[derive(Clone, Copy)]
+pub(crate) enum NodeLines<'a> {
+    // The flow of each node whose flow is not 0.
+    Supplies(&'a BTreeMap<i64, i64>),
+    // The source and the sink.
+    Terminals(&'a i64, &'a i64),
+    // Nothing.
+    NoNodes,
+}
+
+// How many arcs a table tells, where 63 bits hold the number.
+fn arc_count<B: Bundle>(table: &Table<B>, form: Form) -> Option<u64>
+    ensures count { MatchOption result (2 ^ 63 ≤ length (told_arcs (B.told form) table.now)) (λ n. (n ≡ length (told_arcs (B.told form) table.now)) × n < 2 ^ 63) }
+    ensures rising { IsStrictlySortedBy pair_cmp (keys_of table.now) }
+{
+    let mut all = 0u64;
+    for (_, bundle) in table.pairs() {
+        all = all.checked_add(bundle.canon_len(form))?;
+    }
+    if all < 1 << 63 { Some(all) } else { None }
+}
+
+// The arcs of one pair.
+fn put_bundle<B: Bundle, K: Sink>(
+    sink: &mut K,
+    pair: &(i64, i64),
+    bundle: &B,
+    form: Form,
+) -> Result<(), SinkFault>
+    requires { AreShort B.kind }
+    ensures { Puts K.taken K.has_failed sink.old sink.new (text_of (map (arc_row B.kind) (placed pair.now (B.told form bundle.now)))) result }
+{
+    let mut next = bundle.canon_arc(0, form);
+    for _ in 0..bundle.canon_len(form) {
+        if let Some(arc) = next {
+            arc_line(pair, &arc).put(sink)?;
+            next = bundle.canon_after(&arc, form);
+        }
+    }
+    Ok(())
+}
+
+// The arcs of a graph.
+fn put_table<B: Bundle, K: Sink>(
+    sink: &mut K,
+    table: &Table<B>,
+    form: Form,
+) -> Result<(), SinkFault>
+    requires { AreShort B.kind }
+    ensures { Puts K.taken K.has_failed sink.old sink.new (text_of (map (arc_row B.kind) (told_arcs (B.told form) table.now))) result }
+{
+    for (pair, bundle) in table.pairs() {
+        put_bundle(sink, &pair, bundle, form)?;
+    }
+    Ok(())
+}
+
+// The flows of a `min` problem.
+fn put_supplies<K: Sink>(sink: &mut K, supplies: &BTreeMap<i64, i64>) -> Result<(), SinkFault>
+    ensures { Puts K.taken K.has_failed sink.old sink.new (text_of (map supply_row supplies.now.entries)) result }
+{
+    for (id, flow) in supplies {
+        supply_line(id, flow).put(sink)?;
+    }
+    Ok(())
+}
+
+// The lines between the problem line and the arcs.
+fn put_nodes<K: Sink>(sink: &mut K, nodes: &NodeLines<'_>) -> Result<(), SinkFault>
+    ensures { Puts K.taken K.has_failed sink.old sink.new (text_of (node_rows nodes.now)) result }
+{
+    match nodes {
+        NodeLines::Supplies(supplies) => put_supplies(sink, supplies),
+        NodeLines::Terminals(source, target) => {
+            start_line(source).put(sink)?;
+            end_line(target).put(sink)
+        }
+        NodeLines::NoNodes => Ok(()),
+    }
+}
+
+// Ends a text.
+fn finish<K: Sink>(sink: &mut K) -> Result<(), SinkFault>
+    ensures { Puts K.taken K.has_failed sink.old sink.new [] result }
+{
+    sink.flush()
+}
+
+// A graph: the problem line, the lines before the arcs, and the arcs.
+fn put_graph<B: Bundle, K: Sink>(
+    sink: &mut K,
+    kind: Kind,
+    nodes: &i64,
+    count: u64,
+    lines: &NodeLines<'_>,
+    table: &Table<B>,
+    form: Form,
+) -> Result<(), SinkFault>
+    requires short { AreShort B.kind }
+    requires few { count < 2 ^ 63 }
+    requires count { count ≡ length (told_arcs (B.told form) table.now) }
+    ensures { Puts K.taken K.has_failed sink.old sink.new (text_of (graph_rows B.kind kind (told_graph (B.told form) nodes.now table.now) (node_rows lines.now))) result }
+{
+    graph_line(kind, nodes, count).put(sink)?;
+    put_nodes(sink, lines)?;
+    put_table(sink, table, form)?;
+    finish(sink)
+}
+
+// Writes a graph. Two walks over the table: the number of arcs, and then the lines.
+pub(crate) fn write_graph<B: Bundle, K: Sink>(
+    sink: &mut K,
+    kind: Kind,
+    nodes: &i64,
+    lines: &NodeLines<'_>,
+    table: &Table<B>,
+    form: Form,
+) -> Result<(), WriteFault>
+    requires { AreShort B.kind }
+    ensures text { Writes K.taken K.has_failed sink.old sink.new (text_of (graph_rows B.kind kind (told_graph (B.told form) nodes.now table.now) (node_rows lines.now))) (length (told_arcs (B.told form) table.now)) result }
+    ensures canon { (arcs : List ((ℤ × ℤ) × B.Arc)) → Tells B.kind (B.told Form.One) table.now arcs → IsValidGraph B.kind (record { nodes = nodes.now; arcs = arcs })
+        → IsCanonFor B.kind form (record { nodes = nodes.now; arcs = arcs }) (told_graph (B.told form) nodes.now table.now) }
+{
+    match arc_count(table, form) {
+        Some(count) => match put_graph(sink, kind, nodes, count, lines, table, form) {
+            Ok(()) => Ok(()),
+            Err(_) => Err(WriteFault::Write),
+        },
+        None => Err(WriteFault::CountTooLarge),
+    }
+}
+
+// Writes the sources of queries.
+pub(crate) fn write_sources<K: Sink>(sink: &mut K, ids: &[i64]) -> Result<(), SinkFault>
+    ensures { Puts K.taken K.has_failed sink.old sink.new (print (Sources ids.now)) result }
+{
+    companion_line(Kind::Ss, ids.len() as u64).put(sink)?;
+    for id in ids {
+        source_line(id).put(sink)?;
+    }
+    finish(sink)
+}
+
+// Writes queries from point to point.
+pub(crate) fn write_queries<K: Sink>(sink: &mut K, queries: &[(i64, i64)]) -> Result<(), SinkFault>
+    ensures { Puts K.taken K.has_failed sink.old sink.new (print (Queries queries.now)) result }
+{
+    companion_line(Kind::P2p, queries.len() as u64).put(sink)?;
+    for query in queries {
+        query_line(query).put(sink)?;
+    }
+    finish(sink)
+}
+
+// Writes coordinates by rising ID.
+pub(crate) fn write_points<K: Sink>(
+    sink: &mut K,
+    points: &BTreeMap<i64, (i64, i64)>,
+) -> Result<(), SinkFault>
+    ensures { Puts K.taken K.has_failed sink.old sink.new (print (Coordinates points.now.entries)) result }
+{
+    companion_line(Kind::Co, points.len() as u64).put(sink)?;
+    for (id, place) in points {
+        point_line(id, place).put(sink)?;
+    }
+    finish(sink)
+}
