@@ -1,5 +1,5 @@
 -- Arc lines after the items before them: their first fault, and what the table comes to hold.
-use Rattle.std.proofs.Common.{◌≡◌, ℤ, pos, ◌≤ℤ◌, ◌+ℤ◌, List, [], ◌∷◌, ◌++◌, Bool, true, false, cond, not, ◌&&◌, ◌||◌, int_lt, Option, Some, None, refl, sym, ap, ◌∙◌, subst, arith, inl, inr}
+use Rattle.std.proofs.Common.{◌≡◌, ℤ, pos, ◌≤ℤ◌, ◌+ℤ◌, List, [], ◌∷◌, ◌++◌, Bool, true, false, cond, not, ◌&&◌, Option, Some, None, refl, sym, ap, ◌∙◌, subst, arith, inl, inr}
 use Rattle.std.proofs.lemmas.Int.{ints}
 use Rattle.std.specs.List.{list_all, AllByRecursion}
 use Rattle.dn_line.specs.declared.code.Code.{Code}
@@ -8,13 +8,12 @@ use Rattle.dn_line.specs.declared.kind.Kind.TheVariants as Kinds
 use Rattle.dn_line.specs.declared.line.Line.{Line}
 use Rattle.dn_line.specs.declared.line.Line.TheVariants as Item
 use Rattle.dn_line.specs.Faults.{first_fault}
-use Rattle.dn_bundle.specs.Kinds.{ArcKind, lengths, capacities, costs}
+use Rattle.dn_bundle.specs.Kinds.{ArcKind, lengths, capacities}
 use Rattle.dn_bundle.specs.Capacities.{total_cap}
 use Rattle.dn_bundle.specs.Canonical.{IsCapArc}
 use Rattle.dn_bundle.specs.Laws.Lengths.{least_of}
-use Rattle.dn_bundle.specs.declared.arc.LengthArc.{LengthArc}
 use Rattle.dn_bundle.specs.declared.arc.CapArc.{CapArc}
-use Rattle.dn_instance.specs.Items.{Problem, problem_of, arcs_of, arc_in}
+use Rattle.dn_instance.specs.Items.{Problem, problem_of, arcs_of}
 use Rattle.dn_instance.specs.TextFaults.{is_companion, is_in_range, item_tests, passes}
 use Rattle.dn_instance.specs.ItemFaults.{in_graph, arc_fault}
 use Rattle.dn_instance.specs.Holdings.{TableHolds}
@@ -30,7 +29,7 @@ ends_range p s d c = rw c (and_true (in_graph p.nodes s) (in_graph p.nodes d))
     and_true true false = refl
     and_true false b = refl
 
-stray_is : (before : List Line) (p : Problem) (i : Line) (s d : ℤ) → problem_of before ≡ Some p → is_companion p.kind ≡ false → not (list_all (is_in_range (problem_of before)) (s ∷ d ∷ [])) ≡ not (in_graph p.nodes s && in_graph p.nodes d)
+pub stray_is : (before : List Line) (p : Problem) (i : Line) (s d : ℤ) → problem_of before ≡ Some p → is_companion p.kind ≡ false → not (list_all (is_in_range (problem_of before)) (s ∷ d ∷ [])) ≡ not (in_graph p.nodes s && in_graph p.nodes d)
 stray_is before p i s d h c = ap (λ o. not (list_all (is_in_range o) (s ∷ d ∷ []))) h ∙ ap not (ends_range p s d c)
 
 pub length_item : (before : List Line) (p : Problem) (s d l : ℤ) → problem_of before ≡ Some p → p.kind ≡ Kinds.Sp

@@ -52,7 +52,7 @@ both_none : {X : Type 0} (x y : Option X) → option_or x y ≡ None → (x ≡ 
 both_none None y h = (refl, h)
 both_none (Some x) y h = cc
 
-none_both : (ts us : List Test) → first_fault (ts ++ us) ≡ None → (first_fault ts ≡ None) × (first_fault us ≡ None)
+pub none_both : (ts us : List Test) → first_fault (ts ++ us) ≡ None → (first_fault ts ≡ None) × (first_fault us ≡ None)
 none_both ts us h = both_none (first_fault ts) (first_fault us) (sym (fault_append ts us) ∙ h)
 
 text_kind_push : (ls : List (List ℕ)) (l : List ℕ) → text_kind (ls ++ l ∷ []) ≡ option_or (text_kind ls) (kind_in (said_words l))
@@ -98,9 +98,10 @@ pub record AddsOne (ls : List (List ℕ)) (l : List ℕ) : Type 0 where
   pub in_step : InStep (ls ++ l ∷ [])
   pub item : Line
   pub next : IsNext (items_of ls) item
+  pub read : item_read (words_read (kind_known (items_of ls)) (said_words l)) ≡ Some item
   pub items_are : items_of (ls ++ l ∷ []) ≡ items_of ls ++ item ∷ []
 
-skipped : (ls : List (List ℕ)) (l : List ℕ) → InStep ls → is_skip (said_words l) ≡ true → AddsNone ls l
+pub skipped : (ls : List (List ℕ)) (l : List ℕ) → InStep ls → is_skip (said_words l) ≡ true → AddsNone ls l
 skipped ls l s h =
     let ws = said_words l in
     let no_p : is_p (first ws) ≡ false = skip_no_p (words l) h in
@@ -117,12 +118,12 @@ skipped ls l s h =
     }
 
 -- what is known of a line that is not skipped and has no fault
-record NoFault (before : List Line) (ws : List Word) : Type 0 where
+pub record NoFault (before : List Line) (ws : List Word) : Type 0 where
   head : first_fault (head_tests (kind_known before) ws) ≡ None
   fields : first_fault (field_tests (fields (kind_known before) ws)) ≡ None
   item : first_fault (item_tests before (item_read (words_read (kind_known before) ws))) ≡ None
 
-no_fault : (n : ℕ) (before : List Line) (ws : List Word) → is_skip ws ≡ false → line_fault n before ws ≡ None → NoFault before ws
+pub no_fault : (n : ℕ) (before : List Line) (ws : List Word) → is_skip ws ≡ false → line_fault n before ws ≡ None → NoFault before ws
 no_fault n before ws e h =
     let known = kind_known before in
     let late = none_first (is_too_long n) TooLong _ h in
@@ -199,7 +200,7 @@ known_push xs i k h = ap (option_map (λ (p : Problem). p.kind)) (problem_push x
     by_problem (Some p) g = g
 
 -- the kind is known: the line is read under it
-adds_known : (ls : List (List ℕ)) (l : List ℕ) (k : Kind) → text_kind ls ≡ Some k → InStep ls → is_skip (said_words l) ≡ false → NoFault (items_of ls) (said_words l) → AddsOne ls l
+pub adds_known : (ls : List (List ℕ)) (l : List ℕ) (k : Kind) → text_kind ls ≡ Some k → InStep ls → is_skip (said_words l) ≡ false → NoFault (items_of ls) (said_words l) → AddsOne ls l
 adds_known ls l k h s e n =
     let ws = said_words l in
     let known : kind_known (items_of ls) ≡ Some k = sym s.kind_is ∙ h in
@@ -222,11 +223,12 @@ adds_known ls l k h s e n =
       };
       item = r.item;
       next = r.next;
+      read = r.read;
       items_are = same;
     }
 
 -- no kind is known: the line is the problem line
-adds_problem : (ls : List (List ℕ)) (l : List ℕ) → text_kind ls ≡ None → InStep ls → is_skip (said_words l) ≡ false → NoFault (items_of ls) (said_words l) → AddsOne ls l
+pub adds_problem : (ls : List (List ℕ)) (l : List ℕ) → text_kind ls ≡ None → InStep ls → is_skip (said_words l) ≡ false → NoFault (items_of ls) (said_words l) → AddsOne ls l
 adds_problem ls l h s e n =
     let ws = said_words l in
     let known : kind_known (items_of ls) ≡ None = sym s.kind_is ∙ h in
@@ -259,6 +261,7 @@ adds_problem ls l h s e n =
       };
       item = r.item;
       next = r.next;
+      read = r.read;
       items_are = same;
     }
 

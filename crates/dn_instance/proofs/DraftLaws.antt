@@ -3,11 +3,9 @@ use Rattle.std.proofs.Common.{◌≡◌, ℤ, pos, List, [], ◌∷◌, ◌++◌
 use Rattle.std.proofs.lemmas.Int.{ints}
 use Rattle.std.proofs.lemmas.Bool.Decides.{nat_tests}
 use Rattle.std.proofs.lemmas.Result.{on_ok_weaker}
-use Rattle.std.specs.List.{list_all, list_any, fold}
+use Rattle.std.specs.List.{list_all, list_any}
 use Rattle.std.specs.Option.{option_or}
-use Rattle.std.specs.Ordering.{int_cmp, int_eq, is_eq, match_ordering}
-use Rattle.std.specs.declared.cmp.Ordering.{Ordering}
-use Rattle.std.specs.declared.cmp.Ordering.TheVariants.{Less, Equal, Greater}
+use Rattle.std.specs.Ordering.{int_cmp, int_eq, is_eq}
 use Rattle.std.specs.BTreeMap.{BTreeMap, is_at, insert_entry}
 use Rattle.std.specs.Map.{lookup}
 use Rattle.dn_line.specs.declared.code.Code.{Code}
@@ -23,13 +21,13 @@ use Rattle.dn_instance.specs.declared.draft.Draft.{Draft}
 use Rattle.dn_instance.specs.declared.draft.Draft.TheVariants as Drafts
 use Rattle.dn_instance.specs.declared.item_fault.ItemFault.{ItemFault}
 use Rattle.dn_instance.specs.Drafts.{draft_kind, Holds}
-use Rattle.dn_instance.specs.Items.{Problem, problem_of, problem_in, arcs_of, terminal_of, terminal_in, source_in, query_in, point_in, by_key}
+use Rattle.dn_instance.specs.Items.{Problem, problem_of, problem_in, arcs_of, terminal_of, source_in, query_in, point_in, by_key}
 use Rattle.dn_instance.specs.ItemFaults.{Answers, in_graph, terminal_fault, id_fault, pair_fault, point_fault}
 use Rattle.dn_instance.specs.TextFaults.{is_companion, is_in_range, is_id, item_tests, has_point}
 use Rattle.dn_instance.proofs.ValidLaws.{terminal_push, grown, int_eq_self, arcs_push}
 use Rattle.dn_bundle.specs.Bundles.{IsKind}
 use Rattle.dn_bundle.specs.declared.arc.Form.TheVariants.{One}
-use Rattle.dn_bundle.specs.Kinds.{ArcKind, lengths, capacities}
+use Rattle.dn_bundle.specs.Kinds.{ArcKind, lengths, capacities, costs}
 use Rattle.dn_bundle.specs.TotalTold.{cap_told}
 use Rattle.dn_bundle.specs.declared.total.Total.{Total}
 use Rattle.dn_instance.specs.Holdings.{TableHolds}
@@ -75,7 +73,7 @@ two_ids p a b c = rw c (by_tests (int_lt (pos 0) a) (int_lt (pos 0) b))
     by_tests false y = refl
 
 module _ (before : List Line) (p : Problem) (h : problem_of before ≡ Some p) where
-  stray_one : (id : ℤ) → is_companion p.kind ≡ false → not (list_all (is_in_range (problem_of before)) (id ∷ [])) ≡ not (in_graph p.nodes id)
+  pub stray_one : (id : ℤ) → is_companion p.kind ≡ false → not (list_all (is_in_range (problem_of before)) (id ∷ [])) ≡ not (in_graph p.nodes id)
   stray_one id c = ap (λ o. not (list_all (is_in_range o) (id ∷ []))) h ∙ ap not (one_range p id c)
 
   stray_id : (id : ℤ) → is_companion p.kind ≡ true → not (list_all (is_in_range (problem_of before)) (id ∷ [])) ≡ not (int_lt (pos 0) id)
@@ -85,7 +83,7 @@ module _ (before : List Line) (p : Problem) (h : problem_of before ≡ Some p) w
   stray_ids a b c = ap (λ o. not (list_all (is_in_range o) (a ∷ b ∷ []))) h ∙ ap not (two_ids p a b c)
 
 -- a choice of a fault or a later one
-abbrev or_else : Bool → Code → Option Code → Option Code
+abbrev pub or_else : Bool → Code → Option Code → Option Code
 or_else b c later = cond b (Some c) later
 
 pub source_answer : (nodes id : ℤ) (a b : Option ℤ) (t : _) (r : Result (Unit {0}) ItemFault) → Answers r (terminal_fault nodes a b id) → Answering nodes (Drafts.Max a b t) (Item.Terminal id S) r
@@ -115,7 +113,7 @@ pair_answer nodes pair pairs r ans before p h k n holds = subst (Answers r) (sym
 int_eq_is : (a b : ℤ) → int_eq a b ≡ true → a ≡ b
 int_eq_is a b h = grind (arith, ints, nat_tests)
 
-sought_eq : (q k : ℤ) (t : Bool) → is_at (int_cmp q) k ≡ t → is_at (int_cmp q) k ≡ int_eq k q
+pub sought_eq : (q k : ℤ) (t : Bool) → is_at (int_cmp q) k ≡ t → is_at (int_cmp q) k ≡ int_eq k q
 sought_eq q k true h = let same : q ≡ k = sought_is q k h in h ∙ sym (ap (λ z. int_eq k z) same ∙ int_eq_self k)
 sought_eq q k false h = h ∙ sym (not_equal (int_eq k q) refl)
   where
@@ -143,7 +141,7 @@ not_some_is None h = refl
 not_some_is (Some x) h = cc
 
 -- a table holds what it held where an item is no arc
-table_kept : {B Arc : Type 0} (kind : ArcKind Arc) (tells : B → List Arc) (table : List ((ℤ × ℤ) × B)) (before : List Line) (i : Line) → arcs_of kind (i ∷ []) ≡ [] → TableHolds kind tells table before → TableHolds kind tells table (before ++ i ∷ [])
+pub table_kept : {B Arc : Type 0} (kind : ArcKind Arc) (tells : B → List Arc) (table : List ((ℤ × ℤ) × B)) (before : List Line) (i : Line) → arcs_of kind (i ∷ []) ≡ [] → TableHolds kind tells table before → TableHolds kind tells table (before ++ i ∷ [])
 table_kept kind tells table before i e t =
     let same : arcs_of kind (before ++ i ∷ []) ≡ arcs_of kind before = arcs_push kind before i ∙ ap (λ l. arcs_of kind before ++ l) e ∙ append-nil (arcs_of kind before) in
     record { tells_them = subst (Tells kind tells table) (sym same) t.tells_them; are_arcs = subst (AreArcs kind) (sym same) t.are_arcs }
@@ -153,8 +151,7 @@ source_stand nodes id a b a' t (Err e) ans ok before holds = tt
 source_stand nodes id a b a' t (Ok x) ans ok before holds =
     let one = none_first (not (in_graph nodes id)) NodeOutOfRange _ ans in
     let two = none_first (is_some a) RepeatedNode _ one.1 in
-    let none : terminal_of S before ≡ None = sym holds.0 ∙ not_some_is a two.0 in
-    (
+    let none : terminal_of S before ≡ None = sym holds.0 ∙ not_some_is a two.0 in (
       ok ∙ sym (terminal_push S before (Item.Terminal id S) ∙ ap (λ o. option_or o (Some id)) none),
       holds.1 ∙ sym (terminal_push T before (Item.Terminal id S) ∙ or_none (terminal_of T before)),
       table_kept capacities _ t before (Item.Terminal id S) refl holds.2,
@@ -165,8 +162,7 @@ sink_stand nodes id a b b' t (Err e) ans ok before holds = tt
 sink_stand nodes id a b b' t (Ok x) ans ok before holds =
     let one = none_first (not (in_graph nodes id)) NodeOutOfRange _ ans in
     let two = none_first (is_some b) RepeatedNode _ one.1 in
-    let none : terminal_of T before ≡ None = sym holds.1 ∙ not_some_is b two.0 in
-    (
+    let none : terminal_of T before ≡ None = sym holds.1 ∙ not_some_is b two.0 in (
       holds.0 ∙ sym (terminal_push S before (Item.Terminal id T) ∙ or_none (terminal_of S before)),
       ok ∙ sym (terminal_push T before (Item.Terminal id T) ∙ ap (λ o. option_or o (Some id)) none),
       table_kept capacities _ t before (Item.Terminal id T) refl holds.2,
@@ -209,6 +205,7 @@ pub held_problem : (d : Draft) (i : Line) → IsSome (problem_in i) → Holds d 
 held_problem d (Item.Graph k n c) h holds = by_kind d holds
   where
     by_kind : (d : Draft) → Holds d [] → Holds d (Item.Graph k n c ∷ [])
+    by_kind (Drafts.Min s z t) holds = (holds.0, holds.1, table_kept costs _ t [] (Item.Graph k n c) refl holds.2)
     by_kind (Drafts.Max a b t) holds = (holds.0, holds.1, table_kept capacities _ t [] (Item.Graph k n c) refl holds.2)
     by_kind (Drafts.Sp t) holds = table_kept lengths _ t [] (Item.Graph k n c) refl holds
     by_kind (Drafts.Ss ids) holds = holds
@@ -217,6 +214,7 @@ held_problem d (Item.Graph k n c) h holds = by_kind d holds
 held_problem d (Item.Aux k c) h holds = by_kind d holds
   where
     by_kind : (d : Draft) → Holds d [] → Holds d (Item.Aux k c ∷ [])
+    by_kind (Drafts.Min s z t) holds = (holds.0, holds.1, table_kept costs _ t [] (Item.Aux k c) refl holds.2)
     by_kind (Drafts.Max a b t) holds = (holds.0, holds.1, table_kept capacities _ t [] (Item.Aux k c) refl holds.2)
     by_kind (Drafts.Sp t) holds = table_kept lengths _ t [] (Item.Aux k c) refl holds
     by_kind (Drafts.Ss ids) holds = holds
@@ -233,6 +231,11 @@ held_problem d (Item.Query _ _) h holds = cc
 held_problem d (Item.Point _ _ _) h holds = cc
 
 -- no line of a kind of text but its own
+pub no_min : (i : Line) → Some Kinds.Min ≡ kind_before i → ((id flow : ℤ) → i ≡ Item.Supply id flow → ⊥) → ((src dst low top cost : ℤ) → i ≡ Item.MinArc src dst low top cost → ⊥) → ⊥
+no_min (Item.Supply id flow) h n a = n id flow refl
+no_min (Item.MinArc src dst low top cost) h n a = a src dst low top cost refl
+no_min _ h n a = cc
+
 pub no_max : (i : Line) → Some Kinds.Max ≡ kind_before i → ((id : ℤ) (letter : Letter) → i ≡ Item.Terminal id letter → ⊥) → ((src dst cap : ℤ) → i ≡ Item.MaxArc src dst cap → ⊥) → ⊥
 no_max (Item.Terminal id letter) h n a = n id letter refl
 no_max (Item.MaxArc src dst cap) h n a = a src dst cap refl

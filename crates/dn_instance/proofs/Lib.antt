@@ -10,3 +10,7 @@ pub mod ArcItems
 pub mod DraftLaws
 pub mod ProgressLaws
 pub mod NextLaws
+pub mod FollowLaws
+pub mod LineSteps
+pub mod CostItems
+pub mod SupplyItems

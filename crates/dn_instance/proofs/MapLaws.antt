@@ -76,6 +76,7 @@ found_by q k v e es rest Equal h i = by_test (Sought q e.0) refl
   where
     same : Sought q k ≡ Sought q e.0
     same = ap (Sought q) (exact_signed k e.0 h)
+
     by_test : (t : Bool) → Sought q e.0 ≡ t → cond (Sought q e.0) (Some v) (lookup (is_at (int_cmp q)) es) ≡ cond (Sought q k) (Some v) (cond (Sought q e.0) (Some e.1) (lookup (is_at (int_cmp q)) es))
     by_test true t = rw (same, t) refl
     by_test false t = rw (same, t) refl

@@ -1,6 +1,6 @@
 -- What the next line reads as, check by check.
-use Rattle.std.proofs.Common.{◌≡◌, List, [], ◌∷◌, ◌++◌, Bool, true, false, cond, Option, Some, None, Result, Ok, Err, refl, sym, ap, ◌∙◌}
-use Rattle.std.specs.Option.{option_or, option_map}
+use Rattle.std.proofs.Common.{◌≡◌, List, ◌++◌, Bool, true, false, cond, Option, Some, None, Result, Ok, Err, refl, sym, ap, ◌∙◌}
+use Rattle.std.specs.Option.{option_or}
 use Rattle.dn_line.specs.declared.line.Line.{Line}
 use Rattle.dn_line.specs.declared.line.Line.TheVariants.{Skip}
 use Rattle.dn_line.specs.declared.line.Head.{Head}
@@ -13,7 +13,7 @@ use Rattle.dn_line.specs.Table.{kind_named}
 use Rattle.dn_line.specs.Faults.{Test, first_fault, head_tests, field_tests, fields}
 use Rattle.dn_line.specs.Reading.{unless, spelled, head_of, head_read, fields_read}
 use Rattle.dn_line.proofs.FaultLaws.{fault_append}
-use Rattle.dn_instance.specs.Items.{Problem, kind_known}
+use Rattle.dn_instance.specs.Items.{kind_known}
 use Rattle.dn_instance.specs.TextFaults.{order_tests}
 use Rattle.dn_instance.specs.TextsSoFar.{next_read}
 

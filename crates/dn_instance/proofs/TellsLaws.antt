@@ -117,8 +117,7 @@ pub sum_passes : {B Arc F : Type 0} (kind : ArcKind Arc) (tells : B → List Arc
     → F ↔ (pos (2 ^ 63 - 1) <ℤ kind.capacity (told_at tells m p ++ arc ∷ [])) → (F → passes kind arcs (Some (p, arc)) ≡ true) × ((F → ⊥) → passes kind arcs (Some (p, arc)) ≡ false)
 sum_passes kind tells laws m arcs p arc old are is h =
     let e = told_capacity kind tells laws m arcs p arc old are is in
-    let past = kind.capacity (bundle p arcs ++ arc ∷ []) in
-    (
+    let past = kind.capacity (bundle p arcs ++ arc ∷ []) in (
       λ f. (let lt : pos (2 ^ 63 - 1) <ℤ past = subst (λ z. pos (2 ^ 63 - 1) <ℤ z) e (h.0 f) in grind (arith, ints)),
       λ no. past_none (pos (2 ^ 63 - 1)) past (λ lt. no (h.1 (subst (λ z. pos (2 ^ 63 - 1) <ℤ z) (sym e) lt))),
     )

@@ -4,11 +4,8 @@ use Rattle.std.proofs.lemmas.Int.{ints}
 use Rattle.std.proofs.lemmas.Bool.Decides.{nat_tests}
 use Rattle.std.specs.Option.{option_or, option_map}
 use Rattle.std.specs.List.{AllByRecursion, list_all}
-use Rattle.std.specs.Ordering.{int_cmp, int_eq, is_eq}
-use Rattle.std.specs.declared.cmp.Ordering.{Ordering}
-use Rattle.std.specs.declared.cmp.Ordering.TheVariants.{Less, Equal, Greater}
+use Rattle.std.specs.Ordering.{int_eq}
 use Rattle.std.proofs.lemmas.List.Elements.{filter_map-append}
-use Rattle.std.proofs.lemmas.Map.Lookups.{exact_pairs, exact_signed}
 use Rattle.dn_line.specs.Number.{number_read, fits, is_number, number_value}
 use Rattle.dn_line.specs.declared.kind.Kind.{Kind}
 use Rattle.dn_line.specs.declared.kind.Kind.TheVariants as Kinds
@@ -21,7 +18,7 @@ use Rattle.dn_line.specs.Words.{words, said, said_words}
 use Rattle.dn_line.specs.Spelling.{Slot, Is, Number, Natural, slots_of, kind_before, AllFit, Spells}
 use Rattle.dn_bundle.specs.Kinds.{ArcKind, costs, capacities, lengths}
 use Rattle.dn_bundle.specs.declared.arc.CapArc.{CapArc}
-use Rattle.dn_instance.specs.Pairs.{bundle, same_pair, pair_cmp}
+use Rattle.dn_instance.specs.Pairs.{bundle, same_pair}
 use Rattle.dn_instance.specs.Instances.{Graph, Instance, MaxFlow}
 use Rattle.dn_instance.specs.Validity.{Fits, IsNode, IsId, IsPlaced, IsValidGraph, IsSupply, IsPoint, AreSupplies, AreTerminals, ArePoints, IsValid}
 use Rattle.dn_instance.specs.Items.{Problem, problem_in, problem_of, kind_known, arcs_of, arc_in, by_key, supply_in, supplies_of, terminal_in, terminal_of, source_in, query_in, point_in, graph_of, max_flow, instance_as}
@@ -187,17 +184,18 @@ first_item (Item.Source id) s e = cc
 first_item (Item.Query first second) s e = cc
 first_item (Item.Point id x y) s e = cc
 
+-- the flows with one node line more
+pub supplies_grow : (before : List Line) (id flow : ℤ) (o : Option (ℤ × ℤ)) → supply_in (Item.Supply id flow) ≡ o → supplies_of (before ++ Item.Supply id flow ∷ []) ≡ by_key (filter_map supply_in before ++ filter_map (λ x. x) (o ∷ []))
+supplies_grow before id flow o e = ap by_key (filter_map-append supply_in before (Item.Supply id flow ∷ []) ∙ ap (λ (x : Option (ℤ × ℤ)). filter_map supply_in before ++ filter_map (λ y. y) (x ∷ [])) e)
+
 -- a node's flow put into the supplies, unless it is 0
 supplies_grown : (nodes : ℤ) (before : List Line) (id flow : ℤ) → IsNode nodes id → Fits flow → AreSupplies nodes (supplies_of before) → AreSupplies nodes (supplies_of (before ++ Item.Supply id flow ∷ []))
 supplies_grown nodes before id flow node fit s = by_test (int_eq flow (pos 0)) refl
   where
-    grown : (o : Option (ℤ × ℤ)) → supply_in (Item.Supply id flow) ≡ o → supplies_of (before ++ Item.Supply id flow ∷ []) ≡ by_key (filter_map supply_in before ++ filter_map (λ x. x) (o ∷ []))
-    grown o e = ap by_key (filter_map-append supply_in before (Item.Supply id flow ∷ []) ∙ ap (λ (x : Option (ℤ × ℤ)). filter_map supply_in before ++ filter_map (λ y. y) (x ∷ [])) e)
-
     by_test : (t : Bool) → int_eq flow (pos 0) ≡ t → AreSupplies nodes (supplies_of (before ++ Item.Supply id flow ∷ []))
-    by_test true e = subst (AreSupplies nodes) (sym (grown None (ap (λ b. cond b None (Some (id, flow))) e) ∙ ap by_key (append-nil (filter_map supply_in before)))) s
+    by_test true e = subst (AreSupplies nodes) (sym (supplies_grow before id flow None (ap (λ b. cond b None (Some (id, flow))) e) ∙ ap by_key (append-nil (filter_map supply_in before)))) s
     by_test false e =
-        let is = grown (Some (id, flow)) (ap (λ b. cond b None (Some (id, flow))) e) ∙ by_key_push (filter_map supply_in before) (id, flow) in
+        let is = supplies_grow before id flow (Some (id, flow)) (ap (λ b. cond b None (Some (id, flow))) e) ∙ by_key_push (filter_map supply_in before) (id, flow) in
         let some : flow ≡ pos 0 → ⊥ = λ z. (let never : true ≡ false = ap (λ x. int_eq x (pos 0)) (sym z) ∙ e in cc) in
         subst (AreSupplies nodes) (sym is) (record {
           map = map_put id flow (supplies_of before) s.map;

@@ -1,5 +1,5 @@
 -- What an answer about an item says of its first fault.
-use Rattle.std.specs.Prelude.{◌≡◌, ◌-◌, ◌^◌, ℤ, pos, List, [], ◌∷◌, Bool, ◌&&◌, not, int_lt, Option, Some, None, is_some, Result, Ok, Err}
+use Rattle.std.specs.Prelude.{◌≡◌, ℤ, pos, List, [], ◌∷◌, Bool, ◌&&◌, not, int_lt, Option, Some, None, is_some, Result, Ok, Err}
 use Rattle.dn_line.specs.declared.code.Code.{Code}
 use Rattle.dn_line.specs.declared.code.Code.TheVariants.{NodeOutOfRange, RepeatedNode, SameTerminal, LowAboveCap, SumTooLarge}
 use Rattle.dn_line.specs.Faults.{first_fault}

@@ -1,8 +1,8 @@
 -- What has been read from the problem line on, by the items that the lines so far spell.
-use Rattle.std.specs.Prelude.{◌≡◌, ℤ, pos, ◌<ℤ◌, ◌^◌, List, int_lt, Some, true, false}
+use Rattle.std.specs.Prelude.{◌≡◌, pos, ◌<ℤ◌, ◌^◌, List, int_lt, Some, true, false}
 use Rattle.std.specs.List.{list_any}
 use Rattle.dn_line.specs.declared.line.Line.{Line}
-use Rattle.dn_instance.specs.Items.{Problem, problem_of, counted, is_counted}
+use Rattle.dn_instance.specs.Items.{problem_of, counted, is_counted}
 use Rattle.dn_instance.specs.TextFaults.{is_arc, is_companion, is_full}
 use Rattle.dn_instance.specs.Drafts.{draft_kind, Holds}
 use Rattle.dn_instance.specs.declared.progress.Progress.{Progress}

@@ -1,5 +1,6 @@
 -- What the complete lines so far make, and what the next one reads as after them.
-use Rattle.std.specs.Prelude.{◌≡◌, ℕ, ◌-◌, ◌^◌, ◌<◌, pos, List, [], ◌++◌, length, cond, Option, Some, None, Result, Ok, Err, IsSome}
+use Rattle.std.specs.Prelude.{◌≡◌, ℕ, ◌-◌, ◌^◌, ◌<◌, pos, List, [], ◌++◌, length, cond, Option, Some, None, Result, Ok, IsSome}
+use Rattle.std.specs.Option.{option_to_list}
 use Rattle.dn_line.specs.declared.line.Line.{Line}
 use Rattle.dn_line.specs.declared.line.Line.TheVariants.{Skip}
 use Rattle.dn_line.specs.declared.word.Word.{Word}
@@ -7,9 +8,9 @@ use Rattle.dn_line.specs.declared.code.Code.{Code}
 use Rattle.dn_line.specs.Words.{is_skip}
 use Rattle.dn_line.specs.Faults.{first_fault, head_tests, field_tests, fields}
 use Rattle.dn_line.specs.Spelling.{slots_of, kind_before}
-use Rattle.dn_line.specs.Reading.{unless, spelled}
+use Rattle.dn_line.specs.Reading.{unless, spelled, words_read}
 use Rattle.dn_instance.specs.Items.{kind_known}
-use Rattle.dn_instance.specs.TextFaults.{order_tests}
+use Rattle.dn_instance.specs.TextFaults.{order_tests, line_tests, item_read}
 use Rattle.dn_instance.specs.Texts.{items_of, IsClean}
 use Rattle.dn_instance.specs.Drafts.{HasSigns}
 use Rattle.dn_instance.specs.Progresses.{IsAt, HasRoom}
@@ -33,6 +34,14 @@ pub record MayFollow (before : List Line) (i : Line) : Type 0 where
   pub spelled : IsSome (slots_of i)
   pub signs : HasSigns i
   pub room : HasRoom before i
+
+-- the fault of a line after these items, its number aside
+abbrev pub fault_next : List Line → List Word → Option Code
+fault_next before ws = cond (is_skip ws) None (first_fault (line_tests before ws))
+
+-- these items, and that of the next line
+abbrev pub with_next : List Line → List Word → List Line
+with_next before ws = before ++ option_to_list (item_read (words_read (kind_known before) ws))
 
 -- these lines have been read, and none has a fault
 pub record HasRead (t : TextSoFar) (ls : List (List ℕ)) : Type 0 where

@@ -3,8 +3,9 @@ ghost use Rattle.std.specs.Prelude.{◌≡◌, ◌↔◌, ℤ, List, [], ◌∷�
 ghost use Rattle.dn_bundle.specs.declared.arc.Form.{Form};
 ghost use Rattle.std.specs.Prelude.{Some, pos, ◌≤ℤ◌};
 ghost use Rattle.dn_line.specs.Faults.{first_fault};
-ghost use Rattle.dn_bundle.specs.Kinds.{lengths, capacities};
+ghost use Rattle.dn_bundle.specs.Kinds.{lengths, capacities, costs};
 ghost use Rattle.dn_bundle.specs.TotalTold.{cap_told};
+ghost use Rattle.dn_bundle.specs.CurveTold.{told as cost_told};
 ghost use Rattle.dn_bundle.specs.LeastTold.{length_told};
 ghost use Rattle.dn_instance.specs.Items.{Problem, problem_of};
 ghost use Rattle.dn_instance.specs.TextFaults.{item_tests};
@@ -14,7 +15,7 @@ ghost use Rattle.dn_instance.specs.TableSteps.{Tells, AreArcs, Stays};
 
 use crate::item_fault::ItemFault;
 use crate::table::Table;
-use dn_bundle::{Bundle, BundleFault, CapArc, Form, Least, LengthArc, Total};
+use dn_bundle::{Bundle, BundleFault, CapArc, CostArc, Curve, Form, Least, LengthArc, Total};
 use dn_line::{Code, Kind, Line};
 use std::alloc::Global;
 
@@ -87,6 +88,22 @@ pub(crate) fn take_cap_arc(
         → Answers result (first_fault (item_tests before (Some (Line.MaxArc pair.0 pair.1 arc.cap)))) }
     ensures stands { pos 0 ≤ℤ arc.cap → (before : List Line) → TableHolds capacities (λ b. cap_told b.total) table.old before
         → OnOk result (TableHolds capacities (λ b. cap_told b.total) table.new (before ++ Line.MaxArc pair.0 pair.1 arc.cap ∷ [])) }
+{
+    take_arc(table, alloc, nodes, pair, arc)
+}
+
+// Takes the arc of a `min` line.
+pub(crate) fn take_cost_arc(
+    table: &mut Table<Curve>,
+    alloc: Global,
+    nodes: &i64,
+    pair: (i64, i64),
+    arc: CostArc,
+) -> Result<(), ItemFault>
+    ensures answer { pos 0 ≤ℤ arc.low → (before : List Line) (p : Problem) → problem_of before ≡ Some p → p.kind ≡ Kind.Min → p.nodes ≡ nodes.now → TableHolds costs (λ b. cost_told Form.One b.units b.cost b.steps) table.old before
+        → Answers result (first_fault (item_tests before (Some (Line.MinArc pair.0 pair.1 arc.low arc.cap arc.cost)))) }
+    ensures stands { pos 0 ≤ℤ arc.low → (before : List Line) → TableHolds costs (λ b. cost_told Form.One b.units b.cost b.steps) table.old before
+        → OnOk result (TableHolds costs (λ b. cost_told Form.One b.units b.cost b.steps) table.new (before ++ Line.MinArc pair.0 pair.1 arc.low arc.cap arc.cost ∷ [])) }
 {
     take_arc(table, alloc, nodes, pair, arc)
 }

@@ -1,25 +1,29 @@
 // An instance in the making: what the items after the problem line have made so far.
-ghost use Rattle.std.specs.Prelude.{◌≡◌, List, ◌∷◌, ◌++◌, [], OnOk, OnErr, Some, None};
+ghost use Rattle.std.specs.Prelude.{◌≡◌, List, ◌∷◌, ◌++◌, [], OnOk, OnErr, Some};
 ghost use Rattle.dn_line.specs.declared.line.Line.{Line};
 ghost use Rattle.dn_line.specs.Faults.{first_fault};
 ghost use Rattle.dn_line.specs.Spelling.{kind_before};
 ghost use Rattle.dn_instance.specs.Items.{Problem, problem_of};
 ghost use Rattle.dn_instance.specs.TextFaults.{item_tests};
 ghost use Rattle.dn_instance.specs.ItemFaults.{Answers};
-ghost use Rattle.dn_instance.specs.declared.draft.Draft.{Draft};
 ghost use Rattle.dn_instance.specs.Drafts.{draft_kind, Holds, HasSigns};
 
-use crate::arcs::{take_cap_arc, take_length_arc};
+use crate::arcs::{take_cap_arc, take_cost_arc, take_length_arc};
 use crate::item_fault::ItemFault;
-use crate::items::{take_point, take_query, take_source, take_terminal};
+use crate::items::{take_point, take_query, take_source, take_supply, take_terminal};
 use crate::table::Table;
-use dn_bundle::{CapArc, Least, LengthArc, Total};
+use dn_bundle::{CapArc, CostArc, Curve, Least, LengthArc, Total};
 use dn_line::{Code, Kind, Letter, Line};
 use std::alloc::Global;
-use std::collections::BTreeMap;
+use std::collections::{BTreeMap, BTreeSet};
 
 #[derive(Drop)]
 pub(crate) enum Draft {
+    Min {
+        supplies: BTreeMap<i64, i64>,
+        idle: BTreeSet<i64>,
+        table: Table<Curve>,
+    },
     Max {
         source: Option<i64>,
         sink: Option<i64>,
@@ -33,21 +37,25 @@ pub(crate) enum Draft {
 
 impl Draft {
     // What no items make.
-    pub(crate) fn new(alloc: Global, kind: &Kind) -> Option<Draft>
-        ensures some { (d : Draft) → result ≡ Some d → (draft_kind d ≡ kind.now) × Holds d [] }
-        ensures none { result ≡ None → kind.now ≡ Kind.Min }
+    pub(crate) fn new(alloc: Global, kind: &Kind) -> Draft
+        ensures kind { draft_kind result ≡ kind.now }
+        ensures none { Holds result [] }
     {
         match kind {
-            Kind::Min => None,
-            Kind::Max => Some(Draft::Max {
+            Kind::Min => Draft::Min {
+                supplies: BTreeMap::new(alloc),
+                idle: BTreeSet::new(alloc),
+                table: Table::new(alloc),
+            },
+            Kind::Max => Draft::Max {
                 source: None,
                 sink: None,
                 table: Table::new(alloc),
-            }),
-            Kind::Sp => Some(Draft::Sp(Table::new(alloc))),
-            Kind::Ss => Some(Draft::Ss(Vec::new(alloc))),
-            Kind::P2p => Some(Draft::P2p(Vec::new(alloc))),
-            Kind::Co => Some(Draft::Co(BTreeMap::new(alloc))),
+            },
+            Kind::Sp => Draft::Sp(Table::new(alloc)),
+            Kind::Ss => Draft::Ss(Vec::new(alloc)),
+            Kind::P2p => Draft::P2p(Vec::new(alloc)),
+            Kind::Co => Draft::Co(BTreeMap::new(alloc)),
         }
     }
 
@@ -56,6 +64,7 @@ impl Draft {
         ensures { result ≡ draft_kind self.now }
     {
         match self {
+            Draft::Min { .. } => Kind::Min,
             Draft::Max { .. } => Kind::Max,
             Draft::Sp(_) => Kind::Sp,
             Draft::Ss(_) => Kind::Ss,
@@ -72,6 +81,19 @@ impl Draft {
         ensures kept { draft_kind self.new ≡ draft_kind self.old }
     {
         match (self, line) {
+            (
+                Draft::Min { table, .. },
+                Line::MinArc {
+                    src,
+                    dst,
+                    low,
+                    cap,
+                    cost,
+                },
+            ) => take_cost_arc(table, alloc, nodes, (src, dst), CostArc { low, cap, cost }),
+            (Draft::Min { supplies, idle, .. }, Line::Supply { id, flow }) => {
+                take_supply(supplies, idle, nodes, &id, &flow)
+            }
             (Draft::Max { table, .. }, Line::MaxArc { src, dst, cap }) => {
                 take_cap_arc(table, alloc, nodes, (src, dst), CapArc { cap })
             }
@@ -83,7 +105,10 @@ impl Draft {
                 take_length_arc(table, alloc, nodes, (src, dst), LengthArc { length })
             }
             (Draft::Ss(ids), Line::Source { id }) => take_source(ids, &id),
-            (Draft::P2p(pairs), Line::Query { first, second }) => take_query(pairs, (first, second)),
+            (Draft::P2p(pairs), Line::Query { first, second }) => take_query(
+                pairs,
+                (first, second),
+            ),
             (Draft::Co(points), Line::Point { id, x, y }) => take_point(points, &id, (x, y)),
             _ => Err(ItemFault::Text(Code::WrongLine)),
         }

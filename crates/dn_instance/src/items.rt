@@ -67,7 +67,11 @@ pub(crate) fn take_query(pairs: &mut Vec<(i64, i64)>, pair: (i64, i64)) -> Resul
 }
 
 // Takes the point of a `co` line. On a fault nothing has changed.
-pub(crate) fn take_point(points: &mut BTreeMap<i64, (i64, i64)>, id: &i64, at: (i64, i64)) -> Result<(), ItemFault>
+pub(crate) fn take_point(
+    points: &mut BTreeMap<i64, (i64, i64)>,
+    id: &i64,
+    at: (i64, i64),
+) -> Result<(), ItemFault>
     ensures answer { Answers result (point_fault (is_some (Map.get int_cmp points.old id.now)) id.now) }
     ensures ok { OnOk result (points.new.entries ≡ Map.insert_entry int_cmp points.old.entries id.now at) }
     ensures err { OnErr result (points.new.entries ≡ points.old.entries) }

@@ -32,27 +32,25 @@ impl Progress {
     // What has been read with the first item, if it is a problem line.
     pub(crate) fn begin(alloc: Global, problem: &Line) -> Option<Progress>
         ensures some { (p : Progress) → result ≡ Some p → IsAt p (problem.now ∷ []) }
-        ensures none { result ≡ None → IsSome (problem_in problem.now) → option_map (λ (p : Problem). p.kind) (problem_in problem.now) ≡ Some Kind.Min }
+        ensures none { result ≡ None → problem_in problem.now ≡ None }
     {
         match problem {
-            Line::Graph { kind, nodes, arcs } => Progress::new(alloc, kind, nodes, arcs),
-            Line::Aux { kind, count } => Progress::new(alloc, kind, &0, count),
+            Line::Graph { kind, nodes, arcs } => Some(Progress::new(alloc, kind, nodes, arcs)),
+            Line::Aux { kind, count } => Some(Progress::new(alloc, kind, &0, count)),
             _ => None,
         }
     }
 
     // What has been read with a problem line that declares this.
-    fn new(alloc: Global, kind: &Kind, nodes: &i64, count: &i64) -> Option<Progress>
-        ensures some { (p : Progress) (i : Line) → result ≡ Some p → problem_in i ≡ Some (record { kind = kind.now; nodes = nodes.now; count = count.now }) → IsAt p (i ∷ []) }
-        ensures none { result ≡ None → kind.now ≡ Kind.Min }
+    fn new(alloc: Global, kind: &Kind, nodes: &i64, count: &i64) -> Progress
+        ensures { (i : Line) → problem_in i ≡ Some (record { kind = kind.now; nodes = nodes.now; count = count.now }) → IsAt result (i ∷ []) }
     {
-        let draft = Draft::new(alloc, kind)?;
-        Some(Progress {
+        Progress {
             nodes: *nodes,
             count: *count,
             counted: 0,
-            draft,
-        })
+            draft: Draft::new(alloc, kind),
+        }
     }
 
     // The kind of text that it is.

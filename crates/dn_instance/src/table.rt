@@ -60,7 +60,12 @@ impl<B: Bundle> Table<B> {
     }
 
     // Takes an arc at a pair. On a fault nothing has changed.
-    pub(crate) fn add(&mut self, alloc: Global, pair: (i64, i64), arc: B::Arc) -> Result<(), BundleFault>
+    pub(crate) fn add(
+        &mut self,
+        alloc: Global,
+        pair: (i64, i64),
+        arc: B::Arc,
+    ) -> Result<(), BundleFault>
         requires { B.kind.IsArc arc }
         ensures ok { OnOk result (Grows B.kind (B.told Form.One) self.old self.new pair arc) }
         ensures err { OnErr result (self.new ≡ self.old) }

@@ -1,21 +1,24 @@
 // What the complete lines of a text make, one after the other.
-ghost use Rattle.std.specs.Prelude.{◌≡◌, ◌≢◌, List, ◌∷◌, ◌++◌, [], OnOk, Ok, Some, None, Option, cond};
-ghost use Rattle.std.specs.Option.{option_map};
+ghost use Rattle.std.specs.Prelude.{◌≡◌, ◌≢◌, ℕ, ◌+◌, length, List, ◌∷◌, ◌++◌, [], OnOk, Ok, Some, None, Option, cond, true, false};
 ghost use Rattle.dn_line.specs.declared.line.Line.{Line};
 ghost use Rattle.dn_line.specs.declared.word.Word.{Word};
 ghost use Rattle.dn_line.specs.Words.{is_skip, said_words};
 ghost use Rattle.dn_line.specs.Faults.{first_fault};
 ghost use Rattle.dn_line.specs.Reading.{head_read};
 ghost use Rattle.dn_line.specs.LineStates.{LineSoFar, Stands};
-ghost use Rattle.dn_instance.specs.Items.{Problem, problem_in, kind_known};
-ghost use Rattle.dn_instance.specs.TextFaults.{order_tests, item_tests};
+ghost use Rattle.dn_instance.specs.Items.{kind_known};
+ghost use Rattle.dn_instance.specs.TextFaults.{order_tests, item_tests, line_fault};
 ghost use Rattle.dn_instance.specs.ItemFaults.{Answers};
-ghost use Rattle.dn_instance.specs.TextsSoFar.{IsProgress, MayFollow, next_read};
+ghost use Rattle.dn_instance.specs.Texts.{items_of};
+ghost use Rattle.dn_instance.specs.TextsSoFar.{IsProgress, MayFollow, next_read, fault_next, with_next, HasRead};
 
 use crate::item_fault::ItemFault;
 use crate::progress::Progress;
 use dn_line::{Code, Head, Kind, Line, LineReader};
 use std::alloc::Global;
+
+// As many lines as a text may have.
+const LAST: i64 = i64::MAX - 1;
 
 #[derive(Drop)]
 pub(crate) struct TextSoFar {
@@ -57,12 +60,58 @@ impl TextSoFar {
             Err(code) => Err(code),
         }
     }
+
+    // Takes the next line, its number aside.
+    fn judge(&mut self, alloc: Global, line: &LineReader) -> Result<(), ItemFault>
+        ensures answer { (items : List Line) (l : LineSoFar) → IsProgress self.old.progress items → Stands line.now l
+            → Answers result (fault_next items (said_words l.bytes)) }
+        ensures stands { (items : List Line) (l : LineSoFar) → IsProgress self.old.progress items → Stands line.now l
+            → OnOk result (IsProgress self.new.progress (with_next items (said_words l.bytes))) }
+        ensures kept { self.new.closed ≡ self.old.closed }
+    {
+        match self.read(line) {
+            Ok(item) => {
+                if is_skip(&item) {
+                    Ok(())
+                } else {
+                    put(&mut self.progress, alloc, item)
+                }
+            }
+            Err(code) => Err(ItemFault::Text(code)),
+        }
+    }
+
+    // Takes the next line.
+    pub(crate) fn take_line(&mut self, alloc: Global, line: &LineReader) -> Result<(), ItemFault>
+        ensures answer { (ls : List (List ℕ)) (l : LineSoFar) → HasRead self.old ls → Stands line.now l
+            → Answers result (line_fault (length ls + 1) (items_of ls) (said_words l.bytes)) }
+        ensures stands { (ls : List (List ℕ)) (l : LineSoFar) → HasRead self.old ls → Stands line.now l
+            → OnOk result (HasRead self.new (ls ++ l.bytes ∷ [])) }
+    {
+        if LAST <= self.closed {
+            return Err(ItemFault::Text(Code::TooLong));
+        }
+        match self.judge(alloc, line) {
+            Ok(()) => {
+                self.closed += 1;
+                Ok(())
+            }
+            Err(fault) => Err(fault),
+        }
+    }
+}
+
+// Whether the line spells no item.
+fn is_skip(item: &Line) -> bool
+    ensures skip { result ≡ true → item.now ≡ Line.Skip }
+    ensures item { result ≡ false → item.now ≢ Line.Skip }
+{
+    matches!(item, Line::Skip)
 }
 
 // Takes the next item. The first is the problem line.
 fn put(progress: &mut Option<Progress>, alloc: Global, item: Line) -> Result<(), ItemFault>
-    ensures answer { (before : List Line) → IsProgress progress.old before → MayFollow before item → option_map (λ (p : Problem). p.kind) (problem_in item) ≢ Some Kind.Min
-        → Answers result (first_fault (item_tests before (Some item))) }
+    ensures answer { (before : List Line) → IsProgress progress.old before → MayFollow before item → Answers result (first_fault (item_tests before (Some item))) }
     ensures stands { (before : List Line) → IsProgress progress.old before → MayFollow before item → OnOk result (IsProgress progress.new (before ++ item ∷ [])) }
 {
     match progress {

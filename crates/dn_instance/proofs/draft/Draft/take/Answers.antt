@@ -3,108 +3,142 @@ use Rattle.std.specs.Int.RustNames.{FitsSigned}
 use Rattle.std.proofs.lemmas.Int.{to_z-of_z}
 use Rattle.dn_line.specs.declared.line.Line.TheVariants.{Terminal}
 use Rattle.dn_instance.specs.Drafts.{HasSigns, draft_kind}
-use Rattle.dn_instance.proofs.DraftLaws.{to_answer, to_stand, source_answer, sink_answer, id_answer, pair_answer, point_answer, source_stand, sink_stand, cap_stand, id_stand, pair_stand, point_stand, no_max, no_sp, no_ss, no_p2p, no_co, refused}
+use Rattle.dn_instance.proofs.DraftLaws.{to_answer, to_stand, source_answer, sink_answer, id_answer, pair_answer, point_answer, source_stand, sink_stand, cap_stand, id_stand, pair_stand, point_stand, no_min, no_max, no_sp, no_ss, no_p2p, no_co, refused}
+use Rattle.dn_instance.proofs.SupplyItems.{supply_answer, supply_stand, cost_stand}
 use Rattle.dn_instance.proofs.draft.Draft.take.Goals as goal
-use Rattle.dn_instance.proofs.draft.Draft.take.Goals.{in-Max-MaxArc, in-Max-Terminal+in-S, in-Max-Terminal+in-T, in-Sp-SpArc, in-Ss-Source, in-P2p-Query, in-Co-Point, in_default, in_default-2, in_default-3, in_default-4, in_default-5}
+use Rattle.dn_instance.proofs.draft.Draft.take.Goals.{in-Min-MinArc, in-Min-Supply, in-Max-MaxArc, in-Max-Terminal+in-S, in-Max-Terminal+in-T, in-Sp-SpArc, in-Ss-Source, in-P2p-Query, in-Co-Point, in_default, in_default-2, in_default-3, in_default-4, in_default-5, in_default-6}
 
 pub returns-clause-answer : goal.returns-clause-answer
 returns-clause-answer c kind signs =
     elim c.match-self.branch [
+      | in-Min-MinArc w ↦
+          (let fs : FitsSigned w64 w.in-Min-MinArc.src = search rules in
+          let fd : FitsSigned w64 w.in-Min-MinArc.dst = search rules in
+          let fl : FitsSigned w64 w.in-Min-MinArc.low = search rules in
+          let fc : FitsSigned w64 w.in-Min-MinArc.cap = search rules in
+          let fk : FitsSigned w64 w.in-Min-MinArc.cost = search rules in
+          let ans = simp to_z-of_z at w.take_cost_arc.ensures.answer in
+          to_answer c.args.nodes.now c.args.self.now _ c.args.line _ c.match-self.result _ w.in-Min-MinArc.is-0 w.in-Min-MinArc.is-1 w.result-is
+          (λ before p h k n holds. ans (subst HasSigns w.in-Min-MinArc.is-1 signs).0 before p h k n holds.2))
+      | in-Min-Supply w ↦
+          (let fi : FitsSigned w64 w.in-Min-Supply.id = search rules in
+          let ff : FitsSigned w64 w.in-Min-Supply.flow = search rules in
+          let ans = simp to_z-of_z at w.take_supply.ensures.answer in
+          to_answer c.args.nodes.now c.args.self.now _ c.args.line _ c.match-self.result _ w.in-Min-Supply.is-0 w.in-Min-Supply.is-1 w.result-is
+          (supply_answer c.args.nodes.now w.in-Min-Supply.id w.in-Min-Supply.flow w.in-Min-Supply.supplies w.in-Min-Supply.idle _ w.take_supply.result ans))
       | in-Max-MaxArc w ↦
-        (let fs : FitsSigned w64 w.in-Max-MaxArc.src = search rules in
+          (let fs : FitsSigned w64 w.in-Max-MaxArc.src = search rules in
           let fd : FitsSigned w64 w.in-Max-MaxArc.dst = search rules in
           let fc : FitsSigned w64 w.in-Max-MaxArc.cap = search rules in
           let ans = simp to_z-of_z at w.take_cap_arc.ensures.answer in
           to_answer c.args.nodes.now c.args.self.now _ c.args.line _ c.match-self.result _ w.in-Max-MaxArc.is-0 w.in-Max-MaxArc.is-1 w.result-is
           (λ before p h k n holds. ans (subst HasSigns w.in-Max-MaxArc.is-1 signs) before p h k n holds.2))
       | in-Max-Terminal+in-S w ↦
-        (let fi : FitsSigned w64 w.in-Max-Terminal.id = search rules in
+          (let fi : FitsSigned w64 w.in-Max-Terminal.id = search rules in
           let ans = simp to_z-of_z at w.take_terminal.ensures.answer in
           to_answer c.args.nodes.now c.args.self.now _ c.args.line _ c.match-self.result _ w.in-Max-Terminal.is-0 (w.in-Max-Terminal.is-1 ∙ ap (Terminal w.in-Max-Terminal.id) w.in-S.is) w.result-is
           (source_answer c.args.nodes.now w.in-Max-Terminal.id _ _ _ w.take_terminal.result ans))
       | in-Max-Terminal+in-T w ↦
-        (let fi : FitsSigned w64 w.in-Max-Terminal.id = search rules in
+          (let fi : FitsSigned w64 w.in-Max-Terminal.id = search rules in
           let ans = simp to_z-of_z at w.take_terminal-in-T.ensures.answer in
           to_answer c.args.nodes.now c.args.self.now _ c.args.line _ c.match-self.result _ w.in-Max-Terminal.is-0 (w.in-Max-Terminal.is-1 ∙ ap (Terminal w.in-Max-Terminal.id) w.in-T.is) w.result-is
           (sink_answer c.args.nodes.now w.in-Max-Terminal.id _ _ _ w.take_terminal-in-T.result ans))
       | in-Sp-SpArc w ↦
-        (let fs : FitsSigned w64 w.in-Sp-SpArc.src = search rules in
+          (let fs : FitsSigned w64 w.in-Sp-SpArc.src = search rules in
           let fd : FitsSigned w64 w.in-Sp-SpArc.dst = search rules in
           let fl : FitsSigned w64 w.in-Sp-SpArc.length = search rules in
           let ans = simp to_z-of_z at w.take_length_arc.ensures.answer in
           to_answer c.args.nodes.now c.args.self.now _ c.args.line _ c.match-self.result _ w.in-Sp-SpArc.is-0 w.in-Sp-SpArc.is-1 w.result-is ans)
       | in-Ss-Source w ↦
-        (let fi : FitsSigned w64 w.in-Ss-Source.id = search rules in
+          (let fi : FitsSigned w64 w.in-Ss-Source.id = search rules in
           let ans = simp to_z-of_z at w.take_source.ensures.answer in
           to_answer c.args.nodes.now c.args.self.now _ c.args.line _ c.match-self.result _ w.in-Ss-Source.is-0 w.in-Ss-Source.is-1 w.result-is
           (id_answer c.args.nodes.now w.in-Ss-Source.id w.in-Ss-Source.ids w.take_source.result ans))
       | in-P2p-Query w ↦
-        (let fa : FitsSigned w64 w.in-P2p-Query.first = search rules in
+          (let fa : FitsSigned w64 w.in-P2p-Query.first = search rules in
           let fb : FitsSigned w64 w.in-P2p-Query.second = search rules in
           let ans = simp to_z-of_z at w.take_query.ensures.answer in
           to_answer c.args.nodes.now c.args.self.now _ c.args.line _ c.match-self.result _ w.in-P2p-Query.is-0 w.in-P2p-Query.is-1 w.result-is
           (pair_answer c.args.nodes.now (w.in-P2p-Query.first, w.in-P2p-Query.second) w.in-P2p-Query.pairs w.take_query.result ans))
       | in-Co-Point w ↦
-        (let fi : FitsSigned w64 w.in-Co-Point.id = search rules in
+          (let fi : FitsSigned w64 w.in-Co-Point.id = search rules in
           let ans = simp to_z-of_z at w.take_point.ensures.answer in
           to_answer c.args.nodes.now c.args.self.now _ c.args.line _ c.match-self.result _ w.in-Co-Point.is-0 w.in-Co-Point.is-1 w.result-is
           (point_answer c.args.nodes.now w.in-Co-Point.id w.in-Co-Point.x w.in-Co-Point.y w.in-Co-Point.points w.take_point.result ans))
-      | in_default w ↦ absurd (no_max c.args.line (ap (λ d. Some (draft_kind d)) (sym w.in_default.is-0) ∙ kind) w.in_default.not-Terminal-1 w.in_default.not-MaxArc-1)
-      | in_default-2 w ↦ absurd (no_sp c.args.line (ap (λ d. Some (draft_kind d)) (sym w.in_default.is-0) ∙ kind) w.in_default.not-SpArc-1)
-      | in_default-3 w ↦ absurd (no_ss c.args.line (ap (λ d. Some (draft_kind d)) (sym w.in_default.is-0) ∙ kind) w.in_default.not-Source-1)
-      | in_default-4 w ↦ absurd (no_p2p c.args.line (ap (λ d. Some (draft_kind d)) (sym w.in_default.is-0) ∙ kind) w.in_default.not-Query-1)
-      | in_default-5 w ↦ absurd (no_co c.args.line (ap (λ d. Some (draft_kind d)) (sym w.in_default.is-0) ∙ kind) w.in_default.not-Point-1)
+      | in_default-2 w ↦ absurd (no_max c.args.line (ap (λ d. Some (draft_kind d)) (sym w.in_default.is-0) ∙ kind) w.in_default.not-Terminal-1 w.in_default.not-MaxArc-1)
+      | in_default-3 w ↦ absurd (no_sp c.args.line (ap (λ d. Some (draft_kind d)) (sym w.in_default.is-0) ∙ kind) w.in_default.not-SpArc-1)
+      | in_default-4 w ↦ absurd (no_ss c.args.line (ap (λ d. Some (draft_kind d)) (sym w.in_default.is-0) ∙ kind) w.in_default.not-Source-1)
+      | in_default-5 w ↦ absurd (no_p2p c.args.line (ap (λ d. Some (draft_kind d)) (sym w.in_default.is-0) ∙ kind) w.in_default.not-Query-1)
+      | in_default-6 w ↦ absurd (no_co c.args.line (ap (λ d. Some (draft_kind d)) (sym w.in_default.is-0) ∙ kind) w.in_default.not-Point-1)
+      | in_default w ↦ absurd (no_min c.args.line (ap (λ d. Some (draft_kind d)) (sym w.in_default.is-0) ∙ kind) w.in_default.not-Supply-1 w.in_default.not-MinArc-1)
     ]
 
 pub returns-clause-stands : goal.returns-clause-stands
 returns-clause-stands c signs =
     elim c.match-self.branch [
+      | in-Min-MinArc w ↦
+          (let fs : FitsSigned w64 w.in-Min-MinArc.src = search rules in
+          let fd : FitsSigned w64 w.in-Min-MinArc.dst = search rules in
+          let fl : FitsSigned w64 w.in-Min-MinArc.low = search rules in
+          let fc : FitsSigned w64 w.in-Min-MinArc.cap = search rules in
+          let fk : FitsSigned w64 w.in-Min-MinArc.cost = search rules in
+          let ok = simp to_z-of_z at w.take_cost_arc.ensures.stands in
+          to_stand c.args.self.now _ c.args.line _ c.match-self.self _ c.match-self.result _ w.in-Min-MinArc.is-0 w.in-Min-MinArc.is-1 w.self-is w.result-is
+          (cost_stand w.in-Min-MinArc.supplies-0 w.in-Min-MinArc.idle-0 _ _ w.in-Min-MinArc.src w.in-Min-MinArc.dst w.in-Min-MinArc.low w.in-Min-MinArc.cap w.in-Min-MinArc.cost w.take_cost_arc.result (ok (subst HasSigns w.in-Min-MinArc.is-1 signs).0)))
+      | in-Min-Supply w ↦
+          (let fi : FitsSigned w64 w.in-Min-Supply.id = search rules in
+          let ff : FitsSigned w64 w.in-Min-Supply.flow = search rules in
+          let put = simp to_z-of_z at w.take_supply.ensures.supplies in
+          let kept = simp to_z-of_z at w.take_supply.ensures.idle in
+          to_stand c.args.self.now _ c.args.line _ c.match-self.self _ c.match-self.result _ w.in-Min-Supply.is-0 w.in-Min-Supply.is-1 w.self-is w.result-is
+          (supply_stand w.in-Min-Supply.id w.in-Min-Supply.flow w.in-Min-Supply.supplies w.take_supply.new.supplies w.in-Min-Supply.idle w.take_supply.new.idle _ w.take_supply.result put kept))
       | in-Max-MaxArc w ↦
-        (let fs : FitsSigned w64 w.in-Max-MaxArc.src = search rules in
+          (let fs : FitsSigned w64 w.in-Max-MaxArc.src = search rules in
           let fd : FitsSigned w64 w.in-Max-MaxArc.dst = search rules in
           let fc : FitsSigned w64 w.in-Max-MaxArc.cap = search rules in
           let ok = simp to_z-of_z at w.take_cap_arc.ensures.stands in
           to_stand c.args.self.now _ c.args.line _ c.match-self.self _ c.match-self.result _ w.in-Max-MaxArc.is-0 w.in-Max-MaxArc.is-1 w.self-is w.result-is
           (cap_stand _ _ _ _ w.in-Max-MaxArc.src w.in-Max-MaxArc.dst w.in-Max-MaxArc.cap w.take_cap_arc.result (ok (subst HasSigns w.in-Max-MaxArc.is-1 signs))))
       | in-Max-Terminal+in-S w ↦
-        (let fi : FitsSigned w64 w.in-Max-Terminal.id = search rules in
+          (let fi : FitsSigned w64 w.in-Max-Terminal.id = search rules in
           let ans = simp to_z-of_z at w.take_terminal.ensures.answer in
           let ok = simp to_z-of_z at w.take_terminal.ensures.ok in
           to_stand c.args.self.now _ c.args.line _ c.match-self.self _ c.match-self.result _ w.in-Max-Terminal.is-0 (w.in-Max-Terminal.is-1 ∙ ap (Terminal w.in-Max-Terminal.id) w.in-S.is) w.self-is w.result-is
           (source_stand c.args.nodes.now w.in-Max-Terminal.id _ _ _ _ w.take_terminal.result ans ok))
       | in-Max-Terminal+in-T w ↦
-        (let fi : FitsSigned w64 w.in-Max-Terminal.id = search rules in
+          (let fi : FitsSigned w64 w.in-Max-Terminal.id = search rules in
           let ans = simp to_z-of_z at w.take_terminal-in-T.ensures.answer in
           let ok = simp to_z-of_z at w.take_terminal-in-T.ensures.ok in
           to_stand c.args.self.now _ c.args.line _ c.match-self.self _ c.match-self.result _ w.in-Max-Terminal.is-0 (w.in-Max-Terminal.is-1 ∙ ap (Terminal w.in-Max-Terminal.id) w.in-T.is) w.self-is w.result-is
           (sink_stand c.args.nodes.now w.in-Max-Terminal.id _ _ _ _ w.take_terminal-in-T.result ans ok))
       | in-Sp-SpArc w ↦
-        (let fs : FitsSigned w64 w.in-Sp-SpArc.src = search rules in
+          (let fs : FitsSigned w64 w.in-Sp-SpArc.src = search rules in
           let fd : FitsSigned w64 w.in-Sp-SpArc.dst = search rules in
           let fl : FitsSigned w64 w.in-Sp-SpArc.length = search rules in
           let ok = simp to_z-of_z at w.take_length_arc.ensures.stands in
           to_stand c.args.self.now _ c.args.line _ c.match-self.self _ c.match-self.result _ w.in-Sp-SpArc.is-0 w.in-Sp-SpArc.is-1 w.self-is w.result-is ok)
       | in-Ss-Source w ↦
-        (let fi : FitsSigned w64 w.in-Ss-Source.id = search rules in
+          (let fi : FitsSigned w64 w.in-Ss-Source.id = search rules in
           let ok = simp to_z-of_z at w.take_source.ensures.ok in
           to_stand c.args.self.now _ c.args.line _ c.match-self.self _ c.match-self.result _ w.in-Ss-Source.is-0 w.in-Ss-Source.is-1 w.self-is w.result-is
           (id_stand w.in-Ss-Source.id w.in-Ss-Source.ids w.take_source.new.ids w.take_source.result ok))
       | in-P2p-Query w ↦
-        (let fa : FitsSigned w64 w.in-P2p-Query.first = search rules in
+          (let fa : FitsSigned w64 w.in-P2p-Query.first = search rules in
           let fb : FitsSigned w64 w.in-P2p-Query.second = search rules in
           let ok = simp to_z-of_z at w.take_query.ensures.ok in
           to_stand c.args.self.now _ c.args.line _ c.match-self.self _ c.match-self.result _ w.in-P2p-Query.is-0 w.in-P2p-Query.is-1 w.self-is w.result-is
           (pair_stand (w.in-P2p-Query.first, w.in-P2p-Query.second) w.in-P2p-Query.pairs w.take_query.new.pairs w.take_query.result ok))
       | in-Co-Point w ↦
-        (let fi : FitsSigned w64 w.in-Co-Point.id = search rules in
+          (let fi : FitsSigned w64 w.in-Co-Point.id = search rules in
           let fx : FitsSigned w64 w.in-Co-Point.x = search rules in
           let fy : FitsSigned w64 w.in-Co-Point.y = search rules in
           let ok = simp to_z-of_z at w.take_point.ensures.ok in
           to_stand c.args.self.now _ c.args.line _ c.match-self.self _ c.match-self.result _ w.in-Co-Point.is-0 w.in-Co-Point.is-1 w.self-is w.result-is
           (point_stand w.in-Co-Point.id w.in-Co-Point.x w.in-Co-Point.y w.in-Co-Point.points w.take_point.new.points w.take_point.result ok))
-      | in_default w ↦ refused c.args.self.now c.args.line c.match-self.self c.match-self.result _ w.result-is
       | in_default-2 w ↦ refused c.args.self.now c.args.line c.match-self.self c.match-self.result _ w.result-is
       | in_default-3 w ↦ refused c.args.self.now c.args.line c.match-self.self c.match-self.result _ w.result-is
       | in_default-4 w ↦ refused c.args.self.now c.args.line c.match-self.self c.match-self.result _ w.result-is
       | in_default-5 w ↦ refused c.args.self.now c.args.line c.match-self.self c.match-self.result _ w.result-is
+      | in_default-6 w ↦ refused c.args.self.now c.args.line c.match-self.self c.match-self.result _ w.result-is
+      | in_default w ↦ refused c.args.self.now c.args.line c.match-self.self c.match-self.result _ w.result-is
     ]

@@ -1,4 +1,4 @@
-use Rattle.std.proofs.Common.{rules, ◌≡◌, ℤ, pos, ◌+ℤ◌, ◌<ℤ◌, ◌^◌, ◌++◌, ◌∷◌, [], Some, OnOk, true, FitsSigned, suc, to_z, of_z, to_z-of_z, w64, sym, ap, ◌∙◌, refl, subst}
+use Rattle.std.proofs.Common.{rules, ◌≡◌, pos, ◌+ℤ◌, ◌++◌, ◌∷◌, [], Some, OnOk, FitsSigned, suc, to_z, of_z, to_z-of_z, w64, sym, ap, ◌∙◌, refl, subst}
 use Rattle.std.specs.Int.{saturate_signed}
 use Rattle.dn_line.specs.Faults.{first_fault}
 use Rattle.dn_instance.specs.Items.{counted}
@@ -29,3 +29,8 @@ returns-else-is_counted-clause-stands c kind signs before at room =
 -- src/progress.rt:52:5
 pub returns-in-Err-clause-answer : goal.returns-in-Err-clause-answer
 returns-in-Err-clause-answer c kind signs before at = subst (λ r. Answers r (first_fault (item_tests before (Some c.args.item)))) c.in-Err.is (c.take.ensures.answer kind signs before _ at.problem_is refl refl at.holds)
+
+-- src/progress.rt:79:5
+pub returns-then-is_counted-clause-answer : goal.returns-then-is_counted-clause-answer
+returns-then-is_counted-clause-answer c kind signs before at =
+    subst (λ r. Answers r (first_fault (item_tests before (Some c.args.item)))) c.in-Ok.is (c.take.ensures.answer kind signs before _ at.problem_is refl refl at.holds)

@@ -1,10 +1,8 @@
-use Rattle.std.proofs.Common.{◌≡◌, [], ◌++◌, ◌∷◌, subst, refl, sym, ap, ◌∙◌}
+use Rattle.std.proofs.Common.{subst, refl, sym, ◌∙◌}
 use Rattle.std.specs.Option.{IsSome}
-use Rattle.std.specs.Map.{lookup}
 use Rattle.std.proofs.lemmas.Result.{on_ok_weaker, on_err_weaker}
 use Rattle.std.proofs.lemmas.Map.Steps.{set_value_same}
 use Rattle.dn_bundle.specs.declared.arc.Form.TheVariants.{One}
-use Rattle.dn_instance.specs.Pairs.{same_pair}
 use Rattle.dn_instance.specs.TableSteps.{Grows}
 use Rattle.dn_instance.proofs.TableLaws.{grows_there, told_there, found_still, sum_told}
 use Rattle.dn_instance.proofs.table.Table.add.Goals as goal

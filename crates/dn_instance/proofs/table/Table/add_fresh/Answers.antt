@@ -1,5 +1,5 @@
-use Rattle.std.proofs.Common.{◌≡◌, true, false, [], ◌++◌, ◌∷◌, subst, refl, sym, ap, ◌∙◌}
-use Rattle.std.proofs.lemmas.Result.{on_ok_weaker, err_from_is_err_and}
+use Rattle.std.proofs.Common.{◌≡◌, true, false, refl, sym, ◌∙◌}
+use Rattle.std.proofs.lemmas.Result.{err_from_is_err_and}
 use Rattle.dn_bundle.specs.declared.arc.Form.TheVariants.{One}
 use Rattle.dn_instance.proofs.TableLaws.{grows_fresh, grows_none, told_none, sum_told, neither, on_ok_both, only_memory}
 use Rattle.dn_instance.proofs.table.Table.add_fresh.Goals as goal

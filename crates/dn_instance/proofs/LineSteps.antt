@@ -1,0 +1,107 @@
+-- The complete lines with one line more.
+use Rattle.std.proofs.Common.{◌≡◌, ℕ, suc, ◌+◌, ◌-◌, ◌^◌, ◌<◌, ℤ, pos, ◌≤ℤ◌, List, [], ◌∷◌, ◌++◌, length, Bool, true, false, cond, Option, Some, None, refl, sym, ap, ◌∙◌, subst, arith, int_le, ◌+ℤ◌, FitsSigned, w64, to_z, of_z, to_z-of_z, length-append, ◌⊎◌, inl, inr}
+use Rattle.std.proofs.lemmas.Int.{ints, fits_signed_from_abs}
+use Rattle.std.proofs.lemmas.Bool.Decides.{nat_tests}
+use Rattle.std.specs.Option.{option_to_list}
+use Rattle.dn_line.specs.declared.kind.Kind.{Kind}
+use Rattle.dn_line.specs.declared.line.Line.{Line}
+use Rattle.dn_line.specs.declared.word.Word.{Word}
+use Rattle.dn_line.specs.declared.code.Code.TheVariants.{TooLong}
+use Rattle.dn_line.specs.Words.{said_words, is_skip}
+use Rattle.dn_line.specs.Faults.{first_fault}
+use Rattle.dn_instance.specs.TextFaults.{line_tests, line_fault, is_too_long}
+use Rattle.dn_instance.specs.declared.text_so_far.TextSoFar.{TextSoFar}
+use Rattle.dn_instance.specs.Texts.{IsClean, items_of, text_kind}
+use Rattle.dn_instance.specs.TextsSoFar.{IsProgress, HasRead, fault_next, with_next}
+use Rattle.dn_instance.proofs.FirstFaults.{fault_after, by_clean_lines}
+use Rattle.dn_instance.proofs.CleanItems.{InStep, AddsOne, skipped, adds_known, adds_problem, no_fault}
+use Rattle.dn_instance.proofs.FollowLaws.{skip_adds_none}
+
+-- a line that is not too long has the faults of its items and words
+pub fault_is_next : (n : ℕ) (before : List Line) (ws : List Word) → is_too_long n ≡ false → line_fault n before ws ≡ fault_next before ws
+fault_is_next n before ws h = ap (λ b. cond b (Some TooLong) (first_fault (cond (is_skip ws) [] (line_tests before ws)))) h ∙ by_skip (is_skip ws)
+  where
+    by_skip : (b : Bool) → first_fault (cond b [] (line_tests before ws)) ≡ cond b None (first_fault (line_tests before ws))
+    by_skip true = refl
+    by_skip false = refl
+
+pub too_long : (n : ℕ) (before : List Line) (ws : List Word) → is_too_long n ≡ true → line_fault n before ws ≡ Some TooLong
+too_long n before ws h = ap (λ b. cond b (Some TooLong) (first_fault (cond (is_skip ws) [] (line_tests before ws)))) h
+
+pub is_late : (n : ℕ) (z : ℤ) → z ≡ pos n → pos (2 ^ 63 - 2) ≤ℤ z → is_too_long (n + 1) ≡ true
+is_late n z e h = grind (arith, ints, nat_tests)
+
+-- where a line stands in a list with one more at its end
+split : (ls before after : List (List ℕ)) (l m : List ℕ) → ls ++ l ∷ [] ≡ before ++ m ∷ after → ((before ≡ ls) × (m ≡ l)) ⊎ ((a : List (List ℕ)) × (ls ≡ before ++ m ∷ a))
+split [] [] after l m e = let same : m ≡ l = cc in inl (refl, same)
+split [] (b ∷ before) after l m e = let n = ap length e in let k = length-append before (m ∷ after) in absurd (omega arith)
+split (x ∷ ls) [] after l m e = let same : x ≡ m = cc in inr (ls, ap (λ y. y ∷ ls) same)
+split (x ∷ ls) (b ∷ before) after l m e =
+    let same : x ≡ b = cc in
+    let rest : ls ++ l ∷ [] ≡ before ++ m ∷ after = cc in
+    by_rest same (split ls before after l m rest)
+  where
+    by_rest : x ≡ b → ((before ≡ ls) × (m ≡ l)) ⊎ ((a : List (List ℕ)) × (ls ≡ before ++ m ∷ a)) → ((b ∷ before ≡ x ∷ ls) × (m ≡ l)) ⊎ ((a : List (List ℕ)) × (x ∷ ls ≡ (b ∷ before) ++ m ∷ a))
+    by_rest same (inl (f, g)) = inl (ap (λ y. y ∷ before) (sym same) ∙ ap (λ y. x ∷ y) f, g)
+    by_rest same (inr (a, h)) = inr (a, ap (λ y. y ∷ ls) same ∙ ap (λ y. b ∷ y) h)
+
+-- a clean text stays so with a line without fault
+pub clean_more : (ls : List (List ℕ)) (l : List ℕ) → IsClean ls → fault_after ls l ≡ None → IsClean (ls ++ l ∷ [])
+clean_more ls l clean h number code f = by_split (split ls f.before f.after l f.line f.lines_are)
+  where
+    there : fault_after f.before f.line ≡ Some code
+    there = ap (λ n. line_fault n (items_of f.before) (said_words f.line)) (sym f.number_is) ∙ f.fault_is
+
+    by_split : ((f.before ≡ ls) × (f.line ≡ l)) ⊎ ((a : List (List ℕ)) × (ls ≡ f.before ++ f.line ∷ a)) → ⊥
+    by_split (inl (b, m)) = let never : None ≡ Some code = sym h ∙ sym (ap (λ x. fault_after x f.line) b ∙ ap (fault_after ls) m) ∙ there in cc
+    by_split (inr (a, e)) = clean number code (record { before = f.before; line = f.line; after = a; lines_are = e; number_is = f.number_is; fault_is = f.fault_is })
+
+-- what a line without fault adds
+adds_one : (ls : List (List ℕ)) (l : List ℕ) (k : Option Kind) → text_kind ls ≡ k → InStep ls → is_skip (said_words l) ≡ false → fault_after ls l ≡ None → AddsOne ls l
+adds_one ls l None h s e f = adds_problem ls l h s e (no_fault (length ls + 1) (items_of ls) (said_words l) e f)
+adds_one ls l (Some k) h s e f = adds_known ls l k h s e (no_fault (length ls + 1) (items_of ls) (said_words l) e f)
+
+step_line : (ls : List (List ℕ)) (l : List ℕ) (b : Bool) → is_skip (said_words l) ≡ b → fault_after ls l ≡ None → InStep ls → InStep (ls ++ l ∷ [])
+step_line ls l true e f s = (skipped ls l s e).in_step
+step_line ls l false e f s = (adds_one ls l (text_kind ls) refl s e f).in_step
+
+in_step : (ls : List (List ℕ)) → IsClean ls → InStep ls
+in_step ls clean = by_clean_lines InStep ls clean (λ b l f s. step_line b l (is_skip (said_words l)) refl f s) (record { kind_is = refl; none_yet = λ e k. refl })
+
+next_items : (ls : List (List ℕ)) (l : List ℕ) (b : Bool) → is_skip (said_words l) ≡ b → fault_after ls l ≡ None → InStep ls → items_of (ls ++ l ∷ []) ≡ with_next (items_of ls) (said_words l)
+next_items ls l true e f s = (skipped ls l s e).items_are ∙ sym (skip_adds_none (items_of ls) (said_words l) e)
+next_items ls l false e f s = let a = adds_one ls l (text_kind ls) refl s e f in a.items_are ∙ sym (ap (λ o. items_of ls ++ option_to_list o) a.read)
+
+pub items_then : (ls : List (List ℕ)) (l : List ℕ) → IsClean ls → fault_after ls l ≡ None → items_of (ls ++ l ∷ []) ≡ with_next (items_of ls) (said_words l)
+items_then ls l clean f = next_items ls l (is_skip (said_words l)) refl f (in_step ls clean)
+
+-- with a line more
+pub read_more : (t : TextSoFar) (ls : List (List ℕ)) (l : List ℕ) (u : TextSoFar) → HasRead t ls → fault_after ls l ≡ None → u.closed ≡ pos (suc (length ls)) → suc (length ls) < 2 ^ 63 - 1 → IsProgress u.progress (with_next (items_of ls) (said_words l)) → HasRead u (ls ++ l ∷ [])
+read_more t ls l u h f number few p =
+    let n : length (ls ++ l ∷ []) ≡ suc (length ls) = length-append ls (l ∷ []) ∙ arith_one (length ls) in
+    record {
+      clean = clean_more ls l h.clean f;
+      few = subst (λ k. k < 2 ^ 63 - 1) (sym n) few;
+      number_is = number ∙ ap pos (sym n);
+      progress_is = subst (IsProgress u.progress) (sym (items_then ls l h.clean f)) p;
+    }
+  where
+    arith_one : (k : ℕ) → k + 1 ≡ suc k
+    arith_one k = omega arith
+
+pub in_time : (n : ℕ) (z : ℤ) → z ≡ pos n → int_le (pos (2 ^ 63 - 2)) z ≡ false → is_too_long (n + 1) ≡ false
+in_time n z e h = grind (arith, ints, nat_tests)
+
+pub few_more : (n : ℕ) → is_too_long (n + 1) ≡ false → suc n < 2 ^ 63 - 1
+few_more n h = grind (arith, nat_tests)
+
+pub next_number : (n : ℕ) (z : ℤ) → z ≡ pos n → is_too_long (n + 1) ≡ false → to_z w64 (of_z w64 (to_z w64 (of_z w64 z) +ℤ pos 1)) ≡ pos (suc n)
+next_number n z e h =
+    let few : suc n < 2 ^ 63 - 1 = few_more n h in
+    let fits : FitsSigned w64 (pos n) = fits_signed_from_abs w64 (pos n) (grind (arith)) in
+    let next : FitsSigned w64 (pos (suc n)) = fits_signed_from_abs w64 (pos (suc n)) (grind (arith)) in
+    let one_more : pos n +ℤ pos 1 ≡ pos (suc n) = grind (arith, ints) in
+    ap (λ x. to_z w64 (of_z w64 (to_z w64 (of_z w64 x) +ℤ pos 1))) e
+    ∙ ap (λ x. to_z w64 (of_z w64 (x +ℤ pos 1))) (to_z-of_z fits)
+    ∙ ap (λ x. to_z w64 (of_z w64 x)) one_more
+    ∙ to_z-of_z next
