@@ -12,3 +12,5 @@ pub mod TextLaws
 pub mod PutLaws
 pub mod LineLaws
 pub mod ToldLaws
+pub mod HeldLaws
+pub mod RunLaws

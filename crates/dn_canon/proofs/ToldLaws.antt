@@ -23,7 +23,7 @@ use Rattle.dn_instance.specs.Tables.{told_by, told_at}
 use Rattle.dn_instance.specs.Validity.{Fits, IsNode, IsPlaced, IsValidGraph, IsValid, AreSupplies, AreTerminals}
 use Rattle.dn_instance.proofs.PairLaws.{pair_is, pair_self}
 use Rattle.dn_canon.specs.CanonInstances.{AreInOrder}
-use Rattle.dn_canon.specs.CanonTexts.{IsCanonOf}
+use Rattle.dn_canon.specs.CanonTexts.{PrintsCanon}
 use Rattle.dn_canon.specs.Prints.{print}
 use Rattle.dn_canon.specs.ToldArcs.{placed, told_arcs, told_graph, IsCanonFor}
 use Rattle.dn_canon.proofs.OrderLaws.{NoneBefore, at_head}
@@ -195,20 +195,20 @@ module _ {B Arc : Type 0} (kind : ArcKind Arc) (laws : IsKind kind) (told : Form
       }
 
 -- the canonical text of a `min` problem is that of its supplies and its canonical graph
-pub min_canon : (form : Form) (supplies : List (ℤ × ℤ)) (G H : Graph CostArc) → IsCanonFor costs form G H → AreSupplies H.nodes supplies → IsCanonOf form (print (MinCostFlow supplies H)) (MinCostFlow supplies G)
-min_canon form supplies G H c are = (MinCostFlow supplies H, record { valid = (c.valid, are); canonical = c.canonical; text_is = refl; same = (refl, c.same) })
+pub min_canon : (form : Form) (supplies : List (ℤ × ℤ)) (G H : Graph CostArc) → IsCanonFor costs form G H → AreSupplies H.nodes supplies → PrintsCanon form (print (MinCostFlow supplies H)) (MinCostFlow supplies G) (MinCostFlow supplies H)
+min_canon form supplies G H c are = record { valid = (c.valid, are); canonical = c.canonical; text_is = refl; same = (refl, c.same) }
 
 -- that of a `max` problem, of its source, its sink and its canonical graph
-pub max_canon : (form : Form) (source sink : ℤ) (G H : Graph CapArc) → IsCanonFor capacities form G H → AreTerminals H.nodes source sink → IsCanonOf form (print (MaxFlow source sink H)) (MaxFlow source sink G)
-max_canon form source sink G H c are = (MaxFlow source sink H, record { valid = (c.valid, are); canonical = c.canonical; text_is = refl; same = (refl, refl, c.same) })
+pub max_canon : (form : Form) (source sink : ℤ) (G H : Graph CapArc) → IsCanonFor capacities form G H → AreTerminals H.nodes source sink → PrintsCanon form (print (MaxFlow source sink H)) (MaxFlow source sink G) (MaxFlow source sink H)
+max_canon form source sink G H c are = record { valid = (c.valid, are); canonical = c.canonical; text_is = refl; same = (refl, refl, c.same) }
 
 -- that of an `sp` graph, of its canonical graph
-pub sp_canon : (form : Form) (G H : Graph LengthArc) → IsCanonFor lengths form G H → IsCanonOf form (print (ShortestPaths H)) (ShortestPaths G)
-sp_canon form G H c = (ShortestPaths H, record { valid = c.valid; canonical = c.canonical; text_is = refl; same = c.same })
+pub sp_canon : (form : Form) (G H : Graph LengthArc) → IsCanonFor lengths form G H → PrintsCanon form (print (ShortestPaths H)) (ShortestPaths G) (ShortestPaths H)
+sp_canon form G H c = record { valid = c.valid; canonical = c.canonical; text_is = refl; same = c.same }
 
 -- a companion's text is its canonical text
-pub companion_canon : (form : Form) (I : Instance) → IsCompanion I → IsValid I → IsCanonOf form (print I) I
-companion_canon form (Sources ids) c v = (Sources ids, record { valid = v; canonical = tt; text_is = refl; same = refl })
-companion_canon form (Queries pairs) c v = (Queries pairs, record { valid = v; canonical = tt; text_is = refl; same = refl })
-companion_canon form (Coordinates points) c v = (Coordinates points, record { valid = v; canonical = tt; text_is = refl; same = refl })
+pub companion_canon : (form : Form) (I : Instance) → IsCompanion I → IsValid I → PrintsCanon form (print I) I I
+companion_canon form (Sources ids) c v = record { valid = v; canonical = tt; text_is = refl; same = refl }
+companion_canon form (Queries pairs) c v = record { valid = v; canonical = tt; text_is = refl; same = refl }
+companion_canon form (Coordinates points) c v = record { valid = v; canonical = tt; text_is = refl; same = refl }
 companion_canon form _ c v = absurd c

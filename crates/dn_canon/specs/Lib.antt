@@ -8,3 +8,4 @@ pub mod Puts
 pub mod Lines
 pub mod ToldArcs
 pub mod Writes
+pub mod Runs

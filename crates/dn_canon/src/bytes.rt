@@ -40,6 +40,13 @@ impl Bytes {
     {
         &self.all
     }
+
+    // The vector of the bytes taken.
+    pub(crate) fn into_all(self) -> Vec<u8>
+        ensures { result.items ≡ self.bytes }
+    {
+        self.all
+    }
 }
 
 impl Sink for Bytes {

@@ -1,50 +1,100 @@
-// Writes the canonical text of what a table stands for.
-ghost use Rattle.std.specs.Prelude.{ℤ, List, length};
-ghost use Rattle.dn_bundle.specs.Kinds.{lengths, capacities};
-ghost use Rattle.dn_bundle.specs.declared.arc.LengthArc.{LengthArc};
-ghost use Rattle.dn_bundle.specs.declared.arc.CapArc.{CapArc};
-ghost use Rattle.dn_instance.specs.Instances.{MaxFlow, ShortestPaths};
+// The canonical text of what is held, in a sink, in memory, and from a source to a sink.
+ghost use Rattle.std.specs.Prelude.{◌≡◌, ◌≢◌, Err, IfSome, IsErrOf, IsTrue};
+ghost use Rattle.dn_instance.specs.Helds.{IsHeld};
+ghost use Rattle.dn_instance.specs.Instances.{Instance};
 ghost use Rattle.dn_instance.specs.Validity.{IsValid};
-ghost use Rattle.dn_instance.specs.TableSteps.{Tells};
-ghost use Rattle.dn_canon.specs.Prints.{print};
-ghost use Rattle.dn_canon.specs.ToldArcs.{told_arcs, told_graph};
-ghost use Rattle.dn_canon.specs.Writes.{Writes, WritesCanon};
+ghost use Rattle.dn_instance.specs.Views.{holding};
+ghost use Rattle.dn_canon.specs.Writes.{Answers, WritesCanon, written_as};
+ghost use Rattle.dn_canon.specs.Runs.{RunsCanon, TextCanon};
 
-use crate::sink::Sink;
-use crate::writer::{NodeLines, WriteFault, write_graph};
-use dn_bundle::{Bundle, Form, Least, Total};
-use dn_instance::Table;
-use dn_line::Kind;
+use crate::bytes::Bytes;
+use crate::sink::{Sink, SinkFault};
+use crate::writer::{NodeLines, write_graph, write_points, write_queries, write_sources};
+use dn_bundle::Form;
+use dn_instance::{Held, Refusal, View, read_from};
+use dn_line::{Kind, Source};
+use std::alloc::Global;
 
-// Writes an `sp` graph.
-pub(crate) fn write_sp<K: Sink>(
-    sink: &mut K,
-    nodes: &i64,
-    table: &Table<Least>,
-    form: Form,
-) -> Result<(), WriteFault>
-    ensures text { Writes K.taken K.has_failed sink.old sink.new (print (ShortestPaths (told_graph (⟦<Least as Bundle>⟧.told form) nodes.now table.now)))
-        (length (told_arcs (⟦<Least as Bundle>⟧.told form) table.now)) result }
-    ensures canon { (arcs : List ((ℤ × ℤ) × LengthArc)) → Tells lengths (⟦<Least as Bundle>⟧.told Form.One) table.now arcs → IsValid (ShortestPaths (record { nodes = nodes.now; arcs = arcs }))
-        → WritesCanon K.taken K.has_failed sink.old sink.new form (ShortestPaths (record { nodes = nodes.now; arcs = arcs })) (length (told_arcs (⟦<Least as Bundle>⟧.told form) table.now)) result }
+/// Puts the canonical text of what is held, a line a put, and flushes. It takes no memory of its own.
+///
+/// # Errors
+///
+/// `Write` where the sink failed, and then it took a front of the text; `CountTooLarge` where the text has more counted
+/// lines than 2^63-1, and then nothing is put.
+pub fn write_canon<K: Sink>(held: &Held, sink: &mut K, form: Form) -> Result<(), Refusal>
+    ensures answer { Answers K.has_failed sink.old sink.new result }
+    ensures canon { (I : Instance) → IsValid I → IsHeld (holding held.now) I → WritesCanon K.taken K.has_failed sink.old sink.new form I result }
 {
-    write_graph(sink, Kind::Sp, nodes, &NodeLines::NoNodes, table, form)
+    let nodes = held.nodes();
+    match held.view() {
+        View::Min { supplies, table } => {
+            let lines = NodeLines::Supplies(supplies);
+            write_graph(sink, Kind::Min, &nodes, &lines, table, form)
+        }
+        View::Max {
+            source,
+            sink: target,
+            table,
+        } => {
+            let lines = NodeLines::Terminals(&source, &target);
+            write_graph(sink, Kind::Max, &nodes, &lines, table, form)
+        }
+        View::Sp { table } => {
+            write_graph(sink, Kind::Sp, &nodes, &NodeLines::NoNodes, table, form)
+        }
+        View::Ss { items } => written(write_sources(sink, items)),
+        View::P2p { items } => written(write_queries(sink, items)),
+        View::Co { points } => written(write_points(sink, points)),
+    }
 }
 
-// Writes a `max` problem with its source and sink.
-pub(crate) fn write_max<K: Sink>(
-    sink: &mut K,
-    nodes: &i64,
-    source: &i64,
-    target: &i64,
-    table: &Table<Total>,
-    form: Form,
-) -> Result<(), WriteFault>
-    ensures text { Writes K.taken K.has_failed sink.old sink.new (print (MaxFlow source.now target.now (told_graph (⟦<Total as Bundle>⟧.told form) nodes.now table.now)))
-        (length (told_arcs (⟦<Total as Bundle>⟧.told form) table.now)) result }
-    ensures canon { (arcs : List ((ℤ × ℤ) × CapArc)) → Tells capacities (⟦<Total as Bundle>⟧.told Form.One) table.now arcs → IsValid (MaxFlow source.now target.now (record { nodes = nodes.now; arcs = arcs }))
-        → WritesCanon K.taken K.has_failed sink.old sink.new form (MaxFlow source.now target.now (record { nodes = nodes.now; arcs = arcs })) (length (told_arcs (⟦<Total as Bundle>⟧.told form) table.now)) result }
+// The refusal of a sink that failed.
+fn written(put: Result<(), SinkFault>) -> Result<(), Refusal>
+    ensures { written_as put ≡ result }
 {
-    let lines = NodeLines::Terminals(source, target);
-    write_graph(sink, Kind::Max, nodes, &lines, table, form)
+    match put {
+        Ok(()) => Ok(()),
+        Err(_) => Err(Refusal::Write),
+    }
+}
+
+/// The canonical text of what is held.
+///
+/// # Errors
+///
+/// `Memory` where there is none for the text; `CountTooLarge` where it has more counted lines than 2^63-1.
+pub fn canon_text(alloc: Global, held: &Held, form: Form) -> Result<Vec<u8>, Refusal>
+    ensures { (I : Instance) → IsValid I → IsHeld (holding held.now) I → TextCanon (λ v. v.items) form I result }
+{
+    let mut bytes = Bytes::new(alloc);
+    match write_canon(held, &mut bytes, form) {
+        Ok(()) => Ok(bytes.into_all()),
+        Err(Refusal::CountTooLarge) => Err(Refusal::CountTooLarge),
+        Err(_) => Err(Refusal::Memory),
+    }
+}
+
+/// Reads the text that a source gives and then puts its canonical text. Nothing is put before the text is read and
+/// found without fault.
+///
+/// # Errors
+///
+/// Those of reading and those of `write_canon`; but for `Write` nothing was put.
+pub fn canon_run<S: Source, K: Sink>(
+    alloc: Global,
+    source: &mut S,
+    sink: &mut K,
+    form: Form,
+) -> Result<(), Refusal>
+    ensures outcome { IfSome (S.gives source.old) (λ t. RunsCanon K.taken K.has_failed sink.old sink.new form t (S.gives source.new) result) }
+    ensures read { IsErrOf result Refusal.Read → IsTrue (S.has_failed source.new) }
+    ensures write { IsErrOf result Refusal.Write → IsTrue (K.has_failed sink.new) }
+    ensures unput { (e : Refusal) → result ≡ Err e → e ≢ Refusal.Write → sink.new ≡ sink.old }
+    ensures stays { IsTrue (S.has_failed source.old) → IsTrue (S.has_failed source.new) }
+    ensures failed { IsTrue (K.has_failed sink.old) → IsTrue (K.has_failed sink.new) }
+{
+    match read_from(alloc, source) {
+        Ok(held) => write_canon(&held, sink, form),
+        Err(refusal) => Err(refusal),
+    }
 }

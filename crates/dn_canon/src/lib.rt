@@ -3,7 +3,7 @@
 #![tactic(auto)]
 
 pub mod bytes;
-mod canon;
+pub mod canon;
 pub mod examples;
 pub mod laws;
 mod line;
@@ -16,6 +16,7 @@ pub mod to_write;
 mod writer;
 
 pub use bytes::Bytes;
+pub use canon::{canon_run, canon_text, write_canon};
 pub use room::Room;
 pub use sink::{Sink, SinkFault};
 pub use to_write::ToWrite;

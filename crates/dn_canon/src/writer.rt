@@ -18,18 +18,9 @@ use crate::rows::{
 };
 use crate::sink::{Sink, SinkFault};
 use dn_bundle::{Bundle, Form};
-use dn_instance::Table;
+use dn_instance::{Refusal, Table};
 use dn_line::Kind;
 use std::collections::BTreeMap;
-
-// Why a text was not written.
-#[derive(Clone, Copy, Debug, PartialEq, Eq)]
-pub(crate) enum WriteFault {
-    // The sink failed.
-    Write,
-    // The text has more counted lines than 2^63-1.
-    CountTooLarge,
-}
 
 // What stands before the arcs of a graph.
 #[derive(Clone, Copy)]
@@ -149,7 +140,7 @@ pub(crate) fn write_graph<B: Bundle, K: Sink>(
     lines: &NodeLines<'_>,
     table: &Table<B>,
     form: Form,
-) -> Result<(), WriteFault>
+) -> Result<(), Refusal>
     requires { AreShort B.kind }
     ensures text { Writes K.taken K.has_failed sink.old sink.new (text_of (graph_rows B.kind kind (told_graph (B.told form) nodes.now table.now) (node_rows lines.now))) (length (told_arcs (B.told form) table.now)) result }
     ensures canon { (arcs : List ((ℤ × ℤ) × B.Arc)) → Tells B.kind (B.told Form.One) table.now arcs → IsValidGraph B.kind (record { nodes = nodes.now; arcs = arcs })
@@ -158,15 +149,16 @@ pub(crate) fn write_graph<B: Bundle, K: Sink>(
     match arc_count(table, form) {
         Some(count) => match put_graph(sink, kind, nodes, count, lines, table, form) {
             Ok(()) => Ok(()),
-            Err(_) => Err(WriteFault::Write),
+            Err(_) => Err(Refusal::Write),
         },
-        None => Err(WriteFault::CountTooLarge),
+        None => Err(Refusal::CountTooLarge),
     }
 }
 
 // Writes the sources of queries.
 pub(crate) fn write_sources<K: Sink>(sink: &mut K, ids: &[i64]) -> Result<(), SinkFault>
-    ensures { Puts K.taken K.has_failed sink.old sink.new (print (Sources ids.now)) result }
+    ensures few { length ids.now < 2 ^ 63 }
+    ensures text { Puts K.taken K.has_failed sink.old sink.new (print (Sources ids.now)) result }
 {
     companion_line(Kind::Ss, ids.len() as u64).put(sink)?;
     for id in ids {
@@ -177,7 +169,8 @@ pub(crate) fn write_sources<K: Sink>(sink: &mut K, ids: &[i64]) -> Result<(), Si
 
 // Writes queries from point to point.
 pub(crate) fn write_queries<K: Sink>(sink: &mut K, queries: &[(i64, i64)]) -> Result<(), SinkFault>
-    ensures { Puts K.taken K.has_failed sink.old sink.new (print (Queries queries.now)) result }
+    ensures few { length queries.now < 2 ^ 63 }
+    ensures text { Puts K.taken K.has_failed sink.old sink.new (print (Queries queries.now)) result }
 {
     companion_line(Kind::P2p, queries.len() as u64).put(sink)?;
     for query in queries {
@@ -191,7 +184,8 @@ pub(crate) fn write_points<K: Sink>(
     sink: &mut K,
     points: &BTreeMap<i64, (i64, i64)>,
 ) -> Result<(), SinkFault>
-    ensures { Puts K.taken K.has_failed sink.old sink.new (print (Coordinates points.now.entries)) result }
+    ensures few { length points.now.entries < 2 ^ 63 }
+    ensures text { Puts K.taken K.has_failed sink.old sink.new (print (Coordinates points.now.entries)) result }
 {
     companion_line(Kind::Co, points.len() as u64).put(sink)?;
     for (id, place) in points {

@@ -124,7 +124,7 @@ sought_eq q k false h = h ∙ sym (not_equal (int_eq k q) refl)
         let never : true ≡ false = sym (ap is_eq (int_self q)) ∙ ap (λ z. is_eq (int_cmp q z)) (sym same) ∙ h in
         cc
 
-points_named : (q : ℤ) (items : List Line) → list_any (λ e. is_at (int_cmp q) e.0) (filter_map point_in items) ≡ list_any (has_point q) items
+pub points_named : (q : ℤ) (items : List Line) → list_any (λ e. is_at (int_cmp q) e.0) (filter_map point_in items) ≡ list_any (has_point q) items
 points_named q [] = refl
 points_named q (Item.Point id x y ∷ rest) = ap (λ b. b || list_any (λ e. is_at (int_cmp q) e.0) (filter_map point_in rest)) (sought_eq q id (is_at (int_cmp q) id) refl) ∙ ap (λ b. int_eq id q || b) (points_named q rest)
 points_named q (_ ∷ rest) = points_named q rest

@@ -141,17 +141,43 @@ same_place t Places.End Places.End c d f g = refl
 some_same : (c d : Code) (x y : Option Code) → x ≡ Some c → y ≡ Some d → x ≡ y → c ≡ d
 some_same c d x y e f g = cc
 
-pub same_code : (t : List ℕ) (p q : Place) (c d : Code) → IsFirstFault t p c → IsFirstFault t q d → c ≡ d
-same_code t (Places.Line m) (Places.Line n) c d f g =
-    let same = same_number (lines t) m n c d f g in
+-- and its fault is one
+same_fault : (ls : List (List ℕ)) (m n : ℕ) (c d : Code) → IsFirstFaultAt ls m c → IsFirstFaultAt ls n d → c ≡ d
+same_fault ls m n c d f g =
+    let same = same_number ls m n c d f g in
     let a = f.at in
     let b = g.at in
-    let there = fault_there (lines t) a.before a.after a.line n d a.lines_are (sym same ∙ a.number_is) b in
-    let here = fault_there (lines t) a.before a.after a.line m c a.lines_are a.number_is a in
+    let there = fault_there ls a.before a.after a.line n d a.lines_are (sym same ∙ a.number_is) b in
+    let here = fault_there ls a.before a.after a.line m c a.lines_are a.number_is a in
     some_same c d _ _ here there refl
+
+pub same_code : (t : List ℕ) (p q : Place) (c d : Code) → IsFirstFault t p c → IsFirstFault t q d → c ≡ d
+same_code t (Places.Line m) (Places.Line n) c d f g = same_fault (lines t) m n c d f g
 same_code t (Places.Line m) Places.End c d f g = absurd (g.clean m c f.at)
 same_code t Places.End (Places.Line n) c d f g = absurd (f.clean n d g.at)
 same_code t Places.End Places.End c d f g = some_same c d _ _ f.fault_is g.fault_is refl
+
+later_lines : (before ls ms : List (List ℕ)) (x : ℕ × Code) → found_in before ls ≡ Some x → found_in before (ls ++ ms) ≡ Some x
+later_lines before [] ms x h = cc
+later_lines before (l ∷ ls) ms x h = by_fault (fault_after before l) (later_lines (before ++ l ∷ []) ls ms x) h
+  where
+    by_fault : (f : Option Code) → (found_in (before ++ l ∷ []) ls ≡ Some x → found_in (before ++ l ∷ []) (ls ++ ms) ≡ Some x)
+        → or_later f (length before + 1) (found_in (before ++ l ∷ []) ls) ≡ Some x → or_later f (length before + 1) (found_in (before ++ l ∷ []) (ls ++ ms)) ≡ Some x
+    by_fault None go g = go g
+    by_fault (Some c) go g = g
+
+-- what follows the first fault does not change it
+pub first_on : (ls ms : List (List ℕ)) (n : ℕ) (c : Code) → IsFirstFaultAt ls n c → IsFirstFaultAt (ls ++ ms) n c
+first_on ls ms n c f = by_found (found_in [] ls) refl
+  where
+    by_found : (x : Option (ℕ × Code)) → found_in [] ls ≡ x → IsFirstFaultAt (ls ++ ms) n c
+    by_found None e = absurd (clean_is ls e n c f.at)
+    by_found (Some x) e =
+        let g : IsFirstFaultAt ls x.0 x.1 = first_is ls x.0 x.1 e in
+        let number : x.0 ≡ n = same_number ls x.0 n x.1 c g f in
+        let code : x.1 ≡ c = same_fault ls x.0 n x.1 c g f in
+        let there : IsFirstFaultAt (ls ++ ms) x.0 x.1 = first_is (ls ++ ms) x.0 x.1 (later_lines [] ls ms x e) in
+        subst (λ k. IsFirstFaultAt (ls ++ ms) n k) code (subst (λ k. IsFirstFaultAt (ls ++ ms) k x.1) number there)
 
 pub not_both : (t : List ℕ) (I : Instance) (p : Place) (c : Code) → Reads t I → IsFirstFault t p c → ⊥
 not_both t I (Places.Line n) c r f = r.clean n c f.at

@@ -14,3 +14,8 @@ pub mod FollowLaws
 pub mod LineSteps
 pub mod CostItems
 pub mod SupplyItems
+pub mod EndLaws
+pub mod PieceSteps
+pub mod ReaderLaws
+pub mod SizeLaws
+pub mod SourceLaws

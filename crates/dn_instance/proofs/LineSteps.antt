@@ -1,6 +1,5 @@
 -- The complete lines with one line more.
-use Rattle.std.proofs.Common.{◌≡◌, ℕ, suc, ◌+◌, ◌-◌, ◌^◌, ◌<◌, ℤ, pos, ◌≤ℤ◌, List, [], ◌∷◌, ◌++◌, length, Bool, true, false, cond, Option, Some, None, refl, sym, ap, ◌∙◌, subst, arith, int_le, ◌+ℤ◌, FitsSigned, w64, to_z, of_z, to_z-of_z, length-append, ◌⊎◌, inl, inr}
-use Rattle.std.proofs.lemmas.Int.{ints, fits_signed_from_abs}
+use Rattle.std.proofs.Common.{◌≡◌, ℕ, suc, ◌+◌, ◌-◌, ◌^◌, ◌<◌, ◌≤◌, List, [], ◌∷◌, ◌++◌, length, Bool, true, false, cond, Option, Some, None, refl, sym, ap, ◌∙◌, subst, arith, length-append, ◌⊎◌, inl, inr}
 use Rattle.std.proofs.lemmas.Bool.Decides.{nat_tests}
 use Rattle.std.specs.Option.{option_to_list}
 use Rattle.dn_line.specs.declared.kind.Kind.{Kind}
@@ -28,11 +27,11 @@ fault_is_next n before ws h = ap (λ b. cond b (Some TooLong) (first_fault (cond
 pub too_long : (n : ℕ) (before : List Line) (ws : List Word) → is_too_long n ≡ true → line_fault n before ws ≡ Some TooLong
 too_long n before ws h = ap (λ b. cond b (Some TooLong) (first_fault (cond (is_skip ws) [] (line_tests before ws)))) h
 
-pub is_late : (n : ℕ) (z : ℤ) → z ≡ pos n → pos (2 ^ 63 - 2) ≤ℤ z → is_too_long (n + 1) ≡ true
-is_late n z e h = grind (arith, ints, nat_tests)
+pub is_late : (n m : ℕ) → m ≡ n → 2 ^ 63 - 2 ≤ m → is_too_long (n + 1) ≡ true
+is_late n m e h = grind (arith, nat_tests)
 
 -- where a line stands in a list with one more at its end
-split : (ls before after : List (List ℕ)) (l m : List ℕ) → ls ++ l ∷ [] ≡ before ++ m ∷ after → ((before ≡ ls) × (m ≡ l)) ⊎ ((a : List (List ℕ)) × (ls ≡ before ++ m ∷ a))
+pub split : (ls before after : List (List ℕ)) (l m : List ℕ) → ls ++ l ∷ [] ≡ before ++ m ∷ after → ((before ≡ ls) × (m ≡ l)) ⊎ ((a : List (List ℕ)) × (ls ≡ before ++ m ∷ a))
 split [] [] after l m e = let same : m ≡ l = cc in inl (refl, same)
 split [] (b ∷ before) after l m e = let n = ap length e in let k = length-append before (m ∷ after) in absurd (omega arith)
 split (x ∷ ls) [] after l m e = let same : x ≡ m = cc in inr (ls, ap (λ y. y ∷ ls) same)
@@ -44,6 +43,10 @@ split (x ∷ ls) (b ∷ before) after l m e =
     by_rest : x ≡ b → ((before ≡ ls) × (m ≡ l)) ⊎ ((a : List (List ℕ)) × (ls ≡ before ++ m ∷ a)) → ((b ∷ before ≡ x ∷ ls) × (m ≡ l)) ⊎ ((a : List (List ℕ)) × (x ∷ ls ≡ (b ∷ before) ++ m ∷ a))
     by_rest same (inl (f, g)) = inl (ap (λ y. y ∷ before) (sym same) ∙ ap (λ y. x ∷ y) f, g)
     by_rest same (inr (a, h)) = inr (a, ap (λ y. y ∷ ls) same ∙ ap (λ y. b ∷ y) h)
+
+-- no lines have no fault
+pub no_lines : IsClean []
+no_lines number code f = let n = ap length f.lines_are in let k = length-append f.before (f.line ∷ f.after) in omega arith
 
 -- a clean text stays so with a line without fault
 pub clean_more : (ls : List (List ℕ)) (l : List ℕ) → IsClean ls → fault_after ls l ≡ None → IsClean (ls ++ l ∷ [])
@@ -76,32 +79,21 @@ pub items_then : (ls : List (List ℕ)) (l : List ℕ) → IsClean ls → fault_
 items_then ls l clean f = next_items ls l (is_skip (said_words l)) refl f (in_step ls clean)
 
 -- with a line more
-pub read_more : (t : TextSoFar) (ls : List (List ℕ)) (l : List ℕ) (u : TextSoFar) → HasRead t ls → fault_after ls l ≡ None → u.closed ≡ pos (suc (length ls)) → suc (length ls) < 2 ^ 63 - 1 → IsProgress u.progress (with_next (items_of ls) (said_words l)) → HasRead u (ls ++ l ∷ [])
+pub read_more : (t : TextSoFar) (ls : List (List ℕ)) (l : List ℕ) (u : TextSoFar) → HasRead t ls → fault_after ls l ≡ None → u.closed ≡ suc (length ls) → suc (length ls) < 2 ^ 63 - 1 → IsProgress u.progress (with_next (items_of ls) (said_words l)) → HasRead u (ls ++ l ∷ [])
 read_more t ls l u h f number few p =
     let n : length (ls ++ l ∷ []) ≡ suc (length ls) = length-append ls (l ∷ []) ∙ arith_one (length ls) in
     record {
       clean = clean_more ls l h.clean f;
       few = subst (λ k. k < 2 ^ 63 - 1) (sym n) few;
-      number_is = number ∙ ap pos (sym n);
+      number_is = number ∙ sym n;
       progress_is = subst (IsProgress u.progress) (sym (items_then ls l h.clean f)) p;
     }
   where
     arith_one : (k : ℕ) → k + 1 ≡ suc k
     arith_one k = omega arith
 
-pub in_time : (n : ℕ) (z : ℤ) → z ≡ pos n → int_le (pos (2 ^ 63 - 2)) z ≡ false → is_too_long (n + 1) ≡ false
-in_time n z e h = grind (arith, ints, nat_tests)
+pub in_time : (n m : ℕ) → m ≡ n → m < 2 ^ 63 - 2 → is_too_long (n + 1) ≡ false
+in_time n m e h = grind (arith, nat_tests)
 
 pub few_more : (n : ℕ) → is_too_long (n + 1) ≡ false → suc n < 2 ^ 63 - 1
 few_more n h = grind (arith, nat_tests)
-
-pub next_number : (n : ℕ) (z : ℤ) → z ≡ pos n → is_too_long (n + 1) ≡ false → to_z w64 (of_z w64 (to_z w64 (of_z w64 z) +ℤ pos 1)) ≡ pos (suc n)
-next_number n z e h =
-    let few : suc n < 2 ^ 63 - 1 = few_more n h in
-    let fits : FitsSigned w64 (pos n) = fits_signed_from_abs w64 (pos n) (grind (arith)) in
-    let next : FitsSigned w64 (pos (suc n)) = fits_signed_from_abs w64 (pos (suc n)) (grind (arith)) in
-    let one_more : pos n +ℤ pos 1 ≡ pos (suc n) = grind (arith, ints) in
-    ap (λ x. to_z w64 (of_z w64 (to_z w64 (of_z w64 x) +ℤ pos 1))) e
-    ∙ ap (λ x. to_z w64 (of_z w64 (x +ℤ pos 1))) (to_z-of_z fits)
-    ∙ ap (λ x. to_z w64 (of_z w64 x)) one_more
-    ∙ to_z-of_z next

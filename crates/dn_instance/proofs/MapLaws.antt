@@ -1,5 +1,5 @@
 -- Entries put into their places by rising key.
-use Rattle.std.proofs.Common.{◌≡◌, ℤ, List, [], ◌∷◌, ◌++◌, refl, sym, ap, ◌∙◌, subst, Bool, true, false, cond, ◌||◌, Option, Some, is_some}
+use Rattle.std.proofs.Common.{◌≡◌, is_eq, suc, length, ℤ, List, [], ◌∷◌, ◌++◌, refl, sym, ap, ◌∙◌, subst, Bool, true, false, cond, ◌||◌, Option, Some, is_some}
 use Rattle.std.specs.List.{AllByRecursion, fold, list_any}
 use Rattle.std.specs.List.Sorted.{IsStrictlySortedBy}
 use Rattle.std.specs.Map.{keys_of, lookup}
@@ -122,3 +122,20 @@ found_fold q m (e ∷ es) =
 -- a key is found among entries by rising key exactly if it is among the entries
 pub found_by_key : {X : Type 0} (q : ℤ) (es : List (ℤ × X)) → is_some (lookup (is_at (int_cmp q)) (by_key es)) ≡ list_any (λ e. Sought q e.0) es
 found_by_key q es = found_fold q [] es
+
+-- a key that is not there yet is one more
+module _ {X : Type 0} (k : ℤ) (v : X) where
+  more_by : (e : ℤ × X) (es rest : List (ℤ × X)) (r : Ordering) → int_cmp k e.0 ≡ r → is_some (cond (Sought k e.0) (Some e.1) (lookup (is_at (int_cmp k)) es)) ≡ false → (is_some (lookup (is_at (int_cmp k)) es) ≡ false → length rest ≡ suc (length es))
+      → length (match_ordering r ((k, v) ∷ e ∷ es) ((e.0, v) ∷ es) (e ∷ rest)) ≡ suc (suc (length es))
+  more_by e es rest Less h none go = refl
+  more_by e es rest Equal h none go =
+      let here : Sought k e.0 ≡ true = ap is_eq h in
+      let never : true ≡ false = sym (ap (λ b. is_some (cond b (Some e.1) (lookup (is_at (int_cmp k)) es))) here) ∙ none in
+      cc
+  more_by e es rest Greater h none go =
+      let not_here : Sought k e.0 ≡ false = ap is_eq h in
+      ap suc (go (sym (ap (λ b. is_some (cond b (Some e.1) (lookup (is_at (int_cmp k)) es))) not_here) ∙ none))
+
+  pub one_more_key : (es : List (ℤ × X)) → is_some (lookup (is_at (int_cmp k)) es) ≡ false → length (insert_entry int_cmp es k v) ≡ suc (length es)
+  one_more_key [] h = refl
+  one_more_key (e ∷ es) h = more_by e es (insert_entry int_cmp es k v) (int_cmp k e.0) refl h (one_more_key es)

@@ -50,12 +50,12 @@ slots_fit (Is k ∷ slots) (w ∷ ws) f = (tt, slots_fit slots ws f.1)
 slots_fit (Number n ∷ slots) (w ∷ ws) f = (read_fits w n f.0, slots_fit slots ws f.1)
 slots_fit (Natural n ∷ slots) (w ∷ ws) f = ((read_fits w n f.0.0, f.0.1), slots_fit slots ws f.1)
 
-abbrev OnSlots : Option (List Slot) → Type 0
+abbrev pub OnSlots : Option (List Slot) → Type 0
 OnSlots None = ⊥
 OnSlots (Some slots) = AllByRecursion SlotFits slots
 
 -- the numbers of an item that a line spells fit
-item_fits : (known : Option Kind) (l : List ℕ) (i : Line) → Spells known (said_words l) i → OnSlots (slots_of i)
+pub item_fits : (known : Option Kind) (l : List ℕ) (i : Line) → Spells known (said_words l) i → OnSlots (slots_of i)
 item_fits known l i s = subst OnSlots (sym s.slots_are) (slots_fit s.slots (words l) s.fit)
 
 and_both : (a b : Bool) → (a && b) ≡ true → (a ≡ true) × (b ≡ true)
@@ -261,7 +261,7 @@ ends_in_range p src dst c h =
     record { tail = node_in_range p src c one.0; head = node_in_range p dst c two.0 }
 
 -- one item more that changes nothing of these
-kept : {X : Type 0} (f : Line → Option X) (before : List Line) (i : Line) → f i ≡ None → filter_map f (before ++ i ∷ []) ≡ filter_map f before
+pub kept : {X : Type 0} (f : Line → Option X) (before : List Line) (i : Line) → f i ≡ None → filter_map f (before ++ i ∷ []) ≡ filter_map f before
 kept f before i e = filter_map-append f before (i ∷ []) ∙ ap (λ (o : Option _). filter_map f before ++ filter_map (λ x. x) (o ∷ [])) e ∙ append-nil (filter_map f before)
 
 pub grown : {X : Type 0} (f : Line → Option X) (before : List Line) (i : Line) (x : X) → f i ≡ Some x → filter_map f (before ++ i ∷ []) ≡ filter_map f before ++ x ∷ []
@@ -354,7 +354,7 @@ terminals_valid nodes None b G I e v s g = cc
 terminals_valid nodes (Some a) None G I e v s g = cc
 terminals_valid nodes (Some a) (Some b) G I e v s g = let is : MaxFlow a b G ≡ I = cc in subst IsValid is (v, subst (λ n. AreTerminals n a b) (sym g) s)
 
-some_is : (I J : Instance) → Some I ≡ Some J → I ≡ J
+pub some_is : (I J : Instance) → Some I ≡ Some J → I ≡ J
 some_is I J e = cc
 
 kind_valid : (k : Kind) (nodes : ℤ) (items : List Line) (I : Instance) → SoundAs k nodes items → instance_as k nodes items ≡ Some I → IsValid I

@@ -1,6 +1,6 @@
 -- What a text describes. `min` and `max` problems: First DIMACS Challenge, network flow format. `sp` graphs and their
 -- companions: Ninth DIMACS Challenge, shortest-path formats.
-use Rattle.std.specs.Prelude.{ℤ, pos, List}
+use Rattle.std.specs.Prelude.{ℕ, ℤ, pos, List, length}
 use Rattle.dn_line.specs.declared.kind.Kind.{Kind}
 use Rattle.dn_line.specs.declared.kind.Kind.TheVariants.{Min, Max, Sp, Ss, P2p, Co}
 use Rattle.dn_bundle.specs.declared.arc.LengthArc.{LengthArc}
@@ -42,3 +42,12 @@ nodes_of (ShortestPaths graph) = graph.nodes
 nodes_of (Sources ids) = pos 0
 nodes_of (Queries pairs) = pos 0
 nodes_of (Coordinates points) = pos 0
+
+-- ARCS or K: the number of arcs, items or points
+abbrev pub size_of : Instance → ℕ
+size_of (MinCostFlow supplies graph) = length graph.arcs
+size_of (MaxFlow source sink graph) = length graph.arcs
+size_of (ShortestPaths graph) = length graph.arcs
+size_of (Sources ids) = length ids
+size_of (Queries pairs) = length pairs
+size_of (Coordinates points) = length points

@@ -13,3 +13,9 @@ pub mod Holdings
 pub mod Drafts
 pub mod Progresses
 pub mod TextsSoFar
+pub mod Helds
+pub mod Views
+pub mod Ends
+pub mod Refusals
+pub mod Readers
+pub mod SourceReads

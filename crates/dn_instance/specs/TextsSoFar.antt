@@ -1,5 +1,5 @@
 -- What the complete lines so far make, and what the next one reads as after them.
-use Rattle.std.specs.Prelude.{◌≡◌, ℕ, ◌-◌, ◌^◌, ◌<◌, pos, List, [], ◌++◌, length, cond, Option, Some, None, Result, Ok, IsSome}
+use Rattle.std.specs.Prelude.{◌≡◌, ℕ, ◌-◌, ◌^◌, ◌<◌, List, [], ◌++◌, length, cond, Option, Some, None, Result, Ok, IsSome}
 use Rattle.std.specs.Option.{option_to_list}
 use Rattle.dn_line.specs.declared.line.Line.{Line}
 use Rattle.dn_line.specs.declared.line.Line.TheVariants.{Skip}
@@ -47,5 +47,5 @@ with_next before ws = before ++ option_to_list (item_read (words_read (kind_know
 pub record HasRead (t : TextSoFar) (ls : List (List ℕ)) : Type 0 where
   pub clean : IsClean ls
   pub few : length ls < 2 ^ 63 - 1
-  pub number_is : t.closed ≡ pos (length ls)
+  pub number_is : t.closed ≡ length ls
   pub progress_is : IsProgress t.progress (items_of ls)

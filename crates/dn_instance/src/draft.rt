@@ -1,5 +1,5 @@
 // An instance in the making: what the items after the problem line have made so far.
-ghost use Rattle.std.specs.Prelude.{◌≡◌, List, ◌∷◌, ◌++◌, [], OnOk, OnErr, Some};
+ghost use Rattle.std.specs.Prelude.{◌≡◌, ℤ, List, ◌∷◌, ◌++◌, [], OnOk, OnErr, Some};
 ghost use Rattle.dn_line.specs.declared.line.Line.{Line};
 ghost use Rattle.dn_line.specs.Faults.{first_fault};
 ghost use Rattle.dn_line.specs.Spelling.{kind_before};
@@ -7,8 +7,10 @@ ghost use Rattle.dn_instance.specs.Items.{Problem, problem_of};
 ghost use Rattle.dn_instance.specs.TextFaults.{item_tests};
 ghost use Rattle.dn_instance.specs.ItemFaults.{Answers};
 ghost use Rattle.dn_instance.specs.Drafts.{draft_kind, Holds, HasSigns};
+ghost use Rattle.dn_instance.specs.Ends.{Makes};
 
 use crate::arcs::{take_cap_arc, take_cost_arc, take_length_arc};
+use crate::content::Content;
 use crate::item_fault::ItemFault;
 use crate::items::{take_point, take_query, take_source, take_supply, take_terminal};
 use crate::table::Table;
@@ -111,6 +113,35 @@ impl Draft {
             ),
             (Draft::Co(points), Line::Point { id, x, y }) => take_point(points, &id, (x, y)),
             _ => Err(ItemFault::Text(Code::WrongLine)),
+        }
+    }
+
+    // What is kept of the items, where none lacks.
+    pub(crate) fn end(self) -> Result<Content, Code>
+        ensures { (nodes : ℤ) (items : List Line) → Holds self items → Makes (draft_kind self) nodes items result }
+    {
+        match self {
+            Draft::Min {
+                supplies,
+                table,
+                ..
+            } => Ok(Content::Min { supplies, table }),
+            Draft::Max {
+                source,
+                sink,
+                table,
+            } => match (source, sink) {
+                (Some(source), Some(sink)) => Ok(Content::Max {
+                    source,
+                    sink,
+                    table,
+                }),
+                _ => Err(Code::MissingTerminal),
+            },
+            Draft::Sp(table) => Ok(Content::Sp(table)),
+            Draft::Ss(ids) => Ok(Content::Ss(ids)),
+            Draft::P2p(pairs) => Ok(Content::P2p(pairs)),
+            Draft::Co(points) => Ok(Content::Co(points)),
         }
     }
 }

@@ -2,15 +2,26 @@
 #![tactic(auto)]
 
 mod arcs;
+mod content;
 mod draft;
 pub mod examples;
+pub mod held;
 mod item_fault;
 mod items;
 pub mod laws;
 pub mod place;
 mod progress;
+pub mod read;
+pub mod reader;
+pub mod refusal;
 pub mod table;
 mod text_so_far;
+pub mod view;
 
+pub use held::Held;
 pub use place::Place;
+pub use read::{read_from, read_text};
+pub use reader::Reader;
+pub use refusal::Refusal;
 pub use table::{Pairs, Table};
+pub use view::View;

@@ -11,11 +11,13 @@ ghost use Rattle.std.specs.Option.{option_map};
 ghost use Rattle.dn_instance.specs.TextFaults.{item_tests, order_tests};
 ghost use Rattle.dn_instance.specs.ItemFaults.{Answers};
 ghost use Rattle.dn_instance.specs.Drafts.{draft_kind, HasSigns};
+ghost use Rattle.dn_instance.specs.Ends.{EndsWith};
 ghost use Rattle.dn_instance.specs.declared.progress.Progress.{Progress};
 ghost use Rattle.dn_instance.specs.Progresses.{IsAt, HasRoom};
 ghost use Rattle.dn_instance.specs.Items.{Problem, problem_in, is_counted};
 
 use crate::draft::Draft;
+use crate::held::Held;
 use crate::item_fault::ItemFault;
 use dn_line::{Code, Head, Kind, Line};
 use std::alloc::Global;
@@ -88,6 +90,22 @@ impl Progress {
                 Ok(())
             }
             Err(fault) => Err(fault),
+        }
+    }
+
+    // What is held at the end, or the fault there.
+    pub(crate) fn end(self) -> Result<Held, Code>
+        ensures { (items : List Line) → IsAt self items → EndsWith items result }
+    {
+        match self.draft.end() {
+            Ok(content) => {
+                if self.counted < self.count {
+                    Err(Code::TooFewLines)
+                } else {
+                    Ok(Held::new(self.nodes, self.counted, content))
+                }
+            }
+            Err(code) => Err(code),
         }
     }
 }

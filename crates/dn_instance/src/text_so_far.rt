@@ -8,25 +8,44 @@ ghost use Rattle.dn_line.specs.Reading.{head_read};
 ghost use Rattle.dn_line.specs.LineStates.{LineSoFar, Stands};
 ghost use Rattle.dn_instance.specs.Items.{kind_known};
 ghost use Rattle.dn_instance.specs.TextFaults.{order_tests, item_tests, line_fault};
+ghost use Rattle.dn_instance.specs.Ends.{EndsWith};
 ghost use Rattle.dn_instance.specs.ItemFaults.{Answers};
 ghost use Rattle.dn_instance.specs.Texts.{items_of};
 ghost use Rattle.dn_instance.specs.TextsSoFar.{IsProgress, MayFollow, next_read, fault_next, with_next, HasRead};
 
+use crate::held::Held;
 use crate::item_fault::ItemFault;
 use crate::progress::Progress;
 use dn_line::{Code, Head, Kind, Line, LineReader};
 use std::alloc::Global;
 
 // As many lines as a text may have.
-const LAST: i64 = i64::MAX - 1;
+const LAST: u64 = (1 << 63) - 2;
 
 #[derive(Drop)]
 pub(crate) struct TextSoFar {
-    closed: i64,
+    closed: u64,
     progress: Option<Progress>,
 }
 
 impl TextSoFar {
+    // No lines.
+    pub(crate) fn new() -> TextSoFar
+        ensures { HasRead result [] }
+    {
+        TextSoFar {
+            closed: 0,
+            progress: None,
+        }
+    }
+
+    // The number of the next line.
+    pub(crate) fn next_number(&self) -> u64
+        ensures { (ls : List (List ℕ)) → HasRead self.now ls → result ≡ length ls + 1 }
+    {
+        self.closed.saturating_add(1)
+    }
+
     // The kind that the problem line names.
     fn kind(&self) -> Option<Kind>
         ensures { (items : List Line) → IsProgress self.now.progress items → result ≡ kind_known items }
@@ -97,6 +116,16 @@ impl TextSoFar {
                 Ok(())
             }
             Err(fault) => Err(fault),
+        }
+    }
+
+    // What is held at the end, or the fault there.
+    pub(crate) fn end(self) -> Result<Held, Code>
+        ensures { (ls : List (List ℕ)) → HasRead self ls → EndsWith (items_of ls) result }
+    {
+        match self.progress {
+            Some(progress) => progress.end(),
+            None => Err(Code::NoProblem),
         }
     }
 }

@@ -5,21 +5,21 @@ use Rattle.dn_instance.specs.Instances.{Queries}
 use Rattle.dn_canon.proofs.PutLaws.{put_from, put_stop, put_last, row_more, row_stop, rows_done, stopped, drop_here}
 use Rattle.dn_canon.proofs.writer.write_queries.Goals as goal
 
-pub returns-in_err-put : goal.returns-in_err-put
-returns-in_err-put g c =
+pub returns-in_err-put-clause-text : goal.returns-in_err-put-clause-text
+returns-in_err-put-clause-text g c =
     stopped c.from_residual.result c.from_residual.ensures.0
     (put_stop c.companion_line.result (text_of (map query_row c.args.queries.now)) (put_from (ap (λ l. l ++ text_of (map query_row c.args.queries.now)) c.companion_line.ensures)) c.in_err-put.ensures)
 
-pub returns-in_err-put-2 : goal.returns-in_err-put-2
-returns-in_err-put-2 g c =
+pub returns-in_err-put-2-clause-text : goal.returns-in_err-put-2-clause-text
+returns-in_err-put-2-clause-text g c =
     stopped c.from_residual-in_err-put-2.result c.from_residual-in_err-put-2.ensures.0
     (row_stop query_row (drop c.loop-query.query-index c.args.queries.now) (drop (c.loop-query.query-index + 1) c.args.queries.now) _ (drop_here c.args.queries.now c.loop-query.query-index (pos 0, pos 0) c.loop-query-test.true) c.query_line.ensures c.loop-query.invariant c.in_err-put-2.ensures)
 
 pub loop-query-preserved : goal.loop-query-preserved
 loop-query-preserved g c = row_more query_row (drop c.loop-query.query-index c.args.queries.now) (drop (c.loop-query.query-index + 1) c.args.queries.now) _ (drop_here c.args.queries.now c.loop-query.query-index (pos 0, pos 0) c.loop-query-test.true) c.query_line.ensures c.loop-query.invariant c.in_ok-put-2.ensures
 
-pub returns : goal.returns
-returns g c =
+pub returns-clause-text : goal.returns-clause-text
+returns-clause-text g c =
     put_last g.K.Sink.taken g.K.Sink.has_failed c.args.sink.now c.loop-query.sink c.finish.new.sink [] (print (Queries c.args.queries.now)) c.finish.result
     (rows_done query_row c.args.queries.now c.loop-query.query-index c.loop-query-test.false c.loop-query.invariant)
     c.finish.ensures

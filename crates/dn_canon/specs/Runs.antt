@@ -1,0 +1,33 @@
+-- What making the canonical text of a text does.
+use Rattle.std.specs.Prelude.{◌≤◌, ◌^◌, ℕ, List, Bool, Option, Ok, Err, length}
+use Rattle.std.specs.Io.KnownBytes.{IsAtEnd}
+use Rattle.std.specs.declared.result.Result.{Result}
+use Rattle.dn_line.specs.Pieces.{lines}
+use Rattle.dn_bundle.specs.declared.arc.Form.{Form}
+use Rattle.dn_instance.specs.Instances.{Instance, size_of}
+use Rattle.dn_instance.specs.Readers.{WantsMemory}
+use Rattle.dn_instance.specs.SourceReads.{CleanSoFar}
+use Rattle.dn_instance.specs.Texts.{Reads, IsFirstFault}
+use Rattle.dn_instance.specs.declared.refusal.Refusal.{Refusal}
+use Rattle.dn_instance.specs.declared.refusal.Refusal.TheVariants.{Text, Memory, Read, Endless, Write, CountTooLarge}
+use Rattle.dn_canon.specs.CanonTexts.{PrintsCanon}
+use Rattle.dn_canon.specs.Prints.{print}
+use Rattle.dn_canon.specs.Writes.{WritesCanon}
+
+-- the canonical text of I, or want of memory for it, or the text has a count of more than 63 bits
+abbrev pub TextCanon : {V : Type 0} → (V → List ℕ) → Form → Instance → Result V Refusal → Type 0
+TextCanon bytes form I (Ok text) = (J : Instance) × PrintsCanon form (bytes text) I J
+TextCanon bytes form I (Err Memory) = Unit {0}
+TextCanon bytes form I (Err CountTooLarge) = (J : Instance) × PrintsCanon form (print J) I J × 2 ^ 63 ≤ size_of J
+TextCanon bytes form I (Err _) = ⊥
+
+-- the source gave the text t from here on, and now gives `rest`: t reads as an instance whose canonical text is put; or
+-- t is refused, and nothing is put
+abbrev pub RunsCanon : {S : Type 0} → (S → Option (List ℕ)) → (S → Bool) → S → S → Form → List ℕ → Option (List ℕ) → Result (Unit {0}) Refusal → Type 0
+RunsCanon taken has_failed old new form t rest (Ok x) = (I : Instance) × Reads t I × IsAtEnd rest × WritesCanon taken has_failed old new form I (Ok x)
+RunsCanon taken has_failed old new form t rest (Err Write) = (I : Instance) × Reads t I × WritesCanon taken has_failed old new form I (Err Write)
+RunsCanon taken has_failed old new form t rest (Err CountTooLarge) = (I : Instance) × Reads t I × WritesCanon taken has_failed old new form I (Err CountTooLarge)
+RunsCanon taken has_failed old new form t rest (Err (Text place code)) = IsFirstFault t place code
+RunsCanon taken has_failed old new form t rest (Err Memory) = WantsMemory 0 (lines t)
+RunsCanon taken has_failed old new form t rest (Err Read) = CleanSoFar t rest
+RunsCanon taken has_failed old new form t rest (Err Endless) = (c : CleanSoFar t rest) × (2 ^ 40 ≤ length c.given)

@@ -1,0 +1,80 @@
+-- What the end of a text makes of its items.
+use Rattle.std.proofs.Common.{◌≡◌, ℤ, pos, List, [], ◌∷◌, Bool, true, false, ◌||◌, cond, not, int_lt, Option, Some, None, is_none, Ok, Err, refl, sym, ap, ◌∙◌, subst}
+use Rattle.std.specs.Option.{option_map}
+use Rattle.dn_line.specs.declared.code.Code.{Code}
+use Rattle.dn_line.specs.declared.code.Code.TheVariants.{NoProblem, MissingTerminal, TooFewLines}
+use Rattle.dn_line.specs.declared.kind.Letter.TheVariants.{S, T}
+use Rattle.dn_line.specs.declared.line.Line.{Line}
+use Rattle.dn_line.specs.Faults.{first_fault}
+use Rattle.dn_bundle.specs.Kinds.{capacities}
+use Rattle.dn_instance.specs.Instances.{Graph, MaxFlow}
+use Rattle.dn_instance.specs.Items.{Problem, counted, terminal_of, graph_of, max_flow}
+use Rattle.dn_instance.specs.TextFaults.{end_fault, lacks_terminal, is_full}
+use Rattle.dn_instance.specs.Progresses.{IsAt}
+use Rattle.dn_instance.specs.Drafts.{draft_kind, Holds}
+use Rattle.dn_instance.specs.Ends.{Makes, EndsWith}
+use Rattle.dn_instance.specs.Helds.{Bundles, Shows}
+use Rattle.dn_instance.specs.Views.{contents_of, holding}
+use Rattle.dn_instance.specs.declared.content.Content.{Content}
+use Rattle.dn_instance.specs.declared.content.Content.TheVariants as Kept
+use Rattle.dn_instance.specs.declared.draft.Draft.{Draft}
+use Rattle.dn_instance.specs.declared.draft.Draft.TheVariants as Drafts
+use Rattle.dn_bundle.specs.declared.arc.CapArc.{CapArc}
+use Rattle.dn_bundle.specs.declared.total.Total.{Total}
+use Rattle.dn_instance.specs.declared.held.Held.{Held}
+use Rattle.dn_instance.specs.declared.progress.Progress.{Progress}
+
+-- the faults at the end, by the problem
+abbrev ends_by : Option Problem → List Line → Option Code
+ends_by o items = first_fault ((NoProblem, is_none o) ∷ (MissingTerminal, lacks_terminal (option_map (λ (p : Problem). p.kind) o) items) ∷ (TooFewLines, not (is_full o (counted items))) ∷ [])
+
+end_is : (p : Progress) (items : List Line) (lacks few : Bool) → IsAt p items → lacks_terminal (Some (draft_kind p.draft)) items ≡ lacks → int_lt p.counted p.count ≡ few
+    → end_fault items ≡ cond lacks (Some MissingTerminal) (cond few (Some TooFewLines) None)
+end_is p items lacks few at l f =
+    ap (λ o. ends_by o items) at.problem_is
+    ∙ ap (λ b. cond b (Some MissingTerminal) (cond (not (not (int_lt (pos (counted items)) p.count))) (Some TooFewLines) None)) l
+    ∙ ap (λ b. cond lacks (Some MissingTerminal) (cond b (Some TooFewLines) None)) (twice (int_lt (pos (counted items)) p.count) ∙ ap (λ n. int_lt n p.count) (sym at.counted_is) ∙ f)
+  where
+    twice : (b : Bool) → not (not b) ≡ b
+    twice true = refl
+    twice false = refl
+
+-- all is there
+pub ends_whole : (p : Progress) (items : List Line) (content : Content) (held : Held) → IsAt p items → Makes (draft_kind p.draft) p.nodes items (Ok content) → int_lt p.counted p.count ≡ false
+    → (holding held).nodes ≡ p.nodes → (holding held).lines ≡ p.counted → (holding held).contents ≡ contents_of content → EndsWith items (Ok held)
+ends_whole p items content held at made enough nodes lines contents = (
+  end_is p items false false at made.0 enough,
+  record {
+    problem = record { kind = draft_kind p.draft; nodes = p.nodes; count = p.count };
+    problem_is = at.problem_is;
+    instance = made.1.0;
+    made = made.1.1;
+    nodes_are = nodes;
+    lines_are = lines ∙ at.counted_is;
+    shows = subst (λ c. Shows c made.1.0) (sym contents) made.1.2;
+  },
+)
+
+pub ends_early : (p : Progress) (items : List Line) (content : Content) → IsAt p items → Makes (draft_kind p.draft) p.nodes items (Ok content) → int_lt p.counted p.count ≡ true → end_fault items ≡ Some TooFewLines
+ends_early p items content at made few = end_is p items false true at made.0 few
+
+pub ends_lacking : (p : Progress) (items : List Line) (code : Code) → IsAt p items → Makes (draft_kind p.draft) p.nodes items (Err code) → end_fault items ≡ Some code
+ends_lacking p items code at made = by_few (int_lt p.counted p.count) refl
+  where
+    by_few : (b : Bool) → int_lt p.counted p.count ≡ b → end_fault items ≡ Some code
+    by_few b e = end_is p items true b at made.1 e ∙ ap Some (sym made.0)
+
+max_made : (a b : ℤ) (x y : Option ℤ) (G : Graph CapArc) → x ≡ Some a → y ≡ Some b → max_flow x y G ≡ Some (MaxFlow a b G)
+max_made a b x y G e f = ap (λ o. max_flow o y G) e ∙ ap (λ o. max_flow (Some a) o G) f
+
+-- source and sink are there
+pub both_named : (d : Draft) (s t : Option ℤ) (table : Bundles Total) (a b u v nodes : ℤ) (items : List Line) → d ≡ Drafts.Max s t table → s ≡ Some a → t ≡ Some b → u ≡ a → v ≡ b → Holds d items → Makes (draft_kind d) nodes items (Ok (Kept.Max u v table))
+both_named d s t table a b u v nodes items is source sink same also h =
+    let k : Holds (Drafts.Max s t table) items = subst (λ x. Holds x items) is h in
+    let one : terminal_of S items ≡ Some a = sym k.0 ∙ source in
+    let other : terminal_of T items ≡ Some b = sym k.1 ∙ sink in
+    let out : Makes (draft_kind (Drafts.Max s t table)) nodes items (Ok (Kept.Max a b table)) =
+    (ap (λ o. is_none o || is_none (terminal_of T items)) one ∙ ap is_none other, (MaxFlow a b (graph_of capacities nodes items), max_made a b _ _ (graph_of capacities nodes items) one other, (refl, refl, k.2.tells_them))) in
+    subst (λ x. Makes (draft_kind x) nodes items (Ok (Kept.Max u v table))) (sym is)
+    (subst (λ x. Makes (draft_kind (Drafts.Max s t table)) nodes items (Ok (Kept.Max x v table))) (sym same)
+    (subst (λ y. Makes (draft_kind (Drafts.Max s t table)) nodes items (Ok (Kept.Max a y table))) (sym also) out))

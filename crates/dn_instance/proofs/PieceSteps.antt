@@ -1,0 +1,130 @@
+-- The lines that LFs have ended, as pieces come.
+use Rattle.std.proofs.Common.{◌≡◌, ℕ, suc, ◌+◌, ◌-◌, ◌<◌, ◌≤◌, List, [], ◌∷◌, ◌++◌, length, take, drop, take-append-drop, Bool, true, false, cond, not, ◌&&◌, refl, sym, ap, ◌∙◌, append-nil, append_assoc, arith}
+use Rattle.std.proofs.lemmas.Bool.{ltb-true, ltb-false}
+use Rattle.std.proofs.Math.Seq.{take-add}
+use Rattle.std.proofs.lemmas.List.{take_all, length-drop}
+use Rattle.std.specs.List.{position_or_len, before_first}
+use Rattle.dn_line.specs.Pieces.{parts, has_bytes, if_any, lines, is_line_feed}
+use Rattle.dn_line.specs.LineStates.{LineSoFar, has_end, used_of, last_ended, last_of, line_of}
+use Rattle.dn_line.proofs.PartsLaws.{Parts, parts_run, parts_end, parts_push}
+use Rattle.dn_instance.specs.Readers.{ended}
+
+last_push : (ls : List (List ℕ)) (o : List ℕ) → last_ended (ls ++ o ∷ []) ≡ record { bytes = o; ended = true }
+last_push [] o = refl
+last_push (l ∷ []) o = refl
+last_push (l ∷ k ∷ ks) o = last_push (k ∷ ks) o
+
+-- the line that a piece's LF ends comes after those before it
+closes : (p : Parts) (ls : List (List ℕ)) (o : List ℕ) → p ≡ (ls ++ o ∷ [], []) → p.0 ≡ ls ++ (last_of p.0 p.1).bytes ∷ []
+closes p ls o e =
+    ap (λ (q : Parts). q.0) e
+    ∙ ap (λ l. ls ++ l ∷ []) (sym (ap (λ (q : Parts). (last_of q.0 q.1).bytes) e ∙ ap (λ (l : LineSoFar). l.bytes) (last_push ls o)))
+
+pub ended_then : (t piece : List ℕ) → has_end piece ≡ true → ended (t ++ take (used_of piece) piece) ≡ ended t ++ (line_of (t ++ take (used_of piece) piece)).bytes ∷ []
+ended_then t piece e = by_end (has_end piece) e
+  where
+    end : ℕ
+    end = position_or_len is_line_feed piece
+
+    front : Parts
+    front = parts is_line_feed (t ++ before_first is_line_feed piece)
+
+    by_end : (x : Bool) → x ≡ true → ended (t ++ take (end + cond x 1 0) piece) ≡ ended t ++ (line_of (t ++ take (end + cond x 1 0) piece)).bytes ∷ []
+    by_end true f =
+        closes (parts is_line_feed (t ++ take (end + 1) piece)) (ended t) ((parts is_line_feed t).1 ++ before_first is_line_feed piece)
+        (parts_end is_line_feed t piece end refl (ltb-true _ _ e) ∙ ap (λ (q : Parts). let r : Parts = (q.0 ++ q.1 ∷ [], []) in r) (parts_run is_line_feed t piece))
+    by_end false f = cc
+
+pub goes_on : (t piece : List ℕ) → has_end piece ≡ false → ended (t ++ take (used_of piece) piece) ≡ ended t
+goes_on t piece e = by_end (has_end piece) e
+  where
+    end : ℕ
+    end = position_or_len is_line_feed piece
+
+    plus_zero : (n : ℕ) → n + 0 ≡ n
+    plus_zero n = omega arith
+
+    by_end : (x : Bool) → x ≡ false → ended (t ++ take (end + cond x 1 0) piece) ≡ ended t
+    by_end true f = cc
+    by_end false f = ap (λ n. ended (t ++ take n piece)) (plus_zero end) ∙ ap (λ (q : Parts). q.0) (parts_run is_line_feed t piece)
+
+-- the lines of more text begin with those of the text
+pub record More (ls ms : List (List ℕ)) : Type 0 where
+  pub rest : List (List ℕ)
+  pub whole : ms ≡ ls ++ rest
+
+one_byte : (t : List ℕ) (b : ℕ) → More (ended t) (ended (t ++ b ∷ []))
+one_byte t b = by_test (is_line_feed b) (parts_push is_line_feed t b)
+  where
+    by_test : (x : Bool) → parts is_line_feed (t ++ b ∷ []) ≡ cond x ((parts is_line_feed t).0 ++ (parts is_line_feed t).1 ∷ [], []) ((parts is_line_feed t).0, (parts is_line_feed t).1 ++ b ∷ []) → More (ended t) (ended (t ++ b ∷ []))
+    by_test true p = record { rest = (parts is_line_feed t).1 ∷ []; whole = ap (λ (q : Parts). q.0) p }
+    by_test false p = record { rest = []; whole = ap (λ (q : Parts). q.0) p ∙ sym (append-nil (ended t)) }
+
+pub ended_more : (t u : List ℕ) → More (ended t) (ended (t ++ u))
+ended_more t [] = record { rest = []; whole = ap ended (append-nil t) ∙ sym (append-nil (ended t)) }
+ended_more t (b ∷ u) =
+    let one = one_byte t b in
+    let more = ended_more (t ++ b ∷ []) u in
+    record {
+      rest = one.rest ++ more.rest;
+      whole = ap ended (sym (append_assoc t (b ∷ []) u)) ∙ more.whole ∙ ap (λ l. l ++ more.rest) one.whole ∙ append_assoc (ended t) one.rest more.rest;
+    }
+
+-- whether the last line lacks its LF
+pending_at : (ls : List (List ℕ)) (o : List ℕ) (x : Bool) → x ≡ (not (last_of ls o).ended && has_bytes (last_of ls o).bytes) → if_any o ≡ cond x ((last_of ls o).bytes ∷ []) []
+pending_at ls (b ∷ o) x e = sym (ap (λ y. cond y ((b ∷ o) ∷ []) []) e)
+pending_at ls [] x e = sym (ap (λ y. cond y ((last_ended ls).bytes ∷ []) []) (e ∙ none ls))
+  where
+    none : (ls : List (List ℕ)) → (not (last_ended ls).ended && has_bytes (last_ended ls).bytes) ≡ false
+    none [] = refl
+    none (l ∷ []) = refl
+    none (l ∷ k ∷ ks) = none (k ∷ ks)
+
+pub with_last : (t : List ℕ) → true ≡ (not (line_of t).ended && has_bytes (line_of t).bytes) → lines t ≡ ended t ++ (line_of t).bytes ∷ []
+with_last t e = ap (λ l. ended t ++ l) (pending_at (ended t) (parts is_line_feed t).1 true e)
+
+pub without_last : (t : List ℕ) → false ≡ (not (line_of t).ended && has_bytes (line_of t).bytes) → lines t ≡ ended t
+without_last t e = ap (λ l. ended t ++ l) (pending_at (ended t) (parts is_line_feed t).1 false e) ∙ append-nil (ended t)
+
+pub lines_more : (t : List ℕ) → More (ended t) (lines t)
+lines_more t = record { rest = if_any (parts is_line_feed t).1; whole = refl }
+
+place_bound : (piece : List ℕ) → position_or_len is_line_feed piece ≤ length piece
+place_bound [] = omega arith
+place_bound (b ∷ bs) = by_test (is_line_feed b) (place_bound bs)
+  where
+    by_test : (x : Bool) → position_or_len is_line_feed bs ≤ length bs → cond (not x) (1 + position_or_len is_line_feed bs) 0 ≤ suc (length bs)
+    by_test true h = omega arith
+    by_test false h = omega arith
+
+-- how much of a piece is taken
+pub used_bound : (piece : List ℕ) → used_of piece ≤ length piece
+used_bound piece = by_end (has_end piece) refl
+  where
+    by_end : (x : Bool) → has_end piece ≡ x → position_or_len is_line_feed piece + cond x 1 0 ≤ length piece
+    by_end true e = let h = ltb-true (position_or_len is_line_feed piece) (length piece) e in omega arith
+    by_end false e = let h = place_bound piece in omega arith
+
+pub used_some : (piece : List ℕ) → 0 < length piece → 0 < used_of piece
+used_some piece s = by_end (has_end piece) refl
+  where
+    by_end : (x : Bool) → has_end piece ≡ x → 0 < position_or_len is_line_feed piece + cond x 1 0
+    by_end true e = omega arith
+    by_end false e = let h = ltb-false (position_or_len is_line_feed piece) (length piece) e in omega arith
+
+-- what is left of a piece from a place on
+abbrev pub rest_of : List ℕ → ℕ → List ℕ
+rest_of p i = take (length p - i) (drop i p)
+
+rest_is : (p : List ℕ) (i : ℕ) → rest_of p i ≡ drop i p
+rest_is p i = take_all (length p - i) (drop i p) (omega (arith, length-drop i p))
+
+pub rest_len : (p : List ℕ) (i : ℕ) → length (rest_of p i) ≡ length p - i
+rest_len p i = ap length (rest_is p i) ∙ length-drop i p
+
+-- a piece, part by part
+pub step_on : (t p : List ℕ) (i n : ℕ) → (t ++ take i p) ++ take n (rest_of p i) ≡ t ++ take (i + n) p
+step_on t p i n = ap (λ l. (t ++ take i p) ++ take n l) (rest_is p i) ∙ append_assoc t (take i p) (take n (drop i p)) ∙ ap (λ l. t ++ l) (sym (take-add i n p))
+
+pub whole_of : (t p : List ℕ) (j : ℕ) → t ++ p ≡ (t ++ take j p) ++ drop j p
+whole_of t p j = ap (λ l. t ++ l) (sym (take-append-drop j p)) ∙ sym (append_assoc t (take j p) (drop j p))

@@ -1,0 +1,145 @@
+-- What a reader has read as it goes on.
+use Rattle.std.proofs.Common.{◌≡◌, ℕ, ◌+◌, ◌≤◌, List, [], ◌∷◌, ◌++◌, length, take, drop, Option, Some, None, Ok, Err, Result, MatchOption, ◌⊎◌, inl, inr, refl, sym, ap, ◌∙◌, subst, arith, length-append, append-nil, pos, option_and_then}
+use Rattle.std.proofs.lemmas.List.{take_all, take-append-le}
+use Rattle.dn_line.specs.declared.code.Code.{Code}
+use Rattle.dn_line.specs.Words.{said_words}
+use Rattle.dn_line.specs.Pieces.{lines}
+use Rattle.dn_line.specs.LineStates.{line_of}
+use Rattle.dn_instance.specs.declared.item_fault.ItemFault.{ItemFault}
+use Rattle.dn_instance.specs.declared.item_fault.ItemFault.TheVariants as Faults
+use Rattle.dn_instance.specs.declared.place.Place.TheVariants as Places
+use Rattle.dn_instance.specs.declared.reader.Reader.{Reader}
+use Rattle.dn_instance.specs.declared.refusal.Refusal.{Refusal}
+use Rattle.dn_instance.specs.declared.refusal.Refusal.TheVariants.{Text, Memory, Read, Endless, Write, CountTooLarge}
+use Rattle.dn_instance.specs.ItemFaults.{Answers}
+use Rattle.dn_instance.specs.Readers.{ended, Takes, TakesAll, IsRefused, IsReading, StandsFor, Fed, Outcome, answer_of}
+use Rattle.dn_instance.specs.Refusals.{refused_at}
+use Rattle.dn_instance.specs.TextFaults.{line_fault}
+use Rattle.dn_instance.specs.Texts.{items_of, FaultAt, IsClean, IsFirstFaultAt}
+use Rattle.dn_instance.specs.TextsSoFar.{HasRead}
+use Rattle.dn_instance.proofs.FirstFaults.{first_on}
+use Rattle.dn_instance.proofs.LineSteps.{split, clean_more}
+use Rattle.dn_instance.proofs.PieceSteps.{More, ended_more, lines_more, rest_of, step_on, whole_of}
+use Rattle.dn_instance.proofs.SizeLaws.{problem_sized}
+use Rattle.dn_instance.specs.Ends.{EndsWith}
+use Rattle.dn_instance.specs.Items.{Problem, instance_as}
+use Rattle.dn_instance.specs.declared.held.Held.{Held}
+use Rattle.dn_instance.specs.declared.text_so_far.TextSoFar.{TextSoFar}
+
+-- the fault of a line after clean lines is the first
+fault_first : (ls : List (List ℕ)) (l : List ℕ) (number : ℕ) (code : Code) → IsClean ls → number ≡ length ls + 1 → line_fault (length ls + 1) (items_of ls) (said_words l) ≡ Some code → IsFirstFaultAt (ls ++ l ∷ []) number code
+fault_first ls l number code clean n f = record {
+  at = record { before = ls; line = l; after = []; lines_are = refl; number_is = n; fault_is = subst (λ k. line_fault k (items_of ls) (said_words l) ≡ Some code) (sym n) f };
+  first = λ other fault g. by_split other fault g (split ls g.before g.after l g.line g.lines_are);
+}
+  where
+    by_split : (other : ℕ) (fault : Code) (g : FaultAt (ls ++ l ∷ []) other fault) → ((g.before ≡ ls) × (g.line ≡ l)) ⊎ ((a : List (List ℕ)) × (ls ≡ g.before ++ g.line ∷ a)) → number ≤ other
+    by_split other fault g (inl (b, m)) = let k = ap length b in let o = g.number_is in omega arith
+    by_split other fault g (inr (a, e)) = absurd (clean other fault (record { before = g.before; line = g.line; after = a; lines_are = e; number_is = g.number_is; fault_is = g.fault_is }))
+
+all_of : (ls : List (List ℕ)) (l : List ℕ) → take (length ls + 1) (ls ++ l ∷ []) ≡ ls ++ l ∷ []
+all_of ls l = take_all (length ls + 1) (ls ++ l ∷ []) (let n = length-append ls (l ∷ []) in omega arith)
+
+-- the next line is refused
+pub refused_next : (ls : List (List ℕ)) (l : List ℕ) (number : ℕ) (fault : ItemFault) → IsClean ls → number ≡ length ls + 1 → Answers (Err fault) (line_fault (length ls + 1) (items_of ls) (said_words l))
+    → IsRefused (length ls) (ls ++ l ∷ []) (refused_at number fault)
+refused_next ls l number (Faults.Text code) clean n h = fault_first ls l number code clean n h
+refused_next ls l number Faults.Memory clean n h = record {
+  count = length ls + 1;
+  past = omega arith;
+  within = (let m = length-append ls (l ∷ []) in omega arith);
+  clean = subst IsClean (sym (all_of ls l)) (clean_more ls l clean h);
+}
+
+-- a refusal stays, whatever lines come
+pub refused_on : (before earlier : ℕ) (ls ms : List (List ℕ)) (e : Refusal) → earlier ≤ before → More ls ms → IsRefused before ls e → IsRefused earlier ms e
+refused_on before earlier ls ms (Text (Places.Line number) code) b m f = subst (λ x. IsFirstFaultAt x number code) (sym m.whole) (first_on ls m.rest number code f)
+refused_on before earlier ls ms (Text Places.End code) b m f = absurd f
+refused_on before earlier ls ms Memory b m w = record {
+  count = w.count;
+  past = (let p = w.past in omega arith);
+  within = (let n = ap length m.whole in let k = length-append ls m.rest in let q = w.within in omega arith);
+  clean = subst IsClean (sym (ap (take w.count) m.whole ∙ take-append-le w.count ls m.rest w.within)) w.clean;
+}
+refused_on before earlier ls ms Read b m f = absurd f
+refused_on before earlier ls ms Endless b m f = absurd f
+refused_on before earlier ls ms Write b m f = absurd f
+refused_on before earlier ls ms CountTooLarge b m f = absurd f
+
+pub none_from : (o : Option Refusal) → ((x : Refusal) → o ≡ Some x → ⊥) → o ≡ None
+none_from None h = refl
+none_from (Some x) h = absurd (h x refl)
+
+-- a reader without refusal
+pub reading : (r : Reader) (t : List ℕ) → r.refusal ≡ None → StandsFor r t → IsReading r t
+reading r t e h = subst (λ o. MatchOption o (IsReading r t) (λ x. IsRefused 0 (ended t) x)) e h
+
+pub stands : (r : Reader) (t : List ℕ) → r.refusal ≡ None → IsReading r t → StandsFor r t
+stands r t e h = subst (λ o. MatchOption o (IsReading r t) (λ x. IsRefused 0 (ended t) x)) (sym e) h
+
+-- and one with this
+pub refused : (r : Reader) (t : List ℕ) (x : Refusal) → r.refusal ≡ Some x → StandsFor r t → IsRefused 0 (ended t) x
+refused r t x e h = subst (λ o. MatchOption o (IsReading r t) (λ y. IsRefused 0 (ended t) y)) e h
+
+pub refuses : (r : Reader) (t : List ℕ) (x : Refusal) → r.refusal ≡ Some x → IsRefused 0 (ended t) x → StandsFor r t
+refuses r t x e h = subst (λ o. MatchOption o (IsReading r t) (λ y. IsRefused 0 (ended t) y)) (sym e) h
+
+-- what is answered of the text so far
+pub fed : (r : Reader) (t : List ℕ) → StandsFor r t → Fed t (answer_of r.refusal)
+fed r t h = by_refusal r.refusal refl
+  where
+    by_refusal : (o : Option Refusal) → r.refusal ≡ o → Fed t (answer_of o)
+    by_refusal None e = (reading r t e h).read.clean
+    by_refusal (Some x) e = refused r t x e h
+
+-- a last line without LF
+pub takes_last : (r : Reader) (t : List ℕ) (x : Result (Unit {0}) Refusal) → lines t ≡ ended t ++ (line_of t).bytes ∷ [] → Takes r (ended t) (line_of t).bytes x → TakesAll r t x
+takes_last r t (Ok x) e h = subst (HasRead r.text) (sym e) h
+takes_last r t (Err x) e h = subst (λ ls. IsRefused (length (ended t)) ls x) (sym e) h.1
+
+-- the lines of a front of a piece
+pub more_from : (t p : List ℕ) (i n : ℕ) → More (ended ((t ++ take i p) ++ take n (rest_of p i))) (ended (t ++ p))
+more_from t p i n =
+    subst (λ u. More (ended ((t ++ take i p) ++ take n (rest_of p i))) (ended u)) (sym (whole_of t p (i + n) ∙ ap (λ l. l ++ drop (i + n) p) (sym (step_on t p i n))))
+    (ended_more ((t ++ take i p) ++ take n (rest_of p i)) (drop (i + n) p))
+
+pub more_count : (ls ms : List (List ℕ)) → More ls ms → length ls ≤ length ms
+more_count ls ms m = let n = ap length m.whole in let k = length-append ls m.rest in omega arith
+
+-- the refusal of a whole text
+told_of : (t : List ℕ) (e : Refusal) → IsRefused 0 (lines t) e → Outcome t (Err e)
+told_of t (Text (Places.Line number) code) h = h
+told_of t (Text Places.End code) h = absurd h
+told_of t Memory h = h
+told_of t Read h = absurd h
+told_of t Endless h = absurd h
+told_of t Write h = absurd h
+told_of t CountTooLarge h = absurd h
+
+-- and of the lines that LFs have ended
+pub refused_early : (t : List ℕ) (e : Refusal) → IsRefused 0 (ended t) e → Outcome t (Err e)
+refused_early t e h = told_of t e (refused_on 0 0 (ended t) (lines t) e (omega arith) (lines_more t) h)
+
+pub refused_before : (r : Reader) (t : List ℕ) (e : Refusal) → r.refusal ≡ Some e → StandsFor r t → Outcome t (Err e)
+refused_before r t e is h = refused_early t e (refused r t e is h)
+
+pub refused_last : (t : List ℕ) (before : ℕ) (e : Refusal) → IsRefused before (lines t) e → Outcome t (Err e)
+refused_last t before e h = told_of t e (refused_on before 0 (lines t) (lines t) e (omega arith) (record { rest = []; whole = sym (append-nil (lines t)) }) h)
+
+-- what is held of a whole text
+pub held_whole : (x : TextSoFar) (t : List ℕ) (held : Held) → HasRead x (lines t) → EndsWith (items_of (lines t)) (Ok held) → Outcome t (Ok held)
+held_whole x t held r e =
+    let all = e.1 in
+    let size = problem_sized (lines t) all.problem all.instance r.clean all.problem_is all.made in (
+      all.instance,
+      record {
+        clean = r.clean;
+        whole = e.0;
+        instance_is = ap (option_and_then (λ (p : Problem). instance_as p.kind p.nodes (items_of (lines t)))) all.problem_is ∙ all.made;
+      },
+      record {
+        nodes_are = all.nodes_are ∙ size.0;
+        lines_are = all.lines_are ∙ ap pos size.1;
+        shows = all.shows;
+      },
+    )

@@ -1,0 +1,6 @@
+use Rattle.std.proofs.Common.{[]}
+use Rattle.dn_instance.proofs.ReaderLaws.{refused_early}
+use Rattle.dn_instance.proofs.read.read_text.Goals as goal
+
+pub returns-in-Err : goal.returns-in-Err
+returns-in-Err c = refused_early c.args.text.now c.in-Err.refusal (c.in-Err.ensures.told [] c.new-reader.ensures.stands)

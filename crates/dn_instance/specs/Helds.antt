@@ -1,0 +1,66 @@
+-- What is held of a text that was read, and which instance it stands for.
+use Rattle.std.specs.Prelude.{◌≡◌, ℕ, ℤ, pos, List, length}
+use Rattle.dn_line.specs.declared.kind.Kind.{Kind}
+use Rattle.dn_line.specs.declared.kind.Kind.TheVariants as Kinds
+use Rattle.dn_bundle.specs.Kinds.{lengths, capacities, costs}
+use Rattle.dn_bundle.specs.LeastTold.{length_told}
+use Rattle.dn_bundle.specs.TotalTold.{cap_told}
+use Rattle.dn_bundle.specs.CurveTold.{told}
+use Rattle.dn_bundle.specs.declared.arc.Form.TheVariants.{One}
+use Rattle.dn_bundle.specs.declared.curve.Curve.{Curve}
+use Rattle.dn_bundle.specs.declared.least.Least.{Least}
+use Rattle.dn_bundle.specs.declared.total.Total.{Total}
+use Rattle.dn_instance.specs.Instances.{Instance, MinCostFlow, MaxFlow, ShortestPaths, Sources, Queries, Coordinates, nodes_of, size_of}
+use Rattle.dn_instance.specs.TableSteps.{Tells}
+
+-- bundles by ordered pair
+abbrev pub Bundles : Type 0 → Type 0
+Bundles B = List ((ℤ × ℤ) × B)
+
+-- what is held by kind: flows, terminals and the bundles of a graph; the items of a companion
+pub data Contents : Type 0 where
+  OfMin : List (ℤ × ℤ) → Bundles Curve → Contents
+  OfMax : ℤ → ℤ → Bundles Total → Contents
+  OfSp : Bundles Least → Contents
+  OfSs : List ℤ → Contents
+  OfP2p : List (ℤ × ℤ) → Contents
+  OfCo : List (ℤ × (ℤ × ℤ)) → Contents
+
+-- nodes, the number of counted lines, and the rest by kind
+pub record Holding : Type 0 where
+  pub nodes : ℤ
+  pub lines : ℤ
+  pub contents : Contents
+
+abbrev pub contents_kind : Contents → Kind
+contents_kind (OfMin flows table) = Kinds.Min
+contents_kind (OfMax source sink table) = Kinds.Max
+contents_kind (OfSp table) = Kinds.Sp
+contents_kind (OfSs ids) = Kinds.Ss
+contents_kind (OfP2p pairs) = Kinds.P2p
+contents_kind (OfCo points) = Kinds.Co
+
+-- the ordered pairs that have a bundle; a companion has none
+abbrev pub pair_count : Contents → ℕ
+pair_count (OfMin flows table) = length table
+pair_count (OfMax source sink table) = length table
+pair_count (OfSp table) = length table
+pair_count (OfSs ids) = 0
+pair_count (OfP2p pairs) = 0
+pair_count (OfCo points) = 0
+
+-- the bundles tell what the arcs mean, and the rest is the instance's own
+abbrev pub Shows : Contents → Instance → Type 0
+Shows (OfMin flows table) (MinCostFlow supplies graph) = (flows ≡ supplies) × Tells costs (λ (b : Curve). told One b.units b.cost b.steps) table graph.arcs
+Shows (OfMax source sink table) (MaxFlow s t graph) = (source ≡ s) × (sink ≡ t) × Tells capacities (λ (b : Total). cap_told b.total) table graph.arcs
+Shows (OfSp table) (ShortestPaths graph) = Tells lengths (λ (b : Least). length_told b.length) table graph.arcs
+Shows (OfSs ids) (Sources items) = ids ≡ items
+Shows (OfP2p pairs) (Queries items) = pairs ≡ items
+Shows (OfCo points) (Coordinates items) = points ≡ items
+Shows _ _ = ⊥
+
+-- what is held stands for the instance
+pub record IsHeld (h : Holding) (I : Instance) : Type 0 where
+  pub nodes_are : h.nodes ≡ nodes_of I
+  pub lines_are : h.lines ≡ pos (size_of I)
+  pub shows : Shows h.contents I

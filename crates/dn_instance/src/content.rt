@@ -1,0 +1,77 @@
+// What is kept of a text, by kind.
+ghost use Rattle.std.specs.Prelude.{◌≡◌};
+ghost use Rattle.dn_instance.specs.Helds.{contents_kind, pair_count};
+ghost use Rattle.dn_instance.specs.Views.{contents_of, shown};
+
+use crate::table::Table;
+use crate::view::View;
+use dn_bundle::{Curve, Least, Total};
+use dn_line::Kind;
+use std::collections::BTreeMap;
+
+#[derive(Drop)]
+pub(crate) enum Content {
+    Min {
+        supplies: BTreeMap<i64, i64>,
+        table: Table<Curve>,
+    },
+    Max {
+        source: i64,
+        sink: i64,
+        table: Table<Total>,
+    },
+    Sp(Table<Least>),
+    Ss(Vec<i64>),
+    P2p(Vec<(i64, i64)>),
+    Co(BTreeMap<i64, (i64, i64)>),
+}
+
+impl Content {
+    // The kind of text that it is of.
+    pub(crate) fn kind(&self) -> Kind
+        ensures { result ≡ contents_kind (contents_of self.now) }
+    {
+        match self {
+            Content::Min { .. } => Kind::Min,
+            Content::Max { .. } => Kind::Max,
+            Content::Sp(_) => Kind::Sp,
+            Content::Ss(_) => Kind::Ss,
+            Content::P2p(_) => Kind::P2p,
+            Content::Co(_) => Kind::Co,
+        }
+    }
+
+    // How many ordered pairs have a bundle.
+    pub(crate) fn pairs(&self) -> usize
+        ensures { result ≡ pair_count (contents_of self.now) }
+    {
+        match self {
+            Content::Min { table, .. } => table.len(),
+            Content::Max { table, .. } => table.len(),
+            Content::Sp(table) => table.len(),
+            Content::Ss(_) | Content::P2p(_) | Content::Co(_) => 0,
+        }
+    }
+
+    // All of it.
+    pub(crate) fn view(&self) -> View<'_>
+        ensures { shown result ≡ contents_of self.now }
+    {
+        match self {
+            Content::Min { supplies, table } => View::Min { supplies, table },
+            Content::Max {
+                source,
+                sink,
+                table,
+            } => View::Max {
+                source: *source,
+                sink: *sink,
+                table,
+            },
+            Content::Sp(table) => View::Sp { table },
+            Content::Ss(items) => View::Ss { items },
+            Content::P2p(items) => View::P2p { items },
+            Content::Co(points) => View::Co { points },
+        }
+    }
+}

@@ -1,0 +1,140 @@
+// A text that is read in any pieces.
+ghost use Rattle.std.specs.Prelude.{◌≡◌, ◌≤◌, ℕ, List, [], ◌++◌, length, take, Some, None, Err, IfOk, MatchResult};
+ghost use Rattle.dn_line.specs.LineStates.{LineSoFar, Stands, used_of};
+ghost use Rattle.dn_line.specs.Pieces.{lines};
+ghost use Rattle.dn_instance.specs.Readers.{StandsFor, IsReading, Takes, TakesAll, Advances, Fed, Outcome, WantsMemory, ended, refusal_of, answer_of};
+ghost use Rattle.dn_instance.specs.Refusals.{refused_at};
+ghost use Rattle.dn_instance.specs.TextsSoFar.{HasRead};
+
+use crate::held::Held;
+use crate::item_fault::ItemFault;
+use crate::place::Place;
+use crate::refusal::Refusal;
+use crate::text_so_far::TextSoFar;
+use dn_line::LineReader;
+use std::alloc::Global;
+
+/// Reads a text that comes in any pieces. It stands for the bytes that were fed.
+#[derive(Drop)]
+pub struct Reader {
+    alloc: Global,
+    line: LineReader,
+    text: TextSoFar,
+    refusal: Option<Refusal>,
+}
+
+impl Reader {
+    /// A reader that no byte came to. What it reads is kept in memory of `alloc`.
+    pub fn new(alloc: Global) -> Reader
+        ensures stands { StandsFor result [] }
+        ensures fine { refusal_of result ≡ None }
+    {
+        Reader {
+            alloc,
+            line: LineReader::new(),
+            text: TextSoFar::new(),
+            refusal: None,
+        }
+    }
+
+    // Takes the line that it stands for.
+    fn close(&mut self) -> Result<(), Refusal>
+        ensures taken { (ls : List (List ℕ)) (l : LineSoFar) → HasRead self.old.text ls → Stands self.old.line l → Takes self.new ls l.bytes result }
+        ensures line { self.new.line ≡ self.old.line }
+        ensures refusal { MatchResult result (λ x. refusal_of self.new ≡ refusal_of self.old) (λ e. refusal_of self.new ≡ Some e) }
+    {
+        let number = self.text.next_number();
+        match self.text.take_line(self.alloc, &self.line) {
+            Ok(()) => Ok(()),
+            Err(fault) => {
+                let refusal = refused_at(number, fault);
+                self.refusal = Some(refusal);
+                Err(refusal)
+            }
+        }
+    }
+
+    // Takes the front of a piece up to and with its first LF, or all of it, and answers how long that is.
+    fn advance(&mut self, piece: &[u8]) -> Result<usize, Refusal>
+        ensures used { IfOk result (λ n. n ≡ used_of piece.now) }
+        ensures bound { IfOk result (λ n. n ≤ length piece.now) }
+        ensures advances { (t : List ℕ) → IsReading self.old t → Advances self.new t (t ++ take (used_of piece.now) piece.now) result }
+        ensures refusal { MatchResult result (λ n. refusal_of self.new ≡ refusal_of self.old) (λ e. refusal_of self.new ≡ Some e) }
+    {
+        match self.line.step(piece) {
+            Ok(step) if step.ended => match self.close() {
+                Ok(()) => Ok(step.used),
+                Err(refusal) => Err(refusal),
+            },
+            Ok(step) => Ok(step.used),
+            Err(_) => Err(Refusal::Memory),
+        }
+    }
+
+    // Takes a last line without LF.
+    fn close_last(&mut self) -> Result<(), Refusal>
+        ensures { (t : List ℕ) → IsReading self.old t → TakesAll self.new t result }
+    {
+        if self.line.pending() {
+            self.close()
+        } else {
+            Ok(())
+        }
+    }
+
+    /// Takes the next piece of the text. Answers the first fault of the text as soon as the LF of its line has come,
+    /// and not before; want of memory only at a line without fault; and a refusal that it has answered again.
+    pub fn feed(&mut self, piece: &[u8]) -> Result<(), Refusal>
+        ensures stands { (t : List ℕ) → StandsFor self.old t → StandsFor self.new (t ++ piece.now) }
+        ensures told { (t : List ℕ) → StandsFor self.old t → Fed (t ++ piece.now) result }
+        ensures memory { (t : List ℕ) → StandsFor self.old t → refusal_of self.old ≡ None → result ≡ Err Refusal.Memory → WantsMemory (length (ended t)) (ended (t ++ piece.now)) }
+        ensures answer { result ≡ answer_of (refusal_of self.new) }
+        ensures again { (e : Refusal) → refusal_of self.old ≡ Some e → refusal_of self.new ≡ Some e }
+    {
+        if let Some(refusal) = self.refusal {
+            return Err(refusal);
+        }
+        let mut at = 0;
+        while at < piece.len() {
+            match self.advance(&piece[at..]) {
+                Ok(used) => at += used,
+                Err(refusal) => return Err(refusal),
+            }
+        }
+        Ok(())
+    }
+
+    /// What the whole text reads as. A last line without LF is taken before the end is judged.
+    pub fn finish(mut self) -> Result<Held, Refusal>
+        ensures outcome { (t : List ℕ) → StandsFor self t → Outcome t result }
+        ensures memory { (t : List ℕ) → StandsFor self t → refusal_of self ≡ None → result ≡ Err Refusal.Memory → WantsMemory (length (ended t)) (lines t) }
+        ensures again { (e : Refusal) → refusal_of self ≡ Some e → result ≡ Err e }
+    {
+        if let Some(refusal) = self.refusal {
+            return Err(refusal);
+        }
+        match self.close_last() {
+            Ok(()) => match self.text.end() {
+                Ok(held) => Ok(held),
+                Err(code) => Err(Refusal::Text {
+                    place: Place::End,
+                    code,
+                }),
+            },
+            Err(refusal) => Err(refusal),
+        }
+    }
+}
+
+// The refusal of the line of this number.
+fn refused_at(number: u64, fault: ItemFault) -> Refusal
+    ensures { result ≡ refused_at number fault }
+{
+    match fault {
+        ItemFault::Text(code) => Refusal::Text {
+            place: Place::Line(number),
+            code,
+        },
+        ItemFault::Memory => Refusal::Memory,
+    }
+}

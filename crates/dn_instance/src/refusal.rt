@@ -1,0 +1,65 @@
+// Why a text is not read, or not written.
+ghost use Rattle.std.specs.Prelude.{◌≡◌};
+ghost use Rattle.dn_instance.specs.Refusals.{refusal_name, refusal_number};
+
+use crate::place::Place;
+use dn_line::Code;
+use thiserror::Error;
+
+/// Why a text was not read, or its canonical text not written. Numbers and names are this project's profile.
+#[derive(Clone, Copy, Debug, PartialEq, Eq, Error)]
+pub enum Refusal {
+    /// 1 to 21: the first fault of the text, and where it stands.
+    #[error("faulty text")]
+    Text {
+        /// Where the fault stands.
+        place: Place,
+        /// Which fault it is.
+        code: Code,
+    },
+    /// 30: a growth of memory was refused.
+    #[error("out of memory")]
+    Memory,
+    /// 31: the source of bytes failed.
+    #[error("the source of bytes failed")]
+    Read,
+    /// 32: 2^40 pulls gave bytes, and no end came.
+    #[error("the source of bytes has no end")]
+    Endless,
+    /// 33: the sink of bytes failed.
+    #[error("the sink of bytes failed")]
+    Write,
+    /// 34: the canonical text has more counted lines than 2^63-1.
+    #[error("too many canonical lines")]
+    CountTooLarge,
+}
+
+impl Refusal {
+    /// The number of the refusal: 1 to 21, or 30 to 34.
+    pub fn number(self) -> u8
+        ensures { result ≡ refusal_number self }
+    {
+        match self {
+            Refusal::Text { code, .. } => code.number(),
+            Refusal::Memory => 30,
+            Refusal::Read => 31,
+            Refusal::Endless => 32,
+            Refusal::Write => 33,
+            Refusal::CountTooLarge => 34,
+        }
+    }
+
+    /// The name of the refusal, as it is printed: the code's, or the variant's own.
+    pub fn name(self) -> &'static str
+        ensures { result.now ≡ refusal_name self }
+    {
+        match self {
+            Refusal::Text { code, .. } => code.name(),
+            Refusal::Memory => "Memory",
+            Refusal::Read => "Read",
+            Refusal::Endless => "Endless",
+            Refusal::Write => "Write",
+            Refusal::CountTooLarge => "CountTooLarge",
+        }
+    }
+}
