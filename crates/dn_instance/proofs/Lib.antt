@@ -19,3 +19,5 @@ pub mod PieceSteps
 pub mod ReaderLaws
 pub mod SizeLaws
 pub mod SourceLaws
+pub mod EntryLaws
+pub mod ContentEntries

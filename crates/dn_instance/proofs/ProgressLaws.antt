@@ -1,5 +1,5 @@
 -- What has been read from the problem line on, with one item more.
-use Rattle.std.proofs.Common.{◌≡◌, ℕ, ◌+◌, ℤ, pos, ◌+ℤ◌, ◌<ℤ◌, List, [], ◌∷◌, ◌++◌, length, filter, Bool, true, false, cond, not, ◌||◌, int_lt, Some, None, is_some, IsSome, refl, sym, ap, ◌∙◌, arith, ◌≤◌, ◌^◌, ◌-◌, FitsSigned, w64, suc}
+use Rattle.std.proofs.Common.{◌≡◌, ◌<◌, ℕ, ◌+◌, ℤ, pos, ◌+ℤ◌, ◌<ℤ◌, List, [], ◌∷◌, ◌++◌, length, filter, Bool, true, false, cond, not, ◌||◌, int_lt, Some, None, is_some, IsSome, refl, sym, subst, ap, ◌∙◌, arith, ◌≤◌, ◌^◌, ◌-◌, FitsSigned, w64, suc}
 use Rattle.std.proofs.lemmas.Int.{ints, fits_signed_from_abs}
 use Rattle.std.proofs.lemmas.Bool.Decides.{nat_tests}
 use Rattle.std.proofs.lemmas.List.Folds.{list_any-append}
@@ -67,6 +67,9 @@ arc_counted k (Item.Terminal _ _) c h = refl
 pub next_fits : (k : ℕ) (m : ℤ) → m <ℤ pos (2 ^ 63) → int_lt (pos k) m ≡ true → FitsSigned w64 (pos (suc k))
 next_fits k m f h = fits_signed_from_abs w64 (pos (suc k)) (grind (arith, ints, nat_tests))
 
+pub next_few : (k : ℕ) (m : ℤ) → m <ℤ pos (2 ^ 63) → int_lt (pos k) m ≡ true → suc k < 2 ^ 63
+next_few k m f h = grind (arith, ints, nat_tests)
+
 pub sum_is : (k : ℕ) (m : ℤ) → m <ℤ pos (2 ^ 63) → int_lt (pos k) m ≡ true → saturate_signed w64 (pos k +ℤ pos 1) ≡ pos (suc k)
 sum_is k m f h =
     let small : (k + 1) ≤ 2 ^ 63 - 1 = grind (arith, ints, nat_tests) in
@@ -94,11 +97,12 @@ module _ (p : Progress) (d : Draft) (items : List Line) (i : Line) (at : IsAt p 
       or_true false = refl
   arcs_then n false f e c = any_push items i ∙ ap (λ x. list_any is_arc items || x) (arc_counted (draft_kind p.draft) i (sym (ap is_companion kind) ∙ c) of_kind ∙ f) ∙ or_false (list_any is_arc items) ∙ at.arcs_are (sym (ap is_companion kind) ∙ c) ∙ ap (int_lt (pos 0)) (at.counted_is ∙ sym (e ∙ ap pos (counted_no items i f)))
 
-  pub is_then : (n : ℤ) → n ≡ pos (counted (items ++ i ∷ [])) → Holds d (items ++ i ∷ []) → IsAt (record { nodes = p.nodes; count = p.count; counted = n; draft = d }) (items ++ i ∷ [])
-  is_then n e h = record {
+  pub is_then : (n : ℤ) → n ≡ pos (counted (items ++ i ∷ [])) → counted (items ++ i ∷ []) < 2 ^ 63 → Holds d (items ++ i ∷ []) → IsAt (record { nodes = p.nodes; count = p.count; counted = n; draft = d }) (items ++ i ∷ [])
+  is_then n e few h = record {
     problem_is = problem_kept items i _ at.problem_is ∙ ap (λ k. Some (record { kind = k; nodes = p.nodes; count = p.count })) (sym kind);
     count_fits = at.count_fits;
     counted_is = e;
+    counted_few = few;
     arcs_are = arcs_then n (is_counted i) refl e;
     holds = h;
   }
@@ -109,6 +113,7 @@ begun p i h fits none holds = record {
   problem_is = ap (λ o. option_or o None) h;
   count_fits = fits;
   counted_is = none ∙ sym (ap pos (not_counted i some));
+  counted_few = subst (λ n. n < 2 ^ 63) (sym (not_counted i some)) (omega arith);
   arcs_are = λ c. not_arc i some ∙ sym (ap (int_lt (pos 0)) none);
   holds = held_problem p.draft i some holds;
 }

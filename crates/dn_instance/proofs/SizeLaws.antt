@@ -1,5 +1,5 @@
 -- As many lines are counted as a clean text has arcs, items or points.
-use Rattle.std.proofs.Common.{◌≡◌, ℕ, suc, ◌+◌, ℤ, pos, List, [], ◌∷◌, ◌++◌, length, length-append, filter_map, Option, Some, None, true, false, refl, sym, ap, ◌∙◌, subst, arith}
+use Rattle.std.proofs.Common.{◌≡◌, ℕ, suc, ◌+◌, ◌*◌, ◌≤◌, ◌<◌, ◌^◌, ℤ, pos, List, [], ◌∷◌, ◌++◌, length, length-append, filter_map, Option, Some, None, true, false, refl, sym, ap, ◌∙◌, subst, arith}
 use Rattle.std.specs.Option.{option_or, option_map}
 use Rattle.dn_line.specs.declared.kind.Kind.{Kind}
 use Rattle.dn_line.specs.declared.kind.Kind.TheVariants as Kinds
@@ -8,6 +8,8 @@ use Rattle.dn_line.specs.declared.line.Line.TheVariants as Item
 use Rattle.dn_line.specs.Spelling.{slots_of, kind_before}
 use Rattle.dn_bundle.specs.Kinds.{costs, capacities, lengths}
 use Rattle.dn_instance.specs.Instances.{Instance, nodes_of, size_of}
+use Rattle.dn_instance.specs.EntryCount.{entries_as, entries_by, entries_so_far}
+use Rattle.dn_instance.proofs.EntryLaws.{graph_few, costs_few, capacities_few, lengths_few}
 use Rattle.dn_instance.specs.Items.{Problem, problem_in, problem_of, arcs_of, arc_in, by_key, source_in, query_in, point_in, counted, is_counted, instance_as, max_flow, graph_of, terminal_of}
 use Rattle.dn_line.specs.declared.kind.Letter.TheVariants.{S, T}
 use Rattle.dn_instance.specs.Texts.{items_of, IsClean}
@@ -115,3 +117,19 @@ pub problem_sized : (ls : List (List ℕ)) (p : Problem) (I : Instance) → IsCl
 problem_sized ls p I clean h e =
     let s = kind_sized p.kind p.nodes (items_of ls) I (subst (λ o. SizedFor o (items_of ls)) h (clean_sized ls clean)) e in
     (s.nodes_are, s.size_is)
+
+-- the entries of the items so far fit 64 bits where their number is one of 64 signed bits
+so_far_by : (o : Option Problem) (items : List Line) → SizedFor o items → entries_by o items ≤ 2 * counted items
+so_far_by None items s = omega arith
+so_far_by (Some p) items s = by_kind p.kind s
+  where
+    by_kind : (k : Kind) → SizedAs k p.nodes items → entries_as k items ≤ 2 * counted items
+    by_kind Kinds.Min s = let few = graph_few costs costs_few (arcs_of costs items) in omega arith
+    by_kind Kinds.Max s = let few = graph_few capacities capacities_few (arcs_of capacities items) in omega arith
+    by_kind Kinds.Sp s = let few = graph_few lengths lengths_few (arcs_of lengths items) in omega arith
+    by_kind Kinds.Ss s = let size = s.1 in omega arith
+    by_kind Kinds.P2p s = let size = s.1 in omega arith
+    by_kind Kinds.Co s = let size = s.1 in omega arith
+
+pub so_far_fits : (ls : List (List ℕ)) → IsClean ls → counted (items_of ls) < 2 ^ 63 → entries_so_far (items_of ls) < 2 ^ 64
+so_far_fits ls clean h = let few = so_far_by (problem_of (items_of ls)) (items_of ls) (clean_sized ls clean) in omega arith

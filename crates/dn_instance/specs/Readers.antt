@@ -1,5 +1,5 @@
 -- What a reader has read, and what it answers.
-use Rattle.std.specs.Prelude.{◌≡◌, ℕ, ◌<◌, ◌≤◌, List, [], ◌∷◌, ◌++◌, length, take, Option, Some, None, MatchOption, Result, Ok, Err}
+use Rattle.std.specs.Prelude.{◌≡◌, ℕ, ◌+◌, ◌-◌, ◌<◌, ◌≤◌, List, [], ◌∷◌, ◌++◌, length, take, Option, Some, None, MatchOption, Result, Ok, Err}
 use Rattle.dn_line.specs.Pieces.{parts, lines, is_line_feed}
 use Rattle.dn_line.specs.LineStates.{Stands, line_of}
 use Rattle.dn_instance.specs.declared.place.Place.TheVariants as Places
@@ -7,10 +7,11 @@ use Rattle.dn_instance.specs.declared.refusal.Refusal.{Refusal}
 use Rattle.dn_instance.specs.declared.refusal.Refusal.TheVariants.{Text, Memory, Read, Endless, Write, CountTooLarge}
 use Rattle.dn_instance.specs.declared.held.Held.{Held}
 use Rattle.dn_instance.specs.declared.reader.Reader.{Reader}
+use Rattle.dn_instance.specs.EntryCount.{entries_so_far}
 use Rattle.dn_instance.specs.Instances.{Instance}
 use Rattle.dn_instance.specs.Helds.{IsHeld}
 use Rattle.dn_instance.specs.Views.{holding}
-use Rattle.dn_instance.specs.Texts.{IsClean, IsFirstFaultAt, IsFirstFault, Reads}
+use Rattle.dn_instance.specs.Texts.{items_of, IsClean, IsFirstFaultAt, IsFirstFault, Reads}
 use Rattle.dn_instance.specs.TextsSoFar.{HasRead}
 
 -- the lines of a text that LFs have ended
@@ -40,9 +41,22 @@ pub record IsReading (r : Reader) (t : List ℕ) : Type 0 where
   pub read : HasRead r.text (ended t)
   pub line : Stands r.line (line_of t)
 
+-- where the refusal names a line, it is the one after these
+abbrev pub IsAfter : List (List ℕ) → Refusal → Type 0
+IsAfter before (Text (Places.Line number) code) = number ≡ length before + 1
+IsAfter before _ = Unit {0}
+
+-- of these lines those before the refused one are read
+pub record StopsIn (r : Reader) (ls : List (List ℕ)) (e : Refusal) : Type 0 where
+  pub before : List (List ℕ)
+  pub rest : List (List ℕ)
+  pub whole : ls ≡ before ++ rest
+  pub read : HasRead r.text before
+  pub next : IsAfter before e
+
 -- the reader is where these bytes lead
 abbrev pub StandsFor : Reader → List ℕ → Type 0
-StandsFor r t = MatchOption r.refusal (IsReading r t) (λ e. IsRefused 0 (ended t) e)
+StandsFor r t = MatchOption r.refusal (IsReading r t) (λ e. IsRefused 0 (ended t) e × StopsIn r (ended t) e)
 
 -- the refusal that it repeats from here on
 abbrev pub refusal_of : Reader → Option Refusal
@@ -51,7 +65,7 @@ refusal_of r = r.refusal
 -- one line more is read, or the refusal is kept
 abbrev pub Takes : Reader → List (List ℕ) → List ℕ → Result (Unit {0}) Refusal → Type 0
 Takes r ls l (Ok x) = HasRead r.text (ls ++ l ∷ [])
-Takes r ls l (Err e) = (r.refusal ≡ Some e) × IsRefused (length ls) (ls ++ l ∷ []) e
+Takes r ls l (Err e) = (r.refusal ≡ Some e) × IsRefused (length ls) (ls ++ l ∷ []) e × StopsIn r (ls ++ l ∷ []) e
 
 -- all lines are read, or one is refused
 abbrev pub TakesAll : Reader → List ℕ → Result (Unit {0}) Refusal → Type 0
@@ -61,7 +75,7 @@ TakesAll r t (Err e) = IsRefused (length (ended t)) (lines t) e
 -- from t on it is read up to u, or the refusal of a line after those of t is kept
 abbrev pub Advances : Reader → List ℕ → List ℕ → Result ℕ Refusal → Type 0
 Advances r t u (Ok n) = IsReading r u
-Advances r t u (Err e) = (r.refusal ≡ Some e) × IsRefused (length (ended t)) (ended u) e
+Advances r t u (Err e) = (r.refusal ≡ Some e) × IsRefused (length (ended t)) (ended u) e × StopsIn r (ended u) e
 
 -- the refusal, if there is one
 abbrev pub answer_of : Option Refusal → Result (Unit {0}) Refusal
@@ -83,3 +97,8 @@ Outcome t (Err Read) = ⊥
 Outcome t (Err Endless) = ⊥
 Outcome t (Err Write) = ⊥
 Outcome t (Err CountTooLarge) = ⊥
+
+-- the entries of the lines before the refused one
+abbrev pub EntriesBefore : List (List ℕ) → Refusal → ℕ → Type 0
+EntriesBefore ls (Text (Places.Line number) code) n = n ≡ entries_so_far (items_of (take (number - 1) ls))
+EntriesBefore ls _ n = (count : ℕ) × (n ≡ entries_so_far (items_of (take count ls)))

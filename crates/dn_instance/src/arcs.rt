@@ -72,6 +72,7 @@ pub(crate) fn take_length_arc(
         → Answers result (first_fault (item_tests before (Some (Line.SpArc pair.0 pair.1 arc.length)))) }
     ensures stands { (before : List Line) → TableHolds lengths (λ b. length_told b.length) table.old before
         → OnOk result (TableHolds lengths (λ b. length_told b.length) table.new (before ++ Line.SpArc pair.0 pair.1 arc.length ∷ [])) }
+    ensures err { OnErr result (table.new ≡ table.old) }
 {
     take_arc(table, alloc, nodes, pair, arc)
 }
@@ -88,6 +89,7 @@ pub(crate) fn take_cap_arc(
         → Answers result (first_fault (item_tests before (Some (Line.MaxArc pair.0 pair.1 arc.cap)))) }
     ensures stands { pos 0 ≤ℤ arc.cap → (before : List Line) → TableHolds capacities (λ b. cap_told b.total) table.old before
         → OnOk result (TableHolds capacities (λ b. cap_told b.total) table.new (before ++ Line.MaxArc pair.0 pair.1 arc.cap ∷ [])) }
+    ensures err { OnErr result (table.new ≡ table.old) }
 {
     take_arc(table, alloc, nodes, pair, arc)
 }
@@ -104,6 +106,7 @@ pub(crate) fn take_cost_arc(
         → Answers result (first_fault (item_tests before (Some (Line.MinArc pair.0 pair.1 arc.low arc.cap arc.cost)))) }
     ensures stands { pos 0 ≤ℤ arc.low → (before : List Line) → TableHolds costs (λ b. cost_told Form.One b.units b.cost b.steps) table.old before
         → OnOk result (TableHolds costs (λ b. cost_told Form.One b.units b.cost b.steps) table.new (before ++ Line.MinArc pair.0 pair.1 arc.low arc.cap arc.cost ∷ [])) }
+    ensures err { OnErr result (table.new ≡ table.old) }
 {
     take_arc(table, alloc, nodes, pair, arc)
 }

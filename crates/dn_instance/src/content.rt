@@ -1,6 +1,9 @@
 // What is kept of a text, by kind.
-ghost use Rattle.std.specs.Prelude.{◌≡◌};
-ghost use Rattle.dn_instance.specs.Helds.{contents_kind, pair_count};
+ghost use Rattle.std.specs.Prelude.{◌≡◌, ◌<◌, ◌^◌};
+ghost use Rattle.dn_instance.specs.EntryCount.{entries_of};
+ghost use Rattle.dn_instance.specs.Helds.{contents_kind, pair_count, Shows};
+ghost use Rattle.dn_instance.specs.Instances.{Instance};
+ghost use Rattle.dn_instance.specs.Validity.{IsValid};
 ghost use Rattle.dn_instance.specs.Views.{contents_of, shown};
 
 use crate::table::Table;
@@ -50,6 +53,20 @@ impl Content {
             Content::Max { table, .. } => table.len(),
             Content::Sp(table) => table.len(),
             Content::Ss(_) | Content::P2p(_) | Content::Co(_) => 0,
+        }
+    }
+
+    // How many entries it comes to.
+    pub(crate) fn entries(&self) -> u64
+        ensures { (I : Instance) → IsValid I → Shows (contents_of self.now) I → entries_of I < 2 ^ 64 → result ≡ entries_of I }
+    {
+        match self {
+            Content::Min { table, .. } => table.entries(),
+            Content::Max { table, .. } => table.entries(),
+            Content::Sp(table) => table.entries(),
+            Content::Ss(ids) => ids.len() as u64,
+            Content::P2p(pairs) => pairs.len() as u64,
+            Content::Co(points) => points.len() as u64,
         }
     }
 

@@ -1,5 +1,5 @@
 // An instance in the making: what the items after the problem line have made so far.
-ghost use Rattle.std.specs.Prelude.{◌≡◌, ℤ, List, ◌∷◌, ◌++◌, [], OnOk, OnErr, Some};
+ghost use Rattle.std.specs.Prelude.{◌≡◌, ◌<◌, ◌^◌, ℤ, List, ◌∷◌, ◌++◌, [], OnOk, OnErr, Some};
 ghost use Rattle.dn_line.specs.declared.line.Line.{Line};
 ghost use Rattle.dn_line.specs.Faults.{first_fault};
 ghost use Rattle.dn_line.specs.Spelling.{kind_before};
@@ -8,6 +8,7 @@ ghost use Rattle.dn_instance.specs.TextFaults.{item_tests};
 ghost use Rattle.dn_instance.specs.ItemFaults.{Answers};
 ghost use Rattle.dn_instance.specs.Drafts.{draft_kind, Holds, HasSigns};
 ghost use Rattle.dn_instance.specs.Ends.{Makes};
+ghost use Rattle.dn_instance.specs.EntryCount.{entries_as};
 
 use crate::arcs::{take_cap_arc, take_cost_arc, take_length_arc};
 use crate::content::Content;
@@ -80,6 +81,7 @@ impl Draft {
         ensures answer { Some (draft_kind self.old) ≡ kind_before line → HasSigns line → (before : List Line) (p : Problem) → problem_of before ≡ Some p → p.kind ≡ draft_kind self.old → p.nodes ≡ nodes.now → Holds self.old before
             → Answers result (first_fault (item_tests before (Some line))) }
         ensures stands { HasSigns line → (before : List Line) → Holds self.old before → OnOk result (Holds self.new (before ++ line ∷ [])) }
+        ensures unchanged { (before : List Line) → Holds self.old before → OnErr result (Holds self.new before) }
         ensures kept { draft_kind self.new ≡ draft_kind self.old }
     {
         match (self, line) {
@@ -113,6 +115,20 @@ impl Draft {
             ),
             (Draft::Co(points), Line::Point { id, x, y }) => take_point(points, &id, (x, y)),
             _ => Err(ItemFault::Text(Code::WrongLine)),
+        }
+    }
+
+    // How many entries it keeps.
+    pub(crate) fn entries(&self) -> u64
+        ensures { (items : List Line) → Holds self.now items → entries_as (draft_kind self.now) items < 2 ^ 64 → result ≡ entries_as (draft_kind self.now) items }
+    {
+        match self {
+            Draft::Min { table, .. } => table.entries(),
+            Draft::Max { table, .. } => table.entries(),
+            Draft::Sp(table) => table.entries(),
+            Draft::Ss(ids) => ids.len() as u64,
+            Draft::P2p(pairs) => pairs.len() as u64,
+            Draft::Co(points) => points.len() as u64,
         }
     }
 

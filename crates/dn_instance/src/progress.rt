@@ -1,5 +1,5 @@
 // What has been read from the problem line on.
-ghost use Rattle.std.specs.Prelude.{◌≡◌, List, ◌∷◌, ◌++◌, [], OnOk, Some, None, Option, IsSome};
+ghost use Rattle.std.specs.Prelude.{◌≡◌, ◌<◌, ◌^◌, List, ◌∷◌, ◌++◌, [], OnOk, OnErr, Some, None, Option, IsSome};
 ghost use Rattle.dn_line.specs.declared.line.Line.{Line};
 ghost use Rattle.dn_line.specs.declared.word.Word.{Word};
 ghost use Rattle.dn_line.specs.Words.{first};
@@ -12,6 +12,7 @@ ghost use Rattle.dn_instance.specs.TextFaults.{item_tests, order_tests};
 ghost use Rattle.dn_instance.specs.ItemFaults.{Answers};
 ghost use Rattle.dn_instance.specs.Drafts.{draft_kind, HasSigns};
 ghost use Rattle.dn_instance.specs.Ends.{EndsWith};
+ghost use Rattle.dn_instance.specs.EntryCount.{entries_so_far};
 ghost use Rattle.dn_instance.specs.declared.progress.Progress.{Progress};
 ghost use Rattle.dn_instance.specs.Progresses.{IsAt, HasRoom};
 ghost use Rattle.dn_instance.specs.Items.{Problem, problem_in, is_counted};
@@ -81,6 +82,7 @@ impl Progress {
     pub(crate) fn take(&mut self, alloc: Global, item: Line) -> Result<(), ItemFault>
         ensures answer { Some (draft_kind self.old.draft) ≡ kind_before item → HasSigns item → (before : List Line) → IsAt self.old before → Answers result (first_fault (item_tests before (Some item))) }
         ensures stands { Some (draft_kind self.old.draft) ≡ kind_before item → HasSigns item → (before : List Line) → IsAt self.old before → HasRoom before item → OnOk result (IsAt self.new (before ++ item ∷ [])) }
+        ensures unchanged { (before : List Line) → IsAt self.old before → OnErr result (IsAt self.new before) }
     {
         match self.draft.take(alloc, &self.nodes, item) {
             Ok(()) => {
@@ -91,6 +93,13 @@ impl Progress {
             }
             Err(fault) => Err(fault),
         }
+    }
+
+    // How many entries it keeps.
+    pub(crate) fn entries(&self) -> u64
+        ensures { (items : List Line) → IsAt self.now items → entries_so_far items < 2 ^ 64 → result ≡ entries_so_far items }
+    {
+        self.draft.entries()
     }
 
     // What is held at the end, or the fault there.

@@ -2,7 +2,9 @@
 ghost use Rattle.std.specs.Prelude.{◌≡◌, ◌≤◌, ℕ, List, [], ◌++◌, length, take, Some, None, Err, IfOk, MatchResult};
 ghost use Rattle.dn_line.specs.LineStates.{LineSoFar, Stands, used_of};
 ghost use Rattle.dn_line.specs.Pieces.{lines};
-ghost use Rattle.dn_instance.specs.Readers.{StandsFor, IsReading, Takes, TakesAll, Advances, Fed, Outcome, WantsMemory, ended, refusal_of, answer_of};
+ghost use Rattle.dn_instance.specs.EntryCount.{entries_so_far};
+ghost use Rattle.dn_instance.specs.Texts.{items_of};
+ghost use Rattle.dn_instance.specs.Readers.{EntriesBefore, StandsFor, IsReading, Takes, TakesAll, Advances, Fed, Outcome, WantsMemory, ended, refusal_of, answer_of};
 ghost use Rattle.dn_instance.specs.Refusals.{refused_at};
 ghost use Rattle.dn_instance.specs.TextsSoFar.{HasRead};
 
@@ -102,6 +104,15 @@ impl Reader {
             }
         }
         Ok(())
+    }
+
+    /// How many entries the complete lines so far come to, counted as `Held::entries` does; 0 before the problem line; of a
+    /// refused reader, the lines before the refused one.
+    pub fn entries(&self) -> u64
+        ensures fine { (t : List ℕ) → StandsFor self.now t → refusal_of self.now ≡ None → result ≡ entries_so_far (items_of (ended t)) }
+        ensures refused { (t : List ℕ) (e : Refusal) → StandsFor self.now t → refusal_of self.now ≡ Some e → EntriesBefore (ended t) e result }
+    {
+        self.text.entries()
     }
 
     /// What the whole text reads as. A last line without LF is taken before the end is judged.

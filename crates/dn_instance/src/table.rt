@@ -1,5 +1,5 @@
 // Bundles by their ordered pairs.
-ghost use Rattle.std.specs.Prelude.{◌≡◌, ℤ, List, [], None, OnOk, OnErr, Some, Err, ◌↔◌, ◌<ℤ◌, pos, ◌-◌, ◌^◌, ◌++◌, ◌∷◌, length, false};
+ghost use Rattle.std.specs.Prelude.{◌≡◌, ◌<◌, ◌≤◌, ℤ, List, MatchOption, [], None, OnOk, OnErr, Some, Err, ◌↔◌, ◌<ℤ◌, pos, ◌-◌, ◌^◌, ◌++◌, ◌∷◌, length, false};
 ghost use Rattle.std.specs.Option.{option_copied};
 ghost use Rattle.std.specs.Iterator.{YieldsFirstBy, item_count};
 ghost use Rattle.std.specs.List.Sorted.{IsStrictlySortedBy};
@@ -7,7 +7,8 @@ ghost use Rattle.std.specs.Map.{keys_of, lookup};
 ghost use Rattle.dn_bundle.specs.declared.arc.Form.{Form};
 ghost use Rattle.dn_instance.specs.Pairs.{pair_cmp, same_pair};
 ghost use Rattle.dn_instance.specs.Tables.{told_at};
-ghost use Rattle.dn_instance.specs.TableSteps.{entry_of, Grows};
+ghost use Rattle.dn_instance.specs.EntryCount.{entries_told, graph_entries};
+ghost use Rattle.dn_instance.specs.TableSteps.{entry_of, AreArcs, Grows, Tells};
 
 use dn_bundle::{Bundle, BundleFault, Form};
 use std::alloc::Global;
@@ -102,6 +103,29 @@ impl<B: Bundle> Table<B> {
     {
         Pairs {
             inner: self.map.iter(),
+        }
+    }
+
+    // How many entries its bundles come to, where 64 bits hold the number.
+    fn count_entries(&self) -> Option<u64>
+        ensures count { MatchOption result (2 ^ 64 ≤ entries_told (λ b. B.kind.entries (B.told Form.One b)) self.now) (λ n. n ≡ entries_told (λ b. B.kind.entries (B.told Form.One b)) self.now) }
+        ensures rising { IsStrictlySortedBy pair_cmp (keys_of self.now) }
+    {
+        let mut all = 0u64;
+        for (_, bundle) in self.pairs() {
+            all = all.checked_add(bundle.entries())?;
+        }
+        Some(all)
+    }
+
+    // How many entries its bundles come to.
+    pub(crate) fn entries(&self) -> u64
+        ensures { (arcs : List ((ℤ × ℤ) × B.Arc)) → B.kind.entries [] ≡ 0 → Tells B.kind (B.told Form.One) self.now arcs → AreArcs B.kind arcs → graph_entries B.kind arcs < 2 ^ 64
+            → result ≡ graph_entries B.kind arcs }
+    {
+        match self.count_entries() {
+            Some(count) => count,
+            None => u64::MAX,
         }
     }
 

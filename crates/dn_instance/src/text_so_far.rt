@@ -1,5 +1,5 @@
 // What the complete lines of a text make, one after the other.
-ghost use Rattle.std.specs.Prelude.{◌≡◌, ◌≢◌, ℕ, ◌+◌, length, List, ◌∷◌, ◌++◌, [], OnOk, Ok, Some, None, Option, cond, true, false};
+ghost use Rattle.std.specs.Prelude.{◌≡◌, ◌≢◌, ℕ, ◌+◌, length, List, ◌∷◌, ◌++◌, [], OnOk, OnErr, Ok, Some, None, Option, cond, true, false};
 ghost use Rattle.dn_line.specs.declared.line.Line.{Line};
 ghost use Rattle.dn_line.specs.declared.word.Word.{Word};
 ghost use Rattle.dn_line.specs.Words.{is_skip, said_words};
@@ -9,6 +9,7 @@ ghost use Rattle.dn_line.specs.LineStates.{LineSoFar, Stands};
 ghost use Rattle.dn_instance.specs.Items.{kind_known};
 ghost use Rattle.dn_instance.specs.TextFaults.{order_tests, item_tests, line_fault};
 ghost use Rattle.dn_instance.specs.Ends.{EndsWith};
+ghost use Rattle.dn_instance.specs.EntryCount.{entries_so_far};
 ghost use Rattle.dn_instance.specs.ItemFaults.{Answers};
 ghost use Rattle.dn_instance.specs.Texts.{items_of};
 ghost use Rattle.dn_instance.specs.TextsSoFar.{IsProgress, MayFollow, next_read, fault_next, with_next, HasRead};
@@ -87,6 +88,7 @@ impl TextSoFar {
         ensures stands { (items : List Line) (l : LineSoFar) → IsProgress self.old.progress items → Stands line.now l
             → OnOk result (IsProgress self.new.progress (with_next items (said_words l.bytes))) }
         ensures kept { self.new.closed ≡ self.old.closed }
+        ensures unchanged { (items : List Line) → IsProgress self.old.progress items → OnErr result (IsProgress self.new.progress items) }
     {
         match self.read(line) {
             Ok(item) => {
@@ -106,6 +108,7 @@ impl TextSoFar {
             → Answers result (line_fault (length ls + 1) (items_of ls) (said_words l.bytes)) }
         ensures stands { (ls : List (List ℕ)) (l : LineSoFar) → HasRead self.old ls → Stands line.now l
             → OnOk result (HasRead self.new (ls ++ l.bytes ∷ [])) }
+        ensures unchanged { (ls : List (List ℕ)) → HasRead self.old ls → OnErr result (HasRead self.new ls) }
     {
         if LAST <= self.closed {
             return Err(ItemFault::Text(Code::TooLong));
@@ -116,6 +119,16 @@ impl TextSoFar {
                 Ok(())
             }
             Err(fault) => Err(fault),
+        }
+    }
+
+    // How many entries the lines so far come to.
+    pub(crate) fn entries(&self) -> u64
+        ensures { (ls : List (List ℕ)) → HasRead self.now ls → result ≡ entries_so_far (items_of ls) }
+    {
+        match &self.progress {
+            Some(progress) => progress.entries(),
+            None => 0,
         }
     }
 
@@ -142,6 +155,7 @@ fn is_skip(item: &Line) -> bool
 fn put(progress: &mut Option<Progress>, alloc: Global, item: Line) -> Result<(), ItemFault>
     ensures answer { (before : List Line) → IsProgress progress.old before → MayFollow before item → Answers result (first_fault (item_tests before (Some item))) }
     ensures stands { (before : List Line) → IsProgress progress.old before → MayFollow before item → OnOk result (IsProgress progress.new (before ++ item ∷ [])) }
+    ensures unchanged { (before : List Line) → IsProgress progress.old before → OnErr result (IsProgress progress.new before) }
 {
     match progress {
         Some(progress) => progress.take(alloc, item),

@@ -1,38 +1,51 @@
 use Rattle.std.proofs.Common.{◌≡◌, append-nil, [], Some, ℕ, ◌+◌, List, ◌++◌, length, take, sym, ◌∙◌, subst, ap, arith}
 use Rattle.std.proofs.lemmas.List.{take_all}
 use Rattle.dn_line.specs.LineStates.{used_of}
-use Rattle.dn_instance.specs.Readers.{IsRefused, IsReading, ended}
+use Rattle.dn_instance.specs.Readers.{IsRefused, StopsIn, IsReading, ended}
 use Rattle.dn_instance.specs.Texts.{IsClean}
+use Rattle.dn_instance.specs.declared.refusal.Refusal.{Refusal}
 use Rattle.dn_instance.specs.declared.refusal.Refusal.TheVariants.{Memory}
 use Rattle.dn_instance.proofs.PieceSteps.{ended_more, rest_of, rest_len, step_on}
-use Rattle.dn_instance.proofs.ReaderLaws.{refused_on, refused, refuses, more_from, more_count}
+use Rattle.dn_instance.proofs.ReaderLaws.{still_refused, stops_on, refused_on, refused, refuses, more_from, more_count}
 use Rattle.dn_instance.proofs.reader.Reader.feed.Goals as goal
 
 pub returns-in-Some-clause-stands : goal.returns-in-Some-clause-stands
-returns-in-Some-clause-stands c t h = refuses c.args.self.now (t ++ c.args.piece.now) c.in-Some.refusal c.in-Some.is (refused_on 0 0 (ended t) (ended (t ++ c.args.piece.now)) c.in-Some.refusal (omega arith) (ended_more t c.args.piece.now) (refused c.args.self.now t c.in-Some.refusal c.in-Some.is h))
+returns-in-Some-clause-stands c t h = still_refused c.args.self.now t c.args.piece.now c.in-Some.refusal c.in-Some.is h
 
 pub returns-in-Some-clause-told : goal.returns-in-Some-clause-told
-returns-in-Some-clause-told c t h = refused_on 0 0 (ended t) (ended (t ++ c.args.piece.now)) c.in-Some.refusal (omega arith) (ended_more t c.args.piece.now) (refused c.args.self.now t c.in-Some.refusal c.in-Some.is h)
+returns-in-Some-clause-told c t h =
+    let r = c.args.self.now in
+    let u = t ++ c.args.piece.now in
+    (refused r u c.in-Some.refusal c.in-Some.is (still_refused r t c.args.piece.now c.in-Some.refusal c.in-Some.is h)).0
 
 -- the line that was refused, after those of the text so far
-refused_within : (c : goal.In-Err) (t : List ℕ) (reads : IsReading c.loop-at.self (t ++ take c.loop-at.at c.args.piece.now)) → (c.advance.new.self.refusal ≡ Some c.in-Err.refusal) × IsRefused (length (ended t)) (ended (t ++ c.args.piece.now)) c.in-Err.refusal
+refused_within : (c : goal.In-Err) (t : List ℕ) (reads : IsReading c.loop-at.self (t ++ take c.loop-at.at c.args.piece.now))
+    → (let u = t ++ c.args.piece.now in (c.advance.new.self.refusal ≡ Some c.in-Err.refusal) × IsRefused (length (ended t)) (ended u) c.in-Err.refusal × StopsIn c.advance.new.self (ended u) c.in-Err.refusal)
 refused_within c t reads =
     let p = c.args.piece.now in
     let i = c.loop-at.at in
     let n = used_of (rest_of p i) in
     let u = t ++ take i p in
     let a = c.in-Err.ensures.advances u reads in
-    (a.0, refused_on (length (ended u)) (length (ended t)) (ended (u ++ take n (rest_of p i))) (ended (t ++ p)) c.in-Err.refusal (more_count (ended t) (ended u) (ended_more t (take i p))) (more_from t p i n) a.1)
+    let e = c.in-Err.refusal in (
+      a.0,
+      refused_on (length (ended u)) (length (ended t)) (ended (u ++ take n (rest_of p i))) (ended (t ++ p)) e (more_count (ended t) (ended u) (ended_more t (take i p))) (more_from t p i n) a.1,
+      stops_on c.advance.new.self (ended (u ++ take n (rest_of p i))) (ended (t ++ p)) e (more_from t p i n) a.2,
+    )
+
+refused_at_all : (before : ℕ) (ls : List (List ℕ)) (e : Refusal) → IsRefused before ls e → IsRefused 0 ls e
+refused_at_all before ls e r = refused_on before 0 ls ls e (omega arith) (record { rest = []; whole = sym (append-nil ls) }) r
 
 pub returns-in-Err-clause-stands : goal.returns-in-Err-clause-stands
 returns-in-Err-clause-stands c t h =
     let r = refused_within c t (c.loop-at.invariant.reads t h) in
-    refuses c.advance.new.self (t ++ c.args.piece.now) c.in-Err.refusal r.0 (refused_on (length (ended t)) 0 _ _ c.in-Err.refusal (omega arith) (record { rest = []; whole = sym (append-nil _) }) r.1)
+    let u = t ++ c.args.piece.now in
+    refuses c.advance.new.self u c.in-Err.refusal r.0 (refused_at_all (length (ended t)) (ended u) c.in-Err.refusal r.1, r.2)
 
 pub returns-in-Err-clause-told : goal.returns-in-Err-clause-told
 returns-in-Err-clause-told c t h =
     let r = refused_within c t (c.loop-at.invariant.reads t h) in
-    refused_on (length (ended t)) 0 _ _ c.in-Err.refusal (omega arith) (record { rest = []; whole = sym (append-nil _) }) r.1
+    refused_at_all (length (ended t)) (ended (t ++ c.args.piece.now)) c.in-Err.refusal r.1
 
 pub returns-in-Err-clause-memory : goal.returns-in-Err-clause-memory
 returns-in-Err-clause-memory c t h none is =

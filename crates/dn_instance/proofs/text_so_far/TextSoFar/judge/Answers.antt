@@ -31,6 +31,7 @@ returns-else-is_skip c = record {
       let f = follows_as items ws e c.in-Ok.item r in
       subst (λ x. OnOk c.put.result (IsProgress c.put.new.progress x)) (sym (adds_it items ws c.in-Ok.item e f)) (c.put.ensures.stands items at f.may);
   kept = refl;
+  unchanged = λ items at. c.put.ensures.unchanged items at;
 }
 
 -- src/text_so_far.rt:62:5
