@@ -19,3 +19,4 @@ pub mod Ends
 pub mod Refusals
 pub mod Readers
 pub mod SourceReads
+pub mod Companions

@@ -2,6 +2,7 @@
 #![tactic(auto)]
 
 mod arcs;
+pub mod companion;
 mod content;
 mod draft;
 pub mod examples;
@@ -18,6 +19,7 @@ pub mod table;
 mod text_so_far;
 pub mod view;
 
+pub use companion::{CompanionFault, check_companion};
 pub use held::Held;
 pub use place::Place;
 pub use read::{read_from, read_text};

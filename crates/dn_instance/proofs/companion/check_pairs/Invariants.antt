@@ -1,0 +1,8 @@
+use Rattle.std.proofs.Common.{◌≡◌, drop}
+use Rattle.std.specs.List.{flat_map}
+use Rattle.dn_instance.specs.Companions.{both_nodes, within}
+use Rattle.dn_instance.proofs.companion.check_pairs.Given as goal
+
+-- the nodes that are left decide
+abbrev pub invariant-loop-pair : goal.invariant-loop-pair
+invariant-loop-pair l = within l.nodes (flat_map both_nodes (drop l.pair-index l.pairs)) ≡ within l.nodes (flat_map both_nodes l.pairs)

@@ -1,0 +1,118 @@
+// Whether a companion fits a graph.
+ghost use Rattle.std.specs.Prelude.{◌≡◌, ◌∷◌, []};
+ghost use Rattle.std.specs.List.{flat_map};
+ghost use Rattle.std.specs.Map.{keys_of};
+ghost use Rattle.dn_instance.specs.Companions.{both_nodes, fault_name, fault_number, judged, within};
+ghost use Rattle.dn_instance.specs.Views.{holding};
+
+use crate::held::Held;
+use crate::view::View;
+use std::collections::BTreeMap;
+use thiserror::Error;
+
+/// Why a companion does not fit a graph. Numbers and names are this project's profile.
+#[derive(Clone, Copy, Debug, PartialEq, Eq, Error)]
+pub enum CompanionFault {
+    /// 36: the first text is not `sp`, or the second is no companion.
+    #[error("not a graph and a companion")]
+    NotKinds,
+    /// 35: the companion names a node above NODES.
+    #[error("node not in the graph")]
+    NotInGraph {
+        /// The first such node: in file order, of a query's two the first before the second, points by rising ID.
+        id: i64,
+    },
+}
+
+impl CompanionFault {
+    /// The number of the fault: 35 or 36.
+    pub fn number(self) -> u8
+        ensures { result ≡ fault_number self }
+    {
+        match self {
+            CompanionFault::NotInGraph { .. } => 35,
+            CompanionFault::NotKinds => 36,
+        }
+    }
+
+    /// The name of the fault, as it is printed: the variant's own.
+    pub fn name(self) -> &'static str
+        ensures { result.now ≡ fault_name self }
+    {
+        match self {
+            CompanionFault::NotInGraph { .. } => "NotInGraph",
+            CompanionFault::NotKinds => "NotKinds",
+        }
+    }
+}
+
+/// Whether the nodes that a companion names are nodes of the graph. Takes no memory.
+///
+/// # Errors
+///
+/// `NotKinds` unless `graph` is `sp` and `companion` is `ss`, `p2p` or `co`; else `NotInGraph` with the first node above
+/// NODES.
+pub fn check_companion(graph: &Held, companion: &Held) -> Result<(), CompanionFault>
+    ensures { result ≡ judged (holding graph.now) (holding companion.now) }
+{
+    let View::Sp { .. } = graph.view() else {
+        return Err(CompanionFault::NotKinds);
+    };
+    let nodes = graph.nodes();
+    match companion.view() {
+        View::Ss { items } => check_ids(&nodes, items),
+        View::P2p { items } => check_pairs(&nodes, items),
+        View::Co { points } => check_points(&nodes, points),
+        _ => Err(CompanionFault::NotKinds),
+    }
+}
+
+// Whether a node is at most NODES.
+fn check_id(nodes: &i64, id: &i64) -> Result<(), CompanionFault>
+    ensures { result ≡ within nodes.now (id.now ∷ []) }
+{
+    if *nodes < *id {
+        Err(CompanionFault::NotInGraph { id: *id })
+    } else {
+        Ok(())
+    }
+}
+
+// The same of a list.
+fn check_ids(nodes: &i64, ids: &[i64]) -> Result<(), CompanionFault>
+    ensures { result ≡ within nodes.now ids.now }
+{
+    for id in ids {
+        if let Err(fault) = check_id(nodes, id) {
+            return Err(fault);
+        }
+    }
+    Ok(())
+}
+
+// The same of pairs.
+fn check_pairs(nodes: &i64, pairs: &[(i64, i64)]) -> Result<(), CompanionFault>
+    ensures { result ≡ within nodes.now (flat_map both_nodes pairs.now) }
+{
+    for pair in pairs {
+        if let Err(fault) = check_id(nodes, &pair.0) {
+            return Err(fault);
+        }
+        if let Err(fault) = check_id(nodes, &pair.1) {
+            return Err(fault);
+        }
+    }
+    Ok(())
+}
+
+// The same of points.
+fn check_points(nodes: &i64, points: &BTreeMap<i64, (i64, i64)>) -> Result<(), CompanionFault>
+    ensures { result ≡ within nodes.now (keys_of points.now.entries) }
+{
+    for (id, _) in points {
+        if let Err(fault) = check_id(nodes, id) {
+            return Err(fault);
+        }
+    }
+    Ok(())
+}
