@@ -14,3 +14,4 @@ pub mod LineLaws
 pub mod ToldLaws
 pub mod HeldLaws
 pub mod RunLaws
+pub mod JudgeLaws

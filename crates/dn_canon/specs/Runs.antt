@@ -1,5 +1,5 @@
 -- What making the canonical text of a text does.
-use Rattle.std.specs.Prelude.{◌≤◌, ◌^◌, ℕ, List, Bool, Option, Ok, Err, length}
+use Rattle.std.specs.Prelude.{◌≡◌, ◌↔◌, true, ◌≤◌, ◌^◌, ℕ, List, Bool, Option, Ok, Err, length}
 use Rattle.std.specs.Io.KnownBytes.{IsAtEnd}
 use Rattle.std.specs.declared.result.Result.{Result}
 use Rattle.dn_line.specs.Pieces.{lines}
@@ -10,16 +10,27 @@ use Rattle.dn_instance.specs.SourceReads.{CleanSoFar}
 use Rattle.dn_instance.specs.Texts.{Reads, IsFirstFault}
 use Rattle.dn_instance.specs.declared.refusal.Refusal.{Refusal}
 use Rattle.dn_instance.specs.declared.refusal.Refusal.TheVariants.{Text, Memory, Read, Endless, Write, CountTooLarge}
-use Rattle.dn_canon.specs.CanonTexts.{PrintsCanon}
+use Rattle.dn_canon.specs.CanonTexts.{IsCanonOf, PrintsCanon}
 use Rattle.dn_canon.specs.Prints.{print}
 use Rattle.dn_canon.specs.Writes.{WritesCanon}
 
--- the canonical text of I, or want of memory for it, or the text has a count of more than 63 bits
+-- why there is no canonical text of I: want of memory for it, or its count has more than 63 bits
+abbrev pub TextFault : Form → Instance → Refusal → Type 0
+TextFault form I Memory = Unit {0}
+TextFault form I CountTooLarge = (J : Instance) × PrintsCanon form (print J) I J × 2 ^ 63 ≤ size_of J
+TextFault form I _ = ⊥
+
+-- the canonical text of I, or why there is none
 abbrev pub TextCanon : {V : Type 0} → (V → List ℕ) → Form → Instance → Result V Refusal → Type 0
 TextCanon bytes form I (Ok text) = (J : Instance) × PrintsCanon form (bytes text) I J
-TextCanon bytes form I (Err Memory) = Unit {0}
-TextCanon bytes form I (Err CountTooLarge) = (J : Instance) × PrintsCanon form (print J) I J × 2 ^ 63 ≤ size_of J
-TextCanon bytes form I (Err _) = ⊥
+TextCanon bytes form I (Err e) = TextFault form I e
+
+-- t reads as an instance, and whether it is the canonical text of that; or its first fault, or want of memory
+abbrev pub JudgesCanon : Form → List ℕ → Result Bool Refusal → Type 0
+JudgesCanon form t (Ok answer) = (I : Instance) × Reads t I × ((answer ≡ true) ↔ IsCanonOf form t I)
+JudgesCanon form t (Err (Text place code)) = IsFirstFault t place code
+JudgesCanon form t (Err Memory) = Unit {0}
+JudgesCanon form t (Err _) = ⊥
 
 -- the source gave the text t from here on, and now gives `rest`: t reads as an instance whose canonical text is put; or
 -- t is refused, and nothing is put

@@ -1,17 +1,17 @@
 // The canonical text of what is held, in a sink, in memory, and from a source to a sink.
-ghost use Rattle.std.specs.Prelude.{◌≡◌, ◌≢◌, Err, IfSome, IsErrOf, IsTrue};
+ghost use Rattle.std.specs.Prelude.{◌≡◌, ◌≢◌, ◌↔◌, Err, IfSome, IsErrOf, IsTrue};
 ghost use Rattle.dn_instance.specs.Helds.{IsHeld};
 ghost use Rattle.dn_instance.specs.Instances.{Instance};
 ghost use Rattle.dn_instance.specs.Validity.{IsValid};
 ghost use Rattle.dn_instance.specs.Views.{holding};
 ghost use Rattle.dn_canon.specs.Writes.{Answers, WritesCanon, written_as};
-ghost use Rattle.dn_canon.specs.Runs.{RunsCanon, TextCanon};
+ghost use Rattle.dn_canon.specs.Runs.{JudgesCanon, RunsCanon, TextCanon};
 
 use crate::bytes::Bytes;
 use crate::sink::{Sink, SinkFault};
 use crate::writer::{NodeLines, write_graph, write_points, write_queries, write_sources};
 use dn_bundle::Form;
-use dn_instance::{Held, Refusal, View, read_from};
+use dn_instance::{Held, Refusal, View, read_from, read_text};
 use dn_line::{Kind, Source};
 use std::alloc::Global;
 
@@ -97,4 +97,29 @@ pub fn canon_run<S: Source, K: Sink>(
         Ok(held) => write_canon(&held, sink, form),
         Err(refusal) => Err(refusal),
     }
+}
+
+/// Whether a text is the canonical text, in this form, of what it reads as.
+///
+/// # Errors
+///
+/// `Text` with the first fault of the text; `Memory`.
+pub fn is_canon(alloc: Global, text: &[u8], form: Form) -> Result<bool, Refusal>
+    ensures { JudgesCanon form text.now result }
+{
+    match read_text(alloc, text) {
+        Ok(held) => match canon_text(alloc, &held, form) {
+            Ok(canon) => Ok(same_bytes(&canon, text)),
+            Err(Refusal::CountTooLarge) => Ok(false),
+            Err(_) => Err(Refusal::Memory),
+        },
+        Err(refusal) => Err(refusal),
+    }
+}
+
+// Whether these are the same bytes.
+fn same_bytes(left: &[u8], right: &[u8]) -> bool
+    ensures { IsTrue result ↔ (left.now ≡ right.now) }
+{
+    left == right
 }

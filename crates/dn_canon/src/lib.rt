@@ -16,7 +16,7 @@ pub mod to_write;
 mod writer;
 
 pub use bytes::Bytes;
-pub use canon::{canon_run, canon_text, write_canon};
+pub use canon::{canon_run, canon_text, is_canon, write_canon};
 pub use room::Room;
-pub use sink::{Sink, SinkFault};
+pub use sink::{Sink, SinkFault, put_all};
 pub use to_write::ToWrite;

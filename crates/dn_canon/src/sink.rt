@@ -33,8 +33,12 @@ pub trait Sink {
         ensures stays { IsTrue (has_failed self.old) → IsTrue (has_failed self.new) };
 }
 
-// Puts a whole piece, in as many turns as the sink takes for it.
-pub(crate) fn put_all<K: Sink>(sink: &mut K, piece: &[u8]) -> Result<(), SinkFault>
+/// Puts a whole piece, in as many turns as the sink takes for it.
+///
+/// # Errors
+///
+/// The sink failed, or took 0 bytes of what was left; then it took a front of the piece.
+pub fn put_all<K: Sink>(sink: &mut K, piece: &[u8]) -> Result<(), SinkFault>
     ensures { Puts K.taken K.has_failed sink.old sink.new piece.now result }
 {
     let mut at = 0;

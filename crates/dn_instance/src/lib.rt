@@ -16,6 +16,8 @@ pub mod read;
 pub mod reader;
 pub mod refusal;
 pub mod table;
+#[cfg(test)]
+mod tests;
 mod text_so_far;
 pub mod view;
 

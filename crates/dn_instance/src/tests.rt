@@ -1,0 +1,438 @@
+// Whole texts whose answers are known from outside.
+ghost use Rattle.std.specs.Prelude.{Some};
+
+mod cases;
+
+use crate::{Held, Place, Reader, Refusal, Table, View, read_from, read_text};
+use cases::{
+    ACCEPTED, CAPACITIES, COSTS, ENDS, FIRST_LINES, Faulty, LATER_LINES, LENGTHS, NODES_AND_ARCS,
+    NOTHING, POINTS, QUERIES, SOURCES, SUPPLIES, USUAL,
+};
+use dn_bundle::{Fixed, Least};
+use dn_line::{Code, Kind, Slice, Source, SourceFault};
+use std::alloc::Global;
+use std::process::Abort;
+use std::test::Fail;
+
+// Gives at most so many bytes a pull, and fails after so many pulls.
+#[derive(Drop)]
+struct Slow<'a> {
+    rest: &'a [u8],
+    size: usize,
+    pulls: usize,
+    failed: bool,
+}
+
+impl<'a> Source for Slow<'a> {
+    ghost gives = { λ s. Some s.rest.now };
+
+    ghost has_failed = { λ s. s.failed };
+
+    fn pull(&mut self, into: &mut [u8]) -> Result<usize, SourceFault> {
+        if self.failed || self.pulls == 0 {
+            self.failed = true;
+            return Err(SourceFault);
+        }
+        self.pulls -= 1;
+        let n = self.rest.len().min(into.len()).min(self.size.max(1));
+        let (front, back) = self.rest.split_at(n);
+        into[..n].copy_from_slice(front);
+        self.rest = back;
+        Ok(n)
+    }
+}
+
+// The refusal of a text, if it has one.
+fn refusal(answer: Result<Held, Refusal>) -> Option<Refusal> {
+    match answer {
+        Ok(_) => None,
+        Err(refusal) => Some(refusal),
+    }
+}
+
+// What a reader answers that was fed this front of a text: the fault of a line that an LF has ended.
+fn so_far(front: &[u8], fault: Option<Refusal>) -> Result<(), Refusal> {
+    let ended = front.iter().filter(|byte| **byte == b'\n').count();
+    match fault {
+        Some(
+            Refusal::Text {
+                place: Place::Line(number),
+                code,
+            },
+        ) if number <= ended as u64 => Err(Refusal::Text {
+            place: Place::Line(number),
+            code,
+        }),
+        _ => Ok(()),
+    }
+}
+
+// Whether a text that is fed byte by byte gets this answer, and its fault as soon as the LF of the line has come.
+fn is_so_by_bytes(alloc: Global, text: &[u8], fault: Option<Refusal>) -> bool {
+    let mut reader = Reader::new(alloc);
+    for at in 0..text.len() {
+        if reader.feed(&text[at..=at]) != so_far(&text[..=at], fault) {
+            return false;
+        }
+    }
+    refusal(reader.finish()) == fault
+}
+
+// The same of a text in two pieces, cut at every place.
+fn is_so_in_two_pieces(alloc: Global, text: &[u8], fault: Option<Refusal>) -> bool {
+    for cut in 0..=text.len() {
+        let (front, back) = text.split_at(cut);
+        let mut reader = Reader::new(alloc);
+        if reader.feed(front) != so_far(front, fault)
+            || reader.feed(back) != so_far(text, fault)
+            || refusal(reader.finish()) != fault
+        {
+            return false;
+        }
+    }
+    true
+}
+
+// Whether it is so of sources that do not fail, whatever they give a pull.
+fn is_so_of_sources(alloc: Global, text: &[u8], fault: Option<Refusal>) -> bool {
+    let mut slow = Slow {
+        rest: text,
+        size: 1,
+        pulls: usize::MAX,
+        failed: false,
+    };
+    refusal(read_from(alloc, &mut Slice::new(text))) == fault
+        && refusal(read_from(alloc, &mut slow)) == fault
+}
+
+// Whether a source that fails at any pull gives the fault of a line that came whole before, or else `Read`.
+fn is_so_of_failing(alloc: Global, text: &[u8], fault: Option<Refusal>) -> bool {
+    for pulls in 0..=text.len() {
+        let answer = match so_far(&text[..pulls], fault) {
+            Ok(()) => Refusal::Read,
+            Err(refusal) => refusal,
+        };
+        let mut source = Slow {
+            rest: text,
+            size: 1,
+            pulls,
+            failed: false,
+        };
+        if refusal(read_from(alloc, &mut source)) != Some(answer) {
+            return false;
+        }
+    }
+    true
+}
+
+// How a text was given where it had another refusal, or one where there is none.
+fn differs(alloc: Global, text: &str, fault: Option<Refusal>) -> Option<&'static str> {
+    let text = text.as_bytes();
+    if refusal(read_text(alloc, text)) != fault {
+        Some("whole")
+    } else if !is_so_by_bytes(alloc, text, fault) {
+        Some("byte by byte")
+    } else if !is_so_in_two_pieces(alloc, text, fault) {
+        Some("in two pieces")
+    } else if !is_so_of_sources(alloc, text, fault) {
+        Some("from a source")
+    } else if !is_so_of_failing(alloc, text, fault) {
+        Some("from a source that fails")
+    } else {
+        None
+    }
+}
+
+// The first of the faulty texts that had another answer, and how it was given.
+fn first_other(alloc: Global, faults: &[Faulty]) -> Option<(&'static str, &'static str)> {
+    for (text, place, code) in faults {
+        let fault = Refusal::Text {
+            place: *place,
+            code: *code,
+        };
+        if let Some(way) = differs(alloc, text, Some(fault)) {
+            return Some((*text, way));
+        }
+    }
+    None
+}
+
+#[test]
+fn faulty_texts(rt: HostRuntime) {
+    assert_eq!(rt; first_other(rt.alloc(), &FIRST_LINES), None);
+    assert_eq!(rt; first_other(rt.alloc(), &LATER_LINES), None);
+    assert_eq!(rt; first_other(rt.alloc(), &NODES_AND_ARCS), None);
+    assert_eq!(rt; first_other(rt.alloc(), &ENDS), None);
+}
+
+// Texts whose contents are told below.
+const TOLD: [&str; 9] = [
+    USUAL, LENGTHS, CAPACITIES, COSTS, SUPPLIES, NOTHING, SOURCES, QUERIES, POINTS,
+];
+
+#[test]
+fn accepted_texts(rt: HostRuntime) {
+    for text in ACCEPTED {
+        assert_eq!(rt; differs(rt.alloc(), text, None), None, "{text}");
+    }
+    for text in TOLD {
+        assert_eq!(rt; differs(rt.alloc(), text, None), None, "{text}");
+    }
+}
+
+#[test]
+fn a_refusal_stays(rt: HostRuntime) {
+    let fault = Refusal::Text {
+        place: Place::Line(1),
+        code: Code::BadLine,
+    };
+    let mut reader = Reader::new(rt.alloc());
+    assert_eq!(rt; reader.feed(b"x\n"), Err(fault));
+    assert_eq!(rt; reader.feed(b"p sp 0 0\n"), Err(fault));
+    assert_eq!(rt; reader.feed(b""), Err(fault));
+    assert_eq!(rt; refusal(reader.finish()), Some(fault));
+    let mut unfinished = Reader::new(rt.alloc());
+    assert_eq!(rt; unfinished.feed(b"x"), Ok(()));
+    assert_eq!(rt; refusal(unfinished.finish()), Some(fault));
+}
+
+#[test]
+fn sources_that_fail_at_the_second_pull(rt: HostRuntime) {
+    let bad_line = Refusal::Text {
+        place: Place::Line(1),
+        code: Code::BadLine,
+    };
+    for (text, answer) in [("p sp 1 1\n", Refusal::Read), ("x\n", bad_line)] {
+        let mut source = Slow {
+            rest: text.as_bytes(),
+            size: 4096,
+            pulls: 1,
+            failed: false,
+        };
+        assert_eq!(rt;
+            refusal(read_from(rt.alloc(), &mut source)),
+            Some(answer),
+            "{text}"
+        );
+    }
+}
+
+// Kind, nodes, counted lines and pairs of the texts whose contents are told.
+const SIZES: [(&str, Kind, i64, i64, u64); 9] = [
+    (USUAL, Kind::Sp, 3, 4, 4),
+    (LENGTHS, Kind::Sp, 3, 7, 5),
+    (CAPACITIES, Kind::Max, 3, 4, 2),
+    (COSTS, Kind::Min, 2, 3, 1),
+    (SUPPLIES, Kind::Min, 4, 5, 5),
+    (NOTHING, Kind::Min, 2, 2, 1),
+    (SOURCES, Kind::Ss, 0, 3, 0),
+    (QUERIES, Kind::P2p, 0, 2, 0),
+    (POINTS, Kind::Co, 0, 2, 0),
+];
+
+#[test]
+fn sizes(rt: HostRuntime) -> Result<(), Fail> {
+    for (text, kind, nodes, lines, pairs) in SIZES {
+        let held = read_text(rt.alloc(), text.as_bytes())?;
+        assert_eq!(rt; held.kind(), kind, "{text}");
+        assert_eq!(rt; held.nodes(), nodes, "nodes, {text}");
+        assert_eq!(rt; held.lines(), lines, "lines, {text}");
+        assert_eq!(rt; held.pairs(), pairs, "pairs, {text}");
+    }
+    Ok(())
+}
+
+// The length at a pair, if it has one.
+fn length_at(table: &Table<Least>, src: i64, dst: i64) -> Option<i64> {
+    match table.get(src, dst) {
+        Some(least) => least.get(),
+        None => None,
+    }
+}
+
+#[test]
+fn lengths(rt: HostRuntime) -> Result<(), Fail> {
+    let held = read_text(rt.alloc(), LENGTHS.as_bytes())?;
+    let View::Sp { table } = held.view() else {
+        panic!(rt; "no `sp` graph");
+    };
+    let told = [
+        ((1, 2), 3),
+        ((2, 1), 4),
+        ((2, 2), 0),
+        ((2, 3), 9),
+        ((3, 1), -5),
+    ];
+    let mut pairs = table.pairs();
+    for (pair, length) in told {
+        let next = pairs.next().map(|(pair, least)| (pair, least.get()));
+        assert_eq!(rt; next, Some((pair, Some(length))));
+        assert_eq!(rt; length_at(table, pair.0, pair.1), Some(length));
+    }
+    assert!(rt; pairs.next().is_none());
+    assert_eq!(rt; length_at(table, 1, 3), None);
+    Ok(())
+}
+
+#[test]
+fn capacities(rt: HostRuntime) -> Result<(), Fail> {
+    let held = read_text(rt.alloc(), CAPACITIES.as_bytes())?;
+    let View::Max {
+        source,
+        sink,
+        table,
+    } = held.view()
+    else {
+        panic!(rt; "no `max` problem");
+    };
+    assert_eq!(rt; (source, sink), (1, 3));
+    let mut pairs = table.pairs();
+    for (pair, total) in [((1, 2), 9), ((1, 3), 2)] {
+        let next = pairs.next().map(|(pair, all)| (pair, all.get()));
+        assert_eq!(rt; next, Some((pair, total)));
+    }
+    assert!(rt; pairs.next().is_none());
+    assert!(rt; table.get(2, 3).is_none());
+    Ok(())
+}
+
+#[test]
+fn costs(rt: HostRuntime) -> Result<(), Fail> {
+    let held = read_text(rt.alloc(), COSTS.as_bytes())?;
+    let View::Min { supplies, table } = held.view() else {
+        panic!(rt; "no `min` problem");
+    };
+    assert_eq!(rt; supplies.len(), 0);
+    let Some(curve) = table.get(1, 2) else {
+        panic!(rt; "no curve");
+    };
+    assert_eq!(rt; curve.forced(), (2, 3));
+    let fixed = Fixed::Two {
+        units: 1,
+        cost: 1,
+        above: 1,
+    };
+    assert_eq!(rt; curve.fixed(), fixed);
+    let free = [Some((0, 2)), Some((1, 4)), Some((3, 1)), None];
+    for (i, step) in free.iter().enumerate() {
+        assert_eq!(rt; curve.free(i as u64), *step, "free, {i}");
+    }
+    let least = [
+        (1, None),
+        (2, Some(3)),
+        (5, Some(4)),
+        (8, Some(7)),
+        (9, Some(10)),
+        (10, None),
+    ];
+    for (amount, cost) in least {
+        assert_eq!(rt; curve.least(amount), cost, "{amount}");
+    }
+    Ok(())
+}
+
+#[test]
+fn supplies(rt: HostRuntime) -> Result<(), Fail> {
+    let held = read_text(rt.alloc(), SUPPLIES.as_bytes())?;
+    let View::Min { supplies, .. } = held.view() else {
+        panic!(rt; "no `min` problem");
+    };
+    assert_eq!(rt; supplies.len(), 2);
+    assert_eq!(rt; supplies.get(&1), Some(&4));
+    assert_eq!(rt; supplies.get(&4), Some(&-4));
+    let other = read_text(rt.alloc(), NOTHING.as_bytes())?;
+    let View::Min { supplies, table } = other.view() else {
+        panic!(rt; "no `min` problem");
+    };
+    assert_eq!(rt; supplies.len(), 0);
+    assert!(rt; table.get(1, 2).is_none());
+    assert!(rt; table.get(2, 1).is_some());
+    Ok(())
+}
+
+#[test]
+fn companions(rt: HostRuntime) -> Result<(), Fail> {
+    let sources = read_text(rt.alloc(), SOURCES.as_bytes())?;
+    let queries = read_text(rt.alloc(), QUERIES.as_bytes())?;
+    let others = read_text(rt.alloc(), POINTS.as_bytes())?;
+    match (sources.view(), queries.view(), others.view()) {
+        (View::Ss { items }, View::P2p { items: pairs }, View::Co { points }) => {
+            assert_eq!(rt; items, [5, 2, 5].as_slice());
+            assert_eq!(rt; pairs, [(9, 1), (1, 9)].as_slice());
+            assert_eq!(rt; points.len(), 2);
+            assert_eq!(rt; points.get(&1), Some(&(5, -6)));
+            assert_eq!(rt; points.get(&3), Some(&(-73530767, 41085396)));
+        }
+        _ => panic!(rt; "no companions"),
+    }
+    Ok(())
+}
+
+// Feeds a text byte by byte, also after a refusal, which stays. Answers the refusal at the end.
+fn fed_on(rt: &impl Abort, alloc: Global, text: &str) -> Option<Refusal> {
+    let mut reader = Reader::new(alloc);
+    let mut first = None;
+    for byte in text.as_bytes() {
+        let answer = reader.feed(&[*byte]).err();
+        if first.is_none() {
+            first = answer;
+        }
+        assert_eq!(rt; answer, first, "{text}");
+    }
+    let last = refusal(reader.finish());
+    assert!(rt; first.is_none() || first == last, "{text}");
+    last
+}
+
+// Where one growth is refused, in any of these texts, one answer is want of memory, and all others are right.
+#[test]
+fn a_refused_growth(rt: HostRuntime) {
+    let mut refused = 0;
+    for text in TOLD {
+        let answers = [
+            refusal(read_text(rt.alloc(), text.as_bytes())),
+            refusal(read_from(rt.alloc(), &mut Slice::new(text.as_bytes()))),
+            fed_on(&rt, rt.alloc(), text),
+        ];
+        for answer in answers {
+            if answer.is_some() {
+                assert_eq!(rt; (answer, refused), (Some(Refusal::Memory), 0), "{text}");
+                refused = 1;
+            }
+        }
+    }
+}
+
+#[test]
+fn a_long_comment(rt: HostRuntime) -> Result<(), Fail> {
+    let block = [b'1'; 1000];
+    let mut reader = Reader::new(rt.alloc());
+    assert_eq!(rt; reader.feed(b"c"), Ok(()));
+    for _ in 0..1000 {
+        assert_eq!(rt; reader.feed(&block), Ok(()));
+    }
+    assert_eq!(rt; reader.feed(b"\n"), Ok(()));
+    assert_eq!(rt; reader.feed(LENGTHS.as_bytes()), Ok(()));
+    assert_eq!(rt; reader.finish()?.lines(), 7);
+    Ok(())
+}
+
+#[test]
+fn names(rt: HostRuntime) {
+    let fault = Refusal::Text {
+        place: Place::End,
+        code: Code::TooFewLines,
+    };
+    let table = [
+        (fault, 20, "TooFewLines"),
+        (Refusal::Memory, 30, "Memory"),
+        (Refusal::Read, 31, "Read"),
+        (Refusal::Endless, 32, "Endless"),
+        (Refusal::Write, 33, "Write"),
+        (Refusal::CountTooLarge, 34, "CountTooLarge"),
+    ];
+    for (refusal, number, name) in table {
+        assert_eq!(rt; refusal.number(), number, "{name}");
+        assert_eq!(rt; refusal.name(), name);
+    }
+}

@@ -1,0 +1,103 @@
+// A run on the host.
+ghost use Rattle.std.specs.Prelude.{◌≤◌, None, IfOk};
+
+use crate::fault_line::put_fault_line;
+use crate::files::{Files, FilesFault};
+use crate::run::{refuse_words, run};
+use dn_canon::{Sink, ToWrite};
+use dn_instance::Refusal;
+use dn_line::FromRead;
+use std::io::{BufWriter, ErrorKind, Read};
+use std::rt::Runtime;
+use std::{env, fs, io};
+
+/// The files of the host by their paths, and its standard input. Which bytes they give is not known.
+#[derive(Drop)]
+pub struct HostFiles<'a, R> {
+    host: &'a R,
+    failed: bool,
+}
+
+impl<'a, R> HostFiles<'a, R> {
+    /// No text was asked for yet.
+    pub fn new(host: &'a R) -> HostFiles<'a, R> {
+        HostFiles {
+            host,
+            failed: false,
+        }
+    }
+}
+
+/// Standard input, or an opened file.
+#[derive(Drop)]
+pub enum HostText<I, F> {
+    /// Standard input.
+    Input(I),
+    /// A file.
+    File(F),
+}
+
+impl<I: Read, F: Read> Read for HostText<I, F> {
+    fn read(&mut self, into: &mut [u8]) -> io::Result<usize> {
+        match self {
+            HostText::Input(input) => input.read(into),
+            HostText::File(file) => file.read(into),
+        }
+    }
+}
+
+impl<'a, R: fs::Files + Input> Files for HostFiles<'a, R> {
+    type Text = FromRead<HostText<R::Reader, R::File>>;
+
+    ghost behind = { λ _ _. None };
+
+    ghost has_failed = { λ s. s.failed };
+
+    fn take(&mut self, name: &str) -> Result<FromRead<HostText<R::Reader, R::File>>, FilesFault> {
+        if name == "-" {
+            return Ok(FromRead::new(HostText::Input(self.host.reader())));
+        }
+        match fs::open(self.host, name) {
+            Ok(file) => Ok(FromRead::new(HostText::File(file))),
+            Err(error) => {
+                self.failed = true;
+                Err(fault_of(&error))
+            }
+        }
+    }
+}
+
+// What an error of opening is told as.
+fn fault_of(error: &io::Error) -> FilesFault {
+    match error.kind() {
+        ErrorKind::OutOfMemory => FilesFault::Memory,
+        _ => FilesFault::Device,
+    }
+}
+
+/// A run on the host's files, its arguments and its standard output, and the exit status. Arguments that are not UTF-8
+/// are no command.
+pub fn run_on<R: Runtime + AllocGlobal, E: Sink>(host: &R, err: &mut E) -> u8
+    ensures { result ≤ 4 }
+{
+    match run_with_arguments(host, err) {
+        Ok(status) => status,
+        Err(error) => match error.kind() {
+            ErrorKind::InvalidData => refuse_words(err),
+            _ => {
+                let _ = put_fault_line(err, "dnorm", &Refusal::Memory);
+                4
+            }
+        },
+    }
+}
+
+// Fails where there is no memory, or an argument is not UTF-8.
+fn run_with_arguments<R: Runtime + AllocGlobal, E: Sink>(host: &R, err: &mut E) -> io::Result<u8>
+    ensures { IfOk result (λ status. status ≤ 4) }
+{
+    let words: Vec<String> = env::args(host)?.collect(host.alloc())?;
+    let mut out = ToWrite::new(BufWriter::new(host.alloc(), io::writer(host))?);
+    let mut files = HostFiles::new(host);
+    Ok(run(host.alloc(), &words, &mut files, &mut out, err))
+}

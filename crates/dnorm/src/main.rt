@@ -1,0 +1,21 @@
+//! The program: canonical texts of DIMACS network instances. A run is told by its words, reads its text from a file or
+//! from standard input, and puts the canonical text on standard output.
+#![tactic(auto)]
+
+pub mod command;
+pub mod examples;
+mod fault_line;
+pub mod files;
+pub mod host;
+pub mod run;
+#[cfg(test)]
+mod tests;
+
+use crate::host::run_on;
+use dn_canon::ToWrite;
+use std::process::ExitCode;
+
+fn main(rt: HostRuntime) -> ExitCode {
+    let mut err = ToWrite::new(rt.stderr());
+    ExitCode::from(run_on(&rt, &mut err))
+}
