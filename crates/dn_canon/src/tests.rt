@@ -5,7 +5,7 @@ mod cases;
 
 use crate::sink::{Sink, SinkFault};
 use crate::writer::{write_points, write_queries, write_sources};
-use crate::{Bytes, Room, ToWrite, canon_run, canon_text, write_canon};
+use crate::{Bytes, Room, ToWrite, canon_run, canon_text, is_canon, write_canon};
 use cases::{CANONICAL, COSTS, LENGTHS, LENGTHS_CANON, ONE_TEXT, TWO_TEXTS};
 use dn_bundle::Form;
 use dn_instance::{Place, Reader, Refusal, read_text};
@@ -144,6 +144,9 @@ fn differs(
     let mut run = Bytes::new(alloc);
     if canon_run(alloc, &mut Slice::new(text), &mut run, form).is_err() || run.taken() != canon {
         return Ok(Some("from a source"));
+    }
+    if is_canon(alloc, text, form)? != (text == canon) {
+        return Ok(Some("as it is judged"));
     }
     Ok(None)
 }

@@ -3,7 +3,10 @@ ghost use Rattle.std.specs.Prelude.{Some};
 
 mod cases;
 
-use crate::{Held, Place, Reader, Refusal, Table, View, read_from, read_text};
+use crate::{
+    CompanionFault, Held, Place, Reader, Refusal, Table, View, check_companion, read_from,
+    read_text,
+};
 use cases::{
     ACCEPTED, CAPACITIES, COSTS, ENDS, FIRST_LINES, Faulty, LATER_LINES, LENGTHS, NODES_AND_ARCS,
     NOTHING, POINTS, QUERIES, SOURCES, SUPPLIES, USUAL,
@@ -435,4 +438,84 @@ fn names(rt: HostRuntime) {
         assert_eq!(rt; refusal.number(), number, "{name}");
         assert_eq!(rt; refusal.name(), name);
     }
+}
+
+// Texts, and the entries of a reader after each of their lines.
+const ENTRIES: [(&str, &[u64]); 4] = [
+    (LENGTHS, &[0, 1, 1, 2, 2, 3, 4, 5]),
+    (CAPACITIES, &[0, 0, 0, 0, 1, 2, 2]),
+    (COSTS, &[0, 2, 3, 4]),
+    (QUERIES, &[0, 1, 2]),
+];
+
+#[test]
+fn entries_line_by_line(rt: HostRuntime) -> Result<(), Fail> {
+    for (text, entries) in ENTRIES {
+        let mut reader = Reader::new(rt.alloc());
+        assert_eq!(rt; reader.entries(), 0);
+        let mut left = entries.iter();
+        for byte in text.as_bytes() {
+            reader.feed(&[*byte])?;
+            if *byte == b'\n' {
+                assert_eq!(rt; Some(&reader.entries()), left.next(), "{text}");
+            }
+        }
+        assert_eq!(rt; left.next(), None, "{text}");
+        let last = reader.entries();
+        assert_eq!(rt; reader.finish()?.entries(), last, "{text}");
+    }
+    let mut refused = Reader::new(rt.alloc());
+    assert!(rt; refused.feed(b"p sp 2 2\na 1 2 1\nz\na 2 1 1\n").is_err());
+    assert_eq!(rt; refused.entries(), 1);
+    Ok(())
+}
+
+// Companions, and whether they fit a graph of three nodes.
+const COMPANIONS: [(&str, Result<(), CompanionFault>); 9] = [
+    (
+        "p aux sp ss 2\ns 9\ns 5\n",
+        Err(CompanionFault::NotInGraph { id: 9 }),
+    ),
+    (
+        "p aux sp p2p 2\nq 3 1\nq 7 1\n",
+        Err(CompanionFault::NotInGraph { id: 7 }),
+    ),
+    (
+        "p aux sp p2p 1\nq 1 4\n",
+        Err(CompanionFault::NotInGraph { id: 4 }),
+    ),
+    (
+        "p aux sp co 2\nv 9 0 0\nv 5 0 0\n",
+        Err(CompanionFault::NotInGraph { id: 5 }),
+    ),
+    ("p aux sp ss 0\n", Ok(())),
+    ("p aux sp ss 1\ns 3\n", Ok(())),
+    ("p aux sp p2p 1\nq 3 1\n", Ok(())),
+    ("p aux sp co 1\nv 3 -1 9\n", Ok(())),
+    (LENGTHS, Err(CompanionFault::NotKinds)),
+];
+
+#[test]
+fn companions_of_a_graph(rt: HostRuntime) -> Result<(), Fail> {
+    let graph = read_text(rt.alloc(), LENGTHS.as_bytes())?;
+    let other = read_text(rt.alloc(), CAPACITIES.as_bytes())?;
+    for (text, answer) in COMPANIONS {
+        let companion = read_text(rt.alloc(), text.as_bytes())?;
+        assert_eq!(rt; check_companion(&graph, &companion), answer, "{text}");
+        assert_eq!(rt;
+            check_companion(&other, &companion),
+            Err(CompanionFault::NotKinds),
+            "{text}"
+        );
+    }
+    let above = CompanionFault::NotInGraph { id: 9 };
+    assert_eq!(rt; (above.number(), above.name()), (35, "NotInGraph"));
+    assert_eq!(rt;
+        (
+            CompanionFault::NotKinds.number(),
+            CompanionFault::NotKinds.name()
+        ),
+        (36, "NotKinds")
+    );
+    Ok(())
 }
