@@ -1,5 +1,5 @@
 -- Whether a text is the canonical text of what it reads as.
-use Rattle.std.proofs.Common.{◌≡◌, ◌↔◌, ℕ, suc, ◌+◌, ◌<◌, ◌≤◌, ◌^◌, List, [], ◌∷◌, ◌++◌, length, length-append, map, Bool, true, false, Ok, Err, refl, sym, ap, ◌∙◌, subst, arith}
+use Rattle.std.proofs.Common.{◌≡◌, ◌↔◌, ℕ, suc, ◌<◌, ◌≤◌, ◌^◌, List, [], ◌∷◌, length, length-append, map, Bool, true, false, Ok, Err, refl, ap, subst, arith}
 use Rattle.std.specs.List.{concat, join_with_byte}
 use Rattle.dn_bundle.specs.declared.arc.Form.{Form}
 use Rattle.dn_bundle.specs.Kinds.{ArcKind, costs, capacities, lengths}

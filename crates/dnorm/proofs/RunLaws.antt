@@ -1,20 +1,16 @@
 -- What the status of a run says.
-use Rattle.std.proofs.Common.{◌≡◌, ◌≢◌, ℕ, ◌≤◌, ◌^◌, List, [], ◌++◌, length, Bool, Option, Some, None, Result, Ok, Err, IsTrue, IfSome, IsErrOf, refl, sym, ◌∙◌, subst, arith, append-nil, length-append}
+use Rattle.std.proofs.Common.{◌≡◌, ◌≢◌, ℕ, ◌≤◌, ◌^◌, List, [], length, Bool, Option, Some, None, Result, Ok, Err, IsTrue, IfSome, IsErrOf, refl, sym, ◌∙◌, subst, arith, append-nil, length-append}
 use Rattle.std.specs.Io.KnownBytes.{Appends}
-use Rattle.dn_line.specs.Pieces.{lines}
 use Rattle.dn_bundle.specs.declared.arc.Form.TheVariants.{One}
-use Rattle.dn_instance.specs.Instances.{Instance, size_of}
-use Rattle.dn_instance.specs.Readers.{WantsMemory}
-use Rattle.dn_instance.specs.SourceReads.{CleanSoFar}
-use Rattle.dn_instance.specs.Texts.{Reads, IsFirstFault}
+use Rattle.dn_instance.specs.Instances.{Instance}
+use Rattle.dn_instance.specs.Texts.{Reads}
 use Rattle.dn_instance.specs.declared.refusal.Refusal.{Refusal}
 use Rattle.dn_instance.specs.declared.refusal.Refusal.TheVariants.{Text, Memory, Read, Endless, Write, CountTooLarge}
 use Rattle.dn_instance.proofs.FirstFaults.{not_both}
-use Rattle.dn_canon.specs.CanonTexts.{PrintsCanon}
 use Rattle.dn_canon.specs.Prints.{print}
-use Rattle.dn_canon.specs.Puts.{HasPut, PutsFront}
+use Rattle.dn_canon.specs.Puts.{HasPut}
 use Rattle.dn_canon.specs.Runs.{RunsCanon}
-use Rattle.dnorm.specs.Runs.{refusal_status, status, IsCanonText, IsTooLarge, IsRefused, HasFailed, CanonEnds, IsWhy, TakesLine, CanonRun, Faulty, TooLarge, OutOfMemory, Unread, NoEnd, Unwritten, Nothing, Refused}
+use Rattle.dnorm.specs.Runs.{refusal_status, status, IsTooLarge, IsRefused, HasFailed, CanonEnds, IsWhy, TakesLine, CanonRun, Faulty, TooLarge, OutOfMemory, Unread, NoEnd, Unwritten, Nothing, Refused}
 use Rattle.dnorm.specs.FaultLines.{fault_line}
 
 -- what is put whole is added

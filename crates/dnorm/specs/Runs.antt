@@ -9,7 +9,7 @@ use Rattle.dn_instance.specs.Readers.{WantsMemory}
 use Rattle.dn_instance.specs.Texts.{Reads, IsFirstFault}
 use Rattle.dn_instance.specs.declared.place.Place.{Place}
 use Rattle.dn_instance.specs.declared.refusal.Refusal.{Refusal}
-use Rattle.dn_instance.specs.declared.refusal.Refusal.TheVariants.{Text, Memory, Read, Endless, Write, CountTooLarge}
+use Rattle.dn_instance.specs.declared.refusal.Refusal.TheVariants.{Text, CountTooLarge}
 use Rattle.dn_canon.specs.CanonTexts.{PrintsCanon, IsCanonOf}
 use Rattle.dn_canon.specs.Prints.{print}
 use Rattle.dn_canon.specs.Puts.{Puts, PutsFront}

@@ -1,5 +1,5 @@
 // A run on the host.
-ghost use Rattle.std.specs.Prelude.{◌≤◌, None, IfOk};
+ghost use Rattle.std.specs.Prelude.{◌≡◌, ◌≤◌, None, IfOk, false};
 
 use crate::fault_line::put_fault_line;
 use crate::files::{Files, FilesFault};
@@ -20,7 +20,9 @@ pub struct HostFiles<'a, R> {
 
 impl<'a, R> HostFiles<'a, R> {
     /// No text was asked for yet.
-    pub fn new(host: &'a R) -> HostFiles<'a, R> {
+    pub fn new(host: &'a R) -> HostFiles<'a, R>
+        ensures { result.failed ≡ false }
+    {
         HostFiles {
             host,
             failed: false,
