@@ -1,5 +1,5 @@
 -- What making the canonical text of a text does.
-use Rattle.std.specs.Prelude.{◌≡◌, ◌↔◌, true, ◌≤◌, ◌^◌, ℕ, List, Bool, Option, Ok, Err, length}
+use Rattle.std.specs.Prelude.{◌≡◌, ◌↔◌, true, ◌<◌, ◌≤◌, ◌^◌, ℕ, List, Bool, Option, Ok, Err, length}
 use Rattle.std.specs.Io.KnownBytes.{IsAtEnd}
 use Rattle.std.specs.declared.result.Result.{Result}
 use Rattle.dn_line.specs.Pieces.{lines}
@@ -14,9 +14,9 @@ use Rattle.dn_canon.specs.CanonTexts.{IsCanonOf, PrintsCanon}
 use Rattle.dn_canon.specs.Prints.{print}
 use Rattle.dn_canon.specs.Writes.{WritesCanon}
 
--- why there is no canonical text of I: want of memory for it, or its count has more than 63 bits
+-- why there is no canonical text of I: want of memory for it, where 63 bits hold its count, or they do not
 abbrev pub TextFault : Form → Instance → Refusal → Type 0
-TextFault form I Memory = Unit {0}
+TextFault form I Memory = (J : Instance) × PrintsCanon form (print J) I J × size_of J < 2 ^ 63
 TextFault form I CountTooLarge = (J : Instance) × PrintsCanon form (print J) I J × 2 ^ 63 ≤ size_of J
 TextFault form I _ = ⊥
 
