@@ -18,6 +18,7 @@ use Rattle.dn_bundle.specs.Canonical.{IsCostArc}
 use Rattle.dn_bundle.specs.declared.arc.LengthArc.{LengthArc}
 use Rattle.dn_bundle.specs.declared.arc.CapArc.{CapArc}
 use Rattle.dn_bundle.specs.declared.arc.CostArc.{CostArc}
+use Rattle.dn_bundle.specs.Laws.Parts.{test_no}
 use Rattle.dn_bundle.specs.Laws.LengthKind.{length_kind}
 use Rattle.dn_bundle.specs.Laws.TotalKind.{total_kind}
 use Rattle.dn_instance.specs.Pairs.{bundle, same_pair}
@@ -41,17 +42,13 @@ node_fits (negsuc n) (negsuc m) h i = let low = i.some in absurd (omega (arith, 
 above_zero : (v : ℤ) → pos 1 ≤ℤ v → int_lt (pos 0) v ≡ true
 above_zero v h = grind (arith, ints)
 
--- what is at most b is not above b
-not_above : (a b : ℤ) → a ≤ℤ b → int_lt b a ≡ false
-not_above a b h = grind (arith, ints)
-
 -- fewer than declared
 pub not_full : (c n : ℕ) → c < n → not (int_lt (pos c) (pos n)) ≡ false
 not_full c n h = grind (arith, ints)
 
 -- a node is in range
 pub node_in_range : (p : Problem) (v : ℤ) → IsNode p.nodes v → is_in_range (Some p) v ≡ true
-node_in_range p v i = by_kind (is_companion p.kind) (int_lt (pos 0) v) (int_lt p.nodes v) (above_zero v i.some) (not_above v p.nodes i.most)
+node_in_range p v i = by_kind (is_companion p.kind) (int_lt (pos 0) v) (int_lt p.nodes v) (above_zero v i.some) (test_no p.nodes v i.most)
   where
     by_kind : (c a b : Bool) → a ≡ true → b ≡ false → (a && (c || not b)) ≡ true
     by_kind true a b e f = rw e refl
@@ -121,7 +118,7 @@ min_items = record {
   };
   once = λ before a. refl;
   apart = λ before a. refl;
-  low = λ a h. not_above a.1.low a.1.cap h.room;
+  low = λ a h. test_no a.1.cap a.1.low h.room;
   sum = λ before a h. h;
   no_supply = λ a. refl;
   capacity_append = cap_append;
@@ -222,7 +219,7 @@ module _ {Arc : Type 0} (kind : ArcKind Arc) (k : Kind) (item : (ℤ × ℤ) × 
 
   -- a part of a sum is within the range where the sum is
   within : (capacity more : ℤ) (all : ℤ) → all ≡ capacity +ℤ more → pos 0 ≤ℤ more → all ≤ℤ pos (2 ^ 63 - 1) → int_lt (pos (2 ^ 63 - 1)) capacity ≡ false
-  within capacity more all e h g = not_above capacity (pos (2 ^ 63 - 1)) (omega (arith, ints))
+  within capacity more all e h g = test_no (pos (2 ^ 63 - 1)) capacity (omega (arith, ints))
 
   -- the capacities of an arc and those of its pair before it sum within the range
   sum_within : (graph : Graph Arc) (d : List ((ℤ × ℤ) × Arc)) (a : (ℤ × ℤ) × Arc) (r : List ((ℤ × ℤ) × Arc)) → IsValidGraph kind graph → graph.arcs ≡ d ++ a ∷ r → passes kind d (Some a) ≡ false

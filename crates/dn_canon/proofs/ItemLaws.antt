@@ -1,5 +1,5 @@
 -- Rows that spell items one after another, without a fault, make a text without a fault that has these items.
-use Rattle.std.proofs.Common.{◌≡◌, ℕ, ◌+◌, ◌-◌, ◌<◌, ◌^◌, List, [], ◌∷◌, ◌++◌, length, Bool, true, false, cond, map, Option, Some, None, Ok, refl, sym, ap, ◌∙◌, subst, arith, append_assoc, append-nil, length-append}
+use Rattle.std.proofs.Common.{◌≡◌, ℕ, ◌+◌, ◌-◌, ◌<◌, ◌^◌, List, [], ◌∷◌, ◌++◌, length, Bool, true, false, cond, map, Option, Some, None, refl, sym, ap, ◌∙◌, subst, arith, append_assoc, append-nil, length-append}
 use Rattle.std.proofs.lemmas.Bool.{not-false}
 use Rattle.std.proofs.lemmas.Bool.Decides.{nat_tests}
 use Rattle.std.proofs.lemmas.List.Elements.{filter_map-append}
@@ -9,11 +9,10 @@ use Rattle.dn_line.specs.declared.code.Code.{Code}
 use Rattle.dn_line.specs.declared.code.Code.TheVariants.{TooLong, BadLine, EarlyLine, SecondProblem, LateNode, TooManyLines, NodeOutOfRange, RepeatedNode, SameTerminal, LowAboveCap, SumTooLarge}
 use Rattle.dn_line.specs.declared.kind.Kind.{Kind}
 use Rattle.dn_line.specs.declared.line.Line.{Line}
-use Rattle.dn_line.specs.declared.line.Line.TheVariants as Item
 use Rattle.dn_line.specs.declared.word.Word.{Word}
 use Rattle.dn_line.specs.Words.{said, said_words, is_skip, first}
 use Rattle.dn_line.specs.Faults.{Test, first_fault, head_tests, field_tests, fields, is_p, is_bad_line, is_early_line, is_second_problem}
-use Rattle.dn_line.specs.Spelling.{Slot, slots_of, Spells}
+use Rattle.dn_line.specs.Spelling.{Spells}
 use Rattle.dn_line.specs.Reading.{words_read}
 use Rattle.dn_line.proofs.AnswerLaws.{read_item, spells_unskipped, spells_faultless}
 use Rattle.dn_line.proofs.FaultLaws.{fault_append}
@@ -21,7 +20,7 @@ use Rattle.dn_instance.specs.Items.{Problem, problem_in, problem_of, kind_known}
 use Rattle.dn_instance.specs.TextFaults.{item_read, is_too_long, is_late_node, is_surplus, is_stray, is_repeated, is_same_terminal, is_low_above_cap, is_sum_too_large, item_tests, order_tests, line_tests, line_fault}
 use Rattle.dn_instance.specs.Texts.{kind_in, text_kind, item_under, items_of, IsClean}
 use Rattle.dn_instance.proofs.FirstFaults.{fault_after, none_first}
-use Rattle.dn_instance.proofs.CleanItems.{items_under}
+use Rattle.dn_instance.proofs.CleanItems.{items_under, item_some, none_both}
 use Rattle.dn_canon.proofs.RowLaws.{Row, line_of, AllWords, said_are}
 
 -- the row spells the item, which has no fault after those before it
@@ -42,18 +41,9 @@ AllFollow before [] (i ∷ items) = ⊥
 AllFollow before (r ∷ rs) [] = ⊥
 AllFollow before (r ∷ rs) (i ∷ items) = Follows before (map said r) i × AllFollow (before ++ i ∷ []) rs items
 
--- the first of two is none where both are
-both_none : {X : Type 0} (x y : Option X) → option_or x y ≡ None → (x ≡ None) × (y ≡ None)
-both_none None y h = (refl, h)
-both_none (Some x) y h = cc
-
 -- no fault in either of two lists of tests
 none_append : (ts us : List Test) → first_fault ts ≡ None → first_fault us ≡ None → first_fault (ts ++ us) ≡ None
 none_append ts us h g = fault_append ts us ∙ ap (λ x. option_or x (first_fault us)) h ∙ g
-
--- and the other way round
-none_parts : (ts us : List Test) → first_fault (ts ++ us) ≡ None → (first_fault ts ≡ None) × (first_fault us ≡ None)
-none_parts ts us h = both_none (first_fault ts) (first_fault us) (sym (fault_append ts us) ∙ h)
 
 -- two tests that fail
 none_two : (a b : Bool) (c d : Code) → a ≡ false → b ≡ false → first_fault ((c, a) ∷ (d, b) ∷ []) ≡ None
@@ -62,11 +52,6 @@ none_two a b c d p q = rw (p, q) refl
 -- five tests that fail
 none_five : (a b c d e : Bool) (u v w x y : Code) → a ≡ false → b ≡ false → c ≡ false → d ≡ false → e ≡ false → first_fault ((u, a) ∷ (v, b) ∷ (w, c) ∷ (x, d) ∷ (y, e) ∷ []) ≡ None
 none_five a b c d e u v w x y p q r s t = rw (p, q, r, s, t) refl
-
--- an item that has a line is no skipped line
-item_some : (i : Line) (slots : List Slot) → slots_of i ≡ Some slots → item_read (Ok i) ≡ Some i
-item_some Item.Skip slots h = cc
-item_some _ slots h = refl
 
 -- a line that spells an item is read as it
 spells_item : (known : Option Kind) (l : List ℕ) (i : Line) → Spells known (said_words l) i → item_read (words_read known (said_words l)) ≡ Some i
@@ -81,7 +66,7 @@ no_fault : (n : ℕ) (before : List Line) (l : List ℕ) (i : Line) → is_too_l
 no_fault n before l i short f =
     let known = kind_known before in
     let ws = said_words l in
-    let own = none_parts (head_tests known ws) (field_tests (fields known ws)) (spells_faultless known ws i f.spells) in
+    let own = none_both (head_tests known ws) (field_tests (fields known ws)) (spells_faultless known ws i f.spells) in
     let order : first_fault (order_tests before ws) ≡ None = none_two (is_late_node before ws) (is_surplus before ws) LateNode TooManyLines f.early f.wanted in
     let last : first_fault (item_tests before (Some i)) ≡ None =
     none_five (is_stray before i) (is_repeated before i) (is_same_terminal before i) (is_low_above_cap i) (is_sum_too_large before i)
@@ -96,14 +81,14 @@ no_fault n before l i short f =
 -- once a kind is known, the line of an item does not begin with `p`
 known_no_p : (k : Kind) (ws : List Word) (i : Line) → Spells (Some k) ws i → is_p (first ws) ≡ false
 known_no_p k ws i s =
-    let one = none_first (is_bad_line ws) BadLine _ (none_parts (head_tests (Some k) ws) (field_tests (fields (Some k) ws)) (spells_faultless (Some k) ws i s)).0 in
+    let one = none_first (is_bad_line ws) BadLine _ (none_both (head_tests (Some k) ws) (field_tests (fields (Some k) ws)) (spells_faultless (Some k) ws i s)).0 in
     let two = none_first (is_early_line (Some k) ws) EarlyLine _ one.1 in
     (none_first (is_second_problem (Some k) ws) SecondProblem _ two.1).0
 
 -- the line of a problem begins with `p`
 unknown_p : (ws : List Word) (i : Line) → Spells None ws i → is_p (first ws) ≡ true
 unknown_p ws i s =
-    let one = none_first (is_bad_line ws) BadLine _ (none_parts (head_tests None ws) (field_tests (fields None ws)) (spells_faultless None ws i s)).0 in
+    let one = none_first (is_bad_line ws) BadLine _ (none_both (head_tests None ws) (field_tests (fields None ws)) (spells_faultless None ws i s)).0 in
     not-false (is_p (first ws)) (none_first (is_early_line None ws) EarlyLine _ one.1).0
 
 -- under the kind of the text a line is read as the item that it spells

@@ -1,14 +1,17 @@
 -- Whether a text is the canonical text of what it reads as.
-use Rattle.std.proofs.Common.{◌≡◌, ◌↔◌, ℕ, suc, ◌<◌, ◌≤◌, ◌^◌, List, [], ◌∷◌, length, length-append, map, Bool, true, false, Ok, Err, refl, ap, subst, arith}
+use Rattle.std.proofs.Common.{◌≡◌, ◌↔◌, ℕ, ◌<◌, ◌≤◌, ◌^◌, List, [], ◌∷◌, length, length-append, map, Bool, true, false, None, Ok, Err, sym, ap, subst, arith}
+use Rattle.std.proofs.lemmas.List.{length-map, take_all}
 use Rattle.std.specs.List.{concat, join_with_byte}
+use Rattle.dn_line.specs.Pieces.{lines}
 use Rattle.dn_bundle.specs.declared.arc.Form.{Form}
 use Rattle.dn_bundle.specs.Kinds.{ArcKind, costs, capacities, lengths}
 use Rattle.dn_line.specs.declared.kind.Kind.{Kind}
 use Rattle.dn_line.specs.declared.kind.Kind.TheVariants as Kinds
 use Rattle.dn_line.specs.declared.word.Keyword.TheVariants.{S, T}
 use Rattle.dn_instance.specs.Instances.{Graph, Instance, MinCostFlow, MaxFlow, ShortestPaths, Sources, Queries, Coordinates, size_of}
-use Rattle.dn_instance.specs.Readers.{Outcome}
-use Rattle.dn_instance.specs.Texts.{Reads}
+use Rattle.dn_instance.specs.Readers.{Outcome, WantsMemory}
+use Rattle.dn_instance.specs.TextFaults.{end_fault}
+use Rattle.dn_instance.specs.Texts.{items_of, IsClean, Reads}
 use Rattle.dn_instance.specs.declared.refusal.Refusal.{Refusal}
 use Rattle.dn_instance.specs.declared.refusal.Refusal.TheVariants.{Text, Memory, Read, Endless, Write, CountTooLarge}
 use Rattle.dn_instance.proofs.SameLaws.{refl_of}
@@ -26,23 +29,19 @@ rows_long (r ∷ rs) =
     let more = rows_long rs in
     omega arith
 
-length_map : {X Y : Type 0} (f : X → Y) (xs : List X) → length (map f xs) ≡ length xs
-length_map f [] = refl
-length_map f (x ∷ xs) = ap suc (length_map f xs)
-
 graph_long : {Arc : Type 0} (kind : ArcKind Arc) (k : Kind) (graph : Graph Arc) (nodes : List (List (List ℕ))) → length graph.arcs ≤ length (graph_rows kind k graph nodes)
 graph_long kind k graph nodes =
     let all = length-append nodes (map (arc_row kind) graph.arcs) in
-    let arcs = length_map (arc_row kind) graph.arcs in
+    let arcs = length-map graph.arcs (arc_row kind) in
     omega arith
 
 enough : (I : Instance) → size_of I ≤ length (rows I)
 enough (MinCostFlow supplies graph) = graph_long costs Kinds.Min graph (map supply_row supplies)
 enough (MaxFlow source sink graph) = graph_long capacities Kinds.Max graph (terminal_row source S ∷ terminal_row sink T ∷ [])
 enough (ShortestPaths graph) = graph_long lengths Kinds.Sp graph []
-enough (Sources ids) = let h = length_map source_row ids in omega arith
-enough (Queries pairs) = let h = length_map query_row pairs in omega arith
-enough (Coordinates points) = let h = length_map point_row points in omega arith
+enough (Sources ids) = let h = length-map ids source_row in omega arith
+enough (Queries pairs) = let h = length-map pairs query_row in omega arith
+enough (Coordinates points) = let h = length-map points point_row in omega arith
 
 print_long : (I : Instance) → size_of I ≤ length (print I)
 print_long I = let h = rows_long (rows I) in let g = enough I in omega arith
@@ -68,10 +67,24 @@ not_so_large form t I r K p large small = (
   ),
 )
 
+-- a text without lines has a fault at its end
+some_lines : (ls : List (List ℕ)) → end_fault (items_of ls) ≡ None → 0 < length ls
+some_lines [] h = cc
+some_lines (l ∷ ls) h = omega arith
+
+-- at the last line of a text that reads no line has a fault
+pub wants_memory : (t : List ℕ) (I : Instance) → Reads t I → WantsMemory 0 (lines t)
+wants_memory t I r = record {
+  count = length (lines t);
+  past = some_lines (lines t) r.whole;
+  within = omega arith;
+  clean = subst IsClean (sym (take_all (length (lines t)) (lines t) (omega arith))) r.clean;
+}
+
 -- the text is refused
 pub refused_text : (form : Form) (t : List ℕ) (e : Refusal) → Outcome t (Err e) → JudgesCanon form t (Err e)
 refused_text form t (Text place code) h = h
-refused_text form t Memory h = tt
+refused_text form t Memory h = h
 refused_text form t Read h = absurd h
 refused_text form t Endless h = absurd h
 refused_text form t Write h = absurd h

@@ -1,9 +1,9 @@
 -- How a text goes into a sink piece by piece.
-use Rattle.std.proofs.Common.{◌≡◌, ℕ, ◌+◌, ◌-◌, ◌<◌, ◌≤◌, ℤ, List, [], ◌∷◌, ◌++◌, length, map, take, drop, Bool, Option, Some, None, Result, Ok, Err, IsErr, IsTrue, slice_get, get_or, suc, zero, refl, ap, sym, ◌∙◌, subst, arith, append_assoc, append-nil, take-append-drop}
+use Rattle.std.proofs.Common.{◌≡◌, ℕ, ◌+◌, ◌-◌, ◌<◌, ◌≤◌, ℤ, List, [], ◌∷◌, ◌++◌, length, map, take, drop, Bool, Option, Some, None, Result, Ok, Err, IsErr, IsTrue, slice_get, suc, zero, refl, ap, sym, ◌∙◌, subst, arith, append_assoc, append-nil, take-append-drop}
 use Rattle.std.proofs.Math.Seq.{drop-cons}
 use Rattle.std.proofs.lemmas.List.{take_all, drop_all, length-drop, drop-drop, map-append}
 use Rattle.std.proofs.lemmas.List.Folds.{concat-append}
-use Rattle.std.proofs.lemmas.Option.{slice_get_within, slice_get-get_or, get_or_from_slice_get}
+use Rattle.std.proofs.lemmas.Option.{slice_get_within, get_or_from_slice_get}
 use Rattle.std.proofs.lemmas.Result.{MatchResult-from_err}
 use Rattle.std.proofs.KnownBytes.{Appends-trans, Appends-nil}
 use Rattle.std.specs.Borrow.{Bor}
@@ -111,10 +111,6 @@ none_past (x ∷ xs) (suc i) h e = none_past xs i (omega arith) e
 pub some_below : {X : Type 0} (xs : List X) (i : ℕ) (o : Option X) → i < length xs → o ≡ slice_get xs i → ((x : X) → o ≡ Some x → ⊥) → ⊥
 some_below xs i None h e n = none_past xs i h (sym e)
 some_below xs i (Some x) h e n = n x refl
-
--- the element at an index, and those after it
-pub drop_here : {X : Type 0} (xs : List X) (i : ℕ) (d : X) → i < length xs → drop i xs ≡ get_or xs i d ∷ drop (i + 1) xs
-drop_here xs i d h = drop_get xs i (get_or xs i d) (slice_get-get_or xs i d h)
 
 -- no row is left
 pub rows_done : {K : Type 0} {taken : K → Option (List ℕ)} {has_failed : K → Bool} {a b : K} {all : List ℕ} {X : Type 0} (row : X → List (List ℕ)) (xs : List X) (i : ℕ) → length xs ≤ i

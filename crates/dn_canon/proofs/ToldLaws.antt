@@ -16,10 +16,10 @@ use Rattle.dn_bundle.specs.Kinds.{ArcKind, StandsFor, costs, capacities, lengths
 use Rattle.dn_bundle.specs.declared.arc.LengthArc.{LengthArc}
 use Rattle.dn_bundle.specs.declared.arc.CapArc.{CapArc}
 use Rattle.dn_bundle.specs.declared.arc.CostArc.{CostArc}
-use Rattle.dn_bundle.specs.Bundles.{IsKind, NumbersFit}
+use Rattle.dn_bundle.specs.Bundles.{IsKind, NumbersFit, told_of}
 use Rattle.dn_instance.specs.Instances.{Graph, Instance, MinCostFlow, MaxFlow, ShortestPaths, Sources, Queries, Coordinates}
 use Rattle.dn_instance.specs.Pairs.{pair_cmp, same_pair, bundle}
-use Rattle.dn_instance.specs.Tables.{told_by, told_at}
+use Rattle.dn_instance.specs.Tables.{told_at}
 use Rattle.dn_instance.specs.Validity.{Fits, IsNode, IsPlaced, IsValidGraph, IsValid, AreSupplies, AreTerminals}
 use Rattle.dn_instance.proofs.PairLaws.{pair_is, pair_self}
 use Rattle.dn_canon.specs.CanonInstances.{AreInOrder}
@@ -131,7 +131,7 @@ module _ {Arc : Type 0} where
         bundle_placed q e.0 (tells e.1) (told_arcs tells es) ∙ by_test (same_pair q e.0) refl (told_bundle q es (sorted_tail pair_cmp e.0 (keys_of es) s))
       where
         by_test : (t : Bool) → same_pair q e.0 ≡ t → bundle q (told_arcs tells es) ≡ told_at tells es q
-            → cond t (tells e.1 ++ bundle q (told_arcs tells es)) (bundle q (told_arcs tells es)) ≡ told_by tells (cond t (Some e.1) (lookup (same_pair q) es))
+            → cond t (tells e.1 ++ bundle q (told_arcs tells es)) (bundle q (told_arcs tells es)) ≡ told_of tells (cond t (Some e.1) (lookup (same_pair q) es))
         by_test true f r =
             ap (λ l. tells e.1 ++ l) (subst (λ p. bundle p (told_arcs tells es) ≡ []) (sym (pair_is q e.0 f)) (none_told e.0 es (sorted_head pair_cmp e.0 (keys_of es) s)))
             ∙ append-nil (tells e.1)
@@ -142,15 +142,15 @@ module _ {B Arc : Type 0} (kind : ArcKind Arc) (laws : IsKind kind) (told : Form
   same_one One b = laws.meaning.same_refl (told One b)
   same_one Two b = tells.same_forms b
 
-  at_same : (o : Option B) → kind.Same (told_by (told form) o) (told_by (told One) o)
+  at_same : (o : Option B) → kind.Same (told_of (told form) o) (told_of (told One) o)
   at_same None = laws.meaning.same_refl []
   at_same (Some b) = same_one form b
 
-  at_canon : (o : Option B) → kind.IsCanon form (told_by (told form) o)
+  at_canon : (o : Option B) → kind.IsCanon form (told_of (told form) o)
   at_canon None = laws.none_canon form
   at_canon (Some b) = tells.canonical form b
 
-  at_fit : (o : Option B) → NumbersFit kind (told_by (told form) o)
+  at_fit : (o : Option B) → NumbersFit kind (told_of (told form) o)
   at_fit None = tt
   at_fit (Some b) = tells.fit form b
 

@@ -25,11 +25,12 @@ abbrev pub TextCanon : {V : Type 0} → (V → List ℕ) → Form → Instance �
 TextCanon bytes form I (Ok text) = (J : Instance) × PrintsCanon form (bytes text) I J
 TextCanon bytes form I (Err e) = TextFault form I e
 
--- t reads as an instance, and whether it is the canonical text of that; or its first fault, or want of memory
+-- t reads as an instance, and whether it is the canonical text of that; or its first fault; or want of memory at a line
+-- without fault
 abbrev pub JudgesCanon : Form → List ℕ → Result Bool Refusal → Type 0
 JudgesCanon form t (Ok answer) = (I : Instance) × Reads t I × ((answer ≡ true) ↔ IsCanonOf form t I)
 JudgesCanon form t (Err (Text place code)) = IsFirstFault t place code
-JudgesCanon form t (Err Memory) = Unit {0}
+JudgesCanon form t (Err Memory) = WantsMemory 0 (lines t)
 JudgesCanon form t (Err _) = ⊥
 
 -- the source gave the text t from here on, and now gives `rest`: t reads as an instance whose canonical text is put; or

@@ -103,7 +103,8 @@ pub fn canon_run<S: Source, K: Sink>(
 ///
 /// # Errors
 ///
-/// `Text` with the first fault of the text; `Memory`.
+/// `Text` with the first fault of the text. `Memory` comes only at a line without fault, or, once all
+/// lines are read, for the canonical text.
 pub fn is_canon(alloc: Global, text: &[u8], form: Form) -> Result<bool, Refusal>
     ensures { JudgesCanon form text.now result }
 {

@@ -203,10 +203,21 @@ fn canon_of_pieces(alloc: Global, front: &[u8], back: &[u8]) -> Result<Vec<u8>, 
     canon_text(alloc, &reader.finish()?, Form::One)
 }
 
+// The same of a text byte by byte.
+fn canon_of_bytes(alloc: Global, text: &[u8]) -> Result<Vec<u8>, Refusal> {
+    let mut reader = Reader::new(alloc);
+    for byte in text {
+        reader.feed(&[*byte])?;
+    }
+    canon_text(alloc, &reader.finish()?, Form::One)
+}
+
 #[test]
-fn a_text_in_two_pieces(rt: HostRuntime) -> Result<(), Fail> {
+fn a_text_in_pieces(rt: HostRuntime) -> Result<(), Fail> {
     let held = read_text(rt.alloc(), COSTS.as_bytes())?;
     let canon = canon_text(rt.alloc(), &held, Form::One)?;
+    let text = canon_of_bytes(rt.alloc(), COSTS.as_bytes())?;
+    assert_eq!(rt; text.as_slice(), canon.as_slice(), "byte by byte");
     for cut in 0..=COSTS.len() {
         let (front, back) = COSTS.as_bytes().split_at(cut);
         let text = canon_of_pieces(rt.alloc(), front, back)?;
@@ -303,4 +314,42 @@ fn nothing_put(rt: HostRuntime) {
     let answer = canon_run(rt.alloc(), &mut torn, &mut unread, Form::One);
     assert_eq!(rt; answer, Err(Refusal::Read));
     assert!(rt; unread.taken().is_empty());
+}
+
+// Whether the canonical text, in form 2, of what a text reads as is this one.
+fn is_told(alloc: Global, text: &[u8], canon: &[u8]) -> Result<bool, Refusal> {
+    let held = read_text(alloc, text)?;
+    Ok(canon_text(alloc, &held, Form::Two)?.as_slice() == canon)
+}
+
+// Whether it is what is put of it; where there is a refusal, whether nothing is put.
+fn is_put(alloc: Global, text: &[u8], canon: &[u8]) -> Result<bool, Refusal> {
+    let mut room = [0u8; 128];
+    let mut sink = Room::new(&mut room);
+    match canon_run(alloc, &mut Slice::new(text), &mut sink, Form::Two) {
+        Ok(()) => Ok(sink.taken() == canon),
+        Err(_) if !sink.taken().is_empty() => Ok(false),
+        Err(refusal) => Err(refusal),
+    }
+}
+
+// Where one growth is refused, in any of these texts, one answer is want of memory, and all others are right.
+#[test]
+fn a_refused_growth(rt: HostRuntime) {
+    let mut refused = 0;
+    for (text, _, canon) in TWO_TEXTS {
+        let (text, canon) = (text.as_bytes(), canon.as_bytes());
+        let answers = [
+            is_told(rt.alloc(), text, canon),
+            is_put(rt.alloc(), text, canon),
+            is_canon(rt.alloc(), canon, Form::Two),
+            is_canon(rt.alloc(), text, Form::Two).map(|is| is == (text == canon)),
+        ];
+        for answer in answers {
+            if answer != Ok(true) {
+                assert_eq!(rt; (answer, refused), (Err(Refusal::Memory), 0));
+                refused = 1;
+            }
+        }
+    }
 }

@@ -139,7 +139,7 @@ own_none before ws n =
     ∙ ap (λ x. option_or x (first_fault (field_tests (fields (kind_known before) ws)))) n.head
     ∙ n.fields
 
-item_some : (i : Line) (slots : List Slot) → slots_of i ≡ Some slots → item_read (Ok i) ≡ Some i
+pub item_some : (i : Line) (slots : List Slot) → slots_of i ≡ Some slots → item_read (Ok i) ≡ Some i
 item_some Item.Skip slots h = cc
 item_some _ slots h = refl
 

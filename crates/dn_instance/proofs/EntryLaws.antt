@@ -1,13 +1,14 @@
 -- As many entries are kept as the arcs of an instance come to.
 use Rattle.std.proofs.Common.{◌≡◌, ℕ, suc, ◌+◌, ◌*◌, ◌≤◌, ◌<◌, ◌^◌, ℤ, pos, FitsSigned, w64, int_lt, filter, List, [], ◌∷◌, length, map, Bool, true, false, cond, ◌||◌, Some, None, refl, sym, ap, ◌∙◌, subst, arith, sum_by}
 use Rattle.std.proofs.lemmas.List.Sums.{sum_by-cons}
+use Rattle.std.proofs.Math.Bool.{or-true}
 use Rattle.std.proofs.lemmas.Map.Keys.{sorted_head, sorted_tail}
 use Rattle.std.specs.List.{AllByRecursion, list_any}
 use Rattle.std.specs.List.Sorted.{IsStrictlySortedBy}
 use Rattle.std.specs.Map.{keys_of, lookup}
 use Rattle.std.specs.Ordering.{is_eq, int_eq}
 use Rattle.std.specs.declared.cmp.Ordering.TheVariants.{Less}
-use Rattle.dn_bundle.specs.Bundles.{IsKind}
+use Rattle.dn_bundle.specs.Bundles.{IsKind, told_of}
 use Rattle.dn_bundle.specs.Canonical.{has_low}
 use Rattle.dn_bundle.specs.Capacities.{total_cap}
 use Rattle.dn_bundle.specs.Entries.{distinct, has_room, length_entries, cap_entries, cost_entries}
@@ -20,7 +21,7 @@ use Rattle.dn_instance.specs.EntryCount.{graph_entries, entries_of}
 use Rattle.dn_instance.specs.Instances.{Instance, MinCostFlow, MaxFlow, ShortestPaths, Sources, Queries, Coordinates, size_of}
 use Rattle.dn_instance.specs.Validity.{IsPlaced}
 use Rattle.dn_instance.specs.Pairs.{pair_cmp, same_pair, bundle}
-use Rattle.dn_instance.specs.Tables.{told_by, told_at}
+use Rattle.dn_instance.specs.Tables.{told_at}
 use Rattle.dn_instance.specs.TableSteps.{Tells, AreArcs}
 use Rattle.dn_instance.proofs.PairLaws.{pair_is, pair_self, other_pair}
 
@@ -40,10 +41,6 @@ Once (p ∷ ps) = (among p ps ≡ false) × Once ps
 abbrev without : Pair → List Pair → List Pair
 without p [] = []
 without p (q ∷ qs) = cond (same_pair p q) (without p qs) (q ∷ without p qs)
-
-or_true : (b : Bool) → (b || true) ≡ true
-or_true true = refl
-or_true false = refl
 
 not_self : (p : Pair) (qs : List Pair) → among p (without p qs) ≡ false
 not_self p [] = refl
@@ -89,7 +86,7 @@ module _ (f : Pair → ℕ) where
   all_none (q ∷ qs) h =
       let whole = sum_by-cons f q qs in
       let head : f q ≡ 0 = h q (ap (λ b. b || among q qs) (pair_self q)) in
-      let rest : sum_by f qs ≡ 0 = all_none qs (λ r e. h r (ap (λ b. same_pair r q || b) e ∙ or_true (same_pair r q))) in
+      let rest : sum_by f qs ≡ 0 = all_none qs (λ r e. h r (ap (λ b. same_pair r q || b) e ∙ or-true (same_pair r q))) in
       omega arith
 
   -- sums over pairs that stand once are equal where each pair of one that is not in the other adds nothing
@@ -118,7 +115,7 @@ module _ (f : Pair → ℕ) where
           let same : r ≡ p = pair_is r p e in
           let never : true ≡ false = sym g ∙ ap (λ x. among x ps) same ∙ op.0 in
           cc
-      back_rest r false e g h = back r (ap (λ b. same_pair r p || b) g ∙ or_true (same_pair r p)) (sym (others_stay p r qs e) ∙ h)
+      back_rest r false e g h = back r (ap (λ b. same_pair r p || b) g ∙ or-true (same_pair r p)) (sym (others_stay p r qs e) ∙ h)
 
 among_distinct : (r : Pair) (ps : List Pair) → among r (distinct same_pair ps) ≡ among r ps
 among_distinct r [] = refl
@@ -208,7 +205,7 @@ module _ {B Arc : Type 0} (kind : ArcKind Arc) (laws : IsKind kind) (nothing : k
       at : (k : Pair) (b : B) → lookup (same_pair k) table ≡ Some b → kind.entries (tells b) ≡ kind.entries (bundle k arcs)
       at k b e =
           let stands = t.stands k in
-          ap (λ o. kind.entries (told_by tells o)) (sym e)
+          ap (λ o. kind.entries (told_of tells o)) (sym e)
           ∙ laws.same_entries (told_at tells table k) (bundle k arcs) (laws.canon_arcs One (told_at tells table k) stands.canonical) (arcs_at k) stands.same
 
       out : (r : Pair) → among r (keys_of table) ≡ false → among r (distinct same_pair (map (λ a. a.0) arcs)) ≡ true → f r ≡ 0

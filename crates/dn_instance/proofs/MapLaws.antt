@@ -98,7 +98,7 @@ pub lookup_put : {X : Type 0} (q k : ℤ) (v : X) (es : List (ℤ × X)) → loo
 lookup_put q k v [] = refl
 lookup_put q k v (e ∷ es) = found_by q k v e es (insert_entry int_cmp es k v) (int_cmp k e.0) refl (lookup_put q k v es)
 
-some_cond : {X : Type 0} (t : Bool) (v : X) (o : Option X) → is_some (cond t (Some v) o) ≡ (t || is_some o)
+pub some_cond : {X : Type 0} (t : Bool) (v : X) (o : Option X) → is_some (cond t (Some v) o) ≡ (t || is_some o)
 some_cond true v o = refl
 some_cond false v o = refl
 

@@ -7,18 +7,14 @@ use Rattle.std.specs.List.{position_or_len, before_first}
 use Rattle.dn_line.specs.Pieces.{parts, has_bytes, if_any, lines, is_line_feed}
 use Rattle.dn_line.specs.LineStates.{LineSoFar, has_end, used_of, last_ended, last_of, line_of}
 use Rattle.dn_line.proofs.PartsLaws.{Parts, parts_run, parts_end, parts_push}
+use Rattle.dn_line.proofs.LineReaderLaws.{ended_push}
 use Rattle.dn_instance.specs.Readers.{ended}
-
-last_push : (ls : List (List ℕ)) (o : List ℕ) → last_ended (ls ++ o ∷ []) ≡ record { bytes = o; ended = true }
-last_push [] o = refl
-last_push (l ∷ []) o = refl
-last_push (l ∷ k ∷ ks) o = last_push (k ∷ ks) o
 
 -- the line that a piece's LF ends comes after those before it
 closes : (p : Parts) (ls : List (List ℕ)) (o : List ℕ) → p ≡ (ls ++ o ∷ [], []) → p.0 ≡ ls ++ (last_of p.0 p.1).bytes ∷ []
 closes p ls o e =
     ap (λ (q : Parts). q.0) e
-    ∙ ap (λ l. ls ++ l ∷ []) (sym (ap (λ (q : Parts). (last_of q.0 q.1).bytes) e ∙ ap (λ (l : LineSoFar). l.bytes) (last_push ls o)))
+    ∙ ap (λ l. ls ++ l ∷ []) (sym (ap (λ (q : Parts). (last_of q.0 q.1).bytes) e ∙ ap (λ (l : LineSoFar). l.bytes) (ended_push ls o)))
 
 pub ended_then : (t piece : List ℕ) → has_end piece ≡ true → ended (t ++ take (used_of piece) piece) ≡ ended t ++ (line_of (t ++ take (used_of piece) piece)).bytes ∷ []
 ended_then t piece e = by_end (has_end piece) e

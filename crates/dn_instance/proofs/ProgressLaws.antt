@@ -3,6 +3,7 @@ use Rattle.std.proofs.Common.{◌≡◌, ◌<◌, ℕ, ◌+◌, ℤ, pos, ◌+�
 use Rattle.std.proofs.lemmas.Int.{ints, fits_signed_from_abs}
 use Rattle.std.proofs.lemmas.Bool.Decides.{nat_tests}
 use Rattle.std.proofs.lemmas.List.Folds.{list_any-append}
+use Rattle.std.proofs.Math.Bool.{or-false, or-true}
 use Rattle.std.proofs.Math.Nat.{min-eq_left}
 use Rattle.std.specs.Int.{saturate_signed}
 use Rattle.std.specs.List.{list_any}
@@ -42,12 +43,8 @@ counted_no (x ∷ rest) i h = by_test (is_counted x) (counted_no rest i h)
     by_test true e = ap suc e
     by_test false e = e
 
-or_false : (b : Bool) → (b || false) ≡ b
-or_false true = refl
-or_false false = refl
-
 any_push : (items : List Line) (i : Line) → list_any is_arc (items ++ i ∷ []) ≡ (list_any is_arc items || is_arc i)
-any_push items i = list_any-append is_arc items (i ∷ []) ∙ ap (λ b. list_any is_arc items || b) (or_false (is_arc i))
+any_push items i = list_any-append is_arc items (i ∷ []) ∙ ap (λ b. list_any is_arc items || b) (or-false (is_arc i))
 
 -- a problem's counted lines are its arcs
 arc_counted : (k : Kind) (i : Line) → is_companion k ≡ false → Some k ≡ kind_before i → is_arc i ≡ is_counted i
@@ -87,15 +84,11 @@ has_room p items i at room y = not_not _ (sym (ap (λ o. is_full o (counted item
 -- with one item more
 module _ (p : Progress) (d : Draft) (items : List Line) (i : Line) (at : IsAt p items) (kind : draft_kind d ≡ draft_kind p.draft) (of_kind : Some (draft_kind p.draft) ≡ kind_before i) where
   arcs_then : (n : ℤ) (b : Bool) → is_counted i ≡ b → n ≡ pos (counted (items ++ i ∷ [])) → is_companion (draft_kind d) ≡ false → list_any is_arc (items ++ i ∷ []) ≡ int_lt (pos 0) n
-  arcs_then n true t e c = any_push items i ∙ ap (λ x. list_any is_arc items || x) (arc_counted (draft_kind p.draft) i (sym (ap is_companion kind) ∙ c) of_kind ∙ t) ∙ or_true (list_any is_arc items) ∙ sym (ap (int_lt (pos 0)) (e ∙ ap pos (counted_yes items i t)) ∙ above (counted items))
+  arcs_then n true t e c = any_push items i ∙ ap (λ x. list_any is_arc items || x) (arc_counted (draft_kind p.draft) i (sym (ap is_companion kind) ∙ c) of_kind ∙ t) ∙ or-true (list_any is_arc items) ∙ sym (ap (int_lt (pos 0)) (e ∙ ap pos (counted_yes items i t)) ∙ above (counted items))
     where
       above : (k : ℕ) → int_lt (pos 0) (pos (suc k)) ≡ true
       above k = grind (arith, ints, nat_tests)
-
-      or_true : (x : Bool) → (x || true) ≡ true
-      or_true true = refl
-      or_true false = refl
-  arcs_then n false f e c = any_push items i ∙ ap (λ x. list_any is_arc items || x) (arc_counted (draft_kind p.draft) i (sym (ap is_companion kind) ∙ c) of_kind ∙ f) ∙ or_false (list_any is_arc items) ∙ at.arcs_are (sym (ap is_companion kind) ∙ c) ∙ ap (int_lt (pos 0)) (at.counted_is ∙ sym (e ∙ ap pos (counted_no items i f)))
+  arcs_then n false f e c = any_push items i ∙ ap (λ x. list_any is_arc items || x) (arc_counted (draft_kind p.draft) i (sym (ap is_companion kind) ∙ c) of_kind ∙ f) ∙ or-false (list_any is_arc items) ∙ at.arcs_are (sym (ap is_companion kind) ∙ c) ∙ ap (int_lt (pos 0)) (at.counted_is ∙ sym (e ∙ ap pos (counted_no items i f)))
 
   pub is_then : (n : ℤ) → n ≡ pos (counted (items ++ i ∷ [])) → counted (items ++ i ∷ []) < 2 ^ 63 → Holds d (items ++ i ∷ []) → IsAt (record { nodes = p.nodes; count = p.count; counted = n; draft = d }) (items ++ i ∷ [])
   is_then n e few h = record {

@@ -1,5 +1,6 @@
 -- Node lines of a `min` text after the items before them: their first fault, and what is held with them.
-use Rattle.std.proofs.Common.{◌≡◌, ℤ, pos, List, [], ◌∷◌, ◌++◌, Bool, true, false, cond, ◌&&◌, ◌||◌, Option, Some, None, is_some, Result, Ok, Err, OnOk, filter_map, refl, sym, ap, ◌∙◌, subst, arith, append-nil}
+use Rattle.std.proofs.Common.{◌≡◌, ℤ, pos, List, [], ◌∷◌, ◌++◌, Bool, true, false, cond, ◌&&◌, ◌||◌, Some, None, is_some, Result, Ok, Err, OnOk, filter_map, refl, sym, ap, ◌∙◌, subst, arith, append-nil}
+use Rattle.std.proofs.Math.Bool.{or-false}
 use Rattle.std.proofs.lemmas.Int.{ints}
 use Rattle.std.proofs.lemmas.Bool.Decides.{nat_tests}
 use Rattle.std.proofs.lemmas.List.Elements.{filter_map-append}
@@ -26,7 +27,7 @@ use Rattle.dn_instance.specs.Items.{supply_in, supplies_of, by_key}
 use Rattle.dn_instance.specs.ItemFaults.{Answers, supply_fault}
 use Rattle.dn_instance.specs.TextFaults.{is_companion, has_supply}
 use Rattle.dn_instance.proofs.DraftLaws.{Answering, Standing, stray_one, or_else, sought_eq, table_kept}
-use Rattle.dn_instance.proofs.MapLaws.{by_key_push, lookup_put}
+use Rattle.dn_instance.proofs.MapLaws.{by_key_push, lookup_put, some_cond}
 use Rattle.dn_instance.proofs.ValidLaws.{supplies_grow}
 
 pub supply_answer : (nodes id flow : ℤ) (supplies : BTreeMap ℤ ℤ) (idle : BTreeSet ℤ) (t : _) (r : Result (Unit {0}) ItemFault)
@@ -49,11 +50,7 @@ eq_swap a b = by_tests (int_eq a b) (int_eq b a) refl refl
 
 -- whose lines name a node, with one line more
 named_push : (q id flow : ℤ) (before : List Line) → list_any (has_supply q) (before ++ Item.Supply id flow ∷ []) ≡ (list_any (has_supply q) before || int_eq id q)
-named_push q id flow before = list_any-append (has_supply q) before (Item.Supply id flow ∷ []) ∙ ap (λ b. list_any (has_supply q) before || b) (or_false (int_eq id q))
-  where
-    or_false : (b : Bool) → (b || false) ≡ b
-    or_false true = refl
-    or_false false = refl
+named_push q id flow before = list_any-append (has_supply q) before (Item.Supply id flow ∷ []) ∙ ap (λ b. list_any (has_supply q) before || b) (or-false (int_eq id q))
 
 idle_named : (g c s : Bool) → (g || (c || s)) ≡ ((g || c) || s)
 idle_named true c s = refl
@@ -66,10 +63,6 @@ flow_named true false false = refl
 flow_named false true c = refl
 flow_named false false true = refl
 flow_named false false false = refl
-
-some_cond : (t : Bool) (v : ℤ) (o : Option ℤ) → is_some (cond t (Some v) o) ≡ (t || is_some o)
-some_cond true v o = refl
-some_cond false v o = refl
 
 module _ (id flow q : ℤ) (before : List Line) (s s' : BTreeMap ℤ ℤ) (z z' : BTreeSet ℤ)
     (was : (is_some (Map.get int_cmp s q) || Set.contains int_cmp z q) ≡ list_any (has_supply q) before)

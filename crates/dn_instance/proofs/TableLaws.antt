@@ -7,7 +7,8 @@ use Rattle.dn_bundle.specs.Meanings.{IsMeaning}
 use Rattle.dn_bundle.specs.declared.bundle.BundleFault.{BundleFault}
 use Rattle.dn_bundle.specs.declared.bundle.BundleFault.TheVariants.{Sum, Memory}
 use Rattle.dn_instance.specs.Pairs.{same_pair}
-use Rattle.dn_instance.specs.Tables.{told_by, told_at}
+use Rattle.dn_bundle.specs.Bundles.{told_of}
+use Rattle.dn_instance.specs.Tables.{told_at}
 use Rattle.dn_instance.specs.TableSteps.{Grows}
 
 module _ {B Arc : Type 0} (kind : ArcKind Arc) (tells : B → List Arc) (m n : List ((ℤ × ℤ) × B)) (pair : ℤ × ℤ) (arc : Arc) where
@@ -15,7 +16,7 @@ module _ {B Arc : Type 0} (kind : ArcKind Arc) (tells : B → List Arc) (m n : L
   pub grows_there : (b w : B) → lookup (same_pair pair) m ≡ Some b → lookup (same_pair pair) n ≡ Some w → ((p : ℤ × ℤ) → same_pair pair p ≡ false → lookup (same_pair p) n ≡ lookup (same_pair p) m)
       → kind.Same (tells w) (tells b ++ arc ∷ []) → Grows kind tells m n pair arc
   grows_there b w e f others same = record {
-    here = subst (λ o. kind.Same (told_by tells o) (told_at tells m pair ++ arc ∷ [])) (sym f) (subst (λ o. kind.Same (tells w) (told_by tells o ++ arc ∷ [])) (sym e) same);
+    here = subst (λ o. kind.Same (told_of tells o) (told_at tells m pair ++ arc ∷ [])) (sym f) (subst (λ o. kind.Same (tells w) (told_of tells o ++ arc ∷ [])) (sym e) same);
     kept = λ s. subst IsSome (sym f) refl;
     fresh = λ g. (let never : None ≡ Some b = sym g ∙ e in cc);
     others = others;
@@ -25,9 +26,9 @@ module _ {B Arc : Type 0} (kind : ArcKind Arc) (tells : B → List Arc) (m n : L
   pub grows_fresh : (e w : B) → lookup (same_pair pair) m ≡ None → lookup (same_pair pair) n ≡ Some w → ((p : ℤ × ℤ) → same_pair pair p ≡ false → lookup (same_pair p) n ≡ lookup (same_pair p) m)
       → tells e ≡ [] → kind.Same (tells w) (tells e ++ arc ∷ []) → (kind.Same (tells w) [] → ⊥) → Grows kind tells m n pair arc
   grows_fresh e w h f others none same some = record {
-    here = subst (λ o. kind.Same (told_by tells o) (told_at tells m pair ++ arc ∷ [])) (sym f) (subst (λ o. kind.Same (tells w) (told_by tells o ++ arc ∷ [])) (sym h) (subst (λ l. kind.Same (tells w) (l ++ arc ∷ [])) none same));
+    here = subst (λ o. kind.Same (told_of tells o) (told_at tells m pair ++ arc ∷ [])) (sym f) (subst (λ o. kind.Same (tells w) (told_of tells o ++ arc ∷ [])) (sym h) (subst (λ l. kind.Same (tells w) (l ++ arc ∷ [])) none same));
     kept = λ s. subst IsSome (sym f) refl;
-    fresh = λ g. (λ no. (let never : None ≡ Some w = sym no ∙ f in cc), λ s. absurd (some (subst (λ o. kind.Same (told_by tells o) []) f s)));
+    fresh = λ g. (λ no. (let never : None ≡ Some w = sym no ∙ f in cc), λ s. absurd (some (subst (λ o. kind.Same (told_of tells o) []) f s)));
     others = others;
   }
 
@@ -37,19 +38,19 @@ module _ {B Arc : Type 0} (kind : ArcKind Arc) (tells : B → List Arc) (m : Lis
   grows_none e w h none same nothing =
       let alone : kind.Same [] (arc ∷ []) = meaning.same_trans [] (tells w) (arc ∷ []) (meaning.same_sym (tells w) [] nothing) (subst (λ l. kind.Same (tells w) (l ++ arc ∷ [])) none same) in
       record {
-        here = subst (λ o. kind.Same (told_by tells o) (told_by tells o ++ arc ∷ [])) (sym h) alone;
+        here = subst (λ o. kind.Same (told_of tells o) (told_of tells o ++ arc ∷ [])) (sym h) alone;
         kept = λ s. s;
-        fresh = λ g. (λ no. subst (λ o. kind.Same (told_by tells o) []) (sym h) (meaning.same_refl []), λ s. h);
+        fresh = λ g. (λ no. subst (λ o. kind.Same (told_of tells o) []) (sym h) (meaning.same_refl []), λ s. h);
         others = λ p f. refl;
       }
 
 -- what a table tells at a pair that has a bundle
 pub told_there : {B Arc : Type 0} (tells : B → List Arc) (m : List ((ℤ × ℤ) × B)) (pair : ℤ × ℤ) (b : B) → lookup (same_pair pair) m ≡ Some b → told_at tells m pair ≡ tells b
-told_there tells m pair b e = ap (told_by tells) e
+told_there tells m pair b e = ap (told_of tells) e
 
 -- and at one that has none
 pub told_none : {B Arc : Type 0} (tells : B → List Arc) (m : List ((ℤ × ℤ) × B)) (pair : ℤ × ℤ) → lookup (same_pair pair) m ≡ None → told_at tells m pair ≡ []
-told_none tells m pair e = ap (told_by tells) e
+told_none tells m pair e = ap (told_of tells) e
 
 -- a bundle that has not changed is the one that was found
 pub found_still : {B : Type 0} (o : Option B) (b w : B) → o ≡ Some b → w ≡ b → o ≡ Some w

@@ -4,10 +4,10 @@ use Rattle.std.specs.List.{AllByRecursion}
 use Rattle.std.specs.Map.{lookup}
 use Rattle.dn_bundle.specs.declared.arc.Form.TheVariants.{One}
 use Rattle.dn_bundle.specs.Kinds.{ArcKind, StandsFor}
-use Rattle.dn_bundle.specs.Bundles.{IsKind}
+use Rattle.dn_bundle.specs.Bundles.{IsKind, told_of}
 use Rattle.dn_bundle.specs.Laws.Orders.{same_push}
 use Rattle.dn_instance.specs.Pairs.{same_pair, bundle}
-use Rattle.dn_instance.specs.Tables.{told_by, told_at}
+use Rattle.dn_instance.specs.Tables.{told_at}
 use Rattle.dn_instance.specs.TableSteps.{Grows, Tells, AreArcs, Stays}
 use Rattle.dn_instance.proofs.PairLaws.{pair_is, pair_self, other_pair}
 use Rattle.dn_instance.specs.TextFaults.{passes}
@@ -17,7 +17,7 @@ use Rattle.std.proofs.lemmas.Int.{ints, by_lt_z}
 use Rattle.dn_instance.proofs.ValidLaws.{bundle_push, all_push}
 
 module _ {B Arc : Type 0} (kind : ArcKind Arc) (tells : B → List Arc) (laws : IsKind kind) (canonical : (b : B) → kind.IsCanon One (tells b)) where
-  told_canon : (o : Option B) → kind.IsCanon One (told_by tells o)
+  told_canon : (o : Option B) → kind.IsCanon One (told_of tells o)
   told_canon None = laws.none_canon One
   told_canon (Some b) = canonical b
 
@@ -80,7 +80,7 @@ module _ {B Arc : Type 0} (kind : ArcKind Arc) (tells : B → List Arc) (laws : 
       (record { canonical = told_canon kind tells laws canonical (lookup (same_pair pair) n); same = same_here })
   stands_at p false e = record {
     canonical = told_canon kind tells laws canonical (lookup (same_pair p) n);
-    same = subst (λ l. kind.Same (told_at tells n p) l) (sym (bundle_there p (other_pair pair p e))) (subst (λ o. kind.Same (told_by tells o) (bundle p arcs)) (sym (grows.others p e)) (old.stands p).same);
+    same = subst (λ l. kind.Same (told_at tells n p) l) (sym (bundle_there p (other_pair pair p e))) (subst (λ o. kind.Same (told_of tells o) (bundle p arcs)) (sym (grows.others p e)) (old.stands p).same);
   }
 
   absent_at : (p : ℤ × ℤ) (t : Bool) → same_pair pair p ≡ t → (lookup (same_pair p) n ≡ None) ↔ kind.Same (bundle p (arcs ++ (pair, arc) ∷ [])) []

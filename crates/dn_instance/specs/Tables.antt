@@ -1,18 +1,14 @@
 -- What a list of bundles by ordered pair stands for.
-use Rattle.std.specs.Prelude.{◌≡◌, ◌↔◌, ℤ, List, [], Option, Some, None}
+use Rattle.std.specs.Prelude.{◌≡◌, ◌↔◌, ℤ, List, [], None}
 use Rattle.std.specs.List.Sorted.{IsStrictlySortedBy}
 use Rattle.std.specs.Map.{keys_of, lookup}
+use Rattle.dn_bundle.specs.Bundles.{told_of}
 use Rattle.dn_bundle.specs.Kinds.{ArcKind, StandsFor}
 use Rattle.dn_instance.specs.Pairs.{pair_cmp, same_pair, bundle}
 
--- the arcs that a bundle tells; none, where there is no bundle
-abbrev pub told_by : {B Arc : Type 0} → (B → List Arc) → Option B → List Arc
-told_by tells None = []
-told_by tells (Some b) = tells b
-
 -- the arcs that the table tells at an ordered pair
 abbrev pub told_at : {B Arc : Type 0} → (B → List Arc) → List ((ℤ × ℤ) × B) → ℤ × ℤ → List Arc
-told_at tells table p = told_by tells (lookup (same_pair p) table)
+told_at tells table p = told_of tells (lookup (same_pair p) table)
 
 -- bundles by rising pair that stand for these arcs; a pair whose arcs mean what no arcs mean has none
 pub record TableStandsFor {B Arc : Type 0} (kind : ArcKind Arc) (tells : B → List Arc) (table : List ((ℤ × ℤ) × B)) (arcs : List ((ℤ × ℤ) × Arc)) : Type 0 where

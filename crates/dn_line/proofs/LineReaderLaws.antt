@@ -55,7 +55,7 @@ goes_from : (ls : List (List ℕ)) (o : List ℕ) → cond (last_of ls o).ended 
 goes_from ls [] = rest_of ls
 goes_from ls (b ∷ bs) = refl
 
-ended_push : (ls : List (List ℕ)) (o : List ℕ) → last_ended (ls ++ o ∷ []) ≡ record { bytes = o; ended = true }
+pub ended_push : (ls : List (List ℕ)) (o : List ℕ) → last_ended (ls ++ o ∷ []) ≡ record { bytes = o; ended = true }
 ended_push [] o = refl
 ended_push (l ∷ []) o = refl
 ended_push (l ∷ k ∷ ks) o = ended_push (k ∷ ks) o

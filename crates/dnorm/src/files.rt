@@ -1,5 +1,7 @@
 // Texts by name.
-ghost use Rattle.std.specs.Prelude.{◌≡◌, ◌≢◌, ℕ, List, Bool, Option, codes, false, IsTrue, IfOk, OnErr};
+ghost use Rattle.std.specs.Prelude.{◌≡◌, ◌≢◌, ℕ, List, Option, Some, codes, false, IfOk};
+ghost use Rattle.std.specs.Result.{IfErr};
+ghost use Rattle.dnorm.specs.declared.files.FilesFault.{FilesFault};
 
 use dn_line::Source;
 use thiserror::Error;
@@ -23,8 +25,8 @@ pub trait Files {
     /// The bytes behind a name, where they are known.
     ghost behind: { Self → List ℕ → Option (List ℕ) };
 
-    /// Whether it failed to hand out a text.
-    ghost has_failed: { Self → Bool };
+    /// Why it did not hand out a text that it was asked for; of several, the last.
+    ghost fault: { Self → Option FilesFault };
 
     /// Hands out the text of this name. What is behind the names stays, but for `-` when `-` is taken.
     ///
@@ -34,7 +36,7 @@ pub trait Files {
     fn take(&mut self, name: &str) -> Result<Self::Text, FilesFault>
         ensures text { IfOk result (λ t. Self.Text.gives t ≡ behind self.old name.now) }
         ensures fine { IfOk result (λ t. Self.Text.has_failed t ≡ false) }
-        ensures err { OnErr result (IsTrue (has_failed self.new)) }
-        ensures stays { IsTrue (has_failed self.old) → IsTrue (has_failed self.new) }
+        ensures err { IfErr result (λ f. fault self.new ≡ Some f) }
+        ensures stays { IfOk result (λ t. fault self.new ≡ fault self.old) }
         ensures others { (other : List ℕ) → (name.now ≡ codes "-" → other ≢ codes "-") → behind self.new other ≡ behind self.old other };
 }

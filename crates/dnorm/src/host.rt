@@ -1,5 +1,5 @@
 // A run on the host.
-ghost use Rattle.std.specs.Prelude.{◌≡◌, ◌≤◌, None, IfOk, false};
+ghost use Rattle.std.specs.Prelude.{◌≡◌, ◌≤◌, None, IfOk};
 
 use crate::fault_line::put_fault_line;
 use crate::files::{Files, FilesFault};
@@ -15,18 +15,15 @@ use std::{env, fs, io};
 #[derive(Drop)]
 pub struct HostFiles<'a, R> {
     host: &'a R,
-    failed: bool,
+    fault: Option<FilesFault>,
 }
 
 impl<'a, R> HostFiles<'a, R> {
     /// No text was asked for yet.
     pub fn new(host: &'a R) -> HostFiles<'a, R>
-        ensures { result.failed ≡ false }
+        ensures { result.fault ≡ None }
     {
-        HostFiles {
-            host,
-            failed: false,
-        }
+        HostFiles { host, fault: None }
     }
 }
 
@@ -53,7 +50,7 @@ impl<'a, R: fs::Files + Input> Files for HostFiles<'a, R> {
 
     ghost behind = { λ _ _. None };
 
-    ghost has_failed = { λ s. s.failed };
+    ghost fault = { λ s. s.fault };
 
     fn take(&mut self, name: &str) -> Result<FromRead<HostText<R::Reader, R::File>>, FilesFault> {
         if name == "-" {
@@ -62,8 +59,9 @@ impl<'a, R: fs::Files + Input> Files for HostFiles<'a, R> {
         match fs::open(self.host, name) {
             Ok(file) => Ok(FromRead::new(HostText::File(file))),
             Err(error) => {
-                self.failed = true;
-                Err(fault_of(&error))
+                let fault = fault_of(&error);
+                self.fault = Some(fault);
+                Err(fault)
             }
         }
     }

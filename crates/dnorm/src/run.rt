@@ -1,8 +1,10 @@
 // A run of the program, over any files and any streams.
-ghost use Rattle.std.specs.Prelude.{◌≡◌, ◌≢◌, ◌≤◌, ◌⊎◌, ℕ, List, Option, Some, None, Err, map, string_bytes, IfSome};
+ghost use Rattle.std.specs.Prelude.{◌≡◌, ◌≢◌, ◌≤◌, ◌⊎◌, ℕ, List, Option, Some, None, map, string_bytes, IfSome};
+ghost use Rattle.dn_instance.specs.Instances.{Instance};
+ghost use Rattle.dn_instance.specs.Texts.{Reads};
 ghost use Rattle.dnorm.specs.Commands.{Canon, asked};
 ghost use Rattle.dnorm.specs.FaultLines.{bad_command_line};
-ghost use Rattle.dnorm.specs.Runs.{CanonEnds, CanonRun, IsWhy, TakesLine, refusal_status, status};
+ghost use Rattle.dnorm.specs.Runs.{CanonRun, IsTooLarge, Ran, TakesLine, Unput, refusal_status};
 
 use crate::command::{Command, command_of};
 use crate::fault_line::put_fault_line;
@@ -25,7 +27,9 @@ pub fn run<F: Files, O: Sink, E: Sink>(
     ensures status { result ≤ 4 }
     ensures unput { (result ≡ 2) ⊎ (result ≡ 3) → out.new ≡ out.old }
     ensures canon { (name : List ℕ) → asked (map string_bytes words.now) ≡ Some (Canon name)
-        → IfSome (F.behind files.old name) (λ b. CanonRun (F.has_failed files.new) F.Text.has_failed O.taken O.has_failed E.taken E.has_failed out.old out.new err.old err.new name b result) }
+        → CanonRun (F.behind files.old name) (F.fault files.new) F.Text.has_failed F.Text.gives O.taken O.has_failed E.taken E.has_failed out.old out.new err.old err.new name result }
+    ensures refused { (name : List ℕ) → asked (map string_bytes words.now) ≡ Some (Canon name)
+        → result ≡ 2 → IfSome (F.behind files.old name) (λ b. (I : Instance) → Reads b I → IsTooLarge I) }
     ensures never { (name : List ℕ) → asked (map string_bytes words.now) ≡ Some (Canon name) → (result ≢ 1) × (result ≢ 3) }
     ensures other { asked (map string_bytes words.now) ≡ None → (result ≡ 3) × (files.new ≡ files.old) × TakesLine E.taken E.has_failed err.old err.new bad_command_line }
 {
@@ -53,7 +57,8 @@ fn canon<F: Files, O: Sink, E: Sink>(
     err: &mut E,
 ) -> u8
     ensures statuses { (result ≡ 0) ⊎ (result ≡ 2) ⊎ (result ≡ 4) }
-    ensures ends { IfSome (F.behind files.old name.now) (λ b. CanonRun (F.has_failed files.new) F.Text.has_failed O.taken O.has_failed E.taken E.has_failed out.old out.new err.old err.new name.now b result) }
+    ensures ran { CanonRun (F.behind files.old name.now) (F.fault files.new) F.Text.has_failed F.Text.gives O.taken O.has_failed E.taken E.has_failed out.old out.new err.old err.new name.now result }
+    ensures refused { result ≡ 2 → IfSome (F.behind files.old name.now) (λ b. (I : Instance) → Reads b I → IsTooLarge I) }
     ensures unput { result ≡ 2 → out.new ≡ out.old }
 {
     match put_canon(alloc, name, files, out) {
@@ -72,9 +77,8 @@ fn put_canon<F: Files, O: Sink>(
     files: &mut F,
     out: &mut O,
 ) -> Result<(), Refusal>
-    ensures ends { IfSome (F.behind files.old name.now) (λ b. CanonEnds (F.has_failed files.new) F.Text.has_failed O.taken O.has_failed out.old out.new b (status result)) }
-    ensures unput { status result ≡ 2 → out.new ≡ out.old }
-    ensures why { (refusal : Refusal) → result ≡ Err refusal → IfSome (F.behind files.old name.now) (λ b. IsWhy b refusal) }
+    ensures ran { IfSome (F.behind files.old name.now) (λ b. Ran (F.fault files.new) F.Text.has_failed F.Text.gives O.taken O.has_failed out.old out.new b result) }
+    ensures unput { Unput out.old out.new result }
 {
     match files.take(name) {
         Ok(text) => {

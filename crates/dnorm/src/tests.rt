@@ -37,8 +37,8 @@ struct OneText<'a> {
     name: &'a str,
     text: &'a [u8],
     pulls: usize,
-    fault: FilesFault,
-    failed: bool,
+    other: FilesFault,
+    fault: Option<FilesFault>,
 }
 
 impl<'a> OneText<'a> {
@@ -47,8 +47,8 @@ impl<'a> OneText<'a> {
             name,
             text,
             pulls: usize::MAX,
-            fault: FilesFault::Device,
-            failed: false,
+            other: FilesFault::Device,
+            fault: None,
         }
     }
 }
@@ -58,12 +58,12 @@ impl<'a> Files for OneText<'a> {
 
     ghost behind = { λ s _. Some s.text.now };
 
-    ghost has_failed = { λ s. s.failed };
+    ghost fault = { λ s. s.fault };
 
     fn take(&mut self, name: &str) -> Result<Pulled<'a>, FilesFault> {
         if name != self.name {
-            self.failed = true;
-            return Err(self.fault);
+            self.fault = Some(self.other);
+            return Err(self.other);
         }
         Ok(Pulled {
             text: Slice::new(self.text),
@@ -192,7 +192,7 @@ fn faults_of_files(rt: HostRuntime) -> Result<(), Fail> {
     ];
     for (fault, line) in faults {
         let mut files = OneText::new("g.gr", ROADS);
-        files.fault = fault;
+        files.other = fault;
         let (status, out, err) = ran(rt.alloc(), &["dnorm", "canon", "missing"], &mut files)?;
         assert_eq!(rt; status, 4, "{line}");
         assert!(rt; out.taken().is_empty(), "{line}");

@@ -1,6 +1,6 @@
 use Rattle.std.proofs.Common.{rules, sym, ◌∙◌, ◌<◌, ◌^◌, length}
 use Rattle.dn_instance.proofs.ValidLaws.{reads_valid}
-use Rattle.dn_canon.proofs.JudgeLaws.{judged_text, not_so_large, refused_text, too_large}
+use Rattle.dn_canon.proofs.JudgeLaws.{judged_text, not_so_large, refused_text, too_large, wants_memory}
 use Rattle.dn_canon.proofs.canon.is_canon.Goals as goal
 
 pub returns-in-Ok-canon_text : goal.returns-in-Ok-canon_text
@@ -18,7 +18,7 @@ returns-in-Err-CountTooLarge c =
     not_so_large c.args.form c.args.text.now o.0 o.1 k.0 k.1 k.2 small
 
 pub returns-in-Ok : goal.returns-in-Ok
-returns-in-Ok c = tt
+returns-in-Ok c = (let o = c.in-Ok.ensures in wants_memory c.args.text.now o.0 o.1)
 
 pub returns : goal.returns
 returns c = refused_text c.args.form c.args.text.now c.in-Err.refusal c.in-Err.ensures

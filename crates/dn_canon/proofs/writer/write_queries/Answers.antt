@@ -1,8 +1,9 @@
 use Rattle.std.proofs.Common.{◌+◌, [], map, drop, ap, ◌++◌, pos}
+use Rattle.std.proofs.lemmas.List.{drop_more}
 use Rattle.dn_canon.specs.Prints.{query_row, print}
 use Rattle.dn_canon.specs.Writes.{text_of}
 use Rattle.dn_instance.specs.Instances.{Queries}
-use Rattle.dn_canon.proofs.PutLaws.{put_from, put_stop, put_last, row_more, row_stop, rows_done, stopped, drop_here}
+use Rattle.dn_canon.proofs.PutLaws.{put_from, put_stop, put_last, row_more, row_stop, rows_done, stopped}
 use Rattle.dn_canon.proofs.writer.write_queries.Goals as goal
 
 pub returns-in_err-put-clause-text : goal.returns-in_err-put-clause-text
@@ -13,10 +14,10 @@ returns-in_err-put-clause-text g c =
 pub returns-in_err-put-2-clause-text : goal.returns-in_err-put-2-clause-text
 returns-in_err-put-2-clause-text g c =
     stopped c.from_residual-in_err-put-2.result c.from_residual-in_err-put-2.ensures.0
-    (row_stop query_row (drop c.loop-query.query-index c.args.queries.now) (drop (c.loop-query.query-index + 1) c.args.queries.now) _ (drop_here c.args.queries.now c.loop-query.query-index (pos 0, pos 0) c.loop-query-test.true) c.query_line.ensures c.loop-query.invariant c.in_err-put-2.ensures)
+    (row_stop query_row (drop c.loop-query.query-index c.args.queries.now) (drop (c.loop-query.query-index + 1) c.args.queries.now) _ (drop_more c.args.queries.now c.loop-query.query-index (pos 0, pos 0) c.loop-query-test.true) c.query_line.ensures c.loop-query.invariant c.in_err-put-2.ensures)
 
 pub loop-query-preserved : goal.loop-query-preserved
-loop-query-preserved g c = row_more query_row (drop c.loop-query.query-index c.args.queries.now) (drop (c.loop-query.query-index + 1) c.args.queries.now) _ (drop_here c.args.queries.now c.loop-query.query-index (pos 0, pos 0) c.loop-query-test.true) c.query_line.ensures c.loop-query.invariant c.in_ok-put-2.ensures
+loop-query-preserved g c = row_more query_row (drop c.loop-query.query-index c.args.queries.now) (drop (c.loop-query.query-index + 1) c.args.queries.now) _ (drop_more c.args.queries.now c.loop-query.query-index (pos 0, pos 0) c.loop-query-test.true) c.query_line.ensures c.loop-query.invariant c.in_ok-put-2.ensures
 
 pub returns-clause-text : goal.returns-clause-text
 returns-clause-text g c =

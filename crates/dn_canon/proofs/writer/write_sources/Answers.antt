@@ -1,8 +1,9 @@
 use Rattle.std.proofs.Common.{◌+◌, [], map, drop, ap, ◌++◌, pos}
+use Rattle.std.proofs.lemmas.List.{drop_more}
 use Rattle.dn_canon.specs.Prints.{source_row, print}
 use Rattle.dn_canon.specs.Writes.{text_of}
 use Rattle.dn_instance.specs.Instances.{Sources}
-use Rattle.dn_canon.proofs.PutLaws.{put_from, put_stop, put_last, row_more, row_stop, rows_done, stopped, drop_here}
+use Rattle.dn_canon.proofs.PutLaws.{put_from, put_stop, put_last, row_more, row_stop, rows_done, stopped}
 use Rattle.dn_canon.proofs.writer.write_sources.Goals as goal
 
 pub returns-in_err-put-clause-text : goal.returns-in_err-put-clause-text
@@ -13,10 +14,10 @@ returns-in_err-put-clause-text g c =
 pub returns-in_err-put-2-clause-text : goal.returns-in_err-put-2-clause-text
 returns-in_err-put-2-clause-text g c =
     stopped c.from_residual-in_err-put-2.result c.from_residual-in_err-put-2.ensures.0
-    (row_stop source_row (drop c.loop-id.id-index c.args.ids.now) (drop (c.loop-id.id-index + 1) c.args.ids.now) _ (drop_here c.args.ids.now c.loop-id.id-index (pos 0) c.loop-id-test.true) c.source_line.ensures c.loop-id.invariant c.in_err-put-2.ensures)
+    (row_stop source_row (drop c.loop-id.id-index c.args.ids.now) (drop (c.loop-id.id-index + 1) c.args.ids.now) _ (drop_more c.args.ids.now c.loop-id.id-index (pos 0) c.loop-id-test.true) c.source_line.ensures c.loop-id.invariant c.in_err-put-2.ensures)
 
 pub loop-id-preserved : goal.loop-id-preserved
-loop-id-preserved g c = row_more source_row (drop c.loop-id.id-index c.args.ids.now) (drop (c.loop-id.id-index + 1) c.args.ids.now) _ (drop_here c.args.ids.now c.loop-id.id-index (pos 0) c.loop-id-test.true) c.source_line.ensures c.loop-id.invariant c.in_ok-put-2.ensures
+loop-id-preserved g c = row_more source_row (drop c.loop-id.id-index c.args.ids.now) (drop (c.loop-id.id-index + 1) c.args.ids.now) _ (drop_more c.args.ids.now c.loop-id.id-index (pos 0) c.loop-id-test.true) c.source_line.ensures c.loop-id.invariant c.in_ok-put-2.ensures
 
 pub returns-clause-text : goal.returns-clause-text
 returns-clause-text g c =
