@@ -1,13 +1,17 @@
 -- What is answered of a text as its source gives it.
-use Rattle.std.proofs.Common.{◌≡◌, ℕ, ◌≤◌, ◌^◌, List, ◌++◌, append_assoc, length, Option, Some, None, Ok, Err, refl, sym, ap, ◌∙◌, subst, arith, IfSome}
-use Rattle.std.specs.Io.KnownBytes.{Consumes}
+use Rattle.std.proofs.Common.{◌≡◌, inl, inr, ℕ, ◌<◌, ◌≤◌, ◌^◌, List, [], ◌++◌, append_assoc, append-nil, length, Bool, true, false, ◌==◌, Option, Some, None, Result, Ok, Err, refl, sym, ap, ◌∙◌, subst, arith, IfSome, IsErr, IsErrAnd}
+use Rattle.std.specs.Io.KnownBytes.{Consumes, IsAtEnd}
+use Rattle.std.proofs.KnownBytes.{Consumes-trans}
+use Rattle.std.proofs.lemmas.Bool.{eqb-true, eqb-false}
+use Rattle.std.proofs.lemmas.List.{nil_from_length}
 use Rattle.dn_line.specs.Pieces.{lines}
 use Rattle.dn_instance.specs.declared.place.Place.TheVariants as Places
+use Rattle.dn_instance.specs.declared.held.Held.{Held}
 use Rattle.dn_instance.specs.declared.reader.Reader.{Reader}
 use Rattle.dn_instance.specs.declared.refusal.Refusal.{Refusal}
 use Rattle.dn_instance.specs.declared.refusal.Refusal.TheVariants.{Text, Memory, Read, Endless, Write, CountTooLarge}
-use Rattle.dn_instance.specs.Readers.{ended, IsRefused, StandsFor, answer_of}
-use Rattle.dn_instance.specs.SourceReads.{SourceOutcome}
+use Rattle.dn_instance.specs.Readers.{ended, IsRefused, Outcome, StandsFor, answer_of}
+use Rattle.dn_instance.specs.SourceReads.{SourceOutcome, Copied, CopyOutcome}
 use Rattle.dn_instance.proofs.PieceSteps.{More, ended_more, lines_more}
 use Rattle.dn_instance.proofs.ReaderLaws.{reading, refused_on}
 
@@ -28,11 +32,17 @@ front_lines given rest =
     record { rest = m.rest ++ n.rest; whole = n.whole ∙ ap (λ l. l ++ n.rest) m.whole ∙ append_assoc (ended given) m.rest n.rest }
 
 -- refused at what was given
-pub refused_given : (old new : Option (List ℕ)) (given : List ℕ) (e : Refusal) → Consumes old new given → IsRefused 0 (ended given) e → IfSome old (λ t. SourceOutcome t new (Err e))
+refused_given : (old new : Option (List ℕ)) (given : List ℕ) (e : Refusal) → Consumes old new given → IsRefused 0 (ended given) e → IfSome old (λ t. SourceOutcome t new (Err e))
 refused_given None new given e c h = tt
 refused_given (Some t) None given e c h = absurd c
 refused_given (Some t) (Some rest) given e c h =
     told_source t (Some rest) e (refused_on 0 0 (ended given) (lines t) e (omega arith) (subst (λ x. More (ended given) (lines x)) (sym c) (front_lines given rest)) h)
+
+-- the same of an answer that is a refusal
+pub refused_by : (r : Result Held Refusal) (old new : Option (List ℕ)) (given : List ℕ) (e : Refusal) → Consumes old new given → IsRefused 0 (ended given) e → IsErr r × IsErrAnd r (λ x. x ≡ e)
+    → IfSome old (λ t. SourceOutcome t new r)
+refused_by (Ok held) old new given e c h is = absurd is.1
+refused_by (Err x) old new given e c h is = subst (λ a. IfSome old (λ t. SourceOutcome t new (Err a))) (sym is.1) (refused_given old new given e c h)
 
 -- the source has no end
 pub endless_given : (old new : Option (List ℕ)) (given : List ℕ) (r : Reader) (count : ℕ) → Consumes old new given → StandsFor r given → r.refusal ≡ None → count ≤ length given → 2 ^ 40 ≤ count → IfSome old (λ t. SourceOutcome t new (Err Endless))
@@ -44,3 +54,68 @@ endless_given (Some t) (Some rest) given r count c s none h k =
 pub not_refused : (o : Option Refusal) → Ok tt ≡ answer_of o → o ≡ None
 not_refused None e = refl
 not_refused (Some x) e = cc
+
+-- whether a piece has bytes
+pub has_none : (piece : List ℕ) (test : Bool) → test ≡ (length piece == 0) → test ≡ true → piece ≡ []
+has_none piece test is e = nil_from_length piece (eqb-true (length piece) 0 (sym is ∙ e))
+
+pub has_some : (piece : List ℕ) (test : Bool) → test ≡ (length piece == 0) → test ≡ false → 0 < length piece
+has_some piece test is e = let some = eqb-false (length piece) 0 (sym is ∙ e) in omega arith
+
+-- an empty piece adds nothing
+pub given_at_end : (old mid new : Option (List ℕ)) (given piece : List ℕ) → piece ≡ [] → Consumes old mid given → Consumes mid new piece → Consumes old new given
+given_at_end old mid new given piece none c d = subst (λ l. Consumes old new l) (ap (λ l. given ++ l) none ∙ append-nil given) (Consumes-trans old mid new given piece c d)
+
+told_end : (t : List ℕ) (new : Option (List ℕ)) (r : Result Held Refusal) → IsAtEnd new → Outcome t r → SourceOutcome t new r
+told_end t new (Ok held) e h = (h, e)
+told_end t new (Err (Text place code)) e h = h
+told_end t new (Err Memory) e h = h
+told_end t new (Err Read) e h = absurd h
+told_end t new (Err Endless) e h = absurd h
+told_end t new (Err Write) e h = absurd h
+told_end t new (Err CountTooLarge) e h = absurd h
+
+-- the source is at its end, and all that it gave is read
+pub ended_given : (old new : Option (List ℕ)) (given : List ℕ) (r : Result Held Refusal) → Consumes old new given → IsAtEnd new → Outcome given r → IfSome old (λ t. SourceOutcome t new r)
+ended_given None new given r c e h = tt
+ended_given (Some t) None given r c e h = absurd c
+ended_given (Some t) (Some rest) given r c e h = told_end t (Some rest) r e (subst (λ l. Outcome l r) (sym (c ∙ ap (λ l. given ++ l) e ∙ append-nil given)) h)
+
+told_copy : (t : List ℕ) (new : Option (List ℕ)) (old_copy new_copy : List ℕ) (r : Result Held Refusal) → SourceOutcome t new r → Copied t new old_copy new_copy → CopyOutcome t new old_copy new_copy r
+told_copy t new old_copy new_copy (Ok held) h k = (h, k)
+told_copy t new old_copy new_copy (Err (Text place code)) h k = (h, k)
+told_copy t new old_copy new_copy (Err Memory) h k = inl (h, k)
+told_copy t new old_copy new_copy (Err Read) h k = (h, k)
+told_copy t new old_copy new_copy (Err Endless) h k = (h, k)
+told_copy t new old_copy new_copy (Err Write) h k = absurd h
+told_copy t new old_copy new_copy (Err CountTooLarge) h k = absurd h
+
+-- the copy has gained what the source gave
+pub copied : (old new : Option (List ℕ)) (given old_copy new_copy : List ℕ) (r : Result Held Refusal) → Consumes old new given → new_copy ≡ old_copy ++ given
+    → IfSome old (λ t. SourceOutcome t new r) → IfSome old (λ t. CopyOutcome t new old_copy new_copy r)
+copied None new given old_copy new_copy r c k h = tt
+copied (Some t) None given old_copy new_copy r c k h = absurd c
+copied (Some t) (Some rest) given old_copy new_copy r c k h = told_copy t (Some rest) old_copy new_copy r h (record { given = given; rest = rest; whole = c; rest_is = refl; copy = k })
+
+-- the copy lacked memory for a piece
+uncopied_given : (old mid new : Option (List ℕ)) (given piece old_copy new_copy : List ℕ) (r : Reader) → Consumes old mid given → Consumes mid new piece → 0 < length piece → new_copy ≡ old_copy ++ given → StandsFor r given → r.refusal ≡ None
+    → IfSome old (λ t. CopyOutcome t new old_copy new_copy (Err Memory))
+uncopied_given None mid new given piece old_copy new_copy r c d l k s none = tt
+uncopied_given (Some t) None new given piece old_copy new_copy r c d l k s none = absurd c
+uncopied_given (Some t) (Some both) None given piece old_copy new_copy r c d l k s none = absurd d
+uncopied_given (Some t) (Some both) (Some rest) given piece old_copy new_copy r c d l k s none = inr (record {
+  given = given;
+  piece = piece;
+  rest = rest;
+  whole = c ∙ ap (λ l. given ++ l) d;
+  rest_is = refl;
+  some = l;
+  copy = k;
+  clean = (reading r given none s).read.clean;
+})
+
+pub uncopied : (a : Result Held Refusal) (old mid new : Option (List ℕ)) (given piece old_copy new_copy : List ℕ) (e : Refusal) (r : Reader) → Consumes old mid given → Consumes mid new piece → 0 < length piece → new_copy ≡ old_copy ++ given → StandsFor r given → r.refusal ≡ None → e ≡ Memory → IsErr a × IsErrAnd a (λ x. x ≡ e)
+    → IfSome old (λ t. CopyOutcome t new old_copy new_copy a)
+uncopied (Ok held) old mid new given piece old_copy new_copy e r c d l k s none memory is = absurd is.1
+uncopied (Err x) old mid new given piece old_copy new_copy e r c d l k s none memory is =
+    subst (λ a. IfSome old (λ t. CopyOutcome t new old_copy new_copy (Err a))) (sym (is.1 ∙ memory)) (uncopied_given old mid new given piece old_copy new_copy r c d l k s none)

@@ -24,7 +24,7 @@ pub mod view;
 pub use companion::{CompanionFault, check_companion};
 pub use held::Held;
 pub use place::Place;
-pub use read::{read_from, read_text};
+pub use read::{read_from, read_keep, read_text};
 pub use reader::Reader;
 pub use refusal::Refusal;
 pub use table::{Pairs, Table};

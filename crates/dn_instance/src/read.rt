@@ -1,7 +1,8 @@
 // A whole text, from memory or from a source.
-ghost use Rattle.std.specs.Prelude.{IsTrue, IfErr, IfSome, IsErrOf};
+ghost use Rattle.std.specs.Prelude.{◌≡◌, ◌<◌, [], ◌++◌, ℕ, List, length, IsTrue, IfOk, IfErr, IfSome, OnOk, OnErr, IsErrOf};
+ghost use Rattle.std.specs.Io.KnownBytes.{Consumes, IsAtEnd, Keeps};
 ghost use Rattle.dn_instance.specs.Readers.{Outcome};
-ghost use Rattle.dn_instance.specs.SourceReads.{IsOfReading, SourceOutcome};
+ghost use Rattle.dn_instance.specs.SourceReads.{CopyOutcome, IsOfReading, SourceOutcome};
 
 use crate::held::Held;
 use crate::reader::Reader;
@@ -23,6 +24,22 @@ pub fn read_text(alloc: Global, text: &[u8]) -> Result<Held, Refusal>
     }
 }
 
+// The next bytes of a source, in this room; none only at the end. Answers `Read` where it failed.
+fn next_piece<'a, S: Source>(source: &mut S, room: &'a mut [u8]) -> Result<&'a [u8], Refusal>
+    requires { 0 < length room.old }
+    ensures bytes { IfOk result (λ piece. Consumes (S.gives source.old) (S.gives source.new) piece.now) }
+    ensures end { IfOk result (λ piece. piece.now ≡ [] → IsAtEnd (S.gives source.new)) }
+    ensures unread { OnErr result (Keeps (S.gives source.old) (S.gives source.new)) }
+    ensures refusal { IfErr result (λ refusal. refusal ≡ Refusal.Read) }
+    ensures err { OnErr result (IsTrue (S.has_failed source.new)) }
+    ensures stays { IsTrue (S.has_failed source.old) → IsTrue (S.has_failed source.new) }
+{
+    match source.pull(room) {
+        Ok(n) => Ok(&room[..n]),
+        Err(_) => Err(Refusal::Read),
+    }
+}
+
 /// What the text that a source gives reads as, or its first fault. Pulls no more after a fault. Answers `Read` where
 /// the source failed, and `Endless` where 2^40 pulls gave bytes and no end came.
 pub fn read_from<S: Source>(alloc: Global, source: &mut S) -> Result<Held, Refusal>
@@ -34,14 +51,50 @@ pub fn read_from<S: Source>(alloc: Global, source: &mut S) -> Result<Held, Refus
     let mut reader = Reader::new(alloc);
     let mut room = [0u8; 4096];
     for _ in 0..PULLS {
-        match source.pull(&mut room) {
-            Ok(0) => return reader.finish(),
-            Ok(n) => match reader.feed(&room[..n]) {
-                Ok(()) => {}
-                Err(refusal) => return Err(refusal),
-            },
-            Err(_) => return Err(Refusal::Read),
+        let piece = next_piece(source, &mut room)?;
+        if piece.is_empty() {
+            return reader.finish();
         }
+        reader.feed(piece)?;
     }
     Err(Refusal::Endless)
+}
+
+/// As `read_from`, and each piece is added to `text` before it is read: `text` gains all that the source gives, but for
+/// a piece for which memory was wanted. `Memory` for the copy comes only while no line of the earlier pieces that an LF
+/// has ended is faulty.
+pub fn read_keep<S: Source>(
+    alloc: Global,
+    source: &mut S,
+    text: &mut Vec<u8>,
+) -> Result<Held, Refusal>
+    ensures front { (more : List ℕ) × (text.new.items ≡ text.old.items ++ more) }
+    ensures outcome { IfSome (S.gives source.old) (λ t. CopyOutcome t (S.gives source.new) text.old.items text.new.items result) }
+    ensures refusal { IfErr result IsOfReading }
+    ensures read { IsErrOf result Refusal.Read → IsTrue (S.has_failed source.new) }
+    ensures stays { IsTrue (S.has_failed source.old) → IsTrue (S.has_failed source.new) }
+{
+    let mut reader = Reader::new(alloc);
+    let mut room = [0u8; 4096];
+    for _ in 0..PULLS {
+        let piece = next_piece(source, &mut room)?;
+        if piece.is_empty() {
+            return reader.finish();
+        }
+        keep_piece(text, piece)?;
+        reader.feed(piece)?;
+    }
+    Err(Refusal::Endless)
+}
+
+// Adds a piece to a copy. On want of memory nothing has changed.
+fn keep_piece(text: &mut Vec<u8>, piece: &[u8]) -> Result<(), Refusal>
+    ensures ok { OnOk result (text.new.items ≡ text.old.items ++ piece.now) }
+    ensures err { OnErr result (text.new.items ≡ text.old.items) }
+    ensures memory { IfErr result (λ refusal. refusal ≡ Refusal.Memory) }
+{
+    match text.extend_from_slice(piece) {
+        Ok(()) => Ok(()),
+        Err(_) => Err(Refusal::Memory),
+    }
 }

@@ -5,11 +5,11 @@ mod cases;
 
 use crate::{
     CompanionFault, Held, Place, Reader, Refusal, Table, View, check_companion, read_from,
-    read_text,
+    read_keep, read_text,
 };
 use cases::{
     ACCEPTED, CAPACITIES, COSTS, ENDS, FIRST_LINES, Faulty, LATER_LINES, LENGTHS, NODES_AND_ARCS,
-    NOTHING, POINTS, QUERIES, SOURCES, SUPPLIES, USUAL,
+    NOTHING, OTHER_COSTS, POINTS, QUERIES, SOURCES, SUPPLIES, USUAL,
 };
 use dn_bundle::{Fixed, Least};
 use dn_line::{Code, Kind, Slice, Source, SourceFault};
@@ -18,7 +18,7 @@ use std::process::Abort;
 use std::test::Fail;
 
 // Gives at most so many bytes a pull, and fails after so many pulls.
-#[derive(Drop)]
+#[derive(Clone, Copy)]
 struct Slow<'a> {
     rest: &'a [u8],
     size: usize,
@@ -96,16 +96,31 @@ fn is_so_in_two_pieces(alloc: Global, text: &[u8], fault: Option<Refusal>) -> bo
     true
 }
 
+// Whether a source is read with this answer, with a copy and without, and the copy gains what was pulled.
+fn is_so_of(alloc: Global, source: Slow, answer: Option<Refusal>) -> bool {
+    let text = source.rest;
+    let mut alone = source;
+    let mut copied = source;
+    let mut copy = Vec::new(alloc);
+    refusal(read_from(alloc, &mut alone)) == answer
+        && refusal(read_keep(alloc, &mut copied, &mut copy)) == answer
+        && copy.as_slice() == &text[..text.len() - copied.rest.len()]
+}
+
 // Whether it is so of sources that do not fail, whatever they give a pull.
 fn is_so_of_sources(alloc: Global, text: &[u8], fault: Option<Refusal>) -> bool {
-    let mut slow = Slow {
-        rest: text,
-        size: 1,
-        pulls: usize::MAX,
-        failed: false,
-    };
+    for size in [1, 4096] {
+        let source = Slow {
+            rest: text,
+            size,
+            pulls: usize::MAX,
+            failed: false,
+        };
+        if !is_so_of(alloc, source, fault) {
+            return false;
+        }
+    }
     refusal(read_from(alloc, &mut Slice::new(text))) == fault
-        && refusal(read_from(alloc, &mut slow)) == fault
 }
 
 // Whether a source that fails at any pull gives the fault of a line that came whole before, or else `Read`.
@@ -115,13 +130,13 @@ fn is_so_of_failing(alloc: Global, text: &[u8], fault: Option<Refusal>) -> bool 
             Ok(()) => Refusal::Read,
             Err(refusal) => refusal,
         };
-        let mut source = Slow {
+        let source = Slow {
             rest: text,
             size: 1,
             pulls,
             failed: false,
         };
-        if refusal(read_from(alloc, &mut source)) != Some(answer) {
+        if !is_so_of(alloc, source, Some(answer)) {
             return false;
         }
     }
@@ -392,9 +407,11 @@ fn fed_on(rt: &impl Abort, alloc: Global, text: &str) -> Option<Refusal> {
 fn a_refused_growth(rt: HostRuntime) {
     let mut refused = 0;
     for text in TOLD {
+        let mut copy = Vec::new(rt.alloc());
         let answers = [
             refusal(read_text(rt.alloc(), text.as_bytes())),
             refusal(read_from(rt.alloc(), &mut Slice::new(text.as_bytes()))),
+            refusal(read_keep(rt.alloc(), &mut Slice::new(text.as_bytes()), &mut copy)),
             fed_on(&rt, rt.alloc(), text),
         ];
         for answer in answers {
@@ -404,6 +421,16 @@ fn a_refused_growth(rt: HostRuntime) {
             }
         }
     }
+}
+
+#[test]
+fn a_copy_is_added(rt: HostRuntime) -> Result<(), Fail> {
+    let mut copy = Vec::new(rt.alloc());
+    copy.extend_from_slice(b"before")?;
+    let held = read_keep(rt.alloc(), &mut Slice::new(b"p sp 1 0"), &mut copy)?;
+    assert_eq!(rt; held.nodes(), 1);
+    assert_eq!(rt; copy.as_slice(), b"beforep sp 1 0".as_slice());
+    Ok(())
 }
 
 #[test]
@@ -441,10 +468,11 @@ fn names(rt: HostRuntime) {
 }
 
 // Texts, and the entries of a reader after each of their lines.
-const ENTRIES: [(&str, &[u64]); 4] = [
+const ENTRIES: [(&str, &[u64]); 5] = [
     (LENGTHS, &[0, 1, 1, 2, 2, 3, 4, 5]),
     (CAPACITIES, &[0, 0, 0, 0, 1, 2, 2]),
     (COSTS, &[0, 2, 3, 4]),
+    (OTHER_COSTS, &[0, 1, 2, 3, 4, 4, 4, 4]),
     (QUERIES, &[0, 1, 2]),
 ];
 

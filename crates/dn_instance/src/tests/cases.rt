@@ -131,7 +131,7 @@ pub(super) const ACCEPTED: [&str; 21] = [
     "p min 2 2\na 1 2 3 5 2\na 1 2 0 1 2\n",
     "p min 2 2\na 1 2 1 2 0\na 1 2 1 3 1\n",
     "p min 2 2\na 1 2 1 1 0\na 1 2 1 1 4\n",
-    "p min 2 7\na 1 2 0 1 3\na 1 2 0 3 1\na 1 2 1 1 4\na 1 2 0 1 0\na 1 2 0 1 1\na 1 2 1 1 -1\na 1 2 0 1 0\n",
+    OTHER_COSTS,
     "p min 2 2\na 1 2 4611686018427387904 4611686018427387904 -9223372036854775808\na 1 2 4611686018427387903 4611686018427387903 9223372036854775807\n",
 ];
 
@@ -148,6 +148,10 @@ pub(super) const CAPACITIES: &str = "p max 3 4\nn 3 t\nn 1 s\na 2 3 0\na 1 2 4\n
 
 // Forced units and free capacity.
 pub(super) const COSTS: &str = "p min 2 3\na 1 2 1 3 0\na 1 2 1 2 3\na 1 2 0 4 1\n";
+
+// Another text of the same curve.
+pub(super) const OTHER_COSTS: &str =
+    "p min 2 7\na 1 2 0 1 3\na 1 2 0 3 1\na 1 2 1 1 4\na 1 2 0 1 0\na 1 2 0 1 1\na 1 2 1 1 -1\na 1 2 0 1 0\n";
 
 // A supply and a demand.
 pub(super) const SUPPLIES: &str =

@@ -1,36 +1,39 @@
-use Rattle.std.proofs.Common.{◌++◌, take, length-append, length-take-le, arith}
+use Rattle.std.proofs.Common.{◌++◌, length-append, arith}
 use Rattle.std.proofs.KnownBytes.{Consumes-trans}
-use Rattle.dn_instance.proofs.SourceLaws.{refused_given, endless_given, not_refused}
+use Rattle.dn_instance.proofs.SourceLaws.{given_at_end, ended_given, refused_by, endless_given, has_none, has_some, not_refused}
 use Rattle.dn_instance.proofs.read.read_from.Goals as goal
 
-pub returns-in-Err-feed-clause-outcome : goal.returns-in-Err-feed-clause-outcome
-returns-in-Err-feed-clause-outcome g c =
-    let gives = g.S.Source.gives in
+pub returns-then-is_empty-clause-outcome : goal.returns-then-is_empty-clause-outcome
+returns-then-is_empty-clause-outcome g c =
+    let piece = c.in_ok-piece.piece.now in
+    let none = has_none piece _ c.is_empty.ensures c.if-is_empty.true in
+    ended_given _ _ c.loop.invariant.given.0 c.finish.result (given_at_end _ _ _ c.loop.invariant.given.0 piece none c.loop.invariant.given.1 c.in_ok-piece.ensures.bytes) (c.in_ok-piece.ensures.end none)
+    (c.finish.ensures.outcome c.loop.invariant.given.0 c.loop.invariant.given.2)
+
+pub returns-in_err-feed-clause-outcome : goal.returns-in_err-feed-clause-outcome
+returns-in_err-feed-clause-outcome g c =
     let t = c.loop.invariant.given.0 in
-    let more = take c.in-Ok.n c.pull.new.into in
-    refused_given (gives c.args.source.now) (gives c.pull.new.self) (t ++ more) c.in-Err-feed.refusal
-    (Consumes-trans _ _ _ t more c.loop.invariant.given.1 c.in-Ok.ensures.ok.bytes)
-    (c.in-Err-feed.ensures.told t c.loop.invariant.given.2)
+    let piece = c.in_ok-piece.piece.now in
+    refused_by _ _ _ (t ++ piece) c.in_err-feed.field-0.0 (Consumes-trans _ _ _ t piece c.loop.invariant.given.1 c.in_ok-piece.ensures.bytes) (c.in_err-feed.ensures.told t c.loop.invariant.given.2) c.from_residual-in_err-feed.ensures
 
 pub loop-preserved : goal.loop-preserved
 loop-preserved g c =
     let t = c.loop.invariant.given.0 in
-    let more = take c.in-Ok.n c.pull.new.into in
+    let piece = c.in_ok-piece.piece.now in
     record {
       given = (
-        t ++ more,
-        Consumes-trans _ _ _ t more c.loop.invariant.given.1 c.in-Ok.ensures.ok.bytes,
-        c.in-Ok-feed.ensures.stands t c.loop.invariant.given.2,
+        t ++ piece,
+        Consumes-trans _ _ _ t piece c.loop.invariant.given.1 c.in_ok-piece.ensures.bytes,
+        c.in_ok-feed.ensures.stands t c.loop.invariant.given.2,
         (
-            let all = length-append t more in
-            let part = length-take-le c.in-Ok.n c.pull.new.into c.in-Ok.ensures.ok.bound in
+            let all = length-append t piece in
             let so_far = c.loop.invariant.given.3 in
-            let some = c.in-Ok.n-test in
+            let some = has_some piece _ c.is_empty.ensures c.if-is_empty.false in
             omega arith
             ),
       );
-      fine = not_refused _ c.in-Ok-feed.ensures.answer;
-      stays = λ failed. c.pull.ensures.stays (c.loop.invariant.stays failed);
+      fine = not_refused _ c.in_ok-feed.ensures.answer;
+      stays = λ failed. c.next_piece.ensures.stays (c.loop.invariant.stays failed);
     }
 
 pub returns-clause-outcome : goal.returns-clause-outcome
