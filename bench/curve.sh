@@ -1,16 +1,6 @@
 #!/bin/sh
-# How fast arcs of one pair are added to a cost curve: builds the program below over the crates of this repository, in a
-# folder of its own, and times it.
-set -e
-here=$(cd "$(dirname "$0")/.." && pwd)
-place=$(mktemp -d)
-trap 'rm -rf "$place"' EXIT
-mkdir -p "$place/crates/curve_arcs/src" "$place/crates/curve_arcs/specs" "$place/crates/curve_arcs/proofs"
-cp "$here/HANDLES" "$place"
-grep -E '^dn_bundle:' "$here/crates.txt" > "$place/crates.txt"
-echo 'curve_arcs: dn_bundle' >> "$place/crates.txt"
-cp -r "$here/crates/dn_bundle" "$place/crates"
-cat > "$place/crates/curve_arcs/src/main.rt" <<'END2'
+# How fast arcs of one pair are added to a cost curve.
+"$(dirname "$0")/timed.sh" dn_bundle <<'END'
 // How fast arcs of falling cost are added to a curve.
 #![tactic(auto)]
 
@@ -38,7 +28,4 @@ fn main(rt: HostRuntime) {
         let _ = println!(rt; "{costs} costs, {least} for all units");
     }
 }
-END2
-cd "$place/crates/curve_arcs"
-rt run >&2
-time ./out/curve_arcs
+END

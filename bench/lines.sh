@@ -1,16 +1,6 @@
 #!/bin/sh
-# How fast lines are read: builds the program below over the crates of this repository, in a folder of its own, and
-# times it.
-set -e
-here=$(cd "$(dirname "$0")/.." && pwd)
-place=$(mktemp -d)
-trap 'rm -rf "$place"' EXIT
-mkdir -p "$place/crates/lines/src" "$place/crates/lines/specs" "$place/crates/lines/proofs"
-cp "$here/HANDLES" "$place"
-grep -E '^dn_(num|line):' "$here/crates.txt" > "$place/crates.txt"
-echo 'lines: dn_line' >> "$place/crates.txt"
-cp -r "$here/crates/dn_num" "$here/crates/dn_line" "$place/crates"
-cat > "$place/crates/lines/src/main.rt" <<'END'
+# How fast lines are read.
+"$(dirname "$0")/timed.sh" dn_num dn_line <<'END'
 // How fast lines are read.
 #![tactic(auto)]
 
@@ -73,6 +63,3 @@ fn main(rt: HostRuntime) {
     }
 }
 END
-cd "$place/crates/lines"
-rt run >&2
-time ./out/lines
