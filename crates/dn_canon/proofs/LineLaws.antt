@@ -1,8 +1,9 @@
 -- A line word by word.
-use Rattle.std.proofs.Common.{◌≡◌, ℕ, ◌+◌, ◌≤◌, ℤ, List, [], ◌∷◌, ◌++◌, length, map, take, refl, ap, sym, ◌∙◌, append_assoc, append-nil, Some, slice_get}
+use Rattle.std.proofs.Common.{arith, drop, suc, subst, get_or, length-append, ◌≡◌, ℕ, ◌+◌, ◌≤◌, ℤ, List, [], ◌∷◌, ◌++◌, length, map, take, refl, ap, sym, ◌∙◌, append_assoc, append-nil, Some, slice_get}
 use Rattle.std.specs.Fmt.{signed_decimal}
 use Rattle.std.specs.List.{join_with_byte}
 use Rattle.std.proofs.lemmas.List.{take_all, take_more, map-append}
+use Rattle.std.proofs.Math.Seq.{drop-cons}
 use Rattle.std.proofs.lemmas.Option.{slice_get_within, get_or_from_slice_get}
 use Rattle.dn_canon.specs.Lines.{spaced}
 use Rattle.dn_canon.specs.Prints.{line_text}
@@ -32,18 +33,27 @@ pub line_whole : (word line whole : List ℕ) (ns : List ℤ) (i : ℕ) → line
 line_whole word line whole ns i e h f =
     f ∙ ap (λ l. l ++ 10 ∷ []) (e ∙ ap (λ ms. word ++ spaced (map signed_decimal ms)) (take_all i ns h) ∙ sym (joined_spaced word (map signed_decimal ns)))
 
--- the elements up to one and this one
-pub take_get : {X : Type 0} (xs : List X) (i : ℕ) (x : X) → slice_get xs i ≡ Some x → take (i + 1) xs ≡ take i xs ++ x ∷ []
-take_get xs i x e = take_more xs i x (slice_get_within xs i x e) ∙ ap (λ y. take i xs ++ y ∷ []) (get_or_from_slice_get xs i x x e)
+-- digits before a line
+pub digits_within : (line old digits : List ℕ) → line ≡ digits ++ old → length digits ≤ 20 → length line ≤ length old + 20
+digits_within line old digits e h = let n = ap length e in omega (arith, length-append digits old)
 
--- an arc's line: its pair, and its numbers
-pub arc_whole : (word one start line whole : List ℕ) (u v : ℤ) (ns : List ℤ) (i : ℕ) → one ≡ word ++ 32 ∷ signed_decimal u → start ≡ one ++ 32 ∷ signed_decimal v
-    → line ≡ start ++ spaced (map signed_decimal (take i ns)) → length ns ≤ i → whole ≡ line ++ 10 ∷ [] → whole ≡ line_text (word ∷ map signed_decimal (u ∷ v ∷ ns))
-arc_whole word one start line whole u v ns i e f g h k =
-    let a = 32 ∷ signed_decimal u in
-    let b = 32 ∷ signed_decimal v in
-    let rest = spaced (map signed_decimal ns) in
-    let all : line ≡ word ++ (a ++ (b ++ rest)) =
-    g ∙ ap (λ ms. start ++ spaced (map signed_decimal ms)) (take_all i ns h) ∙ ap (λ l. l ++ rest) (f ∙ ap (λ l. l ++ b) e)
-    ∙ append_assoc (word ++ a) b rest ∙ append_assoc word a (b ++ rest) in
-    k ∙ ap (λ l. l ++ 10 ∷ []) (all ∙ sym (joined_spaced word (map signed_decimal (u ∷ v ∷ ns))))
+unary : (i : ℕ) → suc i ≡ i + 1
+unary i = omega arith
+
+-- the elements from one on
+pub drop_get : {X : Type 0} (xs : List X) (i : ℕ) (x : X) → slice_get xs i ≡ Some x → drop i xs ≡ x ∷ drop (i + 1) xs
+drop_get xs i x e = subst (λ k. drop i xs ≡ get_or xs i x ∷ drop k xs) (unary i) (drop-cons xs i x (slice_get_within xs i x e)) ∙ ap (λ y. y ∷ drop (i + 1) xs) (get_or_from_slice_get xs i x x e)
+
+-- one number more before the end
+pub number_before : (line next end : List ℕ) (rest more : List ℤ) (n : ℤ) → line ≡ spaced (map signed_decimal rest) ++ end → next ≡ (32 ∷ signed_decimal n) ++ line → more ≡ n ∷ rest → next ≡ spaced (map signed_decimal more) ++ end
+number_before line next end rest more n e f g =
+    f ∙ ap (λ l. (32 ∷ signed_decimal n) ++ l) e ∙ sym (append_assoc (32 ∷ signed_decimal n) (spaced (map signed_decimal rest)) end)
+    ∙ ap (λ ns. spaced (map signed_decimal ns) ++ end) (sym g)
+
+-- an arc's line from its end: its numbers, and its pair before them
+pub arc_before : (word line one two whole : List ℕ) (u v : ℤ) (ns : List ℤ) → line ≡ spaced (map signed_decimal ns) ++ 10 ∷ []
+    → one ≡ (32 ∷ signed_decimal v) ++ line → two ≡ (32 ∷ signed_decimal u) ++ one → whole ≡ word ++ two → whole ≡ line_text (word ∷ map signed_decimal (u ∷ v ∷ ns))
+arc_before word line one two whole u v ns e f g h =
+    h ∙ ap (λ l. word ++ l) (number_before one two (10 ∷ []) (v ∷ ns) (u ∷ v ∷ ns) u (number_before line one (10 ∷ []) ns (v ∷ ns) v e f refl) g refl)
+    ∙ sym (append_assoc word (spaced (map signed_decimal (u ∷ v ∷ ns))) (10 ∷ []))
+    ∙ ap (λ l. l ++ 10 ∷ []) (sym (joined_spaced word (map signed_decimal (u ∷ v ∷ ns))))

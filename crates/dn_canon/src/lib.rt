@@ -2,6 +2,7 @@
 //! canonical one of an instance; where the bytes of a text go, and how a text is written without memory.
 #![tactic(auto)]
 
+mod back_line;
 pub mod bytes;
 pub mod canon;
 pub mod examples;

@@ -5,6 +5,7 @@ ghost use Rattle.dn_line.specs.declared.word.Keyword.TheVariants.{A, S, T};
 ghost use Rattle.dn_canon.specs.Lines.{spaced};
 ghost use Rattle.dn_canon.specs.Prints.{line_text, row, graph_row, companion_row, supply_row, terminal_row, source_row, query_row, point_row};
 
+use crate::back_line::BackLine;
 use crate::line::Line;
 use dn_bundle::Parts;
 use dn_line::Kind;
@@ -79,19 +80,20 @@ pub(crate) fn end_line(id: &i64) -> Line
     line
 }
 
-// An arc at its ordered pair.
-pub(crate) fn arc_line<P: Parts>(pair: &(i64, i64), arc: &P) -> Line
+// An arc at its ordered pair, in place of what the line was.
+pub(crate) fn arc_line<P: Parts>(line: &mut BackLine, pair: &(i64, i64), arc: &P)
     requires { length (P.numbers arc.now) ≤ 3 }
-    ensures { result ≡ line_text (row A (pair.now.0 ∷ pair.now.1 ∷ P.numbers arc.now)) }
+    ensures { line.new ≡ line_text (row A (pair.now.0 ∷ pair.now.1 ∷ P.numbers arc.now)) }
 {
-    let mut line = Line::new(b"a");
-    line.number(&pair.0);
-    line.number(&pair.1);
-    for i in 0..arc.len() {
-        line.number(&arc.part(i));
+    line.begin();
+    let mut left = arc.len();
+    while 0 < left {
+        left -= 1;
+        line.number(&arc.part(left));
     }
-    line.end();
-    line
+    line.number(&pair.1);
+    line.number(&pair.0);
+    line.byte(b'a');
 }
 
 // A source of queries.

@@ -12,6 +12,7 @@ ghost use Rattle.dn_canon.specs.Puts.{Puts};
 ghost use Rattle.dn_canon.specs.ToldArcs.{placed, told_arcs, told_graph, IsCanonFor};
 ghost use Rattle.dn_canon.specs.Writes.{text_of, node_rows, Writes};
 
+use crate::back_line::BackLine;
 use crate::rows::{
     arc_line, companion_line, end_line, graph_line, point_line, query_line, source_line,
     start_line, supply_line,
@@ -55,10 +56,12 @@ fn put_bundle<B: Bundle, K: Sink>(
     requires { AreShort B.kind }
     ensures { Puts K.taken K.has_failed sink.old sink.new (text_of (map (arc_row B.kind) (placed pair.now (B.told form bundle.now)))) result }
 {
+    let mut line = BackLine::new();
     let mut next = bundle.canon_arc(0, form);
     for _ in 0..bundle.canon_len(form) {
         if let Some(arc) = next {
-            arc_line(pair, &arc).put(sink)?;
+            arc_line(&mut line, pair, &arc);
+            line.put(sink)?;
             next = bundle.canon_after(&arc, form);
         }
     }

@@ -7,8 +7,12 @@ use Rattle.dn_line.specs.declared.kind.Letter.TheVariants.{S, T}
 use Rattle.dn_line.specs.declared.line.Line.{Line}
 use Rattle.dn_line.specs.Faults.{first_fault}
 use Rattle.dn_bundle.specs.Kinds.{capacities}
+use Rattle.dn_bundle.specs.TotalTold.{cap_told}
+use Rattle.std.specs.Map.{lookup}
+use Rattle.dn_instance.specs.Pairs.{same_pair}
+use Rattle.dn_instance.proofs.GrownLaws.{tells_as}
 use Rattle.dn_instance.specs.Instances.{Graph, MaxFlow}
-use Rattle.dn_instance.specs.Items.{Problem, counted, terminal_of, graph_of, max_flow}
+use Rattle.dn_instance.specs.Items.{Problem, counted, terminal_of, graph_of, max_flow, arcs_of}
 use Rattle.dn_instance.specs.TextFaults.{end_fault, lacks_terminal, is_full}
 use Rattle.dn_instance.specs.Progresses.{IsAt}
 use Rattle.dn_instance.specs.Drafts.{draft_kind, Holds}
@@ -68,13 +72,13 @@ max_made : (a b : ℤ) (x y : Option ℤ) (G : Graph CapArc) → x ≡ Some a �
 max_made a b x y G e f = ap (λ o. max_flow o y G) e ∙ ap (λ o. max_flow (Some a) o G) f
 
 -- source and sink are there
-pub both_named : (d : Draft) (s t : Option ℤ) (table : Bundles Total) (a b u v nodes : ℤ) (items : List Line) → d ≡ Drafts.Max s t table → s ≡ Some a → t ≡ Some b → u ≡ a → v ≡ b → Holds d items → Makes (draft_kind d) nodes items (Ok (Kept.Max u v table))
-both_named d s t table a b u v nodes items is source sink same also h =
+pub both_named : (d : Draft) (s t : Option ℤ) (table kept : Bundles Total) → ((p : ℤ × ℤ) → lookup (same_pair p) kept ≡ lookup (same_pair p) table) → (a b u v nodes : ℤ) (items : List Line) → d ≡ Drafts.Max s t table → s ≡ Some a → t ≡ Some b → u ≡ a → v ≡ b → Holds d items → Makes (draft_kind d) nodes items (Ok (Kept.Max u v kept))
+both_named d s t table kept alike a b u v nodes items is source sink same also h =
     let k : Holds (Drafts.Max s t table) items = subst (λ x. Holds x items) is h in
     let one : terminal_of S items ≡ Some a = sym k.0 ∙ source in
     let other : terminal_of T items ≡ Some b = sym k.1 ∙ sink in
-    let out : Makes (draft_kind (Drafts.Max s t table)) nodes items (Ok (Kept.Max a b table)) =
-    (ap (λ o. is_none o || is_none (terminal_of T items)) one ∙ ap is_none other, (MaxFlow a b (graph_of capacities nodes items), max_made a b _ _ (graph_of capacities nodes items) one other, (refl, refl, k.2.tells_them))) in
-    subst (λ x. Makes (draft_kind x) nodes items (Ok (Kept.Max u v table))) (sym is)
-    (subst (λ x. Makes (draft_kind (Drafts.Max s t table)) nodes items (Ok (Kept.Max x v table))) (sym same)
-    (subst (λ y. Makes (draft_kind (Drafts.Max s t table)) nodes items (Ok (Kept.Max a y table))) (sym also) out))
+    let out : Makes (draft_kind (Drafts.Max s t table)) nodes items (Ok (Kept.Max a b kept)) =
+    (ap (λ o. is_none o || is_none (terminal_of T items)) one ∙ ap is_none other, (MaxFlow a b (graph_of capacities nodes items), max_made a b _ _ (graph_of capacities nodes items) one other, (refl, refl, tells_as capacities (λ (x : Total). cap_told x.total) table kept (arcs_of capacities items) alike k.2.tells_them))) in
+    subst (λ x. Makes (draft_kind x) nodes items (Ok (Kept.Max u v kept))) (sym is)
+    (subst (λ x. Makes (draft_kind (Drafts.Max s t table)) nodes items (Ok (Kept.Max x v kept))) (sym same)
+    (subst (λ y. Makes (draft_kind (Drafts.Max s t table)) nodes items (Ok (Kept.Max a y kept))) (sym also) out))

@@ -2,8 +2,8 @@
 use Rattle.std.proofs.Common.{◌≡◌, ℕ, suc, ◌+◌, ◌*◌, ◌≤◌, ◌<◌, ◌^◌, ℤ, pos, FitsSigned, w64, int_lt, filter, List, [], ◌∷◌, length, map, Bool, true, false, cond, ◌||◌, Some, None, refl, sym, ap, ◌∙◌, subst, arith, sum_by}
 use Rattle.std.proofs.lemmas.List.Sums.{sum_by-cons}
 use Rattle.std.proofs.Math.Bool.{or-true}
-use Rattle.std.proofs.lemmas.Map.Keys.{sorted_head, sorted_tail}
-use Rattle.std.specs.List.{AllByRecursion, list_any}
+use Rattle.std.proofs.lemmas.Map.Keys.{sorted_head, sorted_tail, IsDistinct-head, IsDistinct-tail}
+use Rattle.std.specs.List.{AllByRecursion, list_any, IsDistinct}
 use Rattle.std.specs.List.Sorted.{IsStrictlySortedBy}
 use Rattle.std.specs.Map.{keys_of, lookup}
 use Rattle.std.specs.Ordering.{is_eq, int_eq}
@@ -25,15 +25,15 @@ use Rattle.dn_instance.specs.Tables.{told_at}
 use Rattle.dn_instance.specs.TableSteps.{Tells, AreArcs}
 use Rattle.dn_instance.proofs.PairLaws.{pair_is, pair_self, other_pair}
 
-abbrev Pair : Type 0
+abbrev pub Pair : Type 0
 Pair = ℤ × ℤ
 
 -- whether the pair is among these
-abbrev among : Pair → List Pair → Bool
+abbrev pub among : Pair → List Pair → Bool
 among p ps = list_any (same_pair p) ps
 
 -- none stands twice
-abbrev Once : List Pair → Type 0
+abbrev pub Once : List Pair → Type 0
 Once [] = Unit {0}
 Once (p ∷ ps) = (among p ps ≡ false) × Once ps
 
@@ -141,9 +141,18 @@ above : (k : Pair) (ks : List Pair) → AllByRecursion (λ y. pair_cmp k y ≡ L
 above k [] h = refl
 above k (y ∷ ys) h = ap (λ b. b || among k ys) (ap is_eq h.0) ∙ above k ys h.1
 
-once_keys : (ks : List Pair) → IsStrictlySortedBy pair_cmp ks → Once ks
+pub once_keys : (ks : List Pair) → IsStrictlySortedBy pair_cmp ks → Once ks
 once_keys [] s = tt
 once_keys (k ∷ ks) s = (above k ks (sorted_head pair_cmp k ks s), once_keys ks (sorted_tail pair_cmp k ks s))
+
+none_alike : (k : Pair) (ks : List Pair) → AllByRecursion (λ y. same_pair k y ≡ false) ks → among k ks ≡ false
+none_alike k [] h = refl
+none_alike k (y ∷ ys) h = ap (λ b. b || among k ys) h.0 ∙ none_alike k ys h.1
+
+-- different pairs stand once
+pub once_apart : (ks : List Pair) → IsDistinct same_pair ks → Once ks
+once_apart [] s = tt
+once_apart (k ∷ ks) s = (none_alike k ks (IsDistinct-head same_pair k ks s), once_apart ks (IsDistinct-tail same_pair k ks s))
 
 module _ {Arc : Type 0} where
   no_bundle : (r : Pair) (arcs : List (Pair × Arc)) → among r (map (λ a. a.0) arcs) ≡ false → bundle r arcs ≡ []
@@ -172,29 +181,29 @@ module _ {B : Type 0} where
       by_test false g i = i g
 
   -- a sum over the bundles is one over their pairs
-  sum_at : (f : Pair → ℕ) (g : B → ℕ) (table rest : List (Pair × B)) → ((k : Pair) → among k (keys_of rest) ≡ true → lookup (same_pair k) rest ≡ lookup (same_pair k) table) → IsStrictlySortedBy pair_cmp (keys_of rest)
+  sum_at : (f : Pair → ℕ) (g : B → ℕ) (table rest : List (Pair × B)) → ((k : Pair) → among k (keys_of rest) ≡ true → lookup (same_pair k) rest ≡ lookup (same_pair k) table) → Once (keys_of rest)
       → ((k : Pair) (b : B) → lookup (same_pair k) table ≡ Some b → g b ≡ f k) → sum_by (λ (e : Pair × B). g e.1) rest ≡ sum_by f (keys_of rest)
   sum_at f g table [] at s h = refl
   sum_at f g table (e ∷ rest) at s h =
       let whole = sum_by-cons (λ (x : Pair × B). g x.1) e rest in
       let part = sum_by-cons f e.0 (keys_of rest) in
-      let more = sum_at f g table rest (λ k m. below k m (same_pair k e.0) refl) (sorted_tail pair_cmp e.0 (keys_of rest) s) h in
+      let more = sum_at f g table rest (λ k m. below k m (same_pair k e.0) refl) s.1 h in
       let here : g e.1 ≡ f e.0 = h e.0 e.1 (sym (at e.0 (ap (λ b. b || among e.0 (keys_of rest)) (pair_self e.0))) ∙ ap (λ b. cond b (Some e.1) (lookup (same_pair e.0) rest)) (pair_self e.0)) in
       omega arith
     where
       below : (k : Pair) → among k (keys_of rest) ≡ true → (t : Bool) → same_pair k e.0 ≡ t → lookup (same_pair k) rest ≡ lookup (same_pair k) table
       below k m true q =
           let same : k ≡ e.0 = pair_is k e.0 q in
-          let never : true ≡ false = sym m ∙ ap (λ x. among x (keys_of rest)) same ∙ above e.0 (keys_of rest) (sorted_head pair_cmp e.0 (keys_of rest) s) in
+          let never : true ≡ false = sym m ∙ ap (λ x. among x (keys_of rest)) same ∙ s.0 in
           cc
       below k m false q = sym (ap (λ b. cond b (Some e.1) (lookup (same_pair k) rest)) q) ∙ at k (ap (λ b. b || among k (keys_of rest)) q ∙ m)
 
 module _ {B Arc : Type 0} (kind : ArcKind Arc) (laws : IsKind kind) (nothing : kind.entries [] ≡ 0) (tells : B → List Arc) where
   -- the entries that a table's bundles come to are those of the arcs that it stands for
-  pub table_entries : (table : List (Pair × B)) (arcs : List (Pair × Arc)) → IsStrictlySortedBy pair_cmp (keys_of table) → Tells kind tells table arcs → AreArcs kind arcs → sum_by (λ (e : Pair × B). kind.entries (tells e.1)) table ≡ graph_entries kind arcs
-  table_entries table arcs rising t are =
-      sum_at f (λ b. kind.entries (tells b)) table table (λ k m. refl) rising at
-      ∙ same_sum f (keys_of table) (distinct same_pair (map (λ a. a.0) arcs)) (once_keys (keys_of table) rising) (once_distinct (map (λ a. a.0) arcs)) out back
+  pub table_entries : (table : List (Pair × B)) (arcs : List (Pair × Arc)) → Once (keys_of table) → Tells kind tells table arcs → AreArcs kind arcs → sum_by (λ (e : Pair × B). kind.entries (tells e.1)) table ≡ graph_entries kind arcs
+  table_entries table arcs once t are =
+      sum_at f (λ b. kind.entries (tells b)) table table (λ k m. refl) once at
+      ∙ same_sum f (keys_of table) (distinct same_pair (map (λ a. a.0) arcs)) once (once_distinct (map (λ a. a.0) arcs)) out back
     where
       f : Pair → ℕ
       f p = kind.entries (bundle p arcs)

@@ -11,6 +11,7 @@ pub mod DraftLaws
 pub mod ProgressLaws
 pub mod NextLaws
 pub mod FollowLaws
+pub mod GrownLaws
 pub mod LineSteps
 pub mod CostItems
 pub mod SupplyItems

@@ -1,6 +1,6 @@
 -- What is answered of a text as its source gives it.
 use Rattle.std.proofs.Common.{◌≡◌, inl, inr, ℕ, ◌<◌, ◌≤◌, ◌^◌, List, [], ◌++◌, append_assoc, append-nil, length, Bool, true, false, ◌==◌, Option, Some, None, Result, Ok, Err, refl, sym, ap, ◌∙◌, subst, arith, IfSome, IsErr, IsErrAnd}
-use Rattle.std.specs.Io.KnownBytes.{Consumes, IsAtEnd}
+use Rattle.std.specs.Io.KnownBytes.{Consumes, IsAtEnd, Keeps}
 use Rattle.std.proofs.KnownBytes.{Consumes-trans}
 use Rattle.std.proofs.lemmas.Bool.{eqb-true, eqb-false}
 use Rattle.std.proofs.lemmas.List.{nil_from_length}
@@ -119,3 +119,20 @@ pub uncopied : (a : Result Held Refusal) (old mid new : Option (List ℕ)) (give
 uncopied (Ok held) old mid new given piece old_copy new_copy e r c d l k s none memory is = absurd is.1
 uncopied (Err x) old mid new given piece old_copy new_copy e r c d l k s none memory is =
     subst (λ a. IfSome old (λ t. CopyOutcome t new old_copy new_copy (Err a))) (sym (is.1 ∙ memory)) (uncopied_given old mid new given piece old_copy new_copy r c d l k s none)
+
+-- the source failed, and the copy has what it gave
+failed_given : (old mid new : Option (List ℕ)) (given old_copy new_copy : List ℕ) (r : Reader) → Consumes old mid given → Keeps mid new → new_copy ≡ old_copy ++ given → StandsFor r given → r.refusal ≡ None
+    → IfSome old (λ t. CopyOutcome t new old_copy new_copy (Err Read))
+failed_given None mid new given old_copy new_copy r c d k s none = tt
+failed_given (Some t) None new given old_copy new_copy r c d k s none = absurd c
+failed_given (Some t) (Some rest) None given old_copy new_copy r c d k s none = absurd d
+failed_given (Some t) (Some rest) (Some left) given old_copy new_copy r c d k s none = (
+  record { given = given; rest = left; whole = c ∙ ap (λ l. given ++ l) (sym d); rest_is = refl; clean = (reading r given none s).read.clean },
+  record { given = given; rest = left; whole = c ∙ ap (λ l. given ++ l) (sym d); rest_is = refl; copy = k },
+)
+
+pub failed_copy : (a : Result Held Refusal) (old mid new : Option (List ℕ)) (given old_copy new_copy : List ℕ) (e : Refusal) (r : Reader) → Consumes old mid given → Keeps mid new → new_copy ≡ old_copy ++ given → StandsFor r given → r.refusal ≡ None → e ≡ Read → IsErr a × IsErrAnd a (λ x. x ≡ e)
+    → IfSome old (λ t. CopyOutcome t new old_copy new_copy a)
+failed_copy (Ok held) old mid new given old_copy new_copy e r c d k s none read is = absurd is.1
+failed_copy (Err x) old mid new given old_copy new_copy e r c d k s none read is =
+    subst (λ a. IfSome old (λ t. CopyOutcome t new old_copy new_copy (Err a))) (sym (is.1 ∙ read)) (failed_given old mid new given old_copy new_copy r c d k s none)

@@ -14,7 +14,7 @@ ghost use Rattle.dn_instance.specs.ItemFaults.{Answers, in_graph, arc_fault};
 ghost use Rattle.dn_instance.specs.TableSteps.{Tells, AreArcs, Stays};
 
 use crate::item_fault::ItemFault;
-use crate::table::Table;
+use crate::table_so_far::TableSoFar;
 use dn_bundle::{Bundle, BundleFault, CapArc, CostArc, Curve, Form, Least, LengthArc, Total};
 use dn_line::{Code, Kind, Line};
 use std::alloc::Global;
@@ -35,7 +35,7 @@ fn joins_nodes(nodes: &i64, pair: &(i64, i64)) -> bool
 
 // Takes an arc between the nodes of a pair. On a fault nothing has changed.
 pub(crate) fn take_arc<B: Bundle>(
-    table: &mut Table<B>,
+    table: &mut TableSoFar<B>,
     alloc: Global,
     nodes: &i64,
     pair: (i64, i64),
@@ -62,7 +62,7 @@ pub(crate) fn take_arc<B: Bundle>(
 
 // Takes the arc of an `sp` line.
 pub(crate) fn take_length_arc(
-    table: &mut Table<Least>,
+    table: &mut TableSoFar<Least>,
     alloc: Global,
     nodes: &i64,
     pair: (i64, i64),
@@ -79,7 +79,7 @@ pub(crate) fn take_length_arc(
 
 // Takes the arc of a `max` line.
 pub(crate) fn take_cap_arc(
-    table: &mut Table<Total>,
+    table: &mut TableSoFar<Total>,
     alloc: Global,
     nodes: &i64,
     pair: (i64, i64),
@@ -96,7 +96,7 @@ pub(crate) fn take_cap_arc(
 
 // Takes the arc of a `min` line.
 pub(crate) fn take_cost_arc(
-    table: &mut Table<Curve>,
+    table: &mut TableSoFar<Curve>,
     alloc: Global,
     nodes: &i64,
     pair: (i64, i64),

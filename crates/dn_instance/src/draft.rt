@@ -14,7 +14,7 @@ use crate::arcs::{take_cap_arc, take_cost_arc, take_length_arc};
 use crate::content::Content;
 use crate::item_fault::ItemFault;
 use crate::items::{take_point, take_query, take_source, take_supply, take_terminal};
-use crate::table::Table;
+use crate::table_so_far::TableSoFar;
 use dn_bundle::{CapArc, CostArc, Curve, Least, LengthArc, Total};
 use dn_line::{Code, Kind, Letter, Line};
 use std::alloc::Global;
@@ -25,14 +25,14 @@ pub(crate) enum Draft {
     Min {
         supplies: BTreeMap<i64, i64>,
         idle: BTreeSet<i64>,
-        table: Table<Curve>,
+        table: TableSoFar<Curve>,
     },
     Max {
         source: Option<i64>,
         sink: Option<i64>,
-        table: Table<Total>,
+        table: TableSoFar<Total>,
     },
-    Sp(Table<Least>),
+    Sp(TableSoFar<Least>),
     Ss(Vec<i64>),
     P2p(Vec<(i64, i64)>),
     Co(BTreeMap<i64, (i64, i64)>),
@@ -48,14 +48,14 @@ impl Draft {
             Kind::Min => Draft::Min {
                 supplies: BTreeMap::new(alloc),
                 idle: BTreeSet::new(alloc),
-                table: Table::new(alloc),
+                table: TableSoFar::new(alloc),
             },
             Kind::Max => Draft::Max {
                 source: None,
                 sink: None,
-                table: Table::new(alloc),
+                table: TableSoFar::new(alloc),
             },
-            Kind::Sp => Draft::Sp(Table::new(alloc)),
+            Kind::Sp => Draft::Sp(TableSoFar::new(alloc)),
             Kind::Ss => Draft::Ss(Vec::new(alloc)),
             Kind::P2p => Draft::P2p(Vec::new(alloc)),
             Kind::Co => Draft::Co(BTreeMap::new(alloc)),
@@ -141,7 +141,10 @@ impl Draft {
                 supplies,
                 table,
                 ..
-            } => Ok(Content::Min { supplies, table }),
+            } => Ok(Content::Min {
+                supplies,
+                table: table.end(),
+            }),
             Draft::Max {
                 source,
                 sink,
@@ -150,11 +153,11 @@ impl Draft {
                 (Some(source), Some(sink)) => Ok(Content::Max {
                     source,
                     sink,
-                    table,
+                    table: table.end(),
                 }),
                 _ => Err(Code::MissingTerminal),
             },
-            Draft::Sp(table) => Ok(Content::Sp(table)),
+            Draft::Sp(table) => Ok(Content::Sp(table.end())),
             Draft::Ss(ids) => Ok(Content::Ss(ids)),
             Draft::P2p(pairs) => Ok(Content::P2p(pairs)),
             Draft::Co(points) => Ok(Content::Co(points)),

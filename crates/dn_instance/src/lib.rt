@@ -16,6 +16,7 @@ pub mod read;
 pub mod reader;
 pub mod refusal;
 pub mod table;
+mod table_so_far;
 #[cfg(test)]
 mod tests;
 mod text_so_far;

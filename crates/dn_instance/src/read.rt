@@ -49,7 +49,7 @@ pub fn read_from<S: Source>(alloc: Global, source: &mut S) -> Result<Held, Refus
     ensures stays { IsTrue (S.has_failed source.old) → IsTrue (S.has_failed source.new) }
 {
     let mut reader = Reader::new(alloc);
-    let mut room = [0u8; 4096];
+    let mut room = [0u8; 65536];
     for _ in 0..PULLS {
         let piece = next_piece(source, &mut room)?;
         if piece.is_empty() {
@@ -75,7 +75,7 @@ pub fn read_keep<S: Source>(
     ensures stays { IsTrue (S.has_failed source.old) → IsTrue (S.has_failed source.new) }
 {
     let mut reader = Reader::new(alloc);
-    let mut room = [0u8; 4096];
+    let mut room = [0u8; 65536];
     for _ in 0..PULLS {
         let piece = next_piece(source, &mut room)?;
         if piece.is_empty() {

@@ -97,7 +97,7 @@ fn run_with_arguments<R: Runtime + AllocGlobal, E: Sink>(host: &R, err: &mut E) 
     ensures { IfOk result (λ status. status ≤ 4) }
 {
     let words: Vec<String> = env::args(host)?.collect(host.alloc())?;
-    let mut out = ToWrite::new(BufWriter::new(host.alloc(), io::writer(host))?);
+    let mut out = ToWrite::new(BufWriter::with_capacity(host.alloc(), 65536, io::writer(host))?);
     let mut files = HostFiles::new(host);
     Ok(run(host.alloc(), &words, &mut files, &mut out, err))
 }

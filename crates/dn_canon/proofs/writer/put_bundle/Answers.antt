@@ -16,7 +16,7 @@ returns-in_err-put g c =
     stopped c.from_residual.result c.from_residual.ensures.0
     (row_stop (arc_row g.B.Bundle.kind) (placed c.args.pair.now (drop c.loop.counter told)) (placed c.args.pair.now (drop (c.loop.counter + 1) told)) (c.args.pair.now, c.in-Some.arc)
     (ap (placed c.args.pair.now) (drop_get told c.loop.counter c.in-Some.arc (sym c.loop.invariant.next ∙ c.in-Some.is)))
-    (arc_text g.B.Bundle.kind c.args.pair.now c.in-Some.arc _ c.arc_line.result c.arc_line.ensures (g.met.B.Bundle.same_numbers c.in-Some.arc)) c.loop.invariant.has c.in_err-put.ensures)
+    (arc_text g.B.Bundle.kind c.args.pair.now c.in-Some.arc _ c.arc_line.new.line c.arc_line.ensures (g.met.B.Bundle.same_numbers c.in-Some.arc)) c.loop.invariant.has c.in_err-put.ensures)
 
 pub loop-preserved : goal.loop-preserved
 loop-preserved g c =
@@ -31,7 +31,7 @@ loop-preserved g c =
                 subst (λ s. HasPut g.K.Sink.taken g.K.Sink.has_failed c.args.sink.now s (text (c.loop.counter + 1)) (text 0)) (sym w.sink-is)
                 (row_more (arc_row g.B.Bundle.kind) (placed c.args.pair.now (drop c.loop.counter told)) (placed c.args.pair.now (drop (c.loop.counter + 1) told)) (c.args.pair.now, w.in-Some.arc)
                 (ap (placed c.args.pair.now) (drop_get told c.loop.counter w.in-Some.arc here))
-                (arc_text g.B.Bundle.kind c.args.pair.now w.in-Some.arc _ w.arc_line.result w.arc_line.ensures (g.met.B.Bundle.same_numbers w.in-Some.arc)) c.loop.invariant.has w.in_ok-put.ensures);
+                (arc_text g.B.Bundle.kind c.args.pair.now w.in-Some.arc _ w.arc_line.new.line w.arc_line.ensures (g.met.B.Bundle.same_numbers w.in-Some.arc)) c.loop.invariant.has w.in_ok-put.ensures);
           }
       | in_default w ↦ absurd (some_below told c.loop.counter c.loop.next (omega arith) c.loop.invariant.next w.in_default.not-Some)
     ]

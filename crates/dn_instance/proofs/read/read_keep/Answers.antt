@@ -1,7 +1,7 @@
 use Rattle.std.proofs.Common.{◌++◌, ◌∙◌, Err, ap, append_assoc, length-append, arith}
 use Rattle.std.proofs.KnownBytes.{Consumes-trans}
 use Rattle.dn_instance.specs.declared.refusal.Refusal.TheVariants.{Endless}
-use Rattle.dn_instance.proofs.SourceLaws.{given_at_end, ended_given, refused_by, endless_given, has_none, has_some, not_refused, copied, uncopied}
+use Rattle.dn_instance.proofs.SourceLaws.{given_at_end, ended_given, refused_by, endless_given, has_none, has_some, not_refused, copied, uncopied, failed_copy}
 use Rattle.dn_instance.proofs.read.read_keep.Goals as goal
 
 pub returns-then-is_empty-clause-outcome : goal.returns-then-is_empty-clause-outcome
@@ -51,3 +51,8 @@ returns-clause-outcome g c =
     let t = c.loop.invariant.given.0 in
     copied _ _ t _ _ (Err Endless) c.loop.invariant.given.1 c.loop.invariant.given.4
     (endless_given _ _ t c.loop.reader c.loop.counter c.loop.invariant.given.1 c.loop.invariant.given.2 c.loop.invariant.fine c.loop.invariant.given.3 (let over = c.loop-test.false in omega arith))
+
+pub returns-in_err-piece-clause-outcome : goal.returns-in_err-piece-clause-outcome
+returns-in_err-piece-clause-outcome g c =
+    failed_copy _ _ _ _ c.loop.invariant.given.0 _ _ c.in_err-piece.field-0.0 c.loop.reader c.loop.invariant.given.1 c.in_err-piece.ensures.unread
+    c.loop.invariant.given.4 c.loop.invariant.given.2 c.loop.invariant.fine c.in_err-piece.ensures.refusal c.from_residual.ensures

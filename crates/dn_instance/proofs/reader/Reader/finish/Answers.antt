@@ -1,5 +1,7 @@
+use Rattle.std.proofs.Common.{length}
 use Rattle.dn_line.specs.Pieces.{lines}
-use Rattle.dn_instance.proofs.ReaderLaws.{none_from, reading, refused_before, held_whole}
+use Rattle.dn_instance.specs.Readers.{ended}
+use Rattle.dn_instance.proofs.ReaderLaws.{none_from, reading, refused_before, refused_last, held_whole}
 use Rattle.dn_instance.proofs.reader.Reader.finish.Goals as goal
 
 pub returns-in-Some-clause-outcome : goal.returns-in-Some-clause-outcome
@@ -14,3 +16,6 @@ pub returns-in-Err-end-clause-outcome : goal.returns-in-Err-end-clause-outcome
 returns-in-Err-end-clause-outcome c t h =
     let all = c.in-Ok.ensures t (reading c.args.self t (none_from c.args.self.refusal c.in_default.not-Some) h) in
     record { clean = all.clean; fault_is = c.in-Err-end.ensures (lines t) all }
+
+pub returns-in-Err-clause-outcome : goal.returns-in-Err-clause-outcome
+returns-in-Err-clause-outcome c t h = refused_last t (length (ended t)) c.in-Err.refusal (c.in-Err.ensures t (reading c.args.self t (none_from c.args.self.refusal c.in_default.not-Some) h))
