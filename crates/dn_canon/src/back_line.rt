@@ -68,6 +68,7 @@ impl BackLine {
         self.start = write_digits(number, &mut self.bytes, self.start);
     }
 
+    #[inline(always)]
     // Puts a space and a number before the others.
     pub(crate) fn number(&mut self, number: &i64)
         requires { length self.old + 22 ≤ 128 }

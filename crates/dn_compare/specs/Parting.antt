@@ -6,7 +6,8 @@ use Rattle.std.specs.declared.cmp.Ordering.TheVariants.{Less}
 use Rattle.dn_bundle.specs.Kinds.{ArcKind}
 use Rattle.dn_bundle.specs.declared.difference.How.{How}
 use Rattle.dn_instance.specs.Instances.{Graph}
-use Rattle.dn_instance.specs.Pairs.{pair_cmp, bundle}
+use Rattle.pair_index.specs.Pairs.{pair_cmp}
+use Rattle.dn_instance.specs.Pairs.{bundle}
 
 -- the flow of a node; 0 where it has none
 abbrev pub flow_at : List (ℤ × ℤ) → ℤ → ℤ

@@ -20,7 +20,8 @@ use Rattle.dn_bundle.specs.declared.arc.Form.TheVariants.{One}
 use Rattle.dn_instance.specs.EntryCount.{graph_entries, entries_of}
 use Rattle.dn_instance.specs.Instances.{Instance, MinCostFlow, MaxFlow, ShortestPaths, Sources, Queries, Coordinates, size_of}
 use Rattle.dn_instance.specs.Validity.{IsPlaced}
-use Rattle.dn_instance.specs.Pairs.{pair_cmp, same_pair, bundle}
+use Rattle.pair_index.specs.Pairs.{pair_cmp, same_pair}
+use Rattle.dn_instance.specs.Pairs.{bundle}
 use Rattle.dn_instance.specs.Tables.{told_at}
 use Rattle.dn_instance.specs.TableSteps.{Tells, AreArcs}
 use Rattle.dn_instance.proofs.PairLaws.{pair_is, pair_self, other_pair}

@@ -7,7 +7,7 @@ use Rattle.std.specs.Ordering.{int_cmp, is_eq, ordering_reverse}
 use Rattle.std.proofs.lemmas.Cmp.{int_cmp_total}
 use Rattle.std.specs.declared.cmp.Ordering.{Ordering}
 use Rattle.std.specs.declared.cmp.Ordering.TheVariants.{Less, Equal, Greater}
-use Rattle.dn_instance.specs.Pairs.{pair_cmp, same_pair}
+use Rattle.pair_index.specs.Pairs.{pair_cmp, same_pair}
 
 -- the key, as a call passes it
 pub key_is : (u v : ℤ) → FitsSigned w64 u → FitsSigned w64 v → (P : ℤ × ℤ → Type 0) → P (to_z w64 (of_z w64 u), to_z w64 (of_z w64 v)) → P (u, v)

@@ -3,12 +3,13 @@ use Rattle.std.proofs.Common.{◌≡◌, ℕ, suc, ◌+◌, ◌-◌, ◌<◌, �
 use Rattle.std.proofs.lemmas.Bool.{ltb-true, ltb-false}
 use Rattle.std.proofs.Math.Seq.{take-add}
 use Rattle.std.proofs.lemmas.List.{take_all, length-drop}
-use Rattle.std.specs.List.{position_or_len, before_first}
+use Rattle.std.specs.List.{position_or_len, before_first, list_all}
 use Rattle.dn_line.specs.Pieces.{parts, has_bytes, if_any, lines, is_line_feed}
-use Rattle.dn_line.specs.LineStates.{LineSoFar, has_end, used_of, last_ended, last_of, line_of}
+use Rattle.dn_line.specs.LineStates.{LineSoFar, has_end, used_of, last_of, line_of, is_inner}
 use Rattle.dn_line.proofs.PartsLaws.{Parts, parts_run, parts_end, parts_push}
 use Rattle.dn_line.proofs.LineReaderLaws.{ended_push}
-use Rattle.dn_instance.specs.Readers.{ended}
+use Rattle.dn_line.proofs.BeginLaws.{line_ends, line_before}
+use Rattle.dn_instance.specs.Readers.{ended, open_of}
 
 -- the line that a piece's LF ends comes after those before it
 closes : (p : Parts) (ls : List (List ℕ)) (o : List ℕ) → p ≡ (ls ++ o ∷ [], []) → p.0 ≡ ls ++ (last_of p.0 p.1).bytes ∷ []
@@ -16,20 +17,20 @@ closes p ls o e =
     ap (λ (q : Parts). q.0) e
     ∙ ap (λ l. ls ++ l ∷ []) (sym (ap (λ (q : Parts). (last_of q.0 q.1).bytes) e ∙ ap (λ (l : LineSoFar). l.bytes) (ended_push ls o)))
 
-pub ended_then : (t piece : List ℕ) → has_end piece ≡ true → ended (t ++ take (used_of piece) piece) ≡ ended t ++ (line_of (t ++ take (used_of piece) piece)).bytes ∷ []
-ended_then t piece e = by_end (has_end piece) e
+-- what a piece's LF ends
+pub ends_at : (t piece : List ℕ) → has_end piece ≡ true → parts is_line_feed (t ++ take (used_of piece) piece) ≡ (ended t ++ (open_of t ++ before_first is_line_feed piece) ∷ [], [])
+ends_at t piece e = by_end (has_end piece) e
   where
     end : ℕ
     end = position_or_len is_line_feed piece
 
-    front : Parts
-    front = parts is_line_feed (t ++ before_first is_line_feed piece)
-
-    by_end : (x : Bool) → x ≡ true → ended (t ++ take (end + cond x 1 0) piece) ≡ ended t ++ (line_of (t ++ take (end + cond x 1 0) piece)).bytes ∷ []
+    by_end : (x : Bool) → x ≡ true → parts is_line_feed (t ++ take (end + cond x 1 0) piece) ≡ (ended t ++ (open_of t ++ before_first is_line_feed piece) ∷ [], [])
     by_end true f =
-        closes (parts is_line_feed (t ++ take (end + 1) piece)) (ended t) ((parts is_line_feed t).1 ++ before_first is_line_feed piece)
-        (parts_end is_line_feed t piece end refl (ltb-true _ _ e) ∙ ap (λ (q : Parts). let r : Parts = (q.0 ++ q.1 ∷ [], []) in r) (parts_run is_line_feed t piece))
+        parts_end is_line_feed t piece end refl (ltb-true _ _ e) ∙ ap (λ (q : Parts). let r : Parts = (q.0 ++ q.1 ∷ [], []) in r) (parts_run is_line_feed t piece)
     by_end false f = cc
+
+pub ended_then : (t piece : List ℕ) → has_end piece ≡ true → ended (t ++ take (used_of piece) piece) ≡ ended t ++ (line_of (t ++ take (used_of piece) piece)).bytes ∷ []
+ended_then t piece e = closes (parts is_line_feed (t ++ take (used_of piece) piece)) (ended t) (open_of t ++ before_first is_line_feed piece) (ends_at t piece e)
 
 pub goes_on : (t piece : List ℕ) → has_end piece ≡ false → ended (t ++ take (used_of piece) piece) ≡ ended t
 goes_on t piece e = by_end (has_end piece) e
@@ -66,21 +67,32 @@ ended_more t (b ∷ u) =
       whole = ap ended (sym (append_assoc t (b ∷ []) u)) ∙ more.whole ∙ ap (λ l. l ++ more.rest) one.whole ∙ append_assoc (ended t) one.rest more.rest;
     }
 
--- whether the last line lacks its LF
-pending_at : (ls : List (List ℕ)) (o : List ℕ) (x : Bool) → x ≡ (not (last_of ls o).ended && has_bytes (last_of ls o).bytes) → if_any o ≡ cond x ((last_of ls o).bytes ∷ []) []
-pending_at ls (b ∷ o) x e = sym (ap (λ y. cond y ((b ∷ o) ∷ []) []) e)
-pending_at ls [] x e = sym (ap (λ y. cond y ((last_ended ls).bytes ∷ []) []) (e ∙ none ls))
-  where
-    none : (ls : List (List ℕ)) → (not (last_ended ls).ended && has_bytes (last_ended ls).bytes) ≡ false
-    none [] = refl
-    none (l ∷ []) = refl
-    none (l ∷ k ∷ ks) = none (k ∷ ks)
+-- whether the last line lacks its LF, by the line that the reader has
+pending_at : (x : Bool) (bytes o : List ℕ) → cond x [] bytes ≡ o → true ≡ (not x && has_bytes bytes) → if_any o ≡ bytes ∷ []
+pending_at true bytes o e h = cc
+pending_at false [] o e h = cc
+pending_at false (b ∷ bs) o e h = ap if_any (sym e)
 
-pub with_last : (t : List ℕ) → true ≡ (not (line_of t).ended && has_bytes (line_of t).bytes) → lines t ≡ ended t ++ (line_of t).bytes ∷ []
-with_last t e = ap (λ l. ended t ++ l) (pending_at (ended t) (parts is_line_feed t).1 true e)
+none_at : (x : Bool) (bytes o : List ℕ) → cond x [] bytes ≡ o → false ≡ (not x && has_bytes bytes) → o ≡ []
+none_at true bytes o e h = sym e
+none_at false [] o e h = sym e
+none_at false (b ∷ bs) o e h = cc
 
-pub without_last : (t : List ℕ) → false ≡ (not (line_of t).ended && has_bytes (line_of t).bytes) → lines t ≡ ended t
-without_last t e = ap (λ l. ended t ++ l) (pending_at (ended t) (parts is_line_feed t).1 false e) ∙ append-nil (ended t)
+pub with_last : (t : List ℕ) (l : LineSoFar) → cond l.ended [] l.bytes ≡ open_of t → true ≡ (not l.ended && has_bytes l.bytes) → lines t ≡ ended t ++ l.bytes ∷ []
+with_last t l e h = ap (λ x. ended t ++ x) (pending_at l.ended l.bytes (open_of t) e h)
+
+pub none_open : (t : List ℕ) (l : LineSoFar) → cond l.ended [] l.bytes ≡ open_of t → false ≡ (not l.ended && has_bytes l.bytes) → open_of t ≡ []
+none_open t l e h = none_at l.ended l.bytes (open_of t) e h
+
+pub without_last : (t : List ℕ) → open_of t ≡ [] → lines t ≡ ended t
+without_last t e = ap (λ o. ended t ++ if_any o) e ∙ append-nil (ended t)
+
+-- a line of a piece after a text whose last line has ended
+pub line_more : (t piece line rest : List ℕ) → open_of t ≡ [] → line ++ 10 ∷ rest ≡ piece → list_all is_inner line ≡ true
+    → parts is_line_feed (t ++ take (used_of piece) piece) ≡ (ended t ++ line ∷ [], [])
+line_more t piece line rest o e h =
+    ends_at t piece (ap has_end (sym e) ∙ line_ends line rest h)
+    ∙ ap (λ (x : List ℕ). let p : Parts = (ended t ++ x ∷ [], []) in p) (ap (λ x. x ++ before_first is_line_feed piece) o ∙ ap (before_first is_line_feed) (sym e) ∙ line_before line rest h)
 
 pub lines_more : (t : List ℕ) → More (ended t) (lines t)
 lines_more t = record { rest = if_any (parts is_line_feed t).1; whole = refl }

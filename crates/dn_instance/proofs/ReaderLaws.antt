@@ -5,7 +5,6 @@ use Rattle.std.proofs.lemmas.List.{take_all, take-append-le}
 use Rattle.dn_line.specs.declared.code.Code.{Code}
 use Rattle.dn_line.specs.Words.{said_words}
 use Rattle.dn_line.specs.Pieces.{lines}
-use Rattle.dn_line.specs.LineStates.{line_of}
 use Rattle.dn_instance.specs.declared.item_fault.ItemFault.{ItemFault}
 use Rattle.dn_instance.specs.declared.item_fault.ItemFault.TheVariants as Faults
 use Rattle.dn_instance.specs.declared.place.Place.TheVariants as Places
@@ -95,9 +94,9 @@ fed r t h = by_refusal r.refusal refl
     by_refusal (Some x) e = (refused r t x e h).0
 
 -- a last line without LF
-pub takes_last : (r : Reader) (t : List ℕ) (x : Result (Unit {0}) Refusal) → lines t ≡ ended t ++ (line_of t).bytes ∷ [] → Takes r (ended t) (line_of t).bytes x → TakesAll r t x
-takes_last r t (Ok x) e h = subst (HasRead r.text) (sym e) h
-takes_last r t (Err x) e h = subst (λ ls. IsRefused (length (ended t)) ls x) (sym e) h.1
+pub takes_last : (r : Reader) (t bytes : List ℕ) (x : Result (Unit {0}) Refusal) → lines t ≡ ended t ++ bytes ∷ [] → Takes r (ended t) bytes x → TakesAll r t x
+takes_last r t bytes (Ok x) e h = subst (HasRead r.text) (sym e) h
+takes_last r t bytes (Err x) e h = subst (λ ls. IsRefused (length (ended t)) ls x) (sym e) h.1
 
 -- those before the refused one are read, whatever lines come
 pub stops_on : (r : Reader) (ls ms : List (List ℕ)) (e : Refusal) → More ls ms → StopsIn r ls e → StopsIn r ms e

@@ -7,7 +7,8 @@ use Rattle.dn_bundle.specs.Laws.Orders.{any_order}
 use Rattle.dn_bundle.specs.Laws.Lengths.{length_meaning}
 use Rattle.dn_bundle.specs.Laws.Totals.{total_meaning}
 use Rattle.dn_bundle.specs.Laws.Curves.{curve_meaning}
-use Rattle.dn_instance.specs.Pairs.{bundle, same_pair}
+use Rattle.pair_index.specs.Pairs.{same_pair}
+use Rattle.dn_instance.specs.Pairs.{bundle}
 use Rattle.dn_instance.specs.Instances.{Graph, Instance, MinCostFlow, MaxFlow, ShortestPaths, Sources, Queries, Coordinates}
 use Rattle.dn_instance.specs.Tables.{told_at, TableStandsFor}
 use Rattle.dn_instance.specs.Sameness.{SameGraph, IsSame}

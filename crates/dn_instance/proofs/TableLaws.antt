@@ -6,7 +6,7 @@ use Rattle.dn_bundle.specs.Kinds.{ArcKind}
 use Rattle.dn_bundle.specs.Meanings.{IsMeaning}
 use Rattle.dn_bundle.specs.declared.bundle.BundleFault.{BundleFault}
 use Rattle.dn_bundle.specs.declared.bundle.BundleFault.TheVariants.{Sum, Memory}
-use Rattle.dn_instance.specs.Pairs.{same_pair}
+use Rattle.pair_index.specs.Pairs.{same_pair}
 use Rattle.dn_bundle.specs.Bundles.{told_of}
 use Rattle.dn_instance.specs.Tables.{told_at}
 use Rattle.dn_instance.specs.TableSteps.{Grows}

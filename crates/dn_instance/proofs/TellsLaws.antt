@@ -6,7 +6,8 @@ use Rattle.dn_bundle.specs.declared.arc.Form.TheVariants.{One}
 use Rattle.dn_bundle.specs.Kinds.{ArcKind, StandsFor}
 use Rattle.dn_bundle.specs.Bundles.{IsKind, told_of}
 use Rattle.dn_bundle.specs.Laws.Orders.{same_push}
-use Rattle.dn_instance.specs.Pairs.{same_pair, bundle}
+use Rattle.pair_index.specs.Pairs.{same_pair}
+use Rattle.dn_instance.specs.Pairs.{bundle}
 use Rattle.dn_instance.specs.Tables.{told_at}
 use Rattle.dn_instance.specs.TableSteps.{Grows, Tells, AreArcs, Stays}
 use Rattle.dn_instance.proofs.PairLaws.{pair_is, pair_self, other_pair}

@@ -5,7 +5,8 @@ use Rattle.dn_line.specs.declared.kind.Kind.TheVariants as Kinds
 use Rattle.dn_line.specs.declared.line.Line.{Line}
 use Rattle.dn_bundle.specs.Entries.{distinct}
 use Rattle.dn_bundle.specs.Kinds.{ArcKind, costs, capacities, lengths}
-use Rattle.dn_instance.specs.Pairs.{bundle, same_pair}
+use Rattle.pair_index.specs.Pairs.{same_pair}
+use Rattle.dn_instance.specs.Pairs.{bundle}
 use Rattle.dn_instance.specs.Items.{Problem, problem_of, arcs_of, source_in, query_in, point_in, by_key}
 use Rattle.dn_instance.specs.Instances.{Instance, MinCostFlow, MaxFlow, ShortestPaths, Sources, Queries, Coordinates}
 

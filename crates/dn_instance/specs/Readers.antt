@@ -1,7 +1,8 @@
 -- What a reader has read, and what it answers.
-use Rattle.std.specs.Prelude.{◌≡◌, ℕ, ◌+◌, ◌-◌, ◌<◌, ◌≤◌, List, [], ◌∷◌, ◌++◌, length, take, Option, Some, None, MatchOption, Result, Ok, Err}
+use Rattle.std.specs.Prelude.{◌≡◌, ℕ, ◌+◌, ◌-◌, ◌<◌, ◌≤◌, List, [], ◌∷◌, ◌++◌, length, take, cond, Option, Some, None, MatchOption, Result, Ok, Err}
 use Rattle.dn_line.specs.Pieces.{parts, lines, is_line_feed}
-use Rattle.dn_line.specs.LineStates.{Stands, line_of}
+use Rattle.dn_line.specs.LineStates.{LineSoFar, Stands, used_of}
+use Rattle.dn_line.specs.declared.line_reader.LineReader.{LineReader}
 use Rattle.dn_instance.specs.declared.place.Place.TheVariants as Places
 use Rattle.dn_instance.specs.declared.refusal.Refusal.{Refusal}
 use Rattle.dn_instance.specs.declared.refusal.Refusal.TheVariants.{Text, Memory, Read, Endless, Write, CountTooLarge}
@@ -36,10 +37,20 @@ IsRefused before ls Endless = ⊥
 IsRefused before ls Write = ⊥
 IsRefused before ls CountTooLarge = ⊥
 
+-- the bytes of a text after its last LF
+abbrev pub open_of : List ℕ → List ℕ
+open_of t = (parts is_line_feed t).1
+
+-- the line reader has these bytes of a line that may go on; where there are none, the line before is of no account
+pub record HasOpen (r : LineReader) (bytes : List ℕ) : Type 0 where
+  pub line : LineSoFar
+  pub stands : Stands r line
+  pub open_is : cond line.ended [] line.bytes ≡ bytes
+
 -- the lines that LFs have ended are read, and the next so far as it has come
 pub record IsReading (r : Reader) (t : List ℕ) : Type 0 where
   pub read : HasRead r.text (ended t)
-  pub line : Stands r.line (line_of t)
+  pub line : HasOpen r.line (open_of t)
 
 -- where the refusal names a line, it is the one after these
 abbrev pub IsAfter : List (List ℕ) → Refusal → Type 0

@@ -4,7 +4,8 @@ use Rattle.std.specs.Borrow.{Bor}
 use Rattle.std.specs.List.{AllByRecursion}
 use Rattle.std.specs.Map.{lookup}
 use Rattle.dn_bundle.specs.Kinds.{ArcKind, StandsFor}
-use Rattle.dn_instance.specs.Pairs.{same_pair, bundle}
+use Rattle.pair_index.specs.Pairs.{same_pair}
+use Rattle.dn_instance.specs.Pairs.{bundle}
 use Rattle.dn_instance.specs.Tables.{told_at}
 
 -- what the iterator shows of an item

@@ -4,7 +4,8 @@ use Rattle.std.specs.List.Sorted.{IsStrictlySortedBy}
 use Rattle.std.specs.Map.{keys_of, lookup}
 use Rattle.dn_bundle.specs.Bundles.{told_of}
 use Rattle.dn_bundle.specs.Kinds.{ArcKind, StandsFor}
-use Rattle.dn_instance.specs.Pairs.{pair_cmp, same_pair, bundle}
+use Rattle.pair_index.specs.Pairs.{pair_cmp, same_pair}
+use Rattle.dn_instance.specs.Pairs.{bundle}
 
 -- the arcs that the table tells at an ordered pair
 abbrev pub told_at : {B Arc : Type 0} → (B → List Arc) → List ((ℤ × ℤ) × B) → ℤ × ℤ → List Arc

@@ -1,11 +1,13 @@
 -- What the complete lines so far make, and what the next one reads as after them.
-use Rattle.std.specs.Prelude.{◌≡◌, ℕ, ◌-◌, ◌^◌, ◌<◌, List, [], ◌++◌, length, cond, Option, Some, None, Result, Ok, IsSome}
+use Rattle.std.specs.Prelude.{◌≡◌, ℕ, ◌-◌, ◌^◌, ◌<◌, List, [], ◌∷◌, ◌++◌, length, cond, true, false, Option, Some, None, Result, Ok, IsSome}
+use Rattle.std.specs.List.{list_all}
 use Rattle.std.specs.Option.{option_to_list}
 use Rattle.dn_line.specs.declared.line.Line.{Line}
 use Rattle.dn_line.specs.declared.line.Line.TheVariants.{Skip}
 use Rattle.dn_line.specs.declared.word.Word.{Word}
 use Rattle.dn_line.specs.declared.code.Code.{Code}
-use Rattle.dn_line.specs.Words.{is_skip}
+use Rattle.dn_line.specs.Words.{is_skip, said_words}
+use Rattle.dn_line.specs.LineStates.{is_inner}
 use Rattle.dn_line.specs.Faults.{first_fault, head_tests, field_tests, fields}
 use Rattle.dn_line.specs.Spelling.{slots_of, kind_before}
 use Rattle.dn_line.specs.Reading.{unless, spelled, words_read}
@@ -49,3 +51,20 @@ pub record HasRead (t : TextSoFar) (ls : List (List ℕ)) : Type 0 where
   pub few : length ls < 2 ^ 63 - 1
   pub number_is : t.closed ≡ length ls
   pub progress_is : IsProgress t.progress (items_of ls)
+
+-- the bytes begin with a line and the LF that ends it, and after these items the line reads as this one
+pub record ComesNext (before : List Line) (bytes : List ℕ) (item : Line) : Type 0 where
+  pub line : List ℕ
+  pub rest : List ℕ
+  pub whole : line ++ 10 ∷ rest ≡ bytes
+  pub inner : list_all is_inner line ≡ true
+  pub counts : is_skip (said_words line) ≡ false
+  pub reads : next_read before (said_words line) ≡ Ok item
+
+-- the bytes begin with a line and the LF that ends it, and with this line more these have been read
+pub record ReadsFront (t : TextSoFar) (ls : List (List ℕ)) (bytes : List ℕ) : Type 0 where
+  pub line : List ℕ
+  pub rest : List ℕ
+  pub whole : line ++ 10 ∷ rest ≡ bytes
+  pub inner : list_all is_inner line ≡ true
+  pub read : HasRead t (ls ++ line ∷ [])

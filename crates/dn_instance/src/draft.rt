@@ -76,6 +76,18 @@ impl Draft {
         }
     }
 
+    // Looks up together where the pairs of the arcs that come next stand. It decides only the speed.
+    pub(crate) fn look_ahead(&mut self, bytes: &[u8])
+        ensures { self.new ≡ self.old }
+    {
+        match self {
+            Draft::Min { table, .. } => table.look_ahead(Kind::Min, bytes),
+            Draft::Max { table, .. } => table.look_ahead(Kind::Max, bytes),
+            Draft::Sp(table) => table.look_ahead(Kind::Sp, bytes),
+            Draft::Ss(_) | Draft::P2p(_) | Draft::Co(_) => {}
+        }
+    }
+
     // Takes the next item. One that this kind of text does not have is refused.
     pub(crate) fn take(&mut self, alloc: Global, nodes: &i64, line: Line) -> Result<(), ItemFault>
         ensures answer { Some (draft_kind self.old) ≡ kind_before line → HasSigns line → (before : List Line) (p : Problem) → problem_of before ≡ Some p → p.kind ≡ draft_kind self.old → p.nodes ≡ nodes.now → Holds self.old before

@@ -1,6 +1,7 @@
 //! Whole texts: the instance that a text reads as, or its first fault; what an instance means.
 #![tactic(auto)]
 
+mod ahead;
 mod arcs;
 pub mod companion;
 mod content;

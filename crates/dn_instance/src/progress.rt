@@ -78,6 +78,7 @@ impl Progress {
         }
     }
 
+    #[inline(always)]
     // Takes the next item.
     pub(crate) fn take(&mut self, alloc: Global, item: Line) -> Result<(), ItemFault>
         ensures answer { Some (draft_kind self.old.draft) ≡ kind_before item → HasSigns item → (before : List Line) → IsAt self.old before → Answers result (first_fault (item_tests before (Some item))) }
@@ -93,6 +94,13 @@ impl Progress {
             }
             Err(fault) => Err(fault),
         }
+    }
+
+    // Looks up together where the pairs of the arcs that come next stand. It decides only the speed.
+    pub(crate) fn look_ahead(&mut self, bytes: &[u8])
+        ensures { self.new ≡ self.old }
+    {
+        self.draft.look_ahead(bytes);
     }
 
     // How many entries it keeps.

@@ -1,5 +1,5 @@
 // A text that is read in any pieces.
-ghost use Rattle.std.specs.Prelude.{◌≡◌, ◌≤◌, ℕ, List, [], ◌++◌, length, take, Some, None, Err, IfOk, MatchResult};
+ghost use Rattle.std.specs.Prelude.{◌≡◌, ◌≤◌, ℕ, List, [], ◌++◌, length, take, Some, None, Err, ◌<◌, IfOk, IfSome, MatchOption, MatchResult};
 ghost use Rattle.dn_line.specs.LineStates.{LineSoFar, Stands, used_of};
 ghost use Rattle.dn_line.specs.Pieces.{lines};
 ghost use Rattle.dn_instance.specs.EntryCount.{entries_so_far};
@@ -56,8 +56,23 @@ impl Reader {
         }
     }
 
+    // Takes an arc whose plain line stands at the front of a piece, where no line goes on.
+    fn take_arc(&mut self, piece: &[u8]) -> Option<usize>
+        ensures taken { (t : List ℕ) → IsReading self.old t
+            → MatchOption result (IsReading self.new t) (λ n. IsReading self.new (t ++ take (used_of piece.now) piece.now)) }
+        ensures used { IfSome result (λ n. n ≡ used_of piece.now) }
+        ensures refusal { refusal_of self.new ≡ refusal_of self.old }
+    {
+        let goes_on = self.line.pending();
+        if goes_on {
+            return None;
+        }
+        self.text.take_arc(self.alloc, piece)
+    }
+
     // Takes the front of a piece up to and with its first LF, or all of it, and answers how long that is.
-    fn advance(&mut self, piece: &[u8]) -> Result<usize, Refusal>
+    fn step(&mut self, piece: &[u8]) -> Result<usize, Refusal>
+        requires { 0 < length piece.now }
         ensures used { IfOk result (λ n. n ≡ used_of piece.now) }
         ensures bound { IfOk result (λ n. n ≤ length piece.now) }
         ensures advances { (t : List ℕ) → IsReading self.old t → Advances self.new t (t ++ take (used_of piece.now) piece.now) result }
@@ -70,6 +85,20 @@ impl Reader {
             },
             Ok(step) => Ok(step.used),
             Err(_) => Err(Refusal::Memory),
+        }
+    }
+
+    // The same, and an arc's plain line at once.
+    fn advance(&mut self, piece: &[u8]) -> Result<usize, Refusal>
+        requires { 0 < length piece.now }
+        ensures used { IfOk result (λ n. n ≡ used_of piece.now) }
+        ensures bound { IfOk result (λ n. n ≤ length piece.now) }
+        ensures advances { (t : List ℕ) → IsReading self.old t → Advances self.new t (t ++ take (used_of piece.now) piece.now) result }
+        ensures refusal { MatchResult result (λ n. refusal_of self.new ≡ refusal_of self.old) (λ e. refusal_of self.new ≡ Some e) }
+    {
+        match self.take_arc(piece) {
+            Some(used) => Ok(used),
+            None => self.step(piece),
         }
     }
 

@@ -1,23 +1,23 @@
 // What the complete lines of a text make, one after the other.
-ghost use Rattle.std.specs.Prelude.{◌≡◌, ◌≢◌, ℕ, ◌+◌, length, List, ◌∷◌, ◌++◌, [], OnOk, OnErr, Ok, Some, None, Option, cond, true, false};
+ghost use Rattle.std.specs.Prelude.{◌≡◌, ◌≢◌, ℕ, ◌+◌, length, List, ◌∷◌, ◌++◌, [], OnOk, OnErr, IfSome, MatchOption, Ok, Some, None, Option, cond, true, false};
 ghost use Rattle.dn_line.specs.declared.line.Line.{Line};
 ghost use Rattle.dn_line.specs.declared.word.Word.{Word};
 ghost use Rattle.dn_line.specs.Words.{is_skip, said_words};
 ghost use Rattle.dn_line.specs.Faults.{first_fault};
 ghost use Rattle.dn_line.specs.Reading.{head_read};
-ghost use Rattle.dn_line.specs.LineStates.{LineSoFar, Stands};
+ghost use Rattle.dn_line.specs.LineStates.{LineSoFar, Stands, used_of};
 ghost use Rattle.dn_instance.specs.Items.{kind_known};
 ghost use Rattle.dn_instance.specs.TextFaults.{order_tests, item_tests, line_fault};
 ghost use Rattle.dn_instance.specs.Ends.{EndsWith};
 ghost use Rattle.dn_instance.specs.EntryCount.{entries_so_far};
 ghost use Rattle.dn_instance.specs.ItemFaults.{Answers};
 ghost use Rattle.dn_instance.specs.Texts.{items_of};
-ghost use Rattle.dn_instance.specs.TextsSoFar.{IsProgress, MayFollow, next_read, fault_next, with_next, HasRead};
+ghost use Rattle.dn_instance.specs.TextsSoFar.{IsProgress, MayFollow, next_read, fault_next, with_next, ComesNext, HasRead, ReadsFront};
 
 use crate::held::Held;
 use crate::item_fault::ItemFault;
 use crate::progress::Progress;
-use dn_line::{Code, Head, Kind, Line, LineReader};
+use dn_line::{ArcLine, Code, Head, Kind, Line, LineReader, arc_line};
 use std::alloc::Global;
 
 // As many lines as a text may have.
@@ -122,6 +122,48 @@ impl TextSoFar {
         }
     }
 
+    // Looks up together where the pairs of the arcs that come next stand. It decides only the speed.
+    fn look_ahead(&mut self, bytes: &[u8])
+        ensures { self.new ≡ self.old }
+    {
+        if let Some(progress) = &mut self.progress {
+            progress.look_ahead(bytes);
+        }
+    }
+
+    // The arc that comes next, where its plain line stands at the front of these bytes.
+    fn next_arc(&self, bytes: &[u8]) -> Option<ArcLine>
+        ensures next { (items : List Line) → IsProgress self.now.progress items → IfSome result (λ a. ComesNext items bytes.now a.arc) }
+        ensures used { IfSome result (λ a. a.used ≡ used_of bytes.now) }
+    {
+        let kind = self.kind()?;
+        match self.check_order(Head::Arc) {
+            Some(_) => None,
+            None => arc_line(kind, bytes),
+        }
+    }
+
+    // Takes the arc whose plain line stands at the front of these bytes, and answers how long the line is with its LF.
+    // Where there is no such line, or it has a fault, or memory is wanted, nothing has changed.
+    pub(crate) fn take_arc(&mut self, alloc: Global, bytes: &[u8]) -> Option<usize>
+        ensures taken { (ls : List (List ℕ)) → HasRead self.old ls
+            → MatchOption result (HasRead self.new ls) (λ n. ReadsFront self.new ls bytes.now) }
+        ensures used { IfSome result (λ n. n ≡ used_of bytes.now) }
+    {
+        if LAST <= self.closed {
+            return None;
+        }
+        self.look_ahead(bytes);
+        let next = self.next_arc(bytes)?;
+        match put(&mut self.progress, alloc, next.arc) {
+            Ok(()) => {
+                self.closed += 1;
+                Some(next.used)
+            }
+            Err(_) => None,
+        }
+    }
+
     // How many entries the lines so far come to.
     pub(crate) fn entries(&self) -> u64
         ensures { (ls : List (List ℕ)) → HasRead self.now ls → result ≡ entries_so_far (items_of ls) }
@@ -151,6 +193,7 @@ fn is_skip(item: &Line) -> bool
     matches!(item, Line::Skip)
 }
 
+#[inline(always)]
 // Takes the next item. The first is the problem line.
 fn put(progress: &mut Option<Progress>, alloc: Global, item: Line) -> Result<(), ItemFault>
     ensures answer { (before : List Line) → IsProgress progress.old before → MayFollow before item → Answers result (first_fault (item_tests before (Some item))) }

@@ -1,116 +1,158 @@
 // Where the entries of a list stand, by their ordered pairs.
-ghost use Rattle.std.specs.Prelude.{◌≡◌, ℤ, ℕ, List, [], ◌∷◌, ◌++◌, OnOk, OnErr, IfOk, IsTrue, false};
+ghost use Rattle.std.specs.Prelude.{◌≡◌, [], ◌∷◌, ◌++◌, ℤ, OnOk, OnErr, IfOk, false};
 ghost use Rattle.std.specs.List.{list_any, IsDistinct};
 ghost use Rattle.std.specs.List.Sorted.{IsStrictlySortedBy};
-ghost use Rattle.std.specs.BTreeMap.{get};
-ghost use Rattle.std.specs.Map.{keys_of};
-ghost use Rattle.pair_index.specs.Chained.{IsPlace};
-ghost use Rattle.pair_index.specs.Indexed.{Indexes, Shows};
+ghost use Rattle.std.specs.Map.{keys_of, lookup};
+ghost use Rattle.pair_index.specs.Indexed.{Indexes};
 ghost use Rattle.pair_index.specs.Pairs.{pair_cmp, same_pair};
+ghost use Rattle.pair_index.specs.Places.{IsPlace};
+ghost use Rattle.pair_index.specs.Shown.{HasPlaces};
 
+use crate::bucket::Spread;
 use crate::chains::Chains;
+use crate::rising::{is_past, place_by_search};
+use crate::sort::sort_by_pair;
 use std::alloc::{AllocError, Global};
-use std::cmp::Ordering;
 use std::collections::BTreeMap;
 
-#[derive(Drop)]
-enum Way {
-    // The pairs rise.
+/// How many pairs are looked up together.
+pub const AHEAD: usize = 16;
+
+// How entries are found. An index only goes on from one way to a later one.
+#[derive(Clone, Copy)]
+pub(crate) enum Way {
+    // By binary search, since the pairs rise.
     Rising,
-    // By chains of the pairs of a bucket.
-    Chained(Chains),
-    // By their order, where a chain would be long.
-    Ordered(BTreeMap<(i64, i64), usize>),
+    // By the chains of buckets.
+    Chained,
+    // By an ordered map, where a chain would be long however pairs are spread.
+    Ordered,
 }
 
-/// Where the entries of a list stand, by their ordered pairs.
+/// Where the entries of a list stand, by their ordered pairs. It holds no entries: each call is given the list.
 #[derive(Drop)]
 pub struct PairIndex {
-    way: Way,
+    pub(crate) way: Way,
+    // Without buckets unless they are the way.
+    pub(crate) chains: Chains,
+    // Empty unless it is the way.
+    places: BTreeMap<(i64, i64), usize>,
 }
 
-// Whether a pair is past all pairs of entries that rise.
-fn is_past<X>(entries: &[((i64, i64), X)], pair: &(i64, i64)) -> bool
-    requires { IsStrictlySortedBy pair_cmp (keys_of entries.now) }
-    ensures none { IsTrue result → list_any (same_pair pair.now) (keys_of entries.now) ≡ false }
-    ensures rising { IsTrue result → IsStrictlySortedBy pair_cmp (keys_of entries.now ++ pair.now ∷ []) }
-{
-    let Some((last, _)) = entries.last() else {
-        return true;
-    };
-    match last.cmp(pair) {
-        Ordering::Less => true,
-        _ => false,
-    }
-}
-
-/// Where a pair stands among entries by rising pair.
-pub fn place_by_search<X>(entries: &[((i64, i64), X)], pair: &(i64, i64)) -> Option<usize>
-    requires { IsStrictlySortedBy pair_cmp (keys_of entries.now) }
-    ensures { IsPlace (keys_of entries.now) pair.now result }
-{
-    match entries.binary_search_by_key(pair, |entry| entry.0) {
-        Ok(i) => Some(i),
-        Err(_) => None,
-    }
-}
-
-// The places by rising pair.
-fn ordered<X>(
+// The place of each entry and that of a pair that comes next.
+fn places_with<X>(
     alloc: Global,
     entries: &[((i64, i64), X)],
+    pair: &(i64, i64),
 ) -> Result<BTreeMap<(i64, i64), usize>, AllocError>
     requires { IsDistinct same_pair (keys_of entries.now) }
-    ensures { IfOk result (λ map. (pair : ℤ × ℤ) → IsPlace (keys_of entries.now) pair (get pair_cmp map pair)) }
+    ensures { IfOk result (λ places. HasPlaces places (keys_of entries.now ++ pair.now ∷ [])) }
 {
-    let mut map = BTreeMap::new(alloc);
+    let mut places = BTreeMap::new(alloc);
     for i in 0..entries.len() {
-        map.insert(entries[i].0, i)?;
+        places.insert(entries[i].0, i)?;
     }
-    Ok(map)
-}
-
-// Another way to find the entries and a pair that comes next.
-fn anew<X>(alloc: Global, entries: &[((i64, i64), X)], pair: &(i64, i64)) -> Result<Way, AllocError>
-    requires { IsDistinct same_pair (keys_of entries.now) }
-    ensures { IfOk result (λ way. Shows way (keys_of entries.now ++ pair.now ∷ [])) }
-{
-    if let Some(mut chains) = Chains::of(alloc, entries)? {
-        chains.link(pair)?;
-        return Ok(Way::Chained(chains));
-    }
-    let mut map = ordered(alloc, entries)?;
-    map.insert(*pair, entries.len())?;
-    Ok(Way::Ordered(map))
+    places.insert(*pair, entries.len())?;
+    Ok(places)
 }
 
 impl PairIndex {
-    /// The index of no entries.
-    pub fn new() -> PairIndex
+    /// The index of no entries, which takes no memory.
+    pub fn new(alloc: Global) -> PairIndex
         ensures { Indexes result [] }
     {
-        PairIndex { way: Way::Rising }
+        PairIndex {
+            way: Way::Rising,
+            chains: Chains::none(alloc),
+            places: BTreeMap::new(alloc),
+        }
     }
 
-    /// Where the entry of a pair stands, if there is one.
+    /// Where the entry of a pair stands, if there is one. Takes no memory.
+    #[tactic(auto, unfolding(crate::specs::Shown::Shows))]
     pub fn find<X>(&self, entries: &[((i64, i64), X)], pair: &(i64, i64)) -> Option<usize>
         requires { Indexes self.now (keys_of entries.now) }
         ensures { IsPlace (keys_of entries.now) pair.now result }
     {
-        match &self.way {
+        match self.way {
             Way::Rising => {
                 if is_past(entries, pair) {
                     return None;
                 }
                 place_by_search(entries, pair)
             }
-            Way::Chained(chains) => chains.find(entries, pair),
-            Way::Ordered(map) => map.get(pair).copied(),
+            Way::Chained => self.chains.find(entries, pair),
+            Way::Ordered => self.places.get(pair).copied(),
         }
     }
 
-    /// Takes up a pair that has no entry, and whose entry comes next. On a fault it still tells of
-    /// the entries.
+    /// Whether looking up pairs together spares time: where each is found on its own way through memory. It decides only
+    /// the speed, and has no contract.
+    pub fn is_scattered(&self) -> bool {
+        matches!(self.way, Way::Chained)
+    }
+
+    /// Where each of these pairs may stand: places to look at first, since finding them together takes less time than
+    /// one after another. They are guesses, so it has no contract: whether the entry there is the pair's is to be seen.
+    /// Takes no memory.
+    #[tactic(auto, unfolding(crate::specs::Shown::Shows))]
+    pub fn likely_places<X>(
+        &self,
+        entries: &[((i64, i64), X)],
+        pairs: &[(i64, i64); AHEAD],
+    ) -> [u32; AHEAD]
+        requires { Indexes self.now (keys_of entries.now) }
+    {
+        match self.way {
+            Way::Chained => self.chains.likely_places(entries, pairs),
+            Way::Rising | Way::Ordered => [0; AHEAD],
+        }
+    }
+
+    /// Puts the entries in order by their pairs. Takes no memory.
+    #[tactic(auto, unfolding(crate::specs::Shown::Shows))]
+    pub fn sort<X>(&self, entries: &mut [((i64, i64), X)])
+        requires { Indexes self.now (keys_of entries.old) }
+        ensures rising { IsStrictlySortedBy pair_cmp (keys_of entries.new) }
+        ensures same { (pair : ℤ × ℤ) → lookup (same_pair pair) entries.new ≡ lookup (same_pair pair) entries.old }
+    {
+        match self.way {
+            Way::Rising => {}
+            Way::Chained | Way::Ordered => sort_by_pair(entries),
+        }
+    }
+
+    // Takes up a pair by chains so spread, or by a later way. On want of memory nothing has changed. Which way it
+    // takes decides only the speed.
+    #[tactic(auto, unfolding(crate::specs::Shown::Shows))]
+    fn rebuild<X>(
+        &mut self,
+        alloc: Global,
+        entries: &[((i64, i64), X)],
+        pair: &(i64, i64),
+        spread: Option<Spread>,
+    ) -> Result<(), AllocError>
+        requires indexed { Indexes self.old (keys_of entries.now) }
+        requires fresh { list_any (same_pair pair.now) (keys_of entries.now) ≡ false }
+        ensures ok { OnOk result (Indexes self.new (keys_of entries.now ++ pair.now ∷ [])) }
+        ensures err { OnErr result (self.new ≡ self.old) }
+    {
+        if let Some(spread) = spread {
+            if let Some(chains) = Chains::of(alloc, spread, entries, pair)? {
+                self.chains = chains;
+                self.way = Way::Chained;
+                return Ok(());
+            }
+        }
+        self.places = places_with(alloc, entries, pair)?;
+        self.chains = Chains::none(alloc);
+        self.way = Way::Ordered;
+        Ok(())
+    }
+
+    /// Takes up a pair that has no entry, and whose entry comes next. On want of memory, the one error, the index
+    /// still tells of the entries without it.
+    #[tactic(auto, unfolding(crate::specs::Shown::Shows))]
     pub fn note<X>(
         &mut self,
         alloc: Global,
@@ -122,24 +164,25 @@ impl PairIndex {
         ensures ok { OnOk result (Indexes self.new (keys_of entries.now ++ pair.now ∷ [])) }
         ensures err { OnErr result (Indexes self.new (keys_of entries.now)) }
     {
-        match &mut self.way {
+        let spread = match self.way {
             Way::Rising => {
                 if is_past(entries, pair) {
                     return Ok(());
                 }
+                Some(Spread::Near)
             }
-            Way::Chained(chains) => {
-                if !chains.is_full() && !chains.is_long(pair) {
-                    chains.link(pair)?;
+            Way::Chained => {
+                if self.chains.has_room(pair) {
+                    self.chains.link(pair);
                     return Ok(());
                 }
+                self.chains.spread_next(pair)
             }
-            Way::Ordered(map) => {
-                map.insert(*pair, entries.len())?;
+            Way::Ordered => {
+                self.places.insert(*pair, entries.len())?;
                 return Ok(());
             }
-        }
-        self.way = anew(alloc, entries, pair)?;
-        Ok(())
+        };
+        self.rebuild(alloc, entries, pair, spread)
     }
 }

@@ -1,45 +1,6 @@
-use Rattle.std.proofs.Common.{◌≡◌, ◌≤◌, ℕ, List, ◌++◌, length, take, true, false, sym, ◌∙◌, subst}
-use Rattle.dn_line.specs.LineStates.{Stands, has_end, used_of, line_of}
-use Rattle.dn_line.proofs.LineReaderLaws.{steps_follow}
-use Rattle.dn_instance.specs.Readers.{IsRefused, StopsIn, ended}
-use Rattle.dn_instance.specs.TextsSoFar.{HasRead}
-use Rattle.dn_instance.proofs.PieceSteps.{ended_then, goes_on, used_bound}
+use Rattle.std.proofs.Common.{◌≤◌, length, sym, subst}
+use Rattle.dn_instance.proofs.PieceSteps.{used_bound}
 use Rattle.dn_instance.proofs.reader.Reader.advance.Goals as goal
 
-pub returns-in-Ok-close-clause-advances : goal.returns-in-Ok-close-clause-advances
-returns-in-Ok-close-clause-advances c t h =
-    let p = c.args.piece.now in
-    let u : List ℕ = t ++ take (used_of p) p in
-    let line : Stands c.step.new.self (line_of u) = subst (Stands c.step.new.self) (steps_follow t p) (c.in-Ok.ensures.stands (line_of t) h.line) in
-    let e : has_end p ≡ true = sym c.in-Ok.ensures.ok.1 ∙ c.if-step.true in
-    record {
-      read = subst (HasRead c.close.new.self.text) (sym (ended_then t p e)) (c.in-Ok-close.ensures.taken (ended t) (line_of u) h.read line);
-      line = subst (λ x. Stands x (line_of u)) (sym c.close.ensures.line) line;
-    }
-
-pub returns-in-Err-close-clause-advances : goal.returns-in-Err-close-clause-advances
-returns-in-Err-close-clause-advances c t h =
-    let p = c.args.piece.now in
-    let u : List ℕ = t ++ take (used_of p) p in
-    let line : Stands c.step.new.self (line_of u) = subst (Stands c.step.new.self) (steps_follow t p) (c.in-Ok.ensures.stands (line_of t) h.line) in
-    let e : has_end p ≡ true = sym c.in-Ok.ensures.ok.1 ∙ c.if-step.true in
-    let taken = c.in-Err-close.ensures.taken (ended t) (line_of u) h.read line in (
-      taken.0,
-      subst (λ x. IsRefused (length (ended t)) x c.in-Err-close.refusal) (sym (ended_then t p e)) taken.1,
-      subst (λ x. StopsIn c.close.new.self x c.in-Err-close.refusal) (sym (ended_then t p e)) taken.2,
-    )
-
-pub returns-in-Ok-2-clause-advances : goal.returns-in-Ok-2-clause-advances
-returns-in-Ok-2-clause-advances c t h =
-    let p = c.args.piece.now in
-    let e : has_end p ≡ false = sym c.in-Ok.ensures.ok.1 ∙ c.if-step.false in
-    record {
-      read = subst (HasRead c.args.self.now.text) (sym (goes_on t p e)) h.read;
-      line = subst (Stands c.step.new.self) (steps_follow t p) (c.in-Ok.ensures.stands (line_of t) h.line);
-    }
-
-pub returns-in-Ok-close-clause-bound : goal.returns-in-Ok-close-clause-bound
-returns-in-Ok-close-clause-bound c = subst (λ n. n ≤ length c.args.piece.now) (sym c.in-Ok.ensures.ok.0) (used_bound c.args.piece.now)
-
-pub returns-in-Ok-2-clause-bound : goal.returns-in-Ok-2-clause-bound
-returns-in-Ok-2-clause-bound c = subst (λ n. n ≤ length c.args.piece.now) (sym c.in-Ok.ensures.ok.0) (used_bound c.args.piece.now)
+pub returns-in-Some-clause-bound : goal.returns-in-Some-clause-bound
+returns-in-Some-clause-bound c = subst (λ n. n ≤ length c.args.piece.now) (sym c.in-Some.ensures.used) (used_bound c.args.piece.now)

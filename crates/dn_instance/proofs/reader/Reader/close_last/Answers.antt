@@ -1,13 +1,16 @@
 use Rattle.std.proofs.Common.{sym, ◌∙◌, subst}
-use Rattle.dn_line.specs.LineStates.{line_of}
 use Rattle.dn_instance.specs.Readers.{ended}
 use Rattle.dn_instance.specs.TextsSoFar.{HasRead}
 use Rattle.dn_instance.proofs.ReaderLaws.{takes_last}
-use Rattle.dn_instance.proofs.PieceSteps.{with_last, without_last}
+use Rattle.dn_instance.proofs.PieceSteps.{with_last, none_open, without_last}
 use Rattle.dn_instance.proofs.reader.Reader.close_last.Goals as goal
 
 pub returns-then-pending : goal.returns-then-pending
-returns-then-pending c t h = takes_last c.close.new.self t c.close.result (with_last t (sym c.if-pending.true ∙ c.pending.ensures (line_of t) h.line)) (c.close.ensures.taken (ended t) (line_of t) h.read h.line)
+returns-then-pending c t h =
+    let l = h.line.line in
+    takes_last c.close.new.self t l.bytes c.close.result (with_last t l h.line.open_is (sym c.if-pending.true ∙ c.pending.ensures l h.line.stands)) (c.close.ensures.taken (ended t) l h.read h.line.stands)
 
 pub returns-else-pending : goal.returns-else-pending
-returns-else-pending c t h = subst (HasRead c.args.self.now.text) (sym (without_last t (sym c.if-pending.false ∙ c.pending.ensures (line_of t) h.line))) h.read
+returns-else-pending c t h =
+    let l = h.line.line in
+    subst (HasRead c.args.self.now.text) (sym (without_last t (none_open t l h.line.open_is (sym c.if-pending.false ∙ c.pending.ensures l h.line.stands)))) h.read

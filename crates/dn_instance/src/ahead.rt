@@ -1,0 +1,32 @@
+// The arcs that come next, looked at before they are taken.
+
+use dn_line::{Kind, Line, arc_line};
+use pair_index::AHEAD;
+
+// The ordered pair of an arc.
+fn pair_of(arc: &Line) -> (i64, i64) {
+    match arc {
+        Line::MinArc { src, dst, .. } | Line::MaxArc { src, dst, .. } | Line::SpArc { src, dst, .. } => {
+            (*src, *dst)
+        }
+        _ => (0, 0),
+    }
+}
+
+// The ordered pairs of the arcs whose plain lines stand at the front of these bytes, one after the other. Where there
+// are fewer, (0, 0), which no arc has, stands for the others. No contract: they are used for guesses.
+pub(crate) fn pairs_ahead(kind: Kind, bytes: &[u8]) -> [(i64, i64); AHEAD] {
+    let mut pairs = [(0, 0); AHEAD];
+    let mut rest = bytes;
+    for pair in pairs.iter_mut() {
+        let Some(next) = arc_line(kind, rest) else {
+            break;
+        };
+        *pair = pair_of(&next.arc);
+        rest = match rest.get(next.used..) {
+            Some(rest) => rest,
+            None => break,
+        };
+    }
+    pairs
+}

@@ -1,0 +1,57 @@
+-- Lines of arcs at the front of longer bytes, in their plain spelling.
+use Rattle.std.specs.Prelude.{◌≡◌, ℕ, ℤ, List, [], ◌∷◌, ◌++◌, map, Bool, true, false, None, Ok, Some}
+use Rattle.std.specs.List.{list_all}
+use Rattle.dn_num.specs.Number.{number_read}
+use Rattle.dn_line.specs.Words.{said_words}
+use Rattle.dn_line.specs.Reading.{head_read, fields_read}
+use Rattle.dn_line.specs.LineStates.{is_inner, used_of}
+use Rattle.dn_line.specs.declared.kind.Kind.{Kind}
+use Rattle.dn_line.specs.declared.kind.Kind.TheVariants.{Min, Max, Sp}
+use Rattle.dn_line.specs.declared.line.Head.TheVariants as Heads
+use Rattle.dn_line.specs.declared.line.Line.{Line}
+use Rattle.dn_line.specs.declared.word.Keyword.TheVariants.{A}
+use Rattle.dn_line.specs.declared.word.Word.{Word}
+use Rattle.dn_line.specs.Checks.{item_read}
+
+-- the bytes begin with a line and the LF that ends it, and after a problem line of this kind the line reads as this
+-- arc
+pub record BeginsWithArc (kind : Kind) (bytes : List ℕ) (arc : Line) (used : ℕ) : Type 0 where
+  pub line : List ℕ
+  pub rest : List ℕ
+  pub whole : line ++ 10 ∷ rest ≡ bytes
+  pub inner : list_all is_inner line ≡ true
+  pub used_is : used ≡ used_of bytes
+  pub head : head_read (Some kind) (said_words line) ≡ Ok Heads.Arc
+  pub fields : fields_read (Some kind) (said_words line) ≡ Ok arc
+
+-- the bytes are a word of this number, this byte and the rest
+pub record IsNumberBefore (bytes : List ℕ) (end : ℕ) (number : ℤ) (rest : List ℕ) : Type 0 where
+  pub word : List ℕ
+  pub whole : word ++ end ∷ rest ≡ bytes
+  pub reads : number_read word ≡ Ok number
+
+-- what a word of this number says
+abbrev pub number_word : ℤ → Word
+number_word n = record { comment = false; keyword = None; number = Ok n }
+
+-- the bytes are a line whose words are these numbers, LF and the rest
+pub record AreNumbers (bytes : List ℕ) (numbers : List ℤ) (rest : List ℕ) : Type 0 where
+  pub line : List ℕ
+  pub whole : line ++ 10 ∷ rest ≡ bytes
+  pub inner : list_all is_inner line ≡ true
+  pub says : said_words line ≡ map number_word numbers
+
+-- the kinds that have arcs
+abbrev pub has_arcs : Kind → Bool
+has_arcs Min = true
+has_arcs Max = true
+has_arcs Sp = true
+has_arcs _ = false
+
+-- the bytes are a line, LF and the rest, and the words of the line read as this arc where they follow the letter
+pub record IsArcOf (kind : Kind) (bytes : List ℕ) (arc : Line) (rest : List ℕ) : Type 0 where
+  pub line : List ℕ
+  pub whole : line ++ 10 ∷ rest ≡ bytes
+  pub inner : list_all is_inner line ≡ true
+  pub has : has_arcs kind ≡ true
+  pub reads : item_read kind A (said_words line) ≡ Ok arc

@@ -1,0 +1,8 @@
+use Rattle.std.proofs.Common.{take}
+use Rattle.std.specs.Map.{keys_of}
+use Rattle.pair_index.specs.Shown.{HasPlaces}
+use Rattle.pair_index.proofs.index.places_with.Given as goal
+
+-- the entries so far have their places
+abbrev pub invariant-loop-i : goal.invariant-loop-i
+invariant-loop-i g l = HasPlaces l.places (keys_of (take l.i l.entries))

@@ -1,0 +1,35 @@
+// Entries whose pairs rise.
+ghost use Rattle.std.specs.Prelude.{◌≡◌, ◌↔◌, [], ◌∷◌, ◌++◌, IsTrue, false};
+ghost use Rattle.std.specs.List.{list_any};
+ghost use Rattle.std.specs.List.Sorted.{IsStrictlySortedBy};
+ghost use Rattle.std.specs.Map.{keys_of};
+ghost use Rattle.pair_index.specs.Pairs.{pair_cmp, same_pair};
+ghost use Rattle.pair_index.specs.Places.{IsPlace};
+
+use std::cmp::Ordering;
+
+// Whether a pair is past all pairs of entries that rise, so that it is none of them and they rise with it.
+pub(crate) fn is_past<X>(entries: &[((i64, i64), X)], pair: &(i64, i64)) -> bool
+    requires { IsStrictlySortedBy pair_cmp (keys_of entries.now) }
+    ensures none { IsTrue result → list_any (same_pair pair.now) (keys_of entries.now) ≡ false }
+    ensures rising { IsTrue result ↔ IsStrictlySortedBy pair_cmp (keys_of entries.now ++ pair.now ∷ []) }
+{
+    let Some((last, _)) = entries.last() else {
+        return true;
+    };
+    match last.cmp(pair) {
+        Ordering::Less => true,
+        _ => false,
+    }
+}
+
+/// Where a pair stands among entries by rising pair.
+pub fn place_by_search<X>(entries: &[((i64, i64), X)], pair: &(i64, i64)) -> Option<usize>
+    requires { IsStrictlySortedBy pair_cmp (keys_of entries.now) }
+    ensures { IsPlace (keys_of entries.now) pair.now result }
+{
+    match entries.binary_search_by_key(pair, |entry| entry.0) {
+        Ok(i) => Some(i),
+        Err(_) => None,
+    }
+}
