@@ -2,12 +2,10 @@
 use Rattle.std.proofs.Common.{◌≡◌, ℕ, suc, ◌+◌, ◌*◌, ◌≤◌, ◌<◌, ◌^◌, ℤ, pos, FitsSigned, w64, int_lt, filter, List, [], ◌∷◌, length, map, Bool, true, false, cond, ◌||◌, Some, None, refl, sym, ap, ◌∙◌, subst, arith, sum_by}
 use Rattle.std.proofs.lemmas.List.Sums.{sum_by-cons}
 use Rattle.std.proofs.Math.Bool.{or-true}
-use Rattle.std.proofs.lemmas.Map.Keys.{sorted_head, sorted_tail, IsDistinct-head, IsDistinct-tail}
+use Rattle.std.proofs.lemmas.Map.Keys.{IsDistinct-head, IsDistinct-tail}
 use Rattle.std.specs.List.{AllByRecursion, list_any, IsDistinct}
-use Rattle.std.specs.List.Sorted.{IsStrictlySortedBy}
 use Rattle.std.specs.Map.{keys_of, lookup}
-use Rattle.std.specs.Ordering.{is_eq, int_eq}
-use Rattle.std.specs.declared.cmp.Ordering.TheVariants.{Less}
+use Rattle.std.specs.Ordering.{int_eq}
 use Rattle.dn_bundle.specs.Bundles.{IsKind, told_of}
 use Rattle.dn_bundle.specs.Canonical.{has_low}
 use Rattle.dn_bundle.specs.Capacities.{total_cap}
@@ -20,7 +18,7 @@ use Rattle.dn_bundle.specs.declared.arc.Form.TheVariants.{One}
 use Rattle.dn_instance.specs.EntryCount.{graph_entries, entries_of}
 use Rattle.dn_instance.specs.Instances.{Instance, MinCostFlow, MaxFlow, ShortestPaths, Sources, Queries, Coordinates, size_of}
 use Rattle.dn_instance.specs.Validity.{IsPlaced}
-use Rattle.pair_index.specs.Pairs.{pair_cmp, same_pair}
+use Rattle.pair_index.specs.Pairs.{same_pair}
 use Rattle.dn_instance.specs.Pairs.{bundle}
 use Rattle.dn_instance.specs.Tables.{told_at}
 use Rattle.dn_instance.specs.TableSteps.{Tells, AreArcs}
@@ -137,14 +135,6 @@ once_distinct (p ∷ ps) = by_test (among p ps) refl (once_distinct ps)
     by_test : (t : Bool) → among p ps ≡ t → Once (distinct same_pair ps) → Once (cond t (distinct same_pair ps) (p ∷ distinct same_pair ps))
     by_test true e i = i
     by_test false e i = (among_distinct p ps ∙ e, i)
-
-above : (k : Pair) (ks : List Pair) → AllByRecursion (λ y. pair_cmp k y ≡ Less) ks → among k ks ≡ false
-above k [] h = refl
-above k (y ∷ ys) h = ap (λ b. b || among k ys) (ap is_eq h.0) ∙ above k ys h.1
-
-pub once_keys : (ks : List Pair) → IsStrictlySortedBy pair_cmp ks → Once ks
-once_keys [] s = tt
-once_keys (k ∷ ks) s = (above k ks (sorted_head pair_cmp k ks s), once_keys ks (sorted_tail pair_cmp k ks s))
 
 none_alike : (k : Pair) (ks : List Pair) → AllByRecursion (λ y. same_pair k y ≡ false) ks → among k ks ≡ false
 none_alike k [] h = refl

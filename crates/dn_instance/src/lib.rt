@@ -6,6 +6,7 @@ mod arcs;
 pub mod companion;
 mod content;
 mod draft;
+mod entry_sum;
 pub mod examples;
 pub mod held;
 mod item_fault;

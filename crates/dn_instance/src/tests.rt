@@ -13,7 +13,9 @@ use cases::{
 };
 use dn_bundle::{Fixed, Least};
 use dn_line::{Code, Kind, Slice, Source, SourceFault};
-use std::alloc::Global;
+use std::alloc::{AllocError, Global};
+use std::collections::BTreeMap;
+use std::fmt::Write;
 use std::process::Abort;
 use std::test::Fail;
 
@@ -289,6 +291,53 @@ fn lengths(rt: HostRuntime) -> Result<(), Fail> {
     }
     assert!(rt; pairs.next().is_none());
     assert_eq!(rt; length_at(table, 1, 3), None);
+    Ok(())
+}
+
+// An `sp` text of arcs in no order, with several of many pairs, and the least length of each pair.
+fn scattered(alloc: Global) -> Result<(String, BTreeMap<(i64, i64), i64>), AllocError> {
+    let mut text = format!(in alloc; "p sp 60 3000\n")?;
+    let mut least = BTreeMap::new(alloc);
+    let mut state = 1u32;
+    for _ in 0..3000 {
+        state = state.wrapping_mul(1_103_515_245).wrapping_add(12345);
+        let src = i64::from((state >> 24) % 60) + 1;
+        let dst = i64::from((state >> 16) % 60) + 1;
+        let length = i64::from((state >> 8) % 1000) - 500;
+        writeln!(text, "a {src} {dst} {length}")?;
+        let known = least.entry((src, dst))?.or_insert(length);
+        *known = length.min(*known);
+    }
+    Ok((text, least))
+}
+
+// Whether a graph has just these least lengths.
+fn has_lengths(held: &Held, least: &BTreeMap<(i64, i64), i64>) -> bool {
+    let View::Sp { table } = held.view() else {
+        return false;
+    };
+    let mut left = least.iter();
+    for (pair, found) in table.pairs() {
+        if left.next().map(|(at, length)| (*at, Some(*length))) != Some((pair, found.get())) {
+            return false;
+        }
+    }
+    left.next().is_none()
+}
+
+#[test]
+fn scattered_arcs(rt: HostRuntime) -> Result<(), Fail> {
+    let (text, least) = scattered(rt.alloc())?;
+    let whole = read_text(rt.alloc(), text.as_bytes())?;
+    assert!(rt; has_lengths(&whole, &least), "read whole");
+    for size in [1, 7, 100] {
+        let mut reader = Reader::new(rt.alloc());
+        for piece in text.as_bytes().chunks(size) {
+            reader.feed(piece)?;
+        }
+        let held = reader.finish()?;
+        assert!(rt; has_lengths(&held, &least), "read in pieces of {size}");
+    }
     Ok(())
 }
 

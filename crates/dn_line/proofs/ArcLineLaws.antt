@@ -1,12 +1,12 @@
 -- Lines whose words are a letter and numbers, with one blank between them.
-use Rattle.std.proofs.Common.{◌≡◌, ℕ, ◌+◌, ◌-◌, ◌<◌, ◌≤◌, ℤ, pos, ◌≤ℤ◌, List, [], ◌∷◌, ◌++◌, Bool, true, false, not, cond, ◌&&◌, refl, ap, sym, ◌∙◌, subst, arith, length, length-append, take, drop, get_or, append-nil, append_assoc, map, filter, Some, Ok}
+use Rattle.std.proofs.Common.{◌≡◌, ℕ, ◌+◌, ◌-◌, ◌<◌, ℤ, pos, ◌≤ℤ◌, List, [], ◌∷◌, ◌++◌, Bool, true, false, cond, refl, ap, sym, ◌∙◌, subst, arith, length, length-append, take, drop, get_or, append_assoc, map, filter, Some, Ok}
 use Rattle.std.specs.List.{list_all}
 use Rattle.dn_num.specs.Number.{number_read}
-use Rattle.dn_line.specs.Pieces.{parts, onto, pieces, has_bytes}
+use Rattle.dn_line.specs.Pieces.{parts, onto, has_bytes}
 use Rattle.dn_line.specs.Words.{is_blank, said, said_words, words}
 use Rattle.dn_line.specs.Reading.{head_read, fields_read}
 use Rattle.dn_line.specs.Checks.{item_read}
-use Rattle.dn_line.specs.LineStates.{is_clear, is_inner, used_of}
+use Rattle.dn_line.specs.LineStates.{is_clear, used_of}
 use Rattle.dn_line.specs.ArcLines.{BeginsWithArc, IsNumberBefore, AreNumbers, IsArcOf, number_word, has_arcs}
 use Rattle.dn_line.specs.declared.kind.Kind.{Kind}
 use Rattle.dn_line.specs.declared.kind.Kind.TheVariants.{Min, Max, Sp, Ss, P2p, Co}

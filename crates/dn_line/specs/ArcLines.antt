@@ -1,5 +1,5 @@
 -- Lines of arcs at the front of longer bytes, in their plain spelling.
-use Rattle.std.specs.Prelude.{◌≡◌, ℕ, ℤ, List, [], ◌∷◌, ◌++◌, map, Bool, true, false, None, Ok, Some}
+use Rattle.std.specs.Prelude.{◌≡◌, ℕ, ℤ, List, ◌∷◌, ◌++◌, map, Bool, true, false, None, Ok, Some}
 use Rattle.std.specs.List.{list_all}
 use Rattle.dn_num.specs.Number.{number_read}
 use Rattle.dn_line.specs.Words.{said_words}

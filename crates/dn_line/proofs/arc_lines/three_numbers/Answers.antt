@@ -1,6 +1,5 @@
 use Rattle.std.proofs.Common.{◌≡◌, arith, to_z, of_z, w64}
 use Rattle.std.proofs.lemmas.Int.{ints}
-use Rattle.dn_line.specs.ArcLines.{IsNumberBefore}
 use Rattle.dn_line.proofs.ArcLineLaws.{last_number, more_numbers}
 use Rattle.dn_line.proofs.arc_lines.three_numbers.Goals as goal
 

@@ -1,0 +1,605 @@
+// Writes one DIMACS network text to standard output, always the same for the same words.
+//
+//   generate KIND N [SEED] [--noise] [--odd]
+//
+// N is the number of arcs, met within a small factor, where the table says nothing else. --noise
+// adds comments, blank lines, CRs, tabs and runs of blanks; --odd spells some numbers with `+` and
+// leading zeros.
+//
+// Texts as people have them:
+//
+// road               sp, sparse grid, both directions, arcs by rising (tail, head)
+// road-pairs         the same arcs, each followed by its reverse, in blocks out of order
+// road-shuffled      the same arcs in random order
+// multi              sp, N/10 ordered pairs with 10 arcs each, random order
+// max                frames of grids joined by permutations, 1 arc in 20 between frames doubled
+// min                feasible, with LOW > 0, parallel arcs, some negative costs
+// co, co-shuffled    N/4 points, by rising ID or in random order
+// ss, p2p            N/4 queries
+//
+// Texts made to hurt:
+//
+// sp-falling         pairs fall
+// sp-alternating     tails from both ends: 1, N, 2, N-1, ..
+// sp-onepair         all arcs of one ordered pair
+// sp-star            all arcs of one tail, heads in random order
+// sp-dense           all pairs of a square, by columns
+// sp-multiples       random multiples of 1024 as nodes
+// sp-far             random nodes beyond 2^40
+// sp-far-multiples   random multiples of 2^40 as nodes
+// sp-sparse          random nodes of all 63 bits
+// sp-collide-first   pairs of one bucket in the index's first spread
+// sp-collide         pairs of one bucket in both spreads of the index
+// sp-collide-late    the same after as many random pairs
+// max-onepair        all arcs of one ordered pair
+// min-onepair        all arcs of one ordered pair, all costs different, random order
+// min-falling        the same, costs fall
+// min-one-cost       all arcs of one ordered pair and one cost
+// min-nodes-falling  N node lines by falling ID, 1 in 4 of flow 0, and one arc
+// co-falling         N points by falling ID
+// comments           N comment lines and ten arcs
+// empty-lines        N empty lines and ten arcs
+// long-comment       a comment of N bytes and ten arcs
+// long-blanks        N blanks within a line and ten arcs
+// long-number        a number with N leading zeros and ten arcs
+
+use std::io::{self, BufWriter, Write};
+
+struct Random(u64);
+impl Random {
+    fn next(&mut self) -> u64 {
+        self.0 = self.0.wrapping_add(0x9E3779B97F4A7C15);
+        let mut z = self.0;
+        z = (z ^ (z >> 30)).wrapping_mul(0xBF58476D1CE4E5B9);
+        z = (z ^ (z >> 27)).wrapping_mul(0x94D049BB133111EB);
+        z ^ (z >> 31)
+    }
+    fn below(&mut self, n: u64) -> u64 {
+        ((self.next() as u128 * n as u128) >> 64) as u64
+    }
+    fn range(&mut self, low: i64, high: i64) -> i64 {
+        low + self.below((high - low + 1) as u64) as i64
+    }
+    fn one_in(&mut self, n: u64) -> bool {
+        self.below(n) == 0
+    }
+    fn shuffle<T>(&mut self, items: &mut [T]) {
+        for i in (1..items.len()).rev() {
+            items.swap(i, self.below(i as u64 + 1) as usize);
+        }
+    }
+}
+
+/// Standard output, line by line.
+struct Text {
+    to: BufWriter<io::StdoutLock<'static>>,
+    line: Vec<u8>,
+    random: Random,
+    noise: bool,
+    odd: bool,
+}
+impl Text {
+    fn raw(&mut self, bytes: &[u8]) {
+        self.to.write_all(bytes).unwrap();
+    }
+    fn comment(&mut self, text: &str) {
+        self.raw(b"c ");
+        self.raw(text.as_bytes());
+        self.raw(if self.noise { b"\r\n" } else { b"\n" });
+    }
+    fn blank(&mut self) {
+        if self.noise && self.random.one_in(4) {
+            let runs: [&[u8]; 4] = [b"\t", b"  ", b" \t ", b"      "];
+            let run = runs[self.random.below(4) as usize];
+            self.line.extend_from_slice(run);
+        } else {
+            self.line.push(b' ');
+        }
+    }
+    fn number(&mut self, n: i64) {
+        if self.odd && self.random.one_in(8) {
+            let zeros = self.random.below(4) as usize;
+            self.line.push(if n < 0 { b'-' } else { b'+' });
+            self.line.extend(std::iter::repeat_n(b'0', zeros));
+            write!(self.line, "{}", n.unsigned_abs()).unwrap();
+        } else {
+            write!(self.line, "{n}").unwrap();
+        }
+    }
+    fn row(&mut self, head: &str, fields: &[i64], tail: &str) {
+        self.line.clear();
+        if self.noise {
+            if self.random.one_in(50) {
+                self.comment("noise: a b c 1 2 3");
+            }
+            if self.random.one_in(200) {
+                self.raw(b" \t\r\n\n");
+            }
+            if self.random.one_in(20) {
+                self.line.extend_from_slice(b"  ");
+            }
+        }
+        self.line.extend_from_slice(head.as_bytes());
+        for &n in fields {
+            self.blank();
+            self.number(n);
+        }
+        if !tail.is_empty() {
+            self.blank();
+            self.line.extend_from_slice(tail.as_bytes());
+        }
+        if self.noise && self.random.one_in(10) {
+            self.line.extend_from_slice(b" \r");
+        }
+        self.line.push(b'\n');
+        self.to.write_all(&self.line).unwrap();
+    }
+}
+
+/// An undirected road between two nodes, with its length.
+type Edge = (u32, u32, u32);
+
+/// The edges (u < v) of a sparse grid with about `arcs / 2` edges, and the number of nodes.
+fn road_edges(arcs: u64, random: &mut Random) -> (i64, Vec<Edge>) {
+    // The largest road files have some 2.44 arcs per node: each of the two grid edges of a node
+    // is kept with chance 0.61. A few far edges stand for bridges and motorways.
+    let n = ((arcs as f64 / 2.44) as u64).max(2);
+    let width = ((n as f64).sqrt() as u64).max(1);
+    let mut edges = Vec::with_capacity(arcs as usize / 2 + 16);
+    for u in 0..n {
+        for v in [u + 1, u + width] {
+            if v < n && random.below(100) < 61 {
+                edges.push((u as u32 + 1, v as u32 + 1, road_length(random)));
+            }
+        }
+        if random.one_in(500) {
+            let v = random.below(n);
+            if v != u && v != u + 1 && v != u + width && u != v + 1 && u != v + width {
+                let length = 9 * road_length(random);
+                edges.push((u.min(v) as u32 + 1, u.max(v) as u32 + 1, length));
+            }
+        }
+    }
+    edges.sort_unstable();
+    edges.dedup_by_key(|edge| (edge.0, edge.1));
+    (n as i64, edges)
+}
+fn road_length(random: &mut Random) -> u32 {
+    let length = 1 + random.below(2500) as u32;
+    if random.one_in(6) {
+        length * 11
+    } else {
+        length
+    }
+}
+
+/// Each edge and its reverse, edge by edge.
+fn both_ways(edges: &[Edge]) -> Vec<Edge> {
+    let both = |&(u, v, w): &Edge| [(u, v, w), (v, u, w)];
+    edges.iter().flat_map(both).collect()
+}
+
+fn road(text: &mut Text, random: &mut Random, n: u64, order: &str) {
+    let (nodes, mut edges) = road_edges(n, random);
+    let mut arcs;
+    match order {
+        "pairs" => {
+            // blocks of edges out of order, as files gathered county by county have them
+            let mut blocks: Vec<&mut [Edge]> = edges.chunks_mut(400).collect();
+            random.shuffle(&mut blocks);
+            arcs = Vec::new();
+            for block in blocks {
+                random.shuffle(block);
+                arcs.extend(both_ways(block));
+            }
+        }
+        "shuffled" => {
+            arcs = both_ways(&edges);
+            random.shuffle(&mut arcs);
+        }
+        _ => {
+            arcs = both_ways(&edges);
+            arcs.sort_unstable();
+        }
+    }
+    text.comment("generated: road-like grid");
+    text.comment("");
+    text.row("p sp", &[nodes, arcs.len() as i64], "");
+    text.comment(&format!(
+        "graph contains {} nodes and {} arcs",
+        nodes,
+        arcs.len()
+    ));
+    text.comment("");
+    for (u, v, w) in arcs {
+        text.row("a", &[u as i64, v as i64, w as i64], "");
+    }
+}
+
+fn multi(text: &mut Text, random: &mut Random, n: u64) {
+    let nodes = (n / 40).max(1);
+    let mut arcs = Vec::with_capacity(n as usize);
+    for _ in 0..(n / 10).max(1) {
+        let (u, v) = (1 + random.below(nodes), 1 + random.below(nodes));
+        for _ in 0..10 {
+            arcs.push((u as u32, v as u32, random.range(-50, 1_000_000) as i32));
+        }
+    }
+    random.shuffle(&mut arcs);
+    text.comment("generated: many parallel arcs");
+    text.row("p sp", &[nodes as i64, arcs.len() as i64], "");
+    for (u, v, w) in arcs {
+        text.row("a", &[u as i64, v as i64, w as i64], "");
+    }
+}
+
+fn max(text: &mut Text, random: &mut Random, n: u64) {
+    // b frames of a*a nodes; about 4 arcs in the frame and 1 between frames per node
+    let (least, most) = (1, 1000);
+    let per = (n as f64 / 5.0).max(8.0);
+    let a = (per.cbrt() as u64).max(2);
+    let b = ((per / (a * a) as f64).ceil() as u64).max(2);
+    let id = |frame: u64, y: u64, x: u64| (frame * a * a + y * a + x + 1) as i64;
+    let inside = most * (a * a) as i64;
+    let mut arcs = Vec::with_capacity(n as usize);
+    let mut to: Vec<u64> = (0..a * a).collect();
+    for frame in 0..b {
+        for y in 0..a {
+            for x in 0..a {
+                if x + 1 < a {
+                    arcs.push((id(frame, y, x), id(frame, y, x + 1), inside));
+                    arcs.push((id(frame, y, x + 1), id(frame, y, x), inside));
+                }
+                if y + 1 < a {
+                    arcs.push((id(frame, y, x), id(frame, y + 1, x), inside));
+                    arcs.push((id(frame, y + 1, x), id(frame, y, x), inside));
+                }
+            }
+        }
+        if frame + 1 < b {
+            random.shuffle(&mut to);
+            for i in 0..a * a {
+                let (u, v) = (id(frame, 0, i), id(frame + 1, 0, to[i as usize]));
+                arcs.push((u, v, random.range(least, most)));
+                if random.one_in(20) {
+                    arcs.push((u, v, random.range(0, most)));
+                }
+            }
+        }
+    }
+    random.shuffle(&mut arcs);
+    text.comment(&format!(
+        "generated: rmf-like, a {a} b {b} c1 {least} c2 {most}"
+    ));
+    text.row("p max", &[(a * a * b) as i64, arcs.len() as i64], "");
+    text.row("n", &[1], "s");
+    text.row("n", &[(a * a * b) as i64], "t");
+    for (u, v, w) in arcs {
+        text.row("a", &[u, v, w], "");
+    }
+}
+
+/// Paths from sources to sinks carry a flow that LOW and CAP admit; supplies follow from it, so the
+/// text is feasible. The other arcs are random, 1 in 3 parallel to an earlier one.
+fn min(text: &mut Text, random: &mut Random, n: u64) {
+    let nodes = (n / 8).max(4) as i64;
+    let some = (nodes / 10).max(1);
+    let mut supply = vec![0i64; nodes as usize + 1];
+    let mut arcs: Vec<[i64; 5]> = Vec::with_capacity(n as usize + 16);
+    while (arcs.len() as u64) < n * 6 / 10 {
+        let mut at = random.range(1, some);
+        let end = nodes + 1 - random.range(1, some);
+        let flow = random.range(1, 100);
+        supply[at as usize] += flow;
+        supply[end as usize] -= flow;
+        for hop in (0..random.range(2, 6)).rev() {
+            let next = if hop == 0 {
+                end
+            } else {
+                random.range(1, nodes)
+            };
+            let mut left = flow;
+            while left > 0 {
+                let part = if random.one_in(3) {
+                    random.range(1, left)
+                } else {
+                    left
+                };
+                let low = if random.one_in(2) {
+                    random.range(0, part)
+                } else {
+                    0
+                };
+                let cap = part + random.range(0, 300);
+                arcs.push([at, next, low, cap, cost(random)]);
+                left -= part;
+            }
+            at = next;
+        }
+    }
+    while (arcs.len() as u64) < n {
+        let (u, v) = if random.one_in(3) {
+            let old = arcs[random.below(arcs.len() as u64) as usize];
+            (old[0], old[1])
+        } else {
+            (random.range(1, nodes), random.range(1, nodes))
+        };
+        arcs.push([u, v, 0, random.range(0, 500), cost(random)]);
+    }
+    random.shuffle(&mut arcs);
+    text.comment("generated: netgen-like, feasible, with lower bounds and parallel arcs");
+    text.row("p min", &[nodes, arcs.len() as i64], "");
+    for id in 1..=nodes {
+        if supply[id as usize] != 0 {
+            text.row("n", &[id, supply[id as usize]], "");
+        }
+    }
+    for arc in arcs {
+        text.row("a", &arc, "");
+    }
+}
+fn cost(random: &mut Random) -> i64 {
+    if random.one_in(10) {
+        -random.range(1, 50)
+    } else {
+        random.range(0, 1000)
+    }
+}
+
+fn points(text: &mut Text, random: &mut Random, ids: &[i64]) {
+    text.comment("generated: coordinates");
+    text.row("p aux sp co", &[ids.len() as i64], "");
+    for &id in ids {
+        let x = random.range(-124_000_000, -67_000_000);
+        let y = random.range(25_000_000, 49_000_000);
+        text.row("v", &[id, x, y], "");
+    }
+}
+
+fn queries(text: &mut Text, random: &mut Random, n: u64, kind: &str) {
+    let nodes = (n / 3).max(1) as i64;
+    text.comment("generated: queries");
+    text.row(&format!("p aux sp {kind}"), &[(n / 4) as i64], "");
+    for _ in 0..n / 4 {
+        let (u, v) = (random.range(1, nodes), random.range(1, nodes));
+        match kind {
+            "ss" => text.row("s", &[u], ""),
+            _ => text.row("q", &[u, v], ""),
+        }
+    }
+}
+
+type Pair = (i64, i64);
+
+/// Random pairs of the nodes that `node` makes of the numbers 1 to `count`.
+fn random_pairs(random: &mut Random, n: u64, count: i64, node: impl Fn(i64) -> i64) -> Vec<Pair> {
+    let mut one = || node(random.range(1, count));
+    (0..n).map(|_| (one(), one())).collect()
+}
+
+fn alternating(n: i64) -> impl Iterator<Item = Pair> {
+    let tail = move |i: i64| if i % 2 == 0 { 1 + i / 2 } else { n - i / 2 };
+    (0..n).map(move |i| (tail(i), tail(n - 1 - i)))
+}
+
+/// Pairs with one sum of head and four times the tail, in random order.
+fn one_sum(random: &mut Random, n: i64) -> Vec<Pair> {
+    let mut pairs: Vec<Pair> = (1..=n).map(|tail| (tail, 4 * (n - tail) + 1)).collect();
+    random.shuffle(&mut pairs);
+    pairs
+}
+
+// The numbers by which the index (crates/pair_index/src/bucket.rt) mixes a tail and a head, and both:
+//   both = tail * TAIL ^ (head * HEAD).rotate_left(32),  mixed = (both ^ both >> 32) * BOTH
+const TAIL: u64 = 0x9E37_79B9_7F4A_7C15;
+const HEAD: u64 = 0xC2B2_AE3D_27D4_EB4F;
+const BOTH: u64 = 0xD6E8_FEB8_6659_FD93;
+
+/// What an odd number is multiplied by to make 1.
+fn inverse(odd: u64) -> u64 {
+    let mut x = odd; // right in three bits, and each round doubles them
+    for _ in 0..5 {
+        x = x.wrapping_mul(2u64.wrapping_sub(odd.wrapping_mul(x)));
+    }
+    x
+}
+
+/// Different pairs that agree in 4 * tail + head modulo 2^40 and in the upper 32 bits of `mixed`, so
+/// that neither spread tells them apart at any number of buckets up to 2^32.
+fn colliding(random: &mut Random, n: u64) -> Vec<Pair> {
+    const HALF: u64 = (1 << 32) - 1;
+    const SUM: u64 = 12_345;
+    const UPPER: u64 = 0x2545_F491;
+    let (tail_back, head_back, both_back) = (inverse(TAIL), inverse(HEAD), inverse(BOTH));
+    // With src = tail * TAIL and dst = head * HEAD, the sum says, modulo 2^40:
+    //   4 * src + ratio * dst = sum
+    let (sum, ratio) = (SUM.wrapping_mul(TAIL), TAIL.wrapping_mul(head_back));
+    let mut pairs = Vec::with_capacity(n as usize);
+    for lower in 0..n {
+        // The lower half of `mixed` numbers the pairs.
+        let folded = (UPPER << 32 | lower).wrapping_mul(both_back);
+        let both = folded ^ folded >> 32;
+        // For a lower half of dst, the sum modulo 2^32 gives 30 bits of the lower half of src, and
+        // that gives the upper half of dst. The four ways to go on are tried.
+        let found = 'search: loop {
+            let dst_low = random.next() & HALF;
+            let src_four = sum.wrapping_sub(ratio.wrapping_mul(dst_low)) & HALF;
+            if src_four & 3 != 0 {
+                continue;
+            }
+            for top in 0..4 {
+                let src_low = src_four >> 2 | top << 30;
+                let dst = ((both ^ src_low) & HALF) << 32 | dst_low;
+                let tail = (both ^ dst.rotate_left(32)).wrapping_mul(tail_back) as i64;
+                let head = dst.wrapping_mul(head_back) as i64;
+                let off = (4u64.wrapping_mul(tail as u64))
+                    .wrapping_add(head as u64)
+                    .wrapping_sub(SUM);
+                if off << 24 == 0 && tail > 0 && head > 0 {
+                    break 'search (tail, head);
+                }
+            }
+        };
+        pairs.push(found);
+    }
+    pairs
+}
+
+/// Arcs of pairs that hurt, with random lengths.
+fn hostile_sp(text: &mut Text, random: &mut Random, kind: &str, n: u64) {
+    let count = n.max(1) as i64;
+    let pairs = match kind {
+        "falling" => (0..count).rev().map(|i| (1 + i / 4, 1 + i % 4)).collect(),
+        "alternating" => alternating(count).collect(),
+        "onepair" => vec![(1, 2); n as usize],
+        "star" => {
+            let mut pairs: Vec<Pair> = (1..=count).map(|head| (1, head)).collect();
+            random.shuffle(&mut pairs);
+            pairs
+        }
+        "dense" => {
+            let side = n.isqrt() as i64;
+            let column = |head| (1..=side).map(move |tail| (tail, head));
+            (1..=side).flat_map(column).collect()
+        }
+        "multiples" => random_pairs(random, n, count, |i| i * 1024),
+        "far" => random_pairs(random, n, count, |i| (1 << 40) + i),
+        "far-multiples" => random_pairs(random, n, count.min(1 << 22), |i| i << 40),
+        "sparse" => random_pairs(random, n, i64::MAX - 1, |i| i),
+        "collide-first" => one_sum(random, count),
+        "collide" => colliding(random, n),
+        "collide-late" => {
+            let mut pairs = random_pairs(random, n - n / 2, count, |i| i);
+            pairs.extend(colliding(random, n / 2));
+            pairs
+        }
+        _ => unknown(kind),
+    };
+    let nodes = match kind {
+        "sparse" | "collide" | "collide-late" => i64::MAX,
+        _ => pairs
+            .iter()
+            .map(|pair| pair.0.max(pair.1))
+            .max()
+            .unwrap_or(1),
+    };
+    text.row("p sp", &[nodes, pairs.len() as i64], "");
+    for (tail, head) in pairs {
+        text.row("a", &[tail, head, random.range(0, 999_999)], "");
+    }
+}
+
+fn hostile_max(text: &mut Text, random: &mut Random, n: u64) {
+    text.row("p max", &[2, n as i64], "");
+    text.row("n", &[1], "s");
+    text.row("n", &[2], "t");
+    for _ in 0..n {
+        text.row("a", &[1, 2, random.range(0, 1000)], "");
+    }
+}
+
+fn hostile_min(text: &mut Text, random: &mut Random, kind: &str, n: u64) {
+    let mut costs: Vec<i64> = (0..n as i64).map(|i| i * 7 - 1_000_000).collect();
+    match kind {
+        "onepair" => random.shuffle(&mut costs),
+        "falling" => costs.reverse(),
+        "one-cost" => costs.fill(7),
+        _ => unknown(kind),
+    }
+    text.row("p min", &[2, n as i64], "");
+    for cost in costs {
+        let low = random.range(0, 3);
+        text.row("a", &[1, 2, low, low + random.range(0, 1000), cost], "");
+    }
+}
+
+fn nodes_falling(text: &mut Text, n: i64) {
+    text.row("p min", &[n.max(2), 1], "");
+    for id in (1..=n).rev() {
+        text.row("n", &[id, id % 4], "");
+    }
+    text.row("a", &[1, 2, 0, 1, 1], "");
+}
+
+/// A text of ten arcs in which something else is long.
+fn few_arcs(text: &mut Text, kind: &str, n: usize) {
+    text.row("p sp", &[10, 10], "");
+    let (before, after) = match kind {
+        "long-blanks" => ("a 10 1", " 10\n"),
+        "long-number" => ("a 10 1 ", "10\n"),
+        _ => ("", "a 10 1 10\n"),
+    };
+    match kind {
+        "comments" => (0..n).for_each(|i| text.comment(&format!("line {i}"))),
+        "empty-lines" => text.raw(&vec![b'\n'; n]),
+        "long-comment" => text.comment(&"x".repeat(n)),
+        _ => {}
+    }
+    text.raw(before.as_bytes());
+    match kind {
+        "long-blanks" => text.raw(&vec![b' '; n]),
+        "long-number" => text.raw(&vec![b'0'; n]),
+        _ => {}
+    }
+    text.raw(after.as_bytes());
+    for u in (1..10).rev() {
+        text.row("a", &[u, 11 - u, u], "");
+    }
+}
+
+fn unknown(kind: &str) -> ! {
+    eprintln!("generate: unknown kind {kind}");
+    std::process::exit(3)
+}
+
+fn main() {
+    let (flags, words): (Vec<String>, Vec<String>) = std::env::args()
+        .skip(1)
+        .partition(|word| word.starts_with("--"));
+    if words.len() < 2 {
+        eprintln!("usage: generate KIND N [SEED] [--noise] [--odd]");
+        std::process::exit(3);
+    }
+    let n: u64 = words[1].parse().expect("N");
+    let seed: u64 = words.get(2).map_or(1, |word| word.parse().expect("SEED"));
+    let random = &mut Random(seed.wrapping_mul(0xA0761D6478BD642F) ^ 0x51ED270B);
+    let text = &mut Text {
+        to: BufWriter::with_capacity(1 << 16, io::stdout().lock()),
+        line: Vec::new(),
+        random: Random(seed ^ 0xC0FFEE),
+        noise: flags.iter().any(|flag| flag == "--noise"),
+        odd: flags.iter().any(|flag| flag == "--odd"),
+    };
+    let rising = |count: u64| (1..=count as i64).collect::<Vec<i64>>();
+    match words[0].as_str() {
+        "road" => road(text, random, n, "rising"),
+        "road-pairs" => road(text, random, n, "pairs"),
+        "road-shuffled" => road(text, random, n, "shuffled"),
+        "multi" => multi(text, random, n),
+        "max" => max(text, random, n),
+        "min" => min(text, random, n),
+        "co" => points(text, random, &rising(n / 4)),
+        "co-shuffled" => {
+            let mut ids = rising(n / 4);
+            random.shuffle(&mut ids);
+            points(text, random, &ids);
+        }
+        "ss" | "p2p" => queries(text, random, n, &words[0]),
+        "max-onepair" => hostile_max(text, random, n),
+        "min-nodes-falling" => nodes_falling(text, n as i64),
+        "co-falling" => {
+            let mut ids = rising(n);
+            ids.reverse();
+            points(text, random, &ids);
+        }
+        "comments" | "empty-lines" | "long-comment" | "long-blanks" | "long-number" => {
+            few_arcs(text, &words[0], n as usize)
+        }
+        kind => match kind.split_once('-') {
+            Some(("sp", kind)) => hostile_sp(text, random, kind, n),
+            Some(("min", kind)) => hostile_min(text, random, kind, n),
+            _ => unknown(kind),
+        },
+    }
+    text.to.flush().unwrap();
+}

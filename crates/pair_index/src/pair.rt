@@ -1,0 +1,9 @@
+// Ordered pairs.
+ghost use Rattle.std.specs.Prelude.{◌≡◌, IsTrue, ◌↔◌};
+
+/// Whether both are one ordered pair: the same tail and the same head.
+pub fn is_pair(left: &(i64, i64), right: &(i64, i64)) -> bool
+    ensures { IsTrue result ↔ (left.now ≡ right.now) }
+{
+    left.0 == right.0 && left.1 == right.1
+}
