@@ -1,7 +1,7 @@
 -- What a reader has read, and what it answers.
 use Rattle.std.specs.Prelude.{◌≡◌, ℕ, ◌+◌, ◌-◌, ◌<◌, ◌≤◌, List, [], ◌∷◌, ◌++◌, length, take, cond, Option, Some, None, MatchOption, Result, Ok, Err}
 use Rattle.dn_line.specs.Pieces.{parts, lines, is_line_feed}
-use Rattle.dn_line.specs.LineStates.{LineSoFar, Stands, used_of}
+use Rattle.dn_line.specs.LineStates.{LineSoFar, Stands}
 use Rattle.dn_line.specs.declared.line_reader.LineReader.{LineReader}
 use Rattle.dn_instance.specs.declared.place.Place.TheVariants as Places
 use Rattle.dn_instance.specs.declared.refusal.Refusal.{Refusal}

@@ -6,9 +6,9 @@ use pair_index::AHEAD;
 // The ordered pair of an arc.
 fn pair_of(arc: &Line) -> (i64, i64) {
     match arc {
-        Line::MinArc { src, dst, .. } | Line::MaxArc { src, dst, .. } | Line::SpArc { src, dst, .. } => {
-            (*src, *dst)
-        }
+        Line::MinArc { src, dst, .. }
+        | Line::MaxArc { src, dst, .. }
+        | Line::SpArc { src, dst, .. } => { (*src, *dst) }
         _ => (0, 0),
     }
 }

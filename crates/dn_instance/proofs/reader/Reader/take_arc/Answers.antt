@@ -1,10 +1,9 @@
-use Rattle.std.proofs.Common.{◌≡◌, [], ◌∷◌, ◌++◌, ℕ, List, take, Option, Some, None, MatchOption, refl, sym, ap, ◌∙◌, subst}
+use Rattle.std.proofs.Common.{◌≡◌, [], ◌∷◌, ◌++◌, ℕ, List, take, Option, Some, None, MatchOption, sym, ap, ◌∙◌, subst}
 use Rattle.dn_line.specs.LineStates.{used_of}
 use Rattle.dn_line.specs.Pieces.{parts, is_line_feed}
 use Rattle.dn_line.proofs.PartsLaws.{Parts}
 use Rattle.dn_instance.specs.Readers.{IsReading, HasOpen, ended, open_of}
 use Rattle.dn_instance.specs.TextsSoFar.{HasRead, ReadsFront}
-use Rattle.dn_instance.specs.declared.text_so_far.TextSoFar.{TextSoFar}
 use Rattle.dn_instance.specs.declared.reader.Reader.{Reader}
 use Rattle.dn_instance.proofs.PieceSteps.{none_open, line_more}
 use Rattle.dn_instance.proofs.reader.Reader.take_arc.Goals as goal

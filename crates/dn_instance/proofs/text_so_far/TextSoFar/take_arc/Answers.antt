@@ -20,10 +20,10 @@ returns-in-Ok-clause-taken c ls was =
     let f = follows_as items ws n.counts arc n.reads in
     let early : is_too_long (length ls + 1) ≡ false = in_time (length ls) t.closed h.number_is (let below = c.if-self-ge-LAST.false in let same = ap (λ (x : TextSoFar). x.closed) c.look_ahead.ensures in omega arith) in
     let none : fault_next items ws ≡ None =
-        subst (λ r. Answers r (fault_next items ws)) c.in-Ok.is (subst (Answers c.put.result) (sym (same_fault items ws arc n.counts f)) (c.put.ensures.answer items h.progress_is f.may)) in
+    subst (λ r. Answers r (fault_next items ws)) c.in-Ok.is (subst (Answers c.put.result) (sym (same_fault items ws arc n.counts f)) (c.put.ensures.answer items h.progress_is f.may)) in
     let number : t.closed + 1 ≡ suc (length ls) = (let k = h.number_is in omega arith) in
     let stands : OnOk c.put.result (IsProgress c.put.new.progress (with_next items ws)) =
-        subst (λ x. OnOk c.put.result (IsProgress c.put.new.progress x)) (sym (adds_it items ws arc n.counts f)) (c.put.ensures.stands items h.progress_is f.may) in
+    subst (λ x. OnOk c.put.result (IsProgress c.put.new.progress x)) (sym (adds_it items ws arc n.counts f)) (c.put.ensures.stands items h.progress_is f.may) in
     record {
       line = n.line;
       rest = n.rest;
