@@ -4,7 +4,8 @@ use Rattle.std.specs.Int.RustNames.{FitsSigned}
 use Rattle.std.proofs.lemmas.Int.{to_z-of_z}
 use Rattle.std.proofs.lemmas.Map.Lookups.{exact_pairs, exact_signed}
 use Rattle.std.specs.Ordering.{int_cmp, is_eq, ordering_reverse}
-use Rattle.std.proofs.lemmas.Cmp.{int_cmp_total}
+use Rattle.std.specs.Cmp.{IsTotalOrder}
+use Rattle.std.proofs.lemmas.Cmp.{int_cmp_total, on_total, then_total}
 use Rattle.std.specs.declared.cmp.Ordering.{Ordering}
 use Rattle.std.specs.declared.cmp.Ordering.TheVariants.{Less, Equal, Greater}
 use Rattle.dn_instance.specs.Pairs.{pair_cmp, same_pair}
@@ -46,3 +47,7 @@ other_pair p q h = by_test (same_pair q p) refl
     by_test : (t : Bool) → same_pair q p ≡ t → same_pair q p ≡ false
     by_test false e = e
     by_test true e = (let one : q ≡ p = pair_is q p e in let never : true ≡ false = sym (pair_self p) ∙ ap (same_pair p) (sym one) ∙ h in cc)
+
+-- pairs are in a total order
+pub pair_total : IsTotalOrder pair_cmp
+pair_total = then_total (on_total (λ (p : ℤ × ℤ). p.0) int_cmp_total) (on_total (λ (p : ℤ × ℤ). p.1) int_cmp_total)
