@@ -22,7 +22,8 @@ use Rattle.dn_bundle.specs.Laws.Curves.{at_most_cap}
 use Rattle.dn_bundle.specs.Laws.CostKind.{cost_kind}
 use Rattle.dn_bundle.specs.Laws.Differences.{least_cost_unique}
 
-same_or_not : (a b : ℤ) → (a ≡ b) ⊎ (a ≢ b)
+-- whether two numbers are the same
+pub same_or_not : (a b : ℤ) → (a ≡ b) ⊎ (a ≢ b)
 same_or_not a b = by_lt_z a b (λ lt. inr (λ e. absurd (omega (arith, ints, e)))) (λ le. by_lt_z b a (λ gt. inr (λ e. absurd (omega (arith, ints, e)))) (λ ge. inl (omega (arith, ints))))
 
 same_option_or_not : (a b : Option ℤ) → (a ≡ b) ⊎ (a ≢ b)

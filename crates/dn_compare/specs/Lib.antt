@@ -1,2 +1,5 @@
-pub mod Parting
+pub mod Observed
 pub mod FirstDifference
+pub mod Turned
+pub mod Walks
+pub mod Partings
