@@ -9,5 +9,8 @@ mod parting;
 pub mod verdict;
 mod walk;
 
+#[cfg(test)]
+mod tests;
+
 pub use difference::compare;
 pub use verdict::Verdict;
