@@ -6,11 +6,10 @@
 mod difference;
 pub mod laws;
 mod parting;
-pub mod verdict;
-mod walk;
-
 #[cfg(test)]
 mod tests;
+pub mod verdict;
+mod walk;
 
 pub use difference::compare;
 pub use verdict::Verdict;

@@ -56,7 +56,7 @@ fn number(seed: &mut u64, most: u64) -> i64 {
     (*seed >> 33).checked_rem(most).unwrap_or(0) as i64
 }
 
-fn arc(seed: &mut u64) -> Arc {
+fn random_arc(seed: &mut u64) -> Arc {
     let src = number(seed, 2).saturating_add(1);
     let dst = number(seed, 2).saturating_add(1);
     let low = number(seed, 2);
@@ -64,7 +64,7 @@ fn arc(seed: &mut u64) -> Arc {
     (src, dst, low, cap, number(seed, 2))
 }
 
-fn small(seed: &mut u64, kind: Kind) -> Small {
+fn random_small(seed: &mut u64, kind: Kind) -> Small {
     let source = number(seed, 2).saturating_add(1);
     Small {
         kind,
@@ -72,7 +72,7 @@ fn small(seed: &mut u64, kind: Kind) -> Small {
         flows: [number(seed, 2), number(seed, 2), 0],
         terminals: (source, 3i64.saturating_sub(source)),
         count: if number(seed, 4) == 0 { 2 } else { 3 },
-        arcs: [arc(seed), arc(seed), arc(seed)],
+        arcs: [random_arc(seed), random_arc(seed), random_arc(seed)],
     }
 }
 
@@ -138,7 +138,11 @@ fn slow_how(a: &Small, b: &Small, src: i64, dst: i64) -> Option<How> {
                 let left = slow_cost(a, src, dst, amount);
                 let right = slow_cost(b, src, dst, amount);
                 if left != right {
-                    return Some(How::Costs(Gap { amount, left, right }));
+                    return Some(How::Costs(Gap {
+                        amount,
+                        left,
+                        right,
+                    }));
                 }
             }
             None
@@ -157,7 +161,10 @@ fn slow_how(a: &Small, b: &Small, src: i64, dst: i64) -> Option<How> {
 // The first difference of two graphs of one kind.
 fn slow_graph(a: &Small, b: &Small) -> Verdict {
     if a.nodes != b.nodes {
-        return Verdict::Nodes { left: a.nodes, right: b.nodes };
+        return Verdict::Nodes {
+            left: a.nodes,
+            right: b.nodes,
+        };
     }
     for (id, (left, right)) in (1i64..4).zip(a.flows.into_iter().zip(b.flows)) {
         if a.kind == Kind::Min && left != right {
@@ -165,7 +172,10 @@ fn slow_graph(a: &Small, b: &Small) -> Verdict {
         }
     }
     if a.kind == Kind::Max && a.terminals.0 != b.terminals.0 {
-        return Verdict::Source { left: a.terminals.0, right: b.terminals.0 };
+        return Verdict::Source {
+            left: a.terminals.0,
+            right: b.terminals.0,
+        };
     }
     for src in 1..4 {
         for dst in 1..4 {
@@ -194,11 +204,16 @@ fn slow_companion(a: &Small, b: &Small) -> Verdict {
         return Verdict::Same;
     }
     if a.count != b.count {
-        return Verdict::Length { left: a.count as u64, right: b.count as u64 };
+        return Verdict::Length {
+            left: a.count as u64,
+            right: b.count as u64,
+        };
     }
     for place in 0..a.count {
         if item(a, place) != item(b, place) {
-            return Verdict::Item { index: (place as u64).saturating_add(1) };
+            return Verdict::Item {
+                index: (place as u64).saturating_add(1),
+            };
         }
     }
     Verdict::Same
@@ -207,7 +222,10 @@ fn slow_companion(a: &Small, b: &Small) -> Verdict {
 // The first difference by trying all places in their order.
 fn slow_verdict(a: &Small, b: &Small) -> Verdict {
     if a.kind != b.kind {
-        return Verdict::Kind { left: a.kind, right: b.kind };
+        return Verdict::Kind {
+            left: a.kind,
+            right: b.kind,
+        };
     }
     match a.kind {
         Kind::Min | Kind::Max | Kind::Sp => slow_graph(a, b),
@@ -243,7 +261,9 @@ fn rows(alloc: Global, one: &Small, again: bool) -> Result<Vec<String>, Fail> {
         let room = cap.saturating_sub(low);
         let more = cost.saturating_add(1);
         match (one.kind, again) {
-            (Kind::Min, false) => lines.push(format!(in alloc; "a {src} {dst} {low} {cap} {cost}\n")?)?,
+            (Kind::Min, false) => lines.push(format!(in alloc;
+                "a {src} {dst} {low} {cap} {cost}\n"
+            )?)?,
             (Kind::Min, true) => {
                 lines.push(format!(in alloc; "a {src} {dst} {low} {low} {cost}\n")?)?;
                 lines.push(format!(in alloc; "a {src} {dst} 0 {room} {cost}\n")?)?;
@@ -262,7 +282,9 @@ fn rows(alloc: Global, one: &Small, again: bool) -> Result<Vec<String>, Fail> {
                 }
             }
             (Kind::Ss, _) if place < one.count => lines.push(format!(in alloc; "s {src}\n")?)?,
-            (Kind::P2p, _) if place < one.count => lines.push(format!(in alloc; "q {src} {dst}\n")?)?,
+            (Kind::P2p, _) if place < one.count => lines.push(format!(in alloc;
+                "q {src} {dst}\n"
+            )?)?,
             _ => {}
         }
     }
@@ -273,7 +295,11 @@ fn rows(alloc: Global, one: &Small, again: bool) -> Result<Vec<String>, Fail> {
 fn text(alloc: Global, one: &Small, again: bool) -> Result<String, Fail> {
     let marks = marks(alloc, one, again)?;
     let rows = rows(alloc, one, again)?;
-    let count = if one.kind == Kind::Co { marks.len() } else { rows.len() };
+    let count = if one.kind == Kind::Co {
+        marks.len()
+    } else {
+        rows.len()
+    };
     let name = one.kind.name();
     let mut text = match one.kind {
         Kind::Min | Kind::Max | Kind::Sp => format!(in alloc; "p {name} {} {count}\n", one.nodes)?,
@@ -302,19 +328,26 @@ fn is_so(alloc: Global, a: &Small, b: &Small) -> Result<bool, Fail> {
     Ok(true)
 }
 
-const KINDS: [Kind; 6] = [Kind::Min, Kind::Max, Kind::Sp, Kind::Ss, Kind::P2p, Kind::Co];
+const KINDS: [Kind; 6] = [
+    Kind::Min,
+    Kind::Max,
+    Kind::Sp,
+    Kind::Ss,
+    Kind::P2p,
+    Kind::Co,
+];
 
 #[test]
 fn small_instances_by_plain_search(rt: HostRuntime) -> Result<(), Fail> {
     let mut seed = 7;
     for kind in KINDS {
         for _round in 0..300 {
-            let a = small(&mut seed, kind);
-            let b = small(&mut seed, kind);
+            let a = random_small(&mut seed, kind);
+            let b = random_small(&mut seed, kind);
             assert!(rt; is_so(rt.alloc(), &a, &b)?, "{a:?} and {b:?}");
             assert!(rt; is_so(rt.alloc(), &a, &a)?, "{a:?} twice");
             let kind = KINDS[(seed % 6) as usize];
-            let other = small(&mut seed, kind);
+            let other = random_small(&mut seed, kind);
             assert!(rt; is_so(rt.alloc(), &a, &other)?, "{a:?} and {other:?}");
         }
     }
