@@ -189,6 +189,10 @@ points_on xs ys h _ J p q n x y = absurd x
 
 -- ---- kinds and nodes
 
+-- what is the same contents has the same verdict
+pub shown_on : (a b c d : Contents) (v : Verdict) → a ≡ c → b ≡ d → IsVerdictOn a b v → IsVerdictOn c d v
+shown_on a b c d v e f h = subst (λ x. IsVerdictOn x d v) e (subst (λ y. IsVerdictOn a y v) f h)
+
 shown_kind : (c : Contents) (I : Instance) → Shows c I → contents_kind c ≡ kind_of I
 shown_kind (OfMin flows table) (MinCostFlow s G) h = refl
 shown_kind (OfMax source sink table) (MaxFlow s t G) h = refl

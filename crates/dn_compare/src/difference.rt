@@ -1,11 +1,11 @@
 // The first difference between two texts that were read.
 ghost use Rattle.std.specs.Prelude.{◌≡◌, ℤ, List};
 ghost use Rattle.dn_bundle.specs.declared.arc.Form.{Form};
-ghost use Rattle.dn_instance.specs.Helds.{IsHeld, OfCo, OfMax, OfMin};
+ghost use Rattle.dn_instance.specs.Helds.{contents_kind, IsHeld, OfCo, OfMax, OfMin};
 ghost use Rattle.dn_instance.specs.Instances.{Instance};
 ghost use Rattle.dn_instance.specs.TableSteps.{Tells};
 ghost use Rattle.dn_instance.specs.Validity.{IsValid};
-ghost use Rattle.dn_instance.specs.Views.{holding};
+ghost use Rattle.dn_instance.specs.Views.{holding, shown};
 ghost use Rattle.dn_compare.specs.FirstDifference.{IsFirstDifference};
 ghost use Rattle.dn_compare.specs.Partings.{IsListVerdict, IsPairVerdict, IsVerdictOn};
 
@@ -34,7 +34,15 @@ pub fn compare(left: &Held, right: &Held) -> Verdict
             right: right.nodes(),
         };
     }
-    match (left.view(), right.view()) {
+    shown_verdict(left.view(), right.view())
+}
+
+// The verdict on two texts of one kind and of as many nodes.
+fn shown_verdict(left: View<'_>, right: View<'_>) -> Verdict
+    requires { contents_kind (shown left) ≡ contents_kind (shown right) }
+    ensures { IsVerdictOn (shown left.entry) (shown right.entry) result }
+{
+    match (left, right) {
         (
             View::Min {
                 supplies: l,

@@ -56,7 +56,9 @@ pub(crate) fn first_point(
     let mut lefts = MapWalk::new(left);
     let mut rights = MapWalk::new(right);
     while let Some(id) = lesser_id(lefts.id(), rights.id()) {
-        if lefts.take(&id) != rights.take(&id) {
+        let point = lefts.take(&id);
+        let other = rights.take(&id);
+        if point != other {
             return Some(id);
         }
     }

@@ -78,7 +78,8 @@ pub(crate) fn lesser_pair(left: Option<(i64, i64)>, right: Option<(i64, i64)>) -
             Ordering::Greater => Some(right),
         },
         (Some(left), None) => Some(left),
-        (None, right) => right,
+        (None, Some(right)) => Some(right),
+        (None, None) => None,
     }
 }
 
@@ -146,11 +147,8 @@ pub(crate) fn lesser_id(left: Option<i64>, right: Option<i64>) -> Option<i64>
     ensures { result ≡ lesser_key int_cmp left right }
 {
     match (left, right) {
-        (Some(left), Some(right)) => match left.cmp(&right) {
-            Ordering::Less | Ordering::Equal => Some(left),
-            Ordering::Greater => Some(right),
-        },
-        (Some(left), None) => Some(left),
+        (Some(left), Some(right)) => Some(left.min(right)),
+        (left, None) => left,
         (None, right) => right,
     }
 }
