@@ -41,12 +41,16 @@ length_there : (xs ys : List LengthArc) (w : Option ℤ) → IsLengthOf xs w →
 length_there xs ys None h g v l = absurd (subst (λ zs. LeastLength zs v) h l).has
 length_there xs ys (Some w) h g v l = subst (LeastLength ys) (Least.least_unique xs w v h l) g
 
+-- lists of one least length, or of none, mean the same
+pub same_by_length : (xs ys : List LengthArc) (w : Option ℤ) → IsLengthOf xs w → IsLengthOf ys w → SameLength xs ys
+same_by_length xs ys w l r = record { there = length_there xs ys w l r; back = length_there ys xs w r l }
+
 pub length_or_differ : (xs ys : List LengthArc) → SameLength xs ys ⊎ ((how : How) × LengthsDiffer xs ys how)
 length_or_differ xs ys = by_lengths (length_found xs) (length_found ys)
   where
     by_lengths : ((w : Option ℤ) × IsLengthOf xs w) → ((w : Option ℤ) × IsLengthOf ys w) → SameLength xs ys ⊎ ((how : How) × LengthsDiffer xs ys how)
     by_lengths l r = elim (same_option_or_not l.0 r.0) [
-      | inl e ↦ (let right : IsLengthOf ys l.0 = subst (IsLengthOf ys) (sym e) r.1 in inl (record { there = length_there xs ys l.0 l.1 right; back = length_there ys xs l.0 right l.1 }))
+      | inl e ↦ (let right : IsLengthOf ys l.0 = subst (IsLengthOf ys) (sym e) r.1 in inl (same_by_length xs ys l.0 l.1 right))
       | inr n ↦ inr (Lengths l.0 r.0, (l.1, r.1, n))
     ]
 

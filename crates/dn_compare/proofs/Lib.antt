@@ -7,3 +7,4 @@ pub mod PairWalks
 pub mod MapWalks
 pub mod HeldVerdicts
 pub mod SomeVerdict
+pub mod ExampleLaws

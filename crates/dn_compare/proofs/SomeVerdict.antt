@@ -118,20 +118,21 @@ SameHere kind G H p = kind.Same (bundle p G.arcs) (bundle p H.arcs)
 abbrev DifferHere : {Arc : Type 0} → ArcKind Arc → Graph Arc → Graph Arc → ℤ × ℤ → Type 0
 DifferHere kind G H p = (how : How) × kind.Differ (bundle p G.arcs) (bundle p H.arcs) how
 
+-- at a pair that no arc has, both have no arcs
+pub same_outside : {Arc : Type 0} (kind : ArcKind Arc) (laws : IsKind kind) (xs ys : List ((ℤ × ℤ) × Arc)) (p : ℤ × ℤ) → list_any (same_pair p) (keys_of xs ++ keys_of ys) ≡ false → kind.Same (bundle p xs) (bundle p ys)
+same_outside kind laws xs ys p e =
+    let both = any_both (same_pair p) (keys_of xs) (keys_of ys) e in
+    subst (λ z. kind.Same z (bundle p ys)) (sym (none_bundled p xs both.0)) (subst (λ z. kind.Same [] z) (sym (none_bundled p ys both.1)) (laws.meaning.same_refl []))
+
 some_pair : {Arc : Type 0} (kind : ArcKind Arc) (laws : IsKind kind) → ((xs ys : List Arc) → AllByRecursion kind.IsArc xs → AllByRecursion kind.IsArc ys → kind.Same xs ys ⊎ ((how : How) × kind.Differ xs ys how))
     → (G H : Graph Arc) → IsValidGraph kind G → IsValidGraph kind H → (v : Verdict) × IsPairVerdict kind G.arcs H.arcs v
-some_pair {Arc} kind laws decide G H g h = elim (least pair_cmp pair_total exact_pair (SameHere kind G H) (DifferHere kind G H) here (keys_of G.arcs ++ keys_of H.arcs) outside) [
+some_pair {Arc} kind laws decide G H g h = elim (least pair_cmp pair_total exact_pair (SameHere kind G H) (DifferHere kind G H) here (keys_of G.arcs ++ keys_of H.arcs) (same_outside kind laws G.arcs H.arcs)) [
   | inl all ↦ (Verdicts.Same, all)
   | inr l ↦ (Verdicts.Pair l.0.0 l.0.1 l.1.0, record { differ = l.1.1; same_before = l.2 })
 ]
   where
     here : (p : ℤ × ℤ) → SameHere kind G H p ⊎ DifferHere kind G H p
     here p = decide (bundle p G.arcs) (bundle p H.arcs) (arcs_placed kind G.nodes p G.arcs g.placed) (arcs_placed kind H.nodes p H.arcs h.placed)
-
-    outside : (p : ℤ × ℤ) → list_any (same_pair p) (keys_of G.arcs ++ keys_of H.arcs) ≡ false → SameHere kind G H p
-    outside p e =
-        let both = any_both (same_pair p) (keys_of G.arcs) (keys_of H.arcs) e in
-        subst (λ xs. kind.Same xs (bundle p H.arcs)) (sym (none_bundled p G.arcs both.0)) (subst (λ ys. kind.Same [] ys) (sym (none_bundled p H.arcs both.1)) (laws.meaning.same_refl []))
 
 -- ---- maps
 
@@ -143,14 +144,18 @@ none_found q (x ∷ es) e = by_test (is_at (int_cmp q) x.0) refl (none_found q e
     by_test true h i = (let never : true ≡ false = sym (ap (λ t. t || list_any (is_at (int_cmp q)) (keys_of es)) h) ∙ e in cc)
     by_test false h i = ap (λ t. cond t (Some x.1) (value_of es q)) h ∙ i (sym (ap (λ t. t || list_any (is_at (int_cmp q)) (keys_of es)) h) ∙ e)
 
+-- at an ID that no entry has, both have nothing
+pub alike_outside : {X : Type 0} (es fs : List (ℤ × X)) (P : Option X → Option X → Type 0) → P None None → (q : ℤ) → list_any (is_at (int_cmp q)) (keys_of es ++ keys_of fs) ≡ false → P (value_of es q) (value_of fs q)
+alike_outside es fs P nothing q e =
+    let both = any_both (is_at (int_cmp q)) (keys_of es) (keys_of fs) e in
+    subst (λ a. P a (value_of fs q)) (sym (none_found q es both.0)) (subst (λ b. P None b) (sym (none_found q fs both.1)) nothing)
+
 -- two maps have the same at every ID, or there is a least ID at which they do not
 least_id : {X : Type 0} (es fs : List (ℤ × X)) (P Q : Option X → Option X → Type 0) → ((a b : Option X) → P a b ⊎ Q a b) → P None None
     → ((q : ℤ) → P (value_of es q) (value_of fs q)) ⊎ ((k : ℤ) × Q (value_of es k) (value_of fs k) × ((q : ℤ) → int_cmp q k ≡ Less → P (value_of es q) (value_of fs q)))
 least_id es fs P Q decide nothing =
     least int_cmp int_cmp_total exact_signed (λ q. P (value_of es q) (value_of fs q)) (λ q. Q (value_of es q) (value_of fs q)) (λ q. decide (value_of es q) (value_of fs q)) (keys_of es ++ keys_of fs)
-    (λ q e.
-    let both = any_both (is_at (int_cmp q)) (keys_of es) (keys_of fs) e in
-    subst (λ a. P a (value_of fs q)) (sym (none_found q es both.0)) (subst (λ b. P None b) (sym (none_found q fs both.1)) nothing))
+    (alike_outside es fs P nothing)
 
 same_pair_or_not : (a b : ℤ × ℤ) → (a ≡ b) ⊎ (a ≢ b)
 same_pair_or_not a b = elim (same_or_not a.0 b.0) [
@@ -169,7 +174,7 @@ same_point_or_not (Some a) (Some b) = elim (same_pair_or_not a b) [ inl e ↦ in
 
 -- ---- lists
 
-later_place : {A : Type 0} (x y : A) (xs ys : List A) (i : ℕ) → x ≡ y → ItemsPartAt xs ys i → ItemsPartAt (x ∷ xs) (y ∷ ys) (suc i)
+pub later_place : {A : Type 0} (x y : A) (xs ys : List A) (i : ℕ) → x ≡ y → ItemsPartAt xs ys i → ItemsPartAt (x ∷ xs) (y ∷ ys) (suc i)
 later_place x y xs ys zero e d = absurd (d.differ refl)
 later_place x y xs ys (suc i) e d = record { differ = d.differ; same_before = before }
   where
@@ -178,7 +183,7 @@ later_place x y xs ys (suc i) e d = record { differ = d.differ; same_before = be
     before (suc zero) lt = ap Some e
     before (suc (suc j)) lt = d.same_before (suc j) (omega (arith, lt))
 
-first_place : {A : Type 0} (x y : A) (xs ys : List A) → x ≢ y → ItemsPartAt (x ∷ xs) (y ∷ ys) 1
+pub first_place : {A : Type 0} (x y : A) (xs ys : List A) → x ≢ y → ItemsPartAt (x ∷ xs) (y ∷ ys) 1
 first_place x y xs ys n = record { differ = inner x y n; same_before = before }
   where
     before : (j : ℕ) → j < 1 → item_at (x ∷ xs) j ≡ item_at (y ∷ ys) j

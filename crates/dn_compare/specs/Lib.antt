@@ -3,3 +3,4 @@ pub mod FirstDifference
 pub mod Turned
 pub mod Walks
 pub mod Partings
+pub mod Examples

@@ -4,6 +4,7 @@
 #![tactic(auto)]
 
 mod difference;
+pub mod examples;
 pub mod laws;
 mod parting;
 #[cfg(test)]
