@@ -1,4 +1,4 @@
-use Rattle.std.proofs.Common.{rules, arith, subst, w64, ◌≡◌, ◌++◌, ◌∷◌, ◌+◌, ◌-◌, [], drop, refl, map}
+use Rattle.std.proofs.Common.{rules, arith, subst, w64, ◌≡◌, ◌++◌, ◌∷◌, ◌+◌, ◌-◌, [], drop, map}
 use Rattle.std.specs.Fmt.{signed_decimal}
 use Rattle.std.specs.Int.RustNames.{FitsSigned}
 use Rattle.std.proofs.lemmas.Int.{to_z-of_z}

@@ -1,4 +1,4 @@
-use Rattle.std.proofs.Common.{◌≡◌, ◌≤◌, ◌+◌, ◌*◌, ◌-◌, ◌++◌, ◌∷◌, [], length, map, drop}
+use Rattle.std.proofs.Common.{◌≡◌, ◌≤◌, ◌+◌, ◌*◌, ◌++◌, ◌∷◌, [], length, map, drop}
 use Rattle.std.specs.Fmt.{signed_decimal}
 use Rattle.dn_canon.specs.Lines.{spaced}
 use Rattle.dn_canon.proofs.rows.arc_line.Given as goal

@@ -1,4 +1,4 @@
-use Rattle.std.proofs.Common.{rules, ◌≡◌, ◌≤◌, length}
+use Rattle.std.proofs.Common.{rules, ◌≤◌, length}
 use Rattle.std.proofs.lemmas.List.{drop_all}
 use Rattle.dn_canon.proofs.back_line.BackLine.clear.Goals as goal
 

@@ -1,4 +1,4 @@
-use Rattle.std.proofs.Common.{rules, ◌≡◌, ◌+◌, ◌≤◌, ◌++◌, length, drop, length-drop, subst, arith}
+use Rattle.std.proofs.Common.{rules, ◌+◌, ◌≤◌, length, drop, length-drop, subst, arith}
 use Rattle.std.specs.Fmt.{decimal}
 use Rattle.std.proofs.lemmas.Fmt.{length-decimal-le}
 use Rattle.dn_canon.proofs.LineLaws.{digits_within}
