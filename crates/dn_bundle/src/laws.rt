@@ -1,5 +1,5 @@
 // What the definitions of bundles say of one another.
-ghost use Rattle.std.specs.Prelude.{◌≡◌, ◌↔◌, ℤ, pos, List, [], ◌∷◌, ◌++◌, length};
+ghost use Rattle.std.specs.Prelude.{◌≡◌, ◌⊎◌, ◌↔◌, ℤ, pos, List, [], ◌∷◌, ◌++◌, length};
 ghost use Rattle.std.specs.List.{AllByRecursion};
 ghost use Rattle.std.specs.List.Sorted.{IsPermutation};
 ghost use Rattle.dn_bundle.specs.Splits.{LeastCost};
@@ -84,6 +84,14 @@ pub fn differences()
     ensures lengths { (xs ys : List LengthArc) (how : How) → LengthsDiffer xs ys how → SameLength xs ys → ⊥ }
     ensures capacities { (xs ys : List CapArc) (how : How) → TotalsDiffer xs ys how → SameTotal xs ys → ⊥ }
     ensures costs { (xs ys : List CostArc) (how : How) → CurvesDiffer xs ys how → SameCurve xs ys → ⊥ }
+{}
+
+/// Arcs that do not mean the same differ somewhere.
+pub fn some_difference()
+    ensures lengths { (xs ys : List LengthArc) → SameLength xs ys ⊎ ((how : How) × LengthsDiffer xs ys how) }
+    ensures capacities { (xs ys : List CapArc) → SameTotal xs ys ⊎ ((how : How) × TotalsDiffer xs ys how) }
+    ensures costs { (xs ys : List CostArc) → AllByRecursion IsCostArc xs → AllByRecursion IsCostArc ys
+        → SameCurve xs ys ⊎ ((how : How) × CurvesDiffer xs ys how) }
 {}
 
 /// The order of arcs does not matter to a bundle.

@@ -27,7 +27,7 @@ use Rattle.dn_instance.specs.Instances.{Graph}
 use Rattle.dn_instance.specs.Validity.{Fits, IsNode, IsPlaced, IsValidGraph}
 use Rattle.dn_instance.specs.Items.{Problem, counted, is_counted, arc_in, arcs_of, supply_in}
 use Rattle.dn_instance.specs.TextFaults.{is_in_range, ids_in, is_companion, is_full, is_repeated, is_same_terminal, is_low_above_cap, is_sum_too_large, passes}
-use Rattle.dn_instance.proofs.PairLaws.{pair_self}
+use Rattle.pair_index.proofs.PairLaws.{pair_self}
 use Rattle.dn_canon.specs.Prints.{arc_row}
 use Rattle.dn_canon.proofs.ItemLaws.{AllFollow}
 use Rattle.dn_canon.proofs.PartLaws.{all_at, fewer, each_follow}

@@ -22,7 +22,7 @@ use Rattle.pair_index.specs.Pairs.{pair_cmp, same_pair}
 use Rattle.dn_instance.specs.Pairs.{bundle}
 use Rattle.dn_instance.specs.Tables.{told_at}
 use Rattle.dn_instance.specs.Validity.{Fits, IsNode, IsPlaced, IsValidGraph, IsValid, AreSupplies, AreTerminals}
-use Rattle.dn_instance.proofs.PairLaws.{pair_is, pair_self}
+use Rattle.pair_index.proofs.PairLaws.{pair_is, pair_self}
 use Rattle.dn_canon.specs.CanonInstances.{AreInOrder}
 use Rattle.dn_canon.specs.CanonTexts.{PrintsCanon}
 use Rattle.dn_canon.specs.Prints.{print}

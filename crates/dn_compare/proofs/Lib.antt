@@ -1,1 +1,10 @@
-pub mod SameAlone
+pub mod TruthLaws
+pub mod PlaceLaws
+pub mod VerdictLaws
+pub mod FirstLaws
+pub mod WalkLaws
+pub mod PairWalks
+pub mod MapWalks
+pub mod HeldVerdicts
+pub mod SomeVerdict
+pub mod ExampleLaws

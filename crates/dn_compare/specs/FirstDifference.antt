@@ -1,59 +1,69 @@
--- The first difference between two instances, in the order of the verdicts: what stands before it is the same (this
--- project's profile).
-use Rattle.std.specs.Prelude.{◌≡◌, ◌≢◌, ℕ, ℤ, length}
+-- The first difference between two instances (this project's profile).
+use Rattle.std.specs.Prelude.{◌≡◌, ◌≢◌, ℕ, ℤ, pos, Some}
+use Rattle.std.specs.Ordering.{int_cmp, ordering_then}
+use Rattle.std.specs.declared.cmp.Ordering.{Ordering}
+use Rattle.std.specs.declared.cmp.Ordering.TheVariants.{Less}
 use Rattle.dn_bundle.specs.Kinds.{costs, capacities, lengths}
 use Rattle.dn_bundle.specs.declared.difference.How.{How}
-use Rattle.dn_instance.specs.Instances.{Instance, MinCostFlow, MaxFlow, ShortestPaths, Sources, Queries, Coordinates, kind_of, nodes_of}
+use Rattle.dn_instance.specs.Instances.{Instance, MinCostFlow, MaxFlow, ShortestPaths, Sources, Queries, kind_of, nodes_of}
+use Rattle.pair_index.specs.Pairs.{pair_cmp}
+use Rattle.dn_instance.specs.Pairs.{bundle}
 use Rattle.dn_instance.specs.Sameness.{IsSame}
-use Rattle.dn_compare.specs.Parting.{FlowsPart, GraphsPart, ListsPart, PointsPart}
+use Rattle.dn_compare.specs.Observed.{flow_of, source_of, sink_of, count_of, item_at, point_of}
 use Rattle.dn_compare.specs.declared.verdict.Verdict.{Verdict}
 use Rattle.dn_compare.specs.declared.verdict.Verdict.TheVariants.{Same, Kind, Nodes, Supply, Source, Sink, Pair, Length, Item, Point}
 
--- two values that differ, the left and the right one
+-- two values that differ: the left one and the right one
 abbrev pub Differ : {A : Type 0} → A → A → A → A → Type 0
 Differ x y left right = (x ≡ left) × (y ≡ right) × (left ≢ right)
 
-abbrev pub SuppliesDiffer : Instance → Instance → ℤ → ℤ → ℤ → Type 0
-SuppliesDiffer (MinCostFlow s G) (MinCostFlow t H) id left right = (G.nodes ≡ H.nodes) × FlowsPart s t id left right
-SuppliesDiffer _ _ id left right = ⊥
+-- the arcs of an ordered pair differ in meaning, in this way
+abbrev pub BundlesDiffer : Instance → Instance → ℤ × ℤ → How → Type 0
+BundlesDiffer (MinCostFlow s G) (MinCostFlow t H) p how = costs.Differ (bundle p G.arcs) (bundle p H.arcs) how
+BundlesDiffer (MaxFlow a b G) (MaxFlow c d H) p how = capacities.Differ (bundle p G.arcs) (bundle p H.arcs) how
+BundlesDiffer (ShortestPaths G) (ShortestPaths H) p how = lengths.Differ (bundle p G.arcs) (bundle p H.arcs) how
+BundlesDiffer _ _ p how = ⊥
 
-abbrev pub SourcesDiffer : Instance → Instance → ℤ → ℤ → Type 0
-SourcesDiffer (MaxFlow a b G) (MaxFlow c d H) left right = (G.nodes ≡ H.nodes) × Differ a c left right
-SourcesDiffer _ _ left right = ⊥
-
-abbrev pub SinksDiffer : Instance → Instance → ℤ → ℤ → Type 0
-SinksDiffer (MaxFlow a b G) (MaxFlow c d H) left right = (G.nodes ≡ H.nodes) × (a ≡ c) × Differ b d left right
-SinksDiffer _ _ left right = ⊥
-
-abbrev pub PairsDiffer : Instance → Instance → ℤ × ℤ → How → Type 0
-PairsDiffer (MinCostFlow s G) (MinCostFlow t H) pair how = (G.nodes ≡ H.nodes) × (s ≡ t) × GraphsPart costs G H pair how
-PairsDiffer (MaxFlow a b G) (MaxFlow c d H) pair how = (G.nodes ≡ H.nodes) × (a ≡ c) × (b ≡ d) × GraphsPart capacities G H pair how
-PairsDiffer (ShortestPaths G) (ShortestPaths H) pair how = (G.nodes ≡ H.nodes) × GraphsPart lengths G H pair how
-PairsDiffer _ _ pair how = ⊥
-
-abbrev pub LengthsDiffer : Instance → Instance → ℕ → ℕ → Type 0
-LengthsDiffer (Sources xs) (Sources ys) left right = Differ (length xs) (length ys) left right
-LengthsDiffer (Queries xs) (Queries ys) left right = Differ (length xs) (length ys) left right
-LengthsDiffer _ _ left right = ⊥
-
+-- the items at a place differ
 abbrev pub ItemsDiffer : Instance → Instance → ℕ → Type 0
-ItemsDiffer (Sources xs) (Sources ys) index = (length xs ≡ length ys) × ListsPart xs ys index
-ItemsDiffer (Queries xs) (Queries ys) index = (length xs ≡ length ys) × ListsPart xs ys index
+ItemsDiffer (Sources xs) (Sources ys) index = item_at xs index ≢ item_at ys index
+ItemsDiffer (Queries xs) (Queries ys) index = item_at xs index ≢ item_at ys index
 ItemsDiffer _ _ index = ⊥
 
-abbrev pub PointsDiffer : Instance → Instance → ℤ → Type 0
-PointsDiffer (Coordinates xs) (Coordinates ys) id = PointsPart xs ys id
-PointsDiffer _ _ id = ⊥
+-- what a verdict says is true of two instances
+abbrev pub IsTrueOf : Instance → Instance → Verdict → Type 0
+IsTrueOf I J Same = IsSame I J
+IsTrueOf I J (Kind left right) = Differ (kind_of I) (kind_of J) left right
+IsTrueOf I J (Nodes left right) = Differ (nodes_of I) (nodes_of J) left right
+IsTrueOf I J (Supply id left right) = Differ (flow_of I id) (flow_of J id) (Some left) (Some right)
+IsTrueOf I J (Source left right) = Differ (source_of I) (source_of J) (Some left) (Some right)
+IsTrueOf I J (Sink left right) = Differ (sink_of I) (sink_of J) (Some left) (Some right)
+IsTrueOf I J (Pair src dst how) = BundlesDiffer I J (src, dst) how
+IsTrueOf I J (Length left right) = Differ (count_of I) (count_of J) (Some left) (Some right)
+IsTrueOf I J (Item index) = ItemsDiffer I J index
+IsTrueOf I J (Point id) = point_of I id ≢ point_of J id
 
--- the verdict on two instances
-abbrev pub IsFirstDifference : Instance → Instance → Verdict → Type 0
-IsFirstDifference I J Same = IsSame I J
-IsFirstDifference I J (Kind left right) = Differ (kind_of I) (kind_of J) left right
-IsFirstDifference I J (Nodes left right) = (kind_of I ≡ kind_of J) × Differ (nodes_of I) (nodes_of J) left right
-IsFirstDifference I J (Supply id left right) = SuppliesDiffer I J id left right
-IsFirstDifference I J (Source left right) = SourcesDiffer I J left right
-IsFirstDifference I J (Sink left right) = SinksDiffer I J left right
-IsFirstDifference I J (Pair src dst how) = PairsDiffer I J (src, dst) how
-IsFirstDifference I J (Length left right) = LengthsDiffer I J left right
-IsFirstDifference I J (Item index) = ItemsDiffer I J index
-IsFirstDifference I J (Point id) = PointsDiffer I J id
+-- where a verdict stands: its variant, and then its ID, pair or index
+abbrev pub place_of : Verdict → ℤ × (ℤ × ℤ)
+place_of Same = (pos 0, (pos 0, pos 0))
+place_of (Kind left right) = (pos 1, (pos 0, pos 0))
+place_of (Nodes left right) = (pos 2, (pos 0, pos 0))
+place_of (Supply id left right) = (pos 3, (id, pos 0))
+place_of (Source left right) = (pos 4, (pos 0, pos 0))
+place_of (Sink left right) = (pos 5, (pos 0, pos 0))
+place_of (Pair src dst how) = (pos 6, (src, dst))
+place_of (Length left right) = (pos 7, (pos 0, pos 0))
+place_of (Item index) = (pos 8, (pos index, pos 0))
+place_of (Point id) = (pos 9, (id, pos 0))
+
+abbrev pub place_cmp : ℤ × (ℤ × ℤ) → ℤ × (ℤ × ℤ) → Ordering
+place_cmp p q = ordering_then (int_cmp p.0 q.0) (pair_cmp p.1 q.1)
+
+-- v stands earlier than w
+abbrev pub StandsEarlier : Verdict → Verdict → Type 0
+StandsEarlier v w = place_cmp (place_of v) (place_of w) ≡ Less
+
+-- the verdict on two instances: it is true of them, and no verdict that stands earlier is
+pub record IsFirstDifference (I J : Instance) (v : Verdict) : Type 0 where
+  pub true_of : IsTrueOf I J v
+  pub none_earlier : (w : Verdict) → StandsEarlier w v → IsTrueOf I J w → ⊥

@@ -1,2 +1,6 @@
-pub mod Parting
+pub mod Observed
 pub mod FirstDifference
+pub mod Turned
+pub mod Walks
+pub mod Partings
+pub mod Examples

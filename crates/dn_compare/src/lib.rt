@@ -1,8 +1,16 @@
-//! The first difference between two instances.
+//! The first difference between two texts that were read: `compare` answers `Same` exactly where they are the same
+//! problem, else the first variant of `Verdict` that is true of them, at its least ID, pair, amount or place, with the
+//! values of both sides. No two verdicts are right, some verdict always is, and what a text means decides it.
 #![tactic(auto)]
 
+mod difference;
 pub mod examples;
 pub mod laws;
+mod parting;
+#[cfg(test)]
+mod tests;
 pub mod verdict;
+mod walk;
 
+pub use difference::compare;
 pub use verdict::Verdict;

@@ -1,30 +1,96 @@
 // Where two instances part.
+ghost use Rattle.std.specs.Prelude.{◌≡◌};
+ghost use Rattle.dn_compare.specs.Turned.{turned, turned_how};
 
-use dn_bundle::How;
+use dn_bundle::{Gap, How};
 use dn_line::Kind;
 
-/// The first difference between two instances, in the order of the variants; `left` and `right` are the two
-/// instances' own values.
+/// The first difference between two instances, in the order of the variants. `left` and `right` are the values of the
+/// left and the right instance; they differ.
 #[derive(Clone, Copy, Debug, PartialEq, Eq)]
 pub enum Verdict {
     /// They are the same problem.
     Same,
     /// Their kinds.
     Kind { left: Kind, right: Kind },
-    /// Their numbers of nodes.
+    /// Their numbers of nodes, 0 to 2^63-1.
     Nodes { left: i64, right: i64 },
-    /// The flows of a node of `min` problems, 0 where it has none; the least such ID.
+    /// The flows of a node of `min` problems, 64 bits each, 0 where it has none; `id` is the least such node, from 1.
     Supply { id: i64, left: i64, right: i64 },
-    /// The sources of `max` problems.
+    /// The IDs of the sources of `max` problems, from 1.
     Source { left: i64, right: i64 },
-    /// The sinks of `max` problems.
+    /// The IDs of the sinks of `max` problems, from 1.
     Sink { left: i64, right: i64 },
-    /// What the arcs from `src` to `dst` mean; the least such pair.
+    /// What the arcs from node `src` to node `dst` mean, and how; the least such pair, by `src` and then by `dst`.
     Pair { src: i64, dst: i64, how: How },
     /// The numbers of items of `ss` or `p2p` lists.
     Length { left: u64, right: u64 },
-    /// The item at this place of the lists, counted from 1; the least such place.
+    /// The items at this place of `ss` or `p2p` lists of one length, counted from 1; the least such place.
     Item { index: u64 },
-    /// The point of this ID, or that one has none; the least such ID.
+    /// The points of this ID, or that one companion has none; the least such ID, from 1.
     Point { id: i64 },
+}
+
+impl Verdict {
+    /// The verdict on the same two instances in the other order.
+    pub fn turned(self) -> Verdict
+        ensures { result ≡ turned self }
+    {
+        match self {
+            Verdict::Same => Verdict::Same,
+            Verdict::Kind { left, right } => Verdict::Kind {
+                left: right,
+                right: left,
+            },
+            Verdict::Nodes { left, right } => Verdict::Nodes {
+                left: right,
+                right: left,
+            },
+            Verdict::Supply { id, left, right } => Verdict::Supply {
+                id,
+                left: right,
+                right: left,
+            },
+            Verdict::Source { left, right } => Verdict::Source {
+                left: right,
+                right: left,
+            },
+            Verdict::Sink { left, right } => Verdict::Sink {
+                left: right,
+                right: left,
+            },
+            Verdict::Pair { src, dst, how } => Verdict::Pair {
+                src,
+                dst,
+                how: turned_how(how),
+            },
+            Verdict::Length { left, right } => Verdict::Length {
+                left: right,
+                right: left,
+            },
+            Verdict::Item { index } => Verdict::Item { index },
+            Verdict::Point { id } => Verdict::Point { id },
+        }
+    }
+}
+
+// How the arcs of a pair differ, seen from the other side.
+fn turned_how(how: How) -> How
+    ensures { result ≡ turned_how how }
+{
+    match how {
+        How::Lengths { left, right } => How::Lengths {
+            left: right,
+            right: left,
+        },
+        How::Totals { left, right } => How::Totals {
+            left: right,
+            right: left,
+        },
+        How::Costs(gap) => How::Costs(Gap {
+            amount: gap.amount,
+            left: gap.right,
+            right: gap.left,
+        }),
+    }
 }

@@ -35,7 +35,8 @@ use Rattle.dn_instance.specs.TableSteps.{Tells, AreArcs}
 use Rattle.dn_instance.proofs.FirstFaults.{none_first}
 use Rattle.dn_instance.proofs.CleanItems.{or_none}
 use Rattle.dn_instance.proofs.MapLaws.{by_key_push, found_by_key}
-use Rattle.dn_instance.proofs.PairLaws.{int_self, sought_is}
+use Rattle.pair_index.proofs.PairLaws.{int_self}
+use Rattle.dn_instance.proofs.PairLaws.{sought_is}
 
 -- the answer on an item is that of its first fault
 abbrev pub Answering : ℤ → Draft → Line → Result (Unit {0}) ItemFault → Type 0

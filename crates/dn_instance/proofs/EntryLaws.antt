@@ -22,7 +22,8 @@ use Rattle.pair_index.specs.Pairs.{same_pair}
 use Rattle.dn_instance.specs.Pairs.{bundle}
 use Rattle.dn_instance.specs.Tables.{told_at}
 use Rattle.dn_instance.specs.TableSteps.{Tells, AreArcs}
-use Rattle.dn_instance.proofs.PairLaws.{pair_is, pair_self, other_pair}
+use Rattle.pair_index.proofs.PairLaws.{pair_is, pair_self}
+use Rattle.dn_instance.proofs.PairLaws.{other_pair}
 
 abbrev pub Pair : Type 0
 Pair = ℤ × ℤ

@@ -10,7 +10,8 @@ use Rattle.pair_index.specs.Pairs.{same_pair}
 use Rattle.dn_instance.specs.Pairs.{bundle}
 use Rattle.dn_instance.specs.Tables.{told_at}
 use Rattle.dn_instance.specs.TableSteps.{Grows, Tells, AreArcs, Stays}
-use Rattle.dn_instance.proofs.PairLaws.{pair_is, pair_self, other_pair}
+use Rattle.pair_index.proofs.PairLaws.{pair_is, pair_self}
+use Rattle.dn_instance.proofs.PairLaws.{other_pair}
 use Rattle.dn_instance.specs.TextFaults.{passes}
 use Rattle.dn_instance.specs.ItemFaults.{in_graph, arc_fault}
 use Rattle.dn_line.specs.declared.code.Code.TheVariants.{SumTooLarge}

@@ -1,0 +1,5 @@
+use Rattle.dn_compare.proofs.HeldVerdicts.{same_items}
+use Rattle.dn_compare.proofs.difference.list_verdict.Goals as goal
+
+pub returns-in-None : goal.returns-in-None
+returns-in-None g c = same_items c.args.left.now c.args.right.now c.in-None.ensures

@@ -1,0 +1,13 @@
+use Rattle.std.proofs.Common.{rules, w64}
+use Rattle.std.specs.Int.RustNames.{FitsSigned}
+use Rattle.std.proofs.lemmas.Int.{to_z-of_z}
+use Rattle.dn_compare.proofs.HeldVerdicts.{point_on, points_on}
+use Rattle.dn_compare.proofs.difference.point_verdict.Goals as goal
+
+pub returns-in-Some : goal.returns-in-Some
+returns-in-Some c =
+    let id : FitsSigned w64 c.in-Some.id = search rules in
+    rw (to_z-of_z w64 c.in-Some.id id) (point_on c.args.left.now.entries c.args.right.now.entries c.in-Some.id c.in-Some.ensures)
+
+pub returns-in-None : goal.returns-in-None
+returns-in-None c = points_on c.args.left.now.entries c.args.right.now.entries c.in-None.ensures

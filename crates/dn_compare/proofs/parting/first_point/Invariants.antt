@@ -1,0 +1,16 @@
+use Rattle.std.proofs.Common.{ℤ, ◌+◌, length, Option}
+use Rattle.std.specs.Ordering.{int_cmp}
+use Rattle.dn_compare.specs.Partings.{by_point, IsParting}
+use Rattle.dn_compare.proofs.MapWalks.{IdsRise}
+use Rattle.dn_compare.proofs.parting.first_point.Given as goal
+
+-- what is right for what is left is right for the whole
+abbrev pub invariant-loop-id : goal.invariant-loop-id
+invariant-loop-id l = record {
+  lefts : IdsRise l.lefts;
+  rights : IdsRise l.rights;
+  rest : (o : Option (ℤ × (Unit {0}))) → IsParting int_cmp by_point l.lefts l.rights o → IsParting int_cmp by_point l.left.entries l.right.entries o;
+}
+
+abbrev pub decreases-loop-id : goal.decreases-loop-id
+decreases-loop-id l = length l.lefts + length l.rights

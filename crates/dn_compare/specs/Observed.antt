@@ -1,0 +1,45 @@
+-- What a verdict looks at in an instance: a value where instances of its kind have one (this project's profile).
+use Rattle.std.specs.Prelude.{ℕ, suc, zero, ℤ, pos, List, length, Option, Some, None, slice_get, unwrap_or}
+use Rattle.std.specs.BTreeMap.{is_at}
+use Rattle.std.specs.Map.{lookup}
+use Rattle.std.specs.Ordering.{int_cmp}
+use Rattle.dn_instance.specs.Instances.{Instance, MinCostFlow, MaxFlow, Sources, Queries, Coordinates}
+
+-- what a map has at an ID
+abbrev pub value_of : {X : Type 0} → List (ℤ × X) → ℤ → Option X
+value_of entries id = lookup (is_at (int_cmp id)) entries
+
+-- a flow; 0 where there is none
+abbrev pub flow_or_zero : Option ℤ → ℤ
+flow_or_zero flow = unwrap_or flow (pos 0)
+
+-- the flow of a node of a `min` problem
+abbrev pub flow_of : Instance → ℤ → Option ℤ
+flow_of (MinCostFlow supplies graph) id = Some (flow_or_zero (value_of supplies id))
+flow_of _ id = None
+
+-- the source of a `max` problem
+abbrev pub source_of : Instance → Option ℤ
+source_of (MaxFlow source sink graph) = Some source
+source_of _ = None
+
+-- its sink
+abbrev pub sink_of : Instance → Option ℤ
+sink_of (MaxFlow source sink graph) = Some sink
+sink_of _ = None
+
+-- the number of items of a list
+abbrev pub count_of : Instance → Option ℕ
+count_of (Sources ids) = Some (length ids)
+count_of (Queries pairs) = Some (length pairs)
+count_of _ = None
+
+-- the item at a place, counted from 1
+abbrev pub item_at : {X : Type 0} → List X → ℕ → Option X
+item_at items zero = None
+item_at items (suc i) = slice_get items i
+
+-- the point of an ID
+abbrev pub point_of : Instance → ℤ → Option (ℤ × ℤ)
+point_of (Coordinates points) id = value_of points id
+point_of _ id = None

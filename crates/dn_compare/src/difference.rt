@@ -1,0 +1,151 @@
+// The first difference between two texts that were read.
+ghost use Rattle.std.specs.Prelude.{◌≡◌, ℤ, List};
+ghost use Rattle.dn_bundle.specs.declared.arc.Form.{Form};
+ghost use Rattle.dn_instance.specs.Helds.{contents_kind, IsHeld, OfCo, OfMax, OfMin};
+ghost use Rattle.dn_instance.specs.Instances.{Instance};
+ghost use Rattle.dn_instance.specs.TableSteps.{Tells};
+ghost use Rattle.dn_instance.specs.Validity.{IsValid};
+ghost use Rattle.dn_instance.specs.Views.{holding, shown};
+ghost use Rattle.dn_compare.specs.FirstDifference.{IsFirstDifference};
+ghost use Rattle.dn_compare.specs.Partings.{IsListVerdict, IsPairVerdict, IsVerdictOn};
+
+use crate::parting::{Item, first_item, first_pair, first_point, first_supply};
+use crate::verdict::Verdict;
+use dn_bundle::{Bundle, Curve, Total};
+use dn_instance::{Held, Table, View};
+use std::collections::BTreeMap;
+
+/// The first difference between the instances that were read, in the order of the verdicts: the least ID, pair or place
+/// of the first variant that is true of them, and `Same` exactly where they are the same problem. One walk over both,
+/// whose steps are at most as many as what both hold. Takes no memory.
+pub fn compare(left: &Held, right: &Held) -> Verdict
+    ensures { (I J : Instance) → IsValid I → IsValid J → IsHeld (holding left.now) I → IsHeld (holding right.now) J
+        → IsFirstDifference I J result }
+{
+    if left.kind() != right.kind() {
+        return Verdict::Kind {
+            left: left.kind(),
+            right: right.kind(),
+        };
+    }
+    if left.nodes() != right.nodes() {
+        return Verdict::Nodes {
+            left: left.nodes(),
+            right: right.nodes(),
+        };
+    }
+    shown_verdict(left.view(), right.view())
+}
+
+// The verdict on two texts of one kind and of as many nodes.
+fn shown_verdict(left: View<'_>, right: View<'_>) -> Verdict
+    requires { contents_kind (shown left) ≡ contents_kind (shown right) }
+    ensures { IsVerdictOn (shown left.entry) (shown right.entry) result }
+{
+    match (left, right) {
+        (
+            View::Min {
+                supplies: l,
+                table: lt,
+            },
+            View::Min {
+                supplies: r,
+                table: rt,
+            },
+        ) => min_verdict(l, lt, r, rt),
+        (
+            View::Max {
+                source: ls,
+                sink: lt,
+                table: l,
+            },
+            View::Max {
+                source: rs,
+                sink: rt,
+                table: r,
+            },
+        ) => max_verdict((ls, lt), l, (rs, rt), r),
+        (View::Sp { table: l }, View::Sp { table: r }) => pair_verdict(l, r),
+        (View::Ss { items: l }, View::Ss { items: r }) => list_verdict(l, r),
+        (View::P2p { items: l }, View::P2p { items: r }) => list_verdict(l, r),
+        (View::Co { points: l }, View::Co { points: r }) => point_verdict(l, r),
+        _ => Verdict::Same,
+    }
+}
+
+// The verdict on two `min` problems of as many nodes.
+fn min_verdict(
+    left: &BTreeMap<i64, i64>,
+    left_table: &Table<Curve>,
+    right: &BTreeMap<i64, i64>,
+    right_table: &Table<Curve>,
+) -> Verdict
+    ensures { IsVerdictOn (OfMin left.now.entries left_table.now) (OfMin right.now.entries right_table.now) result }
+{
+    match first_supply(left, right) {
+        Some((id, (left, right))) => Verdict::Supply { id, left, right },
+        None => pair_verdict(left_table, right_table),
+    }
+}
+
+// The verdict on two `max` problems of as many nodes, by their sources and sinks and their arcs.
+fn max_verdict(
+    left: (i64, i64),
+    left_table: &Table<Total>,
+    right: (i64, i64),
+    right_table: &Table<Total>,
+) -> Verdict
+    ensures { IsVerdictOn (OfMax left.0 left.1 left_table.now) (OfMax right.0 right.1 right_table.now) result }
+{
+    if left.0 != right.0 {
+        return Verdict::Source {
+            left: left.0,
+            right: right.0,
+        };
+    }
+    if left.1 != right.1 {
+        return Verdict::Sink {
+            left: left.1,
+            right: right.1,
+        };
+    }
+    pair_verdict(left_table, right_table)
+}
+
+// The verdict on two graphs of as many nodes, where nothing else differs.
+fn pair_verdict<B: Bundle>(left: &Table<B>, right: &Table<B>) -> Verdict
+    ensures { (xs ys : List ((ℤ × ℤ) × B.Arc))
+        → Tells B.kind (B.told Form.One) left.now xs → Tells B.kind (B.told Form.One) right.now ys
+        → IsPairVerdict B.kind xs ys result }
+{
+    match first_pair(left, right) {
+        Some(((src, dst), how)) => Verdict::Pair { src, dst, how },
+        None => Verdict::Same,
+    }
+}
+
+// The verdict on two lists.
+fn list_verdict<T: Item>(left: &[T], right: &[T]) -> Verdict
+    ensures { IsListVerdict left.now right.now result }
+{
+    if left.len() != right.len() {
+        return Verdict::Length {
+            left: left.len() as u64,
+            right: right.len() as u64,
+        };
+    }
+    match first_item(left, right) {
+        Some(index) => Verdict::Item { index },
+        None => Verdict::Same,
+    }
+}
+
+// The verdict on the points of two companions.
+fn point_verdict(left: &BTreeMap<i64, (i64, i64)>, right: &BTreeMap<i64, (i64, i64)>) -> Verdict
+    ensures { IsVerdictOn (OfCo left.now.entries) (OfCo right.now.entries) result }
+{
+    match first_point(left, right) {
+        Some(id) => Verdict::Point { id },
+        None => Verdict::Same,
+    }
+}
