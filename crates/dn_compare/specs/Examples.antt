@@ -32,20 +32,25 @@ costs arcs = MinCostFlow [] (record { nodes = pos 2; arcs = arcs })
 -- parallel arcs, both directions, a self-loop and a negative length
 abbrev pub worked_lengths : List ((ℤ × ℤ) × LengthArc)
 worked_lengths =
-    length_arc (pos 1) (pos 2) (pos 7) ∷ length_arc (pos 1) (pos 2) (pos 3) ∷ length_arc (pos 2) (pos 1) (pos 4) ∷ length_arc (pos 1) (pos 2) (pos 3)
-    ∷ length_arc (pos 2) (pos 2) (pos 0) ∷ length_arc (pos 3) (pos 1) (negsuc 4) ∷ length_arc (pos 2) (pos 3) (pos 9) ∷ []
+    length_arc (pos 1) (pos 2) (pos 7) ∷ length_arc (pos 1) (pos 2) (pos 3) ∷ length_arc (pos 2) (pos 1) (pos 4)
+    ∷ length_arc (pos 1) (pos 2) (pos 3) ∷ length_arc (pos 2) (pos 2) (pos 0) ∷ length_arc (pos 3) (pos 1) (negsuc 4)
+    ∷ length_arc (pos 2) (pos 3) (pos 9) ∷ []
 
 -- what they mean, without the self-loop
 abbrev pub without_loop : List ((ℤ × ℤ) × LengthArc)
-without_loop = length_arc (pos 1) (pos 2) (pos 3) ∷ length_arc (pos 2) (pos 1) (pos 4) ∷ length_arc (pos 2) (pos 3) (pos 9) ∷ length_arc (pos 3) (pos 1) (negsuc 4) ∷ []
+without_loop =
+    length_arc (pos 1) (pos 2) (pos 3) ∷ length_arc (pos 2) (pos 1) (pos 4)
+    ∷ length_arc (pos 2) (pos 3) (pos 9) ∷ length_arc (pos 3) (pos 1) (negsuc 4) ∷ []
 
 -- a capacity of 0, and a sum
 abbrev pub worked_capacities : List ((ℤ × ℤ) × CapArc)
-worked_capacities = cap_arc (pos 2) (pos 3) (pos 0) ∷ cap_arc (pos 1) (pos 2) (pos 4) ∷ cap_arc (pos 1) (pos 3) (pos 2) ∷ cap_arc (pos 1) (pos 2) (pos 5) ∷ []
-
--- a fixed amount of 0 means nothing
-abbrev pub with_nothing : List ((ℤ × ℤ) × CostArc)
-with_nothing = cost_arc (pos 0) (pos 0) (pos 5) ∷ ((pos 2, pos 1), record { low = pos 0; cap = pos 3; cost = pos 1 }) ∷ []
+worked_capacities =
+    cap_arc (pos 2) (pos 3) (pos 0) ∷ cap_arc (pos 1) (pos 2) (pos 4)
+    ∷ cap_arc (pos 1) (pos 3) (pos 2) ∷ cap_arc (pos 1) (pos 2) (pos 5) ∷ []
 
 abbrev pub without_nothing : List ((ℤ × ℤ) × CostArc)
 without_nothing = ((pos 2, pos 1), record { low = pos 0; cap = pos 3; cost = pos 1 }) ∷ []
+
+-- an arc that carries nothing means nothing
+abbrev pub with_nothing : List ((ℤ × ℤ) × CostArc)
+with_nothing = cost_arc (pos 0) (pos 0) (pos 5) ∷ without_nothing

@@ -60,7 +60,8 @@ pub record ArcsPartAt {Arc : Type 0} (kind : ArcKind Arc) (xs ys : List ((ℤ ×
 
 -- they mean the same at every pair, or this is where they first differ
 abbrev pub IsArcsParting : {Arc : Type 0} → ArcKind Arc → List ((ℤ × ℤ) × Arc) → List ((ℤ × ℤ) × Arc) → Option ((ℤ × ℤ) × How) → Type 0
-IsArcsParting kind xs ys parting = MatchOption parting ((p : ℤ × ℤ) → kind.Same (bundle p xs) (bundle p ys)) (λ x. ArcsPartAt kind xs ys x.0 x.1)
+IsArcsParting kind xs ys parting =
+    MatchOption parting ((p : ℤ × ℤ) → kind.Same (bundle p xs) (bundle p ys)) (λ x. ArcsPartAt kind xs ys x.0 x.1)
 
 -- the verdict on two graphs of as many nodes whose supplies or terminals are the same
 abbrev pub IsPairVerdict : {Arc : Type 0} → ArcKind Arc → List ((ℤ × ℤ) × Arc) → List ((ℤ × ℤ) × Arc) → Verdict → Type 0
@@ -82,4 +83,5 @@ IsListVerdict xs ys _ = ⊥
 
 -- the verdict on two valid instances of as many nodes, whatever they are, that this is held of
 abbrev pub IsVerdictOn : Contents → Contents → Verdict → Type 0
-IsVerdictOn a b v = (I J : Instance) → IsValid I → IsValid J → nodes_of I ≡ nodes_of J → Shows a I → Shows b J → IsFirstDifference I J v
+IsVerdictOn a b v =
+    (I J : Instance) → IsValid I → IsValid J → nodes_of I ≡ nodes_of J → Shows a I → Shows b J → IsFirstDifference I J v

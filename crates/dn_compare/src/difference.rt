@@ -114,7 +114,8 @@ fn max_verdict(
 
 // The verdict on two graphs of as many nodes, where nothing else differs.
 fn pair_verdict<B: Bundle>(left: &Table<B>, right: &Table<B>) -> Verdict
-    ensures { (xs ys : List ((ℤ × ℤ) × B.Arc)) → Tells B.kind (B.told Form.One) left.now xs → Tells B.kind (B.told Form.One) right.now ys
+    ensures { (xs ys : List ((ℤ × ℤ) × B.Arc))
+        → Tells B.kind (B.told Form.One) left.now xs → Tells B.kind (B.told Form.One) right.now ys
         → IsPairVerdict B.kind xs ys result }
 {
     match first_pair(left, right) {

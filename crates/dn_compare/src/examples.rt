@@ -1,9 +1,10 @@
 // Worked first differences. Each verdict is written with the names of its fields, so that no side can change places.
 ghost use Rattle.std.specs.Prelude.{pos, negsuc, List, [], ◌∷◌};
-ghost use Rattle.dn_instance.specs.Instances.{Sources, Queries, Coordinates};
+ghost use Rattle.dn_instance.specs.Instances.{ShortestPaths, Sources, Queries, Coordinates};
 ghost use Rattle.dn_compare.specs.FirstDifference.{IsFirstDifference};
-ghost use Rattle.dn_compare.specs.Examples.{lengths, flow_from, supplied, costs, length_arc, cap_arc, cost_arc, worked_lengths, without_loop, worked_capacities, with_nothing, without_nothing};
-ghost use Rattle.dn_instance.specs.Instances.{ShortestPaths};
+ghost use Rattle.dn_compare.specs.Examples.{lengths, flow_from, supplied, costs, length_arc, cap_arc, cost_arc};
+ghost use Rattle.dn_compare.specs.Examples.{worked_lengths, without_loop, worked_capacities};
+ghost use Rattle.dn_compare.specs.Examples.{with_nothing, without_nothing};
 
 use crate::verdict::Verdict;
 use dn_bundle::{Gap, How};
@@ -21,7 +22,8 @@ pub fn kinds() -> Verdict
 
 /// Numbers of nodes.
 pub fn nodes() -> Verdict
-    ensures { IsFirstDifference (ShortestPaths (record { nodes = pos 3; arcs = [] })) (ShortestPaths (record { nodes = pos 4; arcs = [] })) result }
+    ensures { IsFirstDifference (ShortestPaths (record { nodes = pos 3; arcs = [] }))
+        (ShortestPaths (record { nodes = pos 4; arcs = [] })) result }
 {
     Verdict::Nodes { left: 3, right: 4 }
 }
@@ -39,7 +41,8 @@ pub fn missing_supply() -> Verdict
 
 /// Two supplies differ: the one of the least ID.
 pub fn two_supplies() -> Verdict
-    ensures { IsFirstDifference (supplied ((pos 2, pos 1) ∷ (pos 3, pos 5) ∷ [])) (supplied ((pos 2, negsuc 0) ∷ (pos 3, pos 6) ∷ [])) result }
+    ensures { IsFirstDifference (supplied ((pos 2, pos 1) ∷ (pos 3, pos 5) ∷ []))
+        (supplied ((pos 2, negsuc 0) ∷ (pos 3, pos 6) ∷ [])) result }
 {
     Verdict::Supply {
         id: 2,
@@ -136,7 +139,8 @@ pub fn least_amount() -> Verdict
 
 /// An amount that a forced unit rules out on the left.
 pub fn forced_unit() -> Verdict
-    ensures { IsFirstDifference (costs (cost_arc (pos 1) (pos 2) (pos 1) ∷ [])) (costs (cost_arc (pos 0) (pos 2) (pos 1) ∷ [])) result }
+    ensures { IsFirstDifference (costs (cost_arc (pos 1) (pos 2) (pos 1) ∷ []))
+        (costs (cost_arc (pos 0) (pos 2) (pos 1) ∷ [])) result }
 {
     Verdict::Pair {
         src: 1,
@@ -151,7 +155,8 @@ pub fn forced_unit() -> Verdict
 
 /// Forced costs.
 pub fn forced_costs() -> Verdict
-    ensures { IsFirstDifference (costs (cost_arc (pos 1) (pos 1) (pos 4) ∷ [])) (costs (cost_arc (pos 1) (pos 1) (pos 5) ∷ [])) result }
+    ensures { IsFirstDifference (costs (cost_arc (pos 1) (pos 1) (pos 4) ∷ []))
+        (costs (cost_arc (pos 1) (pos 1) (pos 5) ∷ [])) result }
 {
     Verdict::Pair {
         src: 1,
@@ -166,7 +171,8 @@ pub fn forced_costs() -> Verdict
 
 /// An amount that is past the left capacity.
 pub fn past_capacity() -> Verdict
-    ensures { IsFirstDifference (costs (cost_arc (pos 0) (pos 2) (pos 4) ∷ [])) (costs (cost_arc (pos 0) (pos 3) (pos 4) ∷ [])) result }
+    ensures { IsFirstDifference (costs (cost_arc (pos 0) (pos 2) (pos 4) ∷ []))
+        (costs (cost_arc (pos 0) (pos 3) (pos 4) ∷ [])) result }
 {
     Verdict::Pair {
         src: 1,
@@ -218,14 +224,16 @@ pub fn item() -> Verdict
 
 /// The same of queries.
 pub fn query_length() -> Verdict
-    ensures { IsFirstDifference (Queries ((pos 1, pos 9) ∷ [])) (Queries ((pos 1, pos 9) ∷ (pos 1, pos 9) ∷ [])) result }
+    ensures { IsFirstDifference (Queries ((pos 1, pos 9) ∷ []))
+        (Queries ((pos 1, pos 9) ∷ (pos 1, pos 9) ∷ [])) result }
 {
     Verdict::Length { left: 1, right: 2 }
 }
 
 /// Two queries differ: the first.
 pub fn query_item() -> Verdict
-    ensures { IsFirstDifference (Queries ((pos 9, pos 1) ∷ (pos 1, pos 9) ∷ [])) (Queries ((pos 1, pos 9) ∷ (pos 9, pos 1) ∷ [])) result }
+    ensures { IsFirstDifference (Queries ((pos 9, pos 1) ∷ (pos 1, pos 9) ∷ []))
+        (Queries ((pos 1, pos 9) ∷ (pos 9, pos 1) ∷ [])) result }
 {
     Verdict::Item { index: 1 }
 }

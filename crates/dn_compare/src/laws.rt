@@ -19,7 +19,8 @@ pub fn some_verdict()
 
 /// The verdict is that on any two instances that are the same problems.
 pub fn by_meaning()
-    ensures { (I I' J J' : Instance) (v : Verdict) → IsSame I I' → IsSame J J' → IsFirstDifference I J v → IsFirstDifference I' J' v }
+    ensures { (I I' J J' : Instance) (v : Verdict) → IsSame I I' → IsSame J J'
+        → IsFirstDifference I J v → IsFirstDifference I' J' v }
 {}
 
 /// The verdict on two instances in the other order is the same one with its sides turned.

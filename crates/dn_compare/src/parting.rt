@@ -14,7 +14,8 @@ use std::collections::BTreeMap;
 
 // The least pair at which the arcs of two graphs differ in meaning, and how. One walk over both tables.
 pub(crate) fn first_pair<B: Bundle>(left: &Table<B>, right: &Table<B>) -> Option<((i64, i64), How)>
-    ensures { (xs ys : List ((ℤ × ℤ) × B.Arc)) → Tells B.kind (B.told Form.One) left.now xs → Tells B.kind (B.told Form.One) right.now ys
+    ensures { (xs ys : List ((ℤ × ℤ) × B.Arc))
+        → Tells B.kind (B.told Form.One) left.now xs → Tells B.kind (B.told Form.One) right.now ys
         → IsArcsParting B.kind xs ys result }
 {
     let mut lefts = TableWalk::new(left);
@@ -87,7 +88,8 @@ impl Item for (i64, i64) {
 // The first place, counted from 1, at which two lists of one length differ.
 pub(crate) fn first_item<T: Item>(left: &[T], right: &[T]) -> Option<u64>
     requires { length left.now ≡ length right.now }
-    ensures { MatchOption result ((j : ℕ) → item_at left.now j ≡ item_at right.now j) (λ i. ItemsPartAt left.now right.now i) }
+    ensures { MatchOption result ((j : ℕ) → item_at left.now j ≡ item_at right.now j)
+        (λ i. ItemsPartAt left.now right.now i) }
 {
     for i in 0..left.len() {
         if !left[i].same(&right[i]) {
