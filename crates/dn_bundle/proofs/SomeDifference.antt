@@ -94,8 +94,8 @@ module _ (xs ys : List CostArc) where
       by_costs l r = elim (same_option_or_not l.0 r.0) [
         | inl e ↦ (let right : IsCostOf ys n l.0 = subst (IsCostOf ys n) (sym e) r.1 in
             inl (λ x k lt. by_lt_z x n (same x k) (λ le.
-              let here : n ≡ x = omega (arith, ints) in
-              subst (λ z. LeastCost xs z k ↔ LeastCost ys z k) here (cost_there xs ys n l.0 l.1 right k, cost_there ys xs n l.0 right l.1 k))))
+            let here : n ≡ x = omega (arith, ints) in
+            subst (λ z. LeastCost xs z k ↔ LeastCost ys z k) here (cost_there xs ys n l.0 l.1 right k, cost_there ys xs n l.0 right l.1 k))))
         | inr n' ↦ inr (record { amount = n; left = l.0; right = r.0 }, record { left = l.1; right = r.1; differ = n'; same_below = same })
       ]
 
