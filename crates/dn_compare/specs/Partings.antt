@@ -82,7 +82,7 @@ IsListVerdict xs ys (Length left right) = Differ (length xs) (length ys) left ri
 IsListVerdict xs ys (Item index) = (length xs ≡ length ys) × ItemsPartAt xs ys index
 IsListVerdict xs ys _ = ⊥
 
--- the verdict on two valid instances of as many nodes, whatever they are, that this is held of
+-- the verdict on any two valid instances of as many nodes of which this is held
 abbrev pub IsVerdictOn : Contents → Contents → Verdict → Type 0
 IsVerdictOn a b v =
     (I J : Instance) → IsValid I → IsValid J → nodes_of I ≡ nodes_of J → Shows a I → Shows b J → IsFirstDifference I J v
