@@ -11,8 +11,6 @@ mod gap;
 pub mod laws;
 pub mod least;
 mod steps;
-#[cfg(test)]
-mod tests;
 pub mod total;
 mod wide;
 

@@ -11,8 +11,6 @@ mod line;
 pub mod room;
 mod rows;
 pub mod sink;
-#[cfg(test)]
-mod tests;
 pub mod to_write;
 mod writer;
 

@@ -10,8 +10,6 @@ mod difference;
 pub mod examples;
 pub mod laws;
 mod parting;
-#[cfg(test)]
-mod tests;
 pub mod verdict;
 mod walk;
 

@@ -19,8 +19,6 @@ pub mod reader;
 pub mod refusal;
 pub mod table;
 mod table_so_far;
-#[cfg(test)]
-mod tests;
 mod text_so_far;
 pub mod view;
 

@@ -2,14 +2,7 @@
 //! from standard input, and puts the canonical text on standard output.
 #![tactic(auto)]
 
-pub mod command;
-pub mod examples;
-mod fault_line;
-pub mod files;
 pub mod host;
-pub mod run;
-#[cfg(test)]
-mod tests;
 
 use crate::host::run_on;
 use dn_canon::ToWrite;

@@ -1,0 +1,71 @@
+// The line that tells why a run was refused.
+ghost use Rattle.std.specs.Prelude.{◌++◌, codes};
+ghost use Rattle.dn_canon.specs.Puts.{Puts};
+ghost use Rattle.dn_run.specs.FaultLines.{fault_line, reason_text};
+
+use dn_canon::{Sink, SinkFault, put_all};
+use dn_instance::{Place, Refusal};
+use itoa::Buffer;
+
+/// Puts the line that tells of a refusal of the text of this name: where it stands, its number, and its name.
+///
+/// # Errors
+///
+/// The sink failed; it may have taken a front of the line.
+pub fn put_fault_line<K: Sink>(sink: &mut K, name: &str, refusal: &Refusal) -> Result<(), SinkFault>
+    ensures { Puts K.taken K.has_failed sink.old sink.new (fault_line name.now refusal.now) result }
+{
+    let name = name.as_bytes();
+    match refusal {
+        Refusal::Text {
+            place: Place::Line(line),
+            ..
+        } => {
+            let mut digits = Buffer::new();
+            let line = digits.format(*line).as_bytes();
+            put_line(sink, name, b":", line, refusal)
+        }
+        Refusal::Text {
+            place: Place::End,
+            ..
+        } => put_line(sink, name, b":end", b"", refusal),
+        Refusal::Write => put_line(sink, b"out", b"", b"", refusal),
+        _ => put_line(sink, name, b"", b"", refusal),
+    }
+}
+
+// Puts where a refusal stands, in three parts, and the refusal.
+fn put_line<K: Sink>(
+    sink: &mut K,
+    name: &[u8],
+    place: &[u8],
+    line: &[u8],
+    refusal: &Refusal,
+) -> Result<(), SinkFault>
+    ensures { Puts K.taken K.has_failed sink.old sink.new (name.now ++ (place.now ++ (line.now ++ reason_text refusal.now))) result }
+{
+    put_all(sink, name)?;
+    put_all(sink, place)?;
+    put_all(sink, line)?;
+    put_reason(sink, refusal)
+}
+
+// Puts the number and the name of a refusal, and an LF.
+fn put_reason<K: Sink>(sink: &mut K, refusal: &Refusal) -> Result<(), SinkFault>
+    ensures { Puts K.taken K.has_failed sink.old sink.new (reason_text refusal.now) result }
+{
+    let mut digits = Buffer::new();
+    let number = digits.format(refusal.number()).as_bytes();
+    put_words(sink, number, refusal.name().as_bytes())
+}
+
+// Puts a number and a name after a colon, and an LF.
+fn put_words<K: Sink>(sink: &mut K, number: &[u8], name: &[u8]) -> Result<(), SinkFault>
+    ensures { Puts K.taken K.has_failed sink.old sink.new (codes ": " ++ (number.now ++ (codes " " ++ (name.now ++ codes "\n")))) result }
+{
+    put_all(sink, b": ")?;
+    put_all(sink, number)?;
+    put_all(sink, b" ")?;
+    put_all(sink, name)?;
+    put_all(sink, b"\n")
+}

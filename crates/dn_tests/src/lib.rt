@@ -1,0 +1,20 @@
+//! Tests of the libraries over their public calls: texts, lines, numbers, arcs and runs whose answers are known from
+//! outside. They stand in a crate of their own, so that a library is proved once and not a second time with its tests.
+#![tactic(auto)]
+
+#[cfg(test)]
+mod bundles;
+#[cfg(test)]
+mod canons;
+#[cfg(test)]
+mod differences;
+#[cfg(test)]
+mod instances;
+#[cfg(test)]
+mod lines;
+#[cfg(test)]
+mod numbers;
+#[cfg(test)]
+mod runs;
+#[cfg(test)]
+mod stand_ins;

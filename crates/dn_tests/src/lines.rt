@@ -1,0 +1,550 @@
+// Lines whose answers are known from outside.
+
+use dn_line::{
+    Code, FromRead, Head, Kind, Letter, Line, LineReader, Slice, Source, SourceFault, Step,
+    arc_line, read_line,
+};
+use std::io;
+use std::io::Read;
+
+type Case = (Option<Kind>, &'static str, Result<Line, Code>);
+
+// Lines under the kind known, and what they read as.
+const LINES: [Case; 68] = [
+    (None, "", Ok(Line::Skip)),
+    (None, "\r", Ok(Line::Skip)),
+    (None, "cab", Ok(Line::Skip)),
+    (None, " c\0", Ok(Line::Skip)),
+    (
+        None,
+        "p min 4 5",
+        Ok(Line::Graph {
+            kind: Kind::Min,
+            nodes: 4,
+            arcs: 5,
+        }),
+    ),
+    (
+        None,
+        "p max 2 1",
+        Ok(Line::Graph {
+            kind: Kind::Max,
+            nodes: 2,
+            arcs: 1,
+        }),
+    ),
+    (
+        None,
+        "p sp -0 +00",
+        Ok(Line::Graph {
+            kind: Kind::Sp,
+            nodes: 0,
+            arcs: 0,
+        }),
+    ),
+    (
+        None,
+        "p aux sp ss 1",
+        Ok(Line::Aux {
+            kind: Kind::Ss,
+            count: 1,
+        }),
+    ),
+    (
+        None,
+        "p aux sp p2p 2",
+        Ok(Line::Aux {
+            kind: Kind::P2p,
+            count: 2,
+        }),
+    ),
+    (
+        None,
+        "p aux sp co 2",
+        Ok(Line::Aux {
+            kind: Kind::Co,
+            count: 2,
+        }),
+    ),
+    (None, "x 1", Err(Code::BadLine)),
+    (None, "pp sp 0 0", Err(Code::BadLine)),
+    (None, "P sp 0 0", Err(Code::BadLine)),
+    (None, "a 1 2 3", Err(Code::EarlyLine)),
+    (None, "p asn 2 2", Err(Code::UnknownProblem)),
+    (None, "p", Err(Code::UnknownProblem)),
+    (None, "p aux sp", Err(Code::UnknownProblem)),
+    (None, "p SP 0 0", Err(Code::UnknownProblem)),
+    (None, "p sp 1", Err(Code::FieldCount)),
+    (None, "p sp 1 0 0", Err(Code::FieldCount)),
+    (None, "p sp 1.5 0", Err(Code::NotANumber)),
+    (None, "p sp 9223372036854775808 x", Err(Code::NotANumber)),
+    (None, "p sp + 0", Err(Code::NotANumber)),
+    (None, "p sp 9223372036854775808 0", Err(Code::OutOfRange)),
+    (None, "p sp -1 0", Err(Code::Negative)),
+    (None, "p aux sp ss -1", Err(Code::Negative)),
+    (Some(Kind::Sp), "p sp 0 0", Err(Code::SecondProblem)),
+    (Some(Kind::Sp), "n 1 1", Err(Code::WrongLine)),
+    (Some(Kind::Sp), "n 1", Err(Code::WrongLine)),
+    (Some(Kind::Sp), "x", Err(Code::BadLine)),
+    (
+        Some(Kind::Sp),
+        "a\t2\t1 803\r",
+        Ok(Line::SpArc {
+            src: 2,
+            dst: 1,
+            length: 803,
+        }),
+    ),
+    (
+        Some(Kind::Sp),
+        "  a  2 3 158 \r",
+        Ok(Line::SpArc {
+            src: 2,
+            dst: 3,
+            length: 158,
+        }),
+    ),
+    (
+        Some(Kind::Sp),
+        "a\r1 2\r3",
+        Ok(Line::SpArc {
+            src: 1,
+            dst: 2,
+            length: 3,
+        }),
+    ),
+    (
+        Some(Kind::Sp),
+        "a 1 2 +007",
+        Ok(Line::SpArc {
+            src: 1,
+            dst: 2,
+            length: 7,
+        }),
+    ),
+    (
+        Some(Kind::Sp),
+        "a 1 2 -0",
+        Ok(Line::SpArc {
+            src: 1,
+            dst: 2,
+            length: 0,
+        }),
+    ),
+    (
+        Some(Kind::Sp),
+        "a 1 1 -9223372036854775808",
+        Ok(Line::SpArc {
+            src: 1,
+            dst: 1,
+            length: -9223372036854775808,
+        }),
+    ),
+    (Some(Kind::Sp), "a 1 2 1.5", Err(Code::NotANumber)),
+    (
+        Some(Kind::Sp),
+        "a 1 2 9223372036854775808",
+        Err(Code::OutOfRange),
+    ),
+    (
+        Some(Kind::Sp),
+        "a 1 2 99999999999999999999x",
+        Err(Code::NotANumber),
+    ),
+    (
+        Some(Kind::Sp),
+        "a 9223372036854775808 2 x",
+        Err(Code::NotANumber),
+    ),
+    (Some(Kind::Sp), "a 1 2", Err(Code::FieldCount)),
+    (
+        Some(Kind::Sp),
+        "a 1 3 1",
+        Ok(Line::SpArc {
+            src: 1,
+            dst: 3,
+            length: 1,
+        }),
+    ),
+    (
+        Some(Kind::Max),
+        "n 1 s",
+        Ok(Line::Terminal {
+            id: 1,
+            letter: Letter::S,
+        }),
+    ),
+    (
+        Some(Kind::Max),
+        "n 2 t",
+        Ok(Line::Terminal {
+            id: 2,
+            letter: Letter::T,
+        }),
+    ),
+    (Some(Kind::Max), "n 0 x", Err(Code::BadTerminal)),
+    (Some(Kind::Max), "n 1 st", Err(Code::BadTerminal)),
+    (Some(Kind::Max), "n x st", Err(Code::NotANumber)),
+    (
+        Some(Kind::Max),
+        "a 1 2 0",
+        Ok(Line::MaxArc {
+            src: 1,
+            dst: 2,
+            cap: 0,
+        }),
+    ),
+    (Some(Kind::Max), "a 1 2 -1", Err(Code::Negative)),
+    (
+        Some(Kind::Min),
+        "n 4 -4",
+        Ok(Line::Supply { id: 4, flow: -4 }),
+    ),
+    (
+        Some(Kind::Min),
+        "n 1 5",
+        Ok(Line::Supply { id: 1, flow: 5 }),
+    ),
+    (
+        Some(Kind::Min),
+        "a 1 2 0 1 1",
+        Ok(Line::MinArc {
+            src: 1,
+            dst: 2,
+            low: 0,
+            cap: 1,
+            cost: 1,
+        }),
+    ),
+    (
+        Some(Kind::Min),
+        "a 1 2 3 2 0",
+        Ok(Line::MinArc {
+            src: 1,
+            dst: 2,
+            low: 3,
+            cap: 2,
+            cost: 0,
+        }),
+    ),
+    (
+        Some(Kind::Min),
+        "a 1 1 2 5 -4",
+        Ok(Line::MinArc {
+            src: 1,
+            dst: 1,
+            low: 2,
+            cap: 5,
+            cost: -4,
+        }),
+    ),
+    (Some(Kind::Min), "a 1 2 -1 3 0", Err(Code::Negative)),
+    (Some(Kind::Min), "a 1 2 3 4 5 6", Err(Code::FieldCount)),
+    (Some(Kind::Min), "a 1 2 3 4 5 6 7 8", Err(Code::FieldCount)),
+    (Some(Kind::Min), "s 1", Err(Code::WrongLine)),
+    (Some(Kind::Ss), "s 9", Ok(Line::Source { id: 9 })),
+    (Some(Kind::Ss), "s", Err(Code::FieldCount)),
+    (Some(Kind::Ss), "v 1 2 3", Err(Code::WrongLine)),
+    (
+        Some(Kind::P2p),
+        "q 3 1",
+        Ok(Line::Query {
+            first: 3,
+            second: 1,
+        }),
+    ),
+    (
+        Some(Kind::Co),
+        "v 9 0 -5",
+        Ok(Line::Point { id: 9, x: 0, y: -5 }),
+    ),
+    (Some(Kind::Co), "p", Err(Code::SecondProblem)),
+    (
+        None,
+        "p min 2 1",
+        Ok(Line::Graph {
+            kind: Kind::Min,
+            nodes: 2,
+            arcs: 1,
+        }),
+    ),
+    (
+        None,
+        "p sp 2 2",
+        Ok(Line::Graph {
+            kind: Kind::Sp,
+            nodes: 2,
+            arcs: 2,
+        }),
+    ),
+    (
+        Some(Kind::Sp),
+        "a 1 2 1",
+        Ok(Line::SpArc {
+            src: 1,
+            dst: 2,
+            length: 1,
+        }),
+    ),
+    (
+        Some(Kind::Max),
+        "n 2 s",
+        Ok(Line::Terminal {
+            id: 2,
+            letter: Letter::S,
+        }),
+    ),
+];
+
+// What the checks of the head and then those of the fields say.
+fn told(reader: &LineReader, known: Option<Kind>) -> Result<Line, Code> {
+    match reader.head(known) {
+        Ok(_) => reader.fields(known),
+        Err(code) => Err(code),
+    }
+}
+
+// How the line was given where the answer was another one.
+fn differs(case: Case) -> Option<&'static str> {
+    let (known, text, answer) = case;
+    if read_line(known, text.as_bytes()) != answer {
+        return Some("as a line");
+    }
+    let mut whole = LineReader::new();
+    let _ = whole.step(text.as_bytes());
+    if told(&whole, known) != answer {
+        return Some("without an end");
+    }
+    let mut bytes = LineReader::new();
+    for byte in text.as_bytes() {
+        let _ = bytes.step(&[*byte]);
+    }
+    let _ = bytes.step(b"\n");
+    if told(&bytes, known) != answer {
+        return Some("byte by byte");
+    }
+    for cut in 0..=text.len() {
+        let (front, back) = text.as_bytes().split_at(cut);
+        let mut reader = LineReader::new();
+        let _ = reader.step(front);
+        let _ = reader.step(back);
+        let _ = reader.step(b"\n");
+        if told(&reader, known) != answer {
+            return Some("in two pieces");
+        }
+    }
+    None
+}
+
+#[test]
+fn lines(rt: HostRuntime) {
+    for case in LINES {
+        assert_eq!(rt; differs(case), None, "{}", case.1);
+    }
+}
+
+// Arcs whose plain lines stand in front of more bytes, and how long the lines are.
+const PLAIN: [(Kind, &str, Line, usize); 3] = [
+    (
+        Kind::Sp,
+        "a 1 2 -3\nz",
+        Line::SpArc {
+            src: 1,
+            dst: 2,
+            length: -3,
+        },
+        9,
+    ),
+    (
+        Kind::Max,
+        "a 10 2 0\n",
+        Line::MaxArc {
+            src: 10,
+            dst: 2,
+            cap: 0,
+        },
+        9,
+    ),
+    (
+        Kind::Min,
+        "a 1 2 0 4 -1\na 1 2 0 4 1\n",
+        Line::MinArc {
+            src: 1,
+            dst: 2,
+            low: 0,
+            cap: 4,
+            cost: -1,
+        },
+        13,
+    ),
+];
+
+// Bytes in front of which stands no plain line of an arc.
+const NOT_PLAIN: [(Kind, &str); 9] = [
+    (Kind::Sp, "a 1 2 +3\n"),
+    (Kind::Sp, "a 1 2 3\r\n"),
+    (Kind::Sp, "a 1  2 3\n"),
+    (Kind::Sp, "a\t1 2 3\n"),
+    (Kind::Sp, "a 1 2 3"),
+    (Kind::Sp, "a 1 2 3 4\n"),
+    (Kind::Max, "a 1 2 -1\n"),
+    (Kind::Min, "a 1 2 3\n"),
+    (Kind::Ss, "a 1 2 3\n"),
+];
+
+#[test]
+fn plain_arcs(rt: HostRuntime) {
+    for (kind, text, arc, used) in PLAIN {
+        let found = arc_line(kind, text.as_bytes()).map(|found| (found.arc, found.used));
+        assert_eq!(rt; found, Some((arc, used)), "{text}");
+    }
+    for (kind, text) in NOT_PLAIN {
+        assert!(rt; arc_line(kind, text.as_bytes()).is_none(), "{text}");
+    }
+}
+
+#[test]
+fn a_step(rt: HostRuntime) {
+    let mut reader = LineReader::new();
+    let step = Step {
+        used: 2,
+        ended: true,
+    };
+    assert_eq!(rt; reader.step(b"a\nb"), Ok(step));
+    assert!(rt; !reader.pending());
+    assert_eq!(rt; reader.head(None), Err(Code::EarlyLine));
+    let empty = Step {
+        used: 0,
+        ended: false,
+    };
+    assert_eq!(rt; reader.step(b""), Ok(empty));
+    assert_eq!(rt; reader.head(None), Err(Code::EarlyLine));
+    let rest = Step {
+        used: 1,
+        ended: false,
+    };
+    assert_eq!(rt; reader.step(b"c"), Ok(rest));
+    assert!(rt; reader.pending());
+    assert_eq!(rt; reader.head(None), Ok(Head::Skip));
+}
+
+#[test]
+fn a_long_comment(rt: HostRuntime) {
+    let block = [b'1'; 1000];
+    let mut reader = LineReader::new();
+    let _ = reader.step(b"c ");
+    for _ in 0..1000 {
+        let step = Step {
+            used: 1000,
+            ended: false,
+        };
+        assert_eq!(rt; reader.step(&block), Ok(step));
+    }
+    let _ = reader.step(b"\n");
+    assert_eq!(rt; reader.head(None), Ok(Head::Skip));
+    let _ = reader.step(b"p sp 3 5\n");
+    assert_eq!(rt; reader.head(None), Ok(Head::Problem(Kind::Sp)));
+}
+
+// Comments, blanks and tabs as they are usual, lines that CR and LF end, and a last line without its LF.
+const USUAL: &str =
+    "c sample in the manner of the road graphs\r\nc\r\np sp 3 4\r\n\r\na 1 2 803\r\na\t2\t1 803\r\n  a  2 3 158 \r\na 3 2 158";
+
+// What its lines spell.
+const SPELLED: [Line; 8] = [
+    Line::Skip,
+    Line::Skip,
+    Line::Graph {
+        kind: Kind::Sp,
+        nodes: 3,
+        arcs: 4,
+    },
+    Line::Skip,
+    Line::SpArc {
+        src: 1,
+        dst: 2,
+        length: 803,
+    },
+    Line::SpArc {
+        src: 2,
+        dst: 1,
+        length: 803,
+    },
+    Line::SpArc {
+        src: 2,
+        dst: 3,
+        length: 158,
+    },
+    Line::SpArc {
+        src: 3,
+        dst: 2,
+        length: 158,
+    },
+];
+
+#[test]
+fn a_usual_text(rt: HostRuntime) {
+    let mut reader = LineReader::new();
+    let mut rest = USUAL.as_bytes();
+    for (i, answer) in SPELLED.iter().enumerate() {
+        let known = if i < 3 { None } else { Some(Kind::Sp) };
+        match reader.step(rest) {
+            Ok(step) => rest = rest.get(step.used..).unwrap_or(b""),
+            Err(_) => panic!(rt; "no step at line {i}"),
+        }
+        assert_eq!(rt; told(&reader, known), Ok(*answer), "line {i}");
+    }
+    assert!(rt; rest.is_empty() && reader.pending());
+}
+
+// Gives one byte, and then fails.
+#[derive(Drop)]
+struct Failing {
+    calls: u8,
+}
+
+impl Read for Failing {
+    fn read(&mut self, buf: &mut [u8]) -> io::Result<usize> {
+        self.calls = self.calls.saturating_add(1);
+        if self.calls == 2 {
+            return Err(io::Error::from(io::ErrorKind::WouldBlock));
+        }
+        match buf {
+            [first, ..] => {
+                *first = b'p';
+                Ok(1)
+            }
+            [] => Ok(0),
+        }
+    }
+}
+
+#[test]
+fn sources(rt: HostRuntime) {
+    let mut into = [0u8; 4];
+    let mut slice = Slice::new(b"a 1 2");
+    assert_eq!(rt; slice.pull(&mut into), Ok(4));
+    assert_eq!(rt; into.as_slice(), b"a 1 ".as_slice());
+    assert_eq!(rt; slice.pull(&mut into), Ok(1));
+    assert_eq!(rt; into[0], b'2');
+    assert_eq!(rt; slice.pull(&mut into), Ok(0));
+    let mut reader = FromRead::new(Failing { calls: 0 });
+    assert_eq!(rt; reader.pull(&mut into), Ok(1));
+    assert_eq!(rt; reader.pull(&mut into), Err(SourceFault));
+    assert_eq!(rt; reader.pull(&mut into), Err(SourceFault));
+    let mut whole = FromRead::new(b"p".as_slice());
+    assert_eq!(rt; whole.pull(&mut into), Ok(1));
+    assert_eq!(rt; whole.pull(&mut into), Ok(0));
+}
+
+#[test]
+fn names(rt: HostRuntime) {
+    assert_eq!(rt; Kind::P2p.name(), "p2p");
+    assert_eq!(rt; Code::NotANumber.name(), "NotANumber");
+    assert_eq!(rt; Code::TooLong.number(), 21);
+    let text = format!(in rt.alloc(); "{}, {}", Code::EarlyLine, SourceFault);
+    assert!(rt;
+        text.is_ok_and(|text| text.as_str()
+            == "line before the problem line, the source of bytes failed")
+    );
+}

@@ -1,0 +1,214 @@
+// Runs over texts in memory.
+ghost use Rattle.std.specs.Prelude.{Some};
+
+use crate::stand_ins::{NoFlush, Pieces};
+use dn_canon::{Bytes, Room};
+use dn_run::{Files, FilesFault, run};
+use std::alloc::{AllocError, Global};
+use std::test::Fail;
+
+// One text by its name; any other name has this fault.
+#[derive(Drop)]
+struct OneText<'a> {
+    name: &'a str,
+    text: &'a [u8],
+    pulls: usize,
+    other: FilesFault,
+    fault: Option<FilesFault>,
+}
+
+impl<'a> OneText<'a> {
+    fn new(name: &'a str, text: &'a [u8]) -> OneText<'a> {
+        OneText {
+            name,
+            text,
+            pulls: usize::MAX,
+            other: FilesFault::Device,
+            fault: None,
+        }
+    }
+}
+
+impl<'a> Files for OneText<'a> {
+    type Text = Pieces<'a>;
+
+    ghost behind = { λ s _. Some s.text.now };
+
+    ghost fault = { λ s. s.fault };
+
+    fn take(&mut self, name: &str) -> Result<Pieces<'a>, FilesFault> {
+        if name != self.name {
+            self.fault = Some(self.other);
+            return Err(self.other);
+        }
+        Ok(Pieces::failing(self.text, usize::MAX, self.pulls))
+    }
+}
+
+const ROADS: &[u8] = b"p sp 3 7\na 1 2 7\na 1 2 3\na 2 1 4\na 1 2 3\na 2 2 0\na 3 1 -5\na 2 3 9\n";
+
+const ROADS_CANON: &[u8] = b"p sp 3 5\na 1 2 3\na 2 1 4\na 2 2 0\na 2 3 9\na 3 1 -5\n";
+
+const FULL: &[u8] = b"p max 2 2\nn 1 s\nn 2 t\na 1 2 9223372036854775807\na 1 2 1\n";
+
+const BAD_LINE: &str = "dnorm: bad command line\n";
+
+// Words of their own.
+fn owned(alloc: Global, words: &[&str]) -> Result<Vec<String>, AllocError> {
+    let mut all = Vec::new(alloc);
+    for word in words {
+        all.push(String::from_str(alloc, word)?)?;
+    }
+    Ok(all)
+}
+
+// The status of a run, what `out` took, and what `err` took.
+fn ran(
+    alloc: Global,
+    words: &[&str],
+    files: &mut OneText<'_>,
+) -> Result<(u8, Bytes, Bytes), AllocError> {
+    let words = owned(alloc, words)?;
+    let mut out = Bytes::new(alloc);
+    let mut err = Bytes::new(alloc);
+    let status = run(alloc, &words, files, &mut out, &mut err);
+    Ok((status, out, err))
+}
+
+#[test]
+fn canonical_texts(rt: HostRuntime) -> Result<(), Fail> {
+    let lines: [(&[&str], &str); 4] = [
+        (&[], "-"),
+        (&["dnorm"], "-"),
+        (&["dnorm", "canon", "-"], "-"),
+        (&["dnorm", "canon", "g.gr"], "g.gr"),
+    ];
+    for (words, name) in lines {
+        let (status, out, err) = ran(rt.alloc(), words, &mut OneText::new(name, ROADS))?;
+        assert_eq!(rt; status, 0, "{words:?}");
+        assert_eq!(rt; out.taken(), ROADS_CANON, "{words:?}");
+        assert!(rt; err.taken().is_empty(), "{words:?}");
+    }
+    Ok(())
+}
+
+#[test]
+fn bad_command_lines(rt: HostRuntime) -> Result<(), Fail> {
+    let lines: [&[&str]; 9] = [
+        &["dnorm", "canon"],
+        &["dnorm", "g.gr"],
+        &["dnorm", "canon", ""],
+        &["dnorm", "canon", "-x"],
+        &["dnorm", "canon", "--"],
+        &["dnorm", "Canon", "g.gr"],
+        &["dnorm", "show", "g.gr"],
+        &["dnorm", "canon", "g.gr", "g.gr"],
+        &["dnorm", "compare", "-", "-"],
+    ];
+    for words in lines {
+        let (status, out, err) = ran(rt.alloc(), words, &mut OneText::new("g.gr", ROADS))?;
+        assert_eq!(rt; status, 3, "{words:?}");
+        assert!(rt; out.taken().is_empty(), "{words:?}");
+        assert_eq!(rt; err.taken(), BAD_LINE.as_bytes(), "{words:?}");
+    }
+    Ok(())
+}
+
+#[test]
+fn refused_texts(rt: HostRuntime) -> Result<(), Fail> {
+    let texts: [(&[u8], &str); 6] = [
+        (FULL, "n.max:5: 17 SumTooLarge\n"),
+        (b"", "n.max:end: 18 NoProblem\n"),
+        (b"p max 2 1\nn 1 s\n", "n.max:end: 19 MissingTerminal\n"),
+        (b"\n\nz", "n.max:3: 1 BadLine\n"),
+        (b"p sp 2 2\na 1 2 1", "n.max:end: 20 TooFewLines\n"),
+        (b"p sp 2 1\na 1 3 1\n", "n.max:2: 13 NodeOutOfRange\n"),
+    ];
+    for (text, line) in texts {
+        let words: &[&str] = &["dnorm", "canon", "n.max"];
+        let (status, out, err) = ran(rt.alloc(), words, &mut OneText::new("n.max", text))?;
+        assert_eq!(rt; status, 2, "{line}");
+        assert!(rt; out.taken().is_empty(), "{line}");
+        assert_eq!(rt; err.taken(), line.as_bytes(), "{line}");
+    }
+    Ok(())
+}
+
+#[test]
+fn faults_of_files(rt: HostRuntime) -> Result<(), Fail> {
+    let faults = [
+        (FilesFault::Device, "missing: 31 Read\n"),
+        (FilesFault::Memory, "missing: 30 Memory\n"),
+    ];
+    for (fault, line) in faults {
+        let mut files = OneText::new("g.gr", ROADS);
+        files.other = fault;
+        let (status, out, err) = ran(rt.alloc(), &["dnorm", "canon", "missing"], &mut files)?;
+        assert_eq!(rt; status, 4, "{line}");
+        assert!(rt; out.taken().is_empty(), "{line}");
+        assert_eq!(rt; err.taken(), line.as_bytes(), "{line}");
+    }
+    Ok(())
+}
+
+#[test]
+fn faults_of_sources(rt: HostRuntime) -> Result<(), Fail> {
+    let texts: [(&[u8], u8, &str); 2] = [
+        (ROADS, 4, "-: 31 Read\n"),
+        (b"p sp 1 1\nx\n", 2, "-:2: 1 BadLine\n"),
+    ];
+    for (text, wanted, line) in texts {
+        let mut files = OneText::new("-", text);
+        files.pulls = 1;
+        let (status, out, err) = ran(rt.alloc(), &["dnorm"], &mut files)?;
+        assert_eq!(rt; status, wanted, "{line}");
+        assert!(rt; out.taken().is_empty(), "{line}");
+        assert_eq!(rt; err.taken(), line.as_bytes(), "{line}");
+    }
+    Ok(())
+}
+
+#[test]
+fn rooms(rt: HostRuntime) -> Result<(), Fail> {
+    let words = owned(rt.alloc(), &["dnorm", "canon", "g.gr"])?;
+    for size in 0..=ROADS_CANON.len() {
+        let mut room = [b'x'; 50];
+        let mut out = Room::new(&mut room[..size]);
+        let mut err = Bytes::new(rt.alloc());
+        let mut files = OneText::new("g.gr", ROADS);
+        let status = run(rt.alloc(), &words, &mut files, &mut out, &mut err);
+        assert_eq!(rt; out.taken(), &ROADS_CANON[..size], "a room of {size} bytes");
+        if size == ROADS_CANON.len() {
+            assert_eq!(rt; status, 0);
+            assert!(rt; err.taken().is_empty());
+        } else {
+            assert_eq!(rt; status, 4, "a room of {size} bytes");
+            assert_eq!(rt;
+                err.taken(),
+                b"out: 33 Write\n".as_slice(),
+                "a room of {size} bytes"
+            );
+        }
+    }
+    Ok(())
+}
+
+#[test]
+fn failing_sinks(rt: HostRuntime) -> Result<(), Fail> {
+    let words = owned(rt.alloc(), &["dnorm"])?;
+    let mut late = NoFlush::new(rt.alloc());
+    let mut err = Bytes::new(rt.alloc());
+    let mut files = OneText::new("-", ROADS);
+    let status = run(rt.alloc(), &words, &mut files, &mut late, &mut err);
+    assert_eq!(rt; status, 4);
+    assert_eq!(rt; late.bytes.taken(), ROADS_CANON);
+    assert_eq!(rt; err.taken(), b"out: 33 Write\n".as_slice());
+    let mut none: [u8; 0] = [];
+    let mut no_out: [u8; 0] = [];
+    let mut deaf = Room::new(&mut none);
+    let mut full = Room::new(&mut no_out);
+    let mut files = OneText::new("-", FULL);
+    let status = run(rt.alloc(), &words, &mut files, &mut full, &mut deaf);
+    assert_eq!(rt; status, 2, "nothing was put, and `err` fails");
+    Ok(())
+}

@@ -1,0 +1,114 @@
+// Sources and sinks that stand in for slow and failing devices.
+ghost use Rattle.std.specs.Prelude.{◌≡◌, ◌||◌, false, Some};
+
+use dn_canon::{Bytes, Sink, SinkFault};
+use dn_line::{Source, SourceFault};
+use std::alloc::Global;
+
+/// A source that gives at most so many bytes a pull, and fails after so many pulls.
+#[derive(Clone, Copy)]
+pub(crate) struct Pieces<'a> {
+    pub(crate) rest: &'a [u8],
+    pub(crate) size: usize,
+    pub(crate) pulls: usize,
+    failed: bool,
+}
+
+impl<'a> Pieces<'a> {
+    /// Bytes in pieces of at most this size, by a source that does not fail.
+    pub(crate) fn new(rest: &'a [u8], size: usize) -> Pieces<'a> {
+        Pieces::failing(rest, size, usize::MAX)
+    }
+
+    /// Bytes in pieces of at most this size, by a source that fails after so many pulls.
+    pub(crate) fn failing(rest: &'a [u8], size: usize, pulls: usize) -> Pieces<'a>
+        ensures gives { result.rest.now ≡ rest.now }
+        ensures fine { result.failed ≡ false }
+    {
+        Pieces {
+            rest,
+            size,
+            pulls,
+            failed: false,
+        }
+    }
+}
+
+impl<'a> Source for Pieces<'a> {
+    ghost gives = { λ s. Some s.rest.now };
+
+    ghost has_failed = { λ s. s.failed };
+
+    fn pull(&mut self, into: &mut [u8]) -> Result<usize, SourceFault> {
+        if self.failed || self.pulls == 0 {
+            self.failed = true;
+            return Err(SourceFault);
+        }
+        self.pulls -= 1;
+        let n = self.rest.len().min(into.len()).min(self.size.max(1));
+        let (front, back) = self.rest.split_at(n);
+        into[..n].copy_from_slice(front);
+        self.rest = back;
+        Ok(n)
+    }
+}
+
+/// A sink that takes one byte a put.
+#[derive(Drop)]
+pub(crate) struct OneByte {
+    pub(crate) bytes: Bytes,
+}
+
+impl OneByte {
+    pub(crate) fn new(alloc: Global) -> OneByte {
+        OneByte {
+            bytes: Bytes::new(alloc),
+        }
+    }
+}
+
+impl Sink for OneByte {
+    ghost taken = { λ s. Some s.bytes.bytes };
+
+    ghost has_failed = { λ s. s.bytes.failed };
+
+    fn put(&mut self, piece: &[u8]) -> Result<usize, SinkFault> {
+        let n = piece.len().min(1);
+        self.bytes.put(&piece[..n])
+    }
+
+    fn flush(&mut self) -> Result<(), SinkFault> {
+        self.bytes.flush()
+    }
+}
+
+/// A sink that takes everything, and fails as it is flushed.
+#[derive(Drop)]
+pub(crate) struct NoFlush {
+    pub(crate) bytes: Bytes,
+    flushed: bool,
+}
+
+impl NoFlush {
+    pub(crate) fn new(alloc: Global) -> NoFlush {
+        NoFlush {
+            bytes: Bytes::new(alloc),
+            flushed: false,
+        }
+    }
+}
+
+impl Sink for NoFlush {
+    ghost taken = { λ s. Some s.bytes.bytes };
+
+    ghost has_failed = { λ s. s.flushed || s.bytes.failed };
+
+    fn put(&mut self, piece: &[u8]) -> Result<usize, SinkFault> {
+        self.bytes.put(piece)
+    }
+
+    fn flush(&mut self) -> Result<(), SinkFault> {
+        self.flushed = true;
+        Err(SinkFault)
+    }
+}
