@@ -22,7 +22,7 @@ use Rattle.dn_bundle.specs.Laws.Parts.{test_no}
 use Rattle.dn_bundle.specs.Laws.LengthKind.{length_kind}
 use Rattle.dn_bundle.specs.Laws.TotalKind.{total_kind}
 use Rattle.pair_index.specs.Pairs.{same_pair}
-use Rattle.dn_instance.specs.Pairs.{bundle}
+use Rattle.dn_table.specs.Pairs.{bundle}
 use Rattle.dn_instance.specs.Instances.{Graph}
 use Rattle.dn_instance.specs.Validity.{Fits, IsNode, IsPlaced, IsValidGraph}
 use Rattle.dn_instance.specs.Items.{Problem, counted, is_counted, arc_in, arcs_of, supply_in}

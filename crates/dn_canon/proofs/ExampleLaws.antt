@@ -12,7 +12,7 @@ use Rattle.dn_bundle.specs.Splits.{cost_cap}
 use Rattle.dn_bundle.specs.Examples.{arc, worked_one, worked_two}
 use Rattle.dn_bundle.specs.Laws.Curves.{curve_meaning}
 use Rattle.pair_index.specs.Pairs.{same_pair}
-use Rattle.dn_instance.specs.Pairs.{bundle, pair_le}
+use Rattle.dn_table.specs.Pairs.{bundle, pair_le}
 use Rattle.dn_instance.specs.Validity.{Fits, IsPlaced, IsValid}
 use Rattle.dn_instance.specs.Sameness.{SameGraph}
 use Rattle.dn_instance.proofs.MapLaws.{no_keys}

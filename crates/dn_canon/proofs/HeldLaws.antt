@@ -14,7 +14,7 @@ use Rattle.dn_bundle.specs.TotalTold.{cap_told}
 use Rattle.dn_bundle.specs.CurveTold.{told}
 use Rattle.dn_instance.specs.Helds.{Bundles, Contents, Holding, IsHeld, Shows, OfMin, OfMax, OfSp, OfSs, OfP2p, OfCo}
 use Rattle.dn_instance.specs.Instances.{Graph, Instance, MinCostFlow, MaxFlow, ShortestPaths, Sources, Queries, Coordinates, nodes_of, size_of}
-use Rattle.dn_instance.specs.TableSteps.{Tells}
+use Rattle.dn_table.specs.Tables.{Tells}
 use Rattle.dn_instance.specs.Validity.{IsValid, IsValidGraph, AreSupplies, AreTerminals}
 use Rattle.dn_instance.specs.declared.refusal.Refusal.{Refusal}
 use Rattle.dn_canon.specs.declared.sink.SinkFault.{SinkFault}

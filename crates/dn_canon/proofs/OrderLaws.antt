@@ -8,7 +8,7 @@ use Rattle.std.specs.declared.cmp.Ordering.TheVariants.{Less, Equal, Greater}
 use Rattle.std.proofs.lemmas.Cmp.{then_total, int_cmp_total}
 use Rattle.pair_index.proofs.PairLaws.{pair_is, pair_self}
 use Rattle.pair_index.specs.Pairs.{pair_cmp, same_pair}
-use Rattle.dn_instance.specs.Pairs.{pair_le, bundle}
+use Rattle.dn_table.specs.Pairs.{pair_le, bundle}
 use Rattle.dn_canon.specs.CanonInstances.{AreInOrder}
 
 -- pairs by SRC

@@ -10,7 +10,7 @@ use Rattle.dn_bundle.specs.Laws.LengthKind.{length_determined}
 use Rattle.dn_bundle.specs.Laws.TotalKind.{total_determined}
 use Rattle.dn_bundle.specs.Laws.FormTwo.{determination_of_forms}
 use Rattle.dn_instance.specs.Instances.{Graph, Instance, MinCostFlow, MaxFlow, ShortestPaths, Sources, Queries, Coordinates}
-use Rattle.dn_instance.specs.Pairs.{bundle}
+use Rattle.dn_table.specs.Pairs.{bundle}
 use Rattle.dn_instance.specs.Sameness.{SameGraph, IsSame}
 use Rattle.dn_instance.specs.TextFaults.{is_too_long}
 use Rattle.dn_instance.specs.Texts.{Reads}

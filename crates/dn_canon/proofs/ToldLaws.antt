@@ -19,8 +19,8 @@ use Rattle.dn_bundle.specs.declared.arc.CostArc.{CostArc}
 use Rattle.dn_bundle.specs.Bundles.{IsKind, NumbersFit, told_of}
 use Rattle.dn_instance.specs.Instances.{Graph, Instance, MinCostFlow, MaxFlow, ShortestPaths, Sources, Queries, Coordinates}
 use Rattle.pair_index.specs.Pairs.{pair_cmp, same_pair}
-use Rattle.dn_instance.specs.Pairs.{bundle}
-use Rattle.dn_instance.specs.Tables.{told_at}
+use Rattle.dn_table.specs.Pairs.{bundle}
+use Rattle.dn_table.specs.Tables.{told_at}
 use Rattle.dn_instance.specs.Validity.{Fits, IsNode, IsPlaced, IsValidGraph, IsValid, AreSupplies, AreTerminals}
 use Rattle.pair_index.proofs.PairLaws.{pair_is, pair_self}
 use Rattle.dn_canon.specs.CanonInstances.{AreInOrder}

@@ -3,7 +3,7 @@ use Rattle.std.specs.Prelude.{ℤ, List, [], ◌∷◌, IsTrue}
 use Rattle.std.specs.List.{AllByRecursion}
 use Rattle.dn_bundle.specs.declared.arc.Form.{Form}
 use Rattle.dn_bundle.specs.Kinds.{ArcKind, costs, capacities, lengths}
-use Rattle.dn_instance.specs.Pairs.{pair_le, bundle}
+use Rattle.dn_table.specs.Pairs.{pair_le, bundle}
 use Rattle.dn_instance.specs.Instances.{Graph, Instance, MinCostFlow, MaxFlow, ShortestPaths, Sources, Queries, Coordinates}
 
 -- the arcs stand by rising (SRC, DST)

@@ -4,7 +4,7 @@ ghost use Rattle.std.specs.List.Sorted.{IsStrictlySortedBy};
 ghost use Rattle.std.specs.Map.{keys_of};
 ghost use Rattle.dn_instance.specs.Instances.{Sources, Queries, Coordinates};
 ghost use Rattle.pair_index.specs.Pairs.{pair_cmp};
-ghost use Rattle.dn_instance.specs.TableSteps.{Tells};
+ghost use Rattle.dn_table.specs.Tables.{Tells};
 ghost use Rattle.dn_instance.specs.Validity.{IsValidGraph};
 ghost use Rattle.dn_canon.specs.Lines.{AreShort};
 ghost use Rattle.dn_canon.specs.Prints.{arc_row, supply_row, graph_rows, print};

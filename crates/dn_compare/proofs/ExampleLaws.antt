@@ -35,7 +35,7 @@ use Rattle.dn_bundle.proofs.PartLaws.{Parts, right_gap, cost_gap, step_gap}
 use Rattle.dn_bundle.proofs.SomeDifference.{same_by_length}
 use Rattle.dn_instance.specs.Instances.{Graph, ShortestPaths, Sources, Queries, Coordinates}
 use Rattle.pair_index.specs.Pairs.{pair_cmp, same_pair}
-use Rattle.dn_instance.specs.Pairs.{bundle}
+use Rattle.dn_table.specs.Pairs.{bundle}
 use Rattle.pair_index.proofs.PairLaws.{pair_is}
 use Rattle.pair_index.proofs.IndexLaws.{pair_total}
 use Rattle.dn_compare.specs.Observed.{value_of}

@@ -24,9 +24,9 @@ use Rattle.dn_bundle.specs.Laws.TotalKind.{total_kind}
 use Rattle.dn_bundle.specs.Laws.LengthKind.{length_kind}
 use Rattle.dn_instance.specs.Helds.{Contents, Holding, OfMin, OfMax, OfSp, OfSs, OfP2p, OfCo, Shows, IsHeld, contents_kind}
 use Rattle.dn_instance.specs.Instances.{Graph, Instance, MinCostFlow, MaxFlow, ShortestPaths, Sources, Queries, Coordinates, kind_of, nodes_of}
-use Rattle.dn_instance.specs.Pairs.{bundle}
+use Rattle.dn_table.specs.Pairs.{bundle}
 use Rattle.dn_instance.specs.Sameness.{IsSame}
-use Rattle.dn_instance.specs.TableSteps.{Tells}
+use Rattle.dn_table.specs.Tables.{Tells}
 use Rattle.dn_instance.specs.Validity.{IsSupply, IsValid}
 use Rattle.dn_compare.specs.Observed.{value_of, flow_or_zero, flow_of, source_of, sink_of, item_at}
 use Rattle.dn_compare.specs.FirstDifference.{BundlesDiffer, IsFirstDifference}

@@ -18,7 +18,7 @@ use Rattle.dn_bundle.specs.Laws.LengthKind.{length_kind}
 use Rattle.dn_bundle.proofs.SomeDifference.{same_or_not, length_or_differ, total_or_differ, curve_or_differ}
 use Rattle.dn_instance.specs.Instances.{Graph, Instance, MinCostFlow, MaxFlow, ShortestPaths, Sources, Queries, Coordinates, kind_of, nodes_of}
 use Rattle.pair_index.specs.Pairs.{pair_cmp, same_pair}
-use Rattle.dn_instance.specs.Pairs.{bundle}
+use Rattle.dn_table.specs.Pairs.{bundle}
 use Rattle.dn_instance.specs.Validity.{IsPlaced, IsValid, IsValidGraph}
 use Rattle.pair_index.proofs.IndexLaws.{pair_total}
 use Rattle.dn_compare.specs.Observed.{value_of, flow_or_zero, item_at}

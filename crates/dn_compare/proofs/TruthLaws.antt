@@ -10,7 +10,7 @@ use Rattle.dn_bundle.specs.declared.difference.How.TheVariants.{Lengths, Totals,
 use Rattle.dn_bundle.specs.Laws.CostKind.{cost_kind}
 use Rattle.dn_bundle.specs.Laws.TotalKind.{total_kind}
 use Rattle.dn_bundle.specs.Laws.LengthKind.{length_kind}
-use Rattle.dn_instance.specs.Pairs.{bundle}
+use Rattle.dn_table.specs.Pairs.{bundle}
 use Rattle.dn_instance.specs.Instances.{Instance, MinCostFlow, MaxFlow, ShortestPaths, Sources, Queries, Coordinates, kind_of, nodes_of}
 use Rattle.dn_instance.specs.Sameness.{IsSame}
 use Rattle.dn_instance.proofs.SameLaws.{sym_of, trans_of}

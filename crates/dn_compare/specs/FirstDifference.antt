@@ -7,7 +7,7 @@ use Rattle.dn_bundle.specs.Kinds.{costs, capacities, lengths}
 use Rattle.dn_bundle.specs.declared.difference.How.{How}
 use Rattle.dn_instance.specs.Instances.{Instance, MinCostFlow, MaxFlow, ShortestPaths, Sources, Queries, kind_of, nodes_of}
 use Rattle.pair_index.specs.Pairs.{pair_cmp}
-use Rattle.dn_instance.specs.Pairs.{bundle}
+use Rattle.dn_table.specs.Pairs.{bundle}
 use Rattle.dn_instance.specs.Sameness.{IsSame}
 use Rattle.dn_compare.specs.Observed.{flow_of, source_of, sink_of, count_of, item_at, point_of}
 use Rattle.dn_compare.specs.declared.verdict.Verdict.{Verdict}

@@ -10,7 +10,7 @@ use Rattle.dn_bundle.specs.declared.difference.How.{How}
 use Rattle.dn_instance.specs.Helds.{Contents, Shows}
 use Rattle.dn_instance.specs.Instances.{Instance, nodes_of}
 use Rattle.pair_index.specs.Pairs.{pair_cmp}
-use Rattle.dn_instance.specs.Pairs.{bundle}
+use Rattle.dn_table.specs.Pairs.{bundle}
 use Rattle.dn_instance.specs.Validity.{IsValid}
 use Rattle.dn_compare.specs.Observed.{flow_or_zero, item_at}
 use Rattle.dn_compare.specs.FirstDifference.{Differ, IsFirstDifference}

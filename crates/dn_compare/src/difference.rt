@@ -3,7 +3,7 @@ ghost use Rattle.std.specs.Prelude.{◌≡◌, ℤ, List};
 ghost use Rattle.dn_bundle.specs.declared.arc.Form.{Form};
 ghost use Rattle.dn_instance.specs.Helds.{contents_kind, IsHeld, OfCo, OfMax, OfMin};
 ghost use Rattle.dn_instance.specs.Instances.{Instance};
-ghost use Rattle.dn_instance.specs.TableSteps.{Tells};
+ghost use Rattle.dn_table.specs.Tables.{Tells};
 ghost use Rattle.dn_instance.specs.Validity.{IsValid};
 ghost use Rattle.dn_instance.specs.Views.{holding, shown};
 ghost use Rattle.dn_compare.specs.FirstDifference.{IsFirstDifference};

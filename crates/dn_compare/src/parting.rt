@@ -3,7 +3,7 @@ ghost use Rattle.std.specs.Prelude.{◌≡◌, ◌↔◌, ℕ, ℤ, List, IsTrue
 ghost use Rattle.std.specs.Option.{option_map};
 ghost use Rattle.std.specs.Ordering.{int_cmp};
 ghost use Rattle.dn_bundle.specs.declared.arc.Form.{Form};
-ghost use Rattle.dn_instance.specs.TableSteps.{Tells};
+ghost use Rattle.dn_table.specs.Tables.{Tells};
 ghost use Rattle.dn_compare.specs.Observed.{item_at};
 ghost use Rattle.dn_compare.specs.Partings.{by_flow, by_point, IsArcsParting, IsParting, ItemsPartAt};
 

@@ -17,7 +17,7 @@ use Rattle.dn_instance.specs.Items.{Problem, problem_of, arcs_of}
 use Rattle.dn_instance.specs.TextFaults.{is_companion, is_in_range, item_tests, passes}
 use Rattle.dn_instance.specs.ItemFaults.{in_graph, arc_fault}
 use Rattle.dn_instance.specs.Holdings.{TableHolds}
-use Rattle.dn_instance.specs.TableSteps.{Tells, AreArcs, Stays}
+use Rattle.dn_table.specs.Tables.{Tells, AreArcs, Stays}
 use Rattle.dn_instance.proofs.ValidLaws.{all_push, arcs_push}
 
 -- both nodes of a pair in range

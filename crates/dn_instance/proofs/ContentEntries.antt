@@ -8,10 +8,11 @@ use Rattle.dn_bundle.specs.declared.arc.Form.TheVariants.{One}
 use Rattle.dn_bundle.specs.declared.curve.Curve.{Curve}
 use Rattle.dn_bundle.specs.declared.least.Least.{Least}
 use Rattle.dn_bundle.specs.declared.total.Total.{Total}
-use Rattle.dn_instance.specs.EntryCount.{graph_entries, entries_of}
+use Rattle.dn_table.specs.GraphEntries.{graph_entries}
+use Rattle.dn_instance.specs.EntryCount.{entries_of}
 use Rattle.dn_instance.specs.Helds.{Bundles, Shows, OfMin, OfMax, OfSp, OfSs, OfP2p, OfCo}
 use Rattle.dn_instance.specs.Instances.{Instance, MinCostFlow, MaxFlow, ShortestPaths, Sources, Queries, Coordinates}
-use Rattle.dn_instance.specs.TableSteps.{Tells, AreArcs}
+use Rattle.dn_table.specs.Tables.{Tells, AreArcs}
 use Rattle.dn_instance.specs.Validity.{IsValid}
 use Rattle.dn_instance.proofs.EntryLaws.{placed_arcs}
 

@@ -20,7 +20,7 @@ use Rattle.dn_bundle.specs.declared.arc.CostArc.{CostArc}
 use Rattle.dn_instance.specs.Items.{Problem, problem_of, arcs_of}
 use Rattle.dn_instance.specs.TextFaults.{is_companion, item_tests, passes}
 use Rattle.dn_instance.specs.ItemFaults.{in_graph, arc_fault}
-use Rattle.dn_instance.specs.TableSteps.{Stays}
+use Rattle.dn_table.specs.Tables.{Stays}
 use Rattle.dn_instance.proofs.ValidLaws.{all_push, arcs_push}
 use Rattle.dn_instance.proofs.ArcItems.{stray_is}
 

@@ -31,7 +31,7 @@ use Rattle.dn_bundle.specs.Kinds.{ArcKind, lengths, capacities, costs}
 use Rattle.dn_bundle.specs.TotalTold.{cap_told}
 use Rattle.dn_bundle.specs.declared.total.Total.{Total}
 use Rattle.dn_instance.specs.Holdings.{TableHolds}
-use Rattle.dn_instance.specs.TableSteps.{Tells, AreArcs}
+use Rattle.dn_table.specs.Tables.{Tells, AreArcs}
 use Rattle.dn_instance.proofs.FirstFaults.{none_first}
 use Rattle.dn_instance.proofs.CleanItems.{or_none}
 use Rattle.dn_instance.proofs.MapLaws.{by_key_push, found_by_key}

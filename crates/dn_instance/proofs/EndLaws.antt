@@ -10,7 +10,7 @@ use Rattle.dn_bundle.specs.Kinds.{capacities}
 use Rattle.dn_bundle.specs.TotalTold.{cap_told}
 use Rattle.std.specs.Map.{lookup}
 use Rattle.pair_index.specs.Pairs.{same_pair}
-use Rattle.dn_instance.proofs.GrownLaws.{tells_as}
+use Rattle.dn_table.proofs.GrownLaws.{tells_as}
 use Rattle.dn_instance.specs.Instances.{Graph, MaxFlow}
 use Rattle.dn_instance.specs.Items.{Problem, counted, terminal_of, graph_of, max_flow, arcs_of}
 use Rattle.dn_instance.specs.TextFaults.{end_fault, lacks_terminal, is_full}

@@ -4,14 +4,12 @@ pub mod SameLaws
 pub mod CleanItems
 pub mod MapLaws
 pub mod ValidLaws
-pub mod TableLaws
 pub mod TellsLaws
 pub mod ArcItems
 pub mod DraftLaws
 pub mod ProgressLaws
 pub mod NextLaws
 pub mod FollowLaws
-pub mod GrownLaws
 pub mod LineSteps
 pub mod CostItems
 pub mod SupplyItems

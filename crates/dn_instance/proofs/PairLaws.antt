@@ -1,24 +1,9 @@
--- Ordered pairs and IDs as keys.
-use Rattle.std.proofs.Common.{◌≡◌, ℤ, Bool, true, false, refl, sym, ap, ◌∙◌, subst, to_z, of_z, w64}
-use Rattle.std.specs.Int.RustNames.{FitsSigned}
-use Rattle.std.proofs.lemmas.Int.{to_z-of_z}
+-- IDs as keys.
+use Rattle.std.proofs.Common.{◌≡◌, ℤ, true}
 use Rattle.std.proofs.lemmas.Map.Lookups.{exact_signed}
 use Rattle.std.specs.Ordering.{int_cmp, is_eq}
-use Rattle.pair_index.specs.Pairs.{same_pair}
-use Rattle.pair_index.proofs.PairLaws.{equal_is, pair_is, pair_self}
-
--- the key, as a call passes it
-pub key_is : (u v : ℤ) → FitsSigned w64 u → FitsSigned w64 v → (P : ℤ × ℤ → Type 0) → P (to_z w64 (of_z w64 u), to_z w64 (of_z w64 v)) → P (u, v)
-key_is u v p q P h = subst (λ b. P (u, b)) (to_z-of_z w64 v q) (subst (λ a. P (a, to_z w64 (of_z w64 v))) (to_z-of_z w64 u p) h)
+use Rattle.pair_index.proofs.PairLaws.{equal_is}
 
 -- a key that is found is the one sought
 pub sought_is : (q k : ℤ) → is_eq (int_cmp q k) ≡ true → q ≡ k
 sought_is q k h = exact_signed q k (equal_is (int_cmp q k) h)
-
--- a pair that is another is so both ways
-pub other_pair : (p q : ℤ × ℤ) → same_pair p q ≡ false → same_pair q p ≡ false
-other_pair p q h = by_test (same_pair q p) refl
-  where
-    by_test : (t : Bool) → same_pair q p ≡ t → same_pair q p ≡ false
-    by_test false e = e
-    by_test true e = (let one : q ≡ p = pair_is q p e in let never : true ≡ false = sym (pair_self p) ∙ ap (same_pair p) (sym one) ∙ h in cc)

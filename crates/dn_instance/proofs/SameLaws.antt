@@ -8,9 +8,9 @@ use Rattle.dn_bundle.specs.Laws.Lengths.{length_meaning}
 use Rattle.dn_bundle.specs.Laws.Totals.{total_meaning}
 use Rattle.dn_bundle.specs.Laws.Curves.{curve_meaning}
 use Rattle.pair_index.specs.Pairs.{same_pair}
-use Rattle.dn_instance.specs.Pairs.{bundle}
+use Rattle.dn_table.specs.Pairs.{bundle}
 use Rattle.dn_instance.specs.Instances.{Graph, Instance, MinCostFlow, MaxFlow, ShortestPaths, Sources, Queries, Coordinates}
-use Rattle.dn_instance.specs.Tables.{told_at, TableStandsFor}
+use Rattle.dn_table.specs.Tables.{told_at, TableStandsFor}
 use Rattle.dn_instance.specs.Sameness.{SameGraph, IsSame}
 
 module _ {Arc : Type 0} (kind : ArcKind Arc) (meaning : IsMeaning kind.Same) where

@@ -1,22 +1,12 @@
 -- How many entries an instance comes to: what has to be kept of it (this project's profile).
-use Rattle.std.specs.Prelude.{ℕ, ℤ, List, length, map, sum_by, filter_map, Option, Some, None}
+use Rattle.std.specs.Prelude.{ℕ, List, length, filter_map, Option, Some, None}
 use Rattle.dn_line.specs.declared.kind.Kind.{Kind}
 use Rattle.dn_line.specs.declared.kind.Kind.TheVariants as Kinds
 use Rattle.dn_line.specs.declared.line.Line.{Line}
-use Rattle.dn_bundle.specs.Entries.{distinct}
-use Rattle.dn_bundle.specs.Kinds.{ArcKind, costs, capacities, lengths}
-use Rattle.pair_index.specs.Pairs.{same_pair}
-use Rattle.dn_instance.specs.Pairs.{bundle}
+use Rattle.dn_bundle.specs.Kinds.{costs, capacities, lengths}
+use Rattle.dn_table.specs.GraphEntries.{graph_entries}
 use Rattle.dn_instance.specs.Items.{Problem, problem_of, arcs_of, source_in, query_in, point_in, by_key}
 use Rattle.dn_instance.specs.Instances.{Instance, MinCostFlow, MaxFlow, ShortestPaths, Sources, Queries, Coordinates}
-
--- the entries of each ordered pair that has arcs, summed
-abbrev pub graph_entries : {Arc : Type 0} → ArcKind Arc → List ((ℤ × ℤ) × Arc) → ℕ
-graph_entries kind arcs = sum_by (λ p. kind.entries (bundle p arcs)) (distinct same_pair (map (λ a. a.0) arcs))
-
--- what the bundles of a table come to, by what each does
-abbrev pub entries_told : {B : Type 0} → (B → ℕ) → List ((ℤ × ℤ) × B) → ℕ
-entries_told each table = sum_by (λ e. each e.1) table
 
 -- for a companion, the number of its items
 abbrev pub entries_of : Instance → ℕ

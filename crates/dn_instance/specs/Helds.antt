@@ -11,7 +11,7 @@ use Rattle.dn_bundle.specs.declared.curve.Curve.{Curve}
 use Rattle.dn_bundle.specs.declared.least.Least.{Least}
 use Rattle.dn_bundle.specs.declared.total.Total.{Total}
 use Rattle.dn_instance.specs.Instances.{Instance, MinCostFlow, MaxFlow, ShortestPaths, Sources, Queries, Coordinates, nodes_of, size_of}
-use Rattle.dn_instance.specs.TableSteps.{Tells}
+use Rattle.dn_table.specs.Tables.{Tells}
 
 -- bundles by ordered pair
 abbrev pub Bundles : Type 0 → Type 0

@@ -1,4 +1,3 @@
-pub mod Pairs
 pub mod Instances
 pub mod Validity
 pub mod Sameness
@@ -6,8 +5,6 @@ pub mod EntryCount
 pub mod Items
 pub mod TextFaults
 pub mod Texts
-pub mod Tables
-pub mod TableSteps
 pub mod ItemFaults
 pub mod Holdings
 pub mod Drafts

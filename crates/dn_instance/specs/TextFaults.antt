@@ -18,7 +18,7 @@ use Rattle.dn_line.specs.Words.{first, is_skip}
 use Rattle.dn_line.specs.Faults.{Test, first_fault, head_tests, field_tests, fields}
 use Rattle.dn_line.specs.Reading.{words_read}
 use Rattle.dn_bundle.specs.Kinds.{ArcKind, costs, capacities}
-use Rattle.dn_instance.specs.Pairs.{bundle}
+use Rattle.dn_table.specs.Pairs.{bundle}
 use Rattle.dn_instance.specs.Items.{Problem, problem_of, kind_known, counted, arcs_of, arc_in, terminal_of}
 
 -- the item that a line spells, if it spells one

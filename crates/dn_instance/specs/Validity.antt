@@ -6,7 +6,7 @@ use Rattle.std.specs.Map.{keys_of}
 use Rattle.std.specs.Ordering.{int_cmp}
 use Rattle.dn_line.specs.Number.{fits}
 use Rattle.dn_bundle.specs.Kinds.{ArcKind, costs, capacities, lengths}
-use Rattle.dn_instance.specs.Pairs.{bundle}
+use Rattle.dn_table.specs.Pairs.{bundle}
 use Rattle.dn_instance.specs.Instances.{Graph, Instance, MinCostFlow, MaxFlow, ShortestPaths, Sources, Queries, Coordinates}
 
 -- the number has 64 signed bits

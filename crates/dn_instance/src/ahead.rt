@@ -1,6 +1,9 @@
 // The arcs that come next, looked at before they are taken.
+ghost use Rattle.std.specs.Prelude.{◌≡◌};
 
+use dn_bundle::Bundle;
 use dn_line::{Kind, Line, arc_line};
+use dn_table::TableSoFar;
 use pair_index::AHEAD;
 
 // The ordered pair of an arc.
@@ -15,7 +18,7 @@ fn pair_of(arc: &Line) -> (i64, i64) {
 
 // The ordered pairs of the arcs whose plain lines stand at the front of these bytes, one after the other. Where there
 // are fewer, (0, 0), which no arc has, stands for the others. No contract: they are used for guesses.
-pub(crate) fn pairs_ahead(kind: Kind, bytes: &[u8]) -> [(i64, i64); AHEAD] {
+fn pairs_ahead(kind: Kind, bytes: &[u8]) -> [(i64, i64); AHEAD] {
     let mut pairs = [(0, 0); AHEAD];
     let mut rest = bytes;
     for pair in pairs.iter_mut() {
@@ -29,4 +32,13 @@ pub(crate) fn pairs_ahead(kind: Kind, bytes: &[u8]) -> [(i64, i64); AHEAD] {
         };
     }
     pairs
+}
+
+// Has a table look up together where the pairs of these arcs stand, where that spares time. It decides only the speed.
+pub(crate) fn look_ahead<B: Bundle>(table: &mut TableSoFar<B>, kind: Kind, bytes: &[u8])
+    ensures { table.new ≡ table.old }
+{
+    if table.wants_guesses() {
+        table.guess(&pairs_ahead(kind, bytes));
+    }
 }

@@ -11,12 +11,12 @@ ghost use Rattle.dn_instance.specs.Items.{Problem, problem_of};
 ghost use Rattle.dn_instance.specs.TextFaults.{item_tests};
 ghost use Rattle.dn_instance.specs.Holdings.{TableHolds};
 ghost use Rattle.dn_instance.specs.ItemFaults.{Answers, in_graph, arc_fault};
-ghost use Rattle.dn_instance.specs.TableSteps.{Tells, AreArcs, Stays};
+ghost use Rattle.dn_table.specs.Tables.{Tells, AreArcs, Stays};
 
 use crate::item_fault::ItemFault;
-use crate::table_so_far::TableSoFar;
 use dn_bundle::{Bundle, BundleFault, CapArc, CostArc, Curve, Form, Least, LengthArc, Total};
 use dn_line::{Code, Kind, Line};
+use dn_table::TableSoFar;
 use std::alloc::Global;
 
 // Whether a graph of this many nodes has the node.

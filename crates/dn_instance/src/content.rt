@@ -6,10 +6,10 @@ ghost use Rattle.dn_instance.specs.Instances.{Instance};
 ghost use Rattle.dn_instance.specs.Validity.{IsValid};
 ghost use Rattle.dn_instance.specs.Views.{contents_of, shown};
 
-use crate::table::Table;
 use crate::view::View;
 use dn_bundle::{Curve, Least, Total};
 use dn_line::Kind;
+use dn_table::Table;
 use std::collections::BTreeMap;
 
 #[derive(Drop)]

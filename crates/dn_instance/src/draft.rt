@@ -10,13 +10,14 @@ ghost use Rattle.dn_instance.specs.Drafts.{draft_kind, Holds, HasSigns};
 ghost use Rattle.dn_instance.specs.Ends.{Makes};
 ghost use Rattle.dn_instance.specs.EntryCount.{entries_as};
 
+use crate::ahead::look_ahead;
 use crate::arcs::{take_cap_arc, take_cost_arc, take_length_arc};
 use crate::content::Content;
 use crate::item_fault::ItemFault;
 use crate::items::{take_point, take_query, take_source, take_supply, take_terminal};
-use crate::table_so_far::TableSoFar;
 use dn_bundle::{CapArc, CostArc, Curve, Least, LengthArc, Total};
 use dn_line::{Code, Kind, Letter, Line};
+use dn_table::TableSoFar;
 use std::alloc::Global;
 use std::collections::{BTreeMap, BTreeSet};
 
@@ -81,9 +82,9 @@ impl Draft {
         ensures { self.new ≡ self.old }
     {
         match self {
-            Draft::Min { table, .. } => table.look_ahead(Kind::Min, bytes),
-            Draft::Max { table, .. } => table.look_ahead(Kind::Max, bytes),
-            Draft::Sp(table) => table.look_ahead(Kind::Sp, bytes),
+            Draft::Min { table, .. } => look_ahead(table, Kind::Min, bytes),
+            Draft::Max { table, .. } => look_ahead(table, Kind::Max, bytes),
+            Draft::Sp(table) => look_ahead(table, Kind::Sp, bytes),
             Draft::Ss(_) | Draft::P2p(_) | Draft::Co(_) => {}
         }
     }

@@ -10,8 +10,8 @@ ghost use Rattle.dn_bundle.specs.Meanings.{SameLength, SameTotal, SameCurve};
 ghost use Rattle.dn_instance.specs.declared.place.Place.{Place};
 ghost use Rattle.dn_instance.specs.Instances.{Graph, Instance};
 ghost use Rattle.dn_instance.specs.Sameness.{IsSame, SameGraph};
-ghost use Rattle.dn_instance.specs.Pairs.{bundle};
-ghost use Rattle.dn_instance.specs.Tables.{TableStandsFor};
+ghost use Rattle.dn_table.specs.Pairs.{bundle};
+ghost use Rattle.dn_table.specs.Tables.{TableStandsFor};
 ghost use Rattle.dn_instance.specs.Texts.{Reads, IsFirstFault};
 ghost use Rattle.dn_instance.specs.Validity.{IsValid};
 

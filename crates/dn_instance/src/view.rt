@@ -1,7 +1,7 @@
 // What is shown of a text that was read.
 
-use crate::table::Table;
 use dn_bundle::{Curve, Least, Total};
+use dn_table::Table;
 use std::collections::BTreeMap;
 
 /// What is held of a text, by kind.

@@ -5,7 +5,7 @@ use Rattle.dn_bundle.specs.CurveTold.{told}
 use Rattle.dn_bundle.specs.declared.arc.Form.TheVariants.{One}
 use Rattle.dn_instance.specs.declared.item_fault.ItemFault.{ItemFault}
 use Rattle.dn_instance.specs.Holdings.{TableHolds}
-use Rattle.dn_instance.specs.TableSteps.{Tells}
+use Rattle.dn_table.specs.Tables.{Tells}
 use Rattle.dn_instance.specs.Items.{arcs_of}
 use Rattle.dn_instance.specs.ItemFaults.{Answers, arc_fault}
 use Rattle.dn_instance.proofs.ArcItems.{table_grown}

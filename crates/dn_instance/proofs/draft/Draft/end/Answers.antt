@@ -11,7 +11,7 @@ use Rattle.dn_bundle.specs.declared.curve.Curve.{Curve}
 use Rattle.dn_bundle.specs.declared.least.Least.{Least}
 use Rattle.dn_instance.specs.Items.{arcs_of}
 use Rattle.dn_instance.proofs.EndLaws.{both_named}
-use Rattle.dn_instance.proofs.GrownLaws.{tells_as}
+use Rattle.dn_table.proofs.GrownLaws.{tells_as}
 use Rattle.dn_instance.proofs.draft.Draft.end.Goals as goal
 
 pub returns-in-Min : goal.returns-in-Min

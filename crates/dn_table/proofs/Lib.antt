@@ -1,0 +1,4 @@
+pub mod PairLaws
+pub mod TableLaws
+pub mod GrownLaws
+pub mod EntryLaws

@@ -1,0 +1,108 @@
+// Bundles by their ordered pairs.
+ghost use Rattle.std.specs.Prelude.{◌≡◌, ◌<◌, ◌≤◌, ℤ, List, MatchOption, [], ◌^◌, length};
+ghost use Rattle.std.specs.Option.{option_copied};
+ghost use Rattle.std.specs.Iterator.{YieldsFirstBy, item_count};
+ghost use Rattle.std.specs.List.Sorted.{IsStrictlySortedBy};
+ghost use Rattle.std.specs.Map.{keys_of, lookup};
+ghost use Rattle.dn_bundle.specs.declared.arc.Form.{Form};
+ghost use Rattle.pair_index.specs.Pairs.{pair_cmp, same_pair};
+ghost use Rattle.dn_table.specs.GraphEntries.{graph_entries};
+ghost use Rattle.dn_table.specs.Tables.{entry_of, AreArcs, Tells};
+
+use crate::entry_sum::bundle_entries;
+use dn_bundle::{Bundle, Form};
+use pair_index::place_by_search;
+use std::marker::Model;
+use std::slice::Iter;
+
+/// The bundles of a graph by ordered pair. A pair whose arcs mean what no arcs mean has none.
+#[derive(Drop)]
+pub struct Table<B: Bundle> {
+    entries: Vec<((i64, i64), B)>,
+}
+
+impl<B: Bundle> Model for Table<B> {
+    ghost use Rattle.std.specs.Prelude.{ℤ, List};
+    ghost use Rattle.std.specs.List.Sorted.{IsStrictlySortedBy};
+    ghost use Rattle.std.specs.Map.{keys_of};
+    ghost use Rattle.pair_index.specs.Pairs.{pair_cmp};
+
+    ghost Value = { List ((ℤ × ℤ) × B) };
+
+    ghost view = { λ t. t.entries.items };
+
+    ghost invariant = { λ t. IsStrictlySortedBy pair_cmp (keys_of t.entries.items) };
+}
+
+impl<B: Bundle> Table<B> {
+    // The table of entries by rising pair.
+    pub(crate) fn of(entries: Vec<((i64, i64), B)>) -> Table<B>
+        requires { IsStrictlySortedBy pair_cmp (keys_of entries.items) }
+        ensures { result ≡ entries.items }
+    {
+        Table { entries }
+    }
+
+    /// The bundle of the arcs from `src` to `dst`, if they mean anything.
+    pub fn get(&self, src: i64, dst: i64) -> Option<&B>
+        ensures { option_copied result ≡ lookup (same_pair (src, dst)) self.now }
+    {
+        match place_by_search(&self.entries, &(src, dst)) {
+            Some(place) => Some(&self.entries[place].1),
+            None => None,
+        }
+    }
+
+    /// The pairs that have a bundle, by rising (src, dst). Takes no memory.
+    pub fn pairs(&self) -> Pairs<'_, B>
+        ensures value { result ≡ self.now }
+        ensures rising { IsStrictlySortedBy pair_cmp (keys_of self.now) }
+    {
+        Pairs {
+            inner: self.entries.iter(),
+        }
+    }
+
+    /// How many entries its bundles come to, given that they are fewer than 2^64.
+    pub fn entries(&self) -> u64
+        ensures { (arcs : List ((ℤ × ℤ) × B.Arc)) → B.kind.entries [] ≡ 0 → Tells B.kind (B.told Form.One) self.now arcs
+            → AreArcs B.kind arcs → graph_entries B.kind arcs < 2 ^ 64 → result ≡ graph_entries B.kind arcs }
+    {
+        bundle_entries(&self.entries)
+    }
+
+    /// How many pairs have a bundle.
+    pub fn len(&self) -> usize
+        ensures { result ≡ length self.now }
+    {
+        self.entries.len()
+    }
+}
+
+/// The bundles of a table with their pairs, by rising (src, dst).
+#[derive(Drop)]
+pub struct Pairs<'a, B: Bundle> {
+    inner: Iter<'a, ((i64, i64), B)>,
+}
+
+impl<'a, B: Bundle> Model for Pairs<'a, B> {
+    ghost use Rattle.std.specs.Prelude.{ℤ, List};
+    ghost use Rattle.std.specs.Slice.Iter.{iter_rest};
+
+    ghost Value = { List ((ℤ × ℤ) × B) };
+
+    ghost view = { λ p. iter_rest p.inner };
+}
+
+impl<'a, B: Bundle> Iterator for Pairs<'a, B> {
+    type Item = ((i64, i64), &'a B);
+
+    ghost next_gives = { YieldsFirstBy entry_of (λ s. s) };
+
+    ghost remaining = { item_count (λ s. s) };
+
+    fn next(&mut self) -> Option<((i64, i64), &'a B)> {
+        let entry = self.inner.next()?;
+        Some((entry.0, &entry.1))
+    }
+}

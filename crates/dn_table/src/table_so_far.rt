@@ -1,0 +1,172 @@
+// Bundles by their ordered pairs, as arcs come.
+ghost use Rattle.std.specs.Prelude.{◌≡◌, ◌<◌, ◌≤◌, ℤ, List, MatchOption, [], None, OnOk, OnErr, Some, Err, ◌↔◌, ◌<ℤ◌, pos, ◌-◌, ◌^◌, ◌++◌, ◌∷◌, false};
+ghost use Rattle.std.specs.List.{list_any, IsDistinct};
+ghost use Rattle.std.specs.List.Sorted.{IsStrictlySortedBy};
+ghost use Rattle.std.specs.Map.{keys_of, lookup};
+ghost use Rattle.pair_index.specs.Places.{IsPlace};
+ghost use Rattle.dn_bundle.specs.declared.arc.Form.{Form};
+ghost use Rattle.pair_index.specs.Pairs.{pair_cmp, same_pair};
+ghost use Rattle.dn_table.specs.Tables.{told_at};
+ghost use Rattle.dn_table.specs.GraphEntries.{graph_entries};
+ghost use Rattle.dn_table.specs.Tables.{AreArcs, Grows, Tells};
+
+use crate::entry_sum::bundle_entries;
+use crate::table::Table;
+use dn_bundle::{Bundle, BundleFault, Form};
+use pair_index::{AHEAD, PairIndex, is_pair};
+use std::alloc::{AllocError, Global};
+use std::marker::Model;
+
+/// The bundles of the arcs so far, each pair's once, as their pairs came.
+#[derive(Drop)]
+pub struct TableSoFar<B: Bundle> {
+    entries: Vec<((i64, i64), B)>,
+    index: PairIndex,
+    // Guesses where the pairs of the arcs that come next stand, and how many of them have been asked for.
+    likely: [u32; AHEAD],
+    asked: usize,
+}
+
+impl<B: Bundle> Model for TableSoFar<B> {
+    ghost use Rattle.std.specs.Prelude.{ℤ, List};
+    ghost use Rattle.std.specs.Map.{keys_of};
+    ghost use Rattle.pair_index.specs.Indexed.{Indexes};
+
+    ghost Value = { List ((ℤ × ℤ) × B) };
+
+    ghost view = { λ t. t.entries.items };
+
+    ghost invariant = { λ t. Indexes t.index (keys_of t.entries.items) };
+}
+
+impl<B: Bundle> TableSoFar<B> {
+    /// A table without bundles.
+    pub fn new(alloc: Global) -> TableSoFar<B>
+        ensures { result ≡ [] }
+    {
+        TableSoFar {
+            entries: Vec::new(alloc),
+            index: PairIndex::new(alloc),
+            likely: [0; AHEAD],
+            asked: AHEAD,
+        }
+    }
+
+    /// Whether guesses where the next pairs stand would spare time, and none is left. It decides only the speed.
+    pub fn wants_guesses(&self) -> bool {
+        AHEAD <= self.asked && self.index.is_scattered()
+    }
+
+    /// Looks up together where these pairs stand, which are likely those of the arcs that come next. It decides only
+    /// the speed.
+    pub fn guess(&mut self, pairs: &[(i64, i64); AHEAD])
+        ensures { self.new ≡ self.old }
+    {
+        self.likely = self.index.likely_places(&self.entries, pairs);
+        self.asked = 0;
+    }
+
+    // Where the next pair stands, if it has an entry. The next guess is tried first.
+    fn place(&mut self, pair: &(i64, i64)) -> Option<usize>
+        ensures place { IsPlace (keys_of self.old) pair.now result }
+        ensures same { self.new ≡ self.old }
+    {
+        let likely = match self.likely.get(self.asked) {
+            Some(likely) => *likely as usize,
+            None => return self.index.find(&self.entries, pair),
+        };
+        self.asked += 1;
+        match self.entries.get(likely) {
+            Some(entry) if is_pair(&entry.0, pair) => Some(likely),
+            _ => self.index.find(&self.entries, pair),
+        }
+    }
+
+    // Puts an entry behind the others.
+    fn push(&mut self, alloc: Global, pair: (i64, i64), bundle: B) -> Result<(), AllocError>
+        requires { list_any (same_pair pair) (keys_of self.old) ≡ false }
+        ensures ok { OnOk result (self.new ≡ self.old ++ (pair, bundle) ∷ []) }
+        ensures err { OnErr result (self.new ≡ self.old) }
+    {
+        self.entries.reserve(1)?;
+        self.index.note(alloc, &self.entries, &pair)?;
+        self.entries.push((pair, bundle)).unwrap();
+        Ok(())
+    }
+
+    // Puts a bundle at a pair that has none. On want of memory nothing has changed.
+    fn put(&mut self, alloc: Global, pair: (i64, i64), bundle: B) -> Result<(), BundleFault>
+        requires { lookup (same_pair pair) self.old ≡ None }
+        ensures there { OnOk result (lookup (same_pair pair) self.new ≡ Some bundle) }
+        ensures others { OnOk result ((q : ℤ × ℤ) → same_pair pair q ≡ false → lookup (same_pair q) self.new ≡ lookup (same_pair q) self.old) }
+        ensures err { OnErr result (self.new ≡ self.old) }
+        ensures memory { OnErr result (result ≡ Err BundleFault.Memory) }
+    {
+        match self.push(alloc, pair, bundle) {
+            Ok(()) => Ok(()),
+            Err(_) => Err(BundleFault::Memory),
+        }
+    }
+
+    /// Takes an arc at a pair.
+    ///
+    /// # Errors
+    ///
+    /// `Sum` exactly where the capacities of the pair's arcs sum to more than 2^63 - 1, else `Memory` where a growth was
+    /// refused. On either nothing has changed.
+    pub fn add(
+        &mut self,
+        alloc: Global,
+        pair: (i64, i64),
+        arc: B::Arc,
+    ) -> Result<(), BundleFault>
+        requires { B.kind.IsArc arc }
+        ensures ok { OnOk result (Grows B.kind (B.told Form.One) self.old self.new pair arc) }
+        ensures err { OnErr result (self.new ≡ self.old) }
+        ensures sum { (result ≡ Err BundleFault.Sum)
+            ↔ (pos (2 ^ 63 - 1) <ℤ B.kind.capacity (told_at (B.told Form.One) self.old pair ++ arc ∷ [])) }
+    {
+        match self.place(&pair) {
+            Some(i) => self.entries[i].1.add(arc),
+            None => self.add_fresh(alloc, pair, arc),
+        }
+    }
+
+    // The same at a pair that has no bundle.
+    fn add_fresh(&mut self, alloc: Global, pair: (i64, i64), arc: B::Arc) -> Result<(), BundleFault>
+        requires is_arc { B.kind.IsArc arc }
+        requires none { lookup (same_pair pair) self.old ≡ None }
+        ensures ok { OnOk result (Grows B.kind (B.told Form.One) self.old self.new pair arc) }
+        ensures err { OnErr result (self.new ≡ self.old) }
+        ensures sum { (result ≡ Err BundleFault.Sum)
+            ↔ (pos (2 ^ 63 - 1) <ℤ B.kind.capacity (told_at (B.told Form.One) self.old pair ++ arc ∷ [])) }
+    {
+        let mut bundle = B::empty(alloc);
+        bundle.add(arc)?;
+        if bundle.is_nothing() {
+            return Ok(());
+        }
+        self.put(alloc, pair, bundle)
+    }
+
+    /// How many entries its bundles come to, given that they are fewer than 2^64.
+    pub fn entries(&self) -> u64
+        ensures { (arcs : List ((ℤ × ℤ) × B.Arc)) → B.kind.entries [] ≡ 0 → Tells B.kind (B.told Form.One) self.now arcs
+            → AreArcs B.kind arcs → graph_entries B.kind arcs < 2 ^ 64 → result ≡ graph_entries B.kind arcs }
+    {
+        bundle_entries(&self.entries)
+    }
+
+    /// The table of its bundles. Takes no memory.
+    pub fn end(self) -> Table<B>
+        ensures { (pair : ℤ × ℤ) → lookup (same_pair pair) result ≡ lookup (same_pair pair) self }
+    {
+        let TableSoFar {
+            mut entries,
+            index,
+            ..
+        } = self;
+        index.sort(&mut entries);
+        Table::of(entries)
+    }
+}
