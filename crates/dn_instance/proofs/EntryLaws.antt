@@ -1,5 +1,5 @@
 -- The entries of an instance by its size.
-use Rattle.std.proofs.Common.{◌≡◌, ℕ, ◌*◌, ◌≤◌, ◌<◌, ◌^◌, ℤ, pos, FitsSigned, w64, List, [], ◌∷◌, length, subst, arith}
+use Rattle.std.proofs.Common.{◌≡◌, ◌*◌, ◌≤◌, ◌<◌, ◌^◌, ℤ, pos, FitsSigned, w64, List, [], ◌∷◌, subst, arith}
 use Rattle.std.specs.List.{AllByRecursion}
 use Rattle.dn_bundle.specs.Kinds.{ArcKind, costs, capacities, lengths}
 use Rattle.dn_table.specs.Tables.{AreArcs}

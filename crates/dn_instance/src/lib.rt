@@ -20,10 +20,10 @@ mod text_so_far;
 pub mod view;
 
 pub use companion::{CompanionFault, check_companion};
+pub use dn_table::{Pairs, Table};
 pub use held::Held;
 pub use place::Place;
 pub use read::{read_from, read_keep, read_text};
 pub use reader::Reader;
 pub use refusal::Refusal;
-pub use dn_table::{Pairs, Table};
 pub use view::View;

@@ -114,12 +114,7 @@ impl<B: Bundle> TableSoFar<B> {
     ///
     /// `Sum` exactly where the capacities of the pair's arcs sum to more than 2^63 - 1, else `Memory` where a growth was
     /// refused. On either nothing has changed.
-    pub fn add(
-        &mut self,
-        alloc: Global,
-        pair: (i64, i64),
-        arc: B::Arc,
-    ) -> Result<(), BundleFault>
+    pub fn add(&mut self, alloc: Global, pair: (i64, i64), arc: B::Arc) -> Result<(), BundleFault>
         requires { B.kind.IsArc arc }
         ensures ok { OnOk result (Grows B.kind (B.told Form.One) self.old self.new pair arc) }
         ensures err { OnErr result (self.new ≡ self.old) }
