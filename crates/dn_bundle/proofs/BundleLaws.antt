@@ -1,3 +1,4 @@
+-- A bundle of lengths means what no arcs mean exactly where it has no least length.
 use Rattle.std.specs.Prelude.{◌≡◌, ◌↔◌, ℤ, Bool, true, false, not, List, [], Option, Some, None, refl, MatchOption, IsTrue}
 use Rattle.std.specs.Option.{is_some}
 use Rattle.dn_bundle.specs.declared.difference.How.{How}

@@ -1,3 +1,5 @@
+-- What a curve tells in form 1: fixed arcs, the ones with LOW above 0, then its steps; how many entries it comes to;
+-- and that it means what no arcs mean exactly where its capacity is 0.
 use Rattle.std.proofs.Common.{◌≡◌, ℕ, ◌+◌, ℤ, pos, ◌+ℤ◌, ◌<ℤ◌, List, [], ◌∷◌, ◌++◌, map, filter, length, refl, sym, ap, ◌∙◌, subst, arith, w64, of_z, cond, not, nat_eq}
 use Rattle.std.specs.Bool.{IsTrue}
 use Rattle.std.specs.Int.RustNames.{FitsSigned, int_lt}

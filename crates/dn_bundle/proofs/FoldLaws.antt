@@ -1,3 +1,5 @@
+-- A bundle that stands for the first arcs of a list takes the next one: it stands for one more, and either the
+-- capacities so far sum to at most 2^63-1 or those of all arcs sum past it.
 use Rattle.std.proofs.Common.{◌≡◌, ℕ, ◌+◌, ◌<◌, ◌-◌, ◌^◌, pos, ◌≤ℤ◌, ◌<ℤ◌, List, [], ◌∷◌, ◌++◌, length, take, drop, get_or, sym, ap, ◌∙◌, subst, arith, suc, zero}
 use Rattle.std.proofs.Math.Seq.{take-suc}
 use Rattle.std.proofs.lemmas.List.{take-append-drop}

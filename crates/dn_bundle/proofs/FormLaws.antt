@@ -1,3 +1,5 @@
+-- The first canonical arc of a curve and the one after each, in form 1 and in form 2, by its fixed arcs and its steps;
+-- where an arc and a step join, their capacity fits.
 use Rattle.std.proofs.Common.{◌≡◌, ℕ, suc, zero, ◌+◌, ◌≤◌, ℤ, pos, ◌+ℤ◌, ◌≤ℤ◌, ◌<ℤ◌, Bool, true, false, List, [], ◌∷◌, ◌++◌, map, find, slice_get, Option, Some, None, refl, sym, ap, ◌∙◌, subst, arith, cond, w64}
 use Rattle.std.specs.Int.RustNames.{FitsSigned, int_lt}
 use Rattle.std.specs.List.{AllByRecursion}

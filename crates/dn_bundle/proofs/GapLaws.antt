@@ -1,3 +1,4 @@
+-- The search for the first gap as the code makes it: each step leaves the same first gap to find, and its numbers fit.
 use Rattle.std.proofs.Common.{◌≡◌, ◌-◌, ◌^◌, ℤ, pos, ◌+ℤ◌, ◌*ℤ◌, ◌≤ℤ◌, ◌<ℤ◌, List, ◌∷◌, Option, None, Some, Bool, cond, true, false, ◌&&◌, not, slice_get, refl, sym, ap, ◌∙◌, subst, arith, to_z, of_z, w64}
 use Rattle.std.specs.Int.{w128}
 use Rattle.std.specs.Int.RustNames.{FitsSigned}

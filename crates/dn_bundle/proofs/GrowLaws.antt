@@ -1,3 +1,5 @@
+-- A curve takes an arc: it stays sound and means one arc more, its numbers fit, and the capacities sum past 2^63-1
+-- exactly where the sum that the code computes does not fit.
 use Rattle.std.proofs.Common.{◌≡◌, ◌-◌, ◌^◌, ℤ, pos, negsuc, ◌+ℤ◌, ◌-ℤ◌, ◌*ℤ◌, ◌≤ℤ◌, ◌<ℤ◌, List, [], ◌∷◌, ◌++◌, map, refl, sym, ap, ◌∙◌, subst, arith, w64, to_z, of_z, cond, Result, Ok, Err, IfErr}
 use Rattle.std.specs.Int.{w128}
 use Rattle.std.specs.Int.RustNames.{FitsSigned, int_lt}

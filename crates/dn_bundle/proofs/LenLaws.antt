@@ -1,3 +1,4 @@
+-- How many canonical arcs form 2 has: one for each step, and one more for each fixed arc with no step at its cost.
 use Rattle.std.proofs.Common.{◌≡◌, ℕ, ◌+◌, ℤ, pos, ◌+ℤ◌, ◌<ℤ◌, Bool, false, ◌||◌, List, [], ◌∷◌, map, length, refl, ap, ◌∙◌, arith, cond}
 use Rattle.std.specs.List.{list_any}
 use Rattle.std.specs.Ordering.{int_eq}

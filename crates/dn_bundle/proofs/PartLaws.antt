@@ -1,3 +1,5 @@
+-- Where two curves part: by their forced units, by what these cost, or else by the first steps that are not the same;
+-- where no gap is found, they mean the same. The same for a curve and that of no arcs.
 use Rattle.std.proofs.Common.{◌≡◌, ◌≢◌, ◌↔◌, ℤ, pos, ◌+ℤ◌, ◌-ℤ◌, ◌*ℤ◌, ◌≤ℤ◌, ◌<ℤ◌, Bool, true, false, ◌&&◌, cond, List, [], ◌∷◌, slice_get, Option, Some, None, refl, sym, ap, ◌∙◌, subst, arith, int_lt}
 use Rattle.std.specs.Option.{MatchOption, unwrap_or}
 use Rattle.std.specs.Ordering.{int_eq}

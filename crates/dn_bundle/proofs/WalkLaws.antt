@@ -1,3 +1,4 @@
+-- The least costs of a curve by its steps, and the walk over the steps that finds the least cost of one amount.
 use Rattle.std.proofs.Common.{◌≡◌, ◌-◌, ◌^◌, ℤ, pos, ◌+ℤ◌, ◌-ℤ◌, ◌*ℤ◌, ◌≤ℤ◌, ◌<ℤ◌, List, [], ◌∷◌, map, sym, ap, ◌∙◌, subst, arith, to_z, of_z, w64, true, false}
 use Rattle.std.proofs.lemmas.Int.{ints, to_z-of_z}
 use Rattle.std.specs.Int.{w128}

@@ -1,3 +1,4 @@
+-- What the code computes in 128 bits, a sum with a product and a quotient with its remainder, is what integers give.
 use Rattle.std.proofs.Common.{refl, ◌≡◌, ◌-◌, ◌^◌, sym, ap, ◌∙◌, arith, lit<, ℤ, pos, negsuc, ◌+ℤ◌, ◌*ℤ◌, ◌≤ℤ◌, ◌<ℤ◌, to_z, of_z, w64, subst}
 use Rattle.std.proofs.lemmas.Int.{ints, to_z-of_z, fits_signed_mul}
 use Rattle.std.specs.Int.{w128, int_div_euclid, int_rem_euclid}

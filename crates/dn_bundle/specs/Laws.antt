@@ -1,4 +1,5 @@
--- The proofs of the laws that bundles carry. A law of a trait may rest on nothing outside of specs.
+-- Proofs of the laws that bundles carry, in specs because a law of a trait may rest on nothing outside of it. All files
+-- below are proofs, with definitions that proofs alone use: no contract rests on believing them.
 pub mod Products
 pub mod Shares
 pub mod Splits

@@ -124,7 +124,8 @@ impl Curve {
         }
     }
 
-    // Where the curve and that of no arcs, on the right, first differ.
+    // Where the curve and that of no arcs, on the right, first differ. Told apart from `gap`, since the curve of no arcs
+    // would want an allocator.
     fn gap_to_none(&self) -> Option<Gap>
         ensures { MatchOption result
             (SameCurve (told Form.One self.now.units self.now.cost self.now.steps) [])

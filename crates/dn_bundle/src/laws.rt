@@ -2,7 +2,7 @@
 ghost use Rattle.std.specs.Prelude.{◌≡◌, ◌⊎◌, ◌↔◌, ℤ, pos, List, [], ◌∷◌, ◌++◌, length};
 ghost use Rattle.std.specs.List.{AllByRecursion};
 ghost use Rattle.std.specs.List.Sorted.{IsPermutation};
-ghost use Rattle.dn_bundle.specs.Splits.{LeastCost};
+ghost use Rattle.dn_bundle.specs.Splits.{IsSplit, LeastCost};
 ghost use Rattle.dn_bundle.specs.Meanings.{IsMeaning, SameLength, SameTotal, SameCurve};
 ghost use Rattle.dn_bundle.specs.Canonical.{IsCostArc, AreCanonLengths, AreCanonCaps, AreCanonCosts};
 ghost use Rattle.dn_bundle.specs.Fillings.{IsFilling, forced_units, forced_cost, free_costs};
@@ -26,6 +26,11 @@ use crate::total::Total;
 /// An amount has at most one least cost.
 pub fn one_least_cost()
     ensures { (arcs : List CostArc) (x j k : ℤ) → LeastCost arcs x j → LeastCost arcs x k → j ≡ k }
+{}
+
+/// An amount that can be split among arcs has a least cost.
+pub fn some_least_cost()
+    ensures { (arcs : List CostArc) (x : ℤ) (xs : List ℤ) → IsSplit arcs x xs → (k : ℤ) × LeastCost arcs x k }
 {}
 
 /// No arcs carry the amount 0 at the cost 0, and no other amount.

@@ -20,9 +20,9 @@ TextFault form I Memory = (J : Instance) × PrintsCanon form (print J) I J × si
 TextFault form I CountTooLarge = (J : Instance) × PrintsCanon form (print J) I J × 2 ^ 63 ≤ size_of J
 TextFault form I _ = ⊥
 
--- the canonical text of I, or why there is none
+-- the canonical text of I, whose count 63 bits hold, or why there is none
 abbrev pub TextCanon : {V : Type 0} → (V → List ℕ) → Form → Instance → Result V Refusal → Type 0
-TextCanon bytes form I (Ok text) = (J : Instance) × PrintsCanon form (bytes text) I J
+TextCanon bytes form I (Ok text) = (J : Instance) × PrintsCanon form (bytes text) I J × size_of J < 2 ^ 63
 TextCanon bytes form I (Err e) = TextFault form I e
 
 -- t reads as an instance, and whether it is the canonical text of that; or its first fault; or want of memory at a line

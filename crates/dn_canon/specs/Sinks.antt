@@ -14,9 +14,10 @@ pub record Refused (before after : Option (List ℕ)) (failed : Bool) : Type 0 w
   pub bytes : Keeps before after
   pub failed_is : IsTrue failed
 
--- bytes taken, and whether the sink has failed
+-- bytes taken, how many have room without more memory, and whether the sink has failed
 pub record Taken : Type 0 where
   pub bytes : List ℕ
+  pub capacity : ℕ
   pub failed : Bool
 
 -- a slice of this many bytes, those of it that were taken, and whether the sink has failed

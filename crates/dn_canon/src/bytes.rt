@@ -1,5 +1,5 @@
 // A sink in memory.
-ghost use Rattle.std.specs.Prelude.{◌≡◌, ◌↔◌, [], length, false, Some, IsTrue, IsErr, IfOk, OnErr};
+ghost use Rattle.std.specs.Prelude.{◌≡◌, ◌↔◌, ◌<◌, ◌+◌, [], length, false, true, Some, IsTrue, IsErr, IfOk, OnOk, OnErr};
 ghost use Rattle.std.specs.Io.KnownBytes.{Keeps};
 ghost use Rattle.dn_canon.specs.Sinks.{Took, Refused};
 
@@ -15,11 +15,12 @@ pub struct Bytes {
 }
 
 impl Model for Bytes {
+    ghost use Rattle.std.specs.Prelude.{vec_capacity};
     ghost use Rattle.dn_canon.specs.Sinks.{Taken};
 
     ghost Value = { Taken };
 
-    ghost view = { λ s. record { bytes = s.all.items; failed = s.failed } };
+    ghost view = { λ s. record { bytes = s.all.items; capacity = vec_capacity s.all; failed = s.failed } };
 }
 
 impl Bytes {
@@ -54,6 +55,9 @@ impl Sink for Bytes {
 
     ghost has_failed = { λ s. s.failed };
 
+    // The bytes taken are where they go.
+    ghost is_flushed = { λ _. true };
+
     // Takes the whole piece, or has failed; once it has, it takes nothing.
     fn put(&mut self, piece: &[u8]) -> Result<usize, SinkFault>
         ensures ok { IfOk result (λ n. Took (Some self.old.bytes) (Some self.new.bytes) self.new.failed piece.now n) }
@@ -61,6 +65,7 @@ impl Sink for Bytes {
         ensures stays { IsTrue self.old.failed → IsTrue self.new.failed }
         ensures whole { IfOk result (λ n. (n ≡ length piece.now) × (self.new.failed ≡ false)) }
         ensures again { IsTrue self.old.failed → IsErr result }
+        ensures memory { OnErr result (self.old.failed ≡ false → self.old.capacity < length self.old.bytes + length piece.now) }
     {
         if self.failed {
             return Err(SinkFault);
@@ -76,6 +81,7 @@ impl Sink for Bytes {
 
     // Changes nothing, and answers a fault exactly where it has failed.
     fn flush(&mut self) -> Result<(), SinkFault>
+        ensures flushed { OnOk result (IsTrue true) }
         ensures bytes { Keeps (Some self.old.bytes) (Some self.new.bytes) }
         ensures err { OnErr result (IsTrue self.new.failed) }
         ensures stays { IsTrue self.old.failed → IsTrue self.new.failed }

@@ -1,5 +1,5 @@
 // The canonical text of what is held, in a sink, in memory, and from a source to a sink.
-ghost use Rattle.std.specs.Prelude.{◌≡◌, ◌≢◌, ◌↔◌, Err, IfSome, IsErrOf, IsTrue};
+ghost use Rattle.std.specs.Prelude.{◌≡◌, ◌≢◌, ◌↔◌, Err, IfSome, IsErrOf, IsTrue, OnOk};
 ghost use Rattle.dn_instance.specs.Helds.{IsHeld};
 ghost use Rattle.dn_instance.specs.Instances.{Instance};
 ghost use Rattle.dn_instance.specs.Validity.{IsValid};
@@ -23,6 +23,7 @@ use std::alloc::Global;
 /// lines than 2^63-1, and then nothing is put.
 pub fn write_canon<K: Sink>(held: &Held, sink: &mut K, form: Form) -> Result<(), Refusal>
     ensures answer { Answers K.has_failed sink.old sink.new result }
+    ensures flushed { OnOk result (IsTrue (K.is_flushed sink.new)) }
     ensures canon { (I : Instance) → IsValid I → IsHeld (holding held.now) I → WritesCanon K.taken K.has_failed sink.old sink.new form I result }
 {
     let nodes = held.nodes();
@@ -92,6 +93,7 @@ pub fn canon_run<S: Source, K: Sink>(
     ensures unput { (e : Refusal) → result ≡ Err e → e ≢ Refusal.Write → sink.new ≡ sink.old }
     ensures stays { IsTrue (S.has_failed source.old) → IsTrue (S.has_failed source.new) }
     ensures failed { IsTrue (K.has_failed sink.old) → IsTrue (K.has_failed sink.new) }
+    ensures flushed { OnOk result (IsTrue (K.is_flushed sink.new)) }
 {
     match read_from(alloc, source) {
         Ok(held) => write_canon(&held, sink, form),

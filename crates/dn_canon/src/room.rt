@@ -1,5 +1,5 @@
 // A sink over a slice.
-ghost use Rattle.std.specs.Prelude.{◌≡◌, [], length, false, Some, Ok, IsTrue, IsOk, IfOk, OnErr};
+ghost use Rattle.std.specs.Prelude.{◌≡◌, [], length, false, true, Some, Ok, IsTrue, IsOk, IfOk, OnOk, OnErr};
 ghost use Rattle.std.specs.Io.KnownBytes.{Keeps};
 ghost use Rattle.dn_canon.specs.Sinks.{Took, Refused, room_for, filled};
 
@@ -52,6 +52,9 @@ impl<'a> Sink for Room<'a> {
 
     ghost has_failed = { λ s. s.failed };
 
+    // The bytes taken are where they go.
+    ghost is_flushed = { λ _. true };
+
     // Takes what has room, and never answers a fault.
     fn put(&mut self, piece: &[u8]) -> Result<usize, SinkFault>
         ensures ok { IfOk result (λ n. Took (Some self.old.bytes) (Some self.new.bytes) self.new.failed piece.now n) }
@@ -72,6 +75,7 @@ impl<'a> Sink for Room<'a> {
 
     // Changes nothing, and always answers `Ok`.
     fn flush(&mut self) -> Result<(), SinkFault>
+        ensures flushed { OnOk result (IsTrue true) }
         ensures bytes { Keeps (Some self.old.bytes) (Some self.new.bytes) }
         ensures err { OnErr result (IsTrue self.new.failed) }
         ensures stays { IsTrue self.old.failed → IsTrue self.new.failed }

@@ -1,5 +1,5 @@
 // Where the bytes of a text go.
-ghost use Rattle.std.specs.Prelude.{ℕ, List, Bool, Option, IsTrue, IfOk, OnErr};
+ghost use Rattle.std.specs.Prelude.{ℕ, List, Bool, Option, IsTrue, IfOk, OnOk, OnErr};
 ghost use Rattle.std.specs.Io.KnownBytes.{Keeps};
 ghost use Rattle.dn_canon.specs.Sinks.{Took, Refused};
 ghost use Rattle.dn_canon.specs.Puts.{Puts};
@@ -19,6 +19,9 @@ pub trait Sink {
     /// Whether it has failed.
     ghost has_failed: { Self → Bool };
 
+    /// Whether it has handed on all bytes that it has taken, to where they go.
+    ghost is_flushed: { Self → Bool };
+
     /// Takes bytes from the front of `piece`, and answers how many. It answers a fault, and 0 where the piece is not
     /// empty, only where it has failed; on a fault it took none.
     fn put(&mut self, piece: &[u8]) -> Result<usize, SinkFault>
@@ -28,6 +31,7 @@ pub trait Sink {
 
     /// Hands on what it still holds of the bytes taken. Takes no bytes, and answers a fault only where it has failed.
     fn flush(&mut self) -> Result<(), SinkFault>
+        ensures flushed { OnOk result (IsTrue (is_flushed self.new)) }
         ensures bytes { Keeps (taken self.old) (taken self.new) }
         ensures err { OnErr result (IsTrue (has_failed self.new)) }
         ensures stays { IsTrue (has_failed self.old) → IsTrue (has_failed self.new) };

@@ -1,5 +1,5 @@
 // A sink over a writer.
-ghost use Rattle.std.specs.Prelude.{◌≡◌, false, IsTrue, IsErr, IfOk, OnErr};
+ghost use Rattle.std.specs.Prelude.{◌≡◌, false, IsTrue, IsErr, IfOk, OnOk, OnErr};
 ghost use Rattle.std.specs.Io.KnownBytes.{Keeps};
 ghost use Rattle.dn_canon.specs.Sinks.{Took, Refused};
 
@@ -12,6 +12,7 @@ use std::io::Write;
 pub struct ToWrite<W: Write> {
     writer: W,
     failed: bool,
+    flushed: bool,
 }
 
 impl<W: Write> ToWrite<W> {
@@ -23,6 +24,7 @@ impl<W: Write> ToWrite<W> {
         ToWrite {
             writer,
             failed: false,
+            flushed: false,
         }
     }
 }
@@ -32,16 +34,21 @@ impl<W: Write> Sink for ToWrite<W> {
 
     ghost has_failed = { λ s. s.failed };
 
+    // The writer was flushed after the last piece that it took.
+    ghost is_flushed = { λ s. s.flushed };
+
     // Once it has failed, it takes nothing.
     fn put(&mut self, piece: &[u8]) -> Result<usize, SinkFault>
         ensures ok { IfOk result (λ n. Took (⟦<ToWrite<W> as Sink>⟧.taken self.old) (⟦<ToWrite<W> as Sink>⟧.taken self.new) (⟦<ToWrite<W> as Sink>⟧.has_failed self.new) piece.now n) }
         ensures err { OnErr result (Refused (⟦<ToWrite<W> as Sink>⟧.taken self.old) (⟦<ToWrite<W> as Sink>⟧.taken self.new) (⟦<ToWrite<W> as Sink>⟧.has_failed self.new)) }
         ensures stays { IsTrue (⟦<ToWrite<W> as Sink>⟧.has_failed self.old) → IsTrue (⟦<ToWrite<W> as Sink>⟧.has_failed self.new) }
         ensures again { IsTrue (⟦<ToWrite<W> as Sink>⟧.has_failed self.old) → IsErr result }
+        ensures unflushed { OnOk result (⟦<ToWrite<W> as Sink>⟧.is_flushed self.new ≡ false) }
     {
         if self.failed {
             return Err(SinkFault);
         }
+        self.flushed = false;
         match self.writer.write(piece) {
             Ok(n) => {
                 if n == 0 && !piece.is_empty() {
@@ -58,6 +65,7 @@ impl<W: Write> Sink for ToWrite<W> {
 
     // Once it has failed, it answers a fault.
     fn flush(&mut self) -> Result<(), SinkFault>
+        ensures flushed { OnOk result (IsTrue (⟦<ToWrite<W> as Sink>⟧.is_flushed self.new)) }
         ensures bytes { Keeps (⟦<ToWrite<W> as Sink>⟧.taken self.old) (⟦<ToWrite<W> as Sink>⟧.taken self.new) }
         ensures err { OnErr result (IsTrue (⟦<ToWrite<W> as Sink>⟧.has_failed self.new)) }
         ensures stays { IsTrue (⟦<ToWrite<W> as Sink>⟧.has_failed self.old) → IsTrue (⟦<ToWrite<W> as Sink>⟧.has_failed self.new) }
@@ -70,6 +78,7 @@ impl<W: Write> Sink for ToWrite<W> {
             self.failed = true;
             return Err(SinkFault);
         }
+        self.flushed = true;
         Ok(())
     }
 }

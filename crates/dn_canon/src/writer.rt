@@ -1,5 +1,5 @@
 // Writes the canonical text of what tables, lists and maps tell, a line a put, without memory of its own.
-ghost use Rattle.std.specs.Prelude.{◌≡◌, ◌<◌, ◌≤◌, ◌^◌, ℤ, List, [], length, map, MatchOption};
+ghost use Rattle.std.specs.Prelude.{◌≡◌, ◌<◌, ◌≤◌, ◌^◌, ℤ, List, [], length, map, IsTrue, OnOk, MatchOption};
 ghost use Rattle.std.specs.List.Sorted.{IsStrictlySortedBy};
 ghost use Rattle.std.specs.Map.{keys_of};
 ghost use Rattle.dn_instance.specs.Instances.{Sources, Queries, Coordinates};
@@ -109,7 +109,8 @@ fn put_nodes<K: Sink>(sink: &mut K, nodes: &NodeLines<'_>) -> Result<(), SinkFau
 
 // Ends a text.
 fn finish<K: Sink>(sink: &mut K) -> Result<(), SinkFault>
-    ensures { Puts K.taken K.has_failed sink.old sink.new [] result }
+    ensures text { Puts K.taken K.has_failed sink.old sink.new [] result }
+    ensures flushed { OnOk result (IsTrue (K.is_flushed sink.new)) }
 {
     sink.flush()
 }
@@ -127,7 +128,8 @@ fn put_graph<B: Bundle, K: Sink>(
     requires short { AreShort B.kind }
     requires few { count < 2 ^ 63 }
     requires count { count ≡ length (told_arcs (B.told form) table.now) }
-    ensures { Puts K.taken K.has_failed sink.old sink.new (text_of (graph_rows B.kind kind (told_graph (B.told form) nodes.now table.now) (node_rows lines.now))) result }
+    ensures text { Puts K.taken K.has_failed sink.old sink.new (text_of (graph_rows B.kind kind (told_graph (B.told form) nodes.now table.now) (node_rows lines.now))) result }
+    ensures flushed { OnOk result (IsTrue (K.is_flushed sink.new)) }
 {
     graph_line(kind, nodes, count).put(sink)?;
     put_nodes(sink, lines)?;
@@ -146,6 +148,7 @@ pub(crate) fn write_graph<B: Bundle, K: Sink>(
 ) -> Result<(), Refusal>
     requires { AreShort B.kind }
     ensures text { Writes K.taken K.has_failed sink.old sink.new (text_of (graph_rows B.kind kind (told_graph (B.told form) nodes.now table.now) (node_rows lines.now))) (length (told_arcs (B.told form) table.now)) result }
+    ensures flushed { OnOk result (IsTrue (K.is_flushed sink.new)) }
     ensures canon { (arcs : List ((ℤ × ℤ) × B.Arc)) → Tells B.kind (B.told Form.One) table.now arcs → IsValidGraph B.kind (record { nodes = nodes.now; arcs = arcs })
         → IsCanonFor B.kind form (record { nodes = nodes.now; arcs = arcs }) (told_graph (B.told form) nodes.now table.now) }
 {
@@ -162,6 +165,7 @@ pub(crate) fn write_graph<B: Bundle, K: Sink>(
 pub(crate) fn write_sources<K: Sink>(sink: &mut K, ids: &[i64]) -> Result<(), SinkFault>
     ensures few { length ids.now < 2 ^ 63 }
     ensures text { Puts K.taken K.has_failed sink.old sink.new (print (Sources ids.now)) result }
+    ensures flushed { OnOk result (IsTrue (K.is_flushed sink.new)) }
 {
     companion_line(Kind::Ss, ids.len() as u64).put(sink)?;
     for id in ids {
@@ -174,6 +178,7 @@ pub(crate) fn write_sources<K: Sink>(sink: &mut K, ids: &[i64]) -> Result<(), Si
 pub(crate) fn write_queries<K: Sink>(sink: &mut K, queries: &[(i64, i64)]) -> Result<(), SinkFault>
     ensures few { length queries.now < 2 ^ 63 }
     ensures text { Puts K.taken K.has_failed sink.old sink.new (print (Queries queries.now)) result }
+    ensures flushed { OnOk result (IsTrue (K.is_flushed sink.new)) }
 {
     companion_line(Kind::P2p, queries.len() as u64).put(sink)?;
     for query in queries {
@@ -189,6 +194,7 @@ pub(crate) fn write_points<K: Sink>(
 ) -> Result<(), SinkFault>
     ensures few { length points.now.entries < 2 ^ 63 }
     ensures text { Puts K.taken K.has_failed sink.old sink.new (print (Coordinates points.now.entries)) result }
+    ensures flushed { OnOk result (IsTrue (K.is_flushed sink.new)) }
 {
     companion_line(Kind::Co, points.len() as u64).put(sink)?;
     for (id, place) in points {

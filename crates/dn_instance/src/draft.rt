@@ -21,10 +21,13 @@ use dn_table::TableSoFar;
 use std::alloc::Global;
 use std::collections::{BTreeMap, BTreeSet};
 
+// What the items so far make, by kind: flows, terminals, bundles by ordered pair, lists and points. Arcs are merged into
+// the bundle of their pair as they come.
 #[derive(Drop)]
 pub(crate) enum Draft {
     Min {
         supplies: BTreeMap<i64, i64>,
+        // The nodes whose `n` lines have flow 0: a second `n` line of such a node is a fault, too.
         idle: BTreeSet<i64>,
         table: TableSoFar<Curve>,
     },
@@ -127,6 +130,7 @@ impl Draft {
                 (first, second),
             ),
             (Draft::Co(points), Line::Point { id, x, y }) => take_point(points, &id, (x, y)),
+            // Never: a line of another kind of text is refused before it is read as an item.
             _ => Err(ItemFault::Text(Code::WrongLine)),
         }
     }

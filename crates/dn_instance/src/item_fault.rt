@@ -3,7 +3,7 @@
 use dn_line::Code;
 
 /// Why an item is not taken: a fault of the text, or want of memory.
-#[derive(Clone, Copy, Debug, PartialEq, Eq)]
+#[derive(Clone, Copy)]
 pub(crate) enum ItemFault {
     Text(Code),
     Memory,

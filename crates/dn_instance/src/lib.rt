@@ -1,4 +1,11 @@
-//! Whole texts: the instance that a text reads as, or its first fault; what an instance means.
+//! Whole texts: the instance that a text reads as, or its first fault; what an instance means. A text comes whole, in
+//! pieces, or from a source; its first fault is told as soon as its line has come, and a refusal stays.
+//!
+//! In the order of the data: `read` takes a text from memory or pulls it from a source, `reader` takes it in pieces, and
+//! `text_so_far` takes each line, over `progress` (what depends on the number and order of lines) and `draft` (what the
+//! items make: `arcs` and `items`; `ahead` looks up where the next arcs go). An `item_fault` is why a line is refused,
+//! `refusal` why a text is, with its `place`. What is read is `held`, by kind in `content`, and shown by a `view`;
+//! `companion` judges a companion by its graph. `laws` and `examples` say what the definitions mean.
 #![tactic(auto)]
 
 mod ahead;

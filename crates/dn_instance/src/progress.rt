@@ -23,6 +23,8 @@ use crate::item_fault::ItemFault;
 use dn_line::{Code, Head, Kind, Line};
 use std::alloc::Global;
 
+// The problem line and the items after it: NODES, the number of counted lines that the problem line declares (ARCS or
+// K), how many have come, and what the items make.
 #[derive(Drop)]
 pub(crate) struct Progress {
     nodes: i64,

@@ -84,6 +84,7 @@ impl Reader {
                 Err(refusal) => Err(refusal),
             },
             Ok(step) => Ok(step.used),
+            // Never: a line reader is of fixed size.
             Err(_) => Err(Refusal::Memory),
         }
     }

@@ -23,6 +23,8 @@ use std::alloc::Global;
 // As many lines as a text may have.
 const LAST: u64 = (1 << 63) - 2;
 
+// The complete lines of a text so far, none of which has a fault: how many they are, and, from the problem line on, what
+// they make.
 #[derive(Drop)]
 pub(crate) struct TextSoFar {
     closed: u64,
@@ -206,6 +208,7 @@ fn put(progress: &mut Option<Progress>, alloc: Global, item: Line) -> Result<(),
             *progress = Progress::begin(alloc, &item);
             match progress {
                 Some(_) => Ok(()),
+                // Never: an item before the problem line is refused before it comes here.
                 None => Err(ItemFault::Text(Code::UnknownProblem)),
             }
         }

@@ -17,14 +17,14 @@ pub struct ArcLine {
 }
 
 // A number, and what follows the byte after it.
-#[derive(Clone, Copy, Debug)]
+#[derive(Clone, Copy)]
 struct NumberBefore<'a> {
     number: i64,
     rest: &'a [u8],
 }
 
 // Three numbers, and what follows the LF after them.
-#[derive(Clone, Copy, Debug)]
+#[derive(Clone, Copy)]
 struct ThreeNumbers<'a> {
     first: i64,
     second: i64,
@@ -33,7 +33,7 @@ struct ThreeNumbers<'a> {
 }
 
 // An arc, and what follows its line.
-#[derive(Clone, Copy, Debug)]
+#[derive(Clone, Copy)]
 struct ArcBefore<'a> {
     arc: Line,
     rest: &'a [u8],

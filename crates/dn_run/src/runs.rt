@@ -1,5 +1,5 @@
 // A run of the program, over any files and any streams.
-ghost use Rattle.std.specs.Prelude.{◌≡◌, ◌≢◌, ◌≤◌, ◌⊎◌, ℕ, List, Option, Some, None, map, string_bytes, IfSome};
+ghost use Rattle.std.specs.Prelude.{◌≡◌, ◌≢◌, ◌≤◌, ◌⊎◌, ℕ, List, Option, Some, None, map, string_bytes, IfSome, IsTrue, OnOk};
 ghost use Rattle.dn_instance.specs.Instances.{Instance};
 ghost use Rattle.dn_instance.specs.Texts.{Reads};
 ghost use Rattle.dn_run.specs.Commands.{Canon, asked};
@@ -30,6 +30,7 @@ pub fn run<F: Files, O: Sink, E: Sink>(
         → CanonRun (F.behind files.old name) (F.fault files.new) F.Text.has_failed F.Text.gives O.taken O.has_failed E.taken E.has_failed out.old out.new err.old err.new name result }
     ensures refused { (name : List ℕ) → asked (map string_bytes words.now) ≡ Some (Canon name)
         → result ≡ 2 → IfSome (F.behind files.old name) (λ b. (I : Instance) → Reads b I → IsTooLarge I) }
+    ensures flushed { (name : List ℕ) → asked (map string_bytes words.now) ≡ Some (Canon name) → result ≡ 0 → IsTrue (O.is_flushed out.new) }
     ensures never { (name : List ℕ) → asked (map string_bytes words.now) ≡ Some (Canon name) → (result ≢ 1) × (result ≢ 3) }
     ensures other { asked (map string_bytes words.now) ≡ None → (result ≡ 3) × (files.new ≡ files.old) × TakesLine E.taken E.has_failed err.old err.new bad_command_line }
 {
@@ -60,6 +61,7 @@ fn canon<F: Files, O: Sink, E: Sink>(
     ensures ran { CanonRun (F.behind files.old name.now) (F.fault files.new) F.Text.has_failed F.Text.gives O.taken O.has_failed E.taken E.has_failed out.old out.new err.old err.new name.now result }
     ensures refused { result ≡ 2 → IfSome (F.behind files.old name.now) (λ b. (I : Instance) → Reads b I → IsTooLarge I) }
     ensures unput { result ≡ 2 → out.new ≡ out.old }
+    ensures flushed { result ≡ 0 → IsTrue (O.is_flushed out.new) }
 {
     match put_canon(alloc, name, files, out) {
         Ok(()) => 0,
@@ -79,6 +81,7 @@ fn put_canon<F: Files, O: Sink>(
 ) -> Result<(), Refusal>
     ensures ran { IfSome (F.behind files.old name.now) (λ b. Ran (F.fault files.new) F.Text.has_failed F.Text.gives O.taken O.has_failed out.old out.new b result) }
     ensures unput { Unput out.old out.new result }
+    ensures flushed { OnOk result (IsTrue (O.is_flushed out.new)) }
 {
     match files.take(name) {
         Ok(text) => {

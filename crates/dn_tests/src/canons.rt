@@ -2,7 +2,7 @@
 
 mod cases;
 
-use crate::stand_ins::{NoFlush, OneByte, Pieces};
+use crate::stand_ins::{LateWriter, NoFlush, OneByte, Pieces};
 use cases::{CANONICAL, COSTS, LENGTHS, LENGTHS_CANON, ONE_TEXT, SOURCES, TWO_TEXTS};
 use dn_bundle::Form;
 use dn_canon::{Bytes, Room, ToWrite, canon_run, canon_text, is_canon, write_canon};
@@ -116,8 +116,15 @@ fn a_text_in_pieces(rt: HostRuntime) -> Result<(), Fail> {
     Ok(())
 }
 
-// Texts and what a sink takes of them, a graph and a list of sources.
-const PUT: [(&str, &str); 2] = [(LENGTHS, LENGTHS_CANON), (SOURCES, SOURCES)];
+// Texts and what a sink takes of them, one of each kind.
+const PUT: [(&str, &str); 6] = [
+    ("p min 2 0", "p min 2 0\n"),
+    ("p max 2 0\nn 1 s\nn 2 t", "p max 2 0\nn 1 s\nn 2 t\n"),
+    (LENGTHS, LENGTHS_CANON),
+    (SOURCES, SOURCES),
+    ("p aux sp p2p 1\nq 9 1", "p aux sp p2p 1\nq 9 1\n"),
+    ("p aux sp co 1\nv 1 5 -6", "p aux sp co 1\nv 1 5 -6\n"),
+];
 
 #[test]
 fn small_rooms(rt: HostRuntime) -> Result<(), Fail> {
@@ -155,6 +162,12 @@ fn sinks(rt: HostRuntime) -> Result<(), Fail> {
         assert_eq!(rt; late.bytes.taken(), canon.as_bytes(), "not flushed");
         let mut written = ToWrite::new(Vec::new(rt.alloc()));
         assert_eq!(rt; write_canon(&held, &mut written, Form::One), Ok(()));
+        let mut unwritten = ToWrite::new(LateWriter);
+        assert_eq!(rt;
+            write_canon(&held, &mut unwritten, Form::One),
+            Err(Refusal::Write),
+            "a writer that is not flushed, {text}"
+        );
     }
     Ok(())
 }

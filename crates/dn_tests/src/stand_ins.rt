@@ -1,9 +1,11 @@
 // Sources and sinks that stand in for slow and failing devices.
-ghost use Rattle.std.specs.Prelude.{◌≡◌, ◌||◌, false, Some};
+ghost use Rattle.std.specs.Prelude.{◌≡◌, ◌||◌, false, true, Some};
 
 use dn_canon::{Bytes, Sink, SinkFault};
 use dn_line::{Source, SourceFault};
 use std::alloc::Global;
+use std::io;
+use std::io::{ErrorKind, Write};
 
 /// A source that gives at most so many bytes a pull, and fails after so many pulls.
 #[derive(Clone, Copy)]
@@ -72,6 +74,8 @@ impl Sink for OneByte {
 
     ghost has_failed = { λ s. s.bytes.failed };
 
+    ghost is_flushed = { λ _. true };
+
     fn put(&mut self, piece: &[u8]) -> Result<usize, SinkFault> {
         let n = piece.len().min(1);
         self.bytes.put(&piece[..n])
@@ -103,6 +107,8 @@ impl Sink for NoFlush {
 
     ghost has_failed = { λ s. s.flushed || s.bytes.failed };
 
+    ghost is_flushed = { λ _. false };
+
     fn put(&mut self, piece: &[u8]) -> Result<usize, SinkFault> {
         self.bytes.put(piece)
     }
@@ -110,5 +116,19 @@ impl Sink for NoFlush {
     fn flush(&mut self) -> Result<(), SinkFault> {
         self.flushed = true;
         Err(SinkFault)
+    }
+}
+
+/// A writer that takes everything, and fails as it is flushed.
+#[derive(Drop)]
+pub(crate) struct LateWriter;
+
+impl Write for LateWriter {
+    fn write(&mut self, buf: &[u8]) -> io::Result<usize> {
+        Ok(buf.len())
+    }
+
+    fn flush(&mut self) -> io::Result<()> {
+        Err(io::Error::from(ErrorKind::WouldBlock))
     }
 }

@@ -1,3 +1,5 @@
+-- Proofs that one arc more adds its LOW to the forced units and its free part to the free arcs, that two free arcs of
+-- one cost mean one, and that a free arc without capacity means none.
 use Rattle.std.specs.Prelude.{◌≡◌, ℤ, pos, ◌+ℤ◌, ◌-ℤ◌, ◌*ℤ◌, ◌≤ℤ◌, List, [], ◌∷◌, ◌++◌, refl}
 use Rattle.std.proofs.Common.{ap, subst, arith}
 use Rattle.std.proofs.lemmas.Int.{ints, by_lt_z}

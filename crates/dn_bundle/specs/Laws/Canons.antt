@@ -1,3 +1,5 @@
+-- Proofs that the arcs of a problem mean the same as some of form 1, and that their forced units, what these cost,
+-- their free capacity by cost and their number of entries follow from the meaning.
 use Rattle.std.specs.Prelude.{◌≡◌, ℕ, suc, ◌+◌, ℤ, pos, ◌+ℤ◌, ◌-ℤ◌, ◌*ℤ◌, ◌≤ℤ◌, ◌<ℤ◌, Bool, true, false, ◌||◌, List, [], ◌∷◌, length, cond, filter, map, int_lt, refl}
 use Rattle.std.proofs.Common.{sym, ap, subst, arith, ◌∙◌}
 use Rattle.std.proofs.lemmas.Int.{ints, by_lt_z}

@@ -1,3 +1,5 @@
+-- Proofs that an amount has at most one least cost, which follows from the meaning, that arcs of the same cost curve
+-- have no difference, and that no arcs carry 0 at 0.
 use Rattle.std.specs.Prelude.{◌≡◌, ℤ, pos, List, [], Option, Some, None, refl}
 use Rattle.std.proofs.Common.{ap}
 use Rattle.std.specs.Int.Signed.{≤ℤ_refl}

@@ -1,3 +1,5 @@
+-- Proofs that arcs whose free capacity stands by rising cost mean the same where their forced units, their forced cost,
+-- and what filling them costs or their free parts are the same.
 use Rattle.std.specs.Prelude.{◌≡◌, ℤ, ◌+ℤ◌, ◌-ℤ◌, ◌≤ℤ◌, List}
 use Rattle.std.proofs.Common.{sym, ap, subst, arith, ◌∙◌}
 use Rattle.std.proofs.lemmas.Int.{ints}

@@ -1,3 +1,5 @@
+-- Proofs that the least costs of arcs are those of filling them in their order, where no free capacity stands before
+-- free capacity of a lower cost.
 use Rattle.std.specs.Prelude.{◌≡◌, ℤ, pos, ◌+ℤ◌, ◌-ℤ◌, ◌*ℤ◌, ◌≤ℤ◌, ◌<ℤ◌, ◌↔◌, List, [], ◌∷◌, refl}
 use Rattle.std.proofs.Common.{ap, sym, subst, arith}
 use Rattle.std.proofs.lemmas.Int.{ints, by_lt_z}

@@ -1,3 +1,5 @@
+-- Proofs that the meaning determines canonical arcs of form 1: the fixed ones by the forced units and what these cost,
+-- the free ones by what filling them costs.
 use Rattle.std.specs.Prelude.{◌≡◌, ℤ, pos, ◌+ℤ◌, ◌-ℤ◌, ◌*ℤ◌, ◌≤ℤ◌, ◌<ℤ◌, List, [], ◌∷◌, ◌++◌, refl}
 use Rattle.std.proofs.Common.{sym, ap, subst, arith, ◌∙◌}
 use Rattle.std.proofs.lemmas.Int.{ints, by_lt_z}

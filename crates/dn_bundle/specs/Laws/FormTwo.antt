@@ -1,3 +1,5 @@
+-- Proofs that the meaning determines canonical arcs of form 2, and so of either form, and that the least costs of
+-- either form are those of filling its arcs.
 use Rattle.std.specs.Prelude.{◌≡◌, ℤ, pos, ◌+ℤ◌, ◌≤ℤ◌, ◌<ℤ◌, ◌↔◌, List, [], ◌∷◌, cond, filter, map, int_lt, refl}
 use Rattle.std.proofs.Common.{sym, ap, subst, arith, ◌∙◌}
 use Rattle.std.proofs.lemmas.Int.{ints, by_lt_z}

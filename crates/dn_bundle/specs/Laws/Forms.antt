@@ -1,3 +1,5 @@
+-- Proofs that canonical arcs of a `min` pair are arcs of a problem whose free capacity stands by rising cost, and that
+-- those of form 1 are filled as their fixed and their free arcs.
 use Rattle.std.specs.Prelude.{◌≡◌, ℤ, pos, ◌+ℤ◌, ◌-ℤ◌, ◌*ℤ◌, ◌≤ℤ◌, ◌<ℤ◌, List, [], ◌∷◌, ◌++◌, refl}
 use Rattle.std.proofs.Common.{sym, ap, subst, arith, ◌∙◌}
 use Rattle.std.proofs.lemmas.Int.{ints, by_lt_z}

@@ -1,3 +1,5 @@
+-- Proofs that fixed arcs, joined by COST into rising arcs of LOW 0, make arcs of form 2: forced units, forced cost and
+-- capacity add up, and the free parts stay.
 use Rattle.std.specs.Prelude.{◌≡◌, ℤ, pos, ◌+ℤ◌, ◌*ℤ◌, ◌≤ℤ◌, ◌<ℤ◌, List, [], ◌∷◌, cond, filter, map, int_lt, refl, true, false}
 use Rattle.std.proofs.Common.{sym, ap, subst, arith, ◌∙◌}
 use Rattle.std.proofs.lemmas.Int.{ints, by_lt_z}

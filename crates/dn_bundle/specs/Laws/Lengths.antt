@@ -1,3 +1,5 @@
+-- Proofs that arcs have exactly one least length, if there is an arc, and that to have the same is a meaning,
+-- determines canonical arcs, and leaves no difference.
 use Rattle.std.specs.Prelude.{◌≡◌, ℤ, ◌≤ℤ◌, List, [], ◌∷◌, refl, ◌⊎◌, Option, Some, None}
 use Rattle.std.proofs.Common.{inl, inr, sym, ap, subst, arith}
 use Rattle.std.proofs.lemmas.Int.{ints, by_lt_z}

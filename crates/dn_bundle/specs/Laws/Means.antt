@@ -1,3 +1,5 @@
+-- Lemmas on what units cost together at costs of 64 bits: the bounds hold as units come, the cost has 128 bits, and its
+-- quotient for each unit has 64.
 use Rattle.std.proofs.Common.{◌≡◌, ℕ, suc, zero, ◌+◌, ◌-◌, ◌*◌, ◌^◌, ◌<◌, ◌≤◌, ◌/◌, ◌%◌, sym, ap, arith, ℤ, pos, negsuc, ◌+ℤ◌, ◌*ℤ◌, ◌≤ℤ◌, ◌<ℤ◌, mul_comm, subst, w64}
 use Rattle.std.proofs.lemmas.Int.{ints, by_lt_z}
 use Rattle.std.proofs.Math.Nat.{div-lt_iff_lt-mul}

@@ -1,3 +1,5 @@
+-- Proofs that no meaning depends on the order of arcs, and that arcs that mean the same still do so when the same arc
+-- comes after them.
 use Rattle.std.specs.Prelude.{ℕ, suc, zero, ◌<◌, List, [], ◌∷◌, ◌++◌, length}
 use Rattle.std.proofs.Common.{subst, arith, get_or, set}
 use Rattle.std.proofs.lemmas.List.Sorted.{IsPermutation-keeps}

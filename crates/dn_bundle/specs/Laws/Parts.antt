@@ -1,3 +1,5 @@
+-- Lemmas on the fixed and the free parts of arcs: each is a fixed or a free arc, and arcs whose free capacity stands by
+-- rising cost are filled as these parts.
 use Rattle.std.specs.Prelude.{◌≡◌, ℤ, pos, ◌+ℤ◌, ◌-ℤ◌, ◌*ℤ◌, ◌≤ℤ◌, ◌<ℤ◌, List, [], ◌∷◌, cond, filter, map, int_lt, refl, true, false}
 use Rattle.std.proofs.Common.{sym, ap, subst, arith, ◌∙◌}
 use Rattle.std.proofs.lemmas.Int.{ints, by_lt_z}

@@ -1,3 +1,4 @@
+-- Lemmas on products of integers: they distribute over sums and differences, and a factor from 0 on keeps the order.
 use Rattle.std.specs.Prelude.{◌≡◌, ℕ, suc, zero, ℤ, pos, negsuc, ◌+ℤ◌, ◌-ℤ◌, ◌*ℤ◌, ◌≤ℤ◌}
 use Rattle.std.proofs.Common.{arith, ap}
 use Rattle.std.proofs.lemmas.Int.{ints}

@@ -1,3 +1,4 @@
+-- Lemmas on what an amount costs at most, said arc by arc: the bound may be raised, and two arcs may change places.
 use Rattle.std.specs.Prelude.{◌≡◌, ℤ, pos, ◌+ℤ◌, ◌*ℤ◌, ◌≤ℤ◌, List, [], ◌∷◌, refl}
 use Rattle.std.proofs.Common.{arith}
 use Rattle.std.proofs.lemmas.Int.{ints}

@@ -1,3 +1,5 @@
+-- Proofs that the arcs that a curve tells are canonical, of 64 bits and of its capacity, and mean the same in both
+-- forms; and that an arc's forced and free part, added to them, mean that arc at their end.
 use Rattle.std.specs.Prelude.{◌≡◌, ◌-◌, ◌^◌, ℤ, pos, ◌+ℤ◌, ◌-ℤ◌, ◌*ℤ◌, ◌≤ℤ◌, ◌<ℤ◌, List, [], ◌∷◌, ◌++◌, map, refl, FitsSigned}
 use Rattle.std.specs.Int.{w64, int_div_euclid, int_rem_euclid}
 use Rattle.std.proofs.Common.{sym, ap, subst, arith, ◌∙◌}

@@ -1,3 +1,5 @@
+-- Proofs that an amount has a least cost wherever it has a split, and that arcs mean the same exactly where they carry
+-- each amount at no more than the same costs.
 use Rattle.std.specs.Prelude.{◌≡◌, ℕ, suc, zero, ℤ, pos, negsuc, ◌+ℤ◌, ◌-ℤ◌, ◌*ℤ◌, ◌≤ℤ◌, List, [], ◌∷◌, refl, ◌⊎◌}
 use Rattle.std.proofs.Common.{inl, inr, sym, ap, subst, arith}
 use Rattle.std.proofs.lemmas.Int.{ints, by_lt_z}
@@ -162,10 +164,18 @@ nothing_found x =
     (λ gt. inl (λ k s. let e = s.amount in absurd (omega (arith, ints))))
     (λ ge. inr (pos 0, record { at = record { amount = omega (arith, ints); within = ≤ℤ_refl _ }; least = λ j s. s.within })))
 
--- an amount has a least cost wherever it has a split
+-- an amount has no cost, or a least one
 pub least_of : (arcs : List CostArc) (x : ℤ) → Found (AtMost arcs) x
 least_of [] x = nothing_found x
 least_of (a ∷ rest) x = any_share a.low a.cap a.cost (AtMost rest) (least_of rest) x
+
+-- an amount that can be split has a least cost
+pub some_least : (arcs : List CostArc) (x : ℤ) (xs : List ℤ) → IsSplit arcs x xs → (k : ℤ) × LeastCost arcs x k
+some_least arcs x xs s = by_found (least_of arcs x)
+  where
+    by_found : Found (AtMost arcs) x → (k : ℤ) × LeastCost arcs x k
+    by_found (inl never) = absurd (never _ (split_at_most arcs xs x s))
+    by_found (inr found) = (found.0, bottom_least arcs x found.0 found.1)
 
 -- lists of arcs that carry each amount at no more than the same costs
 pub record SameAbove (xs ys : List CostArc) : Type 0 where

@@ -1,3 +1,4 @@
+-- Lemmas on steps as free arcs: capacity put at a cost leaves steps, adds up, and means one free arc more.
 use Rattle.std.specs.Prelude.{◌≡◌, ℤ, pos, ◌+ℤ◌, ◌≤ℤ◌, ◌<ℤ◌, List, [], ◌∷◌, map, cond, int_lt, refl}
 use Rattle.std.proofs.Common.{subst, arith}
 use Rattle.std.proofs.lemmas.Int.{ints}

@@ -1,3 +1,5 @@
+-- Proofs that the arcs told of forced units, their cost and steps are canonical in each form, mean the same in both,
+-- and have the capacity of units and steps; in form 1 they have these forced units at this cost.
 use Rattle.std.specs.Prelude.{◌≡◌, ℤ, pos, ◌+ℤ◌, ◌-ℤ◌, ◌*ℤ◌, ◌≤ℤ◌, ◌<ℤ◌, List, [], ◌∷◌, ◌++◌, filter, map, refl}
 use Rattle.std.specs.Int.{int_div_euclid, int_rem_euclid}
 use Rattle.std.proofs.Common.{sym, ap, arith, ◌∙◌}

@@ -1,3 +1,5 @@
+-- Proofs of the laws of `max` arcs as a kind, that their meaning determines canonical ones, and that the arcs told of a
+-- total capacity are canonical, and of 64 bits if it is.
 use Rattle.std.specs.Prelude.{◌≡◌, ◌-◌, ◌^◌, ℤ, pos, ◌+ℤ◌, ◌≤ℤ◌, List, [], ◌∷◌, ◌++◌, Option, Some, None, cond, int_lt, refl, FitsSigned, negsuc}
 use Rattle.std.specs.Int.{w64}
 use Rattle.std.proofs.Common.{ap, arith, sym, ◌∙◌}

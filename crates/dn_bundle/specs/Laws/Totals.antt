@@ -1,3 +1,4 @@
+-- Proofs that to have the same total capacity is a meaning, determines canonical arcs, and leaves no difference.
 use Rattle.std.specs.Prelude.{◌≡◌, ℤ, ◌+ℤ◌, List, [], ◌∷◌, refl}
 use Rattle.std.proofs.Common.{sym, ap, arith, ◌∙◌}
 use Rattle.std.proofs.lemmas.Int.{ints}

@@ -24,4 +24,4 @@ pub returns-clause-text : goal.returns-clause-text
 returns-clause-text g c =
     put_last g.K.Sink.taken g.K.Sink.has_failed c.args.sink.now c.loop-id.sink c.finish.new.sink [] (print (Coordinates c.args.points.now.entries)) c.finish.result
     (subst (λ (left : List (ℤ × (ℤ × ℤ))). HasPut g.K.Sink.taken g.K.Sink.has_failed c.args.sink.now c.loop-id.sink (text_of (map point_row left)) (print (Coordinates c.args.points.now.entries))) c.in-None.ensures.steps.0 c.loop-id.invariant)
-    c.finish.ensures
+    c.finish.ensures.text

@@ -23,4 +23,4 @@ pub returns-clause-text : goal.returns-clause-text
 returns-clause-text g c =
     put_last g.K.Sink.taken g.K.Sink.has_failed c.args.sink.now c.loop-query.sink c.finish.new.sink [] (print (Queries c.args.queries.now)) c.finish.result
     (rows_done query_row c.args.queries.now c.loop-query.query-index c.loop-query-test.false c.loop-query.invariant)
-    c.finish.ensures
+    c.finish.ensures.text

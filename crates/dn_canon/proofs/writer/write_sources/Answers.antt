@@ -23,4 +23,4 @@ pub returns-clause-text : goal.returns-clause-text
 returns-clause-text g c =
     put_last g.K.Sink.taken g.K.Sink.has_failed c.args.sink.now c.loop-id.sink c.finish.new.sink [] (print (Sources c.args.ids.now)) c.finish.result
     (rows_done source_row c.args.ids.now c.loop-id.id-index c.loop-id-test.false c.loop-id.invariant)
-    c.finish.ensures
+    c.finish.ensures.text
