@@ -401,22 +401,37 @@ fn turned(gap: Gap) -> Gap {
     }
 }
 
+// What of two curves is told otherwise than that this is their first gap.
+fn gap_differs(
+    alloc: Global,
+    left: &[Numbers],
+    right: &[Numbers],
+    gap: Option<Gap>,
+) -> Result<Option<&'static str>, BundleFault> {
+    let curve = curve_of(alloc, left)?;
+    let other = curve_of(alloc, right)?;
+    let back = gap.map(turned);
+    if curve.gap(&other) != gap || other.gap(&curve) != back {
+        return Ok(Some("the gap"));
+    }
+    if curve.same(&other) != gap.is_none() {
+        return Ok(Some("whether they are the same"));
+    }
+    let there = if right.is_empty() { None } else { Some(&other) };
+    let how = Curve::how(Some(&curve), there);
+    if how != gap.map(How::Costs) || Curve::how(there, Some(&curve)) != back.map(How::Costs) {
+        return Ok(Some("how they differ"));
+    }
+    Ok(None)
+}
+
 #[test]
 fn gaps(rt: HostRuntime) -> Result<(), Fail> {
     for (left, right, gap) in GAPS {
-        let curve = curve_of(rt.alloc(), left)?;
-        let other = curve_of(rt.alloc(), right)?;
-        let back = gap.map(turned);
-        assert_eq!(rt; curve.gap(&other), gap, "{left:?} and {right:?}");
-        assert_eq!(rt; other.gap(&curve), back, "{right:?} and {left:?}");
-        assert_eq!(rt; curve.same(&other), gap.is_none(), "{left:?} and {right:?}");
-        let there = if right.is_empty() { None } else { Some(&other) };
-        let how = Curve::how(Some(&curve), there);
-        assert_eq!(rt; how, gap.map(How::Costs), "{left:?} and {right:?}");
-        let how = Curve::how(there, Some(&curve));
-        assert_eq!(rt; how, back.map(How::Costs), "{right:?} and {left:?}");
+        let other = gap_differs(rt.alloc(), left, right, gap)?;
+        assert_eq!(rt; other, None, "{left:?} and {right:?}");
     }
-    assert_eq!(rt; Curve::how(None, None), None);
+    assert!(rt; Curve::how(None, None).is_none());
     Ok(())
 }
 
@@ -486,22 +501,59 @@ fn slow_gap(left: [Numbers; 3], right: [Numbers; 3]) -> Option<Gap> {
     None
 }
 
+// What of two small bundles is told otherwise than by their slow costs.
+fn differs_from_slow(
+    alloc: Global,
+    left: [Numbers; 3],
+    right: [Numbers; 3],
+) -> Result<Option<&'static str>, BundleFault> {
+    let curve = curve_of(alloc, &left)?;
+    let other = curve_of(alloc, &right)?;
+    for amount in -1..=MOST {
+        if curve.least(amount) != slow_least(left, amount) {
+            return Ok(Some("a least cost"));
+        }
+    }
+    let gap = slow_gap(left, right);
+    if curve.gap(&other) != gap {
+        return Ok(Some("the gap"));
+    }
+    if curve.same(&other) != gap.is_none() {
+        return Ok(Some("whether they are the same"));
+    }
+    Ok(None)
+}
+
 #[test]
 fn small_bundles_by_all_splits(rt: HostRuntime) -> Result<(), Fail> {
-    for left in SMALL {
-        let curve = curve_of(rt.alloc(), &left)?;
-        for amount in -1..=MOST {
-            let cost = slow_least(left, amount);
-            assert_eq!(rt; curve.least(amount), cost, "{amount} over {left:?}");
-        }
-        for right in SMALL {
-            let other = curve_of(rt.alloc(), &right)?;
-            let gap = slow_gap(left, right);
-            assert_eq!(rt; curve.gap(&other), gap, "{left:?} and {right:?}");
-            assert_eq!(rt; curve.same(&other), gap.is_none(), "{left:?} and {right:?}");
+    for (i, left) in SMALL.iter().enumerate() {
+        for (k, right) in SMALL.iter().enumerate() {
+            let other = differs_from_slow(rt.alloc(), *left, *right)?;
+            assert_eq!(rt; other, None, "bundles {i} and {k}");
         }
     }
     Ok(())
+}
+
+// What a bundle of lengths tells otherwise than that this is the least, if there is one.
+fn length_differs(least: &Least, answer: Option<i64>) -> Option<&'static str> {
+    let count: u64 = if answer.is_some() { 1 } else { 0 };
+    if least.get() != answer || least.is_nothing() != answer.is_none() {
+        return Some("the least length");
+    }
+    if least.entries() != count {
+        return Some("the entries");
+    }
+    for form in [Form::One, Form::Two] {
+        let told = match least.canon_arc(0, form) {
+            Some(arc) => least.canon_after(&arc, form).is_none() && Some(arc.part(0)) == answer,
+            None => answer.is_none(),
+        };
+        if !told || least.canon_len(form) != count || least.canon_arc(1, form).is_some() {
+            return Some("the canonical arc");
+        }
+    }
+    None
 }
 
 #[test]
@@ -516,25 +568,49 @@ fn least_lengths(rt: HostRuntime) -> Result<(), Fail> {
         for length in lengths {
             least.add(LengthArc { length: *length })?;
         }
-        let count: u64 = if answer.is_some() { 1 } else { 0 };
-        assert_eq!(rt; least.get(), answer, "of {lengths:?}");
-        assert_eq!(rt; least.is_nothing(), answer.is_none(), "of {lengths:?}");
-        assert_eq!(rt; least.entries(), count, "of {lengths:?}");
-        for form in [Form::One, Form::Two] {
-            assert_eq!(rt; least.canon_len(form), count, "of {lengths:?}");
-            let arc = least.canon_arc(0, form);
-            assert_eq!(rt; arc.map(|arc| arc.part(0)), answer, "of {lengths:?}");
-            assert_eq!(rt; least.canon_arc(1, form), None, "of {lengths:?}");
-            let after = arc.and_then(|arc| least.canon_after(&arc, form));
-            assert_eq!(rt; after, None, "of {lengths:?}");
-        }
-        let how = answer.map(|length| How::Lengths {
-            left: None,
-            right: Some(length),
-        });
-        assert_eq!(rt; Least::how(None, Some(&least)), how, "of {lengths:?}");
+        assert_eq!(rt; length_differs(&least, answer), None, "of {lengths:?}");
     }
+    let one = bundle_of::<Least>(rt.alloc(), &[LengthArc { length: 3 }])?;
+    let how = How::Lengths {
+        left: None,
+        right: Some(3),
+    };
+    assert_eq!(rt; Least::how(None, Some(&one)), Some(how));
     Ok(())
+}
+
+// What a bundle of capacities tells otherwise than that this is the total.
+fn total_differs(total: &Total, answer: i64) -> Option<&'static str> {
+    let count: u64 = if answer == 0 { 0 } else { 1 };
+    if total.get() != answer || total.is_nothing() != (answer == 0) {
+        return Some("the total");
+    }
+    if total.entries() != count {
+        return Some("the entries");
+    }
+    for form in [Form::One, Form::Two] {
+        let told = match total.canon_arc(0, form) {
+            Some(arc) => total.canon_after(&arc, form).is_none() && arc.part(0) == answer,
+            None => answer == 0,
+        };
+        if !told || total.canon_len(form) != count {
+            return Some("the canonical arc");
+        }
+    }
+    None
+}
+
+// Adds capacities, all but the last of which can be added, and answers what comes of the last.
+fn add_caps(total: &mut Total, caps: &[i64]) -> Option<Result<(), BundleFault>> {
+    let mut added = Ok(());
+    for cap in caps {
+        let arc = CapArc { cap: *cap };
+        if added.is_err() || !Total::is_arc(&arc) {
+            return None;
+        }
+        added = total.add(arc);
+    }
+    Some(added)
 }
 
 #[test]
@@ -552,47 +628,34 @@ fn total_capacities(rt: HostRuntime) {
     ];
     for (caps, last, answer) in table {
         let mut total = Total::empty(rt.alloc());
-        let mut added = Ok(());
-        for cap in caps {
-            assert_eq!(rt; added, Ok(()), "before the last of {caps:?}");
-            let arc = CapArc { cap: *cap };
-            if Total::is_arc(&arc) {
-                added = total.add(arc);
-            }
-        }
-        assert_eq!(rt; added, last, "the last of {caps:?}");
-        assert_eq!(rt; total.get(), answer, "of {caps:?}");
-        assert_eq!(rt; total.is_nothing(), answer == 0, "of {caps:?}");
-        let count: u64 = if answer == 0 { 0 } else { 1 };
-        assert_eq!(rt; total.entries(), count, "of {caps:?}");
-        for form in [Form::One, Form::Two] {
-            assert_eq!(rt; total.canon_len(form), count, "of {caps:?}");
-            let arc = total.canon_arc(0, form);
-            assert_eq!(rt; arc.map_or(0, |arc| arc.part(0)), answer, "of {caps:?}");
-            let after = arc.and_then(|arc| total.canon_after(&arc, form));
-            assert_eq!(rt; after, None, "of {caps:?}");
-        }
+        assert!(rt;
+            add_caps(&mut total, caps) == Some(last),
+            "the last of {caps:?}"
+        );
+        assert_eq!(rt; total_differs(&total, answer), None, "of {caps:?}");
     }
+}
+
+// Whether the second of two arcs makes the capacities sum past the limit, and the curve stays that of the first.
+fn stays_past_the_limit(alloc: Global, first: Numbers, second: Numbers) -> bool {
+    let mut curve = Curve::empty(alloc);
+    put(&mut curve, first).is_ok()
+        && put(&mut curve, second) == Err(BundleFault::Sum)
+        && curve.free(0) == Some((first.2, first.1))
+        && curve.free_len() == 1
 }
 
 #[test]
 fn sums_past_the_limit(rt: HostRuntime) {
-    let table = [
-        ((0, 1, 5), (0, 9223372036854775807, 5)),
-        ((0, 9223372036854775807, 1), (0, 1, 9)),
-    ];
-    for (first, second) in table {
-        let mut curve = Curve::empty(rt.alloc());
-        let (_, cap, cost) = first;
-        assert_eq!(rt; put(&mut curve, first), Ok(()), "{first:?}");
-        assert_eq!(rt;
-            put(&mut curve, second),
-            Err(BundleFault::Sum),
-            "{second:?}"
-        );
-        assert_eq!(rt; curve.free(0), Some((cost, cap)), "after {second:?}");
-        assert_eq!(rt; curve.free_len(), 1, "after {second:?}");
-    }
+    let all = (0, 9223372036854775807, 5);
+    assert!(rt;
+        stays_past_the_limit(rt.alloc(), (0, 1, 5), all),
+        "all at one cost"
+    );
+    assert!(rt;
+        stays_past_the_limit(rt.alloc(), all, (0, 1, 9)),
+        "one more at another"
+    );
 }
 
 #[test]
@@ -641,14 +704,16 @@ fn arcs_of_problems(rt: HostRuntime) {
     ];
     for ((low, cap, cost), answer) in table {
         let arc = CostArc { low, cap, cost };
-        assert_eq!(rt; Curve::is_arc(&arc), answer, "{low} {cap} {cost}");
-        assert_eq!(rt; arc.len(), 3, "{low} {cap} {cost}");
+        assert!(rt;
+            Curve::is_arc(&arc) == answer && arc.len() == 3,
+            "LOW {low}"
+        );
     }
     let cap = CapArc { cap: 0 };
     let length = LengthArc { length: -5 };
     assert!(rt; Total::is_arc(&cap) && Least::is_arc(&length));
     assert!(rt; !Total::is_arc(&CapArc { cap: -1 }));
-    assert_eq!(rt; (cap.len(), length.len()), (1, 1));
+    assert!(rt; cap.len() == 1 && length.len() == 1);
 }
 
 #[test]

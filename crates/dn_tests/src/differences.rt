@@ -253,6 +253,16 @@ fn marks(alloc: Global, one: &Small, again: bool) -> Result<Vec<String>, Fail> {
     Ok(lines)
 }
 
+// A line of a letter and numbers.
+fn line(alloc: Global, letter: &str, numbers: &[i64]) -> Result<String, Fail> {
+    let mut line = String::from_str(alloc, letter)?;
+    for number in numbers {
+        write!(line, " {number}")?;
+    }
+    line.push_str("\n")?;
+    Ok(line)
+}
+
 // The arc lines, or the items of a list. A second time an arc comes in two, and a redundant one with it.
 fn rows(alloc: Global, one: &Small, again: bool) -> Result<Vec<String>, Fail> {
     let mut lines = Vec::new(alloc);
@@ -261,30 +271,26 @@ fn rows(alloc: Global, one: &Small, again: bool) -> Result<Vec<String>, Fail> {
         let room = cap.saturating_sub(low);
         let more = cost.saturating_add(1);
         match (one.kind, again) {
-            (Kind::Min, false) => lines.push(format!(in alloc;
-                "a {src} {dst} {low} {cap} {cost}\n"
-            )?)?,
+            (Kind::Min, false) => lines.push(line(alloc, "a", &[src, dst, low, cap, cost])?)?,
             (Kind::Min, true) => {
-                lines.push(format!(in alloc; "a {src} {dst} {low} {low} {cost}\n")?)?;
-                lines.push(format!(in alloc; "a {src} {dst} 0 {room} {cost}\n")?)?;
-                lines.push(format!(in alloc; "a {dst} {src} 0 0 {more}\n")?)?;
+                lines.push(line(alloc, "a", &[src, dst, low, low, cost])?)?;
+                lines.push(line(alloc, "a", &[src, dst, 0, room, cost])?)?;
+                lines.push(line(alloc, "a", &[dst, src, 0, 0, more])?)?;
             }
-            (Kind::Max, false) => lines.push(format!(in alloc; "a {src} {dst} {cap}\n")?)?,
+            (Kind::Max, false) => lines.push(line(alloc, "a", &[src, dst, cap])?)?,
             (Kind::Max, true) => {
-                lines.push(format!(in alloc; "a {src} {dst} {low}\n")?)?;
-                lines.push(format!(in alloc; "a {src} {dst} {room}\n")?)?;
-                lines.push(format!(in alloc; "a {dst} {src} 0\n")?)?;
+                lines.push(line(alloc, "a", &[src, dst, low])?)?;
+                lines.push(line(alloc, "a", &[src, dst, room])?)?;
+                lines.push(line(alloc, "a", &[dst, src, 0])?)?;
             }
             (Kind::Sp, _) => {
-                lines.push(format!(in alloc; "a {src} {dst} {cost}\n")?)?;
+                lines.push(line(alloc, "a", &[src, dst, cost])?)?;
                 if again {
-                    lines.push(format!(in alloc; "a {src} {dst} {more}\n")?)?;
+                    lines.push(line(alloc, "a", &[src, dst, more])?)?;
                 }
             }
-            (Kind::Ss, _) if place < one.count => lines.push(format!(in alloc; "s {src}\n")?)?,
-            (Kind::P2p, _) if place < one.count => lines.push(format!(in alloc;
-                "q {src} {dst}\n"
-            )?)?,
+            (Kind::Ss, _) if place < one.count => lines.push(line(alloc, "s", &[src])?)?,
+            (Kind::P2p, _) if place < one.count => lines.push(line(alloc, "q", &[src, dst])?)?,
             _ => {}
         }
     }
