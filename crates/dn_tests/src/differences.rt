@@ -8,6 +8,7 @@ use dn_compare::{Verdict, compare};
 use dn_instance::read_text;
 use dn_line::Kind;
 use std::alloc::Global;
+use std::fmt::Write;
 use std::test::Fail;
 
 // The first case with another verdict, or another one with its sides turned for its texts in the other order.
@@ -233,6 +234,16 @@ fn slow_verdict(a: &Small, b: &Small) -> Verdict {
     }
 }
 
+// A line of a letter and numbers.
+fn line(alloc: Global, letter: &str, numbers: &[i64]) -> Result<String, Fail> {
+    let mut line = String::from_str(alloc, letter)?;
+    for number in numbers {
+        write!(line, " {number}")?;
+    }
+    line.push_str("\n")?;
+    Ok(line)
+}
+
 // The node lines, or the lines of points.
 fn marks(alloc: Global, one: &Small, again: bool) -> Result<Vec<String>, Fail> {
     let mut lines = Vec::new(alloc);
@@ -244,23 +255,13 @@ fn marks(alloc: Global, one: &Small, again: bool) -> Result<Vec<String>, Fail> {
     }
     for (id, flow) in (1i64..3).zip(one.flows) {
         if one.kind == Kind::Min && (flow != 0 || again) {
-            lines.push(format!(in alloc; "n {id} {flow}\n")?)?;
+            lines.push(line(alloc, "n", &[id, flow])?)?;
         }
         if one.kind == Kind::Co && flow != 0 {
-            lines.push(format!(in alloc; "v {id} {flow} 7\n")?)?;
+            lines.push(line(alloc, "v", &[id, flow, 7])?)?;
         }
     }
     Ok(lines)
-}
-
-// A line of a letter and numbers.
-fn line(alloc: Global, letter: &str, numbers: &[i64]) -> Result<String, Fail> {
-    let mut line = String::from_str(alloc, letter)?;
-    for number in numbers {
-        write!(line, " {number}")?;
-    }
-    line.push_str("\n")?;
-    Ok(line)
 }
 
 // The arc lines, or the items of a list. A second time an arc comes in two, and a redundant one with it.

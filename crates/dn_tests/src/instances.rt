@@ -141,10 +141,9 @@ fn first_other(alloc: Global, faults: &[Faulty]) -> Option<(&'static str, &'stat
 
 #[test]
 fn faulty_texts(rt: HostRuntime) {
-    assert_eq!(rt; first_other(rt.alloc(), &FIRST_LINES), None);
-    assert_eq!(rt; first_other(rt.alloc(), &LATER_LINES), None);
-    assert_eq!(rt; first_other(rt.alloc(), &NODES_AND_ARCS), None);
-    assert_eq!(rt; first_other(rt.alloc(), &ENDS), None);
+    for faults in [&FIRST_LINES[..], &LATER_LINES, &NODES_AND_ARCS, &ENDS] {
+        assert_eq!(rt; first_other(rt.alloc(), faults), None);
+    }
 }
 
 // Texts whose contents are told below.
@@ -154,11 +153,10 @@ const TOLD: [&str; 9] = [
 
 #[test]
 fn accepted_texts(rt: HostRuntime) {
-    for text in ACCEPTED {
-        assert_eq!(rt; differs(rt.alloc(), text, None), None, "{text}");
-    }
-    for text in TOLD {
-        assert_eq!(rt; differs(rt.alloc(), text, None), None, "{text}");
+    for texts in [&ACCEPTED[..], &TOLD] {
+        for text in texts {
+            assert_eq!(rt; differs(rt.alloc(), text, None), None, "{text}");
+        }
     }
 }
 
@@ -211,10 +209,8 @@ const SIZES: [(&str, Kind, i64, i64, u64); 9] = [
 fn sizes(rt: HostRuntime) -> Result<(), Fail> {
     for (text, kind, nodes, lines, pairs) in SIZES {
         let held = read_text(rt.alloc(), text.as_bytes())?;
-        assert_eq!(rt; held.kind(), kind, "{text}");
-        assert_eq!(rt; held.nodes(), nodes, "nodes, {text}");
-        assert_eq!(rt; held.lines(), lines, "lines, {text}");
-        assert_eq!(rt; held.pairs(), pairs, "pairs, {text}");
+        let told = (held.kind(), held.nodes(), held.lines(), held.pairs());
+        assert!(rt; told == (kind, nodes, lines, pairs), "{text}");
     }
     Ok(())
 }

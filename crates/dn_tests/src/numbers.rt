@@ -32,12 +32,12 @@ fn numbers_of_texts(rt: HostRuntime) {
         ("x", Err(NumFault::NotANumber)),
     ];
     for (text, answer) in table {
-        assert_eq!(rt; read_number(text.as_bytes()), answer, "the word {text}");
         let mut reader = NumberReader::new();
         for byte in text.as_bytes() {
             reader.push(*byte);
         }
-        assert_eq!(rt; reader.finish(), answer, "byte by byte, {text}");
+        let both = (read_number(text.as_bytes()), reader.finish());
+        assert!(rt; both == (answer, answer), "the word {text}");
     }
 }
 
@@ -51,15 +51,14 @@ fn texts_of_numbers(rt: HostRuntime) {
     ];
     for (number, text) in table {
         let mut out = Vec::new(rt.alloc());
-        assert_eq!(rt;
-            append_number(&mut out, number),
-            Ok(()),
-            "room for {number}"
-        );
-        assert_eq!(rt; out.as_slice(), text.as_bytes(), "added, {number}");
+        let is_added = append_number(&mut out, number).is_ok();
         let mut into = [0u8; 20];
         let length = number_into(&mut into, number);
-        assert_eq!(rt; &into[..length], text.as_bytes(), "at the front, {number}");
+        let text = text.as_bytes();
+        assert!(rt;
+            is_added && out.as_slice() == text && &into[..length] == text,
+            "the number {number}"
+        );
     }
 }
 
@@ -78,6 +77,6 @@ fn numbers_in_front(rt: HostRuntime) {
     ];
     for (text, answer) in table {
         let front = number_front(text.as_bytes()).map(|front| (front.number, front.used));
-        assert_eq!(rt; front, answer, "in front of {text}");
+        assert!(rt; front == answer, "in front of {text}");
     }
 }

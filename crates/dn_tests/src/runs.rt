@@ -75,6 +75,26 @@ fn ran(
     Ok((status, out, err))
 }
 
+// What of a run is other than this status, these bytes on `out` and these on `err`.
+fn differs(
+    alloc: Global,
+    words: &[&str],
+    files: &mut OneText<'_>,
+    wanted: (u8, &[u8], &str),
+) -> Result<Option<&'static str>, AllocError> {
+    let (status, out, err) = ran(alloc, words, files)?;
+    if status != wanted.0 {
+        return Ok(Some("the status"));
+    }
+    if out.taken() != wanted.1 {
+        return Ok(Some("what `out` took"));
+    }
+    if err.taken() != wanted.2.as_bytes() {
+        return Ok(Some("what `err` took"));
+    }
+    Ok(None)
+}
+
 #[test]
 fn canonical_texts(rt: HostRuntime) -> Result<(), Fail> {
     let lines: [(&[&str], &str); 4] = [
@@ -84,10 +104,9 @@ fn canonical_texts(rt: HostRuntime) -> Result<(), Fail> {
         (&["dnorm", "canon", "g.gr"], "g.gr"),
     ];
     for (words, name) in lines {
-        let (status, out, err) = ran(rt.alloc(), words, &mut OneText::new(name, ROADS))?;
-        assert_eq!(rt; status, 0, "{words:?}");
-        assert_eq!(rt; out.taken(), ROADS_CANON, "{words:?}");
-        assert!(rt; err.taken().is_empty(), "{words:?}");
+        let mut files = OneText::new(name, ROADS);
+        let other = differs(rt.alloc(), words, &mut files, (0, ROADS_CANON, ""))?;
+        assert_eq!(rt; other, None, "{words:?}");
     }
     Ok(())
 }
@@ -106,10 +125,9 @@ fn bad_command_lines(rt: HostRuntime) -> Result<(), Fail> {
         &["dnorm", "compare", "-", "-"],
     ];
     for words in lines {
-        let (status, out, err) = ran(rt.alloc(), words, &mut OneText::new("g.gr", ROADS))?;
-        assert_eq!(rt; status, 3, "{words:?}");
-        assert!(rt; out.taken().is_empty(), "{words:?}");
-        assert_eq!(rt; err.taken(), BAD_LINE.as_bytes(), "{words:?}");
+        let mut files = OneText::new("g.gr", ROADS);
+        let other = differs(rt.alloc(), words, &mut files, (3, b"", BAD_LINE))?;
+        assert_eq!(rt; other, None, "{words:?}");
     }
     Ok(())
 }
@@ -125,11 +143,10 @@ fn refused_texts(rt: HostRuntime) -> Result<(), Fail> {
         (b"p sp 2 1\na 1 3 1\n", "n.max:2: 13 NodeOutOfRange\n"),
     ];
     for (text, line) in texts {
+        let mut files = OneText::new("n.max", text);
         let words: &[&str] = &["dnorm", "canon", "n.max"];
-        let (status, out, err) = ran(rt.alloc(), words, &mut OneText::new("n.max", text))?;
-        assert_eq!(rt; status, 2, "{line}");
-        assert!(rt; out.taken().is_empty(), "{line}");
-        assert_eq!(rt; err.taken(), line.as_bytes(), "{line}");
+        let other = differs(rt.alloc(), words, &mut files, (2, b"", line))?;
+        assert_eq!(rt; other, None, "{line}");
     }
     Ok(())
 }
@@ -143,10 +160,9 @@ fn faults_of_files(rt: HostRuntime) -> Result<(), Fail> {
     for (fault, line) in faults {
         let mut files = OneText::new("g.gr", ROADS);
         files.other = fault;
-        let (status, out, err) = ran(rt.alloc(), &["dnorm", "canon", "missing"], &mut files)?;
-        assert_eq!(rt; status, 4, "{line}");
-        assert!(rt; out.taken().is_empty(), "{line}");
-        assert_eq!(rt; err.taken(), line.as_bytes(), "{line}");
+        let words: &[&str] = &["dnorm", "canon", "missing"];
+        let other = differs(rt.alloc(), words, &mut files, (4, b"", line))?;
+        assert_eq!(rt; other, None, "{line}");
     }
     Ok(())
 }
@@ -157,38 +173,40 @@ fn faults_of_sources(rt: HostRuntime) -> Result<(), Fail> {
         (ROADS, 4, "-: 31 Read\n"),
         (b"p sp 1 1\nx\n", 2, "-:2: 1 BadLine\n"),
     ];
-    for (text, wanted, line) in texts {
+    for (text, status, line) in texts {
         let mut files = OneText::new("-", text);
         files.pulls = 1;
-        let (status, out, err) = ran(rt.alloc(), &["dnorm"], &mut files)?;
-        assert_eq!(rt; status, wanted, "{line}");
-        assert!(rt; out.taken().is_empty(), "{line}");
-        assert_eq!(rt; err.taken(), line.as_bytes(), "{line}");
+        let other = differs(rt.alloc(), &["dnorm"], &mut files, (status, b"", line))?;
+        assert_eq!(rt; other, None, "{line}");
     }
     Ok(())
+}
+
+// Whether a run fills a room of this size with its text, or a front of it, and says so.
+fn fills_room(alloc: Global, words: &[String], size: usize) -> bool {
+    let mut room = [b'x'; 50];
+    let mut out = Room::new(&mut room[..size.min(50)]);
+    let mut err = Bytes::new(alloc);
+    let mut files = OneText::new("g.gr", ROADS);
+    let status = run(alloc, words, &mut files, &mut out, &mut err);
+    let (wanted, line) = if size < ROADS_CANON.len() {
+        (4, b"out: 33 Write\n".as_slice())
+    } else {
+        (0, b"".as_slice())
+    };
+    out.taken() == &ROADS_CANON[..size.min(ROADS_CANON.len())]
+        && status == wanted
+        && err.taken() == line
 }
 
 #[test]
 fn rooms(rt: HostRuntime) -> Result<(), Fail> {
     let words = owned(rt.alloc(), &["dnorm", "canon", "g.gr"])?;
     for size in 0..=ROADS_CANON.len() {
-        let mut room = [b'x'; 50];
-        let mut out = Room::new(&mut room[..size]);
-        let mut err = Bytes::new(rt.alloc());
-        let mut files = OneText::new("g.gr", ROADS);
-        let status = run(rt.alloc(), &words, &mut files, &mut out, &mut err);
-        assert_eq!(rt; out.taken(), &ROADS_CANON[..size], "a room of {size} bytes");
-        if size == ROADS_CANON.len() {
-            assert_eq!(rt; status, 0);
-            assert!(rt; err.taken().is_empty());
-        } else {
-            assert_eq!(rt; status, 4, "a room of {size} bytes");
-            assert_eq!(rt;
-                err.taken(),
-                b"out: 33 Write\n".as_slice(),
-                "a room of {size} bytes"
-            );
-        }
+        assert!(rt;
+            fills_room(rt.alloc(), &words, size),
+            "a room of {size} bytes"
+        );
     }
     Ok(())
 }
