@@ -17,9 +17,9 @@ use Rattle.dn_instance.specs.Instances.{Graph, Instance, MinCostFlow, MaxFlow, S
 use Rattle.dn_table.specs.Tables.{Tells}
 use Rattle.dn_instance.specs.Validity.{IsValid, IsValidGraph, AreSupplies, AreTerminals}
 use Rattle.dn_instance.specs.declared.refusal.Refusal.{Refusal}
-use Rattle.dn_canon.specs.declared.sink.SinkFault.{SinkFault}
+use Rattle.dn_sink.specs.declared.sink.SinkFault.{SinkFault}
 use Rattle.dn_canon.specs.Prints.{print}
-use Rattle.dn_canon.specs.Puts.{Puts}
+use Rattle.dn_sink.specs.Puts.{Puts}
 use Rattle.dn_canon.specs.ToldArcs.{told_arcs, told_graph, IsCanonFor}
 use Rattle.dn_canon.specs.Writes.{Writes, WritesCanon, written_as}
 use Rattle.dn_canon.proofs.ToldLaws.{min_canon, max_canon, sp_canon, companion_canon}

@@ -1,4 +1,4 @@
--- How a text goes into a sink piece by piece.
+-- How the rows of a text go into a sink one by one.
 use Rattle.std.proofs.Common.{◌≡◌, ℕ, ◌+◌, ◌-◌, ◌<◌, ◌≤◌, ℤ, List, [], ◌∷◌, ◌++◌, length, map, take, drop, Bool, Option, Some, None, Result, Ok, Err, IsErr, IsTrue, slice_get, suc, zero, refl, ap, sym, ◌∙◌, subst, arith, append_assoc, append-nil, take-append-drop}
 use Rattle.std.proofs.Math.Seq.{drop-cons}
 use Rattle.std.proofs.lemmas.List.{take_all, drop_all, length-drop, drop-drop, map-append}
@@ -12,58 +12,15 @@ use Rattle.dn_line.specs.declared.kind.Kind.{Kind}
 use Rattle.dn_line.specs.declared.word.Keyword.TheVariants.{A, S, T}
 use Rattle.dn_bundle.specs.Kinds.{ArcKind}
 use Rattle.dn_instance.specs.Instances.{Graph}
-use Rattle.dn_canon.specs.declared.sink.SinkFault.{SinkFault}
-use Rattle.dn_canon.specs.Sinks.{Took}
 use Rattle.dn_canon.specs.Prints.{line_text, row, graph_row, companion_row, terminal_row, arc_row, graph_rows}
-use Rattle.dn_canon.specs.Puts.{HasPut, PutsFront, Puts}
+use Rattle.dn_sink.specs.Puts.{HasPut, PutsFront}
+use Rattle.dn_sink.proofs.PutLaws.{put_more, put_stop}
 use Rattle.dn_canon.specs.ToldArcs.{placed, told_arcs}
 use Rattle.dn_canon.specs.Writes.{text_of, node_rows}
 use Rattle.dn_canon.specs.declared.writer.NodeLines.{NodeLines}
 use Rattle.dn_canon.specs.declared.writer.NodeLines.TheVariants.{Terminals}
 
--- nothing is put so far
-pub put_from : {K : Type 0} {taken : K → Option (List ℕ)} {has_failed : K → Bool} {a : K} {left all : List ℕ} → left ≡ all → HasPut taken has_failed a a left all
-put_from {K} {taken} {has_failed} {a} {left} {all} e = record { put = []; bytes = Appends-nil (taken a); whole = e; stays = λ f. f }
-
--- the next n bytes of a piece are put
-pub put_part : {K : Type 0} (taken : K → Option (List ℕ)) (has_failed : K → Bool) (a b c : K) (piece : List ℕ) (at n : ℕ) → HasPut taken has_failed a b (drop at piece) piece
-    → Took (taken b) (taken c) (has_failed c) (take (length piece - at) (drop at piece)) n → (IsTrue (has_failed b) → IsTrue (has_failed c)) → HasPut taken has_failed a c (drop (at + n) piece) piece
-put_part taken has_failed a b c piece at n h t stays =
-    let rest : take (length piece - at) (drop at piece) ≡ drop at piece = take_all (length piece - at) (drop at piece) (omega (arith, length-drop at piece)) in
-    let front : take n (take (length piece - at) (drop at piece)) ++ drop (at + n) piece ≡ drop at piece =
-    ap (λ l. take n l ++ drop (at + n) piece) rest ∙ ap (λ l. take n (drop at piece) ++ l) (sym (drop-drop n at piece)) ∙ take-append-drop n (drop at piece) in
-    record {
-      put = h.put ++ take n (take (length piece - at) (drop at piece));
-      bytes = Appends-trans (taken a) (taken b) (taken c) h.put _ h.bytes t.bytes;
-      whole = append_assoc h.put _ (drop (at + n) piece) ∙ ap (λ l. h.put ++ l) front ∙ h.whole;
-      stays = λ f. stays (h.stays f);
-    }
-
 module _ {K : Type 0} {taken : K → Option (List ℕ)} {has_failed : K → Bool} {a b c : K} where
-  -- the next piece is put
-  pub put_more : {x rest all : List ℕ} → HasPut taken has_failed a b (x ++ rest) all → HasPut taken has_failed b c [] x → HasPut taken has_failed a c rest all
-  put_more {x} {rest} {all} h p = record {
-    put = h.put ++ p.put;
-    bytes = Appends-trans (taken a) (taken b) (taken c) h.put p.put h.bytes p.bytes;
-    whole = append_assoc h.put p.put rest ∙ ap (λ l. h.put ++ (l ++ rest)) (sym (append-nil p.put) ∙ p.whole) ∙ h.whole;
-    stays = λ f. p.stays (h.stays f);
-  }
-
-  -- a front of the next piece is put
-  pub put_stop : (x rest : List ℕ) {all : List ℕ} → HasPut taken has_failed a b (x ++ rest) all → PutsFront taken has_failed b c x → PutsFront taken has_failed a c all
-  put_stop x rest {all} h f = record {
-    left = f.left ++ rest;
-    has = record {
-      put = h.put ++ f.has.put;
-      bytes = Appends-trans (taken a) (taken b) (taken c) h.put f.has.put h.bytes f.has.bytes;
-      whole =
-          append_assoc h.put f.has.put (f.left ++ rest) ∙ ap (λ l. h.put ++ l) (sym (append_assoc f.has.put f.left rest) ∙ ap (λ l. l ++ rest) f.has.whole)
-          ∙ h.whole;
-      stays = λ t. f.has.stays (h.stays t);
-    };
-    failed = f.failed;
-  }
-
   -- the line of the next row is put
   pub row_more : {X : Type 0} {all line : List ℕ} (row : X → List (List ℕ)) (left rest : List X) (x : X) → left ≡ x ∷ rest → line ≡ line_text (row x)
       → HasPut taken has_failed a b (text_of (map row left)) all → HasPut taken has_failed b c [] line → HasPut taken has_failed a c (text_of (map row rest)) all
@@ -75,15 +32,6 @@ module _ {K : Type 0} {taken : K → Option (List ℕ)} {has_failed : K → Bool
       → HasPut taken has_failed a b (text_of (map row left)) all → PutsFront taken has_failed b c line → PutsFront taken has_failed a c all
   row_stop {X} {all} {line} row left rest x e f h p =
       put_stop (line_text (row x)) (text_of (map row rest)) (subst (λ xs. HasPut taken has_failed a b (text_of (map row xs)) all) e h) (subst (λ l. PutsFront taken has_failed b c l) f p)
-
--- what is left is put
-pub put_last : {K : Type 0} (taken : K → Option (List ℕ)) (has_failed : K → Bool) (a b c : K) (x all : List ℕ) (r : Result (Unit {0}) SinkFault) → HasPut taken has_failed a b x all → Puts taken has_failed b c x r → Puts taken has_failed a c all r
-put_last taken has_failed a b c x all (Ok u) h p = put_more (subst (λ l. HasPut taken has_failed a b l all) (sym (append-nil x)) h) p
-put_last taken has_failed a b c x all (Err e) h p = put_stop x [] (subst (λ l. HasPut taken has_failed a b l all) (sym (append-nil x)) h) p
-
--- a refused call hands on its fault
-pub stopped : {K : Type 0} {taken : K → Option (List ℕ)} {has_failed : K → Bool} {a b : K} {all : List ℕ} (r : Result (Unit {0}) SinkFault) → IsErr r → PutsFront taken has_failed a b all → Puts taken has_failed a b all r
-stopped r is f = MatchResult-from_err r _ _ is (λ e. f)
 
 -- the rows of two lists
 text-append : (rs ss : List (List (List ℕ))) → text_of (rs ++ ss) ≡ text_of rs ++ text_of ss

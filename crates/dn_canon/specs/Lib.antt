@@ -3,8 +3,6 @@ pub mod Prints
 pub mod CanonTexts
 pub mod CanonReadings
 pub mod Examples
-pub mod Sinks
-pub mod Puts
 pub mod Lines
 pub mod ToldArcs
 pub mod Writes

@@ -7,10 +7,10 @@ use Rattle.dn_bundle.specs.declared.arc.Form.{Form}
 use Rattle.dn_instance.specs.Instances.{Instance, size_of}
 use Rattle.dn_canon.specs.CanonTexts.{PrintsCanon}
 use Rattle.dn_canon.specs.Prints.{line_text, supply_row, terminal_row, print}
-use Rattle.dn_canon.specs.Puts.{HasPut, PutsFront}
+use Rattle.dn_sink.specs.Puts.{HasPut, PutsFront}
 use Rattle.dn_instance.specs.declared.refusal.Refusal.{Refusal}
 use Rattle.dn_instance.specs.declared.refusal.Refusal.TheVariants.{Write, CountTooLarge}
-use Rattle.dn_canon.specs.declared.sink.SinkFault.{SinkFault}
+use Rattle.dn_sink.specs.declared.sink.SinkFault.{SinkFault}
 use Rattle.dn_canon.specs.declared.writer.NodeLines.{NodeLines}
 use Rattle.dn_canon.specs.declared.writer.NodeLines.TheVariants.{Supplies, Terminals, NoNodes}
 

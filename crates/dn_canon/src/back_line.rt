@@ -1,9 +1,9 @@
 // One line of numbers, built on the stack from its end.
 ghost use Rattle.std.specs.Prelude.{◌≡◌, ◌+◌, ◌<◌, ◌≤◌, [], ◌∷◌, ◌++◌, length};
 ghost use Rattle.std.specs.Fmt.{decimal, signed_decimal};
-ghost use Rattle.dn_canon.specs.Puts.{Puts};
+ghost use Rattle.dn_sink.specs.Puts.{Puts};
 
-use crate::sink::{Sink, SinkFault, put_all};
+use dn_sink::{Sink, SinkFault, put_all};
 use itoa::write_digits;
 use std::marker::Model;
 

@@ -7,12 +7,11 @@ ghost use Rattle.dn_instance.specs.Views.{holding};
 ghost use Rattle.dn_canon.specs.Writes.{Answers, WritesCanon, written_as};
 ghost use Rattle.dn_canon.specs.Runs.{JudgesCanon, RunsCanon, TextCanon};
 
-use crate::bytes::Bytes;
-use crate::sink::{Sink, SinkFault};
 use crate::writer::{NodeLines, write_graph, write_points, write_queries, write_sources};
 use dn_bundle::Form;
 use dn_instance::{Held, Refusal, View, read_from, read_text};
 use dn_line::{Kind, Source};
+use dn_sink::{Bytes, Sink, SinkFault};
 use std::alloc::Global;
 
 /// Puts the canonical text of what is held, a line a put, and flushes. It takes no memory of its own.

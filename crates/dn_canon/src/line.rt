@@ -1,10 +1,10 @@
 // One line of a text, built on the stack.
 ghost use Rattle.std.specs.Prelude.{◌≡◌, ◌+◌, ◌<◌, ◌≤◌, ◌^◌, ℤ, pos, List, [], ◌∷◌, ◌++◌, length, map};
 ghost use Rattle.std.specs.Fmt.{signed_decimal};
-ghost use Rattle.dn_canon.specs.Puts.{Puts};
+ghost use Rattle.dn_sink.specs.Puts.{Puts};
 
-use crate::sink::{Sink, SinkFault, put_all};
 use dn_num::number_into;
+use dn_sink::{Sink, SinkFault, put_all};
 use std::marker::Model;
 
 // The bytes of a line so far. No line of the formats is longer than 107 bytes.

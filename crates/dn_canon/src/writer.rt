@@ -8,7 +8,7 @@ ghost use Rattle.dn_table.specs.Tables.{Tells};
 ghost use Rattle.dn_instance.specs.Validity.{IsValidGraph};
 ghost use Rattle.dn_canon.specs.Lines.{AreShort};
 ghost use Rattle.dn_canon.specs.Prints.{arc_row, supply_row, graph_rows, print};
-ghost use Rattle.dn_canon.specs.Puts.{Puts};
+ghost use Rattle.dn_sink.specs.Puts.{Puts};
 ghost use Rattle.dn_canon.specs.ToldArcs.{placed, told_arcs, told_graph, IsCanonFor};
 ghost use Rattle.dn_canon.specs.Writes.{text_of, node_rows, Writes};
 
@@ -17,10 +17,10 @@ use crate::rows::{
     arc_line, companion_line, end_line, graph_line, point_line, query_line, source_line,
     start_line, supply_line,
 };
-use crate::sink::{Sink, SinkFault};
 use dn_bundle::{Bundle, Form};
 use dn_instance::{Refusal, Table};
 use dn_line::Kind;
+use dn_sink::{Sink, SinkFault};
 use std::collections::BTreeMap;
 
 // What stands before the arcs of a graph.

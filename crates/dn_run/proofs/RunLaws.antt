@@ -8,7 +8,7 @@ use Rattle.dn_instance.specs.declared.refusal.Refusal.{Refusal}
 use Rattle.dn_instance.specs.declared.refusal.Refusal.TheVariants.{Text, Memory, Read, Endless, Write, CountTooLarge}
 use Rattle.dn_instance.proofs.FirstFaults.{not_both}
 use Rattle.dn_canon.specs.Prints.{print}
-use Rattle.dn_canon.specs.Puts.{HasPut}
+use Rattle.dn_sink.specs.Puts.{HasPut}
 use Rattle.dn_canon.specs.Runs.{RunsCanon}
 use Rattle.dn_run.specs.declared.files.FilesFault.{FilesFault}
 use Rattle.dn_run.specs.Runs.{status, IsTooLarge, Ran}

@@ -11,8 +11,8 @@ use Rattle.dn_instance.specs.declared.refusal.Refusal.{Refusal}
 use Rattle.dn_instance.specs.declared.refusal.Refusal.TheVariants.{Text, Memory, Read, Endless, Write, CountTooLarge}
 use Rattle.dn_canon.specs.CanonTexts.{PrintsCanon, IsCanonOf}
 use Rattle.dn_canon.specs.Prints.{print}
-use Rattle.dn_canon.specs.Puts.{Puts, PutsFront}
-use Rattle.dn_canon.specs.declared.sink.SinkFault.{SinkFault}
+use Rattle.dn_sink.specs.Puts.{Puts, PutsFront}
+use Rattle.dn_sink.specs.declared.sink.SinkFault.{SinkFault}
 use Rattle.dn_run.specs.declared.files.FilesFault.{FilesFault}
 use Rattle.dn_run.specs.declared.files.FilesFault.TheVariants as Files
 use Rattle.dn_run.specs.FaultLines.{fault_line}

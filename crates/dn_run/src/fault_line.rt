@@ -1,10 +1,10 @@
 // The line that tells why a run was refused.
 ghost use Rattle.std.specs.Prelude.{◌++◌, codes};
-ghost use Rattle.dn_canon.specs.Puts.{Puts};
+ghost use Rattle.dn_sink.specs.Puts.{Puts};
 ghost use Rattle.dn_run.specs.FaultLines.{fault_line, reason_text};
 
-use dn_canon::{Sink, SinkFault, put_all};
 use dn_instance::{Place, Refusal};
+use dn_sink::{Sink, SinkFault, put_all};
 use itoa::Buffer;
 
 /// Puts the line that tells of a refusal of the text of this name: where it stands, its number, and its name.

@@ -10,8 +10,9 @@ use crate::command::{Command, command_of};
 use crate::fault_line::put_fault_line;
 use crate::files::{Files, FilesFault};
 use dn_bundle::Form;
-use dn_canon::{Sink, canon_run, put_all};
+use dn_canon::canon_run;
 use dn_instance::Refusal;
+use dn_sink::{Sink, put_all};
 use std::alloc::Global;
 
 /// Does what the words ask for, the program's name first, and answers the exit status: 0 where it is done, 2 where a

@@ -5,9 +5,10 @@ mod cases;
 use crate::stand_ins::{LateWriter, NoFlush, OneByte, Pieces};
 use cases::{CANONICAL, COSTS, LENGTHS, LENGTHS_CANON, ONE_TEXT, SOURCES, TWO_TEXTS};
 use dn_bundle::Form;
-use dn_canon::{Bytes, Room, ToWrite, canon_run, canon_text, is_canon, write_canon};
+use dn_canon::{canon_run, canon_text, is_canon, write_canon};
 use dn_instance::{Held, Place, Reader, Refusal, read_text};
 use dn_line::{Code, Slice};
+use dn_sink::{Bytes, Room, ToWrite};
 use std::alloc::Global;
 use std::test::Fail;
 

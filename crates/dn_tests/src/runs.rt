@@ -2,8 +2,8 @@
 ghost use Rattle.std.specs.Prelude.{Some};
 
 use crate::stand_ins::{NoFlush, Pieces};
-use dn_canon::{Bytes, Room};
 use dn_run::{Files, FilesFault, run};
+use dn_sink::{Bytes, Room};
 use std::alloc::{AllocError, Global};
 use std::test::Fail;
 

@@ -1,8 +1,8 @@
 // Sources and sinks that stand in for slow and failing devices.
 ghost use Rattle.std.specs.Prelude.{◌≡◌, ◌||◌, false, true, Some};
 
-use dn_canon::{Bytes, Sink, SinkFault};
 use dn_line::{Source, SourceFault};
+use dn_sink::{Bytes, Sink, SinkFault};
 use std::alloc::Global;
 use std::io;
 use std::io::{ErrorKind, Write};

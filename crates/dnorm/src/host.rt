@@ -1,10 +1,10 @@
 // A run on the host.
 ghost use Rattle.std.specs.Prelude.{◌≡◌, ◌≤◌, None, IfOk};
 
-use dn_canon::{Sink, ToWrite};
 use dn_instance::Refusal;
 use dn_line::FromRead;
 use dn_run::{Files, FilesFault, put_fault_line, refuse_words, run};
+use dn_sink::{Sink, ToWrite};
 use std::io::{BufWriter, ErrorKind, Read};
 use std::rt::Runtime;
 use std::{env, fs, io};

@@ -5,7 +5,7 @@
 pub mod host;
 
 use crate::host::run_on;
-use dn_canon::ToWrite;
+use dn_sink::ToWrite;
 use std::process::ExitCode;
 
 fn main(rt: HostRuntime) -> ExitCode {

@@ -2,7 +2,8 @@ use Rattle.std.proofs.Common.{refl}
 use Rattle.dn_line.specs.declared.word.Keyword.TheVariants.{T}
 use Rattle.dn_canon.specs.Prints.{line_text, terminal_row}
 use Rattle.dn_canon.specs.Writes.{text_of, node_rows}
-use Rattle.dn_canon.proofs.PutLaws.{put_from, put_more, put_stop, put_last, stopped, terminals_text}
+use Rattle.dn_sink.proofs.PutLaws.{put_from, put_more, put_stop, put_last, stopped}
+use Rattle.dn_canon.proofs.PutLaws.{terminals_text}
 use Rattle.dn_canon.proofs.writer.put_nodes.Goals as goal
 
 pub returns-in_err-put-in-Terminals : goal.returns-in_err-put-in-Terminals

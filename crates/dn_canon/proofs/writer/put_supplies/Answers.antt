@@ -1,5 +1,6 @@
 use Rattle.dn_canon.specs.Prints.{supply_row}
-use Rattle.dn_canon.proofs.PutLaws.{row_more, row_stop, stopped}
+use Rattle.dn_sink.proofs.PutLaws.{stopped}
+use Rattle.dn_canon.proofs.PutLaws.{row_more, row_stop}
 use Rattle.dn_canon.proofs.writer.put_supplies.Goals as goal
 
 pub loop-id-preserved : goal.loop-id-preserved

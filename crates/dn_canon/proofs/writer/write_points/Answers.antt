@@ -1,10 +1,11 @@
 use Rattle.std.proofs.Common.{[], ℤ, List, map, length, subst}
 use Rattle.dn_canon.specs.Prints.{point_row, print}
 use Rattle.dn_line.specs.declared.kind.Kind.TheVariants.{Co}
-use Rattle.dn_canon.specs.Puts.{HasPut}
+use Rattle.dn_sink.specs.Puts.{HasPut}
 use Rattle.dn_canon.specs.Writes.{text_of}
 use Rattle.dn_instance.specs.Instances.{Coordinates}
-use Rattle.dn_canon.proofs.PutLaws.{put_from, put_stop, put_last, row_more, row_stop, stopped, companion_text}
+use Rattle.dn_sink.proofs.PutLaws.{put_from, put_stop, put_last, stopped}
+use Rattle.dn_canon.proofs.PutLaws.{row_more, row_stop, companion_text}
 use Rattle.dn_canon.proofs.writer.write_points.Goals as goal
 
 pub returns-in_err-put-clause-text : goal.returns-in_err-put-clause-text

@@ -3,7 +3,8 @@ use Rattle.std.proofs.lemmas.List.{drop_more}
 use Rattle.dn_canon.specs.Prints.{source_row, print}
 use Rattle.dn_canon.specs.Writes.{text_of}
 use Rattle.dn_instance.specs.Instances.{Sources}
-use Rattle.dn_canon.proofs.PutLaws.{put_from, put_stop, put_last, row_more, row_stop, rows_done, stopped}
+use Rattle.dn_sink.proofs.PutLaws.{put_from, put_stop, put_last, stopped}
+use Rattle.dn_canon.proofs.PutLaws.{row_more, row_stop, rows_done}
 use Rattle.dn_canon.proofs.writer.write_sources.Goals as goal
 
 pub returns-in_err-put-clause-text : goal.returns-in_err-put-clause-text

@@ -1,5 +1,5 @@
 use Rattle.std.proofs.Common.{◌++◌, refl}
-use Rattle.dn_canon.proofs.PutLaws.{put_from, put_more, put_stop, put_last, stopped}
+use Rattle.dn_sink.proofs.PutLaws.{put_from, put_more, put_stop, put_last, stopped}
 use Rattle.dn_run.specs.FaultLines.{reason_text}
 use Rattle.dn_run.proofs.fault_line.put_line.Goals as goal
 

@@ -1,7 +1,7 @@
 // A sink in memory.
 ghost use Rattle.std.specs.Prelude.{◌≡◌, ◌↔◌, ◌<◌, ◌+◌, [], length, false, true, Some, IsTrue, IsErr, IfOk, OnOk, OnErr};
 ghost use Rattle.std.specs.Io.KnownBytes.{Keeps};
-ghost use Rattle.dn_canon.specs.Sinks.{Took, Refused};
+ghost use Rattle.dn_sink.specs.Sinks.{Took, Refused};
 
 use crate::sink::{Sink, SinkFault};
 use std::alloc::Global;
@@ -16,7 +16,7 @@ pub struct Bytes {
 
 impl Model for Bytes {
     ghost use Rattle.std.specs.Prelude.{vec_capacity};
-    ghost use Rattle.dn_canon.specs.Sinks.{Taken};
+    ghost use Rattle.dn_sink.specs.Sinks.{Taken};
 
     ghost Value = { Taken };
 
@@ -42,11 +42,12 @@ impl Bytes {
         &self.all
     }
 
-    // The vector of the bytes taken.
-    pub(crate) fn into_all(self) -> Vec<u8>
+    /// The vector of the bytes taken.
+    pub fn into_all(self) -> Vec<u8>
         ensures { result.items ≡ self.bytes }
     {
-        self.all
+        let Bytes { all, .. } = self;
+        all
     }
 }
 

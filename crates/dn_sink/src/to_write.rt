@@ -1,7 +1,7 @@
 // A sink over a writer.
 ghost use Rattle.std.specs.Prelude.{◌≡◌, false, IsTrue, IsErr, IfOk, OnOk, OnErr};
 ghost use Rattle.std.specs.Io.KnownBytes.{Keeps};
-ghost use Rattle.dn_canon.specs.Sinks.{Took, Refused};
+ghost use Rattle.dn_sink.specs.Sinks.{Took, Refused};
 
 use crate::sink::{Sink, SinkFault};
 use std::io::Write;

@@ -1,7 +1,7 @@
 // A sink over a slice.
 ghost use Rattle.std.specs.Prelude.{◌≡◌, [], length, false, true, Some, Ok, IsTrue, IsOk, IfOk, OnOk, OnErr};
 ghost use Rattle.std.specs.Io.KnownBytes.{Keeps};
-ghost use Rattle.dn_canon.specs.Sinks.{Took, Refused, room_for, filled};
+ghost use Rattle.dn_sink.specs.Sinks.{Took, Refused, room_for, filled};
 
 use crate::sink::{Sink, SinkFault};
 use std::marker::Model;
@@ -16,7 +16,7 @@ pub struct Room<'a> {
 
 impl<'a> Model for Room<'a> {
     ghost use Rattle.std.specs.Prelude.{◌≡◌, ◌≤◌, length, take, IsTrue};
-    ghost use Rattle.dn_canon.specs.Sinks.{Filled};
+    ghost use Rattle.dn_sink.specs.Sinks.{Filled};
 
     ghost Value = { Filled };
 

@@ -1,6 +1,6 @@
 use Rattle.std.proofs.Common.{length, ◌-◌, ◌≤◌, drop}
-use Rattle.dn_canon.specs.Puts.{HasPut}
-use Rattle.dn_canon.proofs.sink.put_all.Given as goal
+use Rattle.dn_sink.specs.Puts.{HasPut}
+use Rattle.dn_sink.proofs.sink.put_all.Given as goal
 
 abbrev pub invariant-loop-at : goal.invariant-loop-at
 invariant-loop-at g l = record {

@@ -2,7 +2,7 @@
 use Rattle.std.specs.Prelude.{◌≡◌, ℕ, List, [], ◌++◌, Bool, Option, IsTrue, MatchResult}
 use Rattle.std.specs.Io.KnownBytes.{Appends}
 use Rattle.std.specs.declared.result.Result.{Result}
-use Rattle.dn_canon.specs.declared.sink.SinkFault.{SinkFault}
+use Rattle.dn_sink.specs.declared.sink.SinkFault.{SinkFault}
 
 -- of a whole text the sink took all but what is left, and a failed sink is still failed
 pub record HasPut {S : Type 0} (taken : S → Option (List ℕ)) (has_failed : S → Bool) (old new : S) (left all : List ℕ) : Type 0 where

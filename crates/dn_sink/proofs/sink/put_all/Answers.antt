@@ -1,7 +1,7 @@
 use Rattle.std.proofs.Common.{arith}
 use Rattle.std.proofs.lemmas.List.{length-drop}
-use Rattle.dn_canon.proofs.PutLaws.{put_part}
-use Rattle.dn_canon.proofs.sink.put_all.Goals as goal
+use Rattle.dn_sink.proofs.PutLaws.{put_part}
+use Rattle.dn_sink.proofs.sink.put_all.Goals as goal
 
 pub loop-at-preserved : goal.loop-at-preserved
 loop-at-preserved g c = record {

@@ -1,8 +1,8 @@
 // Where the bytes of a text go.
 ghost use Rattle.std.specs.Prelude.{ℕ, List, Bool, Option, IsTrue, IfOk, OnOk, OnErr};
 ghost use Rattle.std.specs.Io.KnownBytes.{Keeps};
-ghost use Rattle.dn_canon.specs.Sinks.{Took, Refused};
-ghost use Rattle.dn_canon.specs.Puts.{Puts};
+ghost use Rattle.dn_sink.specs.Sinks.{Took, Refused};
+ghost use Rattle.dn_sink.specs.Puts.{Puts};
 
 use thiserror::Error;
 
