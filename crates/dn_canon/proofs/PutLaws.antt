@@ -1,11 +1,9 @@
 -- How the rows of a text go into a sink one by one.
-use Rattle.std.proofs.Common.{◌≡◌, ℕ, ◌+◌, ◌-◌, ◌<◌, ◌≤◌, ℤ, List, [], ◌∷◌, ◌++◌, length, map, take, drop, Bool, Option, Some, None, Result, Ok, Err, IsErr, IsTrue, slice_get, suc, zero, refl, ap, sym, ◌∙◌, subst, arith, append_assoc, append-nil, take-append-drop}
+use Rattle.std.proofs.Common.{◌≡◌, ℕ, ◌+◌, ◌<◌, ◌≤◌, ℤ, List, [], ◌∷◌, ◌++◌, length, map, drop, Bool, Option, Some, None, slice_get, suc, zero, refl, ap, sym, ◌∙◌, subst, arith, append-nil}
 use Rattle.std.proofs.Math.Seq.{drop-cons}
-use Rattle.std.proofs.lemmas.List.{take_all, drop_all, length-drop, drop-drop, map-append}
+use Rattle.std.proofs.lemmas.List.{drop_all, map-append}
 use Rattle.std.proofs.lemmas.List.Folds.{concat-append}
 use Rattle.std.proofs.lemmas.Option.{slice_get_within, get_or_from_slice_get}
-use Rattle.std.proofs.lemmas.Result.{MatchResult-from_err}
-use Rattle.std.proofs.KnownBytes.{Appends-trans, Appends-nil}
 use Rattle.std.specs.Borrow.{Bor}
 use Rattle.std.specs.List.{concat}
 use Rattle.dn_line.specs.declared.kind.Kind.{Kind}
