@@ -7,8 +7,7 @@ use Rattle.dn_bundle.specs.Kinds.{ArcKind}
 use Rattle.dn_bundle.specs.declared.difference.How.{How}
 use Rattle.pair_index.specs.Pairs.{pair_cmp, same_pair}
 use Rattle.dn_table.specs.Pairs.{bundle}
-use Rattle.dn_table.specs.Tables.{told_at}
-use Rattle.dn_table.specs.Tables.{Tells}
+use Rattle.dn_table.specs.Tables.{told_at, Tells}
 use Rattle.pair_index.proofs.IndexLaws.{pair_total}
 use Rattle.dn_compare.specs.Walks.{first_key, value_at, after_key, lesser_key}
 use Rattle.dn_compare.specs.Partings.{by_meaning, IsParting, IsArcsParting}

@@ -8,8 +8,7 @@ use Rattle.dn_bundle.specs.Bundles.{IsKind, told_of}
 use Rattle.dn_bundle.specs.Laws.Orders.{same_push}
 use Rattle.pair_index.specs.Pairs.{same_pair}
 use Rattle.dn_table.specs.Pairs.{bundle}
-use Rattle.dn_table.specs.Tables.{told_at}
-use Rattle.dn_table.specs.Tables.{Grows, Tells, AreArcs, Stays}
+use Rattle.dn_table.specs.Tables.{told_at, Grows, Tells, AreArcs, Stays}
 use Rattle.pair_index.proofs.PairLaws.{pair_is, pair_self}
 use Rattle.dn_table.proofs.PairLaws.{other_pair}
 use Rattle.dn_instance.specs.TextFaults.{passes}

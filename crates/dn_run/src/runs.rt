@@ -31,7 +31,8 @@ pub fn run<F: Files, O: Sink, E: Sink>(
         → CanonRun (F.behind files.old name) (F.fault files.new) F.Text.has_failed F.Text.gives O.taken O.has_failed E.taken E.has_failed out.old out.new err.old err.new name result }
     ensures refused { (name : List ℕ) → asked (map string_bytes words.now) ≡ Some (Canon name)
         → result ≡ 2 → IfSome (F.behind files.old name) (λ b. (I : Instance) → Reads b I → IsTooLarge I) }
-    ensures flushed { (name : List ℕ) → asked (map string_bytes words.now) ≡ Some (Canon name) → result ≡ 0 → IsTrue (O.is_flushed out.new) }
+    ensures flushed { (name : List ℕ) → asked (map string_bytes words.now) ≡ Some (Canon name)
+        → result ≡ 0 → IsTrue (O.is_flushed out.new) }
     ensures never { (name : List ℕ) → asked (map string_bytes words.now) ≡ Some (Canon name) → (result ≢ 1) × (result ≢ 3) }
     ensures other { asked (map string_bytes words.now) ≡ None → (result ≡ 3) × (files.new ≡ files.old) × TakesLine E.taken E.has_failed err.old err.new bad_command_line }
 {

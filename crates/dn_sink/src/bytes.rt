@@ -66,7 +66,8 @@ impl Sink for Bytes {
         ensures stays { IsTrue self.old.failed → IsTrue self.new.failed }
         ensures whole { IfOk result (λ n. (n ≡ length piece.now) × (self.new.failed ≡ false)) }
         ensures again { IsTrue self.old.failed → IsErr result }
-        ensures memory { OnErr result (self.old.failed ≡ false → self.old.capacity < length self.old.bytes + length piece.now) }
+        ensures memory { OnErr result (self.old.failed ≡ false
+            → self.old.capacity < length self.old.bytes + length piece.now) }
     {
         if self.failed {
             return Err(SinkFault);

@@ -18,8 +18,7 @@ use Rattle.dn_bundle.specs.declared.arc.Form.TheVariants.{One}
 use Rattle.dn_table.specs.GraphEntries.{graph_entries}
 use Rattle.pair_index.specs.Pairs.{same_pair}
 use Rattle.dn_table.specs.Pairs.{bundle}
-use Rattle.dn_table.specs.Tables.{told_at}
-use Rattle.dn_table.specs.Tables.{Tells, AreArcs}
+use Rattle.dn_table.specs.Tables.{told_at, Tells, AreArcs}
 use Rattle.pair_index.proofs.PairLaws.{pair_is, pair_self}
 use Rattle.dn_table.proofs.PairLaws.{other_pair}
 

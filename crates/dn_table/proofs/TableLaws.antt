@@ -8,8 +8,7 @@ use Rattle.dn_bundle.specs.declared.bundle.BundleFault.{BundleFault}
 use Rattle.dn_bundle.specs.declared.bundle.BundleFault.TheVariants.{Sum, Memory}
 use Rattle.pair_index.specs.Pairs.{same_pair}
 use Rattle.dn_bundle.specs.Bundles.{told_of}
-use Rattle.dn_table.specs.Tables.{told_at}
-use Rattle.dn_table.specs.Tables.{Grows}
+use Rattle.dn_table.specs.Tables.{told_at, Grows}
 
 module _ {B Arc : Type 0} (kind : ArcKind Arc) (tells : B → List Arc) (m n : List ((ℤ × ℤ) × B)) (pair : ℤ × ℤ) (arc : Arc) where
   -- the bundle of the pair has taken the arc

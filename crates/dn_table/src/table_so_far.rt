@@ -6,9 +6,8 @@ ghost use Rattle.std.specs.Map.{keys_of, lookup};
 ghost use Rattle.pair_index.specs.Places.{IsPlace};
 ghost use Rattle.dn_bundle.specs.declared.arc.Form.{Form};
 ghost use Rattle.pair_index.specs.Pairs.{pair_cmp, same_pair};
-ghost use Rattle.dn_table.specs.Tables.{told_at};
+ghost use Rattle.dn_table.specs.Tables.{told_at, AreArcs, Grows, Tells};
 ghost use Rattle.dn_table.specs.GraphEntries.{graph_entries};
-ghost use Rattle.dn_table.specs.Tables.{AreArcs, Grows, Tells};
 
 use crate::entry_sum::bundle_entries;
 use crate::table::Table;
