@@ -1,19 +1,66 @@
--- A bundle of lengths means what no arcs mean exactly where it has no least length.
-use Rattle.std.specs.Prelude.{◌≡◌, ◌↔◌, ℤ, Bool, true, false, not, List, [], Option, Some, None, refl, MatchOption, IsTrue}
-use Rattle.std.specs.Option.{is_some}
-use Rattle.dn_bundle.specs.declared.difference.How.{How}
+-- A bundle that stands for the first arcs of a list takes the next one: it stands for one more, and either the
+-- capacities so far sum to at most 2^63-1 or those of all arcs sum past it.
+use Rattle.std.proofs.Common.{◌≡◌, ℕ, ◌+◌, ◌<◌, ◌-◌, ◌^◌, pos, ◌≤ℤ◌, ◌<ℤ◌, List, [], ◌∷◌, ◌++◌, length, take, drop, get_or, sym, ap, ◌∙◌, subst, arith, suc, zero}
+use Rattle.std.proofs.Math.Seq.{take-suc}
+use Rattle.std.proofs.lemmas.List.{take-append-drop}
+use Rattle.std.proofs.lemmas.Int.{ints, by_lt_z}
+use Rattle.std.specs.List.{AllByRecursion}
 use Rattle.dn_bundle.specs.Kinds.{ArcKind}
 use Rattle.dn_bundle.specs.Bundles.{IsKind}
-use Rattle.dn_bundle.specs.Lengths.{LeastLength}
-use Rattle.dn_bundle.specs.Meanings.{SameLength}
-use Rattle.dn_bundle.specs.LeastTold.{length_told}
-use Rattle.dn_bundle.specs.Laws.Lengths.{length_meaning, first_length}
+use Rattle.dn_bundle.specs.Laws.Orders.{same_push}
 
--- a least length is nothing where there is none
-pub length_nothing : (o length : Option ℤ) (none : Bool) → MatchOption length (length_told o ≡ []) (LeastLength (length_told o)) → is_some length ≡ not none → IsTrue none ↔ SameLength (length_told o) []
-length_nothing None None true m h = ((λ t. length_meaning.same_refl []), (λ s. refl))
-length_nothing None None false m h = cc
-length_nothing None (Some w) none m h = absurd m.has
-length_nothing (Some w) None none m h = cc
-length_nothing (Some w) (Some l) true m h = cc
-length_nothing (Some w) (Some l) false m h = ((λ t. cc), (λ s. absurd (first_length (record { length = w }) [] s)))
+-- what holds of each element
+all_take : {A : Type 0} (P : A → Type 0) (xs : List A) (n : ℕ) → AllByRecursion P xs → AllByRecursion P (take n xs)
+all_take P [] zero h = tt
+all_take P [] (suc n) h = tt
+all_take P (x ∷ xs) zero h = tt
+all_take P (x ∷ xs) (suc n) h = (h.0, all_take P xs n h.1)
+
+all_drop : {A : Type 0} (P : A → Type 0) (xs : List A) (n : ℕ) → AllByRecursion P xs → AllByRecursion P (drop n xs)
+all_drop P [] zero h = tt
+all_drop P [] (suc n) h = tt
+all_drop P (x ∷ xs) zero h = h
+all_drop P (x ∷ xs) (suc n) h = all_drop P xs n h.1
+
+all_end : {A : Type 0} (P : A → Type 0) (xs : List A) (x : A) → AllByRecursion P xs → P x → AllByRecursion P (xs ++ x ∷ [])
+all_end P [] x h p = (p, tt)
+all_end P (y ∷ xs) x h p = (h.0, all_end P xs x h.1 p)
+
+all_get : {A : Type 0} (P : A → Type 0) (xs : List A) (i : ℕ) (d : A) → i < length xs → AllByRecursion P xs → P (get_or xs i d)
+all_get P [] i d h a = absurd (omega arith)
+all_get P (x ∷ xs) zero d h a = a.0
+all_get P (x ∷ xs) (suc i) d h a = all_get P xs i d (omega arith) a.1
+
+module _ {Arc : Type 0} (kind : ArcKind Arc) (laws : IsKind kind) where
+  pub none_cap : kind.capacity [] ≤ℤ pos (2 ^ 63 - 1)
+  none_cap = let e = laws.capacity_append [] [] in omega (arith, ints)
+
+  -- the arcs from the front on have no more capacity than all
+  taken_cap : (arcs : List Arc) (n : ℕ) → AllByRecursion kind.IsArc arcs → kind.capacity (take n arcs) ≤ℤ kind.capacity arcs
+  taken_cap arcs n a =
+      let e = sym (laws.capacity_append (take n arcs) (drop n arcs)) ∙ ap kind.capacity (take-append-drop n arcs) in
+      let s = laws.capacity_some (drop n arcs) (all_drop kind.IsArc arcs n a) in
+      omega (arith, ints)
+
+  -- a bundle that stands for the arcs so far, and the next arc
+  module _ (arcs told : List Arc) (i : ℕ) (arc : Arc) (a : AllByRecursion kind.IsArc arcs) (h : i < length arcs) (is : arc ≡ get_or arcs i arc) (told_arcs : AllByRecursion kind.IsArc told) (same : kind.Same told (take i arcs)) where
+    next_is : take (i + 1) arcs ≡ take i arcs ++ arc ∷ []
+    next_is = ap (λ n. take n arcs) (let e : i + 1 ≡ suc i = omega arith in e) ∙ take-suc arcs i arc h ∙ ap (λ x. take i arcs ++ x ∷ []) (sym is)
+
+    is_arc : kind.IsArc arc
+    is_arc = subst kind.IsArc (sym is) (all_get kind.IsArc arcs i arc h a)
+
+    both_same : kind.Same (told ++ arc ∷ []) (take (i + 1) arcs)
+    both_same = subst (kind.Same (told ++ arc ∷ [])) (sym next_is) (same_push kind.Same laws.meaning told (take i arcs) arc same)
+
+    pub next_same : (new : List Arc) → kind.Same new (told ++ arc ∷ []) → kind.Same new (take (i + 1) arcs)
+    next_same new s = laws.meaning.same_trans _ _ _ s both_same
+
+    next_cap : kind.capacity (told ++ arc ∷ []) ≡ kind.capacity (take (i + 1) arcs)
+    next_cap = laws.same_capacity _ _ (all_end kind.IsArc told arc told_arcs is_arc) (all_take kind.IsArc arcs (i + 1) a) both_same
+
+    pub next_fits : (pos (2 ^ 63 - 1) <ℤ kind.capacity (told ++ arc ∷ []) → ⊥) → kind.capacity (take (i + 1) arcs) ≤ℤ pos (2 ^ 63 - 1)
+    next_fits n = by_lt_z (pos (2 ^ 63 - 1)) (kind.capacity (take (i + 1) arcs)) (λ lt. absurd (n (subst (λ z. pos (2 ^ 63 - 1) <ℤ z) (sym next_cap) lt))) (λ le. le)
+
+    pub too_much : pos (2 ^ 63 - 1) <ℤ kind.capacity (told ++ arc ∷ []) → pos (2 ^ 63 - 1) <ℤ kind.capacity arcs
+    too_much m = let e = next_cap in let t = taken_cap arcs (i + 1) a in omega (arith, ints)

@@ -11,11 +11,10 @@ use Rattle.dn_bundle.specs.declared.arc.CostArc.{CostArc}
 use Rattle.dn_bundle.specs.declared.arc.Form.TheVariants.{One}
 use Rattle.dn_bundle.specs.Meanings.{SameCurve}
 use Rattle.dn_bundle.specs.Canonical.{IsFixedArc, has_low}
-use Rattle.dn_bundle.specs.Entries.{cost_entries}
-use Rattle.dn_bundle.specs.Fillings.{free_costs, room}
+use Rattle.dn_bundle.specs.Entries.{cost_entries, free_costs}
+use Rattle.dn_bundle.specs.Fillings.{room}
 use Rattle.dn_bundle.specs.Steps.{put_step, AreSteps, steps_room}
-use Rattle.dn_bundle.specs.CurveTold.{step_arc, spread_arcs, fixed_arcs, told, IsSound}
-use Rattle.dn_bundle.specs.FixedArcs.{is_free}
+use Rattle.dn_bundle.specs.CurveTold.{step_arc, spread_arcs, fixed_arcs, told, IsSound, is_free}
 use Rattle.dn_bundle.specs.Laws.Curves.{curve_meaning, cost_cap_same}
 use Rattle.dn_bundle.specs.Laws.Parts.{by_test, test_yes, test_no}
 use Rattle.dn_bundle.specs.Laws.StepArcs.{steps_some}

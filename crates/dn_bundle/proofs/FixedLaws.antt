@@ -1,8 +1,9 @@
 -- The fixed arcs that the code makes of the quotient and the remainder of the forced cost are those of the definition.
-use Rattle.std.proofs.Common.{◌≡◌, ◌-◌, ◌^◌, ℤ, pos, negsuc, ◌+ℤ◌, ◌-ℤ◌, ◌≤ℤ◌, ◌<ℤ◌, [], ◌∷◌, refl, sym, ap, ◌∙◌, arith, w64, to_z, of_z, cond}
+use Rattle.std.proofs.Common.{◌≡◌, ℤ, pos, negsuc, ◌+ℤ◌, ◌-ℤ◌, ◌≤ℤ◌, ◌<ℤ◌, [], ◌∷◌, refl, sym, ap, ◌∙◌, arith, w64, to_z, of_z, cond}
 use Rattle.std.specs.Int.RustNames.{FitsSigned}
 use Rattle.std.proofs.lemmas.Int.{ints, to_z-of_z}
 use Rattle.dn_bundle.specs.Means.{IsFloor}
+use Rattle.dn_bundle.specs.Laws.Means.{fits_some}
 use Rattle.dn_bundle.specs.CurveTold.{fixed_arc, spread_arcs, fixed_arcs}
 use Rattle.dn_bundle.specs.Laws.FormOne.{fixed_same}
 use Rattle.dn_bundle.specs.Laws.Parts.{test_yes, test_no}
@@ -23,11 +24,7 @@ pub is_zero : (z : ℤ) → FitsSigned w64 z → of_z w64 z ≡ 0 → z ≡ pos 
 is_zero z f h = sym (to_z-of_z w64 z f) ∙ ap (to_z w64) h
 
 fits_less : (units rest : ℤ) → FitsSigned w64 units → pos 0 ≤ℤ rest → rest <ℤ units → FitsSigned w64 (units -ℤ rest)
-fits_less (pos u) (pos r) f h g = fits_pos ((pos u) -ℤ (pos r)) (omega (arith, ints)) (omega (arith, ints, f.sfits))
-  where
-    fits_pos : (z : ℤ) → pos 0 ≤ℤ z → z ≤ℤ pos (2 ^ 63 - 1) → FitsSigned w64 z
-    fits_pos (pos n) h k = record { sfits = omega (arith, ints) }
-    fits_pos (negsuc n) h k = absurd (omega (arith, ints))
+fits_less (pos u) (pos r) f h g = fits_some ((pos u) -ℤ (pos r)) (omega (arith, ints)) (omega (arith, ints, f.sfits))
 fits_less (negsuc u) rest f h g = absurd (omega (arith, ints))
 fits_less (pos u) (negsuc r) f h g = absurd (omega (arith, ints))
 

@@ -12,7 +12,7 @@ use Rattle.dn_bundle.specs.Steps.{AreSteps, steps_room}
 use Rattle.dn_bundle.specs.Gaps.{gap_next, parted, first_gap, ArePart, AreWalks}
 use Rattle.dn_bundle.specs.Laws.Means.{more_mean, fits_some}
 use Rattle.dn_bundle.specs.Laws.StepArcs.{steps_some}
-use Rattle.dn_bundle.proofs.WideLaws.{more_fits}
+use Rattle.dn_bundle.proofs.Cost128Laws.{more_fits}
 
 -- an amount with the capacity of a step, as the code computes it
 pub sum_is : (amount more : ℤ) → pos 0 ≤ℤ amount → pos 1 ≤ℤ more → (amount +ℤ more) ≤ℤ pos (2 ^ 63 - 1) → to_z w64 (of_z w64 (to_z w64 (of_z w64 amount) +ℤ to_z w64 (of_z w64 more))) ≡ amount +ℤ more

@@ -23,7 +23,7 @@ use Rattle.dn_bundle.specs.Laws.Means.{more_mean, fits_some}
 use Rattle.dn_bundle.specs.Laws.StepArcs.{steps_some, put_steps, put_room, put_above}
 use Rattle.dn_bundle.specs.Laws.CostKind.{cost_kind}
 use Rattle.dn_bundle.specs.Laws.Sound.{IsSound-prop, none_is, sound_cap, told_added}
-use Rattle.dn_bundle.proofs.WideLaws.{more_fits}
+use Rattle.dn_bundle.proofs.Cost128Laws.{more_fits}
 
 pub most : (z : ℤ) → FitsSigned w64 z → z ≤ℤ pos (2 ^ 63 - 1)
 most (pos n) f = omega (arith, ints, f.sfits)

@@ -1,7 +1,7 @@
 pub mod ExampleLaws
-pub mod BundleLaws
+pub mod LeastLaws
 pub mod StepLaws
-pub mod WideLaws
+pub mod Cost128Laws
 pub mod GrowLaws
 pub mod FixedLaws
 pub mod CurveLaws
@@ -10,5 +10,5 @@ pub mod FormLaws
 pub mod LenLaws
 pub mod GapLaws
 pub mod PartLaws
-pub mod FoldLaws
+pub mod BundleLaws
 pub mod SomeDifference

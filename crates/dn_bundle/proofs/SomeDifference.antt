@@ -1,5 +1,5 @@
 -- Arcs that do not mean the same have a first difference.
-use Rattle.std.proofs.Common.{◌≡◌, ◌≢◌, ◌⊎◌, inl, inr, ℕ, suc, zero, ℤ, pos, negsuc, ◌+ℤ◌, ◌≤ℤ◌, ◌<ℤ◌, ◌↔◌, List, [], ◌∷◌, Option, Some, None, refl, sym, ap, ◌∙◌, subst, arith}
+use Rattle.std.proofs.Common.{◌≡◌, ◌≢◌, ◌⊎◌, inl, inr, ℕ, suc, zero, ℤ, pos, negsuc, ◌+ℤ◌, ◌≤ℤ◌, ◌<ℤ◌, ◌↔◌, List, [], ◌∷◌, Option, Some, None, refl, sym, ap, subst, arith}
 use Rattle.std.specs.List.{AllByRecursion}
 use Rattle.std.proofs.lemmas.Int.{ints, by_lt_z}
 use Rattle.dn_bundle.specs.declared.arc.LengthArc.{LengthArc}
@@ -8,7 +8,6 @@ use Rattle.dn_bundle.specs.declared.arc.CostArc.{CostArc}
 use Rattle.dn_bundle.specs.declared.difference.Gap.{Gap}
 use Rattle.dn_bundle.specs.declared.difference.How.{How}
 use Rattle.dn_bundle.specs.declared.difference.How.TheVariants.{Lengths, Totals, Costs}
-use Rattle.dn_bundle.specs.Kinds.{costs}
 use Rattle.dn_bundle.specs.Capacities.{total_cap}
 use Rattle.dn_bundle.specs.Lengths.{LeastLength}
 use Rattle.dn_bundle.specs.Splits.{LeastCost, cost_cap}

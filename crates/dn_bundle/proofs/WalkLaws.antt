@@ -17,7 +17,7 @@ use Rattle.dn_bundle.specs.Laws.StepArcs.{free_arcs, steps_some, steps_free_room
 use Rattle.dn_bundle.specs.Laws.Told.{told_one, told_units, told_cost, told_apart}
 use Rattle.dn_bundle.specs.Laws.Sound.{none_is}
 use Rattle.dn_bundle.specs.Laws.Means.{more_mean, fits_some}
-use Rattle.dn_bundle.proofs.WideLaws.{more_fits}
+use Rattle.dn_bundle.proofs.Cost128Laws.{more_fits}
 use Rattle.dn_bundle.proofs.GrowLaws.{most}
 
 -- what y units cost that are filled into steps

@@ -25,19 +25,23 @@ pub record IsKind {Arc : Type 0} (kind : ArcKind Arc) : Type 0 where
   -- canonical arcs that mean what no arcs mean are none
   pub nothing_told : (form : Form) (xs : List Arc) → kind.IsCanon form xs → kind.Same xs [] → xs ≡ []
   -- the capacity follows from the meaning
-  pub same_capacity : (xs ys : List Arc) → AllByRecursion kind.IsArc xs → AllByRecursion kind.IsArc ys → kind.Same xs ys → kind.capacity xs ≡ kind.capacity ys
+  pub same_capacity : (xs ys : List Arc) → AllByRecursion kind.IsArc xs → AllByRecursion kind.IsArc ys → kind.Same xs ys
+      → kind.capacity xs ≡ kind.capacity ys
   -- so does the number of entries
-  pub same_entries : (xs ys : List Arc) → AllByRecursion kind.IsArc xs → AllByRecursion kind.IsArc ys → kind.Same xs ys → kind.entries xs ≡ kind.entries ys
+  pub same_entries : (xs ys : List Arc) → AllByRecursion kind.IsArc xs → AllByRecursion kind.IsArc ys → kind.Same xs ys
+      → kind.entries xs ≡ kind.entries ys
   -- arcs of one meaning have no difference
   pub none_differ : (xs ys : List Arc) (how : How) → kind.Differ xs ys how → kind.Same xs ys → ⊥
   -- arcs have at most one first difference
   pub one_differ : (xs ys : List Arc) (how other : How) → kind.Differ xs ys how → kind.Differ xs ys other → how ≡ other
   -- it follows from the meanings
-  pub same_differ : (xs xs' ys ys' : List Arc) (how : How) → kind.Same xs xs' → kind.Same ys ys' → kind.Differ xs ys how → kind.Differ xs' ys' how
+  pub same_differ : (xs xs' ys ys' : List Arc) (how : How) → kind.Same xs xs' → kind.Same ys ys' → kind.Differ xs ys how
+      → kind.Differ xs' ys' how
 
 -- canonical arcs of one form that mean the same are the same
 abbrev pub IsDetermined : {Arc : Type 0} → ArcKind Arc → Type 0
-IsDetermined kind = (form : Form) (xs ys : List _) → kind.IsCanon form xs → kind.IsCanon form ys → kind.Same xs ys → xs ≡ ys
+IsDetermined kind =
+    (form : Form) (xs ys : List _) → kind.IsCanon form xs → kind.IsCanon form ys → kind.Same xs ys → xs ≡ ys
 
 -- each number of each arc has 64 bits
 abbrev pub NumbersFit : {Arc : Type 0} → ArcKind Arc → List Arc → Type 0

@@ -1,5 +1,5 @@
 -- How many entries the arcs of one ordered pair come to: what has to be kept of them (this project's profile).
-use Rattle.std.specs.Prelude.{ℕ, ◌+◌, pos, List, [], ◌∷◌, length, Bool, cond, filter, map, int_lt}
+use Rattle.std.specs.Prelude.{ℕ, ◌+◌, ℤ, pos, List, [], ◌∷◌, length, Bool, cond, filter, map, int_lt}
 use Rattle.std.specs.List.{list_any}
 use Rattle.std.specs.Ordering.{int_eq}
 use Rattle.dn_bundle.specs.Capacities.{total_cap}
@@ -22,9 +22,14 @@ length_entries (a ∷ rest) = 1
 abbrev pub cap_entries : List CapArc → ℕ
 cap_entries arcs = cond (int_lt (pos 0) (total_cap arcs)) 1 0
 
+-- an arc with free capacity: its CAP is above its LOW
 abbrev pub has_room : CostArc → Bool
 has_room a = int_lt a.low a.cap
 
--- `min`: one, if a LOW is above 0, and one for each COST with an arc whose CAP is above its LOW
+-- the costs at which there is free capacity, each once
+abbrev pub free_costs : List CostArc → List ℤ
+free_costs arcs = distinct int_eq (map (λ (a : CostArc). a.cost) (filter has_room arcs))
+
+-- `min`: one, if a LOW is above 0, and one for each cost at which there is free capacity
 abbrev pub cost_entries : List CostArc → ℕ
-cost_entries arcs = cond (list_any has_low arcs) 1 0 + length (distinct int_eq (map (λ (a : CostArc). a.cost) (filter has_room arcs)))
+cost_entries arcs = cond (list_any has_low arcs) 1 0 + length (free_costs arcs)

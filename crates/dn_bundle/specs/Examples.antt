@@ -12,15 +12,19 @@ worked = arc (pos 1) (pos 3) (pos 0) ∷ arc (pos 1) (pos 2) (pos 3) ∷ arc (po
 
 -- its canonical arcs in form 1
 abbrev pub worked_one : List CostArc
-worked_one = arc (pos 1) (pos 1) (pos 1) ∷ arc (pos 1) (pos 1) (pos 2) ∷ arc (pos 0) (pos 2) (pos 0) ∷ arc (pos 0) (pos 4) (pos 1) ∷ arc (pos 0) (pos 1) (pos 3) ∷ []
+worked_one =
+    arc (pos 1) (pos 1) (pos 1) ∷ arc (pos 1) (pos 1) (pos 2) ∷ arc (pos 0) (pos 2) (pos 0)
+    ∷ arc (pos 0) (pos 4) (pos 1) ∷ arc (pos 0) (pos 1) (pos 3) ∷ []
 
 -- its canonical arcs in form 2
 abbrev pub worked_two : List CostArc
-worked_two = arc (pos 0) (pos 2) (pos 0) ∷ arc (pos 1) (pos 5) (pos 1) ∷ arc (pos 1) (pos 1) (pos 2) ∷ arc (pos 0) (pos 1) (pos 3) ∷ []
+worked_two =
+    arc (pos 0) (pos 2) (pos 0) ∷ arc (pos 1) (pos 5) (pos 1) ∷ arc (pos 1) (pos 1) (pos 2)
+    ∷ arc (pos 0) (pos 1) (pos 3) ∷ []
 
 -- arcs that are canonical in form 2 alone
-abbrev pub mixed : List CostArc
-mixed = arc (pos 1) (pos 2) (pos 0) ∷ arc (pos 1) (pos 3) (pos 1) ∷ []
+abbrev pub canon_in_two_alone : List CostArc
+canon_in_two_alone = arc (pos 1) (pos 2) (pos 0) ∷ arc (pos 1) (pos 3) (pos 1) ∷ []
 
 -- arcs whose LOWs stand at costs too far apart for either form
 abbrev pub apart : List CostArc

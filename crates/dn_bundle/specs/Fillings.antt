@@ -1,8 +1,6 @@
 -- What an amount costs that is filled into arcs: forced units first, the rest by the order of the arcs.
-use Rattle.std.specs.Prelude.{◌≡◌, ℤ, pos, ◌+ℤ◌, ◌-ℤ◌, ◌*ℤ◌, ◌≤ℤ◌, List, [], ◌∷◌, cond, int_lt, filter, map}
-use Rattle.std.specs.Ordering.{int_eq}
+use Rattle.std.specs.Prelude.{◌≡◌, ℤ, pos, ◌+ℤ◌, ◌-ℤ◌, ◌*ℤ◌, ◌≤ℤ◌, List, [], ◌∷◌, cond, int_lt}
 use Rattle.dn_bundle.specs.declared.arc.CostArc.{CostArc}
-use Rattle.dn_bundle.specs.Entries.{distinct, has_room}
 
 -- L: the sum of the LOWs
 abbrev pub forced_units : List CostArc → ℤ
@@ -22,10 +20,6 @@ room a = a.cap -ℤ a.low
 abbrev pub free_room : List CostArc → ℤ
 free_room [] = pos 0
 free_room (a ∷ rest) = room a +ℤ free_room rest
-
--- the costs at which there is free capacity, each once
-abbrev pub free_costs : List CostArc → List ℤ
-free_costs arcs = distinct int_eq (map (λ (a : CostArc). a.cost) (filter has_room arcs))
 
 -- what y units cost that are filled into the free capacities in the order of the arcs
 abbrev pub fill_cost : List CostArc → ℤ → ℤ

@@ -22,7 +22,8 @@ gap_next amount cost left right = record {
 abbrev pub parted : ℤ → ℤ → ℤ × ℤ → ℤ × ℤ → Option (ℤ × ℤ) → Option (ℤ × ℤ) → Gap
 parted amount cost l r left right =
     cond (int_eq l.0 r.0)
-    (cond (int_lt l.1 r.1) (gap_next (amount +ℤ l.1) (cost +ℤ (l.1 *ℤ l.0)) left (Some r)) (gap_next (amount +ℤ r.1) (cost +ℤ (r.1 *ℤ r.0)) (Some l) right))
+    (cond (int_lt l.1 r.1) (gap_next (amount +ℤ l.1) (cost +ℤ (l.1 *ℤ l.0)) left (Some r))
+    (gap_next (amount +ℤ r.1) (cost +ℤ (r.1 *ℤ r.0)) (Some l) right))
     (gap_next amount cost (Some l) (Some r))
 
 -- the first gap, by the first steps that are not the same

@@ -33,7 +33,7 @@ pub record ArcKind (Arc : Type 0) : Type 1 where
   pub Differ : List Arc → List Arc → How → Type 0
 
 -- canonical arcs of one pair, in form 1, that stand for these arcs
-pub record StandsFor {Arc : Type 0} (kind : ArcKind Arc) (told arcs : List Arc) : Type 0 where
+pub record AreCanonArcsOf {Arc : Type 0} (kind : ArcKind Arc) (told arcs : List Arc) : Type 0 where
   pub canonical : kind.IsCanon One told
   pub same : kind.Same told arcs
 

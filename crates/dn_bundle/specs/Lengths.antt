@@ -1,6 +1,6 @@
 -- What parallel arcs of an `sp` graph mean: their least length (Ninth DIMACS Challenge, shortest-path formats; that
 -- parallel arcs mean the shortest is this project's profile).
-use Rattle.std.specs.Prelude.{◌≡◌, ℤ, ◌≤ℤ◌, List, [], ◌∷◌, ◌⊎◌}
+use Rattle.std.specs.Prelude.{◌≡◌, ℤ, ◌≤ℤ◌, List, [], ◌∷◌, ◌⊎◌, Option, Some, None}
 use Rattle.std.specs.List.{AllByRecursion}
 use Rattle.dn_bundle.specs.declared.arc.LengthArc.{LengthArc}
 
@@ -13,3 +13,8 @@ HasLength (a ∷ rest) w = (a.length ≡ w) ⊎ HasLength rest w
 pub record LeastLength (arcs : List LengthArc) (w : ℤ) : Type 0 where
   pub has : HasLength arcs w
   pub least : AllByRecursion (λ (a : LengthArc). w ≤ℤ a.length) arcs
+
+-- an arc of the least length, or none
+abbrev pub length_told : Option ℤ → List LengthArc
+length_told None = []
+length_told (Some w) = record { length = w } ∷ []

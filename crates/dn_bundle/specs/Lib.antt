@@ -9,11 +9,9 @@ pub mod Kinds
 pub mod Fillings
 pub mod Examples
 pub mod Bundles
-pub mod LeastTold
-pub mod TotalTold
 pub mod Steps
 pub mod Means
 pub mod CurveTold
-pub mod FixedArcs
+pub mod Tellings
 pub mod Gaps
 pub mod Laws

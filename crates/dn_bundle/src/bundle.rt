@@ -1,5 +1,6 @@
 // What the parallel arcs of one ordered pair of nodes mean.
-ghost use Rattle.std.specs.Prelude.{◌≡◌, ℕ, ◌+◌, ◌-◌, ◌^◌, ℤ, pos, ◌<ℤ◌, ◌↔◌, Bool, List, [], ◌∷◌, ◌++◌, length, IsTrue, OnOk, OnErr, MatchOption, slice_get};
+ghost use Rattle.std.specs.Prelude.{◌≡◌, ℕ, ◌+◌, ◌-◌, ◌^◌, ℤ, pos, ◌≤ℤ◌, ◌<ℤ◌, ◌↔◌, Bool, List, [], ◌∷◌, ◌++◌, length, IsTrue, IfOk, OnOk, OnErr, MatchOption, slice_get};
+ghost use Rattle.std.specs.List.{AllByRecursion};
 ghost use Rattle.std.specs.Option.{option_copied};
 ghost use Rattle.dn_bundle.specs.Kinds.{ArcKind};
 ghost use Rattle.dn_bundle.specs.Bundles.{IsKind, NumbersFit, told_of};
@@ -65,8 +66,10 @@ pub trait Bundle: Sized + Drop {
     /// Where they first differ, if they do. `None` is the bundle of no arcs.
     fn how(left: Option<&Self>, right: Option<&Self>) -> Option<How>
         ensures answer { MatchOption result
-            (kind.Same (told_of (told Form.One) (option_copied left.entry)) (told_of (told Form.One) (option_copied right.entry)))
-            (kind.Differ (told_of (told Form.One) (option_copied left.entry)) (told_of (told Form.One) (option_copied right.entry))) };
+            (kind.Same (told_of (told Form.One) (option_copied left.entry))
+            (told_of (told Form.One) (option_copied right.entry)))
+            (kind.Differ (told_of (told Form.One) (option_copied left.entry))
+            (told_of (told Form.One) (option_copied right.entry))) };
 
     /// How many entries it comes to.
     fn entries(&self) -> u64
@@ -99,4 +102,21 @@ pub trait Bundle: Sized + Drop {
 
     /// An arc's numbers are those of its line.
     ghost same_numbers: { (a : Self.Arc) → kind.numbers a ≡ Self.Arc.numbers a };
+}
+
+/// The bundle that stands for these arcs, or `Sum` where their capacities sum past 2^63-1.
+pub fn bundle_of<B: Bundle>(alloc: Global, arcs: &[B::Arc]) -> Result<B, BundleFault>
+    requires { AllByRecursion B.kind.IsArc arcs.now }
+    ensures ok { IfOk result (λ b. B.kind.Same (B.told Form.One b) arcs.now) }
+    ensures fits { IfOk result (λ b. B.kind.capacity arcs.now ≤ℤ pos (2 ^ 63 - 1)) }
+    ensures sum { (result ≡ Err BundleFault.Sum) → pos (2 ^ 63 - 1) <ℤ B.kind.capacity arcs.now }
+    ensures memory { (result ≡ Err BundleFault.Memory) → IsTrue B.wants_memory }
+{
+    let mut bundle = B::empty(alloc);
+    for arc in arcs {
+        if let Err(fault) = bundle.add(*arc) {
+            return Err(fault);
+        }
+    }
+    Ok(bundle)
 }

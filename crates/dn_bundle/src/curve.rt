@@ -1,15 +1,13 @@
 // The least cost of each amount.
-ghost use Rattle.std.specs.Prelude.{◌≡◌, ◌-◌, ◌^◌, ℤ, pos, ◌+ℤ◌, ◌≤ℤ◌, ◌<ℤ◌, List, [], ◌∷◌, ◌++◌, length, map, filter, slice_get, OnOk, OnErr, IfErr, MatchOption, refl, ℕ, ◌+◌, Some, find, cond, int_lt, FitsSigned, true};
-ghost use Rattle.std.specs.Option.{option_map, ForSome};
-ghost use Rattle.std.specs.Int.{w64};
-ghost use Rattle.dn_bundle.specs.Steps.{has_step};
+ghost use Rattle.std.specs.Prelude.{◌≡◌, ◌+ℤ◌, [], ◌∷◌, ◌++◌, length, filter, slice_get, OnOk, OnErr, IfErr, MatchOption, refl, true};
+ghost use Rattle.std.specs.Option.{option_map};
 ghost use Rattle.dn_bundle.specs.Kinds.{costs};
 ghost use Rattle.dn_bundle.specs.Meanings.{SameCurve};
 ghost use Rattle.dn_bundle.specs.Canonical.{IsCostArc, has_low};
-ghost use Rattle.dn_bundle.specs.Fillings.{forced_units, forced_cost, free_costs};
+ghost use Rattle.dn_bundle.specs.Fillings.{forced_units, forced_cost};
+ghost use Rattle.dn_bundle.specs.Entries.{free_costs};
 ghost use Rattle.dn_bundle.specs.Differences.{IsCostOf, IsGap};
-ghost use Rattle.dn_bundle.specs.CurveTold.{told, fixed_arc, fixed_arcs, step_arc, joined_head, IsSound};
-ghost use Rattle.dn_bundle.specs.FixedArcs.{fixed_list, HasNext, is_free};
+ghost use Rattle.dn_bundle.specs.CurveTold.{told, fixed_arcs, step_arc, IsSound, fixed_list, HasNext, is_free};
 ghost use Rattle.dn_bundle.specs.Laws.Sound.{IsSound-prop, sound_canonical, sound_same, sound_fit};
 ghost use Rattle.dn_bundle.specs.Laws.CostKind.{cost_kind};
 ghost use Rattle.dn_bundle.specs.declared.arc.Form.{Form};
@@ -17,11 +15,12 @@ ghost use Rattle.dn_bundle.specs.declared.difference.How.TheVariants.{Costs};
 
 use crate::arc::{CostArc, Form};
 use crate::bundle::{Bundle, BundleFault};
-use crate::difference::{Gap, How};
-use crate::gap::first_gap;
+use crate::cost128::{floor, more_cost};
+use crate::difference::{Gap, How, first_gap};
 use crate::steps::Steps;
-use crate::wide::{floor, more_cost};
 use std::alloc::Global;
+
+mod canon_arcs;
 
 /// The fixed arcs of a curve: `above` units cost one more than `cost`.
 #[derive(Clone, Copy, Debug, PartialEq, Eq)]
@@ -70,7 +69,8 @@ impl Curve {
 
     /// The free arc at `i` by rising cost, counted from 0: its cost, and its capacity.
     pub fn free(&self, i: u64) -> Option<(i64, i64)>
-        ensures { option_map step_arc result ≡ slice_get (filter is_free (⟦<Curve as Bundle>⟧.told Form.One self.now)) i }
+        ensures { option_map step_arc result
+            ≡ slice_get (filter is_free (⟦<Curve as Bundle>⟧.told Form.One self.now)) i }
     {
         self.steps.get(i)
     }
@@ -124,8 +124,8 @@ impl Curve {
         }
     }
 
-    // Where the curve and that of no arcs, on the right, first differ. Told apart from `gap`, since the curve of no arcs
-    // would want an allocator.
+    // Where the curve and that of no arcs, on the right, first differ. Told apart from `gap`, since the curve of no
+    // arcs would want an allocator.
     fn gap_to_none(&self) -> Option<Gap>
         ensures { MatchOption result
             (SameCurve (told Form.One self.now.units self.now.cost self.now.steps) [])
@@ -187,7 +187,8 @@ impl Curve {
     fn grow(&mut self, arc: CostArc, total: i64) -> Result<(), BundleFault>
         requires arc { IsCostArc arc }
         requires total { total ≡ self.old.total +ℤ arc.cap }
-        ensures ok { OnOk result (SameCurve (told Form.One self.new.units self.new.cost self.new.steps) (told Form.One self.old.units self.old.cost self.old.steps ++ arc ∷ [])) }
+        ensures ok { OnOk result (SameCurve (told Form.One self.new.units self.new.cost self.new.steps)
+            (told Form.One self.old.units self.old.cost self.old.steps ++ arc ∷ [])) }
         ensures err { OnErr result (self.new ≡ self.old) }
         ensures memory { IfErr result (λ e. e ≡ BundleFault.Memory) }
     {
@@ -210,146 +211,6 @@ fn by_costs(gap: Option<Gap>) -> Option<How>
     match gap {
         Some(gap) => Some(How::Costs(gap)),
         None => None,
-    }
-}
-
-fn fixed_at(units: i64, cost: i64) -> CostArc
-    ensures { result ≡ fixed_arc units cost }
-{
-    CostArc {
-        low: units,
-        cap: units,
-        cost,
-    }
-}
-
-fn free_at(step: (i64, i64)) -> CostArc
-    ensures { result ≡ step_arc step }
-{
-    CostArc {
-        low: 0,
-        cap: step.1,
-        cost: step.0,
-    }
-}
-
-fn free_of(step: Option<(i64, i64)>) -> Option<CostArc>
-    ensures { result ≡ option_map step_arc step }
-{
-    match step {
-        Some(step) => Some(free_at(step)),
-        None => None,
-    }
-}
-
-// The first of a fixed arc and the free capacity; at one cost they are one arc.
-fn join(fixed: CostArc, step: Option<(i64, i64)>) -> CostArc
-    requires { ForSome step (λ step. fixed.cost ≡ step.0 → FitsSigned w64 (fixed.cap +ℤ step.1)) }
-    ensures { result ≡ joined_head fixed (option_map step_arc step) }
-{
-    match step {
-        Some(step) if step.0 < fixed.cost => free_at(step),
-        Some(step) if step.0 == fixed.cost => CostArc {
-            low: fixed.low,
-            cap: fixed.cap + step.1,
-            cost: step.0,
-        },
-        _ => fixed,
-    }
-}
-
-impl Curve {
-    // The first canonical arc.
-    fn first_arc(&self, form: Form) -> Option<CostArc>
-        ensures { result ≡ slice_get (told form self.now.units self.now.cost self.now.steps) 0 }
-    {
-        let step = self.steps.first();
-        let Some(fixed) = self.first_fixed() else {
-            return free_of(step);
-        };
-        match form {
-            Form::One => Some(fixed),
-            Form::Two => Some(join(fixed, step)),
-        }
-    }
-
-    // The first fixed arc.
-    fn first_fixed(&self) -> Option<CostArc>
-        ensures { result ≡ slice_get (fixed_arcs self.now.units self.now.cost) 0 }
-    {
-        match self.spread() {
-            Fixed::Zero => None,
-            Fixed::One { units, cost } => Some(fixed_at(units, cost)),
-            Fixed::Two { units, cost, .. } => Some(fixed_at(units, cost)),
-        }
-    }
-
-    // The first fixed arc past a cost.
-    fn fixed_past(&self, past: &i64) -> Option<CostArc>
-        ensures { result ≡ find (λ b. int_lt past.now b.cost) (fixed_arcs self.now.units self.now.cost) }
-    {
-        match self.spread() {
-            Fixed::One { units, cost } if *past < cost => Some(fixed_at(units, cost)),
-            Fixed::Two { units, cost, .. } if *past < cost => Some(fixed_at(units, cost)),
-            Fixed::Two { cost, above, .. } if *past == cost => Some(fixed_at(above, cost + 1)),
-            _ => None,
-        }
-    }
-
-    // How many canonical arcs form 1 has.
-    fn len_one(&self) -> u64
-        ensures { result ≡ length (told Form.One self.now.units self.now.cost self.now.steps) }
-    {
-        match self.spread() {
-            Fixed::Zero => self.steps.len(),
-            Fixed::One { .. } => self.steps.len() + 1,
-            Fixed::Two { .. } => self.steps.len() + 2,
-        }
-    }
-
-    // How many canonical arcs form 2 has.
-    fn len_two(&self) -> u64
-        ensures { result ≡ length (told Form.Two self.now.units self.now.cost self.now.steps) }
-    {
-        match self.spread() {
-            Fixed::Zero => self.steps.len(),
-            Fixed::One { cost, .. } => self.steps.len() + self.missing(&cost),
-            Fixed::Two { cost, .. } => self.steps.len()
-                + self.missing(&cost)
-                + self.missing(&(cost + 1)),
-        }
-    }
-
-    // One where no free capacity stands at the cost.
-    fn missing(&self, cost: &i64) -> u64
-        ensures { result ≡ cond (has_step self.now.steps cost.now) 0 1 }
-    {
-        if self.steps.has(cost) { 0 } else { 1 }
-    }
-
-    // The canonical arc of form 1 after an arc.
-    fn after_one(&self, arc: &CostArc) -> Option<CostArc>
-        ensures { (i : ℕ) → slice_get (told Form.One self.now.units self.now.cost self.now.steps) i ≡ Some arc.now
-            → result ≡ slice_get (told Form.One self.now.units self.now.cost self.now.steps) (i + 1) }
-    {
-        if arc.low == 0 {
-            return free_of(self.steps.past(&arc.cost));
-        }
-        match self.fixed_past(&arc.cost) {
-            Some(fixed) => Some(fixed),
-            None => free_of(self.steps.first()),
-        }
-    }
-
-    // The canonical arc of form 2 past a cost.
-    fn past_two(&self, past: &i64) -> Option<CostArc>
-        ensures { result ≡ find (λ b. int_lt past.now b.cost) (told Form.Two self.now.units self.now.cost self.now.steps) }
-    {
-        let step = self.steps.past(past);
-        match self.fixed_past(past) {
-            Some(fixed) => Some(join(fixed, step)),
-            None => free_of(step),
-        }
     }
 }
 

@@ -3,7 +3,7 @@ ghost use Rattle.std.specs.Prelude.{ℤ, pos};
 ghost use Rattle.dn_bundle.specs.Splits.{LeastCost};
 ghost use Rattle.dn_bundle.specs.Meanings.{SameCurve};
 ghost use Rattle.dn_bundle.specs.Canonical.{AreCanonCosts};
-ghost use Rattle.dn_bundle.specs.Examples.{worked, worked_one, worked_two, mixed, apart};
+ghost use Rattle.dn_bundle.specs.Examples.{worked, worked_one, worked_two, canon_in_two_alone, apart};
 
 use crate::arc::Form;
 
@@ -25,8 +25,8 @@ pub fn worked_forms()
 
 /// Lists of arcs that are not canonical.
 pub fn other_lists()
-    ensures mixed_two { AreCanonCosts Form.Two mixed }
-    ensures mixed_one { AreCanonCosts Form.One mixed → ⊥ }
+    ensures mixed_two { AreCanonCosts Form.Two canon_in_two_alone }
+    ensures mixed_one { AreCanonCosts Form.One canon_in_two_alone → ⊥ }
     ensures apart_one { AreCanonCosts Form.One apart → ⊥ }
     ensures apart_two { AreCanonCosts Form.Two apart → ⊥ }
 {}

@@ -5,7 +5,8 @@ ghost use Rattle.std.specs.List.Sorted.{IsPermutation};
 ghost use Rattle.dn_bundle.specs.Splits.{IsSplit, LeastCost};
 ghost use Rattle.dn_bundle.specs.Meanings.{IsMeaning, SameLength, SameTotal, SameCurve};
 ghost use Rattle.dn_bundle.specs.Canonical.{IsCostArc, AreCanonLengths, AreCanonCaps, AreCanonCosts};
-ghost use Rattle.dn_bundle.specs.Fillings.{IsFilling, forced_units, forced_cost, free_costs};
+ghost use Rattle.dn_bundle.specs.Fillings.{IsFilling, forced_units, forced_cost};
+ghost use Rattle.dn_bundle.specs.Entries.{free_costs};
 ghost use Rattle.dn_bundle.specs.Differences.{LengthsDiffer, TotalsDiffer, CurvesDiffer};
 ghost use Rattle.dn_bundle.specs.Bundles.{IsDetermined};
 ghost use Rattle.dn_bundle.specs.Laws.LengthKind.{length_determined};
@@ -55,15 +56,18 @@ pub fn any_order()
 
 /// Arcs that mean the same still do so when the same arc comes after them.
 pub fn one_more()
-    ensures lengths { (xs ys : List LengthArc) (a : LengthArc) → SameLength xs ys → SameLength (xs ++ a ∷ []) (ys ++ a ∷ []) }
-    ensures capacities { (xs ys : List CapArc) (a : CapArc) → SameTotal xs ys → SameTotal (xs ++ a ∷ []) (ys ++ a ∷ []) }
+    ensures lengths { (xs ys : List LengthArc) (a : LengthArc) → SameLength xs ys
+        → SameLength (xs ++ a ∷ []) (ys ++ a ∷ []) }
+    ensures capacities { (xs ys : List CapArc) (a : CapArc) → SameTotal xs ys
+        → SameTotal (xs ++ a ∷ []) (ys ++ a ∷ []) }
     ensures costs { (xs ys : List CostArc) (a : CostArc) → SameCurve xs ys → SameCurve (xs ++ a ∷ []) (ys ++ a ∷ []) }
 {}
 
 /// The least cost of x among canonical arcs of a `min` pair is the forced cost plus what the units beyond the forced
 /// ones cost when they are filled into the free capacities by rising cost.
 pub fn exchange()
-    ensures { (form : Form) (arcs : List CostArc) → AreCanonCosts form arcs → (x k : ℤ) → LeastCost arcs x k ↔ IsFilling arcs x k }
+    ensures { (form : Form) (arcs : List CostArc) → AreCanonCosts form arcs → (x k : ℤ)
+        → LeastCost arcs x k ↔ IsFilling arcs x k }
 {}
 
 /// Canonical arcs of a `min` pair in one form that mean the same are the same.
@@ -79,9 +83,12 @@ pub fn determination_of_sums()
 
 /// The forced units, what they cost, and how many costs have free capacity follow from the meaning.
 pub fn parts_of_meaning()
-    ensures units { (xs ys : List CostArc) → AllByRecursion IsCostArc xs → AllByRecursion IsCostArc ys → SameCurve xs ys → forced_units xs ≡ forced_units ys }
-    ensures cost { (xs ys : List CostArc) → AllByRecursion IsCostArc xs → AllByRecursion IsCostArc ys → SameCurve xs ys → forced_cost xs ≡ forced_cost ys }
-    ensures costs { (xs ys : List CostArc) → AllByRecursion IsCostArc xs → AllByRecursion IsCostArc ys → SameCurve xs ys → length (free_costs xs) ≡ length (free_costs ys) }
+    ensures units { (xs ys : List CostArc) → AllByRecursion IsCostArc xs → AllByRecursion IsCostArc ys → SameCurve xs ys
+        → forced_units xs ≡ forced_units ys }
+    ensures cost { (xs ys : List CostArc) → AllByRecursion IsCostArc xs → AllByRecursion IsCostArc ys → SameCurve xs ys
+        → forced_cost xs ≡ forced_cost ys }
+    ensures costs { (xs ys : List CostArc) → AllByRecursion IsCostArc xs → AllByRecursion IsCostArc ys → SameCurve xs ys
+        → length (free_costs xs) ≡ length (free_costs ys) }
 {}
 
 /// Arcs that mean the same differ nowhere.

@@ -4,8 +4,7 @@ ghost use Rattle.std.specs.Int.{w64};
 ghost use Rattle.std.specs.Option.{ForSome};
 ghost use Rattle.std.proofs.Props.{props};
 ghost use Rattle.dn_bundle.specs.Kinds.{lengths};
-ghost use Rattle.dn_bundle.specs.Lengths.{LeastLength};
-ghost use Rattle.dn_bundle.specs.LeastTold.{length_told};
+ghost use Rattle.dn_bundle.specs.Lengths.{LeastLength, length_told};
 ghost use Rattle.dn_bundle.specs.Laws.LengthKind.{length_kind, length_canonical, length_fit};
 
 use crate::arc::{Form, LengthArc};
@@ -23,7 +22,8 @@ pub struct Least {
 impl Least {
     /// The least length, or `None` where there is no arc.
     pub fn get(&self) -> Option<i64>
-        ensures { MatchOption result (⟦<Least as Bundle>⟧.told Form.One self.now ≡ []) (LeastLength (⟦<Least as Bundle>⟧.told Form.One self.now)) }
+        ensures { MatchOption result (⟦<Least as Bundle>⟧.told Form.One self.now ≡ [])
+            (LeastLength (⟦<Least as Bundle>⟧.told Form.One self.now)) }
     {
         self.length
     }

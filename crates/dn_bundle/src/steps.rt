@@ -11,7 +11,7 @@ use std::ops::Bound;
 
 /// Free capacity by rising cost. The least cost stands beside the map, so that one step takes no memory.
 #[derive(Drop)]
-pub struct Steps {
+pub(crate) struct Steps {
     first: Option<(i64, i64)>,
     rest: BTreeMap<i64, i64>,
 }
@@ -59,7 +59,7 @@ fn has_in(map: &BTreeMap<i64, i64>, cost: &i64) -> bool
 
 impl Steps {
     /// No free capacity.
-    pub fn new(alloc: Global) -> Steps
+    pub(crate) fn new(alloc: Global) -> Steps
         ensures { result ≡ [] }
     {
         Steps {
@@ -69,7 +69,7 @@ impl Steps {
     }
 
     /// How many costs have free capacity.
-    pub fn len(&self) -> u64
+    pub(crate) fn len(&self) -> u64
         ensures len { result ≡ length self.now }
         ensures small { result ≤ 2 ^ 63 }
     {
@@ -80,14 +80,14 @@ impl Steps {
     }
 
     /// The least cost, and the capacity at it.
-    pub fn first(&self) -> Option<(i64, i64)>
+    pub(crate) fn first(&self) -> Option<(i64, i64)>
         ensures { result ≡ slice_get self.now 0 }
     {
         self.first
     }
 
     /// The step at `i` by rising cost, counted from 0.
-    pub fn get(&self, i: u64) -> Option<(i64, i64)>
+    pub(crate) fn get(&self, i: u64) -> Option<(i64, i64)>
         ensures { result ≡ slice_get self.now i }
     {
         let mut left = i;
@@ -101,7 +101,7 @@ impl Steps {
     }
 
     /// The first step past a cost.
-    pub fn past(&self, cost: &i64) -> Option<(i64, i64)>
+    pub(crate) fn past(&self, cost: &i64) -> Option<(i64, i64)>
         ensures { result ≡ step_past self.now cost.now }
     {
         match &self.first {
@@ -111,7 +111,7 @@ impl Steps {
     }
 
     /// Whether there is capacity at a cost.
-    pub fn has(&self, cost: &i64) -> bool
+    pub(crate) fn has(&self, cost: &i64) -> bool
         ensures { result ≡ has_step self.now cost.now }
     {
         match &self.first {
@@ -145,7 +145,7 @@ impl Steps {
     }
 
     /// Puts capacity at a cost, if there is any. On an error nothing has changed.
-    pub fn add(&mut self, step: (i64, i64)) -> Result<(), AllocError>
+    pub(crate) fn add(&mut self, step: (i64, i64)) -> Result<(), AllocError>
         requires some { pos 0 ≤ℤ step.1 }
         requires steps { AreSteps self.old }
         requires fits { (steps_room self.old +ℤ step.1) ≤ℤ pos (2 ^ 63 - 1) }
@@ -156,7 +156,7 @@ impl Steps {
     }
 
     /// The steps by rising cost.
-    pub fn iter(&self) -> StepsIter<'_>
+    pub(crate) fn iter(&self) -> StepsIter<'_>
         ensures { result ≡ self.now }
     {
         StepsIter {
@@ -168,7 +168,7 @@ impl Steps {
 
 /// The steps that are left, by rising cost.
 #[derive(Drop)]
-pub struct StepsIter<'a> {
+pub(crate) struct StepsIter<'a> {
     first: Option<(i64, i64)>,
     rest: Iter<'a, i64, i64>,
 }

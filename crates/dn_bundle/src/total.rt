@@ -1,8 +1,7 @@
 // The total capacity of the arcs of a pair.
 ghost use Rattle.std.specs.Prelude.{◌≡◌, ◌-◌, ◌^◌, pos, ◌≤ℤ◌, refl, false};
 ghost use Rattle.dn_bundle.specs.Kinds.{capacities};
-ghost use Rattle.dn_bundle.specs.Capacities.{total_cap};
-ghost use Rattle.dn_bundle.specs.TotalTold.{cap_told};
+ghost use Rattle.dn_bundle.specs.Capacities.{total_cap, cap_told};
 ghost use Rattle.dn_bundle.specs.Laws.TotalKind.{total_kind, total_canonical, total_fit};
 
 use crate::arc::{CapArc, Form};

@@ -3,7 +3,7 @@ use Rattle.std.proofs.Common.{◌≡◌, ℕ, suc, ◌+◌, ◌-◌, ◌<◌, �
 use Rattle.std.proofs.lemmas.Int.{ints}
 use Rattle.std.proofs.lemmas.Bool.Decides.{nat_tests}
 use Rattle.std.proofs.lemmas.List.Elements.{filter-append, filter_map-append}
-use Rattle.std.specs.List.{AllByRecursion, list_all, cons_option}
+use Rattle.std.specs.List.{AllByRecursion, cons_option, list_all}
 use Rattle.dn_num.proofs.ShortestLaws.{decimal_reads}
 use Rattle.dn_line.specs.declared.kind.Kind.{Kind}
 use Rattle.dn_line.specs.declared.kind.Kind.TheVariants as Kinds
@@ -13,24 +13,25 @@ use Rattle.dn_line.specs.declared.word.Keyword.TheVariants as Key
 use Rattle.dn_line.specs.Words.{said}
 use Rattle.dn_line.specs.Spelling.{Is, Number, Natural, Spells}
 use Rattle.dn_bundle.specs.Kinds.{ArcKind, lengths, capacities, costs}
-use Rattle.dn_bundle.specs.Splits.{cost_cap}
-use Rattle.dn_bundle.specs.Canonical.{IsCostArc}
+use Rattle.dn_bundle.specs.Bundles.{IsKind}
 use Rattle.dn_bundle.specs.declared.arc.LengthArc.{LengthArc}
 use Rattle.dn_bundle.specs.declared.arc.CapArc.{CapArc}
 use Rattle.dn_bundle.specs.declared.arc.CostArc.{CostArc}
 use Rattle.dn_bundle.specs.Laws.Parts.{test_no}
+use Rattle.dn_bundle.specs.Laws.CostKind.{cost_kind}
 use Rattle.dn_bundle.specs.Laws.LengthKind.{length_kind}
 use Rattle.dn_bundle.specs.Laws.TotalKind.{total_kind}
 use Rattle.pair_index.specs.Pairs.{same_pair}
 use Rattle.dn_table.specs.Pairs.{bundle}
 use Rattle.dn_instance.specs.Instances.{Graph}
 use Rattle.dn_instance.specs.Validity.{Fits, IsNode, IsPlaced, IsValidGraph}
-use Rattle.dn_instance.specs.Items.{Problem, counted, is_counted, arc_in, arcs_of, supply_in}
-use Rattle.dn_instance.specs.TextFaults.{is_in_range, ids_in, is_companion, is_full, is_repeated, is_same_terminal, is_low_above_cap, is_sum_too_large, passes}
-use Rattle.pair_index.proofs.PairLaws.{pair_self}
+use Rattle.dn_instance.specs.Items.{Problem, counted, is_counted, arcs_of, length_arc_in, cap_arc_in, cost_arc_in, supply_in}
+use Rattle.dn_instance.specs.TextFaults.{is_in_range, ids_in, is_companion, is_full, is_repeated, is_same_terminal, is_low_above_cap, is_sum_too_large}
+use Rattle.dn_instance.proofs.SumLaws.{passes, total_passes, cost_passes}
 use Rattle.dn_canon.specs.Prints.{arc_row}
 use Rattle.dn_canon.proofs.ItemLaws.{AllFollow}
-use Rattle.dn_canon.proofs.PartLaws.{all_at, fewer, each_follow}
+use Rattle.dn_canon.proofs.OrderLaws.{all_at_pair, at_head}
+use Rattle.dn_canon.proofs.PartLaws.{all_at, fewer, each_follow, items_back, all_counted, always}
 
 -- a node has 64 bits where NODES has
 pub node_fits : (nodes v : ℤ) → Fits nodes → IsNode nodes v → Fits v
@@ -55,19 +56,19 @@ node_in_range p v i = by_kind (is_companion p.kind) (int_lt (pos 0) v) (int_lt p
     by_kind true a b e f = rw e refl
     by_kind false a b e f = rw (e, f) refl
 
--- the item of an arc of this kind, and the laws of its capacities
-pub record IsArcItem {Arc : Type 0} (kind : ArcKind Arc) (k : Kind) (item : (ℤ × ℤ) × Arc → Line) : Type 0 where
-  pub arc_is : (a : (ℤ × ℤ) × Arc) → arc_in kind (item a) ≡ Some a
+-- the item of an arc of this kind, and the laws of the kind
+pub record IsArcItem {Arc : Type 0} (kind : ArcKind Arc) (arc_in : Line → Option ((ℤ × ℤ) × Arc)) (k : Kind) (item : (ℤ × ℤ) × Arc → Line) : Type 0 where
+  pub arc_is : (a : (ℤ × ℤ) × Arc) → arc_in (item a) ≡ Some a
+  pub problem_none : (nodes count : ℤ) → arc_in (Item.Graph k nodes count) ≡ None
   pub counts : (a : (ℤ × ℤ) × Arc) → is_counted (item a) ≡ true
   pub ids_are : (a : (ℤ × ℤ) × Arc) → ids_in (item a) ≡ a.0.0 ∷ a.0.1 ∷ []
   pub spells : (nodes : ℤ) (a : (ℤ × ℤ) × Arc) → Fits nodes → IsPlaced kind nodes a → Spells (Some k) (map said (arc_row kind a)) (item a)
   pub once : (before : List Line) (a : (ℤ × ℤ) × Arc) → is_repeated before (item a) ≡ false
   pub apart : (before : List Line) (a : (ℤ × ℤ) × Arc) → is_same_terminal before (item a) ≡ false
   pub low : (a : (ℤ × ℤ) × Arc) → kind.IsArc a.1 → is_low_above_cap (item a) ≡ false
-  pub sum : (before : List Line) (a : (ℤ × ℤ) × Arc) → passes kind (arcs_of kind before) (Some a) ≡ false → is_sum_too_large before (item a) ≡ false
+  pub sum : (before : List Line) (a : (ℤ × ℤ) × Arc) → passes kind (arcs_of arc_in before) a ≡ false → is_sum_too_large before (item a) ≡ false
   pub no_supply : (a : (ℤ × ℤ) × Arc) → supply_in (item a) ≡ None
-  pub capacity_append : (xs ys : List Arc) → kind.capacity (xs ++ ys) ≡ kind.capacity xs +ℤ kind.capacity ys
-  pub capacity_some : (xs : List Arc) → AllByRecursion kind.IsArc xs → pos 0 ≤ℤ kind.capacity xs
+  pub kind_laws : IsKind kind
 
 -- the item of an arc
 abbrev pub min_item : (ℤ × ℤ) × CostArc → Line
@@ -79,24 +80,15 @@ max_item a = Item.MaxArc a.0.0 a.0.1 a.1.cap
 abbrev pub sp_item : (ℤ × ℤ) × LengthArc → Line
 sp_item a = Item.SpArc a.0.0 a.0.1 a.1.length
 
--- the CAPs of two lists add up
-cap_append : (xs ys : List CostArc) → cost_cap (xs ++ ys) ≡ cost_cap xs +ℤ cost_cap ys
-cap_append [] ys = omega (arith, ints)
-cap_append (a ∷ xs) ys = let i = cap_append xs ys in omega (arith, ints)
-
--- CAPs sum to 0 at least
-cap_some : (xs : List CostArc) → AllByRecursion IsCostArc xs → pos 0 ≤ℤ cost_cap xs
-cap_some [] h = omega (arith, ints)
-cap_some (a ∷ xs) h = let some = h.0.some in let room = h.0.room in let i = cap_some xs h.1 in omega (arith, ints)
-
 -- order of three numbers
 at_least : (a b c : ℤ) → a ≤ℤ b → b ≤ℤ c → a ≤ℤ c
 at_least a b c h g = omega (arith, ints)
 
 -- `min`
-pub min_items : IsArcItem costs Kinds.Min min_item
+pub min_items : IsArcItem costs cost_arc_in Kinds.Min min_item
 min_items = record {
   arc_is = λ a. refl;
+  problem_none = λ nodes count. refl;
   counts = λ a. refl;
   ids_are = λ a. refl;
   spells = λ nodes a f p. record {
@@ -120,16 +112,16 @@ min_items = record {
   once = λ before a. refl;
   apart = λ before a. refl;
   low = λ a h. test_no a.1.cap a.1.low h.room;
-  sum = λ before a h. h;
+  sum = λ before a h. cost_passes (arcs_of cost_arc_in before) a ∙ h;
   no_supply = λ a. refl;
-  capacity_append = cap_append;
-  capacity_some = cap_some;
+  kind_laws = cost_kind;
 }
 
 -- `max`
-pub max_items : IsArcItem capacities Kinds.Max max_item
+pub max_items : IsArcItem capacities cap_arc_in Kinds.Max max_item
 max_items = record {
   arc_is = λ a. refl;
+  problem_none = λ nodes count. refl;
   counts = λ a. refl;
   ids_are = λ a. refl;
   spells = λ nodes a f p. record {
@@ -144,16 +136,16 @@ max_items = record {
   once = λ before a. refl;
   apart = λ before a. refl;
   low = λ a h. refl;
-  sum = λ before a h. h;
+  sum = λ before a h. total_passes (arcs_of cap_arc_in before) a ∙ h;
   no_supply = λ a. refl;
-  capacity_append = total_kind.capacity_append;
-  capacity_some = total_kind.capacity_some;
+  kind_laws = total_kind;
 }
 
 -- `sp`
-pub sp_items : IsArcItem lengths Kinds.Sp sp_item
+pub sp_items : IsArcItem lengths length_arc_in Kinds.Sp sp_item
 sp_items = record {
   arc_is = λ a. refl;
+  problem_none = λ nodes count. refl;
   counts = λ a. refl;
   ids_are = λ a. refl;
   spells = λ nodes a f p. record {
@@ -167,8 +159,7 @@ sp_items = record {
   low = λ a h. refl;
   sum = λ before a h. refl;
   no_supply = λ a. refl;
-  capacity_append = length_kind.capacity_append;
-  capacity_some = length_kind.capacity_some;
+  kind_laws = length_kind;
 }
 
 module _ {Arc : Type 0} where
@@ -184,50 +175,33 @@ module _ {Arc : Type 0} where
   -- the arcs of an arc's pair: those before it, itself, and those after it
   bundle_at : (d : List ((ℤ × ℤ) × Arc)) (a : (ℤ × ℤ) × Arc) (r : List ((ℤ × ℤ) × Arc)) → bundle a.0 (d ++ a ∷ r) ≡ (bundle a.0 d ++ a.1 ∷ []) ++ bundle a.0 r
   bundle_at d a r =
-      bundle_append a.0 d (a ∷ r)
-      ∙ ap (λ t. bundle a.0 d ++ cond t (a.1 ∷ bundle a.0 r) (bundle a.0 r)) (pair_self a.0)
-      ∙ sym (append_assoc (bundle a.0 d) (a.1 ∷ []) (bundle a.0 r))
+      bundle_append a.0 d (a ∷ r) ∙ ap (λ l. bundle a.0 d ++ l) (at_head a r) ∙ sym (append_assoc (bundle a.0 d) (a.1 ∷ []) (bundle a.0 r))
 
-module _ {Arc : Type 0} (kind : ArcKind Arc) (k : Kind) (item : (ℤ × ℤ) × Arc → Line) (laws : IsArcItem kind k item) where
-  -- the arcs of a pair are arcs of the problem
-  bundle_arcs : (nodes : ℤ) (p : ℤ × ℤ) (xs : List ((ℤ × ℤ) × Arc)) → AllByRecursion (IsPlaced kind nodes) xs → AllByRecursion kind.IsArc (bundle p xs)
-  bundle_arcs nodes p [] h = tt
-  bundle_arcs nodes p (x ∷ xs) h = by_test (same_pair p x.0) (bundle_arcs nodes p xs h.1)
-    where
-      by_test : (t : Bool) → AllByRecursion kind.IsArc (bundle p xs) → AllByRecursion kind.IsArc (cond t (x.1 ∷ bundle p xs) (bundle p xs))
-      by_test true g = (h.0.is_arc, g)
-      by_test false g = g
-
+module _ {Arc : Type 0} (kind : ArcKind Arc) (arc_in : Line → Option ((ℤ × ℤ) × Arc)) (k : Kind) (item : (ℤ × ℤ) × Arc → Line) (laws : IsArcItem kind arc_in k item) where
   -- the items of arcs give the arcs back
-  pub arcs_back : (xs : List ((ℤ × ℤ) × Arc)) → arcs_of kind (map item xs) ≡ xs
-  arcs_back [] = refl
-  arcs_back (x ∷ xs) = ap (λ (o : Option ((ℤ × ℤ) × Arc)). cons_option o (arcs_of kind (map item xs))) (laws.arc_is x) ∙ ap (λ l. x ∷ l) (arcs_back xs)
-
-  -- each of them is counted
-  pub arcs_counted : (xs : List ((ℤ × ℤ) × Arc)) → counted (map item xs) ≡ length xs
-  arcs_counted [] = refl
-  arcs_counted (x ∷ xs) = ap (λ (b : Bool). length (cond b (item x ∷ filter is_counted (map item xs)) (filter is_counted (map item xs)))) (laws.counts x) ∙ ap suc (arcs_counted xs)
+  pub arcs_back : (xs : List ((ℤ × ℤ) × Arc)) → arcs_of arc_in (map item xs) ≡ xs
+  arcs_back xs = items_back arc_in item (λ a. Unit {0}) (λ a h. laws.arc_is a) xs (always xs)
 
   -- items that are no arcs add none
-  no_arc_more : (xs : List Line) (ys : List ((ℤ × ℤ) × Arc)) → arcs_of kind xs ≡ [] → arcs_of kind (xs ++ map item ys) ≡ ys
-  no_arc_more xs ys e = filter_map-append (arc_in kind) xs (map item ys) ∙ ap (λ l. l ++ arcs_of kind (map item ys)) e ∙ arcs_back ys
+  no_arc_more : (xs : List Line) (ys : List ((ℤ × ℤ) × Arc)) → arcs_of arc_in xs ≡ [] → arcs_of arc_in (xs ++ map item ys) ≡ ys
+  no_arc_more xs ys e = filter_map-append arc_in xs (map item ys) ∙ ap (λ l. l ++ arcs_of arc_in (map item ys)) e ∙ arcs_back ys
 
   -- items that are not counted add nothing to the count
   pub counted_more : (xs : List Line) (ys : List ((ℤ × ℤ) × Arc)) → counted xs ≡ 0 → counted (xs ++ map item ys) ≡ length ys
   counted_more xs ys e =
       ap length (filter-append is_counted xs (map item ys)) ∙ length-append (filter is_counted xs) (filter is_counted (map item ys))
-      ∙ ap (λ n. n + counted (map item ys)) e ∙ (let c = arcs_counted ys in omega arith)
+      ∙ ap (λ n. n + counted (map item ys)) e ∙ (let c = all_counted item laws.counts ys in omega arith)
 
   -- a part of a sum is within the range where the sum is
   within : (capacity more : ℤ) (all : ℤ) → all ≡ capacity +ℤ more → pos 0 ≤ℤ more → all ≤ℤ pos (2 ^ 63 - 1) → int_lt (pos (2 ^ 63 - 1)) capacity ≡ false
   within capacity more all e h g = test_no (pos (2 ^ 63 - 1)) capacity (omega (arith, ints))
 
   -- the capacities of an arc and those of its pair before it sum within the range
-  sum_within : (graph : Graph Arc) (d : List ((ℤ × ℤ) × Arc)) (a : (ℤ × ℤ) × Arc) (r : List ((ℤ × ℤ) × Arc)) → IsValidGraph kind graph → graph.arcs ≡ d ++ a ∷ r → passes kind d (Some a) ≡ false
+  sum_within : (graph : Graph Arc) (d : List ((ℤ × ℤ) × Arc)) (a : (ℤ × ℤ) × Arc) (r : List ((ℤ × ℤ) × Arc)) → IsValidGraph kind graph → graph.arcs ≡ d ++ a ∷ r → passes kind d a ≡ false
   sum_within graph d a r v e =
       within (kind.capacity (bundle a.0 d ++ a.1 ∷ [])) (kind.capacity (bundle a.0 r)) (kind.capacity (bundle a.0 graph.arcs))
-      (ap (λ l. kind.capacity (bundle a.0 l)) e ∙ ap kind.capacity (bundle_at d a r) ∙ laws.capacity_append (bundle a.0 d ++ a.1 ∷ []) (bundle a.0 r))
-      (laws.capacity_some (bundle a.0 r) (bundle_arcs graph.nodes a.0 r (rest d (subst (AllByRecursion (IsPlaced kind graph.nodes)) e v.placed))))
+      (ap (λ l. kind.capacity (bundle a.0 l)) e ∙ ap kind.capacity (bundle_at d a r) ∙ laws.kind_laws.capacity_append (bundle a.0 d ++ a.1 ∷ []) (bundle a.0 r))
+      (laws.kind_laws.capacity_some (bundle a.0 r) (all_at_pair (IsPlaced kind graph.nodes) kind.IsArc (λ x p. p.is_arc) a.0 r (rest d (subst (AllByRecursion (IsPlaced kind graph.nodes)) e v.placed))))
       (v.capacities a.0)
     where
       rest : (d : List ((ℤ × ℤ) × Arc)) → AllByRecursion (IsPlaced kind graph.nodes) (d ++ a ∷ r) → AllByRecursion (IsPlaced kind graph.nodes) r
@@ -239,12 +213,13 @@ module _ {Arc : Type 0} (kind : ArcKind Arc) (k : Kind) (item : (ℤ × ℤ) × 
   two_in_range p u v h g = rw (node_in_range p u h, node_in_range p v g) refl
 
   -- the arcs' items follow the problem line and items that are neither arcs nor counted
-  pub arcs_follow : (graph : Graph Arc) (ns : List Line) → IsValidGraph kind graph → arcs_of kind ns ≡ [] → counted ns ≡ 0
+  pub arcs_follow : (graph : Graph Arc) (ns : List Line) → IsValidGraph kind graph → arcs_of arc_in ns ≡ [] → counted ns ≡ 0
       → AllFollow (Item.Graph k graph.nodes (pos (length graph.arcs)) ∷ ns) (map (arc_row kind) graph.arcs) (map item graph.arcs)
   arcs_follow graph ns v no_arc none = each_follow (arc_row kind) item (Item.Graph k graph.nodes (pos (length graph.arcs)) ∷ ns) graph.arcs (λ d a r e.
       let placed = all_at (IsPlaced kind graph.nodes) graph.arcs d a r e v.placed in
       let p : Problem = record { kind = k; nodes = graph.nodes; count = pos (length graph.arcs) } in
       let before = Item.Graph k graph.nodes (pos (length graph.arcs)) ∷ (ns ++ map item d) in
+      let none_yet = ap (λ o. cons_option o (arcs_of arc_in ns)) (laws.problem_none graph.nodes (pos (length graph.arcs))) ∙ no_arc in
       record {
         spells = laws.spells graph.nodes a v.nodes_fit placed;
         early = refl;
@@ -253,5 +228,5 @@ module _ {Arc : Type 0} (kind : ArcKind Arc) (k : Kind) (item : (ℤ × ℤ) × 
         once = laws.once before a;
         apart = laws.apart before a;
         low = laws.low a placed.is_arc;
-        sum = laws.sum before a (ap (λ l. passes kind l (Some a)) (no_arc_more ns d no_arc) ∙ sum_within graph d a r v e);
+        sum = laws.sum before a (ap (λ l. passes kind l a) (no_arc_more (Item.Graph k graph.nodes (pos (length graph.arcs)) ∷ ns) d none_yet) ∙ sum_within graph d a r v e);
       })

@@ -17,16 +17,16 @@ use Rattle.dn_line.specs.Words.{said, keyword_of}
 use Rattle.dn_line.specs.Names.{kind_name}
 use Rattle.dn_line.specs.Spelling.{Is, Number, Natural, slots_of}
 use Rattle.dn_bundle.specs.Kinds.{capacities, lengths, costs}
-use Rattle.dn_instance.specs.Instances.{Graph, Instance, MinCostFlow, MaxFlow, ShortestPaths, Sources, Queries, Coordinates}
+use Rattle.dn_instance.specs.Instances.{Graph, Instance, MinCostFlow, MaxFlow, ShortestPaths, Sources, Queries, Coordinates, size_of}
 use Rattle.dn_instance.specs.Validity.{Fits, IsNode, IsId, IsValidGraph, IsSupply, IsPoint, AreSupplies, ArePoints, IsValid}
-use Rattle.dn_instance.specs.Items.{Problem, counted, arc_in}
+use Rattle.dn_instance.specs.Items.{Problem, counted, length_arc_in, cap_arc_in, cost_arc_in}
 use Rattle.dn_instance.specs.TextFaults.{is_in_range, is_arc, is_full, has_supply, has_point, end_fault}
 use Rattle.dn_canon.specs.Prints.{graph_row, companion_row, supply_row, terminal_row, arc_row, source_row, query_row, point_row}
 use Rattle.dn_canon.proofs.ItemLaws.{Follows, AllFollow}
-use Rattle.dn_canon.proofs.PartLaws.{all_at, fewer, follow_append, each_follow}
-use Rattle.dn_canon.proofs.ArcItems.{node_fits, not_full, node_in_range, min_item, max_item, sp_item, min_items, max_items, sp_items, counted_more, arcs_counted, arcs_follow}
+use Rattle.dn_canon.proofs.PartLaws.{all_at, fewer, follow_append, each_follow, no_items, none_counted, all_counted}
+use Rattle.dn_canon.proofs.ArcItems.{node_fits, not_full, node_in_range, min_item, max_item, sp_item, min_items, max_items, sp_items, counted_more, arcs_follow}
 use Rattle.dn_canon.proofs.KeyLaws.{no_earlier}
-use Rattle.dn_canon.proofs.InstanceItems.{count_of, head_row, head_item, supply_item, query_item, point_item, body_rows, body_of, no_items, none_counted, all_counted, differ}
+use Rattle.dn_canon.proofs.InstanceItems.{head_row, head_item, supply_item, query_item, point_item, body_rows, body_of, differ}
 
 -- items of which none is an arc
 no_arcs : {X : Type 0} (item : X → Line) → ((x : X) → is_arc (item x) ≡ false) → (xs : List X) → list_any is_arc (map item xs) ≡ false
@@ -154,15 +154,15 @@ pub body_follows : (I : Instance) → IsValid I → AllFollow (head_item I ∷ [
 body_follows (MinCostFlow supplies graph) v =
     follow_append (head_item (MinCostFlow supplies graph) ∷ []) (map supply_row supplies) (map (arc_row costs) graph.arcs) (map supply_item supplies) (map min_item graph.arcs)
     (supplies_follow graph supplies v.0 v.1)
-    (arcs_follow costs Kinds.Min min_item min_items graph (map supply_item supplies) v.0 (no_items (arc_in costs) supply_item (λ s. refl) supplies) (none_counted supply_item (λ s. refl) supplies))
+    (arcs_follow costs cost_arc_in Kinds.Min min_item min_items graph (map supply_item supplies) v.0 (no_items cost_arc_in supply_item (λ s. refl) supplies) (none_counted supply_item (λ s. refl) supplies))
 body_follows (MaxFlow source sink graph) v = (
   source_follows graph source v.0 v.1.source_is,
   (
     sink_follows graph source sink v.0 v.1.sink_is v.1.differ,
-    arcs_follow capacities Kinds.Max max_item max_items graph (Item.Terminal source Letters.S ∷ Item.Terminal sink Letters.T ∷ []) v.0 refl refl,
+    arcs_follow capacities cap_arc_in Kinds.Max max_item max_items graph (Item.Terminal source Letters.S ∷ Item.Terminal sink Letters.T ∷ []) v.0 refl refl,
   ),
 )
-body_follows (ShortestPaths graph) v = arcs_follow lengths Kinds.Sp sp_item sp_items graph [] v refl refl
+body_follows (ShortestPaths graph) v = arcs_follow lengths length_arc_in Kinds.Sp sp_item sp_items graph [] v refl refl
 body_follows (Sources ids) v = sources_follow ids v
 body_follows (Queries pairs) v = queries_follow pairs v
 body_follows (Coordinates points) v = points_follow points v
@@ -214,7 +214,7 @@ companion_follows k key n e named few = record {
 }
 
 -- the problem line's item is the first, and has no fault
-pub head_follows : (I : Instance) → IsValid I → count_of I < 2 ^ 63 → Follows [] (map said (head_row I)) (head_item I)
+pub head_follows : (I : Instance) → IsValid I → size_of I < 2 ^ 63 → Follows [] (map said (head_row I)) (head_item I)
 head_follows (MinCostFlow supplies graph) v few = graph_follows Kinds.Min Key.Min graph.nodes (length graph.arcs) refl refl v.0.nodes_fit v.0.some_nodes few
 head_follows (MaxFlow source sink graph) v few = graph_follows Kinds.Max Key.Max graph.nodes (length graph.arcs) refl refl v.0.nodes_fit v.0.some_nodes few
 head_follows (ShortestPaths graph) v few = graph_follows Kinds.Sp Key.Sp graph.nodes (length graph.arcs) refl refl v.nodes_fit v.some_nodes few
@@ -223,10 +223,10 @@ head_follows (Queries pairs) v few = companion_follows Kinds.P2p Key.P2p (length
 head_follows (Coordinates points) v few = companion_follows Kinds.Co Key.Co (length points) refl refl few
 
 -- as many items are counted as the problem line says
-items_counted : (I : Instance) → counted (head_item I ∷ body_of I) ≡ count_of I
-items_counted (MinCostFlow supplies graph) = counted_more costs Kinds.Min min_item min_items (map supply_item supplies) graph.arcs (none_counted supply_item (λ s. refl) supplies)
-items_counted (MaxFlow source sink graph) = arcs_counted capacities Kinds.Max max_item max_items graph.arcs
-items_counted (ShortestPaths graph) = arcs_counted lengths Kinds.Sp sp_item sp_items graph.arcs
+items_counted : (I : Instance) → counted (head_item I ∷ body_of I) ≡ size_of I
+items_counted (MinCostFlow supplies graph) = counted_more costs cost_arc_in Kinds.Min min_item min_items (map supply_item supplies) graph.arcs (none_counted supply_item (λ s. refl) supplies)
+items_counted (MaxFlow source sink graph) = all_counted max_item max_items.counts graph.arcs
+items_counted (ShortestPaths graph) = all_counted sp_item sp_items.counts graph.arcs
 items_counted (Sources ids) = all_counted Item.Source (λ y. refl) ids
 items_counted (Queries pairs) = all_counted query_item (λ y. refl) pairs
 items_counted (Coordinates points) = all_counted point_item (λ y. refl) points
@@ -245,7 +245,7 @@ end_clean (Queries pairs) = enough _ _ (items_counted (Queries pairs))
 end_clean (Coordinates points) = enough _ _ (items_counted (Coordinates points))
 
 -- no more items are counted than there are rows
-pub count_rows : (I : Instance) → count_of I ≤ length (body_rows I)
+pub count_rows : (I : Instance) → size_of I ≤ length (body_rows I)
 count_rows (MinCostFlow supplies graph) = omega (arith, length-append (map supply_row supplies) (map (arc_row costs) graph.arcs), length-map graph.arcs (arc_row costs))
 count_rows (MaxFlow source sink graph) = omega (arith, length-map graph.arcs (arc_row capacities))
 count_rows (ShortestPaths graph) = omega (arith, length-map graph.arcs (arc_row lengths))

@@ -9,24 +9,25 @@ use Rattle.dn_bundle.specs.declared.arc.CostArc.{CostArc}
 use Rattle.dn_bundle.specs.declared.curve.Curve.{Curve}
 use Rattle.dn_bundle.specs.declared.least.Least.{Least}
 use Rattle.dn_bundle.specs.declared.total.Total.{Total}
-use Rattle.dn_bundle.specs.LeastTold.{length_told}
-use Rattle.dn_bundle.specs.TotalTold.{cap_told}
+use Rattle.dn_bundle.specs.Lengths.{length_told}
+use Rattle.dn_bundle.specs.Capacities.{cap_told}
 use Rattle.dn_bundle.specs.CurveTold.{told}
 use Rattle.dn_instance.specs.Helds.{Bundles, Contents, Holding, IsHeld, Shows, OfMin, OfMax, OfSp, OfSs, OfP2p, OfCo}
 use Rattle.dn_instance.specs.Instances.{Graph, Instance, MinCostFlow, MaxFlow, ShortestPaths, Sources, Queries, Coordinates, nodes_of, size_of}
-use Rattle.dn_table.specs.Tables.{Tells}
+use Rattle.dn_table.specs.Tables.{TableTells}
 use Rattle.dn_instance.specs.Validity.{IsValid, IsValidGraph, AreSupplies, AreTerminals}
 use Rattle.dn_instance.specs.declared.refusal.Refusal.{Refusal}
 use Rattle.dn_sink.specs.declared.sink.SinkFault.{SinkFault}
 use Rattle.dn_canon.specs.Prints.{print}
 use Rattle.dn_sink.specs.Puts.{Puts}
-use Rattle.dn_canon.specs.ToldArcs.{told_arcs, told_graph, IsCanonFor}
+use Rattle.dn_canon.specs.CanonInstances.{IsCanonGraphOf}
+use Rattle.dn_canon.specs.ToldArcs.{told_arcs, told_graph}
 use Rattle.dn_canon.specs.Writes.{Writes, WritesCanon, written_as}
 use Rattle.dn_canon.proofs.ToldLaws.{min_canon, max_canon, sp_canon, companion_canon}
 
 -- the graph that a table stands for makes a canonical one
 abbrev Makes : {B Arc : Type 0} → Form → ArcKind Arc → (Form → B → List Arc) → (B → List Arc) → ℤ → Bundles B → Type 0
-Makes {B} {Arc} form kind tells one nodes table = (arcs : List ((ℤ × ℤ) × Arc)) → Tells kind one table arcs → IsValidGraph kind (record { nodes = nodes; arcs = arcs }) → IsCanonFor kind form (record { nodes = nodes; arcs = arcs }) (told_graph (tells form) nodes table)
+Makes {B} {Arc} form kind tells one nodes table = (G : Graph Arc) → G.nodes ≡ nodes → TableTells kind one table G.arcs → IsValidGraph kind G → IsCanonGraphOf kind form (told_graph (tells form) nodes table) G
 
 module _ {S : Type 0} (taken : S → Option (List ℕ)) (has_failed : S → Bool) (old new : S) (form : Form) where
   -- a list that was put
@@ -40,11 +41,7 @@ module _ {S : Type 0} (taken : S → Option (List ℕ)) (has_failed : S → Bool
     where
       by_kind : (I : Instance) → Shows (OfSs ids) I → IsValid I → WritesCanon taken has_failed old new form I (written_as result)
       by_kind (Sources items) s v = subst (λ l. WritesCanon taken has_failed old new form (Sources l) (written_as result)) s (Sources ids, companion_canon form (Sources ids) tt (subst (λ l. IsValid (Sources l)) (sym s) v), put_list (Sources ids) result few p)
-      by_kind (MinCostFlow _ _) s v = absurd s
-      by_kind (MaxFlow _ _ _) s v = absurd s
-      by_kind (ShortestPaths _) s v = absurd s
-      by_kind (Queries _) s v = absurd s
-      by_kind (Coordinates _) s v = absurd s
+      by_kind _ s v = absurd s
 
   pub queries_written : (pairs : List (ℤ × ℤ)) (c : Contents) (I : Instance) (result : Result (Unit {0}) SinkFault) → OfP2p pairs ≡ c → Shows c I → IsValid I → length pairs < 2 ^ 63 → Puts taken has_failed old new (print (Queries pairs)) result
       → WritesCanon taken has_failed old new form I (written_as result)
@@ -52,11 +49,7 @@ module _ {S : Type 0} (taken : S → Option (List ℕ)) (has_failed : S → Bool
     where
       by_kind : (I : Instance) → Shows (OfP2p pairs) I → IsValid I → WritesCanon taken has_failed old new form I (written_as result)
       by_kind (Queries items) s v = subst (λ l. WritesCanon taken has_failed old new form (Queries l) (written_as result)) s (Queries pairs, companion_canon form (Queries pairs) tt (subst (λ l. IsValid (Queries l)) (sym s) v), put_list (Queries pairs) result few p)
-      by_kind (MinCostFlow _ _) s v = absurd s
-      by_kind (MaxFlow _ _ _) s v = absurd s
-      by_kind (ShortestPaths _) s v = absurd s
-      by_kind (Sources _) s v = absurd s
-      by_kind (Coordinates _) s v = absurd s
+      by_kind _ s v = absurd s
 
   pub points_written : (points : List (ℤ × (ℤ × ℤ))) (c : Contents) (I : Instance) (result : Result (Unit {0}) SinkFault) → OfCo points ≡ c → Shows c I → IsValid I → length points < 2 ^ 63 → Puts taken has_failed old new (print (Coordinates points)) result
       → WritesCanon taken has_failed old new form I (written_as result)
@@ -64,11 +57,7 @@ module _ {S : Type 0} (taken : S → Option (List ℕ)) (has_failed : S → Bool
     where
       by_kind : (I : Instance) → Shows (OfCo points) I → IsValid I → WritesCanon taken has_failed old new form I (written_as result)
       by_kind (Coordinates items) s v = subst (λ l. WritesCanon taken has_failed old new form (Coordinates l) (written_as result)) s (Coordinates points, companion_canon form (Coordinates points) tt (subst (λ l. IsValid (Coordinates l)) (sym s) v), put_list (Coordinates points) result few p)
-      by_kind (MinCostFlow _ _) s v = absurd s
-      by_kind (MaxFlow _ _ _) s v = absurd s
-      by_kind (ShortestPaths _) s v = absurd s
-      by_kind (Sources _) s v = absurd s
-      by_kind (Queries _) s v = absurd s
+      by_kind _ s v = absurd s
 
   pub lengths_written : (tells : Form → Least → List LengthArc) (nodes : ℤ) (table : Bundles Least) (h : Holding) (I : Instance) (result : Result (Unit {0}) Refusal) → OfSp table ≡ h.contents → nodes ≡ h.nodes → IsHeld h I → IsValid I
       → Makes form lengths tells (λ (b : Least). length_told b.length) nodes table → Writes taken has_failed old new (print (ShortestPaths (told_graph (tells form) nodes table))) (length (told_arcs (tells form) table)) result
@@ -80,12 +69,8 @@ module _ {S : Type 0} (taken : S → Option (List ℕ)) (has_failed : S → Bool
 
       by_kind : (I : Instance) → Shows (OfSp table) I → nodes ≡ nodes_of I → IsValid I → WritesCanon taken has_failed old new form I result
       by_kind (ShortestPaths G) s m v =
-          (ShortestPaths H, sp_canon form G H (subst (λ k. IsCanonFor lengths form (record { nodes = k; arcs = G.arcs }) H) m (makes G.arcs s (subst (λ k. IsValidGraph lengths (record { nodes = k; arcs = G.arcs })) (sym m) v))), w)
-      by_kind (MinCostFlow _ _) s m v = absurd s
-      by_kind (MaxFlow _ _ _) s m v = absurd s
-      by_kind (Sources _) s m v = absurd s
-      by_kind (Queries _) s m v = absurd s
-      by_kind (Coordinates _) s m v = absurd s
+          (ShortestPaths H, sp_canon form G H (makes G (sym m) s.tells_them v), w)
+      by_kind _ s m v = absurd s
 
   pub capacities_written : (tells : Form → Total → List CapArc) (nodes a b : ℤ) (table : Bundles Total) (h : Holding) (I : Instance) (result : Result (Unit {0}) Refusal) → OfMax a b table ≡ h.contents → nodes ≡ h.nodes → IsHeld h I → IsValid I
       → Makes form capacities tells (λ (b : Total). cap_told b.total) nodes table → Writes taken has_failed old new (print (MaxFlow a b (told_graph (tells form) nodes table))) (length (told_arcs (tells form) table)) result
@@ -98,14 +83,10 @@ module _ {S : Type 0} (taken : S → Option (List ℕ)) (has_failed : S → Bool
       by_kind : (I : Instance) → Shows (OfMax a b table) I → nodes ≡ nodes_of I → IsValid I → WritesCanon taken has_failed old new form I result
       by_kind (MaxFlow s t G) sh m v =
           let ends : AreTerminals nodes a b = subst (λ k. AreTerminals k a b) (sym m) (subst (λ x. AreTerminals G.nodes x b) (sym sh.0) (subst (λ y. AreTerminals G.nodes s y) (sym sh.1) v.1)) in
-          let canon : IsCanonFor capacities form G H = subst (λ k. IsCanonFor capacities form (record { nodes = k; arcs = G.arcs }) H) m (makes G.arcs sh.2 (subst (λ k. IsValidGraph capacities (record { nodes = k; arcs = G.arcs })) (sym m) v.0)) in
+          let canon : IsCanonGraphOf capacities form H G = makes G (sym m) sh.2.tells_them v.0 in
           subst (λ x. WritesCanon taken has_failed old new form (MaxFlow x t G) result) sh.0
           (subst (λ y. WritesCanon taken has_failed old new form (MaxFlow a y G) result) sh.1 (MaxFlow a b H, max_canon form a b G H canon ends, w))
-      by_kind (MinCostFlow _ _) sh m v = absurd sh
-      by_kind (ShortestPaths _) sh m v = absurd sh
-      by_kind (Sources _) sh m v = absurd sh
-      by_kind (Queries _) sh m v = absurd sh
-      by_kind (Coordinates _) sh m v = absurd sh
+      by_kind _ sh m v = absurd sh
 
   pub costs_written : (tells : Form → Curve → List CostArc) (nodes : ℤ) (flows : List (ℤ × ℤ)) (table : Bundles Curve) (h : Holding) (I : Instance) (result : Result (Unit {0}) Refusal) → OfMin flows table ≡ h.contents → nodes ≡ h.nodes → IsHeld h I → IsValid I
       → Makes form costs tells (λ (b : Curve). told One b.units b.cost b.steps) nodes table → Writes taken has_failed old new (print (MinCostFlow flows (told_graph (tells form) nodes table))) (length (told_arcs (tells form) table)) result
@@ -118,10 +99,6 @@ module _ {S : Type 0} (taken : S → Option (List ℕ)) (has_failed : S → Bool
       by_kind : (I : Instance) → Shows (OfMin flows table) I → nodes ≡ nodes_of I → IsValid I → WritesCanon taken has_failed old new form I result
       by_kind (MinCostFlow supplies G) s m v =
           let are : AreSupplies nodes flows = subst (λ k. AreSupplies k flows) (sym m) (subst (AreSupplies G.nodes) (sym s.0) v.1) in
-          let canon : IsCanonFor costs form G H = subst (λ k. IsCanonFor costs form (record { nodes = k; arcs = G.arcs }) H) m (makes G.arcs s.1 (subst (λ k. IsValidGraph costs (record { nodes = k; arcs = G.arcs })) (sym m) v.0)) in
+          let canon : IsCanonGraphOf costs form H G = makes G (sym m) s.1.tells_them v.0 in
           subst (λ l. WritesCanon taken has_failed old new form (MinCostFlow l G) result) s.0 (MinCostFlow flows H, min_canon form flows G H canon are, w)
-      by_kind (MaxFlow _ _ _) s m v = absurd s
-      by_kind (ShortestPaths _) s m v = absurd s
-      by_kind (Sources _) s m v = absurd s
-      by_kind (Queries _) s m v = absurd s
-      by_kind (Coordinates _) s m v = absurd s
+      by_kind _ s m v = absurd s

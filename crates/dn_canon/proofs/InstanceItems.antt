@@ -1,9 +1,9 @@
 -- The rows of an instance and the items that they spell.
-use Rattle.std.proofs.Common.{◌≡◌, ◌≢◌, inl, inr, ℕ, suc, ℤ, pos, List, [], ◌∷◌, ◌++◌, length, Bool, true, false, cond, map, Option, Some, None, refl, ap, ◌∙◌, append-nil}
+use Rattle.std.proofs.Common.{◌≡◌, ◌≢◌, inl, inr, ℕ, ℤ, pos, List, [], ◌∷◌, ◌++◌, length, Bool, false, cond, map, Option, Some, None, refl, ap, ◌∙◌, append-nil}
 use Rattle.std.proofs.lemmas.Bool.{cases_Bool}
 use Rattle.std.proofs.lemmas.Bool.Decides.{Decides-int_eq}
 use Rattle.std.proofs.lemmas.List.Elements.{filter_map-append}
-use Rattle.std.specs.List.{AllByRecursion, filter_map, cons_option}
+use Rattle.std.specs.List.{AllByRecursion, filter_map}
 use Rattle.std.specs.Ordering.{int_eq}
 use Rattle.dn_num.proofs.ShortestLaws.{decimal_reads}
 use Rattle.dn_line.specs.Number.{number_read}
@@ -20,22 +20,13 @@ use Rattle.dn_line.specs.Words.{keyword_text}
 use Rattle.dn_bundle.specs.Kinds.{ArcKind, lengths, capacities, costs}
 use Rattle.dn_instance.specs.Instances.{Graph, Instance, MinCostFlow, MaxFlow, ShortestPaths, Sources, Queries, Coordinates, kind_of, nodes_of}
 use Rattle.dn_instance.specs.Validity.{IsSupply, AreSupplies, IsValid}
-use Rattle.dn_instance.specs.Items.{counted, is_counted, arc_in, arcs_of, supply_in, supplies_of, source_in, query_in, point_in, by_key, graph_of, instance_as, instance_of}
-use Rattle.dn_canon.specs.Prints.{row, graph_row, companion_row, supply_row, terminal_row, arc_row, source_row, query_row, point_row, rows}
-use Rattle.dn_canon.proofs.RowLaws.{Row, IsInk, AllWords, number_word, number_words}
+use Rattle.dn_instance.specs.Items.{length_arc_in, cap_arc_in, cost_arc_in, arcs_of, supply_in, supplies_of, source_in, query_in, point_in, by_key, graph_of, instance_as, instance_of}
+use Rattle.dn_canon.specs.Prints.{Row, word_row, graph_row, companion_row, supply_row, terminal_row, arc_row, source_row, query_row, point_row, rows}
+use Rattle.dn_canon.proofs.RowLaws.{IsInk, AllWords, number_word, number_words}
 use Rattle.dn_canon.proofs.ItemLaws.{IsHead}
-use Rattle.dn_canon.proofs.PartLaws.{all_append, all_map}
+use Rattle.dn_canon.proofs.PartLaws.{items_back, no_items, always, all_append, all_map}
 use Rattle.dn_canon.proofs.ArcItems.{min_item, max_item, sp_item, min_items, max_items, sp_items, arcs_back}
 use Rattle.dn_canon.proofs.KeyLaws.{by_key_rising}
-
--- the number of counted lines
-abbrev pub count_of : Instance → ℕ
-count_of (MinCostFlow supplies graph) = length graph.arcs
-count_of (MaxFlow source sink graph) = length graph.arcs
-count_of (ShortestPaths graph) = length graph.arcs
-count_of (Sources ids) = length ids
-count_of (Queries pairs) = length pairs
-count_of (Coordinates points) = length points
 
 -- the problem line's row, and its item
 abbrev pub head_row : Instance → Row
@@ -94,7 +85,7 @@ rows_are (Queries pairs) = refl
 rows_are (Coordinates points) = refl
 
 -- a row of a keyword and numbers is of words
-row_words : (key : Keyword) (ns : List ℤ) → IsInk (keyword_text key) → AllWords (row key ns)
+row_words : (key : Keyword) (ns : List ℤ) → IsInk (keyword_text key) → AllWords (word_row key ns)
 row_words key ns h = (h, number_words ns)
 
 -- so is that of a graph
@@ -147,31 +138,6 @@ nodes_back (Sources ids) v = refl
 nodes_back (Queries pairs) v = refl
 nodes_back (Coordinates points) v = refl
 
--- items that give their elements give the list
-items_back : {X : Type 0} (f : Line → Option X) (item : X → Line) (P : X → Type 0) → ((x : X) → P x → f (item x) ≡ Some x) → (xs : List X) → AllByRecursion P xs → filter_map f (map item xs) ≡ xs
-items_back f item P h [] all = refl
-items_back {X} f item P h (x ∷ xs) all = ap (λ (o : Option X). cons_option o (filter_map f (map item xs))) (h x all.0) ∙ ap (λ l. x ∷ l) (items_back f item P h xs all.1)
-
--- items that give nothing give none
-pub no_items : {X Y : Type 0} (f : Line → Option X) (item : Y → Line) → ((y : Y) → f (item y) ≡ None) → (ys : List Y) → filter_map f (map item ys) ≡ []
-no_items f item h [] = refl
-no_items {X} f item h (y ∷ ys) = ap (λ (o : Option X). cons_option o (filter_map f (map item ys))) (h y) ∙ no_items f item h ys
-
--- items of which none is counted
-pub none_counted : {X : Type 0} (item : X → Line) → ((x : X) → is_counted (item x) ≡ false) → (xs : List X) → counted (map item xs) ≡ 0
-none_counted item h [] = refl
-none_counted item h (x ∷ xs) = rw (h x) (none_counted item h xs)
-
--- items of which each is
-pub all_counted : {X : Type 0} (item : X → Line) → ((x : X) → is_counted (item x) ≡ true) → (xs : List X) → counted (map item xs) ≡ length xs
-all_counted item h [] = refl
-all_counted item h (x ∷ xs) = rw (h x) (ap suc (all_counted item h xs))
-
--- what always holds
-always : {X : Type 0} (xs : List X) → AllByRecursion (λ (x : X). Unit {0}) xs
-always [] = tt
-always (x ∷ xs) = (tt, always xs)
-
 -- numbers that are not the same are told apart
 pub differ : (a b : ℤ) → a ≢ b → int_eq a b ≡ false
 differ a b n = elim (cases_Bool (int_eq a b)) [ inl is ↦ absurd (n ((Decides-int_eq a b).0 is)) | inr is_not ↦ is_not ]
@@ -191,19 +157,19 @@ supplies_back graph supplies v =
     ∙ by_key_rising supplies v.map
 
 -- and the arcs
-min_arcs_back : (graph : Graph _) (supplies : List (ℤ × ℤ)) → arcs_of costs (map supply_item supplies ++ map min_item graph.arcs) ≡ graph.arcs
+min_arcs_back : (graph : Graph _) (supplies : List (ℤ × ℤ)) → arcs_of cost_arc_in (map supply_item supplies ++ map min_item graph.arcs) ≡ graph.arcs
 min_arcs_back graph supplies =
-    filter_map-append (arc_in costs) (map supply_item supplies) (map min_item graph.arcs)
-    ∙ ap (λ l. l ++ arcs_of costs (map min_item graph.arcs)) (no_items (arc_in costs) supply_item (λ s. refl) supplies)
-    ∙ arcs_back costs Kinds.Min min_item min_items graph.arcs
+    filter_map-append cost_arc_in (map supply_item supplies) (map min_item graph.arcs)
+    ∙ ap (λ l. l ++ arcs_of cost_arc_in (map min_item graph.arcs)) (no_items cost_arc_in supply_item (λ s. refl) supplies)
+    ∙ arcs_back costs cost_arc_in Kinds.Min min_item min_items graph.arcs
 
 -- the items after the problem line make the instance
 pub body_makes : (I : Instance) → IsValid I → instance_as (kind_of I) (nodes_of I) (body_of I) ≡ Some I
 body_makes (MinCostFlow supplies graph) v =
-    ap (λ s. Some (MinCostFlow s (graph_of costs graph.nodes (body_of (MinCostFlow supplies graph))))) (supplies_back graph supplies v.1)
+    ap (λ s. Some (MinCostFlow s (graph_of cost_arc_in graph.nodes (body_of (MinCostFlow supplies graph))))) (supplies_back graph supplies v.1)
     ∙ ap (λ arcs. Some (MinCostFlow supplies (record { nodes = graph.nodes; arcs = arcs }))) (min_arcs_back graph supplies)
-body_makes (MaxFlow source sink graph) v = ap (λ arcs. Some (MaxFlow source sink (record { nodes = graph.nodes; arcs = arcs }))) (arcs_back capacities Kinds.Max max_item max_items graph.arcs)
-body_makes (ShortestPaths graph) v = ap (λ arcs. Some (ShortestPaths (record { nodes = graph.nodes; arcs = arcs }))) (arcs_back lengths Kinds.Sp sp_item sp_items graph.arcs)
+body_makes (MaxFlow source sink graph) v = ap (λ arcs. Some (MaxFlow source sink (record { nodes = graph.nodes; arcs = arcs }))) (arcs_back capacities cap_arc_in Kinds.Max max_item max_items graph.arcs)
+body_makes (ShortestPaths graph) v = ap (λ arcs. Some (ShortestPaths (record { nodes = graph.nodes; arcs = arcs }))) (arcs_back lengths length_arc_in Kinds.Sp sp_item sp_items graph.arcs)
 body_makes (Sources ids) v = ap (λ l. Some (Sources l)) (items_back source_in Item.Source (λ i. Unit {0}) (λ i h. refl) ids (always ids))
 body_makes (Queries pairs) v = ap (λ l. Some (Queries l)) (items_back query_in query_item (λ q. Unit {0}) (λ q h. refl) pairs (always pairs))
 body_makes (Coordinates points) v =

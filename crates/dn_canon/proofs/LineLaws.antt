@@ -1,5 +1,5 @@
 -- A line word by word.
-use Rattle.std.proofs.Common.{arith, drop, suc, subst, get_or, length-append, ◌≡◌, ℕ, ◌+◌, ◌≤◌, ℤ, List, [], ◌∷◌, ◌++◌, length, map, take, refl, ap, sym, ◌∙◌, append_assoc, append-nil, Some, slice_get}
+use Rattle.std.proofs.Common.{arith, drop, suc, length-append, ◌≡◌, ℕ, ◌+◌, ◌≤◌, ℤ, List, [], ◌∷◌, ◌++◌, length, map, take, refl, ap, sym, ◌∙◌, append_assoc, append-nil, Some, slice_get}
 use Rattle.std.specs.Fmt.{signed_decimal}
 use Rattle.std.specs.List.{join_with_byte}
 use Rattle.std.proofs.lemmas.List.{take_all, map-append}
@@ -37,12 +37,11 @@ line_whole word line whole ns i e h f =
 pub digits_within : (line old digits : List ℕ) → line ≡ digits ++ old → length digits ≤ 20 → length line ≤ length old + 20
 digits_within line old digits e h = let n = ap length e in omega (arith, length-append digits old)
 
-unary : (i : ℕ) → suc i ≡ i + 1
-unary i = omega arith
-
 -- the elements from one on
 pub drop_get : {X : Type 0} (xs : List X) (i : ℕ) (x : X) → slice_get xs i ≡ Some x → drop i xs ≡ x ∷ drop (i + 1) xs
-drop_get xs i x e = subst (λ k. drop i xs ≡ get_or xs i x ∷ drop k xs) (unary i) (drop-cons xs i x (slice_get_within xs i x e)) ∙ ap (λ y. y ∷ drop (i + 1) xs) (get_or_from_slice_get xs i x x e)
+drop_get xs i x e =
+    let next : suc i ≡ i + 1 = omega arith in
+    drop-cons xs i x (slice_get_within xs i x e) ∙ ap (λ y. y ∷ drop (suc i) xs) (get_or_from_slice_get xs i x x e) ∙ ap (λ n. x ∷ drop n xs) next
 
 -- one number more before the end
 pub number_before : (line next end : List ℕ) (rest more : List ℤ) (n : ℤ) → line ≡ spaced (map signed_decimal rest) ++ end → next ≡ (32 ∷ signed_decimal n) ++ line → more ≡ n ∷ rest → next ≡ spaced (map signed_decimal more) ++ end

@@ -1,27 +1,14 @@
 -- Arcs by rising pair are determined by those of each pair.
 use Rattle.std.proofs.Common.{◌≡◌, ℤ, List, [], ◌∷◌, Bool, true, false, cond, refl, sym, ap, ◌∙◌, IsTrue}
-use Rattle.std.specs.Cmp.{IsTotalOrder}
 use Rattle.std.specs.List.{AllByRecursion}
-use Rattle.std.specs.Ordering.{int_cmp, is_eq, is_le, ordering_reverse}
+use Rattle.std.specs.Ordering.{is_eq, is_le, ordering_reverse}
 use Rattle.std.specs.declared.cmp.Ordering.{Ordering}
 use Rattle.std.specs.declared.cmp.Ordering.TheVariants.{Less, Equal, Greater}
-use Rattle.std.proofs.lemmas.Cmp.{then_total, int_cmp_total}
+use Rattle.pair_index.proofs.IndexLaws.{pair_total}
 use Rattle.pair_index.proofs.PairLaws.{pair_is, pair_self}
 use Rattle.pair_index.specs.Pairs.{pair_cmp, same_pair}
 use Rattle.dn_table.specs.Pairs.{pair_le, bundle}
 use Rattle.dn_canon.specs.CanonInstances.{AreInOrder}
-
--- pairs by SRC
-by_first : IsTotalOrder (λ (p q : ℤ × ℤ). int_cmp p.0 q.0)
-by_first = record { antisymm = λ p q. int_cmp_total.antisymm p.0 q.0; trans = λ p q r. int_cmp_total.trans p.0 q.0 r.0; congr = λ p q r. int_cmp_total.congr p.0 q.0 r.0 }
-
--- pairs by DST
-by_second : IsTotalOrder (λ (p q : ℤ × ℤ). int_cmp p.1 q.1)
-by_second = record { antisymm = λ p q. int_cmp_total.antisymm p.1 q.1; trans = λ p q r. int_cmp_total.trans p.1 q.1 r.1; congr = λ p q r. int_cmp_total.congr p.1 q.1 r.1 }
-
--- pairs by both are in a total order
-pair_total : IsTotalOrder pair_cmp
-pair_total = then_total by_first by_second
 
 -- what comes after is what the other comes before
 reversed : (o : Ordering) → Greater ≡ ordering_reverse o → o ≡ Less
@@ -59,6 +46,15 @@ module _ {Arc : Type 0} where
   -- at the pair of the first there is the first
   pub at_head : (a : (ℤ × ℤ) × Arc) (xs : List ((ℤ × ℤ) × Arc)) → bundle a.0 (a ∷ xs) ≡ a.1 ∷ bundle a.0 xs
   at_head a xs = ap (λ t. cond t (a.1 ∷ bundle a.0 xs) (bundle a.0 xs)) (pair_self a.0)
+
+  -- what holds of each arc holds of the arcs of each pair
+  pub all_at_pair : (P : (ℤ × ℤ) × Arc → Type 0) (Q : Arc → Type 0) → ((a : (ℤ × ℤ) × Arc) → P a → Q a.1) → (q : ℤ × ℤ) (arcs : List ((ℤ × ℤ) × Arc)) → AllByRecursion P arcs → AllByRecursion Q (bundle q arcs)
+  all_at_pair P Q h q [] all = tt
+  all_at_pair P Q h q (a ∷ rest) all = by_test (same_pair q a.0) (all_at_pair P Q h q rest all.1)
+    where
+      by_test : (t : Bool) → AllByRecursion Q (bundle q rest) → AllByRecursion Q (cond t (a.1 ∷ bundle q rest) (bundle q rest))
+      by_test true more = (h a all.0, more)
+      by_test false more = more
 
   -- arcs in order with the same bundles begin at one pair
   same_key : (a b : (ℤ × ℤ) × Arc) (xs ys : List ((ℤ × ℤ) × Arc)) → AreInOrder (a ∷ xs) → AreInOrder (b ∷ ys) → ((q : ℤ × ℤ) → bundle q (a ∷ xs) ≡ bundle q (b ∷ ys)) → (o : Ordering) → pair_cmp a.0 b.0 ≡ o → a.0 ≡ b.0

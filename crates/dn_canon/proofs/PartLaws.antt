@@ -1,9 +1,11 @@
--- Lists parted at an element: what stands before it, and rows and items of the elements one by one.
-use Rattle.std.proofs.Common.{◌≡◌, ◌<◌, List, [], ◌∷◌, ◌++◌, length, map, refl, ap, sym, subst, arith, append_assoc, append-nil, length-append}
-use Rattle.std.specs.List.{AllByRecursion}
+-- Lists parted at an element: what stands before it, and rows and items of the elements one by one; what a list is
+-- whose elements give it.
+use Rattle.std.proofs.Common.{◌≡◌, ◌<◌, suc, true, false, Option, Some, None, List, [], ◌∷◌, ◌++◌, length, map, refl, ap, sym, ◌∙◌, subst, arith, append_assoc, append-nil, length-append}
+use Rattle.std.specs.List.{AllByRecursion, filter_map, cons_option}
 use Rattle.dn_line.specs.declared.line.Line.{Line}
 use Rattle.dn_line.specs.Words.{said}
-use Rattle.dn_canon.proofs.RowLaws.{Row}
+use Rattle.dn_instance.specs.Items.{counted, is_counted}
+use Rattle.dn_canon.specs.Prints.{Row}
 use Rattle.dn_canon.proofs.ItemLaws.{Follows, AllFollow}
 
 -- what holds of each element holds of the one at which the list is parted
@@ -44,3 +46,28 @@ each_follow row item before (x ∷ xs) h = (
   each_follow row item (before ++ item x ∷ []) xs
       (λ d y r e. subst (λ b. Follows b (map said (row y)) (item y)) (sym (append_assoc before (item x ∷ []) (map item d))) (h (x ∷ d) y r (ap (λ l. x ∷ l) e))),
 )
+
+-- items that give their elements give the list
+pub items_back : {X : Type 0} (f : Line → Option X) (item : X → Line) (P : X → Type 0) → ((x : X) → P x → f (item x) ≡ Some x) → (xs : List X) → AllByRecursion P xs → filter_map f (map item xs) ≡ xs
+items_back f item P h [] all = refl
+items_back {X} f item P h (x ∷ xs) all = ap (λ (o : Option X). cons_option o (filter_map f (map item xs))) (h x all.0) ∙ ap (λ l. x ∷ l) (items_back f item P h xs all.1)
+
+-- items that give nothing give none
+pub no_items : {X Y : Type 0} (f : Line → Option X) (item : Y → Line) → ((y : Y) → f (item y) ≡ None) → (ys : List Y) → filter_map f (map item ys) ≡ []
+no_items f item h [] = refl
+no_items {X} f item h (y ∷ ys) = ap (λ (o : Option X). cons_option o (filter_map f (map item ys))) (h y) ∙ no_items f item h ys
+
+-- items of which none is counted
+pub none_counted : {X : Type 0} (item : X → Line) → ((x : X) → is_counted (item x) ≡ false) → (xs : List X) → counted (map item xs) ≡ 0
+none_counted item h [] = refl
+none_counted item h (x ∷ xs) = rw (h x) (none_counted item h xs)
+
+-- items of which each is
+pub all_counted : {X : Type 0} (item : X → Line) → ((x : X) → is_counted (item x) ≡ true) → (xs : List X) → counted (map item xs) ≡ length xs
+all_counted item h [] = refl
+all_counted item h (x ∷ xs) = rw (h x) (ap suc (all_counted item h xs))
+
+-- what always holds
+pub always : {X : Type 0} (xs : List X) → AllByRecursion (λ (x : X). Unit {0}) xs
+always [] = tt
+always (x ∷ xs) = (tt, always xs)

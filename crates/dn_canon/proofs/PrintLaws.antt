@@ -1,21 +1,21 @@
 -- The printed text of a valid instance reads as it, and is the text of no other.
 use Rattle.std.proofs.Common.{◌≡◌, ℕ, ◌-◌, ◌<◌, ◌^◌, ℤ, List, [], ◌∷◌, length, map, Some, None, sym, ap, ◌∙◌, subst, arith}
 use Rattle.std.proofs.lemmas.List.{length-map}
-use Rattle.std.specs.List.{AllByRecursion, concat}
+use Rattle.std.specs.List.{AllByRecursion}
 use Rattle.dn_line.specs.Pieces.{lines}
+use Rattle.dn_line.specs.LineTable.{kind_named}
 use Rattle.dn_line.specs.Words.{said}
 use Rattle.dn_line.specs.declared.kind.Kind.{Kind}
 use Rattle.dn_line.specs.declared.line.Line.{Line}
-use Rattle.dn_instance.specs.Instances.{Instance, kind_of, nodes_of}
+use Rattle.dn_instance.specs.Instances.{Instance, kind_of, nodes_of, size_of}
 use Rattle.dn_instance.specs.Validity.{IsValid}
 use Rattle.dn_instance.specs.Items.{instance_as, instance_of}
 use Rattle.dn_instance.specs.TextFaults.{end_fault}
-use Rattle.dn_instance.specs.Texts.{kind_in, items_of, IsClean, Reads}
-use Rattle.dn_instance.proofs.CleanItems.{items_under}
-use Rattle.dn_canon.specs.Prints.{line_text, print}
-use Rattle.dn_canon.proofs.RowLaws.{Row, line_of, AllWords, lines_are, rows_one}
-use Rattle.dn_canon.proofs.ItemLaws.{body_items, items_are, rows_clean}
-use Rattle.dn_canon.proofs.InstanceItems.{count_of, head_row, head_item, body_rows, body_of, rows_are, body_words, head_is, nodes_in, nodes_back, body_makes, items_make}
+use Rattle.dn_instance.specs.Texts.{items_of, IsClean, Reads}
+use Rattle.dn_canon.specs.Prints.{Row, text_of, print}
+use Rattle.dn_canon.proofs.RowLaws.{line_of, AllWords, lines_are, rows_one}
+use Rattle.dn_canon.proofs.ItemLaws.{AllFollow, items_under, body_items, items_are, rows_clean}
+use Rattle.dn_canon.proofs.InstanceItems.{head_row, head_item, body_rows, body_of, rows_are, body_words, head_is, nodes_in, nodes_back, body_makes, items_make}
 use Rattle.dn_canon.proofs.FollowLaws.{head_follows, body_follows, end_clean, count_rows}
 
 -- the rows of an instance
@@ -27,8 +27,8 @@ all_words : (I : Instance) → AllByRecursion AllWords (all_rows I)
 all_words I = ((head_is I).words, body_words I)
 
 -- the text is that of the rows
-text_is : (I : Instance) → print I ≡ concat (map line_text (all_rows I))
-text_is I = ap (λ rs. concat (map line_text rs)) (rows_are I)
+text_is : (I : Instance) → print I ≡ text_of (all_rows I)
+text_is I = ap text_of (rows_are I)
 
 -- the lines of a printed text are its rows' lines
 print_lines : (I : Instance) → lines (print I) ≡ map line_of (all_rows I)
@@ -47,11 +47,11 @@ record LinesRead (ls : List (List ℕ)) (I : Instance) : Type 0 where
 -- the rows' lines read as the instance
 rows_read : (I : Instance) → IsValid I → length (map line_of (all_rows I)) < 2 ^ 63 - 1 → LinesRead (map line_of (all_rows I)) I
 rows_read I v few =
-    let count : count_of I < 2 ^ 63 = omega (arith, length-map (all_rows I) line_of, count_rows I) in
-    let starts = head_follows I v count in
-    let items = items_are (head_row I) (head_item I) (kind_of I) (head_is I) starts (map line_of (body_rows I)) ∙ ap (λ l. head_item I ∷ l) (body_back I v) in
+    let count : size_of I < 2 ^ 63 = omega (arith, length-map (all_rows I) line_of, count_rows I) in
+    let follow : AllFollow [] (all_rows I) (head_item I ∷ body_of I) = (head_follows I v count, body_follows I v) in
+    let items = items_are (all_rows I) (head_item I ∷ body_of I) (all_words I) follow in
     record {
-      clean = rows_clean (head_row I) (head_item I) (kind_of I) (head_is I) starts (body_rows I) (body_of I) (body_words I) (body_follows I v) few;
+      clean = rows_clean (all_rows I) (head_item I ∷ body_of I) (all_words I) follow few;
       whole = ap end_fault items ∙ end_clean I;
       instance_is = ap instance_of items ∙ items_make I v;
     }
@@ -74,7 +74,7 @@ print_one I J v w e =
     let same : all_rows I ≡ all_rows J = rows_one (all_rows I) (all_rows J) (all_words I) (all_words J) (sym (text_is I) ∙ e ∙ text_is J) in
     let heads : head_row I ≡ head_row J = cc in
     let bodies : body_rows I ≡ body_rows J = cc in
-    let named : Some (kind_of I) ≡ Some (kind_of J) = sym (head_is I).kind ∙ ap (λ r. kind_in (map said r)) heads ∙ (head_is J).kind in
+    let named : Some (kind_of I) ≡ Some (kind_of J) = sym (head_is I).kind ∙ ap (λ r. kind_named (map said r)) heads ∙ (head_is J).kind in
     let kinds : kind_of I ≡ kind_of J = cc in
     let nodes : nodes_of I ≡ nodes_of J = sym (nodes_back I v) ∙ ap nodes_in heads ∙ nodes_back J w in
     let items : body_of I ≡ body_of J = sym (body_back I v) ∙ ap (λ k. items_under (Some k) (map line_of (body_rows I))) kinds ∙ ap (λ rs. items_under (Some (kind_of J)) (map line_of rs)) bodies ∙ body_back J w in

@@ -1,38 +1,37 @@
 -- How the rows of a text go into a sink one by one.
-use Rattle.std.proofs.Common.{◌≡◌, ℕ, ◌+◌, ◌<◌, ◌≤◌, ℤ, List, [], ◌∷◌, ◌++◌, length, map, drop, Bool, Option, Some, None, slice_get, suc, zero, refl, ap, sym, ◌∙◌, subst, arith, append-nil}
-use Rattle.std.proofs.Math.Seq.{drop-cons}
+use Rattle.std.proofs.Common.{◌≡◌, ◌⊎◌, inl, inr, get_or, ℕ, ◌<◌, ◌≤◌, ℤ, List, [], ◌∷◌, ◌++◌, length, map, drop, Bool, Option, Some, None, slice_get, ap, sym, ◌∙◌, subst, arith, append-nil}
 use Rattle.std.proofs.lemmas.List.{drop_all, map-append}
 use Rattle.std.proofs.lemmas.List.Folds.{concat-append}
-use Rattle.std.proofs.lemmas.Option.{slice_get_within, get_or_from_slice_get}
+use Rattle.std.proofs.lemmas.Option.{slice_get_cases}
 use Rattle.std.specs.Borrow.{Bor}
 use Rattle.std.specs.List.{concat}
 use Rattle.dn_line.specs.declared.kind.Kind.{Kind}
 use Rattle.dn_line.specs.declared.word.Keyword.TheVariants.{A, S, T}
 use Rattle.dn_bundle.specs.Kinds.{ArcKind}
 use Rattle.dn_instance.specs.Instances.{Graph}
-use Rattle.dn_canon.specs.Prints.{line_text, row, graph_row, companion_row, terminal_row, arc_row, graph_rows}
+use Rattle.dn_canon.specs.Prints.{Row, line_text, word_row, graph_row, companion_row, terminal_row, arc_row, graph_rows, text_of}
 use Rattle.dn_sink.specs.Puts.{HasPut, PutsFront}
 use Rattle.dn_sink.proofs.PutLaws.{put_more, put_stop}
 use Rattle.dn_canon.specs.ToldArcs.{placed, told_arcs}
-use Rattle.dn_canon.specs.Writes.{text_of, node_rows}
+use Rattle.dn_canon.specs.Writes.{node_rows}
 use Rattle.dn_canon.specs.declared.writer.NodeLines.{NodeLines}
 use Rattle.dn_canon.specs.declared.writer.NodeLines.TheVariants.{Terminals}
 
 module _ {K : Type 0} {taken : K → Option (List ℕ)} {has_failed : K → Bool} {a b c : K} where
   -- the line of the next row is put
-  pub row_more : {X : Type 0} {all line : List ℕ} (row : X → List (List ℕ)) (left rest : List X) (x : X) → left ≡ x ∷ rest → line ≡ line_text (row x)
+  pub row_more : {X : Type 0} {all line : List ℕ} (row : X → Row) (left rest : List X) (x : X) → left ≡ x ∷ rest → line ≡ line_text (row x)
       → HasPut taken has_failed a b (text_of (map row left)) all → HasPut taken has_failed b c [] line → HasPut taken has_failed a c (text_of (map row rest)) all
   row_more {X} {all} {line} row left rest x e f h p =
       put_more (subst (λ xs. HasPut taken has_failed a b (text_of (map row xs)) all) e h) (subst (λ l. HasPut taken has_failed b c [] l) f p)
 
   -- a front of it is put
-  pub row_stop : {X : Type 0} {all line : List ℕ} (row : X → List (List ℕ)) (left rest : List X) (x : X) → left ≡ x ∷ rest → line ≡ line_text (row x)
+  pub row_stop : {X : Type 0} {all line : List ℕ} (row : X → Row) (left rest : List X) (x : X) → left ≡ x ∷ rest → line ≡ line_text (row x)
       → HasPut taken has_failed a b (text_of (map row left)) all → PutsFront taken has_failed b c line → PutsFront taken has_failed a c all
   row_stop {X} {all} {line} row left rest x e f h p =
       put_stop (line_text (row x)) (text_of (map row rest)) (subst (λ xs. HasPut taken has_failed a b (text_of (map row xs)) all) e h) (subst (λ l. PutsFront taken has_failed b c l) f p)
 
 -- the rows of two lists
-text-append : (rs ss : List (List (List ℕ))) → text_of (rs ++ ss) ≡ text_of rs ++ text_of ss
+text-append : (rs ss : List Row) → text_of (rs ++ ss) ≡ text_of rs ++ text_of ss
 text-append rs ss = ap concat (map-append line_text rs ss) ∙ concat-append (map line_text rs) (map line_text ss)
 
 -- the arcs of the next bundle, and those of the bundles after it
@@ -42,29 +41,21 @@ bundle_text kind tells left rest e is =
     ap (λ es. text_of (map (arc_row kind) (told_arcs tells es))) is ∙ ap text_of (map-append (arc_row kind) (placed e.0 (tells e.1)) (told_arcs tells rest))
     ∙ text-append (map (arc_row kind) (placed e.0 (tells e.1))) (map (arc_row kind) (told_arcs tells rest))
 
--- the elements from one on
-pub drop_get : {X : Type 0} (xs : List X) (i : ℕ) (x : X) → slice_get xs i ≡ Some x → drop i xs ≡ x ∷ drop (i + 1) xs
-drop_get xs i x e =
-    let next : suc i ≡ i + 1 = omega arith in
-    drop-cons xs i x (slice_get_within xs i x e) ∙ ap (λ y. y ∷ drop (suc i) xs) (get_or_from_slice_get xs i x x e) ∙ ap (λ n. x ∷ drop n xs) next
-
-none_past : {X : Type 0} (xs : List X) (i : ℕ) → i < length xs → slice_get xs i ≡ None → ⊥
-none_past [] i h e = omega arith
-none_past (x ∷ xs) zero h e = cc
-none_past (x ∷ xs) (suc i) h e = none_past xs i (omega arith) e
-
 -- there is an element below the length
 pub some_below : {X : Type 0} (xs : List X) (i : ℕ) (o : Option X) → i < length xs → o ≡ slice_get xs i → ((x : X) → o ≡ Some x → ⊥) → ⊥
-some_below xs i None h e n = none_past xs i h (sym e)
-some_below xs i (Some x) h e n = n x refl
+some_below {X} xs i o h e n = by_case (slice_get_cases xs i).1
+  where
+    by_case : ((x : X) × (i < length xs) × (slice_get xs i ≡ Some x) × (get_or xs i x ≡ x)) ⊎ ((length xs ≤ i) × (slice_get xs i ≡ None)) → ⊥
+    by_case (inl (x, below, at, is)) = n x (e ∙ at)
+    by_case (inr (past, none)) = absurd (omega arith)
 
 -- no row is left
-pub rows_done : {K : Type 0} {taken : K → Option (List ℕ)} {has_failed : K → Bool} {a b : K} {all : List ℕ} {X : Type 0} (row : X → List (List ℕ)) (xs : List X) (i : ℕ) → length xs ≤ i
+pub rows_done : {K : Type 0} {taken : K → Option (List ℕ)} {has_failed : K → Bool} {a b : K} {all : List ℕ} {X : Type 0} (row : X → Row) (xs : List X) (i : ℕ) → length xs ≤ i
     → HasPut taken has_failed a b (text_of (map row (drop i xs))) all → HasPut taken has_failed a b [] all
 rows_done {K} {taken} {has_failed} {a} {b} {all} row xs i h has = subst (λ l. HasPut taken has_failed a b (text_of (map row l)) all) (drop_all i xs h) has
 
 -- a graph's text, in parts
-pub graph_text : {Arc : Type 0} (arcs : ArcKind Arc) (kind : Kind) (graph : Graph Arc) (nodes : List (List (List ℕ))) (count : ℕ) (line : List ℕ) → line ≡ line_text (graph_row kind graph.nodes count) → count ≡ length graph.arcs
+pub graph_text : {Arc : Type 0} (arcs : ArcKind Arc) (kind : Kind) (graph : Graph Arc) (nodes : List Row) (count : ℕ) (line : List ℕ) → line ≡ line_text (graph_row kind graph.nodes count) → count ≡ length graph.arcs
     → line ++ (text_of nodes ++ (text_of (map (arc_row arcs) graph.arcs) ++ [])) ≡ text_of (graph_rows arcs kind graph nodes)
 graph_text arcs kind graph nodes count line e f =
     ap (λ l. line ++ (text_of nodes ++ l)) (append-nil (text_of (map (arc_row arcs) graph.arcs)))
@@ -72,8 +63,8 @@ graph_text arcs kind graph nodes count line e f =
     ∙ ap (λ l. l ++ text_of (nodes ++ map (arc_row arcs) graph.arcs)) (e ∙ ap (λ n. line_text (graph_row kind graph.nodes n)) f)
 
 -- an arc's line
-pub arc_text : {Arc : Type 0} (arcs : ArcKind Arc) (pair : ℤ × ℤ) (arc : Arc) (ns : List ℤ) (line : List ℕ) → line ≡ line_text (row A (pair.0 ∷ pair.1 ∷ ns)) → arcs.numbers arc ≡ ns → line ≡ line_text (arc_row arcs (pair, arc))
-arc_text arcs pair arc ns line e f = e ∙ ap (λ ms. line_text (row A (pair.0 ∷ pair.1 ∷ ms))) (sym f)
+pub arc_text : {Arc : Type 0} (arcs : ArcKind Arc) (pair : ℤ × ℤ) (arc : Arc) (ns : List ℤ) (line : List ℕ) → line ≡ line_text (word_row A (pair.0 ∷ pair.1 ∷ ns)) → arcs.numbers arc ≡ ns → line ≡ line_text (arc_row arcs (pair, arc))
+arc_text arcs pair arc ns line e f = e ∙ ap (λ ms. line_text (word_row A (pair.0 ∷ pair.1 ∷ ms))) (sym f)
 
 -- a companion's problem line, and what comes after it
 pub companion_text : (kind : Kind) (n m : ℕ) (line rest : List ℕ) → line ≡ line_text (companion_row kind n) → n ≡ m → line ++ rest ≡ line_text (companion_row kind m) ++ rest

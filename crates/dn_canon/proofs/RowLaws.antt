@@ -2,17 +2,13 @@
 use Rattle.std.proofs.Common.{◌≡◌, ℕ, zero, suc, ◌/◌, ◌%◌, ℤ, pos, negsuc, List, [], ◌∷◌, ◌++◌, Bool, true, false, cond, nat_lt, nat_eq, map, refl, sym, ap, ◌∙◌, subst, append_assoc, append-nil, arith}
 use Rattle.std.proofs.lemmas.Bool.Decides.{nat_tests}
 use Rattle.std.proofs.lemmas.List.Elements.{All-nil, All-cons}
-use Rattle.std.specs.List.{All, AllByRecursion, join_with_byte, concat}
+use Rattle.std.specs.List.{All, AllByRecursion, join_with_byte}
 use Rattle.std.specs.Fmt.{digits, digits_onto, digit_glyph, decimal, signed_decimal}
 use Rattle.dn_line.specs.Pieces.{parts, lines, is_line_feed}
 use Rattle.dn_line.specs.Words.{is_blank, words, said, said_words}
 use Rattle.dn_line.specs.Runs.{AllBlank, IsWord, AreRuns}
 use Rattle.dn_line.proofs.RunLaws.{runs_only}
-use Rattle.dn_canon.specs.Prints.{line_text}
-
--- the words of one line
-abbrev pub Row : Type 0
-Row = List (List ℕ)
+use Rattle.dn_canon.specs.Prints.{Row, text_of}
 
 -- the line of a row, without its line feed
 abbrev pub line_of : Row → List ℕ
@@ -114,9 +110,9 @@ first_line : (l rest : List ℕ) → NoFeed l → lines ((l ++ 10 ∷ []) ++ res
 first_line l rest h = rw append_assoc (rw (first_part l rest h) refl)
 
 -- the lines of printed rows are the rows' lines
-pub lines_are : (rs : List Row) → AllByRecursion AllWords rs → lines (concat (map line_text rs)) ≡ map line_of rs
+pub lines_are : (rs : List Row) → AllByRecursion AllWords rs → lines (text_of rs) ≡ map line_of rs
 lines_are [] h = refl
-lines_are (r ∷ rs) h = first_line (line_of r) (concat (map line_text rs)) (line_feed r h.0) ∙ ap (λ ls. line_of r ∷ ls) (lines_are rs h.1)
+lines_are (r ∷ rs) h = first_line (line_of r) (text_of rs) (line_feed r h.0) ∙ ap (λ ls. line_of r ∷ ls) (lines_are rs h.1)
 
 -- the words of the rows' lines are the rows
 all_words_are : (rs : List Row) → AllByRecursion AllWords rs → map words (map line_of rs) ≡ rs
@@ -124,7 +120,7 @@ all_words_are [] h = refl
 all_words_are (r ∷ rs) h = ap (λ x. x ∷ map words (map line_of rs)) (words_are r h.0) ∙ ap (λ xs. r ∷ xs) (all_words_are rs h.1)
 
 -- rows of one text are the same
-pub rows_one : (rs ss : List Row) → AllByRecursion AllWords rs → AllByRecursion AllWords ss → concat (map line_text rs) ≡ concat (map line_text ss) → rs ≡ ss
+pub rows_one : (rs ss : List Row) → AllByRecursion AllWords rs → AllByRecursion AllWords ss → text_of rs ≡ text_of ss → rs ≡ ss
 rows_one rs ss h k e =
     let same_lines : map line_of rs ≡ map line_of ss = sym (lines_are rs h) ∙ ap lines e ∙ lines_are ss k in
     sym (all_words_are rs h) ∙ ap (map words) same_lines ∙ all_words_are ss k

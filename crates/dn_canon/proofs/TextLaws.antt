@@ -1,5 +1,5 @@
 -- Canonical texts: the same bytes exactly where the problem is the same, and what they read as.
-use Rattle.std.proofs.Common.{◌≡◌, ◌↔◌, ℕ, ◌+◌, ◌-◌, ◌<◌, ◌^◌, ℤ, List, [], ◌∷◌, ◌++◌, length, false, Some, sym, ap, ◌∙◌, subst, arith, length-append}
+use Rattle.std.proofs.Common.{◌≡◌, ◌↔◌, ℕ, ◌+◌, ◌-◌, ◌<◌, ◌^◌, ℤ, List, [], ◌∷◌, ◌++◌, length, false, sym, ap, ◌∙◌, subst, arith, length-append}
 use Rattle.std.proofs.lemmas.Bool.Decides.{nat_tests}
 use Rattle.dn_line.specs.Pieces.{lines}
 use Rattle.dn_line.specs.declared.code.Code.TheVariants.{TooLong}
@@ -16,6 +16,7 @@ use Rattle.dn_instance.specs.TextFaults.{is_too_long}
 use Rattle.dn_instance.specs.Texts.{Reads}
 use Rattle.dn_instance.proofs.FirstFaults.{by_clean_lines, none_first}
 use Rattle.dn_instance.proofs.SameLaws.{refl_of, sym_of, trans_of}
+use Rattle.dn_instance.proofs.ValidLaws.{some_is}
 use Rattle.dn_canon.specs.CanonInstances.{IsCanonGraph, IsCanonInstance}
 use Rattle.dn_canon.specs.CanonTexts.{IsCanonOf}
 use Rattle.dn_canon.specs.CanonReadings.{ReadsTwice}
@@ -54,31 +55,27 @@ canon_one form _ _ c d e = absurd e
 -- the same bytes, the same problem
 bytes_same : (form : Form) (t u : List ℕ) (I J : Instance) → IsCanonOf form t I → IsCanonOf form u J → t ≡ u → IsSame I J
 bytes_same form t u I J (C, c) (D, d) e =
-    let one : C ≡ D = print_one C D c.valid d.valid (sym c.text_is ∙ e ∙ d.text_is) in
-    trans_of I C J c.same (sym_of J C (subst (IsSame J) (sym one) d.same))
+    let one : C ≡ D = print_one C D c.canon.valid d.canon.valid (sym c.text_is ∙ e ∙ d.text_is) in
+    trans_of I C J c.canon.same (sym_of J C (subst (IsSame J) (sym one) d.canon.same))
 
 -- the same problem, the same bytes
 same_bytes : (form : Form) (t u : List ℕ) (I J : Instance) → IsCanonOf form t I → IsCanonOf form u J → IsSame I J → t ≡ u
 same_bytes form t u I J (C, c) (D, d) s =
-    let one = canon_one form C D c.canonical d.canonical (trans_of C I D (sym_of I C c.same) (trans_of I J D s d.same)) in
+    let one = canon_one form C D c.canon.canonical d.canon.canonical (trans_of C I D (sym_of I C c.canon.same) (trans_of I J D s d.canon.same)) in
     c.text_is ∙ ap print one ∙ sym d.text_is
 
 -- the bytes are the same exactly where the problem is
 pub texts_agree : (form : Form) (t u : List ℕ) (I J : Instance) → IsCanonOf form t I → IsCanonOf form u J → (t ≡ u) ↔ IsSame I J
 texts_agree form t u I J c d = (bytes_same form t u I J c d, same_bytes form t u I J c d)
 
--- one instance
-some_one : (I J : Instance) → Some I ≡ Some J → I ≡ J
-some_one I J e = cc
-
 -- a canonical text of not too many lines reads as one instance, whose canonical text it is
 pub reads_twice : (form : Form) (t : List ℕ) (I : Instance) → length (lines t) < 2 ^ 63 - 1 → IsCanonOf form t I → (J : Instance) × ReadsTwice form t I J
 reads_twice form t I few (C, c) =
-    let reads : Reads t C = subst (λ s. Reads s C) (sym c.text_is) (print_reads C c.valid (subst (λ s. length (lines s) < 2 ^ 63 - 1) c.text_is few)) in
-    let own : IsCanonOf form t C = (C, record { valid = c.valid; canonical = c.canonical; text_is = c.text_is; same = refl_of C }) in (
+    let reads : Reads t C = subst (λ s. Reads s C) (sym c.text_is) (print_reads C c.canon.valid (subst (λ s. length (lines s) < 2 ^ 63 - 1) c.text_is few)) in
+    let own : IsCanonOf form t C = (C, record { canon = record { valid = c.canon.valid; canonical = c.canon.canonical; same = refl_of C }; text_is = c.text_is }) in (
       C,
       record {
-        back = record { reads = reads; same = c.same; only = λ K r. some_one K C (sym r.instance_is ∙ reads.instance_is) };
+        back = record { reads = reads; same = c.canon.same; only = λ K r. some_is K C (sym r.instance_is ∙ reads.instance_is) };
         again = own;
         only = λ u d. same_bytes form u t C C d own (refl_of C);
       },

@@ -12,7 +12,7 @@ use Rattle.std.specs.declared.cmp.Ordering.TheVariants.{Less, Equal, Greater}
 use Rattle.dn_line.specs.Number.{fits}
 use Rattle.dn_bundle.specs.declared.arc.Form.{Form}
 use Rattle.dn_bundle.specs.declared.arc.Form.TheVariants.{One, Two}
-use Rattle.dn_bundle.specs.Kinds.{ArcKind, StandsFor, costs, capacities, lengths}
+use Rattle.dn_bundle.specs.Kinds.{ArcKind, AreCanonArcsOf, costs, capacities, lengths}
 use Rattle.dn_bundle.specs.declared.arc.LengthArc.{LengthArc}
 use Rattle.dn_bundle.specs.declared.arc.CapArc.{CapArc}
 use Rattle.dn_bundle.specs.declared.arc.CostArc.{CostArc}
@@ -23,11 +23,9 @@ use Rattle.dn_table.specs.Pairs.{bundle}
 use Rattle.dn_table.specs.Tables.{told_at}
 use Rattle.dn_instance.specs.Validity.{Fits, IsNode, IsPlaced, IsValidGraph, IsValid, AreSupplies, AreTerminals}
 use Rattle.pair_index.proofs.PairLaws.{pair_is, pair_self}
-use Rattle.dn_canon.specs.CanonInstances.{AreInOrder}
-use Rattle.dn_canon.specs.CanonTexts.{PrintsCanon}
-use Rattle.dn_canon.specs.Prints.{print}
-use Rattle.dn_canon.specs.ToldArcs.{placed, told_arcs, told_graph, IsCanonFor}
-use Rattle.dn_canon.proofs.OrderLaws.{NoneBefore, at_head}
+use Rattle.dn_canon.specs.CanonInstances.{AreInOrder, IsCanonGraphOf, IsCanonInstanceOf}
+use Rattle.dn_canon.specs.ToldArcs.{placed, told_arcs, told_graph}
+use Rattle.dn_canon.proofs.OrderLaws.{NoneBefore, all_at_pair, at_head}
 
 -- an instance without a graph
 abbrev pub IsCompanion : Instance → Type 0
@@ -57,7 +55,7 @@ all_fit (n ∷ ns) h = (fits_signed n h.0, all_fit ns h.1)
 
 module _ {Arc : Type 0} where
   -- the arcs of a pair, where those of one pair come first
-  bundle_placed : (q p : ℤ × ℤ) (xs : List Arc) (rest : List ((ℤ × ℤ) × Arc)) → bundle q (placed p xs ++ rest) ≡ cond (same_pair q p) (xs ++ bundle q rest) (bundle q rest)
+  pub bundle_placed : (q p : ℤ × ℤ) (xs : List Arc) (rest : List ((ℤ × ℤ) × Arc)) → bundle q (placed p xs ++ rest) ≡ cond (same_pair q p) (xs ++ bundle q rest) (bundle q rest)
   bundle_placed q p [] rest = by_test (same_pair q p) (bundle q rest)
     where
       by_test : (t : Bool) (ys : List Arc) → ys ≡ cond t ys ys
@@ -70,7 +68,7 @@ module _ {Arc : Type 0} where
       by_test false ys zs = refl
 
   -- arcs of one pair, and arcs in order none of which stands before it
-  order_placed : (p : ℤ × ℤ) (xs : List Arc) (rest : List ((ℤ × ℤ) × Arc)) → NoneBefore p rest → AreInOrder rest → NoneBefore p (placed p xs ++ rest) × AreInOrder (placed p xs ++ rest)
+  pub order_placed : (p : ℤ × ℤ) (xs : List Arc) (rest : List ((ℤ × ℤ) × Arc)) → NoneBefore p rest → AreInOrder rest → NoneBefore p (placed p xs ++ rest) × AreInOrder (placed p xs ++ rest)
   order_placed p [] rest n r = (n, r)
   order_placed p (x ∷ xs) rest n r = let more = order_placed p xs rest n r in ((equal_le (pair_cmp p p) (pair_self p), more.0), (more.0, more.1))
 
@@ -88,15 +86,6 @@ module _ {Arc : Type 0} where
       tail : (q : ℤ × ℤ) (t : Bool) → AllByRecursion (λ x. P (q, x)) (cond t (a.1 ∷ bundle q rest) (bundle q rest)) → AllByRecursion (λ x. P (q, x)) (bundle q rest)
       tail q true e = e.1
       tail q false e = e
-
-  -- and what holds of each arc, of the arcs of each pair
-  all_at_pair : (P : (ℤ × ℤ) × Arc → Type 0) (Q : Arc → Type 0) → ((a : (ℤ × ℤ) × Arc) → P a → Q a.1) → (q : ℤ × ℤ) (arcs : List ((ℤ × ℤ) × Arc)) → AllByRecursion P arcs → AllByRecursion Q (bundle q arcs)
-  all_at_pair P Q h q [] all = tt
-  all_at_pair P Q h q (a ∷ rest) all = by_test (same_pair q a.0) (all_at_pair P Q h q rest all.1)
-    where
-      by_test : (t : Bool) → AllByRecursion Q (bundle q rest) → AllByRecursion Q (cond t (a.1 ∷ bundle q rest) (bundle q rest))
-      by_test true more = (h a all.0, more)
-      by_test false more = more
 
   -- a pair that has an arc joins two nodes
   nodes_at : (kind : ArcKind Arc) (n : ℤ) (arcs : List ((ℤ × ℤ) × Arc)) (q : ℤ × ℤ) (x : Arc) (xs : List Arc) → AllByRecursion (IsPlaced kind n) arcs → bundle q arcs ≡ x ∷ xs → IsNode n q.0 × IsNode n q.1
@@ -172,10 +161,11 @@ module _ {B Arc : Type 0} (kind : ArcKind Arc) (laws : IsKind kind) (told : Form
       by_bundle (b ∷ bs) f g = each_placed n q (nodes_at kind n arcs q b bs v f) xs (laws.canon_arcs form xs c) fit
 
   -- the told arcs make the canonical graph
-  pub told_canon : (nodes : ℤ) (table : List ((ℤ × ℤ) × B)) (arcs : List ((ℤ × ℤ) × Arc)) → IsStrictlySortedBy pair_cmp (keys_of table)
-      → ((p : ℤ × ℤ) → StandsFor kind (told_at (told One) table p) (bundle p arcs)) → IsValidGraph kind (record { nodes = nodes; arcs = arcs })
-      → IsCanonFor kind form (record { nodes = nodes; arcs = arcs }) (told_graph (told form) nodes table)
-  told_canon nodes table arcs rising stands valid =
+  pub told_canon : (nodes : ℤ) (table : List ((ℤ × ℤ) × B)) (G : Graph Arc) → G.nodes ≡ nodes → IsStrictlySortedBy pair_cmp (keys_of table)
+      → ((p : ℤ × ℤ) → AreCanonArcsOf kind (told_at (told One) table p) (bundle p G.arcs)) → IsValidGraph kind G
+      → IsCanonGraphOf kind form (told_graph (told form) nodes table) G
+  told_canon nodes table G is rising stands valid =
+      let arcs = G.arcs in
       let all = told_arcs (told form) table in
       let at : (q : ℤ × ℤ) → bundle q all ≡ told_at (told form) table q = λ q. told_bundle (told form) q table rising in
       let canon : (q : ℤ × ℤ) → kind.IsCanon form (bundle q all) = λ q. subst (kind.IsCanon form) (sym (at q)) (at_canon (lookup (same_pair q) table)) in
@@ -183,33 +173,34 @@ module _ {B Arc : Type 0} (kind : ArcKind Arc) (laws : IsKind kind) (told : Form
       let means : (q : ℤ × ℤ) → kind.Same (bundle q all) (bundle q arcs) =
       λ q. subst (λ l. kind.Same l (bundle q arcs)) (sym (at q))
       (laws.meaning.same_trans (told_at (told form) table q) (told_at (told One) table q) (bundle q arcs) (at_same (lookup (same_pair q) table)) (stands q).same) in
-      let are : (q : ℤ × ℤ) → AllByRecursion kind.IsArc (bundle q arcs) = λ q. all_at_pair (IsPlaced kind nodes) kind.IsArc (λ a p. p.is_arc) q arcs valid.placed in
-      record {
+      let are : (q : ℤ × ℤ) → AllByRecursion kind.IsArc (bundle q arcs) = λ q. all_at_pair (IsPlaced kind G.nodes) kind.IsArc (λ a p. p.is_arc) q arcs valid.placed in
+      subst (λ n. IsCanonGraphOf kind form (told_graph (told form) n table) G) is
+      (record {
         valid = record {
           some_nodes = valid.some_nodes;
           nodes_fit = valid.nodes_fit;
-          placed = all_from (IsPlaced kind nodes) all (λ q. placed_at nodes q arcs (bundle q all) valid.placed (canon q) (fit q) (means q));
+          placed = all_from (IsPlaced kind G.nodes) all (λ q. placed_at G.nodes q arcs (bundle q all) valid.placed (canon q) (fit q) (means q));
           capacities = λ q. subst (λ z. z ≤ℤ pos (2 ^ 63 - 1)) (laws.same_capacity (bundle q arcs) (bundle q all) (are q) (laws.canon_arcs form (bundle q all) (canon q)) (laws.meaning.same_sym (bundle q all) (bundle q arcs) (means q))) (valid.capacities q);
         };
         canonical = record { in_order = told_order (told form) table rising; canonical = canon };
         same = record { nodes = refl; bundles = λ q. laws.meaning.same_sym (bundle q all) (bundle q arcs) (means q) };
-      }
+      })
 
--- the canonical text of a `min` problem is that of its supplies and its canonical graph
-pub min_canon : (form : Form) (supplies : List (ℤ × ℤ)) (G H : Graph CostArc) → IsCanonFor costs form G H → AreSupplies H.nodes supplies → PrintsCanon form (print (MinCostFlow supplies H)) (MinCostFlow supplies G) (MinCostFlow supplies H)
-min_canon form supplies G H c are = record { valid = (c.valid, are); canonical = c.canonical; text_is = refl; same = (refl, c.same) }
+-- the canonical instance of a `min` problem has its supplies and its canonical graph
+pub min_canon : (form : Form) (supplies : List (ℤ × ℤ)) (G H : Graph CostArc) → IsCanonGraphOf costs form H G → AreSupplies H.nodes supplies → IsCanonInstanceOf form (MinCostFlow supplies H) (MinCostFlow supplies G)
+min_canon form supplies G H c are = record { valid = (c.valid, are); canonical = c.canonical; same = (refl, c.same) }
 
--- that of a `max` problem, of its source, its sink and its canonical graph
-pub max_canon : (form : Form) (source sink : ℤ) (G H : Graph CapArc) → IsCanonFor capacities form G H → AreTerminals H.nodes source sink → PrintsCanon form (print (MaxFlow source sink H)) (MaxFlow source sink G) (MaxFlow source sink H)
-max_canon form source sink G H c are = record { valid = (c.valid, are); canonical = c.canonical; text_is = refl; same = (refl, refl, c.same) }
+-- that of a `max` problem has its source, its sink and its canonical graph
+pub max_canon : (form : Form) (source sink : ℤ) (G H : Graph CapArc) → IsCanonGraphOf capacities form H G → AreTerminals H.nodes source sink → IsCanonInstanceOf form (MaxFlow source sink H) (MaxFlow source sink G)
+max_canon form source sink G H c are = record { valid = (c.valid, are); canonical = c.canonical; same = (refl, refl, c.same) }
 
--- that of an `sp` graph, of its canonical graph
-pub sp_canon : (form : Form) (G H : Graph LengthArc) → IsCanonFor lengths form G H → PrintsCanon form (print (ShortestPaths H)) (ShortestPaths G) (ShortestPaths H)
-sp_canon form G H c = record { valid = c.valid; canonical = c.canonical; text_is = refl; same = c.same }
+-- that of an `sp` graph has its canonical graph
+pub sp_canon : (form : Form) (G H : Graph LengthArc) → IsCanonGraphOf lengths form H G → IsCanonInstanceOf form (ShortestPaths H) (ShortestPaths G)
+sp_canon form G H c = record { valid = c.valid; canonical = c.canonical; same = c.same }
 
--- a companion's text is its canonical text
-pub companion_canon : (form : Form) (I : Instance) → IsCompanion I → IsValid I → PrintsCanon form (print I) I I
-companion_canon form (Sources ids) c v = record { valid = v; canonical = tt; text_is = refl; same = refl }
-companion_canon form (Queries pairs) c v = record { valid = v; canonical = tt; text_is = refl; same = refl }
-companion_canon form (Coordinates points) c v = record { valid = v; canonical = tt; text_is = refl; same = refl }
+-- a companion is its own canonical instance
+pub companion_canon : (form : Form) (I : Instance) → IsCompanion I → IsValid I → IsCanonInstanceOf form I I
+companion_canon form (Sources ids) c v = record { valid = v; canonical = tt; same = refl }
+companion_canon form (Queries pairs) c v = record { valid = v; canonical = tt; same = refl }
+companion_canon form (Coordinates points) c v = record { valid = v; canonical = tt; same = refl }
 companion_canon form _ c v = absurd c

@@ -1,11 +1,10 @@
 // The canonical text of what is held, in a sink, in memory, and from a source to a sink.
 ghost use Rattle.std.specs.Prelude.{◌≡◌, ◌≢◌, ◌↔◌, Err, IfSome, IsErrOf, IsTrue, OnOk};
-ghost use Rattle.dn_instance.specs.Helds.{IsHeld};
+ghost use Rattle.dn_instance.specs.Helds.{IsHeld, holding};
 ghost use Rattle.dn_instance.specs.Instances.{Instance};
 ghost use Rattle.dn_instance.specs.Validity.{IsValid};
-ghost use Rattle.dn_instance.specs.Views.{holding};
-ghost use Rattle.dn_canon.specs.Writes.{Answers, WritesCanon, written_as};
-ghost use Rattle.dn_canon.specs.Runs.{JudgesCanon, RunsCanon, TextCanon};
+ghost use Rattle.dn_canon.specs.Writes.{SinkAfter, WritesCanon, written_as};
+ghost use Rattle.dn_canon.specs.Runs.{JudgesCanon, RunOutcome, TextOutcome};
 
 use crate::writer::{NodeLines, write_graph, write_points, write_queries, write_sources};
 use dn_bundle::Form;
@@ -21,9 +20,10 @@ use std::alloc::Global;
 /// `Write` where the sink failed, and then it took a front of the text; `CountTooLarge` where the text has more counted
 /// lines than 2^63-1, and then nothing is put.
 pub fn write_canon<K: Sink>(held: &Held, sink: &mut K, form: Form) -> Result<(), Refusal>
-    ensures answer { Answers K.has_failed sink.old sink.new result }
+    ensures answer { SinkAfter K.has_failed sink.old sink.new result }
     ensures flushed { OnOk result (IsTrue (K.is_flushed sink.new)) }
-    ensures canon { (I : Instance) → IsValid I → IsHeld (holding held.now) I → WritesCanon K.taken K.has_failed sink.old sink.new form I result }
+    ensures canon { (I : Instance) → IsValid I → IsHeld (holding held.now) I
+        → WritesCanon K.taken K.has_failed sink.old sink.new form I result }
 {
     let nodes = held.nodes();
     match held.view() {
@@ -48,23 +48,14 @@ pub fn write_canon<K: Sink>(held: &Held, sink: &mut K, form: Form) -> Result<(),
     }
 }
 
-// The refusal of a sink that failed.
-fn written(put: Result<(), SinkFault>) -> Result<(), Refusal>
-    ensures { written_as put ≡ result }
-{
-    match put {
-        Ok(()) => Ok(()),
-        Err(_) => Err(Refusal::Write),
-    }
-}
-
 /// The canonical text of what is held.
 ///
 /// # Errors
 ///
 /// `Memory` where there is none for the text; `CountTooLarge` where it has more counted lines than 2^63-1.
 pub fn canon_text(alloc: Global, held: &Held, form: Form) -> Result<Vec<u8>, Refusal>
-    ensures { (I : Instance) → IsValid I → IsHeld (holding held.now) I → TextCanon (λ v. v.items) form I result }
+    ensures { (I : Instance) → IsValid I → IsHeld (holding held.now) I
+        → TextOutcome (λ v. v.items) form I result }
 {
     let mut bytes = Bytes::new(alloc);
     match write_canon(held, &mut bytes, form) {
@@ -86,7 +77,8 @@ pub fn canon_run<S: Source, K: Sink>(
     sink: &mut K,
     form: Form,
 ) -> Result<(), Refusal>
-    ensures outcome { IfSome (S.gives source.old) (λ t. RunsCanon K.taken K.has_failed sink.old sink.new form t (S.gives source.new) result) }
+    ensures outcome { IfSome (S.gives source.old)
+        (λ t. RunOutcome K.taken K.has_failed sink.old sink.new form t (S.gives source.new) result) }
     ensures read { IsErrOf result Refusal.Read → IsTrue (S.has_failed source.new) }
     ensures write { IsErrOf result Refusal.Write → IsTrue (K.has_failed sink.new) }
     ensures unput { (e : Refusal) → result ≡ Err e → e ≢ Refusal.Write → sink.new ≡ sink.old }
@@ -116,6 +108,16 @@ pub fn is_canon(alloc: Global, text: &[u8], form: Form) -> Result<bool, Refusal>
             Err(_) => Err(Refusal::Memory),
         },
         Err(refusal) => Err(refusal),
+    }
+}
+
+// The refusal of a sink that failed.
+fn written(put: Result<(), SinkFault>) -> Result<(), Refusal>
+    ensures { written_as put ≡ result }
+{
+    match put {
+        Ok(()) => Ok(()),
+        Err(_) => Err(Refusal::Write),
     }
 }
 

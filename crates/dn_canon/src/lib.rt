@@ -1,17 +1,16 @@
 //! Canonical texts: which instances are canonical in each form, how an instance is printed, and which text is the
 //! canonical one of an instance; how a text is written to a sink without memory.
 //!
-//! In the order of the data: `canon` has the public calls, from what is held, a text or a source to a sink; `writer` puts
-//! the lines, which `rows` makes in a `line`, or, for arcs, in a `back_line` from the end. `laws` and `examples` say what
-//! the definitions mean.
+//! In the order of the data: `canon` has the public calls, from what is held, a text or a source to a sink; `writer`
+//! puts the lines, which `print` makes, those of arcs from the end in a `back_line`. `laws` and `examples` say what the
+//! definitions mean.
 #![tactic(auto)]
 
 mod back_line;
 pub mod canon;
 pub mod examples;
 pub mod laws;
-mod line;
-mod rows;
+mod print;
 mod writer;
 
 pub use canon::{canon_run, canon_text, is_canon, write_canon};

@@ -1,21 +1,22 @@
 // Writes the canonical text of what tables, lists and maps tell, a line a put, without memory of its own.
-ghost use Rattle.std.specs.Prelude.{◌≡◌, ◌<◌, ◌≤◌, ◌^◌, ℤ, List, [], length, map, IsTrue, OnOk, MatchOption};
+ghost use Rattle.std.specs.Prelude.{◌≡◌, ◌<◌, ◌≤◌, ◌^◌, [], length, map, IsTrue, OnOk, MatchOption};
 ghost use Rattle.std.specs.List.Sorted.{IsStrictlySortedBy};
 ghost use Rattle.std.specs.Map.{keys_of};
-ghost use Rattle.dn_instance.specs.Instances.{Sources, Queries, Coordinates};
+ghost use Rattle.dn_instance.specs.Instances.{Graph, Sources, Queries, Coordinates};
 ghost use Rattle.pair_index.specs.Pairs.{pair_cmp};
-ghost use Rattle.dn_table.specs.Tables.{Tells};
+ghost use Rattle.dn_table.specs.Tables.{TableTells};
 ghost use Rattle.dn_instance.specs.Validity.{IsValidGraph};
 ghost use Rattle.dn_canon.specs.Lines.{AreShort};
-ghost use Rattle.dn_canon.specs.Prints.{arc_row, supply_row, graph_rows, print};
+ghost use Rattle.dn_canon.specs.Prints.{arc_row, supply_row, graph_rows, print, text_of};
 ghost use Rattle.dn_sink.specs.Puts.{Puts};
-ghost use Rattle.dn_canon.specs.ToldArcs.{placed, told_arcs, told_graph, IsCanonFor};
-ghost use Rattle.dn_canon.specs.Writes.{text_of, node_rows, Writes};
+ghost use Rattle.dn_canon.specs.CanonInstances.{IsCanonGraphOf};
+ghost use Rattle.dn_canon.specs.ToldArcs.{placed, told_arcs, told_graph};
+ghost use Rattle.dn_canon.specs.Writes.{node_rows, Writes};
 
 use crate::back_line::BackLine;
-use crate::rows::{
-    arc_line, companion_line, end_line, graph_line, point_line, query_line, source_line,
-    start_line, supply_line,
+use crate::print::{
+    arc_line, companion_line, graph_line, max_sink_line, max_source_line, point_line, query_line,
+    source_line, supply_line,
 };
 use dn_bundle::{Bundle, Form};
 use dn_instance::{Refusal, Table};
@@ -34,109 +35,6 @@ pub(crate) enum NodeLines<'a> {
     NoNodes,
 }
 
-// How many arcs a table tells, where 63 bits hold the number.
-fn arc_count<B: Bundle>(table: &Table<B>, form: Form) -> Option<u64>
-    ensures count { MatchOption result (2 ^ 63 ≤ length (told_arcs (B.told form) table.now)) (λ n. (n ≡ length (told_arcs (B.told form) table.now)) × n < 2 ^ 63) }
-    ensures rising { IsStrictlySortedBy pair_cmp (keys_of table.now) }
-{
-    let mut all = 0u64;
-    for (_, bundle) in table.pairs() {
-        all = all.checked_add(bundle.canon_len(form))?;
-    }
-    if all < 1 << 63 { Some(all) } else { None }
-}
-
-// The arcs of one pair.
-fn put_bundle<B: Bundle, K: Sink>(
-    sink: &mut K,
-    pair: &(i64, i64),
-    bundle: &B,
-    form: Form,
-) -> Result<(), SinkFault>
-    requires { AreShort B.kind }
-    ensures { Puts K.taken K.has_failed sink.old sink.new (text_of (map (arc_row B.kind) (placed pair.now (B.told form bundle.now)))) result }
-{
-    let mut line = BackLine::new();
-    let mut next = bundle.canon_arc(0, form);
-    for _ in 0..bundle.canon_len(form) {
-        if let Some(arc) = next {
-            arc_line(&mut line, pair, &arc);
-            line.put(sink)?;
-            next = bundle.canon_after(&arc, form);
-        }
-    }
-    Ok(())
-}
-
-// The arcs of a graph.
-fn put_table<B: Bundle, K: Sink>(
-    sink: &mut K,
-    table: &Table<B>,
-    form: Form,
-) -> Result<(), SinkFault>
-    requires { AreShort B.kind }
-    ensures { Puts K.taken K.has_failed sink.old sink.new (text_of (map (arc_row B.kind) (told_arcs (B.told form) table.now))) result }
-{
-    for (pair, bundle) in table.pairs() {
-        put_bundle(sink, &pair, bundle, form)?;
-    }
-    Ok(())
-}
-
-// The flows of a `min` problem.
-fn put_supplies<K: Sink>(sink: &mut K, supplies: &BTreeMap<i64, i64>) -> Result<(), SinkFault>
-    ensures { Puts K.taken K.has_failed sink.old sink.new (text_of (map supply_row supplies.now.entries)) result }
-{
-    for (id, flow) in supplies {
-        supply_line(id, flow).put(sink)?;
-    }
-    Ok(())
-}
-
-// The lines between the problem line and the arcs.
-fn put_nodes<K: Sink>(sink: &mut K, nodes: &NodeLines<'_>) -> Result<(), SinkFault>
-    ensures { Puts K.taken K.has_failed sink.old sink.new (text_of (node_rows nodes.now)) result }
-{
-    match nodes {
-        NodeLines::Supplies(supplies) => put_supplies(sink, supplies),
-        NodeLines::Terminals(source, target) => {
-            start_line(source).put(sink)?;
-            end_line(target).put(sink)
-        }
-        NodeLines::NoNodes => Ok(()),
-    }
-}
-
-// Ends a text.
-fn finish<K: Sink>(sink: &mut K) -> Result<(), SinkFault>
-    ensures text { Puts K.taken K.has_failed sink.old sink.new [] result }
-    ensures flushed { OnOk result (IsTrue (K.is_flushed sink.new)) }
-{
-    sink.flush()
-}
-
-// A graph: the problem line, the lines before the arcs, and the arcs.
-fn put_graph<B: Bundle, K: Sink>(
-    sink: &mut K,
-    kind: Kind,
-    nodes: &i64,
-    count: u64,
-    lines: &NodeLines<'_>,
-    table: &Table<B>,
-    form: Form,
-) -> Result<(), SinkFault>
-    requires short { AreShort B.kind }
-    requires few { count < 2 ^ 63 }
-    requires count { count ≡ length (told_arcs (B.told form) table.now) }
-    ensures text { Puts K.taken K.has_failed sink.old sink.new (text_of (graph_rows B.kind kind (told_graph (B.told form) nodes.now table.now) (node_rows lines.now))) result }
-    ensures flushed { OnOk result (IsTrue (K.is_flushed sink.new)) }
-{
-    graph_line(kind, nodes, count).put(sink)?;
-    put_nodes(sink, lines)?;
-    put_table(sink, table, form)?;
-    finish(sink)
-}
-
 // Writes a graph. Two walks over the table: the number of arcs, and then the lines.
 pub(crate) fn write_graph<B: Bundle, K: Sink>(
     sink: &mut K,
@@ -147,10 +45,12 @@ pub(crate) fn write_graph<B: Bundle, K: Sink>(
     form: Form,
 ) -> Result<(), Refusal>
     requires { AreShort B.kind }
-    ensures text { Writes K.taken K.has_failed sink.old sink.new (text_of (graph_rows B.kind kind (told_graph (B.told form) nodes.now table.now) (node_rows lines.now))) (length (told_arcs (B.told form) table.now)) result }
+    ensures text { let graph = told_graph (B.told form) nodes.now table.now in
+        let text = text_of (graph_rows B.kind kind graph (node_rows lines.now)) in
+        Writes K.taken K.has_failed sink.old sink.new text (length graph.arcs) result }
     ensures flushed { OnOk result (IsTrue (K.is_flushed sink.new)) }
-    ensures canon { (arcs : List ((ℤ × ℤ) × B.Arc)) → Tells B.kind (B.told Form.One) table.now arcs → IsValidGraph B.kind (record { nodes = nodes.now; arcs = arcs })
-        → IsCanonFor B.kind form (record { nodes = nodes.now; arcs = arcs }) (told_graph (B.told form) nodes.now table.now) }
+    ensures canon { (G : Graph B.Arc) → G.nodes ≡ nodes.now → TableTells B.kind (B.told Form.One) table.now G.arcs
+        → IsValidGraph B.kind G → IsCanonGraphOf B.kind form (told_graph (B.told form) nodes.now table.now) G }
 {
     match arc_count(table, form) {
         Some(count) => match put_graph(sink, kind, nodes, count, lines, table, form) {
@@ -200,5 +100,113 @@ pub(crate) fn write_points<K: Sink>(
     for (id, place) in points {
         point_line(id, place).put(sink)?;
     }
+    finish(sink)
+}
+
+// How many arcs a table tells, where 63 bits hold the number.
+fn arc_count<B: Bundle>(table: &Table<B>, form: Form) -> Option<u64>
+    ensures count { let all = length (told_arcs (B.told form) table.now) in
+        MatchOption result (2 ^ 63 ≤ all) (λ n. (n ≡ all) × n < 2 ^ 63) }
+    ensures rising { IsStrictlySortedBy pair_cmp (keys_of table.now) }
+{
+    let mut all = 0u64;
+    for (_, bundle) in table.pairs() {
+        all = all.checked_add(bundle.canon_len(form))?;
+    }
+    if all < 1 << 63 { Some(all) } else { None }
+}
+
+// The arcs of one pair.
+fn put_bundle<B: Bundle, K: Sink>(
+    sink: &mut K,
+    pair: &(i64, i64),
+    bundle: &B,
+    form: Form,
+) -> Result<(), SinkFault>
+    requires { AreShort B.kind }
+    ensures { Puts K.taken K.has_failed sink.old sink.new
+        (text_of (map (arc_row B.kind) (placed pair.now (B.told form bundle.now)))) result }
+{
+    let mut line = BackLine::new();
+    let mut next = bundle.canon_arc(0, form);
+    for _ in 0..bundle.canon_len(form) {
+        if let Some(arc) = next {
+            arc_line(&mut line, pair, &arc);
+            line.put(sink)?;
+            next = bundle.canon_after(&arc, form);
+        }
+    }
+    Ok(())
+}
+
+// The arcs of a graph.
+fn put_table<B: Bundle, K: Sink>(
+    sink: &mut K,
+    table: &Table<B>,
+    form: Form,
+) -> Result<(), SinkFault>
+    requires { AreShort B.kind }
+    ensures { Puts K.taken K.has_failed sink.old sink.new
+        (text_of (map (arc_row B.kind) (told_arcs (B.told form) table.now))) result }
+{
+    for (pair, bundle) in table.pairs() {
+        put_bundle(sink, &pair, bundle, form)?;
+    }
+    Ok(())
+}
+
+// The flows of a `min` problem.
+fn put_supplies<K: Sink>(sink: &mut K, supplies: &BTreeMap<i64, i64>) -> Result<(), SinkFault>
+    ensures { Puts K.taken K.has_failed sink.old sink.new (text_of (map supply_row supplies.now.entries)) result }
+{
+    for (id, flow) in supplies {
+        supply_line(id, flow).put(sink)?;
+    }
+    Ok(())
+}
+
+// The lines between the problem line and the arcs.
+fn put_nodes<K: Sink>(sink: &mut K, nodes: &NodeLines<'_>) -> Result<(), SinkFault>
+    ensures { Puts K.taken K.has_failed sink.old sink.new (text_of (node_rows nodes.now)) result }
+{
+    match nodes {
+        NodeLines::Supplies(supplies) => put_supplies(sink, supplies),
+        NodeLines::Terminals(source, target) => {
+            max_source_line(source).put(sink)?;
+            max_sink_line(target).put(sink)
+        }
+        NodeLines::NoNodes => Ok(()),
+    }
+}
+
+// Ends a text.
+fn finish<K: Sink>(sink: &mut K) -> Result<(), SinkFault>
+    ensures text { Puts K.taken K.has_failed sink.old sink.new [] result }
+    ensures flushed { OnOk result (IsTrue (K.is_flushed sink.new)) }
+{
+    sink.flush()
+}
+
+// A graph: the problem line, the lines before the arcs, and the arcs.
+fn put_graph<B: Bundle, K: Sink>(
+    sink: &mut K,
+    kind: Kind,
+    nodes: &i64,
+    count: u64,
+    lines: &NodeLines<'_>,
+    table: &Table<B>,
+    form: Form,
+) -> Result<(), SinkFault>
+    requires short { AreShort B.kind }
+    requires few { count < 2 ^ 63 }
+    requires count { count ≡ length (told_arcs (B.told form) table.now) }
+    ensures text { let graph = told_graph (B.told form) nodes.now table.now in
+        let text = text_of (graph_rows B.kind kind graph (node_rows lines.now)) in
+        Puts K.taken K.has_failed sink.old sink.new text result }
+    ensures flushed { OnOk result (IsTrue (K.is_flushed sink.new)) }
+{
+    graph_line(kind, nodes, count).put(sink)?;
+    put_nodes(sink, lines)?;
+    put_table(sink, table, form)?;
     finish(sink)
 }

@@ -41,7 +41,7 @@ use Rattle.pair_index.proofs.IndexLaws.{pair_total}
 use Rattle.dn_compare.specs.Observed.{value_of}
 use Rattle.dn_compare.specs.FirstDifference.{IsFirstDifference}
 use Rattle.dn_compare.specs.Partings.{Comparison, by_flow, by_point, AlikeAt, PartAt, ArcsPartAt}
-use Rattle.dn_compare.specs.Examples.{lengths, flow_from, supplied, costs, length_arc, cap_arc, cost_arc, worked_lengths, without_loop, worked_capacities, with_nothing, without_nothing}
+use Rattle.dn_compare.specs.Examples.{with_lengths, flow_from, supplied, with_costs, length_arc_at, cap_arc_at, cost_arc_at, worked_lengths, without_loop, worked_capacities, with_nothing, without_nothing}
 use Rattle.dn_compare.specs.declared.verdict.Verdict.TheVariants as Verdicts
 use Rattle.dn_compare.proofs.WalkLaws.{key_is}
 use Rattle.dn_compare.proofs.PairWalks.{exact_pair}
@@ -84,8 +84,8 @@ arcs_part kind laws xs ys pair how d a = record {
 
 -- ---- heads
 
-pub kinds : IsFirstDifference (lengths worked_lengths) (flow_from (pos 1) (pos 3) worked_capacities) (Verdicts.Kind Kinds.Sp Kinds.Max)
-kinds = kind_first (lengths worked_lengths) (flow_from (pos 1) (pos 3) worked_capacities) (λ e. cc)
+pub kinds : IsFirstDifference (with_lengths worked_lengths) (flow_from (pos 1) (pos 3) worked_capacities) (Verdicts.Kind Kinds.Sp Kinds.Max)
+kinds = kind_first (with_lengths worked_lengths) (flow_from (pos 1) (pos 3) worked_capacities) (λ e. cc)
 
 abbrev no_lengths : ℤ → Graph LengthArc
 no_lengths n = record { nodes = n; arcs = [] }
@@ -123,10 +123,10 @@ shortest =
 
 module _ (xs ys : List ((ℤ × ℤ) × LengthArc)) (src dst : ℤ) (how : How) where
   lengths_part : Arcs.lengths.Differ (bundle (src, dst) xs) (bundle (src, dst) ys) how → AllByRecursion (λ k. pair_cmp k (src, dst) ≡ Less → SameLength (bundle k xs) (bundle k ys)) (keys_of xs ++ keys_of ys)
-      → IsFirstDifference (lengths xs) (lengths ys) (Verdicts.Pair src dst how)
+      → IsFirstDifference (with_lengths xs) (with_lengths ys) (Verdicts.Pair src dst how)
   lengths_part d a = sp_pairs (record { nodes = pos 3; arcs = xs }) (record { nodes = pos 3; arcs = ys }) (Verdicts.Pair src dst how) refl (arcs_part Arcs.lengths length_kind xs ys (src, dst) how d a)
 
-pub missing_length : IsFirstDifference (lengths worked_lengths) (lengths without_loop) (Verdicts.Pair (pos 2) (pos 2) (Hows.Lengths (Some (pos 0)) None))
+pub missing_length : IsFirstDifference (with_lengths worked_lengths) (with_lengths without_loop) (Verdicts.Pair (pos 2) (pos 2) (Hows.Lengths (Some (pos 0)) None))
 missing_length =
     let four : SameLength (length (pos 4) ∷ []) (length (pos 4) ∷ []) = length_meaning.same_refl (length (pos 4) ∷ []) in
     lengths_part worked_lengths without_loop (pos 2) (pos 2) (Hows.Lengths (Some (pos 0)) None) (lone (length (pos 0)), refl, λ e. cc)
@@ -135,20 +135,20 @@ missing_length =
 abbrev differing : How
 differing = Hows.Lengths (Some (pos 1)) (Some (pos 2))
 
-pub pair_by_src : IsFirstDifference (lengths (length_arc (pos 2) (pos 1) (pos 1) ∷ length_arc (pos 1) (pos 3) (pos 1) ∷ [])) (lengths (length_arc (pos 2) (pos 1) (pos 2) ∷ length_arc (pos 1) (pos 3) (pos 2) ∷ [])) (Verdicts.Pair (pos 1) (pos 3) differing)
+pub pair_by_src : IsFirstDifference (with_lengths (length_arc_at (pos 2) (pos 1) (pos 1) ∷ length_arc_at (pos 1) (pos 3) (pos 1) ∷ [])) (with_lengths (length_arc_at (pos 2) (pos 1) (pos 2) ∷ length_arc_at (pos 1) (pos 3) (pos 2) ∷ [])) (Verdicts.Pair (pos 1) (pos 3) differing)
 pair_by_src =
-    lengths_part (length_arc (pos 2) (pos 1) (pos 1) ∷ length_arc (pos 1) (pos 3) (pos 1) ∷ []) (length_arc (pos 2) (pos 1) (pos 2) ∷ length_arc (pos 1) (pos 3) (pos 2) ∷ []) (pos 1) (pos 3) differing
+    lengths_part (length_arc_at (pos 2) (pos 1) (pos 1) ∷ length_arc_at (pos 1) (pos 3) (pos 1) ∷ []) (length_arc_at (pos 2) (pos 1) (pos 2) ∷ length_arc_at (pos 1) (pos 3) (pos 2) ∷ []) (pos 1) (pos 3) differing
     (lone (length (pos 1)), lone (length (pos 2)), λ e. cc) (λ e. cc, (λ e. cc, (λ e. cc, (λ e. cc, tt))))
 
-pub pair_by_dst : IsFirstDifference (lengths (length_arc (pos 1) (pos 3) (pos 1) ∷ length_arc (pos 1) (pos 2) (pos 1) ∷ [])) (lengths (length_arc (pos 1) (pos 3) (pos 2) ∷ length_arc (pos 1) (pos 2) (pos 2) ∷ [])) (Verdicts.Pair (pos 1) (pos 2) differing)
+pub pair_by_dst : IsFirstDifference (with_lengths (length_arc_at (pos 1) (pos 3) (pos 1) ∷ length_arc_at (pos 1) (pos 2) (pos 1) ∷ [])) (with_lengths (length_arc_at (pos 1) (pos 3) (pos 2) ∷ length_arc_at (pos 1) (pos 2) (pos 2) ∷ [])) (Verdicts.Pair (pos 1) (pos 2) differing)
 pair_by_dst =
-    lengths_part (length_arc (pos 1) (pos 3) (pos 1) ∷ length_arc (pos 1) (pos 2) (pos 1) ∷ []) (length_arc (pos 1) (pos 3) (pos 2) ∷ length_arc (pos 1) (pos 2) (pos 2) ∷ []) (pos 1) (pos 2) differing
+    lengths_part (length_arc_at (pos 1) (pos 3) (pos 1) ∷ length_arc_at (pos 1) (pos 2) (pos 1) ∷ []) (length_arc_at (pos 1) (pos 3) (pos 2) ∷ length_arc_at (pos 1) (pos 2) (pos 2) ∷ []) (pos 1) (pos 2) differing
     (lone (length (pos 1)), lone (length (pos 2)), λ e. cc) (λ e. cc, (λ e. cc, (λ e. cc, (λ e. cc, tt))))
 
 -- ---- capacities
 
 abbrev other_capacities : List ((ℤ × ℤ) × CapArc)
-other_capacities = cap_arc (pos 1) (pos 3) (pos 2) ∷ cap_arc (pos 1) (pos 1) (pos 4) ∷ []
+other_capacities = cap_arc_at (pos 1) (pos 3) (pos 2) ∷ cap_arc_at (pos 1) (pos 1) (pos 4) ∷ []
 
 pub capacities : IsFirstDifference (flow_from (pos 1) (pos 3) worked_capacities) (flow_from (pos 1) (pos 3) other_capacities) (Verdicts.Pair (pos 1) (pos 1) (Hows.Totals (pos 0) (pos 4)))
 capacities =
@@ -165,14 +165,14 @@ gap amount left right = record { amount = amount; left = left; right = right }
 
 module _ (xs ys : List ((ℤ × ℤ) × CostArc)) (g : Gap) where
   costs_part : IsGap (bundle (pos 1, pos 2) xs) (bundle (pos 1, pos 2) ys) g → AllByRecursion (λ k. pair_cmp k (pos 1, pos 2) ≡ Less → SameCurve (bundle k xs) (bundle k ys)) (keys_of xs ++ keys_of ys)
-      → IsFirstDifference (costs xs) (costs ys) (Verdicts.Pair (pos 1) (pos 2) (Hows.Costs g))
+      → IsFirstDifference (with_costs xs) (with_costs ys) (Verdicts.Pair (pos 1) (pos 2) (Hows.Costs g))
   costs_part d a = min_pairs [] [] (record { nodes = pos 2; arcs = xs }) (record { nodes = pos 2; arcs = ys }) (Verdicts.Pair (pos 1) (pos 2) (Hows.Costs g)) refl refl (arcs_part Arcs.costs cost_kind xs ys (pos 1, pos 2) (Hows.Costs g) d a)
 
-pub least_amount : IsFirstDifference (costs (cost_arc (pos 0) (pos 2) (pos 1) ∷ cost_arc (pos 0) (pos 2) (pos 4) ∷ [])) (costs (cost_arc (pos 0) (pos 3) (pos 1) ∷ cost_arc (pos 0) (pos 1) (pos 4) ∷ [])) (Verdicts.Pair (pos 1) (pos 2) (Hows.Costs (gap (pos 3) (Some (pos 6)) (Some (pos 3)))))
+pub least_amount : IsFirstDifference (with_costs (cost_arc_at (pos 0) (pos 2) (pos 1) ∷ cost_arc_at (pos 0) (pos 2) (pos 4) ∷ [])) (with_costs (cost_arc_at (pos 0) (pos 3) (pos 1) ∷ cost_arc_at (pos 0) (pos 1) (pos 4) ∷ [])) (Verdicts.Pair (pos 1) (pos 2) (Hows.Costs (gap (pos 3) (Some (pos 6)) (Some (pos 3)))))
 least_amount =
     let s : IsSound (pos 0) (pos 0) (pos 4) ((pos 1, pos 2) ∷ (pos 4, pos 2) ∷ []) = record { some = search rules; mean = search rules; whole = refl; most = search rules; rising = search rules; fit = search rules } in
     let t : IsSound (pos 0) (pos 0) (pos 4) ((pos 1, pos 3) ∷ (pos 4, pos 1) ∷ []) = record { some = search rules; mean = search rules; whole = refl; most = search rules; rising = search rules; fit = search rules } in
-    costs_part (cost_arc (pos 0) (pos 2) (pos 1) ∷ cost_arc (pos 0) (pos 2) (pos 4) ∷ []) (cost_arc (pos 0) (pos 3) (pos 1) ∷ cost_arc (pos 0) (pos 1) (pos 4) ∷ []) (gap (pos 3) (Some (pos 6)) (Some (pos 3)))
+    costs_part (cost_arc_at (pos 0) (pos 2) (pos 1) ∷ cost_arc_at (pos 0) (pos 2) (pos 4) ∷ []) (cost_arc_at (pos 0) (pos 3) (pos 1) ∷ cost_arc_at (pos 0) (pos 1) (pos 4) ∷ []) (gap (pos 3) (Some (pos 6)) (Some (pos 3)))
     (step_gap (pos 0) (pos 0) (pos 4) ((pos 1, pos 2) ∷ (pos 4, pos 2) ∷ []) s (pos 0) (pos 0) (pos 4) ((pos 1, pos 3) ∷ (pos 4, pos 1) ∷ []) t refl refl) (λ e. cc, (λ e. cc, (λ e. cc, (λ e. cc, tt))))
 
 -- free capacity at one cost
@@ -186,7 +186,7 @@ free_sound k room some most f = record {
   fit = (f, tt);
 }
 
-pub forced_unit : IsFirstDifference (costs (cost_arc (pos 1) (pos 2) (pos 1) ∷ [])) (costs (cost_arc (pos 0) (pos 2) (pos 1) ∷ [])) (Verdicts.Pair (pos 1) (pos 2) (Hows.Costs (gap (pos 0) None (Some (pos 0)))))
+pub forced_unit : IsFirstDifference (with_costs (cost_arc_at (pos 1) (pos 2) (pos 1) ∷ [])) (with_costs (cost_arc_at (pos 0) (pos 2) (pos 1) ∷ [])) (Verdicts.Pair (pos 1) (pos 2) (Hows.Costs (gap (pos 0) None (Some (pos 0)))))
 forced_unit =
     let s : IsSound (pos 1) (pos 1) (pos 2) ((pos 1, pos 1) ∷ []) = record { some = search rules; mean = search rules; whole = refl; most = search rules; rising = search rules; fit = search rules } in
     let t = free_sound (pos 1) (pos 2) (search rules) (search rules) (search rules) in
@@ -194,34 +194,34 @@ forced_unit =
     let parts = cost (pos 1) (pos 1) (pos 1) ∷ cost (pos 0) (pos 1) (pos 1) ∷ [] in
     let other = cost (pos 0) (pos 2) (pos 1) ∷ [] in
     let same : SameCurve parts one = same_by_parts parts one (search rules) (search rules) refl refl refl in
-    costs_part (cost_arc (pos 1) (pos 2) (pos 1) ∷ []) (cost_arc (pos 0) (pos 2) (pos 1) ∷ []) (gap (pos 0) None (Some (pos 0)))
+    costs_part (cost_arc_at (pos 1) (pos 2) (pos 1) ∷ []) (cost_arc_at (pos 0) (pos 2) (pos 1) ∷ []) (gap (pos 0) None (Some (pos 0)))
     (cost_kind.same_differ parts one other other (Hows.Costs (gap (pos 0) None (Some (pos 0)))) same (curve_meaning.same_refl other)
     (right_gap (pos 1) (pos 1) (pos 2) ((pos 1, pos 1) ∷ []) s (pos 0) (pos 0) (pos 2) ((pos 1, pos 2) ∷ []) t (search rules)))
     (λ e. cc, (λ e. cc, tt))
 
-pub forced_costs : IsFirstDifference (costs (cost_arc (pos 1) (pos 1) (pos 4) ∷ [])) (costs (cost_arc (pos 1) (pos 1) (pos 5) ∷ [])) (Verdicts.Pair (pos 1) (pos 2) (Hows.Costs (gap (pos 1) (Some (pos 4)) (Some (pos 5)))))
+pub forced_costs : IsFirstDifference (with_costs (cost_arc_at (pos 1) (pos 1) (pos 4) ∷ [])) (with_costs (cost_arc_at (pos 1) (pos 1) (pos 5) ∷ [])) (Verdicts.Pair (pos 1) (pos 2) (Hows.Costs (gap (pos 1) (Some (pos 4)) (Some (pos 5)))))
 forced_costs =
     let s : IsSound (pos 1) (pos 4) (pos 1) [] = record { some = search rules; mean = search rules; whole = refl; most = search rules; rising = tt; fit = tt } in
     let t : IsSound (pos 1) (pos 5) (pos 1) [] = record { some = search rules; mean = search rules; whole = refl; most = search rules; rising = tt; fit = tt } in
-    costs_part (cost_arc (pos 1) (pos 1) (pos 4) ∷ []) (cost_arc (pos 1) (pos 1) (pos 5) ∷ []) (gap (pos 1) (Some (pos 4)) (Some (pos 5)))
+    costs_part (cost_arc_at (pos 1) (pos 1) (pos 4) ∷ []) (cost_arc_at (pos 1) (pos 1) (pos 5) ∷ []) (gap (pos 1) (Some (pos 4)) (Some (pos 5)))
     (cost_gap (pos 1) (pos 4) (pos 1) [] s (pos 1) (pos 5) (pos 1) [] t refl (λ e. cc)) (λ e. cc, (λ e. cc, tt))
 
 -- free capacity at one cost on both sides, more of it on one
 module _ (k l r : ℤ) (g : Gap) (ls : pos 1 ≤ℤ l) (lm : l ≤ℤ pos (2 ^ 63 - 1)) (rs : pos 1 ≤ℤ r) (rm : r ≤ℤ pos (2 ^ 63 - 1)) (f : FitsSigned w64 k) where
-  free_part : Some g ≡ first_gap (pos 0) (pos 0) ((k, l) ∷ []) ((k, r) ∷ []) → IsFirstDifference (costs (cost_arc (pos 0) l k ∷ [])) (costs (cost_arc (pos 0) r k ∷ [])) (Verdicts.Pair (pos 1) (pos 2) (Hows.Costs g))
+  free_part : Some g ≡ first_gap (pos 0) (pos 0) ((k, l) ∷ []) ((k, r) ∷ []) → IsFirstDifference (with_costs (cost_arc_at (pos 0) l k ∷ [])) (with_costs (cost_arc_at (pos 0) r k ∷ [])) (Verdicts.Pair (pos 1) (pos 2) (Hows.Costs g))
   free_part e =
-      costs_part (cost_arc (pos 0) l k ∷ []) (cost_arc (pos 0) r k ∷ []) g
+      costs_part (cost_arc_at (pos 0) l k ∷ []) (cost_arc_at (pos 0) r k ∷ []) g
       (subst (Parts (pos 0) (pos 0) ((k, l) ∷ []) (pos 0) (pos 0) ((k, r) ∷ [])) (sym e) (step_gap (pos 0) (pos 0) l ((k, l) ∷ []) (free_sound k l ls lm f) (pos 0) (pos 0) r ((k, r) ∷ []) (free_sound k r rs rm f) refl refl))
       (λ e. cc, (λ e. cc, tt))
 
-pub past_capacity : IsFirstDifference (costs (cost_arc (pos 0) (pos 2) (pos 4) ∷ [])) (costs (cost_arc (pos 0) (pos 3) (pos 4) ∷ [])) (Verdicts.Pair (pos 1) (pos 2) (Hows.Costs (gap (pos 3) None (Some (pos 12)))))
+pub past_capacity : IsFirstDifference (with_costs (cost_arc_at (pos 0) (pos 2) (pos 4) ∷ [])) (with_costs (cost_arc_at (pos 0) (pos 3) (pos 4) ∷ [])) (Verdicts.Pair (pos 1) (pos 2) (Hows.Costs (gap (pos 3) None (Some (pos 12)))))
 past_capacity = free_part (pos 4) (pos 2) (pos 3) (gap (pos 3) None (Some (pos 12))) (search rules) (search rules) (search rules) (search rules) (search rules) refl
 
-pub greatest_amount : IsFirstDifference (costs (cost_arc (pos 0) (pos 9223372036854775807) (pos 1) ∷ [])) (costs (cost_arc (pos 0) (pos 9223372036854775806) (pos 1) ∷ [])) (Verdicts.Pair (pos 1) (pos 2) (Hows.Costs (gap (pos 9223372036854775807) (Some (pos 9223372036854775807)) None)))
+pub greatest_amount : IsFirstDifference (with_costs (cost_arc_at (pos 0) (pos 9223372036854775807) (pos 1) ∷ [])) (with_costs (cost_arc_at (pos 0) (pos 9223372036854775806) (pos 1) ∷ [])) (Verdicts.Pair (pos 1) (pos 2) (Hows.Costs (gap (pos 9223372036854775807) (Some (pos 9223372036854775807)) None)))
 greatest_amount = free_part (pos 1) (pos 9223372036854775807) (pos 9223372036854775806) (gap (pos 9223372036854775807) (Some (pos 9223372036854775807)) None) (search rules) (search rules) (search rules) (search rules) (search rules) refl
 
-pub same : IsFirstDifference (costs with_nothing) (costs without_nothing) Verdicts.Same
-same = same_first (costs with_nothing) (costs without_nothing) (refl, record { nodes = refl; bundles = at })
+pub same : IsFirstDifference (with_costs with_nothing) (with_costs without_nothing) Verdicts.Same
+same = same_first (with_costs with_nothing) (with_costs without_nothing) (refl, record { nodes = refl; bundles = at })
   where
     empty : SameCurve (cost (pos 0) (pos 0) (pos 5) ∷ []) []
     empty = same_by_parts (cost (pos 0) (pos 0) (pos 5) ∷ []) [] (search rules) tt refl refl refl

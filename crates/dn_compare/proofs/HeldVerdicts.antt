@@ -11,8 +11,8 @@ use Rattle.dn_bundle.specs.Kinds.{ArcKind, costs, capacities, lengths}
 use Rattle.dn_bundle.specs.declared.arc.LengthArc.{LengthArc}
 use Rattle.dn_bundle.specs.declared.arc.CapArc.{CapArc}
 use Rattle.dn_bundle.specs.declared.arc.CostArc.{CostArc}
-use Rattle.dn_bundle.specs.LeastTold.{length_told}
-use Rattle.dn_bundle.specs.TotalTold.{cap_told}
+use Rattle.dn_bundle.specs.Lengths.{length_told}
+use Rattle.dn_bundle.specs.Capacities.{cap_told}
 use Rattle.dn_bundle.specs.CurveTold.{told}
 use Rattle.dn_bundle.specs.declared.arc.Form.TheVariants.{One}
 use Rattle.dn_bundle.specs.declared.curve.Curve.{Curve}
@@ -26,7 +26,7 @@ use Rattle.dn_instance.specs.Helds.{Contents, Holding, OfMin, OfMax, OfSp, OfSs,
 use Rattle.dn_instance.specs.Instances.{Graph, Instance, MinCostFlow, MaxFlow, ShortestPaths, Sources, Queries, Coordinates, kind_of, nodes_of}
 use Rattle.dn_table.specs.Pairs.{bundle}
 use Rattle.dn_instance.specs.Sameness.{IsSame}
-use Rattle.dn_table.specs.Tables.{Tells}
+use Rattle.dn_table.specs.Tables.{TableTells}
 use Rattle.dn_instance.specs.Validity.{IsSupply, IsValid}
 use Rattle.dn_compare.specs.Observed.{value_of, flow_or_zero, flow_of, source_of, sink_of, item_at}
 use Rattle.dn_compare.specs.FirstDifference.{BundlesDiffer, IsFirstDifference}
@@ -102,21 +102,21 @@ supply_on ls rs lt rt id l r d _ J v w n a b = absurd a
 
 module _ (v : Verdict) where
   pub min_on : (ls rs : List (ℤ × ℤ)) (lt rt : List ((ℤ × ℤ) × Curve)) → ((q : ℤ) → AlikeAt int_cmp by_flow ls rs q)
-      → ((xs ys : List ((ℤ × ℤ) × CostArc)) → Tells costs (λ (b : Curve). told One b.units b.cost b.steps) lt xs → Tells costs (λ (b : Curve). told One b.units b.cost b.steps) rt ys → IsPairVerdict costs xs ys v) → IsVerdictOn (OfMin ls lt) (OfMin rs rt) v
+      → ((xs ys : List ((ℤ × ℤ) × CostArc)) → TableTells costs (λ (b : Curve). told One b.units b.cost b.steps) lt xs → TableTells costs (λ (b : Curve). told One b.units b.cost b.steps) rt ys → IsPairVerdict costs xs ys v) → IsVerdictOn (OfMin ls lt) (OfMin rs rt) v
   min_on ls rs lt rt same h (MinCostFlow s G) (MinCostFlow t H) f g n a b =
       let flows : (q : ℤ) → AlikeAt int_cmp by_flow s t q = subst (λ m. (q : ℤ) → AlikeAt int_cmp by_flow m t q) a.0 (subst (λ m. (q : ℤ) → AlikeAt int_cmp by_flow ls m q) b.0 same) in
-      min_pairs s t G H v (supplies_same G.nodes H.nodes s t f.1.map g.1.map f.1.each g.1.each flows) n (h G.arcs H.arcs a.1 b.1)
+      min_pairs s t G H v (supplies_same G.nodes H.nodes s t f.1.map g.1.map f.1.each g.1.each flows) n (h G.arcs H.arcs a.1.tells_them b.1.tells_them)
   min_on ls rs lt rt same h (MinCostFlow s G) _ f g n a b = absurd b
   min_on ls rs lt rt same h _ J f g n a b = absurd a
 
   pub max_on : (a b c d : ℤ) (lt rt : List ((ℤ × ℤ) × Total)) → a ≡ c → b ≡ d
-      → ((xs ys : List ((ℤ × ℤ) × CapArc)) → Tells capacities (λ (b : Total). cap_told b.total) lt xs → Tells capacities (λ (b : Total). cap_told b.total) rt ys → IsPairVerdict capacities xs ys v) → IsVerdictOn (OfMax a b lt) (OfMax c d rt) v
-  max_on a b c d lt rt e f h (MaxFlow s t G) (MaxFlow u w H) p q n x y = max_pairs s t u w G H v (sym x.0 ∙ e ∙ y.0) (sym x.1 ∙ f ∙ y.1) n (h G.arcs H.arcs x.2 y.2)
+      → ((xs ys : List ((ℤ × ℤ) × CapArc)) → TableTells capacities (λ (b : Total). cap_told b.total) lt xs → TableTells capacities (λ (b : Total). cap_told b.total) rt ys → IsPairVerdict capacities xs ys v) → IsVerdictOn (OfMax a b lt) (OfMax c d rt) v
+  max_on a b c d lt rt e f h (MaxFlow s t G) (MaxFlow u w H) p q n x y = max_pairs s t u w G H v (sym x.0 ∙ e ∙ y.0) (sym x.1 ∙ f ∙ y.1) n (h G.arcs H.arcs x.2.tells_them y.2.tells_them)
   max_on a b c d lt rt e f h (MaxFlow s t G) _ p q n x y = absurd y
   max_on a b c d lt rt e f h _ J p q n x y = absurd x
 
-  pub sp_on : (lt rt : List ((ℤ × ℤ) × Least)) → ((xs ys : List ((ℤ × ℤ) × LengthArc)) → Tells lengths (λ (b : Least). length_told b.length) lt xs → Tells lengths (λ (b : Least). length_told b.length) rt ys → IsPairVerdict lengths xs ys v) → IsVerdictOn (OfSp lt) (OfSp rt) v
-  sp_on lt rt h (ShortestPaths G) (ShortestPaths H) p q n x y = sp_pairs G H v n (h G.arcs H.arcs x y)
+  pub sp_on : (lt rt : List ((ℤ × ℤ) × Least)) → ((xs ys : List ((ℤ × ℤ) × LengthArc)) → TableTells lengths (λ (b : Least). length_told b.length) lt xs → TableTells lengths (λ (b : Least). length_told b.length) rt ys → IsPairVerdict lengths xs ys v) → IsVerdictOn (OfSp lt) (OfSp rt) v
+  sp_on lt rt h (ShortestPaths G) (ShortestPaths H) p q n x y = sp_pairs G H v n (h G.arcs H.arcs x.tells_them y.tells_them)
   sp_on lt rt h (ShortestPaths G) _ p q n x y = absurd y
   sp_on lt rt h _ J p q n x y = absurd x
 

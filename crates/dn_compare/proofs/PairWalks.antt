@@ -7,7 +7,7 @@ use Rattle.dn_bundle.specs.Kinds.{ArcKind}
 use Rattle.dn_bundle.specs.declared.difference.How.{How}
 use Rattle.pair_index.specs.Pairs.{pair_cmp, same_pair}
 use Rattle.dn_table.specs.Pairs.{bundle}
-use Rattle.dn_table.specs.Tables.{told_at, Tells}
+use Rattle.dn_table.specs.Tables.{told_at, TableTells}
 use Rattle.pair_index.proofs.IndexLaws.{pair_total}
 use Rattle.dn_compare.specs.Walks.{first_key, value_at, after_key, lesser_key}
 use Rattle.dn_compare.specs.Partings.{by_meaning, IsParting, IsArcsParting}
@@ -21,7 +21,7 @@ PairsRise table = Walk.Rises pair_cmp pair_total exact_pair table
 
 -- what tables tell is what the arcs mean
 pub of_arcs : {B Arc : Type 0} (kind : ArcKind Arc) (laws : IsKind kind) (tells : B → List Arc) (left right : List ((ℤ × ℤ) × B)) (xs ys : List ((ℤ × ℤ) × Arc)) (o : Option ((ℤ × ℤ) × How))
-    → Tells kind tells left xs → Tells kind tells right ys → IsParting pair_cmp (by_meaning kind tells) left right o → IsArcsParting kind xs ys o
+    → TableTells kind tells left xs → TableTells kind tells right ys → IsParting pair_cmp (by_meaning kind tells) left right o → IsArcsParting kind xs ys o
 of_arcs {B} {Arc} kind laws tells left right xs ys o f g h = by_answer o h
   where
     same : (q : ℤ × ℤ) → kind.Same (told_at tells left q) (told_at tells right q) → kind.Same (bundle q xs) (bundle q ys)

@@ -55,12 +55,14 @@ abbrev pub by_point : Comparison (ℤ × ℤ) (Unit {0})
 by_point = record { Alike = λ a b. a ≡ b; Differ = λ a b what. a ≢ b }
 
 -- the least pair at which the arcs of two graphs differ in meaning, and how
-pub record ArcsPartAt {Arc : Type 0} (kind : ArcKind Arc) (xs ys : List ((ℤ × ℤ) × Arc)) (pair : ℤ × ℤ) (how : How) : Type 0 where
+pub record ArcsPartAt {Arc : Type 0} (kind : ArcKind Arc) (xs ys : List ((ℤ × ℤ) × Arc))
+    (pair : ℤ × ℤ) (how : How) : Type 0 where
   pub differ : kind.Differ (bundle pair xs) (bundle pair ys) how
   pub same_before : (p : ℤ × ℤ) → pair_cmp p pair ≡ Less → kind.Same (bundle p xs) (bundle p ys)
 
 -- they mean the same at every pair, or this is where they first differ
-abbrev pub IsArcsParting : {Arc : Type 0} → ArcKind Arc → List ((ℤ × ℤ) × Arc) → List ((ℤ × ℤ) × Arc) → Option ((ℤ × ℤ) × How) → Type 0
+abbrev pub IsArcsParting : {Arc : Type 0} → ArcKind Arc → List ((ℤ × ℤ) × Arc) → List ((ℤ × ℤ) × Arc)
+    → Option ((ℤ × ℤ) × How) → Type 0
 IsArcsParting kind xs ys parting =
     MatchOption parting ((p : ℤ × ℤ) → kind.Same (bundle p xs) (bundle p ys)) (λ x. ArcsPartAt kind xs ys x.0 x.1)
 

@@ -1,11 +1,10 @@
 // The first difference between two texts that were read.
 ghost use Rattle.std.specs.Prelude.{◌≡◌, ℤ, List};
 ghost use Rattle.dn_bundle.specs.declared.arc.Form.{Form};
-ghost use Rattle.dn_instance.specs.Helds.{contents_kind, IsHeld, OfCo, OfMax, OfMin};
+ghost use Rattle.dn_instance.specs.Helds.{contents_kind, IsHeld, OfCo, OfMax, OfMin, holding, shown};
 ghost use Rattle.dn_instance.specs.Instances.{Instance};
-ghost use Rattle.dn_table.specs.Tables.{Tells};
+ghost use Rattle.dn_table.specs.Tables.{TableTells};
 ghost use Rattle.dn_instance.specs.Validity.{IsValid};
-ghost use Rattle.dn_instance.specs.Views.{holding, shown};
 ghost use Rattle.dn_compare.specs.FirstDifference.{IsFirstDifference};
 ghost use Rattle.dn_compare.specs.Partings.{IsListVerdict, IsPairVerdict, IsVerdictOn};
 
@@ -115,7 +114,7 @@ fn max_verdict(
 // The verdict on two graphs of as many nodes, where nothing else differs.
 fn pair_verdict<B: Bundle>(left: &Table<B>, right: &Table<B>) -> Verdict
     ensures { (xs ys : List ((ℤ × ℤ) × B.Arc))
-        → Tells B.kind (B.told Form.One) left.now xs → Tells B.kind (B.told Form.One) right.now ys
+        → TableTells B.kind (B.told Form.One) left.now xs → TableTells B.kind (B.told Form.One) right.now ys
         → IsPairVerdict B.kind xs ys result }
 {
     match first_pair(left, right) {

@@ -2,7 +2,7 @@
 ghost use Rattle.std.specs.Prelude.{pos, negsuc, List, [], ◌∷◌};
 ghost use Rattle.dn_instance.specs.Instances.{ShortestPaths, Sources, Queries, Coordinates};
 ghost use Rattle.dn_compare.specs.FirstDifference.{IsFirstDifference};
-ghost use Rattle.dn_compare.specs.Examples.{lengths, flow_from, supplied, costs, length_arc, cap_arc, cost_arc};
+ghost use Rattle.dn_compare.specs.Examples.{with_lengths, flow_from, supplied, with_costs, length_arc_at, cap_arc_at, cost_arc_at};
 ghost use Rattle.dn_compare.specs.Examples.{worked_lengths, without_loop, worked_capacities};
 ghost use Rattle.dn_compare.specs.Examples.{with_nothing, without_nothing};
 
@@ -12,7 +12,7 @@ use dn_line::Kind;
 
 /// Kinds come before all else.
 pub fn kinds() -> Verdict
-    ensures { IsFirstDifference (lengths worked_lengths) (flow_from (pos 1) (pos 3) worked_capacities) result }
+    ensures { IsFirstDifference (with_lengths worked_lengths) (flow_from (pos 1) (pos 3) worked_capacities) result }
 {
     Verdict::Kind {
         left: Kind::Sp,
@@ -67,7 +67,7 @@ pub fn sink() -> Verdict
 
 /// A self-loop on one side alone; parallel arcs mean the shortest.
 pub fn missing_length() -> Verdict
-    ensures { IsFirstDifference (lengths worked_lengths) (lengths without_loop) result }
+    ensures { IsFirstDifference (with_lengths worked_lengths) (with_lengths without_loop) result }
 {
     Verdict::Pair {
         src: 2,
@@ -81,8 +81,9 @@ pub fn missing_length() -> Verdict
 
 /// Two pairs differ: the one of the lesser SRC.
 pub fn pair_by_src() -> Verdict
-    ensures { IsFirstDifference (lengths (length_arc (pos 2) (pos 1) (pos 1) ∷ length_arc (pos 1) (pos 3) (pos 1) ∷ []))
-        (lengths (length_arc (pos 2) (pos 1) (pos 2) ∷ length_arc (pos 1) (pos 3) (pos 2) ∷ [])) result }
+    ensures { IsFirstDifference
+        (with_lengths (length_arc_at (pos 2) (pos 1) (pos 1) ∷ length_arc_at (pos 1) (pos 3) (pos 1) ∷ []))
+        (with_lengths (length_arc_at (pos 2) (pos 1) (pos 2) ∷ length_arc_at (pos 1) (pos 3) (pos 2) ∷ [])) result }
 {
     Verdict::Pair {
         src: 1,
@@ -96,8 +97,9 @@ pub fn pair_by_src() -> Verdict
 
 /// Two pairs of one SRC differ: the one of the lesser DST.
 pub fn pair_by_dst() -> Verdict
-    ensures { IsFirstDifference (lengths (length_arc (pos 1) (pos 3) (pos 1) ∷ length_arc (pos 1) (pos 2) (pos 1) ∷ []))
-        (lengths (length_arc (pos 1) (pos 3) (pos 2) ∷ length_arc (pos 1) (pos 2) (pos 2) ∷ [])) result }
+    ensures { IsFirstDifference
+        (with_lengths (length_arc_at (pos 1) (pos 3) (pos 1) ∷ length_arc_at (pos 1) (pos 2) (pos 1) ∷ []))
+        (with_lengths (length_arc_at (pos 1) (pos 3) (pos 2) ∷ length_arc_at (pos 1) (pos 2) (pos 2) ∷ [])) result }
 {
     Verdict::Pair {
         src: 1,
@@ -112,7 +114,8 @@ pub fn pair_by_dst() -> Verdict
 /// Capacities of a pair that has no arc on the left; the pair from 1 to 2 differs too.
 pub fn capacities() -> Verdict
     ensures { IsFirstDifference (flow_from (pos 1) (pos 3) worked_capacities)
-        (flow_from (pos 1) (pos 3) (cap_arc (pos 1) (pos 3) (pos 2) ∷ cap_arc (pos 1) (pos 1) (pos 4) ∷ [])) result }
+        (flow_from (pos 1) (pos 3) (cap_arc_at (pos 1) (pos 3) (pos 2) ∷ cap_arc_at (pos 1) (pos 1) (pos 4) ∷ []))
+        result }
 {
     Verdict::Pair {
         src: 1,
@@ -123,8 +126,9 @@ pub fn capacities() -> Verdict
 
 /// Costs that differ from the amount 3 on; at 4 they differ too.
 pub fn least_amount() -> Verdict
-    ensures { IsFirstDifference (costs (cost_arc (pos 0) (pos 2) (pos 1) ∷ cost_arc (pos 0) (pos 2) (pos 4) ∷ []))
-        (costs (cost_arc (pos 0) (pos 3) (pos 1) ∷ cost_arc (pos 0) (pos 1) (pos 4) ∷ [])) result }
+    ensures { IsFirstDifference
+        (with_costs (cost_arc_at (pos 0) (pos 2) (pos 1) ∷ cost_arc_at (pos 0) (pos 2) (pos 4) ∷ []))
+        (with_costs (cost_arc_at (pos 0) (pos 3) (pos 1) ∷ cost_arc_at (pos 0) (pos 1) (pos 4) ∷ [])) result }
 {
     Verdict::Pair {
         src: 1,
@@ -139,8 +143,8 @@ pub fn least_amount() -> Verdict
 
 /// An amount that a forced unit rules out on the left.
 pub fn forced_unit() -> Verdict
-    ensures { IsFirstDifference (costs (cost_arc (pos 1) (pos 2) (pos 1) ∷ []))
-        (costs (cost_arc (pos 0) (pos 2) (pos 1) ∷ [])) result }
+    ensures { IsFirstDifference (with_costs (cost_arc_at (pos 1) (pos 2) (pos 1) ∷ []))
+        (with_costs (cost_arc_at (pos 0) (pos 2) (pos 1) ∷ [])) result }
 {
     Verdict::Pair {
         src: 1,
@@ -155,8 +159,8 @@ pub fn forced_unit() -> Verdict
 
 /// Forced costs.
 pub fn forced_costs() -> Verdict
-    ensures { IsFirstDifference (costs (cost_arc (pos 1) (pos 1) (pos 4) ∷ []))
-        (costs (cost_arc (pos 1) (pos 1) (pos 5) ∷ [])) result }
+    ensures { IsFirstDifference (with_costs (cost_arc_at (pos 1) (pos 1) (pos 4) ∷ []))
+        (with_costs (cost_arc_at (pos 1) (pos 1) (pos 5) ∷ [])) result }
 {
     Verdict::Pair {
         src: 1,
@@ -171,8 +175,8 @@ pub fn forced_costs() -> Verdict
 
 /// An amount that is past the left capacity.
 pub fn past_capacity() -> Verdict
-    ensures { IsFirstDifference (costs (cost_arc (pos 0) (pos 2) (pos 4) ∷ []))
-        (costs (cost_arc (pos 0) (pos 3) (pos 4) ∷ [])) result }
+    ensures { IsFirstDifference (with_costs (cost_arc_at (pos 0) (pos 2) (pos 4) ∷ []))
+        (with_costs (cost_arc_at (pos 0) (pos 3) (pos 4) ∷ [])) result }
 {
     Verdict::Pair {
         src: 1,
@@ -187,8 +191,8 @@ pub fn past_capacity() -> Verdict
 
 /// The greatest amount.
 pub fn greatest_amount() -> Verdict
-    ensures { IsFirstDifference (costs (cost_arc (pos 0) (pos 9223372036854775807) (pos 1) ∷ []))
-        (costs (cost_arc (pos 0) (pos 9223372036854775806) (pos 1) ∷ [])) result }
+    ensures { IsFirstDifference (with_costs (cost_arc_at (pos 0) (pos 9223372036854775807) (pos 1) ∷ []))
+        (with_costs (cost_arc_at (pos 0) (pos 9223372036854775806) (pos 1) ∷ [])) result }
 {
     Verdict::Pair {
         src: 1,
@@ -203,7 +207,7 @@ pub fn greatest_amount() -> Verdict
 
 /// An arc that carries nothing does not count.
 pub fn same() -> Verdict
-    ensures { IsFirstDifference (costs with_nothing) (costs without_nothing) result }
+    ensures { IsFirstDifference (with_costs with_nothing) (with_costs without_nothing) result }
 {
     Verdict::Same
 }

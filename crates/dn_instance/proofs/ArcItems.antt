@@ -1,5 +1,5 @@
 -- Arc lines after the items before them: their first fault, and what the table comes to hold.
-use Rattle.std.proofs.Common.{◌≡◌, ℤ, pos, ◌≤ℤ◌, ◌+ℤ◌, List, [], ◌∷◌, ◌++◌, Bool, true, false, cond, not, ◌&&◌, Option, Some, None, refl, sym, ap, ◌∙◌, subst, arith, inl, inr}
+use Rattle.std.proofs.Common.{◌≡◌, ◌-◌, ◌^◌, ℤ, pos, ◌≤ℤ◌, ◌+ℤ◌, List, [], ◌∷◌, ◌++◌, Bool, true, false, cond, not, ◌&&◌, int_lt, Option, Some, None, refl, sym, ap, ◌∙◌, subst, arith, inl, inr}
 use Rattle.std.proofs.lemmas.Int.{ints}
 use Rattle.std.specs.List.{list_all, AllByRecursion}
 use Rattle.dn_line.specs.declared.code.Code.{Code}
@@ -13,11 +13,13 @@ use Rattle.dn_bundle.specs.Capacities.{total_cap}
 use Rattle.dn_bundle.specs.Canonical.{IsCapArc}
 use Rattle.dn_bundle.specs.Laws.Lengths.{least_of}
 use Rattle.dn_bundle.specs.declared.arc.CapArc.{CapArc}
-use Rattle.dn_instance.specs.Items.{Problem, problem_of, arcs_of}
-use Rattle.dn_instance.specs.TextFaults.{is_companion, is_in_range, item_tests, passes}
+use Rattle.dn_instance.specs.Items.{Problem, problem_of, arcs_of, length_arc_in, cap_arc_in}
+use Rattle.dn_instance.specs.TextFaults.{is_companion, is_in_range, item_tests}
 use Rattle.dn_instance.specs.ItemFaults.{in_graph, arc_fault}
-use Rattle.dn_instance.specs.Holdings.{TableHolds}
-use Rattle.dn_table.specs.Tables.{Tells, AreArcs, Stays}
+use Rattle.dn_instance.specs.Drafts.{TableHolds}
+use Rattle.dn_table.specs.Pairs.{bundle}
+use Rattle.dn_table.specs.Tables.{TableTells, AreArcs, Stays}
+use Rattle.dn_instance.proofs.SumLaws.{total_append, total_passes}
 use Rattle.dn_instance.proofs.ValidLaws.{all_push, arcs_push}
 
 -- both nodes of a pair in range
@@ -33,18 +35,18 @@ pub stray_is : (before : List Line) (p : Problem) (i : Line) (s d : ℤ) → pro
 stray_is before p i s d h c = ap (λ o. not (list_all (is_in_range o) (s ∷ d ∷ []))) h ∙ ap not (ends_range p s d c)
 
 pub length_item : (before : List Line) (p : Problem) (s d l : ℤ) → problem_of before ≡ Some p → p.kind ≡ Kinds.Sp
-    → first_fault (item_tests before (Some (Item.SpArc s d l))) ≡ arc_fault lengths p.nodes (arcs_of lengths before) true ((s, d), record { length = l })
+    → first_fault (item_tests before (Some (Item.SpArc s d l))) ≡ arc_fault lengths p.nodes (arcs_of length_arc_in before) true ((s, d), record { length = l })
 length_item before p s d l h k = ap (λ (b : Bool). let f : Option Code = cond b (Some NodeOutOfRange) None in f) (stray_is before p (Item.SpArc s d l) s d h (ap is_companion k))
 
-pub length_grown : (before : List Line) (s d l : ℤ) → arcs_of lengths (before ++ Item.SpArc s d l ∷ []) ≡ arcs_of lengths before ++ ((s, d), record { length = l }) ∷ []
-length_grown before s d l = arcs_push lengths before (Item.SpArc s d l)
+pub length_grown : (before : List Line) (s d l : ℤ) → arcs_of length_arc_in (before ++ Item.SpArc s d l ∷ []) ≡ arcs_of length_arc_in before ++ ((s, d), record { length = l }) ∷ []
+length_grown before s d l = arcs_push length_arc_in before (Item.SpArc s d l)
 
 -- the table with one arc line more
-pub table_grown : {B Arc : Type 0} (kind : ArcKind Arc) (tells : B → List Arc) (table : List ((ℤ × ℤ) × B)) (before : List Line) (i : Line) (a : (ℤ × ℤ) × Arc) → arcs_of kind (before ++ i ∷ []) ≡ arcs_of kind before ++ a ∷ []
-    → AreArcs kind (arcs_of kind before) → kind.IsArc a.1 → Tells kind tells table (arcs_of kind before ++ a ∷ []) → TableHolds kind tells table (before ++ i ∷ [])
-table_grown kind tells table before i a e are is t = record {
-  tells_them = subst (Tells kind tells table) (sym e) t;
-  are_arcs = subst (AreArcs kind) (sym e) (all_push (λ b. kind.IsArc b.1) (arcs_of kind before) a are is);
+pub table_grown : {B Arc : Type 0} (kind : ArcKind Arc) (arc_in : Line → Option ((ℤ × ℤ) × Arc)) (tells : B → List Arc) (table : List ((ℤ × ℤ) × B)) (before : List Line) (i : Line) (a : (ℤ × ℤ) × Arc) → arcs_of arc_in (before ++ i ∷ []) ≡ arcs_of arc_in before ++ a ∷ []
+    → AreArcs kind (arcs_of arc_in before) → kind.IsArc a.1 → TableTells kind tells table (arcs_of arc_in before ++ a ∷ []) → TableHolds kind arc_in tells table (before ++ i ∷ [])
+table_grown kind arc_in tells table before i a e are is t = record {
+  tells_them = subst (TableTells kind tells table) (sym e) t;
+  are_arcs = subst (AreArcs kind) (sym e) (all_push (λ b. kind.IsArc b.1) (arcs_of arc_in before) a are is);
 }
 
 no_arcs_more : {A : Type 0} (xs : List A) (a : A) → xs ++ a ∷ [] ≡ [] → ⊥
@@ -57,10 +59,6 @@ length_stays xs a are is same = elim (least_of (xs ++ a ∷ [])) [
   | inl e ↦ absurd (no_arcs_more xs a e)
   | inr w ↦ absurd (same.there w.0 w.1).has
 ]
-
-total_append : (xs : List CapArc) (a : CapArc) → total_cap (xs ++ a ∷ []) ≡ total_cap xs +ℤ a.cap
-total_append [] a = omega (arith, ints)
-total_append (x ∷ xs) a = let i = total_append xs a in omega (arith, ints)
 
 total_some : (xs : List CapArc) → AllByRecursion IsCapArc xs → pos 0 ≤ℤ total_cap xs
 total_some [] h = omega (arith, ints)
@@ -76,10 +74,12 @@ cap_stays xs a are is same =
     record { is = omega (arith, ints) }
 
 pub cap_item : (before : List Line) (p : Problem) (s d c : ℤ) → problem_of before ≡ Some p → p.kind ≡ Kinds.Max
-    → first_fault (item_tests before (Some (Item.MaxArc s d c))) ≡ arc_fault capacities p.nodes (arcs_of capacities before) true ((s, d), record { cap = c })
+    → first_fault (item_tests before (Some (Item.MaxArc s d c))) ≡ arc_fault capacities p.nodes (arcs_of cap_arc_in before) true ((s, d), record { cap = c })
 cap_item before p s d c h k =
-    ap (λ (b : Bool). let f : Option Code = cond b (Some NodeOutOfRange) (cond (passes capacities (arcs_of capacities before) (Some ((s, d), record { cap = c }))) (Some SumTooLarge) None) in f)
-    (stray_is before p (Item.MaxArc s d c) s d h (ap is_companion k))
+    let sums : Bool = int_lt (pos (2 ^ 63 - 1)) (total_cap (bundle (s, d) (arcs_of cap_arc_in before)) +ℤ c) in
+    ap (λ (b : Bool). let f : Option Code = cond b (Some NodeOutOfRange) (cond sums (Some SumTooLarge) None) in f) (stray_is before p (Item.MaxArc s d c) s d h (ap is_companion k))
+    ∙ ap (λ (b : Bool). let f : Option Code = cond (not (in_graph p.nodes s && in_graph p.nodes d)) (Some NodeOutOfRange) (cond b (Some SumTooLarge) None) in f)
+    (total_passes (arcs_of cap_arc_in before) ((s, d), record { cap = c }))
 
-pub cap_grown : (before : List Line) (s d c : ℤ) → arcs_of capacities (before ++ Item.MaxArc s d c ∷ []) ≡ arcs_of capacities before ++ ((s, d), record { cap = c }) ∷ []
-cap_grown before s d c = arcs_push capacities before (Item.MaxArc s d c)
+pub cap_grown : (before : List Line) (s d c : ℤ) → arcs_of cap_arc_in (before ++ Item.MaxArc s d c ∷ []) ≡ arcs_of cap_arc_in before ++ ((s, d), record { cap = c }) ∷ []
+cap_grown before s d c = arcs_push cap_arc_in before (Item.MaxArc s d c)

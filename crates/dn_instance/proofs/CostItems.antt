@@ -1,5 +1,5 @@
 -- Arc lines of a `min` text after the items before them: their first fault, and what the table comes to hold.
-use Rattle.std.proofs.Common.{◌≡◌, ℤ, pos, ◌≤ℤ◌, List, [], ◌∷◌, ◌++◌, Bool, true, false, cond, not, ◌&&◌, int_lt, IsTrue, ◌↔◌, Option, Some, None, refl, sym, ap, ◌∙◌, subst, arith}
+use Rattle.std.proofs.Common.{◌≡◌, ◌-◌, ◌^◌, ℤ, pos, ◌≤ℤ◌, ◌+ℤ◌, List, [], ◌∷◌, ◌++◌, Bool, true, false, cond, not, ◌&&◌, int_lt, IsTrue, ◌↔◌, Option, Some, None, refl, sym, ap, ◌∙◌, subst, arith}
 use Rattle.std.proofs.lemmas.Int.{ints}
 use Rattle.std.proofs.lemmas.Bool.Decides.{nat_tests}
 use Rattle.std.specs.List.{AllByRecursion}
@@ -17,10 +17,12 @@ use Rattle.dn_bundle.specs.Laws.Curves.{above_meaning, cost_cap_same}
 use Rattle.dn_bundle.specs.Laws.Adds.{above_none}
 use Rattle.dn_bundle.specs.Laws.CostKind.{cost_kind}
 use Rattle.dn_bundle.specs.declared.arc.CostArc.{CostArc}
-use Rattle.dn_instance.specs.Items.{Problem, problem_of, arcs_of}
-use Rattle.dn_instance.specs.TextFaults.{is_companion, item_tests, passes}
+use Rattle.dn_instance.specs.Items.{Problem, problem_of, arcs_of, cost_arc_in}
+use Rattle.dn_instance.specs.TextFaults.{is_companion, item_tests}
 use Rattle.dn_instance.specs.ItemFaults.{in_graph, arc_fault}
+use Rattle.dn_table.specs.Pairs.{bundle}
 use Rattle.dn_table.specs.Tables.{Stays}
+use Rattle.dn_instance.proofs.SumLaws.{passes, cost_passes}
 use Rattle.dn_instance.proofs.ValidLaws.{all_push, arcs_push}
 use Rattle.dn_instance.proofs.ArcItems.{stray_is}
 
@@ -60,21 +62,23 @@ not_not true = refl
 not_not false = refl
 
 pub cost_item : (before : List Line) (p : Problem) (s d l u k : ℤ) → problem_of before ≡ Some p → p.kind ≡ Kinds.Min
-    → first_fault (item_tests before (Some (Item.MinArc s d l u k))) ≡ arc_fault costs p.nodes (arcs_of costs before) (not (int_lt u l)) ((s, d), record { low = l; cap = u; cost = k })
+    → first_fault (item_tests before (Some (Item.MinArc s d l u k))) ≡ arc_fault costs p.nodes (arcs_of cost_arc_in before) (not (int_lt u l)) ((s, d), record { low = l; cap = u; cost = k })
 cost_item before p s d l u k h e =
-    ap (λ (b : Bool). let f : Option Code = cond b (Some NodeOutOfRange) (cond (int_lt u l) (Some LowAboveCap) (cond (passes costs (arcs_of costs before) (Some ((s, d), record { low = l; cap = u; cost = k }))) (Some SumTooLarge) None)) in f)
-    (stray_is before p (Item.MinArc s d l u k) s d h (ap is_companion e))
-    ∙ ap (λ (b : Bool). let f : Option Code = cond (not (in_graph p.nodes s && in_graph p.nodes d)) (Some NodeOutOfRange) (cond b (Some LowAboveCap) (cond (passes costs (arcs_of costs before) (Some ((s, d), record { low = l; cap = u; cost = k }))) (Some SumTooLarge) None)) in f)
-    (sym (not_not (int_lt u l)))
+    let fault : Bool → Bool → Bool → Option Code = λ stray low sum. cond stray (Some NodeOutOfRange) (cond low (Some LowAboveCap) (cond sum (Some SumTooLarge) None)) in
+    let sums : Bool = int_lt (pos (2 ^ 63 - 1)) (cost_cap (bundle (s, d) (arcs_of cost_arc_in before)) +ℤ u) in
+    let in_range : Bool = in_graph p.nodes s && in_graph p.nodes d in
+    ap (λ b. fault b (int_lt u l) sums) (stray_is before p (Item.MinArc s d l u k) s d h (ap is_companion e))
+    ∙ ap (λ b. fault (not in_range) b sums) (sym (not_not (int_lt u l)))
+    ∙ ap (λ b. fault (not in_range) (not (not (int_lt u l))) b) (cost_passes (arcs_of cost_arc_in before) ((s, d), record { low = l; cap = u; cost = k }))
 
-pub cost_grown : (before : List Line) (s d l u k : ℤ) → arcs_of costs (before ++ Item.MinArc s d l u k ∷ []) ≡ arcs_of costs before ++ ((s, d), record { low = l; cap = u; cost = k }) ∷ []
-cost_grown before s d l u k = arcs_push costs before (Item.MinArc s d l u k)
+pub cost_grown : (before : List Line) (s d l u k : ℤ) → arcs_of cost_arc_in (before ++ Item.MinArc s d l u k ∷ []) ≡ arcs_of cost_arc_in before ++ ((s, d), record { low = l; cap = u; cost = k }) ∷ []
+cost_grown before s d l u k = arcs_push cost_arc_in before (Item.MinArc s d l u k)
 
 -- an arc is taken only where a problem may have it
-pub taken_arc : (nodes : ℤ) (before : List Line) (is : Bool) (a : (ℤ × ℤ) × CostArc) → arc_fault costs nodes (arcs_of costs before) is a ≡ None → is ≡ true
+pub taken_arc : (nodes : ℤ) (before : List Line) (is : Bool) (a : (ℤ × ℤ) × CostArc) → arc_fault costs nodes (arcs_of cost_arc_in before) is a ≡ None → is ≡ true
 taken_arc nodes before is a h = by_range (not (in_graph nodes a.0.0 && in_graph nodes a.0.1)) is h
   where
-    by_range : (b i : Bool) → cond b (Some NodeOutOfRange) (cond (not i) (Some LowAboveCap) (cond (passes costs (arcs_of costs before) (Some a)) (Some SumTooLarge) None)) ≡ None → i ≡ true
+    by_range : (b i : Bool) → cond b (Some NodeOutOfRange) (cond (not i) (Some LowAboveCap) (cond (passes costs (arcs_of cost_arc_in before) a) (Some SumTooLarge) None)) ≡ None → i ≡ true
     by_range true i g = cc
     by_range false true g = refl
     by_range false false g = cc

@@ -19,19 +19,18 @@ use Rattle.dn_line.specs.declared.line.Line.TheVariants as Item
 use Rattle.dn_line.specs.Faults.{first_fault}
 use Rattle.dn_instance.specs.declared.draft.Draft.{Draft}
 use Rattle.dn_instance.specs.declared.draft.Draft.TheVariants as Drafts
-use Rattle.dn_instance.specs.declared.item_fault.ItemFault.{ItemFault}
-use Rattle.dn_instance.specs.Drafts.{draft_kind, Holds}
-use Rattle.dn_instance.specs.Items.{Problem, problem_of, problem_in, arcs_of, terminal_of, source_in, query_in, point_in, by_key}
-use Rattle.dn_instance.specs.ItemFaults.{Answers, in_graph, terminal_fault, id_fault, pair_fault, point_fault}
+use Rattle.dn_instance.specs.declared.refusal.ItemFault.{ItemFault}
+use Rattle.dn_instance.specs.Drafts.{draft_kind, DraftHolds, TableHolds}
+use Rattle.dn_instance.specs.Items.{Problem, problem_of, problem_in, arcs_of, length_arc_in, cap_arc_in, cost_arc_in, terminal_of, source_in, query_in, point_in, by_key}
+use Rattle.dn_instance.specs.ItemFaults.{AnswersFault, in_graph, terminal_fault, id_fault, pair_fault, point_fault}
 use Rattle.dn_instance.specs.TextFaults.{is_companion, is_in_range, is_id, item_tests, has_point}
 use Rattle.dn_instance.proofs.ValidLaws.{terminal_push, grown, int_eq_self, arcs_push}
 use Rattle.dn_bundle.specs.Bundles.{IsKind}
 use Rattle.dn_bundle.specs.declared.arc.Form.TheVariants.{One}
 use Rattle.dn_bundle.specs.Kinds.{ArcKind, lengths, capacities, costs}
-use Rattle.dn_bundle.specs.TotalTold.{cap_told}
+use Rattle.dn_bundle.specs.Capacities.{cap_told}
 use Rattle.dn_bundle.specs.declared.total.Total.{Total}
-use Rattle.dn_instance.specs.Holdings.{TableHolds}
-use Rattle.dn_table.specs.Tables.{Tells, AreArcs}
+use Rattle.dn_table.specs.Tables.{TableTells, AreArcs}
 use Rattle.dn_instance.proofs.FirstFaults.{none_first}
 use Rattle.dn_instance.proofs.CleanItems.{or_none}
 use Rattle.dn_instance.proofs.MapLaws.{by_key_push, found_by_key}
@@ -40,11 +39,11 @@ use Rattle.dn_instance.proofs.PairLaws.{sought_is}
 
 -- the answer on an item is that of its first fault
 abbrev pub Answering : ℤ → Draft → Line → Result (Unit {0}) ItemFault → Type 0
-Answering nodes d l r = (before : List Line) (p : Problem) → problem_of before ≡ Some p → p.kind ≡ draft_kind d → p.nodes ≡ nodes → Holds d before → Answers r (first_fault (item_tests before (Some l)))
+Answering nodes d l r = (before : List Line) (p : Problem) → problem_of before ≡ Some p → p.kind ≡ draft_kind d → p.nodes ≡ nodes → DraftHolds d before → AnswersFault r (first_fault (item_tests before (Some l)))
 
 -- what is held with the item, where it is taken
 abbrev pub Standing : Draft → Line → Draft → Result (Unit {0}) ItemFault → Type 0
-Standing d l e r = (before : List Line) → Holds d before → OnOk r (Holds e (before ++ l ∷ []))
+Standing d l e r = (before : List Line) → DraftHolds d before → OnOk r (DraftHolds e (before ++ l ∷ []))
 
 pub to_answer : (nodes : ℤ) (d d' : Draft) (l l' : Line) (r r' : Result (Unit {0}) ItemFault) → d ≡ d' → l ≡ l' → r ≡ r' → Answering nodes d' l' r' → Answering nodes d l r
 to_answer nodes d d' l l' r r' e f g h = subst (λ x. Answering nodes x l r) (sym e) (subst (λ x. Answering nodes d' x r) (sym f) (subst (Answering nodes d' l') (sym g) h))
@@ -87,29 +86,29 @@ module _ (before : List Line) (p : Problem) (h : problem_of before ≡ Some p) w
 abbrev pub or_else : Bool → Code → Option Code → Option Code
 or_else b c later = cond b (Some c) later
 
-pub source_answer : (nodes id : ℤ) (a b : Option ℤ) (t : _) (r : Result (Unit {0}) ItemFault) → Answers r (terminal_fault nodes a b id) → Answering nodes (Drafts.Max a b t) (Item.Terminal id S) r
+pub source_answer : (nodes id : ℤ) (a b : Option ℤ) (t : _) (r : Result (Unit {0}) ItemFault) → AnswersFault r (terminal_fault nodes a b id) → Answering nodes (Drafts.Max a b t) (Item.Terminal id S) r
 source_answer nodes id a b t r ans before p h k n holds =
-    subst (Answers r)
+    subst (AnswersFault r)
     (sym (ap (λ x. or_else x NodeOutOfRange (or_else (is_some (terminal_of S before)) RepeatedNode (or_else (is_id id (terminal_of T before)) SameTerminal None))) (stray_one before p h id (ap is_companion k))
     ∙ ap (λ m. terminal_fault m (terminal_of S before) (terminal_of T before) id) n
     ∙ ap (λ x. terminal_fault nodes x (terminal_of T before) id) (sym holds.0)
     ∙ ap (λ x. terminal_fault nodes a x id) (sym holds.1)))
     ans
 
-pub sink_answer : (nodes id : ℤ) (a b : Option ℤ) (t : _) (r : Result (Unit {0}) ItemFault) → Answers r (terminal_fault nodes b a id) → Answering nodes (Drafts.Max a b t) (Item.Terminal id T) r
+pub sink_answer : (nodes id : ℤ) (a b : Option ℤ) (t : _) (r : Result (Unit {0}) ItemFault) → AnswersFault r (terminal_fault nodes b a id) → Answering nodes (Drafts.Max a b t) (Item.Terminal id T) r
 sink_answer nodes id a b t r ans before p h k n holds =
-    subst (Answers r)
+    subst (AnswersFault r)
     (sym (ap (λ x. or_else x NodeOutOfRange (or_else (is_some (terminal_of T before)) RepeatedNode (or_else (is_id id (terminal_of S before)) SameTerminal None))) (stray_one before p h id (ap is_companion k))
     ∙ ap (λ m. terminal_fault m (terminal_of T before) (terminal_of S before) id) n
     ∙ ap (λ x. terminal_fault nodes x (terminal_of S before) id) (sym holds.1)
     ∙ ap (λ x. terminal_fault nodes b x id) (sym holds.0)))
     ans
 
-pub id_answer : (nodes id : ℤ) (ids : _) (r : Result (Unit {0}) ItemFault) → Answers r (id_fault id) → Answering nodes (Drafts.Ss ids) (Item.Source id) r
-id_answer nodes id ids r ans before p h k n holds = subst (Answers r) (sym (ap (λ x. or_else x NodeOutOfRange None) (stray_id before p h id (ap is_companion k)))) ans
+pub id_answer : (nodes id : ℤ) (ids : _) (r : Result (Unit {0}) ItemFault) → AnswersFault r (id_fault id) → Answering nodes (Drafts.Ss ids) (Item.Source id) r
+id_answer nodes id ids r ans before p h k n holds = subst (AnswersFault r) (sym (ap (λ x. or_else x NodeOutOfRange None) (stray_id before p h id (ap is_companion k)))) ans
 
-pub pair_answer : (nodes : ℤ) (pair : ℤ × ℤ) (pairs : _) (r : Result (Unit {0}) ItemFault) → Answers r (pair_fault pair) → Answering nodes (Drafts.P2p pairs) (Item.Query pair.0 pair.1) r
-pair_answer nodes pair pairs r ans before p h k n holds = subst (Answers r) (sym (ap (λ x. or_else x NodeOutOfRange None) (stray_ids before p h pair.0 pair.1 (ap is_companion k)))) ans
+pub pair_answer : (nodes : ℤ) (pair : ℤ × ℤ) (pairs : _) (r : Result (Unit {0}) ItemFault) → AnswersFault r (pair_fault pair) → Answering nodes (Drafts.P2p pairs) (Item.Query pair.0 pair.1) r
+pair_answer nodes pair pairs r ans before p h k n holds = subst (AnswersFault r) (sym (ap (λ x. or_else x NodeOutOfRange None) (stray_ids before p h pair.0 pair.1 (ap is_companion k)))) ans
 
 int_eq_is : (a b : ℤ) → int_eq a b ≡ true → a ≡ b
 int_eq_is a b h = grind (arith, ints, nat_tests)
@@ -130,9 +129,9 @@ points_named q [] = refl
 points_named q (Item.Point id x y ∷ rest) = ap (λ b. b || list_any (λ e. is_at (int_cmp q) e.0) (filter_map point_in rest)) (sought_eq q id (is_at (int_cmp q) id) refl) ∙ ap (λ b. int_eq id q || b) (points_named q rest)
 points_named q (_ ∷ rest) = points_named q rest
 
-pub point_answer : (nodes id x y : ℤ) (points : BTreeMap ℤ (ℤ × ℤ)) (r : Result (Unit {0}) ItemFault) → Answers r (point_fault (is_some (lookup (is_at (int_cmp id)) points.entries)) id) → Answering nodes (Drafts.Co points) (Item.Point id x y) r
+pub point_answer : (nodes id x y : ℤ) (points : BTreeMap ℤ (ℤ × ℤ)) (r : Result (Unit {0}) ItemFault) → AnswersFault r (point_fault (is_some (lookup (is_at (int_cmp id)) points.entries)) id) → Answering nodes (Drafts.Co points) (Item.Point id x y) r
 point_answer nodes id x y points r ans before p h k n holds =
-    subst (Answers r)
+    subst (AnswersFault r)
     (sym (ap (λ z. or_else z NodeOutOfRange (or_else (list_any (has_point id) before) RepeatedNode None)) (stray_id before p h id (ap is_companion k))
     ∙ ap (λ b. point_fault b id) (sym (points_named id before) ∙ sym (found_by_key id (filter_map point_in before)) ∙ ap (λ m. is_some (lookup (is_at (int_cmp id)) m)) (sym holds))))
     ans
@@ -142,12 +141,12 @@ not_some_is None h = refl
 not_some_is (Some x) h = cc
 
 -- a table holds what it held where an item is no arc
-pub table_kept : {B Arc : Type 0} (kind : ArcKind Arc) (tells : B → List Arc) (table : List ((ℤ × ℤ) × B)) (before : List Line) (i : Line) → arcs_of kind (i ∷ []) ≡ [] → TableHolds kind tells table before → TableHolds kind tells table (before ++ i ∷ [])
-table_kept kind tells table before i e t =
-    let same : arcs_of kind (before ++ i ∷ []) ≡ arcs_of kind before = arcs_push kind before i ∙ ap (λ l. arcs_of kind before ++ l) e ∙ append-nil (arcs_of kind before) in
-    record { tells_them = subst (Tells kind tells table) (sym same) t.tells_them; are_arcs = subst (AreArcs kind) (sym same) t.are_arcs }
+pub table_kept : {B Arc : Type 0} (kind : ArcKind Arc) (arc_in : Line → Option ((ℤ × ℤ) × Arc)) (tells : B → List Arc) (table : List ((ℤ × ℤ) × B)) (before : List Line) (i : Line) → arcs_of arc_in (i ∷ []) ≡ [] → TableHolds kind arc_in tells table before → TableHolds kind arc_in tells table (before ++ i ∷ [])
+table_kept kind arc_in tells table before i e t =
+    let same : arcs_of arc_in (before ++ i ∷ []) ≡ arcs_of arc_in before = arcs_push arc_in before i ∙ ap (λ l. arcs_of arc_in before ++ l) e ∙ append-nil (arcs_of arc_in before) in
+    record { tells_them = subst (TableTells kind tells table) (sym same) t.tells_them; are_arcs = subst (AreArcs kind) (sym same) t.are_arcs }
 
-pub source_stand : (nodes id : ℤ) (a b a' : Option ℤ) (t : _) (r : Result (Unit {0}) ItemFault) → Answers r (terminal_fault nodes a b id) → OnOk r (a' ≡ Some id) → Standing (Drafts.Max a b t) (Item.Terminal id S) (Drafts.Max a' b t) r
+pub source_stand : (nodes id : ℤ) (a b a' : Option ℤ) (t : _) (r : Result (Unit {0}) ItemFault) → AnswersFault r (terminal_fault nodes a b id) → OnOk r (a' ≡ Some id) → Standing (Drafts.Max a b t) (Item.Terminal id S) (Drafts.Max a' b t) r
 source_stand nodes id a b a' t (Err e) ans ok before holds = tt
 source_stand nodes id a b a' t (Ok x) ans ok before holds =
     let one = none_first (not (in_graph nodes id)) NodeOutOfRange _ ans in
@@ -155,10 +154,10 @@ source_stand nodes id a b a' t (Ok x) ans ok before holds =
     let none : terminal_of S before ≡ None = sym holds.0 ∙ not_some_is a two.0 in (
       ok ∙ sym (terminal_push S before (Item.Terminal id S) ∙ ap (λ o. option_or o (Some id)) none),
       holds.1 ∙ sym (terminal_push T before (Item.Terminal id S) ∙ or_none (terminal_of T before)),
-      table_kept capacities _ t before (Item.Terminal id S) refl holds.2,
+      table_kept capacities cap_arc_in _ t before (Item.Terminal id S) refl holds.2,
     )
 
-pub sink_stand : (nodes id : ℤ) (a b b' : Option ℤ) (t : _) (r : Result (Unit {0}) ItemFault) → Answers r (terminal_fault nodes b a id) → OnOk r (b' ≡ Some id) → Standing (Drafts.Max a b t) (Item.Terminal id T) (Drafts.Max a b' t) r
+pub sink_stand : (nodes id : ℤ) (a b b' : Option ℤ) (t : _) (r : Result (Unit {0}) ItemFault) → AnswersFault r (terminal_fault nodes b a id) → OnOk r (b' ≡ Some id) → Standing (Drafts.Max a b t) (Item.Terminal id T) (Drafts.Max a b' t) r
 sink_stand nodes id a b b' t (Err e) ans ok before holds = tt
 sink_stand nodes id a b b' t (Ok x) ans ok before holds =
     let one = none_first (not (in_graph nodes id)) NodeOutOfRange _ ans in
@@ -166,12 +165,12 @@ sink_stand nodes id a b b' t (Ok x) ans ok before holds =
     let none : terminal_of T before ≡ None = sym holds.1 ∙ not_some_is b two.0 in (
       holds.0 ∙ sym (terminal_push S before (Item.Terminal id T) ∙ or_none (terminal_of S before)),
       ok ∙ sym (terminal_push T before (Item.Terminal id T) ∙ ap (λ o. option_or o (Some id)) none),
-      table_kept capacities _ t before (Item.Terminal id T) refl holds.2,
+      table_kept capacities cap_arc_in _ t before (Item.Terminal id T) refl holds.2,
     )
 
 -- an arc leaves the terminals
 pub cap_stand : (a b : Option ℤ) (t t' : _) (src dst cap : ℤ) (r : Result (Unit {0}) ItemFault)
-    → ((before : List Line) → TableHolds capacities (λ (x : Total). cap_told x.total) t before → OnOk r (TableHolds capacities (λ (x : Total). cap_told x.total) t' (before ++ Item.MaxArc src dst cap ∷ [])))
+    → ((before : List Line) → TableHolds capacities cap_arc_in (λ (x : Total). cap_told x.total) t before → OnOk r (TableHolds capacities cap_arc_in (λ (x : Total). cap_told x.total) t' (before ++ Item.MaxArc src dst cap ∷ [])))
     → Standing (Drafts.Max a b t) (Item.MaxArc src dst cap) (Drafts.Max a b t') r
 cap_stand a b t t' src dst cap r ok before holds =
     let i = Item.MaxArc src dst cap in
@@ -192,8 +191,8 @@ point_stand id x y points points' r ok before holds =
     ok
 
 -- a table without bundles tells no arcs
-pub none_told : {B Arc : Type 0} (kind : ArcKind Arc) (tells : B → List Arc) → IsKind kind → TableHolds kind tells [] []
-none_told kind tells laws = record {
+pub none_told : {B Arc : Type 0} (kind : ArcKind Arc) (arc_in : Line → Option ((ℤ × ℤ) × Arc)) (tells : B → List Arc) → IsKind kind → TableHolds kind arc_in tells [] []
+none_told kind arc_in tells laws = record {
   tells_them = record {
     stands = λ p. record { canonical = laws.none_canon One; same = laws.meaning.same_refl [] };
     absent = λ p. (λ e. laws.meaning.same_refl [], λ s. refl);
@@ -202,22 +201,22 @@ none_told kind tells laws = record {
 }
 
 -- a problem line adds nothing to what no items make
-pub held_problem : (d : Draft) (i : Line) → IsSome (problem_in i) → Holds d [] → Holds d (i ∷ [])
+pub held_problem : (d : Draft) (i : Line) → IsSome (problem_in i) → DraftHolds d [] → DraftHolds d (i ∷ [])
 held_problem d (Item.Graph k n c) h holds = by_kind d holds
   where
-    by_kind : (d : Draft) → Holds d [] → Holds d (Item.Graph k n c ∷ [])
-    by_kind (Drafts.Min s z t) holds = (holds.0, holds.1, table_kept costs _ t [] (Item.Graph k n c) refl holds.2)
-    by_kind (Drafts.Max a b t) holds = (holds.0, holds.1, table_kept capacities _ t [] (Item.Graph k n c) refl holds.2)
-    by_kind (Drafts.Sp t) holds = table_kept lengths _ t [] (Item.Graph k n c) refl holds
+    by_kind : (d : Draft) → DraftHolds d [] → DraftHolds d (Item.Graph k n c ∷ [])
+    by_kind (Drafts.Min s z t) holds = (holds.0, holds.1, table_kept costs cost_arc_in _ t [] (Item.Graph k n c) refl holds.2)
+    by_kind (Drafts.Max a b t) holds = (holds.0, holds.1, table_kept capacities cap_arc_in _ t [] (Item.Graph k n c) refl holds.2)
+    by_kind (Drafts.Sp t) holds = table_kept lengths length_arc_in _ t [] (Item.Graph k n c) refl holds
     by_kind (Drafts.Ss ids) holds = holds
     by_kind (Drafts.P2p pairs) holds = holds
     by_kind (Drafts.Co points) holds = holds
 held_problem d (Item.Aux k c) h holds = by_kind d holds
   where
-    by_kind : (d : Draft) → Holds d [] → Holds d (Item.Aux k c ∷ [])
-    by_kind (Drafts.Min s z t) holds = (holds.0, holds.1, table_kept costs _ t [] (Item.Aux k c) refl holds.2)
-    by_kind (Drafts.Max a b t) holds = (holds.0, holds.1, table_kept capacities _ t [] (Item.Aux k c) refl holds.2)
-    by_kind (Drafts.Sp t) holds = table_kept lengths _ t [] (Item.Aux k c) refl holds
+    by_kind : (d : Draft) → DraftHolds d [] → DraftHolds d (Item.Aux k c ∷ [])
+    by_kind (Drafts.Min s z t) holds = (holds.0, holds.1, table_kept costs cost_arc_in _ t [] (Item.Aux k c) refl holds.2)
+    by_kind (Drafts.Max a b t) holds = (holds.0, holds.1, table_kept capacities cap_arc_in _ t [] (Item.Aux k c) refl holds.2)
+    by_kind (Drafts.Sp t) holds = table_kept lengths length_arc_in _ t [] (Item.Aux k c) refl holds
     by_kind (Drafts.Ss ids) holds = holds
     by_kind (Drafts.P2p pairs) holds = holds
     by_kind (Drafts.Co points) holds = holds
@@ -260,4 +259,4 @@ no_co _ h a = cc
 
 -- a refused item leaves nothing to show
 pub refused : (d : Draft) (l : Line) (e : Draft) (r : Result (Unit {0}) ItemFault) (f : ItemFault) → r ≡ Err f → Standing d l e r
-refused d l e r f h before holds = subst (λ x. OnOk x (Holds e (before ++ l ∷ []))) (sym h) tt
+refused d l e r f h before holds = subst (λ x. OnOk x (DraftHolds e (before ++ l ∷ []))) (sym h) tt

@@ -7,18 +7,18 @@ use Rattle.dn_line.specs.declared.kind.Letter.TheVariants.{S, T}
 use Rattle.dn_line.specs.declared.line.Line.{Line}
 use Rattle.dn_line.specs.Faults.{first_fault}
 use Rattle.dn_bundle.specs.Kinds.{capacities}
-use Rattle.dn_bundle.specs.TotalTold.{cap_told}
-use Rattle.std.specs.Map.{lookup}
-use Rattle.pair_index.specs.Pairs.{same_pair}
-use Rattle.dn_table.proofs.GrownLaws.{tells_as}
+use Rattle.dn_bundle.specs.Capacities.{cap_told}
+use Rattle.std.specs.List.Sorted.{IsStrictlySortedBy}
+use Rattle.std.specs.Map.{keys_of, lookup}
+use Rattle.pair_index.specs.Pairs.{pair_cmp, same_pair}
+use Rattle.dn_table.proofs.GrownLaws.{stands_as}
 use Rattle.dn_instance.specs.Instances.{Graph, MaxFlow}
-use Rattle.dn_instance.specs.Items.{Problem, counted, terminal_of, graph_of, max_flow, arcs_of}
+use Rattle.dn_instance.specs.Items.{Problem, counted, terminal_of, graph_of, max_flow, arcs_of, cap_arc_in}
 use Rattle.dn_instance.specs.TextFaults.{end_fault, lacks_terminal, is_full}
-use Rattle.dn_instance.specs.Progresses.{IsAt}
-use Rattle.dn_instance.specs.Drafts.{draft_kind, Holds}
+use Rattle.dn_instance.specs.Progresses.{ProgressAt}
+use Rattle.dn_instance.specs.Drafts.{draft_kind, DraftHolds}
 use Rattle.dn_instance.specs.Ends.{Makes, EndsWith}
-use Rattle.dn_instance.specs.Helds.{Bundles, Shows}
-use Rattle.dn_instance.specs.Views.{contents_of, holding}
+use Rattle.dn_instance.specs.Helds.{Bundles, Shows, contents_of, holding}
 use Rattle.dn_instance.specs.declared.content.Content.{Content}
 use Rattle.dn_instance.specs.declared.content.Content.TheVariants as Kept
 use Rattle.dn_instance.specs.declared.draft.Draft.{Draft}
@@ -32,7 +32,7 @@ use Rattle.dn_instance.specs.declared.progress.Progress.{Progress}
 abbrev ends_by : Option Problem → List Line → Option Code
 ends_by o items = first_fault ((NoProblem, is_none o) ∷ (MissingTerminal, lacks_terminal (option_map (λ (p : Problem). p.kind) o) items) ∷ (TooFewLines, not (is_full o (counted items))) ∷ [])
 
-end_is : (p : Progress) (items : List Line) (lacks few : Bool) → IsAt p items → lacks_terminal (Some (draft_kind p.draft)) items ≡ lacks → int_lt p.counted p.count ≡ few
+end_is : (p : Progress) (items : List Line) (lacks few : Bool) → ProgressAt p items → lacks_terminal (Some (draft_kind p.draft)) items ≡ lacks → int_lt p.counted p.count ≡ few
     → end_fault items ≡ cond lacks (Some MissingTerminal) (cond few (Some TooFewLines) None)
 end_is p items lacks few at l f =
     ap (λ o. ends_by o items) at.problem_is
@@ -44,7 +44,7 @@ end_is p items lacks few at l f =
     twice false = refl
 
 -- all is there
-pub ends_whole : (p : Progress) (items : List Line) (content : Content) (held : Held) → IsAt p items → Makes (draft_kind p.draft) p.nodes items (Ok content) → int_lt p.counted p.count ≡ false
+pub ends_whole : (p : Progress) (items : List Line) (content : Content) (held : Held) → ProgressAt p items → Makes (draft_kind p.draft) p.nodes items (Ok content) → int_lt p.counted p.count ≡ false
     → (holding held).nodes ≡ p.nodes → (holding held).lines ≡ p.counted → (holding held).contents ≡ contents_of content → EndsWith items (Ok held)
 ends_whole p items content held at made enough nodes lines contents = (
   end_is p items false false at made.0 enough,
@@ -59,10 +59,10 @@ ends_whole p items content held at made enough nodes lines contents = (
   },
 )
 
-pub ends_early : (p : Progress) (items : List Line) (content : Content) → IsAt p items → Makes (draft_kind p.draft) p.nodes items (Ok content) → int_lt p.counted p.count ≡ true → end_fault items ≡ Some TooFewLines
+pub ends_early : (p : Progress) (items : List Line) (content : Content) → ProgressAt p items → Makes (draft_kind p.draft) p.nodes items (Ok content) → int_lt p.counted p.count ≡ true → end_fault items ≡ Some TooFewLines
 ends_early p items content at made few = end_is p items false true at made.0 few
 
-pub ends_lacking : (p : Progress) (items : List Line) (code : Code) → IsAt p items → Makes (draft_kind p.draft) p.nodes items (Err code) → end_fault items ≡ Some code
+pub ends_lacking : (p : Progress) (items : List Line) (code : Code) → ProgressAt p items → Makes (draft_kind p.draft) p.nodes items (Err code) → end_fault items ≡ Some code
 ends_lacking p items code at made = by_few (int_lt p.counted p.count) refl
   where
     by_few : (b : Bool) → int_lt p.counted p.count ≡ b → end_fault items ≡ Some code
@@ -72,13 +72,13 @@ max_made : (a b : ℤ) (x y : Option ℤ) (G : Graph CapArc) → x ≡ Some a �
 max_made a b x y G e f = ap (λ o. max_flow o y G) e ∙ ap (λ o. max_flow (Some a) o G) f
 
 -- source and sink are there
-pub both_named : (d : Draft) (s t : Option ℤ) (table kept : Bundles Total) → ((p : ℤ × ℤ) → lookup (same_pair p) kept ≡ lookup (same_pair p) table) → (a b u v nodes : ℤ) (items : List Line) → d ≡ Drafts.Max s t table → s ≡ Some a → t ≡ Some b → u ≡ a → v ≡ b → Holds d items → Makes (draft_kind d) nodes items (Ok (Kept.Max u v kept))
-both_named d s t table kept alike a b u v nodes items is source sink same also h =
-    let k : Holds (Drafts.Max s t table) items = subst (λ x. Holds x items) is h in
+pub both_named : (d : Draft) (s t : Option ℤ) (table kept : Bundles Total) → IsStrictlySortedBy pair_cmp (keys_of kept) → ((p : ℤ × ℤ) → lookup (same_pair p) kept ≡ lookup (same_pair p) table) → (a b u v nodes : ℤ) (items : List Line) → d ≡ Drafts.Max s t table → s ≡ Some a → t ≡ Some b → u ≡ a → v ≡ b → DraftHolds d items → Makes (draft_kind d) nodes items (Ok (Kept.Max u v kept))
+both_named d s t table kept rising alike a b u v nodes items is source sink same also h =
+    let k : DraftHolds (Drafts.Max s t table) items = subst (λ x. DraftHolds x items) is h in
     let one : terminal_of S items ≡ Some a = sym k.0 ∙ source in
     let other : terminal_of T items ≡ Some b = sym k.1 ∙ sink in
     let out : Makes (draft_kind (Drafts.Max s t table)) nodes items (Ok (Kept.Max a b kept)) =
-    (ap (λ o. is_none o || is_none (terminal_of T items)) one ∙ ap is_none other, (MaxFlow a b (graph_of capacities nodes items), max_made a b _ _ (graph_of capacities nodes items) one other, (refl, refl, tells_as capacities (λ (x : Total). cap_told x.total) table kept (arcs_of capacities items) alike k.2.tells_them))) in
+    (ap (λ o. is_none o || is_none (terminal_of T items)) one ∙ ap is_none other, (MaxFlow a b (graph_of cap_arc_in nodes items), max_made a b _ _ (graph_of cap_arc_in nodes items) one other, (refl, refl, stands_as capacities (λ (x : Total). cap_told x.total) table kept (arcs_of cap_arc_in items) rising alike k.2.tells_them))) in
     subst (λ x. Makes (draft_kind x) nodes items (Ok (Kept.Max u v kept))) (sym is)
     (subst (λ x. Makes (draft_kind (Drafts.Max s t table)) nodes items (Ok (Kept.Max x v kept))) (sym same)
     (subst (λ y. Makes (draft_kind (Drafts.Max s t table)) nodes items (Ok (Kept.Max a y kept))) (sym also) out))

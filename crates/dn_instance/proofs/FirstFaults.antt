@@ -7,15 +7,14 @@ use Rattle.dn_line.specs.declared.kind.Letter.TheVariants.{S, T}
 use Rattle.dn_line.specs.declared.line.Line.{Line}
 use Rattle.dn_line.specs.Words.{said_words}
 use Rattle.dn_line.specs.Pieces.{lines}
-use Rattle.dn_instance.specs.declared.place.Place.{Place}
-use Rattle.dn_instance.specs.declared.place.Place.TheVariants as Places
+use Rattle.dn_instance.specs.declared.refusal.Place.{Place}
+use Rattle.dn_instance.specs.declared.refusal.Place.TheVariants as Places
 use Rattle.std.proofs.Common.{ℤ, option_and_then}
 use Rattle.std.specs.Option.{option_map}
-use Rattle.dn_bundle.specs.Kinds.{capacities}
 use Rattle.dn_bundle.specs.declared.arc.CapArc.{CapArc}
 use Rattle.dn_line.specs.declared.code.Code.TheVariants.{NoProblem, MissingTerminal}
 use Rattle.dn_instance.specs.Instances.{Graph, Instance}
-use Rattle.dn_instance.specs.Items.{Problem, problem_of, instance_of, instance_as, terminal_of, kind_known, max_flow, graph_of}
+use Rattle.dn_instance.specs.Items.{Problem, problem_of, instance_of, instance_as, terminal_of, kind_known, max_flow, graph_of, cap_arc_in}
 use Rattle.dn_instance.specs.TextFaults.{line_fault, end_fault, lacks_terminal}
 use Rattle.dn_instance.specs.Texts.{items_of, FaultAt, IsClean, IsFirstFaultAt, IsFirstFault, Reads}
 
@@ -195,7 +194,7 @@ with_terminals (Some a) (Some b) G h = (_, refl)
 
 of_kind : (k : Kind) (nodes : ℤ) (items : List Line) → lacks_terminal (Some k) items ≡ false → (I : Instance) × (instance_as k nodes items ≡ Some I)
 of_kind Kinds.Min nodes items h = (_, refl)
-of_kind Kinds.Max nodes items h = with_terminals (terminal_of S items) (terminal_of T items) (graph_of capacities nodes items) h
+of_kind Kinds.Max nodes items h = with_terminals (terminal_of S items) (terminal_of T items) (graph_of cap_arc_in nodes items) h
 of_kind Kinds.Sp nodes items h = (_, refl)
 of_kind Kinds.Ss nodes items h = (_, refl)
 of_kind Kinds.P2p nodes items h = (_, refl)

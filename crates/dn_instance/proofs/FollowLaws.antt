@@ -1,5 +1,5 @@
 -- What a line that has no fault up to its fields says of its item.
-use Rattle.std.proofs.Common.{◌≡◌, List, [], ◌∷◌, ◌++◌, Bool, true, false, ◌&&◌, cond, Option, Some, None, IsSome, is_some, Ok, Err, refl, sym, ap, ◌∙◌, subst, append-nil}
+use Rattle.std.proofs.Common.{◌≡◌, List, [], ◌∷◌, ◌++◌, Bool, true, false, ◌&&◌, cond, Option, Some, None, IsSome, is_some, Ok, Err, refl, sym, ap, ◌∙◌, subst}
 use Rattle.std.specs.Option.{option_or, option_to_list}
 use Rattle.dn_line.specs.declared.line.Line.{Line}
 use Rattle.dn_line.specs.declared.line.Line.TheVariants as Item
@@ -9,21 +9,22 @@ use Rattle.dn_line.specs.declared.code.Code.{Code}
 use Rattle.dn_line.specs.declared.code.Code.TheVariants.{LateNode, TooManyLines}
 use Rattle.dn_line.specs.Words.{is_skip, first}
 use Rattle.dn_line.specs.Faults.{Test, first_fault, head_tests, field_tests, own_tests, fields}
-use Rattle.dn_line.specs.Spelling.{Slot, AllFit, Spells, slots_of}
+use Rattle.dn_line.specs.Spelling.{Slot, FitSlots, Spells, slots_of}
 use Rattle.dn_line.specs.Reading.{unless, spelled, words_read}
 use Rattle.dn_line.proofs.FaultLaws.{fault_append}
 use Rattle.dn_line.proofs.SpellingLaws.{faultless_spells}
 use Rattle.dn_instance.specs.Items.{problem_of, kind_known, counted, is_counted}
-use Rattle.dn_instance.specs.TextFaults.{order_tests, line_tests, item_tests, item_read, is_counted_letter, is_full, is_late_node, is_surplus}
+use Rattle.dn_instance.specs.TextFaults.{order_tests, line_tests, item_tests, item_spelled, is_counted_letter, is_full, is_late_node, is_surplus}
 use Rattle.dn_instance.specs.Drafts.{HasSigns}
-use Rattle.dn_instance.specs.TextsSoFar.{next_read, fault_next, with_next, MayFollow}
+use Rattle.dn_instance.specs.Texts.{with_next}
+use Rattle.dn_instance.specs.TextsSoFar.{next_read, fault_next, MayFollow}
 use Rattle.dn_instance.proofs.FirstFaults.{none_first}
 use Rattle.dn_instance.proofs.CleanItems.{none_both}
 
 -- the words stand at the places, if there are any
 abbrev FitSome : Option (List Slot) → List Word → Type 0
 FitSome None ws = ⊥
-FitSome (Some slots) ws = AllFit slots ws
+FitSome (Some slots) ws = FitSlots slots ws
 
 fit_some : (known : Option Kind) (ws : List Word) (i : Line) → Spells known ws i → FitSome (slots_of i) ws
 fit_some known ws i s = subst (λ o. FitSome o ws) (sym s.slots_are) s.fit
@@ -136,7 +137,7 @@ module _ (before : List Line) (ws : List Word) (e : is_skip ws ≡ false) where
       ∙ ap (λ o. unless o (spelled known ws)) (own_none f)
       ∙ ap Ok same
 
-  some_item : (i : Line) → IsSome (slots_of i) → item_read (Ok i) ≡ Some i
+  some_item : (i : Line) → IsSome (slots_of i) → item_spelled (Ok i) ≡ Some i
   some_item Item.Skip h = cc
   some_item (Item.Graph _ _ _) h = refl
   some_item (Item.Aux _ _) h = refl
@@ -161,7 +162,7 @@ module _ (before : List Line) (ws : List Word) (e : is_skip ws ≡ false) where
   -- the item follows those before it, and its faults are the line's
   pub record Follows (i : Line) : Type 0 where
     pub may : MayFollow before i
-    pub reads : item_read (words_read known ws) ≡ Some i
+    pub reads : item_spelled (words_read known ws) ≡ Some i
     pub faults : first_fault (line_tests before ws) ≡ first_fault (item_tests before (Some i))
 
   pub follows_as : (i : Line) → next_read before ws ≡ Ok i → Follows i
@@ -169,7 +170,7 @@ module _ (before : List Line) (ws : List Word) (e : is_skip ws ≡ false) where
       let t = taken i h in
       let f = faultless t.0 in
       let may = subst (MayFollow before) t.1 (follows f) in
-      let reads = ap item_read (read_as i f t.1) ∙ some_item i may.spelled in
+      let reads = ap item_spelled (read_as i f t.1) ∙ some_item i may.spelled in
       record {
         may = may;
         reads = reads;
@@ -190,7 +191,7 @@ module _ (before : List Line) (ws : List Word) (e : is_skip ws ≡ false) where
   -- a fault up to the fields is the line's
   pub refused : (c : Code) → next_read before ws ≡ Err c → first_fault (line_tests before ws) ≡ Some c
   refused c h =
-      let tests = item_read (words_read known ws) in
+      let tests = item_spelled (words_read known ws) in
       all_parts tests
       ∙ or_front (first_fault (head_tests known ws)) (first_fault (order_tests before ws)) (first_fault (field_tests (fields known ws))) (first_fault (item_tests before tests)) c
       (sym (fault_append (head_tests known ws) later ∙ ap (option_or (first_fault (head_tests known ws))) (fault_append (order_tests before ws) (field_tests (fields known ws)))) ∙ refused_by c h)
@@ -212,11 +213,6 @@ skips before ws e = ap (λ b. cond b (Ok Item.Skip) (unless (first_fault (head_t
 
 pub skip_faultless : (before : List Line) (ws : List Word) → is_skip ws ≡ true → fault_next before ws ≡ None
 skip_faultless before ws e = ap (λ b. cond b None (first_fault (line_tests before ws))) e
-
-pub skip_adds_none : (before : List Line) (ws : List Word) → is_skip ws ≡ true → with_next before ws ≡ before
-skip_adds_none before ws e =
-    ap (λ r. before ++ option_to_list (item_read r)) (ap (λ b. cond b (Ok Item.Skip) (unless (first_fault (own_tests (kind_known before) ws)) (spelled (kind_known before) ws))) e)
-    ∙ append-nil before
 
 -- an item is read of a line that is not skipped
 pub not_skipped : (before : List Line) (ws : List Word) (i : Line) → next_read before ws ≡ Ok i → (i ≡ Item.Skip → ⊥) → is_skip ws ≡ false

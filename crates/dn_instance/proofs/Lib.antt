@@ -3,6 +3,7 @@ pub mod FirstFaults
 pub mod SameLaws
 pub mod CleanItems
 pub mod MapLaws
+pub mod SumLaws
 pub mod ValidLaws
 pub mod TellsLaws
 pub mod ArcItems

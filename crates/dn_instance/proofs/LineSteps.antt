@@ -1,8 +1,6 @@
 -- The complete lines with one line more.
-use Rattle.std.proofs.Common.{◌≡◌, ℕ, suc, ◌+◌, ◌-◌, ◌^◌, ◌<◌, ◌≤◌, List, [], ◌∷◌, ◌++◌, length, Bool, true, false, cond, Option, Some, None, refl, sym, ap, ◌∙◌, subst, arith, length-append, ◌⊎◌, inl, inr}
+use Rattle.std.proofs.Common.{◌≡◌, ℕ, suc, ◌+◌, ◌-◌, ◌^◌, ◌<◌, ◌≤◌, List, [], ◌∷◌, ◌++◌, length, Bool, true, false, cond, Some, None, refl, sym, ap, ◌∙◌, subst, arith, length-append, ◌⊎◌, inl, inr}
 use Rattle.std.proofs.lemmas.Bool.Decides.{nat_tests}
-use Rattle.std.specs.Option.{option_to_list}
-use Rattle.dn_line.specs.declared.kind.Kind.{Kind}
 use Rattle.dn_line.specs.declared.line.Line.{Line}
 use Rattle.dn_line.specs.declared.word.Word.{Word}
 use Rattle.dn_line.specs.declared.code.Code.TheVariants.{TooLong}
@@ -10,11 +8,10 @@ use Rattle.dn_line.specs.Words.{said_words, is_skip}
 use Rattle.dn_line.specs.Faults.{first_fault}
 use Rattle.dn_instance.specs.TextFaults.{line_tests, line_fault, is_too_long}
 use Rattle.dn_instance.specs.declared.text_so_far.TextSoFar.{TextSoFar}
-use Rattle.dn_instance.specs.Texts.{IsClean, items_of, text_kind}
-use Rattle.dn_instance.specs.TextsSoFar.{IsProgress, HasRead, fault_next, with_next}
-use Rattle.dn_instance.proofs.FirstFaults.{fault_after, by_clean_lines}
-use Rattle.dn_instance.proofs.CleanItems.{InStep, AddsOne, skipped, adds_known, adds_problem, no_fault}
-use Rattle.dn_instance.proofs.FollowLaws.{skip_adds_none}
+use Rattle.dn_instance.specs.Texts.{IsClean, items_of, with_next}
+use Rattle.dn_instance.specs.TextsSoFar.{IsProgress, TextAt, fault_next}
+use Rattle.dn_instance.proofs.FirstFaults.{fault_after}
+use Rattle.dn_instance.proofs.CleanItems.{items_push}
 
 -- a line that is not too long has the faults of its items and words
 pub fault_is_next : (n : ℕ) (before : List Line) (ws : List Word) → is_too_long n ≡ false → line_fault n before ws ≡ fault_next before ws
@@ -59,34 +56,15 @@ clean_more ls l clean h number code f = by_split (split ls f.before f.after l f.
     by_split (inl (b, m)) = let never : None ≡ Some code = sym h ∙ sym (ap (λ x. fault_after x f.line) b ∙ ap (fault_after ls) m) ∙ there in cc
     by_split (inr (a, e)) = clean number code (record { before = f.before; line = f.line; after = a; lines_are = e; number_is = f.number_is; fault_is = f.fault_is })
 
--- what a line without fault adds
-adds_one : (ls : List (List ℕ)) (l : List ℕ) (k : Option Kind) → text_kind ls ≡ k → InStep ls → is_skip (said_words l) ≡ false → fault_after ls l ≡ None → AddsOne ls l
-adds_one ls l None h s e f = adds_problem ls l h s e (no_fault (length ls + 1) (items_of ls) (said_words l) e f)
-adds_one ls l (Some k) h s e f = adds_known ls l k h s e (no_fault (length ls + 1) (items_of ls) (said_words l) e f)
-
-step_line : (ls : List (List ℕ)) (l : List ℕ) (b : Bool) → is_skip (said_words l) ≡ b → fault_after ls l ≡ None → InStep ls → InStep (ls ++ l ∷ [])
-step_line ls l true e f s = (skipped ls l s e).in_step
-step_line ls l false e f s = (adds_one ls l (text_kind ls) refl s e f).in_step
-
-in_step : (ls : List (List ℕ)) → IsClean ls → InStep ls
-in_step ls clean = by_clean_lines InStep ls clean (λ b l f s. step_line b l (is_skip (said_words l)) refl f s) (record { kind_is = refl; none_yet = λ e k. refl })
-
-next_items : (ls : List (List ℕ)) (l : List ℕ) (b : Bool) → is_skip (said_words l) ≡ b → fault_after ls l ≡ None → InStep ls → items_of (ls ++ l ∷ []) ≡ with_next (items_of ls) (said_words l)
-next_items ls l true e f s = (skipped ls l s e).items_are ∙ sym (skip_adds_none (items_of ls) (said_words l) e)
-next_items ls l false e f s = let a = adds_one ls l (text_kind ls) refl s e f in a.items_are ∙ sym (ap (λ o. items_of ls ++ option_to_list o) a.read)
-
-pub items_then : (ls : List (List ℕ)) (l : List ℕ) → IsClean ls → fault_after ls l ≡ None → items_of (ls ++ l ∷ []) ≡ with_next (items_of ls) (said_words l)
-items_then ls l clean f = next_items ls l (is_skip (said_words l)) refl f (in_step ls clean)
-
 -- with a line more
-pub read_more : (t : TextSoFar) (ls : List (List ℕ)) (l : List ℕ) (u : TextSoFar) → HasRead t ls → fault_after ls l ≡ None → u.closed ≡ suc (length ls) → suc (length ls) < 2 ^ 63 - 1 → IsProgress u.progress (with_next (items_of ls) (said_words l)) → HasRead u (ls ++ l ∷ [])
+pub read_more : (t : TextSoFar) (ls : List (List ℕ)) (l : List ℕ) (u : TextSoFar) → TextAt t ls → fault_after ls l ≡ None → u.closed ≡ suc (length ls) → suc (length ls) < 2 ^ 63 - 1 → IsProgress u.progress (with_next (items_of ls) (said_words l)) → TextAt u (ls ++ l ∷ [])
 read_more t ls l u h f number few p =
     let n : length (ls ++ l ∷ []) ≡ suc (length ls) = length-append ls (l ∷ []) ∙ arith_one (length ls) in
     record {
       clean = clean_more ls l h.clean f;
       few = subst (λ k. k < 2 ^ 63 - 1) (sym n) few;
       number_is = number ∙ sym n;
-      progress_is = subst (IsProgress u.progress) (sym (items_then ls l h.clean f)) p;
+      progress_is = subst (IsProgress u.progress) (sym (items_push ls l)) p;
     }
   where
     arith_one : (k : ℕ) → k + 1 ≡ suc k

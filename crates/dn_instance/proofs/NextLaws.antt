@@ -9,7 +9,7 @@ use Rattle.dn_line.specs.declared.kind.Kind.{Kind}
 use Rattle.dn_line.specs.declared.word.Word.{Word}
 use Rattle.dn_line.specs.declared.code.Code.{Code}
 use Rattle.dn_line.specs.Words.{is_skip, first}
-use Rattle.dn_line.specs.Table.{kind_named}
+use Rattle.dn_line.specs.LineTable.{kind_named}
 use Rattle.dn_line.specs.Faults.{Test, first_fault, head_tests, field_tests, fields}
 use Rattle.dn_line.specs.Reading.{unless, spelled, head_of, head_read, fields_read}
 use Rattle.dn_line.proofs.FaultLaws.{fault_append}

@@ -9,7 +9,8 @@ use Rattle.dn_line.specs.LineStates.{LineSoFar, has_end, used_of, last_of, line_
 use Rattle.dn_line.proofs.PartsLaws.{Parts, parts_run, parts_end, parts_push}
 use Rattle.dn_line.proofs.LineReaderLaws.{ended_push}
 use Rattle.dn_line.proofs.BeginLaws.{line_ends, line_before}
-use Rattle.dn_instance.specs.Readers.{ended, open_of}
+use Rattle.dn_instance.specs.Readers.{ended}
+use Rattle.dn_instance.specs.ReaderStates.{open_of}
 
 -- the line that a piece's LF ends comes after those before it
 closes : (p : Parts) (ls : List (List ℕ)) (o : List ℕ) → p ≡ (ls ++ o ∷ [], []) → p.0 ≡ ls ++ (last_of p.0 p.1).bytes ∷ []

@@ -14,8 +14,8 @@ use Rattle.dn_line.specs.declared.kind.Kind.{Kind}
 use Rattle.dn_line.specs.Spelling.{kind_before}
 use Rattle.dn_instance.specs.Items.{Problem, problem_of, problem_in, counted, is_counted}
 use Rattle.dn_instance.specs.TextFaults.{is_arc, is_companion, is_full}
-use Rattle.dn_instance.specs.Progresses.{IsAt, HasRoom}
-use Rattle.dn_instance.specs.Drafts.{draft_kind, Holds}
+use Rattle.dn_instance.specs.Progresses.{ProgressAt, HasRoom}
+use Rattle.dn_instance.specs.Drafts.{draft_kind, DraftHolds}
 use Rattle.dn_instance.specs.declared.draft.Draft.{Draft}
 use Rattle.dn_instance.specs.declared.progress.Progress.{Progress}
 use Rattle.dn_instance.proofs.CleanItems.{problem_push}
@@ -74,7 +74,7 @@ sum_is k m f h =
     ap pos (min-eq_left small ∙ one_more)
 
 -- as many lines as declared are not read yet
-pub has_room : (p : Progress) (items : List Line) (i : Line) → IsAt p items → HasRoom items i → is_counted i ≡ true → int_lt (pos (counted items)) p.count ≡ true
+pub has_room : (p : Progress) (items : List Line) (i : Line) → ProgressAt p items → HasRoom items i → is_counted i ≡ true → int_lt (pos (counted items)) p.count ≡ true
 has_room p items i at room y = not_not _ (sym (ap (λ o. is_full o (counted items)) at.problem_is) ∙ room y)
   where
     not_not : (b : Bool) → not b ≡ false → b ≡ true
@@ -82,7 +82,7 @@ has_room p items i at room y = not_not _ (sym (ap (λ o. is_full o (counted item
     not_not false h = cc
 
 -- with one item more
-module _ (p : Progress) (d : Draft) (items : List Line) (i : Line) (at : IsAt p items) (kind : draft_kind d ≡ draft_kind p.draft) (of_kind : Some (draft_kind p.draft) ≡ kind_before i) where
+module _ (p : Progress) (d : Draft) (items : List Line) (i : Line) (at : ProgressAt p items) (kind : draft_kind d ≡ draft_kind p.draft) (of_kind : Some (draft_kind p.draft) ≡ kind_before i) where
   arcs_then : (n : ℤ) (b : Bool) → is_counted i ≡ b → n ≡ pos (counted (items ++ i ∷ [])) → is_companion (draft_kind d) ≡ false → list_any is_arc (items ++ i ∷ []) ≡ int_lt (pos 0) n
   arcs_then n true t e c = any_push items i ∙ ap (λ x. list_any is_arc items || x) (arc_counted (draft_kind p.draft) i (sym (ap is_companion kind) ∙ c) of_kind ∙ t) ∙ or-true (list_any is_arc items) ∙ sym (ap (int_lt (pos 0)) (e ∙ ap pos (counted_yes items i t)) ∙ above (counted items))
     where
@@ -90,7 +90,7 @@ module _ (p : Progress) (d : Draft) (items : List Line) (i : Line) (at : IsAt p 
       above k = grind (arith, ints, nat_tests)
   arcs_then n false f e c = any_push items i ∙ ap (λ x. list_any is_arc items || x) (arc_counted (draft_kind p.draft) i (sym (ap is_companion kind) ∙ c) of_kind ∙ f) ∙ or-false (list_any is_arc items) ∙ at.arcs_are (sym (ap is_companion kind) ∙ c) ∙ ap (int_lt (pos 0)) (at.counted_is ∙ sym (e ∙ ap pos (counted_no items i f)))
 
-  pub is_then : (n : ℤ) → n ≡ pos (counted (items ++ i ∷ [])) → counted (items ++ i ∷ []) < 2 ^ 63 → Holds d (items ++ i ∷ []) → IsAt (record { nodes = p.nodes; count = p.count; counted = n; draft = d }) (items ++ i ∷ [])
+  pub is_then : (n : ℤ) → n ≡ pos (counted (items ++ i ∷ [])) → counted (items ++ i ∷ []) < 2 ^ 63 → DraftHolds d (items ++ i ∷ []) → ProgressAt (record { nodes = p.nodes; count = p.count; counted = n; draft = d }) (items ++ i ∷ [])
   is_then n e few h = record {
     problem_is = problem_kept items i _ at.problem_is ∙ ap (λ k. Some (record { kind = k; nodes = p.nodes; count = p.count })) (sym kind);
     count_fits = at.count_fits;
@@ -101,7 +101,7 @@ module _ (p : Progress) (d : Draft) (items : List Line) (i : Line) (at : IsAt p 
   }
 
 -- what has been read with a problem line alone
-pub begun : (p : Progress) (i : Line) → problem_in i ≡ Some (record { kind = draft_kind p.draft; nodes = p.nodes; count = p.count }) → p.count <ℤ pos (2 ^ 63) → p.counted ≡ pos 0 → Holds p.draft [] → IsAt p (i ∷ [])
+pub begun : (p : Progress) (i : Line) → problem_in i ≡ Some (record { kind = draft_kind p.draft; nodes = p.nodes; count = p.count }) → p.count <ℤ pos (2 ^ 63) → p.counted ≡ pos 0 → DraftHolds p.draft [] → ProgressAt p (i ∷ [])
 begun p i h fits none holds = record {
   problem_is = ap (λ o. option_or o None) h;
   count_fits = fits;

@@ -1,22 +1,23 @@
 -- What a reader has read as it goes on.
-use Rattle.std.proofs.Common.{◌≡◌, ℕ, ◌+◌, ◌≤◌, List, [], ◌∷◌, ◌++◌, length, take, drop, Option, Some, None, Ok, Err, Result, MatchOption, ◌⊎◌, inl, inr, refl, sym, ap, ◌∙◌, subst, arith, length-append, append-nil, append_assoc, ◌-◌, pos, option_and_then}
+use Rattle.std.proofs.Common.{◌≡◌, ℕ, ◌+◌, ◌≤◌, List, [], ◌∷◌, ◌++◌, length, take, drop, Option, Some, None, Ok, Err, Result, MatchOption, ◌⊎◌, inl, inr, refl, sym, ap, ◌∙◌, subst, arith, length-append, append-nil, append_assoc, pos, option_and_then}
 use Rattle.std.proofs.Math.Seq.{take-append_seam}
 use Rattle.std.proofs.lemmas.List.{take_all, take-append-le}
 use Rattle.dn_line.specs.declared.code.Code.{Code}
 use Rattle.dn_line.specs.Words.{said_words}
 use Rattle.dn_line.specs.Pieces.{lines}
-use Rattle.dn_instance.specs.declared.item_fault.ItemFault.{ItemFault}
-use Rattle.dn_instance.specs.declared.item_fault.ItemFault.TheVariants as Faults
-use Rattle.dn_instance.specs.declared.place.Place.TheVariants as Places
+use Rattle.dn_instance.specs.declared.refusal.ItemFault.{ItemFault}
+use Rattle.dn_instance.specs.declared.refusal.ItemFault.TheVariants as Faults
+use Rattle.dn_instance.specs.declared.refusal.Place.TheVariants as Places
 use Rattle.dn_instance.specs.declared.reader.Reader.{Reader}
 use Rattle.dn_instance.specs.declared.refusal.Refusal.{Refusal}
 use Rattle.dn_instance.specs.declared.refusal.Refusal.TheVariants.{Text, Memory, Read, Endless, Write, CountTooLarge}
-use Rattle.dn_instance.specs.ItemFaults.{Answers}
-use Rattle.dn_instance.specs.Readers.{ended, IsAfter, StopsIn, EntriesBefore, Takes, TakesAll, IsRefused, IsReading, StandsFor, Fed, Outcome, answer_of}
+use Rattle.dn_instance.specs.ItemFaults.{AnswersFault}
+use Rattle.dn_instance.specs.Readers.{ended, lines_taken, IsNext, EntriesBefore, IsRefused, Fed, Outcome, answer_of}
+use Rattle.dn_instance.specs.ReaderStates.{StopsIn, Takes, TakesAll, IsReading, ReaderAt}
 use Rattle.dn_instance.specs.Refusals.{refused_at}
 use Rattle.dn_instance.specs.TextFaults.{line_fault}
 use Rattle.dn_instance.specs.Texts.{items_of, FaultAt, IsClean, IsFirstFaultAt}
-use Rattle.dn_instance.specs.TextsSoFar.{HasRead}
+use Rattle.dn_instance.specs.TextsSoFar.{TextAt}
 use Rattle.dn_instance.proofs.FirstFaults.{first_on}
 use Rattle.dn_instance.proofs.LineSteps.{split, clean_more}
 use Rattle.dn_instance.proofs.PieceSteps.{More, ended_more, lines_more, rest_of, step_on, whole_of}
@@ -42,7 +43,7 @@ all_of : (ls : List (List ℕ)) (l : List ℕ) → take (length ls + 1) (ls ++ l
 all_of ls l = take_all (length ls + 1) (ls ++ l ∷ []) (let n = length-append ls (l ∷ []) in omega arith)
 
 -- the next line is refused
-pub refused_next : (ls : List (List ℕ)) (l : List ℕ) (number : ℕ) (fault : ItemFault) → IsClean ls → number ≡ length ls + 1 → Answers (Err fault) (line_fault (length ls + 1) (items_of ls) (said_words l))
+pub refused_next : (ls : List (List ℕ)) (l : List ℕ) (number : ℕ) (fault : ItemFault) → IsClean ls → number ≡ length ls + 1 → AnswersFault (Err fault) (line_fault (length ls + 1) (items_of ls) (said_words l))
     → IsRefused (length ls) (ls ++ l ∷ []) (refused_at number fault)
 refused_next ls l number (Faults.Text code) clean n h = fault_first ls l number code clean n h
 refused_next ls l number Faults.Memory clean n h = record {
@@ -72,21 +73,21 @@ none_from None h = refl
 none_from (Some x) h = absurd (h x refl)
 
 -- a reader without refusal
-pub reading : (r : Reader) (t : List ℕ) → r.refusal ≡ None → StandsFor r t → IsReading r t
+pub reading : (r : Reader) (t : List ℕ) → r.refusal ≡ None → ReaderAt r t → IsReading r t
 reading r t e h = subst (λ o. MatchOption o (IsReading r t) (λ x. IsRefused 0 (ended t) x × StopsIn r (ended t) x)) e h
 
-pub stands : (r : Reader) (t : List ℕ) → r.refusal ≡ None → IsReading r t → StandsFor r t
+pub stands : (r : Reader) (t : List ℕ) → r.refusal ≡ None → IsReading r t → ReaderAt r t
 stands r t e h = subst (λ o. MatchOption o (IsReading r t) (λ x. IsRefused 0 (ended t) x × StopsIn r (ended t) x)) (sym e) h
 
 -- and one with this
-pub refused : (r : Reader) (t : List ℕ) (x : Refusal) → r.refusal ≡ Some x → StandsFor r t → IsRefused 0 (ended t) x × StopsIn r (ended t) x
+pub refused : (r : Reader) (t : List ℕ) (x : Refusal) → r.refusal ≡ Some x → ReaderAt r t → IsRefused 0 (ended t) x × StopsIn r (ended t) x
 refused r t x e h = subst (λ o. MatchOption o (IsReading r t) (λ y. IsRefused 0 (ended t) y × StopsIn r (ended t) y)) e h
 
-pub refuses : (r : Reader) (t : List ℕ) (x : Refusal) → r.refusal ≡ Some x → IsRefused 0 (ended t) x × StopsIn r (ended t) x → StandsFor r t
+pub refuses : (r : Reader) (t : List ℕ) (x : Refusal) → r.refusal ≡ Some x → IsRefused 0 (ended t) x × StopsIn r (ended t) x → ReaderAt r t
 refuses r t x e h = subst (λ o. MatchOption o (IsReading r t) (λ y. IsRefused 0 (ended t) y × StopsIn r (ended t) y)) (sym e) h
 
 -- what is answered of the text so far
-pub fed : (r : Reader) (t : List ℕ) → StandsFor r t → Fed t (answer_of r.refusal)
+pub fed : (r : Reader) (t : List ℕ) → ReaderAt r t → Fed t (answer_of r.refusal)
 fed r t h = by_refusal r.refusal refl
   where
     by_refusal : (o : Option Refusal) → r.refusal ≡ o → Fed t (answer_of o)
@@ -95,43 +96,43 @@ fed r t h = by_refusal r.refusal refl
 
 -- a last line without LF
 pub takes_last : (r : Reader) (t bytes : List ℕ) (x : Result (Unit {0}) Refusal) → lines t ≡ ended t ++ bytes ∷ [] → Takes r (ended t) bytes x → TakesAll r t x
-takes_last r t bytes (Ok x) e h = subst (HasRead r.text) (sym e) h
+takes_last r t bytes (Ok x) e h = subst (TextAt r.text) (sym e) h
 takes_last r t bytes (Err x) e h = subst (λ ls. IsRefused (length (ended t)) ls x) (sym e) h.1
+
+next_on : (taken : ℕ) (ls ms : List (List ℕ)) (e : Refusal) → More ls ms → IsNext taken ls e → IsNext taken ms e
+next_on taken ls ms (Text (Places.Line number) code) m n = n
+next_on taken ls ms (Text Places.End code) m n = n
+next_on taken ls ms Memory m n = (
+  (let k = ap length m.whole in let h = length-append ls m.rest in let q = n.0 in omega arith),
+  subst IsClean (sym (ap (take (taken + 1)) m.whole ∙ take-append-le (taken + 1) ls m.rest (let q = n.0 in omega arith))) n.1,
+)
+next_on taken ls ms Read m n = n
+next_on taken ls ms Endless m n = n
+next_on taken ls ms Write m n = n
+next_on taken ls ms CountTooLarge m n = n
 
 -- those before the refused one are read, whatever lines come
 pub stops_on : (r : Reader) (ls ms : List (List ℕ)) (e : Refusal) → More ls ms → StopsIn r ls e → StopsIn r ms e
-stops_on r ls ms e m s = record { before = s.before; rest = s.rest ++ m.rest; whole = m.whole ∙ ap (λ l. l ++ m.rest) s.whole ∙ append_assoc s.before s.rest m.rest; read = s.read; next = s.next }
+stops_on r ls ms e m s = record { before = s.before; rest = s.rest ++ m.rest; whole = m.whole ∙ ap (λ l. l ++ m.rest) s.whole ∙ append_assoc s.before s.rest m.rest; read = s.read; next = next_on (length s.before) ls ms e m s.next }
 
-pub still_refused : (r : Reader) (t u : List ℕ) (e : Refusal) → r.refusal ≡ Some e → StandsFor r t → StandsFor r (t ++ u)
+pub still_refused : (r : Reader) (t u : List ℕ) (e : Refusal) → r.refusal ≡ Some e → ReaderAt r t → ReaderAt r (t ++ u)
 still_refused r t u e is h =
     let was = refused r t e is h in
     refuses r (t ++ u) e is (refused_on 0 0 (ended t) (ended (t ++ u)) e (omega arith) (ended_more t u) was.0, stops_on r (ended t) (ended (t ++ u)) e (ended_more t u) was.1)
 
-pub next_after : (ls : List (List ℕ)) (number : ℕ) (fault : ItemFault) → number ≡ length ls + 1 → IsAfter ls (refused_at number fault)
-next_after ls number (Faults.Text code) n = n
-next_after ls number Faults.Memory n = tt
+pub next_after : (ls : List (List ℕ)) (l : List ℕ) (number : ℕ) (fault : ItemFault) → IsClean ls → number ≡ length ls + 1 → AnswersFault (Err fault) (line_fault (length ls + 1) (items_of ls) (said_words l)) → IsNext (length ls) (ls ++ l ∷ []) (refused_at number fault)
+next_after ls l number (Faults.Text code) clean n h = n
+next_after ls l number Faults.Memory clean n h = ((let m = length-append ls (l ∷ []) in omega arith), subst IsClean (sym (all_of ls l)) (clean_more ls l clean h))
 
 -- the entries of those
-pub entries_before : (r : Reader) (ls : List (List ℕ)) (e : Refusal) (n : ℕ) → StopsIn r ls e → ((before : List (List ℕ)) → HasRead r.text before → n ≡ entries_so_far (items_of before)) → EntriesBefore ls e n
-entries_before r ls e n s h = by_refusal e s.next
+pub entries_before : (r : Reader) (ls : List (List ℕ)) (e : Refusal) (n : ℕ) → StopsIn r ls e → ((before : List (List ℕ)) → TextAt r.text before → n ≡ entries_so_far (items_of before)) → EntriesBefore (lines_taken r) ls e n
+entries_before r ls e n s h = (
+  subst (λ k. IsNext k ls e) (sym s.read.number_is) s.next,
+  h s.before s.read ∙ ap (λ l. entries_so_far (items_of l)) (sym front),
+)
   where
-    front : take (length s.before) ls ≡ s.before
-    front = ap (take (length s.before)) s.whole ∙ take-append_seam s.before s.rest
-
-    all : n ≡ entries_so_far (items_of (take (length s.before) ls))
-    all = h s.before s.read ∙ ap (λ l. entries_so_far (items_of l)) (sym front)
-
-    one_less : (k : ℕ) → k ≡ length s.before + 1 → length s.before ≡ k - 1
-    one_less k q = omega arith
-
-    by_refusal : (x : Refusal) → IsAfter s.before x → EntriesBefore ls x n
-    by_refusal (Text (Places.Line number) code) q = all ∙ ap (λ k. entries_so_far (items_of (take k ls))) (one_less number q)
-    by_refusal (Text Places.End code) q = (length s.before, all)
-    by_refusal Memory q = (length s.before, all)
-    by_refusal Read q = (length s.before, all)
-    by_refusal Endless q = (length s.before, all)
-    by_refusal Write q = (length s.before, all)
-    by_refusal CountTooLarge q = (length s.before, all)
+    front : take (lines_taken r) ls ≡ s.before
+    front = ap (λ k. take k ls) s.read.number_is ∙ ap (take (length s.before)) s.whole ∙ take-append_seam s.before s.rest
 
 -- the lines of a front of a piece
 pub more_from : (t p : List ℕ) (i n : ℕ) → More (ended ((t ++ take i p) ++ take n (rest_of p i))) (ended (t ++ p))
@@ -156,14 +157,14 @@ told_of t CountTooLarge h = absurd h
 pub refused_early : (t : List ℕ) (e : Refusal) → IsRefused 0 (ended t) e → Outcome t (Err e)
 refused_early t e h = told_of t e (refused_on 0 0 (ended t) (lines t) e (omega arith) (lines_more t) h)
 
-pub refused_before : (r : Reader) (t : List ℕ) (e : Refusal) → r.refusal ≡ Some e → StandsFor r t → Outcome t (Err e)
+pub refused_before : (r : Reader) (t : List ℕ) (e : Refusal) → r.refusal ≡ Some e → ReaderAt r t → Outcome t (Err e)
 refused_before r t e is h = refused_early t e (refused r t e is h).0
 
 pub refused_last : (t : List ℕ) (before : ℕ) (e : Refusal) → IsRefused before (lines t) e → Outcome t (Err e)
 refused_last t before e h = told_of t e (refused_on before 0 (lines t) (lines t) e (omega arith) (record { rest = []; whole = sym (append-nil (lines t)) }) h)
 
 -- what is held of a whole text
-pub held_whole : (x : TextSoFar) (t : List ℕ) (held : Held) → HasRead x (lines t) → EndsWith (items_of (lines t)) (Ok held) → Outcome t (Ok held)
+pub held_whole : (x : TextSoFar) (t : List ℕ) (held : Held) → TextAt x (lines t) → EndsWith (items_of (lines t)) (Ok held) → Outcome t (Ok held)
 held_whole x t held r e =
     let all = e.1 in
     let size = problem_sized (lines t) all.problem all.instance r.clean all.problem_is all.made in (

@@ -1,5 +1,5 @@
--- Being the same problem is an equivalence, and does not depend on the order of arcs.
-use Rattle.std.proofs.Common.{ℤ, List, ◌∷◌, Bool, true, false, cond, refl, sym, ◌∙◌}
+-- Being the same problem is an equivalence, and does not depend on the order of arcs; what is held is one problem.
+use Rattle.std.proofs.Common.{◌≡◌, ℤ, List, ◌∷◌, Bool, true, false, cond, refl, sym, ◌∙◌}
 use Rattle.std.specs.List.Sorted.{IsPermutation}
 use Rattle.dn_bundle.specs.Meanings.{IsMeaning}
 use Rattle.dn_bundle.specs.Kinds.{ArcKind, lengths, capacities, costs}
@@ -9,7 +9,15 @@ use Rattle.dn_bundle.specs.Laws.Totals.{total_meaning}
 use Rattle.dn_bundle.specs.Laws.Curves.{curve_meaning}
 use Rattle.pair_index.specs.Pairs.{same_pair}
 use Rattle.dn_table.specs.Pairs.{bundle}
-use Rattle.dn_instance.specs.Instances.{Graph, Instance, MinCostFlow, MaxFlow, ShortestPaths, Sources, Queries, Coordinates}
+use Rattle.dn_bundle.specs.Lengths.{length_told}
+use Rattle.dn_bundle.specs.Capacities.{cap_told}
+use Rattle.dn_bundle.specs.CurveTold.{told}
+use Rattle.dn_bundle.specs.declared.arc.Form.TheVariants.{One}
+use Rattle.dn_bundle.specs.declared.curve.Curve.{Curve}
+use Rattle.dn_bundle.specs.declared.least.Least.{Least}
+use Rattle.dn_bundle.specs.declared.total.Total.{Total}
+use Rattle.dn_instance.specs.Helds.{Contents, Holding, IsHeld, Shows, OfMin, OfMax, OfSp, OfSs, OfP2p, OfCo}
+use Rattle.dn_instance.specs.Instances.{Graph, Instance, MinCostFlow, MaxFlow, ShortestPaths, Sources, Queries, Coordinates, nodes_of}
 use Rattle.dn_table.specs.Tables.{told_at, TableStandsFor}
 use Rattle.dn_instance.specs.Sameness.{SameGraph, IsSame}
 
@@ -52,11 +60,14 @@ module _ {Arc : Type 0} (kind : ArcKind Arc) (meaning : IsMeaning kind.Same) whe
   pub graph_order : (nodes : ℤ) (xs ys : List ((ℤ × ℤ) × Arc)) → IsPermutation xs ys → SameGraph kind (record { nodes = nodes; arcs = xs }) (record { nodes = nodes; arcs = ys })
   graph_order nodes xs ys h = let s = any_order SameAt placed_meaning xs ys h in record { nodes = refl; bundles = s.at }
 
-  -- what one table stands for means the same
-  pub table_one : {B : Type 0} (tells : B → List Arc) (table : List ((ℤ × ℤ) × B)) (xs ys : List ((ℤ × ℤ) × Arc)) (p : ℤ × ℤ) → TableStandsFor kind tells table xs → TableStandsFor kind tells table ys → kind.Same (bundle p xs) (bundle p ys)
-  table_one tells table xs ys p s t =
-      let told = told_at tells table p in
-      meaning.same_trans (bundle p xs) told (bundle p ys) (meaning.same_sym told (bundle p xs) (s.stands p).same) (t.stands p).same
+  -- graphs of one table, and as many nodes
+  table_one : {B : Type 0} (tells : B → List Arc) (table : List ((ℤ × ℤ) × B)) (G H : Graph Arc) → G.nodes ≡ H.nodes → TableStandsFor kind tells table G.arcs → TableStandsFor kind tells table H.arcs → SameGraph kind G H
+  table_one tells table G H n s t = record { nodes = n; bundles = at }
+    where
+      at : (p : ℤ × ℤ) → kind.Same (bundle p G.arcs) (bundle p H.arcs)
+      at p =
+          let told = told_at tells table p in
+          meaning.same_trans (bundle p G.arcs) told (bundle p H.arcs) (meaning.same_sym told (bundle p G.arcs) (s.tells_them.stands p).same) (t.tells_them.stands p).same
 
 pub refl_of : (I : Instance) → IsSame I I
 refl_of (MinCostFlow s G) = (refl, graph_refl costs curve_meaning G)
@@ -89,3 +100,22 @@ trans_of (Sources xs) (Sources ys) _ e f = absurd f
 trans_of (Queries xs) (Queries ys) _ e f = absurd f
 trans_of (Coordinates xs) (Coordinates ys) _ e f = absurd f
 trans_of _ _ _ e f = absurd e
+
+shows_one : (c : Contents) (I J : Instance) → nodes_of I ≡ nodes_of J → Shows c I → Shows c J → IsSame I J
+shows_one (OfMin flows table) (MinCostFlow s G) (MinCostFlow t H) n x y = (sym x.0 ∙ y.0, table_one costs curve_meaning (λ (b : Curve). told One b.units b.cost b.steps) table G H n x.1 y.1)
+shows_one (OfMax source sink table) (MaxFlow a b G) (MaxFlow c d H) n x y = (sym x.0 ∙ y.0, sym x.1 ∙ y.1, table_one capacities total_meaning (λ (b : Total). cap_told b.total) table G H n x.2 y.2)
+shows_one (OfSp table) (ShortestPaths G) (ShortestPaths H) n x y = table_one lengths length_meaning (λ (b : Least). length_told b.length) table G H n x y
+shows_one (OfSs ids) (Sources xs) (Sources ys) n x y = sym x ∙ y
+shows_one (OfP2p pairs) (Queries xs) (Queries ys) n x y = sym x ∙ y
+shows_one (OfCo points) (Coordinates xs) (Coordinates ys) n x y = sym x ∙ y
+shows_one (OfMin flows table) (MinCostFlow s G) _ n x y = absurd y
+shows_one (OfMax source sink table) (MaxFlow a b G) _ n x y = absurd y
+shows_one (OfSp table) (ShortestPaths G) _ n x y = absurd y
+shows_one (OfSs ids) (Sources xs) _ n x y = absurd y
+shows_one (OfP2p pairs) (Queries xs) _ n x y = absurd y
+shows_one (OfCo points) (Coordinates xs) _ n x y = absurd y
+shows_one _ _ _ n x y = absurd x
+
+-- what is held stands for one problem
+pub held_one : (h : Holding) (I J : Instance) → IsHeld h I → IsHeld h J → IsSame I J
+held_one h I J x y = shows_one h.contents I J (sym x.nodes_are ∙ y.nodes_are) x.shows y.shows

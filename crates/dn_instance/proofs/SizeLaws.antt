@@ -10,7 +10,7 @@ use Rattle.dn_bundle.specs.Kinds.{costs, capacities, lengths}
 use Rattle.dn_instance.specs.Instances.{Instance, nodes_of, size_of}
 use Rattle.dn_instance.specs.EntryCount.{entries_as, entries_by, entries_so_far}
 use Rattle.dn_table.proofs.EntryLaws.{graph_few, costs_few, capacities_few, lengths_few}
-use Rattle.dn_instance.specs.Items.{Problem, problem_in, problem_of, arcs_of, arc_in, by_key, source_in, query_in, point_in, counted, is_counted, instance_as, max_flow, graph_of, terminal_of}
+use Rattle.dn_instance.specs.Items.{Problem, problem_in, problem_of, arcs_of, length_arc_in, cap_arc_in, cost_arc_in, by_key, source_in, query_in, point_in, counted, is_counted, instance_as, max_flow, graph_of, terminal_of}
 use Rattle.dn_line.specs.declared.kind.Letter.TheVariants.{S, T}
 use Rattle.dn_instance.specs.Texts.{items_of, IsClean}
 use Rattle.dn_instance.proofs.CleanItems.{IsNext, by_items, problem_push}
@@ -21,9 +21,9 @@ use Rattle.dn_instance.proofs.ValidLaws.{kept, grown, item_fits, OnSlots, some_i
 
 -- as many as counted, and a companion has no nodes
 abbrev SizedAs : Kind → ℤ → List Line → Type 0
-SizedAs Kinds.Min nodes items = counted items ≡ length (arcs_of costs items)
-SizedAs Kinds.Max nodes items = counted items ≡ length (arcs_of capacities items)
-SizedAs Kinds.Sp nodes items = counted items ≡ length (arcs_of lengths items)
+SizedAs Kinds.Min nodes items = counted items ≡ length (arcs_of cost_arc_in items)
+SizedAs Kinds.Max nodes items = counted items ≡ length (arcs_of cap_arc_in items)
+SizedAs Kinds.Sp nodes items = counted items ≡ length (arcs_of length_arc_in items)
 SizedAs Kinds.Ss nodes items = (nodes ≡ pos 0) × (counted items ≡ length (filter_map source_in items))
 SizedAs Kinds.P2p nodes items = (nodes ≡ pos 0) × (counted items ≡ length (filter_map query_in items))
 SizedAs Kinds.Co nodes items = (nodes ≡ pos 0) × (counted items ≡ length (by_key (filter_map point_in items)))
@@ -50,11 +50,11 @@ one_point before id x y n h =
     ∙ sym (ap (λ l. length (by_key l)) (grown point_in before i (id, (x, y)) refl) ∙ ap length (by_key_push es (id, (x, y))) ∙ one_more_key id (x, y) (by_key es) (found_by_key id es ∙ points_named id before ∙ n.once))
 
 next_sized : (k : Kind) (nodes : ℤ) (before : List Line) (i : Line) → Some k ≡ kind_before i → IsNext before i → SizedAs k nodes before → SizedAs k nodes (before ++ i ∷ [])
-next_sized Kinds.Min nodes before (Item.Supply id flow) e n s = as_long (arc_in costs) before (Item.Supply id flow) refl refl s
-next_sized Kinds.Min nodes before (Item.MinArc src dst low cap cost) e n s = one_longer (arc_in costs) before (Item.MinArc src dst low cap cost) _ refl refl s
-next_sized Kinds.Max nodes before (Item.Terminal id letter) e n s = as_long (arc_in capacities) before (Item.Terminal id letter) refl refl s
-next_sized Kinds.Max nodes before (Item.MaxArc src dst cap) e n s = one_longer (arc_in capacities) before (Item.MaxArc src dst cap) _ refl refl s
-next_sized Kinds.Sp nodes before (Item.SpArc src dst length) e n s = one_longer (arc_in lengths) before (Item.SpArc src dst length) _ refl refl s
+next_sized Kinds.Min nodes before (Item.Supply id flow) e n s = as_long cost_arc_in before (Item.Supply id flow) refl refl s
+next_sized Kinds.Min nodes before (Item.MinArc src dst low cap cost) e n s = one_longer cost_arc_in before (Item.MinArc src dst low cap cost) _ refl refl s
+next_sized Kinds.Max nodes before (Item.Terminal id letter) e n s = as_long cap_arc_in before (Item.Terminal id letter) refl refl s
+next_sized Kinds.Max nodes before (Item.MaxArc src dst cap) e n s = one_longer cap_arc_in before (Item.MaxArc src dst cap) _ refl refl s
+next_sized Kinds.Sp nodes before (Item.SpArc src dst length) e n s = one_longer length_arc_in before (Item.SpArc src dst length) _ refl refl s
 next_sized Kinds.Ss nodes before (Item.Source id) e n s = (s.0, one_longer source_in before (Item.Source id) _ refl refl s.1)
 next_sized Kinds.P2p nodes before (Item.Query first second) e n s = (s.0, one_longer query_in before (Item.Query first second) _ refl refl s.1)
 next_sized Kinds.Co nodes before (Item.Point id x y) e n s = (s.0, one_point before id x y n s.1)
@@ -100,7 +100,7 @@ record HasSize (nodes : ℤ) (items : List Line) (I : Instance) : Type 0 where
   nodes_are : nodes ≡ nodes_of I
   size_is : counted items ≡ size_of I
 
-max_sized : (nodes : ℤ) (items : List Line) (a b : Option ℤ) (I : Instance) → counted items ≡ length (arcs_of capacities items) → max_flow a b (graph_of capacities nodes items) ≡ Some I → HasSize nodes items I
+max_sized : (nodes : ℤ) (items : List Line) (a b : Option ℤ) (I : Instance) → counted items ≡ length (arcs_of cap_arc_in items) → max_flow a b (graph_of cap_arc_in nodes items) ≡ Some I → HasSize nodes items I
 max_sized nodes items None b I s e = cc
 max_sized nodes items (Some a) None I s e = cc
 max_sized nodes items (Some a) (Some b) I s e = subst (HasSize nodes items) (some_is _ I e) (record { nodes_are = refl; size_is = s })
@@ -124,9 +124,9 @@ so_far_by None items s = omega arith
 so_far_by (Some p) items s = by_kind p.kind s
   where
     by_kind : (k : Kind) → SizedAs k p.nodes items → entries_as k items ≤ 2 * counted items
-    by_kind Kinds.Min s = let few = graph_few costs costs_few (arcs_of costs items) in omega arith
-    by_kind Kinds.Max s = let few = graph_few capacities capacities_few (arcs_of capacities items) in omega arith
-    by_kind Kinds.Sp s = let few = graph_few lengths lengths_few (arcs_of lengths items) in omega arith
+    by_kind Kinds.Min s = let few = graph_few costs costs_few (arcs_of cost_arc_in items) in omega arith
+    by_kind Kinds.Max s = let few = graph_few capacities capacities_few (arcs_of cap_arc_in items) in omega arith
+    by_kind Kinds.Sp s = let few = graph_few lengths lengths_few (arcs_of length_arc_in items) in omega arith
     by_kind Kinds.Ss s = let size = s.1 in omega arith
     by_kind Kinds.P2p s = let size = s.1 in omega arith
     by_kind Kinds.Co s = let size = s.1 in omega arith

@@ -5,24 +5,17 @@ use Rattle.std.proofs.KnownBytes.{Consumes-trans}
 use Rattle.std.proofs.lemmas.Bool.{eqb-true, eqb-false}
 use Rattle.std.proofs.lemmas.List.{nil_from_length}
 use Rattle.dn_line.specs.Pieces.{lines}
-use Rattle.dn_instance.specs.declared.place.Place.TheVariants as Places
+use Rattle.dn_instance.specs.declared.refusal.Place.TheVariants as Places
 use Rattle.dn_instance.specs.declared.held.Held.{Held}
 use Rattle.dn_instance.specs.declared.reader.Reader.{Reader}
 use Rattle.dn_instance.specs.declared.refusal.Refusal.{Refusal}
 use Rattle.dn_instance.specs.declared.refusal.Refusal.TheVariants.{Text, Memory, Read, Endless, Write, CountTooLarge}
-use Rattle.dn_instance.specs.Readers.{ended, IsRefused, Outcome, StandsFor, answer_of}
-use Rattle.dn_instance.specs.SourceReads.{SourceOutcome, Copied, CopyOutcome}
+use Rattle.dn_instance.specs.Readers.{ended, IsRefused, Outcome, WantsMemory, answer_of}
+use Rattle.dn_instance.specs.ReaderStates.{ReaderAt}
+use Rattle.dn_instance.specs.SourceReads.{StopsInPiece, StopsAt, SourceOutcome, Copied, CopyOutcome}
+use Rattle.dn_instance.specs.Texts.{IsClean}
 use Rattle.dn_instance.proofs.PieceSteps.{More, ended_more, lines_more}
 use Rattle.dn_instance.proofs.ReaderLaws.{reading, refused_on}
-
-told_source : (t : List ℕ) (new : Option (List ℕ)) (e : Refusal) → IsRefused 0 (lines t) e → SourceOutcome t new (Err e)
-told_source t new (Text (Places.Line number) code) h = h
-told_source t new (Text Places.End code) h = absurd h
-told_source t new Memory h = h
-told_source t new Read h = absurd h
-told_source t new Endless h = absurd h
-told_source t new Write h = absurd h
-told_source t new CountTooLarge h = absurd h
 
 -- the lines of a front come first
 front_lines : (given rest : List ℕ) → More (ended given) (lines (given ++ rest))
@@ -31,21 +24,54 @@ front_lines given rest =
     let n = lines_more (given ++ rest) in
     record { rest = m.rest ++ n.rest; whole = n.whole ∙ ap (λ l. l ++ n.rest) m.whole ∙ append_assoc (ended given) m.rest n.rest }
 
--- refused at what was given
-refused_given : (old new : Option (List ℕ)) (given : List ℕ) (e : Refusal) → Consumes old new given → IsRefused 0 (ended given) e → IfSome old (λ t. SourceOutcome t new (Err e))
-refused_given None new given e c h = tt
-refused_given (Some t) None given e c h = absurd c
-refused_given (Some t) (Some rest) given e c h =
-    told_source t (Some rest) e (refused_on 0 0 (ended given) (lines t) e (omega arith) (subst (λ x. More (ended given) (lines x)) (sym c) (front_lines given rest)) h)
+-- want of memory at a line of a piece, or of the last line, is one of the text
+pub stopped_wants : (t : List ℕ) (new : Option (List ℕ)) → StopsAt t new Memory → WantsMemory 0 (lines t)
+stopped_wants t new (inl s) =
+    let all = s.before ++ s.piece in
+    refused_on (length (ended s.before)) 0 (ended all) (lines t) Memory (omega arith)
+    (subst (λ x. More (ended all) (lines x)) (append_assoc s.before s.piece s.rest ∙ sym s.whole) (front_lines all s.rest)) s.refused
+stopped_wants t new (inr s) = refused_on (length (ended t)) 0 (lines t) (lines t) Memory (omega arith) (record { rest = []; whole = sym (append-nil (lines t)) }) s.refused
+
+-- the refusal of a line after these
+refused_past : (before : ℕ) (ls : List (List ℕ)) (e : Refusal) → IsRefused 0 ls e → (e ≡ Memory → WantsMemory before ls) → IsRefused before ls e
+refused_past before ls (Text (Places.Line number) code) h m = h
+refused_past before ls (Text Places.End code) h m = h
+refused_past before ls Memory h m = m refl
+refused_past before ls Read h m = h
+refused_past before ls Endless h m = h
+refused_past before ls Write h m = h
+refused_past before ls CountTooLarge h m = h
+
+told_piece : (t : List ℕ) (new : Option (List ℕ)) (e : Refusal) → IsRefused 0 (lines t) e → StopsInPiece t new e → SourceOutcome t new (Err e)
+told_piece t new (Text (Places.Line number) code) h s = (h, inl s)
+told_piece t new (Text Places.End code) h s = absurd h
+told_piece t new Memory h s = inl s
+told_piece t new Read h s = absurd h
+told_piece t new Endless h s = absurd h
+told_piece t new Write h s = absurd h
+told_piece t new CountTooLarge h s = absurd h
+
+-- refused at a piece
+refused_given : (old mid new : Option (List ℕ)) (given piece : List ℕ) (r : Reader) (e : Refusal) → Consumes old mid given → Consumes mid new piece → length piece ≤ 2 ^ 16 → ReaderAt r given → r.refusal ≡ None → IsRefused 0 (ended (given ++ piece)) e
+    → (e ≡ Memory → WantsMemory (length (ended given)) (ended (given ++ piece))) → IfSome old (λ t. SourceOutcome t new (Err e))
+refused_given None mid new given piece r e c d short s none h m = tt
+refused_given (Some t) None new given piece r e c d short s none h m = absurd c
+refused_given (Some t) (Some both) None given piece r e c d short s none h m = absurd d
+refused_given (Some t) (Some both) (Some rest) given piece r e c d short s none h m =
+    let all = given ++ piece in
+    let whole : t ≡ given ++ (piece ++ rest) = c ∙ ap (λ l. given ++ l) d in
+    told_piece t (Some rest) e
+    (refused_on 0 0 (ended all) (lines t) e (omega arith) (subst (λ x. More (ended all) (lines x)) (append_assoc given piece rest ∙ sym whole) (front_lines all rest)) h)
+    (record { before = given; piece = piece; rest = rest; whole = whole; rest_is = refl; short = short; clean = (reading r given none s).read.clean; refused = refused_past (length (ended given)) (ended all) e h m })
 
 -- the same of an answer that is a refusal
-pub refused_by : (r : Result Held Refusal) (old new : Option (List ℕ)) (given : List ℕ) (e : Refusal) → Consumes old new given → IsRefused 0 (ended given) e → IsErr r × IsErrAnd r (λ x. x ≡ e)
-    → IfSome old (λ t. SourceOutcome t new r)
-refused_by (Ok held) old new given e c h is = absurd is.1
-refused_by (Err x) old new given e c h is = subst (λ a. IfSome old (λ t. SourceOutcome t new (Err a))) (sym is.1) (refused_given old new given e c h)
+pub refused_by : (a : Result Held Refusal) (old mid new : Option (List ℕ)) (given piece : List ℕ) (r : Reader) (e : Refusal) → Consumes old mid given → Consumes mid new piece → length piece ≤ 2 ^ 16 → ReaderAt r given → r.refusal ≡ None → IsRefused 0 (ended (given ++ piece)) e
+    → (e ≡ Memory → WantsMemory (length (ended given)) (ended (given ++ piece))) → IsErr a × IsErrAnd a (λ x. x ≡ e) → IfSome old (λ t. SourceOutcome t new a)
+refused_by (Ok held) old mid new given piece r e c d short s none h m is = absurd is.1
+refused_by (Err x) old mid new given piece r e c d short s none h m is = subst (λ a. IfSome old (λ t. SourceOutcome t new (Err a))) (sym is.1) (refused_given old mid new given piece r e c d short s none h m)
 
 -- the source has no end
-pub endless_given : (old new : Option (List ℕ)) (given : List ℕ) (r : Reader) (count : ℕ) → Consumes old new given → StandsFor r given → r.refusal ≡ None → count ≤ length given → 2 ^ 40 ≤ count → IfSome old (λ t. SourceOutcome t new (Err Endless))
+pub endless_given : (old new : Option (List ℕ)) (given : List ℕ) (r : Reader) (count : ℕ) → Consumes old new given → ReaderAt r given → r.refusal ≡ None → count ≤ length given → 2 ^ 40 ≤ count → IfSome old (λ t. SourceOutcome t new (Err Endless))
 endless_given None new given r count c s none h k = tt
 endless_given (Some t) None given r count c s none h k = absurd c
 endless_given (Some t) (Some rest) given r count c s none h k =
@@ -66,20 +92,23 @@ has_some piece test is e = let some = eqb-false (length piece) 0 (sym is ∙ e) 
 pub given_at_end : (old mid new : Option (List ℕ)) (given piece : List ℕ) → piece ≡ [] → Consumes old mid given → Consumes mid new piece → Consumes old new given
 given_at_end old mid new given piece none c d = subst (λ l. Consumes old new l) (ap (λ l. given ++ l) none ∙ append-nil given) (Consumes-trans old mid new given piece c d)
 
-told_end : (t : List ℕ) (new : Option (List ℕ)) (r : Result Held Refusal) → IsAtEnd new → Outcome t r → SourceOutcome t new r
-told_end t new (Ok held) e h = (h, e)
-told_end t new (Err (Text place code)) e h = h
-told_end t new (Err Memory) e h = h
-told_end t new (Err Read) e h = absurd h
-told_end t new (Err Endless) e h = absurd h
-told_end t new (Err Write) e h = absurd h
-told_end t new (Err CountTooLarge) e h = absurd h
+told_end : (t : List ℕ) (new : Option (List ℕ)) (r : Result Held Refusal) → IsAtEnd new → IsClean (ended t) → (r ≡ Err Memory → WantsMemory (length (ended t)) (lines t)) → Outcome t r → SourceOutcome t new r
+told_end t new (Ok held) e clean m h = (h, e)
+told_end t new (Err (Text (Places.Line number) code)) e clean m h = (h, inr (record { at_end = e; clean = clean; refused = h }))
+told_end t new (Err (Text Places.End code)) e clean m h = (h, inr (record { at_end = e; clean = clean; refused = h }))
+told_end t new (Err Memory) e clean m h = inr (record { at_end = e; clean = clean; refused = m refl })
+told_end t new (Err Read) e clean m h = absurd h
+told_end t new (Err Endless) e clean m h = absurd h
+told_end t new (Err Write) e clean m h = absurd h
+told_end t new (Err CountTooLarge) e clean m h = absurd h
 
 -- the source is at its end, and all that it gave is read
-pub ended_given : (old new : Option (List ℕ)) (given : List ℕ) (r : Result Held Refusal) → Consumes old new given → IsAtEnd new → Outcome given r → IfSome old (λ t. SourceOutcome t new r)
-ended_given None new given r c e h = tt
-ended_given (Some t) None given r c e h = absurd c
-ended_given (Some t) (Some rest) given r c e h = told_end t (Some rest) r e (subst (λ l. Outcome l r) (sym (c ∙ ap (λ l. given ++ l) e ∙ append-nil given)) h)
+pub ended_given : (old new : Option (List ℕ)) (given : List ℕ) (r : Reader) (a : Result Held Refusal) → Consumes old new given → IsAtEnd new → ReaderAt r given → r.refusal ≡ None → (a ≡ Err Memory → WantsMemory (length (ended given)) (lines given)) → Outcome given a → IfSome old (λ t. SourceOutcome t new a)
+ended_given None new given r a c e s none m h = tt
+ended_given (Some t) None given r a c e s none m h = absurd c
+ended_given (Some t) (Some rest) given r a c e s none m h =
+    let all : t ≡ given = c ∙ ap (λ l. given ++ l) e ∙ append-nil given in
+    subst (λ l. SourceOutcome l (Some rest) a) (sym all) (told_end given (Some rest) a e (reading r given none s).read.clean m h)
 
 told_copy : (t : List ℕ) (new : Option (List ℕ)) (old_copy new_copy : List ℕ) (r : Result Held Refusal) → SourceOutcome t new r → Copied t new old_copy new_copy → CopyOutcome t new old_copy new_copy r
 told_copy t new old_copy new_copy (Ok held) h k = (h, k)
@@ -98,7 +127,7 @@ copied (Some t) None given old_copy new_copy r c k h = absurd c
 copied (Some t) (Some rest) given old_copy new_copy r c k h = told_copy t (Some rest) old_copy new_copy r h (record { given = given; rest = rest; whole = c; rest_is = refl; copy = k })
 
 -- the copy lacked memory for a piece
-uncopied_given : (old mid new : Option (List ℕ)) (given piece old_copy new_copy : List ℕ) (r : Reader) → Consumes old mid given → Consumes mid new piece → 0 < length piece → new_copy ≡ old_copy ++ given → StandsFor r given → r.refusal ≡ None
+uncopied_given : (old mid new : Option (List ℕ)) (given piece old_copy new_copy : List ℕ) (r : Reader) → Consumes old mid given → Consumes mid new piece → 0 < length piece → new_copy ≡ old_copy ++ given → ReaderAt r given → r.refusal ≡ None
     → IfSome old (λ t. CopyOutcome t new old_copy new_copy (Err Memory))
 uncopied_given None mid new given piece old_copy new_copy r c d l k s none = tt
 uncopied_given (Some t) None new given piece old_copy new_copy r c d l k s none = absurd c
@@ -114,14 +143,14 @@ uncopied_given (Some t) (Some both) (Some rest) given piece old_copy new_copy r 
   clean = (reading r given none s).read.clean;
 })
 
-pub uncopied : (a : Result Held Refusal) (old mid new : Option (List ℕ)) (given piece old_copy new_copy : List ℕ) (e : Refusal) (r : Reader) → Consumes old mid given → Consumes mid new piece → 0 < length piece → new_copy ≡ old_copy ++ given → StandsFor r given → r.refusal ≡ None → e ≡ Memory → IsErr a × IsErrAnd a (λ x. x ≡ e)
+pub uncopied : (a : Result Held Refusal) (old mid new : Option (List ℕ)) (given piece old_copy new_copy : List ℕ) (e : Refusal) (r : Reader) → Consumes old mid given → Consumes mid new piece → 0 < length piece → new_copy ≡ old_copy ++ given → ReaderAt r given → r.refusal ≡ None → e ≡ Memory → IsErr a × IsErrAnd a (λ x. x ≡ e)
     → IfSome old (λ t. CopyOutcome t new old_copy new_copy a)
 uncopied (Ok held) old mid new given piece old_copy new_copy e r c d l k s none memory is = absurd is.1
 uncopied (Err x) old mid new given piece old_copy new_copy e r c d l k s none memory is =
     subst (λ a. IfSome old (λ t. CopyOutcome t new old_copy new_copy (Err a))) (sym (is.1 ∙ memory)) (uncopied_given old mid new given piece old_copy new_copy r c d l k s none)
 
 -- the source failed, and the copy has what it gave
-failed_given : (old mid new : Option (List ℕ)) (given old_copy new_copy : List ℕ) (r : Reader) → Consumes old mid given → Keeps mid new → new_copy ≡ old_copy ++ given → StandsFor r given → r.refusal ≡ None
+failed_given : (old mid new : Option (List ℕ)) (given old_copy new_copy : List ℕ) (r : Reader) → Consumes old mid given → Keeps mid new → new_copy ≡ old_copy ++ given → ReaderAt r given → r.refusal ≡ None
     → IfSome old (λ t. CopyOutcome t new old_copy new_copy (Err Read))
 failed_given None mid new given old_copy new_copy r c d k s none = tt
 failed_given (Some t) None new given old_copy new_copy r c d k s none = absurd c
@@ -131,7 +160,7 @@ failed_given (Some t) (Some rest) (Some left) given old_copy new_copy r c d k s 
   record { given = given; rest = left; whole = c ∙ ap (λ l. given ++ l) (sym d); rest_is = refl; copy = k },
 )
 
-pub failed_copy : (a : Result Held Refusal) (old mid new : Option (List ℕ)) (given old_copy new_copy : List ℕ) (e : Refusal) (r : Reader) → Consumes old mid given → Keeps mid new → new_copy ≡ old_copy ++ given → StandsFor r given → r.refusal ≡ None → e ≡ Read → IsErr a × IsErrAnd a (λ x. x ≡ e)
+pub failed_copy : (a : Result Held Refusal) (old mid new : Option (List ℕ)) (given old_copy new_copy : List ℕ) (e : Refusal) (r : Reader) → Consumes old mid given → Keeps mid new → new_copy ≡ old_copy ++ given → ReaderAt r given → r.refusal ≡ None → e ≡ Read → IsErr a × IsErrAnd a (λ x. x ≡ e)
     → IfSome old (λ t. CopyOutcome t new old_copy new_copy a)
 failed_copy (Ok held) old mid new given old_copy new_copy e r c d k s none read is = absurd is.1
 failed_copy (Err x) old mid new given old_copy new_copy e r c d k s none read is =

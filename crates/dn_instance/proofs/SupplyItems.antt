@@ -20,20 +20,20 @@ use Rattle.dn_bundle.specs.Kinds.{costs}
 use Rattle.dn_bundle.specs.CurveTold.{told}
 use Rattle.dn_bundle.specs.declared.arc.Form.TheVariants.{One}
 use Rattle.dn_bundle.specs.declared.curve.Curve.{Curve}
-use Rattle.dn_instance.specs.Holdings.{TableHolds}
+use Rattle.dn_instance.specs.Drafts.{TableHolds}
 use Rattle.dn_instance.specs.declared.draft.Draft.TheVariants as Drafts
-use Rattle.dn_instance.specs.declared.item_fault.ItemFault.{ItemFault}
-use Rattle.dn_instance.specs.Items.{supply_in, supplies_of, by_key}
-use Rattle.dn_instance.specs.ItemFaults.{Answers, supply_fault}
+use Rattle.dn_instance.specs.declared.refusal.ItemFault.{ItemFault}
+use Rattle.dn_instance.specs.Items.{cost_arc_in, supply_in, supplies_of, by_key}
+use Rattle.dn_instance.specs.ItemFaults.{AnswersFault, supply_fault}
 use Rattle.dn_instance.specs.TextFaults.{is_companion, has_supply}
 use Rattle.dn_instance.proofs.DraftLaws.{Answering, Standing, stray_one, or_else, sought_eq, table_kept}
 use Rattle.dn_instance.proofs.MapLaws.{by_key_push, lookup_put, some_cond}
 use Rattle.dn_instance.proofs.ValidLaws.{supplies_grow}
 
 pub supply_answer : (nodes id flow : ℤ) (supplies : BTreeMap ℤ ℤ) (idle : BTreeSet ℤ) (t : _) (r : Result (Unit {0}) ItemFault)
-    → Answers r (supply_fault nodes (is_some (Map.get int_cmp supplies id) || Set.contains int_cmp idle id) id) → Answering nodes (Drafts.Min supplies idle t) (Item.Supply id flow) r
+    → AnswersFault r (supply_fault nodes (is_some (Map.get int_cmp supplies id) || Set.contains int_cmp idle id) id) → Answering nodes (Drafts.Min supplies idle t) (Item.Supply id flow) r
 supply_answer nodes id flow supplies idle t r ans before p h k n holds =
-    subst (Answers r)
+    subst (AnswersFault r)
     (sym (ap (λ x. or_else x NodeOutOfRange (or_else (list_any (has_supply id) before) RepeatedNode None)) (stray_one before p h id (ap is_companion k))
     ∙ ap (λ m. supply_fault m (list_any (has_supply id) before) id) n
     ∙ ap (λ b. supply_fault nodes b id) (sym (holds.1 id))))
@@ -104,12 +104,12 @@ supply_stand id flow s s' z z' t (Err e) put kept before holds = tt
 supply_stand id flow s s' z z' t (Ok x) put kept before holds = (
   put ∙ ap (λ m. cond (int_eq flow (pos 0)) m (insert_entry int_cmp m id flow)) holds.0 ∙ sym (supplies_push id flow before (int_eq flow (pos 0)) refl),
   λ q. named id flow q before s s' z z' (holds.1 q) put (kept q) (int_eq flow (pos 0)) refl,
-  table_kept costs _ t before (Item.Supply id flow) refl holds.2,
+  table_kept costs cost_arc_in _ t before (Item.Supply id flow) refl holds.2,
 )
 
 -- an arc leaves the flows
 pub cost_stand : (s : BTreeMap ℤ ℤ) (z : BTreeSet ℤ) (t t' : _) (src dst low top cost : ℤ) (r : Result (Unit {0}) ItemFault)
-    → ((before : List Line) → TableHolds costs (λ (x : Curve). told One x.units x.cost x.steps) t before → OnOk r (TableHolds costs (λ (x : Curve). told One x.units x.cost x.steps) t' (before ++ Item.MinArc src dst low top cost ∷ [])))
+    → ((before : List Line) → TableHolds costs cost_arc_in (λ (x : Curve). told One x.units x.cost x.steps) t before → OnOk r (TableHolds costs cost_arc_in (λ (x : Curve). told One x.units x.cost x.steps) t' (before ++ Item.MinArc src dst low top cost ∷ [])))
     → Standing (Drafts.Min s z t) (Item.MinArc src dst low top cost) (Drafts.Min s z t') r
 cost_stand s z t t' src dst low top cost r ok before holds =
     let i = Item.MinArc src dst low top cost in

@@ -3,15 +3,15 @@ use Rattle.std.proofs.Common.{◌≡◌, ◌↔◌, ℤ, pos, ◌<ℤ◌, int_lt
 use Rattle.std.specs.List.{AllByRecursion}
 use Rattle.std.specs.Map.{lookup}
 use Rattle.dn_bundle.specs.declared.arc.Form.TheVariants.{One}
-use Rattle.dn_bundle.specs.Kinds.{ArcKind, StandsFor}
+use Rattle.dn_bundle.specs.Kinds.{ArcKind, AreCanonArcsOf}
 use Rattle.dn_bundle.specs.Bundles.{IsKind, told_of}
 use Rattle.dn_bundle.specs.Laws.Orders.{same_push}
 use Rattle.pair_index.specs.Pairs.{same_pair}
 use Rattle.dn_table.specs.Pairs.{bundle}
-use Rattle.dn_table.specs.Tables.{told_at, Grows, Tells, AreArcs, Stays}
+use Rattle.dn_table.specs.Tables.{told_at, Grows, TableTells, AreArcs, Stays}
 use Rattle.pair_index.proofs.PairLaws.{pair_is, pair_self}
 use Rattle.dn_table.proofs.PairLaws.{other_pair}
-use Rattle.dn_instance.specs.TextFaults.{passes}
+use Rattle.dn_instance.proofs.SumLaws.{passes}
 use Rattle.dn_instance.specs.ItemFaults.{in_graph, arc_fault}
 use Rattle.dn_line.specs.declared.code.Code.TheVariants.{SumTooLarge}
 use Rattle.std.proofs.lemmas.Int.{ints, by_lt_z}
@@ -23,7 +23,7 @@ module _ {B Arc : Type 0} (kind : ArcKind Arc) (tells : B → List Arc) (laws : 
   told_canon (Some b) = canonical b
 
   -- no arcs, and no bundles
-  pub tells_none : Tells kind tells [] []
+  pub tells_none : TableTells kind tells [] []
   tells_none = record {
     stands = λ p. record { canonical = laws.none_canon One; same = laws.meaning.same_refl [] };
     absent = λ p. (λ e. laws.meaning.same_refl [], λ s. refl);
@@ -38,7 +38,7 @@ bundle_arcs kind p (a ∷ rest) h = by_test (same_pair p a.0) (bundle_arcs kind 
     by_test false all = all
 
 module _ {B Arc : Type 0} (kind : ArcKind Arc) (tells : B → List Arc) (laws : IsKind kind) (canonical : (b : B) → kind.IsCanon One (tells b)) (stays : Stays kind)
-    (m n : List ((ℤ × ℤ) × B)) (arcs : List ((ℤ × ℤ) × Arc)) (pair : ℤ × ℤ) (arc : Arc) (old : Tells kind tells m arcs) (are : AreArcs kind arcs) (is : kind.IsArc arc) (grows : Grows kind tells m n pair arc) where
+    (m n : List ((ℤ × ℤ) × B)) (arcs : List ((ℤ × ℤ) × Arc)) (pair : ℤ × ℤ) (arc : Arc) (old : TableTells kind tells m arcs) (are : AreArcs kind arcs) (is : kind.IsArc arc) (grows : Grows kind tells m n pair arc) where
   bundle_here : bundle pair (arcs ++ (pair, arc) ∷ []) ≡ bundle pair arcs ++ arc ∷ []
   bundle_here = bundle_push pair arcs (pair, arc) ∙ ap (λ t. bundle pair arcs ++ cond t (arc ∷ []) []) (pair_self pair)
 
@@ -75,9 +75,9 @@ module _ {B Arc : Type 0} (kind : ArcKind Arc) (tells : B → List Arc) (laws : 
             cc,
       )
 
-  stands_at : (p : ℤ × ℤ) (t : Bool) → same_pair pair p ≡ t → StandsFor kind (told_at tells n p) (bundle p (arcs ++ (pair, arc) ∷ []))
+  stands_at : (p : ℤ × ℤ) (t : Bool) → same_pair pair p ≡ t → AreCanonArcsOf kind (told_at tells n p) (bundle p (arcs ++ (pair, arc) ∷ []))
   stands_at p true e =
-      subst (λ q. StandsFor kind (told_at tells n q) (bundle q (arcs ++ (pair, arc) ∷ []))) (pair_is pair p e)
+      subst (λ q. AreCanonArcsOf kind (told_at tells n q) (bundle q (arcs ++ (pair, arc) ∷ []))) (pair_is pair p e)
       (record { canonical = told_canon kind tells laws canonical (lookup (same_pair pair) n); same = same_here })
   stands_at p false e = record {
     canonical = told_canon kind tells laws canonical (lookup (same_pair p) n);
@@ -91,11 +91,11 @@ module _ {B Arc : Type 0} (kind : ArcKind Arc) (tells : B → List Arc) (laws : 
       (subst (λ o. (o ≡ None) ↔ kind.Same (bundle p arcs) []) (sym (grows.others p e)) (old.absent p))
 
   -- with one arc more
-  pub tells_more : Tells kind tells n (arcs ++ (pair, arc) ∷ [])
+  pub tells_more : TableTells kind tells n (arcs ++ (pair, arc) ∷ [])
   tells_more = record { stands = λ p. stands_at p (same_pair pair p) refl; absent = λ p. absent_at p (same_pair pair p) refl }
 
 -- the capacity of what a table tells at a pair, with an arc more, is that of the arcs
-pub told_capacity : {B Arc : Type 0} (kind : ArcKind Arc) (tells : B → List Arc) → IsKind kind → (m : List ((ℤ × ℤ) × B)) (arcs : List ((ℤ × ℤ) × Arc)) (p : ℤ × ℤ) (arc : Arc) → Tells kind tells m arcs → AreArcs kind arcs → kind.IsArc arc
+pub told_capacity : {B Arc : Type 0} (kind : ArcKind Arc) (tells : B → List Arc) → IsKind kind → (m : List ((ℤ × ℤ) × B)) (arcs : List ((ℤ × ℤ) × Arc)) (p : ℤ × ℤ) (arc : Arc) → TableTells kind tells m arcs → AreArcs kind arcs → kind.IsArc arc
     → kind.capacity (told_at tells m p ++ arc ∷ []) ≡ kind.capacity (bundle p arcs ++ arc ∷ [])
 told_capacity kind tells laws m arcs p arc old are is =
     laws.same_capacity (told_at tells m p ++ arc ∷ []) (bundle p arcs ++ arc ∷ [])
@@ -107,15 +107,15 @@ past_none : (x y : ℤ) → (x <ℤ y → ⊥) → int_lt x y ≡ false
 past_none x y h = by_lt_z x y (λ lt. absurd (h lt)) (λ le. grind (arith, ints))
 
 -- an arc that a table has taken has no fault
-pub taken_fault : {Arc : Type 0} (kind : ArcKind Arc) (nodes : ℤ) (arcs : List ((ℤ × ℤ) × Arc)) (is : Bool) (a : (ℤ × ℤ) × Arc) → (in_graph nodes a.0.0 && in_graph nodes a.0.1) ≡ true → is ≡ true → passes kind arcs (Some a) ≡ false → arc_fault kind nodes arcs is a ≡ None
+pub taken_fault : {Arc : Type 0} (kind : ArcKind Arc) (nodes : ℤ) (arcs : List ((ℤ × ℤ) × Arc)) (is : Bool) (a : (ℤ × ℤ) × Arc) → (in_graph nodes a.0.0 && in_graph nodes a.0.1) ≡ true → is ≡ true → passes kind arcs a ≡ false → arc_fault kind nodes arcs is a ≡ None
 taken_fault kind nodes arcs is a e f g = rw (e, f, g) refl
 
-pub sum_fault : {Arc : Type 0} (kind : ArcKind Arc) (nodes : ℤ) (arcs : List ((ℤ × ℤ) × Arc)) (is : Bool) (a : (ℤ × ℤ) × Arc) → (in_graph nodes a.0.0 && in_graph nodes a.0.1) ≡ true → is ≡ true → passes kind arcs (Some a) ≡ true → arc_fault kind nodes arcs is a ≡ Some SumTooLarge
+pub sum_fault : {Arc : Type 0} (kind : ArcKind Arc) (nodes : ℤ) (arcs : List ((ℤ × ℤ) × Arc)) (is : Bool) (a : (ℤ × ℤ) × Arc) → (in_graph nodes a.0.0 && in_graph nodes a.0.1) ≡ true → is ≡ true → passes kind arcs a ≡ true → arc_fault kind nodes arcs is a ≡ Some SumTooLarge
 sum_fault kind nodes arcs is a e f g = rw (e, f, g) refl
 
 -- whether the sum passes, by what the table answers
-pub sum_passes : {B Arc F : Type 0} (kind : ArcKind Arc) (tells : B → List Arc) → IsKind kind → (m : List ((ℤ × ℤ) × B)) (arcs : List ((ℤ × ℤ) × Arc)) (p : ℤ × ℤ) (arc : Arc) → Tells kind tells m arcs → AreArcs kind arcs → kind.IsArc arc
-    → F ↔ (pos (2 ^ 63 - 1) <ℤ kind.capacity (told_at tells m p ++ arc ∷ [])) → (F → passes kind arcs (Some (p, arc)) ≡ true) × ((F → ⊥) → passes kind arcs (Some (p, arc)) ≡ false)
+pub sum_passes : {B Arc F : Type 0} (kind : ArcKind Arc) (tells : B → List Arc) → IsKind kind → (m : List ((ℤ × ℤ) × B)) (arcs : List ((ℤ × ℤ) × Arc)) (p : ℤ × ℤ) (arc : Arc) → TableTells kind tells m arcs → AreArcs kind arcs → kind.IsArc arc
+    → F ↔ (pos (2 ^ 63 - 1) <ℤ kind.capacity (told_at tells m p ++ arc ∷ [])) → (F → passes kind arcs (p, arc) ≡ true) × ((F → ⊥) → passes kind arcs (p, arc) ≡ false)
 sum_passes kind tells laws m arcs p arc old are is h =
     let e = told_capacity kind tells laws m arcs p arc old are is in
     let past = kind.capacity (bundle p arcs ++ arc ∷ []) in (

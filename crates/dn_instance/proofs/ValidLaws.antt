@@ -15,17 +15,18 @@ use Rattle.dn_line.specs.declared.line.Line.{Line}
 use Rattle.dn_line.specs.declared.line.Line.TheVariants as Item
 use Rattle.dn_line.specs.Pieces.{lines}
 use Rattle.dn_line.specs.Words.{words, said, said_words}
-use Rattle.dn_line.specs.Spelling.{Slot, Is, Number, Natural, slots_of, kind_before, AllFit, Spells}
+use Rattle.dn_line.specs.Spelling.{Slot, Is, Number, Natural, slots_of, kind_before, FitSlots, Spells}
 use Rattle.dn_bundle.specs.Kinds.{ArcKind, costs, capacities, lengths}
 use Rattle.dn_bundle.specs.declared.arc.CapArc.{CapArc}
 use Rattle.pair_index.specs.Pairs.{same_pair}
 use Rattle.dn_table.specs.Pairs.{bundle}
 use Rattle.dn_instance.specs.Instances.{Graph, Instance, MaxFlow}
 use Rattle.dn_instance.specs.Validity.{Fits, IsNode, IsId, IsPlaced, IsValidGraph, IsSupply, IsPoint, AreSupplies, AreTerminals, ArePoints, IsValid}
-use Rattle.dn_instance.specs.Items.{Problem, problem_in, problem_of, kind_known, arcs_of, arc_in, by_key, supply_in, supplies_of, terminal_in, terminal_of, source_in, query_in, point_in, graph_of, max_flow, instance_as}
-use Rattle.dn_instance.specs.TextFaults.{is_in_range, ids_in, is_companion, is_id, other_letter, passes}
+use Rattle.dn_instance.specs.Items.{Problem, problem_in, problem_of, kind_known, arcs_of, length_arc_in, cap_arc_in, cost_arc_in, by_key, supply_in, supplies_of, terminal_in, terminal_of, source_in, query_in, point_in, graph_of, max_flow, instance_as}
+use Rattle.dn_instance.specs.TextFaults.{is_in_range, ids_in, is_companion, is_id, other_letter}
 use Rattle.dn_instance.specs.Texts.{items_of, IsClean, Reads}
 use Rattle.pair_index.proofs.PairLaws.{pair_is}
+use Rattle.dn_instance.proofs.SumLaws.{passes, total_passes, cost_passes}
 use Rattle.dn_instance.proofs.CleanItems.{IsNext, by_items, problem_push, or_none, or_assoc}
 use Rattle.dn_instance.proofs.MapLaws.{each_put, map_put, by_key_push, no_keys}
 
@@ -43,7 +44,7 @@ taken false y v n e f h = cc
 read_fits : (b : List ℕ) (n : ℤ) → number_read b ≡ Ok n → Fits n
 read_fits b n h = let r = taken (is_number b) (fits (number_value b)) (number_value b) n _ _ h in subst Fits r.1 r.0
 
-slots_fit : (slots : List Slot) (ws : List (List ℕ)) → AllFit slots (map said ws) → AllByRecursion SlotFits slots
+slots_fit : (slots : List Slot) (ws : List (List ℕ)) → FitSlots slots (map said ws) → AllByRecursion SlotFits slots
 slots_fit [] [] f = tt
 slots_fit [] (w ∷ ws) f = absurd f
 slots_fit (s ∷ slots) [] f = absurd f
@@ -107,7 +108,7 @@ module _ {Arc : Type 0} where
 
 module _ {Arc : Type 0} (kind : ArcKind Arc) where
   -- one arc more, where its capacity may be added
-  graph_push : (nodes : ℤ) (arcs : List ((ℤ × ℤ) × Arc)) (a : (ℤ × ℤ) × Arc) → IsValidGraph kind (record { nodes = nodes; arcs = arcs }) → IsPlaced kind nodes a → passes kind arcs (Some a) ≡ false
+  graph_push : (nodes : ℤ) (arcs : List ((ℤ × ℤ) × Arc)) (a : (ℤ × ℤ) × Arc) → IsValidGraph kind (record { nodes = nodes; arcs = arcs }) → IsPlaced kind nodes a → passes kind arcs a ≡ false
       → IsValidGraph kind (record { nodes = nodes; arcs = arcs ++ a ∷ [] })
   graph_push nodes arcs a v placed sum = record {
     some_nodes = v.some_nodes;
@@ -126,18 +127,19 @@ module _ {Arc : Type 0} (kind : ArcKind Arc) where
           bundle_push p arcs a ∙ ap (λ t. bundle p arcs ++ cond t (a.1 ∷ []) []) e ∙ append-nil (bundle p arcs) in
           subst (λ l. kind.capacity l ≤ℤ pos (2 ^ 63 - 1)) (sym here) (v.capacities p)
 
-  -- the arcs with those of one item more
-  pub arcs_push : (before : List Line) (i : Line) → arcs_of kind (before ++ i ∷ []) ≡ arcs_of kind before ++ arcs_of kind (i ∷ [])
-  arcs_push before i = filter_map-append (arc_in kind) before (i ∷ [])
+-- the arcs with those of one item more
+pub arcs_push : {Arc : Type 0} (arc_in : Line → Option ((ℤ × ℤ) × Arc)) (before : List Line) (i : Line) → arcs_of arc_in (before ++ i ∷ []) ≡ arcs_of arc_in before ++ arcs_of arc_in (i ∷ [])
+arcs_push arc_in before i = filter_map-append arc_in before (i ∷ [])
 
-  graph_grown : (nodes : ℤ) (before : List Line) (i : Line) (a : (ℤ × ℤ) × Arc) → arcs_of kind (i ∷ []) ≡ a ∷ [] → IsValidGraph kind (graph_of kind nodes before) → IsPlaced kind nodes a → passes kind (arcs_of kind before) (Some a) ≡ false
-      → IsValidGraph kind (graph_of kind nodes (before ++ i ∷ []))
+module _ {Arc : Type 0} (kind : ArcKind Arc) (arc_in : Line → Option ((ℤ × ℤ) × Arc)) where
+  graph_grown : (nodes : ℤ) (before : List Line) (i : Line) (a : (ℤ × ℤ) × Arc) → arcs_of arc_in (i ∷ []) ≡ a ∷ [] → IsValidGraph kind (graph_of arc_in nodes before) → IsPlaced kind nodes a → passes kind (arcs_of arc_in before) a ≡ false
+      → IsValidGraph kind (graph_of arc_in nodes (before ++ i ∷ []))
   graph_grown nodes before i a e v placed sum =
-      subst (λ (l : List ((ℤ × ℤ) × Arc)). IsValidGraph kind (record { nodes = nodes; arcs = l })) (sym (arcs_push before i ∙ ap (λ l. arcs_of kind before ++ l) e)) (graph_push nodes (arcs_of kind before) a v placed sum)
+      subst (λ (l : List ((ℤ × ℤ) × Arc)). IsValidGraph kind (record { nodes = nodes; arcs = l })) (sym (arcs_push arc_in before i ∙ ap (λ l. arcs_of arc_in before ++ l) e)) (graph_push kind nodes (arcs_of arc_in before) a v placed sum)
 
-  graph_kept : (nodes : ℤ) (before : List Line) (i : Line) → arcs_of kind (i ∷ []) ≡ [] → IsValidGraph kind (graph_of kind nodes before) → IsValidGraph kind (graph_of kind nodes (before ++ i ∷ []))
+  graph_kept : (nodes : ℤ) (before : List Line) (i : Line) → arcs_of arc_in (i ∷ []) ≡ [] → IsValidGraph kind (graph_of arc_in nodes before) → IsValidGraph kind (graph_of arc_in nodes (before ++ i ∷ []))
   graph_kept nodes before i e v =
-      subst (λ (l : List ((ℤ × ℤ) × Arc)). IsValidGraph kind (record { nodes = nodes; arcs = l })) (sym (arcs_push before i ∙ ap (λ l. arcs_of kind before ++ l) e ∙ append-nil (arcs_of kind before))) v
+      subst (λ (l : List ((ℤ × ℤ) × Arc)). IsValidGraph kind (record { nodes = nodes; arcs = l })) (sym (arcs_push arc_in before i ∙ ap (λ l. arcs_of arc_in before ++ l) e ∙ append-nil (arcs_of arc_in before))) v
 
 -- the terminals that are named so far
 abbrev AreEnds : ℤ → Option ℤ → Option ℤ → Type 0
@@ -148,9 +150,9 @@ AreEnds nodes (Some a) (Some b) = AreTerminals nodes a b
 
 -- the items so far make a valid instance of this kind
 abbrev SoundAs : Kind → ℤ → List Line → Type 0
-SoundAs Kinds.Min nodes items = IsValidGraph costs (graph_of costs nodes items) × AreSupplies nodes (supplies_of items)
-SoundAs Kinds.Max nodes items = IsValidGraph capacities (graph_of capacities nodes items) × AreEnds nodes (terminal_of S items) (terminal_of T items)
-SoundAs Kinds.Sp nodes items = IsValidGraph lengths (graph_of lengths nodes items)
+SoundAs Kinds.Min nodes items = IsValidGraph costs (graph_of cost_arc_in nodes items) × AreSupplies nodes (supplies_of items)
+SoundAs Kinds.Max nodes items = IsValidGraph capacities (graph_of cap_arc_in nodes items) × AreEnds nodes (terminal_of S items) (terminal_of T items)
+SoundAs Kinds.Sp nodes items = IsValidGraph lengths (graph_of length_arc_in nodes items)
 SoundAs Kinds.Ss nodes items = AllByRecursion IsId (filter_map source_in items)
 SoundAs Kinds.P2p nodes items = AllByRecursion (λ (q : ℤ × ℤ). IsId q.0 × IsId q.1) (filter_map query_in items)
 SoundAs Kinds.Co nodes items = ArePoints (by_key (filter_map point_in items))
@@ -273,39 +275,39 @@ next_item : (p : Problem) (k : Kind) (before : List Line) (i : Line) → p.kind 
 next_item p Kinds.Min before (Item.Supply id flow) e b h n s =
     let range = and_both (is_in_range (Some p) id) true (ids_in_range before (Item.Supply id flow) p h n) in
     let fit = item_fits (kind_known before) n.line (Item.Supply id flow) n.spells in
-    (graph_kept costs p.nodes before (Item.Supply id flow) refl s.0, supplies_grown p.nodes before id flow (node_in_range p id (ap is_companion e) range.0) fit.1.1.0 s.1)
+    (graph_kept costs cost_arc_in p.nodes before (Item.Supply id flow) refl s.0, supplies_grown p.nodes before id flow (node_in_range p id (ap is_companion e) range.0) fit.1.1.0 s.1)
 next_item p Kinds.Min before (Item.MinArc src dst low cap cost) e b h n s =
     let i = Item.MinArc src dst low cap cost in
     let ends = ends_in_range p src dst (ap is_companion e) (ids_in_range before i p h n) in
     let fit = item_fits (kind_known before) n.line i n.spells in (
-      graph_grown costs p.nodes before i ((src, dst), record { low = low; cap = cap; cost = cost }) refl s.0
+      graph_grown costs cost_arc_in p.nodes before i ((src, dst), record { low = low; cap = cap; cost = cost }) refl s.0
           (record {
             tail = ends.tail;
             head = ends.head;
             is_arc = record { some = fit.1.1.1.0.1; room = not_below cap low n.low };
             numbers = (fit.1.1.1.0.0, (fit.1.1.1.1.0.0, (fit.1.1.1.1.1.0, tt)));
           })
-          n.sum,
+          (sym (cost_passes (arcs_of cost_arc_in before) ((src, dst), record { low = low; cap = cap; cost = cost })) ∙ n.sum),
       subst (AreSupplies p.nodes) (sym (ap by_key (kept supply_in before i refl))) s.1,
     )
 next_item p Kinds.Max before (Item.Terminal id letter) e b h n s =
     let i = Item.Terminal id letter in
     let range = and_both (is_in_range (Some p) id) true (ids_in_range before i p h n) in
-    (graph_kept capacities p.nodes before i refl s.0, ends_grown p.nodes before id letter (node_in_range p id (ap is_companion e) range.0) n.once n.apart s.1)
+    (graph_kept capacities cap_arc_in p.nodes before i refl s.0, ends_grown p.nodes before id letter (node_in_range p id (ap is_companion e) range.0) n.once n.apart s.1)
 next_item p Kinds.Max before (Item.MaxArc src dst cap) e b h n s =
     let i = Item.MaxArc src dst cap in
     let ends = ends_in_range p src dst (ap is_companion e) (ids_in_range before i p h n) in
     let fit = item_fits (kind_known before) n.line i n.spells in (
-      graph_grown capacities p.nodes before i ((src, dst), record { cap = cap }) refl s.0
+      graph_grown capacities cap_arc_in p.nodes before i ((src, dst), record { cap = cap }) refl s.0
           (record { tail = ends.tail; head = ends.head; is_arc = record { some = fit.1.1.1.0.1 }; numbers = (fit.1.1.1.0.0, tt) })
-          n.sum,
+          (sym (total_passes (arcs_of cap_arc_in before) ((src, dst), record { cap = cap })) ∙ n.sum),
       ends_kept p.nodes before i refl refl s.1,
     )
 next_item p Kinds.Sp before (Item.SpArc src dst length) e b h n s =
     let i = Item.SpArc src dst length in
     let ends = ends_in_range p src dst (ap is_companion e) (ids_in_range before i p h n) in
     let fit = item_fits (kind_known before) n.line i n.spells in
-    graph_grown lengths p.nodes before i ((src, dst), record { length = length }) refl s
+    graph_grown lengths length_arc_in p.nodes before i ((src, dst), record { length = length }) refl s
     (record { tail = ends.tail; head = ends.head; is_arc = tt; numbers = (fit.1.1.1.0, tt) })
     refl
 next_item p Kinds.Ss before (Item.Source id) e b h n s =
@@ -360,7 +362,7 @@ some_is I J e = cc
 
 kind_valid : (k : Kind) (nodes : ℤ) (items : List Line) (I : Instance) → SoundAs k nodes items → instance_as k nodes items ≡ Some I → IsValid I
 kind_valid Kinds.Min nodes items I s e = subst IsValid (some_is _ I e) s
-kind_valid Kinds.Max nodes items I s e = terminals_valid nodes (terminal_of S items) (terminal_of T items) (graph_of capacities nodes items) I e s.0 s.1 refl
+kind_valid Kinds.Max nodes items I s e = terminals_valid nodes (terminal_of S items) (terminal_of T items) (graph_of cap_arc_in nodes items) I e s.0 s.1 refl
 kind_valid Kinds.Sp nodes items I s e = subst IsValid (some_is _ I e) s
 kind_valid Kinds.Ss nodes items I s e = subst IsValid (some_is _ I e) s
 kind_valid Kinds.P2p nodes items I s e = subst IsValid (some_is _ I e) s

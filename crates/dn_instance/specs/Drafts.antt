@@ -1,5 +1,5 @@
 -- What an instance in the making has made of the items so far.
-use Rattle.std.specs.Prelude.{◌≡◌, ℤ, pos, ◌≤ℤ◌, ◌||◌, List, is_some, filter_map}
+use Rattle.std.specs.Prelude.{◌≡◌, ℤ, pos, ◌≤ℤ◌, ◌||◌, List, Option, is_some, filter_map}
 use Rattle.std.specs.BTreeMap as Map
 use Rattle.std.specs.BTreeSet as Set
 use Rattle.std.specs.List.{list_any}
@@ -9,17 +9,15 @@ use Rattle.dn_line.specs.declared.kind.Kind.TheVariants as Kinds
 use Rattle.dn_line.specs.declared.kind.Letter.TheVariants.{S, T}
 use Rattle.dn_line.specs.declared.line.Line.{Line}
 use Rattle.dn_line.specs.declared.line.Line.TheVariants as Item
-use Rattle.dn_bundle.specs.Kinds.{lengths, capacities, costs}
-use Rattle.dn_bundle.specs.LeastTold.{length_told}
-use Rattle.dn_bundle.specs.TotalTold.{cap_told}
-use Rattle.dn_bundle.specs.CurveTold.{told}
+use Rattle.dn_bundle.specs.Kinds.{ArcKind, lengths, capacities, costs}
+use Rattle.dn_bundle.specs.Tellings.{least_arcs, total_arcs, curve_arcs}
 use Rattle.dn_bundle.specs.declared.arc.Form.TheVariants.{One}
 use Rattle.dn_bundle.specs.declared.curve.Curve.{Curve}
 use Rattle.dn_bundle.specs.declared.least.Least.{Least}
 use Rattle.dn_bundle.specs.declared.total.Total.{Total}
-use Rattle.dn_instance.specs.Items.{supplies_of, terminal_of, source_in, query_in, point_in, by_key}
+use Rattle.dn_instance.specs.Items.{arcs_of, length_arc_in, cap_arc_in, cost_arc_in, supplies_of, terminal_of, source_in, query_in, point_in, by_key}
 use Rattle.dn_instance.specs.TextFaults.{has_supply}
-use Rattle.dn_instance.specs.Holdings.{TableHolds}
+use Rattle.dn_table.specs.Tables.{TableTells, AreArcs}
 use Rattle.dn_instance.specs.declared.draft.Draft.{Draft}
 use Rattle.dn_instance.specs.declared.draft.Draft.TheVariants as Drafts
 
@@ -37,14 +35,22 @@ HasSigns (Item.MinArc src dst low cap cost) = (pos 0 ≤ℤ low) × (pos 0 ≤�
 HasSigns (Item.MaxArc src dst cap) = pos 0 ≤ℤ cap
 HasSigns _ = Unit {0}
 
+-- the table tells what the arcs among the items mean
+pub record TableHolds {B Arc : Type 0} (kind : ArcKind Arc) (arc_in : Line → Option ((ℤ × ℤ) × Arc))
+    (tells : B → List Arc) (table : List ((ℤ × ℤ) × B)) (items : List Line) : Type 0 where
+  pub tells_them : TableTells kind tells table (arcs_of arc_in items)
+  pub are_arcs : AreArcs kind (arcs_of arc_in items)
+
 -- what these items have made
-abbrev pub Holds : Draft → List Line → Type 0
-Holds (Drafts.Min supplies idle table) items =
+abbrev pub DraftHolds : Draft → List Line → Type 0
+DraftHolds (Drafts.Min supplies idle table) items =
     (supplies.entries ≡ supplies_of items)
     × ((q : ℤ) → (is_some (Map.get int_cmp supplies q) || Set.contains int_cmp idle q) ≡ list_any (has_supply q) items)
-    × TableHolds costs (λ (b : Curve). told One b.units b.cost b.steps) table items
-Holds (Drafts.Max source sink table) items = (source ≡ terminal_of S items) × (sink ≡ terminal_of T items) × TableHolds capacities (λ (b : Total). cap_told b.total) table items
-Holds (Drafts.Sp table) items = TableHolds lengths (λ (b : Least). length_told b.length) table items
-Holds (Drafts.Ss ids) items = ids.items ≡ filter_map source_in items
-Holds (Drafts.P2p pairs) items = pairs.items ≡ filter_map query_in items
-Holds (Drafts.Co points) items = points.entries ≡ by_key (filter_map point_in items)
+    × TableHolds costs cost_arc_in (curve_arcs One) table items
+DraftHolds (Drafts.Max source sink table) items =
+    (source ≡ terminal_of S items) × (sink ≡ terminal_of T items)
+    × TableHolds capacities cap_arc_in total_arcs table items
+DraftHolds (Drafts.Sp table) items = TableHolds lengths length_arc_in least_arcs table items
+DraftHolds (Drafts.Ss ids) items = ids.items ≡ filter_map source_in items
+DraftHolds (Drafts.P2p pairs) items = pairs.items ≡ filter_map query_in items
+DraftHolds (Drafts.Co points) items = points.entries ≡ by_key (filter_map point_in items)

@@ -7,14 +7,15 @@ use Rattle.dn_line.specs.declared.line.Line.{Line}
 use Rattle.dn_instance.specs.Instances.{Instance}
 use Rattle.dn_instance.specs.Items.{Problem, problem_of, instance_as, counted}
 use Rattle.dn_instance.specs.TextFaults.{lacks_terminal, end_fault}
-use Rattle.dn_instance.specs.Helds.{Shows}
-use Rattle.dn_instance.specs.Views.{contents_of, holding}
+use Rattle.dn_instance.specs.Helds.{Shows, contents_of, holding}
 use Rattle.dn_instance.specs.declared.content.Content.{Content}
 use Rattle.dn_instance.specs.declared.held.Held.{Held}
 
 -- the instance of this kind, or the terminal that it lacks
 abbrev pub Makes : Kind → ℤ → List Line → Result Content Code → Type 0
-Makes kind nodes items (Ok content) = (lacks_terminal (Some kind) items ≡ false) × ((I : Instance) × (instance_as kind nodes items ≡ Some I) × Shows (contents_of content) I)
+Makes kind nodes items (Ok content) =
+    (lacks_terminal (Some kind) items ≡ false)
+    × ((I : Instance) × (instance_as kind nodes items ≡ Some I) × Shows (contents_of content) I)
 Makes kind nodes items (Err code) = (code ≡ MissingTerminal) × (lacks_terminal (Some kind) items ≡ true)
 
 -- what is held stands for the instance that the items make of a problem, with its nodes and the lines counted

@@ -5,7 +5,7 @@ use Rattle.dn_line.specs.declared.kind.Kind.TheVariants as Kinds
 use Rattle.dn_line.specs.declared.line.Line.{Line}
 use Rattle.dn_bundle.specs.Kinds.{costs, capacities, lengths}
 use Rattle.dn_table.specs.GraphEntries.{graph_entries}
-use Rattle.dn_instance.specs.Items.{Problem, problem_of, arcs_of, source_in, query_in, point_in, by_key}
+use Rattle.dn_instance.specs.Items.{Problem, problem_of, arcs_of, length_arc_in, cap_arc_in, cost_arc_in, source_in, query_in, point_in, by_key}
 use Rattle.dn_instance.specs.Instances.{Instance, MinCostFlow, MaxFlow, ShortestPaths, Sources, Queries, Coordinates}
 
 -- for a companion, the number of its items
@@ -19,9 +19,9 @@ entries_of (Coordinates points) = length points
 
 -- the entries of what these items make of a problem of this kind
 abbrev pub entries_as : Kind → List Line → ℕ
-entries_as Kinds.Min items = graph_entries costs (arcs_of costs items)
-entries_as Kinds.Max items = graph_entries capacities (arcs_of capacities items)
-entries_as Kinds.Sp items = graph_entries lengths (arcs_of lengths items)
+entries_as Kinds.Min items = graph_entries costs (arcs_of cost_arc_in items)
+entries_as Kinds.Max items = graph_entries capacities (arcs_of cap_arc_in items)
+entries_as Kinds.Sp items = graph_entries lengths (arcs_of length_arc_in items)
 entries_as Kinds.Ss items = length (filter_map source_in items)
 entries_as Kinds.P2p items = length (filter_map query_in items)
 entries_as Kinds.Co items = length (by_key (filter_map point_in items))

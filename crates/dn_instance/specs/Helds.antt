@@ -1,17 +1,20 @@
--- What is held of a text that was read, and which instance it stands for.
+-- What is held of a text that was read, which instance it stands for, and what a view shows of it.
 use Rattle.std.specs.Prelude.{◌≡◌, ℕ, ℤ, pos, List, length}
 use Rattle.dn_line.specs.declared.kind.Kind.{Kind}
 use Rattle.dn_line.specs.declared.kind.Kind.TheVariants as Kinds
 use Rattle.dn_bundle.specs.Kinds.{lengths, capacities, costs}
-use Rattle.dn_bundle.specs.LeastTold.{length_told}
-use Rattle.dn_bundle.specs.TotalTold.{cap_told}
-use Rattle.dn_bundle.specs.CurveTold.{told}
+use Rattle.dn_bundle.specs.Tellings.{least_arcs, total_arcs, curve_arcs}
 use Rattle.dn_bundle.specs.declared.arc.Form.TheVariants.{One}
 use Rattle.dn_bundle.specs.declared.curve.Curve.{Curve}
 use Rattle.dn_bundle.specs.declared.least.Least.{Least}
 use Rattle.dn_bundle.specs.declared.total.Total.{Total}
 use Rattle.dn_instance.specs.Instances.{Instance, MinCostFlow, MaxFlow, ShortestPaths, Sources, Queries, Coordinates, nodes_of, size_of}
-use Rattle.dn_table.specs.Tables.{Tells}
+use Rattle.dn_table.specs.Tables.{TableStandsFor}
+use Rattle.dn_instance.specs.declared.content.Content.{Content}
+use Rattle.dn_instance.specs.declared.content.Content.TheVariants as Kept
+use Rattle.dn_instance.specs.declared.held.Held.{Held}
+use Rattle.dn_instance.specs.declared.view.View.{View}
+use Rattle.dn_instance.specs.declared.view.View.TheVariants as Views
 
 -- bundles by ordered pair
 abbrev pub Bundles : Type 0 → Type 0
@@ -49,11 +52,13 @@ pair_count (OfSs ids) = 0
 pair_count (OfP2p pairs) = 0
 pair_count (OfCo points) = 0
 
--- the bundles tell what the arcs mean, and the rest is the instance's own
+-- the bundles are the table of the arcs, and the rest is the instance's own
 abbrev pub Shows : Contents → Instance → Type 0
-Shows (OfMin flows table) (MinCostFlow supplies graph) = (flows ≡ supplies) × Tells costs (λ (b : Curve). told One b.units b.cost b.steps) table graph.arcs
-Shows (OfMax source sink table) (MaxFlow s t graph) = (source ≡ s) × (sink ≡ t) × Tells capacities (λ (b : Total). cap_told b.total) table graph.arcs
-Shows (OfSp table) (ShortestPaths graph) = Tells lengths (λ (b : Least). length_told b.length) table graph.arcs
+Shows (OfMin flows table) (MinCostFlow supplies graph) =
+    (flows ≡ supplies) × TableStandsFor costs (curve_arcs One) table graph.arcs
+Shows (OfMax source sink table) (MaxFlow s t graph) =
+    (source ≡ s) × (sink ≡ t) × TableStandsFor capacities total_arcs table graph.arcs
+Shows (OfSp table) (ShortestPaths graph) = TableStandsFor lengths least_arcs table graph.arcs
 Shows (OfSs ids) (Sources items) = ids ≡ items
 Shows (OfP2p pairs) (Queries items) = pairs ≡ items
 Shows (OfCo points) (Coordinates items) = points ≡ items
@@ -64,3 +69,25 @@ pub record IsHeld (h : Holding) (I : Instance) : Type 0 where
   pub nodes_are : h.nodes ≡ nodes_of I
   pub lines_are : h.lines ≡ pos (size_of I)
   pub shows : Shows h.contents I
+
+-- what is kept
+abbrev pub contents_of : Content → Contents
+contents_of (Kept.Min supplies table) = OfMin supplies.entries table
+contents_of (Kept.Max source sink table) = OfMax source sink table
+contents_of (Kept.Sp table) = OfSp table
+contents_of (Kept.Ss ids) = OfSs ids.items
+contents_of (Kept.P2p pairs) = OfP2p pairs.items
+contents_of (Kept.Co points) = OfCo points.entries
+
+-- all that is held
+abbrev pub holding : Held → Holding
+holding h = record { nodes = h.nodes; lines = h.lines; contents = contents_of h.content }
+
+-- what a view shows
+abbrev pub shown : View → Contents
+shown (Views.Min supplies table) = OfMin supplies.now.entries table.now
+shown (Views.Max source sink table) = OfMax source sink table.now
+shown (Views.Sp table) = OfSp table.now
+shown (Views.Ss items) = OfSs items.now
+shown (Views.P2p items) = OfP2p items.now
+shown (Views.Co points) = OfCo points.now.entries

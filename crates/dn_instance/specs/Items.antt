@@ -9,8 +9,9 @@ use Rattle.dn_line.specs.declared.kind.Letter.{Letter}
 use Rattle.dn_line.specs.declared.kind.Letter.TheVariants.{S, T}
 use Rattle.dn_line.specs.declared.line.Line.{Line}
 use Rattle.dn_line.specs.declared.line.Line.TheVariants as Item
-use Rattle.dn_bundle.specs.Kinds.{ArcKind, costs, capacities, lengths}
+use Rattle.dn_bundle.specs.declared.arc.LengthArc.{LengthArc}
 use Rattle.dn_bundle.specs.declared.arc.CapArc.{CapArc}
+use Rattle.dn_bundle.specs.declared.arc.CostArc.{CostArc}
 use Rattle.dn_instance.specs.Instances.{Graph, Instance, MinCostFlow, MaxFlow, ShortestPaths, Sources, Queries, Coordinates}
 
 -- what a problem line declares: NODES is 0 for a companion; `count` is the number of counted lines
@@ -45,22 +46,24 @@ is_counted _ = false
 abbrev pub counted : List Line → ℕ
 counted items = length (filter is_counted items)
 
--- an arc's ordered pair, and the numbers after it
-abbrev pub arc_numbers : Line → Option ((ℤ × ℤ) × List ℤ)
-arc_numbers (Item.MinArc src dst low cap cost) = Some ((src, dst), low ∷ cap ∷ cost ∷ [])
-arc_numbers (Item.MaxArc src dst cap) = Some ((src, dst), cap ∷ [])
-arc_numbers (Item.SpArc src dst length) = Some ((src, dst), length ∷ [])
-arc_numbers _ = None
+-- the arc of an `sp` line, at its ordered pair (SRC, DST)
+abbrev pub length_arc_in : Line → Option ((ℤ × ℤ) × LengthArc)
+length_arc_in (Item.SpArc src dst length) = Some ((src, dst), record { length = length })
+length_arc_in _ = None
 
-abbrev pub placed_arc : {Arc : Type 0} → ArcKind Arc → (ℤ × ℤ) × List ℤ → Option ((ℤ × ℤ) × Arc)
-placed_arc kind a = option_map (λ arc. (a.0, arc)) (kind.arc_of a.1)
+-- of a `max` line
+abbrev pub cap_arc_in : Line → Option ((ℤ × ℤ) × CapArc)
+cap_arc_in (Item.MaxArc src dst cap) = Some ((src, dst), record { cap = cap })
+cap_arc_in _ = None
 
-abbrev pub arc_in : {Arc : Type 0} → ArcKind Arc → Line → Option ((ℤ × ℤ) × Arc)
-arc_in kind i = option_and_then (placed_arc kind) (arc_numbers i)
+-- of a `min` line
+abbrev pub cost_arc_in : Line → Option ((ℤ × ℤ) × CostArc)
+cost_arc_in (Item.MinArc src dst low cap cost) = Some ((src, dst), record { low = low; cap = cap; cost = cost })
+cost_arc_in _ = None
 
--- the arcs, in order
-abbrev pub arcs_of : {Arc : Type 0} → ArcKind Arc → List Line → List ((ℤ × ℤ) × Arc)
-arcs_of kind items = filter_map (arc_in kind) items
+-- the arcs of one of these kinds, in order
+abbrev pub arcs_of : {Arc : Type 0} → (Line → Option ((ℤ × ℤ) × Arc)) → List Line → List ((ℤ × ℤ) × Arc)
+arcs_of arc_in items = filter_map arc_in items
 
 -- entries by rising key
 abbrev pub by_key : {X : Type 0} → List (ℤ × X) → List (ℤ × X)
@@ -102,8 +105,8 @@ abbrev pub point_in : Line → Option (ℤ × (ℤ × ℤ))
 point_in (Item.Point id x y) = Some (id, (x, y))
 point_in _ = None
 
-abbrev pub graph_of : {Arc : Type 0} → ArcKind Arc → ℤ → List Line → Graph Arc
-graph_of kind nodes items = record { nodes = nodes; arcs = arcs_of kind items }
+abbrev pub graph_of : {Arc : Type 0} → (Line → Option ((ℤ × ℤ) × Arc)) → ℤ → List Line → Graph Arc
+graph_of arc_in nodes items = record { nodes = nodes; arcs = arcs_of arc_in items }
 
 -- a `max` problem has a source and a sink
 abbrev pub max_flow : Option ℤ → Option ℤ → Graph CapArc → Option Instance
@@ -112,9 +115,10 @@ max_flow _ _ graph = None
 
 -- the instance of a problem of this kind with these items
 abbrev pub instance_as : Kind → ℤ → List Line → Option Instance
-instance_as Kinds.Min nodes items = Some (MinCostFlow (supplies_of items) (graph_of costs nodes items))
-instance_as Kinds.Max nodes items = max_flow (terminal_of S items) (terminal_of T items) (graph_of capacities nodes items)
-instance_as Kinds.Sp nodes items = Some (ShortestPaths (graph_of lengths nodes items))
+instance_as Kinds.Min nodes items = Some (MinCostFlow (supplies_of items) (graph_of cost_arc_in nodes items))
+instance_as Kinds.Max nodes items =
+    max_flow (terminal_of S items) (terminal_of T items) (graph_of cap_arc_in nodes items)
+instance_as Kinds.Sp nodes items = Some (ShortestPaths (graph_of length_arc_in nodes items))
 instance_as Kinds.Ss nodes items = Some (Sources (filter_map source_in items))
 instance_as Kinds.P2p nodes items = Some (Queries (filter_map query_in items))
 instance_as Kinds.Co nodes items = Some (Coordinates (by_key (filter_map point_in items)))

@@ -6,14 +6,13 @@ pub mod Items
 pub mod TextFaults
 pub mod Texts
 pub mod ItemFaults
-pub mod Holdings
 pub mod Drafts
 pub mod Progresses
 pub mod TextsSoFar
 pub mod Helds
-pub mod Views
 pub mod Ends
 pub mod Refusals
 pub mod Readers
+pub mod ReaderStates
 pub mod SourceReads
 pub mod Companions

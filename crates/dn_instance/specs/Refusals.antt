@@ -1,9 +1,9 @@
 -- Numbers and names of refusals (this project's profile), and the refusal of a line.
 use Rattle.std.specs.Prelude.{ℕ, List, codes}
 use Rattle.dn_line.specs.Names.{code_name, code_number}
-use Rattle.dn_instance.specs.declared.item_fault.ItemFault.{ItemFault}
-use Rattle.dn_instance.specs.declared.item_fault.ItemFault.TheVariants as Faults
-use Rattle.dn_instance.specs.declared.place.Place.TheVariants as Places
+use Rattle.dn_instance.specs.declared.refusal.ItemFault.{ItemFault}
+use Rattle.dn_instance.specs.declared.refusal.ItemFault.TheVariants as Faults
+use Rattle.dn_instance.specs.declared.refusal.Place.TheVariants as Places
 use Rattle.dn_instance.specs.declared.refusal.Refusal.{Refusal}
 use Rattle.dn_instance.specs.declared.refusal.Refusal.TheVariants.{Text, Memory, Read, Endless, Write, CountTooLarge}
 

@@ -1,6 +1,6 @@
 -- The faults that a line has after the items of the lines before it, and those at the end. Their numbers and the
 -- order of checking are this project's profile; what is a fault is of the formats, as docs/FORMAT.md says of each.
-use Rattle.std.specs.Prelude.{ℕ, ◌-◌, ◌^◌, ℤ, pos, List, [], ◌∷◌, ◌++◌, Bool, true, false, ◌&&◌, ◌||◌, not, cond, nat_le, is_none, is_some, Option, Some, None, Result, Ok, Err, int_lt}
+use Rattle.std.specs.Prelude.{ℕ, ◌-◌, ◌^◌, ℤ, pos, ◌+ℤ◌, List, [], ◌∷◌, ◌++◌, Bool, true, false, ◌&&◌, ◌||◌, not, cond, nat_le, is_none, is_some, Option, Some, None, Result, Ok, Err, int_lt}
 use Rattle.std.specs.List.{list_any, list_all}
 use Rattle.std.specs.Ordering.{int_eq}
 use Rattle.dn_line.specs.declared.kind.Kind.{Kind}
@@ -17,15 +17,16 @@ use Rattle.dn_line.specs.declared.code.Code.TheVariants.{LateNode, TooManyLines,
 use Rattle.dn_line.specs.Words.{first, is_skip}
 use Rattle.dn_line.specs.Faults.{Test, first_fault, head_tests, field_tests, fields}
 use Rattle.dn_line.specs.Reading.{words_read}
-use Rattle.dn_bundle.specs.Kinds.{ArcKind, costs, capacities}
+use Rattle.dn_bundle.specs.Capacities.{total_cap}
+use Rattle.dn_bundle.specs.Splits.{cost_cap}
 use Rattle.dn_table.specs.Pairs.{bundle}
-use Rattle.dn_instance.specs.Items.{Problem, problem_of, kind_known, counted, arcs_of, arc_in, terminal_of}
+use Rattle.dn_instance.specs.Items.{Problem, problem_of, kind_known, counted, arcs_of, cap_arc_in, cost_arc_in, terminal_of}
 
 -- the item that a line spells, if it spells one
-abbrev pub item_read : Result Line Code → Option Line
-item_read (Ok Item.Skip) = None
-item_read (Ok i) = Some i
-item_read (Err code) = None
+abbrev pub item_spelled : Result Line Code → Option Line
+item_spelled (Ok Item.Skip) = None
+item_spelled (Ok i) = Some i
+item_spelled (Err code) = None
 
 -- the line's number is 2^63 - 1 at least
 abbrev pub is_too_long : ℕ → Bool
@@ -122,15 +123,12 @@ abbrev pub is_low_above_cap : Line → Bool
 is_low_above_cap (Item.MinArc src dst low cap cost) = int_lt cap low
 is_low_above_cap _ = false
 
--- the CAPs of these arcs and this one at its ordered pair sum past 2^63 - 1
-abbrev pub passes : {Arc : Type 0} → ArcKind Arc → List ((ℤ × ℤ) × Arc) → Option ((ℤ × ℤ) × Arc) → Bool
-passes kind before None = false
-passes kind before (Some a) = int_lt (pos (2 ^ 63 - 1)) (kind.capacity (bundle a.0 before ++ a.1 ∷ []))
-
 -- the CAPs of this pair's earlier arcs and this one sum past 2^63 - 1
 abbrev pub is_sum_too_large : List Line → Line → Bool
-is_sum_too_large before (Item.MinArc src dst low cap cost) = passes costs (arcs_of costs before) (arc_in costs (Item.MinArc src dst low cap cost))
-is_sum_too_large before (Item.MaxArc src dst cap) = passes capacities (arcs_of capacities before) (arc_in capacities (Item.MaxArc src dst cap))
+is_sum_too_large before (Item.MinArc src dst low cap cost) =
+    int_lt (pos (2 ^ 63 - 1)) (cost_cap (bundle (src, dst) (arcs_of cost_arc_in before)) +ℤ cap)
+is_sum_too_large before (Item.MaxArc src dst cap) =
+    int_lt (pos (2 ^ 63 - 1)) (total_cap (bundle (src, dst) (arcs_of cap_arc_in before)) +ℤ cap)
 is_sum_too_large before _ = false
 
 -- a fault of the item, where the line spells one
@@ -156,7 +154,9 @@ order_tests before ws = (LateNode, is_late_node before ws) ∷ (TooManyLines, is
 abbrev pub line_tests : List Line → List Word → List Test
 line_tests before ws =
     let known = kind_known before in
-    head_tests known ws ++ (order_tests before ws ++ (field_tests (fields known ws) ++ item_tests before (item_read (words_read known ws))))
+    head_tests known ws
+    ++ (order_tests before ws
+    ++ (field_tests (fields known ws) ++ item_tests before (item_spelled (words_read known ws))))
 
 -- the first fault of the line of this number after these items; a skipped line can only be too long
 abbrev pub line_fault : ℕ → List Line → List Word → Option Code

@@ -1,37 +1,25 @@
 -- What a whole text reads as: its instance, or its first fault.
-use Rattle.std.specs.Prelude.{◌≡◌, ℕ, ◌+◌, ◌≤◌, List, [], ◌∷◌, ◌++◌, length, cond, filter_map, Option, Some, None}
-use Rattle.std.specs.Option.{option_or}
-use Rattle.dn_line.specs.declared.kind.Kind.{Kind}
+use Rattle.std.specs.Prelude.{◌≡◌, ℕ, ◌+◌, ◌≤◌, List, [], ◌∷◌, ◌++◌, length, fold, Some, None}
+use Rattle.std.specs.Option.{option_to_list}
 use Rattle.dn_line.specs.declared.line.Line.{Line}
 use Rattle.dn_line.specs.declared.word.Word.{Word}
 use Rattle.dn_line.specs.declared.code.Code.{Code}
 use Rattle.dn_line.specs.Pieces.{lines}
-use Rattle.dn_line.specs.Words.{said_words, first}
-use Rattle.dn_line.specs.Table.{kind_named}
-use Rattle.dn_line.specs.Faults.{is_p}
+use Rattle.dn_line.specs.Words.{said_words}
 use Rattle.dn_line.specs.Reading.{words_read}
-use Rattle.dn_instance.specs.declared.place.Place.{Place}
-use Rattle.dn_instance.specs.declared.place.Place.TheVariants as Places
+use Rattle.dn_instance.specs.declared.refusal.Place.{Place}
+use Rattle.dn_instance.specs.declared.refusal.Place.TheVariants as Places
 use Rattle.dn_instance.specs.Instances.{Instance}
-use Rattle.dn_instance.specs.Items.{instance_of}
-use Rattle.dn_instance.specs.TextFaults.{item_read, line_fault, end_fault}
+use Rattle.dn_instance.specs.Items.{instance_of, kind_known}
+use Rattle.dn_instance.specs.TextFaults.{item_spelled, line_fault, end_fault}
 
--- the kind that a line names, if it is a problem line
-abbrev pub kind_in : List Word → Option Kind
-kind_in ws = cond (is_p (first ws)) (kind_named ws) None
+-- these items, and the one that the next line spells under the kind that they declare, if it spells one
+abbrev pub with_next : List Line → List Word → List Line
+with_next before ws = before ++ option_to_list (item_spelled (words_read (kind_known before) ws))
 
--- the kind that the first problem line names
-abbrev pub text_kind : List (List ℕ) → Option Kind
-text_kind [] = None
-text_kind (l ∷ ls) = option_or (kind_in (said_words l)) (text_kind ls)
-
--- the item that a line spells in a text of this kind; before its problem line no kind is known
-abbrev pub item_under : Option Kind → List Word → Option Line
-item_under kind ws = item_read (words_read (cond (is_p (first ws)) None kind) ws)
-
--- the items that the lines spell, in order
+-- the items that the lines spell, in order, each after those before it
 abbrev pub items_of : List (List ℕ) → List Line
-items_of ls = filter_map (λ l. item_under (text_kind ls) (said_words l)) ls
+items_of ls = fold (λ before l. with_next before (said_words l)) [] ls
 
 -- the line of this number, counted from 1, has this fault after the lines before it
 pub record FaultAt (ls : List (List ℕ)) (number : ℕ) (code : Code) : Type 0 where

@@ -1,7 +1,6 @@
 -- What the complete lines so far make, and what the next one reads as after them.
 use Rattle.std.specs.Prelude.{◌≡◌, ℕ, ◌-◌, ◌^◌, ◌<◌, List, [], ◌∷◌, ◌++◌, length, cond, true, false, Option, Some, None, Result, Ok, IsSome}
 use Rattle.std.specs.List.{list_all}
-use Rattle.std.specs.Option.{option_to_list}
 use Rattle.dn_line.specs.declared.line.Line.{Line}
 use Rattle.dn_line.specs.declared.line.Line.TheVariants.{Skip}
 use Rattle.dn_line.specs.declared.word.Word.{Word}
@@ -10,25 +9,26 @@ use Rattle.dn_line.specs.Words.{is_skip, said_words}
 use Rattle.dn_line.specs.LineStates.{is_inner}
 use Rattle.dn_line.specs.Faults.{first_fault, head_tests, field_tests, fields}
 use Rattle.dn_line.specs.Spelling.{slots_of, kind_before}
-use Rattle.dn_line.specs.Reading.{unless, spelled, words_read}
+use Rattle.dn_line.specs.Reading.{unless, spelled}
 use Rattle.dn_instance.specs.Items.{kind_known}
-use Rattle.dn_instance.specs.TextFaults.{order_tests, line_tests, item_read}
+use Rattle.dn_instance.specs.TextFaults.{order_tests, line_tests}
 use Rattle.dn_instance.specs.Texts.{items_of, IsClean}
 use Rattle.dn_instance.specs.Drafts.{HasSigns}
-use Rattle.dn_instance.specs.Progresses.{IsAt, HasRoom}
+use Rattle.dn_instance.specs.Progresses.{ProgressAt, HasRoom}
 use Rattle.dn_instance.specs.declared.progress.Progress.{Progress}
 use Rattle.dn_instance.specs.declared.text_so_far.TextSoFar.{TextSoFar}
 
 -- these items have been read; before the problem line there are none
 abbrev pub IsProgress : Option Progress → List Line → Type 0
 IsProgress None items = items ≡ []
-IsProgress (Some p) items = IsAt p items
+IsProgress (Some p) items = ProgressAt p items
 
 -- what a line reads as after these items, by its faults up to those of its fields
 abbrev pub next_read : List Line → List Word → Result Line Code
 next_read before ws =
     let known = kind_known before in
-    cond (is_skip ws) (Ok Skip) (unless (first_fault (head_tests known ws ++ (order_tests before ws ++ field_tests (fields known ws)))) (spelled known ws))
+    let faults = head_tests known ws ++ (order_tests before ws ++ field_tests (fields known ws)) in
+    cond (is_skip ws) (Ok Skip) (unless (first_fault faults) (spelled known ws))
 
 -- a line after these items spells this item, and may stand there
 pub record MayFollow (before : List Line) (i : Line) : Type 0 where
@@ -41,12 +41,8 @@ pub record MayFollow (before : List Line) (i : Line) : Type 0 where
 abbrev pub fault_next : List Line → List Word → Option Code
 fault_next before ws = cond (is_skip ws) None (first_fault (line_tests before ws))
 
--- these items, and that of the next line
-abbrev pub with_next : List Line → List Word → List Line
-with_next before ws = before ++ option_to_list (item_read (words_read (kind_known before) ws))
-
 -- these lines have been read, and none has a fault
-pub record HasRead (t : TextSoFar) (ls : List (List ℕ)) : Type 0 where
+pub record TextAt (t : TextSoFar) (ls : List (List ℕ)) : Type 0 where
   pub clean : IsClean ls
   pub few : length ls < 2 ^ 63 - 1
   pub number_is : t.closed ≡ length ls
@@ -67,4 +63,4 @@ pub record ReadsFront (t : TextSoFar) (ls : List (List ℕ)) (bytes : List ℕ) 
   pub rest : List ℕ
   pub whole : line ++ 10 ∷ rest ≡ bytes
   pub inner : list_all is_inner line ≡ true
-  pub read : HasRead t (ls ++ line ∷ [])
+  pub read : TextAt t (ls ++ line ∷ [])

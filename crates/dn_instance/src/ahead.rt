@@ -6,6 +6,15 @@ use dn_line::{Kind, Line, arc_line};
 use dn_table::TableSoFar;
 use pair_index::AHEAD;
 
+// Has a table look up together where the pairs of these arcs stand, where that spares time. It decides only the speed.
+pub(crate) fn look_ahead<B: Bundle>(table: &mut TableSoFar<B>, kind: Kind, bytes: &[u8])
+    ensures { table.new ≡ table.old }
+{
+    if table.wants_guesses() {
+        table.guess(&pairs_ahead(kind, bytes));
+    }
+}
+
 // The ordered pair of an arc.
 fn pair_of(arc: &Line) -> (i64, i64) {
     match arc {
@@ -32,13 +41,4 @@ fn pairs_ahead(kind: Kind, bytes: &[u8]) -> [(i64, i64); AHEAD] {
         };
     }
     pairs
-}
-
-// Has a table look up together where the pairs of these arcs stand, where that spares time. It decides only the speed.
-pub(crate) fn look_ahead<B: Bundle>(table: &mut TableSoFar<B>, kind: Kind, bytes: &[u8])
-    ensures { table.new ≡ table.old }
-{
-    if table.wants_guesses() {
-        table.guess(&pairs_ahead(kind, bytes));
-    }
 }

@@ -3,7 +3,7 @@ ghost use Rattle.std.specs.Prelude.{◌≡◌, ◌∷◌, []};
 ghost use Rattle.std.specs.List.{flat_map};
 ghost use Rattle.std.specs.Map.{keys_of};
 ghost use Rattle.dn_instance.specs.Companions.{both_nodes, fault_name, fault_number, judged, within};
-ghost use Rattle.dn_instance.specs.Views.{holding};
+ghost use Rattle.dn_instance.specs.Helds.{holding};
 
 use crate::held::Held;
 use crate::view::View;
@@ -50,8 +50,8 @@ impl CompanionFault {
 ///
 /// # Errors
 ///
-/// `NotKinds` unless `graph` is `sp` and `companion` is `ss`, `p2p` or `co`; else `NotInGraph` with the first node above
-/// NODES.
+/// `NotKinds` unless `graph` is `sp` and `companion` is `ss`, `p2p` or `co`; else `NotInGraph` with the first node
+/// above NODES.
 pub fn check_companion(graph: &Held, companion: &Held) -> Result<(), CompanionFault>
     ensures { result ≡ judged (holding graph.now) (holding companion.now) }
 {

@@ -1,10 +1,9 @@
 // What is kept of a text, by kind.
 ghost use Rattle.std.specs.Prelude.{◌≡◌, ◌<◌, ◌^◌};
 ghost use Rattle.dn_instance.specs.EntryCount.{entries_of};
-ghost use Rattle.dn_instance.specs.Helds.{contents_kind, pair_count, Shows};
+ghost use Rattle.dn_instance.specs.Helds.{contents_kind, pair_count, Shows, contents_of, shown};
 ghost use Rattle.dn_instance.specs.Instances.{Instance};
 ghost use Rattle.dn_instance.specs.Validity.{IsValid};
-ghost use Rattle.dn_instance.specs.Views.{contents_of, shown};
 
 use crate::view::View;
 use dn_bundle::{Curve, Least, Total};
@@ -58,7 +57,8 @@ impl Content {
 
     // How many entries it comes to.
     pub(crate) fn entries(&self) -> u64
-        ensures { (I : Instance) → IsValid I → Shows (contents_of self.now) I → entries_of I < 2 ^ 64 → result ≡ entries_of I }
+        ensures { (I : Instance) → IsValid I → Shows (contents_of self.now) I → entries_of I < 2 ^ 64
+            → result ≡ entries_of I }
     {
         match self {
             Content::Min { table, .. } => table.entries(),

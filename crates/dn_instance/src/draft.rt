@@ -5,24 +5,24 @@ ghost use Rattle.dn_line.specs.Faults.{first_fault};
 ghost use Rattle.dn_line.specs.Spelling.{kind_before};
 ghost use Rattle.dn_instance.specs.Items.{Problem, problem_of};
 ghost use Rattle.dn_instance.specs.TextFaults.{item_tests};
-ghost use Rattle.dn_instance.specs.ItemFaults.{Answers};
-ghost use Rattle.dn_instance.specs.Drafts.{draft_kind, Holds, HasSigns};
+ghost use Rattle.dn_instance.specs.ItemFaults.{AnswersFault};
+ghost use Rattle.dn_instance.specs.Drafts.{draft_kind, DraftHolds, HasSigns};
 ghost use Rattle.dn_instance.specs.Ends.{Makes};
 ghost use Rattle.dn_instance.specs.EntryCount.{entries_as};
 
 use crate::ahead::look_ahead;
 use crate::arcs::{take_cap_arc, take_cost_arc, take_length_arc};
 use crate::content::Content;
-use crate::item_fault::ItemFault;
 use crate::items::{take_point, take_query, take_source, take_supply, take_terminal};
+use crate::refusal::ItemFault;
 use dn_bundle::{CapArc, CostArc, Curve, Least, LengthArc, Total};
 use dn_line::{Code, Kind, Letter, Line};
 use dn_table::TableSoFar;
 use std::alloc::Global;
 use std::collections::{BTreeMap, BTreeSet};
 
-// What the items so far make, by kind: flows, terminals, bundles by ordered pair, lists and points. Arcs are merged into
-// the bundle of their pair as they come.
+// What the items so far make, by kind: flows, terminals, bundles by ordered pair, lists and points. Arcs are merged
+// into the bundle of their pair as they come.
 #[derive(Drop)]
 pub(crate) enum Draft {
     Min {
@@ -46,7 +46,7 @@ impl Draft {
     // What no items make.
     pub(crate) fn new(alloc: Global, kind: &Kind) -> Draft
         ensures kind { draft_kind result ≡ kind.now }
-        ensures none { Holds result [] }
+        ensures none { DraftHolds result [] }
     {
         match kind {
             Kind::Min => Draft::Min {
@@ -94,10 +94,14 @@ impl Draft {
 
     // Takes the next item. One that this kind of text does not have is refused.
     pub(crate) fn take(&mut self, alloc: Global, nodes: &i64, line: Line) -> Result<(), ItemFault>
-        ensures answer { Some (draft_kind self.old) ≡ kind_before line → HasSigns line → (before : List Line) (p : Problem) → problem_of before ≡ Some p → p.kind ≡ draft_kind self.old → p.nodes ≡ nodes.now → Holds self.old before
-            → Answers result (first_fault (item_tests before (Some line))) }
-        ensures stands { HasSigns line → (before : List Line) → Holds self.old before → OnOk result (Holds self.new (before ++ line ∷ [])) }
-        ensures unchanged { (before : List Line) → Holds self.old before → OnErr result (Holds self.new before) }
+        ensures answer { Some (draft_kind self.old) ≡ kind_before line → HasSigns line
+            → (before : List Line) (p : Problem) → problem_of before ≡ Some p → p.kind ≡ draft_kind self.old
+            → p.nodes ≡ nodes.now → DraftHolds self.old before
+            → AnswersFault result (first_fault (item_tests before (Some line))) }
+        ensures stands { HasSigns line → (before : List Line) → DraftHolds self.old before
+            → OnOk result (DraftHolds self.new (before ++ line ∷ [])) }
+        ensures unchanged { (before : List Line) → DraftHolds self.old before
+            → OnErr result (DraftHolds self.new before) }
         ensures kept { draft_kind self.new ≡ draft_kind self.old }
     {
         match (self, line) {
@@ -137,7 +141,8 @@ impl Draft {
 
     // How many entries it keeps.
     pub(crate) fn entries(&self) -> u64
-        ensures { (items : List Line) → Holds self.now items → entries_as (draft_kind self.now) items < 2 ^ 64 → result ≡ entries_as (draft_kind self.now) items }
+        ensures { (items : List Line) → DraftHolds self.now items → entries_as (draft_kind self.now) items < 2 ^ 64
+            → result ≡ entries_as (draft_kind self.now) items }
     {
         match self {
             Draft::Min { table, .. } => table.entries(),
@@ -151,7 +156,7 @@ impl Draft {
 
     // What is kept of the items, where none lacks.
     pub(crate) fn end(self) -> Result<Content, Code>
-        ensures { (nodes : ℤ) (items : List Line) → Holds self items → Makes (draft_kind self) nodes items result }
+        ensures { (nodes : ℤ) (items : List Line) → DraftHolds self items → Makes (draft_kind self) nodes items result }
     {
         match self {
             Draft::Min {

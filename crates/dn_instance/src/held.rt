@@ -1,10 +1,9 @@
 // What is held of a text that was read.
 ghost use Rattle.std.specs.Prelude.{◌≡◌};
 ghost use Rattle.dn_instance.specs.EntryCount.{entries_of};
-ghost use Rattle.dn_instance.specs.Helds.{contents_kind, pair_count, IsHeld};
+ghost use Rattle.dn_instance.specs.Helds.{contents_kind, pair_count, IsHeld, contents_of, holding, shown};
 ghost use Rattle.dn_instance.specs.Instances.{Instance};
 ghost use Rattle.dn_instance.specs.Validity.{IsValid};
-ghost use Rattle.dn_instance.specs.Views.{contents_of, holding, shown};
 
 use crate::content::Content;
 use crate::view::View;
@@ -60,8 +59,8 @@ impl Held {
         self.content.pairs() as u64
     }
 
-    /// How many entries it comes to: `sp` and `max` the pairs that have a bundle; `min` the pairs with a LOW above 0, and
-    /// each COST of a pair that has an arc whose CAP is above its LOW; a companion its items.
+    /// How many entries it comes to: `sp` and `max` the pairs that have a bundle; `min` the pairs with a LOW above 0,
+    /// and each COST of a pair that has an arc whose CAP is above its LOW; a companion its items.
     pub fn entries(&self) -> u64
         ensures { (I : Instance) → IsValid I → IsHeld (holding self.now) I → result ≡ entries_of I }
     {

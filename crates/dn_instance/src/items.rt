@@ -3,10 +3,10 @@ ghost use Rattle.std.specs.Prelude.{◌≡◌, ◌||◌, ◌&&◌, ℤ, List, []
 ghost use Rattle.std.specs.BTreeMap as Map;
 ghost use Rattle.std.specs.BTreeSet as Set;
 ghost use Rattle.std.specs.Ordering.{int_cmp, int_eq};
-ghost use Rattle.dn_instance.specs.ItemFaults.{Answers, supply_fault, terminal_fault, id_fault, pair_fault, point_fault};
+ghost use Rattle.dn_instance.specs.ItemFaults.{AnswersFault, supply_fault, terminal_fault, id_fault, pair_fault, point_fault};
 
 use crate::arcs::in_graph;
-use crate::item_fault::ItemFault;
+use crate::refusal::ItemFault;
 use dn_line::Code;
 use std::collections::{BTreeMap, BTreeSet};
 
@@ -17,7 +17,7 @@ pub(crate) fn take_terminal(
     nodes: &i64,
     id: &i64,
 ) -> Result<(), ItemFault>
-    ensures answer { Answers result (terminal_fault nodes.now own.old other.now id.now) }
+    ensures answer { AnswersFault result (terminal_fault nodes.now own.old other.now id.now) }
     ensures ok { OnOk result (own.new ≡ Some id.now) }
     ensures err { OnErr result (own.new ≡ own.old) }
 {
@@ -38,7 +38,7 @@ pub(crate) fn take_terminal(
 
 // Takes the ID of an `ss` line. On a fault nothing has changed.
 pub(crate) fn take_source(ids: &mut Vec<i64>, id: &i64) -> Result<(), ItemFault>
-    ensures answer { Answers result (id_fault id.now) }
+    ensures answer { AnswersFault result (id_fault id.now) }
     ensures ok { OnOk result (ids.new.items ≡ ids.old.items ++ id.now ∷ []) }
     ensures err { OnErr result (ids.new.items ≡ ids.old.items) }
 {
@@ -53,7 +53,7 @@ pub(crate) fn take_source(ids: &mut Vec<i64>, id: &i64) -> Result<(), ItemFault>
 
 // Takes the IDs of a `p2p` line. On a fault nothing has changed.
 pub(crate) fn take_query(pairs: &mut Vec<(i64, i64)>, pair: (i64, i64)) -> Result<(), ItemFault>
-    ensures answer { Answers result (pair_fault pair) }
+    ensures answer { AnswersFault result (pair_fault pair) }
     ensures ok { OnOk result (pairs.new.items ≡ pairs.old.items ++ pair ∷ []) }
     ensures err { OnErr result (pairs.new.items ≡ pairs.old.items) }
 {
@@ -72,7 +72,7 @@ pub(crate) fn take_point(
     id: &i64,
     at: (i64, i64),
 ) -> Result<(), ItemFault>
-    ensures answer { Answers result (point_fault (is_some (Map.get int_cmp points.old id.now)) id.now) }
+    ensures answer { AnswersFault result (point_fault (is_some (Map.get int_cmp points.old id.now)) id.now) }
     ensures ok { OnOk result (points.new.entries ≡ Map.insert_entry int_cmp points.old.entries id.now at) }
     ensures err { OnErr result (points.new.entries ≡ points.old.entries) }
 {
@@ -85,6 +85,38 @@ pub(crate) fn take_point(
     match points.insert(*id, at) {
         Ok(_) => Ok(()),
         Err(_) => Err(ItemFault::Memory),
+    }
+}
+
+// Takes the flow of a `min` node line: beside the supplies, the nodes are kept whose lines give them the flow 0. On a
+// fault nothing has changed.
+pub(crate) fn take_supply(
+    supplies: &mut BTreeMap<i64, i64>,
+    idle: &mut BTreeSet<i64>,
+    nodes: &i64,
+    id: &i64,
+    flow: &i64,
+) -> Result<(), ItemFault>
+    ensures answer { let named = is_some (Map.get int_cmp supplies.old id.now)
+        || Set.contains int_cmp idle.old id.now in
+        AnswersFault result (supply_fault nodes.now named id.now) }
+    ensures supplies { OnOk result (supplies.new.entries
+        ≡ cond (int_eq flow.now (pos 0)) supplies.old.entries
+        (Map.insert_entry int_cmp supplies.old.entries id.now flow.now)) }
+    ensures idle { OnOk result ((q : ℤ) → Set.contains int_cmp idle.new q
+        ≡ (Set.contains int_cmp idle.old q || (int_eq flow.now (pos 0) && Map.is_at (int_cmp id.now) q))) }
+    ensures err { OnErr result ((supplies.new.entries ≡ supplies.old.entries) × (idle.new.keys ≡ idle.old.keys)) }
+{
+    if !in_graph(nodes, id) {
+        return Err(ItemFault::Text(Code::NodeOutOfRange));
+    }
+    if supplies.contains_key(id) || idle.contains(id) {
+        return Err(ItemFault::Text(Code::RepeatedNode));
+    }
+    if *flow == 0 {
+        put_idle(idle, id)
+    } else {
+        put_flow(supplies, id, flow)
     }
 }
 
@@ -102,39 +134,13 @@ fn put_flow(supplies: &mut BTreeMap<i64, i64>, id: &i64, flow: &i64) -> Result<(
 
 // Notes a node whose line gives it the flow 0.
 fn put_idle(idle: &mut BTreeSet<i64>, id: &i64) -> Result<(), ItemFault>
-    ensures ok { OnOk result ((q : ℤ) → Set.contains int_cmp idle.new q ≡ cond (Map.is_at (int_cmp id.now) q) true (Set.contains int_cmp idle.old q)) }
+    ensures ok { OnOk result ((q : ℤ) → Set.contains int_cmp idle.new q
+        ≡ cond (Map.is_at (int_cmp id.now) q) true (Set.contains int_cmp idle.old q)) }
     ensures err { OnErr result (idle.new.keys ≡ idle.old.keys) }
     ensures memory { OnErr result (result ≡ Err ItemFault.Memory) }
 {
     match idle.insert(*id) {
         Ok(_) => Ok(()),
         Err(_) => Err(ItemFault::Memory),
-    }
-}
-
-// Takes the flow of a `min` node line: beside the supplies, the nodes are kept whose lines give them the flow 0. On a
-// fault nothing has changed.
-pub(crate) fn take_supply(
-    supplies: &mut BTreeMap<i64, i64>,
-    idle: &mut BTreeSet<i64>,
-    nodes: &i64,
-    id: &i64,
-    flow: &i64,
-) -> Result<(), ItemFault>
-    ensures answer { Answers result (supply_fault nodes.now (is_some (Map.get int_cmp supplies.old id.now) || Set.contains int_cmp idle.old id.now) id.now) }
-    ensures supplies { OnOk result (supplies.new.entries ≡ cond (int_eq flow.now (pos 0)) supplies.old.entries (Map.insert_entry int_cmp supplies.old.entries id.now flow.now)) }
-    ensures idle { OnOk result ((q : ℤ) → Set.contains int_cmp idle.new q ≡ (Set.contains int_cmp idle.old q || (int_eq flow.now (pos 0) && Map.is_at (int_cmp id.now) q))) }
-    ensures err { OnErr result ((supplies.new.entries ≡ supplies.old.entries) × (idle.new.keys ≡ idle.old.keys)) }
-{
-    if !in_graph(nodes, id) {
-        return Err(ItemFault::Text(Code::NodeOutOfRange));
-    }
-    if supplies.contains_key(id) || idle.contains(id) {
-        return Err(ItemFault::Text(Code::RepeatedNode));
-    }
-    if *flow == 0 {
-        put_idle(idle, id)
-    } else {
-        put_flow(supplies, id, flow)
     }
 }

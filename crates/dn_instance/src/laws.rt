@@ -6,12 +6,10 @@ ghost use Rattle.dn_bundle.specs.declared.arc.LengthArc.{LengthArc};
 ghost use Rattle.dn_bundle.specs.declared.arc.CapArc.{CapArc};
 ghost use Rattle.dn_bundle.specs.declared.arc.CostArc.{CostArc};
 ghost use Rattle.dn_bundle.specs.Kinds.{lengths, capacities, costs};
-ghost use Rattle.dn_bundle.specs.Meanings.{SameLength, SameTotal, SameCurve};
-ghost use Rattle.dn_instance.specs.declared.place.Place.{Place};
+ghost use Rattle.dn_instance.specs.declared.refusal.Place.{Place};
+ghost use Rattle.dn_instance.specs.Helds.{Holding, IsHeld};
 ghost use Rattle.dn_instance.specs.Instances.{Graph, Instance};
 ghost use Rattle.dn_instance.specs.Sameness.{IsSame, SameGraph};
-ghost use Rattle.dn_table.specs.Pairs.{bundle};
-ghost use Rattle.dn_table.specs.Tables.{TableStandsFor};
 ghost use Rattle.dn_instance.specs.Texts.{Reads, IsFirstFault};
 ghost use Rattle.dn_instance.specs.Validity.{IsValid};
 
@@ -46,14 +44,15 @@ pub fn same_instance()
 
 /// A graph does not depend on the order of its arcs.
 pub fn any_order()
-    ensures lengths { (nodes : ℤ) (xs ys : List ((ℤ × ℤ) × LengthArc)) → IsPermutation xs ys → SameGraph lengths (record { nodes = nodes; arcs = xs }) (record { nodes = nodes; arcs = ys }) }
-    ensures capacities { (nodes : ℤ) (xs ys : List ((ℤ × ℤ) × CapArc)) → IsPermutation xs ys → SameGraph capacities (record { nodes = nodes; arcs = xs }) (record { nodes = nodes; arcs = ys }) }
-    ensures costs { (nodes : ℤ) (xs ys : List ((ℤ × ℤ) × CostArc)) → IsPermutation xs ys → SameGraph costs (record { nodes = nodes; arcs = xs }) (record { nodes = nodes; arcs = ys }) }
+    ensures lengths { (nodes : ℤ) (xs ys : List ((ℤ × ℤ) × LengthArc)) → IsPermutation xs ys
+        → SameGraph lengths (record { nodes = nodes; arcs = xs }) (record { nodes = nodes; arcs = ys }) }
+    ensures capacities { (nodes : ℤ) (xs ys : List ((ℤ × ℤ) × CapArc)) → IsPermutation xs ys
+        → SameGraph capacities (record { nodes = nodes; arcs = xs }) (record { nodes = nodes; arcs = ys }) }
+    ensures costs { (nodes : ℤ) (xs ys : List ((ℤ × ℤ) × CostArc)) → IsPermutation xs ys
+        → SameGraph costs (record { nodes = nodes; arcs = xs }) (record { nodes = nodes; arcs = ys }) }
 {}
 
-/// A table of bundles stands for arcs of one meaning: what it stands for means the same at each pair.
-pub fn one_table_meaning()
-    ensures lengths { (table : List ((ℤ × ℤ) × List LengthArc)) (xs ys : List ((ℤ × ℤ) × LengthArc)) (p : ℤ × ℤ) → TableStandsFor lengths (λ b. b) table xs → TableStandsFor lengths (λ b. b) table ys → SameLength (bundle p xs) (bundle p ys) }
-    ensures capacities { (table : List ((ℤ × ℤ) × List CapArc)) (xs ys : List ((ℤ × ℤ) × CapArc)) (p : ℤ × ℤ) → TableStandsFor capacities (λ b. b) table xs → TableStandsFor capacities (λ b. b) table ys → SameTotal (bundle p xs) (bundle p ys) }
-    ensures costs { (table : List ((ℤ × ℤ) × List CostArc)) (xs ys : List ((ℤ × ℤ) × CostArc)) (p : ℤ × ℤ) → TableStandsFor costs (λ b. b) table xs → TableStandsFor costs (λ b. b) table ys → SameCurve (bundle p xs) (bundle p ys) }
+/// What is held stands for one problem: all instances that it stands for are the same.
+pub fn one_held_meaning()
+    ensures { (h : Holding) (I J : Instance) → IsHeld h I → IsHeld h J → IsSame I J }
 {}

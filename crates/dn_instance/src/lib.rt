@@ -1,11 +1,11 @@
 //! Whole texts: the instance that a text reads as, or its first fault; what an instance means. A text comes whole, in
 //! pieces, or from a source; its first fault is told as soon as its line has come, and a refusal stays.
 //!
-//! In the order of the data: `read` takes a text from memory or pulls it from a source, `reader` takes it in pieces, and
-//! `text_so_far` takes each line, over `progress` (what depends on the number and order of lines) and `draft` (what the
-//! items make: `arcs` and `items`; `ahead` looks up where the next arcs go). An `item_fault` is why a line is refused,
-//! `refusal` why a text is, with its `place`. What is read is `held`, by kind in `content`, and shown by a `view`;
-//! `companion` judges a companion by its graph. `laws` and `examples` say what the definitions mean.
+//! In the order of the data: `read` takes a text from memory or pulls it from a source, `reader` takes it in pieces,
+//! and `text_so_far` takes each line, over `progress` (what depends on the number and order of lines) and `draft` (what
+//! the items make: `arcs` and `items`; `ahead` looks up where the next arcs go). `refusal` says why an item and a text
+//! are refused, and where. What is read is `held`, by kind in `content`, and shown by a `view`; `companion` judges a
+//! companion by its graph. `laws` and `examples` say what the definitions mean.
 #![tactic(auto)]
 
 mod ahead;
@@ -15,10 +15,8 @@ mod content;
 mod draft;
 pub mod examples;
 pub mod held;
-mod item_fault;
 mod items;
 pub mod laws;
-pub mod place;
 mod progress;
 pub mod read;
 pub mod reader;
@@ -29,8 +27,7 @@ pub mod view;
 pub use companion::{CompanionFault, check_companion};
 pub use dn_table::{Pairs, Table};
 pub use held::Held;
-pub use place::Place;
 pub use read::{read_from, read_keep, read_text};
 pub use reader::Reader;
-pub use refusal::Refusal;
+pub use refusal::{Place, Refusal};
 pub use view::View;

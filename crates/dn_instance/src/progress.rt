@@ -3,23 +3,23 @@ ghost use Rattle.std.specs.Prelude.{◌≡◌, ◌<◌, ◌^◌, List, ◌∷◌
 ghost use Rattle.dn_line.specs.declared.line.Line.{Line};
 ghost use Rattle.dn_line.specs.declared.word.Word.{Word};
 ghost use Rattle.dn_line.specs.Words.{first};
-ghost use Rattle.dn_line.specs.Table.{kind_named};
+ghost use Rattle.dn_line.specs.LineTable.{kind_named};
 ghost use Rattle.dn_line.specs.Faults.{first_fault, head_tests};
 ghost use Rattle.dn_line.specs.Reading.{head_of};
 ghost use Rattle.dn_line.specs.Spelling.{kind_before};
 ghost use Rattle.std.specs.Option.{option_map};
 ghost use Rattle.dn_instance.specs.TextFaults.{item_tests, order_tests};
-ghost use Rattle.dn_instance.specs.ItemFaults.{Answers};
+ghost use Rattle.dn_instance.specs.ItemFaults.{AnswersFault};
 ghost use Rattle.dn_instance.specs.Drafts.{draft_kind, HasSigns};
 ghost use Rattle.dn_instance.specs.Ends.{EndsWith};
 ghost use Rattle.dn_instance.specs.EntryCount.{entries_so_far};
 ghost use Rattle.dn_instance.specs.declared.progress.Progress.{Progress};
-ghost use Rattle.dn_instance.specs.Progresses.{IsAt, HasRoom};
+ghost use Rattle.dn_instance.specs.Progresses.{ProgressAt, HasRoom};
 ghost use Rattle.dn_instance.specs.Items.{Problem, problem_in, is_counted};
 
 use crate::draft::Draft;
 use crate::held::Held;
-use crate::item_fault::ItemFault;
+use crate::refusal::ItemFault;
 use dn_line::{Code, Head, Kind, Line};
 use std::alloc::Global;
 
@@ -36,7 +36,7 @@ pub(crate) struct Progress {
 impl Progress {
     // What has been read with the first item, if it is a problem line.
     pub(crate) fn begin(alloc: Global, problem: &Line) -> Option<Progress>
-        ensures some { (p : Progress) → result ≡ Some p → IsAt p (problem.now ∷ []) }
+        ensures some { (p : Progress) → result ≡ Some p → ProgressAt p (problem.now ∷ []) }
         ensures none { result ≡ None → problem_in problem.now ≡ None }
     {
         match problem {
@@ -48,7 +48,8 @@ impl Progress {
 
     // What has been read with a problem line that declares this.
     fn new(alloc: Global, kind: &Kind, nodes: &i64, count: &i64) -> Progress
-        ensures { (i : Line) → problem_in i ≡ Some (record { kind = kind.now; nodes = nodes.now; count = count.now }) → IsAt result (i ∷ []) }
+        ensures { (i : Line) → problem_in i ≡ Some (record { kind = kind.now; nodes = nodes.now; count = count.now })
+            → ProgressAt result (i ∷ []) }
     {
         Progress {
             nodes: *nodes,
@@ -67,7 +68,8 @@ impl Progress {
 
     // The first fault of a line by those before it, before its fields are judged.
     pub(crate) fn check_order(&self, head: Head) -> Option<Code>
-        ensures answer { (before : List Line) (ws : List Word) → IsAt self.now before → first_fault (head_tests (Some (draft_kind self.now.draft)) ws) ≡ None
+        ensures answer { (before : List Line) (ws : List Word) → ProgressAt self.now before
+            → first_fault (head_tests (Some (draft_kind self.now.draft)) ws) ≡ None
             → head ≡ head_of (first ws) (kind_named ws) → result ≡ first_fault (order_tests before ws) }
         ensures skip { head ≡ Head.Skip → result ≡ None }
     {
@@ -83,9 +85,13 @@ impl Progress {
     #[inline(always)]
     // Takes the next item.
     pub(crate) fn take(&mut self, alloc: Global, item: Line) -> Result<(), ItemFault>
-        ensures answer { Some (draft_kind self.old.draft) ≡ kind_before item → HasSigns item → (before : List Line) → IsAt self.old before → Answers result (first_fault (item_tests before (Some item))) }
-        ensures stands { Some (draft_kind self.old.draft) ≡ kind_before item → HasSigns item → (before : List Line) → IsAt self.old before → HasRoom before item → OnOk result (IsAt self.new (before ++ item ∷ [])) }
-        ensures unchanged { (before : List Line) → IsAt self.old before → OnErr result (IsAt self.new before) }
+        ensures answer { Some (draft_kind self.old.draft) ≡ kind_before item → HasSigns item → (before : List Line)
+            → ProgressAt self.old before → AnswersFault result (first_fault (item_tests before (Some item))) }
+        ensures stands { Some (draft_kind self.old.draft) ≡ kind_before item → HasSigns item → (before : List Line)
+            → ProgressAt self.old before → HasRoom before item
+            → OnOk result (ProgressAt self.new (before ++ item ∷ [])) }
+        ensures unchanged { (before : List Line) → ProgressAt self.old before
+            → OnErr result (ProgressAt self.new before) }
     {
         match self.draft.take(alloc, &self.nodes, item) {
             Ok(()) => {
@@ -107,14 +113,15 @@ impl Progress {
 
     // How many entries it keeps.
     pub(crate) fn entries(&self) -> u64
-        ensures { (items : List Line) → IsAt self.now items → entries_so_far items < 2 ^ 64 → result ≡ entries_so_far items }
+        ensures { (items : List Line) → ProgressAt self.now items → entries_so_far items < 2 ^ 64
+            → result ≡ entries_so_far items }
     {
         self.draft.entries()
     }
 
     // What is held at the end, or the fault there.
     pub(crate) fn end(self) -> Result<Held, Code>
-        ensures { (items : List Line) → IsAt self items → EndsWith items result }
+        ensures { (items : List Line) → ProgressAt self items → EndsWith items result }
     {
         match self.draft.end() {
             Ok(content) => {

@@ -1,5 +1,5 @@
 // A whole text, from memory or from a source.
-ghost use Rattle.std.specs.Prelude.{◌≡◌, ◌<◌, [], ◌++◌, ℕ, List, length, IsTrue, IfOk, IfErr, IfSome, OnOk, OnErr, IsErrOf};
+ghost use Rattle.std.specs.Prelude.{◌≡◌, ◌<◌, ◌≤◌, [], ◌++◌, ℕ, List, length, IsTrue, IfOk, IfErr, IfSome, OnOk, OnErr, IsErrOf};
 ghost use Rattle.std.specs.Io.KnownBytes.{Consumes, IsAtEnd, Keeps};
 ghost use Rattle.dn_instance.specs.Readers.{Outcome};
 ghost use Rattle.dn_instance.specs.SourceReads.{CopyOutcome, IsOfReading, SourceOutcome};
@@ -24,24 +24,8 @@ pub fn read_text(alloc: Global, text: &[u8]) -> Result<Held, Refusal>
     }
 }
 
-// The next bytes of a source, in this room; none only at the end. Answers `Read` where it failed.
-fn next_piece<'a, S: Source>(source: &mut S, room: &'a mut [u8]) -> Result<&'a [u8], Refusal>
-    requires { 0 < length room.old }
-    ensures bytes { IfOk result (λ piece. Consumes (S.gives source.old) (S.gives source.new) piece.now) }
-    ensures end { IfOk result (λ piece. piece.now ≡ [] → IsAtEnd (S.gives source.new)) }
-    ensures unread { OnErr result (Keeps (S.gives source.old) (S.gives source.new)) }
-    ensures refusal { IfErr result (λ refusal. refusal ≡ Refusal.Read) }
-    ensures err { OnErr result (IsTrue (S.has_failed source.new)) }
-    ensures stays { IsTrue (S.has_failed source.old) → IsTrue (S.has_failed source.new) }
-{
-    match source.pull(room) {
-        Ok(n) => Ok(&room[..n]),
-        Err(_) => Err(Refusal::Read),
-    }
-}
-
-/// What the text that a source gives reads as, or its first fault. Pulls no more after a fault. Answers `Read` where
-/// the source failed, and `Endless` where 2^40 pulls gave bytes and no end came.
+/// What the text that a source gives reads as, or its first fault. Pulls no more once the text is refused. Answers
+/// `Read` where the source failed, and `Endless` where 2^40 pulls gave bytes and no end came.
 pub fn read_from<S: Source>(alloc: Global, source: &mut S) -> Result<Held, Refusal>
     ensures outcome { IfSome (S.gives source.old) (λ t. SourceOutcome t (S.gives source.new) result) }
     ensures refusal { IfErr result IsOfReading }
@@ -69,7 +53,8 @@ pub fn read_keep<S: Source>(
     text: &mut Vec<u8>,
 ) -> Result<Held, Refusal>
     ensures front { (more : List ℕ) × (text.new.items ≡ text.old.items ++ more) }
-    ensures outcome { IfSome (S.gives source.old) (λ t. CopyOutcome t (S.gives source.new) text.old.items text.new.items result) }
+    ensures outcome { IfSome (S.gives source.old)
+        (λ t. CopyOutcome t (S.gives source.new) text.old.items text.new.items result) }
     ensures refusal { IfErr result IsOfReading }
     ensures read { IsErrOf result Refusal.Read → IsTrue (S.has_failed source.new) }
     ensures stays { IsTrue (S.has_failed source.old) → IsTrue (S.has_failed source.new) }
@@ -77,14 +62,31 @@ pub fn read_keep<S: Source>(
     let mut reader = Reader::new(alloc);
     let mut room = [0u8; 65536];
     for _ in 0..PULLS {
-        let piece = next_piece(source, &mut room)?;
-        if piece.is_empty() {
+        let bytes = next_piece(source, &mut room)?;
+        if bytes.is_empty() {
             return reader.finish();
         }
-        keep_piece(text, piece)?;
-        reader.feed(piece)?;
+        keep_piece(text, bytes)?;
+        reader.feed(bytes)?;
     }
     Err(Refusal::Endless)
+}
+
+// The next bytes of a source, in this room; none only at the end. Answers `Read` where it failed.
+fn next_piece<'a, S: Source>(source: &mut S, room: &'a mut [u8]) -> Result<&'a [u8], Refusal>
+    requires { 0 < length room.old }
+    ensures bytes { IfOk result (λ piece. Consumes (S.gives source.old) (S.gives source.new) piece.now) }
+    ensures end { IfOk result (λ piece. piece.now ≡ [] → IsAtEnd (S.gives source.new)) }
+    ensures bound { IfOk result (λ piece. length piece.now ≤ length room.old) }
+    ensures unread { OnErr result (Keeps (S.gives source.old) (S.gives source.new)) }
+    ensures refusal { IfErr result (λ refusal. refusal ≡ Refusal.Read) }
+    ensures err { OnErr result (IsTrue (S.has_failed source.new)) }
+    ensures stays { IsTrue (S.has_failed source.old) → IsTrue (S.has_failed source.new) }
+{
+    match source.pull(room) {
+        Ok(n) => Ok(&room[..n]),
+        Err(_) => Err(Refusal::Read),
+    }
 }
 
 // Adds a piece to a copy. On want of memory nothing has changed.

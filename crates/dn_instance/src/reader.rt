@@ -1,17 +1,16 @@
 // A text that is read in any pieces.
 ghost use Rattle.std.specs.Prelude.{◌≡◌, ◌≤◌, ℕ, List, [], ◌++◌, length, take, Some, None, Err, ◌<◌, IfOk, IfSome, MatchOption, MatchResult};
-ghost use Rattle.dn_line.specs.LineStates.{LineSoFar, Stands, used_of};
+ghost use Rattle.dn_line.specs.LineStates.{LineSoFar, LineReaderAt, used_of};
 ghost use Rattle.dn_line.specs.Pieces.{lines};
 ghost use Rattle.dn_instance.specs.EntryCount.{entries_so_far};
 ghost use Rattle.dn_instance.specs.Texts.{items_of};
-ghost use Rattle.dn_instance.specs.Readers.{EntriesBefore, StandsFor, IsReading, Takes, TakesAll, Advances, Fed, Outcome, WantsMemory, ended, refusal_of, answer_of};
+ghost use Rattle.dn_instance.specs.Readers.{EntriesBefore, Fed, Outcome, WantsMemory, ended, lines_taken, refusal_of, answer_of};
+ghost use Rattle.dn_instance.specs.ReaderStates.{ReaderAt, IsReading, Takes, TakesAll, Advances};
 ghost use Rattle.dn_instance.specs.Refusals.{refused_at};
-ghost use Rattle.dn_instance.specs.TextsSoFar.{HasRead};
+ghost use Rattle.dn_instance.specs.TextsSoFar.{TextAt};
 
 use crate::held::Held;
-use crate::item_fault::ItemFault;
-use crate::place::Place;
-use crate::refusal::Refusal;
+use crate::refusal::{ItemFault, Place, Refusal};
 use crate::text_so_far::TextSoFar;
 use dn_line::LineReader;
 use std::alloc::Global;
@@ -28,7 +27,7 @@ pub struct Reader {
 impl Reader {
     /// A reader that no byte came to. What it reads is kept in memory of `alloc`.
     pub fn new(alloc: Global) -> Reader
-        ensures stands { StandsFor result [] }
+        ensures stands { ReaderAt result [] }
         ensures fine { refusal_of result ≡ None }
     {
         Reader {
@@ -41,9 +40,11 @@ impl Reader {
 
     // Takes the line that it stands for.
     fn close(&mut self) -> Result<(), Refusal>
-        ensures taken { (ls : List (List ℕ)) (l : LineSoFar) → HasRead self.old.text ls → Stands self.old.line l → Takes self.new ls l.bytes result }
+        ensures taken { (ls : List (List ℕ)) (l : LineSoFar) → TextAt self.old.text ls → LineReaderAt self.old.line l
+            → Takes self.new ls l.bytes result }
         ensures line { self.new.line ≡ self.old.line }
-        ensures refusal { MatchResult result (λ x. refusal_of self.new ≡ refusal_of self.old) (λ e. refusal_of self.new ≡ Some e) }
+        ensures refusal { MatchResult result (λ x. refusal_of self.new ≡ refusal_of self.old)
+            (λ e. refusal_of self.new ≡ Some e) }
     {
         let number = self.text.next_number();
         match self.text.take_line(self.alloc, &self.line) {
@@ -59,7 +60,8 @@ impl Reader {
     // Takes an arc whose plain line stands at the front of a piece, where no line goes on.
     fn take_arc(&mut self, piece: &[u8]) -> Option<usize>
         ensures taken { (t : List ℕ) → IsReading self.old t
-            → MatchOption result (IsReading self.new t) (λ n. IsReading self.new (t ++ take (used_of piece.now) piece.now)) }
+            → MatchOption result (IsReading self.new t)
+            (λ n. IsReading self.new (t ++ take (used_of piece.now) piece.now)) }
         ensures used { IfSome result (λ n. n ≡ used_of piece.now) }
         ensures refusal { refusal_of self.new ≡ refusal_of self.old }
     {
@@ -75,8 +77,10 @@ impl Reader {
         requires { 0 < length piece.now }
         ensures used { IfOk result (λ n. n ≡ used_of piece.now) }
         ensures bound { IfOk result (λ n. n ≤ length piece.now) }
-        ensures advances { (t : List ℕ) → IsReading self.old t → Advances self.new t (t ++ take (used_of piece.now) piece.now) result }
-        ensures refusal { MatchResult result (λ n. refusal_of self.new ≡ refusal_of self.old) (λ e. refusal_of self.new ≡ Some e) }
+        ensures advances { (t : List ℕ) → IsReading self.old t
+            → Advances self.new t (t ++ take (used_of piece.now) piece.now) result }
+        ensures refusal { MatchResult result (λ n. refusal_of self.new ≡ refusal_of self.old)
+            (λ e. refusal_of self.new ≡ Some e) }
     {
         match self.line.step(piece) {
             Ok(step) if step.ended => match self.close() {
@@ -94,8 +98,10 @@ impl Reader {
         requires { 0 < length piece.now }
         ensures used { IfOk result (λ n. n ≡ used_of piece.now) }
         ensures bound { IfOk result (λ n. n ≤ length piece.now) }
-        ensures advances { (t : List ℕ) → IsReading self.old t → Advances self.new t (t ++ take (used_of piece.now) piece.now) result }
-        ensures refusal { MatchResult result (λ n. refusal_of self.new ≡ refusal_of self.old) (λ e. refusal_of self.new ≡ Some e) }
+        ensures advances { (t : List ℕ) → IsReading self.old t
+            → Advances self.new t (t ++ take (used_of piece.now) piece.now) result }
+        ensures refusal { MatchResult result (λ n. refusal_of self.new ≡ refusal_of self.old)
+            (λ e. refusal_of self.new ≡ Some e) }
     {
         match self.take_arc(piece) {
             Some(used) => Ok(used),
@@ -117,11 +123,12 @@ impl Reader {
     /// Takes the next piece of the text. Answers the first fault of the text as soon as the LF of its line has come,
     /// and not before; want of memory only at a line without fault; and a refusal that it has answered again.
     pub fn feed(&mut self, piece: &[u8]) -> Result<(), Refusal>
-        ensures stands { (t : List ℕ) → StandsFor self.old t → StandsFor self.new (t ++ piece.now) }
-        ensures told { (t : List ℕ) → StandsFor self.old t → Fed (t ++ piece.now) result }
-        ensures memory { (t : List ℕ) → StandsFor self.old t → refusal_of self.old ≡ None → result ≡ Err Refusal.Memory → WantsMemory (length (ended t)) (ended (t ++ piece.now)) }
+        ensures stands { (t : List ℕ) → ReaderAt self.old t → ReaderAt self.new (t ++ piece.now) }
+        ensures told { (t : List ℕ) → ReaderAt self.old t → Fed (t ++ piece.now) result }
+        ensures memory { (t : List ℕ) → ReaderAt self.old t → refusal_of self.old ≡ None → result ≡ Err Refusal.Memory
+            → WantsMemory (length (ended t)) (ended (t ++ piece.now)) × (length (ended t) ≤ lines_taken self.new) }
         ensures answer { result ≡ answer_of (refusal_of self.new) }
-        ensures again { (e : Refusal) → refusal_of self.old ≡ Some e → refusal_of self.new ≡ Some e }
+        ensures again { (e : Refusal) → refusal_of self.old ≡ Some e → self.new ≡ self.old }
     {
         if let Some(refusal) = self.refusal {
             return Err(refusal);
@@ -136,19 +143,22 @@ impl Reader {
         Ok(())
     }
 
-    /// How many entries the complete lines so far come to, counted as `Held::entries` does; 0 before the problem line; of a
-    /// refused reader, the lines before the refused one.
+    /// How many entries the complete lines so far come to, counted as `Held::entries` does; 0 before the problem line;
+    /// of a refused reader, the lines before the refused one.
     pub fn entries(&self) -> u64
-        ensures fine { (t : List ℕ) → StandsFor self.now t → refusal_of self.now ≡ None → result ≡ entries_so_far (items_of (ended t)) }
-        ensures refused { (t : List ℕ) (e : Refusal) → StandsFor self.now t → refusal_of self.now ≡ Some e → EntriesBefore (ended t) e result }
+        ensures fine { (t : List ℕ) → ReaderAt self.now t → refusal_of self.now ≡ None
+            → result ≡ entries_so_far (items_of (ended t)) }
+        ensures refused { (t : List ℕ) (e : Refusal) → ReaderAt self.now t → refusal_of self.now ≡ Some e
+            → EntriesBefore (lines_taken self.now) (ended t) e result }
     {
         self.text.entries()
     }
 
     /// What the whole text reads as. A last line without LF is taken before the end is judged.
     pub fn finish(mut self) -> Result<Held, Refusal>
-        ensures outcome { (t : List ℕ) → StandsFor self t → Outcome t result }
-        ensures memory { (t : List ℕ) → StandsFor self t → refusal_of self ≡ None → result ≡ Err Refusal.Memory → WantsMemory (length (ended t)) (lines t) }
+        ensures outcome { (t : List ℕ) → ReaderAt self t → Outcome t result }
+        ensures memory { (t : List ℕ) → ReaderAt self t → refusal_of self ≡ None → result ≡ Err Refusal.Memory
+            → WantsMemory (length (ended t)) (lines t) }
         ensures again { (e : Refusal) → refusal_of self ≡ Some e → result ≡ Err e }
     {
         if let Some(refusal) = self.refusal {

@@ -1,10 +1,25 @@
-// Why a text is not read, or not written.
+// Why an item is not taken, and why a text is not read, or not written.
 ghost use Rattle.std.specs.Prelude.{◌≡◌};
 ghost use Rattle.dn_instance.specs.Refusals.{refusal_name, refusal_number};
 
-use crate::place::Place;
 use dn_line::Code;
 use thiserror::Error;
+
+// Why an item is not taken: a fault of the text, or want of memory.
+#[derive(Clone, Copy)]
+pub(crate) enum ItemFault {
+    Text(Code),
+    Memory,
+}
+
+/// Where a text is refused.
+#[derive(Clone, Copy, Debug, PartialEq, Eq)]
+pub enum Place {
+    /// At this line, counted from 1, comments and blank lines too.
+    Line(u64),
+    /// At the end, where no line is faulty.
+    End,
+}
 
 /// Why a text was not read, or its canonical text not written. Numbers and names are this project's profile.
 #[derive(Clone, Copy, Debug, PartialEq, Eq, Error)]

@@ -5,26 +5,26 @@ ghost use Rattle.dn_line.specs.declared.word.Word.{Word};
 ghost use Rattle.dn_line.specs.Words.{is_skip, said_words};
 ghost use Rattle.dn_line.specs.Faults.{first_fault};
 ghost use Rattle.dn_line.specs.Reading.{head_read};
-ghost use Rattle.dn_line.specs.LineStates.{LineSoFar, Stands, used_of};
+ghost use Rattle.dn_line.specs.LineStates.{LineSoFar, LineReaderAt, used_of};
 ghost use Rattle.dn_instance.specs.Items.{kind_known};
 ghost use Rattle.dn_instance.specs.TextFaults.{order_tests, item_tests, line_fault};
 ghost use Rattle.dn_instance.specs.Ends.{EndsWith};
 ghost use Rattle.dn_instance.specs.EntryCount.{entries_so_far};
-ghost use Rattle.dn_instance.specs.ItemFaults.{Answers};
-ghost use Rattle.dn_instance.specs.Texts.{items_of};
-ghost use Rattle.dn_instance.specs.TextsSoFar.{IsProgress, MayFollow, next_read, fault_next, with_next, ComesNext, HasRead, ReadsFront};
+ghost use Rattle.dn_instance.specs.ItemFaults.{AnswersFault};
+ghost use Rattle.dn_instance.specs.Texts.{items_of, with_next};
+ghost use Rattle.dn_instance.specs.TextsSoFar.{IsProgress, MayFollow, next_read, fault_next, ComesNext, TextAt, ReadsFront};
 
 use crate::held::Held;
-use crate::item_fault::ItemFault;
 use crate::progress::Progress;
+use crate::refusal::ItemFault;
 use dn_line::{ArcLine, Code, Head, Kind, Line, LineReader, arc_line};
 use std::alloc::Global;
 
 // As many lines as a text may have.
 const LAST: u64 = (1 << 63) - 2;
 
-// The complete lines of a text so far, none of which has a fault: how many they are, and, from the problem line on, what
-// they make.
+// The complete lines of a text so far, none of which has a fault: how many they are, and, from the problem line on,
+// what they make.
 #[derive(Drop)]
 pub(crate) struct TextSoFar {
     closed: u64,
@@ -34,7 +34,7 @@ pub(crate) struct TextSoFar {
 impl TextSoFar {
     // No lines.
     pub(crate) fn new() -> TextSoFar
-        ensures { HasRead result [] }
+        ensures { TextAt result [] }
     {
         TextSoFar {
             closed: 0,
@@ -44,7 +44,7 @@ impl TextSoFar {
 
     // The number of the next line.
     pub(crate) fn next_number(&self) -> u64
-        ensures { (ls : List (List ℕ)) → HasRead self.now ls → result ≡ length ls + 1 }
+        ensures { (ls : List (List ℕ)) → TextAt self.now ls → result ≡ length ls + 1 }
     {
         self.closed.saturating_add(1)
     }
@@ -61,7 +61,9 @@ impl TextSoFar {
 
     // The first fault of a line by those before it, where its head has none.
     fn check_order(&self, head: Head) -> Option<Code>
-        ensures { (items : List Line) (ws : List Word) → IsProgress self.now.progress items → head_read (kind_known items) ws ≡ Ok head → result ≡ cond (is_skip ws) None (first_fault (order_tests items ws)) }
+        ensures { (items : List Line) (ws : List Word) → IsProgress self.now.progress items
+            → head_read (kind_known items) ws ≡ Ok head
+            → result ≡ cond (is_skip ws) None (first_fault (order_tests items ws)) }
     {
         match &self.progress {
             Some(progress) => progress.check_order(head),
@@ -71,7 +73,8 @@ impl TextSoFar {
 
     // What the next line reads as.
     fn read(&self, line: &LineReader) -> Result<Line, Code>
-        ensures { (items : List Line) (l : LineSoFar) → IsProgress self.now.progress items → Stands line.now l → result ≡ next_read items (said_words l.bytes) }
+        ensures { (items : List Line) (l : LineSoFar) → IsProgress self.now.progress items → LineReaderAt line.now l
+            → result ≡ next_read items (said_words l.bytes) }
     {
         let known = self.kind();
         match line.head(known) {
@@ -85,12 +88,15 @@ impl TextSoFar {
 
     // Takes the next line, its number aside.
     fn judge(&mut self, alloc: Global, line: &LineReader) -> Result<(), ItemFault>
-        ensures answer { (items : List Line) (l : LineSoFar) → IsProgress self.old.progress items → Stands line.now l
-            → Answers result (fault_next items (said_words l.bytes)) }
-        ensures stands { (items : List Line) (l : LineSoFar) → IsProgress self.old.progress items → Stands line.now l
+        ensures answer { (items : List Line) (l : LineSoFar) → IsProgress self.old.progress items
+            → LineReaderAt line.now l
+            → AnswersFault result (fault_next items (said_words l.bytes)) }
+        ensures stands { (items : List Line) (l : LineSoFar) → IsProgress self.old.progress items
+            → LineReaderAt line.now l
             → OnOk result (IsProgress self.new.progress (with_next items (said_words l.bytes))) }
         ensures kept { self.new.closed ≡ self.old.closed }
-        ensures unchanged { (items : List Line) → IsProgress self.old.progress items → OnErr result (IsProgress self.new.progress items) }
+        ensures unchanged { (items : List Line) → IsProgress self.old.progress items
+            → OnErr result (IsProgress self.new.progress items) }
     {
         match self.read(line) {
             Ok(item) => {
@@ -106,11 +112,11 @@ impl TextSoFar {
 
     // Takes the next line.
     pub(crate) fn take_line(&mut self, alloc: Global, line: &LineReader) -> Result<(), ItemFault>
-        ensures answer { (ls : List (List ℕ)) (l : LineSoFar) → HasRead self.old ls → Stands line.now l
-            → Answers result (line_fault (length ls + 1) (items_of ls) (said_words l.bytes)) }
-        ensures stands { (ls : List (List ℕ)) (l : LineSoFar) → HasRead self.old ls → Stands line.now l
-            → OnOk result (HasRead self.new (ls ++ l.bytes ∷ [])) }
-        ensures unchanged { (ls : List (List ℕ)) → HasRead self.old ls → OnErr result (HasRead self.new ls) }
+        ensures answer { (ls : List (List ℕ)) (l : LineSoFar) → TextAt self.old ls → LineReaderAt line.now l
+            → AnswersFault result (line_fault (length ls + 1) (items_of ls) (said_words l.bytes)) }
+        ensures stands { (ls : List (List ℕ)) (l : LineSoFar) → TextAt self.old ls → LineReaderAt line.now l
+            → OnOk result (TextAt self.new (ls ++ l.bytes ∷ [])) }
+        ensures unchanged { (ls : List (List ℕ)) → TextAt self.old ls → OnErr result (TextAt self.new ls) }
     {
         if LAST <= self.closed {
             return Err(ItemFault::Text(Code::TooLong));
@@ -135,7 +141,8 @@ impl TextSoFar {
 
     // The arc that comes next, where its plain line stands at the front of these bytes.
     fn next_arc(&self, bytes: &[u8]) -> Option<ArcLine>
-        ensures next { (items : List Line) → IsProgress self.now.progress items → IfSome result (λ a. ComesNext items bytes.now a.arc) }
+        ensures next { (items : List Line) → IsProgress self.now.progress items
+            → IfSome result (λ a. ComesNext items bytes.now a.arc) }
         ensures used { IfSome result (λ a. a.used ≡ used_of bytes.now) }
     {
         let kind = self.kind()?;
@@ -148,8 +155,8 @@ impl TextSoFar {
     // Takes the arc whose plain line stands at the front of these bytes, and answers how long the line is with its LF.
     // Where there is no such line, or it has a fault, or memory is wanted, nothing has changed.
     pub(crate) fn take_arc(&mut self, alloc: Global, bytes: &[u8]) -> Option<usize>
-        ensures taken { (ls : List (List ℕ)) → HasRead self.old ls
-            → MatchOption result (HasRead self.new ls) (λ n. ReadsFront self.new ls bytes.now) }
+        ensures taken { (ls : List (List ℕ)) → TextAt self.old ls
+            → MatchOption result (TextAt self.new ls) (λ n. ReadsFront self.new ls bytes.now) }
         ensures used { IfSome result (λ n. n ≡ used_of bytes.now) }
     {
         if LAST <= self.closed {
@@ -168,7 +175,7 @@ impl TextSoFar {
 
     // How many entries the lines so far come to.
     pub(crate) fn entries(&self) -> u64
-        ensures { (ls : List (List ℕ)) → HasRead self.now ls → result ≡ entries_so_far (items_of ls) }
+        ensures { (ls : List (List ℕ)) → TextAt self.now ls → result ≡ entries_so_far (items_of ls) }
     {
         match &self.progress {
             Some(progress) => progress.entries(),
@@ -178,7 +185,7 @@ impl TextSoFar {
 
     // What is held at the end, or the fault there.
     pub(crate) fn end(self) -> Result<Held, Code>
-        ensures { (ls : List (List ℕ)) → HasRead self ls → EndsWith (items_of ls) result }
+        ensures { (ls : List (List ℕ)) → TextAt self ls → EndsWith (items_of ls) result }
     {
         match self.progress {
             Some(progress) => progress.end(),
@@ -198,9 +205,12 @@ fn is_skip(item: &Line) -> bool
 #[inline(always)]
 // Takes the next item. The first is the problem line.
 fn put(progress: &mut Option<Progress>, alloc: Global, item: Line) -> Result<(), ItemFault>
-    ensures answer { (before : List Line) → IsProgress progress.old before → MayFollow before item → Answers result (first_fault (item_tests before (Some item))) }
-    ensures stands { (before : List Line) → IsProgress progress.old before → MayFollow before item → OnOk result (IsProgress progress.new (before ++ item ∷ [])) }
-    ensures unchanged { (before : List Line) → IsProgress progress.old before → OnErr result (IsProgress progress.new before) }
+    ensures answer { (before : List Line) → IsProgress progress.old before → MayFollow before item
+        → AnswersFault result (first_fault (item_tests before (Some item))) }
+    ensures stands { (before : List Line) → IsProgress progress.old before → MayFollow before item
+        → OnOk result (IsProgress progress.new (before ++ item ∷ [])) }
+    ensures unchanged { (before : List Line) → IsProgress progress.old before
+        → OnErr result (IsProgress progress.new before) }
 {
     match progress {
         Some(progress) => progress.take(alloc, item),

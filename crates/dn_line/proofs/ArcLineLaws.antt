@@ -4,8 +4,7 @@ use Rattle.std.specs.List.{list_all}
 use Rattle.dn_num.specs.Number.{number_read}
 use Rattle.dn_line.specs.Pieces.{parts, onto, has_bytes}
 use Rattle.dn_line.specs.Words.{is_blank, said, said_words, words}
-use Rattle.dn_line.specs.Reading.{head_read, fields_read}
-use Rattle.dn_line.specs.Checks.{item_read}
+use Rattle.dn_line.specs.Reading.{head_read, fields_read, checked_item}
 use Rattle.dn_line.specs.LineStates.{is_clear, used_of}
 use Rattle.dn_line.specs.ArcLines.{BeginsWithArc, IsNumberBefore, AreNumbers, IsArcOf, number_word, has_arcs}
 use Rattle.dn_line.specs.declared.kind.Kind.{Kind}
@@ -92,7 +91,7 @@ length_numbers bytes rest a b c n = record {
   whole = n.whole;
   inner = n.inner;
   has = refl;
-  reads = ap (item_read Sp A) n.says ∙ length_arc_read (number_word a) (number_word b) (number_word c) a b c refl refl refl;
+  reads = ap (checked_item Sp A) n.says ∙ length_arc_read (number_word a) (number_word b) (number_word c) a b c refl refl refl;
 }
 
 pub cap_numbers : (bytes rest : List ℕ) (a b c : ℤ) → AreNumbers bytes (a ∷ b ∷ c ∷ []) rest → pos 0 ≤ℤ c → IsArcOf Max bytes (MaxArc a b c) rest
@@ -101,7 +100,7 @@ cap_numbers bytes rest a b c n h = record {
   whole = n.whole;
   inner = n.inner;
   has = refl;
-  reads = ap (item_read Max A) n.says ∙ cap_arc_read (number_word a) (number_word b) (number_word c) a b c refl refl refl h;
+  reads = ap (checked_item Max A) n.says ∙ cap_arc_read (number_word a) (number_word b) (number_word c) a b c refl refl refl h;
 }
 
 pub cost_numbers : (bytes rest : List ℕ) (a b l c p : ℤ) → AreNumbers bytes (a ∷ b ∷ l ∷ c ∷ p ∷ []) rest → pos 0 ≤ℤ l → pos 0 ≤ℤ c → IsArcOf Min bytes (MinArc a b l c p) rest
@@ -110,7 +109,7 @@ cost_numbers bytes rest a b l c p n h k = record {
   whole = n.whole;
   inner = n.inner;
   has = refl;
-  reads = ap (item_read Min A) n.says ∙ cost_arc_read (number_word a) (number_word b) (number_word l) (number_word c) (number_word p) a b l c p refl refl refl refl refl h k;
+  reads = ap (checked_item Min A) n.says ∙ cost_arc_read (number_word a) (number_word b) (number_word l) (number_word c) (number_word p) a b l c p refl refl refl refl refl h k;
 }
 
 -- behind the letter

@@ -3,7 +3,7 @@ use Rattle.std.specs.Prelude.{◌≡◌, ℕ, ℤ, List, ◌∷◌, ◌++◌, ma
 use Rattle.std.specs.List.{list_all}
 use Rattle.dn_num.specs.Number.{number_read}
 use Rattle.dn_line.specs.Words.{said_words}
-use Rattle.dn_line.specs.Reading.{head_read, fields_read}
+use Rattle.dn_line.specs.Reading.{head_read, fields_read, checked_item}
 use Rattle.dn_line.specs.LineStates.{is_inner, used_of}
 use Rattle.dn_line.specs.declared.kind.Kind.{Kind}
 use Rattle.dn_line.specs.declared.kind.Kind.TheVariants.{Min, Max, Sp}
@@ -11,7 +11,6 @@ use Rattle.dn_line.specs.declared.line.Head.TheVariants as Heads
 use Rattle.dn_line.specs.declared.line.Line.{Line}
 use Rattle.dn_line.specs.declared.word.Keyword.TheVariants.{A}
 use Rattle.dn_line.specs.declared.word.Word.{Word}
-use Rattle.dn_line.specs.Checks.{item_read}
 
 -- the bytes begin with a line and the LF that ends it, and after a problem line of this kind the line reads as this
 -- arc
@@ -54,4 +53,4 @@ pub record IsArcOf (kind : Kind) (bytes : List ℕ) (arc : Line) (rest : List �
   pub whole : line ++ 10 ∷ rest ≡ bytes
   pub inner : list_all is_inner line ≡ true
   pub has : has_arcs kind ≡ true
-  pub reads : item_read kind A (said_words line) ≡ Ok arc
+  pub reads : checked_item kind A (said_words line) ≡ Ok arc

@@ -16,6 +16,22 @@ pub struct ArcLine {
     pub used: usize,
 }
 
+/// The arc whose line stands at the front of these bytes, in a text of this kind, where the line is plain: its letter
+/// and its numbers with one space between them, no number with `+` before it, and LF at its end. Of any other line it
+/// says nothing.
+pub fn arc_line(kind: Kind, bytes: &[u8]) -> Option<ArcLine>
+    ensures { IfSome result (λ a. BeginsWithArc kind bytes.now a.arc a.used) }
+{
+    if let [b'a', b' ', ..] = bytes {
+        let found = arc_before(kind, after(bytes, 1))?;
+        return Some(ArcLine {
+            arc: found.arc,
+            used: bytes.len().saturating_sub(found.rest.len()),
+        });
+    }
+    None
+}
+
 // A number, and what follows the byte after it.
 #[derive(Clone, Copy)]
 struct NumberBefore<'a> {
@@ -136,20 +152,4 @@ fn arc_before(kind: Kind, bytes: &[u8]) -> Option<ArcBefore<'_>>
         Kind::Sp => length_arc(bytes),
         Kind::Ss | Kind::P2p | Kind::Co => None,
     }
-}
-
-/// The arc whose line stands at the front of these bytes, in a text of this kind, where the line is plain: its letter
-/// and its numbers with one space between them, no number with `+` before it, and LF at its end. Of any other line it
-/// says nothing.
-pub fn arc_line(kind: Kind, bytes: &[u8]) -> Option<ArcLine>
-    ensures { IfSome result (λ a. BeginsWithArc kind bytes.now a.arc a.used) }
-{
-    if let [b'a', b' ', ..] = bytes {
-        let found = arc_before(kind, after(bytes, 1))?;
-        return Some(ArcLine {
-            arc: found.arc,
-            used: bytes.len().saturating_sub(found.rest.len()),
-        });
-    }
-    None
 }

@@ -1,6 +1,6 @@
 // Worked examples of lines of words, and of lines that tell of a refusal.
 ghost use Rattle.std.specs.Prelude.{◌≡◌, codes, [], ◌∷◌, Some, None};
-ghost use Rattle.dn_instance.specs.declared.place.Place.TheVariants as Places;
+ghost use Rattle.dn_instance.specs.declared.refusal.Place.TheVariants as Places;
 ghost use Rattle.dn_run.specs.Commands.{Canon, asked};
 ghost use Rattle.dn_run.specs.FaultLines.{fault_line};
 
@@ -27,7 +27,8 @@ pub fn no_commands()
 
 /// Lines that tell of a refusal.
 pub fn fault_lines()
-    ensures line { fault_line (codes "n.max") (Refusal.Text (Places.Line 5) Code.SumTooLarge) ≡ codes "n.max:5: 17 SumTooLarge\n" }
+    ensures line { fault_line (codes "n.max") (Refusal.Text (Places.Line 5) Code.SumTooLarge)
+        ≡ codes "n.max:5: 17 SumTooLarge\n" }
     ensures end { fault_line (codes "-") (Refusal.Text Places.End Code.NoProblem) ≡ codes "-:end: 18 NoProblem\n" }
     ensures read { fault_line (codes "missing") Refusal.Read ≡ codes "missing: 31 Read\n" }
     ensures memory { fault_line (codes "dnorm") Refusal.Memory ≡ codes "dnorm: 30 Memory\n" }

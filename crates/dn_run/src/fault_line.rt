@@ -42,7 +42,8 @@ fn put_line<K: Sink>(
     line: &[u8],
     refusal: &Refusal,
 ) -> Result<(), SinkFault>
-    ensures { Puts K.taken K.has_failed sink.old sink.new (name.now ++ (place.now ++ (line.now ++ reason_text refusal.now))) result }
+    ensures { Puts K.taken K.has_failed sink.old sink.new
+        (name.now ++ (place.now ++ (line.now ++ reason_text refusal.now))) result }
 {
     put_all(sink, name)?;
     put_all(sink, place)?;
@@ -61,7 +62,8 @@ fn put_reason<K: Sink>(sink: &mut K, refusal: &Refusal) -> Result<(), SinkFault>
 
 // Puts a number and a name after a colon, and an LF.
 fn put_words<K: Sink>(sink: &mut K, number: &[u8], name: &[u8]) -> Result<(), SinkFault>
-    ensures { Puts K.taken K.has_failed sink.old sink.new (codes ": " ++ (number.now ++ (codes " " ++ (name.now ++ codes "\n")))) result }
+    ensures { Puts K.taken K.has_failed sink.old sink.new
+        (codes ": " ++ (number.now ++ (codes " " ++ (name.now ++ codes "\n")))) result }
 {
     put_all(sink, b": ")?;
     put_all(sink, number)?;

@@ -1,6 +1,7 @@
 // Texts by name.
-ghost use Rattle.std.specs.Prelude.{◌≡◌, ◌≢◌, ℕ, List, Option, Some, codes, false, IfOk};
+ghost use Rattle.std.specs.Prelude.{◌≡◌, ℕ, List, Option, Some, None, false, IfOk, OnOk};
 ghost use Rattle.std.specs.Result.{IfErr};
+ghost use Rattle.dn_run.specs.Takings.{KeepsOthers};
 ghost use Rattle.dn_run.specs.declared.files.FilesFault.{FilesFault};
 
 use dn_line::Source;
@@ -25,8 +26,11 @@ pub trait Files {
     /// The bytes behind a name, where they are known.
     ghost behind: { Self → List ℕ → Option (List ℕ) };
 
-    /// Why it did not hand out a text that it was asked for; of several, the last.
-    ghost fault: { Self → Option FilesFault };
+    /// Why it did not hand out the text of a name when it was last asked for it; `None` where it handed it out.
+    ghost fault: { Self → List ℕ → Option FilesFault };
+
+    /// Whether asking it once, for the text of this name, makes the second of the first.
+    ghost Asks: { Self → List ℕ → Self → Type 0 };
 
     /// Hands out the text of this name. What is behind the names stays, but for `-` when `-` is taken.
     ///
@@ -36,7 +40,8 @@ pub trait Files {
     fn take(&mut self, name: &str) -> Result<Self::Text, FilesFault>
         ensures text { IfOk result (λ t. Self.Text.gives t ≡ behind self.old name.now) }
         ensures fine { IfOk result (λ t. Self.Text.has_failed t ≡ false) }
-        ensures err { IfErr result (λ f. fault self.new ≡ Some f) }
-        ensures stays { IfOk result (λ t. fault self.new ≡ fault self.old) }
-        ensures others { (other : List ℕ) → (name.now ≡ codes "-" → other ≢ codes "-") → behind self.new other ≡ behind self.old other };
+        ensures ok { OnOk result (fault self.new name.now ≡ None) }
+        ensures err { IfErr result (λ f. fault self.new name.now ≡ Some f) }
+        ensures asks { Asks self.old name.now self.new }
+        ensures others { KeepsOthers (behind self.old) (behind self.new) name.now };
 }

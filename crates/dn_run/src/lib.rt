@@ -1,8 +1,8 @@
-//! A run of the program, over any files and any streams: the words that tell it, the texts that it asks for by name, the
-//! line that tells of a refusal, and the exit status.
+//! A run of the program, over any files and any streams: the words that tell it, the texts that it asks for by name,
+//! the line that tells of a refusal, and the exit status.
 //!
-//! In the order of the data: `command` says what the words ask for, `files` hands out texts by name, `runs` does what is
-//! asked for, and `fault_line` puts the line of a refusal. `examples` has lines of words and of refusals.
+//! In the order of the data: `command` says what the words ask for, `files` hands out texts by name, `runs` does what
+//! is asked for, and `fault_line` puts the line of a refusal. `examples` has lines of words and of refusals.
 #![tactic(auto)]
 
 pub mod command;

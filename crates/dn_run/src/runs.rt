@@ -1,10 +1,12 @@
 // A run of the program, over any files and any streams.
-ghost use Rattle.std.specs.Prelude.{◌≡◌, ◌≢◌, ◌≤◌, ◌⊎◌, ℕ, List, Option, Some, None, map, string_bytes, IfSome, IsTrue, OnOk};
+ghost use Rattle.std.specs.Prelude.{◌≡◌, ◌≢◌, ◌≤◌, ◌⊎◌, ℕ, List, Some, None, map, string_bytes, IfSome, IsTrue, OnOk};
 ghost use Rattle.dn_instance.specs.Instances.{Instance};
 ghost use Rattle.dn_instance.specs.Texts.{Reads};
+ghost use Rattle.dn_canon.specs.CanonTexts.{IsTooLarge};
 ghost use Rattle.dn_run.specs.Commands.{Canon, asked};
 ghost use Rattle.dn_run.specs.FaultLines.{bad_command_line};
-ghost use Rattle.dn_run.specs.Runs.{CanonRun, IsTooLarge, Ran, TakesLine, Unput, refusal_status};
+ghost use Rattle.dn_run.specs.Runs.{CanonOutcome, CanonRun, TakesLine, asked_text, refusal_status, sink_run};
+ghost use Rattle.dn_run.specs.Takings.{KeepsOthers};
 
 use crate::command::{Command, command_of};
 use crate::fault_line::put_fault_line;
@@ -28,13 +30,19 @@ pub fn run<F: Files, O: Sink, E: Sink>(
     ensures status { result ≤ 4 }
     ensures unput { (result ≡ 2) ⊎ (result ≡ 3) → out.new ≡ out.old }
     ensures canon { (name : List ℕ) → asked (map string_bytes words.now) ≡ Some (Canon name)
-        → CanonRun (F.behind files.old name) (F.fault files.new) F.Text.has_failed F.Text.gives O.taken O.has_failed E.taken E.has_failed out.old out.new err.old err.new name result }
+        → CanonRun (asked_text name (F.behind files.old name) (F.fault files.new name) F.Text.gives F.Text.has_failed)
+        (sink_run O.taken O.has_failed out.old out.new) (sink_run E.taken E.has_failed err.old err.new) result }
+    ensures asks { (name : List ℕ) → asked (map string_bytes words.now) ≡ Some (Canon name)
+        → F.Asks files.old name files.new × KeepsOthers (F.behind files.old) (F.behind files.new) name }
     ensures refused { (name : List ℕ) → asked (map string_bytes words.now) ≡ Some (Canon name)
-        → result ≡ 2 → IfSome (F.behind files.old name) (λ b. (I : Instance) → Reads b I → IsTooLarge I) }
+        → result ≡ 2 → IfSome (F.behind files.old name) (λ b. (I : Instance) → Reads b I → IsTooLarge Form.One I) }
     ensures flushed { (name : List ℕ) → asked (map string_bytes words.now) ≡ Some (Canon name)
         → result ≡ 0 → IsTrue (O.is_flushed out.new) }
-    ensures never { (name : List ℕ) → asked (map string_bytes words.now) ≡ Some (Canon name) → (result ≢ 1) × (result ≢ 3) }
-    ensures other { asked (map string_bytes words.now) ≡ None → (result ≡ 3) × (files.new ≡ files.old) × TakesLine E.taken E.has_failed err.old err.new bad_command_line }
+    ensures never { (name : List ℕ) → asked (map string_bytes words.now) ≡ Some (Canon name)
+        → (result ≢ 1) × (result ≢ 3) }
+    ensures other { asked (map string_bytes words.now) ≡ None
+        → (result ≡ 3) × (files.new ≡ files.old)
+        × TakesLine (sink_run E.taken E.has_failed err.old err.new) bad_command_line }
 {
     match command_of(words) {
         Some(Command::Canon { name }) => canon(alloc, name, files, out, err),
@@ -45,7 +53,7 @@ pub fn run<F: Files, O: Sink, E: Sink>(
 /// Tells on `err` that the words are no command, and answers the exit status, 3. A fault of `err` is ignored.
 pub fn refuse_words<E: Sink>(err: &mut E) -> u8
     ensures status { result ≡ 3 }
-    ensures told { TakesLine E.taken E.has_failed err.old err.new bad_command_line }
+    ensures told { TakesLine (sink_run E.taken E.has_failed err.old err.new) bad_command_line }
 {
     let _ = put_all(err, b"dnorm: bad command line\n");
     3
@@ -60,8 +68,13 @@ fn canon<F: Files, O: Sink, E: Sink>(
     err: &mut E,
 ) -> u8
     ensures statuses { (result ≡ 0) ⊎ (result ≡ 2) ⊎ (result ≡ 4) }
-    ensures ran { CanonRun (F.behind files.old name.now) (F.fault files.new) F.Text.has_failed F.Text.gives O.taken O.has_failed E.taken E.has_failed out.old out.new err.old err.new name.now result }
-    ensures refused { result ≡ 2 → IfSome (F.behind files.old name.now) (λ b. (I : Instance) → Reads b I → IsTooLarge I) }
+    ensures ran { CanonRun
+        (asked_text name.now (F.behind files.old name.now) (F.fault files.new name.now) F.Text.gives F.Text.has_failed)
+        (sink_run O.taken O.has_failed out.old out.new) (sink_run E.taken E.has_failed err.old err.new) result }
+    ensures asks { F.Asks files.old name.now files.new }
+    ensures others { KeepsOthers (F.behind files.old) (F.behind files.new) name.now }
+    ensures refused { result ≡ 2
+        → IfSome (F.behind files.old name.now) (λ b. (I : Instance) → Reads b I → IsTooLarge Form.One I) }
     ensures unput { result ≡ 2 → out.new ≡ out.old }
     ensures flushed { result ≡ 0 → IsTrue (O.is_flushed out.new) }
 {
@@ -81,8 +94,12 @@ fn put_canon<F: Files, O: Sink>(
     files: &mut F,
     out: &mut O,
 ) -> Result<(), Refusal>
-    ensures ran { IfSome (F.behind files.old name.now) (λ b. Ran (F.fault files.new) F.Text.has_failed F.Text.gives O.taken O.has_failed out.old out.new b result) }
-    ensures unput { Unput out.old out.new result }
+    ensures outcome { CanonOutcome
+        (asked_text name.now (F.behind files.old name.now) (F.fault files.new name.now) F.Text.gives F.Text.has_failed)
+        (sink_run O.taken O.has_failed out.old out.new) result }
+    ensures asks { F.Asks files.old name.now files.new }
+    ensures others { KeepsOthers (F.behind files.old) (F.behind files.new) name.now }
+    ensures unput { (refusal : Refusal) → result ≡ Err refusal → refusal ≢ Refusal.Write → out.new ≡ out.old }
     ensures flushed { OnOk result (IsTrue (O.is_flushed out.new)) }
 {
     match files.take(name) {

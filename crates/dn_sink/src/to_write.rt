@@ -39,9 +39,14 @@ impl<W: Write> Sink for ToWrite<W> {
 
     // Once it has failed, it takes nothing.
     fn put(&mut self, piece: &[u8]) -> Result<usize, SinkFault>
-        ensures ok { IfOk result (λ n. Took (⟦<ToWrite<W> as Sink>⟧.taken self.old) (⟦<ToWrite<W> as Sink>⟧.taken self.new) (⟦<ToWrite<W> as Sink>⟧.has_failed self.new) piece.now n) }
-        ensures err { OnErr result (Refused (⟦<ToWrite<W> as Sink>⟧.taken self.old) (⟦<ToWrite<W> as Sink>⟧.taken self.new) (⟦<ToWrite<W> as Sink>⟧.has_failed self.new)) }
-        ensures stays { IsTrue (⟦<ToWrite<W> as Sink>⟧.has_failed self.old) → IsTrue (⟦<ToWrite<W> as Sink>⟧.has_failed self.new) }
+        ensures ok { IfOk result
+            (λ n. Took (⟦<ToWrite<W> as Sink>⟧.taken self.old) (⟦<ToWrite<W> as Sink>⟧.taken self.new)
+            (⟦<ToWrite<W> as Sink>⟧.has_failed self.new) piece.now n) }
+        ensures err { OnErr result
+            (Refused (⟦<ToWrite<W> as Sink>⟧.taken self.old) (⟦<ToWrite<W> as Sink>⟧.taken self.new)
+            (⟦<ToWrite<W> as Sink>⟧.has_failed self.new)) }
+        ensures stays { IsTrue (⟦<ToWrite<W> as Sink>⟧.has_failed self.old)
+            → IsTrue (⟦<ToWrite<W> as Sink>⟧.has_failed self.new) }
         ensures again { IsTrue (⟦<ToWrite<W> as Sink>⟧.has_failed self.old) → IsErr result }
         ensures unflushed { OnOk result (⟦<ToWrite<W> as Sink>⟧.is_flushed self.new ≡ false) }
     {
@@ -68,7 +73,8 @@ impl<W: Write> Sink for ToWrite<W> {
         ensures flushed { OnOk result (IsTrue (⟦<ToWrite<W> as Sink>⟧.is_flushed self.new)) }
         ensures bytes { Keeps (⟦<ToWrite<W> as Sink>⟧.taken self.old) (⟦<ToWrite<W> as Sink>⟧.taken self.new) }
         ensures err { OnErr result (IsTrue (⟦<ToWrite<W> as Sink>⟧.has_failed self.new)) }
-        ensures stays { IsTrue (⟦<ToWrite<W> as Sink>⟧.has_failed self.old) → IsTrue (⟦<ToWrite<W> as Sink>⟧.has_failed self.new) }
+        ensures stays { IsTrue (⟦<ToWrite<W> as Sink>⟧.has_failed self.old)
+            → IsTrue (⟦<ToWrite<W> as Sink>⟧.has_failed self.new) }
         ensures again { IsTrue (⟦<ToWrite<W> as Sink>⟧.has_failed self.old) → IsErr result }
     {
         if self.failed {

@@ -18,7 +18,7 @@ use Rattle.dn_bundle.specs.declared.arc.Form.TheVariants.{One}
 use Rattle.dn_table.specs.GraphEntries.{graph_entries}
 use Rattle.pair_index.specs.Pairs.{same_pair}
 use Rattle.dn_table.specs.Pairs.{bundle}
-use Rattle.dn_table.specs.Tables.{told_at, Tells, AreArcs}
+use Rattle.dn_table.specs.Tables.{told_at, TableTells, AreArcs}
 use Rattle.pair_index.proofs.PairLaws.{pair_is, pair_self}
 use Rattle.dn_table.proofs.PairLaws.{other_pair}
 
@@ -189,7 +189,7 @@ module _ {B : Type 0} where
 
 module _ {B Arc : Type 0} (kind : ArcKind Arc) (laws : IsKind kind) (nothing : kind.entries [] ≡ 0) (tells : B → List Arc) where
   -- the entries that a table's bundles come to are those of the arcs that it stands for
-  pub table_entries : (table : List (Pair × B)) (arcs : List (Pair × Arc)) → Once (keys_of table) → Tells kind tells table arcs → AreArcs kind arcs → sum_by (λ (e : Pair × B). kind.entries (tells e.1)) table ≡ graph_entries kind arcs
+  pub table_entries : (table : List (Pair × B)) (arcs : List (Pair × Arc)) → Once (keys_of table) → TableTells kind tells table arcs → AreArcs kind arcs → sum_by (λ (e : Pair × B). kind.entries (tells e.1)) table ≡ graph_entries kind arcs
   table_entries table arcs once t are =
       sum_at f (λ b. kind.entries (tells b)) table table (λ k m. refl) once at
       ∙ same_sum f (keys_of table) (distinct same_pair (map (λ a. a.0) arcs)) once (once_distinct (map (λ a. a.0) arcs)) out back

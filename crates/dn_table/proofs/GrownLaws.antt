@@ -1,16 +1,17 @@
 -- What is found among entries of different pairs after a change.
 use Rattle.std.proofs.Common.{◌≡◌, ◌↔◌, ℕ, zero, suc, ◌<◌, ℤ, List, [], ◌∷◌, ◌++◌, length, get_or, set, Bool, true, false, cond, Option, Some, None, is_some, refl, sym, ap, ◌∙◌, subst, arith}
 use Rattle.std.specs.List.{IsDistinct, list_any, slice_get}
+use Rattle.std.specs.List.Sorted.{IsStrictlySortedBy}
 use Rattle.std.specs.Map.{keys_of, lookup}
 use Rattle.std.proofs.lemmas.List.{set-get_or}
 use Rattle.std.proofs.lemmas.Map.Entries.{lookup_from_place, length-keys_of}
 use Rattle.std.proofs.lemmas.Map.Made.{is_some-lookup}
 use Rattle.std.proofs.lemmas.Option.{slice_get-get_or}
 use Rattle.dn_bundle.specs.Bundles.{told_of}
-use Rattle.dn_bundle.specs.Kinds.{ArcKind, StandsFor}
-use Rattle.pair_index.specs.Pairs.{same_pair}
+use Rattle.dn_bundle.specs.Kinds.{ArcKind, AreCanonArcsOf}
+use Rattle.pair_index.specs.Pairs.{pair_cmp, same_pair}
 use Rattle.dn_table.specs.Pairs.{bundle}
-use Rattle.dn_table.specs.Tables.{Grows, Tells}
+use Rattle.dn_table.specs.Tables.{Grows, TableStandsFor, TableTells}
 use Rattle.dn_table.proofs.PairLaws.{other_pair}
 use Rattle.dn_table.proofs.TableLaws.{grows_there}
 use Rattle.pair_index.proofs.IndexLaws.{pair_equiv, key_of_entry}
@@ -86,8 +87,13 @@ module _ {X : Type 0} (p : ℤ × ℤ) (es : List ((ℤ × ℤ) × X)) where
     grows_here kind tells arc w same = grows_there kind tells es (set es i (e.0, w)) p arc e.1 w found_at (found_then w) (others_then w) same
 
 -- tables with the same bundles tell the same
-pub tells_as : {B Arc : Type 0} (kind : ArcKind Arc) (tells : B → List Arc) (table other : List ((ℤ × ℤ) × B)) (arcs : List ((ℤ × ℤ) × Arc)) → ((p : ℤ × ℤ) → lookup (same_pair p) other ≡ lookup (same_pair p) table) → Tells kind tells table arcs → Tells kind tells other arcs
+tells_as : {B Arc : Type 0} (kind : ArcKind Arc) (tells : B → List Arc) (table other : List ((ℤ × ℤ) × B)) (arcs : List ((ℤ × ℤ) × Arc)) → ((p : ℤ × ℤ) → lookup (same_pair p) other ≡ lookup (same_pair p) table) → TableTells kind tells table arcs → TableTells kind tells other arcs
 tells_as kind tells table other arcs same t = record {
-  stands = λ p. subst (λ o. StandsFor kind (told_of tells o) (bundle p arcs)) (sym (same p)) (t.stands p);
+  stands = λ p. subst (λ o. AreCanonArcsOf kind (told_of tells o) (bundle p arcs)) (sym (same p)) (t.stands p);
   absent = λ p. subst (λ o. (o ≡ None) ↔ kind.Same (bundle p arcs) []) (sym (same p)) (t.absent p);
 }
+
+-- and by rising pair they are the table
+pub stands_as : {B Arc : Type 0} (kind : ArcKind Arc) (tells : B → List Arc) (table other : List ((ℤ × ℤ) × B)) (arcs : List ((ℤ × ℤ) × Arc)) → IsStrictlySortedBy pair_cmp (keys_of other) → ((p : ℤ × ℤ) → lookup (same_pair p) other ≡ lookup (same_pair p) table)
+    → TableTells kind tells table arcs → TableStandsFor kind tells other arcs
+stands_as kind tells table other arcs rising same t = record { rising = rising; tells_them = tells_as kind tells table other arcs same t }

@@ -1,11 +1,12 @@
--- What a list of bundles by ordered pair stands for, what it becomes as an arc comes, and what an iterator over it shows.
+-- What a list of bundles by ordered pair stands for, what it becomes as an arc comes, and what an iterator over it
+-- shows.
 use Rattle.std.specs.Prelude.{◌≡◌, ◌↔◌, ℤ, List, [], ◌∷◌, ◌++◌, None, false, IsSome}
 use Rattle.std.specs.Borrow.{Bor}
 use Rattle.std.specs.List.{AllByRecursion}
 use Rattle.std.specs.List.Sorted.{IsStrictlySortedBy}
 use Rattle.std.specs.Map.{keys_of, lookup}
 use Rattle.dn_bundle.specs.Bundles.{told_of}
-use Rattle.dn_bundle.specs.Kinds.{ArcKind, StandsFor}
+use Rattle.dn_bundle.specs.Kinds.{ArcKind, AreCanonArcsOf}
 use Rattle.pair_index.specs.Pairs.{pair_cmp, same_pair}
 use Rattle.dn_table.specs.Pairs.{bundle}
 
@@ -13,11 +14,17 @@ use Rattle.dn_table.specs.Pairs.{bundle}
 abbrev pub told_at : {B Arc : Type 0} → (B → List Arc) → List ((ℤ × ℤ) × B) → ℤ × ℤ → List Arc
 told_at tells table p = told_of tells (lookup (same_pair p) table)
 
--- bundles by rising pair that stand for these arcs; a pair whose arcs mean what no arcs mean has none
-pub record TableStandsFor {B Arc : Type 0} (kind : ArcKind Arc) (tells : B → List Arc) (table : List ((ℤ × ℤ) × B)) (arcs : List ((ℤ × ℤ) × Arc)) : Type 0 where
-  pub rising : IsStrictlySortedBy pair_cmp (keys_of table)
-  pub stands : (p : ℤ × ℤ) → StandsFor kind (told_at tells table p) (bundle p arcs)
+-- at each pair the bundles tell what these arcs mean there; a pair whose arcs mean what no arcs mean has none
+pub record TableTells {B Arc : Type 0} (kind : ArcKind Arc) (tells : B → List Arc) (table : List ((ℤ × ℤ) × B))
+    (arcs : List ((ℤ × ℤ) × Arc)) : Type 0 where
+  pub stands : (p : ℤ × ℤ) → AreCanonArcsOf kind (told_at tells table p) (bundle p arcs)
   pub absent : (p : ℤ × ℤ) → (lookup (same_pair p) table ≡ None) ↔ kind.Same (bundle p arcs) []
+
+-- the table of these arcs: bundles by rising pair that tell what they mean
+pub record TableStandsFor {B Arc : Type 0} (kind : ArcKind Arc) (tells : B → List Arc) (table : List ((ℤ × ℤ) × B))
+    (arcs : List ((ℤ × ℤ) × Arc)) : Type 0 where
+  pub rising : IsStrictlySortedBy pair_cmp (keys_of table)
+  pub tells_them : TableTells kind tells table arcs
 
 -- what the iterator shows of an item
 abbrev pub entry_of : {B : Type 0} → (ℤ × ℤ) × Bor B → (ℤ × ℤ) × B
@@ -25,16 +32,13 @@ entry_of x = (x.0, x.1.now)
 
 -- the table has taken an arc at this pair, and nothing elsewhere: its bundle there means the arcs so far and this one;
 -- where it had none, it has one now exactly if the arc means anything
-pub record Grows {B Arc : Type 0} (kind : ArcKind Arc) (tells : B → List Arc) (old new : List ((ℤ × ℤ) × B)) (pair : ℤ × ℤ) (arc : Arc) : Type 0 where
+pub record Grows {B Arc : Type 0} (kind : ArcKind Arc) (tells : B → List Arc) (old new : List ((ℤ × ℤ) × B))
+    (pair : ℤ × ℤ) (arc : Arc) : Type 0 where
   pub here : kind.Same (told_at tells new pair) (told_at tells old pair ++ arc ∷ [])
   pub kept : IsSome (lookup (same_pair pair) old) → IsSome (lookup (same_pair pair) new)
-  pub fresh : lookup (same_pair pair) old ≡ None → (lookup (same_pair pair) new ≡ None) ↔ kind.Same (told_at tells new pair) []
+  pub fresh : lookup (same_pair pair) old ≡ None
+      → (lookup (same_pair pair) new ≡ None) ↔ kind.Same (told_at tells new pair) []
   pub others : (p : ℤ × ℤ) → same_pair pair p ≡ false → lookup (same_pair p) new ≡ lookup (same_pair p) old
-
--- the table tells at each pair what these arcs mean there, and has a bundle exactly where they mean anything
-pub record Tells {B Arc : Type 0} (kind : ArcKind Arc) (tells : B → List Arc) (table : List ((ℤ × ℤ) × B)) (arcs : List ((ℤ × ℤ) × Arc)) : Type 0 where
-  pub stands : (p : ℤ × ℤ) → StandsFor kind (told_at tells table p) (bundle p arcs)
-  pub absent : (p : ℤ × ℤ) → (lookup (same_pair p) table ≡ None) ↔ kind.Same (bundle p arcs) []
 
 -- arcs of a problem, wherever they stand
 abbrev pub AreArcs : {Arc : Type 0} → ArcKind Arc → List ((ℤ × ℤ) × Arc) → Type 0
@@ -42,4 +46,6 @@ AreArcs kind arcs = AllByRecursion (λ a. kind.IsArc a.1) arcs
 
 -- what means something still does with an arc more
 abbrev pub Stays : {Arc : Type 0} → ArcKind Arc → Type 0
-Stays {Arc} kind = (xs : List Arc) (a : Arc) → AllByRecursion kind.IsArc xs → kind.IsArc a → kind.Same (xs ++ a ∷ []) [] → kind.Same xs []
+Stays {Arc} kind =
+    (xs : List Arc) (a : Arc) → AllByRecursion kind.IsArc xs → kind.IsArc a → kind.Same (xs ++ a ∷ []) []
+    → kind.Same xs []

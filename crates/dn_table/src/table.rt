@@ -7,7 +7,7 @@ ghost use Rattle.std.specs.Map.{keys_of, lookup};
 ghost use Rattle.dn_bundle.specs.declared.arc.Form.{Form};
 ghost use Rattle.pair_index.specs.Pairs.{pair_cmp, same_pair};
 ghost use Rattle.dn_table.specs.GraphEntries.{graph_entries};
-ghost use Rattle.dn_table.specs.Tables.{entry_of, AreArcs, Tells};
+ghost use Rattle.dn_table.specs.Tables.{entry_of, AreArcs, TableTells};
 
 use crate::entry_sum::bundle_entries;
 use dn_bundle::{Bundle, Form};
@@ -65,7 +65,8 @@ impl<B: Bundle> Table<B> {
 
     /// How many entries its bundles come to, given that they are fewer than 2^64.
     pub fn entries(&self) -> u64
-        ensures { (arcs : List ((ℤ × ℤ) × B.Arc)) → B.kind.entries [] ≡ 0 → Tells B.kind (B.told Form.One) self.now arcs
+        ensures { (arcs : List ((ℤ × ℤ) × B.Arc)) → B.kind.entries [] ≡ 0
+            → TableTells B.kind (B.told Form.One) self.now arcs
             → AreArcs B.kind arcs → graph_entries B.kind arcs < 2 ^ 64 → result ≡ graph_entries B.kind arcs }
     {
         bundle_entries(&self.entries)

@@ -6,7 +6,7 @@ ghost use Rattle.std.specs.Map.{keys_of, lookup};
 ghost use Rattle.pair_index.specs.Places.{IsPlace};
 ghost use Rattle.dn_bundle.specs.declared.arc.Form.{Form};
 ghost use Rattle.pair_index.specs.Pairs.{pair_cmp, same_pair};
-ghost use Rattle.dn_table.specs.Tables.{told_at, AreArcs, Grows, Tells};
+ghost use Rattle.dn_table.specs.Tables.{told_at, AreArcs, Grows, TableTells};
 ghost use Rattle.dn_table.specs.GraphEntries.{graph_entries};
 
 use crate::entry_sum::bundle_entries;
@@ -97,7 +97,8 @@ impl<B: Bundle> TableSoFar<B> {
     fn put(&mut self, alloc: Global, pair: (i64, i64), bundle: B) -> Result<(), BundleFault>
         requires { lookup (same_pair pair) self.old ≡ None }
         ensures there { OnOk result (lookup (same_pair pair) self.new ≡ Some bundle) }
-        ensures others { OnOk result ((q : ℤ × ℤ) → same_pair pair q ≡ false → lookup (same_pair q) self.new ≡ lookup (same_pair q) self.old) }
+        ensures others { OnOk result
+            ((q : ℤ × ℤ) → same_pair pair q ≡ false → lookup (same_pair q) self.new ≡ lookup (same_pair q) self.old) }
         ensures err { OnErr result (self.new ≡ self.old) }
         ensures memory { OnErr result (result ≡ Err BundleFault.Memory) }
     {
@@ -111,8 +112,8 @@ impl<B: Bundle> TableSoFar<B> {
     ///
     /// # Errors
     ///
-    /// `Sum` exactly where the capacities of the pair's arcs sum to more than 2^63 - 1, else `Memory` where a growth was
-    /// refused. On either nothing has changed.
+    /// `Sum` exactly where the capacities of the pair's arcs sum to more than 2^63 - 1, else `Memory` where a growth
+    /// was refused. On either nothing has changed.
     pub fn add(&mut self, alloc: Global, pair: (i64, i64), arc: B::Arc) -> Result<(), BundleFault>
         requires { B.kind.IsArc arc }
         ensures ok { OnOk result (Grows B.kind (B.told Form.One) self.old self.new pair arc) }
@@ -145,7 +146,8 @@ impl<B: Bundle> TableSoFar<B> {
 
     /// How many entries its bundles come to, given that they are fewer than 2^64.
     pub fn entries(&self) -> u64
-        ensures { (arcs : List ((ℤ × ℤ) × B.Arc)) → B.kind.entries [] ≡ 0 → Tells B.kind (B.told Form.One) self.now arcs
+        ensures { (arcs : List ((ℤ × ℤ) × B.Arc)) → B.kind.entries [] ≡ 0
+            → TableTells B.kind (B.told Form.One) self.now arcs
             → AreArcs B.kind arcs → graph_entries B.kind arcs < 2 ^ 64 → result ≡ graph_entries B.kind arcs }
     {
         bundle_entries(&self.entries)
@@ -153,7 +155,8 @@ impl<B: Bundle> TableSoFar<B> {
 
     /// The table of its bundles. Takes no memory.
     pub fn end(self) -> Table<B>
-        ensures { (pair : ℤ × ℤ) → lookup (same_pair pair) result ≡ lookup (same_pair pair) self }
+        ensures rising { IsStrictlySortedBy pair_cmp (keys_of result) }
+        ensures kept { (pair : ℤ × ℤ) → lookup (same_pair pair) result ≡ lookup (same_pair pair) self }
     {
         let TableSoFar {
             mut entries,

@@ -117,6 +117,22 @@ fn a_text_in_pieces(rt: HostRuntime) -> Result<(), Fail> {
     Ok(())
 }
 
+// A comment of 1,000,000 bytes before a text.
+#[test]
+fn a_long_comment(rt: HostRuntime) -> Result<(), Fail> {
+    let block = [b'1'; 1000];
+    let mut reader = Reader::new(rt.alloc());
+    reader.feed(b"c")?;
+    for _ in 0..1000 {
+        reader.feed(&block)?;
+    }
+    reader.feed(b"\n")?;
+    reader.feed(LENGTHS.as_bytes())?;
+    let canon = canon_text(rt.alloc(), &reader.finish()?, Form::One)?;
+    assert_eq!(rt; canon.as_slice(), LENGTHS_CANON.as_bytes());
+    Ok(())
+}
+
 // Texts and what a sink takes of them, one of each kind.
 const PUT: [(&str, &str); 6] = [
     ("p min 2 0", "p min 2 0\n"),

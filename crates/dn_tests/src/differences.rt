@@ -264,35 +264,48 @@ fn marks(alloc: Global, one: &Small, again: bool) -> Result<Vec<String>, Fail> {
     Ok(lines)
 }
 
-// The arc lines, or the items of a list. A second time an arc comes in two, and a redundant one with it.
+// The arcs in whose place an arc is written, of which the first so many count: a second time it comes in two, or with
+// a redundant one.
+fn parts(kind: Kind, again: bool, arc: Arc) -> ([Arc; 3], usize) {
+    let (src, dst, low, cap, cost) = arc;
+    let room = cap.saturating_sub(low);
+    let more = cost.saturating_add(1);
+    let units = (src, dst, low, low, cost);
+    match (kind, again) {
+        (Kind::Min | Kind::Max, true) => (
+            [units, (src, dst, 0, room, cost), (dst, src, 0, 0, more)],
+            3,
+        ),
+        (Kind::Sp, true) => ([arc, (src, dst, low, cap, more), arc], 2),
+        _ => ([arc, arc, arc], 1),
+    }
+}
+
+// The letter and the numbers of the line of an arc or an item, of which the first so many count.
+fn numbers(kind: Kind, arc: Arc) -> (&'static str, [i64; 5], usize) {
+    let (src, dst, low, cap, cost) = arc;
+    match kind {
+        Kind::Min => ("a", [src, dst, low, cap, cost], 5),
+        Kind::Max => ("a", [src, dst, cap, 0, 0], 3),
+        Kind::Sp => ("a", [src, dst, cost, 0, 0], 3),
+        Kind::Ss => ("s", [src, 0, 0, 0, 0], 1),
+        Kind::P2p | Kind::Co => ("q", [src, dst, 0, 0, 0], 2),
+    }
+}
+
+// The arc lines, or the items of a list.
 fn rows(alloc: Global, one: &Small, again: bool) -> Result<Vec<String>, Fail> {
     let mut lines = Vec::new(alloc);
-    for (place, arc) in (0usize..3).zip(one.arcs) {
-        let (src, dst, low, cap, cost) = arc;
-        let room = cap.saturating_sub(low);
-        let more = cost.saturating_add(1);
-        match (one.kind, again) {
-            (Kind::Min, false) => lines.push(line(alloc, "a", &[src, dst, low, cap, cost])?)?,
-            (Kind::Min, true) => {
-                lines.push(line(alloc, "a", &[src, dst, low, low, cost])?)?;
-                lines.push(line(alloc, "a", &[src, dst, 0, room, cost])?)?;
-                lines.push(line(alloc, "a", &[dst, src, 0, 0, more])?)?;
-            }
-            (Kind::Max, false) => lines.push(line(alloc, "a", &[src, dst, cap])?)?,
-            (Kind::Max, true) => {
-                lines.push(line(alloc, "a", &[src, dst, low])?)?;
-                lines.push(line(alloc, "a", &[src, dst, room])?)?;
-                lines.push(line(alloc, "a", &[dst, src, 0])?)?;
-            }
-            (Kind::Sp, _) => {
-                lines.push(line(alloc, "a", &[src, dst, cost])?)?;
-                if again {
-                    lines.push(line(alloc, "a", &[src, dst, more])?)?;
-                }
-            }
-            (Kind::Ss, _) if place < one.count => lines.push(line(alloc, "s", &[src])?)?,
-            (Kind::P2p, _) if place < one.count => lines.push(line(alloc, "q", &[src, dst])?)?,
-            _ => {}
+    let listed = match one.kind {
+        Kind::Min | Kind::Max | Kind::Sp => 3,
+        Kind::Ss | Kind::P2p => one.count,
+        Kind::Co => 0,
+    };
+    for arc in one.arcs.into_iter().take(listed) {
+        let (arcs, arc_count) = parts(one.kind, again, arc);
+        for part in arcs.into_iter().take(arc_count) {
+            let (letter, numbers, count) = numbers(one.kind, part);
+            lines.push(line(alloc, letter, &numbers[..count.min(5)])?)?;
         }
     }
     Ok(lines)

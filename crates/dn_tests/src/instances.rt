@@ -7,15 +7,13 @@ use cases::{
     ACCEPTED, CAPACITIES, COSTS, ENDS, FIRST_LINES, Faulty, LATER_LINES, LENGTHS, NODES_AND_ARCS,
     NOTHING, OTHER_COSTS, POINTS, QUERIES, SOURCES, SUPPLIES, USUAL,
 };
-use dn_bundle::{Fixed, Least};
+use dn_bundle::Fixed;
 use dn_instance::{
-    CompanionFault, Held, Place, Reader, Refusal, Table, View, check_companion, read_from,
-    read_keep, read_text,
+    CompanionFault, Held, Place, Reader, Refusal, View, check_companion, read_from, read_keep,
+    read_text,
 };
 use dn_line::{Code, Kind, Slice};
 use std::alloc::{AllocError, Global};
-use std::collections::BTreeMap;
-use std::fmt::Write;
 use std::process::Abort;
 use std::test::Fail;
 
@@ -215,104 +213,69 @@ fn sizes(rt: HostRuntime) -> Result<(), Fail> {
     Ok(())
 }
 
-// The length at a pair, if it has one.
-fn length_at(table: &Table<Least>, src: i64, dst: i64) -> Option<i64> {
-    match table.get(src, dst) {
-        Some(least) => least.get(),
-        None => None,
-    }
-}
-
-#[test]
-fn lengths(rt: HostRuntime) -> Result<(), Fail> {
-    let held = read_text(rt.alloc(), LENGTHS.as_bytes())?;
-    let View::Sp { table } = held.view() else {
-        panic!(rt; "no `sp` graph");
-    };
-    let told = [
-        ((1, 2), 3),
-        ((2, 1), 4),
-        ((2, 2), 0),
-        ((2, 3), 9),
-        ((3, 1), -5),
-    ];
-    let mut pairs = table.pairs();
-    for (pair, length) in told {
-        let next = pairs.next().map(|(pair, least)| (pair, least.get()));
-        assert_eq!(rt; next, Some((pair, Some(length))));
-        assert_eq!(rt; length_at(table, pair.0, pair.1), Some(length));
-    }
-    assert!(rt; pairs.next().is_none());
-    assert_eq!(rt; length_at(table, 1, 3), None);
-    Ok(())
-}
-
-// An `sp` text of arcs in no order, with several of many pairs, and the least length of each pair.
-fn scattered(alloc: Global) -> Result<(String, BTreeMap<(i64, i64), i64>), AllocError> {
-    let mut text = format!(in alloc; "p sp 60 3000\n")?;
-    let mut least = BTreeMap::new(alloc);
-    let mut state = 1u32;
-    for _ in 0..3000 {
-        state = state.wrapping_mul(1_103_515_245).wrapping_add(12345);
-        let src = i64::from((state >> 24) % 60) + 1;
-        let dst = i64::from((state >> 16) % 60) + 1;
-        let length = i64::from((state >> 8) % 1000) - 500;
-        writeln!(text, "a {src} {dst} {length}")?;
-        let known = least.entry((src, dst))?.or_insert(length);
-        *known = length.min(*known);
-    }
-    Ok((text, least))
-}
-
-// Whether a graph has just these least lengths.
-fn has_lengths(held: &Held, least: &BTreeMap<(i64, i64), i64>) -> bool {
-    let View::Sp { table } = held.view() else {
-        return false;
-    };
-    let mut left = least.iter();
-    for (pair, found) in table.pairs() {
-        if left.next().map(|(at, length)| (*at, Some(*length))) != Some((pair, found.get())) {
-            return false;
+// The numbers that the view of a text shows, one after another; the amount and the cost of what is forced for a curve.
+fn shown(alloc: Global, text: &str) -> Result<Vec<i64>, Fail> {
+    let held = read_text(alloc, text.as_bytes())?;
+    let mut all = Vec::new(alloc);
+    match held.view() {
+        View::Sp { table } => {
+            for ((src, dst), least) in table.pairs() {
+                all.extend_from_slice(&[src, dst, least.get().unwrap_or(i64::MAX)])?;
+            }
+        }
+        View::Max {
+            source,
+            sink,
+            table,
+        } => {
+            all.extend_from_slice(&[source, sink])?;
+            for ((src, dst), total) in table.pairs() {
+                all.extend_from_slice(&[src, dst, total.get()])?;
+            }
+        }
+        View::Min { supplies, table } => {
+            for (id, flow) in supplies.iter() {
+                all.extend_from_slice(&[*id, *flow])?;
+            }
+            for ((src, dst), curve) in table.pairs() {
+                all.extend_from_slice(&[src, dst, curve.forced().0])?;
+            }
+        }
+        View::Ss { items } => all.extend_from_slice(items)?,
+        View::P2p { items } => {
+            for (from, to) in items {
+                all.extend_from_slice(&[*from, *to])?;
+            }
+        }
+        View::Co { points } => {
+            for (id, (x, y)) in points.iter() {
+                all.extend_from_slice(&[*id, *x, *y])?;
+            }
         }
     }
-    left.next().is_none()
+    Ok(all)
 }
 
-#[test]
-fn scattered_arcs(rt: HostRuntime) -> Result<(), Fail> {
-    let (text, least) = scattered(rt.alloc())?;
-    let whole = read_text(rt.alloc(), text.as_bytes())?;
-    assert!(rt; has_lengths(&whole, &least), "read whole");
-    for size in [1, 7, 100] {
-        let mut reader = Reader::new(rt.alloc());
-        for piece in text.as_bytes().chunks(size) {
-            reader.feed(piece)?;
-        }
-        let held = reader.finish()?;
-        assert!(rt; has_lengths(&held, &least), "read in pieces of {size}");
-    }
-    Ok(())
-}
+// Texts, and what their views show.
+const SHOWN: [(&str, &[i64]); 7] = [
+    (LENGTHS, &[1, 2, 3, 2, 1, 4, 2, 2, 0, 2, 3, 9, 3, 1, -5]),
+    (CAPACITIES, &[1, 3, 1, 2, 9, 1, 3, 2]),
+    (
+        SUPPLIES,
+        &[1, 4, 4, -4, 1, 2, 0, 1, 3, 0, 2, 3, 0, 2, 4, 0, 3, 4, 0],
+    ),
+    (NOTHING, &[2, 1, 0]),
+    (SOURCES, &[5, 2, 5]),
+    (QUERIES, &[9, 1, 1, 9]),
+    (POINTS, &[1, 5, -6, 3, -73530767, 41085396]),
+];
 
 #[test]
-fn capacities(rt: HostRuntime) -> Result<(), Fail> {
-    let held = read_text(rt.alloc(), CAPACITIES.as_bytes())?;
-    let View::Max {
-        source,
-        sink,
-        table,
-    } = held.view()
-    else {
-        panic!(rt; "no `max` problem");
-    };
-    assert_eq!(rt; (source, sink), (1, 3));
-    let mut pairs = table.pairs();
-    for (pair, total) in [((1, 2), 9), ((1, 3), 2)] {
-        let next = pairs.next().map(|(pair, all)| (pair, all.get()));
-        assert_eq!(rt; next, Some((pair, total)));
+fn views(rt: HostRuntime) -> Result<(), Fail> {
+    for (text, numbers) in SHOWN {
+        let told = shown(rt.alloc(), text)?;
+        assert_eq!(rt; told.as_slice(), numbers, "{text}");
     }
-    assert!(rt; pairs.next().is_none());
-    assert!(rt; table.get(2, 3).is_none());
     Ok(())
 }
 
@@ -322,7 +285,7 @@ fn costs(rt: HostRuntime) -> Result<(), Fail> {
     let View::Min { supplies, table } = held.view() else {
         panic!(rt; "no `min` problem");
     };
-    assert_eq!(rt; supplies.len(), 0);
+    assert!(rt; supplies.is_empty() && table.get(2, 1).is_none());
     let Some(curve) = table.get(1, 2) else {
         panic!(rt; "no curve");
     };
@@ -347,43 +310,6 @@ fn costs(rt: HostRuntime) -> Result<(), Fail> {
     ];
     for (amount, cost) in least {
         assert_eq!(rt; curve.least(amount), cost, "{amount}");
-    }
-    Ok(())
-}
-
-#[test]
-fn supplies(rt: HostRuntime) -> Result<(), Fail> {
-    let held = read_text(rt.alloc(), SUPPLIES.as_bytes())?;
-    let View::Min { supplies, .. } = held.view() else {
-        panic!(rt; "no `min` problem");
-    };
-    assert_eq!(rt; supplies.len(), 2);
-    assert_eq!(rt; supplies.get(&1), Some(&4));
-    assert_eq!(rt; supplies.get(&4), Some(&-4));
-    let other = read_text(rt.alloc(), NOTHING.as_bytes())?;
-    let View::Min { supplies, table } = other.view() else {
-        panic!(rt; "no `min` problem");
-    };
-    assert_eq!(rt; supplies.len(), 0);
-    assert!(rt; table.get(1, 2).is_none());
-    assert!(rt; table.get(2, 1).is_some());
-    Ok(())
-}
-
-#[test]
-fn companions(rt: HostRuntime) -> Result<(), Fail> {
-    let sources = read_text(rt.alloc(), SOURCES.as_bytes())?;
-    let queries = read_text(rt.alloc(), QUERIES.as_bytes())?;
-    let others = read_text(rt.alloc(), POINTS.as_bytes())?;
-    match (sources.view(), queries.view(), others.view()) {
-        (View::Ss { items }, View::P2p { items: pairs }, View::Co { points }) => {
-            assert_eq!(rt; items, [5, 2, 5].as_slice());
-            assert_eq!(rt; pairs, [(9, 1), (1, 9)].as_slice());
-            assert_eq!(rt; points.len(), 2);
-            assert_eq!(rt; points.get(&1), Some(&(5, -6)));
-            assert_eq!(rt; points.get(&3), Some(&(-73530767, 41085396)));
-        }
-        _ => panic!(rt; "no companions"),
     }
     Ok(())
 }
@@ -436,20 +362,6 @@ fn a_copy_is_added(rt: HostRuntime) -> Result<(), Fail> {
 }
 
 #[test]
-fn a_long_comment(rt: HostRuntime) -> Result<(), Fail> {
-    let block = [b'1'; 1000];
-    let mut reader = Reader::new(rt.alloc());
-    assert_eq!(rt; reader.feed(b"c"), Ok(()));
-    for _ in 0..1000 {
-        assert_eq!(rt; reader.feed(&block), Ok(()));
-    }
-    assert_eq!(rt; reader.feed(b"\n"), Ok(()));
-    assert_eq!(rt; reader.feed(LENGTHS.as_bytes()), Ok(()));
-    assert_eq!(rt; reader.finish()?.lines(), 7);
-    Ok(())
-}
-
-#[test]
 fn names(rt: HostRuntime) {
     let fault = Refusal::Text {
         place: Place::End,
@@ -464,39 +376,45 @@ fn names(rt: HostRuntime) {
         (Refusal::CountTooLarge, 34, "CountTooLarge"),
     ];
     for (refusal, number, name) in table {
-        assert_eq!(rt; refusal.number(), number, "{name}");
-        assert_eq!(rt; refusal.name(), name);
+        assert!(rt;
+            refusal.number() == number && refusal.name() == name,
+            "{name}"
+        );
     }
 }
 
 // Texts, and the entries of a reader after each of their lines.
-const ENTRIES: [(&str, &[u64]); 5] = [
+const ENTRIES: [(&str, &[u64]); 6] = [
     (LENGTHS, &[0, 1, 1, 2, 2, 3, 4, 5]),
     (CAPACITIES, &[0, 0, 0, 0, 1, 2, 2]),
     (COSTS, &[0, 2, 3, 4]),
     (OTHER_COSTS, &[0, 1, 2, 3, 4, 4, 4, 4]),
     (QUERIES, &[0, 1, 2]),
+    ("p sp 2 2\na 1 2 1\nz\na 2 1 1\n", &[0, 1, 1]),
 ];
+
+// The entries of a reader after each line of a text up to its first fault.
+fn entries_of(alloc: Global, text: &str) -> Result<Vec<u64>, AllocError> {
+    let mut reader = Reader::new(alloc);
+    let mut all = Vec::new(alloc);
+    for byte in text.as_bytes() {
+        let is_refused = reader.feed(&[*byte]).is_err();
+        if is_refused || *byte == b'\n' {
+            all.push(reader.entries())?;
+        }
+        if is_refused {
+            break;
+        }
+    }
+    Ok(all)
+}
 
 #[test]
 fn entries_line_by_line(rt: HostRuntime) -> Result<(), Fail> {
     for (text, entries) in ENTRIES {
-        let mut reader = Reader::new(rt.alloc());
-        assert_eq!(rt; reader.entries(), 0);
-        let mut left = entries.iter();
-        for byte in text.as_bytes() {
-            reader.feed(&[*byte])?;
-            if *byte == b'\n' {
-                assert_eq!(rt; Some(&reader.entries()), left.next(), "{text}");
-            }
-        }
-        assert_eq!(rt; left.next(), None, "{text}");
-        let last = reader.entries();
-        assert_eq!(rt; reader.finish()?.entries(), last, "{text}");
+        let told = entries_of(rt.alloc(), text)?;
+        assert_eq!(rt; told.as_slice(), entries, "{text}");
     }
-    let mut refused = Reader::new(rt.alloc());
-    assert!(rt; refused.feed(b"p sp 2 2\na 1 2 1\nz\na 2 1 1\n").is_err());
-    assert_eq!(rt; refused.entries(), 1);
     Ok(())
 }
 
@@ -531,21 +449,18 @@ fn companions_of_a_graph(rt: HostRuntime) -> Result<(), Fail> {
     let other = read_text(rt.alloc(), CAPACITIES.as_bytes())?;
     for (text, answer) in COMPANIONS {
         let companion = read_text(rt.alloc(), text.as_bytes())?;
-        assert_eq!(rt; check_companion(&graph, &companion), answer, "{text}");
-        assert_eq!(rt;
+        let told = [
+            check_companion(&graph, &companion),
             check_companion(&other, &companion),
-            Err(CompanionFault::NotKinds),
-            "{text}"
-        );
+        ];
+        assert!(rt; told == [answer, Err(CompanionFault::NotKinds)], "{text}");
     }
-    let above = CompanionFault::NotInGraph { id: 9 };
-    assert_eq!(rt; (above.number(), above.name()), (35, "NotInGraph"));
-    assert_eq!(rt;
-        (
-            CompanionFault::NotKinds.number(),
-            CompanionFault::NotKinds.name()
-        ),
-        (36, "NotKinds")
-    );
+    let faults = [
+        (CompanionFault::NotInGraph { id: 9 }, 35, "NotInGraph"),
+        (CompanionFault::NotKinds, 36, "NotKinds"),
+    ];
+    for (fault, number, name) in faults {
+        assert!(rt; fault.number() == number && fault.name() == name, "{name}");
+    }
     Ok(())
 }

@@ -9,6 +9,8 @@ mod canons;
 #[cfg(test)]
 mod differences;
 #[cfg(test)]
+mod indexes;
+#[cfg(test)]
 mod instances;
 #[cfg(test)]
 mod lines;

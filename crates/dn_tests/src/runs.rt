@@ -1,5 +1,5 @@
 // Runs over texts in memory.
-ghost use Rattle.std.specs.Prelude.{Some};
+ghost use Rattle.std.specs.Prelude.{◌≡◌, Some};
 
 use crate::stand_ins::{NoFlush, Pieces};
 use dn_run::{Files, FilesFault, run};
@@ -34,9 +34,12 @@ impl<'a> Files for OneText<'a> {
 
     ghost behind = { λ s _. Some s.text.now };
 
-    ghost fault = { λ s. s.fault };
+    ghost fault = { λ s _. s.fault };
+
+    ghost Asks = { λ old _ new. new.text ≡ old.text };
 
     fn take(&mut self, name: &str) -> Result<Pieces<'a>, FilesFault> {
+        self.fault = None;
         if name != self.name {
             self.fault = Some(self.other);
             return Err(self.other);

@@ -48,9 +48,12 @@ impl<'a, R: fs::Files + Input> Files for HostFiles<'a, R> {
 
     ghost behind = { λ _ _. None };
 
-    ghost fault = { λ s. s.fault };
+    ghost fault = { λ s _. s.fault };
+
+    ghost Asks = { λ old _ new. new.host ≡ old.host };
 
     fn take(&mut self, name: &str) -> Result<FromRead<HostText<R::Reader, R::File>>, FilesFault> {
+        self.fault = None;
         if name == "-" {
             return Ok(FromRead::new(HostText::Input(self.host.reader())));
         }
@@ -62,14 +65,6 @@ impl<'a, R: fs::Files + Input> Files for HostFiles<'a, R> {
                 Err(fault)
             }
         }
-    }
-}
-
-// What an error of opening is told as.
-fn fault_of(error: &io::Error) -> FilesFault {
-    match error.kind() {
-        ErrorKind::OutOfMemory => FilesFault::Memory,
-        _ => FilesFault::Device,
     }
 }
 
@@ -87,6 +82,14 @@ pub fn run_on<R: Runtime + AllocGlobal, E: Sink>(host: &R, err: &mut E) -> u8
                 4
             }
         },
+    }
+}
+
+// What an error of opening is told as.
+fn fault_of(error: &io::Error) -> FilesFault {
+    match error.kind() {
+        ErrorKind::OutOfMemory => FilesFault::Memory,
+        _ => FilesFault::Device,
     }
 }
 

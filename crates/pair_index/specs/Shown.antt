@@ -14,7 +14,7 @@ abbrev pub HasPlaces : BTreeMap (ℤ × ℤ) ℕ → List (ℤ × ℤ) → Type 
 HasPlaces places keys = (pair : ℤ × ℤ) → IsPlace keys pair (get pair_cmp places pair)
 
 -- by the way of the index: the keys rise, the chains link them, or the map has their places
-unfoldable pub Shows : Way → Chains → BTreeMap (ℤ × ℤ) ℕ → List (ℤ × ℤ) → Type 0
-Shows Rising chains places keys = IsStrictlySortedBy pair_cmp keys
-Shows Chained chains places keys = IsChained chains keys
-Shows Ordered chains places keys = HasPlaces places keys
+unfoldable pub ShowsIndex : Way → Chains → BTreeMap (ℤ × ℤ) ℕ → List (ℤ × ℤ) → Type 0
+ShowsIndex Rising chains places keys = IsStrictlySortedBy pair_cmp keys
+ShowsIndex Chained chains places keys = IsChained chains keys
+ShowsIndex Ordered chains places keys = HasPlaces places keys

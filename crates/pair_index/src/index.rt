@@ -20,7 +20,7 @@ pub const AHEAD: usize = 16;
 
 // How entries are found. An index only goes on from one way to a later one.
 #[derive(Clone, Copy)]
-pub(crate) enum Way {
+enum Way {
     // By binary search, since the pairs rise.
     Rising,
     // By the chains of buckets.
@@ -32,9 +32,9 @@ pub(crate) enum Way {
 /// Where the entries of a list stand, by their ordered pairs. It holds no entries: each call is given the list.
 #[derive(Drop)]
 pub struct PairIndex {
-    pub(crate) way: Way,
+    way: Way,
     // Without buckets unless they are the way.
-    pub(crate) chains: Chains,
+    chains: Chains,
     // Empty unless it is the way.
     places: BTreeMap<(i64, i64), usize>,
 }
@@ -69,7 +69,7 @@ impl PairIndex {
     }
 
     /// Where the entry of a pair stands, if there is one. Takes no memory.
-    #[tactic(auto, unfolding(crate::specs::Shown::Shows))]
+    #[tactic(auto, unfolding(crate::specs::Shown::ShowsIndex))]
     pub fn find<X>(&self, entries: &[((i64, i64), X)], pair: &(i64, i64)) -> Option<usize>
         requires { Indexes self.now (keys_of entries.now) }
         ensures { IsPlace (keys_of entries.now) pair.now result }
@@ -86,8 +86,8 @@ impl PairIndex {
         }
     }
 
-    /// Whether looking up pairs together spares time: where each is found on its own way through memory. It decides only
-    /// the speed, and has no contract.
+    /// Whether looking up pairs together spares time: where each is found on its own way through memory. It decides
+    /// only the speed, and has no contract.
     pub fn is_scattered(&self) -> bool {
         matches!(self.way, Way::Chained)
     }
@@ -95,7 +95,7 @@ impl PairIndex {
     /// Where each of these pairs may stand: places to look at first, since finding them together takes less time than
     /// one after another. They are guesses, so it has no contract: whether the entry there is the pair's is to be seen.
     /// Takes no memory.
-    #[tactic(auto, unfolding(crate::specs::Shown::Shows))]
+    #[tactic(auto, unfolding(crate::specs::Shown::ShowsIndex))]
     pub fn likely_places<X>(
         &self,
         entries: &[((i64, i64), X)],
@@ -110,7 +110,7 @@ impl PairIndex {
     }
 
     /// Puts the entries in order by their pairs. Takes no memory.
-    #[tactic(auto, unfolding(crate::specs::Shown::Shows))]
+    #[tactic(auto, unfolding(crate::specs::Shown::ShowsIndex))]
     pub fn sort<X>(&self, entries: &mut [((i64, i64), X)])
         requires { Indexes self.now (keys_of entries.old) }
         ensures rising { IsStrictlySortedBy pair_cmp (keys_of entries.new) }
@@ -124,7 +124,7 @@ impl PairIndex {
 
     // Takes up a pair by chains so spread, or by a later way. On want of memory nothing has changed. Which way it
     // takes decides only the speed.
-    #[tactic(auto, unfolding(crate::specs::Shown::Shows))]
+    #[tactic(auto, unfolding(crate::specs::Shown::ShowsIndex))]
     fn rebuild<X>(
         &mut self,
         alloc: Global,
@@ -152,7 +152,7 @@ impl PairIndex {
 
     /// Takes up a pair that has no entry, and whose entry comes next. On want of memory, the one error, the index
     /// still tells of the entries without it.
-    #[tactic(auto, unfolding(crate::specs::Shown::Shows))]
+    #[tactic(auto, unfolding(crate::specs::Shown::ShowsIndex))]
     pub fn note<X>(
         &mut self,
         alloc: Global,

@@ -23,7 +23,7 @@ use Rattle.dn_bundle.specs.Laws.Parts.{by_test, test_yes, test_no}
 use Rattle.dn_bundle.specs.Laws.Forms.{form_one_ordered}
 use Rattle.dn_bundle.specs.Laws.FormOne.{same_fill, free_same}
 use Rattle.dn_bundle.specs.Laws.Adds.{above_none}
-use Rattle.dn_bundle.specs.Laws.StepArcs.{CostsAbove, free_arcs, put_steps, put_above}
+use Rattle.dn_bundle.specs.Laws.StepArcs.{CostsAbove, costs_lower, free_arcs, put_steps, put_above}
 use Rattle.dn_bundle.specs.Laws.Told.{told_one, told_apart, told_units, told_cost}
 use Rattle.dn_bundle.specs.Laws.Sound.{told_added}
 
@@ -139,10 +139,6 @@ has_put (step ∷ rest) more c =
 none_has : (c : ℤ) (steps : List (ℤ × ℤ)) → CostsAbove c steps → has_step steps c ≡ false
 none_has c [] h = refl
 none_has c (step ∷ rest) h = ap (λ b. b || has_step rest c) (eq_below c step.0 h.0) ∙ none_has c rest h.1
-
-costs_lower : (c d : ℤ) (steps : List (ℤ × ℤ)) → c <ℤ d → CostsAbove d steps → CostsAbove c steps
-costs_lower c d [] h a = tt
-costs_lower c d (step ∷ rest) h a = let lt = a.0 in (omega (arith, ints), costs_lower c d rest h a.1)
 
 -- one cost more, unless it was there
 length_put : (steps : List (ℤ × ℤ)) (more : ℤ × ℤ) → AreSteps steps → length (put_step steps more) ≡ cond (has_step steps more.0) (length steps) (suc (length steps))

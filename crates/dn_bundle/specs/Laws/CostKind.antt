@@ -1,9 +1,8 @@
 -- Proofs of the laws of `min` arcs as a kind, and that their meaning determines canonical ones in each form.
-use Rattle.std.specs.Prelude.{◌≡◌, ℤ, pos, ◌+ℤ◌, ◌≤ℤ◌, ◌<ℤ◌, List, [], ◌∷◌, ◌++◌, Option, Some, None, refl}
+use Rattle.std.specs.Prelude.{◌≡◌, ℤ, ◌+ℤ◌, ◌<ℤ◌, List, [], ◌∷◌, ◌++◌, Option, Some, None, refl}
 use Rattle.std.proofs.Common.{sym, ap, subst, arith, ◌∙◌}
 use Rattle.std.proofs.lemmas.Int.{ints, by_lt_z}
 use Rattle.std.specs.List.{AllByRecursion}
-use Rattle.std.specs.Int.Signed.{≤ℤ_refl}
 use Rattle.dn_bundle.specs.declared.arc.CostArc.{CostArc}
 use Rattle.dn_bundle.specs.declared.arc.Form.{Form}
 use Rattle.dn_bundle.specs.declared.arc.Form.TheVariants.{One, Two}
@@ -21,6 +20,7 @@ use Rattle.dn_bundle.specs.Laws.Forms.{form_one_arcs, form_two_arcs}
 use Rattle.dn_bundle.specs.Laws.FormTwo.{determination_of_forms}
 use Rattle.dn_bundle.specs.Laws.Differences.{cost_of_one, cost_of_same, curves_differ}
 use Rattle.dn_bundle.specs.Laws.Canons.{entries_same}
+use Rattle.dn_bundle.specs.Laws.Sound.{caps_some}
 
 abbrev all_numbers : Option CostArc → List ℤ
 all_numbers None = []
@@ -36,10 +36,6 @@ numbers_of (l ∷ c ∷ k ∷ n ∷ ns) a e = cc
 cap-append : (xs ys : List CostArc) → cost_cap (xs ++ ys) ≡ cost_cap xs +ℤ cost_cap ys
 cap-append [] ys = omega (arith, ints)
 cap-append (a ∷ xs) ys = let i = cap-append xs ys in omega (arith, ints)
-
-cap_some : (xs : List CostArc) → AllByRecursion IsCostArc xs → pos 0 ≤ℤ cost_cap xs
-cap_some [] h = ≤ℤ_refl _
-cap_some (a ∷ xs) h = let low = h.0.some in let high = h.0.room in let i = cap_some xs h.1 in omega (arith, ints)
 
 canon_arcs : (form : Form) (xs : List CostArc) → AreCanonCosts form xs → AllByRecursion IsCostArc xs
 canon_arcs One xs c = form_one_arcs xs c
@@ -98,7 +94,7 @@ cost_kind = record {
   arc_of_numbers = λ a. refl;
   numbers_of_arc = numbers_of;
   capacity_append = cap-append;
-  capacity_some = cap_some;
+  capacity_some = caps_some;
   canon_arcs = canon_arcs;
   none_canon = none_canon;
   nothing_told = λ form xs c s. determination_of_forms form xs [] c (none_canon form) s;

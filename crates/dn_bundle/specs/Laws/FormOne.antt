@@ -8,6 +8,7 @@ use Rattle.std.proofs.Math.IntN.{*ℤ_comm}
 use Rattle.dn_bundle.specs.declared.arc.CostArc.{CostArc}
 use Rattle.dn_bundle.specs.Splits.{LeastCost}
 use Rattle.dn_bundle.specs.Meanings.{SameCurve}
+use Rattle.dn_bundle.specs.Means.{IsFloor}
 use Rattle.dn_bundle.specs.Canonical.{IsFixedArc, IsFreeArc, IsFormOne}
 use Rattle.dn_bundle.specs.Fillings.{forced_units, forced_cost, room, free_room, fill_cost, IsFilling}
 use Rattle.dn_bundle.specs.Laws.Products.{mul_add, mul_suc, mul_mono}
@@ -158,13 +159,7 @@ free_same (a ∷ f) (b ∷ g) p q s =
     let s' : IsSameFree (a ∷ f) (a ∷ g) = subst (λ x. IsSameFree (a ∷ f) (x ∷ g)) (sym e) s in
     ap (λ l. a ∷ l) (free_same f g (rest_free a f p) (rest_free a g q') (same_rest a f g p q' s')) ∙ ap (λ x. x ∷ g) e
 
--- a cost per unit, and how many units cost one more
-pub record IsSpread (all units each rest : ℤ) : Type 0 where
-  pub whole : all ≡ (each *ℤ units) +ℤ rest
-  pub low : pos 0 ≤ℤ rest
-  pub high : rest <ℤ units
-
-not_cheaper : (all units c r d t : ℤ) → IsSpread all units c r → IsSpread all units d t → c <ℤ d → ⊥
+not_cheaper : (all units c r d t : ℤ) → IsFloor all units c r → IsFloor all units d t → c <ℤ d → ⊥
 not_cheaper all units c r d t p q h =
     let e = p.whole in
     let f = q.whole in
@@ -178,26 +173,26 @@ not_cheaper all units c r d t p q h =
     grows : (c u : ℤ) → (c +ℤ pos 1) *ℤ u ≡ (c *ℤ u) +ℤ u
     grows c u = *ℤ_comm (c +ℤ pos 1) u ∙ mul_suc u c ∙ ap (λ z. z +ℤ u) (*ℤ_comm u c)
 
-spread_each : (all units c r d t : ℤ) → IsSpread all units c r → IsSpread all units d t → c ≡ d
+spread_each : (all units c r d t : ℤ) → IsFloor all units c r → IsFloor all units d t → c ≡ d
 spread_each all units c r d t p q =
     by_lt_z c d (λ lt. absurd (not_cheaper all units c r d t p q lt)) (λ le.
     by_lt_z d c (λ lt. absurd (not_cheaper all units d t c r q p lt)) (λ ge. omega (arith, ints)))
 
-spread_rest : (all units c r d t : ℤ) → IsSpread all units c r → IsSpread all units d t → r ≡ t
+spread_rest : (all units c r d t : ℤ) → IsFloor all units c r → IsFloor all units d t → r ≡ t
 spread_rest all units c r d t p q =
     let e = ap (λ z. z *ℤ units) (spread_each all units c r d t p q) in
     let f = p.whole in
     let g = q.whole in
     omega (arith, ints)
 
-one_spread : (a : CostArc) → IsFixedArc a → IsSpread (forced_cost (a ∷ [])) (forced_units (a ∷ [])) a.cost (pos 0)
+one_spread : (a : CostArc) → IsFixedArc a → IsFloor (forced_cost (a ∷ [])) (forced_units (a ∷ [])) a.cost (pos 0)
 one_spread a f =
     let some = f.some in
     let m = mul_add a.cost a.low (pos 0) in
     let z : a.cost *ℤ pos 0 ≡ pos 0 = omega (arith, ints) in
     record { whole = omega (arith, ints); low = ≤ℤ_refl _; high = omega (arith, ints) }
 
-two_spread : (a b : CostArc) → IsFixedArc a → IsFixedArc b → b.cost ≡ a.cost +ℤ pos 1 → IsSpread (forced_cost (a ∷ b ∷ [])) (forced_units (a ∷ b ∷ [])) a.cost b.low
+two_spread : (a b : CostArc) → IsFixedArc a → IsFixedArc b → b.cost ≡ a.cost +ℤ pos 1 → IsFloor (forced_cost (a ∷ b ∷ [])) (forced_units (a ∷ b ∷ [])) a.cost b.low
 two_spread a b f g e =
     let some = f.some in
     let more = g.some in
@@ -222,23 +217,23 @@ fixed_same (a ∷ []) [] p q u c = let some = p.each.0.some in absurd (omega (ar
 fixed_same (a ∷ b ∷ []) [] p q u c = let some = p.each.0.some in let more = p.each.1.0.some in absurd (omega (arith, ints))
 fixed_same (a ∷ []) (b ∷ []) p q u c =
     let s = one_spread a p.each.0 in
-    let t : IsSpread (forced_cost (a ∷ [])) (forced_units (a ∷ [])) b.cost (pos 0) = rw (u, c) (one_spread b q.each.0) in
+    let t : IsFloor (forced_cost (a ∷ [])) (forced_units (a ∷ [])) b.cost (pos 0) = rw (u, c) (one_spread b q.each.0) in
     ap (λ x. x ∷ []) (arc_of a b p.each.0 q.each.0 (omega (arith, ints)) (spread_each _ _ _ _ _ _ s t))
 fixed_same (a ∷ []) (b ∷ d ∷ []) p q u c =
     let s = one_spread a p.each.0 in
-    let t : IsSpread (forced_cost (a ∷ [])) (forced_units (a ∷ [])) b.cost d.low = rw (u, c) (two_spread b d q.each.0 q.each.1.0 q.near) in
+    let t : IsFloor (forced_cost (a ∷ [])) (forced_units (a ∷ [])) b.cost d.low = rw (u, c) (two_spread b d q.each.0 q.each.1.0 q.near) in
     let e = spread_rest _ _ _ _ _ _ s t in
     let more = q.each.1.0.some in
     absurd (omega (arith, ints))
 fixed_same (a ∷ b ∷ []) (d ∷ []) p q u c =
     let s = two_spread a b p.each.0 p.each.1.0 p.near in
-    let t : IsSpread (forced_cost (a ∷ b ∷ [])) (forced_units (a ∷ b ∷ [])) d.cost (pos 0) = rw (u, c) (one_spread d q.each.0) in
+    let t : IsFloor (forced_cost (a ∷ b ∷ [])) (forced_units (a ∷ b ∷ [])) d.cost (pos 0) = rw (u, c) (one_spread d q.each.0) in
     let e = spread_rest _ _ _ _ _ _ s t in
     let more = p.each.1.0.some in
     absurd (omega (arith, ints))
 fixed_same (a ∷ b ∷ []) (d ∷ e ∷ []) p q u c =
     let s = two_spread a b p.each.0 p.each.1.0 p.near in
-    let t : IsSpread (forced_cost (a ∷ b ∷ [])) (forced_units (a ∷ b ∷ [])) d.cost e.low = rw (u, c) (two_spread d e q.each.0 q.each.1.0 q.near) in
+    let t : IsFloor (forced_cost (a ∷ b ∷ [])) (forced_units (a ∷ b ∷ [])) d.cost e.low = rw (u, c) (two_spread d e q.each.0 q.each.1.0 q.near) in
     let each = spread_each _ _ _ _ _ _ s t in
     let rest = spread_rest _ _ _ _ _ _ s t in
     ap (λ x. x ∷ b ∷ []) (arc_of a d p.each.0 q.each.0 (omega (arith, ints)) each)

@@ -15,7 +15,7 @@ use Rattle.dn_bundle.specs.Meanings.{SameLength}
 use Rattle.dn_bundle.specs.Canonical.{AreCanonLengths}
 use Rattle.dn_bundle.specs.Differences.{LengthsDiffer}
 use Rattle.dn_bundle.specs.Entries.{length_entries}
-use Rattle.dn_bundle.specs.LeastTold.{length_told}
+use Rattle.dn_bundle.specs.Lengths.{length_told}
 use Rattle.dn_bundle.specs.Laws.Lengths.{length_meaning, lengths_determined, lengths_differ, length_of_one, length_of_same, first_length}
 
 any_arcs : (xs : List LengthArc) → AllByRecursion (λ (a : LengthArc). Unit {0}) xs

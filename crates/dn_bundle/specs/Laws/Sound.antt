@@ -60,7 +60,8 @@ join_fit : (xs ys : List CostArc) → CostsFit xs → CostsFit ys → CostsFit (
 join_fit [] ys f g = g
 join_fit (x ∷ xs) ys f g = joined_costs (FitsSigned w64) x (join_arcs xs ys) f.0 (join_fit xs ys f.1 g)
 
-caps_some : (arcs : List CostArc) → AllByRecursion IsCostArc arcs → pos 0 ≤ℤ cost_cap arcs
+-- capacities of arcs sum to 0 or more
+pub caps_some : (arcs : List CostArc) → AllByRecursion IsCostArc arcs → pos 0 ≤ℤ cost_cap arcs
 caps_some [] h = omega (arith, ints)
 caps_some (a ∷ rest) h = let low = h.0.some in let high = h.0.room in let i = caps_some rest h.1 in omega (arith, ints)
 

@@ -32,9 +32,10 @@ above_put c (step ∷ rest) more h a =
     (λ lt. (h, a))
     (λ le. by_test (CostsAbove c) step.0 more.0 (step ∷ put_step rest more) ((step.0, step.1 +ℤ more.1) ∷ rest) (λ lt. (a.0, above_put c rest more h a.1)) (λ ge. a))
 
-above_lower : (c d : ℤ) (steps : List (ℤ × ℤ)) → c <ℤ d → CostsAbove d steps → CostsAbove c steps
-above_lower c d [] h a = tt
-above_lower c d (step ∷ rest) h a = let lt = a.0 in (omega (arith, ints), above_lower c d rest h a.1)
+-- steps above a cost are above a lower one
+pub costs_lower : (c d : ℤ) (steps : List (ℤ × ℤ)) → c <ℤ d → CostsAbove d steps → CostsAbove c steps
+costs_lower c d [] h a = tt
+costs_lower c d (step ∷ rest) h a = let lt = a.0 in (omega (arith, ints), costs_lower c d rest h a.1)
 
 -- more capacity leaves steps
 pub put_steps : (steps : List (ℤ × ℤ)) (more : ℤ × ℤ) → pos 1 ≤ℤ more.1 → AreSteps steps → AreSteps (put_step steps more)
@@ -42,7 +43,7 @@ put_steps [] more h s = (h, tt, tt)
 put_steps (step ∷ rest) more h s =
     let some = s.0 in
     by_test AreSteps more.0 step.0 (more ∷ step ∷ rest) (cond (int_lt step.0 more.0) (step ∷ put_step rest more) ((step.0, step.1 +ℤ more.1) ∷ rest))
-    (λ lt. (h, (lt, above_lower more.0 step.0 rest lt s.1), s))
+    (λ lt. (h, (lt, costs_lower more.0 step.0 rest lt s.1), s))
     (λ le. by_test AreSteps step.0 more.0 (step ∷ put_step rest more) ((step.0, step.1 +ℤ more.1) ∷ rest)
     (λ lt. (s.0, above_put step.0 rest more lt s.1, put_steps rest more h s.2))
     (λ ge. (omega (arith, ints), s.1, s.2)))

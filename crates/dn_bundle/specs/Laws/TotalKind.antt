@@ -1,7 +1,6 @@
 -- Proofs of the laws of `max` arcs as a kind, that their meaning determines canonical ones, and that the arcs told of a
 -- total capacity are canonical, and of 64 bits if it is.
-use Rattle.std.specs.Prelude.{◌≡◌, ◌-◌, ◌^◌, ℤ, pos, ◌+ℤ◌, ◌≤ℤ◌, List, [], ◌∷◌, ◌++◌, Option, Some, None, cond, int_lt, refl, FitsSigned, negsuc}
-use Rattle.std.specs.Int.{w64}
+use Rattle.std.specs.Prelude.{◌≡◌, ◌-◌, ◌^◌, ℤ, pos, ◌+ℤ◌, ◌≤ℤ◌, List, [], ◌∷◌, ◌++◌, Option, Some, None, cond, int_lt, refl}
 use Rattle.std.proofs.Common.{ap, arith, sym, ◌∙◌}
 use Rattle.std.proofs.lemmas.Int.{ints}
 use Rattle.std.specs.List.{AllByRecursion}
@@ -11,11 +10,10 @@ use Rattle.dn_bundle.specs.declared.difference.How.{How}
 use Rattle.dn_bundle.specs.declared.difference.How.TheVariants.{Lengths, Totals, Costs}
 use Rattle.dn_bundle.specs.Kinds.{capacities}
 use Rattle.dn_bundle.specs.Bundles.{IsKind, IsDetermined, NumbersFit}
-use Rattle.dn_bundle.specs.Capacities.{total_cap}
+use Rattle.dn_bundle.specs.Capacities.{total_cap, cap_told}
 use Rattle.dn_bundle.specs.Meanings.{SameTotal}
 use Rattle.dn_bundle.specs.Canonical.{IsCapArc, AreCanonCaps}
 use Rattle.dn_bundle.specs.Differences.{TotalsDiffer}
-use Rattle.dn_bundle.specs.TotalTold.{cap_told}
 use Rattle.dn_bundle.specs.Laws.Totals.{total_meaning, totals_determined, totals_differ}
 use Rattle.dn_bundle.specs.Laws.Parts.{by_test}
 use Rattle.dn_bundle.specs.Laws.Means.{fits_some}

@@ -15,7 +15,7 @@ returns-in-Err-CountTooLarge c =
     let o = c.in-Ok.ensures in
     let k = too_large c.args.form o.0 c.in-Err-CountTooLarge.field-0 c.in-Err-CountTooLarge.field-0-is (c.in-Err-CountTooLarge.ensures o.0 (reads_valid c.args.text.now o.0 o.1) o.2) in
     let small : length c.args.text.now < 2 ^ 63 = search rules in
-    not_so_large c.args.form c.args.text.now o.0 o.1 k.0 k.1 k.2 small
+    not_so_large c.args.form c.args.text.now o.0 o.1 k small
 
 pub returns-in-Ok : goal.returns-in-Ok
 returns-in-Ok c = (let o = c.in-Ok.ensures in wants_memory c.args.text.now o.0 o.1)

@@ -1,7 +1,7 @@
 use Rattle.std.proofs.Common.{◌∙◌, FitsSigned, w64, rules, subst, to_z-of_z}
 use Rattle.dn_bundle.specs.CurveTold.{told}
-use Rattle.dn_bundle.specs.LeastTold.{length_told}
-use Rattle.dn_bundle.specs.TotalTold.{cap_told}
+use Rattle.dn_bundle.specs.Lengths.{length_told}
+use Rattle.dn_bundle.specs.Capacities.{cap_told}
 use Rattle.dn_bundle.specs.declared.arc.Form.{Form}
 use Rattle.dn_bundle.specs.declared.curve.Curve.{Curve}
 use Rattle.dn_bundle.specs.declared.least.Least.{Least}

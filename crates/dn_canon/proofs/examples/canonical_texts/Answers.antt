@@ -13,10 +13,12 @@ unfolding digits
 returns-clause-one c = (
   on_one_pair worked_one,
   record {
-    valid = worked_one_valid;
-    canonical = canonical_at One worked_one worked_form_one;
+    canon = record {
+      valid = worked_one_valid;
+      canonical = canonical_at One worked_one worked_form_one;
+      same = (refl, same_at worked worked_one (curve_meaning.same_sym worked_one worked worked_same_one));
+    };
     text_is = refl;
-    same = (refl, same_at worked worked_one (curve_meaning.same_sym worked_one worked worked_same_one));
   },
 )
 
@@ -25,9 +27,11 @@ unfolding digits
 returns-clause-two c = (
   on_one_pair worked_two,
   record {
-    valid = worked_two_valid;
-    canonical = canonical_at Two worked_two (search rules);
+    canon = record {
+      valid = worked_two_valid;
+      canonical = canonical_at Two worked_two (search rules);
+      same = (refl, same_at worked worked_two (curve_meaning.same_sym worked_two worked worked_same_two));
+    };
     text_is = refl;
-    same = (refl, same_at worked worked_two (curve_meaning.same_sym worked_two worked worked_same_two));
   },
 )

@@ -1,10 +1,10 @@
 use Rattle.std.proofs.Common.{map, drop, refl, sym, ap, ◌∙◌, ◌+◌, subst, arith, ℕ, List}
-use Rattle.dn_canon.specs.Prints.{arc_row}
+use Rattle.dn_canon.specs.Prints.{arc_row, text_of}
 use Rattle.dn_sink.specs.Puts.{HasPut}
 use Rattle.dn_canon.specs.ToldArcs.{placed}
-use Rattle.dn_canon.specs.Writes.{text_of}
 use Rattle.dn_sink.proofs.PutLaws.{put_from, stopped}
-use Rattle.dn_canon.proofs.PutLaws.{row_more, row_stop, drop_get, some_below, arc_text}
+use Rattle.dn_canon.proofs.LineLaws.{drop_get}
+use Rattle.dn_canon.proofs.PutLaws.{row_more, row_stop, some_below, arc_text}
 use Rattle.dn_canon.proofs.writer.put_bundle.Goals as goal
 use Rattle.dn_canon.proofs.writer.put_bundle.Goals.{in-Some+in_ok-put, in_default}
 

@@ -1,8 +1,7 @@
 use Rattle.std.proofs.Common.{◌≡◌, map, drop, slice_get}
-use Rattle.dn_canon.specs.Prints.{arc_row}
+use Rattle.dn_canon.specs.Prints.{arc_row, text_of}
 use Rattle.dn_sink.specs.Puts.{HasPut}
 use Rattle.dn_canon.specs.ToldArcs.{placed}
-use Rattle.dn_canon.specs.Writes.{text_of}
 use Rattle.dn_canon.proofs.writer.put_bundle.Given as goal
 
 abbrev pub invariant-loop : goal.invariant-loop

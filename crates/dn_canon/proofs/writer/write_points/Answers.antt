@@ -1,8 +1,7 @@
 use Rattle.std.proofs.Common.{[], ℤ, List, map, length, subst}
-use Rattle.dn_canon.specs.Prints.{point_row, print}
+use Rattle.dn_canon.specs.Prints.{point_row, print, text_of}
 use Rattle.dn_line.specs.declared.kind.Kind.TheVariants.{Co}
 use Rattle.dn_sink.specs.Puts.{HasPut}
-use Rattle.dn_canon.specs.Writes.{text_of}
 use Rattle.dn_instance.specs.Instances.{Coordinates}
 use Rattle.dn_sink.proofs.PutLaws.{put_from, put_stop, put_last, stopped}
 use Rattle.dn_canon.proofs.PutLaws.{row_more, row_stop, companion_text}

@@ -1,4 +1,4 @@
-use Rattle.std.proofs.Common.{◌++◌, length-append, arith}
+use Rattle.std.proofs.Common.{◌≡◌, ◌≤◌, ◌++◌, length, Err, ap, subst, length-append, arith, rules}
 use Rattle.std.proofs.KnownBytes.{Consumes-trans}
 use Rattle.dn_instance.proofs.SourceLaws.{given_at_end, ended_given, refused_by, endless_given, has_none, has_some, not_refused}
 use Rattle.dn_instance.proofs.read.read_from.Goals as goal
@@ -7,14 +7,16 @@ pub returns-then-is_empty-clause-outcome : goal.returns-then-is_empty-clause-out
 returns-then-is_empty-clause-outcome g c =
     let piece = c.in_ok-piece.piece.now in
     let none = has_none piece _ c.is_empty.ensures c.if-is_empty.true in
-    ended_given _ _ c.loop.invariant.given.0 c.finish.result (given_at_end _ _ _ c.loop.invariant.given.0 piece none c.loop.invariant.given.1 c.in_ok-piece.ensures.bytes) (c.in_ok-piece.ensures.end none)
-    (c.finish.ensures.outcome c.loop.invariant.given.0 c.loop.invariant.given.2)
+    ended_given _ _ c.loop.invariant.given.0 c.loop.reader c.finish.result (given_at_end _ _ _ c.loop.invariant.given.0 piece none c.loop.invariant.given.1 c.in_ok-piece.ensures.bytes) (c.in_ok-piece.ensures.end none) c.loop.invariant.given.2 c.loop.invariant.fine
+    (c.finish.ensures.memory c.loop.invariant.given.0 c.loop.invariant.given.2 c.loop.invariant.fine) (c.finish.ensures.outcome c.loop.invariant.given.0 c.loop.invariant.given.2)
 
 pub returns-in_err-feed-clause-outcome : goal.returns-in_err-feed-clause-outcome
 returns-in_err-feed-clause-outcome g c =
     let t = c.loop.invariant.given.0 in
     let piece = c.in_ok-piece.piece.now in
-    refused_by _ _ _ (t ++ piece) c.in_err-feed.field-0.0 (Consumes-trans _ _ _ t piece c.loop.invariant.given.1 c.in_ok-piece.ensures.bytes) (c.in_err-feed.ensures.told t c.loop.invariant.given.2) c.from_residual-in_err-feed.ensures
+    let room : length c.loop.room ≡ 65536 = search rules in
+    refused_by _ _ _ _ t piece c.loop.reader c.in_err-feed.field-0.0 c.loop.invariant.given.1 c.in_ok-piece.ensures.bytes (subst (λ n. length piece ≤ n) room c.in_ok-piece.ensures.bound) c.loop.invariant.given.2 c.loop.invariant.fine (c.in_err-feed.ensures.told t c.loop.invariant.given.2)
+    (λ memory. (c.in_err-feed.ensures.memory t c.loop.invariant.given.2 c.loop.invariant.fine (ap (λ x. Err x) memory)).0) c.from_residual-in_err-feed.ensures
 
 pub loop-preserved : goal.loop-preserved
 loop-preserved g c =

@@ -1,4 +1,4 @@
-use Rattle.std.proofs.Common.{◌++◌, ◌∙◌, Err, ap, append_assoc, length-append, arith}
+use Rattle.std.proofs.Common.{◌≡◌, ◌≤◌, ◌++◌, length, ◌∙◌, Err, ap, subst, rules, append_assoc, length-append, arith}
 use Rattle.std.proofs.KnownBytes.{Consumes-trans}
 use Rattle.dn_instance.specs.declared.refusal.Refusal.TheVariants.{Endless}
 use Rattle.dn_instance.proofs.SourceLaws.{given_at_end, ended_given, refused_by, endless_given, has_none, has_some, not_refused, copied, uncopied, failed_copy}
@@ -7,32 +7,35 @@ use Rattle.dn_instance.proofs.read.read_keep.Goals as goal
 pub returns-then-is_empty-clause-outcome : goal.returns-then-is_empty-clause-outcome
 returns-then-is_empty-clause-outcome g c =
     let t = c.loop.invariant.given.0 in
-    let piece = c.in_ok-piece.piece.now in
+    let piece = c.in_ok-bytes.bytes.now in
     let none = has_none piece _ c.is_empty.ensures c.if-is_empty.true in
-    let all = given_at_end _ _ _ t piece none c.loop.invariant.given.1 c.in_ok-piece.ensures.bytes in
-    copied _ _ t _ _ c.finish.result all c.loop.invariant.given.4 (ended_given _ _ t c.finish.result all (c.in_ok-piece.ensures.end none) (c.finish.ensures.outcome t c.loop.invariant.given.2))
+    let all = given_at_end _ _ _ t piece none c.loop.invariant.given.1 c.in_ok-bytes.ensures.bytes in
+    copied _ _ t _ _ c.finish.result all c.loop.invariant.given.4 (ended_given _ _ t c.loop.reader c.finish.result all (c.in_ok-bytes.ensures.end none) c.loop.invariant.given.2 c.loop.invariant.fine
+    (c.finish.ensures.memory t c.loop.invariant.given.2 c.loop.invariant.fine) (c.finish.ensures.outcome t c.loop.invariant.given.2))
 
 pub returns-in_err-keep_piece-clause-outcome : goal.returns-in_err-keep_piece-clause-outcome
 returns-in_err-keep_piece-clause-outcome g c =
-    uncopied _ _ _ _ c.loop.invariant.given.0 c.in_ok-piece.piece.now _ _ c.in_err-keep_piece.field-0.0 c.loop.reader c.loop.invariant.given.1 c.in_ok-piece.ensures.bytes
-    (has_some c.in_ok-piece.piece.now _ c.is_empty.ensures c.if-is_empty.false) (c.in_err-keep_piece.ensures.err ∙ c.loop.invariant.given.4) c.loop.invariant.given.2 c.loop.invariant.fine c.in_err-keep_piece.ensures.memory c.from_residual-in_err-keep_piece.ensures
+    uncopied _ _ _ _ c.loop.invariant.given.0 c.in_ok-bytes.bytes.now _ _ c.in_err-keep_piece.field-0.0 c.loop.reader c.loop.invariant.given.1 c.in_ok-bytes.ensures.bytes
+    (has_some c.in_ok-bytes.bytes.now _ c.is_empty.ensures c.if-is_empty.false) (c.in_err-keep_piece.ensures.err ∙ c.loop.invariant.given.4) c.loop.invariant.given.2 c.loop.invariant.fine c.in_err-keep_piece.ensures.memory c.from_residual-in_err-keep_piece.ensures
 
 pub returns-in_err-feed-clause-outcome : goal.returns-in_err-feed-clause-outcome
 returns-in_err-feed-clause-outcome g c =
     let t = c.loop.invariant.given.0 in
-    let piece = c.in_ok-piece.piece.now in
-    let more = Consumes-trans _ _ _ t piece c.loop.invariant.given.1 c.in_ok-piece.ensures.bytes in
+    let piece = c.in_ok-bytes.bytes.now in
+    let more = Consumes-trans _ _ _ t piece c.loop.invariant.given.1 c.in_ok-bytes.ensures.bytes in
+    let room : length c.loop.room ≡ 65536 = search rules in
     copied _ _ (t ++ piece) _ _ _ more (c.in_ok-keep_piece.ensures.ok ∙ ap (λ l. l ++ piece) c.loop.invariant.given.4 ∙ append_assoc _ t piece)
-    (refused_by _ _ _ (t ++ piece) c.in_err-feed.field-0.0 more (c.in_err-feed.ensures.told t c.loop.invariant.given.2) c.from_residual-in_err-feed.ensures)
+    (refused_by _ _ _ _ t piece c.loop.reader c.in_err-feed.field-0.0 c.loop.invariant.given.1 c.in_ok-bytes.ensures.bytes (subst (λ n. length piece ≤ n) room c.in_ok-bytes.ensures.bound) c.loop.invariant.given.2 c.loop.invariant.fine (c.in_err-feed.ensures.told t c.loop.invariant.given.2)
+    (λ memory. (c.in_err-feed.ensures.memory t c.loop.invariant.given.2 c.loop.invariant.fine (ap (λ x. Err x) memory)).0) c.from_residual-in_err-feed.ensures)
 
 pub loop-preserved : goal.loop-preserved
 loop-preserved g c =
     let t = c.loop.invariant.given.0 in
-    let piece = c.in_ok-piece.piece.now in
+    let piece = c.in_ok-bytes.bytes.now in
     record {
       given = (
         t ++ piece,
-        Consumes-trans _ _ _ t piece c.loop.invariant.given.1 c.in_ok-piece.ensures.bytes,
+        Consumes-trans _ _ _ t piece c.loop.invariant.given.1 c.in_ok-bytes.ensures.bytes,
         c.in_ok-feed.ensures.stands t c.loop.invariant.given.2,
         (
             let all = length-append t piece in
@@ -52,7 +55,7 @@ returns-clause-outcome g c =
     copied _ _ t _ _ (Err Endless) c.loop.invariant.given.1 c.loop.invariant.given.4
     (endless_given _ _ t c.loop.reader c.loop.counter c.loop.invariant.given.1 c.loop.invariant.given.2 c.loop.invariant.fine c.loop.invariant.given.3 (let over = c.loop-test.false in omega arith))
 
-pub returns-in_err-piece-clause-outcome : goal.returns-in_err-piece-clause-outcome
-returns-in_err-piece-clause-outcome g c =
-    failed_copy _ _ _ _ c.loop.invariant.given.0 _ _ c.in_err-piece.field-0.0 c.loop.reader c.loop.invariant.given.1 c.in_err-piece.ensures.unread
-    c.loop.invariant.given.4 c.loop.invariant.given.2 c.loop.invariant.fine c.in_err-piece.ensures.refusal c.from_residual.ensures
+pub returns-in_err-bytes-clause-outcome : goal.returns-in_err-bytes-clause-outcome
+returns-in_err-bytes-clause-outcome g c =
+    failed_copy _ _ _ _ c.loop.invariant.given.0 _ _ c.in_err-bytes.field-0.0 c.loop.reader c.loop.invariant.given.1 c.in_err-bytes.ensures.unread
+    c.loop.invariant.given.4 c.loop.invariant.given.2 c.loop.invariant.fine c.in_err-bytes.ensures.refusal c.from_residual.ensures

@@ -1,6 +1,7 @@
 use Rattle.std.proofs.Common.{◌≡◌, ◌≤◌, ℕ, List, ◌++◌, length, IsTrue, None}
 use Rattle.std.specs.Io.KnownBytes.{Consumes}
-use Rattle.dn_instance.specs.Readers.{StandsFor, refusal_of}
+use Rattle.dn_instance.specs.Readers.{refusal_of}
+use Rattle.dn_instance.specs.ReaderStates.{ReaderAt}
 use Rattle.dn_instance.proofs.read.read_keep.Given as goal
 
 abbrev pub invariant-loop : goal.invariant-loop
@@ -8,7 +9,7 @@ invariant-loop g l =
     let gives = g.S.Source.gives in
     let has_failed = g.S.Source.has_failed in
     record {
-      given : (t : List ℕ) × Consumes (gives l.fn.source) (gives l.source) t × StandsFor l.reader t × (l.counter ≤ length t) × (l.text.items ≡ l.fn.text.items ++ t);
+      given : (t : List ℕ) × Consumes (gives l.fn.source) (gives l.source) t × ReaderAt l.reader t × (l.counter ≤ length t) × (l.text.items ≡ l.fn.text.items ++ t);
       fine : refusal_of l.reader ≡ None;
       stays : IsTrue (has_failed l.fn.source) → IsTrue (has_failed l.source);
     }

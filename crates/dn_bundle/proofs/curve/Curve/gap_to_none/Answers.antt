@@ -1,7 +1,7 @@
 use Rattle.std.proofs.Common.{rules, [], pos, sym, ap, ◌∙◌, subst, to_z, of_z, w64}
 use Rattle.std.proofs.lemmas.Int.{to_z-of_z}
 use Rattle.std.specs.Int.RustNames.{FitsSigned}
-use Rattle.dn_bundle.proofs.WideLaws.{widened}
+use Rattle.dn_bundle.proofs.Cost128Laws.{widened}
 use Rattle.dn_bundle.proofs.PartLaws.{forced_gap, no_gap, free_gap, Parts}
 use Rattle.dn_bundle.proofs.curve.Curve.gap_to_none.Goals as goal
 

@@ -1,4 +1,4 @@
-use Rattle.dn_bundle.proofs.BundleLaws.{length_nothing}
+use Rattle.dn_bundle.proofs.LeastLaws.{length_nothing}
 use Rattle.dn_bundle.proofs.least.LeastBundle.is_nothing.Goals as goal
 
 pub returns : goal.returns

@@ -3,8 +3,8 @@ use Rattle.std.specs.Int.{saturate_signed}
 use Rattle.dn_line.specs.Faults.{first_fault}
 use Rattle.dn_instance.specs.Items.{counted}
 use Rattle.dn_instance.specs.TextFaults.{item_tests}
-use Rattle.dn_instance.specs.Drafts.{Holds}
-use Rattle.dn_instance.specs.ItemFaults.{Answers}
+use Rattle.dn_instance.specs.Drafts.{DraftHolds}
+use Rattle.dn_instance.specs.ItemFaults.{AnswersFault}
 use Rattle.dn_instance.proofs.ProgressLaws.{counted_yes, counted_no, next_few, next_fits, sum_is, has_room, is_then}
 use Rattle.dn_instance.proofs.progress.Progress.take.Goals as goal
 
@@ -18,19 +18,19 @@ returns-then-is_counted-clause-stands c kind signs before at room =
     let k = counted before in
     let sum : c.saturating_add-self.result ≡ pos (suc k) = c.saturating_add-self.ensures ∙ ap (λ z. saturate_signed w64 (z +ℤ pos 1)) (to_z-of_z f ∙ at.counted_is) ∙ sum_is k c.args.self.now.count at.count_fits below in
     let n : to_z w64 (of_z w64 c.saturating_add-self.result) ≡ pos (counted (before ++ c.args.item ∷ [])) = ap (λ z. to_z w64 (of_z w64 z)) sum ∙ to_z-of_z (next_fits k c.args.self.now.count at.count_fits below) ∙ ap pos (sym next) in
-    is_then c.args.self.now c.take.new.self before c.args.item at c.take.ensures.kept kind _ n (subst (λ x. x < 2 ^ 63) (sym next) (next_few k c.args.self.now.count at.count_fits below)) (subst (λ r. OnOk r (Holds c.take.new.self (before ++ c.args.item ∷ []))) c.in-Ok.is (c.take.ensures.stands signs before at.holds))
+    is_then c.args.self.now c.take.new.self before c.args.item at c.take.ensures.kept kind _ n (subst (λ x. x < 2 ^ 63) (sym next) (next_few k c.args.self.now.count at.count_fits below)) (subst (λ r. OnOk r (DraftHolds c.take.new.self (before ++ c.args.item ∷ []))) c.in-Ok.is (c.take.ensures.stands signs before at.holds))
 
 -- src/progress.rt:52:5
 pub returns-else-is_counted-clause-stands : goal.returns-else-is_counted-clause-stands
 returns-else-is_counted-clause-stands c kind signs before at room =
     let n = sym c.is_counted.ensures ∙ c.if-is_counted.false in
-    is_then c.args.self.now c.take.new.self before c.args.item at c.take.ensures.kept kind _ (at.counted_is ∙ ap pos (sym (counted_no before c.args.item n))) (subst (λ x. x < 2 ^ 63) (sym (counted_no before c.args.item n)) at.counted_few) (subst (λ r. OnOk r (Holds c.take.new.self (before ++ c.args.item ∷ []))) c.in-Ok.is (c.take.ensures.stands signs before at.holds))
+    is_then c.args.self.now c.take.new.self before c.args.item at c.take.ensures.kept kind _ (at.counted_is ∙ ap pos (sym (counted_no before c.args.item n))) (subst (λ x. x < 2 ^ 63) (sym (counted_no before c.args.item n)) at.counted_few) (subst (λ r. OnOk r (DraftHolds c.take.new.self (before ++ c.args.item ∷ []))) c.in-Ok.is (c.take.ensures.stands signs before at.holds))
 
 -- src/progress.rt:52:5
 pub returns-in-Err-clause-answer : goal.returns-in-Err-clause-answer
-returns-in-Err-clause-answer c kind signs before at = subst (λ r. Answers r (first_fault (item_tests before (Some c.args.item)))) c.in-Err.is (c.take.ensures.answer kind signs before _ at.problem_is refl refl at.holds)
+returns-in-Err-clause-answer c kind signs before at = subst (λ r. AnswersFault r (first_fault (item_tests before (Some c.args.item)))) c.in-Err.is (c.take.ensures.answer kind signs before _ at.problem_is refl refl at.holds)
 
 -- src/progress.rt:79:5
 pub returns-then-is_counted-clause-answer : goal.returns-then-is_counted-clause-answer
 returns-then-is_counted-clause-answer c kind signs before at =
-    subst (λ r. Answers r (first_fault (item_tests before (Some c.args.item)))) c.in-Ok.is (c.take.ensures.answer kind signs before _ at.problem_is refl refl at.holds)
+    subst (λ r. AnswersFault r (first_fault (item_tests before (Some c.args.item)))) c.in-Ok.is (c.take.ensures.answer kind signs before _ at.problem_is refl refl at.holds)

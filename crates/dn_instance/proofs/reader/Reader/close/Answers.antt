@@ -1,5 +1,5 @@
 use Rattle.std.proofs.Common.{[], ◌∷◌, ◌++◌, length, refl, sym, subst}
-use Rattle.dn_instance.specs.Readers.{IsAfter, IsRefused}
+use Rattle.dn_instance.specs.Readers.{IsNext, IsRefused}
 use Rattle.dn_instance.proofs.ReaderLaws.{next_after, refused_next}
 use Rattle.dn_instance.proofs.reader.Reader.close.Goals as goal
 
@@ -14,6 +14,7 @@ returns-in-Err-clause-taken c ls l h stands =
         rest = l.bytes ∷ [];
         whole = refl;
         read = c.in-Err.ensures.unchanged ls h;
-        next = subst (IsAfter ls) (sym c.refused_at-refusal.ensures) (next_after ls c.next_number-number.result c.in-Err.fault number);
+        next = subst (IsNext (length ls) all) (sym c.refused_at-refusal.ensures) (next_after ls l.bytes c.next_number-number.result c.in-Err.fault h.clean number (c.in-Err.ensures.answer ls l h stands));
       },
+      (c.in-Err.ensures.unchanged ls h).number_is,
     )

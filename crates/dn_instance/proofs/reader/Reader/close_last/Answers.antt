@@ -1,6 +1,6 @@
 use Rattle.std.proofs.Common.{sym, ◌∙◌, subst}
 use Rattle.dn_instance.specs.Readers.{ended}
-use Rattle.dn_instance.specs.TextsSoFar.{HasRead}
+use Rattle.dn_instance.specs.TextsSoFar.{TextAt}
 use Rattle.dn_instance.proofs.ReaderLaws.{takes_last}
 use Rattle.dn_instance.proofs.PieceSteps.{with_last, none_open, without_last}
 use Rattle.dn_instance.proofs.reader.Reader.close_last.Goals as goal
@@ -13,4 +13,4 @@ returns-then-pending c t h =
 pub returns-else-pending : goal.returns-else-pending
 returns-else-pending c t h =
     let l = h.line.line in
-    subst (HasRead c.args.self.now.text) (sym (without_last t (none_open t l h.line.open_is (sym c.if-pending.false ∙ c.pending.ensures l h.line.stands)))) h.read
+    subst (TextAt c.args.self.now.text) (sym (without_last t (none_open t l h.line.open_is (sym c.if-pending.false ∙ c.pending.ensures l h.line.stands)))) h.read

@@ -1,7 +1,8 @@
-use Rattle.std.proofs.Common.{◌≡◌, append-nil, [], Some, ℕ, ◌+◌, List, ◌++◌, length, take, sym, ◌∙◌, subst, ap, arith}
+use Rattle.std.proofs.Common.{◌≡◌, append-nil, [], Some, ℕ, ◌+◌, ◌≤◌, List, ◌++◌, length, take, sym, ◌∙◌, subst, ap, arith}
 use Rattle.std.proofs.lemmas.List.{take_all}
 use Rattle.dn_line.specs.LineStates.{used_of}
-use Rattle.dn_instance.specs.Readers.{IsRefused, StopsIn, IsReading, ended}
+use Rattle.dn_instance.specs.Readers.{IsRefused, ended, lines_taken}
+use Rattle.dn_instance.specs.ReaderStates.{StopsIn, IsReading}
 use Rattle.dn_instance.specs.Texts.{IsClean}
 use Rattle.dn_instance.specs.declared.refusal.Refusal.{Refusal}
 use Rattle.dn_instance.specs.declared.refusal.Refusal.TheVariants.{Memory}
@@ -20,7 +21,7 @@ returns-in-Some-clause-told c t h =
 
 -- the line that was refused, after those of the text so far
 refused_within : (c : goal.In-Err) (t : List ℕ) (reads : IsReading c.loop-at.self (t ++ take c.loop-at.at c.args.piece.now))
-    → (let u = t ++ c.args.piece.now in (c.advance.new.self.refusal ≡ Some c.in-Err.refusal) × IsRefused (length (ended t)) (ended u) c.in-Err.refusal × StopsIn c.advance.new.self (ended u) c.in-Err.refusal)
+    → (let u = t ++ c.args.piece.now in (c.advance.new.self.refusal ≡ Some c.in-Err.refusal) × IsRefused (length (ended t)) (ended u) c.in-Err.refusal × StopsIn c.advance.new.self (ended u) c.in-Err.refusal × (length (ended t) ≤ lines_taken c.advance.new.self))
 refused_within c t reads =
     let p = c.args.piece.now in
     let i = c.loop-at.at in
@@ -31,6 +32,7 @@ refused_within c t reads =
       a.0,
       refused_on (length (ended u)) (length (ended t)) (ended (u ++ take n (rest_of p i))) (ended (t ++ p)) e (more_count (ended t) (ended u) (ended_more t (take i p))) (more_from t p i n) a.1,
       stops_on c.advance.new.self (ended (u ++ take n (rest_of p i))) (ended (t ++ p)) e (more_from t p i n) a.2,
+      (let more = more_count (ended t) (ended u) (ended_more t (take i p)) in let all = a.3 in omega arith),
     )
 
 refused_at_all : (before : ℕ) (ls : List (List ℕ)) (e : Refusal) → IsRefused before ls e → IsRefused 0 ls e
@@ -51,7 +53,7 @@ pub returns-in-Err-clause-memory : goal.returns-in-Err-clause-memory
 returns-in-Err-clause-memory c t h none is =
     let r = refused_within c t (c.loop-at.invariant.reads t h) in
     let e : c.in-Err.refusal ≡ Memory = cc in
-    subst (IsRefused (length (ended t)) (ended (t ++ c.args.piece.now))) e r.1
+    (subst (IsRefused (length (ended t)) (ended (t ++ c.args.piece.now))) e r.1, r.3)
 
 pub loop-at-preserved : goal.loop-at-preserved
 loop-at-preserved c = record {

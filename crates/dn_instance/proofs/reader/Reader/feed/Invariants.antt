@@ -1,5 +1,6 @@
 use Rattle.std.proofs.Common.{◌≡◌, ◌≤◌, ℕ, List, ◌++◌, length, take, ◌-◌, None}
-use Rattle.dn_instance.specs.Readers.{StandsFor, IsReading, refusal_of}
+use Rattle.dn_instance.specs.Readers.{refusal_of}
+use Rattle.dn_instance.specs.ReaderStates.{ReaderAt, IsReading}
 use Rattle.dn_instance.proofs.reader.Reader.feed.Given as goal
 
 abbrev pub invariant-loop-at : goal.invariant-loop-at
@@ -7,7 +8,7 @@ invariant-loop-at l =
     record {
       within : l.at ≤ length l.piece;
       fine : refusal_of l.self ≡ None;
-      reads : (t : List ℕ) → StandsFor l.fn.self t → IsReading l.self (t ++ take l.at l.piece);
+      reads : (t : List ℕ) → ReaderAt l.fn.self t → IsReading l.self (t ++ take l.at l.piece);
     }
 
 abbrev pub decreases-loop-at : goal.decreases-loop-at

@@ -4,7 +4,7 @@ use Rattle.dn_line.specs.Words.{is_skip}
 use Rattle.dn_line.specs.Faults.{first_fault, head_tests}
 use Rattle.dn_instance.specs.Items.{Problem, kind_known}
 use Rattle.dn_instance.specs.TextFaults.{order_tests}
-use Rattle.dn_instance.specs.Progresses.{IsAt}
+use Rattle.dn_instance.specs.Progresses.{ProgressAt}
 use Rattle.dn_instance.specs.TextsSoFar.{IsProgress}
 use Rattle.dn_instance.proofs.NextLaws.{head_told, head_skips}
 use Rattle.dn_instance.proofs.text_so_far.TextSoFar.check_order.Goals as goal
@@ -13,7 +13,7 @@ use Rattle.dn_instance.proofs.text_so_far.TextSoFar.check_order.Goals as goal
 pub returns-in-Some : goal.returns-in-Some
 returns-in-Some c items ws at h = by_skip (is_skip ws) refl
   where
-    is_at : IsAt c.in-Some.progress items
+    is_at : ProgressAt c.in-Some.progress items
     is_at = subst (λ o. IsProgress o items) c.in-Some.is at
 
     by_skip : (b : Bool) → is_skip ws ≡ b → c.check_order.result ≡ cond (is_skip ws) None (first_fault (order_tests items ws))

@@ -1,8 +1,9 @@
 use Rattle.std.proofs.Common.{Ok, OnOk, sym, ap, ◌∙◌, subst, refl}
 use Rattle.dn_line.specs.Words.{said_words}
 use Rattle.dn_instance.specs.TextsSoFar.{IsProgress}
-use Rattle.dn_instance.specs.ItemFaults.{Answers}
-use Rattle.dn_instance.proofs.FollowLaws.{skip_only, skip_faultless, skip_adds_none, not_skipped, follows_as, same_fault, adds_it, line_refused}
+use Rattle.dn_instance.specs.ItemFaults.{AnswersFault}
+use Rattle.dn_instance.proofs.CleanItems.{skip_adds_none}
+use Rattle.dn_instance.proofs.FollowLaws.{skip_only, skip_faultless, not_skipped, follows_as, same_fault, adds_it, line_refused}
 use Rattle.dn_instance.proofs.text_so_far.TextSoFar.judge.Goals as goal
 
 -- src/text_so_far.rt:62:5
@@ -23,7 +24,7 @@ returns-else-is_skip c = record {
       let r = sym (c.read.ensures items l at stands) ∙ c.in-Ok.is in
       let e = not_skipped items ws c.in-Ok.item r (c.is_skip.ensures.item c.if-is_skip.false) in
       let f = follows_as items ws e c.in-Ok.item r in
-      subst (Answers c.put.result) (sym (same_fault items ws c.in-Ok.item e f)) (c.put.ensures.answer items at f.may);
+      subst (AnswersFault c.put.result) (sym (same_fault items ws c.in-Ok.item e f)) (c.put.ensures.answer items at f.may);
   stands = λ items l at stands.
       let ws = said_words l.bytes in
       let r = sym (c.read.ensures items l at stands) ∙ c.in-Ok.is in

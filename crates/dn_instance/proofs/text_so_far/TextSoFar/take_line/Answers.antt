@@ -1,9 +1,9 @@
 use Rattle.std.proofs.Common.{◌≡◌, ◌+◌, suc, length, false, OnOk, None, arith, sym, ◌∙◌, subst}
 use Rattle.dn_line.specs.Words.{said_words}
-use Rattle.dn_instance.specs.ItemFaults.{Answers}
+use Rattle.dn_instance.specs.ItemFaults.{AnswersFault}
 use Rattle.dn_instance.specs.TextFaults.{is_too_long, line_fault}
-use Rattle.dn_instance.specs.Texts.{items_of}
-use Rattle.dn_instance.specs.TextsSoFar.{IsProgress, with_next, fault_next}
+use Rattle.dn_instance.specs.Texts.{items_of, with_next}
+use Rattle.dn_instance.specs.TextsSoFar.{IsProgress, fault_next}
 use Rattle.dn_instance.proofs.LineSteps.{fault_is_next, in_time, few_more, read_more}
 use Rattle.dn_instance.proofs.text_so_far.TextSoFar.take_line.Goals as goal
 
@@ -12,7 +12,7 @@ pub returns-in-Ok-clause-stands : goal.returns-in-Ok-clause-stands
 returns-in-Ok-clause-stands c ls l h stands =
     let ws = said_words l.bytes in
     let early : is_too_long (length ls + 1) ≡ false = in_time (length ls) c.args.self.now.closed h.number_is (omega (arith, c.if-self-ge-LAST.false)) in
-    let none : fault_next (items_of ls) ws ≡ None = subst (λ r. Answers r (fault_next (items_of ls) ws)) c.in-Ok.is (c.judge.ensures.answer (items_of ls) l h.progress_is stands) in
+    let none : fault_next (items_of ls) ws ≡ None = subst (λ r. AnswersFault r (fault_next (items_of ls) ws)) c.in-Ok.is (c.judge.ensures.answer (items_of ls) l h.progress_is stands) in
     let number : c.judge.new.self.closed + 1 ≡ suc (length ls) = (let kept = c.judge.ensures.kept in let n = h.number_is in omega arith) in
     read_more c.args.self.now ls l.bytes _ h (fault_is_next (length ls + 1) (items_of ls) ws early ∙ none) number (few_more (length ls) early)
     (subst (λ r. OnOk r (IsProgress c.judge.new.self.progress (with_next (items_of ls) ws))) c.in-Ok.is (c.judge.ensures.stands (items_of ls) l h.progress_is stands))
@@ -21,5 +21,5 @@ returns-in-Ok-clause-stands c ls l h stands =
 pub returns-in-Err-clause-answer : goal.returns-in-Err-clause-answer
 returns-in-Err-clause-answer c ls l h stands =
     let early : is_too_long (length ls + 1) ≡ false = in_time (length ls) c.args.self.now.closed h.number_is (omega (arith, c.if-self-ge-LAST.false)) in
-    subst (λ r. Answers r (line_fault (length ls + 1) (items_of ls) (said_words l.bytes))) c.in-Err.is
-    (subst (Answers c.judge.result) (sym (fault_is_next (length ls + 1) (items_of ls) (said_words l.bytes) early)) (c.judge.ensures.answer (items_of ls) l h.progress_is stands))
+    subst (λ r. AnswersFault r (line_fault (length ls + 1) (items_of ls) (said_words l.bytes))) c.in-Err.is
+    (subst (AnswersFault c.judge.result) (sym (fault_is_next (length ls + 1) (items_of ls) (said_words l.bytes) early)) (c.judge.ensures.answer (items_of ls) l h.progress_is stands))

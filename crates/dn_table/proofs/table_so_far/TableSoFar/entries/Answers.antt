@@ -3,10 +3,10 @@ use Rattle.std.specs.List.{IsDistinct}
 use Rattle.std.specs.Map.{keys_of}
 use Rattle.dn_bundle.specs.declared.arc.Form.TheVariants.{One}
 use Rattle.pair_index.specs.Pairs.{same_pair}
-use Rattle.dn_table.specs.Tables.{Tells}
+use Rattle.dn_table.specs.Tables.{TableTells}
 use Rattle.dn_table.proofs.table_so_far.TableSoFar.entries.Goals as goal
 
 pub returns : goal.returns
 returns g c arcs nothing tells are few =
     c.bundle_entries.ensures arcs (subst (λ es. IsDistinct same_pair (keys_of es)) (sym c.deref.ensures.value) c.self.invariant.apart) nothing
-    (subst (λ es. Tells g.B.Bundle.kind (g.B.Bundle.told One) es arcs) (sym (c.deref.ensures.value ∙ c.self.view_is)) tells) are few
+    (subst (λ es. TableTells g.B.Bundle.kind (g.B.Bundle.told One) es arcs) (sym (c.deref.ensures.value ∙ c.self.view_is)) tells) are few

@@ -1,0 +1,15 @@
+-- A bundle of lengths means what no arcs mean exactly where it has no least length.
+use Rattle.std.specs.Prelude.{◌≡◌, ◌↔◌, ℤ, Bool, true, false, not, [], Option, Some, None, refl, MatchOption, IsTrue}
+use Rattle.std.specs.Option.{is_some}
+use Rattle.dn_bundle.specs.Lengths.{LeastLength, length_told}
+use Rattle.dn_bundle.specs.Meanings.{SameLength}
+use Rattle.dn_bundle.specs.Laws.Lengths.{length_meaning, first_length}
+
+-- a least length is nothing where there is none
+pub length_nothing : (o length : Option ℤ) (none : Bool) → MatchOption length (length_told o ≡ []) (LeastLength (length_told o)) → is_some length ≡ not none → IsTrue none ↔ SameLength (length_told o) []
+length_nothing None None true m h = ((λ t. length_meaning.same_refl []), (λ s. refl))
+length_nothing None None false m h = cc
+length_nothing None (Some w) none m h = absurd m.has
+length_nothing (Some w) None none m h = cc
+length_nothing (Some w) (Some l) true m h = cc
+length_nothing (Some w) (Some l) false m h = ((λ t. cc), (λ s. absurd (first_length (record { length = w }) [] s)))

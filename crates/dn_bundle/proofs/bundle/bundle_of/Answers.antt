@@ -1,0 +1,23 @@
+use Rattle.std.proofs.Common.{subst, sym, []}
+use Rattle.dn_bundle.specs.declared.arc.Form.TheVariants.{One}
+use Rattle.dn_bundle.proofs.BundleLaws.{none_cap, next_same, next_fits, too_much}
+use Rattle.dn_bundle.proofs.bundle.bundle_of.Goals as goal
+
+pub loop-arc-init : goal.loop-arc-init
+loop-arc-init g c = let laws = g.met.B.Bundle.laws in (subst (λ l. g.B.Bundle.kind.Same l []) (sym (c.empty-bundle.ensures One)) (laws.meaning.same_refl []), none_cap g.B.Bundle.kind laws)
+
+pub returns-in-Err-clause-sum : goal.returns-in-Err-clause-sum
+returns-in-Err-clause-sum g c = λ e.
+    let laws = g.met.B.Bundle.laws in
+    let told = g.B.Bundle.told One c.loop-arc.bundle in
+    let told_arcs = laws.canon_arcs One told (g.met.B.Bundle.canonical One c.loop-arc.bundle) in
+    too_much g.B.Bundle.kind laws c.args.arcs.now told c.loop-arc.arc-index c.arc-item.result c.requires c.loop-arc-test.true c.arc-item.is told_arcs c.loop-arc.invariant.0 (c.in-Err.ensures.sum.0 cc)
+
+pub loop-arc-preserved : goal.loop-arc-preserved
+loop-arc-preserved g c =
+    let laws = g.met.B.Bundle.laws in
+    let told = g.B.Bundle.told One c.loop-arc.bundle in
+    let told_arcs = laws.canon_arcs One told (g.met.B.Bundle.canonical One c.loop-arc.bundle) in (
+      next_same g.B.Bundle.kind laws c.args.arcs.now told c.loop-arc.arc-index c.arc-item.result c.requires c.loop-arc-test.true c.arc-item.is told_arcs c.loop-arc.invariant.0 _ c.in_default.ensures.ok,
+      next_fits g.B.Bundle.kind laws c.args.arcs.now told c.loop-arc.arc-index c.arc-item.result c.requires c.loop-arc-test.true c.arc-item.is told_arcs c.loop-arc.invariant.0 (λ m. let e = c.in_default.ensures.sum.1 m in cc),
+    )

@@ -1,0 +1,23 @@
+// Sums and quotients of costs of 128 bits.
+ghost use Rattle.std.specs.Prelude.{◌≡◌, pos, ◌+ℤ◌, ◌*ℤ◌, ◌<ℤ◌, FitsSigned};
+ghost use Rattle.std.specs.Int.{w128};
+ghost use Rattle.dn_bundle.specs.Means.{IsMean, IsFloor};
+
+/// A cost with that of more units at a cost each.
+pub(crate) fn more_cost(all: &i128, units: &i64, cost: &i64) -> i128
+    requires { FitsSigned w128 (all.now +ℤ (units.now *ℤ cost.now)) }
+    ensures { result ≡ all.now +ℤ (units.now *ℤ cost.now) }
+{
+    *all + *units as i128 * *cost as i128
+}
+
+/// What each of some units costs, rounded down, and how many of them cost one more.
+pub(crate) fn floor(cost: &i128, units: &i64) -> (i64, i64)
+    requires unit { pos 0 <ℤ units.now }
+    requires mean { IsMean cost.now units.now }
+    ensures { IsFloor cost.now units.now result.0 result.1 }
+{
+    let each = cost.div_euclid(*units as i128);
+    let rest = cost.rem_euclid(*units as i128);
+    (each as i64, rest as i64)
+}

@@ -1,0 +1,152 @@
+// The canonical arcs that a curve tells, in both forms.
+ghost use Rattle.std.specs.Prelude.{◌≡◌, ℕ, ◌+◌, ◌+ℤ◌, length, slice_get, Some, find, cond, int_lt, FitsSigned};
+ghost use Rattle.std.specs.Option.{option_map, ForSome};
+ghost use Rattle.std.specs.Int.{w64};
+ghost use Rattle.dn_bundle.specs.Steps.{has_step};
+ghost use Rattle.dn_bundle.specs.Tellings.{curve_arcs};
+ghost use Rattle.dn_bundle.specs.CurveTold.{fixed_arc, fixed_arcs, step_arc, joined_head};
+ghost use Rattle.dn_bundle.specs.declared.arc.Form.{Form};
+
+use crate::arc::{CostArc, Form};
+use crate::curve::{Curve, Fixed};
+
+fn fixed_at(units: i64, cost: i64) -> CostArc
+    ensures { result ≡ fixed_arc units cost }
+{
+    CostArc {
+        low: units,
+        cap: units,
+        cost,
+    }
+}
+
+fn free_at(step: (i64, i64)) -> CostArc
+    ensures { result ≡ step_arc step }
+{
+    CostArc {
+        low: 0,
+        cap: step.1,
+        cost: step.0,
+    }
+}
+
+fn free_of(step: Option<(i64, i64)>) -> Option<CostArc>
+    ensures { result ≡ option_map step_arc step }
+{
+    match step {
+        Some(step) => Some(free_at(step)),
+        None => None,
+    }
+}
+
+// The first of a fixed arc and the free capacity; at one cost they are one arc.
+fn join(fixed: CostArc, step: Option<(i64, i64)>) -> CostArc
+    requires { ForSome step (λ step. fixed.cost ≡ step.0 → FitsSigned w64 (fixed.cap +ℤ step.1)) }
+    ensures { result ≡ joined_head fixed (option_map step_arc step) }
+{
+    match step {
+        Some(step) if step.0 < fixed.cost => free_at(step),
+        Some(step) if step.0 == fixed.cost => CostArc {
+            low: fixed.low,
+            cap: fixed.cap + step.1,
+            cost: step.0,
+        },
+        _ => fixed,
+    }
+}
+
+impl Curve {
+    // The first canonical arc.
+    pub(super) fn first_arc(&self, form: Form) -> Option<CostArc>
+        ensures { result ≡ slice_get (curve_arcs form self.now) 0 }
+    {
+        let step = self.steps.first();
+        let Some(fixed) = self.first_fixed() else {
+            return free_of(step);
+        };
+        match form {
+            Form::One => Some(fixed),
+            Form::Two => Some(join(fixed, step)),
+        }
+    }
+
+    // The first fixed arc.
+    fn first_fixed(&self) -> Option<CostArc>
+        ensures { result ≡ slice_get (fixed_arcs self.now.units self.now.cost) 0 }
+    {
+        match self.spread() {
+            Fixed::Zero => None,
+            Fixed::One { units, cost } => Some(fixed_at(units, cost)),
+            Fixed::Two { units, cost, .. } => Some(fixed_at(units, cost)),
+        }
+    }
+
+    // The first fixed arc past a cost.
+    fn fixed_past(&self, past: &i64) -> Option<CostArc>
+        ensures { result ≡ find (λ b. int_lt past.now b.cost) (fixed_arcs self.now.units self.now.cost) }
+    {
+        match self.spread() {
+            Fixed::One { units, cost } if *past < cost => Some(fixed_at(units, cost)),
+            Fixed::Two { units, cost, .. } if *past < cost => Some(fixed_at(units, cost)),
+            Fixed::Two { cost, above, .. } if *past == cost => Some(fixed_at(above, cost + 1)),
+            _ => None,
+        }
+    }
+
+    // How many canonical arcs form 1 has.
+    pub(super) fn len_one(&self) -> u64
+        ensures { result ≡ length (curve_arcs Form.One self.now) }
+    {
+        match self.spread() {
+            Fixed::Zero => self.steps.len(),
+            Fixed::One { .. } => self.steps.len() + 1,
+            Fixed::Two { .. } => self.steps.len() + 2,
+        }
+    }
+
+    // How many canonical arcs form 2 has.
+    pub(super) fn len_two(&self) -> u64
+        ensures { result ≡ length (curve_arcs Form.Two self.now) }
+    {
+        match self.spread() {
+            Fixed::Zero => self.steps.len(),
+            Fixed::One { cost, .. } => self.steps.len() + self.missing(&cost),
+            Fixed::Two { cost, .. } => self.steps.len()
+                + self.missing(&cost)
+                + self.missing(&(cost + 1)),
+        }
+    }
+
+    // One where no free capacity stands at the cost.
+    fn missing(&self, cost: &i64) -> u64
+        ensures { result ≡ cond (has_step self.now.steps cost.now) 0 1 }
+    {
+        if self.steps.has(cost) { 0 } else { 1 }
+    }
+
+    // The canonical arc of form 1 after an arc.
+    pub(super) fn after_one(&self, arc: &CostArc) -> Option<CostArc>
+        ensures { (i : ℕ) → slice_get (curve_arcs Form.One self.now) i ≡ Some arc.now
+            → result ≡ slice_get (curve_arcs Form.One self.now) (i + 1) }
+    {
+        if arc.low == 0 {
+            return free_of(self.steps.past(&arc.cost));
+        }
+        match self.fixed_past(&arc.cost) {
+            Some(fixed) => Some(fixed),
+            None => free_of(self.steps.first()),
+        }
+    }
+
+    // The canonical arc of form 2 past a cost.
+    pub(super) fn past_two(&self, past: &i64) -> Option<CostArc>
+        ensures { result ≡ find (λ b. int_lt past.now b.cost)
+            (curve_arcs Form.Two self.now) }
+    {
+        let step = self.steps.past(past);
+        match self.fixed_past(past) {
+            Some(fixed) => Some(join(fixed, step)),
+            None => free_of(step),
+        }
+    }
+}

@@ -1,0 +1,30 @@
+-- The CAPs of an ordered pair, with one arc more.
+use Rattle.std.proofs.Common.{◌≡◌, ◌-◌, ◌^◌, ℤ, pos, ◌+ℤ◌, List, [], ◌∷◌, ◌++◌, Bool, int_lt, sym, ap, arith}
+use Rattle.std.proofs.lemmas.Int.{ints}
+use Rattle.dn_bundle.specs.Kinds.{ArcKind, capacities, costs}
+use Rattle.dn_bundle.specs.Capacities.{total_cap}
+use Rattle.dn_bundle.specs.Splits.{cost_cap}
+use Rattle.dn_bundle.specs.declared.arc.CapArc.{CapArc}
+use Rattle.dn_bundle.specs.declared.arc.CostArc.{CostArc}
+use Rattle.dn_table.specs.Pairs.{bundle}
+
+-- the capacities of these arcs and this one at its ordered pair sum past 2^63 - 1, for any kind of arcs
+abbrev pub passes : {Arc : Type 0} → ArcKind Arc → List ((ℤ × ℤ) × Arc) → (ℤ × ℤ) × Arc → Bool
+passes kind before a = int_lt (pos (2 ^ 63 - 1)) (kind.capacity (bundle a.0 before ++ a.1 ∷ []))
+
+pub total_append : (xs : List CapArc) (a : CapArc) → total_cap (xs ++ a ∷ []) ≡ total_cap xs +ℤ a.cap
+total_append [] a = omega (arith, ints)
+total_append (x ∷ xs) a = let i = total_append xs a in omega (arith, ints)
+
+cost_append : (xs : List CostArc) (a : CostArc) → cost_cap (xs ++ a ∷ []) ≡ cost_cap xs +ℤ a.cap
+cost_append [] a = omega (arith, ints)
+cost_append (x ∷ xs) a = let i = cost_append xs a in omega (arith, ints)
+
+-- the same, as it is said of a `max` line and of a `min` line
+pub total_passes : (before : List ((ℤ × ℤ) × CapArc)) (a : (ℤ × ℤ) × CapArc)
+    → int_lt (pos (2 ^ 63 - 1)) (total_cap (bundle a.0 before) +ℤ a.1.cap) ≡ passes capacities before a
+total_passes before a = ap (int_lt (pos (2 ^ 63 - 1))) (sym (total_append (bundle a.0 before) a.1))
+
+pub cost_passes : (before : List ((ℤ × ℤ) × CostArc)) (a : (ℤ × ℤ) × CostArc)
+    → int_lt (pos (2 ^ 63 - 1)) (cost_cap (bundle a.0 before) +ℤ a.1.cap) ≡ passes costs before a
+cost_passes before a = ap (int_lt (pos (2 ^ 63 - 1))) (sym (cost_append (bundle a.0 before) a.1))

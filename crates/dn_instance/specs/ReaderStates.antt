@@ -1,0 +1,55 @@
+-- What the state of a reader stands for, between the bytes that it is fed.
+use Rattle.std.specs.Prelude.{◌≡◌, ℕ, ◌≤◌, List, [], ◌∷◌, ◌++◌, length, cond, Some, MatchOption, Result, Ok, Err}
+use Rattle.dn_line.specs.Pieces.{parts, lines, is_line_feed}
+use Rattle.dn_line.specs.LineStates.{LineSoFar, LineReaderAt}
+use Rattle.dn_line.specs.declared.line_reader.LineReader.{LineReader}
+use Rattle.dn_instance.specs.declared.reader.Reader.{Reader}
+use Rattle.dn_instance.specs.declared.refusal.Refusal.{Refusal}
+use Rattle.dn_instance.specs.Readers.{ended, IsRefused, IsNext, lines_taken}
+use Rattle.dn_instance.specs.TextsSoFar.{TextAt}
+
+-- the bytes of a text after its last LF
+abbrev pub open_of : List ℕ → List ℕ
+open_of t = (parts is_line_feed t).1
+
+-- the line reader has these bytes of a line that may go on; where there are none, the line before is of no account
+pub record HasOpen (r : LineReader) (bytes : List ℕ) : Type 0 where
+  pub line : LineSoFar
+  pub stands : LineReaderAt r line
+  pub open_is : cond line.ended [] line.bytes ≡ bytes
+
+-- the lines that LFs have ended are read, and the next so far as it has come
+pub record IsReading (r : Reader) (t : List ℕ) : Type 0 where
+  pub read : TextAt r.text (ended t)
+  pub line : HasOpen r.line (open_of t)
+
+-- of these lines those before the refused one are read
+pub record StopsIn (r : Reader) (ls : List (List ℕ)) (e : Refusal) : Type 0 where
+  pub before : List (List ℕ)
+  pub rest : List (List ℕ)
+  pub whole : ls ≡ before ++ rest
+  pub read : TextAt r.text before
+  pub next : IsNext (length before) ls e
+
+-- the reader is where these bytes lead
+abbrev pub ReaderAt : Reader → List ℕ → Type 0
+ReaderAt r t = MatchOption r.refusal (IsReading r t) (λ e. IsRefused 0 (ended t) e × StopsIn r (ended t) e)
+
+-- one line more is read, or the refusal is kept
+abbrev pub Takes : Reader → List (List ℕ) → List ℕ → Result (Unit {0}) Refusal → Type 0
+Takes r ls l (Ok x) = TextAt r.text (ls ++ l ∷ [])
+Takes r ls l (Err e) =
+    (r.refusal ≡ Some e) × IsRefused (length ls) (ls ++ l ∷ []) e × StopsIn r (ls ++ l ∷ []) e
+    × (lines_taken r ≡ length ls)
+
+-- all lines are read, or one is refused
+abbrev pub TakesAll : Reader → List ℕ → Result (Unit {0}) Refusal → Type 0
+TakesAll r t (Ok x) = TextAt r.text (lines t)
+TakesAll r t (Err e) = IsRefused (length (ended t)) (lines t) e
+
+-- from t on it is read up to u, or the refusal of a line after those of t is kept
+abbrev pub Advances : Reader → List ℕ → List ℕ → Result ℕ Refusal → Type 0
+Advances r t u (Ok n) = IsReading r u
+Advances r t u (Err e) =
+    (r.refusal ≡ Some e) × IsRefused (length (ended t)) (ended u) e × StopsIn r (ended u) e
+    × (length (ended t) ≤ lines_taken r)

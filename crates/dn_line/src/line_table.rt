@@ -1,0 +1,81 @@
+// The table of lines: which fields a line has, and where they begin.
+ghost use Rattle.std.specs.Prelude.{◌≡◌, ◌∷◌, map, MatchOption};
+ghost use Rattle.dn_line.specs.LineTable.{row, named, counts, after_name};
+
+use crate::kind::Kind;
+use crate::word::{Field, Keyword, Word};
+
+// The kind that the words after `p` begin to name.
+pub(crate) fn named(words: &[Word]) -> Option<Kind>
+    ensures { result ≡ named (map (λ w. w.keyword) words.now) }
+{
+    match words {
+        [first, rest @ ..] => match first.keyword {
+            Some(Keyword::Min) => Some(Kind::Min),
+            Some(Keyword::Max) => Some(Kind::Max),
+            Some(Keyword::Sp) => Some(Kind::Sp),
+            Some(Keyword::Aux) => companion_named(rest),
+            _ => None,
+        },
+        [] => None,
+    }
+}
+
+// The fields of the line that this kind has under this letter.
+pub(crate) fn row(kind: Kind, letter: Keyword) -> Option<&'static [Field]>
+    ensures { MatchOption result (row kind letter ≡ None) (λ fields. row kind letter ≡ Some fields.now) }
+{
+    match (kind, letter) {
+        (Kind::Min, Keyword::N) => Some(&[Field::Number, Field::Number]),
+        (Kind::Min, Keyword::A) => Some(&[
+            Field::Number,
+            Field::Number,
+            Field::Natural,
+            Field::Natural,
+            Field::Number,
+        ]),
+        (Kind::Max, Keyword::N) => Some(&[Field::Number, Field::Terminal]),
+        (Kind::Max, Keyword::A) => Some(&[Field::Number, Field::Number, Field::Natural]),
+        (Kind::Sp, Keyword::A) => Some(&[Field::Number, Field::Number, Field::Number]),
+        (Kind::Ss, Keyword::S) => Some(&[Field::Number]),
+        (Kind::P2p, Keyword::Q) => Some(&[Field::Number, Field::Number]),
+        (Kind::Co, Keyword::V) => Some(&[Field::Number, Field::Number, Field::Number]),
+        _ => None,
+    }
+}
+
+// The fields of a problem line after the words that name its kind.
+pub(crate) fn counts(kind: Kind) -> &'static [Field]
+    ensures { result.now ≡ counts kind }
+{
+    match kind {
+        Kind::Min | Kind::Max | Kind::Sp => &[Field::Natural, Field::Natural],
+        Kind::Ss | Kind::P2p | Kind::Co => &[Field::Natural],
+    }
+}
+
+// What follows those words.
+pub(crate) fn after_name(kind: Kind, words: &[Word]) -> &[Word]
+    ensures { result.now ≡ after_name kind words.now }
+{
+    match (kind, words) {
+        (Kind::Min | Kind::Max | Kind::Sp, [_, rest @ ..]) => rest,
+        (Kind::Ss | Kind::P2p | Kind::Co, [_, _, _, rest @ ..]) => rest,
+        _ => &[],
+    }
+}
+
+// The kind that the words after `aux` begin to name.
+fn companion_named(words: &[Word]) -> Option<Kind>
+    ensures { result ≡ named (Some Keyword.Aux ∷ map (λ w. w.keyword) words.now) }
+{
+    match words {
+        [first, second, ..] => match (first.keyword, second.keyword) {
+            (Some(Keyword::Sp), Some(Keyword::Ss)) => Some(Kind::Ss),
+            (Some(Keyword::Sp), Some(Keyword::P2p)) => Some(Kind::P2p),
+            (Some(Keyword::Sp), Some(Keyword::Co)) => Some(Kind::Co),
+            _ => None,
+        },
+        _ => None,
+    }
+}

@@ -1,0 +1,173 @@
+// Each way of finding pairs, compared with a plain scan, also where an allocation fails.
+
+use pair_index::{PairIndex, place_by_search};
+use std::alloc::{AllocError, Global};
+use std::marker::Model;
+
+// Entries as their pairs came, each with its number, and where they stand.
+#[derive(Drop)]
+struct Listed {
+    entries: Vec<((i64, i64), usize)>,
+    index: PairIndex,
+}
+
+impl Model for Listed {
+    ghost use Rattle.std.specs.Prelude.{ℕ, ℤ, List};
+    ghost use Rattle.std.specs.Map.{keys_of};
+    ghost use Rattle.pair_index.specs.Indexed.{Indexes};
+
+    ghost Value = { List ((ℤ × ℤ) × ℕ) };
+
+    ghost view = { λ t. t.entries.items };
+
+    ghost invariant = { λ t. Indexes t.index (keys_of t.entries.items) };
+}
+
+impl Listed {
+    fn new(alloc: Global) -> Listed {
+        Listed {
+            entries: Vec::new(alloc),
+            index: PairIndex::new(alloc),
+        }
+    }
+
+    // Takes up a pair that has no entry.
+    fn take(&mut self, alloc: Global, pair: (i64, i64)) -> Result<(), AllocError> {
+        if self.index.find(&self.entries, &pair).is_some() {
+            return Ok(());
+        }
+        self.entries.reserve(1)?;
+        self.index.note(alloc, &self.entries, &pair)?;
+        let number = self.entries.len();
+        Ok(self.entries.push((pair, number))?)
+    }
+
+    // Whether each pair, and each the other way round, is found where a scan finds it.
+    fn finds(&self, pairs: &[(i64, i64)]) -> bool {
+        for pair in pairs {
+            for asked in [*pair, (pair.1, pair.0)] {
+                let scanned = self.entries.iter().position(|entry| entry.0 == asked);
+                if self.index.find(&self.entries, &asked) != scanned {
+                    return false;
+                }
+            }
+        }
+        true
+    }
+
+    // Whether each pair is found once more when the entries are in order.
+    fn finds_in_order(self, pairs: &[(i64, i64)]) -> bool {
+        let Listed { mut entries, index } = self;
+        index.sort(&mut entries);
+        for i in 0..pairs.len() {
+            match place_by_search(&entries, &pairs[i]) {
+                Some(place) if entries[place].1 == i => {}
+                _ => return false,
+            }
+        }
+        true
+    }
+}
+
+// Whether these pairs are looked up by chains in the end, if they were found right all the time. Where an allocation
+// fails, the pairs so far are still found, and the next attempt is to go well.
+fn way_to_find(alloc: Global, pairs: &[(i64, i64)]) -> Result<&'static str, AllocError> {
+    let mut listed = Listed::new(alloc);
+    for pair in pairs {
+        if listed.take(alloc, *pair).is_err() {
+            if !listed.finds(pairs) {
+                return Ok("a wrong place after want of memory");
+            }
+            listed.take(alloc, *pair)?;
+        }
+    }
+    if !listed.finds(pairs) {
+        return Ok("a wrong place");
+    }
+    let way = if listed.index.is_scattered() {
+        "scattered"
+    } else {
+        "in order"
+    };
+    if !listed.finds_in_order(pairs) {
+        return Ok("a wrong place in order");
+    }
+    Ok(way)
+}
+
+// Pairs whose nodes are multiples of these. Where an allocation fails, another attempt is made.
+fn multiples(alloc: Global, tail: i64, head: i64) -> Result<Vec<(i64, i64)>, AllocError> {
+    let mut pairs = match Vec::with_capacity(alloc, 150) {
+        Ok(pairs) => pairs,
+        Err(_) => Vec::with_capacity(alloc, 150)?,
+    };
+    for i in 0..150 {
+        pairs.push((tail.wrapping_mul(i), head.wrapping_mul(i)))?;
+    }
+    Ok(pairs)
+}
+
+// Pairs of one bucket of 64, whichever way they are spread: the last 6 bits of `4 * tail + head` agree, and those of
+// the mixed numbers.
+const COLLIDING: [(i64, i64); 28] = [
+    (70, 1000),
+    (64, 2048),
+    (61, 1484),
+    (59, 20),
+    (58, 1304),
+    (54, 1768),
+    (53, 236),
+    (45, 268),
+    (42, 2008),
+    (41, 1180),
+    (39, 932),
+    (38, 104),
+    (35, 1844),
+    (33, 1980),
+    (29, 652),
+    (28, 208),
+    (25, 2204),
+    (24, 2464),
+    (23, 292),
+    (21, 1452),
+    (18, 2168),
+    (16, 448),
+    (15, 1604),
+    (14, 392),
+    (12, 1232),
+    (11, 1044),
+    (7, 1380),
+    (6, 616),
+];
+
+// Pairs that rise, that fall among near nodes, whose numbers `4 * tail + head` are one, and that lie far apart.
+#[test]
+fn finds_multiples(rt: HostRuntime) {
+    for (tail, head, way) in [
+        (1, 5, "in order"),
+        (-1, 0, "scattered"),
+        (-1, 4, "scattered"),
+        (i64::MIN + 1, i64::MAX - 3, "scattered"),
+    ] {
+        let pairs = multiples(rt.alloc(), tail, head).unwrap_or_else(|_| Vec::new(rt.alloc()));
+        assert_eq!(rt;
+            way_to_find(rt.alloc(), &pairs),
+            Ok(way),
+            "multiples of {tail} and {head}"
+        );
+    }
+}
+
+#[test]
+fn finds_colliding(rt: HostRuntime) {
+    assert_eq!(rt;
+        way_to_find(rt.alloc(), &COLLIDING[..24]),
+        Ok("scattered"),
+        "24 pairs"
+    );
+    assert_eq!(rt;
+        way_to_find(rt.alloc(), &COLLIDING),
+        Ok("in order"),
+        "28 pairs"
+    );
+}
