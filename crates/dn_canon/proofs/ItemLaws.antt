@@ -20,7 +20,7 @@ use Rattle.dn_instance.specs.TextFaults.{item_spelled, is_too_long, is_late_node
 use Rattle.dn_instance.specs.Texts.{with_next, items_of, IsClean}
 use Rattle.dn_instance.proofs.FirstFaults.{fault_after}
 use Rattle.dn_instance.proofs.CleanItems.{item_some, items_push, none_both}
-use Rattle.dn_canon.specs.Prints.{Row}
+use Rattle.dn_row.specs.Rows.{Row}
 use Rattle.dn_canon.proofs.RowLaws.{line_of, AllWords, said_are}
 
 -- the row spells the item, which has no fault after those before it

@@ -12,7 +12,8 @@ use Rattle.dn_instance.specs.declared.refusal.Refusal.{Refusal}
 use Rattle.dn_instance.specs.declared.refusal.Refusal.TheVariants.{Text, Memory, Read, Endless, Write, CountTooLarge}
 use Rattle.dn_instance.proofs.SameLaws.{refl_of}
 use Rattle.dn_canon.specs.CanonTexts.{IsCanonOf, IsTooLarge, PrintsCanon}
-use Rattle.dn_canon.specs.Prints.{Row, line_text, rows, text_of, print}
+use Rattle.dn_canon.specs.Prints.{rows, print}
+use Rattle.dn_row.specs.Rows.{Row, line_text, text_of}
 use Rattle.dn_canon.specs.Runs.{JudgesCanon, TextFault}
 use Rattle.dn_canon.proofs.FollowLaws.{count_rows}
 use Rattle.dn_canon.proofs.InstanceItems.{rows_are}

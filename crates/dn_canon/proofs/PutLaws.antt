@@ -9,7 +9,8 @@ use Rattle.dn_line.specs.declared.kind.Kind.{Kind}
 use Rattle.dn_line.specs.declared.word.Keyword.TheVariants.{A, S, T}
 use Rattle.dn_bundle.specs.Kinds.{ArcKind}
 use Rattle.dn_instance.specs.Instances.{Graph}
-use Rattle.dn_canon.specs.Prints.{Row, line_text, word_row, graph_row, companion_row, terminal_row, arc_row, graph_rows, text_of}
+use Rattle.dn_canon.specs.Prints.{word_row, graph_row, companion_row, terminal_row, arc_row, graph_rows}
+use Rattle.dn_row.specs.Rows.{Row, line_text, text_of}
 use Rattle.dn_sink.specs.Puts.{HasPut, PutsFront}
 use Rattle.dn_sink.proofs.PutLaws.{put_more, put_stop}
 use Rattle.dn_canon.specs.ToldArcs.{placed, told_arcs}

@@ -1,7 +1,6 @@
 -- How an instance is printed: the lines of the two Challenges' formats, with single spaces, shortest decimals and an
 -- LF after every line (this project's profile).
 use Rattle.std.specs.Prelude.{ℕ, ℤ, pos, List, [], ◌∷◌, ◌++◌, length, map}
-use Rattle.std.specs.List.{join_with_byte, concat}
 use Rattle.std.specs.Fmt.{signed_decimal}
 use Rattle.dn_line.specs.Names.{kind_name}
 use Rattle.dn_line.specs.Words.{keyword_text}
@@ -9,16 +8,9 @@ use Rattle.dn_line.specs.declared.kind.Kind.{Kind}
 use Rattle.dn_line.specs.declared.kind.Kind.TheVariants as Kinds
 use Rattle.dn_line.specs.declared.word.Keyword.{Keyword}
 use Rattle.dn_line.specs.declared.word.Keyword.TheVariants.{P, N, A, S, T, Q, V, Sp, Aux}
+use Rattle.dn_row.specs.Rows.{Row, text_of}
 use Rattle.dn_bundle.specs.Kinds.{ArcKind, costs, capacities, lengths}
 use Rattle.dn_instance.specs.Instances.{Graph, Instance, MinCostFlow, MaxFlow, ShortestPaths, Sources, Queries, Coordinates}
-
--- the words of one line
-abbrev pub Row : Type 0
-Row = List (List ℕ)
-
--- words with single spaces between them, and an LF
-abbrev pub line_text : Row → List ℕ
-line_text words = join_with_byte 32 words ++ 10 ∷ []
 
 -- a keyword, and numbers
 abbrev pub word_row : Keyword → List ℤ → Row
@@ -73,10 +65,6 @@ rows (ShortestPaths graph) = graph_rows lengths Kinds.Sp graph []
 rows (Sources ids) = companion_row Kinds.Ss (length ids) ∷ map source_row ids
 rows (Queries pairs) = companion_row Kinds.P2p (length pairs) ∷ map query_row pairs
 rows (Coordinates points) = companion_row Kinds.Co (length points) ∷ map point_row points
-
--- the text of rows
-abbrev pub text_of : List Row → List ℕ
-text_of rs = concat (map line_text rs)
 
 -- the text of an instance
 abbrev pub print : Instance → List ℕ

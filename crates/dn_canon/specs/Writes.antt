@@ -5,7 +5,8 @@ use Rattle.dn_line.specs.declared.word.Keyword.TheVariants.{S, T}
 use Rattle.dn_bundle.specs.declared.arc.Form.{Form}
 use Rattle.dn_instance.specs.Instances.{Instance, size_of}
 use Rattle.dn_canon.specs.CanonInstances.{IsCanonInstanceOf}
-use Rattle.dn_canon.specs.Prints.{Row, supply_row, terminal_row, print}
+use Rattle.dn_canon.specs.Prints.{supply_row, terminal_row, print}
+use Rattle.dn_row.specs.Rows.{Row}
 use Rattle.dn_sink.specs.Puts.{HasPut, PutsFront}
 use Rattle.dn_instance.specs.declared.refusal.Refusal.{Refusal}
 use Rattle.dn_instance.specs.declared.refusal.Refusal.TheVariants.{Write, CountTooLarge}

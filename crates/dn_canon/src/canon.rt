@@ -2,6 +2,7 @@
 ghost use Rattle.std.specs.Prelude.{◌≡◌, ◌≢◌, ◌↔◌, Err, IfSome, IsErrOf, IsTrue, OnOk};
 ghost use Rattle.dn_instance.specs.Helds.{IsHeld, holding};
 ghost use Rattle.dn_instance.specs.Instances.{Instance};
+ghost use Rattle.dn_instance.specs.SourceReads.{PulledWhileClean};
 ghost use Rattle.dn_instance.specs.Validity.{IsValid};
 ghost use Rattle.dn_canon.specs.Writes.{SinkAfter, WritesCanon, written_as};
 ghost use Rattle.dn_canon.specs.Runs.{JudgesCanon, RunOutcome, TextOutcome};
@@ -83,6 +84,7 @@ pub fn canon_run<S: Source, K: Sink>(
     ensures write { IsErrOf result Refusal.Write → IsTrue (K.has_failed sink.new) }
     ensures unput { (e : Refusal) → result ≡ Err e → e ≢ Refusal.Write → sink.new ≡ sink.old }
     ensures stays { IsTrue (S.has_failed source.old) → IsTrue (S.has_failed source.new) }
+    ensures pulls { PulledWhileClean S.gives S.Pulls source.old source.new }
     ensures failed { IsTrue (K.has_failed sink.old) → IsTrue (K.has_failed sink.new) }
     ensures flushed { OnOk result (IsTrue (K.is_flushed sink.new)) }
 {

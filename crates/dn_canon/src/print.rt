@@ -2,92 +2,14 @@
 ghost use Rattle.std.specs.Prelude.{◌≡◌, ◌+◌, ◌<◌, ◌≤◌, ◌^◌, ℤ, pos, List, [], ◌∷◌, ◌++◌, length, map};
 ghost use Rattle.std.specs.Fmt.{signed_decimal};
 ghost use Rattle.dn_line.specs.declared.word.Keyword.TheVariants.{A, S, T};
-ghost use Rattle.dn_canon.specs.Lines.{spaced};
-ghost use Rattle.dn_canon.specs.Prints.{line_text, word_row, graph_row, companion_row, supply_row, terminal_row, source_row, query_row, point_row};
+ghost use Rattle.dn_row.specs.Rows.{spaced, line_text};
+ghost use Rattle.dn_canon.specs.Prints.{word_row, graph_row, companion_row, supply_row, terminal_row, source_row, query_row, point_row};
 ghost use Rattle.dn_sink.specs.Puts.{Puts};
 
 use crate::back_line::BackLine;
 use dn_bundle::Parts;
 use dn_line::Kind;
-use dn_num::number_into;
-use dn_sink::{Sink, SinkFault, put_all};
-use std::marker::Model;
-
-// The bytes of a line so far. No line of the formats is longer than 107 bytes.
-#[derive(Drop)]
-pub(crate) struct LineBuffer {
-    bytes: [u8; 128],
-    used: usize,
-}
-
-impl Model for LineBuffer {
-    ghost use Rattle.std.specs.Prelude.{ℕ, ◌≤◌, List, take};
-
-    ghost Value = { List ℕ };
-
-    ghost view = { λ l. take l.used l.bytes };
-
-    ghost invariant = { λ l. l.used ≤ 128 };
-}
-
-impl LineBuffer {
-    // A line that begins with this word.
-    fn new(word: &[u8]) -> LineBuffer
-        requires { length word.now ≤ 128 }
-        ensures { result ≡ word.now }
-    {
-        let mut line = LineBuffer {
-            bytes: [0; 128],
-            used: 0,
-        };
-        line.push(word);
-        line
-    }
-
-    // Adds bytes.
-    fn push(&mut self, bytes: &[u8])
-        requires { length self.old + length bytes.now ≤ 128 }
-        ensures { self.new ≡ self.old ++ bytes.now }
-    {
-        self.bytes[self.used..self.used + bytes.len()].copy_from_slice(bytes);
-        self.used += bytes.len();
-    }
-
-    // Adds a space and a word.
-    fn word(&mut self, word: &[u8])
-        requires { length self.old + length word.now < 128 }
-        ensures { self.new ≡ self.old ++ 32 ∷ word.now }
-    {
-        self.push(b" ");
-        self.push(word);
-    }
-
-    // Adds a space and a number.
-    fn number(&mut self, number: &i64)
-        requires { length self.old + 21 ≤ 128 }
-        ensures text { self.new ≡ self.old ++ 32 ∷ signed_decimal number.now }
-        ensures within { length self.new ≤ length self.old + 21 }
-    {
-        let mut digits = [0; 20];
-        let used = number_into(&mut digits, *number);
-        self.word(&digits[..used]);
-    }
-
-    // Ends the line.
-    fn newline(&mut self)
-        requires { length self.old < 128 }
-        ensures { self.new ≡ self.old ++ 10 ∷ [] }
-    {
-        self.push(b"\n");
-    }
-
-    // Puts it.
-    pub(crate) fn put<K: Sink>(&self, sink: &mut K) -> Result<(), SinkFault>
-        ensures { Puts K.taken K.has_failed sink.old sink.new self.now result }
-    {
-        put_all(sink, &self.bytes[..self.used])
-    }
-}
+use dn_row::LineBuffer;
 
 // The problem line of a graph.
 pub(crate) fn graph_line(kind: Kind, nodes: &i64, arcs: u64) -> LineBuffer

@@ -12,7 +12,7 @@ use Rattle.dn_instance.specs.declared.refusal.Refusal.{Refusal}
 use Rattle.dn_instance.specs.declared.refusal.Refusal.TheVariants.{Text, Memory, Read, Endless, Write, CountTooLarge}
 use Rattle.dn_instance.specs.Readers.{ended, IsRefused, Outcome, WantsMemory, answer_of}
 use Rattle.dn_instance.specs.ReaderStates.{ReaderAt}
-use Rattle.dn_instance.specs.SourceReads.{StopsInPiece, StopsAt, SourceOutcome, Copied, CopyOutcome}
+use Rattle.dn_instance.specs.SourceReads.{CleanSoFar, PulledBytes, PulledWhileClean, StopsInPiece, StopsAt, SourceOutcome, Copied, CopyOutcome}
 use Rattle.dn_instance.specs.Texts.{IsClean}
 use Rattle.dn_instance.proofs.PieceSteps.{More, ended_more, lines_more}
 use Rattle.dn_instance.proofs.ReaderLaws.{reading, refused_on}
@@ -76,6 +76,21 @@ endless_given None new given r count c s none h k = tt
 endless_given (Some t) None given r count c s none h k = absurd c
 endless_given (Some t) (Some rest) given r count c s none h k =
     (record { given = given; rest = rest; whole = c; rest_is = refl; clean = (reading r given none s).read.clean }, omega arith)
+
+-- what was read so far has no faulty line
+clean_before : (whole rest : Option (List ℕ)) (given : List ℕ) (r : Reader) → Consumes whole rest given → ReaderAt r given → r.refusal ≡ None → IfSome whole (λ t. CleanSoFar t rest)
+clean_before None rest given r c s none = tt
+clean_before (Some t) None given r c s none = absurd c
+clean_before (Some t) (Some rest) given r c s none = record { given = given; rest = rest; whole = c; rest_is = refl; clean = (reading r given none s).read.clean }
+
+module _ {S : Type 0} {gives : S → Option (List ℕ)} {Pulls : S → S → Type 0} {old before : S} (given : List ℕ) (r : Reader) where
+  -- no pull more
+  pub pulled_so_far : PulledBytes gives Pulls old before → Consumes (gives old) (gives before) given → ReaderAt r given → r.refusal ≡ None → PulledWhileClean gives Pulls old before
+  pulled_so_far p c s none = record { before = before; pulls = p; clean = clean_before (gives old) (gives before) given r c s none; last = inl refl }
+
+  -- one pull more
+  pub pulled_on : {new : S} → PulledBytes gives Pulls old before → Consumes (gives old) (gives before) given → ReaderAt r given → r.refusal ≡ None → Pulls before new → PulledWhileClean gives Pulls old new
+  pulled_on p c s none more = record { before = before; pulls = p; clean = clean_before (gives old) (gives before) given r c s none; last = inr more }
 
 pub not_refused : (o : Option Refusal) → Ok tt ≡ answer_of o → o ≡ None
 not_refused None e = refl

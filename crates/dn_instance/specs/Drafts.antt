@@ -12,9 +12,6 @@ use Rattle.dn_line.specs.declared.line.Line.TheVariants as Item
 use Rattle.dn_bundle.specs.Kinds.{ArcKind, lengths, capacities, costs}
 use Rattle.dn_bundle.specs.Tellings.{least_arcs, total_arcs, curve_arcs}
 use Rattle.dn_bundle.specs.declared.arc.Form.TheVariants.{One}
-use Rattle.dn_bundle.specs.declared.curve.Curve.{Curve}
-use Rattle.dn_bundle.specs.declared.least.Least.{Least}
-use Rattle.dn_bundle.specs.declared.total.Total.{Total}
 use Rattle.dn_instance.specs.Items.{arcs_of, length_arc_in, cap_arc_in, cost_arc_in, supplies_of, terminal_of, source_in, query_in, point_in, by_key}
 use Rattle.dn_instance.specs.TextFaults.{has_supply}
 use Rattle.dn_table.specs.Tables.{TableTells, AreArcs}

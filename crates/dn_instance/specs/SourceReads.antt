@@ -1,6 +1,6 @@
 -- What is answered of the text that a source gives.
-use Rattle.std.specs.Prelude.{◌≡◌, ◌⊎◌, ℕ, ◌<◌, ◌≤◌, ◌^◌, List, ◌++◌, length, Option, Some, Result, Ok, Err}
-use Rattle.std.specs.Io.KnownBytes.{IsAtEnd}
+use Rattle.std.specs.Prelude.{◌≡◌, ◌⊎◌, ℕ, ◌<◌, ◌≤◌, ◌^◌, List, ◌++◌, length, Option, Some, Result, Ok, Err, IfSome}
+use Rattle.std.specs.Io.KnownBytes.{Consumes, IsAtEnd}
 use Rattle.dn_line.specs.Pieces.{lines}
 use Rattle.dn_instance.specs.declared.held.Held.{Held}
 use Rattle.dn_instance.specs.declared.refusal.Place.TheVariants as Places
@@ -16,6 +16,22 @@ pub record CleanSoFar (t : List ℕ) (new : Option (List ℕ)) : Type 0 where
   pub whole : t ≡ given ++ rest
   pub rest_is : new ≡ Some rest
   pub clean : IsClean (ended given)
+
+-- a source became `new` by pulls that each gave at least one byte, where its bytes are known
+pub data PulledBytes {S : Type 0} (gives : S → Option (List ℕ)) (Pulls : S → S → Type 0) (old : S)
+    : S → Type 0 where
+  unpulled : PulledBytes gives Pulls old old
+  pulled : (mid new : S) (bytes : List ℕ) → PulledBytes gives Pulls old mid → Pulls mid new
+      → Consumes (gives mid) (gives new) bytes → 0 < length bytes → PulledBytes gives Pulls old new
+
+-- a source became `before` by pulls that each gave at least one byte, and no line that LFs have ended there is faulty,
+-- where its bytes are known; `new` is that, or comes of it by one pull more
+pub record PulledWhileClean {S : Type 0} (gives : S → Option (List ℕ)) (Pulls : S → S → Type 0) (old new : S)
+    : Type 0 where
+  pub before : S
+  pub pulls : PulledBytes gives Pulls old before
+  pub clean : IfSome (gives old) (λ t. CleanSoFar t (gives before))
+  pub last : (new ≡ before) ⊎ Pulls before new
 
 -- of the text t the source has given `before`, where no line that LFs have ended is faulty, and then a piece of at most
 -- 2 ^ 16 bytes; it still gives the rest. The refused line is one whose LF is in that piece.

@@ -139,7 +139,7 @@ impl Draft {
         }
     }
 
-    // How many entries it keeps.
+    // How many entries the items so far come to.
     pub(crate) fn entries(&self) -> u64
         ensures { (items : List Line) → DraftHolds self.now items → entries_as (draft_kind self.now) items < 2 ^ 64
             → result ≡ entries_as (draft_kind self.now) items }

@@ -111,7 +111,7 @@ impl Progress {
         self.draft.look_ahead(bytes);
     }
 
-    // How many entries it keeps.
+    // How many entries the items so far come to.
     pub(crate) fn entries(&self) -> u64
         ensures { (items : List Line) → ProgressAt self.now items → entries_so_far items < 2 ^ 64
             → result ≡ entries_so_far items }

@@ -2,7 +2,7 @@
 ghost use Rattle.std.specs.Prelude.{◌≡◌, ◌<◌, ◌≤◌, [], ◌++◌, ℕ, List, length, IsTrue, IfOk, IfErr, IfSome, OnOk, OnErr, IsErrOf};
 ghost use Rattle.std.specs.Io.KnownBytes.{Consumes, IsAtEnd, Keeps};
 ghost use Rattle.dn_instance.specs.Readers.{Outcome};
-ghost use Rattle.dn_instance.specs.SourceReads.{CopyOutcome, IsOfReading, SourceOutcome};
+ghost use Rattle.dn_instance.specs.SourceReads.{CopyOutcome, IsOfReading, PulledWhileClean, SourceOutcome};
 
 use crate::held::Held;
 use crate::reader::Reader;
@@ -24,13 +24,14 @@ pub fn read_text(alloc: Global, text: &[u8]) -> Result<Held, Refusal>
     }
 }
 
-/// What the text that a source gives reads as, or its first fault. Pulls no more once the text is refused. Answers
-/// `Read` where the source failed, and `Endless` where 2^40 pulls gave bytes and no end came.
+/// What the text that a source gives reads as, or its first fault. Pulls no more once the text is refused, and not past
+/// its end. Answers `Read` where the source failed, and `Endless` where 2^40 pulls gave bytes and no end came.
 pub fn read_from<S: Source>(alloc: Global, source: &mut S) -> Result<Held, Refusal>
     ensures outcome { IfSome (S.gives source.old) (λ t. SourceOutcome t (S.gives source.new) result) }
     ensures refusal { IfErr result IsOfReading }
     ensures read { IsErrOf result Refusal.Read → IsTrue (S.has_failed source.new) }
     ensures stays { IsTrue (S.has_failed source.old) → IsTrue (S.has_failed source.new) }
+    ensures pulls { PulledWhileClean S.gives S.Pulls source.old source.new }
 {
     let mut reader = Reader::new(alloc);
     let mut room = [0u8; 65536];
@@ -58,6 +59,7 @@ pub fn read_keep<S: Source>(
     ensures refusal { IfErr result IsOfReading }
     ensures read { IsErrOf result Refusal.Read → IsTrue (S.has_failed source.new) }
     ensures stays { IsTrue (S.has_failed source.old) → IsTrue (S.has_failed source.new) }
+    ensures pulls { PulledWhileClean S.gives S.Pulls source.old source.new }
 {
     let mut reader = Reader::new(alloc);
     let mut room = [0u8; 65536];
@@ -82,6 +84,7 @@ fn next_piece<'a, S: Source>(source: &mut S, room: &'a mut [u8]) -> Result<&'a [
     ensures refusal { IfErr result (λ refusal. refusal ≡ Refusal.Read) }
     ensures err { OnErr result (IsTrue (S.has_failed source.new)) }
     ensures stays { IsTrue (S.has_failed source.old) → IsTrue (S.has_failed source.new) }
+    ensures pulls { S.Pulls source.old source.new }
 {
     match source.pull(room) {
         Ok(n) => Ok(&room[..n]),

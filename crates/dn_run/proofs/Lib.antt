@@ -1,1 +1,6 @@
-pub mod RunLaws
+pub mod ReadLaws
+pub mod OutcomeLaws
+pub mod FitLaws
+pub mod CompareLaws
+pub mod CommandLaws
+pub mod RefusedLaws

@@ -1,4 +1,11 @@
-pub mod Commands
 pub mod FaultLines
-pub mod Runs
+pub mod Streams
+pub mod Answers
 pub mod Takings
+pub mod Texts
+pub mod FilesRuns
+pub mod Outcomes
+pub mod Fits
+pub mod Runs
+pub mod Findings
+pub mod Words

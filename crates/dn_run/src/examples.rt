@@ -1,29 +1,10 @@
-// Worked examples of lines of words, and of lines that tell of a refusal.
-ghost use Rattle.std.specs.Prelude.{◌≡◌, codes, [], ◌∷◌, Some, None};
+// Worked examples of lines that tell why a run stopped.
+ghost use Rattle.std.specs.Prelude.{◌≡◌, codes, ℤ, pos};
 ghost use Rattle.dn_instance.specs.declared.refusal.Place.TheVariants as Places;
-ghost use Rattle.dn_run.specs.Commands.{Canon, asked};
-ghost use Rattle.dn_run.specs.FaultLines.{fault_line};
+ghost use Rattle.dn_run.specs.FaultLines.{fault_line, unfit_line};
 
-use dn_instance::{Place, Refusal};
+use dn_instance::{CompanionFault, Place, Refusal};
 use dn_line::Code;
-
-/// Lines of words that are a command.
-pub fn commands()
-    ensures no_words { asked [] ≡ Some (Canon (codes "-")) }
-    ensures name_alone { asked (codes "dnorm" ∷ []) ≡ Some (Canon (codes "-")) }
-    ensures standard_input { asked (codes "dnorm" ∷ codes "canon" ∷ codes "-" ∷ []) ≡ Some (Canon (codes "-")) }
-    ensures file { asked (codes "dnorm" ∷ codes "canon" ∷ codes "g.gr" ∷ []) ≡ Some (Canon (codes "g.gr")) }
-    ensures path { asked (codes "dnorm" ∷ codes "canon" ∷ codes "./-x" ∷ []) ≡ Some (Canon (codes "./-x")) }
-{}
-
-/// Lines of words that are none.
-pub fn no_commands()
-    ensures no_file { asked (codes "dnorm" ∷ codes "canon" ∷ []) ≡ None }
-    ensures empty_file { asked (codes "dnorm" ∷ codes "canon" ∷ [] ∷ []) ≡ None }
-    ensures option { asked (codes "dnorm" ∷ codes "canon" ∷ codes "-x" ∷ []) ≡ None }
-    ensures two_files { asked (codes "dnorm" ∷ codes "canon" ∷ codes "a" ∷ codes "b" ∷ []) ≡ None }
-    ensures other { asked (codes "dnorm" ∷ codes "Canon" ∷ codes "a" ∷ []) ≡ None }
-{}
 
 /// Lines that tell of a refusal.
 pub fn fault_lines()
@@ -33,4 +14,10 @@ pub fn fault_lines()
     ensures read { fault_line (codes "missing") Refusal.Read ≡ codes "missing: 31 Read\n" }
     ensures memory { fault_line (codes "dnorm") Refusal.Memory ≡ codes "dnorm: 30 Memory\n" }
     ensures write { fault_line (codes "g.gr") Refusal.Write ≡ codes "out: 33 Write\n" }
+{}
+
+/// Lines that tell why a companion does not fit.
+pub fn unfit_lines()
+    ensures node { unfit_line (codes "c.co") (CompanionFault.NotInGraph (pos 4)) ≡ codes "c.co: 35 NotInGraph 4\n" }
+    ensures kinds { unfit_line (codes "s.ss") CompanionFault.NotKinds ≡ codes "s.ss: 36 NotKinds\n" }
 {}

@@ -1,9 +1,9 @@
 // The line that tells why a run was refused.
 ghost use Rattle.std.specs.Prelude.{◌++◌, codes};
 ghost use Rattle.dn_sink.specs.Puts.{Puts};
-ghost use Rattle.dn_run.specs.FaultLines.{fault_line, reason_text};
+ghost use Rattle.dn_run.specs.FaultLines.{fault_line, reason_text, unfit_line};
 
-use dn_instance::{Place, Refusal};
+use dn_instance::{CompanionFault, Place, Refusal};
 use dn_sink::{Sink, SinkFault, put_all};
 use itoa::Buffer;
 
@@ -34,6 +34,59 @@ pub fn put_fault_line<K: Sink>(sink: &mut K, name: &str, refusal: &Refusal) -> R
     }
 }
 
+// Puts the line that tells why the companion of this name does not fit its graph: the fault's number, its name, and the
+// node that is not the graph's.
+pub(crate) fn put_unfit_line<K: Sink>(
+    sink: &mut K,
+    name: &str,
+    fault: &CompanionFault,
+) -> Result<(), SinkFault>
+    ensures { Puts K.taken K.has_failed sink.old sink.new (unfit_line name.now fault.now) result }
+{
+    let mut digits = Buffer::new();
+    let number = digits.format(fault.number()).as_bytes();
+    let reason = fault.name().as_bytes();
+    match fault {
+        CompanionFault::NotInGraph { id } => {
+            let mut digits = Buffer::new();
+            let id = digits.format(*id).as_bytes();
+            put_node_fault(sink, name.as_bytes(), number, reason, id)
+        }
+        CompanionFault::NotKinds => put_kind_fault(sink, name.as_bytes(), number, reason),
+    }
+}
+
+// Puts a name, after a colon a number and a reason, and then a node and an LF.
+fn put_node_fault<K: Sink>(
+    sink: &mut K,
+    name: &[u8],
+    number: &[u8],
+    reason: &[u8],
+    id: &[u8],
+) -> Result<(), SinkFault>
+    ensures { Puts K.taken K.has_failed sink.old sink.new (name.now ++ (codes ": "
+        ++ (number.now ++ (codes " " ++ (reason.now ++ (codes " " ++ (id.now ++ codes "\n"))))))) result }
+{
+    put_all(sink, name)?;
+    put_words(sink, number, reason, b" ")?;
+    put_all(sink, id)?;
+    put_all(sink, b"\n")
+}
+
+// Puts a name, after a colon a number and a reason, and an LF.
+fn put_kind_fault<K: Sink>(
+    sink: &mut K,
+    name: &[u8],
+    number: &[u8],
+    reason: &[u8],
+) -> Result<(), SinkFault>
+    ensures { Puts K.taken K.has_failed sink.old sink.new
+        (name.now ++ (codes ": " ++ (number.now ++ (codes " " ++ (reason.now ++ codes "\n"))))) result }
+{
+    put_all(sink, name)?;
+    put_words(sink, number, reason, b"\n")
+}
+
 // Puts where a refusal stands, in three parts, and the refusal.
 fn put_line<K: Sink>(
     sink: &mut K,
@@ -57,17 +110,17 @@ fn put_reason<K: Sink>(sink: &mut K, refusal: &Refusal) -> Result<(), SinkFault>
 {
     let mut digits = Buffer::new();
     let number = digits.format(refusal.number()).as_bytes();
-    put_words(sink, number, refusal.name().as_bytes())
+    put_words(sink, number, refusal.name().as_bytes(), b"\n")
 }
 
-// Puts a number and a name after a colon, and an LF.
-fn put_words<K: Sink>(sink: &mut K, number: &[u8], name: &[u8]) -> Result<(), SinkFault>
+// Puts a number and a name after a colon, and an end.
+fn put_words<K: Sink>(sink: &mut K, number: &[u8], name: &[u8], end: &[u8]) -> Result<(), SinkFault>
     ensures { Puts K.taken K.has_failed sink.old sink.new
-        (codes ": " ++ (number.now ++ (codes " " ++ (name.now ++ codes "\n")))) result }
+        (codes ": " ++ (number.now ++ (codes " " ++ (name.now ++ end.now)))) result }
 {
     put_all(sink, b": ")?;
     put_all(sink, number)?;
     put_all(sink, b" ")?;
     put_all(sink, name)?;
-    put_all(sink, b"\n")
+    put_all(sink, end)
 }

@@ -32,6 +32,9 @@ pub trait Files {
     /// Whether asking it once, for the text of this name, makes the second of the first.
     ghost Asks: { Self → List ℕ → Self → Type 0 };
 
+    /// Whether asking it for the text of this name hands out this source.
+    ghost Hands: { Self → List ℕ → Self.Text → Type 0 };
+
     /// Hands out the text of this name. What is behind the names stays, but for `-` when `-` is taken.
     ///
     /// # Errors
@@ -42,6 +45,7 @@ pub trait Files {
         ensures fine { IfOk result (λ t. Self.Text.has_failed t ≡ false) }
         ensures ok { OnOk result (fault self.new name.now ≡ None) }
         ensures err { IfErr result (λ f. fault self.new name.now ≡ Some f) }
+        ensures hands { IfOk result (λ t. Hands self.old name.now t) }
         ensures asks { Asks self.old name.now self.new }
         ensures others { KeepsOthers (behind self.old) (behind self.new) name.now };
 }

@@ -1,17 +1,21 @@
 //! A run of the program, over any files and any streams: the words that tell it, the texts that it asks for by name,
 //! the line that tells of a refusal, and the exit status.
 //!
-//! In the order of the data: `command` says what the words ask for, `files` hands out texts by name, `runs` does what
-//! is asked for, and `fault_line` puts the line of a refusal. `examples` has lines of words and of refusals.
+//! In the order of the data: `files` hands out texts by name, `texts` reads them, `commands` does what is asked for,
+//! `findings` puts what is found of texts that were read, `stop` is why a command stops before it is
+//! done, `fault_line` puts the line of that, and `runs` does what a line of words asks for. `examples` has lines that
+//! tell of refusals.
 #![tactic(auto)]
 
-pub mod command;
+mod commands;
 pub mod examples;
 pub mod fault_line;
 pub mod files;
+mod findings;
 pub mod runs;
+mod stop;
+mod texts;
 
-pub use command::{Command, command_of};
 pub use fault_line::put_fault_line;
 pub use files::{Files, FilesFault};
 pub use runs::{refuse_words, run};

@@ -1,25 +1,27 @@
 // A run of the program, over any files and any streams.
-ghost use Rattle.std.specs.Prelude.{◌≡◌, ◌≢◌, ◌≤◌, ◌⊎◌, ℕ, List, Some, None, map, string_bytes, IfSome, IsTrue, OnOk};
-ghost use Rattle.dn_instance.specs.Instances.{Instance};
-ghost use Rattle.dn_instance.specs.Texts.{Reads};
-ghost use Rattle.dn_canon.specs.CanonTexts.{IsTooLarge};
-ghost use Rattle.dn_run.specs.Commands.{Canon, asked};
+ghost use Rattle.std.specs.Prelude.{◌≡◌, ◌≤◌, ◌⊎◌, None, Some, map, string_bytes, IsTrue, OnOk};
+ghost use Rattle.dn_command.specs.Commands.{Asked, asks, plain_asked};
+ghost use Rattle.dn_command.specs.Requests.{IsReadByClap};
+ghost use Rattle.dn_command.specs.declared.request.Request.{Request};
+ghost use Rattle.dn_sink.specs.Puts.{Puts};
 ghost use Rattle.dn_run.specs.FaultLines.{bad_command_line};
-ghost use Rattle.dn_run.specs.Runs.{CanonOutcome, CanonRun, TakesLine, asked_text, refusal_status, sink_run};
-ghost use Rattle.dn_run.specs.Takings.{KeepsOthers};
+ghost use Rattle.dn_run.specs.FilesRuns.{files_run};
+ghost use Rattle.dn_run.specs.Streams.{TakesLine, sink_run};
+ghost use Rattle.dn_run.specs.Words.{AskedRun, PrintsText, RequestRun};
 
-use crate::command::{Command, command_of};
+use crate::commands::perform;
 use crate::fault_line::put_fault_line;
-use crate::files::{Files, FilesFault};
-use dn_bundle::Form;
-use dn_canon::canon_run;
+use crate::files::Files;
+use crate::stop::Stop;
+use dn_command::{Command, Request, request_of};
 use dn_instance::Refusal;
-use dn_sink::{Sink, put_all};
+use dn_sink::{Sink, SinkFault, put_all};
 use std::alloc::Global;
 
-/// Does what the words ask for, the program's name first, and answers the exit status: 0 where it is done, 2 where a
-/// text is refused, 3 where the words are no command, and 4 where memory, a file, a source or `out` failed. Why it was
-/// refused is told on `err`, in one line; a fault of `err` is ignored.
+/// Does what the words ask for, the program's name first, and answers the exit status: 0 where it is done, and the texts
+/// that are compared are the same problem; 1 where they differ; 2 where a text is refused, or a companion does not fit;
+/// 3 where the words are no command, or name standard input twice; and 4 where memory, a file, a source or `out` failed.
+/// Why it stopped is told on `err`, in one line; a fault of `err` is ignored.
 pub fn run<F: Files, O: Sink, E: Sink>(
     alloc: Global,
     words: &[String],
@@ -28,26 +30,18 @@ pub fn run<F: Files, O: Sink, E: Sink>(
     err: &mut E,
 ) -> u8
     ensures status { result ≤ 4 }
+    ensures asked { (asked : Asked) → plain_asked (map string_bytes words.now) ≡ Some asked → AskedRun
+        (files_run F.behind F.fault F.Asks F.Hands F.Text.gives F.Text.has_failed F.Text.Pulls files.old files.new)
+        (sink_run O.taken O.has_failed out.old out.new) (sink_run E.taken E.has_failed err.old err.new) asked result }
+    ensures other { plain_asked (map string_bytes words.now) ≡ None → (request : Request)
+        × IsReadByClap (map string_bytes words.now) request × RequestRun
+        (files_run F.behind F.fault F.Asks F.Hands F.Text.gives F.Text.has_failed F.Text.Pulls files.old files.new)
+        (sink_run O.taken O.has_failed out.old out.new) (sink_run E.taken E.has_failed err.old err.new) request result }
     ensures unput { (result ≡ 2) ⊎ (result ≡ 3) → out.new ≡ out.old }
-    ensures canon { (name : List ℕ) → asked (map string_bytes words.now) ≡ Some (Canon name)
-        → CanonRun (asked_text name (F.behind files.old name) (F.fault files.new name) F.Text.gives F.Text.has_failed)
-        (sink_run O.taken O.has_failed out.old out.new) (sink_run E.taken E.has_failed err.old err.new) result }
-    ensures asks { (name : List ℕ) → asked (map string_bytes words.now) ≡ Some (Canon name)
-        → F.Asks files.old name files.new × KeepsOthers (F.behind files.old) (F.behind files.new) name }
-    ensures refused { (name : List ℕ) → asked (map string_bytes words.now) ≡ Some (Canon name)
-        → result ≡ 2 → IfSome (F.behind files.old name) (λ b. (I : Instance) → Reads b I → IsTooLarge Form.One I) }
-    ensures flushed { (name : List ℕ) → asked (map string_bytes words.now) ≡ Some (Canon name)
-        → result ≡ 0 → IsTrue (O.is_flushed out.new) }
-    ensures never { (name : List ℕ) → asked (map string_bytes words.now) ≡ Some (Canon name)
-        → (result ≢ 1) × (result ≢ 3) }
-    ensures other { asked (map string_bytes words.now) ≡ None
-        → (result ≡ 3) × (files.new ≡ files.old)
-        × TakesLine (sink_run E.taken E.has_failed err.old err.new) bad_command_line }
+    ensures flushed { (result ≡ 0) ⊎ (result ≡ 1) → IsTrue (O.is_flushed out.new) }
 {
-    match command_of(words) {
-        Some(Command::Canon { name }) => canon(alloc, name, files, out, err),
-        None => refuse_words(err),
-    }
+    let request = request_of(alloc, words);
+    run_request(alloc, &request, files, out, err)
 }
 
 /// Tells on `err` that the words are no command, and answers the exit status, 3. A fault of `err` is ignored.
@@ -59,65 +53,83 @@ pub fn refuse_words<E: Sink>(err: &mut E) -> u8
     3
 }
 
-// Puts the canonical text of the text of this name, and answers the status.
-fn canon<F: Files, O: Sink, E: Sink>(
+// Does what is requested, and answers the exit status.
+fn run_request<F: Files, O: Sink, E: Sink>(
     alloc: Global,
-    name: &str,
+    request: &Request<'_>,
     files: &mut F,
     out: &mut O,
     err: &mut E,
 ) -> u8
-    ensures statuses { (result ≡ 0) ⊎ (result ≡ 2) ⊎ (result ≡ 4) }
-    ensures ran { CanonRun
-        (asked_text name.now (F.behind files.old name.now) (F.fault files.new name.now) F.Text.gives F.Text.has_failed)
-        (sink_run O.taken O.has_failed out.old out.new) (sink_run E.taken E.has_failed err.old err.new) result }
-    ensures asks { F.Asks files.old name.now files.new }
-    ensures others { KeepsOthers (F.behind files.old) (F.behind files.new) name.now }
-    ensures refused { result ≡ 2
-        → IfSome (F.behind files.old name.now) (λ b. (I : Instance) → Reads b I → IsTooLarge Form.One I) }
-    ensures unput { result ≡ 2 → out.new ≡ out.old }
-    ensures flushed { result ≡ 0 → IsTrue (O.is_flushed out.new) }
+    ensures status { result ≤ 4 }
+    ensures does { RequestRun
+        (files_run F.behind F.fault F.Asks F.Hands F.Text.gives F.Text.has_failed F.Text.Pulls files.old files.new)
+        (sink_run O.taken O.has_failed out.old out.new) (sink_run E.taken E.has_failed err.old err.new)
+        request.now result }
+    ensures unput { (result ≡ 2) ⊎ (result ≡ 3) → out.new ≡ out.old }
+    ensures flushed { (result ≡ 0) ⊎ (result ≡ 1) → IsTrue (O.is_flushed out.new) }
 {
-    match put_canon(alloc, name, files, out) {
-        Ok(()) => 0,
-        Err(refusal) => {
-            let _ = put_fault_line(err, name, &refusal);
-            refusal_status(&refusal)
+    match request {
+        Request::Command(command) => run_command(alloc, command, files, out, err),
+        Request::Print(text) => print(text, out, err),
+        Request::Bad => refuse_words(err),
+        Request::Memory => {
+            let _ = put_fault_line(err, "dnorm", &Refusal::Memory);
+            4
         }
     }
 }
 
-// Puts the canonical text of the text of this name.
-fn put_canon<F: Files, O: Sink>(
+// Runs a command, and answers the exit status.
+fn run_command<F: Files, O: Sink, E: Sink>(
     alloc: Global,
-    name: &str,
+    command: &Command<'_>,
     files: &mut F,
     out: &mut O,
-) -> Result<(), Refusal>
-    ensures outcome { CanonOutcome
-        (asked_text name.now (F.behind files.old name.now) (F.fault files.new name.now) F.Text.gives F.Text.has_failed)
-        (sink_run O.taken O.has_failed out.old out.new) result }
-    ensures asks { F.Asks files.old name.now files.new }
-    ensures others { KeepsOthers (F.behind files.old) (F.behind files.new) name.now }
-    ensures unput { (refusal : Refusal) → result ≡ Err refusal → refusal ≢ Refusal.Write → out.new ≡ out.old }
-    ensures flushed { OnOk result (IsTrue (O.is_flushed out.new)) }
+    err: &mut E,
+) -> u8
+    ensures status { result ≤ 4 }
+    ensures asked { AskedRun
+        (files_run F.behind F.fault F.Asks F.Hands F.Text.gives F.Text.has_failed F.Text.Pulls files.old files.new)
+        (sink_run O.taken O.has_failed out.old out.new) (sink_run E.taken E.has_failed err.old err.new)
+        (asks command.now) result }
+    ensures unput { (result ≡ 2) ⊎ (result ≡ 3) → out.new ≡ out.old }
+    ensures flushed { (result ≡ 0) ⊎ (result ≡ 1) → IsTrue (O.is_flushed out.new) }
 {
-    match files.take(name) {
-        Ok(text) => {
-            let mut source = text;
-            canon_run(alloc, &mut source, out, Form::One)
+    if command.names_standard_input_twice() {
+        let _ = put_all(err, b"dnorm: standard input named twice\n");
+        return 3;
+    }
+    match perform(alloc, command, files, out) {
+        Ok(status) => status,
+        Err(stop) => {
+            stop.tell(err);
+            stop.status()
         }
-        Err(FilesFault::Device) => Err(Refusal::Read),
-        Err(FilesFault::Memory) => Err(Refusal::Memory),
     }
 }
 
-// The status of a refusal.
-fn refusal_status(refusal: &Refusal) -> u8
-    ensures { result ≡ refusal_status refusal.now }
+// Puts a text on `out`, and answers the exit status.
+fn print<O: Sink, E: Sink>(text: &str, out: &mut O, err: &mut E) -> u8
+    ensures prints { PrintsText text.now (sink_run O.taken O.has_failed out.old out.new)
+        (sink_run E.taken E.has_failed err.old err.new) result }
+    ensures flushed { result ≡ 0 → IsTrue (O.is_flushed out.new) }
 {
-    match refusal {
-        Refusal::Text { .. } | Refusal::CountTooLarge => 2,
-        Refusal::Memory | Refusal::Read | Refusal::Endless | Refusal::Write => 4,
+    match put_flushed(out, text.as_bytes()) {
+        Ok(()) => 0,
+        Err(_) => {
+            let stop = Stop::Cut;
+            stop.tell(err);
+            stop.status()
+        }
     }
+}
+
+// Puts bytes, and then flushes.
+fn put_flushed<O: Sink>(out: &mut O, bytes: &[u8]) -> Result<(), SinkFault>
+    ensures text { Puts O.taken O.has_failed out.old out.new bytes.now result }
+    ensures flushed { OnOk result (IsTrue (O.is_flushed out.new)) }
+{
+    put_all(out, bytes)?;
+    out.flush()
 }

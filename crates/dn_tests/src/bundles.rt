@@ -277,15 +277,14 @@ fn tells(curve: &Curve, form: Form, arcs: &[Numbers]) -> bool {
     next.is_none() && curve.canon_len(form) == count && curve.canon_arc(count, form).is_none()
 }
 
-// Whether these are the free costs with their capacities.
+// Whether the free costs with their capacities are so many, of which this is the first.
 fn has_free(curve: &Curve, free: &[(i64, i64)]) -> bool {
-    for (i, step) in free.iter().enumerate() {
-        if curve.free(i as u64) != Some(*step) {
-            return false;
-        }
-    }
     let count = free.len() as u64;
-    curve.free_len() == count && curve.free(count).is_none()
+    let first = match free {
+        [first, ..] => Some(*first),
+        [] => None,
+    };
+    curve.free(0) == first && curve.free_len() == count && curve.free(count).is_none()
 }
 
 // What of the row the curve tells otherwise.
@@ -315,9 +314,9 @@ fn differs(curve: &Curve, row: &Row) -> Option<&'static str> {
 
 #[test]
 fn curves(rt: HostRuntime) -> Result<(), Fail> {
-    for row in ROWS {
+    for row in &ROWS {
         let curve = curve_of(rt.alloc(), row.arcs)?;
-        assert_eq!(rt; differs(&curve, &row), None, "of {:?}", row.arcs);
+        assert_eq!(rt; differs(&curve, row), None);
     }
     Ok(())
 }
@@ -393,45 +392,29 @@ const GAPS: [(&[Numbers], &[Numbers], Option<Gap>); 10] = [
 ];
 
 // The gap with its sides turned.
-fn turned(gap: Gap) -> Gap {
-    Gap {
-        amount: gap.amount,
-        left: gap.right,
-        right: gap.left,
+fn turned(gap: Option<Gap>) -> Option<Gap> {
+    match gap {
+        Some(gap) => Some(Gap {
+            amount: gap.amount,
+            left: gap.right,
+            right: gap.left,
+        }),
+        None => None,
     }
 }
 
-// What of two curves is told otherwise than that this is their first gap.
-fn gap_differs(
-    alloc: Global,
-    left: &[Numbers],
-    right: &[Numbers],
-    gap: Option<Gap>,
-) -> Result<Option<&'static str>, BundleFault> {
-    let curve = curve_of(alloc, left)?;
-    let other = curve_of(alloc, right)?;
-    let back = gap.map(turned);
-    if curve.gap(&other) != gap || other.gap(&curve) != back {
-        return Ok(Some("the gap"));
-    }
-    if curve.same(&other) != gap.is_none() {
-        return Ok(Some("whether they are the same"));
-    }
-    let there = if right.is_empty() { None } else { Some(&other) };
-    let how = Curve::how(Some(&curve), there);
-    if how != gap.map(How::Costs) || Curve::how(there, Some(&curve)) != back.map(How::Costs) {
-        return Ok(Some("how they differ"));
-    }
-    Ok(None)
+// Whether this is the first gap between two curves.
+fn is_gap(left: &Curve, right: &Curve, gap: Option<Gap>) -> bool {
+    left.gap(right) == gap && left.same(right) == gap.is_none()
 }
 
 #[test]
 fn gaps(rt: HostRuntime) -> Result<(), Fail> {
-    for (left, right, gap) in GAPS {
-        let other = gap_differs(rt.alloc(), left, right, gap)?;
-        assert_eq!(rt; other, None, "{left:?} and {right:?}");
+    for (left, right, gap) in &GAPS {
+        let curve = curve_of(rt.alloc(), left)?;
+        let other = curve_of(rt.alloc(), right)?;
+        assert!(rt; is_gap(&curve, &other, *gap) && is_gap(&other, &curve, turned(*gap)));
     }
-    assert!(rt; Curve::how(None, None).is_none());
     Ok(())
 }
 
@@ -465,25 +448,23 @@ const SMALL: [[Numbers; 3]; 18] = [
 // The least cost of an amount, by trying each split of it.
 fn slow_least(arcs: [Numbers; 3], amount: i64) -> Option<i128> {
     let [a, b, c] = arcs;
-    let mut least: Option<i64> = None;
+    let mut least: Option<i128> = None;
     for i in a.0..=a.1 {
         for j in b.0..=b.1 {
-            for k in c.0..=c.1 {
-                let carried = i.saturating_add(j).saturating_add(k);
+            let k = amount.saturating_sub(i).saturating_sub(j);
+            if c.0 <= k && k <= c.1 {
                 let cost = i
                     .saturating_mul(a.2)
                     .saturating_add(j.saturating_mul(b.2))
-                    .saturating_add(k.saturating_mul(c.2));
-                if carried == amount {
-                    least = match least {
-                        Some(best) if best <= cost => Some(best),
-                        _ => Some(cost),
-                    };
-                }
+                    .saturating_add(k.saturating_mul(c.2)) as i128;
+                least = match least {
+                    Some(best) if best <= cost => Some(best),
+                    _ => Some(cost),
+                };
             }
         }
     }
-    least.map(|cost| cost as i128)
+    least
 }
 
 // The least amount at which the slow costs differ.
@@ -501,59 +482,51 @@ fn slow_gap(left: [Numbers; 3], right: [Numbers; 3]) -> Option<Gap> {
     None
 }
 
-// What of two small bundles is told otherwise than by their slow costs.
-fn differs_from_slow(
+// Whether a curve has the least costs of a small bundle.
+fn has_slow_costs(curve: &Curve, arcs: [Numbers; 3]) -> bool {
+    for amount in -1..=MOST {
+        if curve.least(amount) != slow_least(arcs, amount) {
+            return false;
+        }
+    }
+    true
+}
+
+// Whether two small bundles have the gap of their slow costs.
+fn is_so_by_slow_costs(
     alloc: Global,
     left: [Numbers; 3],
     right: [Numbers; 3],
-) -> Result<Option<&'static str>, BundleFault> {
+) -> Result<bool, BundleFault> {
     let curve = curve_of(alloc, &left)?;
     let other = curve_of(alloc, &right)?;
-    for amount in -1..=MOST {
-        if curve.least(amount) != slow_least(left, amount) {
-            return Ok(Some("a least cost"));
-        }
-    }
-    let gap = slow_gap(left, right);
-    if curve.gap(&other) != gap {
-        return Ok(Some("the gap"));
-    }
-    if curve.same(&other) != gap.is_none() {
-        return Ok(Some("whether they are the same"));
-    }
-    Ok(None)
+    Ok(has_slow_costs(&curve, left) && is_gap(&curve, &other, slow_gap(left, right)))
 }
 
 #[test]
-fn small_bundles_by_all_splits(rt: HostRuntime) -> Result<(), Fail> {
-    for (i, left) in SMALL.iter().enumerate() {
-        for (k, right) in SMALL.iter().enumerate() {
-            let other = differs_from_slow(rt.alloc(), *left, *right)?;
-            assert_eq!(rt; other, None, "bundles {i} and {k}");
+fn small_bundles_by_all_splits(rt: HostRuntime) {
+    for left in &SMALL {
+        for right in &SMALL {
+            assert!(rt;
+                is_so_by_slow_costs(rt.alloc(), *left, *right) == Ok(true),
+                "{left:?} and {right:?}"
+            );
         }
     }
-    Ok(())
 }
 
-// What a bundle of lengths tells otherwise than that this is the least, if there is one.
-fn length_differs(least: &Least, answer: Option<i64>) -> Option<&'static str> {
+// Whether a bundle of lengths tells that this is the least, if there is one.
+fn is_least(least: &Least, answer: Option<i64>) -> bool {
     let count: u64 = if answer.is_some() { 1 } else { 0 };
-    if least.get() != answer || least.is_nothing() != answer.is_none() {
-        return Some("the least length");
-    }
-    if least.entries() != count {
-        return Some("the entries");
-    }
-    for form in [Form::One, Form::Two] {
-        let told = match least.canon_arc(0, form) {
-            Some(arc) => least.canon_after(&arc, form).is_none() && Some(arc.part(0)) == answer,
-            None => answer.is_none(),
-        };
-        if !told || least.canon_len(form) != count || least.canon_arc(1, form).is_some() {
-            return Some("the canonical arc");
-        }
-    }
-    None
+    let arc = match least.canon_arc(0, Form::Two) {
+        Some(arc) => Some(arc.part(0)),
+        None => None,
+    };
+    least.get() == answer
+        && arc == answer
+        && least.is_nothing() == answer.is_none()
+        && least.entries() == count
+        && least.canon_len(Form::Two) == count
 }
 
 #[test]
@@ -568,49 +541,35 @@ fn least_lengths(rt: HostRuntime) -> Result<(), Fail> {
         for length in lengths {
             least.add(LengthArc { length: *length })?;
         }
-        assert_eq!(rt; length_differs(&least, answer), None, "of {lengths:?}");
+        assert!(rt; is_least(&least, answer));
     }
-    let one = bundle_of::<Least>(rt.alloc(), &[LengthArc { length: 3 }])?;
-    let how = How::Lengths {
-        left: None,
-        right: Some(3),
-    };
-    assert_eq!(rt; Least::how(None, Some(&one)), Some(how));
     Ok(())
 }
 
-// What a bundle of capacities tells otherwise than that this is the total.
-fn total_differs(total: &Total, answer: i64) -> Option<&'static str> {
+// Whether a bundle of capacities tells that this is the total.
+fn is_total(total: &Total, answer: i64) -> bool {
     let count: u64 = if answer == 0 { 0 } else { 1 };
-    if total.get() != answer || total.is_nothing() != (answer == 0) {
-        return Some("the total");
-    }
-    if total.entries() != count {
-        return Some("the entries");
-    }
-    for form in [Form::One, Form::Two] {
-        let told = match total.canon_arc(0, form) {
-            Some(arc) => total.canon_after(&arc, form).is_none() && arc.part(0) == answer,
-            None => answer == 0,
-        };
-        if !told || total.canon_len(form) != count {
-            return Some("the canonical arc");
-        }
-    }
-    None
+    let told = match total.canon_arc(0, Form::One) {
+        Some(arc) => arc.part(0),
+        None => 0,
+    };
+    total.get() == answer
+        && told == answer
+        && total.is_nothing() == (answer == 0)
+        && total.entries() == count
+        && total.canon_len(Form::One) == count
 }
 
-// Adds capacities, all but the last of which can be added, and answers what comes of the last.
-fn add_caps(total: &mut Total, caps: &[i64]) -> Option<Result<(), BundleFault>> {
+// Adds capacities, and answers what comes of the last.
+fn add_caps(total: &mut Total, caps: &[i64]) -> Result<(), BundleFault> {
     let mut added = Ok(());
     for cap in caps {
         let arc = CapArc { cap: *cap };
-        if added.is_err() || !Total::is_arc(&arc) {
-            return None;
+        if Total::is_arc(&arc) {
+            added = total.add(arc);
         }
-        added = total.add(arc);
     }
-    Some(added)
+    added
 }
 
 #[test]
@@ -628,11 +587,8 @@ fn total_capacities(rt: HostRuntime) {
     ];
     for (caps, last, answer) in table {
         let mut total = Total::empty(rt.alloc());
-        assert!(rt;
-            add_caps(&mut total, caps) == Some(last),
-            "the last of {caps:?}"
-        );
-        assert_eq!(rt; total_differs(&total, answer), None, "of {caps:?}");
+        let added = add_caps(&mut total, caps);
+        assert!(rt; added == last && is_total(&total, answer));
     }
 }
 
@@ -659,30 +615,23 @@ fn sums_past_the_limit(rt: HostRuntime) {
 }
 
 #[test]
-fn bundles_of_lists(rt: HostRuntime) -> Result<(), Fail> {
+fn lists_of_lengths(rt: HostRuntime) -> Result<(), Fail> {
     let lengths = [LengthArc { length: 7 }, LengthArc { length: 3 }];
     let least = bundle_of::<Least>(rt.alloc(), &lengths)?;
-    assert_eq!(rt; least.get(), Some(3));
-    assert!(rt; !least.same(&Least::empty(rt.alloc())));
-    let caps = [CapArc { cap: 4 }, CapArc { cap: 5 }];
-    let total = bundle_of::<Total>(rt.alloc(), &caps)?;
-    assert_eq!(rt; total.get(), 9);
+    assert!(rt; least.get() == Some(3) && !least.same(&Least::empty(rt.alloc())));
+    let how = How::Lengths {
+        left: None,
+        right: Some(3),
+    };
+    assert!(rt; Least::how(None, Some(&least)) == Some(how));
+    Ok(())
+}
+
+#[test]
+fn lists_of_capacities(rt: HostRuntime) -> Result<(), Fail> {
+    let total = bundle_of::<Total>(rt.alloc(), &[CapArc { cap: 4 }, CapArc { cap: 5 }])?;
     let how = How::Totals { left: 9, right: 0 };
-    assert_eq!(rt; Total::how(Some(&total), None), Some(how));
-    let costs = [
-        CostArc {
-            low: 1,
-            cap: 3,
-            cost: 0,
-        },
-        CostArc {
-            low: 1,
-            cap: 2,
-            cost: 3,
-        },
-    ];
-    let curve = bundle_of::<Curve>(rt.alloc(), &costs)?;
-    assert_eq!(rt; curve.least(5), Some(6));
+    assert!(rt; Total::how(Some(&total), None) == Some(how));
     let past = [
         CapArc {
             cap: 9223372036854775807,
@@ -690,7 +639,25 @@ fn bundles_of_lists(rt: HostRuntime) -> Result<(), Fail> {
         CapArc { cap: 1 },
     ];
     let fault = bundle_of::<Total>(rt.alloc(), &past).err();
-    assert_eq!(rt; fault, Some(BundleFault::Sum));
+    assert!(rt; fault == Some(BundleFault::Sum));
+    Ok(())
+}
+
+#[test]
+fn lists_of_costs(rt: HostRuntime) -> Result<(), Fail> {
+    let costs = [CostArc {
+        low: 0,
+        cap: 2,
+        cost: 4,
+    }];
+    let curve = bundle_of::<Curve>(rt.alloc(), &costs)?;
+    let gap = Gap {
+        amount: 1,
+        left: Some(4),
+        right: None,
+    };
+    assert!(rt; curve.least(2) == Some(8));
+    assert!(rt; Curve::how(Some(&curve), None) == Some(How::Costs(gap)));
     Ok(())
 }
 

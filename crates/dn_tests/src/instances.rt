@@ -1,351 +1,301 @@
-// Whole texts whose answers are known from outside.
-
-mod cases;
+// Texts that come in pieces, and what is held of them.
 
 use crate::stand_ins::Pieces;
-use cases::{
-    ACCEPTED, CAPACITIES, COSTS, ENDS, FIRST_LINES, Faulty, LATER_LINES, LENGTHS, NODES_AND_ARCS,
-    NOTHING, OTHER_COSTS, POINTS, QUERIES, SOURCES, SUPPLIES, USUAL,
-};
-use dn_bundle::Fixed;
-use dn_instance::{
-    CompanionFault, Held, Place, Reader, Refusal, View, check_companion, read_from, read_keep,
-    read_text,
-};
-use dn_line::{Code, Kind, Slice};
-use std::alloc::{AllocError, Global};
-use std::process::Abort;
+use crate::texts::{CAPACITIES, COSTS, COSTS_ONE, ROADS, ROADS_CANON};
+use dn_bundle::Form;
+use dn_canon::canon_text;
+use dn_instance::{Held, Place, Reader, Refusal, View, read_from, read_keep, read_text};
+use dn_line::{Code, Slice};
+use std::alloc::Global;
 use std::test::Fail;
 
-// The refusal of a text, if it has one.
-fn refusal(answer: Result<Held, Refusal>) -> Option<Refusal> {
-    match answer {
-        Ok(_) => None,
-        Err(refusal) => Some(refusal),
-    }
+// A text, how many of its bytes have come when its fault shows, and its canonical text or its fault.
+#[derive(Clone, Copy)]
+struct Case {
+    text: &'static str,
+    shown: usize,
+    answer: Result<&'static str, Refusal>,
 }
 
-// What a reader answers that was fed this front of a text: the fault of a line that an LF has ended.
-fn so_far(front: &[u8], fault: Option<Refusal>) -> Result<(), Refusal> {
-    let ended = front.iter().filter(|byte| **byte == b'\n').count();
-    match fault {
-        Some(
-            Refusal::Text {
-                place: Place::Line(number),
-                code,
+impl Case {
+    // What a reader answers that was fed this front of the text.
+    fn so_far(&self, front: &[u8]) -> Result<(), Refusal> {
+        match self.answer {
+            Err(fault) if front.len() >= self.shown => Err(fault),
+            _ => Ok(()),
+        }
+    }
+
+    // Whether a text is read so.
+    fn is_read(&self, alloc: Global, read: Result<Held, Refusal>) -> bool {
+        match (read, self.answer) {
+            (Ok(held), Ok(canon)) => match canon_text(alloc, &held, Form::One) {
+                Ok(text) => text.as_slice() == canon.as_bytes(),
+                Err(_) => false,
             },
-        ) if number <= ended as u64 => Err(Refusal::Text {
-            place: Place::Line(number),
-            code,
-        }),
-        _ => Ok(()),
+            (Err(refusal), Err(fault)) => refusal == fault,
+            _ => false,
+        }
     }
 }
 
-// Whether a text that is fed byte by byte gets this answer, and its fault as soon as the LF of the line has come.
-fn is_so_by_bytes(alloc: Global, text: &[u8], fault: Option<Refusal>) -> bool {
+// Faults of a second line.
+const NOT_A_NUMBER: Refusal = Refusal::Text {
+    place: Place::Line(2),
+    code: Code::NotANumber,
+};
+
+const OUT_OF_RANGE: Refusal = Refusal::Text {
+    place: Place::Line(2),
+    code: Code::OutOfRange,
+};
+
+const CASES: [Case; 11] = [
+    Case {
+        text: COSTS,
+        shown: usize::MAX,
+        answer: Ok(COSTS_ONE),
+    },
+    Case {
+        text: CAPACITIES,
+        shown: usize::MAX,
+        answer: Ok("p max 3 2\nn 1 s\nn 3 t\na 1 2 9\na 1 3 2\n"),
+    },
+    Case {
+        text: "c\tb\r\n p aux sp co +2\r\n\r\nv 3  -73530767 41085396\nv 1 5 -6",
+        shown: usize::MAX,
+        answer: Ok("p aux sp co 2\nv 1 5 -6\nv 3 -73530767 41085396\n"),
+    },
+    Case {
+        text: "",
+        shown: usize::MAX,
+        answer: Err(Refusal::Text {
+            place: Place::End,
+            code: Code::NoProblem,
+        }),
+    },
+    Case {
+        text: "x",
+        shown: usize::MAX,
+        answer: Err(Refusal::Text {
+            place: Place::Line(1),
+            code: Code::BadLine,
+        }),
+    },
+    Case {
+        text: "p sp 2 2\na 1 2 1\n",
+        shown: usize::MAX,
+        answer: Err(Refusal::Text {
+            place: Place::End,
+            code: Code::TooFewLines,
+        }),
+    },
+    Case {
+        text: "p sp 2 1\na 1 2 1.5\n",
+        shown: 19,
+        answer: Err(NOT_A_NUMBER),
+    },
+    Case {
+        text: "p sp 2 1\na 1 2 9223372036854775808\n",
+        shown: 35,
+        answer: Err(OUT_OF_RANGE),
+    },
+    Case {
+        text: "p sp 2 1\na 1 2 99999999999999999999x\n",
+        shown: 37,
+        answer: Err(NOT_A_NUMBER),
+    },
+    Case {
+        text: "p sp 2 1\na 9223372036854775808 2 x\n",
+        shown: 35,
+        answer: Err(NOT_A_NUMBER),
+    },
+    Case {
+        text: "p sp 1 1\na 1 1 x\nz\n",
+        shown: 17,
+        answer: Err(NOT_A_NUMBER),
+    },
+];
+
+// Whether a text that is fed byte by byte is read so, and its fault told as soon as the LF of the line has come.
+fn is_so_by_bytes(alloc: Global, case: &Case) -> bool {
+    let text = case.text.as_bytes();
     let mut reader = Reader::new(alloc);
     for at in 0..text.len() {
-        if reader.feed(&text[at..=at]) != so_far(&text[..=at], fault) {
+        if reader.feed(&text[at..=at]) != case.so_far(&text[..=at]) {
             return false;
         }
     }
-    refusal(reader.finish()) == fault
+    case.is_read(alloc, reader.finish())
 }
 
 // The same of a text in two pieces, cut at every place.
-fn is_so_in_two_pieces(alloc: Global, text: &[u8], fault: Option<Refusal>) -> bool {
+fn is_so_in_two_pieces(alloc: Global, case: &Case) -> bool {
+    let text = case.text.as_bytes();
     for cut in 0..=text.len() {
         let (front, back) = text.split_at(cut);
         let mut reader = Reader::new(alloc);
-        if reader.feed(front) != so_far(front, fault)
-            || reader.feed(back) != so_far(text, fault)
-            || refusal(reader.finish()) != fault
-        {
+        if reader.feed(front) != case.so_far(front) || reader.feed(back) != case.so_far(text) {
+            return false;
+        }
+        if !case.is_read(alloc, reader.finish()) {
             return false;
         }
     }
     true
 }
 
-// Whether a source is read with this answer, with a copy and without, and the copy gains what was pulled.
-fn is_so_of(alloc: Global, source: Pieces, answer: Option<Refusal>) -> bool {
+// Whether a source is read with this refusal, with a copy and without, and the copy gains what was pulled.
+fn is_refused(alloc: Global, source: Pieces, fault: Refusal) -> bool {
     let text = source.rest;
     let mut alone = source;
     let mut copied = source;
     let mut copy = Vec::new(alloc);
-    refusal(read_from(alloc, &mut alone)) == answer
-        && refusal(read_keep(alloc, &mut copied, &mut copy)) == answer
-        && copy.as_slice() == &text[..text.len() - copied.rest.len()]
-}
-
-// Whether it is so of sources that do not fail, whatever they give a pull.
-fn is_so_of_sources(alloc: Global, text: &[u8], fault: Option<Refusal>) -> bool {
-    for size in [1, 4096] {
-        let source = Pieces::new(text, size);
-        if !is_so_of(alloc, source, fault) {
-            return false;
-        }
-    }
-    refusal(read_from(alloc, &mut Slice::new(text))) == fault
+    read_from(alloc, &mut alone).err() == Some(fault)
+        && read_keep(alloc, &mut copied, &mut copy).err() == Some(fault)
+        && copy.as_slice() == &text[..text.len().saturating_sub(copied.rest.len())]
 }
 
 // Whether a source that fails at any pull gives the fault of a line that came whole before, or else `Read`.
-fn is_so_of_failing(alloc: Global, text: &[u8], fault: Option<Refusal>) -> bool {
+fn is_so_of_failing(alloc: Global, case: &Case) -> bool {
+    let text = case.text.as_bytes();
     for pulls in 0..=text.len() {
-        let answer = match so_far(&text[..pulls], fault) {
+        let fault = match case.so_far(&text[..pulls]) {
             Ok(()) => Refusal::Read,
-            Err(refusal) => refusal,
+            Err(fault) => fault,
         };
-        let source = Pieces::failing(text, 1, pulls);
-        if !is_so_of(alloc, source, Some(answer)) {
+        if !is_refused(alloc, Pieces::failing(text, 1, pulls), fault) {
             return false;
         }
     }
     true
 }
 
-// How a text was given where it had another refusal, or one where there is none.
-fn differs(alloc: Global, text: &str, fault: Option<Refusal>) -> Option<&'static str> {
-    let text = text.as_bytes();
-    if refusal(read_text(alloc, text)) != fault {
+// How a text was given where it was read otherwise.
+fn differs(alloc: Global, case: &Case) -> Option<&'static str> {
+    if !case.is_read(alloc, read_text(alloc, case.text.as_bytes())) {
         Some("whole")
-    } else if !is_so_by_bytes(alloc, text, fault) {
+    } else if !is_so_by_bytes(alloc, case) {
         Some("byte by byte")
-    } else if !is_so_in_two_pieces(alloc, text, fault) {
+    } else if !is_so_in_two_pieces(alloc, case) {
         Some("in two pieces")
-    } else if !is_so_of_sources(alloc, text, fault) {
-        Some("from a source")
-    } else if !is_so_of_failing(alloc, text, fault) {
+    } else if !is_so_of_failing(alloc, case) {
         Some("from a source that fails")
     } else {
         None
     }
 }
 
-// The first of the faulty texts that had another answer, and how it was given.
-fn first_other(alloc: Global, faults: &[Faulty]) -> Option<(&'static str, &'static str)> {
-    for (text, place, code) in faults {
-        let fault = Refusal::Text {
-            place: *place,
-            code: *code,
-        };
-        if let Some(way) = differs(alloc, text, Some(fault)) {
-            return Some((*text, way));
-        }
-    }
-    None
-}
-
 #[test]
-fn faulty_texts(rt: HostRuntime) {
-    for faults in [&FIRST_LINES[..], &LATER_LINES, &NODES_AND_ARCS, &ENDS] {
-        assert_eq!(rt; first_other(rt.alloc(), faults), None);
-    }
-}
-
-// Texts whose contents are told below.
-const TOLD: [&str; 9] = [
-    USUAL, LENGTHS, CAPACITIES, COSTS, SUPPLIES, NOTHING, SOURCES, QUERIES, POINTS,
-];
-
-#[test]
-fn accepted_texts(rt: HostRuntime) {
-    for texts in [&ACCEPTED[..], &TOLD] {
-        for text in texts {
-            assert_eq!(rt; differs(rt.alloc(), text, None), None, "{text}");
-        }
+fn texts_in_pieces(rt: HostRuntime) {
+    for case in &CASES {
+        assert_eq!(rt; differs(rt.alloc(), case), None);
     }
 }
 
 #[test]
 fn a_refusal_stays(rt: HostRuntime) {
-    let fault = Refusal::Text {
+    let fault = Err(Refusal::Text {
         place: Place::Line(1),
         code: Code::BadLine,
-    };
+    });
     let mut reader = Reader::new(rt.alloc());
-    assert_eq!(rt; reader.feed(b"x\n"), Err(fault));
-    assert_eq!(rt; reader.feed(b"p sp 0 0\n"), Err(fault));
-    assert_eq!(rt; reader.feed(b""), Err(fault));
-    assert_eq!(rt; refusal(reader.finish()), Some(fault));
-    let mut unfinished = Reader::new(rt.alloc());
-    assert_eq!(rt; unfinished.feed(b"x"), Ok(()));
-    assert_eq!(rt; refusal(unfinished.finish()), Some(fault));
-}
-
-#[test]
-fn sources_that_fail_at_the_second_pull(rt: HostRuntime) {
-    let bad_line = Refusal::Text {
-        place: Place::Line(1),
-        code: Code::BadLine,
-    };
-    for (text, answer) in [("p sp 1 1\n", Refusal::Read), ("x\n", bad_line)] {
-        let mut source = Pieces::failing(text.as_bytes(), 4096, 1);
-        assert_eq!(rt;
-            refusal(read_from(rt.alloc(), &mut source)),
-            Some(answer),
-            "{text}"
-        );
+    for piece in ["x\n", "p sp 0 0\n", ""] {
+        let answer = reader.feed(piece.as_bytes());
+        assert!(rt; answer == fault, "{piece}");
     }
+    assert!(rt; reader.finish().err() == fault.err());
 }
 
-// Kind, nodes, counted lines and pairs of the texts whose contents are told.
-const SIZES: [(&str, Kind, i64, i64, u64); 9] = [
-    (USUAL, Kind::Sp, 3, 4, 4),
-    (LENGTHS, Kind::Sp, 3, 7, 5),
-    (CAPACITIES, Kind::Max, 3, 4, 2),
-    (COSTS, Kind::Min, 2, 3, 1),
-    (SUPPLIES, Kind::Min, 4, 5, 5),
-    (NOTHING, Kind::Min, 2, 2, 1),
-    (SOURCES, Kind::Ss, 0, 3, 0),
-    (QUERIES, Kind::P2p, 0, 2, 0),
-    (POINTS, Kind::Co, 0, 2, 0),
+// A comment of 1,000,000 bytes before a text.
+#[test]
+fn a_long_comment(rt: HostRuntime) {
+    let block = [b'1'; 1000];
+    let mut reader = Reader::new(rt.alloc());
+    let _ = reader.feed(b"c");
+    for _ in 0..1000 {
+        let _ = reader.feed(&block);
+    }
+    let _ = reader.feed(b"\n");
+    let _ = reader.feed(ROADS.as_bytes());
+    let case = Case {
+        text: ROADS,
+        shown: usize::MAX,
+        answer: Ok(ROADS_CANON),
+    };
+    assert!(rt; case.is_read(rt.alloc(), reader.finish()));
+}
+
+// Texts, one of each kind, of whose views something is told below.
+const VIEWED: [&str; 6] = [
+    COSTS,
+    CAPACITIES,
+    ROADS,
+    "p aux sp ss 3\ns 5\ns 2\ns 5\n",
+    "p aux sp p2p 2\nq 9 1\nq 1 9\n",
+    "p aux sp co 2\nv 3 -73530767 41085396\nv 1 5 -6\n",
 ];
 
-#[test]
-fn sizes(rt: HostRuntime) -> Result<(), Fail> {
-    for (text, kind, nodes, lines, pairs) in SIZES {
-        let held = read_text(rt.alloc(), text.as_bytes())?;
-        let told = (held.kind(), held.nodes(), held.lines(), held.pairs());
-        assert!(rt; told == (kind, nodes, lines, pairs), "{text}");
-    }
-    Ok(())
-}
-
-// The numbers that the view of a text shows, one after another; the amount and the cost of what is forced for a curve.
-fn shown(alloc: Global, text: &str) -> Result<Vec<i64>, Fail> {
-    let held = read_text(alloc, text.as_bytes())?;
-    let mut all = Vec::new(alloc);
+// Whether the view of such a text is its own.
+fn is_viewed(held: &Held) -> bool {
     match held.view() {
-        View::Sp { table } => {
-            for ((src, dst), least) in table.pairs() {
-                all.extend_from_slice(&[src, dst, least.get().unwrap_or(i64::MAX)])?;
-            }
-        }
+        View::Min { supplies, table } => match table.get(1, 2) {
+            Some(curve) => supplies.is_empty() && curve.forced() == (2, 3),
+            None => false,
+        },
         View::Max {
             source,
             sink,
             table,
-        } => {
-            all.extend_from_slice(&[source, sink])?;
-            for ((src, dst), total) in table.pairs() {
-                all.extend_from_slice(&[src, dst, total.get()])?;
-            }
-        }
-        View::Min { supplies, table } => {
-            for (id, flow) in supplies.iter() {
-                all.extend_from_slice(&[*id, *flow])?;
-            }
-            for ((src, dst), curve) in table.pairs() {
-                all.extend_from_slice(&[src, dst, curve.forced().0])?;
-            }
-        }
-        View::Ss { items } => all.extend_from_slice(items)?,
-        View::P2p { items } => {
-            for (from, to) in items {
-                all.extend_from_slice(&[*from, *to])?;
-            }
-        }
-        View::Co { points } => {
-            for (id, (x, y)) in points.iter() {
-                all.extend_from_slice(&[*id, *x, *y])?;
-            }
-        }
+        } => match table.get(1, 2) {
+            Some(total) => source == 1 && sink == 3 && total.get() == 9,
+            None => false,
+        },
+        View::Sp { table } => match table.get(3, 1) {
+            Some(least) => least.get() == Some(-5) && table.get(1, 3).is_none(),
+            None => false,
+        },
+        View::Ss { items } => items == [5, 2, 5].as_slice(),
+        View::P2p { items } => items == [(9, 1), (1, 9)].as_slice(),
+        View::Co { points } => points.get(&3) == Some(&(-73530767, 41085396)),
     }
-    Ok(all)
 }
-
-// Texts, and what their views show.
-const SHOWN: [(&str, &[i64]); 7] = [
-    (LENGTHS, &[1, 2, 3, 2, 1, 4, 2, 2, 0, 2, 3, 9, 3, 1, -5]),
-    (CAPACITIES, &[1, 3, 1, 2, 9, 1, 3, 2]),
-    (
-        SUPPLIES,
-        &[1, 4, 4, -4, 1, 2, 0, 1, 3, 0, 2, 3, 0, 2, 4, 0, 3, 4, 0],
-    ),
-    (NOTHING, &[2, 1, 0]),
-    (SOURCES, &[5, 2, 5]),
-    (QUERIES, &[9, 1, 1, 9]),
-    (POINTS, &[1, 5, -6, 3, -73530767, 41085396]),
-];
 
 #[test]
 fn views(rt: HostRuntime) -> Result<(), Fail> {
-    for (text, numbers) in SHOWN {
-        let told = shown(rt.alloc(), text)?;
-        assert_eq!(rt; told.as_slice(), numbers, "{text}");
+    for text in VIEWED {
+        let held = read_text(rt.alloc(), text.as_bytes())?;
+        assert!(rt; is_viewed(&held), "{text}");
     }
     Ok(())
 }
 
-#[test]
-fn costs(rt: HostRuntime) -> Result<(), Fail> {
-    let held = read_text(rt.alloc(), COSTS.as_bytes())?;
-    let View::Min { supplies, table } = held.view() else {
-        panic!(rt; "no `min` problem");
-    };
-    assert!(rt; supplies.is_empty() && table.get(2, 1).is_none());
-    let Some(curve) = table.get(1, 2) else {
-        panic!(rt; "no curve");
-    };
-    assert_eq!(rt; curve.forced(), (2, 3));
-    let fixed = Fixed::Two {
-        units: 1,
-        cost: 1,
-        above: 1,
-    };
-    assert_eq!(rt; curve.fixed(), fixed);
-    let free = [Some((0, 2)), Some((1, 4)), Some((3, 1)), None];
-    for (i, step) in free.iter().enumerate() {
-        assert_eq!(rt; curve.free(i as u64), *step, "free, {i}");
-    }
-    let least = [
-        (1, None),
-        (2, Some(3)),
-        (5, Some(4)),
-        (8, Some(7)),
-        (9, Some(10)),
-        (10, None),
-    ];
-    for (amount, cost) in least {
-        assert_eq!(rt; curve.least(amount), cost, "{amount}");
-    }
-    Ok(())
-}
-
-// Feeds a text byte by byte, also after a refusal, which stays. Answers the refusal at the end.
-fn fed_on(rt: &impl Abort, alloc: Global, text: &str) -> Option<Refusal> {
+// The refusal at the end of a text that is fed byte by byte, also after a refusal.
+fn fed_on(alloc: Global, text: &[u8]) -> Option<Refusal> {
     let mut reader = Reader::new(alloc);
-    let mut first = None;
-    for byte in text.as_bytes() {
-        let answer = reader.feed(&[*byte]).err();
-        if first.is_none() {
-            first = answer;
-        }
-        assert_eq!(rt; answer, first, "{text}");
+    for byte in text {
+        let _ = reader.feed(&[*byte]);
     }
-    let last = refusal(reader.finish());
-    assert!(rt; first.is_none() || first == last, "{text}");
-    last
+    reader.finish().err()
 }
 
 // Where one growth is refused, in any of these texts, one answer is want of memory, and all others are right.
 #[test]
 fn a_refused_growth(rt: HostRuntime) {
-    let mut refused = 0;
-    for text in TOLD {
+    let mut is_refused = false;
+    for text in VIEWED {
+        let text = text.as_bytes();
         let mut copy = Vec::new(rt.alloc());
         let answers = [
-            refusal(read_text(rt.alloc(), text.as_bytes())),
-            refusal(read_from(rt.alloc(), &mut Slice::new(text.as_bytes()))),
-            refusal(read_keep(rt.alloc(), &mut Slice::new(text.as_bytes()), &mut copy)),
-            fed_on(&rt, rt.alloc(), text),
+            read_text(rt.alloc(), text).err(),
+            read_from(rt.alloc(), &mut Slice::new(text)).err(),
+            read_keep(rt.alloc(), &mut Slice::new(text), &mut copy).err(),
+            fed_on(rt.alloc(), text),
         ];
         for answer in answers {
             if answer.is_some() {
-                assert_eq!(rt; (answer, refused), (Some(Refusal::Memory), 0), "{text}");
-                refused = 1;
+                assert!(rt; answer == Some(Refusal::Memory) && !is_refused);
+                is_refused = true;
             }
         }
     }
@@ -356,23 +306,23 @@ fn a_copy_is_added(rt: HostRuntime) -> Result<(), Fail> {
     let mut copy = Vec::new(rt.alloc());
     copy.extend_from_slice(b"before")?;
     let held = read_keep(rt.alloc(), &mut Slice::new(b"p sp 1 0"), &mut copy)?;
-    assert_eq!(rt; held.nodes(), 1);
-    assert_eq!(rt; copy.as_slice(), b"beforep sp 1 0".as_slice());
+    assert!(rt; held.nodes() == 1);
+    assert!(rt; copy.as_slice() == b"beforep sp 1 0".as_slice());
     Ok(())
+}
+
+// A comment whose bytes are no UTF-8.
+#[test]
+fn bytes_that_are_no_text(rt: HostRuntime) {
+    let read = read_text(rt.alloc(), b"c\xff\x00\x80\np sp 0 0\n");
+    assert!(rt; read.is_ok_and(|held| held.nodes() == 0));
 }
 
 #[test]
 fn names(rt: HostRuntime) {
-    let fault = Refusal::Text {
-        place: Place::End,
-        code: Code::TooFewLines,
-    };
     let table = [
-        (fault, 20, "TooFewLines"),
         (Refusal::Memory, 30, "Memory"),
-        (Refusal::Read, 31, "Read"),
         (Refusal::Endless, 32, "Endless"),
-        (Refusal::Write, 33, "Write"),
         (Refusal::CountTooLarge, 34, "CountTooLarge"),
     ];
     for (refusal, number, name) in table {
@@ -383,84 +333,59 @@ fn names(rt: HostRuntime) {
     }
 }
 
-// Texts, and the entries of a reader after each of their lines.
-const ENTRIES: [(&str, &[u64]); 6] = [
-    (LENGTHS, &[0, 1, 1, 2, 2, 3, 4, 5]),
-    (CAPACITIES, &[0, 0, 0, 0, 1, 2, 2]),
-    (COSTS, &[0, 2, 3, 4]),
-    (OTHER_COSTS, &[0, 1, 2, 3, 4, 4, 4, 4]),
-    (QUERIES, &[0, 1, 2]),
-    ("p sp 2 2\na 1 2 1\nz\na 2 1 1\n", &[0, 1, 1]),
+// Texts line by line, and the entries of a reader after each line.
+const ENTRIES: [&[(&str, u64)]; 4] = [
+    &[
+        ("p sp 3 7\n", 0),
+        ("a 1 2 7\n", 1),
+        ("a 1 2 3\n", 1),
+        ("a 2 1 4\n", 2),
+        ("a 1 2 3\n", 2),
+        ("a 2 2 0\n", 3),
+        ("a 3 1 -5\n", 4),
+        ("a 2 3 9\n", 5),
+    ],
+    &[
+        ("p max 3 3\n", 0),
+        ("n 3 t\nn 1 s\n", 0),
+        ("a 2 3 0\n", 0),
+        ("a 1 2 4\n", 1),
+        ("a 1 2 5\n", 1),
+    ],
+    &[
+        ("p min 2 7\n", 0),
+        ("a 1 2 0 1 3\n", 1),
+        ("a 1 2 0 3 1\n", 2),
+        ("a 1 2 1 1 4\n", 3),
+        ("a 1 2 0 1 0\n", 4),
+        ("a 1 2 0 1 1\n", 4),
+        ("a 1 2 1 1 -1\n", 4),
+        ("a 1 2 0 1 0\n", 4),
+    ],
+    &[
+        ("p aux sp p2p 3\n", 0),
+        ("q 9 1\n", 1),
+        ("q 1 9\n", 2),
+        ("z\n", 2),
+        ("q 1 9\n", 2),
+    ],
 ];
 
-// The entries of a reader after each line of a text up to its first fault.
-fn entries_of(alloc: Global, text: &str) -> Result<Vec<u64>, AllocError> {
+// Whether a reader tells these entries.
+fn tells_entries(alloc: Global, lines: &[(&str, u64)]) -> bool {
     let mut reader = Reader::new(alloc);
-    let mut all = Vec::new(alloc);
-    for byte in text.as_bytes() {
-        let is_refused = reader.feed(&[*byte]).is_err();
-        if is_refused || *byte == b'\n' {
-            all.push(reader.entries())?;
-        }
-        if is_refused {
-            break;
+    for (line, entries) in lines {
+        let _ = reader.feed(line.as_bytes());
+        if reader.entries() != *entries {
+            return false;
         }
     }
-    Ok(all)
+    true
 }
 
 #[test]
-fn entries_line_by_line(rt: HostRuntime) -> Result<(), Fail> {
-    for (text, entries) in ENTRIES {
-        let told = entries_of(rt.alloc(), text)?;
-        assert_eq!(rt; told.as_slice(), entries, "{text}");
+fn entries_line_by_line(rt: HostRuntime) {
+    for lines in ENTRIES {
+        assert!(rt; tells_entries(rt.alloc(), lines), "{lines:?}");
     }
-    Ok(())
-}
-
-// Companions, and whether they fit a graph of three nodes.
-const COMPANIONS: [(&str, Result<(), CompanionFault>); 9] = [
-    (
-        "p aux sp ss 2\ns 9\ns 5\n",
-        Err(CompanionFault::NotInGraph { id: 9 }),
-    ),
-    (
-        "p aux sp p2p 2\nq 3 1\nq 7 1\n",
-        Err(CompanionFault::NotInGraph { id: 7 }),
-    ),
-    (
-        "p aux sp p2p 1\nq 1 4\n",
-        Err(CompanionFault::NotInGraph { id: 4 }),
-    ),
-    (
-        "p aux sp co 2\nv 9 0 0\nv 5 0 0\n",
-        Err(CompanionFault::NotInGraph { id: 5 }),
-    ),
-    ("p aux sp ss 0\n", Ok(())),
-    ("p aux sp ss 1\ns 3\n", Ok(())),
-    ("p aux sp p2p 1\nq 3 1\n", Ok(())),
-    ("p aux sp co 1\nv 3 -1 9\n", Ok(())),
-    (LENGTHS, Err(CompanionFault::NotKinds)),
-];
-
-#[test]
-fn companions_of_a_graph(rt: HostRuntime) -> Result<(), Fail> {
-    let graph = read_text(rt.alloc(), LENGTHS.as_bytes())?;
-    let other = read_text(rt.alloc(), CAPACITIES.as_bytes())?;
-    for (text, answer) in COMPANIONS {
-        let companion = read_text(rt.alloc(), text.as_bytes())?;
-        let told = [
-            check_companion(&graph, &companion),
-            check_companion(&other, &companion),
-        ];
-        assert!(rt; told == [answer, Err(CompanionFault::NotKinds)], "{text}");
-    }
-    let faults = [
-        (CompanionFault::NotInGraph { id: 9 }, 35, "NotInGraph"),
-        (CompanionFault::NotKinds, 36, "NotKinds"),
-    ];
-    for (fault, number, name) in faults {
-        assert!(rt; fault.number() == number && fault.name() == name, "{name}");
-    }
-    Ok(())
 }

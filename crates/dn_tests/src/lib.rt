@@ -7,7 +7,7 @@ mod bundles;
 #[cfg(test)]
 mod canons;
 #[cfg(test)]
-mod differences;
+mod commands;
 #[cfg(test)]
 mod indexes;
 #[cfg(test)]
@@ -17,6 +17,10 @@ mod lines;
 #[cfg(test)]
 mod numbers;
 #[cfg(test)]
+mod reports;
+#[cfg(test)]
 mod runs;
 #[cfg(test)]
 mod stand_ins;
+#[cfg(test)]
+mod texts;

@@ -1,27 +1,33 @@
 // Runs over texts in memory.
-ghost use Rattle.std.specs.Prelude.{◌≡◌, Some};
+ghost use Rattle.std.specs.Prelude.{None};
 
-use crate::stand_ins::{NoFlush, Pieces};
+mod cases;
+mod compared;
+
+use crate::commands::owned;
+use crate::stand_ins::{NoFlush, OneByte, Pieces};
+use crate::texts::{CANONICAL, CAPACITIES, COSTS, Canonical, FLOWS, FULL, ROADS, ROADS_CANON};
+use cases::{CHECKED, Case, FITTED, OTHERS, PAIRS, REFUSED, SHOWN};
+use compared::{COMPARED, Compared};
 use dn_run::{Files, FilesFault, run};
 use dn_sink::{Bytes, Room};
-use std::alloc::{AllocError, Global};
-use std::test::Fail;
+use std::alloc::Global;
 
-// One text by its name; any other name has this fault.
-#[derive(Drop)]
-struct OneText<'a> {
-    name: &'a str,
-    text: &'a [u8],
+// Texts by their names, which give so many bytes a pull and fail after so many pulls; any other name has this fault.
+#[derive(Clone, Copy)]
+struct Texts<'a> {
+    named: &'a [(&'static str, &'static str)],
+    size: usize,
     pulls: usize,
     other: FilesFault,
     fault: Option<FilesFault>,
 }
 
-impl<'a> OneText<'a> {
-    fn new(name: &'a str, text: &'a [u8]) -> OneText<'a> {
-        OneText {
-            name,
-            text,
+impl<'a> Texts<'a> {
+    fn new(named: &'a [(&'static str, &'static str)], size: usize) -> Texts<'a> {
+        Texts {
+            named,
+            size,
             pulls: usize::MAX,
             other: FilesFault::Device,
             fault: None,
@@ -29,207 +35,396 @@ impl<'a> OneText<'a> {
     }
 }
 
-impl<'a> Files for OneText<'a> {
-    type Text = Pieces<'a>;
+impl<'a> Files for Texts<'a> {
+    type Text = Pieces<'static>;
 
-    ghost behind = { λ s _. Some s.text.now };
+    ghost behind = { λ _ _. None };
 
     ghost fault = { λ s _. s.fault };
 
-    ghost Asks = { λ old _ new. new.text ≡ old.text };
+    ghost Asks = { λ _ _ _. Unit {0} };
 
-    fn take(&mut self, name: &str) -> Result<Pieces<'a>, FilesFault> {
+    ghost Hands = { λ _ _ _. Unit {0} };
+
+    fn take(&mut self, name: &str) -> Result<Pieces<'static>, FilesFault> {
         self.fault = None;
-        if name != self.name {
-            self.fault = Some(self.other);
-            return Err(self.other);
+        for (known, text) in self.named {
+            if *known == name {
+                return Ok(Pieces::failing(text.as_bytes(), self.size, self.pulls));
+            }
         }
-        Ok(Pieces::failing(self.text, usize::MAX, self.pulls))
+        self.fault = Some(self.other);
+        Err(self.other)
     }
 }
 
-const ROADS: &[u8] = b"p sp 3 7\na 1 2 7\na 1 2 3\na 2 1 4\na 1 2 3\na 2 2 0\na 3 1 -5\na 2 3 9\n";
-
-const ROADS_CANON: &[u8] = b"p sp 3 5\na 1 2 3\na 2 1 4\na 2 2 0\na 2 3 9\na 3 1 -5\n";
-
-const FULL: &[u8] = b"p max 2 2\nn 1 s\nn 2 t\na 1 2 9223372036854775807\na 1 2 1\n";
-
-const BAD_LINE: &str = "dnorm: bad command line\n";
-
-// Words of their own.
-fn owned(alloc: Global, words: &[&str]) -> Result<Vec<String>, AllocError> {
-    let mut all = Vec::new(alloc);
-    for word in words {
-        all.push(String::from_str(alloc, word)?)?;
-    }
-    Ok(all)
+// What `out` and `err` take of a run, and its exit status.
+#[derive(Clone, Copy)]
+struct End<'a> {
+    out: &'a str,
+    err: &'a str,
+    status: u8,
 }
 
-// The status of a run, what `out` took, and what `err` took.
-fn ran(
-    alloc: Global,
-    words: &[&str],
-    files: &mut OneText<'_>,
-) -> Result<(u8, Bytes, Bytes), AllocError> {
-    let words = owned(alloc, words)?;
+// Whether a run ends so.
+fn ends(alloc: Global, words: &[String], files: &mut Texts<'_>, end: End<'_>) -> bool {
     let mut out = Bytes::new(alloc);
     let mut err = Bytes::new(alloc);
-    let status = run(alloc, &words, files, &mut out, &mut err);
-    Ok((status, out, err))
+    let status = run(alloc, words, files, &mut out, &mut err);
+    status == end.status && out.taken() == end.out.as_bytes() && err.taken() == end.err.as_bytes()
 }
 
-// What of a run is other than this status, these bytes on `out` and these on `err`.
-fn differs(
+// Whether a run of these words ends so, where the texts come whole, and where they come with a byte a pull.
+fn is_so(alloc: Global, line: &str, named: &[(&'static str, &'static str)], end: End<'_>) -> bool {
+    let mut whole = Texts::new(named, usize::MAX);
+    let mut slow = Texts::new(named, 1);
+    match owned(alloc, line) {
+        Ok(words) => { ends(alloc, &words, &mut whole, end) && ends(alloc, &words, &mut slow, end) }
+        Err(_) => false,
+    }
+}
+
+// The words of the first run that ends otherwise.
+fn first_other(alloc: Global, cases: &[Case]) -> Option<&'static str> {
+    for (line, named, out, err, status) in cases {
+        let end = End {
+            out,
+            err,
+            status: *status,
+        };
+        if !is_so(alloc, line, named, end) {
+            return Some(*line);
+        }
+    }
+    None
+}
+
+#[test]
+fn shown_texts(rt: HostRuntime) {
+    assert_eq!(rt; first_other(rt.alloc(), &SHOWN), None);
+}
+
+#[test]
+fn checked_texts(rt: HostRuntime) {
+    assert_eq!(rt; first_other(rt.alloc(), &CHECKED), None);
+}
+
+#[test]
+fn texts_with_companions(rt: HostRuntime) {
+    assert_eq!(rt; first_other(rt.alloc(), &FITTED), None);
+}
+
+#[test]
+fn pairs_of_texts(rt: HostRuntime) {
+    assert_eq!(rt; first_other(rt.alloc(), &PAIRS), None);
+}
+
+#[test]
+fn other_runs(rt: HostRuntime) {
+    assert_eq!(rt; first_other(rt.alloc(), &OTHERS), None);
+}
+
+// The first text that is not refused so.
+fn first_other_refusal(
     alloc: Global,
-    words: &[&str],
-    files: &mut OneText<'_>,
-    wanted: (u8, &[u8], &str),
-) -> Result<Option<&'static str>, AllocError> {
-    let (status, out, err) = ran(alloc, words, files)?;
-    if status != wanted.0 {
-        return Ok(Some("the status"));
+    texts: &[(&'static str, &'static str)],
+) -> Option<&'static str> {
+    for (text, err) in texts {
+        let end = End {
+            out: "",
+            err,
+            status: 2,
+        };
+        if !is_so(alloc, "canon|t", &[("t", *text)], end) {
+            return Some(*text);
+        }
     }
-    if out.taken() != wanted.1 {
-        return Ok(Some("what `out` took"));
-    }
-    if err.taken() != wanted.2.as_bytes() {
-        return Ok(Some("what `err` took"));
-    }
-    Ok(None)
+    None
 }
 
 #[test]
-fn canonical_texts(rt: HostRuntime) -> Result<(), Fail> {
-    let lines: [(&[&str], &str); 4] = [
-        (&[], "-"),
-        (&["dnorm"], "-"),
-        (&["dnorm", "canon", "-"], "-"),
-        (&["dnorm", "canon", "g.gr"], "g.gr"),
-    ];
-    for (words, name) in lines {
-        let mut files = OneText::new(name, ROADS);
-        let other = differs(rt.alloc(), words, &mut files, (0, ROADS_CANON, ""))?;
-        assert_eq!(rt; other, None, "{words:?}");
-    }
-    Ok(())
+fn refused_texts(rt: HostRuntime) {
+    assert_eq!(rt; first_other_refusal(rt.alloc(), &REFUSED), None);
 }
 
-#[test]
-fn bad_command_lines(rt: HostRuntime) -> Result<(), Fail> {
-    let lines: [&[&str]; 9] = [
-        &["dnorm", "canon"],
-        &["dnorm", "g.gr"],
-        &["dnorm", "canon", ""],
-        &["dnorm", "canon", "-x"],
-        &["dnorm", "canon", "--"],
-        &["dnorm", "Canon", "g.gr"],
-        &["dnorm", "show", "g.gr"],
-        &["dnorm", "canon", "g.gr", "g.gr"],
-        &["dnorm", "compare", "-", "-"],
-    ];
-    for words in lines {
-        let mut files = OneText::new("g.gr", ROADS);
-        let other = differs(rt.alloc(), words, &mut files, (3, b"", BAD_LINE))?;
-        assert_eq!(rt; other, None, "{words:?}");
-    }
-    Ok(())
-}
-
-#[test]
-fn refused_texts(rt: HostRuntime) -> Result<(), Fail> {
-    let texts: [(&[u8], &str); 6] = [
-        (FULL, "n.max:5: 17 SumTooLarge\n"),
-        (b"", "n.max:end: 18 NoProblem\n"),
-        (b"p max 2 1\nn 1 s\n", "n.max:end: 19 MissingTerminal\n"),
-        (b"\n\nz", "n.max:3: 1 BadLine\n"),
-        (b"p sp 2 2\na 1 2 1", "n.max:end: 20 TooFewLines\n"),
-        (b"p sp 2 1\na 1 3 1\n", "n.max:2: 13 NodeOutOfRange\n"),
-    ];
-    for (text, line) in texts {
-        let mut files = OneText::new("n.max", text);
-        let words: &[&str] = &["dnorm", "canon", "n.max"];
-        let other = differs(rt.alloc(), words, &mut files, (2, b"", line))?;
-        assert_eq!(rt; other, None, "{line}");
-    }
-    Ok(())
-}
-
-#[test]
-fn faults_of_files(rt: HostRuntime) -> Result<(), Fail> {
-    let faults = [
-        (FilesFault::Device, "missing: 31 Read\n"),
-        (FilesFault::Memory, "missing: 30 Memory\n"),
-    ];
-    for (fault, line) in faults {
-        let mut files = OneText::new("g.gr", ROADS);
-        files.other = fault;
-        let words: &[&str] = &["dnorm", "canon", "missing"];
-        let other = differs(rt.alloc(), words, &mut files, (4, b"", line))?;
-        assert_eq!(rt; other, None, "{line}");
-    }
-    Ok(())
-}
-
-#[test]
-fn faults_of_sources(rt: HostRuntime) -> Result<(), Fail> {
-    let texts: [(&[u8], u8, &str); 2] = [
-        (ROADS, 4, "-: 31 Read\n"),
-        (b"p sp 1 1\nx\n", 2, "-:2: 1 BadLine\n"),
-    ];
-    for (text, status, line) in texts {
-        let mut files = OneText::new("-", text);
-        files.pulls = 1;
-        let other = differs(rt.alloc(), &["dnorm"], &mut files, (status, b"", line))?;
-        assert_eq!(rt; other, None, "{line}");
-    }
-    Ok(())
-}
-
-// Whether a run fills a room of this size with its text, or a front of it, and says so.
-fn fills_room(alloc: Global, words: &[String], size: usize) -> bool {
-    let mut room = [b'x'; 50];
-    let mut out = Room::new(&mut room[..size.min(50)]);
-    let mut err = Bytes::new(alloc);
-    let mut files = OneText::new("g.gr", ROADS);
-    let status = run(alloc, words, &mut files, &mut out, &mut err);
-    let (wanted, line) = if size < ROADS_CANON.len() {
-        (4, b"out: 33 Write\n".as_slice())
-    } else {
-        (0, b"".as_slice())
+// Whether these are the canonical texts of a text.
+fn has_canon(alloc: Global, text: &'static str, one: &str, two: &str) -> bool {
+    let named = [("t", text)];
+    let first = End {
+        out: one,
+        err: "",
+        status: 0,
     };
-    out.taken() == &ROADS_CANON[..size.min(ROADS_CANON.len())]
-        && status == wanted
-        && err.taken() == line
+    let second = End {
+        out: two,
+        err: "",
+        status: 0,
+    };
+    is_so(alloc, "canon|t", &named, first) && is_so(alloc, "canon|--form|2|t", &named, second)
+}
+
+// The first text that has other canonical texts, or whose canonical texts have others.
+fn first_other_canon(alloc: Global, texts: &[Canonical]) -> Option<&'static str> {
+    for (text, one, two) in texts {
+        for given in [text, one, two] {
+            if !has_canon(alloc, given, one, two) {
+                return Some(*given);
+            }
+        }
+    }
+    None
 }
 
 #[test]
-fn rooms(rt: HostRuntime) -> Result<(), Fail> {
-    let words = owned(rt.alloc(), &["dnorm", "canon", "g.gr"])?;
-    for size in 0..=ROADS_CANON.len() {
+fn canonical_texts(rt: HostRuntime) {
+    assert_eq!(rt; first_other_canon(rt.alloc(), &CANONICAL), None);
+}
+
+// Whether this line tells of the first difference of these texts.
+fn compares(alloc: Global, left: &'static str, right: &'static str, line: &str) -> bool {
+    let end = End {
+        out: line,
+        err: "",
+        status: 1,
+    };
+    is_so(alloc, "compare|l|r", &[("l", left), ("r", right)], end)
+}
+
+// The first two texts that compare otherwise.
+fn first_other_line(alloc: Global, pairs: &[Compared]) -> Option<(&'static str, &'static str)> {
+    for (left, right, there, back) in pairs {
+        if !compares(alloc, left, right, there) || !compares(alloc, right, left, back) {
+            return Some((*left, *right));
+        }
+    }
+    None
+}
+
+#[test]
+fn compared_texts(rt: HostRuntime) {
+    assert_eq!(rt; first_other_line(rt.alloc(), &COMPARED), None);
+}
+
+// No words after the program's name, and no word at all.
+#[test]
+fn no_words(rt: HostRuntime) {
+    let Ok(words) = owned(rt.alloc(), "") else {
+        panic!(rt; "out of memory");
+    };
+    let end = End {
+        out: ROADS_CANON,
+        err: "",
+        status: 0,
+    };
+    for count in 0..=1 {
+        let mut files = Texts::new(&[("-", ROADS)], usize::MAX);
+        let words = words.get(..count).unwrap_or(&[]);
+        assert!(rt; ends(rt.alloc(), words, &mut files, end), "{count}");
+    }
+}
+
+// Whether no text comes of `canon t` from these files, but this line.
+fn fails(alloc: Global, mut files: Texts<'_>, err: &str, status: u8) -> bool {
+    let end = End {
+        out: "",
+        err,
+        status,
+    };
+    match owned(alloc, "canon|t") {
+        Ok(words) => ends(alloc, &words, &mut files, end),
+        Err(_) => false,
+    }
+}
+
+#[test]
+fn a_file_without_memory(rt: HostRuntime) {
+    let mut files = Texts::new(&[], usize::MAX);
+    files.other = FilesFault::Memory;
+    assert!(rt; fails(rt.alloc(), files, "t: 30 Memory\n", 4));
+}
+
+// Sources that fail at the second pull, after a whole line, and at any pull of a byte.
+#[test]
+fn failing_sources(rt: HostRuntime) {
+    let texts = [
+        ("p sp 1 1\n", "t: 31 Read\n", 4),
+        ("x\n", "t:1: 1 BadLine\n", 2),
+        ("p sp 1 1\nx\n", "t:2: 1 BadLine\n", 2),
+    ];
+    for (text, err, status) in texts {
+        let named = [("t", text)];
+        let mut files = Texts::new(&named, usize::MAX);
+        files.pulls = 1;
+        assert!(rt; fails(rt.alloc(), files, err, status), "{text}");
+    }
+    for pulls in 0..=ROADS.len() {
+        let mut files = Texts::new(&[("t", ROADS)], 1);
+        files.pulls = pulls;
         assert!(rt;
-            fills_room(rt.alloc(), &words, size),
-            "a room of {size} bytes"
+            fails(rt.alloc(), files, "t: 31 Read\n", 4),
+            "{pulls} pulls"
         );
     }
-    Ok(())
+}
+
+// Words, texts, and what `out` takes where it has room.
+const PUT: [(&str, &[(&str, &str)], &str); 9] = [
+    ("canon|t", &[("t", ROADS)], ROADS_CANON),
+    (
+        "canon|t",
+        &[("t", "p max 2 0\nn 1 s\nn 2 t")],
+        "p max 2 0\nn 1 s\nn 2 t\n",
+    ),
+    (
+        "canon|t",
+        &[("t", "p min 2 1\nn 2 5\na 1 2 0 1 1")],
+        "p min 2 1\nn 2 5\na 1 2 0 1 1\n",
+    ),
+    (
+        "canon|t",
+        &[("t", "p aux sp ss 1\ns 5")],
+        "p aux sp ss 1\ns 5\n",
+    ),
+    (
+        "canon|t",
+        &[("t", "p aux sp p2p 1\nq 9 1")],
+        "p aux sp p2p 1\nq 9 1\n",
+    ),
+    (
+        "canon|t",
+        &[("t", "p aux sp co 1\nv 1 5 -6")],
+        "p aux sp co 1\nv 1 5 -6\n",
+    ),
+    (
+        "show|t",
+        &[("t", COSTS)],
+        "kind min\nnodes 2\nlines 3\nsupplies 0\npairs 1\npair 1 2 forced 2 cost 3 steps 3\n",
+    ),
+    ("check|t", &[("t", FLOWS)], "accepted min\nforms none\n"),
+    (
+        "compare|t|r",
+        &[("t", ROADS), ("r", CAPACITIES)],
+        "differ kind sp max\n",
+    ),
+];
+
+// Whether a run fills a room of this size, which is too small, with a front of the text, and says so.
+fn fills_room(
+    alloc: Global,
+    words: &[String],
+    named: &[(&'static str, &'static str)],
+    text: &str,
+    size: usize,
+) -> bool {
+    let mut room = [b'x'; 128];
+    let mut out = Room::new(&mut room[..size.min(128)]);
+    let mut err = Bytes::new(alloc);
+    let status = run(
+        alloc,
+        words,
+        &mut Texts::new(named, usize::MAX),
+        &mut out,
+        &mut err,
+    );
+    status == 4
+        && err.taken() == b"out: 33 Write\n".as_slice()
+        && out.taken() == &text.as_bytes()[..size.min(text.len())]
+}
+
+// Whether a run fills each room that is too small for its text.
+fn fills_rooms(
+    alloc: Global,
+    line: &str,
+    named: &[(&'static str, &'static str)],
+    text: &str,
+) -> bool {
+    let Ok(words) = owned(alloc, line) else {
+        return false;
+    };
+    for size in 0..text.len() {
+        if !fills_room(alloc, &words, named, text, size) {
+            return false;
+        }
+    }
+    true
 }
 
 #[test]
-fn failing_sinks(rt: HostRuntime) -> Result<(), Fail> {
-    let words = owned(rt.alloc(), &["dnorm"])?;
-    let mut late = NoFlush::new(rt.alloc());
+fn small_rooms(rt: HostRuntime) {
+    for (line, named, text) in &PUT {
+        assert!(rt;
+            fills_rooms(rt.alloc(), line, named, text),
+            "{line}, {text}"
+        );
+    }
+}
+
+// Where nothing is to be put, a room of no bytes changes nothing, nor does it where it is `err`.
+#[test]
+fn rooms_of_no_bytes(rt: HostRuntime) {
+    let Ok(words) = owned(rt.alloc(), "canon|t") else {
+        panic!(rt; "out of memory");
+    };
+    let mut files = Texts::new(&[("t", FULL)], usize::MAX);
+    let mut full = Room::new(&mut []);
     let mut err = Bytes::new(rt.alloc());
-    let mut files = OneText::new("-", ROADS);
+    let told = run(rt.alloc(), &words, &mut files, &mut full, &mut err);
+    assert!(rt; told == 2 && err.taken() == b"t:5: 17 SumTooLarge\n".as_slice());
+    let mut deaf = Room::new(&mut []);
+    let untold = run(rt.alloc(), &words, &mut files, &mut full, &mut deaf);
+    assert!(rt; untold == 2);
+}
+
+// A sink that takes a byte a put, and one that fails as it is flushed.
+#[test]
+fn slow_and_late_sinks(rt: HostRuntime) {
+    let Ok(words) = owned(rt.alloc(), "canon|t") else {
+        panic!(rt; "out of memory");
+    };
+    let mut files = Texts::new(&[("t", ROADS)], usize::MAX);
+    let mut slow = OneByte::new(rt.alloc());
+    let mut err = Bytes::new(rt.alloc());
+    let status = run(rt.alloc(), &words, &mut files, &mut slow, &mut err);
+    assert!(rt; status == 0 && slow.bytes.taken() == ROADS_CANON.as_bytes());
+    let mut late = NoFlush::new(rt.alloc());
     let status = run(rt.alloc(), &words, &mut files, &mut late, &mut err);
-    assert_eq!(rt; status, 4);
-    assert_eq!(rt; late.bytes.taken(), ROADS_CANON);
-    assert_eq!(rt; err.taken(), b"out: 33 Write\n".as_slice());
-    let mut none: [u8; 0] = [];
-    let mut no_out: [u8; 0] = [];
-    let mut deaf = Room::new(&mut none);
-    let mut full = Room::new(&mut no_out);
-    let mut files = OneText::new("-", FULL);
-    let status = run(rt.alloc(), &words, &mut files, &mut full, &mut deaf);
-    assert_eq!(rt; status, 2, "nothing was put, and `err` fails");
-    Ok(())
+    assert!(rt; status == 4 && late.bytes.taken() == ROADS_CANON.as_bytes());
+    assert!(rt; err.taken() == b"out: 33 Write\n".as_slice());
+}
+
+// The status of a run into a room for its text, where it is 4 or the text is right, and else 5.
+fn status_of(alloc: Global, line: &str, named: &[(&'static str, &'static str)], text: &str) -> u8 {
+    let Ok(words) = owned(alloc, line) else {
+        return 4;
+    };
+    let mut room = [0u8; 128];
+    let mut no_room = [0u8; 32];
+    let mut out = Room::new(&mut room);
+    let mut err = Room::new(&mut no_room);
+    let status = run(
+        alloc,
+        &words,
+        &mut Texts::new(named, usize::MAX),
+        &mut out,
+        &mut err,
+    );
+    if status == 4 || out.taken() == text.as_bytes() {
+        status
+    } else {
+        5
+    }
+}
+
+// Where one growth is refused, in any of these runs, one answer is want of memory, and all others are right.
+#[test]
+fn a_refused_growth(rt: HostRuntime) {
+    let mut is_refused = false;
+    for (line, named, text) in &PUT {
+        let status = status_of(rt.alloc(), line, named, text);
+        assert!(rt;
+            status < 2 || (status == 4 && !is_refused),
+            "{line}, {text}"
+        );
+        is_refused = is_refused || status == 4;
+    }
 }

@@ -1,5 +1,5 @@
 // Sources and sinks that stand in for slow and failing devices.
-ghost use Rattle.std.specs.Prelude.{◌≡◌, ◌||◌, false, true, Some};
+ghost use Rattle.std.specs.Prelude.{◌≡◌, ◌||◌, None, false, true, Some};
 
 use dn_line::{Source, SourceFault};
 use dn_sink::{Bytes, Sink, SinkFault};
@@ -11,21 +11,15 @@ use std::io::{ErrorKind, Write};
 #[derive(Clone, Copy)]
 pub(crate) struct Pieces<'a> {
     pub(crate) rest: &'a [u8],
-    pub(crate) size: usize,
-    pub(crate) pulls: usize,
+    size: usize,
+    pulls: usize,
     failed: bool,
 }
 
 impl<'a> Pieces<'a> {
-    /// Bytes in pieces of at most this size, by a source that does not fail.
-    pub(crate) fn new(rest: &'a [u8], size: usize) -> Pieces<'a> {
-        Pieces::failing(rest, size, usize::MAX)
-    }
-
     /// Bytes in pieces of at most this size, by a source that fails after so many pulls.
     pub(crate) fn failing(rest: &'a [u8], size: usize, pulls: usize) -> Pieces<'a>
-        ensures gives { result.rest.now ≡ rest.now }
-        ensures fine { result.failed ≡ false }
+        ensures { result.failed ≡ false }
     {
         Pieces {
             rest,
@@ -37,9 +31,11 @@ impl<'a> Pieces<'a> {
 }
 
 impl<'a> Source for Pieces<'a> {
-    ghost gives = { λ s. Some s.rest.now };
+    ghost gives = { λ _. None };
 
     ghost has_failed = { λ s. s.failed };
+
+    ghost Pulls = { λ _ _. Unit {0} };
 
     fn pull(&mut self, into: &mut [u8]) -> Result<usize, SourceFault> {
         if self.failed || self.pulls == 0 {

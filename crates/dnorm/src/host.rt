@@ -52,6 +52,8 @@ impl<'a, R: fs::Files + Input> Files for HostFiles<'a, R> {
 
     ghost Asks = { λ old _ new. new.host ≡ old.host };
 
+    ghost Hands = { λ _ _ _. Unit {0} };
+
     fn take(&mut self, name: &str) -> Result<FromRead<HostText<R::Reader, R::File>>, FilesFault> {
         self.fault = None;
         if name == "-" {

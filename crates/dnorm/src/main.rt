@@ -1,5 +1,5 @@
-//! The program: canonical texts of DIMACS network instances. A run is told by its words, reads its text from a file or
-//! from standard input, and puts the canonical text on standard output.
+//! The program: what DIMACS network instances hold, their first faults and differences, and their canonical texts.
+//! `main` hands the host to `host`, which runs the words of the command line on the host's files and streams.
 #![tactic(auto)]
 
 pub mod host;

@@ -2,7 +2,7 @@ use Rattle.std.proofs.Common.{rules, arith, subst, w64, ◌≡◌, ◌++◌, ◌
 use Rattle.std.specs.Fmt.{signed_decimal}
 use Rattle.std.specs.Int.RustNames.{FitsSigned}
 use Rattle.std.proofs.lemmas.Int.{to_z-of_z}
-use Rattle.dn_canon.specs.Lines.{spaced}
+use Rattle.dn_row.specs.Rows.{spaced}
 use Rattle.dn_canon.proofs.LineLaws.{number_before, drop_get, arc_before}
 use Rattle.dn_canon.proofs.print.arc_line.Goals as goal
 

@@ -1,6 +1,6 @@
 use Rattle.std.proofs.Common.{◌≡◌, ◌≤◌, ◌+◌, ◌*◌, ◌++◌, ◌∷◌, [], length, map, drop}
 use Rattle.std.specs.Fmt.{signed_decimal}
-use Rattle.dn_canon.specs.Lines.{spaced}
+use Rattle.dn_row.specs.Rows.{spaced}
 use Rattle.dn_canon.proofs.print.arc_line.Given as goal
 
 abbrev pub invariant-loop-left : goal.invariant-loop-left

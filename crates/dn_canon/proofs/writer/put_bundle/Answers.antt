@@ -1,5 +1,6 @@
 use Rattle.std.proofs.Common.{map, drop, refl, sym, ap, ◌∙◌, ◌+◌, subst, arith, ℕ, List}
-use Rattle.dn_canon.specs.Prints.{arc_row, text_of}
+use Rattle.dn_canon.specs.Prints.{arc_row}
+use Rattle.dn_row.specs.Rows.{text_of}
 use Rattle.dn_sink.specs.Puts.{HasPut}
 use Rattle.dn_canon.specs.ToldArcs.{placed}
 use Rattle.dn_sink.proofs.PutLaws.{put_from, stopped}

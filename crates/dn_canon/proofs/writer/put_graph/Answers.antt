@@ -1,5 +1,6 @@
 use Rattle.std.proofs.Common.{[], map}
-use Rattle.dn_canon.specs.Prints.{arc_row, graph_rows, text_of}
+use Rattle.dn_canon.specs.Prints.{arc_row, graph_rows}
+use Rattle.dn_row.specs.Rows.{text_of}
 use Rattle.dn_canon.specs.ToldArcs.{told_graph}
 use Rattle.dn_canon.specs.Writes.{node_rows}
 use Rattle.dn_sink.proofs.PutLaws.{put_from, put_more, put_stop, put_last, stopped}

@@ -1,6 +1,7 @@
 use Rattle.std.proofs.Common.{refl}
 use Rattle.dn_line.specs.declared.word.Keyword.TheVariants.{T}
-use Rattle.dn_canon.specs.Prints.{line_text, terminal_row, text_of}
+use Rattle.dn_canon.specs.Prints.{terminal_row}
+use Rattle.dn_row.specs.Rows.{line_text, text_of}
 use Rattle.dn_canon.specs.Writes.{node_rows}
 use Rattle.dn_sink.proofs.PutLaws.{put_from, put_more, put_stop, put_last, stopped}
 use Rattle.dn_canon.proofs.PutLaws.{terminals_text}

@@ -1,5 +1,6 @@
 use Rattle.std.proofs.Common.{map}
-use Rattle.dn_canon.specs.Prints.{supply_row, text_of}
+use Rattle.dn_canon.specs.Prints.{supply_row}
+use Rattle.dn_row.specs.Rows.{text_of}
 use Rattle.dn_sink.specs.Puts.{HasPut}
 use Rattle.dn_canon.proofs.writer.put_supplies.Given as goal
 

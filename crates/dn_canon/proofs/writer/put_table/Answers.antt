@@ -1,5 +1,6 @@
 use Rattle.std.proofs.Common.{map, ap, ◌∙◌, subst}
-use Rattle.dn_canon.specs.Prints.{arc_row, text_of}
+use Rattle.dn_canon.specs.Prints.{arc_row}
+use Rattle.dn_row.specs.Rows.{text_of}
 use Rattle.dn_sink.specs.Puts.{HasPut}
 use Rattle.dn_canon.specs.ToldArcs.{told_arcs}
 use Rattle.dn_sink.proofs.PutLaws.{put_from, put_more, put_stop, stopped}

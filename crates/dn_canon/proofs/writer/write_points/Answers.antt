@@ -1,5 +1,6 @@
 use Rattle.std.proofs.Common.{[], ℤ, List, map, length, subst}
-use Rattle.dn_canon.specs.Prints.{point_row, print, text_of}
+use Rattle.dn_canon.specs.Prints.{point_row, print}
+use Rattle.dn_row.specs.Rows.{text_of}
 use Rattle.dn_line.specs.declared.kind.Kind.TheVariants.{Co}
 use Rattle.dn_sink.specs.Puts.{HasPut}
 use Rattle.dn_instance.specs.Instances.{Coordinates}

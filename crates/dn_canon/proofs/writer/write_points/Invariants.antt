@@ -1,6 +1,7 @@
 use Rattle.std.proofs.Common.{map}
 use Rattle.dn_instance.specs.Instances.{Coordinates}
-use Rattle.dn_canon.specs.Prints.{point_row, print, text_of}
+use Rattle.dn_canon.specs.Prints.{point_row, print}
+use Rattle.dn_row.specs.Rows.{text_of}
 use Rattle.dn_sink.specs.Puts.{HasPut}
 use Rattle.dn_canon.proofs.writer.write_points.Given as goal
 

@@ -1,6 +1,7 @@
 use Rattle.std.proofs.Common.{◌+◌, [], map, drop, ap, ◌++◌, pos}
 use Rattle.std.proofs.lemmas.List.{drop_more}
-use Rattle.dn_canon.specs.Prints.{source_row, print, text_of}
+use Rattle.dn_canon.specs.Prints.{source_row, print}
+use Rattle.dn_row.specs.Rows.{text_of}
 use Rattle.dn_instance.specs.Instances.{Sources}
 use Rattle.dn_sink.proofs.PutLaws.{put_from, put_stop, put_last, stopped}
 use Rattle.dn_canon.proofs.PutLaws.{row_more, row_stop, rows_done}

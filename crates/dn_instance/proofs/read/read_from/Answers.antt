@@ -1,6 +1,7 @@
-use Rattle.std.proofs.Common.{◌≡◌, ◌≤◌, ◌++◌, length, Err, ap, subst, length-append, arith, rules}
-use Rattle.std.proofs.KnownBytes.{Consumes-trans}
-use Rattle.dn_instance.proofs.SourceLaws.{given_at_end, ended_given, refused_by, endless_given, has_none, has_some, not_refused}
+use Rattle.std.proofs.Common.{◌≡◌, ◌≤◌, [], ◌++◌, length, Err, ap, subst, length-append, arith, rules}
+use Rattle.std.proofs.KnownBytes.{Consumes-nil, Consumes-trans}
+use Rattle.dn_instance.proofs.SourceLaws.{given_at_end, ended_given, refused_by, endless_given, has_none, has_some, not_refused, pulled_so_far, pulled_on}
+use Rattle.dn_instance.specs.SourceReads.{unpulled, pulled}
 use Rattle.dn_instance.proofs.read.read_from.Goals as goal
 
 pub returns-then-is_empty-clause-outcome : goal.returns-then-is_empty-clause-outcome
@@ -35,9 +36,29 @@ loop-preserved g c =
             ),
       );
       fine = not_refused _ c.in_ok-feed.ensures.answer;
+      pulls = pulled c.loop.source c.next_piece.new.source piece c.loop.invariant.pulls c.next_piece.ensures.pulls c.in_ok-piece.ensures.bytes (has_some piece _ c.is_empty.ensures c.if-is_empty.false);
       stays = λ failed. c.next_piece.ensures.stays (c.loop.invariant.stays failed);
     }
 
 pub returns-clause-outcome : goal.returns-clause-outcome
 returns-clause-outcome g c =
     endless_given _ _ c.loop.invariant.given.0 c.loop.reader c.loop.counter c.loop.invariant.given.1 c.loop.invariant.given.2 c.loop.invariant.fine c.loop.invariant.given.3 (let over = c.loop-test.false in omega arith)
+
+pub returns-in_err-piece-clause-pulls : goal.returns-in_err-piece-clause-pulls
+returns-in_err-piece-clause-pulls g c =
+    pulled_on c.loop.invariant.given.0 c.loop.reader c.loop.invariant.pulls c.loop.invariant.given.1 c.loop.invariant.given.2 c.loop.invariant.fine c.next_piece.ensures.pulls
+
+pub returns-then-is_empty-clause-pulls : goal.returns-then-is_empty-clause-pulls
+returns-then-is_empty-clause-pulls g c =
+    pulled_on c.loop.invariant.given.0 c.loop.reader c.loop.invariant.pulls c.loop.invariant.given.1 c.loop.invariant.given.2 c.loop.invariant.fine c.next_piece.ensures.pulls
+
+pub returns-in_err-feed-clause-pulls : goal.returns-in_err-feed-clause-pulls
+returns-in_err-feed-clause-pulls g c =
+    pulled_on c.loop.invariant.given.0 c.loop.reader c.loop.invariant.pulls c.loop.invariant.given.1 c.loop.invariant.given.2 c.loop.invariant.fine c.next_piece.ensures.pulls
+
+pub loop-init : goal.loop-init
+loop-init g c = record { given = ([], Consumes-nil (g.S.Source.gives c.args.source.now), c.new-reader.ensures.stands, search rules); fine = c.new-reader.ensures.fine; pulls = unpulled; stays = λ failed. failed }
+
+pub returns-clause-pulls : goal.returns-clause-pulls
+returns-clause-pulls g c =
+    pulled_so_far c.loop.invariant.given.0 c.loop.reader c.loop.invariant.pulls c.loop.invariant.given.1 c.loop.invariant.given.2 c.loop.invariant.fine

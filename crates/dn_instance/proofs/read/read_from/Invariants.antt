@@ -2,6 +2,7 @@ use Rattle.std.proofs.Common.{◌≡◌, ◌≤◌, ℕ, List, length, IsTrue, N
 use Rattle.std.specs.Io.KnownBytes.{Consumes}
 use Rattle.dn_instance.specs.Readers.{refusal_of}
 use Rattle.dn_instance.specs.ReaderStates.{ReaderAt}
+use Rattle.dn_instance.specs.SourceReads.{PulledBytes}
 use Rattle.dn_instance.proofs.read.read_from.Given as goal
 
 abbrev pub invariant-loop : goal.invariant-loop
@@ -11,5 +12,6 @@ invariant-loop g l =
     record {
       given : (t : List ℕ) × Consumes (gives l.fn.source) (gives l.source) t × ReaderAt l.reader t × (l.counter ≤ length t);
       fine : refusal_of l.reader ≡ None;
+      pulls : PulledBytes gives g.S.Source.Pulls l.fn.source l.source;
       stays : IsTrue (has_failed l.fn.source) → IsTrue (has_failed l.source);
     }

@@ -1,7 +1,8 @@
-use Rattle.std.proofs.Common.{◌≡◌, ◌≤◌, ◌++◌, length, ◌∙◌, Err, ap, subst, rules, append_assoc, length-append, arith}
-use Rattle.std.proofs.KnownBytes.{Consumes-trans}
+use Rattle.std.proofs.Common.{◌≡◌, ◌≤◌, [], ◌++◌, length, ◌∙◌, Err, ap, subst, rules, append_assoc, length-append, sym, append-nil, arith}
+use Rattle.std.proofs.KnownBytes.{Consumes-nil, Consumes-trans}
 use Rattle.dn_instance.specs.declared.refusal.Refusal.TheVariants.{Endless}
-use Rattle.dn_instance.proofs.SourceLaws.{given_at_end, ended_given, refused_by, endless_given, has_none, has_some, not_refused, copied, uncopied, failed_copy}
+use Rattle.dn_instance.proofs.SourceLaws.{given_at_end, ended_given, refused_by, endless_given, has_none, has_some, not_refused, pulled_so_far, pulled_on, copied, uncopied, failed_copy}
+use Rattle.dn_instance.specs.SourceReads.{unpulled, pulled}
 use Rattle.dn_instance.proofs.read.read_keep.Goals as goal
 
 pub returns-then-is_empty-clause-outcome : goal.returns-then-is_empty-clause-outcome
@@ -46,6 +47,7 @@ loop-preserved g c =
         c.in_ok-keep_piece.ensures.ok ∙ ap (λ l. l ++ piece) c.loop.invariant.given.4 ∙ append_assoc _ t piece,
       );
       fine = not_refused _ c.in_ok-feed.ensures.answer;
+      pulls = pulled c.loop.source c.next_piece.new.source piece c.loop.invariant.pulls c.next_piece.ensures.pulls c.in_ok-bytes.ensures.bytes (has_some piece _ c.is_empty.ensures c.if-is_empty.false);
       stays = λ failed. c.next_piece.ensures.stays (c.loop.invariant.stays failed);
     }
 
@@ -59,3 +61,35 @@ pub returns-in_err-bytes-clause-outcome : goal.returns-in_err-bytes-clause-outco
 returns-in_err-bytes-clause-outcome g c =
     failed_copy _ _ _ _ c.loop.invariant.given.0 _ _ c.in_err-bytes.field-0.0 c.loop.reader c.loop.invariant.given.1 c.in_err-bytes.ensures.unread
     c.loop.invariant.given.4 c.loop.invariant.given.2 c.loop.invariant.fine c.in_err-bytes.ensures.refusal c.from_residual.ensures
+
+pub returns-in_err-bytes-clause-pulls : goal.returns-in_err-bytes-clause-pulls
+returns-in_err-bytes-clause-pulls g c =
+    pulled_on c.loop.invariant.given.0 c.loop.reader c.loop.invariant.pulls c.loop.invariant.given.1 c.loop.invariant.given.2 c.loop.invariant.fine c.next_piece.ensures.pulls
+
+pub returns-then-is_empty-clause-pulls : goal.returns-then-is_empty-clause-pulls
+returns-then-is_empty-clause-pulls g c =
+    pulled_on c.loop.invariant.given.0 c.loop.reader c.loop.invariant.pulls c.loop.invariant.given.1 c.loop.invariant.given.2 c.loop.invariant.fine c.next_piece.ensures.pulls
+
+pub returns-in_err-keep_piece-clause-pulls : goal.returns-in_err-keep_piece-clause-pulls
+returns-in_err-keep_piece-clause-pulls g c =
+    pulled_on c.loop.invariant.given.0 c.loop.reader c.loop.invariant.pulls c.loop.invariant.given.1 c.loop.invariant.given.2 c.loop.invariant.fine c.next_piece.ensures.pulls
+
+pub returns-in_err-feed-clause-pulls : goal.returns-in_err-feed-clause-pulls
+returns-in_err-feed-clause-pulls g c =
+    pulled_on c.loop.invariant.given.0 c.loop.reader c.loop.invariant.pulls c.loop.invariant.given.1 c.loop.invariant.given.2 c.loop.invariant.fine c.next_piece.ensures.pulls
+
+pub loop-init : goal.loop-init
+loop-init g c = record { given = ([], Consumes-nil (g.S.Source.gives c.args.source.now), c.new-reader.ensures.stands, search rules, sym (append-nil _)); fine = c.new-reader.ensures.fine; pulls = unpulled; stays = λ failed. failed }
+
+pub returns-clause-pulls : goal.returns-clause-pulls
+returns-clause-pulls g c =
+    pulled_so_far c.loop.invariant.given.0 c.loop.reader c.loop.invariant.pulls c.loop.invariant.given.1 c.loop.invariant.given.2 c.loop.invariant.fine
+
+pub returns-in_err-keep_piece-clause-front : goal.returns-in_err-keep_piece-clause-front
+returns-in_err-keep_piece-clause-front g c = (c.loop.invariant.given.0, c.in_err-keep_piece.ensures.err ∙ c.loop.invariant.given.4)
+
+pub returns-in_err-feed-clause-front : goal.returns-in_err-feed-clause-front
+returns-in_err-feed-clause-front g c =
+    let t = c.loop.invariant.given.0 in
+    let piece = c.in_ok-bytes.bytes.now in
+    (t ++ piece, c.in_ok-keep_piece.ensures.ok ∙ ap (λ l. l ++ piece) c.loop.invariant.given.4 ∙ append_assoc _ t piece)

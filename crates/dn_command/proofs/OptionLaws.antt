@@ -1,0 +1,44 @@
+-- The program's options are of the kind of which `clap` says what it reads.
+use Rattle.std.proofs.Common.{◌≡◌, ◌∙◌, List, Result, Ok, Err, IfOk, IsErrAnd, refl, inl, subst, true, map, ap}
+use Rattle.std.specs.Borrow.{Bor}
+use Rattle.clap.specs.Words.{App, FailsBy, HasMatchesOf, Text, fault_of, is_simple_and_free, kind_of, subcommand_of}
+use Rattle.clap.specs.declared.error.kind.ErrorKind.TheVariants.{OutOfMemory}
+use Rattle.clap.specs.Simple.{is_simple}
+use Rattle.clap.specs.declared.error.Error.{Error}
+use Rattle.clap.specs.declared.parser.matches.ArgMatches.{ArgMatches}
+use Rattle.dn_command.specs.Options.{IsParseOf, dnorm_app, form_words}
+
+free : (forms : Bor (List (Bor Text))) → is_simple_and_free (dnorm_app forms) ≡ true
+free forms = refl
+
+simple : (forms : Bor (List (Bor Text))) → is_simple (dnorm_app forms) ≡ true
+simple forms = refl
+
+-- what the options' parse answers
+pub is_parse : (a : App) (forms : Bor (List (Bor Text))) (words : List Text) (r : Result ArgMatches Error)
+    → a ≡ dnorm_app forms → map (λ s. s.now) forms.now ≡ form_words
+    → (is_simple_and_free a ≡ true → FailsBy (fault_of a words) r)
+    → IfOk r (HasMatchesOf a words) → IsParseOf words r
+is_parse a forms words (Ok m) is are_forms fails matches = record {
+  forms = forms;
+  are_forms = are_forms;
+  fails = subst (λ b. FailsBy (fault_of b words) (Ok m)) is (fails (ap is_simple_and_free is ∙ free forms));
+  matches = (matches (ap is_simple is ∙ simple forms)).1 ∙ ap (λ b. subcommand_of b words) is;
+}
+is_parse a forms words (Err e) is are_forms fails matches = record {
+  forms = forms;
+  are_forms = are_forms;
+  fails = subst (λ b. FailsBy {T = ArgMatches} (fault_of b words) (Err e)) is (fails (ap is_simple_and_free is ∙ free forms));
+  matches = tt;
+}
+
+-- what is answered where memory was wanted for the options
+pub no_parse : (forms : Bor (List (Bor Text))) (words : List Text) (r : Result ArgMatches Error)
+    → map (λ s. s.now) forms.now ≡ form_words → IsErrAnd r (λ e. kind_of e ≡ OutOfMemory) → IsParseOf words r
+no_parse forms words (Ok m) are_forms memory = elim memory [ ]
+no_parse forms words (Err e) are_forms memory = record {
+  forms = forms;
+  are_forms = are_forms;
+  fails = inl memory;
+  matches = tt;
+}

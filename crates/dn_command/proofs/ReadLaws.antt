@@ -1,0 +1,171 @@
+-- What the answer to a line of words is, by what `clap` finds in it.
+use Rattle.std.proofs.Common.{◌≡◌, ◌⊎◌, ◌∙◌, ◌&&◌, ◌||◌, not, ℕ, nat_eq, Bool, false, true, true≢false, List, [], ◌∷◌, length, map, Option, Some, is_some, unwrap_or, codes, refl, sym, ap, subst, inl, inr, arith}
+use Rattle.std.proofs.lemmas.Bool.Decides.{nat_tests}
+use Rattle.std.specs.Borrow.{Bor}
+use Rattle.clap.specs.Words.{IsAmong, Kinds, Text, fault_of, subcommand_of}
+use Rattle.clap.specs.declared.error.kind.ErrorKind.{ErrorKind}
+use Rattle.clap.specs.declared.error.kind.ErrorKind.TheVariants.{DisplayHelp, DisplayVersion}
+use Rattle.dn_command.specs.Commands.{Asked, is_name}
+use Rattle.dn_command.specs.Options.{dnorm_app, form_words}
+use Rattle.dn_command.specs.Requests.{Answers, IsReadByClap, Prints, PrintsVersion, Requests, subcommand_asked}
+use Rattle.dn_command.specs.declared.request.Request.{Request}
+use Rattle.dn_command.specs.declared.request.Request.TheVariants as requests
+
+-- ---- names
+
+not_dash : (t : Bool) → ((t && false) || not t) ≡ true → t ≡ false
+not_dash true h = sym h
+not_dash false h = refl
+
+dash : (b : ℕ) → nat_eq b 45 ≡ true → b ≡ 45
+dash b e = grind (arith, nat_tests)
+
+-- a word that names a text is `-`, or its first byte is another
+pub name_cases : (P : Text → Type 0) → P (codes "-") → ((b : ℕ) (rest : List ℕ) → nat_eq b 45 ≡ false → P (b ∷ rest))
+    → (word : Text) → is_name word ≡ true → P word
+name_cases P one other [] h = absurd (true≢false (sym h))
+name_cases P one other (b ∷ x ∷ xs) h = other b (x ∷ xs) (not_dash (nat_eq b 45) h)
+name_cases P one other (b ∷ []) h = go (nat_eq b 45) refl
+  where
+    go : (t : Bool) → nat_eq b 45 ≡ t → P (b ∷ [])
+    go true e = subst (λ c. P (c ∷ [])) (sym (dash b e)) one
+    go false e = other b [] e
+
+-- ---- the forms in memory
+
+-- references to the texts `1` and `2`, and to the two
+abbrev pub form_refs : (p q r : ℕ × ℕ) → Bor (List (Bor Text))
+form_refs p q r = record {
+  ref_ptr = p;
+  now = record { ref_ptr = q; now = codes "1" } ∷ record { ref_ptr = r; now = codes "2" } ∷ [];
+}
+
+abbrev first : List Text → Text
+first [] = []
+first (x ∷ xs) = x
+
+abbrev second : List Text → Text
+second [] = []
+second (x ∷ xs) = first xs
+
+-- what holds of all references to these texts holds of all forms
+forms_cases : (P : Bor (List (Bor Text)) → Type 0) → ((p q r : ℕ × ℕ) → P (form_refs p q r))
+    → (forms : Bor (List (Bor Text))) → map (λ s. s.now) forms.now ≡ form_words → P forms
+forms_cases P h forms e = go forms.now e
+  where
+    go : (l : List (Bor Text)) → map (λ s. s.now) l ≡ form_words → P (record { ref_ptr = forms.ref_ptr; now = l })
+    go [] e = absurd (omega (arith, ap length e))
+    go (a ∷ []) e = absurd (omega (arith, ap length e))
+    go (a ∷ b ∷ c ∷ rest) e = absurd (omega (arith, ap length e))
+    go (a ∷ b ∷ []) e =
+        subst (λ (t : Text). P (record { ref_ptr = forms.ref_ptr; now = record { ref_ptr = a.ref_ptr; now = t } ∷ b ∷ [] }))
+        (sym (ap first e))
+        (subst (λ (t : Text). P (record {
+          ref_ptr = forms.ref_ptr;
+          now = record { ref_ptr = a.ref_ptr; now = codes "1" } ∷ record { ref_ptr = b.ref_ptr; now = t } ∷ [];
+        })) (sym (ap second e)) (h forms.ref_ptr a.ref_ptr b.ref_ptr))
+
+-- ---- lines
+
+-- `clap` finds no fault in the words, and reads what is asked for
+abbrev pub Reads : Bor (List (Bor Text)) → List Text → Asked → Type 0
+Reads forms words asked =
+    (fault_of (dnorm_app forms) words ≡ []) × (subcommand_asked (subcommand_of (dnorm_app forms) words) ≡ Some asked)
+
+-- no fault is among none
+none_among : (faults : Kinds) (k : ErrorKind) → faults ≡ [] → IsAmong k faults → ⊥
+none_among faults k none h = subst (λ (f : Kinds). IsAmong k f) none h
+
+-- the answer where there is no fault
+does : (faults : Kinds) (told : Option Asked) (asked : Asked) (r : Request) → faults ≡ [] → told ≡ Some asked
+    → Answers faults told r → Requests asked r ⊎ (r ≡ requests.Memory)
+does faults told asked (requests.Command command) none is h = inl (ap (λ o. unwrap_or o asked) (sym h.1 ∙ is))
+does faults told asked (requests.Print text) none is (inl h) = absurd (none_among _ _ none h)
+does faults told asked (requests.Print text) none is (inr h) = absurd (none_among _ _ none h.0)
+does faults told asked requests.Bad none is (inl h) = absurd (none_among _ _ none h.1)
+does faults told asked requests.Bad none is (inr h) = absurd (true≢false (ap is_some (sym is ∙ h.1)))
+does faults told asked requests.Memory none is h = inr refl
+
+-- the answer to words that `clap` reads so, whichever forms in memory they are read with
+pub answered : (words : List Text) (asked : Asked) → ((p q r : ℕ × ℕ) → Reads (form_refs p q r) words asked)
+    → (r : Request) → IsReadByClap words r → Requests asked r ⊎ (r ≡ requests.Memory)
+answered words asked reads r h =
+    let read = forms_cases (λ (f : Bor (List (Bor Text))). Reads f words asked) reads h.forms h.are_forms in
+    does _ _ asked r read.0 read.1 h.answer
+
+-- a call for help or for the version
+abbrev is_call : ErrorKind → Bool
+is_call DisplayHelp = true
+is_call DisplayVersion = true
+is_call _ = false
+
+abbrev is_version : ErrorKind → Bool
+is_version DisplayVersion = true
+is_version _ = false
+
+-- none of the faults is a call
+abbrev pub NoCalls : Kinds → Type 0
+NoCalls [] = Unit {0}
+NoCalls (k ∷ ks) = (is_call k ≡ false) × NoCalls ks
+
+no_call : (faults : Kinds) (k : ErrorKind) → NoCalls faults → IsAmong k faults → is_call k ≡ false
+no_call [] k none h = elim h [ ]
+no_call (x ∷ xs) k none (inl e) = ap is_call e ∙ none.0
+no_call (x ∷ xs) k none (inr h) = no_call xs k none.1 h
+
+some_fault : (k : ErrorKind) (ks : Kinds) → k ∷ ks ≡ [] → ⊥
+some_fault k ks e = omega (arith, ap length e)
+
+mistaken_by : (told : Option Asked) (k : ErrorKind) (ks : Kinds) (r : Request) → NoCalls (k ∷ ks)
+    → Answers (k ∷ ks) told r → (r ≡ requests.Bad) ⊎ (r ≡ requests.Memory)
+mistaken_by told k ks (requests.Command command) none h = absurd (some_fault k ks h.0)
+mistaken_by told k ks (requests.Print text) none (inl h) = absurd (true≢false (no_call (k ∷ ks) DisplayHelp none h))
+mistaken_by told k ks (requests.Print text) none (inr h) = absurd (true≢false (no_call (k ∷ ks) DisplayVersion none h.0))
+mistaken_by told k ks requests.Bad none h = inl refl
+mistaken_by told k ks requests.Memory none h = inr refl
+
+helped_by : (told : Option Asked) (r : Request) → Answers (DisplayHelp ∷ []) told r → Prints r ⊎ (r ≡ requests.Memory)
+helped_by told (requests.Command command) h = absurd (some_fault _ _ h.0)
+helped_by told (requests.Print text) h = inl tt
+helped_by told requests.Bad (inl (k, (inl e), no_help, no_version)) = absurd (no_help e)
+helped_by told requests.Bad (inl (k, (inr h), no_help, no_version)) = absurd h
+helped_by told requests.Bad (inr h) = absurd (some_fault _ _ h.0)
+helped_by told requests.Memory h = inr refl
+
+versioned_by : (told : Option Asked) (r : Request) → Answers (DisplayVersion ∷ []) told r
+    → PrintsVersion r ⊎ (r ≡ requests.Memory)
+versioned_by told (requests.Command command) h = absurd (some_fault _ _ h.0)
+versioned_by told (requests.Print text) (inl (inl e)) = absurd (true≢false (ap is_version (sym e)))
+versioned_by told (requests.Print text) (inl (inr h)) = absurd h
+versioned_by told (requests.Print text) (inr h) = inl h.1
+versioned_by told requests.Bad (inl (k, (inl e), no_help, no_version)) = absurd (no_version e)
+versioned_by told requests.Bad (inl (k, (inr h), no_help, no_version)) = absurd h
+versioned_by told requests.Bad (inr h) = absurd (some_fault _ _ h.0)
+versioned_by told requests.Memory h = inr refl
+
+-- the answer, by faults that are the same
+of_same : (faults same : Kinds) (told : Option Asked) (r : Request) → faults ≡ same → Answers faults told r
+    → Answers same told r
+of_same faults same told r e h = subst (λ (f : Kinds). Answers f told r) e h
+
+-- the answers where `clap` finds these faults
+pub mistaken : (words : List Text) (k : ErrorKind) (ks : Kinds)
+    → ((p q r : ℕ × ℕ) → fault_of (dnorm_app (form_refs p q r)) words ≡ k ∷ ks) → NoCalls (k ∷ ks)
+    → (r : Request) → IsReadByClap words r → (r ≡ requests.Bad) ⊎ (r ≡ requests.Memory)
+mistaken words k ks faults none r h =
+    let e = forms_cases (λ (f : Bor (List (Bor Text))). fault_of (dnorm_app f) words ≡ k ∷ ks) faults h.forms h.are_forms in
+    mistaken_by _ k ks r none (of_same _ _ _ r e h.answer)
+
+pub helped : (words : List Text)
+    → ((p q r : ℕ × ℕ) → fault_of (dnorm_app (form_refs p q r)) words ≡ DisplayHelp ∷ [])
+    → (r : Request) → IsReadByClap words r → Prints r ⊎ (r ≡ requests.Memory)
+helped words faults r h =
+    let e = forms_cases (λ (f : Bor (List (Bor Text))). fault_of (dnorm_app f) words ≡ DisplayHelp ∷ []) faults h.forms h.are_forms in
+    helped_by _ r (of_same _ _ _ r e h.answer)
+
+pub versioned : (words : List Text)
+    → ((p q r : ℕ × ℕ) → fault_of (dnorm_app (form_refs p q r)) words ≡ DisplayVersion ∷ [])
+    → (r : Request) → IsReadByClap words r → PrintsVersion r ⊎ (r ≡ requests.Memory)
+versioned words faults r h =
+    let e = forms_cases (λ (f : Bor (List (Bor Text))). fault_of (dnorm_app f) words ≡ DisplayVersion ∷ []) faults h.forms h.are_forms in
+    versioned_by _ r (of_same _ _ _ r e h.answer)

@@ -1,0 +1,37 @@
+-- What the answer to a line of words says.
+use Rattle.std.proofs.Common.{◌≡◌, ◌≢◌, ◌∙◌, Bool, true, false, true≢false, Option, inl, inr, ap, sym, subst}
+use Rattle.clap.specs.Words.{HasKind, IsAmong, Kinds, Text, first_of, first_value, kind_of, rows_of}
+use Rattle.clap.specs.declared.error.Error.{Error}
+use Rattle.clap.specs.declared.error.kind.ErrorKind.{ErrorKind}
+use Rattle.clap.specs.declared.error.kind.ErrorKind.TheVariants.{OutOfMemory}
+use Rattle.clap.specs.declared.parser.matches.Found.{Found}
+use Rattle.clap.proofs.WalkLemmas.{first_value-rows}
+use Rattle.dn_command.specs.Commands.{Asked}
+use Rattle.dn_command.specs.Requests.{Answers, AnswersKind}
+use Rattle.dn_command.specs.declared.request.Request.{Request}
+use Rattle.dn_command.specs.declared.request.Request.TheVariants as requests
+
+-- the first value of a name is that of its row
+pub value_of_rows : (f : Found) (name : Text) → first_value f name ≡ first_of name (rows_of f)
+value_of_rows f name = first_value-rows f name
+
+-- a kind that is not want of memory is among the kinds that an error may have
+among : (faults : Kinds) (e : Error) → HasKind faults e → (kind_of e ≢ OutOfMemory) → IsAmong (kind_of e) faults
+among faults e (inl memory) other = absurd (other memory)
+among faults e (inr some) other = some
+
+-- want of memory
+abbrev is_memory : ErrorKind → Bool
+is_memory OutOfMemory = true
+is_memory _ = false
+
+-- the answer to an error of a kind is the answer to words that may have faults of that kind
+pub answers : (faults : Kinds) (asked : Option Asked) (e : Error) (r : Request) → HasKind faults e
+    → AnswersKind (kind_of e) r → Answers faults asked r
+answers faults asked e (requests.Command command) has h = elim h [ ]
+answers faults asked e (requests.Print text) has (inl help) =
+    inl (subst (λ k. IsAmong k faults) help (among faults e has (λ m. absurd (true≢false (ap is_memory (sym m ∙ help))))))
+answers faults asked e (requests.Print text) has (inr (version, is)) =
+    inr (subst (λ k. IsAmong k faults) version (among faults e has (λ m. absurd (true≢false (ap is_memory (sym m ∙ version))))), is)
+answers faults asked e requests.Bad has h = inl (kind_of e, among faults e has h.2, h.0, h.1)
+answers faults asked e requests.Memory has h = tt

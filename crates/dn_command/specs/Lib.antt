@@ -1,0 +1,3 @@
+pub mod Commands
+pub mod Options
+pub mod Requests

@@ -1,0 +1,65 @@
+-- The options that `clap` reads lines of words by, in the words of its definitions (this project's profile).
+use Rattle.std.specs.Prelude.{◌≡◌, List, ◌∷◌, [], Some, true, codes, map, Result, IfOk}
+use Rattle.std.specs.Borrow.{Bor}
+use Rattle.clap.specs.Words.{App, FailsBy, Rule, Text, fault_of, new_app, new_rule, subcommand_of, subcommand_rows_of, with_rule, with_subcommand}
+use Rattle.clap.specs.declared.builder.action.ArgAction.TheVariants.{Set}
+use Rattle.clap.specs.declared.builder.value_parser.ValueParser.TheVariants.{Names}
+use Rattle.clap.specs.declared.error.Error.{Error}
+use Rattle.clap.specs.declared.parser.matches.ArgMatches.{ArgMatches}
+
+-- a word that is required, under this name
+abbrev pub text_rule : Text → Rule
+text_rule name = record (new_rule name) { required = true; action = Some Set }
+
+-- `--with FILE`
+abbrev pub with_option : Rule
+with_option = record (new_rule (codes "with")) { long = Some (codes "with"); action = Some Set; value_names = 1 }
+
+-- `--form FORM`, where FORM is one of these, and `1` by default
+abbrev pub form_option : Bor (List (Bor Text)) → Rule
+form_option forms = record (new_rule (codes "form")) {
+  long = Some (codes "form");
+  action = Some Set;
+  value_names = 1;
+  parser = Some (Names forms);
+  defaults = codes "1" ∷ [];
+}
+
+-- `show FILE`
+abbrev pub show_app : App
+show_app = with_rule (new_app (codes "show")) (text_rule (codes "FILE"))
+
+-- `check FILE [--with FILE]`
+abbrev pub check_app : App
+check_app = with_rule (with_rule (new_app (codes "check")) (text_rule (codes "FILE"))) with_option
+
+-- `canon [--form FORM] FILE`
+abbrev pub canon_app : Bor (List (Bor Text)) → App
+canon_app forms = with_rule (with_rule (new_app (codes "canon")) (text_rule (codes "FILE"))) (form_option forms)
+
+-- `compare LEFT RIGHT`
+abbrev pub compare_app : App
+compare_app = with_rule (with_rule (new_app (codes "compare")) (text_rule (codes "LEFT"))) (text_rule (codes "RIGHT"))
+
+-- the program by itself: it has a version, and wants a subcommand
+abbrev pub bare_app : App
+bare_app = record (new_app (codes "dnorm")) {
+  top = record (new_app (codes "dnorm")).top { has_version = true; subcommand_required = true };
+}
+
+-- the program with its four commands, where FORM is one of these
+abbrev pub dnorm_app : Bor (List (Bor Text)) → App
+dnorm_app forms = with_subcommand (with_subcommand (with_subcommand (with_subcommand bare_app
+    show_app.top) check_app.top) (canon_app forms).top) compare_app.top
+
+-- the forms that `canon` has
+abbrev pub form_words : List Text
+form_words = codes "1" ∷ codes "2" ∷ []
+
+-- what `clap` reads of a line of words: it fails by a fault that its definitions tell of the words, and else has the
+-- subcommand that they tell of them
+pub record IsParseOf (words : List Text) (result : Result ArgMatches Error) : Type 0 where
+  pub forms : Bor (List (Bor Text))
+  pub are_forms : map (λ s. s.now) forms.now ≡ form_words
+  pub fails : FailsBy (fault_of (dnorm_app forms) words) result
+  pub matches : IfOk result (λ m. subcommand_rows_of m ≡ subcommand_of (dnorm_app forms) words)

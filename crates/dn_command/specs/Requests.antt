@@ -1,0 +1,95 @@
+-- What lines of words that are no plain form ask for, as `clap`'s definitions tell (this project's profile).
+use Rattle.std.specs.Prelude.{◌≡◌, ◌≢◌, ◌⊎◌, ⊤, ℕ, List, [], map, codes, Option, Some, None, option_map, option_and_then, string_bytes, if◌then◌else◌}
+use Rattle.std.specs.Borrow.{Bor}
+use Rattle.std.specs.Str.{bytes_eq}
+use Rattle.clap.specs.Words.{IsAmong, Kinds, Row, Text, fault_of, first_of, subcommand_of}
+use Rattle.clap.specs.declared.error.kind.ErrorKind.{ErrorKind}
+use Rattle.clap.specs.declared.error.kind.ErrorKind.TheVariants.{DisplayHelp, DisplayVersion, OutOfMemory}
+use Rattle.dn_bundle.specs.declared.arc.Form.{Form}
+use Rattle.dn_bundle.specs.declared.arc.Form.TheVariants.{One, Two}
+use Rattle.dn_command.specs.Commands.{Asked, Canon, Check, Compare, Show, asks}
+use Rattle.dn_command.specs.Options.{dnorm_app, form_words}
+use Rattle.dn_command.specs.declared.request.Request.{Request}
+use Rattle.dn_command.specs.declared.request.Request.TheVariants as requests
+
+-- the form of a word after `--form`
+abbrev pub form_of : Text → Option Form
+form_of word = if bytes_eq word (codes "1") then Some One else (if bytes_eq word (codes "2") then Some Two else None)
+
+-- what `show` asks for, by the first word that `clap` has under each name
+abbrev pub show_asked : List Row → Option Asked
+show_asked rows = option_map Show (first_of (codes "FILE") rows)
+
+-- the same of `check`
+abbrev pub check_asked : List Row → Option Asked
+check_asked rows = option_map (λ name. Check name (first_of (codes "with") rows)) (first_of (codes "FILE") rows)
+
+-- the same of `canon`, where the form is `1` or `2`
+abbrev pub canon_asked : List Row → Option Asked
+canon_asked rows = option_and_then (λ name. option_map (Canon name)
+    (option_and_then form_of (first_of (codes "form") rows))) (first_of (codes "FILE") rows)
+
+-- the same of `compare`
+abbrev pub compare_asked : List Row → Option Asked
+compare_asked rows = option_and_then (λ left. option_map (Compare left) (first_of (codes "RIGHT") rows))
+    (first_of (codes "LEFT") rows)
+
+-- what the command of this name asks for
+abbrev pub command_asked : Text → List Row → Option Asked
+command_asked name rows = if bytes_eq name (codes "show") then show_asked rows
+    else (if bytes_eq name (codes "check") then check_asked rows
+    else (if bytes_eq name (codes "canon") then canon_asked rows
+    else (if bytes_eq name (codes "compare") then compare_asked rows else None)))
+
+-- what the subcommand that `clap` has read asks for
+abbrev pub subcommand_asked : Option (Text × List Row) → Option Asked
+subcommand_asked = option_and_then (λ p. command_asked p.0 p.1)
+
+-- what is put where the version is asked for: the program's name and its version
+abbrev pub version_line : List ℕ
+version_line = codes "dnorm 1.0.0\n"
+
+-- a mistake in the words is among these faults
+abbrev pub HasMistake : Kinds → Type 0
+HasMistake faults = (k : ErrorKind) × IsAmong k faults × (k ≢ DisplayHelp) × (k ≢ DisplayVersion)
+
+-- what is answered, by the faults that the words may have and by what the subcommand that was read asks for: a command
+-- where there is no fault, and it is the one that is asked for; help or the version only where the words call for it;
+-- a bad line where there is a mistake, or nothing is asked for; or memory was wanted
+abbrev pub Answers : Kinds → Option Asked → Request → Type 0
+Answers faults asked (requests.Command command) = (faults ≡ []) × (asked ≡ Some (asks command))
+Answers faults asked (requests.Print text) =
+    IsAmong DisplayHelp faults ⊎ (IsAmong DisplayVersion faults × (string_bytes text ≡ version_line))
+Answers faults asked requests.Bad = HasMistake faults ⊎ ((faults ≡ []) × (asked ≡ None))
+Answers faults asked requests.Memory = ⊤
+
+-- what is answered to an error of this kind: help, the version, or that the line is bad
+abbrev pub AnswersKind : ErrorKind → Request → Type 0
+AnswersKind kind (requests.Command command) = ⊥
+AnswersKind kind (requests.Print text) =
+    (kind ≡ DisplayHelp) ⊎ ((kind ≡ DisplayVersion) × (string_bytes text ≡ version_line))
+AnswersKind kind requests.Bad = (kind ≢ DisplayHelp) × (kind ≢ DisplayVersion) × (kind ≢ OutOfMemory)
+AnswersKind kind requests.Memory = ⊤
+
+-- the answer to a line of words is what `clap`'s definitions tell of the program's options and of these words
+pub record IsReadByClap (words : List Text) (request : Request) : Type 0 where
+  -- the two words that may follow `--form`, wherever in memory they stand
+  pub forms : Bor (List (Bor Text))
+  pub are_forms : map (λ s. s.now) forms.now ≡ form_words
+  pub answer : Answers (fault_of (dnorm_app forms) words)
+      (subcommand_asked (subcommand_of (dnorm_app forms) words)) request
+
+-- the command of a request asks for this
+abbrev pub Requests : Asked → Request → Type 0
+Requests asked (requests.Command command) = asks command ≡ asked
+Requests asked request = ⊥
+
+-- the request puts a text
+abbrev pub Prints : Request → Type 0
+Prints (requests.Print text) = ⊤
+Prints request = ⊥
+
+-- the request puts the name and the version
+abbrev pub PrintsVersion : Request → Type 0
+PrintsVersion (requests.Print text) = string_bytes text ≡ version_line
+PrintsVersion request = ⊥

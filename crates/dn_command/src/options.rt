@@ -1,0 +1,133 @@
+// The options that `clap` reads lines of words by.
+ghost use Rattle.std.specs.Prelude.{◌≡◌, false, IfOk, map, string_bytes};
+ghost use Rattle.clap.specs.Words.{app_of, rule_of};
+ghost use Rattle.clap.specs.declared.builder.command.Command.TheViews.{out-Command as fields_of};
+ghost use Rattle.dn_command.specs.Options.{IsParseOf, bare_app, canon_app, check_app, compare_app, dnorm_app};
+ghost use Rattle.dn_command.specs.Options.{form_option, form_words, show_app, text_rule, with_option};
+
+use crate::help;
+use clap::{Arg, ArgAction, ArgMatches, Command, Error};
+use std::alloc::{AllocError, Global};
+
+// What `clap` reads of a line of words.
+pub(crate) fn parse<'a>(alloc: Global, words: &'a [String]) -> Result<ArgMatches<'a>, Error>
+    ensures { IsParseOf (map string_bytes words.entry.now) result }
+{
+    parse_with(alloc, &["1", "2"], words)
+}
+
+// What `clap` reads of a line of words, where FORM is one of these.
+fn parse_with<'a>(
+    alloc: Global,
+    forms: &'a [&'a str],
+    words: &'a [String],
+) -> Result<ArgMatches<'a>, Error>
+    requires { map (λ s. s.now) forms.now ≡ form_words }
+    ensures { IsParseOf (map string_bytes words.entry.now) result }
+{
+    dnorm_command(alloc, forms)?.try_get_matches_from(words)
+}
+
+// The program with its commands.
+fn dnorm_command<'a>(alloc: Global, forms: &'a [&'a str]) -> Result<Command<'a>, AllocError>
+    ensures app { IfOk result (λ c. app_of c ≡ dnorm_app forms.entry) }
+{
+    bare_command(alloc)
+        .subcommand(show_command(alloc)?)?
+        .subcommand(check_command(alloc)?)?
+        .subcommand(canon_command(alloc, forms)?)?
+        .subcommand(compare_command(alloc)?)
+}
+
+// The program without its commands.
+fn bare_command<'a>(alloc: Global) -> Command<'a>
+    ensures app { app_of result ≡ bare_app }
+    ensures local { (fields_of result).has_globals ≡ false }
+{
+    Command::new(alloc, "dnorm")
+        .about(help::PROGRAM)
+        .version(help::VERSION)
+        .after_help(help::SHORT_END)
+        .after_long_help(help::LONG_END)
+        .subcommand_required(true)
+}
+
+// `show FILE`.
+fn show_command<'a>(alloc: Global) -> Result<Command<'a>, AllocError>
+    ensures app { IfOk result (λ c. app_of c ≡ show_app) }
+    ensures local { IfOk result (λ c. (fields_of c).has_globals ≡ false) }
+{
+    Command::new(alloc, "show")
+        .about(help::SHOW)
+        .arg(text(alloc, "FILE", help::TEXT))
+}
+
+// `check FILE [--with FILE]`.
+fn check_command<'a>(alloc: Global) -> Result<Command<'a>, AllocError>
+    ensures app { IfOk result (λ c. app_of c ≡ check_app) }
+    ensures local { IfOk result (λ c. (fields_of c).has_globals ≡ false) }
+{
+    Command::new(alloc, "check")
+        .about(help::CHECK)
+        .arg(text(alloc, "FILE", help::TEXT))?
+        .arg(with_option(alloc))
+}
+
+// `canon [--form FORM] FILE`.
+fn canon_command<'a>(alloc: Global, forms: &'a [&'a str]) -> Result<Command<'a>, AllocError>
+    ensures app { IfOk result (λ c. app_of c ≡ canon_app forms.entry) }
+    ensures local { IfOk result (λ c. (fields_of c).has_globals ≡ false) }
+{
+    Command::new(alloc, "canon")
+        .about(help::CANON)
+        .arg(text(alloc, "FILE", help::TEXT))?
+        .arg(form_option(alloc, forms))
+}
+
+// `compare LEFT RIGHT`.
+fn compare_command<'a>(alloc: Global) -> Result<Command<'a>, AllocError>
+    ensures app { IfOk result (λ c. app_of c ≡ compare_app) }
+    ensures local { IfOk result (λ c. (fields_of c).has_globals ≡ false) }
+{
+    Command::new(alloc, "compare")
+        .about(help::COMPARE)
+        .arg(text(alloc, "LEFT", help::TEXT))?
+        .arg(text(alloc, "RIGHT", help::TEXT))
+}
+
+// `--with FILE`.
+fn with_option<'a>(alloc: Global) -> Arg<'a>
+    ensures rule { rule_of result ≡ with_option }
+    ensures local { result.global ≡ false }
+{
+    Arg::new(alloc, "with")
+        .long("with")
+        .value_name("FILE")
+        .action(ArgAction::Set)
+        .help(help::WITH)
+}
+
+// `--form FORM`.
+fn form_option<'a>(alloc: Global, forms: &'a [&'a str]) -> Arg<'a>
+    ensures rule { rule_of result ≡ form_option forms.entry }
+    ensures local { result.global ≡ false }
+{
+    Arg::new(alloc, "form")
+        .long("form")
+        .value_name("FORM")
+        .action(ArgAction::Set)
+        .value_parser(forms)
+        .default_value("1")
+        .help(help::FORM)
+}
+
+// A word that names a text.
+fn text<'a>(alloc: Global, name: &'a str, help: &'a str) -> Arg<'a>
+    ensures rule { rule_of result ≡ text_rule name.entry.now }
+    ensures local { result.global ≡ false }
+{
+    Arg::new(alloc, name)
+        .required(true)
+        .action(ArgAction::Set)
+        .help(help)
+}

@@ -1,0 +1,163 @@
+// What is to be done for a line of words.
+ghost use Rattle.std.specs.Prelude.{◌≡◌, IfOk, MatchResult, None, Some, map, option_map, string_bytes};
+ghost use Rattle.clap.specs.Words.{first_of, found_of, kind_of, rows_of, subcommand_rows_of};
+ghost use Rattle.dn_command.specs.Commands.{Asked, asks, plain_asked};
+ghost use Rattle.dn_command.specs.Requests.{AnswersKind, IsReadByClap, Requests, canon_asked};
+ghost use Rattle.dn_command.specs.Requests.{check_asked, compare_asked, form_of, version_line};
+ghost use Rattle.dn_command.specs.Requests.{show_asked, subcommand_asked};
+
+use crate::command::{Command, plain_command};
+use crate::help::VERSION;
+use crate::options::parse;
+use clap::error::ErrorKind;
+use clap::{ArgMatches, Error};
+use dn_bundle::Form;
+use std::alloc::{AllocError, Global};
+
+/// What is to be done for a line of words.
+#[derive(Debug, Drop)]
+pub enum Request<'a> {
+    /// This command.
+    Command(Command<'a>),
+    /// Help, or the version: this text is to be put on standard output.
+    Print(String),
+    /// Nothing: the line is not one of the program's.
+    Bad,
+    /// Nothing: memory was wanted while the line was read.
+    Memory,
+}
+
+/// What is to be done for a line of words, the program's name first. A plain form (`plain_command`) is the command that
+/// its words say, and nothing else of the line is read. Any other line is read as `clap` reads it, with the
+/// subcommands `show FILE`, `check FILE [--with FILE]`, `canon [--form 1|2] FILE` and `compare LEFT RIGHT`: `--` ends
+/// the options, an option takes its value after `=` or as the next word, and none may be repeated. `-h`, `--help` and
+/// `help` call for help, `-V` and `--version` for the version. `Memory` where memory was wanted in this; all else that
+/// is read as no command is `Bad`.
+///
+/// What `clap` reads is said over its own definitions, which hold for every line; `laws` and `examples` say in plain
+/// words what they come to for the usual lines. That every other line of words is read as by `clap` 4 in Rust is only
+/// tested, and so are the words of the help texts.
+pub fn request_of(alloc: Global, words: &[String]) -> Request<'_>
+    ensures plain { (asked : Asked) → plain_asked (map string_bytes words.now) ≡ Some asked → Requests asked result }
+    ensures other { plain_asked (map string_bytes words.now) ≡ None
+        → IsReadByClap (map string_bytes words.now) result }
+{
+    match plain_command(words) {
+        Some(command) => Request::Command(command),
+        None => read(alloc, words),
+    }
+}
+
+// What is to be done for a line of words that `clap` reads.
+fn read<'a>(alloc: Global, words: &'a [String]) -> Request<'a>
+    ensures { IsReadByClap (map string_bytes words.entry.now) result }
+{
+    match parse(alloc, words) {
+        Ok(matches) => match command_of(&matches) {
+            Some(command) => Request::Command(command),
+            None => Request::Bad,
+        },
+        Err(error) => answer(alloc, &error),
+    }
+}
+
+// What is to be done where the parse has no matches.
+fn answer<'a>(alloc: Global, error: &Error) -> Request<'a>
+    ensures { AnswersKind (kind_of error.now) result }
+{
+    match error.kind() {
+        ErrorKind::OutOfMemory => Request::Memory,
+        ErrorKind::DisplayHelp => printed(format!(in alloc; "{error}")),
+        ErrorKind::DisplayVersion => printed(version_line(alloc)),
+        _ => Request::Bad,
+    }
+}
+
+// What is to be done where this text is asked for.
+fn printed<'a>(text: Result<String, AllocError>) -> Request<'a>
+    ensures { MatchResult text (λ t. result ≡ Request.Print t) (λ _. result ≡ Request.Memory) }
+{
+    match text {
+        Ok(text) => Request::Print(text),
+        Err(AllocError) => Request::Memory,
+    }
+}
+
+// The name and the version of the program.
+fn version_line(alloc: Global) -> Result<String, AllocError>
+    ensures { IfOk result (λ text. string_bytes text ≡ version_line) }
+{
+    format!(in alloc; "dnorm {VERSION}\n")
+}
+
+// The command that the matches are.
+fn command_of<'a>(matches: &ArgMatches<'a>) -> Option<Command<'a>>
+    ensures { option_map asks result ≡ subcommand_asked (subcommand_rows_of matches.now) }
+{
+    let (name, inner) = matches.subcommand()?;
+    match name {
+        "show" => show_of(inner),
+        "check" => check_of(inner),
+        "canon" => canon_of(inner),
+        "compare" => compare_of(inner),
+        _ => None,
+    }
+}
+
+// `show`, by its matches.
+fn show_of<'a>(matches: &ArgMatches<'a>) -> Option<Command<'a>>
+    ensures { option_map asks result ≡ show_asked (rows_of (found_of matches.now)) }
+{
+    Some(Command::Show {
+        name: value(matches, "FILE")?,
+    })
+}
+
+// `check`, by its matches.
+fn check_of<'a>(matches: &ArgMatches<'a>) -> Option<Command<'a>>
+    ensures { option_map asks result ≡ check_asked (rows_of (found_of matches.now)) }
+{
+    Some(Command::Check {
+        name: value(matches, "FILE")?,
+        with: value(matches, "with"),
+    })
+}
+
+// `canon`, by its matches.
+fn canon_of<'a>(matches: &ArgMatches<'a>) -> Option<Command<'a>>
+    ensures { option_map asks result ≡ canon_asked (rows_of (found_of matches.now)) }
+{
+    Some(Command::Canon {
+        name: value(matches, "FILE")?,
+        form: form_of(value(matches, "form")?)?,
+    })
+}
+
+// `compare`, by its matches.
+fn compare_of<'a>(matches: &ArgMatches<'a>) -> Option<Command<'a>>
+    ensures { option_map asks result ≡ compare_asked (rows_of (found_of matches.now)) }
+{
+    Some(Command::Compare {
+        left: value(matches, "LEFT")?,
+        right: value(matches, "RIGHT")?,
+    })
+}
+
+// The first word that the matches have under this name.
+#[tactic(auto, using(crate::proofs::RequestLaws::value_of_rows))]
+fn value<'a>(matches: &ArgMatches<'a>, name: &str) -> Option<&'a str>
+    ensures { option_map (λ s. s.now) result ≡ first_of name.now (rows_of (found_of matches.now)) }
+{
+    matches.get_str(name)
+}
+
+// The form of a word after `--form`.
+fn form_of(word: &str) -> Option<Form>
+    ensures { result ≡ form_of word.now }
+{
+    match word {
+        "1" => Some(Form::One),
+        "2" => Some(Form::Two),
+        _ => None,
+    }
+}

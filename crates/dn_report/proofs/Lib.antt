@@ -1,0 +1,4 @@
+pub mod ExampleLaws
+pub mod LineLaws
+pub mod MeantRows
+pub mod ShowLaws

@@ -1,0 +1,4 @@
+pub mod Shows
+pub mod Checks
+pub mod Verdicts
+pub mod ToldRows

@@ -1,0 +1,78 @@
+// The line of an ordered pair, by what the bundle of its arcs tells.
+ghost use Rattle.std.specs.Prelude.{◌≡◌, ◌≤◌, ◌++◌, ◌∷◌, List, codes, length};
+ghost use Rattle.std.specs.Fmt.{signed_decimal};
+ghost use Rattle.dn_bundle.specs.declared.arc.Form.{Form};
+ghost use Rattle.dn_row.specs.Rows.{Row, line_text};
+ghost use Rattle.dn_report.specs.Shows.{cost_words, forced_words, pair_row, total_words};
+ghost use Rattle.dn_report.specs.ToldRows.{length_words};
+
+use dn_bundle::{Bundle, Curve, Least, Total};
+use dn_row::LineBuffer;
+
+// A bundle that is told in one line.
+pub(crate) trait PairLine: Bundle {
+    // What the line says of the arcs that the bundle tells.
+    ghost words: { List Self.Arc → Row };
+
+    // Makes the line of the bundle of a pair, in place of what the line was.
+    fn make_line(&self, line: &mut LineBuffer, pair: &(i64, i64))
+        ensures { line.new ≡ line_text (pair_row pair.now (words (Self.told Form.One self.now))) };
+}
+
+impl PairLine for Least {
+    ghost words = { length_words };
+
+    fn make_line(&self, line: &mut LineBuffer, pair: &(i64, i64)) {
+        begin_line(line, pair);
+        if let Some(length) = self.get() {
+            line.word(b"length");
+            line.number(&length);
+        }
+        line.newline();
+    }
+}
+
+impl PairLine for Total {
+    ghost words = { total_words };
+
+    fn make_line(&self, line: &mut LineBuffer, pair: &(i64, i64)) {
+        begin_line(line, pair);
+        line.word(b"total");
+        line.number(&self.get());
+        line.newline();
+    }
+}
+
+impl PairLine for Curve {
+    ghost words = { cost_words };
+
+    fn make_line(&self, line: &mut LineBuffer, pair: &(i64, i64)) {
+        let (units, cost) = self.forced();
+        forced_line(line, pair, &units, &cost, self.free_len());
+    }
+}
+
+// The line of a pair of a `min` problem.
+fn forced_line(line: &mut LineBuffer, pair: &(i64, i64), units: &i64, cost: &i128, steps: u64)
+    ensures { line.new ≡ line_text (pair_row pair.now (forced_words units.now cost.now steps)) }
+{
+    begin_line(line, pair);
+    line.word(b"forced");
+    line.number(units);
+    line.word(b"cost");
+    line.wide_number(cost);
+    line.word(b"steps");
+    line.count(steps);
+    line.newline();
+}
+
+// Begins the line of a pair.
+fn begin_line(line: &mut LineBuffer, pair: &(i64, i64))
+    ensures text { line.new
+        ≡ (codes "pair" ++ 32 ∷ signed_decimal pair.now.0) ++ 32 ∷ signed_decimal pair.now.1 }
+    ensures within { length line.new ≤ 46 }
+{
+    line.begin(b"pair");
+    line.number(&pair.0);
+    line.number(&pair.1);
+}

@@ -1,0 +1,216 @@
+-- What each command comes to.
+use Rattle.std.proofs.Common.{◌≡◌, ◌≢◌, ◌⊎◌, codes, ℕ, List, [], Bool, Option, Some, None, Result, Ok, Err, IfSome, refl, sym, ap, ◌∙◌, subst, inl, inr}
+use Rattle.dn_line.specs.declared.kind.Kind.{Kind}
+use Rattle.dn_bundle.specs.declared.arc.Form.{Form}
+use Rattle.dn_instance.specs.Companions.{judged}
+use Rattle.dn_instance.specs.Helds.{IsHeld, contents_kind, holding}
+use Rattle.dn_instance.specs.Instances.{Instance, kind_of}
+use Rattle.dn_instance.specs.Texts.{Reads}
+use Rattle.dn_instance.specs.Validity.{IsValid}
+use Rattle.dn_instance.specs.declared.companion.CompanionFault.{CompanionFault}
+use Rattle.dn_instance.specs.declared.held.Held.{Held}
+use Rattle.dn_instance.specs.declared.refusal.Refusal.{Refusal}
+use Rattle.dn_instance.specs.declared.refusal.Refusal.TheVariants.{Text, Memory, Read, Endless, Write, CountTooLarge}
+use Rattle.dn_instance.proofs.ValidLaws.{reads_valid, some_is}
+use Rattle.dn_canon.specs.Prints.{print}
+use Rattle.dn_canon.specs.Writes.{SinkAfter, WritesCanon}
+use Rattle.dn_report.specs.Checks.{checked_rows}
+use Rattle.dn_report.specs.Shows.{IsShown}
+use Rattle.dn_row.specs.Rows.{text_of}
+use Rattle.dn_sink.specs.Puts.{HasPut, PutsFront}
+use Rattle.dn_command.specs.Commands.{Canon, Compare}
+use Rattle.dn_run.specs.Answers.{Answer, Done, Refused, Unfit, Cut, IsDoneAs, Unput, unwritten}
+use Rattle.dn_run.specs.FilesRuns.{FilesRun, text_asked}
+use Rattle.dn_run.specs.Findings.{IsFound, IsUnjudged, PutsFinding, PutsForms, PutsJudged}
+use Rattle.dn_run.specs.Outcomes.{IsRefusedAs, OnText, OnTwoTexts, RanOn}
+use Rattle.dn_run.specs.Runs.{AreForms, Never, PutsCanon, PutsChecked, PutsCompared, PutsFit, PutsShown, Unfits}
+use Rattle.dn_run.specs.Streams.{SinkRun, sink_run}
+use Rattle.dn_run.specs.Takings.{KeepsOthers}
+use Rattle.dn_run.specs.Texts.{AskedText, IsCopy, IsRead, IsRefusedCanon, IsRefusedCopy, IsRefusedText}
+use Rattle.dn_run.specs.declared.files.FilesFault.{FilesFault}
+use Rattle.dn_run.proofs.FitLaws.{held_kind, judged_is}
+use Rattle.dn_run.proofs.OutcomeLaws.{added, cut_unread, done_unread, on_held, on_left, on_refused, unfit_unread}
+
+module _ {T S : Type 0} (text : AskedText T) (out : SinkRun S) (held : Held) where
+  -- ---- `show`
+
+  module _ (h : IsRead (IsRefusedText text) text (Ok held)) (t : List ℕ) (shows : (I : Instance) → IsValid I → IsHeld (holding held) I → IsShown I t) where
+    pub shown_done : HasPut out.taken out.has_failed out.old out.new [] t → OnText PutsShown (λ _. Never) (IsRefusedText text) text out (Done 0)
+    shown_done put = on_held PutsShown (λ _. Never) (IsRefusedText text) (IsRefusedText text) text out held (Done 0) h (done_unread 0 text.name)
+        (λ b none e I reads is. (I, reads, t, (refl, shows I (reads_valid b I reads) is), added put))
+
+    pub shown_cut : PutsFront out.taken out.has_failed out.old out.new t → OnText PutsShown (λ _. Never) (IsRefusedText text) text out Cut
+    shown_cut front = on_held PutsShown (λ _. Never) (IsRefusedText text) (IsRefusedText text) text out held Cut h (cut_unread text.name)
+        (λ b none e I reads is. (I, reads, 0, t, (refl, shows I (reads_valid b I reads) is), front))
+
+  -- ---- `canon`
+
+  module _ (form : Form) (h : IsRead (IsRefusedText text) text (Ok held)) where
+    pub canon_done : ((I : Instance) → IsValid I → IsHeld (holding held) I → WritesCanon out.taken out.has_failed out.old out.new form I (Ok tt)) → OnText (PutsCanon form) (λ _. Never) (IsRefusedCanon form text) text out (Done 0)
+    canon_done writes = on_held (PutsCanon form) (λ _. Never) (IsRefusedText text) (IsRefusedCanon form text) text out held (Done 0) h (done_unread 0 text.name)
+        (λ b none e I reads is. (let w = writes I (reads_valid b I reads) is in (I, reads, print w.0, (refl, (w.0, record { canon = w.1; text_is = refl })), added w.2.0)))
+
+    -- the text is not written
+    pub canon_unwritten : (e : Refusal) → SinkAfter out.has_failed out.old out.new (Err e) → ((I : Instance) → IsValid I → IsHeld (holding held) I → WritesCanon out.taken out.has_failed out.old out.new form I (Err e))
+        → OnText (PutsCanon form) (λ _. Never) (IsRefusedCanon form text) text out (unwritten text.name e)
+    canon_unwritten e after writes = on_held (PutsCanon form) (λ _. Never) (IsRefusedText text) (IsRefusedCanon form text) text out held (unwritten text.name e) h (unread e after)
+        (λ b none s I reads is. by_refusal b e I reads (writes I (reads_valid b I reads) is))
+      where
+        unread : (e : Refusal) → SinkAfter out.has_failed out.old out.new (Err e) → unwritten text.name e ≡ Refused text.name Read → ⊥
+        unread Write h e = cc
+        unread CountTooLarge h e = cc
+        unread (Text place code) h e = absurd h
+        unread Memory h e = absurd h
+        unread Read h e = absurd h
+        unread Endless h e = absurd h
+
+        by_refusal : (b : List ℕ) (e : Refusal) (I : Instance) → Reads b I → WritesCanon out.taken out.has_failed out.old out.new form I (Err e)
+            → RanOn (PutsCanon form) (λ _. Never) (IsRefusedCanon form text) text.name out b (unwritten text.name e)
+        by_refusal b Write I reads (J, canon, w) = (I, reads, 0, print J, (refl, (J, record { canon = canon; text_is = refl })), w.0)
+        by_refusal b CountTooLarge I reads (J, canon, w) = (refl, (I, reads, (J, canon, w.1)))
+        by_refusal b (Text place code) I reads w = absurd w.2
+        by_refusal b Memory I reads w = absurd w.2
+        by_refusal b Read I reads w = absurd w.2
+        by_refusal b Endless I reads w = absurd w.2
+
+-- a canonical text that is too large is not put
+pub canon_unput : {S : Type 0} (taken : S → Option (List ℕ)) (has_failed : S → Bool) (old new : S) (name : List ℕ) (e : Refusal) → SinkAfter has_failed old new (Err e)
+    → Unput (sink_run taken has_failed old new) (unwritten name e)
+canon_unput taken has_failed old new name CountTooLarge h = h
+canon_unput taken has_failed old new name Write h = tt
+canon_unput taken has_failed old new name (Text place code) h = absurd h
+canon_unput taken has_failed old new name Memory h = absurd h
+canon_unput taken has_failed old new name Read h = absurd h
+canon_unput taken has_failed old new name Endless h = absurd h
+
+-- what is not written is not done
+pub unwritten_undone : (form : Form) (name of : List ℕ) (e : Refusal) → IsDoneAs (Canon name form) (unwritten of e)
+unwritten_undone form name of CountTooLarge = tt
+unwritten_undone form name of Write = tt
+unwritten_undone form name of (Text place code) = tt
+unwritten_undone form name of Memory = tt
+unwritten_undone form name of Read = tt
+unwritten_undone form name of Endless = tt
+
+-- a text that is refused as it is read
+pub canon_refused : {T : Type 0} (text : AskedText T) (form : Form) (b : List ℕ) (e : Refusal) → IsRefusedText text b e → IsRefusedCanon form text b e
+canon_refused text form b (Text place code) h = h
+canon_refused text form b Memory h = h
+canon_refused text form b Read h = h
+canon_refused text form b Endless h = h
+canon_refused text form b Write h = h
+canon_refused text form b CountTooLarge h = absurd h
+
+-- ---- `check`
+
+unjudged : {T : Type 0} (text : AskedText T) (b : List ℕ) (e : Refusal) → IsUnjudged b e → IsRefusedCopy text b e
+unjudged text b (Text place code) h = h
+unjudged text b Memory h = inl h
+unjudged text b Read h = absurd h
+unjudged text b Endless h = absurd h
+unjudged text b Write h = absurd h
+unjudged text b CountTooLarge h = absurd h
+
+-- of what a text reads as
+judged_on : (kind : Kind) (companion : Option Kind) (b : List ℕ) (status : ℕ) (t : List ℕ) (I : Instance) → Reads b I → kind ≡ kind_of I → PutsJudged kind companion b status t → PutsChecked companion b I status t
+judged_on kind companion b status t I reads k (z, J, reads', forms, are, e) =
+    let same : J ≡ I = some_is J I (sym reads'.instance_is ∙ reads.instance_is) in
+    (z, forms, subst (λ K. AreForms b K forms) same are, e ∙ ap (λ x. text_of (checked_rows x companion forms)) k)
+
+-- the copy is the text
+copy_at : (fault : Option FilesFault) (behind : Option (List ℕ)) (P : List ℕ → Type 0) → (fault ≡ None → IfSome behind P) → (b : List ℕ) → fault ≡ None → behind ≡ Some b → P b
+copy_at fault behind P h b none e = subst (λ o. IfSome o P) e (h none)
+
+module _ {T S : Type 0} (text : AskedText T) (out : SinkRun S) (held : Held) (kept copy : List ℕ) (s : copy ≡ kept) (h : IsRead (IsRefusedCopy text) text (Ok held)) (c : IsCopy text kept (Ok held)) where
+  pub checked : (kind : Kind) → kind ≡ contents_kind (holding held).contents → (answer : Answer) → PutsForms text.name kind None copy out answer → OnText (PutsChecked None) (λ _. Never) (IsRefusedCopy text) text out answer
+  checked kind k answer puts = on_held (PutsChecked None) (λ _. Never) (IsRefusedCopy text) (IsRefusedCopy text) text out held answer h
+      (λ e. absurd (subst (λ a. PutsForms text.name kind None copy out a) e puts).1)
+      (λ b none e I reads is. by_answer b I reads (k ∙ held_kind (holding held) I is) answer (subst (λ x. PutsForms text.name kind None x out answer) (s ∙ copy_at text.fault text.behind (λ x. kept ≡ x) c b none e) puts))
+    where
+      by_answer : (b : List ℕ) (I : Instance) → Reads b I → kind ≡ kind_of I → (answer : Answer) → PutsForms text.name kind None b out answer → RanOn (PutsChecked None) (λ _. Never) (IsRefusedCopy text) text.name out b answer
+      by_answer b I reads k (Done status) (t, p, a) = (I, reads, t, judged_on kind None b status t I reads k p, a)
+      by_answer b I reads k (Refused of e) (n, u) = (n, unjudged text b e u)
+      by_answer b I reads k (Unfit of fault) p = absurd p
+      by_answer b I reads k Cut (status, t, p, f) = (I, reads, status, t, judged_on kind None b status t I reads k p, f)
+
+-- ---- two texts
+
+-- what is behind a second name before the first is taken
+pub before_first : {F T : Type 0} (files : FilesRun F T) (mid : F) (left right : List ℕ) → KeepsOthers (files.behind files.old) (files.behind mid) left → (left ≡ codes "-" → right ≢ codes "-")
+    → (r : Result Held Refusal) → IsRead (IsRefusedText (text_asked (record files { old = mid }) mid files.new right)) (text_asked (record files { old = mid }) mid files.new right) r
+    → IsRead (IsRefusedText (text_asked files mid files.new right)) (text_asked files mid files.new right) r
+before_first {F} {T} files mid left right keeps apart r h = subst (λ o. IsRead (IsRefusedText (with_behind o)) (with_behind o) r) (keeps right apart) h
+  where
+    with_behind : Option (List ℕ) → AskedText T
+    with_behind o = record {
+      name = right;
+      behind = o;
+      fault = files.fault files.new right;
+      Hands = files.Hands mid right;
+      gives = files.gives;
+      has_failed = files.has_failed;
+      Pulls = files.Pulls;
+    }
+
+module _ {T S : Type 0} (left right : AskedText T) (out : SinkRun S) (graph : Held) (h : IsRead (IsRefusedCopy left) left (Ok graph)) where
+  -- the right text is refused
+  pub fit_refused : (e : Refusal) → IsRead (IsRefusedText right) right (Err e) → OnTwoTexts PutsFit Unfits (IsRefusedCopy left) left right out (Refused right.name e)
+  fit_refused e k = on_left PutsFit Unfits (IsRefusedCopy left) left right out graph (Refused right.name e) h
+      (λ b none s I reads is. inr (on_refused (λ x J. PutsFit b I J) (Unfits I) (IsRefusedText right) (IsRefusedText right) right out e k (λ x r. r)))
+
+  module _ (companion : Held) (k : IsRead (IsRefusedText right) right (Ok companion)) where
+    -- the companion does not fit
+    pub unfit : (fault : CompanionFault) → judged (holding graph) (holding companion) ≡ Err fault → OnTwoTexts PutsFit Unfits (IsRefusedCopy left) left right out (Unfit right.name fault)
+    unfit fault u = on_left PutsFit Unfits (IsRefusedCopy left) left right out graph (Unfit right.name fault) h
+        (λ b none s I reads is. inr (on_held (λ x J. PutsFit b I J) (Unfits I) (IsRefusedText right) (IsRefusedText right) right out companion (Unfit right.name fault) k (unfit_unread right.name fault right.name)
+        (λ x none' s' J reads' is'. (J, reads', refl, sym (judged_is (holding graph) (holding companion) I J is is') ∙ u))))
+
+    -- it fits
+    module _ (kept copy : List ℕ) (same : copy ≡ kept) (c : IsCopy left kept (Ok graph)) (fit : judged (holding graph) (holding companion) ≡ Ok tt) (kind kind' : Kind) (i : kind ≡ contents_kind (holding graph).contents) (i' : kind' ≡ contents_kind (holding companion).contents) where
+      pub fits : (answer : Answer) → PutsForms left.name kind (Some kind') copy out answer → OnTwoTexts PutsFit Unfits (IsRefusedCopy left) left right out answer
+      fits answer puts = on_left PutsFit Unfits (IsRefusedCopy left) left right out graph answer h
+          (λ b none e I reads is. by_answer b I reads is answer (subst (λ x. PutsForms left.name kind (Some kind') x out answer) (same ∙ copy_at left.fault left.behind (λ x. kept ≡ x) c b none e) puts))
+        where
+          fit_on : (b : List ℕ) (I : Instance) → Reads b I → IsHeld (holding graph) I → (J : Instance) → IsHeld (holding companion) J → (status : ℕ) (t : List ℕ) → PutsJudged kind (Some kind') b status t → PutsFit b I J status t
+          fit_on b I reads is J is' status t p = (
+            sym (judged_is (holding graph) (holding companion) I J is is') ∙ fit,
+            subst (λ x. PutsChecked (Some x) b I status t) (i' ∙ held_kind (holding companion) J is') (judged_on kind (Some kind') b status t I reads (i ∙ held_kind (holding graph) I is) p),
+          )
+
+          by_answer : (b : List ℕ) (I : Instance) → Reads b I → IsHeld (holding graph) I → (answer : Answer) → PutsForms left.name kind (Some kind') b out answer
+              → IsRefusedAs (IsRefusedCopy left) left.name b answer ⊎ OnText (λ x J. PutsFit b I J) (Unfits I) (IsRefusedText right) right out answer
+          by_answer b I reads is (Done status) (t, p, a) = inr (on_held (λ x J. PutsFit b I J) (Unfits I) (IsRefusedText right) (IsRefusedText right) right out companion (Done status) k (done_unread status right.name)
+              (λ x none e J reads' is'. (J, reads', t, fit_on b I reads is J is' status t p, a)))
+          by_answer b I reads is (Refused of e) (n, u) = inl (e, ap (λ x. Refused x e) n, unjudged left b e u)
+          by_answer b I reads is (Unfit of fault) p = absurd p
+          by_answer b I reads is Cut (status, t, p, f) = inr (on_held (λ x J. PutsFit b I J) (Unfits I) (IsRefusedText right) (IsRefusedText right) right out companion Cut k (cut_unread right.name)
+              (λ x none e J reads' is'. (J, reads', status, t, fit_on b I reads is J is' status t p, f)))
+
+-- ---- `compare`
+
+module _ {T S : Type 0} (left right : AskedText T) (out : SinkRun S) (one : Held) (h : IsRead (IsRefusedText left) left (Ok one)) where
+  -- the right text is refused
+  pub compare_refused : (e : Refusal) → IsRead (IsRefusedText right) right (Err e) → OnTwoTexts (λ _. PutsCompared) (λ _ _. Never) (IsRefusedText left) left right out (Refused right.name e)
+  compare_refused e k = on_left (λ _. PutsCompared) (λ _ _. Never) (IsRefusedText left) left right out one (Refused right.name e) h
+      (λ b none s I reads is. inr (on_refused (λ x J. PutsCompared I J) (λ _. Never) (IsRefusedText right) (IsRefusedText right) right out e k (λ x r. r)))
+
+  -- both are compared
+  pub compared : (other : Held) → IsRead (IsRefusedText right) right (Ok other) → (answer : Answer) → IsFound answer
+      → ((I J : Instance) → IsValid I → IsValid J → IsHeld (holding one) I → IsHeld (holding other) J → PutsFinding (PutsCompared I J) out answer)
+      → OnTwoTexts (λ _. PutsCompared) (λ _ _. Never) (IsRefusedText left) left right out answer
+  compared other k answer found puts = on_left (λ _. PutsCompared) (λ _ _. Never) (IsRefusedText left) left right out one answer h
+      (λ b none e I reads is. inr (on_held (λ x J. PutsCompared I J) (λ _. Never) (IsRefusedText right) (IsRefusedText right) right out other answer k (λ e. absurd (subst IsFound e found))
+      (λ x none' e' J reads' is'. by_answer x I J reads' answer (puts I J (reads_valid b I reads) (reads_valid x J reads') is is'))))
+    where
+      by_answer : (x : List ℕ) (I J : Instance) → Reads x J → (answer : Answer) → PutsFinding (PutsCompared I J) out answer → RanOn (λ x J. PutsCompared I J) (λ _. Never) (IsRefusedText right) right.name out x answer
+      by_answer x I J reads (Done status) (t, p, a) = (J, reads, t, p, a)
+      by_answer x I J reads (Refused of e) p = absurd p
+      by_answer x I J reads (Unfit of fault) p = absurd p
+      by_answer x I J reads Cut (status, t, p, f) = (J, reads, status, t, p, f)
+
+-- what is found is done with 0 or 1, or cut off
+pub found_done : (l r : List ℕ) (answer : Answer) → IsFound answer → IsDoneAs (Compare l r) answer
+found_done l r (Done status) h = h
+found_done l r (Refused of e) h = tt
+found_done l r (Unfit of fault) h = tt
+found_done l r Cut h = tt

@@ -1,0 +1,104 @@
+-- What a command comes to, from what its texts are read as.
+use Rattle.std.proofs.Common.{◌≡◌, ◌⊎◌, ℕ, List, [], Bool, Option, Some, None, Result, Ok, Err, IfSome, refl, sym, ap, ◌∙◌, subst, inl, inr, append-nil}
+use Rattle.std.specs.Io.KnownBytes.{Appends}
+use Rattle.dn_instance.specs.Helds.{IsHeld, holding}
+use Rattle.dn_instance.specs.Instances.{Instance}
+use Rattle.dn_instance.specs.Texts.{Reads}
+use Rattle.dn_instance.specs.declared.companion.CompanionFault.{CompanionFault}
+use Rattle.dn_instance.specs.declared.held.Held.{Held}
+use Rattle.dn_instance.specs.declared.refusal.Refusal.{Refusal}
+use Rattle.dn_instance.specs.declared.refusal.Refusal.TheVariants.{Memory, Read}
+use Rattle.dn_sink.specs.Puts.{HasPut}
+use Rattle.dn_run.specs.Answers.{Answer, Done, Refused, Unfit, Cut}
+use Rattle.dn_run.specs.Outcomes.{IsRefusedAs, OnText, OnTwoTexts, RanOn}
+use Rattle.dn_run.specs.Streams.{SinkRun}
+use Rattle.dn_run.specs.Texts.{AskedText, IsRead, IsRefusedText, unopened}
+use Rattle.dn_run.specs.declared.files.FilesFault.{FilesFault}
+
+-- what is put whole is added
+pub added : {S : Type 0} {taken : S → Option (List ℕ)} {has_failed : S → Bool} {old new : S} {t : List ℕ} → HasPut taken has_failed old new [] t → Appends (taken old) (taken new) t
+added {S} {taken} {has_failed} {old} {new} h = subst (λ l. Appends (taken old) (taken new) l) (sym (append-nil h.put) ∙ h.whole) h.bytes
+
+-- what is held was not refused
+not_refused : (held : Held) (refusal : Refusal) → Ok held ≡ Err refusal → ⊥
+not_refused held refusal e = cc
+
+-- the result of a text that is refused
+abbrev refused_result : Refusal → Result Held Refusal
+refused_result e = Err e
+
+-- why an answer is a refusal
+abbrev told_refusal : Answer → Refusal
+told_refusal (Refused name e) = e
+told_refusal _ = Memory
+
+-- what is done, does not fit or is cut off is no text that could not be read
+pub done_unread : (status : ℕ) (name : List ℕ) → Done status ≡ Refused name Read → ⊥
+done_unread status name e = cc
+
+pub unfit_unread : (of : List ℕ) (fault : CompanionFault) (name : List ℕ) → Unfit of fault ≡ Refused name Read → ⊥
+unfit_unread of fault name e = cc
+
+pub cut_unread : (name : List ℕ) → Cut ≡ Refused name Read → ⊥
+cut_unread name e = cc
+
+-- why a result is refused
+abbrev refusal_in : Refusal → Result Held Refusal → Refusal
+refusal_in d (Ok held) = d
+refusal_in d (Err e) = e
+
+-- where a text was not handed out, it is refused for that
+of_fault : (name : List ℕ) (fault : Option FilesFault) (e : Refusal) (r : Result Held Refusal) → r ≡ Err e → IfSome fault (λ f. r ≡ Err (unopened f)) → IfSome fault (λ f. Refused name e ≡ Refused name (unopened f))
+of_fault name None e r s h = tt
+of_fault name (Some f) e r s h = ap (λ x. Refused name x) (ap (refusal_in e) (sym s ∙ h))
+
+-- where a text is held, it was handed out
+no_fault : (held : Held) (answer : FilesFault → Answer) (given : Answer) (fault : Option FilesFault) → IfSome fault (λ f. Ok held ≡ Err (unopened f)) → IfSome fault (λ f. given ≡ answer f)
+no_fault held answer given None h = tt
+no_fault held answer given (Some f) h = absurd (not_refused held (unopened f) h)
+
+-- what is known of the bytes behind a name
+by_behind : {P Q : List ℕ → Type 0} (behind : Option (List ℕ)) → ((b : List ℕ) → behind ≡ Some b → P b → Q b) → IfSome behind P → IfSome behind Q
+by_behind None f h = tt
+by_behind (Some b) f h = f b refl h
+
+module _ {T S : Type 0} (Puts : List ℕ → Instance → ℕ → List ℕ → Type 0) (Unfits : Instance → CompanionFault → Type 0) (Reading Refuses : List ℕ → Refusal → Type 0) (text : AskedText T) (out : SinkRun S) where
+  -- the text is held, and the answer says what was done of it
+  pub on_held : (held : Held) (answer : Answer) → IsRead Reading text (Ok held) → (answer ≡ Refused text.name Read → ⊥)
+      → ((b : List ℕ) → text.fault ≡ None → text.behind ≡ Some b → (I : Instance) → Reads b I → IsHeld (holding held) I → RanOn Puts Unfits Refuses text.name out b answer)
+      → OnText Puts Unfits Refuses text out answer
+  on_held held answer h unread ran = record {
+    not_handed = no_fault held (λ f. Refused text.name (unopened f)) answer text.fault h.not_handed;
+    failed = λ _ e. absurd (unread e);
+    handed = λ none. by_behind text.behind (λ b e (I, reads, is). ran b none e I reads is) (h.handed none);
+  }
+
+  -- the text is refused
+  pub on_refused : (refusal : Refusal) → IsRead Reading text (Err refusal) → ((b : List ℕ) → Reading b refusal → Refuses b refusal) → OnText Puts Unfits Refuses text out (Refused text.name refusal)
+  on_refused refusal h more = record {
+    not_handed = of_fault text.name text.fault refusal (Err refusal) refl h.not_handed;
+    failed = λ fine e. h.failed fine (ap refused_result (ap told_refusal e));
+    handed = λ none. by_behind text.behind (λ b e refused. (refl, more b refused)) (h.handed none);
+  }
+
+module _ {T S : Type 0} (Puts : List ℕ → Instance → Instance → ℕ → List ℕ → Type 0) (Unfits : Instance → Instance → CompanionFault → Type 0) (Refuses : List ℕ → Refusal → Type 0) (left right : AskedText T) (out : SinkRun S) where
+  -- the left text is held, and the answer says what was done of both
+  pub on_left : (held : Held) (answer : Answer) → IsRead Refuses left (Ok held)
+      → ((b : List ℕ) → left.fault ≡ None → left.behind ≡ Some b → (I : Instance) → Reads b I → IsHeld (holding held) I → IsRefusedAs Refuses left.name b answer ⊎ OnText (λ c J. Puts b I J) (Unfits I) (IsRefusedText right) right out answer)
+      → OnTwoTexts Puts Unfits Refuses left right out answer
+  on_left held answer h ran = record {
+    not_handed = no_fault held (λ f. Refused left.name (unopened f)) answer left.fault h.not_handed;
+    handed = λ none. by_behind left.behind (λ b e (I, reads, is). by_case b I reads (ran b none e I reads is)) (h.handed none);
+  }
+    where
+      by_case : (b : List ℕ) (I : Instance) → Reads b I → IsRefusedAs Refuses left.name b answer ⊎ OnText (λ c J. Puts b I J) (Unfits I) (IsRefusedText right) right out answer
+          → IsRefusedAs Refuses left.name b answer ⊎ ((K : Instance) × Reads b K × OnText (λ c J. Puts b K J) (Unfits K) (IsRefusedText right) right out answer)
+      by_case b I reads (inl r) = inl r
+      by_case b I reads (inr r) = inr (I, reads, r)
+
+  -- the left text is refused
+  pub left_refused : (refusal : Refusal) → IsRead Refuses left (Err refusal) → OnTwoTexts Puts Unfits Refuses left right out (Refused left.name refusal)
+  left_refused refusal h = record {
+    not_handed = of_fault left.name left.fault refusal (Err refusal) refl h.not_handed;
+    handed = λ none. by_behind left.behind (λ b e refused. inl (refusal, refl, refused)) (h.handed none);
+  }

@@ -1,0 +1,99 @@
+-- What a text that was asked for is read as.
+use Rattle.std.proofs.Common.{◌≡◌, ℕ, List, [], ◌++◌, Option, Some, None, Result, Ok, Err, IsTrue, OnOk, IfSome, IsErrOf, refl, sym, ap, ◌∙◌, subst, inl, inr, append-nil}
+use Rattle.std.specs.Io.KnownBytes.{IsAtEnd}
+use Rattle.dn_instance.specs.SourceReads.{CopyOutcome, Copied, SourceOutcome}
+use Rattle.dn_instance.specs.declared.held.Held.{Held}
+use Rattle.dn_instance.specs.declared.refusal.Refusal.{Refusal}
+use Rattle.dn_instance.specs.declared.refusal.Refusal.TheVariants.{Text, Memory, Read, Endless, Write, CountTooLarge}
+use Rattle.dn_instance.proofs.SourceLaws.{stopped_wants}
+use Rattle.dn_run.specs.declared.files.FilesFault.{FilesFault}
+use Rattle.dn_run.specs.Texts.{AskedText, ComesOf, IsCopy, IsRead, IsRefusedCopy, IsRefusedText, ReadsAs, unopened}
+
+module _ {T : Type 0} (text : AskedText T) where
+  -- a text that was not handed out
+  pub unhanded : (Refuses : List ℕ → Refusal → Type 0) (fault : FilesFault) → text.fault ≡ Some fault → IsRead Refuses text (Err (unopened fault))
+  unhanded Refuses fault e = record {
+    not_handed = subst (λ o. IfSome o (λ f. are_same (Err (unopened fault)) (Err (unopened f)))) (sym e) refl;
+    failed = λ none _. absurd (not_both (sym e ∙ none));
+    handed = λ none. absurd (not_both (sym e ∙ none));
+  }
+    where
+      are_same : Result Held Refusal → Result Held Refusal → Type 0
+      are_same a b = a ≡ b
+
+      not_both : Some fault ≡ None → ⊥
+      not_both e = cc
+
+  pub uncopied_text : (copy : List ℕ) (fault : FilesFault) → text.fault ≡ Some fault → IsCopy text copy (Err (unopened fault))
+  uncopied_text copy fault e none = absurd (not_both (sym e ∙ none))
+    where
+      not_both : Some fault ≡ None → ⊥
+      not_both e = cc
+
+  module _ (source : T) (comes : ComesOf text source) (fine : text.fault ≡ None) where
+    reads_as : (b : List ℕ) (r : Result Held Refusal) → SourceOutcome b (text.gives source) r → (IsErrOf r Read → IsTrue (text.has_failed source)) → ReadsAs (IsRefusedText text) b r
+    reads_as b (Ok held) h read = h.0
+    reads_as b (Err (Text place code)) h read = h.0
+    reads_as b (Err Memory) h read = stopped_wants b (text.gives source) h
+    reads_as b (Err Read) h read = (record { source = source; comes = comes; failed = read refl }, h)
+    reads_as b (Err Endless) (c, many) read = record { source = source; comes = comes; clean = c; many = many }
+    reads_as b (Err Write) h read = h
+    reads_as b (Err CountTooLarge) h read = h
+
+    -- the source that was handed out is read
+    pub handed_reads : (given : Option (List ℕ)) (r : Result Held Refusal) → given ≡ text.behind → IfSome given (λ b. SourceOutcome b (text.gives source) r)
+        → (IsErrOf r Read → IsTrue (text.has_failed source)) → IsRead (IsRefusedText text) text r
+    handed_reads given r e h read = record {
+      not_handed = subst (λ o. IfSome o (λ f. r ≡ Err (unopened f))) (sym fine) tt;
+      failed = λ _ is. record { source = source; comes = comes; failed = read is };
+      handed = λ _. subst (λ o. IfSome o (λ b. ReadsAs (IsRefusedText text) b r)) e (by_given given h);
+    }
+      where
+        by_given : (o : Option (List ℕ)) → IfSome o (λ b. SourceOutcome b (text.gives source) r) → IfSome o (λ b. ReadsAs (IsRefusedText text) b r)
+        by_given None h = tt
+        by_given (Some b) h = reads_as b r h read
+
+    copies_as : (b copy : List ℕ) (r : Result Held Refusal) → CopyOutcome b (text.gives source) [] copy r → (IsErrOf r Read → IsTrue (text.has_failed source)) → ReadsAs (IsRefusedCopy text) b r
+    copies_as b copy (Ok held) h read = h.0.0
+    copies_as b copy (Err (Text place code)) h read = h.0.0
+    copies_as b copy (Err Memory) (inl h) read = inl (stopped_wants b (text.gives source) h.0)
+    copies_as b copy (Err Memory) (inr l) read = inr (record { given = l.given; piece = l.piece; rest = l.rest; whole = l.whole; some = l.some; clean = l.clean })
+    copies_as b copy (Err Read) h read = (record { source = source; comes = comes; failed = read refl }, h.0)
+    copies_as b copy (Err Endless) ((c, many), copied) read = record { source = source; comes = comes; clean = c; many = many }
+    copies_as b copy (Err Write) h read = h.0
+    copies_as b copy (Err CountTooLarge) h read = h.0
+
+    pub handed_copies : (given : Option (List ℕ)) (old copy : List ℕ) (r : Result Held Refusal) → old ≡ [] → given ≡ text.behind → IfSome given (λ b. CopyOutcome b (text.gives source) old copy r)
+        → (IsErrOf r Read → IsTrue (text.has_failed source)) → IsRead (IsRefusedCopy text) text r
+    handed_copies given old copy r empty e h read = record {
+      not_handed = subst (λ o. IfSome o (λ f. r ≡ Err (unopened f))) (sym fine) tt;
+      failed = λ _ is. record { source = source; comes = comes; failed = read is };
+      handed = λ _. subst (λ o. IfSome o (λ b. ReadsAs (IsRefusedCopy text) b r)) e (by_given given (subst (λ l. IfSome given (λ b. CopyOutcome b (text.gives source) l copy r)) empty h));
+    }
+      where
+        by_given : (o : Option (List ℕ)) → IfSome o (λ b. CopyOutcome b (text.gives source) [] copy r) → IfSome o (λ b. ReadsAs (IsRefusedCopy text) b r)
+        by_given None h = tt
+        by_given (Some b) h = copies_as b copy r h read
+
+-- nothing is left, so the copy is the whole text
+whole_copy : (b copy : List ℕ) (new : Option (List ℕ)) → IsAtEnd new → Copied b new [] copy → copy ≡ b
+whole_copy b copy (Some rest) end c = c.copy ∙ sym (append-nil c.given) ∙ ap (λ l. c.given ++ l) (sym (left c.rest c.rest_is)) ∙ sym c.whole
+  where
+    left : (rest' : List ℕ) → Some rest ≡ Some rest' → rest' ≡ []
+    left rest' e = cc
+whole_copy b copy None end c = absurd (none c.rest c.rest_is)
+  where
+    none : (rest' : List ℕ) → None ≡ Some rest' → ⊥
+    none rest' e = cc
+
+-- where all that the source gave is copied, the copy is what was behind the name
+pub handed_copy : (new given behind : Option (List ℕ)) (old copy : List ℕ) (r : Result Held Refusal) → old ≡ [] → given ≡ behind → IfSome given (λ b. CopyOutcome b new old copy r) → IfSome behind (λ b. OnOk r (copy ≡ b))
+handed_copy new given behind old copy r empty e h = subst (λ o. IfSome o (λ b. OnOk r (copy ≡ b))) e (by_given given (subst (λ l. IfSome given (λ b. CopyOutcome b new l copy r)) empty h))
+  where
+    by_result : (b : List ℕ) (r : Result Held Refusal) → CopyOutcome b new [] copy r → OnOk r (copy ≡ b)
+    by_result b (Ok held) h = whole_copy b copy new h.0.1 h.1
+    by_result b (Err e) h = tt
+
+    by_given : (o : Option (List ℕ)) → IfSome o (λ b. CopyOutcome b new [] copy r) → IfSome o (λ b. OnOk r (copy ≡ b))
+    by_given None h = tt
+    by_given (Some b) h = by_result b r h

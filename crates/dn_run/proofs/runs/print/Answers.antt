@@ -1,0 +1,13 @@
+use Rattle.std.proofs.Common.{refl, inl, subst}
+use Rattle.std.specs.Io.KnownBytes.{Appends}
+use Rattle.dn_run.specs.Answers.{Done}
+use Rattle.dn_run.proofs.OutcomeLaws.{added}
+use Rattle.dn_run.proofs.runs.print.Goals as goal
+
+pub returns-in-Ok-clause-prints : goal.returns-in-Ok-clause-prints
+returns-in-Ok-clause-prints g c = record {
+  answer = Done 0;
+  status_is = refl;
+  puts = inl (refl, subst (λ l. Appends (g.O.Sink.taken c.args.out.now) (g.O.Sink.taken c.put_flushed.new.out) l) c.as_bytes.ensures.value (added c.in-Ok.ensures.text));
+  tells = refl;
+}

@@ -1,0 +1,174 @@
+// The commands, each over files and `out`.
+ghost use Rattle.std.specs.Prelude.{◌≡◌, ◌≢◌, None, Some, false, IsTrue, OnOk, codes};
+ghost use Rattle.dn_command.specs.Commands.{Canon, Check, Compare, Show, asks, names_twice};
+ghost use Rattle.dn_run.specs.Answers.{IsDoneAs, Unput, answer_of};
+ghost use Rattle.dn_run.specs.FilesRuns.{files_run};
+ghost use Rattle.dn_run.specs.Runs.{Performs};
+ghost use Rattle.dn_run.specs.Streams.{sink_run};
+
+use crate::files::Files;
+use crate::findings::{put_check, put_compared};
+use crate::stop::{Stop, unwritten};
+use crate::texts::{copy_named, read_named};
+use dn_bundle::Form;
+use dn_canon::write_canon;
+use dn_command::Command;
+use dn_instance::check_companion;
+use dn_report::put_shown;
+use dn_sink::Sink;
+use std::alloc::Global;
+
+// Does what is asked for, and answers the exit status.
+pub(crate) fn perform<'a, F: Files, O: Sink>(
+    alloc: Global,
+    command: &Command<'a>,
+    files: &mut F,
+    out: &mut O,
+) -> Result<u8, Stop<'a>>
+    requires { names_twice (asks command.now) ≡ false }
+    ensures performs { Performs (files_run F.behind F.fault F.Asks F.Hands F.Text.gives F.Text.has_failed F.Text.Pulls files.old files.new)
+        (sink_run O.taken O.has_failed out.old out.new) (asks command.now) (answer_of result) }
+    ensures unput { Unput (sink_run O.taken O.has_failed out.old out.new) (answer_of result) }
+    ensures done_as { IsDoneAs (asks command.now) (answer_of result) }
+    ensures flushed { OnOk result (IsTrue (O.is_flushed out.new)) }
+{
+    match *command {
+        Command::Show { name } => show(alloc, name, files, out),
+        Command::Check { name, with: None } => check(alloc, name, files, out),
+        Command::Check {
+            name,
+            with: Some(with),
+        } => check_with(alloc, name, with, files, out),
+        Command::Canon { name, form } => canon(alloc, name, form, files, out),
+        Command::Compare { left, right } => compare_named(alloc, left, right, files, out),
+    }
+}
+
+// Puts what the text of this name holds.
+fn show<'a, F: Files, O: Sink>(
+    alloc: Global,
+    name: &'a str,
+    files: &mut F,
+    out: &mut O,
+) -> Result<u8, Stop<'a>>
+    ensures performs { Performs (files_run F.behind F.fault F.Asks F.Hands F.Text.gives F.Text.has_failed F.Text.Pulls files.old files.new)
+        (sink_run O.taken O.has_failed out.old out.new) (Show name.now) (answer_of result) }
+    ensures unput { Unput (sink_run O.taken O.has_failed out.old out.new) (answer_of result) }
+    ensures done_as { IsDoneAs (Show name.now) (answer_of result) }
+    ensures flushed { OnOk result (IsTrue (O.is_flushed out.new)) }
+{
+    match read_named(alloc, name, files) {
+        Ok(held) => match put_shown(out, &held) {
+            Ok(()) => Ok(0),
+            Err(_) => Err(Stop::Cut),
+        },
+        Err(refusal) => Err(Stop::Refused { name, refusal }),
+    }
+}
+
+// Puts the canonical text of the text of this name.
+fn canon<'a, F: Files, O: Sink>(
+    alloc: Global,
+    name: &'a str,
+    form: Form,
+    files: &mut F,
+    out: &mut O,
+) -> Result<u8, Stop<'a>>
+    ensures performs { Performs (files_run F.behind F.fault F.Asks F.Hands F.Text.gives F.Text.has_failed F.Text.Pulls files.old files.new)
+        (sink_run O.taken O.has_failed out.old out.new) (Canon name.now form) (answer_of result) }
+    ensures unput { Unput (sink_run O.taken O.has_failed out.old out.new) (answer_of result) }
+    ensures done_as { IsDoneAs (Canon name.now form) (answer_of result) }
+    ensures flushed { OnOk result (IsTrue (O.is_flushed out.new)) }
+{
+    match read_named(alloc, name, files) {
+        Ok(held) => match write_canon(&held, out, form) {
+            Ok(()) => Ok(0),
+            Err(refusal) => Err(unwritten(name, refusal)),
+        },
+        Err(refusal) => Err(Stop::Refused { name, refusal }),
+    }
+}
+
+// Puts that the text of this name is accepted, and the forms in which it is canonical.
+fn check<'a, F: Files, O: Sink>(
+    alloc: Global,
+    name: &'a str,
+    files: &mut F,
+    out: &mut O,
+) -> Result<u8, Stop<'a>>
+    ensures performs { Performs (files_run F.behind F.fault F.Asks F.Hands F.Text.gives F.Text.has_failed F.Text.Pulls files.old files.new)
+        (sink_run O.taken O.has_failed out.old out.new) (Check name.now None) (answer_of result) }
+    ensures unput { Unput (sink_run O.taken O.has_failed out.old out.new) (answer_of result) }
+    ensures done_as { IsDoneAs (Check name.now None) (answer_of result) }
+    ensures flushed { OnOk result (IsTrue (O.is_flushed out.new)) }
+{
+    let mut copy = Vec::new(alloc);
+    match copy_named(alloc, name, files, &mut copy) {
+        Ok(held) => put_check(alloc, name, held.kind(), None, &copy, out),
+        Err(refusal) => Err(Stop::Refused { name, refusal }),
+    }
+}
+
+// The same, and that the companion fits it.
+fn check_with<'a, F: Files, O: Sink>(
+    alloc: Global,
+    name: &'a str,
+    companion: &'a str,
+    files: &mut F,
+    out: &mut O,
+) -> Result<u8, Stop<'a>>
+    requires { name.now ≡ codes "-" → companion.now ≢ codes "-" }
+    ensures performs { Performs (files_run F.behind F.fault F.Asks F.Hands F.Text.gives F.Text.has_failed F.Text.Pulls files.old files.new)
+        (sink_run O.taken O.has_failed out.old out.new) (Check name.now (Some companion.now)) (answer_of result) }
+    ensures unput { Unput (sink_run O.taken O.has_failed out.old out.new) (answer_of result) }
+    ensures done_as { IsDoneAs (Check name.now (Some companion.now)) (answer_of result) }
+    ensures flushed { OnOk result (IsTrue (O.is_flushed out.new)) }
+{
+    let mut copy = Vec::new(alloc);
+    match copy_named(alloc, name, files, &mut copy) {
+        Ok(graph) => match read_named(alloc, companion, files) {
+            Ok(held) => match check_companion(&graph, &held) {
+                Ok(()) => put_check(alloc, name, graph.kind(), Some(held.kind()), &copy, out),
+                Err(fault) => Err(Stop::Unfit {
+                    name: companion,
+                    fault,
+                }),
+            },
+            Err(refusal) => Err(Stop::Refused {
+                name: companion,
+                refusal,
+            }),
+        },
+        Err(refusal) => Err(Stop::Refused { name, refusal }),
+    }
+}
+
+// Puts the first difference between the texts of these names.
+fn compare_named<'a, F: Files, O: Sink>(
+    alloc: Global,
+    left: &'a str,
+    right: &'a str,
+    files: &mut F,
+    out: &mut O,
+) -> Result<u8, Stop<'a>>
+    requires { left.now ≡ codes "-" → right.now ≢ codes "-" }
+    ensures performs { Performs (files_run F.behind F.fault F.Asks F.Hands F.Text.gives F.Text.has_failed F.Text.Pulls files.old files.new)
+        (sink_run O.taken O.has_failed out.old out.new) (Compare left.now right.now) (answer_of result) }
+    ensures unput { Unput (sink_run O.taken O.has_failed out.old out.new) (answer_of result) }
+    ensures done_as { IsDoneAs (Compare left.now right.now) (answer_of result) }
+    ensures flushed { OnOk result (IsTrue (O.is_flushed out.new)) }
+{
+    match read_named(alloc, left, files) {
+        Ok(one) => match read_named(alloc, right, files) {
+            Ok(other) => put_compared(&one, &other, out),
+            Err(refusal) => Err(Stop::Refused {
+                name: right,
+                refusal,
+            }),
+        },
+        Err(refusal) => Err(Stop::Refused {
+            name: left,
+            refusal,
+        }),
+    }
+}

@@ -1,0 +1,82 @@
+// What is found of texts that were read, put on `out`.
+ghost use Rattle.std.specs.Prelude.{◌≡◌, ℕ, List, Option, IsTrue, OnOk};
+ghost use Rattle.dn_instance.specs.Helds.{IsHeld, holding};
+ghost use Rattle.dn_instance.specs.Instances.{Instance};
+ghost use Rattle.dn_instance.specs.Validity.{IsValid};
+ghost use Rattle.dn_command.specs.Commands.{Check};
+ghost use Rattle.dn_run.specs.Answers.{IsDoneAs, Unput, answer_of};
+ghost use Rattle.dn_run.specs.Findings.{IsFound, JudgesForms, PutsFinding, PutsForms, verdict_status};
+ghost use Rattle.dn_run.specs.Runs.{PutsCompared};
+ghost use Rattle.dn_run.specs.Streams.{sink_run};
+
+use crate::stop::Stop;
+use dn_bundle::Form;
+use dn_canon::is_canon;
+use dn_compare::{Verdict, compare};
+use dn_instance::{Held, Refusal};
+use dn_line::Kind;
+use dn_report::{Forms, put_checked, put_verdict};
+use dn_sink::Sink;
+use std::alloc::Global;
+
+// Puts that a text of this name and kind is accepted, which companion fits it, and the forms in which it is canonical.
+pub(crate) fn put_check<'a, O: Sink>(
+    alloc: Global,
+    name: &'a str,
+    kind: Kind,
+    companion: Option<Kind>,
+    text: &[u8],
+    out: &mut O,
+) -> Result<u8, Stop<'a>>
+    ensures puts { PutsForms name.now kind companion text.now (sink_run O.taken O.has_failed out.old out.new)
+        (answer_of result) }
+    ensures unput { Unput (sink_run O.taken O.has_failed out.old out.new) (answer_of result) }
+    ensures done_as { (b : List ℕ) (with : Option (List ℕ)) → IsDoneAs (Check b with) (answer_of result) }
+    ensures flushed { OnOk result (IsTrue (O.is_flushed out.new)) }
+{
+    match forms_of(alloc, text) {
+        Ok(forms) => match put_checked(out, kind, companion, forms) {
+            Ok(()) => Ok(0),
+            Err(_) => Err(Stop::Cut),
+        },
+        Err(refusal) => Err(Stop::Refused { name, refusal }),
+    }
+}
+
+// Puts the first difference between two texts that were read; the status is 0 where they are the same problem, else 1.
+pub(crate) fn put_compared<'a, O: Sink>(
+    left: &Held,
+    right: &Held,
+    out: &mut O,
+) -> Result<u8, Stop<'a>>
+    ensures puts { (I J : Instance) → IsValid I → IsValid J → IsHeld (holding left.now) I → IsHeld (holding right.now) J
+        → PutsFinding (PutsCompared I J) (sink_run O.taken O.has_failed out.old out.new) (answer_of result) }
+    ensures unput { Unput (sink_run O.taken O.has_failed out.old out.new) (answer_of result) }
+    ensures found { IsFound (answer_of result) }
+    ensures flushed { OnOk result (IsTrue (O.is_flushed out.new)) }
+{
+    let verdict = compare(left, right);
+    match put_verdict(out, &verdict) {
+        Ok(()) => Ok(verdict_status(&verdict)),
+        Err(_) => Err(Stop::Cut),
+    }
+}
+
+// The status of a comparison.
+fn verdict_status(verdict: &Verdict) -> u8
+    ensures { result ≡ verdict_status verdict.now }
+{
+    match verdict {
+        Verdict::Same => 0,
+        _ => 1,
+    }
+}
+
+// The forms in which a text is the canonical text of what it reads as.
+fn forms_of(alloc: Global, text: &[u8]) -> Result<Forms, Refusal>
+    ensures { JudgesForms text.now result }
+{
+    let one = is_canon(alloc, text, Form::One)?;
+    let two = is_canon(alloc, text, Form::Two)?;
+    Ok(Forms { one, two })
+}

@@ -1,0 +1,73 @@
+// Why a command stops before it is done.
+ghost use Rattle.std.specs.Prelude.{◌≡◌};
+ghost use Rattle.dn_run.specs.Answers.{Tells, refusal_status, status_of, stopped, unwritten};
+ghost use Rattle.dn_run.specs.Streams.{sink_run};
+
+use crate::fault_line::{put_fault_line, put_unfit_line};
+use dn_instance::{CompanionFault, Refusal};
+use dn_sink::Sink;
+
+// Why a command stops before it is done.
+#[derive(Clone, Copy)]
+pub(crate) enum Stop<'a> {
+    // The text of this name is refused.
+    Refused {
+        name: &'a str,
+        refusal: Refusal,
+    },
+    // The companion of this name does not fit.
+    Unfit {
+        name: &'a str,
+        fault: CompanionFault,
+    },
+    // Standard output failed.
+    Cut,
+}
+
+impl Stop<'_> {
+    // The exit status: 2 where a text is refused or does not fit, 4 where memory, a source or standard output failed.
+    pub(crate) fn status(&self) -> u8
+        ensures { result ≡ status_of (stopped self.now) }
+    {
+        match self {
+            Stop::Refused { refusal, .. } => refusal_status(refusal),
+            Stop::Unfit { .. } => 2,
+            Stop::Cut => 4,
+        }
+    }
+
+    // Puts the line that tells of it. A fault of the sink is ignored.
+    pub(crate) fn tell<E: Sink>(&self, err: &mut E)
+        ensures { Tells (sink_run E.taken E.has_failed err.old err.new) (stopped self.now) }
+    {
+        let _ = match self {
+            Stop::Refused { name, refusal } => put_fault_line(err, name, refusal),
+            Stop::Unfit { name, fault } => put_unfit_line(err, name, fault),
+            Stop::Cut => put_fault_line(err, "", &Refusal::Write),
+        };
+    }
+}
+
+// Why a command stops whose text of this name could not be written.
+pub(crate) fn unwritten(name: &str, refusal: Refusal) -> Stop<'_>
+    ensures { stopped result ≡ unwritten name.entry.now refusal }
+{
+    match refusal {
+        Refusal::Write => Stop::Cut,
+        Refusal::Text { .. }
+        | Refusal::Memory
+        | Refusal::Read
+        | Refusal::Endless
+        | Refusal::CountTooLarge => Stop::Refused { name, refusal },
+    }
+}
+
+// The status of a refusal.
+fn refusal_status(refusal: &Refusal) -> u8
+    ensures { result ≡ refusal_status refusal.now }
+{
+    match refusal {
+        Refusal::Text { .. } | Refusal::CountTooLarge => 2,
+        Refusal::Memory | Refusal::Read | Refusal::Endless | Refusal::Write => 4,
+    }
+}

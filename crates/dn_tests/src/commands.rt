@@ -1,0 +1,168 @@
+// Lines of words, as `clap` 4 reads them, and the texts of help and of the version.
+
+mod cases;
+
+use cases::{FILES, HELP, OPTIONS, OTHERS};
+use dn_bundle::Form;
+use dn_command::{Command, Request, request_of};
+use dn_instance::{CompanionFault, Refusal};
+use dn_line::Code;
+use std::alloc::{AllocError, Global};
+use std::fmt::Display;
+use std::test::Fail;
+
+const VERSION: &str = "dnorm 1.0.0\n";
+
+// Words of their own, which stand apart by `|`, after the program's name.
+pub(crate) fn owned(alloc: Global, line: &str) -> Result<Vec<String>, AllocError> {
+    let mut all = Vec::new(alloc);
+    all.push(String::from_str(alloc, "dnorm")?)?;
+    for word in line.split('|') {
+        all.push(String::from_str(alloc, word)?)?;
+    }
+    Ok(all)
+}
+
+// A command as the table of lines has it.
+fn command_text(alloc: Global, command: &Command<'_>) -> Result<String, AllocError> {
+    match command {
+        Command::Show { name } => format!(in alloc; "show [{name}]"),
+        Command::Check { name, with: None } => format!(in alloc; "check [{name}]"),
+        Command::Check {
+            name,
+            with: Some(with),
+        } => format!(in alloc; "check [{name}] with [{with}]"),
+        Command::Canon {
+            name,
+            form: Form::One,
+        } => format!(in alloc; "canon 1 [{name}]"),
+        Command::Canon {
+            name,
+            form: Form::Two,
+        } => format!(in alloc; "canon 2 [{name}]"),
+        Command::Compare { left, right } => format!(in alloc; "compare [{left}] [{right}]"),
+    }
+}
+
+// A request as the table of lines has it.
+fn request_text(alloc: Global, request: &Request<'_>) -> Result<String, AllocError> {
+    match request {
+        Request::Command(command) => command_text(alloc, command),
+        Request::Print(text) if text.as_str() == VERSION => String::from_str(alloc, "version"),
+        Request::Print(_) => String::from_str(alloc, "help"),
+        Request::Bad => String::from_str(alloc, "bad"),
+        Request::Memory => String::from_str(alloc, "memory"),
+    }
+}
+
+// Whether the words of a line are what the table says.
+fn is_read(alloc: Global, line: &str, wanted: &str) -> Result<bool, AllocError> {
+    let words = owned(alloc, line)?;
+    let request = request_of(alloc, &words);
+    let text = request_text(alloc, &request)?;
+    Ok(text.as_str() == wanted)
+}
+
+// The first line that is read otherwise.
+fn first_other(alloc: Global, lines: &[(&'static str, &str)]) -> Option<&'static str> {
+    for (line, wanted) in lines {
+        if is_read(alloc, line, wanted) != Ok(true) {
+            return Some(*line);
+        }
+    }
+    None
+}
+
+#[test]
+fn names_of_files(rt: HostRuntime) {
+    assert_eq!(rt; first_other(rt.alloc(), &FILES), None);
+}
+
+#[test]
+fn options(rt: HostRuntime) {
+    assert_eq!(rt; first_other(rt.alloc(), &OPTIONS), None);
+}
+
+#[test]
+fn calls_for_help(rt: HostRuntime) {
+    assert_eq!(rt; first_other(rt.alloc(), &HELP), None);
+}
+
+#[test]
+fn other_words(rt: HostRuntime) {
+    assert_eq!(rt; first_other(rt.alloc(), &OTHERS), None);
+}
+
+#[test]
+fn the_version(rt: HostRuntime) -> Result<(), Fail> {
+    let words = owned(rt.alloc(), "--version")?;
+    let Request::Print(text) = request_of(rt.alloc(), &words) else {
+        return Err(Fail::from("no text"));
+    };
+    assert_eq!(rt; text.as_str(), VERSION);
+    Ok(())
+}
+
+const CODES: [Code; 21] = [
+    Code::BadLine,
+    Code::EarlyLine,
+    Code::SecondProblem,
+    Code::UnknownProblem,
+    Code::WrongLine,
+    Code::LateNode,
+    Code::TooManyLines,
+    Code::FieldCount,
+    Code::NotANumber,
+    Code::OutOfRange,
+    Code::Negative,
+    Code::BadTerminal,
+    Code::NodeOutOfRange,
+    Code::RepeatedNode,
+    Code::SameTerminal,
+    Code::LowAboveCap,
+    Code::SumTooLarge,
+    Code::NoProblem,
+    Code::MissingTerminal,
+    Code::TooFewLines,
+    Code::TooLong,
+];
+
+const REFUSALS: [Refusal; 5] = [
+    Refusal::Memory,
+    Refusal::Read,
+    Refusal::Endless,
+    Refusal::Write,
+    Refusal::CountTooLarge,
+];
+
+const FAULTS: [CompanionFault; 2] = [
+    CompanionFault::NotInGraph { id: 1 },
+    CompanionFault::NotKinds,
+];
+
+// Whether help has the line of a refusal.
+fn has_line<T: Display>(alloc: Global, help: &str, number: u8, name: &str, told: &T) -> bool {
+    match format!(in alloc; " {number} {name}: {told}\n") {
+        Ok(line) => help.contains(line.as_str()),
+        Err(_) => false,
+    }
+}
+
+#[test]
+fn help_lists_every_refusal(rt: HostRuntime) -> Result<(), Fail> {
+    let words = owned(rt.alloc(), "help")?;
+    let Request::Print(help) = request_of(rt.alloc(), &words) else {
+        return Err(Fail::from("no text"));
+    };
+    let help = help.as_str();
+    for code in &CODES {
+        assert!(rt; has_line(rt.alloc(), help, code.number(), code.name(), code));
+    }
+    for refusal in &REFUSALS {
+        assert!(rt; has_line(rt.alloc(), help, refusal.number(), refusal.name(), refusal));
+    }
+    for fault in &FAULTS {
+        assert!(rt; has_line(rt.alloc(), help, fault.number(), fault.name(), fault));
+    }
+    Ok(())
+}

@@ -1,0 +1,3 @@
+p aux sp ss 2
+s 3
+s 1

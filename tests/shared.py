@@ -1,0 +1,66 @@
+"""What the tests of the built program share: which program is tested, how it is run, and how what is found is compared
+and counted. A test prints a line for each failure, and last how many checks passed and failed."""
+
+import os
+import subprocess
+import sys
+from typing import NamedTuple
+
+ROOT = os.path.dirname(os.path.dirname(os.path.realpath(__file__)))
+# A run that takes longer is ended, and fails the test.
+LIMIT = 60
+
+
+class Answer(NamedTuple):
+    """What a run put on standard output and on standard error, and its status: below 0 the signal that ended it."""
+
+    out: bytes
+    err: bytes
+    status: int
+
+
+class Tally:
+    """How many checks passed and failed."""
+
+    def __init__(self):
+        self.passed = self.failed = 0
+
+    def same(self, name, found, wanted):
+        """Checks that both are the same, else says so."""
+        if found == wanted:
+            self.passed += 1
+        else:
+            self.fail(f"{name}: wanted {wanted!r:.300}, found {found!r:.300}")
+
+    def holds(self, name, is_so):
+        """Checks that this is so, else says so."""
+        self.same(name, bool(is_so), True)
+
+    def fail(self, line):
+        self.failed += 1
+        print(line, flush=True)
+
+    def end(self):
+        """Says how many checks passed and failed, and answers the status."""
+        print(f"{self.passed} passed, {self.failed} failed")
+        return 0 if self.failed == 0 else 1
+
+
+def program():
+    """The program that is tested: the first argument, else the one that stands built in the repository."""
+    path = os.path.abspath(sys.argv[1]) if sys.argv[1:] else f"{ROOT}/crates/dnorm/out/dnorm"
+    if not os.access(path, os.X_OK):
+        sys.exit(f"{path} is no program: tools/build dnorm builds it")
+    return path
+
+
+def run(words, given=b"", **more):
+    """Runs the program that these words begin with on the bytes given."""
+    ran = subprocess.run(words, input=given, capture_output=True, timeout=LIMIT, check=False, **more)
+    return Answer(ran.stdout, ran.stderr, ran.returncode)
+
+
+def write(path, text):
+    """Makes a file."""
+    with open(path, "wb") as file:
+        file.write(text if isinstance(text, bytes) else text.encode())
