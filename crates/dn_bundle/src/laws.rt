@@ -63,6 +63,16 @@ pub fn one_more()
     ensures costs { (xs ys : List CostArc) (a : CostArc) → SameCurve xs ys → SameCurve (xs ++ a ∷ []) (ys ++ a ∷ []) }
 {}
 
+/// Parts that mean the same, put together, mean the same.
+pub fn put_together()
+    ensures lengths { (xs xs' ys ys' : List LengthArc) → SameLength xs xs' → SameLength ys ys'
+        → SameLength (xs ++ ys) (xs' ++ ys') }
+    ensures capacities { (xs xs' ys ys' : List CapArc) → SameTotal xs xs' → SameTotal ys ys'
+        → SameTotal (xs ++ ys) (xs' ++ ys') }
+    ensures costs { (xs xs' ys ys' : List CostArc) → SameCurve xs xs' → SameCurve ys ys'
+        → SameCurve (xs ++ ys) (xs' ++ ys') }
+{}
+
 /// The least cost of x among canonical arcs of a `min` pair is the forced cost plus what the units beyond the forced
 /// ones cost when they are filled into the free capacities by rising cost.
 pub fn exchange()

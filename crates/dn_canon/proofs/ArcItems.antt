@@ -164,7 +164,7 @@ sp_items = record {
 
 module _ {Arc : Type 0} where
   -- the arcs of a pair in two lists
-  bundle_append : (p : ℤ × ℤ) (xs ys : List ((ℤ × ℤ) × Arc)) → bundle p (xs ++ ys) ≡ bundle p xs ++ bundle p ys
+  pub bundle_append : (p : ℤ × ℤ) (xs ys : List ((ℤ × ℤ) × Arc)) → bundle p (xs ++ ys) ≡ bundle p xs ++ bundle p ys
   bundle_append p [] ys = refl
   bundle_append p (x ∷ xs) ys = by_test (same_pair p x.0) (bundle p xs) (bundle p ys) (bundle p (xs ++ ys)) (bundle_append p xs ys)
     where

@@ -13,5 +13,8 @@ pub mod PutLaws
 pub mod LineLaws
 pub mod ToldLaws
 pub mod HeldLaws
+pub mod ChunkLaws
+pub mod RangeLaws
+pub mod RangeTexts
 pub mod RunLaws
 pub mod JudgeLaws

@@ -17,8 +17,8 @@ use Rattle.dn_instance.specs.Texts.{Reads}
 use Rattle.dn_instance.proofs.FirstFaults.{by_clean_lines, none_first}
 use Rattle.dn_instance.proofs.SameLaws.{refl_of, sym_of, trans_of}
 use Rattle.dn_instance.proofs.ValidLaws.{some_is}
-use Rattle.dn_canon.specs.CanonInstances.{IsCanonGraph, IsCanonInstance}
-use Rattle.dn_canon.specs.CanonTexts.{IsCanonOf}
+use Rattle.dn_canon.specs.CanonInstances.{IsCanonGraph, IsCanonInstance, IsCanonInstanceOf}
+use Rattle.dn_canon.specs.CanonTexts.{IsCanonOf, PrintsCanon}
 use Rattle.dn_canon.specs.CanonReadings.{ReadsTwice}
 use Rattle.dn_canon.specs.Prints.{print}
 use Rattle.dn_canon.proofs.OrderLaws.{order_one}
@@ -43,7 +43,7 @@ max_is : (a b c d : ℤ) (G H : Graph _) → a ≡ c → b ≡ d → G ≡ H →
 max_is a b c d G H e f g = cc
 
 -- canonical instances that are the same problem are the same
-canon_one : (form : Form) (I J : Instance) → IsCanonInstance form I → IsCanonInstance form J → IsSame I J → I ≡ J
+pub canon_one : (form : Form) (I J : Instance) → IsCanonInstance form I → IsCanonInstance form J → IsSame I J → I ≡ J
 canon_one form (MinCostFlow s G) (MinCostFlow t H) c d e = min_is s t G H e.0 (graph_one costs determination_of_forms form G H c d e.1)
 canon_one form (MaxFlow a b G) (MaxFlow a' b' H) c d e = max_is a b a' b' G H e.0 e.1 (graph_one capacities total_determined form G H c d e.2)
 canon_one form (ShortestPaths G) (ShortestPaths H) c d e = ap ShortestPaths (graph_one lengths length_determined form G H c d e)
@@ -68,10 +68,14 @@ same_bytes form t u I J (C, c) (D, d) s =
 pub texts_agree : (form : Form) (t u : List ℕ) (I J : Instance) → IsCanonOf form t I → IsCanonOf form u J → (t ≡ u) ↔ IsSame I J
 texts_agree form t u I J c d = (bytes_same form t u I J c d, same_bytes form t u I J c d)
 
--- a canonical text of not too many lines reads as one instance, whose canonical text it is
+-- a canonical text of not too many lines reads as the instance that it prints
+canon_reads : (form : Form) (t : List ℕ) (I C : Instance) → length (lines t) < 2 ^ 63 - 1 → PrintsCanon form t I C → Reads t C
+canon_reads form t I C few c = subst (λ s. Reads s C) (sym c.text_is) (print_reads C c.canon.valid (subst (λ s. length (lines s) < 2 ^ 63 - 1) c.text_is few))
+
+-- as one instance, whose canonical text it is
 pub reads_twice : (form : Form) (t : List ℕ) (I : Instance) → length (lines t) < 2 ^ 63 - 1 → IsCanonOf form t I → (J : Instance) × ReadsTwice form t I J
 reads_twice form t I few (C, c) =
-    let reads : Reads t C = subst (λ s. Reads s C) (sym c.text_is) (print_reads C c.canon.valid (subst (λ s. length (lines s) < 2 ^ 63 - 1) c.text_is few)) in
+    let reads = canon_reads form t I C few c in
     let own : IsCanonOf form t C = (C, record { canon = record { valid = c.canon.valid; canonical = c.canon.canonical; same = refl_of C }; text_is = c.text_is }) in (
       C,
       record {
@@ -91,6 +95,12 @@ reads_few t I r = by_clean_lines (λ ls. length ls < 2 ^ 63 - 1) (lines t) r.cle
   where
     few_more : (b : List (List ℕ)) (l : List ℕ) → length b + 1 < 2 ^ 63 - 1 → length (b ++ l ∷ []) < 2 ^ 63 - 1
     few_more b l h = omega (arith, length-append b (l ∷ []))
+
+-- what it reads as is the canonical instance
+pub reads_canon : (form : Form) (t : List ℕ) (I J : Instance) → IsCanonOf form t I → Reads t J → IsCanonInstanceOf form J I
+reads_canon form t I J (C, c) r =
+    let reads = canon_reads form t I C (reads_few t J r) c in
+    subst (λ K. IsCanonInstanceOf form K I) (some_is C J (sym reads.instance_is ∙ r.instance_is)) c.canon
 
 -- what a canonical text reads as has the canonical texts of what it was made of
 pub forms_cross : (from to : Form) (t u v : List ℕ) (I J : Instance) → IsCanonOf from t I → Reads t J → IsCanonOf to u I → IsCanonOf to v J → u ≡ v

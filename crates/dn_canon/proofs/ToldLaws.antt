@@ -77,7 +77,7 @@ module _ {Arc : Type 0} where
   before_placed k p (x ∷ xs) rest e n = (ap is_le e, before_placed k p xs rest e n)
 
   -- what holds of the arcs of each pair holds of each arc
-  all_from : (P : (ℤ × ℤ) × Arc → Type 0) (arcs : List ((ℤ × ℤ) × Arc)) → ((q : ℤ × ℤ) → AllByRecursion (λ x. P (q, x)) (bundle q arcs)) → AllByRecursion P arcs
+  pub all_from : (P : (ℤ × ℤ) × Arc → Type 0) (arcs : List ((ℤ × ℤ) × Arc)) → ((q : ℤ × ℤ) → AllByRecursion (λ x. P (q, x)) (bundle q arcs)) → AllByRecursion P arcs
   all_from P [] h = tt
   all_from P (a ∷ rest) h =
       let here : AllByRecursion (λ x. P (a.0, x)) (a.1 ∷ bundle a.0 rest) = subst (AllByRecursion (λ x. P (a.0, x))) (at_head a rest) (h a.0) in
@@ -87,13 +87,13 @@ module _ {Arc : Type 0} where
       tail q true e = e.1
       tail q false e = e
 
-  -- a pair that has an arc joins two nodes
-  nodes_at : (kind : ArcKind Arc) (n : ℤ) (arcs : List ((ℤ × ℤ) × Arc)) (q : ℤ × ℤ) (x : Arc) (xs : List Arc) → AllByRecursion (IsPlaced kind n) arcs → bundle q arcs ≡ x ∷ xs → IsNode n q.0 × IsNode n q.1
-  nodes_at kind n [] q x xs v e = cc
-  nodes_at kind n (a ∷ rest) q x xs v e = by_test (same_pair q a.0) refl e (nodes_at kind n rest q x xs v.1)
+  -- what an arc tells of its pair, of a pair that has an arc
+  pub at_some : (P : (ℤ × ℤ) × Arc → Type 0) (Q : ℤ × ℤ → Type 0) → ((a : (ℤ × ℤ) × Arc) → P a → Q a.0) → (arcs : List ((ℤ × ℤ) × Arc)) (q : ℤ × ℤ) (x : Arc) (xs : List Arc) → AllByRecursion P arcs → bundle q arcs ≡ x ∷ xs → Q q
+  at_some P Q tells [] q x xs all e = cc
+  at_some P Q tells (a ∷ rest) q x xs all e = by_test (same_pair q a.0) refl e (at_some P Q tells rest q x xs all.1)
     where
-      by_test : (t : Bool) → same_pair q a.0 ≡ t → cond t (a.1 ∷ bundle q rest) (bundle q rest) ≡ x ∷ xs → (bundle q rest ≡ x ∷ xs → IsNode n q.0 × IsNode n q.1) → IsNode n q.0 × IsNode n q.1
-      by_test true f g h = subst (λ (p : ℤ × ℤ). IsNode n p.0 × IsNode n p.1) (sym (pair_is q a.0 f)) (v.0.tail, v.0.head)
+      by_test : (t : Bool) → same_pair q a.0 ≡ t → cond t (a.1 ∷ bundle q rest) (bundle q rest) ≡ x ∷ xs → (bundle q rest ≡ x ∷ xs → Q q) → Q q
+      by_test true f g h = subst Q (sym (pair_is q a.0 f)) (tells a all.0)
       by_test false f g h = h g
 
   module _ {B : Type 0} (tells : B → List Arc) where
@@ -158,7 +158,7 @@ module _ {B Arc : Type 0} (kind : ArcKind Arc) (laws : IsKind kind) (told : Form
     where
       by_bundle : (bs : List Arc) → bundle q arcs ≡ bs → kind.Same xs bs → AllByRecursion (λ x. IsPlaced kind n (q, x)) xs
       by_bundle [] f g = subst (AllByRecursion (λ x. IsPlaced kind n (q, x))) (sym (laws.nothing_told form xs c g)) tt
-      by_bundle (b ∷ bs) f g = each_placed n q (nodes_at kind n arcs q b bs v f) xs (laws.canon_arcs form xs c) fit
+      by_bundle (b ∷ bs) f g = each_placed n q (at_some (IsPlaced kind n) (λ p. IsNode n p.0 × IsNode n p.1) (λ a h. (h.tail, h.head)) arcs q b bs v f) xs (laws.canon_arcs form xs c) fit
 
   -- the told arcs make the canonical graph
   pub told_canon : (nodes : ℤ) (table : List ((ℤ × ℤ) × B)) (G : Graph Arc) → G.nodes ≡ nodes → IsStrictlySortedBy pair_cmp (keys_of table)
@@ -197,6 +197,16 @@ max_canon form source sink G H c are = record { valid = (c.valid, are); canonica
 -- that of an `sp` graph has its canonical graph
 pub sp_canon : (form : Form) (G H : Graph LengthArc) → IsCanonGraphOf lengths form H G → IsCanonInstanceOf form (ShortestPaths H) (ShortestPaths G)
 sp_canon form G H c = record { valid = c.valid; canonical = c.canonical; same = c.same }
+
+-- canonical arcs do not depend on the supplies of a `min` problem
+pub min_head : (form : Form) (s t : List (ℤ × ℤ)) (G H : Graph CostArc) → AreSupplies G.nodes t → IsCanonInstanceOf form (MinCostFlow s H) (MinCostFlow s G) → IsCanonInstanceOf form (MinCostFlow t H) (MinCostFlow t G)
+min_head form s t G H are c =
+    min_canon form t G H (record { valid = c.valid.0; canonical = c.canonical; same = c.same.1 }) (subst (λ n. AreSupplies n t) c.same.1.nodes are)
+
+-- nor on the source and the sink of a `max` problem
+pub max_head : (form : Form) (a b s t : ℤ) (G H : Graph CapArc) → AreTerminals G.nodes s t → IsCanonInstanceOf form (MaxFlow a b H) (MaxFlow a b G) → IsCanonInstanceOf form (MaxFlow s t H) (MaxFlow s t G)
+max_head form a b s t G H are c =
+    max_canon form s t G H (record { valid = c.valid.0; canonical = c.canonical; same = c.same.2 }) (subst (λ n. AreTerminals n s t) c.same.2.nodes are)
 
 -- a companion is its own canonical instance
 pub companion_canon : (form : Form) (I : Instance) → IsCompanion I → IsValid I → IsCanonInstanceOf form I I

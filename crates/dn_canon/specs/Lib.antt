@@ -2,6 +2,7 @@ pub mod CanonInstances
 pub mod Prints
 pub mod CanonTexts
 pub mod CanonReadings
+pub mod PartCanons
 pub mod Examples
 pub mod Lines
 pub mod ToldArcs

@@ -1,11 +1,20 @@
 // What the definitions of canonical texts say of one another.
-ghost use Rattle.std.specs.Prelude.{◌≡◌, ◌↔◌, ℕ, ◌-◌, ◌<◌, ◌^◌, List, length};
+ghost use Rattle.std.specs.Prelude.{◌≡◌, ◌↔◌, ℕ, ◌-◌, ◌<◌, ◌^◌, ℤ, List, ◌++◌, length};
+ghost use Rattle.std.specs.List.{AllByRecursion, sum_by};
 ghost use Rattle.dn_line.specs.Pieces.{lines};
-ghost use Rattle.dn_instance.specs.Instances.{Instance};
+ghost use Rattle.dn_bundle.specs.declared.arc.CapArc.{CapArc};
+ghost use Rattle.dn_bundle.specs.declared.arc.CostArc.{CostArc};
+ghost use Rattle.dn_instance.specs.Instances.{Graph, Instance, MinCostFlow, MaxFlow, size_of};
+ghost use Rattle.dn_instance.specs.Parts.{AreParts};
 ghost use Rattle.dn_instance.specs.Sameness.{IsSame};
 ghost use Rattle.dn_instance.specs.Texts.{Reads};
-ghost use Rattle.dn_canon.specs.CanonTexts.{IsCanonOf};
+ghost use Rattle.dn_instance.specs.Validity.{IsValid, AreSupplies, AreTerminals};
+ghost use Rattle.dn_canon.specs.CanonInstances.{IsCanonInstanceOf};
 ghost use Rattle.dn_canon.specs.CanonReadings.{ReadsTwice};
+ghost use Rattle.dn_canon.specs.CanonTexts.{IsCanonOf};
+ghost use Rattle.dn_canon.specs.PartCanons.{HasCanonParts, AreRanges, arc_rows, gathered_rows, head_rows};
+ghost use Rattle.dn_canon.specs.Prints.{rows};
+ghost use Rattle.dn_row.specs.Rows.{text_of};
 
 use dn_bundle::Form;
 
@@ -22,8 +31,52 @@ pub fn twice(form: Form)
         → (J : Instance) × ReadsTwice form t I J }
 {}
 
+/// What the canonical text of an instance reads as is its canonical instance.
+pub fn canonical_reading(form: Form)
+    ensures { (t : List ℕ) (I J : Instance) → IsCanonOf form t I → Reads t J → IsCanonInstanceOf form J I }
+{}
+
 /// Written in one form, read back and written in the other: the same bytes as written in the other at once.
 pub fn crossed(from: Form, to: Form)
     ensures { (t u v : List ℕ) (I J : Instance) → IsCanonOf from t I → Reads t J
         → IsCanonOf to u I → IsCanonOf to v J → u ≡ v }
+{}
+
+/// In chunks: a graph problem that is made of parts, and one that is made of the canonical instances of these parts,
+/// are the same problem, and where the parts are valid, the one is valid exactly if the other is. So a text may be cut
+/// between its arc lines, and each piece be canonicalised behind the head of the whole: what these pieces come to, the
+/// arc lines of one after those of the other, has the canonical text of the whole, byte for byte. The pieces may be in
+/// another form than the whole.
+pub fn in_chunks(from: Form, to: Form)
+    ensures whole { (I : Instance) (c : HasCanonParts from I) → (W : Instance) × AreParts c.canons W }
+    ensures same { (I W : Instance) (c : HasCanonParts from I) → AreParts c.canons W → IsSame I W }
+    ensures valid { (I W : Instance) (c : HasCanonParts from I) → AreParts c.canons W → AllByRecursion IsValid c.parts
+        → IsValid I ↔ IsValid W }
+    ensures bytes { (t u : List ℕ) (I W : Instance) (c : HasCanonParts from I) → AreParts c.canons W
+        → IsCanonOf to t I → IsCanonOf to u W → t ≡ u }
+{}
+
+/// In ranges: where each SRC in a part is below each SRC in a later one, the canonical instance of a graph problem is
+/// what is made of the canonical instances of its parts. So the one canonical text is the head of the whole, with the
+/// sum of the counts of the canonical texts of the parts, and their arc lines, one part after another.
+pub fn in_ranges(form: Form)
+    ensures canon { (I J : Instance) (c : HasCanonParts form I) → AreRanges c.parts
+        → AreParts c.canons J ↔ IsCanonInstanceOf form J I }
+    ensures text { (t : List ℕ) (I : Instance) (c : HasCanonParts form I) → AreRanges c.parts
+        → IsCanonOf form t I ↔ (t ≡ text_of (gathered_rows I c.canons)) }
+    ensures parts { (I : Instance) (c : HasCanonParts form I)
+        → AllByRecursion (λ C. rows C ≡ head_rows (size_of C) C ++ arc_rows C) c.canons }
+    ensures count { (I J : Instance) (c : HasCanonParts form I) → AreParts c.canons J
+        → size_of J ≡ sum_by size_of c.canons }
+{}
+
+/// The canonical arcs of a graph problem do not depend on its supplies or terminals, so a part of it may be
+/// canonicalised behind others.
+pub fn any_head(form: Form)
+    ensures supplies { (s t : List (ℤ × ℤ)) (G H : Graph CostArc) → AreSupplies G.nodes t
+        → IsCanonInstanceOf form (MinCostFlow s H) (MinCostFlow s G)
+        → IsCanonInstanceOf form (MinCostFlow t H) (MinCostFlow t G) }
+    ensures terminals { (a b s t : ℤ) (G H : Graph CapArc) → AreTerminals G.nodes s t
+        → IsCanonInstanceOf form (MaxFlow a b H) (MaxFlow a b G)
+        → IsCanonInstanceOf form (MaxFlow s t H) (MaxFlow s t G) }
 {}

@@ -26,6 +26,7 @@ use Rattle.dn_instance.specs.Helds.{Contents, Holding, OfMin, OfMax, OfSp, OfSs,
 use Rattle.dn_instance.specs.Instances.{Graph, Instance, MinCostFlow, MaxFlow, ShortestPaths, Sources, Queries, Coordinates, kind_of, nodes_of}
 use Rattle.dn_table.specs.Pairs.{bundle}
 use Rattle.dn_instance.specs.Sameness.{IsSame}
+use Rattle.dn_instance.proofs.HeldLaws.{held_kind}
 use Rattle.dn_table.specs.Tables.{TableTells}
 use Rattle.dn_instance.specs.Validity.{IsSupply, IsValid}
 use Rattle.dn_compare.specs.Observed.{value_of, flow_or_zero, flow_of, source_of, sink_of, item_at}
@@ -193,27 +194,18 @@ points_on xs ys h _ J p q n x y = absurd x
 pub shown_on : (a b c d : Contents) (v : Verdict) → a ≡ c → b ≡ d → IsVerdictOn a b v → IsVerdictOn c d v
 shown_on a b c d v e f h = subst (λ x. IsVerdictOn x d v) e (subst (λ y. IsVerdictOn a y v) f h)
 
-shown_kind : (c : Contents) (I : Instance) → Shows c I → contents_kind c ≡ kind_of I
-shown_kind (OfMin flows table) (MinCostFlow s G) h = refl
-shown_kind (OfMax source sink table) (MaxFlow s t G) h = refl
-shown_kind (OfSp table) (ShortestPaths G) h = refl
-shown_kind (OfSs ids) (Sources xs) h = refl
-shown_kind (OfP2p pairs) (Queries xs) h = refl
-shown_kind (OfCo points) (Coordinates xs) h = refl
-shown_kind _ _ h = absurd h
-
 module _ (a b : Holding) (I J : Instance) (p : IsHeld a I) (q : IsHeld b J) where
   pub kinds_on : (l r : Kind) → l ≡ contents_kind a.contents → r ≡ contents_kind b.contents → l ≢ r → IsFirstDifference I J (Verdicts.Kind l r)
   kinds_on l r e f n =
-      let left : kind_of I ≡ l = sym (e ∙ shown_kind a.contents I p.shows) in
-      let right : kind_of J ≡ r = sym (f ∙ shown_kind b.contents J q.shows) in
+      let left : kind_of I ≡ l = sym (e ∙ held_kind a I p) in
+      let right : kind_of J ≡ r = sym (f ∙ held_kind b J q) in
       subst (λ k. IsFirstDifference I J (Verdicts.Kind k r)) left (subst (λ k. IsFirstDifference I J (Verdicts.Kind (kind_of I) k)) right (kind_first I J (λ s. n (sym left ∙ s ∙ right))))
 
   pub nodes_on : contents_kind a.contents ≡ contents_kind b.contents → (l r : ℤ) → l ≡ a.nodes → r ≡ b.nodes → l ≢ r → IsFirstDifference I J (Verdicts.Nodes l r)
   nodes_on k l r e f n =
       let left : nodes_of I ≡ l = sym (e ∙ p.nodes_are) in
       let right : nodes_of J ≡ r = sym (f ∙ q.nodes_are) in
-      let kinds : kind_of I ≡ kind_of J = sym (shown_kind a.contents I p.shows) ∙ k ∙ shown_kind b.contents J q.shows in
+      let kinds : kind_of I ≡ kind_of J = sym (held_kind a I p) ∙ k ∙ held_kind b J q in
       subst (λ k. IsFirstDifference I J (Verdicts.Nodes k r)) left (subst (λ k. IsFirstDifference I J (Verdicts.Nodes (nodes_of I) k)) right (nodes_first I J kinds (λ s. n (sym left ∙ s ∙ right))))
 
   pub held_on : (c d : Contents) (v : Verdict) → IsVerdictOn c d v → c ≡ a.contents → d ≡ b.contents → a.nodes ≡ b.nodes → IsValid I → IsValid J → IsFirstDifference I J v

@@ -1,6 +1,7 @@
 pub mod PairLaws
 pub mod FirstFaults
 pub mod SameLaws
+pub mod PartLaws
 pub mod CleanItems
 pub mod MapLaws
 pub mod SumLaws
@@ -11,6 +12,7 @@ pub mod DraftLaws
 pub mod ProgressLaws
 pub mod NextLaws
 pub mod FollowLaws
+pub mod HeldLaws
 pub mod LineSteps
 pub mod CostItems
 pub mod SupplyItems

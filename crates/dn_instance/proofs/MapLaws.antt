@@ -15,6 +15,11 @@ use Rattle.dn_instance.proofs.PairLaws.{sought_is}
 use Rattle.dn_instance.specs.Items.{by_key}
 use Rattle.dn_instance.specs.Validity.{IsMap}
 
+-- what holds of each element where something else does
+pub all_mono : {Y : Type 0} (P Q : Y → Type 0) → ((y : Y) → P y → Q y) → (ys : List Y) → AllByRecursion P ys → AllByRecursion Q ys
+all_mono P Q f [] a = tt
+all_mono P Q f (y ∷ ys) a = (f y a.0, all_mono P Q f ys a.1)
+
 module _ {X : Type 0} (k : ℤ) (v : X) where
   put_step : (e : ℤ × X) (es : List (ℤ × X)) (r : Ordering) → int_cmp k e.0 ≡ r → insert_entry int_cmp (e ∷ es) k v ≡ match_ordering r ((k, v) ∷ e ∷ es) ((e.0, v) ∷ es) (e ∷ insert_entry int_cmp es k v)
   put_step e es r h = ap (λ o. match_ordering o ((k, v) ∷ e ∷ es) ((e.0, v) ∷ es) (e ∷ insert_entry int_cmp es k v)) h
@@ -39,10 +44,6 @@ module _ {X : Type 0} (k : ℤ) (v : X) where
   keys_put : (P : ℤ → Type 0) (es : List (ℤ × X)) → P k → AllByRecursion P (keys_of es) → AllByRecursion P (keys_of (insert_entry int_cmp es k v))
   keys_put P [] new all = (new, tt)
   keys_put P (e ∷ es) new all = keys_by P e es (insert_entry int_cmp es k v) (int_cmp k e.0) new all.0 all.1 (keys_put P es new all.1)
-
-  all_mono : (P Q : ℤ → Type 0) → ((z : ℤ) → P z → Q z) → (zs : List ℤ) → AllByRecursion P zs → AllByRecursion Q zs
-  all_mono P Q f [] a = tt
-  all_mono P Q f (z ∷ zs) a = (f z a.0, all_mono P Q f zs a.1)
 
   map_by : (e : ℤ × X) (es rest : List (ℤ × X)) (r : Ordering) → int_cmp k e.0 ≡ r → IsMap (e ∷ es) → IsMap rest → (AllByRecursion (λ y. int_cmp e.0 y ≡ Less) (keys_of es) → int_cmp e.0 k ≡ Less → AllByRecursion (λ y. int_cmp e.0 y ≡ Less) (keys_of rest))
       → IsMap (match_ordering r ((k, v) ∷ e ∷ es) ((e.0, v) ∷ es) (e ∷ rest))

@@ -48,7 +48,7 @@ module _ {Arc : Type 0} (kind : ArcKind Arc) (meaning : IsMeaning kind.Same) whe
   swap_at false true a b xs = meaning.same_refl (b ∷ xs)
   swap_at false false a b xs = meaning.same_refl xs
 
-  placed_meaning : IsMeaning SameAt
+  pub placed_meaning : IsMeaning SameAt
   placed_meaning = record {
     same_refl = λ xs. record { at = λ p. meaning.same_refl (bundle p xs) };
     same_sym = λ xs ys s. record { at = λ p. meaning.same_sym (bundle p xs) (bundle p ys) (s.at p) };

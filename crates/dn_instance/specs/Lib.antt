@@ -1,6 +1,7 @@
 pub mod Instances
 pub mod Validity
 pub mod Sameness
+pub mod Parts
 pub mod EntryCount
 pub mod Items
 pub mod TextFaults

@@ -9,6 +9,7 @@ ghost use Rattle.dn_bundle.specs.Kinds.{lengths, capacities, costs};
 ghost use Rattle.dn_instance.specs.declared.refusal.Place.{Place};
 ghost use Rattle.dn_instance.specs.Helds.{Holding, IsHeld};
 ghost use Rattle.dn_instance.specs.Instances.{Graph, Instance};
+ghost use Rattle.dn_instance.specs.Parts.{AreParts, AreSame};
 ghost use Rattle.dn_instance.specs.Sameness.{IsSame, SameGraph};
 ghost use Rattle.dn_instance.specs.Texts.{Reads, IsFirstFault};
 ghost use Rattle.dn_instance.specs.Validity.{IsValid};
@@ -50,6 +51,13 @@ pub fn any_order()
         → SameGraph capacities (record { nodes = nodes; arcs = xs }) (record { nodes = nodes; arcs = ys }) }
     ensures costs { (nodes : ℤ) (xs ys : List ((ℤ × ℤ) × CostArc)) → IsPermutation xs ys
         → SameGraph costs (record { nodes = nodes; arcs = xs }) (record { nodes = nodes; arcs = ys }) }
+{}
+
+/// Graph problems that are made of parts are the same problem where their parts are, each the same as the one at its
+/// place.
+pub fn in_parts()
+    ensures { (I J : Instance) (parts others : List Instance) → AreParts parts I → AreParts others J
+        → AreSame parts others → IsSame I J }
 {}
 
 /// What is held stands for one problem: all instances that it stands for are the same.

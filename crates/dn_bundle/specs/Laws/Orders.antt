@@ -1,8 +1,8 @@
--- Proofs that no meaning depends on the order of arcs, and that arcs that mean the same still do so when the same arc
--- comes after them.
+-- Proofs that no meaning depends on the order of arcs, that arcs that mean the same still do so when the same arc comes
+-- after them, and that parts that mean the same do so put together.
 use Rattle.std.specs.Prelude.{ℕ, suc, zero, ◌<◌, List, [], ◌∷◌, ◌++◌, length}
 use Rattle.std.proofs.Common.{subst, arith, get_or, set}
-use Rattle.std.proofs.lemmas.List.Sorted.{IsPermutation-keeps}
+use Rattle.std.proofs.lemmas.List.Sorted.{IsPermutation-keeps, IsPermutation-append_comm}
 use Rattle.std.proofs.lemmas.List.Edits.{swap_is}
 use Rattle.std.specs.List.{swap}
 use Rattle.std.specs.List.Sorted.{IsPermutation}
@@ -37,3 +37,14 @@ at_end Same m (x ∷ xs) a = m.same_trans _ _ _ (m.same_more x _ _ (at_end Same 
 -- one arc more at the end
 pub same_push : {Arc : Type 0} (Same : List Arc → List Arc → Type 0) → IsMeaning Same → (xs ys : List Arc) (a : Arc) → Same xs ys → Same (xs ++ a ∷ []) (ys ++ a ∷ [])
 same_push Same m xs ys a s = m.same_trans _ _ _ (at_end Same m xs a) (m.same_trans _ _ _ (m.same_more a xs ys s) (m.same_sym _ _ (at_end Same m ys a)))
+
+-- the same arcs before them
+same_before : {Arc : Type 0} (Same : List Arc → List Arc → Type 0) → IsMeaning Same → (zs xs ys : List Arc) → Same xs ys → Same (zs ++ xs) (zs ++ ys)
+same_before Same m [] xs ys s = s
+same_before Same m (z ∷ zs) xs ys s = m.same_more z _ _ (same_before Same m zs xs ys s)
+
+-- parts that mean the same, put together
+pub same_joined : {Arc : Type 0} (Same : List Arc → List Arc → Type 0) → IsMeaning Same → (xs xs' ys ys' : List Arc) → Same xs xs' → Same ys ys' → Same (xs ++ ys) (xs' ++ ys')
+same_joined Same m xs xs' ys ys' s t =
+    let turned : (us vs : List _) → Same (us ++ vs) (vs ++ us) = λ us vs. any_order Same m (us ++ vs) (vs ++ us) (IsPermutation-append_comm us vs) in
+    m.same_trans _ _ _ (same_before Same m xs ys ys' t) (m.same_trans _ _ _ (turned xs ys') (m.same_trans _ _ _ (same_before Same m ys' xs xs' s) (turned ys' xs')))

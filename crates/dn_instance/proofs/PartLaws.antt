@@ -1,0 +1,213 @@
+-- Problems that are made of parts are the same where their parts are.
+use Rattle.std.proofs.Common.{◌≡◌, ℤ, List, [], ◌∷◌, ◌++◌, length, map, Some, refl, sym, ap, ◌∙◌, subst}
+use Rattle.std.proofs.lemmas.List.{map-append}
+use Rattle.std.specs.List.{AllByRecursion, flat_map}
+use Rattle.dn_bundle.specs.Bundles.{IsKind}
+use Rattle.dn_bundle.specs.Kinds.{ArcKind, lengths, capacities, costs}
+use Rattle.dn_bundle.specs.Laws.CostKind.{cost_kind}
+use Rattle.dn_bundle.specs.Laws.LengthKind.{length_kind}
+use Rattle.dn_bundle.specs.Laws.Orders.{same_joined}
+use Rattle.dn_bundle.specs.Laws.TotalKind.{total_kind}
+use Rattle.dn_instance.specs.Instances.{Graph, Instance, MinCostFlow, MaxFlow, ShortestPaths, size_of}
+use Rattle.dn_instance.specs.Parts.{arc_lines, graph_lines, SameHead, AreParts, AreSame}
+use Rattle.dn_instance.specs.Sameness.{SameGraph, IsSame}
+use Rattle.dn_instance.specs.Validity.{AreSupplies, AreTerminals, IsValid, IsValidGraph}
+use Rattle.dn_instance.proofs.SameLaws.{SameAt, placed_meaning}
+
+-- the same problem has the same head
+pub head_then : (I P Q : Instance) → SameHead I P → IsSame P Q → SameHead I Q
+head_then (MinCostFlow s G) (MinCostFlow t H) (MinCostFlow u K) h e = (h.0 ∙ e.0, h.1 ∙ e.1.nodes)
+head_then (MaxFlow a b G) (MaxFlow c d H) (MaxFlow f g K) h e = (h.0 ∙ e.0, h.1 ∙ e.1, h.2 ∙ e.2.nodes)
+head_then (ShortestPaths G) (ShortestPaths H) (ShortestPaths K) h e = h ∙ e.nodes
+head_then (MinCostFlow s G) (MinCostFlow t H) _ h e = absurd e
+head_then (MaxFlow a b G) (MaxFlow c d H) _ h e = absurd e
+head_then (ShortestPaths G) (ShortestPaths H) _ h e = absurd e
+head_then _ _ _ h e = absurd h
+
+head_back : (I J Q : Instance) → SameHead I Q → SameHead J Q → SameHead I J
+head_back (MinCostFlow s G) (MinCostFlow t H) (MinCostFlow u K) h e = (h.0 ∙ sym e.0, h.1 ∙ sym e.1)
+head_back (MaxFlow a b G) (MaxFlow c d H) (MaxFlow f g K) h e = (h.0 ∙ sym e.0, h.1 ∙ sym e.1, h.2 ∙ sym e.2)
+head_back (ShortestPaths G) (ShortestPaths H) (ShortestPaths K) h e = h ∙ sym e
+head_back (MinCostFlow s G) _ (MinCostFlow u K) h e = absurd e
+head_back (MaxFlow a b G) _ (MaxFlow f g K) h e = absurd e
+head_back (ShortestPaths G) _ (ShortestPaths K) h e = absurd e
+head_back _ _ _ h e = absurd h
+
+-- what has the head of a graph problem is one
+pub head_turned : (I P : Instance) → SameHead I P → SameHead P P
+head_turned (MinCostFlow s G) (MinCostFlow t H) h = (refl, refl)
+head_turned (MaxFlow a b G) (MaxFlow c d H) h = (refl, refl, refl)
+head_turned (ShortestPaths G) (ShortestPaths H) h = refl
+head_turned _ _ h = absurd h
+
+-- a problem that is made of parts is a graph problem
+pub own_head : (I : Instance) (parts : List Instance) → AreParts parts I → SameHead I I
+own_head I [] p = absurd (p.some refl)
+own_head I (P ∷ parts) p = head_back I I P p.heads.0 p.heads.0
+
+-- problems made of parts that are the same have the same head
+pub heads_agree : (I J : Instance) (parts others : List Instance) → AreParts parts I → AreParts others J → AreSame parts others → SameHead I J
+heads_agree I J [] others p q s = absurd (p.some refl)
+heads_agree I J (P ∷ parts) [] p q s = absurd s
+heads_agree I J (P ∷ parts) (Q ∷ others) p q s = head_back I J Q (head_then I P Q p.heads.0 s.0) q.heads.0
+
+-- a problem of this kind and head, with a graph of so many nodes
+pub record IsMade {Arc : Type 0} (make : Graph Arc → Instance) (nodes : ℤ) (P : Instance) : Type 0 where
+  pub graph : Graph Arc
+  pub is : P ≡ make graph
+  pub nodes_are : nodes ≡ graph.nodes
+
+-- how the problems of a kind and head are made of their graphs
+pub record IsMaking {Arc : Type 0} (kind : ArcKind Arc) (make : Graph Arc → Instance) : Type 0 where
+  pub kind_laws : IsKind kind
+  pub opens : (G : Graph Arc) (P : Instance) → SameHead (make G) P → IsMade make G.nodes P
+  pub head_is : (G H : Graph Arc) → G.nodes ≡ H.nodes → SameHead (make G) (make H)
+  pub lines_are : (G : Graph Arc) → arc_lines (make G) ≡ graph_lines kind G
+  pub size_is : (G : Graph Arc) → size_of (make G) ≡ length G.arcs
+  pub same_graph : (G H : Graph Arc) → IsSame (make G) (make H) → SameGraph kind G H
+  pub make_same : (G H : Graph Arc) → SameGraph kind G H → IsSame (make G) (make H)
+  pub valid_graph : (G : Graph Arc) → IsValid (make G) → IsValidGraph kind G
+  pub make_valid : (G H : Graph Arc) → G.nodes ≡ H.nodes → IsValid (make G) → IsValidGraph kind H → IsValid (make H)
+
+-- a `min` problem
+open_min : (s : List (ℤ × ℤ)) (G : Graph _) (P : Instance) → SameHead (MinCostFlow s G) P → IsMade (MinCostFlow s) G.nodes P
+open_min s G (MinCostFlow t H) h = record { graph = H; is = ap (λ u. MinCostFlow u H) (sym h.0); nodes_are = h.1 }
+open_min s G _ h = absurd h
+
+pub min_making : (s : List (ℤ × ℤ)) → IsMaking costs (MinCostFlow s)
+min_making s = record {
+  kind_laws = cost_kind;
+  opens = open_min s;
+  head_is = λ G H n. (refl, n);
+  lines_are = λ G. refl;
+  size_is = λ G. refl;
+  same_graph = λ G H e. e.1;
+  make_same = λ G H e. (refl, e);
+  valid_graph = λ G v. v.0;
+  make_valid = λ G H n v w. (w, subst (λ m. AreSupplies m s) n v.1);
+}
+
+-- a `max` problem
+open_max : (a b : ℤ) (G : Graph _) (P : Instance) → SameHead (MaxFlow a b G) P → IsMade (MaxFlow a b) G.nodes P
+open_max a b G (MaxFlow c d H) h = record { graph = H; is = ap (λ u. MaxFlow u d H) (sym h.0) ∙ ap (λ u. MaxFlow a u H) (sym h.1); nodes_are = h.2 }
+open_max a b G _ h = absurd h
+
+pub max_making : (a b : ℤ) → IsMaking capacities (MaxFlow a b)
+max_making a b = record {
+  kind_laws = total_kind;
+  opens = open_max a b;
+  head_is = λ G H n. (refl, refl, n);
+  lines_are = λ G. refl;
+  size_is = λ G. refl;
+  same_graph = λ G H e. e.2;
+  make_same = λ G H e. (refl, refl, e);
+  valid_graph = λ G v. v.0;
+  make_valid = λ G H n v w. (w, subst (λ m. AreTerminals m a b) n v.1);
+}
+
+-- an `sp` graph
+open_sp : (G : Graph _) (P : Instance) → SameHead (ShortestPaths G) P → IsMade ShortestPaths G.nodes P
+open_sp G (ShortestPaths H) h = record { graph = H; is = refl; nodes_are = h }
+open_sp G _ h = absurd h
+
+pub sp_making : IsMaking lengths ShortestPaths
+sp_making = record {
+  kind_laws = length_kind;
+  opens = open_sp;
+  head_is = λ G H n. n;
+  lines_are = λ G. refl;
+  size_is = λ G. refl;
+  same_graph = λ G H e. e;
+  make_same = λ G H e. e;
+  valid_graph = λ G v. v;
+  make_valid = λ G H n v w. w;
+}
+
+-- the arcs of graphs, one after another
+abbrev pub all_arcs : {Arc : Type 0} → List (Graph Arc) → List ((ℤ × ℤ) × Arc)
+all_arcs graphs = flat_map (λ G. G.arcs) graphs
+
+-- an arc and its pair
+placed_is : {Arc : Type 0} (p q : ℤ × ℤ) (x y : Arc) → p ≡ q → x ≡ y → (let a : (ℤ × ℤ) × Arc = (p, x) in a) ≡ (q, y)
+placed_is p q x y e f = cc
+
+some_one : {A : Type 0} (x y : A) → Some x ≡ Some y → x ≡ y
+some_one x y e = cc
+
+module _ {Arc : Type 0} (kind : ArcKind Arc) (make : Graph Arc → Instance) (making : IsMaking kind make) where
+  abbrev line : (ℤ × ℤ) × Arc → (ℤ × ℤ) × List ℤ
+  line a = (a.0, kind.numbers a.1)
+
+  -- arcs whose lines are the same are the same
+  lines_one : (xs ys : List ((ℤ × ℤ) × Arc)) → map line xs ≡ map line ys → xs ≡ ys
+  lines_one [] [] e = refl
+  lines_one [] (b ∷ ys) e = cc
+  lines_one (a ∷ xs) [] e = cc
+  lines_one (a ∷ xs) (b ∷ ys) e =
+      let first : line a ≡ line b = cc in
+      let pair : a.0 ≡ b.0 = ap (λ (l : (ℤ × ℤ) × List ℤ). l.0) first in
+      let numbers : kind.numbers a.1 ≡ kind.numbers b.1 = ap (λ (l : (ℤ × ℤ) × List ℤ). l.1) first in
+      let arc : a.1 ≡ b.1 = some_one a.1 b.1 (sym (making.kind_laws.arc_of_numbers a.1) ∙ ap kind.arc_of numbers ∙ making.kind_laws.arc_of_numbers b.1) in
+      let here : a ≡ b = placed_is a.0 b.0 a.1 b.1 pair arc in
+      let rest : xs ≡ ys = lines_one xs ys cc in
+      cc
+
+  -- parts, by their graphs
+  pub record AreMade (nodes : ℤ) (parts : List Instance) : Type 0 where
+    pub graphs : List (Graph Arc)
+    pub are : parts ≡ map make graphs
+    pub nodes_are : AllByRecursion (λ (H : Graph Arc). nodes ≡ H.nodes) graphs
+
+  pub graphs_of : (G : Graph Arc) (parts : List Instance) → AllByRecursion (SameHead (make G)) parts → AreMade G.nodes parts
+  graphs_of G [] h = record { graphs = []; are = refl; nodes_are = tt }
+  graphs_of G (P ∷ parts) h =
+      let first = making.opens G P h.0 in
+      let rest = graphs_of G parts h.1 in
+      record {
+        graphs = first.graph ∷ rest.graphs;
+        are = ap (λ Q. Q ∷ parts) first.is ∙ ap (λ l. make first.graph ∷ l) rest.are;
+        nodes_are = (first.nodes_are, rest.nodes_are);
+      }
+
+  pub all_lines : (Hs : List (Graph Arc)) → flat_map arc_lines (map make Hs) ≡ map line (all_arcs Hs)
+  all_lines [] = refl
+  all_lines (H ∷ Hs) = ap (λ l. l ++ flat_map arc_lines (map make Hs)) (making.lines_are H) ∙ ap (λ l. map line H.arcs ++ l) (all_lines Hs) ∙ sym (map-append line H.arcs (all_arcs Hs))
+
+  -- the arcs of a graph that is made of parts are theirs
+  pub arcs_are : (G : Graph Arc) (Hs : List (Graph Arc)) → AreParts (map make Hs) (make G) → G.arcs ≡ all_arcs Hs
+  arcs_are G Hs p = lines_one G.arcs (all_arcs Hs) (sym (making.lines_are G) ∙ p.arcs ∙ all_lines Hs)
+
+  -- graphs that are the same, put together
+  same_all : (Hs Ks : List (Graph Arc)) → AreSame (map make Hs) (map make Ks) → SameAt kind making.kind_laws.meaning (all_arcs Hs) (all_arcs Ks)
+  same_all [] [] s = record { at = λ p. making.kind_laws.meaning.same_refl [] }
+  same_all [] (K ∷ Ks) s = absurd s
+  same_all (H ∷ Hs) [] s = absurd s
+  same_all (H ∷ Hs) (K ∷ Ks) s =
+      let meaning = making.kind_laws.meaning in
+      same_joined (SameAt kind meaning) (placed_meaning kind meaning) H.arcs K.arcs (all_arcs Hs) (all_arcs Ks) (record { at = (making.same_graph H K s.0).bundles }) (same_all Hs Ks s.1)
+
+  graphs_same : (G K : Graph Arc) (Hs Ks : List (Graph Arc)) → G.nodes ≡ K.nodes → AreParts (map make Hs) (make G) → AreParts (map make Ks) (make K) → AreSame (map make Hs) (map make Ks) → IsSame (make G) (make K)
+  graphs_same G K Hs Ks n p q s =
+      let all = subst (SameAt kind making.kind_laws.meaning G.arcs) (sym (arcs_are K Ks q)) (subst (λ l. SameAt kind making.kind_laws.meaning l (all_arcs Ks)) (sym (arcs_are G Hs p)) (same_all Hs Ks s)) in
+      making.make_same G K (record { nodes = n; bundles = all.at })
+
+  made_same : (G : Graph Arc) (J : Instance) (parts others : List Instance) → SameHead (make G) J → AreParts parts (make G) → AreParts others J → AreSame parts others → IsSame (make G) J
+  made_same G J parts others h p q s =
+      let o = making.opens G J h in
+      let K = o.graph in
+      let q' : AreParts others (make K) = subst (AreParts others) o.is q in
+      let hs = graphs_of G parts p.heads in
+      let ks = graphs_of K others q'.heads in
+      subst (IsSame (make G)) (sym o.is)
+      (graphs_same G K hs.graphs ks.graphs o.nodes_are (subst (λ l. AreParts l (make G)) hs.are p) (subst (λ l. AreParts l (make K)) ks.are q')
+      (subst (AreSame (map make hs.graphs)) ks.are (subst (λ l. AreSame l others) hs.are s)))
+
+-- what is made of parts that are the same is the same problem
+pub parts_same : (I J : Instance) (parts others : List Instance) → AreParts parts I → AreParts others J → AreSame parts others → IsSame I J
+parts_same I J parts others p q s = by_kind I J parts others (heads_agree I J parts others p q s) p q s
+  where
+    by_kind : (I J : Instance) (parts others : List Instance) → SameHead I J → AreParts parts I → AreParts others J → AreSame parts others → IsSame I J
+    by_kind (MinCostFlow s G) J parts others h = made_same costs (MinCostFlow s) (min_making s) G J parts others h
+    by_kind (MaxFlow a b G) J parts others h = made_same capacities (MaxFlow a b) (max_making a b) G J parts others h
+    by_kind (ShortestPaths G) J parts others h = made_same lengths ShortestPaths sp_making G J parts others h
+    by_kind _ _ parts others h = absurd h
