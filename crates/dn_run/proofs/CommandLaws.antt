@@ -5,12 +5,14 @@ use Rattle.dn_bundle.specs.declared.arc.Form.{Form}
 use Rattle.dn_instance.specs.Companions.{judged}
 use Rattle.dn_instance.specs.Helds.{IsHeld, contents_kind, holding}
 use Rattle.dn_instance.specs.Instances.{Instance, kind_of}
+use Rattle.dn_instance.specs.SourceReads.{IsOfReading}
 use Rattle.dn_instance.specs.Texts.{Reads}
 use Rattle.dn_instance.specs.Validity.{IsValid}
 use Rattle.dn_instance.specs.declared.companion.CompanionFault.{CompanionFault}
 use Rattle.dn_instance.specs.declared.held.Held.{Held}
 use Rattle.dn_instance.specs.declared.refusal.Refusal.{Refusal}
 use Rattle.dn_instance.specs.declared.refusal.Refusal.TheVariants.{Text, Memory, Read, Endless, Write, CountTooLarge}
+use Rattle.dn_instance.proofs.HeldLaws.{held_kind}
 use Rattle.dn_instance.proofs.ValidLaws.{reads_valid, some_is}
 use Rattle.dn_canon.specs.Prints.{print}
 use Rattle.dn_canon.specs.Writes.{SinkAfter, WritesCanon}
@@ -19,17 +21,17 @@ use Rattle.dn_report.specs.Shows.{IsShown}
 use Rattle.dn_row.specs.Rows.{text_of}
 use Rattle.dn_sink.specs.Puts.{HasPut, PutsFront}
 use Rattle.dn_command.specs.Commands.{Canon, Compare}
-use Rattle.dn_run.specs.Answers.{Answer, Done, Refused, Unfit, Cut, IsDoneAs, Unput, unwritten}
+use Rattle.dn_run.specs.Answers.{Answer, Done, Refused, Unfit, Cut, IsAnswerTo, OutAfter, unwritten}
 use Rattle.dn_run.specs.FilesRuns.{FilesRun, text_asked}
 use Rattle.dn_run.specs.Findings.{IsFound, IsUnjudged, PutsFinding, PutsForms, PutsJudged}
 use Rattle.dn_run.specs.Outcomes.{IsRefusedAs, OnText, OnTwoTexts, RanOn}
 use Rattle.dn_run.specs.Runs.{AreForms, Never, PutsCanon, PutsChecked, PutsCompared, PutsFit, PutsShown, Unfits}
 use Rattle.dn_run.specs.Streams.{SinkRun, sink_run}
 use Rattle.dn_run.specs.Takings.{KeepsOthers}
-use Rattle.dn_run.specs.Texts.{AskedText, IsCopy, IsRead, IsRefusedCanon, IsRefusedCopy, IsRefusedText}
+use Rattle.dn_run.specs.Texts.{AskedText, IsCopy, IsRead, IsRefusedCanon, IsRefusedCopy, IsRefusedText, unopened}
 use Rattle.dn_run.specs.declared.files.FilesFault.{FilesFault}
-use Rattle.dn_run.proofs.FitLaws.{held_kind, judged_is}
-use Rattle.dn_run.proofs.OutcomeLaws.{added, cut_unread, done_unread, on_held, on_left, on_refused, unfit_unread}
+use Rattle.dn_run.proofs.FitLaws.{judged_is}
+use Rattle.dn_run.proofs.OutcomeLaws.{added, by_behind, cut_unread, done_unread, not_refused, on_held, on_left, on_refused, unfit_unread}
 
 module _ {T S : Type 0} (text : AskedText T) (out : SinkRun S) (held : Held) where
   -- ---- `show`
@@ -73,24 +75,24 @@ module _ {T S : Type 0} (text : AskedText T) (out : SinkRun S) (held : Held) whe
         by_refusal b Read I reads w = absurd w.2
         by_refusal b Endless I reads w = absurd w.2
 
--- a canonical text that is too large is not put
-pub canon_unput : {S : Type 0} (taken : S → Option (List ℕ)) (has_failed : S → Bool) (old new : S) (name : List ℕ) (e : Refusal) → SinkAfter has_failed old new (Err e)
-    → Unput (sink_run taken has_failed old new) (unwritten name e)
-canon_unput taken has_failed old new name CountTooLarge h = h
-canon_unput taken has_failed old new name Write h = tt
-canon_unput taken has_failed old new name (Text place code) h = absurd h
-canon_unput taken has_failed old new name Memory h = absurd h
-canon_unput taken has_failed old new name Read h = absurd h
-canon_unput taken has_failed old new name Endless h = absurd h
+-- a canonical text that is too large is not put; where it is not written, `out` has failed
+pub canon_after : {S : Type 0} (taken : S → Option (List ℕ)) (has_failed : S → Bool) (old new : S) (name : List ℕ) (e : Refusal) → SinkAfter has_failed old new (Err e)
+    → OutAfter (sink_run taken has_failed old new) (unwritten name e)
+canon_after taken has_failed old new name CountTooLarge h = h
+canon_after taken has_failed old new name Write h = h
+canon_after taken has_failed old new name (Text place code) h = absurd h
+canon_after taken has_failed old new name Memory h = absurd h
+canon_after taken has_failed old new name Read h = absurd h
+canon_after taken has_failed old new name Endless h = absurd h
 
--- what is not written is not done
-pub unwritten_undone : (form : Form) (name of : List ℕ) (e : Refusal) → IsDoneAs (Canon name form) (unwritten of e)
-unwritten_undone form name of CountTooLarge = tt
-unwritten_undone form name of Write = tt
-unwritten_undone form name of (Text place code) = tt
-unwritten_undone form name of Memory = tt
-unwritten_undone form name of Read = tt
-unwritten_undone form name of Endless = tt
+-- why a text is not written may be why `canon` refuses it
+pub unwritten_answers : {S : Type 0} (has_failed : S → Bool) (old new : S) (form : Form) (name : List ℕ) (e : Refusal) → SinkAfter has_failed old new (Err e) → IsAnswerTo (Canon name form) (unwritten name e)
+unwritten_answers has_failed old new form name CountTooLarge h = (refl, inr refl)
+unwritten_answers has_failed old new form name Write h = tt
+unwritten_answers has_failed old new form name (Text place code) h = absurd h
+unwritten_answers has_failed old new form name Memory h = absurd h
+unwritten_answers has_failed old new form name Read h = absurd h
+unwritten_answers has_failed old new form name Endless h = absurd h
 
 -- a text that is refused as it is read
 pub canon_refused : {T : Type 0} (text : AskedText T) (form : Form) (b : List ℕ) (e : Refusal) → IsRefusedText text b e → IsRefusedCanon form text b e
@@ -110,6 +112,15 @@ unjudged text b Read h = absurd h
 unjudged text b Endless h = absurd h
 unjudged text b Write h = absurd h
 unjudged text b CountTooLarge h = absurd h
+
+-- why a text is not judged may be why it is refused as it is read
+pub unjudged_reading : (b : List ℕ) (e : Refusal) → IsUnjudged b e → IsOfReading e
+unjudged_reading b (Text place code) h = tt
+unjudged_reading b Memory h = tt
+unjudged_reading b Read h = tt
+unjudged_reading b Endless h = tt
+unjudged_reading b Write h = h
+unjudged_reading b CountTooLarge h = h
 
 -- of what a text reads as
 judged_on : (kind : Kind) (companion : Option Kind) (b : List ℕ) (status : ℕ) (t : List ℕ) (I : Instance) → Reads b I → kind ≡ kind_of I → PutsJudged kind companion b status t → PutsChecked companion b I status t
@@ -134,6 +145,15 @@ module _ {T S : Type 0} (text : AskedText T) (out : SinkRun S) (held : Held) (ke
       by_answer b I reads k Cut (status, t, p, f) = (I, reads, status, t, judged_on kind None b status t I reads k p, f)
 
 -- ---- two texts
+
+-- where a text is held, it was handed out, and reads as an instance where its bytes are known
+pub held_read : {T : Type 0} (text : AskedText T) (Refuses : List ℕ → Refusal → Type 0) (held : Held) → IsRead Refuses text (Ok held) → (text.fault ≡ None) × IfSome text.behind (λ b. (I : Instance) × Reads b I)
+held_read text Refuses held h =
+    let handed = no_fault held text.fault h.not_handed in (handed, by_behind text.behind (λ b known (I, reads, is). (I, reads)) (h.handed handed))
+  where
+    no_fault : (held : Held) (fault : Option FilesFault) → IfSome fault (λ f. Ok held ≡ Err (unopened f)) → fault ≡ None
+    no_fault held None h = refl
+    no_fault held (Some f) h = absurd (not_refused held (unopened f) h)
 
 -- what is behind a second name before the first is taken
 pub before_first : {F T : Type 0} (files : FilesRun F T) (mid : F) (left right : List ℕ) → KeepsOthers (files.behind files.old) (files.behind mid) left → (left ≡ codes "-" → right ≢ codes "-")
@@ -209,8 +229,8 @@ module _ {T S : Type 0} (left right : AskedText T) (out : SinkRun S) (one : Held
       by_answer x I J reads Cut (status, t, p, f) = (J, reads, status, t, p, f)
 
 -- what is found is done with 0 or 1, or cut off
-pub found_done : (l r : List ℕ) (answer : Answer) → IsFound answer → IsDoneAs (Compare l r) answer
-found_done l r (Done status) h = h
-found_done l r (Refused of e) h = tt
-found_done l r (Unfit of fault) h = tt
-found_done l r Cut h = tt
+pub found_answers : (l r : List ℕ) (answer : Answer) → IsFound answer → IsAnswerTo (Compare l r) answer
+found_answers l r (Done status) h = h
+found_answers l r (Refused of e) h = absurd h
+found_answers l r (Unfit of fault) h = absurd h
+found_answers l r Cut h = tt

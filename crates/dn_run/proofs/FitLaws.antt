@@ -3,8 +3,8 @@ use Rattle.std.proofs.Common.{◌≡◌, ℤ, refl, ap, ◌∙◌, true}
 use Rattle.std.specs.List.{flat_map}
 use Rattle.std.specs.Map.{keys_of}
 use Rattle.dn_instance.specs.Companions.{both_nodes, is_graph, judged, judged_by, named_nodes, within}
-use Rattle.dn_instance.specs.Helds.{Contents, Holding, IsHeld, OfMin, OfMax, OfSp, OfSs, OfP2p, OfCo, Shows, contents_kind}
-use Rattle.dn_instance.specs.Instances.{Instance, MinCostFlow, MaxFlow, ShortestPaths, Sources, Queries, Coordinates, kind_of, nodes_of}
+use Rattle.dn_instance.specs.Helds.{Contents, Holding, IsHeld, OfMin, OfMax, OfSp, OfSs, OfP2p, OfCo, Shows}
+use Rattle.dn_instance.specs.Instances.{Instance, MinCostFlow, MaxFlow, ShortestPaths, Sources, Queries, Coordinates, nodes_of}
 use Rattle.dn_run.specs.Fits.{companion_fit, nodes_fit}
 
 named_is : (n : ℤ) (d : Contents) (J : Instance) → Shows d J → judged_by true n (named_nodes d) ≡ nodes_fit n J
@@ -28,16 +28,3 @@ fit_is n _ d _ J e h k = absurd h
 -- what is judged of what is held is so of the instances
 pub judged_is : (g k : Holding) (I J : Instance) → IsHeld g I → IsHeld k J → judged g k ≡ companion_fit I J
 judged_is g k I J h i = fit_is g.nodes g.contents k.contents I J h.nodes_are h.shows i.shows
-
-shown_kind : (c : Contents) (I : Instance) → Shows c I → contents_kind c ≡ kind_of I
-shown_kind (OfMin flows table) (MinCostFlow s G) h = refl
-shown_kind (OfMax source sink table) (MaxFlow s t G) h = refl
-shown_kind (OfSp table) (ShortestPaths G) h = refl
-shown_kind (OfSs ids) (Sources xs) h = refl
-shown_kind (OfP2p pairs) (Queries xs) h = refl
-shown_kind (OfCo points) (Coordinates xs) h = refl
-shown_kind _ _ h = absurd h
-
--- the kind of what is held is that of the instance
-pub held_kind : (g : Holding) (I : Instance) → IsHeld g I → contents_kind g.contents ≡ kind_of I
-held_kind g I h = shown_kind g.contents I h.shows

@@ -20,7 +20,7 @@ pub added : {S : Type 0} {taken : S → Option (List ℕ)} {has_failed : S → B
 added {S} {taken} {has_failed} {old} {new} h = subst (λ l. Appends (taken old) (taken new) l) (sym (append-nil h.put) ∙ h.whole) h.bytes
 
 -- what is held was not refused
-not_refused : (held : Held) (refusal : Refusal) → Ok held ≡ Err refusal → ⊥
+pub not_refused : (held : Held) (refusal : Refusal) → Ok held ≡ Err refusal → ⊥
 not_refused held refusal e = cc
 
 -- the result of a text that is refused
@@ -58,7 +58,7 @@ no_fault held answer given None h = tt
 no_fault held answer given (Some f) h = absurd (not_refused held (unopened f) h)
 
 -- what is known of the bytes behind a name
-by_behind : {P Q : List ℕ → Type 0} (behind : Option (List ℕ)) → ((b : List ℕ) → behind ≡ Some b → P b → Q b) → IfSome behind P → IfSome behind Q
+pub by_behind : {P Q : List ℕ → Type 0} (behind : Option (List ℕ)) → ((b : List ℕ) → behind ≡ Some b → P b → Q b) → IfSome behind P → IfSome behind Q
 by_behind None f h = tt
 by_behind (Some b) f h = f b refl h
 

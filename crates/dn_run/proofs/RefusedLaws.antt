@@ -1,4 +1,4 @@
--- On status 2 no text was accepted.
+-- On status 2 what was asked for is not accepted.
 use Rattle.std.proofs.Common.{◌≡◌, ◌⊎◌, ℕ, List, Option, Some, None, IfSome, refl, sym, ap, ◌∙◌, subst, inl, inr, arith, ◌≤◌}
 use Rattle.dn_bundle.specs.declared.arc.Form.{Form}
 use Rattle.dn_instance.specs.Instances.{Instance}
@@ -13,11 +13,12 @@ use Rattle.dn_command.specs.Commands.{Asked, Show, Check, Canon, Compare}
 use Rattle.dn_run.specs.Answers.{Answer, Done, Refused, Unfit, Cut, refusal_status, status_of}
 use Rattle.dn_run.specs.FilesRuns.{FilesRun}
 use Rattle.dn_run.specs.Outcomes.{IsRefusedAs, OnText, OnTwoTexts, RanOn}
-use Rattle.dn_run.specs.Runs.{Never, NoneAccepted, Performs, PutsCanon, PutsChecked, PutsCompared, PutsFit, PutsShown, Unfits}
+use Rattle.dn_run.specs.Runs.{Never, NotAccepted, Performs, PutsCanon, PutsChecked, PutsCompared, PutsFit, PutsShown, Unfits}
 use Rattle.dn_run.specs.Streams.{SinkRun}
 use Rattle.dn_run.specs.Texts.{AskedText, IsRefusedCanon, IsRefusedCopy, IsRefusedText, unopened}
 use Rattle.dn_run.specs.declared.files.FilesFault.{FilesFault}
 use Rattle.dn_run.specs.declared.files.FilesFault.TheVariants as Files
+use Rattle.dn_run.proofs.OutcomeLaws.{by_behind}
 
 -- a text that the files do not hand out has another status
 unopened_status : (name : List ℕ) (fault : FilesFault) → status_of (Refused name (unopened fault)) ≡ 2 → ⊥
@@ -32,10 +33,6 @@ handed_or_not : (fault : Option FilesFault) (name : List ℕ) (answer : Answer) 
 handed_or_not None name answer two h = refl
 handed_or_not (Some f) name answer two h = absurd (unopened_status name f (sym (ap status_of h) ∙ two))
 
-known : {P Q : List ℕ → Type 0} (behind : Option (List ℕ)) → ((b : List ℕ) → P b → Q b) → IfSome behind P → IfSome behind Q
-known None f h = tt
-known (Some b) f h = f b h
-
 module _ {T S : Type 0} (Puts : List ℕ → Instance → ℕ → List ℕ → Type 0) (Unfits : Instance → CompanionFault → Type 0) (Refuses : List ℕ → Refusal → Type 0) (text : AskedText T) (out : SinkRun S) (P : List ℕ → Type 0)
     (done : (b : List ℕ) (I : Instance) (status : ℕ) (t : List ℕ) → Puts b I status t → status ≡ 2 → ⊥) (refused : (b : List ℕ) (e : Refusal) → Refuses b e → refusal_status e ≡ 2 → P b)
     (unfit : (b : List ℕ) (I : Instance) (fault : CompanionFault) → Reads b I → Unfits I fault → P b) where
@@ -47,7 +44,7 @@ module _ {T S : Type 0} (Puts : List ℕ → Instance → ℕ → List ℕ → T
 
   -- of one text
   pub none_of : (answer : Answer) → status_of answer ≡ 2 → OnText Puts Unfits Refuses text out answer → IfSome text.behind P
-  none_of answer two h = known text.behind (λ b r. by_answer text.name b answer two r) (h.handed (handed_or_not text.fault text.name answer two h.not_handed))
+  none_of answer two h = by_behind text.behind (λ b known r. by_answer text.name b answer two r) (h.handed (handed_or_not text.fault text.name answer two h.not_handed))
 
 -- a text that is refused as it is read reads as no instance
 unread : {T : Type 0} (text : AskedText T) (b : List ℕ) (e : Refusal) → IsRefusedText text b e → refusal_status e ≡ 2 → (I : Instance) → Reads b I → ⊥
@@ -91,7 +88,7 @@ module _ {T S : Type 0} (Puts : List ℕ → Instance → Instance → ℕ → L
   -- of two texts
   pub none_of_two : (answer : Answer) → status_of answer ≡ 2 → OnTwoTexts Puts Unfits Refuses left right out answer
       → IfSome left.behind (λ b. IfSome right.behind (λ c. (I J : Instance) → Reads b I → Reads c J → P I J))
-  none_of_two answer two h = known left.behind by_case (h.handed (handed_or_not left.fault left.name answer two h.not_handed))
+  none_of_two answer two h = by_behind left.behind (λ b known. by_case b) (h.handed (handed_or_not left.fault left.name answer two h.not_handed))
     where
       by_case : (b : List ℕ) → IsRefusedAs Refuses left.name b answer ⊎ ((I : Instance) × Reads b I × OnText (λ c J. Puts b I J) (Unfits I) (IsRefusedText right) right out answer)
           → IfSome right.behind (λ c. (I J : Instance) → Reads b I → Reads c J → P I J)
@@ -104,16 +101,16 @@ module _ {T S : Type 0} (Puts : List ℕ → Instance → Instance → ℕ → L
           answer two on
 
 -- what a command came to
-pub none_accepted : {F T S : Type 0} (files : FilesRun F T) (out : SinkRun S) (asked : Asked) (answer : Answer) → Performs files out asked answer → status_of answer ≡ 2 → NoneAccepted files asked
-none_accepted files out (Show name) answer p two =
+pub not_accepted : {F T S : Type 0} (files : FilesRun F T) (out : SinkRun S) (asked : Asked) (answer : Answer) → Performs files out asked answer → status_of answer ≡ 2 → NotAccepted files asked
+not_accepted files out (Show name) answer p two =
     none_of PutsShown (λ _. Never) _ _ out (λ b. (I : Instance) → Reads b I → ⊥) (λ b I status t q e. zero_two status q.0 e) (λ b e r e2. unread _ b e r e2) (λ b I fault reads u. absurd u) answer two p.means
-none_accepted files out (Check name None) answer p two =
+not_accepted files out (Check name None) answer p two =
     none_of (PutsChecked None) (λ _. Never) _ _ out (λ b. (I : Instance) → Reads b I → ⊥) (λ b I status t q e. zero_two status q.0 e) (λ b e r e2. uncopied _ b e r e2) (λ b I fault reads u. absurd u) answer two p.means
-none_accepted files out (Check name (Some companion)) answer p two =
+not_accepted files out (Check name (Some companion)) answer p two =
     none_of_two PutsFit Unfits _ _ _ out (λ I J. (fault : CompanionFault) × Unfits I J fault) (λ b I J status t q e. zero_two status q.1.0 e) (λ b e r e2. uncopied _ b e r e2) (λ I J fault u. (fault, u)) answer two p.means
-none_accepted files out (Canon name form) answer p two =
+not_accepted files out (Canon name form) answer p two =
     none_of (PutsCanon form) (λ _. Never) _ _ out (λ b. (I : Instance) → Reads b I → IsTooLarge form I) (λ b I status t q e. zero_two status q.0 e) (λ b e r e2. too_large form _ b e r e2) (λ b I fault reads u. absurd u) answer two p.means
-none_accepted files out (Compare left right) answer p two =
+not_accepted files out (Compare left right) answer p two =
     none_of_two (λ _. PutsCompared) (λ _ _. Never) _ _ _ out (λ I J. ⊥) (λ b I J status t q e. most_two status q.most e) (λ b e r e2. unread _ b e r e2) (λ I J fault u. absurd u) answer two p.means
   where
     most_two : (n : ℕ) → n ≤ 1 → n ≡ 2 → ⊥

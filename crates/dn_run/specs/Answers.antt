@@ -1,9 +1,10 @@
 -- What a run comes to, whatever it was asked for.
-use Rattle.std.specs.Prelude.{◌≡◌, ℕ, ◌≤◌, List, [], Result, Ok, Err}
+use Rattle.std.specs.Prelude.{◌≡◌, ◌⊎◌, ℕ, ◌≤◌, List, [], Some, Result, Ok, Err, IsTrue}
+use Rattle.dn_instance.specs.SourceReads.{IsOfReading}
 use Rattle.dn_instance.specs.declared.companion.CompanionFault.{CompanionFault}
 use Rattle.dn_instance.specs.declared.refusal.Refusal.{Refusal}
 use Rattle.dn_instance.specs.declared.refusal.Refusal.TheVariants.{Text, Write, CountTooLarge}
-use Rattle.dn_command.specs.Commands.{Asked, Compare}
+use Rattle.dn_command.specs.Commands.{Asked, Show, Check, Canon, Compare}
 use Rattle.dn_run.specs.FaultLines.{fault_line, unfit_line}
 use Rattle.dn_run.specs.Streams.{SinkRun, TakesLine}
 use Rattle.dn_run.specs.declared.stop.Stop.{Stop}
@@ -40,18 +41,42 @@ Tells err (Refused name refusal) = TakesLine err (fault_line name refusal)
 Tells err (Unfit name fault) = TakesLine err (unfit_line name fault)
 Tells err Cut = TakesLine err (fault_line [] Write)
 
--- where a text is refused, or a companion does not fit, nothing is put on `out`
-abbrev pub Unput : {S : Type 0} → SinkRun S → Answer → Type 0
-Unput out (Done status) = Unit {0}
-Unput out (Refused name refusal) = out.new ≡ out.old
-Unput out (Unfit name fault) = out.new ≡ out.old
-Unput out Cut = Unit {0}
+-- where a text is refused, or a companion does not fit, nothing is put on `out`; where `out` is told to have failed, it
+-- has
+abbrev pub OutAfter : {S : Type 0} → SinkRun S → Answer → Type 0
+OutAfter out (Done status) = Unit {0}
+OutAfter out (Refused name refusal) = out.new ≡ out.old
+OutAfter out (Unfit name fault) = out.new ≡ out.old
+OutAfter out Cut = IsTrue (out.has_failed out.new)
 
 -- the status of what is done is 0; that of a comparison is 0 or 1
-abbrev pub IsDoneAs : Asked → Answer → Type 0
-IsDoneAs (Compare left right) (Done status) = status ≤ 1
-IsDoneAs _ (Done status) = status ≡ 0
-IsDoneAs _ _ = Unit {0}
+abbrev pub IsDoneWith : Asked → ℕ → Type 0
+IsDoneWith (Compare left right) status = status ≤ 1
+IsDoneWith _ status = status ≡ 0
+
+-- the text of this name is asked for
+abbrev pub IsNameOf : Asked → List ℕ → Type 0
+IsNameOf (Show name) of = of ≡ name
+IsNameOf (Check name companion) of = (of ≡ name) ⊎ (companion ≡ Some of)
+IsNameOf (Canon name form) of = of ≡ name
+IsNameOf (Compare left right) of = (of ≡ left) ⊎ (of ≡ right)
+
+-- the companion of this name is asked for
+abbrev pub IsCompanionOf : Asked → List ℕ → Type 0
+IsCompanionOf (Check name companion) of = companion ≡ Some of
+IsCompanionOf _ of = ⊥
+
+-- a text is refused as it is read, and one whose canonical text is asked for also where that is too large
+abbrev pub MayRefuse : Asked → Refusal → Type 0
+MayRefuse (Canon name form) refusal = IsOfReading refusal ⊎ (refusal ≡ CountTooLarge)
+MayRefuse _ refusal = IsOfReading refusal
+
+-- what a command may come to, whatever its texts hold: its statuses, the names that it asks for, and their refusals
+abbrev pub IsAnswerTo : Asked → Answer → Type 0
+IsAnswerTo asked (Done status) = IsDoneWith asked status
+IsAnswerTo asked (Refused name refusal) = IsNameOf asked name × MayRefuse asked refusal
+IsAnswerTo asked (Unfit name fault) = IsCompanionOf asked name
+IsAnswerTo asked Cut = Unit {0}
 
 -- what a command comes to whose text of this name could not be written
 abbrev pub unwritten : List ℕ → Refusal → Answer

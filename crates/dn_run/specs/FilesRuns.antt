@@ -1,5 +1,7 @@
 -- What a run asks of the files.
-use Rattle.std.specs.Prelude.{◌≡◌, ◌⊎◌, ℕ, List, Bool, Option}
+use Rattle.std.specs.Prelude.{◌≡◌, ◌⊎◌, ℕ, List, Bool, Option, None, IfSome}
+use Rattle.dn_instance.specs.Instances.{Instance}
+use Rattle.dn_instance.specs.Texts.{Reads}
 use Rattle.dn_instance.specs.declared.refusal.Refusal.{Refusal}
 use Rattle.dn_run.specs.Answers.{Answer, Refused}
 use Rattle.dn_run.specs.Takings.{KeepsOthers}
@@ -64,10 +66,17 @@ pub record StopsAtFirst {F T : Type 0} (files : FilesRun F T) (mid : F) (name : 
   pub stays : files.new ≡ mid
   pub refused : (refusal : Refusal) × (answer ≡ Refused name refusal)
 
--- two texts were asked for, one after the other, the second where the first was not refused
+-- the first text was handed out, and reads as an instance where its bytes are known; so the files are asked for the
+-- second
+pub record GoesOn {F T : Type 0} (files : FilesRun F T) (mid : F) (left right : List ℕ) : Type 0 where
+  pub handed : files.fault mid left ≡ None
+  pub read : IfSome (files.behind files.old left) (λ b. (I : Instance) × Reads b I)
+  pub asks : AsksOne files.Asks files.behind mid files.new right
+
+-- two texts were asked for, one after the other, the second only where the first could be read
 pub record TwoAsked {F T : Type 0} (files : FilesRun F T) (left right : List ℕ) (answer : Answer)
     (Means : AskedText T → AskedText T → Type 0) : Type 0 where
   pub mid : F
   pub first : AsksOne files.Asks files.behind files.old mid left
-  pub second : StopsAtFirst files mid left answer ⊎ AsksOne files.Asks files.behind mid files.new right
+  pub second : StopsAtFirst files mid left answer ⊎ GoesOn files mid left right
   pub means : Means (text_asked files files.old mid left) (text_asked files mid files.new right)

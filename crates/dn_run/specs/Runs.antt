@@ -16,7 +16,7 @@ use Rattle.dn_report.specs.Shows.{IsShown}
 use Rattle.dn_report.specs.Verdicts.{verdict_row}
 use Rattle.dn_report.specs.declared.check.Forms.{Forms}
 use Rattle.dn_command.specs.Commands.{Asked, Show, Check, Canon, Compare}
-use Rattle.dn_run.specs.Answers.{Answer, IsDoneAs, Tells, Unput, status_of}
+use Rattle.dn_run.specs.Answers.{Answer, IsAnswerTo, OutAfter, Tells, status_of}
 use Rattle.dn_run.specs.FilesRuns.{FilesRun, OneAsked, TwoAsked}
 use Rattle.dn_run.specs.Fits.{companion_fit}
 use Rattle.dn_run.specs.Outcomes.{OnText, OnTwoTexts}
@@ -82,22 +82,22 @@ pub record CommandRun {F T S E : Type 0} (files : FilesRun F T) (out : SinkRun S
     (number : ℕ) : Type 0 where
   pub answer : Answer
   pub status_is : number ≡ status_of answer
-  pub done_as : IsDoneAs asked answer
+  pub answers : IsAnswerTo asked answer
   pub performs : Performs files out asked answer
-  pub unput : Unput out answer
+  pub out_after : OutAfter out answer
   pub tells : Tells err answer
 
--- no text that was asked for is accepted for what was asked: it reads as no instance, its canonical text is too large,
--- or the companion does not fit; where the bytes behind the names are known
-abbrev pub NoneAccepted : {F T : Type 0} → FilesRun F T → Asked → Type 0
-NoneAccepted files (Show name) = IfSome (files.behind files.old name) (λ b. (I : Instance) → Reads b I → ⊥)
-NoneAccepted files (Check name None) = IfSome (files.behind files.old name) (λ b. (I : Instance) → Reads b I → ⊥)
-NoneAccepted files (Check name (Some companion)) =
+-- the text, or the two texts together, are not accepted for what was asked: one reads as no instance, the canonical
+-- text is too large, or the companion does not fit; where the bytes behind all names are known
+abbrev pub NotAccepted : {F T : Type 0} → FilesRun F T → Asked → Type 0
+NotAccepted files (Show name) = IfSome (files.behind files.old name) (λ b. (I : Instance) → Reads b I → ⊥)
+NotAccepted files (Check name None) = IfSome (files.behind files.old name) (λ b. (I : Instance) → Reads b I → ⊥)
+NotAccepted files (Check name (Some companion)) =
     IfSome (files.behind files.old name) (λ b. IfSome (files.behind files.old companion)
     (λ c. (I J : Instance) → Reads b I → Reads c J → (fault : CompanionFault) × Unfits I J fault))
-NoneAccepted files (Canon name form) =
+NotAccepted files (Canon name form) =
     IfSome (files.behind files.old name) (λ b. (I : Instance) → Reads b I → IsTooLarge form I)
-NoneAccepted files (Compare left right) =
+NotAccepted files (Compare left right) =
     IfSome (files.behind files.old left) (λ b. IfSome (files.behind files.old right)
     (λ c. (I J : Instance) → Reads b I → Reads c J → ⊥))
 

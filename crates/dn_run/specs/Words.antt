@@ -9,16 +9,16 @@ use Rattle.dn_command.specs.declared.request.Request.TheVariants as requests
 use Rattle.dn_run.specs.Answers.{Answer, Done, Cut, Tells, status_of}
 use Rattle.dn_run.specs.FaultLines.{bad_command_line, fault_line, twice_line}
 use Rattle.dn_run.specs.FilesRuns.{FilesRun}
-use Rattle.dn_run.specs.Runs.{CommandRun, IsRefusedRun, NoneAccepted}
+use Rattle.dn_run.specs.Runs.{CommandRun, IsRefusedRun, NotAccepted}
 use Rattle.dn_run.specs.Streams.{SinkRun, TakesLine}
 
 -- what a run does that is asked for a command: it is refused where standard input is named for two texts, and else the
--- command is run; on status 2 no text was accepted
+-- command is run; on status 2 what was asked for is not accepted
 pub record AskedRun {F T S E : Type 0} (files : FilesRun F T) (out : SinkRun S) (err : SinkRun E) (asked : Asked)
     (number : ℕ) : Type 0 where
   pub twice : names_twice asked ≡ true → IsRefusedRun files out err twice_line number
   pub once : names_twice asked ≡ false → CommandRun files out err asked number
-  pub refused : number ≡ 2 → NoneAccepted files asked
+  pub refused : number ≡ 2 → NotAccepted files asked
 
 -- `out` took this text, or a front of it and has failed
 abbrev pub PutsAll : {S : Type 0} → SinkRun S → List ℕ → Answer → Type 0

@@ -1,7 +1,7 @@
 // The commands, each over files and `out`.
 ghost use Rattle.std.specs.Prelude.{◌≡◌, ◌≢◌, None, Some, false, IsTrue, OnOk, codes};
 ghost use Rattle.dn_command.specs.Commands.{Canon, Check, Compare, Show, asks, names_twice};
-ghost use Rattle.dn_run.specs.Answers.{IsDoneAs, Unput, answer_of};
+ghost use Rattle.dn_run.specs.Answers.{IsAnswerTo, OutAfter, answer_of};
 ghost use Rattle.dn_run.specs.FilesRuns.{files_run};
 ghost use Rattle.dn_run.specs.Runs.{Performs};
 ghost use Rattle.dn_run.specs.Streams.{sink_run};
@@ -26,10 +26,11 @@ pub(crate) fn perform<'a, F: Files, O: Sink>(
     out: &mut O,
 ) -> Result<u8, Stop<'a>>
     requires { names_twice (asks command.now) ≡ false }
-    ensures performs { Performs (files_run F.behind F.fault F.Asks F.Hands F.Text.gives F.Text.has_failed F.Text.Pulls files.old files.new)
+    ensures performs { Performs
+        (files_run F.behind F.fault F.Asks F.Hands F.Text.gives F.Text.has_failed F.Text.Pulls files.old files.new)
         (sink_run O.taken O.has_failed out.old out.new) (asks command.now) (answer_of result) }
-    ensures unput { Unput (sink_run O.taken O.has_failed out.old out.new) (answer_of result) }
-    ensures done_as { IsDoneAs (asks command.now) (answer_of result) }
+    ensures out_after { OutAfter (sink_run O.taken O.has_failed out.old out.new) (answer_of result) }
+    ensures answers { IsAnswerTo (asks command.now) (answer_of result) }
     ensures flushed { OnOk result (IsTrue (O.is_flushed out.new)) }
 {
     match *command {
@@ -51,10 +52,11 @@ fn show<'a, F: Files, O: Sink>(
     files: &mut F,
     out: &mut O,
 ) -> Result<u8, Stop<'a>>
-    ensures performs { Performs (files_run F.behind F.fault F.Asks F.Hands F.Text.gives F.Text.has_failed F.Text.Pulls files.old files.new)
+    ensures performs { Performs
+        (files_run F.behind F.fault F.Asks F.Hands F.Text.gives F.Text.has_failed F.Text.Pulls files.old files.new)
         (sink_run O.taken O.has_failed out.old out.new) (Show name.now) (answer_of result) }
-    ensures unput { Unput (sink_run O.taken O.has_failed out.old out.new) (answer_of result) }
-    ensures done_as { IsDoneAs (Show name.now) (answer_of result) }
+    ensures out_after { OutAfter (sink_run O.taken O.has_failed out.old out.new) (answer_of result) }
+    ensures answers { IsAnswerTo (Show name.now) (answer_of result) }
     ensures flushed { OnOk result (IsTrue (O.is_flushed out.new)) }
 {
     match read_named(alloc, name, files) {
@@ -74,10 +76,11 @@ fn canon<'a, F: Files, O: Sink>(
     files: &mut F,
     out: &mut O,
 ) -> Result<u8, Stop<'a>>
-    ensures performs { Performs (files_run F.behind F.fault F.Asks F.Hands F.Text.gives F.Text.has_failed F.Text.Pulls files.old files.new)
+    ensures performs { Performs
+        (files_run F.behind F.fault F.Asks F.Hands F.Text.gives F.Text.has_failed F.Text.Pulls files.old files.new)
         (sink_run O.taken O.has_failed out.old out.new) (Canon name.now form) (answer_of result) }
-    ensures unput { Unput (sink_run O.taken O.has_failed out.old out.new) (answer_of result) }
-    ensures done_as { IsDoneAs (Canon name.now form) (answer_of result) }
+    ensures out_after { OutAfter (sink_run O.taken O.has_failed out.old out.new) (answer_of result) }
+    ensures answers { IsAnswerTo (Canon name.now form) (answer_of result) }
     ensures flushed { OnOk result (IsTrue (O.is_flushed out.new)) }
 {
     match read_named(alloc, name, files) {
@@ -96,10 +99,11 @@ fn check<'a, F: Files, O: Sink>(
     files: &mut F,
     out: &mut O,
 ) -> Result<u8, Stop<'a>>
-    ensures performs { Performs (files_run F.behind F.fault F.Asks F.Hands F.Text.gives F.Text.has_failed F.Text.Pulls files.old files.new)
+    ensures performs { Performs
+        (files_run F.behind F.fault F.Asks F.Hands F.Text.gives F.Text.has_failed F.Text.Pulls files.old files.new)
         (sink_run O.taken O.has_failed out.old out.new) (Check name.now None) (answer_of result) }
-    ensures unput { Unput (sink_run O.taken O.has_failed out.old out.new) (answer_of result) }
-    ensures done_as { IsDoneAs (Check name.now None) (answer_of result) }
+    ensures out_after { OutAfter (sink_run O.taken O.has_failed out.old out.new) (answer_of result) }
+    ensures answers { IsAnswerTo (Check name.now None) (answer_of result) }
     ensures flushed { OnOk result (IsTrue (O.is_flushed out.new)) }
 {
     let mut copy = Vec::new(alloc);
@@ -118,10 +122,11 @@ fn check_with<'a, F: Files, O: Sink>(
     out: &mut O,
 ) -> Result<u8, Stop<'a>>
     requires { name.now ≡ codes "-" → companion.now ≢ codes "-" }
-    ensures performs { Performs (files_run F.behind F.fault F.Asks F.Hands F.Text.gives F.Text.has_failed F.Text.Pulls files.old files.new)
+    ensures performs { Performs
+        (files_run F.behind F.fault F.Asks F.Hands F.Text.gives F.Text.has_failed F.Text.Pulls files.old files.new)
         (sink_run O.taken O.has_failed out.old out.new) (Check name.now (Some companion.now)) (answer_of result) }
-    ensures unput { Unput (sink_run O.taken O.has_failed out.old out.new) (answer_of result) }
-    ensures done_as { IsDoneAs (Check name.now (Some companion.now)) (answer_of result) }
+    ensures out_after { OutAfter (sink_run O.taken O.has_failed out.old out.new) (answer_of result) }
+    ensures answers { IsAnswerTo (Check name.now (Some companion.now)) (answer_of result) }
     ensures flushed { OnOk result (IsTrue (O.is_flushed out.new)) }
 {
     let mut copy = Vec::new(alloc);
@@ -152,10 +157,11 @@ fn compare_named<'a, F: Files, O: Sink>(
     out: &mut O,
 ) -> Result<u8, Stop<'a>>
     requires { left.now ≡ codes "-" → right.now ≢ codes "-" }
-    ensures performs { Performs (files_run F.behind F.fault F.Asks F.Hands F.Text.gives F.Text.has_failed F.Text.Pulls files.old files.new)
+    ensures performs { Performs
+        (files_run F.behind F.fault F.Asks F.Hands F.Text.gives F.Text.has_failed F.Text.Pulls files.old files.new)
         (sink_run O.taken O.has_failed out.old out.new) (Compare left.now right.now) (answer_of result) }
-    ensures unput { Unput (sink_run O.taken O.has_failed out.old out.new) (answer_of result) }
-    ensures done_as { IsDoneAs (Compare left.now right.now) (answer_of result) }
+    ensures out_after { OutAfter (sink_run O.taken O.has_failed out.old out.new) (answer_of result) }
+    ensures answers { IsAnswerTo (Compare left.now right.now) (answer_of result) }
     ensures flushed { OnOk result (IsTrue (O.is_flushed out.new)) }
 {
     match read_named(alloc, left, files) {

@@ -4,7 +4,7 @@ ghost use Rattle.dn_instance.specs.Helds.{IsHeld, holding};
 ghost use Rattle.dn_instance.specs.Instances.{Instance};
 ghost use Rattle.dn_instance.specs.Validity.{IsValid};
 ghost use Rattle.dn_command.specs.Commands.{Check};
-ghost use Rattle.dn_run.specs.Answers.{IsDoneAs, Unput, answer_of};
+ghost use Rattle.dn_run.specs.Answers.{IsAnswerTo, OutAfter, answer_of};
 ghost use Rattle.dn_run.specs.Findings.{IsFound, JudgesForms, PutsFinding, PutsForms, verdict_status};
 ghost use Rattle.dn_run.specs.Runs.{PutsCompared};
 ghost use Rattle.dn_run.specs.Streams.{sink_run};
@@ -30,8 +30,8 @@ pub(crate) fn put_check<'a, O: Sink>(
 ) -> Result<u8, Stop<'a>>
     ensures puts { PutsForms name.now kind companion text.now (sink_run O.taken O.has_failed out.old out.new)
         (answer_of result) }
-    ensures unput { Unput (sink_run O.taken O.has_failed out.old out.new) (answer_of result) }
-    ensures done_as { (b : List ℕ) (with : Option (List ℕ)) → IsDoneAs (Check b with) (answer_of result) }
+    ensures out_after { OutAfter (sink_run O.taken O.has_failed out.old out.new) (answer_of result) }
+    ensures answers { (with : Option (List ℕ)) → IsAnswerTo (Check name.now with) (answer_of result) }
     ensures flushed { OnOk result (IsTrue (O.is_flushed out.new)) }
 {
     match forms_of(alloc, text) {
@@ -51,7 +51,7 @@ pub(crate) fn put_compared<'a, O: Sink>(
 ) -> Result<u8, Stop<'a>>
     ensures puts { (I J : Instance) → IsValid I → IsValid J → IsHeld (holding left.now) I → IsHeld (holding right.now) J
         → PutsFinding (PutsCompared I J) (sink_run O.taken O.has_failed out.old out.new) (answer_of result) }
-    ensures unput { Unput (sink_run O.taken O.has_failed out.old out.new) (answer_of result) }
+    ensures out_after { OutAfter (sink_run O.taken O.has_failed out.old out.new) (answer_of result) }
     ensures found { IsFound (answer_of result) }
     ensures flushed { OnOk result (IsTrue (O.is_flushed out.new)) }
 {

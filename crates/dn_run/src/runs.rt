@@ -18,10 +18,10 @@ use dn_instance::Refusal;
 use dn_sink::{Sink, SinkFault, put_all};
 use std::alloc::Global;
 
-/// Does what the words ask for, the program's name first, and answers the exit status: 0 where it is done, and the texts
+/// Does what the words ask for, the program's name first, and answers the exit status: 0 where it is done, and texts
 /// that are compared are the same problem; 1 where they differ; 2 where a text is refused, or a companion does not fit;
-/// 3 where the words are no command, or name standard input twice; and 4 where memory, a file, a source or `out` failed.
-/// Why it stopped is told on `err`, in one line; a fault of `err` is ignored.
+/// 3 where the words are no command, or name standard input twice; and 4 where memory, a file, a source or `out`
+/// failed. Why it stopped is told on `err`, in one line; a fault of `err` is ignored.
 pub fn run<F: Files, O: Sink, E: Sink>(
     alloc: Global,
     words: &[String],

@@ -1,12 +1,12 @@
 use Rattle.std.proofs.Common.{sym, subst}
 use Rattle.dn_command.specs.Commands.{Canon}
-use Rattle.dn_run.specs.Answers.{IsDoneAs, Unput}
+use Rattle.dn_run.specs.Answers.{IsAnswerTo, OutAfter}
 use Rattle.dn_run.specs.FilesRuns.{files_run, text_asked}
 use Rattle.dn_run.specs.Outcomes.{OnText}
 use Rattle.dn_run.specs.Runs.{Never, PutsCanon}
 use Rattle.dn_run.specs.Streams.{sink_run}
 use Rattle.dn_run.specs.Texts.{IsRefusedCanon}
-use Rattle.dn_run.proofs.CommandLaws.{canon_done, canon_unput, canon_unwritten, unwritten_undone}
+use Rattle.dn_run.proofs.CommandLaws.{canon_after, canon_done, canon_unwritten, unwritten_answers}
 use Rattle.dn_run.proofs.commands.canon.Goals as goal
 
 pub returns-in-Ok-write_canon-clause-performs : goal.returns-in-Ok-write_canon-clause-performs
@@ -25,8 +25,9 @@ returns-in-Ok g c =
         means = subst (λ a. OnText (PutsCanon c.args.form) (λ _. Never) (IsRefusedCanon c.args.form text) text out a) (sym c.unwritten.ensures)
             (canon_unwritten text out c.in-Ok.held c.args.form c.in-Ok.ensures.read refusal c.in-Err-write_canon.ensures.answer c.in-Err-write_canon.ensures.canon);
       };
-      unput = subst (Unput out) (sym c.unwritten.ensures)
-          (canon_unput g.O.Sink.taken g.O.Sink.has_failed c.args.out.now c.write_canon.new.sink c.args.name.now refusal c.in-Err-write_canon.ensures.answer);
-      done_as = subst (IsDoneAs (Canon c.args.name.now c.args.form)) (sym c.unwritten.ensures) (unwritten_undone c.args.form c.args.name.now c.args.name.now refusal);
+      out_after = subst (OutAfter out) (sym c.unwritten.ensures)
+          (canon_after g.O.Sink.taken g.O.Sink.has_failed c.args.out.now c.write_canon.new.sink c.args.name.now refusal c.in-Err-write_canon.ensures.answer);
+      answers = subst (IsAnswerTo (Canon c.args.name.now c.args.form)) (sym c.unwritten.ensures)
+          (unwritten_answers g.O.Sink.has_failed c.args.out.now c.write_canon.new.sink c.args.form c.args.name.now refusal c.in-Err-write_canon.ensures.answer);
       flushed = tt;
     }

@@ -2,7 +2,7 @@ use Rattle.std.proofs.Common.{refl, inl, inr, sym, Ok, Err}
 use Rattle.dn_run.specs.FilesRuns.{files_run}
 use Rattle.dn_run.specs.Runs.{PutsFit, Unfits}
 use Rattle.dn_run.specs.Texts.{IsRefusedCopy}
-use Rattle.dn_run.proofs.CommandLaws.{before_first, fit_refused, fits, unfit}
+use Rattle.dn_run.proofs.CommandLaws.{before_first, fit_refused, fits, held_read, unfit}
 use Rattle.dn_run.proofs.OutcomeLaws.{left_refused}
 use Rattle.dn_run.proofs.commands.check_with.Goals as goal
 
@@ -10,7 +10,7 @@ pub returns-in-Ok-check_companion-clause-performs : goal.returns-in-Ok-check_com
 returns-in-Ok-check_companion-clause-performs g c = record {
   mid = c.copy_named.new.files;
   first = c.in-Ok.ensures.asks;
-  second = inr c.in-Ok-read_named.ensures.asks;
+  second = inr (let first = held_read _ _ c.in-Ok.graph c.in-Ok.ensures.read in record { handed = first.0; read = first.1; asks = c.in-Ok-read_named.ensures.asks });
   means = fits _ _ _ c.in-Ok.graph c.in-Ok.ensures.read c.in-Ok-read_named.held
       (before_first (files_run g.F.Files.behind g.F.Files.fault g.F.Files.Asks g.F.Files.Hands g.F.Text.Source.gives g.F.Text.Source.has_failed g.F.Text.Source.Pulls c.args.files.now c.read_named.new.files) c.copy_named.new.files c.args.name.now c.args.companion.now c.in-Ok.ensures.asks.keeps c.requires
       (Ok c.in-Ok-read_named.held) c.in-Ok-read_named.ensures.read)
@@ -22,7 +22,7 @@ pub returns-in-Ok-clause-performs : goal.returns-in-Ok-clause-performs
 returns-in-Ok-clause-performs g c = record {
   mid = c.copy_named.new.files;
   first = c.in-Ok.ensures.asks;
-  second = inr c.in-Err-read_named.ensures.asks;
+  second = inr (let first = held_read _ _ c.in-Ok.graph c.in-Ok.ensures.read in record { handed = first.0; read = first.1; asks = c.in-Err-read_named.ensures.asks });
   means = fit_refused _ _ _ c.in-Ok.graph c.in-Ok.ensures.read c.in-Err-read_named.refusal
       (before_first (files_run g.F.Files.behind g.F.Files.fault g.F.Files.Asks g.F.Files.Hands g.F.Text.Source.gives g.F.Text.Source.has_failed g.F.Text.Source.Pulls c.args.files.now c.read_named.new.files) c.copy_named.new.files c.args.name.now c.args.companion.now c.in-Ok.ensures.asks.keeps c.requires
       (Err c.in-Err-read_named.refusal) c.in-Err-read_named.ensures.read);
@@ -40,7 +40,7 @@ pub returns-in-Ok-read_named-clause-performs : goal.returns-in-Ok-read_named-cla
 returns-in-Ok-read_named-clause-performs g c = record {
   mid = c.copy_named.new.files;
   first = c.in-Ok.ensures.asks;
-  second = inr c.in-Ok-read_named.ensures.asks;
+  second = inr (let first = held_read _ _ c.in-Ok.graph c.in-Ok.ensures.read in record { handed = first.0; read = first.1; asks = c.in-Ok-read_named.ensures.asks });
   means = unfit _ _ _ c.in-Ok.graph c.in-Ok.ensures.read c.in-Ok-read_named.held
       (before_first (files_run g.F.Files.behind g.F.Files.fault g.F.Files.Asks g.F.Files.Hands g.F.Text.Source.gives g.F.Text.Source.has_failed g.F.Text.Source.Pulls c.args.files.now c.read_named.new.files) c.copy_named.new.files c.args.name.now c.args.companion.now c.in-Ok.ensures.asks.keeps c.requires
       (Ok c.in-Ok-read_named.held) c.in-Ok-read_named.ensures.read)

@@ -1,6 +1,6 @@
 use Rattle.std.proofs.Common.{◌≡◌, ℕ, true, false, refl, sym, ◌∙◌}
 use Rattle.dn_run.specs.Answers.{Done, stopped}
-use Rattle.dn_run.proofs.RefusedLaws.{none_accepted}
+use Rattle.dn_run.proofs.RefusedLaws.{not_accepted}
 use Rattle.dn_run.proofs.runs.run_command.Goals as goal
 
 apart : true ≡ false → ⊥
@@ -21,8 +21,8 @@ returns-in-Ok-clause-asked g c =
     let ran = c.in-Ok.ensures in
     record {
       twice = λ yes. absurd (apart (sym (c.if-names_standard_input_twice.ensures ∙ yes)));
-      once = λ _. record { answer = Done c.in-Ok.status; status_is = refl; done_as = ran.done_as; performs = ran.performs; unput = ran.unput; tells = refl };
-      refused = λ two. none_accepted _ _ _ (Done c.in-Ok.status) ran.performs two;
+      once = λ _. record { answer = Done c.in-Ok.status; status_is = refl; answers = ran.answers; performs = ran.performs; out_after = ran.out_after; tells = refl };
+      refused = λ two. not_accepted _ _ _ (Done c.in-Ok.status) ran.performs two;
     }
 
 pub returns-in-Err-clause-asked : goal.returns-in-Err-clause-asked
@@ -33,10 +33,10 @@ returns-in-Err-clause-asked g c =
       once = λ _. record {
         answer = stopped c.in-Err.stop;
         status_is = c.status.ensures;
-        done_as = ran.done_as;
+        answers = ran.answers;
         performs = ran.performs;
-        unput = ran.unput;
+        out_after = ran.out_after;
         tells = c.tell.ensures;
       };
-      refused = λ two. none_accepted _ _ _ (stopped c.in-Err.stop) ran.performs (sym c.status.ensures ∙ two);
+      refused = λ two. not_accepted _ _ _ (stopped c.in-Err.stop) ran.performs (sym c.status.ensures ∙ two);
     }
