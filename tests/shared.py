@@ -60,6 +60,25 @@ def run(words, given=b"", **more):
     return Answer(ran.stdout, ran.stderr, ran.returncode)
 
 
+class Quick:
+    """Runs a program many times at little cost. Its streams are files in memory, which are emptied before each run."""
+
+    def __init__(self, tested):
+        self.program = tested
+        self.streams = [os.memfd_create(it) for it in ["in", "out", "err"]]
+
+    def run(self, *words, given=b""):
+        for it in self.streams:
+            os.ftruncate(it, 0)
+            os.lseek(it, 0, os.SEEK_SET)
+        os.pwrite(self.streams[0], given, 0)
+        actions = [(os.POSIX_SPAWN_DUP2, it, to) for to, it in enumerate(self.streams)]
+        child = os.posix_spawn(self.program, [self.program, *words], os.environ, file_actions=actions)
+        _, ended = os.waitpid(child, 0)
+        out, err = [os.pread(it, os.fstat(it).st_size, 0) for it in self.streams[1:]]
+        return Answer(out, err, os.waitstatus_to_exitcode(ended))
+
+
 def write(path, text):
     """Makes a file."""
     with open(path, "wb") as file:

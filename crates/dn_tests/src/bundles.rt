@@ -287,29 +287,43 @@ fn has_free(curve: &Curve, free: &[(i64, i64)]) -> bool {
     curve.free(0) == first && curve.free_len() == count && curve.free(count).is_none()
 }
 
-// What of the row the curve tells otherwise.
-fn differs(curve: &Curve, row: &Row) -> Option<&'static str> {
-    if curve.forced() != row.forced || curve.fixed() != row.fixed {
-        return Some("the forced units");
-    }
-    if !has_free(curve, row.free) {
-        return Some("the free capacity");
-    }
-    if curve.entries() != row.entries || curve.is_nothing() != (row.entries == 0) {
-        return Some("the entries");
-    }
-    for (amount, cost) in row.least {
+// Whether it has these forced units and fixed arcs.
+fn has_forced(curve: &Curve, row: &Row) -> bool {
+    curve.forced() == row.forced && curve.fixed() == row.fixed
+}
+
+// Whether it has so many entries, and is nothing where there are none.
+fn has_entries(curve: &Curve, entries: u64) -> bool {
+    curve.entries() == entries && curve.is_nothing() == (entries == 0)
+}
+
+// Whether amounts have these least costs.
+fn has_least(curve: &Curve, costs: &[(i64, Option<i128>)]) -> bool {
+    for (amount, cost) in costs {
         if curve.least(*amount) != *cost {
-            return Some("a least cost");
+            return false;
         }
     }
-    if !tells(curve, Form::One, row.one) {
-        return Some("the arcs of form 1");
+    true
+}
+
+// What of the row the curve tells otherwise.
+fn differs(curve: &Curve, row: &Row) -> Option<&'static str> {
+    if !has_forced(curve, row) {
+        Some("the forced units")
+    } else if !has_free(curve, row.free) {
+        Some("the free capacity")
+    } else if !has_entries(curve, row.entries) {
+        Some("the entries")
+    } else if !has_least(curve, row.least) {
+        Some("a least cost")
+    } else if !tells(curve, Form::One, row.one) {
+        Some("the arcs of form 1")
+    } else if !tells(curve, Form::Two, row.two) {
+        Some("the arcs of form 2")
+    } else {
+        None
     }
-    if !tells(curve, Form::Two, row.two) {
-        return Some("the arcs of form 2");
-    }
-    None
 }
 
 #[test]

@@ -6,7 +6,7 @@ use dn_bundle::Form;
 use dn_canon::{canon_run, canon_text, is_canon, write_canon};
 use dn_instance::{Refusal, read_text};
 use dn_line::Slice;
-use dn_sink::{Room, ToWrite};
+use dn_sink::{Bytes, Room, ToWrite};
 use std::alloc::Global;
 use std::test::Fail;
 
@@ -42,6 +42,17 @@ fn is_put(alloc: Global, text: &[u8], canon: &[u8]) -> Result<bool, Refusal> {
     }
 }
 
+// Whether it is what is put of it into a sink that takes memory; where that is wanted, whether a front of it is put.
+fn is_added(alloc: Global, text: &[u8], canon: &[u8]) -> Result<bool, Refusal> {
+    let mut sink = Bytes::new(alloc);
+    match canon_run(alloc, &mut Slice::new(text), &mut sink, Form::Two) {
+        Ok(()) => Ok(sink.taken() == canon),
+        Err(Refusal::Write) if canon.starts_with(sink.taken()) => Err(Refusal::Memory),
+        Err(_) if !sink.taken().is_empty() => Ok(false),
+        Err(refusal) => Err(refusal),
+    }
+}
+
 // Where one growth is refused, in any of the first texts, one answer is want of memory, and all others are right.
 #[test]
 fn a_refused_growth(rt: HostRuntime) {
@@ -52,6 +63,7 @@ fn a_refused_growth(rt: HostRuntime) {
         let answers = [
             (is_told(rt.alloc(), text, canon), true),
             (is_put(rt.alloc(), text, canon), true),
+            (is_added(rt.alloc(), text, canon), true),
             (is_canon(rt.alloc(), canon, Form::Two), true),
             (is_canon(rt.alloc(), text, Form::Two), is_same),
         ];

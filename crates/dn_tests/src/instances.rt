@@ -318,21 +318,6 @@ fn bytes_that_are_no_text(rt: HostRuntime) {
     assert!(rt; read.is_ok_and(|held| held.nodes() == 0));
 }
 
-#[test]
-fn names(rt: HostRuntime) {
-    let table = [
-        (Refusal::Memory, 30, "Memory"),
-        (Refusal::Endless, 32, "Endless"),
-        (Refusal::CountTooLarge, 34, "CountTooLarge"),
-    ];
-    for (refusal, number, name) in table {
-        assert!(rt;
-            refusal.number() == number && refusal.name() == name,
-            "{name}"
-        );
-    }
-}
-
 // Texts line by line, and the entries of a reader after each line.
 const ENTRIES: [&[(&str, u64)]; 4] = [
     &[
