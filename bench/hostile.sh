@@ -5,7 +5,7 @@
 #
 # BINARY is a program that is run as `BINARY < text`, by default that of the repository. N is the
 # number of arcs (or of node, coordinate and comment lines) of a text, by default 1000000; a text with
-# one long line or with empty lines has 20 N bytes, about as many as one of N arcs.
+# empty lines has 10 N of them, and one with a long line 100 N bytes.
 #
 # For each text the bytes of BINARY and of plain Rust are compared; where plain Rust is too slow, they
 # are not. Then the processor time of both is measured, in turn with that of BINARY on a shuffled road
@@ -28,7 +28,7 @@ case ${1:-} in
   '' | *[!0-9]*) binary=$(program "${1:-}") n=${2:-1000000} ;;
   *) binary=$(program) n=$1 ;;
 esac
-long=$((20 * n))
+empty=$((10 * n)) long=$((100 * n))
 reps=${REPS:-3}
 compile generate.rs measure.rs baselines/btree.rs
 road=$(text road-shuffled "$n" 1)
@@ -58,7 +58,7 @@ min-one-cost arc $n
 min-nodes-falling line $n
 co-falling line $n
 comments line $n
-empty-lines line $long
+empty-lines line $empty
 long-comment byte $long
 long-blanks byte $long
 long-number byte $long

@@ -20,7 +20,8 @@ program() { # [BINARY]
   elif [ -x "$built" ]; then
     realpath "$built"
   else
-    echo "There is no program at crates/dnorm/out/dnorm. Run ./dnorm at the top of the repository first: it builds it." >&2
+    echo "There is no program at crates/dnorm/out/dnorm." \
+      "Run ./dnorm at the top of the repository first: it builds it." >&2
     return 1
   fi
 }
