@@ -2,6 +2,7 @@
 and counted. A test prints a line for each failure, and last how many checks passed and failed."""
 
 import os
+import resource
 import subprocess
 import sys
 from typing import NamedTuple
@@ -58,6 +59,24 @@ def run(words, given=b"", **more):
     """Runs the program that these words begin with on the bytes given."""
     ran = subprocess.run(words, input=given, capture_output=True, timeout=LIMIT, check=False, **more)
     return Answer(ran.stdout, ran.stderr, ran.returncode)
+
+
+def within(level, words, given=b"", **more):
+    """Runs a program in so much memory, in kB. None where it does not start."""
+    limit = (level * 1024, level * 1024)
+    try:
+        return run(words, given, preexec_fn=lambda: resource.setrlimit(resource.RLIMIT_AS, limit), **more)
+    except OSError:
+        return None
+
+
+def least_level(is_enough):
+    """The least memory, in kB, that is enough."""
+    low, high = 0, 1 << 20
+    while high - low > 16:
+        level = (low + high) // 2
+        low, high = (low, level) if is_enough(level) else (level, high)
+    return high
 
 
 class Quick:
