@@ -3,6 +3,7 @@ and counted. A test prints a line for each failure, and last how many checks pas
 
 import os
 import resource
+import shutil
 import subprocess
 import sys
 from typing import NamedTuple
@@ -102,3 +103,18 @@ def write(path, text):
     """Makes a file."""
     with open(path, "wb") as file:
         file.write(text if isinstance(text, bytes) else text.encode())
+
+
+def loaded_first(tally, folder, name, source):
+    """A library made of a C source, which is to be loaded before all others. None where it cannot be made, and a line
+    says so; where there is a C compiler, that is a failure."""
+    compiler, library = shutil.which("cc"), f"{folder}/{name}.so"
+    if not compiler:
+        print(f"left out: what the library '{name}' is for, since there is no C compiler, cc")
+        return None
+    write(f"{folder}/{name}.c", source)
+    made = run([compiler, "-shared", "-fPIC", "-o", library, f"{folder}/{name}.c"])
+    if made.status:
+        tally.fail(f"cc: {made.err.decode(errors='replace')}")
+        return None
+    return library

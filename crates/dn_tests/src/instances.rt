@@ -4,7 +4,7 @@ use crate::stand_ins::Pieces;
 use crate::texts::{CAPACITIES, COSTS, COSTS_ONE, ROADS, ROADS_CANON};
 use dn_bundle::Form;
 use dn_canon::canon_text;
-use dn_instance::{Held, Place, Reader, Refusal, View, read_from, read_keep, read_text};
+use dn_instance::{Held, Place, Reader, Refusal, read_from, read_keep, read_text};
 use dn_line::{Code, Slice};
 use std::alloc::Global;
 use std::test::Fail;
@@ -226,81 +226,6 @@ fn a_long_comment(rt: HostRuntime) {
     assert!(rt; case.is_read(rt.alloc(), reader.finish()));
 }
 
-// Texts, one of each kind, of whose views something is told below.
-const VIEWED: [&str; 6] = [
-    COSTS,
-    CAPACITIES,
-    ROADS,
-    "p aux sp ss 3\ns 5\ns 2\ns 5\n",
-    "p aux sp p2p 2\nq 9 1\nq 1 9\n",
-    "p aux sp co 2\nv 3 -73530767 41085396\nv 1 5 -6\n",
-];
-
-// Whether the view of such a text is its own.
-fn is_viewed(held: &Held) -> bool {
-    match held.view() {
-        View::Min { supplies, table } => match table.get(1, 2) {
-            Some(curve) => supplies.is_empty() && curve.forced() == (2, 3),
-            None => false,
-        },
-        View::Max {
-            source,
-            sink,
-            table,
-        } => match table.get(1, 2) {
-            Some(total) => source == 1 && sink == 3 && total.get() == 9,
-            None => false,
-        },
-        View::Sp { table } => match table.get(3, 1) {
-            Some(least) => least.get() == Some(-5) && table.get(1, 3).is_none(),
-            None => false,
-        },
-        View::Ss { items } => items == [5, 2, 5].as_slice(),
-        View::P2p { items } => items == [(9, 1), (1, 9)].as_slice(),
-        View::Co { points } => points.get(&3) == Some(&(-73530767, 41085396)),
-    }
-}
-
-#[test]
-fn views(rt: HostRuntime) -> Result<(), Fail> {
-    for text in VIEWED {
-        let held = read_text(rt.alloc(), text.as_bytes())?;
-        assert!(rt; is_viewed(&held), "{text}");
-    }
-    Ok(())
-}
-
-// The refusal at the end of a text that is fed byte by byte, also after a refusal.
-fn fed_on(alloc: Global, text: &[u8]) -> Option<Refusal> {
-    let mut reader = Reader::new(alloc);
-    for byte in text {
-        let _ = reader.feed(&[*byte]);
-    }
-    reader.finish().err()
-}
-
-// Where one growth is refused, in any of these texts, one answer is want of memory, and all others are right.
-#[test]
-fn a_refused_growth(rt: HostRuntime) {
-    let mut is_refused = false;
-    for text in VIEWED {
-        let text = text.as_bytes();
-        let mut copy = Vec::new(rt.alloc());
-        let answers = [
-            read_text(rt.alloc(), text).err(),
-            read_from(rt.alloc(), &mut Slice::new(text)).err(),
-            read_keep(rt.alloc(), &mut Slice::new(text), &mut copy).err(),
-            fed_on(rt.alloc(), text),
-        ];
-        for answer in answers {
-            if answer.is_some() {
-                assert!(rt; answer == Some(Refusal::Memory) && !is_refused);
-                is_refused = true;
-            }
-        }
-    }
-}
-
 #[test]
 fn a_copy_is_added(rt: HostRuntime) -> Result<(), Fail> {
     let mut copy = Vec::new(rt.alloc());
@@ -309,13 +234,6 @@ fn a_copy_is_added(rt: HostRuntime) -> Result<(), Fail> {
     assert!(rt; held.nodes() == 1);
     assert!(rt; copy.as_slice() == b"beforep sp 1 0".as_slice());
     Ok(())
-}
-
-// A comment whose bytes are no UTF-8.
-#[test]
-fn bytes_that_are_no_text(rt: HostRuntime) {
-    let read = read_text(rt.alloc(), b"c\xff\x00\x80\np sp 0 0\n");
-    assert!(rt; read.is_ok_and(|held| held.nodes() == 0));
 }
 
 // Texts line by line, and the entries of a reader after each line.

@@ -15,6 +15,8 @@ mod instances;
 #[cfg(test)]
 mod lines;
 #[cfg(test)]
+mod memory;
+#[cfg(test)]
 mod numbers;
 #[cfg(test)]
 mod reports;

@@ -1,14 +1,9 @@
 // Runs over texts in memory.
 ghost use Rattle.std.specs.Prelude.{None};
 
-mod cases;
-mod compared;
-
 use crate::commands::owned;
 use crate::stand_ins::{NoFlush, OneByte, Pieces};
-use crate::texts::{CANONICAL, CAPACITIES, COSTS, Canonical, FLOWS, FULL, ROADS, ROADS_CANON};
-use cases::{CHECKED, Case, FITTED, OTHERS, PAIRS, REFUSED, SHOWN};
-use compared::{COMPARED, Compared};
+use crate::texts::{CAPACITIES, COSTS, FLOWS, FULL, ROADS, ROADS_CANON};
 use dn_run::{Files, FilesFault, run};
 use dn_sink::{Bytes, Room};
 use std::alloc::Global;
@@ -72,137 +67,6 @@ fn ends(alloc: Global, words: &[String], files: &mut Texts<'_>, end: End<'_>) ->
     let mut err = Bytes::new(alloc);
     let status = run(alloc, words, files, &mut out, &mut err);
     status == end.status && out.taken() == end.out.as_bytes() && err.taken() == end.err.as_bytes()
-}
-
-// Whether a run of these words ends so, where the texts come whole, and where they come with a byte a pull.
-fn is_so(alloc: Global, line: &str, named: &[(&'static str, &'static str)], end: End<'_>) -> bool {
-    let mut whole = Texts::new(named, usize::MAX);
-    let mut slow = Texts::new(named, 1);
-    match owned(alloc, line) {
-        Ok(words) => { ends(alloc, &words, &mut whole, end) && ends(alloc, &words, &mut slow, end) }
-        Err(_) => false,
-    }
-}
-
-// The words of the first run that ends otherwise.
-fn first_other(alloc: Global, cases: &[Case]) -> Option<&'static str> {
-    for (line, named, out, err, status) in cases {
-        let end = End {
-            out,
-            err,
-            status: *status,
-        };
-        if !is_so(alloc, line, named, end) {
-            return Some(*line);
-        }
-    }
-    None
-}
-
-#[test]
-fn shown_texts(rt: HostRuntime) {
-    assert_eq!(rt; first_other(rt.alloc(), &SHOWN), None);
-}
-
-#[test]
-fn checked_texts(rt: HostRuntime) {
-    assert_eq!(rt; first_other(rt.alloc(), &CHECKED), None);
-}
-
-#[test]
-fn texts_with_companions(rt: HostRuntime) {
-    assert_eq!(rt; first_other(rt.alloc(), &FITTED), None);
-}
-
-#[test]
-fn pairs_of_texts(rt: HostRuntime) {
-    assert_eq!(rt; first_other(rt.alloc(), &PAIRS), None);
-}
-
-#[test]
-fn other_runs(rt: HostRuntime) {
-    assert_eq!(rt; first_other(rt.alloc(), &OTHERS), None);
-}
-
-// The first text that is not refused so.
-fn first_other_refusal(
-    alloc: Global,
-    texts: &[(&'static str, &'static str)],
-) -> Option<&'static str> {
-    for (text, err) in texts {
-        let end = End {
-            out: "",
-            err,
-            status: 2,
-        };
-        if !is_so(alloc, "canon|t", &[("t", *text)], end) {
-            return Some(*text);
-        }
-    }
-    None
-}
-
-#[test]
-fn refused_texts(rt: HostRuntime) {
-    assert_eq!(rt; first_other_refusal(rt.alloc(), &REFUSED), None);
-}
-
-// Whether these are the canonical texts of a text.
-fn has_canon(alloc: Global, text: &'static str, one: &str, two: &str) -> bool {
-    let named = [("t", text)];
-    let first = End {
-        out: one,
-        err: "",
-        status: 0,
-    };
-    let second = End {
-        out: two,
-        err: "",
-        status: 0,
-    };
-    is_so(alloc, "canon|t", &named, first) && is_so(alloc, "canon|--form|2|t", &named, second)
-}
-
-// The first text that has other canonical texts, or whose canonical texts have others.
-fn first_other_canon(alloc: Global, texts: &[Canonical]) -> Option<&'static str> {
-    for (text, one, two) in texts {
-        for given in [text, one, two] {
-            if !has_canon(alloc, given, one, two) {
-                return Some(*given);
-            }
-        }
-    }
-    None
-}
-
-#[test]
-fn canonical_texts(rt: HostRuntime) {
-    assert_eq!(rt; first_other_canon(rt.alloc(), &CANONICAL), None);
-}
-
-// Whether this line tells of the first difference of these texts.
-fn compares(alloc: Global, left: &'static str, right: &'static str, line: &str) -> bool {
-    let end = End {
-        out: line,
-        err: "",
-        status: 1,
-    };
-    is_so(alloc, "compare|l|r", &[("l", left), ("r", right)], end)
-}
-
-// The first two texts that compare otherwise.
-fn first_other_line(alloc: Global, pairs: &[Compared]) -> Option<(&'static str, &'static str)> {
-    for (left, right, there, back) in pairs {
-        if !compares(alloc, left, right, there) || !compares(alloc, right, left, back) {
-            return Some((*left, *right));
-        }
-    }
-    None
-}
-
-#[test]
-fn compared_texts(rt: HostRuntime) {
-    assert_eq!(rt; first_other_line(rt.alloc(), &COMPARED), None);
 }
 
 // No words after the program's name, and no word at all.
@@ -390,41 +254,4 @@ fn slow_and_late_sinks(rt: HostRuntime) {
     let status = run(rt.alloc(), &words, &mut files, &mut late, &mut err);
     assert!(rt; status == 4 && late.bytes.taken() == ROADS_CANON.as_bytes());
     assert!(rt; err.taken() == b"out: 33 Write\n".as_slice());
-}
-
-// The status of a run into a room for its text, where it is 4 or the text is right, and else 5.
-fn status_of(alloc: Global, line: &str, named: &[(&'static str, &'static str)], text: &str) -> u8 {
-    let Ok(words) = owned(alloc, line) else {
-        return 4;
-    };
-    let mut room = [0u8; 128];
-    let mut no_room = [0u8; 32];
-    let mut out = Room::new(&mut room);
-    let mut err = Room::new(&mut no_room);
-    let status = run(
-        alloc,
-        &words,
-        &mut Texts::new(named, usize::MAX),
-        &mut out,
-        &mut err,
-    );
-    if status == 4 || out.taken() == text.as_bytes() {
-        status
-    } else {
-        5
-    }
-}
-
-// Where one growth is refused, in any of these runs, one answer is want of memory, and all others are right.
-#[test]
-fn a_refused_growth(rt: HostRuntime) {
-    let mut is_refused = false;
-    for (line, named, text) in &PUT {
-        let status = status_of(rt.alloc(), line, named, text);
-        assert!(rt;
-            status < 2 || (status == 4 && !is_refused),
-            "{line}, {text}"
-        );
-        is_refused = is_refused || status == 4;
-    }
 }

@@ -1,6 +1,7 @@
 // A run on the host.
 ghost use Rattle.std.specs.Prelude.{◌≡◌, ◌≤◌, None, IfOk};
 
+use crate::retried::Retried;
 use dn_instance::Refusal;
 use dn_line::FromRead;
 use dn_run::{Files, FilesFault, put_fault_line, refuse_words, run};
@@ -44,7 +45,7 @@ impl<I: Read, F: Read> Read for HostText<I, F> {
 }
 
 impl<'a, R: fs::Files + Input> Files for HostFiles<'a, R> {
-    type Text = FromRead<HostText<R::Reader, R::File>>;
+    type Text = FromRead<Retried<HostText<R::Reader, R::File>>>;
 
     ghost behind = { λ _ _. None };
 
@@ -54,13 +55,16 @@ impl<'a, R: fs::Files + Input> Files for HostFiles<'a, R> {
 
     ghost Hands = { λ _ _ _. Unit {0} };
 
-    fn take(&mut self, name: &str) -> Result<FromRead<HostText<R::Reader, R::File>>, FilesFault> {
+    fn take(&mut self, name: &str) -> Result<Self::Text, FilesFault> {
         self.fault = None;
         if name == "-" {
-            return Ok(FromRead::new(HostText::Input(self.host.reader())));
+            let stream = HostText::Input(self.host.reader());
+            return Ok(FromRead::new(Retried { stream }));
         }
         match fs::open(self.host, name) {
-            Ok(file) => Ok(FromRead::new(HostText::File(file))),
+            Ok(file) => Ok(FromRead::new(Retried {
+                stream: HostText::File(file),
+            })),
             Err(error) => {
                 let fault = fault_of(&error);
                 self.fault = Some(fault);

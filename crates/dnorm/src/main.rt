@@ -3,12 +3,16 @@
 #![tactic(auto)]
 
 pub mod host;
+pub mod retried;
 
 use crate::host::run_on;
+use crate::retried::Retried;
 use dn_sink::ToWrite;
 use std::process::ExitCode;
 
 fn main(rt: HostRuntime) -> ExitCode {
-    let mut err = ToWrite::new(rt.stderr());
+    let mut err = ToWrite::new(Retried {
+        stream: rt.stderr(),
+    });
     ExitCode::from(run_on(&rt, &mut err))
 }

@@ -1,0 +1,82 @@
+// Each call that reads a text or writes its canonical text, where a growth may be refused.
+
+use crate::texts::{ROADS, ROADS_CANON};
+use dn_bundle::Form;
+use dn_canon::{canon_run, canon_text, is_canon};
+use dn_instance::{Held, Reader, Refusal, read_from, read_keep, read_text};
+use dn_line::Slice;
+use dn_sink::Bytes;
+use std::alloc::Global;
+use std::io::{Input, Read};
+
+// Whether this is the canonical text, in form 2, of what is held.
+fn has_canon(alloc: Global, held: &Held, canon: &[u8]) -> Result<bool, Refusal> {
+    Ok(canon_text(alloc, held, Form::Two)?.as_slice() == canon)
+}
+
+fn is_read(alloc: Global, text: &[u8], canon: &[u8]) -> Result<bool, Refusal> {
+    has_canon(alloc, &read_text(alloc, text)?, canon)
+}
+
+fn is_read_from(alloc: Global, text: &[u8], canon: &[u8]) -> Result<bool, Refusal> {
+    has_canon(alloc, &read_from(alloc, &mut Slice::new(text))?, canon)
+}
+
+fn is_kept(alloc: Global, text: &[u8], canon: &[u8]) -> Result<bool, Refusal> {
+    let mut copy = Vec::new(alloc);
+    let held = read_keep(alloc, &mut Slice::new(text), &mut copy)?;
+    Ok(copy.as_slice() == text && has_canon(alloc, &held, canon)?)
+}
+
+// The text is fed byte by byte, also after a refusal.
+fn is_fed(alloc: Global, text: &[u8], canon: &[u8]) -> Result<bool, Refusal> {
+    let mut reader = Reader::new(alloc);
+    for byte in text {
+        let _ = reader.feed(&[*byte]);
+    }
+    has_canon(alloc, &reader.finish()?, canon)
+}
+
+// Where memory is wanted, a front of the canonical text may be put.
+fn is_put(alloc: Global, text: &[u8], canon: &[u8]) -> Result<bool, Refusal> {
+    let mut sink = Bytes::new(alloc);
+    match canon_run(alloc, &mut Slice::new(text), &mut sink, Form::Two) {
+        Ok(()) => Ok(sink.taken() == canon),
+        Err(Refusal::Write) if canon.starts_with(sink.taken()) => Err(Refusal::Memory),
+        Err(_) if !sink.taken().is_empty() => Ok(false),
+        Err(refusal) => Err(refusal),
+    }
+}
+
+// Whether all calls on a text are right, but that one of them may want memory.
+fn are_right(alloc: Global, text: &[u8], canon: &[u8]) -> bool {
+    let answers = [
+        is_read(alloc, text, canon),
+        is_read_from(alloc, text, canon),
+        is_kept(alloc, text, canon),
+        is_fed(alloc, text, canon),
+        is_put(alloc, text, canon),
+        is_canon(alloc, canon, Form::Two),
+    ];
+    let refused = answers
+        .iter()
+        .filter(|it| **it == Err(Refusal::Memory))
+        .count();
+    let right = answers.iter().filter(|it| **it == Ok(true)).count();
+    refused <= 1 && refused + right == answers.len()
+}
+
+// Standard input has a text, and behind a byte 0 its canonical text in form 2; or nothing. `tests/memory` refuses each
+// growth of this test in turn.
+#[test]
+fn a_refused_growth(rt: HostRuntime) {
+    let mut given = Vec::new(rt.alloc());
+    if rt.reader().read_to_end(&mut given).is_err() {
+        return;
+    }
+    let (text, canon) = match given.iter().position(|it| *it == 0) {
+        Some(at) => (&given[..at], &given[at + 1..]),
+        None => (ROADS.as_bytes(), ROADS_CANON.as_bytes()),
+    };
+    assert!(rt; are_right(rt.alloc(), text, canon));
+}

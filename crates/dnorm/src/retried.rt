@@ -1,0 +1,39 @@
+// Streams that are interrupted.
+
+use std::io;
+use std::io::{ErrorKind, Read, Write};
+
+/// A stream whose reads and writes are tried again where they were interrupted, as good as without end.
+#[derive(Drop)]
+pub struct Retried<S> {
+    /// The stream.
+    pub stream: S,
+}
+
+impl<S: Read> Read for Retried<S> {
+    fn read(&mut self, into: &mut [u8]) -> io::Result<usize> {
+        for _ in 0..u64::MAX {
+            match self.stream.read(into) {
+                Err(error) if error.kind() == ErrorKind::Interrupted => {}
+                answer => return answer,
+            }
+        }
+        Err(io::Error::from(ErrorKind::Interrupted))
+    }
+}
+
+impl<S: Write> Write for Retried<S> {
+    fn write(&mut self, bytes: &[u8]) -> io::Result<usize> {
+        for _ in 0..u64::MAX {
+            match self.stream.write(bytes) {
+                Err(error) if error.kind() == ErrorKind::Interrupted => {}
+                answer => return answer,
+            }
+        }
+        Err(io::Error::from(ErrorKind::Interrupted))
+    }
+
+    fn flush(&mut self) -> io::Result<()> {
+        self.stream.flush()
+    }
+}
