@@ -1,5 +1,5 @@
 -- What is answered of a text as its source gives it.
-use Rattle.std.proofs.Common.{◌≡◌, inl, inr, ℕ, ◌<◌, ◌≤◌, ◌^◌, List, [], ◌++◌, append_assoc, append-nil, length, Bool, true, false, ◌==◌, Option, Some, None, Result, Ok, Err, refl, sym, ap, ◌∙◌, subst, arith, IfSome, IsErr, IsErrAnd}
+use Rattle.std.proofs.Common.{◌≡◌, inl, inr, ℕ, ◌<◌, ◌≤◌, ◌^◌, List, [], ◌++◌, append_assoc, append-nil, length, Bool, true, false, ◌==◌, Option, Some, None, Result, Ok, Err, refl, sym, ap, ◌∙◌, subst, arith, IfSome, IfErr, IsErr, IsErrAnd}
 use Rattle.std.specs.Io.KnownBytes.{Consumes, IsAtEnd, Keeps}
 use Rattle.std.proofs.KnownBytes.{Consumes-trans}
 use Rattle.std.proofs.lemmas.Bool.{eqb-true, eqb-false}
@@ -52,7 +52,7 @@ told_piece t new Write h s = absurd h
 told_piece t new CountTooLarge h s = absurd h
 
 -- refused at a piece
-refused_given : (old mid new : Option (List ℕ)) (given piece : List ℕ) (r : Reader) (e : Refusal) → Consumes old mid given → Consumes mid new piece → length piece ≤ 2 ^ 16 → ReaderAt r given → r.refusal ≡ None → IsRefused 0 (ended (given ++ piece)) e
+pub refused_given : (old mid new : Option (List ℕ)) (given piece : List ℕ) (r : Reader) (e : Refusal) → Consumes old mid given → Consumes mid new piece → length piece ≤ 2 ^ 16 → ReaderAt r given → r.refusal ≡ None → IsRefused 0 (ended (given ++ piece)) e
     → (e ≡ Memory → WantsMemory (length (ended given)) (ended (given ++ piece))) → IfSome old (λ t. SourceOutcome t new (Err e))
 refused_given None mid new given piece r e c d short s none h m = tt
 refused_given (Some t) None new given piece r e c d short s none h m = absurd c
@@ -64,11 +64,10 @@ refused_given (Some t) (Some both) (Some rest) given piece r e c d short s none 
     (refused_on 0 0 (ended all) (lines t) e (omega arith) (subst (λ x. More (ended all) (lines x)) (append_assoc given piece rest ∙ sym whole) (front_lines all rest)) h)
     (record { before = given; piece = piece; rest = rest; whole = whole; rest_is = refl; short = short; clean = (reading r given none s).read.clean; refused = refused_past (length (ended given)) (ended all) e h m })
 
--- the same of an answer that is a refusal
-pub refused_by : (a : Result Held Refusal) (old mid new : Option (List ℕ)) (given piece : List ℕ) (r : Reader) (e : Refusal) → Consumes old mid given → Consumes mid new piece → length piece ≤ 2 ^ 16 → ReaderAt r given → r.refusal ≡ None → IsRefused 0 (ended (given ++ piece)) e
-    → (e ≡ Memory → WantsMemory (length (ended given)) (ended (given ++ piece))) → IsErr a × IsErrAnd a (λ x. x ≡ e) → IfSome old (λ t. SourceOutcome t new a)
-refused_by (Ok held) old mid new given piece r e c d short s none h m is = absurd is.1
-refused_by (Err x) old mid new given piece r e c d short s none h m is = subst (λ a. IfSome old (λ t. SourceOutcome t new (Err a))) (sym is.1) (refused_given old mid new given piece r e c d short s none h m)
+-- what holds of a refusal holds of the answer that hands it on
+pub handed_on : {A : Type 0} (a : Result A Refusal) (e : Refusal) (P : Refusal → Type 0) → IsErr a × IsErrAnd a (λ x. x ≡ e) → P e → IfErr a P
+handed_on (Ok x) e P is p = tt
+handed_on (Err x) e P is p = subst P (sym is.1) p
 
 -- the source has no end
 pub endless_given : (old new : Option (List ℕ)) (given : List ℕ) (r : Reader) (count : ℕ) → Consumes old new given → ReaderAt r given → r.refusal ≡ None → count ≤ length given → 2 ^ 40 ≤ count → IfSome old (λ t. SourceOutcome t new (Err Endless))
@@ -142,41 +141,31 @@ copied (Some t) None given old_copy new_copy r c k h = absurd c
 copied (Some t) (Some rest) given old_copy new_copy r c k h = told_copy t (Some rest) old_copy new_copy r h (record { given = given; rest = rest; whole = c; rest_is = refl; copy = k })
 
 -- the copy lacked memory for a piece
-uncopied_given : (old mid new : Option (List ℕ)) (given piece old_copy new_copy : List ℕ) (r : Reader) → Consumes old mid given → Consumes mid new piece → 0 < length piece → new_copy ≡ old_copy ++ given → ReaderAt r given → r.refusal ≡ None
-    → IfSome old (λ t. CopyOutcome t new old_copy new_copy (Err Memory))
-uncopied_given None mid new given piece old_copy new_copy r c d l k s none = tt
-uncopied_given (Some t) None new given piece old_copy new_copy r c d l k s none = absurd c
-uncopied_given (Some t) (Some both) None given piece old_copy new_copy r c d l k s none = absurd d
-uncopied_given (Some t) (Some both) (Some rest) given piece old_copy new_copy r c d l k s none = inr (record {
-  given = given;
-  piece = piece;
-  rest = rest;
-  whole = c ∙ ap (λ l. given ++ l) d;
-  rest_is = refl;
-  some = l;
-  copy = k;
-  clean = (reading r given none s).read.clean;
-})
-
-pub uncopied : (a : Result Held Refusal) (old mid new : Option (List ℕ)) (given piece old_copy new_copy : List ℕ) (e : Refusal) (r : Reader) → Consumes old mid given → Consumes mid new piece → 0 < length piece → new_copy ≡ old_copy ++ given → ReaderAt r given → r.refusal ≡ None → e ≡ Memory → IsErr a × IsErrAnd a (λ x. x ≡ e)
-    → IfSome old (λ t. CopyOutcome t new old_copy new_copy a)
-uncopied (Ok held) old mid new given piece old_copy new_copy e r c d l k s none memory is = absurd is.1
-uncopied (Err x) old mid new given piece old_copy new_copy e r c d l k s none memory is =
-    subst (λ a. IfSome old (λ t. CopyOutcome t new old_copy new_copy (Err a))) (sym (is.1 ∙ memory)) (uncopied_given old mid new given piece old_copy new_copy r c d l k s none)
+pub uncopied : (old mid new : Option (List ℕ)) (given piece old_copy new_copy : List ℕ) (e : Refusal) (r : Reader) → Consumes old mid given → Consumes mid new piece → 0 < length piece → new_copy ≡ old_copy ++ given → ReaderAt r given → r.refusal ≡ None → e ≡ Memory
+    → IfSome old (λ t. CopyOutcome t new old_copy new_copy (Err e))
+uncopied None mid new given piece old_copy new_copy e r c d l k s none memory = tt
+uncopied (Some t) None new given piece old_copy new_copy e r c d l k s none memory = absurd c
+uncopied (Some t) (Some both) None given piece old_copy new_copy e r c d l k s none memory = absurd d
+uncopied (Some t) (Some both) (Some rest) given piece old_copy new_copy e r c d l k s none memory =
+    subst (λ x. CopyOutcome t (Some rest) old_copy new_copy (Err x)) (sym memory) (inr (record {
+      given = given;
+      piece = piece;
+      rest = rest;
+      whole = c ∙ ap (λ l. given ++ l) d;
+      rest_is = refl;
+      some = l;
+      copy = k;
+      clean = (reading r given none s).read.clean;
+    }))
 
 -- the source failed, and the copy has what it gave
-failed_given : (old mid new : Option (List ℕ)) (given old_copy new_copy : List ℕ) (r : Reader) → Consumes old mid given → Keeps mid new → new_copy ≡ old_copy ++ given → ReaderAt r given → r.refusal ≡ None
-    → IfSome old (λ t. CopyOutcome t new old_copy new_copy (Err Read))
-failed_given None mid new given old_copy new_copy r c d k s none = tt
-failed_given (Some t) None new given old_copy new_copy r c d k s none = absurd c
-failed_given (Some t) (Some rest) None given old_copy new_copy r c d k s none = absurd d
-failed_given (Some t) (Some rest) (Some left) given old_copy new_copy r c d k s none = (
-  record { given = given; rest = left; whole = c ∙ ap (λ l. given ++ l) (sym d); rest_is = refl; clean = (reading r given none s).read.clean },
-  record { given = given; rest = left; whole = c ∙ ap (λ l. given ++ l) (sym d); rest_is = refl; copy = k },
-)
-
-pub failed_copy : (a : Result Held Refusal) (old mid new : Option (List ℕ)) (given old_copy new_copy : List ℕ) (e : Refusal) (r : Reader) → Consumes old mid given → Keeps mid new → new_copy ≡ old_copy ++ given → ReaderAt r given → r.refusal ≡ None → e ≡ Read → IsErr a × IsErrAnd a (λ x. x ≡ e)
-    → IfSome old (λ t. CopyOutcome t new old_copy new_copy a)
-failed_copy (Ok held) old mid new given old_copy new_copy e r c d k s none read is = absurd is.1
-failed_copy (Err x) old mid new given old_copy new_copy e r c d k s none read is =
-    subst (λ a. IfSome old (λ t. CopyOutcome t new old_copy new_copy (Err a))) (sym (is.1 ∙ read)) (failed_given old mid new given old_copy new_copy r c d k s none)
+pub failed_copy : (old mid new : Option (List ℕ)) (given old_copy new_copy : List ℕ) (e : Refusal) (r : Reader) → Consumes old mid given → Keeps mid new → new_copy ≡ old_copy ++ given → ReaderAt r given → r.refusal ≡ None → e ≡ Read
+    → IfSome old (λ t. CopyOutcome t new old_copy new_copy (Err e))
+failed_copy None mid new given old_copy new_copy e r c d k s none read = tt
+failed_copy (Some t) None new given old_copy new_copy e r c d k s none read = absurd c
+failed_copy (Some t) (Some rest) None given old_copy new_copy e r c d k s none read = absurd d
+failed_copy (Some t) (Some rest) (Some left) given old_copy new_copy e r c d k s none read =
+    subst (λ x. CopyOutcome t (Some left) old_copy new_copy (Err x)) (sym read) (
+      record { given = given; rest = left; whole = c ∙ ap (λ l. given ++ l) (sym d); rest_is = refl; clean = (reading r given none s).read.clean },
+      record { given = given; rest = left; whole = c ∙ ap (λ l. given ++ l) (sym d); rest_is = refl; copy = k },
+    )

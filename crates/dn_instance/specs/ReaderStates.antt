@@ -1,11 +1,12 @@
 -- What the state of a reader stands for, between the bytes that it is fed.
-use Rattle.std.specs.Prelude.{◌≡◌, ℕ, ◌≤◌, List, [], ◌∷◌, ◌++◌, length, cond, Some, MatchOption, Result, Ok, Err}
+use Rattle.std.specs.Prelude.{◌≡◌, ℕ, ◌≤◌, List, [], ◌∷◌, ◌++◌, length, cond, Option, Some, None, MatchOption, Result, Ok, Err}
+use Rattle.std.specs.Io.KnownBytes.{Consumes, IsAtEnd}
 use Rattle.dn_line.specs.Pieces.{parts, lines, is_line_feed}
 use Rattle.dn_line.specs.LineStates.{LineSoFar, LineReaderAt}
 use Rattle.dn_line.specs.declared.line_reader.LineReader.{LineReader}
 use Rattle.dn_instance.specs.declared.reader.Reader.{Reader}
 use Rattle.dn_instance.specs.declared.refusal.Refusal.{Refusal}
-use Rattle.dn_instance.specs.Readers.{ended, IsRefused, IsNext, lines_taken}
+use Rattle.dn_instance.specs.Readers.{ended, IsRefused, IsNext, lines_taken, refusal_of}
 use Rattle.dn_instance.specs.TextsSoFar.{TextAt}
 
 -- the bytes of a text after its last LF
@@ -53,3 +54,11 @@ Advances r t u (Ok n) = IsReading r u
 Advances r t u (Err e) =
     (r.refusal ≡ Some e) × IsRefused (length (ended t)) (ended u) e × StopsIn r (ended u) e
     × (length (ended t) ≤ lines_taken r)
+
+-- the source has given all that it had, and the reader has taken it and has no refusal
+pub record IsFed (old new : Option (List ℕ)) (r : Reader) : Type 0 where
+  pub given : List ℕ
+  pub gave : Consumes old new given
+  pub at_end : IsAtEnd new
+  pub read : ReaderAt r given
+  pub fine : refusal_of r ≡ None

@@ -1,7 +1,8 @@
 // A whole text, from memory or from a source.
-ghost use Rattle.std.specs.Prelude.{◌≡◌, ◌<◌, ◌≤◌, [], ◌++◌, ℕ, List, length, IsTrue, IfOk, IfErr, IfSome, OnOk, OnErr, IsErrOf};
+ghost use Rattle.std.specs.Prelude.{◌≡◌, ◌<◌, ◌≤◌, [], ◌++◌, ℕ, List, length, Err, None, IsTrue, IfOk, IfErr, IfSome, OnOk, OnErr, IsErrOf};
 ghost use Rattle.std.specs.Io.KnownBytes.{Consumes, IsAtEnd, Keeps};
-ghost use Rattle.dn_instance.specs.Readers.{Outcome};
+ghost use Rattle.dn_instance.specs.Readers.{Outcome, refusal_of};
+ghost use Rattle.dn_instance.specs.ReaderStates.{IsFed, ReaderAt};
 ghost use Rattle.dn_instance.specs.SourceReads.{CopyOutcome, IsOfReading, PulledWhileClean, SourceOutcome};
 
 use crate::held::Held;
@@ -34,15 +35,10 @@ pub fn read_from<S: Source>(alloc: Global, source: &mut S) -> Result<Held, Refus
     ensures pulls { PulledWhileClean S.gives S.Pulls source.old source.new }
 {
     let mut reader = Reader::new(alloc);
-    let mut room = [0u8; 65536];
-    for _ in 0..PULLS {
-        let piece = next_piece(source, &mut room)?;
-        if piece.is_empty() {
-            return reader.finish();
-        }
-        reader.feed(piece)?;
+    match feed_all(source, &mut reader) {
+        Ok(()) => reader.finish(),
+        Err(refusal) => Err(refusal),
     }
-    Err(Refusal::Endless)
 }
 
 /// As `read_from`, and each piece is added to `text` before it is read: `text` gains all that the source gives, but for
@@ -62,11 +58,56 @@ pub fn read_keep<S: Source>(
     ensures pulls { PulledWhileClean S.gives S.Pulls source.old source.new }
 {
     let mut reader = Reader::new(alloc);
+    match keep_all(source, text, &mut reader) {
+        Ok(()) => reader.finish(),
+        Err(refusal) => Err(refusal),
+    }
+}
+
+// Feeds a reader that has no bytes yet all that a source gives.
+fn feed_all<S: Source>(source: &mut S, reader: &mut Reader) -> Result<(), Refusal>
+    requires { ReaderAt reader.old [] × (refusal_of reader.old ≡ None) }
+    ensures ok { OnOk result (IsFed (S.gives source.old) (S.gives source.new) reader.new) }
+    ensures err { IfErr result (λ e. IfSome (S.gives source.old)
+        (λ t. SourceOutcome t (S.gives source.new) (Err e))) }
+    ensures refusal { IfErr result IsOfReading }
+    ensures read { IsErrOf result Refusal.Read → IsTrue (S.has_failed source.new) }
+    ensures stays { IsTrue (S.has_failed source.old) → IsTrue (S.has_failed source.new) }
+    ensures pulls { PulledWhileClean S.gives S.Pulls source.old source.new }
+{
+    let mut room = [0u8; 65536];
+    for _ in 0..PULLS {
+        let piece = next_piece(source, &mut room)?;
+        if piece.is_empty() {
+            return Ok(());
+        }
+        reader.feed(piece)?;
+    }
+    Err(Refusal::Endless)
+}
+
+// The same, and each piece is added to `text` before the reader is fed it.
+fn keep_all<S: Source>(
+    source: &mut S,
+    text: &mut Vec<u8>,
+    reader: &mut Reader,
+) -> Result<(), Refusal>
+    requires { ReaderAt reader.old [] × (refusal_of reader.old ≡ None) }
+    ensures front { (more : List ℕ) × (text.new.items ≡ text.old.items ++ more) }
+    ensures ok { OnOk result ((fed : IsFed (S.gives source.old) (S.gives source.new) reader.new)
+        × (text.new.items ≡ text.old.items ++ fed.given)) }
+    ensures err { IfErr result (λ e. IfSome (S.gives source.old)
+        (λ t. CopyOutcome t (S.gives source.new) text.old.items text.new.items (Err e))) }
+    ensures refusal { IfErr result IsOfReading }
+    ensures read { IsErrOf result Refusal.Read → IsTrue (S.has_failed source.new) }
+    ensures stays { IsTrue (S.has_failed source.old) → IsTrue (S.has_failed source.new) }
+    ensures pulls { PulledWhileClean S.gives S.Pulls source.old source.new }
+{
     let mut room = [0u8; 65536];
     for _ in 0..PULLS {
         let bytes = next_piece(source, &mut room)?;
         if bytes.is_empty() {
-            return reader.finish();
+            return Ok(());
         }
         keep_piece(text, bytes)?;
         reader.feed(bytes)?;

@@ -1,64 +1,8 @@
-use Rattle.std.proofs.Common.{◌≡◌, ◌≤◌, [], ◌++◌, length, Err, ap, subst, length-append, arith, rules}
-use Rattle.std.proofs.KnownBytes.{Consumes-nil, Consumes-trans}
-use Rattle.dn_instance.proofs.SourceLaws.{given_at_end, ended_given, refused_by, endless_given, has_none, has_some, not_refused, pulled_so_far, pulled_on}
-use Rattle.dn_instance.specs.SourceReads.{unpulled, pulled}
+use Rattle.dn_instance.proofs.SourceLaws.{ended_given}
 use Rattle.dn_instance.proofs.read.read_from.Goals as goal
 
-pub returns-then-is_empty-clause-outcome : goal.returns-then-is_empty-clause-outcome
-returns-then-is_empty-clause-outcome g c =
-    let piece = c.in_ok-piece.piece.now in
-    let none = has_none piece _ c.is_empty.ensures c.if-is_empty.true in
-    ended_given _ _ c.loop.invariant.given.0 c.loop.reader c.finish.result (given_at_end _ _ _ c.loop.invariant.given.0 piece none c.loop.invariant.given.1 c.in_ok-piece.ensures.bytes) (c.in_ok-piece.ensures.end none) c.loop.invariant.given.2 c.loop.invariant.fine
-    (c.finish.ensures.memory c.loop.invariant.given.0 c.loop.invariant.given.2 c.loop.invariant.fine) (c.finish.ensures.outcome c.loop.invariant.given.0 c.loop.invariant.given.2)
-
-pub returns-in_err-feed-clause-outcome : goal.returns-in_err-feed-clause-outcome
-returns-in_err-feed-clause-outcome g c =
-    let t = c.loop.invariant.given.0 in
-    let piece = c.in_ok-piece.piece.now in
-    let room : length c.loop.room ≡ 65536 = search rules in
-    refused_by _ _ _ _ t piece c.loop.reader c.in_err-feed.field-0.0 c.loop.invariant.given.1 c.in_ok-piece.ensures.bytes (subst (λ n. length piece ≤ n) room c.in_ok-piece.ensures.bound) c.loop.invariant.given.2 c.loop.invariant.fine (c.in_err-feed.ensures.told t c.loop.invariant.given.2)
-    (λ memory. (c.in_err-feed.ensures.memory t c.loop.invariant.given.2 c.loop.invariant.fine (ap (λ x. Err x) memory)).0) c.from_residual-in_err-feed.ensures
-
-pub loop-preserved : goal.loop-preserved
-loop-preserved g c =
-    let t = c.loop.invariant.given.0 in
-    let piece = c.in_ok-piece.piece.now in
-    record {
-      given = (
-        t ++ piece,
-        Consumes-trans _ _ _ t piece c.loop.invariant.given.1 c.in_ok-piece.ensures.bytes,
-        c.in_ok-feed.ensures.stands t c.loop.invariant.given.2,
-        (
-            let all = length-append t piece in
-            let so_far = c.loop.invariant.given.3 in
-            let some = has_some piece _ c.is_empty.ensures c.if-is_empty.false in
-            omega arith
-            ),
-      );
-      fine = not_refused _ c.in_ok-feed.ensures.answer;
-      pulls = pulled c.loop.source c.next_piece.new.source piece c.loop.invariant.pulls c.next_piece.ensures.pulls c.in_ok-piece.ensures.bytes (has_some piece _ c.is_empty.ensures c.if-is_empty.false);
-      stays = λ failed. c.next_piece.ensures.stays (c.loop.invariant.stays failed);
-    }
-
-pub returns-clause-outcome : goal.returns-clause-outcome
-returns-clause-outcome g c =
-    endless_given _ _ c.loop.invariant.given.0 c.loop.reader c.loop.counter c.loop.invariant.given.1 c.loop.invariant.given.2 c.loop.invariant.fine c.loop.invariant.given.3 (let over = c.loop-test.false in omega arith)
-
-pub returns-in_err-piece-clause-pulls : goal.returns-in_err-piece-clause-pulls
-returns-in_err-piece-clause-pulls g c =
-    pulled_on c.loop.invariant.given.0 c.loop.reader c.loop.invariant.pulls c.loop.invariant.given.1 c.loop.invariant.given.2 c.loop.invariant.fine c.next_piece.ensures.pulls
-
-pub returns-then-is_empty-clause-pulls : goal.returns-then-is_empty-clause-pulls
-returns-then-is_empty-clause-pulls g c =
-    pulled_on c.loop.invariant.given.0 c.loop.reader c.loop.invariant.pulls c.loop.invariant.given.1 c.loop.invariant.given.2 c.loop.invariant.fine c.next_piece.ensures.pulls
-
-pub returns-in_err-feed-clause-pulls : goal.returns-in_err-feed-clause-pulls
-returns-in_err-feed-clause-pulls g c =
-    pulled_on c.loop.invariant.given.0 c.loop.reader c.loop.invariant.pulls c.loop.invariant.given.1 c.loop.invariant.given.2 c.loop.invariant.fine c.next_piece.ensures.pulls
-
-pub loop-init : goal.loop-init
-loop-init g c = record { given = ([], Consumes-nil (g.S.Source.gives c.args.source.now), c.new-reader.ensures.stands, search rules); fine = c.new-reader.ensures.fine; pulls = unpulled; stays = λ failed. failed }
-
-pub returns-clause-pulls : goal.returns-clause-pulls
-returns-clause-pulls g c =
-    pulled_so_far c.loop.invariant.given.0 c.loop.reader c.loop.invariant.pulls c.loop.invariant.given.1 c.loop.invariant.given.2 c.loop.invariant.fine
+pub returns-in-Ok-clause-outcome : goal.returns-in-Ok-clause-outcome
+returns-in-Ok-clause-outcome g c =
+    let fed = c.in-Ok.ensures.ok in
+    ended_given _ _ fed.given c.feed_all.new.reader c.finish.result fed.gave fed.at_end fed.read fed.fine
+    (c.finish.ensures.memory fed.given fed.read fed.fine) (c.finish.ensures.outcome fed.given fed.read)

@@ -3,7 +3,7 @@ use Rattle.std.specs.Io.KnownBytes.{Consumes}
 use Rattle.dn_instance.specs.Readers.{refusal_of}
 use Rattle.dn_instance.specs.ReaderStates.{ReaderAt}
 use Rattle.dn_instance.specs.SourceReads.{PulledBytes}
-use Rattle.dn_instance.proofs.read.read_keep.Given as goal
+use Rattle.dn_instance.proofs.read.keep_all.Given as goal
 
 abbrev pub invariant-loop : goal.invariant-loop
 invariant-loop g l =
