@@ -7,7 +7,7 @@ use dn_bundle::Form;
 
 /// What the words after the program's name ask for. A text is named by its file's name, or by `-`, which is standard
 /// input.
-#[derive(Clone, Copy, Debug, PartialEq, Eq)]
+#[derive(Clone, Copy)]
 pub enum Command<'a> {
     /// `show FILE`: what a text holds.
     Show {

@@ -1,6 +1,6 @@
 // The options that `clap` reads lines of words by.
-ghost use Rattle.std.specs.Prelude.{◌≡◌, false, IfOk, map, string_bytes};
-ghost use Rattle.clap.specs.Words.{app_of, rule_of};
+ghost use Rattle.std.specs.Prelude.{◌≡◌, false, IfOk, IsOkAnd, map, string_bytes};
+ghost use Rattle.clap.specs.Words.{app_of, new_app, rule_of, with_rule, with_subcommand};
 ghost use Rattle.clap.specs.declared.builder.command.Command.TheViews.{out-Command as fields_of};
 ghost use Rattle.dn_command.specs.Options.{IsParseOf, bare_app, canon_app, check_app, compare_app, dnorm_app};
 ghost use Rattle.dn_command.specs.Options.{form_option, form_words, show_app, text_rule, with_option};
@@ -32,11 +32,22 @@ fn parse_with<'a>(
 fn dnorm_command<'a>(alloc: Global, forms: &'a [&'a str]) -> Result<Command<'a>, AllocError>
     ensures app { IfOk result (λ c. app_of c ≡ dnorm_app forms.entry) }
 {
-    bare_command(alloc)
-        .subcommand(show_command(alloc)?)?
-        .subcommand(check_command(alloc)?)?
-        .subcommand(canon_command(alloc, forms)?)?
-        .subcommand(compare_command(alloc)?)
+    let program = add_command(bare_command(alloc), show_command(alloc))?;
+    let program = add_command(program, check_command(alloc))?;
+    let program = add_command(program, canon_command(alloc, forms))?;
+    add_command(program, compare_command(alloc))
+}
+
+// A program with one command more, where memory was enough for the command.
+fn add_command<'a>(
+    program: Command<'a>,
+    command: Result<Command<'a>, AllocError>,
+) -> Result<Command<'a>, AllocError>
+    requires local { IfOk command (λ c. (fields_of c).has_globals ≡ false) }
+    ensures app { IfOk result (λ r. IsOkAnd command.entry (λ c.
+        app_of r ≡ with_subcommand (app_of program.entry) (app_of c).top)) }
+{
+    program.subcommand(command?)
 }
 
 // The program without its commands.
@@ -57,9 +68,7 @@ fn show_command<'a>(alloc: Global) -> Result<Command<'a>, AllocError>
     ensures app { IfOk result (λ c. app_of c ≡ show_app) }
     ensures local { IfOk result (λ c. (fields_of c).has_globals ≡ false) }
 {
-    Command::new(alloc, "show")
-        .about(help::SHOW)
-        .arg(text(alloc, "FILE", help::TEXT))
+    text_command(alloc, "show", help::SHOW, "FILE")
 }
 
 // `check FILE [--with FILE]`.
@@ -67,10 +76,7 @@ fn check_command<'a>(alloc: Global) -> Result<Command<'a>, AllocError>
     ensures app { IfOk result (λ c. app_of c ≡ check_app) }
     ensures local { IfOk result (λ c. (fields_of c).has_globals ≡ false) }
 {
-    Command::new(alloc, "check")
-        .about(help::CHECK)
-        .arg(text(alloc, "FILE", help::TEXT))?
-        .arg(with_option(alloc))
+    text_command(alloc, "check", help::CHECK, "FILE")?.arg(with_option(alloc))
 }
 
 // `canon [--form FORM] FILE`.
@@ -78,10 +84,7 @@ fn canon_command<'a>(alloc: Global, forms: &'a [&'a str]) -> Result<Command<'a>,
     ensures app { IfOk result (λ c. app_of c ≡ canon_app forms.entry) }
     ensures local { IfOk result (λ c. (fields_of c).has_globals ≡ false) }
 {
-    Command::new(alloc, "canon")
-        .about(help::CANON)
-        .arg(text(alloc, "FILE", help::TEXT))?
-        .arg(form_option(alloc, forms))
+    text_command(alloc, "canon", help::CANON, "FILE")?.arg(form_option(alloc, forms))
 }
 
 // `compare LEFT RIGHT`.
@@ -89,10 +92,23 @@ fn compare_command<'a>(alloc: Global) -> Result<Command<'a>, AllocError>
     ensures app { IfOk result (λ c. app_of c ≡ compare_app) }
     ensures local { IfOk result (λ c. (fields_of c).has_globals ≡ false) }
 {
-    Command::new(alloc, "compare")
-        .about(help::COMPARE)
-        .arg(text(alloc, "LEFT", help::TEXT))?
-        .arg(text(alloc, "RIGHT", help::TEXT))
+    text_command(alloc, "compare", help::COMPARE, "LEFT")?.arg(text(alloc, "RIGHT", help::TEXT))
+}
+
+// A command of this name, with a word that names a text.
+fn text_command<'a>(
+    alloc: Global,
+    name: &'a str,
+    about: &'a str,
+    text_name: &'a str,
+) -> Result<Command<'a>, AllocError>
+    ensures app { IfOk result (λ c.
+        app_of c ≡ with_rule (new_app name.entry.now) (text_rule text_name.entry.now)) }
+    ensures local { IfOk result (λ c. (fields_of c).has_globals ≡ false) }
+{
+    Command::new(alloc, name)
+        .about(about)
+        .arg(text(alloc, text_name, help::TEXT))
 }
 
 // `--with FILE`.

@@ -15,7 +15,7 @@ use dn_bundle::Form;
 use std::alloc::{AllocError, Global};
 
 /// What is to be done for a line of words.
-#[derive(Debug, Drop)]
+#[derive(Drop)]
 pub enum Request<'a> {
     /// This command.
     Command(Command<'a>),
