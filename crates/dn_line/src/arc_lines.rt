@@ -8,7 +8,7 @@ use crate::piece::after;
 use dn_num::number_front;
 
 /// The line of an arc at the front of longer bytes.
-#[derive(Clone, Copy, Debug)]
+#[derive(Clone, Copy)]
 pub struct ArcLine {
     /// The arc.
     pub arc: Line,
