@@ -1,0 +1,23 @@
+use Rattle.std.proofs.Common.{◌++◌, ◌∷◌, [], ℤ, take, sym, ap, ◌∙◌, subst}
+use Rattle.std.specs.Map.{keys_of}
+use Rattle.std.proofs.lemmas.List.{take_all}
+use Rattle.pair_index.specs.Chained.{IsChained}
+use Rattle.pair_index.proofs.IndexLaws.{keys_take_more}
+use Rattle.pair_index.proofs.chains.Chains.spread_by.Goals as goal
+
+pub loop-entry-init : goal.loop-entry-init
+loop-entry-init g c = c.in_ok-chains.ensures.linked
+
+pub loop-entry-preserved : goal.loop-entry-preserved
+loop-entry-preserved g c =
+    let es = c.args.entries.now in
+    let i = c.loop-entry.entry-index in
+    let key = ap (λ (k : ℤ × ℤ). keys_of (take i es) ++ k ∷ []) (ap (λ e. e.0) c.entry-item.is) in
+    subst (IsChained c.link.new.self) (key ∙ sym (keys_take_more es i c.entry-item.result c.loop-entry-test.true))
+    (c.link.ensures (keys_of (take i es)) c.loop-entry.invariant)
+
+pub returns : goal.returns
+returns g c =
+    let es = c.args.entries.now in
+    c.link-2.ensures (keys_of es)
+    (subst (λ some. IsChained c.loop-entry.chains (keys_of some)) (take_all c.loop-entry.entry-index es c.loop-entry-test.false) c.loop-entry.invariant)
