@@ -11,6 +11,8 @@ pub struct Retried<S> {
 }
 
 impl<S: Read> Read for Retried<S> {
+    ghost remaining = { λ s. S.remaining s.stream };
+
     fn read(&mut self, into: &mut [u8]) -> io::Result<usize> {
         for _ in 0..u64::MAX {
             match self.stream.read(into) {
@@ -23,6 +25,8 @@ impl<S: Read> Read for Retried<S> {
 }
 
 impl<S: Write> Write for Retried<S> {
+    ghost contents = { λ s. S.contents s.stream };
+
     fn write(&mut self, bytes: &[u8]) -> io::Result<usize> {
         for _ in 0..u64::MAX {
             match self.stream.write(bytes) {
