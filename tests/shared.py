@@ -52,7 +52,7 @@ def program():
     """The program that is tested: the first argument, else the one that stands built in the repository."""
     path = os.path.abspath(sys.argv[1]) if sys.argv[1:] else f"{ROOT}/crates/dnorm/out/dnorm"
     if not os.access(path, os.X_OK):
-        sys.exit(f"{path} is no program: tools/build dnorm builds it")
+        sys.exit(f"{path} is no program: tools/build builds it")
     return path
 
 
