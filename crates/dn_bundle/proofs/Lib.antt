@@ -1,4 +1,3 @@
-pub mod ExampleLaws
 pub mod LeastLaws
 pub mod StepLaws
 pub mod Cost128Laws
@@ -11,4 +10,3 @@ pub mod LenLaws
 pub mod GapLaws
 pub mod PartLaws
 pub mod BundleLaws
-pub mod SomeDifference

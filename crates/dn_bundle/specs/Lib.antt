@@ -7,7 +7,6 @@ pub mod Differences
 pub mod Entries
 pub mod Kinds
 pub mod Fillings
-pub mod Examples
 pub mod Bundles
 pub mod Steps
 pub mod Means

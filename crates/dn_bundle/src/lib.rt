@@ -13,8 +13,6 @@ pub mod bundle;
 mod cost128;
 pub mod curve;
 pub mod difference;
-pub mod examples;
-pub mod laws;
 pub mod least;
 mod steps;
 pub mod total;

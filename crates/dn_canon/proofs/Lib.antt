@@ -1,4 +1,3 @@
-pub mod ExampleLaws
 pub mod RowLaws
 pub mod ItemLaws
 pub mod PartLaws
@@ -13,8 +12,5 @@ pub mod PutLaws
 pub mod LineLaws
 pub mod ToldLaws
 pub mod HeldLaws
-pub mod ChunkLaws
-pub mod RangeLaws
-pub mod RangeTexts
 pub mod RunLaws
 pub mod JudgeLaws

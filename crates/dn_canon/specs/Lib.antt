@@ -3,7 +3,6 @@ pub mod Prints
 pub mod CanonTexts
 pub mod CanonReadings
 pub mod PartCanons
-pub mod Examples
 pub mod Lines
 pub mod ToldArcs
 pub mod Writes

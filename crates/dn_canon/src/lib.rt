@@ -8,8 +8,6 @@
 
 mod back_line;
 pub mod canon;
-pub mod examples;
-pub mod laws;
 mod print;
 mod writer;
 

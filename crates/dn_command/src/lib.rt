@@ -7,9 +7,7 @@
 #![tactic(auto)]
 
 pub mod command;
-pub mod examples;
 mod help;
-pub mod laws;
 mod options;
 pub mod request;
 

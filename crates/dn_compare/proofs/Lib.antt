@@ -6,5 +6,3 @@ pub mod WalkLaws
 pub mod PairWalks
 pub mod MapWalks
 pub mod HeldVerdicts
-pub mod SomeVerdict
-pub mod ExampleLaws

@@ -3,4 +3,3 @@ pub mod FirstDifference
 pub mod Turned
 pub mod Walks
 pub mod Partings
-pub mod Examples

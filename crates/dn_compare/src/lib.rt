@@ -7,8 +7,6 @@
 #![tactic(auto)]
 
 mod difference;
-pub mod examples;
-pub mod laws;
 mod parting;
 pub mod verdict;
 mod walk;

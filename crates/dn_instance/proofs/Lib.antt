@@ -1,7 +1,6 @@
 pub mod PairLaws
 pub mod FirstFaults
 pub mod SameLaws
-pub mod PartLaws
 pub mod CleanItems
 pub mod MapLaws
 pub mod SumLaws

@@ -1,4 +1,3 @@
-pub mod ExampleLaws
 pub mod LineLaws
 pub mod MeantRows
 pub mod ShowLaws

@@ -7,7 +7,6 @@
 #![tactic(auto)]
 
 pub mod check;
-pub mod examples;
 mod lines;
 mod pair_line;
 pub mod show;

@@ -4,7 +4,6 @@
 //! `line_buffer` has the line as it is built; `examples` says what the definitions mean.
 #![tactic(auto)]
 
-pub mod examples;
 pub mod line_buffer;
 
 pub use line_buffer::LineBuffer;

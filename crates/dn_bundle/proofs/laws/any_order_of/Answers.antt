@@ -1,5 +1,0 @@
-use Rattle.dn_bundle.specs.Laws.Orders.{any_order}
-use Rattle.dn_bundle.proofs.laws.any_order_of.Goals as goal
-
-pub returns : goal.returns
-returns g c = any_order g.B.Bundle.kind.Same g.met.B.Bundle.laws.meaning

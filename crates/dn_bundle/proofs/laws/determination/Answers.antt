@@ -1,5 +1,0 @@
-use Rattle.dn_bundle.specs.Laws.FormTwo.{determination_of_forms}
-use Rattle.dn_bundle.proofs.laws.determination.Goals as goal
-
-pub returns : goal.returns
-returns c = determination_of_forms c.args.form

@@ -1,5 +1,0 @@
-use Rattle.dn_bundle.specs.Laws.Lengths.{lengths_determined}
-use Rattle.dn_bundle.proofs.laws.determination_of_sums.Goals as goal
-
-pub returns-clause-lengths : goal.returns-clause-lengths
-returns-clause-lengths c = lengths_determined

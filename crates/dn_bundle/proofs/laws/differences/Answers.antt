@@ -1,5 +1,0 @@
-use Rattle.dn_bundle.specs.Laws.Lengths.{lengths_differ}
-use Rattle.dn_bundle.proofs.laws.differences.Goals as goal
-
-pub returns-clause-lengths : goal.returns-clause-lengths
-returns-clause-lengths c = lengths_differ

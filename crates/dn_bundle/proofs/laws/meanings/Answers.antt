@@ -1,9 +1,0 @@
-use Rattle.dn_bundle.specs.Laws.Lengths.{length_meaning}
-use Rattle.dn_bundle.specs.Laws.Curves.{curve_meaning}
-use Rattle.dn_bundle.proofs.laws.meanings.Goals as goal
-
-pub returns-clause-lengths : goal.returns-clause-lengths
-returns-clause-lengths c = length_meaning
-
-pub returns-clause-costs : goal.returns-clause-costs
-returns-clause-costs c = curve_meaning

@@ -1,5 +1,0 @@
-use Rattle.dn_bundle.specs.Laws.Differences.{no_arcs_cost}
-use Rattle.dn_bundle.proofs.laws.no_arcs.Goals as goal
-
-pub returns-clause-nothing : goal.returns-clause-nothing
-returns-clause-nothing c = no_arcs_cost

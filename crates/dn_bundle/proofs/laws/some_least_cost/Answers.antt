@@ -1,5 +1,0 @@
-use Rattle.dn_bundle.specs.Laws.Splits.{some_least}
-use Rattle.dn_bundle.proofs.laws.some_least_cost.Goals as goal
-
-pub returns : goal.returns
-returns c = some_least

@@ -1,5 +1,0 @@
-use Rattle.dn_canon.proofs.TextLaws.{forms_cross}
-use Rattle.dn_canon.proofs.laws.crossed.Goals as goal
-
-pub returns : goal.returns
-returns c = forms_cross c.args.from c.args.to

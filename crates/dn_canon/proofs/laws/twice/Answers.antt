@@ -1,5 +1,0 @@
-use Rattle.dn_canon.proofs.TextLaws.{reads_twice}
-use Rattle.dn_canon.proofs.laws.twice.Goals as goal
-
-pub returns : goal.returns
-returns c = reads_twice c.args.form

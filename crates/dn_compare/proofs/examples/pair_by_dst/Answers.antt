@@ -1,5 +1,0 @@
-use Rattle.dn_compare.proofs.ExampleLaws.{pair_by_dst}
-use Rattle.dn_compare.proofs.examples.pair_by_dst.Goals as goal
-
-pub returns : goal.returns
-returns c = pair_by_dst

@@ -1,5 +1,0 @@
-use Rattle.dn_compare.proofs.VerdictLaws.{first_by_meaning}
-use Rattle.dn_compare.proofs.laws.by_meaning.Goals as goal
-
-pub returns : goal.returns
-returns c = first_by_meaning

@@ -1,5 +1,0 @@
-use Rattle.dn_compare.proofs.VerdictLaws.{one_first}
-use Rattle.dn_compare.proofs.laws.one_verdict.Goals as goal
-
-pub returns : goal.returns
-returns c = one_first

@@ -1,5 +1,0 @@
-use Rattle.dn_compare.proofs.VerdictLaws.{first_turned}
-use Rattle.dn_compare.proofs.laws.turned_sides.Goals as goal
-
-pub returns : goal.returns
-returns c = first_turned

@@ -1,6 +1,0 @@
-use Rattle.std.proofs.Common.{refl}
-use Rattle.dn_instance.proofs.FirstFaults.{clean_is}
-use Rattle.dn_instance.proofs.examples.read_min.Goals as goal
-
-pub returns : goal.returns
-returns c = record { clean = clean_is _ refl; whole = refl; instance_is = refl }

@@ -1,0 +1,2 @@
+pub mod SomeDifference
+pub mod ExampleLaws

@@ -1,0 +1,5 @@
+use Rattle.dn_bundle.specs.Laws.Lengths.{lengths_differ}
+use Rattle.dn_laws.proofs.bundles.laws.differences.Goals as goal
+
+pub returns-clause-lengths : goal.returns-clause-lengths
+returns-clause-lengths c = lengths_differ

@@ -1,0 +1,5 @@
+use Rattle.dn_bundle.specs.Laws.Differences.{no_arcs_cost}
+use Rattle.dn_laws.proofs.bundles.laws.no_arcs.Goals as goal
+
+pub returns-clause-nothing : goal.returns-clause-nothing
+returns-clause-nothing c = no_arcs_cost

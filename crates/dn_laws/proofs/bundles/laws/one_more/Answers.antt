@@ -1,0 +1,15 @@
+use Rattle.dn_bundle.specs.Meanings.{SameLength, SameTotal, SameCurve}
+use Rattle.dn_bundle.specs.Laws.Orders.{same_push}
+use Rattle.dn_bundle.specs.Laws.Lengths.{length_meaning}
+use Rattle.dn_bundle.specs.Laws.Totals.{total_meaning}
+use Rattle.dn_bundle.specs.Laws.Curves.{curve_meaning}
+use Rattle.dn_laws.proofs.bundles.laws.one_more.Goals as goal
+
+pub returns-clause-lengths : goal.returns-clause-lengths
+returns-clause-lengths c = λ xs ys a s. same_push SameLength length_meaning xs ys a s
+
+pub returns-clause-capacities : goal.returns-clause-capacities
+returns-clause-capacities c = λ xs ys a s. same_push SameTotal total_meaning xs ys a s
+
+pub returns-clause-costs : goal.returns-clause-costs
+returns-clause-costs c = λ xs ys a s. same_push SameCurve curve_meaning xs ys a s

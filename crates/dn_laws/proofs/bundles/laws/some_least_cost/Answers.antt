@@ -1,0 +1,5 @@
+use Rattle.dn_bundle.specs.Laws.Splits.{some_least}
+use Rattle.dn_laws.proofs.bundles.laws.some_least_cost.Goals as goal
+
+pub returns : goal.returns
+returns c = some_least

@@ -1,0 +1,4 @@
+pub mod RangeTexts
+pub mod ChunkLaws
+pub mod RangeLaws
+pub mod ExampleLaws

@@ -1,0 +1,103 @@
+-- The worked `min` problem on one pair: valid, canonical, and the same as its canonical arcs.
+use Rattle.std.proofs.Common.{◌≡◌, ℤ, pos, ◌≤ℤ◌, ◌-◌, ◌^◌, List, [], Bool, true, false, cond, refl, sym, ap, ◌∙◌, subst, arith, append-nil}
+use Rattle.std.proofs.lemmas.Int.{ints}
+use Rattle.std.specs.List.{AllByRecursion}
+use Rattle.dn_bundle.specs.declared.arc.CostArc.{CostArc}
+use Rattle.dn_bundle.specs.declared.arc.Form.{Form}
+use Rattle.dn_bundle.specs.Canonical.{IsCostArc, AreCanonCosts}
+use Rattle.dn_bundle.specs.Meanings.{SameCurve}
+use Rattle.dn_bundle.specs.Kinds.{costs}
+use Rattle.dn_bundle.specs.Splits.{cost_cap}
+use Rattle.dn_laws.specs.BundleExamples.{arc, worked_one, worked_two}
+use Rattle.dn_bundle.specs.Laws.CostKind.{cost_kind}
+use Rattle.dn_bundle.specs.Laws.Curves.{curve_meaning}
+use Rattle.pair_index.specs.Pairs.{same_pair}
+use Rattle.dn_table.specs.Pairs.{bundle}
+use Rattle.dn_instance.specs.Validity.{Fits, IsPlaced, IsValid}
+use Rattle.dn_instance.specs.Sameness.{SameGraph}
+use Rattle.dn_instance.proofs.MapLaws.{no_keys}
+use Rattle.dn_canon.specs.CanonInstances.{AreInOrder, IsCanonInstance}
+use Rattle.dn_laws.specs.TextExamples.{on_one_pair}
+use Rattle.dn_canon.specs.ToldArcs.{placed}
+use Rattle.dn_canon.proofs.ToldLaws.{bundle_placed, order_placed}
+
+-- the one pair
+abbrev here : ℤ × ℤ
+here = (pos 1, pos 2)
+
+-- the arcs of a pair, where all are those of the one pair
+bundle_at : (p : ℤ × ℤ) (arcs : List CostArc) → bundle p (placed here arcs) ≡ cond (same_pair p here) arcs []
+bundle_at p arcs = ap (bundle p) (sym (append-nil (placed here arcs))) ∙ bundle_placed p here arcs [] ∙ ap (λ l. cond (same_pair p here) l []) (append-nil arcs)
+
+-- what holds of the arcs and of none holds of the bundle at each pair
+at_each : (P : List CostArc → Type 0) (arcs : List CostArc) → P arcs → P [] → (p : ℤ × ℤ) → P (bundle p (placed here arcs))
+at_each P arcs all none p = subst P (sym (bundle_at p arcs)) (by_test (same_pair p here))
+  where
+    by_test : (t : Bool) → P (cond t arcs [])
+    by_test true = all
+    by_test false = none
+
+in_order : (arcs : List CostArc) → AreInOrder (placed here arcs)
+in_order arcs = subst AreInOrder (append-nil (placed here arcs)) (order_placed here arcs [] tt tt).1
+
+-- the arcs are between nodes, and their CAPs sum within the range
+pub valid_at : (arcs : List CostArc) → AllByRecursion (IsPlaced costs (pos 2)) (placed here arcs) → cost_cap arcs ≤ℤ pos (2 ^ 63 - 1) → IsValid (on_one_pair arcs)
+valid_at arcs each sum = (
+  record {
+    some_nodes = omega (arith, ints);
+    nodes_fit = refl;
+    placed = each;
+    capacities = at_each (λ l. cost_cap l ≤ℤ pos (2 ^ 63 - 1)) arcs sum (omega (arith, ints));
+  },
+  record { map = no_keys; each = tt },
+)
+
+pub placed_arc : (a : CostArc) → IsCostArc a → Fits a.low → Fits a.cap → Fits a.cost → IsPlaced costs (pos 2) (here, a)
+placed_arc a is low cap cost = record {
+  tail = record { some = omega (arith, ints); most = omega (arith, ints) };
+  head = record { some = omega (arith, ints); most = omega (arith, ints) };
+  is_arc = is;
+  numbers = (low, (cap, (cost, tt)));
+}
+
+pub canonical_at : (form : Form) (arcs : List CostArc) → AreCanonCosts form arcs → IsCanonInstance form (on_one_pair arcs)
+canonical_at form arcs c = record { in_order = in_order arcs; canonical = at_each (AreCanonCosts form) arcs c (cost_kind.none_canon form) }
+
+-- what is canonical on one pair is so of its arcs
+pub canonical_here : (form : Form) (arcs : List CostArc) → IsCanonInstance form (on_one_pair arcs) → AreCanonCosts form arcs
+canonical_here form arcs c = subst (AreCanonCosts form) (bundle_at here arcs) (c.canonical here)
+
+pub same_at : (xs ys : List CostArc) → SameCurve xs ys → SameGraph costs (record { nodes = pos 2; arcs = placed here xs }) (record { nodes = pos 2; arcs = placed here ys })
+same_at xs ys s = record { nodes = refl; bundles = λ p. subst (λ l. SameCurve l (bundle p (placed here ys))) (sym (bundle_at p xs)) (subst (λ l. SameCurve (cond (same_pair p here) xs []) l) (sym (bundle_at p ys)) (by_test (same_pair p here))) }
+  where
+    by_test : (t : Bool) → SameCurve (cond t xs []) (cond t ys [])
+    by_test true = s
+    by_test false = curve_meaning.same_refl []
+
+one_placed : (l u k : ℤ) → pos 0 ≤ℤ l → l ≤ℤ u → Fits l → Fits u → Fits k → IsPlaced costs (pos 2) (here, arc l u k)
+one_placed l u k h g a b c = placed_arc (arc l u k) (record { some = h; room = g }) a b c
+
+pub worked_one_valid : IsValid (on_one_pair worked_one)
+worked_one_valid =
+    valid_at worked_one (
+      one_placed _ _ _ (omega (arith, ints)) (omega (arith, ints)) refl refl refl,
+      (
+        one_placed _ _ _ (omega (arith, ints)) (omega (arith, ints)) refl refl refl,
+        (
+          one_placed _ _ _ (omega (arith, ints)) (omega (arith, ints)) refl refl refl,
+          (one_placed _ _ _ (omega (arith, ints)) (omega (arith, ints)) refl refl refl, (one_placed _ _ _ (omega (arith, ints)) (omega (arith, ints)) refl refl refl, tt)),
+        ),
+      ),
+    )
+    (omega (arith, ints))
+
+pub worked_two_valid : IsValid (on_one_pair worked_two)
+worked_two_valid =
+    valid_at worked_two (
+      one_placed _ _ _ (omega (arith, ints)) (omega (arith, ints)) refl refl refl,
+      (
+        one_placed _ _ _ (omega (arith, ints)) (omega (arith, ints)) refl refl refl,
+        (one_placed _ _ _ (omega (arith, ints)) (omega (arith, ints)) refl refl refl, (one_placed _ _ _ (omega (arith, ints)) (omega (arith, ints)) refl refl refl, tt)),
+      ),
+    )
+    (omega (arith, ints))

@@ -1,0 +1,192 @@
+-- The canonical arcs of ranges of SRC, one range after another, are those of the whole.
+use Rattle.std.proofs.Common.{◌≡◌, ◌↔◌, ◌-◌, ◌^◌, ℤ, pos, ◌≤ℤ◌, ◌<ℤ◌, List, [], ◌∷◌, ◌++◌, cond, int_lt, map, refl, sym, ap, ◌∙◌, subst, arith, append-nil, IsTrue}
+use Rattle.std.proofs.lemmas.Int.{ints}
+use Rattle.std.specs.List.{AllByRecursion, flat_map}
+use Rattle.std.specs.Ordering.{int_cmp, is_eq, is_le, ordering_then}
+use Rattle.std.specs.declared.cmp.Ordering.TheVariants.{Less, Equal, Greater}
+use Rattle.dn_bundle.specs.declared.arc.Form.{Form}
+use Rattle.dn_bundle.specs.Bundles.{IsKind}
+use Rattle.dn_bundle.specs.Kinds.{ArcKind}
+use Rattle.dn_bundle.specs.Laws.Orders.{same_joined}
+use Rattle.dn_bundle.specs.Laws.Parts.{test_yes}
+use Rattle.pair_index.specs.Pairs.{pair_cmp}
+use Rattle.dn_table.specs.Pairs.{pair_le, bundle}
+use Rattle.dn_instance.specs.Instances.{Graph, Instance}
+use Rattle.dn_instance.specs.Parts.{AreParts, SameHead, arc_lines}
+use Rattle.dn_instance.specs.Sameness.{IsSame}
+use Rattle.dn_instance.specs.Validity.{Fits, IsValid}
+use Rattle.dn_instance.proofs.MapLaws.{all_mono}
+use Rattle.dn_laws.proofs.instances.PartLaws.{all_arcs, graphs_of, arcs_are, all_lines, own_head, head_then}
+use Rattle.dn_instance.proofs.SameLaws.{SameAt, placed_meaning, sym_of, trans_of}
+use Rattle.dn_canon.specs.CanonInstances.{AreInOrder, IsCanonInstanceOf}
+use Rattle.dn_canon.specs.PartCanons.{AreCanonsOf, AreBelow, AreRanges, HasCanonParts}
+use Rattle.dn_canon.proofs.ArcItems.{bundle_append}
+use Rattle.dn_laws.proofs.texts.ChunkLaws.{IsCanonMaking, by_kind, canons_valid, placed_all, whole_of, whole_same}
+use Rattle.dn_canon.proofs.PartLaws.{all_append}
+use Rattle.dn_canon.proofs.TextLaws.{canon_one}
+use Rattle.dn_canon.proofs.ToldLaws.{all_from, at_some}
+
+-- a pair of a lower SRC comes first
+below_less : (p q : ℤ × ℤ) → p.0 <ℤ q.0 → pair_cmp p q ≡ Less
+below_less p q h = ap (λ t. ordering_then (cond t Less (cond (int_lt q.0 p.0) Greater Equal)) (int_cmp p.1 q.1)) (test_yes p.0 q.0 h)
+
+-- what holds holds of each element
+each_of : {X : Type 0} (P : Type 0) → P → (xs : List X) → AllByRecursion (λ (x : X). P) xs
+each_of P h [] = tt
+each_of P h (x ∷ xs) = (h, each_of P h xs)
+
+-- what holds of what each element becomes, as a fact of the element
+all_unmap : {X Y : Type 0} (P : Y → Type 0) (f : X → Y) (xs : List X) → AllByRecursion P (map f xs) → AllByRecursion (λ x. P (f x)) xs
+all_unmap P f [] h = tt
+all_unmap P f (x ∷ xs) h = (h.0, all_unmap P f xs h.1)
+
+module _ {Arc : Type 0} where
+  -- each SRC of these arcs is below each SRC of those
+  abbrev pub IsBelow : List ((ℤ × ℤ) × Arc) → List ((ℤ × ℤ) × Arc) → Type 0
+  IsBelow xs ys = AllByRecursion (λ a. AllByRecursion (λ b. a.0.0 <ℤ b.0.0) ys) xs
+
+  -- a pair whose SRC is below that of each arc has none
+  none_below : (p : ℤ × ℤ) (ys : List ((ℤ × ℤ) × Arc)) → AllByRecursion (λ b. p.0 <ℤ b.0.0) ys → bundle p ys ≡ []
+  none_below p [] h = refl
+  none_below p (b ∷ ys) h = ap (λ o. cond (is_eq o) (b.1 ∷ bundle p ys) (bundle p ys)) (below_less p b.0 h.0) ∙ none_below p ys h.1
+
+  -- each pair has arcs in one of the two alone
+  in_one : (Q : List Arc → Type 0) (p : ℤ × ℤ) (xs ys : List ((ℤ × ℤ) × Arc)) → IsBelow xs ys → Q (bundle p xs) → Q (bundle p ys) → Q (bundle p (xs ++ ys))
+  in_one Q p xs ys below low high = subst Q (sym (bundle_append p xs ys)) (by_low (bundle p xs) refl low)
+    where
+      by_low : (us : List Arc) → bundle p xs ≡ us → Q us → Q (us ++ bundle p ys)
+      by_low [] e h = high
+      by_low (u ∷ us) e h =
+          let above = at_some (λ a. AllByRecursion (λ b. a.0.0 <ℤ b.0.0) ys) (λ q. AllByRecursion (λ b. q.0 <ℤ b.0.0) ys) (λ a g. g) xs p u us below e in
+          subst (λ l. Q ((u ∷ us) ++ l)) (sym (none_below p ys above)) (subst Q (sym (append-nil (u ∷ us))) h)
+
+  -- two lists in order, one below the other
+  order_joined : (xs ys : List ((ℤ × ℤ) × Arc)) → IsBelow xs ys → AreInOrder xs → AreInOrder ys → AreInOrder (xs ++ ys)
+  order_joined [] ys below r s = s
+  order_joined (a ∷ xs) ys below r s = (
+    all_append (λ b. IsTrue (pair_le a.0 b.0)) xs ys r.0 (all_mono (λ b. a.0.0 <ℤ b.0.0) (λ b. IsTrue (pair_le a.0 b.0)) (λ b h. ap is_le (below_less a.0 b.0 h)) ys below.0),
+    order_joined xs ys below.1 r.1 s,
+  )
+
+module _ {Arc : Type 0} (kind : ArcKind Arc) (laws : IsKind kind) (form : Form) where
+  -- canonical arcs that mean what these do
+  pub record AreCanonArcs (xs cs : List ((ℤ × ℤ) × Arc)) : Type 0 where
+    pub in_order : AreInOrder cs
+    pub canonical : (p : ℤ × ℤ) → kind.IsCanon form (bundle p cs)
+    pub bounded : (p : ℤ × ℤ) → kind.capacity (bundle p cs) ≤ℤ pos (2 ^ 63 - 1)
+    pub same : SameAt kind laws.meaning xs cs
+
+  none_canon : AreCanonArcs [] []
+  none_canon = record {
+    in_order = tt;
+    canonical = λ p. laws.none_canon form;
+    bounded = λ p. (let e = laws.capacity_append [] [] in omega (arith, ints));
+    same = record { at = λ p. laws.meaning.same_refl [] };
+  }
+
+  -- canonical arcs have no other SRC
+  same_tails : (F : ℤ → Type 0) (xs cs : List ((ℤ × ℤ) × Arc)) → AreCanonArcs xs cs → AllByRecursion (λ a. F a.0.0) xs → AllByRecursion (λ a. F a.0.0) cs
+  same_tails F xs cs c h = all_from (λ a. F a.0.0) cs (λ q. by_bundle q (bundle q xs) refl)
+    where
+      by_bundle : (q : ℤ × ℤ) (us : List Arc) → bundle q xs ≡ us → AllByRecursion (λ x. F q.0) (bundle q cs)
+      by_bundle q [] e =
+          let told = laws.meaning.same_sym [] (bundle q cs) (subst (λ l. kind.Same l (bundle q cs)) e (c.same.at q)) in
+          subst (AllByRecursion (λ x. F q.0)) (sym (laws.nothing_told form (bundle q cs) (c.canonical q) told)) tt
+      by_bundle q (u ∷ us) e = each_of (F q.0) (at_some (λ a. F a.0.0) (λ p. F p.0) (λ a g. g) xs q u us h e) (bundle q cs)
+
+  -- so they are below others where the arcs are
+  below_canon : (xs cs ys ds : List ((ℤ × ℤ) × Arc)) → AreCanonArcs xs cs → AreCanonArcs ys ds → IsBelow xs ys → IsBelow cs ds
+  below_canon xs cs ys ds c d h =
+      same_tails (λ t. AllByRecursion (λ b. t <ℤ b.0.0) ds) xs cs c
+      (all_mono (λ a. AllByRecursion (λ b. a.0.0 <ℤ b.0.0) ys) (λ a. AllByRecursion (λ b. a.0.0 <ℤ b.0.0) ds) (λ a g. same_tails (λ u. a.0.0 <ℤ u) ys ds d g) xs h)
+
+  -- two ranges
+  joined_canon : (xs cs ys ds : List ((ℤ × ℤ) × Arc)) → AreCanonArcs xs cs → AreCanonArcs ys ds → IsBelow xs ys → AreCanonArcs (xs ++ ys) (cs ++ ds)
+  joined_canon xs cs ys ds c d h =
+      let below = below_canon xs cs ys ds c d h in
+      record {
+        in_order = order_joined cs ds below c.in_order d.in_order;
+        canonical = λ p. in_one (kind.IsCanon form) p cs ds below (c.canonical p) (d.canonical p);
+        bounded = λ p. in_one (λ l. kind.capacity l ≤ℤ pos (2 ^ 63 - 1)) p cs ds below (c.bounded p) (d.bounded p);
+        same = same_joined (SameAt kind laws.meaning) (placed_meaning kind laws.meaning) xs cs ys ds c.same d.same;
+      }
+
+module _ {Arc : Type 0} (kind : ArcKind Arc) (make : Graph Arc → Instance) (canon : IsCanonMaking kind make) (form : Form) where
+  abbrev CanonArcs : List ((ℤ × ℤ) × Arc) → List ((ℤ × ℤ) × Arc) → Type 0
+  CanonArcs xs cs = AreCanonArcs kind canon.making.kind_laws form xs cs
+
+  one_canon : (H C : Graph Arc) → IsCanonInstanceOf form (make C) (make H) → CanonArcs H.arcs C.arcs
+  one_canon H C c =
+      let canonical = canon.canon_graph form C c.canonical in
+      record {
+        in_order = canonical.in_order;
+        canonical = canonical.canonical;
+        bounded = (canon.making.valid_graph C c.valid).capacities;
+        same = record { at = (canon.making.same_graph H C c.same).bundles };
+      }
+
+  -- the arcs of the lines of ranges
+  below_arcs : (H : Graph Arc) (Hs : List (Graph Arc)) → AreBelow (arc_lines (make H)) (flat_map arc_lines (map make Hs)) → IsBelow H.arcs (all_arcs Hs)
+  below_arcs H Hs h =
+      let line : (ℤ × ℤ) × Arc → (ℤ × ℤ) × List ℤ = λ a. (a.0, kind.numbers a.1) in
+      let lines = subst (λ l. AreBelow (map line H.arcs) l) (all_lines kind make canon.making Hs) (subst (λ l. AreBelow l (flat_map arc_lines (map make Hs))) (canon.making.lines_are H) h) in
+      all_mono (λ a. AllByRecursion (λ (m : (ℤ × ℤ) × List ℤ). a.0.0 <ℤ m.0.0) (map line (all_arcs Hs))) (λ a. AllByRecursion (λ b. a.0.0 <ℤ b.0.0) (all_arcs Hs))
+      (λ a g. all_unmap (λ (m : (ℤ × ℤ) × List ℤ). a.0.0 <ℤ m.0.0) line (all_arcs Hs) g) H.arcs
+      (all_unmap (λ (l : (ℤ × ℤ) × List ℤ). AllByRecursion (λ (m : (ℤ × ℤ) × List ℤ). l.0.0 <ℤ m.0.0) (map line (all_arcs Hs))) line H.arcs lines)
+
+  all_canon : (Hs Cs : List (Graph Arc)) → AreCanonsOf form (map make Cs) (map make Hs) → AreRanges (map make Hs) → CanonArcs (all_arcs Hs) (all_arcs Cs)
+  all_canon [] [] c r = none_canon kind canon.making.kind_laws form
+  all_canon [] (C ∷ Cs) c r = absurd c
+  all_canon (H ∷ Hs) [] c r = absurd c
+  all_canon (H ∷ Hs) (C ∷ Cs) c r = joined_canon kind canon.making.kind_laws form H.arcs C.arcs (all_arcs Hs) (all_arcs Cs) (one_canon H C c.0) (all_canon Hs Cs c.1 r.1) (below_arcs H Hs r.0)
+
+  -- a graph with the canonical arcs of ranges
+  graph_canon : (G K : Graph Arc) (xs : List ((ℤ × ℤ) × Arc)) (Cs : List (Graph Arc)) → AllByRecursion (λ (C : Graph Arc). K.nodes ≡ C.nodes) Cs → AllByRecursion IsValid (map make Cs) → AreParts (map make Cs) (make K) → CanonArcs xs (all_arcs Cs) → IsSame (make G) (make K)
+      → IsCanonInstanceOf form (make K) (make G)
+  graph_canon G K xs [] n v p c s = absurd (p.some refl)
+  graph_canon G K xs (C ∷ Cs) n v p c s =
+      let making = canon.making in
+      let arcs = sym (arcs_are kind make making K (C ∷ Cs) p) in
+      let all = subst (CanonArcs xs) arcs c in
+      let first = making.valid_graph C v.0 in
+      record {
+        valid = making.make_valid C K (sym n.0) v.0
+            (record {
+              some_nodes = subst (λ m. pos 0 ≤ℤ m) (sym n.0) first.some_nodes;
+              nodes_fit = subst Fits (sym n.0) first.nodes_fit;
+              placed = subst (AllByRecursion _) arcs (placed_all kind make making K.nodes (C ∷ Cs) n v);
+              capacities = all.bounded;
+            });
+        canonical = canon.make_canon form K (record { in_order = all.in_order; canonical = all.canonical });
+        same = s;
+      }
+
+  made_canon : (G : Graph Arc) (J : Instance) (parts canons : List Instance) → SameHead (make G) J → IsSame (make G) J → AreParts parts (make G) → AreCanonsOf form canons parts → AreRanges parts → AreParts canons J → IsCanonInstanceOf form J (make G)
+  made_canon G J parts canons h s p c r q =
+      let making = canon.making in
+      let o = making.opens G J h in
+      let K = o.graph in
+      let q' : AreParts canons (make K) = subst (AreParts canons) o.is q in
+      let hs = graphs_of kind make making G parts p.heads in
+      let cs = graphs_of kind make making K canons q'.heads in
+      let each = subst (AreCanonsOf form (map make cs.graphs)) hs.are (subst (λ l. AreCanonsOf form l parts) cs.are c) in
+      let all = all_canon hs.graphs cs.graphs each (subst AreRanges hs.are r) in
+      subst (λ W. IsCanonInstanceOf form W (make G)) (sym o.is)
+      (graph_canon G K (all_arcs hs.graphs) cs.graphs cs.nodes_are (subst (AllByRecursion IsValid) cs.are (canons_valid form canons parts c)) (subst (λ l. AreParts l (make K)) cs.are q') all (subst (IsSame (make G)) o.is s))
+
+-- what is made of the canonical instances of ranges is the canonical instance
+pub canon_made : (form : Form) (I J : Instance) (c : HasCanonParts form I) → AreRanges c.parts → AreParts c.canons J → IsCanonInstanceOf form J I
+canon_made form I J c r w =
+    let own = own_head I c.parts c.parts_are in
+    let same = whole_same form I J c w in
+    by_kind (λ I. SameHead I J → IsSame I J → AreParts c.parts I → IsCanonInstanceOf form J I) (λ Arc kind make canon G h s p. made_canon kind make canon form G J c.parts c.canons h s p c.canons_are r w) I own (head_then I I J own same) same c.parts_are
+
+-- and there is no other
+made_of_canon : (form : Form) (I J : Instance) (c : HasCanonParts form I) → AreRanges c.parts → IsCanonInstanceOf form J I → AreParts c.canons J
+made_of_canon form I J c r j =
+    let (W, w) = whole_of form I c in
+    let canon = canon_made form I W c r w in
+    subst (AreParts c.canons) (canon_one form W J canon.canonical j.canonical (trans_of W I J (sym_of I W canon.same) j.same)) w
+
+pub ranges_canon : (form : Form) (I J : Instance) (c : HasCanonParts form I) → AreRanges c.parts → AreParts c.canons J ↔ IsCanonInstanceOf form J I
+ranges_canon form I J c r = (canon_made form I J c r, made_of_canon form I J c r)

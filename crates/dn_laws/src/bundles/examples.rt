@@ -1,0 +1,32 @@
+// Worked bundles, as theorems.
+ghost use Rattle.std.specs.Prelude.{ℤ, pos};
+ghost use Rattle.dn_bundle.specs.Splits.{LeastCost};
+ghost use Rattle.dn_bundle.specs.Meanings.{SameCurve};
+ghost use Rattle.dn_bundle.specs.Canonical.{AreCanonCosts};
+ghost use Rattle.dn_laws.specs.BundleExamples.{worked, worked_one, worked_two, canon_in_two_alone, apart};
+
+use dn_bundle::Form;
+
+/// Two forced units, then two units at 0, four at 1 and one at 3.
+pub fn worked_costs()
+    ensures none_below { (k : ℤ) → LeastCost worked (pos 1) k → ⊥ }
+    ensures at_two { LeastCost worked (pos 2) (pos 3) }
+    ensures at_five { LeastCost worked (pos 5) (pos 4) }
+    ensures none_above { (k : ℤ) → LeastCost worked (pos 10) k → ⊥ }
+{}
+
+/// The worked bundle's canonical arcs.
+pub fn worked_forms()
+    ensures one { AreCanonCosts Form.One worked_one }
+    ensures two { AreCanonCosts Form.Two worked_two }
+    ensures same_one { SameCurve worked_one worked }
+    ensures same_two { SameCurve worked_two worked }
+{}
+
+/// Lists of arcs that are not canonical.
+pub fn other_lists()
+    ensures mixed_two { AreCanonCosts Form.Two canon_in_two_alone }
+    ensures mixed_one { AreCanonCosts Form.One canon_in_two_alone → ⊥ }
+    ensures apart_one { AreCanonCosts Form.One apart → ⊥ }
+    ensures apart_two { AreCanonCosts Form.Two apart → ⊥ }
+{}

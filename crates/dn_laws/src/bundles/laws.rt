@@ -1,0 +1,135 @@
+// What the definitions of bundles say of one another.
+ghost use Rattle.std.specs.Prelude.{◌≡◌, ◌⊎◌, ◌↔◌, ℤ, pos, List, [], ◌∷◌, ◌++◌, length};
+ghost use Rattle.std.specs.List.{AllByRecursion};
+ghost use Rattle.std.specs.List.Sorted.{IsPermutation};
+ghost use Rattle.dn_bundle.specs.Splits.{IsSplit, LeastCost};
+ghost use Rattle.dn_bundle.specs.Meanings.{IsMeaning, SameLength, SameTotal, SameCurve};
+ghost use Rattle.dn_bundle.specs.Canonical.{IsCostArc, AreCanonLengths, AreCanonCaps, AreCanonCosts};
+ghost use Rattle.dn_bundle.specs.Fillings.{IsFilling, forced_units, forced_cost};
+ghost use Rattle.dn_bundle.specs.Entries.{free_costs};
+ghost use Rattle.dn_bundle.specs.Differences.{LengthsDiffer, TotalsDiffer, CurvesDiffer};
+ghost use Rattle.dn_bundle.specs.Bundles.{IsDetermined};
+ghost use Rattle.dn_bundle.specs.Laws.LengthKind.{length_determined};
+ghost use Rattle.dn_bundle.specs.Laws.TotalKind.{total_determined};
+ghost use Rattle.dn_bundle.specs.Laws.CostKind.{cost_determined};
+ghost use Rattle.dn_bundle.specs.declared.arc.LengthArc.{LengthArc};
+ghost use Rattle.dn_bundle.specs.declared.arc.CapArc.{CapArc};
+ghost use Rattle.dn_bundle.specs.declared.arc.CostArc.{CostArc};
+ghost use Rattle.dn_bundle.specs.declared.arc.Form.{Form};
+ghost use Rattle.dn_bundle.specs.declared.difference.How.{How};
+
+use dn_bundle::{Bundle, Curve, Form, Least, Total};
+
+/// An amount has at most one least cost.
+pub fn one_least_cost()
+    ensures { (arcs : List CostArc) (x j k : ℤ) → LeastCost arcs x j → LeastCost arcs x k → j ≡ k }
+{}
+
+/// An amount that can be split among arcs has a least cost.
+pub fn some_least_cost()
+    ensures { (arcs : List CostArc) (x : ℤ) (xs : List ℤ) → IsSplit arcs x xs → (k : ℤ) × LeastCost arcs x k }
+{}
+
+/// No arcs carry the amount 0 at the cost 0, and no other amount.
+pub fn no_arcs()
+    ensures nothing { LeastCost [] (pos 0) (pos 0) }
+    ensures only { (x k : ℤ) → LeastCost [] x k → (x ≡ pos 0) × (k ≡ pos 0) }
+{}
+
+/// Meaning the same is an equivalence of lists of arcs that does not depend on their order and that more arcs keep.
+pub fn meanings()
+    ensures lengths { IsMeaning SameLength }
+    ensures capacities { IsMeaning SameTotal }
+    ensures costs { IsMeaning SameCurve }
+{}
+
+/// The order of arcs does not matter.
+pub fn any_order()
+    ensures lengths { (xs ys : List LengthArc) → IsPermutation xs ys → SameLength xs ys }
+    ensures capacities { (xs ys : List CapArc) → IsPermutation xs ys → SameTotal xs ys }
+    ensures costs { (xs ys : List CostArc) → IsPermutation xs ys → SameCurve xs ys }
+{}
+
+/// Arcs that mean the same still do so when the same arc comes after them.
+pub fn one_more()
+    ensures lengths { (xs ys : List LengthArc) (a : LengthArc) → SameLength xs ys
+        → SameLength (xs ++ a ∷ []) (ys ++ a ∷ []) }
+    ensures capacities { (xs ys : List CapArc) (a : CapArc) → SameTotal xs ys
+        → SameTotal (xs ++ a ∷ []) (ys ++ a ∷ []) }
+    ensures costs { (xs ys : List CostArc) (a : CostArc) → SameCurve xs ys → SameCurve (xs ++ a ∷ []) (ys ++ a ∷ []) }
+{}
+
+/// Parts that mean the same, put together, mean the same.
+pub fn put_together()
+    ensures lengths { (xs xs' ys ys' : List LengthArc) → SameLength xs xs' → SameLength ys ys'
+        → SameLength (xs ++ ys) (xs' ++ ys') }
+    ensures capacities { (xs xs' ys ys' : List CapArc) → SameTotal xs xs' → SameTotal ys ys'
+        → SameTotal (xs ++ ys) (xs' ++ ys') }
+    ensures costs { (xs xs' ys ys' : List CostArc) → SameCurve xs xs' → SameCurve ys ys'
+        → SameCurve (xs ++ ys) (xs' ++ ys') }
+{}
+
+/// The least cost of x among canonical arcs of a `min` pair is the forced cost plus what the units beyond the forced
+/// ones cost when they are filled into the free capacities by rising cost.
+pub fn exchange()
+    ensures { (form : Form) (arcs : List CostArc) → AreCanonCosts form arcs → (x k : ℤ)
+        → LeastCost arcs x k ↔ IsFilling arcs x k }
+{}
+
+/// Canonical arcs of a `min` pair in one form that mean the same are the same.
+pub fn determination(form: Form)
+    ensures { (xs ys : List CostArc) → AreCanonCosts form xs → AreCanonCosts form ys → SameCurve xs ys → xs ≡ ys }
+{}
+
+/// Canonical arcs of an `sp` or a `max` pair that mean the same are the same.
+pub fn determination_of_sums()
+    ensures lengths { (xs ys : List LengthArc) → AreCanonLengths xs → AreCanonLengths ys → SameLength xs ys → xs ≡ ys }
+    ensures capacities { (xs ys : List CapArc) → AreCanonCaps xs → AreCanonCaps ys → SameTotal xs ys → xs ≡ ys }
+{}
+
+/// The forced units, what they cost, and how many costs have free capacity follow from the meaning.
+pub fn parts_of_meaning()
+    ensures units { (xs ys : List CostArc) → AllByRecursion IsCostArc xs → AllByRecursion IsCostArc ys → SameCurve xs ys
+        → forced_units xs ≡ forced_units ys }
+    ensures cost { (xs ys : List CostArc) → AllByRecursion IsCostArc xs → AllByRecursion IsCostArc ys → SameCurve xs ys
+        → forced_cost xs ≡ forced_cost ys }
+    ensures costs { (xs ys : List CostArc) → AllByRecursion IsCostArc xs → AllByRecursion IsCostArc ys → SameCurve xs ys
+        → length (free_costs xs) ≡ length (free_costs ys) }
+{}
+
+/// Arcs that mean the same differ nowhere.
+pub fn differences()
+    ensures lengths { (xs ys : List LengthArc) (how : How) → LengthsDiffer xs ys how → SameLength xs ys → ⊥ }
+    ensures capacities { (xs ys : List CapArc) (how : How) → TotalsDiffer xs ys how → SameTotal xs ys → ⊥ }
+    ensures costs { (xs ys : List CostArc) (how : How) → CurvesDiffer xs ys how → SameCurve xs ys → ⊥ }
+{}
+
+/// Arcs that do not mean the same differ somewhere.
+pub fn some_difference()
+    ensures lengths { (xs ys : List LengthArc) → SameLength xs ys ⊎ ((how : How) × LengthsDiffer xs ys how) }
+    ensures capacities { (xs ys : List CapArc) → SameTotal xs ys ⊎ ((how : How) × TotalsDiffer xs ys how) }
+    ensures costs { (xs ys : List CostArc) → AllByRecursion IsCostArc xs → AllByRecursion IsCostArc ys
+        → SameCurve xs ys ⊎ ((how : How) × CurvesDiffer xs ys how) }
+{}
+
+/// The order of arcs does not matter to a bundle.
+pub fn any_order_of<B: Bundle>()
+    ensures { (xs ys : List B.Arc) → IsPermutation xs ys → B.kind.Same xs ys }
+{}
+
+/// Canonical arcs that mean the same are the same, in each form.
+pub trait Determined: Bundle {
+    ghost determined: { IsDetermined Self.kind };
+}
+
+impl Determined for Least {
+    ghost determined = { length_determined };
+}
+
+impl Determined for Total {
+    ghost determined = { total_determined };
+}
+
+impl Determined for Curve {
+    ghost determined = { cost_determined };
+}

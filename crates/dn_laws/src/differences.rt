@@ -1,0 +1,3 @@
+// First differences.
+pub mod examples;
+pub mod laws;

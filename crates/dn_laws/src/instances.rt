@@ -1,0 +1,3 @@
+// Whole texts, and the instances that they read as.
+pub mod examples;
+pub mod laws;

@@ -1,0 +1,15 @@
+//! What the definitions say of one another, and worked examples of them: the laws and examples of numbers, lines,
+//! bundles, whole texts, rows, canonical texts, differences, reports and command lines, in the order of the data.
+//!
+//! A function here does nothing; its clauses are what is proved. The program does not stand on this crate.
+#![tactic(auto)]
+
+pub mod bundles;
+pub mod differences;
+pub mod instances;
+pub mod lines;
+pub mod numbers;
+pub mod reports;
+pub mod rows;
+pub mod texts;
+pub mod words;

@@ -1,0 +1,2 @@
+// Lines that tell what was found.
+pub mod examples;

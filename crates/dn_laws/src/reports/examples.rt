@@ -1,0 +1,70 @@
+// Worked reports.
+ghost use Rattle.std.specs.Prelude.{◌≡◌, true, false, None, Some, pos, negsuc, [], ◌∷◌, codes};
+ghost use Rattle.dn_line.specs.declared.kind.Kind.{Kind};
+ghost use Rattle.dn_bundle.specs.declared.difference.Gap.{Gap};
+ghost use Rattle.dn_bundle.specs.declared.difference.How.{How};
+ghost use Rattle.dn_instance.specs.Instances.{Sources, Queries, Coordinates};
+ghost use Rattle.dn_laws.specs.DifferenceExamples.{cost_arc_at, flow_from, length_arc_at, with_costs, with_lengths, worked_capacities};
+ghost use Rattle.dn_compare.specs.declared.verdict.Verdict.{Verdict};
+ghost use Rattle.dn_row.specs.Rows.{line_text, text_of};
+ghost use Rattle.dn_report.specs.Shows.{IsShown};
+ghost use Rattle.dn_report.specs.Checks.{checked_rows};
+ghost use Rattle.dn_report.specs.Verdicts.{verdict_row};
+ghost use Rattle.dn_report.specs.declared.check.Forms.{Forms};
+
+/// Parallel arcs mean the shortest; pairs rise, whatever the order of the arcs; three arcs are three lines.
+pub fn shown_lengths()
+    ensures { IsShown (with_lengths (length_arc_at (pos 2) (pos 1) (pos 4) ∷ length_arc_at (pos 1) (pos 2) (pos 7)
+        ∷ length_arc_at (pos 1) (pos 2) (pos 3) ∷ []))
+        (codes "kind sp\nnodes 3\nlines 3\npairs 2\npair 1 2 length 3\npair 2 1 length 4\n") }
+{}
+
+/// Capacities add up; the pair from 2 to 3, whose only arc carries nothing, is not told.
+pub fn shown_capacities()
+    ensures { IsShown (flow_from (pos 1) (pos 3) worked_capacities)
+        (codes "kind max\nnodes 3\nlines 4\nsource 1\nsink 3\npairs 2\npair 1 2 total 9\npair 1 3 total 2\n") }
+{}
+
+/// Forced units cost 2 and twice -7; there is free capacity at the costs 2 and 5.
+pub fn shown_costs()
+    ensures { IsShown (with_costs (cost_arc_at (pos 1) (pos 3) (pos 2) ∷ cost_arc_at (pos 0) (pos 2) (pos 5)
+        ∷ cost_arc_at (pos 2) (pos 2) (negsuc 6) ∷ []))
+        (codes "kind min\nnodes 2\nlines 3\nsupplies 0\npairs 1\npair 1 2 forced 3 cost -12 steps 2\n") }
+{}
+
+/// Companions: their kinds, and how many items or points they have.
+pub fn shown_companions()
+    ensures sources { IsShown (Sources (pos 5 ∷ pos 2 ∷ pos 5 ∷ [])) (codes "kind ss\nlines 3\n") }
+    ensures queries { IsShown (Queries ((pos 1, pos 9) ∷ [])) (codes "kind p2p\nlines 1\n") }
+    ensures points { IsShown (Coordinates []) (codes "kind co\nlines 0\n") }
+{}
+
+/// A text alone, in both forms or one; a text with a companion, in no form.
+pub fn checked()
+    ensures both { text_of (checked_rows Kind.Min None (record { one = true; two = true }))
+        ≡ codes "accepted min\nforms 1 2\n" }
+    ensures second { text_of (checked_rows Kind.Min None (record { one = false; two = true }))
+        ≡ codes "accepted min\nforms 2\n" }
+    ensures with_companion { text_of (checked_rows Kind.Sp (Some Kind.Ss) (record { one = false; two = false }))
+        ≡ codes "accepted sp\nfits ss\nforms none\n" }
+{}
+
+/// No difference, kinds, and the numbers of items of two lists.
+pub fn verdicts()
+    ensures same { line_text (verdict_row Verdict.Same) ≡ codes "same\n" }
+    ensures kinds { line_text (verdict_row (Verdict.Kind Kind.Sp Kind.Max)) ≡ codes "differ kind sp max\n" }
+    ensures supply { line_text (verdict_row (Verdict.Supply (pos 2) (pos 1) (negsuc 0)))
+        ≡ codes "differ supply 2 1 -1\n" }
+    ensures lengths { line_text (verdict_row (Verdict.Length 3 2)) ≡ codes "differ length 3 2\n" }
+{}
+
+/// A pair that has no arc on the right, another capacity, and an amount that the left side can't carry.
+pub fn pair_verdicts()
+    ensures length { line_text (verdict_row (Verdict.Pair (pos 2) (pos 2) (How.Lengths (Some (pos 0)) None)))
+        ≡ codes "differ pair 2 2 length 0 none\n" }
+    ensures capacity { line_text (verdict_row (Verdict.Pair (pos 1) (pos 2) (How.Totals (pos 9) (pos 7))))
+        ≡ codes "differ pair 1 2 capacity 9 7\n" }
+    ensures cost { line_text (verdict_row (Verdict.Pair (pos 1) (pos 2)
+        (How.Costs (record { amount = pos 3; left = None; right = Some (pos 12) }))))
+        ≡ codes "differ pair 1 2 amount 3 cost none 12\n" }
+{}

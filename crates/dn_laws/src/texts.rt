@@ -1,0 +1,3 @@
+// Canonical texts.
+pub mod examples;
+pub mod laws;
