@@ -2,8 +2,7 @@
 //! canonical one of an instance; how a text is written to a sink without memory.
 //!
 //! In the order of the data: `canon` has the public calls, from what is held, a text or a source to a sink; `writer`
-//! puts the lines, which `print` makes, those of arcs from the end in a `back_line`. `laws` and `examples` say what the
-//! definitions mean.
+//! puts the lines, which `print` makes, those of arcs from the end in a `back_line`.
 #![tactic(auto)]
 
 mod back_line;

@@ -2,8 +2,7 @@
 //!
 //! In the order of the data: `command` has the commands, and tells the lines that are plain forms by their words alone;
 //! `request` says what is to be done for any line, which it reads by the `options` that `clap` is given where it is no
-//! plain form; `help` has what the help texts say. `laws` say in plain words what `clap` makes of the usual lines, and
-//! `examples` has lines of words.
+//! plain form; `help` has what the help texts say.
 #![tactic(auto)]
 
 pub mod command;

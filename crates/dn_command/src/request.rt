@@ -34,9 +34,9 @@ pub enum Request<'a> {
 /// `help` call for help, `-V` and `--version` for the version. `Memory` where memory was wanted in this; all else that
 /// is read as no command is `Bad`.
 ///
-/// What `clap` reads is said over its own definitions, which hold for every line; `laws` and `examples` say in plain
-/// words what they come to for the usual lines. That every other line of words is read as by `clap` 4 in Rust is only
-/// tested, and so are the words of the help texts.
+/// What `clap` reads is said over its own definitions, which hold for every line; what they come to for the usual
+/// lines is said in plain words by laws (`words` in dn_laws). That every other line of words is read as by `clap` 4 in
+/// Rust is only tested, and so are the words of the help texts.
 pub fn request_of(alloc: Global, words: &[String]) -> Request<'_>
     ensures plain { (asked : Asked) → plain_asked (map string_bytes words.now) ≡ Some asked → Requests asked result }
     ensures other { plain_asked (map string_bytes words.now) ≡ None

@@ -2,8 +2,8 @@
 //! problem, else the first variant of `Verdict` that is true of them, at its least ID, pair, amount or place, with the
 //! values of both sides. No two verdicts are right, some verdict always is, and what a text means decides it.
 //!
-//! In the order of the data: `walk` goes over tables and maps in step, `parting` finds where they first differ,
-//! `difference` makes a `verdict` of it; `laws` and `examples` say what the definitions mean.
+//! In the order of the data: `walk` goes over tables and maps in step, `parting` finds where they first differ, and
+//! `difference` makes a `verdict` of it.
 #![tactic(auto)]
 
 mod difference;

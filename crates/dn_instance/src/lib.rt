@@ -5,7 +5,7 @@
 //! and `text_so_far` takes each line, over `progress` (what depends on the number and order of lines) and `draft` (what
 //! the items make: `arcs` and `items`; `ahead` looks up where the next arcs go). `refusal` says why an item and a text
 //! are refused, and where. What is read is `held`, by kind in `content`, and shown by a `view`; `companion` judges a
-//! companion by its graph. `laws` and `examples` say what the definitions mean.
+//! companion by its graph.
 #![tactic(auto)]
 
 mod ahead;

@@ -2,3 +2,4 @@ pub mod Shows
 pub mod Checks
 pub mod Verdicts
 pub mod ToldRows
+pub mod FaultLines

@@ -5,7 +5,7 @@ use Rattle.dn_instance.specs.declared.companion.CompanionFault.{CompanionFault}
 use Rattle.dn_instance.specs.declared.refusal.Refusal.{Refusal}
 use Rattle.dn_instance.specs.declared.refusal.Refusal.TheVariants.{Text, Write, CountTooLarge}
 use Rattle.dn_command.specs.Commands.{Asked, Show, Check, Canon, Compare}
-use Rattle.dn_run.specs.FaultLines.{fault_line, unfit_line}
+use Rattle.dn_report.specs.FaultLines.{fault_line, unfit_line}
 use Rattle.dn_run.specs.Streams.{SinkRun, TakesLine}
 use Rattle.dn_run.specs.declared.stop.Stop.{Stop}
 use Rattle.dn_run.specs.declared.stop.Stop.TheVariants as Stops

@@ -1,4 +1,3 @@
-pub mod FaultLines
 pub mod Streams
 pub mod Answers
 pub mod Takings

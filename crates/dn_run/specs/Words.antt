@@ -6,11 +6,19 @@ use Rattle.dn_sink.specs.Puts.{PutsFront}
 use Rattle.dn_command.specs.Commands.{Asked, asks, names_twice}
 use Rattle.dn_command.specs.declared.request.Request.{Request}
 use Rattle.dn_command.specs.declared.request.Request.TheVariants as requests
+use Rattle.dn_report.specs.FaultLines.{fault_line}
 use Rattle.dn_run.specs.Answers.{Answer, Done, Cut, Tells, status_of}
-use Rattle.dn_run.specs.FaultLines.{bad_command_line, fault_line, twice_line}
 use Rattle.dn_run.specs.FilesRuns.{FilesRun}
 use Rattle.dn_run.specs.Runs.{CommandRun, IsRefusedRun, NotAccepted}
 use Rattle.dn_run.specs.Streams.{SinkRun, TakesLine}
+
+-- the line of words that are no command
+abbrev pub bad_command_line : List ℕ
+bad_command_line = codes "dnorm: bad command line\n"
+
+-- the line of words that name standard input for two texts
+abbrev pub twice_line : List ℕ
+twice_line = codes "dnorm: standard input named twice\n"
 
 -- what a run does that is asked for a command: it is refused where standard input is named for two texts, and else the
 -- command is run; on status 2 what was asked for is not accepted

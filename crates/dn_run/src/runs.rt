@@ -4,17 +4,16 @@ ghost use Rattle.dn_command.specs.Commands.{Asked, asks, plain_asked};
 ghost use Rattle.dn_command.specs.Requests.{IsReadByClap};
 ghost use Rattle.dn_command.specs.declared.request.Request.{Request};
 ghost use Rattle.dn_sink.specs.Puts.{Puts};
-ghost use Rattle.dn_run.specs.FaultLines.{bad_command_line};
 ghost use Rattle.dn_run.specs.FilesRuns.{files_run};
 ghost use Rattle.dn_run.specs.Streams.{TakesLine, sink_run};
-ghost use Rattle.dn_run.specs.Words.{AskedRun, PrintsText, RequestRun};
+ghost use Rattle.dn_run.specs.Words.{AskedRun, PrintsText, RequestRun, bad_command_line};
 
 use crate::commands::perform;
-use crate::fault_line::put_fault_line;
 use crate::files::Files;
 use crate::stop::Stop;
 use dn_command::{Command, Request, request_of};
 use dn_instance::Refusal;
+use dn_report::put_fault_line;
 use dn_sink::{Sink, SinkFault, put_all};
 use std::alloc::Global;
 

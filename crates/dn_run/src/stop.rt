@@ -3,8 +3,8 @@ ghost use Rattle.std.specs.Prelude.{◌≡◌};
 ghost use Rattle.dn_run.specs.Answers.{Tells, refusal_status, status_of, stopped, unwritten};
 ghost use Rattle.dn_run.specs.Streams.{sink_run};
 
-use crate::fault_line::{put_fault_line, put_unfit_line};
 use dn_instance::{CompanionFault, Refusal};
+use dn_report::{put_fault_line, put_unfit_line};
 use dn_sink::Sink;
 
 // Why a command stops before it is done.

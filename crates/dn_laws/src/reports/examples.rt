@@ -4,13 +4,18 @@ ghost use Rattle.dn_line.specs.declared.kind.Kind.{Kind};
 ghost use Rattle.dn_bundle.specs.declared.difference.Gap.{Gap};
 ghost use Rattle.dn_bundle.specs.declared.difference.How.{How};
 ghost use Rattle.dn_instance.specs.Instances.{Sources, Queries, Coordinates};
+ghost use Rattle.dn_instance.specs.declared.refusal.Place.TheVariants as Places;
 ghost use Rattle.dn_laws.specs.DifferenceExamples.{cost_arc_at, flow_from, length_arc_at, with_costs, with_lengths, worked_capacities};
 ghost use Rattle.dn_compare.specs.declared.verdict.Verdict.{Verdict};
 ghost use Rattle.dn_row.specs.Rows.{line_text, text_of};
 ghost use Rattle.dn_report.specs.Shows.{IsShown};
 ghost use Rattle.dn_report.specs.Checks.{checked_rows};
+ghost use Rattle.dn_report.specs.FaultLines.{fault_line, unfit_line};
 ghost use Rattle.dn_report.specs.Verdicts.{verdict_row};
 ghost use Rattle.dn_report.specs.declared.check.Forms.{Forms};
+
+use dn_instance::{CompanionFault, Place, Refusal};
+use dn_line::Code;
 
 /// Parallel arcs mean the shortest; pairs rise, whatever the order of the arcs; three arcs are three lines.
 pub fn shown_lengths()
@@ -67,4 +72,20 @@ pub fn pair_verdicts()
     ensures cost { line_text (verdict_row (Verdict.Pair (pos 1) (pos 2)
         (How.Costs (record { amount = pos 3; left = None; right = Some (pos 12) }))))
         ≡ codes "differ pair 1 2 amount 3 cost none 12\n" }
+{}
+
+/// Lines that tell of a refusal.
+pub fn fault_lines()
+    ensures line { fault_line (codes "n.max") (Refusal.Text (Places.Line 5) Code.SumTooLarge)
+        ≡ codes "n.max:5: 17 SumTooLarge\n" }
+    ensures end { fault_line (codes "-") (Refusal.Text Places.End Code.NoProblem) ≡ codes "-:end: 18 NoProblem\n" }
+    ensures read { fault_line (codes "missing") Refusal.Read ≡ codes "missing: 31 Read\n" }
+    ensures memory { fault_line (codes "dnorm") Refusal.Memory ≡ codes "dnorm: 30 Memory\n" }
+    ensures write { fault_line (codes "g.gr") Refusal.Write ≡ codes "out: 33 Write\n" }
+{}
+
+/// Lines that tell why a companion does not fit.
+pub fn unfit_lines()
+    ensures node { unfit_line (codes "c.co") (CompanionFault.NotInGraph (pos 4)) ≡ codes "c.co: 35 NotInGraph 4\n" }
+    ensures kinds { unfit_line (codes "s.ss") CompanionFault.NotKinds ≡ codes "s.ss: 36 NotKinds\n" }
 {}

@@ -1,6 +1,6 @@
 use Rattle.std.proofs.Common.{◌++◌, codes, refl}
 use Rattle.dn_sink.proofs.PutLaws.{put_from, put_more, put_stop, put_last, stopped}
-use Rattle.dn_run.proofs.fault_line.put_kind_fault.Goals as goal
+use Rattle.dn_report.proofs.fault_line.put_kind_fault.Goals as goal
 
 pub returns-in_err-put_all : goal.returns-in_err-put_all
 returns-in_err-put_all g c =

@@ -1,7 +1,7 @@
 use Rattle.std.proofs.Common.{◌++◌, refl}
 use Rattle.dn_sink.proofs.PutLaws.{put_from, put_more, put_stop, put_last, stopped}
-use Rattle.dn_run.specs.FaultLines.{reason_text}
-use Rattle.dn_run.proofs.fault_line.put_line.Goals as goal
+use Rattle.dn_report.specs.FaultLines.{reason_text}
+use Rattle.dn_report.proofs.fault_line.put_line.Goals as goal
 
 pub returns-in_err-put_all : goal.returns-in_err-put_all
 returns-in_err-put_all g c =

@@ -1,6 +1,6 @@
 use Rattle.std.proofs.Common.{◌≡◌, ℕ, List, ◌++◌, codes, ap, ◌∙◌, append_assoc}
 use Rattle.dn_sink.proofs.PutLaws.{put_from, put_more, put_stop, put_last, stopped}
-use Rattle.dn_run.proofs.fault_line.put_node_fault.Goals as goal
+use Rattle.dn_report.proofs.fault_line.put_node_fault.Goals as goal
 
 -- a number and a reason, and then the rest
 words_then : (number reason rest : List ℕ)

@@ -1,6 +1,6 @@
 use Rattle.std.proofs.Common.{refl}
 use Rattle.std.specs.Fmt.{digits}
-use Rattle.dn_run.proofs.examples.unfit_lines.Goals as goal
+use Rattle.dn_laws.proofs.reports.examples.unfit_lines.Goals as goal
 
 pub returns-clause-node : goal.returns-clause-node
 unfolding digits

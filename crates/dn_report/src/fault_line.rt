@@ -1,7 +1,7 @@
 // The line that tells why a run was refused.
 ghost use Rattle.std.specs.Prelude.{◌++◌, codes};
 ghost use Rattle.dn_sink.specs.Puts.{Puts};
-ghost use Rattle.dn_run.specs.FaultLines.{fault_line, reason_text, unfit_line};
+ghost use Rattle.dn_report.specs.FaultLines.{fault_line, reason_text, unfit_line};
 
 use dn_instance::{CompanionFault, Place, Refusal};
 use dn_sink::{Sink, SinkFault, put_all};
@@ -34,9 +34,13 @@ pub fn put_fault_line<K: Sink>(sink: &mut K, name: &str, refusal: &Refusal) -> R
     }
 }
 
-// Puts the line that tells why the companion of this name does not fit its graph: the fault's number, its name, and the
-// node that is not the graph's.
-pub(crate) fn put_unfit_line<K: Sink>(
+/// Puts the line that tells why the companion of this name does not fit its graph: the fault's number, its name, and
+/// the node that is not the graph's.
+///
+/// # Errors
+///
+/// The sink failed; it may have taken a front of the line.
+pub fn put_unfit_line<K: Sink>(
     sink: &mut K,
     name: &str,
     fault: &CompanionFault,

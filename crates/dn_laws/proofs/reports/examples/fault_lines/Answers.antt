@@ -1,6 +1,6 @@
 use Rattle.std.proofs.Common.{refl}
 use Rattle.std.specs.Fmt.{digits}
-use Rattle.dn_run.proofs.examples.fault_lines.Goals as goal
+use Rattle.dn_laws.proofs.reports.examples.fault_lines.Goals as goal
 
 pub returns-clause-line : goal.returns-clause-line
 unfolding digits
