@@ -6,8 +6,8 @@ ghost use Rattle.dn_laws.specs.DifferenceExamples.{with_lengths, flow_from, supp
 ghost use Rattle.dn_laws.specs.DifferenceExamples.{worked_lengths, without_loop, worked_capacities};
 ghost use Rattle.dn_laws.specs.DifferenceExamples.{with_nothing, without_nothing};
 
-use dn_compare::Verdict;
 use dn_bundle::{Gap, How};
+use dn_compare::Verdict;
 use dn_line::Kind;
 
 /// Kinds come before all else.
