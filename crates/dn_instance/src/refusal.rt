@@ -3,7 +3,8 @@ ghost use Rattle.std.specs.Prelude.{◌≡◌};
 ghost use Rattle.dn_instance.specs.Refusals.{refusal_name, refusal_number};
 
 use dn_line::Code;
-use thiserror::Error;
+use std::error::Error;
+use std::fmt;
 
 // Why an item is not taken: a fault of the text, or want of memory.
 #[derive(Clone, Copy)]
@@ -22,10 +23,9 @@ pub enum Place {
 }
 
 /// Why a text was not read, or its canonical text not written. Numbers and names are this project's profile.
-#[derive(Clone, Copy, Debug, PartialEq, Eq, Error)]
+#[derive(Clone, Copy, Debug, PartialEq, Eq)]
 pub enum Refusal {
     /// 1 to 21: the first fault of the text, and where it stands.
-    #[error("faulty text")]
     Text {
         /// Where the fault stands.
         place: Place,
@@ -33,21 +33,31 @@ pub enum Refusal {
         code: Code,
     },
     /// 30: a growth of memory was refused.
-    #[error("out of memory")]
     Memory,
     /// 31: the source of bytes failed.
-    #[error("the source of bytes failed")]
     Read,
     /// 32: 2^40 pulls gave bytes, and no end came.
-    #[error("the source of bytes has no end")]
     Endless,
     /// 33: the sink of bytes failed.
-    #[error("the sink of bytes failed")]
     Write,
     /// 34: the canonical text has more counted lines than 2^63-1.
-    #[error("too many canonical lines")]
     CountTooLarge,
 }
+
+impl fmt::Display for Refusal {
+    fn fmt<W: fmt::Write>(&self, f: &mut fmt::Formatter<W>) -> fmt::Result {
+        f.write_str(match self {
+            Refusal::Text { .. } => "faulty text",
+            Refusal::Memory => "out of memory",
+            Refusal::Read => "the source of bytes failed",
+            Refusal::Endless => "the source of bytes has no end",
+            Refusal::Write => "the sink of bytes failed",
+            Refusal::CountTooLarge => "too many canonical lines",
+        })
+    }
+}
+
+impl Error for Refusal {}
 
 impl Refusal {
     /// The number of the refusal: 1 to 21, or 30 to 34.
