@@ -1,5 +1,5 @@
 -- What a reader has read as it goes on.
-use Rattle.std.proofs.Common.{◌≡◌, ℕ, ◌+◌, ◌≤◌, List, [], ◌∷◌, ◌++◌, length, take, drop, Option, Some, None, Ok, Err, Result, MatchOption, ◌⊎◌, inl, inr, refl, sym, ap, ◌∙◌, subst, arith, length-append, append-nil, append_assoc, pos, option_and_then}
+use Rattle.std.proofs.Common.{◌≡◌, ℕ, ◌+◌, ◌≤◌, List, [], ◌∷◌, ◌++◌, length, take, drop, Option, Some, None, Ok, Err, Result, MatchOption, MatchResult, ◌⊎◌, inl, inr, refl, sym, ap, ◌∙◌, subst, arith, length-append, append-nil, append_assoc, pos, option_and_then}
 use Rattle.std.proofs.Math.Seq.{take-append_seam}
 use Rattle.std.proofs.lemmas.List.{take_all, take-append-le}
 use Rattle.dn_line.specs.declared.code.Code.{Code}
@@ -13,7 +13,7 @@ use Rattle.dn_instance.specs.declared.refusal.Refusal.{Refusal}
 use Rattle.dn_instance.specs.declared.refusal.Refusal.TheVariants.{Text, Memory, Read, Endless, Write, CountTooLarge}
 use Rattle.dn_instance.specs.ItemFaults.{AnswersFault}
 use Rattle.dn_instance.specs.Readers.{ended, lines_taken, IsNext, EntriesBefore, IsRefused, Fed, Outcome, answer_of}
-use Rattle.dn_instance.specs.ReaderStates.{StopsIn, Takes, TakesAll, IsReading, ReaderAt}
+use Rattle.dn_instance.specs.ReaderStates.{Finishes, StopsIn, Takes, TakesAll, IsReading, ReaderAt}
 use Rattle.dn_instance.specs.Refusals.{refused_at}
 use Rattle.dn_instance.specs.TextFaults.{line_fault}
 use Rattle.dn_instance.specs.Texts.{items_of, FaultAt, IsClean, IsFirstFaultAt}
@@ -162,6 +162,11 @@ refused_before r t e is h = refused_early t e (refused r t e is h).0
 
 pub refused_last : (t : List ℕ) (before : ℕ) (e : Refusal) → IsRefused before (lines t) e → Outcome t (Err e)
 refused_last t before e h = told_of t e (refused_on before 0 (lines t) (lines t) e (omega arith) (record { rest = []; whole = sym (append-nil (lines t)) }) h)
+
+-- what is answered of a text that was fed at once
+pub read_whole : (r : Reader) (t : List ℕ) (fed : Result (Unit {0}) Refusal) (a : Result Held Refusal) → Fed t fed → ReaderAt r t → MatchResult fed (λ x. Finishes r a) (λ e. a ≡ Err e) → Outcome t a
+read_whole r t (Ok x) a told at h = h.outcome t at
+read_whole r t (Err e) a told at h = subst (Outcome t) (sym h) (refused_early t e told)
 
 -- what is held of a whole text
 pub held_whole : (x : TextSoFar) (t : List ℕ) (held : Held) → TextAt x (lines t) → EndsWith (items_of (lines t)) (Ok held) → Outcome t (Ok held)

@@ -1,5 +1,5 @@
 -- What is answered of a text as its source gives it.
-use Rattle.std.proofs.Common.{◌≡◌, inl, inr, ℕ, ◌<◌, ◌≤◌, ◌^◌, List, [], ◌++◌, append_assoc, append-nil, length, Bool, true, false, ◌==◌, Option, Some, None, Result, Ok, Err, refl, sym, ap, ◌∙◌, subst, arith, IfSome, IfErr, IsErr, IsErrAnd}
+use Rattle.std.proofs.Common.{◌≡◌, inl, inr, ℕ, ◌<◌, ◌≤◌, ◌^◌, List, [], ◌++◌, append_assoc, append-nil, length, Bool, true, false, ◌==◌, Option, Some, None, Result, Ok, Err, refl, sym, ap, ◌∙◌, subst, arith, IfSome, IfErr, IsErr, IsErrAnd, IsErrOf, MatchResult, OnOk}
 use Rattle.std.specs.Io.KnownBytes.{Consumes, IsAtEnd, Keeps}
 use Rattle.std.proofs.KnownBytes.{Consumes-trans}
 use Rattle.std.proofs.lemmas.Bool.{eqb-true, eqb-false}
@@ -11,8 +11,8 @@ use Rattle.dn_instance.specs.declared.reader.Reader.{Reader}
 use Rattle.dn_instance.specs.declared.refusal.Refusal.{Refusal}
 use Rattle.dn_instance.specs.declared.refusal.Refusal.TheVariants.{Text, Memory, Read, Endless, Write, CountTooLarge}
 use Rattle.dn_instance.specs.Readers.{ended, IsRefused, Outcome, WantsMemory, answer_of}
-use Rattle.dn_instance.specs.ReaderStates.{ReaderAt}
-use Rattle.dn_instance.specs.SourceReads.{CleanSoFar, PulledBytes, PulledWhileClean, StopsInPiece, StopsAt, SourceOutcome, Copied, CopyOutcome}
+use Rattle.dn_instance.specs.ReaderStates.{Finishes, IsFed, ReaderAt}
+use Rattle.dn_instance.specs.SourceReads.{CleanSoFar, PulledBytes, PulledWhileClean, StopsInPiece, StopsAt, SourceOutcome, Copied, CopyOutcome, IsOfReading}
 use Rattle.dn_instance.specs.Texts.{IsClean}
 use Rattle.dn_instance.proofs.PieceSteps.{More, ended_more, lines_more}
 use Rattle.dn_instance.proofs.ReaderLaws.{reading, refused_on}
@@ -169,3 +169,43 @@ failed_copy (Some t) (Some rest) (Some left) given old_copy new_copy e r c d k s
       record { given = given; rest = left; whole = c ∙ ap (λ l. given ++ l) (sym d); rest_is = refl; clean = (reading r given none s).read.clean },
       record { given = given; rest = left; whole = c ∙ ap (λ l. given ++ l) (sym d); rest_is = refl; copy = k },
     )
+
+of_reading : (t : List ℕ) (a : Result Held Refusal) → Outcome t a → IfErr a IsOfReading
+of_reading t (Ok held) h = tt
+of_reading t (Err (Text place code)) h = tt
+of_reading t (Err Memory) h = tt
+of_reading t (Err Read) h = tt
+of_reading t (Err Endless) h = tt
+of_reading t (Err Write) h = absurd h
+of_reading t (Err CountTooLarge) h = absurd h
+
+same_refusal : (a : Result Held Refusal) (e f : Refusal) → a ≡ Err e → a ≡ Err f → e ≡ f
+same_refusal a e f h k = cc
+
+-- what is answered once all that the source gave was fed, or feeding gave a refusal
+module _ (old new : Option (List ℕ)) (r : Reader) (a : Result Held Refusal) where
+  finished_given : (fed : IsFed old new r) → Finishes r a → IfSome old (λ t. SourceOutcome t new a)
+  finished_given fed h = ended_given old new fed.given r a fed.gave fed.at_end fed.read fed.fine (h.memory fed.given fed.read fed.fine) (h.outcome fed.given fed.read)
+
+  pub finished : (fed : Result (Unit {0}) Refusal) → OnOk fed (IsFed old new r) → IfErr fed (λ e. IfSome old (λ t. SourceOutcome t new (Err e))) → MatchResult fed (λ x. Finishes r a) (λ e. a ≡ Err e)
+      → IfSome old (λ t. SourceOutcome t new a)
+  finished (Ok x) ok err h = finished_given ok h
+  finished (Err e) ok err h = subst (λ x. IfSome old (λ t. SourceOutcome t new x)) (sym h) err
+
+  pub finished_copy : (old_copy new_copy : List ℕ) (fed : Result (Unit {0}) Refusal) → OnOk fed ((all : IsFed old new r) × (new_copy ≡ old_copy ++ all.given)) → IfErr fed (λ e. IfSome old (λ t. CopyOutcome t new old_copy new_copy (Err e)))
+      → MatchResult fed (λ x. Finishes r a) (λ e. a ≡ Err e) → IfSome old (λ t. CopyOutcome t new old_copy new_copy a)
+  finished_copy old_copy new_copy (Ok x) ok err h = copied old new ok.0.given old_copy new_copy a ok.0.gave ok.1 (finished_given ok.0 h)
+  finished_copy old_copy new_copy (Err e) ok err h = subst (λ x. IfSome old (λ t. CopyOutcome t new old_copy new_copy x)) (sym h) err
+
+  pub finished_by_reading : (fed : Result (Unit {0}) Refusal) → OnOk fed (IsFed old new r) → IfErr fed IsOfReading → MatchResult fed (λ x. Finishes r a) (λ e. a ≡ Err e) → IfErr a IsOfReading
+  finished_by_reading (Ok x) ok err h = of_reading ok.given a (h.outcome ok.given ok.read)
+  finished_by_reading (Err e) ok err h = subst (λ x. IfErr x IsOfReading) (sym h) err
+
+  pub finished_failed : {F : Type 0} (fed : Result (Unit {0}) Refusal) → OnOk fed (IsFed old new r) → (IsErrOf fed Read → F) → MatchResult fed (λ x. Finishes r a) (λ e. a ≡ Err e) → IsErrOf a Read → F
+  finished_failed (Ok x) ok err h is = absurd (subst (Outcome ok.given) is (h.outcome ok.given ok.read))
+  finished_failed (Err e) ok err h is = err (ap (λ x. Err x) (same_refusal a e Read h is))
+
+-- that a copy was made, too, aside
+pub fed_alone : (old new : Option (List ℕ)) (r : Reader) (P : IsFed old new r → Type 0) (fed : Result (Unit {0}) Refusal) → OnOk fed ((all : IsFed old new r) × P all) → OnOk fed (IsFed old new r)
+fed_alone old new r P (Ok x) h = h.0
+fed_alone old new r P (Err e) h = tt

@@ -5,8 +5,10 @@ use Rattle.dn_line.specs.Pieces.{parts, lines, is_line_feed}
 use Rattle.dn_line.specs.LineStates.{LineSoFar, LineReaderAt}
 use Rattle.dn_line.specs.declared.line_reader.LineReader.{LineReader}
 use Rattle.dn_instance.specs.declared.reader.Reader.{Reader}
+use Rattle.dn_instance.specs.declared.held.Held.{Held}
 use Rattle.dn_instance.specs.declared.refusal.Refusal.{Refusal}
-use Rattle.dn_instance.specs.Readers.{ended, IsRefused, IsNext, lines_taken, refusal_of}
+use Rattle.dn_instance.specs.declared.refusal.Refusal.TheVariants.{Memory}
+use Rattle.dn_instance.specs.Readers.{Outcome, WantsMemory, ended, IsRefused, IsNext, lines_taken, refusal_of}
 use Rattle.dn_instance.specs.TextsSoFar.{TextAt}
 
 -- the bytes of a text after its last LF
@@ -54,6 +56,12 @@ Advances r t u (Ok n) = IsReading r u
 Advances r t u (Err e) =
     (r.refusal ≡ Some e) × IsRefused (length (ended t)) (ended u) e × StopsIn r (ended u) e
     × (length (ended t) ≤ lines_taken r)
+
+-- what is answered at the end of the bytes that the reader stands for; memory is wanted only where no line was refused
+pub record Finishes (r : Reader) (result : Result Held Refusal) : Type 0 where
+  pub outcome : (t : List ℕ) → ReaderAt r t → Outcome t result
+  pub memory : (t : List ℕ) → ReaderAt r t → r.refusal ≡ None → result ≡ Err Memory
+      → WantsMemory (length (ended t)) (lines t)
 
 -- the source has given all that it had, and the reader has taken it and has no refusal
 pub record IsFed (old new : Option (List ℕ)) (r : Reader) : Type 0 where

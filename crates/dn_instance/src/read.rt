@@ -19,10 +19,8 @@ pub fn read_text(alloc: Global, text: &[u8]) -> Result<Held, Refusal>
     ensures { Outcome text.now result }
 {
     let mut reader = Reader::new(alloc);
-    match reader.feed(text) {
-        Ok(()) => reader.finish(),
-        Err(refusal) => Err(refusal),
-    }
+    let fed = reader.feed(text);
+    reader.finish_fed(fed)
 }
 
 /// What the text that a source gives reads as, or its first fault. Pulls no more once the text is refused, and not past
@@ -35,10 +33,8 @@ pub fn read_from<S: Source>(alloc: Global, source: &mut S) -> Result<Held, Refus
     ensures pulls { PulledWhileClean S.gives S.Pulls source.old source.new }
 {
     let mut reader = Reader::new(alloc);
-    match feed_all(source, &mut reader) {
-        Ok(()) => reader.finish(),
-        Err(refusal) => Err(refusal),
-    }
+    let fed = feed_all(source, &mut reader);
+    reader.finish_fed(fed)
 }
 
 /// As `read_from`, and each piece is added to `text` before it is read: `text` gains all that the source gives, but for
@@ -58,10 +54,8 @@ pub fn read_keep<S: Source>(
     ensures pulls { PulledWhileClean S.gives S.Pulls source.old source.new }
 {
     let mut reader = Reader::new(alloc);
-    match keep_all(source, text, &mut reader) {
-        Ok(()) => reader.finish(),
-        Err(refusal) => Err(refusal),
-    }
+    let fed = keep_all(source, text, &mut reader);
+    reader.finish_fed(fed)
 }
 
 // Feeds a reader that has no bytes yet all that a source gives.

@@ -5,7 +5,7 @@ ghost use Rattle.dn_line.specs.Pieces.{lines};
 ghost use Rattle.dn_instance.specs.EntryCount.{entries_so_far};
 ghost use Rattle.dn_instance.specs.Texts.{items_of};
 ghost use Rattle.dn_instance.specs.Readers.{EntriesBefore, Fed, Outcome, WantsMemory, ended, lines_taken, refusal_of, answer_of};
-ghost use Rattle.dn_instance.specs.ReaderStates.{ReaderAt, IsReading, Takes, TakesAll, Advances};
+ghost use Rattle.dn_instance.specs.ReaderStates.{ReaderAt, IsReading, Takes, TakesAll, Advances, Finishes};
 ghost use Rattle.dn_instance.specs.Refusals.{refused_at};
 ghost use Rattle.dn_instance.specs.TextsSoFar.{TextAt};
 
@@ -172,6 +172,16 @@ impl Reader {
                     code,
                 }),
             },
+            Err(refusal) => Err(refusal),
+        }
+    }
+
+    // The same once pieces were fed, or the refusal that this gave.
+    pub(crate) fn finish_fed(self, fed: Result<(), Refusal>) -> Result<Held, Refusal>
+        ensures { MatchResult fed (λ x. Finishes self result) (λ e. result ≡ Err e) }
+    {
+        match fed {
+            Ok(()) => self.finish(),
             Err(refusal) => Err(refusal),
         }
     }

@@ -1,6 +1,6 @@
 use Rattle.std.proofs.Common.{[]}
-use Rattle.dn_instance.proofs.ReaderLaws.{refused_early}
+use Rattle.dn_instance.proofs.ReaderLaws.{read_whole}
 use Rattle.dn_instance.proofs.read.read_text.Goals as goal
 
-pub returns-in-Err : goal.returns-in-Err
-returns-in-Err c = refused_early c.args.text.now c.in-Err.refusal (c.in-Err.ensures.told [] c.new-reader.ensures.stands)
+pub returns : goal.returns
+returns c = read_whole c.feed-fed.new.self c.args.text.now c.feed-fed.result c.finish_fed.result (c.feed-fed.ensures.told [] c.new-reader.ensures.stands) (c.feed-fed.ensures.stands [] c.new-reader.ensures.stands) c.finish_fed.ensures
