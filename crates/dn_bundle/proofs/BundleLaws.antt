@@ -42,13 +42,13 @@ module _ {Arc : Type 0} (kind : ArcKind Arc) (laws : IsKind kind) where
       let s = laws.capacity_some (drop n arcs) (all_drop kind.IsArc arcs n a) in
       omega (arith, ints)
 
+  pub next_arc : (arcs : List Arc) (i : ℕ) (arc : Arc) → AllByRecursion kind.IsArc arcs → i < length arcs → arc ≡ get_or arcs i arc → kind.IsArc arc
+  next_arc arcs i arc a h is = subst kind.IsArc (sym is) (all_get kind.IsArc arcs i arc h a)
+
   -- a bundle that stands for the arcs so far, and the next arc
   module _ (arcs told : List Arc) (i : ℕ) (arc : Arc) (a : AllByRecursion kind.IsArc arcs) (h : i < length arcs) (is : arc ≡ get_or arcs i arc) (told_arcs : AllByRecursion kind.IsArc told) (same : kind.Same told (take i arcs)) where
     next_is : take (i + 1) arcs ≡ take i arcs ++ arc ∷ []
     next_is = ap (λ n. take n arcs) (let e : i + 1 ≡ suc i = omega arith in e) ∙ take-suc arcs i arc h ∙ ap (λ x. take i arcs ++ x ∷ []) (sym is)
-
-    is_arc : kind.IsArc arc
-    is_arc = subst kind.IsArc (sym is) (all_get kind.IsArc arcs i arc h a)
 
     both_same : kind.Same (told ++ arc ∷ []) (take (i + 1) arcs)
     both_same = subst (kind.Same (told ++ arc ∷ [])) (sym next_is) (same_push kind.Same laws.meaning told (take i arcs) arc same)
@@ -57,7 +57,7 @@ module _ {Arc : Type 0} (kind : ArcKind Arc) (laws : IsKind kind) where
     next_same new s = laws.meaning.same_trans _ _ _ s both_same
 
     next_cap : kind.capacity (told ++ arc ∷ []) ≡ kind.capacity (take (i + 1) arcs)
-    next_cap = laws.same_capacity _ _ (all_end kind.IsArc told arc told_arcs is_arc) (all_take kind.IsArc arcs (i + 1) a) both_same
+    next_cap = laws.same_capacity _ _ (all_end kind.IsArc told arc told_arcs (next_arc arcs i arc a h is)) (all_take kind.IsArc arcs (i + 1) a) both_same
 
     pub next_fits : (pos (2 ^ 63 - 1) <ℤ kind.capacity (told ++ arc ∷ []) → ⊥) → kind.capacity (take (i + 1) arcs) ≤ℤ pos (2 ^ 63 - 1)
     next_fits n = by_lt_z (pos (2 ^ 63 - 1)) (kind.capacity (take (i + 1) arcs)) (λ lt. absurd (n (subst (λ z. pos (2 ^ 63 - 1) <ℤ z) (sym next_cap) lt))) (λ le. le)

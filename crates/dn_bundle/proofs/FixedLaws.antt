@@ -1,9 +1,9 @@
 -- The fixed arcs that the code makes of the quotient and the remainder of the forced cost are those of the definition.
-use Rattle.std.proofs.Common.{◌≡◌, ℤ, pos, negsuc, ◌+ℤ◌, ◌-ℤ◌, ◌≤ℤ◌, ◌<ℤ◌, [], ◌∷◌, refl, sym, ap, ◌∙◌, arith, w64, to_z, of_z, cond}
+use Rattle.std.proofs.Common.{◌≡◌, ℤ, pos, negsuc, ◌+ℤ◌, ◌-ℤ◌, ◌≤ℤ◌, ◌<ℤ◌, [], ◌∷◌, ◌-◌, ◌^◌, refl, sym, ap, ◌∙◌, subst, arith, w64, to_z, of_z, cond}
 use Rattle.std.specs.Int.RustNames.{FitsSigned}
 use Rattle.std.proofs.lemmas.Int.{ints, to_z-of_z}
-use Rattle.dn_bundle.specs.Means.{IsFloor}
-use Rattle.dn_bundle.specs.Laws.Means.{fits_some}
+use Rattle.dn_bundle.specs.Means.{IsMean, IsFloor}
+use Rattle.dn_bundle.specs.Laws.Means.{fits_some, each_next}
 use Rattle.dn_bundle.specs.CurveTold.{fixed_arc, spread_arcs, fixed_arcs}
 use Rattle.dn_bundle.specs.Laws.FormOne.{fixed_same}
 use Rattle.dn_bundle.specs.Laws.Parts.{test_yes, test_no}
@@ -28,8 +28,26 @@ fits_less (pos u) (pos r) f h g = fits_some ((pos u) -ℤ (pos r)) (omega (arith
 fits_less (negsuc u) rest f h g = absurd (omega (arith, ints))
 fits_less (pos u) (negsuc r) f h g = absurd (omega (arith, ints))
 
+-- of no units there are no fixed arcs
+pub none_fixed : (units cost : ℤ) → FitsSigned w64 units → of_z w64 units ≡ 0 → [] ≡ fixed_arcs units cost
+none_fixed units cost f h = subst (λ z. [] ≡ fixed_arcs z cost) (sym (is_zero units f h)) refl
+
 -- the fixed arcs, as the code makes them
 module _ (units cost each rest : ℤ) (fu : FitsSigned w64 units) (fe : FitsSigned w64 each) (fr : FitsSigned w64 rest) (some : pos 0 ≤ℤ units) (nonzero : of_z w64 units ≡ 0 → ⊥) (f : IsFloor cost units each rest) where
+  lower_fits : FitsSigned w64 (units -ℤ rest)
+  lower_fits = fits_less units rest fu f.low f.high
+
+  lower_is : to_z w64 (of_z w64 units) -ℤ to_z w64 (of_z w64 rest) ≡ units -ℤ rest
+  lower_is = rw (to_z-of_z w64 units fu, to_z-of_z w64 rest fr) refl
+
+  -- the units at the lower cost
+  pub less_fits : FitsSigned w64 (to_z w64 (of_z w64 units) -ℤ to_z w64 (of_z w64 rest))
+  less_fits = subst (FitsSigned w64) (sym lower_is) lower_fits
+
+  -- one more than the lower cost
+  pub each_below : IsMean cost units → (of_z w64 rest ≡ 0 → ⊥) → to_z w64 (of_z w64 each) <ℤ pos (2 ^ 63 - 1)
+  each_below m z = rw (to_z-of_z w64 each fe) (each_next cost units each rest m f (not_zero rest fr z f.low))
+
   pub one_fixed : of_z w64 rest ≡ 0 → fixed_arc (to_z w64 (of_z w64 units)) (to_z w64 (of_z w64 each)) ∷ [] ≡ fixed_arcs units cost
   one_fixed z =
       let lt = not_zero units fu nonzero some in
@@ -42,8 +60,7 @@ module _ (units cost each rest : ℤ) (fu : FitsSigned w64 units) (fe : FitsSign
   two_fixed z =
       let lt = not_zero units fu nonzero some in
       let left = not_zero rest fr z f.low in
-      let e1 : to_z w64 (of_z w64 units) -ℤ to_z w64 (of_z w64 rest) ≡ units -ℤ rest = rw (to_z-of_z w64 units fu, to_z-of_z w64 rest fr) refl in
-      let e2 = ap (λ z. to_z w64 (of_z w64 z)) e1 ∙ to_z-of_z w64 (units -ℤ rest) (fits_less units rest fu f.low f.high) in
+      let e2 = ap (λ z. to_z w64 (of_z w64 z)) lower_is ∙ to_z-of_z w64 (units -ℤ rest) lower_fits in
       ap (λ u. fixed_arc u (to_z w64 (of_z w64 each)) ∷ fixed_arc (to_z w64 (of_z w64 rest)) (to_z w64 (of_z w64 each) +ℤ pos 1) ∷ []) e2
       ∙ ap (λ p. fixed_arc (units -ℤ rest) p ∷ fixed_arc (to_z w64 (of_z w64 rest)) (p +ℤ pos 1) ∷ []) (to_z-of_z w64 each fe)
       ∙ ap (λ r. fixed_arc (units -ℤ rest) each ∷ fixed_arc r (each +ℤ pos 1) ∷ []) (to_z-of_z w64 rest fr)

@@ -1,17 +1,17 @@
 -- The first canonical arc of a curve and the one after each, in form 1 and in form 2, by its fixed arcs and its steps;
 -- where an arc and a step join, their capacity fits.
-use Rattle.std.proofs.Common.{◌≡◌, ℕ, suc, zero, ◌+◌, ◌≤◌, ℤ, pos, ◌+ℤ◌, ◌≤ℤ◌, ◌<ℤ◌, Bool, true, false, List, [], ◌∷◌, ◌++◌, map, find, slice_get, Option, Some, None, refl, sym, ap, ◌∙◌, subst, arith, cond, w64}
+use Rattle.std.proofs.Common.{◌≡◌, ℕ, suc, zero, ◌+◌, ◌-◌, ◌^◌, ◌≤◌, ℤ, pos, ◌+ℤ◌, ◌≤ℤ◌, ◌<ℤ◌, Bool, true, false, List, [], ◌∷◌, ◌++◌, map, find, slice_get, Option, Some, None, refl, sym, ap, ◌∙◌, subst, arith, cond, w64, to_z, of_z}
 use Rattle.std.specs.Int.RustNames.{FitsSigned, int_lt}
 use Rattle.std.specs.List.{AllByRecursion}
 use Rattle.std.specs.Option.{option_map, unwrap_or}
 use Rattle.std.specs.Int.Signed.{≤ℤ_refl}
-use Rattle.std.proofs.lemmas.Int.{ints, by_lt_z}
+use Rattle.std.proofs.lemmas.Int.{ints, by_lt_z, to_z-of_z}
 use Rattle.dn_bundle.specs.declared.arc.CostArc.{CostArc}
 use Rattle.dn_bundle.specs.declared.arc.Form.TheVariants.{One, Two}
 use Rattle.dn_bundle.specs.Canonical.{IsFixedArc, AreNear, AreRising}
 use Rattle.dn_bundle.specs.Fillings.{forced_units}
 use Rattle.dn_bundle.specs.Steps.{step_past, AreSteps, steps_room}
-use Rattle.dn_bundle.specs.CurveTold.{step_arc, fixed_arcs, join_arc, join_arcs, joined_head, told, IsSound}
+use Rattle.dn_bundle.specs.CurveTold.{fixed_arc, step_arc, fixed_arcs, join_arc, join_arcs, joined_head, told, IsSound}
 use Rattle.dn_bundle.specs.Laws.Forms.{AreAbove, AreFixed}
 use Rattle.dn_bundle.specs.Laws.Parts.{test_yes, test_no}
 use Rattle.dn_bundle.specs.Laws.Means.{fits_some}
@@ -19,6 +19,7 @@ use Rattle.dn_bundle.specs.Laws.StepArcs.{free_arcs, steps_some}
 use Rattle.dn_bundle.specs.Laws.Joins.{joined}
 use Rattle.dn_bundle.specs.Laws.Told.{Carries, carried, told_two}
 use Rattle.dn_bundle.specs.Laws.Sound.{none_is}
+use Rattle.dn_bundle.proofs.StepLaws.{less, not_less, next_is}
 
 -- the first arc past a cost
 abbrev pub arc_past : ℤ → List CostArc → Option CostArc
@@ -30,6 +31,38 @@ past_yes c a rest h = ap (λ t. cond t (Some a) (arc_past c rest)) (test_yes c a
 past_no : (c : ℤ) (a : CostArc) (rest : List CostArc) → a.cost ≤ℤ c → arc_past c (a ∷ rest) ≡ arc_past c rest
 past_no c a rest h = ap (λ t. cond t (Some a) (arc_past c rest)) (test_no c a.cost h)
 
+-- a fixed arc, as the code makes it
+abbrev pub made_arc : ℤ → ℤ → CostArc
+made_arc units cost = fixed_arc (to_z w64 (of_z w64 units)) (to_z w64 (of_z w64 cost))
+
+made_is : (units cost : ℤ) → FitsSigned w64 units → FitsSigned w64 cost → made_arc units cost ≡ fixed_arc units cost
+made_is units cost f g = ap (λ z. fixed_arc z (to_z w64 (of_z w64 cost))) (to_z-of_z w64 units f) ∙ ap (fixed_arc units) (to_z-of_z w64 cost g)
+
+-- the first fixed arc past a cost, by the tests that the code makes
+module _ (c cost : ℤ) (f : FitsSigned w64 c) (fc : FitsSigned w64 cost) where
+  pub past_first : (units : ℤ) (rest arcs : List CostArc) → fixed_arc units cost ∷ rest ≡ arcs → int_lt (to_z w64 (of_z w64 c)) (to_z w64 (of_z w64 cost)) ≡ true → FitsSigned w64 units → Some (made_arc units cost) ≡ arc_past c arcs
+  past_first units rest arcs e h fu = ap Some (made_is units cost fu fc) ∙ sym (past_yes c (fixed_arc units cost) rest (less c cost f fc h)) ∙ ap (arc_past c) e
+
+  pub past_one : (units : ℤ) (arcs : List CostArc) → fixed_arc units cost ∷ [] ≡ arcs → int_lt (to_z w64 (of_z w64 c)) (to_z w64 (of_z w64 cost)) ≡ false → None ≡ arc_past c arcs
+  past_one units arcs e h = sym (past_no c (fixed_arc units cost) [] (not_less c cost f fc h)) ∙ ap (arc_past c) e
+
+  module _ (units above : ℤ) (arcs : List CostArc) (e : fixed_arc units cost ∷ fixed_arc above (cost +ℤ pos 1) ∷ [] ≡ arcs) (h : int_lt (to_z w64 (of_z w64 c)) (to_z w64 (of_z w64 cost)) ≡ false) where
+    le : cost ≤ℤ c
+    le = not_less c cost f fc h
+
+    past_lower : arc_past c (fixed_arc above (cost +ℤ pos 1) ∷ []) ≡ arc_past c arcs
+    past_lower = sym (past_no c (fixed_arc units cost) (fixed_arc above (cost +ℤ pos 1) ∷ []) le) ∙ ap (arc_past c) e
+
+    pub past_second : of_z w64 c ≡ of_z w64 cost → cost <ℤ pos (2 ^ 63 - 1) → FitsSigned w64 above → Some (fixed_arc (to_z w64 (of_z w64 above)) (to_z w64 (of_z w64 (to_z w64 (of_z w64 cost) +ℤ pos 1)))) ≡ arc_past c arcs
+    past_second same next fa =
+        let at : c ≡ cost = sym (to_z-of_z w64 c f) ∙ ap (to_z w64) same ∙ to_z-of_z w64 cost fc in
+        ap (λ z. Some (fixed_arc (to_z w64 (of_z w64 above)) z)) (next_is cost fc next) ∙ ap (λ z. Some (fixed_arc z (cost +ℤ pos 1))) (to_z-of_z w64 above fa) ∙ sym (past_yes c (fixed_arc above (cost +ℤ pos 1)) [] (omega (arith, ints))) ∙ past_lower
+
+    pub past_both : (of_z w64 c ≡ of_z w64 cost → ⊥) → None ≡ arc_past c arcs
+    past_both n =
+        let up : cost <ℤ c = by_lt_z cost c (λ lt. lt) (λ ge. absurd (n (ap (of_z w64) (let at : c ≡ cost = omega (arith, ints) in at)))) in
+        sym (past_no c (fixed_arc above (cost +ℤ pos 1)) [] (omega (arith, ints))) ∙ past_lower
+
 -- the arcs of steps
 pub past_steps : (steps : List (ℤ × ℤ)) (c : ℤ) → arc_past c (map step_arc steps) ≡ option_map step_arc (step_past steps c)
 past_steps [] c = refl
@@ -38,6 +71,12 @@ past_steps (step ∷ rest) c = elim (int_lt c step.0) as (λ v. cond v (Some (st
 pub first_step : (steps : List (ℤ × ℤ)) → slice_get (map step_arc steps) 0 ≡ option_map step_arc (slice_get steps 0)
 first_step [] = refl
 first_step (step ∷ rest) = refl
+
+-- a free arc adds nothing to LOW
+none_more : (a : CostArc) (step : ℤ × ℤ) → joined a (step_arc step) ≡ record { low = a.low; cap = a.cap +ℤ step.1; cost = step.0 }
+none_more a step =
+    let with_low : ℤ → CostArc = λ z. record { low = z; cap = a.cap +ℤ step.1; cost = step.0 } in
+    ap with_low (let e : a.low +ℤ pos 0 ≡ a.low = omega (arith, ints) in e)
 
 -- where a joined arc stands
 module _ (a b : CostArc) (rest : List CostArc) where
@@ -71,6 +110,29 @@ module _ (a b : CostArc) where
       let le : b.cost ≤ℤ a.cost = omega (arith, ints) in
       let ge : a.cost ≤ℤ b.cost = omega (arith, ints) in
       ap (λ s. heads s (int_lt a.cost b.cost)) (test_no b.cost a.cost ge) ∙ ap (heads false) (test_no a.cost b.cost le)
+
+-- the first of a fixed arc and the free capacity, by the tests that the code makes
+module _ (a : CostArc) (free : Option (ℤ × ℤ)) (step : ℤ × ℤ) (is : free ≡ Some step) (fa : FitsSigned w64 a.cost) (fs : FitsSigned w64 step.0) where
+  head_is : (b : CostArc) → joined_head a (Some (step_arc step)) ≡ b → b ≡ joined_head a (option_map step_arc free)
+  head_is b e = sym (ap (λ o. joined_head a (option_map step_arc o)) is ∙ e)
+
+  pub free_head : int_lt (to_z w64 (of_z w64 step.0)) (to_z w64 (of_z w64 a.cost)) ≡ true → step_arc step ≡ joined_head a (option_map step_arc free)
+  free_head h = head_is (step_arc step) (head_past a (step_arc step) (less step.0 a.cost fs fa h))
+
+  module _ (same : of_z w64 step.0 ≡ of_z w64 a.cost) (fits : (x : ℤ × ℤ) → free ≡ Some x → a.cost ≡ x.0 → FitsSigned w64 (a.cap +ℤ x.1)) (fl : FitsSigned w64 a.low) (fr : FitsSigned w64 a.cap) (fc : FitsSigned w64 step.1) where
+    same_cost : a.cost ≡ step.0
+    same_cost = sym (to_z-of_z w64 a.cost fa) ∙ ap (to_z w64) (sym same) ∙ to_z-of_z w64 step.0 fs
+
+    pub both_fit : FitsSigned w64 (to_z w64 (of_z w64 a.cap) +ℤ to_z w64 (of_z w64 step.1))
+    both_fit = rw (to_z-of_z w64 a.cap fr, to_z-of_z w64 step.1 fc) (fits step is same_cost)
+
+    pub both_head : record { low = to_z w64 (of_z w64 a.low); cap = to_z w64 (of_z w64 (to_z w64 (of_z w64 a.cap) +ℤ to_z w64 (of_z w64 step.1))); cost = to_z w64 (of_z w64 step.0) } ≡ joined_head a (option_map step_arc free)
+    both_head = head_is _ (head_at a (step_arc step) same_cost ∙ rw (to_z-of_z w64 a.low fl, to_z-of_z w64 a.cap fr, to_z-of_z w64 step.1 fc, to_z-of_z w64 (a.cap +ℤ step.1) (fits step is same_cost), to_z-of_z w64 step.0 fs) (none_more a step))
+
+  pub fixed_head : int_lt (to_z w64 (of_z w64 step.0)) (to_z w64 (of_z w64 a.cost)) ≡ false → (of_z w64 step.0 ≡ of_z w64 a.cost → ⊥) → a ≡ joined_head a (option_map step_arc free)
+  fixed_head h n =
+      let le = not_less step.0 a.cost fs fa h in
+      head_is a (by_lt_z a.cost step.0 (λ lt. head_before a (step_arc step) lt) (λ ge. absurd (n (ap (of_z w64) (let e : step.0 ≡ a.cost = omega (arith, ints) in e)))))
 
 pub by_order : {P : Type 0} (a b : ℤ) → (a <ℤ b → P) → (a ≡ b → P) → (b <ℤ a → P) → P
 by_order a b f g h = by_lt_z a b f (λ le. by_lt_z b a h (λ ge. g (omega (arith, ints))))

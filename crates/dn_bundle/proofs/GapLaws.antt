@@ -1,32 +1,119 @@
 -- The search for the first gap as the code makes it: each step leaves the same first gap to find, and its numbers fit.
-use Rattle.std.proofs.Common.{◌≡◌, ◌-◌, ◌^◌, ℤ, pos, ◌+ℤ◌, ◌*ℤ◌, ◌≤ℤ◌, ◌<ℤ◌, List, ◌∷◌, Option, None, Some, Bool, cond, true, false, ◌&&◌, not, slice_get, refl, sym, ap, ◌∙◌, subst, arith, to_z, of_z, w64}
+use Rattle.std.proofs.Common.{◌≡◌, ◌-◌, ◌^◌, ℤ, pos, ◌+ℤ◌, ◌*ℤ◌, ◌≤ℤ◌, ◌<ℤ◌, ◌<◌, List, [], ◌∷◌, length, Option, None, Some, Bool, cond, true, false, ◌&&◌, not, slice_get, refl, sym, ap, ◌∙◌, subst, arith, to_z, of_z, w64}
 use Rattle.std.specs.Int.{w128}
-use Rattle.std.specs.Int.RustNames.{FitsSigned}
+use Rattle.std.specs.Int.RustNames.{FitsSigned, int_lt}
 use Rattle.std.specs.Ordering.{int_eq}
 use Rattle.std.specs.Iterator.{YieldsFirst}
 use Rattle.std.proofs.lemmas.Bool.{not-true, not-false}
-use Rattle.std.proofs.lemmas.Int.{ints, to_z-of_z}
+use Rattle.std.proofs.lemmas.Int.{ints, to_z-of_z, by_lt_z}
 use Rattle.dn_bundle.specs.declared.difference.Gap.{Gap}
 use Rattle.dn_bundle.specs.Means.{IsMean}
 use Rattle.dn_bundle.specs.Steps.{AreSteps, steps_room}
-use Rattle.dn_bundle.specs.Gaps.{gap_next, parted, first_gap, ArePart, AreWalks}
+use Rattle.dn_bundle.specs.Gaps.{unit_cost, gap_next, parted, first_gap, ArePart, AreWalks}
 use Rattle.dn_bundle.specs.Laws.Means.{more_mean, fits_some}
+use Rattle.dn_bundle.specs.Laws.Parts.{test_yes, test_no}
 use Rattle.dn_bundle.specs.Laws.StepArcs.{steps_some}
 use Rattle.dn_bundle.proofs.Cost128Laws.{more_fits}
+use Rattle.dn_bundle.proofs.StepLaws.{less, not_less, next_fits, next_is}
+
+-- one unit further, as the code computes it
+module _ (amount : ℤ) (some : pos 0 ≤ℤ amount) (most : amount <ℤ pos (2 ^ 63 - 1)) where
+  now_fits : FitsSigned w64 amount
+  now_fits = fits_some amount some (omega (arith, ints))
+
+  pub next_amount_fits : FitsSigned w64 (to_z w64 (of_z w64 amount) +ℤ pos 1)
+  next_amount_fits = next_fits amount now_fits most
+
+  pub next_gap : (cost : ℤ) (left right : Option (ℤ × ℤ)) (l r : Option ℤ) → l ≡ unit_cost cost left → r ≡ unit_cost cost right → record { amount = to_z w64 (of_z w64 (to_z w64 (of_z w64 amount) +ℤ pos 1)); left = l; right = r } ≡ gap_next amount cost left right
+  next_gap cost left right l r e f =
+      let gap : ℤ → Option ℤ → Option ℤ → Gap = λ z l r. record { amount = z; left = l; right = r } in
+      ap (λ z. gap z l r) (next_is amount now_fits most) ∙ ap (λ o. gap (amount +ℤ pos 1) o r) e ∙ ap (gap (amount +ℤ pos 1) (unit_cost cost left)) f
 
 -- an amount with the capacity of a step, as the code computes it
-pub sum_is : (amount more : ℤ) → pos 0 ≤ℤ amount → pos 1 ≤ℤ more → (amount +ℤ more) ≤ℤ pos (2 ^ 63 - 1) → to_z w64 (of_z w64 (to_z w64 (of_z w64 amount) +ℤ to_z w64 (of_z w64 more))) ≡ amount +ℤ more
-sum_is amount more h k m = rw (to_z-of_z w64 amount (fits_some amount h (omega (arith, ints))), to_z-of_z w64 more (fits_some more (omega (arith, ints)) (omega (arith, ints))), to_z-of_z w64 (amount +ℤ more) (fits_some (amount +ℤ more) (omega (arith, ints)) m)) refl
+module _ (amount cost : ℤ) (step : ℤ × ℤ) (some : pos 0 ≤ℤ amount) (room : pos 1 ≤ℤ step.1) (most : (amount +ℤ step.1) <ℤ pos (2 ^ 63 - 1)) where
+  amount_fits : FitsSigned w64 amount
+  amount_fits = fits_some amount some (omega (arith, ints))
 
-module _ (amount cost : ℤ) (step : ℤ × ℤ) (r : ℤ) (some : pos 0 ≤ℤ amount) (room : pos 1 ≤ℤ step.1) (most : (amount +ℤ step.1) ≤ℤ pos (2 ^ 63 - 1)) (fc : FitsSigned w64 step.0) (mean : IsMean cost amount) (fr : FitsSigned w128 r) (e : r ≡ cost +ℤ (step.1 *ℤ step.0)) where
-  cost_is : to_z w128 (of_z w128 r) ≡ cost +ℤ (step.1 *ℤ step.0)
-  cost_is = to_z-of_z w128 r fr ∙ e
+  room_fits : FitsSigned w64 step.1
+  room_fits = fits_some step.1 (omega (arith, ints)) (omega (arith, ints))
 
-  pub past_mean : IsMean (to_z w128 (of_z w128 r)) (to_z w64 (of_z w64 (to_z w64 (of_z w64 amount) +ℤ to_z w64 (of_z w64 step.1))))
-  past_mean = rw (sum_is amount step.1 some room most, cost_is) (more_mean cost step.1 step.0 amount some (omega (arith, ints)) fc mean)
+  both_fit : FitsSigned w64 (amount +ℤ step.1)
+  both_fit = fits_some (amount +ℤ step.1) (omega (arith, ints)) (omega (arith, ints))
 
-  pub past_gap : (g : Gap) (left right : Option (ℤ × ℤ)) → g ≡ gap_next (to_z w64 (of_z w64 (to_z w64 (of_z w64 amount) +ℤ to_z w64 (of_z w64 step.1)))) (to_z w128 (of_z w128 r)) left right → g ≡ gap_next (amount +ℤ step.1) (cost +ℤ (step.1 *ℤ step.0)) left right
-  past_gap g left right h = h ∙ ap (λ z. gap_next z (to_z w128 (of_z w128 r)) left right) (sum_is amount step.1 some room most) ∙ ap (λ z. gap_next (amount +ℤ step.1) z left right) cost_is
+  pub past_fits : FitsSigned w64 (to_z w64 (of_z w64 amount) +ℤ to_z w64 (of_z w64 step.1))
+  past_fits = rw (to_z-of_z w64 amount amount_fits, to_z-of_z w64 step.1 room_fits) both_fit
+
+  sum_is : to_z w64 (of_z w64 (to_z w64 (of_z w64 amount) +ℤ to_z w64 (of_z w64 step.1))) ≡ amount +ℤ step.1
+  sum_is = rw (to_z-of_z w64 amount amount_fits, to_z-of_z w64 step.1 room_fits, to_z-of_z w64 (amount +ℤ step.1) both_fit) refl
+
+  pub past_some : pos 0 ≤ℤ to_z w64 (of_z w64 (to_z w64 (of_z w64 amount) +ℤ to_z w64 (of_z w64 step.1)))
+  past_some = subst (λ z. pos 0 ≤ℤ z) (sym sum_is) (omega (arith, ints))
+
+  pub past_most : to_z w64 (of_z w64 (to_z w64 (of_z w64 amount) +ℤ to_z w64 (of_z w64 step.1))) <ℤ pos (2 ^ 63 - 1)
+  past_most = subst (λ z. z <ℤ pos (2 ^ 63 - 1)) (sym sum_is) most
+
+  module _ (fc : FitsSigned w64 step.0) (mean : IsMean cost amount) where
+    pub past_cost_fits : FitsSigned w128 (cost +ℤ (step.1 *ℤ step.0))
+    past_cost_fits = more_fits cost step.1 step.0 amount some (omega (arith, ints)) (omega (arith, ints)) fc mean
+
+    module _ (r : ℤ) (e : r ≡ cost +ℤ (step.1 *ℤ step.0)) where
+      cost_is : to_z w128 (of_z w128 r) ≡ cost +ℤ (step.1 *ℤ step.0)
+      cost_is = ap (λ z. to_z w128 (of_z w128 z)) e ∙ to_z-of_z w128 _ past_cost_fits
+
+      pub past_mean : IsMean (to_z w128 (of_z w128 r)) (to_z w64 (of_z w64 (to_z w64 (of_z w64 amount) +ℤ to_z w64 (of_z w64 step.1))))
+      past_mean = rw (sum_is, cost_is) (more_mean cost step.1 step.0 amount some (omega (arith, ints)) fc mean)
+
+      pub past_gap : (g : Gap) (left right : Option (ℤ × ℤ)) → g ≡ gap_next (to_z w64 (of_z w64 (to_z w64 (of_z w64 amount) +ℤ to_z w64 (of_z w64 step.1)))) (to_z w128 (of_z w128 r)) left right → g ≡ gap_next (amount +ℤ step.1) (cost +ℤ (step.1 *ℤ step.0)) left right
+      past_gap g left right h = h ∙ ap (λ z. gap_next z (to_z w128 (of_z w128 r)) left right) sum_is ∙ ap (λ z. gap_next (amount +ℤ step.1) z left right) cost_is
+
+eq_yes : (x y : ℤ) → x ≡ y → int_eq x y ≡ true
+eq_yes x y h = grind (arith, ints)
+
+eq_no : (x y : ℤ) → (x ≡ y → ⊥) → int_eq x y ≡ false
+eq_no x y h = grind (arith, ints)
+
+-- the gap at two steps, by the tests that the code makes
+module _ (amount cost : ℤ) (l r : ℤ × ℤ) (p : ArePart amount cost l r) where
+  pub part_now : amount <ℤ pos (2 ^ 63 - 1)
+  part_now = let room = p.left_room in let most = p.left_most in omega (arith, ints)
+
+  left_room_fits : FitsSigned w64 l.1
+  left_room_fits = let some = p.some in let room = p.left_room in let most = p.left_most in fits_some l.1 (omega (arith, ints)) (omega (arith, ints))
+
+  right_room_fits : FitsSigned w64 r.1
+  right_room_fits = let some = p.some in let room = p.right_room in let most = p.right_most in fits_some r.1 (omega (arith, ints)) (omega (arith, ints))
+
+  abbrev by_rooms : Option (ℤ × ℤ) → Option (ℤ × ℤ) → Bool → Gap
+  by_rooms left right t = cond t (gap_next (amount +ℤ l.1) (cost +ℤ (l.1 *ℤ l.0)) left (Some r)) (gap_next (amount +ℤ r.1) (cost +ℤ (r.1 *ℤ r.0)) (Some l) right)
+
+  abbrev by_costs : Option (ℤ × ℤ) → Option (ℤ × ℤ) → Bool → Gap
+  by_costs left right t = cond t (by_rooms left right (int_lt l.1 r.1)) (gap_next amount cost (Some l) (Some r))
+
+  pub costs_part : (left right : Option (ℤ × ℤ)) → (of_z w64 l.0 ≡ of_z w64 r.0 → ⊥) → gap_next amount cost (Some l) (Some r) ≡ parted amount cost l r left right
+  costs_part left right n = sym (ap (by_costs left right) (eq_no l.0 r.0 (λ e. n (ap (of_z w64) e))))
+
+  module _ (fl : FitsSigned w64 l.0) (fr : FitsSigned w64 r.0) (same : of_z w64 l.0 ≡ of_z w64 r.0) where
+    same_cost : l.0 ≡ r.0
+    same_cost = sym (to_z-of_z w64 l.0 fl) ∙ ap (to_z w64) same ∙ to_z-of_z w64 r.0 fr
+
+    -- the left step ends first
+    module _ (h : int_lt (to_z w64 (of_z w64 l.1)) (to_z w64 (of_z w64 r.1)) ≡ true) where
+      pub left_part_most : (amount +ℤ l.1) <ℤ pos (2 ^ 63 - 1)
+      left_part_most = let lt = less l.1 r.1 left_room_fits right_room_fits h in let most = p.right_most in omega (arith, ints)
+
+      pub left_part : (left right : Option (ℤ × ℤ)) → gap_next (amount +ℤ l.1) (cost +ℤ (l.1 *ℤ l.0)) left (Some r) ≡ parted amount cost l r left right
+      left_part left right = sym (ap (by_costs left right) (eq_yes l.0 r.0 same_cost) ∙ ap (by_rooms left right) (test_yes l.1 r.1 (less l.1 r.1 left_room_fits right_room_fits h)))
+
+    -- the right step ends first
+    module _ (h : int_lt (to_z w64 (of_z w64 l.1)) (to_z w64 (of_z w64 r.1)) ≡ false) where
+      pub right_part_most : (amount +ℤ r.1) <ℤ pos (2 ^ 63 - 1)
+      right_part_most =
+          let le = not_less l.1 r.1 left_room_fits right_room_fits h in
+          let most = p.left_most in
+          by_lt_z r.1 l.1 (λ lt. omega (arith, ints)) (λ ge. absurd (p.differ same_cost (omega (arith, ints))))
+
+      pub right_part : (left right : Option (ℤ × ℤ)) → gap_next (amount +ℤ r.1) (cost +ℤ (r.1 *ℤ r.0)) (Some l) right ≡ parted amount cost l r left right
+      right_part left right = sym (ap (by_costs left right) (eq_yes l.0 r.0 same_cost) ∙ ap (by_rooms left right) (test_no l.1 r.1 (not_less l.1 r.1 left_room_fits right_room_fits h)))
 
 -- whether two steps are the same
 abbrev pub same_steps : ℤ × ℤ → ℤ × ℤ → Bool
@@ -118,6 +205,28 @@ first_left rest left (Some x) y = sym (ap (λ l. slice_get l 0) y)
 pub record IsWalk (amount cost : ℤ) (left right : List (ℤ × ℤ)) (amount' cost' : ℤ) (left' right' : List (ℤ × ℤ)) : Type 0 where
   pub same : first_gap amount' cost' left' right' ≡ first_gap amount cost left right
   pub walks : AreWalks amount' cost' left' right'
+
+-- what the search begins with, as the code holds it
+module _ (amount cost : ℤ) (fa : FitsSigned w64 amount) (fc : FitsSigned w128 cost) (left right : List (ℤ × ℤ)) where
+  pub entry_is : first_gap (to_z w64 (of_z w64 amount)) (to_z w128 (of_z w128 cost)) left right ≡ first_gap amount cost left right
+  entry_is = ap (λ z. first_gap z (to_z w128 (of_z w128 cost)) left right) (to_z-of_z w64 amount fa) ∙ ap (λ z. first_gap amount z left right) (to_z-of_z w128 cost fc)
+
+  pub walk_start : AreWalks amount cost left right → IsWalk (to_z w64 (of_z w64 amount)) (to_z w128 (of_z w128 cost)) left right (to_z w64 (of_z w64 amount)) (to_z w128 (of_z w128 cost)) left right
+  walk_start w = rw (to_z-of_z w64 amount fa, to_z-of_z w128 cost fc) (record { same = refl; walks = w })
+
+pub shorter : {A : Type 0} (x : A) (rest all : List A) → all ≡ x ∷ rest → length rest < length all
+shorter x rest all e = subst (λ l. length rest < length l) (sym e) (omega arith)
+
+-- where one side has no step left
+module _ (amount cost : ℤ) (left right rest : List (ℤ × ℤ)) (step : ℤ × ℤ) where
+  pub left_alone : left ≡ step ∷ rest → right ≡ [] → Some (gap_next amount cost (Some step) None) ≡ first_gap amount cost left right
+  left_alone e f = sym (ap (λ l. first_gap amount cost l right) e ∙ ap (first_gap amount cost (step ∷ rest)) f)
+
+  pub right_alone : left ≡ [] → right ≡ step ∷ rest → Some (gap_next amount cost None (Some step)) ≡ first_gap amount cost left right
+  right_alone e f = sym (ap (λ l. first_gap amount cost l right) e ∙ ap (first_gap amount cost []) f)
+
+pub no_more : (amount cost : ℤ) (left right : List (ℤ × ℤ)) → left ≡ [] → right ≡ [] → None ≡ first_gap amount cost left right
+no_more amount cost left right e f = sym (ap (λ l. first_gap amount cost l right) e ∙ ap (first_gap amount cost []) f)
 
 -- one step further, as the code makes it
 module _ (amount cost : ℤ) (left right : List (ℤ × ℤ)) (amount' cost' : ℤ) (left' right' lrest rrest : List (ℤ × ℤ)) (l r : ℤ × ℤ) (w : IsWalk amount cost left right amount' cost' left' right') (el : left' ≡ l ∷ lrest) (er : right' ≡ r ∷ rrest) where

@@ -12,7 +12,7 @@ use Rattle.dn_bundle.specs.Splits.{LeastCost}
 use Rattle.dn_bundle.specs.Differences.{IsCostOf, IsGap}
 use Rattle.dn_bundle.specs.Steps.{AreSteps}
 use Rattle.dn_bundle.specs.CurveTold.{told, IsSound}
-use Rattle.dn_bundle.specs.Gaps.{unit_cost, gap_next, first_gap}
+use Rattle.dn_bundle.specs.Gaps.{AreWalks, unit_cost, gap_next, first_gap}
 use Rattle.dn_bundle.specs.Laws.Products.{mul_sub}
 use Rattle.dn_bundle.specs.Laws.Curves.{curve_meaning}
 use Rattle.dn_bundle.specs.Laws.Parts.{test_yes, test_no}
@@ -239,6 +239,21 @@ module _ (units cost total : ℤ) (steps : List (ℤ × ℤ)) (s : IsSound units
     differ = λ e. cc;
     same_below = λ x k lt. ((λ l. absurd (below_units units cost total steps s x k (omega (arith, ints)) l)), (λ l. absurd (below_units units' cost' total' steps' s' x k lt l)));
   }
+
+  pub from_units : units ≡ units' → AreWalks units cost steps steps'
+  from_units e =
+      let left_whole = s.whole in
+      let left_most = s.most in
+      let right_whole = s'.whole in
+      let right_most = s'.most in
+      record {
+        some = s.some;
+        mean = s.mean;
+        left_rising = s.rising;
+        right_rising = s'.rising;
+        left_most = omega (arith, ints);
+        right_most = omega (arith, ints);
+      }
 
   pub cost_gap : units ≡ units' → (cost ≡ cost' → ⊥) → IsGap (told One units cost steps) (told One units' cost' steps') (record { amount = units; left = Some cost; right = Some cost' })
   cost_gap e n = record {

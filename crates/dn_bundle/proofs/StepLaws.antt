@@ -17,7 +17,7 @@ use Rattle.std.proofs.lemmas.Map.{lookup-none}
 use Rattle.std.proofs.lemmas.Map.Entries.{none_below_head}
 use Rattle.std.proofs.lemmas.Map.Keys.{sorted_tail}
 use Rattle.dn_bundle.specs.Laws.StepArcs.{above_put, steps_some}
-use Rattle.dn_bundle.specs.Laws.Means.{fits_some}
+use Rattle.dn_bundle.specs.Laws.Means.{fits_some, fits_next}
 use Rattle.dn_bundle.specs.Laws.Canons.{by_cmp}
 use Rattle.dn_bundle.specs.Steps.{steps_of, IsFirst, put_step, step_past, has_step, AreSteps, steps_room}
 
@@ -144,12 +144,22 @@ sum_is es more now new h s f e g0 g o i =
     ∙ ap (λ z. insert_entry int_cmp es more.0 (z +ℤ more.1)) e
     ∙ put_is es more o
 
+-- one more, as the code adds it
+pub next_fits : (x : ℤ) → FitsSigned w64 x → x <ℤ pos (2 ^ 63 - 1) → FitsSigned w64 (to_z w64 (of_z w64 x) +ℤ pos 1)
+next_fits x f h = subst (λ z. FitsSigned w64 (z +ℤ pos 1)) (sym (to_z-of_z w64 x f)) (fits_next x f h)
+
+pub next_is : (x : ℤ) → FitsSigned w64 x → x <ℤ pos (2 ^ 63 - 1) → to_z w64 (of_z w64 (to_z w64 (of_z w64 x) +ℤ pos 1)) ≡ x +ℤ pos 1
+next_is x f h = ap (λ z. to_z w64 (of_z w64 (z +ℤ pos 1))) (to_z-of_z w64 x f) ∙ to_z-of_z w64 (x +ℤ pos 1) (fits_next x f h)
+
 -- what a test of two numbers says, as the code makes it
 pub less : (x y : ℤ) → FitsSigned w64 x → FitsSigned w64 y → int_lt (to_z w64 (of_z w64 x)) (to_z w64 (of_z w64 y)) ≡ true → x <ℤ y
 less x y f g h = let e : int_lt x y ≡ true = sym (rw (to_z-of_z w64 x f, to_z-of_z w64 y g) refl) ∙ h in grind (arith, ints)
 
 pub not_less : (x y : ℤ) → FitsSigned w64 x → FitsSigned w64 y → int_lt (to_z w64 (of_z w64 x)) (to_z w64 (of_z w64 y)) ≡ false → y ≤ℤ x
 not_less x y f g h = let e : int_lt x y ≡ false = sym (rw (to_z-of_z w64 x f, to_z-of_z w64 y g) refl) ∙ h in grind (arith, ints)
+
+pub not_apart : (x y : ℤ) → FitsSigned w64 x → FitsSigned w64 y → int_lt (to_z w64 (of_z w64 x)) (to_z w64 (of_z w64 y)) ≡ false → int_lt (to_z w64 (of_z w64 y)) (to_z w64 (of_z w64 x)) ≡ false → x ≡ y
+not_apart x y f g h k = let ge = not_less x y f g h in let le = not_less y x g f k in omega (arith, ints)
 
 module _ (first : Option (ℤ × ℤ)) (rest now : List (ℤ × ℤ)) (least step : ℤ × ℤ) (is : first ≡ Some least) (is_first : IsFirst first rest) (view : steps_of first rest ≡ now) (l0 : FitsSigned w64 least.0) (l1 : FitsSigned w64 least.1) (s0 : FitsSigned w64 step.0) (s1 : FitsSigned w64 step.1) where
   above : AllByRecursion (λ (other : ℤ × ℤ). least.0 <ℤ other.0) rest

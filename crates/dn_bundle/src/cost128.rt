@@ -17,7 +17,7 @@ pub(crate) fn floor(cost: &i128, units: &i64) -> (i64, i64)
     requires mean { IsMean cost.now units.now }
     ensures { IsFloor cost.now units.now result.0 result.1 }
 {
-    let each = cost.div_euclid(*units as i128);
-    let rest = cost.rem_euclid(*units as i128);
-    (each as i64, rest as i64)
+    let each = cost.div_euclid(*units as i128) as i64;
+    let rest = cost.rem_euclid(*units as i128) as i64;
+    (each, rest)
 }

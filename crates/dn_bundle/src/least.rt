@@ -1,7 +1,7 @@
 // The least length of the arcs of a pair.
 ghost use Rattle.std.specs.Prelude.{◌≡◌, ℤ, List, [], ◌∷◌, FitsSigned, MatchOption, refl, false};
 ghost use Rattle.std.specs.Int.{w64};
-ghost use Rattle.std.specs.Option.{ForSome};
+ghost use Rattle.std.specs.Option.{ForSome, option_copied, option_and_then};
 ghost use Rattle.std.proofs.Props.{props};
 ghost use Rattle.dn_bundle.specs.Kinds.{lengths};
 ghost use Rattle.dn_bundle.specs.Lengths.{LeastLength, length_told};
@@ -26,6 +26,16 @@ impl Least {
             (LeastLength (⟦<Least as Bundle>⟧.told Form.One self.now)) }
     {
         self.length
+    }
+}
+
+// The least length of a bundle, `None` of none.
+fn length_of(bundle: Option<&Least>) -> Option<i64>
+    ensures { result ≡ option_and_then (λ b. b.length) (option_copied bundle.entry) }
+{
+    match bundle {
+        Some(bundle) => bundle.length,
+        None => None,
     }
 }
 
@@ -69,8 +79,8 @@ impl Bundle for Least {
     }
 
     fn how(left: Option<&Least>, right: Option<&Least>) -> Option<How> {
-        let left = left.and_then(|bundle| bundle.length);
-        let right = right.and_then(|bundle| bundle.length);
+        let left = length_of(left);
+        let right = length_of(right);
         if left == right {
             return None;
         }

@@ -1,5 +1,6 @@
 // The total capacity of the arcs of a pair.
 ghost use Rattle.std.specs.Prelude.{◌≡◌, ◌-◌, ◌^◌, pos, ◌≤ℤ◌, refl, false};
+ghost use Rattle.std.specs.Option.{option_copied, option_map, unwrap_or};
 ghost use Rattle.dn_bundle.specs.Kinds.{capacities};
 ghost use Rattle.dn_bundle.specs.Capacities.{total_cap, cap_told};
 ghost use Rattle.dn_bundle.specs.Laws.TotalKind.{total_kind, total_canonical, total_fit};
@@ -23,6 +24,16 @@ impl Total {
         ensures { result ≡ total_cap (⟦<Total as Bundle>⟧.told Form.One self.now) }
     {
         self.total
+    }
+}
+
+// The total capacity of a bundle, 0 of none.
+fn total_of(bundle: Option<&Total>) -> i64
+    ensures { result ≡ unwrap_or (option_map (λ b. b.total) (option_copied bundle.entry)) (pos 0) }
+{
+    match bundle {
+        Some(bundle) => bundle.total,
+        None => 0,
     }
 }
 
@@ -66,8 +77,8 @@ impl Bundle for Total {
     }
 
     fn how(left: Option<&Total>, right: Option<&Total>) -> Option<How> {
-        let left = left.map_or(0, |bundle| bundle.total);
-        let right = right.map_or(0, |bundle| bundle.total);
+        let left = total_of(left);
+        let right = total_of(right);
         if left == right {
             return None;
         }

@@ -45,13 +45,20 @@ fn join(fixed: CostArc, step: Option<(i64, i64)>) -> CostArc
     ensures { result ≡ joined_head fixed (option_map step_arc step) }
 {
     match step {
-        Some(step) if step.0 < fixed.cost => free_at(step),
-        Some(step) if step.0 == fixed.cost => CostArc {
-            low: fixed.low,
-            cap: fixed.cap + step.1,
-            cost: step.0,
-        },
-        _ => fixed,
+        None => fixed,
+        Some(step) => {
+            if step.0 < fixed.cost {
+                free_at(step)
+            } else if step.0 == fixed.cost {
+                CostArc {
+                    low: fixed.low,
+                    cap: fixed.cap + step.1,
+                    cost: step.0,
+                }
+            } else {
+                fixed
+            }
+        }
     }
 }
 
@@ -86,10 +93,23 @@ impl Curve {
         ensures { result ≡ find (λ b. int_lt past.now b.cost) (fixed_arcs self.now.units self.now.cost) }
     {
         match self.spread() {
-            Fixed::One { units, cost } if *past < cost => Some(fixed_at(units, cost)),
-            Fixed::Two { units, cost, .. } if *past < cost => Some(fixed_at(units, cost)),
-            Fixed::Two { cost, above, .. } if *past == cost => Some(fixed_at(above, cost + 1)),
-            _ => None,
+            Fixed::Zero => None,
+            Fixed::One { units, cost } => {
+                if *past < cost {
+                    Some(fixed_at(units, cost))
+                } else {
+                    None
+                }
+            }
+            Fixed::Two { units, cost, above } => {
+                if *past < cost {
+                    Some(fixed_at(units, cost))
+                } else if *past == cost {
+                    Some(fixed_at(above, cost + 1))
+                } else {
+                    None
+                }
+            }
         }
     }
 

@@ -1,7 +1,7 @@
-use Rattle.std.proofs.Common.{ap, ◌∙◌, rules, w64, to_z, of_z, ◌+ℤ◌, pos}
+use Rattle.std.proofs.Common.{ap, ◌∙◌, rules, w64}
 use Rattle.std.proofs.lemmas.Int.{to_z-of_z}
-use Rattle.dn_bundle.specs.Laws.Means.{fits_next}
 use Rattle.dn_bundle.specs.Steps.{has_step}
+use Rattle.dn_bundle.proofs.StepLaws.{next_is}
 use Rattle.dn_bundle.proofs.LenLaws.{one_unless, len_with_one, len_with_two}
 use Rattle.dn_bundle.proofs.curve.Curve.len_two.Goals as goal
 
@@ -14,8 +14,6 @@ returns-in-One c =
 pub returns-in-Two : goal.returns-in-Two
 returns-in-Two c =
     let self = c.args.self.now in
-    let cost_is = to_z-of_z w64 c.in-Two.cost (search rules) in
-    let next_is = ap (λ z. to_z w64 (of_z w64 (z +ℤ pos 1))) cost_is ∙ to_z-of_z w64 (c.in-Two.cost +ℤ pos 1) (fits_next c.in-Two.cost (search rules) c.in-Two.ensures.next) in
     len_with_two self.units self.cost self.total self.steps self.sound c.len-in-Two.result c.len-in-Two.ensures.len c.in-Two.units c.in-Two.cost c.in-Two.above c.missing-in-Two.result c.missing-in-Two-2.result c.in-Two.ensures.value
-    (c.missing-in-Two.ensures ∙ ap (λ z. one_unless (has_step self.steps z)) cost_is)
-    (c.missing-in-Two-2.ensures ∙ ap (λ z. one_unless (has_step self.steps z)) next_is)
+    (c.missing-in-Two.ensures ∙ ap (λ z. one_unless (has_step self.steps z)) (to_z-of_z w64 c.in-Two.cost (search rules)))
+    (c.missing-in-Two-2.ensures ∙ ap (λ z. one_unless (has_step self.steps z)) (next_is c.in-Two.cost (search rules) c.in-Two.ensures.next))
