@@ -1,7 +1,12 @@
 -- The program's options are of the kind of which `clap` says what it reads.
-use Rattle.std.proofs.Common.{◌≡◌, ◌∙◌, List, Result, Ok, Err, IfOk, IsErrAnd, refl, inl, subst, true, map, ap}
+use Rattle.std.proofs.Common.{◌≡◌, ◌∙◌, ◌||◌, List, Result, Ok, Err, IfOk, IsErrAnd, refl, inl, subst, false, true, map, ap, ap₂}
 use Rattle.std.specs.Borrow.{Bor}
-use Rattle.clap.specs.Words.{App, FailsBy, HasMatchesOf, Text, fault_of, is_simple_and_free, kind_of, subcommand_of}
+use Rattle.std.specs.declared.alloc.AllocError.{AllocError}
+use Rattle.clap.specs.Words.{AddsArg, App, FailsBy, HasMatchesOf, Rule, Text, app_of, fault_of}
+use Rattle.clap.specs.Words.{is_simple_and_free, kind_of, rule_of, subcommand_of, with_rule}
+use Rattle.clap.specs.declared.builder.arg.Arg.{Arg}
+use Rattle.clap.specs.declared.builder.command.Command.{Command}
+use Rattle.clap.specs.declared.builder.command.Command.TheViews.{out-Command as fields_of}
 use Rattle.clap.specs.declared.error.kind.ErrorKind.TheVariants.{OutOfMemory}
 use Rattle.clap.specs.Simple.{is_simple}
 use Rattle.clap.specs.declared.error.Error.{Error}
@@ -13,6 +18,15 @@ free forms = refl
 
 simple : (forms : Bor (List (Bor Text))) → is_simple (dnorm_app forms) ≡ true
 simple forms = refl
+
+-- a command with one argument more, where it is known what the command and the argument are
+pub adds_arg : (old : Command) (arg : Arg) (r : Result Command AllocError) {before : App} {rule : Rule}
+    → app_of old ≡ before → (fields_of old).has_globals ≡ false → rule_of arg ≡ rule → arg.global ≡ false
+    → IfOk r (AddsArg old arg)
+    → IfOk r (λ c. app_of c ≡ with_rule before rule) × IfOk r (λ c. (fields_of c).has_globals ≡ false)
+adds_arg old arg (Ok c) is local ruled own adds =
+    (adds.shape own ∙ ap₂ with_rule is ruled, adds.globals ∙ ap₂ (λ a b. a || b) local own)
+adds_arg old arg (Err e) is local ruled own adds = (tt, tt)
 
 -- what the options' parse answers
 pub is_parse : (a : App) (forms : Bor (List (Bor Text))) (words : List Text) (r : Result ArgMatches Error)

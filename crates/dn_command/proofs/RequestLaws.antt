@@ -1,19 +1,26 @@
 -- What the answer to a line of words says.
-use Rattle.std.proofs.Common.{◌≡◌, ◌≢◌, ◌∙◌, Bool, true, false, true≢false, Option, inl, inr, ap, sym, subst}
-use Rattle.clap.specs.Words.{HasKind, IsAmong, Kinds, Text, first_of, first_value, kind_of, rows_of}
+use Rattle.std.proofs.Common.{◌≡◌, ◌≢◌, ◌∙◌, List, [], Bool, true, false, true≢false, Option, inl, inr, ap, sym, subst}
+use Rattle.clap.specs.Words.{HasKind, IsAmong, Kinds, Row, Text, first_of, first_value, kind_of, rows_of}
 use Rattle.clap.specs.declared.error.Error.{Error}
 use Rattle.clap.specs.declared.error.kind.ErrorKind.{ErrorKind}
 use Rattle.clap.specs.declared.error.kind.ErrorKind.TheVariants.{OutOfMemory}
 use Rattle.clap.specs.declared.parser.matches.Found.{Found}
 use Rattle.clap.proofs.WalkLemmas.{first_value-rows}
 use Rattle.dn_command.specs.Commands.{Asked}
-use Rattle.dn_command.specs.Requests.{Answers, AnswersKind}
+use Rattle.dn_command.specs.Requests.{Answers, AnswersKind, subcommand_asked}
 use Rattle.dn_command.specs.declared.request.Request.{Request}
 use Rattle.dn_command.specs.declared.request.Request.TheVariants as requests
 
 -- the first value of a name is that of its row
 pub value_of_rows : (f : Found) (name : Text) → first_value f name ≡ first_of name (rows_of f)
 value_of_rows f name = first_value-rows f name
+
+-- the answer by the subcommand that was read, where the words have no fault
+pub answers_by_matches : {faults : Kinds} {rows asked : Option (Text × List Row)} (r : Request) → faults ≡ []
+    → rows ≡ asked → Answers [] (subcommand_asked rows) r → Answers faults (subcommand_asked asked) r
+answers_by_matches {rows = rows} {asked = asked} r none is answer =
+    subst (λ k. Answers k (subcommand_asked asked) r) (sym none)
+    (subst (λ q. Answers [] (subcommand_asked q) r) is answer)
 
 -- a kind that is not want of memory is among the kinds that an error may have
 among : (faults : Kinds) (e : Error) → HasKind faults e → (kind_of e ≢ OutOfMemory) → IsAmong (kind_of e) faults

@@ -11,19 +11,17 @@ use Rattle.clap.specs.declared.parser.matches.ArgMatches.{ArgMatches}
 abbrev pub text_rule : Text → Rule
 text_rule name = record (new_rule name) { required = true; action = Some Set }
 
+-- an option with one value, under this name
+abbrev pub option_rule : Text → Rule
+option_rule name = record (new_rule name) { long = Some name; action = Some Set; value_names = 1 }
+
 -- `--with FILE`
 abbrev pub with_option : Rule
-with_option = record (new_rule (codes "with")) { long = Some (codes "with"); action = Some Set; value_names = 1 }
+with_option = option_rule (codes "with")
 
 -- `--form FORM`, where FORM is one of these, and `1` by default
 abbrev pub form_option : Bor (List (Bor Text)) → Rule
-form_option forms = record (new_rule (codes "form")) {
-  long = Some (codes "form");
-  action = Some Set;
-  value_names = 1;
-  parser = Some (Names forms);
-  defaults = codes "1" ∷ [];
-}
+form_option forms = record (option_rule (codes "form")) { parser = Some (Names forms); defaults = codes "1" ∷ [] }
 
 -- `show FILE`
 abbrev pub show_app : App

@@ -1,9 +1,10 @@
 // The options that `clap` reads lines of words by.
-ghost use Rattle.std.specs.Prelude.{◌≡◌, false, IfOk, IsOkAnd, map, string_bytes};
-ghost use Rattle.clap.specs.Words.{app_of, new_app, rule_of, with_rule, with_subcommand};
+ghost use Rattle.std.specs.Prelude.{◌≡◌, false, IfOk, map, string_bytes};
+ghost use Rattle.clap.specs.Words.{App, app_of, new_app, rule_of, with_rule, with_subcommand};
 ghost use Rattle.clap.specs.declared.builder.command.Command.TheViews.{out-Command as fields_of};
 ghost use Rattle.dn_command.specs.Options.{IsParseOf, bare_app, canon_app, check_app, compare_app, dnorm_app};
-ghost use Rattle.dn_command.specs.Options.{form_option, form_words, show_app, text_rule, with_option};
+ghost use Rattle.dn_command.specs.Options.{form_option, form_words, option_rule, show_app, text_rule};
+ghost use Rattle.dn_command.specs.Options.{with_option};
 
 use crate::help;
 use clap::{Arg, ArgAction, ArgMatches, Command, Error};
@@ -25,29 +26,45 @@ fn parse_with<'a>(
     requires { map (λ s. s.now) forms.now ≡ form_words }
     ensures { IsParseOf (map string_bytes words.entry.now) result }
 {
-    dnorm_command(alloc, forms)?.try_get_matches_from(words)
+    match dnorm_command(alloc, forms) {
+        Ok(command) => command.try_get_matches_from(words),
+        Err(error) => Err(Error::from(error)),
+    }
 }
 
 // The program with its commands.
 fn dnorm_command<'a>(alloc: Global, forms: &'a [&'a str]) -> Result<Command<'a>, AllocError>
     ensures app { IfOk result (λ c. app_of c ≡ dnorm_app forms.entry) }
 {
-    let program = add_command(bare_command(alloc), show_command(alloc))?;
-    let program = add_command(program, check_command(alloc))?;
-    let program = add_command(program, canon_command(alloc, forms))?;
-    add_command(program, compare_command(alloc))
+    let program = add_command(
+        add_command(Ok(bare_command(alloc)), show_command(alloc)),
+        check_command(alloc),
+    );
+    add_command(
+        add_command(program, canon_command(alloc, forms)),
+        compare_command(alloc),
+    )
 }
 
-// A program with one command more, where memory was enough for the command.
+// A program with one command more, where memory was enough for both.
 fn add_command<'a>(
-    program: Command<'a>,
+    program: Result<Command<'a>, AllocError>,
     command: Result<Command<'a>, AllocError>,
 ) -> Result<Command<'a>, AllocError>
     requires local { IfOk command (λ c. (fields_of c).has_globals ≡ false) }
-    ensures app { IfOk result (λ r. IsOkAnd command.entry (λ c.
-        app_of r ≡ with_subcommand (app_of program.entry) (app_of c).top)) }
+    ensures app { (before added : App) → IfOk program.entry (λ p. app_of p ≡ before)
+        → IfOk command.entry (λ c. app_of c ≡ added)
+        → IfOk result (λ r. app_of r ≡ with_subcommand before added.top) }
 {
-    program.subcommand(command?)
+    if let Ok(program) = program {
+        if let Ok(command) = command {
+            return program.subcommand(command);
+        }
+        drop(program);
+    } else {
+        drop(command);
+    }
+    Err(AllocError)
 }
 
 // The program without its commands.
@@ -76,7 +93,7 @@ fn check_command<'a>(alloc: Global) -> Result<Command<'a>, AllocError>
     ensures app { IfOk result (λ c. app_of c ≡ check_app) }
     ensures local { IfOk result (λ c. (fields_of c).has_globals ≡ false) }
 {
-    text_command(alloc, "check", help::CHECK, "FILE")?.arg(with_option(alloc))
+    wider_command(alloc, "check", help::CHECK, "FILE", with_option(alloc))
 }
 
 // `canon [--form FORM] FILE`.
@@ -84,7 +101,13 @@ fn canon_command<'a>(alloc: Global, forms: &'a [&'a str]) -> Result<Command<'a>,
     ensures app { IfOk result (λ c. app_of c ≡ canon_app forms.entry) }
     ensures local { IfOk result (λ c. (fields_of c).has_globals ≡ false) }
 {
-    text_command(alloc, "canon", help::CANON, "FILE")?.arg(form_option(alloc, forms))
+    wider_command(
+        alloc,
+        "canon",
+        help::CANON,
+        "FILE",
+        form_option(alloc, forms),
+    )
 }
 
 // `compare LEFT RIGHT`.
@@ -92,7 +115,33 @@ fn compare_command<'a>(alloc: Global) -> Result<Command<'a>, AllocError>
     ensures app { IfOk result (λ c. app_of c ≡ compare_app) }
     ensures local { IfOk result (λ c. (fields_of c).has_globals ≡ false) }
 {
-    text_command(alloc, "compare", help::COMPARE, "LEFT")?.arg(text(alloc, "RIGHT", help::TEXT))
+    wider_command(
+        alloc,
+        "compare",
+        help::COMPARE,
+        "LEFT",
+        text(alloc, "RIGHT", help::TEXT),
+    )
+}
+
+// A command of this name, with a word that names a text and one argument more.
+fn wider_command<'a>(
+    alloc: Global,
+    name: &'a str,
+    about: &'a str,
+    text_name: &'a str,
+    more: Arg<'a>,
+) -> Result<Command<'a>, AllocError>
+    requires local { more.global ≡ false }
+    ensures app { IfOk result (λ c. app_of c
+        ≡ with_rule (with_rule (new_app name.entry.now) (text_rule text_name.entry.now)) (rule_of more.entry)) }
+    ensures local { IfOk result (λ c. (fields_of c).has_globals ≡ false) }
+{
+    if let Ok(command) = text_command(alloc, name, about, text_name) {
+        return command.arg(more);
+    }
+    drop(more);
+    Err(AllocError)
 }
 
 // A command of this name, with a word that names a text.
@@ -116,11 +165,7 @@ fn with_option<'a>(alloc: Global) -> Arg<'a>
     ensures rule { rule_of result ≡ with_option }
     ensures local { result.global ≡ false }
 {
-    Arg::new(alloc, "with")
-        .long("with")
-        .value_name("FILE")
-        .action(ArgAction::Set)
-        .help(help::WITH)
+    option(alloc, "with", "FILE", help::WITH)
 }
 
 // `--form FORM`.
@@ -128,13 +173,21 @@ fn form_option<'a>(alloc: Global, forms: &'a [&'a str]) -> Arg<'a>
     ensures rule { rule_of result ≡ form_option forms.entry }
     ensures local { result.global ≡ false }
 {
-    Arg::new(alloc, "form")
-        .long("form")
-        .value_name("FORM")
-        .action(ArgAction::Set)
+    option(alloc, "form", "FORM", help::FORM)
         .value_parser(forms)
         .default_value("1")
-        .help(help::FORM)
+}
+
+// An option of this name, with one value.
+fn option<'a>(alloc: Global, name: &'a str, value: &'a str, help: &'a str) -> Arg<'a>
+    ensures rule { rule_of result ≡ option_rule name.entry.now }
+    ensures local { result.global ≡ false }
+{
+    Arg::new(alloc, name)
+        .long(name)
+        .value_name(value)
+        .action(ArgAction::Set)
+        .help(help)
 }
 
 // A word that names a text.

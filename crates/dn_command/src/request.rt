@@ -1,9 +1,9 @@
 // What is to be done for a line of words.
-ghost use Rattle.std.specs.Prelude.{◌≡◌, IfOk, MatchResult, None, Some, map, option_map, string_bytes};
+ghost use Rattle.std.specs.Prelude.{◌≡◌, [], IfOk, MatchResult, None, Some, map, option_map, string_bytes};
 ghost use Rattle.clap.specs.Words.{first_of, found_of, kind_of, rows_of, subcommand_rows_of};
 ghost use Rattle.dn_command.specs.Commands.{Asked, asks, plain_asked};
-ghost use Rattle.dn_command.specs.Requests.{AnswersKind, IsReadByClap, Requests, canon_asked};
-ghost use Rattle.dn_command.specs.Requests.{check_asked, compare_asked, form_of, version_line};
+ghost use Rattle.dn_command.specs.Requests.{Answers, AnswersKind, IsReadByClap, Requests, canon_asked};
+ghost use Rattle.dn_command.specs.Requests.{check_asked, command_asked, compare_asked, form_of, version_line};
 ghost use Rattle.dn_command.specs.Requests.{show_asked, subcommand_asked};
 
 use crate::command::{Command, plain_command};
@@ -53,11 +53,22 @@ fn read<'a>(alloc: Global, words: &'a [String]) -> Request<'a>
     ensures { IsReadByClap (map string_bytes words.entry.now) result }
 {
     match parse(alloc, words) {
-        Ok(matches) => match command_of(&matches) {
-            Some(command) => Request::Command(command),
-            None => Request::Bad,
-        },
+        Ok(matches) => {
+            let request = command_or_bad(&matches);
+            drop(matches);
+            request
+        }
         Err(error) => answer(alloc, &error),
+    }
+}
+
+// What is to be done where the parse has these matches.
+fn command_or_bad<'a>(matches: &ArgMatches<'a>) -> Request<'a>
+    ensures { Answers [] (subcommand_asked (subcommand_rows_of matches.now)) result }
+{
+    match command_of(matches) {
+        Some(command) => Request::Command(command),
+        None => Request::Bad,
     }
 }
 
@@ -94,12 +105,21 @@ fn version_line(alloc: Global) -> Result<String, AllocError>
 fn command_of<'a>(matches: &ArgMatches<'a>) -> Option<Command<'a>>
     ensures { option_map asks result ≡ subcommand_asked (subcommand_rows_of matches.now) }
 {
-    let (name, inner) = matches.subcommand()?;
+    match matches.subcommand() {
+        Some((name, inner)) => command_named(name, inner),
+        None => None,
+    }
+}
+
+// The command of this name, by its matches.
+fn command_named<'a>(name: &str, matches: &ArgMatches<'a>) -> Option<Command<'a>>
+    ensures { option_map asks result ≡ command_asked name.now (rows_of (found_of matches.now)) }
+{
     match name {
-        "show" => show_of(inner),
-        "check" => check_of(inner),
-        "canon" => canon_of(inner),
-        "compare" => compare_of(inner),
+        "show" => show_of(matches),
+        "check" => check_of(matches),
+        "canon" => canon_of(matches),
+        "compare" => compare_of(matches),
         _ => None,
     }
 }
@@ -108,39 +128,46 @@ fn command_of<'a>(matches: &ArgMatches<'a>) -> Option<Command<'a>>
 fn show_of<'a>(matches: &ArgMatches<'a>) -> Option<Command<'a>>
     ensures { option_map asks result ≡ show_asked (rows_of (found_of matches.now)) }
 {
-    Some(Command::Show {
-        name: value(matches, "FILE")?,
-    })
+    match value(matches, "FILE") {
+        Some(name) => Some(Command::Show { name }),
+        None => None,
+    }
 }
 
 // `check`, by its matches.
 fn check_of<'a>(matches: &ArgMatches<'a>) -> Option<Command<'a>>
     ensures { option_map asks result ≡ check_asked (rows_of (found_of matches.now)) }
 {
-    Some(Command::Check {
-        name: value(matches, "FILE")?,
-        with: value(matches, "with"),
-    })
+    match value(matches, "FILE") {
+        Some(name) => Some(Command::Check {
+            name,
+            with: value(matches, "with"),
+        }),
+        None => None,
+    }
 }
 
 // `canon`, by its matches.
 fn canon_of<'a>(matches: &ArgMatches<'a>) -> Option<Command<'a>>
     ensures { option_map asks result ≡ canon_asked (rows_of (found_of matches.now)) }
 {
-    Some(Command::Canon {
-        name: value(matches, "FILE")?,
-        form: form_of(value(matches, "form")?)?,
-    })
+    let (Some(name), Some(word)) = (value(matches, "FILE"), value(matches, "form")) else {
+        return None;
+    };
+    match form_of(word) {
+        Some(form) => Some(Command::Canon { name, form }),
+        None => None,
+    }
 }
 
 // `compare`, by its matches.
 fn compare_of<'a>(matches: &ArgMatches<'a>) -> Option<Command<'a>>
     ensures { option_map asks result ≡ compare_asked (rows_of (found_of matches.now)) }
 {
-    Some(Command::Compare {
-        left: value(matches, "LEFT")?,
-        right: value(matches, "RIGHT")?,
-    })
+    let (Some(left), Some(right)) = (value(matches, "LEFT"), value(matches, "RIGHT")) else {
+        return None;
+    };
+    Some(Command::Compare { left, right })
 }
 
 // The first word that the matches have under this name.
