@@ -1,8 +1,9 @@
 // Bundles by their ordered pairs, as arcs come.
-ghost use Rattle.std.specs.Prelude.{◌≡◌, ◌<◌, ◌≤◌, ℤ, List, MatchOption, [], None, OnOk, OnErr, Some, Err, ◌↔◌, ◌<ℤ◌, pos, ◌-◌, ◌^◌, ◌++◌, ◌∷◌, false};
+ghost use Rattle.std.specs.Prelude.{◌≡◌, ◌<◌, ◌≤◌, ℤ, List, MatchOption, [], None, OnOk, OnErr, Some, Err, ◌↔◌, ◌<ℤ◌, pos, ◌-◌, ◌^◌, ◌++◌, ◌∷◌, false, true, vec_capacity, vec_len};
 ghost use Rattle.std.specs.List.{list_any, IsDistinct};
 ghost use Rattle.std.specs.List.Sorted.{IsStrictlySortedBy};
 ghost use Rattle.std.specs.Map.{keys_of, lookup};
+ghost use Rattle.pair_index.specs.Indexed.{Indexes};
 ghost use Rattle.pair_index.specs.Places.{IsPlace};
 ghost use Rattle.dn_bundle.specs.declared.arc.Form.{Form};
 ghost use Rattle.pair_index.specs.Pairs.{pair_cmp, same_pair};
@@ -70,14 +71,39 @@ impl<B: Bundle> TableSoFar<B> {
         ensures place { IsPlace (keys_of self.old) pair.now result }
         ensures same { self.new ≡ self.old }
     {
-        let likely = match self.likely.get(self.asked) {
-            Some(likely) => *likely as usize,
-            None => return self.index.find(&self.entries, pair),
-        };
+        let guess = self.next_guess();
+        self.place_from(guess, pair)
+    }
+
+    // The next guess, which is then used up.
+    #[inline]
+    fn next_guess(&mut self) -> Option<usize>
+        ensures { self.new ≡ self.old }
+    {
+        let guess = *self.likely.get(self.asked)? as usize;
         self.asked += 1;
-        match self.entries.get(likely) {
-            Some(entry) if is_pair(&entry.0, pair) => Some(likely),
+        Some(guess)
+    }
+
+    // Where a pair stands, if it has an entry. The guess is tried first.
+    #[inline]
+    fn place_from(&self, guess: Option<usize>, pair: &(i64, i64)) -> Option<usize>
+        ensures { IsPlace (keys_of self.now) pair.now result }
+    {
+        match guess {
+            Some(at) if self.stands_at(at, pair) => Some(at),
             _ => self.index.find(&self.entries, pair),
+        }
+    }
+
+    // Whether a pair stands there.
+    #[inline]
+    fn stands_at(&self, at: usize, pair: &(i64, i64)) -> bool
+        ensures { result ≡ true → IsPlace (keys_of self.now) pair.now (Some at) }
+    {
+        match self.entries.get(at) {
+            Some(entry) => is_pair(&entry.0, pair),
+            None => false,
         }
     }
 
@@ -87,9 +113,8 @@ impl<B: Bundle> TableSoFar<B> {
         ensures ok { OnOk result (self.new ≡ self.old ++ (pair, bundle) ∷ []) }
         ensures err { OnErr result (self.new ≡ self.old) }
     {
-        self.entries.reserve(1)?;
-        self.index.note(alloc, &self.entries, &pair)?;
-        self.entries.push((pair, bundle)).unwrap();
+        note_next(alloc, &mut self.entries, &mut self.index, &pair)?;
+        self.entries.push_reserved((pair, bundle));
         Ok(())
     }
 
@@ -166,4 +191,22 @@ impl<B: Bundle> TableSoFar<B> {
         index.sort(&mut entries);
         Table::of(entries)
     }
+}
+
+// Has room for an entry behind the others made, and its pair taken up in their index.
+fn note_next<X>(
+    alloc: Global,
+    entries: &mut Vec<((i64, i64), X)>,
+    index: &mut PairIndex,
+    pair: &(i64, i64),
+) -> Result<(), AllocError>
+    requires indexed { Indexes index.old (keys_of entries.old.items) }
+    requires fresh { list_any (same_pair pair.now) (keys_of entries.old.items) ≡ false }
+    ensures same { entries.new.items ≡ entries.old.items }
+    ensures room { OnOk result (vec_len entries.new < vec_capacity entries.new) }
+    ensures ok { OnOk result (Indexes index.new (keys_of entries.old.items ++ pair.now ∷ [])) }
+    ensures err { OnErr result (Indexes index.new (keys_of entries.old.items)) }
+{
+    entries.reserve(1)?;
+    index.note(alloc, entries, pair)
 }

@@ -1,13 +1,19 @@
-use Rattle.std.proofs.Common.{◌≡◌, true, false, refl, sym, ◌∙◌}
+use Rattle.std.proofs.Common.{◌≡◌, Result, Err, true, false, refl, sym, ◌∙◌}
 use Rattle.std.proofs.lemmas.Result.{err_from_is_err_and}
 use Rattle.dn_bundle.specs.declared.arc.Form.TheVariants.{One}
+use Rattle.dn_bundle.specs.declared.bundle.BundleFault.TheVariants.{Sum}
+use Rattle.dn_bundle.specs.declared.bundle.BundleFault.{BundleFault}
 use Rattle.dn_table.proofs.TableLaws.{grows_fresh, grows_none, told_none, sum_told, neither, on_ok_both, only_memory}
 use Rattle.dn_table.proofs.table_so_far.TableSoFar.add_fresh.Goals as goal
+
+-- a fault of a bundle's sum
+abbrev IsSum : BundleFault → Type 0
+IsSum fault = ◌≡◌ {A = Result (Unit {0}) BundleFault} (Err fault) (Err Sum)
 
 pub returns-in_err-add-clause-sum : goal.returns-in_err-add-clause-sum
 returns-in_err-add-clause-sum g c =
     let p = err_from_is_err_and c.from_residual.result c.from_residual.ensures.1 in
-    rw (p.1, p.2) (sum_told g.B.Bundle.kind (g.B.Bundle.told One) c.args.arc _ c.args.self.now c.args.self.now c.args.pair (g.B.Bundle.told One c.empty-bundle.result) refl
+    rw (p.1, p.2) (sum_told {F = IsSum c.in_err-add.field-0.0} g.B.Bundle.kind (g.B.Bundle.told One) c.args.arc _ c.args.self.now c.args.self.now c.args.pair (g.B.Bundle.told One c.empty-bundle.result) refl
     (told_none (g.B.Bundle.told One) c.args.self.now c.args.pair c.requires.none ∙ sym (c.empty-bundle.ensures One))
     c.in_err-add.ensures.sum)
 

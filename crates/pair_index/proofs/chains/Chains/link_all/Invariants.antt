@@ -1,8 +1,8 @@
 use Rattle.std.proofs.Common.{take}
 use Rattle.std.specs.Map.{keys_of}
 use Rattle.pair_index.specs.Chained.{IsChained}
-use Rattle.pair_index.proofs.chains.Chains.spread_by.Given as goal
+use Rattle.pair_index.proofs.chains.Chains.link_all.Given as goal
 
 -- the entries so far are in chains
 abbrev pub invariant-loop-entry : goal.invariant-loop-entry
-invariant-loop-entry g l = IsChained l.chains (keys_of (take l.entry-index l.entries))
+invariant-loop-entry g l = IsChained l.self (keys_of (take l.entry-index l.entries))

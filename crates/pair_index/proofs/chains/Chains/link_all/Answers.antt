@@ -3,10 +3,10 @@ use Rattle.std.specs.Map.{keys_of}
 use Rattle.std.proofs.lemmas.List.{take_all}
 use Rattle.pair_index.specs.Chained.{IsChained}
 use Rattle.pair_index.proofs.IndexLaws.{keys_take_more}
-use Rattle.pair_index.proofs.chains.Chains.spread_by.Goals as goal
+use Rattle.pair_index.proofs.chains.Chains.link_all.Goals as goal
 
 pub loop-entry-init : goal.loop-entry-init
-loop-entry-init g c = c.in_ok-chains.ensures.linked
+loop-entry-init g c = c.requires
 
 pub loop-entry-preserved : goal.loop-entry-preserved
 loop-entry-preserved g c =
@@ -17,7 +17,7 @@ loop-entry-preserved g c =
     (c.link.ensures (keys_of (take i es)) c.loop-entry.invariant)
 
 pub returns : goal.returns
-returns g c =
+returns g c linked =
     let es = c.args.entries.now in
     c.link-2.ensures (keys_of es)
-    (subst (λ some. IsChained c.loop-entry.chains (keys_of some)) (take_all c.loop-entry.entry-index es c.loop-entry-test.false) c.loop-entry.invariant)
+    (subst (λ some. IsChained c.loop-entry.self (keys_of some)) (take_all c.loop-entry.entry-index es c.loop-entry-test.false) c.loop-entry.invariant)
