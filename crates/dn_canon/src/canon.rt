@@ -3,6 +3,7 @@ ghost use Rattle.std.specs.Prelude.{◌≡◌, ◌≢◌, ◌↔◌, Err, IfSome
 ghost use Rattle.dn_instance.specs.Helds.{IsHeld, holding};
 ghost use Rattle.dn_instance.specs.Instances.{Instance};
 ghost use Rattle.dn_instance.specs.SourceReads.{PulledWhileClean};
+ghost use Rattle.dn_instance.specs.Texts.{Reads};
 ghost use Rattle.dn_instance.specs.Validity.{IsValid};
 ghost use Rattle.dn_canon.specs.Writes.{SinkAfter, WritesCanon, written_as};
 ghost use Rattle.dn_canon.specs.Runs.{JudgesCanon, RunOutcome, TextOutcome};
@@ -89,7 +90,11 @@ pub fn canon_run<S: Source, K: Sink>(
     ensures flushed { OnOk result (IsTrue (K.is_flushed sink.new)) }
 {
     match read_from(alloc, source) {
-        Ok(held) => write_canon(&held, sink, form),
+        Ok(held) => {
+            let written = write_canon(&held, sink, form);
+            drop(held);
+            written
+        }
         Err(refusal) => Err(refusal),
     }
 }
@@ -104,12 +109,23 @@ pub fn is_canon(alloc: Global, text: &[u8], form: Form) -> Result<bool, Refusal>
     ensures { JudgesCanon form text.now result }
 {
     match read_text(alloc, text) {
-        Ok(held) => match canon_text(alloc, &held, form) {
-            Ok(canon) => Ok(same_bytes(&canon, text)),
-            Err(Refusal::CountTooLarge) => Ok(false),
-            Err(_) => Err(Refusal::Memory),
-        },
+        Ok(held) => {
+            let judged = is_canon_of(alloc, &held, text, form);
+            drop(held);
+            judged
+        }
         Err(refusal) => Err(refusal),
+    }
+}
+
+// Whether a text is the canonical text of what is held, as which it reads.
+fn is_canon_of(alloc: Global, held: &Held, text: &[u8], form: Form) -> Result<bool, Refusal>
+    ensures { (I : Instance) → Reads text.now I → IsHeld (holding held.now) I → JudgesCanon form text.now result }
+{
+    match canon_text(alloc, held, form) {
+        Ok(canon) => Ok(same_bytes(&canon, text)),
+        Err(Refusal::CountTooLarge) => Ok(false),
+        Err(_) => Err(Refusal::Memory),
     }
 }
 

@@ -1,8 +1,8 @@
 -- One item more of an instance in the making: what the answer says, and what it comes to hold.
-use Rattle.std.proofs.Common.{◌≡◌, ℤ, pos, List, [], ◌∷◌, ◌++◌, Bool, true, false, cond, not, ◌&&◌, ◌||◌, int_lt, Option, Some, None, is_some, IsSome, Result, Ok, Err, OnOk, filter_map, refl, sym, ap, ◌∙◌, subst, arith, append-nil, Vec, Global}
+use Rattle.std.proofs.Common.{◌≡◌, ℤ, pos, List, [], ◌∷◌, ◌++◌, Bool, true, false, cond, not, ◌&&◌, ◌||◌, int_lt, Option, Some, None, is_some, IsSome, Result, Ok, Err, OnOk, OnErr, filter_map, refl, sym, ap, ◌∙◌, subst, arith, append-nil, Vec, Global}
 use Rattle.std.proofs.lemmas.Int.{ints}
 use Rattle.std.proofs.lemmas.Bool.Decides.{nat_tests}
-use Rattle.std.proofs.lemmas.Result.{on_ok_weaker}
+use Rattle.std.proofs.lemmas.Result.{on_ok_weaker, on_err_weaker}
 use Rattle.std.specs.List.{list_all, list_any}
 use Rattle.std.specs.Option.{option_or}
 use Rattle.std.specs.Ordering.{int_cmp, int_eq, is_eq}
@@ -260,3 +260,22 @@ no_co _ h a = cc
 -- a refused item leaves nothing to show
 pub refused : (d : Draft) (l : Line) (e : Draft) (r : Result (Unit {0}) ItemFault) (f : ItemFault) → r ≡ Err f → Standing d l e r
 refused d l e r f h before holds = subst (λ x. OnOk x (DraftHolds e (before ++ l ∷ []))) (sym h) tt
+
+-- what is held where the item is not taken
+abbrev pub Keeping : Draft → Draft → Result (Unit {0}) ItemFault → Type 0
+Keeping d e r = (before : List Line) → DraftHolds d before → OnErr r (DraftHolds e before)
+
+pub to_keep : (d d' e e' : Draft) (r r' : Result (Unit {0}) ItemFault) → d ≡ d' → e ≡ e' → r ≡ r' → Keeping d' e' r' → Keeping d e r
+to_keep d d' e e' r r' a b c h = subst (λ x. Keeping x e r) (sym a) (subst (λ x. Keeping d' x r) (sym b) (subst (Keeping d' e') (sym c) h))
+
+pub keep_same : (d e : Draft) (r : Result (Unit {0}) ItemFault) → OnErr r (e ≡ d) → Keeping d e r
+keep_same d e r same before holds = on_err_weaker r (λ is. subst (λ x. DraftHolds x before) (sym is) holds) same
+
+pub source_keep : (a a' b : Option ℤ) (t : _) (r : Result (Unit {0}) ItemFault) → OnErr r (a' ≡ a) → Keeping (Drafts.Max a b t) (Drafts.Max a' b t) r
+source_keep a a' b t r same = keep_same (Drafts.Max a b t) (Drafts.Max a' b t) r (on_err_weaker r (ap (λ x. Drafts.Max x b t)) same)
+
+pub sink_keep : (a b b' : Option ℤ) (t : _) (r : Result (Unit {0}) ItemFault) → OnErr r (b' ≡ b) → Keeping (Drafts.Max a b t) (Drafts.Max a b' t) r
+sink_keep a b b' t r same = keep_same (Drafts.Max a b t) (Drafts.Max a b' t) r (on_err_weaker r (ap (λ x. Drafts.Max a x t)) same)
+
+pub cap_keep : (a b : Option ℤ) (t t' : _) (r : Result (Unit {0}) ItemFault) → OnErr r (t' ≡ t) → Keeping (Drafts.Max a b t) (Drafts.Max a b t') r
+cap_keep a b t t' r same = keep_same (Drafts.Max a b t) (Drafts.Max a b t') r (on_err_weaker r (ap (λ x. Drafts.Max a b x)) same)

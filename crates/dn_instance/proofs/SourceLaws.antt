@@ -69,6 +69,28 @@ pub handed_on : {A : Type 0} (a : Result A Refusal) (e : Refusal) (P : Refusal �
 handed_on (Ok x) e P is p = tt
 handed_on (Err x) e P is p = subst P (sym is.1) p
 
+-- an answer that hands on a refusal is no success
+pub handed_none : {A : Type 0} (a : Result A Refusal) (e : Refusal) (P : Type 0) → IsErr a × IsErrAnd a (λ x. x ≡ e) → OnOk a P
+handed_none (Ok x) e P is = absurd (let never = is.0 in cc)
+handed_none (Err x) e P is = tt
+
+-- an answer that hands on another refusal is not `Read`
+pub handed_other : {A F : Type 0} (a : Result A Refusal) (e : Refusal) → IsErr a × IsErrAnd a (λ x. x ≡ e) → (e ≡ Read → ⊥) → IsErrOf a Read → F
+handed_other (Ok x) e is other h = absurd (let never = is.0 in cc)
+handed_other (Err x) e is other h = let same : x ≡ Read = cc in absurd (other (sym is.1 ∙ same))
+
+-- a refusal at a line is one that reading gives, and not `Read`
+pub refused_reading : (n : ℕ) (ls : List (List ℕ)) (e : Refusal) → IsRefused n ls e → IsOfReading e
+refused_reading n ls (Text place code) h = tt
+refused_reading n ls Memory h = tt
+refused_reading n ls Read h = tt
+refused_reading n ls Endless h = tt
+refused_reading n ls Write h = absurd h
+refused_reading n ls CountTooLarge h = absurd h
+
+pub refused_unread : (n : ℕ) (ls : List (List ℕ)) (e : Refusal) → IsRefused n ls e → e ≡ Read → ⊥
+refused_unread n ls e h is = subst (IsRefused n ls) is h
+
 -- the source has no end
 pub endless_given : (old new : Option (List ℕ)) (given : List ℕ) (r : Reader) (count : ℕ) → Consumes old new given → ReaderAt r given → r.refusal ≡ None → count ≤ length given → 2 ^ 40 ≤ count → IfSome old (λ t. SourceOutcome t new (Err Endless))
 endless_given None new given r count c s none h k = tt

@@ -1,5 +1,5 @@
 -- Node lines of a `min` text after the items before them: their first fault, and what is held with them.
-use Rattle.std.proofs.Common.{◌≡◌, ℤ, pos, List, [], ◌∷◌, ◌++◌, Bool, true, false, cond, ◌&&◌, ◌||◌, Some, None, is_some, Result, Ok, Err, OnOk, filter_map, refl, sym, ap, ◌∙◌, subst, arith, append-nil}
+use Rattle.std.proofs.Common.{◌≡◌, ℤ, pos, List, [], ◌∷◌, ◌++◌, Bool, true, false, cond, ◌&&◌, ◌||◌, Some, None, is_some, Result, Ok, Err, OnOk, OnErr, filter_map, refl, sym, ap, ◌∙◌, subst, arith, append-nil}
 use Rattle.std.proofs.Math.Bool.{or-false}
 use Rattle.std.proofs.lemmas.Int.{ints}
 use Rattle.std.proofs.lemmas.Bool.Decides.{nat_tests}
@@ -26,7 +26,7 @@ use Rattle.dn_instance.specs.declared.refusal.ItemFault.{ItemFault}
 use Rattle.dn_instance.specs.Items.{cost_arc_in, supply_in, supplies_of, by_key}
 use Rattle.dn_instance.specs.ItemFaults.{AnswersFault, supply_fault}
 use Rattle.dn_instance.specs.TextFaults.{is_companion, has_supply}
-use Rattle.dn_instance.proofs.DraftLaws.{Answering, Standing, stray_one, or_else, sought_eq, table_kept}
+use Rattle.dn_instance.proofs.DraftLaws.{Answering, Standing, Keeping, stray_one, or_else, sought_eq, table_kept}
 use Rattle.dn_instance.proofs.MapLaws.{by_key_push, lookup_put, some_cond}
 use Rattle.dn_instance.proofs.ValidLaws.{supplies_grow}
 
@@ -105,6 +105,15 @@ supply_stand id flow s s' z z' t (Ok x) put kept before holds = (
   put ∙ ap (λ m. cond (int_eq flow (pos 0)) m (insert_entry int_cmp m id flow)) holds.0 ∙ sym (supplies_push id flow before (int_eq flow (pos 0)) refl),
   λ q. named id flow q before s s' z z' (holds.1 q) put (kept q) (int_eq flow (pos 0)) refl,
   table_kept costs cost_arc_in _ t before (Item.Supply id flow) refl holds.2,
+)
+
+-- a node line that is not taken leaves the flows
+pub supply_keep : (s s' : BTreeMap ℤ ℤ) (z z' : BTreeSet ℤ) (t : _) (r : Result (Unit {0}) ItemFault) → OnErr r ((s'.entries ≡ s.entries) × (z'.keys ≡ z.keys)) → Keeping (Drafts.Min s z t) (Drafts.Min s' z' t) r
+supply_keep s s' z z' t (Ok x) same before holds = tt
+supply_keep s s' z z' t (Err e) same before holds = (
+  same.0 ∙ holds.0,
+  λ q. ap (λ m. is_some (lookup (is_at (int_cmp q)) m) || Set.contains int_cmp z' q) same.0 ∙ ap (λ ks. is_some (Map.get int_cmp s q) || list_any (is_at (int_cmp q)) ks) same.1 ∙ holds.1 q,
+  holds.2,
 )
 
 -- an arc leaves the flows

@@ -161,12 +161,15 @@ impl Draft {
         match self {
             Draft::Min {
                 supplies,
+                idle,
                 table,
-                ..
-            } => Ok(Content::Min {
-                supplies,
-                table: table.end(),
-            }),
+            } => {
+                drop(idle);
+                Ok(Content::Min {
+                    supplies,
+                    table: table.end(),
+                })
+            }
             Draft::Max {
                 source,
                 sink,
@@ -177,7 +180,10 @@ impl Draft {
                     sink,
                     table: table.end(),
                 }),
-                _ => Err(Code::MissingTerminal),
+                _ => {
+                    drop(table);
+                    Err(Code::MissingTerminal)
+                }
             },
             Draft::Sp(table) => Ok(Content::Sp(table.end())),
             Draft::Ss(ids) => Ok(Content::Ss(ids)),

@@ -126,6 +126,7 @@ impl Progress {
         match self.draft.end() {
             Ok(content) => {
                 if self.counted < self.count {
+                    drop(content);
                     Err(Code::TooFewLines)
                 } else {
                     Ok(Held::new(self.nodes, self.counted, content))

@@ -162,18 +162,29 @@ impl Reader {
         ensures again { (e : Refusal) → refusal_of self ≡ Some e → result ≡ Err e }
     {
         if let Some(refusal) = self.refusal {
+            drop(self);
             return Err(refusal);
         }
         match self.close_last() {
-            Ok(()) => match self.text.end() {
+            Ok(()) => match self.into_text().end() {
                 Ok(held) => Ok(held),
                 Err(code) => Err(Refusal::Text {
                     place: Place::End,
                     code,
                 }),
             },
-            Err(refusal) => Err(refusal),
+            Err(refusal) => {
+                drop(self);
+                Err(refusal)
+            }
         }
+    }
+
+    // What the complete lines make.
+    fn into_text(self) -> TextSoFar
+        ensures { result ≡ self.text }
+    {
+        self.text
     }
 
     // The same once pieces were fed, or the refusal that this gave.
@@ -182,7 +193,10 @@ impl Reader {
     {
         match fed {
             Ok(()) => self.finish(),
-            Err(refusal) => Err(refusal),
+            Err(refusal) => {
+                drop(self);
+                Err(refusal)
+            }
         }
     }
 }

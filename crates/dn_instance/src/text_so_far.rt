@@ -19,6 +19,7 @@ use crate::progress::Progress;
 use crate::refusal::ItemFault;
 use dn_line::{ArcLine, Code, Head, Kind, Line, LineReader, arc_line};
 use std::alloc::Global;
+use std::mem::replace;
 
 // As many lines as a text may have.
 const LAST: u64 = (1 << 63) - 2;
@@ -163,7 +164,9 @@ impl TextSoFar {
             return None;
         }
         self.look_ahead(bytes);
-        let next = self.next_arc(bytes)?;
+        let Some(next) = self.next_arc(bytes) else {
+            return None;
+        };
         match put(&mut self.progress, alloc, next.arc) {
             Ok(()) => {
                 self.closed += 1;
@@ -215,7 +218,7 @@ fn put(progress: &mut Option<Progress>, alloc: Global, item: Line) -> Result<(),
     match progress {
         Some(progress) => progress.take(alloc, item),
         None => {
-            *progress = Progress::begin(alloc, &item);
+            drop(replace(progress, Progress::begin(alloc, &item)));
             match progress {
                 Some(_) => Ok(()),
                 // Never: an item before the problem line is refused before it comes here.

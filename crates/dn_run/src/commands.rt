@@ -60,10 +60,14 @@ fn show<'a, F: Files, O: Sink>(
     ensures flushed { OnOk result (IsTrue (O.is_flushed out.new)) }
 {
     match read_named(alloc, name, files) {
-        Ok(held) => match put_shown(out, &held) {
-            Ok(()) => Ok(0),
-            Err(_) => Err(Stop::Cut),
-        },
+        Ok(held) => {
+            let put = put_shown(out, &held);
+            drop(held);
+            match put {
+                Ok(()) => Ok(0),
+                Err(_) => Err(Stop::Cut),
+            }
+        }
         Err(refusal) => Err(Stop::Refused { name, refusal }),
     }
 }
@@ -84,10 +88,14 @@ fn canon<'a, F: Files, O: Sink>(
     ensures flushed { OnOk result (IsTrue (O.is_flushed out.new)) }
 {
     match read_named(alloc, name, files) {
-        Ok(held) => match write_canon(&held, out, form) {
-            Ok(()) => Ok(0),
-            Err(refusal) => Err(unwritten(name, refusal)),
-        },
+        Ok(held) => {
+            let written = write_canon(&held, out, form);
+            drop(held);
+            match written {
+                Ok(()) => Ok(0),
+                Err(refusal) => Err(unwritten(name, refusal)),
+            }
+        }
         Err(refusal) => Err(Stop::Refused { name, refusal }),
     }
 }
@@ -108,7 +116,11 @@ fn check<'a, F: Files, O: Sink>(
 {
     let mut copy = Vec::new(alloc);
     match copy_named(alloc, name, files, &mut copy) {
-        Ok(held) => put_check(alloc, name, held.kind(), None, &copy, out),
+        Ok(held) => {
+            let kind = held.kind();
+            drop(held);
+            put_check(alloc, name, kind, None, &copy, out)
+        }
         Err(refusal) => Err(Stop::Refused { name, refusal }),
     }
 }
@@ -132,17 +144,27 @@ fn check_with<'a, F: Files, O: Sink>(
     let mut copy = Vec::new(alloc);
     match copy_named(alloc, name, files, &mut copy) {
         Ok(graph) => match read_named(alloc, companion, files) {
-            Ok(held) => match check_companion(&graph, &held) {
-                Ok(()) => put_check(alloc, name, graph.kind(), Some(held.kind()), &copy, out),
-                Err(fault) => Err(Stop::Unfit {
+            Ok(held) => {
+                let fits = check_companion(&graph, &held);
+                let kind = graph.kind();
+                let with = held.kind();
+                drop(held);
+                drop(graph);
+                match fits {
+                    Ok(()) => put_check(alloc, name, kind, Some(with), &copy, out),
+                    Err(fault) => Err(Stop::Unfit {
+                        name: companion,
+                        fault,
+                    }),
+                }
+            }
+            Err(refusal) => {
+                drop(graph);
+                Err(Stop::Refused {
                     name: companion,
-                    fault,
-                }),
-            },
-            Err(refusal) => Err(Stop::Refused {
-                name: companion,
-                refusal,
-            }),
+                    refusal,
+                })
+            }
         },
         Err(refusal) => Err(Stop::Refused { name, refusal }),
     }
@@ -166,11 +188,19 @@ fn compare_named<'a, F: Files, O: Sink>(
 {
     match read_named(alloc, left, files) {
         Ok(one) => match read_named(alloc, right, files) {
-            Ok(other) => put_compared(&one, &other, out),
-            Err(refusal) => Err(Stop::Refused {
-                name: right,
-                refusal,
-            }),
+            Ok(other) => {
+                let found = put_compared(&one, &other, out);
+                drop(other);
+                drop(one);
+                found
+            }
+            Err(refusal) => {
+                drop(one);
+                Err(Stop::Refused {
+                    name: right,
+                    refusal,
+                })
+            }
         },
         Err(refusal) => Err(Stop::Refused {
             name: left,

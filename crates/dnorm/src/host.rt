@@ -105,7 +105,22 @@ fn run_with_arguments<R: Runtime + AllocGlobal, E: Sink>(host: &R, err: &mut E) 
     ensures { IfOk result (λ status. status ≤ 4) }
 {
     let words: Vec<String> = env::args(host)?.collect(host.alloc())?;
+    let status = run_words(host, &words, err);
+    drop(words);
+    status
+}
+
+// A run on these words. Fails where there is no memory for its output.
+fn run_words<R: Runtime + AllocGlobal, E: Sink>(
+    host: &R,
+    words: &[String],
+    err: &mut E,
+) -> io::Result<u8>
+    ensures { IfOk result (λ status. status ≤ 4) }
+{
     let mut out = ToWrite::new(BufWriter::with_capacity(host.alloc(), 65536, io::writer(host))?);
     let mut files = HostFiles::new(host);
-    Ok(run(host.alloc(), &words, &mut files, &mut out, err))
+    let status = run(host.alloc(), words, &mut files, &mut out, err);
+    drop(out);
+    Ok(status)
 }

@@ -1,7 +1,7 @@
-use Rattle.std.proofs.Common.{◌≡◌, ◌≤◌, [], ◌++◌, length, Err, ap, subst, length-append, arith, rules}
+use Rattle.std.proofs.Common.{◌≡◌, ◌≤◌, [], ◌++◌, length, Err, sym, ap, subst, length-append, arith, rules}
 use Rattle.std.proofs.KnownBytes.{Consumes-nil, Consumes-trans}
-use Rattle.dn_instance.proofs.SourceLaws.{given_at_end, refused_given, handed_on, endless_given, has_none, has_some, not_refused, pulled_so_far, pulled_on}
-use Rattle.dn_instance.specs.SourceReads.{unpulled, pulled}
+use Rattle.dn_instance.proofs.SourceLaws.{given_at_end, refused_given, refused_reading, refused_unread, handed_on, handed_none, handed_other, endless_given, has_none, has_some, not_refused, pulled_so_far, pulled_on}
+use Rattle.dn_instance.specs.SourceReads.{IsOfReading, unpulled, pulled}
 use Rattle.dn_instance.proofs.read.feed_all.Goals as goal
 
 pub returns-then-is_empty-clause-ok : goal.returns-then-is_empty-clause-ok
@@ -68,3 +68,33 @@ loop-init g c = record { given = ([], Consumes-nil (g.S.Source.gives c.args.sour
 pub returns-clause-pulls : goal.returns-clause-pulls
 returns-clause-pulls g c =
     pulled_so_far c.loop.invariant.given.0 c.loop.reader c.loop.invariant.pulls c.loop.invariant.given.1 c.loop.invariant.given.2 c.loop.invariant.fine
+
+pub returns-in_err-piece-clause-stays : goal.returns-in_err-piece-clause-stays
+returns-in_err-piece-clause-stays g c = λ failed. c.next_piece.ensures.stays (c.loop.invariant.stays failed)
+
+pub returns-then-is_empty-clause-stays : goal.returns-then-is_empty-clause-stays
+returns-then-is_empty-clause-stays g c = λ failed. c.next_piece.ensures.stays (c.loop.invariant.stays failed)
+
+pub returns-in_err-feed-clause-stays : goal.returns-in_err-feed-clause-stays
+returns-in_err-feed-clause-stays g c = λ failed. c.next_piece.ensures.stays (c.loop.invariant.stays failed)
+
+pub returns-clause-stays : goal.returns-clause-stays
+returns-clause-stays g c = c.loop.invariant.stays
+
+pub returns-in_err-piece-clause-read : goal.returns-in_err-piece-clause-read
+returns-in_err-piece-clause-read g c = λ read. c.in_err-piece.ensures.err
+
+pub returns-in_err-feed-clause-read : goal.returns-in_err-feed-clause-read
+returns-in_err-feed-clause-read g c = handed_other _ _ c.from_residual-in_err-feed.ensures (refused_unread _ _ _ (c.in_err-feed.ensures.told c.loop.invariant.given.0 c.loop.invariant.given.2))
+
+pub returns-in_err-feed-clause-refusal : goal.returns-in_err-feed-clause-refusal
+returns-in_err-feed-clause-refusal g c = handed_on _ _ IsOfReading c.from_residual-in_err-feed.ensures (refused_reading _ _ _ (c.in_err-feed.ensures.told c.loop.invariant.given.0 c.loop.invariant.given.2))
+
+pub returns-in_err-piece-clause-refusal : goal.returns-in_err-piece-clause-refusal
+returns-in_err-piece-clause-refusal g c = handed_on _ _ IsOfReading c.from_residual.ensures (subst IsOfReading (sym c.in_err-piece.ensures.refusal) tt)
+
+pub returns-in_err-piece-clause-ok : goal.returns-in_err-piece-clause-ok
+returns-in_err-piece-clause-ok g c = handed_none _ _ _ c.from_residual.ensures
+
+pub returns-in_err-feed-clause-ok : goal.returns-in_err-feed-clause-ok
+returns-in_err-feed-clause-ok g c = handed_none _ _ _ c.from_residual-in_err-feed.ensures

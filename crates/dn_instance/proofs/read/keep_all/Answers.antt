@@ -1,8 +1,8 @@
-use Rattle.std.proofs.Common.{◌≡◌, ◌≤◌, [], ◌++◌, length, ◌∙◌, Err, ap, subst, rules, append_assoc, length-append, sym, append-nil, arith}
+use Rattle.std.proofs.Common.{◌≡◌, ◌≤◌, ℕ, List, [], ◌++◌, length, ◌∙◌, Err, ap, subst, rules, append_assoc, length-append, sym, append-nil, arith}
 use Rattle.std.proofs.KnownBytes.{Consumes-nil, Consumes-trans}
 use Rattle.dn_instance.specs.declared.refusal.Refusal.TheVariants.{Endless}
-use Rattle.dn_instance.proofs.SourceLaws.{given_at_end, refused_given, handed_on, endless_given, has_none, has_some, not_refused, pulled_so_far, pulled_on, copied, uncopied, failed_copy}
-use Rattle.dn_instance.specs.SourceReads.{unpulled, pulled}
+use Rattle.dn_instance.proofs.SourceLaws.{given_at_end, refused_given, refused_reading, refused_unread, handed_on, handed_none, handed_other, endless_given, has_none, has_some, not_refused, pulled_so_far, pulled_on, copied, uncopied, failed_copy}
+use Rattle.dn_instance.specs.SourceReads.{IsOfReading, unpulled, pulled}
 use Rattle.dn_instance.proofs.read.keep_all.Goals as goal
 
 pub returns-then-is_empty-clause-ok : goal.returns-then-is_empty-clause-ok
@@ -100,4 +100,56 @@ pub returns-in_err-feed-clause-front : goal.returns-in_err-feed-clause-front
 returns-in_err-feed-clause-front g c =
     let t = c.loop.invariant.given.0 in
     let piece = c.in_ok-bytes.bytes.now in
-    (t ++ piece, c.in_ok-keep_piece.ensures.ok ∙ ap (λ l. l ++ piece) c.loop.invariant.given.4 ∙ append_assoc _ t piece)
+    (t ++ piece, ◌∙◌ {A = List ℕ} c.in_ok-keep_piece.ensures.ok (ap (λ l. l ++ piece) c.loop.invariant.given.4 ∙ append_assoc _ t piece))
+
+pub returns-then-is_empty-clause-front : goal.returns-then-is_empty-clause-front
+returns-then-is_empty-clause-front g c = (c.loop.invariant.given.0, c.loop.invariant.given.4)
+
+pub returns-in_err-bytes-clause-front : goal.returns-in_err-bytes-clause-front
+returns-in_err-bytes-clause-front g c = (c.loop.invariant.given.0, c.loop.invariant.given.4)
+
+pub returns-clause-front : goal.returns-clause-front
+returns-clause-front g c = (c.loop.invariant.given.0, c.loop.invariant.given.4)
+
+pub returns-in_err-keep_piece-clause-refusal : goal.returns-in_err-keep_piece-clause-refusal
+returns-in_err-keep_piece-clause-refusal g c =
+    handed_on _ _ IsOfReading c.from_residual-in_err-keep_piece.ensures (subst IsOfReading (sym c.in_err-keep_piece.ensures.memory) tt)
+
+pub returns-in_err-bytes-clause-stays : goal.returns-in_err-bytes-clause-stays
+returns-in_err-bytes-clause-stays g c = λ failed. c.next_piece.ensures.stays (c.loop.invariant.stays failed)
+
+pub returns-then-is_empty-clause-stays : goal.returns-then-is_empty-clause-stays
+returns-then-is_empty-clause-stays g c = λ failed. c.next_piece.ensures.stays (c.loop.invariant.stays failed)
+
+pub returns-in_err-feed-clause-stays : goal.returns-in_err-feed-clause-stays
+returns-in_err-feed-clause-stays g c = λ failed. c.next_piece.ensures.stays (c.loop.invariant.stays failed)
+
+pub returns-in_err-keep_piece-clause-stays : goal.returns-in_err-keep_piece-clause-stays
+returns-in_err-keep_piece-clause-stays g c = λ failed. c.next_piece.ensures.stays (c.loop.invariant.stays failed)
+
+pub returns-clause-stays : goal.returns-clause-stays
+returns-clause-stays g c = c.loop.invariant.stays
+
+pub returns-in_err-bytes-clause-read : goal.returns-in_err-bytes-clause-read
+returns-in_err-bytes-clause-read g c = λ read. c.in_err-bytes.ensures.err
+
+pub returns-in_err-feed-clause-read : goal.returns-in_err-feed-clause-read
+returns-in_err-feed-clause-read g c = handed_other _ _ c.from_residual-in_err-feed.ensures (refused_unread _ _ _ (c.in_err-feed.ensures.told c.loop.invariant.given.0 c.loop.invariant.given.2))
+
+pub returns-in_err-feed-clause-refusal : goal.returns-in_err-feed-clause-refusal
+returns-in_err-feed-clause-refusal g c = handed_on _ _ IsOfReading c.from_residual-in_err-feed.ensures (refused_reading _ _ _ (c.in_err-feed.ensures.told c.loop.invariant.given.0 c.loop.invariant.given.2))
+
+pub returns-in_err-bytes-clause-refusal : goal.returns-in_err-bytes-clause-refusal
+returns-in_err-bytes-clause-refusal g c = handed_on _ _ IsOfReading c.from_residual.ensures (subst IsOfReading (sym c.in_err-bytes.ensures.refusal) tt)
+
+pub returns-in_err-bytes-clause-ok : goal.returns-in_err-bytes-clause-ok
+returns-in_err-bytes-clause-ok g c = handed_none _ _ _ c.from_residual.ensures
+
+pub returns-in_err-feed-clause-ok : goal.returns-in_err-feed-clause-ok
+returns-in_err-feed-clause-ok g c = handed_none _ _ _ c.from_residual-in_err-feed.ensures
+
+pub returns-in_err-keep_piece-clause-ok : goal.returns-in_err-keep_piece-clause-ok
+returns-in_err-keep_piece-clause-ok g c = handed_none _ _ _ c.from_residual-in_err-keep_piece.ensures
+
+pub returns-in_err-keep_piece-clause-read : goal.returns-in_err-keep_piece-clause-read
+returns-in_err-keep_piece-clause-read g c = handed_other _ _ c.from_residual-in_err-keep_piece.ensures (λ read. (let memory = c.in_err-keep_piece.ensures.memory in cc))

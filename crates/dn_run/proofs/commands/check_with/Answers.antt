@@ -6,16 +6,16 @@ use Rattle.dn_run.proofs.CommandLaws.{before_first, fit_refused, fits, held_read
 use Rattle.dn_run.proofs.OutcomeLaws.{left_refused}
 use Rattle.dn_run.proofs.commands.check_with.Goals as goal
 
-pub returns-in-Ok-check_companion-clause-performs : goal.returns-in-Ok-check_companion-clause-performs
-returns-in-Ok-check_companion-clause-performs g c = record {
+pub returns-in-Ok-fits-clause-performs : goal.returns-in-Ok-fits-clause-performs
+returns-in-Ok-fits-clause-performs g c = record {
   mid = c.copy_named.new.files;
   first = c.in-Ok.ensures.asks;
   second = inr (let first = held_read _ _ c.in-Ok.graph c.in-Ok.ensures.read in record { handed = first.0; read = first.1; asks = c.in-Ok-read_named.ensures.asks });
   means = fits _ _ _ c.in-Ok.graph c.in-Ok.ensures.read c.in-Ok-read_named.held
       (before_first (files_run g.F.Files.behind g.F.Files.fault g.F.Files.Asks g.F.Files.Hands g.F.Text.Source.gives g.F.Text.Source.has_failed g.F.Text.Source.Pulls c.args.files.now c.read_named.new.files) c.copy_named.new.files c.args.name.now c.args.companion.now c.in-Ok.ensures.asks.keeps c.requires
       (Ok c.in-Ok-read_named.held) c.in-Ok-read_named.ensures.read)
-      c.copy_named.new.copy.items c.deref.result.now c.deref.ensures.value c.in-Ok.ensures.copy (sym c.in-Ok-check_companion.ensures) c.kind.result c.kind-in-Ok-check_companion.result
-      c.kind.ensures c.kind-in-Ok-check_companion.ensures _ c.put_check.ensures.puts;
+      c.copy_named.new.copy.items c.deref.result.now c.deref.ensures.value c.in-Ok.ensures.copy (sym c.in-Ok-fits.ensures) c.kind-kind.result c.kind-with.result
+      c.kind-kind.ensures c.kind-with.ensures _ c.put_check.ensures.puts;
 }
 
 pub returns-in-Ok-clause-performs : goal.returns-in-Ok-clause-performs
@@ -44,5 +44,8 @@ returns-in-Ok-read_named-clause-performs g c = record {
   means = unfit _ _ _ c.in-Ok.graph c.in-Ok.ensures.read c.in-Ok-read_named.held
       (before_first (files_run g.F.Files.behind g.F.Files.fault g.F.Files.Asks g.F.Files.Hands g.F.Text.Source.gives g.F.Text.Source.has_failed g.F.Text.Source.Pulls c.args.files.now c.read_named.new.files) c.copy_named.new.files c.args.name.now c.args.companion.now c.in-Ok.ensures.asks.keeps c.requires
       (Ok c.in-Ok-read_named.held) c.in-Ok-read_named.ensures.read)
-      c.in-Err-check_companion.fault (sym c.in-Err-check_companion.ensures);
+      c.in-Err-fits.fault (sym c.in-Err-fits.ensures);
 }
+
+pub returns-in-Ok-fits-clause-answers : goal.returns-in-Ok-fits-clause-answers
+returns-in-Ok-fits-clause-answers g c = c.put_check.ensures.answers _

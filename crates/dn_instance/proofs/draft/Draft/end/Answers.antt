@@ -44,8 +44,8 @@ returns-in-P2p c nodes items h =
     let out : Makes (draft_kind (Drafts.P2p c.in-P2p.pairs)) nodes items (Ok (Kept.P2p c.in-P2p.pairs)) = (refl, (_, refl, k)) in
     subst (λ d. Makes (draft_kind d) nodes items (Ok (Kept.P2p c.in-P2p.pairs))) (sym c.in-P2p.is) out
 
-pub returns : goal.returns
-returns c nodes items h =
+pub returns-in-Co : goal.returns-in-Co
+returns-in-Co c nodes items h =
     let k = subst (λ d. DraftHolds d items) c.in-Co.is h in
     let out : Makes (draft_kind (Drafts.Co c.in-Co.points)) nodes items (Ok (Kept.Co c.in-Co.points)) = (refl, (_, refl, k)) in
     subst (λ d. Makes (draft_kind d) nodes items (Ok (Kept.Co c.in-Co.points))) (sym c.in-Co.is) out

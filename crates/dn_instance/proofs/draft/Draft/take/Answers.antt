@@ -1,10 +1,12 @@
 use Rattle.std.proofs.Common.{rules, w64, Some, ap, sym, subst, ◌∙◌}
 use Rattle.std.specs.Int.RustNames.{FitsSigned}
 use Rattle.std.proofs.lemmas.Int.{to_z-of_z}
+use Rattle.std.proofs.lemmas.Result.{on_err_weaker}
 use Rattle.dn_line.specs.declared.line.Line.TheVariants.{Terminal}
+use Rattle.dn_instance.specs.declared.draft.Draft.TheVariants as Drafts
 use Rattle.dn_instance.specs.Drafts.{HasSigns, draft_kind}
-use Rattle.dn_instance.proofs.DraftLaws.{to_answer, to_stand, source_answer, sink_answer, id_answer, pair_answer, point_answer, source_stand, sink_stand, cap_stand, id_stand, pair_stand, point_stand, no_min, no_max, no_sp, no_ss, no_p2p, no_co, refused}
-use Rattle.dn_instance.proofs.SupplyItems.{supply_answer, supply_stand, cost_stand}
+use Rattle.dn_instance.proofs.DraftLaws.{to_answer, to_stand, to_keep, keep_same, source_keep, sink_keep, cap_keep, source_answer, sink_answer, id_answer, pair_answer, point_answer, source_stand, sink_stand, cap_stand, id_stand, pair_stand, point_stand, no_min, no_max, no_sp, no_ss, no_p2p, no_co, refused}
+use Rattle.dn_instance.proofs.SupplyItems.{supply_answer, supply_stand, supply_keep, cost_stand}
 use Rattle.dn_instance.proofs.draft.Draft.take.Goals as goal
 use Rattle.dn_instance.proofs.draft.Draft.take.Goals.{in-Min-MinArc, in-Min-Supply, in-Max-MaxArc, in-Max-Terminal+in-S, in-Max-Terminal+in-T, in-Sp-SpArc, in-Ss-Source, in-P2p-Query, in-Co-Point, in_default, in_default-2, in_default-3, in_default-4, in_default-5, in_default-6}
 
@@ -141,4 +143,44 @@ returns-clause-stands c signs =
       | in_default-5 w ↦ refused c.args.self.now c.args.line c.match-self.self c.match-self.result _ w.result-is
       | in_default-6 w ↦ refused c.args.self.now c.args.line c.match-self.self c.match-self.result _ w.result-is
       | in_default w ↦ refused c.args.self.now c.args.line c.match-self.self c.match-self.result _ w.result-is
+    ]
+
+pub returns-clause-unchanged : goal.returns-clause-unchanged
+returns-clause-unchanged c =
+    elim c.match-self.branch [
+      | in-Min-MinArc w ↦ to_keep c.args.self.now _ c.match-self.self _ c.match-self.result _ w.in-Min-MinArc.is-0 w.self-is w.result-is (keep_same _ _ w.take_cost_arc.result (on_err_weaker w.take_cost_arc.result (λ e. ap (λ t. Drafts.Min w.in-Min-MinArc.supplies-0 w.in-Min-MinArc.idle-0 t) e) w.take_cost_arc.ensures.err))
+      | in-Min-Supply w ↦ to_keep c.args.self.now _ c.match-self.self _ c.match-self.result _ w.in-Min-Supply.is-0 w.self-is w.result-is (supply_keep w.in-Min-Supply.supplies w.take_supply.new.supplies w.in-Min-Supply.idle w.take_supply.new.idle _ w.take_supply.result w.take_supply.ensures.err)
+      | in-Max-MaxArc w ↦ to_keep c.args.self.now _ c.match-self.self _ c.match-self.result _ w.in-Max-MaxArc.is-0 w.self-is w.result-is (cap_keep _ _ _ _ w.take_cap_arc.result w.take_cap_arc.ensures.err)
+      | in-Max-Terminal+in-S w ↦ to_keep c.args.self.now _ c.match-self.self _ c.match-self.result _ w.in-Max-Terminal.is-0 w.self-is w.result-is (source_keep _ _ _ _ w.take_terminal.result w.take_terminal.ensures.err)
+      | in-Max-Terminal+in-T w ↦ to_keep c.args.self.now _ c.match-self.self _ c.match-self.result _ w.in-Max-Terminal.is-0 w.self-is w.result-is (sink_keep _ _ _ _ w.take_terminal-in-T.result w.take_terminal-in-T.ensures.err)
+      | in-Sp-SpArc w ↦ to_keep c.args.self.now _ c.match-self.self _ c.match-self.result _ w.in-Sp-SpArc.is-0 w.self-is w.result-is (keep_same _ _ w.take_length_arc.result (on_err_weaker w.take_length_arc.result (λ e. ap (λ t. Drafts.Sp t) e) w.take_length_arc.ensures.err))
+      | in-Ss-Source w ↦ to_keep c.args.self.now _ c.match-self.self _ c.match-self.result _ w.in-Ss-Source.is-0 w.self-is w.result-is (λ before holds. on_err_weaker w.take_source.result (λ e. e ∙ holds) w.take_source.ensures.err)
+      | in-P2p-Query w ↦ to_keep c.args.self.now _ c.match-self.self _ c.match-self.result _ w.in-P2p-Query.is-0 w.self-is w.result-is (λ before holds. on_err_weaker w.take_query.result (λ e. e ∙ holds) w.take_query.ensures.err)
+      | in-Co-Point w ↦ to_keep c.args.self.now _ c.match-self.self _ c.match-self.result _ w.in-Co-Point.is-0 w.self-is w.result-is (λ before holds. on_err_weaker w.take_point.result (λ e. e ∙ holds) w.take_point.ensures.err)
+      | in_default-2 w ↦ to_keep c.args.self.now _ c.match-self.self _ c.match-self.result _ w.in_default.is-0 w.self-is w.result-is (λ before holds. holds)
+      | in_default-3 w ↦ to_keep c.args.self.now _ c.match-self.self _ c.match-self.result _ w.in_default.is-0 w.self-is w.result-is (λ before holds. holds)
+      | in_default-4 w ↦ to_keep c.args.self.now _ c.match-self.self _ c.match-self.result _ w.in_default.is-0 w.self-is w.result-is (λ before holds. holds)
+      | in_default-5 w ↦ to_keep c.args.self.now _ c.match-self.self _ c.match-self.result _ w.in_default.is-0 w.self-is w.result-is (λ before holds. holds)
+      | in_default-6 w ↦ to_keep c.args.self.now _ c.match-self.self _ c.match-self.result _ w.in_default.is-0 w.self-is w.result-is (λ before holds. holds)
+      | in_default w ↦ to_keep c.args.self.now _ c.match-self.self _ c.match-self.result _ w.in_default.is-0 w.self-is w.result-is (λ before holds. holds)
+    ]
+
+pub returns-clause-kept : goal.returns-clause-kept
+returns-clause-kept c =
+    elim c.match-self.branch [
+      | in-Min-MinArc w ↦ ap draft_kind w.self-is ∙ sym (ap draft_kind w.in-Min-MinArc.is-0)
+      | in-Min-Supply w ↦ ap draft_kind w.self-is ∙ sym (ap draft_kind w.in-Min-Supply.is-0)
+      | in-Max-MaxArc w ↦ ap draft_kind w.self-is ∙ sym (ap draft_kind w.in-Max-MaxArc.is-0)
+      | in-Max-Terminal+in-S w ↦ ap draft_kind w.self-is ∙ sym (ap draft_kind w.in-Max-Terminal.is-0)
+      | in-Max-Terminal+in-T w ↦ ap draft_kind w.self-is ∙ sym (ap draft_kind w.in-Max-Terminal.is-0)
+      | in-Sp-SpArc w ↦ ap draft_kind w.self-is ∙ sym (ap draft_kind w.in-Sp-SpArc.is-0)
+      | in-Ss-Source w ↦ ap draft_kind w.self-is ∙ sym (ap draft_kind w.in-Ss-Source.is-0)
+      | in-P2p-Query w ↦ ap draft_kind w.self-is ∙ sym (ap draft_kind w.in-P2p-Query.is-0)
+      | in-Co-Point w ↦ ap draft_kind w.self-is ∙ sym (ap draft_kind w.in-Co-Point.is-0)
+      | in_default-2 w ↦ ap draft_kind w.self-is ∙ sym (ap draft_kind w.in_default.is-0)
+      | in_default-3 w ↦ ap draft_kind w.self-is ∙ sym (ap draft_kind w.in_default.is-0)
+      | in_default-4 w ↦ ap draft_kind w.self-is ∙ sym (ap draft_kind w.in_default.is-0)
+      | in_default-5 w ↦ ap draft_kind w.self-is ∙ sym (ap draft_kind w.in_default.is-0)
+      | in_default-6 w ↦ ap draft_kind w.self-is ∙ sym (ap draft_kind w.in_default.is-0)
+      | in_default w ↦ ap draft_kind w.self-is ∙ sym (ap draft_kind w.in_default.is-0)
     ]

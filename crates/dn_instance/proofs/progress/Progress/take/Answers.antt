@@ -1,8 +1,8 @@
-use Rattle.std.proofs.Common.{rules, ◌≡◌, ◌<◌, ◌^◌, pos, ◌+ℤ◌, ◌++◌, ◌∷◌, [], Some, OnOk, FitsSigned, suc, to_z, of_z, to_z-of_z, w64, sym, ap, ◌∙◌, refl, subst}
+use Rattle.std.proofs.Common.{rules, ◌≡◌, ◌<◌, ◌^◌, pos, ◌+ℤ◌, ◌++◌, ◌∷◌, [], Some, OnOk, OnErr, FitsSigned, suc, to_z, of_z, to_z-of_z, w64, sym, ap, ◌∙◌, refl, subst}
 use Rattle.std.specs.Int.{saturate_signed}
 use Rattle.dn_line.specs.Faults.{first_fault}
 use Rattle.dn_instance.specs.Items.{counted}
-use Rattle.dn_instance.specs.TextFaults.{item_tests}
+use Rattle.dn_instance.specs.TextFaults.{item_tests, is_companion}
 use Rattle.dn_instance.specs.Drafts.{DraftHolds}
 use Rattle.dn_instance.specs.ItemFaults.{AnswersFault}
 use Rattle.dn_instance.proofs.ProgressLaws.{counted_yes, counted_no, next_few, next_fits, sum_is, has_room, is_then}
@@ -34,3 +34,19 @@ returns-in-Err-clause-answer c kind signs before at = subst (λ r. AnswersFault 
 pub returns-then-is_counted-clause-answer : goal.returns-then-is_counted-clause-answer
 returns-then-is_counted-clause-answer c kind signs before at =
     subst (λ r. AnswersFault r (first_fault (item_tests before (Some c.args.item)))) c.in-Ok.is (c.take.ensures.answer kind signs before _ at.problem_is refl refl at.holds)
+
+-- src/progress.rt:79:5
+pub returns-else-is_counted-clause-answer : goal.returns-else-is_counted-clause-answer
+returns-else-is_counted-clause-answer c kind signs before at =
+    subst (λ r. AnswersFault r (first_fault (item_tests before (Some c.args.item)))) c.in-Ok.is (c.take.ensures.answer kind signs before _ at.problem_is refl refl at.holds)
+
+-- src/progress.rt:79:5
+pub returns-in-Err-clause-unchanged : goal.returns-in-Err-clause-unchanged
+returns-in-Err-clause-unchanged c before at = record {
+  problem_is = at.problem_is ∙ ap (λ k. Some (record { kind = k; nodes = c.args.self.now.nodes; count = c.args.self.now.count })) (sym c.take.ensures.kept);
+  count_fits = at.count_fits;
+  counted_is = at.counted_is;
+  counted_few = at.counted_few;
+  arcs_are = λ none. at.arcs_are (sym (ap is_companion c.take.ensures.kept) ∙ none);
+  holds = subst (λ r. OnErr r (DraftHolds c.take.new.self before)) c.in-Err.is (c.take.ensures.unchanged before at.holds);
+}

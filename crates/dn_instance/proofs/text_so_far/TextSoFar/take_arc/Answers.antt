@@ -1,4 +1,4 @@
-use Rattle.std.proofs.Common.{◌≡◌, ◌+◌, suc, length, false, OnOk, None, arith, sym, ap, ◌∙◌, subst}
+use Rattle.std.proofs.Common.{◌≡◌, ◌+◌, suc, length, false, OnOk, OnErr, None, arith, sym, ap, ◌∙◌, subst}
 use Rattle.dn_line.specs.Words.{said_words}
 use Rattle.dn_instance.specs.ItemFaults.{AnswersFault}
 use Rattle.dn_instance.specs.TextFaults.{is_too_long}
@@ -14,8 +14,8 @@ returns-in-Ok-clause-taken c ls was =
     let t = c.look_ahead.new.self in
     let h : TextAt t ls = subst (λ x. TextAt x ls) (sym c.look_ahead.ensures) was in
     let items = items_of ls in
-    let arc = c.in_ok-next.next.arc in
-    let n = c.in_ok-next.ensures.next items h.progress_is in
+    let arc = c.in-Some.next.arc in
+    let n = c.in-Some.ensures.next items h.progress_is in
     let ws = said_words n.line in
     let f = follows_as items ws n.counts arc n.reads in
     let early : is_too_long (length ls + 1) ≡ false = in_time (length ls) t.closed h.number_is (let below = c.if-self-ge-LAST.false in let same = ap (λ (x : TextSoFar). x.closed) c.look_ahead.ensures in omega arith) in
@@ -33,3 +33,22 @@ returns-in-Ok-clause-taken c ls was =
           read_more t ls n.line _ h (fault_is_next (length ls + 1) items ws early ∙ none) number (few_more (length ls) early)
           (subst (λ r. OnOk r (IsProgress c.put.new.progress (with_next items ws))) c.in-Ok.is stands);
     }
+
+pub returns-in-Ok-clause-used : goal.returns-in-Ok-clause-used
+returns-in-Ok-clause-used c = c.in-Some.ensures.used
+
+pub returns-in-Err-clause-taken : goal.returns-in-Err-clause-taken
+returns-in-Err-clause-taken c ls was =
+    let h : TextAt c.look_ahead.new.self ls = subst (λ x. TextAt x ls) (sym c.look_ahead.ensures) was in
+    record {
+      clean = h.clean;
+      few = h.few;
+      number_is = h.number_is;
+      progress_is = subst (λ r. OnErr r (IsProgress c.put.new.progress (items_of ls))) c.in-Err.is (c.put.ensures.unchanged (items_of ls) h.progress_is);
+    }
+
+pub returns-in_default-clause-taken : goal.returns-in_default-clause-taken
+returns-in_default-clause-taken c ls was = subst (λ x. TextAt x ls) (sym c.look_ahead.ensures) was
+
+pub returns-then-self-ge-LAST-clause-taken : goal.returns-then-self-ge-LAST-clause-taken
+returns-then-self-ge-LAST-clause-taken c ls was = was
