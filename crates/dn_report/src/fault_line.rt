@@ -1,5 +1,6 @@
 // The line that tells why a run was refused.
-ghost use Rattle.std.specs.Prelude.{◌++◌, codes};
+ghost use Rattle.std.specs.Prelude.{◌++◌, codes, map};
+ghost use Rattle.std.specs.List.{concat};
 ghost use Rattle.dn_sink.specs.Puts.{Puts};
 ghost use Rattle.dn_report.specs.FaultLines.{fault_line, reason_text, unfit_line};
 
@@ -71,10 +72,7 @@ fn put_node_fault<K: Sink>(
     ensures { Puts K.taken K.has_failed sink.old sink.new (name.now ++ (codes ": "
         ++ (number.now ++ (codes " " ++ (reason.now ++ (codes " " ++ (id.now ++ codes "\n"))))))) result }
 {
-    put_all(sink, name)?;
-    put_words(sink, number, reason, b" ")?;
-    put_all(sink, id)?;
-    put_all(sink, b"\n")
+    put_pieces(sink, &[name, b": ", number, b" ", reason, b" ", id, b"\n"])
 }
 
 // Puts a name, after a colon a number and a reason, and an LF.
@@ -87,11 +85,10 @@ fn put_kind_fault<K: Sink>(
     ensures { Puts K.taken K.has_failed sink.old sink.new
         (name.now ++ (codes ": " ++ (number.now ++ (codes " " ++ (reason.now ++ codes "\n"))))) result }
 {
-    put_all(sink, name)?;
-    put_words(sink, number, reason, b"\n")
+    put_pieces(sink, &[name, b": ", number, b" ", reason, b"\n"])
 }
 
-// Puts where a refusal stands, in three parts, and the refusal.
+// Puts where a refusal stands, in three parts, and after a colon its number and its name, and an LF.
 fn put_line<K: Sink>(
     sink: &mut K,
     name: &[u8],
@@ -102,29 +99,35 @@ fn put_line<K: Sink>(
     ensures { Puts K.taken K.has_failed sink.old sink.new
         (name.now ++ (place.now ++ (line.now ++ reason_text refusal.now))) result }
 {
-    put_all(sink, name)?;
-    put_all(sink, place)?;
-    put_all(sink, line)?;
-    put_reason(sink, refusal)
-}
-
-// Puts the number and the name of a refusal, and an LF.
-fn put_reason<K: Sink>(sink: &mut K, refusal: &Refusal) -> Result<(), SinkFault>
-    ensures { Puts K.taken K.has_failed sink.old sink.new (reason_text refusal.now) result }
-{
     let mut digits = Buffer::new();
     let number = digits.format(refusal.number()).as_bytes();
-    put_words(sink, number, refusal.name().as_bytes(), b"\n")
+    put_refusal(sink, name, place, line, number, refusal.name().as_bytes())
 }
 
-// Puts a number and a name after a colon, and an end.
-fn put_words<K: Sink>(sink: &mut K, number: &[u8], name: &[u8], end: &[u8]) -> Result<(), SinkFault>
-    ensures { Puts K.taken K.has_failed sink.old sink.new
-        (codes ": " ++ (number.now ++ (codes " " ++ (name.now ++ end.now)))) result }
+// Puts three parts, after a colon a number and a reason, and an LF.
+fn put_refusal<K: Sink>(
+    sink: &mut K,
+    name: &[u8],
+    place: &[u8],
+    line: &[u8],
+    number: &[u8],
+    reason: &[u8],
+) -> Result<(), SinkFault>
+    ensures { Puts K.taken K.has_failed sink.old sink.new (name.now ++ (place.now ++ (line.now
+        ++ (codes ": " ++ (number.now ++ (codes " " ++ (reason.now ++ codes "\n"))))))) result }
 {
-    put_all(sink, b": ")?;
-    put_all(sink, number)?;
-    put_all(sink, b" ")?;
-    put_all(sink, name)?;
-    put_all(sink, end)
+    put_pieces(
+        sink,
+        &[name, place, line, b": ", number, b" ", reason, b"\n"],
+    )
+}
+
+// Puts pieces, one after the other.
+fn put_pieces<K: Sink>(sink: &mut K, pieces: &[&[u8]]) -> Result<(), SinkFault>
+    ensures { Puts K.taken K.has_failed sink.old sink.new (concat (map (λ piece. piece.now) pieces.now)) result }
+{
+    for piece in pieces {
+        put_all(sink, piece)?;
+    }
+    Ok(())
 }
