@@ -6,23 +6,36 @@ use dn_bundle::Form;
 use dn_canon::write_canon;
 use dn_instance::{Refusal, read_text};
 use dn_sink::ToWrite;
-use std::test::Fail;
+use std::alloc::Global;
 
-#[test]
-fn a_sink_that_fails_as_it_is_flushed(rt: HostRuntime) -> Result<(), Fail> {
-    let held = read_text(rt.alloc(), ROADS.as_bytes())?;
-    let mut late = NoFlush::new(rt.alloc());
+// Whether a sink that fails as it is flushed takes a canonical text, and its failure is told.
+fn is_cut_by_flush(alloc: Global) -> Result<bool, Refusal> {
+    let held = read_text(alloc, ROADS.as_bytes())?;
+    let mut late = NoFlush::new(alloc);
     let unflushed = write_canon(&held, &mut late, Form::One);
-    assert!(rt; unflushed == Err(Refusal::Write) && late.bytes.taken() == ROADS_CANON.as_bytes());
-    Ok(())
+    drop(held);
+    Ok(unflushed == Err(Refusal::Write) && late.bytes.taken() == ROADS_CANON.as_bytes())
 }
 
 #[test]
-fn writers(rt: HostRuntime) -> Result<(), Fail> {
-    let held = read_text(rt.alloc(), ROADS.as_bytes())?;
-    let mut writer = ToWrite::new(Vec::new(rt.alloc()));
-    assert!(rt; write_canon(&held, &mut writer, Form::One) == Ok(()));
+fn a_sink_that_fails_as_it_is_flushed(rt: HostRuntime) {
+    assert!(rt; is_cut_by_flush(rt.alloc()) == Ok(true));
+}
+
+// What is answered of writing to a vector, and to a writer that fails late.
+fn written(alloc: Global) -> Result<[Result<(), Refusal>; 2], Refusal> {
+    let held = read_text(alloc, ROADS.as_bytes())?;
+    let mut vector = ToWrite::new(Vec::new(alloc));
     let mut late = ToWrite::new(LateWriter);
-    assert!(rt; write_canon(&held, &mut late, Form::One) == Err(Refusal::Write));
-    Ok(())
+    let answers = [
+        write_canon(&held, &mut vector, Form::One),
+        write_canon(&held, &mut late, Form::One),
+    ];
+    drop(held);
+    Ok(answers)
+}
+
+#[test]
+fn writers(rt: HostRuntime) {
+    assert!(rt; written(rt.alloc()) == Ok([Ok(()), Err(Refusal::Write)]));
 }

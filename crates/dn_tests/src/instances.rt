@@ -28,13 +28,16 @@ impl Case {
 
     // Whether a text is read so.
     fn is_read(&self, alloc: Global, read: Result<Held, Refusal>) -> bool {
-        match (read, self.answer) {
-            (Ok(held), Ok(canon)) => match canon_text(alloc, &held, Form::One) {
-                Ok(text) => text.as_slice() == canon.as_bytes(),
-                Err(_) => false,
-            },
-            (Err(refusal), Err(fault)) => refusal == fault,
-            _ => false,
+        match read {
+            Ok(held) => {
+                let text = canon_text(alloc, &held, Form::One);
+                drop(held);
+                match (text, self.answer) {
+                    (Ok(text), Ok(canon)) => text.as_slice() == canon.as_bytes(),
+                    _ => false,
+                }
+            }
+            Err(refusal) => self.answer == Err(refusal),
         }
     }
 }
@@ -117,28 +120,39 @@ const CASES: [Case; 11] = [
     },
 ];
 
-// Whether a text that is fed byte by byte is read so, and its fault told as soon as the LF of the line has come.
-fn is_so_by_bytes(alloc: Global, case: &Case) -> bool {
+// Whether a reader that is fed a text byte by byte tells its fault as soon as the LF of the line has come.
+fn tells_by_bytes(reader: &mut Reader, case: &Case) -> bool {
     let text = case.text.as_bytes();
-    let mut reader = Reader::new(alloc);
     for at in 0..text.len() {
         if reader.feed(&text[at..=at]) != case.so_far(&text[..=at]) {
             return false;
         }
     }
-    case.is_read(alloc, reader.finish())
+    true
 }
 
-// The same of a text in two pieces, cut at every place.
-fn is_so_in_two_pieces(alloc: Global, case: &Case) -> bool {
+// Whether a text that is fed so is read so, too.
+fn is_so_by_bytes(alloc: Global, case: &Case) -> bool {
+    let mut reader = Reader::new(alloc);
+    let told = tells_by_bytes(&mut reader, case);
+    let is_read = case.is_read(alloc, reader.finish());
+    told && is_read
+}
+
+// The same of a text in two pieces.
+fn is_so_in_two(alloc: Global, case: &Case, cut: usize) -> bool {
     let text = case.text.as_bytes();
-    for cut in 0..=text.len() {
-        let (front, back) = text.split_at(cut);
-        let mut reader = Reader::new(alloc);
-        if reader.feed(front) != case.so_far(front) || reader.feed(back) != case.so_far(text) {
-            return false;
-        }
-        if !case.is_read(alloc, reader.finish()) {
+    let (front, back) = text.split_at(cut.min(text.len()));
+    let mut reader = Reader::new(alloc);
+    let told = reader.feed(front) == case.so_far(front) && reader.feed(back) == case.so_far(text);
+    let is_read = case.is_read(alloc, reader.finish());
+    told && is_read
+}
+
+// The same, cut at every place.
+fn is_so_in_two_pieces(alloc: Global, case: &Case) -> bool {
+    for cut in 0..=case.text.len() {
+        if !is_so_in_two(alloc, case, cut) {
             return false;
         }
     }
@@ -207,23 +221,27 @@ fn a_refusal_stays(rt: HostRuntime) {
     assert!(rt; reader.finish().err() == fault.err());
 }
 
-// A comment of 1,000,000 bytes before a text.
-#[test]
-fn a_long_comment(rt: HostRuntime) {
+// Whether a text is read so behind a comment of 1,000,000 bytes.
+fn is_so_behind_a_comment(alloc: Global, case: &Case) -> bool {
     let block = [b'1'; 1000];
-    let mut reader = Reader::new(rt.alloc());
+    let mut reader = Reader::new(alloc);
     let _ = reader.feed(b"c");
     for _ in 0..1000 {
         let _ = reader.feed(&block);
     }
     let _ = reader.feed(b"\n");
-    let _ = reader.feed(ROADS.as_bytes());
+    let _ = reader.feed(case.text.as_bytes());
+    case.is_read(alloc, reader.finish())
+}
+
+#[test]
+fn a_long_comment(rt: HostRuntime) {
     let case = Case {
         text: ROADS,
         shown: usize::MAX,
         answer: Ok(ROADS_CANON),
     };
-    assert!(rt; case.is_read(rt.alloc(), reader.finish()));
+    assert!(rt; is_so_behind_a_comment(rt.alloc(), &case));
 }
 
 #[test]
@@ -274,9 +292,8 @@ const ENTRIES: [&[(&str, u64)]; 4] = [
     ],
 ];
 
-// Whether a reader tells these entries.
-fn tells_entries(alloc: Global, lines: &[(&str, u64)]) -> bool {
-    let mut reader = Reader::new(alloc);
+// Whether a reader tells these entries as it is fed the lines.
+fn tells_entries(reader: &mut Reader, lines: &[(&str, u64)]) -> bool {
     for (line, entries) in lines {
         let _ = reader.feed(line.as_bytes());
         if reader.entries() != *entries {
@@ -289,6 +306,9 @@ fn tells_entries(alloc: Global, lines: &[(&str, u64)]) -> bool {
 #[test]
 fn entries_line_by_line(rt: HostRuntime) {
     for lines in ENTRIES {
-        assert!(rt; tells_entries(rt.alloc(), lines), "{lines:?}");
+        let mut reader = Reader::new(rt.alloc());
+        let told = tells_entries(&mut reader, lines);
+        drop(reader);
+        assert!(rt; told, "{lines:?}");
     }
 }

@@ -304,32 +304,47 @@ fn told(reader: &LineReader, known: Option<Kind>) -> Result<Line, Code> {
     }
 }
 
+// What is told of a line without an end.
+fn told_whole(known: Option<Kind>, text: &[u8]) -> Result<Line, Code> {
+    let mut reader = LineReader::new();
+    let _ = reader.step(text);
+    told(&reader, known)
+}
+
+// What is told of a line that comes byte by byte.
+fn told_by_bytes(known: Option<Kind>, text: &[u8]) -> Result<Line, Code> {
+    let mut reader = LineReader::new();
+    for byte in text {
+        let _ = reader.step(&[*byte]);
+    }
+    let _ = reader.step(b"\n");
+    told(&reader, known)
+}
+
+// What is told of a line that comes in two pieces.
+fn told_in_two(known: Option<Kind>, text: &[u8], cut: usize) -> Result<Line, Code> {
+    let (front, back) = text.split_at(cut.min(text.len()));
+    let mut reader = LineReader::new();
+    let _ = reader.step(front);
+    let _ = reader.step(back);
+    let _ = reader.step(b"\n");
+    told(&reader, known)
+}
+
 // How the line was given where the answer was another one.
 fn differs(case: &Case) -> Option<&'static str> {
     let (known, text, answer) = *case;
     if read_line(known, text.as_bytes()) != answer {
         return Some("as a line");
     }
-    let mut whole = LineReader::new();
-    let _ = whole.step(text.as_bytes());
-    if told(&whole, known) != answer {
+    if told_whole(known, text.as_bytes()) != answer {
         return Some("without an end");
     }
-    let mut bytes = LineReader::new();
-    for byte in text.as_bytes() {
-        let _ = bytes.step(&[*byte]);
-    }
-    let _ = bytes.step(b"\n");
-    if told(&bytes, known) != answer {
+    if told_by_bytes(known, text.as_bytes()) != answer {
         return Some("byte by byte");
     }
     for cut in 0..=text.len() {
-        let (front, back) = text.as_bytes().split_at(cut);
-        let mut reader = LineReader::new();
-        let _ = reader.step(front);
-        let _ = reader.step(back);
-        let _ = reader.step(b"\n");
-        if told(&reader, known) != answer {
+        if told_in_two(known, text.as_bytes(), cut) != answer {
             return Some("in two pieces");
         }
     }

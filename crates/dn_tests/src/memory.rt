@@ -25,7 +25,9 @@ fn is_read_from(alloc: Global, text: &[u8], canon: &[u8]) -> Result<bool, Refusa
 fn is_kept(alloc: Global, text: &[u8], canon: &[u8]) -> Result<bool, Refusal> {
     let mut copy = Vec::new(alloc);
     let held = read_keep(alloc, &mut Slice::new(text), &mut copy)?;
-    Ok(copy.as_slice() == text && has_canon(alloc, &held, canon)?)
+    let right = has_canon(alloc, &held, canon);
+    drop(held);
+    Ok(right? && copy.as_slice() == text)
 }
 
 // The text is fed byte by byte, also after a refusal.
