@@ -1,6 +1,6 @@
 -- The lines that LFs have ended, as pieces come.
-use Rattle.std.proofs.Common.{◌≡◌, ℕ, suc, ◌+◌, ◌-◌, ◌<◌, ◌≤◌, List, [], ◌∷◌, ◌++◌, length, take, drop, take-append-drop, Bool, true, false, cond, not, ◌&&◌, refl, sym, ap, ◌∙◌, append-nil, append_assoc, arith}
-use Rattle.std.proofs.lemmas.Bool.{ltb-true, ltb-false}
+use Rattle.std.proofs.Common.{◌≡◌, ℕ, suc, ◌+◌, ◌-◌, ◌≤◌, List, [], ◌∷◌, ◌++◌, length, take, drop, take-append-drop, Bool, true, false, cond, not, ◌&&◌, refl, sym, ap, ◌∙◌, append-nil, append_assoc, arith}
+use Rattle.std.proofs.lemmas.Bool.{ltb-true}
 use Rattle.std.proofs.Math.Seq.{take-add}
 use Rattle.std.proofs.lemmas.List.{take_all, length-drop}
 use Rattle.std.specs.List.{position_or_len, before_first, list_all}
@@ -113,13 +113,6 @@ used_bound piece = by_end (has_end piece) refl
     by_end : (x : Bool) → has_end piece ≡ x → position_or_len is_line_feed piece + cond x 1 0 ≤ length piece
     by_end true e = let h = ltb-true (position_or_len is_line_feed piece) (length piece) e in omega arith
     by_end false e = let h = place_bound piece in omega arith
-
-pub used_some : (piece : List ℕ) → 0 < length piece → 0 < used_of piece
-used_some piece s = by_end (has_end piece) refl
-  where
-    by_end : (x : Bool) → has_end piece ≡ x → 0 < position_or_len is_line_feed piece + cond x 1 0
-    by_end true e = omega arith
-    by_end false e = let h = ltb-false (position_or_len is_line_feed piece) (length piece) e in omega arith
 
 -- what is left of a piece from a place on
 abbrev pub rest_of : List ℕ → ℕ → List ℕ

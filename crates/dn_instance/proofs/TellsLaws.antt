@@ -22,13 +22,6 @@ module _ {B Arc : Type 0} (kind : ArcKind Arc) (tells : B → List Arc) (laws : 
   told_canon None = laws.none_canon One
   told_canon (Some b) = canonical b
 
-  -- no arcs, and no bundles
-  pub tells_none : TableTells kind tells [] []
-  tells_none = record {
-    stands = λ p. record { canonical = laws.none_canon One; same = laws.meaning.same_refl [] };
-    absent = λ p. (λ e. laws.meaning.same_refl [], λ s. refl);
-  }
-
 bundle_arcs : {Arc : Type 0} (kind : ArcKind Arc) (p : ℤ × ℤ) (arcs : List ((ℤ × ℤ) × Arc)) → AreArcs kind arcs → AllByRecursion kind.IsArc (bundle p arcs)
 bundle_arcs kind p [] h = tt
 bundle_arcs kind p (a ∷ rest) h = by_test (same_pair p a.0) (bundle_arcs kind p rest h.1)

@@ -1,5 +1,5 @@
 -- Lines whose words are a letter and numbers, with one blank between them.
-use Rattle.std.proofs.Common.{◌≡◌, ℕ, ◌+◌, ◌-◌, ◌<◌, ℤ, pos, ◌≤ℤ◌, List, [], ◌∷◌, ◌++◌, Bool, true, false, cond, refl, ap, sym, ◌∙◌, subst, arith, length, length-append, take, drop, get_or, append_assoc, map, filter, Some, Ok}
+use Rattle.std.proofs.Common.{◌≡◌, ℕ, ◌+◌, ◌-◌, ◌<◌, ℤ, pos, ◌≤ℤ◌, List, [], ◌∷◌, ◌++◌, Bool, true, false, cond, refl, ap, sym, ◌∙◌, subst, arith, length, length-append, drop, get_or, append_assoc, map, filter, Some, Ok}
 use Rattle.std.specs.List.{list_all}
 use Rattle.dn_num.specs.Number.{number_read}
 use Rattle.dn_line.specs.Pieces.{parts, onto, has_bytes}
@@ -15,18 +15,9 @@ use Rattle.dn_line.specs.declared.line.Line.TheVariants.{SpArc, MaxArc, MinArc}
 use Rattle.dn_line.specs.declared.word.Keyword.TheVariants.{A}
 use Rattle.dn_line.specs.declared.word.Word.{Word}
 use Rattle.dn_line.proofs.PartsLaws.{Parts}
-use Rattle.dn_line.proofs.PlainLaws.{clear_first, clear_inner, clear_parts, inner_append, number_clear, number_said, split_at}
+use Rattle.dn_line.proofs.PlainLaws.{clear_first, clear_inner, clear_parts, inner_append, number_clear, number_said}
 use Rattle.dn_line.proofs.BeginLaws.{line_used}
 use Rattle.dn_line.proofs.FieldLaws.{length_arc_read, cap_arc_read, cost_arc_read}
-
--- the bytes up to a byte, where they are a number
-pub number_before_is : (bytes : List ℕ) (n end : ℕ) (v : ℤ) → number_read (take n bytes) ≡ Ok v → n < length bytes → get_or bytes n 0 ≡ end
-    → IsNumberBefore bytes end v (drop (n + 1) bytes)
-number_before_is bytes n end v r h e = record {
-  word = take n bytes;
-  whole = ap (λ b. take n bytes ++ b ∷ drop (n + 1) bytes) (sym e) ∙ split_at n bytes h;
-  reads = r;
-}
 
 onto_by : (b : ℕ) (p q : Parts) → p ≡ q → onto b p.0 p.1 ≡ onto b q.0 q.1
 onto_by b p q e = ap (λ (x : Parts). let y : Parts = onto b x.0 x.1 in y) e

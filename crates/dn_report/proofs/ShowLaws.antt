@@ -7,12 +7,8 @@ use Rattle.dn_line.specs.Names.{kind_name}
 use Rattle.dn_line.specs.declared.kind.Kind.{Kind}
 use Rattle.dn_instance.specs.Helds.{Bundles, Contents, Holding, contents_kind}
 use Rattle.dn_row.specs.Rows.{Row, line_text, text_of}
-use Rattle.dn_report.specs.Shows.{forced_words, kind_row, number_row, pair_row, graph_rows, supply_rows, terminal_rows}
+use Rattle.dn_report.specs.Shows.{kind_row, number_row, pair_row, graph_rows, supply_rows, terminal_rows}
 use Rattle.dn_report.specs.ToldRows.{told_rows, table_rows, contents_rows, held_rows}
-
--- the row of a `min` pair by its parts
-pub forced_is : (p : ℤ × ℤ) (u v f g : ℤ) (n m : ℕ) → u ≡ v → f ≡ g → n ≡ m → line_text (pair_row p (forced_words u f n)) ≡ line_text (pair_row p (forced_words v g m))
-forced_is p u v f g n m a b c = cc
 
 -- the rows of two lists
 text-append : (rs ss : List Row) → text_of (rs ++ ss) ≡ text_of rs ++ text_of ss

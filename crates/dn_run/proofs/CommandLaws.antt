@@ -5,7 +5,6 @@ use Rattle.dn_bundle.specs.declared.arc.Form.{Form}
 use Rattle.dn_instance.specs.Companions.{judged}
 use Rattle.dn_instance.specs.Helds.{IsHeld, contents_kind, holding}
 use Rattle.dn_instance.specs.Instances.{Instance, kind_of}
-use Rattle.dn_instance.specs.SourceReads.{IsOfReading}
 use Rattle.dn_instance.specs.Texts.{Reads}
 use Rattle.dn_instance.specs.Validity.{IsValid}
 use Rattle.dn_instance.specs.declared.companion.CompanionFault.{CompanionFault}
@@ -112,15 +111,6 @@ unjudged text b Read h = absurd h
 unjudged text b Endless h = absurd h
 unjudged text b Write h = absurd h
 unjudged text b CountTooLarge h = absurd h
-
--- why a text is not judged may be why it is refused as it is read
-pub unjudged_reading : (b : List ℕ) (e : Refusal) → IsUnjudged b e → IsOfReading e
-unjudged_reading b (Text place code) h = tt
-unjudged_reading b Memory h = tt
-unjudged_reading b Read h = tt
-unjudged_reading b Endless h = tt
-unjudged_reading b Write h = h
-unjudged_reading b CountTooLarge h = h
 
 -- of what a text reads as
 judged_on : (kind : Kind) (companion : Option Kind) (b : List ℕ) (status : ℕ) (t : List ℕ) (I : Instance) → Reads b I → kind ≡ kind_of I → PutsJudged kind companion b status t → PutsChecked companion b I status t

@@ -6,30 +6,9 @@ use Rattle.dn_instance.specs.declared.held.Held.{Held}
 use Rattle.dn_instance.specs.declared.refusal.Refusal.{Refusal}
 use Rattle.dn_instance.specs.declared.refusal.Refusal.TheVariants.{Text, Memory, Read, Endless, Write, CountTooLarge}
 use Rattle.dn_instance.proofs.SourceLaws.{stopped_wants}
-use Rattle.dn_run.specs.declared.files.FilesFault.{FilesFault}
-use Rattle.dn_run.specs.Texts.{AskedText, ComesOf, IsCopy, IsRead, IsRefusedCopy, IsRefusedText, ReadsAs, unopened}
+use Rattle.dn_run.specs.Texts.{AskedText, ComesOf, IsRead, IsRefusedCopy, IsRefusedText, ReadsAs, unopened}
 
 module _ {T : Type 0} (text : AskedText T) where
-  -- a text that was not handed out
-  pub unhanded : (Refuses : List ℕ → Refusal → Type 0) (fault : FilesFault) → text.fault ≡ Some fault → IsRead Refuses text (Err (unopened fault))
-  unhanded Refuses fault e = record {
-    not_handed = subst (λ o. IfSome o (λ f. are_same (Err (unopened fault)) (Err (unopened f)))) (sym e) refl;
-    failed = λ none _. absurd (not_both (sym e ∙ none));
-    handed = λ none. absurd (not_both (sym e ∙ none));
-  }
-    where
-      are_same : Result Held Refusal → Result Held Refusal → Type 0
-      are_same a b = a ≡ b
-
-      not_both : Some fault ≡ None → ⊥
-      not_both e = cc
-
-  pub uncopied_text : (copy : List ℕ) (fault : FilesFault) → text.fault ≡ Some fault → IsCopy text copy (Err (unopened fault))
-  uncopied_text copy fault e none = absurd (not_both (sym e ∙ none))
-    where
-      not_both : Some fault ≡ None → ⊥
-      not_both e = cc
-
   module _ (source : T) (comes : ComesOf text source) (fine : text.fault ≡ None) where
     reads_as : (b : List ℕ) (r : Result Held Refusal) → SourceOutcome b (text.gives source) r → (IsErrOf r Read → IsTrue (text.has_failed source)) → ReadsAs (IsRefusedText text) b r
     reads_as b (Ok held) h read = h.0

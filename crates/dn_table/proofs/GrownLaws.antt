@@ -1,6 +1,5 @@
 -- What is found among entries of different pairs after a change.
-use Rattle.std.proofs.Common.{◌≡◌, ◌↔◌, ℕ, zero, suc, ◌<◌, ℤ, List, [], ◌∷◌, ◌++◌, length, get_or, set, Bool, true, false, cond, Option, Some, None, is_some, refl, sym, ap, ◌∙◌, subst, arith, ltb}
-use Rattle.std.proofs.lemmas.Bool.{ltb-true}
+use Rattle.std.proofs.Common.{◌≡◌, ◌↔◌, ℕ, zero, suc, ◌<◌, ℤ, List, [], ◌∷◌, ◌++◌, length, get_or, set, Bool, true, false, cond, Option, Some, None, is_some, refl, sym, ap, ◌∙◌, subst, arith}
 use Rattle.std.specs.List.{IsDistinct, list_any, slice_get}
 use Rattle.std.specs.List.Sorted.{IsStrictlySortedBy}
 use Rattle.std.specs.Map.{keys_of, lookup}
@@ -49,12 +48,6 @@ module _ {X : Type 0} (p : ℤ × ℤ) (es : List ((ℤ × ℤ) × X)) where
 
   pub any_none : lookup (same_pair p) es ≡ None → list_any (same_pair p) (keys_of es) ≡ false
   any_none h = sym (is_some-lookup (same_pair p) es) ∙ ap is_some h
-
-  -- a place at which an entry with the pair is read
-  pub place_read : (i : ℕ) (e : (ℤ × ℤ) × X) → true ≡ ltb i (length es) → e ≡ get_or es i e → e.0 ≡ p → (i < length (keys_of es)) × (key_at (keys_of es) i ≡ p)
-  place_read i e test is key =
-      let within : i < length es = ltb-true i (length es) (sym test) in
-      (subst (λ n. i < n) (sym (length-keys_of es)) within, key_of_entry es i e (slice_get-get_or es i e within ∙ ap (λ (x : (ℤ × ℤ) × X). Some x) (sym is)) ∙ key)
 
   module _ (apart : IsDistinct same_pair (keys_of es)) (i : ℕ) (e : (ℤ × ℤ) × X) (lt : i < length (keys_of es)) (at : key_at (keys_of es) i ≡ p) (is : e ≡ get_or es i e) where
     inside : i < length es
