@@ -105,10 +105,8 @@ fn version_line(alloc: Global) -> Result<String, AllocError>
 fn command_of<'a>(matches: &ArgMatches<'a>) -> Option<Command<'a>>
     ensures { option_map asks result ≡ subcommand_asked (subcommand_rows_of matches.now) }
 {
-    match matches.subcommand() {
-        Some((name, inner)) => command_named(name, inner),
-        None => None,
-    }
+    let (name, inner) = matches.subcommand()?;
+    command_named(name, inner)
 }
 
 // The command of this name, by its matches.
@@ -128,23 +126,19 @@ fn command_named<'a>(name: &str, matches: &ArgMatches<'a>) -> Option<Command<'a>
 fn show_of<'a>(matches: &ArgMatches<'a>) -> Option<Command<'a>>
     ensures { option_map asks result ≡ show_asked (rows_of (found_of matches.now)) }
 {
-    match value(matches, "FILE") {
-        Some(name) => Some(Command::Show { name }),
-        None => None,
-    }
+    Some(Command::Show {
+        name: value(matches, "FILE")?,
+    })
 }
 
 // `check`, by its matches.
 fn check_of<'a>(matches: &ArgMatches<'a>) -> Option<Command<'a>>
     ensures { option_map asks result ≡ check_asked (rows_of (found_of matches.now)) }
 {
-    match value(matches, "FILE") {
-        Some(name) => Some(Command::Check {
-            name,
-            with: value(matches, "with"),
-        }),
-        None => None,
-    }
+    Some(Command::Check {
+        name: value(matches, "FILE")?,
+        with: value(matches, "with"),
+    })
 }
 
 // `canon`, by its matches.

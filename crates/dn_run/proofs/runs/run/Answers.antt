@@ -1,0 +1,23 @@
+use Rattle.std.proofs.Common.{ℕ, subst}
+use Rattle.dn_command.specs.Commands.{Asked}
+use Rattle.dn_command.specs.Requests.{Requests}
+use Rattle.dn_command.specs.declared.request.Request.{Request}
+use Rattle.dn_command.specs.declared.request.Request.TheVariants.{Bad, Command, Memory, Print}
+use Rattle.dn_run.specs.FilesRuns.{FilesRun}
+use Rattle.dn_run.specs.Streams.{SinkRun}
+use Rattle.dn_run.specs.Words.{AskedRun, RequestRun}
+use Rattle.dn_run.proofs.runs.run.Goals as goal
+
+-- what a run does for a request of what was asked for
+asked_for : {F T S E : Type 0} (files : FilesRun F T) (out : SinkRun S) (err : SinkRun E) (asked : Asked) (number : ℕ) (request : Request)
+    → Requests asked request → RequestRun files out err request number → AskedRun files out err asked number
+asked_for files out err asked number (Command command) is ran = subst (λ a. AskedRun files out err a number) is ran
+asked_for files out err asked number (Print text) is ran = absurd is
+asked_for files out err asked number Bad is ran = absurd is
+asked_for files out err asked number Memory is ran = absurd is
+
+pub returns-clause-asked : goal.returns-clause-asked
+returns-clause-asked g c asked plain = asked_for _ _ _ asked _ c.request_of-request.result (c.request_of-request.ensures.plain asked plain) c.run_request.ensures.does
+
+pub returns-clause-other : goal.returns-clause-other
+returns-clause-other g c none = (c.request_of-request.result, c.request_of-request.ensures.other none, c.run_request.ensures.does)
