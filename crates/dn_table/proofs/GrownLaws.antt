@@ -87,7 +87,7 @@ module _ {X : Type 0} (p : ℤ × ℤ) (es : List ((ℤ × ℤ) × X)) where
     grows_here kind tells arc w same = grows_there kind tells es (set es i (e.0, w)) p arc e.1 w found_at (found_then w) (others_then w) same
 
 -- tables with the same bundles tell the same
-tells_as : {B Arc : Type 0} (kind : ArcKind Arc) (tells : B → List Arc) (table other : List ((ℤ × ℤ) × B)) (arcs : List ((ℤ × ℤ) × Arc)) → ((p : ℤ × ℤ) → lookup (same_pair p) other ≡ lookup (same_pair p) table) → TableTells kind tells table arcs → TableTells kind tells other arcs
+pub tells_as : {B Arc : Type 0} (kind : ArcKind Arc) (tells : B → List Arc) (table other : List ((ℤ × ℤ) × B)) (arcs : List ((ℤ × ℤ) × Arc)) → ((p : ℤ × ℤ) → lookup (same_pair p) other ≡ lookup (same_pair p) table) → TableTells kind tells table arcs → TableTells kind tells other arcs
 tells_as kind tells table other arcs same t = record {
   stands = λ p. subst (λ o. AreCanonArcsOf kind (told_of tells o) (bundle p arcs)) (sym (same p)) (t.stands p);
   absent = λ p. subst (λ o. (o ≡ None) ↔ kind.Same (bundle p arcs) []) (sym (same p)) (t.absent p);

@@ -1,3 +1,4 @@
 pub mod Pairs
 pub mod Tables
 pub mod GraphEntries
+pub mod Walks

@@ -7,47 +7,50 @@ ghost use Rattle.std.specs.Map.{keys_of, lookup};
 ghost use Rattle.dn_bundle.specs.declared.arc.Form.{Form};
 ghost use Rattle.pair_index.specs.Pairs.{pair_cmp, same_pair};
 ghost use Rattle.dn_table.specs.GraphEntries.{graph_entries};
+ghost use Rattle.pair_index.specs.InOrder.{in_order};
+ghost use Rattle.pair_index.specs.Ordered.{Orders};
 ghost use Rattle.dn_table.specs.Tables.{entry_of, AreArcs, TableTells};
 
 use crate::entry_sum::bundle_entries;
 use dn_bundle::{Bundle, Form};
-use pair_index::place_by_search;
+use pair_index::PairOrder;
 use std::marker::Model;
-use std::slice::Iter;
 
 /// The bundles of a graph by ordered pair. A pair whose arcs mean what no arcs mean has none.
 #[derive(Drop)]
 pub struct Table<B: Bundle> {
     entries: Vec<((i64, i64), B)>,
+    // How the entries stand by rising pair.
+    order: PairOrder,
 }
 
 impl<B: Bundle> Model for Table<B> {
     ghost use Rattle.std.specs.Prelude.{ℤ, List};
-    ghost use Rattle.std.specs.List.Sorted.{IsStrictlySortedBy};
     ghost use Rattle.std.specs.Map.{keys_of};
-    ghost use Rattle.pair_index.specs.Pairs.{pair_cmp};
+    ghost use Rattle.pair_index.specs.InOrder.{in_order};
+    ghost use Rattle.pair_index.specs.Ordered.{Orders};
 
     ghost Value = { List ((ℤ × ℤ) × B) };
 
-    ghost view = { λ t. t.entries.items };
+    ghost view = { λ t. in_order t.entries.items };
 
-    ghost invariant = { λ t. IsStrictlySortedBy pair_cmp (keys_of t.entries.items) };
+    ghost invariant = { λ t. Orders t.order (keys_of t.entries.items) };
 }
 
 impl<B: Bundle> Table<B> {
-    // The table of entries by rising pair.
-    pub(crate) fn of(entries: Vec<((i64, i64), B)>) -> Table<B>
-        requires { IsStrictlySortedBy pair_cmp (keys_of entries.items) }
-        ensures { result ≡ entries.items }
+    // The table of entries that stand so by rising pair.
+    pub(crate) fn of(entries: Vec<((i64, i64), B)>, order: PairOrder) -> Table<B>
+        requires { Orders order (keys_of entries.items) }
+        ensures { result ≡ in_order entries.items }
     {
-        Table { entries }
+        Table { entries, order }
     }
 
     /// The bundle of the arcs from `src` to `dst`, if they mean anything.
     pub fn get(&self, src: i64, dst: i64) -> Option<&B>
         ensures { option_copied result ≡ lookup (same_pair (src, dst)) self.now }
     {
-        match place_by_search(&self.entries, &(src, dst)) {
+        match self.order.find(&self.entries, &(src, dst)) {
             Some(place) => Some(&self.entries[place].1),
             None => None,
         }
@@ -59,7 +62,9 @@ impl<B: Bundle> Table<B> {
         ensures rising { IsStrictlySortedBy pair_cmp (keys_of self.now) }
     {
         Pairs {
-            inner: self.entries.iter(),
+            entries: &self.entries,
+            order: &self.order,
+            place: self.order.first(&self.entries),
         }
     }
 
@@ -83,16 +88,22 @@ impl<B: Bundle> Table<B> {
 /// The bundles of a table with their pairs, by rising (src, dst).
 #[derive(Drop)]
 pub struct Pairs<'a, B: Bundle> {
-    inner: Iter<'a, ((i64, i64), B)>,
+    entries: &'a [((i64, i64), B)],
+    order: &'a PairOrder,
+    // Where the next one stands.
+    place: Option<usize>,
 }
 
 impl<'a, B: Bundle> Model for Pairs<'a, B> {
     ghost use Rattle.std.specs.Prelude.{ℤ, List};
-    ghost use Rattle.std.specs.Slice.Iter.{iter_rest};
+    ghost use Rattle.pair_index.specs.InOrder.{from_place};
+    ghost use Rattle.dn_table.specs.Walks.{Walks};
 
     ghost Value = { List ((ℤ × ℤ) × B) };
 
-    ghost view = { λ p. iter_rest p.inner };
+    ghost view = { λ p. from_place p.entries.now p.place };
+
+    ghost invariant = { λ p. Walks p.entries.now p.order.now p.place };
 }
 
 impl<'a, B: Bundle> Iterator for Pairs<'a, B> {
@@ -103,7 +114,9 @@ impl<'a, B: Bundle> Iterator for Pairs<'a, B> {
     ghost remaining = { item_count (λ s. s) };
 
     fn next(&mut self) -> Option<((i64, i64), &'a B)> {
-        let entry = self.inner.next()?;
+        let place = self.place?;
+        let entry = &self.entries[place];
+        self.place = self.order.next(self.entries, place);
         Some((entry.0, &entry.1))
     }
 }

@@ -57,13 +57,15 @@ impl<B: Bundle> TableSoFar<B> {
         AHEAD <= self.asked && self.index.is_scattered()
     }
 
-    /// Looks up together where these pairs stand, which are likely those of the arcs that come next. It decides only
-    /// the speed.
+    /// Looks up together where these pairs stand, which are likely those of the arcs that come next, if that spares
+    /// time. It decides only the speed.
     pub fn guess(&mut self, pairs: &[(i64, i64); AHEAD])
         ensures { self.new ≡ self.old }
     {
-        self.likely = self.index.likely_places(&self.entries, pairs);
-        self.asked = 0;
+        if let Some(likely) = self.index.likely_places(&self.entries, pairs) {
+            self.likely = likely;
+            self.asked = 0;
+        }
     }
 
     // Where the next pair stands, if it has an entry. The next guess is tried first.
@@ -188,8 +190,8 @@ impl<B: Bundle> TableSoFar<B> {
             index,
             ..
         } = self;
-        index.sort(&mut entries);
-        Table::of(entries)
+        let order = index.order(&mut entries);
+        Table::of(entries, order)
     }
 }
 

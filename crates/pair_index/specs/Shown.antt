@@ -6,15 +6,18 @@ use Rattle.pair_index.specs.Chained.{IsChained}
 use Rattle.pair_index.specs.Pairs.{pair_cmp}
 use Rattle.pair_index.specs.Places.{IsPlace}
 use Rattle.pair_index.specs.declared.chains.Chains.{Chains}
+use Rattle.pair_index.specs.declared.tails.Tails.{Tails as TailChains}
+use Rattle.pair_index.specs.Tailed.{IsTailed}
 use Rattle.pair_index.specs.declared.index.Way.{Way}
-use Rattle.pair_index.specs.declared.index.Way.TheVariants.{Rising, Chained, Ordered}
+use Rattle.pair_index.specs.declared.index.Way.TheVariants.{Rising, Tails, Chained, Ordered}
 
 -- the map has the place of each key, and none for another pair
 abbrev pub HasPlaces : BTreeMap (ℤ × ℤ) ℕ → List (ℤ × ℤ) → Type 0
 HasPlaces places keys = (pair : ℤ × ℤ) → IsPlace keys pair (get pair_cmp places pair)
 
 -- by the way of the index: the keys rise, the chains link them, or the map has their places
-unfoldable pub ShowsIndex : Way → Chains → BTreeMap (ℤ × ℤ) ℕ → List (ℤ × ℤ) → Type 0
-ShowsIndex Rising chains places keys = IsStrictlySortedBy pair_cmp keys
-ShowsIndex Chained chains places keys = IsChained chains keys
-ShowsIndex Ordered chains places keys = HasPlaces places keys
+unfoldable pub ShowsIndex : Way → TailChains → Chains → BTreeMap (ℤ × ℤ) ℕ → List (ℤ × ℤ) → Type 0
+ShowsIndex Rising tails chains places keys = IsStrictlySortedBy pair_cmp keys
+ShowsIndex Tails tails chains places keys = IsTailed tails keys
+ShowsIndex Chained tails chains places keys = IsChained chains keys
+ShowsIndex Ordered tails chains places keys = HasPlaces places keys

@@ -4,14 +4,17 @@ ghost use Rattle.std.specs.List.{list_any, IsDistinct};
 ghost use Rattle.std.specs.List.Sorted.{IsStrictlySortedBy};
 ghost use Rattle.std.specs.Map.{keys_of, lookup};
 ghost use Rattle.pair_index.specs.Indexed.{Indexes};
+ghost use Rattle.pair_index.specs.Ordered.{Orders};
 ghost use Rattle.pair_index.specs.Pairs.{pair_cmp, same_pair};
 ghost use Rattle.pair_index.specs.Places.{IsPlace};
 ghost use Rattle.pair_index.specs.Shown.{HasPlaces};
 
 use crate::bucket::Spread;
 use crate::chains::Chains;
+use crate::order::PairOrder;
 use crate::rising::{is_past, place_by_search};
 use crate::sort::sort_by_pair;
+use crate::tails::{Tails, are_near_pairs};
 use std::alloc::{AllocError, Global};
 use std::collections::BTreeMap;
 
@@ -23,6 +26,8 @@ pub const AHEAD: usize = 16;
 enum Way {
     // By binary search, since the pairs rise.
     Rising,
+    // By the chains of tails, where pairs come nearly in order.
+    Tails,
     // By the chains of buckets.
     Chained,
     // By an ordered map, where a chain would be long however pairs are spread.
@@ -33,6 +38,8 @@ enum Way {
 #[derive(Drop)]
 pub struct PairIndex {
     way: Way,
+    // Empty unless they are the way.
+    tails: Tails,
     // Without buckets unless they are the way.
     chains: Chains,
     // Empty unless it is the way.
@@ -63,6 +70,7 @@ impl PairIndex {
     {
         PairIndex {
             way: Way::Rising,
+            tails: Tails::none(alloc),
             chains: Chains::none(alloc),
             places: BTreeMap::new(alloc),
         }
@@ -81,44 +89,52 @@ impl PairIndex {
                 }
                 place_by_search(entries, pair)
             }
+            Way::Tails => self.tails.find(entries, pair),
             Way::Chained => self.chains.find(entries, pair),
             Way::Ordered => self.places.get(pair).copied(),
         }
     }
 
-    /// Whether looking up pairs together spares time: where each is found on its own way through memory. It decides
+    /// Whether looking up pairs together may spare time: where each is found on its own way through memory. It decides
     /// only the speed, and has no contract.
     pub fn is_scattered(&self) -> bool {
-        matches!(self.way, Way::Chained)
+        matches!(self.way, Way::Tails | Way::Chained)
     }
 
-    /// Where each of these pairs may stand: places to look at first, since finding them together takes less time than
-    /// one after another. They are guesses, so it has no contract: whether the entry there is the pair's is to be seen.
-    /// Takes no memory.
+    /// Where each of these pairs may stand, if looking them up together spares time: places to look at first. They are
+    /// hints, so it has no contract: the caller sees whether the entry there is the pair's. Takes no memory.
     #[tactic(auto, unfolding(crate::specs::Shown::ShowsIndex))]
     pub fn likely_places<X>(
         &self,
         entries: &[((i64, i64), X)],
         pairs: &[(i64, i64); AHEAD],
-    ) -> [u32; AHEAD]
+    ) -> Option<[u32; AHEAD]>
         requires { Indexes self.now (keys_of entries.now) }
     {
         match self.way {
-            Way::Chained => self.chains.likely_places(entries, pairs),
-            Way::Rising | Way::Ordered => [0; AHEAD],
+            Way::Tails if !are_near_pairs(pairs, entries.len()) => {
+                Some(self.tails.likely_places(entries, pairs))
+            }
+            Way::Chained => Some(self.chains.likely_places(entries, pairs)),
+            Way::Rising | Way::Tails | Way::Ordered => None,
         }
     }
 
-    /// Puts the entries in order by their pairs. Takes no memory.
+    /// How the entries stand by rising pair. They are put in order where they have none that serves. Takes no memory.
     #[tactic(auto, unfolding(crate::specs::Shown::ShowsIndex))]
-    pub fn sort<X>(&self, entries: &mut [((i64, i64), X)])
-        requires { Indexes self.now (keys_of entries.old) }
-        ensures rising { IsStrictlySortedBy pair_cmp (keys_of entries.new) }
+    pub fn order<X>(self, entries: &mut [((i64, i64), X)]) -> PairOrder
+        requires { Indexes self (keys_of entries.old) }
+        ensures ordered { Orders result (keys_of entries.new) }
         ensures same { (pair : ℤ × ℤ) → lookup (same_pair pair) entries.new ≡ lookup (same_pair pair) entries.old }
     {
-        match self.way {
-            Way::Rising => {}
-            Way::Chained | Way::Ordered => sort_by_pair(entries),
+        let PairIndex { way, tails, .. } = self;
+        match way {
+            Way::Rising => PairOrder { tails: None },
+            Way::Tails => PairOrder { tails: Some(tails) },
+            Way::Chained | Way::Ordered => {
+                sort_by_pair(entries);
+                PairOrder { tails: None }
+            }
         }
     }
 
@@ -138,13 +154,21 @@ impl PairIndex {
         ensures err { OnErr result (self.new ≡ self.old) }
     {
         if let Some(spread) = spread {
+            if let Some(tails) = Tails::of(alloc, entries, pair)? {
+                self.tails = tails;
+                self.chains = Chains::none(alloc);
+                self.way = Way::Tails;
+                return Ok(());
+            }
             if let Some(chains) = Chains::of(alloc, spread, entries, pair)? {
                 self.chains = chains;
+                self.tails = Tails::none(alloc);
                 self.way = Way::Chained;
                 return Ok(());
             }
         }
         self.places = places_with(alloc, entries, pair)?;
+        self.tails = Tails::none(alloc);
         self.chains = Chains::none(alloc);
         self.way = Way::Ordered;
         Ok(())
@@ -167,6 +191,12 @@ impl PairIndex {
         let spread = match self.way {
             Way::Rising => {
                 if is_past(entries, pair) {
+                    return Ok(());
+                }
+                Some(Spread::Near)
+            }
+            Way::Tails => {
+                if self.tails.stays(entries) && self.tails.take(entries, pair)? {
                     return Ok(());
                 }
                 Some(Spread::Near)

@@ -1,0 +1,18 @@
+use Rattle.std.proofs.Common.{◌+◌, ◌-◌, ◌≤◌, ◌++◌, length, replicate, sym, ap, ◌∙◌, subst, arith}
+use Rattle.std.proofs.lemmas.List.{take_all}
+use Rattle.pair_index.specs.Tailed.{Links}
+use Rattle.pair_index.proofs.TailLaws.{links_wider}
+use Rattle.pair_index.proofs.tails.Tails.make_room.Goals as goal
+
+pub returns-in_ok-resize-clause-kept : goal.returns-in_ok-resize-clause-kept
+returns-in_ok-resize-clause-kept c keys links =
+    let self = c.args.self.now in
+    let ok = self.heads.ok.0 in
+    let short = c.if-len-tail.true in
+    let count = c.len-2.ensures in
+    let more = (c.in-Some.tail + 1) - c.args.self.now.heads.len in
+    let zeros = replicate more 0 in
+    let whole = ap (λ h. h ++ zeros) (take_all (c.in-Some.tail + 1) self.heads.items (omega (arith, ok, short, count))) in
+    subst (λ h. Links h c.reserve.new.self.items keys) (sym (c.in_ok-resize.ensures.items ∙ whole))
+    (subst (λ n. Links (self.heads.items ++ zeros) n keys) (sym c.reserve.ensures.items)
+    (links_wider self.heads.items self.next.items keys more links))

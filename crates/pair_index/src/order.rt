@@ -1,0 +1,79 @@
+// Entries by rising pair, whatever the order of their list.
+ghost use Rattle.std.specs.Prelude.{◌≡◌, ◌<◌, length};
+ghost use Rattle.std.specs.List.{IsDistinct};
+ghost use Rattle.std.specs.List.Sorted.{IsStrictlySortedBy};
+ghost use Rattle.std.specs.Map.{keys_of};
+ghost use Rattle.std.specs.declared.cmp.Ordering.TheVariants.{Less};
+ghost use Rattle.pair_index.specs.Ordered.{Orders};
+ghost use Rattle.pair_index.specs.Pairs.{pair_cmp, same_pair};
+ghost use Rattle.pair_index.specs.Places.{key_at, IsLeast, IsPlace};
+
+use crate::rising::place_by_search;
+use crate::tails::Tails;
+
+/// How the entries of a list stand by rising pair. It holds no entries: each call is given the list.
+#[derive(Drop)]
+pub struct PairOrder {
+    // None where they stand in the list as they rise.
+    pub(crate) tails: Option<Tails>,
+}
+
+impl PairOrder {
+    /// Where the entry of a pair stands, if there is one. Takes no memory.
+    pub fn find<X>(&self, entries: &[((i64, i64), X)], pair: &(i64, i64)) -> Option<usize>
+        requires { Orders self.now (keys_of entries.now) }
+        ensures { IsPlace (keys_of entries.now) pair.now result }
+    {
+        match &self.tails {
+            Some(tails) => tails.find(entries, pair),
+            None => place_by_search(entries, pair),
+        }
+    }
+
+    /// Where the least pair stands, if there is one.
+    pub fn first<X>(&self, entries: &[((i64, i64), X)]) -> Option<usize>
+        requires { Orders self.now (keys_of entries.now) }
+        ensures { IsLeast (keys_of entries.now) (λ p. Unit {0}) result }
+    {
+        match &self.tails {
+            Some(tails) => tails.first(),
+            None => first_rising(entries),
+        }
+    }
+
+    /// Where the pair after the one at a position stands, if there is one.
+    pub fn next<X>(&self, entries: &[((i64, i64), X)], at: usize) -> Option<usize>
+        requires ordered { Orders self.now (keys_of entries.now) }
+        requires inside { at < length entries.now }
+        ensures { IsLeast (keys_of entries.now)
+            (λ p. pair_cmp (key_at (keys_of entries.now) at) p ≡ Less) result }
+    {
+        match &self.tails {
+            Some(tails) => tails.next(entries, at),
+            None => next_rising(entries, at),
+        }
+    }
+}
+
+// The first position, where pairs rise.
+fn first_rising<X>(entries: &[((i64, i64), X)]) -> Option<usize>
+    requires { IsStrictlySortedBy pair_cmp (keys_of entries.now) }
+    ensures { IsLeast (keys_of entries.now) (λ p. Unit {0}) result }
+{
+    if entries.is_empty() { None } else { Some(0) }
+}
+
+// The position after one, where pairs rise.
+fn next_rising<X>(entries: &[((i64, i64), X)], at: usize) -> Option<usize>
+    requires rising { IsStrictlySortedBy pair_cmp (keys_of entries.now) }
+    requires inside { at < length entries.now }
+    ensures { IsLeast (keys_of entries.now)
+        (λ p. pair_cmp (key_at (keys_of entries.now) at) p ≡ Less) result }
+{
+    let next = at + 1;
+    if next < entries.len() {
+        Some(next)
+    } else {
+        None
+    }
+}

@@ -1,0 +1,355 @@
+// Positions in chains, by tail and then by rising head.
+ghost use Rattle.std.specs.Prelude.{◌≡◌, ◌<◌, ◌≤◌, ℕ, ℤ, false, IsTrue, slice_set, pos, ◌<ℤ◌, List, [], ◌∷◌, ◌++◌, MatchOption, length, Ok, true, ◌≢◌, IfOk, IfSome};
+ghost use Rattle.std.specs.List.{list_any, IsDistinct};
+ghost use Rattle.std.specs.Map.{keys_of};
+ghost use Rattle.std.specs.declared.cmp.Ordering.TheVariants.{Less};
+ghost use Rattle.pair_index.specs.Tailed.{HasRoomFor, IsBare, IsFirstFrom, IsTailed, LeadsTo, IsSpot};
+ghost use Rattle.pair_index.specs.Places.{key_at, IsLeast, IsPlace};
+ghost use Rattle.pair_index.specs.Pairs.{pair_cmp, same_pair};
+
+use crate::index::AHEAD;
+use crate::pair::{is_head_upto, is_pair};
+use std::alloc::{AllocError, Global};
+
+// Links of 32 bits can name so many positions.
+const MOST_LINKED: usize = u32::MAX as usize;
+
+// A chain of so many positions is long.
+const LONG: u32 = 12;
+
+// So many tails a position are few enough.
+const DENSE: usize = 4;
+
+// Tails farther apart are not near one another, nor are those farther apart than there are entries for each of so many.
+const FARTHEST: usize = 16384;
+
+const SPAN: usize = 64;
+
+// Per tail a link to the position with its least head, and per position a link to the one with the next greater head
+// of its tail. A link is one more than the position; 0 is the end.
+#[derive(Drop)]
+pub(crate) struct Tails {
+    heads: Vec<u32>,
+    next: Vec<u32>,
+}
+
+// Where a pair belongs in the chain of its tail: the link to the last position with a lesser head, and that to the
+// position after it.
+#[derive(Clone, Copy)]
+pub(crate) struct Spot {
+    before: u32,
+    after: u32,
+}
+
+// A pair's tail, if it is not below 0.
+fn tail_of(pair: &(i64, i64)) -> Option<usize>
+    ensures { MatchOption result (pair.now.0 <ℤ pos 0) (λ tail. pair.now.0 ≡ pos tail) }
+{
+    usize::try_from(pair.0).ok()
+}
+
+// How far apart tails may be that are near one another, among so many entries.
+fn span(entries: usize) -> u64 {
+    (entries / SPAN).min(FARTHEST) as u64
+}
+
+// Whether most entries have a tail near that of the entry before. No contract: it decides only the speed.
+fn are_near<X>(entries: &[((i64, i64), X)]) -> bool {
+    let near = span(entries.len());
+    let mut far = 0usize;
+    for i in 1..entries.len() {
+        if near < entries[i].0.0.abs_diff(entries[i - 1].0.0) {
+            far = far.saturating_add(1);
+        }
+    }
+    far <= entries.len() / 2
+}
+
+// Whether most of these pairs have a tail near that of the pair before, among so many entries. No contract: it decides
+// only the speed.
+pub(crate) fn are_near_pairs(pairs: &[(i64, i64); AHEAD], entries: usize) -> bool {
+    let near = span(entries);
+    let mut far = 0usize;
+    for i in 1..AHEAD {
+        if near < pairs[i].0.abs_diff(pairs[i - 1].0) {
+            far = far.saturating_add(1);
+        }
+    }
+    far <= AHEAD / 2
+}
+
+impl Tails {
+    // Chains without tails, which take no memory.
+    pub(crate) fn none(alloc: Global) -> Tails
+        ensures heads { result.heads.items ≡ [] }
+        ensures next { result.next.items ≡ [] }
+    {
+        Tails {
+            heads: Vec::new(alloc),
+            next: Vec::new(alloc),
+        }
+    }
+
+    // The link to the first position of a pair's tail.
+    fn first_of(&self, pair: &(i64, i64)) -> u32
+        ensures { (keys : List (ℤ × ℤ)) → IsTailed self.now keys → LeadsTo keys (λ p. p.0 ≡ pair.now.0) result }
+    {
+        match tail_of(pair) {
+            Some(tail) => {
+                if tail < self.heads.len() {
+                    self.heads[tail]
+                } else {
+                    0
+                }
+            }
+            None => 0,
+        }
+    }
+
+    // Where a pair belongs in the chain of its tail.
+    fn spot<X>(&self, entries: &[((i64, i64), X)], pair: &(i64, i64)) -> Spot
+        requires { IsTailed self.now (keys_of entries.now) }
+        ensures { IsSpot (keys_of entries.now) pair.now result }
+    {
+        let mut before = 0;
+        let mut after = self.first_of(pair);
+        while after != 0 {
+            let at = (after - 1) as usize;
+            if is_head_upto(pair, &entries[at].0) {
+                break;
+            }
+            before = after;
+            after = self.next[at];
+        }
+        Spot { before, after }
+    }
+
+    // Chains of the entries and a pair that comes next, if pairs come nearly in order, no chain would be long, and tails
+    // are not many more than entries. That there are none decides only the speed.
+    pub(crate) fn of<X>(
+        alloc: Global,
+        entries: &[((i64, i64), X)],
+        pair: &(i64, i64),
+    ) -> Result<Option<Tails>, AllocError>
+        requires apart { IsDistinct same_pair (keys_of entries.now) }
+        requires fresh { list_any (same_pair pair.now) (keys_of entries.now) ≡ false }
+        ensures { IfOk result (λ o. IfSome o (λ tails. IsTailed tails (keys_of entries.now ++ pair.now ∷ []))) }
+    {
+        if !are_near(entries) {
+            return Ok(None);
+        }
+        let mut tails = Tails::none(alloc);
+        tails.next.reserve(entries.len().saturating_add(1))?;
+        if tails.take_all(entries, pair)? {
+            Ok(Some(tails))
+        } else {
+            drop(tails);
+            Ok(None)
+        }
+    }
+
+    // Takes up the entries and then a pair. Answers whether each could be.
+    fn take_all<X>(
+        &mut self,
+        entries: &[((i64, i64), X)],
+        pair: &(i64, i64),
+    ) -> Result<bool, AllocError>
+        requires linked { IsTailed self.old [] }
+        requires apart { IsDistinct same_pair (keys_of entries.now) }
+        requires fresh { list_any (same_pair pair.now) (keys_of entries.now) ≡ false }
+        ensures { IfOk result (λ is. IsTrue is → IsTailed self.new (keys_of entries.now ++ pair.now ∷ [])) }
+    {
+        for i in 0..entries.len() {
+            if !self.take(&entries[..i], &entries[i].0)? {
+                return Ok(false);
+            }
+        }
+        self.take(entries, pair)
+    }
+
+    // Whether so many entries are worth a look at whether they come nearly in order: when they have doubled. No
+    // contract: it decides only the speed.
+    pub(crate) fn stays<X>(&self, entries: &[((i64, i64), X)]) -> bool {
+        self.next.len() < self.next.capacity() || are_near(entries)
+    }
+
+    // Takes up a pair that comes next, unless its chain is long or its tail great. That it cannot be decides only the
+    // speed.
+    pub(crate) fn take<X>(
+        &mut self,
+        entries: &[((i64, i64), X)],
+        pair: &(i64, i64),
+    ) -> Result<bool, AllocError>
+        requires linked { IsTailed self.old (keys_of entries.now) }
+        requires fresh { list_any (same_pair pair.now) (keys_of entries.now) ≡ false }
+        ensures taken { IfOk result (λ is. IsTrue is → IsTailed self.new (keys_of entries.now ++ pair.now ∷ [])) }
+        ensures not { result ≢ Ok true → IsTailed self.new (keys_of entries.now) }
+    {
+        if self.is_long(pair) {
+            return Ok(false);
+        }
+        if !self.make_room(pair)? {
+            return Ok(false);
+        }
+        self.link(entries, pair);
+        Ok(true)
+    }
+
+    // Whether a pair's chain is long. No contract: it decides only the speed.
+    fn is_long(&self, pair: &(i64, i64)) -> bool {
+        let mut link = self.first_of(pair);
+        for _ in 0..LONG {
+            if link == 0 {
+                return false;
+            }
+            link = match self.next.get((link - 1) as usize) {
+                Some(next) => *next,
+                None => 0,
+            };
+        }
+        true
+    }
+
+    // Makes room for a pair's link, unless its tail is great. That it is decides only the speed.
+    fn make_room(&mut self, pair: &(i64, i64)) -> Result<bool, AllocError>
+        ensures kept { (keys : List (ℤ × ℤ)) → IsTailed self.old keys → IsTailed self.new keys }
+        ensures room { IfOk result (λ is. IsTrue is → HasRoomFor self.new pair.now) }
+    {
+        let Some(tail) = tail_of(pair) else {
+            return Ok(false);
+        };
+        if MOST_LINKED <= self.next.len() {
+            return Ok(false);
+        }
+        self.next.reserve(1)?;
+        if self.heads.len() <= tail {
+            if self.next.capacity().saturating_mul(DENSE) <= tail {
+                return Ok(false);
+            }
+            self.heads.resize(tail + 1, 0)?;
+        }
+        Ok(true)
+    }
+
+    // Where each of these pairs may stand: the chains are walked in step, so that no load waits for that of another
+    // pair. No contract: it decides only the speed.
+    pub(crate) fn likely_places<X>(
+        &self,
+        entries: &[((i64, i64), X)],
+        pairs: &[(i64, i64); AHEAD],
+    ) -> [u32; AHEAD] {
+        let mut places = [0; AHEAD];
+        for i in 0..AHEAD {
+            places[i] = self.first_of(&pairs[i]).saturating_sub(1);
+        }
+        for _ in 0..LONG {
+            let mut goes_on = false;
+            for i in 0..AHEAD {
+                if let Some(next) = self.past(entries, places[i], &pairs[i]) {
+                    places[i] = next;
+                    goes_on = true;
+                }
+            }
+            if !goes_on {
+                break;
+            }
+        }
+        places
+    }
+
+    // The position after one in its chain, if the pair there has a lesser head than this one. No contract: it decides
+    // only the speed.
+    fn past<X>(&self, entries: &[((i64, i64), X)], place: u32, pair: &(i64, i64)) -> Option<u32> {
+        let entry = entries.get(place as usize)?;
+        if is_head_upto(pair, &entry.0) {
+            return None;
+        }
+        let link = *self.next.get(place as usize)?;
+        if link == 0 { None } else { Some(link - 1) }
+    }
+
+    // Puts the next position, where the pair stands, into its chain. It takes no memory, since there is room.
+    pub(crate) fn link<X>(&mut self, entries: &[((i64, i64), X)], pair: &(i64, i64))
+        requires linked { IsTailed self.old (keys_of entries.now) }
+        requires fresh { list_any (same_pair pair.now) (keys_of entries.now) ≡ false }
+        requires room { HasRoomFor self.old pair.now }
+        ensures { IsTailed self.new (keys_of entries.now ++ pair.now ∷ []) }
+    {
+        let spot = self.spot(entries, pair);
+        let link = self.next.len() as u32 + 1;
+        self.next.push_reserved(spot.after);
+        if spot.before == 0 {
+            self.set_first(pair, link);
+        } else {
+            self.next[(spot.before - 1) as usize] = link;
+        }
+    }
+
+    // Lets the chain of a pair's tail begin with a link.
+    fn set_first(&mut self, pair: &(i64, i64), link: u32)
+        ensures next { self.new.next ≡ self.old.next }
+        ensures heads { (tail : ℕ) → pair.now.0 ≡ pos tail → tail < length self.old.heads.items
+            → self.new.heads.items ≡ slice_set self.old.heads.items tail link }
+    {
+        if let Some(tail) = tail_of(pair) {
+            if tail < self.heads.len() {
+                self.heads[tail] = link;
+            }
+        }
+    }
+
+    // Where the pair stands among the entries.
+    pub(crate) fn find<X>(&self, entries: &[((i64, i64), X)], pair: &(i64, i64)) -> Option<usize>
+        requires { IsTailed self.now (keys_of entries.now) }
+        ensures { IsPlace (keys_of entries.now) pair.now result }
+    {
+        let link = self.spot(entries, pair).after;
+        if link == 0 {
+            return None;
+        }
+        let at = (link - 1) as usize;
+        if is_pair(&entries[at].0, pair) {
+            Some(at)
+        } else {
+            None
+        }
+    }
+
+    // The first position of the tails from one on.
+    fn first_from(&self, tail: usize) -> Option<usize>
+        ensures { MatchOption result (IsBare self.now.heads.items tail (length self.now.heads.items))
+            (λ at. IsFirstFrom self.now.heads.items tail at) }
+    {
+        for i in tail..self.heads.len() {
+            let link = self.heads[i];
+            if link != 0 {
+                return Some((link - 1) as usize);
+            }
+        }
+        None
+    }
+
+    // The position of the least pair.
+    pub(crate) fn first(&self) -> Option<usize>
+        ensures { (keys : List (ℤ × ℤ)) → IsTailed self.now keys → IsLeast keys (λ p. Unit {0}) result }
+    {
+        self.first_from(0)
+    }
+
+    // The position of the least pair that is past the one at a position.
+    pub(crate) fn next<X>(&self, entries: &[((i64, i64), X)], at: usize) -> Option<usize>
+        requires linked { IsTailed self.now (keys_of entries.now) }
+        requires inside { at < length entries.now }
+        ensures { IsLeast (keys_of entries.now)
+            (λ p. pair_cmp (key_at (keys_of entries.now) at) p ≡ Less) result }
+    {
+        let link = self.next[at];
+        if link != 0 {
+            return Some((link - 1) as usize);
+        }
+        match tail_of(&entries[at].0) {
+            Some(tail) => self.first_from(tail + 1),
+            None => None,
+        }
+    }
+}
