@@ -1,6 +1,6 @@
 -- A curve takes an arc: it stays sound and means one arc more, its numbers fit, and the capacities sum past 2^63-1
 -- exactly where the sum that the code computes does not fit.
-use Rattle.std.proofs.Common.{◌≡◌, ◌-◌, ◌^◌, ℤ, pos, negsuc, ◌+ℤ◌, ◌-ℤ◌, ◌*ℤ◌, ◌≤ℤ◌, ◌<ℤ◌, List, [], ◌∷◌, ◌++◌, map, refl, sym, ap, ◌∙◌, subst, arith, w64, to_z, of_z, cond, Result, Ok, Err, IfErr}
+use Rattle.std.proofs.Common.{◌≡◌, ◌-◌, ◌^◌, ℤ, pos, negsuc, ◌+ℤ◌, ◌-ℤ◌, ◌*ℤ◌, ◌≤ℤ◌, ◌<ℤ◌, List, [], ◌∷◌, ◌++◌, map, refl, sym, ap, ◌∙◌, subst, arith, w64, to_z, of_z, cond, Result, Ok, Err, IfErr, OnOk, OnErr}
 use Rattle.std.specs.Int.{w128}
 use Rattle.std.specs.Int.RustNames.{FitsSigned, int_lt}
 use Rattle.std.specs.List.{AllByRecursion}
@@ -9,12 +9,14 @@ use Rattle.dn_bundle.specs.declared.arc.CostArc.{CostArc}
 use Rattle.dn_bundle.specs.declared.arc.Form.TheVariants.{One}
 use Rattle.dn_bundle.specs.declared.bundle.BundleFault.{BundleFault}
 use Rattle.dn_bundle.specs.declared.bundle.BundleFault.TheVariants.{Sum, Memory}
-use Rattle.dn_bundle.specs.declared.curve.Curve.{Curve}
+use Rattle.dn_bundle.specs.declared.curve.shape.Numbers.{Numbers}
+use Rattle.dn_bundle.specs.declared.curve.shape.Shape.{Shape}
 use Rattle.dn_bundle.specs.Splits.{cost_cap}
 use Rattle.dn_bundle.specs.Meanings.{SameCurve}
 use Rattle.dn_bundle.specs.Canonical.{IsCostArc}
 use Rattle.dn_bundle.specs.Steps.{put_step, add_step, AreSteps, steps_room}
 use Rattle.dn_bundle.specs.CurveTold.{free_arc, step_arc, told, IsSound}
+use Rattle.dn_bundle.specs.Shapes.{numbers_of, AreSound, curve_of, IsGrown}
 use Rattle.dn_bundle.specs.Laws.Splits.{SameAbove}
 use Rattle.dn_bundle.specs.Laws.Curves.{above_meaning}
 use Rattle.dn_bundle.specs.Laws.Parts.{by_test}
@@ -22,20 +24,20 @@ use Rattle.dn_bundle.specs.Laws.Adds.{above_none}
 use Rattle.dn_bundle.specs.Laws.Means.{more_mean, fits_some}
 use Rattle.dn_bundle.specs.Laws.StepArcs.{steps_some, put_steps, put_room, put_above}
 use Rattle.dn_bundle.specs.Laws.CostKind.{cost_kind}
-use Rattle.dn_bundle.specs.Laws.Sound.{IsSound-prop, none_is, sound_cap, told_added}
+use Rattle.dn_bundle.specs.Laws.Stored.{same_numbers}
+use Rattle.dn_bundle.specs.Laws.Sound.{none_is, sound_cap, told_added}
 use Rattle.dn_bundle.proofs.Cost128Laws.{more_fits}
 
 pub most : (z : ℤ) → FitsSigned w64 z → z ≤ℤ pos (2 ^ 63 - 1)
 most (pos n) f = omega (arith, ints, f.sfits)
 most (negsuc n) f = omega (arith, ints)
 
--- a curve whose steps are as they were is as it was
-pub same_steps : (old : Curve) (steps : List (ℤ × ℤ)) (sound : IsSound old.units old.cost old.total steps) → steps ≡ old.steps → record { units = old.units; cost = old.cost; total = old.total; steps = steps; sound = sound } ≡ old
-same_steps old steps sound e =
-    let P : List (ℤ × ℤ) → Type 0 = λ z. (s : IsSound old.units old.cost old.total z) → record { units = old.units; cost = old.cost; total = old.total; steps = z; sound = s } ≡ old in
-    subst P (sym e) (λ s. ap (λ (p : IsSound old.units old.cost old.total old.steps). let c : Curve = record { units = old.units; cost = old.cost; total = old.total; steps = old.steps; sound = p } in c) (IsSound-prop old.units old.cost old.total old.steps s old.sound)) sound
+-- a curve whose numbers are as they were is as it was
+pub same_curve : (old new : Shape) (s : AreSound (numbers_of old)) (t : AreSound (numbers_of new)) → numbers_of new ≡ numbers_of old → curve_of new t ≡ curve_of old s
+same_curve old new s t e = same_numbers _ _ (ap (λ (n : Numbers). (n.units, (n.cost, (n.total, n.steps)))) e)
 
-abbrev CostsFit : List (ℤ × ℤ) → Type 0
+-- the costs have 64 bits
+abbrev pub CostsFit : List (ℤ × ℤ) → Type 0
 CostsFit steps = AllByRecursion (λ (step : ℤ × ℤ). FitsSigned w64 step.0) steps
 
 fit_put : (steps : List (ℤ × ℤ)) (more : ℤ × ℤ) → FitsSigned w64 more.0 → CostsFit steps → CostsFit (put_step steps more)
@@ -127,6 +129,17 @@ module _ (units cost total : ℤ) (steps : List (ℤ × ℤ)) (a : CostArc) (tot
 
   pub units_are : FitsSigned w64 units → FitsSigned w64 a.low → to_z w64 (of_z w64 (to_z w64 (of_z w64 units) +ℤ to_z w64 (of_z w64 a.low))) ≡ units +ℤ a.low
   units_are f g = (rw (to_z-of_z w64 units f, to_z-of_z w64 a.low g) refl) ∙ to_z-of_z w64 (units +ℤ a.low) units_fit
+
+-- numbers, an arc and the total with it
+module _ (old new : Numbers) (a : CostArc) (total : ℤ) (s : AreSound old) (h : IsCostArc a) (e : total ≡ old.total +ℤ a.cap) (f : FitsSigned w64 total) (fk : FitsSigned w64 a.cost) where
+  -- numbers that have taken the arc mean one arc more
+  pub taken_same : IsGrown old a new → SameCurve (told One new.units new.cost new.steps) (told One old.units old.cost old.steps ++ a ∷ [])
+  taken_same g = grown_same old.units old.cost old.total old.steps a total s h e f fk new.units new.cost new.total new.steps g.units g.cost (g.total ∙ sym e) g.steps
+
+  -- they are sound, and so they are where they have not changed
+  pub taken_sound : {E : Type 0} (r : Result (Unit {0}) E) → OnOk r (IsGrown old a new) → OnErr r (new ≡ old) → AreSound new
+  taken_sound (Ok x) ok err = grown_sound old.units old.cost old.total old.steps a total s h e f fk new.units new.cost new.total new.steps ok.units ok.cost (ok.total ∙ sym e) ok.steps
+  taken_sound (Err x) ok err = subst AreSound (sym err) s
 
 -- the sum of capacities with an arc more
 pushed : (units cost total : ℤ) (steps : List (ℤ × ℤ)) (a : CostArc) → IsSound units cost total steps → cost_cap (told One units cost steps ++ a ∷ []) ≡ total +ℤ a.cap

@@ -2,6 +2,7 @@ pub mod LeastLaws
 pub mod StepLaws
 pub mod Cost128Laws
 pub mod GrowLaws
+pub mod ShapeLaws
 pub mod FixedLaws
 pub mod CurveLaws
 pub mod WalkLaws

@@ -22,5 +22,6 @@ pub mod Means
 pub mod Joins
 pub mod Told
 pub mod Sound
+pub mod Stored
 pub mod Canons
 pub mod CostKind

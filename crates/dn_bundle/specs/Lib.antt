@@ -11,6 +11,8 @@ pub mod Bundles
 pub mod Steps
 pub mod Means
 pub mod CurveTold
+pub mod Curves
+pub mod Shapes
 pub mod Tellings
 pub mod Gaps
 pub mod Laws

@@ -7,8 +7,10 @@ ghost use Rattle.dn_bundle.specs.Canonical.{IsCostArc, has_low};
 ghost use Rattle.dn_bundle.specs.Fillings.{forced_units, forced_cost};
 ghost use Rattle.dn_bundle.specs.Entries.{free_costs};
 ghost use Rattle.dn_bundle.specs.Differences.{IsCostOf, IsGap};
-ghost use Rattle.dn_bundle.specs.CurveTold.{told, fixed_arcs, step_arc, IsSound, fixed_list, HasNext, is_free};
-ghost use Rattle.dn_bundle.specs.Laws.Sound.{IsSound-prop, sound_canonical, sound_same, sound_fit};
+ghost use Rattle.dn_bundle.specs.CurveTold.{told, fixed_arcs, step_arc, fixed_list, HasNext, is_free};
+ghost use Rattle.dn_bundle.specs.Shapes.{numbers_of, AreSound};
+ghost use Rattle.dn_bundle.specs.Laws.Sound.{sound_canonical, sound_same, sound_fit};
+ghost use Rattle.dn_bundle.specs.Laws.Stored.{AreSound-prop};
 ghost use Rattle.dn_bundle.specs.Laws.CostKind.{cost_kind};
 ghost use Rattle.dn_bundle.specs.declared.arc.Form.{Form};
 ghost use Rattle.dn_bundle.specs.declared.difference.How.TheVariants.{Costs};
@@ -16,11 +18,14 @@ ghost use Rattle.dn_bundle.specs.declared.difference.How.TheVariants.{Costs};
 use crate::arc::{CostArc, Form};
 use crate::bundle::{Bundle, BundleFault};
 use crate::cost128::{floor, more_cost};
+use crate::curve::shape::Shape;
 use crate::difference::{Gap, How, first_gap};
-use crate::steps::Steps;
 use std::alloc::Global;
+use std::marker::Model;
 
 mod canon_arcs;
+mod numbers;
+mod shape;
 
 /// The fixed arcs of a curve: `above` units cost one more than `cost`.
 #[derive(Clone, Copy, Debug, PartialEq, Eq)]
@@ -33,14 +38,23 @@ pub enum Fixed {
 /// The least cost of each amount that the arcs of a `min` pair can carry.
 #[derive(Drop)]
 pub struct Curve {
-    // The forced units, and what they cost.
-    units: i64,
-    cost: i128,
-    // The capacities together.
-    total: i64,
-    // The free capacity by rising cost.
-    steps: Steps,
-    ghost sound: { IsSound units cost total steps } by { IsSound-prop units cost total steps },
+    // What takes memory for the numbers, where they want it.
+    alloc: Global,
+    shape: Shape,
+    ghost sound: { AreSound (numbers_of shape) } by { AreSound-prop (numbers_of shape) },
+}
+
+impl Model for Curve {
+    ghost use Rattle.dn_bundle.specs.Curves.{CurveNumbers};
+    ghost use Rattle.dn_bundle.specs.Laws.Stored.{curve_code};
+
+    ghost Value = { CurveNumbers };
+
+    ghost coded = { curve_code };
+
+    ghost use Rattle.dn_bundle.specs.Shapes.{curve_of};
+
+    ghost view = { λ a. curve_of a.shape a.sound };
 }
 
 impl Curve {
@@ -49,7 +63,7 @@ impl Curve {
         ensures units { result.0 ≡ forced_units (⟦<Curve as Bundle>⟧.told Form.One self.now) }
         ensures cost { result.1 ≡ forced_cost (⟦<Curve as Bundle>⟧.told Form.One self.now) }
     {
-        (self.units, self.cost)
+        (self.units(), self.cost())
     }
 
     /// The fixed arcs of form 1.
@@ -64,7 +78,7 @@ impl Curve {
         ensures arcs { result ≡ length (filter is_free (⟦<Curve as Bundle>⟧.told Form.One self.now)) }
         ensures costs { result ≡ length (free_costs (⟦<Curve as Bundle>⟧.told Form.One self.now)) }
     {
-        self.steps.len()
+        self.steps_len()
     }
 
     /// The free arc at `i` by rising cost, counted from 0: its cost, and its capacity.
@@ -72,19 +86,20 @@ impl Curve {
         ensures { option_map step_arc result
             ≡ slice_get (filter is_free (⟦<Curve as Bundle>⟧.told Form.One self.now)) i }
     {
-        self.steps.get(i)
+        self.step(i)
     }
 
     /// The least cost of carrying `x`, or `None` where no split of it exists.
     pub fn least(&self, x: i64) -> Option<i128>
         ensures { IsCostOf (⟦<Curve as Bundle>⟧.told Form.One self.now) x result }
     {
-        if x < self.units {
+        let units = self.units();
+        if x < units {
             return None;
         }
-        let mut taken = self.units;
-        let mut cost = self.cost;
-        for step in self.steps.iter() {
+        let mut taken = units;
+        let mut cost = self.cost();
+        for step in self.steps() {
             let left = x - taken;
             if left <= step.1 {
                 return Some(more_cost(&cost, &left, &step.0));
@@ -101,26 +116,30 @@ impl Curve {
             (SameCurve (⟦<Curve as Bundle>⟧.told Form.One self.now) (⟦<Curve as Bundle>⟧.told Form.One other.now))
             (IsGap (⟦<Curve as Bundle>⟧.told Form.One self.now) (⟦<Curve as Bundle>⟧.told Form.One other.now)) }
     {
-        if self.units < other.units {
+        let left = self.units();
+        let right = other.units();
+        let left_cost = self.cost();
+        let right_cost = other.cost();
+        if left < right {
             Some(Gap {
-                amount: self.units,
-                left: Some(self.cost),
+                amount: left,
+                left: Some(left_cost),
                 right: None,
             })
-        } else if other.units < self.units {
+        } else if right < left {
             Some(Gap {
-                amount: other.units,
+                amount: right,
                 left: None,
-                right: Some(other.cost),
+                right: Some(right_cost),
             })
-        } else if self.cost != other.cost {
+        } else if left_cost != right_cost {
             Some(Gap {
-                amount: self.units,
-                left: Some(self.cost),
-                right: Some(other.cost),
+                amount: left,
+                left: Some(left_cost),
+                right: Some(right_cost),
             })
         } else {
-            first_gap(self.units, self.cost, self.steps.iter(), other.steps.iter())
+            first_gap(left, left_cost, self.steps(), other.steps())
         }
     }
 
@@ -131,14 +150,14 @@ impl Curve {
             (SameCurve (told Form.One self.now.units self.now.cost self.now.steps) [])
             (IsGap (told Form.One self.now.units self.now.cost self.now.steps) []) }
     {
-        if self.units != 0 {
+        if self.units() != 0 {
             return Some(Gap {
                 amount: 0,
                 left: None,
                 right: Some(0),
             });
         }
-        let step = self.steps.first()?;
+        let step = self.first_step()?;
         Some(Gap {
             amount: 1,
             left: Some(step.0 as i128),
@@ -165,18 +184,17 @@ impl Curve {
         ensures value { fixed_list result ≡ fixed_arcs self.now.units self.now.cost }
         ensures next { HasNext result }
     {
-        if self.units == 0 {
+        let units = self.units();
+        if units == 0 {
             return Fixed::Zero;
         }
-        let (each, rest) = floor(&self.cost, &self.units);
+        let cost = self.cost();
+        let (each, rest) = floor(&cost, &units);
         if rest == 0 {
-            Fixed::One {
-                units: self.units,
-                cost: each,
-            }
+            Fixed::One { units, cost: each }
         } else {
             Fixed::Two {
-                units: self.units - rest,
+                units: units - rest,
                 cost: each,
                 above: rest,
             }
@@ -192,15 +210,10 @@ impl Curve {
         ensures err { OnErr result (self.new ≡ self.old) }
         ensures memory { IfErr result (λ e. e ≡ BundleFault.Memory) }
     {
-        match self.steps.add((arc.cost, arc.cap - arc.low)) {
-            Err(_) => Err(BundleFault::Memory),
-            Ok(()) => {
-                self.cost = more_cost(&self.cost, &arc.low, &arc.cost);
-                self.units += arc.low;
-                self.total = total;
-                Ok(())
-            }
+        if let Err(_) = self.shape.add(self.alloc, arc, total) {
+            return Err(BundleFault::Memory);
         }
+        Ok(())
     }
 }
 
@@ -235,10 +248,8 @@ impl Bundle for Curve {
 
     fn empty(alloc: Global) -> Curve {
         Curve {
-            units: 0,
-            cost: 0,
-            total: 0,
-            steps: Steps::new(alloc),
+            alloc,
+            shape: Shape::Plain((0, 0)),
         }
     }
 
@@ -247,14 +258,14 @@ impl Bundle for Curve {
     }
 
     fn add(&mut self, arc: CostArc) -> Result<(), BundleFault> {
-        match self.total.checked_add(arc.cap) {
+        match self.total().checked_add(arc.cap) {
             Some(total) => self.grow(arc, total),
             None => Err(BundleFault::Sum),
         }
     }
 
     fn is_nothing(&self) -> bool {
-        self.total == 0
+        self.total() == 0
     }
 
     fn how(left: Option<&Curve>, right: Option<&Curve>) -> Option<How> {
@@ -267,8 +278,8 @@ impl Bundle for Curve {
     }
 
     fn entries(&self) -> u64 {
-        let forced: u64 = if self.units == 0 { 0 } else { 1 };
-        forced + self.steps.len()
+        let forced: u64 = if self.units() == 0 { 0 } else { 1 };
+        forced + self.steps_len()
     }
 
     fn canon_len(&self, form: Form) -> u64 {

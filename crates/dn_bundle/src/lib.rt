@@ -4,8 +4,9 @@
 //!
 //! In the order of the data: `arc` has arcs without their nodes and the two forms, `bundle` the trait and the bundle of
 //! listed arcs; `least`, `total` and `curve` are the three bundles, the last over `steps` of free capacity, with costs
-//! of 128 bits in `cost128` and what it tells in `curve::canon_arcs`; `difference` says how bundles differ, and finds
-//! the first gap between the steps of two curves.
+//! of 128 bits in `cost128`. How a curve keeps its numbers is in `curve::shape`, how they are read in `curve::numbers`,
+//! and what it tells in `curve::canon_arcs`. `difference` says how bundles differ, and finds the first gap between the
+//! steps of two curves.
 #![tactic(auto)]
 
 pub mod arc;

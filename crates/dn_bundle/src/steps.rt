@@ -1,7 +1,8 @@
 // Free capacity by rising cost.
 ghost use Rattle.std.specs.Prelude.{◌≡◌, ◌-◌, ◌^◌, ℤ, pos, ◌+ℤ◌, ◌≤ℤ◌, List, [], length, slice_get, OnOk, OnErr, ◌≤◌};
 ghost use Rattle.std.specs.Iterator.{YieldsFirst, item_count};
-ghost use Rattle.dn_bundle.specs.Steps.{put_step, add_step, step_past, has_step, AreSteps, steps_room};
+ghost use Rattle.std.specs.Option.{option_to_list};
+ghost use Rattle.dn_bundle.specs.Steps.{steps_of, put_step, add_step, step_past, has_step, AreSteps, steps_room};
 
 use std::alloc::{AllocError, Global};
 use std::collections::BTreeMap;
@@ -58,12 +59,12 @@ fn has_in(map: &BTreeMap<i64, i64>, cost: &i64) -> bool
 }
 
 impl Steps {
-    /// No free capacity.
-    pub(crate) fn new(alloc: Global) -> Steps
-        ensures { result ≡ [] }
+    /// The free capacity of at most one cost.
+    pub(crate) fn of(alloc: Global, first: Option<(i64, i64)>) -> Steps
+        ensures { result ≡ steps_of first [] }
     {
         Steps {
-            first: None,
+            first,
             rest: BTreeMap::new(alloc),
         }
     }
@@ -161,7 +162,7 @@ impl Steps {
     {
         StepsIter {
             first: self.first,
-            rest: self.rest.iter(),
+            rest: Some(self.rest.iter()),
         }
     }
 }
@@ -170,16 +171,25 @@ impl Steps {
 #[derive(Drop)]
 pub(crate) struct StepsIter<'a> {
     first: Option<(i64, i64)>,
-    rest: Iter<'a, i64, i64>,
+    rest: Option<Iter<'a, i64, i64>>,
 }
 
 impl<'a> Model for StepsIter<'a> {
-    ghost use Rattle.std.specs.Prelude.{ℤ, List, ◌++◌};
-    ghost use Rattle.std.specs.Option.{option_to_list};
+    ghost use Rattle.std.specs.Prelude.{ℤ, List, [], ◌++◌};
+    ghost use Rattle.std.specs.Option.{option_to_list, unwrap_or};
 
     ghost Value = { List (ℤ × ℤ) };
 
-    ghost view = { λ a. option_to_list a.first ++ a.rest };
+    ghost view = { λ a. option_to_list a.first ++ unwrap_or a.rest [] };
+}
+
+impl<'a> StepsIter<'a> {
+    /// The steps of at most one cost.
+    pub(crate) fn of(first: Option<(i64, i64)>) -> StepsIter<'a>
+        ensures { result ≡ option_to_list first }
+    {
+        StepsIter { first, rest: None }
+    }
 }
 
 impl<'a> Iterator for StepsIter<'a> {
@@ -196,7 +206,8 @@ impl<'a> Iterator for StepsIter<'a> {
                 Some(step)
             }
             None => {
-                let (cost, room) = self.rest.next()?;
+                let rest = self.rest.as_mut()?;
+                let (cost, room) = rest.next()?;
                 Some((*cost, *room))
             }
         }

@@ -67,7 +67,7 @@ impl Curve {
     pub(super) fn first_arc(&self, form: Form) -> Option<CostArc>
         ensures { result ≡ slice_get (curve_arcs form self.now) 0 }
     {
-        let step = self.steps.first();
+        let step = self.first_step();
         let Some(fixed) = self.first_fixed() else {
             return free_of(step);
         };
@@ -118,9 +118,9 @@ impl Curve {
         ensures { result ≡ length (curve_arcs Form.One self.now) }
     {
         match self.spread() {
-            Fixed::Zero => self.steps.len(),
-            Fixed::One { .. } => self.steps.len() + 1,
-            Fixed::Two { .. } => self.steps.len() + 2,
+            Fixed::Zero => self.steps_len(),
+            Fixed::One { .. } => self.steps_len() + 1,
+            Fixed::Two { .. } => self.steps_len() + 2,
         }
     }
 
@@ -129,9 +129,9 @@ impl Curve {
         ensures { result ≡ length (curve_arcs Form.Two self.now) }
     {
         match self.spread() {
-            Fixed::Zero => self.steps.len(),
-            Fixed::One { cost, .. } => self.steps.len() + self.missing(&cost),
-            Fixed::Two { cost, .. } => self.steps.len()
+            Fixed::Zero => self.steps_len(),
+            Fixed::One { cost, .. } => self.steps_len() + self.missing(&cost),
+            Fixed::Two { cost, .. } => self.steps_len()
                 + self.missing(&cost)
                 + self.missing(&(cost + 1)),
         }
@@ -141,7 +141,7 @@ impl Curve {
     fn missing(&self, cost: &i64) -> u64
         ensures { result ≡ cond (has_step self.now.steps cost.now) 0 1 }
     {
-        if self.steps.has(cost) { 0 } else { 1 }
+        if self.has_step(cost) { 0 } else { 1 }
     }
 
     // The canonical arc of form 1 after an arc.
@@ -150,11 +150,11 @@ impl Curve {
             → result ≡ slice_get (curve_arcs Form.One self.now) (i + 1) }
     {
         if arc.low == 0 {
-            return free_of(self.steps.past(&arc.cost));
+            return free_of(self.step_past(&arc.cost));
         }
         match self.fixed_past(&arc.cost) {
             Some(fixed) => Some(fixed),
-            None => free_of(self.steps.first()),
+            None => free_of(self.first_step()),
         }
     }
 
@@ -163,7 +163,7 @@ impl Curve {
         ensures { result ≡ find (λ b. int_lt past.now b.cost)
             (curve_arcs Form.Two self.now) }
     {
-        let step = self.steps.past(past);
+        let step = self.step_past(past);
         match self.fixed_past(past) {
             Some(fixed) => Some(join(fixed, step)),
             None => free_of(step),

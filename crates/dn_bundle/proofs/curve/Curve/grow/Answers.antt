@@ -1,39 +1,25 @@
-use Rattle.std.proofs.Common.{ap, ◌∙◌, rules, w64, to_z, of_z}
-use Rattle.std.specs.Int.{w128}
-use Rattle.std.proofs.lemmas.Int.{to_z-of_z}
-use Rattle.dn_bundle.specs.Steps.{add_step}
-use Rattle.dn_bundle.proofs.GrowLaws.{same_steps, cost_fits, units_fit, step_is, units_are, grown_sound, grown_same}
+use Rattle.std.proofs.Common.{rules, ◌+ℤ◌, ◌++◌, ◌∷◌, [], ap, sym, ◌∙◌, subst}
+use Rattle.dn_bundle.specs.declared.arc.Form.TheVariants.{One}
+use Rattle.dn_bundle.specs.Meanings.{SameCurve}
+use Rattle.dn_bundle.specs.CurveTold.{told}
+use Rattle.dn_bundle.specs.Curves.{CurveNumbers}
+use Rattle.dn_bundle.specs.Shapes.{numbers_of}
+use Rattle.dn_bundle.proofs.GrowLaws.{taken_same, taken_sound, same_curve}
 use Rattle.dn_bundle.proofs.curve.Curve.grow.Goals as goal
 
-pub more_cost-self-requires : goal.more_cost-self-requires
-more_cost-self-requires c =
-    let old = c.args.self.now in
-    cost_fits old.units old.cost old.total old.steps c.args.arc c.args.total old.sound c.requires.arc c.requires.total c.ranges.total (search rules)
-
-pub overflow_add-self : goal.overflow_add-self
-overflow_add-self c =
-    let old = c.args.self.now in
-    rw (to_z-of_z w64 old.units (search rules), to_z-of_z w64 c.args.arc.low (search rules)) (units_fit old.units old.cost old.total old.steps c.args.arc c.args.total old.sound c.requires.arc c.requires.total c.ranges.total)
-
-pub invariant_of-self-in-Ok : goal.invariant_of-self-in-Ok
-invariant_of-self-in-Ok c =
-    let old = c.args.self.now in
-    record {
-      sound = grown_sound old.units old.cost old.total old.steps c.args.arc c.args.total old.sound c.requires.arc c.requires.total c.ranges.total (search rules) _ _ _ c.add.new.self
-          (units_are old.units old.cost old.total old.steps c.args.arc c.args.total old.sound c.requires.arc c.requires.total c.ranges.total (search rules) (search rules))
-          (to_z-of_z w128 c.more_cost-self.result (search rules) ∙ c.more_cost-self.ensures)
-          (to_z-of_z w64 c.args.total c.ranges.total)
-          (c.in-Ok.ensures.ok ∙ ap (add_step old.steps) (step_is old.units old.cost old.total old.steps c.args.arc c.args.total old.sound c.requires.arc c.requires.total c.ranges.total (search rules) (search rules) (search rules)));
-    }
+pub invariant_of-self-inside : goal.invariant_of-self-inside
+invariant_of-self-inside c =
+    let old = numbers_of c.self.inside.shape in
+    let total = c.requires.total ∙ ap (λ (v : CurveNumbers). v.total +ℤ c.args.arc.cap) (sym c.self.view_is) in
+    (taken_sound old (numbers_of c.add.new.self) c.args.arc c.args.total c.self.inside.sound c.requires.arc total c.ranges.total (search rules) c.add.result c.add.ensures.ok c.add.ensures.err, tt)
 
 pub returns-in-Err-clause-err : goal.returns-in-Err-clause-err
-returns-in-Err-clause-err c = same_steps c.args.self.now c.add.new.self _ c.in-Err.ensures.err
+returns-in-Err-clause-err c = same_curve c.self.inside.shape c.add.new.self c.self.inside.sound _ c.in-Err.ensures.err ∙ c.self.view_is
 
-pub returns-in-Ok-clause-ok : goal.returns-in-Ok-clause-ok
-returns-in-Ok-clause-ok c =
-    let old = c.args.self.now in
-    grown_same old.units old.cost old.total old.steps c.args.arc c.args.total old.sound c.requires.arc c.requires.total c.ranges.total (search rules) _ _ (to_z w64 (of_z w64 c.args.total)) c.add.new.self
-    (units_are old.units old.cost old.total old.steps c.args.arc c.args.total old.sound c.requires.arc c.requires.total c.ranges.total (search rules) (search rules))
-    (to_z-of_z w128 c.more_cost-self.result (search rules) ∙ c.more_cost-self.ensures)
-    (to_z-of_z w64 c.args.total c.ranges.total)
-    (c.in-Ok.ensures.ok ∙ ap (add_step old.steps) (step_is old.units old.cost old.total old.steps c.args.arc c.args.total old.sound c.requires.arc c.requires.total c.ranges.total (search rules) (search rules) (search rules)))
+pub returns-clause-ok : goal.returns-clause-ok
+returns-clause-ok c =
+    let old = numbers_of c.self.inside.shape in
+    let new = numbers_of c.add.new.self in
+    let total = c.requires.total ∙ ap (λ (v : CurveNumbers). v.total +ℤ c.args.arc.cap) (sym c.self.view_is) in
+    subst (λ (v : CurveNumbers). SameCurve (told One new.units new.cost new.steps) (told One v.units v.cost v.steps ++ c.args.arc ∷ [])) c.self.view_is
+    (taken_same old new c.args.arc c.args.total c.self.inside.sound c.requires.arc total c.ranges.total (search rules) c.in_default.ensures.ok)

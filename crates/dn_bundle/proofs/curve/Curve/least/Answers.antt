@@ -1,14 +1,15 @@
-use Rattle.std.proofs.Common.{sym, ap, ◌∙◌, subst, rules, to_z, of_z, w64}
+use Rattle.std.proofs.Common.{◌<ℤ◌, sym, ap, ◌∙◌, subst, rules, to_z, of_z, w64}
 use Rattle.std.specs.Int.{w128}
 use Rattle.std.proofs.lemmas.Int.{to_z-of_z, of_z-to_z}
 use Rattle.dn_bundle.proofs.StepLaws.{less}
 use Rattle.dn_bundle.proofs.WalkLaws.{IsAt, least_at, at_least, last_fits, last_is, next_fits, next, done_is, done_not, too_little}
 use Rattle.dn_bundle.proofs.curve.Curve.least.Goals as goal
 
-pub returns-then-x-self : goal.returns-then-x-self
-returns-then-x-self c = λ k l.
+pub returns-then-x-units : goal.returns-then-x-units
+returns-then-x-units c = λ k l.
     let self = c.args.self.now in
-    too_little self.units self.cost self.steps c.args.x k (less c.args.x self.units (search rules) (search rules) c.if-x-self.true) (least_at self.units self.cost self.total self.steps self.sound c.args.x k l)
+    let is = c.units-units.ensures in
+    too_little self.units self.cost self.steps c.args.x k (subst (λ z. c.args.x <ℤ z) is (less c.args.x c.units-units.result (search rules) (search rules) c.if-x-units.true)) (least_at self.units self.cost self.total self.steps self.sound c.args.x k l)
 
 pub more_cost-requires : goal.more_cost-requires
 more_cost-requires c =

@@ -1,0 +1,106 @@
+// The numbers of a curve, read from how it keeps them.
+ghost use Rattle.std.specs.Prelude.{◌≡◌, ◌≤◌, ◌^◌, length, slice_get};
+ghost use Rattle.dn_bundle.specs.Steps.{step_past, has_step};
+
+use crate::curve::Curve;
+use crate::curve::shape::{Shape, plain_step};
+use crate::steps::StepsIter;
+
+impl Curve {
+    // The forced units.
+    pub(super) fn units(&self) -> i64
+        ensures { result ≡ self.now.units }
+    {
+        match &self.shape {
+            Shape::Plain(_) => 0,
+            Shape::Full(numbers) => numbers.units,
+        }
+    }
+
+    // What the forced units cost.
+    pub(super) fn cost(&self) -> i128
+        ensures { result ≡ self.now.cost }
+    {
+        match &self.shape {
+            Shape::Plain(_) => 0,
+            Shape::Full(numbers) => numbers.cost,
+        }
+    }
+
+    // The capacities together.
+    pub(super) fn total(&self) -> i64
+        ensures { result ≡ self.now.total }
+    {
+        match &self.shape {
+            Shape::Plain(step) => step.1,
+            Shape::Full(numbers) => numbers.total,
+        }
+    }
+
+    // How many costs have free capacity.
+    pub(super) fn steps_len(&self) -> u64
+        ensures len { result ≡ length self.now.steps }
+        ensures small { result ≤ 2 ^ 63 }
+    {
+        match &self.shape {
+            Shape::Plain(step) => { if 0 < step.1 { 1 } else { 0 } }
+            Shape::Full(numbers) => numbers.steps.len(),
+        }
+    }
+
+    // The least cost with free capacity, and the capacity at it.
+    pub(super) fn first_step(&self) -> Option<(i64, i64)>
+        ensures { result ≡ slice_get self.now.steps 0 }
+    {
+        match &self.shape {
+            Shape::Plain(step) => plain_step(*step),
+            Shape::Full(numbers) => numbers.steps.first(),
+        }
+    }
+
+    // The step at `i` by rising cost, counted from 0.
+    pub(super) fn step(&self, i: u64) -> Option<(i64, i64)>
+        ensures { result ≡ slice_get self.now.steps i }
+    {
+        match &self.shape {
+            Shape::Plain(step) => { if i == 0 { plain_step(*step) } else { None } }
+            Shape::Full(numbers) => numbers.steps.get(i),
+        }
+    }
+
+    // The first step past a cost.
+    pub(super) fn step_past(&self, past: &i64) -> Option<(i64, i64)>
+        ensures { result ≡ step_past self.now.steps past.now }
+    {
+        match &self.shape {
+            Shape::Plain(step) => {
+                if *past < step.0 {
+                    plain_step(*step)
+                } else {
+                    None
+                }
+            }
+            Shape::Full(numbers) => numbers.steps.past(past),
+        }
+    }
+
+    // Whether there is free capacity at a cost.
+    pub(super) fn has_step(&self, at: &i64) -> bool
+        ensures { result ≡ has_step self.now.steps at.now }
+    {
+        match &self.shape {
+            Shape::Plain(step) => *at == step.0 && 0 < step.1,
+            Shape::Full(numbers) => numbers.steps.has(at),
+        }
+    }
+
+    // The steps by rising cost.
+    pub(super) fn steps(&self) -> StepsIter<'_>
+        ensures { result ≡ self.now.steps }
+    {
+        match &self.shape {
+            Shape::Plain(step) => StepsIter::of(plain_step(*step)),
+            Shape::Full(numbers) => numbers.steps.iter(),
+        }
+    }
+}
