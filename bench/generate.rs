@@ -14,6 +14,7 @@
 // multi              sp, N/10 ordered pairs with 10 arcs each, random order
 // max                frames of grids joined by permutations, 1 arc in 20 between frames doubled
 // min                feasible, with LOW > 0, parallel arcs, some negative costs
+// min-netgen         feasible, LOW 0, arcs grouped by tail, 1 pair in 50 twice
 // co, co-shuffled    N/4 points, by rising ID or in random order
 // ss, p2p            N/4 queries
 //
@@ -31,6 +32,14 @@
 // sp-collide-first   pairs of one bucket in the index's first spread
 // sp-collide         pairs of one bucket in both spreads of the index
 // sp-collide-late    the same after as many random pairs
+// sp-hubs            a power law: few nodes with most arcs, each arc followed by its reverse
+// sp-hubs-shuffled   the same arcs in random order
+// sp-hubs-adjacency  the same arcs by rising tail, heads of one tail in random order
+// sp-ring4           a ring, each node joined to the nearest 4, each arc followed by its reverse, in
+//                    blocks out of order
+// sp-ring10, sp-ring16
+//                    the same with the nearest 10 and 16
+// sp-again           N/2 arcs as of sp-ring10, and then the same once more in random order
 // max-onepair        all arcs of one ordered pair
 // min-onepair        all arcs of one ordered pair, all costs different, random order
 // min-falling        the same, costs fall
@@ -328,6 +337,51 @@ fn min(text: &mut Text, random: &mut Random, n: u64) {
     }
     random.shuffle(&mut arcs);
     text.comment("generated: netgen-like, feasible, with lower bounds and parallel arcs");
+    min_text(text, nodes, &supply, &arcs);
+}
+
+/// A chain of arcs carries the flow of each source to a sink, and random arcs leave each node of it. As
+/// netgen writes them, tails rise within a chain, and heads come in random order.
+fn netgen(text: &mut Text, random: &mut Random, n: u64) {
+    let nodes = (n / 8).max(4) as i64;
+    let ends = (nodes / 1000).max(1);
+    let mut chains: Vec<Vec<i64>> = (1..=ends).map(|source| vec![source]).collect();
+    for node in ends + 1..=nodes - ends {
+        chains[random.below(ends as u64) as usize].push(node);
+    }
+    let mut supply = vec![0i64; nodes as usize + 1];
+    let mut next = vec![0i64; nodes as usize + 1];
+    let mut arcs: Vec<[i64; 5]> = Vec::with_capacity(n as usize + n as usize / 40 + 16);
+    for (chain, sink) in chains.iter().zip(nodes + 1 - ends..) {
+        let flow = random.range(1, 1000);
+        supply[chain[0] as usize] = flow;
+        supply[sink as usize] = -flow;
+        let mut order = chain[1..].to_vec();
+        random.shuffle(&mut order);
+        order.push(sink);
+        let mut at = chain[0];
+        for node in order {
+            next[at as usize] = node;
+            at = node;
+        }
+        for &tail in chain {
+            let most = flow + random.range(0, 1000);
+            arcs.push([tail, next[tail as usize], 0, most, random.range(1, 1000)]);
+            for _ in 1..8 {
+                let head = random.range(ends + 1, nodes);
+                for _ in 0..if random.one_in(50) { 2 } else { 1 } {
+                    let (cap, cost) = (random.range(1, 1000), random.range(1, 1000));
+                    arcs.push([tail, head, 0, cap, cost]);
+                }
+            }
+        }
+    }
+    text.comment("generated: netgen-like, feasible, arcs grouped by tail");
+    min_text(text, nodes, &supply, &arcs);
+}
+
+/// The lines of a `min` text, with a node line for each supply that is not 0.
+fn min_text(text: &mut Text, nodes: i64, supply: &[i64], arcs: &[[i64; 5]]) {
     text.row("p min", &[nodes, arcs.len() as i64], "");
     for id in 1..=nodes {
         if supply[id as usize] != 0 {
@@ -335,7 +389,7 @@ fn min(text: &mut Text, random: &mut Random, n: u64) {
         }
     }
     for arc in arcs {
-        text.row("a", &arc, "");
+        text.row("a", arc, "");
     }
 }
 fn cost(random: &mut Random) -> i64 {
@@ -445,6 +499,61 @@ fn colliding(random: &mut Random, n: u64) -> Vec<Pair> {
     pairs
 }
 
+/// Each pair followed by its reverse.
+fn reversed_too(pairs: &[Pair]) -> Vec<Pair> {
+    pairs.iter().flat_map(|&(u, v)| [(u, v), (v, u)]).collect()
+}
+
+/// The pairs of a graph that grows: each new node is joined to three older ones, most often to those
+/// that many are joined to already.
+fn hubs(random: &mut Random, n: u64, kind: &str) -> Vec<Pair> {
+    let nodes = (n / 6).max(2) as i64;
+    let mut ends = vec![1];
+    let mut edges = Vec::new();
+    for v in 2..=nodes {
+        for _ in 0..3 {
+            let u = if random.one_in(10) {
+                random.range(1, v - 1)
+            } else {
+                ends[random.below(ends.len() as u64) as usize]
+            };
+            if u != v {
+                edges.push((u, v));
+                ends.extend([u, v]);
+            }
+        }
+    }
+    let mut pairs = reversed_too(&edges);
+    match kind {
+        "shuffled" => random.shuffle(&mut pairs),
+        "adjacency" => {
+            random.shuffle(&mut pairs);
+            pairs.sort_by_key(|pair| pair.0);
+        }
+        _ => {}
+    }
+    pairs
+}
+
+/// The pairs of a ring in which each node is joined to the nearest `degree`, in blocks of 64.
+fn ring(random: &mut Random, n: u64, degree: i64) -> Vec<Pair> {
+    let nodes = (n as i64 / degree).max(degree + 1);
+    let edges: Vec<Pair> = (1..=nodes)
+        .flat_map(|u| (1..=degree / 2).map(move |k| (u, (u + k - 1) % nodes + 1)))
+        .collect();
+    let mut blocks: Vec<&[Pair]> = edges.chunks(64).collect();
+    random.shuffle(&mut blocks);
+    reversed_too(&blocks.concat())
+}
+
+/// The pairs of a ring of degree 10, and then the same once more in random order.
+fn again(random: &mut Random, n: u64) -> Vec<Pair> {
+    let first = ring(random, n / 2, 10);
+    let mut second = first.clone();
+    random.shuffle(&mut second);
+    [first, second].concat()
+}
+
 /// Arcs of pairs that hurt, with random lengths.
 fn hostile_sp(text: &mut Text, random: &mut Random, kind: &str, n: u64) {
     let count = n.max(1) as i64;
@@ -457,6 +566,13 @@ fn hostile_sp(text: &mut Text, random: &mut Random, kind: &str, n: u64) {
             random.shuffle(&mut pairs);
             pairs
         }
+        "hubs" => hubs(random, n, "pairs"),
+        "hubs-shuffled" => hubs(random, n, "shuffled"),
+        "hubs-adjacency" => hubs(random, n, "adjacency"),
+        "ring4" => ring(random, n, 4),
+        "ring10" => ring(random, n, 10),
+        "ring16" => ring(random, n, 16),
+        "again" => again(random, n),
         "dense" => {
             let side = n.isqrt() as i64;
             let column = |head| (1..=side).map(move |tail| (tail, head));
@@ -578,6 +694,7 @@ fn main() {
         "multi" => multi(text, random, n),
         "max" => max(text, random, n),
         "min" => min(text, random, n),
+        "min-netgen" => netgen(text, random, n),
         "co" => points(text, random, &rising(n / 4)),
         "co-shuffled" => {
             let mut ids = rising(n / 4);

@@ -51,6 +51,13 @@ sp-sparse arc $n
 sp-collide-first arc $n
 sp-collide arc $n
 sp-collide-late arc $n
+sp-hubs arc $n
+sp-hubs-shuffled arc $n
+sp-hubs-adjacency arc $n
+sp-ring4 arc $n
+sp-ring10 arc $n
+sp-ring16 arc $n
+sp-again arc $n
 max-onepair arc $n
 min-onepair arc $n
 min-falling arc $n

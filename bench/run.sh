@@ -50,7 +50,7 @@ for kind in road road-pairs road-shuffled multi; do
   agree "$(text "$kind" 20000 7 --noise --odd)" "$btree" "$tuned" "$dict" "${mine[@]}"
 done
 if [ -n "$binary" ] && [ "${OTHERS:-1}" = 1 ]; then
-  for kind in min max co co-shuffled ss p2p; do
+  for kind in min min-netgen max co co-shuffled ss p2p; do
     agree "$(text "$kind" 20000 7)" "$btree" "${mine[@]}"
     agree "$(text "$kind" 20000 7 --noise --odd)" "$btree" "${mine[@]}"
   done
@@ -76,7 +76,7 @@ for kind in $kinds; do
   times "$kind" "${mine[@]}" "${floor[@]}" "$tuned" "$btree" "${slow[@]}"
 done
 if [ "${OTHERS:-1}" = 1 ]; then
-  for kind in min max co-shuffled; do
+  for kind in min min-netgen max co-shuffled; do
     agree "$(text "$kind" "$n" 1)" "$btree" "${mine[@]}"
     times "$kind" "${mine[@]}" "${floor[@]}" "$btree"
   done

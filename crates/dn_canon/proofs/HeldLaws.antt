@@ -6,7 +6,7 @@ use Rattle.dn_bundle.specs.declared.arc.Form.TheVariants.{One}
 use Rattle.dn_bundle.specs.declared.arc.LengthArc.{LengthArc}
 use Rattle.dn_bundle.specs.declared.arc.CapArc.{CapArc}
 use Rattle.dn_bundle.specs.declared.arc.CostArc.{CostArc}
-use Rattle.dn_bundle.specs.declared.curve.Curve.{Curve}
+use Rattle.dn_bundle.specs.Curves.{CurveNumbers}
 use Rattle.dn_bundle.specs.declared.least.Least.{Least}
 use Rattle.dn_bundle.specs.declared.total.Total.{Total}
 use Rattle.dn_bundle.specs.Lengths.{length_told}
@@ -88,8 +88,8 @@ module _ {S : Type 0} (taken : S → Option (List ℕ)) (has_failed : S → Bool
           (subst (λ y. WritesCanon taken has_failed old new form (MaxFlow a y G) result) sh.1 (MaxFlow a b H, max_canon form a b G H canon ends, w))
       by_kind _ sh m v = absurd sh
 
-  pub costs_written : (tells : Form → Curve → List CostArc) (nodes : ℤ) (flows : List (ℤ × ℤ)) (table : Bundles Curve) (h : Holding) (I : Instance) (result : Result (Unit {0}) Refusal) → OfMin flows table ≡ h.contents → nodes ≡ h.nodes → IsHeld h I → IsValid I
-      → Makes form costs tells (λ (b : Curve). told One b.units b.cost b.steps) nodes table → Writes taken has_failed old new (print (MinCostFlow flows (told_graph (tells form) nodes table))) (length (told_arcs (tells form) table)) result
+  pub costs_written : (tells : Form → CurveNumbers → List CostArc) (nodes : ℤ) (flows : List (ℤ × ℤ)) (table : Bundles CurveNumbers) (h : Holding) (I : Instance) (result : Result (Unit {0}) Refusal) → OfMin flows table ≡ h.contents → nodes ≡ h.nodes → IsHeld h I → IsValid I
+      → Makes form costs tells (λ (b : CurveNumbers). told One b.units b.cost b.steps) nodes table → Writes taken has_failed old new (print (MinCostFlow flows (told_graph (tells form) nodes table))) (length (told_arcs (tells form) table)) result
       → WritesCanon taken has_failed old new form I result
   costs_written tells nodes flows table h I result e n held valid makes w = by_kind I (subst (λ x. Shows x I) (sym e) held.shows) (n ∙ held.nodes_are) valid
     where

@@ -10,6 +10,7 @@ pub mod PrintLaws
 pub mod TextLaws
 pub mod PutLaws
 pub mod LineLaws
+pub mod BlockLaws
 pub mod ToldLaws
 pub mod HeldLaws
 pub mod RunLaws

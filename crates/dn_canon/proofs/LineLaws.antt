@@ -1,8 +1,8 @@
 -- A line word by word.
-use Rattle.std.proofs.Common.{arith, drop, suc, length-append, ◌≡◌, ℕ, ◌+◌, ◌≤◌, ℤ, List, [], ◌∷◌, ◌++◌, length, map, take, refl, ap, sym, ◌∙◌, append_assoc, append-nil, Some, slice_get}
+use Rattle.std.proofs.Common.{arith, drop, suc, ◌≡◌, ℕ, ◌+◌, ℤ, List, [], ◌∷◌, ◌++◌, length, map, take, refl, ap, sym, ◌∙◌, append_assoc, append-nil, Some, slice_get, slice_set, get_or, ◌<◌}
 use Rattle.std.specs.Fmt.{signed_decimal}
 use Rattle.std.specs.List.{join_with_byte}
-use Rattle.std.proofs.lemmas.List.{take_all, map-append}
+use Rattle.std.proofs.lemmas.List.{map-append, take_more, take_more_set}
 use Rattle.std.proofs.Math.Seq.{drop-cons}
 use Rattle.std.proofs.lemmas.Option.{slice_get_within, get_or_from_slice_get}
 use Rattle.dn_row.specs.Rows.{spaced, line_text}
@@ -27,31 +27,25 @@ number_more start line next done more n e f g =
     ∙ ap (λ ws. start ++ spaced ws) (sym (map-append signed_decimal done (n ∷ [])))
     ∙ ap (λ ns. start ++ spaced (map signed_decimal ns)) (sym g)
 
--- all numbers, and the end of the line
-pub line_whole : (word line whole : List ℕ) (ns : List ℤ) (i : ℕ) → line ≡ word ++ spaced (map signed_decimal (take i ns)) → length ns ≤ i → whole ≡ line ++ 10 ∷ [] → whole ≡ line_text (word ∷ map signed_decimal ns)
-line_whole word line whole ns i e h f =
-    f ∙ ap (λ l. l ++ 10 ∷ []) (e ∙ ap (λ ms. word ++ spaced (map signed_decimal ms)) (take_all i ns h) ∙ sym (joined_spaced word (map signed_decimal ns)))
+-- a letter, all numbers, and the end of the line
+pub line_added : (start first numbers whole : List ℕ) (letter : ℕ) (ns : List ℤ) → first ≡ start ++ letter ∷ [] → numbers ≡ first ++ spaced (map signed_decimal ns) → whole ≡ numbers ++ 10 ∷ []
+    → whole ≡ start ++ line_text ((letter ∷ []) ∷ map signed_decimal ns)
+line_added start first numbers whole letter ns e f g =
+    let words = map signed_decimal ns in
+    g ∙ ap (λ l. l ++ 10 ∷ []) (f ∙ ap (λ l. l ++ spaced words) e ∙ append_assoc start (letter ∷ []) (spaced words) ∙ ap (λ l. start ++ l) (sym (joined_spaced (letter ∷ []) words)))
+    ∙ append_assoc start (join_with_byte 32 ((letter ∷ []) ∷ words)) (10 ∷ [])
 
--- digits before a line
-pub digits_within : (line old digits : List ℕ) → line ≡ digits ++ old → length digits ≤ 20 → length line ≤ length old + 20
-digits_within line old digits e h = let n = ap length e in omega (arith, length-append digits old)
+-- one number more of an arc, after its pair
+pub arc_more : (numbers ns : List ℤ) (i : ℕ) (u v n m : ℤ) → take (i + 2) numbers ≡ u ∷ v ∷ take i ns → i + 2 < length numbers → slice_get ns i ≡ Some n → m ≡ n
+    → take (i + 1 + 2) (slice_set numbers (i + 2) m) ≡ u ∷ v ∷ take (i + 1) ns
+arc_more numbers ns i u v n m so_far room here is =
+    let next : i + 1 + 2 ≡ i + 2 + 1 = omega arith in
+    let more : take (i + 1) ns ≡ take i ns ++ get_or ns i n ∷ [] = take_more ns i n (slice_get_within ns i n here) in
+    ap (λ k. take k (slice_set numbers (i + 2) m)) next ∙ take_more_set numbers (i + 2) m room ∙ ap (λ l. l ++ m ∷ []) so_far
+    ∙ ap (λ z. u ∷ v ∷ (take i ns ++ z ∷ [])) (is ∙ sym (get_or_from_slice_get ns i n n here)) ∙ ap (λ l. u ∷ v ∷ l) (sym more)
 
 -- the elements from one on
 pub drop_get : {X : Type 0} (xs : List X) (i : ℕ) (x : X) → slice_get xs i ≡ Some x → drop i xs ≡ x ∷ drop (i + 1) xs
 drop_get xs i x e =
     let next : suc i ≡ i + 1 = omega arith in
     drop-cons xs i x (slice_get_within xs i x e) ∙ ap (λ y. y ∷ drop (suc i) xs) (get_or_from_slice_get xs i x x e) ∙ ap (λ n. x ∷ drop n xs) next
-
--- one number more before the end
-pub number_before : (line next end : List ℕ) (rest more : List ℤ) (n : ℤ) → line ≡ spaced (map signed_decimal rest) ++ end → next ≡ (32 ∷ signed_decimal n) ++ line → more ≡ n ∷ rest → next ≡ spaced (map signed_decimal more) ++ end
-number_before line next end rest more n e f g =
-    f ∙ ap (λ l. (32 ∷ signed_decimal n) ++ l) e ∙ sym (append_assoc (32 ∷ signed_decimal n) (spaced (map signed_decimal rest)) end)
-    ∙ ap (λ ns. spaced (map signed_decimal ns) ++ end) (sym g)
-
--- an arc's line from its end: its numbers, and its pair before them
-pub arc_before : (word line one two whole : List ℕ) (u v : ℤ) (ns : List ℤ) → line ≡ spaced (map signed_decimal ns) ++ 10 ∷ []
-    → one ≡ (32 ∷ signed_decimal v) ++ line → two ≡ (32 ∷ signed_decimal u) ++ one → whole ≡ word ++ two → whole ≡ line_text (word ∷ map signed_decimal (u ∷ v ∷ ns))
-arc_before word line one two whole u v ns e f g h =
-    h ∙ ap (λ l. word ++ l) (number_before one two (10 ∷ []) (v ∷ ns) (u ∷ v ∷ ns) u (number_before line one (10 ∷ []) ns (v ∷ ns) v e f refl) g refl)
-    ∙ sym (append_assoc word (spaced (map signed_decimal (u ∷ v ∷ ns))) (10 ∷ []))
-    ∙ ap (λ l. l ++ 10 ∷ []) (sym (joined_spaced word (map signed_decimal (u ∷ v ∷ ns))))

@@ -9,27 +9,29 @@ use Rattle.dn_line.specs.declared.kind.Kind.{Kind}
 use Rattle.dn_line.specs.declared.word.Keyword.TheVariants.{A, S, T}
 use Rattle.dn_bundle.specs.Kinds.{ArcKind}
 use Rattle.dn_instance.specs.Instances.{Graph}
-use Rattle.dn_canon.specs.Prints.{word_row, graph_row, companion_row, terminal_row, arc_row, graph_rows}
+use Rattle.dn_canon.specs.Prints.{word_row, graph_row, terminal_row, arc_row, graph_rows}
 use Rattle.dn_row.specs.Rows.{Row, line_text, text_of}
 use Rattle.dn_sink.specs.Puts.{HasPut, PutsFront}
-use Rattle.dn_sink.proofs.PutLaws.{put_more, put_stop}
+use Rattle.dn_canon.proofs.BlockLaws.{pass_more, pass_stop, all_done}
 use Rattle.dn_canon.specs.ToldArcs.{placed, told_arcs}
 use Rattle.dn_canon.specs.Writes.{node_rows}
 use Rattle.dn_canon.specs.declared.writer.NodeLines.{NodeLines}
 use Rattle.dn_canon.specs.declared.writer.NodeLines.TheVariants.{Terminals}
 
-module _ {K : Type 0} {taken : K → Option (List ℕ)} {has_failed : K → Bool} {a b c : K} where
-  -- the line of the next row is put
-  pub row_more : {X : Type 0} {all line : List ℕ} (row : X → Row) (left rest : List X) (x : X) → left ≡ x ∷ rest → line ≡ line_text (row x)
-      → HasPut taken has_failed a b (text_of (map row left)) all → HasPut taken has_failed b c [] line → HasPut taken has_failed a c (text_of (map row rest)) all
-  row_more {X} {all} {line} row left rest x e f h p =
-      put_more (subst (λ xs. HasPut taken has_failed a b (text_of (map row xs)) all) e h) (subst (λ l. HasPut taken has_failed b c [] l) f p)
+-- the line of the next row goes by the block
+pub row_more : {K : Type 0} {taken : K → Option (List ℕ)} {has_failed : K → Bool} {a b c : K} {X : Type 0} {all line after : List ℕ} (row : X → Row) (before : List ℕ) (left rest : List X) (x : X) → left ≡ x ∷ rest
+    → line ≡ line_text (row x) → HasPut taken has_failed a b (before ++ text_of (map row left)) all → HasPut taken has_failed b c after (before ++ line)
+    → HasPut taken has_failed a c (after ++ text_of (map row rest)) all
+row_more {K} {taken} {has_failed} {a} {b} {c} {X} {all} {line} {after} row before left rest x e f h p =
+    pass_more before (line_text (row x)) (text_of (map row rest)) (subst (λ xs. HasPut taken has_failed a b (before ++ text_of (map row xs)) all) e h)
+    (subst (λ l. HasPut taken has_failed b c after (before ++ l)) f p)
 
-  -- a front of it is put
-  pub row_stop : {X : Type 0} {all line : List ℕ} (row : X → Row) (left rest : List X) (x : X) → left ≡ x ∷ rest → line ≡ line_text (row x)
-      → HasPut taken has_failed a b (text_of (map row left)) all → PutsFront taken has_failed b c line → PutsFront taken has_failed a c all
-  row_stop {X} {all} {line} row left rest x e f h p =
-      put_stop (line_text (row x)) (text_of (map row rest)) (subst (λ xs. HasPut taken has_failed a b (text_of (map row xs)) all) e h) (subst (λ l. PutsFront taken has_failed b c l) f p)
+-- a front of what the block held and of that line is put
+pub row_stop : {K : Type 0} {taken : K → Option (List ℕ)} {has_failed : K → Bool} {a b c : K} {X : Type 0} {all line : List ℕ} (row : X → Row) (before : List ℕ) (left rest : List X) (x : X) → left ≡ x ∷ rest
+    → line ≡ line_text (row x) → HasPut taken has_failed a b (before ++ text_of (map row left)) all → PutsFront taken has_failed b c (before ++ line) → PutsFront taken has_failed a c all
+row_stop {K} {taken} {has_failed} {a} {b} {c} {X} {all} {line} row before left rest x e f h p =
+    pass_stop before (line_text (row x)) (text_of (map row rest)) (subst (λ xs. HasPut taken has_failed a b (before ++ text_of (map row xs)) all) e h)
+    (subst (λ l. PutsFront taken has_failed b c (before ++ l)) f p)
 
 -- the rows of two lists
 text-append : (rs ss : List Row) → text_of (rs ++ ss) ≡ text_of rs ++ text_of ss
@@ -51,9 +53,9 @@ some_below {X} xs i o h e n = by_case (slice_get_cases xs i).1
     by_case (inr (past, none)) = absurd (omega arith)
 
 -- no row is left
-pub rows_done : {K : Type 0} {taken : K → Option (List ℕ)} {has_failed : K → Bool} {a b : K} {all : List ℕ} {X : Type 0} (row : X → Row) (xs : List X) (i : ℕ) → length xs ≤ i
-    → HasPut taken has_failed a b (text_of (map row (drop i xs))) all → HasPut taken has_failed a b [] all
-rows_done {K} {taken} {has_failed} {a} {b} {all} row xs i h has = subst (λ l. HasPut taken has_failed a b (text_of (map row l)) all) (drop_all i xs h) has
+pub rows_done : {K : Type 0} {taken : K → Option (List ℕ)} {has_failed : K → Bool} {a b : K} {all : List ℕ} {X : Type 0} (row : X → Row) (block : List ℕ) (xs : List X) (i : ℕ) → length xs ≤ i
+    → HasPut taken has_failed a b (block ++ text_of (map row (drop i xs))) all → HasPut taken has_failed a b block all
+rows_done {K} {taken} {has_failed} {a} {b} {all} {X} row block xs i h has = all_done block (text_of (map row (drop i xs))) (ap (λ l. text_of (map row l)) (drop_all i xs h)) has
 
 -- a graph's text, in parts
 pub graph_text : {Arc : Type 0} (arcs : ArcKind Arc) (kind : Kind) (graph : Graph Arc) (nodes : List Row) (count : ℕ) (line : List ℕ) → line ≡ line_text (graph_row kind graph.nodes count) → count ≡ length graph.arcs
@@ -66,10 +68,6 @@ graph_text arcs kind graph nodes count line e f =
 -- an arc's line
 pub arc_text : {Arc : Type 0} (arcs : ArcKind Arc) (pair : ℤ × ℤ) (arc : Arc) (ns : List ℤ) (line : List ℕ) → line ≡ line_text (word_row A (pair.0 ∷ pair.1 ∷ ns)) → arcs.numbers arc ≡ ns → line ≡ line_text (arc_row arcs (pair, arc))
 arc_text arcs pair arc ns line e f = e ∙ ap (λ ms. line_text (word_row A (pair.0 ∷ pair.1 ∷ ms))) (sym f)
-
--- a companion's problem line, and what comes after it
-pub companion_text : (kind : Kind) (n m : ℕ) (line rest : List ℕ) → line ≡ line_text (companion_row kind n) → n ≡ m → line ++ rest ≡ line_text (companion_row kind m) ++ rest
-companion_text kind n m line rest e f = ap (λ l. l ++ rest) (e ∙ ap (λ k. line_text (companion_row kind k)) f)
 
 -- the source's line, and the sink's
 pub terminals_text : (nodes : NodeLines) (source target : Bor ℤ) (first second : List ℕ) → nodes ≡ Terminals source target → first ≡ line_text (terminal_row source.now S) → second ≡ line_text (terminal_row target.now T)

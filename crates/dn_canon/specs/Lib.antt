@@ -4,6 +4,7 @@ pub mod CanonTexts
 pub mod CanonReadings
 pub mod PartCanons
 pub mod Lines
+pub mod Blocks
 pub mod ToldArcs
 pub mod Writes
 pub mod Runs

@@ -2,10 +2,10 @@
 //! canonical one of an instance; how a text is written to a sink without memory.
 //!
 //! In the order of the data: `canon` has the public calls, from what is held, a text or a source to a sink; `writer`
-//! puts the lines, which `print` makes, those of arcs from the end in a `back_line`.
+//! goes over the lines, which `print` adds to a `block`.
 #![tactic(auto)]
 
-mod back_line;
+mod block;
 pub mod canon;
 mod print;
 mod writer;

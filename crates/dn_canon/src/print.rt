@@ -1,119 +1,157 @@
-// The lines of a canonical text, each built on the stack.
-ghost use Rattle.std.specs.Prelude.{◌≡◌, ◌+◌, ◌<◌, ◌≤◌, ◌^◌, ℤ, pos, List, [], ◌∷◌, ◌++◌, length, map};
+// The lines of a canonical text, each added to a block. Those that may come later than first put the block into a sink
+// where they have no room.
+ghost use Rattle.std.specs.Prelude.{◌≡◌, ◌+◌, ◌<◌, ◌≤◌, ◌^◌, ℤ, pos, List, [], ◌∷◌, ◌++◌, length, map, take};
 ghost use Rattle.std.specs.Fmt.{signed_decimal};
 ghost use Rattle.dn_line.specs.declared.word.Keyword.TheVariants.{A, S, T};
 ghost use Rattle.dn_row.specs.Rows.{spaced, line_text};
+ghost use Rattle.dn_canon.specs.Blocks.{HasRoom, Passes};
 ghost use Rattle.dn_canon.specs.Prints.{word_row, graph_row, companion_row, supply_row, terminal_row, source_row, query_row, point_row};
-ghost use Rattle.dn_sink.specs.Puts.{Puts};
 
-use crate::back_line::BackLine;
+use crate::block::Block;
 use dn_bundle::Parts;
 use dn_line::Kind;
-use dn_row::LineBuffer;
+use dn_sink::{Sink, SinkFault};
 
 // The problem line of a graph.
-pub(crate) fn graph_line(kind: Kind, nodes: &i64, arcs: u64) -> LineBuffer
-    requires { arcs < 2 ^ 63 }
-    ensures { result ≡ line_text (graph_row kind nodes.now arcs) }
+pub(crate) fn graph_line(block: &mut Block, kind: Kind, nodes: &i64, arcs: u64)
+    requires few { arcs < 2 ^ 63 }
+    requires room { HasRoom block.old }
+    ensures { block.new ≡ block.old ++ line_text (graph_row kind nodes.now arcs) }
 {
     let count = arcs as i64;
-    let mut line = LineBuffer::new(b"p");
-    line.word(kind.name().as_bytes());
-    line.number(nodes);
-    line.number(&count);
-    line.newline();
-    line
+    block.push(b"p ");
+    block.push(kind.name().as_bytes());
+    block.number(nodes);
+    block.number(&count);
+    block.byte(b'\n');
 }
 
 // The problem line of a companion.
-pub(crate) fn companion_line(kind: Kind, items: u64) -> LineBuffer
-    requires { items < 2 ^ 63 }
-    ensures { result ≡ line_text (companion_row kind items) }
+pub(crate) fn companion_line(block: &mut Block, kind: Kind, items: u64)
+    requires few { items < 2 ^ 63 }
+    requires room { HasRoom block.old }
+    ensures { block.new ≡ block.old ++ line_text (companion_row kind items) }
 {
     let count = items as i64;
-    let mut line = LineBuffer::new(b"p aux sp");
-    line.word(kind.name().as_bytes());
-    line.number(&count);
-    line.newline();
-    line
+    block.push(b"p aux sp ");
+    block.push(kind.name().as_bytes());
+    block.number(&count);
+    block.byte(b'\n');
 }
 
 // The flow of a node.
-pub(crate) fn supply_line(id: &i64, flow: &i64) -> LineBuffer
-    ensures { result ≡ line_text (supply_row (id.now, flow.now)) }
+pub(crate) fn supply_line<K: Sink>(
+    block: &mut Block,
+    sink: &mut K,
+    id: &i64,
+    flow: &i64,
+) -> Result<(), SinkFault>
+    ensures { Passes K.taken K.has_failed sink.old sink.new block.new
+        (block.old ++ line_text (supply_row (id.now, flow.now))) result }
 {
-    row_line(b"n", &[*id, *flow])
+    row_line(block, sink, b'n', &[*id, *flow])
 }
 
 // The source of a `max` problem.
-pub(crate) fn max_source_line(id: &i64) -> LineBuffer
-    ensures { result ≡ line_text (terminal_row id.now S) }
+pub(crate) fn max_source_line<K: Sink>(
+    block: &mut Block,
+    sink: &mut K,
+    id: &i64,
+) -> Result<(), SinkFault>
+    ensures { Passes K.taken K.has_failed sink.old sink.new block.new
+        (block.old ++ line_text (terminal_row id.now S)) result }
 {
-    let mut line = LineBuffer::new(b"n");
-    line.number(id);
-    line.word(b"s");
-    line.newline();
-    line
+    block.make_room(sink)?;
+    block.byte(b'n');
+    block.number(id);
+    block.push(b" s\n");
+    Ok(())
 }
 
 // The sink of a `max` problem.
-pub(crate) fn max_sink_line(id: &i64) -> LineBuffer
-    ensures { result ≡ line_text (terminal_row id.now T) }
+pub(crate) fn max_sink_line<K: Sink>(
+    block: &mut Block,
+    sink: &mut K,
+    id: &i64,
+) -> Result<(), SinkFault>
+    ensures { Passes K.taken K.has_failed sink.old sink.new block.new
+        (block.old ++ line_text (terminal_row id.now T)) result }
 {
-    let mut line = LineBuffer::new(b"n");
-    line.number(id);
-    line.word(b"t");
-    line.newline();
-    line
+    block.make_room(sink)?;
+    block.byte(b'n');
+    block.number(id);
+    block.push(b" t\n");
+    Ok(())
 }
 
-// An arc at its ordered pair, in place of what the line was.
-pub(crate) fn arc_line<P: Parts>(line: &mut BackLine, pair: &(i64, i64), arc: &P)
+// An arc at its ordered pair.
+pub(crate) fn arc_line<P: Parts, K: Sink>(
+    block: &mut Block,
+    sink: &mut K,
+    pair: &(i64, i64),
+    arc: &P,
+) -> Result<(), SinkFault>
     requires { length (P.numbers arc.now) ≤ 3 }
-    ensures { line.new ≡ line_text (word_row A (pair.now.0 ∷ pair.now.1 ∷ P.numbers arc.now)) }
+    ensures { Passes K.taken K.has_failed sink.old sink.new block.new
+        (block.old ++ line_text (word_row A (pair.now.0 ∷ pair.now.1 ∷ P.numbers arc.now))) result }
 {
-    line.begin();
-    let mut left = arc.len();
-    while 0 < left {
-        left -= 1;
-        line.number(&arc.part(left));
+    let mut numbers = [pair.0, pair.1, 0, 0, 0];
+    for i in 0..arc.len() {
+        numbers[i + 2] = arc.part(i);
     }
-    line.number(&pair.1);
-    line.number(&pair.0);
-    line.byte(b'a');
+    row_line(block, sink, b'a', &numbers[..arc.len() + 2])
 }
 
 // A source of queries.
-pub(crate) fn source_line(id: &i64) -> LineBuffer
-    ensures { result ≡ line_text (source_row id.now) }
+pub(crate) fn source_line<K: Sink>(
+    block: &mut Block,
+    sink: &mut K,
+    id: &i64,
+) -> Result<(), SinkFault>
+    ensures { Passes K.taken K.has_failed sink.old sink.new block.new
+        (block.old ++ line_text (source_row id.now)) result }
 {
-    row_line(b"s", &[*id])
+    row_line(block, sink, b's', &[*id])
 }
 
 // A query from point to point.
-pub(crate) fn query_line(query: &(i64, i64)) -> LineBuffer
-    ensures { result ≡ line_text (query_row query.now) }
+pub(crate) fn query_line<K: Sink>(
+    block: &mut Block,
+    sink: &mut K,
+    query: &(i64, i64),
+) -> Result<(), SinkFault>
+    ensures { Passes K.taken K.has_failed sink.old sink.new block.new
+        (block.old ++ line_text (query_row query.now)) result }
 {
-    row_line(b"q", &[query.0, query.1])
+    row_line(block, sink, b'q', &[query.0, query.1])
 }
 
 // The coordinates of a node.
-pub(crate) fn point_line(id: &i64, place: &(i64, i64)) -> LineBuffer
-    ensures { result ≡ line_text (point_row (id.now, place.now)) }
+pub(crate) fn point_line<K: Sink>(
+    block: &mut Block,
+    sink: &mut K,
+    id: &i64,
+    place: &(i64, i64),
+) -> Result<(), SinkFault>
+    ensures { Passes K.taken K.has_failed sink.old sink.new block.new
+        (block.old ++ line_text (point_row (id.now, place.now))) result }
 {
-    row_line(b"v", &[*id, place.0, place.1])
+    row_line(block, sink, b'v', &[*id, place.0, place.1])
 }
 
-// A word and numbers.
-fn row_line(word: &[u8], numbers: &[i64]) -> LineBuffer
-    requires word { length word.now ≤ 3 }
-    requires numbers { length numbers.now ≤ 3 }
-    ensures { result ≡ line_text (word.now ∷ map signed_decimal numbers.now) }
+// A letter and numbers.
+#[inline(always)]
+fn row_line<K: Sink>(
+    block: &mut Block,
+    sink: &mut K,
+    letter: u8,
+    numbers: &[i64],
+) -> Result<(), SinkFault>
+    requires { length numbers.now ≤ 5 }
+    ensures { Passes K.taken K.has_failed sink.old sink.new block.new
+        (block.old ++ line_text ((letter ∷ []) ∷ map signed_decimal numbers.now)) result }
 {
-    let mut line = LineBuffer::new(word);
-    for number in numbers {
-        line.number(number);
-    }
-    line.newline();
-    line
+    block.make_room(sink)?;
+    block.line(letter, numbers);
+    Ok(())
 }

@@ -1,11 +1,12 @@
-// Writes the canonical text of what tables, lists and maps tell, a line a put, without memory of its own.
-ghost use Rattle.std.specs.Prelude.{◌≡◌, ◌<◌, ◌≤◌, ◌^◌, [], length, map, IsTrue, OnOk, MatchOption};
+// Writes the canonical text of what tables, lists and maps tell, a block of lines a put, without memory of its own.
+ghost use Rattle.std.specs.Prelude.{◌≡◌, ◌<◌, ◌≤◌, ◌^◌, [], ◌++◌, length, map, IsTrue, OnOk, MatchOption};
 ghost use Rattle.std.specs.List.Sorted.{IsStrictlySortedBy};
 ghost use Rattle.std.specs.Map.{keys_of};
 ghost use Rattle.dn_instance.specs.Instances.{Graph, Sources, Queries, Coordinates};
 ghost use Rattle.pair_index.specs.Pairs.{pair_cmp};
 ghost use Rattle.dn_table.specs.Tables.{TableTells};
 ghost use Rattle.dn_instance.specs.Validity.{IsValidGraph};
+ghost use Rattle.dn_canon.specs.Blocks.{Passes};
 ghost use Rattle.dn_canon.specs.Lines.{AreShort};
 ghost use Rattle.dn_canon.specs.Prints.{arc_row, supply_row, graph_rows, print};
 ghost use Rattle.dn_row.specs.Rows.{text_of};
@@ -14,7 +15,7 @@ ghost use Rattle.dn_canon.specs.CanonInstances.{IsCanonGraphOf};
 ghost use Rattle.dn_canon.specs.ToldArcs.{placed, told_arcs, told_graph};
 ghost use Rattle.dn_canon.specs.Writes.{node_rows, Writes};
 
-use crate::back_line::BackLine;
+use crate::block::Block;
 use crate::print::{
     arc_line, companion_line, graph_line, max_sink_line, max_source_line, point_line, query_line,
     source_line, supply_line,
@@ -68,11 +69,12 @@ pub(crate) fn write_sources<K: Sink>(sink: &mut K, ids: &[i64]) -> Result<(), Si
     ensures text { Puts K.taken K.has_failed sink.old sink.new (print (Sources ids.now)) result }
     ensures flushed { OnOk result (IsTrue (K.is_flushed sink.new)) }
 {
-    companion_line(Kind::Ss, ids.len() as u64).put(sink)?;
+    let mut block = Block::new();
+    companion_line(&mut block, Kind::Ss, ids.len() as u64);
     for id in ids {
-        source_line(id).put(sink)?;
+        source_line(&mut block, sink, id)?;
     }
-    finish(sink)
+    finish(&block, sink)
 }
 
 // Writes queries from point to point.
@@ -81,11 +83,12 @@ pub(crate) fn write_queries<K: Sink>(sink: &mut K, queries: &[(i64, i64)]) -> Re
     ensures text { Puts K.taken K.has_failed sink.old sink.new (print (Queries queries.now)) result }
     ensures flushed { OnOk result (IsTrue (K.is_flushed sink.new)) }
 {
-    companion_line(Kind::P2p, queries.len() as u64).put(sink)?;
+    let mut block = Block::new();
+    companion_line(&mut block, Kind::P2p, queries.len() as u64);
     for query in queries {
-        query_line(query).put(sink)?;
+        query_line(&mut block, sink, query)?;
     }
-    finish(sink)
+    finish(&block, sink)
 }
 
 // Writes coordinates by rising ID.
@@ -97,11 +100,12 @@ pub(crate) fn write_points<K: Sink>(
     ensures text { Puts K.taken K.has_failed sink.old sink.new (print (Coordinates points.now.entries)) result }
     ensures flushed { OnOk result (IsTrue (K.is_flushed sink.new)) }
 {
-    companion_line(Kind::Co, points.len() as u64).put(sink)?;
+    let mut block = Block::new();
+    companion_line(&mut block, Kind::Co, points.len() as u64);
     for (id, place) in points {
-        point_line(id, place).put(sink)?;
+        point_line(&mut block, sink, id, place)?;
     }
-    finish(sink)
+    finish(&block, sink)
 }
 
 // How many arcs a table tells, where 63 bits hold the number.
@@ -119,21 +123,20 @@ fn arc_count<B: Bundle>(table: &Table<B>, form: Form) -> Option<u64>
 
 // The arcs of one pair.
 fn put_bundle<B: Bundle, K: Sink>(
+    block: &mut Block,
     sink: &mut K,
     pair: &(i64, i64),
     bundle: &B,
     form: Form,
 ) -> Result<(), SinkFault>
     requires { AreShort B.kind }
-    ensures { Puts K.taken K.has_failed sink.old sink.new
-        (text_of (map (arc_row B.kind) (placed pair.now (B.told form bundle.now)))) result }
+    ensures { Passes K.taken K.has_failed sink.old sink.new block.new
+        (block.old ++ text_of (map (arc_row B.kind) (placed pair.now (B.told form bundle.now)))) result }
 {
-    let mut line = BackLine::new();
     let mut next = bundle.canon_arc(0, form);
     for _ in 0..bundle.canon_len(form) {
         if let Some(arc) = next {
-            arc_line(&mut line, pair, &arc);
-            line.put(sink)?;
+            arc_line(block, sink, pair, &arc)?;
             next = bundle.canon_after(&arc, form);
         }
     }
@@ -142,49 +145,61 @@ fn put_bundle<B: Bundle, K: Sink>(
 
 // The arcs of a graph.
 fn put_table<B: Bundle, K: Sink>(
+    block: &mut Block,
     sink: &mut K,
     table: &Table<B>,
     form: Form,
 ) -> Result<(), SinkFault>
     requires { AreShort B.kind }
-    ensures { Puts K.taken K.has_failed sink.old sink.new
-        (text_of (map (arc_row B.kind) (told_arcs (B.told form) table.now))) result }
+    ensures { Passes K.taken K.has_failed sink.old sink.new block.new
+        (block.old ++ text_of (map (arc_row B.kind) (told_arcs (B.told form) table.now))) result }
 {
     for (pair, bundle) in table.pairs() {
-        put_bundle(sink, &pair, bundle, form)?;
+        put_bundle(block, sink, &pair, bundle, form)?;
     }
     Ok(())
 }
 
 // The flows of a `min` problem.
-fn put_supplies<K: Sink>(sink: &mut K, supplies: &BTreeMap<i64, i64>) -> Result<(), SinkFault>
-    ensures { Puts K.taken K.has_failed sink.old sink.new (text_of (map supply_row supplies.now.entries)) result }
+fn put_supplies<K: Sink>(
+    block: &mut Block,
+    sink: &mut K,
+    supplies: &BTreeMap<i64, i64>,
+) -> Result<(), SinkFault>
+    ensures { Passes K.taken K.has_failed sink.old sink.new block.new
+        (block.old ++ text_of (map supply_row supplies.now.entries)) result }
 {
     for (id, flow) in supplies {
-        supply_line(id, flow).put(sink)?;
+        supply_line(block, sink, id, flow)?;
     }
     Ok(())
 }
 
 // The lines between the problem line and the arcs.
-fn put_nodes<K: Sink>(sink: &mut K, nodes: &NodeLines<'_>) -> Result<(), SinkFault>
-    ensures { Puts K.taken K.has_failed sink.old sink.new (text_of (node_rows nodes.now)) result }
+fn put_nodes<K: Sink>(
+    block: &mut Block,
+    sink: &mut K,
+    nodes: &NodeLines<'_>,
+) -> Result<(), SinkFault>
+    ensures { Passes K.taken K.has_failed sink.old sink.new block.new
+        (block.old ++ text_of (node_rows nodes.now)) result }
 {
     match nodes {
-        NodeLines::Supplies(supplies) => put_supplies(sink, supplies),
+        NodeLines::Supplies(supplies) => put_supplies(block, sink, supplies),
         NodeLines::Terminals(source, target) => {
-            max_source_line(source).put(sink)?;
-            max_sink_line(target).put(sink)
+            max_source_line(block, sink, source)?;
+            max_sink_line(block, sink, target)
         }
         NodeLines::NoNodes => Ok(()),
     }
 }
 
-// Ends a text.
-fn finish<K: Sink>(sink: &mut K) -> Result<(), SinkFault>
-    ensures text { Puts K.taken K.has_failed sink.old sink.new [] result }
+// Ends a text with what the block holds of it.
+fn finish<K: Sink>(block: &Block, sink: &mut K) -> Result<(), SinkFault>
+    ensures text { Puts K.taken K.has_failed sink.old sink.new block.now result }
     ensures flushed { OnOk result (IsTrue (K.is_flushed sink.new)) }
 {
+    block.put(sink)?;
     sink.flush()
 }
 
@@ -206,8 +221,9 @@ fn put_graph<B: Bundle, K: Sink>(
         Puts K.taken K.has_failed sink.old sink.new text result }
     ensures flushed { OnOk result (IsTrue (K.is_flushed sink.new)) }
 {
-    graph_line(kind, nodes, count).put(sink)?;
-    put_nodes(sink, lines)?;
-    put_table(sink, table, form)?;
-    finish(sink)
+    let mut block = Block::new();
+    graph_line(&mut block, kind, nodes, count);
+    put_nodes(&mut block, sink, lines)?;
+    put_table(&mut block, sink, table, form)?;
+    finish(&block, sink)
 }

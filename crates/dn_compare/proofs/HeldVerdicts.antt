@@ -15,7 +15,7 @@ use Rattle.dn_bundle.specs.Lengths.{length_told}
 use Rattle.dn_bundle.specs.Capacities.{cap_told}
 use Rattle.dn_bundle.specs.CurveTold.{told}
 use Rattle.dn_bundle.specs.declared.arc.Form.TheVariants.{One}
-use Rattle.dn_bundle.specs.declared.curve.Curve.{Curve}
+use Rattle.dn_bundle.specs.Curves.{CurveNumbers}
 use Rattle.dn_bundle.specs.declared.least.Least.{Least}
 use Rattle.dn_bundle.specs.declared.total.Total.{Total}
 use Rattle.dn_bundle.specs.declared.difference.How.{How}
@@ -93,7 +93,7 @@ same_flow (Some y) (Some z) f g e = ap Some e
 pub supplies_same : (m n : ℤ) (s t : List (ℤ × ℤ)) → IdsRise s → IdsRise t → AllByRecursion (IsSupply m) s → AllByRecursion (IsSupply n) t → ((q : ℤ) → AlikeAt int_cmp by_flow s t q) → s ≡ t
 supplies_same m n s t rs rt some_s some_t e = same_entries s t rs rt (λ q. same_flow (value_of s q) (value_of t q) (λ z. some_flow m q z s some_s) (λ z. some_flow n q z t some_t) (e q))
 
-pub supply_on : (ls rs : List (ℤ × ℤ)) (lt rt : List ((ℤ × ℤ) × Curve)) (id l r : ℤ) → PartAt int_cmp by_flow ls rs id (l, r) → IsVerdictOn (OfMin ls lt) (OfMin rs rt) (Verdicts.Supply id l r)
+pub supply_on : (ls rs : List (ℤ × ℤ)) (lt rt : List ((ℤ × ℤ) × CurveNumbers)) (id l r : ℤ) → PartAt int_cmp by_flow ls rs id (l, r) → IsVerdictOn (OfMin ls lt) (OfMin rs rt) (Verdicts.Supply id l r)
 supply_on ls rs lt rt id l r d (MinCostFlow s G) (MinCostFlow t H) v w n a b =
     supply_at s t G H id l r n (subst (λ m. PartAt int_cmp by_flow m t id (l, r)) a.0 (subst (λ m. PartAt int_cmp by_flow ls m id (l, r)) b.0 d))
 supply_on ls rs lt rt id l r d (MinCostFlow s G) _ v w n a b = absurd b
@@ -102,8 +102,8 @@ supply_on ls rs lt rt id l r d _ J v w n a b = absurd a
 -- ---- what a call of the walk over two tables says
 
 module _ (v : Verdict) where
-  pub min_on : (ls rs : List (ℤ × ℤ)) (lt rt : List ((ℤ × ℤ) × Curve)) → ((q : ℤ) → AlikeAt int_cmp by_flow ls rs q)
-      → ((xs ys : List ((ℤ × ℤ) × CostArc)) → TableTells costs (λ (b : Curve). told One b.units b.cost b.steps) lt xs → TableTells costs (λ (b : Curve). told One b.units b.cost b.steps) rt ys → IsPairVerdict costs xs ys v) → IsVerdictOn (OfMin ls lt) (OfMin rs rt) v
+  pub min_on : (ls rs : List (ℤ × ℤ)) (lt rt : List ((ℤ × ℤ) × CurveNumbers)) → ((q : ℤ) → AlikeAt int_cmp by_flow ls rs q)
+      → ((xs ys : List ((ℤ × ℤ) × CostArc)) → TableTells costs (λ (b : CurveNumbers). told One b.units b.cost b.steps) lt xs → TableTells costs (λ (b : CurveNumbers). told One b.units b.cost b.steps) rt ys → IsPairVerdict costs xs ys v) → IsVerdictOn (OfMin ls lt) (OfMin rs rt) v
   min_on ls rs lt rt same h (MinCostFlow s G) (MinCostFlow t H) f g n a b =
       let flows : (q : ℤ) → AlikeAt int_cmp by_flow s t q = subst (λ m. (q : ℤ) → AlikeAt int_cmp by_flow m t q) a.0 (subst (λ m. (q : ℤ) → AlikeAt int_cmp by_flow ls m q) b.0 same) in
       min_pairs s t G H v (supplies_same G.nodes H.nodes s t f.1.map g.1.map f.1.each g.1.each flows) n (h G.arcs H.arcs a.1.tells_them b.1.tells_them)

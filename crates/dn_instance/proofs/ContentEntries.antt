@@ -5,7 +5,7 @@ use Rattle.dn_bundle.specs.CurveTold.{told}
 use Rattle.dn_bundle.specs.Lengths.{length_told}
 use Rattle.dn_bundle.specs.Capacities.{cap_told}
 use Rattle.dn_bundle.specs.declared.arc.Form.TheVariants.{One}
-use Rattle.dn_bundle.specs.declared.curve.Curve.{Curve}
+use Rattle.dn_bundle.specs.Curves.{CurveNumbers}
 use Rattle.dn_bundle.specs.declared.least.Least.{Least}
 use Rattle.dn_bundle.specs.declared.total.Total.{Total}
 use Rattle.dn_table.specs.GraphEntries.{graph_entries}
@@ -20,7 +20,7 @@ use Rattle.dn_instance.proofs.EntryLaws.{placed_arcs}
 abbrev Counts : {B Arc : Type 0} → ArcKind Arc → (B → List Arc) → Bundles B → ℕ → Type 0
 Counts {B} {Arc} kind tells table n = (arcs : List ((ℤ × ℤ) × Arc)) → kind.entries [] ≡ 0 → TableTells kind tells table arcs → AreArcs kind arcs → graph_entries kind arcs < 2 ^ 64 → n ≡ graph_entries kind arcs
 
-pub min_entries : (flows : List (ℤ × ℤ)) (table : Bundles Curve) (n : ℕ) → Counts costs (λ (b : Curve). told One b.units b.cost b.steps) table n → (I : Instance) → IsValid I → Shows (OfMin flows table) I → entries_of I < 2 ^ 64 → n ≡ entries_of I
+pub min_entries : (flows : List (ℤ × ℤ)) (table : Bundles CurveNumbers) (n : ℕ) → Counts costs (λ (b : CurveNumbers). told One b.units b.cost b.steps) table n → (I : Instance) → IsValid I → Shows (OfMin flows table) I → entries_of I < 2 ^ 64 → n ≡ entries_of I
 min_entries flows table n c (MinCostFlow supplies G) v s few = c G.arcs refl s.1.tells_them (placed_arcs costs G.nodes G.arcs v.0.placed) few
 min_entries flows table n c (MaxFlow _ _ _) v s few = absurd s
 min_entries flows table n c (ShortestPaths _) v s few = absurd s

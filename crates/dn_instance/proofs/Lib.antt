@@ -22,3 +22,6 @@ pub mod SizeLaws
 pub mod SourceLaws
 pub mod EntryLaws
 pub mod ContentEntries
+pub mod ArcRunLaws
+pub mod ArcLinesLaws
+pub mod DraftRunLaws

@@ -1,5 +1,5 @@
 -- The lines that LFs have ended, as pieces come.
-use Rattle.std.proofs.Common.{◌≡◌, ℕ, suc, ◌+◌, ◌-◌, ◌≤◌, List, [], ◌∷◌, ◌++◌, length, take, drop, take-append-drop, Bool, true, false, cond, not, ◌&&◌, refl, sym, ap, ◌∙◌, append-nil, append_assoc, arith}
+use Rattle.std.proofs.Common.{◌≡◌, ℕ, suc, ◌+◌, ◌-◌, ◌≤◌, List, [], ◌∷◌, ◌++◌, length, length-append, take, drop, take-append-drop, Bool, true, false, cond, not, ◌&&◌, refl, sym, ap, ◌∙◌, append-nil, append_assoc, arith}
 use Rattle.std.proofs.lemmas.Bool.{ltb-true}
 use Rattle.std.proofs.Math.Seq.{take-add}
 use Rattle.std.proofs.lemmas.List.{take_all, length-drop}
@@ -8,9 +8,10 @@ use Rattle.dn_line.specs.Pieces.{parts, has_bytes, if_any, lines, is_line_feed}
 use Rattle.dn_line.specs.LineStates.{LineSoFar, has_end, used_of, last_of, line_of, is_inner}
 use Rattle.dn_line.proofs.PartsLaws.{Parts, parts_run, parts_end, parts_push}
 use Rattle.dn_line.proofs.LineReaderLaws.{ended_push}
-use Rattle.dn_line.proofs.BeginLaws.{line_ends, line_before}
+use Rattle.dn_line.proofs.BeginLaws.{line_ends, line_before, line_used}
 use Rattle.dn_instance.specs.Readers.{ended}
 use Rattle.dn_instance.specs.ReaderStates.{open_of}
+use Rattle.dn_instance.specs.TextsSoFar.{AreInner, closed_lines}
 
 -- the line that a piece's LF ends comes after those before it
 closes : (p : Parts) (ls : List (List ℕ)) (o : List ℕ) → p ≡ (ls ++ o ∷ [], []) → p.0 ≡ ls ++ (last_of p.0 p.1).bytes ∷ []
@@ -95,6 +96,21 @@ line_more t piece line rest o e h =
     ends_at t piece (ap has_end (sym e) ∙ line_ends line rest h)
     ∙ ap (λ (x : List ℕ). let p : Parts = (ended t ++ x ∷ [], []) in p) (ap (λ x. x ++ before_first is_line_feed piece) o ∙ ap (before_first is_line_feed) (sym e) ∙ line_before line rest h)
 
+-- lines with their LFs after such a text
+pub closed_more : (t : List ℕ) (more : List (List ℕ)) → open_of t ≡ [] → AreInner more → parts is_line_feed (t ++ closed_lines more) ≡ (ended t ++ more, [])
+closed_more t [] o h =
+    ap (parts is_line_feed) (append-nil t)
+    ∙ ap (λ (x : List ℕ). let p : Parts = (ended t, x) in p) o
+    ∙ ap (λ (x : List (List ℕ)). let p : Parts = (x, []) in p) (sym (append-nil (ended t)))
+closed_more t (l ∷ more) o h =
+    let piece : List ℕ = l ++ 10 ∷ [] in
+    let all : take (used_of piece) piece ≡ piece = take_all (used_of piece) piece (let u = line_used l [] h.0 in let n = length-append l (10 ∷ []) in omega arith) in
+    let one : parts is_line_feed (t ++ piece) ≡ (ended t ++ l ∷ [], []) = ap (λ x. parts is_line_feed (t ++ x)) (sym all) ∙ line_more t piece l [] o refl h.0 in
+    ap (parts is_line_feed) (sym (append_assoc t piece (closed_lines more)))
+    ∙ closed_more (t ++ piece) more (ap (λ (p : Parts). p.1) one) h.1
+    ∙ ap (λ (x : List (List ℕ)). let p : Parts = (x ++ more, []) in p) (ap (λ (p : Parts). p.0) one)
+    ∙ ap (λ (x : List (List ℕ)). let p : Parts = (x, []) in p) (append_assoc (ended t) (l ∷ []) more)
+
 pub lines_more : (t : List ℕ) → More (ended t) (lines t)
 lines_more t = record { rest = if_any (parts is_line_feed t).1; whole = refl }
 
@@ -118,7 +134,7 @@ used_bound piece = by_end (has_end piece) refl
 abbrev pub rest_of : List ℕ → ℕ → List ℕ
 rest_of p i = take (length p - i) (drop i p)
 
-rest_is : (p : List ℕ) (i : ℕ) → rest_of p i ≡ drop i p
+pub rest_is : (p : List ℕ) (i : ℕ) → rest_of p i ≡ drop i p
 rest_is p i = take_all (length p - i) (drop i p) (omega (arith, length-drop i p))
 
 pub rest_len : (p : List ℕ) (i : ℕ) → length (rest_of p i) ≡ length p - i

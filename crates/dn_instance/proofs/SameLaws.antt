@@ -13,7 +13,7 @@ use Rattle.dn_bundle.specs.Lengths.{length_told}
 use Rattle.dn_bundle.specs.Capacities.{cap_told}
 use Rattle.dn_bundle.specs.CurveTold.{told}
 use Rattle.dn_bundle.specs.declared.arc.Form.TheVariants.{One}
-use Rattle.dn_bundle.specs.declared.curve.Curve.{Curve}
+use Rattle.dn_bundle.specs.Curves.{CurveNumbers}
 use Rattle.dn_bundle.specs.declared.least.Least.{Least}
 use Rattle.dn_bundle.specs.declared.total.Total.{Total}
 use Rattle.dn_instance.specs.Helds.{Contents, Holding, IsHeld, Shows, OfMin, OfMax, OfSp, OfSs, OfP2p, OfCo}
@@ -102,7 +102,7 @@ trans_of (Coordinates xs) (Coordinates ys) _ e f = absurd f
 trans_of _ _ _ e f = absurd e
 
 shows_one : (c : Contents) (I J : Instance) → nodes_of I ≡ nodes_of J → Shows c I → Shows c J → IsSame I J
-shows_one (OfMin flows table) (MinCostFlow s G) (MinCostFlow t H) n x y = (sym x.0 ∙ y.0, table_one costs curve_meaning (λ (b : Curve). told One b.units b.cost b.steps) table G H n x.1 y.1)
+shows_one (OfMin flows table) (MinCostFlow s G) (MinCostFlow t H) n x y = (sym x.0 ∙ y.0, table_one costs curve_meaning (λ (b : CurveNumbers). told One b.units b.cost b.steps) table G H n x.1 y.1)
 shows_one (OfMax source sink table) (MaxFlow a b G) (MaxFlow c d H) n x y = (sym x.0 ∙ y.0, sym x.1 ∙ y.1, table_one capacities total_meaning (λ (b : Total). cap_told b.total) table G H n x.2 y.2)
 shows_one (OfSp table) (ShortestPaths G) (ShortestPaths H) n x y = table_one lengths length_meaning (λ (b : Least). length_told b.length) table G H n x y
 shows_one (OfSs ids) (Sources xs) (Sources ys) n x y = sym x ∙ y

@@ -19,7 +19,7 @@ use Rattle.dn_line.specs.declared.line.Line.TheVariants as Item
 use Rattle.dn_bundle.specs.Kinds.{costs}
 use Rattle.dn_bundle.specs.CurveTold.{told}
 use Rattle.dn_bundle.specs.declared.arc.Form.TheVariants.{One}
-use Rattle.dn_bundle.specs.declared.curve.Curve.{Curve}
+use Rattle.dn_bundle.specs.Curves.{CurveNumbers}
 use Rattle.dn_instance.specs.Drafts.{TableHolds}
 use Rattle.dn_instance.specs.declared.draft.Draft.TheVariants as Drafts
 use Rattle.dn_instance.specs.declared.refusal.ItemFault.{ItemFault}
@@ -118,7 +118,7 @@ supply_keep s s' z z' t (Err e) same before holds = (
 
 -- an arc leaves the flows
 pub cost_stand : (s : BTreeMap ℤ ℤ) (z : BTreeSet ℤ) (t t' : _) (src dst low top cost : ℤ) (r : Result (Unit {0}) ItemFault)
-    → ((before : List Line) → TableHolds costs cost_arc_in (λ (x : Curve). told One x.units x.cost x.steps) t before → OnOk r (TableHolds costs cost_arc_in (λ (x : Curve). told One x.units x.cost x.steps) t' (before ++ Item.MinArc src dst low top cost ∷ [])))
+    → ((before : List Line) → TableHolds costs cost_arc_in (λ (x : CurveNumbers). told One x.units x.cost x.steps) t before → OnOk r (TableHolds costs cost_arc_in (λ (x : CurveNumbers). told One x.units x.cost x.steps) t' (before ++ Item.MinArc src dst low top cost ∷ [])))
     → Standing (Drafts.Min s z t) (Item.MinArc src dst low top cost) (Drafts.Min s z t') r
 cost_stand s z t t' src dst low top cost r ok before holds =
     let i = Item.MinArc src dst low top cost in

@@ -5,7 +5,7 @@ use Rattle.dn_line.specs.declared.kind.Kind.TheVariants as Kinds
 use Rattle.dn_bundle.specs.Kinds.{lengths, capacities, costs}
 use Rattle.dn_bundle.specs.Tellings.{least_arcs, total_arcs, curve_arcs}
 use Rattle.dn_bundle.specs.declared.arc.Form.TheVariants.{One}
-use Rattle.dn_bundle.specs.declared.curve.Curve.{Curve}
+use Rattle.dn_bundle.specs.Curves.{CurveNumbers}
 use Rattle.dn_bundle.specs.declared.least.Least.{Least}
 use Rattle.dn_bundle.specs.declared.total.Total.{Total}
 use Rattle.dn_instance.specs.Instances.{Instance, MinCostFlow, MaxFlow, ShortestPaths, Sources, Queries, Coordinates, nodes_of, size_of}
@@ -22,7 +22,7 @@ Bundles B = List ((ℤ × ℤ) × B)
 
 -- what is held by kind: flows, terminals and the bundles of a graph; the items of a companion
 pub data Contents : Type 0 where
-  OfMin : List (ℤ × ℤ) → Bundles Curve → Contents
+  OfMin : List (ℤ × ℤ) → Bundles CurveNumbers → Contents
   OfMax : ℤ → ℤ → Bundles Total → Contents
   OfSp : Bundles Least → Contents
   OfSs : List ℤ → Contents

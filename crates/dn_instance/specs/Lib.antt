@@ -9,6 +9,7 @@ pub mod Texts
 pub mod ItemFaults
 pub mod Drafts
 pub mod Progresses
+pub mod ArcRuns
 pub mod TextsSoFar
 pub mod Helds
 pub mod Ends

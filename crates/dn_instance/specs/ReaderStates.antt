@@ -1,8 +1,8 @@
 -- What the state of a reader stands for, between the bytes that it is fed.
-use Rattle.std.specs.Prelude.{◌≡◌, ℕ, ◌≤◌, List, [], ◌∷◌, ◌++◌, length, cond, Option, Some, None, MatchOption, Result, Ok, Err}
+use Rattle.std.specs.Prelude.{◌≡◌, ℕ, ◌≤◌, List, [], ◌∷◌, ◌++◌, length, take, cond, Option, Some, None, MatchOption, Result, Ok, Err}
 use Rattle.std.specs.Io.KnownBytes.{Consumes, IsAtEnd}
 use Rattle.dn_line.specs.Pieces.{parts, lines, is_line_feed}
-use Rattle.dn_line.specs.LineStates.{LineSoFar, LineReaderAt}
+use Rattle.dn_line.specs.LineStates.{LineSoFar, LineReaderAt, used_of}
 use Rattle.dn_line.specs.declared.line_reader.LineReader.{LineReader}
 use Rattle.dn_instance.specs.declared.reader.Reader.{Reader}
 use Rattle.dn_instance.specs.declared.held.Held.{Held}
@@ -56,6 +56,11 @@ Advances r t u (Ok n) = IsReading r u
 Advances r t u (Err e) =
     (r.refusal ≡ Some e) × IsRefused (length (ended t)) (ended u) e × StopsIn r (ended u) e
     × (length (ended t) ≤ lines_taken r)
+
+-- after t the front of a piece that is taken is read, or the refusal of a line that ends there is kept
+abbrev pub Steps : Reader → List ℕ → List ℕ → Result ℕ Refusal → Type 0
+Steps r t piece (Ok n) = IsReading r (t ++ take n piece)
+Steps r t piece (Err e) = Advances r t (t ++ take (used_of piece) piece) (Err e)
 
 -- what is answered at the end of the bytes that the reader stands for; memory is wanted only where no line was refused
 pub record Finishes (r : Reader) (result : Result Held Refusal) : Type 0 where

@@ -1,6 +1,6 @@
 -- What the complete lines so far make, and what the next one reads as after them.
-use Rattle.std.specs.Prelude.{◌≡◌, ℕ, ◌-◌, ◌^◌, ◌<◌, List, [], ◌∷◌, ◌++◌, length, cond, true, false, Option, Some, None, Result, Ok, IsSome}
-use Rattle.std.specs.List.{list_all}
+use Rattle.std.specs.Prelude.{◌≡◌, ℕ, ◌-◌, ◌^◌, ◌<◌, List, [], ◌∷◌, ◌++◌, length, cond, true, false, flat_map, Option, Some, None, Result, Ok, IsSome}
+use Rattle.std.specs.List.{list_all, AllByRecursion}
 use Rattle.dn_line.specs.declared.line.Line.{Line}
 use Rattle.dn_line.specs.declared.line.Line.TheVariants.{Skip}
 use Rattle.dn_line.specs.declared.word.Word.{Word}
@@ -48,19 +48,17 @@ pub record TextAt (t : TextSoFar) (ls : List (List ℕ)) : Type 0 where
   pub number_is : t.closed ≡ length ls
   pub progress_is : IsProgress t.progress (items_of ls)
 
--- the bytes begin with a line and the LF that ends it, and after these items the line reads as this one
-pub record ComesNext (before : List Line) (bytes : List ℕ) (item : Line) : Type 0 where
-  pub line : List ℕ
-  pub rest : List ℕ
-  pub whole : line ++ 10 ∷ rest ≡ bytes
-  pub inner : list_all is_inner line ≡ true
-  pub counts : is_skip (said_words line) ≡ false
-  pub reads : next_read before (said_words line) ≡ Ok item
+-- lines, each with the LF that ends it
+abbrev pub closed_lines : List (List ℕ) → List ℕ
+closed_lines ls = flat_map (λ l. l ++ 10 ∷ []) ls
 
--- the bytes begin with a line and the LF that ends it, and with this line more these have been read
+-- no LF within
+abbrev pub AreInner : List (List ℕ) → Type 0
+AreInner ls = AllByRecursion (λ l. list_all is_inner l ≡ true) ls
+
+-- the bytes are lines, each with the LF that ends it, and with these more than `ls` have been read
 pub record ReadsFront (t : TextSoFar) (ls : List (List ℕ)) (bytes : List ℕ) : Type 0 where
-  pub line : List ℕ
-  pub rest : List ℕ
-  pub whole : line ++ 10 ∷ rest ≡ bytes
-  pub inner : list_all is_inner line ≡ true
-  pub read : TextAt t (ls ++ line ∷ [])
+  pub more : List (List ℕ)
+  pub whole : closed_lines more ≡ bytes
+  pub inner : AreInner more
+  pub read : TextAt t (ls ++ more)

@@ -1,19 +1,24 @@
 // Arcs as they come, merged into the bundles of their pairs.
 ghost use Rattle.std.specs.Prelude.{◌≡◌, ◌↔◌, ℤ, List, [], ◌∷◌, ◌++◌, Bool, IsTrue, OnOk, OnErr, ◌&&◌};
 ghost use Rattle.dn_bundle.specs.declared.arc.Form.{Form};
-ghost use Rattle.std.specs.Prelude.{Some, pos, ◌≤ℤ◌};
+ghost use Rattle.std.specs.Prelude.{Some, ◌≤◌, length, take};
+ghost use Rattle.std.specs.List.{AllByRecursion};
+ghost use Rattle.dn_line.specs.ArcLines.{arc_of};
 ghost use Rattle.dn_line.specs.Faults.{first_fault};
+ghost use Rattle.dn_line.specs.declared.kind.Kind.{Kind};
+ghost use Rattle.dn_line.specs.declared.line.Line.{Line};
 ghost use Rattle.dn_bundle.specs.Kinds.{lengths, capacities, costs};
 ghost use Rattle.dn_bundle.specs.Tellings.{least_arcs, total_arcs, curve_arcs};
 ghost use Rattle.dn_instance.specs.Items.{Problem, problem_of, length_arc_in, cap_arc_in, cost_arc_in};
 ghost use Rattle.dn_instance.specs.TextFaults.{item_tests};
-ghost use Rattle.dn_instance.specs.Drafts.{TableHolds};
+ghost use Rattle.dn_instance.specs.ArcRuns.{Joins, arc_items};
+ghost use Rattle.dn_instance.specs.Drafts.{HasSigns, TableHolds};
 ghost use Rattle.dn_instance.specs.ItemFaults.{AnswersFault, in_graph, arc_fault};
 ghost use Rattle.dn_table.specs.Tables.{TableTells, AreArcs, Stays};
 
 use crate::refusal::ItemFault;
 use dn_bundle::{Bundle, BundleFault, CapArc, CostArc, Curve, Form, Least, LengthArc, Total};
-use dn_line::{Code, Kind, Line};
+use dn_line::{ArcLine, Code, Kind, Line, PlainArc};
 use dn_table::TableSoFar;
 use std::alloc::Global;
 
@@ -25,7 +30,8 @@ pub(crate) fn in_graph(nodes: &i64, id: &i64) -> bool
 }
 
 // Takes an arc between the nodes of a pair. On a fault nothing has changed.
-pub(crate) fn take_arc<B: Bundle>(
+#[inline(always)]
+fn take_arc<B: Bundle>(
     table: &mut TableSoFar<B>,
     alloc: Global,
     nodes: &i64,
@@ -53,67 +59,115 @@ pub(crate) fn take_arc<B: Bundle>(
     }
 }
 
-// Takes the arc of an `sp` line.
-pub(crate) fn take_length_arc(
-    table: &mut TableSoFar<Least>,
-    alloc: Global,
-    nodes: &i64,
-    pair: (i64, i64),
-    arc: LengthArc,
-) -> Result<(), ItemFault>
-    ensures answer { (before : List Line) (p : Problem) → problem_of before ≡ Some p → p.kind ≡ Kind.Sp
-        → p.nodes ≡ nodes.now → TableHolds lengths length_arc_in least_arcs table.old before
-        → AnswersFault result (first_fault (item_tests before (Some (Line.SpArc pair.0 pair.1 arc.length)))) }
-    ensures stands { (before : List Line)
-        → TableHolds lengths length_arc_in least_arcs table.old before
-        → OnOk result (TableHolds lengths length_arc_in least_arcs table.new
-        (before ++ Line.SpArc pair.0 pair.1 arc.length ∷ [])) }
-    ensures err { OnErr result (table.new ≡ table.old) }
-{
-    take_arc(table, alloc, nodes, pair, arc)
+// A bundle of the arcs of one kind of text, which are taken from the numbers of their lines.
+pub(crate) trait LineBundle: Bundle {
+    // The kind of text.
+    ghost text: { Kind };
+
+    // Whether a table holds what the arcs among these items mean.
+    ghost holds: { List ((ℤ × ℤ) × Self) → List Line → Type 0 };
+
+    // Takes the arc of a line. On a fault nothing has changed.
+    fn take(
+        table: &mut TableSoFar<Self>,
+        alloc: Global,
+        nodes: &i64,
+        arc: &PlainArc,
+    ) -> Result<(), ItemFault>
+        ensures answer { HasSigns (arc_of text arc.now) → (before : List Line) (p : Problem) → problem_of before ≡ Some p
+            → p.kind ≡ text → p.nodes ≡ nodes.now → holds table.old before
+            → AnswersFault result (first_fault (item_tests before (Some (arc_of text arc.now)))) }
+        ensures stands { HasSigns (arc_of text arc.now) → (before : List Line) → holds table.old before
+            → OnOk result (holds table.new (before ++ arc_of text arc.now ∷ [])) }
+        ensures err { OnErr result (table.new ≡ table.old) };
 }
 
-// Takes the arc of a `max` line.
-pub(crate) fn take_cap_arc(
-    table: &mut TableSoFar<Total>,
-    alloc: Global,
-    nodes: &i64,
-    pair: (i64, i64),
-    arc: CapArc,
-) -> Result<(), ItemFault>
-    ensures answer { pos 0 ≤ℤ arc.cap → (before : List Line) (p : Problem) → problem_of before ≡ Some p
-        → p.kind ≡ Kind.Max → p.nodes ≡ nodes.now
-        → TableHolds capacities cap_arc_in total_arcs table.old before
-        → AnswersFault result (first_fault (item_tests before (Some (Line.MaxArc pair.0 pair.1 arc.cap)))) }
-    ensures stands { pos 0 ≤ℤ arc.cap → (before : List Line)
-        → TableHolds capacities cap_arc_in total_arcs table.old before
-        → OnOk result (TableHolds capacities cap_arc_in total_arcs table.new
-        (before ++ Line.MaxArc pair.0 pair.1 arc.cap ∷ [])) }
-    ensures err { OnErr result (table.new ≡ table.old) }
-{
-    take_arc(table, alloc, nodes, pair, arc)
+impl LineBundle for Least {
+    ghost text = { Kind.Sp };
+
+    ghost holds = { TableHolds lengths length_arc_in least_arcs };
+
+    #[inline(always)]
+    fn take(
+        table: &mut TableSoFar<Least>,
+        alloc: Global,
+        nodes: &i64,
+        arc: &PlainArc,
+    ) -> Result<(), ItemFault> {
+        take_arc(
+            table,
+            alloc,
+            nodes,
+            (arc.src, arc.dst),
+            LengthArc { length: arc.cost },
+        )
+    }
 }
 
-// Takes the arc of a `min` line.
-pub(crate) fn take_cost_arc(
-    table: &mut TableSoFar<Curve>,
+impl LineBundle for Total {
+    ghost text = { Kind.Max };
+
+    ghost holds = { TableHolds capacities cap_arc_in total_arcs };
+
+    #[inline(always)]
+    fn take(
+        table: &mut TableSoFar<Total>,
+        alloc: Global,
+        nodes: &i64,
+        arc: &PlainArc,
+    ) -> Result<(), ItemFault> {
+        take_arc(
+            table,
+            alloc,
+            nodes,
+            (arc.src, arc.dst),
+            CapArc { cap: arc.cap },
+        )
+    }
+}
+
+impl LineBundle for Curve {
+    ghost text = { Kind.Min };
+
+    ghost holds = { TableHolds costs cost_arc_in (curve_arcs Form.One) };
+
+    #[inline(always)]
+    fn take(
+        table: &mut TableSoFar<Curve>,
+        alloc: Global,
+        nodes: &i64,
+        arc: &PlainArc,
+    ) -> Result<(), ItemFault> {
+        let PlainArc {
+            src,
+            dst,
+            low,
+            cap,
+            cost,
+        } = *arc;
+        take_arc(table, alloc, nodes, (src, dst), CostArc { low, cap, cost })
+    }
+}
+
+// Takes arcs one after the other, up to the first that has a fault or that memory lacks for, and answers how many were
+// taken.
+pub(crate) fn take_arcs<B: LineBundle>(
+    table: &mut TableSoFar<B>,
     alloc: Global,
     nodes: &i64,
-    pair: (i64, i64),
-    arc: CostArc,
-) -> Result<(), ItemFault>
-    ensures answer { pos 0 ≤ℤ arc.low → (before : List Line) (p : Problem) → problem_of before ≡ Some p
-        → p.kind ≡ Kind.Min → p.nodes ≡ nodes.now
-        → TableHolds costs cost_arc_in (curve_arcs Form.One) table.old before
-        → AnswersFault result
-        (first_fault (item_tests before (Some (Line.MinArc pair.0 pair.1 arc.low arc.cap arc.cost)))) }
-    ensures stands { pos 0 ≤ℤ arc.low → (before : List Line)
-        → TableHolds costs cost_arc_in (curve_arcs Form.One) table.old before
-        → OnOk result (TableHolds costs cost_arc_in (curve_arcs Form.One) table.new
-        (before ++ Line.MinArc pair.0 pair.1 arc.low arc.cap arc.cost ∷ [])) }
-    ensures err { OnErr result (table.new ≡ table.old) }
+    arcs: &[ArcLine],
+) -> usize
+    ensures taken { AllByRecursion HasSigns (arc_items B.text arcs.now) → (before : List Line) (p : Problem)
+        → problem_of before ≡ Some p → p.kind ≡ B.text → p.nodes ≡ nodes.now → B.holds table.old before
+        → Joins B.holds before table.new (arc_items B.text (take result arcs.now)) }
+    ensures within { result ≤ length arcs.now }
 {
-    take_arc(table, alloc, nodes, pair, arc)
+    for i in 0..arcs.len() {
+        if B::take(table, alloc, nodes, &arcs[i].arc).is_err() {
+            return i;
+        }
+    }
+    arcs.len()
 }
 
 // Whether it has both nodes of a pair.

@@ -1,22 +1,24 @@
 // An instance in the making: what the items after the problem line have made so far.
-ghost use Rattle.std.specs.Prelude.{◌≡◌, ◌<◌, ◌^◌, ℤ, List, ◌∷◌, ◌++◌, [], OnOk, OnErr, Some};
+ghost use Rattle.std.specs.Prelude.{◌≡◌, ◌<◌, ◌≤◌, ◌^◌, ℤ, List, ◌∷◌, ◌++◌, [], OnOk, OnErr, Some, length, take};
+ghost use Rattle.std.specs.List.{AllByRecursion};
 ghost use Rattle.dn_line.specs.declared.line.Line.{Line};
 ghost use Rattle.dn_line.specs.Faults.{first_fault};
 ghost use Rattle.dn_line.specs.Spelling.{kind_before};
 ghost use Rattle.dn_instance.specs.Items.{Problem, problem_of};
 ghost use Rattle.dn_instance.specs.TextFaults.{item_tests};
 ghost use Rattle.dn_instance.specs.ItemFaults.{AnswersFault};
+ghost use Rattle.dn_instance.specs.ArcRuns.{Joins, arc_items};
 ghost use Rattle.dn_instance.specs.Drafts.{draft_kind, DraftHolds, HasSigns};
 ghost use Rattle.dn_instance.specs.Ends.{Makes};
 ghost use Rattle.dn_instance.specs.EntryCount.{entries_as};
 
 use crate::ahead::look_ahead;
-use crate::arcs::{take_cap_arc, take_cost_arc, take_length_arc};
+use crate::arcs::{LineBundle, take_arcs};
 use crate::content::Content;
 use crate::items::{take_point, take_query, take_source, take_supply, take_terminal};
 use crate::refusal::ItemFault;
-use dn_bundle::{CapArc, CostArc, Curve, Least, LengthArc, Total};
-use dn_line::{Code, Kind, Letter, Line};
+use dn_bundle::{Curve, Least, Total};
+use dn_line::{ArcLine, Code, Kind, Letter, Line, PlainArc};
 use dn_table::TableSoFar;
 use std::alloc::Global;
 use std::collections::{BTreeMap, BTreeSet};
@@ -81,13 +83,13 @@ impl Draft {
     }
 
     // Looks up together where the pairs of the arcs that come next stand. It decides only the speed.
-    pub(crate) fn look_ahead(&mut self, bytes: &[u8])
+    pub(crate) fn look_ahead(&mut self, arcs: &[ArcLine])
         ensures { self.new ≡ self.old }
     {
         match self {
-            Draft::Min { table, .. } => look_ahead(table, Kind::Min, bytes),
-            Draft::Max { table, .. } => look_ahead(table, Kind::Max, bytes),
-            Draft::Sp(table) => look_ahead(table, Kind::Sp, bytes),
+            Draft::Min { table, .. } => look_ahead(table, arcs),
+            Draft::Max { table, .. } => look_ahead(table, arcs),
+            Draft::Sp(table) => look_ahead(table, arcs),
             Draft::Ss(_) | Draft::P2p(_) | Draft::Co(_) => {}
         }
     }
@@ -114,20 +116,49 @@ impl Draft {
                     cap,
                     cost,
                 },
-            ) => take_cost_arc(table, alloc, nodes, (src, dst), CostArc { low, cap, cost }),
+            ) => Curve::take(
+                table,
+                alloc,
+                nodes,
+                &PlainArc {
+                    src,
+                    dst,
+                    low,
+                    cap,
+                    cost,
+                },
+            ),
             (Draft::Min { supplies, idle, .. }, Line::Supply { id, flow }) => {
                 take_supply(supplies, idle, nodes, &id, &flow)
             }
-            (Draft::Max { table, .. }, Line::MaxArc { src, dst, cap }) => {
-                take_cap_arc(table, alloc, nodes, (src, dst), CapArc { cap })
-            }
+            (Draft::Max { table, .. }, Line::MaxArc { src, dst, cap }) => Total::take(
+                table,
+                alloc,
+                nodes,
+                &PlainArc {
+                    src,
+                    dst,
+                    low: 0,
+                    cap,
+                    cost: 0,
+                },
+            ),
             (Draft::Max { source, sink, .. }, Line::Terminal { id, letter }) => match letter {
                 Letter::S => take_terminal(source, sink, nodes, &id),
                 Letter::T => take_terminal(sink, source, nodes, &id),
             },
-            (Draft::Sp(table), Line::SpArc { src, dst, length }) => {
-                take_length_arc(table, alloc, nodes, (src, dst), LengthArc { length })
-            }
+            (Draft::Sp(table), Line::SpArc { src, dst, length }) => Least::take(
+                table,
+                alloc,
+                nodes,
+                &PlainArc {
+                    src,
+                    dst,
+                    low: 0,
+                    cap: 0,
+                    cost: length,
+                },
+            ),
             (Draft::Ss(ids), Line::Source { id }) => take_source(ids, &id),
             (Draft::P2p(pairs), Line::Query { first, second }) => take_query(
                 pairs,
@@ -136,6 +167,24 @@ impl Draft {
             (Draft::Co(points), Line::Point { id, x, y }) => take_point(points, &id, (x, y)),
             // Never: a line of another kind of text is refused before it is read as an item.
             _ => Err(ItemFault::Text(Code::WrongLine)),
+        }
+    }
+
+    // Takes arcs one after the other, up to the first that has a fault or that memory lacks for, and answers how many
+    // were taken.
+    pub(crate) fn take_arcs(&mut self, alloc: Global, nodes: &i64, arcs: &[ArcLine]) -> usize
+        ensures taken { AllByRecursion HasSigns (arc_items (draft_kind self.old) arcs.now)
+            → (before : List Line) (p : Problem) → problem_of before ≡ Some p → p.kind ≡ draft_kind self.old
+            → p.nodes ≡ nodes.now → DraftHolds self.old before
+            → Joins DraftHolds before self.new (arc_items (draft_kind self.old) (take result arcs.now)) }
+        ensures within { result ≤ length arcs.now }
+        ensures kept { draft_kind self.new ≡ draft_kind self.old }
+    {
+        match self {
+            Draft::Min { table, .. } => take_arcs(table, alloc, nodes, arcs),
+            Draft::Max { table, .. } => take_arcs(table, alloc, nodes, arcs),
+            Draft::Sp(table) => take_arcs(table, alloc, nodes, arcs),
+            Draft::Ss(_) | Draft::P2p(_) | Draft::Co(_) => 0,
         }
     }
 

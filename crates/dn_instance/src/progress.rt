@@ -1,5 +1,5 @@
 // What has been read from the problem line on.
-ghost use Rattle.std.specs.Prelude.{◌≡◌, ◌<◌, ◌^◌, List, ◌∷◌, ◌++◌, [], OnOk, OnErr, Some, None, Option, IsSome};
+ghost use Rattle.std.specs.Prelude.{◌≡◌, ◌<◌, ◌≤◌, ◌≤ℤ◌, ◌^◌, pos, false, length, take, List, ◌∷◌, ◌++◌, [], OnOk, OnErr, Some, None, Option, IsSome};
 ghost use Rattle.dn_line.specs.declared.line.Line.{Line};
 ghost use Rattle.dn_line.specs.declared.word.Word.{Word};
 ghost use Rattle.dn_line.specs.Words.{first};
@@ -8,7 +8,9 @@ ghost use Rattle.dn_line.specs.Faults.{first_fault, head_tests};
 ghost use Rattle.dn_line.specs.Reading.{head_of};
 ghost use Rattle.dn_line.specs.Spelling.{kind_before};
 ghost use Rattle.std.specs.Option.{option_map};
-ghost use Rattle.dn_instance.specs.TextFaults.{item_tests, order_tests};
+ghost use Rattle.std.specs.List.{AllByRecursion};
+ghost use Rattle.dn_instance.specs.ArcRuns.{AreInTime, Joins, arc_items};
+ghost use Rattle.dn_instance.specs.TextFaults.{is_companion, item_tests, order_tests};
 ghost use Rattle.dn_instance.specs.ItemFaults.{AnswersFault};
 ghost use Rattle.dn_instance.specs.Drafts.{draft_kind, HasSigns};
 ghost use Rattle.dn_instance.specs.Ends.{EndsWith};
@@ -20,7 +22,7 @@ ghost use Rattle.dn_instance.specs.Items.{Problem, problem_in, is_counted};
 use crate::draft::Draft;
 use crate::held::Held;
 use crate::refusal::ItemFault;
-use dn_line::{Code, Head, Kind, Line};
+use dn_line::{ArcLine, Code, Head, Kind, Line};
 use std::alloc::Global;
 
 // The problem line and the items after it: NODES, the number of counted lines that the problem line declares (ARCS or
@@ -82,7 +84,6 @@ impl Progress {
         }
     }
 
-    #[inline(always)]
     // Takes the next item.
     pub(crate) fn take(&mut self, alloc: Global, item: Line) -> Result<(), ItemFault>
         ensures answer { Some (draft_kind self.old.draft) ≡ kind_before item → HasSigns item → (before : List Line)
@@ -104,11 +105,22 @@ impl Progress {
         }
     }
 
-    // Looks up together where the pairs of the arcs that come next stand. It decides only the speed.
-    pub(crate) fn look_ahead(&mut self, bytes: &[u8])
-        ensures { self.new ≡ self.old }
+    // Takes arcs one after the other, up to the first that is one too many, has a fault or that memory lacks for, and
+    // answers how many were taken. Where their pairs stand is looked up together first, which decides only the speed.
+    pub(crate) fn take_arcs(&mut self, alloc: Global, arcs: &[ArcLine]) -> usize
+        ensures taken { AllByRecursion HasSigns (arc_items (draft_kind self.old.draft) arcs.now)
+            → is_companion (draft_kind self.old.draft) ≡ false
+            → (before : List Line) → ProgressAt self.old before
+            → let items = arc_items (draft_kind self.old.draft) (take result arcs.now) in
+            Joins ProgressAt before self.new items × AreInTime before items }
+        ensures within { result ≤ length arcs.now }
     {
-        self.draft.look_ahead(bytes);
+        self.draft.look_ahead(arcs);
+        let most = self.count.saturating_sub(self.counted);
+        let few = first_arcs(arcs, &most);
+        let taken = self.draft.take_arcs(alloc, &self.nodes, few);
+        self.counted = self.counted.saturating_add(taken as i64);
+        taken
     }
 
     // How many entries the items so far come to.
@@ -134,6 +146,19 @@ impl Progress {
             }
             Err(code) => Err(code),
         }
+    }
+}
+
+// As many arcs at the front, or all.
+fn first_arcs<'a>(arcs: &'a [ArcLine], most: &i64) -> &'a [ArcLine]
+    ensures front { result.now ≡ take (length result.now) arcs.now }
+    ensures most { 0 < length result.now → pos (length result.now) ≤ℤ most.now }
+    ensures within { length result.now ≤ length arcs.now }
+{
+    match usize::try_from(*most) {
+        Ok(most) if most < arcs.len() => &arcs[..most],
+        Ok(_) => arcs,
+        Err(_) => &[],
     }
 }
 

@@ -1,18 +1,18 @@
 // A text that is read in any pieces.
-ghost use Rattle.std.specs.Prelude.{◌≡◌, ◌≤◌, ℕ, List, [], ◌++◌, length, take, Some, None, Err, ◌<◌, IfOk, IfSome, MatchOption, MatchResult};
+ghost use Rattle.std.specs.Prelude.{◌≡◌, ◌≤◌, ℕ, List, [], ◌++◌, length, take, drop, Some, None, Err, ◌<◌, IfOk, IfSome, MatchOption, MatchResult};
 ghost use Rattle.dn_line.specs.LineStates.{LineSoFar, LineReaderAt, used_of};
 ghost use Rattle.dn_line.specs.Pieces.{lines};
 ghost use Rattle.dn_instance.specs.EntryCount.{entries_so_far};
 ghost use Rattle.dn_instance.specs.Texts.{items_of};
 ghost use Rattle.dn_instance.specs.Readers.{EntriesBefore, Fed, Outcome, WantsMemory, ended, lines_taken, refusal_of, answer_of};
-ghost use Rattle.dn_instance.specs.ReaderStates.{ReaderAt, IsReading, Takes, TakesAll, Advances, Finishes};
+ghost use Rattle.dn_instance.specs.ReaderStates.{ReaderAt, IsReading, Takes, TakesAll, Advances, Finishes, Steps};
 ghost use Rattle.dn_instance.specs.Refusals.{refused_at};
 ghost use Rattle.dn_instance.specs.TextsSoFar.{TextAt};
 
 use crate::held::Held;
 use crate::refusal::{ItemFault, Place, Refusal};
 use crate::text_so_far::TextSoFar;
-use dn_line::LineReader;
+use dn_line::{ArcBlock, LineReader};
 use std::alloc::Global;
 
 /// Reads a text that comes in any pieces. It stands for the bytes that were fed.
@@ -57,19 +57,17 @@ impl Reader {
         }
     }
 
-    // Takes an arc whose plain line stands at the front of a piece, where no line goes on.
-    fn take_arc(&mut self, piece: &[u8]) -> Option<usize>
-        ensures taken { (t : List ℕ) → IsReading self.old t
-            → MatchOption result (IsReading self.new t)
-            (λ n. IsReading self.new (t ++ take (used_of piece.now) piece.now)) }
-        ensures used { IfSome result (λ n. n ≡ used_of piece.now) }
+    // Takes the arcs whose plain lines stand at the front of a piece, where no line goes on, and answers how long they
+    // are.
+    fn take_arcs(&mut self, block: &mut ArcBlock, piece: &[u8]) -> usize
+        ensures taken { (t : List ℕ) → IsReading self.old t → IsReading self.new (t ++ take result piece.now) }
+        ensures within { result ≤ length piece.now }
         ensures refusal { refusal_of self.new ≡ refusal_of self.old }
     {
-        let goes_on = self.line.pending();
-        if goes_on {
-            return None;
+        match piece {
+            [b'a', ..] if !self.line.pending() => self.text.take_arcs(self.alloc, block, piece),
+            _ => 0,
         }
-        self.text.take_arc(self.alloc, piece)
     }
 
     // Takes the front of a piece up to and with its first LF, or all of it, and answers how long that is.
@@ -93,20 +91,18 @@ impl Reader {
         }
     }
 
-    // The same, and an arc's plain line at once.
-    fn advance(&mut self, piece: &[u8]) -> Result<usize, Refusal>
+    // Takes plain lines of arcs at the front of a piece, or its front as `step` does, and answers how long that is.
+    fn advance(&mut self, block: &mut ArcBlock, piece: &[u8]) -> Result<usize, Refusal>
         requires { 0 < length piece.now }
-        ensures used { IfOk result (λ n. n ≡ used_of piece.now) }
+        ensures some { IfOk result (λ n. 0 < n) }
         ensures bound { IfOk result (λ n. n ≤ length piece.now) }
         ensures advances { (t : List ℕ) → IsReading self.old t
-            → Advances self.new t (t ++ take (used_of piece.now) piece.now) result }
+            → Steps self.new t piece.now result }
         ensures refusal { MatchResult result (λ n. refusal_of self.new ≡ refusal_of self.old)
             (λ e. refusal_of self.new ≡ Some e) }
     {
-        match self.take_arc(piece) {
-            Some(used) => Ok(used),
-            None => self.step(piece),
-        }
+        let used = self.take_arcs(block, piece);
+        if 0 < used { Ok(used) } else { self.step(piece) }
     }
 
     // Takes a last line without LF.
@@ -133,9 +129,10 @@ impl Reader {
         if let Some(refusal) = self.refusal {
             return Err(refusal);
         }
+        let mut block = ArcBlock::new();
         let mut at = 0;
         while at < piece.len() {
-            match self.advance(&piece[at..]) {
+            match self.advance(&mut block, &piece[at..]) {
                 Ok(used) => at += used,
                 Err(refusal) => return Err(refusal),
             }

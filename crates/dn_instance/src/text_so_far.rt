@@ -1,5 +1,5 @@
 // What the complete lines of a text make, one after the other.
-ghost use Rattle.std.specs.Prelude.{◌≡◌, ◌≢◌, ℕ, ◌+◌, length, List, ◌∷◌, ◌++◌, [], OnOk, OnErr, IfSome, MatchOption, Ok, Some, None, Option, cond, true, false};
+ghost use Rattle.std.specs.Prelude.{◌≡◌, ◌≢◌, ◌≤◌, ℕ, ◌+◌, length, take, List, ◌∷◌, ◌++◌, [], OnOk, OnErr, IfSome, MatchOption, Ok, Some, None, Option, cond, true, false};
 ghost use Rattle.dn_line.specs.declared.line.Line.{Line};
 ghost use Rattle.dn_line.specs.declared.word.Word.{Word};
 ghost use Rattle.dn_line.specs.Words.{is_skip, said_words};
@@ -7,17 +7,17 @@ ghost use Rattle.dn_line.specs.Faults.{first_fault};
 ghost use Rattle.dn_line.specs.Reading.{head_read};
 ghost use Rattle.dn_line.specs.LineStates.{LineSoFar, LineReaderAt, used_of};
 ghost use Rattle.dn_instance.specs.Items.{kind_known};
-ghost use Rattle.dn_instance.specs.TextFaults.{order_tests, item_tests, line_fault};
+ghost use Rattle.dn_instance.specs.TextFaults.{is_companion, order_tests, item_tests, line_fault};
 ghost use Rattle.dn_instance.specs.Ends.{EndsWith};
 ghost use Rattle.dn_instance.specs.EntryCount.{entries_so_far};
 ghost use Rattle.dn_instance.specs.ItemFaults.{AnswersFault};
 ghost use Rattle.dn_instance.specs.Texts.{items_of, with_next};
-ghost use Rattle.dn_instance.specs.TextsSoFar.{IsProgress, MayFollow, next_read, fault_next, ComesNext, TextAt, ReadsFront};
+ghost use Rattle.dn_instance.specs.TextsSoFar.{IsProgress, MayFollow, next_read, fault_next, TextAt, ReadsFront};
 
 use crate::held::Held;
 use crate::progress::Progress;
 use crate::refusal::ItemFault;
-use dn_line::{ArcLine, Code, Head, Kind, Line, LineReader, arc_line};
+use dn_line::{ArcBlock, BLOCK, Code, Head, Kind, Line, LineReader, left_behind};
 use std::alloc::Global;
 use std::mem::replace;
 
@@ -131,49 +131,26 @@ impl TextSoFar {
         }
     }
 
-    // Looks up together where the pairs of the arcs that come next stand. It decides only the speed.
-    fn look_ahead(&mut self, bytes: &[u8])
-        ensures { self.new ≡ self.old }
+    // Takes the arcs whose plain lines stand at the front of these bytes, as many as one block has, up to the first
+    // that has a fault or that memory lacks for. Answers how many bytes their lines have, the LFs among them. The block
+    // is there to be read into.
+    pub(crate) fn take_arcs(&mut self, alloc: Global, block: &mut ArcBlock, bytes: &[u8]) -> usize
+        ensures taken { (ls : List (List ℕ)) → TextAt self.old ls → ReadsFront self.new ls (take result bytes.now) }
+        ensures within { result ≤ length bytes.now }
     {
-        if let Some(progress) = &mut self.progress {
-            progress.look_ahead(bytes);
-        }
-    }
-
-    // The arc that comes next, where its plain line stands at the front of these bytes.
-    fn next_arc(&self, bytes: &[u8]) -> Option<ArcLine>
-        ensures next { (items : List Line) → IsProgress self.now.progress items
-            → IfSome result (λ a. ComesNext items bytes.now a.arc) }
-        ensures used { IfSome result (λ a. a.used ≡ used_of bytes.now) }
-    {
-        let kind = self.kind()?;
-        match self.check_order(Head::Arc) {
-            Some(_) => None,
-            None => arc_line(kind, bytes),
-        }
-    }
-
-    // Takes the arc whose plain line stands at the front of these bytes, and answers how long the line is with its LF.
-    // Where there is no such line, or it has a fault, or memory is wanted, nothing has changed.
-    pub(crate) fn take_arc(&mut self, alloc: Global, bytes: &[u8]) -> Option<usize>
-        ensures taken { (ls : List (List ℕ)) → TextAt self.old ls
-            → MatchOption result (TextAt self.new ls) (λ n. ReadsFront self.new ls bytes.now) }
-        ensures used { IfSome result (λ n. n ≡ used_of bytes.now) }
-    {
-        if LAST <= self.closed {
-            return None;
-        }
-        self.look_ahead(bytes);
-        let Some(next) = self.next_arc(bytes) else {
-            return None;
+        let Some(progress) = &mut self.progress else {
+            return 0;
         };
-        match put(&mut self.progress, alloc, next.arc) {
-            Ok(()) => {
-                self.closed += 1;
-                Some(next.used)
-            }
-            Err(_) => None,
+        let kind = progress.kind();
+        if is_companion(&kind) || LAST - BLOCK as u64 <= self.closed {
+            return 0;
         }
+        block.read(kind, bytes);
+        let arcs = block.arcs();
+        let taken = progress.take_arcs(alloc, arcs);
+        self.closed += taken as u64;
+        let left = left_behind(&arcs[..taken], bytes.len());
+        bytes.len().saturating_sub(left)
     }
 
     // How many entries the lines so far come to.
@@ -197,6 +174,13 @@ impl TextSoFar {
     }
 }
 
+// Whether lines of this kind of text are no arcs.
+fn is_companion(kind: &Kind) -> bool
+    ensures { result ≡ is_companion kind.now }
+{
+    matches!(kind, Kind::Ss | Kind::P2p | Kind::Co)
+}
+
 // Whether the line spells no item.
 fn is_skip(item: &Line) -> bool
     ensures skip { result ≡ true → item.now ≡ Line.Skip }
@@ -205,7 +189,6 @@ fn is_skip(item: &Line) -> bool
     matches!(item, Line::Skip)
 }
 
-#[inline(always)]
 // Takes the next item. The first is the problem line.
 fn put(progress: &mut Option<Progress>, alloc: Global, item: Line) -> Result<(), ItemFault>
     ensures answer { (before : List Line) → IsProgress progress.old before → MayFollow before item

@@ -1,12 +1,12 @@
 -- Lines whose words are a letter and numbers, with one blank between them.
-use Rattle.std.proofs.Common.{◌≡◌, ℕ, ◌+◌, ◌-◌, ◌<◌, ℤ, pos, ◌≤ℤ◌, List, [], ◌∷◌, ◌++◌, Bool, true, false, cond, refl, ap, sym, ◌∙◌, subst, arith, length, length-append, drop, get_or, append_assoc, map, filter, Some, Ok}
+use Rattle.std.proofs.Common.{◌≡◌, ℕ, ◌<◌, ℤ, pos, ◌≤ℤ◌, List, [], ◌∷◌, ◌++◌, Bool, true, false, not, ◌&&◌, cond, append-nil, refl, ap, sym, ◌∙◌, subst, arith, length, drop, get_or, append_assoc, map, filter, Some, Ok}
 use Rattle.std.specs.List.{list_all}
 use Rattle.dn_num.specs.Number.{number_read}
 use Rattle.dn_line.specs.Pieces.{parts, onto, has_bytes}
 use Rattle.dn_line.specs.Words.{is_blank, said, said_words, words}
 use Rattle.dn_line.specs.Reading.{head_read, fields_read, checked_item}
-use Rattle.dn_line.specs.LineStates.{is_clear, used_of}
-use Rattle.dn_line.specs.ArcLines.{BeginsWithArc, IsNumberBefore, AreNumbers, IsArcOf, number_word, has_arcs}
+use Rattle.dn_line.specs.LineStates.{is_clear, is_inner}
+use Rattle.dn_line.specs.ArcLines.{BeginsWithArc, IsGap, IsLineEnd, IsNumberBefore, IsNumberFront, AreNumbers, IsArcOf, number_word, has_arcs}
 use Rattle.dn_line.specs.declared.kind.Kind.{Kind}
 use Rattle.dn_line.specs.declared.kind.Kind.TheVariants.{Min, Max, Sp, Ss, P2p, Co}
 use Rattle.dn_line.specs.declared.line.Head.TheVariants as Heads
@@ -15,8 +15,7 @@ use Rattle.dn_line.specs.declared.line.Line.TheVariants.{SpArc, MaxArc, MinArc}
 use Rattle.dn_line.specs.declared.word.Keyword.TheVariants.{A}
 use Rattle.dn_line.specs.declared.word.Word.{Word}
 use Rattle.dn_line.proofs.PartsLaws.{Parts}
-use Rattle.dn_line.proofs.PlainLaws.{clear_first, clear_inner, clear_parts, inner_append, number_clear, number_said}
-use Rattle.dn_line.proofs.BeginLaws.{line_used}
+use Rattle.dn_line.proofs.PlainLaws.{both_true, other_byte, clear_first, clear_inner, clear_parts, inner_append, number_clear, number_said}
 use Rattle.dn_line.proofs.FieldLaws.{length_arc_read, cap_arc_read, cost_arc_read}
 
 onto_by : (b : ℕ) (p q : Parts) → p ≡ q → onto b p.0 p.1 ≡ onto b q.0 q.1
@@ -25,53 +24,100 @@ onto_by b p q e = ap (λ (x : Parts). let y : Parts = onto b x.0 x.1 in y) e
 cond_false : (x : Bool) (p q : Parts) → x ≡ false → cond x p q ≡ q
 cond_false x p q e = ap (λ (b : Bool). let r : Parts = cond b p q in r) e
 
--- a run without blanks and a space are a piece
-run_parts : (w l : List ℕ) → list_all is_clear w ≡ true → parts is_blank (w ++ 32 ∷ l) ≡ (w ∷ (parts is_blank l).0, (parts is_blank l).1)
-run_parts [] l h = refl
-run_parts (b ∷ w) l h =
-    let f = clear_first b w h in
-    cond_false (is_blank b) ([] ∷ (parts is_blank (w ++ 32 ∷ l)).0, (parts is_blank (w ++ 32 ∷ l)).1) (onto b (parts is_blank (w ++ 32 ∷ l)).0 (parts is_blank (w ++ 32 ∷ l)).1) f.0
-    ∙ onto_by b (parts is_blank (w ++ 32 ∷ l)) (w ∷ (parts is_blank l).0, (parts is_blank l).1) (run_parts w l f.1.1)
+cond_true : (x : Bool) (p q : Parts) → x ≡ true → cond x p q ≡ p
+cond_true x p q e = ap (λ (b : Bool). let r : Parts = cond b p q in r) e
+
+-- a run without blanks and a blank are a piece
+run_parts : (w : List ℕ) (b : ℕ) (l : List ℕ) → list_all is_clear w ≡ true → is_blank b ≡ true → parts is_blank (w ++ b ∷ l) ≡ (w ∷ (parts is_blank l).0, (parts is_blank l).1)
+run_parts [] b l h k = cond_true (is_blank b) ([] ∷ (parts is_blank l).0, (parts is_blank l).1) (onto b (parts is_blank l).0 (parts is_blank l).1) k
+run_parts (x ∷ w) b l h k =
+    let f = clear_first x w h in
+    cond_false (is_blank x) ([] ∷ (parts is_blank (w ++ b ∷ l)).0, (parts is_blank (w ++ b ∷ l)).1) (onto x (parts is_blank (w ++ b ∷ l)).0 (parts is_blank (w ++ b ∷ l)).1) f.0
+    ∙ onto_by x (parts is_blank (w ++ b ∷ l)) (w ∷ (parts is_blank l).0, (parts is_blank l).1) (run_parts w b l f.1.1 k)
 
 kept : (w : List ℕ) (ws : List (List ℕ)) → has_bytes w ≡ true → filter has_bytes (w ∷ ws) ≡ w ∷ filter has_bytes ws
 kept [] ws h = cc
 kept (b ∷ w) ws h = refl
 
 -- and the first word
-run_words : (w l : List ℕ) → list_all is_clear w ≡ true → has_bytes w ≡ true → words (w ++ 32 ∷ l) ≡ w ∷ words l
-run_words w l h k = ap (λ (p : Parts). filter has_bytes (p.0 ++ p.1 ∷ [])) (run_parts w l h) ∙ kept w ((parts is_blank l).0 ++ (parts is_blank l).1 ∷ []) k
+run_words : (w : List ℕ) (b : ℕ) (l : List ℕ) → list_all is_clear w ≡ true → has_bytes w ≡ true → is_blank b ≡ true → words (w ++ b ∷ l) ≡ w ∷ words l
+run_words w b l h k e = ap (λ (p : Parts). filter has_bytes (p.0 ++ p.1 ∷ [])) (run_parts w b l h e) ∙ kept w ((parts is_blank l).0 ++ (parts is_blank l).1 ∷ []) k
 
 -- a run without blanks is the only word
 run_alone : (w : List ℕ) → list_all is_clear w ≡ true → has_bytes w ≡ true → words w ≡ w ∷ []
 run_alone w h k = ap (λ (p : Parts). filter has_bytes (p.0 ++ p.1 ∷ [])) (clear_parts [] w h) ∙ kept w [] k
 
+-- blanks begin no word
+blank_words : (b : ℕ) (l : List ℕ) → is_blank b ≡ true → words (b ∷ l) ≡ words l
+blank_words b l e = ap (λ (p : Parts). filter has_bytes (p.0 ++ p.1 ∷ [])) (run_parts [] b l refl e)
+
+all_first : (b : ℕ) (bs : List ℕ) → list_all is_blank (b ∷ bs) ≡ true → (is_blank b ≡ true) × (list_all is_blank bs ≡ true)
+all_first b bs h = by_test (is_blank b) (list_all is_blank bs) h
+  where
+    by_test : (x y : Bool) → (x && y) ≡ true → (x ≡ true) × (y ≡ true)
+    by_test true y h = (refl, h)
+    by_test false y h = cc
+
+blanks_words : (bs l : List ℕ) → list_all is_blank bs ≡ true → words (bs ++ l) ≡ words l
+blanks_words [] l h = refl
+blanks_words (b ∷ bs) l h = let f = all_first b bs h in blank_words b (bs ++ l) f.0 ∙ blanks_words bs l f.1
+
+blank_inner : (b : ℕ) → is_blank b ≡ true → is_inner b ≡ true
+blank_inner b h = ap not (other_byte is_blank b 10 refl h)
+
+blanks_inner : (bs : List ℕ) → list_all is_blank bs ≡ true → list_all is_inner bs ≡ true
+blanks_inner [] h = refl
+blanks_inner (b ∷ bs) h = let f = all_first b bs h in both_true (is_inner b) (list_all is_inner bs) (blank_inner b f.0) (blanks_inner bs f.1)
+
+-- a run without blanks, and blanks or none
+run_last : (w bs : List ℕ) → list_all is_clear w ≡ true → has_bytes w ≡ true → list_all is_blank bs ≡ true → words (w ++ bs) ≡ w ∷ []
+run_last w [] h k e = ap words (append-nil w) ∙ run_alone w h k
+run_last w (b ∷ bs) h k e =
+    let f = all_first b bs e in
+    run_words w b bs h k f.0 ∙ ap (λ l. w ∷ l) (ap words (sym (append-nil bs)) ∙ blanks_words bs [] f.1)
+
 some_bytes : (w : List ℕ) (v : ℤ) → number_read w ≡ Ok v → has_bytes w ≡ true
 some_bytes [] v h = cc
 some_bytes (b ∷ bs) v h = refl
 
--- one number and LF
-pub last_number : (bytes rest : List ℕ) (v : ℤ) → IsNumberBefore bytes 10 v rest → AreNumbers bytes (v ∷ []) rest
-last_number bytes rest v n =
+-- one number, blanks or none, and LF
+pub last_number : (bytes left rest : List ℕ) (v : ℤ) → IsNumberFront bytes v left → IsLineEnd left rest → AreNumbers bytes (v ∷ []) rest
+last_number bytes left rest v n e =
     let clear = number_clear n.word v n.reads in
+    let bs = e.blanks.blanks in
     record {
-      line = n.word;
-      whole = n.whole;
-      inner = clear_inner n.word clear;
-      says = ap (map said) (run_alone n.word clear (some_bytes n.word v n.reads)) ∙ ap (λ (w : Word). w ∷ []) (number_said n.word v n.reads);
+      line = n.word ++ bs;
+      whole = append_assoc n.word bs (10 ∷ rest) ∙ ap (λ l. n.word ++ l) e.blanks.whole ∙ n.whole;
+      inner = inner_append n.word bs (clear_inner n.word clear) (blanks_inner bs e.blanks.all);
+      says = ap (map said) (run_last n.word bs clear (some_bytes n.word v n.reads) e.blanks.all) ∙ ap (λ (w : Word). w ∷ []) (number_said n.word v n.reads);
     }
 
--- a number and a space before others
-pub more_numbers : (bytes left rest : List ℕ) (v : ℤ) (vs : List ℤ) → IsNumberBefore bytes 32 v left → AreNumbers left vs rest → AreNumbers bytes (v ∷ vs) rest
+-- a number and blanks
+pub number_gap : (bytes left rest : List ℕ) (v : ℤ) → IsNumberFront bytes v left → IsGap left rest → IsNumberBefore bytes v rest
+number_gap bytes left rest v n g = record { left = left; front = n; gap = g }
+
+-- and others after them
+pub more_numbers : (bytes left rest : List ℕ) (v : ℤ) (vs : List ℤ) → IsNumberBefore bytes v left → AreNumbers left vs rest → AreNumbers bytes (v ∷ vs) rest
 more_numbers bytes left rest v vs n m =
-    let clear = number_clear n.word v n.reads in
+    let f = n.front in
+    let g = n.gap in
+    let bs = g.then.blanks in
+    let clear = number_clear f.word v f.reads in
+    let tail : List ℕ = bs ++ m.line in
     record {
-      line = n.word ++ 32 ∷ m.line;
-      whole = append_assoc n.word (32 ∷ m.line) (10 ∷ rest) ∙ ap (λ l. n.word ++ 32 ∷ l) m.whole ∙ n.whole;
-      inner = inner_append n.word (32 ∷ m.line) (clear_inner n.word clear) m.inner;
+      line = f.word ++ g.blank ∷ tail;
+      whole =
+          append_assoc f.word (g.blank ∷ tail) (10 ∷ rest)
+          ∙ ap (λ l. f.word ++ g.blank ∷ l) (append_assoc bs m.line (10 ∷ rest) ∙ ap (λ l. bs ++ l) m.whole ∙ g.then.whole)
+          ∙ ap (λ l. f.word ++ l) g.whole
+          ∙ f.whole;
+      inner =
+          inner_append f.word (g.blank ∷ tail) (clear_inner f.word clear)
+          (both_true (is_inner g.blank) (list_all is_inner tail) (blank_inner g.blank g.is) (inner_append bs m.line (blanks_inner bs g.then.all) m.inner));
       says =
-          ap (map said) (run_words n.word m.line clear (some_bytes n.word v n.reads))
-          ∙ ap (λ (w : Word). w ∷ said_words m.line) (number_said n.word v n.reads)
-          ∙ ap (λ (ws : List Word). number_word v ∷ ws) m.says;
+          ap (map said) (run_words f.word g.blank tail clear (some_bytes f.word v f.reads) g.is)
+          ∙ ap (λ (w : Word). w ∷ said_words tail) (number_said f.word v f.reads)
+          ∙ ap (λ (ws : List Word). number_word v ∷ ws) (ap (map said) (blanks_words bs m.line g.then.all) ∙ m.says);
     }
 
 -- the arcs that numbers are
@@ -113,29 +159,18 @@ letter_head Ss ws h = cc
 letter_head P2p ws h = cc
 letter_head Co ws h = cc
 
-letter_words : (l : List ℕ) → said_words (97 ∷ 32 ∷ l) ≡ said (97 ∷ []) ∷ said_words l
-letter_words l = ap (map said) (run_words (97 ∷ []) l refl refl)
+letter_words : (b : ℕ) (bs l : List ℕ) → is_blank b ≡ true → list_all is_blank bs ≡ true → said_words (97 ∷ b ∷ bs ++ l) ≡ said (97 ∷ []) ∷ said_words l
+letter_words b bs l h k = ap (map said) (run_words (97 ∷ []) b (bs ++ l) refl refl h ∙ ap (λ ws. (97 ∷ []) ∷ ws) (blanks_words bs l k))
 
-letter_line : (kind : Kind) (more rest : List ℕ) (arc : Line) (used : ℕ) → IsArcOf kind more arc rest → used ≡ length (97 ∷ 32 ∷ more) - length rest → BeginsWithArc kind (97 ∷ 32 ∷ more) arc used
-letter_line kind more rest arc used a u =
-    let line : List ℕ = 97 ∷ 32 ∷ a.line in
-    let long : length more ≡ length a.line + length (10 ∷ rest) = ap length (sym a.whole) ∙ length-append a.line (10 ∷ rest) in
-    let whole : line ++ 10 ∷ rest ≡ 97 ∷ 32 ∷ more = ap (λ l. 97 ∷ 32 ∷ l) a.whole in
+-- the line of an arc, behind its letter and blanks
+pub letter_line : (kind : Kind) (bytes more rest : List ℕ) (arc : Line) → IsGap bytes more → IsArcOf kind more arc rest → BeginsWithArc kind (97 ∷ bytes) arc rest
+letter_line kind bytes more rest arc g a =
+    let bs = g.then.blanks in
+    let words_are = letter_words g.blank bs a.line g.is g.then.all in
     record {
-      line = line;
-      rest = rest;
-      whole = whole;
-      inner = a.inner;
-      used_is = (let n : used ≡ length line + 1 = u ∙ (omega arith) in n ∙ sym (line_used line rest a.inner) ∙ ap used_of whole);
-      head = ap (head_read (Some kind)) (letter_words a.line) ∙ letter_head kind (said_words a.line) a.has;
-      fields = ap (fields_read (Some kind)) (letter_words a.line) ∙ a.reads;
+      line = 97 ∷ g.blank ∷ bs ++ a.line;
+      whole = ap (λ l. 97 ∷ g.blank ∷ l) (append_assoc bs a.line (10 ∷ rest) ∙ ap (λ l. bs ++ l) a.whole ∙ g.then.whole) ∙ ap (λ l. 97 ∷ l) g.whole;
+      inner = both_true (is_inner g.blank) (list_all is_inner (bs ++ a.line)) (blank_inner g.blank g.is) (inner_append bs a.line (blanks_inner bs g.then.all) a.inner);
+      head = ap (head_read (Some kind)) words_are ∙ letter_head kind (said_words a.line) a.has;
+      fields = ap (fields_read (Some kind)) words_are ∙ a.reads;
     }
-
--- the line of an arc, by the first two of its bytes
-pub arc_begins : (kind : Kind) (bytes rest : List ℕ) (arc : Line) (used : ℕ) → 1 < length bytes → get_or bytes 0 0 ≡ 97 → get_or bytes 1 0 ≡ 32
-    → IsArcOf kind (drop 2 bytes) arc rest → used ≡ length bytes - length rest → BeginsWithArc kind bytes arc used
-arc_begins kind [] rest arc used h e f a u = absurd (omega arith)
-arc_begins kind (b ∷ []) rest arc used h e f a u = absurd (omega arith)
-arc_begins kind (b ∷ c ∷ more) rest arc used h e f a u =
-    let both : 97 ∷ 32 ∷ more ≡ b ∷ c ∷ more = ap (λ x. x ∷ 32 ∷ more) (sym e) ∙ ap (λ x. b ∷ x ∷ more) (sym f) in
-    subst (λ l. BeginsWithArc kind l arc used) both (letter_line kind more rest arc used a (u ∙ ap (λ l. length l - length rest) (sym both)))

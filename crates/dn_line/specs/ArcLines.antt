@@ -2,32 +2,63 @@
 use Rattle.std.specs.Prelude.{◌≡◌, ℕ, ℤ, List, ◌∷◌, ◌++◌, map, Bool, true, false, None, Ok, Some}
 use Rattle.std.specs.List.{list_all}
 use Rattle.dn_num.specs.Number.{number_read}
-use Rattle.dn_line.specs.Words.{said_words}
+use Rattle.dn_line.specs.Words.{is_blank, said_words}
 use Rattle.dn_line.specs.Reading.{head_read, fields_read, checked_item}
-use Rattle.dn_line.specs.LineStates.{is_inner, used_of}
+use Rattle.dn_line.specs.LineStates.{is_inner}
 use Rattle.dn_line.specs.declared.kind.Kind.{Kind}
 use Rattle.dn_line.specs.declared.kind.Kind.TheVariants.{Min, Max, Sp}
 use Rattle.dn_line.specs.declared.line.Head.TheVariants as Heads
+use Rattle.dn_line.specs.declared.arc_lines.PlainArc.{PlainArc}
 use Rattle.dn_line.specs.declared.line.Line.{Line}
+use Rattle.dn_line.specs.declared.line.Line.TheVariants.{Skip, MinArc, MaxArc, SpArc}
 use Rattle.dn_line.specs.declared.word.Keyword.TheVariants.{A}
 use Rattle.dn_line.specs.declared.word.Word.{Word}
 
--- the bytes begin with a line and the LF that ends it, and after a problem line of this kind the line reads as this
+-- the arc of a line with these numbers, in a text of this kind; nothing where lines of the kind are no arcs
+abbrev pub arc_of : Kind → PlainArc → Line
+arc_of Min a = MinArc a.src a.dst a.low a.cap a.cost
+arc_of Max a = MaxArc a.src a.dst a.cap
+arc_of Sp a = SpArc a.src a.dst a.cost
+arc_of _ a = Skip
+
+-- the bytes are a line, the LF that ends it and the rest, and after a problem line of this kind the line reads as this
 -- arc
-pub record BeginsWithArc (kind : Kind) (bytes : List ℕ) (arc : Line) (used : ℕ) : Type 0 where
+pub record BeginsWithArc (kind : Kind) (bytes : List ℕ) (arc : Line) (rest : List ℕ) : Type 0 where
   pub line : List ℕ
-  pub rest : List ℕ
   pub whole : line ++ 10 ∷ rest ≡ bytes
   pub inner : list_all is_inner line ≡ true
-  pub used_is : used ≡ used_of bytes
   pub head : head_read (Some kind) (said_words line) ≡ Ok Heads.Arc
   pub fields : fields_read (Some kind) (said_words line) ≡ Ok arc
 
--- the bytes are a word of this number, this byte and the rest
-pub record IsNumberBefore (bytes : List ℕ) (end : ℕ) (number : ℤ) (rest : List ℕ) : Type 0 where
+-- the bytes are blanks, if there are any, and the rest
+pub record AreBlanks (bytes rest : List ℕ) : Type 0 where
+  pub blanks : List ℕ
+  pub whole : blanks ++ rest ≡ bytes
+  pub all : list_all is_blank blanks ≡ true
+
+-- the bytes are a blank, more of them, if there are any, and the rest
+pub record IsGap (bytes rest : List ℕ) : Type 0 where
+  pub blank : ℕ
+  pub is : is_blank blank ≡ true
+  pub more : List ℕ
+  pub whole : blank ∷ more ≡ bytes
+  pub then : AreBlanks more rest
+
+-- the bytes are blanks, if there are any, LF and the rest
+pub record IsLineEnd (bytes rest : List ℕ) : Type 0 where
+  pub blanks : AreBlanks bytes (10 ∷ rest)
+
+-- the bytes are a word of this number and the rest
+pub record IsNumberFront (bytes : List ℕ) (number : ℤ) (rest : List ℕ) : Type 0 where
   pub word : List ℕ
-  pub whole : word ++ end ∷ rest ≡ bytes
+  pub whole : word ++ rest ≡ bytes
   pub reads : number_read word ≡ Ok number
+
+-- the bytes are a word of this number, blanks, at least one, and the rest
+pub record IsNumberBefore (bytes : List ℕ) (number : ℤ) (rest : List ℕ) : Type 0 where
+  pub left : List ℕ
+  pub front : IsNumberFront bytes number left
+  pub gap : IsGap left rest
 
 -- what a word of this number says
 abbrev pub number_word : ℤ → Word

@@ -16,7 +16,7 @@ use Rattle.dn_bundle.specs.Laws.CostKind.{cost_kind}
 use Rattle.dn_bundle.specs.Laws.Canons.{count_costs, same_canon}
 use Rattle.dn_bundle.specs.Tellings.{least_arcs, total_arcs, curve_arcs}
 use Rattle.dn_bundle.specs.declared.arc.Form.TheVariants.{One}
-use Rattle.dn_bundle.specs.declared.curve.Curve.{Curve}
+use Rattle.dn_bundle.specs.Curves.{CurveNumbers}
 use Rattle.dn_bundle.specs.declared.least.Least.{Least}
 use Rattle.dn_bundle.specs.declared.total.Total.{Total}
 use Rattle.pair_index.specs.Pairs.{pair_cmp, same_pair}
@@ -117,7 +117,7 @@ cost_says told arcs stands are some =
     let same = same_canon told arcs (cost_kind.canon_arcs One told stands.canonical) are stands.same in
     ap (λ u. forced_words u (forced_cost told) (length (free_costs told))) same.units ∙ ap (λ f. forced_words (forced_units arcs) f (length (free_costs told))) same.cost ∙ ap (forced_words (forced_units arcs) (forced_cost arcs)) (count_costs told ∙ ap length same.steps ∙ sym (count_costs arcs))
 
-min_shown : (nodes lines : ℤ) (flows : List (ℤ × ℤ)) (table : Bundles Curve) (I : Instance) → nodes ≡ nodes_of I → lines ≡ pos (size_of I) → Shows (OfMin flows table) I → IsValid I → IsShown I (text_of (contents_rows nodes lines (OfMin flows table)))
+min_shown : (nodes lines : ℤ) (flows : List (ℤ × ℤ)) (table : Bundles CurveNumbers) (I : Instance) → nodes ≡ nodes_of I → lines ≡ pos (size_of I) → Shows (OfMin flows table) I → IsValid I → IsShown I (text_of (contents_rows nodes lines (OfMin flows table)))
 min_shown nodes lines flows table (MinCostFlow supplies graph) e f shows valid =
     (_, graph_shown costs (λ arcs row. row ≡ cost_words arcs) cost_words (curve_arcs One) cost_says Kinds.Min nodes lines (supply_rows flows) (supply_rows supplies) table graph e f (ap supply_rows shows.0) shows.1 valid.0.placed, refl)
 min_shown nodes lines flows table _ e f shows valid = absurd shows

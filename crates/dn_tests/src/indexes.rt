@@ -1,6 +1,6 @@
 // Each way of finding pairs, compared with a plain scan, also where an allocation fails.
 
-use pair_index::{PairIndex, place_by_search};
+use pair_index::PairIndex;
 use std::alloc::{AllocError, Global};
 use std::marker::Model;
 
@@ -55,17 +55,33 @@ impl Listed {
         true
     }
 
-    // Whether each pair is found once more when the entries are in order.
+    // Whether each pair is found once more when no more come, and a walk goes over all by rising pair.
     fn finds_in_order(self, pairs: &[(i64, i64)]) -> bool {
         let Listed { mut entries, index } = self;
-        index.sort(&mut entries);
+        let order = index.order(&mut entries);
         for i in 0..pairs.len() {
-            match place_by_search(&entries, &pairs[i]) {
+            match order.find(&entries, &pairs[i]) {
                 Some(place) if entries[place].1 == i => {}
                 _ => return false,
             }
         }
-        true
+        let mut at = order.first(&entries);
+        for _ in 0..entries.len() {
+            let Some(place) = at else {
+                return false;
+            };
+            if entries.len() <= place {
+                return false;
+            }
+            let next = order.next(&entries, place);
+            if let Some(next) = next {
+                if entries.len() <= next || entries[next].0 <= entries[place].0 {
+                    return false;
+                }
+            }
+            at = next;
+        }
+        at.is_none()
     }
 }
 
@@ -161,6 +177,20 @@ fn finds_multiples(rt: HostRuntime) {
             "multiples of {tail} and {head}"
         );
     }
+}
+
+// Pairs that come nearly in order: each followed by its reverse.
+#[test]
+fn finds_reversed(rt: HostRuntime) {
+    let mut pairs = match Vec::with_capacity(rt.alloc(), 1200) {
+        Ok(pairs) => pairs,
+        Err(_) => Vec::with_capacity(rt.alloc(), 1200).expect(&rt, "there is memory once more"),
+    };
+    for i in 1..600i64 {
+        pairs.push((i, i + 30)).expect(&rt, "there is room");
+        pairs.push((i + 30, i)).expect(&rt, "there is room");
+    }
+    assert_eq!(rt; way_to_find(rt.alloc(), &pairs), Ok("scattered"), "reversed");
 }
 
 #[test]

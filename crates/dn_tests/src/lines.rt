@@ -1,8 +1,8 @@
 // Lines whose answers are known from outside.
 
 use dn_line::{
-    Code, FromRead, Head, Kind, Letter, Line, LineReader, Slice, Source, SourceFault, Step,
-    arc_line, read_line,
+    ArcBlock, Code, FromRead, Head, Kind, Letter, Line, LineReader, PlainArc, Slice, Source,
+    SourceFault, Step, read_line,
 };
 use std::io;
 use std::io::Read;
@@ -366,48 +366,95 @@ fn lines(rt: HostRuntime) {
     assert_eq!(rt; first_other(&LINES), None);
 }
 
-// Arcs whose plain lines stand in front of more bytes, and how long the lines are.
-const PLAIN: [(Kind, &str, Line, usize); 3] = [
+// Arcs whose plain lines stand in front of more bytes, how many bytes follow the first line, and how many such lines
+// there are.
+const PLAIN: [(Kind, &str, PlainArc, usize, usize); 6] = [
+    (
+        Kind::Sp,
+        "a\t1  2 \t\r 3 \r\na 1 2 3\r\n",
+        PlainArc {
+            src: 1,
+            dst: 2,
+            low: 0,
+            cap: 0,
+            cost: 3,
+        },
+        9,
+        2,
+    ),
     (
         Kind::Sp,
         "a 1 2 -3\nz",
-        Line::SpArc {
+        PlainArc {
             src: 1,
             dst: 2,
-            length: -3,
+            low: 0,
+            cap: 0,
+            cost: -3,
         },
-        9,
+        1,
+        1,
+    ),
+    (
+        Kind::Sp,
+        "a 12345678 123456789 99999999\na 1 2 3\n",
+        PlainArc {
+            src: 12345678,
+            dst: 123456789,
+            low: 0,
+            cap: 0,
+            cost: 99999999,
+        },
+        8,
+        2,
+    ),
+    (
+        Kind::Sp,
+        "a 00000012 9223372036854775807 -9223372036854775808\na 1 2 3",
+        PlainArc {
+            src: 12,
+            dst: i64::MAX,
+            low: 0,
+            cap: 0,
+            cost: i64::MIN,
+        },
+        7,
+        1,
     ),
     (
         Kind::Max,
         "a 10 2 0\n",
-        Line::MaxArc {
+        PlainArc {
             src: 10,
             dst: 2,
+            low: 0,
             cap: 0,
+            cost: 0,
         },
-        9,
+        0,
+        1,
     ),
     (
         Kind::Min,
         "a 1 2 0 4 -1\na 1 2 0 4 1\n",
-        Line::MinArc {
+        PlainArc {
             src: 1,
             dst: 2,
             low: 0,
             cap: 4,
             cost: -1,
         },
-        13,
+        12,
+        2,
     ),
 ];
 
 // Bytes in front of which stands no plain line of an arc.
 const NOT_PLAIN: [(Kind, &str); 9] = [
     (Kind::Sp, "a 1 2 +3\n"),
-    (Kind::Sp, "a 1 2 3\r\n"),
-    (Kind::Sp, "a 1  2 3\n"),
-    (Kind::Sp, "a\t1 2 3\n"),
+    (Kind::Sp, " a 1 2 3\n"),
+    (Kind::Sp, "a1 2 3\n"),
+    (Kind::Sp, "a 1 2 \n"),
     (Kind::Sp, "a 1 2 3"),
     (Kind::Sp, "a 1 2 3 4\n"),
     (Kind::Max, "a 1 2 -1\n"),
@@ -417,15 +464,21 @@ const NOT_PLAIN: [(Kind, &str); 9] = [
 
 #[test]
 fn plain_arcs(rt: HostRuntime) {
-    for (kind, text, arc, used) in PLAIN {
-        let is_found = match arc_line(kind, text.as_bytes()) {
-            Some(found) => found.arc == arc && found.used == used,
+    for (kind, text, arc, left, count) in PLAIN {
+        let mut block = ArcBlock::new();
+        block.read(kind, text.as_bytes());
+        let arcs = block.arcs();
+        let is_found = match arcs.first() {
+            Some(first) => first.arc == arc && first.left == left,
             None => false,
         };
         assert!(rt; is_found, "{text}");
+        assert_eq!(rt; arcs.len(), count, "{text}");
     }
     for (kind, text) in NOT_PLAIN {
-        assert!(rt; arc_line(kind, text.as_bytes()).is_none(), "{text}");
+        let mut block = ArcBlock::new();
+        block.read(kind, text.as_bytes());
+        assert!(rt; block.arcs().is_empty(), "{text}");
     }
 }
 

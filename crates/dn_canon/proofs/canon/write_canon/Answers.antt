@@ -3,7 +3,7 @@ use Rattle.dn_bundle.specs.CurveTold.{told}
 use Rattle.dn_bundle.specs.Lengths.{length_told}
 use Rattle.dn_bundle.specs.Capacities.{cap_told}
 use Rattle.dn_bundle.specs.declared.arc.Form.{Form}
-use Rattle.dn_bundle.specs.declared.curve.Curve.{Curve}
+use Rattle.dn_bundle.specs.Curves.{CurveNumbers}
 use Rattle.dn_bundle.specs.declared.least.Least.{Least}
 use Rattle.dn_bundle.specs.declared.total.Total.{Total}
 use Rattle.dn_canon.specs.Writes.{WritesCanon}
@@ -13,7 +13,7 @@ use Rattle.dn_canon.proofs.canon.write_canon.Goals as goal
 pub returns-in-Min-clause-canon : goal.returns-in-Min-clause-canon
 returns-in-Min-clause-canon g c I v h =
     let nodes : FitsSigned w64 c.nodes-nodes.result = search rules in
-    costs_written g.K.Sink.taken g.K.Sink.has_failed c.args.sink.now c.write_graph.new.sink c.args.form (λ (f : Form) (b : Curve). told f b.units b.cost b.steps) _ c.in-Min.supplies.now.entries c.in-Min.table.now _ I c.write_graph.result
+    costs_written g.K.Sink.taken g.K.Sink.has_failed c.args.sink.now c.write_graph.new.sink c.args.form (λ (f : Form) (b : CurveNumbers). told f b.units b.cost b.steps) _ c.in-Min.supplies.now.entries c.in-Min.table.now _ I c.write_graph.result
     c.in-Min.ensures (to_z-of_z nodes ∙ c.nodes-nodes.ensures) h v c.write_graph.ensures.canon c.write_graph.ensures.text
 
 pub returns-in-Max-clause-canon : goal.returns-in-Max-clause-canon

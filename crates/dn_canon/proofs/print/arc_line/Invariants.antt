@@ -1,16 +1,8 @@
-use Rattle.std.proofs.Common.{◌≡◌, ◌≤◌, ◌+◌, ◌*◌, ◌++◌, ◌∷◌, [], length, map, drop}
-use Rattle.std.specs.Fmt.{signed_decimal}
-use Rattle.dn_row.specs.Rows.{spaced}
+use Rattle.std.proofs.Common.{◌≡◌, ◌+◌, ◌∷◌, take, length}
 use Rattle.dn_canon.proofs.print.arc_line.Given as goal
 
-abbrev pub invariant-loop-left : goal.invariant-loop-left
-invariant-loop-left g l =
-    let numbers = g.P.Parts.numbers l.arc in
-    record {
-      text : l.line ≡ spaced (map signed_decimal (drop l.left numbers)) ++ 10 ∷ [];
-      left : l.left ≤ length numbers;
-      within : length l.line + 22 * l.left ≤ 1 + 22 * length numbers;
-    }
-
-abbrev pub decreases-loop-left : goal.decreases-loop-left
-decreases-loop-left g l = l.left
+abbrev pub invariant-loop-i : goal.invariant-loop-i
+invariant-loop-i g l = record {
+  numbers : take (l.i + 2) l.numbers ≡ l.pair.0 ∷ l.pair.1 ∷ take l.i (g.P.Parts.numbers l.arc);
+  long : length l.numbers ≡ 5;
+}

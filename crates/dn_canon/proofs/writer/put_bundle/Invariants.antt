@@ -1,4 +1,4 @@
-use Rattle.std.proofs.Common.{◌≡◌, map, drop, slice_get}
+use Rattle.std.proofs.Common.{◌≡◌, map, drop, slice_get, ◌++◌}
 use Rattle.dn_canon.specs.Prints.{arc_row}
 use Rattle.dn_row.specs.Rows.{text_of}
 use Rattle.dn_sink.specs.Puts.{HasPut}
@@ -10,5 +10,5 @@ invariant-loop g l =
     let told = g.B.Bundle.told l.form l.bundle in
     record {
       next : l.next ≡ slice_get told l.counter;
-      has : HasPut g.K.Sink.taken g.K.Sink.has_failed l.fn.sink l.sink (text_of (map (arc_row g.B.Bundle.kind) (placed l.pair (drop l.counter told)))) (text_of (map (arc_row g.B.Bundle.kind) (placed l.pair told)));
+      has : HasPut g.K.Sink.taken g.K.Sink.has_failed l.fn.sink l.sink (l.block ++ text_of (map (arc_row g.B.Bundle.kind) (placed l.pair (drop l.counter told)))) (l.fn.block ++ text_of (map (arc_row g.B.Bundle.kind) (placed l.pair told)));
     }

@@ -1,4 +1,4 @@
-use Rattle.std.proofs.Common.{map}
+use Rattle.std.proofs.Common.{map, ◌++◌}
 use Rattle.dn_canon.specs.Prints.{arc_row}
 use Rattle.dn_row.specs.Rows.{text_of}
 use Rattle.dn_sink.specs.Puts.{HasPut}
@@ -8,4 +8,4 @@ use Rattle.dn_canon.proofs.writer.put_table.Given as goal
 abbrev pub invariant-loop-pair : goal.invariant-loop-pair
 invariant-loop-pair g l =
     let tells = g.B.Bundle.told l.form in
-    HasPut g.K.Sink.taken g.K.Sink.has_failed l.fn.sink l.sink (text_of (map (arc_row g.B.Bundle.kind) (told_arcs tells l.pair-iterator))) (text_of (map (arc_row g.B.Bundle.kind) (told_arcs tells l.table)))
+    HasPut g.K.Sink.taken g.K.Sink.has_failed l.fn.sink l.sink (l.block ++ text_of (map (arc_row g.B.Bundle.kind) (told_arcs tells l.pair-iterator))) (l.fn.block ++ text_of (map (arc_row g.B.Bundle.kind) (told_arcs tells l.table)))

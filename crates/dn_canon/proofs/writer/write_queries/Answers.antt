@@ -1,27 +1,21 @@
-use Rattle.std.proofs.Common.{◌+◌, [], map, drop, ap, ◌++◌, pos}
+use Rattle.std.proofs.Common.{◌+◌, drop, refl, pos}
 use Rattle.std.proofs.lemmas.List.{drop_more}
 use Rattle.dn_canon.specs.Prints.{query_row, print}
-use Rattle.dn_row.specs.Rows.{text_of}
 use Rattle.dn_instance.specs.Instances.{Queries}
-use Rattle.dn_sink.proofs.PutLaws.{put_from, put_stop, put_last, stopped}
+use Rattle.dn_sink.proofs.PutLaws.{put_last, stopped}
 use Rattle.dn_canon.proofs.PutLaws.{row_more, row_stop, rows_done}
 use Rattle.dn_canon.proofs.writer.write_queries.Goals as goal
 
-pub returns-in_err-put-clause-text : goal.returns-in_err-put-clause-text
-returns-in_err-put-clause-text g c =
+pub returns-in_err-query_line-clause-text : goal.returns-in_err-query_line-clause-text
+returns-in_err-query_line-clause-text g c =
     stopped c.from_residual.result c.from_residual.ensures.0
-    (put_stop c.companion_line.result (text_of (map query_row c.args.queries.now)) (put_from (ap (λ l. l ++ text_of (map query_row c.args.queries.now)) c.companion_line.ensures)) c.in_err-put.ensures)
-
-pub returns-in_err-put-2-clause-text : goal.returns-in_err-put-2-clause-text
-returns-in_err-put-2-clause-text g c =
-    stopped c.from_residual-in_err-put-2.result c.from_residual-in_err-put-2.ensures.0
-    (row_stop query_row (drop c.loop-query.query-index c.args.queries.now) (drop (c.loop-query.query-index + 1) c.args.queries.now) _ (drop_more c.args.queries.now c.loop-query.query-index (pos 0, pos 0) c.loop-query-test.true) c.query_line.ensures c.loop-query.invariant c.in_err-put-2.ensures)
+    (row_stop query_row c.loop-query.block (drop c.loop-query.query-index c.args.queries.now) (drop (c.loop-query.query-index + 1) c.args.queries.now) _ (drop_more c.args.queries.now c.loop-query.query-index (pos 0, pos 0) c.loop-query-test.true) refl c.loop-query.invariant c.in_err-query_line.ensures)
 
 pub loop-query-preserved : goal.loop-query-preserved
-loop-query-preserved g c = row_more query_row (drop c.loop-query.query-index c.args.queries.now) (drop (c.loop-query.query-index + 1) c.args.queries.now) _ (drop_more c.args.queries.now c.loop-query.query-index (pos 0, pos 0) c.loop-query-test.true) c.query_line.ensures c.loop-query.invariant c.in_ok-put-2.ensures
+loop-query-preserved g c = row_more query_row c.loop-query.block (drop c.loop-query.query-index c.args.queries.now) (drop (c.loop-query.query-index + 1) c.args.queries.now) _ (drop_more c.args.queries.now c.loop-query.query-index (pos 0, pos 0) c.loop-query-test.true) refl c.loop-query.invariant c.in_ok-query_line.ensures
 
 pub returns-clause-text : goal.returns-clause-text
 returns-clause-text g c =
-    put_last g.K.Sink.taken g.K.Sink.has_failed c.args.sink.now c.loop-query.sink c.finish.new.sink [] (print (Queries c.args.queries.now)) c.finish.result
-    (rows_done query_row c.args.queries.now c.loop-query.query-index c.loop-query-test.false c.loop-query.invariant)
+    put_last g.K.Sink.taken g.K.Sink.has_failed c.args.sink.now c.loop-query.sink c.finish.new.sink c.loop-query.block (print (Queries c.args.queries.now)) c.finish.result
+    (rows_done query_row c.loop-query.block c.args.queries.now c.loop-query.query-index c.loop-query-test.false c.loop-query.invariant)
     c.finish.ensures.text

@@ -1,12 +1,23 @@
-use Rattle.std.proofs.Common.{◌≡◌, ◌<◌, length, get_or, arith, subst}
-use Rattle.dn_line.specs.ArcLines.{IsArcOf}
-use Rattle.dn_line.proofs.ArcLineLaws.{arc_begins}
+use Rattle.std.proofs.Common.{◌≡◌, ◌-◌, ◌<◌, ℕ, ◌∷◌, [], List, length, take, drop, get_or, Option, Some, None, IfSome, sym, arith, subst}
+use Rattle.std.proofs.lemmas.List.{take_all, length-drop}
+use Rattle.dn_line.specs.ArcLines.{BeginsWithArc, IsArcOf, IsGap, arc_of}
+use Rattle.dn_line.specs.declared.arc_lines.ArcBefore.{ArcBefore}
+use Rattle.dn_line.specs.declared.kind.Kind.{Kind}
+use Rattle.dn_line.proofs.ArcLineLaws.{letter_line}
 use Rattle.dn_line.proofs.arc_lines.arc_line.Goals as goal
+
+begins : (kind : Kind) (bytes more : List ℕ) (found : Option ArcBefore) → 0 < length bytes → get_or bytes 0 0 ≡ 97 → IsGap (drop 1 bytes) more
+    → IfSome found (λ a. IsArcOf kind more (arc_of kind a.arc) a.rest.now) → IfSome found (λ a. BeginsWithArc kind bytes (arc_of kind a.arc) a.rest.now)
+begins kind bytes more None some letter g h = tt
+begins kind [] more (Some a) some letter g h = absurd (omega arith)
+begins kind (b ∷ bytes) more (Some a) some letter g h =
+    subst (λ x. BeginsWithArc kind (x ∷ bytes) (arc_of kind a.arc) a.rest.now) (sym letter) (letter_line kind bytes more a.rest.now (arc_of kind a.arc) g h)
 
 pub returns-in-97 : goal.returns-in-97
 returns-in-97 c =
-    let long : 1 < length c.args.bytes.now = omega arith in
-    let letter : get_or c.args.bytes.now 0 0 ≡ 97 = omega arith in
-    let blank : get_or c.args.bytes.now 1 0 ≡ 32 = omega arith in
-    arc_begins c.args.kind c.args.bytes.now c.in_ok-found.found.rest.now c.in_ok-found.found.arc c.saturating_sub.result long letter blank
-    (subst (λ l. IsArcOf c.args.kind l c.in_ok-found.found.arc c.in_ok-found.found.rest.now) c.after.ensures c.in_ok-found.ensures) (omega arith)
+    let bytes = c.args.bytes.now in
+    let some : 0 < length bytes = omega arith in
+    let letter : get_or bytes 0 0 ≡ 97 = omega arith in
+    let rest = take_all (length bytes - 1) (drop 1 bytes) (omega (arith, length-drop 1 bytes)) in
+    begins c.args.kind bytes c.in_ok-after_blanks.field-0.now c.arc_before.result some letter
+    (subst (λ l. IsGap l c.in_ok-after_blanks.field-0.now) rest c.in_ok-after_blanks.ensures) c.arc_before.ensures

@@ -7,7 +7,7 @@ use Rattle.dn_bundle.specs.Kinds.{lengths, costs}
 use Rattle.dn_bundle.specs.Lengths.{length_told}
 use Rattle.dn_bundle.specs.CurveTold.{told}
 use Rattle.dn_bundle.specs.declared.arc.Form.TheVariants.{One}
-use Rattle.dn_bundle.specs.declared.curve.Curve.{Curve}
+use Rattle.dn_bundle.specs.Curves.{CurveNumbers}
 use Rattle.dn_bundle.specs.declared.least.Least.{Least}
 use Rattle.dn_instance.specs.Items.{arcs_of, length_arc_in, cost_arc_in}
 use Rattle.dn_instance.proofs.EndLaws.{both_named}
@@ -17,7 +17,7 @@ use Rattle.dn_instance.proofs.draft.Draft.end.Goals as goal
 pub returns-in-Min : goal.returns-in-Min
 returns-in-Min c nodes items h =
     let k = subst (λ d. DraftHolds d items) c.in-Min.is h in
-    let out : Makes (draft_kind (Drafts.Min c.in-Min.supplies c.in-Min.idle c.in-Min.table)) nodes items (Ok (Kept.Min c.in-Min.supplies c.end.result)) = (refl, (_, refl, (k.0, stands_as costs (λ (b : Curve). told One b.units b.cost b.steps) c.in-Min.table c.end.result (arcs_of cost_arc_in items) c.end.ensures.rising c.end.ensures.kept k.2.tells_them))) in
+    let out : Makes (draft_kind (Drafts.Min c.in-Min.supplies c.in-Min.idle c.in-Min.table)) nodes items (Ok (Kept.Min c.in-Min.supplies c.end.result)) = (refl, (_, refl, (k.0, stands_as costs (λ (b : CurveNumbers). told One b.units b.cost b.steps) c.in-Min.table c.end.result (arcs_of cost_arc_in items) c.end.ensures.rising c.end.ensures.kept k.2.tells_them))) in
     subst (λ d. Makes (draft_kind d) nodes items (Ok (Kept.Min c.in-Min.supplies c.end.result))) (sym c.in-Min.is) out
 
 pub returns-in-Some-Some : goal.returns-in-Some-Some

@@ -19,9 +19,9 @@ returns-clause-answer c kind signs =
           let fl : FitsSigned w64 w.in-Min-MinArc.low = search rules in
           let fc : FitsSigned w64 w.in-Min-MinArc.cap = search rules in
           let fk : FitsSigned w64 w.in-Min-MinArc.cost = search rules in
-          let ans = simp to_z-of_z at w.take_cost_arc.ensures.answer in
+          let ans = simp to_z-of_z at w.take.ensures.answer in
           to_answer c.args.nodes.now c.args.self.now _ c.args.line _ c.match-self.result _ w.in-Min-MinArc.is-0 w.in-Min-MinArc.is-1 w.result-is
-          (λ before p h k n holds. ans (subst HasSigns w.in-Min-MinArc.is-1 signs).0 before p h k n holds.2))
+          (λ before p h k n holds. ans (subst HasSigns w.in-Min-MinArc.is-1 signs) before p h k n holds.2))
       | in-Min-Supply w ↦
           (let fi : FitsSigned w64 w.in-Min-Supply.id = search rules in
           let ff : FitsSigned w64 w.in-Min-Supply.flow = search rules in
@@ -32,7 +32,7 @@ returns-clause-answer c kind signs =
           (let fs : FitsSigned w64 w.in-Max-MaxArc.src = search rules in
           let fd : FitsSigned w64 w.in-Max-MaxArc.dst = search rules in
           let fc : FitsSigned w64 w.in-Max-MaxArc.cap = search rules in
-          let ans = simp to_z-of_z at w.take_cap_arc.ensures.answer in
+          let ans = simp to_z-of_z at w.take-in-Max-MaxArc.ensures.answer in
           to_answer c.args.nodes.now c.args.self.now _ c.args.line _ c.match-self.result _ w.in-Max-MaxArc.is-0 w.in-Max-MaxArc.is-1 w.result-is
           (λ before p h k n holds. ans (subst HasSigns w.in-Max-MaxArc.is-1 signs) before p h k n holds.2))
       | in-Max-Terminal+in-S w ↦
@@ -49,8 +49,8 @@ returns-clause-answer c kind signs =
           (let fs : FitsSigned w64 w.in-Sp-SpArc.src = search rules in
           let fd : FitsSigned w64 w.in-Sp-SpArc.dst = search rules in
           let fl : FitsSigned w64 w.in-Sp-SpArc.length = search rules in
-          let ans = simp to_z-of_z at w.take_length_arc.ensures.answer in
-          to_answer c.args.nodes.now c.args.self.now _ c.args.line _ c.match-self.result _ w.in-Sp-SpArc.is-0 w.in-Sp-SpArc.is-1 w.result-is ans)
+          let ans = simp to_z-of_z at w.take-in-Sp-SpArc.ensures.answer in
+          to_answer c.args.nodes.now c.args.self.now _ c.args.line _ c.match-self.result _ w.in-Sp-SpArc.is-0 w.in-Sp-SpArc.is-1 w.result-is (ans tt))
       | in-Ss-Source w ↦
           (let fi : FitsSigned w64 w.in-Ss-Source.id = search rules in
           let ans = simp to_z-of_z at w.take_source.ensures.answer in
@@ -84,9 +84,9 @@ returns-clause-stands c signs =
           let fl : FitsSigned w64 w.in-Min-MinArc.low = search rules in
           let fc : FitsSigned w64 w.in-Min-MinArc.cap = search rules in
           let fk : FitsSigned w64 w.in-Min-MinArc.cost = search rules in
-          let ok = simp to_z-of_z at w.take_cost_arc.ensures.stands in
+          let ok = simp to_z-of_z at w.take.ensures.stands in
           to_stand c.args.self.now _ c.args.line _ c.match-self.self _ c.match-self.result _ w.in-Min-MinArc.is-0 w.in-Min-MinArc.is-1 w.self-is w.result-is
-          (cost_stand w.in-Min-MinArc.supplies-0 w.in-Min-MinArc.idle-0 _ _ w.in-Min-MinArc.src w.in-Min-MinArc.dst w.in-Min-MinArc.low w.in-Min-MinArc.cap w.in-Min-MinArc.cost w.take_cost_arc.result (ok (subst HasSigns w.in-Min-MinArc.is-1 signs).0)))
+          (cost_stand w.in-Min-MinArc.supplies-0 w.in-Min-MinArc.idle-0 _ _ w.in-Min-MinArc.src w.in-Min-MinArc.dst w.in-Min-MinArc.low w.in-Min-MinArc.cap w.in-Min-MinArc.cost w.take.result (ok (subst HasSigns w.in-Min-MinArc.is-1 signs))))
       | in-Min-Supply w ↦
           (let fi : FitsSigned w64 w.in-Min-Supply.id = search rules in
           let ff : FitsSigned w64 w.in-Min-Supply.flow = search rules in
@@ -98,9 +98,9 @@ returns-clause-stands c signs =
           (let fs : FitsSigned w64 w.in-Max-MaxArc.src = search rules in
           let fd : FitsSigned w64 w.in-Max-MaxArc.dst = search rules in
           let fc : FitsSigned w64 w.in-Max-MaxArc.cap = search rules in
-          let ok = simp to_z-of_z at w.take_cap_arc.ensures.stands in
+          let ok = simp to_z-of_z at w.take-in-Max-MaxArc.ensures.stands in
           to_stand c.args.self.now _ c.args.line _ c.match-self.self _ c.match-self.result _ w.in-Max-MaxArc.is-0 w.in-Max-MaxArc.is-1 w.self-is w.result-is
-          (cap_stand _ _ _ _ w.in-Max-MaxArc.src w.in-Max-MaxArc.dst w.in-Max-MaxArc.cap w.take_cap_arc.result (ok (subst HasSigns w.in-Max-MaxArc.is-1 signs))))
+          (cap_stand _ _ _ _ w.in-Max-MaxArc.src w.in-Max-MaxArc.dst w.in-Max-MaxArc.cap w.take-in-Max-MaxArc.result (ok (subst HasSigns w.in-Max-MaxArc.is-1 signs))))
       | in-Max-Terminal+in-S w ↦
           (let fi : FitsSigned w64 w.in-Max-Terminal.id = search rules in
           let ans = simp to_z-of_z at w.take_terminal.ensures.answer in
@@ -117,8 +117,8 @@ returns-clause-stands c signs =
           (let fs : FitsSigned w64 w.in-Sp-SpArc.src = search rules in
           let fd : FitsSigned w64 w.in-Sp-SpArc.dst = search rules in
           let fl : FitsSigned w64 w.in-Sp-SpArc.length = search rules in
-          let ok = simp to_z-of_z at w.take_length_arc.ensures.stands in
-          to_stand c.args.self.now _ c.args.line _ c.match-self.self _ c.match-self.result _ w.in-Sp-SpArc.is-0 w.in-Sp-SpArc.is-1 w.self-is w.result-is ok)
+          let ok = simp to_z-of_z at w.take-in-Sp-SpArc.ensures.stands in
+          to_stand c.args.self.now _ c.args.line _ c.match-self.self _ c.match-self.result _ w.in-Sp-SpArc.is-0 w.in-Sp-SpArc.is-1 w.self-is w.result-is (ok tt))
       | in-Ss-Source w ↦
           (let fi : FitsSigned w64 w.in-Ss-Source.id = search rules in
           let ok = simp to_z-of_z at w.take_source.ensures.ok in
@@ -148,12 +148,12 @@ returns-clause-stands c signs =
 pub returns-clause-unchanged : goal.returns-clause-unchanged
 returns-clause-unchanged c =
     elim c.match-self.branch [
-      | in-Min-MinArc w ↦ to_keep c.args.self.now _ c.match-self.self _ c.match-self.result _ w.in-Min-MinArc.is-0 w.self-is w.result-is (keep_same _ _ w.take_cost_arc.result (on_err_weaker w.take_cost_arc.result (λ e. ap (λ t. Drafts.Min w.in-Min-MinArc.supplies-0 w.in-Min-MinArc.idle-0 t) e) w.take_cost_arc.ensures.err))
+      | in-Min-MinArc w ↦ to_keep c.args.self.now _ c.match-self.self _ c.match-self.result _ w.in-Min-MinArc.is-0 w.self-is w.result-is (keep_same _ _ w.take.result (on_err_weaker w.take.result (λ e. ap (λ t. Drafts.Min w.in-Min-MinArc.supplies-0 w.in-Min-MinArc.idle-0 t) e) w.take.ensures.err))
       | in-Min-Supply w ↦ to_keep c.args.self.now _ c.match-self.self _ c.match-self.result _ w.in-Min-Supply.is-0 w.self-is w.result-is (supply_keep w.in-Min-Supply.supplies w.take_supply.new.supplies w.in-Min-Supply.idle w.take_supply.new.idle _ w.take_supply.result w.take_supply.ensures.err)
-      | in-Max-MaxArc w ↦ to_keep c.args.self.now _ c.match-self.self _ c.match-self.result _ w.in-Max-MaxArc.is-0 w.self-is w.result-is (cap_keep _ _ _ _ w.take_cap_arc.result w.take_cap_arc.ensures.err)
+      | in-Max-MaxArc w ↦ to_keep c.args.self.now _ c.match-self.self _ c.match-self.result _ w.in-Max-MaxArc.is-0 w.self-is w.result-is (cap_keep _ _ _ _ w.take-in-Max-MaxArc.result w.take-in-Max-MaxArc.ensures.err)
       | in-Max-Terminal+in-S w ↦ to_keep c.args.self.now _ c.match-self.self _ c.match-self.result _ w.in-Max-Terminal.is-0 w.self-is w.result-is (source_keep _ _ _ _ w.take_terminal.result w.take_terminal.ensures.err)
       | in-Max-Terminal+in-T w ↦ to_keep c.args.self.now _ c.match-self.self _ c.match-self.result _ w.in-Max-Terminal.is-0 w.self-is w.result-is (sink_keep _ _ _ _ w.take_terminal-in-T.result w.take_terminal-in-T.ensures.err)
-      | in-Sp-SpArc w ↦ to_keep c.args.self.now _ c.match-self.self _ c.match-self.result _ w.in-Sp-SpArc.is-0 w.self-is w.result-is (keep_same _ _ w.take_length_arc.result (on_err_weaker w.take_length_arc.result (λ e. ap (λ t. Drafts.Sp t) e) w.take_length_arc.ensures.err))
+      | in-Sp-SpArc w ↦ to_keep c.args.self.now _ c.match-self.self _ c.match-self.result _ w.in-Sp-SpArc.is-0 w.self-is w.result-is (keep_same _ _ w.take-in-Sp-SpArc.result (on_err_weaker w.take-in-Sp-SpArc.result (λ e. ap (λ t. Drafts.Sp t) e) w.take-in-Sp-SpArc.ensures.err))
       | in-Ss-Source w ↦ to_keep c.args.self.now _ c.match-self.self _ c.match-self.result _ w.in-Ss-Source.is-0 w.self-is w.result-is (λ before holds. on_err_weaker w.take_source.result (λ e. e ∙ holds) w.take_source.ensures.err)
       | in-P2p-Query w ↦ to_keep c.args.self.now _ c.match-self.self _ c.match-self.result _ w.in-P2p-Query.is-0 w.self-is w.result-is (λ before holds. on_err_weaker w.take_query.result (λ e. e ∙ holds) w.take_query.ensures.err)
       | in-Co-Point w ↦ to_keep c.args.self.now _ c.match-self.self _ c.match-self.result _ w.in-Co-Point.is-0 w.self-is w.result-is (λ before holds. on_err_weaker w.take_point.result (λ e. e ∙ holds) w.take_point.ensures.err)

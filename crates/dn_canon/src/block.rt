@@ -1,0 +1,129 @@
+// Lines of a text, gathered on the stack and put into a sink many at a time.
+ghost use Rattle.std.specs.Prelude.{◌≡◌, ℕ, List, ◌+◌, ◌*◌, ◌<◌, ◌≤◌, [], ◌∷◌, ◌++◌, length, map, take, OnOk};
+ghost use Rattle.std.specs.Fmt.{signed_decimal};
+ghost use Rattle.dn_row.specs.Rows.{spaced, line_text};
+ghost use Rattle.dn_sink.specs.Puts.{Puts};
+ghost use Rattle.dn_canon.specs.Blocks.{HasRoom, Passes};
+
+use dn_num::put_number;
+use dn_sink::{Sink, SinkFault, put_all};
+use std::marker::Model;
+
+// How many bytes a block holds.
+const SIZE: usize = 8192;
+// The room for a line. The longest is that of an arc of `min`, of 107 bytes, and putting a number may change 5 bytes
+// more after it.
+const LINE: usize = 128;
+
+// The bytes of a text that are not put yet.
+#[derive(Drop)]
+pub(crate) struct Block {
+    bytes: [u8; SIZE],
+    used: usize,
+}
+
+impl Model for Block {
+    ghost use Rattle.std.specs.Prelude.{ℕ, ◌≤◌, List, take};
+
+    ghost Value = { List ℕ };
+
+    ghost view = { λ b. take b.used b.bytes };
+
+    ghost invariant = { λ b. b.used ≤ 8192 };
+}
+
+impl Block {
+    // No bytes.
+    pub(crate) fn new() -> Block
+        ensures { result ≡ [] }
+    {
+        Block {
+            bytes: [0; SIZE],
+            used: 0,
+        }
+    }
+
+    // Adds a byte.
+    pub(crate) fn byte(&mut self, byte: u8)
+        requires { length self.old < 8192 }
+        ensures { self.new ≡ self.old ++ byte ∷ [] }
+    {
+        self.bytes[self.used] = byte;
+        self.used += 1;
+    }
+
+    // Adds bytes.
+    pub(crate) fn push(&mut self, bytes: &[u8])
+        requires { length self.old + length bytes.now ≤ 8192 }
+        ensures { self.new ≡ self.old ++ bytes.now }
+    {
+        self.bytes[self.used..self.used + bytes.len()].copy_from_slice(bytes);
+        self.used += bytes.len();
+    }
+
+    // Adds a space and a number.
+    pub(crate) fn number(&mut self, number: &i64)
+        requires { length self.old + 26 ≤ 8192 }
+        ensures text { self.new ≡ self.old ++ 32 ∷ signed_decimal number.now }
+        ensures within { length self.new ≤ length self.old + 21 }
+    {
+        self.used = put_spaced(&mut self.bytes, self.used, number);
+    }
+
+    // Adds the line of a letter and numbers.
+    pub(crate) fn line(&mut self, letter: u8, numbers: &[i64])
+        requires room { HasRoom self.old }
+        requires few { length numbers.now ≤ 5 }
+        ensures { self.new ≡ self.old ++ line_text ((letter ∷ []) ∷ map signed_decimal numbers.now) }
+    {
+        self.bytes[self.used] = letter;
+        let end = put_numbers(&mut self.bytes, self.used + 1, numbers);
+        self.bytes[end] = b'\n';
+        self.used = end + 1;
+    }
+
+    // Puts it into a sink, and empties it, where a line more has no room.
+    #[inline(always)]
+    pub(crate) fn make_room<K: Sink>(&mut self, sink: &mut K) -> Result<(), SinkFault>
+        ensures put { Passes K.taken K.has_failed sink.old sink.new self.new self.old result }
+        ensures room { OnOk result (HasRoom self.new) }
+    {
+        if SIZE - LINE < self.used {
+            self.put(sink)?;
+            self.used = 0;
+        }
+        Ok(())
+    }
+
+    // Puts it into a sink.
+    pub(crate) fn put<K: Sink>(&self, sink: &mut K) -> Result<(), SinkFault>
+        ensures { Puts K.taken K.has_failed sink.old sink.new self.now result }
+    {
+        put_all(sink, &self.bytes[..self.used])
+    }
+}
+
+// Puts a space and a number at this place, and answers where they end.
+#[inline(always)]
+fn put_spaced(bytes: &mut [u8; SIZE], at: usize, number: &i64) -> usize
+    requires { at + 26 ≤ 8192 }
+    ensures text { take result bytes.new ≡ take at bytes.old ++ 32 ∷ signed_decimal number.now }
+    ensures within { result ≤ at + 21 }
+{
+    bytes[at] = b' ';
+    put_number(bytes, at + 1, number)
+}
+
+// Puts numbers at this place, each after a space, and answers where they end.
+#[inline(always)]
+fn put_numbers(bytes: &mut [u8; SIZE], at: usize, numbers: &[i64]) -> usize
+    requires { at + 21 * length numbers.now + 5 ≤ 8192 }
+    ensures text { take result bytes.new ≡ take at bytes.old ++ spaced (map signed_decimal numbers.now) }
+    ensures within { result ≤ at + 21 * length numbers.now }
+{
+    let mut end = at;
+    for number in numbers {
+        end = put_spaced(bytes, end, number);
+    }
+    end
+}

@@ -1,0 +1,179 @@
+-- Arcs that are taken one after the other.
+use Rattle.std.proofs.Common.{◌≡◌, ◌<◌, ◌≤◌, ◌+◌, ◌-◌, ◌^◌, ◌+ℤ◌, ◌-ℤ◌, negsuc, FitsSigned, w64, ℕ, zero, suc, ℤ, pos, ◌≤ℤ◌, ◌<ℤ◌, List, [], ◌∷◌, ◌++◌, length, take, get_or, map, filter, Bool, true, false, cond, not, ◌||◌, int_lt, Option, Some, None, Result, Ok, Err, OnOk, refl, sym, subst, ap, ◌∙◌, arith, append-nil, append_assoc, length-append}
+use Rattle.std.specs.List.{AllByRecursion, list_any}
+use Rattle.std.specs.Option.{option_or}
+use Rattle.std.specs.Result.{is_err}
+use Rattle.std.proofs.Math.Bool.{or-true}
+use Rattle.std.specs.Int.{saturate_signed}
+use Rattle.std.proofs.Math.Nat.{min-eq_left}
+use Rattle.std.proofs.Math.Seq.{take-suc}
+use Rattle.std.proofs.lemmas.Bool.Decides.{nat_tests}
+use Rattle.std.proofs.lemmas.Int.{ints, fits_signed_from_abs}
+use Rattle.std.proofs.lemmas.List.{map-append}
+use Rattle.std.proofs.lemmas.List.Elements.{filter-append}
+use Rattle.std.proofs.lemmas.List.Folds.{list_any-append}
+use Rattle.dn_line.specs.ArcLines.{arc_of}
+use Rattle.dn_line.specs.Faults.{first_fault}
+use Rattle.dn_line.specs.declared.arc_block.ArcLine.{ArcLine}
+use Rattle.dn_line.specs.declared.code.Code.{Code}
+use Rattle.dn_line.specs.declared.kind.Kind.{Kind}
+use Rattle.dn_line.specs.declared.kind.Kind.TheVariants.{Min, Max, Sp, Ss, P2p, Co}
+use Rattle.dn_line.specs.declared.line.Line.{Line}
+use Rattle.dn_instance.specs.ArcRuns.{AreFaultless, AreInTime, Joins, arc_items}
+use Rattle.dn_instance.specs.Drafts.{DraftHolds, HasSigns, draft_kind}
+use Rattle.dn_instance.specs.ItemFaults.{AnswersFault}
+use Rattle.dn_instance.specs.Items.{Problem, counted, is_counted, problem_in, problem_of}
+use Rattle.dn_instance.specs.Progresses.{HasRoom, ProgressAt}
+use Rattle.dn_instance.specs.TextFaults.{is_arc, is_companion, is_full, item_tests}
+use Rattle.dn_instance.specs.declared.draft.Draft.{Draft}
+use Rattle.dn_instance.specs.declared.progress.Progress.{Progress}
+use Rattle.dn_instance.specs.declared.refusal.ItemFault.{ItemFault}
+use Rattle.dn_instance.proofs.ProgressLaws.{counted_yes, problem_kept}
+
+-- one item more without fault
+faultless_more : (before items : List Line) (i : Line) → AreFaultless before items → first_fault (item_tests (before ++ items) (Some i)) ≡ None → AreFaultless before (items ++ i ∷ [])
+faultless_more before [] i h f = (subst (λ b. first_fault (item_tests b (Some i)) ≡ None) (append-nil before) f, tt)
+faultless_more before (x ∷ items) i h f =
+    (h.0, faultless_more (before ++ x ∷ []) items i h.1 (subst (λ b. first_fault (item_tests b (Some i)) ≡ None) (sym (append_assoc before (x ∷ []) items)) f))
+
+pub joins_more : {H : Type 0} (Holds : H → List Line → Type 0) (before : List Line) (held more : H) (items : List Line) (i : Line) → Joins Holds before held items
+    → first_fault (item_tests (before ++ items) (Some i)) ≡ None → Holds more ((before ++ items) ++ i ∷ []) → Joins Holds before more (items ++ i ∷ [])
+joins_more Holds before held more items i j f h = record {
+  faultless = faultless_more before items i j.faultless f;
+  holds = subst (Holds more) (append_assoc before items (i ∷ [])) h;
+}
+
+-- what is answered without an error
+pub no_fault : (r : Result (Unit {0}) ItemFault) (f : Option Code) → is_err r ≡ false → AnswersFault r f → f ≡ None
+no_fault (Ok x) f e h = h
+no_fault (Err c) f e h = cc
+
+pub no_error : {P : Type 0} (r : Result (Unit {0}) ItemFault) → is_err r ≡ false → OnOk r P → P
+no_error (Ok x) e h = h
+no_error (Err c) e h = cc
+
+or_kept : (a b c : Option Problem) (p : Problem) → option_or a b ≡ Some p → (b ≡ Some p → c ≡ Some p) → option_or a c ≡ Some p
+or_kept None b c p h k = k h
+or_kept (Some x) b c p h k = h
+
+-- the problem stays the first
+pub problem_all : (before items : List Line) (p : Problem) → problem_of before ≡ Some p → problem_of (before ++ items) ≡ Some p
+problem_all [] items p h = cc
+problem_all (x ∷ before) items p h = or_kept (problem_in x) (problem_of before) (problem_of (before ++ items)) p h (problem_all before items p)
+
+-- the next arc
+pub items_next : (kind : Kind) (arcs : List ArcLine) (i : ℕ) (d : ArcLine) → i < length arcs → arc_items kind (take (i + 1) arcs) ≡ arc_items kind (take i arcs) ++ arc_of kind (get_or arcs i d).arc ∷ []
+items_next kind arcs i d h =
+    ap (λ n. arc_items kind (take n arcs)) (one i) ∙ ap (arc_items kind) (take-suc arcs i d h) ∙ map-append (λ (a : ArcLine). arc_of kind a.arc) (take i arcs) (get_or arcs i d ∷ [])
+  where
+    one : (i : ℕ) → i + 1 ≡ suc i
+    one i = omega arith
+
+pub sign_at : (kind : Kind) (arcs : List ArcLine) (i : ℕ) (d : ArcLine) → i < length arcs → AllByRecursion HasSigns (arc_items kind arcs) → HasSigns (arc_of kind (get_or arcs i d).arc)
+sign_at kind [] i d h s = absurd (omega arith)
+sign_at kind (a ∷ arcs) zero d h s = s.0
+sign_at kind (a ∷ arcs) (suc i) d h s = sign_at kind arcs i d (omega arith) s.1
+
+pub signs_front : (kind : Kind) (arcs : List ArcLine) (n : ℕ) → AllByRecursion HasSigns (arc_items kind arcs) → AllByRecursion HasSigns (arc_items kind (take n arcs))
+signs_front kind [] zero s = tt
+signs_front kind [] (suc n) s = tt
+signs_front kind (a ∷ arcs) zero s = tt
+signs_front kind (a ∷ arcs) (suc n) s = (s.0, signs_front kind arcs n s.1)
+
+-- arcs are counted
+pub one_counted : (kind : Kind) (a : ArcLine) → is_companion kind ≡ false → is_counted (arc_of kind a.arc) ≡ true
+one_counted Min a c = refl
+one_counted Max a c = refl
+one_counted Sp a c = refl
+one_counted Ss a c = cc
+one_counted P2p a c = cc
+one_counted Co a c = cc
+
+one_arc : (kind : Kind) (a : ArcLine) → is_companion kind ≡ false → is_arc (arc_of kind a.arc) ≡ true
+one_arc Min a c = refl
+one_arc Max a c = refl
+one_arc Sp a c = refl
+one_arc Ss a c = cc
+one_arc P2p a c = cc
+one_arc Co a c = cc
+
+all_counted : (kind : Kind) (arcs : List ArcLine) → is_companion kind ≡ false → counted (arc_items kind arcs) ≡ length arcs
+all_counted kind [] c = refl
+all_counted kind (a ∷ arcs) c =
+    let rest = filter is_counted (arc_items kind arcs) in
+    ap (λ b. length (cond b (arc_of kind a.arc ∷ rest) rest)) (one_counted kind a c) ∙ ap suc (all_counted kind arcs c)
+
+counted_all : (kind : Kind) (before : List Line) (arcs : List ArcLine) → is_companion kind ≡ false → counted (before ++ arc_items kind arcs) ≡ counted before + length arcs
+counted_all kind before arcs c =
+    ap length (filter-append is_counted before (arc_items kind arcs))
+    ∙ length-append (filter is_counted before) (filter is_counted (arc_items kind arcs))
+    ∙ ap (λ n. counted before + n) (all_counted kind arcs c)
+
+-- as many arcs as are still declared come in time
+pub come_in_time : (kind : Kind) (arcs : List ArcLine) (before : List Line) (p : Problem) → is_companion kind ≡ false → problem_of before ≡ Some p → (0 < length arcs → pos (counted before + length arcs) ≤ℤ p.count)
+    → AreInTime before (arc_items kind arcs)
+come_in_time kind [] before p c h r = tt
+come_in_time kind (a ∷ arcs) before p c h r =
+    let i = arc_of kind a.arc in (
+      (λ _. ap (λ o. is_full o (counted before)) h ∙ below (counted before) (length arcs) p.count (r (omega arith))),
+      come_in_time kind arcs (before ++ i ∷ []) p c (problem_kept before i p h)
+          (λ _. subst (λ n. pos (n + length arcs) ≤ℤ p.count) (sym (counted_yes before i (one_counted kind a c))) (subst (λ n. pos n ≤ℤ p.count) (shift (counted before) (length arcs)) (r (omega arith)))),
+    )
+  where
+    below : (k n : ℕ) (m : ℤ) → pos (k + suc n) ≤ℤ m → not (int_lt (pos k) m) ≡ false
+    below k n m r = let lt : int_lt (pos k) m ≡ true = grind (arith, ints, nat_tests) in ap not lt
+
+    shift : (k n : ℕ) → k + suc n ≡ suc k + n
+    shift k n = omega arith
+
+-- what has been read with arcs more
+module _ (p : Progress) (d : Draft) (before : List Line) (at : ProgressAt p before) (same : draft_kind d ≡ draft_kind p.draft) (graph : is_companion (draft_kind p.draft) ≡ false) where
+  arcs_then : (arcs : List ArcLine) (n : ℤ) → n ≡ pos (counted before + length arcs) → list_any is_arc (before ++ arc_items (draft_kind p.draft) arcs) ≡ int_lt (pos 0) n
+  arcs_then [] n e =
+      ap (list_any is_arc) (append-nil before) ∙ at.arcs_are graph ∙ ap (int_lt (pos 0)) (at.counted_is ∙ sym (e ∙ ap pos (none (counted before))))
+    where
+      none : (k : ℕ) → k + 0 ≡ k
+      none k = omega arith
+  arcs_then (a ∷ arcs) n e =
+      list_any-append is_arc before (arc_items (draft_kind p.draft) (a ∷ arcs))
+      ∙ ap (λ b. list_any is_arc before || (b || list_any is_arc (arc_items (draft_kind p.draft) arcs))) (one_arc (draft_kind p.draft) a graph)
+      ∙ or-true (list_any is_arc before)
+      ∙ sym (ap (int_lt (pos 0)) e ∙ above (counted before) (length arcs))
+    where
+      above : (k m : ℕ) → int_lt (pos 0) (pos (k + suc m)) ≡ true
+      above k m = grind (arith, ints, nat_tests)
+
+  pub arcs_read : (arcs : List ArcLine) (n : ℤ) → n ≡ pos (counted before + length arcs) → counted before + length arcs < 2 ^ 63 → DraftHolds d (before ++ arc_items (draft_kind p.draft) arcs)
+      → ProgressAt (record { nodes = p.nodes; count = p.count; counted = n; draft = d }) (before ++ arc_items (draft_kind p.draft) arcs)
+  arcs_read arcs n e few h =
+      let all = counted_all (draft_kind p.draft) before arcs graph in
+      record {
+        problem_is = problem_all before (arc_items (draft_kind p.draft) arcs) _ at.problem_is ∙ ap (λ k. Some (record { kind = k; nodes = p.nodes; count = p.count })) (sym same);
+        count_fits = at.count_fits;
+        counted_is = e ∙ ap pos (sym all);
+        counted_few = subst (λ k. k < 2 ^ 63) (sym all) few;
+        arcs_are = λ _. arcs_then arcs n e;
+        holds = h;
+      }
+
+-- a difference that is more than 0 is not more for being saturated
+within : (n : ℕ) (z : ℤ) → 0 < n → pos n ≤ℤ saturate_signed w64 z → pos n ≤ℤ z
+within n (pos m) some h = omega (arith, ints)
+within n (negsuc m) some h = absurd (omega (arith, ints))
+
+-- as many arcs as are taken are still declared
+pub still_declared : (k m n : ℕ) (count s : ℤ) → s ≡ saturate_signed w64 (count -ℤ pos k) → (0 < n → pos n ≤ℤ s) → m ≤ n → 0 < m → pos (k + m) ≤ℤ count
+still_declared k m n count s e most h some =
+    let some_n : 0 < n = omega arith in
+    let all : pos n ≤ℤ (count -ℤ pos k) = within n (count -ℤ pos k) some_n (subst (λ x. pos n ≤ℤ x) e (most some_n)) in
+    omega (arith, ints)
+
+pub still_few : (k m : ℕ) (count : ℤ) → count <ℤ pos (2 ^ 63) → k < 2 ^ 63 → (0 < m → pos (k + m) ≤ℤ count) → k + m < 2 ^ 63
+still_few k zero count f h declared = omega arith
+still_few k (suc m) count f h declared = let d = declared (omega arith) in omega (arith, ints)
+
+pub sum_taken : (k m : ℕ) → k + m < 2 ^ 63 → saturate_signed w64 (pos k +ℤ pos m) ≡ pos (k + m)
+sum_taken k m h = let small : k + m ≤ 2 ^ 63 - 1 = omega arith in ap pos (min-eq_left small)
+
+pub sum_fits : (n : ℕ) → n < 2 ^ 63 → FitsSigned w64 (pos n)
+sum_fits n h = fits_signed_from_abs w64 (pos n) (grind (arith, ints, nat_tests))

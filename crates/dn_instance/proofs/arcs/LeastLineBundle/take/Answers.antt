@@ -1,0 +1,34 @@
+use Rattle.std.proofs.Common.{rules, w64, true, refl, sym, ap, ◌∙◌, subst}
+use Rattle.std.specs.Int.RustNames.{FitsSigned}
+use Rattle.std.proofs.lemmas.Int.{to_z-of_z}
+use Rattle.std.proofs.lemmas.Result.{on_ok_weaker}
+use Rattle.dn_bundle.specs.Kinds.{lengths}
+use Rattle.dn_bundle.specs.declared.arc.LengthArc.{LengthArc}
+use Rattle.dn_instance.specs.Items.{arcs_of, length_arc_in}
+use Rattle.dn_instance.specs.ItemFaults.{AnswersFault, arc_fault}
+use Rattle.dn_instance.proofs.ArcItems.{length_item, length_grown, length_stays, table_grown}
+use Rattle.dn_instance.proofs.arcs.LeastLineBundle.take.Goals as goal
+
+pub returns-clause-answer : goal.returns-clause-answer
+returns-clause-answer c signs before p h k n t =
+    let a = c.args.arc.now in
+    let arc : LengthArc = record { length = a.cost } in
+    let fs : FitsSigned w64 a.src = search rules in
+    let fd : FitsSigned w64 a.dst = search rules in
+    let fl : FitsSigned w64 a.cost = search rules in
+    let answer = simp to_z-of_z at c.take_arc.ensures.answer in
+    subst (AnswersFault c.take_arc.result)
+    (sym (length_item before p a.src a.dst a.cost h k ∙ ap (λ m. arc_fault lengths m (arcs_of length_arc_in before) true ((a.src, a.dst), arc)) n))
+    (answer (arcs_of length_arc_in before) true t.tells_them t.are_arcs (λ x. tt, λ x. refl))
+
+pub returns-clause-stands : goal.returns-clause-stands
+returns-clause-stands c signs before t =
+    let a = c.args.arc.now in
+    let arc : LengthArc = record { length = a.cost } in
+    let fs : FitsSigned w64 a.src = search rules in
+    let fd : FitsSigned w64 a.dst = search rules in
+    let fl : FitsSigned w64 a.cost = search rules in
+    let stands = simp to_z-of_z at c.take_arc.ensures.stands in
+    on_ok_weaker c.take_arc.result
+    (table_grown lengths length_arc_in _ c.take_arc.new.table before _ ((a.src, a.dst), arc) (length_grown before a.src a.dst a.cost) t.are_arcs tt)
+    (stands (arcs_of length_arc_in before) length_stays t.tells_them t.are_arcs)

@@ -1,0 +1,34 @@
+use Rattle.std.proofs.Common.{rules, w64, true, refl, sym, ap, ◌∙◌, subst}
+use Rattle.std.specs.Int.RustNames.{FitsSigned}
+use Rattle.std.proofs.lemmas.Int.{to_z-of_z}
+use Rattle.std.proofs.lemmas.Result.{on_ok_weaker}
+use Rattle.dn_bundle.specs.Kinds.{capacities}
+use Rattle.dn_bundle.specs.declared.arc.CapArc.{CapArc}
+use Rattle.dn_instance.specs.Items.{arcs_of, cap_arc_in}
+use Rattle.dn_instance.specs.ItemFaults.{AnswersFault, arc_fault}
+use Rattle.dn_instance.proofs.ArcItems.{cap_item, cap_grown, cap_stays, table_grown}
+use Rattle.dn_instance.proofs.arcs.TotalLineBundle.take.Goals as goal
+
+pub returns-clause-answer : goal.returns-clause-answer
+returns-clause-answer c some before p h k n t =
+    let a = c.args.arc.now in
+    let arc : CapArc = record { cap = a.cap } in
+    let fs : FitsSigned w64 a.src = search rules in
+    let fd : FitsSigned w64 a.dst = search rules in
+    let fc : FitsSigned w64 a.cap = search rules in
+    let answer = simp to_z-of_z at c.take_arc.ensures.answer in
+    subst (AnswersFault c.take_arc.result)
+    (sym (cap_item before p a.src a.dst a.cap h k ∙ ap (λ m. arc_fault capacities m (arcs_of cap_arc_in before) true ((a.src, a.dst), arc)) n))
+    (answer (arcs_of cap_arc_in before) true t.tells_them t.are_arcs (λ x. record { some = some }, λ x. refl))
+
+pub returns-clause-stands : goal.returns-clause-stands
+returns-clause-stands c some before t =
+    let a = c.args.arc.now in
+    let arc : CapArc = record { cap = a.cap } in
+    let fs : FitsSigned w64 a.src = search rules in
+    let fd : FitsSigned w64 a.dst = search rules in
+    let fc : FitsSigned w64 a.cap = search rules in
+    let stands = simp to_z-of_z at c.take_arc.ensures.stands in
+    on_ok_weaker c.take_arc.result
+    (table_grown capacities cap_arc_in _ c.take_arc.new.table before _ ((a.src, a.dst), arc) (cap_grown before a.src a.dst a.cap) t.are_arcs (record { some = some }))
+    (stands (arcs_of cap_arc_in before) cap_stays t.tells_them t.are_arcs)

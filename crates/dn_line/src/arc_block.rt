@@ -1,0 +1,107 @@
+// The lines of several arcs in their plain spelling, read together.
+ghost use Rattle.std.specs.Prelude.{◌≡◌, ◌≤◌, ℕ, List, [], length, take};
+ghost use Rattle.dn_line.specs.ArcBlocks.{BeginWithArcs, ReadUpTo, last_left};
+
+use crate::arc_lines::{PlainArc, arc_line};
+use crate::kind::Kind;
+use std::marker::Model;
+
+/// As many arcs are read together.
+pub const BLOCK: usize = 16;
+
+/// An arc of a block.
+#[derive(Clone, Copy)]
+pub struct ArcLine {
+    /// The arc.
+    pub arc: PlainArc,
+    /// How many bytes follow its line, behind the LF that ends it.
+    pub left: usize,
+}
+
+// What stands where no arc does.
+const NO_ARC: ArcLine = ArcLine {
+    arc: PlainArc {
+        src: 0,
+        dst: 0,
+        low: 0,
+        cap: 0,
+        cost: 0,
+    },
+    left: 0,
+};
+
+/// The arcs whose plain lines stand at the front of some bytes, one after the other.
+#[derive(Drop)]
+pub struct ArcBlock {
+    arcs: [ArcLine; BLOCK],
+    len: usize,
+}
+
+impl Model for ArcBlock {
+    ghost use Rattle.std.specs.Prelude.{◌≤◌, List, take};
+    ghost use Rattle.dn_line.specs.declared.arc_block.ArcLine.{ArcLine};
+
+    ghost Value = { List ArcLine };
+
+    ghost view = { λ b. take b.len b.arcs };
+
+    ghost invariant = { λ b. b.len ≤ 16 };
+}
+
+impl ArcBlock {
+    /// No arcs.
+    pub fn new() -> ArcBlock
+        ensures { result ≡ [] }
+    {
+        ArcBlock {
+            arcs: [NO_ARC; BLOCK],
+            len: 0,
+        }
+    }
+
+    /// Reads the arcs at the front of these bytes, in a text of this kind, as far as their lines are plain and a block
+    /// has room, in place of those that it had.
+    pub fn read(&mut self, kind: Kind, bytes: &[u8])
+        ensures { BeginWithArcs kind bytes.now self.new }
+    {
+        self.len = read_arcs(kind, bytes, &mut self.arcs);
+    }
+
+    /// The arcs.
+    pub fn arcs(&self) -> &[ArcLine]
+        ensures arcs { result.now ≡ self.now }
+        ensures few { length result.now ≤ 16 }
+    {
+        &self.arcs[..self.len]
+    }
+}
+
+// Reads the arcs at the front of these bytes, and answers how many they are.
+fn read_arcs(kind: Kind, bytes: &[u8], arcs: &mut [ArcLine; BLOCK]) -> usize
+    ensures arcs { BeginWithArcs kind bytes.now (take result arcs.new) }
+    ensures within { result ≤ 16 }
+{
+    let mut rest = bytes;
+    for i in 0..BLOCK {
+        let Some(next) = arc_line(kind, rest) else {
+            return i;
+        };
+        rest = next.rest;
+        arcs[i] = ArcLine {
+            arc: next.arc,
+            left: rest.len(),
+        };
+    }
+    BLOCK
+}
+
+/// How many of so many bytes follow the last of these lines, which stand at their front.
+pub fn left_behind(arcs: &[ArcLine], all: usize) -> usize
+    ensures { result ≡ last_left all arcs.now }
+{
+    if arcs.is_empty() {
+        all
+    } else {
+        arcs[arcs.len() - 1].left
+    }
+}

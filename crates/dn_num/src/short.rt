@@ -1,0 +1,64 @@
+// Short numbers at a place in longer bytes.
+ghost use Rattle.std.specs.Prelude.{◌≡◌, ◌+◌, ◌-◌, ◌*◌, ◌^◌, ◌%◌, ◌<◌, ◌≤◌, ◌++◌, length, drop, take, pos, Ok, IfSome, replicate, slice_index};
+ghost use Rattle.std.specs.Simd.Lanes.{chunk, number_l};
+ghost use Rattle.dn_num.specs.Number.{number_read, digits_number};
+
+use crate::count::digits_at;
+use crate::value::value;
+
+/// A number of one to eight digits, and where it ends.
+#[derive(Clone, Copy)]
+pub struct Short {
+    /// The number.
+    pub number: u64,
+    /// How many digits it has.
+    pub used: usize,
+}
+
+// The next eight bytes as lanes of a word.
+#[inline(always)]
+fn word_at(bytes: &[u8], at: usize) -> u64
+    requires { at + 8 ≤ length bytes.now }
+    ensures { result ≡ number_l 256 (chunk at 8 bytes.now) }
+{
+    u64::from_le_bytes([
+        bytes[at],
+        bytes[at + 1],
+        bytes[at + 2],
+        bytes[at + 3],
+        bytes[at + 4],
+        bytes[at + 5],
+        bytes[at + 6],
+        bytes[at + 7],
+    ])
+}
+
+// The first n of the next eight bytes as the highest lanes of a word, after zeros.
+#[inline(always)]
+fn word_of(bytes: &[u8], at: usize, n: usize) -> u64
+    requires room { at + 8 ≤ length bytes.now }
+    requires some { 0 < n }
+    requires most { n ≤ 8 }
+    ensures { result ≡ number_l 256 (replicate (8 - n) 0 ++ take n (chunk at 8 bytes.now)) }
+{
+    word_at(bytes, at) << (64 - 8 * n)
+}
+
+/// The number of one to eight digits at this place, where a byte follows them that is none.
+#[inline(always)]
+pub fn short_number(bytes: &[u8], at: usize) -> Option<Short>
+    requires { at + 8 ≤ length bytes.now }
+    ensures read { IfSome result (λ s. number_read (take s.used (drop at bytes.now)) ≡ Ok (pos s.number)) }
+    ensures some { IfSome result (λ s. 0 < s.used) }
+    ensures within { IfSome result (λ s. s.used ≤ 8) }
+    ensures bound { IfSome result (λ s. s.number < 100000000) }
+{
+    let used = digits_at(bytes, at);
+    if used == 0 {
+        return None;
+    }
+    Some(Short {
+        number: value(word_of(bytes, at, used)),
+        used,
+    })
+}

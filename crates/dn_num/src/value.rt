@@ -1,0 +1,51 @@
+// The number of eight digits in one word, the first digit in its lowest byte.
+ghost use Rattle.std.specs.Prelude.{◌≡◌, ℕ, List, [], ◌∷◌, ◌+◌, ◌*◌, ◌%◌, ◌^◌, ◌<◌, length, map};
+ghost use Rattle.std.specs.Simd.Lanes.{Each1, number_l};
+ghost use Rattle.dn_num.specs.Lanes.{places};
+
+// The values of eight digits.
+#[inline(always)]
+fn values(word: u64) -> u64
+    ensures { (ds : List ℕ) → length ds ≡ 8 → Each1 (λ d. d < 256) ds → word ≡ number_l 256 ds
+        → result ≡ number_l 256 (map (λ d. d % 16) ds) }
+{
+    word & 0x0F0F_0F0F_0F0F_0F0F
+}
+
+// Two digits together.
+#[inline(always)]
+fn pairs(word: u64) -> u64
+    ensures { (a b c d e f g h : ℕ) → Each1 (λ x. x < 10) (a ∷ b ∷ c ∷ d ∷ e ∷ f ∷ g ∷ h ∷ [])
+        → word ≡ number_l 256 (a ∷ b ∷ c ∷ d ∷ e ∷ f ∷ g ∷ h ∷ [])
+        → result ≡ number_l 65536 ((a * 10 + b) ∷ (c * 10 + d) ∷ (e * 10 + f) ∷ (g * 10 + h) ∷ []) }
+{
+    word.wrapping_mul(10).wrapping_add(word >> 8) & 0x00FF_00FF_00FF_00FF
+}
+
+// Two pairs together.
+#[inline(always)]
+fn fours(word: u64) -> u64
+    ensures { (a b c d : ℕ) → Each1 (λ x. x < 100) (a ∷ b ∷ c ∷ d ∷ [])
+        → word ≡ number_l 65536 (a ∷ b ∷ c ∷ d ∷ [])
+        → result ≡ number_l 4294967296 ((a * 100 + b) ∷ (c * 100 + d) ∷ []) }
+{
+    word.wrapping_mul(100).wrapping_add(word >> 16) & 0x0000_FFFF_0000_FFFF
+}
+
+// Two fours together.
+#[inline(always)]
+fn eight(word: u64) -> u64
+    ensures { (a b : ℕ) → a < 10000 → b < 10000 → word ≡ number_l 4294967296 (a ∷ b ∷ [])
+        → result ≡ a * 10000 + b }
+{
+    word.wrapping_mul(10000).wrapping_add(word >> 32) & 0xFFFF_FFFF
+}
+
+// The number of eight digits, of which the first may lack.
+#[inline(always)]
+pub(crate) fn value(word: u64) -> u64
+    ensures { (ds : List ℕ) → length ds ≡ 8 → Each1 (λ d. d < 256) ds → Each1 (λ d. d % 16 < 10) ds
+        → word ≡ number_l 256 ds → result ≡ places (map (λ d. d % 16) ds) }
+{
+    eight(fours(pairs(values(word))))
+}
