@@ -29,4 +29,4 @@ word_put at w bytes cs h short each is =
     ∙ ap (λ n. take (n + length cs) (take at bytes ++ rest)) (sym long)
     ∙ take-append-add (take at bytes) rest (length cs)
     ∙ ap (λ l. take at bytes ++ l) (take-append-le (length cs) word (drop (length word) (drop at bytes)) short
-        ∙ ap (λ n. take (length cs) (digits_l 256 8 n)) same ∙ lanes_back 8 cs short each)
+    ∙ ap (λ n. take (length cs) (digits_l 256 8 n)) same ∙ lanes_back 8 cs short each)

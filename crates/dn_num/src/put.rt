@@ -17,7 +17,9 @@ fn put_word(bytes: &mut [u8], at: usize, word: u64)
     ensures { (cs : List ℕ) → length cs ≤ 8 → Each1 (λ c. c < 256) cs → word ≡ number_l 256 cs
         → take (at + length cs) bytes.new ≡ take at bytes.old ++ cs }
 {
-    u64x1::splat(word).to_le_bytes().copy_to_slice(&mut bytes[at..]);
+    u64x1::splat(word)
+        .to_le_bytes()
+        .copy_to_slice(&mut bytes[at..]);
 }
 
 // Puts the text of a number below 10^8.

@@ -190,7 +190,11 @@ fn finds_reversed(rt: HostRuntime) {
         pairs.push((i, i + 30)).expect(&rt, "there is room");
         pairs.push((i + 30, i)).expect(&rt, "there is room");
     }
-    assert_eq!(rt; way_to_find(rt.alloc(), &pairs), Ok("scattered"), "reversed");
+    assert_eq!(rt;
+        way_to_find(rt.alloc(), &pairs),
+        Ok("scattered"),
+        "reversed"
+    );
 }
 
 #[test]
