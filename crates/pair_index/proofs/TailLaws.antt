@@ -1,5 +1,5 @@
 -- Chains by tail: a step along one, and where a pair stands in one.
-use Rattle.std.proofs.Common.{◌≡◌, ℕ, zero, suc, ◌+◌, ◌-◌, ◌<◌, ◌≤◌, ℤ, pos, ◌<ℤ◌, ◌≤ℤ◌, List, [], ◌∷◌, ◌++◌, length, get_or, set, replicate, Bool, true, false, cond, ◌⊎◌, inl, inr, refl, sym, ap, ◌∙◌, subst, arith}
+use Rattle.std.proofs.Common.{◌≡◌, ℕ, zero, suc, ◌+◌, ◌-◌, ◌<◌, ◌≤◌, ℤ, pos, ◌<ℤ◌, ◌≤ℤ◌, List, [], ◌∷◌, ◌++◌, length, get_or, replicate, Bool, true, false, cond, ◌⊎◌, inl, inr, refl, sym, ap, ◌∙◌, subst, arith}
 use Rattle.std.specs.List.{list_any, count_by}
 use lib.Signed.{lt_z}
 use Rattle.std.proofs.lemmas.Int.{ints, by_lt_z}
@@ -8,8 +8,7 @@ use Rattle.std.proofs.lemmas.List.{length-append, length-replicate, get_or_appen
 use Rattle.std.proofs.lemmas.List.Sums.{sum_by-cons, sum_by-le-sum_by}
 use Rattle.pair_index.specs.Pairs.{same_pair}
 use Rattle.pair_index.specs.Places.{key_at}
-use Rattle.pair_index.specs.Tailed.{IsAfter, LeadsTo, Links, Passed, Begins, Sought, IsSpot}
-use Rattle.pair_index.specs.declared.tails.Spot.{Spot}
+use Rattle.pair_index.specs.Tailed.{IsAfter, LeadsTo, Links, Sought}
 use Rattle.pair_index.proofs.PairLaws.{none_from_places}
 
 -- of what fewer tests pass, fewer are counted

@@ -1,5 +1,5 @@
 -- From each pair to the next, by chains.
-use Rattle.std.proofs.Common.{◌≡◌, ℕ, zero, suc, ◌+◌, ◌-◌, ◌<◌, ◌≤◌, ℤ, pos, ◌<ℤ◌, ◌≤ℤ◌, List, [], ◌∷◌, ◌++◌, length, get_or, Option, Some, None, MatchOption, ◌⊎◌, inl, inr, refl, sym, ap, ◌∙◌, subst, arith}
+use Rattle.std.proofs.Common.{◌≡◌, ℕ, suc, ◌+◌, ◌<◌, ◌≤◌, ℤ, pos, ◌<ℤ◌, ◌≤ℤ◌, List, length, get_or, Option, Some, None, MatchOption, ◌⊎◌, inl, inr, refl, sym, ap, ◌∙◌, subst, arith}
 use Rattle.std.specs.Ordering.{int_cmp, ordering_then}
 use Rattle.std.specs.declared.cmp.Ordering.{Ordering}
 use Rattle.std.specs.declared.cmp.Ordering.TheVariants.{Less, Equal, Greater}
@@ -8,7 +8,7 @@ use Rattle.std.proofs.lemmas.Bool.{cases_lt, cases_eq}
 use Rattle.std.proofs.lemmas.Int.{ints, by_lt_z}
 use Rattle.pair_index.specs.Pairs.{pair_cmp}
 use Rattle.pair_index.specs.Places.{key_at, IsLeast}
-use Rattle.pair_index.specs.Tailed.{IsAfter, LeadsTo, Links, IsBare, IsFirstFrom}
+use Rattle.pair_index.specs.Tailed.{IsAfter, Links, IsBare, IsFirstFrom}
 use Rattle.pair_index.proofs.PairLaws.{int_self}
 use Rattle.pair_index.proofs.TailLaws.{pair_from}
 

@@ -1,4 +1,4 @@
-use Rattle.std.proofs.Common.{◌<◌, length, sym, subst, arith, rules}
+use Rattle.std.proofs.Common.{◌<◌, length, sym, subst, rules}
 use Rattle.std.specs.Map.{keys_of}
 use Rattle.std.proofs.lemmas.Map.Entries.{length-keys_of}
 use Rattle.pair_index.proofs.OrderLaws.{first_up}

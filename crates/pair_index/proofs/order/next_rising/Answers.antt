@@ -1,5 +1,4 @@
-use Rattle.pair_index.proofs.InOrderLaws.{from_next}
-use Rattle.std.proofs.Common.{◌+◌, ◌<◌, length, sym, subst, arith}
+use Rattle.std.proofs.Common.{◌+◌, ◌<◌, sym, subst, arith}
 use Rattle.std.specs.Map.{keys_of}
 use Rattle.std.proofs.lemmas.Map.Entries.{length-keys_of}
 use Rattle.pair_index.proofs.OrderLaws.{up_at, later_at, next_up}

@@ -1,4 +1,4 @@
-use Rattle.std.proofs.Common.{◌<◌, ◌-◌, ◌∙◌, length, sym, refl, arith}
+use Rattle.std.proofs.Common.{◌-◌, ◌∙◌, sym, refl, arith}
 use Rattle.std.specs.Map.{keys_of}
 use Rattle.std.proofs.lemmas.Bool.{false≢true}
 use Rattle.std.proofs.lemmas.Map.Entries.{length-keys_of}

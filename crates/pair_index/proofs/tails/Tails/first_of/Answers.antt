@@ -1,4 +1,4 @@
-use Rattle.std.proofs.Common.{◌<◌, ◌≤◌, length, subst, arith, ◌∙◌}
+use Rattle.std.proofs.Common.{◌<◌, ◌≤◌, subst, ◌∙◌}
 use Rattle.std.proofs.lemmas.List.{get_or_read}
 use Rattle.pair_index.proofs.TailLaws.{first_there, none_there, none_below}
 use Rattle.pair_index.proofs.tails.Tails.first_of.Goals as goal

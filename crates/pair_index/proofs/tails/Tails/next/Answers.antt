@@ -1,4 +1,4 @@
-use Rattle.std.proofs.Common.{◌≡◌, ◌+◌, ◌-◌, ◌<◌, ◌<ℤ◌, ℤ, pos, suc, length, sym, ap, ◌∙◌, subst, arith, rules, ◌^◌}
+use Rattle.std.proofs.Common.{◌≡◌, ◌+◌, ◌-◌, ◌<◌, ◌<ℤ◌, ℤ, pos, suc, sym, ap, ◌∙◌, subst, arith, rules, ◌^◌}
 use Rattle.std.specs.Map.{keys_of}
 use Rattle.std.specs.declared.cmp.Ordering.TheVariants.{Less}
 use Rattle.std.proofs.lemmas.Int.{ints}
