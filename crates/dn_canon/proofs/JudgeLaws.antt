@@ -1,20 +1,19 @@
 -- Whether a text is the canonical text of what it reads as.
-use Rattle.std.proofs.Common.{◌≡◌, ◌↔◌, ℕ, ◌<◌, ◌≤◌, ◌^◌, List, [], ◌∷◌, length, length-append, Bool, true, false, None, Ok, Err, refl, sym, ap, subst, arith}
-use Rattle.std.proofs.lemmas.List.{take_all}
+use Rattle.std.proofs.Common.{◌≡◌, ◌↔◌, ℕ, ◌<◌, ◌≤◌, ◌^◌, List, [], ◌∷◌, ◌++◌, length, take, drop, get_or, length-append, append-nil, Bool, true, false, Some, Ok, Err, refl, sym, ap, ◌∙◌, arith}
+use Rattle.std.proofs.lemmas.List.{drop_at, take_at}
 use Rattle.std.specs.List.{join_with_byte}
-use Rattle.dn_line.specs.Pieces.{lines}
 use Rattle.dn_bundle.specs.declared.arc.Form.{Form}
 use Rattle.dn_instance.specs.Instances.{Instance, size_of}
-use Rattle.dn_instance.specs.Readers.{Outcome, WantsMemory}
-use Rattle.dn_instance.specs.TextFaults.{end_fault}
-use Rattle.dn_instance.specs.Texts.{items_of, IsClean, Reads}
+use Rattle.dn_instance.specs.Readers.{Outcome}
 use Rattle.dn_instance.specs.declared.refusal.Refusal.{Refusal}
 use Rattle.dn_instance.specs.declared.refusal.Refusal.TheVariants.{Text, Memory, Read, Endless, Write, CountTooLarge}
 use Rattle.dn_instance.proofs.SameLaws.{refl_of}
-use Rattle.dn_canon.specs.CanonTexts.{IsCanonOf, IsTooLarge, PrintsCanon}
+use Rattle.dn_canon.specs.CanonTexts.{IsCanonOf, IsTooLarge}
 use Rattle.dn_canon.specs.Prints.{rows, print}
 use Rattle.dn_row.specs.Rows.{Row, line_text, text_of}
-use Rattle.dn_canon.specs.Runs.{JudgesCanon, TextFault}
+use Rattle.dn_canon.specs.Runs.{JudgesCanon}
+use Rattle.dn_canon.specs.Writes.{WritesCanon}
+use Rattle.dn_sink.specs.Matches.{IsNoPrefix, Matched, taken_of}
 use Rattle.dn_canon.proofs.FollowLaws.{count_rows}
 use Rattle.dn_canon.proofs.InstanceItems.{rows_are}
 use Rattle.dn_canon.proofs.TextLaws.{texts_agree}
@@ -35,40 +34,61 @@ enough I = let count = count_rows I in let all = ap length (rows_are I) in omega
 print_long : (I : Instance) → size_of I ≤ length (print I)
 print_long I = let h = rows_long (rows I) in let g = enough I in omega arith
 
--- the canonical text is compared
-pub judged_text : (form : Form) (t u : List ℕ) (I : Instance) (answer : Bool) → Reads t I → (K : Instance) → PrintsCanon form u I K → (answer ≡ true) ↔ (u ≡ t) → JudgesCanon form t (Ok answer)
-judged_text form t u I answer r K p e =
-    (I, r, (λ y. subst (λ x. IsCanonOf form x I) (e.0 y) (K, p), λ h. e.1 ((texts_agree form u t I I (K, p) h).1 (refl_of I))))
-
 -- a text in memory is not one of so many lines
-pub not_so_large : (form : Form) (t : List ℕ) (I : Instance) → Reads t I → IsTooLarge form I → length t < 2 ^ 63 → JudgesCanon form t (Ok false)
-not_so_large form t I r (K, canon, large) small = (
-  I,
-  r,
-  (
-    λ y. (let never : false ≡ true = y in cc),
-    λ h. (
-        let same = (texts_agree form (print K) t I I (K, record { canon = canon; text_is = refl }) h).1 (refl_of I) in
-        let long = print_long K in
-        let equal = ap length same in
-        absurd (omega arith)
-        ),
-  ),
+not_so_large : (form : Form) (t : List ℕ) (I : Instance) → IsTooLarge form I → length t < 2 ^ 63 → (false ≡ true) ↔ IsCanonOf form t I
+not_so_large form t I (K, canon, large) small = (
+  λ y. cc,
+  λ h. (
+      let same = (texts_agree form (print K) t I I (K, record { canon = canon; text_is = refl }) h).1 (refl_of I) in
+      let long = print_long K in
+      let equal = ap length same in
+      absurd (omega arith)
+      ),
 )
 
--- a text without lines has a fault at its end
-some_lines : (ls : List (List ℕ)) → end_fault (items_of ls) ≡ None → 0 < length ls
-some_lines [] h = cc
-some_lines (l ∷ ls) h = omega arith
+-- what a sink that compares with the text t has taken tells that text, and what was put after it
+told_apart : (t u put put' : List ℕ) → length t ∷ (t ++ put) ≡ length u ∷ (u ++ put') → (t ≡ u) × (put ≡ put')
+told_apart t u put put' e =
+    let many : length t ≡ length u = ap (λ l. get_or l 0 0) e in
+    let rest : t ++ put ≡ u ++ put' = ap (λ l. drop 1 l) e in (
+      sym (take_at t put (length u) many) ∙ ap (λ l. take (length u) l) rest ∙ take_at u put' (length u) refl,
+      sym (drop_at t put (length u) many) ∙ ap (λ l. drop (length u) l) rest ∙ drop_at u put' (length u) refl,
+    )
 
--- at the last line of a text that reads no line has a fault
-pub wants_memory : (t : List ℕ) (I : Instance) → Reads t I → WantsMemory 0 (lines t)
-wants_memory t I r = record {
-  count = length (lines t);
-  past = some_lines (lines t) r.whole;
-  within = omega arith;
-  clean = subst IsClean (sym (take_all (length (lines t)) (lines t) (omega arith))) r.clean;
-}
+module _ (form : Form) (t : List ℕ) (I : Instance) (old new : Matched) (begins : old.text ≡ t) (empty : old.put ≡ []) where
+  -- what was put is all that the sink has taken since
+  put_since : (put : List ℕ) → taken_of new ≡ taken_of old ++ put → (new.text ≡ t) × (new.put ≡ put)
+  put_since put e =
+      let from : taken_of old ≡ length t ∷ (t ++ []) = ap (λ l. length l ∷ (l ++ old.put)) begins ∙ ap (λ l. length t ∷ (t ++ l)) empty in
+      told_apart new.text t new.put put (e ∙ ap (λ l. l ++ put) (from ∙ ap (λ l. length t ∷ l) (append-nil t)))
+
+  -- the canonical text was put whole
+  pub judged_whole : WritesCanon (λ (m : Matched). Some (taken_of m)) (λ (m : Matched). m.failed) old new form I (Ok tt) → (answer : Bool) → (answer ≡ true) ↔ (new.put ≡ new.text) → (answer ≡ true) ↔ IsCanonOf form t I
+  judged_whole (J, canon, w) answer match =
+      let since = put_since w.0.put w.0.bytes in
+      let whole : new.put ≡ print J = since.1 ∙ sym (append-nil w.0.put) ∙ w.0.whole in (
+        λ y. (J, record { canon = canon; text_is = sym since.0 ∙ sym (match.0 y) ∙ whole }),
+        λ h. match.1 (whole ∙ (texts_agree form (print J) t I I (J, record { canon = canon; text_is = refl }) h).1 (refl_of I) ∙ sym since.0),
+      )
+
+  -- only a prefix of it was put, since the text goes on otherwise
+  judged_part : WritesCanon (λ (m : Matched). Some (taken_of m)) (λ (m : Matched). m.failed) old new form I (Err Write) → (new.failed ≡ true → IsNoPrefix new.put new.text) → (false ≡ true) ↔ IsCanonOf form t I
+  judged_part (J, canon, w) apart =
+      let since = put_since w.0.has.put w.0.has.bytes in (
+        λ y. cc,
+        λ h. absurd (apart w.0.failed w.0.left
+            (ap (λ l. l ++ w.0.left) since.1 ∙ w.0.has.whole ∙ (texts_agree form (print J) t I I (J, record { canon = canon; text_is = refl }) h).1 (refl_of I) ∙ sym since.0)),
+      )
+
+  -- the canonical text was not put whole
+  pub judged_unwritten : (e : Refusal) → WritesCanon (λ (m : Matched). Some (taken_of m)) (λ (m : Matched). m.failed) old new form I (Err e) → (new.failed ≡ true → IsNoPrefix new.put new.text) → length t < 2 ^ 63
+      → (false ≡ true) ↔ IsCanonOf form t I
+  judged_unwritten Write w apart small = judged_part w apart
+  judged_unwritten CountTooLarge (K, canon, w) apart small = not_so_large form t I (K, canon, w.1) small
+  judged_unwritten (Text place code) w apart small = absurd w.2
+  judged_unwritten Memory w apart small = absurd w.2
+  judged_unwritten Read w apart small = absurd w.2
+  judged_unwritten Endless w apart small = absurd w.2
 
 -- the text is refused
 pub refused_text : (form : Form) (t : List ℕ) (e : Refusal) → Outcome t (Err e) → JudgesCanon form t (Err e)
@@ -78,7 +98,3 @@ refused_text form t Read h = absurd h
 refused_text form t Endless h = absurd h
 refused_text form t Write h = absurd h
 refused_text form t CountTooLarge h = absurd h
-
--- a canonical text of too many lines
-pub too_large : (form : Form) (I : Instance) (e : Refusal) → e ≡ CountTooLarge → TextFault form I e → IsTooLarge form I
-too_large form I e is h = subst (TextFault form I) is h

@@ -6,6 +6,7 @@ pub mod ArcItems
 pub mod KeyLaws
 pub mod InstanceItems
 pub mod FollowLaws
+pub mod FormLaws
 pub mod PrintLaws
 pub mod TextLaws
 pub mod PutLaws

@@ -35,14 +35,18 @@ line_added start first numbers whole letter ns e f g =
     g ∙ ap (λ l. l ++ 10 ∷ []) (f ∙ ap (λ l. l ++ spaced words) e ∙ append_assoc start (letter ∷ []) (spaced words) ∙ ap (λ l. start ++ l) (sym (joined_spaced (letter ∷ []) words)))
     ∙ append_assoc start (join_with_byte 32 ((letter ∷ []) ∷ words)) (10 ∷ [])
 
--- one number more of an arc, after its pair
-pub arc_more : (numbers ns : List ℤ) (i : ℕ) (u v n m : ℤ) → take (i + 2) numbers ≡ u ∷ v ∷ take i ns → i + 2 < length numbers → slice_get ns i ≡ Some n → m ≡ n
-    → take (i + 1 + 2) (slice_set numbers (i + 2) m) ≡ u ∷ v ∷ take (i + 1) ns
-arc_more numbers ns i u v n m so_far room here is =
-    let next : i + 1 + 2 ≡ i + 2 + 1 = omega arith in
-    let more : take (i + 1) ns ≡ take i ns ++ get_or ns i n ∷ [] = take_more ns i n (slice_get_within ns i n here) in
-    ap (λ k. take k (slice_set numbers (i + 2) m)) next ∙ take_more_set numbers (i + 2) m room ∙ ap (λ l. l ++ m ∷ []) so_far
-    ∙ ap (λ z. u ∷ v ∷ (take i ns ++ z ∷ [])) (is ∙ sym (get_or_from_slice_get ns i n n here)) ∙ ap (λ l. u ∷ v ∷ l) (sym more)
+-- one number more of an arc
+pub part_more : (ns : List ℤ) (i : ℕ) (n m : ℤ) → slice_get ns i ≡ Some n → m ≡ n → take (i + 1) ns ≡ take i ns ++ m ∷ []
+part_more ns i n m here is =
+    take_more ns i n (slice_get_within ns i n here) ∙ ap (λ z. take i ns ++ z ∷ []) (get_or_from_slice_get ns i n n here ∙ sym is)
+
+-- a pair, and then more numbers
+pub pair_then : (first tail head numbers : List ℕ) (u v : ℤ) (ns : List ℤ) → tail ≡ first ++ 32 ∷ signed_decimal u → head ≡ tail ++ 32 ∷ signed_decimal v
+    → numbers ≡ head ++ spaced (map signed_decimal ns) → numbers ≡ first ++ spaced (map signed_decimal (u ∷ v ∷ ns))
+pair_then first tail head numbers u v ns e f g =
+    let more = spaced (map signed_decimal ns) in
+    g ∙ ap (λ l. l ++ more) f ∙ append_assoc tail (32 ∷ signed_decimal v) more ∙ ap (λ l. l ++ ((32 ∷ signed_decimal v) ++ more)) e
+    ∙ append_assoc first (32 ∷ signed_decimal u) ((32 ∷ signed_decimal v) ++ more)
 
 -- the elements from one on
 pub drop_get : {X : Type 0} (xs : List X) (i : ℕ) (x : X) → slice_get xs i ≡ Some x → drop i xs ≡ x ∷ drop (i + 1) xs

@@ -1,10 +1,13 @@
 // Lines of a text, gathered on the stack and put into a sink many at a time.
 ghost use Rattle.std.specs.Prelude.{◌≡◌, ℕ, List, ◌+◌, ◌*◌, ◌<◌, ◌≤◌, [], ◌∷◌, ◌++◌, length, map, take, OnOk};
 ghost use Rattle.std.specs.Fmt.{signed_decimal};
+ghost use Rattle.dn_line.specs.declared.word.Keyword.TheVariants.{A};
 ghost use Rattle.dn_row.specs.Rows.{spaced, line_text};
 ghost use Rattle.dn_sink.specs.Puts.{Puts};
 ghost use Rattle.dn_canon.specs.Blocks.{HasRoom, Passes};
+ghost use Rattle.dn_canon.specs.Prints.{word_row};
 
+use dn_bundle::Parts;
 use dn_num::put_number;
 use dn_sink::{Sink, SinkFault, put_all};
 use std::marker::Model;
@@ -82,6 +85,20 @@ impl Block {
         self.used = end + 1;
     }
 
+    // Adds the line of an arc at its ordered pair.
+    pub(crate) fn arc<P: Parts>(&mut self, pair: &(i64, i64), arc: &P)
+        requires room { HasRoom self.old }
+        requires few { length (P.numbers arc.now) ≤ 3 }
+        ensures { self.new ≡ self.old ++ line_text (word_row A (pair.now.0 ∷ pair.now.1 ∷ P.numbers arc.now)) }
+    {
+        self.bytes[self.used] = b'a';
+        let tail_end = put_spaced(&mut self.bytes, self.used + 1, &pair.0);
+        let head_end = put_spaced(&mut self.bytes, tail_end, &pair.1);
+        let end = put_parts(&mut self.bytes, head_end, arc);
+        self.bytes[end] = b'\n';
+        self.used = end + 1;
+    }
+
     // Puts it into a sink, and empties it, where a line more has no room.
     #[inline(always)]
     pub(crate) fn make_room<K: Sink>(&mut self, sink: &mut K) -> Result<(), SinkFault>
@@ -124,6 +141,21 @@ fn put_numbers(bytes: &mut [u8; SIZE], at: usize, numbers: &[i64]) -> usize
     let mut end = at;
     for number in numbers {
         end = put_spaced(bytes, end, number);
+    }
+    end
+}
+
+// Puts the numbers of an arc at this place, each after a space, and answers where they end.
+#[inline(always)]
+fn put_parts<P: Parts>(bytes: &mut [u8; SIZE], at: usize, arc: &P) -> usize
+    requires { at + 21 * length (P.numbers arc.now) + 5 ≤ 8192 }
+    ensures text { take result bytes.new ≡ take at bytes.old ++ spaced (map signed_decimal (P.numbers arc.now)) }
+    ensures within { result ≤ at + 21 * length (P.numbers arc.now) }
+{
+    let mut end = at;
+    for i in 0..arc.len() {
+        let number = arc.part(i);
+        end = put_spaced(bytes, end, &number);
     }
     end
 }

@@ -5,6 +5,7 @@ ghost use Rattle.dn_instance.specs.Instances.{Instance};
 ghost use Rattle.dn_instance.specs.SourceReads.{PulledWhileClean};
 ghost use Rattle.dn_instance.specs.Texts.{Reads};
 ghost use Rattle.dn_instance.specs.Validity.{IsValid};
+ghost use Rattle.dn_canon.specs.CanonTexts.{IsCanonOf};
 ghost use Rattle.dn_canon.specs.Writes.{SinkAfter, WritesCanon, written_as};
 ghost use Rattle.dn_canon.specs.Runs.{JudgesCanon, RunOutcome, TextOutcome};
 
@@ -12,7 +13,7 @@ use crate::writer::{NodeLines, write_graph, write_points, write_queries, write_s
 use dn_bundle::Form;
 use dn_instance::{Held, Refusal, View, read_from, read_text};
 use dn_line::{Kind, Source};
-use dn_sink::{Bytes, Sink, SinkFault};
+use dn_sink::{Bytes, Matcher, Sink, SinkFault};
 use std::alloc::Global;
 
 /// Puts the canonical text of what is held, a line a put, and flushes. It takes no memory of its own.
@@ -103,29 +104,32 @@ pub fn canon_run<S: Source, K: Sink>(
 ///
 /// # Errors
 ///
-/// `Text` with the first fault of the text. `Memory` comes only at a line without fault, or, once all
-/// lines are read, for the canonical text.
+/// `Text` with the first fault of the text. `Memory` comes only at a line without fault.
 pub fn is_canon(alloc: Global, text: &[u8], form: Form) -> Result<bool, Refusal>
     ensures { JudgesCanon form text.now result }
 {
     match read_text(alloc, text) {
         Ok(held) => {
-            let judged = is_canon_of(alloc, &held, text, form);
+            let judged = is_canon_of(&held, text, form);
             drop(held);
-            judged
+            Ok(judged)
         }
         Err(refusal) => Err(refusal),
     }
 }
 
-// Whether a text is the canonical text of what is held, as which it reads.
-fn is_canon_of(alloc: Global, held: &Held, text: &[u8], form: Form) -> Result<bool, Refusal>
-    ensures { (I : Instance) → Reads text.now I → IsHeld (holding held.now) I → JudgesCanon form text.now result }
+/// Whether a text that reads as what is held is the canonical text of it in this form. The canonical text is compared
+/// as it is written, up to the first byte that differs, so this takes no memory.
+pub fn is_canon_of(held: &Held, text: &[u8], form: Form) -> bool
+    ensures { (I : Instance) → Reads text.now I → IsHeld (holding held.now) I
+        → IsTrue result ↔ IsCanonOf form text.now I }
 {
-    match canon_text(alloc, held, form) {
-        Ok(canon) => Ok(same_bytes(&canon, text)),
-        Err(Refusal::CountTooLarge) => Ok(false),
-        Err(_) => Err(Refusal::Memory),
+    let mut matcher = Matcher::new(text);
+    let written = write_canon(held, &mut matcher, form);
+    let same = matcher.is_match();
+    match written {
+        Ok(()) => same,
+        Err(_) => false,
     }
 }
 
@@ -137,11 +141,4 @@ fn written(put: Result<(), SinkFault>) -> Result<(), Refusal>
         Ok(()) => Ok(()),
         Err(_) => Err(Refusal::Write),
     }
-}
-
-// Whether these are the same bytes.
-fn same_bytes(left: &[u8], right: &[u8]) -> bool
-    ensures { IsTrue result ↔ (left.now ≡ right.now) }
-{
-    left == right
 }

@@ -95,11 +95,9 @@ pub(crate) fn arc_line<P: Parts, K: Sink>(
     ensures { Passes K.taken K.has_failed sink.old sink.new block.new
         (block.old ++ line_text (word_row A (pair.now.0 ∷ pair.now.1 ∷ P.numbers arc.now))) result }
 {
-    let mut numbers = [pair.0, pair.1, 0, 0, 0];
-    for i in 0..arc.len() {
-        numbers[i + 2] = arc.part(i);
-    }
-    row_line(block, sink, b'a', &numbers[..arc.len() + 2])
+    block.make_room(sink)?;
+    block.arc(pair, arc);
+    Ok(())
 }
 
 // A source of queries.

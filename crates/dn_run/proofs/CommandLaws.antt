@@ -22,7 +22,7 @@ use Rattle.dn_sink.specs.Puts.{HasPut, PutsFront}
 use Rattle.dn_command.specs.Commands.{Canon, Compare}
 use Rattle.dn_run.specs.Answers.{Answer, Done, Refused, Unfit, Cut, IsAnswerTo, OutAfter, unwritten}
 use Rattle.dn_run.specs.FilesRuns.{FilesRun, text_asked}
-use Rattle.dn_run.specs.Findings.{IsFound, IsUnjudged, PutsFinding, PutsForms, PutsJudged}
+use Rattle.dn_run.specs.Findings.{IsFound, PutsFinding}
 use Rattle.dn_run.specs.Outcomes.{IsRefusedAs, OnText, OnTwoTexts, RanOn}
 use Rattle.dn_run.specs.Runs.{AreForms, Never, PutsCanon, PutsChecked, PutsCompared, PutsFit, PutsShown, Unfits}
 use Rattle.dn_run.specs.Streams.{SinkRun, sink_run}
@@ -104,35 +104,22 @@ canon_refused text form b CountTooLarge h = absurd h
 
 -- ---- `check`
 
-unjudged : {T : Type 0} (text : AskedText T) (b : List ℕ) (e : Refusal) → IsUnjudged b e → IsRefusedCopy text b e
-unjudged text b (Text place code) h = h
-unjudged text b Memory h = inl h
-unjudged text b Read h = absurd h
-unjudged text b Endless h = absurd h
-unjudged text b Write h = absurd h
-unjudged text b CountTooLarge h = absurd h
-
--- of what a text reads as
-judged_on : (kind : Kind) (companion : Option Kind) (b : List ℕ) (status : ℕ) (t : List ℕ) (I : Instance) → Reads b I → kind ≡ kind_of I → PutsJudged kind companion b status t → PutsChecked companion b I status t
-judged_on kind companion b status t I reads k (z, J, reads', forms, are, e) =
-    let same : J ≡ I = some_is J I (sym reads'.instance_is ∙ reads.instance_is) in
-    (z, forms, subst (λ K. AreForms b K forms) same are, e ∙ ap (λ x. text_of (checked_rows x companion forms)) k)
-
 -- the copy is the text
 copy_at : (fault : Option FilesFault) (behind : Option (List ℕ)) (P : List ℕ → Type 0) → (fault ≡ None → IfSome behind P) → (b : List ℕ) → fault ≡ None → behind ≡ Some b → P b
 copy_at fault behind P h b none e = subst (λ o. IfSome o P) e (h none)
 
 module _ {T S : Type 0} (text : AskedText T) (out : SinkRun S) (held : Held) (kept copy : List ℕ) (s : copy ≡ kept) (h : IsRead (IsRefusedCopy text) text (Ok held)) (c : IsCopy text kept (Ok held)) where
-  pub checked : (kind : Kind) → kind ≡ contents_kind (holding held).contents → (answer : Answer) → PutsForms text.name kind None copy out answer → OnText (PutsChecked None) (λ _. Never) (IsRefusedCopy text) text out answer
-  checked kind k answer puts = on_held (PutsChecked None) (λ _. Never) (IsRefusedCopy text) (IsRefusedCopy text) text out held answer h
-      (λ e. absurd (subst (λ a. PutsForms text.name kind None copy out a) e puts).1)
-      (λ b none e I reads is. by_answer b I reads (k ∙ held_kind (holding held) I is) answer (subst (λ x. PutsForms text.name kind None x out answer) (s ∙ copy_at text.fault text.behind (λ x. kept ≡ x) c b none e) puts))
+  pub checked : (answer : Answer) → IsFound answer → ((I : Instance) → Reads copy I → IsHeld (holding held) I → PutsFinding (PutsChecked None copy I) out answer)
+      → OnText (PutsChecked None) (λ _. Never) (IsRefusedCopy text) text out answer
+  checked answer found puts = on_held (PutsChecked None) (λ _. Never) (IsRefusedCopy text) (IsRefusedCopy text) text out held answer h (λ e. absurd (subst IsFound e found))
+      (λ b none e I reads is. (let same : copy ≡ b = s ∙ copy_at text.fault text.behind (λ x. kept ≡ x) c b none e in
+      by_answer b I reads answer (subst (λ x. PutsFinding (PutsChecked None x I) out answer) same (puts I (subst (λ x. Reads x I) (sym same) reads) is))))
     where
-      by_answer : (b : List ℕ) (I : Instance) → Reads b I → kind ≡ kind_of I → (answer : Answer) → PutsForms text.name kind None b out answer → RanOn (PutsChecked None) (λ _. Never) (IsRefusedCopy text) text.name out b answer
-      by_answer b I reads k (Done status) (t, p, a) = (I, reads, t, judged_on kind None b status t I reads k p, a)
-      by_answer b I reads k (Refused of e) (n, u) = (n, unjudged text b e u)
-      by_answer b I reads k (Unfit of fault) p = absurd p
-      by_answer b I reads k Cut (status, t, p, f) = (I, reads, status, t, judged_on kind None b status t I reads k p, f)
+      by_answer : (b : List ℕ) (I : Instance) → Reads b I → (answer : Answer) → PutsFinding (PutsChecked None b I) out answer → RanOn (PutsChecked None) (λ _. Never) (IsRefusedCopy text) text.name out b answer
+      by_answer b I reads (Done status) (t, p, a) = (I, reads, t, p, a)
+      by_answer b I reads (Refused of e) p = absurd p
+      by_answer b I reads (Unfit of fault) p = absurd p
+      by_answer b I reads Cut (status, t, p, f) = (I, reads, status, t, p, f)
 
 -- ---- two texts
 
@@ -176,25 +163,27 @@ module _ {T S : Type 0} (left right : AskedText T) (out : SinkRun S) (graph : He
         (λ x none' s' J reads' is'. (J, reads', refl, sym (judged_is (holding graph) (holding companion) I J is is') ∙ u))))
 
     -- it fits
-    module _ (kept copy : List ℕ) (same : copy ≡ kept) (c : IsCopy left kept (Ok graph)) (fit : judged (holding graph) (holding companion) ≡ Ok tt) (kind kind' : Kind) (i : kind ≡ contents_kind (holding graph).contents) (i' : kind' ≡ contents_kind (holding companion).contents) where
-      pub fits : (answer : Answer) → PutsForms left.name kind (Some kind') copy out answer → OnTwoTexts PutsFit Unfits (IsRefusedCopy left) left right out answer
+    module _ (kept copy : List ℕ) (s : copy ≡ kept) (c : IsCopy left kept (Ok graph)) (fit : judged (holding graph) (holding companion) ≡ Ok tt) (with : Kind) (w : with ≡ contents_kind (holding companion).contents) where
+      pub fits : (answer : Answer) → ((I : Instance) → Reads copy I → IsHeld (holding graph) I → PutsFinding (PutsChecked (Some with) copy I) out answer)
+          → OnTwoTexts PutsFit Unfits (IsRefusedCopy left) left right out answer
       fits answer puts = on_left PutsFit Unfits (IsRefusedCopy left) left right out graph answer h
-          (λ b none e I reads is. by_answer b I reads is answer (subst (λ x. PutsForms left.name kind (Some kind') x out answer) (same ∙ copy_at left.fault left.behind (λ x. kept ≡ x) c b none e) puts))
+          (λ b none e I reads is. (let same : copy ≡ b = s ∙ copy_at left.fault left.behind (λ x. kept ≡ x) c b none e in
+          by_answer b I is answer (subst (λ x. PutsFinding (PutsChecked (Some with) x I) out answer) same (puts I (subst (λ x. Reads x I) (sym same) reads) is))))
         where
-          fit_on : (b : List ℕ) (I : Instance) → Reads b I → IsHeld (holding graph) I → (J : Instance) → IsHeld (holding companion) J → (status : ℕ) (t : List ℕ) → PutsJudged kind (Some kind') b status t → PutsFit b I J status t
-          fit_on b I reads is J is' status t p = (
+          fit_on : (b : List ℕ) (I : Instance) → IsHeld (holding graph) I → (J : Instance) → IsHeld (holding companion) J → (status : ℕ) (t : List ℕ) → PutsChecked (Some with) b I status t → PutsFit b I J status t
+          fit_on b I is J is' status t p = (
             sym (judged_is (holding graph) (holding companion) I J is is') ∙ fit,
-            subst (λ x. PutsChecked (Some x) b I status t) (i' ∙ held_kind (holding companion) J is') (judged_on kind (Some kind') b status t I reads (i ∙ held_kind (holding graph) I is) p),
+            subst (λ x. PutsChecked (Some x) b I status t) (w ∙ held_kind (holding companion) J is') p,
           )
 
-          by_answer : (b : List ℕ) (I : Instance) → Reads b I → IsHeld (holding graph) I → (answer : Answer) → PutsForms left.name kind (Some kind') b out answer
+          by_answer : (b : List ℕ) (I : Instance) → IsHeld (holding graph) I → (answer : Answer) → PutsFinding (PutsChecked (Some with) b I) out answer
               → IsRefusedAs (IsRefusedCopy left) left.name b answer ⊎ OnText (λ x J. PutsFit b I J) (Unfits I) (IsRefusedText right) right out answer
-          by_answer b I reads is (Done status) (t, p, a) = inr (on_held (λ x J. PutsFit b I J) (Unfits I) (IsRefusedText right) (IsRefusedText right) right out companion (Done status) k (done_unread status right.name)
-              (λ x none e J reads' is'. (J, reads', t, fit_on b I reads is J is' status t p, a)))
-          by_answer b I reads is (Refused of e) (n, u) = inl (e, ap (λ x. Refused x e) n, unjudged left b e u)
-          by_answer b I reads is (Unfit of fault) p = absurd p
-          by_answer b I reads is Cut (status, t, p, f) = inr (on_held (λ x J. PutsFit b I J) (Unfits I) (IsRefusedText right) (IsRefusedText right) right out companion Cut k (cut_unread right.name)
-              (λ x none e J reads' is'. (J, reads', status, t, fit_on b I reads is J is' status t p, f)))
+          by_answer b I is (Done status) (t, p, a) = inr (on_held (λ x J. PutsFit b I J) (Unfits I) (IsRefusedText right) (IsRefusedText right) right out companion (Done status) k (done_unread status right.name)
+              (λ x none e J reads' is'. (J, reads', t, fit_on b I is J is' status t p, a)))
+          by_answer b I is (Refused of e) p = absurd p
+          by_answer b I is (Unfit of fault) p = absurd p
+          by_answer b I is Cut (status, t, p, f) = inr (on_held (λ x J. PutsFit b I J) (Unfits I) (IsRefusedText right) (IsRefusedText right) right out companion Cut k (cut_unread right.name)
+              (λ x none e J reads' is'. (J, reads', status, t, fit_on b I is J is' status t p, f)))
 
 -- ---- `compare`
 

@@ -18,17 +18,6 @@ use Rattle.dn_run.specs.Answers.{Answer, Done, Refused, Cut}
 use Rattle.dn_run.specs.Runs.{AreForms}
 use Rattle.dn_run.specs.Streams.{SinkRun}
 
--- why a text is not judged: its first fault, or want of memory at a line without fault
-abbrev pub IsUnjudged : List ℕ → Refusal → Type 0
-IsUnjudged t (Text place code) = IsFirstFault t place code
-IsUnjudged t Memory = WantsMemory 0 (lines t)
-IsUnjudged t _ = ⊥
-
--- t reads as an instance, and these are the forms in which it is the canonical text of that; or why it is not judged
-abbrev pub JudgesForms : List ℕ → Result Forms Refusal → Type 0
-JudgesForms t (Ok forms) = (I : Instance) × Reads t I × AreForms t I forms
-JudgesForms t (Err refusal) = IsUnjudged t refusal
-
 -- what is found is put, with status 0 or 1, or the sink failed
 abbrev pub IsFound : Answer → Type 0
 IsFound (Done status) = status ≤ 1
@@ -41,16 +30,6 @@ PutsFinding Puts out (Done status) = (t : List ℕ) × Puts status t × Appends 
 PutsFinding Puts out Cut =
     (status : ℕ) × (t : List ℕ) × Puts status t × PutsFront out.taken out.has_failed out.old out.new t
 PutsFinding Puts out _ = ⊥
-
--- what is put of the forms in which a text is canonical
-abbrev pub PutsJudged : Kind → Option Kind → List ℕ → ℕ → List ℕ → Type 0
-PutsJudged kind companion b status t = (status ≡ 0) × (I : Instance) × Reads b I × (forms : Forms)
-    × AreForms b I forms × (t ≡ text_of (checked_rows kind companion forms))
-
--- the text of this name is judged and what is found is put, or why it is not judged
-abbrev pub PutsForms : {S : Type 0} → List ℕ → Kind → Option Kind → List ℕ → SinkRun S → Answer → Type 0
-PutsForms name kind companion b out (Refused of refusal) = (of ≡ name) × IsUnjudged b refusal
-PutsForms name kind companion b out answer = PutsFinding (PutsJudged kind companion b) out answer
 
 -- the status of a comparison: 0 where nothing differs, else 1
 abbrev pub verdict_status : Verdict → ℕ

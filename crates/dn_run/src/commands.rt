@@ -117,9 +117,9 @@ fn check<'a, F: Files, O: Sink>(
     let mut copy = Vec::new(alloc);
     match copy_named(alloc, name, files, &mut copy) {
         Ok(held) => {
-            let kind = held.kind();
+            let put = put_check(&held, None, &copy, out);
             drop(held);
-            put_check(alloc, name, kind, None, &copy, out)
+            put
         }
         Err(refusal) => Err(Stop::Refused { name, refusal }),
     }
@@ -146,17 +146,17 @@ fn check_with<'a, F: Files, O: Sink>(
         Ok(graph) => match read_named(alloc, companion, files) {
             Ok(held) => {
                 let fits = check_companion(&graph, &held);
-                let kind = graph.kind();
                 let with = held.kind();
                 drop(held);
-                drop(graph);
-                match fits {
-                    Ok(()) => put_check(alloc, name, kind, Some(with), &copy, out),
+                let put = match fits {
+                    Ok(()) => put_check(&graph, Some(with), &copy, out),
                     Err(fault) => Err(Stop::Unfit {
                         name: companion,
                         fault,
                     }),
-                }
+                };
+                drop(graph);
+                put
             }
             Err(refusal) => {
                 drop(graph);

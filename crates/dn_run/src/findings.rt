@@ -2,44 +2,42 @@
 ghost use Rattle.std.specs.Prelude.{◌≡◌, ℕ, List, Option, IsTrue, OnOk};
 ghost use Rattle.dn_instance.specs.Helds.{IsHeld, holding};
 ghost use Rattle.dn_instance.specs.Instances.{Instance};
+ghost use Rattle.dn_instance.specs.Texts.{Reads};
 ghost use Rattle.dn_instance.specs.Validity.{IsValid};
 ghost use Rattle.dn_command.specs.Commands.{Check};
 ghost use Rattle.dn_run.specs.Answers.{IsAnswerTo, OutAfter, answer_of};
-ghost use Rattle.dn_run.specs.Findings.{IsFound, JudgesForms, PutsFinding, PutsForms, verdict_status};
-ghost use Rattle.dn_run.specs.Runs.{PutsCompared};
+ghost use Rattle.dn_run.specs.Findings.{IsFound, PutsFinding, verdict_status};
+ghost use Rattle.dn_run.specs.Runs.{AreForms, PutsChecked, PutsCompared};
 ghost use Rattle.dn_run.specs.Streams.{sink_run};
 
 use crate::stop::Stop;
 use dn_bundle::Form;
-use dn_canon::is_canon;
+use dn_canon::is_canon_of;
 use dn_compare::{Verdict, compare};
-use dn_instance::{Held, Refusal};
+use dn_instance::Held;
 use dn_line::Kind;
 use dn_report::{Forms, put_checked, put_verdict};
 use dn_sink::Sink;
-use std::alloc::Global;
 
-// Puts that a text of this name and kind is accepted, which companion fits it, and the forms in which it is canonical.
+// Puts that a text that was read is accepted, which companion fits it, and the forms in which it is canonical.
 pub(crate) fn put_check<'a, O: Sink>(
-    alloc: Global,
-    name: &'a str,
-    kind: Kind,
+    held: &Held,
     companion: Option<Kind>,
     text: &[u8],
     out: &mut O,
 ) -> Result<u8, Stop<'a>>
-    ensures puts { PutsForms name.now kind companion text.now (sink_run O.taken O.has_failed out.old out.new)
+    ensures puts { (I : Instance) → Reads text.now I → IsHeld (holding held.now) I
+        → PutsFinding (PutsChecked companion text.now I) (sink_run O.taken O.has_failed out.old out.new)
         (answer_of result) }
     ensures out_after { OutAfter (sink_run O.taken O.has_failed out.old out.new) (answer_of result) }
-    ensures answers { (with : Option (List ℕ)) → IsAnswerTo (Check name.now with) (answer_of result) }
+    ensures answers { (name : List ℕ) (with : Option (List ℕ)) → IsAnswerTo (Check name with) (answer_of result) }
+    ensures found { IsFound (answer_of result) }
     ensures flushed { OnOk result (IsTrue (O.is_flushed out.new)) }
 {
-    match forms_of(alloc, text) {
-        Ok(forms) => match put_checked(out, kind, companion, forms) {
-            Ok(()) => Ok(0),
-            Err(_) => Err(Stop::Cut),
-        },
-        Err(refusal) => Err(Stop::Refused { name, refusal }),
+    let forms = forms_of(held, text);
+    match put_checked(out, held.kind(), companion, forms) {
+        Ok(()) => Ok(0),
+        Err(_) => Err(Stop::Cut),
     }
 }
 
@@ -72,11 +70,14 @@ fn verdict_status(verdict: &Verdict) -> u8
     }
 }
 
-// The forms in which a text is the canonical text of what it reads as.
-fn forms_of(alloc: Global, text: &[u8]) -> Result<Forms, Refusal>
-    ensures { JudgesForms text.now result }
+// The forms in which a text that reads as what is held is the canonical text of it. Only those of `min` differ.
+fn forms_of(held: &Held, text: &[u8]) -> Forms
+    ensures { (I : Instance) → Reads text.now I → IsHeld (holding held.now) I → AreForms text.now I result }
 {
-    let one = is_canon(alloc, text, Form::One)?;
-    let two = is_canon(alloc, text, Form::Two)?;
-    Ok(Forms { one, two })
+    let one = is_canon_of(held, text, Form::One);
+    let two = match held.kind() {
+        Kind::Min => is_canon_of(held, text, Form::Two),
+        Kind::Max | Kind::Sp | Kind::Ss | Kind::P2p | Kind::Co => one,
+    };
+    Forms { one, two }
 }

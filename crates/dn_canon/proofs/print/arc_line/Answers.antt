@@ -1,15 +1,5 @@
-use Rattle.std.proofs.Common.{rules, arith, w64}
-use Rattle.std.specs.Int.RustNames.{FitsSigned}
-use Rattle.std.proofs.lemmas.Int.{to_z-of_z}
-use Rattle.dn_canon.proofs.LineLaws.{arc_more}
+use Rattle.dn_canon.proofs.BlockLaws.{front_more, pass_stopped}
 use Rattle.dn_canon.proofs.print.arc_line.Goals as goal
 
-pub loop-i-preserved : goal.loop-i-preserved
-loop-i-preserved g c =
-    let fits : FitsSigned w64 c.part.result = search rules in
-    record {
-      numbers =
-          arc_more c.loop-i.numbers (g.P.Parts.numbers c.args.arc.now) c.loop-i.i c.args.pair.now.0 c.args.pair.now.1 c.part.result _ c.loop-i.invariant.numbers (omega arith) c.part.ensures
-          (to_z-of_z w64 c.part.result fits);
-      long = search rules;
-    }
+pub returns-in_err-make_room : goal.returns-in_err-make_room
+returns-in_err-make_room g c = pass_stopped c.make_room.new.self c.from_residual.result c.from_residual.ensures.0 (front_more _ c.in_err-make_room.ensures.put)
