@@ -4,7 +4,7 @@ use Rattle.dn_line.specs.declared.kind.Kind.TheVariants as Kinds
 use Rattle.dn_bundle.specs.declared.arc.Form.{Form}
 use Rattle.dn_instance.specs.Instances.{Instance, MinCostFlow, MaxFlow, ShortestPaths, Sources, Queries, Coordinates, kind_of}
 use Rattle.dn_instance.specs.Sameness.{IsSame}
-use Rattle.dn_canon.specs.CanonInstances.{IsCanonInstance, IsCanonInstanceOf}
+use Rattle.dn_canon.specs.CanonInstances.{IsCanonInstance}
 use Rattle.dn_canon.specs.CanonTexts.{IsCanonOf}
 
 canonical_in : (form form' : Form) (J : Instance) → kind_of J ≢ Kinds.Min → IsCanonInstance form J → IsCanonInstance form' J

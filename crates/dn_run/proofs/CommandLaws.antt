@@ -1,10 +1,10 @@
 -- What each command comes to.
-use Rattle.std.proofs.Common.{◌≡◌, ◌≢◌, ◌⊎◌, codes, ℕ, List, [], Bool, Option, Some, None, Result, Ok, Err, IfSome, refl, sym, ap, ◌∙◌, subst, inl, inr}
+use Rattle.std.proofs.Common.{◌≡◌, ◌≢◌, ◌⊎◌, codes, ℕ, List, [], Bool, Option, Some, None, Result, Ok, Err, IfSome, refl, sym, ◌∙◌, subst, inr}
 use Rattle.dn_line.specs.declared.kind.Kind.{Kind}
 use Rattle.dn_bundle.specs.declared.arc.Form.{Form}
 use Rattle.dn_instance.specs.Companions.{judged}
 use Rattle.dn_instance.specs.Helds.{IsHeld, contents_kind, holding}
-use Rattle.dn_instance.specs.Instances.{Instance, kind_of}
+use Rattle.dn_instance.specs.Instances.{Instance}
 use Rattle.dn_instance.specs.Texts.{Reads}
 use Rattle.dn_instance.specs.Validity.{IsValid}
 use Rattle.dn_instance.specs.declared.companion.CompanionFault.{CompanionFault}
@@ -12,19 +12,17 @@ use Rattle.dn_instance.specs.declared.held.Held.{Held}
 use Rattle.dn_instance.specs.declared.refusal.Refusal.{Refusal}
 use Rattle.dn_instance.specs.declared.refusal.Refusal.TheVariants.{Text, Memory, Read, Endless, Write, CountTooLarge}
 use Rattle.dn_instance.proofs.HeldLaws.{held_kind}
-use Rattle.dn_instance.proofs.ValidLaws.{reads_valid, some_is}
+use Rattle.dn_instance.proofs.ValidLaws.{reads_valid}
 use Rattle.dn_canon.specs.Prints.{print}
 use Rattle.dn_canon.specs.Writes.{SinkAfter, WritesCanon}
-use Rattle.dn_report.specs.Checks.{checked_rows}
 use Rattle.dn_report.specs.Shows.{IsShown}
-use Rattle.dn_row.specs.Rows.{text_of}
 use Rattle.dn_sink.specs.Puts.{HasPut, PutsFront}
 use Rattle.dn_command.specs.Commands.{Canon, Compare}
 use Rattle.dn_run.specs.Answers.{Answer, Done, Refused, Unfit, Cut, IsAnswerTo, OutAfter, unwritten}
 use Rattle.dn_run.specs.FilesRuns.{FilesRun, text_asked}
 use Rattle.dn_run.specs.Findings.{IsFound, PutsFinding}
 use Rattle.dn_run.specs.Outcomes.{IsRefusedAs, OnText, OnTwoTexts, RanOn}
-use Rattle.dn_run.specs.Runs.{AreForms, Never, PutsCanon, PutsChecked, PutsCompared, PutsFit, PutsShown, Unfits}
+use Rattle.dn_run.specs.Runs.{Never, PutsCanon, PutsChecked, PutsCompared, PutsFit, PutsShown, Unfits}
 use Rattle.dn_run.specs.Streams.{SinkRun, sink_run}
 use Rattle.dn_run.specs.Takings.{KeepsOthers}
 use Rattle.dn_run.specs.Texts.{AskedText, IsCopy, IsRead, IsRefusedCanon, IsRefusedCopy, IsRefusedText, unopened}

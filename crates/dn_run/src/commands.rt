@@ -148,15 +148,20 @@ fn check_with<'a, F: Files, O: Sink>(
                 let fits = check_companion(&graph, &held);
                 let with = held.kind();
                 drop(held);
-                let put = match fits {
-                    Ok(()) => put_check(&graph, Some(with), &copy, out),
-                    Err(fault) => Err(Stop::Unfit {
-                        name: companion,
-                        fault,
-                    }),
-                };
-                drop(graph);
-                put
+                match fits {
+                    Ok(()) => {
+                        let put = put_check(&graph, Some(with), &copy, out);
+                        drop(graph);
+                        put
+                    }
+                    Err(fault) => {
+                        drop(graph);
+                        Err(Stop::Unfit {
+                            name: companion,
+                            fault,
+                        })
+                    }
+                }
             }
             Err(refusal) => {
                 drop(graph);

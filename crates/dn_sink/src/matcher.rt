@@ -25,9 +25,9 @@ impl<'a> Model for Matcher<'a> {
     ghost Value = { Matched };
 
     ghost view = { λ m. record {
-        text = m.text.now;
-        put = put_by m.text.now m.matched m.other;
-        failed = is_some m.other;
+      text = m.text.now;
+      put = put_by m.text.now m.matched m.other;
+      failed = is_some m.other;
     } };
 
     ghost invariant = { λ m. AreMatched m.text.now m.matched m.other };

@@ -1,4 +1,4 @@
-use Rattle.std.proofs.Common.{arith, rules, w64, sym}
+use Rattle.std.proofs.Common.{arith, rules, w64}
 use Rattle.std.specs.Int.RustNames.{FitsSigned}
 use Rattle.std.proofs.lemmas.Int.{to_z-of_z}
 use Rattle.dn_canon.proofs.LineLaws.{number_more, part_more}

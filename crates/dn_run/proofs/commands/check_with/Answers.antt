@@ -14,8 +14,8 @@ returns-in-Ok-fits-clause-performs g c = record {
   means = fits _ _ _ c.in-Ok.graph c.in-Ok.ensures.read c.in-Ok-read_named.held
       (before_first (files_run g.F.Files.behind g.F.Files.fault g.F.Files.Asks g.F.Files.Hands g.F.Text.Source.gives g.F.Text.Source.has_failed g.F.Text.Source.Pulls c.args.files.now c.read_named.new.files) c.copy_named.new.files c.args.name.now c.args.companion.now c.in-Ok.ensures.asks.keeps c.requires
       (Ok c.in-Ok-read_named.held) c.in-Ok-read_named.ensures.read)
-      c.copy_named.new.copy.items c.deref.result.now c.deref.ensures.value c.in-Ok.ensures.copy (sym c.in-Ok-fits.ensures) c.kind-kind.result c.kind-with.result
-      c.kind-kind.ensures c.kind-with.ensures _ c.put_check.ensures.puts;
+      c.copy_named.new.copy.items c.deref.result.now c.deref.ensures.value c.in-Ok.ensures.copy (sym c.in-Ok-fits.ensures) c.kind-with.result c.kind-with.ensures
+      _ c.put_check-put.ensures.puts;
 }
 
 pub returns-in-Ok-clause-performs : goal.returns-in-Ok-clause-performs
@@ -48,4 +48,4 @@ returns-in-Ok-read_named-clause-performs g c = record {
 }
 
 pub returns-in-Ok-fits-clause-answers : goal.returns-in-Ok-fits-clause-answers
-returns-in-Ok-fits-clause-answers g c = c.put_check.ensures.answers _
+returns-in-Ok-fits-clause-answers g c = c.put_check-put.ensures.answers _ _

@@ -1,17 +1,25 @@
-use Rattle.std.proofs.Common.{◌≡◌, ◌↔◌, true, sym, ◌∙◌, subst}
-use Rattle.dn_bundle.specs.declared.arc.Form.TheVariants.{Two}
-use Rattle.dn_canon.specs.CanonTexts.{IsCanonOf}
-use Rattle.dn_instance.proofs.ValidLaws.{some_is}
+use Rattle.std.proofs.Common.{◌≡◌, ◌≢◌, ◌⊎◌, inl, inr, ◌∙◌}
+use Rattle.dn_line.specs.declared.kind.Kind.{Kind}
+use Rattle.dn_line.specs.declared.kind.Kind.TheVariants as Kinds
+use Rattle.dn_bundle.specs.declared.arc.Form.TheVariants.{One, Two}
+use Rattle.dn_instance.specs.Helds.{holding}
+use Rattle.dn_instance.specs.Instances.{kind_of}
+use Rattle.dn_instance.proofs.HeldLaws.{held_kind}
+use Rattle.dn_canon.proofs.FormLaws.{canon_in}
 use Rattle.dn_run.proofs.findings.forms_of.Goals as goal
 
-pub returns : goal.returns
-returns c =
-    let one = c.in_ok-one.ensures in
-    let two = c.in_ok-two.ensures in (
-      one.0,
-      one.1,
-      record {
-        one = one.2;
-        two = subst (λ I. (c.in_ok-two.two ≡ true) ↔ IsCanonOf Two c.args.text.now I) (some_is two.0 one.0 (sym two.1.instance_is ∙ one.1.instance_is)) two.2;
-      },
-    )
+not_min : (k : Kind) → (k ≡ Kinds.Max) ⊎ (k ≡ Kinds.Sp) ⊎ (k ≡ Kinds.Ss) ⊎ (k ≡ Kinds.P2p) ⊎ (k ≡ Kinds.Co) → k ≢ Kinds.Min
+not_min k (inl e) min = cc
+not_min k (inr (inl e)) min = cc
+not_min k (inr (inr (inl e))) min = cc
+not_min k (inr (inr (inr (inl e)))) min = cc
+not_min k (inr (inr (inr (inr e)))) min = cc
+
+pub returns-in-Max : goal.returns-in-Max
+returns-in-Max c I reads is =
+    let other : kind_of I ≢ Kinds.Min = λ min. not_min c.kind.result c.in-Max.is (c.kind.ensures ∙ held_kind (holding c.args.held.now) I is ∙ min) in
+    let one = c.is_canon_of-one.ensures I reads is in
+    record {
+      one = one;
+      two = (λ y. canon_in One Two c.args.text.now I other (one.0 y), λ h. one.1 (canon_in Two One c.args.text.now I other h));
+    }
