@@ -1,9 +1,9 @@
 // Canonical texts in sinks of different makes.
 
 use crate::stand_ins::{LateWriter, NoFlush};
-use crate::texts::{ROADS, ROADS_CANON};
+use crate::texts::{COSTS, COSTS_ONE, ROADS, ROADS_CANON};
 use dn_bundle::Form;
-use dn_canon::write_canon;
+use dn_canon::{is_canon_of, write_canon};
 use dn_instance::{Refusal, read_text};
 use dn_sink::ToWrite;
 use std::alloc::Global;
@@ -38,4 +38,29 @@ fn written(alloc: Global) -> Result<[Result<(), Refusal>; 2], Refusal> {
 #[test]
 fn writers(rt: HostRuntime) {
     assert!(rt; written(rt.alloc()) == Ok([Ok(()), Err(Refusal::Write)]));
+}
+
+// Texts of one problem: one that is not canonical, the canonical one, it without its last LF and with a comment more.
+const TEXTS: [&str; 4] = [
+    ROADS,
+    ROADS_CANON,
+    "p sp 3 5\na 1 2 3\na 2 1 4\na 2 2 0\na 2 3 9\na 3 1 -5",
+    "p sp 3 5\na 1 2 3\na 2 1 4\na 2 2 0\na 2 3 9\na 3 1 -5\nc\n",
+];
+
+// What is answered of them, and of the canonical text in form 1 of a `min` problem, in each form.
+fn judged(alloc: Global) -> Result<([bool; 4], [bool; 2]), Refusal> {
+    let roads = read_text(alloc, ROADS.as_bytes())?;
+    let texts = TEXTS.map(|it| is_canon_of(&roads, it.as_bytes(), Form::One));
+    drop(roads);
+    let costs = read_text(alloc, COSTS.as_bytes())?;
+    let forms = [Form::One, Form::Two].map(|form| is_canon_of(&costs, COSTS_ONE.as_bytes(), form));
+    drop(costs);
+    Ok((texts, forms))
+}
+
+#[test]
+fn judging(rt: HostRuntime) {
+    let right = ([false, true, false, false], [true, false]);
+    assert!(rt; judged(rt.alloc()) == Ok(right));
 }
