@@ -4,7 +4,7 @@ use Rattle.std.specs.List.{AllByRecursion, list_any}
 use Rattle.std.specs.Option.{option_map}
 use Rattle.std.proofs.Math.Seq.{take-append_seam}
 use Rattle.dn_line.specs.ArcBlocks.{ReadUpTo, last_left}
-use Rattle.dn_line.specs.ArcLines.{BeginsWithArc, arc_of}
+use Rattle.dn_line.specs.ArcLines.{arc_of}
 use Rattle.dn_line.specs.Faults.{first_fault}
 use Rattle.dn_line.specs.LineTable.{kind_named}
 use Rattle.dn_line.specs.Reading.{fields_read, head_of, head_read}
@@ -24,11 +24,11 @@ use Rattle.dn_instance.specs.Progresses.{HasRoom}
 use Rattle.dn_line.specs.declared.code.Code.TheVariants.{LateNode, TooManyLines}
 use Rattle.dn_instance.specs.TextFaults.{is_arc, is_companion, is_counted_letter, is_full, is_node_letter, item_tests, order_tests}
 use Rattle.dn_instance.specs.Texts.{IsClean, items_of}
-use Rattle.dn_instance.specs.TextsSoFar.{AreInner, closed_lines, fault_next, next_read}
+use Rattle.dn_instance.specs.TextsSoFar.{AreInner, closed_lines, next_read}
 use Rattle.dn_instance.proofs.ArcRunLaws.{one_counted, problem_all}
 use Rattle.dn_instance.proofs.CleanItems.{items_push}
 use Rattle.dn_instance.proofs.FirstFaults.{fault_after}
-use Rattle.dn_instance.proofs.FollowLaws.{Follows, follows_as, same_fault, adds_it}
+use Rattle.dn_instance.proofs.FollowLaws.{follows_as, same_fault, adds_it}
 use Rattle.dn_instance.proofs.LineSteps.{clean_more, fault_is_next, in_time}
 use Rattle.dn_instance.proofs.NextLaws.{head_skips, head_told, then_fields}
 

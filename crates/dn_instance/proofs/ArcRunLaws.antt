@@ -1,5 +1,5 @@
 -- Arcs that are taken one after the other.
-use Rattle.std.proofs.Common.{◌≡◌, ◌<◌, ◌≤◌, ◌+◌, ◌-◌, ◌^◌, ◌+ℤ◌, ◌-ℤ◌, negsuc, FitsSigned, w64, ℕ, zero, suc, ℤ, pos, ◌≤ℤ◌, ◌<ℤ◌, List, [], ◌∷◌, ◌++◌, length, take, get_or, map, filter, Bool, true, false, cond, not, ◌||◌, int_lt, Option, Some, None, Result, Ok, Err, OnOk, refl, sym, subst, ap, ◌∙◌, arith, append-nil, append_assoc, length-append}
+use Rattle.std.proofs.Common.{◌≡◌, ◌<◌, ◌≤◌, ◌+◌, ◌-◌, ◌^◌, ◌+ℤ◌, ◌-ℤ◌, negsuc, FitsSigned, w64, ℕ, zero, suc, ℤ, pos, ◌≤ℤ◌, ◌<ℤ◌, List, [], ◌∷◌, ◌++◌, length, take, get_or, filter, true, false, cond, not, ◌||◌, int_lt, Option, Some, None, Result, Ok, Err, OnOk, refl, sym, subst, ap, ◌∙◌, arith, append-nil, append_assoc, length-append}
 use Rattle.std.specs.List.{AllByRecursion, list_any}
 use Rattle.std.specs.Option.{option_or}
 use Rattle.std.specs.Result.{is_err}
@@ -23,7 +23,7 @@ use Rattle.dn_instance.specs.ArcRuns.{AreFaultless, AreInTime, Joins, arc_items}
 use Rattle.dn_instance.specs.Drafts.{DraftHolds, HasSigns, draft_kind}
 use Rattle.dn_instance.specs.ItemFaults.{AnswersFault}
 use Rattle.dn_instance.specs.Items.{Problem, counted, is_counted, problem_in, problem_of}
-use Rattle.dn_instance.specs.Progresses.{HasRoom, ProgressAt}
+use Rattle.dn_instance.specs.Progresses.{ProgressAt}
 use Rattle.dn_instance.specs.TextFaults.{is_arc, is_companion, is_full, item_tests}
 use Rattle.dn_instance.specs.declared.draft.Draft.{Draft}
 use Rattle.dn_instance.specs.declared.progress.Progress.{Progress}

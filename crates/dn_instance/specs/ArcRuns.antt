@@ -1,5 +1,5 @@
 -- Arcs that are taken one after the other.
-use Rattle.std.specs.Prelude.{◌≡◌, ℤ, List, [], ◌∷◌, ◌++◌, map, None, Some}
+use Rattle.std.specs.Prelude.{◌≡◌, List, [], ◌∷◌, ◌++◌, map, None, Some}
 use Rattle.dn_line.specs.ArcLines.{arc_of}
 use Rattle.dn_line.specs.Faults.{first_fault}
 use Rattle.dn_line.specs.declared.arc_block.ArcLine.{ArcLine}

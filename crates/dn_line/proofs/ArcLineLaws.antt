@@ -1,5 +1,5 @@
 -- Lines whose words are a letter and numbers, with one blank between them.
-use Rattle.std.proofs.Common.{◌≡◌, ℕ, ◌<◌, ℤ, pos, ◌≤ℤ◌, List, [], ◌∷◌, ◌++◌, Bool, true, false, not, ◌&&◌, cond, append-nil, refl, ap, sym, ◌∙◌, subst, arith, length, drop, get_or, append_assoc, map, filter, Some, Ok}
+use Rattle.std.proofs.Common.{◌≡◌, ℕ, ℤ, pos, ◌≤ℤ◌, List, [], ◌∷◌, ◌++◌, Bool, true, false, not, ◌&&◌, cond, append-nil, refl, ap, sym, ◌∙◌, append_assoc, map, filter, Some, Ok}
 use Rattle.std.specs.List.{list_all}
 use Rattle.dn_num.specs.Number.{number_read}
 use Rattle.dn_line.specs.Pieces.{parts, onto, has_bytes}

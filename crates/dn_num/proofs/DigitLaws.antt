@@ -1,5 +1,5 @@
 -- Digits and the decimals that they make.
-use Rattle.std.proofs.Common.{◌≡◌, ℕ, ◌+◌, ◌-◌, ◌*◌, ◌/◌, ◌%◌, ◌^◌, ◌<◌, ◌≤◌, ◌&&◌, List, [], ◌∷◌, ◌++◌, zero, suc, refl, ap, sym, ◌∙◌, arith, length, map, take, drop, get_or, subst, cond, nat_eq, nat_le, Bool, true, false, zero-mul, zero-add, mul_assoc, pow-add, mul-add, add_assoc, length-append}
+use Rattle.std.proofs.Common.{◌≡◌, ℕ, ◌+◌, ◌-◌, ◌*◌, ◌/◌, ◌%◌, ◌^◌, ◌<◌, ◌≤◌, ◌&&◌, List, [], ◌∷◌, ◌++◌, zero, suc, refl, ap, sym, ◌∙◌, arith, length, take, drop, get_or, cond, nat_eq, Bool, true, false, zero-mul, zero-add, pow-add, length-append}
 use Rattle.std.proofs.lemmas.Bool.Decides.{nat_tests}
 use Rattle.std.proofs.lemmas.Nat.{shr-shr}
 use Rattle.std.proofs.lemmas.List.{length-map, length-drop}
@@ -10,7 +10,7 @@ use Rattle.std.specs.Simd.Lanes.{Each1, number_l}
 use Rattle.dn_num.specs.Digits.{eight_digits, zeros_before, codes_of}
 use Rattle.dn_num.specs.Lanes.{places}
 use Rattle.dn_num.specs.Number.{is_digit, is_digits, digits_number, begins_with_zero}
-use Rattle.dn_num.proofs.LaneLaws.{low, high}
+use Rattle.dn_num.proofs.LaneLaws.{high}
 use Rattle.dn_num.proofs.ShortestLaws.{numerals, digits_are}
 
 -- a word without its first lanes

@@ -1,5 +1,5 @@
 -- Words of digits, by halves.
-use Rattle.std.proofs.Common.{◌≡◌, ℕ, ◌+◌, ◌-◌, ◌*◌, ◌/◌, ◌%◌, ◌^◌, ◌<◌, ◌≤◌, List, [], ◌∷◌, ◌++◌, zero, suc, refl, ap, sym, ◌∙◌, arith, length, map, bit_and, lit<}
+use Rattle.std.proofs.Common.{◌≡◌, ℕ, ◌+◌, ◌-◌, ◌*◌, ◌/◌, ◌%◌, ◌^◌, ◌<◌, List, [], ◌∷◌, ap, ◌∙◌, arith, bit_and, lit<}
 use Rattle.std.specs.Simd.Lanes.{Each1, number_l}
 use Rattle.dn_num.proofs.LaneLaws.{and_lanes, masks, low, number_pair, number_four}
 

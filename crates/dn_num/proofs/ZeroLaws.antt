@@ -1,5 +1,5 @@
 -- Zeros at the low end of a word.
-use Rattle.std.proofs.Common.{◌≡◌, ℕ, ◌+◌, ◌-◌, ◌*◌, ◌/◌, ◌%◌, ◌^◌, ◌<◌, ◌≤◌, List, [], ◌∷◌, zero, suc, refl, ap, sym, ◌∙◌, arith, length, subst, pow-suc, cond, nat_eq, false}
+use Rattle.std.proofs.Common.{◌≡◌, ℕ, ◌+◌, ◌*◌, ◌/◌, ◌%◌, ◌^◌, ◌<◌, List, [], ◌∷◌, zero, suc, refl, ap, sym, ◌∙◌, arith, length, subst, pow-suc, cond, nat_eq, false}
 use lib.Count.{count_trailing_zeros, under}
 use Rattle.std.proofs.lemmas.Bool.Decides.{nat_tests}
 use Rattle.std.specs.Simd.Lanes.{Each1, number_l}

@@ -1,5 +1,5 @@
 -- Digits of a number as text.
-use Rattle.std.specs.Prelude.{◌≡◌, ℕ, ◌+◌, ◌*◌, ◌/◌, ◌%◌, List, [], ◌∷◌, ◌++◌, cond, nat_eq, map}
+use Rattle.std.specs.Prelude.{ℕ, ◌+◌, ◌/◌, ◌%◌, List, [], ◌∷◌, ◌++◌, cond, nat_eq, map}
 
 -- the two digits of a number below 100
 abbrev pub two_digits : ℕ → List ℕ

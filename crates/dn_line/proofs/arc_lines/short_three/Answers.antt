@@ -1,4 +1,4 @@
-use Rattle.std.proofs.Common.{◌≡◌, ℤ, List, ℕ, arith, to_z, of_z, w64}
+use Rattle.std.proofs.Common.{◌≡◌, arith, to_z, of_z, w64}
 use Rattle.std.proofs.lemmas.Int.{ints}
 use Rattle.dn_line.proofs.ArcLineLaws.{last_number, more_numbers, number_gap}
 use Rattle.dn_line.proofs.arc_lines.short_three.Goals as goal

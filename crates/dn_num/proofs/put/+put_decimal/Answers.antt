@@ -1,4 +1,4 @@
-use Rattle.std.proofs.Common.{rules, arith, ◌≡◌, ◌≤◌, ◌++◌, ◌/◌, ◌%◌, length, take, ap, sym, ◌∙◌, append_assoc, length-append}
+use Rattle.std.proofs.Common.{arith, ◌≤◌, ◌++◌, ◌/◌, ◌%◌, length, take, ap, sym, ◌∙◌, append_assoc, length-append}
 use Rattle.std.proofs.lemmas.Fmt.{length-decimal-le}
 use Rattle.std.specs.Fmt.{decimal}
 use Rattle.dn_num.specs.Digits.{codes_of, eight_digits}

@@ -1,4 +1,4 @@
-use Rattle.std.proofs.Common.{◌≡◌, List, sym, ap, ◌∙◌, subst, take}
+use Rattle.std.proofs.Common.{List, sym, ap, ◌∙◌, subst, take}
 use Rattle.std.specs.List.{AllByRecursion}
 use Rattle.dn_line.specs.declared.arc_block.ArcLine.{ArcLine}
 use Rattle.dn_line.specs.declared.kind.Letter.TheVariants.{S, T}

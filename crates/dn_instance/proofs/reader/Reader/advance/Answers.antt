@@ -1,4 +1,4 @@
-use Rattle.std.proofs.Common.{◌≡◌, ◌++◌, ◌≤◌, ℕ, List, length, take, Result, Ok, Err, IfOk, append-nil, arith, sym, ap, ◌∙◌, subst}
+use Rattle.std.proofs.Common.{◌≡◌, ◌++◌, ℕ, List, take, Result, Ok, Err, IfOk, append-nil, arith, sym, ap, ◌∙◌, subst}
 use Rattle.dn_line.specs.LineStates.{used_of}
 use Rattle.dn_instance.specs.ReaderStates.{Advances, IsReading, Steps}
 use Rattle.dn_instance.specs.declared.reader.Reader.{Reader}

@@ -1,12 +1,12 @@
-use Rattle.std.proofs.Common.{◌≡◌, append-nil, [], Some, ℕ, ◌+◌, ◌≤◌, List, ◌++◌, length, take, drop, sym, ◌∙◌, subst, ap, arith, rules}
-use Rattle.std.proofs.lemmas.List.{take_all, drop-drop}
+use Rattle.std.proofs.Common.{◌≡◌, append-nil, [], Some, ℕ, ◌≤◌, List, ◌++◌, length, take, sym, ◌∙◌, subst, arith}
+use Rattle.std.proofs.lemmas.List.{take_all}
 use Rattle.dn_line.specs.LineStates.{used_of}
 use Rattle.dn_instance.specs.Readers.{IsRefused, ended, lines_taken}
 use Rattle.dn_instance.specs.ReaderStates.{StopsIn, IsReading}
 use Rattle.dn_instance.specs.Texts.{IsClean}
 use Rattle.dn_instance.specs.declared.refusal.Refusal.{Refusal}
 use Rattle.dn_instance.specs.declared.refusal.Refusal.TheVariants.{Memory}
-use Rattle.dn_instance.proofs.PieceSteps.{ended_more, rest_of, rest_is, rest_len, step_on}
+use Rattle.dn_instance.proofs.PieceSteps.{ended_more, rest_of, rest_len, step_on}
 use Rattle.dn_instance.proofs.ReaderLaws.{still_refused, stops_on, refused_on, refused, refuses, more_from, more_count}
 use Rattle.dn_instance.proofs.reader.Reader.feed.Goals as goal
 

@@ -1,9 +1,8 @@
-use Rattle.std.proofs.Common.{◌≡◌, ◌<◌, ◌≤◌, ◌+◌, ◌-◌, ◌^◌, List, false, length, take, refl, sym, ap, ◌∙◌, subst, arith}
+use Rattle.std.proofs.Common.{◌≡◌, ◌<◌, ◌+◌, ◌-◌, ◌^◌, List, false, length, take, refl, sym, ap, ◌∙◌, subst, arith}
 use Rattle.std.proofs.lemmas.List.{length-take-le}
-use Rattle.dn_line.specs.ArcBlocks.{BeginWithArcs, ReadUpTo, last_left}
+use Rattle.dn_line.specs.ArcBlocks.{BeginWithArcs, ReadUpTo}
 use Rattle.dn_line.specs.declared.arc_block.ArcLine.{ArcLine}
 use Rattle.dn_instance.specs.Drafts.{draft_kind}
-use Rattle.dn_instance.specs.Items.{Problem}
 use Rattle.dn_instance.specs.Progresses.{ProgressAt}
 use Rattle.dn_instance.specs.TextFaults.{is_companion}
 use Rattle.dn_instance.specs.Texts.{items_of}
