@@ -86,6 +86,7 @@ impl Block {
     }
 
     // Adds the line of an arc at its ordered pair.
+    #[inline(always)]
     pub(crate) fn arc<P: Parts>(&mut self, pair: &(i64, i64), arc: &P)
         requires room { HasRoom self.old }
         requires few { length (P.numbers arc.now) ≤ 3 }
