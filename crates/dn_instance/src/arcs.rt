@@ -74,8 +74,8 @@ pub(crate) trait LineBundle: Bundle {
         nodes: &i64,
         arc: &PlainArc,
     ) -> Result<(), ItemFault>
-        ensures answer { HasSigns (arc_of text arc.now) → (before : List Line) (p : Problem) → problem_of before ≡ Some p
-            → p.kind ≡ text → p.nodes ≡ nodes.now → holds table.old before
+        ensures answer { HasSigns (arc_of text arc.now) → (before : List Line) (p : Problem)
+            → problem_of before ≡ Some p → p.kind ≡ text → p.nodes ≡ nodes.now → holds table.old before
             → AnswersFault result (first_fault (item_tests before (Some (arc_of text arc.now)))) }
         ensures stands { HasSigns (arc_of text arc.now) → (before : List Line) → holds table.old before
             → OnOk result (holds table.new (before ++ arc_of text arc.now ∷ [])) }

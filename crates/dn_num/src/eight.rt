@@ -35,7 +35,8 @@ fn pairs(word: u64) -> u64
 fn digits(word: u64) -> u64
     ensures { (a b c d : ℕ) → Each1 (λ x. x < 100) (a ∷ b ∷ c ∷ d ∷ [])
         → word ≡ number_l 65536 (a ∷ b ∷ c ∷ d ∷ [])
-        → result ≡ number_l 256 ((a / 10) ∷ (a % 10) ∷ (b / 10) ∷ (b % 10) ∷ (c / 10) ∷ (c % 10) ∷ (d / 10) ∷ (d % 10) ∷ []) }
+        → result ≡ number_l 256 ((a / 10) ∷ (a % 10) ∷ (b / 10) ∷ (b % 10)
+        ∷ (c / 10) ∷ (c % 10) ∷ (d / 10) ∷ (d % 10) ∷ []) }
 {
     let high = (word.wrapping_mul(103) >> 10) & 0x000F_000F_000F_000F;
     (word << 8).wrapping_sub(high.wrapping_mul(DIGITS))

@@ -77,8 +77,8 @@ fn put_signed(bytes: &mut [u8], at: usize, number: &i64) -> usize
     }
 }
 
-/// Puts the shortest text of a number at this place, and answers where it ends. Bytes after it may change: up to 25 from
-/// its place on.
+/// Puts the shortest text of a number at this place, and answers where it ends. Bytes after it may change: up to 25
+/// from its place on.
 #[inline(always)]
 pub fn put_number(bytes: &mut [u8], at: usize, number: &i64) -> usize
     requires { at + 25 ≤ length bytes.old }

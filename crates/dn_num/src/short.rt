@@ -44,7 +44,8 @@ fn word_of(bytes: &[u8], at: usize, n: usize) -> u64
     word_at(bytes, at) << (64 - 8 * n)
 }
 
-/// The number of one to eight digits at this place, where a byte follows them that is none.
+/// The number that the digits at this place spell, of the first eight where there are more. None where there is no
+/// digit.
 #[inline(always)]
 pub fn short_number(bytes: &[u8], at: usize) -> Option<Short>
     requires { at + 8 ≤ length bytes.now }

@@ -1,8 +1,8 @@
 //! Where the bytes of a text go. A `sink` takes bytes from the front of a piece, and tells what it has taken, whether
 //! it has failed, and whether it has handed on all that it took; `put_all` puts a whole piece.
 //!
-//! `bytes` keeps them in memory, `room` fills a slice, `matcher` compares them with a text, and `to_write` hands them to
-//! a writer.
+//! `bytes` keeps them in memory, `room` fills a slice, `matcher` compares them with a text, and `to_write` hands them
+//! to a writer.
 #![tactic(auto)]
 
 pub mod bytes;

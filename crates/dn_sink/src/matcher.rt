@@ -66,7 +66,8 @@ impl<'a> Sink for Matcher<'a> {
 
     // Takes the bytes with which the text goes on, and one after them; once it has failed, it takes nothing.
     fn put(&mut self, piece: &[u8]) -> Result<usize, SinkFault>
-        ensures ok { IfOk result (λ n. Took (Some (taken_of self.old)) (Some (taken_of self.new)) self.new.failed piece.now n) }
+        ensures ok { IfOk result
+            (λ n. Took (Some (taken_of self.old)) (Some (taken_of self.new)) self.new.failed piece.now n) }
         ensures err { OnErr result (Refused (Some (taken_of self.old)) (Some (taken_of self.new)) self.new.failed) }
         ensures stays { IsTrue self.old.failed → IsTrue self.new.failed }
         ensures again { IsErr result ↔ IsTrue self.old.failed }

@@ -124,8 +124,8 @@ impl Tails {
         Spot { before, after }
     }
 
-    // Chains of the entries and a pair that comes next, if pairs come nearly in order, no chain would be long, and tails
-    // are not many more than entries. That there are none decides only the speed.
+    // Chains of the entries and a pair that comes next, if pairs come nearly in order, no chain would be long, and
+    // tails are not many more than entries. That there are none decides only the speed.
     pub(crate) fn of<X>(
         alloc: Global,
         entries: &[((i64, i64), X)],
