@@ -1,7 +1,9 @@
 // An instance in the making: what the items after the problem line have made so far.
 ghost use Rattle.std.specs.Prelude.{◌≡◌, ◌<◌, ◌≤◌, ◌^◌, ℤ, List, ◌∷◌, ◌++◌, [], OnOk, OnErr, Some, length, take};
 ghost use Rattle.std.specs.List.{AllByRecursion};
+ghost use Rattle.dn_line.specs.ArcLines.{arc_of};
 ghost use Rattle.dn_line.specs.declared.line.Line.{Line};
+ghost use Rattle.dn_line.specs.declared.line.Line.TheVariants.{MinArc, MaxArc, SpArc};
 ghost use Rattle.dn_line.specs.Faults.{first_fault};
 ghost use Rattle.dn_line.specs.Spelling.{kind_before};
 ghost use Rattle.dn_instance.specs.Items.{Problem, problem_of};
@@ -106,59 +108,22 @@ impl Draft {
             → OnErr result (DraftHolds self.new before) }
         ensures kept { draft_kind self.new ≡ draft_kind self.old }
     {
+        let arc = numbers_of(&line);
         match (self, line) {
-            (
-                Draft::Min { table, .. },
-                Line::MinArc {
-                    src,
-                    dst,
-                    low,
-                    cap,
-                    cost,
-                },
-            ) => Curve::take(
-                table,
-                alloc,
-                nodes,
-                &PlainArc {
-                    src,
-                    dst,
-                    low,
-                    cap,
-                    cost,
-                },
-            ),
+            (Draft::Min { table, .. }, Line::MinArc { .. }) => {
+                Curve::take(table, alloc, nodes, &arc)
+            }
             (Draft::Min { supplies, idle, .. }, Line::Supply { id, flow }) => {
                 take_supply(supplies, idle, nodes, &id, &flow)
             }
-            (Draft::Max { table, .. }, Line::MaxArc { src, dst, cap }) => Total::take(
-                table,
-                alloc,
-                nodes,
-                &PlainArc {
-                    src,
-                    dst,
-                    low: 0,
-                    cap,
-                    cost: 0,
-                },
-            ),
+            (Draft::Max { table, .. }, Line::MaxArc { .. }) => {
+                Total::take(table, alloc, nodes, &arc)
+            }
             (Draft::Max { source, sink, .. }, Line::Terminal { id, letter }) => match letter {
                 Letter::S => take_terminal(source, sink, nodes, &id),
                 Letter::T => take_terminal(sink, source, nodes, &id),
             },
-            (Draft::Sp(table), Line::SpArc { src, dst, length }) => Least::take(
-                table,
-                alloc,
-                nodes,
-                &PlainArc {
-                    src,
-                    dst,
-                    low: 0,
-                    cap: 0,
-                    cost: length,
-                },
-            ),
+            (Draft::Sp(table), Line::SpArc { .. }) => Least::take(table, alloc, nodes, &arc),
             (Draft::Ss(ids), Line::Source { id }) => take_source(ids, &id),
             (Draft::P2p(pairs), Line::Query { first, second }) => take_query(
                 pairs,
@@ -239,5 +204,32 @@ impl Draft {
             Draft::P2p(pairs) => Ok(Content::P2p(pairs)),
             Draft::Co(points) => Ok(Content::Co(points)),
         }
+    }
+}
+
+// The numbers of an arc's line. What they are of another line is not used.
+fn numbers_of(line: &Line) -> PlainArc
+    ensures min { (u v l c p : ℤ) → line.now ≡ MinArc u v l c p → arc_of Kind.Min result ≡ line.now }
+    ensures max { (u v c : ℤ) → line.now ≡ MaxArc u v c → arc_of Kind.Max result ≡ line.now }
+    ensures sp { (u v w : ℤ) → line.now ≡ SpArc u v w → arc_of Kind.Sp result ≡ line.now }
+{
+    let (src, dst, low, cap, cost) = match *line {
+        Line::MinArc {
+            src,
+            dst,
+            low,
+            cap,
+            cost,
+        } => (src, dst, low, cap, cost),
+        Line::MaxArc { src, dst, cap } => (src, dst, 0, cap, 0),
+        Line::SpArc { src, dst, length } => (src, dst, 0, 0, length),
+        _ => (0, 0, 0, 0, 0),
+    };
+    PlainArc {
+        src,
+        dst,
+        low,
+        cap,
+        cost,
     }
 }

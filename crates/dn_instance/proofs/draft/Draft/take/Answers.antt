@@ -14,14 +14,9 @@ pub returns-clause-answer : goal.returns-clause-answer
 returns-clause-answer c kind signs =
     elim c.match-self.branch [
       | in-Min-MinArc w ↦
-          (let fs : FitsSigned w64 w.in-Min-MinArc.src = search rules in
-          let fd : FitsSigned w64 w.in-Min-MinArc.dst = search rules in
-          let fl : FitsSigned w64 w.in-Min-MinArc.low = search rules in
-          let fc : FitsSigned w64 w.in-Min-MinArc.cap = search rules in
-          let fk : FitsSigned w64 w.in-Min-MinArc.cost = search rules in
-          let ans = simp to_z-of_z at w.take.ensures.answer in
-          to_answer c.args.nodes.now c.args.self.now _ c.args.line _ c.match-self.result _ w.in-Min-MinArc.is-0 w.in-Min-MinArc.is-1 w.result-is
-          (λ before p h k n holds. ans (subst HasSigns w.in-Min-MinArc.is-1 signs) before p h k n holds.2))
+          (let e = c.numbers_of-arc.ensures.min _ _ _ _ _ w.in-Min-MinArc.is-1 in
+          to_answer c.args.nodes.now c.args.self.now _ c.args.line _ c.match-self.result _ w.in-Min-MinArc.is-0 (sym e) w.result-is
+          (λ before p h k n holds. w.take.ensures.answer (subst HasSigns (sym e) signs) before p h k n holds.2))
       | in-Min-Supply w ↦
           (let fi : FitsSigned w64 w.in-Min-Supply.id = search rules in
           let ff : FitsSigned w64 w.in-Min-Supply.flow = search rules in
@@ -29,12 +24,9 @@ returns-clause-answer c kind signs =
           to_answer c.args.nodes.now c.args.self.now _ c.args.line _ c.match-self.result _ w.in-Min-Supply.is-0 w.in-Min-Supply.is-1 w.result-is
           (supply_answer c.args.nodes.now w.in-Min-Supply.id w.in-Min-Supply.flow w.in-Min-Supply.supplies w.in-Min-Supply.idle _ w.take_supply.result ans))
       | in-Max-MaxArc w ↦
-          (let fs : FitsSigned w64 w.in-Max-MaxArc.src = search rules in
-          let fd : FitsSigned w64 w.in-Max-MaxArc.dst = search rules in
-          let fc : FitsSigned w64 w.in-Max-MaxArc.cap = search rules in
-          let ans = simp to_z-of_z at w.take-in-Max-MaxArc.ensures.answer in
-          to_answer c.args.nodes.now c.args.self.now _ c.args.line _ c.match-self.result _ w.in-Max-MaxArc.is-0 w.in-Max-MaxArc.is-1 w.result-is
-          (λ before p h k n holds. ans (subst HasSigns w.in-Max-MaxArc.is-1 signs) before p h k n holds.2))
+          (let e = c.numbers_of-arc.ensures.max _ _ _ w.in-Max-MaxArc.is-1 in
+          to_answer c.args.nodes.now c.args.self.now _ c.args.line _ c.match-self.result _ w.in-Max-MaxArc.is-0 (sym e) w.result-is
+          (λ before p h k n holds. w.take-in-Max-MaxArc.ensures.answer (subst HasSigns (sym e) signs) before p h k n holds.2))
       | in-Max-Terminal+in-S w ↦
           (let fi : FitsSigned w64 w.in-Max-Terminal.id = search rules in
           let ans = simp to_z-of_z at w.take_terminal.ensures.answer in
@@ -46,11 +38,8 @@ returns-clause-answer c kind signs =
           to_answer c.args.nodes.now c.args.self.now _ c.args.line _ c.match-self.result _ w.in-Max-Terminal.is-0 (w.in-Max-Terminal.is-1 ∙ ap (Terminal w.in-Max-Terminal.id) w.in-T.is) w.result-is
           (sink_answer c.args.nodes.now w.in-Max-Terminal.id _ _ _ w.take_terminal-in-T.result ans))
       | in-Sp-SpArc w ↦
-          (let fs : FitsSigned w64 w.in-Sp-SpArc.src = search rules in
-          let fd : FitsSigned w64 w.in-Sp-SpArc.dst = search rules in
-          let fl : FitsSigned w64 w.in-Sp-SpArc.length = search rules in
-          let ans = simp to_z-of_z at w.take-in-Sp-SpArc.ensures.answer in
-          to_answer c.args.nodes.now c.args.self.now _ c.args.line _ c.match-self.result _ w.in-Sp-SpArc.is-0 w.in-Sp-SpArc.is-1 w.result-is (ans tt))
+          (let e = c.numbers_of-arc.ensures.sp _ _ _ w.in-Sp-SpArc.is-1 in
+          to_answer c.args.nodes.now c.args.self.now _ c.args.line _ c.match-self.result _ w.in-Sp-SpArc.is-0 (sym e) w.result-is (w.take-in-Sp-SpArc.ensures.answer (subst HasSigns (sym e) signs)))
       | in-Ss-Source w ↦
           (let fi : FitsSigned w64 w.in-Ss-Source.id = search rules in
           let ans = simp to_z-of_z at w.take_source.ensures.answer in
@@ -79,14 +68,10 @@ pub returns-clause-stands : goal.returns-clause-stands
 returns-clause-stands c signs =
     elim c.match-self.branch [
       | in-Min-MinArc w ↦
-          (let fs : FitsSigned w64 w.in-Min-MinArc.src = search rules in
-          let fd : FitsSigned w64 w.in-Min-MinArc.dst = search rules in
-          let fl : FitsSigned w64 w.in-Min-MinArc.low = search rules in
-          let fc : FitsSigned w64 w.in-Min-MinArc.cap = search rules in
-          let fk : FitsSigned w64 w.in-Min-MinArc.cost = search rules in
-          let ok = simp to_z-of_z at w.take.ensures.stands in
-          to_stand c.args.self.now _ c.args.line _ c.match-self.self _ c.match-self.result _ w.in-Min-MinArc.is-0 w.in-Min-MinArc.is-1 w.self-is w.result-is
-          (cost_stand w.in-Min-MinArc.supplies-0 w.in-Min-MinArc.idle-0 _ _ w.in-Min-MinArc.src w.in-Min-MinArc.dst w.in-Min-MinArc.low w.in-Min-MinArc.cap w.in-Min-MinArc.cost w.take.result (ok (subst HasSigns w.in-Min-MinArc.is-1 signs))))
+          (let r = c.numbers_of-arc.result in
+          let e = c.numbers_of-arc.ensures.min _ _ _ _ _ w.in-Min-MinArc.is-1 in
+          to_stand c.args.self.now _ c.args.line _ c.match-self.self _ c.match-self.result _ w.in-Min-MinArc.is-0 (sym e) w.self-is w.result-is
+          (cost_stand w.in-Min-MinArc.supplies-0 w.in-Min-MinArc.idle-0 _ _ r.src r.dst r.low r.cap r.cost w.take.result (w.take.ensures.stands (subst HasSigns (sym e) signs))))
       | in-Min-Supply w ↦
           (let fi : FitsSigned w64 w.in-Min-Supply.id = search rules in
           let ff : FitsSigned w64 w.in-Min-Supply.flow = search rules in
@@ -95,12 +80,10 @@ returns-clause-stands c signs =
           to_stand c.args.self.now _ c.args.line _ c.match-self.self _ c.match-self.result _ w.in-Min-Supply.is-0 w.in-Min-Supply.is-1 w.self-is w.result-is
           (supply_stand w.in-Min-Supply.id w.in-Min-Supply.flow w.in-Min-Supply.supplies w.take_supply.new.supplies w.in-Min-Supply.idle w.take_supply.new.idle _ w.take_supply.result put kept))
       | in-Max-MaxArc w ↦
-          (let fs : FitsSigned w64 w.in-Max-MaxArc.src = search rules in
-          let fd : FitsSigned w64 w.in-Max-MaxArc.dst = search rules in
-          let fc : FitsSigned w64 w.in-Max-MaxArc.cap = search rules in
-          let ok = simp to_z-of_z at w.take-in-Max-MaxArc.ensures.stands in
-          to_stand c.args.self.now _ c.args.line _ c.match-self.self _ c.match-self.result _ w.in-Max-MaxArc.is-0 w.in-Max-MaxArc.is-1 w.self-is w.result-is
-          (cap_stand _ _ _ _ w.in-Max-MaxArc.src w.in-Max-MaxArc.dst w.in-Max-MaxArc.cap w.take-in-Max-MaxArc.result (ok (subst HasSigns w.in-Max-MaxArc.is-1 signs))))
+          (let r = c.numbers_of-arc.result in
+          let e = c.numbers_of-arc.ensures.max _ _ _ w.in-Max-MaxArc.is-1 in
+          to_stand c.args.self.now _ c.args.line _ c.match-self.self _ c.match-self.result _ w.in-Max-MaxArc.is-0 (sym e) w.self-is w.result-is
+          (cap_stand _ _ _ _ r.src r.dst r.cap w.take-in-Max-MaxArc.result (w.take-in-Max-MaxArc.ensures.stands (subst HasSigns (sym e) signs))))
       | in-Max-Terminal+in-S w ↦
           (let fi : FitsSigned w64 w.in-Max-Terminal.id = search rules in
           let ans = simp to_z-of_z at w.take_terminal.ensures.answer in
@@ -114,11 +97,8 @@ returns-clause-stands c signs =
           to_stand c.args.self.now _ c.args.line _ c.match-self.self _ c.match-self.result _ w.in-Max-Terminal.is-0 (w.in-Max-Terminal.is-1 ∙ ap (Terminal w.in-Max-Terminal.id) w.in-T.is) w.self-is w.result-is
           (sink_stand c.args.nodes.now w.in-Max-Terminal.id _ _ _ _ w.take_terminal-in-T.result ans ok))
       | in-Sp-SpArc w ↦
-          (let fs : FitsSigned w64 w.in-Sp-SpArc.src = search rules in
-          let fd : FitsSigned w64 w.in-Sp-SpArc.dst = search rules in
-          let fl : FitsSigned w64 w.in-Sp-SpArc.length = search rules in
-          let ok = simp to_z-of_z at w.take-in-Sp-SpArc.ensures.stands in
-          to_stand c.args.self.now _ c.args.line _ c.match-self.self _ c.match-self.result _ w.in-Sp-SpArc.is-0 w.in-Sp-SpArc.is-1 w.self-is w.result-is (ok tt))
+          (let e = c.numbers_of-arc.ensures.sp _ _ _ w.in-Sp-SpArc.is-1 in
+          to_stand c.args.self.now _ c.args.line _ c.match-self.self _ c.match-self.result _ w.in-Sp-SpArc.is-0 (sym e) w.self-is w.result-is (w.take-in-Sp-SpArc.ensures.stands (subst HasSigns (sym e) signs)))
       | in-Ss-Source w ↦
           (let fi : FitsSigned w64 w.in-Ss-Source.id = search rules in
           let ok = simp to_z-of_z at w.take_source.ensures.ok in
