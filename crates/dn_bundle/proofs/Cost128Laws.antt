@@ -4,8 +4,8 @@ use borrow.Author.Gap.{read_sfits}
 use Rattle.std.proofs.lemmas.Int.{ints, to_z-of_z, fits_signed_mul}
 use Rattle.std.specs.Int.{w128, int_div_euclid, int_rem_euclid, IsNonZero}
 use Rattle.std.specs.Int.RustNames.{FitsSigned}
-use Rattle.dn_bundle.specs.Means.{IsMean, IsFloor}
-use Rattle.dn_bundle.specs.Laws.Means.{floor_of, each_fits, more_mean, cost_fits}
+use Rattle.dn_arc.specs.State.Means.{IsMean, IsFloor}
+use Rattle.dn_arc.proofs.MeansLaws.{floor_of, each_fits, more_mean, cost_fits}
 
 -- a number of 64 bits, as a value of 128 and back
 wide_fits : (x : ℤ) → FitsSigned w64 x → FitsSigned w128 x

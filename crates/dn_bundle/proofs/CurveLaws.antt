@@ -7,20 +7,20 @@ use Rattle.std.specs.Int.{int_div_euclid, int_rem_euclid}
 use Rattle.std.specs.List.{AllByRecursion}
 use Rattle.std.proofs.lemmas.Int.{ints}
 use Rattle.std.proofs.lemmas.Bool.Decides.{nat_tests}
-use Rattle.dn_bundle.specs.declared.arc.CostArc.{CostArc}
-use Rattle.dn_bundle.specs.declared.arc.Form.TheVariants.{One}
-use Rattle.dn_bundle.specs.Meanings.{SameCurve}
-use Rattle.dn_bundle.specs.Canonical.{IsFixedArc, has_low}
-use Rattle.dn_bundle.specs.Entries.{cost_entries, free_costs}
-use Rattle.dn_bundle.specs.Fillings.{room}
-use Rattle.dn_bundle.specs.Steps.{put_step, AreSteps, steps_room}
-use Rattle.dn_bundle.specs.CurveTold.{step_arc, spread_arcs, fixed_arcs, told, IsSound, is_free}
-use Rattle.dn_bundle.specs.Laws.Curves.{curve_meaning, cost_cap_same}
-use Rattle.dn_bundle.specs.Laws.Parts.{by_test, test_yes, test_no}
-use Rattle.dn_bundle.specs.Laws.StepArcs.{steps_some}
-use Rattle.dn_bundle.specs.Laws.Canons.{arc_steps, count_costs, entries_are}
-use Rattle.dn_bundle.specs.Laws.Told.{carried, told_units, steps_low}
-use Rattle.dn_bundle.specs.Laws.Sound.{none_is, sound_cap, sound_arcs}
+use Rattle.dn_arc.specs.declared.arc.CostArc.{CostArc}
+use Rattle.dn_arc.specs.declared.arc.Form.TheVariants.{One}
+use Rattle.dn_arc.specs.Meanings.{SameCurve}
+use Rattle.dn_arc.specs.Canonical.{IsFixedArc, has_low}
+use Rattle.dn_arc.specs.Entries.{cost_entries, free_costs}
+use Rattle.dn_arc.specs.State.Fillings.{room}
+use Rattle.dn_arc.specs.State.Steps.{put_step, AreSteps, steps_room}
+use Rattle.dn_arc.specs.State.CurveTold.{step_arc, spread_arcs, fixed_arcs, told, IsSound, is_free}
+use Rattle.dn_arc.proofs.CurvesLaws.{curve_meaning, cost_cap_same}
+use Rattle.dn_arc.proofs.PartsLaws.{by_test, test_yes, test_no}
+use Rattle.dn_arc.proofs.StepArcsLaws.{steps_some}
+use Rattle.dn_arc.proofs.CanonsLaws.{arc_steps, count_costs, entries_are}
+use Rattle.dn_arc.proofs.ToldLaws.{carried, told_units, steps_low}
+use Rattle.dn_arc.proofs.SoundLaws.{none_is, sound_cap, sound_arcs}
 use Rattle.dn_bundle.proofs.FixedLaws.{is_zero, not_zero}
 
 steps_free : (steps : List (ℤ × ℤ)) → filter is_free (map step_arc steps) ≡ map step_arc steps

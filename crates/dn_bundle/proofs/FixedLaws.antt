@@ -2,12 +2,12 @@
 use Rattle.std.proofs.Common.{◌≡◌, ℤ, pos, negsuc, ◌+ℤ◌, ◌-ℤ◌, ◌≤ℤ◌, ◌<ℤ◌, [], ◌∷◌, ◌-◌, ◌^◌, refl, sym, ap, ◌∙◌, subst, arith, w64, to_z, of_z, cond}
 use Rattle.std.specs.Int.RustNames.{FitsSigned}
 use Rattle.std.proofs.lemmas.Int.{ints, to_z-of_z}
-use Rattle.dn_bundle.specs.Means.{IsMean, IsFloor}
-use Rattle.dn_bundle.specs.Laws.Means.{fits_some, each_next}
-use Rattle.dn_bundle.specs.CurveTold.{fixed_arc, spread_arcs, fixed_arcs}
-use Rattle.dn_bundle.specs.Laws.FormOne.{fixed_same}
-use Rattle.dn_bundle.specs.Laws.Parts.{test_yes, test_no}
-use Rattle.dn_bundle.specs.Laws.Told.{spread_carries, fixed_carries}
+use Rattle.dn_arc.specs.State.Means.{IsMean, IsFloor}
+use Rattle.dn_arc.proofs.MeansLaws.{fits_some, each_next}
+use Rattle.dn_arc.specs.State.CurveTold.{fixed_arc, spread_arcs, fixed_arcs}
+use Rattle.dn_arc.proofs.FormOneLaws.{fixed_same}
+use Rattle.dn_arc.proofs.PartsLaws.{test_yes, test_no}
+use Rattle.dn_arc.proofs.ToldLaws.{spread_carries, fixed_carries}
 
 -- the units spread by their cost for each are the fixed arcs
 floor_arcs : (units cost each rest : ℤ) → pos 0 <ℤ units → IsFloor cost units each rest → spread_arcs units each rest ≡ fixed_arcs units cost

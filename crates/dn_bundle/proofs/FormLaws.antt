@@ -6,19 +6,19 @@ use Rattle.std.specs.List.{AllByRecursion}
 use Rattle.std.specs.Option.{option_map, unwrap_or}
 use Rattle.std.specs.Int.Signed.{≤ℤ_refl}
 use Rattle.std.proofs.lemmas.Int.{ints, by_lt_z, to_z-of_z}
-use Rattle.dn_bundle.specs.declared.arc.CostArc.{CostArc}
-use Rattle.dn_bundle.specs.declared.arc.Form.TheVariants.{One, Two}
-use Rattle.dn_bundle.specs.Canonical.{IsFixedArc, AreNear, AreRising}
-use Rattle.dn_bundle.specs.Fillings.{forced_units}
-use Rattle.dn_bundle.specs.Steps.{step_past, AreSteps, steps_room}
-use Rattle.dn_bundle.specs.CurveTold.{fixed_arc, step_arc, fixed_arcs, join_arc, join_arcs, joined_head, told, IsSound}
-use Rattle.dn_bundle.specs.Laws.Forms.{AreAbove, AreFixed}
-use Rattle.dn_bundle.specs.Laws.Parts.{test_yes, test_no}
-use Rattle.dn_bundle.specs.Laws.Means.{fits_some}
-use Rattle.dn_bundle.specs.Laws.StepArcs.{free_arcs, steps_some}
-use Rattle.dn_bundle.specs.Laws.Joins.{joined}
-use Rattle.dn_bundle.specs.Laws.Told.{Carries, carried, told_two}
-use Rattle.dn_bundle.specs.Laws.Sound.{none_is}
+use Rattle.dn_arc.specs.declared.arc.CostArc.{CostArc}
+use Rattle.dn_arc.specs.declared.arc.Form.TheVariants.{One, Two}
+use Rattle.dn_arc.specs.Canonical.{IsFixedArc, AreNear, AreRising}
+use Rattle.dn_arc.specs.Fillings.{forced_units}
+use Rattle.dn_arc.specs.State.Steps.{step_past, AreSteps, steps_room}
+use Rattle.dn_arc.specs.State.CurveTold.{fixed_arc, step_arc, fixed_arcs, join_arc, join_arcs, joined_head, told, IsSound}
+use Rattle.dn_arc.proofs.FormsLaws.{AreAbove, AreFixed}
+use Rattle.dn_arc.proofs.PartsLaws.{test_yes, test_no}
+use Rattle.dn_arc.proofs.MeansLaws.{fits_some}
+use Rattle.dn_arc.proofs.StepArcsLaws.{free_arcs, steps_some}
+use Rattle.dn_arc.proofs.JoinsLaws.{joined}
+use Rattle.dn_arc.proofs.ToldLaws.{Carries, carried, told_two}
+use Rattle.dn_arc.proofs.SoundLaws.{none_is}
 use Rattle.dn_bundle.proofs.StepLaws.{less, not_less, next_is}
 
 -- the first arc past a cost

@@ -6,13 +6,13 @@ use Rattle.std.specs.Ordering.{int_eq}
 use Rattle.std.specs.Iterator.{YieldsFirst}
 use Rattle.std.proofs.lemmas.Bool.{not-true, not-false}
 use Rattle.std.proofs.lemmas.Int.{ints, to_z-of_z, by_lt_z}
-use Rattle.dn_bundle.specs.declared.difference.Gap.{Gap}
-use Rattle.dn_bundle.specs.Means.{IsMean}
-use Rattle.dn_bundle.specs.Steps.{AreSteps, steps_room}
-use Rattle.dn_bundle.specs.Gaps.{unit_cost, gap_next, parted, first_gap, ArePart, AreWalks}
-use Rattle.dn_bundle.specs.Laws.Means.{more_mean, fits_some}
-use Rattle.dn_bundle.specs.Laws.Parts.{test_yes, test_no}
-use Rattle.dn_bundle.specs.Laws.StepArcs.{steps_some}
+use Rattle.dn_arc.specs.declared.difference.Gap.{Gap}
+use Rattle.dn_arc.specs.State.Means.{IsMean}
+use Rattle.dn_arc.specs.State.Steps.{AreSteps, steps_room}
+use Rattle.dn_bundle.specs.State.Gaps.{unit_cost, gap_next, parted, first_gap, ArePart, AreWalks}
+use Rattle.dn_arc.proofs.MeansLaws.{more_mean, fits_some}
+use Rattle.dn_arc.proofs.PartsLaws.{test_yes, test_no}
+use Rattle.dn_arc.proofs.StepArcsLaws.{steps_some}
 use Rattle.dn_bundle.proofs.Cost128Laws.{more_fits}
 use Rattle.dn_bundle.proofs.StepLaws.{less, not_less, next_fits, next_is}
 

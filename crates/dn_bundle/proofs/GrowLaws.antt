@@ -5,27 +5,27 @@ use Rattle.std.specs.Int.{w128}
 use Rattle.std.specs.Int.RustNames.{FitsSigned, int_lt}
 use Rattle.std.specs.List.{AllByRecursion}
 use Rattle.std.proofs.lemmas.Int.{ints, to_z-of_z, by_lt_z}
-use Rattle.dn_bundle.specs.declared.arc.CostArc.{CostArc}
-use Rattle.dn_bundle.specs.declared.arc.Form.TheVariants.{One}
+use Rattle.dn_arc.specs.declared.arc.CostArc.{CostArc}
+use Rattle.dn_arc.specs.declared.arc.Form.TheVariants.{One}
 use Rattle.dn_bundle.specs.declared.bundle.BundleFault.{BundleFault}
 use Rattle.dn_bundle.specs.declared.bundle.BundleFault.TheVariants.{Sum, Memory}
 use Rattle.dn_bundle.specs.declared.curve.shape.Numbers.{Numbers}
 use Rattle.dn_bundle.specs.declared.curve.shape.Shape.{Shape}
-use Rattle.dn_bundle.specs.Splits.{cost_cap}
-use Rattle.dn_bundle.specs.Meanings.{SameCurve}
-use Rattle.dn_bundle.specs.Canonical.{IsCostArc}
-use Rattle.dn_bundle.specs.Steps.{put_step, add_step, AreSteps, steps_room}
-use Rattle.dn_bundle.specs.CurveTold.{free_arc, step_arc, told, IsSound}
-use Rattle.dn_bundle.specs.Shapes.{numbers_of, AreSound, curve_of, IsGrown}
-use Rattle.dn_bundle.specs.Laws.Splits.{SameAbove}
-use Rattle.dn_bundle.specs.Laws.Curves.{above_meaning}
-use Rattle.dn_bundle.specs.Laws.Parts.{by_test}
-use Rattle.dn_bundle.specs.Laws.Adds.{above_none}
-use Rattle.dn_bundle.specs.Laws.Means.{more_mean, fits_some}
-use Rattle.dn_bundle.specs.Laws.StepArcs.{steps_some, put_steps, put_room, put_above}
-use Rattle.dn_bundle.specs.Laws.CostKind.{cost_kind}
-use Rattle.dn_bundle.specs.Laws.Stored.{same_numbers}
-use Rattle.dn_bundle.specs.Laws.Sound.{none_is, sound_cap, told_added}
+use Rattle.dn_arc.specs.Splits.{cost_cap}
+use Rattle.dn_arc.specs.Meanings.{SameCurve}
+use Rattle.dn_arc.specs.Canonical.{IsCostArc}
+use Rattle.dn_arc.specs.State.Steps.{put_step, add_step, AreSteps, steps_room}
+use Rattle.dn_arc.specs.State.CurveTold.{free_arc, step_arc, told, IsSound}
+use Rattle.dn_bundle.specs.State.Shapes.{numbers_of, AreSound, curve_of, IsGrown}
+use Rattle.dn_arc.proofs.SplitsLaws.{SameAbove}
+use Rattle.dn_arc.proofs.CurvesLaws.{above_meaning}
+use Rattle.dn_arc.proofs.PartsLaws.{by_test}
+use Rattle.dn_arc.proofs.AddsLaws.{above_none}
+use Rattle.dn_arc.proofs.MeansLaws.{more_mean, fits_some}
+use Rattle.dn_arc.proofs.StepArcsLaws.{steps_some, put_steps, put_room, put_above}
+use Rattle.dn_arc.proofs.CostKindLaws.{cost_kind}
+use Rattle.dn_arc.proofs.StoredLaws.{same_numbers}
+use Rattle.dn_arc.proofs.SoundLaws.{none_is, sound_cap, told_added}
 use Rattle.dn_bundle.proofs.Cost128Laws.{more_fits}
 
 pub most : (z : ℤ) → FitsSigned w64 z → z ≤ℤ pos (2 ^ 63 - 1)

@@ -1,9 +1,10 @@
 -- A bundle of lengths means what no arcs mean exactly where it has no least length.
 use Rattle.std.specs.Prelude.{◌≡◌, ◌↔◌, ℤ, Bool, true, false, not, [], Option, Some, None, refl, MatchOption, IsTrue}
 use Rattle.std.specs.Option.{is_some}
-use Rattle.dn_bundle.specs.Lengths.{LeastLength, length_told}
-use Rattle.dn_bundle.specs.Meanings.{SameLength}
-use Rattle.dn_bundle.specs.Laws.Lengths.{length_meaning, first_length}
+use Rattle.dn_arc.specs.Lengths.{LeastLength}
+use Rattle.dn_arc.specs.State.Lengths.{length_told}
+use Rattle.dn_arc.specs.Meanings.{SameLength}
+use Rattle.dn_arc.proofs.LengthsLaws.{length_meaning, first_length}
 
 -- a least length is nothing where there is none
 pub length_nothing : (o length : Option ℤ) (none : Bool) → MatchOption length (length_told o ≡ []) (LeastLength (length_told o)) → is_some length ≡ not none → IsTrue none ↔ SameLength (length_told o) []

@@ -4,15 +4,15 @@ use Rattle.std.specs.List.{list_any}
 use Rattle.std.specs.Ordering.{int_eq}
 use Rattle.std.proofs.lemmas.Int.{ints}
 use Rattle.std.proofs.lemmas.List.{length-map}
-use Rattle.dn_bundle.specs.declared.arc.CostArc.{CostArc}
-use Rattle.dn_bundle.specs.declared.arc.Form.TheVariants.{Two}
-use Rattle.dn_bundle.specs.Canonical.{AreRising}
-use Rattle.dn_bundle.specs.Steps.{has_step}
-use Rattle.dn_bundle.specs.CurveTold.{fixed_arc, step_arc, fixed_arcs, join_arc, join_arcs, told, IsSound}
-use Rattle.dn_bundle.specs.Laws.Forms.{AreAbove, above_lower}
-use Rattle.dn_bundle.specs.Laws.StepArcs.{free_arcs}
-use Rattle.dn_bundle.specs.Laws.Joins.{joined_rising}
-use Rattle.dn_bundle.specs.Laws.Canons.{eq_yes, eq_below, eq_past}
+use Rattle.dn_arc.specs.declared.arc.CostArc.{CostArc}
+use Rattle.dn_arc.specs.declared.arc.Form.TheVariants.{Two}
+use Rattle.dn_arc.specs.Canonical.{AreRising}
+use Rattle.dn_arc.specs.State.Steps.{has_step}
+use Rattle.dn_arc.specs.State.CurveTold.{fixed_arc, step_arc, fixed_arcs, join_arc, join_arcs, told, IsSound}
+use Rattle.dn_arc.proofs.FormsLaws.{AreAbove, above_lower}
+use Rattle.dn_arc.proofs.StepArcsLaws.{free_arcs}
+use Rattle.dn_arc.proofs.JoinsLaws.{joined_rising}
+use Rattle.dn_arc.proofs.CanonsLaws.{eq_yes, eq_below, eq_past}
 use Rattle.dn_bundle.proofs.FormLaws.{by_order, join_before, join_past, join_at}
 
 -- one where it is not so

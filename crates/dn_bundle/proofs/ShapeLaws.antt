@@ -4,15 +4,15 @@ use mathlib.Core.Logic.{inl, inr}
 use Rattle.std.proofs.Math.IntN.{*ℤ_comm}
 use Rattle.std.proofs.lemmas.Int.{ints, to_z-of_z, by_lt_z}
 use Rattle.std.specs.Int.RustNames.{FitsSigned}
-use Rattle.dn_bundle.specs.declared.arc.CostArc.{CostArc}
+use Rattle.dn_arc.specs.declared.arc.CostArc.{CostArc}
 use Rattle.dn_bundle.specs.declared.curve.shape.Shape.{Shape}
 use Rattle.dn_bundle.specs.declared.curve.shape.Shape.TheVariants.{Plain}
-use Rattle.dn_bundle.specs.Canonical.{IsCostArc}
-use Rattle.dn_bundle.specs.Steps.{steps_of, put_step, add_step}
-use Rattle.dn_bundle.specs.Shapes.{plain_step, numbers_of, AreSound, IsGrown}
-use Rattle.dn_bundle.specs.Laws.Parts.{test_yes, test_no}
-use Rattle.dn_bundle.specs.Laws.StepArcs.{steps_some}
-use Rattle.dn_bundle.specs.Laws.Means.{fits_some}
+use Rattle.dn_arc.specs.Canonical.{IsCostArc}
+use Rattle.dn_arc.specs.State.Steps.{steps_of, put_step, add_step}
+use Rattle.dn_bundle.specs.State.Shapes.{plain_step, numbers_of, AreSound, IsGrown}
+use Rattle.dn_arc.proofs.PartsLaws.{test_yes, test_no}
+use Rattle.dn_arc.proofs.StepArcsLaws.{steps_some}
+use Rattle.dn_arc.proofs.MeansLaws.{fits_some}
 use Rattle.dn_bundle.proofs.FixedLaws.{is_zero}
 use Rattle.dn_bundle.proofs.StepLaws.{put_at}
 use Rattle.dn_bundle.proofs.GrowLaws.{CostsFit}

@@ -16,10 +16,10 @@ use Rattle.std.proofs.lemmas.Int.{ints, to_z-of_z}
 use Rattle.std.proofs.lemmas.Map.{lookup-none}
 use Rattle.std.proofs.lemmas.Map.Entries.{none_below_head}
 use Rattle.std.proofs.lemmas.Map.Keys.{sorted_tail}
-use Rattle.dn_bundle.specs.Laws.StepArcs.{above_put, steps_some}
-use Rattle.dn_bundle.specs.Laws.Means.{fits_some, fits_next}
-use Rattle.dn_bundle.specs.Laws.Canons.{by_cmp}
-use Rattle.dn_bundle.specs.Steps.{steps_of, IsFirst, put_step, step_past, has_step, AreSteps, steps_room}
+use Rattle.dn_arc.proofs.StepArcsLaws.{above_put, steps_some}
+use Rattle.dn_arc.proofs.MeansLaws.{fits_some, fits_next}
+use Rattle.dn_arc.proofs.CanonsLaws.{by_cmp}
+use Rattle.dn_arc.specs.State.Steps.{steps_of, IsFirst, put_step, step_past, has_step, AreSteps, steps_room}
 
 -- by what a comparison answers
 module _ (step more : ℤ × ℤ) (rest : List (ℤ × ℤ)) where

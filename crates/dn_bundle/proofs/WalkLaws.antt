@@ -5,18 +5,19 @@ use Rattle.std.specs.Int.{w128}
 use Rattle.std.specs.Int.RustNames.{FitsSigned}
 use Rattle.std.specs.Int.Signed.{le_z}
 use Rattle.std.proofs.Math.IntN.{*ℤ_comm}
-use Rattle.dn_bundle.specs.declared.arc.Form.TheVariants.{One}
-use Rattle.dn_bundle.specs.Splits.{LeastCost}
-use Rattle.dn_bundle.specs.Fillings.{forced_units, forced_cost, room, free_room, fill_cost}
-use Rattle.dn_bundle.specs.Means.{IsMean}
-use Rattle.dn_bundle.specs.Steps.{AreSteps, steps_room}
-use Rattle.dn_bundle.specs.CurveTold.{step_arc, told, IsSound}
-use Rattle.dn_bundle.specs.Laws.Fills.{fill_low, fill_high, fill_zero, filling_of_least, least_of_filling}
-use Rattle.dn_bundle.specs.Laws.Forms.{free_ordered, form_one_ordered}
-use Rattle.dn_bundle.specs.Laws.StepArcs.{free_arcs, steps_some, steps_free_room}
-use Rattle.dn_bundle.specs.Laws.Told.{told_one, told_units, told_cost, told_apart}
-use Rattle.dn_bundle.specs.Laws.Sound.{none_is}
-use Rattle.dn_bundle.specs.Laws.Means.{more_mean, fits_some}
+use Rattle.dn_arc.specs.declared.arc.Form.TheVariants.{One}
+use Rattle.dn_arc.specs.Splits.{LeastCost}
+use Rattle.dn_arc.specs.Fillings.{forced_units, forced_cost}
+use Rattle.dn_arc.specs.State.Fillings.{room, free_room, fill_cost}
+use Rattle.dn_arc.specs.State.Means.{IsMean}
+use Rattle.dn_arc.specs.State.Steps.{AreSteps, steps_room}
+use Rattle.dn_arc.specs.State.CurveTold.{step_arc, told, IsSound}
+use Rattle.dn_arc.proofs.FillsLaws.{fill_low, fill_high, fill_zero, filling_of_least, least_of_filling}
+use Rattle.dn_arc.proofs.FormsLaws.{free_ordered, form_one_ordered}
+use Rattle.dn_arc.proofs.StepArcsLaws.{free_arcs, steps_some, steps_free_room}
+use Rattle.dn_arc.proofs.ToldLaws.{told_one, told_units, told_cost, told_apart}
+use Rattle.dn_arc.proofs.SoundLaws.{none_is}
+use Rattle.dn_arc.proofs.MeansLaws.{more_mean, fits_some}
 use Rattle.dn_bundle.proofs.Cost128Laws.{more_fits}
 use Rattle.dn_bundle.proofs.GrowLaws.{most}
 

@@ -1,25 +1,25 @@
 // The least cost of each amount.
 ghost use Rattle.std.specs.Prelude.{◌≡◌, ◌+ℤ◌, [], ◌∷◌, ◌++◌, length, filter, slice_get, OnOk, OnErr, IfErr, MatchOption, refl, true};
 ghost use Rattle.std.specs.Option.{option_map};
-ghost use Rattle.dn_bundle.specs.Kinds.{costs};
-ghost use Rattle.dn_bundle.specs.Meanings.{SameCurve};
-ghost use Rattle.dn_bundle.specs.Canonical.{IsCostArc, has_low};
-ghost use Rattle.dn_bundle.specs.Fillings.{forced_units, forced_cost};
-ghost use Rattle.dn_bundle.specs.Entries.{free_costs};
-ghost use Rattle.dn_bundle.specs.Differences.{IsCostOf, IsGap};
-ghost use Rattle.dn_bundle.specs.CurveTold.{told, fixed_arcs, step_arc, fixed_list, HasNext, is_free};
-ghost use Rattle.dn_bundle.specs.Shapes.{numbers_of, AreSound};
-ghost use Rattle.dn_bundle.specs.Laws.Sound.{sound_canonical, sound_same, sound_fit};
-ghost use Rattle.dn_bundle.specs.Laws.Stored.{AreSound-prop};
-ghost use Rattle.dn_bundle.specs.Laws.CostKind.{cost_kind};
-ghost use Rattle.dn_bundle.specs.declared.arc.Form.{Form};
-ghost use Rattle.dn_bundle.specs.declared.difference.How.TheVariants.{Costs};
+ghost use Rattle.dn_arc.specs.Kinds.{costs};
+ghost use Rattle.dn_arc.specs.Meanings.{SameCurve};
+ghost use Rattle.dn_arc.specs.Canonical.{IsCostArc, has_low};
+ghost use Rattle.dn_arc.specs.Fillings.{forced_units, forced_cost};
+ghost use Rattle.dn_arc.specs.Entries.{free_costs};
+ghost use Rattle.dn_arc.specs.Differences.{IsCostOf, IsGap};
+ghost use Rattle.dn_arc.specs.State.CurveTold.{told, fixed_arcs, step_arc, fixed_list, HasNext, is_free};
+ghost use Rattle.dn_bundle.specs.State.Shapes.{numbers_of, AreSound};
+ghost use Rattle.dn_arc.proofs.SoundLaws.{IsSound-prop, sound_canonical, sound_same, sound_fit};
+ghost use Rattle.dn_arc.proofs.CostKindLaws.{cost_kind};
+ghost use Rattle.dn_arc.specs.declared.arc.Form.{Form};
+ghost use Rattle.dn_arc.specs.declared.difference.How.TheVariants.{Costs};
+ghost use Rattle.dn_bundle.specs.State.Tellings.{curve_arcs};
 
-use crate::arc::{CostArc, Form};
 use crate::bundle::{Bundle, BundleFault};
 use crate::cost128::{floor, more_cost};
 use crate::curve::shape::Shape;
-use crate::difference::{Gap, How, first_gap};
+use crate::difference::first_gap;
+use dn_arc::{CostArc, Fixed, Form, Gap, How};
 use std::alloc::Global;
 use std::marker::Model;
 
@@ -27,32 +27,24 @@ mod canon_arcs;
 mod numbers;
 mod shape;
 
-/// The fixed arcs of a curve: `above` units cost one more than `cost`.
-#[derive(Clone, Copy, Debug, PartialEq, Eq)]
-pub enum Fixed {
-    Zero,
-    One { units: i64, cost: i64 },
-    Two { units: i64, cost: i64, above: i64 },
-}
-
 /// The least cost of each amount that the arcs of a `min` pair can carry.
 #[derive(Drop)]
 pub struct Curve {
     // What takes memory for the numbers, where they want it.
     alloc: Global,
     shape: Shape,
-    ghost sound: { AreSound (numbers_of shape) } by { AreSound-prop (numbers_of shape) },
+    ghost sound: { AreSound (numbers_of shape) } by { IsSound-prop _ _ _ _ },
 }
 
 impl Model for Curve {
-    ghost use Rattle.dn_bundle.specs.Curves.{CurveNumbers};
-    ghost use Rattle.dn_bundle.specs.Laws.Stored.{curve_code};
+    ghost use Rattle.dn_arc.specs.State.Curves.{CurveNumbers};
+    ghost use Rattle.dn_arc.proofs.StoredLaws.{curve_code};
 
     ghost Value = { CurveNumbers };
 
     ghost coded = { curve_code };
 
-    ghost use Rattle.dn_bundle.specs.Shapes.{curve_of};
+    ghost use Rattle.dn_bundle.specs.State.Shapes.{curve_of};
 
     ghost view = { λ a. curve_of a.shape a.sound };
 }
@@ -60,23 +52,23 @@ impl Model for Curve {
 impl Curve {
     /// The forced units, and what they cost.
     pub fn forced(&self) -> (i64, i128)
-        ensures units { result.0 ≡ forced_units (⟦<Curve as Bundle>⟧.told Form.One self.now) }
-        ensures cost { result.1 ≡ forced_cost (⟦<Curve as Bundle>⟧.told Form.One self.now) }
+        ensures units { result.0 ≡ forced_units (curve_arcs Form.One self.now) }
+        ensures cost { result.1 ≡ forced_cost (curve_arcs Form.One self.now) }
     {
         (self.units(), self.cost())
     }
 
     /// The fixed arcs of form 1.
     pub fn fixed(&self) -> Fixed
-        ensures { fixed_list result ≡ filter has_low (⟦<Curve as Bundle>⟧.told Form.One self.now) }
+        ensures { fixed_list result ≡ filter has_low (curve_arcs Form.One self.now) }
     {
         self.spread()
     }
 
     /// How many costs have free capacity.
     pub fn free_len(&self) -> u64
-        ensures arcs { result ≡ length (filter is_free (⟦<Curve as Bundle>⟧.told Form.One self.now)) }
-        ensures costs { result ≡ length (free_costs (⟦<Curve as Bundle>⟧.told Form.One self.now)) }
+        ensures arcs { result ≡ length (filter is_free (curve_arcs Form.One self.now)) }
+        ensures costs { result ≡ length (free_costs (curve_arcs Form.One self.now)) }
     {
         self.steps_len()
     }
@@ -84,14 +76,14 @@ impl Curve {
     /// The free arc at `i` by rising cost, counted from 0: its cost, and its capacity.
     pub fn free(&self, i: u64) -> Option<(i64, i64)>
         ensures { option_map step_arc result
-            ≡ slice_get (filter is_free (⟦<Curve as Bundle>⟧.told Form.One self.now)) i }
+            ≡ slice_get (filter is_free (curve_arcs Form.One self.now)) i }
     {
         self.step(i)
     }
 
     /// The least cost of carrying `x`, or `None` where no split of it exists.
     pub fn least(&self, x: i64) -> Option<i128>
-        ensures { IsCostOf (⟦<Curve as Bundle>⟧.told Form.One self.now) x result }
+        ensures { IsCostOf (curve_arcs Form.One self.now) x result }
     {
         let units = self.units();
         if x < units {
@@ -113,8 +105,8 @@ impl Curve {
     /// The least amount at which the curves differ, and the least cost there on each side.
     pub fn gap(&self, other: &Curve) -> Option<Gap>
         ensures { MatchOption result
-            (SameCurve (⟦<Curve as Bundle>⟧.told Form.One self.now) (⟦<Curve as Bundle>⟧.told Form.One other.now))
-            (IsGap (⟦<Curve as Bundle>⟧.told Form.One self.now) (⟦<Curve as Bundle>⟧.told Form.One other.now)) }
+            (SameCurve (curve_arcs Form.One self.now) (curve_arcs Form.One other.now))
+            (IsGap (curve_arcs Form.One self.now) (curve_arcs Form.One other.now)) }
     {
         let left = self.units();
         let right = other.units();
@@ -230,11 +222,7 @@ fn by_costs(gap: Option<Gap>) -> Option<How>
 impl Bundle for Curve {
     type Arc = CostArc;
 
-    ghost kind = { costs };
-
-    ghost told = { λ form b. told form b.units b.cost b.steps };
-
-    ghost wants_memory = { true };
+    ghost bundle = { record { kind = costs; told = curve_arcs; wants_memory = true } };
 
     ghost laws = { cost_kind };
 

@@ -1,36 +1,11 @@
-// How the arcs of one pair differ, and where two lists of steps first do.
+// Where two lists of steps first differ.
 ghost use Rattle.std.specs.Prelude.{◌≡◌, ◌-◌, ◌^◌, pos, negsuc, ◌+ℤ◌, ◌*ℤ◌, ◌≤ℤ◌, ◌<ℤ◌};
-ghost use Rattle.dn_bundle.specs.Means.{IsMean};
-ghost use Rattle.dn_bundle.specs.Gaps.{unit_cost, gap_next, parted, first_gap, ArePart, AreWalks};
+ghost use Rattle.dn_arc.specs.State.Means.{IsMean};
+ghost use Rattle.dn_bundle.specs.State.Gaps.{unit_cost, gap_next, parted, first_gap, ArePart, AreWalks};
 
 use crate::cost128::more_cost;
 use crate::steps::StepsIter;
-
-/// The least amount at which two cost curves differ, and the least cost there on each side: `None` where the amount
-/// can't be carried.
-#[derive(Clone, Copy, Debug, PartialEq, Eq)]
-pub struct Gap {
-    pub amount: i64,
-    pub left: Option<i128>,
-    pub right: Option<i128>,
-}
-
-/// How the arcs of one pair differ in meaning.
-#[derive(Clone, Copy, Debug, PartialEq, Eq)]
-pub enum How {
-    /// The least lengths, `None` where there is no arc.
-    Lengths {
-        left: Option<i64>,
-        right: Option<i64>,
-    },
-    /// The total capacities.
-    Totals {
-        left: i64,
-        right: i64,
-    },
-    /// The first gap between the cost curves.
-    Costs(Gap),
-}
+use dn_arc::Gap;
 
 // The first gap past an amount that costs the same on both sides, by the steps that are left.
 pub(crate) fn first_gap(

@@ -1,15 +1,15 @@
 // The least length of the arcs of a pair.
-ghost use Rattle.std.specs.Prelude.{◌≡◌, ℤ, List, [], ◌∷◌, FitsSigned, MatchOption, refl, false};
+ghost use Rattle.std.specs.Prelude.{◌≡◌, [], FitsSigned, MatchOption, refl, false};
 ghost use Rattle.std.specs.Int.{w64};
 ghost use Rattle.std.specs.Option.{ForSome, option_copied, option_and_then};
 ghost use Rattle.std.proofs.Props.{props};
-ghost use Rattle.dn_bundle.specs.Kinds.{lengths};
-ghost use Rattle.dn_bundle.specs.Lengths.{LeastLength, length_told};
-ghost use Rattle.dn_bundle.specs.Laws.LengthKind.{length_kind, length_canonical, length_fit};
+ghost use Rattle.dn_arc.specs.Kinds.{lengths};
+ghost use Rattle.dn_arc.specs.Lengths.{LeastLength};
+ghost use Rattle.dn_arc.specs.State.Lengths.{length_told};
+ghost use Rattle.dn_arc.proofs.LengthKindLaws.{length_kind, length_canonical, length_fit};
 
-use crate::arc::{Form, LengthArc};
 use crate::bundle::{Bundle, BundleFault};
-use crate::difference::How;
+use dn_arc::{Form, How, LengthArc};
 use std::alloc::Global;
 
 /// The least length of the arcs of an `sp` pair, if there is an arc.
@@ -22,8 +22,8 @@ pub struct Least {
 impl Least {
     /// The least length, or `None` where there is no arc.
     pub fn get(&self) -> Option<i64>
-        ensures { MatchOption result (⟦<Least as Bundle>⟧.told Form.One self.now ≡ [])
-            (LeastLength (⟦<Least as Bundle>⟧.told Form.One self.now)) }
+        ensures { MatchOption result (length_told self.now.length ≡ [])
+            (LeastLength (length_told self.now.length)) }
     {
         self.length
     }
@@ -42,11 +42,7 @@ fn length_of(bundle: Option<&Least>) -> Option<i64>
 impl Bundle for Least {
     type Arc = LengthArc;
 
-    ghost kind = { lengths };
-
-    ghost told = { λ form b. length_told b.length };
-
-    ghost wants_memory = { false };
+    ghost bundle = { record { kind = lengths; told = λ form b. length_told b.length; wants_memory = false } };
 
     ghost laws = { length_kind };
 

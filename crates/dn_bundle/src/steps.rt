@@ -2,7 +2,7 @@
 ghost use Rattle.std.specs.Prelude.{◌≡◌, ◌-◌, ◌^◌, ℤ, pos, ◌+ℤ◌, ◌≤ℤ◌, List, [], length, slice_get, OnOk, OnErr, ◌≤◌};
 ghost use Rattle.std.specs.Iterator.{YieldsFirst, item_count};
 ghost use Rattle.std.specs.Option.{option_to_list};
-ghost use Rattle.dn_bundle.specs.Steps.{steps_of, put_step, add_step, step_past, has_step, AreSteps, steps_room};
+ghost use Rattle.dn_arc.specs.State.Steps.{steps_of, put_step, add_step, step_past, has_step, AreSteps, steps_room};
 
 use std::alloc::{AllocError, Global};
 use std::collections::BTreeMap;
@@ -22,7 +22,7 @@ impl Model for Steps {
 
     ghost Value = { List (ℤ × ℤ) };
 
-    ghost use Rattle.dn_bundle.specs.Steps.{steps_of, IsFirst};
+    ghost use Rattle.dn_arc.specs.State.Steps.{steps_of, IsFirst};
 
     ghost view = { λ a. steps_of a.first a.rest.entries };
 
@@ -75,6 +75,7 @@ impl Steps {
         ensures small { result ≤ 2 ^ 63 }
     {
         match self.first {
+            // A map has fewer than 2^63 entries, so nothing saturates.
             Some(_) => (self.rest.len() as u64).saturating_add(1),
             None => 0,
         }

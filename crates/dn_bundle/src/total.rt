@@ -1,13 +1,13 @@
 // The total capacity of the arcs of a pair.
 ghost use Rattle.std.specs.Prelude.{◌≡◌, ◌-◌, ◌^◌, pos, ◌≤ℤ◌, refl, false};
 ghost use Rattle.std.specs.Option.{option_copied, option_map, unwrap_or};
-ghost use Rattle.dn_bundle.specs.Kinds.{capacities};
-ghost use Rattle.dn_bundle.specs.Capacities.{total_cap, cap_told};
-ghost use Rattle.dn_bundle.specs.Laws.TotalKind.{total_kind, total_canonical, total_fit};
+ghost use Rattle.dn_arc.specs.Kinds.{capacities};
+ghost use Rattle.dn_arc.specs.Capacities.{total_cap};
+ghost use Rattle.dn_arc.specs.State.Capacities.{cap_told};
+ghost use Rattle.dn_arc.proofs.TotalKindLaws.{total_kind, total_canonical, total_fit};
 
-use crate::arc::{CapArc, Form};
 use crate::bundle::{Bundle, BundleFault};
-use crate::difference::How;
+use dn_arc::{CapArc, Form, How};
 use std::alloc::Global;
 
 /// The total capacity of the arcs of a `max` pair, 0 where there is no arc.
@@ -21,7 +21,7 @@ pub struct Total {
 impl Total {
     /// The total capacity.
     pub fn get(&self) -> i64
-        ensures { result ≡ total_cap (⟦<Total as Bundle>⟧.told Form.One self.now) }
+        ensures { result ≡ total_cap (cap_told self.now.total) }
     {
         self.total
     }
@@ -40,11 +40,7 @@ fn total_of(bundle: Option<&Total>) -> i64
 impl Bundle for Total {
     type Arc = CapArc;
 
-    ghost kind = { capacities };
-
-    ghost told = { λ form b. cap_told b.total };
-
-    ghost wants_memory = { false };
+    ghost bundle = { record { kind = capacities; told = λ form b. cap_told b.total; wants_memory = false } };
 
     ghost laws = { total_kind };
 

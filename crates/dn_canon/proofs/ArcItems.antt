@@ -11,18 +11,17 @@ use Rattle.dn_line.specs.declared.line.Line.{Line}
 use Rattle.dn_line.specs.declared.line.Line.TheVariants as Item
 use Rattle.dn_line.specs.declared.word.Keyword.TheVariants as Key
 use Rattle.dn_line.specs.Words.{said}
-use Rattle.dn_line.specs.Spelling.{Is, Number, Natural, Spells}
-use Rattle.dn_bundle.specs.Kinds.{ArcKind, lengths, capacities, costs}
-use Rattle.dn_bundle.specs.Bundles.{IsKind}
-use Rattle.dn_bundle.specs.declared.arc.LengthArc.{LengthArc}
-use Rattle.dn_bundle.specs.declared.arc.CapArc.{CapArc}
-use Rattle.dn_bundle.specs.declared.arc.CostArc.{CostArc}
-use Rattle.dn_bundle.specs.Laws.Parts.{test_no}
-use Rattle.dn_bundle.specs.Laws.CostKind.{cost_kind}
-use Rattle.dn_bundle.specs.Laws.LengthKind.{length_kind}
-use Rattle.dn_bundle.specs.Laws.TotalKind.{total_kind}
-use Rattle.pair_index.specs.Pairs.{same_pair}
-use Rattle.dn_table.specs.Pairs.{bundle}
+use Rattle.dn_line.specs.State.Spelling.{Is, Number, Natural, Spells}
+use Rattle.dn_arc.specs.Kinds.{ArcKind, lengths, capacities, costs}
+use Rattle.dn_arc.specs.State.Bundles.{IsKind}
+use Rattle.dn_arc.specs.declared.arc.LengthArc.{LengthArc}
+use Rattle.dn_arc.specs.declared.arc.CapArc.{CapArc}
+use Rattle.dn_arc.specs.declared.arc.CostArc.{CostArc}
+use Rattle.dn_arc.proofs.PartsLaws.{test_no}
+use Rattle.dn_arc.proofs.CostKindLaws.{cost_kind}
+use Rattle.dn_arc.proofs.LengthKindLaws.{length_kind}
+use Rattle.dn_arc.proofs.TotalKindLaws.{total_kind}
+use Rattle.dn_arc.specs.Pairs.{bundle, same_pair}
 use Rattle.dn_instance.specs.Instances.{Graph}
 use Rattle.dn_instance.specs.Validity.{Fits, IsNode, IsPlaced, IsValidGraph}
 use Rattle.dn_instance.specs.Items.{Problem, counted, is_counted, arcs_of, length_arc_in, cap_arc_in, cost_arc_in, supply_in}

@@ -15,8 +15,8 @@ use Rattle.dn_line.specs.declared.word.Keyword.{Keyword}
 use Rattle.dn_line.specs.declared.word.Keyword.TheVariants as Key
 use Rattle.dn_line.specs.Words.{said, keyword_of}
 use Rattle.dn_line.specs.Names.{kind_name}
-use Rattle.dn_line.specs.Spelling.{Is, Number, Natural, slots_of}
-use Rattle.dn_bundle.specs.Kinds.{capacities, lengths, costs}
+use Rattle.dn_line.specs.State.Spelling.{Is, Number, Natural, slots_of}
+use Rattle.dn_arc.specs.Kinds.{capacities, lengths, costs}
 use Rattle.dn_instance.specs.Instances.{Graph, Instance, MinCostFlow, MaxFlow, ShortestPaths, Sources, Queries, Coordinates, size_of}
 use Rattle.dn_instance.specs.Validity.{Fits, IsNode, IsId, IsValidGraph, IsSupply, IsPoint, AreSupplies, ArePoints, IsValid}
 use Rattle.dn_instance.specs.Items.{Problem, counted, length_arc_in, cap_arc_in, cost_arc_in}

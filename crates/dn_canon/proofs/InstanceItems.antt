@@ -17,12 +17,12 @@ use Rattle.dn_line.specs.declared.line.Line.TheVariants as Item
 use Rattle.dn_line.specs.declared.word.Keyword.{Keyword}
 use Rattle.dn_line.specs.declared.word.Keyword.TheVariants as Key
 use Rattle.dn_line.specs.Words.{keyword_text}
-use Rattle.dn_bundle.specs.Kinds.{ArcKind, lengths, capacities, costs}
+use Rattle.dn_arc.specs.Kinds.{ArcKind, lengths, capacities, costs}
 use Rattle.dn_instance.specs.Instances.{Graph, Instance, MinCostFlow, MaxFlow, ShortestPaths, Sources, Queries, Coordinates, kind_of, nodes_of}
 use Rattle.dn_instance.specs.Validity.{IsSupply, AreSupplies, IsValid}
 use Rattle.dn_instance.specs.Items.{length_arc_in, cap_arc_in, cost_arc_in, arcs_of, supply_in, supplies_of, source_in, query_in, point_in, by_key, graph_of, instance_as, instance_of}
 use Rattle.dn_canon.specs.Prints.{word_row, graph_row, companion_row, supply_row, terminal_row, arc_row, source_row, query_row, point_row, rows}
-use Rattle.dn_row.specs.Rows.{Row}
+use Rattle.dn_sink.specs.Rows.{Row}
 use Rattle.dn_canon.proofs.RowLaws.{IsInk, AllWords, number_word, number_words}
 use Rattle.dn_canon.proofs.ItemLaws.{IsHead}
 use Rattle.dn_canon.proofs.PartLaws.{items_back, no_items, always, all_append, all_map}

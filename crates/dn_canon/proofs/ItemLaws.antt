@@ -10,7 +10,7 @@ use Rattle.dn_line.specs.declared.line.Line.{Line}
 use Rattle.dn_line.specs.declared.word.Word.{Word}
 use Rattle.dn_line.specs.Words.{said, said_words, is_skip}
 use Rattle.dn_line.specs.Faults.{Test, first_fault, head_tests, field_tests, fields}
-use Rattle.dn_line.specs.Spelling.{Spells}
+use Rattle.dn_line.specs.State.Spelling.{Spells}
 use Rattle.dn_line.specs.LineTable.{kind_named}
 use Rattle.dn_line.specs.Reading.{words_read}
 use Rattle.dn_line.proofs.AnswerLaws.{read_item, spells_unskipped, spells_faultless}
@@ -20,7 +20,7 @@ use Rattle.dn_instance.specs.TextFaults.{item_spelled, is_too_long, is_late_node
 use Rattle.dn_instance.specs.Texts.{with_next, items_of, IsClean}
 use Rattle.dn_instance.proofs.FirstFaults.{fault_after}
 use Rattle.dn_instance.proofs.CleanItems.{item_some, items_push, none_both}
-use Rattle.dn_row.specs.Rows.{Row}
+use Rattle.dn_sink.specs.Rows.{Row}
 use Rattle.dn_canon.proofs.RowLaws.{line_of, AllWords, said_are}
 
 -- the row spells the item, which has no fault after those before it

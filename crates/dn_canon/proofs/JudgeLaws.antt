@@ -2,18 +2,19 @@
 use Rattle.std.proofs.Common.{◌≡◌, ◌↔◌, ℕ, ◌<◌, ◌≤◌, ◌^◌, List, [], ◌∷◌, ◌++◌, length, take, drop, get_or, length-append, append-nil, Bool, true, false, Some, Ok, Err, refl, sym, ap, ◌∙◌, arith}
 use Rattle.std.proofs.lemmas.List.{drop_at, take_at}
 use Rattle.std.specs.List.{join_with_byte}
-use Rattle.dn_bundle.specs.declared.arc.Form.{Form}
+use Rattle.dn_arc.specs.declared.arc.Form.{Form}
 use Rattle.dn_instance.specs.Instances.{Instance, size_of}
-use Rattle.dn_instance.specs.Readers.{Outcome}
+use Rattle.dn_instance.specs.State.Readers.{Outcome}
 use Rattle.dn_instance.specs.declared.refusal.Refusal.{Refusal}
 use Rattle.dn_instance.specs.declared.refusal.Refusal.TheVariants.{Text, Memory, Read, Endless, Write, CountTooLarge}
 use Rattle.dn_instance.proofs.SameLaws.{refl_of}
 use Rattle.dn_canon.specs.CanonTexts.{IsCanonOf, IsTooLarge}
 use Rattle.dn_canon.specs.Prints.{rows, print}
-use Rattle.dn_row.specs.Rows.{Row, line_text, text_of}
-use Rattle.dn_canon.specs.Runs.{JudgesCanon}
-use Rattle.dn_canon.specs.Writes.{WritesCanon}
-use Rattle.dn_sink.specs.Matches.{IsNoPrefix, Matched, taken_of}
+use Rattle.dn_sink.specs.Rows.{Row, line_text, text_of}
+use Rattle.dn_canon.specs.State.Runs.{JudgesCanon}
+use Rattle.dn_canon.specs.State.Writes.{WritesCanon}
+use Rattle.dn_sink.specs.Sinks.{SinkWords}
+use Rattle.dn_sink.specs.State.Matches.{IsNoPrefix, Matched, taken_of}
 use Rattle.dn_canon.proofs.FollowLaws.{count_rows}
 use Rattle.dn_canon.proofs.InstanceItems.{rows_are}
 use Rattle.dn_canon.proofs.TextLaws.{texts_agree}
@@ -46,6 +47,10 @@ not_so_large form t I (K, canon, large) small = (
       ),
 )
 
+-- the words of a sink that compares
+abbrev matcher_words : SinkWords Matched
+matcher_words = record { taken = λ (m : Matched). Some (taken_of m); has_failed = λ (m : Matched). m.failed; is_flushed = λ (m : Matched). true }
+
 -- what a sink that compares with the text t has taken tells that text, and what was put after it
 told_apart : (t u put put' : List ℕ) → length t ∷ (t ++ put) ≡ length u ∷ (u ++ put') → (t ≡ u) × (put ≡ put')
 told_apart t u put put' e =
@@ -63,7 +68,7 @@ module _ (form : Form) (t : List ℕ) (I : Instance) (old new : Matched) (begins
       told_apart new.text t new.put put (e ∙ ap (λ l. l ++ put) (from ∙ ap (λ l. length t ∷ l) (append-nil t)))
 
   -- the canonical text was put whole
-  pub judged_whole : WritesCanon (λ (m : Matched). Some (taken_of m)) (λ (m : Matched). m.failed) old new form I (Ok tt) → (answer : Bool) → (answer ≡ true) ↔ (new.put ≡ new.text) → (answer ≡ true) ↔ IsCanonOf form t I
+  pub judged_whole : WritesCanon matcher_words old new form I (Ok tt) → (answer : Bool) → (answer ≡ true) ↔ (new.put ≡ new.text) → (answer ≡ true) ↔ IsCanonOf form t I
   judged_whole (J, canon, w) answer match =
       let since = put_since w.0.put w.0.bytes in
       let whole : new.put ≡ print J = since.1 ∙ sym (append-nil w.0.put) ∙ w.0.whole in (
@@ -72,16 +77,16 @@ module _ (form : Form) (t : List ℕ) (I : Instance) (old new : Matched) (begins
       )
 
   -- only a prefix of it was put, since the text goes on otherwise
-  judged_part : WritesCanon (λ (m : Matched). Some (taken_of m)) (λ (m : Matched). m.failed) old new form I (Err Write) → (new.failed ≡ true → IsNoPrefix new.put new.text) → (false ≡ true) ↔ IsCanonOf form t I
+  judged_part : WritesCanon matcher_words old new form I (Err Write) → (new.failed ≡ true → IsNoPrefix new.put new.text) → (false ≡ true) ↔ IsCanonOf form t I
   judged_part (J, canon, w) apart =
-      let since = put_since w.0.has.put w.0.has.bytes in (
+      let since = put_since w.0.put w.0.bytes in (
         λ y. cc,
         λ h. absurd (apart w.0.failed w.0.left
-            (ap (λ l. l ++ w.0.left) since.1 ∙ w.0.has.whole ∙ (texts_agree form (print J) t I I (J, record { canon = canon; text_is = refl }) h).1 (refl_of I) ∙ sym since.0)),
+            (ap (λ l. l ++ w.0.left) since.1 ∙ w.0.whole ∙ (texts_agree form (print J) t I I (J, record { canon = canon; text_is = refl }) h).1 (refl_of I) ∙ sym since.0)),
       )
 
   -- the canonical text was not put whole
-  pub judged_unwritten : (e : Refusal) → WritesCanon (λ (m : Matched). Some (taken_of m)) (λ (m : Matched). m.failed) old new form I (Err e) → (new.failed ≡ true → IsNoPrefix new.put new.text) → length t < 2 ^ 63
+  pub judged_unwritten : (e : Refusal) → WritesCanon matcher_words old new form I (Err e) → (new.failed ≡ true → IsNoPrefix new.put new.text) → length t < 2 ^ 63
       → (false ≡ true) ↔ IsCanonOf form t I
   judged_unwritten Write w apart small = judged_part w apart
   judged_unwritten CountTooLarge (K, canon, w) apart small = not_so_large form t I (K, canon, w.1) small

@@ -4,10 +4,8 @@ use Rattle.std.specs.List.{AllByRecursion}
 use Rattle.std.specs.Ordering.{is_eq, is_le, ordering_reverse}
 use Rattle.std.specs.declared.cmp.Ordering.{Ordering}
 use Rattle.std.specs.declared.cmp.Ordering.TheVariants.{Less, Equal, Greater}
-use Rattle.pair_index.proofs.IndexLaws.{pair_total}
-use Rattle.pair_index.proofs.PairLaws.{pair_is, pair_self}
-use Rattle.pair_index.specs.Pairs.{pair_cmp, same_pair}
-use Rattle.dn_table.specs.Pairs.{pair_le, bundle}
+use Rattle.dn_arc.proofs.PairLaws.{pair_is, pair_self, pair_total}
+use Rattle.dn_arc.specs.Pairs.{bundle, pair_cmp, pair_le, same_pair}
 use Rattle.dn_canon.specs.CanonInstances.{AreInOrder}
 
 -- what comes after is what the other comes before

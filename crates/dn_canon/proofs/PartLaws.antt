@@ -5,7 +5,7 @@ use Rattle.std.specs.List.{AllByRecursion, filter_map, cons_option}
 use Rattle.dn_line.specs.declared.line.Line.{Line}
 use Rattle.dn_line.specs.Words.{said}
 use Rattle.dn_instance.specs.Items.{counted, is_counted}
-use Rattle.dn_row.specs.Rows.{Row}
+use Rattle.dn_sink.specs.Rows.{Row}
 use Rattle.dn_canon.proofs.ItemLaws.{Follows, AllFollow}
 
 -- what holds of each element holds of the one at which the list is parted

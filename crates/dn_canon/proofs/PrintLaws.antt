@@ -13,7 +13,7 @@ use Rattle.dn_instance.specs.Items.{instance_as, instance_of}
 use Rattle.dn_instance.specs.TextFaults.{end_fault}
 use Rattle.dn_instance.specs.Texts.{items_of, IsClean, Reads}
 use Rattle.dn_canon.specs.Prints.{print}
-use Rattle.dn_row.specs.Rows.{Row, text_of}
+use Rattle.dn_sink.specs.Rows.{Row, text_of}
 use Rattle.dn_canon.proofs.RowLaws.{line_of, AllWords, lines_are, rows_one}
 use Rattle.dn_canon.proofs.ItemLaws.{AllFollow, items_under, body_items, items_are, rows_clean}
 use Rattle.dn_canon.proofs.InstanceItems.{head_row, head_item, body_rows, body_of, rows_are, body_words, head_is, nodes_in, nodes_back, body_makes, items_make}

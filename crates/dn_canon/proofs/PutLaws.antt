@@ -1,5 +1,5 @@
 -- How the rows of a text go into a sink one by one.
-use Rattle.std.proofs.Common.{◌≡◌, ◌⊎◌, inl, inr, get_or, ℕ, ◌<◌, ◌≤◌, ℤ, List, [], ◌∷◌, ◌++◌, length, map, drop, Bool, Option, Some, None, slice_get, ap, sym, ◌∙◌, subst, arith, append-nil}
+use Rattle.std.proofs.Common.{◌≡◌, ◌⊎◌, inl, inr, get_or, ℕ, ◌<◌, ◌≤◌, ℤ, List, [], ◌∷◌, ◌++◌, length, map, drop, Option, Some, None, slice_get, ap, sym, ◌∙◌, subst, arith, append-nil}
 use Rattle.std.proofs.lemmas.List.{drop_all, map-append}
 use Rattle.std.proofs.lemmas.List.Folds.{concat-append}
 use Rattle.std.proofs.lemmas.Option.{slice_get_cases}
@@ -7,31 +7,32 @@ use Rattle.std.specs.Borrow.{Bor}
 use Rattle.std.specs.List.{concat}
 use Rattle.dn_line.specs.declared.kind.Kind.{Kind}
 use Rattle.dn_line.specs.declared.word.Keyword.TheVariants.{A, S, T}
-use Rattle.dn_bundle.specs.Kinds.{ArcKind}
+use Rattle.dn_arc.specs.Kinds.{ArcKind}
 use Rattle.dn_instance.specs.Instances.{Graph}
 use Rattle.dn_canon.specs.Prints.{word_row, graph_row, terminal_row, arc_row, graph_rows}
-use Rattle.dn_row.specs.Rows.{Row, line_text, text_of}
-use Rattle.dn_sink.specs.Puts.{HasPut, PutsFront}
+use Rattle.dn_sink.specs.Rows.{Row, line_text, text_of}
+use Rattle.dn_sink.specs.Puts.{HasPut, PutsPrefix}
 use Rattle.dn_canon.proofs.BlockLaws.{pass_more, pass_stop, all_done}
-use Rattle.dn_canon.specs.ToldArcs.{placed, told_arcs}
-use Rattle.dn_canon.specs.Writes.{node_rows}
+use Rattle.dn_canon.specs.State.ToldArcs.{placed, told_arcs}
+use Rattle.dn_canon.specs.State.Writes.{node_rows}
 use Rattle.dn_canon.specs.declared.writer.NodeLines.{NodeLines}
 use Rattle.dn_canon.specs.declared.writer.NodeLines.TheVariants.{Terminals}
+use Rattle.dn_sink.specs.Sinks.{SinkWords}
 
 -- the line of the next row goes by the block
-pub row_more : {K : Type 0} {taken : K → Option (List ℕ)} {has_failed : K → Bool} {a b c : K} {X : Type 0} {all line after : List ℕ} (row : X → Row) (before : List ℕ) (left rest : List X) (x : X) → left ≡ x ∷ rest
-    → line ≡ line_text (row x) → HasPut taken has_failed a b (before ++ text_of (map row left)) all → HasPut taken has_failed b c after (before ++ line)
-    → HasPut taken has_failed a c (after ++ text_of (map row rest)) all
-row_more {K} {taken} {has_failed} {a} {b} {c} {X} {all} {line} {after} row before left rest x e f h p =
-    pass_more before (line_text (row x)) (text_of (map row rest)) (subst (λ xs. HasPut taken has_failed a b (before ++ text_of (map row xs)) all) e h)
-    (subst (λ l. HasPut taken has_failed b c after (before ++ l)) f p)
+pub row_more : {K : Type 0} {sink : SinkWords K} {a b c : K} {X : Type 0} {all line after : List ℕ} (row : X → Row) (before : List ℕ) (left rest : List X) (x : X) → left ≡ x ∷ rest
+    → line ≡ line_text (row x) → HasPut sink a b (before ++ text_of (map row left)) all → HasPut sink b c after (before ++ line)
+    → HasPut sink a c (after ++ text_of (map row rest)) all
+row_more {K} {sink} {a} {b} {c} {X} {all} {line} {after} row before left rest x e f h p =
+    pass_more before (line_text (row x)) (text_of (map row rest)) (subst (λ xs. HasPut sink a b (before ++ text_of (map row xs)) all) e h)
+    (subst (λ l. HasPut sink b c after (before ++ l)) f p)
 
 -- a front of what the block held and of that line is put
-pub row_stop : {K : Type 0} {taken : K → Option (List ℕ)} {has_failed : K → Bool} {a b c : K} {X : Type 0} {all line : List ℕ} (row : X → Row) (before : List ℕ) (left rest : List X) (x : X) → left ≡ x ∷ rest
-    → line ≡ line_text (row x) → HasPut taken has_failed a b (before ++ text_of (map row left)) all → PutsFront taken has_failed b c (before ++ line) → PutsFront taken has_failed a c all
-row_stop {K} {taken} {has_failed} {a} {b} {c} {X} {all} {line} row before left rest x e f h p =
-    pass_stop before (line_text (row x)) (text_of (map row rest)) (subst (λ xs. HasPut taken has_failed a b (before ++ text_of (map row xs)) all) e h)
-    (subst (λ l. PutsFront taken has_failed b c (before ++ l)) f p)
+pub row_stop : {K : Type 0} {sink : SinkWords K} {a b c : K} {X : Type 0} {all line : List ℕ} (row : X → Row) (before : List ℕ) (left rest : List X) (x : X) → left ≡ x ∷ rest
+    → line ≡ line_text (row x) → HasPut sink a b (before ++ text_of (map row left)) all → PutsPrefix sink b c (before ++ line) → PutsPrefix sink a c all
+row_stop {K} {sink} {a} {b} {c} {X} {all} {line} row before left rest x e f h p =
+    pass_stop before (line_text (row x)) (text_of (map row rest)) (subst (λ xs. HasPut sink a b (before ++ text_of (map row xs)) all) e h)
+    (subst (λ l. PutsPrefix sink b c (before ++ l)) f p)
 
 -- the rows of two lists
 text-append : (rs ss : List Row) → text_of (rs ++ ss) ≡ text_of rs ++ text_of ss
@@ -53,9 +54,9 @@ some_below {X} xs i o h e n = by_case (slice_get_cases xs i).1
     by_case (inr (past, none)) = absurd (omega arith)
 
 -- no row is left
-pub rows_done : {K : Type 0} {taken : K → Option (List ℕ)} {has_failed : K → Bool} {a b : K} {all : List ℕ} {X : Type 0} (row : X → Row) (block : List ℕ) (xs : List X) (i : ℕ) → length xs ≤ i
-    → HasPut taken has_failed a b (block ++ text_of (map row (drop i xs))) all → HasPut taken has_failed a b block all
-rows_done {K} {taken} {has_failed} {a} {b} {all} {X} row block xs i h has = all_done block (text_of (map row (drop i xs))) (ap (λ l. text_of (map row l)) (drop_all i xs h)) has
+pub rows_done : {K : Type 0} {sink : SinkWords K} {a b : K} {all : List ℕ} {X : Type 0} (row : X → Row) (block : List ℕ) (xs : List X) (i : ℕ) → length xs ≤ i
+    → HasPut sink a b (block ++ text_of (map row (drop i xs))) all → HasPut sink a b block all
+rows_done {K} {sink} {a} {b} {all} {X} row block xs i h has = all_done block (text_of (map row (drop i xs))) (ap (λ l. text_of (map row l)) (drop_all i xs h)) has
 
 -- a graph's text, in parts
 pub graph_text : {Arc : Type 0} (arcs : ArcKind Arc) (kind : Kind) (graph : Graph Arc) (nodes : List Row) (count : ℕ) (line : List ℕ) → line ≡ line_text (graph_row kind graph.nodes count) → count ≡ length graph.arcs

@@ -6,9 +6,9 @@ use Rattle.std.specs.List.{All, AllByRecursion, join_with_byte}
 use Rattle.std.specs.Fmt.{digits, digits_onto, digit_glyph, decimal, signed_decimal}
 use Rattle.dn_line.specs.Pieces.{parts, lines, is_line_feed}
 use Rattle.dn_line.specs.Words.{is_blank, words, said, said_words}
-use Rattle.dn_line.specs.Runs.{AllBlank, IsWord, AreRuns}
+use Rattle.dn_line.specs.State.Runs.{AllBlank, IsWord, AreRuns}
 use Rattle.dn_line.proofs.RunLaws.{runs_only}
-use Rattle.dn_row.specs.Rows.{Row, text_of}
+use Rattle.dn_sink.specs.Rows.{Row, text_of}
 
 -- the line of a row, without its line feed
 abbrev pub line_of : Row → List ℕ

@@ -1,38 +1,38 @@
 -- From a source to a sink.
-use Rattle.std.proofs.Common.{ℕ, List, Bool, Option, Some, None, Result, Ok, Err, IfSome}
-use Rattle.dn_bundle.specs.declared.arc.Form.{Form}
-use Rattle.dn_instance.specs.Helds.{IsHeld, holding}
+use Rattle.std.proofs.Common.{ℕ, List, Option, Some, None, Result, Ok, Err, IfSome}
+use Rattle.dn_arc.specs.declared.arc.Form.{Form}
+use Rattle.dn_instance.specs.State.Helds.{IsHeld, holding}
 use Rattle.dn_instance.specs.Instances.{Instance}
-use Rattle.dn_instance.specs.SourceReads.{SourceOutcome}
+use Rattle.dn_instance.specs.State.SourceReads.{SourceOutcome}
 use Rattle.dn_instance.specs.Validity.{IsValid}
 use Rattle.dn_instance.specs.declared.held.Held.{Held}
 use Rattle.dn_instance.specs.declared.refusal.Refusal.{Refusal}
 use Rattle.dn_instance.specs.declared.refusal.Refusal.TheVariants.{Text, Memory, Read, Endless, Write, CountTooLarge}
-use Rattle.dn_instance.proofs.SourceLaws.{stopped_wants}
 use Rattle.dn_instance.proofs.ValidLaws.{reads_valid}
-use Rattle.dn_canon.specs.Runs.{RunOutcome}
-use Rattle.dn_canon.specs.Writes.{WritesCanon}
+use Rattle.dn_canon.specs.State.Runs.{RunOutcome}
+use Rattle.dn_canon.specs.State.Writes.{WritesCanon}
+use Rattle.dn_sink.specs.Sinks.{SinkWords}
 
 -- what was read is written
-pub run_written : {S : Type 0} (taken : S → Option (List ℕ)) (has_failed : S → Bool) (old new : S) (form : Form) (given rest : Option (List ℕ)) (held : Held) (result : Result (Unit {0}) Refusal) → IfSome given (λ t. SourceOutcome t rest (Ok held))
-    → ((I : Instance) → IsValid I → IsHeld (holding held) I → WritesCanon taken has_failed old new form I result) → IfSome given (λ t. RunOutcome taken has_failed old new form t rest result)
-run_written taken has_failed old new form None rest held result o w = tt
-run_written taken has_failed old new form (Some t) rest held result o w = by_result result (w o.0.0 (reads_valid t o.0.0 o.0.1) o.0.2)
+pub run_written : {S : Type 0} (sink : SinkWords S) (old new : S) (form : Form) (given rest : Option (List ℕ)) (held : Held) (result : Result (Unit {0}) Refusal) → IfSome given (λ t. SourceOutcome t rest (Ok held))
+    → ((I : Instance) → IsValid I → IsHeld (holding held) I → WritesCanon sink old new form I result) → IfSome given (λ t. RunOutcome sink old new form t rest result)
+run_written sink old new form None rest held result o w = tt
+run_written sink old new form (Some t) rest held result o w = by_result result (w o.0.0 (reads_valid t o.0.0 o.0.1) o.0.2)
   where
-    by_result : (r : Result (Unit {0}) Refusal) → WritesCanon taken has_failed old new form o.0.0 r → RunOutcome taken has_failed old new form t rest r
+    by_result : (r : Result (Unit {0}) Refusal) → WritesCanon sink old new form o.0.0 r → RunOutcome sink old new form t rest r
     by_result (Ok x) h = (o.0.0, o.0.1, o.1, h)
-    by_result (Err Write) h = (o.0.0, o.0.1, h)
-    by_result (Err CountTooLarge) h = (o.0.0, o.0.1, h)
+    by_result (Err Write) h = (o.0.0, o.0.1, o.1, h)
+    by_result (Err CountTooLarge) h = (o.0.0, o.0.1, o.1, h)
     by_result (Err _) h = absurd h.2
 
 -- what was refused is not
-pub run_refused : {S : Type 0} (taken : S → Option (List ℕ)) (has_failed : S → Bool) (old new : S) (form : Form) (given rest : Option (List ℕ)) (e : Refusal) → IfSome given (λ t. SourceOutcome t rest (Err e)) → IfSome given (λ t. RunOutcome taken has_failed old new form t rest (Err e))
-run_refused taken has_failed old new form None rest e o = tt
-run_refused taken has_failed old new form (Some t) rest e o = by_refusal e o
+pub run_refused : {S : Type 0} (sink : SinkWords S) (old new : S) (form : Form) (given rest : Option (List ℕ)) (e : Refusal) → IfSome given (λ t. SourceOutcome t rest (Err e)) → IfSome given (λ t. RunOutcome sink old new form t rest (Err e))
+run_refused sink old new form None rest e o = tt
+run_refused sink old new form (Some t) rest e o = by_refusal e o
   where
-    by_refusal : (x : Refusal) → SourceOutcome t rest (Err x) → RunOutcome taken has_failed old new form t rest (Err x)
-    by_refusal (Text place code) h = h.0
-    by_refusal Memory h = stopped_wants t rest h
+    by_refusal : (x : Refusal) → SourceOutcome t rest (Err x) → RunOutcome sink old new form t rest (Err x)
+    by_refusal (Text place code) h = h
+    by_refusal Memory h = h
     by_refusal Read h = h
     by_refusal Endless h = h
     by_refusal Write h = absurd h

@@ -3,14 +3,14 @@ use Rattle.std.proofs.Common.{◌≡◌, ◌↔◌, ℕ, ◌+◌, ◌-◌, ◌<�
 use Rattle.std.proofs.lemmas.Bool.Decides.{nat_tests}
 use Rattle.dn_line.specs.Pieces.{lines}
 use Rattle.dn_line.specs.declared.code.Code.TheVariants.{TooLong}
-use Rattle.dn_bundle.specs.declared.arc.Form.{Form}
-use Rattle.dn_bundle.specs.Kinds.{ArcKind, lengths, capacities, costs}
-use Rattle.dn_bundle.specs.Bundles.{IsDetermined}
-use Rattle.dn_bundle.specs.Laws.LengthKind.{length_determined}
-use Rattle.dn_bundle.specs.Laws.TotalKind.{total_determined}
-use Rattle.dn_bundle.specs.Laws.FormTwo.{determination_of_forms}
+use Rattle.dn_arc.specs.declared.arc.Form.{Form}
+use Rattle.dn_arc.specs.Kinds.{ArcKind, lengths, capacities, costs}
+use Rattle.dn_arc.specs.State.Bundles.{IsDetermined}
+use Rattle.dn_arc.proofs.LengthKindLaws.{length_determined}
+use Rattle.dn_arc.proofs.TotalKindLaws.{total_determined}
+use Rattle.dn_arc.proofs.FormTwoLaws.{determination_of_forms}
 use Rattle.dn_instance.specs.Instances.{Graph, Instance, MinCostFlow, MaxFlow, ShortestPaths, Sources, Queries, Coordinates}
-use Rattle.dn_table.specs.Pairs.{bundle}
+use Rattle.dn_arc.specs.Pairs.{bundle}
 use Rattle.dn_instance.specs.Sameness.{SameGraph, IsSame}
 use Rattle.dn_instance.specs.TextFaults.{is_too_long}
 use Rattle.dn_instance.specs.Texts.{Reads}
@@ -19,7 +19,7 @@ use Rattle.dn_instance.proofs.SameLaws.{refl_of, sym_of, trans_of}
 use Rattle.dn_instance.proofs.ValidLaws.{some_is}
 use Rattle.dn_canon.specs.CanonInstances.{IsCanonGraph, IsCanonInstance, IsCanonInstanceOf}
 use Rattle.dn_canon.specs.CanonTexts.{IsCanonOf, PrintsCanon}
-use Rattle.dn_canon.specs.CanonReadings.{ReadsTwice}
+use Rattle.dn_canon.specs.State.CanonReadings.{ReadsTwice}
 use Rattle.dn_canon.specs.Prints.{print}
 use Rattle.dn_canon.proofs.OrderLaws.{order_one}
 use Rattle.dn_canon.proofs.PrintLaws.{print_one, print_reads}

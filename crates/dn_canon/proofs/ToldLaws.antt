@@ -10,21 +10,22 @@ use Rattle.std.specs.Ordering.{is_eq, is_le}
 use Rattle.std.specs.declared.cmp.Ordering.{Ordering}
 use Rattle.std.specs.declared.cmp.Ordering.TheVariants.{Less, Equal, Greater}
 use Rattle.dn_line.specs.Number.{fits}
-use Rattle.dn_bundle.specs.declared.arc.Form.{Form}
-use Rattle.dn_bundle.specs.declared.arc.Form.TheVariants.{One, Two}
-use Rattle.dn_bundle.specs.Kinds.{ArcKind, AreCanonArcsOf, costs, capacities, lengths}
-use Rattle.dn_bundle.specs.declared.arc.LengthArc.{LengthArc}
-use Rattle.dn_bundle.specs.declared.arc.CapArc.{CapArc}
-use Rattle.dn_bundle.specs.declared.arc.CostArc.{CostArc}
-use Rattle.dn_bundle.specs.Bundles.{IsKind, NumbersFit, told_of}
+use Rattle.dn_arc.specs.declared.arc.Form.{Form}
+use Rattle.dn_arc.specs.declared.arc.Form.TheVariants.{One, Two}
+use Rattle.dn_arc.specs.Kinds.{ArcKind, costs, capacities, lengths}
+use Rattle.dn_arc.specs.State.Kinds.{AreCanonArcsOf}
+use Rattle.dn_arc.specs.declared.arc.LengthArc.{LengthArc}
+use Rattle.dn_arc.specs.declared.arc.CapArc.{CapArc}
+use Rattle.dn_arc.specs.declared.arc.CostArc.{CostArc}
+use Rattle.dn_arc.specs.State.Bundles.{IsKind, NumbersFit, told_of}
 use Rattle.dn_instance.specs.Instances.{Graph, Instance, MinCostFlow, MaxFlow, ShortestPaths, Sources, Queries, Coordinates}
-use Rattle.pair_index.specs.Pairs.{pair_cmp, same_pair}
-use Rattle.dn_table.specs.Pairs.{bundle}
-use Rattle.dn_table.specs.Tables.{told_at}
+use Rattle.dn_arc.specs.Pairs.{bundle, pair_cmp, same_pair}
+use Rattle.dn_table.specs.State.Tables.{told_at}
 use Rattle.dn_instance.specs.Validity.{Fits, IsNode, IsPlaced, IsValidGraph, IsValid, AreSupplies, AreTerminals}
-use Rattle.pair_index.proofs.PairLaws.{pair_is, pair_self}
-use Rattle.dn_canon.specs.CanonInstances.{AreInOrder, IsCanonGraphOf, IsCanonInstanceOf}
-use Rattle.dn_canon.specs.ToldArcs.{placed, told_arcs, told_graph}
+use Rattle.dn_arc.proofs.PairLaws.{pair_is, pair_self}
+use Rattle.dn_canon.specs.CanonInstances.{AreInOrder, IsCanonInstanceOf}
+use Rattle.dn_canon.specs.State.CanonInstances.{IsCanonGraphOf}
+use Rattle.dn_canon.specs.State.ToldArcs.{placed, told_arcs, told_graph}
 use Rattle.dn_canon.proofs.OrderLaws.{NoneBefore, all_at_pair, at_head}
 
 -- an instance without a graph

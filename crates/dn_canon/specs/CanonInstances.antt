@@ -1,12 +1,12 @@
 -- Which instances are canonical, by form, and which is the canonical one of an instance (this project's profile).
 use Rattle.std.specs.Prelude.{ℤ, List, [], ◌∷◌, IsTrue}
 use Rattle.std.specs.List.{AllByRecursion}
-use Rattle.dn_bundle.specs.declared.arc.Form.{Form}
-use Rattle.dn_bundle.specs.Kinds.{ArcKind, costs, capacities, lengths}
-use Rattle.dn_table.specs.Pairs.{pair_le, bundle}
+use Rattle.dn_arc.specs.declared.arc.Form.{Form}
+use Rattle.dn_arc.specs.Kinds.{ArcKind, costs, capacities, lengths}
+use Rattle.dn_arc.specs.Pairs.{pair_le, bundle}
 use Rattle.dn_instance.specs.Instances.{Graph, Instance, MinCostFlow, MaxFlow, ShortestPaths, Sources, Queries, Coordinates}
-use Rattle.dn_instance.specs.Sameness.{SameGraph, IsSame}
-use Rattle.dn_instance.specs.Validity.{IsValidGraph, IsValid}
+use Rattle.dn_instance.specs.Sameness.{IsSame}
+use Rattle.dn_instance.specs.Validity.{IsValid}
 
 -- the arcs stand by rising (SRC, DST)
 abbrev pub AreInOrder : {Arc : Type 0} → List ((ℤ × ℤ) × Arc) → Type 0
@@ -26,12 +26,6 @@ IsCanonInstance form (ShortestPaths graph) = IsCanonGraph lengths form graph
 IsCanonInstance form (Sources ids) = Unit {0}
 IsCanonInstance form (Queries pairs) = Unit {0}
 IsCanonInstance form (Coordinates points) = Unit {0}
-
--- H is the canonical graph of G in this form: valid, canonical, and of the same meaning
-pub record IsCanonGraphOf {Arc : Type 0} (kind : ArcKind Arc) (form : Form) (H G : Graph Arc) : Type 0 where
-  pub valid : IsValidGraph kind H
-  pub canonical : IsCanonGraph kind form H
-  pub same : SameGraph kind G H
 
 -- J is the canonical instance of I in this form: valid, canonical, and the same problem
 pub record IsCanonInstanceOf (form : Form) (J I : Instance) : Type 0 where

@@ -1,6 +1,6 @@
 -- Which text is the canonical one of an instance, by form (this project's profile).
 use Rattle.std.specs.Prelude.{◌≡◌, ◌≤◌, ◌^◌, ℕ, List}
-use Rattle.dn_bundle.specs.declared.arc.Form.{Form}
+use Rattle.dn_arc.specs.declared.arc.Form.{Form}
 use Rattle.dn_instance.specs.Instances.{Instance, size_of}
 use Rattle.dn_canon.specs.CanonInstances.{IsCanonInstanceOf}
 use Rattle.dn_canon.specs.Prints.{print}

@@ -1,10 +1,4 @@
 pub mod CanonInstances
 pub mod Prints
 pub mod CanonTexts
-pub mod CanonReadings
-pub mod PartCanons
-pub mod Lines
-pub mod Blocks
-pub mod ToldArcs
-pub mod Writes
-pub mod Runs
+pub mod State

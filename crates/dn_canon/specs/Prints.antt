@@ -8,8 +8,8 @@ use Rattle.dn_line.specs.declared.kind.Kind.{Kind}
 use Rattle.dn_line.specs.declared.kind.Kind.TheVariants as Kinds
 use Rattle.dn_line.specs.declared.word.Keyword.{Keyword}
 use Rattle.dn_line.specs.declared.word.Keyword.TheVariants.{P, N, A, S, T, Q, V, Sp, Aux}
-use Rattle.dn_row.specs.Rows.{Row, text_of}
-use Rattle.dn_bundle.specs.Kinds.{ArcKind, costs, capacities, lengths}
+use Rattle.dn_sink.specs.Rows.{Row, text_of}
+use Rattle.dn_arc.specs.Kinds.{ArcKind, costs, capacities, lengths}
 use Rattle.dn_instance.specs.Instances.{Graph, Instance, MinCostFlow, MaxFlow, ShortestPaths, Sources, Queries, Coordinates}
 
 -- a keyword, and numbers

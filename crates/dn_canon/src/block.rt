@@ -1,15 +1,16 @@
 // Lines of a text, gathered on the stack and put into a sink many at a time.
-ghost use Rattle.std.specs.Prelude.{◌≡◌, ℕ, List, ◌+◌, ◌*◌, ◌<◌, ◌≤◌, [], ◌∷◌, ◌++◌, length, map, take, OnOk};
+ghost use Rattle.std.specs.Prelude.{◌≡◌, ℕ, List, ◌+◌, ◌*◌, ◌<◌, ◌≤◌, [], ◌∷◌, ◌++◌, length, map, take, IsTrue, OnOk};
 ghost use Rattle.std.specs.Fmt.{signed_decimal};
 ghost use Rattle.dn_line.specs.declared.word.Keyword.TheVariants.{A};
-ghost use Rattle.dn_row.specs.Rows.{spaced, line_text};
+ghost use Rattle.dn_sink.specs.Rows.{line_text};
+ghost use Rattle.dn_sink.specs.State.Spaced.{spaced};
 ghost use Rattle.dn_sink.specs.Puts.{Puts};
-ghost use Rattle.dn_canon.specs.Blocks.{HasRoom, Passes};
+ghost use Rattle.dn_canon.specs.State.Blocks.{HasRoom, Passes};
 ghost use Rattle.dn_canon.specs.Prints.{word_row};
 
 use dn_bundle::Parts;
 use dn_num::put_number;
-use dn_sink::{Sink, SinkFault, put_all};
+use dn_sink::{Sink, SinkFault, put_all, put_and_flush};
 use std::marker::Model;
 
 // How many bytes a block holds.
@@ -103,21 +104,22 @@ impl Block {
     // Puts it into a sink, and empties it, where a line more has no room.
     #[inline(always)]
     pub(crate) fn make_room<K: Sink>(&mut self, sink: &mut K) -> Result<(), SinkFault>
-        ensures put { Passes K.taken K.has_failed sink.old sink.new self.new self.old result }
+        ensures put { Passes K.sink sink.old sink.new self.new self.old result }
         ensures room { OnOk result (HasRoom self.new) }
     {
         if SIZE - LINE < self.used {
-            self.put(sink)?;
+            put_all(sink, &self.bytes[..self.used])?;
             self.used = 0;
         }
         Ok(())
     }
 
-    // Puts it into a sink.
-    pub(crate) fn put<K: Sink>(&self, sink: &mut K) -> Result<(), SinkFault>
-        ensures { Puts K.taken K.has_failed sink.old sink.new self.now result }
+    // Puts it into a sink as the last of a text, and flushes the sink.
+    pub(crate) fn put_last<K: Sink>(&self, sink: &mut K) -> Result<(), SinkFault>
+        ensures text { Puts K.sink sink.old sink.new self.now result }
+        ensures flushed { OnOk result (IsTrue (K.sink.is_flushed sink.new)) }
     {
-        put_all(sink, &self.bytes[..self.used])
+        put_and_flush(sink, &self.bytes[..self.used])
     }
 }
 

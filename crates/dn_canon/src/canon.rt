@@ -1,13 +1,13 @@
 // The canonical text of what is held, in a sink, in memory, and from a source to a sink.
-ghost use Rattle.std.specs.Prelude.{◌≡◌, ◌≢◌, ◌↔◌, Err, IfSome, IsErrOf, IsTrue, OnOk};
-ghost use Rattle.dn_instance.specs.Helds.{IsHeld, holding};
+ghost use Rattle.std.specs.Prelude.{◌≡◌, ◌↔◌, IfErr, IfSome, IsTrue, OnOk};
+ghost use Rattle.dn_instance.specs.State.Helds.{IsHeld, holding};
 ghost use Rattle.dn_instance.specs.Instances.{Instance};
-ghost use Rattle.dn_instance.specs.SourceReads.{PulledWhileClean};
+ghost use Rattle.dn_instance.specs.State.SourceReads.{SourceLeft};
 ghost use Rattle.dn_instance.specs.Texts.{Reads};
 ghost use Rattle.dn_instance.specs.Validity.{IsValid};
 ghost use Rattle.dn_canon.specs.CanonTexts.{IsCanonOf};
-ghost use Rattle.dn_canon.specs.Writes.{SinkAfter, WritesCanon, written_as};
-ghost use Rattle.dn_canon.specs.Runs.{JudgesCanon, RunOutcome, TextOutcome};
+ghost use Rattle.dn_canon.specs.State.Writes.{IsOfWriting, SinkAfter, WritesCanon, written_as};
+ghost use Rattle.dn_canon.specs.State.Runs.{JudgesCanon, RunOutcome, TextOutcome};
 
 use crate::writer::{NodeLines, write_graph, write_points, write_queries, write_sources};
 use dn_bundle::Form;
@@ -16,17 +16,18 @@ use dn_line::{Kind, Source};
 use dn_sink::{Bytes, Matcher, Sink, SinkFault};
 use std::alloc::Global;
 
-/// Puts the canonical text of what is held, a line a put, and flushes. It takes no memory of its own.
+/// Puts the canonical text of what is held, a block of lines a put, and flushes. It takes no memory of its own.
 ///
 /// # Errors
 ///
-/// `Write` where the sink failed, and then it took a front of the text; `CountTooLarge` where the text has more counted
-/// lines than 2^63-1, and then nothing is put.
+/// `Write` where the sink failed, and then it took a prefix of the text; `CountTooLarge` where the text has more than
+/// 2^63-1 counted lines, and then nothing is put.
 pub fn write_canon<K: Sink>(held: &Held, sink: &mut K, form: Form) -> Result<(), Refusal>
-    ensures answer { SinkAfter K.has_failed sink.old sink.new result }
-    ensures flushed { OnOk result (IsTrue (K.is_flushed sink.new)) }
+    ensures refusal { IfErr result IsOfWriting }
+    ensures after { SinkAfter K.sink sink.old sink.new result }
+    ensures flushed { OnOk result (IsTrue (K.sink.is_flushed sink.new)) }
     ensures canon { (I : Instance) → IsValid I → IsHeld (holding held.now) I
-        → WritesCanon K.taken K.has_failed sink.old sink.new form I result }
+        → WritesCanon K.sink sink.old sink.new form I result }
 {
     let nodes = held.nodes();
     match held.view() {
@@ -80,15 +81,11 @@ pub fn canon_run<S: Source, K: Sink>(
     sink: &mut K,
     form: Form,
 ) -> Result<(), Refusal>
-    ensures outcome { IfSome (S.gives source.old)
-        (λ t. RunOutcome K.taken K.has_failed sink.old sink.new form t (S.gives source.new) result) }
-    ensures read { IsErrOf result Refusal.Read → IsTrue (S.has_failed source.new) }
-    ensures write { IsErrOf result Refusal.Write → IsTrue (K.has_failed sink.new) }
-    ensures unput { (e : Refusal) → result ≡ Err e → e ≢ Refusal.Write → sink.new ≡ sink.old }
-    ensures stays { IsTrue (S.has_failed source.old) → IsTrue (S.has_failed source.new) }
-    ensures pulls { PulledWhileClean S.gives S.Pulls source.old source.new }
-    ensures failed { IsTrue (K.has_failed sink.old) → IsTrue (K.has_failed sink.new) }
-    ensures flushed { OnOk result (IsTrue (K.is_flushed sink.new)) }
+    ensures outcome { IfSome (S.source.gives source.old)
+        (λ t. RunOutcome K.sink sink.old sink.new form t (S.source.gives source.new) result) }
+    ensures left { SourceLeft S.source source.old source.new result }
+    ensures after { SinkAfter K.sink sink.old sink.new result }
+    ensures flushed { OnOk result (IsTrue (K.sink.is_flushed sink.new)) }
 {
     match read_from(alloc, source) {
         Ok(held) => {

@@ -1,10 +1,10 @@
 // The lines of a canonical text, each added to a block. Those that may come later than first put the block into a sink
 // where they have no room.
-ghost use Rattle.std.specs.Prelude.{◌≡◌, ◌+◌, ◌<◌, ◌≤◌, ◌^◌, ℤ, pos, List, [], ◌∷◌, ◌++◌, length, map, take};
+ghost use Rattle.std.specs.Prelude.{◌≡◌, ◌+◌, ◌<◌, ◌≤◌, ◌^◌, [], ◌∷◌, ◌++◌, length, map};
 ghost use Rattle.std.specs.Fmt.{signed_decimal};
 ghost use Rattle.dn_line.specs.declared.word.Keyword.TheVariants.{A, S, T};
-ghost use Rattle.dn_row.specs.Rows.{spaced, line_text};
-ghost use Rattle.dn_canon.specs.Blocks.{HasRoom, Passes};
+ghost use Rattle.dn_sink.specs.Rows.{line_text};
+ghost use Rattle.dn_canon.specs.State.Blocks.{HasRoom, Passes};
 ghost use Rattle.dn_canon.specs.Prints.{word_row, graph_row, companion_row, supply_row, terminal_row, source_row, query_row, point_row};
 
 use crate::block::Block;
@@ -46,7 +46,7 @@ pub(crate) fn supply_line<K: Sink>(
     id: &i64,
     flow: &i64,
 ) -> Result<(), SinkFault>
-    ensures { Passes K.taken K.has_failed sink.old sink.new block.new
+    ensures { Passes K.sink sink.old sink.new block.new
         (block.old ++ line_text (supply_row (id.now, flow.now))) result }
 {
     row_line(block, sink, b'n', &[*id, *flow])
@@ -58,7 +58,7 @@ pub(crate) fn max_source_line<K: Sink>(
     sink: &mut K,
     id: &i64,
 ) -> Result<(), SinkFault>
-    ensures { Passes K.taken K.has_failed sink.old sink.new block.new
+    ensures { Passes K.sink sink.old sink.new block.new
         (block.old ++ line_text (terminal_row id.now S)) result }
 {
     block.make_room(sink)?;
@@ -74,7 +74,7 @@ pub(crate) fn max_sink_line<K: Sink>(
     sink: &mut K,
     id: &i64,
 ) -> Result<(), SinkFault>
-    ensures { Passes K.taken K.has_failed sink.old sink.new block.new
+    ensures { Passes K.sink sink.old sink.new block.new
         (block.old ++ line_text (terminal_row id.now T)) result }
 {
     block.make_room(sink)?;
@@ -92,7 +92,7 @@ pub(crate) fn arc_line<P: Parts, K: Sink>(
     arc: &P,
 ) -> Result<(), SinkFault>
     requires { length (P.numbers arc.now) ≤ 3 }
-    ensures { Passes K.taken K.has_failed sink.old sink.new block.new
+    ensures { Passes K.sink sink.old sink.new block.new
         (block.old ++ line_text (word_row A (pair.now.0 ∷ pair.now.1 ∷ P.numbers arc.now))) result }
 {
     block.make_room(sink)?;
@@ -106,7 +106,7 @@ pub(crate) fn source_line<K: Sink>(
     sink: &mut K,
     id: &i64,
 ) -> Result<(), SinkFault>
-    ensures { Passes K.taken K.has_failed sink.old sink.new block.new
+    ensures { Passes K.sink sink.old sink.new block.new
         (block.old ++ line_text (source_row id.now)) result }
 {
     row_line(block, sink, b's', &[*id])
@@ -118,7 +118,7 @@ pub(crate) fn query_line<K: Sink>(
     sink: &mut K,
     query: &(i64, i64),
 ) -> Result<(), SinkFault>
-    ensures { Passes K.taken K.has_failed sink.old sink.new block.new
+    ensures { Passes K.sink sink.old sink.new block.new
         (block.old ++ line_text (query_row query.now)) result }
 {
     row_line(block, sink, b'q', &[query.0, query.1])
@@ -131,7 +131,7 @@ pub(crate) fn point_line<K: Sink>(
     id: &i64,
     place: &(i64, i64),
 ) -> Result<(), SinkFault>
-    ensures { Passes K.taken K.has_failed sink.old sink.new block.new
+    ensures { Passes K.sink sink.old sink.new block.new
         (block.old ++ line_text (point_row (id.now, place.now))) result }
 {
     row_line(block, sink, b'v', &[*id, place.0, place.1])
@@ -146,7 +146,7 @@ fn row_line<K: Sink>(
     numbers: &[i64],
 ) -> Result<(), SinkFault>
     requires { length numbers.now ≤ 5 }
-    ensures { Passes K.taken K.has_failed sink.old sink.new block.new
+    ensures { Passes K.sink sink.old sink.new block.new
         (block.old ++ line_text ((letter ∷ []) ∷ map signed_decimal numbers.now)) result }
 {
     block.make_room(sink)?;

@@ -1,19 +1,19 @@
 // Writes the canonical text of what tables, lists and maps tell, a block of lines a put, without memory of its own.
-ghost use Rattle.std.specs.Prelude.{◌≡◌, ◌<◌, ◌≤◌, ◌^◌, [], ◌++◌, length, map, IsTrue, OnOk, MatchOption};
+ghost use Rattle.std.specs.Prelude.{◌≡◌, ◌<◌, ◌≤◌, ◌^◌, ◌++◌, length, map, IsTrue, OnOk, MatchOption};
 ghost use Rattle.std.specs.List.Sorted.{IsStrictlySortedBy};
 ghost use Rattle.std.specs.Map.{keys_of};
 ghost use Rattle.dn_instance.specs.Instances.{Graph, Sources, Queries, Coordinates};
-ghost use Rattle.pair_index.specs.Pairs.{pair_cmp};
-ghost use Rattle.dn_table.specs.Tables.{TableTells};
+ghost use Rattle.dn_arc.specs.Pairs.{pair_cmp};
+ghost use Rattle.dn_table.specs.State.Tables.{Tells};
 ghost use Rattle.dn_instance.specs.Validity.{IsValidGraph};
-ghost use Rattle.dn_canon.specs.Blocks.{Passes};
-ghost use Rattle.dn_canon.specs.Lines.{AreShort};
+ghost use Rattle.dn_canon.specs.State.Blocks.{Passes};
+ghost use Rattle.dn_canon.specs.State.Lines.{AreShort};
 ghost use Rattle.dn_canon.specs.Prints.{arc_row, supply_row, graph_rows, print};
-ghost use Rattle.dn_row.specs.Rows.{text_of};
+ghost use Rattle.dn_sink.specs.Rows.{text_of};
 ghost use Rattle.dn_sink.specs.Puts.{Puts};
-ghost use Rattle.dn_canon.specs.CanonInstances.{IsCanonGraphOf};
-ghost use Rattle.dn_canon.specs.ToldArcs.{placed, told_arcs, told_graph};
-ghost use Rattle.dn_canon.specs.Writes.{node_rows, Writes};
+ghost use Rattle.dn_canon.specs.State.CanonInstances.{IsCanonGraphOf};
+ghost use Rattle.dn_canon.specs.State.ToldArcs.{placed, told_arcs, told_graph};
+ghost use Rattle.dn_canon.specs.State.Writes.{node_rows, Writes};
 
 use crate::block::Block;
 use crate::print::{
@@ -46,13 +46,14 @@ pub(crate) fn write_graph<B: Bundle, K: Sink>(
     table: &Table<B>,
     form: Form,
 ) -> Result<(), Refusal>
-    requires { AreShort B.kind }
-    ensures text { let graph = told_graph (B.told form) nodes.now table.now in
-        let text = text_of (graph_rows B.kind kind graph (node_rows lines.now)) in
-        Writes K.taken K.has_failed sink.old sink.new text (length graph.arcs) result }
-    ensures flushed { OnOk result (IsTrue (K.is_flushed sink.new)) }
-    ensures canon { (G : Graph B.Arc) → G.nodes ≡ nodes.now → TableTells B.kind (B.told Form.One) table.now G.arcs
-        → IsValidGraph B.kind G → IsCanonGraphOf B.kind form (told_graph (B.told form) nodes.now table.now) G }
+    requires { AreShort B.bundle.kind }
+    ensures text { let graph = told_graph (B.bundle.told form) nodes.now table.now in
+        let text = text_of (graph_rows B.bundle.kind kind graph (node_rows lines.now)) in
+        Writes K.sink sink.old sink.new text (length graph.arcs) result }
+    ensures flushed { OnOk result (IsTrue (K.sink.is_flushed sink.new)) }
+    ensures canon { (G : Graph B.Arc) → G.nodes ≡ nodes.now → Tells B.bundle table.now G.arcs
+        → IsValidGraph B.bundle.kind G
+        → IsCanonGraphOf B.bundle.kind form (told_graph (B.bundle.told form) nodes.now table.now) G }
 {
     match arc_count(table, form) {
         Some(count) => match put_graph(sink, kind, nodes, count, lines, table, form) {
@@ -66,29 +67,29 @@ pub(crate) fn write_graph<B: Bundle, K: Sink>(
 // Writes the sources of queries.
 pub(crate) fn write_sources<K: Sink>(sink: &mut K, ids: &[i64]) -> Result<(), SinkFault>
     ensures few { length ids.now < 2 ^ 63 }
-    ensures text { Puts K.taken K.has_failed sink.old sink.new (print (Sources ids.now)) result }
-    ensures flushed { OnOk result (IsTrue (K.is_flushed sink.new)) }
+    ensures text { Puts K.sink sink.old sink.new (print (Sources ids.now)) result }
+    ensures flushed { OnOk result (IsTrue (K.sink.is_flushed sink.new)) }
 {
     let mut block = Block::new();
     companion_line(&mut block, Kind::Ss, ids.len() as u64);
     for id in ids {
         source_line(&mut block, sink, id)?;
     }
-    finish(&block, sink)
+    block.put_last(sink)
 }
 
 // Writes queries from point to point.
 pub(crate) fn write_queries<K: Sink>(sink: &mut K, queries: &[(i64, i64)]) -> Result<(), SinkFault>
     ensures few { length queries.now < 2 ^ 63 }
-    ensures text { Puts K.taken K.has_failed sink.old sink.new (print (Queries queries.now)) result }
-    ensures flushed { OnOk result (IsTrue (K.is_flushed sink.new)) }
+    ensures text { Puts K.sink sink.old sink.new (print (Queries queries.now)) result }
+    ensures flushed { OnOk result (IsTrue (K.sink.is_flushed sink.new)) }
 {
     let mut block = Block::new();
     companion_line(&mut block, Kind::P2p, queries.len() as u64);
     for query in queries {
         query_line(&mut block, sink, query)?;
     }
-    finish(&block, sink)
+    block.put_last(sink)
 }
 
 // Writes coordinates by rising ID.
@@ -97,20 +98,20 @@ pub(crate) fn write_points<K: Sink>(
     points: &BTreeMap<i64, (i64, i64)>,
 ) -> Result<(), SinkFault>
     ensures few { length points.now.entries < 2 ^ 63 }
-    ensures text { Puts K.taken K.has_failed sink.old sink.new (print (Coordinates points.now.entries)) result }
-    ensures flushed { OnOk result (IsTrue (K.is_flushed sink.new)) }
+    ensures text { Puts K.sink sink.old sink.new (print (Coordinates points.now.entries)) result }
+    ensures flushed { OnOk result (IsTrue (K.sink.is_flushed sink.new)) }
 {
     let mut block = Block::new();
     companion_line(&mut block, Kind::Co, points.len() as u64);
     for (id, place) in points {
         point_line(&mut block, sink, id, place)?;
     }
-    finish(&block, sink)
+    block.put_last(sink)
 }
 
 // How many arcs a table tells, where 63 bits hold the number.
 fn arc_count<B: Bundle>(table: &Table<B>, form: Form) -> Option<u64>
-    ensures count { let all = length (told_arcs (B.told form) table.now) in
+    ensures count { let all = length (told_arcs (B.bundle.told form) table.now) in
         MatchOption result (2 ^ 63 ≤ all) (λ n. (n ≡ all) × n < 2 ^ 63) }
     ensures rising { IsStrictlySortedBy pair_cmp (keys_of table.now) }
 {
@@ -129,9 +130,9 @@ fn put_bundle<B: Bundle, K: Sink>(
     bundle: &B,
     form: Form,
 ) -> Result<(), SinkFault>
-    requires { AreShort B.kind }
-    ensures { Passes K.taken K.has_failed sink.old sink.new block.new
-        (block.old ++ text_of (map (arc_row B.kind) (placed pair.now (B.told form bundle.now)))) result }
+    requires { AreShort B.bundle.kind }
+    ensures { Passes K.sink sink.old sink.new block.new
+        (block.old ++ text_of (map (arc_row B.bundle.kind) (placed pair.now (B.bundle.told form bundle.now)))) result }
 {
     let mut next = bundle.canon_arc(0, form);
     for _ in 0..bundle.canon_len(form) {
@@ -150,9 +151,9 @@ fn put_table<B: Bundle, K: Sink>(
     table: &Table<B>,
     form: Form,
 ) -> Result<(), SinkFault>
-    requires { AreShort B.kind }
-    ensures { Passes K.taken K.has_failed sink.old sink.new block.new
-        (block.old ++ text_of (map (arc_row B.kind) (told_arcs (B.told form) table.now))) result }
+    requires { AreShort B.bundle.kind }
+    ensures { Passes K.sink sink.old sink.new block.new
+        (block.old ++ text_of (map (arc_row B.bundle.kind) (told_arcs (B.bundle.told form) table.now))) result }
 {
     for (pair, bundle) in table.pairs() {
         put_bundle(block, sink, &pair, bundle, form)?;
@@ -166,7 +167,7 @@ fn put_supplies<K: Sink>(
     sink: &mut K,
     supplies: &BTreeMap<i64, i64>,
 ) -> Result<(), SinkFault>
-    ensures { Passes K.taken K.has_failed sink.old sink.new block.new
+    ensures { Passes K.sink sink.old sink.new block.new
         (block.old ++ text_of (map supply_row supplies.now.entries)) result }
 {
     for (id, flow) in supplies {
@@ -181,7 +182,7 @@ fn put_nodes<K: Sink>(
     sink: &mut K,
     nodes: &NodeLines<'_>,
 ) -> Result<(), SinkFault>
-    ensures { Passes K.taken K.has_failed sink.old sink.new block.new
+    ensures { Passes K.sink sink.old sink.new block.new
         (block.old ++ text_of (node_rows nodes.now)) result }
 {
     match nodes {
@@ -194,15 +195,6 @@ fn put_nodes<K: Sink>(
     }
 }
 
-// Ends a text with what the block holds of it.
-fn finish<K: Sink>(block: &Block, sink: &mut K) -> Result<(), SinkFault>
-    ensures text { Puts K.taken K.has_failed sink.old sink.new block.now result }
-    ensures flushed { OnOk result (IsTrue (K.is_flushed sink.new)) }
-{
-    block.put(sink)?;
-    sink.flush()
-}
-
 // A graph: the problem line, the lines before the arcs, and the arcs.
 fn put_graph<B: Bundle, K: Sink>(
     sink: &mut K,
@@ -213,17 +205,17 @@ fn put_graph<B: Bundle, K: Sink>(
     table: &Table<B>,
     form: Form,
 ) -> Result<(), SinkFault>
-    requires short { AreShort B.kind }
+    requires short { AreShort B.bundle.kind }
     requires few { count < 2 ^ 63 }
-    requires count { count ≡ length (told_arcs (B.told form) table.now) }
-    ensures text { let graph = told_graph (B.told form) nodes.now table.now in
-        let text = text_of (graph_rows B.kind kind graph (node_rows lines.now)) in
-        Puts K.taken K.has_failed sink.old sink.new text result }
-    ensures flushed { OnOk result (IsTrue (K.is_flushed sink.new)) }
+    requires count { count ≡ length (told_arcs (B.bundle.told form) table.now) }
+    ensures text { let graph = told_graph (B.bundle.told form) nodes.now table.now in
+        let text = text_of (graph_rows B.bundle.kind kind graph (node_rows lines.now)) in
+        Puts K.sink sink.old sink.new text result }
+    ensures flushed { OnOk result (IsTrue (K.sink.is_flushed sink.new)) }
 {
     let mut block = Block::new();
     graph_line(&mut block, kind, nodes, count);
     put_nodes(&mut block, sink, lines)?;
     put_table(&mut block, sink, table, form)?;
-    finish(&block, sink)
+    block.put_last(sink)
 }

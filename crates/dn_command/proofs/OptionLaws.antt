@@ -11,7 +11,8 @@ use Rattle.clap.specs.declared.error.kind.ErrorKind.TheVariants.{OutOfMemory}
 use Rattle.clap.specs.Simple.{is_simple}
 use Rattle.clap.specs.declared.error.Error.{Error}
 use Rattle.clap.specs.declared.parser.matches.ArgMatches.{ArgMatches}
-use Rattle.dn_command.specs.Options.{IsParseOf, dnorm_app, form_words}
+use Rattle.dn_command.specs.Options.{dnorm_app, form_words}
+use Rattle.dn_command.specs.State.Options.{IsParseOf}
 
 free : (forms : Bor (List (Bor Text))) → is_simple_and_free (dnorm_app forms) ≡ true
 free forms = refl

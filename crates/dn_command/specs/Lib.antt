@@ -1,3 +1,4 @@
 pub mod Commands
 pub mod Options
 pub mod Requests
+pub mod State

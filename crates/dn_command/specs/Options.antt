@@ -1,11 +1,9 @@
 -- The options that `clap` reads lines of words by, in the words of its definitions (this project's profile).
-use Rattle.std.specs.Prelude.{◌≡◌, List, ◌∷◌, [], Some, true, codes, map, Result, IfOk}
+use Rattle.std.specs.Prelude.{List, ◌∷◌, [], Some, true, codes}
 use Rattle.std.specs.Borrow.{Bor}
-use Rattle.clap.specs.Words.{App, FailsBy, Rule, Text, fault_of, new_app, new_rule, subcommand_of, subcommand_rows_of, with_rule, with_subcommand}
+use Rattle.clap.specs.Words.{App, Rule, Text, new_app, new_rule, with_rule, with_subcommand}
 use Rattle.clap.specs.declared.builder.action.ArgAction.TheVariants.{Set}
 use Rattle.clap.specs.declared.builder.value_parser.ValueParser.TheVariants.{Names}
-use Rattle.clap.specs.declared.error.Error.{Error}
-use Rattle.clap.specs.declared.parser.matches.ArgMatches.{ArgMatches}
 
 -- a word that is required, under this name
 abbrev pub text_rule : Text → Rule
@@ -15,7 +13,7 @@ text_rule name = record (new_rule name) { required = true; action = Some Set }
 abbrev pub option_rule : Text → Rule
 option_rule name = record (new_rule name) { long = Some name; action = Some Set; value_names = 1 }
 
--- `--with FILE`
+-- `--with COMPANION`
 abbrev pub with_option : Rule
 with_option = option_rule (codes "with")
 
@@ -27,7 +25,7 @@ form_option forms = record (option_rule (codes "form")) { parser = Some (Names f
 abbrev pub show_app : App
 show_app = with_rule (new_app (codes "show")) (text_rule (codes "FILE"))
 
--- `check FILE [--with FILE]`
+-- `check FILE [--with COMPANION]`
 abbrev pub check_app : App
 check_app = with_rule (with_rule (new_app (codes "check")) (text_rule (codes "FILE"))) with_option
 
@@ -53,11 +51,3 @@ dnorm_app forms = with_subcommand (with_subcommand (with_subcommand (with_subcom
 -- the forms that `canon` has
 abbrev pub form_words : List Text
 form_words = codes "1" ∷ codes "2" ∷ []
-
--- what `clap` reads of a line of words: it fails by a fault that its definitions tell of the words, and else has the
--- subcommand that they tell of them
-pub record IsParseOf (words : List Text) (result : Result ArgMatches Error) : Type 0 where
-  pub forms : Bor (List (Bor Text))
-  pub are_forms : map (λ s. s.now) forms.now ≡ form_words
-  pub fails : FailsBy (fault_of (dnorm_app forms) words) result
-  pub matches : IfOk result (λ m. subcommand_rows_of m ≡ subcommand_of (dnorm_app forms) words)

@@ -4,9 +4,9 @@ use Rattle.std.specs.Borrow.{Bor}
 use Rattle.std.specs.Str.{bytes_eq}
 use Rattle.clap.specs.Words.{IsAmong, Kinds, Row, Text, fault_of, first_of, subcommand_of}
 use Rattle.clap.specs.declared.error.kind.ErrorKind.{ErrorKind}
-use Rattle.clap.specs.declared.error.kind.ErrorKind.TheVariants.{DisplayHelp, DisplayVersion, OutOfMemory}
-use Rattle.dn_bundle.specs.declared.arc.Form.{Form}
-use Rattle.dn_bundle.specs.declared.arc.Form.TheVariants.{One, Two}
+use Rattle.clap.specs.declared.error.kind.ErrorKind.TheVariants.{DisplayHelp, DisplayVersion}
+use Rattle.dn_arc.specs.declared.arc.Form.{Form}
+use Rattle.dn_arc.specs.declared.arc.Form.TheVariants.{One, Two}
 use Rattle.dn_command.specs.Commands.{Asked, Canon, Check, Compare, Show, asks}
 use Rattle.dn_command.specs.Options.{dnorm_app, form_words}
 use Rattle.dn_command.specs.declared.request.Request.{Request}
@@ -47,7 +47,7 @@ subcommand_asked = option_and_then (λ p. command_asked p.0 p.1)
 
 -- what is put where the version is asked for: the program's name and its version
 abbrev pub version_line : List ℕ
-version_line = codes "dnorm 1.0.0\n"
+version_line = codes "dnorm 1.1.0-dev\n"
 
 -- a mistake in the words is among these faults
 abbrev pub HasMistake : Kinds → Type 0
@@ -63,14 +63,6 @@ Answers faults asked (requests.Print text) =
 Answers faults asked requests.Bad = HasMistake faults ⊎ ((faults ≡ []) × (asked ≡ None))
 Answers faults asked requests.Memory = ⊤
 
--- what is answered to an error of this kind: help, the version, or that the line is bad
-abbrev pub AnswersKind : ErrorKind → Request → Type 0
-AnswersKind kind (requests.Command command) = ⊥
-AnswersKind kind (requests.Print text) =
-    (kind ≡ DisplayHelp) ⊎ ((kind ≡ DisplayVersion) × (string_bytes text ≡ version_line))
-AnswersKind kind requests.Bad = (kind ≢ DisplayHelp) × (kind ≢ DisplayVersion) × (kind ≢ OutOfMemory)
-AnswersKind kind requests.Memory = ⊤
-
 -- the answer to a line of words is what `clap`'s definitions tell of the program's options and of these words
 pub record IsReadByClap (words : List Text) (request : Request) : Type 0 where
   -- the two words that may follow `--form`, wherever in memory they stand
@@ -78,18 +70,3 @@ pub record IsReadByClap (words : List Text) (request : Request) : Type 0 where
   pub are_forms : map (λ s. s.now) forms.now ≡ form_words
   pub answer : Answers (fault_of (dnorm_app forms) words)
       (subcommand_asked (subcommand_of (dnorm_app forms) words)) request
-
--- the command of a request asks for this
-abbrev pub Requests : Asked → Request → Type 0
-Requests asked (requests.Command command) = asks command ≡ asked
-Requests asked request = ⊥
-
--- the request puts a text
-abbrev pub Prints : Request → Type 0
-Prints (requests.Print text) = ⊤
-Prints request = ⊥
-
--- the request puts the name and the version
-abbrev pub PrintsVersion : Request → Type 0
-PrintsVersion (requests.Print text) = string_bytes text ≡ version_line
-PrintsVersion request = ⊥

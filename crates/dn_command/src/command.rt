@@ -14,7 +14,7 @@ pub enum Command<'a> {
         /// The text.
         name: &'a str,
     },
-    /// `check FILE [--with FILE]`: whether a text is accepted, and whether a companion fits it.
+    /// `check FILE [--with COMPANION]`: whether a text is accepted, and whether a companion fits it.
     Check {
         /// The text.
         name: &'a str,

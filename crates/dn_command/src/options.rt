@@ -2,7 +2,8 @@
 ghost use Rattle.std.specs.Prelude.{◌≡◌, false, IfOk, map, string_bytes};
 ghost use Rattle.clap.specs.Words.{App, app_of, new_app, rule_of, with_rule, with_subcommand};
 ghost use Rattle.clap.specs.declared.builder.command.Command.TheViews.{out-Command as fields_of};
-ghost use Rattle.dn_command.specs.Options.{IsParseOf, bare_app, canon_app, check_app, compare_app, dnorm_app};
+ghost use Rattle.dn_command.specs.Options.{bare_app, canon_app, check_app, compare_app, dnorm_app};
+ghost use Rattle.dn_command.specs.State.Options.{IsParseOf};
 ghost use Rattle.dn_command.specs.Options.{form_option, form_words, option_rule, show_app, text_rule};
 ghost use Rattle.dn_command.specs.Options.{with_option};
 
@@ -85,15 +86,22 @@ fn show_command<'a>(alloc: Global) -> Result<Command<'a>, AllocError>
     ensures app { IfOk result (λ c. app_of c ≡ show_app) }
     ensures local { IfOk result (λ c. (fields_of c).has_globals ≡ false) }
 {
-    text_command(alloc, "show", help::SHOW, "FILE")
+    text_command(alloc, "show", help::SHOW, help::SHOW_END, "FILE")
 }
 
-// `check FILE [--with FILE]`.
+// `check FILE [--with COMPANION]`.
 fn check_command<'a>(alloc: Global) -> Result<Command<'a>, AllocError>
     ensures app { IfOk result (λ c. app_of c ≡ check_app) }
     ensures local { IfOk result (λ c. (fields_of c).has_globals ≡ false) }
 {
-    wider_command(alloc, "check", help::CHECK, "FILE", with_option(alloc))
+    wider_command(
+        alloc,
+        "check",
+        help::CHECK,
+        help::CHECK_END,
+        "FILE",
+        with_option(alloc),
+    )
 }
 
 // `canon [--form FORM] FILE`.
@@ -105,6 +113,7 @@ fn canon_command<'a>(alloc: Global, forms: &'a [&'a str]) -> Result<Command<'a>,
         alloc,
         "canon",
         help::CANON,
+        help::CANON_END,
         "FILE",
         form_option(alloc, forms),
     )
@@ -119,16 +128,18 @@ fn compare_command<'a>(alloc: Global) -> Result<Command<'a>, AllocError>
         alloc,
         "compare",
         help::COMPARE,
+        help::COMPARE_END,
         "LEFT",
         text(alloc, "RIGHT", help::TEXT),
     )
 }
 
-// A command of this name, with a word that names a text and one argument more.
+// A command of this name, with a word that names a text and one argument more. Its help ends with `end`.
 fn wider_command<'a>(
     alloc: Global,
     name: &'a str,
     about: &'a str,
+    end: &'a str,
     text_name: &'a str,
     more: Arg<'a>,
 ) -> Result<Command<'a>, AllocError>
@@ -137,18 +148,19 @@ fn wider_command<'a>(
         ≡ with_rule (with_rule (new_app name.entry.now) (text_rule text_name.entry.now)) (rule_of more.entry)) }
     ensures local { IfOk result (λ c. (fields_of c).has_globals ≡ false) }
 {
-    if let Ok(command) = text_command(alloc, name, about, text_name) {
+    if let Ok(command) = text_command(alloc, name, about, end, text_name) {
         return command.arg(more);
     }
     drop(more);
     Err(AllocError)
 }
 
-// A command of this name, with a word that names a text.
+// A command of this name, with a word that names a text. Its help ends with `end`.
 fn text_command<'a>(
     alloc: Global,
     name: &'a str,
     about: &'a str,
+    end: &'a str,
     text_name: &'a str,
 ) -> Result<Command<'a>, AllocError>
     ensures app { IfOk result (λ c.
@@ -157,15 +169,16 @@ fn text_command<'a>(
 {
     Command::new(alloc, name)
         .about(about)
+        .after_help(end)
         .arg(text(alloc, text_name, help::TEXT))
 }
 
-// `--with FILE`.
+// `--with COMPANION`.
 fn with_option<'a>(alloc: Global) -> Arg<'a>
     ensures rule { rule_of result ≡ with_option }
     ensures local { result.global ≡ false }
 {
-    option(alloc, "with", "FILE", help::WITH)
+    option(alloc, "with", "COMPANION", help::WITH)
 }
 
 // `--form FORM`.

@@ -2,7 +2,8 @@
 ghost use Rattle.std.specs.Prelude.{◌≡◌, [], IfOk, MatchResult, None, Some, map, option_map, string_bytes};
 ghost use Rattle.clap.specs.Words.{first_of, found_of, kind_of, rows_of, subcommand_rows_of};
 ghost use Rattle.dn_command.specs.Commands.{Asked, asks, plain_asked};
-ghost use Rattle.dn_command.specs.Requests.{Answers, AnswersKind, IsReadByClap, Requests, canon_asked};
+ghost use Rattle.dn_command.specs.Requests.{Answers, IsReadByClap, canon_asked};
+ghost use Rattle.dn_command.specs.State.Requests.{AnswersKind, Requests};
 ghost use Rattle.dn_command.specs.Requests.{check_asked, command_asked, compare_asked, form_of, version_line};
 ghost use Rattle.dn_command.specs.Requests.{show_asked, subcommand_asked};
 
@@ -29,9 +30,9 @@ pub enum Request<'a> {
 
 /// What is to be done for a line of words, the program's name first. A plain form (`plain_command`) is the command that
 /// its words say, and nothing else of the line is read. Any other line is read as `clap` reads it, with the
-/// subcommands `show FILE`, `check FILE [--with FILE]`, `canon [--form 1|2] FILE` and `compare LEFT RIGHT`: `--` ends
-/// the options, an option takes its value after `=` or as the next word, and none may be repeated. `-h`, `--help` and
-/// `help` call for help, `-V` and `--version` for the version. `Memory` where memory was wanted in this; all else that
+/// subcommands `show FILE`, `check FILE [--with COMPANION]`, `canon [--form 1|2] FILE` and `compare LEFT RIGHT`: `--`
+/// ends the options, an option takes its value after `=` or as the next word, and none may be repeated. `-h`, `--help`
+/// and `help` call for help, `-V` and `--version` for the version. `Memory` where memory ran out in this; all else that
 /// is read as no command is `Bad`.
 ///
 /// What `clap` reads is said over its own definitions, which hold for every line; what they come to for the usual

@@ -7,8 +7,8 @@ use Rattle.std.specs.Ordering.{int_cmp}
 use Rattle.std.proofs.lemmas.Cmp.{int_cmp_total}
 use Rattle.std.proofs.lemmas.Map.Lookups.{exact_signed}
 use Rattle.dn_compare.specs.Observed.{value_of}
-use Rattle.dn_compare.specs.Walks.{first_key, value_at, after_key, lesser_key}
-use Rattle.dn_compare.specs.Partings.{Comparison, IsParting}
+use Rattle.dn_compare.specs.State.Walks.{first_key, value_at, after_key, lesser_key}
+use Rattle.dn_compare.specs.State.Partings.{Comparison, IsParting}
 use Rattle.dn_compare.proofs.WalkLaws as Walk
 
 abbrev pub IdsRise : {V : Type 0} → List (ℤ × V) → Type 0

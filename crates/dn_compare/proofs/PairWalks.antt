@@ -2,15 +2,14 @@
 use Rattle.std.proofs.Common.{◌≡◌, ◌+◌, ◌<◌, length, ℤ, List, [], Option, Some, None}
 use Rattle.std.specs.Ordering.{int_cmp}
 use Rattle.std.proofs.lemmas.Map.Lookups.{CmpEqualImpliesEq, exact_pairs, exact_signed}
-use Rattle.dn_bundle.specs.Bundles.{IsKind}
-use Rattle.dn_bundle.specs.Kinds.{ArcKind}
-use Rattle.dn_bundle.specs.declared.difference.How.{How}
-use Rattle.pair_index.specs.Pairs.{pair_cmp, same_pair}
-use Rattle.dn_table.specs.Pairs.{bundle}
-use Rattle.dn_table.specs.Tables.{told_at, TableTells}
-use Rattle.pair_index.proofs.IndexLaws.{pair_total}
-use Rattle.dn_compare.specs.Walks.{first_key, value_at, after_key, lesser_key}
-use Rattle.dn_compare.specs.Partings.{by_meaning, IsParting, IsArcsParting}
+use Rattle.dn_arc.specs.State.Bundles.{IsKind}
+use Rattle.dn_arc.specs.Kinds.{ArcKind}
+use Rattle.dn_arc.specs.declared.difference.How.{How}
+use Rattle.dn_arc.specs.Pairs.{bundle, pair_cmp, same_pair}
+use Rattle.dn_table.specs.State.Tables.{told_at, TableTells}
+use Rattle.dn_arc.proofs.PairLaws.{pair_total}
+use Rattle.dn_compare.specs.State.Walks.{first_key, value_at, after_key, lesser_key}
+use Rattle.dn_compare.specs.State.Partings.{by_meaning, IsParting, IsArcsParting}
 use Rattle.dn_compare.proofs.WalkLaws as Walk
 
 pub exact_pair : CmpEqualImpliesEq pair_cmp

@@ -1,22 +1,22 @@
 -- What a verdict says of two instances: by meaning, from the other side, and once at a place.
 use Rattle.std.proofs.Common.{◌≡◌, ◌≢◌, ℕ, ℤ, pos, List, length, Some, refl, sym, ap, ◌∙◌, subst}
-use Rattle.dn_bundle.specs.Capacities.{total_cap}
-use Rattle.dn_bundle.specs.Differences.{LengthsDiffer, TotalsDiffer, CurvesDiffer}
-use Rattle.dn_bundle.specs.declared.arc.LengthArc.{LengthArc}
-use Rattle.dn_bundle.specs.declared.arc.CapArc.{CapArc}
-use Rattle.dn_bundle.specs.declared.arc.CostArc.{CostArc}
-use Rattle.dn_bundle.specs.declared.difference.How.{How}
-use Rattle.dn_bundle.specs.declared.difference.How.TheVariants.{Lengths, Totals, Costs}
-use Rattle.dn_bundle.specs.Laws.CostKind.{cost_kind}
-use Rattle.dn_bundle.specs.Laws.TotalKind.{total_kind}
-use Rattle.dn_bundle.specs.Laws.LengthKind.{length_kind}
-use Rattle.dn_table.specs.Pairs.{bundle}
+use Rattle.dn_arc.specs.Capacities.{total_cap}
+use Rattle.dn_arc.specs.Differences.{LengthsDiffer, TotalsDiffer, CurvesDiffer}
+use Rattle.dn_arc.specs.declared.arc.LengthArc.{LengthArc}
+use Rattle.dn_arc.specs.declared.arc.CapArc.{CapArc}
+use Rattle.dn_arc.specs.declared.arc.CostArc.{CostArc}
+use Rattle.dn_arc.specs.declared.difference.How.{How}
+use Rattle.dn_arc.specs.declared.difference.How.TheVariants.{Lengths, Totals, Costs}
+use Rattle.dn_arc.proofs.CostKindLaws.{cost_kind}
+use Rattle.dn_arc.proofs.TotalKindLaws.{total_kind}
+use Rattle.dn_arc.proofs.LengthKindLaws.{length_kind}
+use Rattle.dn_arc.specs.Pairs.{bundle}
 use Rattle.dn_instance.specs.Instances.{Instance, MinCostFlow, MaxFlow, ShortestPaths, Sources, Queries, Coordinates, kind_of, nodes_of}
 use Rattle.dn_instance.specs.Sameness.{IsSame}
 use Rattle.dn_instance.proofs.SameLaws.{sym_of, trans_of}
 use Rattle.dn_compare.specs.Observed.{value_of, flow_or_zero, flow_of, source_of, sink_of, count_of, item_at, point_of}
 use Rattle.dn_compare.specs.FirstDifference.{Differ, BundlesDiffer, ItemsDiffer, IsTrueOf, place_of}
-use Rattle.dn_compare.specs.Turned.{turned, turned_how}
+use Rattle.dn_compare.specs.State.Turned.{turned, turned_how}
 use Rattle.dn_compare.specs.declared.verdict.Verdict.{Verdict}
 use Rattle.dn_compare.specs.declared.verdict.Verdict.TheVariants as Verdicts
 

@@ -4,7 +4,7 @@ use Rattle.dn_instance.specs.Instances.{Instance}
 use Rattle.dn_instance.specs.Sameness.{IsSame}
 use Rattle.dn_instance.proofs.SameLaws.{sym_of}
 use Rattle.dn_compare.specs.FirstDifference.{IsFirstDifference, StandsEarlier, place_of, place_cmp}
-use Rattle.dn_compare.specs.Turned.{turned}
+use Rattle.dn_compare.specs.State.Turned.{turned}
 use Rattle.dn_compare.specs.declared.verdict.Verdict.{Verdict}
 use Rattle.dn_compare.specs.declared.verdict.Verdict.TheVariants as Verdicts
 use Rattle.dn_compare.proofs.PlaceLaws.{which_first}

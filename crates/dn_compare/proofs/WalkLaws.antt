@@ -9,8 +9,8 @@ use Rattle.std.specs.Ordering.{is_eq, match_ordering, ordering_reverse}
 use Rattle.std.specs.declared.cmp.Ordering.{Ordering}
 use Rattle.std.specs.declared.cmp.Ordering.TheVariants.{Less, Equal, Greater}
 use Rattle.std.proofs.lemmas.Map.Lookups.{CmpEqualImpliesEq}
-use Rattle.dn_compare.specs.Walks.{first_key, value_at, after_key, lesser_key}
-use Rattle.dn_compare.specs.Partings.{Comparison, AlikeAt, IsParting}
+use Rattle.dn_compare.specs.State.Walks.{first_key, value_at, after_key, lesser_key}
+use Rattle.dn_compare.specs.State.Partings.{Comparison, AlikeAt, IsParting}
 
 equal_is : (o : Ordering) → is_eq o ≡ true → o ≡ Equal
 equal_is Less h = cc

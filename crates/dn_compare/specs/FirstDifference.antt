@@ -3,11 +3,10 @@ use Rattle.std.specs.Prelude.{◌≡◌, ◌≢◌, ℕ, ℤ, pos, Some}
 use Rattle.std.specs.Ordering.{int_cmp, ordering_then}
 use Rattle.std.specs.declared.cmp.Ordering.{Ordering}
 use Rattle.std.specs.declared.cmp.Ordering.TheVariants.{Less}
-use Rattle.dn_bundle.specs.Kinds.{costs, capacities, lengths}
-use Rattle.dn_bundle.specs.declared.difference.How.{How}
+use Rattle.dn_arc.specs.Kinds.{costs, capacities, lengths}
+use Rattle.dn_arc.specs.declared.difference.How.{How}
 use Rattle.dn_instance.specs.Instances.{Instance, MinCostFlow, MaxFlow, ShortestPaths, Sources, Queries, kind_of, nodes_of}
-use Rattle.pair_index.specs.Pairs.{pair_cmp}
-use Rattle.dn_table.specs.Pairs.{bundle}
+use Rattle.dn_arc.specs.Pairs.{bundle, pair_cmp}
 use Rattle.dn_instance.specs.Sameness.{IsSame}
 use Rattle.dn_compare.specs.Observed.{flow_of, source_of, sink_of, count_of, item_at, point_of}
 use Rattle.dn_compare.specs.declared.verdict.Verdict.{Verdict}
@@ -56,6 +55,7 @@ place_of (Length left right) = (pos 7, (pos 0, pos 0))
 place_of (Item index) = (pos 8, (pos index, pos 0))
 place_of (Point id) = (pos 9, (id, pos 0))
 
+-- the order of the places at which instances are compared
 abbrev pub place_cmp : ℤ × (ℤ × ℤ) → ℤ × (ℤ × ℤ) → Ordering
 place_cmp p q = ordering_then (int_cmp p.0 q.0) (pair_cmp p.1 q.1)
 

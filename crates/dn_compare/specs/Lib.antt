@@ -1,5 +1,3 @@
 pub mod Observed
 pub mod FirstDifference
-pub mod Turned
-pub mod Walks
-pub mod Partings
+pub mod State

@@ -1,12 +1,11 @@
 // The first difference between two texts that were read.
 ghost use Rattle.std.specs.Prelude.{◌≡◌, ℤ, List};
-ghost use Rattle.dn_bundle.specs.declared.arc.Form.{Form};
-ghost use Rattle.dn_instance.specs.Helds.{contents_kind, IsHeld, OfCo, OfMax, OfMin, holding, shown};
+ghost use Rattle.dn_instance.specs.State.Helds.{contents_kind, IsHeld, OfCo, OfMax, OfMin, holding, shown};
 ghost use Rattle.dn_instance.specs.Instances.{Instance};
-ghost use Rattle.dn_table.specs.Tables.{TableTells};
+ghost use Rattle.dn_table.specs.State.Tables.{Tells};
 ghost use Rattle.dn_instance.specs.Validity.{IsValid};
 ghost use Rattle.dn_compare.specs.FirstDifference.{IsFirstDifference};
-ghost use Rattle.dn_compare.specs.Partings.{IsListVerdict, IsPairVerdict, IsVerdictOn};
+ghost use Rattle.dn_compare.specs.State.Partings.{IsListVerdict, IsPairVerdict, IsVerdictOn};
 
 use crate::parting::{Item, first_item, first_pair, first_point, first_supply};
 use crate::verdict::Verdict;
@@ -114,8 +113,8 @@ fn max_verdict(
 // The verdict on two graphs of as many nodes, where nothing else differs.
 fn pair_verdict<B: Bundle>(left: &Table<B>, right: &Table<B>) -> Verdict
     ensures { (xs ys : List ((ℤ × ℤ) × B.Arc))
-        → TableTells B.kind (B.told Form.One) left.now xs → TableTells B.kind (B.told Form.One) right.now ys
-        → IsPairVerdict B.kind xs ys result }
+        → Tells B.bundle left.now xs → Tells B.bundle right.now ys
+        → IsPairVerdict B.bundle.kind xs ys result }
 {
     match first_pair(left, right) {
         Some(((src, dst), how)) => Verdict::Pair { src, dst, how },

@@ -2,10 +2,9 @@
 ghost use Rattle.std.specs.Prelude.{◌≡◌, ◌↔◌, ℕ, ℤ, List, IsTrue, MatchOption, length};
 ghost use Rattle.std.specs.Option.{option_map};
 ghost use Rattle.std.specs.Ordering.{int_cmp};
-ghost use Rattle.dn_bundle.specs.declared.arc.Form.{Form};
-ghost use Rattle.dn_table.specs.Tables.{TableTells};
+ghost use Rattle.dn_table.specs.State.Tables.{Tells};
 ghost use Rattle.dn_compare.specs.Observed.{item_at};
-ghost use Rattle.dn_compare.specs.Partings.{by_flow, by_point, IsArcsParting, IsParting, ItemsPartAt};
+ghost use Rattle.dn_compare.specs.State.Partings.{by_flow, by_point, IsArcsParting, IsParting, ItemsPartAt};
 
 use crate::walk::{MapWalk, TableWalk, lesser_id, lesser_pair};
 use dn_bundle::{Bundle, How};
@@ -15,8 +14,8 @@ use std::collections::BTreeMap;
 // The least pair at which the arcs of two graphs differ in meaning, and how. One walk over both tables.
 pub(crate) fn first_pair<B: Bundle>(left: &Table<B>, right: &Table<B>) -> Option<((i64, i64), How)>
     ensures { (xs ys : List ((ℤ × ℤ) × B.Arc))
-        → TableTells B.kind (B.told Form.One) left.now xs → TableTells B.kind (B.told Form.One) right.now ys
-        → IsArcsParting B.kind xs ys result }
+        → Tells B.bundle left.now xs → Tells B.bundle right.now ys
+        → IsArcsParting B.bundle.kind xs ys result }
 {
     let mut lefts = TableWalk::new(left);
     let mut rights = TableWalk::new(right);

@@ -5,8 +5,8 @@ ghost use Rattle.std.specs.Option.{option_copied};
 ghost use Rattle.std.specs.Ordering.{int_cmp};
 ghost use Rattle.std.specs.List.Sorted.{IsStrictlySortedBy};
 ghost use Rattle.std.specs.Map.{keys_of};
-ghost use Rattle.pair_index.specs.Pairs.{pair_cmp, same_pair};
-ghost use Rattle.dn_compare.specs.Walks.{after_key, first_key, lesser_key, value_at};
+ghost use Rattle.dn_arc.specs.Pairs.{pair_cmp, same_pair};
+ghost use Rattle.dn_compare.specs.State.Walks.{after_key, first_key, lesser_key, value_at};
 
 use dn_bundle::Bundle;
 use dn_instance::{Pairs, Table};
@@ -24,7 +24,7 @@ pub(crate) struct TableWalk<'a, B: Bundle> {
 
 impl<'a, B: Bundle> Model for TableWalk<'a, B> {
     ghost use Rattle.std.specs.Prelude.{ℤ, List};
-    ghost use Rattle.dn_compare.specs.Walks.{before_walk};
+    ghost use Rattle.dn_compare.specs.State.Walks.{before_walk};
 
     ghost Value = { List ((ℤ × ℤ) × B) };
 
@@ -92,7 +92,7 @@ pub(crate) struct MapWalk<'a, V: Copy> {
 
 impl<'a, V: Copy> Model for MapWalk<'a, V> {
     ghost use Rattle.std.specs.Prelude.{ℤ, List};
-    ghost use Rattle.dn_compare.specs.Walks.{before_walk};
+    ghost use Rattle.dn_compare.specs.State.Walks.{before_walk};
 
     ghost Value = { List (ℤ × V) };
 

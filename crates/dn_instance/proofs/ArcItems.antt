@@ -8,17 +8,17 @@ use Rattle.dn_line.specs.declared.kind.Kind.TheVariants as Kinds
 use Rattle.dn_line.specs.declared.line.Line.{Line}
 use Rattle.dn_line.specs.declared.line.Line.TheVariants as Item
 use Rattle.dn_line.specs.Faults.{first_fault}
-use Rattle.dn_bundle.specs.Kinds.{ArcKind, lengths, capacities}
-use Rattle.dn_bundle.specs.Capacities.{total_cap}
-use Rattle.dn_bundle.specs.Canonical.{IsCapArc}
-use Rattle.dn_bundle.specs.Laws.Lengths.{least_of}
-use Rattle.dn_bundle.specs.declared.arc.CapArc.{CapArc}
+use Rattle.dn_arc.specs.Kinds.{ArcKind, lengths, capacities}
+use Rattle.dn_arc.specs.Capacities.{total_cap}
+use Rattle.dn_arc.specs.Canonical.{IsCapArc}
+use Rattle.dn_arc.proofs.LengthsLaws.{least_of}
+use Rattle.dn_arc.specs.declared.arc.CapArc.{CapArc}
 use Rattle.dn_instance.specs.Items.{Problem, problem_of, arcs_of, length_arc_in, cap_arc_in}
 use Rattle.dn_instance.specs.TextFaults.{is_companion, is_in_range, item_tests}
-use Rattle.dn_instance.specs.ItemFaults.{in_graph, arc_fault}
-use Rattle.dn_instance.specs.Drafts.{TableHolds}
-use Rattle.dn_table.specs.Pairs.{bundle}
-use Rattle.dn_table.specs.Tables.{TableTells, AreArcs, Stays}
+use Rattle.dn_instance.specs.State.ItemFaults.{in_graph, arc_fault}
+use Rattle.dn_instance.specs.State.Drafts.{TableHolds}
+use Rattle.dn_arc.specs.Pairs.{bundle}
+use Rattle.dn_table.specs.State.Tables.{TableTells, AreArcs, Stays}
 use Rattle.dn_instance.proofs.SumLaws.{total_append, total_passes}
 use Rattle.dn_instance.proofs.ValidLaws.{all_push, arcs_push}
 

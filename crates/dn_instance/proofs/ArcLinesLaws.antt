@@ -3,11 +3,11 @@ use Rattle.std.proofs.Common.{◌≡◌, ◌<◌, ◌+◌, ◌-◌, ◌^◌, ℕ
 use Rattle.std.specs.List.{AllByRecursion, list_any}
 use Rattle.std.specs.Option.{option_map}
 use Rattle.std.proofs.Math.Seq.{take-append_seam}
-use Rattle.dn_line.specs.ArcBlocks.{ReadUpTo, last_left}
-use Rattle.dn_line.specs.ArcLines.{arc_of}
+use Rattle.dn_line.specs.State.ArcBlocks.{ReadUpTo, last_left}
+use Rattle.dn_line.specs.State.ArcLines.{arc_of}
 use Rattle.dn_line.specs.Faults.{first_fault}
 use Rattle.dn_line.specs.LineTable.{kind_named}
-use Rattle.dn_line.specs.Reading.{fields_read, head_of, head_read}
+use Rattle.dn_line.specs.State.Reading.{fields_read, head_of, head_read}
 use Rattle.dn_line.specs.Words.{first, is_skip, said_words}
 use Rattle.dn_line.specs.declared.arc_block.ArcLine.{ArcLine}
 use Rattle.dn_line.specs.declared.kind.Kind.{Kind}
@@ -17,14 +17,14 @@ use Rattle.dn_line.specs.declared.line.Line.TheVariants.{Graph}
 use Rattle.dn_line.specs.declared.word.Keyword.{Keyword}
 use Rattle.dn_line.specs.declared.word.Keyword.TheVariants as Key
 use Rattle.dn_line.specs.declared.word.Word.{Word}
-use Rattle.dn_instance.specs.ArcRuns.{AreFaultless, AreInTime, arc_items}
-use Rattle.dn_instance.specs.Drafts.{HasSigns}
+use Rattle.dn_instance.specs.State.ArcRuns.{AreFaultless, AreInTime, arc_items}
+use Rattle.dn_instance.specs.State.Drafts.{HasSigns}
 use Rattle.dn_instance.specs.Items.{Problem, counted, is_counted, kind_known, problem_of}
-use Rattle.dn_instance.specs.Progresses.{HasRoom}
+use Rattle.dn_instance.specs.State.Progresses.{HasRoom}
 use Rattle.dn_line.specs.declared.code.Code.TheVariants.{LateNode, TooManyLines}
 use Rattle.dn_instance.specs.TextFaults.{is_arc, is_companion, is_counted_letter, is_full, is_node_letter, item_tests, order_tests}
 use Rattle.dn_instance.specs.Texts.{IsClean, items_of}
-use Rattle.dn_instance.specs.TextsSoFar.{AreInner, closed_lines, next_read}
+use Rattle.dn_instance.specs.State.TextsSoFar.{AreInner, closed_lines, next_read}
 use Rattle.dn_instance.proofs.ArcRunLaws.{one_counted, problem_all}
 use Rattle.dn_instance.proofs.CleanItems.{items_push}
 use Rattle.dn_instance.proofs.FirstFaults.{fault_after}

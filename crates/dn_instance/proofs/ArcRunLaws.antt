@@ -12,18 +12,18 @@ use Rattle.std.proofs.lemmas.Int.{ints, fits_signed_from_abs}
 use Rattle.std.proofs.lemmas.List.{map-append}
 use Rattle.std.proofs.lemmas.List.Elements.{filter-append}
 use Rattle.std.proofs.lemmas.List.Folds.{list_any-append}
-use Rattle.dn_line.specs.ArcLines.{arc_of}
+use Rattle.dn_line.specs.State.ArcLines.{arc_of}
 use Rattle.dn_line.specs.Faults.{first_fault}
 use Rattle.dn_line.specs.declared.arc_block.ArcLine.{ArcLine}
 use Rattle.dn_line.specs.declared.code.Code.{Code}
 use Rattle.dn_line.specs.declared.kind.Kind.{Kind}
 use Rattle.dn_line.specs.declared.kind.Kind.TheVariants.{Min, Max, Sp, Ss, P2p, Co}
 use Rattle.dn_line.specs.declared.line.Line.{Line}
-use Rattle.dn_instance.specs.ArcRuns.{AreFaultless, AreInTime, Joins, arc_items}
-use Rattle.dn_instance.specs.Drafts.{DraftHolds, HasSigns, draft_kind}
-use Rattle.dn_instance.specs.ItemFaults.{AnswersFault}
+use Rattle.dn_instance.specs.State.ArcRuns.{AreFaultless, AreInTime, Joins, arc_items}
+use Rattle.dn_instance.specs.State.Drafts.{DraftHolds, HasSigns, draft_kind}
+use Rattle.dn_instance.specs.State.ItemFaults.{AnswersFault}
 use Rattle.dn_instance.specs.Items.{Problem, counted, is_counted, problem_in, problem_of}
-use Rattle.dn_instance.specs.Progresses.{ProgressAt}
+use Rattle.dn_instance.specs.State.Progresses.{ProgressAt}
 use Rattle.dn_instance.specs.TextFaults.{is_arc, is_companion, is_full, item_tests}
 use Rattle.dn_instance.specs.declared.draft.Draft.{Draft}
 use Rattle.dn_instance.specs.declared.progress.Progress.{Progress}

@@ -8,7 +8,7 @@ use Rattle.dn_line.specs.declared.line.Line.TheVariants as Item
 use Rattle.dn_line.specs.declared.word.Word.{Word}
 use Rattle.dn_line.specs.Words.{said_words, is_skip}
 use Rattle.dn_line.specs.Faults.{Test, first_fault, head_tests, field_tests, own_tests, fields}
-use Rattle.dn_line.specs.Spelling.{Slot, slots_of, Spells}
+use Rattle.dn_line.specs.State.Spelling.{Slot, slots_of, Spells}
 use Rattle.dn_line.specs.Reading.{unless, words_read, spelled}
 use Rattle.dn_line.proofs.FaultLaws.{fault_append}
 use Rattle.dn_line.proofs.SpellingLaws.{faultless_spells}

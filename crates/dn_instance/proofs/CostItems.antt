@@ -9,19 +9,19 @@ use Rattle.dn_line.specs.declared.kind.Kind.TheVariants as Kinds
 use Rattle.dn_line.specs.declared.line.Line.{Line}
 use Rattle.dn_line.specs.declared.line.Line.TheVariants as Item
 use Rattle.dn_line.specs.Faults.{first_fault}
-use Rattle.dn_bundle.specs.Kinds.{costs}
-use Rattle.dn_bundle.specs.Splits.{cost_cap}
-use Rattle.dn_bundle.specs.Canonical.{IsCostArc}
-use Rattle.dn_bundle.specs.Laws.Splits.{SameAbove, same}
-use Rattle.dn_bundle.specs.Laws.Curves.{above_meaning, cost_cap_same}
-use Rattle.dn_bundle.specs.Laws.Adds.{above_none}
-use Rattle.dn_bundle.specs.Laws.CostKind.{cost_kind}
-use Rattle.dn_bundle.specs.declared.arc.CostArc.{CostArc}
+use Rattle.dn_arc.specs.Kinds.{costs}
+use Rattle.dn_arc.specs.Splits.{cost_cap}
+use Rattle.dn_arc.specs.Canonical.{IsCostArc}
+use Rattle.dn_arc.proofs.SplitsLaws.{SameAbove, same}
+use Rattle.dn_arc.proofs.CurvesLaws.{above_meaning, cost_cap_same}
+use Rattle.dn_arc.proofs.AddsLaws.{above_none}
+use Rattle.dn_arc.proofs.CostKindLaws.{cost_kind}
+use Rattle.dn_arc.specs.declared.arc.CostArc.{CostArc}
 use Rattle.dn_instance.specs.Items.{Problem, problem_of, arcs_of, cost_arc_in}
 use Rattle.dn_instance.specs.TextFaults.{is_companion, item_tests}
-use Rattle.dn_instance.specs.ItemFaults.{in_graph, arc_fault}
-use Rattle.dn_table.specs.Pairs.{bundle}
-use Rattle.dn_table.specs.Tables.{Stays}
+use Rattle.dn_instance.specs.State.ItemFaults.{in_graph, arc_fault}
+use Rattle.dn_arc.specs.Pairs.{bundle}
+use Rattle.dn_table.specs.State.Tables.{Stays}
 use Rattle.dn_instance.proofs.SumLaws.{passes, cost_passes}
 use Rattle.dn_instance.proofs.ValidLaws.{all_push, arcs_push}
 use Rattle.dn_instance.proofs.ArcItems.{stray_is}

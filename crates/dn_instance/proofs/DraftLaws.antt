@@ -13,28 +13,28 @@ use Rattle.dn_line.specs.declared.code.Code.TheVariants.{NodeOutOfRange, Repeate
 use Rattle.dn_line.specs.declared.kind.Kind.TheVariants as Kinds
 use Rattle.dn_line.specs.declared.kind.Letter.{Letter}
 use Rattle.dn_line.specs.declared.kind.Letter.TheVariants.{S, T}
-use Rattle.dn_line.specs.Spelling.{kind_before}
+use Rattle.dn_line.specs.State.Spelling.{kind_before}
 use Rattle.dn_line.specs.declared.line.Line.{Line}
 use Rattle.dn_line.specs.declared.line.Line.TheVariants as Item
 use Rattle.dn_line.specs.Faults.{first_fault}
 use Rattle.dn_instance.specs.declared.draft.Draft.{Draft}
 use Rattle.dn_instance.specs.declared.draft.Draft.TheVariants as Drafts
 use Rattle.dn_instance.specs.declared.refusal.ItemFault.{ItemFault}
-use Rattle.dn_instance.specs.Drafts.{draft_kind, DraftHolds, TableHolds}
+use Rattle.dn_instance.specs.State.Drafts.{draft_kind, DraftHolds, TableHolds}
 use Rattle.dn_instance.specs.Items.{Problem, problem_of, problem_in, arcs_of, length_arc_in, cap_arc_in, cost_arc_in, terminal_of, source_in, query_in, point_in, by_key}
-use Rattle.dn_instance.specs.ItemFaults.{AnswersFault, in_graph, terminal_fault, id_fault, pair_fault, point_fault}
+use Rattle.dn_instance.specs.State.ItemFaults.{AnswersFault, in_graph, terminal_fault, id_fault, pair_fault, point_fault}
 use Rattle.dn_instance.specs.TextFaults.{is_companion, is_in_range, is_id, item_tests, has_point}
 use Rattle.dn_instance.proofs.ValidLaws.{terminal_push, grown, int_eq_self, arcs_push}
-use Rattle.dn_bundle.specs.Bundles.{IsKind}
-use Rattle.dn_bundle.specs.declared.arc.Form.TheVariants.{One}
-use Rattle.dn_bundle.specs.Kinds.{ArcKind, lengths, capacities, costs}
-use Rattle.dn_bundle.specs.Capacities.{cap_told}
+use Rattle.dn_arc.specs.State.Bundles.{IsKind}
+use Rattle.dn_arc.specs.declared.arc.Form.TheVariants.{One}
+use Rattle.dn_arc.specs.Kinds.{ArcKind, lengths, capacities, costs}
+use Rattle.dn_arc.specs.State.Capacities.{cap_told}
 use Rattle.dn_bundle.specs.declared.total.Total.{Total}
-use Rattle.dn_table.specs.Tables.{TableTells, AreArcs}
+use Rattle.dn_table.specs.State.Tables.{TableTells, AreArcs}
 use Rattle.dn_instance.proofs.FirstFaults.{none_first}
 use Rattle.dn_instance.proofs.CleanItems.{or_none}
 use Rattle.dn_instance.proofs.MapLaws.{by_key_push, found_by_key}
-use Rattle.pair_index.proofs.PairLaws.{int_self}
+use Rattle.dn_arc.proofs.PairLaws.{int_self}
 use Rattle.dn_instance.proofs.PairLaws.{sought_is}
 
 -- the answer on an item is that of its first fault

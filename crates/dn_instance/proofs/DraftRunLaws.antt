@@ -9,8 +9,8 @@ use Rattle.dn_line.specs.declared.arc_block.ArcLine.{ArcLine}
 use Rattle.dn_line.specs.declared.kind.Kind.TheVariants.{Max, Min}
 use Rattle.dn_line.specs.declared.kind.Letter.{Letter}
 use Rattle.dn_line.specs.declared.line.Line.{Line}
-use Rattle.dn_instance.specs.ArcRuns.{Joins, arc_items}
-use Rattle.dn_instance.specs.Drafts.{DraftHolds}
+use Rattle.dn_instance.specs.State.ArcRuns.{Joins, arc_items}
+use Rattle.dn_instance.specs.State.Drafts.{DraftHolds}
 use Rattle.dn_instance.specs.Items.{by_key, supplies_of, supply_in, terminal_in, terminal_of}
 use Rattle.dn_instance.specs.TextFaults.{has_supply}
 use Rattle.dn_instance.specs.declared.draft.Draft.{Draft}

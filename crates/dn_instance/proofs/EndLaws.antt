@@ -6,24 +6,24 @@ use Rattle.dn_line.specs.declared.code.Code.TheVariants.{NoProblem, MissingTermi
 use Rattle.dn_line.specs.declared.kind.Letter.TheVariants.{S, T}
 use Rattle.dn_line.specs.declared.line.Line.{Line}
 use Rattle.dn_line.specs.Faults.{first_fault}
-use Rattle.dn_bundle.specs.Kinds.{capacities}
-use Rattle.dn_bundle.specs.Capacities.{cap_told}
+use Rattle.dn_arc.specs.Kinds.{capacities}
+use Rattle.dn_arc.specs.State.Capacities.{cap_told}
 use Rattle.std.specs.List.Sorted.{IsStrictlySortedBy}
 use Rattle.std.specs.Map.{keys_of, lookup}
-use Rattle.pair_index.specs.Pairs.{pair_cmp, same_pair}
+use Rattle.dn_arc.specs.Pairs.{pair_cmp, same_pair}
 use Rattle.dn_table.proofs.GrownLaws.{stands_as}
 use Rattle.dn_instance.specs.Instances.{Graph, MaxFlow}
 use Rattle.dn_instance.specs.Items.{Problem, counted, terminal_of, graph_of, max_flow, arcs_of, cap_arc_in}
 use Rattle.dn_instance.specs.TextFaults.{end_fault, lacks_terminal, is_full}
-use Rattle.dn_instance.specs.Progresses.{ProgressAt}
-use Rattle.dn_instance.specs.Drafts.{draft_kind, DraftHolds}
-use Rattle.dn_instance.specs.Ends.{Makes, EndsWith}
-use Rattle.dn_instance.specs.Helds.{Bundles, Shows, contents_of, holding}
+use Rattle.dn_instance.specs.State.Progresses.{ProgressAt}
+use Rattle.dn_instance.specs.State.Drafts.{draft_kind, DraftHolds}
+use Rattle.dn_instance.specs.State.Ends.{Makes, EndsWith}
+use Rattle.dn_instance.specs.State.Helds.{Bundles, Shows, contents_of, holding}
 use Rattle.dn_instance.specs.declared.content.Content.{Content}
 use Rattle.dn_instance.specs.declared.content.Content.TheVariants as Kept
 use Rattle.dn_instance.specs.declared.draft.Draft.{Draft}
 use Rattle.dn_instance.specs.declared.draft.Draft.TheVariants as Drafts
-use Rattle.dn_bundle.specs.declared.arc.CapArc.{CapArc}
+use Rattle.dn_arc.specs.declared.arc.CapArc.{CapArc}
 use Rattle.dn_bundle.specs.declared.total.Total.{Total}
 use Rattle.dn_instance.specs.declared.held.Held.{Held}
 use Rattle.dn_instance.specs.declared.progress.Progress.{Progress}

@@ -11,7 +11,7 @@ use Rattle.dn_instance.specs.declared.refusal.Place.{Place}
 use Rattle.dn_instance.specs.declared.refusal.Place.TheVariants as Places
 use Rattle.std.proofs.Common.{ℤ, option_and_then}
 use Rattle.std.specs.Option.{option_map}
-use Rattle.dn_bundle.specs.declared.arc.CapArc.{CapArc}
+use Rattle.dn_arc.specs.declared.arc.CapArc.{CapArc}
 use Rattle.dn_line.specs.declared.code.Code.TheVariants.{NoProblem, MissingTerminal}
 use Rattle.dn_instance.specs.Instances.{Graph, Instance}
 use Rattle.dn_instance.specs.Items.{Problem, problem_of, instance_of, instance_as, terminal_of, kind_known, max_flow, graph_of, cap_arc_in}

@@ -9,15 +9,15 @@ use Rattle.dn_line.specs.declared.code.Code.{Code}
 use Rattle.dn_line.specs.declared.code.Code.TheVariants.{LateNode, TooManyLines}
 use Rattle.dn_line.specs.Words.{is_skip, first}
 use Rattle.dn_line.specs.Faults.{Test, first_fault, head_tests, field_tests, own_tests, fields}
-use Rattle.dn_line.specs.Spelling.{Slot, FitSlots, Spells, slots_of}
+use Rattle.dn_line.specs.State.Spelling.{Slot, FitSlots, Spells, slots_of}
 use Rattle.dn_line.specs.Reading.{unless, spelled, words_read}
 use Rattle.dn_line.proofs.FaultLaws.{fault_append}
 use Rattle.dn_line.proofs.SpellingLaws.{faultless_spells}
 use Rattle.dn_instance.specs.Items.{problem_of, kind_known, counted, is_counted}
 use Rattle.dn_instance.specs.TextFaults.{order_tests, line_tests, item_tests, item_spelled, is_counted_letter, is_full, is_late_node, is_surplus}
-use Rattle.dn_instance.specs.Drafts.{HasSigns}
+use Rattle.dn_instance.specs.State.Drafts.{HasSigns}
 use Rattle.dn_instance.specs.Texts.{with_next}
-use Rattle.dn_instance.specs.TextsSoFar.{next_read, fault_next, MayFollow}
+use Rattle.dn_instance.specs.State.TextsSoFar.{next_read, fault_next, MayFollow}
 use Rattle.dn_instance.proofs.FirstFaults.{none_first}
 use Rattle.dn_instance.proofs.CleanItems.{none_both}
 

@@ -1,6 +1,6 @@
 -- What is held, and the instances that it stands for.
 use Rattle.std.proofs.Common.{◌≡◌, refl}
-use Rattle.dn_instance.specs.Helds.{Contents, Holding, IsHeld, OfMin, OfMax, OfSp, OfSs, OfP2p, OfCo, Shows, contents_kind}
+use Rattle.dn_instance.specs.State.Helds.{Contents, Holding, IsHeld, OfMin, OfMax, OfSp, OfSs, OfP2p, OfCo, Shows, contents_kind}
 use Rattle.dn_instance.specs.Instances.{Instance, MinCostFlow, MaxFlow, ShortestPaths, Sources, Queries, Coordinates, kind_of}
 
 shown_kind : (c : Contents) (I : Instance) → Shows c I → contents_kind c ≡ kind_of I

@@ -9,7 +9,7 @@ use Rattle.dn_line.specs.Faults.{first_fault}
 use Rattle.dn_instance.specs.TextFaults.{line_tests, line_fault, is_too_long}
 use Rattle.dn_instance.specs.declared.text_so_far.TextSoFar.{TextSoFar}
 use Rattle.dn_instance.specs.Texts.{IsClean, items_of, with_next}
-use Rattle.dn_instance.specs.TextsSoFar.{IsProgress, TextAt, fault_next}
+use Rattle.dn_instance.specs.State.TextsSoFar.{IsProgress, TextAt, fault_next}
 use Rattle.dn_instance.proofs.FirstFaults.{fault_after}
 use Rattle.dn_instance.proofs.CleanItems.{items_push}
 

@@ -10,7 +10,7 @@ use Rattle.std.specs.declared.cmp.Ordering.TheVariants.{Less, Equal, Greater}
 use Rattle.std.proofs.lemmas.Cmp.{int_cmp_total}
 use Rattle.std.proofs.lemmas.Map.Lookups.{exact_signed}
 use Rattle.std.proofs.lemmas.List.Sums.{fold-append}
-use Rattle.pair_index.proofs.PairLaws.{int_self}
+use Rattle.dn_arc.proofs.PairLaws.{int_self}
 use Rattle.dn_instance.proofs.PairLaws.{sought_is}
 use Rattle.dn_instance.specs.Items.{by_key}
 use Rattle.dn_instance.specs.Validity.{IsMap}

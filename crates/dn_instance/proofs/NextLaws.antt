@@ -11,11 +11,12 @@ use Rattle.dn_line.specs.declared.code.Code.{Code}
 use Rattle.dn_line.specs.Words.{is_skip, first}
 use Rattle.dn_line.specs.LineTable.{kind_named}
 use Rattle.dn_line.specs.Faults.{Test, first_fault, head_tests, field_tests, fields}
-use Rattle.dn_line.specs.Reading.{unless, spelled, head_of, head_read, fields_read}
+use Rattle.dn_line.specs.Reading.{unless, spelled}
+use Rattle.dn_line.specs.State.Reading.{head_of, head_read, fields_read}
 use Rattle.dn_line.proofs.FaultLaws.{fault_append}
 use Rattle.dn_instance.specs.Items.{kind_known}
 use Rattle.dn_instance.specs.TextFaults.{order_tests}
-use Rattle.dn_instance.specs.TextsSoFar.{next_read}
+use Rattle.dn_instance.specs.State.TextsSoFar.{next_read}
 
 -- a line that is not skipped has the head that it names, where the checks find no fault
 pub head_told : (known : Option Kind) (ws : List Word) (head : Head) → is_skip ws ≡ false → head_read known ws ≡ Ok head → (first_fault (head_tests known ws) ≡ None) × (head ≡ head_of (first ws) (kind_named ws))

@@ -2,7 +2,7 @@
 use Rattle.std.proofs.Common.{◌≡◌, ℤ, true}
 use Rattle.std.proofs.lemmas.Map.Lookups.{exact_signed}
 use Rattle.std.specs.Ordering.{int_cmp, is_eq}
-use Rattle.pair_index.proofs.PairLaws.{equal_is}
+use Rattle.dn_arc.proofs.PairLaws.{equal_is}
 
 -- a key that is found is the one sought
 pub sought_is : (q k : ℤ) → is_eq (int_cmp q k) ≡ true → q ≡ k

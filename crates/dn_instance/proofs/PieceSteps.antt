@@ -5,13 +5,13 @@ use Rattle.std.proofs.Math.Seq.{take-add}
 use Rattle.std.proofs.lemmas.List.{take_all, length-drop}
 use Rattle.std.specs.List.{position_or_len, before_first, list_all}
 use Rattle.dn_line.specs.Pieces.{parts, has_bytes, if_any, lines, is_line_feed}
-use Rattle.dn_line.specs.LineStates.{LineSoFar, has_end, used_of, last_of, line_of, is_inner}
+use Rattle.dn_line.specs.State.LineStates.{LineSoFar, has_end, used_of, last_of, line_of, is_inner}
 use Rattle.dn_line.proofs.PartsLaws.{Parts, parts_run, parts_end, parts_push}
 use Rattle.dn_line.proofs.LineReaderLaws.{ended_push}
 use Rattle.dn_line.proofs.BeginLaws.{line_ends, line_before, line_used}
 use Rattle.dn_instance.specs.Readers.{ended}
-use Rattle.dn_instance.specs.ReaderStates.{open_of}
-use Rattle.dn_instance.specs.TextsSoFar.{AreInner, closed_lines}
+use Rattle.dn_instance.specs.State.ReaderStates.{open_of}
+use Rattle.dn_instance.specs.State.TextsSoFar.{AreInner, closed_lines}
 
 -- the line that a piece's LF ends comes after those before it
 closes : (p : Parts) (ls : List (List ℕ)) (o : List ℕ) → p ≡ (ls ++ o ∷ [], []) → p.0 ≡ ls ++ (last_of p.0 p.1).bytes ∷ []

@@ -11,11 +11,11 @@ use Rattle.std.specs.Option.{option_or}
 use Rattle.dn_line.specs.declared.line.Line.{Line}
 use Rattle.dn_line.specs.declared.line.Line.TheVariants as Item
 use Rattle.dn_line.specs.declared.kind.Kind.{Kind}
-use Rattle.dn_line.specs.Spelling.{kind_before}
+use Rattle.dn_line.specs.State.Spelling.{kind_before}
 use Rattle.dn_instance.specs.Items.{Problem, problem_of, problem_in, counted, is_counted}
 use Rattle.dn_instance.specs.TextFaults.{is_arc, is_companion, is_full}
-use Rattle.dn_instance.specs.Progresses.{ProgressAt, HasRoom}
-use Rattle.dn_instance.specs.Drafts.{draft_kind, DraftHolds}
+use Rattle.dn_instance.specs.State.Progresses.{ProgressAt, HasRoom}
+use Rattle.dn_instance.specs.State.Drafts.{draft_kind, DraftHolds}
 use Rattle.dn_instance.specs.declared.draft.Draft.{Draft}
 use Rattle.dn_instance.specs.declared.progress.Progress.{Progress}
 use Rattle.dn_instance.proofs.CleanItems.{problem_push}

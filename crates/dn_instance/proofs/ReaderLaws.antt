@@ -11,19 +11,20 @@ use Rattle.dn_instance.specs.declared.refusal.Place.TheVariants as Places
 use Rattle.dn_instance.specs.declared.reader.Reader.{Reader}
 use Rattle.dn_instance.specs.declared.refusal.Refusal.{Refusal}
 use Rattle.dn_instance.specs.declared.refusal.Refusal.TheVariants.{Text, Memory, Read, Endless, Write, CountTooLarge}
-use Rattle.dn_instance.specs.ItemFaults.{AnswersFault}
-use Rattle.dn_instance.specs.Readers.{ended, lines_taken, IsNext, EntriesBefore, IsRefused, Fed, Outcome, answer_of}
-use Rattle.dn_instance.specs.ReaderStates.{Finishes, StopsIn, Takes, TakesAll, IsReading, ReaderAt}
-use Rattle.dn_instance.specs.Refusals.{refused_at}
+use Rattle.dn_instance.specs.State.ItemFaults.{AnswersFault}
+use Rattle.dn_instance.specs.Readers.{ended}
+use Rattle.dn_instance.specs.State.Readers.{lines_taken, IsNext, EntriesBefore, IsRefused, Fed, Outcome, answer_of}
+use Rattle.dn_instance.specs.State.ReaderStates.{Finishes, StopsIn, Takes, TakesAll, IsReading, ReaderAt}
+use Rattle.dn_instance.specs.State.Refusals.{refused_at}
 use Rattle.dn_instance.specs.TextFaults.{line_fault}
 use Rattle.dn_instance.specs.Texts.{items_of, FaultAt, IsClean, IsFirstFaultAt}
-use Rattle.dn_instance.specs.TextsSoFar.{TextAt}
+use Rattle.dn_instance.specs.State.TextsSoFar.{TextAt}
 use Rattle.dn_instance.proofs.FirstFaults.{first_on}
 use Rattle.dn_instance.proofs.LineSteps.{split, clean_more}
 use Rattle.dn_instance.proofs.PieceSteps.{More, ended_more, lines_more, rest_of, step_on, whole_of}
 use Rattle.dn_instance.proofs.SizeLaws.{problem_sized}
-use Rattle.dn_instance.specs.Ends.{EndsWith}
-use Rattle.dn_instance.specs.EntryCount.{entries_so_far}
+use Rattle.dn_instance.specs.State.Ends.{EndsWith}
+use Rattle.dn_instance.specs.State.EntryCount.{entries_so_far}
 use Rattle.dn_instance.specs.Items.{Problem, instance_as}
 use Rattle.dn_instance.specs.declared.held.Held.{Held}
 use Rattle.dn_instance.specs.declared.text_so_far.TextSoFar.{TextSoFar}

@@ -1,24 +1,23 @@
 -- Being the same problem is an equivalence, and does not depend on the order of arcs; what is held is one problem.
 use Rattle.std.proofs.Common.{◌≡◌, ℤ, List, ◌∷◌, Bool, true, false, cond, refl, sym, ◌∙◌}
 use Rattle.std.specs.List.Sorted.{IsPermutation}
-use Rattle.dn_bundle.specs.Meanings.{IsMeaning}
-use Rattle.dn_bundle.specs.Kinds.{ArcKind, lengths, capacities, costs}
-use Rattle.dn_bundle.specs.Laws.Orders.{any_order}
-use Rattle.dn_bundle.specs.Laws.Lengths.{length_meaning}
-use Rattle.dn_bundle.specs.Laws.Totals.{total_meaning}
-use Rattle.dn_bundle.specs.Laws.Curves.{curve_meaning}
-use Rattle.pair_index.specs.Pairs.{same_pair}
-use Rattle.dn_table.specs.Pairs.{bundle}
-use Rattle.dn_bundle.specs.Lengths.{length_told}
-use Rattle.dn_bundle.specs.Capacities.{cap_told}
-use Rattle.dn_bundle.specs.CurveTold.{told}
-use Rattle.dn_bundle.specs.declared.arc.Form.TheVariants.{One}
-use Rattle.dn_bundle.specs.Curves.{CurveNumbers}
+use Rattle.dn_arc.specs.State.Meanings.{IsMeaning}
+use Rattle.dn_arc.specs.Kinds.{ArcKind, lengths, capacities, costs}
+use Rattle.dn_arc.proofs.OrdersLaws.{any_order}
+use Rattle.dn_arc.proofs.LengthsLaws.{length_meaning}
+use Rattle.dn_arc.proofs.TotalsLaws.{total_meaning}
+use Rattle.dn_arc.proofs.CurvesLaws.{curve_meaning}
+use Rattle.dn_arc.specs.Pairs.{bundle, same_pair}
+use Rattle.dn_arc.specs.State.Lengths.{length_told}
+use Rattle.dn_arc.specs.State.Capacities.{cap_told}
+use Rattle.dn_arc.specs.State.CurveTold.{told}
+use Rattle.dn_arc.specs.declared.arc.Form.TheVariants.{One}
+use Rattle.dn_arc.specs.State.Curves.{CurveNumbers}
 use Rattle.dn_bundle.specs.declared.least.Least.{Least}
 use Rattle.dn_bundle.specs.declared.total.Total.{Total}
-use Rattle.dn_instance.specs.Helds.{Contents, Holding, IsHeld, Shows, OfMin, OfMax, OfSp, OfSs, OfP2p, OfCo}
+use Rattle.dn_instance.specs.State.Helds.{Contents, Holding, IsHeld, Shows, OfMin, OfMax, OfSp, OfSs, OfP2p, OfCo}
 use Rattle.dn_instance.specs.Instances.{Graph, Instance, MinCostFlow, MaxFlow, ShortestPaths, Sources, Queries, Coordinates, nodes_of}
-use Rattle.dn_table.specs.Tables.{told_at, TableStandsFor}
+use Rattle.dn_table.specs.State.Tables.{told_at, TableStandsFor}
 use Rattle.dn_instance.specs.Sameness.{SameGraph, IsSame}
 
 module _ {Arc : Type 0} (kind : ArcKind Arc) (meaning : IsMeaning kind.Same) where

@@ -1,18 +1,21 @@
 -- What is answered of a text as its source gives it.
-use Rattle.std.proofs.Common.{◌≡◌, inl, inr, ℕ, ◌<◌, ◌≤◌, ◌^◌, List, [], ◌++◌, append_assoc, append-nil, length, Bool, true, false, ◌==◌, Option, Some, None, Result, Ok, Err, refl, sym, ap, ◌∙◌, subst, arith, IfSome, IfErr, IsErr, IsErrAnd, IsErrOf, MatchResult, OnOk}
+use Rattle.std.proofs.Common.{◌≡◌, inl, inr, ℕ, ◌<◌, ◌≤◌, ◌^◌, List, [], ◌++◌, append_assoc, append-nil, length, Bool, true, false, ◌==◌, Option, Some, None, Result, Ok, Err, refl, sym, ap, ◌∙◌, subst, arith, IfSome, IfErr, IfOk, IsErr, IsErrAnd, IsErrOf, MatchResult, OnOk}
 use Rattle.std.specs.Io.KnownBytes.{Consumes, IsAtEnd, Keeps}
 use Rattle.std.proofs.KnownBytes.{Consumes-trans}
 use Rattle.std.proofs.lemmas.Bool.{eqb-true, eqb-false}
 use Rattle.std.proofs.lemmas.List.{nil_from_length}
 use Rattle.dn_line.specs.Pieces.{lines}
+use Rattle.dn_line.specs.Sources.{SourceWords}
 use Rattle.dn_instance.specs.declared.refusal.Place.TheVariants as Places
 use Rattle.dn_instance.specs.declared.held.Held.{Held}
 use Rattle.dn_instance.specs.declared.reader.Reader.{Reader}
 use Rattle.dn_instance.specs.declared.refusal.Refusal.{Refusal}
 use Rattle.dn_instance.specs.declared.refusal.Refusal.TheVariants.{Text, Memory, Read, Endless, Write, CountTooLarge}
-use Rattle.dn_instance.specs.Readers.{ended, IsRefused, Outcome, WantsMemory, answer_of}
-use Rattle.dn_instance.specs.ReaderStates.{Finishes, IsFed, ReaderAt}
-use Rattle.dn_instance.specs.SourceReads.{CleanSoFar, PulledBytes, PulledWhileClean, StopsInPiece, StopsAt, SourceOutcome, Copied, CopyOutcome, IsOfReading}
+use Rattle.dn_instance.specs.Readers.{ended, WantsMemory}
+use Rattle.dn_instance.specs.State.Readers.{IsRefused, Outcome, answer_of}
+use Rattle.dn_instance.specs.State.ReaderStates.{Finishes, IsFed, ReaderAt}
+use Rattle.dn_instance.specs.SourceReads.{CleanSoFar, PulledBytes, PulledWhileClean, IsOfReading}
+use Rattle.dn_instance.specs.State.SourceReads.{StopsInPiece, StopsAt, SourceOutcome, Copied, CopyOutcome, HoldsCopied, HoldsSome}
 use Rattle.dn_instance.specs.Texts.{IsClean}
 use Rattle.dn_instance.proofs.PieceSteps.{More, ended_more, lines_more}
 use Rattle.dn_instance.proofs.ReaderLaws.{reading, refused_on}
@@ -104,14 +107,14 @@ clean_before None rest given r c s none = tt
 clean_before (Some t) None given r c s none = absurd c
 clean_before (Some t) (Some rest) given r c s none = record { given = given; rest = rest; whole = c; rest_is = refl; clean = (reading r given none s).read.clean }
 
-module _ {S : Type 0} {gives : S → Option (List ℕ)} {Pulls : S → S → Type 0} {old before : S} (given : List ℕ) (r : Reader) where
+module _ {S : Type 0} {source : SourceWords S} {old before : S} (given : List ℕ) (r : Reader) where
   -- no pull more
-  pub pulled_so_far : PulledBytes gives Pulls old before → Consumes (gives old) (gives before) given → ReaderAt r given → r.refusal ≡ None → PulledWhileClean gives Pulls old before
-  pulled_so_far p c s none = record { before = before; pulls = p; clean = clean_before (gives old) (gives before) given r c s none; last = inl refl }
+  pub pulled_so_far : PulledBytes source old before → Consumes (source.gives old) (source.gives before) given → ReaderAt r given → r.refusal ≡ None → PulledWhileClean source old before
+  pulled_so_far p c s none = record { before = before; pulls = p; clean = clean_before (source.gives old) (source.gives before) given r c s none; last = inl refl }
 
   -- one pull more
-  pub pulled_on : {new : S} → PulledBytes gives Pulls old before → Consumes (gives old) (gives before) given → ReaderAt r given → r.refusal ≡ None → Pulls before new → PulledWhileClean gives Pulls old new
-  pulled_on p c s none more = record { before = before; pulls = p; clean = clean_before (gives old) (gives before) given r c s none; last = inr more }
+  pub pulled_on : {new : S} → PulledBytes source old before → Consumes (source.gives old) (source.gives before) given → ReaderAt r given → r.refusal ≡ None → source.Pulls before new → PulledWhileClean source old new
+  pulled_on p c s none more = record { before = before; pulls = p; clean = clean_before (source.gives old) (source.gives before) given r c s none; last = inr more }
 
 pub not_refused : (o : Option Refusal) → Ok tt ≡ answer_of o → o ≡ None
 not_refused None e = refl
@@ -222,6 +225,24 @@ module _ (old new : Option (List ℕ)) (r : Reader) (a : Result Held Refusal) wh
   pub finished_by_reading : (fed : Result (Unit {0}) Refusal) → OnOk fed (IsFed old new r) → IfErr fed IsOfReading → MatchResult fed (λ x. Finishes r a) (λ e. a ≡ Err e) → IfErr a IsOfReading
   finished_by_reading (Ok x) ok err h = of_reading ok.given a (h.outcome ok.given ok.read)
   finished_by_reading (Err e) ok err h = subst (λ x. IfErr x IsOfReading) (sym h) err
+
+  -- what is held stands for an instance
+  pub finished_held : (fed : Result (Unit {0}) Refusal) → OnOk fed (IsFed old new r) → MatchResult fed (λ x. Finishes r a) (λ e. a ≡ Err e) → IfOk a HoldsSome
+  finished_held (Ok x) ok h = by_answer a (h.outcome ok.given ok.read)
+    where
+      by_answer : (b : Result Held Refusal) → Outcome ok.given b → IfOk b HoldsSome
+      by_answer (Ok held) o = (ok.given, o)
+      by_answer (Err e) o = tt
+  finished_held (Err e) ok h = subst (λ x. IfOk x HoldsSome) (sym h) tt
+
+  pub finished_copied : (old_copy new_copy : List ℕ) (fed : Result (Unit {0}) Refusal) → OnOk fed ((all : IsFed old new r) × (new_copy ≡ old_copy ++ all.given)) → MatchResult fed (λ x. Finishes r a) (λ e. a ≡ Err e)
+      → IfOk a (HoldsCopied old_copy new_copy)
+  finished_copied old_copy new_copy (Ok x) ok h = by_answer a (h.outcome ok.0.given ok.0.read)
+    where
+      by_answer : (b : Result Held Refusal) → Outcome ok.0.given b → IfOk b (HoldsCopied old_copy new_copy)
+      by_answer (Ok held) o = (ok.0.given, o, ok.1)
+      by_answer (Err e) o = tt
+  finished_copied old_copy new_copy (Err e) ok h = subst (λ x. IfOk x (HoldsCopied old_copy new_copy)) (sym h) tt
 
   pub finished_failed : {F : Type 0} (fed : Result (Unit {0}) Refusal) → OnOk fed (IsFed old new r) → (IsErrOf fed Read → F) → MatchResult fed (λ x. Finishes r a) (λ e. a ≡ Err e) → IsErrOf a Read → F
   finished_failed (Ok x) ok err h is = absurd (subst (Outcome ok.given) is (h.outcome ok.given ok.read))

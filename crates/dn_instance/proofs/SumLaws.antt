@@ -1,12 +1,12 @@
 -- The CAPs of an ordered pair, with one arc more.
 use Rattle.std.proofs.Common.{◌≡◌, ◌-◌, ◌^◌, ℤ, pos, ◌+ℤ◌, List, [], ◌∷◌, ◌++◌, Bool, int_lt, sym, ap, arith}
 use Rattle.std.proofs.lemmas.Int.{ints}
-use Rattle.dn_bundle.specs.Kinds.{ArcKind, capacities, costs}
-use Rattle.dn_bundle.specs.Capacities.{total_cap}
-use Rattle.dn_bundle.specs.Splits.{cost_cap}
-use Rattle.dn_bundle.specs.declared.arc.CapArc.{CapArc}
-use Rattle.dn_bundle.specs.declared.arc.CostArc.{CostArc}
-use Rattle.dn_table.specs.Pairs.{bundle}
+use Rattle.dn_arc.specs.Kinds.{ArcKind, capacities, costs}
+use Rattle.dn_arc.specs.Capacities.{total_cap}
+use Rattle.dn_arc.specs.Splits.{cost_cap}
+use Rattle.dn_arc.specs.declared.arc.CapArc.{CapArc}
+use Rattle.dn_arc.specs.declared.arc.CostArc.{CostArc}
+use Rattle.dn_arc.specs.Pairs.{bundle}
 
 -- the capacities of these arcs and this one at its ordered pair sum past 2^63 - 1, for any kind of arcs
 abbrev pub passes : {Arc : Type 0} → ArcKind Arc → List ((ℤ × ℤ) × Arc) → (ℤ × ℤ) × Arc → Bool

@@ -16,15 +16,15 @@ use Rattle.std.specs.Map.{lookup}
 use Rattle.dn_line.specs.declared.code.Code.TheVariants.{NodeOutOfRange, RepeatedNode}
 use Rattle.dn_line.specs.declared.line.Line.{Line}
 use Rattle.dn_line.specs.declared.line.Line.TheVariants as Item
-use Rattle.dn_bundle.specs.Kinds.{costs}
-use Rattle.dn_bundle.specs.CurveTold.{told}
-use Rattle.dn_bundle.specs.declared.arc.Form.TheVariants.{One}
-use Rattle.dn_bundle.specs.Curves.{CurveNumbers}
-use Rattle.dn_instance.specs.Drafts.{TableHolds}
+use Rattle.dn_arc.specs.Kinds.{costs}
+use Rattle.dn_arc.specs.State.CurveTold.{told}
+use Rattle.dn_arc.specs.declared.arc.Form.TheVariants.{One}
+use Rattle.dn_arc.specs.State.Curves.{CurveNumbers}
+use Rattle.dn_instance.specs.State.Drafts.{TableHolds}
 use Rattle.dn_instance.specs.declared.draft.Draft.TheVariants as Drafts
 use Rattle.dn_instance.specs.declared.refusal.ItemFault.{ItemFault}
 use Rattle.dn_instance.specs.Items.{cost_arc_in, supply_in, supplies_of, by_key}
-use Rattle.dn_instance.specs.ItemFaults.{AnswersFault, supply_fault}
+use Rattle.dn_instance.specs.State.ItemFaults.{AnswersFault, supply_fault}
 use Rattle.dn_instance.specs.TextFaults.{is_companion, has_supply}
 use Rattle.dn_instance.proofs.DraftLaws.{Answering, Standing, Keeping, stray_one, or_else, sought_eq, table_kept}
 use Rattle.dn_instance.proofs.MapLaws.{by_key_push, lookup_put, some_cond}

@@ -2,17 +2,17 @@
 use Rattle.std.proofs.Common.{◌≡◌, ◌↔◌, ℤ, pos, ◌<ℤ◌, int_lt, ◌-◌, ◌^◌, ◌&&◌, arith, List, [], ◌∷◌, ◌++◌, Bool, true, false, cond, Option, Some, None, IsSome, is_some, refl, sym, ap, ◌∙◌, subst, append-nil}
 use Rattle.std.specs.List.{AllByRecursion}
 use Rattle.std.specs.Map.{lookup}
-use Rattle.dn_bundle.specs.declared.arc.Form.TheVariants.{One}
-use Rattle.dn_bundle.specs.Kinds.{ArcKind, AreCanonArcsOf}
-use Rattle.dn_bundle.specs.Bundles.{IsKind, told_of}
-use Rattle.dn_bundle.specs.Laws.Orders.{same_push}
-use Rattle.pair_index.specs.Pairs.{same_pair}
-use Rattle.dn_table.specs.Pairs.{bundle}
-use Rattle.dn_table.specs.Tables.{told_at, Grows, TableTells, AreArcs, Stays}
-use Rattle.pair_index.proofs.PairLaws.{pair_is, pair_self}
+use Rattle.dn_arc.specs.declared.arc.Form.TheVariants.{One}
+use Rattle.dn_arc.specs.Kinds.{ArcKind}
+use Rattle.dn_arc.specs.State.Kinds.{AreCanonArcsOf}
+use Rattle.dn_arc.specs.State.Bundles.{IsKind, told_of}
+use Rattle.dn_arc.proofs.OrdersLaws.{same_push}
+use Rattle.dn_arc.specs.Pairs.{bundle, same_pair}
+use Rattle.dn_table.specs.State.Tables.{told_at, Grows, TableTells, AreArcs, Stays}
+use Rattle.dn_arc.proofs.PairLaws.{pair_is, pair_self}
 use Rattle.dn_table.proofs.PairLaws.{other_pair}
 use Rattle.dn_instance.proofs.SumLaws.{passes}
-use Rattle.dn_instance.specs.ItemFaults.{in_graph, arc_fault}
+use Rattle.dn_instance.specs.State.ItemFaults.{in_graph, arc_fault}
 use Rattle.dn_line.specs.declared.code.Code.TheVariants.{SumTooLarge}
 use Rattle.std.proofs.lemmas.Int.{ints, by_lt_z}
 use Rattle.dn_instance.proofs.ValidLaws.{bundle_push, all_push}

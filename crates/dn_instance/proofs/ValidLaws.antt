@@ -15,17 +15,16 @@ use Rattle.dn_line.specs.declared.line.Line.{Line}
 use Rattle.dn_line.specs.declared.line.Line.TheVariants as Item
 use Rattle.dn_line.specs.Pieces.{lines}
 use Rattle.dn_line.specs.Words.{words, said, said_words}
-use Rattle.dn_line.specs.Spelling.{Slot, Is, Number, Natural, slots_of, kind_before, FitSlots, Spells}
-use Rattle.dn_bundle.specs.Kinds.{ArcKind, costs, capacities, lengths}
-use Rattle.dn_bundle.specs.declared.arc.CapArc.{CapArc}
-use Rattle.pair_index.specs.Pairs.{same_pair}
-use Rattle.dn_table.specs.Pairs.{bundle}
+use Rattle.dn_line.specs.State.Spelling.{Slot, Is, Number, Natural, slots_of, kind_before, FitSlots, Spells}
+use Rattle.dn_arc.specs.Kinds.{ArcKind, costs, capacities, lengths}
+use Rattle.dn_arc.specs.declared.arc.CapArc.{CapArc}
+use Rattle.dn_arc.specs.Pairs.{bundle, same_pair}
 use Rattle.dn_instance.specs.Instances.{Graph, Instance, MaxFlow}
 use Rattle.dn_instance.specs.Validity.{Fits, IsNode, IsId, IsPlaced, IsValidGraph, IsSupply, IsPoint, AreSupplies, AreTerminals, ArePoints, IsValid}
 use Rattle.dn_instance.specs.Items.{Problem, problem_in, problem_of, kind_known, arcs_of, length_arc_in, cap_arc_in, cost_arc_in, by_key, supply_in, supplies_of, terminal_in, terminal_of, source_in, query_in, point_in, graph_of, max_flow, instance_as}
 use Rattle.dn_instance.specs.TextFaults.{is_in_range, ids_in, is_companion, is_id, other_letter}
 use Rattle.dn_instance.specs.Texts.{items_of, IsClean, Reads}
-use Rattle.pair_index.proofs.PairLaws.{pair_is}
+use Rattle.dn_arc.proofs.PairLaws.{pair_is}
 use Rattle.dn_instance.proofs.SumLaws.{passes, total_passes, cost_passes}
 use Rattle.dn_instance.proofs.CleanItems.{IsNext, by_items, problem_push, or_none, or_assoc}
 use Rattle.dn_instance.proofs.MapLaws.{each_put, map_put, by_key_push, no_keys}

@@ -3,15 +3,16 @@
 use Rattle.std.specs.Prelude.{ℕ, ℤ, pos, List, length}
 use Rattle.dn_line.specs.declared.kind.Kind.{Kind}
 use Rattle.dn_line.specs.declared.kind.Kind.TheVariants.{Min, Max, Sp, Ss, P2p, Co}
-use Rattle.dn_bundle.specs.declared.arc.LengthArc.{LengthArc}
-use Rattle.dn_bundle.specs.declared.arc.CapArc.{CapArc}
-use Rattle.dn_bundle.specs.declared.arc.CostArc.{CostArc}
+use Rattle.dn_arc.specs.declared.arc.LengthArc.{LengthArc}
+use Rattle.dn_arc.specs.declared.arc.CapArc.{CapArc}
+use Rattle.dn_arc.specs.declared.arc.CostArc.{CostArc}
 
 -- nodes 1 to `nodes`, and the arcs in file order, each at its ordered pair (SRC, DST)
 pub record Graph (Arc : Type 0) : Type 0 where
   pub nodes : ℤ
   pub arcs : List ((ℤ × ℤ) × Arc)
 
+-- an instance of one of the six kinds
 pub data Instance : Type 0 where
   -- `min`: the flow of each node whose flow is not 0, by rising ID, and the arcs
   MinCostFlow : List (ℤ × ℤ) → Graph CostArc → Instance
@@ -26,6 +27,7 @@ pub data Instance : Type 0 where
   -- `co`: X and Y of each ID, by rising ID
   Coordinates : List (ℤ × (ℤ × ℤ)) → Instance
 
+-- the kind of an instance
 abbrev pub kind_of : Instance → Kind
 kind_of (MinCostFlow supplies graph) = Min
 kind_of (MaxFlow source sink graph) = Max

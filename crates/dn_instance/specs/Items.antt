@@ -1,4 +1,5 @@
--- What a list of items says: the items that the lines of a text spell, in order.
+-- What the items that the lines of a text spell, in order, say together: `min` and `max` of the First DIMACS Challenge,
+-- `sp` and its companions of the Ninth. That a flow of 0 is as none is this project's profile.
 use Rattle.std.specs.Prelude.{ℕ, ℤ, pos, List, [], ◌∷◌, length, Bool, true, false, cond, filter, filter_map, fold, Option, Some, None, option_and_then}
 use Rattle.std.specs.Option.{option_or, option_map}
 use Rattle.std.specs.Ordering.{int_cmp, int_eq}
@@ -9,9 +10,9 @@ use Rattle.dn_line.specs.declared.kind.Letter.{Letter}
 use Rattle.dn_line.specs.declared.kind.Letter.TheVariants.{S, T}
 use Rattle.dn_line.specs.declared.line.Line.{Line}
 use Rattle.dn_line.specs.declared.line.Line.TheVariants as Item
-use Rattle.dn_bundle.specs.declared.arc.LengthArc.{LengthArc}
-use Rattle.dn_bundle.specs.declared.arc.CapArc.{CapArc}
-use Rattle.dn_bundle.specs.declared.arc.CostArc.{CostArc}
+use Rattle.dn_arc.specs.declared.arc.LengthArc.{LengthArc}
+use Rattle.dn_arc.specs.declared.arc.CapArc.{CapArc}
+use Rattle.dn_arc.specs.declared.arc.CostArc.{CostArc}
 use Rattle.dn_instance.specs.Instances.{Graph, Instance, MinCostFlow, MaxFlow, ShortestPaths, Sources, Queries, Coordinates}
 
 -- what a problem line declares: NODES is 0 for a companion; `count` is the number of counted lines
@@ -20,6 +21,7 @@ pub record Problem : Type 0 where
   pub nodes : ℤ
   pub count : ℤ
 
+-- what a line declares, if it is a problem line
 abbrev pub problem_in : Line → Option Problem
 problem_in (Item.Graph kind nodes arcs) = Some (record { kind = kind; nodes = nodes; count = arcs })
 problem_in (Item.Aux kind count) = Some (record { kind = kind; nodes = pos 0; count = count })
@@ -30,6 +32,7 @@ abbrev pub problem_of : List Line → Option Problem
 problem_of [] = None
 problem_of (i ∷ rest) = option_or (problem_in i) (problem_of rest)
 
+-- the kind that is declared
 abbrev pub kind_known : List Line → Option Kind
 kind_known items = option_map (λ (p : Problem). p.kind) (problem_of items)
 
@@ -43,6 +46,7 @@ is_counted (Item.Query first second) = true
 is_counted (Item.Point id x y) = true
 is_counted _ = false
 
+-- how many counted lines there are
 abbrev pub counted : List Line → ℕ
 counted items = length (filter is_counted items)
 
@@ -74,9 +78,11 @@ abbrev pub supply_in : Line → Option (ℤ × ℤ)
 supply_in (Item.Supply id flow) = cond (int_eq flow (pos 0)) None (Some (id, flow))
 supply_in _ = None
 
+-- the flows other than 0, by rising node
 abbrev pub supplies_of : List Line → List (ℤ × ℤ)
 supplies_of items = by_key (filter_map supply_in items)
 
+-- the letters of two node lines of a `max` problem are the same
 abbrev pub same_letter : Letter → Letter → Bool
 same_letter S S = true
 same_letter S T = false
@@ -93,18 +99,22 @@ abbrev pub terminal_of : Letter → List Line → Option ℤ
 terminal_of letter [] = None
 terminal_of letter (i ∷ rest) = option_or (terminal_in letter i) (terminal_of letter rest)
 
+-- the source that an `s` line names
 abbrev pub source_in : Line → Option ℤ
 source_in (Item.Source id) = Some id
 source_in _ = None
 
+-- the two nodes that a `q` line names
 abbrev pub query_in : Line → Option (ℤ × ℤ)
 query_in (Item.Query first second) = Some (first, second)
 query_in _ = None
 
+-- the point of a `v` line, by its ID
 abbrev pub point_in : Line → Option (ℤ × (ℤ × ℤ))
 point_in (Item.Point id x y) = Some (id, (x, y))
 point_in _ = None
 
+-- the graph of as many nodes, with the arcs that the lines have
 abbrev pub graph_of : {Arc : Type 0} → (Line → Option ((ℤ × ℤ) × Arc)) → ℤ → List Line → Graph Arc
 graph_of arc_in nodes items = record { nodes = nodes; arcs = arcs_of arc_in items }
 

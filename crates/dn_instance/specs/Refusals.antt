@@ -1,12 +1,12 @@
 -- Numbers and names of refusals (this project's profile), and the refusal of a line.
 use Rattle.std.specs.Prelude.{ℕ, List, codes}
 use Rattle.dn_line.specs.Names.{code_name, code_number}
-use Rattle.dn_instance.specs.declared.refusal.ItemFault.{ItemFault}
 use Rattle.dn_instance.specs.declared.refusal.ItemFault.TheVariants as Faults
 use Rattle.dn_instance.specs.declared.refusal.Place.TheVariants as Places
 use Rattle.dn_instance.specs.declared.refusal.Refusal.{Refusal}
 use Rattle.dn_instance.specs.declared.refusal.Refusal.TheVariants.{Text, Memory, Read, Endless, Write, CountTooLarge}
 
+-- the number of a refusal
 abbrev pub refusal_number : Refusal → ℕ
 refusal_number (Text place code) = code_number code
 refusal_number Memory = 30
@@ -15,6 +15,7 @@ refusal_number Endless = 32
 refusal_number Write = 33
 refusal_number CountTooLarge = 34
 
+-- the name of a refusal
 abbrev pub refusal_name : Refusal → List ℕ
 refusal_name (Text place code) = code_name code
 refusal_name Memory = codes "Memory"
@@ -22,8 +23,3 @@ refusal_name Read = codes "Read"
 refusal_name Endless = codes "Endless"
 refusal_name Write = codes "Write"
 refusal_name CountTooLarge = codes "CountTooLarge"
-
--- the fault of the line of this number
-abbrev pub refused_at : ℕ → ItemFault → Refusal
-refused_at number (Faults.Text code) = Text (Places.Line number) code
-refused_at number Faults.Memory = Memory

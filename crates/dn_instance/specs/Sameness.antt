@@ -1,7 +1,7 @@
 -- When two instances are the same problem (this project's profile).
 use Rattle.std.specs.Prelude.{◌≡◌, ℤ}
-use Rattle.dn_bundle.specs.Kinds.{ArcKind, costs, capacities, lengths}
-use Rattle.dn_table.specs.Pairs.{bundle}
+use Rattle.dn_arc.specs.Kinds.{ArcKind, costs, capacities, lengths}
+use Rattle.dn_arc.specs.Pairs.{bundle}
 use Rattle.dn_instance.specs.Instances.{Graph, Instance, MinCostFlow, MaxFlow, ShortestPaths, Sources, Queries, Coordinates}
 
 -- the same NODES, and at each ordered pair arcs that mean the same

@@ -1,13 +1,12 @@
--- What is answered of the text that a source gives.
-use Rattle.std.specs.Prelude.{◌≡◌, ◌⊎◌, ℕ, ◌<◌, ◌≤◌, ◌^◌, List, ◌++◌, length, Option, Some, Result, Ok, Err, IfSome}
-use Rattle.std.specs.Io.KnownBytes.{Consumes, IsAtEnd}
-use Rattle.dn_line.specs.Pieces.{lines}
-use Rattle.dn_instance.specs.declared.held.Held.{Held}
+-- What is answered of the text that a source gives (this project's profile).
+use Rattle.std.specs.Prelude.{◌≡◌, ◌⊎◌, ℕ, ◌<◌, List, ◌++◌, length, Option, Some, IfSome}
+use Rattle.std.specs.Io.KnownBytes.{Consumes}
+use Rattle.dn_line.specs.Sources.{SourceWords}
 use Rattle.dn_instance.specs.declared.refusal.Place.TheVariants as Places
 use Rattle.dn_instance.specs.declared.refusal.Refusal.{Refusal}
-use Rattle.dn_instance.specs.declared.refusal.Refusal.TheVariants.{Text, Memory, Read, Endless, Write, CountTooLarge}
-use Rattle.dn_instance.specs.Readers.{IsRefused, Outcome, ended}
-use Rattle.dn_instance.specs.Texts.{IsClean, IsFirstFault}
+use Rattle.dn_instance.specs.declared.refusal.Refusal.TheVariants.{Write, CountTooLarge}
+use Rattle.dn_instance.specs.Readers.{ended}
+use Rattle.dn_instance.specs.Texts.{IsClean}
 
 -- of the text t the source has given these bytes, and still gives the rest; no line that LFs have ended there is faulty
 pub record CleanSoFar (t : List ℕ) (new : Option (List ℕ)) : Type 0 where
@@ -18,86 +17,18 @@ pub record CleanSoFar (t : List ℕ) (new : Option (List ℕ)) : Type 0 where
   pub clean : IsClean (ended given)
 
 -- a source became `new` by pulls that each gave at least one byte, where its bytes are known
-pub data PulledBytes {S : Type 0} (gives : S → Option (List ℕ)) (Pulls : S → S → Type 0) (old : S)
-    : S → Type 0 where
-  unpulled : PulledBytes gives Pulls old old
-  pulled : (mid new : S) (bytes : List ℕ) → PulledBytes gives Pulls old mid → Pulls mid new
-      → Consumes (gives mid) (gives new) bytes → 0 < length bytes → PulledBytes gives Pulls old new
+pub data PulledBytes {S : Type 0} (source : SourceWords S) (old : S) : S → Type 0 where
+  unpulled : PulledBytes source old old
+  pulled : (mid new : S) (bytes : List ℕ) → PulledBytes source old mid → source.Pulls mid new
+      → Consumes (source.gives mid) (source.gives new) bytes → 0 < length bytes → PulledBytes source old new
 
 -- a source became `before` by pulls that each gave at least one byte, and no line that LFs have ended there is faulty,
 -- where its bytes are known; `new` is that, or comes of it by one pull more
-pub record PulledWhileClean {S : Type 0} (gives : S → Option (List ℕ)) (Pulls : S → S → Type 0) (old new : S)
-    : Type 0 where
+pub record PulledWhileClean {S : Type 0} (source : SourceWords S) (old new : S) : Type 0 where
   pub before : S
-  pub pulls : PulledBytes gives Pulls old before
-  pub clean : IfSome (gives old) (λ t. CleanSoFar t (gives before))
-  pub last : (new ≡ before) ⊎ Pulls before new
-
--- of the text t the source has given `before`, where no line that LFs have ended is faulty, and then a piece of at most
--- 2 ^ 16 bytes; it still gives the rest. The refused line is one whose LF is in that piece.
-pub record StopsInPiece (t : List ℕ) (new : Option (List ℕ)) (e : Refusal) : Type 0 where
-  pub before : List ℕ
-  pub piece : List ℕ
-  pub rest : List ℕ
-  pub whole : t ≡ before ++ (piece ++ rest)
-  pub rest_is : new ≡ Some rest
-  pub short : length piece ≤ 2 ^ 16
-  pub clean : IsClean (ended before)
-  pub refused : IsRefused (length (ended before)) (ended (before ++ piece)) e
-
--- why a text is refused after all lines that LFs have ended: the fault of its end, or a last line without LF is refused
-abbrev pub IsRefusedLast : List ℕ → Refusal → Type 0
-IsRefusedLast t (Text Places.End code) = IsFirstFault t Places.End code
-IsRefusedLast t e = IsRefused (length (ended t)) (lines t) e
-
--- the source has given all of the text t, where no line that LFs have ended is faulty
-pub record StopsAtEnd (t : List ℕ) (new : Option (List ℕ)) (e : Refusal) : Type 0 where
-  pub at_end : IsAtEnd new
-  pub clean : IsClean (ended t)
-  pub refused : IsRefusedLast t e
-
--- where a source that gave the text t was left as the text was refused
-abbrev pub StopsAt : List ℕ → Option (List ℕ) → Refusal → Type 0
-StopsAt t new e = StopsInPiece t new e ⊎ StopsAtEnd t new e
-
--- of a source that gave the text t from here on, and now gives `new`: what t reads as, with nothing left; or its first
--- fault, or want of memory at a line without fault, with nothing given after the piece of that line; or no end, after
--- lines without fault
-abbrev pub SourceOutcome : List ℕ → Option (List ℕ) → Result Held Refusal → Type 0
-SourceOutcome t new (Ok held) = Outcome t (Ok held) × IsAtEnd new
-SourceOutcome t new (Err (Text place code)) = IsFirstFault t place code × StopsAt t new (Text place code)
-SourceOutcome t new (Err Memory) = StopsAt t new Memory
-SourceOutcome t new (Err Read) = CleanSoFar t new
-SourceOutcome t new (Err Endless) = (c : CleanSoFar t new) × (2 ^ 40 ≤ length c.given)
-SourceOutcome t new (Err Write) = ⊥
-SourceOutcome t new (Err CountTooLarge) = ⊥
-
--- of the text t the source has given these bytes, which the copy has gained, and it still gives the rest
-pub record Copied (t : List ℕ) (new : Option (List ℕ)) (old_copy new_copy : List ℕ) : Type 0 where
-  pub given : List ℕ
-  pub rest : List ℕ
-  pub whole : t ≡ given ++ rest
-  pub rest_is : new ≡ Some rest
-  pub copy : new_copy ≡ old_copy ++ given
-
--- of the text t the source has given these bytes, which the copy has gained, and then a piece of at least one byte, for
--- which the copy lacked memory; no line that LFs have ended before that piece is faulty
-pub record LacksRoom (t : List ℕ) (new : Option (List ℕ)) (old_copy new_copy : List ℕ) : Type 0 where
-  pub given : List ℕ
-  pub piece : List ℕ
-  pub rest : List ℕ
-  pub whole : t ≡ given ++ (piece ++ rest)
-  pub rest_is : new ≡ Some rest
-  pub some : 0 < length piece
-  pub copy : new_copy ≡ old_copy ++ given
-  pub clean : IsClean (ended given)
-
--- the same of a source whose text is copied as it comes: the copy has gained all that the source gave, or all but the
--- piece for which it lacked memory
-abbrev pub CopyOutcome : List ℕ → Option (List ℕ) → List ℕ → List ℕ → Result Held Refusal → Type 0
-CopyOutcome t new old_copy new_copy (Err Memory) =
-    (SourceOutcome t new (Err Memory) × Copied t new old_copy new_copy) ⊎ LacksRoom t new old_copy new_copy
-CopyOutcome t new old_copy new_copy result = SourceOutcome t new result × Copied t new old_copy new_copy
+  pub pulls : PulledBytes source old before
+  pub clean : IfSome (source.gives old) (λ t. CleanSoFar t (source.gives before))
+  pub last : (new ≡ before) ⊎ source.Pulls before new
 
 -- a refusal that reading gives
 abbrev pub IsOfReading : Refusal → Type 0

@@ -17,9 +17,9 @@ use Rattle.dn_line.specs.declared.code.Code.TheVariants.{LateNode, TooManyLines,
 use Rattle.dn_line.specs.Words.{first, is_skip}
 use Rattle.dn_line.specs.Faults.{Test, first_fault, head_tests, field_tests, fields}
 use Rattle.dn_line.specs.Reading.{words_read}
-use Rattle.dn_bundle.specs.Capacities.{total_cap}
-use Rattle.dn_bundle.specs.Splits.{cost_cap}
-use Rattle.dn_table.specs.Pairs.{bundle}
+use Rattle.dn_arc.specs.Capacities.{total_cap}
+use Rattle.dn_arc.specs.Splits.{cost_cap}
+use Rattle.dn_arc.specs.Pairs.{bundle}
 use Rattle.dn_instance.specs.Items.{Problem, problem_of, kind_known, counted, arcs_of, cap_arc_in, cost_arc_in, terminal_of}
 
 -- the item that a line spells, if it spells one
@@ -32,12 +32,14 @@ item_spelled (Err code) = None
 abbrev pub is_too_long : ℕ → Bool
 is_too_long number = nat_le (2 ^ 63 - 1) number
 
+-- an arc line
 abbrev pub is_arc : Line → Bool
 is_arc (Item.MinArc src dst low cap cost) = true
 is_arc (Item.MaxArc src dst cap) = true
 is_arc (Item.SpArc src dst length) = true
 is_arc _ = false
 
+-- the letter `n` of a node line
 abbrev pub is_node_letter : Option Keyword → Bool
 is_node_letter (Some Key.N) = true
 is_node_letter _ = false
@@ -75,6 +77,7 @@ ids_in (Item.Query first second) = first ∷ second ∷ []
 ids_in (Item.Point id x y) = id ∷ []
 ids_in _ = []
 
+-- a kind of companions
 abbrev pub is_companion : Kind → Bool
 is_companion Kinds.Ss = true
 is_companion Kinds.P2p = true
@@ -90,10 +93,12 @@ is_in_range (Some p) id = int_lt (pos 0) id && (is_companion p.kind || not (int_
 abbrev pub is_stray : List Line → Line → Bool
 is_stray before i = not (list_all (is_in_range (problem_of before)) (ids_in i))
 
+-- a node line for this ID
 abbrev pub has_supply : ℤ → Line → Bool
 has_supply id (Item.Supply i flow) = int_eq i id
 has_supply id _ = false
 
+-- a point for this ID
 abbrev pub has_point : ℤ → Line → Bool
 has_point id (Item.Point i x y) = int_eq i id
 has_point id _ = false
@@ -105,10 +110,12 @@ is_repeated before (Item.Terminal id letter) = is_some (terminal_of letter befor
 is_repeated before (Item.Point id x y) = list_any (has_point id) before
 is_repeated before _ = false
 
+-- `t` for `s`, and `s` for `t`
 abbrev pub other_letter : Letter → Letter
 other_letter Letters.S = Letters.T
 other_letter Letters.T = Letters.S
 
+-- this node was named
 abbrev pub is_id : ℤ → Option ℤ → Bool
 is_id id None = false
 is_id id (Some other) = int_eq other id
@@ -175,5 +182,6 @@ end_tests items =
     ∷ (TooFewLines, not (is_full (problem_of items) (counted items)))
     ∷ []
 
+-- the first fault of the end, if there is one
 abbrev pub end_fault : List Line → Option Code
 end_fault items = first_fault (end_tests items)

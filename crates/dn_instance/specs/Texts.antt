@@ -1,4 +1,4 @@
--- What a whole text reads as: its instance, or its first fault.
+-- What a whole text reads as: its instance, or its first fault (this project's profile).
 use Rattle.std.specs.Prelude.{◌≡◌, ℕ, ◌+◌, ◌≤◌, List, [], ◌∷◌, ◌++◌, length, fold, Some, None}
 use Rattle.std.specs.Option.{option_to_list}
 use Rattle.dn_line.specs.declared.line.Line.{Line}

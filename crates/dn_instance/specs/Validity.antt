@@ -5,8 +5,8 @@ use Rattle.std.specs.List.Sorted.{IsStrictlySortedBy}
 use Rattle.std.specs.Map.{keys_of}
 use Rattle.std.specs.Ordering.{int_cmp}
 use Rattle.dn_line.specs.Number.{fits}
-use Rattle.dn_bundle.specs.Kinds.{ArcKind, costs, capacities, lengths}
-use Rattle.dn_table.specs.Pairs.{bundle}
+use Rattle.dn_arc.specs.Kinds.{ArcKind, costs, capacities, lengths}
+use Rattle.dn_arc.specs.Pairs.{bundle}
 use Rattle.dn_instance.specs.Instances.{Graph, Instance, MinCostFlow, MaxFlow, ShortestPaths, Sources, Queries, Coordinates}
 
 -- the number has 64 signed bits
@@ -53,6 +53,7 @@ pub record IsPoint (point : ℤ × (ℤ × ℤ)) : Type 0 where
 abbrev pub IsMap : {X : Type 0} → List (ℤ × X) → Type 0
 IsMap entries = IsStrictlySortedBy int_cmp (keys_of entries)
 
+-- the flows of a `min` problem: each node at most once
 pub record AreSupplies (nodes : ℤ) (supplies : List (ℤ × ℤ)) : Type 0 where
   pub map : IsMap supplies
   pub each : AllByRecursion (IsSupply nodes) supplies
@@ -63,10 +64,12 @@ pub record AreTerminals (nodes source sink : ℤ) : Type 0 where
   pub sink_is : IsNode nodes sink
   pub differ : source ≢ sink
 
+-- the points of a companion: each ID at most once
 pub record ArePoints (points : List (ℤ × (ℤ × ℤ))) : Type 0 where
   pub map : IsMap points
   pub each : AllByRecursion IsPoint points
 
+-- an instance that a text may describe
 abbrev pub IsValid : Instance → Type 0
 IsValid (MinCostFlow supplies graph) = IsValidGraph costs graph × AreSupplies graph.nodes supplies
 IsValid (MaxFlow source sink graph) = IsValidGraph capacities graph × AreTerminals graph.nodes source sink

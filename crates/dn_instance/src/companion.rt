@@ -2,8 +2,9 @@
 ghost use Rattle.std.specs.Prelude.{◌≡◌, ◌∷◌, []};
 ghost use Rattle.std.specs.List.{flat_map};
 ghost use Rattle.std.specs.Map.{keys_of};
-ghost use Rattle.dn_instance.specs.Companions.{both_nodes, fault_name, fault_number, judged, within};
-ghost use Rattle.dn_instance.specs.Helds.{holding};
+ghost use Rattle.dn_instance.specs.Companions.{both_nodes, fault_name, fault_number, within};
+ghost use Rattle.dn_instance.specs.State.Companions.{judged};
+ghost use Rattle.dn_instance.specs.State.Helds.{holding};
 
 use crate::held::Held;
 use crate::view::View;

@@ -1,7 +1,7 @@
 // What is kept of a text, by kind.
 ghost use Rattle.std.specs.Prelude.{◌≡◌, ◌<◌, ◌^◌};
-ghost use Rattle.dn_instance.specs.EntryCount.{entries_of};
-ghost use Rattle.dn_instance.specs.Helds.{contents_kind, pair_count, Shows, contents_of, shown};
+ghost use Rattle.dn_instance.specs.State.EntryCount.{entries_of};
+ghost use Rattle.dn_instance.specs.State.Helds.{contents_kind, pair_count, Shows, contents_of, shown};
 ghost use Rattle.dn_instance.specs.Instances.{Instance};
 ghost use Rattle.dn_instance.specs.Validity.{IsValid};
 

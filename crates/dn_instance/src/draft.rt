@@ -1,18 +1,18 @@
 // An instance in the making: what the items after the problem line have made so far.
 ghost use Rattle.std.specs.Prelude.{◌≡◌, ◌<◌, ◌≤◌, ◌^◌, ℤ, List, ◌∷◌, ◌++◌, [], OnOk, OnErr, Some, length, take};
 ghost use Rattle.std.specs.List.{AllByRecursion};
-ghost use Rattle.dn_line.specs.ArcLines.{arc_of};
+ghost use Rattle.dn_line.specs.State.ArcLines.{arc_of};
 ghost use Rattle.dn_line.specs.declared.line.Line.{Line};
 ghost use Rattle.dn_line.specs.declared.line.Line.TheVariants.{MinArc, MaxArc, SpArc};
 ghost use Rattle.dn_line.specs.Faults.{first_fault};
-ghost use Rattle.dn_line.specs.Spelling.{kind_before};
+ghost use Rattle.dn_line.specs.State.Spelling.{kind_before};
 ghost use Rattle.dn_instance.specs.Items.{Problem, problem_of};
 ghost use Rattle.dn_instance.specs.TextFaults.{item_tests};
-ghost use Rattle.dn_instance.specs.ItemFaults.{AnswersFault};
-ghost use Rattle.dn_instance.specs.ArcRuns.{Joins, arc_items};
-ghost use Rattle.dn_instance.specs.Drafts.{draft_kind, DraftHolds, HasSigns};
-ghost use Rattle.dn_instance.specs.Ends.{Makes};
-ghost use Rattle.dn_instance.specs.EntryCount.{entries_as};
+ghost use Rattle.dn_instance.specs.State.ItemFaults.{AnswersFault};
+ghost use Rattle.dn_instance.specs.State.ArcRuns.{Joins, arc_items};
+ghost use Rattle.dn_instance.specs.State.Drafts.{draft_kind, DraftHolds, HasSigns};
+ghost use Rattle.dn_instance.specs.State.Ends.{Makes};
+ghost use Rattle.dn_instance.specs.State.EntryCount.{entries_as};
 
 use crate::ahead::look_ahead;
 use crate::arcs::{LineBundle, take_arcs};

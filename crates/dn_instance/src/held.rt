@@ -1,7 +1,7 @@
 // What is held of a text that was read.
 ghost use Rattle.std.specs.Prelude.{◌≡◌};
-ghost use Rattle.dn_instance.specs.EntryCount.{entries_of};
-ghost use Rattle.dn_instance.specs.Helds.{contents_kind, pair_count, IsHeld, contents_of, holding, shown};
+ghost use Rattle.dn_instance.specs.State.EntryCount.{entries_of};
+ghost use Rattle.dn_instance.specs.State.Helds.{contents_kind, pair_count, IsHeld, contents_of, holding, shown};
 ghost use Rattle.dn_instance.specs.Instances.{Instance};
 ghost use Rattle.dn_instance.specs.Validity.{IsValid};
 

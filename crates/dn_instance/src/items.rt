@@ -1,9 +1,9 @@
 // Items other than arcs, as they come.
-ghost use Rattle.std.specs.Prelude.{◌≡◌, ◌||◌, ◌&&◌, ℤ, List, [], ◌∷◌, ◌++◌, OnOk, OnErr, Some, IsTrue, pos, int_lt, is_some, cond, true, Err};
+ghost use Rattle.std.specs.Prelude.{◌≡◌, ◌||◌, ◌&&◌, ℤ, [], ◌∷◌, ◌++◌, OnOk, OnErr, Some, pos, is_some, cond, true, Err};
 ghost use Rattle.std.specs.BTreeMap as Map;
 ghost use Rattle.std.specs.BTreeSet as Set;
 ghost use Rattle.std.specs.Ordering.{int_cmp, int_eq};
-ghost use Rattle.dn_instance.specs.ItemFaults.{AnswersFault, supply_fault, terminal_fault, id_fault, pair_fault, point_fault};
+ghost use Rattle.dn_instance.specs.State.ItemFaults.{AnswersFault, supply_fault, terminal_fault, id_fault, pair_fault, point_fault};
 
 use crate::arcs::in_graph;
 use crate::refusal::ItemFault;

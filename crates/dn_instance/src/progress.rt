@@ -1,23 +1,22 @@
 // What has been read from the problem line on.
-ghost use Rattle.std.specs.Prelude.{◌≡◌, ◌<◌, ◌≤◌, ◌≤ℤ◌, ◌^◌, pos, false, length, take, List, ◌∷◌, ◌++◌, [], OnOk, OnErr, Some, None, Option, IsSome};
+ghost use Rattle.std.specs.Prelude.{◌≡◌, ◌<◌, ◌≤◌, ◌≤ℤ◌, ◌^◌, pos, false, length, take, List, ◌∷◌, ◌++◌, [], OnOk, OnErr, Some, None, Option};
 ghost use Rattle.dn_line.specs.declared.line.Line.{Line};
 ghost use Rattle.dn_line.specs.declared.word.Word.{Word};
 ghost use Rattle.dn_line.specs.Words.{first};
 ghost use Rattle.dn_line.specs.LineTable.{kind_named};
 ghost use Rattle.dn_line.specs.Faults.{first_fault, head_tests};
-ghost use Rattle.dn_line.specs.Reading.{head_of};
-ghost use Rattle.dn_line.specs.Spelling.{kind_before};
-ghost use Rattle.std.specs.Option.{option_map};
+ghost use Rattle.dn_line.specs.State.Reading.{head_of};
+ghost use Rattle.dn_line.specs.State.Spelling.{kind_before};
 ghost use Rattle.std.specs.List.{AllByRecursion};
-ghost use Rattle.dn_instance.specs.ArcRuns.{AreInTime, Joins, arc_items};
+ghost use Rattle.dn_instance.specs.State.ArcRuns.{AreInTime, Joins, arc_items};
 ghost use Rattle.dn_instance.specs.TextFaults.{is_companion, item_tests, order_tests};
-ghost use Rattle.dn_instance.specs.ItemFaults.{AnswersFault};
-ghost use Rattle.dn_instance.specs.Drafts.{draft_kind, HasSigns};
-ghost use Rattle.dn_instance.specs.Ends.{EndsWith};
-ghost use Rattle.dn_instance.specs.EntryCount.{entries_so_far};
+ghost use Rattle.dn_instance.specs.State.ItemFaults.{AnswersFault};
+ghost use Rattle.dn_instance.specs.State.Drafts.{draft_kind, HasSigns};
+ghost use Rattle.dn_instance.specs.State.Ends.{EndsWith};
+ghost use Rattle.dn_instance.specs.State.EntryCount.{entries_so_far};
 ghost use Rattle.dn_instance.specs.declared.progress.Progress.{Progress};
-ghost use Rattle.dn_instance.specs.Progresses.{ProgressAt, HasRoom};
-ghost use Rattle.dn_instance.specs.Items.{Problem, problem_in, is_counted};
+ghost use Rattle.dn_instance.specs.State.Progresses.{ProgressAt, HasRoom};
+ghost use Rattle.dn_instance.specs.Items.{problem_in, is_counted};
 
 use crate::draft::Draft;
 use crate::held::Held;
@@ -97,6 +96,7 @@ impl Progress {
         match self.draft.take(alloc, &self.nodes, item) {
             Ok(()) => {
                 if is_counted(&item) {
+                    // No more lines are counted than declared, so nothing saturates.
                     self.counted = self.counted.saturating_add(1);
                 }
                 Ok(())
@@ -116,6 +116,7 @@ impl Progress {
         ensures within { result ≤ length arcs.now }
     {
         self.draft.look_ahead(arcs);
+        // No more lines are counted than declared, so nothing saturates, here and below.
         let most = self.count.saturating_sub(self.counted);
         let few = first_arcs(arcs, &most);
         let taken = self.draft.take_arcs(alloc, &self.nodes, few);

@@ -1,9 +1,10 @@
 // A whole text, from memory or from a source.
-ghost use Rattle.std.specs.Prelude.{◌≡◌, ◌<◌, ◌≤◌, [], ◌++◌, ℕ, List, length, Err, None, IsTrue, IfOk, IfErr, IfSome, OnOk, OnErr, IsErrOf};
+ghost use Rattle.std.specs.Prelude.{◌≡◌, ◌<◌, ◌≤◌, [], ◌++◌, ℕ, List, length, Err, None, IsTrue, IfOk, IfErr, IfSome, OnOk, OnErr};
 ghost use Rattle.std.specs.Io.KnownBytes.{Consumes, IsAtEnd, Keeps};
-ghost use Rattle.dn_instance.specs.Readers.{Outcome, refusal_of};
-ghost use Rattle.dn_instance.specs.ReaderStates.{IsFed, ReaderAt};
-ghost use Rattle.dn_instance.specs.SourceReads.{CopyOutcome, IsOfReading, PulledWhileClean, SourceOutcome};
+ghost use Rattle.dn_instance.specs.State.Readers.{Outcome, refusal_of};
+ghost use Rattle.dn_instance.specs.State.ReaderStates.{IsFed, ReaderAt};
+ghost use Rattle.dn_instance.specs.SourceReads.{IsOfReading};
+ghost use Rattle.dn_instance.specs.State.SourceReads.{CopyOutcome, HoldsCopied, HoldsSome, SourceLeft, SourceOutcome};
 
 use crate::held::Held;
 use crate::reader::Reader;
@@ -23,14 +24,14 @@ pub fn read_text(alloc: Global, text: &[u8]) -> Result<Held, Refusal>
     reader.finish_fed(fed)
 }
 
-/// What the text that a source gives reads as, or its first fault. Pulls no more once the text is refused, and not past
-/// its end. Answers `Read` where the source failed, and `Endless` where 2^40 pulls gave bytes and no end came.
+/// What the text that a source gives reads as, or its first fault. What is held stands for the instance that some text
+/// reads as, also where nothing is known of the bytes of the source. Pulls no more once the text is refused, and not
+/// past its end. Answers `Read` where the source failed, and `Endless` where 2^40 pulls gave bytes and no end came.
 pub fn read_from<S: Source>(alloc: Global, source: &mut S) -> Result<Held, Refusal>
-    ensures outcome { IfSome (S.gives source.old) (λ t. SourceOutcome t (S.gives source.new) result) }
+    ensures held { IfOk result HoldsSome }
+    ensures outcome { IfSome (S.source.gives source.old) (λ t. SourceOutcome t (S.source.gives source.new) result) }
     ensures refusal { IfErr result IsOfReading }
-    ensures read { IsErrOf result Refusal.Read → IsTrue (S.has_failed source.new) }
-    ensures stays { IsTrue (S.has_failed source.old) → IsTrue (S.has_failed source.new) }
-    ensures pulls { PulledWhileClean S.gives S.Pulls source.old source.new }
+    ensures left { SourceLeft S.source source.old source.new result }
 {
     let mut reader = Reader::new(alloc);
     let fed = feed_all(source, &mut reader);
@@ -45,13 +46,12 @@ pub fn read_keep<S: Source>(
     source: &mut S,
     text: &mut Vec<u8>,
 ) -> Result<Held, Refusal>
-    ensures front { (more : List ℕ) × (text.new.items ≡ text.old.items ++ more) }
-    ensures outcome { IfSome (S.gives source.old)
-        (λ t. CopyOutcome t (S.gives source.new) text.old.items text.new.items result) }
+    ensures prefix { (more : List ℕ) × (text.new.items ≡ text.old.items ++ more) }
+    ensures held { IfOk result (HoldsCopied text.old.items text.new.items) }
+    ensures outcome { IfSome (S.source.gives source.old)
+        (λ t. CopyOutcome t (S.source.gives source.new) text.old.items text.new.items result) }
     ensures refusal { IfErr result IsOfReading }
-    ensures read { IsErrOf result Refusal.Read → IsTrue (S.has_failed source.new) }
-    ensures stays { IsTrue (S.has_failed source.old) → IsTrue (S.has_failed source.new) }
-    ensures pulls { PulledWhileClean S.gives S.Pulls source.old source.new }
+    ensures left { SourceLeft S.source source.old source.new result }
 {
     let mut reader = Reader::new(alloc);
     let fed = keep_all(source, text, &mut reader);
@@ -61,13 +61,11 @@ pub fn read_keep<S: Source>(
 // Feeds a reader that has no bytes yet all that a source gives.
 fn feed_all<S: Source>(source: &mut S, reader: &mut Reader) -> Result<(), Refusal>
     requires { ReaderAt reader.old [] × (refusal_of reader.old ≡ None) }
-    ensures ok { OnOk result (IsFed (S.gives source.old) (S.gives source.new) reader.new) }
-    ensures err { IfErr result (λ e. IfSome (S.gives source.old)
-        (λ t. SourceOutcome t (S.gives source.new) (Err e))) }
+    ensures ok { OnOk result (IsFed (S.source.gives source.old) (S.source.gives source.new) reader.new) }
+    ensures err { IfErr result (λ e. IfSome (S.source.gives source.old)
+        (λ t. SourceOutcome t (S.source.gives source.new) (Err e))) }
     ensures refusal { IfErr result IsOfReading }
-    ensures read { IsErrOf result Refusal.Read → IsTrue (S.has_failed source.new) }
-    ensures stays { IsTrue (S.has_failed source.old) → IsTrue (S.has_failed source.new) }
-    ensures pulls { PulledWhileClean S.gives S.Pulls source.old source.new }
+    ensures left { SourceLeft S.source source.old source.new result }
 {
     let mut room = [0u8; 65536];
     for _ in 0..PULLS {
@@ -87,15 +85,13 @@ fn keep_all<S: Source>(
     reader: &mut Reader,
 ) -> Result<(), Refusal>
     requires { ReaderAt reader.old [] × (refusal_of reader.old ≡ None) }
-    ensures front { (more : List ℕ) × (text.new.items ≡ text.old.items ++ more) }
-    ensures ok { OnOk result ((fed : IsFed (S.gives source.old) (S.gives source.new) reader.new)
+    ensures prefix { (more : List ℕ) × (text.new.items ≡ text.old.items ++ more) }
+    ensures ok { OnOk result ((fed : IsFed (S.source.gives source.old) (S.source.gives source.new) reader.new)
         × (text.new.items ≡ text.old.items ++ fed.given)) }
-    ensures err { IfErr result (λ e. IfSome (S.gives source.old)
-        (λ t. CopyOutcome t (S.gives source.new) text.old.items text.new.items (Err e))) }
+    ensures err { IfErr result (λ e. IfSome (S.source.gives source.old)
+        (λ t. CopyOutcome t (S.source.gives source.new) text.old.items text.new.items (Err e))) }
     ensures refusal { IfErr result IsOfReading }
-    ensures read { IsErrOf result Refusal.Read → IsTrue (S.has_failed source.new) }
-    ensures stays { IsTrue (S.has_failed source.old) → IsTrue (S.has_failed source.new) }
-    ensures pulls { PulledWhileClean S.gives S.Pulls source.old source.new }
+    ensures left { SourceLeft S.source source.old source.new result }
 {
     let mut room = [0u8; 65536];
     for _ in 0..PULLS {
@@ -112,14 +108,14 @@ fn keep_all<S: Source>(
 // The next bytes of a source, in this room; none only at the end. Answers `Read` where it failed.
 fn next_piece<'a, S: Source>(source: &mut S, room: &'a mut [u8]) -> Result<&'a [u8], Refusal>
     requires { 0 < length room.old }
-    ensures bytes { IfOk result (λ piece. Consumes (S.gives source.old) (S.gives source.new) piece.now) }
-    ensures end { IfOk result (λ piece. piece.now ≡ [] → IsAtEnd (S.gives source.new)) }
+    ensures bytes { IfOk result (λ piece. Consumes (S.source.gives source.old) (S.source.gives source.new) piece.now) }
+    ensures end { IfOk result (λ piece. piece.now ≡ [] → IsAtEnd (S.source.gives source.new)) }
     ensures bound { IfOk result (λ piece. length piece.now ≤ length room.old) }
-    ensures unread { OnErr result (Keeps (S.gives source.old) (S.gives source.new)) }
+    ensures unread { OnErr result (Keeps (S.source.gives source.old) (S.source.gives source.new)) }
     ensures refusal { IfErr result (λ refusal. refusal ≡ Refusal.Read) }
-    ensures err { OnErr result (IsTrue (S.has_failed source.new)) }
-    ensures stays { IsTrue (S.has_failed source.old) → IsTrue (S.has_failed source.new) }
-    ensures pulls { S.Pulls source.old source.new }
+    ensures err { OnErr result (IsTrue (S.source.has_failed source.new)) }
+    ensures stays { IsTrue (S.source.has_failed source.old) → IsTrue (S.source.has_failed source.new) }
+    ensures pulls { S.source.Pulls source.old source.new }
 {
     match source.pull(room) {
         Ok(n) => Ok(&room[..n]),

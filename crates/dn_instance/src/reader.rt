@@ -1,13 +1,14 @@
 // A text that is read in any pieces.
-ghost use Rattle.std.specs.Prelude.{◌≡◌, ◌≤◌, ℕ, List, [], ◌++◌, length, take, drop, Some, None, Err, ◌<◌, IfOk, IfSome, MatchOption, MatchResult};
-ghost use Rattle.dn_line.specs.LineStates.{LineSoFar, LineReaderAt, used_of};
+ghost use Rattle.std.specs.Prelude.{◌≡◌, ◌≤◌, ℕ, List, [], ◌++◌, length, take, drop, Some, None, Err, ◌<◌, IfOk, MatchResult};
+ghost use Rattle.dn_line.specs.State.LineStates.{LineSoFar, LineReaderAt, used_of};
 ghost use Rattle.dn_line.specs.Pieces.{lines};
-ghost use Rattle.dn_instance.specs.EntryCount.{entries_so_far};
+ghost use Rattle.dn_instance.specs.State.EntryCount.{entries_so_far};
 ghost use Rattle.dn_instance.specs.Texts.{items_of};
-ghost use Rattle.dn_instance.specs.Readers.{EntriesBefore, Fed, Outcome, WantsMemory, ended, lines_taken, refusal_of, answer_of};
-ghost use Rattle.dn_instance.specs.ReaderStates.{ReaderAt, IsReading, Takes, TakesAll, Advances, Finishes, Steps};
-ghost use Rattle.dn_instance.specs.Refusals.{refused_at};
-ghost use Rattle.dn_instance.specs.TextsSoFar.{TextAt};
+ghost use Rattle.dn_instance.specs.Readers.{WantsMemory, ended};
+ghost use Rattle.dn_instance.specs.State.Readers.{EntriesBefore, Fed, Outcome, lines_taken, refusal_of, answer_of};
+ghost use Rattle.dn_instance.specs.State.ReaderStates.{ReaderAt, IsReading, Takes, TakesAll, Advances, Finishes, Steps};
+ghost use Rattle.dn_instance.specs.State.Refusals.{refused_at};
+ghost use Rattle.dn_instance.specs.State.TextsSoFar.{TextAt};
 
 use crate::held::Held;
 use crate::refusal::{ItemFault, Place, Refusal};

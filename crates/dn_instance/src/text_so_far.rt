@@ -1,18 +1,18 @@
 // What the complete lines of a text make, one after the other.
-ghost use Rattle.std.specs.Prelude.{◌≡◌, ◌≢◌, ◌≤◌, ℕ, ◌+◌, length, take, List, ◌∷◌, ◌++◌, [], OnOk, OnErr, IfSome, MatchOption, Ok, Some, None, Option, cond, true, false};
+ghost use Rattle.std.specs.Prelude.{◌≡◌, ◌≢◌, ◌≤◌, ℕ, ◌+◌, length, take, List, ◌∷◌, ◌++◌, [], OnOk, OnErr, Ok, Some, None, Option, cond, true, false};
 ghost use Rattle.dn_line.specs.declared.line.Line.{Line};
 ghost use Rattle.dn_line.specs.declared.word.Word.{Word};
 ghost use Rattle.dn_line.specs.Words.{is_skip, said_words};
 ghost use Rattle.dn_line.specs.Faults.{first_fault};
-ghost use Rattle.dn_line.specs.Reading.{head_read};
-ghost use Rattle.dn_line.specs.LineStates.{LineSoFar, LineReaderAt, used_of};
+ghost use Rattle.dn_line.specs.State.Reading.{head_read};
+ghost use Rattle.dn_line.specs.State.LineStates.{LineSoFar, LineReaderAt};
 ghost use Rattle.dn_instance.specs.Items.{kind_known};
 ghost use Rattle.dn_instance.specs.TextFaults.{is_companion, order_tests, item_tests, line_fault};
-ghost use Rattle.dn_instance.specs.Ends.{EndsWith};
-ghost use Rattle.dn_instance.specs.EntryCount.{entries_so_far};
-ghost use Rattle.dn_instance.specs.ItemFaults.{AnswersFault};
+ghost use Rattle.dn_instance.specs.State.Ends.{EndsWith};
+ghost use Rattle.dn_instance.specs.State.EntryCount.{entries_so_far};
+ghost use Rattle.dn_instance.specs.State.ItemFaults.{AnswersFault};
 ghost use Rattle.dn_instance.specs.Texts.{items_of, with_next};
-ghost use Rattle.dn_instance.specs.TextsSoFar.{IsProgress, MayFollow, next_read, fault_next, TextAt, ReadsFront};
+ghost use Rattle.dn_instance.specs.State.TextsSoFar.{IsProgress, MayFollow, next_read, fault_next, TextAt, ReadsFront};
 
 use crate::held::Held;
 use crate::progress::Progress;
@@ -47,6 +47,7 @@ impl TextSoFar {
     pub(crate) fn next_number(&self) -> u64
         ensures { (ls : List (List ℕ)) → TextAt self.now ls → result ≡ length ls + 1 }
     {
+        // A text has fewer than 2^63 lines (`TooLong`), so nothing saturates.
         self.closed.saturating_add(1)
     }
 
@@ -150,6 +151,7 @@ impl TextSoFar {
         let taken = progress.take_arcs(alloc, arcs);
         self.closed += taken as u64;
         let left = left_behind(&arcs[..taken], bytes.len());
+        // No more bytes are left than there were, so nothing saturates.
         bytes.len().saturating_sub(left)
     }
 

@@ -1,3 +1,1 @@
-pub mod BundleExamples
-pub mod TextExamples
-pub mod DifferenceExamples
+pub mod State

@@ -4,9 +4,9 @@ use Rattle.std.specs.List.{list_all}
 use Rattle.dn_num.specs.Number.{number_read}
 use Rattle.dn_line.specs.Pieces.{parts, onto, has_bytes}
 use Rattle.dn_line.specs.Words.{is_blank, said, said_words, words}
-use Rattle.dn_line.specs.Reading.{head_read, fields_read, checked_item}
-use Rattle.dn_line.specs.LineStates.{is_clear, is_inner}
-use Rattle.dn_line.specs.ArcLines.{BeginsWithArc, IsGap, IsLineEnd, IsNumberBefore, IsNumberFront, AreNumbers, IsArcOf, number_word, has_arcs}
+use Rattle.dn_line.specs.State.Reading.{head_read, fields_read, checked_item}
+use Rattle.dn_line.specs.State.LineStates.{is_clear, is_inner}
+use Rattle.dn_line.specs.State.ArcLines.{BeginsWithArc, IsGap, IsLineEnd, IsNumberBefore, IsNumberFront, AreNumbers, IsArcOf, number_word, has_arcs}
 use Rattle.dn_line.specs.declared.kind.Kind.{Kind}
 use Rattle.dn_line.specs.declared.kind.Kind.TheVariants.{Min, Max, Sp, Ss, P2p, Co}
 use Rattle.dn_line.specs.declared.line.Head.TheVariants as Heads

@@ -1,6 +1,6 @@
 -- Several lines of arcs, one after the other.
 use Rattle.std.proofs.Common.{◌≡◌, ℕ, List, [], ◌∷◌, ◌++◌, refl, sym, subst, length, get_or, arith, zero, suc}
-use Rattle.dn_line.specs.ArcBlocks.{IsArcLine, ReadUpTo, last_left}
+use Rattle.dn_line.specs.State.ArcBlocks.{IsArcLine, ReadUpTo, last_left}
 use Rattle.dn_line.specs.declared.arc_block.ArcLine.{ArcLine}
 use Rattle.dn_line.specs.declared.kind.Kind.{Kind}
 

@@ -17,7 +17,7 @@ use Rattle.dn_line.specs.declared.code.Code.{Code}
 use Rattle.dn_line.specs.declared.code.Code.TheVariants.{FieldCount}
 use Rattle.dn_line.specs.LineTable.{row, counts}
 use Rattle.dn_line.specs.Faults.{first_fault, field_tests, row_fields}
-use Rattle.dn_line.specs.Fields.{num_of, letter_of_word}
+use Rattle.dn_line.specs.State.Fields.{num_of, letter_of_word}
 use Rattle.dn_line.specs.Reading.{num, item, problem}
 
 -- the words after the letter have no fault

@@ -1,6 +1,6 @@
 // The lines of several arcs in their plain spelling, read together.
 ghost use Rattle.std.specs.Prelude.{◌≡◌, ◌≤◌, ℕ, List, [], length, take};
-ghost use Rattle.dn_line.specs.ArcBlocks.{BeginWithArcs, ReadUpTo, last_left};
+ghost use Rattle.dn_line.specs.State.ArcBlocks.{BeginWithArcs, ReadUpTo, last_left};
 
 use crate::arc_lines::{PlainArc, arc_line};
 use crate::kind::Kind;

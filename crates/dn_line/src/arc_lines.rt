@@ -1,6 +1,6 @@
 // Lines of arcs in their plain spelling, read in one pass.
 ghost use Rattle.std.specs.Prelude.{◌≡◌, ◌+◌, ◌<◌, ◌≤◌, ◌∷◌, [], IfSome, drop, length};
-ghost use Rattle.dn_line.specs.ArcLines.{AreBlanks, AreNumbers, BeginsWithArc, IsArcOf, IsGap, IsLineEnd, IsNumberBefore, IsNumberFront, arc_of};
+ghost use Rattle.dn_line.specs.State.ArcLines.{AreBlanks, AreNumbers, BeginsWithArc, IsArcOf, IsGap, IsLineEnd, IsNumberBefore, IsNumberFront, arc_of};
 
 use crate::kind::Kind;
 use crate::piece::{after, is_blank};

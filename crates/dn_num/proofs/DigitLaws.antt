@@ -7,9 +7,10 @@ use Rattle.std.proofs.lemmas.Fmt.{decimal_nonempty, first_decimal, digits_decima
 use Rattle.std.specs.Fmt.{decimal}
 use Rattle.std.specs.List.{list_all}
 use Rattle.std.specs.Simd.Lanes.{Each1, number_l}
-use Rattle.dn_num.specs.Digits.{eight_digits, zeros_before, codes_of}
-use Rattle.dn_num.specs.Lanes.{places}
-use Rattle.dn_num.specs.Number.{is_digit, is_digits, digits_number, begins_with_zero}
+use Rattle.dn_num.specs.State.Digits.{eight_digits, zeros_before, codes_of}
+use Rattle.dn_num.specs.State.Lanes.{places}
+use Rattle.dn_num.specs.Number.{is_digit, is_digits, digits_number}
+use Rattle.dn_num.specs.State.Number.{begins_with_zero}
 use Rattle.dn_num.proofs.LaneLaws.{high}
 use Rattle.dn_num.proofs.ShortestLaws.{numerals, digits_are}
 

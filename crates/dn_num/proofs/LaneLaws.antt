@@ -3,7 +3,7 @@ use Rattle.std.proofs.Common.{◌≡◌, ℕ, ◌+◌, ◌-◌, ◌*◌, ◌/◌
 use Rattle.std.proofs.lemmas.Nat.{shr_split, and_shr, and_mod, and_mask, div-mul-add, mod-mul-add}
 use Rattle.std.specs.Prelude.{replicate}
 use Rattle.std.specs.Simd.Lanes.{Each1, number_l}
-use Rattle.dn_num.specs.Lanes.{places}
+use Rattle.dn_num.specs.State.Lanes.{places}
 
 front : (k x X : ℕ) → x + 2 ^ k * X ≡ X * 2 ^ k + x
 front k x X = ap (λ n. x + n) (mul_comm (2 ^ k) X) ∙ add_comm x (X * 2 ^ k)

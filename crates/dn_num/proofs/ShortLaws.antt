@@ -10,9 +10,9 @@ use Rattle.std.specs.List.{list_all, prefix_len}
 use Rattle.std.specs.Prelude.{replicate}
 use Rattle.std.specs.Simd.Lanes.{Each1, number_l}
 use Rattle.dn_num.specs.Number.{is_digit, digits_number, number_read}
-use Rattle.dn_num.specs.NumberReader.{digits_state, state_read, limited}
+use Rattle.dn_num.specs.State.NumberReader.{digits_state, state_read, limited}
 use Rattle.dn_num.proofs.FrontLaws.{digits_front_read}
-use Rattle.dn_num.specs.Lanes.{places}
+use Rattle.dn_num.specs.State.Lanes.{places}
 use Rattle.dn_num.proofs.LaneLaws.{low, high}
 
 -- a word without its higher lanes

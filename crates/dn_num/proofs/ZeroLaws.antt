@@ -3,7 +3,7 @@ use Rattle.std.proofs.Common.{◌≡◌, ℕ, ◌+◌, ◌*◌, ◌/◌, ◌%◌
 use lib.Count.{count_trailing_zeros, under}
 use Rattle.std.proofs.lemmas.Bool.Decides.{nat_tests}
 use Rattle.std.specs.Simd.Lanes.{Each1, number_l}
-use Rattle.dn_num.specs.Digits.{zeros_before}
+use Rattle.dn_num.specs.State.Digits.{zeros_before}
 
 even_step : (k n : ℕ) → count_trailing_zeros (suc k) (2 * n) ≡ suc (count_trailing_zeros k n)
 unfolding count_trailing_zeros

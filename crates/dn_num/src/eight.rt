@@ -1,7 +1,7 @@
 // Eight digits of a number in one word, the first digit in its lowest byte.
 ghost use Rattle.std.specs.Prelude.{◌≡◌, ℕ, List, [], ◌∷◌, ◌/◌, ◌%◌, ◌<◌, ◌≤◌, length};
 ghost use Rattle.std.specs.Simd.Lanes.{Each1, number_l};
-ghost use Rattle.dn_num.specs.Digits.{eight_digits, zeros_before, codes_of};
+ghost use Rattle.dn_num.specs.State.Digits.{eight_digits, zeros_before, codes_of};
 
 // What one unit of a division's result takes away, so that it stands in the lower half and the rest in the upper one.
 const FOURS: u64 = (10_000 << 32) - 1;

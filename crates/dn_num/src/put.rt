@@ -2,7 +2,7 @@
 ghost use Rattle.std.specs.Prelude.{◌≡◌, ℕ, List, ◌+◌, ◌<◌, ◌≤◌, ◌++◌, length, take};
 ghost use Rattle.std.specs.Fmt.{decimal, signed_decimal};
 ghost use Rattle.std.specs.Simd.Lanes.{Each1, number_l};
-ghost use Rattle.dn_num.specs.Digits.{codes_of, eight_digits};
+ghost use Rattle.dn_num.specs.State.Digits.{codes_of, eight_digits};
 
 use crate::eight::{codes, eight, zeros};
 use std::simd::prelude::*;

@@ -1,7 +1,7 @@
 // The number of eight digits in one word, the first digit in its lowest byte.
 ghost use Rattle.std.specs.Prelude.{◌≡◌, ℕ, List, [], ◌∷◌, ◌+◌, ◌*◌, ◌%◌, ◌^◌, ◌<◌, length, map};
 ghost use Rattle.std.specs.Simd.Lanes.{Each1, number_l};
-ghost use Rattle.dn_num.specs.Lanes.{places};
+ghost use Rattle.dn_num.specs.State.Lanes.{places};
 
 // The values of eight digits.
 #[inline(always)]

@@ -8,26 +8,26 @@ use Rattle.std.specs.Map.{keys_of, lookup}
 use Rattle.std.specs.Option.{option_map}
 use Rattle.dn_line.specs.declared.kind.Kind.{Kind}
 use Rattle.dn_line.specs.declared.kind.Kind.TheVariants as Kinds
-use Rattle.dn_bundle.specs.Bundles.{told_of}
-use Rattle.dn_bundle.specs.Entries.{free_costs}
-use Rattle.dn_bundle.specs.Fillings.{forced_units, forced_cost}
-use Rattle.dn_bundle.specs.Kinds.{ArcKind, AreCanonArcsOf, lengths, capacities, costs}
-use Rattle.dn_bundle.specs.Laws.CostKind.{cost_kind}
-use Rattle.dn_bundle.specs.Laws.Canons.{count_costs, same_canon}
-use Rattle.dn_bundle.specs.Tellings.{least_arcs, total_arcs, curve_arcs}
-use Rattle.dn_bundle.specs.declared.arc.Form.TheVariants.{One}
-use Rattle.dn_bundle.specs.Curves.{CurveNumbers}
+use Rattle.dn_arc.specs.State.Bundles.{told_of}
+use Rattle.dn_arc.specs.Entries.{free_costs}
+use Rattle.dn_arc.specs.Fillings.{forced_units, forced_cost}
+use Rattle.dn_arc.specs.Kinds.{ArcKind, lengths, capacities, costs}
+use Rattle.dn_arc.specs.State.Kinds.{AreCanonArcsOf}
+use Rattle.dn_arc.proofs.CostKindLaws.{cost_kind}
+use Rattle.dn_arc.proofs.CanonsLaws.{count_costs, same_canon}
+use Rattle.dn_bundle.specs.State.Tellings.{least_arcs, total_arcs, curve_arcs}
+use Rattle.dn_arc.specs.declared.arc.Form.TheVariants.{One}
+use Rattle.dn_arc.specs.State.Curves.{CurveNumbers}
 use Rattle.dn_bundle.specs.declared.least.Least.{Least}
 use Rattle.dn_bundle.specs.declared.total.Total.{Total}
-use Rattle.pair_index.specs.Pairs.{pair_cmp, same_pair}
-use Rattle.dn_table.specs.Pairs.{bundle}
-use Rattle.dn_table.specs.Tables.{TableStandsFor, AreArcs}
-use Rattle.dn_instance.specs.Helds.{Bundles, Contents, Holding, IsHeld, OfMin, OfMax, OfSp, OfSs, OfP2p, OfCo, Shows}
+use Rattle.dn_arc.specs.Pairs.{bundle, pair_cmp, same_pair}
+use Rattle.dn_table.specs.State.Tables.{TableStandsFor, AreArcs}
+use Rattle.dn_instance.specs.State.Helds.{Bundles, Contents, Holding, IsHeld, OfMin, OfMax, OfSp, OfSs, OfP2p, OfCo, Shows}
 use Rattle.dn_instance.specs.Instances.{Graph, Instance, MinCostFlow, MaxFlow, ShortestPaths, Sources, Queries, Coordinates, nodes_of, size_of}
 use Rattle.dn_instance.specs.Validity.{IsPlaced, IsValid}
-use Rattle.dn_row.specs.Rows.{Row, text_of}
+use Rattle.dn_sink.specs.Rows.{Row, text_of}
 use Rattle.dn_report.specs.Shows.{AreLengthWords, total_words, cost_words, forced_words, pair_row, ArePairRows, AreGraphRows, graph_rows, IsShown, supply_rows, terminal_rows}
-use Rattle.dn_report.specs.ToldRows.{length_words, told_rows, contents_rows, held_rows}
+use Rattle.dn_report.specs.State.ToldRows.{length_words, told_rows, contents_rows, held_rows}
 
 module _ {Arc : Type 0} (P : Arc → Type 0) (p : ℤ × ℤ) where
   some_more : (t : Bool) (a : Arc) (rest : List Arc) → P a → AllByRecursion P rest → AllByRecursion P (cond t (a ∷ rest) rest)

@@ -5,10 +5,10 @@ use Rattle.std.proofs.lemmas.List.Folds.{concat-append}
 use Rattle.std.specs.List.{concat}
 use Rattle.dn_line.specs.Names.{kind_name}
 use Rattle.dn_line.specs.declared.kind.Kind.{Kind}
-use Rattle.dn_instance.specs.Helds.{Bundles, Contents, Holding, contents_kind}
-use Rattle.dn_row.specs.Rows.{Row, line_text, text_of}
+use Rattle.dn_instance.specs.State.Helds.{Bundles, Contents, Holding, contents_kind}
+use Rattle.dn_sink.specs.Rows.{Row, line_text, text_of}
 use Rattle.dn_report.specs.Shows.{kind_row, number_row, pair_row, graph_rows, supply_rows, terminal_rows}
-use Rattle.dn_report.specs.ToldRows.{told_rows, table_rows, contents_rows, held_rows}
+use Rattle.dn_report.specs.State.ToldRows.{told_rows, table_rows, contents_rows, held_rows}
 
 -- the rows of two lists
 text-append : (rs ss : List Row) → text_of (rs ++ ss) ≡ text_of rs ++ text_of ss

@@ -2,7 +2,7 @@
 use Rattle.std.specs.Prelude.{List, [], ◌∷◌, ◌++◌, codes, Bool, true, false, Option, Some, None}
 use Rattle.dn_line.specs.Names.{kind_name}
 use Rattle.dn_line.specs.declared.kind.Kind.{Kind}
-use Rattle.dn_row.specs.Rows.{Row}
+use Rattle.dn_sink.specs.Rows.{Row}
 use Rattle.dn_report.specs.declared.check.Forms.{Forms}
 
 -- `fits K`, where there is a companion

@@ -1,5 +1,5 @@
 pub mod Shows
 pub mod Checks
 pub mod Verdicts
-pub mod ToldRows
 pub mod FaultLines
+pub mod State

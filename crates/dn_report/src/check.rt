@@ -1,13 +1,12 @@
 // What `check` tells of texts that were accepted.
 ghost use Rattle.std.specs.Prelude.{◌≡◌, ◌∷◌, codes, IsTrue, OnOk};
-ghost use Rattle.dn_row.specs.Rows.{line_text, text_of};
+ghost use Rattle.dn_sink.specs.Rows.{line_text, text_of};
 ghost use Rattle.dn_sink.specs.Puts.{Puts};
 ghost use Rattle.dn_report.specs.Checks.{checked_rows, form_words};
 
-use crate::lines::{finish, put_lines, word_line};
+use crate::lines::{put_lines, word_line};
 use dn_line::Kind;
-use dn_row::LineBuffer;
-use dn_sink::{Sink, SinkFault};
+use dn_sink::{LineBuffer, Sink, SinkFault, put_and_flush};
 
 /// In which forms a text is the canonical text of what it reads as.
 #[derive(Clone, Copy, Debug, PartialEq, Eq)]
@@ -23,18 +22,18 @@ pub struct Forms {
 ///
 /// # Errors
 ///
-/// The sink failed; it took a front of the text.
+/// The sink failed; it took a prefix of the text.
 pub fn put_checked<K: Sink>(
     sink: &mut K,
     kind: Kind,
     companion: Option<Kind>,
     forms: Forms,
 ) -> Result<(), SinkFault>
-    ensures text { Puts K.taken K.has_failed sink.old sink.new (text_of (checked_rows kind companion forms)) result }
-    ensures flushed { OnOk result (IsTrue (K.is_flushed sink.new)) }
+    ensures text { Puts K.sink sink.old sink.new (text_of (checked_rows kind companion forms)) result }
+    ensures flushed { OnOk result (IsTrue (K.sink.is_flushed sink.new)) }
 {
     put_findings(sink, kind, companion, forms)?;
-    finish(sink)
+    put_and_flush(sink, b"")
 }
 
 // Puts them.
@@ -44,7 +43,7 @@ fn put_findings<K: Sink>(
     companion: Option<Kind>,
     forms: Forms,
 ) -> Result<(), SinkFault>
-    ensures { Puts K.taken K.has_failed sink.old sink.new (text_of (checked_rows kind companion forms)) result }
+    ensures { Puts K.sink sink.old sink.new (text_of (checked_rows kind companion forms)) result }
 {
     let accepted = word_line(b"accepted", kind.name().as_bytes());
     let forms = forms_line(forms);

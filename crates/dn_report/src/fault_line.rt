@@ -12,9 +12,9 @@ use itoa::Buffer;
 ///
 /// # Errors
 ///
-/// The sink failed; it may have taken a front of the line.
+/// The sink failed; it may have taken a prefix of the line.
 pub fn put_fault_line<K: Sink>(sink: &mut K, name: &str, refusal: &Refusal) -> Result<(), SinkFault>
-    ensures { Puts K.taken K.has_failed sink.old sink.new (fault_line name.now refusal.now) result }
+    ensures { Puts K.sink sink.old sink.new (fault_line name.now refusal.now) result }
 {
     let name = name.as_bytes();
     match refusal {
@@ -40,13 +40,13 @@ pub fn put_fault_line<K: Sink>(sink: &mut K, name: &str, refusal: &Refusal) -> R
 ///
 /// # Errors
 ///
-/// The sink failed; it may have taken a front of the line.
+/// The sink failed; it may have taken a prefix of the line.
 pub fn put_unfit_line<K: Sink>(
     sink: &mut K,
     name: &str,
     fault: &CompanionFault,
 ) -> Result<(), SinkFault>
-    ensures { Puts K.taken K.has_failed sink.old sink.new (unfit_line name.now fault.now) result }
+    ensures { Puts K.sink sink.old sink.new (unfit_line name.now fault.now) result }
 {
     let mut digits = Buffer::new();
     let number = digits.format(fault.number()).as_bytes();
@@ -69,7 +69,7 @@ fn put_node_fault<K: Sink>(
     reason: &[u8],
     id: &[u8],
 ) -> Result<(), SinkFault>
-    ensures { Puts K.taken K.has_failed sink.old sink.new (name.now ++ (codes ": "
+    ensures { Puts K.sink sink.old sink.new (name.now ++ (codes ": "
         ++ (number.now ++ (codes " " ++ (reason.now ++ (codes " " ++ (id.now ++ codes "\n"))))))) result }
 {
     put_pieces(sink, &[name, b": ", number, b" ", reason, b" ", id, b"\n"])
@@ -82,7 +82,7 @@ fn put_kind_fault<K: Sink>(
     number: &[u8],
     reason: &[u8],
 ) -> Result<(), SinkFault>
-    ensures { Puts K.taken K.has_failed sink.old sink.new
+    ensures { Puts K.sink sink.old sink.new
         (name.now ++ (codes ": " ++ (number.now ++ (codes " " ++ (reason.now ++ codes "\n"))))) result }
 {
     put_pieces(sink, &[name, b": ", number, b" ", reason, b"\n"])
@@ -96,7 +96,7 @@ fn put_line<K: Sink>(
     line: &[u8],
     refusal: &Refusal,
 ) -> Result<(), SinkFault>
-    ensures { Puts K.taken K.has_failed sink.old sink.new
+    ensures { Puts K.sink sink.old sink.new
         (name.now ++ (place.now ++ (line.now ++ reason_text refusal.now))) result }
 {
     let mut digits = Buffer::new();
@@ -113,7 +113,7 @@ fn put_refusal<K: Sink>(
     number: &[u8],
     reason: &[u8],
 ) -> Result<(), SinkFault>
-    ensures { Puts K.taken K.has_failed sink.old sink.new (name.now ++ (place.now ++ (line.now
+    ensures { Puts K.sink sink.old sink.new (name.now ++ (place.now ++ (line.now
         ++ (codes ": " ++ (number.now ++ (codes " " ++ (reason.now ++ codes "\n"))))))) result }
 {
     put_pieces(
@@ -124,7 +124,7 @@ fn put_refusal<K: Sink>(
 
 // Puts pieces, one after the other.
 fn put_pieces<K: Sink>(sink: &mut K, pieces: &[&[u8]]) -> Result<(), SinkFault>
-    ensures { Puts K.taken K.has_failed sink.old sink.new (concat (map (λ piece. piece.now) pieces.now)) result }
+    ensures { Puts K.sink sink.old sink.new (concat (map (λ piece. piece.now) pieces.now)) result }
 {
     for piece in pieces {
         put_all(sink, piece)?;

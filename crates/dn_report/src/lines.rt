@@ -1,29 +1,20 @@
 // Lines of two words, and how lines are put.
-ghost use Rattle.std.specs.Prelude.{◌≡◌, ◌≤◌, pos, [], ◌∷◌, length, IsTrue, OnOk};
+ghost use Rattle.std.specs.Prelude.{◌≡◌, ◌≤◌, pos, [], ◌∷◌, length};
 ghost use Rattle.std.specs.List.{concat};
-ghost use Rattle.dn_row.specs.Rows.{line_text};
+ghost use Rattle.dn_sink.specs.Rows.{line_text};
 ghost use Rattle.dn_sink.specs.Puts.{Puts};
 ghost use Rattle.dn_report.specs.Shows.{number_row};
 
-use dn_row::LineBuffer;
-use dn_sink::{Sink, SinkFault};
+use dn_sink::{LineBuffer, Sink, SinkFault};
 
 // Puts lines, each as one piece.
 pub(crate) fn put_lines<K: Sink>(sink: &mut K, lines: &[LineBuffer]) -> Result<(), SinkFault>
-    ensures { Puts K.taken K.has_failed sink.old sink.new (concat lines.now) result }
+    ensures { Puts K.sink sink.old sink.new (concat lines.now) result }
 {
     for line in lines {
         line.put(sink)?;
     }
     Ok(())
-}
-
-// Ends a report.
-pub(crate) fn finish<K: Sink>(sink: &mut K) -> Result<(), SinkFault>
-    ensures text { Puts K.taken K.has_failed sink.old sink.new [] result }
-    ensures flushed { OnOk result (IsTrue (K.is_flushed sink.new)) }
-{
-    sink.flush()
 }
 
 // Two words.

@@ -1,13 +1,13 @@
 // The line of an ordered pair, by what the bundle of its arcs tells.
 ghost use Rattle.std.specs.Prelude.{◌≡◌, ◌≤◌, ◌++◌, ◌∷◌, List, codes, length};
 ghost use Rattle.std.specs.Fmt.{signed_decimal};
-ghost use Rattle.dn_bundle.specs.declared.arc.Form.{Form};
-ghost use Rattle.dn_row.specs.Rows.{Row, line_text};
+ghost use Rattle.dn_arc.specs.State.Bundles.{meant};
+ghost use Rattle.dn_sink.specs.Rows.{Row, line_text};
 ghost use Rattle.dn_report.specs.Shows.{cost_words, forced_words, pair_row, total_words};
-ghost use Rattle.dn_report.specs.ToldRows.{length_words};
+ghost use Rattle.dn_report.specs.State.ToldRows.{length_words};
 
 use dn_bundle::{Bundle, Curve, Least, Total};
-use dn_row::LineBuffer;
+use dn_sink::LineBuffer;
 
 // A bundle that is told in one line.
 pub(crate) trait PairLine: Bundle {
@@ -16,7 +16,7 @@ pub(crate) trait PairLine: Bundle {
 
     // Makes the line of the bundle of a pair, in place of what the line was.
     fn make_line(&self, line: &mut LineBuffer, pair: &(i64, i64))
-        ensures { line.new ≡ line_text (pair_row pair.now (words (Self.told Form.One self.now))) };
+        ensures { line.new ≡ line_text (pair_row pair.now (words (meant Self.bundle self.now))) };
 }
 
 impl PairLine for Least {

@@ -1,20 +1,19 @@
 // What `show` tells of a text that was read.
-ghost use Rattle.std.specs.Prelude.{◌≡◌, ◌++◌, ℕ, List, IsTrue, OnOk};
+ghost use Rattle.std.specs.Prelude.{◌++◌, ℕ, List, IsTrue, OnOk};
 ghost use Rattle.std.specs.List.{concat};
-ghost use Rattle.dn_bundle.specs.declared.arc.Form.{Form};
-ghost use Rattle.dn_instance.specs.Helds.{IsHeld, holding};
+ghost use Rattle.dn_arc.specs.declared.arc.Form.{Form};
+ghost use Rattle.dn_instance.specs.State.Helds.{IsHeld, holding};
 ghost use Rattle.dn_instance.specs.Instances.{Instance};
 ghost use Rattle.dn_instance.specs.Validity.{IsValid};
-ghost use Rattle.dn_row.specs.Rows.{text_of};
+ghost use Rattle.dn_sink.specs.Rows.{text_of};
 ghost use Rattle.dn_sink.specs.Puts.{Puts};
 ghost use Rattle.dn_report.specs.Shows.{IsShown};
-ghost use Rattle.dn_report.specs.ToldRows.{held_rows, table_rows, told_rows};
+ghost use Rattle.dn_report.specs.State.ToldRows.{held_rows, table_rows, told_rows};
 
-use crate::lines::{count_line, finish, number_line, put_lines, word_line};
+use crate::lines::{count_line, number_line, put_lines, word_line};
 use crate::pair_line::PairLine;
 use dn_instance::{Held, Table, View};
-use dn_row::LineBuffer;
-use dn_sink::{Sink, SinkFault};
+use dn_sink::{LineBuffer, Sink, SinkFault, put_and_flush};
 
 /// Puts what is held of a text: its kind, its number of nodes and of counted lines, what its kind has besides, and for
 /// a graph the ordered pairs whose arcs mean anything, by rising pair, each with its least length, total capacity, or
@@ -23,19 +22,19 @@ use dn_sink::{Sink, SinkFault};
 ///
 /// # Errors
 ///
-/// The sink failed; it took a front of the text.
+/// The sink failed; it took a prefix of the text.
 pub fn put_shown<K: Sink>(sink: &mut K, held: &Held) -> Result<(), SinkFault>
-    ensures text { (t : List ℕ) × Puts K.taken K.has_failed sink.old sink.new t result
+    ensures text { (t : List ℕ) × Puts K.sink sink.old sink.new t result
         × ((I : Instance) → IsValid I → IsHeld (holding held.now) I → IsShown I t) }
-    ensures flushed { OnOk result (IsTrue (K.is_flushed sink.new)) }
+    ensures flushed { OnOk result (IsTrue (K.sink.is_flushed sink.new)) }
 {
     put_held(sink, held)?;
-    finish(sink)
+    put_and_flush(sink, b"")
 }
 
 // Puts the rows of what is held.
 fn put_held<K: Sink>(sink: &mut K, held: &Held) -> Result<(), SinkFault>
-    ensures { Puts K.taken K.has_failed sink.old sink.new (text_of (held_rows (holding held.now))) result }
+    ensures { Puts K.sink sink.old sink.new (text_of (held_rows (holding held.now))) result }
 {
     let kind = word_line(b"kind", held.kind().name().as_bytes());
     let nodes = number_line(b"nodes", &held.nodes());
@@ -65,8 +64,8 @@ fn put_graph<B: PairLine, K: Sink>(
     head: &[LineBuffer],
     table: &Table<B>,
 ) -> Result<(), SinkFault>
-    ensures { Puts K.taken K.has_failed sink.old sink.new
-        (concat head.now ++ text_of (table_rows B.words (B.told Form.One) table.now)) result }
+    ensures { Puts K.sink sink.old sink.new
+        (concat head.now ++ text_of (table_rows B.words (B.bundle.told Form.One) table.now)) result }
 {
     put_lines(sink, head)?;
     count_line(b"pairs", table.len() as u64).put(sink)?;
@@ -75,8 +74,8 @@ fn put_graph<B: PairLine, K: Sink>(
 
 // Puts the line of each pair.
 fn put_pairs<B: PairLine, K: Sink>(sink: &mut K, table: &Table<B>) -> Result<(), SinkFault>
-    ensures { Puts K.taken K.has_failed sink.old sink.new
-        (text_of (told_rows B.words (B.told Form.One) table.now)) result }
+    ensures { Puts K.sink sink.old sink.new
+        (text_of (told_rows B.words (B.bundle.told Form.One) table.now)) result }
 {
     let mut line = LineBuffer::new(b"");
     for (pair, bundle) in table.pairs() {

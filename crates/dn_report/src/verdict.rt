@@ -1,30 +1,27 @@
 // What `compare` tells of a verdict.
-ghost use Rattle.std.specs.Prelude.{◌≡◌, ◌≤◌, ◌+◌, ◌++◌, ◌∷◌, [], codes, length, pos, IsTrue, OnOk};
+ghost use Rattle.std.specs.Prelude.{◌≡◌, ◌≤◌, ◌+◌, ◌++◌, ◌∷◌, [], codes, length, IsTrue, OnOk};
 ghost use Rattle.std.specs.Fmt.{signed_decimal};
-ghost use Rattle.dn_line.specs.Names.{kind_name};
-ghost use Rattle.dn_row.specs.Rows.{line_text};
+ghost use Rattle.dn_sink.specs.Rows.{line_text};
 ghost use Rattle.dn_sink.specs.Puts.{Puts};
-ghost use Rattle.dn_report.specs.Verdicts.{how_words, number_or_none, sides_row, verdict_row};
+ghost use Rattle.dn_report.specs.Verdicts.{number_or_none, verdict_row};
 
-use crate::lines::finish;
 use dn_bundle::{Gap, How};
 use dn_compare::Verdict;
 use dn_line::Kind;
-use dn_row::LineBuffer;
-use dn_sink::{Sink, SinkFault};
+use dn_sink::{LineBuffer, Sink, SinkFault, put_and_flush};
 
 /// Puts the line of a verdict, at once, and then flushes: `same`, or `differ`, what differs, where, and the values of
 /// the left and the right side. It takes no memory of its own.
 ///
 /// # Errors
 ///
-/// The sink failed; it took a front of the line.
+/// The sink failed; it took a prefix of the line.
 pub fn put_verdict<K: Sink>(sink: &mut K, verdict: &Verdict) -> Result<(), SinkFault>
-    ensures text { Puts K.taken K.has_failed sink.old sink.new (line_text (verdict_row verdict.now)) result }
-    ensures flushed { OnOk result (IsTrue (K.is_flushed sink.new)) }
+    ensures text { Puts K.sink sink.old sink.new (line_text (verdict_row verdict.now)) result }
+    ensures flushed { OnOk result (IsTrue (K.sink.is_flushed sink.new)) }
 {
     verdict_line(verdict).put(sink)?;
-    finish(sink)
+    put_and_flush(sink, b"")
 }
 
 fn verdict_line(verdict: &Verdict) -> LineBuffer

@@ -1,9 +1,10 @@
 -- What each command comes to.
-use Rattle.std.proofs.Common.{◌≡◌, ◌≢◌, ◌⊎◌, codes, ℕ, List, [], Bool, Option, Some, None, Result, Ok, Err, IfSome, refl, sym, ◌∙◌, subst, inr}
+use Rattle.std.proofs.Common.{◌≡◌, ◌≢◌, ◌⊎◌, codes, ℕ, List, [], Option, Some, None, Result, Ok, Err, IfSome, refl, sym, ◌∙◌, subst, inr}
 use Rattle.dn_line.specs.declared.kind.Kind.{Kind}
-use Rattle.dn_bundle.specs.declared.arc.Form.{Form}
-use Rattle.dn_instance.specs.Companions.{judged}
-use Rattle.dn_instance.specs.Helds.{IsHeld, contents_kind, holding}
+use Rattle.dn_arc.specs.declared.arc.Form.{Form}
+use Rattle.dn_instance.specs.State.Companions.{judged}
+use Rattle.dn_instance.specs.State.SourceReads.{HoldsCopied}
+use Rattle.dn_instance.specs.State.Helds.{IsHeld, contents_kind, holding}
 use Rattle.dn_instance.specs.Instances.{Instance}
 use Rattle.dn_instance.specs.Texts.{Reads}
 use Rattle.dn_instance.specs.Validity.{IsValid}
@@ -14,48 +15,51 @@ use Rattle.dn_instance.specs.declared.refusal.Refusal.TheVariants.{Text, Memory,
 use Rattle.dn_instance.proofs.HeldLaws.{held_kind}
 use Rattle.dn_instance.proofs.ValidLaws.{reads_valid}
 use Rattle.dn_canon.specs.Prints.{print}
-use Rattle.dn_canon.specs.Writes.{SinkAfter, WritesCanon}
+use Rattle.dn_canon.specs.State.Writes.{IsOfWriting, SinkAfter, WritesCanon}
 use Rattle.dn_report.specs.Shows.{IsShown}
-use Rattle.dn_sink.specs.Puts.{HasPut, PutsFront}
+use Rattle.dn_sink.specs.Puts.{HasPut, PutsPrefix}
 use Rattle.dn_command.specs.Commands.{Canon, Compare}
-use Rattle.dn_run.specs.Answers.{Answer, Done, Refused, Unfit, Cut, IsAnswerTo, OutAfter, unwritten}
+use Rattle.dn_run.specs.Answers.{Answer, Done, Refused, Unfit, Cut, IsAnswerTo, OutAfter}
+use Rattle.dn_run.specs.State.Answers.{unwritten}
 use Rattle.dn_run.specs.FilesRuns.{FilesRun, text_asked}
-use Rattle.dn_run.specs.Findings.{IsFound, PutsFinding}
+use Rattle.dn_run.specs.State.Findings.{IsFound, PutsFinding}
 use Rattle.dn_run.specs.Outcomes.{IsRefusedAs, OnText, OnTwoTexts, RanOn}
 use Rattle.dn_run.specs.Runs.{Never, PutsCanon, PutsChecked, PutsCompared, PutsFit, PutsShown, Unfits}
 use Rattle.dn_run.specs.Streams.{SinkRun, sink_run}
 use Rattle.dn_run.specs.Takings.{KeepsOthers}
-use Rattle.dn_run.specs.Texts.{AskedText, IsCopy, IsRead, IsRefusedCanon, IsRefusedCopy, IsRefusedText, unopened}
+use Rattle.dn_run.specs.Texts.{AskedText, IsRefusedCanon, IsRefusedCopy, IsRefusedText, unopened}
+use Rattle.dn_run.specs.State.Texts.{IsCopy, IsRead}
 use Rattle.dn_run.specs.declared.files.FilesFault.{FilesFault}
 use Rattle.dn_run.proofs.FitLaws.{judged_is}
-use Rattle.dn_run.proofs.OutcomeLaws.{added, by_behind, cut_unread, done_unread, not_refused, on_held, on_left, on_refused, unfit_unread}
+use Rattle.dn_run.proofs.OutcomeLaws.{added, as_some, as_two, by_behind, cut_unread, done_unread, not_refused, on_held, on_left, on_left_read, on_read, on_refused, unfit_unread}
+use Rattle.dn_sink.specs.Sinks.{SinkWords}
 
 module _ {T S : Type 0} (text : AskedText T) (out : SinkRun S) (held : Held) where
   -- ---- `show`
 
   module _ (h : IsRead (IsRefusedText text) text (Ok held)) (t : List ℕ) (shows : (I : Instance) → IsValid I → IsHeld (holding held) I → IsShown I t) where
-    pub shown_done : HasPut out.taken out.has_failed out.old out.new [] t → OnText PutsShown (λ _. Never) (IsRefusedText text) text out (Done 0)
-    shown_done put = on_held PutsShown (λ _. Never) (IsRefusedText text) (IsRefusedText text) text out held (Done 0) h (done_unread 0 text.name)
-        (λ b none e I reads is. (I, reads, t, (refl, shows I (reads_valid b I reads) is), added put))
+    pub shown_done : HasPut out.words out.old out.new [] t → OnText PutsShown (λ _. Never) (IsRefusedText text) text out (Done 0)
+    shown_done put = on_read PutsShown (λ _. Never) (IsRefusedText text) (IsRefusedText text) text out held (Done 0) h (done_unread 0 text.name)
+        (λ b I reads is. (I, reads, t, (refl, shows I (reads_valid b I reads) is), added put))
 
-    pub shown_cut : PutsFront out.taken out.has_failed out.old out.new t → OnText PutsShown (λ _. Never) (IsRefusedText text) text out Cut
-    shown_cut front = on_held PutsShown (λ _. Never) (IsRefusedText text) (IsRefusedText text) text out held Cut h (cut_unread text.name)
-        (λ b none e I reads is. (I, reads, 0, t, (refl, shows I (reads_valid b I reads) is), front))
+    pub shown_cut : PutsPrefix out.words out.old out.new t → OnText PutsShown (λ _. Never) (IsRefusedText text) text out Cut
+    shown_cut part = on_read PutsShown (λ _. Never) (IsRefusedText text) (IsRefusedText text) text out held Cut h (cut_unread text.name)
+        (λ b I reads is. (I, reads, 0, t, (refl, shows I (reads_valid b I reads) is), part))
 
   -- ---- `canon`
 
   module _ (form : Form) (h : IsRead (IsRefusedText text) text (Ok held)) where
-    pub canon_done : ((I : Instance) → IsValid I → IsHeld (holding held) I → WritesCanon out.taken out.has_failed out.old out.new form I (Ok tt)) → OnText (PutsCanon form) (λ _. Never) (IsRefusedCanon form text) text out (Done 0)
-    canon_done writes = on_held (PutsCanon form) (λ _. Never) (IsRefusedText text) (IsRefusedCanon form text) text out held (Done 0) h (done_unread 0 text.name)
-        (λ b none e I reads is. (let w = writes I (reads_valid b I reads) is in (I, reads, print w.0, (refl, (w.0, record { canon = w.1; text_is = refl })), added w.2.0)))
+    pub canon_done : ((I : Instance) → IsValid I → IsHeld (holding held) I → WritesCanon out.words out.old out.new form I (Ok tt)) → OnText (PutsCanon form) (λ _. Never) (IsRefusedCanon form text) text out (Done 0)
+    canon_done writes = on_read (PutsCanon form) (λ _. Never) (IsRefusedText text) (IsRefusedCanon form text) text out held (Done 0) h (done_unread 0 text.name)
+        (λ b I reads is. (let w = writes I (reads_valid b I reads) is in (I, reads, print w.0, (refl, (w.0, record { canon = w.1; text_is = refl })), added w.2.0)))
 
     -- the text is not written
-    pub canon_unwritten : (e : Refusal) → SinkAfter out.has_failed out.old out.new (Err e) → ((I : Instance) → IsValid I → IsHeld (holding held) I → WritesCanon out.taken out.has_failed out.old out.new form I (Err e))
+    pub canon_unwritten : (e : Refusal) → IsOfWriting e → ((I : Instance) → IsValid I → IsHeld (holding held) I → WritesCanon out.words out.old out.new form I (Err e))
         → OnText (PutsCanon form) (λ _. Never) (IsRefusedCanon form text) text out (unwritten text.name e)
-    canon_unwritten e after writes = on_held (PutsCanon form) (λ _. Never) (IsRefusedText text) (IsRefusedCanon form text) text out held (unwritten text.name e) h (unread e after)
-        (λ b none s I reads is. by_refusal b e I reads (writes I (reads_valid b I reads) is))
+    canon_unwritten e after writes = on_read (PutsCanon form) (λ _. Never) (IsRefusedText text) (IsRefusedCanon form text) text out held (unwritten text.name e) h (unread e after)
+        (λ b I reads is. by_refusal b e I reads (writes I (reads_valid b I reads) is))
       where
-        unread : (e : Refusal) → SinkAfter out.has_failed out.old out.new (Err e) → unwritten text.name e ≡ Refused text.name Read → ⊥
+        unread : (e : Refusal) → IsOfWriting e → unwritten text.name e ≡ Refused text.name Read → ⊥
         unread Write h e = cc
         unread CountTooLarge h e = cc
         unread (Text place code) h e = absurd h
@@ -63,7 +67,7 @@ module _ {T S : Type 0} (text : AskedText T) (out : SinkRun S) (held : Held) whe
         unread Read h e = absurd h
         unread Endless h e = absurd h
 
-        by_refusal : (b : List ℕ) (e : Refusal) (I : Instance) → Reads b I → WritesCanon out.taken out.has_failed out.old out.new form I (Err e)
+        by_refusal : (b : List ℕ) (e : Refusal) (I : Instance) → Reads b I → WritesCanon out.words out.old out.new form I (Err e)
             → RanOn (PutsCanon form) (λ _. Never) (IsRefusedCanon form text) text.name out b (unwritten text.name e)
         by_refusal b Write I reads (J, canon, w) = (I, reads, 0, print J, (refl, (J, record { canon = canon; text_is = refl })), w.0)
         by_refusal b CountTooLarge I reads (J, canon, w) = (refl, (I, reads, (J, canon, w.1)))
@@ -72,24 +76,24 @@ module _ {T S : Type 0} (text : AskedText T) (out : SinkRun S) (held : Held) whe
         by_refusal b Read I reads w = absurd w.2
         by_refusal b Endless I reads w = absurd w.2
 
--- a canonical text that is too large is not put; where it is not written, `out` has failed
-pub canon_after : {S : Type 0} (taken : S → Option (List ℕ)) (has_failed : S → Bool) (old new : S) (name : List ℕ) (e : Refusal) → SinkAfter has_failed old new (Err e)
-    → OutAfter (sink_run taken has_failed old new) (unwritten name e)
-canon_after taken has_failed old new name CountTooLarge h = h
-canon_after taken has_failed old new name Write h = h
-canon_after taken has_failed old new name (Text place code) h = absurd h
-canon_after taken has_failed old new name Memory h = absurd h
-canon_after taken has_failed old new name Read h = absurd h
-canon_after taken has_failed old new name Endless h = absurd h
+-- where a text is not written, `out` has failed, or nothing was put
+pub canon_after : {S : Type 0} (sink : SinkWords S) (old new : S) (name : List ℕ) (e : Refusal) → SinkAfter sink old new (Err e)
+    → OutAfter (sink_run sink (old, new)) (unwritten name e)
+canon_after sink old new name CountTooLarge h = h
+canon_after sink old new name Write h = h
+canon_after sink old new name (Text place code) h = h
+canon_after sink old new name Memory h = h
+canon_after sink old new name Read h = h
+canon_after sink old new name Endless h = h
 
 -- why a text is not written may be why `canon` refuses it
-pub unwritten_answers : {S : Type 0} (has_failed : S → Bool) (old new : S) (form : Form) (name : List ℕ) (e : Refusal) → SinkAfter has_failed old new (Err e) → IsAnswerTo (Canon name form) (unwritten name e)
-unwritten_answers has_failed old new form name CountTooLarge h = (refl, inr refl)
-unwritten_answers has_failed old new form name Write h = tt
-unwritten_answers has_failed old new form name (Text place code) h = absurd h
-unwritten_answers has_failed old new form name Memory h = absurd h
-unwritten_answers has_failed old new form name Read h = absurd h
-unwritten_answers has_failed old new form name Endless h = absurd h
+pub unwritten_answers : (form : Form) (name : List ℕ) (e : Refusal) → IsOfWriting e → IsAnswerTo (Canon name form) (unwritten name e)
+unwritten_answers form name CountTooLarge h = (refl, inr refl)
+unwritten_answers form name Write h = tt
+unwritten_answers form name (Text place code) h = absurd h
+unwritten_answers form name Memory h = absurd h
+unwritten_answers form name Read h = absurd h
+unwritten_answers form name Endless h = absurd h
 
 -- a text that is refused as it is read
 pub canon_refused : {T : Type 0} (text : AskedText T) (form : Form) (b : List ℕ) (e : Refusal) → IsRefusedText text b e → IsRefusedCanon form text b e
@@ -106,12 +110,15 @@ canon_refused text form b CountTooLarge h = absurd h
 copy_at : (fault : Option FilesFault) (behind : Option (List ℕ)) (P : List ℕ → Type 0) → (fault ≡ None → IfSome behind P) → (b : List ℕ) → fault ≡ None → behind ≡ Some b → P b
 copy_at fault behind P h b none e = subst (λ o. IfSome o P) e (h none)
 
-module _ {T S : Type 0} (text : AskedText T) (out : SinkRun S) (held : Held) (kept copy : List ℕ) (s : copy ≡ kept) (h : IsRead (IsRefusedCopy text) text (Ok held)) (c : IsCopy text kept (Ok held)) where
+module _ {T S : Type 0} (text : AskedText T) (out : SinkRun S) (held : Held) (kept copy : List ℕ) (s : copy ≡ kept) (h : IsRead (IsRefusedCopy text) text (Ok held)) (c : IsCopy text kept (Ok held)) (k : HoldsCopied [] kept held) where
   pub checked : (answer : Answer) → IsFound answer → ((I : Instance) → Reads copy I → IsHeld (holding held) I → PutsFinding (PutsChecked None copy I) out answer)
       → OnText (PutsChecked None) (λ _. Never) (IsRefusedCopy text) text out answer
   checked answer found puts = on_held (PutsChecked None) (λ _. Never) (IsRefusedCopy text) (IsRefusedCopy text) text out held answer h (λ e. absurd (subst IsFound e found))
       (λ b none e I reads is. (let same : copy ≡ b = s ∙ copy_at text.fault text.behind (λ x. kept ≡ x) c b none e in
       by_answer b I reads answer (subst (λ x. PutsFinding (PutsChecked None x I) out answer) same (puts I (subst (λ x. Reads x I) (sym same) reads) is))))
+      (let (t, (I, reads, is), same) = k in
+      let here : Reads copy I = subst (λ x. Reads x I) (sym (s ∙ same)) reads in
+      as_some (PutsChecked None) (λ _. Never) (IsRefusedCopy text) (IsRefusedCopy text) text out answer (copy, by_answer copy I here answer (puts I here is)))
     where
       by_answer : (b : List ℕ) (I : Instance) → Reads b I → (answer : Answer) → PutsFinding (PutsChecked None b I) out answer → RanOn (PutsChecked None) (λ _. Never) (IsRefusedCopy text) text.name out b answer
       by_answer b I reads (Done status) (t, p, a) = (I, reads, t, p, a)
@@ -131,7 +138,7 @@ held_read text Refuses held h =
     no_fault held (Some f) h = absurd (not_refused held (unopened f) h)
 
 -- what is behind a second name before the first is taken
-pub before_first : {F T : Type 0} (files : FilesRun F T) (mid : F) (left right : List ℕ) → KeepsOthers (files.behind files.old) (files.behind mid) left → (left ≡ codes "-" → right ≢ codes "-")
+pub before_first : {F T : Type 0} (files : FilesRun F T) (mid : F) (left right : List ℕ) → KeepsOthers (files.words.behind files.old) (files.words.behind mid) left → (left ≡ codes "-" → right ≢ codes "-")
     → (r : Result Held Refusal) → IsRead (IsRefusedText (text_asked (record files { old = mid }) mid files.new right)) (text_asked (record files { old = mid }) mid files.new right) r
     → IsRead (IsRefusedText (text_asked files mid files.new right)) (text_asked files mid files.new right) r
 before_first {F} {T} files mid left right keeps apart r h = subst (λ o. IsRead (IsRefusedText (with_behind o)) (with_behind o) r) (keeps right apart) h
@@ -140,33 +147,34 @@ before_first {F} {T} files mid left right keeps apart r h = subst (λ o. IsRead 
     with_behind o = record {
       name = right;
       behind = o;
-      fault = files.fault files.new right;
-      Hands = files.Hands mid right;
-      gives = files.gives;
-      has_failed = files.has_failed;
-      Pulls = files.Pulls;
+      fault = files.words.fault files.new right;
+      Hands = files.words.Hands mid right;
+      source = files.source;
     }
 
 module _ {T S : Type 0} (left right : AskedText T) (out : SinkRun S) (graph : Held) (h : IsRead (IsRefusedCopy left) left (Ok graph)) where
   -- the right text is refused
   pub fit_refused : (e : Refusal) → IsRead (IsRefusedText right) right (Err e) → OnTwoTexts PutsFit Unfits (IsRefusedCopy left) left right out (Refused right.name e)
-  fit_refused e k = on_left PutsFit Unfits (IsRefusedCopy left) left right out graph (Refused right.name e) h
-      (λ b none s I reads is. inr (on_refused (λ x J. PutsFit b I J) (Unfits I) (IsRefusedText right) (IsRefusedText right) right out e k (λ x r. r)))
+  fit_refused e k = on_left_read PutsFit Unfits (IsRefusedCopy left) left right out graph (Refused right.name e) h
+      (λ b I reads is. on_refused (λ x J. PutsFit b I J) (Unfits I) (IsRefusedText right) (IsRefusedText right) right out e k (λ x r. r))
 
   module _ (companion : Held) (k : IsRead (IsRefusedText right) right (Ok companion)) where
     -- the companion does not fit
     pub unfit : (fault : CompanionFault) → judged (holding graph) (holding companion) ≡ Err fault → OnTwoTexts PutsFit Unfits (IsRefusedCopy left) left right out (Unfit right.name fault)
-    unfit fault u = on_left PutsFit Unfits (IsRefusedCopy left) left right out graph (Unfit right.name fault) h
-        (λ b none s I reads is. inr (on_held (λ x J. PutsFit b I J) (Unfits I) (IsRefusedText right) (IsRefusedText right) right out companion (Unfit right.name fault) k (unfit_unread right.name fault right.name)
-        (λ x none' s' J reads' is'. (J, reads', refl, sym (judged_is (holding graph) (holding companion) I J is is') ∙ u))))
+    unfit fault u = on_left_read PutsFit Unfits (IsRefusedCopy left) left right out graph (Unfit right.name fault) h
+        (λ b I reads is. on_read (λ x J. PutsFit b I J) (Unfits I) (IsRefusedText right) (IsRefusedText right) right out companion (Unfit right.name fault) k (unfit_unread right.name fault right.name)
+        (λ x J reads' is'. (J, reads', refl, sym (judged_is (holding graph) (holding companion) I J is is') ∙ u)))
 
     -- it fits
-    module _ (kept copy : List ℕ) (s : copy ≡ kept) (c : IsCopy left kept (Ok graph)) (fit : judged (holding graph) (holding companion) ≡ Ok tt) (with : Kind) (w : with ≡ contents_kind (holding companion).contents) where
+    module _ (kept copy : List ℕ) (s : copy ≡ kept) (c : IsCopy left kept (Ok graph)) (all : HoldsCopied [] kept graph) (fit : judged (holding graph) (holding companion) ≡ Ok tt) (with : Kind) (w : with ≡ contents_kind (holding companion).contents) where
       pub fits : (answer : Answer) → ((I : Instance) → Reads copy I → IsHeld (holding graph) I → PutsFinding (PutsChecked (Some with) copy I) out answer)
           → OnTwoTexts PutsFit Unfits (IsRefusedCopy left) left right out answer
       fits answer puts = on_left PutsFit Unfits (IsRefusedCopy left) left right out graph answer h
-          (λ b none e I reads is. (let same : copy ≡ b = s ∙ copy_at left.fault left.behind (λ x. kept ≡ x) c b none e in
+          (λ b none e I reads is. inr (let same : copy ≡ b = s ∙ copy_at left.fault left.behind (λ x. kept ≡ x) c b none e in
           by_answer b I is answer (subst (λ x. PutsFinding (PutsChecked (Some with) x I) out answer) same (puts I (subst (λ x. Reads x I) (sym same) reads) is))))
+          (let (t, (I, reads, is), same) = all in
+          let here : Reads copy I = subst (λ x. Reads x I) (sym (s ∙ same)) reads in
+          as_two PutsFit Unfits (IsRefusedCopy left) left right out answer (copy, I, here, (by_answer copy I is answer (puts I here is)).some))
         where
           fit_on : (b : List ℕ) (I : Instance) → IsHeld (holding graph) I → (J : Instance) → IsHeld (holding companion) J → (status : ℕ) (t : List ℕ) → PutsChecked (Some with) b I status t → PutsFit b I J status t
           fit_on b I is J is' status t p = (
@@ -175,29 +183,29 @@ module _ {T S : Type 0} (left right : AskedText T) (out : SinkRun S) (graph : He
           )
 
           by_answer : (b : List ℕ) (I : Instance) → IsHeld (holding graph) I → (answer : Answer) → PutsFinding (PutsChecked (Some with) b I) out answer
-              → IsRefusedAs (IsRefusedCopy left) left.name b answer ⊎ OnText (λ x J. PutsFit b I J) (Unfits I) (IsRefusedText right) right out answer
-          by_answer b I is (Done status) (t, p, a) = inr (on_held (λ x J. PutsFit b I J) (Unfits I) (IsRefusedText right) (IsRefusedText right) right out companion (Done status) k (done_unread status right.name)
-              (λ x none e J reads' is'. (J, reads', t, fit_on b I is J is' status t p, a)))
+              → OnText (λ x J. PutsFit b I J) (Unfits I) (IsRefusedText right) right out answer
+          by_answer b I is (Done status) (t, p, a) = on_read (λ x J. PutsFit b I J) (Unfits I) (IsRefusedText right) (IsRefusedText right) right out companion (Done status) k (done_unread status right.name)
+              (λ x J reads' is'. (J, reads', t, fit_on b I is J is' status t p, a))
           by_answer b I is (Refused of e) p = absurd p
           by_answer b I is (Unfit of fault) p = absurd p
-          by_answer b I is Cut (status, t, p, f) = inr (on_held (λ x J. PutsFit b I J) (Unfits I) (IsRefusedText right) (IsRefusedText right) right out companion Cut k (cut_unread right.name)
-              (λ x none e J reads' is'. (J, reads', status, t, fit_on b I is J is' status t p, f)))
+          by_answer b I is Cut (status, t, p, f) = on_read (λ x J. PutsFit b I J) (Unfits I) (IsRefusedText right) (IsRefusedText right) right out companion Cut k (cut_unread right.name)
+              (λ x J reads' is'. (J, reads', status, t, fit_on b I is J is' status t p, f))
 
 -- ---- `compare`
 
 module _ {T S : Type 0} (left right : AskedText T) (out : SinkRun S) (one : Held) (h : IsRead (IsRefusedText left) left (Ok one)) where
   -- the right text is refused
   pub compare_refused : (e : Refusal) → IsRead (IsRefusedText right) right (Err e) → OnTwoTexts (λ _. PutsCompared) (λ _ _. Never) (IsRefusedText left) left right out (Refused right.name e)
-  compare_refused e k = on_left (λ _. PutsCompared) (λ _ _. Never) (IsRefusedText left) left right out one (Refused right.name e) h
-      (λ b none s I reads is. inr (on_refused (λ x J. PutsCompared I J) (λ _. Never) (IsRefusedText right) (IsRefusedText right) right out e k (λ x r. r)))
+  compare_refused e k = on_left_read (λ _. PutsCompared) (λ _ _. Never) (IsRefusedText left) left right out one (Refused right.name e) h
+      (λ b I reads is. on_refused (λ x J. PutsCompared I J) (λ _. Never) (IsRefusedText right) (IsRefusedText right) right out e k (λ x r. r))
 
   -- both are compared
   pub compared : (other : Held) → IsRead (IsRefusedText right) right (Ok other) → (answer : Answer) → IsFound answer
       → ((I J : Instance) → IsValid I → IsValid J → IsHeld (holding one) I → IsHeld (holding other) J → PutsFinding (PutsCompared I J) out answer)
       → OnTwoTexts (λ _. PutsCompared) (λ _ _. Never) (IsRefusedText left) left right out answer
-  compared other k answer found puts = on_left (λ _. PutsCompared) (λ _ _. Never) (IsRefusedText left) left right out one answer h
-      (λ b none e I reads is. inr (on_held (λ x J. PutsCompared I J) (λ _. Never) (IsRefusedText right) (IsRefusedText right) right out other answer k (λ e. absurd (subst IsFound e found))
-      (λ x none' e' J reads' is'. by_answer x I J reads' answer (puts I J (reads_valid b I reads) (reads_valid x J reads') is is'))))
+  compared other k answer found puts = on_left_read (λ _. PutsCompared) (λ _ _. Never) (IsRefusedText left) left right out one answer h
+      (λ b I reads is. on_read (λ x J. PutsCompared I J) (λ _. Never) (IsRefusedText right) (IsRefusedText right) right out other answer k (λ e. absurd (subst IsFound e found))
+      (λ x J reads' is'. by_answer x I J reads' answer (puts I J (reads_valid b I reads) (reads_valid x J reads') is is')))
     where
       by_answer : (x : List ℕ) (I J : Instance) → Reads x J → (answer : Answer) → PutsFinding (PutsCompared I J) out answer → RanOn (λ x J. PutsCompared I J) (λ _. Never) (IsRefusedText right) right.name out x answer
       by_answer x I J reads (Done status) (t, p, a) = (J, reads, t, p, a)

@@ -2,8 +2,9 @@
 use Rattle.std.proofs.Common.{◌≡◌, ℤ, refl, ap, ◌∙◌, true}
 use Rattle.std.specs.List.{flat_map}
 use Rattle.std.specs.Map.{keys_of}
-use Rattle.dn_instance.specs.Companions.{both_nodes, is_graph, judged, judged_by, named_nodes, within}
-use Rattle.dn_instance.specs.Helds.{Contents, Holding, IsHeld, OfMin, OfMax, OfSp, OfSs, OfP2p, OfCo, Shows}
+use Rattle.dn_instance.specs.Companions.{both_nodes, within}
+use Rattle.dn_instance.specs.State.Companions.{is_graph, judged, judged_by, named_nodes}
+use Rattle.dn_instance.specs.State.Helds.{Contents, Holding, IsHeld, OfMin, OfMax, OfSp, OfSs, OfP2p, OfCo, Shows}
 use Rattle.dn_instance.specs.Instances.{Instance, MinCostFlow, MaxFlow, ShortestPaths, Sources, Queries, Coordinates, nodes_of}
 use Rattle.dn_run.specs.Fits.{companion_fit, nodes_fit}
 

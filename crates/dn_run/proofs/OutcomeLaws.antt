@@ -1,7 +1,7 @@
 -- What a command comes to, from what its texts are read as.
-use Rattle.std.proofs.Common.{◌≡◌, ◌⊎◌, ℕ, List, [], Bool, Option, Some, None, Result, Ok, Err, IfSome, refl, sym, ap, ◌∙◌, subst, inl, inr, append-nil}
+use Rattle.std.proofs.Common.{◌≡◌, ◌⊎◌, ℕ, List, [], Option, Some, None, Result, Ok, Err, IfSome, refl, sym, ap, ◌∙◌, subst, inl, inr, append-nil}
 use Rattle.std.specs.Io.KnownBytes.{Appends}
-use Rattle.dn_instance.specs.Helds.{IsHeld, holding}
+use Rattle.dn_instance.specs.State.Helds.{IsHeld, holding}
 use Rattle.dn_instance.specs.Instances.{Instance}
 use Rattle.dn_instance.specs.Texts.{Reads}
 use Rattle.dn_instance.specs.declared.companion.CompanionFault.{CompanionFault}
@@ -10,14 +10,16 @@ use Rattle.dn_instance.specs.declared.refusal.Refusal.{Refusal}
 use Rattle.dn_instance.specs.declared.refusal.Refusal.TheVariants.{Memory, Read}
 use Rattle.dn_sink.specs.Puts.{HasPut}
 use Rattle.dn_run.specs.Answers.{Answer, Done, Refused, Unfit, Cut}
-use Rattle.dn_run.specs.Outcomes.{IsRefusedAs, OnText, OnTwoTexts, RanOn}
+use Rattle.dn_run.specs.Outcomes.{IsRefusedAs, OnText, OnTwoTexts, RanOn, RanOnSome, RanOnTwo}
 use Rattle.dn_run.specs.Streams.{SinkRun}
-use Rattle.dn_run.specs.Texts.{AskedText, IsRead, IsRefusedText, unopened}
+use Rattle.dn_run.specs.Texts.{AskedText, IsRefusedText, unopened}
+use Rattle.dn_run.specs.State.Texts.{IsRead}
 use Rattle.dn_run.specs.declared.files.FilesFault.{FilesFault}
+use Rattle.dn_sink.specs.Sinks.{SinkWords}
 
 -- what is put whole is added
-pub added : {S : Type 0} {taken : S → Option (List ℕ)} {has_failed : S → Bool} {old new : S} {t : List ℕ} → HasPut taken has_failed old new [] t → Appends (taken old) (taken new) t
-added {S} {taken} {has_failed} {old} {new} h = subst (λ l. Appends (taken old) (taken new) l) (sym (append-nil h.put) ∙ h.whole) h.bytes
+pub added : {S : Type 0} {sink : SinkWords S} {old new : S} {t : List ℕ} → HasPut sink old new [] t → Appends (sink.taken old) (sink.taken new) t
+added {S} {sink} {old} {new} h = subst (λ l. Appends (sink.taken old) (sink.taken new) l) (sym (append-nil h.put) ∙ h.whole) h.bytes
 
 -- what is held was not refused
 pub not_refused : (held : Held) (refusal : Refusal) → Ok held ≡ Err refusal → ⊥
@@ -66,12 +68,28 @@ module _ {T S : Type 0} (Puts : List ℕ → Instance → ℕ → List ℕ → T
   -- the text is held, and the answer says what was done of it
   pub on_held : (held : Held) (answer : Answer) → IsRead Reading text (Ok held) → (answer ≡ Refused text.name Read → ⊥)
       → ((b : List ℕ) → text.fault ≡ None → text.behind ≡ Some b → (I : Instance) → Reads b I → IsHeld (holding held) I → RanOn Puts Unfits Refuses text.name out b answer)
-      → OnText Puts Unfits Refuses text out answer
-  on_held held answer h unread ran = record {
+      → RanOnSome Puts Unfits Refuses text.name out answer → OnText Puts Unfits Refuses text out answer
+  on_held held answer h unread ran some = record {
     not_handed = no_fault held (λ f. Refused text.name (unopened f)) answer text.fault h.not_handed;
     failed = λ _ e. absurd (unread e);
     handed = λ none. by_behind text.behind (λ b e (I, reads, is). ran b none e I reads is) (h.handed none);
+    some = some;
   }
+
+  -- what was done of one text
+  pub as_some : (answer : Answer) → (b : List ℕ) × RanOn Puts Unfits Refuses text.name out b answer → RanOnSome Puts Unfits Refuses text.name out answer
+  as_some (Done status) p = p
+  as_some (Refused of e) p = tt
+  as_some (Unfit of fault) p = p
+  as_some Cut p = p
+
+  -- the text is held, and the answer says what was done of it, whatever is behind its name
+  pub on_read : (held : Held) (answer : Answer) → IsRead Reading text (Ok held) → (answer ≡ Refused text.name Read → ⊥)
+      → ((b : List ℕ) (I : Instance) → Reads b I → IsHeld (holding held) I → RanOn Puts Unfits Refuses text.name out b answer)
+      → OnText Puts Unfits Refuses text out answer
+  on_read held answer h unread ran =
+      let (b, (I, reads, is)) = h.held in
+      on_held held answer h unread (λ c none e. ran c) (as_some answer (b, ran b I reads is))
 
   -- the text is refused
   pub on_refused : (refusal : Refusal) → IsRead Reading text (Err refusal) → ((b : List ℕ) → Reading b refusal → Refuses b refusal) → OnText Puts Unfits Refuses text out (Refused text.name refusal)
@@ -79,16 +97,18 @@ module _ {T S : Type 0} (Puts : List ℕ → Instance → ℕ → List ℕ → T
     not_handed = of_fault text.name text.fault refusal (Err refusal) refl h.not_handed;
     failed = λ fine e. h.failed fine (ap refused_result (ap told_refusal e));
     handed = λ none. by_behind text.behind (λ b e refused. (refl, more b refused)) (h.handed none);
+    some = tt;
   }
 
 module _ {T S : Type 0} (Puts : List ℕ → Instance → Instance → ℕ → List ℕ → Type 0) (Unfits : Instance → Instance → CompanionFault → Type 0) (Refuses : List ℕ → Refusal → Type 0) (left right : AskedText T) (out : SinkRun S) where
   -- the left text is held, and the answer says what was done of both
   pub on_left : (held : Held) (answer : Answer) → IsRead Refuses left (Ok held)
       → ((b : List ℕ) → left.fault ≡ None → left.behind ≡ Some b → (I : Instance) → Reads b I → IsHeld (holding held) I → IsRefusedAs Refuses left.name b answer ⊎ OnText (λ c J. Puts b I J) (Unfits I) (IsRefusedText right) right out answer)
-      → OnTwoTexts Puts Unfits Refuses left right out answer
-  on_left held answer h ran = record {
+      → RanOnTwo Puts Unfits (IsRefusedText right) right.name out answer → OnTwoTexts Puts Unfits Refuses left right out answer
+  on_left held answer h ran some = record {
     not_handed = no_fault held (λ f. Refused left.name (unopened f)) answer left.fault h.not_handed;
     handed = λ none. by_behind left.behind (λ b e (I, reads, is). by_case b I reads (ran b none e I reads is)) (h.handed none);
+    some = some;
   }
     where
       by_case : (b : List ℕ) (I : Instance) → Reads b I → IsRefusedAs Refuses left.name b answer ⊎ OnText (λ c J. Puts b I J) (Unfits I) (IsRefusedText right) right out answer
@@ -96,9 +116,26 @@ module _ {T S : Type 0} (Puts : List ℕ → Instance → Instance → ℕ → L
       by_case b I reads (inl r) = inl r
       by_case b I reads (inr r) = inr (I, reads, r)
 
+  -- what was done of two texts
+  pub as_two : (answer : Answer) → (b : List ℕ) × (I : Instance) × Reads b I × RanOnSome (λ c J. Puts b I J) (Unfits I) (IsRefusedText right) right.name out answer
+      → RanOnTwo Puts Unfits (IsRefusedText right) right.name out answer
+  as_two (Done status) p = p
+  as_two (Refused of e) p = tt
+  as_two (Unfit of fault) p = p
+  as_two Cut p = p
+
+  -- the left text is held, and the answer says what was done of both, whatever is behind their names
+  pub on_left_read : (held : Held) (answer : Answer) → IsRead Refuses left (Ok held)
+      → ((b : List ℕ) (I : Instance) → Reads b I → IsHeld (holding held) I → OnText (λ c J. Puts b I J) (Unfits I) (IsRefusedText right) right out answer)
+      → OnTwoTexts Puts Unfits Refuses left right out answer
+  on_left_read held answer h ran =
+      let (b, (I, reads, is)) = h.held in
+      on_left held answer h (λ c none e J r i. inr (ran c J r i)) (as_two answer (b, I, reads, (ran b I reads is).some))
+
   -- the left text is refused
   pub left_refused : (refusal : Refusal) → IsRead Refuses left (Err refusal) → OnTwoTexts Puts Unfits Refuses left right out (Refused left.name refusal)
   left_refused refusal h = record {
     not_handed = of_fault left.name left.fault refusal (Err refusal) refl h.not_handed;
     handed = λ none. by_behind left.behind (λ b e refused. inl (refusal, refl, refused)) (h.handed none);
+    some = tt;
   }

@@ -1,58 +1,65 @@
 -- What a text that was asked for is read as.
-use Rattle.std.proofs.Common.{◌≡◌, ℕ, List, [], ◌++◌, Option, Some, None, Result, Ok, Err, IsTrue, OnOk, IfSome, IsErrOf, refl, sym, ap, ◌∙◌, subst, inl, inr, append-nil}
+use Rattle.std.proofs.Common.{◌≡◌, ℕ, List, [], ◌++◌, Option, Some, None, Result, Ok, Err, IsTrue, OnOk, IfOk, IfSome, IsErrOf, refl, sym, ap, ◌∙◌, subst, inl, inr, append-nil}
 use Rattle.std.specs.Io.KnownBytes.{IsAtEnd}
-use Rattle.dn_instance.specs.SourceReads.{CopyOutcome, Copied, SourceOutcome}
+use Rattle.dn_instance.specs.State.SourceReads.{CopyOutcome, Copied, SourceOutcome, HoldsCopied, HoldsSome}
 use Rattle.dn_instance.specs.declared.held.Held.{Held}
 use Rattle.dn_instance.specs.declared.refusal.Refusal.{Refusal}
 use Rattle.dn_instance.specs.declared.refusal.Refusal.TheVariants.{Text, Memory, Read, Endless, Write, CountTooLarge}
 use Rattle.dn_instance.proofs.SourceLaws.{stopped_wants}
-use Rattle.dn_run.specs.Texts.{AskedText, ComesOf, IsRead, IsRefusedCopy, IsRefusedText, ReadsAs, unopened}
+use Rattle.dn_run.specs.Texts.{AskedText, ComesOf, IsRefusedCopy, IsRefusedText, unopened}
+use Rattle.dn_run.specs.State.Texts.{IsRead, ReadsAs}
 
 module _ {T : Type 0} (text : AskedText T) where
   module _ (source : T) (comes : ComesOf text source) (fine : text.fault ≡ None) where
-    reads_as : (b : List ℕ) (r : Result Held Refusal) → SourceOutcome b (text.gives source) r → (IsErrOf r Read → IsTrue (text.has_failed source)) → ReadsAs (IsRefusedText text) b r
+    reads_as : (b : List ℕ) (r : Result Held Refusal) → SourceOutcome b (text.source.gives source) r → (IsErrOf r Read → IsTrue (text.source.has_failed source)) → ReadsAs (IsRefusedText text) b r
     reads_as b (Ok held) h read = h.0
     reads_as b (Err (Text place code)) h read = h.0
-    reads_as b (Err Memory) h read = stopped_wants b (text.gives source) h
+    reads_as b (Err Memory) h read = stopped_wants b (text.source.gives source) h
     reads_as b (Err Read) h read = (record { source = source; comes = comes; failed = read refl }, h)
     reads_as b (Err Endless) (c, many) read = record { source = source; comes = comes; clean = c; many = many }
     reads_as b (Err Write) h read = h
     reads_as b (Err CountTooLarge) h read = h
 
     -- the source that was handed out is read
-    pub handed_reads : (given : Option (List ℕ)) (r : Result Held Refusal) → given ≡ text.behind → IfSome given (λ b. SourceOutcome b (text.gives source) r)
-        → (IsErrOf r Read → IsTrue (text.has_failed source)) → IsRead (IsRefusedText text) text r
-    handed_reads given r e h read = record {
+    pub handed_reads : (given : Option (List ℕ)) (r : Result Held Refusal) → given ≡ text.behind → IfSome given (λ b. SourceOutcome b (text.source.gives source) r)
+        → (IsErrOf r Read → IsTrue (text.source.has_failed source)) → IfOk r HoldsSome → IsRead (IsRefusedText text) text r
+    handed_reads given r e h read held = record {
       not_handed = subst (λ o. IfSome o (λ f. r ≡ Err (unopened f))) (sym fine) tt;
       failed = λ _ is. record { source = source; comes = comes; failed = read is };
       handed = λ _. subst (λ o. IfSome o (λ b. ReadsAs (IsRefusedText text) b r)) e (by_given given h);
+      held = held;
     }
       where
-        by_given : (o : Option (List ℕ)) → IfSome o (λ b. SourceOutcome b (text.gives source) r) → IfSome o (λ b. ReadsAs (IsRefusedText text) b r)
+        by_given : (o : Option (List ℕ)) → IfSome o (λ b. SourceOutcome b (text.source.gives source) r) → IfSome o (λ b. ReadsAs (IsRefusedText text) b r)
         by_given None h = tt
         by_given (Some b) h = reads_as b r h read
 
-    copies_as : (b copy : List ℕ) (r : Result Held Refusal) → CopyOutcome b (text.gives source) [] copy r → (IsErrOf r Read → IsTrue (text.has_failed source)) → ReadsAs (IsRefusedCopy text) b r
+    copies_as : (b copy : List ℕ) (r : Result Held Refusal) → CopyOutcome b (text.source.gives source) [] copy r → (IsErrOf r Read → IsTrue (text.source.has_failed source)) → ReadsAs (IsRefusedCopy text) b r
     copies_as b copy (Ok held) h read = h.0.0
     copies_as b copy (Err (Text place code)) h read = h.0.0
-    copies_as b copy (Err Memory) (inl h) read = inl (stopped_wants b (text.gives source) h.0)
+    copies_as b copy (Err Memory) (inl h) read = inl (stopped_wants b (text.source.gives source) h.0)
     copies_as b copy (Err Memory) (inr l) read = inr (record { given = l.given; piece = l.piece; rest = l.rest; whole = l.whole; some = l.some; clean = l.clean })
     copies_as b copy (Err Read) h read = (record { source = source; comes = comes; failed = read refl }, h.0)
     copies_as b copy (Err Endless) ((c, many), copied) read = record { source = source; comes = comes; clean = c; many = many }
     copies_as b copy (Err Write) h read = h.0
     copies_as b copy (Err CountTooLarge) h read = h.0
 
-    pub handed_copies : (given : Option (List ℕ)) (old copy : List ℕ) (r : Result Held Refusal) → old ≡ [] → given ≡ text.behind → IfSome given (λ b. CopyOutcome b (text.gives source) old copy r)
-        → (IsErrOf r Read → IsTrue (text.has_failed source)) → IsRead (IsRefusedCopy text) text r
-    handed_copies given old copy r empty e h read = record {
+    pub handed_copies : (given : Option (List ℕ)) (old copy : List ℕ) (r : Result Held Refusal) → old ≡ [] → given ≡ text.behind → IfSome given (λ b. CopyOutcome b (text.source.gives source) old copy r)
+        → (IsErrOf r Read → IsTrue (text.source.has_failed source)) → IfOk r (HoldsCopied old copy) → IsRead (IsRefusedCopy text) text r
+    handed_copies given old copy r empty e h read held = record {
       not_handed = subst (λ o. IfSome o (λ f. r ≡ Err (unopened f))) (sym fine) tt;
       failed = λ _ is. record { source = source; comes = comes; failed = read is };
-      handed = λ _. subst (λ o. IfSome o (λ b. ReadsAs (IsRefusedCopy text) b r)) e (by_given given (subst (λ l. IfSome given (λ b. CopyOutcome b (text.gives source) l copy r)) empty h));
+      handed = λ _. subst (λ o. IfSome o (λ b. ReadsAs (IsRefusedCopy text) b r)) e (by_given given (subst (λ l. IfSome given (λ b. CopyOutcome b (text.source.gives source) l copy r)) empty h));
+      held = held_of r held;
     }
       where
-        by_given : (o : Option (List ℕ)) → IfSome o (λ b. CopyOutcome b (text.gives source) [] copy r) → IfSome o (λ b. ReadsAs (IsRefusedCopy text) b r)
+        by_given : (o : Option (List ℕ)) → IfSome o (λ b. CopyOutcome b (text.source.gives source) [] copy r) → IfSome o (λ b. ReadsAs (IsRefusedCopy text) b r)
         by_given None h = tt
         by_given (Some b) h = copies_as b copy r h read
+
+        held_of : (r : Result Held Refusal) → IfOk r (HoldsCopied old copy) → IfOk r HoldsSome
+        held_of (Ok held) (t, o, same) = (t, o)
+        held_of (Err e) h = tt
 
 -- nothing is left, so the copy is the whole text
 whole_copy : (b copy : List ℕ) (new : Option (List ℕ)) → IsAtEnd new → Copied b new [] copy → copy ≡ b
@@ -76,3 +83,7 @@ handed_copy new given behind old copy r empty e h = subst (λ o. IfSome o (λ b.
     by_given : (o : Option (List ℕ)) → IfSome o (λ b. CopyOutcome b new [] copy r) → IfSome o (λ b. OnOk r (copy ≡ b))
     by_given None h = tt
     by_given (Some b) h = by_result b r h
+
+-- a copy that begins with nothing is the text that was read
+pub handed_copied : (old copy : List ℕ) (r : Result Held Refusal) → old ≡ [] → IfOk r (HoldsCopied old copy) → IfOk r (HoldsCopied [] copy)
+handed_copied old copy r empty h = subst (λ l. IfOk r (HoldsCopied l copy)) empty h

@@ -1,5 +1,5 @@
--- What a run comes to, whatever it was asked for.
-use Rattle.std.specs.Prelude.{◌≡◌, ◌⊎◌, ℕ, ◌≤◌, List, [], Some, Result, Ok, Err, IsTrue}
+-- What a run comes to, whatever it was asked for (this project's profile).
+use Rattle.std.specs.Prelude.{◌≡◌, ◌⊎◌, ℕ, ◌≤◌, List, [], Some, IsTrue}
 use Rattle.dn_instance.specs.SourceReads.{IsOfReading}
 use Rattle.dn_instance.specs.declared.companion.CompanionFault.{CompanionFault}
 use Rattle.dn_instance.specs.declared.refusal.Refusal.{Refusal}
@@ -7,7 +7,6 @@ use Rattle.dn_instance.specs.declared.refusal.Refusal.TheVariants.{Text, Write, 
 use Rattle.dn_command.specs.Commands.{Asked, Show, Check, Canon, Compare}
 use Rattle.dn_report.specs.FaultLines.{fault_line, unfit_line}
 use Rattle.dn_run.specs.Streams.{SinkRun, TakesLine}
-use Rattle.dn_run.specs.declared.stop.Stop.{Stop}
 use Rattle.dn_run.specs.declared.stop.Stop.TheVariants as Stops
 
 -- what a command comes to
@@ -41,13 +40,17 @@ Tells err (Refused name refusal) = TakesLine err (fault_line name refusal)
 Tells err (Unfit name fault) = TakesLine err (unfit_line name fault)
 Tells err Cut = TakesLine err (fault_line [] Write)
 
+-- where a command is done, whether `out` has failed is as it was
+abbrev pub OutDone : {S : Type 0} → SinkRun S → Type 0
+OutDone out = out.words.has_failed out.new ≡ out.words.has_failed out.old
+
 -- where a text is refused, or a companion does not fit, nothing is put on `out`; where `out` is told to have failed, it
 -- has
 abbrev pub OutAfter : {S : Type 0} → SinkRun S → Answer → Type 0
-OutAfter out (Done status) = Unit {0}
+OutAfter out (Done status) = OutDone out
 OutAfter out (Refused name refusal) = out.new ≡ out.old
 OutAfter out (Unfit name fault) = out.new ≡ out.old
-OutAfter out Cut = IsTrue (out.has_failed out.new)
+OutAfter out Cut = IsTrue (out.words.has_failed out.new)
 
 -- the status of what is done is 0; that of a comparison is 0 or 1
 abbrev pub IsDoneWith : Asked → ℕ → Type 0
@@ -78,18 +81,8 @@ IsAnswerTo asked (Refused name refusal) = IsNameOf asked name × MayRefuse asked
 IsAnswerTo asked (Unfit name fault) = IsCompanionOf asked name
 IsAnswerTo asked Cut = Unit {0}
 
--- what a command comes to whose text of this name could not be written
-abbrev pub unwritten : List ℕ → Refusal → Answer
-unwritten name Write = Cut
-unwritten name refusal = Refused name refusal
-
--- what a command comes to, by why it stopped
-abbrev pub stopped : Stop → Answer
-stopped (Stops.Refused name refusal) = Refused name.now refusal
-stopped (Stops.Unfit name fault) = Unfit name.now fault
-stopped Stops.Cut = Cut
-
--- what a command comes to, by its result
-abbrev pub answer_of : Result ℕ Stop → Answer
-answer_of (Ok status) = Done status
-answer_of (Err stop) = stopped stop
+-- what is left of `out`, by the status: on 0 and 1 it has handed on all that it took, and whether it has failed is as
+-- it was; on 2 and 3 nothing was put
+pub record OutByStatus {S : Type 0} (out : SinkRun S) (status : ℕ) : Type 0 where
+  pub done : (status ≡ 0) ⊎ (status ≡ 1) → IsTrue (out.words.is_flushed out.new) × OutDone out
+  pub refused : (status ≡ 2) ⊎ (status ≡ 3) → out.new ≡ out.old

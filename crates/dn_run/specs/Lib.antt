@@ -6,5 +6,5 @@ pub mod FilesRuns
 pub mod Outcomes
 pub mod Fits
 pub mod Runs
-pub mod Findings
 pub mod Words
+pub mod State

@@ -1,8 +1,8 @@
--- What a run does for what it is asked for.
+-- What a run does for what it is asked for (this project's profile).
 use Rattle.std.specs.Prelude.{◌≡◌, ◌↔◌, ℕ, ◌≤◌, List, true, Option, None, Some, IfSome, Ok, Err}
 use Rattle.dn_line.specs.declared.kind.Kind.{Kind}
-use Rattle.dn_bundle.specs.declared.arc.Form.{Form}
-use Rattle.dn_bundle.specs.declared.arc.Form.TheVariants.{One, Two}
+use Rattle.dn_arc.specs.declared.arc.Form.{Form}
+use Rattle.dn_arc.specs.declared.arc.Form.TheVariants.{One, Two}
 use Rattle.dn_instance.specs.Instances.{Instance, kind_of}
 use Rattle.dn_instance.specs.Sameness.{IsSame}
 use Rattle.dn_instance.specs.Texts.{Reads}
@@ -10,7 +10,7 @@ use Rattle.dn_instance.specs.declared.companion.CompanionFault.{CompanionFault}
 use Rattle.dn_canon.specs.CanonTexts.{IsCanonOf, IsTooLarge}
 use Rattle.dn_compare.specs.FirstDifference.{IsFirstDifference}
 use Rattle.dn_compare.specs.declared.verdict.Verdict.{Verdict}
-use Rattle.dn_row.specs.Rows.{line_text, text_of}
+use Rattle.dn_sink.specs.Rows.{line_text, text_of}
 use Rattle.dn_report.specs.Checks.{checked_rows}
 use Rattle.dn_report.specs.Shows.{IsShown}
 use Rattle.dn_report.specs.Verdicts.{verdict_row}
@@ -90,15 +90,15 @@ pub record CommandRun {F T S E : Type 0} (files : FilesRun F T) (out : SinkRun S
 -- the text, or the two texts together, are not accepted for what was asked: one reads as no instance, the canonical
 -- text is too large, or the companion does not fit; where the bytes behind all names are known
 abbrev pub NotAccepted : {F T : Type 0} → FilesRun F T → Asked → Type 0
-NotAccepted files (Show name) = IfSome (files.behind files.old name) (λ b. (I : Instance) → Reads b I → ⊥)
-NotAccepted files (Check name None) = IfSome (files.behind files.old name) (λ b. (I : Instance) → Reads b I → ⊥)
+NotAccepted files (Show name) = IfSome (files.words.behind files.old name) (λ b. (I : Instance) → Reads b I → ⊥)
+NotAccepted files (Check name None) = IfSome (files.words.behind files.old name) (λ b. (I : Instance) → Reads b I → ⊥)
 NotAccepted files (Check name (Some companion)) =
-    IfSome (files.behind files.old name) (λ b. IfSome (files.behind files.old companion)
+    IfSome (files.words.behind files.old name) (λ b. IfSome (files.words.behind files.old companion)
     (λ c. (I J : Instance) → Reads b I → Reads c J → (fault : CompanionFault) × Unfits I J fault))
 NotAccepted files (Canon name form) =
-    IfSome (files.behind files.old name) (λ b. (I : Instance) → Reads b I → IsTooLarge form I)
+    IfSome (files.words.behind files.old name) (λ b. (I : Instance) → Reads b I → IsTooLarge form I)
 NotAccepted files (Compare left right) =
-    IfSome (files.behind files.old left) (λ b. IfSome (files.behind files.old right)
+    IfSome (files.words.behind files.old left) (λ b. IfSome (files.words.behind files.old right)
     (λ c. (I J : Instance) → Reads b I → Reads c J → ⊥))
 
 -- a run that is refused for its words: status 3, this line on `err`, and nothing else

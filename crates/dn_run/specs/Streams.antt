@@ -1,20 +1,19 @@
--- What a run does to `out` and to `err`.
-use Rattle.std.specs.Prelude.{ℕ, List, Bool, Option, Result}
+-- What a run does to `out` and to `err` (this project's profile).
+use Rattle.std.specs.Prelude.{ℕ, List, Result}
 use Rattle.dn_sink.specs.Puts.{Puts}
+use Rattle.dn_sink.specs.Sinks.{SinkWords}
 use Rattle.dn_sink.specs.declared.sink.SinkFault.{SinkFault}
 
--- a sink of a run: which bytes it has taken, where they are known, and whether it has failed; what it was before the
--- run, and what it is after it
+-- a sink of a run: its words; what it was before the run, and what it is after it
 pub record SinkRun (S : Type 0) : Type 0 where
-  pub taken : S → Option (List ℕ)
-  pub has_failed : S → Bool
+  pub words : SinkWords S
   pub old : S
   pub new : S
 
--- a sink that was `old` and is `new`
-abbrev pub sink_run : {S : Type 0} → (S → Option (List ℕ)) → (S → Bool) → S → S → SinkRun S
-sink_run taken has_failed old new = record { taken = taken; has_failed = has_failed; old = old; new = new }
+-- a sink of these words that was the first and is the second
+abbrev pub sink_run : {S : Type 0} → SinkWords S → S × S → SinkRun S
+sink_run words sink = record { words = words; old = sink.0; new = sink.1 }
 
--- the sink took this line, or a front of it and has failed
+-- the sink took this line, or a prefix of it and has failed
 abbrev pub TakesLine : {S : Type 0} → SinkRun S → List ℕ → Type 0
-TakesLine err line = (result : Result (Unit {0}) SinkFault) × Puts err.taken err.has_failed err.old err.new line result
+TakesLine err line = (result : Result (Unit {0}) SinkFault) × Puts err.words err.old err.new line result

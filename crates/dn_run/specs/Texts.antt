@@ -1,13 +1,12 @@
--- A text that a run asks for, what it is read as, and why it is refused.
-use Rattle.std.specs.Prelude.{◌≡◌, ◌⊎◌, ℕ, ◌<◌, ◌≤◌, ◌^◌, List, ◌++◌, length, Bool, Option, None, Result, Ok, Err, IsTrue, OnOk, IsErrOf, IfSome}
+-- A text that a run asks for, what it is read as, and why it is refused (this project's profile).
+use Rattle.std.specs.Prelude.{◌≡◌, ◌⊎◌, ℕ, ◌<◌, ◌≤◌, ◌^◌, List, ◌++◌, length, Option, IsTrue}
 use Rattle.dn_line.specs.Pieces.{lines}
-use Rattle.dn_bundle.specs.declared.arc.Form.{Form}
-use Rattle.dn_instance.specs.Helds.{IsHeld, holding}
+use Rattle.dn_line.specs.Sources.{SourceWords}
+use Rattle.dn_arc.specs.declared.arc.Form.{Form}
 use Rattle.dn_instance.specs.Instances.{Instance}
 use Rattle.dn_instance.specs.Readers.{WantsMemory, ended}
 use Rattle.dn_instance.specs.SourceReads.{CleanSoFar, PulledWhileClean}
 use Rattle.dn_instance.specs.Texts.{IsClean, IsFirstFault, Reads}
-use Rattle.dn_instance.specs.declared.held.Held.{Held}
 use Rattle.dn_instance.specs.declared.refusal.Refusal.{Refusal}
 use Rattle.dn_instance.specs.declared.refusal.Refusal.TheVariants.{Text, Memory, Read, Endless, Write, CountTooLarge}
 use Rattle.dn_canon.specs.CanonTexts.{IsTooLarge}
@@ -15,38 +14,35 @@ use Rattle.dn_run.specs.declared.files.FilesFault.{FilesFault}
 use Rattle.dn_run.specs.declared.files.FilesFault.TheVariants as Files
 
 -- a text that a run asked for: its name; the bytes behind it before the run, where they are known; why it was not
--- handed out, or None; which sources are handed out for it; which bytes a source of texts still gives, where they are
--- known, whether it has failed, and whether one pull makes a second of a first
+-- handed out, or None; which sources are handed out for it; the words of the sources of texts
 pub record AskedText (T : Type 0) : Type 1 where
   pub name : List ℕ
   pub behind : Option (List ℕ)
   pub fault : Option FilesFault
   pub Hands : T → Type 0
-  pub gives : T → Option (List ℕ)
-  pub has_failed : T → Bool
-  pub Pulls : T → T → Type 0
+  pub source : SourceWords T
 
 -- this source comes, by the pulls of reading, of one that is handed out for the text
 pub record ComesOf {T : Type 0} (text : AskedText T) (source : T) : Type 0 where
   pub first : T
   pub handed : text.Hands first
-  pub pulled : PulledWhileClean text.gives text.Pulls first source
+  pub pulled : PulledWhileClean text.source first source
 
 -- the source handed out for this text, as pulls left it, has failed
 pub record HasFailed {T : Type 0} (text : AskedText T) : Type 0 where
   pub source : T
   pub comes : ComesOf text source
-  pub failed : IsTrue (text.has_failed source)
+  pub failed : IsTrue (text.source.has_failed source)
 
--- of the text b such a source gave a front, and no line that LFs have ended there is faulty
+-- of the text b such a source gave a prefix, and no line that LFs have ended there is faulty
 abbrev pub IsUnread : {T : Type 0} → AskedText T → List ℕ → Type 0
-IsUnread text b = (f : HasFailed text) × CleanSoFar b (text.gives f.source)
+IsUnread text b = (f : HasFailed text) × CleanSoFar b (text.source.gives f.source)
 
 -- of the text b the source gave 2 ^ 40 bytes or more, and no line that LFs have ended there is faulty
 pub record IsEndless {T : Type 0} (text : AskedText T) (b : List ℕ) : Type 0 where
   pub source : T
   pub comes : ComesOf text source
-  pub clean : CleanSoFar b (text.gives source)
+  pub clean : CleanSoFar b (text.source.gives source)
   pub many : 2 ^ 40 ≤ length clean.given
 
 -- why the text b is refused as it is read: its first fault; memory was wanted at a line, and neither it nor an earlier
@@ -82,20 +78,3 @@ IsRefusedCopy text b refusal = IsRefusedText text b refusal
 abbrev pub unopened : FilesFault → Refusal
 unopened Files.Device = Read
 unopened Files.Memory = Memory
-
--- what the text b is read as: an instance that the held one stands for, or why not
-abbrev pub ReadsAs : (List ℕ → Refusal → Type 0) → List ℕ → Result Held Refusal → Type 0
-ReadsAs Refuses b (Ok held) = (I : Instance) × Reads b I × IsHeld (holding held) I
-ReadsAs Refuses b (Err refusal) = Refuses b refusal
-
--- where the text was not handed out, the result says why; where it was, its source has failed if the result is `Read`,
--- and if the bytes behind its name are known, the result says what they are read as
-pub record IsRead {T : Type 0} (Refuses : List ℕ → Refusal → Type 0) (text : AskedText T)
-    (result : Result Held Refusal) : Type 0 where
-  pub not_handed : IfSome text.fault (λ fault. result ≡ Err (unopened fault))
-  pub failed : text.fault ≡ None → IsErrOf result Read → HasFailed text
-  pub handed : text.fault ≡ None → IfSome text.behind (λ b. ReadsAs Refuses b result)
-
--- where a text is held, the copy is the bytes that were behind its name
-abbrev pub IsCopy : {T : Type 0} → AskedText T → List ℕ → Result Held Refusal → Type 0
-IsCopy text copy result = text.fault ≡ None → IfSome text.behind (λ b. OnOk result (copy ≡ b))

@@ -1,10 +1,7 @@
 // The commands, each over files and `out`.
-ghost use Rattle.std.specs.Prelude.{◌≡◌, ◌≢◌, None, Some, false, IsTrue, OnOk, codes};
+ghost use Rattle.std.specs.Prelude.{◌≡◌, ◌≢◌, None, Some, false, codes};
 ghost use Rattle.dn_command.specs.Commands.{Canon, Check, Compare, Show, asks, names_twice};
-ghost use Rattle.dn_run.specs.Answers.{IsAnswerTo, OutAfter, answer_of};
-ghost use Rattle.dn_run.specs.FilesRuns.{files_run};
-ghost use Rattle.dn_run.specs.Runs.{Performs};
-ghost use Rattle.dn_run.specs.Streams.{sink_run};
+ghost use Rattle.dn_run.specs.State.Runs.{Does};
 
 use crate::files::Files;
 use crate::findings::{put_check, put_compared};
@@ -26,12 +23,8 @@ pub(crate) fn perform<'a, F: Files, O: Sink>(
     out: &mut O,
 ) -> Result<u8, Stop<'a>>
     requires { names_twice (asks command.now) ≡ false }
-    ensures performs { Performs
-        (files_run F.behind F.fault F.Asks F.Hands F.Text.gives F.Text.has_failed F.Text.Pulls files.old files.new)
-        (sink_run O.taken O.has_failed out.old out.new) (asks command.now) (answer_of result) }
-    ensures out_after { OutAfter (sink_run O.taken O.has_failed out.old out.new) (answer_of result) }
-    ensures answers { IsAnswerTo (asks command.now) (answer_of result) }
-    ensures flushed { OnOk result (IsTrue (O.is_flushed out.new)) }
+    ensures { Does F.files F.Text.source O.sink (asks command.now)
+        (files.old, files.new) (out.old, out.new) result }
 {
     match *command {
         Command::Show { name } => show(alloc, name, files, out),
@@ -52,12 +45,8 @@ fn show<'a, F: Files, O: Sink>(
     files: &mut F,
     out: &mut O,
 ) -> Result<u8, Stop<'a>>
-    ensures performs { Performs
-        (files_run F.behind F.fault F.Asks F.Hands F.Text.gives F.Text.has_failed F.Text.Pulls files.old files.new)
-        (sink_run O.taken O.has_failed out.old out.new) (Show name.now) (answer_of result) }
-    ensures out_after { OutAfter (sink_run O.taken O.has_failed out.old out.new) (answer_of result) }
-    ensures answers { IsAnswerTo (Show name.now) (answer_of result) }
-    ensures flushed { OnOk result (IsTrue (O.is_flushed out.new)) }
+    ensures { Does F.files F.Text.source O.sink (Show name.now)
+        (files.old, files.new) (out.old, out.new) result }
 {
     match read_named(alloc, name, files) {
         Ok(held) => {
@@ -80,12 +69,8 @@ fn canon<'a, F: Files, O: Sink>(
     files: &mut F,
     out: &mut O,
 ) -> Result<u8, Stop<'a>>
-    ensures performs { Performs
-        (files_run F.behind F.fault F.Asks F.Hands F.Text.gives F.Text.has_failed F.Text.Pulls files.old files.new)
-        (sink_run O.taken O.has_failed out.old out.new) (Canon name.now form) (answer_of result) }
-    ensures out_after { OutAfter (sink_run O.taken O.has_failed out.old out.new) (answer_of result) }
-    ensures answers { IsAnswerTo (Canon name.now form) (answer_of result) }
-    ensures flushed { OnOk result (IsTrue (O.is_flushed out.new)) }
+    ensures { Does F.files F.Text.source O.sink (Canon name.now form)
+        (files.old, files.new) (out.old, out.new) result }
 {
     match read_named(alloc, name, files) {
         Ok(held) => {
@@ -107,12 +92,8 @@ fn check<'a, F: Files, O: Sink>(
     files: &mut F,
     out: &mut O,
 ) -> Result<u8, Stop<'a>>
-    ensures performs { Performs
-        (files_run F.behind F.fault F.Asks F.Hands F.Text.gives F.Text.has_failed F.Text.Pulls files.old files.new)
-        (sink_run O.taken O.has_failed out.old out.new) (Check name.now None) (answer_of result) }
-    ensures out_after { OutAfter (sink_run O.taken O.has_failed out.old out.new) (answer_of result) }
-    ensures answers { IsAnswerTo (Check name.now None) (answer_of result) }
-    ensures flushed { OnOk result (IsTrue (O.is_flushed out.new)) }
+    ensures { Does F.files F.Text.source O.sink (Check name.now None)
+        (files.old, files.new) (out.old, out.new) result }
 {
     let mut copy = Vec::new(alloc);
     match copy_named(alloc, name, files, &mut copy) {
@@ -134,12 +115,8 @@ fn check_with<'a, F: Files, O: Sink>(
     out: &mut O,
 ) -> Result<u8, Stop<'a>>
     requires { name.now ≡ codes "-" → companion.now ≢ codes "-" }
-    ensures performs { Performs
-        (files_run F.behind F.fault F.Asks F.Hands F.Text.gives F.Text.has_failed F.Text.Pulls files.old files.new)
-        (sink_run O.taken O.has_failed out.old out.new) (Check name.now (Some companion.now)) (answer_of result) }
-    ensures out_after { OutAfter (sink_run O.taken O.has_failed out.old out.new) (answer_of result) }
-    ensures answers { IsAnswerTo (Check name.now (Some companion.now)) (answer_of result) }
-    ensures flushed { OnOk result (IsTrue (O.is_flushed out.new)) }
+    ensures { Does F.files F.Text.source O.sink (Check name.now (Some companion.now))
+        (files.old, files.new) (out.old, out.new) result }
 {
     let mut copy = Vec::new(alloc);
     match copy_named(alloc, name, files, &mut copy) {
@@ -184,12 +161,8 @@ fn compare_named<'a, F: Files, O: Sink>(
     out: &mut O,
 ) -> Result<u8, Stop<'a>>
     requires { left.now ≡ codes "-" → right.now ≢ codes "-" }
-    ensures performs { Performs
-        (files_run F.behind F.fault F.Asks F.Hands F.Text.gives F.Text.has_failed F.Text.Pulls files.old files.new)
-        (sink_run O.taken O.has_failed out.old out.new) (Compare left.now right.now) (answer_of result) }
-    ensures out_after { OutAfter (sink_run O.taken O.has_failed out.old out.new) (answer_of result) }
-    ensures answers { IsAnswerTo (Compare left.now right.now) (answer_of result) }
-    ensures flushed { OnOk result (IsTrue (O.is_flushed out.new)) }
+    ensures { Does F.files F.Text.source O.sink (Compare left.now right.now)
+        (files.old, files.new) (out.old, out.new) result }
 {
     match read_named(alloc, left, files) {
         Ok(one) => match read_named(alloc, right, files) {

@@ -1,12 +1,13 @@
 // What is found of texts that were read, put on `out`.
 ghost use Rattle.std.specs.Prelude.{◌≡◌, ℕ, List, Option, IsTrue, OnOk};
-ghost use Rattle.dn_instance.specs.Helds.{IsHeld, holding};
+ghost use Rattle.dn_instance.specs.State.Helds.{IsHeld, holding};
 ghost use Rattle.dn_instance.specs.Instances.{Instance};
 ghost use Rattle.dn_instance.specs.Texts.{Reads};
 ghost use Rattle.dn_instance.specs.Validity.{IsValid};
 ghost use Rattle.dn_command.specs.Commands.{Check};
-ghost use Rattle.dn_run.specs.Answers.{IsAnswerTo, OutAfter, answer_of};
-ghost use Rattle.dn_run.specs.Findings.{IsFound, PutsFinding, verdict_status};
+ghost use Rattle.dn_run.specs.Answers.{IsAnswerTo, OutAfter};
+ghost use Rattle.dn_run.specs.State.Answers.{answer_of};
+ghost use Rattle.dn_run.specs.State.Findings.{IsFound, PutsFinding, verdict_status};
 ghost use Rattle.dn_run.specs.Runs.{AreForms, PutsChecked, PutsCompared};
 ghost use Rattle.dn_run.specs.Streams.{sink_run};
 
@@ -27,12 +28,12 @@ pub(crate) fn put_check<'a, O: Sink>(
     out: &mut O,
 ) -> Result<u8, Stop<'a>>
     ensures puts { (I : Instance) → Reads text.now I → IsHeld (holding held.now) I
-        → PutsFinding (PutsChecked companion text.now I) (sink_run O.taken O.has_failed out.old out.new)
+        → PutsFinding (PutsChecked companion text.now I) (sink_run O.sink (out.old, out.new))
         (answer_of result) }
-    ensures out_after { OutAfter (sink_run O.taken O.has_failed out.old out.new) (answer_of result) }
+    ensures out_after { OutAfter (sink_run O.sink (out.old, out.new)) (answer_of result) }
     ensures answers { (name : List ℕ) (with : Option (List ℕ)) → IsAnswerTo (Check name with) (answer_of result) }
     ensures found { IsFound (answer_of result) }
-    ensures flushed { OnOk result (IsTrue (O.is_flushed out.new)) }
+    ensures flushed { OnOk result (IsTrue (O.sink.is_flushed out.new)) }
 {
     let forms = forms_of(held, text);
     match put_checked(out, held.kind(), companion, forms) {
@@ -48,10 +49,10 @@ pub(crate) fn put_compared<'a, O: Sink>(
     out: &mut O,
 ) -> Result<u8, Stop<'a>>
     ensures puts { (I J : Instance) → IsValid I → IsValid J → IsHeld (holding left.now) I → IsHeld (holding right.now) J
-        → PutsFinding (PutsCompared I J) (sink_run O.taken O.has_failed out.old out.new) (answer_of result) }
-    ensures out_after { OutAfter (sink_run O.taken O.has_failed out.old out.new) (answer_of result) }
+        → PutsFinding (PutsCompared I J) (sink_run O.sink (out.old, out.new)) (answer_of result) }
+    ensures out_after { OutAfter (sink_run O.sink (out.old, out.new)) (answer_of result) }
     ensures found { IsFound (answer_of result) }
-    ensures flushed { OnOk result (IsTrue (O.is_flushed out.new)) }
+    ensures flushed { OnOk result (IsTrue (O.sink.is_flushed out.new)) }
 {
     let verdict = compare(left, right);
     match put_verdict(out, &verdict) {

@@ -1,12 +1,10 @@
 // A run of the program, over any files and any streams.
-ghost use Rattle.std.specs.Prelude.{◌≡◌, ◌≤◌, ◌⊎◌, None, Some, map, string_bytes, IsTrue, OnOk};
-ghost use Rattle.dn_command.specs.Commands.{Asked, asks, plain_asked};
-ghost use Rattle.dn_command.specs.Requests.{IsReadByClap};
-ghost use Rattle.dn_command.specs.declared.request.Request.{Request};
-ghost use Rattle.dn_sink.specs.Puts.{Puts};
+ghost use Rattle.std.specs.Prelude.{◌≡◌, ◌≤◌, map, string_bytes};
+ghost use Rattle.dn_command.specs.Commands.{asks};
+ghost use Rattle.dn_run.specs.Answers.{OutByStatus};
 ghost use Rattle.dn_run.specs.FilesRuns.{files_run};
 ghost use Rattle.dn_run.specs.Streams.{TakesLine, sink_run};
-ghost use Rattle.dn_run.specs.Words.{AskedRun, PrintsText, RequestRun, bad_command_line};
+ghost use Rattle.dn_run.specs.Words.{AskedRun, PrintsText, Ran, RequestRun, bad_command_line};
 
 use crate::commands::perform;
 use crate::files::Files;
@@ -14,7 +12,7 @@ use crate::stop::Stop;
 use dn_command::{Command, Request, request_of};
 use dn_instance::Refusal;
 use dn_report::put_fault_line;
-use dn_sink::{Sink, SinkFault, put_all};
+use dn_sink::{Sink, put_all, put_and_flush};
 use std::alloc::Global;
 
 /// Does what the words ask for, the program's name first, and answers the exit status: 0 where it is done, and texts
@@ -29,15 +27,8 @@ pub fn run<F: Files, O: Sink, E: Sink>(
     err: &mut E,
 ) -> u8
     ensures status { result ≤ 4 }
-    ensures asked { (asked : Asked) → plain_asked (map string_bytes words.now) ≡ Some asked → AskedRun
-        (files_run F.behind F.fault F.Asks F.Hands F.Text.gives F.Text.has_failed F.Text.Pulls files.old files.new)
-        (sink_run O.taken O.has_failed out.old out.new) (sink_run E.taken E.has_failed err.old err.new) asked result }
-    ensures other { plain_asked (map string_bytes words.now) ≡ None → (request : Request)
-        × IsReadByClap (map string_bytes words.now) request × RequestRun
-        (files_run F.behind F.fault F.Asks F.Hands F.Text.gives F.Text.has_failed F.Text.Pulls files.old files.new)
-        (sink_run O.taken O.has_failed out.old out.new) (sink_run E.taken E.has_failed err.old err.new) request result }
-    ensures unput { (result ≡ 2) ⊎ (result ≡ 3) → out.new ≡ out.old }
-    ensures flushed { (result ≡ 0) ⊎ (result ≡ 1) → IsTrue (O.is_flushed out.new) }
+    ensures ran { Ran (map string_bytes words.now) (files_run F.files F.Text.source (files.old, files.new))
+        (sink_run O.sink (out.old, out.new)) (sink_run E.sink (err.old, err.new)) result }
 {
     let request = request_of(alloc, words);
     run_request(alloc, &request, files, out, err)
@@ -46,7 +37,7 @@ pub fn run<F: Files, O: Sink, E: Sink>(
 /// Tells on `err` that the words are no command, and answers the exit status, 3. A fault of `err` is ignored.
 pub fn refuse_words<E: Sink>(err: &mut E) -> u8
     ensures status { result ≡ 3 }
-    ensures told { TakesLine (sink_run E.taken E.has_failed err.old err.new) bad_command_line }
+    ensures told { TakesLine (sink_run E.sink (err.old, err.new)) bad_command_line }
 {
     let _ = put_all(err, b"dnorm: bad command line\n");
     3
@@ -62,11 +53,10 @@ fn run_request<F: Files, O: Sink, E: Sink>(
 ) -> u8
     ensures status { result ≤ 4 }
     ensures does { RequestRun
-        (files_run F.behind F.fault F.Asks F.Hands F.Text.gives F.Text.has_failed F.Text.Pulls files.old files.new)
-        (sink_run O.taken O.has_failed out.old out.new) (sink_run E.taken E.has_failed err.old err.new)
+        (files_run F.files F.Text.source (files.old, files.new))
+        (sink_run O.sink (out.old, out.new)) (sink_run E.sink (err.old, err.new))
         request.now result }
-    ensures unput { (result ≡ 2) ⊎ (result ≡ 3) → out.new ≡ out.old }
-    ensures flushed { (result ≡ 0) ⊎ (result ≡ 1) → IsTrue (O.is_flushed out.new) }
+    ensures out { OutByStatus (sink_run O.sink (out.old, out.new)) result }
 {
     match request {
         Request::Command(command) => run_command(alloc, command, files, out, err),
@@ -89,11 +79,10 @@ fn run_command<F: Files, O: Sink, E: Sink>(
 ) -> u8
     ensures status { result ≤ 4 }
     ensures asked { AskedRun
-        (files_run F.behind F.fault F.Asks F.Hands F.Text.gives F.Text.has_failed F.Text.Pulls files.old files.new)
-        (sink_run O.taken O.has_failed out.old out.new) (sink_run E.taken E.has_failed err.old err.new)
+        (files_run F.files F.Text.source (files.old, files.new))
+        (sink_run O.sink (out.old, out.new)) (sink_run E.sink (err.old, err.new))
         (asks command.now) result }
-    ensures unput { (result ≡ 2) ⊎ (result ≡ 3) → out.new ≡ out.old }
-    ensures flushed { (result ≡ 0) ⊎ (result ≡ 1) → IsTrue (O.is_flushed out.new) }
+    ensures out { OutByStatus (sink_run O.sink (out.old, out.new)) result }
 {
     if command.names_standard_input_twice() {
         let _ = put_all(err, b"dnorm: standard input named twice\n");
@@ -110,11 +99,11 @@ fn run_command<F: Files, O: Sink, E: Sink>(
 
 // Puts a text on `out`, and answers the exit status.
 fn print<O: Sink, E: Sink>(text: &str, out: &mut O, err: &mut E) -> u8
-    ensures prints { PrintsText text.now (sink_run O.taken O.has_failed out.old out.new)
-        (sink_run E.taken E.has_failed err.old err.new) result }
-    ensures flushed { result ≡ 0 → IsTrue (O.is_flushed out.new) }
+    ensures prints { PrintsText text.now (sink_run O.sink (out.old, out.new))
+        (sink_run E.sink (err.old, err.new)) result }
+    ensures out { OutByStatus (sink_run O.sink (out.old, out.new)) result }
 {
-    match put_flushed(out, text.as_bytes()) {
+    match put_and_flush(out, text.as_bytes()) {
         Ok(()) => 0,
         Err(_) => {
             let stop = Stop::Cut;
@@ -122,13 +111,4 @@ fn print<O: Sink, E: Sink>(text: &str, out: &mut O, err: &mut E) -> u8
             stop.status()
         }
     }
-}
-
-// Puts bytes, and then flushes.
-fn put_flushed<O: Sink>(out: &mut O, bytes: &[u8]) -> Result<(), SinkFault>
-    ensures text { Puts O.taken O.has_failed out.old out.new bytes.now result }
-    ensures flushed { OnOk result (IsTrue (O.is_flushed out.new)) }
-{
-    put_all(out, bytes)?;
-    out.flush()
 }

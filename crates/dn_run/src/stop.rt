@@ -1,6 +1,7 @@
 // Why a command stops before it is done.
 ghost use Rattle.std.specs.Prelude.{◌≡◌};
-ghost use Rattle.dn_run.specs.Answers.{Tells, refusal_status, status_of, stopped, unwritten};
+ghost use Rattle.dn_run.specs.Answers.{Tells, refusal_status, status_of};
+ghost use Rattle.dn_run.specs.State.Answers.{stopped, unwritten};
 ghost use Rattle.dn_run.specs.Streams.{sink_run};
 
 use dn_instance::{CompanionFault, Refusal};
@@ -38,7 +39,7 @@ impl Stop<'_> {
 
     // Puts the line that tells of it. A fault of the sink is ignored.
     pub(crate) fn tell<E: Sink>(&self, err: &mut E)
-        ensures { Tells (sink_run E.taken E.has_failed err.old err.new) (stopped self.now) }
+        ensures { Tells (sink_run E.sink (err.old, err.new)) (stopped self.now) }
     {
         let _ = match self {
             Stop::Refused { name, refusal } => put_fault_line(err, name, refusal),

@@ -1,8 +1,11 @@
 // Reads texts by their names.
-ghost use Rattle.std.specs.Prelude.{◌≡◌, [], IfErr};
+ghost use Rattle.std.specs.Prelude.{◌≡◌, [], IfErr, IfOk};
 ghost use Rattle.dn_instance.specs.SourceReads.{IsOfReading};
-ghost use Rattle.dn_run.specs.FilesRuns.{AsksOne, files_run, text_asked};
-ghost use Rattle.dn_run.specs.Texts.{IsCopy, IsRead, IsRefusedCopy, IsRefusedText, unopened};
+ghost use Rattle.dn_instance.specs.State.SourceReads.{HoldsCopied};
+ghost use Rattle.dn_run.specs.State.FilesRuns.{taken_text};
+ghost use Rattle.dn_run.specs.Takings.{AsksOne};
+ghost use Rattle.dn_run.specs.Texts.{IsRefusedCopy, IsRefusedText, unopened};
+ghost use Rattle.dn_run.specs.State.Texts.{IsCopy, IsRead};
 
 use crate::files::{Files, FilesFault};
 use dn_instance::{Held, Refusal, read_from, read_keep};
@@ -14,11 +17,10 @@ pub(crate) fn read_named<F: Files>(
     name: &str,
     files: &mut F,
 ) -> Result<Held, Refusal>
-    ensures read { let run =
-        files_run F.behind F.fault F.Asks F.Hands F.Text.gives F.Text.has_failed F.Text.Pulls files.old files.new in
-        let text = text_asked run files.old files.new name.now in IsRead (IsRefusedText text) text result }
+    ensures read { let text = taken_text F.files F.Text.source (files.old, files.new) name.now in
+        IsRead (IsRefusedText text) text result }
     ensures refusal { IfErr result IsOfReading }
-    ensures asks { AsksOne F.Asks F.behind files.old files.new name.now }
+    ensures asks { AsksOne F.files files.old files.new name.now }
 {
     match files.take(name) {
         Ok(text) => {
@@ -37,14 +39,13 @@ pub(crate) fn copy_named<F: Files>(
     copy: &mut Vec<u8>,
 ) -> Result<Held, Refusal>
     requires { copy.old.items ≡ [] }
-    ensures read { let run =
-        files_run F.behind F.fault F.Asks F.Hands F.Text.gives F.Text.has_failed F.Text.Pulls files.old files.new in
-        let text = text_asked run files.old files.new name.now in IsRead (IsRefusedCopy text) text result }
-    ensures copy { let run =
-        files_run F.behind F.fault F.Asks F.Hands F.Text.gives F.Text.has_failed F.Text.Pulls files.old files.new in
-        IsCopy (text_asked run files.old files.new name.now) copy.new.items result }
+    ensures read { let text = taken_text F.files F.Text.source (files.old, files.new) name.now in
+        IsRead (IsRefusedCopy text) text result }
+    ensures copied { IfOk result (HoldsCopied [] copy.new.items) }
+    ensures copy { let text = taken_text F.files F.Text.source (files.old, files.new) name.now in
+        IsCopy text copy.new.items result }
     ensures refusal { IfErr result IsOfReading }
-    ensures asks { AsksOne F.Asks F.behind files.old files.new name.now }
+    ensures asks { AsksOne F.files files.old files.new name.now }
 {
     match files.take(name) {
         Ok(text) => {

@@ -1,23 +1,33 @@
 -- What is known of bytes compared with a text.
-use Rattle.std.proofs.Common.{◌≡◌, ◌≢◌, ℕ, ◌+◌, ◌<◌, ◌≤◌, List, [], ◌∷◌, ◌++◌, length, take, drop, get_or, true, false, Option, None, Some, refl, sym, ap, ◌∙◌, subst, arith, length-append, append-nil, append_assoc}
+use Rattle.std.proofs.Common.{◌≡◌, ◌≢◌, ℕ, ◌+◌, ◌<◌, ◌≤◌, List, [], ◌∷◌, ◌++◌, length, take, drop, get_or, Bool, true, false, Option, None, Some, refl, sym, ap, ◌∙◌, subst, arith, length-append, append-nil, append_assoc, take-append-drop}
 use Rattle.std.proofs.Math.Seq.{take-add, take-suc}
 use native.Mathlib.Numerals.{unary_clauses}
 use Rattle.std.proofs.lemmas.List.{get_or_append_left, length-take-le, take_all, get_or-take}
 use Rattle.std.specs.Option.{is_some}
-use Rattle.dn_sink.specs.Matches.{AreMatched, IsNoPrefix, IsSameFront, Matched, put_by, taken_of}
+use Rattle.dn_sink.specs.State.Matches.{AreMatched, IsNoPrefix, IsSamePrefix, Matched, put_by, taken_of}
 
 -- with a byte with which the text does not go on, the bytes put are not the text
-pub other_than_text : (text : List ℕ) (matched : ℕ) (other : Option ℕ) → AreMatched text matched other → is_some other ≡ true → put_by text matched other ≢ text
-other_than_text text matched None h is e = cc
-other_than_text text matched (Some byte) h is e = h.apart [] (append-nil _ ∙ e)
+pub other_than_text : (text : List ℕ) (matched : ℕ) (other : Option ℕ) (failed : Bool) → AreMatched text matched other failed → is_some other ≡ true → put_by text matched other ≢ text
+other_than_text text matched None failed h is e = cc
+other_than_text text matched (Some byte) failed h is e = h.apart [] (append-nil _ ∙ e)
 
--- without one they are a prefix of it
+-- nor a prefix of it
+pub no_prefix : (text : List ℕ) (matched : ℕ) (other : Option ℕ) (failed : Bool) → AreMatched text matched other failed → is_some other ≡ true → IsNoPrefix (put_by text matched other) text
+no_prefix text matched None failed h is = cc
+no_prefix text matched (Some byte) failed h is = h.apart
+
+-- without one they are a prefix
+pub a_prefix : (text : List ℕ) (matched : ℕ) (other : Option ℕ) → is_some other ≡ false → IsNoPrefix (put_by text matched other) text → ⊥
+a_prefix text matched None is never = never (drop matched text) (take-append-drop matched text)
+a_prefix text matched (Some byte) is never = cc
+
+-- so they are this one
 pub taken_so_far : (text : List ℕ) (matched : ℕ) (other : Option ℕ) → is_some other ≡ false → put_by text matched other ≡ take matched text
 taken_so_far text matched None h = refl
 taken_so_far text matched (Some byte) h = cc
 
 -- a text that begins with the whole piece
-pub whole_piece : (text piece : List ℕ) → take (length piece) text ≡ piece → length piece ≤ length text → IsSameFront text piece (length piece)
+pub whole_piece : (text piece : List ℕ) → take (length piece) text ≡ piece → length piece ≤ length text → IsSamePrefix text piece (length piece)
 whole_piece text piece e bound = record {
   in_text = bound;
   in_piece = omega arith;

@@ -1,3 +1,4 @@
 pub mod Sinks
 pub mod Puts
-pub mod Matches
+pub mod Rows
+pub mod State

@@ -1,7 +1,6 @@
 // A sink in memory.
 ghost use Rattle.std.specs.Prelude.{◌≡◌, ◌↔◌, ◌<◌, ◌+◌, [], length, false, true, Some, IsTrue, IsErr, IfOk, OnOk, OnErr};
-ghost use Rattle.std.specs.Io.KnownBytes.{Keeps};
-ghost use Rattle.dn_sink.specs.Sinks.{Took, Refused};
+ghost use Rattle.dn_sink.specs.State.Turns.{Turn, Flush};
 
 use crate::sink::{Sink, SinkFault};
 use std::alloc::Global;
@@ -16,7 +15,7 @@ pub struct Bytes {
 
 impl Model for Bytes {
     ghost use Rattle.std.specs.Prelude.{vec_capacity};
-    ghost use Rattle.dn_sink.specs.Sinks.{Taken};
+    ghost use Rattle.dn_sink.specs.State.Held.{Taken};
 
     ghost Value = { Taken };
 
@@ -52,18 +51,12 @@ impl Bytes {
 }
 
 impl Sink for Bytes {
-    ghost taken = { λ s. Some s.bytes };
-
-    ghost has_failed = { λ s. s.failed };
-
     // The bytes taken are where they go.
-    ghost is_flushed = { λ _. true };
+    ghost sink = { record { taken = λ s. Some s.bytes; has_failed = λ s. s.failed; is_flushed = λ _. true } };
 
     // Takes the whole piece, or has failed; once it has, it takes nothing.
     fn put(&mut self, piece: &[u8]) -> Result<usize, SinkFault>
-        ensures ok { IfOk result (λ n. Took (Some self.old.bytes) (Some self.new.bytes) self.new.failed piece.now n) }
-        ensures err { OnErr result (Refused (Some self.old.bytes) (Some self.new.bytes) self.new.failed) }
-        ensures stays { IsTrue self.old.failed → IsTrue self.new.failed }
+        ensures turn { Turn ⟦<Bytes as Sink>⟧.sink self.old self.new piece.now result }
         ensures whole { IfOk result (λ n. (n ≡ length piece.now) × (self.new.failed ≡ false)) }
         ensures again { IsTrue self.old.failed → IsErr result }
         ensures memory { OnErr result (self.old.failed ≡ false
@@ -83,10 +76,7 @@ impl Sink for Bytes {
 
     // Changes nothing, and answers a fault exactly where it has failed.
     fn flush(&mut self) -> Result<(), SinkFault>
-        ensures flushed { OnOk result (IsTrue true) }
-        ensures bytes { Keeps (Some self.old.bytes) (Some self.new.bytes) }
-        ensures err { OnErr result (IsTrue self.new.failed) }
-        ensures stays { IsTrue self.old.failed → IsTrue self.new.failed }
+        ensures flush { Flush ⟦<Bytes as Sink>⟧.sink self.old self.new result }
         ensures again { IsErr result ↔ IsTrue self.old.failed }
         ensures same { self.new ≡ self.old }
     {

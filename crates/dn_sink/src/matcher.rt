@@ -1,14 +1,13 @@
 // A sink that compares.
 ghost use Rattle.std.specs.Prelude.{◌≡◌, ◌↔◌, [], ◌++◌, length, take, false, true, Some, IsTrue, IsErr, IfOk, OnOk, OnErr};
-ghost use Rattle.std.specs.Io.KnownBytes.{Keeps};
-ghost use Rattle.dn_sink.specs.Matches.{IsNoPrefix, IsSameFront, taken_of};
-ghost use Rattle.dn_sink.specs.Sinks.{Took, Refused};
+ghost use Rattle.dn_sink.specs.State.Matches.{IsNoPrefix, IsSamePrefix, taken_of};
+ghost use Rattle.dn_sink.specs.State.Turns.{Turn, Flush};
 
 use crate::sink::{Sink, SinkFault};
 use std::marker::Model;
 
-/// Compares the bytes that it takes with a text, and keeps none of them. It has failed once it has taken a byte with
-/// which the text does not go on.
+/// Compares the bytes that it takes with a text, and keeps none of them. After a byte with which the text does not go
+/// on it takes no other, and the next put fails.
 #[derive(Drop)]
 pub struct Matcher<'a> {
     text: &'a [u8],
@@ -16,21 +15,21 @@ pub struct Matcher<'a> {
     matched: usize,
     // The byte taken after them with which the text does not go on.
     other: Option<u8>,
+    failed: bool,
 }
 
 impl<'a> Model for Matcher<'a> {
-    ghost use Rattle.std.specs.Option.{is_some};
-    ghost use Rattle.dn_sink.specs.Matches.{Matched, AreMatched, put_by};
+    ghost use Rattle.dn_sink.specs.State.Matches.{Matched, AreMatched, put_by};
 
     ghost Value = { Matched };
 
     ghost view = { λ m. record {
       text = m.text.now;
       put = put_by m.text.now m.matched m.other;
-      failed = is_some m.other;
+      failed = m.failed;
     } };
 
-    ghost invariant = { λ m. AreMatched m.text.now m.matched m.other };
+    ghost invariant = { λ m. AreMatched m.text.now m.matched m.other m.failed };
 }
 
 impl<'a> Matcher<'a> {
@@ -44,6 +43,7 @@ impl<'a> Matcher<'a> {
             text,
             matched: 0,
             other: None,
+            failed: false,
         }
     }
 
@@ -57,27 +57,21 @@ impl<'a> Matcher<'a> {
 }
 
 impl<'a> Sink for Matcher<'a> {
-    ghost taken = { λ s. Some (taken_of s) };
-
-    ghost has_failed = { λ s. s.failed };
-
     // The bytes taken are compared.
-    ghost is_flushed = { λ _. true };
+    ghost sink = { record { taken = λ s. Some (taken_of s); has_failed = λ s. s.failed; is_flushed = λ _. true } };
 
-    // Takes the bytes with which the text goes on, and one after them; once it has failed, it takes nothing.
+    // Takes the bytes with which the text goes on, and one after them; once it has taken such a one, it takes nothing.
     fn put(&mut self, piece: &[u8]) -> Result<usize, SinkFault>
-        ensures ok { IfOk result
-            (λ n. Took (Some (taken_of self.old)) (Some (taken_of self.new)) self.new.failed piece.now n) }
-        ensures err { OnErr result (Refused (Some (taken_of self.old)) (Some (taken_of self.new)) self.new.failed) }
-        ensures stays { IsTrue self.old.failed → IsTrue self.new.failed }
-        ensures again { IsErr result ↔ IsTrue self.old.failed }
+        ensures turn { Turn ⟦<Matcher<'a> as Sink>⟧.sink self.old self.new piece.now result }
+        ensures fault { IsErr result ↔ IsNoPrefix self.old.put self.old.text }
         ensures text { self.new.text ≡ self.old.text }
         ensures put { IfOk result (λ n. self.new.put ≡ self.old.put ++ take n piece.now) }
     {
         if self.other.is_some() {
+            self.failed = true;
             return Err(SinkFault);
         }
-        let n = same_front(&self.text[self.matched..], piece);
+        let n = same_prefix(&self.text[self.matched..], piece);
         self.matched += n;
         if n == piece.len() {
             return Ok(n);
@@ -88,24 +82,17 @@ impl<'a> Sink for Matcher<'a> {
 
     // Changes nothing, and answers a fault exactly where it has failed.
     fn flush(&mut self) -> Result<(), SinkFault>
-        ensures flushed { OnOk result (IsTrue true) }
-        ensures bytes { Keeps (Some (taken_of self.old)) (Some (taken_of self.new)) }
-        ensures err { OnErr result (IsTrue self.new.failed) }
-        ensures stays { IsTrue self.old.failed → IsTrue self.new.failed }
+        ensures flush { Flush ⟦<Matcher<'a> as Sink>⟧.sink self.old self.new result }
         ensures again { IsErr result ↔ IsTrue self.old.failed }
         ensures same { self.new ≡ self.old }
     {
-        if self.other.is_some() {
-            Err(SinkFault)
-        } else {
-            Ok(())
-        }
+        if self.failed { Err(SinkFault) } else { Ok(()) }
     }
 }
 
 // How many same bytes a text and a piece begin with.
-fn same_front(text: &[u8], piece: &[u8]) -> usize
-    ensures { IsSameFront text.now piece.now result }
+fn same_prefix(text: &[u8], piece: &[u8]) -> usize
+    ensures { IsSamePrefix text.now piece.now result }
 {
     if text.starts_with(piece) {
         return piece.len();

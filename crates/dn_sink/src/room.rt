@@ -1,7 +1,7 @@
 // A sink over a slice.
 ghost use Rattle.std.specs.Prelude.{◌≡◌, [], length, false, true, Some, Ok, IsTrue, IsOk, IfOk, OnOk, OnErr};
-ghost use Rattle.std.specs.Io.KnownBytes.{Keeps};
-ghost use Rattle.dn_sink.specs.Sinks.{Took, Refused, room_for, filled};
+ghost use Rattle.dn_sink.specs.State.Held.{room_for, filled};
+ghost use Rattle.dn_sink.specs.State.Turns.{Turn, Flush};
 
 use crate::sink::{Sink, SinkFault};
 use std::marker::Model;
@@ -16,7 +16,7 @@ pub struct Room<'a> {
 
 impl<'a> Model for Room<'a> {
     ghost use Rattle.std.specs.Prelude.{◌≡◌, ◌≤◌, length, take, IsTrue};
-    ghost use Rattle.dn_sink.specs.Sinks.{Filled};
+    ghost use Rattle.dn_sink.specs.State.Held.{Filled};
 
     ghost Value = { Filled };
 
@@ -48,18 +48,12 @@ impl<'a> Room<'a> {
 }
 
 impl<'a> Sink for Room<'a> {
-    ghost taken = { λ s. Some s.bytes };
-
-    ghost has_failed = { λ s. s.failed };
-
     // The bytes taken are where they go.
-    ghost is_flushed = { λ _. true };
+    ghost sink = { record { taken = λ s. Some s.bytes; has_failed = λ s. s.failed; is_flushed = λ _. true } };
 
     // Takes what has room, and never answers a fault.
     fn put(&mut self, piece: &[u8]) -> Result<usize, SinkFault>
-        ensures ok { IfOk result (λ n. Took (Some self.old.bytes) (Some self.new.bytes) self.new.failed piece.now n) }
-        ensures err { OnErr result (Refused (Some self.old.bytes) (Some self.new.bytes) self.new.failed) }
-        ensures stays { IsTrue self.old.failed → IsTrue self.new.failed }
+        ensures turn { Turn ⟦<Room<'a> as Sink>⟧.sink self.old self.new piece.now result }
         ensures room { result ≡ Ok (room_for self.old piece.now) }
         ensures fills { self.new ≡ filled self.old piece.now }
     {
@@ -75,10 +69,7 @@ impl<'a> Sink for Room<'a> {
 
     // Changes nothing, and always answers `Ok`.
     fn flush(&mut self) -> Result<(), SinkFault>
-        ensures flushed { OnOk result (IsTrue true) }
-        ensures bytes { Keeps (Some self.old.bytes) (Some self.new.bytes) }
-        ensures err { OnErr result (IsTrue self.new.failed) }
-        ensures stays { IsTrue self.old.failed → IsTrue self.new.failed }
+        ensures flush { Flush ⟦<Room<'a> as Sink>⟧.sink self.old self.new result }
         ensures always { IsOk result }
         ensures same { self.new ≡ self.old }
     {

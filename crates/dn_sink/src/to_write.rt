@@ -1,7 +1,6 @@
 // A sink over a writer.
-ghost use Rattle.std.specs.Prelude.{◌≡◌, false, IsTrue, IsErr, IfOk, OnOk, OnErr};
-ghost use Rattle.std.specs.Io.KnownBytes.{Keeps};
-ghost use Rattle.dn_sink.specs.Sinks.{Took, Refused};
+ghost use Rattle.std.specs.Prelude.{◌≡◌, false, IsTrue, IsErr, OnOk};
+ghost use Rattle.dn_sink.specs.State.Turns.{Turn, Flush};
 
 use crate::sink::{Sink, SinkFault};
 use std::io::Write;
@@ -18,8 +17,8 @@ pub struct ToWrite<W: Write> {
 impl<W: Write> ToWrite<W> {
     /// A sink that has taken what the writer holds.
     pub fn new(writer: W) -> ToWrite<W>
-        ensures taken { ⟦<ToWrite<W> as Sink>⟧.taken result ≡ W.contents writer }
-        ensures fine { ⟦<ToWrite<W> as Sink>⟧.has_failed result ≡ false }
+        ensures taken { ⟦<ToWrite<W> as Sink>⟧.sink.taken result ≡ W.contents writer }
+        ensures fine { ⟦<ToWrite<W> as Sink>⟧.sink.has_failed result ≡ false }
     {
         ToWrite {
             writer,
@@ -30,25 +29,18 @@ impl<W: Write> ToWrite<W> {
 }
 
 impl<W: Write> Sink for ToWrite<W> {
-    ghost taken = { λ s. W.contents s.writer };
-
-    ghost has_failed = { λ s. s.failed };
-
-    // The writer was flushed after the last piece that it took.
-    ghost is_flushed = { λ s. s.flushed };
+    // It is flushed where the writer was flushed after the last piece that it took.
+    ghost sink = { record {
+      taken = λ s. W.contents s.writer;
+      has_failed = λ s. s.failed;
+      is_flushed = λ s. s.flushed;
+    } };
 
     // Once it has failed, it takes nothing.
     fn put(&mut self, piece: &[u8]) -> Result<usize, SinkFault>
-        ensures ok { IfOk result
-            (λ n. Took (⟦<ToWrite<W> as Sink>⟧.taken self.old) (⟦<ToWrite<W> as Sink>⟧.taken self.new)
-            (⟦<ToWrite<W> as Sink>⟧.has_failed self.new) piece.now n) }
-        ensures err { OnErr result
-            (Refused (⟦<ToWrite<W> as Sink>⟧.taken self.old) (⟦<ToWrite<W> as Sink>⟧.taken self.new)
-            (⟦<ToWrite<W> as Sink>⟧.has_failed self.new)) }
-        ensures stays { IsTrue (⟦<ToWrite<W> as Sink>⟧.has_failed self.old)
-            → IsTrue (⟦<ToWrite<W> as Sink>⟧.has_failed self.new) }
-        ensures again { IsTrue (⟦<ToWrite<W> as Sink>⟧.has_failed self.old) → IsErr result }
-        ensures unflushed { OnOk result (⟦<ToWrite<W> as Sink>⟧.is_flushed self.new ≡ false) }
+        ensures turn { Turn ⟦<ToWrite<W> as Sink>⟧.sink self.old self.new piece.now result }
+        ensures again { IsTrue (⟦<ToWrite<W> as Sink>⟧.sink.has_failed self.old) → IsErr result }
+        ensures unflushed { OnOk result (⟦<ToWrite<W> as Sink>⟧.sink.is_flushed self.new ≡ false) }
     {
         if self.failed {
             return Err(SinkFault);
@@ -70,12 +62,8 @@ impl<W: Write> Sink for ToWrite<W> {
 
     // Once it has failed, it answers a fault.
     fn flush(&mut self) -> Result<(), SinkFault>
-        ensures flushed { OnOk result (IsTrue (⟦<ToWrite<W> as Sink>⟧.is_flushed self.new)) }
-        ensures bytes { Keeps (⟦<ToWrite<W> as Sink>⟧.taken self.old) (⟦<ToWrite<W> as Sink>⟧.taken self.new) }
-        ensures err { OnErr result (IsTrue (⟦<ToWrite<W> as Sink>⟧.has_failed self.new)) }
-        ensures stays { IsTrue (⟦<ToWrite<W> as Sink>⟧.has_failed self.old)
-            → IsTrue (⟦<ToWrite<W> as Sink>⟧.has_failed self.new) }
-        ensures again { IsTrue (⟦<ToWrite<W> as Sink>⟧.has_failed self.old) → IsErr result }
+        ensures flush { Flush ⟦<ToWrite<W> as Sink>⟧.sink self.old self.new result }
+        ensures again { IsTrue (⟦<ToWrite<W> as Sink>⟧.sink.has_failed self.old) → IsErr result }
     {
         if self.failed {
             return Err(SinkFault);

@@ -6,20 +6,19 @@ use Rattle.std.proofs.lemmas.Map.Keys.{IsDistinct-head, IsDistinct-tail}
 use Rattle.std.specs.List.{AllByRecursion, list_any, IsDistinct}
 use Rattle.std.specs.Map.{keys_of, lookup}
 use Rattle.std.specs.Ordering.{int_eq}
-use Rattle.dn_bundle.specs.Bundles.{IsKind, told_of}
-use Rattle.dn_bundle.specs.Canonical.{has_low}
-use Rattle.dn_bundle.specs.Capacities.{total_cap}
-use Rattle.dn_bundle.specs.Entries.{distinct, has_room, length_entries, cap_entries, cost_entries}
-use Rattle.dn_bundle.specs.declared.arc.LengthArc.{LengthArc}
-use Rattle.dn_bundle.specs.declared.arc.CapArc.{CapArc}
-use Rattle.dn_bundle.specs.declared.arc.CostArc.{CostArc}
-use Rattle.dn_bundle.specs.Kinds.{ArcKind}
-use Rattle.dn_bundle.specs.declared.arc.Form.TheVariants.{One}
-use Rattle.dn_table.specs.GraphEntries.{graph_entries}
-use Rattle.pair_index.specs.Pairs.{same_pair}
-use Rattle.dn_table.specs.Pairs.{bundle}
-use Rattle.dn_table.specs.Tables.{told_at, TableTells, AreArcs}
-use Rattle.pair_index.proofs.PairLaws.{pair_is, pair_self}
+use Rattle.dn_arc.specs.State.Bundles.{IsKind, told_of}
+use Rattle.dn_arc.specs.Canonical.{has_low}
+use Rattle.dn_arc.specs.Capacities.{total_cap}
+use Rattle.dn_arc.specs.Entries.{distinct, has_room, length_entries, cap_entries, cost_entries}
+use Rattle.dn_arc.specs.declared.arc.LengthArc.{LengthArc}
+use Rattle.dn_arc.specs.declared.arc.CapArc.{CapArc}
+use Rattle.dn_arc.specs.declared.arc.CostArc.{CostArc}
+use Rattle.dn_arc.specs.Kinds.{ArcKind}
+use Rattle.dn_arc.specs.declared.arc.Form.TheVariants.{One}
+use Rattle.dn_table.specs.State.GraphEntries.{graph_entries}
+use Rattle.dn_arc.specs.Pairs.{bundle, same_pair}
+use Rattle.dn_table.specs.State.Tables.{told_at, TableTells, AreArcs}
+use Rattle.dn_arc.proofs.PairLaws.{pair_is, pair_self}
 use Rattle.dn_table.proofs.PairLaws.{other_pair}
 
 abbrev pub Pair : Type 0
@@ -187,7 +186,7 @@ module _ {B : Type 0} where
           cc
       below k m false q = sym (ap (λ b. cond b (Some e.1) (lookup (same_pair k) rest)) q) ∙ at k (ap (λ b. b || among k (keys_of rest)) q ∙ m)
 
-module _ {B Arc : Type 0} (kind : ArcKind Arc) (laws : IsKind kind) (nothing : kind.entries [] ≡ 0) (tells : B → List Arc) where
+module _ {B Arc : Type 0} (kind : ArcKind Arc) (laws : IsKind kind) (tells : B → List Arc) where
   -- the entries that a table's bundles come to are those of the arcs that it stands for
   pub table_entries : (table : List (Pair × B)) (arcs : List (Pair × Arc)) → Once (keys_of table) → TableTells kind tells table arcs → AreArcs kind arcs → sum_by (λ (e : Pair × B). kind.entries (tells e.1)) table ≡ graph_entries kind arcs
   table_entries table arcs once t are =
@@ -207,10 +206,10 @@ module _ {B Arc : Type 0} (kind : ArcKind Arc) (laws : IsKind kind) (nothing : k
           ∙ laws.same_entries (told_at tells table k) (bundle k arcs) (laws.canon_arcs One (told_at tells table k) stands.canonical) (arcs_at k) stands.same
 
       out : (r : Pair) → among r (keys_of table) ≡ false → among r (distinct same_pair (map (λ a. a.0) arcs)) ≡ true → f r ≡ 0
-      out r e g = laws.same_entries (bundle r arcs) [] (arcs_at r) tt ((t.absent r).0 (no_entry r table e)) ∙ nothing
+      out r e g = laws.same_entries (bundle r arcs) [] (arcs_at r) tt ((t.absent r).0 (no_entry r table e)) ∙ laws.none_entries
 
       back : (r : Pair) → among r (keys_of table) ≡ true → among r (distinct same_pair (map (λ a. a.0) arcs)) ≡ false → f r ≡ 0
-      back r e g = ap kind.entries (no_bundle r arcs (sym (among_distinct r (map (λ a. a.0) arcs)) ∙ g)) ∙ nothing
+      back r e g = ap kind.entries (no_bundle r arcs (sym (among_distinct r (map (λ a. a.0) arcs)) ∙ g)) ∙ laws.none_entries
 
 -- one where it is this pair
 abbrev one_if : Pair → Pair → ℕ

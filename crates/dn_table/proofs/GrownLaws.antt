@@ -7,16 +7,17 @@ use Rattle.std.proofs.lemmas.List.{set-get_or}
 use Rattle.std.proofs.lemmas.Map.Entries.{lookup_from_place, length-keys_of}
 use Rattle.std.proofs.lemmas.Map.Made.{is_some-lookup}
 use Rattle.std.proofs.lemmas.Option.{slice_get-get_or}
-use Rattle.dn_bundle.specs.Bundles.{told_of}
-use Rattle.dn_bundle.specs.Kinds.{ArcKind, AreCanonArcsOf}
-use Rattle.pair_index.specs.Pairs.{pair_cmp, same_pair}
-use Rattle.dn_table.specs.Pairs.{bundle}
-use Rattle.dn_table.specs.Tables.{Grows, TableStandsFor, TableTells}
+use Rattle.dn_arc.specs.State.Bundles.{told_of}
+use Rattle.dn_arc.specs.Kinds.{ArcKind}
+use Rattle.dn_arc.specs.State.Kinds.{AreCanonArcsOf}
+use Rattle.dn_arc.specs.Pairs.{bundle, pair_cmp, same_pair}
+use Rattle.dn_table.specs.State.Tables.{Grows, TableStandsFor, TableTells}
 use Rattle.dn_table.proofs.PairLaws.{other_pair}
 use Rattle.dn_table.proofs.TableLaws.{grows_there}
-use Rattle.pair_index.proofs.IndexLaws.{pair_equiv, key_of_entry}
+use Rattle.dn_arc.proofs.PairLaws.{pair_equiv}
+use Rattle.pair_index.proofs.IndexLaws.{key_of_entry}
 use Rattle.pair_index.proofs.EntryLaws.{keys_kept}
-use Rattle.pair_index.specs.Places.{key_at}
+use Rattle.pair_index.specs.State.Places.{key_at}
 
 module _ {X : Type 0} (t : ℤ × ℤ → Bool) (e : (ℤ × ℤ) × X) where
   -- an entry behind the others

@@ -2,8 +2,8 @@
 use Rattle.std.proofs.Common.{◌≡◌, ℤ, Bool, true, false, refl, sym, ap, ◌∙◌, subst, to_z, of_z, w64}
 use Rattle.std.specs.Int.RustNames.{FitsSigned}
 use Rattle.std.proofs.lemmas.Int.{to_z-of_z}
-use Rattle.pair_index.specs.Pairs.{same_pair}
-use Rattle.pair_index.proofs.PairLaws.{pair_is, pair_self}
+use Rattle.dn_arc.specs.Pairs.{same_pair}
+use Rattle.dn_arc.proofs.PairLaws.{pair_is, pair_self}
 
 -- the key, as a call passes it
 pub key_is : (u v : ℤ) → FitsSigned w64 u → FitsSigned w64 v → (P : ℤ × ℤ → Type 0) → P (to_z w64 (of_z w64 u), to_z w64 (of_z w64 v)) → P (u, v)

@@ -2,13 +2,13 @@
 use Rattle.std.proofs.Common.{◌≡◌, ◌↔◌, ℤ, ◌<ℤ◌, List, [], ◌∷◌, ◌++◌, Option, Some, None, Result, Ok, Err, OnOk, OnErr, false, refl, sym, ap, ◌∙◌, subst}
 use Rattle.std.specs.Option.{IsSome}
 use Rattle.std.specs.Map.{lookup}
-use Rattle.dn_bundle.specs.Kinds.{ArcKind}
-use Rattle.dn_bundle.specs.Meanings.{IsMeaning}
+use Rattle.dn_arc.specs.Kinds.{ArcKind}
+use Rattle.dn_arc.specs.State.Meanings.{IsMeaning}
 use Rattle.dn_bundle.specs.declared.bundle.BundleFault.{BundleFault}
 use Rattle.dn_bundle.specs.declared.bundle.BundleFault.TheVariants.{Sum, Memory}
-use Rattle.pair_index.specs.Pairs.{same_pair}
-use Rattle.dn_bundle.specs.Bundles.{told_of}
-use Rattle.dn_table.specs.Tables.{told_at, Grows}
+use Rattle.dn_arc.specs.Pairs.{same_pair}
+use Rattle.dn_arc.specs.State.Bundles.{told_of}
+use Rattle.dn_table.specs.State.Tables.{told_at, Grows}
 
 module _ {B Arc : Type 0} (kind : ArcKind Arc) (tells : B → List Arc) (m n : List ((ℤ × ℤ) × B)) (pair : ℤ × ℤ) (arc : Arc) where
   -- the bundle of the pair has taken the arc

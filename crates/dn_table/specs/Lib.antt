@@ -1,4 +1,1 @@
-pub mod Pairs
-pub mod Tables
-pub mod GraphEntries
-pub mod Walks
+pub mod State

@@ -1,15 +1,14 @@
 // Bundles by their ordered pairs.
-ghost use Rattle.std.specs.Prelude.{◌≡◌, ◌<◌, ◌≤◌, ℤ, List, MatchOption, [], ◌^◌, length};
+ghost use Rattle.std.specs.Prelude.{◌≡◌, ◌<◌, ℤ, List, ◌^◌, length};
 ghost use Rattle.std.specs.Option.{option_copied};
 ghost use Rattle.std.specs.Iterator.{YieldsFirstBy, item_count};
 ghost use Rattle.std.specs.List.Sorted.{IsStrictlySortedBy};
 ghost use Rattle.std.specs.Map.{keys_of, lookup};
-ghost use Rattle.dn_bundle.specs.declared.arc.Form.{Form};
-ghost use Rattle.pair_index.specs.Pairs.{pair_cmp, same_pair};
-ghost use Rattle.dn_table.specs.GraphEntries.{graph_entries};
-ghost use Rattle.pair_index.specs.InOrder.{in_order};
-ghost use Rattle.pair_index.specs.Ordered.{Orders};
-ghost use Rattle.dn_table.specs.Tables.{entry_of, AreArcs, TableTells};
+ghost use Rattle.dn_arc.specs.declared.arc.Form.{Form};
+ghost use Rattle.dn_arc.specs.Pairs.{pair_cmp, same_pair};
+ghost use Rattle.pair_index.specs.State.InOrder.{in_order};
+ghost use Rattle.pair_index.specs.State.Ordered.{Orders};
+ghost use Rattle.dn_table.specs.State.Tables.{entry_of, CountsEntries};
 
 use crate::entry_sum::bundle_entries;
 use dn_bundle::{Bundle, Form};
@@ -27,8 +26,8 @@ pub struct Table<B: Bundle> {
 impl<B: Bundle> Model for Table<B> {
     ghost use Rattle.std.specs.Prelude.{ℤ, List};
     ghost use Rattle.std.specs.Map.{keys_of};
-    ghost use Rattle.pair_index.specs.InOrder.{in_order};
-    ghost use Rattle.pair_index.specs.Ordered.{Orders};
+    ghost use Rattle.pair_index.specs.State.InOrder.{in_order};
+    ghost use Rattle.pair_index.specs.State.Ordered.{Orders};
 
     ghost Value = { List ((ℤ × ℤ) × B) };
 
@@ -70,9 +69,7 @@ impl<B: Bundle> Table<B> {
 
     /// How many entries its bundles come to, given that they are fewer than 2^64.
     pub fn entries(&self) -> u64
-        ensures { (arcs : List ((ℤ × ℤ) × B.Arc)) → B.kind.entries [] ≡ 0
-            → TableTells B.kind (B.told Form.One) self.now arcs
-            → AreArcs B.kind arcs → graph_entries B.kind arcs < 2 ^ 64 → result ≡ graph_entries B.kind arcs }
+        ensures { CountsEntries B.bundle self.now result }
     {
         bundle_entries(&self.entries)
     }
@@ -96,8 +93,8 @@ pub struct Pairs<'a, B: Bundle> {
 
 impl<'a, B: Bundle> Model for Pairs<'a, B> {
     ghost use Rattle.std.specs.Prelude.{ℤ, List};
-    ghost use Rattle.pair_index.specs.InOrder.{from_place};
-    ghost use Rattle.dn_table.specs.Walks.{Walks};
+    ghost use Rattle.pair_index.specs.State.InOrder.{from_place};
+    ghost use Rattle.dn_table.specs.State.Walks.{Walks};
 
     ghost Value = { List ((ℤ × ℤ) × B) };
 

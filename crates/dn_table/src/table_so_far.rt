@@ -1,14 +1,13 @@
 // Bundles by their ordered pairs, as arcs come.
-ghost use Rattle.std.specs.Prelude.{◌≡◌, ◌<◌, ◌≤◌, ℤ, List, MatchOption, [], None, OnOk, OnErr, Some, Err, ◌↔◌, ◌<ℤ◌, pos, ◌-◌, ◌^◌, ◌++◌, ◌∷◌, false, true, vec_capacity, vec_len};
-ghost use Rattle.std.specs.List.{list_any, IsDistinct};
+ghost use Rattle.std.specs.Prelude.{◌≡◌, ◌<◌, ℤ, List, [], None, OnOk, OnErr, Some, Err, ◌↔◌, ◌-◌, ◌^◌, ◌++◌, ◌∷◌, false, true, vec_capacity, vec_len};
+ghost use Rattle.std.specs.List.{list_any};
 ghost use Rattle.std.specs.List.Sorted.{IsStrictlySortedBy};
 ghost use Rattle.std.specs.Map.{keys_of, lookup};
-ghost use Rattle.pair_index.specs.Indexed.{Indexes};
-ghost use Rattle.pair_index.specs.Places.{IsPlace};
-ghost use Rattle.dn_bundle.specs.declared.arc.Form.{Form};
-ghost use Rattle.pair_index.specs.Pairs.{pair_cmp, same_pair};
-ghost use Rattle.dn_table.specs.Tables.{told_at, AreArcs, Grows, TableTells};
-ghost use Rattle.dn_table.specs.GraphEntries.{graph_entries};
+ghost use Rattle.pair_index.specs.State.Indexed.{Indexes};
+ghost use Rattle.pair_index.specs.State.Places.{IsPlace};
+ghost use Rattle.dn_arc.specs.declared.arc.Form.{Form};
+ghost use Rattle.dn_arc.specs.Pairs.{pair_cmp, same_pair};
+ghost use Rattle.dn_table.specs.State.Tables.{Adds, IsTooMuch, CountsEntries};
 
 use crate::entry_sum::bundle_entries;
 use crate::table::Table;
@@ -30,7 +29,7 @@ pub struct TableSoFar<B: Bundle> {
 impl<B: Bundle> Model for TableSoFar<B> {
     ghost use Rattle.std.specs.Prelude.{ℤ, List};
     ghost use Rattle.std.specs.Map.{keys_of};
-    ghost use Rattle.pair_index.specs.Indexed.{Indexes};
+    ghost use Rattle.pair_index.specs.State.Indexed.{Indexes};
 
     ghost Value = { List ((ℤ × ℤ) × B) };
 
@@ -142,11 +141,11 @@ impl<B: Bundle> TableSoFar<B> {
     /// `Sum` exactly where the capacities of the pair's arcs sum to more than 2^63 - 1, else `Memory` where a growth
     /// was refused. On either nothing has changed.
     pub fn add(&mut self, alloc: Global, pair: (i64, i64), arc: B::Arc) -> Result<(), BundleFault>
-        requires { B.kind.IsArc arc }
-        ensures ok { OnOk result (Grows B.kind (B.told Form.One) self.old self.new pair arc) }
+        requires { B.bundle.kind.IsArc arc }
+        ensures ok { OnOk result (Adds B.bundle self.old self.new pair arc) }
         ensures err { OnErr result (self.new ≡ self.old) }
         ensures sum { (result ≡ Err BundleFault.Sum)
-            ↔ (pos (2 ^ 63 - 1) <ℤ B.kind.capacity (told_at (B.told Form.One) self.old pair ++ arc ∷ [])) }
+            ↔ IsTooMuch B.bundle self.old pair arc }
     {
         match self.place(&pair) {
             Some(i) => self.entries[i].1.add(arc),
@@ -156,12 +155,12 @@ impl<B: Bundle> TableSoFar<B> {
 
     // The same at a pair that has no bundle.
     fn add_fresh(&mut self, alloc: Global, pair: (i64, i64), arc: B::Arc) -> Result<(), BundleFault>
-        requires is_arc { B.kind.IsArc arc }
+        requires is_arc { B.bundle.kind.IsArc arc }
         requires none { lookup (same_pair pair) self.old ≡ None }
-        ensures ok { OnOk result (Grows B.kind (B.told Form.One) self.old self.new pair arc) }
+        ensures ok { OnOk result (Adds B.bundle self.old self.new pair arc) }
         ensures err { OnErr result (self.new ≡ self.old) }
         ensures sum { (result ≡ Err BundleFault.Sum)
-            ↔ (pos (2 ^ 63 - 1) <ℤ B.kind.capacity (told_at (B.told Form.One) self.old pair ++ arc ∷ [])) }
+            ↔ IsTooMuch B.bundle self.old pair arc }
     {
         let mut bundle = B::empty(alloc);
         bundle.add(arc)?;
@@ -173,9 +172,7 @@ impl<B: Bundle> TableSoFar<B> {
 
     /// How many entries its bundles come to, given that they are fewer than 2^64.
     pub fn entries(&self) -> u64
-        ensures { (arcs : List ((ℤ × ℤ) × B.Arc)) → B.kind.entries [] ≡ 0
-            → TableTells B.kind (B.told Form.One) self.now arcs
-            → AreArcs B.kind arcs → graph_entries B.kind arcs < 2 ^ 64 → result ≡ graph_entries B.kind arcs }
+        ensures { CountsEntries B.bundle self.now result }
     {
         bundle_entries(&self.entries)
     }

@@ -8,10 +8,9 @@ use dn_command::{Command, Request, request_of};
 use dn_instance::{CompanionFault, Refusal};
 use dn_line::Code;
 use std::alloc::{AllocError, Global};
-use std::fmt::Display;
 use std::test::Fail;
 
-const VERSION: &str = "dnorm 1.0.0\n";
+const VERSION: &str = "dnorm 1.1.0-dev\n";
 
 // Words of their own, which stand apart by `|`, after the program's name.
 pub(crate) fn owned(alloc: Global, line: &str) -> Result<Vec<String>, AllocError> {
@@ -140,9 +139,9 @@ const FAULTS: [CompanionFault; 2] = [
     CompanionFault::NotKinds,
 ];
 
-// Whether help has the line of a refusal.
-fn has_line<T: Display>(alloc: Global, help: &str, number: u8, name: &str, told: &T) -> bool {
-    match format!(in alloc; " {number} {name}: {told}\n") {
+// Whether help has the line of a refusal: its number and its name, and then a sentence.
+fn has_line(alloc: Global, help: &str, number: u8, name: &str) -> bool {
+    match format!(in alloc; " {number} {name}  ") {
         Ok(line) => help.contains(line.as_str()),
         Err(_) => false,
     }
@@ -156,13 +155,13 @@ fn help_lists_every_refusal(rt: HostRuntime) -> Result<(), Fail> {
     };
     let help = help.as_str();
     for code in &CODES {
-        assert!(rt; has_line(rt.alloc(), help, code.number(), code.name(), code));
+        assert!(rt; has_line(rt.alloc(), help, code.number(), code.name()));
     }
     for refusal in &REFUSALS {
-        assert!(rt; has_line(rt.alloc(), help, refusal.number(), refusal.name(), refusal));
+        assert!(rt; has_line(rt.alloc(), help, refusal.number(), refusal.name()));
     }
     for fault in &FAULTS {
-        assert!(rt; has_line(rt.alloc(), help, fault.number(), fault.name(), fault));
+        assert!(rt; has_line(rt.alloc(), help, fault.number(), fault.name()));
     }
     Ok(())
 }

@@ -14,7 +14,7 @@ struct Listed {
 impl Model for Listed {
     ghost use Rattle.std.specs.Prelude.{ℕ, ℤ, List};
     ghost use Rattle.std.specs.Map.{keys_of};
-    ghost use Rattle.pair_index.specs.Indexed.{Indexes};
+    ghost use Rattle.pair_index.specs.State.Indexed.{Indexes};
 
     ghost Value = { List ((ℤ × ℤ) × ℕ) };
 

@@ -33,13 +33,12 @@ impl<'a> Texts<'a> {
 impl<'a> Files for Texts<'a> {
     type Text = Pieces<'static>;
 
-    ghost behind = { λ _ _. None };
-
-    ghost fault = { λ s _. s.fault };
-
-    ghost Asks = { λ _ _ _. Unit {0} };
-
-    ghost Hands = { λ _ _ _. Unit {0} };
+    ghost files = { record {
+      behind = λ _ _. None;
+      fault = λ s _. s.fault;
+      Asks = λ _ _ _. Unit {0};
+      Hands = λ _ _ _. Unit {0};
+    } };
 
     fn take(&mut self, name: &str) -> Result<Pieces<'static>, FilesFault> {
         self.fault = None;

@@ -31,11 +31,7 @@ impl<'a> Pieces<'a> {
 }
 
 impl<'a> Source for Pieces<'a> {
-    ghost gives = { λ _. None };
-
-    ghost has_failed = { λ s. s.failed };
-
-    ghost Pulls = { λ _ _. Unit {0} };
+    ghost source = { record { gives = λ _. None; has_failed = λ s. s.failed; Pulls = λ _ _. Unit {0} } };
 
     fn pull(&mut self, into: &mut [u8]) -> Result<usize, SourceFault> {
         if self.failed || self.pulls == 0 {
@@ -66,11 +62,11 @@ impl OneByte {
 }
 
 impl Sink for OneByte {
-    ghost taken = { λ s. Some s.bytes.bytes };
-
-    ghost has_failed = { λ s. s.bytes.failed };
-
-    ghost is_flushed = { λ _. true };
+    ghost sink = { record {
+      taken = λ s. Some s.bytes.bytes;
+      has_failed = λ s. s.bytes.failed;
+      is_flushed = λ _. true;
+    } };
 
     fn put(&mut self, piece: &[u8]) -> Result<usize, SinkFault> {
         let n = piece.len().min(1);
@@ -99,11 +95,11 @@ impl NoFlush {
 }
 
 impl Sink for NoFlush {
-    ghost taken = { λ s. Some s.bytes.bytes };
-
-    ghost has_failed = { λ s. s.flushed || s.bytes.failed };
-
-    ghost is_flushed = { λ _. false };
+    ghost sink = { record {
+      taken = λ s. Some s.bytes.bytes;
+      has_failed = λ s. s.flushed || s.bytes.failed;
+      is_flushed = λ _. false;
+    } };
 
     fn put(&mut self, piece: &[u8]) -> Result<usize, SinkFault> {
         self.bytes.put(piece)

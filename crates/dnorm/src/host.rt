@@ -48,13 +48,12 @@ impl<I: Read, F: Read> Read for HostText<I, F> {
 impl<'a, R: fs::Files + Input> Files for HostFiles<'a, R> {
     type Text = FromRead<Retried<HostText<R::Reader, R::File>>>;
 
-    ghost behind = { λ _ _. None };
-
-    ghost fault = { λ s _. s.fault };
-
-    ghost Asks = { λ old _ new. new.host ≡ old.host };
-
-    ghost Hands = { λ _ _ _. Unit {0} };
+    ghost files = { record {
+      behind = λ _ _. None;
+      fault = λ s _. s.fault;
+      Asks = λ old _ new. new.host ≡ old.host;
+      Hands = λ _ _ _. Unit {0};
+    } };
 
     fn take(&mut self, name: &str) -> Result<Self::Text, FilesFault> {
         self.fault = None;

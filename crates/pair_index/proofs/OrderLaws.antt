@@ -6,9 +6,9 @@ use Rattle.std.specs.declared.cmp.Ordering.TheVariants.{Less, Equal, Greater}
 use Rattle.std.proofs.lemmas.Bool.{cases_order}
 use Rattle.std.proofs.lemmas.Cmp.{tied_itself}
 use Rattle.std.proofs.lemmas.Map.Keys.{Less-from_sorted}
-use Rattle.pair_index.specs.Pairs.{pair_cmp}
-use Rattle.pair_index.specs.Places.{key_at}
-use Rattle.pair_index.proofs.IndexLaws.{pair_total}
+use Rattle.dn_arc.specs.Pairs.{pair_cmp}
+use Rattle.pair_index.specs.State.Places.{key_at}
+use Rattle.dn_arc.proofs.PairLaws.{pair_total}
 
 module _ (keys : List (ℤ × ℤ)) (up : IsStrictlySortedBy pair_cmp keys) where
   pub up_at : (i j : ℕ) → i < j → j < length keys → pair_cmp (key_at keys i) (key_at keys j) ≡ Less

@@ -8,10 +8,11 @@ use Rattle.std.proofs.lemmas.Int.{ints, by_lt_z}
 use Rattle.std.proofs.lemmas.List.{length_push, length-set, get_or_append_left, get_or_at, get_or-set_same, get_or-set_other, get_or-take, length-take-le, take-map}
 use Rattle.std.proofs.lemmas.Map.Keys.{apart_from_distinct, any_passes_from_place}
 use Rattle.std.proofs.lemmas.Option.{slice_get-get_or}
-use Rattle.pair_index.specs.Pairs.{same_pair}
-use Rattle.pair_index.specs.Places.{key_at}
-use Rattle.pair_index.specs.Tailed.{IsAfter, LeadsTo, Links, Sought}
-use Rattle.pair_index.proofs.PairLaws.{none_from_places, pair_self}
+use Rattle.dn_arc.specs.Pairs.{same_pair}
+use Rattle.pair_index.specs.State.Places.{key_at}
+use Rattle.pair_index.specs.State.Tailed.{IsAfter, LeadsTo, Links, Sought}
+use Rattle.dn_arc.proofs.PairLaws.{pair_self}
+use Rattle.pair_index.proofs.PlaceLaws.{none_from_places}
 use Rattle.pair_index.proofs.ChainLaws.{key_of_place, key_kept, key_new}
 use Rattle.pair_index.proofs.TailLaws.{least_from, greatest_before, pair_from}
 

@@ -6,10 +6,10 @@ use Rattle.std.proofs.lemmas.Int.{ints, by_lt_z}
 use Rattle.std.proofs.lemmas.Bool.{cases_lt}
 use Rattle.std.proofs.lemmas.List.{length-append, length-replicate, get_or_append_left, get_or-append_right, get_or-replicate}
 use Rattle.std.proofs.lemmas.List.Sums.{sum_by-cons, sum_by-le-sum_by}
-use Rattle.pair_index.specs.Pairs.{same_pair}
-use Rattle.pair_index.specs.Places.{key_at}
-use Rattle.pair_index.specs.Tailed.{IsAfter, LeadsTo, Links, Sought}
-use Rattle.pair_index.proofs.PairLaws.{none_from_places}
+use Rattle.dn_arc.specs.Pairs.{same_pair}
+use Rattle.pair_index.specs.State.Places.{key_at}
+use Rattle.pair_index.specs.State.Tailed.{IsAfter, LeadsTo, Links, Sought}
+use Rattle.pair_index.proofs.PlaceLaws.{none_from_places}
 
 -- of what fewer tests pass, fewer are counted
 test_le : (a b : Bool) → (a ≡ true → b ≡ true) → cond a 1 0 ≤ cond b 1 0

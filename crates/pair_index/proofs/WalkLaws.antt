@@ -6,10 +6,10 @@ use Rattle.std.specs.declared.cmp.Ordering.TheVariants.{Less, Equal, Greater}
 use Rattle.std.proofs.lemmas.Cmp.{int_ranked}
 use Rattle.std.proofs.lemmas.Bool.{cases_lt, cases_eq}
 use Rattle.std.proofs.lemmas.Int.{ints, by_lt_z}
-use Rattle.pair_index.specs.Pairs.{pair_cmp}
-use Rattle.pair_index.specs.Places.{key_at, IsLeast}
-use Rattle.pair_index.specs.Tailed.{IsAfter, Links, IsBare, IsFirstFrom}
-use Rattle.pair_index.proofs.PairLaws.{int_self}
+use Rattle.dn_arc.specs.Pairs.{pair_cmp}
+use Rattle.pair_index.specs.State.Places.{key_at, IsLeast}
+use Rattle.pair_index.specs.State.Tailed.{IsAfter, Links, IsBare, IsFirstFrom}
+use Rattle.dn_arc.proofs.PairLaws.{int_self}
 use Rattle.pair_index.proofs.TailLaws.{pair_from}
 
 int_less : (a b : ℤ) → a <ℤ b → int_cmp a b ≡ Less

@@ -3,11 +3,11 @@ ghost use Rattle.std.specs.Prelude.{◌≡◌, [], ◌∷◌, ◌++◌, ℤ, OnO
 ghost use Rattle.std.specs.List.{list_any, IsDistinct};
 ghost use Rattle.std.specs.List.Sorted.{IsStrictlySortedBy};
 ghost use Rattle.std.specs.Map.{keys_of, lookup};
-ghost use Rattle.pair_index.specs.Indexed.{Indexes};
-ghost use Rattle.pair_index.specs.Ordered.{Orders};
-ghost use Rattle.pair_index.specs.Pairs.{pair_cmp, same_pair};
-ghost use Rattle.pair_index.specs.Places.{IsPlace};
-ghost use Rattle.pair_index.specs.Shown.{HasPlaces};
+ghost use Rattle.pair_index.specs.State.Indexed.{Indexes};
+ghost use Rattle.pair_index.specs.State.Ordered.{Orders};
+ghost use Rattle.dn_arc.specs.Pairs.{pair_cmp, same_pair};
+ghost use Rattle.pair_index.specs.State.Places.{IsPlace};
+ghost use Rattle.pair_index.specs.State.Shown.{HasPlaces};
 
 use crate::bucket::Spread;
 use crate::chains::Chains;
@@ -77,7 +77,7 @@ impl PairIndex {
     }
 
     /// Where the entry of a pair stands, if there is one. Takes no memory.
-    #[tactic(auto, unfolding(crate::specs::Shown::ShowsIndex))]
+    #[tactic(auto, unfolding(crate::specs::State::Shown::ShowsIndex))]
     pub fn find<X>(&self, entries: &[((i64, i64), X)], pair: &(i64, i64)) -> Option<usize>
         requires { Indexes self.now (keys_of entries.now) }
         ensures { IsPlace (keys_of entries.now) pair.now result }
@@ -103,7 +103,7 @@ impl PairIndex {
 
     /// Where each of these pairs may stand, if looking them up together spares time: places to look at first. They are
     /// hints, so it has no contract: the caller sees whether the entry there is the pair's. Takes no memory.
-    #[tactic(auto, unfolding(crate::specs::Shown::ShowsIndex))]
+    #[tactic(auto, unfolding(crate::specs::State::Shown::ShowsIndex))]
     pub fn likely_places<X>(
         &self,
         entries: &[((i64, i64), X)],
@@ -121,7 +121,7 @@ impl PairIndex {
     }
 
     /// How the entries stand by rising pair. They are put in order where they have none that serves. Takes no memory.
-    #[tactic(auto, unfolding(crate::specs::Shown::ShowsIndex))]
+    #[tactic(auto, unfolding(crate::specs::State::Shown::ShowsIndex))]
     pub fn order<X>(self, entries: &mut [((i64, i64), X)]) -> PairOrder
         requires { Indexes self (keys_of entries.old) }
         ensures ordered { Orders result (keys_of entries.new) }
@@ -140,7 +140,7 @@ impl PairIndex {
 
     // Takes up a pair by chains so spread, or by a later way. On want of memory nothing has changed. Which way it
     // takes decides only the speed.
-    #[tactic(auto, unfolding(crate::specs::Shown::ShowsIndex))]
+    #[tactic(auto, unfolding(crate::specs::State::Shown::ShowsIndex))]
     fn rebuild<X>(
         &mut self,
         alloc: Global,
@@ -176,7 +176,7 @@ impl PairIndex {
 
     /// Takes up a pair that has no entry, and whose entry comes next. On want of memory, the one error, the index
     /// still tells of the entries without it.
-    #[tactic(auto, unfolding(crate::specs::Shown::ShowsIndex))]
+    #[tactic(auto, unfolding(crate::specs::State::Shown::ShowsIndex))]
     pub fn note<X>(
         &mut self,
         alloc: Global,

@@ -4,9 +4,9 @@ ghost use Rattle.std.specs.List.{IsDistinct};
 ghost use Rattle.std.specs.List.Sorted.{IsStrictlySortedBy};
 ghost use Rattle.std.specs.Map.{keys_of};
 ghost use Rattle.std.specs.declared.cmp.Ordering.TheVariants.{Less};
-ghost use Rattle.pair_index.specs.Ordered.{Orders};
-ghost use Rattle.pair_index.specs.Pairs.{pair_cmp, same_pair};
-ghost use Rattle.pair_index.specs.Places.{key_at, IsLeast, IsPlace};
+ghost use Rattle.pair_index.specs.State.Ordered.{Orders};
+ghost use Rattle.dn_arc.specs.Pairs.{pair_cmp, same_pair};
+ghost use Rattle.pair_index.specs.State.Places.{key_at, IsLeast, IsPlace};
 
 use crate::rising::place_by_search;
 use crate::tails::Tails;

@@ -3,9 +3,9 @@ ghost use Rattle.std.specs.Prelude.{◌≡◌, ◌<◌, ◌≤◌, ℕ, ℤ, fal
 ghost use Rattle.std.specs.List.{list_any, IsDistinct};
 ghost use Rattle.std.specs.Map.{keys_of};
 ghost use Rattle.std.specs.declared.cmp.Ordering.TheVariants.{Less};
-ghost use Rattle.pair_index.specs.Tailed.{HasRoomFor, IsBare, IsFirstFrom, IsTailed, LeadsTo, IsSpot};
-ghost use Rattle.pair_index.specs.Places.{key_at, IsLeast, IsPlace};
-ghost use Rattle.pair_index.specs.Pairs.{pair_cmp, same_pair};
+ghost use Rattle.pair_index.specs.State.Tailed.{HasRoomFor, IsBare, IsFirstFrom, IsTailed, LeadsTo, IsSpot};
+ghost use Rattle.pair_index.specs.State.Places.{key_at, IsLeast, IsPlace};
+ghost use Rattle.dn_arc.specs.Pairs.{pair_cmp, same_pair};
 
 use crate::index::AHEAD;
 use crate::pair::{is_head_upto, is_pair};
@@ -59,6 +59,7 @@ fn are_near<X>(entries: &[((i64, i64), X)]) -> bool {
     let mut far = 0usize;
     for i in 1..entries.len() {
         if near < entries[i].0.0.abs_diff(entries[i - 1].0.0) {
+            // There are fewer than entries, so nothing saturates.
             far = far.saturating_add(1);
         }
     }
@@ -72,6 +73,7 @@ pub(crate) fn are_near_pairs(pairs: &[(i64, i64); AHEAD], entries: usize) -> boo
     let mut far = 0usize;
     for i in 1..AHEAD {
         if near < pairs[i].0.abs_diff(pairs[i - 1].0) {
+            // There are fewer than pairs, so nothing saturates.
             far = far.saturating_add(1);
         }
     }
@@ -139,6 +141,7 @@ impl Tails {
             return Ok(None);
         }
         let mut tails = Tails::none(alloc);
+        // A slice has fewer entries than a `usize` counts, so nothing saturates.
         tails.next.reserve(entries.len().saturating_add(1))?;
         if tails.take_all(entries, pair)? {
             Ok(Some(tails))
@@ -223,6 +226,7 @@ impl Tails {
         }
         self.next.reserve(1)?;
         if self.heads.len() <= tail {
+            // A product that saturates is above every tail.
             if self.next.capacity().saturating_mul(DENSE) <= tail {
                 return Ok(false);
             }
@@ -240,6 +244,7 @@ impl Tails {
     ) -> [u32; AHEAD] {
         let mut places = [0; AHEAD];
         for i in 0..AHEAD {
+            // 0 stands for no entry; then the first is looked at, which decides only the speed.
             places[i] = self.first_of(&pairs[i]).saturating_sub(1);
         }
         for _ in 0..LONG {

@@ -2,13 +2,13 @@
 ghost use Rattle.std.specs.Prelude.{◌≡◌, ℕ, ◌+◌, ◌+ℤ◌, length, slice_get, Some, find, cond, int_lt, FitsSigned};
 ghost use Rattle.std.specs.Option.{option_map, ForSome};
 ghost use Rattle.std.specs.Int.{w64};
-ghost use Rattle.dn_bundle.specs.Steps.{has_step};
-ghost use Rattle.dn_bundle.specs.Tellings.{curve_arcs};
-ghost use Rattle.dn_bundle.specs.CurveTold.{fixed_arc, fixed_arcs, step_arc, joined_head};
-ghost use Rattle.dn_bundle.specs.declared.arc.Form.{Form};
+ghost use Rattle.dn_arc.specs.State.Steps.{has_step};
+ghost use Rattle.dn_bundle.specs.State.Tellings.{curve_arcs};
+ghost use Rattle.dn_arc.specs.State.CurveTold.{fixed_arc, fixed_arcs, step_arc, joined_head};
+ghost use Rattle.dn_arc.specs.declared.arc.Form.{Form};
 
-use crate::arc::{CostArc, Form};
-use crate::curve::{Curve, Fixed};
+use crate::curve::Curve;
+use dn_arc::{CostArc, Fixed, Form};
 
 fn fixed_at(units: i64, cost: i64) -> CostArc
     ensures { result ≡ fixed_arc units cost }

@@ -1,6 +1,6 @@
 // The numbers of a curve, read from how it keeps them.
 ghost use Rattle.std.specs.Prelude.{◌≡◌, ◌≤◌, ◌^◌, length, slice_get};
-ghost use Rattle.dn_bundle.specs.Steps.{step_past, has_step};
+ghost use Rattle.dn_arc.specs.State.Steps.{step_past, has_step};
 
 use crate::curve::Curve;
 use crate::curve::shape::{Shape, plain_step};

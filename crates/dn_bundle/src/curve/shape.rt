@@ -1,11 +1,11 @@
 // How a curve keeps its numbers, and how they take an arc.
 ghost use Rattle.std.specs.Prelude.{◌≡◌, ◌+ℤ◌, OnOk, OnErr, IfOk};
-ghost use Rattle.dn_bundle.specs.Canonical.{IsCostArc};
-ghost use Rattle.dn_bundle.specs.Shapes.{plain_step, numbers_of, AreSound, IsGrown};
+ghost use Rattle.dn_arc.specs.Canonical.{IsCostArc};
+ghost use Rattle.dn_bundle.specs.State.Shapes.{plain_step, numbers_of, AreSound, IsGrown};
 
-use crate::arc::CostArc;
 use crate::cost128::more_cost;
 use crate::steps::Steps;
+use dn_arc::CostArc;
 use std::alloc::{AllocError, Global};
 
 /// The numbers of a curve.

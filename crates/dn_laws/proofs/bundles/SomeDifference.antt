@@ -2,24 +2,24 @@
 use Rattle.std.proofs.Common.{◌≡◌, ◌≢◌, ◌⊎◌, inl, inr, ℕ, suc, zero, ℤ, pos, negsuc, ◌+ℤ◌, ◌≤ℤ◌, ◌<ℤ◌, ◌↔◌, List, [], ◌∷◌, Option, Some, None, refl, sym, ap, subst, arith}
 use Rattle.std.specs.List.{AllByRecursion}
 use Rattle.std.proofs.lemmas.Int.{ints, by_lt_z}
-use Rattle.dn_bundle.specs.declared.arc.LengthArc.{LengthArc}
-use Rattle.dn_bundle.specs.declared.arc.CapArc.{CapArc}
-use Rattle.dn_bundle.specs.declared.arc.CostArc.{CostArc}
-use Rattle.dn_bundle.specs.declared.difference.Gap.{Gap}
-use Rattle.dn_bundle.specs.declared.difference.How.{How}
-use Rattle.dn_bundle.specs.declared.difference.How.TheVariants.{Lengths, Totals, Costs}
-use Rattle.dn_bundle.specs.Capacities.{total_cap}
-use Rattle.dn_bundle.specs.Lengths.{LeastLength}
-use Rattle.dn_bundle.specs.Splits.{LeastCost, cost_cap}
-use Rattle.dn_bundle.specs.Meanings.{SameLength, SameTotal, SameCurve}
-use Rattle.dn_bundle.specs.Canonical.{IsCostArc}
-use Rattle.dn_bundle.specs.Differences.{IsLengthOf, IsCostOf, IsGap, LengthsDiffer, TotalsDiffer, CurvesDiffer}
-use Rattle.dn_bundle.specs.Laws.Shares.{AtMost}
-use Rattle.dn_bundle.specs.Laws.Splits as Splits
-use Rattle.dn_bundle.specs.Laws.Lengths as Least
-use Rattle.dn_bundle.specs.Laws.Curves.{at_most_cap}
-use Rattle.dn_bundle.specs.Laws.CostKind.{cost_kind}
-use Rattle.dn_bundle.specs.Laws.Differences.{least_cost_unique}
+use Rattle.dn_arc.specs.declared.arc.LengthArc.{LengthArc}
+use Rattle.dn_arc.specs.declared.arc.CapArc.{CapArc}
+use Rattle.dn_arc.specs.declared.arc.CostArc.{CostArc}
+use Rattle.dn_arc.specs.declared.difference.Gap.{Gap}
+use Rattle.dn_arc.specs.declared.difference.How.{How}
+use Rattle.dn_arc.specs.declared.difference.How.TheVariants.{Lengths, Totals, Costs}
+use Rattle.dn_arc.specs.Capacities.{total_cap}
+use Rattle.dn_arc.specs.Lengths.{LeastLength}
+use Rattle.dn_arc.specs.Splits.{LeastCost, cost_cap}
+use Rattle.dn_arc.specs.Meanings.{SameLength, SameTotal, SameCurve}
+use Rattle.dn_arc.specs.Canonical.{IsCostArc}
+use Rattle.dn_arc.specs.Differences.{IsLengthOf, IsCostOf, IsGap, LengthsDiffer, TotalsDiffer, CurvesDiffer}
+use Rattle.dn_arc.proofs.SharesLaws.{AtMost}
+use Rattle.dn_arc.proofs.SplitsLaws as Splits
+use Rattle.dn_arc.proofs.LengthsLaws as Least
+use Rattle.dn_arc.proofs.CurvesLaws.{at_most_cap}
+use Rattle.dn_arc.proofs.CostKindLaws.{cost_kind}
+use Rattle.dn_arc.proofs.DifferencesLaws.{least_cost_unique}
 
 -- whether two numbers are the same
 pub same_or_not : (a b : ℤ) → (a ≡ b) ⊎ (a ≢ b)

@@ -11,37 +11,35 @@ use Rattle.std.proofs.lemmas.Cmp.{int_cmp_total}
 use Rattle.std.proofs.lemmas.Int.{ints}
 use Rattle.std.proofs.lemmas.Map.Lookups.{CmpEqualImpliesEq, exact_signed}
 use Rattle.dn_line.specs.declared.kind.Kind.TheVariants as Kinds
-use Rattle.dn_bundle.specs.Bundles.{IsKind}
-use Rattle.dn_bundle.specs.Kinds.{ArcKind}
-use Rattle.dn_bundle.specs.Kinds as Arcs
-use Rattle.dn_bundle.specs.CurveTold.{IsSound}
-use Rattle.dn_bundle.specs.Differences.{IsGap}
-use Rattle.dn_bundle.specs.Lengths.{LeastLength}
-use Rattle.dn_bundle.specs.Meanings.{SameLength, SameCurve}
-use Rattle.dn_bundle.specs.declared.arc.LengthArc.{LengthArc}
-use Rattle.dn_bundle.specs.declared.arc.CapArc.{CapArc}
-use Rattle.dn_bundle.specs.declared.arc.CostArc.{CostArc}
-use Rattle.dn_bundle.specs.declared.difference.Gap.{Gap}
-use Rattle.dn_bundle.specs.declared.difference.How.{How}
-use Rattle.dn_bundle.specs.declared.difference.How.TheVariants as Hows
-use Rattle.dn_bundle.specs.Laws.CostKind.{cost_kind}
-use Rattle.dn_bundle.specs.Laws.TotalKind.{total_kind}
-use Rattle.dn_bundle.specs.Laws.LengthKind.{length_kind}
-use Rattle.dn_bundle.specs.Laws.Lengths.{length_meaning, lone}
-use Rattle.dn_bundle.specs.Laws.Curves.{curve_meaning}
-use Rattle.dn_bundle.specs.Laws.FillMeanings.{same_by_parts}
-use Rattle.dn_bundle.specs.Gaps.{first_gap}
+use Rattle.dn_arc.specs.State.Bundles.{IsKind}
+use Rattle.dn_arc.specs.Kinds.{ArcKind}
+use Rattle.dn_arc.specs.Kinds as Arcs
+use Rattle.dn_arc.specs.State.CurveTold.{IsSound}
+use Rattle.dn_arc.specs.Differences.{IsGap}
+use Rattle.dn_arc.specs.Lengths.{LeastLength}
+use Rattle.dn_arc.specs.Meanings.{SameLength, SameCurve}
+use Rattle.dn_arc.specs.declared.arc.LengthArc.{LengthArc}
+use Rattle.dn_arc.specs.declared.arc.CapArc.{CapArc}
+use Rattle.dn_arc.specs.declared.arc.CostArc.{CostArc}
+use Rattle.dn_arc.specs.declared.difference.Gap.{Gap}
+use Rattle.dn_arc.specs.declared.difference.How.{How}
+use Rattle.dn_arc.specs.declared.difference.How.TheVariants as Hows
+use Rattle.dn_arc.proofs.CostKindLaws.{cost_kind}
+use Rattle.dn_arc.proofs.TotalKindLaws.{total_kind}
+use Rattle.dn_arc.proofs.LengthKindLaws.{length_kind}
+use Rattle.dn_arc.proofs.LengthsLaws.{length_meaning, lone}
+use Rattle.dn_arc.proofs.CurvesLaws.{curve_meaning}
+use Rattle.dn_arc.proofs.FillMeaningsLaws.{same_by_parts}
+use Rattle.dn_bundle.specs.State.Gaps.{first_gap}
 use Rattle.dn_bundle.proofs.PartLaws.{Parts, right_gap, cost_gap, step_gap}
 use Rattle.dn_laws.proofs.bundles.SomeDifference.{same_by_length}
 use Rattle.dn_instance.specs.Instances.{Graph, ShortestPaths, Sources, Queries, Coordinates}
-use Rattle.pair_index.specs.Pairs.{pair_cmp, same_pair}
-use Rattle.dn_table.specs.Pairs.{bundle}
-use Rattle.pair_index.proofs.PairLaws.{pair_is}
-use Rattle.pair_index.proofs.IndexLaws.{pair_total}
+use Rattle.dn_arc.specs.Pairs.{bundle, pair_cmp, same_pair}
+use Rattle.dn_arc.proofs.PairLaws.{pair_is, pair_total}
 use Rattle.dn_compare.specs.Observed.{value_of}
 use Rattle.dn_compare.specs.FirstDifference.{IsFirstDifference}
-use Rattle.dn_compare.specs.Partings.{Comparison, by_flow, by_point, AlikeAt, PartAt, ArcsPartAt}
-use Rattle.dn_laws.specs.DifferenceExamples.{with_lengths, flow_from, supplied, with_costs, length_arc_at, cap_arc_at, cost_arc_at, worked_lengths, without_loop, worked_capacities, with_nothing, without_nothing}
+use Rattle.dn_compare.specs.State.Partings.{Comparison, by_flow, by_point, AlikeAt, PartAt, ArcsPartAt}
+use Rattle.dn_laws.specs.State.DifferenceExamples.{with_lengths, flow_from, supplied, with_costs, length_arc_at, cap_arc_at, cost_arc_at, worked_lengths, without_loop, worked_capacities, with_nothing, without_nothing}
 use Rattle.dn_compare.specs.declared.verdict.Verdict.TheVariants as Verdicts
 use Rattle.dn_compare.proofs.WalkLaws.{key_is}
 use Rattle.dn_compare.proofs.PairWalks.{exact_pair}

@@ -9,21 +9,20 @@ use Rattle.std.specs.declared.cmp.Ordering.{Ordering}
 use Rattle.std.specs.declared.cmp.Ordering.TheVariants.{Less, Equal, Greater}
 use Rattle.std.proofs.lemmas.Cmp.{int_cmp_total}
 use Rattle.std.proofs.lemmas.Map.Lookups.{CmpEqualImpliesEq, exact_signed}
-use Rattle.dn_bundle.specs.Bundles.{IsKind}
-use Rattle.dn_bundle.specs.Kinds.{ArcKind, costs, capacities, lengths}
-use Rattle.dn_bundle.specs.declared.difference.How.{How}
-use Rattle.dn_bundle.specs.Laws.CostKind.{cost_kind}
-use Rattle.dn_bundle.specs.Laws.TotalKind.{total_kind}
-use Rattle.dn_bundle.specs.Laws.LengthKind.{length_kind}
+use Rattle.dn_arc.specs.State.Bundles.{IsKind}
+use Rattle.dn_arc.specs.Kinds.{ArcKind, costs, capacities, lengths}
+use Rattle.dn_arc.specs.declared.difference.How.{How}
+use Rattle.dn_arc.proofs.CostKindLaws.{cost_kind}
+use Rattle.dn_arc.proofs.TotalKindLaws.{total_kind}
+use Rattle.dn_arc.proofs.LengthKindLaws.{length_kind}
 use Rattle.dn_laws.proofs.bundles.SomeDifference.{same_or_not, length_or_differ, total_or_differ, curve_or_differ}
 use Rattle.dn_instance.specs.Instances.{Graph, Instance, MinCostFlow, MaxFlow, ShortestPaths, Sources, Queries, Coordinates, kind_of, nodes_of}
-use Rattle.pair_index.specs.Pairs.{pair_cmp, same_pair}
-use Rattle.dn_table.specs.Pairs.{bundle}
+use Rattle.dn_arc.specs.Pairs.{bundle, pair_cmp, same_pair}
 use Rattle.dn_instance.specs.Validity.{IsPlaced, IsValid, IsValidGraph}
-use Rattle.pair_index.proofs.IndexLaws.{pair_total}
+use Rattle.dn_arc.proofs.PairLaws.{pair_total}
 use Rattle.dn_compare.specs.Observed.{value_of, flow_or_zero, item_at}
 use Rattle.dn_compare.specs.FirstDifference.{IsFirstDifference}
-use Rattle.dn_compare.specs.Partings.{IsPairVerdict, ItemsPartAt, IsListVerdict}
+use Rattle.dn_compare.specs.State.Partings.{IsPairVerdict, ItemsPartAt, IsListVerdict}
 use Rattle.dn_compare.specs.declared.verdict.Verdict.{Verdict}
 use Rattle.dn_compare.specs.declared.verdict.Verdict.TheVariants as Verdicts
 use Rattle.dn_compare.proofs.WalkLaws.{key_self, key_is}

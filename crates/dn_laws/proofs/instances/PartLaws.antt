@@ -2,14 +2,14 @@
 use Rattle.std.proofs.Common.{◌≡◌, ℤ, List, [], ◌∷◌, ◌++◌, length, map, Some, refl, sym, ap, ◌∙◌, subst}
 use Rattle.std.proofs.lemmas.List.{map-append}
 use Rattle.std.specs.List.{AllByRecursion, flat_map}
-use Rattle.dn_bundle.specs.Bundles.{IsKind}
-use Rattle.dn_bundle.specs.Kinds.{ArcKind, lengths, capacities, costs}
-use Rattle.dn_bundle.specs.Laws.CostKind.{cost_kind}
-use Rattle.dn_bundle.specs.Laws.LengthKind.{length_kind}
-use Rattle.dn_bundle.specs.Laws.Orders.{same_joined}
-use Rattle.dn_bundle.specs.Laws.TotalKind.{total_kind}
+use Rattle.dn_arc.specs.State.Bundles.{IsKind}
+use Rattle.dn_arc.specs.Kinds.{ArcKind, lengths, capacities, costs}
+use Rattle.dn_arc.proofs.CostKindLaws.{cost_kind}
+use Rattle.dn_arc.proofs.LengthKindLaws.{length_kind}
+use Rattle.dn_arc.proofs.OrdersLaws.{same_joined}
+use Rattle.dn_arc.proofs.TotalKindLaws.{total_kind}
 use Rattle.dn_instance.specs.Instances.{Graph, Instance, MinCostFlow, MaxFlow, ShortestPaths, size_of}
-use Rattle.dn_instance.specs.Parts.{arc_lines, graph_lines, SameHead, AreParts, AreSame}
+use Rattle.dn_instance.specs.State.Parts.{arc_lines, graph_lines, SameHead, AreParts, AreSame}
 use Rattle.dn_instance.specs.Sameness.{SameGraph, IsSame}
 use Rattle.dn_instance.specs.Validity.{AreSupplies, AreTerminals, IsValid, IsValidGraph}
 use Rattle.dn_instance.proofs.SameLaws.{SameAt, placed_meaning}

@@ -5,19 +5,18 @@ use Rattle.std.specs.Fmt.{digits, signed_decimal}
 use Rattle.std.specs.List.{AllByRecursion}
 use Rattle.std.specs.List.Sorted.{IsStrictlySortedBy}
 use Rattle.std.specs.Map.{keys_of, lookup}
-use Rattle.dn_bundle.specs.Bundles.{IsKind}
-use Rattle.dn_bundle.specs.Kinds.{ArcKind, lengths, capacities, costs}
-use Rattle.dn_bundle.specs.Laws.CostKind.{cost_kind}
-use Rattle.dn_bundle.specs.Laws.LengthKind.{length_kind}
-use Rattle.dn_bundle.specs.Laws.TotalKind.{total_kind}
-use Rattle.dn_bundle.specs.declared.arc.LengthArc.{LengthArc}
-use Rattle.dn_bundle.specs.declared.arc.CapArc.{CapArc}
-use Rattle.dn_bundle.specs.declared.arc.CostArc.{CostArc}
-use Rattle.pair_index.specs.Pairs.{pair_cmp, same_pair}
-use Rattle.pair_index.proofs.PairLaws.{pair_is}
-use Rattle.dn_table.specs.Pairs.{bundle}
-use Rattle.dn_laws.specs.DifferenceExamples.{cost_arc_at, flow_from, length_arc_at, with_costs, with_lengths, worked_capacities}
-use Rattle.dn_row.specs.Rows.{Row}
+use Rattle.dn_arc.specs.State.Bundles.{IsKind}
+use Rattle.dn_arc.specs.Kinds.{ArcKind, lengths, capacities, costs}
+use Rattle.dn_arc.proofs.CostKindLaws.{cost_kind}
+use Rattle.dn_arc.proofs.LengthKindLaws.{length_kind}
+use Rattle.dn_arc.proofs.TotalKindLaws.{total_kind}
+use Rattle.dn_arc.specs.declared.arc.LengthArc.{LengthArc}
+use Rattle.dn_arc.specs.declared.arc.CapArc.{CapArc}
+use Rattle.dn_arc.specs.declared.arc.CostArc.{CostArc}
+use Rattle.dn_arc.specs.Pairs.{bundle, pair_cmp, same_pair}
+use Rattle.dn_arc.proofs.PairLaws.{pair_is}
+use Rattle.dn_laws.specs.State.DifferenceExamples.{cost_arc_at, flow_from, length_arc_at, with_costs, with_lengths, worked_capacities}
+use Rattle.dn_sink.specs.Rows.{Row}
 use Rattle.dn_report.specs.Shows.{AreLengthWords, total_words, cost_words, pair_row, ArePairRows, IsShown}
 
 -- none of the keys is p

@@ -2,18 +2,18 @@
 use Rattle.std.proofs.Common.{◌≡◌, ◌≢◌, ◌↔◌, ℕ, ◌+◌, ◌-◌, ◌^◌, ℤ, pos, ◌≤ℤ◌, List, [], ◌∷◌, length, length-append, map, refl, sym, ap, ◌∙◌, subst}
 use Rattle.std.proofs.lemmas.List.Sums.{sum_by-cons}
 use Rattle.std.specs.List.{AllByRecursion, sum_by}
-use Rattle.dn_bundle.specs.declared.arc.Form.{Form}
-use Rattle.dn_bundle.specs.Kinds.{ArcKind, lengths, capacities, costs}
-use Rattle.dn_table.specs.Pairs.{bundle}
+use Rattle.dn_arc.specs.declared.arc.Form.{Form}
+use Rattle.dn_arc.specs.Kinds.{ArcKind, lengths, capacities, costs}
+use Rattle.dn_arc.specs.Pairs.{bundle}
 use Rattle.dn_instance.specs.Instances.{Graph, Instance, MinCostFlow, MaxFlow, ShortestPaths, Sources, Queries, Coordinates, size_of}
-use Rattle.dn_instance.specs.Parts.{SameHead, AreParts, AreSame}
+use Rattle.dn_instance.specs.State.Parts.{SameHead, AreParts, AreSame}
 use Rattle.dn_instance.specs.Sameness.{SameGraph, IsSame}
 use Rattle.dn_instance.specs.Validity.{Fits, IsPlaced, IsValid, IsValidGraph}
 use Rattle.dn_laws.proofs.instances.PartLaws.{IsMaking, min_making, max_making, sp_making, all_arcs, graphs_of, arcs_are, all_lines, head_then, own_head, parts_same}
 use Rattle.dn_instance.proofs.SameLaws.{sym_of}
 use Rattle.dn_canon.specs.CanonInstances.{IsCanonGraph, IsCanonInstance}
 use Rattle.dn_canon.specs.CanonTexts.{IsCanonOf}
-use Rattle.dn_canon.specs.PartCanons.{AreCanonsOf, HasCanonParts}
+use Rattle.dn_canon.specs.State.PartCanons.{AreCanonsOf, HasCanonParts}
 use Rattle.dn_canon.proofs.OrderLaws.{all_at_pair}
 use Rattle.dn_canon.proofs.PartLaws.{all_append}
 use Rattle.dn_canon.proofs.TextLaws.{texts_agree}

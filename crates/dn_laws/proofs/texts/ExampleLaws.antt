@@ -2,23 +2,22 @@
 use Rattle.std.proofs.Common.{◌≡◌, ℤ, pos, ◌≤ℤ◌, ◌-◌, ◌^◌, List, [], Bool, true, false, cond, refl, sym, ap, ◌∙◌, subst, arith, append-nil}
 use Rattle.std.proofs.lemmas.Int.{ints}
 use Rattle.std.specs.List.{AllByRecursion}
-use Rattle.dn_bundle.specs.declared.arc.CostArc.{CostArc}
-use Rattle.dn_bundle.specs.declared.arc.Form.{Form}
-use Rattle.dn_bundle.specs.Canonical.{IsCostArc, AreCanonCosts}
-use Rattle.dn_bundle.specs.Meanings.{SameCurve}
-use Rattle.dn_bundle.specs.Kinds.{costs}
-use Rattle.dn_bundle.specs.Splits.{cost_cap}
-use Rattle.dn_laws.specs.BundleExamples.{arc, worked_one, worked_two}
-use Rattle.dn_bundle.specs.Laws.CostKind.{cost_kind}
-use Rattle.dn_bundle.specs.Laws.Curves.{curve_meaning}
-use Rattle.pair_index.specs.Pairs.{same_pair}
-use Rattle.dn_table.specs.Pairs.{bundle}
+use Rattle.dn_arc.specs.declared.arc.CostArc.{CostArc}
+use Rattle.dn_arc.specs.declared.arc.Form.{Form}
+use Rattle.dn_arc.specs.Canonical.{IsCostArc, AreCanonCosts}
+use Rattle.dn_arc.specs.Meanings.{SameCurve}
+use Rattle.dn_arc.specs.Kinds.{costs}
+use Rattle.dn_arc.specs.Splits.{cost_cap}
+use Rattle.dn_laws.specs.State.BundleExamples.{arc, worked_one, worked_two}
+use Rattle.dn_arc.proofs.CostKindLaws.{cost_kind}
+use Rattle.dn_arc.proofs.CurvesLaws.{curve_meaning}
+use Rattle.dn_arc.specs.Pairs.{bundle, same_pair}
 use Rattle.dn_instance.specs.Validity.{Fits, IsPlaced, IsValid}
 use Rattle.dn_instance.specs.Sameness.{SameGraph}
 use Rattle.dn_instance.proofs.MapLaws.{no_keys}
 use Rattle.dn_canon.specs.CanonInstances.{AreInOrder, IsCanonInstance}
-use Rattle.dn_laws.specs.TextExamples.{on_one_pair}
-use Rattle.dn_canon.specs.ToldArcs.{placed}
+use Rattle.dn_laws.specs.State.TextExamples.{on_one_pair}
+use Rattle.dn_canon.specs.State.ToldArcs.{placed}
 use Rattle.dn_canon.proofs.ToldLaws.{bundle_placed, order_placed}
 
 -- the one pair

@@ -4,22 +4,21 @@ use Rattle.std.proofs.lemmas.Int.{ints}
 use Rattle.std.specs.List.{AllByRecursion, flat_map}
 use Rattle.std.specs.Ordering.{int_cmp, is_eq, is_le, ordering_then}
 use Rattle.std.specs.declared.cmp.Ordering.TheVariants.{Less, Equal, Greater}
-use Rattle.dn_bundle.specs.declared.arc.Form.{Form}
-use Rattle.dn_bundle.specs.Bundles.{IsKind}
-use Rattle.dn_bundle.specs.Kinds.{ArcKind}
-use Rattle.dn_bundle.specs.Laws.Orders.{same_joined}
-use Rattle.dn_bundle.specs.Laws.Parts.{test_yes}
-use Rattle.pair_index.specs.Pairs.{pair_cmp}
-use Rattle.dn_table.specs.Pairs.{pair_le, bundle}
+use Rattle.dn_arc.specs.declared.arc.Form.{Form}
+use Rattle.dn_arc.specs.State.Bundles.{IsKind}
+use Rattle.dn_arc.specs.Kinds.{ArcKind}
+use Rattle.dn_arc.proofs.OrdersLaws.{same_joined}
+use Rattle.dn_arc.proofs.PartsLaws.{test_yes}
+use Rattle.dn_arc.specs.Pairs.{bundle, pair_cmp, pair_le}
 use Rattle.dn_instance.specs.Instances.{Graph, Instance}
-use Rattle.dn_instance.specs.Parts.{AreParts, SameHead, arc_lines}
+use Rattle.dn_instance.specs.State.Parts.{AreParts, SameHead, arc_lines}
 use Rattle.dn_instance.specs.Sameness.{IsSame}
 use Rattle.dn_instance.specs.Validity.{Fits, IsValid}
 use Rattle.dn_instance.proofs.MapLaws.{all_mono}
 use Rattle.dn_laws.proofs.instances.PartLaws.{all_arcs, graphs_of, arcs_are, all_lines, own_head, head_then}
 use Rattle.dn_instance.proofs.SameLaws.{SameAt, placed_meaning, sym_of, trans_of}
 use Rattle.dn_canon.specs.CanonInstances.{AreInOrder, IsCanonInstanceOf}
-use Rattle.dn_canon.specs.PartCanons.{AreCanonsOf, AreBelow, AreRanges, HasCanonParts}
+use Rattle.dn_canon.specs.State.PartCanons.{AreCanonsOf, AreBelow, AreRanges, HasCanonParts}
 use Rattle.dn_canon.proofs.ArcItems.{bundle_append}
 use Rattle.dn_laws.proofs.texts.ChunkLaws.{IsCanonMaking, by_kind, canons_valid, placed_all, whole_of, whole_same}
 use Rattle.dn_canon.proofs.PartLaws.{all_append}

@@ -4,15 +4,15 @@ use Rattle.std.proofs.lemmas.List.{map-append}
 use Rattle.std.specs.List.{AllByRecursion, flat_map, sum_by}
 use Rattle.dn_line.specs.declared.kind.Kind.TheVariants as Kinds
 use Rattle.dn_line.specs.declared.word.Keyword.TheVariants.{S, T}
-use Rattle.dn_row.specs.Rows.{text_of}
-use Rattle.dn_bundle.specs.declared.arc.Form.{Form}
-use Rattle.dn_bundle.specs.Kinds.{ArcKind, lengths, capacities, costs}
+use Rattle.dn_sink.specs.Rows.{text_of}
+use Rattle.dn_arc.specs.declared.arc.Form.{Form}
+use Rattle.dn_arc.specs.Kinds.{ArcKind, lengths, capacities, costs}
 use Rattle.dn_instance.specs.Instances.{Instance, MinCostFlow, MaxFlow, ShortestPaths, size_of}
-use Rattle.dn_instance.specs.Parts.{AreParts, SameHead, arc_lines}
+use Rattle.dn_instance.specs.State.Parts.{AreParts, SameHead, arc_lines}
 use Rattle.dn_laws.proofs.instances.PartLaws.{own_head, head_then, head_turned}
 use Rattle.dn_instance.proofs.SameLaws.{refl_of}
 use Rattle.dn_canon.specs.CanonTexts.{IsCanonOf}
-use Rattle.dn_canon.specs.PartCanons.{AreRanges, HasCanonParts, line_row, arc_rows, head_rows, gathered_rows}
+use Rattle.dn_canon.specs.State.PartCanons.{AreRanges, HasCanonParts, line_row, arc_rows, head_rows, gathered_rows}
 use Rattle.dn_canon.specs.Prints.{rows, arc_row, graph_row, supply_row, terminal_row}
 use Rattle.dn_laws.proofs.texts.ChunkLaws.{whole_of, whole_size}
 use Rattle.dn_laws.proofs.texts.RangeLaws.{canon_made}

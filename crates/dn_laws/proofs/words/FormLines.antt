@@ -1,6 +1,6 @@
 -- What `clap` reads of `canon` with a form.
 use Rattle.std.proofs.Common.{◌≡◌, ℕ, [], ◌∷◌, true, codes, refl}
-use Rattle.dn_bundle.specs.declared.arc.Form.TheVariants.{One, Two}
+use Rattle.dn_arc.specs.declared.arc.Form.TheVariants.{One, Two}
 use Rattle.clap.specs.Words.{Text}
 use Rattle.clap.proofs.OnLiterals.{clap_on_literals}
 use Rattle.dn_command.specs.Commands.{Canon, is_name}

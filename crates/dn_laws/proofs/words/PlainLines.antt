@@ -1,7 +1,7 @@
 -- What `clap` reads of plain forms.
 use Rattle.std.proofs.Common.{◌≡◌, ℕ, List, [], ◌∷◌, None, true, codes, refl}
 use Rattle.std.specs.Borrow.{Bor}
-use Rattle.dn_bundle.specs.declared.arc.Form.TheVariants.{One}
+use Rattle.dn_arc.specs.declared.arc.Form.TheVariants.{One}
 use Rattle.clap.specs.Words.{Text}
 use Rattle.clap.proofs.OnLiterals.{clap_on_literals}
 use Rattle.dn_command.specs.Commands.{Canon, Check, Compare, Show, is_name}

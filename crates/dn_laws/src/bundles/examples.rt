@@ -1,9 +1,9 @@
 // Worked bundles, as theorems.
 ghost use Rattle.std.specs.Prelude.{ℤ, pos};
-ghost use Rattle.dn_bundle.specs.Splits.{LeastCost};
-ghost use Rattle.dn_bundle.specs.Meanings.{SameCurve};
-ghost use Rattle.dn_bundle.specs.Canonical.{AreCanonCosts};
-ghost use Rattle.dn_laws.specs.BundleExamples.{worked, worked_one, worked_two, canon_in_two_alone, apart};
+ghost use Rattle.dn_arc.specs.Splits.{LeastCost};
+ghost use Rattle.dn_arc.specs.Meanings.{SameCurve};
+ghost use Rattle.dn_arc.specs.Canonical.{AreCanonCosts};
+ghost use Rattle.dn_laws.specs.State.BundleExamples.{worked, worked_one, worked_two, canon_in_two_alone, apart};
 
 use dn_bundle::Form;
 

@@ -2,21 +2,23 @@
 ghost use Rattle.std.specs.Prelude.{◌≡◌, ◌⊎◌, ◌↔◌, ℤ, pos, List, [], ◌∷◌, ◌++◌, length};
 ghost use Rattle.std.specs.List.{AllByRecursion};
 ghost use Rattle.std.specs.List.Sorted.{IsPermutation};
-ghost use Rattle.dn_bundle.specs.Splits.{IsSplit, LeastCost};
-ghost use Rattle.dn_bundle.specs.Meanings.{IsMeaning, SameLength, SameTotal, SameCurve};
-ghost use Rattle.dn_bundle.specs.Canonical.{IsCostArc, AreCanonLengths, AreCanonCaps, AreCanonCosts};
-ghost use Rattle.dn_bundle.specs.Fillings.{IsFilling, forced_units, forced_cost};
-ghost use Rattle.dn_bundle.specs.Entries.{free_costs};
-ghost use Rattle.dn_bundle.specs.Differences.{LengthsDiffer, TotalsDiffer, CurvesDiffer};
-ghost use Rattle.dn_bundle.specs.Bundles.{IsDetermined};
-ghost use Rattle.dn_bundle.specs.Laws.LengthKind.{length_determined};
-ghost use Rattle.dn_bundle.specs.Laws.TotalKind.{total_determined};
-ghost use Rattle.dn_bundle.specs.Laws.CostKind.{cost_determined};
-ghost use Rattle.dn_bundle.specs.declared.arc.LengthArc.{LengthArc};
-ghost use Rattle.dn_bundle.specs.declared.arc.CapArc.{CapArc};
-ghost use Rattle.dn_bundle.specs.declared.arc.CostArc.{CostArc};
-ghost use Rattle.dn_bundle.specs.declared.arc.Form.{Form};
-ghost use Rattle.dn_bundle.specs.declared.difference.How.{How};
+ghost use Rattle.dn_arc.specs.Splits.{IsSplit, LeastCost};
+ghost use Rattle.dn_arc.specs.Meanings.{SameLength, SameTotal, SameCurve};
+ghost use Rattle.dn_arc.specs.State.Meanings.{IsMeaning};
+ghost use Rattle.dn_arc.specs.Canonical.{IsCostArc, AreCanonLengths, AreCanonCaps, AreCanonCosts};
+ghost use Rattle.dn_arc.specs.Fillings.{forced_units, forced_cost};
+ghost use Rattle.dn_arc.specs.State.Fillings.{IsFilling};
+ghost use Rattle.dn_arc.specs.Entries.{free_costs};
+ghost use Rattle.dn_arc.specs.Differences.{LengthsDiffer, TotalsDiffer, CurvesDiffer};
+ghost use Rattle.dn_arc.specs.State.Bundles.{IsDetermined};
+ghost use Rattle.dn_arc.proofs.LengthKindLaws.{length_determined};
+ghost use Rattle.dn_arc.proofs.TotalKindLaws.{total_determined};
+ghost use Rattle.dn_arc.proofs.CostKindLaws.{cost_determined};
+ghost use Rattle.dn_arc.specs.declared.arc.LengthArc.{LengthArc};
+ghost use Rattle.dn_arc.specs.declared.arc.CapArc.{CapArc};
+ghost use Rattle.dn_arc.specs.declared.arc.CostArc.{CostArc};
+ghost use Rattle.dn_arc.specs.declared.arc.Form.{Form};
+ghost use Rattle.dn_arc.specs.declared.difference.How.{How};
 
 use dn_bundle::{Bundle, Curve, Form, Least, Total};
 
@@ -114,12 +116,12 @@ pub fn some_difference()
 
 /// The order of arcs does not matter to a bundle.
 pub fn any_order_of<B: Bundle>()
-    ensures { (xs ys : List B.Arc) → IsPermutation xs ys → B.kind.Same xs ys }
+    ensures { (xs ys : List B.Arc) → IsPermutation xs ys → B.bundle.kind.Same xs ys }
 {}
 
 /// Canonical arcs that mean the same are the same, in each form.
 pub trait Determined: Bundle {
-    ghost determined: { IsDetermined Self.kind };
+    ghost determined: { IsDetermined Self.bundle.kind };
 }
 
 impl Determined for Least {

@@ -2,9 +2,9 @@
 ghost use Rattle.std.specs.Prelude.{pos, negsuc, List, [], ◌∷◌};
 ghost use Rattle.dn_instance.specs.Instances.{ShortestPaths, Sources, Queries, Coordinates};
 ghost use Rattle.dn_compare.specs.FirstDifference.{IsFirstDifference};
-ghost use Rattle.dn_laws.specs.DifferenceExamples.{with_lengths, flow_from, supplied, with_costs, length_arc_at, cap_arc_at, cost_arc_at};
-ghost use Rattle.dn_laws.specs.DifferenceExamples.{worked_lengths, without_loop, worked_capacities};
-ghost use Rattle.dn_laws.specs.DifferenceExamples.{with_nothing, without_nothing};
+ghost use Rattle.dn_laws.specs.State.DifferenceExamples.{with_lengths, flow_from, supplied, with_costs, length_arc_at, cap_arc_at, cost_arc_at};
+ghost use Rattle.dn_laws.specs.State.DifferenceExamples.{worked_lengths, without_loop, worked_capacities};
+ghost use Rattle.dn_laws.specs.State.DifferenceExamples.{with_nothing, without_nothing};
 
 use dn_bundle::{Gap, How};
 use dn_compare::Verdict;

@@ -4,7 +4,7 @@ ghost use Rattle.dn_instance.specs.Instances.{Instance};
 ghost use Rattle.dn_instance.specs.Sameness.{IsSame};
 ghost use Rattle.dn_instance.specs.Validity.{IsValid};
 ghost use Rattle.dn_compare.specs.FirstDifference.{IsFirstDifference};
-ghost use Rattle.dn_compare.specs.Turned.{turned};
+ghost use Rattle.dn_compare.specs.State.Turned.{turned};
 ghost use Rattle.dn_compare.specs.declared.verdict.Verdict.{Verdict};
 
 /// Two instances have one verdict at most.

@@ -2,7 +2,8 @@
 ghost use Rattle.std.specs.Prelude.{◌≡◌, ℕ, ℤ, List, Ok, ◌↔◌, IsTrue, IsFalse, FitsSigned};
 ghost use Rattle.std.specs.Int.{w64};
 ghost use Rattle.std.specs.Fmt.{signed_decimal};
-ghost use Rattle.dn_num.specs.Number.{NumberText, ShortestText, fits, number_read};
+ghost use Rattle.dn_num.specs.Number.{fits, number_read};
+ghost use Rattle.dn_num.specs.State.Number.{NumberText, ShortestText};
 
 use dn_num::NumFault;
 

@@ -1,13 +1,13 @@
 // Worked reports.
 ghost use Rattle.std.specs.Prelude.{◌≡◌, true, false, None, Some, pos, negsuc, [], ◌∷◌, codes};
 ghost use Rattle.dn_line.specs.declared.kind.Kind.{Kind};
-ghost use Rattle.dn_bundle.specs.declared.difference.Gap.{Gap};
-ghost use Rattle.dn_bundle.specs.declared.difference.How.{How};
+ghost use Rattle.dn_arc.specs.declared.difference.Gap.{Gap};
+ghost use Rattle.dn_arc.specs.declared.difference.How.{How};
 ghost use Rattle.dn_instance.specs.Instances.{Sources, Queries, Coordinates};
 ghost use Rattle.dn_instance.specs.declared.refusal.Place.TheVariants as Places;
-ghost use Rattle.dn_laws.specs.DifferenceExamples.{cost_arc_at, flow_from, length_arc_at, with_costs, with_lengths, worked_capacities};
+ghost use Rattle.dn_laws.specs.State.DifferenceExamples.{cost_arc_at, flow_from, length_arc_at, with_costs, with_lengths, worked_capacities};
 ghost use Rattle.dn_compare.specs.declared.verdict.Verdict.{Verdict};
-ghost use Rattle.dn_row.specs.Rows.{line_text, text_of};
+ghost use Rattle.dn_sink.specs.Rows.{line_text, text_of};
 ghost use Rattle.dn_report.specs.Shows.{IsShown};
 ghost use Rattle.dn_report.specs.Checks.{checked_rows};
 ghost use Rattle.dn_report.specs.FaultLines.{fault_line, unfit_line};

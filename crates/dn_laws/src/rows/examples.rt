@@ -1,6 +1,6 @@
 // A worked line, and a worked text.
 ghost use Rattle.std.specs.Prelude.{◌≡◌, [], ◌∷◌, codes};
-ghost use Rattle.dn_row.specs.Rows.{line_text, text_of};
+ghost use Rattle.dn_sink.specs.Rows.{line_text, text_of};
 
 /// A line of three words, of one word, and of none.
 pub fn worked_lines()

@@ -1,10 +1,10 @@
 // Worked examples of canonical texts.
 ghost use Rattle.std.specs.Prelude.{◌≡◌, codes, pos, negsuc, List, [], ◌∷◌};
-ghost use Rattle.dn_laws.specs.BundleExamples.{worked, worked_one, canon_in_two_alone};
+ghost use Rattle.dn_laws.specs.State.BundleExamples.{worked, worked_one, canon_in_two_alone};
 ghost use Rattle.dn_instance.specs.Instances.{MaxFlow, ShortestPaths, Sources, Queries, Coordinates};
 ghost use Rattle.dn_canon.specs.CanonInstances.{IsCanonInstance};
 ghost use Rattle.dn_canon.specs.CanonTexts.{IsCanonOf};
-ghost use Rattle.dn_laws.specs.TextExamples.{on_one_pair};
+ghost use Rattle.dn_laws.specs.State.TextExamples.{on_one_pair};
 ghost use Rattle.dn_canon.specs.Prints.{print};
 
 use dn_bundle::Form;

@@ -2,19 +2,19 @@
 ghost use Rattle.std.specs.Prelude.{◌≡◌, ◌↔◌, ℕ, ◌-◌, ◌<◌, ◌^◌, ℤ, List, ◌++◌, length};
 ghost use Rattle.std.specs.List.{AllByRecursion, sum_by};
 ghost use Rattle.dn_line.specs.Pieces.{lines};
-ghost use Rattle.dn_bundle.specs.declared.arc.CapArc.{CapArc};
-ghost use Rattle.dn_bundle.specs.declared.arc.CostArc.{CostArc};
+ghost use Rattle.dn_arc.specs.declared.arc.CapArc.{CapArc};
+ghost use Rattle.dn_arc.specs.declared.arc.CostArc.{CostArc};
 ghost use Rattle.dn_instance.specs.Instances.{Graph, Instance, MinCostFlow, MaxFlow, size_of};
-ghost use Rattle.dn_instance.specs.Parts.{AreParts};
+ghost use Rattle.dn_instance.specs.State.Parts.{AreParts};
 ghost use Rattle.dn_instance.specs.Sameness.{IsSame};
 ghost use Rattle.dn_instance.specs.Texts.{Reads};
 ghost use Rattle.dn_instance.specs.Validity.{IsValid, AreSupplies, AreTerminals};
 ghost use Rattle.dn_canon.specs.CanonInstances.{IsCanonInstanceOf};
-ghost use Rattle.dn_canon.specs.CanonReadings.{ReadsTwice};
+ghost use Rattle.dn_canon.specs.State.CanonReadings.{ReadsTwice};
 ghost use Rattle.dn_canon.specs.CanonTexts.{IsCanonOf};
-ghost use Rattle.dn_canon.specs.PartCanons.{HasCanonParts, AreRanges, arc_rows, gathered_rows, head_rows};
+ghost use Rattle.dn_canon.specs.State.PartCanons.{HasCanonParts, AreRanges, arc_rows, gathered_rows, head_rows};
 ghost use Rattle.dn_canon.specs.Prints.{rows};
-ghost use Rattle.dn_row.specs.Rows.{text_of};
+ghost use Rattle.dn_sink.specs.Rows.{text_of};
 
 use dn_bundle::Form;
 

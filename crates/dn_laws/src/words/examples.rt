@@ -1,8 +1,9 @@
 // Worked examples of lines of words.
 ghost use Rattle.std.specs.Prelude.{◌≡◌, ◌⊎◌, codes, [], ◌∷◌, Some, None, false, true};
-ghost use Rattle.dn_bundle.specs.declared.arc.Form.TheVariants.{One, Two};
+ghost use Rattle.dn_arc.specs.declared.arc.Form.TheVariants.{One, Two};
 ghost use Rattle.dn_command.specs.Commands.{Canon, Check, Compare, Show, names_twice, plain_asked};
-ghost use Rattle.dn_command.specs.Requests.{IsReadByClap, Prints, PrintsVersion};
+ghost use Rattle.dn_command.specs.Requests.{IsReadByClap};
+ghost use Rattle.dn_command.specs.State.Requests.{Prints, PrintsVersion};
 ghost use Rattle.dn_command.specs.declared.request.Request.{Request};
 ghost use Rattle.dn_command.specs.declared.request.Request.TheVariants.{Bad, Memory};
 

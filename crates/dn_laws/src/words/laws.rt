@@ -1,9 +1,10 @@
 // What `clap`'s definitions make of lines of words, said without them: of the words that stand where a text is named,
 // and of the options.
 ghost use Rattle.std.specs.Prelude.{◌≡◌, ◌⊎◌, ◌++◌, ◌∷◌, [], List, None, Some, codes, true, ℕ};
-ghost use Rattle.dn_bundle.specs.declared.arc.Form.TheVariants.{One, Two};
+ghost use Rattle.dn_arc.specs.declared.arc.Form.TheVariants.{One, Two};
 ghost use Rattle.dn_command.specs.Commands.{Canon, Check, Compare, Show, is_name};
-ghost use Rattle.dn_command.specs.Requests.{IsReadByClap, Requests};
+ghost use Rattle.dn_command.specs.Requests.{IsReadByClap};
+ghost use Rattle.dn_command.specs.State.Requests.{Requests};
 ghost use Rattle.dn_command.specs.declared.request.Request.{Request};
 ghost use Rattle.dn_command.specs.declared.request.Request.TheVariants.{Memory};
 

@@ -1,5 +1,5 @@
 use Rattle.std.proofs.Common.{rules, Some, ap, sym, ◌∙◌}
-use Rattle.dn_bundle.specs.Gaps.{unit_cost}
+use Rattle.dn_bundle.specs.State.Gaps.{unit_cost}
 use Rattle.dn_bundle.proofs.Cost128Laws.{widens, unit_fits, unit_is}
 use Rattle.dn_bundle.proofs.difference.with_unit.Goals as goal
 

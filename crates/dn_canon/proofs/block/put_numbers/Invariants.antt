@@ -1,6 +1,6 @@
 use Rattle.std.proofs.Common.{◌≡◌, ◌≤◌, ◌+◌, ◌*◌, ◌++◌, map, take}
 use Rattle.std.specs.Fmt.{signed_decimal}
-use Rattle.dn_row.specs.Rows.{spaced}
+use Rattle.dn_sink.specs.State.Spaced.{spaced}
 use Rattle.dn_canon.proofs.block.put_numbers.Given as goal
 
 abbrev pub invariant-loop-number : goal.invariant-loop-number

@@ -1,6 +1,6 @@
 use Rattle.std.proofs.Common.{◌≡◌, ◌≤◌, ◌+◌, ◌*◌, ◌++◌, map, take}
 use Rattle.std.specs.Fmt.{signed_decimal}
-use Rattle.dn_row.specs.Rows.{spaced}
+use Rattle.dn_sink.specs.State.Spaced.{spaced}
 use Rattle.dn_canon.proofs.block.put_parts.Given as goal
 
 abbrev pub invariant-loop-i : goal.invariant-loop-i

@@ -1,14 +1,14 @@
 use Rattle.std.proofs.Common.{◌≡◌, map, drop, slice_get, ◌++◌}
 use Rattle.dn_canon.specs.Prints.{arc_row}
-use Rattle.dn_row.specs.Rows.{text_of}
+use Rattle.dn_sink.specs.Rows.{text_of}
 use Rattle.dn_sink.specs.Puts.{HasPut}
-use Rattle.dn_canon.specs.ToldArcs.{placed}
+use Rattle.dn_canon.specs.State.ToldArcs.{placed}
 use Rattle.dn_canon.proofs.writer.put_bundle.Given as goal
 
 abbrev pub invariant-loop : goal.invariant-loop
 invariant-loop g l =
-    let told = g.B.Bundle.told l.form l.bundle in
+    let told = g.B.Bundle.bundle.told l.form l.bundle in
     record {
       next : l.next ≡ slice_get told l.counter;
-      has : HasPut g.K.Sink.taken g.K.Sink.has_failed l.fn.sink l.sink (l.block ++ text_of (map (arc_row g.B.Bundle.kind) (placed l.pair (drop l.counter told)))) (l.fn.block ++ text_of (map (arc_row g.B.Bundle.kind) (placed l.pair told)));
+      has : HasPut g.K.Sink.sink l.fn.sink l.sink (l.block ++ text_of (map (arc_row g.B.Bundle.bundle.kind) (placed l.pair (drop l.counter told)))) (l.fn.block ++ text_of (map (arc_row g.B.Bundle.bundle.kind) (placed l.pair told)));
     }

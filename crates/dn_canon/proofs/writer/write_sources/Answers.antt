@@ -16,6 +16,6 @@ loop-id-preserved g c = row_more source_row c.loop-id.block (drop c.loop-id.id-i
 
 pub returns-clause-text : goal.returns-clause-text
 returns-clause-text g c =
-    put_last g.K.Sink.taken g.K.Sink.has_failed c.args.sink.now c.loop-id.sink c.finish.new.sink c.loop-id.block (print (Sources c.args.ids.now)) c.finish.result
+    put_last g.K.Sink.sink c.args.sink.now c.loop-id.sink c.put_last.new.sink c.loop-id.block (print (Sources c.args.ids.now)) c.put_last.result
     (rows_done source_row c.loop-id.block c.args.ids.now c.loop-id.id-index c.loop-id-test.false c.loop-id.invariant)
-    c.finish.ensures.text
+    c.put_last.ensures.text

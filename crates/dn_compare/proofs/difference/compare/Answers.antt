@@ -1,7 +1,7 @@
 use Rattle.std.proofs.Common.{rules, ◌≡◌, ◌≢◌, sym, ap, ◌∙◌, of_z, w64}
 use Rattle.std.specs.Int.RustNames.{FitsSigned}
 use Rattle.std.proofs.lemmas.Int.{to_z-of_z}
-use Rattle.dn_instance.specs.Helds.{contents_kind, holding, shown}
+use Rattle.dn_instance.specs.State.Helds.{contents_kind, holding, shown}
 use Rattle.dn_compare.proofs.HeldVerdicts.{kinds_on, nodes_on, held_on}
 use Rattle.dn_compare.proofs.difference.compare.Goals as goal
 

@@ -1,7 +1,7 @@
 use Rattle.std.proofs.Common.{rules, ◌≡◌, sym, ap, to_z, of_z, w64}
 use Rattle.std.specs.Int.RustNames.{FitsSigned}
 use Rattle.std.proofs.lemmas.Int.{to_z-of_z}
-use Rattle.dn_instance.specs.Helds.{Contents, OfMin, OfMax, OfSp, OfSs, OfP2p, OfCo, shown}
+use Rattle.dn_instance.specs.State.Helds.{Contents, OfMin, OfMax, OfSp, OfSs, OfP2p, OfCo, shown}
 use Rattle.dn_compare.proofs.HeldVerdicts.{shown_on, sp_on, ss_on, p2p_on}
 use Rattle.dn_compare.proofs.difference.shown_verdict.Goals as goal
 

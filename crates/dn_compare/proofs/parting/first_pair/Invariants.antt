@@ -1,15 +1,15 @@
 use Rattle.std.proofs.Common.{ℤ, ◌+◌, length, Option}
-use Rattle.dn_bundle.specs.declared.arc.Form.TheVariants.{One}
-use Rattle.dn_bundle.specs.declared.difference.How.{How}
-use Rattle.pair_index.specs.Pairs.{pair_cmp}
-use Rattle.dn_compare.specs.Partings.{by_meaning, IsParting}
+use Rattle.dn_arc.specs.declared.arc.Form.TheVariants.{One}
+use Rattle.dn_arc.specs.declared.difference.How.{How}
+use Rattle.dn_arc.specs.Pairs.{pair_cmp}
+use Rattle.dn_compare.specs.State.Partings.{by_meaning, IsParting}
 use Rattle.dn_compare.proofs.PairWalks.{PairsRise}
 use Rattle.dn_compare.proofs.parting.first_pair.Given as goal
 
 -- what is right for what is left is right for the whole
 abbrev pub invariant-loop-pair : goal.invariant-loop-pair
 invariant-loop-pair g l =
-    let by = by_meaning g.B.Bundle.kind (g.B.Bundle.told One) in
+    let by = by_meaning g.B.Bundle.bundle.kind (g.B.Bundle.bundle.told One) in
     record {
       lefts : PairsRise l.lefts;
       rights : PairsRise l.rights;

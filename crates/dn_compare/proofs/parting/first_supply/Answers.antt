@@ -1,8 +1,8 @@
 use Rattle.std.proofs.Common.{rules, ◌≡◌, ◌≢◌, ℤ, Some, None, refl, sym, ◌∙◌, to_z, of_z, w64}
 use Rattle.std.specs.Ordering.{int_cmp}
 use Rattle.dn_compare.specs.Observed.{flow_or_zero}
-use Rattle.dn_compare.specs.Walks.{first_key, lesser_key}
-use Rattle.dn_compare.specs.Partings.{by_flow}
+use Rattle.dn_compare.specs.State.Walks.{first_key, lesser_key}
+use Rattle.dn_compare.specs.State.Partings.{by_flow}
 use Rattle.dn_compare.proofs.MapWalks.{fewer, rise_on, kept, halted, ended, lesser_is}
 use Rattle.dn_compare.proofs.parting.first_supply.Goals as goal
 

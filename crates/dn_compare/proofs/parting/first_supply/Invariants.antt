@@ -1,6 +1,6 @@
 use Rattle.std.proofs.Common.{ℤ, ◌+◌, length, Option}
 use Rattle.std.specs.Ordering.{int_cmp}
-use Rattle.dn_compare.specs.Partings.{by_flow, IsParting}
+use Rattle.dn_compare.specs.State.Partings.{by_flow, IsParting}
 use Rattle.dn_compare.proofs.MapWalks.{IdsRise}
 use Rattle.dn_compare.proofs.parting.first_supply.Given as goal
 

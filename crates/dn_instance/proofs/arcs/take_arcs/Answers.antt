@@ -1,6 +1,6 @@
 use Rattle.std.proofs.Common.{◌++◌, List, sym, subst, ◌∙◌, take}
 use Rattle.dn_line.specs.declared.line.Line.{Line}
-use Rattle.dn_instance.specs.ArcRuns.{Joins, arc_items}
+use Rattle.dn_instance.specs.State.ArcRuns.{Joins, arc_items}
 use Rattle.dn_instance.proofs.ArcRunLaws.{items_next, joins_more, no_error, no_fault, problem_all, sign_at}
 use Rattle.dn_instance.proofs.arcs.take_arcs.Goals as goal
 

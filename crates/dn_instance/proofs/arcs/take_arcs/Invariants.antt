@@ -2,8 +2,8 @@ use Rattle.std.proofs.Common.{◌≡◌, List, Some, take}
 use Rattle.std.specs.List.{AllByRecursion}
 use Rattle.dn_line.specs.declared.line.Line.{Line}
 use Rattle.dn_instance.specs.Items.{Problem, problem_of}
-use Rattle.dn_instance.specs.ArcRuns.{Joins, arc_items}
-use Rattle.dn_instance.specs.Drafts.{HasSigns}
+use Rattle.dn_instance.specs.State.ArcRuns.{Joins, arc_items}
+use Rattle.dn_instance.specs.State.Drafts.{HasSigns}
 use Rattle.dn_instance.proofs.arcs.take_arcs.Given as goal
 
 abbrev pub invariant-loop-i : goal.invariant-loop-i

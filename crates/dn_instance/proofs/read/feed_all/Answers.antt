@@ -50,42 +50,36 @@ pub returns-clause-err : goal.returns-clause-err
 returns-clause-err g c =
     endless_given _ _ c.loop.invariant.given.0 c.loop.reader c.loop.counter c.loop.invariant.given.1 c.loop.invariant.given.2 c.loop.invariant.fine c.loop.invariant.given.3 (let over = c.loop-test.false in omega arith)
 
-pub returns-in_err-piece-clause-pulls : goal.returns-in_err-piece-clause-pulls
-returns-in_err-piece-clause-pulls g c =
-    pulled_on c.loop.invariant.given.0 c.loop.reader c.loop.invariant.pulls c.loop.invariant.given.1 c.loop.invariant.given.2 c.loop.invariant.fine c.next_piece.ensures.pulls
+pub returns-in_err-piece-clause-left : goal.returns-in_err-piece-clause-left
+returns-in_err-piece-clause-left g c = record {
+  read = λ read. c.in_err-piece.ensures.err;
+  stays = λ failed. c.next_piece.ensures.stays (c.loop.invariant.stays failed);
+  pulls = pulled_on c.loop.invariant.given.0 c.loop.reader c.loop.invariant.pulls c.loop.invariant.given.1 c.loop.invariant.given.2 c.loop.invariant.fine c.next_piece.ensures.pulls;
+}
 
-pub returns-then-is_empty-clause-pulls : goal.returns-then-is_empty-clause-pulls
-returns-then-is_empty-clause-pulls g c =
-    pulled_on c.loop.invariant.given.0 c.loop.reader c.loop.invariant.pulls c.loop.invariant.given.1 c.loop.invariant.given.2 c.loop.invariant.fine c.next_piece.ensures.pulls
+pub returns-then-is_empty-clause-left : goal.returns-then-is_empty-clause-left
+returns-then-is_empty-clause-left g c = record {
+  read = λ is. cc;
+  stays = λ failed. c.next_piece.ensures.stays (c.loop.invariant.stays failed);
+  pulls = pulled_on c.loop.invariant.given.0 c.loop.reader c.loop.invariant.pulls c.loop.invariant.given.1 c.loop.invariant.given.2 c.loop.invariant.fine c.next_piece.ensures.pulls;
+}
 
-pub returns-in_err-feed-clause-pulls : goal.returns-in_err-feed-clause-pulls
-returns-in_err-feed-clause-pulls g c =
-    pulled_on c.loop.invariant.given.0 c.loop.reader c.loop.invariant.pulls c.loop.invariant.given.1 c.loop.invariant.given.2 c.loop.invariant.fine c.next_piece.ensures.pulls
+pub returns-in_err-feed-clause-left : goal.returns-in_err-feed-clause-left
+returns-in_err-feed-clause-left g c = record {
+  read = handed_other _ _ c.from_residual-in_err-feed.ensures (refused_unread _ _ _ (c.in_err-feed.ensures.told c.loop.invariant.given.0 c.loop.invariant.given.2));
+  stays = λ failed. c.next_piece.ensures.stays (c.loop.invariant.stays failed);
+  pulls = pulled_on c.loop.invariant.given.0 c.loop.reader c.loop.invariant.pulls c.loop.invariant.given.1 c.loop.invariant.given.2 c.loop.invariant.fine c.next_piece.ensures.pulls;
+}
 
 pub loop-init : goal.loop-init
-loop-init g c = record { given = ([], Consumes-nil (g.S.Source.gives c.args.source.now), c.requires.0, search rules); fine = c.requires.1; pulls = unpulled; stays = λ failed. failed }
+loop-init g c = record { given = ([], Consumes-nil (g.S.Source.source.gives c.args.source.now), c.requires.0, search rules); fine = c.requires.1; pulls = unpulled; stays = λ failed. failed }
 
-pub returns-clause-pulls : goal.returns-clause-pulls
-returns-clause-pulls g c =
-    pulled_so_far c.loop.invariant.given.0 c.loop.reader c.loop.invariant.pulls c.loop.invariant.given.1 c.loop.invariant.given.2 c.loop.invariant.fine
-
-pub returns-in_err-piece-clause-stays : goal.returns-in_err-piece-clause-stays
-returns-in_err-piece-clause-stays g c = λ failed. c.next_piece.ensures.stays (c.loop.invariant.stays failed)
-
-pub returns-then-is_empty-clause-stays : goal.returns-then-is_empty-clause-stays
-returns-then-is_empty-clause-stays g c = λ failed. c.next_piece.ensures.stays (c.loop.invariant.stays failed)
-
-pub returns-in_err-feed-clause-stays : goal.returns-in_err-feed-clause-stays
-returns-in_err-feed-clause-stays g c = λ failed. c.next_piece.ensures.stays (c.loop.invariant.stays failed)
-
-pub returns-clause-stays : goal.returns-clause-stays
-returns-clause-stays g c = c.loop.invariant.stays
-
-pub returns-in_err-piece-clause-read : goal.returns-in_err-piece-clause-read
-returns-in_err-piece-clause-read g c = λ read. c.in_err-piece.ensures.err
-
-pub returns-in_err-feed-clause-read : goal.returns-in_err-feed-clause-read
-returns-in_err-feed-clause-read g c = handed_other _ _ c.from_residual-in_err-feed.ensures (refused_unread _ _ _ (c.in_err-feed.ensures.told c.loop.invariant.given.0 c.loop.invariant.given.2))
+pub returns-clause-left : goal.returns-clause-left
+returns-clause-left g c = record {
+  read = λ is. cc;
+  stays = c.loop.invariant.stays;
+  pulls = pulled_so_far c.loop.invariant.given.0 c.loop.reader c.loop.invariant.pulls c.loop.invariant.given.1 c.loop.invariant.given.2 c.loop.invariant.fine;
+}
 
 pub returns-in_err-feed-clause-refusal : goal.returns-in_err-feed-clause-refusal
 returns-in_err-feed-clause-refusal g c = handed_on _ _ IsOfReading c.from_residual-in_err-feed.ensures (refused_reading _ _ _ (c.in_err-feed.ensures.told c.loop.invariant.given.0 c.loop.invariant.given.2))

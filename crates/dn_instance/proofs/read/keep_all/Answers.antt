@@ -70,71 +70,65 @@ returns-in_err-bytes-clause-err g c =
     (failed_copy _ _ _ c.loop.invariant.given.0 _ _ c.in_err-bytes.field-0.0 c.loop.reader c.loop.invariant.given.1 c.in_err-bytes.ensures.unread
     c.loop.invariant.given.4 c.loop.invariant.given.2 c.loop.invariant.fine c.in_err-bytes.ensures.refusal)
 
-pub returns-in_err-bytes-clause-pulls : goal.returns-in_err-bytes-clause-pulls
-returns-in_err-bytes-clause-pulls g c =
-    pulled_on c.loop.invariant.given.0 c.loop.reader c.loop.invariant.pulls c.loop.invariant.given.1 c.loop.invariant.given.2 c.loop.invariant.fine c.next_piece.ensures.pulls
+pub returns-in_err-bytes-clause-left : goal.returns-in_err-bytes-clause-left
+returns-in_err-bytes-clause-left g c = record {
+  read = λ read. c.in_err-bytes.ensures.err;
+  stays = λ failed. c.next_piece.ensures.stays (c.loop.invariant.stays failed);
+  pulls = pulled_on c.loop.invariant.given.0 c.loop.reader c.loop.invariant.pulls c.loop.invariant.given.1 c.loop.invariant.given.2 c.loop.invariant.fine c.next_piece.ensures.pulls;
+}
 
-pub returns-then-is_empty-clause-pulls : goal.returns-then-is_empty-clause-pulls
-returns-then-is_empty-clause-pulls g c =
-    pulled_on c.loop.invariant.given.0 c.loop.reader c.loop.invariant.pulls c.loop.invariant.given.1 c.loop.invariant.given.2 c.loop.invariant.fine c.next_piece.ensures.pulls
+pub returns-then-is_empty-clause-left : goal.returns-then-is_empty-clause-left
+returns-then-is_empty-clause-left g c = record {
+  read = λ is. cc;
+  stays = λ failed. c.next_piece.ensures.stays (c.loop.invariant.stays failed);
+  pulls = pulled_on c.loop.invariant.given.0 c.loop.reader c.loop.invariant.pulls c.loop.invariant.given.1 c.loop.invariant.given.2 c.loop.invariant.fine c.next_piece.ensures.pulls;
+}
 
-pub returns-in_err-keep_piece-clause-pulls : goal.returns-in_err-keep_piece-clause-pulls
-returns-in_err-keep_piece-clause-pulls g c =
-    pulled_on c.loop.invariant.given.0 c.loop.reader c.loop.invariant.pulls c.loop.invariant.given.1 c.loop.invariant.given.2 c.loop.invariant.fine c.next_piece.ensures.pulls
+pub returns-in_err-keep_piece-clause-left : goal.returns-in_err-keep_piece-clause-left
+returns-in_err-keep_piece-clause-left g c = record {
+  read = handed_other _ _ c.from_residual-in_err-keep_piece.ensures (λ read. (let memory = c.in_err-keep_piece.ensures.memory in cc));
+  stays = λ failed. c.next_piece.ensures.stays (c.loop.invariant.stays failed);
+  pulls = pulled_on c.loop.invariant.given.0 c.loop.reader c.loop.invariant.pulls c.loop.invariant.given.1 c.loop.invariant.given.2 c.loop.invariant.fine c.next_piece.ensures.pulls;
+}
 
-pub returns-in_err-feed-clause-pulls : goal.returns-in_err-feed-clause-pulls
-returns-in_err-feed-clause-pulls g c =
-    pulled_on c.loop.invariant.given.0 c.loop.reader c.loop.invariant.pulls c.loop.invariant.given.1 c.loop.invariant.given.2 c.loop.invariant.fine c.next_piece.ensures.pulls
+pub returns-in_err-feed-clause-left : goal.returns-in_err-feed-clause-left
+returns-in_err-feed-clause-left g c = record {
+  read = handed_other _ _ c.from_residual-in_err-feed.ensures (refused_unread _ _ _ (c.in_err-feed.ensures.told c.loop.invariant.given.0 c.loop.invariant.given.2));
+  stays = λ failed. c.next_piece.ensures.stays (c.loop.invariant.stays failed);
+  pulls = pulled_on c.loop.invariant.given.0 c.loop.reader c.loop.invariant.pulls c.loop.invariant.given.1 c.loop.invariant.given.2 c.loop.invariant.fine c.next_piece.ensures.pulls;
+}
 
 pub loop-init : goal.loop-init
-loop-init g c = record { given = ([], Consumes-nil (g.S.Source.gives c.args.source.now), c.requires.0, search rules, sym (append-nil _)); fine = c.requires.1; pulls = unpulled; stays = λ failed. failed }
+loop-init g c = record { given = ([], Consumes-nil (g.S.Source.source.gives c.args.source.now), c.requires.0, search rules, sym (append-nil _)); fine = c.requires.1; pulls = unpulled; stays = λ failed. failed }
 
-pub returns-clause-pulls : goal.returns-clause-pulls
-returns-clause-pulls g c =
-    pulled_so_far c.loop.invariant.given.0 c.loop.reader c.loop.invariant.pulls c.loop.invariant.given.1 c.loop.invariant.given.2 c.loop.invariant.fine
+pub returns-clause-left : goal.returns-clause-left
+returns-clause-left g c = record {
+  read = λ is. cc;
+  stays = c.loop.invariant.stays;
+  pulls = pulled_so_far c.loop.invariant.given.0 c.loop.reader c.loop.invariant.pulls c.loop.invariant.given.1 c.loop.invariant.given.2 c.loop.invariant.fine;
+}
 
-pub returns-in_err-keep_piece-clause-front : goal.returns-in_err-keep_piece-clause-front
-returns-in_err-keep_piece-clause-front g c = (c.loop.invariant.given.0, c.in_err-keep_piece.ensures.err ∙ c.loop.invariant.given.4)
+pub returns-in_err-keep_piece-clause-prefix : goal.returns-in_err-keep_piece-clause-prefix
+returns-in_err-keep_piece-clause-prefix g c = (c.loop.invariant.given.0, c.in_err-keep_piece.ensures.err ∙ c.loop.invariant.given.4)
 
-pub returns-in_err-feed-clause-front : goal.returns-in_err-feed-clause-front
-returns-in_err-feed-clause-front g c =
+pub returns-in_err-feed-clause-prefix : goal.returns-in_err-feed-clause-prefix
+returns-in_err-feed-clause-prefix g c =
     let t = c.loop.invariant.given.0 in
     let piece = c.in_ok-bytes.bytes.now in
     (t ++ piece, ◌∙◌ {A = List ℕ} c.in_ok-keep_piece.ensures.ok (ap (λ l. l ++ piece) c.loop.invariant.given.4 ∙ append_assoc _ t piece))
 
-pub returns-then-is_empty-clause-front : goal.returns-then-is_empty-clause-front
-returns-then-is_empty-clause-front g c = (c.loop.invariant.given.0, c.loop.invariant.given.4)
+pub returns-then-is_empty-clause-prefix : goal.returns-then-is_empty-clause-prefix
+returns-then-is_empty-clause-prefix g c = (c.loop.invariant.given.0, c.loop.invariant.given.4)
 
-pub returns-in_err-bytes-clause-front : goal.returns-in_err-bytes-clause-front
-returns-in_err-bytes-clause-front g c = (c.loop.invariant.given.0, c.loop.invariant.given.4)
+pub returns-in_err-bytes-clause-prefix : goal.returns-in_err-bytes-clause-prefix
+returns-in_err-bytes-clause-prefix g c = (c.loop.invariant.given.0, c.loop.invariant.given.4)
 
-pub returns-clause-front : goal.returns-clause-front
-returns-clause-front g c = (c.loop.invariant.given.0, c.loop.invariant.given.4)
+pub returns-clause-prefix : goal.returns-clause-prefix
+returns-clause-prefix g c = (c.loop.invariant.given.0, c.loop.invariant.given.4)
 
 pub returns-in_err-keep_piece-clause-refusal : goal.returns-in_err-keep_piece-clause-refusal
 returns-in_err-keep_piece-clause-refusal g c =
     handed_on _ _ IsOfReading c.from_residual-in_err-keep_piece.ensures (subst IsOfReading (sym c.in_err-keep_piece.ensures.memory) tt)
-
-pub returns-in_err-bytes-clause-stays : goal.returns-in_err-bytes-clause-stays
-returns-in_err-bytes-clause-stays g c = λ failed. c.next_piece.ensures.stays (c.loop.invariant.stays failed)
-
-pub returns-then-is_empty-clause-stays : goal.returns-then-is_empty-clause-stays
-returns-then-is_empty-clause-stays g c = λ failed. c.next_piece.ensures.stays (c.loop.invariant.stays failed)
-
-pub returns-in_err-feed-clause-stays : goal.returns-in_err-feed-clause-stays
-returns-in_err-feed-clause-stays g c = λ failed. c.next_piece.ensures.stays (c.loop.invariant.stays failed)
-
-pub returns-in_err-keep_piece-clause-stays : goal.returns-in_err-keep_piece-clause-stays
-returns-in_err-keep_piece-clause-stays g c = λ failed. c.next_piece.ensures.stays (c.loop.invariant.stays failed)
-
-pub returns-clause-stays : goal.returns-clause-stays
-returns-clause-stays g c = c.loop.invariant.stays
-
-pub returns-in_err-bytes-clause-read : goal.returns-in_err-bytes-clause-read
-returns-in_err-bytes-clause-read g c = λ read. c.in_err-bytes.ensures.err
-
-pub returns-in_err-feed-clause-read : goal.returns-in_err-feed-clause-read
-returns-in_err-feed-clause-read g c = handed_other _ _ c.from_residual-in_err-feed.ensures (refused_unread _ _ _ (c.in_err-feed.ensures.told c.loop.invariant.given.0 c.loop.invariant.given.2))
 
 pub returns-in_err-feed-clause-refusal : goal.returns-in_err-feed-clause-refusal
 returns-in_err-feed-clause-refusal g c = handed_on _ _ IsOfReading c.from_residual-in_err-feed.ensures (refused_reading _ _ _ (c.in_err-feed.ensures.told c.loop.invariant.given.0 c.loop.invariant.given.2))
@@ -150,6 +144,3 @@ returns-in_err-feed-clause-ok g c = handed_none _ _ _ c.from_residual-in_err-fee
 
 pub returns-in_err-keep_piece-clause-ok : goal.returns-in_err-keep_piece-clause-ok
 returns-in_err-keep_piece-clause-ok g c = handed_none _ _ _ c.from_residual-in_err-keep_piece.ensures
-
-pub returns-in_err-keep_piece-clause-read : goal.returns-in_err-keep_piece-clause-read
-returns-in_err-keep_piece-clause-read g c = handed_other _ _ c.from_residual-in_err-keep_piece.ensures (λ read. (let memory = c.in_err-keep_piece.ensures.memory in cc))

@@ -1,6 +1,6 @@
 use Rattle.std.proofs.Common.{◌≡◌, refl, List, length, take, arith, sym, ◌∙◌, subst}
 use Rattle.std.proofs.lemmas.List.{take_more_set, length-set}
-use Rattle.dn_line.specs.ArcBlocks.{IsArcLine, ReadUpTo}
+use Rattle.dn_line.specs.State.ArcBlocks.{IsArcLine, ReadUpTo}
 use Rattle.dn_line.specs.declared.arc_block.ArcLine.{ArcLine}
 use Rattle.dn_line.proofs.BlockLaws.{arc_more}
 use Rattle.dn_line.proofs.arc_block.read_arcs.Goals as goal

@@ -1,5 +1,5 @@
 use Rattle.std.proofs.Common.{◌≡◌, take, length}
-use Rattle.dn_line.specs.ArcBlocks.{ReadUpTo}
+use Rattle.dn_line.specs.State.ArcBlocks.{ReadUpTo}
 use Rattle.dn_line.proofs.arc_block.read_arcs.Given as goal
 
 abbrev pub invariant-loop-i : goal.invariant-loop-i

@@ -1,6 +1,6 @@
 use Rattle.std.proofs.Common.{◌≡◌, ◌-◌, ◌<◌, ℕ, ◌∷◌, [], List, length, drop, get_or, Option, Some, None, IfSome, sym, arith, subst}
 use Rattle.std.proofs.lemmas.List.{take_all, length-drop}
-use Rattle.dn_line.specs.ArcLines.{BeginsWithArc, IsArcOf, IsGap, arc_of}
+use Rattle.dn_line.specs.State.ArcLines.{BeginsWithArc, IsArcOf, IsGap, arc_of}
 use Rattle.dn_line.specs.declared.arc_lines.ArcBefore.{ArcBefore}
 use Rattle.dn_line.specs.declared.kind.Kind.{Kind}
 use Rattle.dn_line.proofs.ArcLineLaws.{letter_line}

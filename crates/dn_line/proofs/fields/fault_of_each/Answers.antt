@@ -1,6 +1,6 @@
 use Rattle.std.proofs.Common.{◌+◌, drop, ap, ◌∙◌, arith}
 use Rattle.std.specs.List.{zip}
-use Rattle.dn_line.specs.Fields.{earlier, pairs_fault}
+use Rattle.dn_line.specs.State.Fields.{earlier, pairs_fault}
 use Rattle.dn_line.proofs.FieldLaws.{fault_turn}
 use Rattle.dn_line.proofs.fields.fault_of_each.Goals as goal
 

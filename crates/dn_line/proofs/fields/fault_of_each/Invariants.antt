@@ -1,6 +1,6 @@
 use Rattle.std.proofs.Common.{◌≡◌, drop}
 use Rattle.std.specs.List.{zip}
-use Rattle.dn_line.specs.Fields.{earlier, pairs_fault}
+use Rattle.dn_line.specs.State.Fields.{earlier, pairs_fault}
 use Rattle.dn_line.proofs.fields.fault_of_each.Given as goal
 
 -- the fault so far and the first of what is left are the first of all

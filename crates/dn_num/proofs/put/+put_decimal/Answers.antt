@@ -1,7 +1,7 @@
 use Rattle.std.proofs.Common.{arith, ◌≤◌, ◌++◌, ◌/◌, ◌%◌, length, take, ap, sym, ◌∙◌, append_assoc, length-append}
 use Rattle.std.proofs.lemmas.Fmt.{length-decimal-le}
 use Rattle.std.specs.Fmt.{decimal}
-use Rattle.dn_num.specs.Digits.{codes_of, eight_digits}
+use Rattle.dn_num.specs.State.Digits.{codes_of, eight_digits}
 use Rattle.dn_num.proofs.DigitLaws.{long_decimal}
 use Rattle.dn_num.proofs.put.+put_decimal.Goals as goal
 

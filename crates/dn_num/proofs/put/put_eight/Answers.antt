@@ -1,5 +1,5 @@
 use Rattle.std.proofs.Common.{arith}
-use Rattle.dn_num.specs.Digits.{codes_of, eight_digits}
+use Rattle.dn_num.specs.State.Digits.{codes_of, eight_digits}
 use Rattle.dn_num.proofs.DigitLaws.{codes_small, eight_small}
 use Rattle.dn_num.proofs.put.put_eight.Goals as goal
 

@@ -1,5 +1,5 @@
 use Rattle.std.proofs.Common.{arith, ◌≡◌, ◌≤◌}
-use Rattle.dn_num.specs.Digits.{eight_digits, zeros_before}
+use Rattle.dn_num.specs.State.Digits.{eight_digits, zeros_before}
 use Rattle.dn_num.proofs.DigitLaws.{eight_small, few_zeros, short_put}
 use Rattle.dn_num.proofs.put.put_short.Goals as goal
 

@@ -4,4 +4,4 @@ use Rattle.dn_sink.specs.Puts.{HasPut}
 use Rattle.dn_report.proofs.lines.put_lines.Given as goal
 
 abbrev pub invariant-loop-line : goal.invariant-loop-line
-invariant-loop-line g l = HasPut g.K.Sink.taken g.K.Sink.has_failed l.fn.sink l.sink (concat (drop l.line-index l.lines)) (concat l.lines)
+invariant-loop-line g l = HasPut g.K.Sink.sink l.fn.sink l.sink (concat (drop l.line-index l.lines)) (concat l.lines)

@@ -1,16 +1,16 @@
 use Rattle.std.proofs.Common.{[], subst}
-use Rattle.dn_row.specs.Rows.{line_text}
-use Rattle.dn_sink.specs.Puts.{HasPut, PutsFront}
+use Rattle.dn_sink.specs.Rows.{line_text}
+use Rattle.dn_sink.specs.Puts.{HasPut, PutsPrefix}
 use Rattle.dn_sink.proofs.PutLaws.{put_last, stopped}
 use Rattle.dn_report.specs.Verdicts.{verdict_row}
 use Rattle.dn_report.proofs.verdict.put_verdict.Goals as goal
 
 pub returns-in_err-put-clause-text : goal.returns-in_err-put-clause-text
 returns-in_err-put-clause-text g c =
-    stopped c.from_residual.result c.from_residual.ensures.0 (subst (PutsFront g.K.Sink.taken g.K.Sink.has_failed c.args.sink.now c.put.new.sink) c.verdict_line.ensures c.in_err-put.ensures)
+    stopped c.from_residual.result c.from_residual.ensures.0 (subst (PutsPrefix g.K.Sink.sink c.args.sink.now c.put.new.sink) c.verdict_line.ensures c.in_err-put.ensures)
 
 pub returns-clause-text : goal.returns-clause-text
 returns-clause-text g c =
-    put_last g.K.Sink.taken g.K.Sink.has_failed c.args.sink.now c.put.new.sink c.finish.new.sink [] (line_text (verdict_row c.args.verdict.now)) c.finish.result
-    (subst (HasPut g.K.Sink.taken g.K.Sink.has_failed c.args.sink.now c.put.new.sink []) c.verdict_line.ensures c.in_ok-put.ensures)
-    c.finish.ensures.text
+    put_last g.K.Sink.sink c.args.sink.now c.put.new.sink c.put_and_flush.new.sink [] (line_text (verdict_row c.args.verdict.now)) c.put_and_flush.result
+    (subst (HasPut g.K.Sink.sink c.args.sink.now c.put.new.sink []) c.verdict_line.ensures c.in_ok-put.ensures)
+    c.put_and_flush.ensures.puts

@@ -6,46 +6,63 @@ use Rattle.dn_run.proofs.CommandLaws.{before_first, fit_refused, fits, held_read
 use Rattle.dn_run.proofs.OutcomeLaws.{left_refused}
 use Rattle.dn_run.proofs.commands.check_with.Goals as goal
 
-pub returns-in-Ok-fits-clause-performs : goal.returns-in-Ok-fits-clause-performs
-returns-in-Ok-fits-clause-performs g c = record {
-  mid = c.copy_named.new.files;
-  first = c.in-Ok.ensures.asks;
-  second = inr (let first = held_read _ _ c.in-Ok.graph c.in-Ok.ensures.read in record { handed = first.0; read = first.1; asks = c.in-Ok-read_named.ensures.asks });
-  means = fits _ _ _ c.in-Ok.graph c.in-Ok.ensures.read c.in-Ok-read_named.held
-      (before_first (files_run g.F.Files.behind g.F.Files.fault g.F.Files.Asks g.F.Files.Hands g.F.Text.Source.gives g.F.Text.Source.has_failed g.F.Text.Source.Pulls c.args.files.now c.read_named.new.files) c.copy_named.new.files c.args.name.now c.args.companion.now c.in-Ok.ensures.asks.keeps c.requires
-      (Ok c.in-Ok-read_named.held) c.in-Ok-read_named.ensures.read)
-      c.copy_named.new.copy.items c.deref.result.now c.deref.ensures.value c.in-Ok.ensures.copy (sym c.in-Ok-fits.ensures) c.kind-with.result c.kind-with.ensures
-      _ c.put_check-put.ensures.puts;
+pub returns-in-Ok-fits : goal.returns-in-Ok-fits
+returns-in-Ok-fits g c = record {
+  performs = record {
+    mid = c.copy_named.new.files;
+    first = c.in-Ok.ensures.asks;
+    second = inr (let first = held_read _ _ c.in-Ok.graph c.in-Ok.ensures.read in record { handed = first.0; read = first.1; asks = c.in-Ok-read_named.ensures.asks });
+    means = fits _ _ _ c.in-Ok.graph c.in-Ok.ensures.read c.in-Ok-read_named.held
+        (before_first (files_run g.F.Files.files g.F.Text.Source.source (c.args.files.now, c.read_named.new.files)) c.copy_named.new.files c.args.name.now c.args.companion.now c.in-Ok.ensures.asks.keeps c.requires
+        (Ok c.in-Ok-read_named.held) c.in-Ok-read_named.ensures.read)
+        c.copy_named.new.copy.items c.deref.result.now c.deref.ensures.value c.in-Ok.ensures.copy c.in-Ok.ensures.copied (sym c.in-Ok-fits.ensures) c.kind-with.result c.kind-with.ensures
+        _ c.put_check-put.ensures.puts;
+  };
+  out_after = c.put_check-put.ensures.out_after;
+  answers = c.put_check-put.ensures.answers _ _;
+  flushed = c.put_check-put.ensures.flushed;
 }
 
-pub returns-in-Ok-clause-performs : goal.returns-in-Ok-clause-performs
-returns-in-Ok-clause-performs g c = record {
-  mid = c.copy_named.new.files;
-  first = c.in-Ok.ensures.asks;
-  second = inr (let first = held_read _ _ c.in-Ok.graph c.in-Ok.ensures.read in record { handed = first.0; read = first.1; asks = c.in-Err-read_named.ensures.asks });
-  means = fit_refused _ _ _ c.in-Ok.graph c.in-Ok.ensures.read c.in-Err-read_named.refusal
-      (before_first (files_run g.F.Files.behind g.F.Files.fault g.F.Files.Asks g.F.Files.Hands g.F.Text.Source.gives g.F.Text.Source.has_failed g.F.Text.Source.Pulls c.args.files.now c.read_named.new.files) c.copy_named.new.files c.args.name.now c.args.companion.now c.in-Ok.ensures.asks.keeps c.requires
-      (Err c.in-Err-read_named.refusal) c.in-Err-read_named.ensures.read);
+pub returns-in-Ok : goal.returns-in-Ok
+returns-in-Ok g c = record {
+  performs = record {
+    mid = c.copy_named.new.files;
+    first = c.in-Ok.ensures.asks;
+    second = inr (let first = held_read _ _ c.in-Ok.graph c.in-Ok.ensures.read in record { handed = first.0; read = first.1; asks = c.in-Err-read_named.ensures.asks });
+    means = fit_refused _ _ _ c.in-Ok.graph c.in-Ok.ensures.read c.in-Err-read_named.refusal
+        (before_first (files_run g.F.Files.files g.F.Text.Source.source (c.args.files.now, c.read_named.new.files)) c.copy_named.new.files c.args.name.now c.args.companion.now c.in-Ok.ensures.asks.keeps c.requires
+        (Err c.in-Err-read_named.refusal) c.in-Err-read_named.ensures.read);
+  };
+  out_after = refl;
+  answers = (inr refl, c.in-Err-read_named.ensures.refusal);
+  flushed = tt;
 }
 
-pub returns-clause-performs : goal.returns-clause-performs
-returns-clause-performs g c = record {
-  mid = c.copy_named.new.files;
-  first = c.in-Err.ensures.asks;
-  second = inl (record { stays = refl; refused = (c.in-Err.refusal, refl) });
-  means = left_refused PutsFit Unfits (IsRefusedCopy _) _ _ _ c.in-Err.refusal c.in-Err.ensures.read;
+pub returns : goal.returns
+returns g c = record {
+  performs = record {
+    mid = c.copy_named.new.files;
+    first = c.in-Err.ensures.asks;
+    second = inl (record { stays = refl; refused = (c.in-Err.refusal, refl) });
+    means = left_refused PutsFit Unfits (IsRefusedCopy _) _ _ _ c.in-Err.refusal c.in-Err.ensures.read;
+  };
+  out_after = refl;
+  answers = (inl refl, c.in-Err.ensures.refusal);
+  flushed = tt;
 }
 
-pub returns-in-Ok-read_named-clause-performs : goal.returns-in-Ok-read_named-clause-performs
-returns-in-Ok-read_named-clause-performs g c = record {
-  mid = c.copy_named.new.files;
-  first = c.in-Ok.ensures.asks;
-  second = inr (let first = held_read _ _ c.in-Ok.graph c.in-Ok.ensures.read in record { handed = first.0; read = first.1; asks = c.in-Ok-read_named.ensures.asks });
-  means = unfit _ _ _ c.in-Ok.graph c.in-Ok.ensures.read c.in-Ok-read_named.held
-      (before_first (files_run g.F.Files.behind g.F.Files.fault g.F.Files.Asks g.F.Files.Hands g.F.Text.Source.gives g.F.Text.Source.has_failed g.F.Text.Source.Pulls c.args.files.now c.read_named.new.files) c.copy_named.new.files c.args.name.now c.args.companion.now c.in-Ok.ensures.asks.keeps c.requires
-      (Ok c.in-Ok-read_named.held) c.in-Ok-read_named.ensures.read)
-      c.in-Err-fits.fault (sym c.in-Err-fits.ensures);
+pub returns-in-Ok-read_named : goal.returns-in-Ok-read_named
+returns-in-Ok-read_named g c = record {
+  performs = record {
+    mid = c.copy_named.new.files;
+    first = c.in-Ok.ensures.asks;
+    second = inr (let first = held_read _ _ c.in-Ok.graph c.in-Ok.ensures.read in record { handed = first.0; read = first.1; asks = c.in-Ok-read_named.ensures.asks });
+    means = unfit _ _ _ c.in-Ok.graph c.in-Ok.ensures.read c.in-Ok-read_named.held
+        (before_first (files_run g.F.Files.files g.F.Text.Source.source (c.args.files.now, c.read_named.new.files)) c.copy_named.new.files c.args.name.now c.args.companion.now c.in-Ok.ensures.asks.keeps c.requires
+        (Ok c.in-Ok-read_named.held) c.in-Ok-read_named.ensures.read)
+        c.in-Err-fits.fault (sym c.in-Err-fits.ensures);
+  };
+  out_after = refl;
+  answers = refl;
+  flushed = tt;
 }
-
-pub returns-in-Ok-fits-clause-answers : goal.returns-in-Ok-fits-clause-answers
-returns-in-Ok-fits-clause-answers g c = c.put_check-put.ensures.answers _ _

@@ -1,8 +1,8 @@
 use Rattle.std.proofs.Common.{◌≡◌, ◌≢◌, ◌⊎◌, inl, inr, ◌∙◌}
 use Rattle.dn_line.specs.declared.kind.Kind.{Kind}
 use Rattle.dn_line.specs.declared.kind.Kind.TheVariants as Kinds
-use Rattle.dn_bundle.specs.declared.arc.Form.TheVariants.{One, Two}
-use Rattle.dn_instance.specs.Helds.{holding}
+use Rattle.dn_arc.specs.declared.arc.Form.TheVariants.{One, Two}
+use Rattle.dn_instance.specs.State.Helds.{holding}
 use Rattle.dn_instance.specs.Instances.{kind_of}
 use Rattle.dn_instance.proofs.HeldLaws.{held_kind}
 use Rattle.dn_canon.proofs.FormLaws.{canon_in}

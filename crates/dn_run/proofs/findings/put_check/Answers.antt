@@ -1,7 +1,7 @@
 use Rattle.std.proofs.Common.{refl, ap, ◌∙◌}
-use Rattle.dn_instance.specs.Helds.{holding}
+use Rattle.dn_instance.specs.State.Helds.{holding}
 use Rattle.dn_instance.proofs.HeldLaws.{held_kind}
-use Rattle.dn_row.specs.Rows.{text_of}
+use Rattle.dn_sink.specs.Rows.{text_of}
 use Rattle.dn_report.specs.Checks.{checked_rows}
 use Rattle.dn_run.proofs.OutcomeLaws.{added}
 use Rattle.dn_run.proofs.findings.put_check.Goals as goal

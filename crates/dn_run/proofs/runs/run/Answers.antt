@@ -1,6 +1,6 @@
 use Rattle.std.proofs.Common.{ℕ, subst}
 use Rattle.dn_command.specs.Commands.{Asked}
-use Rattle.dn_command.specs.Requests.{Requests}
+use Rattle.dn_command.specs.State.Requests.{Requests}
 use Rattle.dn_command.specs.declared.request.Request.{Request}
 use Rattle.dn_command.specs.declared.request.Request.TheVariants.{Bad, Command, Memory, Print}
 use Rattle.dn_run.specs.FilesRuns.{FilesRun}
@@ -16,8 +16,9 @@ asked_for files out err asked number (Print text) is ran = absurd is
 asked_for files out err asked number Bad is ran = absurd is
 asked_for files out err asked number Memory is ran = absurd is
 
-pub returns-clause-asked : goal.returns-clause-asked
-returns-clause-asked g c asked plain = asked_for _ _ _ asked _ c.request_of-request.result (c.request_of-request.ensures.plain asked plain) c.run_request.ensures.does
-
-pub returns-clause-other : goal.returns-clause-other
-returns-clause-other g c none = (c.request_of-request.result, c.request_of-request.ensures.other none, c.run_request.ensures.does)
+pub returns-clause-ran : goal.returns-clause-ran
+returns-clause-ran g c = record {
+  asked = λ asked plain. asked_for _ _ _ asked _ c.request_of-request.result (c.request_of-request.ensures.plain asked plain) c.run_request.ensures.does;
+  other = λ none. (c.request_of-request.result, c.request_of-request.ensures.other none, c.run_request.ensures.does);
+  out_by_status = c.run_request.ensures.out;
+}

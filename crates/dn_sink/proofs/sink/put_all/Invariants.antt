@@ -5,7 +5,7 @@ use Rattle.dn_sink.proofs.sink.put_all.Given as goal
 abbrev pub invariant-loop-at : goal.invariant-loop-at
 invariant-loop-at g l = record {
   within : l.at ≤ length l.piece;
-  has : HasPut g.K.Sink.taken g.K.Sink.has_failed l.fn.sink l.sink (drop l.at l.piece) l.piece;
+  has : HasPut g.K.Sink.sink l.fn.sink l.sink (drop l.at l.piece) l.piece;
 }
 
 abbrev pub decreases-loop-at : goal.decreases-loop-at

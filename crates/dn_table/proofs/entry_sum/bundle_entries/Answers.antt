@@ -1,16 +1,16 @@
 use Rattle.std.proofs.Common.{◌≤◌, ◌^◌, ◌∙◌, subst, arith}
-use Rattle.dn_bundle.specs.declared.arc.Form.TheVariants.{One}
+use Rattle.dn_arc.specs.declared.arc.Form.TheVariants.{One}
 use Rattle.std.specs.Map.{keys_of}
-use Rattle.dn_table.specs.GraphEntries.{graph_entries}
+use Rattle.dn_table.specs.State.GraphEntries.{graph_entries}
 use Rattle.dn_table.proofs.EntryLaws.{table_entries, once_apart}
 use Rattle.dn_table.proofs.entry_sum.bundle_entries.Goals as goal
 
 pub returns-in-Some : goal.returns-in-Some
-returns-in-Some g c arcs apart nothing tells are few =
-    c.in-Some.ensures ∙ table_entries g.B.Bundle.kind g.met.B.Bundle.laws nothing (g.B.Bundle.told One) c.args.entries.now arcs (once_apart (keys_of c.args.entries.now) apart) tells are
+returns-in-Some g c apart arcs tells are few =
+    c.in-Some.ensures ∙ table_entries g.B.Bundle.bundle.kind g.met.B.Bundle.laws (g.B.Bundle.bundle.told One) c.args.entries.now arcs (once_apart (keys_of c.args.entries.now) apart) tells are
 
 pub returns-in-None : goal.returns-in-None
-returns-in-None g c arcs apart nothing tells are few =
-    let all = table_entries g.B.Bundle.kind g.met.B.Bundle.laws nothing (g.B.Bundle.told One) c.args.entries.now arcs (once_apart (keys_of c.args.entries.now) apart) tells are in
-    let over : 2 ^ 64 ≤ graph_entries g.B.Bundle.kind arcs = subst (λ n. 2 ^ 64 ≤ n) all c.in-None.ensures in
+returns-in-None g c apart arcs tells are few =
+    let all = table_entries g.B.Bundle.bundle.kind g.met.B.Bundle.laws (g.B.Bundle.bundle.told One) c.args.entries.now arcs (once_apart (keys_of c.args.entries.now) apart) tells are in
+    let over : 2 ^ 64 ≤ graph_entries g.B.Bundle.bundle.kind arcs = subst (λ n. 2 ^ 64 ≤ n) all c.in-None.ensures in
     absurd (omega arith)

@@ -1,11 +1,11 @@
 use Rattle.std.proofs.Common.{◌≡◌, ◌+◌, drop}
-use Rattle.dn_bundle.specs.declared.arc.Form.TheVariants.{One}
-use Rattle.dn_table.specs.GraphEntries.{entries_told}
+use Rattle.dn_arc.specs.declared.arc.Form.TheVariants.{One}
+use Rattle.dn_table.specs.State.GraphEntries.{entries_told}
 use Rattle.dn_table.proofs.entry_sum.count_entries.Given as goal
 
 -- the entries so far and those that are left are all
 abbrev pub invariant-loop-bundle : goal.invariant-loop-bundle
 invariant-loop-bundle g l =
-    let kind = g.B.Bundle.kind in
-    let told = g.B.Bundle.told One in
+    let kind = g.B.Bundle.bundle.kind in
+    let told = g.B.Bundle.bundle.told One in
     l.all + entries_told (λ b. kind.entries (told b)) (drop l.bundle-index l.entries) ≡ entries_told (λ b. kind.entries (told b)) l.entries

@@ -1,6 +1,6 @@
 use Rattle.std.proofs.Common.{take}
 use Rattle.std.specs.Map.{keys_of}
-use Rattle.pair_index.specs.Shown.{HasPlaces}
+use Rattle.pair_index.specs.State.Shown.{HasPlaces}
 use Rattle.pair_index.proofs.index.places_with.Given as goal
 
 -- the entries so far have their places

@@ -1,6 +1,6 @@
 use Rattle.std.proofs.Common.{◌≡◌, Some, ap, sym, subst, ◌∙◌, slice_get}
 use Rattle.std.specs.Option.{option_map}
-use Rattle.dn_bundle.specs.CurveTold.{step_arc, joined_head, told}
+use Rattle.dn_arc.specs.State.CurveTold.{step_arc, joined_head, told}
 use Rattle.dn_bundle.proofs.FormLaws.{first_fits, first_of_one, first_of_two, or_first, first_joined}
 use Rattle.dn_bundle.proofs.curve.Curve.first_arc.Goals as goal
 

@@ -1,9 +1,9 @@
 use Rattle.std.proofs.Common.{rules, ◌+ℤ◌, ◌++◌, ◌∷◌, [], ap, sym, ◌∙◌, subst}
-use Rattle.dn_bundle.specs.declared.arc.Form.TheVariants.{One}
-use Rattle.dn_bundle.specs.Meanings.{SameCurve}
-use Rattle.dn_bundle.specs.CurveTold.{told}
-use Rattle.dn_bundle.specs.Curves.{CurveNumbers}
-use Rattle.dn_bundle.specs.Shapes.{numbers_of}
+use Rattle.dn_arc.specs.declared.arc.Form.TheVariants.{One}
+use Rattle.dn_arc.specs.Meanings.{SameCurve}
+use Rattle.dn_arc.specs.State.CurveTold.{told}
+use Rattle.dn_arc.specs.State.Curves.{CurveNumbers}
+use Rattle.dn_bundle.specs.State.Shapes.{numbers_of}
 use Rattle.dn_bundle.proofs.GrowLaws.{taken_same, taken_sound, same_curve}
 use Rattle.dn_bundle.proofs.curve.Curve.grow.Goals as goal
 

@@ -1,5 +1,5 @@
 use Rattle.std.proofs.Common.{sym, subst, ◌∙◌, ◌≡◌, ◌+◌, Some, slice_get}
-use Rattle.dn_bundle.specs.CurveTold.{told}
+use Rattle.dn_arc.specs.State.CurveTold.{told}
 use Rattle.dn_bundle.proofs.FormLaws.{next_two}
 use Rattle.dn_bundle.proofs.curve.CurveBundle.canon_after.Goals as goal
 

@@ -2,15 +2,15 @@ use Rattle.std.proofs.Common.{rules, w64, ℤ, not, int_lt, Ok, Err, Result, [],
 use Rattle.std.specs.Int.RustNames.{FitsSigned}
 use Rattle.std.proofs.lemmas.Int.{to_z-of_z}
 use Rattle.dn_line.specs.declared.line.Line.TheVariants.{MinArc}
-use Rattle.dn_bundle.specs.Kinds.{costs}
-use Rattle.dn_bundle.specs.CurveTold.{told}
-use Rattle.dn_bundle.specs.declared.arc.CostArc.{CostArc}
-use Rattle.dn_bundle.specs.declared.arc.Form.TheVariants.{One}
+use Rattle.dn_arc.specs.Kinds.{costs}
+use Rattle.dn_arc.specs.State.CurveTold.{told}
+use Rattle.dn_arc.specs.declared.arc.CostArc.{CostArc}
+use Rattle.dn_arc.specs.declared.arc.Form.TheVariants.{One}
 use Rattle.dn_instance.specs.declared.refusal.ItemFault.{ItemFault}
-use Rattle.dn_instance.specs.Drafts.{TableHolds}
-use Rattle.dn_table.specs.Tables.{TableTells}
+use Rattle.dn_instance.specs.State.Drafts.{TableHolds}
+use Rattle.dn_table.specs.State.Tables.{TableTells}
 use Rattle.dn_instance.specs.Items.{arcs_of, cost_arc_in}
-use Rattle.dn_instance.specs.ItemFaults.{AnswersFault, arc_fault}
+use Rattle.dn_instance.specs.State.ItemFaults.{AnswersFault, arc_fault}
 use Rattle.dn_instance.proofs.ArcItems.{table_grown}
 use Rattle.dn_instance.proofs.CostItems.{cost_item, cost_grown, cost_stays, is_cost_arc, taken_arc}
 use Rattle.dn_instance.proofs.arcs.CurveLineBundle.take.Goals as goal

@@ -2,10 +2,10 @@ use Rattle.std.proofs.Common.{rules, w64, true, refl, sym, ap, ◌∙◌, subst}
 use Rattle.std.specs.Int.RustNames.{FitsSigned}
 use Rattle.std.proofs.lemmas.Int.{to_z-of_z}
 use Rattle.std.proofs.lemmas.Result.{on_ok_weaker}
-use Rattle.dn_bundle.specs.Kinds.{capacities}
-use Rattle.dn_bundle.specs.declared.arc.CapArc.{CapArc}
+use Rattle.dn_arc.specs.Kinds.{capacities}
+use Rattle.dn_arc.specs.declared.arc.CapArc.{CapArc}
 use Rattle.dn_instance.specs.Items.{arcs_of, cap_arc_in}
-use Rattle.dn_instance.specs.ItemFaults.{AnswersFault, arc_fault}
+use Rattle.dn_instance.specs.State.ItemFaults.{AnswersFault, arc_fault}
 use Rattle.dn_instance.proofs.ArcItems.{cap_item, cap_grown, cap_stays, table_grown}
 use Rattle.dn_instance.proofs.arcs.TotalLineBundle.take.Goals as goal
 

@@ -1,13 +1,13 @@
 use Rattle.std.proofs.Common.{rules, Ok, refl, sym, subst, FitsSigned, w64, to_z-of_z}
-use Rattle.dn_instance.specs.Drafts.{draft_kind, DraftHolds}
-use Rattle.dn_instance.specs.Ends.{Makes}
+use Rattle.dn_instance.specs.State.Drafts.{draft_kind, DraftHolds}
+use Rattle.dn_instance.specs.State.Ends.{Makes}
 use Rattle.dn_instance.specs.declared.content.Content.TheVariants as Kept
 use Rattle.dn_instance.specs.declared.draft.Draft.TheVariants as Drafts
-use Rattle.dn_bundle.specs.Kinds.{lengths, costs}
-use Rattle.dn_bundle.specs.Lengths.{length_told}
-use Rattle.dn_bundle.specs.CurveTold.{told}
-use Rattle.dn_bundle.specs.declared.arc.Form.TheVariants.{One}
-use Rattle.dn_bundle.specs.Curves.{CurveNumbers}
+use Rattle.dn_arc.specs.Kinds.{lengths, costs}
+use Rattle.dn_arc.specs.State.Lengths.{length_told}
+use Rattle.dn_arc.specs.State.CurveTold.{told}
+use Rattle.dn_arc.specs.declared.arc.Form.TheVariants.{One}
+use Rattle.dn_arc.specs.State.Curves.{CurveNumbers}
 use Rattle.dn_bundle.specs.declared.least.Least.{Least}
 use Rattle.dn_instance.specs.Items.{arcs_of, length_arc_in, cost_arc_in}
 use Rattle.dn_instance.proofs.EndLaws.{both_named}

@@ -4,7 +4,7 @@ use Rattle.std.proofs.lemmas.Int.{to_z-of_z}
 use Rattle.std.proofs.lemmas.Result.{on_err_weaker}
 use Rattle.dn_line.specs.declared.line.Line.TheVariants.{Terminal}
 use Rattle.dn_instance.specs.declared.draft.Draft.TheVariants as Drafts
-use Rattle.dn_instance.specs.Drafts.{HasSigns, draft_kind}
+use Rattle.dn_instance.specs.State.Drafts.{HasSigns, draft_kind}
 use Rattle.dn_instance.proofs.DraftLaws.{to_answer, to_stand, to_keep, keep_same, source_keep, sink_keep, cap_keep, source_answer, sink_answer, id_answer, pair_answer, point_answer, source_stand, sink_stand, cap_stand, id_stand, pair_stand, point_stand, no_min, no_max, no_sp, no_ss, no_p2p, no_co, refused}
 use Rattle.dn_instance.proofs.SupplyItems.{supply_answer, supply_stand, supply_keep, cost_stand}
 use Rattle.dn_instance.proofs.draft.Draft.take.Goals as goal

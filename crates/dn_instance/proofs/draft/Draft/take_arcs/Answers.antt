@@ -2,8 +2,8 @@ use Rattle.std.proofs.Common.{List, sym, ap, ◌∙◌, subst, take}
 use Rattle.std.specs.List.{AllByRecursion}
 use Rattle.dn_line.specs.declared.arc_block.ArcLine.{ArcLine}
 use Rattle.dn_line.specs.declared.kind.Letter.TheVariants.{S, T}
-use Rattle.dn_instance.specs.ArcRuns.{Joins, arc_items}
-use Rattle.dn_instance.specs.Drafts.{DraftHolds, HasSigns, draft_kind}
+use Rattle.dn_instance.specs.State.ArcRuns.{Joins, arc_items}
+use Rattle.dn_instance.specs.State.Drafts.{DraftHolds, HasSigns, draft_kind}
 use Rattle.dn_instance.specs.declared.draft.Draft.TheVariants as Drafts
 use Rattle.dn_instance.proofs.DraftRunLaws.{named_kept, supplies_kept, terminal_kept}
 use Rattle.dn_instance.proofs.draft.Draft.take_arcs.Goals as goal

@@ -1,5 +1,5 @@
 use Rattle.std.proofs.Common.{◌≡◌, [], ◌∷◌, Some, ap, subst}
-use Rattle.dn_instance.specs.Progresses.{ProgressAt}
+use Rattle.dn_instance.specs.State.Progresses.{ProgressAt}
 use Rattle.dn_instance.specs.declared.progress.Progress.{Progress}
 use Rattle.dn_instance.specs.Items.{problem_in}
 use Rattle.dn_instance.proofs.progress.Progress.begin.Goals as goal

@@ -1,5 +1,5 @@
 use Rattle.std.proofs.Common.{◌<◌, ◌^◌, sym, ap, ◌∙◌, subst}
-use Rattle.dn_instance.specs.EntryCount.{entries_by}
+use Rattle.dn_instance.specs.State.EntryCount.{entries_by}
 use Rattle.dn_instance.proofs.progress.Progress.entries.Goals as goal
 
 pub returns : goal.returns

@@ -3,8 +3,8 @@ use Rattle.std.specs.Int.{saturate_signed}
 use Rattle.dn_line.specs.Faults.{first_fault}
 use Rattle.dn_instance.specs.Items.{counted}
 use Rattle.dn_instance.specs.TextFaults.{item_tests, is_companion}
-use Rattle.dn_instance.specs.Drafts.{DraftHolds}
-use Rattle.dn_instance.specs.ItemFaults.{AnswersFault}
+use Rattle.dn_instance.specs.State.Drafts.{DraftHolds}
+use Rattle.dn_instance.specs.State.ItemFaults.{AnswersFault}
 use Rattle.dn_instance.proofs.ProgressLaws.{counted_yes, counted_no, next_few, next_fits, sum_is, has_room, is_then}
 use Rattle.dn_instance.proofs.progress.Progress.take.Goals as goal
 

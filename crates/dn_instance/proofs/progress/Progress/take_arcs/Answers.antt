@@ -4,8 +4,8 @@ use Rattle.std.specs.List.{AllByRecursion}
 use Rattle.std.proofs.lemmas.Int.{ints, to_z_pos}
 use Rattle.std.proofs.lemmas.List.{take-take, length-take-le}
 use Rattle.dn_line.specs.declared.arc_block.ArcLine.{ArcLine}
-use Rattle.dn_instance.specs.ArcRuns.{Joins, arc_items}
-use Rattle.dn_instance.specs.Drafts.{DraftHolds, HasSigns, draft_kind}
+use Rattle.dn_instance.specs.State.ArcRuns.{Joins, arc_items}
+use Rattle.dn_instance.specs.State.Drafts.{DraftHolds, HasSigns, draft_kind}
 use Rattle.dn_instance.specs.Items.{Problem, counted}
 use Rattle.dn_instance.proofs.ArcRunLaws.{arcs_read, come_in_time, signs_front, still_declared, still_few, sum_fits, sum_taken}
 use Rattle.dn_instance.proofs.progress.Progress.take_arcs.Goals as goal

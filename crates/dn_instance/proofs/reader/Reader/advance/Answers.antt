@@ -1,6 +1,6 @@
 use Rattle.std.proofs.Common.{◌≡◌, ◌++◌, ℕ, List, take, Result, Ok, Err, IfOk, append-nil, arith, sym, ap, ◌∙◌, subst}
-use Rattle.dn_line.specs.LineStates.{used_of}
-use Rattle.dn_instance.specs.ReaderStates.{Advances, IsReading, Steps}
+use Rattle.dn_line.specs.State.LineStates.{used_of}
+use Rattle.dn_instance.specs.State.ReaderStates.{Advances, IsReading, Steps}
 use Rattle.dn_instance.specs.declared.reader.Reader.{Reader}
 use Rattle.dn_instance.specs.declared.refusal.Refusal.{Refusal}
 use Rattle.dn_instance.proofs.reader.Reader.advance.Goals as goal

@@ -1,5 +1,5 @@
 use Rattle.std.proofs.Common.{[], ◌∷◌, ◌++◌, length, refl, sym, subst}
-use Rattle.dn_instance.specs.Readers.{IsNext, IsRefused}
+use Rattle.dn_instance.specs.State.Readers.{IsNext, IsRefused}
 use Rattle.dn_instance.proofs.ReaderLaws.{next_after, refused_next}
 use Rattle.dn_instance.proofs.reader.Reader.close.Goals as goal
 

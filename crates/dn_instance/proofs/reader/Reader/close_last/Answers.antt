@@ -1,6 +1,6 @@
 use Rattle.std.proofs.Common.{sym, ◌∙◌, subst}
 use Rattle.dn_instance.specs.Readers.{ended}
-use Rattle.dn_instance.specs.TextsSoFar.{TextAt}
+use Rattle.dn_instance.specs.State.TextsSoFar.{TextAt}
 use Rattle.dn_instance.proofs.ReaderLaws.{takes_last}
 use Rattle.dn_instance.proofs.PieceSteps.{with_last, none_open, without_last}
 use Rattle.dn_instance.proofs.reader.Reader.close_last.Goals as goal

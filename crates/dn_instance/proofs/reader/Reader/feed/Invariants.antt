@@ -1,6 +1,6 @@
 use Rattle.std.proofs.Common.{◌≡◌, ◌≤◌, ℕ, List, ◌++◌, length, take, ◌-◌, None}
-use Rattle.dn_instance.specs.Readers.{refusal_of}
-use Rattle.dn_instance.specs.ReaderStates.{ReaderAt, IsReading}
+use Rattle.dn_instance.specs.State.Readers.{refusal_of}
+use Rattle.dn_instance.specs.State.ReaderStates.{ReaderAt, IsReading}
 use Rattle.dn_instance.proofs.reader.Reader.feed.Given as goal
 
 abbrev pub invariant-loop-at : goal.invariant-loop-at

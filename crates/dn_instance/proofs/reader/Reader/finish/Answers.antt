@@ -1,7 +1,7 @@
 use Rattle.std.proofs.Common.{length, subst, sym}
 use Rattle.dn_line.specs.Pieces.{lines}
 use Rattle.dn_instance.specs.Readers.{ended}
-use Rattle.dn_instance.specs.TextsSoFar.{TextAt}
+use Rattle.dn_instance.specs.State.TextsSoFar.{TextAt}
 use Rattle.dn_instance.proofs.ReaderLaws.{none_from, reading, refused_before, refused_last, held_whole}
 use Rattle.dn_instance.proofs.reader.Reader.finish.Goals as goal
 

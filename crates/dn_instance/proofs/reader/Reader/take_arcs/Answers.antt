@@ -2,8 +2,8 @@ use Rattle.std.proofs.Common.{◌≡◌, [], ◌++◌, ℕ, List, take, sym, ap,
 use Rattle.dn_line.specs.Pieces.{parts, is_line_feed}
 use Rattle.dn_line.proofs.PartsLaws.{Parts}
 use Rattle.dn_instance.specs.Readers.{ended}
-use Rattle.dn_instance.specs.ReaderStates.{IsReading, HasOpen, open_of}
-use Rattle.dn_instance.specs.TextsSoFar.{TextAt, ReadsFront}
+use Rattle.dn_instance.specs.State.ReaderStates.{IsReading, HasOpen, open_of}
+use Rattle.dn_instance.specs.State.TextsSoFar.{TextAt, ReadsFront}
 use Rattle.dn_instance.specs.declared.reader.Reader.{Reader}
 use Rattle.dn_instance.proofs.PieceSteps.{none_open, closed_more}
 use Rattle.dn_instance.proofs.reader.Reader.take_arcs.Goals as goal

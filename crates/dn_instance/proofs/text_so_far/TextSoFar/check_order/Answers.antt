@@ -4,8 +4,8 @@ use Rattle.dn_line.specs.Words.{is_skip}
 use Rattle.dn_line.specs.Faults.{first_fault, head_tests}
 use Rattle.dn_instance.specs.Items.{Problem, kind_known}
 use Rattle.dn_instance.specs.TextFaults.{order_tests}
-use Rattle.dn_instance.specs.Progresses.{ProgressAt}
-use Rattle.dn_instance.specs.TextsSoFar.{IsProgress}
+use Rattle.dn_instance.specs.State.Progresses.{ProgressAt}
+use Rattle.dn_instance.specs.State.TextsSoFar.{IsProgress}
 use Rattle.dn_instance.proofs.NextLaws.{head_told, head_skips}
 use Rattle.dn_instance.proofs.text_so_far.TextSoFar.check_order.Goals as goal
 

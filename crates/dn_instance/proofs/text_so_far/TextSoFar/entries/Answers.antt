@@ -1,8 +1,8 @@
 use Rattle.std.proofs.Common.{◌≡◌, [], sym, ap, subst}
-use Rattle.dn_instance.specs.EntryCount.{entries_so_far}
-use Rattle.dn_instance.specs.Progresses.{ProgressAt}
+use Rattle.dn_instance.specs.State.EntryCount.{entries_so_far}
+use Rattle.dn_instance.specs.State.Progresses.{ProgressAt}
 use Rattle.dn_instance.specs.Texts.{items_of}
-use Rattle.dn_instance.specs.TextsSoFar.{IsProgress}
+use Rattle.dn_instance.specs.State.TextsSoFar.{IsProgress}
 use Rattle.dn_instance.proofs.SizeLaws.{so_far_fits}
 use Rattle.dn_instance.proofs.text_so_far.TextSoFar.entries.Goals as goal
 

@@ -1,7 +1,7 @@
 use Rattle.std.proofs.Common.{Ok, OnOk, sym, ap, ◌∙◌, subst, refl}
 use Rattle.dn_line.specs.Words.{said_words}
-use Rattle.dn_instance.specs.TextsSoFar.{IsProgress}
-use Rattle.dn_instance.specs.ItemFaults.{AnswersFault}
+use Rattle.dn_instance.specs.State.TextsSoFar.{IsProgress}
+use Rattle.dn_instance.specs.State.ItemFaults.{AnswersFault}
 use Rattle.dn_instance.proofs.CleanItems.{skip_adds_none}
 use Rattle.dn_instance.proofs.FollowLaws.{skip_only, skip_faultless, not_skipped, follows_as, same_fault, adds_it, line_refused}
 use Rattle.dn_instance.proofs.text_so_far.TextSoFar.judge.Goals as goal

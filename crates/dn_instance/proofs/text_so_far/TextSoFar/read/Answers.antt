@@ -1,6 +1,6 @@
 use Rattle.std.proofs.Common.{◌≡◌, Ok, Err, sym, ap, ◌∙◌}
 use Rattle.dn_line.specs.Words.{said_words}
-use Rattle.dn_line.specs.Reading.{head_read, fields_read}
+use Rattle.dn_line.specs.State.Reading.{head_read, fields_read}
 use Rattle.dn_instance.specs.Items.{kind_known}
 use Rattle.dn_instance.proofs.NextLaws.{head_refused, order_refused, then_fields}
 use Rattle.dn_instance.proofs.text_so_far.TextSoFar.read.Goals as goal

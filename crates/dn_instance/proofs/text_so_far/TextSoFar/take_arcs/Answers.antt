@@ -1,12 +1,12 @@
 use Rattle.std.proofs.Common.{◌≡◌, ◌<◌, ◌+◌, ◌-◌, ◌^◌, List, false, length, take, refl, sym, ap, ◌∙◌, subst, arith}
 use Rattle.std.proofs.lemmas.List.{length-take-le}
-use Rattle.dn_line.specs.ArcBlocks.{BeginWithArcs, ReadUpTo}
+use Rattle.dn_line.specs.State.ArcBlocks.{BeginWithArcs, ReadUpTo}
 use Rattle.dn_line.specs.declared.arc_block.ArcLine.{ArcLine}
-use Rattle.dn_instance.specs.Drafts.{draft_kind}
-use Rattle.dn_instance.specs.Progresses.{ProgressAt}
+use Rattle.dn_instance.specs.State.Drafts.{draft_kind}
+use Rattle.dn_instance.specs.State.Progresses.{ProgressAt}
 use Rattle.dn_instance.specs.TextFaults.{is_companion}
 use Rattle.dn_instance.specs.Texts.{items_of}
-use Rattle.dn_instance.specs.TextsSoFar.{IsProgress}
+use Rattle.dn_instance.specs.State.TextsSoFar.{IsProgress}
 use Rattle.dn_instance.proofs.ArcLinesLaws.{front_of, run_front, run_on, run_signs}
 use Rattle.dn_instance.proofs.text_so_far.TextSoFar.take_arcs.Goals as goal
 

@@ -1,5 +1,5 @@
-use Rattle.dn_bundle.specs.Laws.Orders.{any_order}
+use Rattle.dn_arc.proofs.OrdersLaws.{any_order}
 use Rattle.dn_laws.proofs.bundles.laws.any_order_of.Goals as goal
 
 pub returns : goal.returns
-returns g c = any_order g.B.Bundle.kind.Same g.met.B.Bundle.laws.meaning
+returns g c = any_order g.B.Bundle.bundle.kind.Same g.met.B.Bundle.laws.meaning

@@ -1,4 +1,4 @@
-use Rattle.dn_bundle.specs.Laws.Differences.{no_arcs_cost}
+use Rattle.dn_arc.proofs.DifferencesLaws.{no_arcs_cost}
 use Rattle.dn_laws.proofs.bundles.laws.no_arcs.Goals as goal
 
 pub returns-clause-nothing : goal.returns-clause-nothing

@@ -1,7 +1,7 @@
 use Rattle.std.proofs.Common.{rules, arith}
 use Rattle.std.proofs.lemmas.Grind.{common_steps}
-use Rattle.dn_bundle.specs.declared.arc.Form.TheVariants.{One, Two}
-use Rattle.dn_laws.specs.BundleExamples.{worked_one, canon_in_two_alone}
+use Rattle.dn_arc.specs.declared.arc.Form.TheVariants.{One, Two}
+use Rattle.dn_laws.specs.State.BundleExamples.{worked_one, canon_in_two_alone}
 use Rattle.dn_laws.proofs.bundles.ExampleLaws.{worked_form_one}
 use Rattle.dn_laws.proofs.texts.ExampleLaws.{canonical_at, canonical_here}
 use Rattle.dn_laws.proofs.texts.examples.canonical_instances.Goals as goal

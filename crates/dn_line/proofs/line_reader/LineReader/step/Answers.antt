@@ -1,5 +1,5 @@
 use Rattle.std.proofs.Common.{sym, ◌∙◌, subst}
-use Rattle.dn_line.specs.LineStates.{LineReaderAt, line_after}
+use Rattle.dn_line.specs.State.LineStates.{LineReaderAt, line_after}
 use Rattle.dn_line.proofs.LineReaderLaws.{anew, unended, none_used, none_after}
 use Rattle.dn_line.proofs.line_reader.LineReader.step.Goals as goal
 

@@ -1,8 +1,8 @@
 use Rattle.std.proofs.Common.{[], ◌∷◌, ◌++◌, ◌∙◌, map, filter, ap, sym, subst}
 use Rattle.dn_line.specs.Pieces.{has_bytes}
 use Rattle.dn_line.specs.Words.{said}
-use Rattle.dn_line.specs.LineStates.{KeepsWords}
-use Rattle.dn_line.specs.OpenWords.{WordAt}
+use Rattle.dn_line.specs.State.LineStates.{KeepsWords}
+use Rattle.dn_line.specs.State.OpenWords.{WordAt}
 use Rattle.dn_line.proofs.LineStateLaws.{word_pushed, none_last, no_word}
 use Rattle.dn_line.proofs.line_state.LineState.close.Goals as goal
 

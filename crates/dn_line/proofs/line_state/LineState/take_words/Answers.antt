@@ -1,7 +1,7 @@
 use Rattle.std.proofs.Common.{◌≡◌, ◌++◌, ◌∙◌, ap, sym, true, false}
 use Rattle.dn_line.specs.Pieces.{parts}
 use Rattle.dn_line.specs.Words.{is_blank}
-use Rattle.dn_line.specs.LineStates.{begins_comment}
+use Rattle.dn_line.specs.State.LineStates.{begins_comment}
 use Rattle.dn_line.proofs.LineStateLaws.{no_bytes, words_parts, none_fed, more_fed, fed_reached}
 use Rattle.dn_line.proofs.line_state.LineState.take_words.Goals as goal
 

@@ -1,6 +1,6 @@
 use Rattle.std.proofs.Common.{◌++◌, ◌∙◌, ap, sym, append-nil, get_or}
 use Rattle.std.proofs.lemmas.List.{take_all}
-use Rattle.dn_line.specs.OpenWords.{short, short_step}
+use Rattle.dn_line.specs.State.OpenWords.{short, short_step}
 use Rattle.dn_line.proofs.OpenWordLaws.{short_more}
 use Rattle.dn_line.proofs.open_word.Short.feed_each.Goals as goal
 

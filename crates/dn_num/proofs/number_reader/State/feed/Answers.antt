@@ -1,5 +1,5 @@
 use Rattle.std.proofs.Common.{◌++◌, take, sym, ap, ◌∙◌}
-use Rattle.dn_num.specs.NumberReader.{number_state}
+use Rattle.dn_num.specs.State.NumberReader.{number_state}
 use Rattle.dn_num.proofs.NumberReaderLaws.{rejoined_slice, step_more, all_taken}
 use Rattle.dn_num.proofs.number_reader.State.feed.Goals as goal
 

@@ -1,5 +1,5 @@
 use Rattle.std.proofs.Common.{sym, ap, ◌∙◌}
-use Rattle.pair_index.specs.InOrder.{from_place}
+use Rattle.pair_index.specs.State.InOrder.{from_place}
 use Rattle.pair_index.proofs.InOrderLaws.{from_next}
 use Rattle.dn_table.proofs.WalkLaws.{inside_of, shorter}
 use Rattle.dn_table.proofs.table.PairsIterator.next.Goals as goal

@@ -1,11 +1,11 @@
 use Rattle.std.proofs.Common.{◌≡◌, ◌<◌, ℤ, length, subst, sym, ◌∙◌, ap, false}
 use Rattle.std.specs.List.{list_any}
 use Rattle.std.specs.Map.{keys_of, lookup}
-use Rattle.pair_index.specs.Pairs.{same_pair}
+use Rattle.dn_arc.specs.Pairs.{same_pair}
 use Rattle.pair_index.proofs.InOrderLaws.{found_in_order}
 use Rattle.dn_table.proofs.PairLaws.{key_is}
 use Rattle.dn_table.proofs.GrownLaws.{lookup_none, found_at}
-use Rattle.pair_index.specs.Places.{key_at}
+use Rattle.pair_index.specs.State.Places.{key_at}
 use Rattle.dn_table.proofs.table.Table.get.Goals as goal
 
 pub returns-in-Some : goal.returns-in-Some

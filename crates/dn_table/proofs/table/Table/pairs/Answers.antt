@@ -1,9 +1,9 @@
 use Rattle.std.proofs.Common.{◌∙◌, ap, subst}
 use Rattle.std.specs.List.Sorted.{IsStrictlySortedBy}
 use Rattle.std.specs.Map.{keys_of}
-use Rattle.pair_index.specs.InOrder.{from_place}
-use Rattle.pair_index.specs.Places.{IsLeast}
-use Rattle.pair_index.specs.Pairs.{pair_cmp}
+use Rattle.pair_index.specs.State.InOrder.{from_place}
+use Rattle.pair_index.specs.State.Places.{IsLeast}
+use Rattle.dn_arc.specs.Pairs.{pair_cmp}
 use Rattle.pair_index.proofs.InOrderLaws.{from_least, rising_in_order}
 use Rattle.dn_table.proofs.table.Table.pairs.Goals as goal
 

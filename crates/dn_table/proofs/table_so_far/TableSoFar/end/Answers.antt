@@ -2,10 +2,10 @@ use Rattle.std.proofs.Common.{sym, ap, ◌∙◌, subst}
 use Rattle.std.specs.List.Sorted.{IsStrictlySortedBy}
 use Rattle.std.specs.Map.{keys_of, lookup}
 use Rattle.std.proofs.lemmas.List.{with_items_is}
-use Rattle.pair_index.specs.InOrder.{in_order}
-use Rattle.pair_index.specs.Indexed.{Indexes}
-use Rattle.pair_index.specs.Ordered.{Orders}
-use Rattle.pair_index.specs.Pairs.{pair_cmp, same_pair}
+use Rattle.pair_index.specs.State.InOrder.{in_order}
+use Rattle.pair_index.specs.State.Indexed.{Indexes}
+use Rattle.pair_index.specs.State.Ordered.{Orders}
+use Rattle.dn_arc.specs.Pairs.{pair_cmp, same_pair}
 use Rattle.pair_index.proofs.InOrderLaws.{rising_in_order, found_in_order}
 use Rattle.dn_table.proofs.table_so_far.TableSoFar.end.Goals as goal
 

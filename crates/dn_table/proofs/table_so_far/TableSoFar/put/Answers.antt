@@ -1,7 +1,7 @@
 use Rattle.std.proofs.Common.{◌∙◌, ap}
 use Rattle.std.specs.Map.{lookup}
-use Rattle.pair_index.specs.Pairs.{same_pair}
-use Rattle.pair_index.proofs.PairLaws.{pair_self}
+use Rattle.dn_arc.specs.Pairs.{same_pair}
+use Rattle.dn_arc.proofs.PairLaws.{pair_self}
 use Rattle.dn_table.proofs.PairLaws.{other_pair}
 use Rattle.dn_table.proofs.GrownLaws.{push_found, push_other, any_none}
 use Rattle.dn_table.proofs.table_so_far.TableSoFar.put.Goals as goal

@@ -1,7 +1,7 @@
 use Rattle.std.proofs.Common.{◌++◌, ◌∷◌, [], ℤ, take, sym, ap, ◌∙◌, subst}
 use Rattle.std.specs.Map.{keys_of}
 use Rattle.std.proofs.lemmas.List.{take_all}
-use Rattle.pair_index.specs.Chained.{IsChained}
+use Rattle.pair_index.specs.State.Chained.{IsChained}
 use Rattle.pair_index.proofs.IndexLaws.{keys_take_more}
 use Rattle.pair_index.proofs.chains.Chains.link_all.Goals as goal
 

@@ -1,6 +1,6 @@
 use Rattle.std.proofs.Common.{take}
 use Rattle.std.specs.Map.{keys_of}
-use Rattle.pair_index.specs.Chained.{IsChained}
+use Rattle.pair_index.specs.State.Chained.{IsChained}
 use Rattle.pair_index.proofs.chains.Chains.link_all.Given as goal
 
 -- the entries so far are in chains

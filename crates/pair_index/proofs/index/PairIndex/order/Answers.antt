@@ -1,6 +1,6 @@
 use Rattle.std.specs.Map.{keys_of}
 use Rattle.std.proofs.lemmas.Map.Keys.{IsDistinct-from_sorted}
-use Rattle.pair_index.specs.Pairs.{pair_cmp}
+use Rattle.dn_arc.specs.Pairs.{pair_cmp}
 use Rattle.pair_index.proofs.index.PairIndex.order.Goals as goal
 
 pub returns-clause-ordered : goal.returns-clause-ordered

@@ -1,7 +1,7 @@
 use Rattle.std.proofs.Common.{refl, arith, ◌++◌, ◌∷◌, []}
 use Rattle.std.proofs.lemmas.Grind.{common_steps}
-use Rattle.pair_index.specs.Chained.{IsChained}
-use Rattle.pair_index.specs.Tailed.{IsTailed}
+use Rattle.pair_index.specs.State.Chained.{IsChained}
+use Rattle.pair_index.specs.State.Tailed.{IsTailed}
 use Rattle.std.specs.Map.{keys_of}
 use Rattle.pair_index.proofs.IndexLaws.{indexed_tailed, indexed_chained, indexed_ordered}
 use Rattle.pair_index.proofs.index.PairIndex.rebuild.Goals as goal

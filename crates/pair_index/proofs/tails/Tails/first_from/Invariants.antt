@@ -1,4 +1,4 @@
-use Rattle.pair_index.specs.Tailed.{IsBare}
+use Rattle.pair_index.specs.State.Tailed.{IsBare}
 use Rattle.pair_index.proofs.tails.Tails.first_from.Given as goal
 
 -- the tails so far have no position

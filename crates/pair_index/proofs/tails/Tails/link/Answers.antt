@@ -1,6 +1,6 @@
 use Rattle.std.proofs.Common.{◌≡◌, suc, ◌+◌, ◌-◌, ◌<◌, ◌∷◌, ◌++◌, [], length, set, sym, ap, ◌∙◌, subst, arith}
 use Rattle.std.specs.Map.{keys_of}
-use Rattle.pair_index.specs.Tailed.{Links}
+use Rattle.pair_index.specs.State.Tailed.{Links}
 use Rattle.pair_index.proofs.SpliceLaws.{links_more, spliced_first, spliced_after, before_inside}
 use Rattle.pair_index.proofs.tails.Tails.link.Goals as goal
 

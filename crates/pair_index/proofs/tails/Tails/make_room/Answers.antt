@@ -1,6 +1,6 @@
 use Rattle.std.proofs.Common.{◌+◌, ◌-◌, ◌++◌, replicate, sym, ap, ◌∙◌, subst, arith}
 use Rattle.std.proofs.lemmas.List.{take_all}
-use Rattle.pair_index.specs.Tailed.{Links}
+use Rattle.pair_index.specs.State.Tailed.{Links}
 use Rattle.pair_index.proofs.TailLaws.{links_wider}
 use Rattle.pair_index.proofs.tails.Tails.make_room.Goals as goal
 

@@ -4,8 +4,8 @@ use Rattle.std.specs.declared.cmp.Ordering.TheVariants.{Less}
 use Rattle.std.proofs.lemmas.Int.{ints}
 use Rattle.std.proofs.lemmas.Map.Entries.{length-keys_of}
 use Rattle.std.proofs.lemmas.List.{get_or_read}
-use Rattle.pair_index.specs.Pairs.{pair_cmp}
-use Rattle.pair_index.specs.Places.{key_at}
+use Rattle.dn_arc.specs.Pairs.{pair_cmp}
+use Rattle.pair_index.specs.State.Places.{key_at}
 use Rattle.pair_index.proofs.ChainLaws.{key_of_place}
 use Rattle.pair_index.proofs.TailLaws.{has_next}
 use Rattle.pair_index.proofs.WalkLaws.{least_from_tail, from_zero, tail_known, chain_next, chain_inside, chain_end, past_tail}

@@ -1,7 +1,7 @@
 use Rattle.std.proofs.Common.{◌≡◌, ◌<◌, ◌-◌, ℤ, ◌≤ℤ◌, subst, sym, refl, arith}
 use Rattle.std.specs.Map.{keys_of}
 use Rattle.std.proofs.lemmas.Bool.{false≢true}
-use Rattle.pair_index.specs.Places.{key_at}
+use Rattle.pair_index.specs.State.Places.{key_at}
 use Rattle.std.proofs.lemmas.Map.Entries.{length-keys_of}
 use Rattle.std.proofs.lemmas.List.{get_or_read}
 use Rattle.pair_index.proofs.ChainLaws.{key_of_place}

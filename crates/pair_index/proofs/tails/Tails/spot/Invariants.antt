@@ -1,5 +1,5 @@
 use Rattle.std.specs.Map.{keys_of}
-use Rattle.pair_index.specs.Tailed.{Sought}
+use Rattle.pair_index.specs.State.Tailed.{Sought}
 use Rattle.pair_index.proofs.TailLaws.{left_of}
 use Rattle.pair_index.proofs.tails.Tails.spot.Given as goal
 

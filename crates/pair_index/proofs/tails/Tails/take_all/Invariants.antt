@@ -1,6 +1,6 @@
 use Rattle.std.proofs.Common.{take}
 use Rattle.std.specs.Map.{keys_of}
-use Rattle.pair_index.specs.Tailed.{IsTailed}
+use Rattle.pair_index.specs.State.Tailed.{IsTailed}
 use Rattle.pair_index.proofs.tails.Tails.take_all.Given as goal
 
 -- the entries so far are in chains

@@ -1,7 +1,7 @@
 use Rattle.std.proofs.Common.{ap, ◌∙◌, rules, w64}
 use Rattle.std.specs.Int.{w128}
 use Rattle.std.proofs.lemmas.Int.{to_z-of_z}
-use Rattle.dn_bundle.specs.Steps.{add_step}
+use Rattle.dn_arc.specs.State.Steps.{add_step}
 use Rattle.dn_bundle.proofs.GrowLaws.{cost_fits, units_fit, step_is, units_are}
 use Rattle.dn_bundle.proofs.curve.shape.Numbers.add.Goals as goal
 

@@ -1,0 +1,200 @@
+-- Proofs that the arcs of a problem mean the same as some of form 1, and that their forced units, what these cost,
+-- their free capacity by cost and their number of entries follow from the meaning.
+use Rattle.std.specs.Prelude.{◌≡◌, ℕ, suc, ◌+◌, ℤ, pos, ◌+ℤ◌, ◌-ℤ◌, ◌*ℤ◌, ◌≤ℤ◌, ◌<ℤ◌, Bool, true, false, ◌||◌, List, [], ◌∷◌, length, cond, filter, map, int_lt, refl}
+use Rattle.std.proofs.Common.{sym, ap, subst, arith, ◌∙◌}
+use Rattle.std.proofs.lemmas.Int.{ints, by_lt_z}
+use Rattle.std.proofs.lemmas.Cmp.{int_ranked, by_ranked}
+use Rattle.std.specs.List.{AllByRecursion, list_any}
+use Rattle.std.specs.Ordering.{int_cmp, int_eq, is_eq}
+use Rattle.std.specs.declared.cmp.Ordering.TheVariants.{Less, Equal, Greater}
+use Rattle.std.specs.Int.Signed.{≤ℤ_refl}
+use Rattle.dn_arc.specs.declared.arc.CostArc.{CostArc}
+use Rattle.dn_arc.specs.declared.arc.Form.TheVariants.{One}
+use Rattle.dn_arc.specs.Meanings.{SameCurve}
+use Rattle.dn_arc.specs.Canonical.{IsCostArc, has_low}
+use Rattle.dn_arc.specs.Entries.{distinct, has_room, cost_entries}
+use Rattle.dn_arc.specs.Fillings.{forced_units, forced_cost}
+use Rattle.dn_arc.specs.State.Fillings.{room}
+use Rattle.dn_arc.specs.State.Steps.{put_step, has_step, AreSteps}
+use Rattle.dn_arc.specs.State.CurveTold.{free_arc, step_arc, told}
+use Rattle.dn_arc.proofs.SplitsLaws.{SameAbove}
+use Rattle.dn_arc.proofs.CurvesLaws.{above_meaning, curve_meaning}
+use Rattle.dn_arc.proofs.OrdersLaws.{at_end}
+use Rattle.dn_arc.proofs.PartsLaws.{by_test, test_yes, test_no}
+use Rattle.dn_arc.proofs.FormsLaws.{form_one_ordered}
+use Rattle.dn_arc.proofs.FormOneLaws.{same_fill, free_same}
+use Rattle.dn_arc.proofs.AddsLaws.{above_none}
+use Rattle.dn_arc.proofs.StepArcsLaws.{CostsAbove, costs_lower, free_arcs, put_steps, put_above}
+use Rattle.dn_arc.proofs.ToldLaws.{told_one, told_apart, told_units, told_cost}
+use Rattle.dn_arc.proofs.SoundLaws.{told_added}
+
+-- the free capacity of arcs by rising cost
+abbrev pub arc_steps : List CostArc → List (ℤ × ℤ)
+arc_steps [] = []
+arc_steps (a ∷ rest) = cond (int_lt a.low a.cap) (put_step (arc_steps rest) (a.cost, room a)) (arc_steps rest)
+
+-- the canonical arcs of form 1
+abbrev pub canon : List CostArc → List CostArc
+canon arcs = told One (forced_units arcs) (forced_cost arcs) (arc_steps arcs)
+
+arc_steps_are : (arcs : List CostArc) → AreSteps (arc_steps arcs)
+arc_steps_are [] = tt
+arc_steps_are (a ∷ rest) =
+    by_test AreSteps a.low a.cap (put_step (arc_steps rest) (a.cost, room a)) (arc_steps rest)
+    (λ lt. put_steps (arc_steps rest) (a.cost, room a) (omega (arith, ints)) (arc_steps_are rest))
+    (λ le. arc_steps_are rest)
+
+units_some : (arcs : List CostArc) → AllByRecursion IsCostArc arcs → pos 0 ≤ℤ forced_units arcs
+units_some [] h = ≤ℤ_refl _
+units_some (a ∷ rest) h = let low = h.0.some in let i = units_some rest h.1 in omega (arith, ints)
+
+none_forced : (arcs : List CostArc) → AllByRecursion IsCostArc arcs → forced_units arcs ≡ pos 0 → forced_cost arcs ≡ pos 0
+none_forced [] h e = refl
+none_forced (a ∷ rest) h e =
+    let low = h.0.some in
+    let left = units_some rest h.1 in
+    let none : a.low ≡ pos 0 = omega (arith, ints) in
+    let i = none_forced rest h.1 (omega (arith, ints)) in
+    let p = ap (λ z. a.cost *ℤ z) none in
+    omega (arith, ints)
+
+canon_same : (arcs : List CostArc) → AllByRecursion IsCostArc arcs → SameCurve (canon arcs) arcs
+canon_same [] h = curve_meaning.same_refl []
+canon_same (a ∷ rest) h =
+    let high = h.0.room in
+    let more : SameAbove (map step_arc (arc_steps (a ∷ rest))) (free_arc a.cost (a.cap -ℤ a.low) ∷ map step_arc (arc_steps rest)) =
+    by_test (λ (l : List (ℤ × ℤ)). SameAbove (map step_arc l) (free_arc a.cost (a.cap -ℤ a.low) ∷ map step_arc (arc_steps rest))) a.low a.cap (put_step (arc_steps rest) (a.cost, room a)) (arc_steps rest)
+    (λ lt. put_above (arc_steps rest) (a.cost, room a) (omega (arith, ints)) (arc_steps_are rest))
+    (λ le. above_meaning.same_sym _ _ (above_none a.cost (a.cap -ℤ a.low) (map step_arc (arc_steps rest)) (omega (arith, ints)))) in
+    let added = told_added (forced_units rest) (forced_cost rest) (forced_units (a ∷ rest)) (forced_cost (a ∷ rest)) (arc_steps rest) (arc_steps (a ∷ rest)) a
+    (units_some rest h.1) (none_forced rest h.1) (arc_steps_are rest)
+    (units_some (a ∷ rest) h) (none_forced (a ∷ rest) h) (arc_steps_are (a ∷ rest))
+    (omega (arith, ints)) (omega (arith, ints)) more in
+    curve_meaning.same_trans _ _ _ added
+    (curve_meaning.same_trans _ _ _ (at_end SameCurve curve_meaning (canon rest) a) (curve_meaning.same_more a _ _ (canon_same rest h.1)))
+
+back : (steps : List (ℤ × ℤ)) → map (λ (a : CostArc). (a.cost, a.cap)) (map step_arc steps) ≡ steps
+back [] = refl
+back (step ∷ rest) = ap (λ l. step ∷ l) (back rest)
+
+-- what follows from the meaning: forced units, their cost, and the free capacity by cost
+pub record IsSameCanon (xs ys : List CostArc) : Type 0 where
+  pub units : forced_units xs ≡ forced_units ys
+  pub cost : forced_cost xs ≡ forced_cost ys
+  pub steps : arc_steps xs ≡ arc_steps ys
+
+pub same_canon : (xs ys : List CostArc) → AllByRecursion IsCostArc xs → AllByRecursion IsCostArc ys → SameCurve xs ys → IsSameCanon xs ys
+same_canon xs ys h g s =
+    let p = told_one (forced_units xs) (forced_cost xs) (arc_steps xs) (units_some xs h) (none_forced xs h) (arc_steps_are xs) in
+    let q = told_one (forced_units ys) (forced_cost ys) (arc_steps ys) (units_some ys g) (none_forced ys g) (arc_steps_are ys) in
+    let same = curve_meaning.same_trans _ _ _ (canon_same xs h) (curve_meaning.same_trans _ _ _ s (curve_meaning.same_sym _ _ (canon_same ys g))) in
+    let t = same_fill (canon xs) (canon ys) (form_one_ordered (canon xs) p) (form_one_ordered (canon ys) q) same in
+    let u = told_units (forced_units xs) (forced_cost xs) (arc_steps xs) (units_some xs h) (none_forced xs h) (arc_steps_are xs) in
+    let v = told_units (forced_units ys) (forced_cost ys) (arc_steps ys) (units_some ys g) (none_forced ys g) (arc_steps_are ys) in
+    let c = told_cost (forced_units xs) (forced_cost xs) (arc_steps xs) (units_some xs h) (none_forced xs h) (arc_steps_are xs) in
+    let d = told_cost (forced_units ys) (forced_cost ys) (arc_steps ys) (units_some ys g) (none_forced ys g) (arc_steps_are ys) in
+    let a = told_apart (forced_units xs) (forced_cost xs) (arc_steps xs) (units_some xs h) (none_forced xs h) (arc_steps_are xs) in
+    let b = told_apart (forced_units ys) (forced_cost ys) (arc_steps ys) (units_some ys g) (none_forced ys g) (arc_steps_are ys) in
+    let f = free_same (map step_arc (arc_steps xs)) (map step_arc (arc_steps ys)) (free_arcs (arc_steps xs) (arc_steps_are xs)) (free_arcs (arc_steps ys) (arc_steps_are ys)) (record { whole = sym a.room ∙ t.whole ∙ b.room; each = λ y l w. sym (a.fill y l) ∙ t.each y l (subst (λ z. y ≤ℤ z) (sym a.room) w) ∙ b.fill y l }) in
+    record {
+      units = sym u ∙ t.units ∙ v;
+      cost = sym c ∙ t.cost ∙ d;
+      steps = sym (back (arc_steps xs)) ∙ ap (λ l. map (λ (a : CostArc). (a.cost, a.cap)) l) f ∙ back (arc_steps ys);
+    }
+
+-- by the order of two numbers
+pub by_cmp : {G : Type 0} (a b : ℤ) → (int_cmp a b ≡ Less → a <ℤ b → G) → (int_cmp a b ≡ Equal → a ≡ b → G) → (int_cmp a b ≡ Greater → b <ℤ a → G) → G
+by_cmp a b f g h = by_ranked (a <ℤ b) (a ≡ b) (b <ℤ a) (int_cmp a b) (int_ranked a b (int_cmp a b) refl) f g h
+
+pub eq_yes : (a b : ℤ) → a ≡ b → int_eq a b ≡ true
+eq_yes a b e = by_cmp a b (λ c lt. absurd (omega (arith, ints))) (λ c eq. ap is_eq c) (λ c gt. absurd (omega (arith, ints)))
+
+pub eq_below : (a b : ℤ) → a <ℤ b → int_eq a b ≡ false
+eq_below a b h = by_cmp a b (λ c lt. ap is_eq c) (λ c eq. absurd (omega (arith, ints))) (λ c gt. ap is_eq c)
+
+pub eq_past : (a b : ℤ) → b <ℤ a → int_eq a b ≡ false
+eq_past a b h = by_cmp a b (λ c lt. ap is_eq c) (λ c eq. absurd (omega (arith, ints))) (λ c gt. ap is_eq c)
+
+or_swap : (a b c : Bool) → (a || (b || c)) ≡ (b || (a || c))
+or_swap true true c = refl
+or_swap true false c = refl
+or_swap false true c = refl
+or_swap false false c = refl
+
+or_same : (a c : Bool) → (a || c) ≡ (a || (a || c))
+or_same true c = refl
+or_same false c = refl
+
+-- a cost is there if it was there or is the one that was put
+has_put : (steps : List (ℤ × ℤ)) (more : ℤ × ℤ) (c : ℤ) → has_step (put_step steps more) c ≡ (int_eq c more.0 || has_step steps c)
+has_put [] more c = refl
+has_put (step ∷ rest) more c =
+    by_test (λ (l : List (ℤ × ℤ)). has_step l c ≡ (int_eq c more.0 || has_step (step ∷ rest) c)) more.0 step.0 (more ∷ step ∷ rest) (cond (int_lt step.0 more.0) (step ∷ put_step rest more) ((step.0, step.1 +ℤ more.1) ∷ rest))
+    (λ lt. refl)
+    (λ le. by_test (λ (l : List (ℤ × ℤ)). has_step l c ≡ (int_eq c more.0 || has_step (step ∷ rest) c)) step.0 more.0 (step ∷ put_step rest more) ((step.0, step.1 +ℤ more.1) ∷ rest)
+    (λ lt. ap (λ b. int_eq c step.0 || b) (has_put rest more c) ∙ or_swap (int_eq c step.0) (int_eq c more.0) (has_step rest c))
+    (λ ge.
+    let same : step.0 ≡ more.0 = omega (arith, ints) in
+    or_same (int_eq c step.0) (has_step rest c) ∙ ap (λ z. int_eq c z || (int_eq c step.0 || has_step rest c)) same))
+
+none_has : (c : ℤ) (steps : List (ℤ × ℤ)) → CostsAbove c steps → has_step steps c ≡ false
+none_has c [] h = refl
+none_has c (step ∷ rest) h = ap (λ b. b || has_step rest c) (eq_below c step.0 h.0) ∙ none_has c rest h.1
+
+-- one cost more, unless it was there
+length_put : (steps : List (ℤ × ℤ)) (more : ℤ × ℤ) → AreSteps steps → length (put_step steps more) ≡ cond (has_step steps more.0) (length steps) (suc (length steps))
+length_put [] more s = refl
+length_put (step ∷ rest) more s =
+    by_test (λ (l : List (ℤ × ℤ)). length l ≡ cond (has_step (step ∷ rest) more.0) (length (step ∷ rest)) (suc (length (step ∷ rest)))) more.0 step.0 (more ∷ step ∷ rest) (cond (int_lt step.0 more.0) (step ∷ put_step rest more) ((step.0, step.1 +ℤ more.1) ∷ rest))
+    (λ lt. sym (ap (λ b. cond b (length (step ∷ rest)) (suc (length (step ∷ rest)))) (none_has more.0 (step ∷ rest) (lt, costs_lower more.0 step.0 rest lt s.1))))
+    (λ le. by_test (λ (l : List (ℤ × ℤ)). length l ≡ cond (has_step (step ∷ rest) more.0) (length (step ∷ rest)) (suc (length (step ∷ rest)))) step.0 more.0 (step ∷ put_step rest more) ((step.0, step.1 +ℤ more.1) ∷ rest)
+    (λ lt. ap suc (length_put rest more s.2) ∙ one_more (has_step rest more.0) (length rest) ∙ sym (ap (λ b. cond (b || has_step rest more.0) (length (step ∷ rest)) (suc (length (step ∷ rest)))) (eq_past more.0 step.0 lt)))
+    (λ ge. sym (ap (λ b. cond (b || has_step rest more.0) (length (step ∷ rest)) (suc (length (step ∷ rest)))) (eq_yes more.0 step.0 (omega (arith, ints))))))
+  where
+    one_more : (b : Bool) (n : ℕ) → suc (cond b n (suc n)) ≡ cond b (suc n) (suc (suc n))
+    one_more true n = refl
+    one_more false n = refl
+
+abbrev pub costs_of : List CostArc → List ℤ
+costs_of arcs = map (λ (a : CostArc). a.cost) (filter has_room arcs)
+
+-- a cost has free capacity where an arc of it has
+has_cost : (arcs : List CostArc) (c : ℤ) → list_any (int_eq c) (costs_of arcs) ≡ has_step (arc_steps arcs) c
+has_cost [] c = refl
+has_cost (a ∷ rest) c =
+    elim (int_lt a.low a.cap) as (λ v. list_any (int_eq c) (map (λ (a : CostArc). a.cost) (cond v (a ∷ filter has_room rest) (filter has_room rest))) ≡ has_step (cond v (put_step (arc_steps rest) (a.cost, room a)) (arc_steps rest)) c) [
+      | true ↦ ap (λ b. int_eq c a.cost || b) (has_cost rest c) ∙ sym (has_put (arc_steps rest) (a.cost, room a) c)
+      | false ↦ has_cost rest c
+    ]
+
+-- as many costs as arcs with free capacity have
+pub count_costs : (arcs : List CostArc) → length (distinct int_eq (costs_of arcs)) ≡ length (arc_steps arcs)
+count_costs [] = refl
+count_costs (a ∷ rest) =
+    let i = count_costs rest in
+    elim (int_lt a.low a.cap) as (λ v. length (distinct int_eq (map (λ (a : CostArc). a.cost) (cond v (a ∷ filter has_room rest) (filter has_room rest)))) ≡ length (cond v (put_step (arc_steps rest) (a.cost, room a)) (arc_steps rest))) [
+      | true ↦ ap (λ b. length (cond b (distinct int_eq (costs_of rest)) (a.cost ∷ distinct int_eq (costs_of rest)))) (has_cost rest a.cost) ∙ either (has_step (arc_steps rest) a.cost) i ∙ sym (length_put (arc_steps rest) (a.cost, room a) (arc_steps_are rest))
+      | false ↦ i
+    ]
+  where
+    either : (b : Bool) → length (distinct int_eq (costs_of rest)) ≡ length (arc_steps rest) → length (cond b (distinct int_eq (costs_of rest)) (a.cost ∷ distinct int_eq (costs_of rest))) ≡ cond b (length (arc_steps rest)) (suc (length (arc_steps rest)))
+    either true i = i
+    either false i = ap suc i
+
+any_low : (arcs : List CostArc) → AllByRecursion IsCostArc arcs → list_any has_low arcs ≡ int_lt (pos 0) (forced_units arcs)
+any_low [] h = refl
+any_low (a ∷ rest) h =
+    let low = h.0.some in
+    let left = units_some rest h.1 in
+    by_lt_z (pos 0) a.low
+    (λ lt. ap (λ b. b || list_any has_low rest) (test_yes (pos 0) a.low lt) ∙ sym (test_yes (pos 0) (forced_units (a ∷ rest)) (omega (arith, ints))))
+    (λ le. ap (λ b. b || list_any has_low rest) (test_no (pos 0) a.low le) ∙ any_low rest h.1 ∙ ap (λ z. int_lt (pos 0) z) (let e : forced_units rest ≡ forced_units (a ∷ rest) = omega (arith, ints) in e))
+
+-- the entries by the forced units and the free capacity
+pub entries_are : (arcs : List CostArc) → AllByRecursion IsCostArc arcs → cost_entries arcs ≡ cond (int_lt (pos 0) (forced_units arcs)) 1 0 + length (arc_steps arcs)
+entries_are arcs h = ap (λ b. cond b 1 0 + length (distinct int_eq (costs_of arcs))) (any_low arcs h) ∙ ap (λ n. cond (int_lt (pos 0) (forced_units arcs)) 1 0 + n) (count_costs arcs)
+
+pub entries_same : (xs ys : List CostArc) → AllByRecursion IsCostArc xs → AllByRecursion IsCostArc ys → SameCurve xs ys → cost_entries xs ≡ cost_entries ys
+entries_same xs ys h g s =
+    let c = same_canon xs ys h g s in
+    entries_are xs h ∙ ap (λ z. cond (int_lt (pos 0) z) 1 0 + length (arc_steps xs)) c.units ∙ ap (λ l. cond (int_lt (pos 0) (forced_units ys)) 1 0 + length l) c.steps ∙ sym (entries_are ys g)

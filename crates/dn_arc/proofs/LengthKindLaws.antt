@@ -1,0 +1,79 @@
+-- Proofs of the laws of `sp` arcs as a kind, that their meaning determines canonical ones, and that the arcs told of a
+-- least length are canonical, and of 64 bits if it is.
+use Rattle.std.specs.Prelude.{◌≡◌, ℤ, List, [], ◌∷◌, Option, Some, None, refl, FitsSigned}
+use Rattle.std.specs.Int.{w64}
+use Rattle.std.specs.Option.{ForSome}
+use Rattle.std.proofs.Common.{ap, arith, sym, ◌∙◌}
+use Rattle.std.proofs.lemmas.Int.{ints}
+use Rattle.std.specs.List.{AllByRecursion}
+use Rattle.dn_arc.specs.declared.arc.LengthArc.{LengthArc}
+use Rattle.dn_arc.specs.declared.difference.How.{How}
+use Rattle.dn_arc.specs.declared.difference.How.TheVariants.{Lengths, Totals, Costs}
+use Rattle.dn_arc.specs.Kinds.{lengths}
+use Rattle.dn_arc.specs.State.Bundles.{IsKind, IsDetermined, NumbersFit}
+use Rattle.dn_arc.specs.Meanings.{SameLength}
+use Rattle.dn_arc.specs.Canonical.{AreCanonLengths}
+use Rattle.dn_arc.specs.Differences.{LengthsDiffer}
+use Rattle.dn_arc.specs.Entries.{length_entries}
+use Rattle.dn_arc.specs.State.Lengths.{length_told}
+use Rattle.dn_arc.proofs.LengthsLaws.{length_meaning, lengths_determined, lengths_differ, length_of_one, length_of_same, first_length}
+
+any_arcs : (xs : List LengthArc) → AllByRecursion (λ (a : LengthArc). Unit {0}) xs
+any_arcs [] = tt
+any_arcs (a ∷ rest) = (tt, any_arcs rest)
+
+abbrev all_numbers : Option LengthArc → List ℤ
+all_numbers None = []
+all_numbers (Some a) = a.length ∷ []
+
+numbers_of : (ns : List ℤ) (a : LengthArc) → lengths.arc_of ns ≡ Some a → lengths.numbers a ≡ ns
+numbers_of [] a e = cc
+numbers_of (w ∷ []) a e = ap all_numbers (sym e)
+numbers_of (w ∷ v ∷ ns) a e = cc
+
+same_entries : (xs ys : List LengthArc) → SameLength xs ys → length_entries xs ≡ length_entries ys
+same_entries [] [] s = refl
+same_entries [] (b ∷ ys) s = absurd (first_length b ys (length_meaning.same_sym _ _ s))
+same_entries (a ∷ xs) [] s = absurd (first_length a xs s)
+same_entries (a ∷ xs) (b ∷ ys) s = refl
+
+one_differ : (xs ys : List LengthArc) (how other : How) → LengthsDiffer xs ys how → LengthsDiffer xs ys other → how ≡ other
+one_differ xs ys (Lengths l r) (Lengths l' r') d e = ap (λ v. Lengths v r) (length_of_one xs l l' d.0 e.0) ∙ ap (Lengths l') (length_of_one ys r r' d.1 e.1)
+one_differ xs ys (Lengths l r) (Totals l' r') d e = absurd e
+one_differ xs ys (Lengths l r) (Costs g) d e = absurd e
+one_differ xs ys (Totals l r) other d e = absurd d
+one_differ xs ys (Costs g) other d e = absurd d
+
+same_differ : (xs xs' ys ys' : List LengthArc) (how : How) → SameLength xs xs' → SameLength ys ys' → LengthsDiffer xs ys how → LengthsDiffer xs' ys' how
+same_differ xs xs' ys ys' (Lengths l r) s t d = (length_of_same xs xs' l s d.0, length_of_same ys ys' r t d.1, d.2)
+same_differ xs xs' ys ys' (Totals l r) s t d = d
+same_differ xs xs' ys ys' (Costs g) s t d = d
+
+pub length_kind : IsKind lengths
+length_kind = record {
+  meaning = length_meaning;
+  arc_of_numbers = λ a. refl;
+  numbers_of_arc = numbers_of;
+  capacity_append = λ xs ys. refl;
+  capacity_some = λ xs h. omega (arith, ints);
+  canon_arcs = λ form xs c. any_arcs xs;
+  none_canon = λ form. tt;
+  nothing_told = λ form xs c s. lengths_determined xs [] c tt s;
+  same_capacity = λ xs ys h g s. refl;
+  same_entries = λ xs ys h g s. same_entries xs ys s;
+  none_entries = refl;
+  none_differ = lengths_differ;
+  one_differ = one_differ;
+  same_differ = same_differ;
+}
+
+pub length_determined : IsDetermined lengths
+length_determined form xs ys p q s = lengths_determined xs ys p q s
+
+pub length_canonical : (o : Option ℤ) → AreCanonLengths (length_told o)
+length_canonical None = tt
+length_canonical (Some w) = tt
+
+pub length_fit : (o : Option ℤ) → ForSome o (λ w. FitsSigned w64 w) → NumbersFit lengths (length_told o)
+length_fit None h = tt
+length_fit (Some w) h = ((h w refl, tt), tt)

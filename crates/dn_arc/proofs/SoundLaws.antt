@@ -1,0 +1,113 @@
+-- Proofs that the arcs that a curve tells are canonical, of 64 bits and of its capacity, and mean the same in both
+-- forms; and that an arc's forced and free part, added to them, mean that arc at their end.
+use Rattle.std.specs.Prelude.{◌≡◌, ◌-◌, ◌^◌, ℤ, pos, ◌+ℤ◌, ◌-ℤ◌, ◌*ℤ◌, ◌≤ℤ◌, ◌<ℤ◌, List, [], ◌∷◌, ◌++◌, map, refl, FitsSigned}
+use Rattle.std.specs.Int.{w64, int_div_euclid, int_rem_euclid}
+use Rattle.std.proofs.Common.{sym, ap, subst, arith, ◌∙◌}
+use Rattle.std.proofs.Props.{props}
+use Rattle.std.proofs.lemmas.Int.{ints}
+use Rattle.std.proofs.Math.IntN.{*ℤ_comm}
+use Rattle.std.specs.List.{AllByRecursion, AllByRecursion-prop}
+use Rattle.dn_arc.specs.declared.arc.CostArc.{CostArc}
+use Rattle.dn_arc.specs.declared.arc.Form.{Form}
+use Rattle.dn_arc.specs.declared.arc.Form.TheVariants.{One, Two}
+use Rattle.dn_arc.specs.Kinds.{costs}
+use Rattle.dn_arc.specs.State.Bundles.{NumbersFit}
+use Rattle.dn_arc.specs.Splits.{cost_cap}
+use Rattle.dn_arc.specs.Meanings.{SameCurve}
+use Rattle.dn_arc.specs.Canonical.{IsCostArc, AreCanonCosts}
+use Rattle.dn_arc.specs.State.Means.{IsMean}
+use Rattle.dn_arc.specs.State.Steps.{AreSteps}
+use Rattle.dn_arc.specs.State.CurveTold.{fixed_arc, free_arc, step_arc, spread_arcs, fixed_arcs, join_arcs, told, IsSound}
+use Rattle.dn_arc.proofs.SplitsLaws.{SameAbove}
+use Rattle.dn_arc.proofs.AddsLaws.{add_end}
+use Rattle.dn_arc.proofs.MeansLaws.{floor_of, each_fits, each_next, none_cost, fits_some, fits_next}
+use Rattle.dn_arc.proofs.PartsLaws.{by_test}
+use Rattle.dn_arc.proofs.JoinsLaws.{joined_costs}
+use Rattle.dn_arc.proofs.ToldLaws.{carried, told_canonical, told_same, told_cap, told_arcs}
+
+steps_prop : (steps : List (ℤ × ℤ)) → IsProp (AreSteps steps)
+steps_prop [] = hlevel props
+steps_prop (step ∷ rest) = let i = steps_prop rest in let a = AllByRecursion-prop (λ (other : ℤ × ℤ). step.0 <ℤ other.0) (λ _. hlevel props) rest in hlevel (props, i, a)
+
+pub IsSound-prop : (units cost total : ℤ) (steps : List (ℤ × ℤ)) → IsProp (IsSound units cost total steps)
+IsSound-prop units cost total steps = let i = steps_prop steps in let a = AllByRecursion-prop (λ (step : ℤ × ℤ). FitsSigned w64 step.0) (λ _. hlevel props) steps in hlevel (props, i, a)
+
+-- the costs have 64 bits
+abbrev CostsFit : List CostArc → Type 0
+CostsFit arcs = AllByRecursion (λ (a : CostArc). FitsSigned w64 a.cost) arcs
+
+steps_fit : (steps : List (ℤ × ℤ)) → AllByRecursion (λ (step : ℤ × ℤ). FitsSigned w64 step.0) steps → CostsFit (map step_arc steps)
+steps_fit [] f = tt
+steps_fit (step ∷ rest) f = (f.0, steps_fit rest f.1)
+
+fixed_fit : (units cost : ℤ) → IsMean cost units → CostsFit (fixed_arcs units cost)
+fixed_fit units cost m =
+    let each = int_div_euclid cost units in
+    let rest = int_rem_euclid cost units in
+    by_test CostsFit (pos 0) units (spread_arcs units each rest) []
+    (λ lt.
+    let f = each_fits cost units each lt m refl in
+    by_test CostsFit (pos 0) rest (fixed_arc (units -ℤ rest) each ∷ fixed_arc rest (each +ℤ pos 1) ∷ []) (fixed_arc units each ∷ [])
+    (λ some. (f, (fits_next each f (each_next cost units each rest m (floor_of cost units each rest lt refl refl) some), tt)))
+    (λ none. (f, tt)))
+    (λ le. tt)
+
+both_fit : (xs ys : List CostArc) → CostsFit xs → CostsFit ys → CostsFit (xs ++ ys)
+both_fit [] ys f g = g
+both_fit (x ∷ xs) ys f g = (f.0, both_fit xs ys f.1 g)
+
+join_fit : (xs ys : List CostArc) → CostsFit xs → CostsFit ys → CostsFit (join_arcs xs ys)
+join_fit [] ys f g = g
+join_fit (x ∷ xs) ys f g = joined_costs (FitsSigned w64) x (join_arcs xs ys) f.0 (join_fit xs ys f.1 g)
+
+-- capacities of arcs sum to 0 or more
+pub caps_some : (arcs : List CostArc) → AllByRecursion IsCostArc arcs → pos 0 ≤ℤ cost_cap arcs
+caps_some [] h = omega (arith, ints)
+caps_some (a ∷ rest) h = let low = h.0.some in let high = h.0.room in let i = caps_some rest h.1 in omega (arith, ints)
+
+-- arcs whose capacity and costs have 64 bits
+numbers_fit : (arcs : List CostArc) → AllByRecursion IsCostArc arcs → cost_cap arcs ≤ℤ pos (2 ^ 63 - 1) → CostsFit arcs → NumbersFit costs arcs
+numbers_fit [] h m f = tt
+numbers_fit (a ∷ rest) h m f =
+    let low = h.0.some in
+    let high = h.0.room in
+    let left = caps_some rest h.1 in
+    ((fits_some a.low low (omega (arith, ints)), (fits_some a.cap (omega (arith, ints)) (omega (arith, ints)), (f.0, tt))), numbers_fit rest h.1 (omega (arith, ints)) f.1)
+
+module _ (units cost total : ℤ) (steps : List (ℤ × ℤ)) (s : IsSound units cost total steps) where
+  pub none_is : units ≡ pos 0 → cost ≡ pos 0
+  none_is e = none_cost cost units e s.mean
+
+  pub sound_canonical : (form : Form) → AreCanonCosts form (told form units cost steps)
+  sound_canonical form = told_canonical units cost steps s.some none_is s.rising form
+
+  pub sound_same : SameCurve (told Two units cost steps) (told One units cost steps)
+  sound_same = told_same units cost steps s.some none_is s.rising
+
+  pub sound_cap : (form : Form) → cost_cap (told form units cost steps) ≡ total
+  sound_cap form = told_cap units cost steps s.some none_is s.rising form ∙ sym s.whole
+
+  pub sound_arcs : (form : Form) → AllByRecursion IsCostArc (told form units cost steps)
+  sound_arcs form = told_arcs units cost steps s.some none_is s.rising form
+
+  costs_fit : (form : Form) → CostsFit (told form units cost steps)
+  costs_fit One = both_fit (fixed_arcs units cost) (map step_arc steps) (fixed_fit units cost s.mean) (steps_fit steps s.fit)
+  costs_fit Two = join_fit (fixed_arcs units cost) (map step_arc steps) (fixed_fit units cost s.mean) (steps_fit steps s.fit)
+
+  pub sound_fit : (form : Form) → NumbersFit costs (told form units cost steps)
+  sound_fit form = numbers_fit (told form units cost steps) (sound_arcs form) (subst (λ z. z ≤ℤ pos (2 ^ 63 - 1)) (sym (sound_cap form)) s.most) (costs_fit form)
+
+-- an arc more, by its forced and its free part
+pub told_added : (units cost units' cost' : ℤ) (steps steps' : List (ℤ × ℤ)) (a : CostArc)
+    → pos 0 ≤ℤ units → (units ≡ pos 0 → cost ≡ pos 0) → AreSteps steps
+    → pos 0 ≤ℤ units' → (units' ≡ pos 0 → cost' ≡ pos 0) → AreSteps steps'
+    → units' ≡ units +ℤ a.low → cost' ≡ cost +ℤ (a.low *ℤ a.cost)
+    → SameAbove (map step_arc steps') (free_arc a.cost (a.cap -ℤ a.low) ∷ map step_arc steps)
+    → SameCurve (told One units' cost' steps') (told One units cost steps ++ a ∷ [])
+told_added units cost units' cost' steps steps' a h n s h' n' s' eu ec sa =
+    let old = carried units cost steps h n s in
+    let new = carried units' cost' steps' h' n' s' in
+    add_end (fixed_arcs units cost) (fixed_arcs units' cost') (map step_arc steps) (map step_arc steps') a old.are.each new.are.each
+    (new.units_is ∙ eu ∙ ap (λ z. z +ℤ a.low) (sym old.units_is))
+    (new.cost_is ∙ ec ∙ ap (λ z. cost +ℤ z) (*ℤ_comm a.low a.cost) ∙ ap (λ z. z +ℤ (a.cost *ℤ a.low)) (sym old.cost_is))
+    sa

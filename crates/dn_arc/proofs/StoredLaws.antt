@@ -1,0 +1,20 @@
+-- The numbers of a curve tell it from others, so it is stored as they are.
+use Rattle.std.specs.Prelude.{◌≡◌, ℤ, List}
+use Rattle.std.specs.Coded.{Coded, coded_ℤ, coded×, coded_list}
+use Rattle.std.proofs.Common.{sym, ap, subst}
+use base.Stored.{coded_via}
+use Rattle.dn_arc.specs.State.CurveTold.{IsSound}
+use Rattle.dn_arc.specs.State.Curves.{CurveNumbers}
+use Rattle.dn_arc.proofs.SoundLaws.{IsSound-prop}
+
+-- the numbers in a tuple
+abbrev pub tuple : CurveNumbers → ℤ × (ℤ × (ℤ × List (ℤ × ℤ)))
+tuple b = (b.units, (b.cost, (b.total, b.steps)))
+
+pub same_numbers : (a b : CurveNumbers) → tuple a ≡ tuple b → a ≡ b
+same_numbers a b e =
+    let P : ℤ × (ℤ × (ℤ × List (ℤ × ℤ))) → Type 0 = λ t. (s : IsSound t.0 t.1.0 t.1.1.0 t.1.1.1) → record { units = t.0; cost = t.1.0; total = t.1.1.0; steps = t.1.1.1; sound = s } ≡ b in
+    subst P (sym e) (λ s. ap (λ (p : IsSound b.units b.cost b.total b.steps). let c : CurveNumbers = record { units = b.units; cost = b.cost; total = b.total; steps = b.steps; sound = p } in c) (IsSound-prop b.units b.cost b.total b.steps s b.sound)) a.sound
+
+abbrev pub curve_code : Coded CurveNumbers
+curve_code = coded_via (coded× coded_ℤ (coded× coded_ℤ (coded× coded_ℤ (coded_list (coded× coded_ℤ coded_ℤ))))) tuple same_numbers

@@ -1,0 +1,168 @@
+-- Proofs that the arcs told of forced units, their cost and steps are canonical in each form, mean the same in both,
+-- and have the capacity of units and steps; in form 1 they have these forced units at this cost.
+use Rattle.std.specs.Prelude.{◌≡◌, ℤ, pos, ◌+ℤ◌, ◌-ℤ◌, ◌*ℤ◌, ◌≤ℤ◌, ◌<ℤ◌, List, [], ◌∷◌, ◌++◌, filter, map, refl}
+use Rattle.std.specs.Int.{int_div_euclid, int_rem_euclid}
+use Rattle.std.proofs.Common.{sym, ap, arith, ◌∙◌}
+use Rattle.std.proofs.lemmas.Int.{ints}
+use Rattle.std.proofs.Math.IntN.{*ℤ_comm}
+use Rattle.std.specs.List.{AllByRecursion}
+use Rattle.std.specs.Int.Signed.{≤ℤ_refl}
+use Rattle.dn_arc.specs.declared.arc.CostArc.{CostArc}
+use Rattle.dn_arc.specs.declared.arc.Form.{Form}
+use Rattle.dn_arc.specs.declared.arc.Form.TheVariants.{One, Two}
+use Rattle.dn_arc.specs.Splits.{cost_cap}
+use Rattle.dn_arc.specs.Meanings.{SameCurve}
+use Rattle.dn_arc.specs.Canonical.{IsCostArc, IsFixedArc, IsMixedArc, has_low, IsFormOne, IsFormTwo, AreCanonCosts}
+use Rattle.dn_arc.specs.Entries.{has_room}
+use Rattle.dn_arc.specs.Fillings.{forced_units, forced_cost}
+use Rattle.dn_arc.specs.State.Means.{IsFloor}
+use Rattle.dn_arc.specs.State.Steps.{AreSteps, steps_room}
+use Rattle.dn_arc.specs.State.CurveTold.{fixed_arc, step_arc, spread_arcs, fixed_arcs, told}
+use Rattle.dn_arc.proofs.ProductsLaws.{mul_sub, mul_suc}
+use Rattle.dn_arc.proofs.MeansLaws.{floor_of}
+use Rattle.dn_arc.proofs.FormsLaws.{AreFixed, IsApart, apart, form_one_ordered, form_one_arcs, form_two_ordered, form_two_arcs}
+use Rattle.dn_arc.proofs.PartsLaws.{by_test, free_part, free_parts}
+use Rattle.dn_arc.proofs.FillMeaningsLaws.{same_by_parts}
+use Rattle.dn_arc.proofs.StepArcsLaws.{free_arcs}
+use Rattle.dn_arc.proofs.JoinsLaws.{AreJoined, join_all}
+
+-- fixed arcs that carry the units at the cost
+pub record Carries (arcs : List CostArc) (units cost : ℤ) : Type 0 where
+  pub are : AreFixed arcs
+  pub units_is : forced_units arcs ≡ units
+  pub cost_is : forced_cost arcs ≡ cost
+
+two_cost : (units each rest cost : ℤ) → cost ≡ (each *ℤ units) +ℤ rest → (each *ℤ (units -ℤ rest)) +ℤ (((each +ℤ pos 1) *ℤ rest) +ℤ pos 0) ≡ cost
+two_cost units each rest cost h =
+    let g = *ℤ_comm (each +ℤ pos 1) rest ∙ mul_suc rest each ∙ ap (λ z. z +ℤ rest) (*ℤ_comm rest each) in
+    let m = mul_sub each units rest in
+    omega (arith, ints)
+
+pub spread_carries : (units each rest cost : ℤ) → pos 0 <ℤ units → IsFloor cost units each rest → Carries (spread_arcs units each rest) units cost
+spread_carries units each rest cost h f =
+    let e = f.whole in
+    let l = f.low in
+    let u = f.high in
+    by_test (λ (l : List CostArc). Carries l units cost) (pos 0) rest (fixed_arc (units -ℤ rest) each ∷ fixed_arc rest (each +ℤ pos 1) ∷ []) (fixed_arc units each ∷ [])
+    (λ lt. record {
+      are = record { each = (record { some = omega (arith, ints); full = refl }, (record { some = omega (arith, ints); full = refl }, tt)); near = refl };
+      units_is = omega (arith, ints);
+      cost_is = two_cost units each rest cost e;
+    })
+    (λ le. record {
+      are = record { each = (record { some = omega (arith, ints); full = refl }, tt); near = tt };
+      units_is = omega (arith, ints);
+      cost_is = omega (arith, ints);
+    })
+
+pub fixed_carries : (units cost : ℤ) → pos 0 ≤ℤ units → (units ≡ pos 0 → cost ≡ pos 0) → Carries (fixed_arcs units cost) units cost
+fixed_carries units cost h n =
+    by_test (λ (l : List CostArc). Carries l units cost) (pos 0) units (spread_arcs units (int_div_euclid cost units) (int_rem_euclid cost units)) []
+    (λ lt. spread_carries units (int_div_euclid cost units) (int_rem_euclid cost units) cost lt (floor_of cost units _ _ lt refl refl))
+    (λ le.
+    let none : units ≡ pos 0 = omega (arith, ints) in
+    let nothing = n none in
+    record { are = record { each = tt; near = tt }; units_is = omega (arith, ints); cost_is = sym nothing })
+
+steps_mixed : (steps : List (ℤ × ℤ)) → AreSteps steps → AllByRecursion IsMixedArc (map step_arc steps)
+steps_mixed [] s = tt
+steps_mixed (step ∷ rest) s = let some = s.0 in (record { is_arc = record { some = ≤ℤ_refl _; room = omega (arith, ints) }; room = s.0 }, steps_mixed rest s.2)
+
+pub steps_low : (steps : List (ℤ × ℤ)) → filter has_low (map step_arc steps) ≡ []
+steps_low [] = refl
+steps_low (step ∷ rest) = steps_low rest
+
+-- units, their cost and steps: what their canonical arcs are
+module _ (units cost : ℤ) (steps : List (ℤ × ℤ)) (some : pos 0 ≤ℤ units) (none : units ≡ pos 0 → cost ≡ pos 0) (rising : AreSteps steps) where
+  pub carried : Carries (fixed_arcs units cost) units cost
+  carried = fixed_carries units cost some none
+
+  pub told_one : IsFormOne (told One units cost steps)
+  told_one = record {
+    fixed = fixed_arcs units cost;
+    free = map step_arc steps;
+    parts = refl;
+    each_fixed = carried.are.each;
+    near = carried.are.near;
+    each_free = (free_arcs steps rising).each;
+    rising = (free_arcs steps rising).rising;
+  }
+
+  joins : AreJoined (fixed_arcs units cost) (map step_arc steps) (told Two units cost steps)
+  joins = join_all (fixed_arcs units cost) (map step_arc steps) carried.are (steps_mixed steps rising) (free_arcs steps rising).rising (steps_low steps)
+
+  pub told_two : IsFormTwo (told Two units cost steps)
+  told_two = record { each = joins.each; rising = joins.rising; near = joins.near }
+
+  pub told_canonical : (form : Form) → AreCanonCosts form (told form units cost steps)
+  told_canonical One = told_one
+  told_canonical Two = told_two
+
+steps_units : (steps : List (ℤ × ℤ)) → forced_units (map step_arc steps) ≡ pos 0
+steps_units [] = refl
+steps_units (step ∷ rest) = let i = steps_units rest in omega (arith, ints)
+
+steps_cost : (steps : List (ℤ × ℤ)) → forced_cost (map step_arc steps) ≡ pos 0
+steps_cost [] = refl
+steps_cost (step ∷ rest) = let i = steps_cost rest in let z : step.0 *ℤ pos 0 ≡ pos 0 = omega (arith, ints) in omega (arith, ints)
+
+steps_cap : (steps : List (ℤ × ℤ)) → cost_cap (map step_arc steps) ≡ steps_room steps
+steps_cap [] = refl
+steps_cap (step ∷ rest) = ap (λ z. step.1 +ℤ z) (steps_cap rest)
+
+-- the sums over fixed arcs and others
+record AreSums (fixed free : List CostArc) : Type 0 where
+  units : forced_units (fixed ++ free) ≡ forced_units fixed +ℤ forced_units free
+  cost : forced_cost (fixed ++ free) ≡ forced_cost fixed +ℤ forced_cost free
+  cap : cost_cap (fixed ++ free) ≡ forced_units fixed +ℤ cost_cap free
+  full : cost_cap fixed ≡ forced_units fixed
+  parts : free_parts (fixed ++ free) ≡ free_parts free
+
+sums : (fixed free : List CostArc) → AllByRecursion IsFixedArc fixed → AreSums fixed free
+sums [] free f = record { units = omega (arith, ints); cost = omega (arith, ints); cap = omega (arith, ints); full = refl; parts = refl }
+sums (a ∷ fixed) free f =
+    let i = sums fixed free f.1 in
+    let full = f.0.full in
+    let u = i.units in
+    let c = i.cost in
+    let k = i.cap in
+    let l = i.full in
+    record {
+      units = omega (arith, ints);
+      cost = omega (arith, ints);
+      cap = omega (arith, ints);
+      full = omega (arith, ints);
+      parts = by_test (λ (l : List CostArc). map free_part l ≡ free_parts free) a.low a.cap (a ∷ filter has_room (fixed ++ free)) (filter has_room (fixed ++ free)) (λ lt. absurd (omega (arith, ints))) (λ le. i.parts);
+    }
+
+module _ (units cost : ℤ) (steps : List (ℤ × ℤ)) (some : pos 0 ≤ℤ units) (none : units ≡ pos 0 → cost ≡ pos 0) (rising : AreSteps steps) where
+  abbrev fixed : Carries (fixed_arcs units cost) units cost
+  fixed = carried units cost steps some none rising
+
+  abbrev join : AreJoined (fixed_arcs units cost) (map step_arc steps) (told Two units cost steps)
+  join = joins units cost steps some none rising
+
+  all : AreSums (fixed_arcs units cost) (map step_arc steps)
+  all = sums (fixed_arcs units cost) (map step_arc steps) fixed.are.each
+
+  -- the arcs of form 1 are filled as the fixed arcs and the steps
+  pub told_apart : IsApart (told One units cost steps) (fixed_arcs units cost) (map step_arc steps)
+  told_apart = apart (fixed_arcs units cost) (map step_arc steps) fixed.are.each (free_arcs steps rising)
+
+  pub told_units : forced_units (told One units cost steps) ≡ units
+  told_units = let e = all.units in let f = fixed.units_is in let g = steps_units steps in omega (arith, ints)
+
+  pub told_cost : forced_cost (told One units cost steps) ≡ cost
+  told_cost = let e = all.cost in let f = fixed.cost_is in let g = steps_cost steps in omega (arith, ints)
+
+  pub told_cap : (form : Form) → cost_cap (told form units cost steps) ≡ units +ℤ steps_room steps
+  told_cap One = let e = all.cap in let f = fixed.units_is in let g = steps_cap steps in omega (arith, ints)
+  told_cap Two = let e = join.cap in let f = fixed.units_is in let g = steps_cap steps in let h = all.full in omega (arith, ints)
+
+  -- both forms mean the same
+  pub told_same : SameCurve (told Two units cost steps) (told One units cost steps)
+  told_same = same_by_parts (told Two units cost steps) (told One units cost steps) (form_two_ordered _ (told_two units cost steps some none rising)) (form_one_ordered _ (told_one units cost steps some none rising)) (join.units ∙ sym all.units) (join.cost ∙ sym all.cost) (join.parts ∙ sym all.parts)
+
+  pub told_arcs : (form : Form) → AllByRecursion IsCostArc (told form units cost steps)
+  told_arcs One = form_one_arcs _ (told_one units cost steps some none rising)
+  told_arcs Two = form_two_arcs _ (told_two units cost steps some none rising)

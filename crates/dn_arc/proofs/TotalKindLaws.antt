@@ -1,0 +1,81 @@
+-- Proofs of the laws of `max` arcs as a kind, that their meaning determines canonical ones, and that the arcs told of a
+-- total capacity are canonical, and of 64 bits if it is.
+use Rattle.std.specs.Prelude.{◌≡◌, ◌-◌, ◌^◌, ℤ, pos, ◌+ℤ◌, ◌≤ℤ◌, List, [], ◌∷◌, ◌++◌, Option, Some, None, cond, int_lt, refl}
+use Rattle.std.proofs.Common.{ap, arith, sym, ◌∙◌}
+use Rattle.std.proofs.lemmas.Int.{ints}
+use Rattle.std.specs.List.{AllByRecursion}
+use Rattle.std.specs.Int.Signed.{≤ℤ_refl}
+use Rattle.dn_arc.specs.declared.arc.CapArc.{CapArc}
+use Rattle.dn_arc.specs.declared.difference.How.{How}
+use Rattle.dn_arc.specs.declared.difference.How.TheVariants.{Lengths, Totals, Costs}
+use Rattle.dn_arc.specs.Kinds.{capacities}
+use Rattle.dn_arc.specs.State.Bundles.{IsKind, IsDetermined, NumbersFit}
+use Rattle.dn_arc.specs.Capacities.{total_cap}
+use Rattle.dn_arc.specs.State.Capacities.{cap_told}
+use Rattle.dn_arc.specs.Meanings.{SameTotal}
+use Rattle.dn_arc.specs.Canonical.{IsCapArc, AreCanonCaps}
+use Rattle.dn_arc.specs.Differences.{TotalsDiffer}
+use Rattle.dn_arc.proofs.TotalsLaws.{total_meaning, totals_determined, totals_differ}
+use Rattle.dn_arc.proofs.PartsLaws.{by_test}
+use Rattle.dn_arc.proofs.MeansLaws.{fits_some}
+
+abbrev all_numbers : Option CapArc → List ℤ
+all_numbers None = []
+all_numbers (Some a) = a.cap ∷ []
+
+numbers_of : (ns : List ℤ) (a : CapArc) → capacities.arc_of ns ≡ Some a → capacities.numbers a ≡ ns
+numbers_of [] a e = cc
+numbers_of (c ∷ []) a e = ap all_numbers (sym e)
+numbers_of (c ∷ d ∷ ns) a e = cc
+
+pub total-append : (xs ys : List CapArc) → total_cap (xs ++ ys) ≡ total_cap xs +ℤ total_cap ys
+total-append [] ys = omega (arith, ints)
+total-append (a ∷ xs) ys = let i = total-append xs ys in omega (arith, ints)
+
+total_some : (xs : List CapArc) → AllByRecursion IsCapArc xs → pos 0 ≤ℤ total_cap xs
+total_some [] h = ≤ℤ_refl _
+total_some (a ∷ xs) h = let some = h.0.some in let i = total_some xs h.1 in omega (arith, ints)
+
+canon_arcs : (xs : List CapArc) → AreCanonCaps xs → AllByRecursion IsCapArc xs
+canon_arcs [] c = tt
+canon_arcs (a ∷ []) c = (record { some = omega (arith, ints) }, tt)
+canon_arcs (a ∷ b ∷ xs) c = absurd c
+
+one_differ : (xs ys : List CapArc) (how other : How) → TotalsDiffer xs ys how → TotalsDiffer xs ys other → how ≡ other
+one_differ xs ys (Totals l r) (Totals l' r') d e = ap (λ v. Totals v r) (sym d.0 ∙ e.0) ∙ ap (Totals l') (sym d.1 ∙ e.1)
+one_differ xs ys (Totals l r) (Lengths l' r') d e = absurd e
+one_differ xs ys (Totals l r) (Costs g) d e = absurd e
+one_differ xs ys (Lengths l r) other d e = absurd d
+one_differ xs ys (Costs g) other d e = absurd d
+
+same_differ : (xs xs' ys ys' : List CapArc) (how : How) → SameTotal xs xs' → SameTotal ys ys' → TotalsDiffer xs ys how → TotalsDiffer xs' ys' how
+same_differ xs xs' ys ys' (Totals l r) s t d = (sym s.is ∙ d.0, sym t.is ∙ d.1, d.2)
+same_differ xs xs' ys ys' (Lengths l r) s t d = d
+same_differ xs xs' ys ys' (Costs g) s t d = d
+
+pub total_kind : IsKind capacities
+total_kind = record {
+  meaning = total_meaning;
+  arc_of_numbers = λ a. refl;
+  numbers_of_arc = numbers_of;
+  capacity_append = total-append;
+  capacity_some = total_some;
+  canon_arcs = λ form xs c. canon_arcs xs c;
+  none_canon = λ form. tt;
+  nothing_told = λ form xs c s. totals_determined xs [] c tt s;
+  same_capacity = λ xs ys h g s. s.is;
+  same_entries = λ xs ys h g s. ap (λ z. cond (int_lt (pos 0) z) 1 0) s.is;
+  none_entries = refl;
+  none_differ = totals_differ;
+  one_differ = one_differ;
+  same_differ = same_differ;
+}
+
+pub total_determined : IsDetermined capacities
+total_determined form xs ys p q s = totals_determined xs ys p q s
+
+pub total_canonical : (z : ℤ) → AreCanonCaps (cap_told z)
+total_canonical z = by_test AreCanonCaps (pos 0) z (record { cap = z } ∷ []) [] (λ lt. omega (arith, ints)) (λ le. tt)
+
+pub total_fit : (z : ℤ) → pos 0 ≤ℤ z → z ≤ℤ pos (2 ^ 63 - 1) → NumbersFit capacities (cap_told z)
+total_fit z h g = by_test (NumbersFit capacities) (pos 0) z (record { cap = z } ∷ []) [] (λ lt. ((fits_some z h g, tt), tt)) (λ le. tt)

@@ -1,0 +1,87 @@
+-- What the three kinds of graphs have in common: numbers on an arc's line, and a meaning of parallel arcs (this
+-- project's profile).
+use Rattle.std.specs.Prelude.{ℕ, ℤ, pos, List, [], ◌∷◌, Option, Some, None}
+use Rattle.dn_arc.specs.Capacities.{total_cap}
+use Rattle.dn_arc.specs.Splits.{cost_cap}
+use Rattle.dn_arc.specs.Meanings.{SameLength, SameTotal, SameCurve}
+use Rattle.dn_arc.specs.Canonical.{IsCapArc, IsCostArc, AreCanonLengths, AreCanonCaps, AreCanonCosts}
+use Rattle.dn_arc.specs.Differences.{LengthsDiffer, TotalsDiffer, CurvesDiffer}
+use Rattle.dn_arc.specs.Entries.{length_entries, cap_entries, cost_entries}
+use Rattle.dn_arc.specs.declared.arc.LengthArc.{LengthArc}
+use Rattle.dn_arc.specs.declared.arc.CapArc.{CapArc}
+use Rattle.dn_arc.specs.declared.arc.CostArc.{CostArc}
+use Rattle.dn_arc.specs.declared.arc.Form.{Form}
+use Rattle.dn_arc.specs.declared.difference.How.{How}
+
+-- a kind of arcs
+pub record ArcKind (Arc : Type 0) : Type 1 where
+  -- the numbers of an arc in the order of its line, after SRC and DST
+  pub numbers : Arc → List ℤ
+  -- the arc of these numbers, where there is one
+  pub arc_of : List ℤ → Option Arc
+  -- an arc that a problem may have
+  pub IsArc : Arc → Type 0
+  -- the sum of the CAPs; 0 where arcs have none
+  pub capacity : List Arc → ℤ
+  -- the arcs of one pair mean the same
+  pub Same : List Arc → List Arc → Type 0
+  -- the arcs of one pair are the canonical ones
+  pub IsCanon : Form → List Arc → Type 0
+  -- how many entries the arcs of one pair come to
+  pub entries : List Arc → ℕ
+  -- how the arcs of one pair first differ in meaning
+  pub Differ : List Arc → List Arc → How → Type 0
+
+-- the arc of an `sp` line by its one number, LENGTH
+abbrev pub length_arc : List ℤ → Option LengthArc
+length_arc (w ∷ []) = Some (record { length = w })
+length_arc _ = None
+
+-- the arc of a `max` line by its one number, CAP
+abbrev pub cap_arc : List ℤ → Option CapArc
+cap_arc (c ∷ []) = Some (record { cap = c })
+cap_arc _ = None
+
+-- the arc of a `min` line by its three numbers, LOW, CAP and COST
+abbrev pub cost_arc : List ℤ → Option CostArc
+cost_arc (l ∷ c ∷ k ∷ []) = Some (record { low = l; cap = c; cost = k })
+cost_arc _ = None
+
+-- `sp`
+abbrev pub lengths : ArcKind LengthArc
+lengths = record {
+  numbers = λ a. a.length ∷ [];
+  arc_of = length_arc;
+  IsArc = λ a. Unit {0};
+  capacity = λ arcs. pos 0;
+  Same = SameLength;
+  IsCanon = λ form. AreCanonLengths;
+  entries = length_entries;
+  Differ = LengthsDiffer;
+}
+
+-- `max`
+abbrev pub capacities : ArcKind CapArc
+capacities = record {
+  numbers = λ a. a.cap ∷ [];
+  arc_of = cap_arc;
+  IsArc = IsCapArc;
+  capacity = total_cap;
+  Same = SameTotal;
+  IsCanon = λ form. AreCanonCaps;
+  entries = cap_entries;
+  Differ = TotalsDiffer;
+}
+
+-- `min`
+abbrev pub costs : ArcKind CostArc
+costs = record {
+  numbers = λ a. a.low ∷ a.cap ∷ a.cost ∷ [];
+  arc_of = cost_arc;
+  IsArc = IsCostArc;
+  capacity = cost_cap;
+  Same = SameCurve;
+  IsCanon = AreCanonCosts;
+  entries = cost_entries;
+  Differ = CurvesDiffer;
+}

@@ -1,0 +1,10 @@
+pub mod Lengths
+pub mod Capacities
+pub mod Meanings
+pub mod Kinds
+pub mod Fillings
+pub mod Bundles
+pub mod Steps
+pub mod Means
+pub mod CurveTold
+pub mod Curves

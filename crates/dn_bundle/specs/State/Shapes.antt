@@ -1,0 +1,35 @@
+-- What a curve keeps: numbers in a box, or the cost and the capacity of free capacity at one cost.
+use Rattle.std.specs.Prelude.{◌≡◌, ℤ, pos, ◌+ℤ◌, ◌-ℤ◌, ◌*ℤ◌, [], Option, Some, None, cond, int_lt}
+use Rattle.dn_arc.specs.declared.arc.CostArc.{CostArc}
+use Rattle.dn_bundle.specs.declared.curve.shape.Numbers.{Numbers}
+use Rattle.dn_bundle.specs.declared.curve.shape.Shape.{Shape}
+use Rattle.dn_bundle.specs.declared.curve.shape.Shape.TheVariants.{Plain, Full}
+use Rattle.dn_arc.specs.State.CurveTold.{IsSound}
+use Rattle.dn_arc.specs.State.Curves.{CurveNumbers}
+use Rattle.dn_arc.specs.State.Steps.{steps_of, add_step}
+
+-- the free capacity at one cost, if there is any
+abbrev pub plain_step : ℤ × ℤ → Option (ℤ × ℤ)
+plain_step step = cond (int_lt (pos 0) step.1) (Some step) None
+
+-- the numbers that a shape stands for: of one cost there are no forced units
+abbrev pub numbers_of : Shape → Numbers
+numbers_of (Plain step) = record { units = pos 0; cost = pos 0; total = step.1; steps = steps_of (plain_step step) [] }
+numbers_of (Full numbers) = numbers.value
+
+-- numbers that belong together
+abbrev pub AreSound : Numbers → Type 0
+AreSound n = IsSound n.units n.cost n.total n.steps
+
+-- the curve of a shape
+abbrev pub curve_of : (shape : Shape) → AreSound (numbers_of shape) → CurveNumbers
+curve_of shape sound =
+    let n = numbers_of shape in
+    record { units = n.units; cost = n.cost; total = n.total; steps = n.steps; sound = sound }
+
+-- an arc more: its LOW is forced, and the rest of its CAP is free at its COST
+pub record IsGrown (old : Numbers) (a : CostArc) (new : Numbers) : Type 0 where
+  pub units : new.units ≡ old.units +ℤ a.low
+  pub cost : new.cost ≡ old.cost +ℤ (a.low *ℤ a.cost)
+  pub total : new.total ≡ old.total +ℤ a.cap
+  pub steps : new.steps ≡ add_step old.steps (a.cost, a.cap -ℤ a.low)

@@ -1,0 +1,8 @@
+pub mod CanonInstances
+pub mod CanonReadings
+pub mod PartCanons
+pub mod Lines
+pub mod Blocks
+pub mod ToldArcs
+pub mod Writes
+pub mod Runs

@@ -1,0 +1,47 @@
+-- What making the canonical text of a text does.
+use Rattle.std.specs.Prelude.{◌≡◌, ◌↔◌, true, ◌<◌, ◌^◌, ℕ, List, Bool, Option, Ok, Err}
+use Rattle.std.specs.Io.KnownBytes.{IsAtEnd}
+use Rattle.std.specs.declared.result.Result.{Result}
+use Rattle.dn_line.specs.Pieces.{lines}
+use Rattle.dn_arc.specs.declared.arc.Form.{Form}
+use Rattle.dn_instance.specs.Instances.{Instance, size_of}
+use Rattle.dn_instance.specs.Readers.{WantsMemory}
+use Rattle.dn_instance.specs.State.SourceReads.{SourceOutcome}
+use Rattle.dn_instance.specs.Texts.{Reads, IsFirstFault}
+use Rattle.dn_instance.specs.declared.refusal.Refusal.{Refusal}
+use Rattle.dn_instance.specs.declared.refusal.Refusal.TheVariants.{Text, Memory, Write, CountTooLarge}
+use Rattle.dn_sink.specs.Sinks.{SinkWords}
+use Rattle.dn_canon.specs.CanonInstances.{IsCanonInstanceOf}
+use Rattle.dn_canon.specs.CanonTexts.{IsCanonOf, IsTooLarge, PrintsCanon}
+use Rattle.dn_canon.specs.State.Writes.{WritesCanon}
+
+-- why there is no canonical text of I: want of memory for it, where 63 bits hold its count, or they do not
+abbrev pub TextFault : Form → Instance → Refusal → Type 0
+TextFault form I Memory = (J : Instance) × IsCanonInstanceOf form J I × size_of J < 2 ^ 63
+TextFault form I CountTooLarge = IsTooLarge form I
+TextFault form I _ = ⊥
+
+-- the canonical text of I, whose count 63 bits hold, or why there is none
+abbrev pub TextOutcome : {V : Type 0} → (V → List ℕ) → Form → Instance → Result V Refusal → Type 0
+TextOutcome bytes form I (Ok text) = (J : Instance) × PrintsCanon form (bytes text) I J × size_of J < 2 ^ 63
+TextOutcome bytes form I (Err e) = TextFault form I e
+
+-- t reads as an instance, and whether it is the canonical text of that; or its first fault; or want of memory at a line
+-- without fault
+abbrev pub JudgesCanon : Form → List ℕ → Result Bool Refusal → Type 0
+JudgesCanon form t (Ok answer) = (I : Instance) × Reads t I × ((answer ≡ true) ↔ IsCanonOf form t I)
+JudgesCanon form t (Err (Text place code)) = IsFirstFault t place code
+JudgesCanon form t (Err Memory) = WantsMemory 0 (lines t)
+JudgesCanon form t (Err _) = ⊥
+
+-- the source gave the text t from here on, and now gives `rest`. At its end t reads as an instance, and the canonical
+-- text of that is written, or not; a refusal of reading leaves the source as `read_from` does
+abbrev pub RunOutcome : {S : Type 0} → SinkWords S → S → S → Form → List ℕ → Option (List ℕ)
+    → Result (Unit {0}) Refusal → Type 0
+RunOutcome sink old new form t rest (Ok x) =
+    (I : Instance) × Reads t I × IsAtEnd rest × WritesCanon sink old new form I (Ok x)
+RunOutcome sink old new form t rest (Err Write) =
+    (I : Instance) × Reads t I × IsAtEnd rest × WritesCanon sink old new form I (Err Write)
+RunOutcome sink old new form t rest (Err CountTooLarge) =
+    (I : Instance) × Reads t I × IsAtEnd rest × WritesCanon sink old new form I (Err CountTooLarge)
+RunOutcome sink old new form t rest (Err refusal) = SourceOutcome t rest (Err refusal)

@@ -1,0 +1,53 @@
+-- What writing a text does.
+use Rattle.std.specs.Prelude.{◌≡◌, ◌<◌, ◌≤◌, ◌^◌, ℕ, List, [], ◌∷◌, IsTrue, map, Ok, Err}
+use Rattle.std.specs.declared.result.Result.{Result}
+use Rattle.dn_line.specs.declared.word.Keyword.TheVariants.{S, T}
+use Rattle.dn_arc.specs.declared.arc.Form.{Form}
+use Rattle.dn_instance.specs.Instances.{Instance, size_of}
+use Rattle.dn_canon.specs.CanonInstances.{IsCanonInstanceOf}
+use Rattle.dn_canon.specs.Prints.{supply_row, terminal_row, print}
+use Rattle.dn_sink.specs.Rows.{Row}
+use Rattle.dn_sink.specs.Sinks.{SinkWords}
+use Rattle.dn_sink.specs.Puts.{HasPut, PutsPrefix}
+use Rattle.dn_instance.specs.declared.refusal.Refusal.{Refusal}
+use Rattle.dn_instance.specs.declared.refusal.Refusal.TheVariants.{Write, CountTooLarge}
+use Rattle.dn_sink.specs.declared.sink.SinkFault.{SinkFault}
+use Rattle.dn_canon.specs.declared.writer.NodeLines.{NodeLines}
+use Rattle.dn_canon.specs.declared.writer.NodeLines.TheVariants.{Supplies, Terminals, NoNodes}
+
+-- the rows before the arcs
+abbrev pub node_rows : NodeLines → List Row
+node_rows (Supplies supplies) = map supply_row supplies.now.entries
+node_rows (Terminals source sink) = terminal_row source.now S ∷ terminal_row sink.now T ∷ []
+node_rows NoNodes = []
+
+-- the text is written whole, or a prefix of it by a sink that has failed; or its count has more than 63 bits, and then
+-- nothing is put
+abbrev pub Writes : {S : Type 0} → SinkWords S → S → S → List ℕ → ℕ → Result (Unit {0}) Refusal → Type 0
+Writes sink old new text count (Ok _) = HasPut sink old new [] text × count < 2 ^ 63
+Writes sink old new text count (Err Write) = PutsPrefix sink old new text × count < 2 ^ 63
+Writes sink old new text count (Err CountTooLarge) = (new ≡ old) × 2 ^ 63 ≤ count
+Writes sink old new text count (Err _) = ⊥
+
+-- so is the text of the canonical instance of I, by its number of arcs, items or points
+abbrev pub WritesCanon : {S : Type 0} → SinkWords S → S → S → Form → Instance → Result (Unit {0}) Refusal → Type 0
+WritesCanon sink old new form I result =
+    (J : Instance) × IsCanonInstanceOf form J I × Writes sink old new (print J) (size_of J) result
+
+-- where it is done, whether the sink has failed is as it was; on `Write` it has failed, and on each other refusal
+-- nothing was put
+abbrev pub SinkAfter : {S : Type 0} → SinkWords S → S → S → Result (Unit {0}) Refusal → Type 0
+SinkAfter sink old new (Ok _) = sink.has_failed new ≡ sink.has_failed old
+SinkAfter sink old new (Err Write) = IsTrue (sink.has_failed new)
+SinkAfter sink old new (Err _) = new ≡ old
+
+-- a refusal that writing gives
+abbrev pub IsOfWriting : Refusal → Type 0
+IsOfWriting Write = Unit {0}
+IsOfWriting CountTooLarge = Unit {0}
+IsOfWriting _ = ⊥
+
+-- what is answered of a text that was put, or was not
+abbrev pub written_as : Result (Unit {0}) SinkFault → Result (Unit {0}) Refusal
+written_as (Ok x) = Ok x
+written_as (Err f) = Err Write

@@ -1,0 +1,14 @@
+pub mod Parts
+pub mod EntryCount
+pub mod ItemFaults
+pub mod Drafts
+pub mod Progresses
+pub mod ArcRuns
+pub mod TextsSoFar
+pub mod Helds
+pub mod Ends
+pub mod Refusals
+pub mod Readers
+pub mod ReaderStates
+pub mod SourceReads
+pub mod Companions

@@ -1,0 +1,30 @@
+-- Arcs that are taken one after the other.
+use Rattle.std.specs.Prelude.{◌≡◌, List, [], ◌∷◌, ◌++◌, map, None, Some}
+use Rattle.dn_line.specs.State.ArcLines.{arc_of}
+use Rattle.dn_line.specs.Faults.{first_fault}
+use Rattle.dn_line.specs.declared.arc_block.ArcLine.{ArcLine}
+use Rattle.dn_line.specs.declared.kind.Kind.{Kind}
+use Rattle.dn_line.specs.declared.line.Line.{Line}
+use Rattle.dn_instance.specs.TextFaults.{item_tests}
+use Rattle.dn_instance.specs.State.Progresses.{HasRoom}
+
+-- the items of these arcs, in a text of this kind
+abbrev pub arc_items : Kind → List ArcLine → List Line
+arc_items kind arcs = map (λ (a : ArcLine). arc_of kind a.arc) arcs
+
+-- none of these items has a fault after those before it
+abbrev pub AreFaultless : List Line → List Line → Type 0
+AreFaultless before [] = Unit {0}
+AreFaultless before (i ∷ items) =
+    (first_fault (item_tests before (Some i)) ≡ None) × AreFaultless (before ++ i ∷ []) items
+
+-- each of these items comes while fewer are read than declared, where it is counted
+abbrev pub AreInTime : List Line → List Line → Type 0
+AreInTime before [] = Unit {0}
+AreInTime before (i ∷ items) = HasRoom before i × AreInTime (before ++ i ∷ []) items
+
+-- these items have no fault after those before them, and what is held is what they make together
+pub record Joins {H : Type 0} (Holds : H → List Line → Type 0) (before : List Line) (held : H) (items : List Line)
+    : Type 0 where
+  pub faultless : AreFaultless before items
+  pub holds : Holds held (before ++ items)

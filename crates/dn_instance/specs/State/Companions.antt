@@ -1,0 +1,28 @@
+-- Whether the nodes that a companion names are a graph's (this project's profile).
+use Rattle.std.specs.Prelude.{ℤ, List, Bool, true, false, Option, Some, None, Result, Err}
+use Rattle.std.specs.List.{flat_map}
+use Rattle.std.specs.Map.{keys_of}
+use Rattle.dn_instance.specs.State.Helds.{Contents, Holding, OfSp, OfSs, OfP2p, OfCo}
+use Rattle.dn_instance.specs.declared.companion.CompanionFault.{CompanionFault}
+use Rattle.dn_instance.specs.declared.companion.CompanionFault.TheVariants.{NotKinds}
+use Rattle.dn_instance.specs.Companions.{both_nodes, within}
+
+-- only `sp` graphs have companions
+abbrev pub is_graph : Contents → Bool
+is_graph (OfSp table) = true
+is_graph _ = false
+
+-- the nodes that a companion names: in file order, points by rising ID; other texts are no companions
+abbrev pub named_nodes : Contents → Option (List ℤ)
+named_nodes (OfSs ids) = Some ids
+named_nodes (OfP2p pairs) = Some (flat_map both_nodes pairs)
+named_nodes (OfCo points) = Some (keys_of points)
+named_nodes _ = None
+
+abbrev pub judged_by : Bool → ℤ → Option (List ℤ) → Result (Unit {0}) CompanionFault
+judged_by true nodes (Some ids) = within nodes ids
+judged_by _ nodes _ = Err NotKinds
+
+-- whether a companion fits a graph
+abbrev pub judged : Holding → Holding → Result (Unit {0}) CompanionFault
+judged graph companion = judged_by (is_graph graph.contents) graph.nodes (named_nodes companion.contents)

@@ -1,0 +1,53 @@
+-- What an instance in the making has made of the items so far.
+use Rattle.std.specs.Prelude.{◌≡◌, ℤ, pos, ◌≤ℤ◌, ◌||◌, List, Option, is_some, filter_map}
+use Rattle.std.specs.BTreeMap as Map
+use Rattle.std.specs.BTreeSet as Set
+use Rattle.std.specs.List.{list_any}
+use Rattle.std.specs.Ordering.{int_cmp}
+use Rattle.dn_line.specs.declared.kind.Kind.{Kind}
+use Rattle.dn_line.specs.declared.kind.Kind.TheVariants as Kinds
+use Rattle.dn_line.specs.declared.kind.Letter.TheVariants.{S, T}
+use Rattle.dn_line.specs.declared.line.Line.{Line}
+use Rattle.dn_line.specs.declared.line.Line.TheVariants as Item
+use Rattle.dn_arc.specs.Kinds.{ArcKind, lengths, capacities, costs}
+use Rattle.dn_bundle.specs.State.Tellings.{least_arcs, total_arcs, curve_arcs}
+use Rattle.dn_arc.specs.declared.arc.Form.TheVariants.{One}
+use Rattle.dn_instance.specs.Items.{arcs_of, length_arc_in, cap_arc_in, cost_arc_in, supplies_of, terminal_of, source_in, query_in, point_in, by_key}
+use Rattle.dn_instance.specs.TextFaults.{has_supply}
+use Rattle.dn_table.specs.State.Tables.{TableTells, AreArcs}
+use Rattle.dn_instance.specs.declared.draft.Draft.{Draft}
+use Rattle.dn_instance.specs.declared.draft.Draft.TheVariants as Drafts
+
+abbrev pub draft_kind : Draft → Kind
+draft_kind (Drafts.Min supplies idle table) = Kinds.Min
+draft_kind (Drafts.Max source sink table) = Kinds.Max
+draft_kind (Drafts.Sp table) = Kinds.Sp
+draft_kind (Drafts.Ss ids) = Kinds.Ss
+draft_kind (Drafts.P2p pairs) = Kinds.P2p
+draft_kind (Drafts.Co points) = Kinds.Co
+
+-- the numbers of an item that may not be below 0 are not
+abbrev pub HasSigns : Line → Type 0
+HasSigns (Item.MinArc src dst low cap cost) = (pos 0 ≤ℤ low) × (pos 0 ≤ℤ cap)
+HasSigns (Item.MaxArc src dst cap) = pos 0 ≤ℤ cap
+HasSigns _ = Unit {0}
+
+-- the table tells what the arcs among the items mean
+pub record TableHolds {B Arc : Type 0} (kind : ArcKind Arc) (arc_in : Line → Option ((ℤ × ℤ) × Arc))
+    (tells : B → List Arc) (table : List ((ℤ × ℤ) × B)) (items : List Line) : Type 0 where
+  pub tells_them : TableTells kind tells table (arcs_of arc_in items)
+  pub are_arcs : AreArcs kind (arcs_of arc_in items)
+
+-- what these items have made
+abbrev pub DraftHolds : Draft → List Line → Type 0
+DraftHolds (Drafts.Min supplies idle table) items =
+    (supplies.entries ≡ supplies_of items)
+    × ((q : ℤ) → (is_some (Map.get int_cmp supplies q) || Set.contains int_cmp idle q) ≡ list_any (has_supply q) items)
+    × TableHolds costs cost_arc_in (curve_arcs One) table items
+DraftHolds (Drafts.Max source sink table) items =
+    (source ≡ terminal_of S items) × (sink ≡ terminal_of T items)
+    × TableHolds capacities cap_arc_in total_arcs table items
+DraftHolds (Drafts.Sp table) items = TableHolds lengths length_arc_in least_arcs table items
+DraftHolds (Drafts.Ss ids) items = ids.items ≡ filter_map source_in items
+DraftHolds (Drafts.P2p pairs) items = pairs.items ≡ filter_map query_in items
+DraftHolds (Drafts.Co points) items = points.entries ≡ by_key (filter_map point_in items)

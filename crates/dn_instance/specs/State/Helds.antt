@@ -1,0 +1,93 @@
+-- What is held of a text that was read, which instance it stands for, and what a view shows of it.
+use Rattle.std.specs.Prelude.{◌≡◌, ℕ, ℤ, pos, List, length}
+use Rattle.dn_line.specs.declared.kind.Kind.{Kind}
+use Rattle.dn_line.specs.declared.kind.Kind.TheVariants as Kinds
+use Rattle.dn_arc.specs.Kinds.{lengths, capacities, costs}
+use Rattle.dn_bundle.specs.State.Tellings.{least_arcs, total_arcs, curve_arcs}
+use Rattle.dn_arc.specs.declared.arc.Form.TheVariants.{One}
+use Rattle.dn_arc.specs.State.Curves.{CurveNumbers}
+use Rattle.dn_bundle.specs.declared.least.Least.{Least}
+use Rattle.dn_bundle.specs.declared.total.Total.{Total}
+use Rattle.dn_instance.specs.Instances.{Instance, MinCostFlow, MaxFlow, ShortestPaths, Sources, Queries, Coordinates, nodes_of, size_of}
+use Rattle.dn_table.specs.State.Tables.{TableStandsFor}
+use Rattle.dn_instance.specs.declared.content.Content.{Content}
+use Rattle.dn_instance.specs.declared.content.Content.TheVariants as Kept
+use Rattle.dn_instance.specs.declared.held.Held.{Held}
+use Rattle.dn_instance.specs.declared.view.View.{View}
+use Rattle.dn_instance.specs.declared.view.View.TheVariants as Views
+
+-- bundles by ordered pair
+abbrev pub Bundles : Type 0 → Type 0
+Bundles B = List ((ℤ × ℤ) × B)
+
+-- what is held by kind: flows, terminals and the bundles of a graph; the items of a companion
+pub data Contents : Type 0 where
+  OfMin : List (ℤ × ℤ) → Bundles CurveNumbers → Contents
+  OfMax : ℤ → ℤ → Bundles Total → Contents
+  OfSp : Bundles Least → Contents
+  OfSs : List ℤ → Contents
+  OfP2p : List (ℤ × ℤ) → Contents
+  OfCo : List (ℤ × (ℤ × ℤ)) → Contents
+
+-- nodes, the number of counted lines, and the rest by kind
+pub record Holding : Type 0 where
+  pub nodes : ℤ
+  pub lines : ℤ
+  pub contents : Contents
+
+abbrev pub contents_kind : Contents → Kind
+contents_kind (OfMin flows table) = Kinds.Min
+contents_kind (OfMax source sink table) = Kinds.Max
+contents_kind (OfSp table) = Kinds.Sp
+contents_kind (OfSs ids) = Kinds.Ss
+contents_kind (OfP2p pairs) = Kinds.P2p
+contents_kind (OfCo points) = Kinds.Co
+
+-- the ordered pairs that have a bundle; a companion has none
+abbrev pub pair_count : Contents → ℕ
+pair_count (OfMin flows table) = length table
+pair_count (OfMax source sink table) = length table
+pair_count (OfSp table) = length table
+pair_count (OfSs ids) = 0
+pair_count (OfP2p pairs) = 0
+pair_count (OfCo points) = 0
+
+-- the bundles are the table of the arcs, and the rest is the instance's own
+abbrev pub Shows : Contents → Instance → Type 0
+Shows (OfMin flows table) (MinCostFlow supplies graph) =
+    (flows ≡ supplies) × TableStandsFor costs (curve_arcs One) table graph.arcs
+Shows (OfMax source sink table) (MaxFlow s t graph) =
+    (source ≡ s) × (sink ≡ t) × TableStandsFor capacities total_arcs table graph.arcs
+Shows (OfSp table) (ShortestPaths graph) = TableStandsFor lengths least_arcs table graph.arcs
+Shows (OfSs ids) (Sources items) = ids ≡ items
+Shows (OfP2p pairs) (Queries items) = pairs ≡ items
+Shows (OfCo points) (Coordinates items) = points ≡ items
+Shows _ _ = ⊥
+
+-- what is held stands for the instance
+pub record IsHeld (h : Holding) (I : Instance) : Type 0 where
+  pub nodes_are : h.nodes ≡ nodes_of I
+  pub lines_are : h.lines ≡ pos (size_of I)
+  pub shows : Shows h.contents I
+
+-- what is kept
+abbrev pub contents_of : Content → Contents
+contents_of (Kept.Min supplies table) = OfMin supplies.entries table
+contents_of (Kept.Max source sink table) = OfMax source sink table
+contents_of (Kept.Sp table) = OfSp table
+contents_of (Kept.Ss ids) = OfSs ids.items
+contents_of (Kept.P2p pairs) = OfP2p pairs.items
+contents_of (Kept.Co points) = OfCo points.entries
+
+-- all that is held
+abbrev pub holding : Held → Holding
+holding h = record { nodes = h.nodes; lines = h.lines; contents = contents_of h.content }
+
+-- what a view shows
+abbrev pub shown : View → Contents
+shown (Views.Min supplies table) = OfMin supplies.now.entries table.now
+shown (Views.Max source sink table) = OfMax source sink table.now
+shown (Views.Sp table) = OfSp table.now
+shown (Views.Ss items) = OfSs items.now
+shown (Views.P2p items) = OfP2p items.now
+shown (Views.Co points) = OfCo points.now.entries

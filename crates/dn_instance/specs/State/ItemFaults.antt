@@ -1,0 +1,51 @@
+-- What an answer about an item says of its first fault.
+use Rattle.std.specs.Prelude.{◌≡◌, ◌-◌, ◌^◌, ℤ, pos, List, [], ◌∷◌, ◌++◌, Bool, ◌&&◌, not, int_lt, Option, Some, None, is_some, Result, Ok, Err}
+use Rattle.dn_line.specs.declared.code.Code.{Code}
+use Rattle.dn_line.specs.declared.code.Code.TheVariants.{NodeOutOfRange, RepeatedNode, SameTerminal, LowAboveCap, SumTooLarge}
+use Rattle.dn_line.specs.Faults.{first_fault}
+use Rattle.dn_arc.specs.Kinds.{ArcKind}
+use Rattle.dn_arc.specs.Pairs.{bundle}
+use Rattle.dn_instance.specs.TextFaults.{is_id}
+use Rattle.dn_instance.specs.declared.refusal.ItemFault.{ItemFault}
+use Rattle.dn_instance.specs.declared.refusal.ItemFault.TheVariants.{Text, Memory}
+
+-- taken, or refused for want of memory, where there is no fault; else refused with it
+abbrev pub AnswersFault : Result (Unit {0}) ItemFault → Option Code → Type 0
+AnswersFault (Ok x) fault = fault ≡ None
+AnswersFault (Err (Text code)) fault = fault ≡ Some code
+AnswersFault (Err Memory) fault = fault ≡ None
+
+-- a node of a graph
+abbrev pub in_graph : ℤ → ℤ → Bool
+in_graph nodes id = int_lt (pos 0) id && not (int_lt nodes id)
+
+-- the first fault of an arc after these, by whether a problem may have it
+abbrev pub arc_fault : {Arc : Type 0} → ArcKind Arc → ℤ → List ((ℤ × ℤ) × Arc) → Bool → (ℤ × ℤ) × Arc → Option Code
+arc_fault kind nodes before is_arc a =
+    first_fault
+    ((NodeOutOfRange, not (in_graph nodes a.0.0 && in_graph nodes a.0.1))
+    ∷ (LowAboveCap, not is_arc)
+    ∷ (SumTooLarge, int_lt (pos (2 ^ 63 - 1)) (kind.capacity (bundle a.0 before ++ a.1 ∷ [])))
+    ∷ [])
+
+-- the first fault of a terminal, by the one of its letter so far and the other
+abbrev pub terminal_fault : ℤ → Option ℤ → Option ℤ → ℤ → Option Code
+terminal_fault nodes own other id =
+    first_fault
+    ((NodeOutOfRange, not (in_graph nodes id)) ∷ (RepeatedNode, is_some own) ∷ (SameTerminal, is_id id other) ∷ [])
+
+-- the first fault of a node line of a `min` text, by whether the node had one
+abbrev pub supply_fault : ℤ → Bool → ℤ → Option Code
+supply_fault nodes named id = first_fault ((NodeOutOfRange, not (in_graph nodes id)) ∷ (RepeatedNode, named) ∷ [])
+
+-- the first fault of an ID of a companion
+abbrev pub id_fault : ℤ → Option Code
+id_fault id = first_fault ((NodeOutOfRange, not (int_lt (pos 0) id)) ∷ [])
+
+-- and of two
+abbrev pub pair_fault : ℤ × ℤ → Option Code
+pair_fault p = first_fault ((NodeOutOfRange, not (int_lt (pos 0) p.0 && int_lt (pos 0) p.1)) ∷ [])
+
+-- the first fault of a point, by whether the ID had one
+abbrev pub point_fault : Bool → ℤ → Option Code
+point_fault named id = first_fault ((NodeOutOfRange, not (int_lt (pos 0) id)) ∷ (RepeatedNode, named) ∷ [])

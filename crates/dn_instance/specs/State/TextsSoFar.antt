@@ -1,0 +1,64 @@
+-- What the complete lines so far make, and what the next one reads as after them.
+use Rattle.std.specs.Prelude.{◌≡◌, ℕ, ◌-◌, ◌^◌, ◌<◌, List, [], ◌∷◌, ◌++◌, length, cond, true, flat_map, Option, Some, None, Result, Ok, IsSome}
+use Rattle.std.specs.List.{list_all, AllByRecursion}
+use Rattle.dn_line.specs.declared.line.Line.{Line}
+use Rattle.dn_line.specs.declared.line.Line.TheVariants.{Skip}
+use Rattle.dn_line.specs.declared.word.Word.{Word}
+use Rattle.dn_line.specs.declared.code.Code.{Code}
+use Rattle.dn_line.specs.Words.{is_skip}
+use Rattle.dn_line.specs.State.LineStates.{is_inner}
+use Rattle.dn_line.specs.Faults.{first_fault, head_tests, field_tests, fields}
+use Rattle.dn_line.specs.State.Spelling.{slots_of, kind_before}
+use Rattle.dn_line.specs.Reading.{unless, spelled}
+use Rattle.dn_instance.specs.Items.{kind_known}
+use Rattle.dn_instance.specs.TextFaults.{order_tests, line_tests}
+use Rattle.dn_instance.specs.Texts.{items_of, IsClean}
+use Rattle.dn_instance.specs.State.Drafts.{HasSigns}
+use Rattle.dn_instance.specs.State.Progresses.{ProgressAt, HasRoom}
+use Rattle.dn_instance.specs.declared.progress.Progress.{Progress}
+use Rattle.dn_instance.specs.declared.text_so_far.TextSoFar.{TextSoFar}
+
+-- these items have been read; before the problem line there are none
+abbrev pub IsProgress : Option Progress → List Line → Type 0
+IsProgress None items = items ≡ []
+IsProgress (Some p) items = ProgressAt p items
+
+-- what a line reads as after these items, by its faults up to those of its fields
+abbrev pub next_read : List Line → List Word → Result Line Code
+next_read before ws =
+    let known = kind_known before in
+    let faults = head_tests known ws ++ (order_tests before ws ++ field_tests (fields known ws)) in
+    cond (is_skip ws) (Ok Skip) (unless (first_fault faults) (spelled known ws))
+
+-- a line after these items spells this item, and may stand there
+pub record MayFollow (before : List Line) (i : Line) : Type 0 where
+  pub kind_is : kind_known before ≡ kind_before i
+  pub spelled : IsSome (slots_of i)
+  pub signs : HasSigns i
+  pub room : HasRoom before i
+
+-- the fault of a line after these items, its number aside
+abbrev pub fault_next : List Line → List Word → Option Code
+fault_next before ws = cond (is_skip ws) None (first_fault (line_tests before ws))
+
+-- these lines have been read, and none has a fault
+pub record TextAt (t : TextSoFar) (ls : List (List ℕ)) : Type 0 where
+  pub clean : IsClean ls
+  pub few : length ls < 2 ^ 63 - 1
+  pub number_is : t.closed ≡ length ls
+  pub progress_is : IsProgress t.progress (items_of ls)
+
+-- lines, each with the LF that ends it
+abbrev pub closed_lines : List (List ℕ) → List ℕ
+closed_lines ls = flat_map (λ l. l ++ 10 ∷ []) ls
+
+-- no LF within
+abbrev pub AreInner : List (List ℕ) → Type 0
+AreInner ls = AllByRecursion (λ l. list_all is_inner l ≡ true) ls
+
+-- the bytes are lines, each with the LF that ends it, and with these more than `ls` have been read
+pub record ReadsFront (t : TextSoFar) (ls : List (List ℕ)) (bytes : List ℕ) : Type 0 where
+  pub more : List (List ℕ)
+  pub whole : closed_lines more ≡ bytes
+  pub inner : AreInner more
+  pub read : TextAt t (ls ++ more)

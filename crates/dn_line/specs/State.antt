@@ -1,0 +1,10 @@
+pub mod Runs
+pub mod Spelling
+pub mod Faults
+pub mod Fields
+pub mod Reading
+pub mod OpenWords
+pub mod LineStates
+pub mod ArcLines
+pub mod ArcBlocks
+pub mod Pulls

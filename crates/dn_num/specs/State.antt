@@ -1,0 +1,4 @@
+pub mod Number
+pub mod NumberReader
+pub mod Lanes
+pub mod Digits

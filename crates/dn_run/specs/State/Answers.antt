@@ -1,0 +1,23 @@
+-- What a run comes to, whatever it was asked for.
+use Rattle.std.specs.Prelude.{ℕ, List, Result, Ok, Err}
+use Rattle.dn_instance.specs.declared.refusal.Refusal.{Refusal}
+use Rattle.dn_instance.specs.declared.refusal.Refusal.TheVariants.{Write}
+use Rattle.dn_run.specs.declared.stop.Stop.{Stop}
+use Rattle.dn_run.specs.declared.stop.Stop.TheVariants as Stops
+use Rattle.dn_run.specs.Answers.{Answer, Cut, Done, Refused, Unfit}
+
+-- what a command comes to whose text of this name could not be written
+abbrev pub unwritten : List ℕ → Refusal → Answer
+unwritten name Write = Cut
+unwritten name refusal = Refused name refusal
+
+-- what a command comes to, by why it stopped
+abbrev pub stopped : Stop → Answer
+stopped (Stops.Refused name refusal) = Refused name.now refusal
+stopped (Stops.Unfit name fault) = Unfit name.now fault
+stopped Stops.Cut = Cut
+
+-- what a command comes to, by its result
+abbrev pub answer_of : Result ℕ Stop → Answer
+answer_of (Ok status) = Done status
+answer_of (Err stop) = stopped stop

@@ -1,0 +1,15 @@
+-- Texts by the words of their lines: single spaces between words, and an LF after every line (this project's profile).
+use Rattle.std.specs.Prelude.{ℕ, List, [], ◌∷◌, ◌++◌, map}
+use Rattle.std.specs.List.{join_with_byte, concat}
+
+-- the words of one line
+abbrev pub Row : Type 0
+Row = List (List ℕ)
+
+-- words with single spaces between them, and an LF
+abbrev pub line_text : Row → List ℕ
+line_text words = join_with_byte 32 words ++ 10 ∷ []
+
+-- the text of rows
+abbrev pub text_of : List Row → List ℕ
+text_of rows = concat (map line_text rows)

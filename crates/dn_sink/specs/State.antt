@@ -1,0 +1,4 @@
+pub mod Turns
+pub mod Held
+pub mod Matches
+pub mod Spaced

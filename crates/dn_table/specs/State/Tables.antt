@@ -1,0 +1,70 @@
+-- What a list of bundles by ordered pair stands for, what it becomes as an arc comes, and what an iterator over it
+-- shows.
+use Rattle.std.specs.Prelude.{◌≡◌, ◌↔◌, ◌<◌, ◌-◌, ◌^◌, ℕ, ℤ, pos, ◌<ℤ◌, List, [], ◌∷◌, ◌++◌, None, false, IsSome}
+use Rattle.std.specs.Borrow.{Bor}
+use Rattle.std.specs.List.{AllByRecursion}
+use Rattle.std.specs.List.Sorted.{IsStrictlySortedBy}
+use Rattle.std.specs.Map.{keys_of, lookup}
+use Rattle.dn_arc.specs.State.Bundles.{BundleWords, meant, told_of}
+use Rattle.dn_arc.specs.Kinds.{ArcKind}
+use Rattle.dn_arc.specs.State.Kinds.{AreCanonArcsOf}
+use Rattle.dn_table.specs.State.GraphEntries.{graph_entries}
+use Rattle.dn_arc.specs.Pairs.{bundle, pair_cmp, same_pair}
+
+-- the arcs that the table tells at an ordered pair
+abbrev pub told_at : {B Arc : Type 0} → (B → List Arc) → List ((ℤ × ℤ) × B) → ℤ × ℤ → List Arc
+told_at tells table p = told_of tells (lookup (same_pair p) table)
+
+-- at each pair the bundles tell what these arcs mean there; a pair whose arcs mean what no arcs mean has none
+pub record TableTells {B Arc : Type 0} (kind : ArcKind Arc) (tells : B → List Arc) (table : List ((ℤ × ℤ) × B))
+    (arcs : List ((ℤ × ℤ) × Arc)) : Type 0 where
+  pub stands : (p : ℤ × ℤ) → AreCanonArcsOf kind (told_at tells table p) (bundle p arcs)
+  pub absent : (p : ℤ × ℤ) → (lookup (same_pair p) table ≡ None) ↔ kind.Same (bundle p arcs) []
+
+-- the table of these arcs: bundles by rising pair that tell what they mean
+pub record TableStandsFor {B Arc : Type 0} (kind : ArcKind Arc) (tells : B → List Arc) (table : List ((ℤ × ℤ) × B))
+    (arcs : List ((ℤ × ℤ) × Arc)) : Type 0 where
+  pub rising : IsStrictlySortedBy pair_cmp (keys_of table)
+  pub tells_them : TableTells kind tells table arcs
+
+-- what the iterator shows of an item
+abbrev pub entry_of : {B : Type 0} → (ℤ × ℤ) × Bor B → (ℤ × ℤ) × B
+entry_of x = (x.0, x.1.now)
+
+-- the table has taken an arc at this pair, and nothing elsewhere: its bundle there means the arcs so far and this one;
+-- where it had none, it has one now exactly if the arc means anything
+pub record Grows {B Arc : Type 0} (kind : ArcKind Arc) (tells : B → List Arc) (old new : List ((ℤ × ℤ) × B))
+    (pair : ℤ × ℤ) (arc : Arc) : Type 0 where
+  pub here : kind.Same (told_at tells new pair) (told_at tells old pair ++ arc ∷ [])
+  pub kept : IsSome (lookup (same_pair pair) old) → IsSome (lookup (same_pair pair) new)
+  pub fresh : lookup (same_pair pair) old ≡ None
+      → (lookup (same_pair pair) new ≡ None) ↔ kind.Same (told_at tells new pair) []
+  pub others : (p : ℤ × ℤ) → same_pair pair p ≡ false → lookup (same_pair p) new ≡ lookup (same_pair p) old
+
+-- arcs of a problem, wherever they stand
+abbrev pub AreArcs : {Arc : Type 0} → ArcKind Arc → List ((ℤ × ℤ) × Arc) → Type 0
+AreArcs kind arcs = AllByRecursion (λ a. kind.IsArc a.1) arcs
+
+-- what means something still does with an arc more
+abbrev pub Stays : {Arc : Type 0} → ArcKind Arc → Type 0
+Stays {Arc} kind =
+    (xs : List Arc) (a : Arc) → AllByRecursion kind.IsArc xs → kind.IsArc a → kind.Same (xs ++ a ∷ []) []
+    → kind.Same xs []
+
+module _ {B Arc : Type 0} (bundle : BundleWords B Arc) where
+  -- the bundles tell what these arcs mean
+  abbrev pub Tells : List ((ℤ × ℤ) × B) → List ((ℤ × ℤ) × Arc) → Type 0
+  Tells = TableTells bundle.kind (meant bundle)
+
+  -- the table has taken an arc at this pair
+  abbrev pub Adds : List ((ℤ × ℤ) × B) → List ((ℤ × ℤ) × B) → ℤ × ℤ → Arc → Type 0
+  Adds = Grows bundle.kind (meant bundle)
+
+  -- with this arc the capacities of its pair sum past 2^63 - 1
+  abbrev pub IsTooMuch : List ((ℤ × ℤ) × B) → ℤ × ℤ → Arc → Type 0
+  IsTooMuch table pair arc = pos (2 ^ 63 - 1) <ℤ bundle.kind.capacity (told_at (meant bundle) table pair ++ arc ∷ [])
+
+  -- where they are fewer than 2^64, these are as many entries as the arcs of the table come to
+  abbrev pub CountsEntries : List ((ℤ × ℤ) × B) → ℕ → Type 0
+  CountsEntries table n = (arcs : List ((ℤ × ℤ) × Arc)) → Tells table arcs → AreArcs bundle.kind arcs
+      → graph_entries bundle.kind arcs < 2 ^ 64 → n ≡ graph_entries bundle.kind arcs

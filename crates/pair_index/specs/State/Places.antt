@@ -1,0 +1,21 @@
+-- Where a pair stands among keys. A caller relies on these.
+use Rattle.std.specs.Prelude.{◌≡◌, ℕ, ◌<◌, ℤ, pos, List, length, get_or, false, ◌⊎◌, Option, MatchOption}
+use Rattle.std.specs.List.{list_any}
+use Rattle.std.specs.declared.cmp.Ordering.TheVariants.{Less}
+use Rattle.dn_arc.specs.Pairs.{pair_cmp, same_pair}
+
+-- the pair at a position
+abbrev pub key_at : List (ℤ × ℤ) → ℕ → ℤ × ℤ
+key_at keys i = get_or keys i (pos 0, pos 0)
+
+-- where a pair stands among the keys, if it does
+abbrev pub IsPlace : List (ℤ × ℤ) → ℤ × ℤ → Option ℕ → Type 0
+IsPlace keys pair place =
+    MatchOption place (list_any (same_pair pair) keys ≡ false) (λ i. (i < length keys) × (key_at keys i ≡ pair))
+
+-- where the least stands of the keys in question, if there are any
+abbrev pub IsLeast : List (ℤ × ℤ) → (ℤ × ℤ → Type 0) → Option ℕ → Type 0
+IsLeast keys Asked place =
+    MatchOption place ((i : ℕ) → i < length keys → Asked (key_at keys i) → ⊥)
+    (λ j. (j < length keys) × Asked (key_at keys j)
+    × ((i : ℕ) → i < length keys → Asked (key_at keys i) → (i ≡ j) ⊎ (pair_cmp (key_at keys j) (key_at keys i) ≡ Less)))
