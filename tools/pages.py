@@ -1,0 +1,217 @@
+"""What the pages say of the tree: code that they quote, files and names that they place, and links.
+
+tools/definitions calls `complaints`. Each of them is a line, which begins with the page."""
+
+import glob
+import os
+import re
+from collections.abc import Iterator
+
+ROOT = os.path.dirname(os.path.dirname(os.path.realpath(__file__)))
+DOCS = sorted(os.path.relpath(it, ROOT) for it in glob.glob(f"{ROOT}/docs/*.md"))
+# The pages whose files and places are looked up, and those whose links are followed.
+PLACING = ["README.md", "CONTRIBUTING.md", *DOCS]
+LINKING = [*PLACING, "CHANGELOG.md", "bench/README.md"]
+# The page whose blocks of code are all quoted from a source, and the pages whose names all stand in sources.
+QUOTING = "docs/PROVED.md"
+NAMING = ["docs/PROVED.md", "docs/ARCHITECTURE.md"]
+
+FENCE = re.compile(r"^```[^\n]*\n(.*?)^```$\n?", re.M | re.S)
+QUOTE = re.compile(r"^<!-- from (\S+) -->\n```[^\n]*\n(.*?)^```$", re.M | re.S)
+HEADING = re.compile(r"^#+ +(.*)$", re.M)
+LINK = re.compile(r"\]\(([^)\s]+)\)")
+SPAN = re.compile(r"`([^`\n]+)`")
+WORD = re.compile(r"[^\W\d]\w*")
+COMMENT = re.compile(r"^\s*(?:--|//).*$", re.M)
+# What a source defines: an item of Rattle, or a definition, which begins a line.
+DEFINED = re.compile(
+    r"\b(?:fn|struct|enum|trait|type|const) (\w+)"
+    r"|^ *(?:(?:abbrev|unfoldable|opaque) )?(?:pub )?(?:(?:record|data) )?(\w+)(?= [:({]|$)",
+    re.M,
+)
+# A name of Rattle, maybe below others: `run`, `Reader::feed`.
+NAME = r"[^\W\d]\w*(?:::\w+)*"
+PATH = re.compile(r"(?:\./)?[\w.*-]+(?:/[\w.*-]+)+/?|[\w.-]+/|\w[\w.-]*\.(?:rt|antt|py|sh|md|txt|rs|edit)")
+# Folders of what is made, and words that stand for folders of a user.
+ELSEWHERE = {"out", "dist", "PREFIX", "DESTDIR"}
+# Names, a crate and a file of it: `a` and `b` (dn_run, `runs`); `a` in dn_run, `runs`; `a`, dn_run, `runs`.
+PLACED = re.compile(rf"((?:`{NAME}` and )*`{NAME}`),?(?: \(| in | )(\w+), `([\w/]+)`(?: and `([\w/]+)`)?")
+# Names and their crate: `a` and `b` (dn_run).
+IN_CRATE = re.compile(rf"((?:`{NAME}`(?:, | and ))*`{NAME}`) \((dn\w+|pair_index)\)")
+# A name and a module of a crate that is told before it: `a` (`runs`). In the same way bundles have their kinds.
+IN_FILE = re.compile(rf"`({NAME})` \(`(?!(?:sp|max|min)`)([a-z_0-9]+)`\)")
+
+
+def text_of(path: str) -> str:
+    with open(path, encoding="utf-8") as file:
+        return file.read()
+
+
+def page_text(page: str) -> str:
+    return text_of(f"{ROOT}/{page}")
+
+
+def prose(page: str) -> str:
+    """A page without its blocks of code."""
+    return FENCE.sub("", page_text(page))
+
+
+def anchors(page: str) -> set[str]:
+    """What a link to a page can name: its headings, as GitHub spells them."""
+    heads = [re.sub(r"\]\([^)]*\)", "]", it) for it in HEADING.findall(prose(page))]
+    return {re.sub(r"[^\w\- ]", "", it.lower()).strip().replace(" ", "-") for it in heads}
+
+
+def bad_links(page: str) -> Iterator[str]:
+    """Links to files or anchors that are not there."""
+    for link in LINK.findall(SPAN.sub("", prose(page))):
+        path, _, anchor = link.partition("#")
+        if "://" in link or link.startswith("mailto:"):
+            continue
+        target = os.path.normpath(os.path.join(os.path.dirname(page), path)) if path else page
+        if not os.path.exists(f"{ROOT}/{target}"):
+            yield f"{page}: links to {link}, and there is no {target}"
+        elif anchor and anchor not in anchors(target):
+            yield f"{page}: links to {link}, and {target} has no such heading"
+
+
+def bad_quotes(page: str) -> Iterator[str]:
+    """Blocks of code that are not lines of the source that they name."""
+    quotes = QUOTE.findall(page_text(page))
+    if len(quotes) != len(FENCE.findall(page_text(page))):
+        yield f"{page}: a block of code has no line '<!-- from FILE -->' before it"
+    for path, code in quotes:
+        if not os.path.exists(f"{ROOT}/{path}"):
+            yield f"{page}: quotes {path}, which is not there"
+        elif f"\n{code}" not in f"\n{page_text(path)}":
+            yield f"{page}: {code.splitlines()[0]!r} and what follows are not lines of {path}"
+
+
+def is_there(path: str) -> bool:
+    """Whether a path that a page names is there: from the top, in a crate, or below a prefix; a file alone anywhere."""
+    path = path.removeprefix("./").rstrip("/").replace("NAME", "*")
+    tops = ["", "crates/*/", "crates/*/specs/"] if "/" in path or "." not in path else ["**/"]
+    found = [
+        it for top in tops for end in ("", ".antt") for it in glob.glob(f"{ROOT}/{top}{path}{end}", recursive=True)
+    ]
+    installed = [line.split()[-1] for line in page_text("share/installed.txt").split("\n") if line[:1].isdigit()]
+    return bool(found) or any(f"{it}/".startswith(f"{path}/") for it in installed)
+
+
+def bad_paths(page: str) -> Iterator[str]:
+    """Paths that are not there."""
+    for span in SPAN.findall(prose(page)):
+        if PATH.fullmatch(span) and WORD.search(span) and not ELSEWHERE & set(span.split("/")) and not is_there(span):
+            yield f"{page}: there is no {span}"
+
+
+def sources(crate: str, file: str = "") -> list[str]:
+    """The sources of a crate, or those that this name of a file or a module stands for; `*` is every crate."""
+    top = f"{ROOT}/crates/{crate}"
+    if not file:
+        return [it for kind in ("rt", "antt") for it in glob.glob(f"{top}/s*/**/*.{kind}", recursive=True)]
+    module = glob.glob(f"{top}/src/**/{file}.rt", recursive=True) + glob.glob(f"{top}/src/{file}/*.rt")
+    return module + glob.glob(f"{top}/specs/{file}.antt") + glob.glob(f"{top}/specs/State/{file}.antt")
+
+
+def crates() -> set[str]:
+    return {os.path.basename(it) for it in glob.glob(f"{ROOT}/crates/*")}
+
+
+def words_of(paths: list[str]) -> set[str]:
+    """The words of sources, but those of comments."""
+    return {word for path in paths for word in WORD.findall(COMMENT.sub("", text_of(path)))}
+
+
+def lacks(known: set[str], names: list[str]) -> list[str]:
+    """The names whose last part is not known."""
+    return [name for name in names if name.rpartition("::")[2] not in known]
+
+
+def misplaced(page: str, crate: str, files: list[str], names: list[str]) -> Iterator[str]:
+    """The files that the crate does not have, and the names that none of its files defines."""
+    found = []
+    for file in files:
+        here = sources(crate, file)
+        if not here:
+            yield f"{page}: there is no `{file}` in {crate.replace('*', 'any crate')}"
+        found += here
+    defined = {name for path in found for it in DEFINED.findall(text_of(path)) for name in it}
+    for name in lacks(defined, names) if found else []:
+        yield f"{page}: there is no `{name}` in {crate.replace('*', 'any crate')}, {', '.join(files)}"
+
+
+def bad_places(page: str) -> Iterator[str]:
+    """Names that do not stand in the files that the page says."""
+    known = crates()
+    for names, crate, *files in PLACED.findall(prose(page)):
+        if crate in known:
+            yield from misplaced(page, crate, [it for it in files if it], SPAN.findall(names))
+        elif crate.startswith("dn"):
+            yield f"{page}: there is no crate {crate}"
+    for names, crate in IN_CRATE.findall(prose(page)):
+        for name in lacks(words_of(sources(crate)), SPAN.findall(names)):
+            yield f"{page}: there is no `{name}` in {crate}"
+    for name, file in IN_FILE.findall(prose(page)):
+        yield from misplaced(page, "*", [file], [name])
+
+
+def cells(line: str) -> list[str]:
+    """The cells of a row; none where the line is no row, or parts the head from the rows."""
+    return [it.strip() for it in line.strip("|").split(" | ")] if line.startswith("| ") else []
+
+
+def bad_rows(page: str) -> Iterator[str]:
+    """Names in the first column of a table below a heading '### CRATE: ..' that the crate does not have; in a table of
+    places, those that none of the files has; in a table of laws, those that the module does not have."""
+    known, crate, head, module = crates(), "", [""], ""
+    for line in prose(page).split("\n"):
+        if line.startswith("#"):
+            crate = line.lstrip("# ").partition(":")[0]
+        row = cells(line)
+        if not line:
+            head = [""]
+        if not row:
+            continue
+        if head == [""]:
+            head = row
+        elif crate in known:
+            for name in lacks(words_of(sources(crate)), [it for it in SPAN.findall(row[0]) if re.fullmatch(NAME, it)]):
+                yield f"{page}: there is no `{name}` in {crate}"
+        elif head[:3] == ["Step", "Name", "Where"]:
+            names = [it for it in SPAN.findall(row[1]) if re.fullmatch(NAME, it)]
+            found = []
+            for place in row[2].split(";"):
+                here = [it for file in SPAN.findall(place) for it in sources(place.strip().partition(",")[0], file)]
+                if not here:
+                    yield f"{page}: there is no {place.strip()}"
+                found += here
+            for name in lacks(words_of(found), names):
+                yield f"{page}: there is no `{name}` in {row[2]}"
+        elif head[0] == "Module":
+            module = (SPAN.findall(row[0]) or [module])[0]
+            laws = SPAN.findall(row[1]) if head[1] == "Law" else []
+            yield from misplaced(page, "dn_laws", [module], laws)
+
+
+def bad_names(page: str) -> Iterator[str]:
+    """Names that no source of the crates has."""
+    words = words_of(sources("*")) | crates()
+    for span in dict.fromkeys(SPAN.findall(prose(page))):
+        if re.fullmatch(NAME, span) and set(span.split("::")) - words:
+            # Files and modules have names, too.
+            if not sources("*", span) and not os.path.exists(f"{ROOT}/{span}"):
+                yield f"{page}: no source has `{span}`"
+
+
+def complaints() -> Iterator[str]:
+    """All that the pages say and that is not so."""
+    yield from bad_quotes(QUOTING)
+    for page in LINKING:
+        yield from bad_links(page)
+    for page in PLACING:
+        yield from bad_paths(page)
+        yield from bad_places(page)
+        yield from bad_rows(page)
+    for page in NAMING:
+        yield from bad_names(page)
