@@ -1,32 +1,31 @@
-#!/bin/bash
+#!/usr/bin/env bash
 # Measures dnorm on texts that are made to hurt its structures, each beside a road text.
 #
-#   hostile.sh [BINARY] [N]
+#     hostile.sh [BINARY] [N]
 #
-# BINARY is a program that is run as `BINARY < text`, by default that of the repository. N is the
-# number of arcs (or of node, coordinate and comment lines) of a text, by default 1000000; a text with
-# empty lines has 10 N of them, and one with a long line 100 N bytes.
+# BINARY is a program that is run as `BINARY < text`, by default that of the repository. N is the number of arcs (or of
+# node, coordinate and comment lines) of a text, by default 1000000; a text with empty lines has 10 N of them, and one
+# with a long line 100 N bytes.
 #
-# For each text the bytes of BINARY and of plain Rust are compared; where plain Rust is too slow, they
-# are not. Then the processor time of both is measured, in turn with that of BINARY on a shuffled road
-# text. The last column is the time of an arc over that of an arc of the road text, or of a byte where
-# the text has hardly an arc; above MOST it is marked. The status is 1 where bytes differ, or BINARY
-# failed or was too slow.
+# For each text the bytes of BINARY and of plain Rust are compared; where plain Rust is too slow, they are not. Then the
+# processor time of both is measured, in turn with that of BINARY on a shuffled road text. The last column is the time
+# of an arc over that of an arc of the road text, or of a byte where the text has hardly an arc; above MOST it is
+# marked. The status is 1 where bytes differ, or BINARY failed or was too slow.
 #
 # Environment:
-#   REPS=3           rounds
-#   KINDS="sp-.."    only these kinds
-#   MOST=3           the ratio above which a row is marked
-#   LIMIT=60         seconds for one run of a program
-#   KEEP=DIR         keeps programs and texts in DIR, and uses those that are there
+#     REPS=3           rounds
+#     KINDS="sp-.."    only these kinds
+#     MOST=3           the ratio above which a row is marked
+#     LIMIT=60         seconds for one run of a program
+#     KEEP=DIR         keeps programs and texts in DIR, and uses those that are there
 set -euo pipefail
 LIMIT=${LIMIT:-60}
 # shellcheck source-path=SCRIPTDIR source=shared.sh
 . "$(dirname "${BASH_SOURCE[0]}")/shared.sh"
 
-case ${1:-} in
-  '' | *[!0-9]*) binary=$(program "${1:-}") n=${2:-1000000} ;;
-  *) binary=$(program) n=$1 ;;
+case ${1-} in
+    '' | *[!0-9]*) binary=$(program "${1-}") n=${2:-1000000} ;;
+    *) binary=$(program) n=$1 ;;
 esac
 empty=$((10 * n)) long=$((100 * n))
 reps=${REPS:-3}
@@ -36,7 +35,7 @@ failed=0
 
 # The kinds, each with what is counted and how many.
 table() {
-  cat << TABLE
+    cat << TABLE
 road-shuffled arc $n
 road-pairs arc $n
 sp-falling arc $n
@@ -73,37 +72,35 @@ TABLE
 }
 
 count() { # UNIT FILE
-  case $1 in
-    arc) grep -c '^a' "$2" ;;
-    line) wc -l < "$2" ;;
-    byte) wc -c < "$2" ;;
-  esac
+    case $1 in
+        arc) grep -c '^a' "$2" ;;
+        line) wc -l < "$2" ;;
+        byte) wc -c < "$2" ;;
+    esac
 }
 
 row() { # KIND UNIT N
-  local file told plain=("plain=timeout $LIMIT '$work/btree'")
-  file=$(text "$1" "$3" 1)
-  if ! told=$(agree "$file" "btree='$work/btree'" "dnorm='$binary'"); then
-    echo "  $told"
-    case $told in
-      "TOO SLOW: btree"*) plain=() ;;
-      *) failed=1 && return ;;
-    esac
-  fi
-  if ! "$work/measure" "$reps" "$file" "$work/out" \
-    "road=timeout $LIMIT '$binary' < '$road'" "text=timeout $LIMIT '$binary'" "${plain[@]}" |
-    python3 "$here/hostile_table.py" "$1" "$2" "$(count "$2" "$file")" "$(wc -c < "$file")" \
-      "$(count arc "$road")" "$(wc -c < "$road")" "${MOST:-3}"; then
-    failed=1
-  fi
-  rm -f "$work/out"
-  [ -n "${KEEP:-}" ] || [ "$file" = "$road" ] || rm -f "$file"
+    local file told words plain=("plain=timeout $LIMIT '$work/btree'")
+    file=$(text "$1" "$3" 1)
+    if ! told=$(agree "$file" "btree='$work/btree'" "dnorm='$binary'"); then
+        echo "  $told"
+        case $told in
+            'TOO SLOW: btree'*) plain=() ;;
+            *) failed=1 && return ;;
+        esac
+    fi
+    words=("$1" "$2" "$(count "$2" "$file")" "$(count byte "$file")" "$(count arc "$road")" "$(count byte "$road")")
+    "$work/measure" "$reps" "$file" "$work/out" \
+        "road=timeout $LIMIT '$binary' < '$road'" "text=timeout $LIMIT '$binary'" "${plain[@]}" |
+        python3 "$here/hostile_table.py" "${words[@]}" "${MOST:-3}" || failed=1
+    rm -f "$work/out"
+    [[ ${KEEP-} || $file == "$road" ]] || rm -f "$file"
 }
 
 python3 "$here/hostile_table.py"
 while read -r kind unit size; do
-  case " ${KINDS:-$kind} " in
-    *" $kind "*) row "$kind" "$unit" "$size" ;;
-  esac
+    if [[ " ${KINDS:-$kind} " == *" $kind "* ]]; then
+        row "$kind" "$unit" "$size"
+    fi
 done < <(table)
 exit "$failed"

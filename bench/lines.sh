@@ -1,17 +1,16 @@
-#!/bin/bash
+#!/usr/bin/env bash
 # Measures how fast lines are read, without a table and without writing.
 #
-#   lines.sh [KIND] [N]
+#     lines.sh [KIND] [N]
 #
-# KIND is one of the kinds of generate.rs, by default road-shuffled; N is the number of arcs, by default
-# 4000000. A program is made that takes the text into memory, and then reads it line by line in pieces
-# of 64 KiB with the LineReader of dn_line, and checks each line by itself. It is proved and built first,
-# with rt, which takes some minutes from nothing. Printed are MB/s, the median of the rounds, and the
-# least and the greatest.
+# KIND is one of the kinds of generate.rs, by default road-shuffled; N is the number of arcs, by default 4000000. A
+# program is made that takes the text into memory, and then reads it line by line in pieces of 64 KiB with the
+# LineReader of dn_line, and checks each line by itself. It is proved and built first, with rt, which takes some minutes
+# from nothing. Printed are MB/s, the median of the rounds, and the least and the greatest.
 #
 # Environment:
-#   ROUNDS=5         rounds
-#   KEEP=DIR         keeps the program and texts in DIR, and uses those that are there
+#     ROUNDS=5         rounds
+#     KEEP=DIR         keeps the program and texts in DIR, and uses those that are there
 set -euo pipefail
 # shellcheck source-path=SCRIPTDIR source=shared.sh
 . "$(dirname "${BASH_SOURCE[0]}")/shared.sh"
@@ -20,26 +19,26 @@ kind=${1:-road-shuffled}
 n=${2:-4000000}
 top=$(realpath "$here/..")
 
-# A repository of its own: the two crates, and the program on standard input.
+# Makes a repository of its own: the two crates, and the program on standard input.
 build() {
-  local crate place=$work/lines
-  rm -rf "$place"
-  mkdir -p "$place/crates/lines/src" "$place/crates/lines/specs" "$place/crates/lines/proofs"
-  cp "$top/HANDLES" "$place"
-  for crate in dn_num dn_line; do
-    grep "^$crate:" "$top/crates.txt" >> "$place/crates.txt"
-    cp -r "$top/crates/$crate" "$place/crates"
-  done
-  echo 'lines: dn_line' >> "$place/crates.txt"
-  cat > "$place/crates/lines/src/main.rt"
-  (cd "$place/crates/lines" && rt run < /dev/null >&2)
+    local crate place=$work/lines
+    rm -rf "$place"
+    mkdir -p "$place/crates/lines/src" "$place/crates/lines/specs" "$place/crates/lines/proofs"
+    cp "$top/HANDLES" "$place"
+    for crate in dn_num dn_line; do
+        grep "^$crate:" "$top/crates.txt" >> "$place/crates.txt"
+        cp -r "$top/crates/$crate" "$place/crates"
+    done
+    echo 'lines: dn_line' >> "$place/crates.txt"
+    cat > "$place/crates/lines/src/main.rt"
+    (cd "$place/crates/lines" && rt run < /dev/null >&2)
 }
 
 is_built() {
-  local program=$work/lines/crates/lines/out/lines
-  [ -x "$program" ] || return 1
-  [ -z "$(find "$here/lines.sh" "$top/crates/dn_num" "$top/crates/dn_line" -name out -prune -o \
-    -type f -newer "$program" -print -quit)" ]
+    local program=$work/lines/crates/lines/out/lines
+    [[ -x $program ]] || return 1
+    [[ -z $(find "$here/lines.sh" "$top/crates/dn_num" "$top/crates/dn_line" -name out -prune -o \
+        -type f -newer "$program" -print -quit) ]]
 }
 
 is_built || build << 'PROGRAM'
@@ -129,12 +128,12 @@ PROGRAM
 compile generate.rs
 file=$(text "$kind" "$n" 1)
 for ((round = 0; round < ${ROUNDS:-5}; round++)); do
-  "$work/lines/crates/lines/out/lines" < "$file"
+    "$work/lines/crates/lines/out/lines" < "$file"
 done | sort -n -k 4 | awk -v kind="$kind" '
-  { bytes = $1; lines = $2; faults = $3; rate[NR] = $4 ? $1 / $4 : 0 }
-  END {
-    if (!NR) exit 1
-    middle = rate[int((NR + 1) / 2)]
-    printf "%s: %d lines, %d with a fault, %.1f MB: %.0f MB/s (%.0f to %.0f), %.1f ns a line\n",
-      kind, lines, faults, bytes / 1e6, middle, rate[NR], rate[1], bytes * 1e3 / middle / lines
-  }'
+    { bytes = $1; lines = $2; faults = $3; rate[NR] = $4 ? $1 / $4 : 0 }
+    END {
+        if (!NR) exit 1
+        middle = rate[int((NR + 1) / 2)]
+        printf "%s: %d lines, %d with a fault, %.1f MB: %.0f MB/s (%.0f to %.0f), %.1f ns a line\n",
+            kind, lines, faults, bytes / 1e6, middle, rate[NR], rate[1], bytes * 1e3 / middle / lines
+    }'

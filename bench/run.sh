@@ -1,100 +1,112 @@
-#!/bin/bash
+#!/usr/bin/env bash
 # Measures dnorm beside other ways to canonical texts.
 #
-#   run.sh [BINARY] [N]
+#     run.sh [BINARY] [N]
 #
-# BINARY is a program that is run as `BINARY < text`: by default that of the repository; `-` for none,
-# which measures the baselines alone. N is the number of arcs of each text, by default 1000000. First
-# all outputs are compared byte for byte; a difference ends the run. Then come the times.
+# BINARY is a program that is run as `BINARY < text`: by default that of the repository; `-` for none, which measures
+# the baselines alone. N is the number of arcs of each text, by default 1000000. First all outputs are compared byte for
+# byte; a difference ends the run. Then come the times.
 #
 # Environment:
-#   REPS=3            rounds
-#   KINDS="road .."   the sp texts, of the kinds in generate.rs: road road-pairs road-shuffled multi
-#   SLOW=0            leaves out the shell pipeline and Python
-#   OTHERS=0          leaves out min, max and co, for a program that knows sp alone
-#   IR=1              counts instructions of each arc too, on 100,000 arcs, with valgrind
-#   LIMIT=600         seconds for one run of a program
-#   KEEP=DIR          keeps programs and texts in DIR, and uses those that are there
+#     REPS=3            rounds
+#     KINDS="road .."   the sp texts, of the kinds in generate.rs: road road-pairs road-shuffled multi
+#     SLOW=0            leaves out the shell pipeline and Python
+#     OTHERS=0          leaves out min, max and co, for a program that knows sp alone
+#     IR=1              counts instructions of each arc too, on 100,000 arcs, with valgrind
+#     LIMIT=600         seconds for one run of a program
+#     KEEP=DIR          keeps programs and texts in DIR, and uses those that are there
 set -euo pipefail
 # shellcheck source-path=SCRIPTDIR source=shared.sh
 . "$(dirname "${BASH_SOURCE[0]}")/shared.sh"
 
-case ${1:-} in
-  -) binary='' n=${2:-1000000} ;;
-  '' | *[!0-9]*) binary=$(program "${1:-}") n=${2:-1000000} ;;
-  *) binary=$(program) n=$1 ;;
+case ${1-} in
+    -) binary='' n=${2:-1000000} ;;
+    '' | *[!0-9]*) binary=$(program "${1-}") n=${2:-1000000} ;;
+    *) binary=$(program) n=$1 ;;
 esac
 reps=${REPS:-3}
 limit=${LIMIT:-600}
-kinds=${KINDS-road road-pairs road-shuffled multi}
+read -r -a kinds <<< "${KINDS-road road-pairs road-shuffled multi}"
 compile generate.rs measure.rs baselines/btree.rs baselines/tuned.rs
 
 pipeline="pipeline=sh '$here/baselines/pipeline.sh'"
 dict="dict=python3 '$here/baselines/dict.py'"
 btree="btree='$work/btree'"
 tuned="tuned='$work/tuned'"
-floor=("cat=cat" "wc -l=wc -l")
+floor=('cat=cat' 'wc -l=wc -l')
 mine=()
 subject=btree
-if [ -n "$binary" ]; then
-  mine=("dnorm=timeout $limit '$binary'")
-  subject=dnorm
+if [[ $binary ]]; then
+    mine=("dnorm=timeout $limit '$binary'")
+    subject=dnorm
 fi
 slow=("$pipeline" "$dict")
-[ "${SLOW:-1}" = 1 ] || slow=()
+[[ ${SLOW:-1} == 1 ]] || slow=()
+others=(min min-netgen max co-shuffled)
+[[ ${OTHERS:-1} == 1 ]] || others=()
 
-echo "== agreement"
-for kind in road road-pairs road-shuffled multi; do
-  agree "$(text "$kind" 20000 7)" "$btree" "$tuned" "$pipeline" "$dict" "${mine[@]}"
-  agree "$(text "$kind" 20000 7 --noise)" "$btree" "$tuned" "$pipeline" "$dict" "${mine[@]}"
-  agree "$(text "$kind" 20000 7 --noise --odd)" "$btree" "$tuned" "$dict" "${mine[@]}"
-done
-if [ -n "$binary" ] && [ "${OTHERS:-1}" = 1 ]; then
-  for kind in min min-netgen max co co-shuffled ss p2p; do
-    agree "$(text "$kind" 20000 7)" "$btree" "${mine[@]}"
-    agree "$(text "$kind" 20000 7 --noise --odd)" "$btree" "${mine[@]}"
-  done
-fi
-for kind in $kinds; do
-  agree "$(text "$kind" "$n" 1)" "$btree" "$tuned" "${slow[@]}" "${mine[@]}"
-done
-echo "all outputs agree byte for byte"
+# Compares all outputs on small texts, clean, noisy and oddly spelled, and on those that are measured.
+agreement() {
+    local kind
+    for kind in road road-pairs road-shuffled multi; do
+        agree "$(text "$kind" 20000 7)" "$btree" "$tuned" "$pipeline" "$dict" "${mine[@]}"
+        agree "$(text "$kind" 20000 7 --noise)" "$btree" "$tuned" "$pipeline" "$dict" "${mine[@]}"
+        agree "$(text "$kind" 20000 7 --noise --odd)" "$btree" "$tuned" "$dict" "${mine[@]}"
+    done
+    if [[ $binary ]] && ((${#others[@]})); then
+        for kind in "${others[@]}" co ss p2p; do
+            agree "$(text "$kind" 20000 7)" "$btree" "${mine[@]}"
+            agree "$(text "$kind" 20000 7 --noise --odd)" "$btree" "${mine[@]}"
+        done
+    fi
+    for kind in "${kinds[@]}"; do
+        agree "$(text "$kind" "$n" 1)" "$btree" "$tuned" "${slow[@]}" "${mine[@]}"
+    done
+}
 
 times() { # KIND NAME=COMMAND..
-  local kind=$1 file unit=arc
-  shift
-  file=$(text "$kind" "$n" 1)
-  cat "$file" > /dev/null
-  [[ $kind != co* ]] || unit=line
-  "$work/measure" "$reps" "$file" "$work/out" "$@" |
-    python3 "$here/table.py" "$kind" "$unit" "$(grep -c '^[av]' "$file")" "$(wc -c < "$file")" "$subject"
-  rm -f "$work/out"
+    local kind=$1 file unit=arc
+    shift
+    file=$(text "$kind" "$n" 1)
+    cat "$file" > /dev/null
+    [[ $kind != co* ]] || unit=line
+    "$work/measure" "$reps" "$file" "$work/out" "$@" |
+        python3 "$here/table.py" "$kind" "$unit" "$(grep -c '^[av]' "$file")" "$(wc -c < "$file")" "$subject"
+    rm -f "$work/out"
 }
-echo
-echo "== median of $reps interleaved rounds, output to a file"
-for kind in $kinds; do
-  times "$kind" "${mine[@]}" "${floor[@]}" "$tuned" "$btree" "${slow[@]}"
-done
-if [ "${OTHERS:-1}" = 1 ]; then
-  for kind in min min-netgen max co-shuffled; do
-    agree "$(text "$kind" "$n" 1)" "$btree" "${mine[@]}"
-    times "$kind" "${mine[@]}" "${floor[@]}" "$btree"
-  done
-fi
 
 instructions() { # COMMAND FILE
-  sh -c "exec valgrind --tool=callgrind --callgrind-out-file=/dev/null $1" < "$2" 2>&1 > /dev/null |
-    sed -n 's/.*Collected : \([0-9]*\).*/\1/p'
+    sh -c "exec valgrind --tool=callgrind --callgrind-out-file=/dev/null $1" < "$2" 2>&1 > /dev/null |
+        sed -n 's/.*Collected : \([0-9]*\).*/\1/p'
 }
-if [ "${IR:-0}" = 1 ]; then
-  echo
-  echo "== instructions of each arc, 100,000 arcs"
-  for kind in $kinds; do
-    file=$(text "$kind" 100000 1)
-    arcs=$(grep -c '^a' "$file")
-    for word in ${binary:+"dnorm='$binary'"} "$tuned" "$btree"; do
-      count=$(instructions "${word#*=}" "$file")
-      printf '  %-14s %-12s %8d\n' "$kind" "${word%%=*}" $((${count:-0} / arcs))
+
+# Counts the instructions of each arc.
+counts() {
+    local kind file arcs word count
+    for kind in "${kinds[@]}"; do
+        file=$(text "$kind" 100000 1)
+        arcs=$(grep -c '^a' "$file")
+        for word in ${binary:+"dnorm='$binary'"} "$tuned" "$btree"; do
+            count=$(instructions "${word#*=}" "$file")
+            printf '  %-14s %-12s %8d\n' "$kind" "${word%%=*}" $((${count:-0} / arcs))
+        done
     done
-  done
+}
+
+echo '== agreement'
+agreement
+echo 'all outputs agree byte for byte'
+echo
+echo "== median of $reps interleaved rounds, output to a file"
+for kind in "${kinds[@]}"; do
+    times "$kind" "${mine[@]}" "${floor[@]}" "$tuned" "$btree" "${slow[@]}"
+done
+for kind in "${others[@]}"; do
+    agree "$(text "$kind" "$n" 1)" "$btree" "${mine[@]}"
+    times "$kind" "${mine[@]}" "${floor[@]}" "$btree"
+done
+if [[ ${IR:-0} == 1 ]]; then
+    echo
+    echo '== instructions of each arc, 100,000 arcs'
+    counts
 fi

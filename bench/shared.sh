@@ -4,71 +4,71 @@
 here=$(cd "$(dirname "${BASH_SOURCE[0]}")" && pwd)
 
 # The folder of programs and texts: KEEP, or one that is removed at the end.
-if [ -n "${KEEP:-}" ]; then
-  mkdir -p "$KEEP"
-  work=$(realpath "$KEEP")
+if [[ ${KEEP-} ]]; then
+    mkdir -p "$KEEP"
+    work=$(realpath "$KEEP")
 else
-  work=$(mktemp -d)
-  trap 'rm -rf "$work"' EXIT
+    work=$(mktemp -d)
+    trap 'rm -rf "$work"' EXIT
 fi
 
 # The built program of the repository, or the one that is named.
 program() { # [BINARY]
-  local built=$here/../crates/dnorm/out/dnorm
-  if [ -n "${1:-}" ]; then
-    realpath -e "$1"
-  elif [ -x "$built" ]; then
-    realpath "$built"
-  else
-    echo "There is no program at crates/dnorm/out/dnorm." \
-      "Run ./dnorm at the top of the repository first: it builds it." >&2
-    return 1
-  fi
+    local built=$here/../crates/dnorm/out/dnorm
+    if [[ ${1-} ]]; then
+        realpath -e "$1"
+    elif [[ -x $built ]]; then
+        realpath "$built"
+    else
+        echo 'There is no program at crates/dnorm/out/dnorm.' \
+            'Run ./dnorm at the top of the repository first: it builds it.' >&2
+        return 1
+    fi
 }
 
 # Compiles Rust files of this folder into the working folder, where they are newer than what is there.
 compile() { # SOURCE..
-  local source target
-  for source; do
-    target=$work/$(basename "$source" .rs)
-    if [ ! -x "$target" ] || [ "$here/$source" -nt "$target" ]; then
-      rustc -C opt-level=3 -C codegen-units=1 --edition 2021 -o "$target" "$here/$source"
-    fi
-  done
+    local source target
+    for source; do
+        target=$work/$(basename "$source" .rs)
+        if [[ ! -x $target || $here/$source -nt $target ]]; then
+            rustc -C opt-level=3 -C codegen-units=1 --edition 2021 -o "$target" "$here/$source"
+        fi
+    done
 }
 
 # The file of a text; it is made where it is not there or older than its generator.
 text() { # KIND N SEED [FLAG..]
-  local words="$*"
-  local file=$work/${words// /_}.txt
-  if [ ! -s "$file" ] || [ "$work/generate" -nt "$file" ]; then
-    "$work/generate" "$@" > "$file.part"
-    mv "$file.part" "$file"
-  fi
-  echo "$file"
+    local words="$*"
+    local file=$work/${words// /_}.txt
+    if [[ ! -s $file || $work/generate -nt $file ]]; then
+        "$work/generate" "$@" > "$file.part"
+        mv "$file.part" "$file"
+    fi
+    echo "$file"
 }
 
 # Whether all programs give the same bytes with status 0, each in LIMIT seconds. Says what is not so.
 agree() { # FILE NAME=COMMAND..
-  local file=$1 name first='' word status
-  shift
-  for word; do
-    name=${word%%=*}
-    status=0
-    timeout "${LIMIT:-600}" sh -c "exec ${word#*=}" < "$file" > "$work/out.$name" || status=$?
-    if [ "$status" = 124 ]; then
-      echo "TOO SLOW: $name on $(basename "$file")"
-      return 1
-    elif [ "$status" != 0 ]; then
-      echo "FAILED: $name on $(basename "$file"), status $status"
-      return 1
-    fi
-    [ -n "$first" ] || first=$name
-    if ! cmp -s "$work/out.$first" "$work/out.$name"; then
-      echo "DIFFERENT BYTES: $name and $first on $(basename "$file")"
-      return 1
-    fi
-    [ "$name" = "$first" ] || rm -f "$work/out.$name"
-  done
-  rm -f "$work/out.$first"
+    local file=$1 name first='' word status
+    shift
+    for word; do
+        name=${word%%=*}
+        status=0
+        timeout "${LIMIT:-600}" sh -c "exec ${word#*=}" < "$file" > "$work/out.$name" || status=$?
+        if ((status == 124)); then
+            echo "TOO SLOW: $name on $(basename "$file")"
+            return 1
+        elif ((status)); then
+            echo "FAILED: $name on $(basename "$file"), status $status"
+            return 1
+        fi
+        [[ $first ]] || first=$name
+        if ! cmp -s "$work/out.$first" "$work/out.$name"; then
+            echo "DIFFERENT BYTES: $name and $first on $(basename "$file")"
+            return 1
+        fi
+        [[ $name == "$first" ]] || rm -f "$work/out.$name"
+    done
+    rm -f "$work/out.$first"
 }

@@ -1,43 +1,66 @@
 #!/usr/bin/env python3
-"""table.py TITLE UNIT COUNT BYTES SUBJECT < lines of measure
+"""Prints a row for each program, over a text of so many UNITs (arc or line) and bytes.
 
-Prints a row for each program, over a text of so many UNITs (arc or line) and bytes. Each figure is
-the median of its rounds. The ratios are SUBJECT's time over the row's, each from one round: wall
-time, with the least and the greatest beside it, then processor time (user and system), which a busy
-machine disturbs less.
-"""
+    table.py TITLE UNIT COUNT BYTES SUBJECT < lines of measure
+
+Each figure is the median of its rounds. The ratios are SUBJECT's time over the row's, each from one round: wall time,
+with the least and the greatest beside it, then processor time (user and system), which a busy machine disturbs less.
+The status is 1 where a program failed."""
+
 import statistics
 import sys
+from typing import NamedTuple
 
 
-def main():
-    title, unit = sys.argv[1:3]
-    count, size, subject = int(sys.argv[3]), int(sys.argv[4]), sys.argv[5]
-    runs = {}
+class Round(NamedTuple):
+    """What one run of a program took: times in ms, and memory in KiB."""
+
+    wall: float
+    user: float
+    system: float
+    peak: float
+
+    def work(self) -> float:
+        """The processor time."""
+        return self.user + self.system
+
+
+def rounds() -> tuple[dict[str, list[Round]], bool]:
+    """The rounds of each program, and whether one of them failed."""
+    found: dict[str, list[Round]] = {}
     failed = False
     for line in sys.stdin:
-        name, wall, user, system, peak, status = line.rstrip("\n").split("\t")
-        runs.setdefault(name, []).append((float(wall), float(user), float(system), int(peak)))
+        name, *figures, status = line.rstrip("\n").split("\t")
+        found.setdefault(name, []).append(Round(*map(float, figures)))
         if status != "0":
             failed = True
-            print("FAILED: %s, wait status %s" % (name, status))
-    print("\n%s: %s %ss, %.1f MB" % (title, format(count, ","), unit, size / 1e6))
-    print("  %-12s %9s %9s %9s %9s %8s %7s   %s" % (
-        "program", "wall s", "user s", "system s", "peak MB", "ns/" + unit, "MB/s",
-        subject + " / it: wall (least..greatest), processor"))
-    base = runs.get(subject, [])
-    for name, rows in runs.items():
+            print(f"FAILED: {name}, wait status {status}")
+    return found, failed
+
+
+def ratios(base: list[Round], rows: list[Round]) -> str:
+    """The times of the subject over those of a program."""
+    walls = [it.wall / row.wall for it, row in zip(base, rows)]
+    works = [it.work() / max(row.work(), 0.1) for it, row in zip(base, rows)]
+    wall = f"{statistics.median(walls):7.2f} ({min(walls):.2f}..{max(walls):.2f})"
+    return f"{wall} {statistics.median(works):7.2f}"
+
+
+def main() -> int:
+    title, unit, count, size, subject = sys.argv[1], sys.argv[2], int(sys.argv[3]), int(sys.argv[4]), sys.argv[5]
+    found, failed = rounds()
+    print(f"\n{title}: {count:,} {unit}s, {size / 1e6:.1f} MB")
+    heads = ["wall s", "user s", "system s", "peak MB"]
+    print(f"  {'program':12} {' '.join(f'{it:>9}' for it in heads)} {f'ns/{unit}':>8} {'MB/s':>7}   ", end="")
+    print(f"{subject} / it: wall (least..greatest), processor")
+    base = found.get(subject, [])
+    for name, rows in found.items():
         wall, user, system, peak = (statistics.median(column) for column in zip(*rows))
-        ratio = ""
-        if base and name != subject:
-            walls = [b[0] / row[0] for b, row in zip(base, rows)]
-            work = [(b[1] + b[2]) / max(row[1] + row[2], 0.1) for b, row in zip(base, rows)]
-            ratio = "%7.2f (%.2f..%.2f) %7.2f" % (
-                statistics.median(walls), min(walls), max(walls), statistics.median(work))
-        print("  %-12s %9.3f %9.3f %9.3f %9.1f %8.0f %7.0f   %s" % (
-            name, wall / 1e3, user / 1e3, system / 1e3, peak * 1024 / 1e6,
-            wall * 1e6 / max(count, 1), size / 1e3 / wall, ratio))
+        times = f"{wall / 1e3:9.3f} {user / 1e3:9.3f} {system / 1e3:9.3f} {peak * 1024 / 1e6:9.1f}"
+        rates = f"{wall * 1e6 / max(count, 1):8.0f} {size / 1e3 / wall:7.0f}"
+        print(f"  {name:12} {times} {rates}   {ratios(base, rows) if base and name != subject else ''}")
     return 1 if failed else 0
 
 
-sys.exit(main())
+if __name__ == "__main__":
+    sys.exit(main())

@@ -1,14 +1,13 @@
 #!/usr/bin/env python3
-"""Canonical texts of `sp` with a dict and sorted(), from standard input to standard output.
+"""Canonical texts of `sp` with a dict and sorted(), from standard input to standard output. It judges little: node
+numbers and the number of arcs."""
 
-It judges little: node numbers and the number of arcs.
-"""
 import sys
 
 
-def main():
-    least = {}
-    nodes = arcs = None
+def main() -> None:
+    least: dict[tuple[int, int], int] = {}
+    nodes = arcs = -1
     seen = 0
     for line in sys.stdin.buffer:
         words = line.split()
@@ -22,7 +21,7 @@ def main():
             seen += 1
             if pair not in least or length < least[pair]:
                 least[pair] = length
-        elif words[0] == b"p" and words[1] == b"sp" and nodes is None:
+        elif words[0] == b"p" and words[1] == b"sp" and nodes < 0:
             nodes, arcs = int(words[2]), int(words[3])
         else:
             sys.exit("bad line")
@@ -33,4 +32,5 @@ def main():
     out.writelines("a %d %d %d\n" % (pair[0], pair[1], least[pair]) for pair in sorted(least))
 
 
-main()
+if __name__ == "__main__":
+    main()
