@@ -1,5 +1,7 @@
 """Small texts whose answers are known from outside: what each command puts of them, and the statuses."""
 
+from collections.abc import Iterator
+
 # Parallel arcs, both directions, a self-loop, a negative length; and the canonical text.
 ROADS = b"p sp 3 7\na 1 2 7\na 1 2 3\na 2 1 4\na 1 2 3\na 2 2 0\na 3 1 -5\na 2 3 9\n"
 ROADS_CANON = b"p sp 3 5\na 1 2 3\na 2 1 4\na 2 2 0\na 2 3 9\na 3 1 -5\n"
@@ -494,3 +496,18 @@ REFUSED = [
     (b"p aux sp co 1\n", b"t:end: 20 TooFewLines\n"),
     (b"p sp 1 9223372036854775807\n", b"t:end: 20 TooFewLines\n"),
 ]
+
+
+def rows() -> Iterator[tuple[str, dict[str, bytes], bytes, bytes, int]]:
+    """All runs that the tables tell: words, texts by their names, both streams and the status."""
+    yield "", {"-": ROADS}, ROADS_CANON, b"", 0
+    yield from [*SHOWN, *CHECKED, *FITTED, *PAIRS, *OTHERS]
+    for text, err in REFUSED:
+        yield "canon t", {"t": text}, b"", err, 2
+    for text, one, two in CANONICAL:
+        for given in [text, one, two]:
+            yield "canon t", {"t": given}, one, b"", 0
+            yield "canon --form 2 t", {"t": given}, two, b"", 0
+    for left, right, there, back in COMPARED:
+        yield "compare l r", {"l": left, "r": right}, there, b"", 1
+        yield "compare l r", {"l": right, "r": left}, back, b"", 1

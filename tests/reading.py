@@ -3,6 +3,7 @@ canonical texts, what `show` tells of it, the first difference of two texts, and
 of a `min` pair cost is found by trying all splits."""
 
 import re
+from collections.abc import Iterable, Sequence
 from dataclasses import dataclass, field
 
 MOST = 2**63 - 1
@@ -27,6 +28,14 @@ CODES = (
     "TooFewLines TooLong"
 ).split()
 
+# The numbers of a counted line, and those of an arc behind its pair.
+Item = tuple[int, ...]
+Numbers = Sequence[int]
+Pair = tuple[int, int]
+# What the arcs of a pair mean: a length or a total, or of `min` the forced units, their cost, and the free units at
+# each cost.
+Meaning = int | tuple[int, int, dict[int, int]]
+
 
 @dataclass
 class Text:
@@ -36,30 +45,30 @@ class Text:
     kind: str = ""
     nodes: int = 0
     declared: int = 0
-    flows: dict = field(default_factory=dict)
-    terminals: dict = field(default_factory=dict)
-    items: list = field(default_factory=list)
+    flows: dict[int, int] = field(default_factory=dict)
+    terminals: dict[str, int] = field(default_factory=dict)
+    items: list[Item] = field(default_factory=list)
 
-    def arcs(self):
+    def arcs(self) -> dict[Pair, list[Numbers]]:
         """The numbers of the arcs of each ordered pair."""
-        found = {}
+        found: dict[Pair, list[Numbers]] = {}
         for src, dst, *numbers in self.items:
             found.setdefault((src, dst), []).append(numbers)
         return found
 
-    def supplies(self):
+    def supplies(self) -> dict[int, int]:
         return {node: flow for node, flow in self.flows.items() if flow}
 
 
 class Fault(Exception):
     """The first fault of a text: its place, and its number."""
 
-    def __init__(self, place, number):
+    def __init__(self, place: int | str, number: int) -> None:
         super().__init__()
         self.line = f"{place}: {number} {CODES[number - 1]}"
 
 
-def read(text):
+def read(text: bytes) -> Text:
     """What a text, in bytes, reads as; raises its first fault."""
     so_far = Text()
     pieces = text.decode("latin-1").split("\n")
@@ -76,19 +85,19 @@ def read(text):
     return so_far
 
 
-def kind_named(words):
+def kind_named(words: list[str]) -> str:
     """The kind that the words after `p` begin with."""
     return next((kind for kind, names in NAMES.items() if words[: len(names)] == names), "")
 
 
-def fields_of(so_far, words):
+def fields_of(so_far: Text, words: list[str]) -> tuple[list[str], list[str]]:
     """The names of a line's fields, and their words."""
     letter, *rest = words
     kind = so_far.kind or kind_named(rest)
     return LINES[kind][letter].split(), rest if so_far.kind else rest[len(NAMES[kind]) :]
 
 
-def fault_of_line(so_far, words):
+def fault_of_line(so_far: Text, words: list[str]) -> int:
     """The number of the first fault of a line, or 0."""
     letter, kind = words[0], so_far.kind
     if letter not in LETTERS:
@@ -111,7 +120,7 @@ def fault_of_line(so_far, words):
     return fault_of_fields(so_far, dict(zip(names, values)))
 
 
-def fault_of_fields(so_far, fields):
+def fault_of_fields(so_far: Text, fields: dict[str, str]) -> int:
     """The number of the first fault of a line's fields, from 9 on, or 0."""
     texts = [value for name, value in fields.items() if name != "TERMINAL"]
     if not all(NUMBER.fullmatch(it) for it in texts):
@@ -129,7 +138,7 @@ def fault_of_fields(so_far, fields):
     return fault_of_item(so_far, numbers, fields.get("TERMINAL"))
 
 
-def fault_of_item(so_far, numbers, terminal):
+def fault_of_item(so_far: Text, numbers: dict[str, int], terminal: str | None) -> int:
     """The number of the first fault that a line has beside the lines before it, from 14 on, or 0."""
     node = numbers.get("ID")
     if terminal in so_far.terminals or "FLOW" in numbers and node in so_far.flows:
@@ -148,7 +157,7 @@ def fault_of_item(so_far, numbers, terminal):
     return 0
 
 
-def take(so_far, words):
+def take(so_far: Text, words: list[str]) -> None:
     """Adds a line without fault."""
     if words[0] == "p":
         _, values = fields_of(so_far, words)
@@ -163,7 +172,7 @@ def take(so_far, words):
         so_far.items.append(tuple(map(int, words[1:])))
 
 
-def fault_of_end(so_far):
+def fault_of_end(so_far: Text) -> int:
     """The number of the first fault at the end, or 0."""
     if not so_far.kind:
         return 18
@@ -172,24 +181,24 @@ def fault_of_end(so_far):
     return 20 if len(so_far.items) < so_far.declared else 0
 
 
-def forced(arcs):
+def forced(arcs: Iterable[Numbers]) -> tuple[int, int]:
     """The forced units of `min` arcs, and their cost."""
     return sum(low for low, _, _ in arcs), sum(low * cost for low, _, cost in arcs)
 
 
-def free(arcs):
+def free(arcs: Iterable[Numbers]) -> dict[int, int]:
     """The free units of `min` arcs at each cost where there are some."""
-    units = {}
+    units: dict[int, int] = {}
     for low, cap, cost in arcs:
         units[cost] = units.get(cost, 0) + cap - low
     return {cost: units[cost] for cost in sorted(units) if units[cost]}
 
 
-def curve(arcs):
+def curve(arcs: Iterable[Numbers]) -> dict[int, int]:
     """The least cost of each amount, by trying all splits. For small capacities alone."""
     costs = {0: 0}
     for low, cap, cost in arcs:
-        found = {}
+        found: dict[int, int] = {}
         for amount, spent in costs.items():
             for share in range(low, cap + 1):
                 whole = spent + share * cost
@@ -198,7 +207,7 @@ def curve(arcs):
     return costs
 
 
-def meaning(kind, arcs):
+def meaning(kind: str, arcs: Sequence[Numbers]) -> Meaning | None:
     """What the arcs of one pair mean, or None where they mean what no arcs mean."""
     if kind == "sp":
         return min(it[0] for it in arcs) if arcs else None
@@ -208,42 +217,43 @@ def meaning(kind, arcs):
     return (units, cost, free(arcs)) if units or free(arcs) else None
 
 
-def meanings(text):
+def meanings(text: Text) -> dict[Pair, Meaning]:
     """What each ordered pair means whose arcs mean anything, by rising pair."""
     found = {pair: meaning(text.kind, arcs) for pair, arcs in sorted(text.arcs().items())}
     return {pair: it for pair, it in found.items() if it is not None}
 
 
-def canonical_arcs(units, cost, free_units, form):
+def canonical_arcs(units: int, cost: int, free_units: dict[int, int], form: int) -> list[Item]:
     """The canonical arcs of a `min` pair: LOW, CAP and COST of each."""
     fixed = []
     if units:
         each, rest = cost // units, cost % units
         fixed = [(it, at) for it, at in [(units - rest, each), (rest, each + 1)] if it]
     if form == 1:
-        return [(it, it, at) for it, at in fixed] + [(0, it, at) for at, it in free_units.items()]
+        return [*[(it, it, at) for it, at in fixed], *[(0, it, at) for at, it in free_units.items()]]
     lows = {at: it for it, at in fixed}
     return [(lows.get(at, 0), lows.get(at, 0) + free_units.get(at, 0), at) for at in sorted({*lows, *free_units})]
 
 
-def canonical(text, form):
+def canonical(text: Text, form: int) -> bytes:
     """The canonical text."""
+    heads: list[str] = []
     if text.kind not in GRAPHS:
         items = sorted(text.items) if text.kind == "co" else text.items
-        heads, lines = [], [" ".join(map(str, [COUNTED[text.kind], *it])) for it in items]
+        lines = [" ".join(map(str, [COUNTED[text.kind], *it])) for it in items]
         counts = [len(lines)]
     else:
-        heads = [f"n {node} {flow}" for node, flow in sorted(text.supplies().items())]
+        heads += [f"n {node} {flow}" for node, flow in sorted(text.supplies().items())]
         heads += [f"n {text.terminals[it]} {it}" for it in "st" if text.kind == "max"]
         lines = []
         for (src, dst), it in meanings(text).items():
-            arcs = canonical_arcs(*it, form) if text.kind == "min" else [(it,)]
+            arcs: list[Item] = [(it,)] if isinstance(it, int) else canonical_arcs(*it, form)
             lines += [" ".join(map(str, ["a", src, dst, *arc])) for arc in arcs]
         counts = [text.nodes, len(lines)]
     return "\n".join([" ".join(map(str, ["p", *NAMES[text.kind], *counts])), *heads, *lines, ""]).encode()
 
 
-def shown(text):
+def shown(text: Text) -> bytes:
     """What `show` tells."""
     rows = [f"kind {text.kind}", f"lines {len(text.items)}"]
     if text.kind in GRAPHS:
@@ -258,14 +268,14 @@ def shown(text):
     return "\n".join([*rows, ""]).encode()
 
 
-def words_on(kind, it):
+def words_on(kind: str, it: Meaning) -> str:
     """What `show` tells of what a pair means."""
-    if kind == "min":
-        return f"forced {it[0]} cost {it[1]} steps {len(it[2])}"
-    return f"{'length' if kind == 'sp' else 'total'} {it}"
+    if isinstance(it, int):
+        return f"{'length' if kind == 'sp' else 'total'} {it}"
+    return f"forced {it[0]} cost {it[1]} steps {len(it[2])}"
 
 
-def difference(left, right):
+def difference(left: Text, right: Text) -> str:
     """What `compare` tells of two texts."""
     if left.kind != right.kind:
         return f"differ kind {left.kind} {right.kind}"
@@ -282,7 +292,7 @@ def difference(left, right):
     return difference_of_pairs(left, right) if left.kind in GRAPHS else difference_of_items(left, right)
 
 
-def difference_of_pairs(left, right):
+def difference_of_pairs(left: Text, right: Text) -> str:
     """The first ordered pair whose arcs differ in meaning, by the costs of all amounts for `min`."""
     for pair in sorted({*left.arcs(), *right.arcs()}):
         arcs = [it.arcs().get(pair, []) for it in (left, right)]
@@ -292,7 +302,7 @@ def difference_of_pairs(left, right):
     return "same"
 
 
-def how_of_numbers(kind, left, right):
+def how_of_numbers(kind: str, left: Sequence[Numbers], right: Sequence[Numbers]) -> str:
     """How the lengths or the capacities differ."""
     values = [meaning(kind, it) for it in (left, right)]
     if values[0] == values[1]:
@@ -301,7 +311,7 @@ def how_of_numbers(kind, left, right):
     return " ".join([name, *[str(nothing if it is None else it) for it in values]])
 
 
-def how_of_costs(left, right):
+def how_of_costs(left: dict[int, int], right: dict[int, int]) -> str:
     """The least amount at which two curves differ, and both costs there."""
     for amount in sorted({*left, *right}):
         if left.get(amount) != right.get(amount):
@@ -309,7 +319,7 @@ def how_of_costs(left, right):
     return ""
 
 
-def difference_of_items(left, right):
+def difference_of_items(left: Text, right: Text) -> str:
     """The first difference of two lists, or of two maps of points."""
     if left.kind == "co":
         points = [{it[0]: it[1:] for it in text.items} for text in (left, right)]
@@ -321,12 +331,12 @@ def difference_of_items(left, right):
     return f"differ item {apart[0]}" if apart else "same"
 
 
-def forms(text, given):
+def forms(text: Text, given: bytes) -> str:
     """The forms in which a text, of these bytes, is canonical."""
     return " ".join(str(it) for it in (1, 2) if canonical(text, it) == given) or "none"
 
 
-def unfit(graph, companion):
+def unfit(graph: Text, companion: Text) -> str:
     """Why a companion does not fit a graph, or nothing."""
     if graph.kind != "sp" or companion.kind in GRAPHS:
         return "36 NotKinds"

@@ -6,11 +6,14 @@ import resource
 import shutil
 import subprocess
 import sys
-from typing import NamedTuple
+from collections.abc import Callable, Sequence
+from typing import IO, Any, NamedTuple
 
 ROOT = os.path.dirname(os.path.dirname(os.path.realpath(__file__)))
 # A run that takes longer is ended, and fails the test.
 LIMIT = 60
+# The words of a command.
+Words = Sequence[str | bytes]
 
 
 class Answer(NamedTuple):
@@ -24,31 +27,42 @@ class Answer(NamedTuple):
 class Tally:
     """How many checks passed and failed."""
 
-    def __init__(self):
+    def __init__(self) -> None:
         self.passed = self.failed = 0
 
-    def same(self, name, found, wanted):
+    def same(self, name: str, found: object, wanted: object) -> None:
         """Checks that both are the same, else says so."""
         if found == wanted:
             self.passed += 1
         else:
             self.fail(f"{name}: wanted {wanted!r:.300}, found {found!r:.300}")
 
-    def holds(self, name, is_so):
+    def holds(self, name: str, is_so: object) -> None:
         """Checks that this is so, else says so."""
         self.same(name, bool(is_so), True)
 
-    def fail(self, line):
+    def fail(self, line: str) -> None:
         self.failed += 1
         print(line, flush=True)
 
-    def end(self):
+    def leave_out(self, what: str, tool: str) -> None:
+        """Says that a part is left out, and which tool it needs. With CI=true in the environment that is a failure."""
+        if os.environ.get("CI") == "true":
+            self.fail(f"left out for want of {tool}: {what}")
+        else:
+            self.pass_over(what, tool)
+
+    def pass_over(self, what: str, needs: str) -> None:
+        """Says that a part is left out that this machine does not let run, and what it needs."""
+        print(f"left out for want of {needs}: {what}", flush=True)
+
+    def end(self) -> int:
         """Says how many checks passed and failed, and answers the status."""
         print(f"{self.passed} passed, {self.failed} failed")
         return 0 if self.failed == 0 else 1
 
 
-def program():
+def program() -> str:
     """The program that is tested: the first argument, else the one that stands built in the repository."""
     path = os.path.abspath(sys.argv[1]) if sys.argv[1:] else f"{ROOT}/crates/dnorm/out/dnorm"
     if not os.access(path, os.X_OK):
@@ -56,13 +70,20 @@ def program():
     return path
 
 
-def run(words, given=b"", **more):
+def listed() -> list[tuple[int, str, str]]:
+    """What share/installed.txt lists: modes, places in the repository and places below a prefix."""
+    with open(f"{ROOT}/share/installed.txt", encoding="utf-8") as lines:
+        found = [line.split() for line in lines if not line.startswith("#")]
+    return [(int(mode, 8), place, to) for mode, place, to in found]
+
+
+def run(words: Words, given: bytes = b"", **more: Any) -> Answer:
     """Runs the program that these words begin with on the bytes given."""
     ran = subprocess.run(words, input=given, capture_output=True, timeout=LIMIT, check=False, **more)
     return Answer(ran.stdout, ran.stderr, ran.returncode)
 
 
-def within(level, words, given=b"", **more):
+def within(level: int, words: Words, given: bytes = b"", **more: Any) -> Answer | None:
     """Runs a program in so much memory, in kB. None where it does not start."""
     limit = (level * 1024, level * 1024)
     try:
@@ -71,7 +92,7 @@ def within(level, words, given=b"", **more):
         return None
 
 
-def least_level(is_enough):
+def least_level(is_enough: Callable[[int], bool]) -> int:
     """The least memory, in kB, that is enough."""
     low, high = 0, 1 << 20
     while high - low > 16:
@@ -83,11 +104,11 @@ def least_level(is_enough):
 class Quick:
     """Runs a program many times at little cost. Its streams are files in memory, which are emptied before each run."""
 
-    def __init__(self, tested):
+    def __init__(self, tested: str) -> None:
         self.program = tested
         self.streams = [os.memfd_create(it) for it in ["in", "out", "err"]]
 
-    def run(self, *words, given=b""):
+    def run(self, *words: str, given: bytes = b"") -> Answer:
         for it in self.streams:
             os.ftruncate(it, 0)
             os.lseek(it, 0, os.SEEK_SET)
@@ -99,21 +120,27 @@ class Quick:
         return Answer(out, err, os.waitstatus_to_exitcode(ended))
 
 
-def write(path, text):
+def pipe(stream: IO[bytes] | None) -> IO[bytes]:
+    """A stream of a process that was started with a pipe for it."""
+    assert stream is not None
+    return stream
+
+
+def write(path: str, text: str | bytes) -> None:
     """Makes a file."""
     with open(path, "wb") as file:
         file.write(text if isinstance(text, bytes) else text.encode())
 
 
-def loaded_first(tally, folder, name, source):
-    """A library made of a C source, which is to be loaded before all others. None where it cannot be made, and a line
-    says so; where there is a C compiler, that is a failure."""
-    compiler, library = shutil.which("cc"), f"{folder}/{name}.so"
+def loaded_first(tally: Tally, folder: str, what: str, source: str) -> str | None:
+    """A library made of a C source, which is to be loaded before all others, for what a test does with it. None where
+    it cannot be made: without a C compiler this is left out."""
+    compiler, library = shutil.which("cc"), f"{folder}/first.so"
     if not compiler:
-        print(f"left out: what the library '{name}' is for, since there is no C compiler, cc")
+        tally.leave_out(what, "cc")
         return None
-    write(f"{folder}/{name}.c", source)
-    made = run([compiler, "-shared", "-fPIC", "-o", library, f"{folder}/{name}.c"])
+    write(f"{folder}/first.c", source)
+    made = run([compiler, "-shared", "-fPIC", "-o", library, f"{folder}/first.c"])
     if made.status:
         tally.fail(f"cc: {made.err.decode(errors='replace')}")
         return None

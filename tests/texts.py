@@ -1,6 +1,8 @@
 """Random small texts of all six kinds, correct and faulty, in many spellings; the same chance makes the same texts."""
 
-from reading import COUNTED, GRAPHS, MOST, NAMES, Text
+from random import Random
+
+from reading import COUNTED, GRAPHS, MOST, NAMES, Item, Text
 
 # Numbers at the edges, as words.
 EDGES = [MOST, -MOST, -MOST - 1, MOST - 1]
@@ -8,14 +10,14 @@ WORDS = "0 1 -1 + - -0 007 +2 1.5 x s t a n q v p c P sp".split() + [str(it) for
 LETTERS = ["a", "n", "p", "s", "q", "v", "aa", "A", "z", "-", "1"]
 
 
-def number(chance, low, high):
+def number(chance: Random, low: int, high: int) -> int:
     """A small number, now and then one at the edge of what a number can be."""
     if chance.random() < 0.02:
         return chance.choice(EDGES)
     return chance.randint(low, high)
 
 
-def made(chance, kind, is_wide=False):
+def made(chance: Random, kind: str, is_wide: bool = False) -> Text:
     """A random text that is most often accepted; wide ones have greater capacities."""
     text = Text(kind, chance.randint(2, 4))
     if chance.random() < 0.02:
@@ -40,7 +42,7 @@ def made(chance, kind, is_wide=False):
     return text
 
 
-def made_item(chance, kind, before):
+def made_item(chance: Random, kind: str, before: int) -> Item:
     """An item of a companion that has so many before."""
     node = number(chance, 1, 5)
     if kind == "co":
@@ -49,17 +51,21 @@ def made_item(chance, kind, before):
     return (node,) if kind == "ss" else (node, chance.randint(1, 5))
 
 
-def lines_of(chance, text):
+def lines_of(chance: Random, text: Text) -> list[list[str]]:
     """The lines of a text, node lines and points in any order."""
     counts = [text.nodes, len(text.items)] if text.kind in GRAPHS else [len(text.items)]
-    heads = [["n", node, flow] for node, flow in text.flows.items()]
+    heads: list[list[object]] = [["n", node, flow] for node, flow in text.flows.items()]
     heads += [["n", node, letter] for letter, node in text.terminals.items()]
     chance.shuffle(heads)
-    lines = [["p", *NAMES[text.kind], *counts], *heads, *([COUNTED[text.kind], *it] for it in text.items)]
+    lines: list[list[object]] = [
+        ["p", *NAMES[text.kind], *counts],
+        *heads,
+        *([COUNTED[text.kind], *it] for it in text.items),
+    ]
     return [[str(it) for it in line] for line in lines]
 
 
-def spelled(chance, lines):
+def spelled(chance: Random, lines: list[list[str]]) -> bytes:
     """The bytes of lines, half of the time with comments, blanks and numbers that are not the shortest."""
     if chance.random() < 0.5:
         return "".join(" ".join(line) + "\n" for line in lines).encode()
@@ -71,14 +77,14 @@ def spelled(chance, lines):
     return (text if chance.random() < 0.7 else text[:-1]).encode("latin-1")
 
 
-def respelled(chance, word):
+def respelled(chance: Random, word: str) -> str:
     """A number by another text of it, now and then; another word as it is."""
     if word.isdigit() and chance.random() < 0.2:
         return chance.choice(["+", "0", "+00", "-" if word == "0" else ""]) + word
     return word
 
 
-def spoilt(chance, lines):
+def spoilt(chance: Random, lines: list[list[str]]) -> list[list[str]]:
     """Lines of which one or two are another now, moved, repeated or missing."""
     lines = [list(it) for it in lines]
     for _ in range(chance.choice([1, 1, 1, 2])):
@@ -87,7 +93,7 @@ def spoilt(chance, lines):
     return lines
 
 
-def spoil(chance, lines):
+def spoil(chance: Random, lines: list[list[str]]) -> None:
     """Makes one line another one, most often in a field, or moves, repeats or takes out a line."""
     line, other = chance.choice(lines), chance.choice(lines)
     at = chance.randrange(len(line))
