@@ -33,7 +33,8 @@ RanOnSome Puts Unfits Refuses name out (Refused of refusal) = Unit {0}
 RanOnSome Puts Unfits Refuses name out answer = (b : List ℕ) × RanOn Puts Unfits Refuses name out b answer
 
 -- where the text was not handed out, it is refused for that; where it was, its source has failed if it is refused with
--- `Read`, and if the bytes behind its name are known, the answer says what was done of them
+-- `Read`, and if the bytes behind its name are known, the answer says what was done of them; whatever is known of them,
+-- the answer says what was done of some text, if it is not refused
 pub record OnText {T S : Type 0} (Puts : List ℕ → Instance → ℕ → List ℕ → Type 0)
     (Unfits : Instance → CompanionFault → Type 0) (Refuses : List ℕ → Refusal → Type 0)
     (text : AskedText T) (out : SinkRun S) (answer : Answer) : Type 0 where
@@ -55,8 +56,9 @@ RanOnTwo Puts Unfits Refuses name out (Refused of refusal) = Unit {0}
 RanOnTwo Puts Unfits Refuses name out answer =
     (b : List ℕ) × (I : Instance) × Reads b I × RanOnSome (λ c J. Puts b I J) (Unfits I) Refuses name out answer
 
--- of two texts, the left one read first: it is refused, or it reads as an instance, and the answer says what
--- was done of it and of the right text
+-- of two texts, the left one read first: it is refused, or it reads as an instance, and the answer says what was done
+-- of it and of the right text, where the bytes behind their names are known; whatever is known of them, the answer says
+-- what was done of some two texts, if none is refused
 pub record OnTwoTexts {T S : Type 0} (Puts : List ℕ → Instance → Instance → ℕ → List ℕ → Type 0)
     (Unfits : Instance → Instance → CompanionFault → Type 0) (Refuses : List ℕ → Refusal → Type 0)
     (left right : AskedText T) (out : SinkRun S) (answer : Answer) : Type 0 where

@@ -8,6 +8,7 @@ use dn_command::{Command, Request, request_of};
 use dn_instance::{CompanionFault, Refusal};
 use dn_line::Code;
 use std::alloc::{AllocError, Global};
+use std::fmt::Display;
 use std::test::Fail;
 
 const VERSION: &str = "dnorm 1.1.0-dev\n";
@@ -138,6 +139,60 @@ const FAULTS: [CompanionFault; 2] = [
     CompanionFault::NotInGraph { id: 1 },
     CompanionFault::NotKinds,
 ];
+
+// What each refusal is written as, behind its number.
+const SENTENCES: &str = "
+1 bad line
+2 line before the problem line
+3 second problem line
+4 unknown problem
+5 wrong line for this kind
+6 node line after an arc line
+7 too many lines
+8 wrong number of fields
+9 not a number
+10 number out of range
+11 negative number
+12 bad terminal
+13 node out of range
+14 repeated node
+15 source and sink are one node
+16 lower bound above capacity
+17 sum of capacities too large
+18 no problem line
+19 missing source or sink
+20 too few lines
+21 too many lines for a line number
+30 out of memory
+31 the source of bytes failed
+32 the source of bytes has no end
+33 the sink of bytes failed
+34 too many canonical lines
+35 node not in the graph
+36 not a graph and a companion
+";
+
+// Whether a refusal of this number is written as its sentence.
+fn is_written<T: Display>(alloc: Global, number: u8, refusal: &T) -> bool {
+    match format!(in alloc; "\n{number} {refusal}\n") {
+        Ok(line) => SENTENCES.contains(line.as_str()),
+        Err(_) => false,
+    }
+}
+
+#[test]
+fn refusals_are_written_as_sentences(rt: HostRuntime) -> Result<(), Fail> {
+    for code in &CODES {
+        assert!(rt; is_written(rt.alloc(), code.number(), code));
+    }
+    for refusal in &REFUSALS {
+        assert!(rt; is_written(rt.alloc(), refusal.number(), refusal));
+    }
+    for fault in &FAULTS {
+        assert!(rt; is_written(rt.alloc(), fault.number(), fault));
+    }
+    Ok(())
+}
 
 // Whether help has the line of a refusal: its number and its name, and then a sentence.
 fn has_line(alloc: Global, help: &str, number: u8, name: &str) -> bool {
