@@ -1,9 +1,9 @@
 -- What a reader has read as it goes on.
-use Rattle.std.proofs.Common.{◌≡◌, ℕ, ◌+◌, ◌≤◌, List, [], ◌∷◌, ◌++◌, length, take, drop, Option, Some, None, Ok, Err, Result, MatchOption, MatchResult, ◌⊎◌, inl, inr, refl, sym, ap, ◌∙◌, subst, arith, length-append, append-nil, append_assoc, pos, option_and_then}
+use Rattle.std.proofs.Common.{◌≡◌, ℕ, ◌+◌, ◌≤◌, false, List, [], ◌∷◌, ◌++◌, length, take, drop, Option, Some, None, Ok, Err, Result, MatchOption, MatchResult, ◌⊎◌, inl, inr, refl, sym, ap, ◌∙◌, subst, arith, length-append, append-nil, append_assoc, pos, option_and_then}
 use Rattle.std.proofs.Math.Seq.{take-append_seam}
 use Rattle.std.proofs.lemmas.List.{take_all, take-append-le}
 use Rattle.dn_line.specs.declared.code.Code.{Code}
-use Rattle.dn_line.specs.Words.{said_words}
+use Rattle.dn_line.specs.Words.{is_skip, said_words}
 use Rattle.dn_line.specs.Pieces.{lines}
 use Rattle.dn_instance.specs.declared.refusal.ItemFault.{ItemFault}
 use Rattle.dn_instance.specs.declared.refusal.ItemFault.TheVariants as Faults
@@ -45,13 +45,16 @@ all_of ls l = take_all (length ls + 1) (ls ++ l ∷ []) (let n = length-append l
 
 -- the next line is refused
 pub refused_next : (ls : List (List ℕ)) (l : List ℕ) (number : ℕ) (fault : ItemFault) → IsClean ls → number ≡ length ls + 1 → AnswersFault (Err fault) (line_fault (length ls + 1) (items_of ls) (said_words l))
-    → IsRefused (length ls) (ls ++ l ∷ []) (refused_at number fault)
-refused_next ls l number (Faults.Text code) clean n h = fault_first ls l number code clean n h
-refused_next ls l number Faults.Memory clean n h = record {
-  count = length ls + 1;
+    → (fault ≡ Faults.Memory → is_skip (said_words l) ≡ false) → IsRefused (length ls) (ls ++ l ∷ []) (refused_at number fault)
+refused_next ls l number (Faults.Text code) clean n h item = fault_first ls l number code clean n h
+refused_next ls l number Faults.Memory clean n h item = record {
+  earlier = ls;
+  line = l;
+  later = [];
+  whole = refl;
   past = omega arith;
-  within = (let m = length-append ls (l ∷ []) in omega arith);
-  clean = subst IsClean (sym (all_of ls l)) (clean_more ls l clean h);
+  item = item refl;
+  clean = clean_more ls l clean h;
 }
 
 -- a refusal stays, whatever lines come
@@ -59,10 +62,13 @@ pub refused_on : (before earlier : ℕ) (ls ms : List (List ℕ)) (e : Refusal) 
 refused_on before earlier ls ms (Text (Places.Line number) code) b m f = subst (λ x. IsFirstFaultAt x number code) (sym m.whole) (first_on ls m.rest number code f)
 refused_on before earlier ls ms (Text Places.End code) b m f = absurd f
 refused_on before earlier ls ms Memory b m w = record {
-  count = w.count;
+  earlier = w.earlier;
+  line = w.line;
+  later = w.later ++ m.rest;
+  whole = m.whole ∙ ap (λ x. x ++ m.rest) w.whole ∙ append_assoc w.earlier (w.line ∷ w.later) m.rest;
   past = (let p = w.past in omega arith);
-  within = (let n = ap length m.whole in let k = length-append ls m.rest in let q = w.within in omega arith);
-  clean = subst IsClean (sym (ap (take w.count) m.whole ∙ take-append-le w.count ls m.rest w.within)) w.clean;
+  item = w.item;
+  clean = w.clean;
 }
 refused_on before earlier ls ms Read b m f = absurd f
 refused_on before earlier ls ms Endless b m f = absurd f

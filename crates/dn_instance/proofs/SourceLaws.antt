@@ -14,7 +14,7 @@ use Rattle.dn_instance.specs.declared.refusal.Refusal.TheVariants.{Text, Memory,
 use Rattle.dn_instance.specs.Readers.{ended, WantsMemory}
 use Rattle.dn_instance.specs.State.Readers.{IsRefused, Outcome, answer_of}
 use Rattle.dn_instance.specs.State.ReaderStates.{Finishes, IsFed, ReaderAt}
-use Rattle.dn_instance.specs.SourceReads.{CleanSoFar, PulledBytes, PulledWhileClean, IsOfReading}
+use Rattle.dn_instance.specs.SourceReads.{CleanSoFar, PulledBytes, PulledWhileClean, RanOut, IsOfReading}
 use Rattle.dn_instance.specs.State.SourceReads.{StopsInPiece, StopsAt, SourceOutcome, Copied, CopyOutcome, HoldsCopied, HoldsSome}
 use Rattle.dn_instance.specs.Texts.{IsClean}
 use Rattle.dn_instance.proofs.PieceSteps.{More, ended_more, lines_more}
@@ -27,13 +27,32 @@ front_lines given rest =
     let n = lines_more (given ++ rest) in
     record { rest = m.rest ++ n.rest; whole = n.whole ∙ ap (λ l. l ++ n.rest) m.whole ∙ append_assoc (ended given) m.rest n.rest }
 
--- want of memory at a line of a piece, or of the last line, is one of the text
-pub stopped_wants : (t : List ℕ) (new : Option (List ℕ)) → StopsAt t new Memory → WantsMemory 0 (lines t)
-stopped_wants t new (inl s) =
+-- memory that ran out as a text was refused ran out at a line of its last piece, or at its last line
+pub ran_out : (t : List ℕ) (new : Option (List ℕ)) → StopsAt t new Memory → RanOut t new
+ran_out t new (inl s) =
     let all = s.before ++ s.piece in
-    refused_on (length (ended s.before)) 0 (ended all) (lines t) Memory (omega arith)
-    (subst (λ x. More (ended all) (lines x)) (append_assoc s.before s.piece s.rest ∙ sym s.whole) (front_lines all s.rest)) s.refused
-stopped_wants t new (inr s) = refused_on (length (ended t)) 0 (lines t) (lines t) Memory (omega arith) (record { rest = []; whole = sym (append-nil (lines t)) }) s.refused
+    record {
+      before = s.before;
+      piece = s.piece;
+      rest = s.rest;
+      whole = s.whole;
+      rest_is = subst (λ o. IfSome o (λ left. left ≡ s.rest)) (sym s.rest_is) refl;
+      short = s.short;
+      wants = refused_on (length (ended s.before)) (length (ended s.before)) (ended all) (lines all) Memory (omega arith) (lines_more all) s.refused;
+    }
+ran_out t new (inr s) = record {
+  before = t;
+  piece = [];
+  rest = [];
+  whole = sym (append-nil t);
+  rest_is = nothing_left new s.at_end;
+  short = omega arith;
+  wants = subst (λ x. WantsMemory (length (ended t)) (lines x)) (sym (append-nil t)) s.refused;
+}
+  where
+    nothing_left : (o : Option (List ℕ)) → IsAtEnd o → IfSome o (λ left. left ≡ [])
+    nothing_left None h = tt
+    nothing_left (Some left) h = h
 
 -- the refusal of a line after these
 refused_past : (before : ℕ) (ls : List (List ℕ)) (e : Refusal) → IsRefused 0 ls e → (e ≡ Memory → WantsMemory before ls) → IsRefused before ls e

@@ -1,5 +1,5 @@
 // What the complete lines of a text make, one after the other.
-ghost use Rattle.std.specs.Prelude.{◌≡◌, ◌≢◌, ◌≤◌, ℕ, ◌+◌, length, take, List, ◌∷◌, ◌++◌, [], OnOk, OnErr, Ok, Some, None, Option, cond, true, false};
+ghost use Rattle.std.specs.Prelude.{◌≡◌, ◌≢◌, ◌≤◌, ℕ, ◌+◌, length, take, List, ◌∷◌, ◌++◌, [], OnOk, OnErr, Ok, Err, Some, None, Option, cond, true, false};
 ghost use Rattle.dn_line.specs.declared.line.Line.{Line};
 ghost use Rattle.dn_line.specs.declared.word.Word.{Word};
 ghost use Rattle.dn_line.specs.Words.{is_skip, said_words};
@@ -97,6 +97,8 @@ impl TextSoFar {
             → LineReaderAt line.now l
             → OnOk result (IsProgress self.new.progress (with_next items (said_words l.bytes))) }
         ensures kept { self.new.closed ≡ self.old.closed }
+        ensures item { (items : List Line) (l : LineSoFar) → IsProgress self.old.progress items
+            → LineReaderAt line.now l → result ≡ Err ItemFault.Memory → is_skip (said_words l.bytes) ≡ false }
         ensures unchanged { (items : List Line) → IsProgress self.old.progress items
             → OnErr result (IsProgress self.new.progress items) }
     {
@@ -118,6 +120,8 @@ impl TextSoFar {
             → AnswersFault result (line_fault (length ls + 1) (items_of ls) (said_words l.bytes)) }
         ensures stands { (ls : List (List ℕ)) (l : LineSoFar) → TextAt self.old ls → LineReaderAt line.now l
             → OnOk result (TextAt self.new (ls ++ l.bytes ∷ [])) }
+        ensures item { (ls : List (List ℕ)) (l : LineSoFar) → TextAt self.old ls → LineReaderAt line.now l
+            → result ≡ Err ItemFault.Memory → is_skip (said_words l.bytes) ≡ false }
         ensures unchanged { (ls : List (List ℕ)) → TextAt self.old ls → OnErr result (TextAt self.new ls) }
     {
         if LAST <= self.closed {

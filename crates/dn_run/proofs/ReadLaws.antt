@@ -5,7 +5,7 @@ use Rattle.dn_instance.specs.State.SourceReads.{CopyOutcome, Copied, SourceOutco
 use Rattle.dn_instance.specs.declared.held.Held.{Held}
 use Rattle.dn_instance.specs.declared.refusal.Refusal.{Refusal}
 use Rattle.dn_instance.specs.declared.refusal.Refusal.TheVariants.{Text, Memory, Read, Endless, Write, CountTooLarge}
-use Rattle.dn_instance.proofs.SourceLaws.{stopped_wants}
+use Rattle.dn_instance.proofs.SourceLaws.{ran_out}
 use Rattle.dn_run.specs.Texts.{AskedText, ComesOf, IsRefusedCopy, IsRefusedText, unopened}
 use Rattle.dn_run.specs.State.Texts.{IsRead, ReadsAs}
 
@@ -14,7 +14,7 @@ module _ {T : Type 0} (text : AskedText T) where
     reads_as : (b : List ℕ) (r : Result Held Refusal) → SourceOutcome b (text.source.gives source) r → (IsErrOf r Read → IsTrue (text.source.has_failed source)) → ReadsAs (IsRefusedText text) b r
     reads_as b (Ok held) h read = h.0
     reads_as b (Err (Text place code)) h read = h.0
-    reads_as b (Err Memory) h read = stopped_wants b (text.source.gives source) h
+    reads_as b (Err Memory) h read = record { source = source; comes = comes; ran_out = ran_out b (text.source.gives source) h }
     reads_as b (Err Read) h read = (record { source = source; comes = comes; failed = read refl }, h)
     reads_as b (Err Endless) (c, many) read = record { source = source; comes = comes; clean = c; many = many }
     reads_as b (Err Write) h read = h
@@ -37,7 +37,7 @@ module _ {T : Type 0} (text : AskedText T) where
     copies_as : (b copy : List ℕ) (r : Result Held Refusal) → CopyOutcome b (text.source.gives source) [] copy r → (IsErrOf r Read → IsTrue (text.source.has_failed source)) → ReadsAs (IsRefusedCopy text) b r
     copies_as b copy (Ok held) h read = h.0.0
     copies_as b copy (Err (Text place code)) h read = h.0.0
-    copies_as b copy (Err Memory) (inl h) read = inl (stopped_wants b (text.source.gives source) h.0)
+    copies_as b copy (Err Memory) (inl h) read = inl (record { source = source; comes = comes; ran_out = ran_out b (text.source.gives source) h.0 })
     copies_as b copy (Err Memory) (inr l) read = inr (record { given = l.given; piece = l.piece; rest = l.rest; whole = l.whole; some = l.some; clean = l.clean })
     copies_as b copy (Err Read) h read = (record { source = source; comes = comes; failed = read refl }, h.0)
     copies_as b copy (Err Endless) ((c, many), copied) read = record { source = source; comes = comes; clean = c; many = many }

@@ -1,11 +1,10 @@
 -- A text that a run asks for, what it is read as, and why it is refused (this project's profile).
 use Rattle.std.specs.Prelude.{◌≡◌, ◌⊎◌, ℕ, ◌<◌, ◌≤◌, ◌^◌, List, ◌++◌, length, Option, IsTrue}
-use Rattle.dn_line.specs.Pieces.{lines}
 use Rattle.dn_line.specs.Sources.{SourceWords}
 use Rattle.dn_arc.specs.declared.arc.Form.{Form}
 use Rattle.dn_instance.specs.Instances.{Instance}
-use Rattle.dn_instance.specs.Readers.{WantsMemory, ended}
-use Rattle.dn_instance.specs.SourceReads.{CleanSoFar, PulledWhileClean}
+use Rattle.dn_instance.specs.Readers.{ended}
+use Rattle.dn_instance.specs.SourceReads.{CleanSoFar, PulledWhileClean, RanOut}
 use Rattle.dn_instance.specs.Texts.{IsClean, IsFirstFault, Reads}
 use Rattle.dn_instance.specs.declared.refusal.Refusal.{Refusal}
 use Rattle.dn_instance.specs.declared.refusal.Refusal.TheVariants.{Text, Memory, Read, Endless, Write, CountTooLarge}
@@ -45,11 +44,17 @@ pub record IsEndless {T : Type 0} (text : AskedText T) (b : List ℕ) : Type 0 w
   pub clean : CleanSoFar b (text.source.gives source)
   pub many : 2 ^ 40 ≤ length clean.given
 
--- why the text b is refused as it is read: its first fault; memory was wanted at a line, and neither it nor an earlier
+-- memory ran out at a line of the text b that such a source had not ended before its last piece
+pub record IsOutOfMemory {T : Type 0} (text : AskedText T) (b : List ℕ) : Type 0 where
+  pub source : T
+  pub comes : ComesOf text source
+  pub ran_out : RanOut b (text.source.gives source)
+
+-- why the text b is refused as it is read: its first fault; memory ran out at a line, and neither it nor an earlier
 -- line has a fault; the text's source failed, or had no end
 abbrev pub IsRefusedText : {T : Type 0} → AskedText T → List ℕ → Refusal → Type 0
 IsRefusedText text b (Text place code) = IsFirstFault b place code
-IsRefusedText text b Memory = WantsMemory 0 (lines b)
+IsRefusedText text b Memory = IsOutOfMemory text b
 IsRefusedText text b Read = IsUnread text b
 IsRefusedText text b Endless = IsEndless text b
 IsRefusedText text b Write = ⊥
@@ -71,7 +76,7 @@ pub record LacksCopy (b : List ℕ) : Type 0 where
 
 -- why a text is refused that is copied as it is read: that of reading, or memory was wanted for the copy
 abbrev pub IsRefusedCopy : {T : Type 0} → AskedText T → List ℕ → Refusal → Type 0
-IsRefusedCopy text b Memory = WantsMemory 0 (lines b) ⊎ LacksCopy b
+IsRefusedCopy text b Memory = IsOutOfMemory text b ⊎ LacksCopy b
 IsRefusedCopy text b refusal = IsRefusedText text b refusal
 
 -- what is answered where the files do not hand out a text

@@ -1,11 +1,12 @@
 // Canonical texts in sinks of different makes.
 
-use crate::stand_ins::{LateWriter, NoFlush};
+use crate::stand_ins::{FailsOnce, LateWriter, NoFlush};
 use crate::texts::{COSTS, COSTS_ONE, ROADS, ROADS_CANON};
 use dn_bundle::Form;
 use dn_canon::{is_canon_of, write_canon};
 use dn_instance::{Refusal, read_text};
-use dn_sink::ToWrite;
+use dn_line::{FromRead, Source, SourceFault};
+use dn_sink::{Sink, SinkFault, ToWrite};
 use std::alloc::Global;
 
 // Whether a sink that fails as it is flushed takes a canonical text, and its failure is told.
@@ -38,6 +39,29 @@ fn written(alloc: Global) -> Result<[Result<(), Refusal>; 2], Refusal> {
 #[test]
 fn writers(rt: HostRuntime) {
     assert!(rt; written(rt.alloc()) == Ok([Ok(()), Err(Refusal::Write)]));
+}
+
+// The answers of two pulls over a reader that fails once.
+fn pulled() -> [Result<usize, SourceFault>; 2] {
+    let mut source = FromRead::new(FailsOnce::new());
+    let mut room = [0u8; 4];
+    [source.pull(&mut room), source.pull(&mut room)]
+}
+
+// The answers of two puts, and of two flushes, over a writer that fails once.
+fn put_twice() -> ([Result<usize, SinkFault>; 2], [Result<(), SinkFault>; 2]) {
+    let mut sink = ToWrite::new(FailsOnce::new());
+    let puts = [sink.put(b"x"), sink.put(b"x")];
+    let mut late = ToWrite::new(FailsOnce::new());
+    let flushes = [late.flush(), late.flush()];
+    (puts, flushes)
+}
+
+// A stream that fails once is not tried again, though it would go on.
+#[test]
+fn streams_that_fail_once(rt: HostRuntime) {
+    assert!(rt; pulled() == [Err(SourceFault), Err(SourceFault)]);
+    assert!(rt; put_twice() == ([Err(SinkFault), Err(SinkFault)], [Err(SinkFault), Err(SinkFault)]));
 }
 
 // Texts of one problem: one that is not canonical, the canonical one, it without its last LF and with a comment more.

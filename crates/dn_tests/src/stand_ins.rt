@@ -5,7 +5,7 @@ use dn_line::{Source, SourceFault};
 use dn_sink::{Bytes, Sink, SinkFault};
 use std::alloc::Global;
 use std::io;
-use std::io::{ErrorKind, Write};
+use std::io::{ErrorKind, Read, Write};
 
 /// A source that gives at most so many bytes a pull, and fails after so many pulls.
 #[derive(Clone, Copy)]
@@ -108,6 +108,46 @@ impl Sink for NoFlush {
     fn flush(&mut self) -> Result<(), SinkFault> {
         self.flushed = true;
         Err(SinkFault)
+    }
+}
+
+/// A stream that fails once, at its first call, and then reads zeros and takes everything.
+#[derive(Drop)]
+pub(crate) struct FailsOnce {
+    failed: bool,
+}
+
+impl FailsOnce {
+    pub(crate) fn new() -> FailsOnce {
+        FailsOnce { failed: false }
+    }
+
+    // Fails at the first call.
+    fn call(&mut self) -> io::Result<()> {
+        if self.failed {
+            return Ok(());
+        }
+        self.failed = true;
+        Err(io::Error::from(ErrorKind::Interrupted))
+    }
+}
+
+impl Read for FailsOnce {
+    fn read(&mut self, into: &mut [u8]) -> io::Result<usize> {
+        self.call()?;
+        into.fill(0);
+        Ok(into.len())
+    }
+}
+
+impl Write for FailsOnce {
+    fn write(&mut self, buf: &[u8]) -> io::Result<usize> {
+        self.call()?;
+        Ok(buf.len())
+    }
+
+    fn flush(&mut self) -> io::Result<()> {
+        self.call()
     }
 }
 

@@ -1,13 +1,15 @@
 // A run on the host.
-ghost use Rattle.std.specs.Prelude.{◌≡◌, ◌≤◌, None, IfOk};
+ghost use Rattle.std.specs.Prelude.{◌≡◌, ◌≤◌, ℕ, List, None, map, string_bytes, IfOk, OnErr};
+ghost use Rattle.dn_run.specs.Streams.{sink_run};
+ghost use Rattle.dnorm.specs.HostRuns.{HostRun, HostWords, RanOnHost};
 
 use crate::retried::Retried;
 use dn_instance::Refusal;
-use dn_line::FromRead;
+use dn_line::{FromRead, Source};
 use dn_report::put_fault_line;
 use dn_run::{Files, FilesFault, refuse_words, run};
 use dn_sink::{Sink, ToWrite};
-use std::io::{BufWriter, ErrorKind, Read};
+use std::io::{BufWriter, ErrorKind, Printer, Read};
 use std::rt::Runtime;
 use std::{env, fs, io};
 
@@ -45,8 +47,14 @@ impl<I: Read, F: Read> Read for HostText<I, F> {
     }
 }
 
+/// A text of the host.
+pub type HostSource<R> = FromRead<Retried<HostText<<R as Input>::Reader, <R as fs::Files>::File>>>;
+
+/// The standard output of the host, buffered.
+pub type HostOut<'a, R> = ToWrite<BufWriter<Printer<'a, R>>>;
+
 impl<'a, R: fs::Files + Input> Files for HostFiles<'a, R> {
-    type Text = FromRead<Retried<HostText<R::Reader, R::File>>>;
+    type Text = HostSource<R>;
 
     ghost files = { record {
       behind = λ _ _. None;
@@ -76,8 +84,11 @@ impl<'a, R: fs::Files + Input> Files for HostFiles<'a, R> {
 
 /// A run on the host's files, its arguments and its standard output, and the exit status. Arguments that are not UTF-8
 /// are no command.
-pub fn run_on<R: Runtime + AllocGlobal, E: Sink>(host: &R, err: &mut E) -> u8
-    ensures { result ≤ 4 }
+pub fn run_on<'a, R: Runtime + AllocGlobal, E: Sink>(host: &'a R, err: &mut E) -> u8
+    ensures status { result ≤ 4 }
+    ensures ran { HostRun (record { files = ⟦<HostFiles<'a, R> as Files>⟧.files; source = ⟦<HostSource<R> as Source>⟧.source;
+            out = ⟦<HostOut<'a, R> as Sink>⟧.sink })
+        (sink_run E.sink (err.old, err.new)) result }
 {
     match run_with_arguments(host, err) {
         Ok(status) => status,
@@ -100,8 +111,13 @@ fn fault_of(error: &io::Error) -> FilesFault {
 }
 
 // Fails where there is no memory, or an argument is not UTF-8.
-fn run_with_arguments<R: Runtime + AllocGlobal, E: Sink>(host: &R, err: &mut E) -> io::Result<u8>
-    ensures { IfOk result (λ status. status ≤ 4) }
+fn run_with_arguments<'a, R: Runtime + AllocGlobal, E: Sink>(host: &'a R, err: &mut E) -> io::Result<u8>
+    ensures status { IfOk result (λ status. status ≤ 4) }
+    ensures ran { IfOk result (λ status. (arguments : List (List ℕ)) × RanOnHost
+        (record { files = ⟦<HostFiles<'a, R> as Files>⟧.files; source = ⟦<HostSource<R> as Source>⟧.source;
+            out = ⟦<HostOut<'a, R> as Sink>⟧.sink })
+        (sink_run E.sink (err.old, err.new)) arguments status) }
+    ensures err { OnErr result (err.new ≡ err.old) }
 {
     let words: Vec<String> = env::args(host)?.collect(host.alloc())?;
     let status = run_words(host, &words, err);
@@ -110,12 +126,17 @@ fn run_with_arguments<R: Runtime + AllocGlobal, E: Sink>(host: &R, err: &mut E) 
 }
 
 // A run on these words. Fails where there is no memory for its output.
-fn run_words<R: Runtime + AllocGlobal, E: Sink>(
-    host: &R,
+fn run_words<'a, R: Runtime + AllocGlobal, E: Sink>(
+    host: &'a R,
     words: &[String],
     err: &mut E,
 ) -> io::Result<u8>
-    ensures { IfOk result (λ status. status ≤ 4) }
+    ensures status { IfOk result (λ status. status ≤ 4) }
+    ensures ran { IfOk result (RanOnHost
+        (record { files = ⟦<HostFiles<'a, R> as Files>⟧.files; source = ⟦<HostSource<R> as Source>⟧.source;
+            out = ⟦<HostOut<'a, R> as Sink>⟧.sink })
+        (sink_run E.sink (err.old, err.new)) (map string_bytes words.now)) }
+    ensures err { OnErr result (err.new ≡ err.old) }
 {
     let mut out = ToWrite::new(BufWriter::with_capacity(host.alloc(), 65536, io::writer(host))?);
     let mut files = HostFiles::new(host);

@@ -1,4 +1,4 @@
-use Rattle.std.proofs.Common.{[], ◌∷◌, ◌++◌, length, refl, sym, subst}
+use Rattle.std.proofs.Common.{[], ◌∷◌, ◌++◌, length, Err, ap, refl, sym, subst}
 use Rattle.dn_instance.specs.State.Readers.{IsNext, IsRefused}
 use Rattle.dn_instance.proofs.ReaderLaws.{next_after, refused_next}
 use Rattle.dn_instance.proofs.reader.Reader.close.Goals as goal
@@ -8,7 +8,7 @@ returns-in-Err-clause-taken c ls l h stands =
     let all = ls ++ l.bytes ∷ [] in
     let number = c.next_number-number.ensures ls h in (
       refl,
-      subst (IsRefused (length ls) all) (sym c.refused_at-refusal.ensures) (refused_next ls l.bytes c.next_number-number.result c.in-Err.fault h.clean number (c.in-Err.ensures.answer ls l h stands)),
+      subst (IsRefused (length ls) all) (sym c.refused_at-refusal.ensures) (refused_next ls l.bytes c.next_number-number.result c.in-Err.fault h.clean number (c.in-Err.ensures.answer ls l h stands) (λ e. c.in-Err.ensures.item ls l h stands (ap Err e))),
       record {
         before = ls;
         rest = l.bytes ∷ [];

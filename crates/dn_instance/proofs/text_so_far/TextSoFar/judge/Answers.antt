@@ -32,6 +32,7 @@ returns-else-is_skip c = record {
       let f = follows_as items ws e c.in-Ok.item r in
       subst (λ x. OnOk c.put.result (IsProgress c.put.new.progress x)) (sym (adds_it items ws c.in-Ok.item e f)) (c.put.ensures.stands items at f.may);
   kept = refl;
+  item = λ items l at stands _. not_skipped items (said_words l.bytes) c.in-Ok.item (sym (c.read.ensures items l at stands) ∙ c.in-Ok.is) (c.is_skip.ensures.item c.if-is_skip.false);
   unchanged = λ items at. c.put.ensures.unchanged items at;
 }
 
