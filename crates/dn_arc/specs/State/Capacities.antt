@@ -2,6 +2,6 @@
 use Rattle.std.specs.Prelude.{ℤ, pos, List, [], ◌∷◌, cond, int_lt}
 use Rattle.dn_arc.specs.declared.arc.CapArc.{CapArc}
 
--- an arc of the total capacity, if it is above 0
+-- one arc of the total capacity, or no arc if the total is 0
 abbrev pub cap_told : ℤ → List CapArc
 cap_told z = cond (int_lt (pos 0) z) (record { cap = z } ∷ []) []

@@ -3,7 +3,7 @@
 use Rattle.std.specs.Prelude.{ℤ, List, [], ◌∷◌, Option, Some, None}
 use Rattle.dn_arc.specs.declared.arc.LengthArc.{LengthArc}
 
--- an arc of the least length, or none
+-- one arc of the least length, or no arc if there is none
 abbrev pub length_told : Option ℤ → List LengthArc
 length_told None = []
 length_told (Some w) = record { length = w } ∷ []
