@@ -17,7 +17,7 @@ pair_le p q = is_le (pair_cmp p q)
 abbrev pub same_pair : ℤ × ℤ → ℤ × ℤ → Bool
 same_pair p = is_at (pair_cmp p)
 
--- the bundle of a pair is the list of its arcs, in the order of the text
+-- the bundle of a pair is the list of its arcs, in the order in which they occur
 abbrev pub bundle : {Arc : Type 0} → ℤ × ℤ → List ((ℤ × ℤ) × Arc) → List Arc
 bundle p [] = []
 bundle p (a ∷ rest) = cond (same_pair p a.0) (a.1 ∷ bundle p rest) (bundle p rest)

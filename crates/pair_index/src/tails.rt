@@ -53,8 +53,8 @@ fn span(entries: usize) -> u64 {
     (entries / SPAN).min(FARTHEST) as u64
 }
 
-// Whether at least half of the entries have a tail near that of the entry before. This has no contract, because it
-// affects only the speed.
+// Whether at most half of the entries have a tail that is not near that of the entry before. This has no contract,
+// because it affects only the speed.
 fn are_near<X>(entries: &[((i64, i64), X)]) -> bool {
     let near = span(entries.len());
     let mut far = 0usize;
@@ -67,8 +67,8 @@ fn are_near<X>(entries: &[((i64, i64), X)]) -> bool {
     far <= entries.len() / 2
 }
 
-// Whether at least half of these pairs have a tail near that of the pair before, among this many entries. This has no
-// contract, because it affects only the speed.
+// Whether at most half of these pairs have a tail that is not near that of the pair before, among this many entries.
+// This has no contract, because it affects only the speed.
 pub(crate) fn are_near_pairs(pairs: &[(i64, i64); AHEAD], entries: usize) -> bool {
     let near = span(entries);
     let mut far = 0usize;

@@ -1,4 +1,4 @@
--- What parallel arcs of a `max` problem mean: their total capacity (First DIMACS Challenge, network flow format).
+-- The canonical arcs that represent a total capacity of a `max` problem (First DIMACS Challenge, network flow format).
 use Rattle.std.specs.Prelude.{ℤ, pos, List, [], ◌∷◌, cond, int_lt}
 use Rattle.dn_arc.specs.declared.arc.CapArc.{CapArc}
 

@@ -1,5 +1,5 @@
--- What parallel arcs of an `sp` graph mean: their least length (Ninth DIMACS Challenge, shortest-path formats; that
--- parallel arcs mean the shortest is this project's profile).
+-- The canonical arcs that represent a least length of an `sp` graph (Ninth DIMACS Challenge, shortest-path formats;
+-- that parallel arcs mean the shortest is this project's profile).
 use Rattle.std.specs.Prelude.{ℤ, List, [], ◌∷◌, Option, Some, None}
 use Rattle.dn_arc.specs.declared.arc.LengthArc.{LengthArc}
 
