@@ -1,5 +1,5 @@
--- Proofs that one arc more adds its LOW to the forced units and its free part to the free arcs, that two free arcs of
--- one cost mean one, and that a free arc without capacity means none.
+-- One more arc adds its LOW to the forced units and its free part to the free arcs. Two free arcs of one cost mean the
+-- same as one, and a free arc without capacity means nothing.
 use Rattle.std.specs.Prelude.{◌≡◌, ℤ, pos, ◌+ℤ◌, ◌-ℤ◌, ◌*ℤ◌, ◌≤ℤ◌, List, [], ◌∷◌, ◌++◌, refl}
 use Rattle.std.proofs.Common.{ap, subst, arith}
 use Rattle.std.proofs.lemmas.Int.{ints, by_lt_z}
@@ -16,7 +16,7 @@ use Rattle.dn_arc.proofs.SplitsLaws.{SameAbove, same}
 use Rattle.dn_arc.proofs.CurvesLaws.{above_meaning}
 use Rattle.dn_arc.proofs.OrdersLaws.{at_end}
 
--- the forced units off
+-- removing the fixed arcs subtracts the forced units and their cost
 off : (fixed rest : List CostArc) (x k : ℤ) → AllByRecursion IsFixedArc fixed → AtMost (fixed ++ rest) x k → AtMost rest (x -ℤ forced_units fixed) (k -ℤ forced_cost fixed)
 off [] rest x k f s =
     subst (λ y. AtMost rest y (k -ℤ pos 0)) (let e : x ≡ x -ℤ pos 0 = omega (arith, ints) in e) (more rest x k (k -ℤ pos 0) (omega (arith, ints)) s)
@@ -31,7 +31,7 @@ off (a ∷ fixed) rest x k f s =
     subst (λ y. AtMost rest y (k -ℤ forced_cost (a ∷ fixed))) (let e : s.other -ℤ forced_units fixed ≡ x -ℤ (a.low +ℤ forced_units fixed) = omega (arith, ints) in e)
     (more rest (s.other -ℤ forced_units fixed) (s.spent -ℤ forced_cost fixed) (k -ℤ forced_cost (a ∷ fixed)) (omega (arith, ints)) (off fixed rest s.other s.spent f.1 s.rest))
 
--- and on again
+-- adding the fixed arcs adds the forced units and their cost
 on : (fixed rest : List CostArc) (y j : ℤ) → AllByRecursion IsFixedArc fixed → AtMost rest y j → AtMost (fixed ++ rest) (forced_units fixed +ℤ y) (forced_cost fixed +ℤ j)
 on [] rest y j f s =
     subst (λ z. AtMost rest z (pos 0 +ℤ j)) (let e : y ≡ pos 0 +ℤ y = omega (arith, ints) in e) (more rest y j (pos 0 +ℤ j) (omega (arith, ints)) s)
@@ -48,7 +48,7 @@ on (a ∷ fixed) rest y j f s =
       rest = on fixed rest y j f.1 s;
     }
 
--- an arc that carries nothing
+-- an arc without capacity can be removed from a split
 none_there : (cost room : ℤ) (xs : List CostArc) → room ≡ pos 0 → (x k : ℤ) → Share (pos 0) room cost (AtMost xs) x k → AtMost xs x k
 none_there cost room xs e x k s =
     let l = s.low_is in
@@ -65,7 +65,7 @@ none_back cost room xs e x k s =
     let z : cost *ℤ pos 0 ≡ pos 0 = omega (arith, ints) in
     record { share = pos 0; other = x; spent = k; low_is = ≤ℤ_refl _; cap_is = omega (arith, ints); amount = omega (arith, ints); within = omega (arith, ints); rest = s }
 
--- an arc without capacity carries nothing
+-- an arc without capacity means nothing
 pub above_none : (cost room : ℤ) (xs : List CostArc) → room ≡ pos 0 → SameAbove (free_arc cost room ∷ xs) xs
 above_none cost room xs e = record { there = none_there cost room xs e; back = none_back cost room xs e }
 
@@ -115,7 +115,7 @@ merge_back cost u w R x k s =
     let p = mul_add cost s.share t.share in
     record { share = s.share +ℤ t.share; other = t.other; spent = t.spent; low_is = omega (arith, ints); cap_is = omega (arith, ints); amount = omega (arith, ints); within = omega (arith, ints); rest = t.rest }
 
--- two free arcs of one cost are one
+-- two free arcs of one cost mean the same as one
 pub above_merge : (cost u w : ℤ) (xs : List CostArc) → pos 0 ≤ℤ u → pos 0 ≤ℤ w → SameAbove (free_arc cost (u +ℤ w) ∷ xs) (free_arc cost w ∷ free_arc cost u ∷ xs)
 above_merge cost u w xs h g = record { there = merge_there cost u w (AtMost xs) h g; back = merge_back cost u w (AtMost xs) }
 
@@ -155,7 +155,7 @@ add_above fixed fixed' free free' a f g u c s = record {
       at_values (fixed' ++ free') _ x _ k (omega (arith, ints)) (omega (arith, ints)) (on fixed' free' _ _ g (s.back _ _ part));
 }
 
--- an arc more: the forced units and their cost add up, and its free part joins the free arcs
+-- one more arc adds its forced units and their cost, and its free part becomes one more free arc
 pub add_end : (fixed fixed' free free' : List CostArc) (a : CostArc) → AllByRecursion IsFixedArc fixed → AllByRecursion IsFixedArc fixed'
     → forced_units fixed' ≡ forced_units fixed +ℤ a.low
     → forced_cost fixed' ≡ forced_cost fixed +ℤ (a.cost *ℤ a.low)

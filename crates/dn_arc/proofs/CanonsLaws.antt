@@ -1,5 +1,5 @@
--- Proofs that the arcs of a problem mean the same as some of form 1, and that their forced units, what these cost,
--- their free capacity by cost and their number of entries follow from the meaning.
+-- The arcs of a problem mean the same as arcs of form 1. Their meaning determines their forced units, the cost of
+-- these, their free capacity by cost, and their number of entries.
 use Rattle.std.specs.Prelude.{◌≡◌, ℕ, suc, ◌+◌, ℤ, pos, ◌+ℤ◌, ◌-ℤ◌, ◌*ℤ◌, ◌≤ℤ◌, ◌<ℤ◌, Bool, true, false, ◌||◌, List, [], ◌∷◌, length, cond, filter, map, int_lt, refl}
 use Rattle.std.proofs.Common.{sym, ap, subst, arith, ◌∙◌}
 use Rattle.std.proofs.lemmas.Int.{ints, by_lt_z}
@@ -28,7 +28,7 @@ use Rattle.dn_arc.proofs.StepArcsLaws.{CostsAbove, costs_lower, free_arcs, put_s
 use Rattle.dn_arc.proofs.ToldLaws.{told_one, told_apart, told_units, told_cost}
 use Rattle.dn_arc.proofs.SoundLaws.{told_added}
 
--- the free capacity of arcs by rising cost
+-- the breakpoints of arcs: their free capacity by ascending cost
 abbrev pub arc_steps : List CostArc → List (ℤ × ℤ)
 arc_steps [] = []
 arc_steps (a ∷ rest) = cond (int_lt a.low a.cap) (put_step (arc_steps rest) (a.cost, room a)) (arc_steps rest)
@@ -77,7 +77,7 @@ back : (steps : List (ℤ × ℤ)) → map (λ (a : CostArc). (a.cost, a.cap)) (
 back [] = refl
 back (step ∷ rest) = ap (λ l. step ∷ l) (back rest)
 
--- what follows from the meaning: forced units, their cost, and the free capacity by cost
+-- what the meaning determines: the forced units, their cost, and the breakpoints
 pub record IsSameCanon (xs ys : List CostArc) : Type 0 where
   pub units : forced_units xs ≡ forced_units ys
   pub cost : forced_cost xs ≡ forced_cost ys
@@ -102,7 +102,7 @@ same_canon xs ys h g s =
       steps = sym (back (arc_steps xs)) ∙ ap (λ l. map (λ (a : CostArc). (a.cost, a.cap)) l) f ∙ back (arc_steps ys);
     }
 
--- by the order of two numbers
+-- a case distinction by the order of two numbers
 pub by_cmp : {G : Type 0} (a b : ℤ) → (int_cmp a b ≡ Less → a <ℤ b → G) → (int_cmp a b ≡ Equal → a ≡ b → G) → (int_cmp a b ≡ Greater → b <ℤ a → G) → G
 by_cmp a b f g h = by_ranked (a <ℤ b) (a ≡ b) (b <ℤ a) (int_cmp a b) (int_ranked a b (int_cmp a b) refl) f g h
 
@@ -125,7 +125,7 @@ or_same : (a c : Bool) → (a || c) ≡ (a || (a || c))
 or_same true c = refl
 or_same false c = refl
 
--- a cost is there if it was there or is the one that was put
+-- a cost has capacity after an insertion exactly if it had capacity before or is the inserted cost
 has_put : (steps : List (ℤ × ℤ)) (more : ℤ × ℤ) (c : ℤ) → has_step (put_step steps more) c ≡ (int_eq c more.0 || has_step steps c)
 has_put [] more c = refl
 has_put (step ∷ rest) more c =
@@ -141,7 +141,7 @@ none_has : (c : ℤ) (steps : List (ℤ × ℤ)) → CostsAbove c steps → has_
 none_has c [] h = refl
 none_has c (step ∷ rest) h = ap (λ b. b || has_step rest c) (eq_below c step.0 h.0) ∙ none_has c rest h.1
 
--- one cost more, unless it was there
+-- an insertion adds one breakpoint, unless there was one at this cost
 length_put : (steps : List (ℤ × ℤ)) (more : ℤ × ℤ) → AreSteps steps → length (put_step steps more) ≡ cond (has_step steps more.0) (length steps) (suc (length steps))
 length_put [] more s = refl
 length_put (step ∷ rest) more s =
@@ -158,7 +158,7 @@ length_put (step ∷ rest) more s =
 abbrev pub costs_of : List CostArc → List ℤ
 costs_of arcs = map (λ (a : CostArc). a.cost) (filter has_room arcs)
 
--- a cost has free capacity where an arc of it has
+-- a cost has a breakpoint exactly if an arc of this cost has free capacity
 has_cost : (arcs : List CostArc) (c : ℤ) → list_any (int_eq c) (costs_of arcs) ≡ has_step (arc_steps arcs) c
 has_cost [] c = refl
 has_cost (a ∷ rest) c =
@@ -167,7 +167,7 @@ has_cost (a ∷ rest) c =
       | false ↦ has_cost rest c
     ]
 
--- as many costs as arcs with free capacity have
+-- there are as many breakpoints as different costs of arcs with free capacity
 pub count_costs : (arcs : List CostArc) → length (distinct int_eq (costs_of arcs)) ≡ length (arc_steps arcs)
 count_costs [] = refl
 count_costs (a ∷ rest) =
@@ -190,7 +190,7 @@ any_low (a ∷ rest) h =
     (λ lt. ap (λ b. b || list_any has_low rest) (test_yes (pos 0) a.low lt) ∙ sym (test_yes (pos 0) (forced_units (a ∷ rest)) (omega (arith, ints))))
     (λ le. ap (λ b. b || list_any has_low rest) (test_no (pos 0) a.low le) ∙ any_low rest h.1 ∙ ap (λ z. int_lt (pos 0) z) (let e : forced_units rest ≡ forced_units (a ∷ rest) = omega (arith, ints) in e))
 
--- the entries by the forced units and the free capacity
+-- the entries are one for forced units, if there are any, and one for each breakpoint
 pub entries_are : (arcs : List CostArc) → AllByRecursion IsCostArc arcs → cost_entries arcs ≡ cond (int_lt (pos 0) (forced_units arcs)) 1 0 + length (arc_steps arcs)
 entries_are arcs h = ap (λ b. cond b 1 0 + length (distinct int_eq (costs_of arcs))) (any_low arcs h) ∙ ap (λ n. cond (int_lt (pos 0) (forced_units arcs)) 1 0 + n) (count_costs arcs)
 

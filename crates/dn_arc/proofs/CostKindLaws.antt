@@ -1,4 +1,4 @@
--- Proofs of the laws of `min` arcs as a kind, and that their meaning determines canonical ones in each form.
+-- The laws of `min` arcs as a kind. Their meaning determines their canonical arcs in each form.
 use Rattle.std.specs.Prelude.{◌≡◌, ℤ, ◌+ℤ◌, ◌<ℤ◌, List, [], ◌∷◌, ◌++◌, Option, Some, None, refl}
 use Rattle.std.proofs.Common.{sym, ap, subst, arith, ◌∙◌}
 use Rattle.std.proofs.lemmas.Int.{ints, by_lt_z}
@@ -45,7 +45,7 @@ none_canon : (form : Form) → AreCanonCosts form []
 none_canon One = record { fixed = []; free = []; parts = refl; each_fixed = tt; near = tt; each_free = tt; rising = tt }
 none_canon Two = record { each = tt; rising = tt; near = tt }
 
--- the same option stands on both sides below a gap
+-- an amount has the same option of a cost on both sides, if its least costs are the same
 same_option : (xs ys : List CostArc) (x : ℤ) (l r : Option ℤ) → ((k : ℤ) → LeastCost xs x k → LeastCost ys x k) → ((k : ℤ) → LeastCost ys x k → LeastCost xs x k) → IsCostOf xs x l → IsCostOf ys x r → l ≡ r
 same_option xs ys x None r there back l' r' = cost_of_one ys x None r (λ k c. l' k (back k c)) r'
 same_option xs ys x (Some j) r there back l' r' = cost_of_one ys x (Some j) r (there j l') r'

@@ -1,4 +1,4 @@
--- Proofs that to have the same cost curve is a meaning, and that the capacity of a problem's arcs follows from it.
+-- Having the same cost curve is a meaning, and it determines the total capacity of a problem's arcs.
 use Rattle.std.specs.Prelude.{◌≡◌, ℤ, pos, ◌+ℤ◌, ◌*ℤ◌, ◌≤ℤ◌, List, [], ◌∷◌, refl}
 use Rattle.std.proofs.Common.{arith}
 use Rattle.std.proofs.lemmas.Int.{ints}
@@ -24,7 +24,7 @@ above_swap a b xs = record {
   back = share_swap b.low b.cap b.cost a.low a.cap a.cost (AtMost xs);
 }
 
--- to carry each amount at no more than the same costs is a meaning
+-- carrying each amount at no more than the same costs is a meaning
 pub above_meaning : IsMeaning SameAbove
 above_meaning = record {
   same_refl = λ xs. record { there = λ x k l. l; back = λ x k l. l };
@@ -43,7 +43,7 @@ curve_meaning = record {
   same_swap = λ a b xs. same (a ∷ b ∷ xs) (b ∷ a ∷ xs) (above_swap a b xs);
 }
 
--- no amount past the sum of the capacities has a cost
+-- no amount above the total capacity has a cost
 pub at_most_cap : (arcs : List CostArc) (x k : ℤ) → AtMost arcs x k → x ≤ℤ cost_cap arcs
 at_most_cap [] x k s = let e = s.amount in omega (arith, ints)
 at_most_cap (a ∷ rest) x k s =
@@ -52,7 +52,7 @@ at_most_cap (a ∷ rest) x k s =
     let u = s.cap_is in
     omega (arith, ints)
 
--- a cost of carrying what each arc can carry at most
+-- the total capacity has a cost
 record Brim (arcs : List CostArc) : Type 0 where
   cost : ℤ
   is : AtMost arcs (cost_cap arcs) cost
@@ -71,6 +71,6 @@ no_more xs ys h s =
     let b = brim xs h in
     at_most_cap ys (cost_cap xs) b.cost ((above xs ys s).there (cost_cap xs) b.cost b.is)
 
--- the greatest amount with a cost is the sum of the capacities
+-- arcs of the same cost curve have the same total capacity
 pub cost_cap_same : (xs ys : List CostArc) → AllByRecursion IsCostArc xs → AllByRecursion IsCostArc ys → SameCurve xs ys → cost_cap xs ≡ cost_cap ys
 cost_cap_same xs ys h g s = antisym _ _ (no_more xs ys h s) (no_more ys xs g (record { there = s.back; back = s.there }))

@@ -1,5 +1,5 @@
--- Proofs that arcs whose free capacity stands by rising cost mean the same where their forced units, their forced cost,
--- and what filling them costs or their free parts are the same.
+-- Arcs whose free capacity is sorted by ascending cost mean the same if their forced units and forced costs are equal,
+-- and either the costs of filling them or their free parts are equal.
 use Rattle.std.specs.Prelude.{◌≡◌, ℤ, ◌+ℤ◌, ◌-ℤ◌, ◌≤ℤ◌, List}
 use Rattle.std.proofs.Common.{sym, ap, subst, arith, ◌∙◌}
 use Rattle.std.proofs.lemmas.Int.{ints}
@@ -29,11 +29,11 @@ one_way xs ys o p s x k l =
 flip : (xs ys : List CostArc) → IsSameFill xs ys → IsSameFill ys xs
 flip xs ys s = record { units = sym s.units; cost = sym s.cost; whole = sym s.whole; each = λ y l u. sym (s.each y l (subst (λ z. y ≤ℤ z) (sym s.whole) u)) }
 
--- ordered lists that are filled at the same cost mean the same
+-- sorted arcs with equal filling costs mean the same
 pub same_by_fill : (xs ys : List CostArc) → AreOrdered xs → AreOrdered ys → IsSameFill xs ys → SameCurve xs ys
 same_by_fill xs ys o p s = record { there = one_way xs ys o p s; back = one_way ys xs p o (flip xs ys s) }
 
--- so do those of the same forced units, forced cost and free parts
+-- sorted arcs with equal forced units, forced costs and free parts mean the same
 pub same_by_parts : (xs ys : List CostArc) → AreOrdered xs → AreOrdered ys → forced_units xs ≡ forced_units ys → forced_cost xs ≡ forced_cost ys → free_parts xs ≡ free_parts ys → SameCurve xs ys
 same_by_parts xs ys o p u c e =
     same_by_fill xs ys o p (record {

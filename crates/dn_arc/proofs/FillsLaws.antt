@@ -1,5 +1,5 @@
--- Proofs that the least costs of arcs are those of filling them in their order, where no free capacity stands before
--- free capacity of a lower cost.
+-- If free capacity is sorted by ascending cost, the least cost of an amount is the cost of filling the arcs in their
+-- order.
 use Rattle.std.specs.Prelude.{◌≡◌, ℤ, pos, ◌+ℤ◌, ◌-ℤ◌, ◌*ℤ◌, ◌≤ℤ◌, ◌<ℤ◌, ◌↔◌, List, [], ◌∷◌, refl}
 use Rattle.std.proofs.Common.{ap, sym, subst, arith}
 use Rattle.std.proofs.lemmas.Int.{ints, by_lt_z}
@@ -14,11 +14,11 @@ use Rattle.dn_arc.proofs.ProductsLaws.{mul_add, mul_sub, mul_mono}
 use Rattle.dn_arc.proofs.SharesLaws.{AtMost}
 use Rattle.dn_arc.proofs.SplitsLaws.{least_bottom, bottom_least, antisym}
 
--- no arc with free capacity costs less
+-- no arc with free capacity has a lower cost
 abbrev pub NoneCheaper : ℤ → List CostArc → Type 0
 NoneCheaper c arcs = AllByRecursion (λ (b : CostArc). pos 0 <ℤ room b → c ≤ℤ b.cost) arcs
 
--- the arcs with free capacity stand by cost
+-- the arcs with free capacity are sorted by cost
 abbrev pub AreOrdered : List CostArc → Type 0
 AreOrdered [] = Unit {0}
 AreOrdered (a ∷ rest) = IsCostArc a × (pos 0 <ℤ room a → NoneCheaper a.cost rest) × AreOrdered rest
@@ -43,7 +43,7 @@ room_some (a ∷ rest) o =
     let i = room_some rest o.2 in
     omega (arith, ints)
 
--- units of an arc's free capacity at a lower cost
+-- units of an arc cost at least as much at its cost as at a lower cost
 dearer : (c p u w : ℤ) → pos 0 ≤ℤ w → w ≤ℤ u → (pos 0 <ℤ u → c ≤ℤ p) → (c *ℤ w) ≤ℤ (p *ℤ w)
 dearer c p u w h g f =
     by_lt_z (pos 0) u
@@ -68,7 +68,7 @@ one_over p c u z d fz fzd f0 f2 f3 h1 h2 h3 h4 h5 h6 =
 none_over : (p c z d fz fzd : ℤ) → fzd ≡ p *ℤ (z +ℤ d) → fz ≡ p *ℤ z → (c *ℤ d) ≤ℤ (p *ℤ d) → (fz +ℤ (c *ℤ d)) ≤ℤ fzd
 none_over p c z d fz fzd h1 h2 h3 = let g = mul_add p z d in omega (arith, ints)
 
--- each further unit costs c at least
+-- each additional unit costs at least c
 slope : (arcs : List CostArc) (c z d : ℤ) → AreOrdered arcs → NoneCheaper c arcs → pos 0 ≤ℤ z → pos 0 ≤ℤ d → (z +ℤ d) ≤ℤ free_room arcs → (fill_cost arcs z +ℤ (c *ℤ d)) ≤ℤ fill_cost arcs (z +ℤ d)
 slope [] c z d o h p q r =
     let e : d ≡ pos 0 = omega (arith, ints) in
@@ -99,7 +99,7 @@ slope (a ∷ rest) c z d o h p q r =
     let m = dearer c a.cost (room a) d q (omega (arith, ints)) h.0 in
     none_over a.cost c z d _ _ whole part m)
 
--- the same where there is free capacity before the arcs, or nothing to add
+-- each additional unit costs at least c, if free capacity precedes the arcs or no unit is added
 slope_after : (arcs : List CostArc) (c u z d : ℤ) → AreOrdered arcs → (pos 0 <ℤ u → NoneCheaper c arcs) → pos 0 ≤ℤ z → pos 0 ≤ℤ d → d ≤ℤ u → (z +ℤ d) ≤ℤ free_room arcs → (fill_cost arcs z +ℤ (c *ℤ d)) ≤ℤ fill_cost arcs (z +ℤ d)
 slope_after arcs c u z d o h p q l r =
     by_lt_z (pos 0) u
@@ -120,13 +120,13 @@ within_cost p low z t y f fx f0 f2 f3 spent k h1 h2 h3 h4 h5 h6 h7 =
     let m = ap (λ w. p *ℤ w) h2 in
     omega (arith, ints)
 
--- a filling that costs no more
+-- filling the arcs with the amount x costs at most k
 pub record IsUnder (arcs : List CostArc) (x k : ℤ) : Type 0 where
   pub low : forced_units arcs ≤ℤ x
   pub high : (x -ℤ forced_units arcs) ≤ℤ free_room arcs
   pub cost : (forced_cost arcs +ℤ fill_cost arcs (x -ℤ forced_units arcs)) ≤ℤ k
 
--- no split costs less than the filling
+-- no split costs less than filling the arcs
 pub filled : (arcs : List CostArc) (x k : ℤ) → AreOrdered arcs → AtMost arcs x k → IsUnder arcs x k
 filled [] x k o s = let e = s.amount in let w = s.within in record { low = omega (arith, ints); high = omega (arith, ints); cost = omega (arith, ints) }
 filled (a ∷ rest) x k o s =
@@ -163,7 +163,7 @@ past_reach p low cap f fx f1 h = let g = mul_sub p cap low in omega (arith, ints
 within_reach : (p low z f fx f0 : ℤ) → fx ≡ p *ℤ z → f0 ≡ pos 0 → ((p *ℤ (low +ℤ z)) +ℤ (f +ℤ f0)) ≤ℤ (((p *ℤ low) +ℤ f) +ℤ fx)
 within_reach p low z f fx f0 h g = let e = mul_add p low z in omega (arith, ints)
 
--- the filling is a split
+-- filling the arcs is a split
 pub reach : (arcs : List CostArc) (z : ℤ) → AreOrdered arcs → pos 0 ≤ℤ z → z ≤ℤ free_room arcs → AtMost arcs (forced_units arcs +ℤ z) (forced_cost arcs +ℤ fill_cost arcs z)
 reach [] z o l u = record { amount = omega (arith, ints); within = ≤ℤ_refl _ }
 reach (a ∷ rest) z o l u =
@@ -195,14 +195,14 @@ reach_at arcs x o l u =
     subst (λ z. AtMost arcs z (forced_cost arcs +ℤ fill_cost arcs (x -ℤ forced_units arcs))) (let e : forced_units arcs +ℤ (x -ℤ forced_units arcs) ≡ x = omega (arith, ints) in e)
     (reach arcs (x -ℤ forced_units arcs) o (omega (arith, ints)) u)
 
--- a least cost is that of the filling
+-- a least cost is the cost of filling the arcs
 pub filling_of_least : (arcs : List CostArc) (x k : ℤ) → AreOrdered arcs → LeastCost arcs x k → IsFilling arcs x k
 filling_of_least arcs x k o l =
     let b = least_bottom arcs x k l in
     let i = filled arcs x k o b.at in
     record { low = i.low; high = i.high; cost = antisym _ _ (b.least _ (reach_at arcs x o i.low i.high)) i.cost }
 
--- the filling's cost is the least
+-- the cost of filling the arcs is the least
 pub least_of_filling : (arcs : List CostArc) (x k : ℤ) → AreOrdered arcs → IsFilling arcs x k → LeastCost arcs x k
 least_of_filling arcs x k o f =
     subst (LeastCost arcs x) (sym f.cost) (bottom_least arcs x _ (record {

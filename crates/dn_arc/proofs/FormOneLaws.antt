@@ -1,5 +1,5 @@
--- Proofs that the meaning determines canonical arcs of form 1: the fixed ones by the forced units and what these cost,
--- the free ones by what filling them costs.
+-- The meaning determines canonical arcs of form 1: the forced units and their cost determine the fixed arcs, and the
+-- cost of filling determines the free arcs.
 use Rattle.std.specs.Prelude.{◌≡◌, ℤ, pos, ◌+ℤ◌, ◌-ℤ◌, ◌*ℤ◌, ◌≤ℤ◌, ◌<ℤ◌, List, [], ◌∷◌, ◌++◌, refl}
 use Rattle.std.proofs.Common.{sym, ap, subst, arith, ◌∙◌}
 use Rattle.std.proofs.lemmas.Int.{ints, by_lt_z}
@@ -25,14 +25,14 @@ arc_same a b l u p =
 pub cancel : (k x y : ℤ) → k +ℤ x ≡ k +ℤ y → x ≡ y
 cancel k x y h = omega (arith, ints)
 
--- the forced units, their cost, the free capacity and the cost of filling it
+-- two lists have the same forced units, forced cost and free capacity, and the same cost of filling them
 pub record IsSameFill (xs ys : List CostArc) : Type 0 where
   pub units : forced_units xs ≡ forced_units ys
   pub cost : forced_cost xs ≡ forced_cost ys
   pub whole : free_room xs ≡ free_room ys
   pub each : (y : ℤ) → pos 0 ≤ℤ y → y ≤ℤ free_room xs → fill_cost xs y ≡ fill_cost ys y
 
--- what filling one list shows of another that means the same
+-- what filling one list shows of another list that means the same
 record IsShown (xs ys : List CostArc) (y : ℤ) : Type 0 where
   low : forced_units ys ≤ℤ (forced_units xs +ℤ y)
   high : ((forced_units xs +ℤ y) -ℤ forced_units ys) ≤ℤ free_room ys
@@ -49,7 +49,7 @@ shown xs ys o p s y l u =
     let there = filling_of_least ys _ _ p (s _ _ (least_of_filling xs _ _ o here)) in
     record { low = there.low; high = there.high; cost = there.cost }
 
--- ordered lists of one meaning are filled at the same cost
+-- sorted lists that mean the same have equal filling costs
 pub same_fill : (xs ys : List CostArc) → AreOrdered xs → AreOrdered ys → SameCurve xs ys → IsSameFill xs ys
 same_fill xs ys o p s =
     let c1 = room_some xs o in
@@ -74,7 +74,7 @@ same_fill xs ys o p s =
       each = λ y l u. cancel (forced_cost ys) _ _ (ap (λ z. z +ℤ fill_cost xs y) (sym cost) ∙ even y l u);
     }
 
--- free lists that are filled at the same cost
+-- two lists of free arcs have equal filling costs
 pub record IsSameFree (f g : List CostArc) : Type 0 where
   pub whole : free_room f ≡ free_room g
   pub each : (y : ℤ) → pos 0 ≤ℤ y → y ≤ℤ free_room f → fill_cost f y ≡ fill_cost g y
@@ -93,7 +93,7 @@ at_one a rest f =
     let m : a.cost *ℤ pos 1 ≡ a.cost = omega (arith, ints) in
     e ∙ m
 
--- past the first arc
+-- the cost of filling the arcs beyond the first arc
 after : (a : CostArc) (rest : List CostArc) (y : ℤ) → pos 0 <ℤ y → fill_cost (a ∷ rest) (room a +ℤ y) ≡ (a.cost *ℤ room a) +ℤ fill_cost rest y
 after a rest y h =
     fill_high a rest (room a +ℤ y) (omega (arith, ints))
@@ -149,7 +149,7 @@ same_rest a f g p q s = record {
 same_cap : (a b : CostArc) → IsFreeArc a → IsFreeArc b → room a ≡ room b → a.cap ≡ b.cap
 same_cap a b p q e = let l = p.none in let u = q.none in omega (arith, ints)
 
--- free arcs follow from what filling them costs
+-- the cost of filling determines free arcs
 pub free_same : (f g : List CostArc) → AreFree f → AreFree g → IsSameFree f g → f ≡ g
 free_same [] [] p q s = refl
 free_same [] (b ∷ g) p q s = let e = s.whole in let none = q.each.0.none in let some = q.each.0.room in let k = some_free g (rest_free b g q) in absurd (omega (arith, ints))
@@ -209,7 +209,7 @@ two_spread a b f g e =
 arc_of : (a b : CostArc) → IsFixedArc a → IsFixedArc b → a.low ≡ b.low → a.cost ≡ b.cost → a ≡ b
 arc_of a b f g l p = arc_same a b l (f.full ∙ l ∙ sym g.full) p
 
--- fixed arcs follow from the forced units and their cost
+-- the forced units and their cost determine fixed arcs
 pub fixed_same : (f g : List CostArc) → AreFixed f → AreFixed g → forced_units f ≡ forced_units g → forced_cost f ≡ forced_cost g → f ≡ g
 fixed_same [] [] p q u c = refl
 fixed_same [] (b ∷ []) p q u c = let some = q.each.0.some in absurd (omega (arith, ints))
@@ -242,7 +242,7 @@ fixed_same (a ∷ b ∷ []) (d ∷ e ∷ []) p q u c =
 fixed_same (a ∷ b ∷ c' ∷ f) g p q u c = absurd p.near
 fixed_same f (a ∷ b ∷ c' ∷ g) p q u c = absurd q.near
 
--- two lists of form 1 that mean the same are the same
+-- two lists of form 1 that mean the same are equal
 pub determination_one : (xs ys : List CostArc) → IsFormOne xs → IsFormOne ys → SameCurve xs ys → xs ≡ ys
 determination_one xs ys p q s =
     let t = same_fill xs ys (form_one_ordered xs p) (form_one_ordered ys q) s in

@@ -1,5 +1,5 @@
--- Proofs that the meaning determines canonical arcs of form 2, and so of either form, and that the least costs of
--- either form are those of filling its arcs.
+-- The meaning determines canonical arcs of form 2, and so of either form. The least costs of either form are those of
+-- filling its arcs in their order.
 use Rattle.std.specs.Prelude.{◌≡◌, ℤ, pos, ◌+ℤ◌, ◌≤ℤ◌, ◌<ℤ◌, ◌↔◌, List, [], ◌∷◌, cond, filter, map, int_lt, refl}
 use Rattle.std.proofs.Common.{sym, ap, subst, arith, ◌∙◌}
 use Rattle.std.proofs.lemmas.Int.{ints, by_lt_z}
@@ -17,7 +17,7 @@ use Rattle.dn_arc.proofs.FormsLaws.{AreAbove, above_lower, form_one_ordered, for
 use Rattle.dn_arc.proofs.FormOneLaws.{arc_same, cancel, same_fill, fixed_same, free_same, determination_one}
 use Rattle.dn_arc.proofs.PartsLaws.{by_test, fixed_part, free_part, fixed_parts, free_parts, parts_fixed, parts_free, apart_parts}
 
--- a number, if it stands at the cost
+-- a number if it belongs to this cost, and 0 otherwise
 abbrev at : ℤ → ℤ → ℤ → ℤ
 at c cost v = cond (int_lt c cost) (pos 0) (cond (int_lt cost c) (pos 0) v)
 
@@ -30,7 +30,7 @@ at_other c cost v h = by_test (λ (z : ℤ). z ≡ pos 0) c cost (pos 0) (cond (
 at_none : (c cost : ℤ) → at c cost (pos 0) ≡ pos 0
 at_none c cost = by_test (λ (z : ℤ). z ≡ pos 0) c cost (pos 0) (cond (int_lt cost c) (pos 0) (pos 0)) (λ lt. refl) (λ le. by_test (λ (z : ℤ). z ≡ pos 0) cost c (pos 0) (pos 0) (λ lt. refl) (λ _. refl))
 
--- the LOWs at a cost, and the free capacities
+-- the LOWs at a cost, and the free capacities at a cost
 abbrev lows_at : ℤ → List CostArc → ℤ
 lows_at c [] = pos 0
 lows_at c (a ∷ rest) = at c a.cost a.low +ℤ lows_at c rest
@@ -74,7 +74,7 @@ rooms_parts c (a ∷ rest) m =
     let e = nothing_at c a.cost (room a) (omega (arith, ints)) in
     omega (arith, ints))
 
--- the same at every cost
+-- two lists have the same LOWs and free capacities at every cost
 record IsSameAt (xs ys : List CostArc) : Type 0 where
   rooms : (c : ℤ) → rooms_at c xs ≡ rooms_at c ys
   lows : (c : ℤ) → lows_at c xs ≡ lows_at c ys
@@ -88,7 +88,7 @@ head_rooms a rest h = let e = at_same a.cost (room a) in let f = (none_above a.c
 head_lows : (a : CostArc) (rest : List CostArc) → AreAbove a.cost rest → lows_at a.cost (a ∷ rest) ≡ a.low
 head_lows a rest h = let e = at_same a.cost a.low in let f = (none_above a.cost rest h).1 in omega (arith, ints)
 
--- the head's cost stands in the other list
+-- the cost of the first arc occurs in the other list
 not_missing : (a : CostArc) (xs ys : List CostArc) → IsMixedArc a → AreAbove a.cost xs → AreAbove a.cost ys → IsSameAt (a ∷ xs) ys → ⊥
 not_missing a xs ys m r h s =
     let some = m.room in
@@ -117,7 +117,7 @@ mixed_same (a ∷ xs) (b ∷ ys) m n r t s =
     let s' : IsSameAt (a ∷ xs) (a ∷ ys) = subst (λ x. IsSameAt (a ∷ xs) (x ∷ ys)) (sym e) s in
     ap (λ l. a ∷ l) (mixed_same xs ys m.1 n.1 r.1 t.1 (tails a xs ys s')) ∙ ap (λ x. x ∷ ys) e
 
--- two lists of form 2 that mean the same are the same
+-- two lists of form 2 that mean the same are equal
 pub determination_two : (xs ys : List CostArc) → IsFormTwo xs → IsFormTwo ys → SameCurve xs ys → xs ≡ ys
 determination_two xs ys p q s =
     let o = form_two_ordered xs p in
@@ -132,7 +132,7 @@ determination_two xs ys p q s =
       lows = λ c. sym (lows_parts c xs p.each) ∙ ap (λ l. lows_at c l) e ∙ lows_parts c ys q.each;
     })
 
--- two lists of one form that mean the same are the same
+-- two lists of one form that mean the same are equal
 pub determination_of_forms : (form : Form) (xs ys : List CostArc) → AreCanonCosts form xs → AreCanonCosts form ys → SameCurve xs ys → xs ≡ ys
 determination_of_forms One xs ys p q s = determination_one xs ys p q s
 determination_of_forms Two xs ys p q s = determination_two xs ys p q s
@@ -141,6 +141,6 @@ form_ordered : (form : Form) (arcs : List CostArc) → AreCanonCosts form arcs �
 form_ordered One arcs f = form_one_ordered arcs f
 form_ordered Two arcs f = form_two_ordered arcs f
 
--- the least costs of arcs of either form are those of filling them
+-- the least costs of arcs of either form are those of filling them in their order
 pub exchange_of_forms : (form : Form) (arcs : List CostArc) → AreCanonCosts form arcs → (x k : ℤ) → LeastCost arcs x k ↔ IsFilling arcs x k
 exchange_of_forms form arcs f x k = exchange arcs x k (form_ordered form arcs f)

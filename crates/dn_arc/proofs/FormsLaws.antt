@@ -1,5 +1,5 @@
--- Proofs that canonical arcs of a `min` pair are arcs of a problem whose free capacity stands by rising cost, and that
--- those of form 1 are filled as their fixed and their free arcs.
+-- Canonical arcs of a `min` pair may occur in a problem, and their free capacity is sorted by ascending cost. Arcs of
+-- form 1 are filled as their fixed and their free arcs.
 use Rattle.std.specs.Prelude.{◌≡◌, ℤ, pos, ◌+ℤ◌, ◌-ℤ◌, ◌*ℤ◌, ◌≤ℤ◌, ◌<ℤ◌, List, [], ◌∷◌, ◌++◌, refl}
 use Rattle.std.proofs.Common.{sym, ap, subst, arith, ◌∙◌}
 use Rattle.std.proofs.lemmas.Int.{ints, by_lt_z}
@@ -14,12 +14,12 @@ use Rattle.dn_arc.proofs.FillsLaws.{NoneCheaper, AreOrdered, fill_low, fill_high
 abbrev pub AreAbove : ℤ → List CostArc → Type 0
 AreAbove c arcs = AllByRecursion (λ (b : CostArc). c <ℤ b.cost) arcs
 
--- free arcs of strictly rising cost
+-- free arcs by strictly ascending cost
 pub record AreFree (arcs : List CostArc) : Type 0 where
   pub each : AllByRecursion IsFreeArc arcs
   pub rising : AreRising arcs
 
--- fixed arcs of costs c and c + 1, at most one of each
+-- at most two fixed arcs, of costs c and c + 1
 pub record AreFixed (arcs : List CostArc) : Type 0 where
   pub each : AllByRecursion IsFixedArc arcs
   pub near : AreNear arcs
@@ -77,7 +77,7 @@ form_one_arcs arcs f = each_ordered_arc arcs (form_one_ordered arcs f)
 pub form_two_arcs : (arcs : List CostArc) → IsFormTwo arcs → AllByRecursion IsCostArc arcs
 form_two_arcs arcs f = each_ordered_arc arcs (form_two_ordered arcs f)
 
--- the arcs are filled as their fixed and their free part
+-- filling the arcs is the same as sending the fixed arcs' units and filling the free arcs
 pub record IsApart (arcs fixed free : List CostArc) : Type 0 where
   pub units : forced_units arcs ≡ forced_units fixed
   pub cost : forced_cost arcs ≡ forced_cost fixed
@@ -97,7 +97,7 @@ free_apart (a ∷ rest) f =
 none_past : (p u fx f1 f2 : ℤ) → u ≡ pos 0 → fx ≡ (p *ℤ u) +ℤ f1 → f1 ≡ f2 → fx ≡ f2
 none_past p u fx f1 f2 h e g = let m = ap (λ z. p *ℤ z) h in omega (arith, ints)
 
--- an arc without free capacity takes nothing
+-- filling skips an arc without free capacity
 pub fill_past : (a : CostArc) (rest : List CostArc) (y : ℤ) → AreOrdered rest → room a ≡ pos 0 → pos 0 ≤ℤ y → fill_cost (a ∷ rest) y ≡ fill_cost rest y
 fill_past a rest y o none h =
     by_lt_z (room a) y

@@ -1,5 +1,5 @@
--- Proofs that fixed arcs, joined by COST into rising arcs of LOW 0, make arcs of form 2: forced units, forced cost and
--- capacity add up, and the free parts stay.
+-- Merging fixed arcs by COST into sorted arcs of LOW 0 makes arcs of form 2. Forced units, forced costs and capacities
+-- add up, and the free parts do not change.
 use Rattle.std.specs.Prelude.{◌≡◌, ℤ, pos, ◌+ℤ◌, ◌*ℤ◌, ◌≤ℤ◌, ◌<ℤ◌, List, [], ◌∷◌, cond, filter, map, int_lt, refl, true, false}
 use Rattle.std.proofs.Common.{sym, ap, subst, arith, ◌∙◌}
 use Rattle.std.proofs.lemmas.Int.{ints, by_lt_z}
@@ -15,11 +15,11 @@ use Rattle.dn_arc.proofs.ProductsLaws.{mul_add}
 use Rattle.dn_arc.proofs.FormsLaws.{AreAbove, AreFixed, above_lower, fixed_arc_is}
 use Rattle.dn_arc.proofs.PartsLaws.{by_test, test_yes, test_no, free_part, free_parts}
 
--- an arc that joins another of its cost
+-- the arc that two arcs of one cost make together
 abbrev pub joined : CostArc → CostArc → CostArc
 joined a b = record { low = a.low +ℤ b.low; cap = a.cap +ℤ b.cap; cost = b.cost }
 
--- what holds of a joined list, by the place of the arc
+-- a case distinction by where the arc is inserted
 by_place : (P : List CostArc → Type 0) (a b : CostArc) (rest : List CostArc) → (a.cost <ℤ b.cost → P (a ∷ b ∷ rest)) → (b.cost <ℤ a.cost → P (b ∷ join_arc a rest)) → (a.cost ≡ b.cost → P (joined a b ∷ rest)) → P (join_arc a (b ∷ rest))
 by_place P a b rest f g h =
     by_test P a.cost b.cost (a ∷ b ∷ rest) (cond (int_lt b.cost a.cost) (b ∷ join_arc a rest) (joined a b ∷ rest)) f
@@ -52,7 +52,7 @@ joined_cap a (b ∷ rest) =
     (λ gt. let i = joined_cap a rest in omega (arith, ints))
     (λ eq. omega (arith, ints))
 
--- each cost is one that was there
+-- each cost after an insertion is the inserted cost or was there before
 pub joined_costs : (P : ℤ → Type 0) (a : CostArc) (arcs : List CostArc) → P a.cost → AllByRecursion (λ (b : CostArc). P b.cost) arcs → AllByRecursion (λ (b : CostArc). P b.cost) (join_arc a arcs)
 joined_costs P a [] p h = (p, tt)
 joined_costs P a (b ∷ rest) p h =
@@ -86,7 +86,7 @@ joined_mixed a (b ∷ rest) f m =
     let cap = m.0.room in
     (record { is_arc = record { some = omega (arith, ints); room = omega (arith, ints) }; room = omega (arith, ints) }, m.1))
 
--- the free parts stay, where the arc has none
+-- inserting an arc without free capacity does not change the free parts
 joined_free : (a : CostArc) (arcs : List CostArc) → a.cap ≡ a.low → free_parts (join_arc a arcs) ≡ free_parts arcs
 joined_free a [] f = by_test (λ (l : List CostArc). map free_part l ≡ []) a.low a.cap (a ∷ []) [] (λ lt. absurd (omega (arith, ints))) (λ le. refl)
 joined_free a (b ∷ rest) f =
@@ -113,7 +113,7 @@ joined_free a (b ∷ rest) f =
         (λ lt. test_yes (a.low +ℤ b.low) (a.cap +ℤ b.cap) (omega (arith, ints)) ∙ sym (test_yes b.low b.cap lt))
         (λ le. test_no (a.low +ℤ b.low) (a.cap +ℤ b.cap) (omega (arith, ints)) ∙ sym (test_no b.low b.cap le))
 
--- the arcs with LOW above 0: one more, of the arc's cost
+-- after the insertion, one more arc has LOW above 0, at the cost of the inserted arc
 record IsLowFirst (a : CostArc) (arcs lows : List CostArc) : Type 0 where
   arc : CostArc
   is : filter has_low arcs ≡ arc ∷ lows
@@ -122,7 +122,7 @@ record IsLowFirst (a : CostArc) (arcs lows : List CostArc) : Type 0 where
 kept_low : (a : CostArc) (rest : List CostArc) → pos 0 <ℤ a.low → filter has_low (a ∷ rest) ≡ a ∷ filter has_low rest
 kept_low a rest h = by_test (λ (l : List CostArc). l ≡ a ∷ filter has_low rest) (pos 0) a.low (a ∷ filter has_low rest) (filter has_low rest) (λ lt. refl) (λ le. absurd (omega (arith, ints)))
 
--- an arc of no higher cost has no LOW
+-- an arc whose cost is not above that of the inserted arc has LOW 0
 no_low : (a b : CostArc) (rest : List CostArc) → b.cost ≤ℤ a.cost → AreAbove a.cost (filter has_low (b ∷ rest)) → (filter has_low (b ∷ rest) ≡ filter has_low rest) × (b.low ≤ℤ pos 0)
 no_low a b rest h u =
     by_lt_z (pos 0) b.low
@@ -151,7 +151,7 @@ joined_low a (b ∷ rest) f m u =
     skip : (b : CostArc) (xs : List CostArc) → b.low ≤ℤ pos 0 → filter has_low (b ∷ xs) ≡ filter has_low xs
     skip b xs h = by_test (λ (l : List CostArc). l ≡ filter has_low xs) (pos 0) b.low (b ∷ filter has_low xs) (filter has_low xs) (λ lt. absurd (omega (arith, ints))) (λ le. refl)
 
--- fixed arcs that joined arcs without LOW
+-- what holds of the arcs after fixed arcs have been merged into arcs without LOW
 pub record AreJoined (fixed free arcs : List CostArc) : Type 0 where
   pub each : AllByRecursion IsMixedArc arcs
   pub rising : AreRising arcs

@@ -1,5 +1,5 @@
--- Proofs of the laws of `sp` arcs as a kind, that their meaning determines canonical ones, and that the arcs told of a
--- least length are canonical, and of 64 bits if it is.
+-- The laws of `sp` arcs as a kind. Their meaning determines canonical arcs, and the arcs listed for a least length are
+-- canonical and fit 64 bits if the length does.
 use Rattle.std.specs.Prelude.{◌≡◌, ℤ, List, [], ◌∷◌, Option, Some, None, refl, FitsSigned}
 use Rattle.std.specs.Int.{w64}
 use Rattle.std.specs.Option.{ForSome}

@@ -1,5 +1,5 @@
--- Proofs that arcs have exactly one least length, if there is an arc, and that to have the same is a meaning,
--- determines canonical arcs, and leaves no difference.
+-- Arcs have exactly one least length, if there is an arc. Having the same least length is a meaning, determines
+-- canonical arcs, and leaves no difference.
 use Rattle.std.specs.Prelude.{◌≡◌, ℤ, ◌≤ℤ◌, List, [], ◌∷◌, refl, ◌⊎◌, Option, Some, None}
 use Rattle.std.proofs.Common.{inl, inr, sym, ap, subst, arith}
 use Rattle.std.proofs.lemmas.Int.{ints, by_lt_z}
@@ -27,7 +27,7 @@ none_has [] v w n h = absurd h
 none_has (a ∷ rest) v w n (inl e) = subst (λ x. w ≤ℤ x) e n.0
 none_has (a ∷ rest) v w n (inr h) = none_has rest v w n.1 h
 
--- there is no arc, or a least length
+-- there is no arc, or there is a least length
 pub least_of : (xs : List LengthArc) → (xs ≡ []) ⊎ ((w : ℤ) × LeastLength xs w)
 least_of [] = inl refl
 least_of (a ∷ rest) =
@@ -75,11 +75,11 @@ length_meaning = record {
   same_swap = λ a b xs. record { there = swapped a b xs; back = swapped b a xs };
 }
 
--- the length of one arc alone
+-- the least length of a single arc
 pub lone : (a : LengthArc) → LeastLength (a ∷ []) a.length
 lone a = record { has = inl refl; least = (≤ℤ_refl a.length, tt) }
 
--- canonical arcs of the same least length are the same
+-- canonical arcs of the same least length are equal
 pub lengths_determined : (xs ys : List LengthArc) → AreCanonLengths xs → AreCanonLengths ys → SameLength xs ys → xs ≡ ys
 lengths_determined [] [] p q s = refl
 lengths_determined [] (b ∷ []) p q s = absurd (s.back b.length (lone b)).has
@@ -92,7 +92,7 @@ lengths_determined (a ∷ []) (b ∷ []) p q s =
 lengths_determined (a ∷ a' ∷ xs) ys p q s = absurd p
 lengths_determined xs (b ∷ b' ∷ ys) p q s = absurd q
 
--- there is one least length at most
+-- there is at most one least length
 pub least_unique : (xs : List LengthArc) (v w : ℤ) → LeastLength xs v → LeastLength xs w → v ≡ w
 least_unique xs v w g h =
     let up = none_has xs w v g.least h.has in
@@ -108,7 +108,7 @@ length_of_one xs None (Some w) g h = absurd (no_length w (subst (λ l. LeastLeng
 length_of_one xs (Some v) None g h = absurd (no_length v (subst (λ l. LeastLength l v) h g))
 length_of_one xs (Some v) (Some w) g h = ap Some (least_unique xs v w g h)
 
--- arcs of one meaning have the same least length, or none
+-- arcs that mean the same have the same least length, or none
 pub length_of_same : (xs ys : List LengthArc) (v : Option ℤ) → SameLength xs ys → IsLengthOf xs v → IsLengthOf ys v
 length_of_same xs ys None s h = elim (least_of ys) [ inl e ↦ e | inr p ↦ absurd (no_length p.0 (subst (λ l. LeastLength l p.0) h (s.back p.0 p.1))) ]
 length_of_same xs ys (Some v) s h = s.there v h
@@ -119,6 +119,6 @@ lengths_differ xs ys (Lengths left right) d s = d.2 (length_of_one ys left right
 lengths_differ xs ys (Totals left right) d s = d
 lengths_differ xs ys (Costs gap) d s = d
 
--- an arc does not mean what no arcs mean
+-- a list with an arc does not mean the same as the empty list
 pub first_length : (a : LengthArc) (xs : List LengthArc) → SameLength (a ∷ xs) [] → ⊥
 first_length a xs s = elim (least_of (a ∷ xs)) [ inl e ↦ cc | inr p ↦ no_length p.0 (s.there p.0 p.1) ]

@@ -1,5 +1,5 @@
--- Lemmas on what units cost together at costs of 64 bits: the bounds hold as units come, the cost has 128 bits, and its
--- quotient for each unit has 64.
+-- The cost of units at costs of 64 bits: the bounds hold as units are added, the cost fits 128 bits, and the mean cost
+-- per unit fits 64 bits.
 use Rattle.std.proofs.Common.{◌≡◌, ℕ, suc, zero, ◌+◌, ◌-◌, ◌*◌, ◌^◌, ◌<◌, ◌≤◌, ◌/◌, ◌%◌, sym, ap, arith, ℤ, pos, negsuc, ◌+ℤ◌, ◌*ℤ◌, ◌≤ℤ◌, ◌<ℤ◌, mul_comm, subst, w64}
 use Rattle.std.proofs.lemmas.Int.{ints, by_lt_z}
 use Rattle.std.proofs.Math.Nat.{div-lt_iff_lt-mul}
@@ -23,7 +23,7 @@ floor_is (negsuc a) n h = record {
   high = omega (arith, ints);
 }
 
--- the quotient and the remainder of two numbers
+-- the quotient and the remainder of a cost by its units
 pub floor_of : (cost units each rest : ℤ) → pos 0 <ℤ units → each ≡ int_div_euclid cost units → rest ≡ int_rem_euclid cost units → IsFloor cost units each rest
 floor_of cost (pos n) each rest h e f = subst (λ r. IsFloor cost (pos n) each r) (sym f) (subst (λ d. IsFloor cost (pos n) d (int_rem_euclid cost (pos n))) (sym e) (floor_is cost n (omega (arith, ints))))
 floor_of cost (negsuc n) each rest h e f = absurd (omega (arith, ints))
@@ -45,13 +45,13 @@ mean_more all u l (negsuc c) h k m =
     let all_most : l * suc c ≤ l * 2 ^ 63 = most l (suc c) (2 ^ 63) c_most in
     record { least = omega (arith, ints); greatest = omega (arith, ints) }
 
--- units more at a cost of 64 bits
+-- the bounds hold after units at a cost of 64 bits are added
 pub more_mean : (all low cost units : ℤ) → pos 0 ≤ℤ units → pos 0 ≤ℤ low → FitsSigned w64 cost → IsMean all units → IsMean (all +ℤ (low *ℤ cost)) (units +ℤ low)
 more_mean all (pos l) cost (pos u) h k f m = mean_more all u l cost (omega (arith, ints, f.sfits)) (omega (arith, ints, f.sfits)) m
 more_mean all (negsuc l) cost units h k f m = absurd (omega (arith, ints))
 more_mean all (pos l) cost (negsuc u) h k f m = absurd (omega (arith, ints))
 
--- the cost for each unit has 64 bits
+-- the cost per unit, rounded down, fits 64 bits
 pub each_fits : (cost units each : ℤ) → pos 0 <ℤ units → IsMean cost units → each ≡ int_div_euclid cost units → FitsSigned w64 each
 each_fits (pos a) (pos n) each h m e =
     let high = m.greatest in
@@ -65,7 +65,7 @@ each_fits (negsuc a) (pos n) each h m e =
     subst (FitsSigned w64) (sym e) (record { sfits = (div-lt_iff_lt-mul some).1 below })
 each_fits cost (negsuc n) each h m e = absurd (omega (arith, ints))
 
--- where units cost one more, one more than the lower cost has 64 bits too
+-- if some units cost one more, the greater cost fits 64 bits too
 pub each_next : (cost units each rest : ℤ) → IsMean cost units → IsFloor cost units each rest → pos 0 <ℤ rest → each <ℤ pos (2 ^ 63 - 1)
 each_next cost units each rest m f h =
     by_lt_z each (pos (2 ^ 63 - 1)) (λ lt. lt) (λ le.
@@ -76,13 +76,13 @@ each_next cost units each rest m f h =
     let e = *ℤ_comm units (pos (2 ^ 63 - 1)) in
     absurd (omega (arith, ints)))
 
--- the cost of units has 128 bits
+-- the cost of the units fits 128 bits
 pub cost_fits : (cost units : ℤ) → pos 0 ≤ℤ units → units ≤ℤ pos (2 ^ 63 - 1) → IsMean cost units → FitsSigned w128 cost
 cost_fits (pos a) (pos n) h k m = let high = m.greatest in record { sfits = omega (arith, ints) }
 cost_fits (negsuc a) (pos n) h k m = let low = m.least in record { sfits = omega (arith, ints) }
 cost_fits cost (negsuc n) h k m = absurd (omega (arith, ints))
 
--- no units cost nothing
+-- no units cost 0
 pub none_cost : (cost units : ℤ) → units ≡ pos 0 → IsMean cost units → cost ≡ pos 0
 none_cost cost units e m =
     let n = subst (IsMean cost) e m in
@@ -90,7 +90,7 @@ none_cost cost units e m =
     let g = n.greatest in
     omega (arith, ints)
 
--- a number from 0 on, up to the greatest, has 64 bits
+-- a number from 0 to the greatest number of 64 bits fits 64 bits
 pub fits_some : (z : ℤ) → pos 0 ≤ℤ z → z ≤ℤ pos (2 ^ 63 - 1) → FitsSigned w64 z
 fits_some (pos n) h g = record { sfits = omega (arith, ints) }
 fits_some (negsuc n) h g = absurd (omega (arith, ints))

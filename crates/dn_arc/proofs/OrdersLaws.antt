@@ -1,5 +1,5 @@
--- Proofs that no meaning depends on the order of arcs, that arcs that mean the same still do so when the same arc comes
--- after them, and that parts that mean the same do so put together.
+-- No meaning depends on the order of arcs. Arcs that mean the same still do after the same arc is appended to both, and
+-- parts that mean the same also do when joined.
 use Rattle.std.specs.Prelude.{ℕ, suc, zero, ◌<◌, List, [], ◌∷◌, ◌++◌, length}
 use Rattle.std.proofs.Common.{subst, arith, get_or, set}
 use Rattle.std.proofs.lemmas.List.Sorted.{IsPermutation-keeps, IsPermutation-append_comm}
@@ -8,7 +8,7 @@ use Rattle.std.specs.List.{swap}
 use Rattle.std.specs.List.Sorted.{IsPermutation}
 use Rattle.dn_arc.specs.State.Meanings.{IsMeaning}
 
--- the arc at a place, with the one at the front in its stead
+-- exchanging the arc at a position with the first arc keeps the meaning
 to_front : {Arc : Type 0} (Same : List Arc → List Arc → Type 0) → IsMeaning Same → (l : List Arc) (j : ℕ) (a d : Arc) → j < length l → Same (a ∷ l) (get_or l j d ∷ set l j a)
 to_front Same m [] j a d h = absurd (omega arith)
 to_front Same m (x ∷ l) zero a d h = m.same_swap a x l
@@ -26,7 +26,7 @@ swapped : {Arc : Type 0} (Same : List Arc → List Arc → Type 0) → IsMeaning
 swapped Same m [] i j h k = absurd (omega arith)
 swapped Same m (x ∷ l) i j h k = subst (Same (x ∷ l)) (swap_is (x ∷ l) i j x h k) (exchanged Same m (x ∷ l) i j x h k)
 
--- the order of arcs does not matter
+-- the order of arcs does not change the meaning
 pub any_order : {Arc : Type 0} (Same : List Arc → List Arc → Type 0) → IsMeaning Same → (xs ys : List Arc) → IsPermutation xs ys → Same xs ys
 any_order Same m xs ys p = IsPermutation-keeps xs (Same xs) (m.same_refl xs) (λ l i j h k s. m.same_trans _ _ _ s (swapped Same m l i j h k)) ys p
 
@@ -34,16 +34,16 @@ pub at_end : {Arc : Type 0} (Same : List Arc → List Arc → Type 0) → IsMean
 at_end Same m [] a = m.same_refl _
 at_end Same m (x ∷ xs) a = m.same_trans _ _ _ (m.same_more x _ _ (at_end Same m xs a)) (m.same_swap x a xs)
 
--- one arc more at the end
+-- appending one arc to both lists keeps the meaning
 pub same_push : {Arc : Type 0} (Same : List Arc → List Arc → Type 0) → IsMeaning Same → (xs ys : List Arc) (a : Arc) → Same xs ys → Same (xs ++ a ∷ []) (ys ++ a ∷ [])
 same_push Same m xs ys a s = m.same_trans _ _ _ (at_end Same m xs a) (m.same_trans _ _ _ (m.same_more a xs ys s) (m.same_sym _ _ (at_end Same m ys a)))
 
--- the same arcs before them
+-- putting the same arcs before both lists keeps the meaning
 same_before : {Arc : Type 0} (Same : List Arc → List Arc → Type 0) → IsMeaning Same → (zs xs ys : List Arc) → Same xs ys → Same (zs ++ xs) (zs ++ ys)
 same_before Same m [] xs ys s = s
 same_before Same m (z ∷ zs) xs ys s = m.same_more z _ _ (same_before Same m zs xs ys s)
 
--- parts that mean the same, put together
+-- joining parts that mean the same keeps the meaning
 pub same_joined : {Arc : Type 0} (Same : List Arc → List Arc → Type 0) → IsMeaning Same → (xs xs' ys ys' : List Arc) → Same xs xs' → Same ys ys' → Same (xs ++ ys) (xs' ++ ys')
 same_joined Same m xs xs' ys ys' s t =
     let turned : (us vs : List _) → Same (us ++ vs) (vs ++ us) = λ us vs. any_order Same m (us ++ vs) (vs ++ us) (IsPermutation-append_comm us vs) in

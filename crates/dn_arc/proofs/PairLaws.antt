@@ -8,13 +8,13 @@ use Rattle.std.proofs.lemmas.Cmp.{int_cmp_total, then_total, on_total, eq_by_cmp
 use Rattle.std.proofs.lemmas.Map.Lookups.{exact_pairs, exact_signed}
 use Rattle.dn_arc.specs.Pairs.{pair_cmp, same_pair}
 
--- what compares equal is equal
+-- an ordering that tests as equal is `Equal`
 pub equal_is : (o : Ordering) → is_eq o ≡ true → o ≡ Equal
 equal_is Less h = cc
 equal_is Equal h = refl
 equal_is Greater h = cc
 
--- pairs that compare equal are one
+-- pairs that compare equal are equal
 pub pair_is : (p q : ℤ × ℤ) → same_pair p q ≡ true → p ≡ q
 pair_is p q h = exact_pairs int_cmp int_cmp exact_signed exact_signed p q (equal_is (pair_cmp p q) h)
 
@@ -31,10 +31,10 @@ int_self z = self_equal (int_cmp z z) (int_cmp_total.antisymm z z)
 pub pair_self : (p : ℤ × ℤ) → same_pair p p ≡ true
 pair_self p = rw (int_self p.0, int_self p.1) refl
 
--- pairs are ordered
+-- the order of pairs is total
 pub pair_total : IsTotalOrder pair_cmp
 pair_total = then_total (on_total (λ (p : ℤ × ℤ). p.0) int_cmp_total) (on_total (λ (p : ℤ × ℤ). p.1) int_cmp_total)
 
--- and told apart
+-- `same_pair` is an equivalence
 pub pair_equiv : IsEquivalence same_pair
 pair_equiv = eq_by_cmp_equiv pair_total

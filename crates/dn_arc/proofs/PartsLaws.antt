@@ -1,5 +1,5 @@
--- Lemmas on the fixed and the free parts of arcs: each is a fixed or a free arc, and arcs whose free capacity stands by
--- rising cost are filled as these parts.
+-- The fixed and the free parts of arcs. Each part is a fixed or a free arc, and arcs whose free capacity is sorted by
+-- ascending cost are filled as these parts.
 use Rattle.std.specs.Prelude.{◌≡◌, ℤ, pos, ◌+ℤ◌, ◌-ℤ◌, ◌*ℤ◌, ◌≤ℤ◌, ◌<ℤ◌, List, [], ◌∷◌, cond, filter, map, int_lt, refl, true, false}
 use Rattle.std.proofs.Common.{sym, ap, subst, arith, ◌∙◌}
 use Rattle.std.proofs.lemmas.Int.{ints, by_lt_z}
@@ -18,21 +18,21 @@ test_yes x y h = grind (arith, ints)
 pub test_no : (x y : ℤ) → y ≤ℤ x → int_lt x y ≡ false
 test_no x y h = grind (arith, ints)
 
--- by a test: what holds in both cases
+-- what holds in both cases of a comparison holds of the choice
 pub by_test : {A : Type 0} (P : A → Type 0) (x y : ℤ) (a b : A) → (x <ℤ y → P a) → (y ≤ℤ x → P b) → P (cond (int_lt x y) a b)
 by_test P x y a b f g =
     by_lt_z x y
     (λ lt. subst (λ t. P (cond t a b)) (sym (test_yes x y lt)) (f lt))
     (λ le. subst (λ t. P (cond t a b)) (sym (test_no x y le)) (g le))
 
--- the fixed part of an arc, and the free one
+-- the fixed part and the free part of an arc
 abbrev pub fixed_part : CostArc → CostArc
 fixed_part a = record { low = a.low; cap = a.low; cost = a.cost }
 
 abbrev pub free_part : CostArc → CostArc
 free_part a = record { low = pos 0; cap = room a; cost = a.cost }
 
--- the fixed parts of arcs, and the free ones
+-- the fixed parts and the free parts of arcs
 abbrev pub fixed_parts : List CostArc → List CostArc
 fixed_parts arcs = map fixed_part (filter has_low arcs)
 
@@ -130,6 +130,6 @@ fill_parts (a ∷ rest) o y h =
     fill_low a rest y within ∙ sym (fill_low b (free_parts rest) y within')))
     (λ le. fill_past a rest y o.2 (omega (arith, ints)) h ∙ fill_parts rest o.2 y h)
 
--- arcs are filled as their fixed and their free parts
+-- sorted arcs are filled as their fixed and their free parts
 pub apart_parts : (xs : List CostArc) → AreOrdered xs → IsApart xs (fixed_parts xs) (free_parts xs)
 apart_parts xs o = record { units = units_parts xs o; cost = cost_parts xs o; room = room_parts xs o; fill = fill_parts xs o }

@@ -1,4 +1,4 @@
--- Lemmas on products of integers: they distribute over sums and differences, and a factor from 0 on keeps the order.
+-- Products of integers distribute over sums and differences, and a factor that is at least 0 keeps the order.
 use Rattle.std.specs.Prelude.{◌≡◌, ℕ, suc, zero, ℤ, pos, negsuc, ◌+ℤ◌, ◌-ℤ◌, ◌*ℤ◌, ◌≤ℤ◌}
 use Rattle.std.proofs.Common.{arith, ap}
 use Rattle.std.proofs.lemmas.Int.{ints}
@@ -42,7 +42,7 @@ mul_pos c d (suc n) h =
     let f : d *ℤ pos (suc n) ≡ (d *ℤ pos n) +ℤ d = omega (arith, ints) in
     omega (arith, ints)
 
--- a dearer unit
+-- units cost at least as much at a higher cost
 pub mul_mono : (c d y : ℤ) → c ≤ℤ d → pos 0 ≤ℤ y → (c *ℤ y) ≤ℤ (d *ℤ y)
 mul_mono c d (pos n) h g = mul_pos c d n h
 mul_mono c d (negsuc n) h g = absurd (omega (arith, ints))

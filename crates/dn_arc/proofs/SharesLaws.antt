@@ -1,11 +1,11 @@
--- Lemmas on what an amount costs at most, said arc by arc: the bound may be raised, and two arcs may change places.
+-- An upper bound on the least cost of an amount, arc by arc: the bound may be raised, and two arcs may be exchanged.
 use Rattle.std.specs.Prelude.{◌≡◌, ℤ, pos, ◌+ℤ◌, ◌*ℤ◌, ◌≤ℤ◌, List, [], ◌∷◌, refl}
 use Rattle.std.proofs.Common.{arith}
 use Rattle.std.proofs.lemmas.Int.{ints}
 use Rattle.std.specs.Int.Signed.{≤ℤ_refl}
 use Rattle.dn_arc.specs.declared.arc.CostArc.{CostArc}
 
--- one arc takes a share, and the rest carries what is left
+-- one arc takes a share, and the remaining arcs carry the rest
 pub record Share (low cap cost : ℤ) (Rest : ℤ → ℤ → Type 0) (x k : ℤ) : Type 0 where
   pub share : ℤ
   pub other : ℤ
@@ -20,7 +20,7 @@ pub record IsNothing (x k : ℤ) : Type 0 where
   pub amount : x ≡ pos 0
   pub within : pos 0 ≤ℤ k
 
--- some split of the amount costs k at most
+-- some split of the amount costs at most k
 abbrev pub AtMost : List CostArc → ℤ → ℤ → Type 0
 AtMost [] = IsNothing
 AtMost (a ∷ rest) = Share a.low a.cap a.cost (AtMost rest)

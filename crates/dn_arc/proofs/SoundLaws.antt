@@ -1,5 +1,5 @@
--- Proofs that the arcs that a curve tells are canonical, of 64 bits and of its capacity, and mean the same in both
--- forms; and that an arc's forced and free part, added to them, mean that arc at their end.
+-- The arcs that a curve lists are canonical, fit 64 bits, have the capacity of the curve, and mean the same in both
+-- forms. Adding the forced and the free part of an arc to the curve means the same as appending the arc.
 use Rattle.std.specs.Prelude.{◌≡◌, ◌-◌, ◌^◌, ℤ, pos, ◌+ℤ◌, ◌-ℤ◌, ◌*ℤ◌, ◌≤ℤ◌, ◌<ℤ◌, List, [], ◌∷◌, ◌++◌, map, refl, FitsSigned}
 use Rattle.std.specs.Int.{w64, int_div_euclid, int_rem_euclid}
 use Rattle.std.proofs.Common.{sym, ap, subst, arith, ◌∙◌}
@@ -32,7 +32,7 @@ steps_prop (step ∷ rest) = let i = steps_prop rest in let a = AllByRecursion-p
 pub IsSound-prop : (units cost total : ℤ) (steps : List (ℤ × ℤ)) → IsProp (IsSound units cost total steps)
 IsSound-prop units cost total steps = let i = steps_prop steps in let a = AllByRecursion-prop (λ (step : ℤ × ℤ). FitsSigned w64 step.0) (λ _. hlevel props) steps in hlevel (props, i, a)
 
--- the costs have 64 bits
+-- the costs fit 64 bits
 abbrev CostsFit : List CostArc → Type 0
 CostsFit arcs = AllByRecursion (λ (a : CostArc). FitsSigned w64 a.cost) arcs
 
@@ -60,12 +60,12 @@ join_fit : (xs ys : List CostArc) → CostsFit xs → CostsFit ys → CostsFit (
 join_fit [] ys f g = g
 join_fit (x ∷ xs) ys f g = joined_costs (FitsSigned w64) x (join_arcs xs ys) f.0 (join_fit xs ys f.1 g)
 
--- capacities of arcs sum to 0 or more
+-- the total capacity of a problem's arcs is at least 0
 pub caps_some : (arcs : List CostArc) → AllByRecursion IsCostArc arcs → pos 0 ≤ℤ cost_cap arcs
 caps_some [] h = omega (arith, ints)
 caps_some (a ∷ rest) h = let low = h.0.some in let high = h.0.room in let i = caps_some rest h.1 in omega (arith, ints)
 
--- arcs whose capacity and costs have 64 bits
+-- the numbers of arcs fit 64 bits if their total capacity and their costs do
 numbers_fit : (arcs : List CostArc) → AllByRecursion IsCostArc arcs → cost_cap arcs ≤ℤ pos (2 ^ 63 - 1) → CostsFit arcs → NumbersFit costs arcs
 numbers_fit [] h m f = tt
 numbers_fit (a ∷ rest) h m f =
@@ -97,7 +97,7 @@ module _ (units cost total : ℤ) (steps : List (ℤ × ℤ)) (s : IsSound units
   pub sound_fit : (form : Form) → NumbersFit costs (told form units cost steps)
   sound_fit form = numbers_fit (told form units cost steps) (sound_arcs form) (subst (λ z. z ≤ℤ pos (2 ^ 63 - 1)) (sym (sound_cap form)) s.most) (costs_fit form)
 
--- an arc more, by its forced and its free part
+-- adding an arc's forced and free part to the curve means the same as appending the arc
 pub told_added : (units cost units' cost' : ℤ) (steps steps' : List (ℤ × ℤ)) (a : CostArc)
     → pos 0 ≤ℤ units → (units ≡ pos 0 → cost ≡ pos 0) → AreSteps steps
     → pos 0 ≤ℤ units' → (units' ≡ pos 0 → cost' ≡ pos 0) → AreSteps steps'

@@ -1,5 +1,5 @@
--- Proofs that an amount has a least cost wherever it has a split, and that arcs mean the same exactly where they carry
--- each amount at no more than the same costs.
+-- An amount that has a split has a least cost. Arcs mean the same exactly if they carry each amount at no more than the
+-- same costs.
 use Rattle.std.specs.Prelude.{◌≡◌, ℕ, suc, zero, ℤ, pos, negsuc, ◌+ℤ◌, ◌-ℤ◌, ◌*ℤ◌, ◌≤ℤ◌, List, [], ◌∷◌, refl, ◌⊎◌}
 use Rattle.std.proofs.Common.{inl, inr, sym, ap, subst, arith}
 use Rattle.std.proofs.lemmas.Int.{ints, by_lt_z}
@@ -9,7 +9,7 @@ use Rattle.dn_arc.specs.Splits.{total, IsSplit, cost_of, LeastCost}
 use Rattle.dn_arc.specs.Meanings.{SameCurve}
 use Rattle.dn_arc.proofs.SharesLaws.{Share, IsNothing, AtMost, more}
 
--- a split of this cost at most
+-- a split of the amount that costs at most k
 pub record Within (arcs : List CostArc) (x k : ℤ) : Type 0 where
   pub split : List ℤ
   pub is : IsSplit arcs x split
@@ -44,7 +44,7 @@ at_most_split (a ∷ rest) x k s =
       costs = omega (arith, ints);
     }
 
--- the least cost of a relation that holds from some cost on
+-- k is the least cost for which the relation holds
 pub record Bottom (R : ℤ → ℤ → Type 0) (x k : ℤ) : Type 0 where
   pub at : R x k
   pub least : (j : ℤ) → R x j → k ≤ℤ j
@@ -72,11 +72,11 @@ bottom_least arcs x k b =
       least = λ ys s. b.least _ (split_at_most arcs ys x s);
     }
 
--- there is no cost, or a least one
+-- there is no cost, or there is a least one
 abbrev pub Found : (ℤ → ℤ → Type 0) → ℤ → Type 0
 Found R x = ((k : ℤ) → R x k → ⊥) ⊎ ((k : ℤ) × Bottom R x k)
 
--- one share alone
+-- an arc that takes exactly its LOW leaves the least cost of the rest
 one_share : (low cost : ℤ) (R : ℤ → ℤ → Type 0) (x : ℤ) → Found R (x -ℤ low) → Found (Share low low cost R) x
 one_share low cost R x (inl never) = inl (λ k s.
     let e = s.amount in
@@ -101,7 +101,7 @@ one_share low cost R x (inr b) = inr (
   },
 )
 
--- the better of two
+-- the lesser of two least costs
 best_of : (P Q R : ℤ → ℤ → Type 0) (x : ℤ) → ((k : ℤ) → P x k → R x k) → ((k : ℤ) → Q x k → R x k) → ((k : ℤ) → R x k → P x k ⊎ Q x k) → Found P x → Found Q x → Found R x
 best_of P Q R x f g h (inl never) (inl none) = inl (λ k r. elim (h k r) [ inl p ↦ never k p | inr q ↦ none k q ])
 best_of P Q R x f g h (inl never) (inr b) = inr (b.0, record { at = g b.0 b.1.at; least = λ j r. elim (h j r) [ inl p ↦ absurd (never j p) | inr q ↦ b.1.least j q ] })
@@ -164,7 +164,7 @@ nothing_found x =
     (λ gt. inl (λ k s. let e = s.amount in absurd (omega (arith, ints))))
     (λ ge. inr (pos 0, record { at = record { amount = omega (arith, ints); within = ≤ℤ_refl _ }; least = λ j s. s.within })))
 
--- an amount has no cost, or a least one
+-- an amount has no cost, or it has a least one
 pub least_of : (arcs : List CostArc) (x : ℤ) → Found (AtMost arcs) x
 least_of [] x = nothing_found x
 least_of (a ∷ rest) x = any_share a.low a.cap a.cost (AtMost rest) (least_of rest) x
@@ -177,7 +177,7 @@ some_least arcs x xs s = by_found (least_of arcs x)
     by_found (inl never) = absurd (never _ (split_at_most arcs xs x s))
     by_found (inr found) = (found.0, bottom_least arcs x found.0 found.1)
 
--- lists of arcs that carry each amount at no more than the same costs
+-- two lists carry each amount at no more than the same costs
 pub record SameAbove (xs ys : List CostArc) : Type 0 where
   pub there : (x k : ℤ) → AtMost xs x k → AtMost ys x k
   pub back : (x k : ℤ) → AtMost ys x k → AtMost xs x k

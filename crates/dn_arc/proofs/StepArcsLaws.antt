@@ -1,4 +1,5 @@
--- Lemmas on steps as free arcs: capacity put at a cost leaves steps, adds up, and means one free arc more.
+-- Breakpoints as free arcs. Adding capacity at a cost keeps them sorted, adds up the capacities, and means the same as
+-- one more free arc.
 use Rattle.std.specs.Prelude.{◌≡◌, ℤ, pos, ◌+ℤ◌, ◌≤ℤ◌, ◌<ℤ◌, List, [], ◌∷◌, map, cond, int_lt, refl}
 use Rattle.std.proofs.Common.{subst, arith}
 use Rattle.std.proofs.lemmas.Int.{ints}
@@ -20,7 +21,7 @@ above_arcs : (c : ℤ) (steps : List (ℤ × ℤ)) → CostsAbove c steps → Ar
 above_arcs c [] h = tt
 above_arcs c (s ∷ rest) h = (h.0, above_arcs c rest h.1)
 
--- steps are free arcs
+-- the arcs of breakpoints are free arcs
 pub free_arcs : (steps : List (ℤ × ℤ)) → AreSteps steps → AreFree (map step_arc steps)
 free_arcs [] s = record { each = tt; rising = tt }
 free_arcs (step ∷ rest) s = let i = free_arcs rest s.2 in record { each = (record { none = refl; room = s.0 }, i.each); rising = (above_arcs step.0 rest s.1, i.rising) }
@@ -32,12 +33,12 @@ above_put c (step ∷ rest) more h a =
     (λ lt. (h, a))
     (λ le. by_test (CostsAbove c) step.0 more.0 (step ∷ put_step rest more) ((step.0, step.1 +ℤ more.1) ∷ rest) (λ lt. (a.0, above_put c rest more h a.1)) (λ ge. a))
 
--- steps above a cost are above a lower one
+-- breakpoints above a cost are above each lower cost
 pub costs_lower : (c d : ℤ) (steps : List (ℤ × ℤ)) → c <ℤ d → CostsAbove d steps → CostsAbove c steps
 costs_lower c d [] h a = tt
 costs_lower c d (step ∷ rest) h a = let lt = a.0 in (omega (arith, ints), costs_lower c d rest h a.1)
 
--- more capacity leaves steps
+-- adding capacity keeps the breakpoints sorted
 pub put_steps : (steps : List (ℤ × ℤ)) (more : ℤ × ℤ) → pos 1 ≤ℤ more.1 → AreSteps steps → AreSteps (put_step steps more)
 put_steps [] more h s = (h, tt, tt)
 put_steps (step ∷ rest) more h s =
@@ -48,7 +49,7 @@ put_steps (step ∷ rest) more h s =
     (λ lt. (s.0, above_put step.0 rest more lt s.1, put_steps rest more h s.2))
     (λ ge. (omega (arith, ints), s.1, s.2)))
 
--- as much more as was put
+-- adding capacity adds it to the total
 pub put_room : (steps : List (ℤ × ℤ)) (more : ℤ × ℤ) → steps_room (put_step steps more) ≡ steps_room steps +ℤ more.1
 put_room [] more = omega (arith, ints)
 put_room (step ∷ rest) more =
@@ -58,7 +59,7 @@ put_room (step ∷ rest) more =
     (λ lt. let i = put_room rest more in omega (arith, ints))
     (λ ge. omega (arith, ints)))
 
--- more capacity at a cost is one free arc more
+-- adding capacity at a cost means the same as one more free arc
 pub put_above : (steps : List (ℤ × ℤ)) (more : ℤ × ℤ) → pos 1 ≤ℤ more.1 → AreSteps steps → SameAbove (map step_arc (put_step steps more)) (step_arc more ∷ map step_arc steps)
 put_above [] more h s = above_meaning.same_refl _
 put_above (step ∷ rest) more h s =
@@ -76,7 +77,7 @@ pub steps_some : (steps : List (ℤ × ℤ)) → AreSteps steps → pos 0 ≤ℤ
 steps_some [] s = omega (arith, ints)
 steps_some (step ∷ rest) s = let some = s.0 in let i = steps_some rest s.2 in omega (arith, ints)
 
--- the capacity of steps is their arcs' free capacity
+-- the total capacity of breakpoints is the free capacity of their arcs
 pub steps_free_room : (steps : List (ℤ × ℤ)) → free_room (map step_arc steps) ≡ steps_room steps
 steps_free_room [] = refl
 steps_free_room (step ∷ rest) = let i = steps_free_room rest in omega (arith, ints)

@@ -1,4 +1,4 @@
--- The numbers of a curve tell it from others, so it is stored as they are.
+-- A curve is stored as its numbers, which distinguish it from every other curve.
 use Rattle.std.specs.Prelude.{◌≡◌, ℤ, List}
 use Rattle.std.specs.Coded.{Coded, coded_ℤ, coded×, coded_list}
 use Rattle.std.proofs.Common.{sym, ap, subst}
@@ -7,7 +7,7 @@ use Rattle.dn_arc.specs.State.CurveTold.{IsSound}
 use Rattle.dn_arc.specs.State.Curves.{CurveNumbers}
 use Rattle.dn_arc.proofs.SoundLaws.{IsSound-prop}
 
--- the numbers in a tuple
+-- the numbers of a curve as a tuple
 abbrev pub tuple : CurveNumbers → ℤ × (ℤ × (ℤ × List (ℤ × ℤ)))
 tuple b = (b.units, (b.cost, (b.total, b.steps)))
 

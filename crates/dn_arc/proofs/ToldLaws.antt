@@ -1,5 +1,5 @@
--- Proofs that the arcs told of forced units, their cost and steps are canonical in each form, mean the same in both,
--- and have the capacity of units and steps; in form 1 they have these forced units at this cost.
+-- The arcs listed for forced units, their cost and breakpoints are canonical in each form, mean the same in both forms,
+-- and have the total capacity. In form 1 they have these forced units at this cost.
 use Rattle.std.specs.Prelude.{◌≡◌, ℤ, pos, ◌+ℤ◌, ◌-ℤ◌, ◌*ℤ◌, ◌≤ℤ◌, ◌<ℤ◌, List, [], ◌∷◌, ◌++◌, filter, map, refl}
 use Rattle.std.specs.Int.{int_div_euclid, int_rem_euclid}
 use Rattle.std.proofs.Common.{sym, ap, arith, ◌∙◌}
@@ -26,7 +26,7 @@ use Rattle.dn_arc.proofs.FillMeaningsLaws.{same_by_parts}
 use Rattle.dn_arc.proofs.StepArcsLaws.{free_arcs}
 use Rattle.dn_arc.proofs.JoinsLaws.{AreJoined, join_all}
 
--- fixed arcs that carry the units at the cost
+-- fixed arcs that carry these units at this cost
 pub record Carries (arcs : List CostArc) (units cost : ℤ) : Type 0 where
   pub are : AreFixed arcs
   pub units_is : forced_units arcs ≡ units
@@ -72,7 +72,7 @@ pub steps_low : (steps : List (ℤ × ℤ)) → filter has_low (map step_arc ste
 steps_low [] = refl
 steps_low (step ∷ rest) = steps_low rest
 
--- units, their cost and steps: what their canonical arcs are
+-- the canonical arcs of forced units, their cost and breakpoints
 module _ (units cost : ℤ) (steps : List (ℤ × ℤ)) (some : pos 0 ≤ℤ units) (none : units ≡ pos 0 → cost ≡ pos 0) (rising : AreSteps steps) where
   pub carried : Carries (fixed_arcs units cost) units cost
   carried = fixed_carries units cost some none
@@ -110,7 +110,7 @@ steps_cap : (steps : List (ℤ × ℤ)) → cost_cap (map step_arc steps) ≡ st
 steps_cap [] = refl
 steps_cap (step ∷ rest) = ap (λ z. step.1 +ℤ z) (steps_cap rest)
 
--- the sums over fixed arcs and others
+-- the sums over fixed arcs followed by free arcs
 record AreSums (fixed free : List CostArc) : Type 0 where
   units : forced_units (fixed ++ free) ≡ forced_units fixed +ℤ forced_units free
   cost : forced_cost (fixed ++ free) ≡ forced_cost fixed +ℤ forced_cost free
@@ -145,7 +145,7 @@ module _ (units cost : ℤ) (steps : List (ℤ × ℤ)) (some : pos 0 ≤ℤ uni
   all : AreSums (fixed_arcs units cost) (map step_arc steps)
   all = sums (fixed_arcs units cost) (map step_arc steps) fixed.are.each
 
-  -- the arcs of form 1 are filled as the fixed arcs and the steps
+  -- the arcs of form 1 are filled as the fixed arcs and the breakpoints
   pub told_apart : IsApart (told One units cost steps) (fixed_arcs units cost) (map step_arc steps)
   told_apart = apart (fixed_arcs units cost) (map step_arc steps) fixed.are.each (free_arcs steps rising)
 

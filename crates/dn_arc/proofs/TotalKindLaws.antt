@@ -1,5 +1,5 @@
--- Proofs of the laws of `max` arcs as a kind, that their meaning determines canonical ones, and that the arcs told of a
--- total capacity are canonical, and of 64 bits if it is.
+-- The laws of `max` arcs as a kind. Their meaning determines canonical arcs, and the arcs listed for a total capacity
+-- are canonical and fit 64 bits if the total does.
 use Rattle.std.specs.Prelude.{◌≡◌, ◌-◌, ◌^◌, ℤ, pos, ◌+ℤ◌, ◌≤ℤ◌, List, [], ◌∷◌, ◌++◌, Option, Some, None, cond, int_lt, refl}
 use Rattle.std.proofs.Common.{ap, arith, sym, ◌∙◌}
 use Rattle.std.proofs.lemmas.Int.{ints}

@@ -1,4 +1,4 @@
--- Proofs that to have the same total capacity is a meaning, determines canonical arcs, and leaves no difference.
+-- Having the same total capacity is a meaning, determines canonical arcs, and leaves no difference.
 use Rattle.std.specs.Prelude.{◌≡◌, ℤ, ◌+ℤ◌, List, [], ◌∷◌, refl}
 use Rattle.std.proofs.Common.{sym, ap, arith, ◌∙◌}
 use Rattle.std.proofs.lemmas.Int.{ints}
@@ -23,7 +23,7 @@ total_meaning = record {
     swap : (x y z : ℤ) → x +ℤ (y +ℤ z) ≡ y +ℤ (x +ℤ z)
     swap x y z = omega (arith, ints)
 
--- canonical arcs of the same total are the same
+-- canonical arcs of the same total capacity are equal
 pub totals_determined : (xs ys : List CapArc) → AreCanonCaps xs → AreCanonCaps ys → SameTotal xs ys → xs ≡ ys
 totals_determined [] [] p q s = refl
 totals_determined [] (b ∷ []) p q s = let e = s.is in absurd (omega (arith, ints))
@@ -34,7 +34,7 @@ totals_determined (a ∷ []) (b ∷ []) p q s =
 totals_determined (a ∷ a' ∷ xs) ys p q s = absurd p
 totals_determined xs (b ∷ b' ∷ ys) p q s = absurd q
 
--- arcs of the same total have no difference
+-- arcs of the same total capacity have no difference
 pub totals_differ : (xs ys : List CapArc) (how : How) → TotalsDiffer xs ys how → SameTotal xs ys → ⊥
 totals_differ xs ys (Lengths left right) d s = d
 totals_differ xs ys (Totals left right) d s = d.2 (sym d.0 ∙ s.is ∙ d.1)

@@ -1,4 +1,4 @@
--- Which arcs of one ordered pair are the canonical ones, by kind and form (this project's profile).
+-- The canonical arcs of one ordered pair, for each kind and form (this project's profile).
 use Rattle.std.specs.Prelude.{◌≡◌, pos, ◌+ℤ◌, ◌≤ℤ◌, ◌<ℤ◌, List, [], ◌∷◌, ◌++◌, Bool, filter, int_lt}
 use Rattle.std.specs.List.{AllByRecursion}
 use Rattle.dn_arc.specs.declared.arc.LengthArc.{LengthArc}
@@ -7,55 +7,55 @@ use Rattle.dn_arc.specs.declared.arc.CostArc.{CostArc}
 use Rattle.dn_arc.specs.declared.arc.Form.{Form}
 use Rattle.dn_arc.specs.declared.arc.Form.TheVariants.{One, Two}
 
--- an arc that a `min` problem may have: 0 <= LOW <= CAP
+-- in a `min` problem, LOW is at least 0 and at most CAP
 pub record IsCostArc (a : CostArc) : Type 0 where
   pub some : pos 0 ≤ℤ a.low
   pub room : a.low ≤ℤ a.cap
 
--- an arc that a `max` problem may have: 0 <= CAP
+-- in a `max` problem, CAP is at least 0
 pub record IsCapArc (a : CapArc) : Type 0 where
   pub some : pos 0 ≤ℤ a.cap
 
--- `sp`: at most one arc
+-- `sp`: canonical arcs are at most one arc
 abbrev pub AreCanonLengths : List LengthArc → Type 0
 AreCanonLengths [] = Unit {0}
 AreCanonLengths (a ∷ []) = Unit {0}
 AreCanonLengths (a ∷ b ∷ rest) = ⊥
 
--- `max`: at most one arc, of CAP at least 1
+-- `max`: canonical arcs are at most one arc, whose CAP is at least 1
 abbrev pub AreCanonCaps : List CapArc → Type 0
 AreCanonCaps [] = Unit {0}
 AreCanonCaps (a ∷ []) = pos 1 ≤ℤ a.cap
 AreCanonCaps (a ∷ b ∷ rest) = ⊥
 
--- LOW = CAP, at least 1
+-- a fixed arc has LOW = CAP, at least 1
 pub record IsFixedArc (a : CostArc) : Type 0 where
   pub some : pos 1 ≤ℤ a.low
   pub full : a.cap ≡ a.low
 
--- LOW 0, CAP at least 1
+-- a free arc has LOW 0 and a CAP of at least 1
 pub record IsFreeArc (a : CostArc) : Type 0 where
   pub none : a.low ≡ pos 0
   pub room : pos 1 ≤ℤ a.cap
 
--- 0 <= LOW <= CAP, CAP at least 1
+-- an arc of form 2 has 0 <= LOW <= CAP and a CAP of at least 1
 pub record IsMixedArc (a : CostArc) : Type 0 where
   pub is_arc : IsCostArc a
   pub room : pos 1 ≤ℤ a.cap
 
--- none, one, or two arcs whose costs are c and c + 1 in this order
+-- at most two arcs; if there are two, their costs are c and c + 1, in this order
 abbrev pub AreNear : List CostArc → Type 0
 AreNear [] = Unit {0}
 AreNear (a ∷ []) = Unit {0}
 AreNear (a ∷ b ∷ []) = b.cost ≡ a.cost +ℤ pos 1
 AreNear (a ∷ b ∷ c ∷ rest) = ⊥
 
--- arcs of strictly rising COST
+-- the arcs are sorted by strictly ascending COST
 abbrev pub AreRising : List CostArc → Type 0
 AreRising [] = Unit {0}
 AreRising (a ∷ rest) = AllByRecursion (λ (b : CostArc). a.cost <ℤ b.cost) rest × AreRising rest
 
--- `min`, form 1: first fixed arcs of costs c and c + 1, at most one of each, then free arcs of strictly rising COST
+-- `min`, form 1: at most two fixed arcs, of costs c and c + 1, and then free arcs by strictly ascending COST
 pub record IsFormOne (arcs : List CostArc) : Type 0 where
   pub fixed : List CostArc
   pub free : List CostArc
@@ -65,17 +65,18 @@ pub record IsFormOne (arcs : List CostArc) : Type 0 where
   pub each_free : AllByRecursion IsFreeArc free
   pub rising : AreRising free
 
--- an arc whose LOW is above 0
+-- the LOW of the arc is above 0
 abbrev pub has_low : CostArc → Bool
 has_low a = int_lt (pos 0) a.low
 
--- `min`, form 2: one arc a cost, of strictly rising COST; at most two have LOW above 0, at costs c and c + 1
+-- `min`, form 2: one arc for each cost, by strictly ascending COST; at most two arcs have LOW above 0, at costs c and c
+-- + 1
 pub record IsFormTwo (arcs : List CostArc) : Type 0 where
   pub each : AllByRecursion IsMixedArc arcs
   pub rising : AreRising arcs
   pub near : AreNear (filter has_low arcs)
 
--- `min`, by form
+-- `min`: the canonical arcs of this form
 abbrev pub AreCanonCosts : Form → List CostArc → Type 0
 AreCanonCosts One arcs = IsFormOne arcs
 AreCanonCosts Two arcs = IsFormTwo arcs

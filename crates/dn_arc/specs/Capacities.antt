@@ -2,7 +2,7 @@
 use Rattle.std.specs.Prelude.{ℤ, pos, ◌+ℤ◌, List, [], ◌∷◌}
 use Rattle.dn_arc.specs.declared.arc.CapArc.{CapArc}
 
--- the sum of the capacities
+-- the total capacity is the sum of the CAPs
 abbrev pub total_cap : List CapArc → ℤ
 total_cap [] = pos 0
 total_cap (a ∷ rest) = a.cap +ℤ total_cap rest

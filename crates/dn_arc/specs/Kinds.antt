@@ -1,5 +1,5 @@
--- What the three kinds of graphs have in common: numbers on an arc's line, and a meaning of parallel arcs (this
--- project's profile).
+-- What the three kinds of graphs have in common: an arc is a list of numbers, and parallel arcs have a meaning together
+-- (this project's profile).
 use Rattle.std.specs.Prelude.{ℕ, ℤ, pos, List, [], ◌∷◌, Option, Some, None}
 use Rattle.dn_arc.specs.Capacities.{total_cap}
 use Rattle.dn_arc.specs.Splits.{cost_cap}
@@ -13,41 +13,41 @@ use Rattle.dn_arc.specs.declared.arc.CostArc.{CostArc}
 use Rattle.dn_arc.specs.declared.arc.Form.{Form}
 use Rattle.dn_arc.specs.declared.difference.How.{How}
 
--- a kind of arcs
+-- a kind of arcs consists of these definitions
 pub record ArcKind (Arc : Type 0) : Type 1 where
   -- the numbers of an arc in the order of its line, after SRC and DST
   pub numbers : Arc → List ℤ
-  -- the arc of these numbers, where there is one
+  -- the arc with these numbers, if there is one
   pub arc_of : List ℤ → Option Arc
-  -- an arc that a problem may have
+  -- a problem may have this arc
   pub IsArc : Arc → Type 0
-  -- the sum of the CAPs; 0 where arcs have none
+  -- the sum of the CAPs, or 0 if the arcs of this kind have no CAP
   pub capacity : List Arc → ℤ
-  -- the arcs of one pair mean the same
+  -- two lists of arcs of one pair mean the same
   pub Same : List Arc → List Arc → Type 0
-  -- the arcs of one pair are the canonical ones
+  -- the arcs are the canonical arcs of one pair in this form
   pub IsCanon : Form → List Arc → Type 0
-  -- how many entries the arcs of one pair come to
+  -- how many entries the arcs of one pair make
   pub entries : List Arc → ℕ
-  -- how the arcs of one pair first differ in meaning
+  -- the first difference in meaning between two lists of arcs of one pair
   pub Differ : List Arc → List Arc → How → Type 0
 
--- the arc of an `sp` line by its one number, LENGTH
+-- an `sp` arc has one number, LENGTH
 abbrev pub length_arc : List ℤ → Option LengthArc
 length_arc (w ∷ []) = Some (record { length = w })
 length_arc _ = None
 
--- the arc of a `max` line by its one number, CAP
+-- a `max` arc has one number, CAP
 abbrev pub cap_arc : List ℤ → Option CapArc
 cap_arc (c ∷ []) = Some (record { cap = c })
 cap_arc _ = None
 
--- the arc of a `min` line by its three numbers, LOW, CAP and COST
+-- a `min` arc has three numbers, LOW, CAP and COST
 abbrev pub cost_arc : List ℤ → Option CostArc
 cost_arc (l ∷ c ∷ k ∷ []) = Some (record { low = l; cap = c; cost = k })
 cost_arc _ = None
 
--- `sp`
+-- the arcs of `sp` graphs, which have lengths
 abbrev pub lengths : ArcKind LengthArc
 lengths = record {
   numbers = λ a. a.length ∷ [];
@@ -60,7 +60,7 @@ lengths = record {
   Differ = LengthsDiffer;
 }
 
--- `max`
+-- the arcs of `max` problems, which have capacities
 abbrev pub capacities : ArcKind CapArc
 capacities = record {
   numbers = λ a. a.cap ∷ [];
@@ -73,7 +73,7 @@ capacities = record {
   Differ = TotalsDiffer;
 }
 
--- `min`
+-- the arcs of `min` problems, which have costs
 abbrev pub costs : ArcKind CostArc
 costs = record {
   numbers = λ a. a.low ∷ a.cap ∷ a.cost ∷ [];

@@ -9,7 +9,7 @@ abbrev pub HasLength : List LengthArc → ℤ → Type 0
 HasLength [] w = ⊥
 HasLength (a ∷ rest) w = (a.length ≡ w) ⊎ HasLength rest w
 
--- w is the length of an arc, and none is shorter
+-- the least length is the length of an arc such that no arc is shorter
 pub record LeastLength (arcs : List LengthArc) (w : ℤ) : Type 0 where
   pub has : HasLength arcs w
   pub least : AllByRecursion (λ (a : LengthArc). w ≤ℤ a.length) arcs

@@ -1,22 +1,22 @@
 // Arcs without their nodes.
 ghost use Rattle.std.specs.Prelude.{◌≡◌, ℕ, ◌<◌, ℤ, List, [], ◌∷◌, length, slice_get};
 
-/// The numbers of an arc in the order of its line, after SRC and DST.
+/// An arc's numbers in the order of its line, after SRC and DST.
 pub trait Parts: Copy {
-    /// The numbers in their order.
+    /// The numbers in this order.
     ghost numbers: { Self → List ℤ };
 
-    /// How many numbers the arc has.
+    /// Returns how many numbers the arc has.
     fn len(&self) -> usize
         ensures { result ≡ length (numbers self.now) };
 
-    /// The number at `i`, counted from 0.
+    /// Returns the number at `i`, counted from 0.
     fn part(&self, i: usize) -> i64
         requires { i < length (numbers self.now) }
         ensures { slice_get (numbers self.now) i ≡ Some result };
 }
 
-/// An arc of a length (Ninth DIMACS Challenge: `a U V W`).
+/// An arc with a length (Ninth DIMACS Challenge: `a U V W`).
 #[derive(Clone, Copy, Debug, PartialEq, Eq)]
 pub struct LengthArc {
     pub length: i64,
@@ -34,7 +34,7 @@ impl Parts for LengthArc {
     }
 }
 
-/// An arc that carries at most `cap` (First DIMACS Challenge, `max`: `a SRC DST CAP`).
+/// An arc with a capacity (First DIMACS Challenge, `max`: `a SRC DST CAP`).
 #[derive(Clone, Copy, Debug, PartialEq, Eq)]
 pub struct CapArc {
     pub cap: i64,
@@ -52,8 +52,7 @@ impl Parts for CapArc {
     }
 }
 
-/// An arc that carries at least `low` and at most `cap`, at `cost` a unit (First DIMACS Challenge, `min`:
-/// `a SRC DST LOW CAP COST`).
+/// An arc with a lower bound, a capacity and a cost per unit (First DIMACS Challenge, `min`: `a SRC DST LOW CAP COST`).
 #[derive(Clone, Copy, Debug, PartialEq, Eq)]
 pub struct CostArc {
     pub low: i64,
@@ -77,11 +76,11 @@ impl Parts for CostArc {
     }
 }
 
-/// The two canonical forms, which differ for `min` alone (this project's profile).
+/// The two canonical forms, which differ only for `min` (this project's profile).
 #[derive(Clone, Copy, Debug, PartialEq, Eq)]
 pub enum Form {
-    /// Fixed arcs first, then free arcs of rising cost.
+    /// Fixed arcs come first, and then free arcs by ascending cost.
     One,
-    /// One arc a cost, of rising cost.
+    /// There is one arc for each cost, by ascending cost.
     Two,
 }

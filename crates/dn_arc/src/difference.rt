@@ -1,7 +1,7 @@
-// How the arcs of one pair differ.
+// How the arcs of one ordered pair differ in meaning.
 
-/// The least amount at which two cost curves differ, and the least cost there on each side: `None` where the amount
-/// can't be carried.
+/// The least amount at which two cost curves differ, and the least cost of this amount on each side. A cost is `None`
+/// if the amount cannot be split.
 #[derive(Clone, Copy, Debug, PartialEq, Eq)]
 pub struct Gap {
     pub amount: i64,
@@ -9,10 +9,10 @@ pub struct Gap {
     pub right: Option<i128>,
 }
 
-/// How the arcs of one pair differ in meaning.
+/// How the arcs of one ordered pair differ in meaning.
 #[derive(Clone, Copy, Debug, PartialEq, Eq)]
 pub enum How {
-    /// The least lengths, `None` where there is no arc.
+    /// The least lengths. A length is `None` if there is no arc.
     Lengths {
         left: Option<i64>,
         right: Option<i64>,
@@ -22,6 +22,6 @@ pub enum How {
         left: i64,
         right: i64,
     },
-    /// The first gap between the cost curves.
+    /// The least amount at which the cost curves differ, with both costs.
     Costs(Gap),
 }

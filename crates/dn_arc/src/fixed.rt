@@ -1,6 +1,7 @@
 // The fixed arcs of a cost curve.
 
-/// The fixed arcs of a curve: `above` units cost one more than `cost`.
+/// The fixed arcs of a cost curve: none, one arc, or two arcs. Of two arcs, the second carries `above` units at `cost`
+/// + 1.
 #[derive(Clone, Copy, Debug, PartialEq, Eq)]
 pub enum Fixed {
     Zero,

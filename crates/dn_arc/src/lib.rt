@@ -1,5 +1,6 @@
-//! Arcs without their nodes, and what the parallel arcs of one ordered pair mean: plain types, and in `specs/` the
-//! definitions over them. `proofs/` has the laws of these definitions, on which the bundles of `dn_bundle` rest.
+//! Arcs without their nodes, and what the parallel arcs of one ordered pair mean. The modules have plain types,
+//! `specs/` has the definitions over them, and `proofs/` has the laws of these definitions. The bundles of `dn_bundle`
+//! rest on these laws.
 #![tactic(auto)]
 
 pub mod arc;

@@ -1,5 +1,5 @@
--- A bundle that stands for the first arcs of a list takes the next one: it stands for one more, and either the
--- capacities so far sum to at most 2^63-1 or those of all arcs sum past it.
+-- Adding the next arc of a list to a bundle of the arcs before it: the bundle represents one more arc, and either the
+-- capacities so far sum to at most 2^63-1, or the capacities of all arcs sum to more.
 use Rattle.std.proofs.Common.{◌≡◌, ℕ, ◌+◌, ◌<◌, ◌-◌, ◌^◌, pos, ◌≤ℤ◌, ◌<ℤ◌, List, [], ◌∷◌, ◌++◌, length, take, drop, get_or, sym, ap, ◌∙◌, subst, arith, suc, zero}
 use Rattle.std.proofs.Math.Seq.{take-suc}
 use Rattle.std.proofs.lemmas.List.{take-append-drop}
@@ -9,7 +9,7 @@ use Rattle.dn_arc.specs.Kinds.{ArcKind}
 use Rattle.dn_arc.specs.State.Bundles.{IsKind}
 use Rattle.dn_arc.proofs.OrdersLaws.{same_push}
 
--- what holds of each element
+-- what holds of each element of a list holds of each element of a prefix
 all_take : {A : Type 0} (P : A → Type 0) (xs : List A) (n : ℕ) → AllByRecursion P xs → AllByRecursion P (take n xs)
 all_take P [] zero h = tt
 all_take P [] (suc n) h = tt
@@ -35,7 +35,7 @@ module _ {Arc : Type 0} (kind : ArcKind Arc) (laws : IsKind kind) where
   pub none_cap : kind.capacity [] ≤ℤ pos (2 ^ 63 - 1)
   none_cap = let e = laws.capacity_append [] [] in omega (arith, ints)
 
-  -- the arcs from the front on have no more capacity than all
+  -- a prefix of the arcs has no more capacity than all arcs
   taken_cap : (arcs : List Arc) (n : ℕ) → AllByRecursion kind.IsArc arcs → kind.capacity (take n arcs) ≤ℤ kind.capacity arcs
   taken_cap arcs n a =
       let e = sym (laws.capacity_append (take n arcs) (drop n arcs)) ∙ ap kind.capacity (take-append-drop n arcs) in
@@ -45,7 +45,7 @@ module _ {Arc : Type 0} (kind : ArcKind Arc) (laws : IsKind kind) where
   pub next_arc : (arcs : List Arc) (i : ℕ) (arc : Arc) → AllByRecursion kind.IsArc arcs → i < length arcs → arc ≡ get_or arcs i arc → kind.IsArc arc
   next_arc arcs i arc a h is = subst kind.IsArc (sym is) (all_get kind.IsArc arcs i arc h a)
 
-  -- a bundle that stands for the arcs so far, and the next arc
+  -- a bundle that represents the arcs so far, and the next arc
   module _ (arcs told : List Arc) (i : ℕ) (arc : Arc) (a : AllByRecursion kind.IsArc arcs) (h : i < length arcs) (is : arc ≡ get_or arcs i arc) (told_arcs : AllByRecursion kind.IsArc told) (same : kind.Same told (take i arcs)) where
     next_is : take (i + 1) arcs ≡ take i arcs ++ arc ∷ []
     next_is = ap (λ n. take n arcs) (let e : i + 1 ≡ suc i = omega arith in e) ∙ take-suc arcs i arc h ∙ ap (λ x. take i arcs ++ x ∷ []) (sym is)

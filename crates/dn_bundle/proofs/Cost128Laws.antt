@@ -1,4 +1,4 @@
--- What the code computes in 128 bits, a sum with a product and a quotient with its remainder, is what integers give.
+-- The sum, product, quotient and remainder that the code computes in 128 bits are those of integers.
 use Rattle.std.proofs.Common.{refl, ◌≡◌, ◌-◌, ◌^◌, sym, ap, ◌∙◌, arith, lit<, ℤ, pos, negsuc, ◌+ℤ◌, ◌*ℤ◌, ◌≤ℤ◌, ◌<ℤ◌, to_z, of_z, w64, subst}
 use borrow.Author.Gap.{read_sfits}
 use Rattle.std.proofs.lemmas.Int.{ints, to_z-of_z, fits_signed_mul}
@@ -7,7 +7,7 @@ use Rattle.std.specs.Int.RustNames.{FitsSigned}
 use Rattle.dn_arc.specs.State.Means.{IsMean, IsFloor}
 use Rattle.dn_arc.proofs.MeansLaws.{floor_of, each_fits, more_mean, cost_fits}
 
--- a number of 64 bits, as a value of 128 and back
+-- a number of 64 bits does not change in a conversion to 128 bits
 wide_fits : (x : ℤ) → FitsSigned w64 x → FitsSigned w128 x
 wide_fits x f = record { sfits = omega (arith, f.sfits) }
 
@@ -17,14 +17,14 @@ narrowed x f = ap (λ y. to_z w64 (of_z w64 y)) (to_z-of_z w128 x (wide_fits x f
 pub widened : (x : ℤ) → FitsSigned w64 x → to_z w128 (of_z w128 (to_z w64 (of_z w64 x))) ≡ x
 widened x f = ap (λ y. to_z w128 (of_z w128 y)) (to_z-of_z w64 x f) ∙ to_z-of_z w128 x (wide_fits x f)
 
--- the casts of the code lose nothing
+-- the conversions of the code lose nothing
 pub widens : (x : ℤ) → FitsSigned w128 (to_z w64 (of_z w64 x))
 widens x = wide_fits _ (read_sfits w64 (of_z w64 x))
 
 pub narrows : (x : ℤ) → FitsSigned w64 x → FitsSigned w64 (to_z w128 (of_z w128 x))
 narrows x f = subst (FitsSigned w64) (sym (to_z-of_z w128 x (wide_fits x f))) f
 
--- a divisor above 0 is not 0, and not -1
+-- a divisor above 0 is neither 0 nor -1
 bits_some : (x : ℤ) → pos 0 <ℤ x → IsNonZero w128 x
 bits_some (pos n) h = omega (arith, ints)
 bits_some (negsuc n) h = absurd (omega (arith, ints))
@@ -44,11 +44,11 @@ rest_fits cost units each (negsuc r) f h = let low = h.low in absurd (omega (ari
 pub product_fits : (units cost : ℤ) → FitsSigned w64 units → FitsSigned w64 cost → FitsSigned w128 (units *ℤ cost)
 product_fits units cost f g = fits_signed_mul w128 units cost (2 ^ 63) (2 ^ 63) (omega (arith, ints, f.sfits)) (omega (arith, ints, g.sfits)) (lit< tt)
 
--- the cost with that of more units has 128 bits
+-- the cost with that of more units fits 128 bits
 pub more_fits : (all units cost before : ℤ) → pos 0 ≤ℤ before → pos 0 ≤ℤ units → (before +ℤ units) ≤ℤ pos (2 ^ 63 - 1) → FitsSigned w64 cost → IsMean all before → FitsSigned w128 (all +ℤ (units *ℤ cost))
 more_fits all units cost before h k r f m = cost_fits _ (before +ℤ units) (omega (arith, ints)) r (more_mean all units cost before h k f m)
 
--- the range of a cost of units, and of it with that of one more unit
+-- the range of a cost of units, and of this cost with that of one more unit
 pub mean_range : (cost units : ℤ) → pos 0 ≤ℤ units → units <ℤ pos (2 ^ 63 - 1) → IsMean cost units → (negsuc (2 ^ 126 - 1) ≤ℤ cost) × (cost ≤ℤ pos (2 ^ 126))
 mean_range cost (pos u) h k m = let low = m.least in let high = m.greatest in (omega (arith, ints), omega (arith, ints))
 mean_range cost (negsuc u) h k m = absurd (omega (arith, ints))
@@ -71,7 +71,7 @@ module _ (cost unit : ℤ) (h : negsuc (2 ^ 126 - 1) ≤ℤ cost) (k : cost ≤�
   pub unit_is : to_z w128 (of_z w128 (to_z w128 (of_z w128 cost) +ℤ to_z w128 (of_z w128 (to_z w64 (of_z w64 unit))))) ≡ cost +ℤ unit
   unit_is = ap (λ z. to_z w128 (of_z w128 z)) sum_same ∙ to_z-of_z w128 (cost +ℤ unit) (with_unit_fits cost unit h k f)
 
--- a sum with a product, as the code computes it
+-- the sum with a product that the code computes
 module _ (all units cost : ℤ) (fa : FitsSigned w128 all) (fu : FitsSigned w64 units) (fc : FitsSigned w64 cost) (fs : FitsSigned w128 (all +ℤ (units *ℤ cost))) where
   pub operands_fit : FitsSigned w128 (to_z w128 (of_z w128 all) +ℤ to_z w128 (of_z w128 (to_z w128 (of_z w128 (to_z w64 (of_z w64 units))) *ℤ to_z w128 (of_z w128 (to_z w64 (of_z w64 cost))))))
   operands_fit = rw (widened units fu, widened cost fc, to_z-of_z w128 all fa, to_z-of_z w128 (units *ℤ cost) (product_fits units cost fu fc)) fs
@@ -79,7 +79,7 @@ module _ (all units cost : ℤ) (fa : FitsSigned w128 all) (fu : FitsSigned w64 
   pub sum_is : to_z w128 (of_z w128 (to_z w128 (of_z w128 all) +ℤ to_z w128 (of_z w128 (to_z w128 (of_z w128 (to_z w64 (of_z w64 units))) *ℤ to_z w128 (of_z w128 (to_z w64 (of_z w64 cost))))))) ≡ all +ℤ (units *ℤ cost)
   sum_is = rw (widened units fu, widened cost fc, to_z-of_z w128 all fa, to_z-of_z w128 (units *ℤ cost) (product_fits units cost fu fc), to_z-of_z w128 (all +ℤ (units *ℤ cost)) fs) refl
 
--- a quotient and a remainder, as the code computes them
+-- the quotient and the remainder that the code computes
 module _ (cost units each : ℤ) (fa : FitsSigned w128 cost) (fu : FitsSigned w64 units) (h : pos 0 <ℤ units) (m : IsMean cost units) (e : each ≡ int_div_euclid (to_z w128 (of_z w128 cost)) (to_z w128 (of_z w128 (to_z w64 (of_z w64 units))))) where
   each_is : each ≡ int_div_euclid cost units
   each_is = e ∙ ap (λ a. int_div_euclid a (to_z w128 (of_z w128 (to_z w64 (of_z w64 units))))) (to_z-of_z w128 cost fa) ∙ ap (int_div_euclid cost) (widened units fu)

@@ -1,5 +1,5 @@
--- What a curve tells in form 1: fixed arcs, the ones with LOW above 0, then its steps; how many entries it comes to;
--- and that it means what no arcs mean exactly where its capacity is 0.
+-- The arcs that a curve lists in form 1 are its fixed arcs, whose LOW is above 0, and then the arcs of its breakpoints.
+-- They determine how many entries the curve makes. The curve means the same as no arcs exactly if its capacity is 0.
 use Rattle.std.proofs.Common.{◌≡◌, ℕ, ◌+◌, ℤ, pos, ◌+ℤ◌, ◌<ℤ◌, List, [], ◌∷◌, ◌++◌, map, filter, length, refl, sym, ap, ◌∙◌, subst, arith, w64, of_z, cond, not, nat_eq}
 use Rattle.std.specs.Bool.{IsTrue}
 use Rattle.std.specs.Int.RustNames.{FitsSigned, int_lt}
@@ -27,7 +27,7 @@ steps_free : (steps : List (ℤ × ℤ)) → filter is_free (map step_arc steps)
 steps_free [] = refl
 steps_free (step ∷ rest) = ap (λ l. step_arc step ∷ l) (steps_free rest)
 
--- fixed arcs, then steps: the arcs with LOW above 0, and the others
+-- of fixed arcs and the arcs of breakpoints, the fixed arcs are those with LOW above 0
 record AreApart (fixed : List CostArc) (steps : List (ℤ × ℤ)) : Type 0 where
   low : filter has_low (fixed ++ map step_arc steps) ≡ fixed
   free : filter is_free (fixed ++ map step_arc steps) ≡ map step_arc steps
@@ -47,7 +47,7 @@ put_first : (step : ℤ × ℤ) (rest : List (ℤ × ℤ)) → AllByRecursion (�
 put_first step [] h = refl
 put_first step (other ∷ rest) h = ap (λ b. cond b (step ∷ other ∷ rest) (cond (int_lt other.0 step.0) (other ∷ put_step rest step) ((other.0, other.1 +ℤ step.1) ∷ rest))) (test_yes step.0 other.0 h.0)
 
--- the steps of arcs are those that they came from
+-- the breakpoints of the arcs of breakpoints are the breakpoints themselves
 steps_back : (steps : List (ℤ × ℤ)) → AreSteps steps → arc_steps (map step_arc steps) ≡ steps
 steps_back [] s = refl
 steps_back (step ∷ rest) s =
@@ -63,23 +63,23 @@ fixed_back (a ∷ fixed) steps f =
     let full = f.0.full in
     ap (λ b. cond b (put_step (arc_steps (fixed ++ map step_arc steps)) (a.cost, room a)) (arc_steps (fixed ++ map step_arc steps))) (test_no a.low a.cap (omega (arith, ints))) ∙ fixed_back fixed steps f.1
 
--- a curve's fields
+-- the numbers of a curve
 module _ (units cost total : ℤ) (steps : List (ℤ × ℤ)) (s : IsSound units cost total steps) where
   both : AreApart (fixed_arcs units cost) steps
   both = apart (fixed_arcs units cost) steps (carried units cost steps s.some (none_is units cost total steps s) s.rising).are.each
 
-  -- the arcs with LOW above 0 are the fixed ones
+  -- the arcs with LOW above 0 are the fixed arcs
   pub low_arcs : filter has_low (told One units cost steps) ≡ fixed_arcs units cost
   low_arcs = both.low
 
-  -- the others are the steps
+  -- the arcs with LOW 0 are the arcs of the breakpoints
   pub free_arcs : filter is_free (told One units cost steps) ≡ map step_arc steps
   free_arcs = both.free
 
   steps_told : arc_steps (told One units cost steps) ≡ steps
   steps_told = let c = carried units cost steps s.some (none_is units cost total steps s) s.rising in fixed_back (fixed_arcs units cost) steps c.are.each ∙ steps_back steps s.rising
 
-  -- the costs with free capacity are those of the steps
+  -- the costs with free capacity are those of the breakpoints
   pub costs_told : length (free_costs (told One units cost steps)) ≡ length steps
   costs_told = count_costs (told One units cost steps) ∙ ap length steps_told
 
@@ -106,7 +106,7 @@ module _ (units cost total : ℤ) (steps : List (ℤ × ℤ)) (s : IsSound units
   nothing_back : SameCurve (told One units cost steps) [] → total ≡ pos 0
   nothing_back m = sym (sound_cap units cost total steps s One) ∙ cost_cap_same (told One units cost steps) [] (sound_arcs units cost total steps s One) tt m
 
-  -- a curve is nothing exactly where its capacity is 0
+  -- a curve means the same as no arcs exactly if its capacity is 0
   pub nothing_is : FitsSigned w64 total → (IsTrue (nat_eq (of_z w64 total) 0) → SameCurve (told One units cost steps) []) × (SameCurve (told One units cost steps) [] → IsTrue (nat_eq (of_z w64 total) 0))
   nothing_is f = ((λ t. nothing_there (is_zero total f (test_zero _ t))), (λ m. zero_test _ (ap (of_z w64) (nothing_back m))))
     where

@@ -1,4 +1,5 @@
--- The fixed arcs that the code makes of the quotient and the remainder of the forced cost are those of the definition.
+-- The fixed arcs that the code makes from the quotient and the remainder of the forced cost are those of the
+-- definition.
 use Rattle.std.proofs.Common.{◌≡◌, ℤ, pos, negsuc, ◌+ℤ◌, ◌-ℤ◌, ◌≤ℤ◌, ◌<ℤ◌, [], ◌∷◌, ◌-◌, ◌^◌, refl, sym, ap, ◌∙◌, subst, arith, w64, to_z, of_z, cond}
 use Rattle.std.specs.Int.RustNames.{FitsSigned}
 use Rattle.std.proofs.lemmas.Int.{ints, to_z-of_z}
@@ -9,7 +10,7 @@ use Rattle.dn_arc.proofs.FormOneLaws.{fixed_same}
 use Rattle.dn_arc.proofs.PartsLaws.{test_yes, test_no}
 use Rattle.dn_arc.proofs.ToldLaws.{spread_carries, fixed_carries}
 
--- the units spread by their cost for each are the fixed arcs
+-- the quotient and the remainder of the cost determine the fixed arcs
 floor_arcs : (units cost each rest : ℤ) → pos 0 <ℤ units → IsFloor cost units each rest → spread_arcs units each rest ≡ fixed_arcs units cost
 floor_arcs units cost each rest h f =
     let a = spread_carries units each rest cost h f in
@@ -28,11 +29,11 @@ fits_less (pos u) (pos r) f h g = fits_some ((pos u) -ℤ (pos r)) (omega (arith
 fits_less (negsuc u) rest f h g = absurd (omega (arith, ints))
 fits_less (pos u) (negsuc r) f h g = absurd (omega (arith, ints))
 
--- of no units there are no fixed arcs
+-- without forced units there are no fixed arcs
 pub none_fixed : (units cost : ℤ) → FitsSigned w64 units → of_z w64 units ≡ 0 → [] ≡ fixed_arcs units cost
 none_fixed units cost f h = subst (λ z. [] ≡ fixed_arcs z cost) (sym (is_zero units f h)) refl
 
--- the fixed arcs, as the code makes them
+-- the fixed arcs that the code makes
 module _ (units cost each rest : ℤ) (fu : FitsSigned w64 units) (fe : FitsSigned w64 each) (fr : FitsSigned w64 rest) (some : pos 0 ≤ℤ units) (nonzero : of_z w64 units ≡ 0 → ⊥) (f : IsFloor cost units each rest) where
   lower_fits : FitsSigned w64 (units -ℤ rest)
   lower_fits = fits_less units rest fu f.low f.high
@@ -40,11 +41,11 @@ module _ (units cost each rest : ℤ) (fu : FitsSigned w64 units) (fe : FitsSign
   lower_is : to_z w64 (of_z w64 units) -ℤ to_z w64 (of_z w64 rest) ≡ units -ℤ rest
   lower_is = rw (to_z-of_z w64 units fu, to_z-of_z w64 rest fr) refl
 
-  -- the units at the lower cost
+  -- the count of units at the lower cost fits 64 bits
   pub less_fits : FitsSigned w64 (to_z w64 (of_z w64 units) -ℤ to_z w64 (of_z w64 rest))
   less_fits = subst (FitsSigned w64) (sym lower_is) lower_fits
 
-  -- one more than the lower cost
+  -- the lower cost plus one fits 64 bits
   pub each_below : IsMean cost units → (of_z w64 rest ≡ 0 → ⊥) → to_z w64 (of_z w64 each) <ℤ pos (2 ^ 63 - 1)
   each_below m z = rw (to_z-of_z w64 each fe) (each_next cost units each rest m f (not_zero rest fr z f.low))
 

@@ -1,5 +1,5 @@
--- The first canonical arc of a curve and the one after each, in form 1 and in form 2, by its fixed arcs and its steps;
--- where an arc and a step join, their capacity fits.
+-- The first canonical arc of a curve and the arc after each, in form 1 and in form 2, by its fixed arcs and its
+-- breakpoints. If a fixed arc and a breakpoint make one arc, its capacity fits 64 bits.
 use Rattle.std.proofs.Common.{◌≡◌, ℕ, suc, zero, ◌+◌, ◌-◌, ◌^◌, ◌≤◌, ℤ, pos, ◌+ℤ◌, ◌≤ℤ◌, ◌<ℤ◌, Bool, true, false, List, [], ◌∷◌, ◌++◌, map, find, slice_get, Option, Some, None, refl, sym, ap, ◌∙◌, subst, arith, cond, w64, to_z, of_z}
 use Rattle.std.specs.Int.RustNames.{FitsSigned, int_lt}
 use Rattle.std.specs.List.{AllByRecursion}
@@ -21,7 +21,7 @@ use Rattle.dn_arc.proofs.ToldLaws.{Carries, carried, told_two}
 use Rattle.dn_arc.proofs.SoundLaws.{none_is}
 use Rattle.dn_bundle.proofs.StepLaws.{less, not_less, next_is}
 
--- the first arc past a cost
+-- the first arc above a cost
 abbrev pub arc_past : ℤ → List CostArc → Option CostArc
 arc_past c arcs = find (λ (b : CostArc). int_lt c b.cost) arcs
 
@@ -31,14 +31,14 @@ past_yes c a rest h = ap (λ t. cond t (Some a) (arc_past c rest)) (test_yes c a
 past_no : (c : ℤ) (a : CostArc) (rest : List CostArc) → a.cost ≤ℤ c → arc_past c (a ∷ rest) ≡ arc_past c rest
 past_no c a rest h = ap (λ t. cond t (Some a) (arc_past c rest)) (test_no c a.cost h)
 
--- a fixed arc, as the code makes it
+-- the fixed arc that the code makes
 abbrev pub made_arc : ℤ → ℤ → CostArc
 made_arc units cost = fixed_arc (to_z w64 (of_z w64 units)) (to_z w64 (of_z w64 cost))
 
 made_is : (units cost : ℤ) → FitsSigned w64 units → FitsSigned w64 cost → made_arc units cost ≡ fixed_arc units cost
 made_is units cost f g = ap (λ z. fixed_arc z (to_z w64 (of_z w64 cost))) (to_z-of_z w64 units f) ∙ ap (fixed_arc units) (to_z-of_z w64 cost g)
 
--- the first fixed arc past a cost, by the tests that the code makes
+-- the first fixed arc above a cost, by the comparisons of the code
 module _ (c cost : ℤ) (f : FitsSigned w64 c) (fc : FitsSigned w64 cost) where
   pub past_first : (units : ℤ) (rest arcs : List CostArc) → fixed_arc units cost ∷ rest ≡ arcs → int_lt (to_z w64 (of_z w64 c)) (to_z w64 (of_z w64 cost)) ≡ true → FitsSigned w64 units → Some (made_arc units cost) ≡ arc_past c arcs
   past_first units rest arcs e h fu = ap Some (made_is units cost fu fc) ∙ sym (past_yes c (fixed_arc units cost) rest (less c cost f fc h)) ∙ ap (arc_past c) e
@@ -63,7 +63,7 @@ module _ (c cost : ℤ) (f : FitsSigned w64 c) (fc : FitsSigned w64 cost) where
         let up : cost <ℤ c = by_lt_z cost c (λ lt. lt) (λ ge. absurd (n (ap (of_z w64) (let at : c ≡ cost = omega (arith, ints) in at)))) in
         sym (past_no c (fixed_arc above (cost +ℤ pos 1)) [] (omega (arith, ints))) ∙ past_lower
 
--- the arcs of steps
+-- the first arc of breakpoints above a cost
 pub past_steps : (steps : List (ℤ × ℤ)) (c : ℤ) → arc_past c (map step_arc steps) ≡ option_map step_arc (step_past steps c)
 past_steps [] c = refl
 past_steps (step ∷ rest) c = elim (int_lt c step.0) as (λ v. cond v (Some (step_arc step)) (arc_past c (map step_arc rest)) ≡ option_map step_arc (cond v (Some step) (step_past rest c))) [ true ↦ refl | false ↦ past_steps rest c ]
@@ -72,13 +72,13 @@ pub first_step : (steps : List (ℤ × ℤ)) → slice_get (map step_arc steps) 
 first_step [] = refl
 first_step (step ∷ rest) = refl
 
--- a free arc adds nothing to LOW
+-- joining a free arc adds nothing to LOW
 none_more : (a : CostArc) (step : ℤ × ℤ) → joined a (step_arc step) ≡ record { low = a.low; cap = a.cap +ℤ step.1; cost = step.0 }
 none_more a step =
     let with_low : ℤ → CostArc = λ z. record { low = z; cap = a.cap +ℤ step.1; cost = step.0 } in
     ap with_low (let e : a.low +ℤ pos 0 ≡ a.low = omega (arith, ints) in e)
 
--- where a joined arc stands
+-- the place of a fixed arc that is inserted
 module _ (a b : CostArc) (rest : List CostArc) where
   abbrev tests : Bool → Bool → List CostArc
   tests s t = cond s (a ∷ b ∷ rest) (cond t (b ∷ join_arc a rest) (joined a b ∷ rest))
@@ -111,7 +111,7 @@ module _ (a b : CostArc) where
       let ge : a.cost ≤ℤ b.cost = omega (arith, ints) in
       ap (λ s. heads s (int_lt a.cost b.cost)) (test_no b.cost a.cost ge) ∙ ap (heads false) (test_no a.cost b.cost le)
 
--- the first of a fixed arc and the free capacity, by the tests that the code makes
+-- the first of a fixed arc and the free capacity, by the comparisons of the code
 module _ (a : CostArc) (free : Option (ℤ × ℤ)) (step : ℤ × ℤ) (is : free ≡ Some step) (fa : FitsSigned w64 a.cost) (fs : FitsSigned w64 step.0) where
   head_is : (b : CostArc) → joined_head a (Some (step_arc step)) ≡ b → b ≡ joined_head a (option_map step_arc free)
   head_is b e = sym (ap (λ o. joined_head a (option_map step_arc o)) is ∙ e)
@@ -145,7 +145,7 @@ join_first a (b ∷ rest) =
     (λ eq. ap (λ l. slice_get l 0) (join_at a b rest eq) ∙ sym (ap Some (head_at a b eq)))
     (λ gt. ap (λ l. slice_get l 0) (join_past a b rest gt) ∙ sym (ap Some (head_past a b gt)))
 
--- past a cost below the arc's
+-- the first arc above a cost that is below the inserted arc's
 find_join : (c : ℤ) (a : CostArc) (arcs : List CostArc) → c <ℤ a.cost → arc_past c (join_arc a arcs) ≡ Some (joined_head a (arc_past c arcs))
 find_join c a [] h = past_yes c a [] h
 find_join c a (b ∷ rest) h =
@@ -162,7 +162,7 @@ find_join c a (b ∷ rest) h =
     (λ up. past_yes c b (join_arc a rest) up ∙ sym (ap (λ o. Some (joined_head a o)) (past_yes c b rest up) ∙ ap Some (head_past a b gt)))
     (λ le. past_no c b (join_arc a rest) le ∙ find_join c a rest h ∙ sym (ap (λ o. Some (joined_head a o)) (past_no c b rest le))))
 
--- past the arc's cost
+-- the first arc above a cost that is not below the inserted arc's
 find_past : (c : ℤ) (a : CostArc) (arcs : List CostArc) → a.cost ≤ℤ c → arc_past c (join_arc a arcs) ≡ arc_past c arcs
 find_past c a [] h = past_no c a [] h
 find_past c a (b ∷ rest) h =
@@ -175,7 +175,7 @@ find_past c a (b ∷ rest) h =
     let le : b.cost ≤ℤ c = omega (arith, ints) in
     ap (arc_past c) (join_past a b rest gt) ∙ past_no c b (join_arc a rest) le ∙ find_past c a rest h ∙ sym (past_no c b rest le))
 
--- an arc of a higher cost does not come first
+-- inserting an arc of a higher cost does not change the first arc
 two_heads : (a b : CostArc) (o : Option CostArc) → a.cost <ℤ b.cost → joined_head a (Some (joined_head b o)) ≡ joined_head a o
 two_heads a b None h = head_before a b h
 two_heads a b (Some d) h =
@@ -184,7 +184,7 @@ two_heads a b (Some d) h =
     (λ eq. let up : a.cost <ℤ d.cost = omega (arith, ints) in ap (λ x. joined_head a (Some x)) (head_at b d eq) ∙ head_before a (joined b d) up ∙ sym (head_before a d up))
     (λ gt. ap (λ x. joined_head a (Some x)) (head_past b d gt))
 
--- the first of a fixed arc, if there is one, and the free ones
+-- the first of a fixed arc, if there is one, and the free arcs
 abbrev pub first_joined : Option CostArc → Option CostArc → Option CostArc
 first_joined None free = free
 first_joined (Some fixed) free = Some (joined_head fixed free)
@@ -219,7 +219,7 @@ joined_past c (a ∷ b ∷ []) free f =
     (λ past. find_past c b free past ∙ sym (ap (λ o. first_joined o (arc_past c free)) (past_no c a (b ∷ []) le ∙ past_no c b [] past))))
 joined_past c (a ∷ b ∷ d ∷ rest) free f = absurd f.near
 
--- the arc after a place of a rising list
+-- the first arc above a cost that is below all arcs
 none_past : (c : ℤ) (arcs : List CostArc) → AreAbove c arcs → arc_past c arcs ≡ slice_get arcs 0
 none_past c [] h = refl
 none_past c (a ∷ rest) h = past_yes c a rest h.0
@@ -228,7 +228,7 @@ abbrev Holds : {X : Type 0} → (X → Type 0) → Option X → Type 0
 Holds P None = Unit {0}
 Holds P (Some x) = P x
 
--- what holds of each holds of the one at a place, and of one that is found
+-- what holds of each element holds of the one at a position, and of one that is found
 get_holds : {X : Type 0} (P : X → Type 0) (xs : List X) (i : ℕ) (x : X) → AllByRecursion P xs → slice_get xs i ≡ Some x → P x
 get_holds P [] i x h e = cc
 get_holds P (y ∷ ys) zero x h e = subst (Holds P) e h.0
@@ -244,7 +244,7 @@ find_holds P test xs x h e = subst (Holds P) e (among xs h)
 some_same : (a b : CostArc) → Some a ≡ Some b → a ≡ b
 some_same a b e = ap (λ (o : Option CostArc). unwrap_or o a) e
 
--- past an arc's cost stands the arc after it
+-- the first arc above the cost of an arc is the arc after it
 pub after_place : (arcs : List CostArc) (i : ℕ) (a : CostArc) → AreRising arcs → slice_get arcs i ≡ Some a → arc_past a.cost arcs ≡ slice_get arcs (suc i)
 after_place [] i a r e = cc
 after_place (b ∷ rest) zero a r e =
@@ -254,13 +254,13 @@ after_place (b ∷ rest) (suc i) a r e =
     let lt = get_holds (λ (d : CostArc). b.cost <ℤ d.cost) rest i a r.0 e in
     past_no a.cost b rest (omega (arith, ints)) ∙ after_place rest i a r.1 e
 
--- after a free arc: the next free one
+-- the arc after a free arc is the next free arc
 pub after_free : (fixed free : List CostArc) (i : ℕ) (a : CostArc) → AllByRecursion IsFixedArc fixed → AreRising free → a.low ≡ pos 0 → slice_get (fixed ++ free) i ≡ Some a → arc_past a.cost free ≡ slice_get (fixed ++ free) (suc i)
 after_free [] free i a f r z e = after_place free i a r e
 after_free (b ∷ fixed) free zero a f r z e = let low = subst (Holds (λ (d : CostArc). pos 1 ≤ℤ d.low)) e f.0.some in absurd (omega (arith, ints))
 after_free (b ∷ fixed) free (suc i) a f r z e = after_free fixed free i a f.1 r z e
 
--- the first of two
+-- the first option, or else the second
 abbrev pub or_first : Option CostArc → Option CostArc → Option CostArc
 or_first None o = o
 or_first (Some a) o = Some a
@@ -269,13 +269,13 @@ first_of_both : (fixed free : List CostArc) → or_first (slice_get fixed 0) (sl
 first_of_both [] free = refl
 first_of_both (a ∷ rest) free = refl
 
--- an arc with LOW above 0 is a fixed one
+-- an arc with LOW above 0 is a fixed arc
 fixed_place : (c : ℤ) (fixed free : List CostArc) (i : ℕ) (a : CostArc) → AreAbove c fixed → AllByRecursion (λ (b : CostArc). b.low ≡ pos 0) free → (a.low ≡ pos 0 → ⊥) → slice_get (fixed ++ free) i ≡ Some a → c <ℤ a.cost
 fixed_place c [] free i a h n z e = absurd (z (get_holds (λ (b : CostArc). b.low ≡ pos 0) free i a n e))
 fixed_place c (b ∷ fixed) free zero a h n z e = subst (Holds (λ (d : CostArc). c <ℤ d.cost)) e h.0
 fixed_place c (b ∷ fixed) free (suc i) a h n z e = fixed_place c fixed free i a h.1 n z e
 
--- after a fixed arc: the next fixed one, or the first free one
+-- the arc after a fixed arc is the next fixed arc, or else the first free arc
 pub after_fixed : (fixed free : List CostArc) (i : ℕ) (a : CostArc) → AreRising fixed → AllByRecursion (λ (b : CostArc). b.low ≡ pos 0) free → (a.low ≡ pos 0 → ⊥) → slice_get (fixed ++ free) i ≡ Some a → or_first (arc_past a.cost fixed) (slice_get free 0) ≡ slice_get (fixed ++ free) (suc i)
 after_fixed [] free i a r n z e = absurd (z (get_holds (λ (b : CostArc). b.low ≡ pos 0) free i a n e))
 after_fixed (b ∷ fixed) free zero a r n z e =
@@ -299,7 +299,7 @@ fixed_rises (a ∷ b ∷ c ∷ rest) n = absurd n
 at_next : (arcs : List CostArc) (i : ℕ) → slice_get arcs (suc i) ≡ slice_get arcs (i + 1)
 at_next arcs i = ap (slice_get arcs) (let e : suc i ≡ i + 1 = omega arith in e)
 
--- no fixed arc carries more than the units
+-- a part is at least 0 and at most the whole
 abbrev IsPart : ℤ → ℤ → Type 0
 IsPart whole part = (pos 0 ≤ℤ part) × (part ≤ℤ whole)
 
@@ -315,7 +315,7 @@ fixed_parts units (a ∷ rest) f h =
     let left = units_some rest f.1 in
     ((omega (arith, ints), omega (arith, ints)), fixed_parts units rest f.1 (omega (arith, ints)))
 
--- and no step more than all
+-- no breakpoint has more capacity than all together
 step_parts : (most : ℤ) (steps : List (ℤ × ℤ)) → AreSteps steps → steps_room steps ≤ℤ most → AllByRecursion (λ (step : ℤ × ℤ). IsPart most step.1) steps
 step_parts most [] s h = tt
 step_parts most (step ∷ rest) s h =
@@ -323,7 +323,7 @@ step_parts most (step ∷ rest) s h =
     let left = steps_some rest s.2 in
     ((omega (arith, ints), omega (arith, ints)), step_parts most rest s.2 (omega (arith, ints)))
 
--- a curve's fields
+-- the numbers of a curve
 module _ (units cost total : ℤ) (steps : List (ℤ × ℤ)) (s : IsSound units cost total steps) where
   is : Carries (fixed_arcs units cost) units cost
   is = carried units cost steps s.some (none_is units cost total steps s) s.rising
@@ -365,14 +365,14 @@ module _ (units cost total : ℤ) (steps : List (ℤ × ℤ)) (s : IsSound units
       let most = s.most in
       fits_some (fixed.cap +ℤ step.1) (omega (arith, ints)) (omega (arith, ints))
 
-  -- a fixed arc's capacity with that of a step
+  -- the sum of the capacities of a fixed arc and a breakpoint fits 64 bits
   pub first_fits : (fixed : CostArc) (step : ℤ × ℤ) → slice_get (fixed_arcs units cost) 0 ≡ Some fixed → slice_get steps 0 ≡ Some step → FitsSigned w64 (fixed.cap +ℤ step.1)
   first_fits fixed step e f = sum_fits fixed step (get_holds (λ (b : CostArc). IsPart units b.cap) (fixed_arcs units cost) 0 fixed fixed_are e) (get_holds (λ (step : ℤ × ℤ). IsPart (steps_room steps) step.1) steps 0 step steps_are f)
 
   pub past_fits : (c : ℤ) (fixed : CostArc) (step : ℤ × ℤ) → arc_past c (fixed_arcs units cost) ≡ Some fixed → step_past steps c ≡ Some step → FitsSigned w64 (fixed.cap +ℤ step.1)
   past_fits c fixed step e f = sum_fits fixed step (find_holds (λ (b : CostArc). IsPart units b.cap) (λ (b : CostArc). int_lt c b.cost) (fixed_arcs units cost) fixed fixed_are e) (find_holds (λ (step : ℤ × ℤ). IsPart (steps_room steps) step.1) (λ (step : ℤ × ℤ). int_lt c step.0) steps step steps_are f)
 
--- past the end of a list nothing stands
+-- a position beyond the end of a list has no element
 pub none_from : {X : Type 0} (xs : List X) (j i : ℕ) → slice_get xs j ≡ None → j ≤ i → slice_get xs i ≡ None
 none_from [] j i e h = refl
 none_from (x ∷ xs) zero i e h = cc

@@ -1,4 +1,5 @@
--- The search for the first gap as the code makes it: each step leaves the same first gap to find, and its numbers fit.
+-- The search for the first gap in the code: each turn of its loop leaves the same first gap to find, and its numbers
+-- fit.
 use Rattle.std.proofs.Common.{◌≡◌, ◌-◌, ◌^◌, ℤ, pos, ◌+ℤ◌, ◌*ℤ◌, ◌≤ℤ◌, ◌<ℤ◌, ◌<◌, List, [], ◌∷◌, length, Option, None, Some, Bool, cond, true, false, ◌&&◌, not, slice_get, refl, sym, ap, ◌∙◌, subst, arith, to_z, of_z, w64}
 use Rattle.std.specs.Int.{w128}
 use Rattle.std.specs.Int.RustNames.{FitsSigned, int_lt}
@@ -16,7 +17,7 @@ use Rattle.dn_arc.proofs.StepArcsLaws.{steps_some}
 use Rattle.dn_bundle.proofs.Cost128Laws.{more_fits}
 use Rattle.dn_bundle.proofs.StepLaws.{less, not_less, next_fits, next_is}
 
--- one unit further, as the code computes it
+-- the amount plus one, as the code computes it
 module _ (amount : ℤ) (some : pos 0 ≤ℤ amount) (most : amount <ℤ pos (2 ^ 63 - 1)) where
   now_fits : FitsSigned w64 amount
   now_fits = fits_some amount some (omega (arith, ints))
@@ -29,7 +30,7 @@ module _ (amount : ℤ) (some : pos 0 ≤ℤ amount) (most : amount <ℤ pos (2 
       let gap : ℤ → Option ℤ → Option ℤ → Gap = λ z l r. record { amount = z; left = l; right = r } in
       ap (λ z. gap z l r) (next_is amount now_fits most) ∙ ap (λ o. gap (amount +ℤ pos 1) o r) e ∙ ap (gap (amount +ℤ pos 1) (unit_cost cost left)) f
 
--- an amount with the capacity of a step, as the code computes it
+-- the amount plus the capacity of a breakpoint, as the code computes it
 module _ (amount cost : ℤ) (step : ℤ × ℤ) (some : pos 0 ≤ℤ amount) (room : pos 1 ≤ℤ step.1) (most : (amount +ℤ step.1) <ℤ pos (2 ^ 63 - 1)) where
   amount_fits : FitsSigned w64 amount
   amount_fits = fits_some amount some (omega (arith, ints))
@@ -72,7 +73,7 @@ eq_yes x y h = grind (arith, ints)
 eq_no : (x y : ℤ) → (x ≡ y → ⊥) → int_eq x y ≡ false
 eq_no x y h = grind (arith, ints)
 
--- the gap at two steps, by the tests that the code makes
+-- the gap at two breakpoints that differ, by the comparisons of the code
 module _ (amount cost : ℤ) (l r : ℤ × ℤ) (p : ArePart amount cost l r) where
   pub part_now : amount <ℤ pos (2 ^ 63 - 1)
   part_now = let room = p.left_room in let most = p.left_most in omega (arith, ints)
@@ -96,7 +97,7 @@ module _ (amount cost : ℤ) (l r : ℤ × ℤ) (p : ArePart amount cost l r) wh
     same_cost : l.0 ≡ r.0
     same_cost = sym (to_z-of_z w64 l.0 fl) ∙ ap (to_z w64) same ∙ to_z-of_z w64 r.0 fr
 
-    -- the left step ends first
+    -- the left breakpoint has less capacity
     module _ (h : int_lt (to_z w64 (of_z w64 l.1)) (to_z w64 (of_z w64 r.1)) ≡ true) where
       pub left_part_most : (amount +ℤ l.1) <ℤ pos (2 ^ 63 - 1)
       left_part_most = let lt = less l.1 r.1 left_room_fits right_room_fits h in let most = p.right_most in omega (arith, ints)
@@ -104,7 +105,7 @@ module _ (amount cost : ℤ) (l r : ℤ × ℤ) (p : ArePart amount cost l r) wh
       pub left_part : (left right : Option (ℤ × ℤ)) → gap_next (amount +ℤ l.1) (cost +ℤ (l.1 *ℤ l.0)) left (Some r) ≡ parted amount cost l r left right
       left_part left right = sym (ap (by_costs left right) (eq_yes l.0 r.0 same_cost) ∙ ap (by_rooms left right) (test_yes l.1 r.1 (less l.1 r.1 left_room_fits right_room_fits h)))
 
-    -- the right step ends first
+    -- the right breakpoint does not have more capacity than the left
     module _ (h : int_lt (to_z w64 (of_z w64 l.1)) (to_z w64 (of_z w64 r.1)) ≡ false) where
       pub right_part_most : (amount +ℤ r.1) <ℤ pos (2 ^ 63 - 1)
       right_part_most =
@@ -115,11 +116,11 @@ module _ (amount cost : ℤ) (l r : ℤ × ℤ) (p : ArePart amount cost l r) wh
       pub right_part : (left right : Option (ℤ × ℤ)) → gap_next (amount +ℤ r.1) (cost +ℤ (r.1 *ℤ r.0)) (Some l) right ≡ parted amount cost l r left right
       right_part left right = sym (ap (by_costs left right) (eq_yes l.0 r.0 same_cost) ∙ ap (by_rooms left right) (test_no l.1 r.1 (not_less l.1 r.1 left_room_fits right_room_fits h)))
 
--- whether two steps are the same
+-- whether two breakpoints are the same
 abbrev pub same_steps : ℤ × ℤ → ℤ × ℤ → Bool
 same_steps l r = int_eq l.0 r.0 && int_eq l.1 r.1
 
--- a step on the left
+-- the next breakpoint on the left
 module _ (amount cost : ℤ) (left right rest : List (ℤ × ℤ)) (l : ℤ × ℤ) (w : AreWalks amount cost left right) (e : left ≡ l ∷ rest) where
   left_steps : AreSteps (l ∷ rest)
   left_steps = subst AreSteps e w.left_rising
@@ -136,7 +137,7 @@ module _ (amount cost : ℤ) (left right rest : List (ℤ × ℤ)) (l : ℤ × �
   pub left_cost_fits : FitsSigned w64 l.0 → FitsSigned w128 (cost +ℤ (l.1 *ℤ l.0))
   left_cost_fits f = let h = left_whole in let some = left_steps.0 in let more = steps_some rest left_steps.2 in more_fits cost l.1 l.0 amount w.some (omega (arith, ints)) (omega (arith, ints)) f w.mean
 
--- a step on the right
+-- the next breakpoint on the right
 pub right_now : (amount cost : ℤ) (left right rest : List (ℤ × ℤ)) (r : ℤ × ℤ) → AreWalks amount cost left right → right ≡ r ∷ rest → amount <ℤ pos (2 ^ 63 - 1)
 right_now amount cost left right rest r w e =
     let s = subst AreSteps e w.right_rising in
@@ -145,7 +146,7 @@ right_now amount cost left right rest r w e =
     let h = subst (λ z. (amount +ℤ steps_room z) ≤ℤ pos (2 ^ 63 - 1)) e w.right_most in
     omega (arith, ints)
 
--- a step on each side
+-- the next breakpoint on each side
 module _ (amount cost : ℤ) (left right lrest rrest : List (ℤ × ℤ)) (l r : ℤ × ℤ) (w : AreWalks amount cost left right) (el : left ≡ l ∷ lrest) (er : right ≡ r ∷ rrest) where
   both : AreWalks amount cost (l ∷ lrest) (r ∷ rrest)
   both = subst (λ z. AreWalks amount cost z (r ∷ rrest)) el (subst (AreWalks amount cost left) er w)
@@ -196,17 +197,17 @@ module _ (amount cost : ℤ) (left right lrest rrest : List (ℤ × ℤ)) (l r :
         right_most = omega (arith, ints);
       }
 
--- what a call of an iterator gives is the first of what was left
+-- an iterator returns the first of the remaining elements
 pub first_left : {A : Type 0} (rest left : List A) (first : Option A) → YieldsFirst (λ s. s) rest first left → first ≡ slice_get rest 0
 first_left rest left None y = sym (ap (λ l. slice_get l 0) y.0)
 first_left rest left (Some x) y = sym (ap (λ l. slice_get l 0) y)
 
--- steps on both sides that are left, and what the search for a gap began with
+-- the remaining breakpoints have the same first gap as the breakpoints that the search began with
 pub record IsWalk (amount cost : ℤ) (left right : List (ℤ × ℤ)) (amount' cost' : ℤ) (left' right' : List (ℤ × ℤ)) : Type 0 where
   pub same : first_gap amount' cost' left' right' ≡ first_gap amount cost left right
   pub walks : AreWalks amount' cost' left' right'
 
--- what the search begins with, as the code holds it
+-- the search begins with these numbers, as the code stores them
 module _ (amount cost : ℤ) (fa : FitsSigned w64 amount) (fc : FitsSigned w128 cost) (left right : List (ℤ × ℤ)) where
   pub entry_is : first_gap (to_z w64 (of_z w64 amount)) (to_z w128 (of_z w128 cost)) left right ≡ first_gap amount cost left right
   entry_is = ap (λ z. first_gap z (to_z w128 (of_z w128 cost)) left right) (to_z-of_z w64 amount fa) ∙ ap (λ z. first_gap amount z left right) (to_z-of_z w128 cost fc)
@@ -217,7 +218,7 @@ module _ (amount cost : ℤ) (fa : FitsSigned w64 amount) (fc : FitsSigned w128 
 pub shorter : {A : Type 0} (x : A) (rest all : List A) → all ≡ x ∷ rest → length rest < length all
 shorter x rest all e = subst (λ l. length rest < length l) (sym e) (omega arith)
 
--- where one side has no step left
+-- one side has no remaining breakpoint
 module _ (amount cost : ℤ) (left right rest : List (ℤ × ℤ)) (step : ℤ × ℤ) where
   pub left_alone : left ≡ step ∷ rest → right ≡ [] → Some (gap_next amount cost (Some step) None) ≡ first_gap amount cost left right
   left_alone e f = sym (ap (λ l. first_gap amount cost l right) e ∙ ap (first_gap amount cost (step ∷ rest)) f)
@@ -228,7 +229,7 @@ module _ (amount cost : ℤ) (left right rest : List (ℤ × ℤ)) (step : ℤ �
 pub no_more : (amount cost : ℤ) (left right : List (ℤ × ℤ)) → left ≡ [] → right ≡ [] → None ≡ first_gap amount cost left right
 no_more amount cost left right e f = sym (ap (λ l. first_gap amount cost l right) e ∙ ap (first_gap amount cost []) f)
 
--- one step further, as the code makes it
+-- one turn of the loop in the code
 module _ (amount cost : ℤ) (left right : List (ℤ × ℤ)) (amount' cost' : ℤ) (left' right' lrest rrest : List (ℤ × ℤ)) (l r : ℤ × ℤ) (w : IsWalk amount cost left right amount' cost' left' right') (el : left' ≡ l ∷ lrest) (er : right' ≡ r ∷ rrest) where
   pub same_walk : not (same_steps l r) ≡ false → FitsSigned w64 l.0 → FitsSigned w64 l.1 → (k : ℤ) → FitsSigned w128 k → k ≡ cost' +ℤ (l.1 *ℤ l.0) → IsWalk amount cost left right (to_z w64 (of_z w64 (amount' +ℤ to_z w64 (of_z w64 l.1)))) (to_z w128 (of_z w128 k)) lrest rrest
   same_walk h f0 f1 k fk e =
@@ -243,6 +244,6 @@ module _ (amount cost : ℤ) (left right : List (ℤ × ℤ)) (amount' cost' : �
       ap Some (e ∙ ap (λ z. parted amount' cost' l r z rnext) (first_left lrest lleft lnext yl) ∙ ap (parted amount' cost' l r (slice_get lrest 0)) (first_left rrest rleft rnext yr))
       ∙ sym (gap_here amount' cost' left' right' lrest rrest l r w.walks el er h) ∙ w.same
 
-  -- the room up to the step's end has 64 bits
+  -- the amount at the end of a breakpoint fits 64 bits
   pub sum_fits : FitsSigned w64 l.1 → FitsSigned w64 (amount' +ℤ to_z w64 (of_z w64 l.1))
   sum_fits f = rw (to_z-of_z w64 l.1 f) (left_fits amount' cost' left' right' lrest l w.walks el)

@@ -1,4 +1,4 @@
--- A bundle of lengths means what no arcs mean exactly where it has no least length.
+-- A bundle of lengths means the same as no arcs exactly if it has no least length.
 use Rattle.std.specs.Prelude.{◌≡◌, ◌↔◌, ℤ, Bool, true, false, not, [], Option, Some, None, refl, MatchOption, IsTrue}
 use Rattle.std.specs.Option.{is_some}
 use Rattle.dn_arc.specs.Lengths.{LeastLength}
@@ -6,7 +6,7 @@ use Rattle.dn_arc.specs.State.Lengths.{length_told}
 use Rattle.dn_arc.specs.Meanings.{SameLength}
 use Rattle.dn_arc.proofs.LengthsLaws.{length_meaning, first_length}
 
--- a least length is nothing where there is none
+-- the arcs of an option of a least length mean the same as no arcs exactly if there is no least length
 pub length_nothing : (o length : Option ℤ) (none : Bool) → MatchOption length (length_told o ≡ []) (LeastLength (length_told o)) → is_some length ≡ not none → IsTrue none ↔ SameLength (length_told o) []
 length_nothing None None true m h = ((λ t. length_meaning.same_refl []), (λ s. refl))
 length_nothing None None false m h = cc

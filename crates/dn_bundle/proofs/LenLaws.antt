@@ -1,4 +1,5 @@
--- How many canonical arcs form 2 has: one for each step, and one more for each fixed arc with no step at its cost.
+-- How many canonical arcs form 2 has: one for each breakpoint, and one more for each fixed arc without a breakpoint at
+-- its cost.
 use Rattle.std.proofs.Common.{◌≡◌, ℕ, ◌+◌, ℤ, pos, ◌+ℤ◌, ◌<ℤ◌, Bool, false, ◌||◌, List, [], ◌∷◌, map, length, refl, ap, ◌∙◌, arith, cond}
 use Rattle.std.specs.List.{list_any}
 use Rattle.std.specs.Ordering.{int_eq}
@@ -15,11 +16,11 @@ use Rattle.dn_arc.proofs.JoinsLaws.{joined_rising}
 use Rattle.dn_arc.proofs.CanonsLaws.{eq_yes, eq_below, eq_past}
 use Rattle.dn_bundle.proofs.FormLaws.{by_order, join_before, join_past, join_at}
 
--- one where it is not so
+-- 0 if the test holds, and 1 otherwise
 abbrev pub one_unless : Bool → ℕ
 one_unless b = cond b 0 1
 
--- whether an arc has the cost
+-- whether an arc has this cost
 abbrev has_arc : List CostArc → ℤ → Bool
 has_arc arcs c = list_any (λ (b : CostArc). int_eq c b.cost) arcs
 
@@ -31,7 +32,7 @@ none_has : (c : ℤ) (arcs : List CostArc) → AreAbove c arcs → has_arc arcs 
 none_has c [] h = refl
 none_has c (b ∷ rest) h = ap (λ v. v || has_arc rest c) (eq_below c b.cost h.0) ∙ none_has c rest h.1
 
--- an arc of another cost joins
+-- inserting an arc of another cost does not change whether an arc has this cost
 has_other : (c : ℤ) (a : CostArc) (arcs : List CostArc) → c <ℤ a.cost → has_arc (join_arc a arcs) c ≡ has_arc arcs c
 has_other c a [] h = ap (λ v. v || false) (eq_below c a.cost h)
 has_other c a (b ∷ rest) h =
@@ -40,7 +41,7 @@ has_other c a (b ∷ rest) h =
     (λ eq. ap (λ l. has_arc l c) (join_at a b rest eq))
     (λ gt. ap (λ l. has_arc l c) (join_past a b rest gt) ∙ ap (λ v. int_eq c b.cost || v) (has_other c a rest h))
 
--- one arc more, unless there is one of its cost
+-- inserting an arc adds one arc, unless there is one of its cost
 count_join : (a : CostArc) (arcs : List CostArc) → AreRising arcs → length (join_arc a arcs) ≡ length arcs + one_unless (has_arc arcs a.cost)
 count_join a [] r = refl
 count_join a (b ∷ rest) r =

@@ -1,5 +1,5 @@
--- Where two curves part: by their forced units, by what these cost, or else by the first steps that are not the same;
--- where no gap is found, they mean the same. The same for a curve and that of no arcs.
+-- Two curves first differ in their forced units, in the cost of these, or else at the first breakpoints that differ. If
+-- no gap is found, they mean the same. The lemmas on a curve and the curve of no arcs follow at the end.
 use Rattle.std.proofs.Common.{◌≡◌, ◌≢◌, ◌↔◌, ℤ, pos, ◌+ℤ◌, ◌-ℤ◌, ◌*ℤ◌, ◌≤ℤ◌, ◌<ℤ◌, Bool, true, false, ◌&&◌, cond, List, [], ◌∷◌, slice_get, Option, Some, None, refl, sym, ap, ◌∙◌, subst, arith, int_lt}
 use Rattle.std.specs.Option.{MatchOption, unwrap_or}
 use Rattle.std.specs.Ordering.{int_eq}
@@ -21,16 +21,16 @@ use Rattle.dn_arc.proofs.CanonsLaws.{eq_yes, eq_below, eq_past}
 use Rattle.dn_bundle.proofs.FormLaws.{by_order}
 use Rattle.dn_bundle.proofs.WalkLaws.{IsAt, least_at, at_least, at_more, more_at, at_here, at_start, at_one, too_little}
 
--- past an amount at a cost, x costs k by the steps, or they do not reach x
+-- beyond an amount of this cost, the breakpoints give x the cost k, or they do not reach x
 abbrev IsCostAt : ℤ → ℤ → List (ℤ × ℤ) → ℤ → Option ℤ → Type 0
 IsCostAt amount cost steps x None = (k : ℤ) → IsAt amount cost steps x k → ⊥
 IsCostAt amount cost steps x (Some k) = IsAt amount cost steps x k
 
--- the same costs by other steps
+-- two lists of breakpoints give x the same costs
 abbrev SameAt : (amount cost : ℤ) → List (ℤ × ℤ) → (amount' cost' : ℤ) → List (ℤ × ℤ) → ℤ → Type 0
 SameAt amount cost steps amount' cost' steps' x = (k : ℤ) → IsAt amount cost steps x k ↔ IsAt amount' cost' steps' x k
 
--- the least amount at which the costs differ, past an amount that costs the same on both sides
+-- the least amount at which the costs differ, beyond an amount that has the same cost on both sides
 record IsFirstGap (amount cost : ℤ) (left right : List (ℤ × ℤ)) (g : Gap) : Type 0 where
   pub past : amount <ℤ g.amount
   pub left_is : IsCostAt amount cost left g.amount g.left
@@ -38,7 +38,7 @@ record IsFirstGap (amount cost : ℤ) (left right : List (ℤ × ℤ)) (g : Gap)
   pub differ : g.left ≢ g.right
   pub below : (x : ℤ) → x <ℤ g.amount → SameAt amount cost left amount cost right x
 
--- the next unit
+-- the cost of the next amount
 next_cost : (amount cost : ℤ) (steps : List (ℤ × ℤ)) → AreSteps steps → IsCostAt amount cost steps (amount +ℤ pos 1) (unit_cost cost (slice_get steps 0))
 next_cost amount cost [] s = λ k p. let high = p.high in omega (arith, ints)
 next_cost amount cost (step ∷ rest) s =
@@ -47,7 +47,7 @@ next_cost amount cost (step ∷ rest) s =
     (let one : (amount +ℤ pos 1) -ℤ amount ≡ pos 1 = omega (arith, ints) in ap (λ z. cost +ℤ (z *ℤ step.0)) one ∙ ap (λ z. cost +ℤ z) (let e : pos 1 *ℤ step.0 ≡ step.0 = omega (arith, ints) in e))
     (at_here amount cost step rest (amount +ℤ pos 1) s.2 (omega (arith, ints)) (omega (arith, ints)))
 
--- up to the amount
+-- the costs up to this amount are the same on both sides
 start_same : (amount cost : ℤ) (left right : List (ℤ × ℤ)) → AreSteps left → AreSteps right → (x k : ℤ) → x <ℤ (amount +ℤ pos 1) → IsAt amount cost left x k → IsAt amount cost right x k
 start_same amount cost left right sl sr x k h p =
     let low = p.low in
@@ -69,7 +69,7 @@ cost_at_same : (amount cost : ℤ) (steps : List (ℤ × ℤ)) (amount' cost' : 
 cost_at_same amount cost steps amount' cost' steps' x None s c = λ k p. c k ((s k).0 p)
 cost_at_same amount cost steps amount' cost' steps' x (Some k) s c = (s k).1 c
 
--- a gap past a part that costs the same on both sides
+-- a gap beyond breakpoints that cost the same on both sides
 module _ (amount cost : ℤ) (left right : List (ℤ × ℤ)) (amount' cost' : ℤ) (left' right' : List (ℤ × ℤ)) (on : amount ≤ℤ amount')
     (sl : (x : ℤ) → amount' <ℤ x → SameAt amount cost left amount' cost' left' x)
     (sr : (x : ℤ) → amount' <ℤ x → SameAt amount cost right amount' cost' right' x)
@@ -88,7 +88,7 @@ module _ (amount cost : ℤ) (left right : List (ℤ × ℤ)) (amount' cost' : �
             (λ le. within x le k);
       }
 
--- what a part of a step leaves
+-- what remains of a breakpoint after a part of its capacity
 abbrev cut : ℤ → ℤ × ℤ → ℤ × ℤ
 cut d step = (step.0, step.1 -ℤ d)
 
@@ -101,11 +101,11 @@ split d s c =
     omega (arith, ints)
 
 module _ (amount cost : ℤ) (step : ℤ × ℤ) (rest : List (ℤ × ℤ)) (s : AreSteps rest) where
-  -- within the first step
+  -- the cost of an amount within the first breakpoint
   here_is : (x k : ℤ) → (x -ℤ amount) ≤ℤ step.1 → IsAt amount cost (step ∷ rest) x k → k ≡ cost +ℤ ((x -ℤ amount) *ℤ step.0)
   here_is x k h p = at_one amount cost (step ∷ rest) x k _ p (at_here amount cost step rest x s p.low h)
 
-  -- past a part of the first step
+  -- the costs beyond a part of the first breakpoint
   cut_same : (d : ℤ) → pos 0 ≤ℤ d → d <ℤ step.1 → (x : ℤ) → (amount +ℤ d) <ℤ x → SameAt amount cost (step ∷ rest) (amount +ℤ d) (cost +ℤ (d *ℤ step.0)) (cut d step ∷ rest) x
   cut_same d h l x u k =
       by_lt_z step.1 (x -ℤ amount)
@@ -128,16 +128,16 @@ module _ (amount cost : ℤ) (step : ℤ × ℤ) (rest : List (ℤ × ℤ)) (s :
         (λ p. subst (IsAt amount cost (step ∷ rest) x) (sym all ∙ sym (at_one (amount +ℤ d) (cost +ℤ (d *ℤ step.0)) (cut d step ∷ rest) x k _ p (at_here (amount +ℤ d) (cost +ℤ (d *ℤ step.0)) (cut d step) rest x s (omega (arith, ints)) (omega (arith, ints))))) (at_here amount cost step rest x s (omega (arith, ints)) le)),
       ))
 
--- past the first step
+-- the costs beyond the first breakpoint
 past_same : (amount cost : ℤ) (step : ℤ × ℤ) (rest : List (ℤ × ℤ)) → pos 1 ≤ℤ step.1 → (x : ℤ) → (amount +ℤ step.1) <ℤ x → SameAt amount cost (step ∷ rest) (amount +ℤ step.1) (cost +ℤ (step.1 *ℤ step.0)) rest x
 past_same amount cost step rest some x u k = (at_more amount cost step rest x some u k, more_at amount cost step rest x some u k)
 
--- within a step of each side, at one cost
+-- within the first breakpoints of both sides, which have one cost, the costs are the same
 here_same : (amount cost : ℤ) (l r : ℤ × ℤ) (left right : List (ℤ × ℤ)) → AreSteps left → AreSteps right → l.0 ≡ r.0 → (x k : ℤ) → (x -ℤ amount) ≤ℤ l.1 → (x -ℤ amount) ≤ℤ r.1 → IsAt amount cost (l ∷ left) x k → IsAt amount cost (r ∷ right) x k
 here_same amount cost l r left right sl sr e x k h g p =
     subst (IsAt amount cost (r ∷ right) x) (ap (λ z. cost +ℤ ((x -ℤ amount) *ℤ z)) (sym e) ∙ sym (here_is amount cost l left sl x k h p)) (at_here amount cost r right x sr p.low g)
 
--- the step after one costs more
+-- the breakpoint after one has a higher cost
 next_differs : (cost : ℤ) (step other : ℤ × ℤ) (rest : List (ℤ × ℤ)) → AreSteps (step ∷ rest) → step.0 ≡ other.0 → unit_cost cost (slice_get rest 0) ≢ unit_cost cost (Some other)
 next_differs cost step other [] s e = λ h. cc
 next_differs cost step other (next ∷ rest) s e = λ h. let up = s.1.0 in let f = ap (λ o. unwrap_or o (pos 0)) h in omega (arith, ints)
@@ -203,14 +203,14 @@ module _ (amount cost : ℤ) (l r : ℤ × ℤ) (left right : List (ℤ × ℤ))
       (λ gt. subst (λ t. Found (tests true t (int_lt l.1 r.1))) (sym (eq_past l.1 r.1 gt)) (subst (λ u. Found (tests true false u)) (sym (test_no l.1 r.1 (omega (arith, ints)))) (right_first e gt)))))
       (λ gt. subst (λ s. Found (tests s (int_eq l.1 r.1) (int_lt l.1 r.1))) (sym (eq_past l.0 r.0 gt)) (apart_costs (λ e. omega (arith, ints))))
 
--- the first gap is one, and where there is none, the steps are the same
+-- the gap that the search finds is the first gap, and if it finds none, the breakpoints are the same
 found : (amount cost : ℤ) (left right : List (ℤ × ℤ)) → AreSteps left → AreSteps right → MatchOption (first_gap amount cost left right) (left ≡ right) (IsFirstGap amount cost left right)
 found amount cost [] [] sl sr = refl
 found amount cost [] (r ∷ right) sl sr = gap_now amount cost [] (r ∷ right) sl sr (λ e. cc)
 found amount cost (l ∷ left) [] sl sr = gap_now amount cost (l ∷ left) [] sl sr (λ e. cc)
 found amount cost (l ∷ left) (r ∷ right) sl sr = found_next amount cost l r left right sl sr (found (amount +ℤ l.1) (cost +ℤ (l.1 *ℤ l.0)) left right sl.2 sr.2)
 
--- the costs of a curve, by its steps
+-- the costs of a curve, by its breakpoints
 cost_of_at : (units cost total : ℤ) (steps : List (ℤ × ℤ)) → IsSound units cost total steps → (x : ℤ) (o : Option ℤ) → IsCostAt units cost steps x o → IsCostOf (told One units cost steps) x o
 cost_of_at units cost total steps s x None c = λ k l. c k (least_at units cost total steps s x k l)
 cost_of_at units cost total steps s x (Some k) c = at_least units cost total steps s x k c
@@ -222,7 +222,7 @@ module _ (units cost total : ℤ) (steps : List (ℤ × ℤ)) (s : IsSound units
   below_units : (x k : ℤ) → x <ℤ units → LeastCost (told One units cost steps) x k → ⊥
   below_units x k h l = too_little units cost steps x k h (least_at units cost total steps s x k l)
 
--- where two curves part
+-- the gap between two curves
 module _ (units cost total : ℤ) (steps : List (ℤ × ℤ)) (s : IsSound units cost total steps) (units' cost' total' : ℤ) (steps' : List (ℤ × ℤ)) (s' : IsSound units' cost' total' steps') where
   pub left_gap : units <ℤ units' → IsGap (told One units cost steps) (told One units' cost' steps') (record { amount = units; left = Some cost; right = None })
   left_gap h = record {
@@ -279,7 +279,7 @@ module _ (units cost total total' : ℤ) (steps steps' : List (ℤ × ℤ)) (s :
     );
   }
 
--- where curves part that have the same forced units, at the same cost
+-- the gap between curves that have the same forced units at the same cost
 pub step_gap : (units cost total : ℤ) (steps : List (ℤ × ℤ)) → IsSound units cost total steps → (units' cost' total' : ℤ) (steps' : List (ℤ × ℤ)) → IsSound units' cost' total' steps' → units ≡ units' → cost ≡ cost' → Parts units cost steps units' cost' steps' (first_gap units cost steps steps')
 step_gap units cost total steps s units' cost' total' steps' s' e f =
     let t = subst (λ z. IsSound z cost total' steps') (sym e) (subst (λ z. IsSound units' z total' steps') (sym f) s') in
@@ -296,7 +296,7 @@ none_sound = record {
   fit = tt;
 }
 
--- where a curve and that of no arcs part
+-- the gap between a curve and the curve of no arcs
 module _ (units cost total : ℤ) (steps : List (ℤ × ℤ)) (s : IsSound units cost total steps) where
   pub forced_gap : (units ≡ pos 0 → ⊥) → IsGap (told One units cost steps) [] (record { amount = pos 0; left = None; right = Some (pos 0) })
   forced_gap n = let some = s.some in right_gap units cost total steps s (pos 0) (pos 0) (pos 0) [] none_sound (by_lt_z (pos 0) units (λ lt. lt) (λ le. absurd (n (omega (arith, ints)))))
@@ -304,7 +304,7 @@ module _ (units cost total : ℤ) (steps : List (ℤ × ℤ)) (s : IsSound units
   free_parts : units ≡ pos 0 → Parts units cost steps (pos 0) (pos 0) [] (first_gap units cost steps [])
   free_parts e = step_gap units cost total steps s (pos 0) (pos 0) (pos 0) [] none_sound e (none_is units cost total steps s e)
 
--- where no units are forced
+-- a curve without forced units and without breakpoints means the same as no arcs
 pub no_gap : (units cost total : ℤ) (steps : List (ℤ × ℤ)) → IsSound units cost total steps → units ≡ pos 0 → None ≡ slice_get steps 0 → SameCurve (told One units cost steps) []
 no_gap units cost total [] s e h = free_parts units cost total [] s e
 no_gap units cost total (step ∷ rest) s e h = cc

@@ -1,4 +1,4 @@
--- An arc of LOW 0 that joins free capacity at one cost: the shape stays plain.
+-- Adding an arc of LOW 0 to a shape with free capacity at one cost: the shape remains plain.
 use Rattle.std.proofs.Common.{◌≡◌, ◌⊎◌, ℤ, pos, negsuc, ◌+ℤ◌, ◌-ℤ◌, ◌*ℤ◌, ◌≤ℤ◌, ◌<ℤ◌, List, [], ◌∷◌, Some, None, sym, ap, ◌∙◌, subst, arith, w64, to_z, of_z, cond}
 use mathlib.Core.Logic.{inl, inr}
 use Rattle.std.proofs.Math.IntN.{*ℤ_comm}
@@ -17,7 +17,7 @@ use Rattle.dn_bundle.proofs.FixedLaws.{is_zero}
 use Rattle.dn_bundle.proofs.StepLaws.{put_at}
 use Rattle.dn_bundle.proofs.GrowLaws.{CostsFit}
 
--- capacity at a cost is a step, and 0 is none
+-- capacity above 0 at a cost is a breakpoint
 some_step : (step : ℤ × ℤ) → pos 0 <ℤ step.1 → steps_of (plain_step step) [] ≡ step ∷ []
 some_step step h = ap (λ b. steps_of (cond b (Some step) None) []) (test_yes (pos 0) step.1 h)
 
@@ -25,17 +25,17 @@ no_step : (step : ℤ × ℤ) → step.1 ≡ pos 0 → steps_of (plain_step step
 no_step step e = ap (λ b. steps_of (cond b (Some step) None) []) (test_no (pos 0) step.1 (omega (arith, ints)))
 
 module _ (step : ℤ × ℤ) (a : CostArc) (total : ℤ) (s : AreSound (numbers_of (Plain step))) (h : IsCostArc a) (e : total ≡ step.1 +ℤ a.cap) (free : a.low ≡ pos 0) (some : pos 0 <ℤ a.cap) (f : FitsSigned w64 a.cost) (one : (of_z w64 step.1 ≡ 0) ⊎ (of_z w64 a.cost ≡ of_z w64 step.0)) where
-  -- all of the arc is put among the steps
+  -- the whole capacity of the arc is added to the breakpoints
   put : (steps : List (ℤ × ℤ)) → put_step steps (a.cost, a.cap) ≡ add_step steps (a.cost, a.cap -ℤ a.low)
   put steps =
       let all : a.cap -ℤ a.low ≡ a.cap = omega (arith, ints) in
       sym (ap (λ b. cond b (put_step steps (a.cost, a.cap -ℤ a.low)) steps) (test_yes (pos 0) (a.cap -ℤ a.low) (omega (arith, ints))) ∙ ap (λ z. put_step steps (a.cost, z)) all)
 
-  -- beside no capacity
+  -- adding the arc where there is no capacity
   alone : step.1 ≡ pos 0 → (a.cost, total) ∷ [] ≡ put_step (steps_of (plain_step step) []) (a.cost, a.cap)
   alone none = ap (λ z. (a.cost, z) ∷ []) (let same : total ≡ a.cap = omega (arith, ints) in same) ∙ sym (ap (λ l. put_step l (a.cost, a.cap)) (no_step step none))
 
-  -- at the one cost
+  -- adding the arc where there is capacity at its cost
   joined : pos 0 <ℤ step.1 → a.cost ≡ step.0 → (a.cost, total) ∷ [] ≡ put_step (steps_of (plain_step step) []) (a.cost, a.cap)
   joined lt at = ap (λ z. (z, total) ∷ []) at ∙ ap (λ z. (step.0, z) ∷ []) e ∙ sym (ap (λ l. put_step l (a.cost, a.cap)) (some_step step lt) ∙ put_at step (a.cost, a.cap) [] at)
 
@@ -63,7 +63,7 @@ some_cap : (z : ℤ) → pos 0 ≤ℤ z → (of_z w64 z ≡ 0 → ⊥) → pos 0
 some_cap (pos n) h f = omega (arith, ints)
 some_cap (negsuc n) h f = absurd (omega (arith, ints))
 
--- a plain shape takes an arc of LOW 0 at its cost, or beside no capacity
+-- a plain shape takes an arc of LOW 0 if the arc has its cost, or if the shape has no capacity
 pub plain_grown : (shape : Shape) (step : ℤ × ℤ) (a : CostArc) (total : ℤ) → shape ≡ Plain step → AreSound (numbers_of shape) → IsCostArc a → total ≡ (numbers_of shape).total +ℤ a.cap
     → a.low ≡ pos 0 → (of_z w64 a.cap ≡ 0 → ⊥) → FitsSigned w64 a.cost → (of_z w64 step.1 ≡ 0) ⊎ (of_z w64 a.cost ≡ of_z w64 step.0) → IsGrown (numbers_of shape) a (numbers_of (Plain (a.cost, total)))
 plain_grown shape step a total is s h e free some f one =

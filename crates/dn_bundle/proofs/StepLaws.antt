@@ -1,5 +1,5 @@
--- Steps in a map, the first one beside it: insertions, ranges and look-ups of the map are those of steps, and
--- capacities that the code adds fit.
+-- Breakpoints in a map, with the first one outside it: insertions, ranges and look-ups of the map are those of
+-- breakpoints, and capacities that the code adds fit.
 use Rattle.std.proofs.Common.{◌≡◌, ◌-◌, ◌^◌, ℤ, pos, ◌+ℤ◌, ◌≤ℤ◌, ◌<ℤ◌, Bool, true, false, ◌&&◌, ◌||◌, not, List, [], ◌∷◌, Option, Some, None, refl, sym, ap, ◌∙◌, subst, arith, cond, to_z, of_z}
 use Rattle.std.specs.Int.{w64}
 use Rattle.std.specs.Int.RustNames.{FitsSigned, int_lt}
@@ -21,7 +21,7 @@ use Rattle.dn_arc.proofs.MeansLaws.{fits_some, fits_next}
 use Rattle.dn_arc.proofs.CanonsLaws.{by_cmp}
 use Rattle.dn_arc.specs.State.Steps.{steps_of, IsFirst, put_step, step_past, has_step, AreSteps, steps_room}
 
--- by what a comparison answers
+-- adding a breakpoint, by the result of a comparison
 module _ (step more : ℤ × ℤ) (rest : List (ℤ × ℤ)) where
   pub put_before : more.0 <ℤ step.0 → put_step (step ∷ rest) more ≡ more ∷ step ∷ rest
   put_before h = let e : int_lt more.0 step.0 ≡ true = grind (arith, ints) in ap (λ t. cond t (more ∷ step ∷ rest) (cond (int_lt step.0 more.0) (step ∷ put_step rest more) ((step.0, step.1 +ℤ more.1) ∷ rest))) e
@@ -40,11 +40,11 @@ module _ (step more : ℤ × ℤ) (rest : List (ℤ × ℤ)) where
       ap (λ t. cond t (more ∷ step ∷ rest) (cond (int_lt step.0 more.0) (step ∷ put_step rest more) ((step.0, step.1 +ℤ more.1) ∷ rest))) e
       ∙ ap (λ t. cond t (step ∷ put_step rest more) ((step.0, step.1 +ℤ more.1) ∷ rest)) f
 
--- what a map holds at a cost
+-- the capacity that a map has at a cost
 abbrev held : List (ℤ × ℤ) → ℤ → ℤ
 held es cost = unwrap_or (lookup (is_at (int_cmp cost)) es) (pos 0)
 
--- a map takes capacity by one insertion
+-- adding capacity to a map is one insertion
 pub put_is : (es : List (ℤ × ℤ)) (more : ℤ × ℤ) → IsStrictlySortedBy int_cmp (keys_of es) → insert_entry int_cmp es more.0 (held es more.0 +ℤ more.1) ≡ put_step es more
 put_is [] more s = ap (λ z. (more.0, z) ∷ []) (let e : pos 0 +ℤ more.1 ≡ more.1 = omega (arith, ints) in e)
 put_is (step ∷ rest) more s =
@@ -69,7 +69,7 @@ put_is (step ∷ rest) more s =
     ∙ ap (λ l. step ∷ l) (put_is rest more (sorted_tail int_cmp step.0 (keys_of rest) s))
     ∙ sym (put_past step more rest gt))
 
--- a lower cost goes to the front
+-- a cost below all others is inserted at the beginning
 pub insert_front : (es : List (ℤ × ℤ)) (cost room : ℤ) → AllByRecursion (λ (other : ℤ × ℤ). cost <ℤ other.0) es → insert_entry int_cmp es cost room ≡ (cost, room) ∷ es
 insert_front [] cost room h = refl
 insert_front (step ∷ rest) cost room h = by_cmp cost step.0 (λ c lt. ap (λ o. match_ordering o ((cost, room) ∷ step ∷ rest) ((step.0, room) ∷ rest) (step ∷ insert_entry int_cmp rest cost room)) c) (λ c eq. let lt = h.0 in absurd (omega (arith, ints))) (λ c gt. let lt = h.0 in absurd (omega (arith, ints)))
@@ -78,7 +78,7 @@ by_bool : (P : Bool → Type 0) (b : Bool) → P true → P false → P b
 by_bool P true h g = h
 by_bool P false h g = g
 
--- whether a range that leaves out its start has the key
+-- whether a range that excludes its start has the key
 abbrev in_range : ℤ → ℤ → Bool
 in_range cost key = is_lt (int_cmp cost key) && not false
 
@@ -99,19 +99,19 @@ module _ (es found : List (ℤ × ℤ)) (cost : ℤ) (fits : FitsSigned w64 cost
   here : step_past es cost ≡ slice_get found 0
   here = first_in_range es cost ∙ ap (λ z. slice_get (filter (λ (e : ℤ × ℤ). in_range z e.0) es) 0) (sym (to_z-of_z w64 cost fits)) ∙ ap (λ l. slice_get l 0) (sym is)
 
-  -- the first entry of a range is the first step past its start
+  -- the first entry of a range is the first breakpoint above its start
   pub first_past : (left : List (ℤ × ℤ)) (step : ℤ × ℤ) → FitsSigned w64 step.0 → FitsSigned w64 step.1 → found ≡ step ∷ left → Some (to_z w64 (of_z w64 step.0), to_z w64 (of_z w64 step.1)) ≡ step_past es cost
   first_past left step f g h = ap (λ z. Some (z, to_z w64 (of_z w64 step.1))) (to_z-of_z w64 step.0 f) ∙ ap (λ z. Some (step.0, z)) (to_z-of_z w64 step.1 g) ∙ sym (here ∙ ap (λ l. slice_get l 0) h)
 
   pub none_past : found ≡ [] → None ≡ step_past es cost
   none_past h = sym (here ∙ ap (λ l. slice_get l 0) h)
 
--- a map has a step where a look-up finds it
+-- a map has a breakpoint exactly if a look-up finds it
 pub has_is : (es : List (ℤ × ℤ)) (cost : ℤ) → is_some (lookup (is_at (int_cmp cost)) es) ≡ has_step es cost
 has_is [] cost = refl
 has_is (step ∷ rest) cost = by_bool (λ b. is_some (cond b (Some step.1) (lookup (is_at (int_cmp cost)) rest)) ≡ (b || has_step rest cost)) (is_at (int_cmp cost) step.0) refl (has_is rest cost)
 
--- what is held at a cost is a part of the whole
+-- the capacity at a cost is at most the total
 pub held_most : (es : List (ℤ × ℤ)) (cost : ℤ) → AreSteps es → (pos 0 ≤ℤ held es cost) × (held es cost ≤ℤ steps_room es)
 held_most [] cost s = (omega (arith, ints), omega (arith, ints))
 held_most (step ∷ rest) cost s =
@@ -122,7 +122,7 @@ held_most (step ∷ rest) cost s =
     let u = i.1 in
     by_bool (λ b. (pos 0 ≤ℤ unwrap_or (cond b (Some step.1) (lookup (is_at (int_cmp cost)) rest)) (pos 0)) × (unwrap_or (cond b (Some step.1) (lookup (is_at (int_cmp cost)) rest)) (pos 0) ≤ℤ (step.1 +ℤ steps_room rest))) (is_at (int_cmp cost) step.0) (omega (arith, ints), omega (arith, ints)) (l, omega (arith, ints))
 
--- what is held at a cost, and that with more, have 64 bits
+-- the capacity at a cost fits 64 bits, and so does its sum with the added capacity
 held_fits : (es : List (ℤ × ℤ)) (more : ℤ × ℤ) (now : ℤ) → pos 0 ≤ℤ more.1 → AreSteps es → (steps_room es +ℤ more.1) ≤ℤ pos (2 ^ 63 - 1) → now ≡ held es more.0 → FitsSigned w64 now × FitsSigned w64 (now +ℤ more.1)
 held_fits es more now h s f e =
     let m = held_most es more.0 s in
@@ -130,7 +130,7 @@ held_fits es more now h s f e =
     let u = m.1 in
     (fits_some now (omega (arith, ints)) (omega (arith, ints)), fits_some (now +ℤ more.1) (omega (arith, ints)) (omega (arith, ints)))
 
--- the capacity at a cost with more, as the code adds it
+-- the sum of the capacity at a cost and the added capacity, as the code computes it
 pub sum_fits : (es : List (ℤ × ℤ)) (more : ℤ × ℤ) (now : ℤ) → pos 0 ≤ℤ more.1 → AreSteps es → (steps_room es +ℤ more.1) ≤ℤ pos (2 ^ 63 - 1) → now ≡ held es more.0 → FitsSigned w64 more.1 → FitsSigned w64 (to_z w64 (of_z w64 now) +ℤ to_z w64 (of_z w64 more.1))
 sum_fits es more now h s f e g = let b = held_fits es more now h s f e in rw (to_z-of_z w64 now b.0, to_z-of_z w64 more.1 g) b.1
 
@@ -144,14 +144,14 @@ sum_is es more now new h s f e g0 g o i =
     ∙ ap (λ z. insert_entry int_cmp es more.0 (z +ℤ more.1)) e
     ∙ put_is es more o
 
--- one more, as the code adds it
+-- a number plus one, as the code computes it
 pub next_fits : (x : ℤ) → FitsSigned w64 x → x <ℤ pos (2 ^ 63 - 1) → FitsSigned w64 (to_z w64 (of_z w64 x) +ℤ pos 1)
 next_fits x f h = subst (λ z. FitsSigned w64 (z +ℤ pos 1)) (sym (to_z-of_z w64 x f)) (fits_next x f h)
 
 pub next_is : (x : ℤ) → FitsSigned w64 x → x <ℤ pos (2 ^ 63 - 1) → to_z w64 (of_z w64 (to_z w64 (of_z w64 x) +ℤ pos 1)) ≡ x +ℤ pos 1
 next_is x f h = ap (λ z. to_z w64 (of_z w64 (z +ℤ pos 1))) (to_z-of_z w64 x f) ∙ to_z-of_z w64 (x +ℤ pos 1) (fits_next x f h)
 
--- what a test of two numbers says, as the code makes it
+-- what a comparison of two numbers in the code shows
 pub less : (x y : ℤ) → FitsSigned w64 x → FitsSigned w64 y → int_lt (to_z w64 (of_z w64 x)) (to_z w64 (of_z w64 y)) ≡ true → x <ℤ y
 less x y f g h = let e : int_lt x y ≡ true = sym (rw (to_z-of_z w64 x f, to_z-of_z w64 y g) refl) ∙ h in grind (arith, ints)
 

@@ -1,4 +1,5 @@
--- The least costs of a curve by its steps, and the walk over the steps that finds the least cost of one amount.
+-- The least costs of a curve by its breakpoints, and the loop over the breakpoints that finds the least cost of one
+-- amount.
 use Rattle.std.proofs.Common.{◌≡◌, ◌-◌, ◌^◌, ℤ, pos, ◌+ℤ◌, ◌-ℤ◌, ◌*ℤ◌, ◌≤ℤ◌, ◌<ℤ◌, List, [], ◌∷◌, map, sym, ap, ◌∙◌, subst, arith, to_z, of_z, w64, true, false}
 use Rattle.std.proofs.lemmas.Int.{ints, to_z-of_z}
 use Rattle.std.specs.Int.{w128}
@@ -21,11 +22,11 @@ use Rattle.dn_arc.proofs.MeansLaws.{more_mean, fits_some}
 use Rattle.dn_bundle.proofs.Cost128Laws.{more_fits}
 use Rattle.dn_bundle.proofs.GrowLaws.{most}
 
--- what y units cost that are filled into steps
+-- the cost of y units that fill the breakpoints
 abbrev pub steps_cost : List (ℤ × ℤ) → ℤ → ℤ
 steps_cost steps y = fill_cost (map step_arc steps) y
 
--- past an amount at a cost, x costs k by the steps
+-- beyond an amount of this cost, the breakpoints give x the cost k
 pub record IsAt (amount cost : ℤ) (steps : List (ℤ × ℤ)) (x k : ℤ) : Type 0 where
   pub low : amount ≤ℤ x
   pub high : (x -ℤ amount) ≤ℤ steps_room steps
@@ -46,7 +47,7 @@ module _ (units cost total : ℤ) (steps : List (ℤ × ℤ)) (s : IsSound units
   same_room : free_room (told One units cost steps) ≡ steps_room steps
   same_room = (told_apart units cost steps s.some (none_is units cost total steps s) s.rising).room ∙ steps_free_room steps
 
-  -- a curve's least costs, by its steps
+  -- the least costs of a curve, by its breakpoints
   pub least_at : (x k : ℤ) → LeastCost (told One units cost steps) x k → IsAt units cost steps x k
   least_at x k l =
       let n = none_is units cost total steps s in
@@ -67,7 +68,7 @@ module _ (units cost total : ℤ) (steps : List (ℤ × ℤ)) (s : IsSound units
       let high = p.high in
       least_of_filling (told One units cost steps) x k (form_one_ordered _ (told_one units cost steps s.some n s.rising)) (record { low = omega (arith, ints); high = omega (arith, ints); cost = p.is ∙ sym (same_cost x p.low) })
 
--- the first step ends at an amount, and the others go on from there
+-- the costs beyond the first breakpoint
 module _ (amount cost : ℤ) (step : ℤ × ℤ) (rest : List (ℤ × ℤ)) (x : ℤ) (some : pos 1 ≤ℤ step.1) (past : (amount +ℤ step.1) <ℤ x) where
   more_cost : steps_cost (step ∷ rest) (x -ℤ amount) ≡ (step.1 *ℤ step.0) +ℤ steps_cost rest (x -ℤ (amount +ℤ step.1))
   more_cost =
@@ -82,14 +83,14 @@ module _ (amount cost : ℤ) (step : ℤ × ℤ) (rest : List (ℤ × ℤ)) (x :
   pub more_at : (k : ℤ) → IsAt (amount +ℤ step.1) (cost +ℤ (step.1 *ℤ step.0)) rest x k → IsAt amount cost (step ∷ rest) x k
   more_at k p = let high = p.high in let e = p.is in let m = more_cost in record { low = omega (arith, ints); high = omega (arith, ints); is = omega (arith, ints) }
 
--- an amount within the first step
+-- the cost of an amount within the first breakpoint
 pub at_here : (amount cost : ℤ) (step : ℤ × ℤ) (rest : List (ℤ × ℤ)) (x : ℤ) → AreSteps rest → amount ≤ℤ x → (x -ℤ amount) ≤ℤ step.1 → IsAt amount cost (step ∷ rest) x (cost +ℤ ((x -ℤ amount) *ℤ step.0))
 at_here amount cost step rest x s h g =
     let left = steps_some rest s in
     let e = fill_low (step_arc step) (map step_arc rest) (x -ℤ amount) (omega (arith, ints)) in
     record { low = h; high = omega (arith, ints); is = ap (λ z. cost +ℤ z) (*ℤ_comm (x -ℤ amount) step.0 ∙ sym e) }
 
--- the amount itself
+-- the cost of the amount itself
 pub at_start : (amount cost : ℤ) (steps : List (ℤ × ℤ)) → AreSteps steps → IsAt amount cost steps amount cost
 at_start amount cost steps s =
     let left = steps_some steps s in
@@ -101,7 +102,7 @@ at_start amount cost steps s =
 pub at_one : (amount cost : ℤ) (steps : List (ℤ × ℤ)) (x j k : ℤ) → IsAt amount cost steps x j → IsAt amount cost steps x k → j ≡ k
 at_one amount cost steps x j k p q = p.is ∙ sym q.is
 
--- filling x into the steps: some were taken, at a cost, and the rest goes on from there
+-- the loop has sent `taken` units at the cost `spent`, and the remaining breakpoints give x the same cost
 pub record IsTaken (units cost : ℤ) (steps : List (ℤ × ℤ)) (x taken spent : ℤ) (rest : List (ℤ × ℤ)) : Type 0 where
   pub there : (k : ℤ) → IsAt units cost steps x k → IsAt taken spent rest x k
   pub back : (k : ℤ) → IsAt taken spent rest x k → IsAt units cost steps x k
@@ -117,7 +118,7 @@ within left room f h = let e : le_z left room ≡ true = sym (ap (le_z left) (to
 past : (left room : ℤ) → FitsSigned w64 room → le_z left (to_z w64 (of_z w64 room)) ≡ false → room <ℤ left
 past left room f h = let e : le_z left room ≡ false = sym (ap (le_z left) (to_z-of_z w64 room f)) ∙ h in grind (arith, ints)
 
--- a step of the walk, as the code makes it
+-- one turn of the loop in the code
 module _ (units cost : ℤ) (steps : List (ℤ × ℤ)) (x taken spent : ℤ) (list rest : List (ℤ × ℤ)) (step : ℤ × ℤ) (fx : FitsSigned w64 x) (f0 : FitsSigned w64 step.0) (f1 : FitsSigned w64 step.1) (t : IsTaken units cost steps x taken spent list) (e : list ≡ step ∷ rest) where
   here : IsTaken units cost steps x taken spent (step ∷ rest)
   here = subst (IsTaken units cost steps x taken spent) e t
@@ -167,7 +168,7 @@ module _ (units cost : ℤ) (steps : List (ℤ × ℤ)) (x taken spent : ℤ) (l
       let taken_is : to_z w64 (of_z w64 (taken +ℤ to_z w64 (of_z w64 step.1))) ≡ taken +ℤ step.1 = ap (λ z. to_z w64 (of_z w64 (taken +ℤ z))) (to_z-of_z w64 step.1 f1) ∙ to_z-of_z w64 (taken +ℤ step.1) (fits_some (taken +ℤ step.1) (omega (arith, ints)) (omega (arith, ints))) in
       subst (λ z. IsTaken units cost steps x z (to_z w128 (of_z w128 r)) rest) (sym taken_is) (subst (λ z. IsTaken units cost steps x (taken +ℤ step.1) z rest) (sym (to_z-of_z w128 r fr ∙ v)) new)
 
--- the walk's end
+-- the end of the loop
 module _ (units cost : ℤ) (steps : List (ℤ × ℤ)) (x taken spent : ℤ) (list : List (ℤ × ℤ)) (t : IsTaken units cost steps x taken spent list) (e : list ≡ []) where
   done : IsTaken units cost steps x taken spent []
   done = subst (IsTaken units cost steps x taken spent) e t
@@ -178,6 +179,6 @@ module _ (units cost : ℤ) (steps : List (ℤ × ℤ)) (x taken spent : ℤ) (l
   pub done_not : (x ≡ taken → ⊥) → (k : ℤ) → IsAt units cost steps x k → ⊥
   done_not h k p = let q = done.there k p in let low = q.low in let high = q.high in h (omega (arith, ints))
 
--- less than the forced units
+-- an amount below the forced units has no cost
 pub too_little : (amount cost : ℤ) (steps : List (ℤ × ℤ)) (x k : ℤ) → x <ℤ amount → IsAt amount cost steps x k → ⊥
 too_little amount cost steps x k h p = let low = p.low in absurd (omega (arith, ints))

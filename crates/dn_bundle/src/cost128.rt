@@ -3,7 +3,7 @@ ghost use Rattle.std.specs.Prelude.{◌≡◌, pos, ◌+ℤ◌, ◌*ℤ◌, ◌<
 ghost use Rattle.std.specs.Int.{w128};
 ghost use Rattle.dn_arc.specs.State.Means.{IsMean, IsFloor};
 
-/// A cost with that of more units at a cost each.
+/// Returns `all` plus the cost of `units` more units at `cost` each.
 pub(crate) fn more_cost(all: &i128, units: &i64, cost: &i64) -> i128
     requires { FitsSigned w128 (all.now +ℤ (units.now *ℤ cost.now)) }
     ensures { result ≡ all.now +ℤ (units.now *ℤ cost.now) }
@@ -11,7 +11,7 @@ pub(crate) fn more_cost(all: &i128, units: &i64, cost: &i64) -> i128
     *all + *units as i128 * *cost as i128
 }
 
-/// What each of some units costs, rounded down, and how many of them cost one more.
+/// Returns the mean cost of these units, rounded down, and how many of them cost one more.
 pub(crate) fn floor(cost: &i128, units: &i64) -> (i64, i64)
     requires unit { pos 0 <ℤ units.now }
     requires mean { IsMean cost.now units.now }

@@ -1,4 +1,4 @@
-// The least cost of each amount.
+// Cost curves: the least cost of each amount.
 ghost use Rattle.std.specs.Prelude.{◌≡◌, ◌+ℤ◌, [], ◌∷◌, ◌++◌, length, filter, slice_get, OnOk, OnErr, IfErr, MatchOption, refl, true};
 ghost use Rattle.std.specs.Option.{option_map};
 ghost use Rattle.dn_arc.specs.Kinds.{costs};
@@ -27,10 +27,10 @@ mod canon_arcs;
 mod numbers;
 mod shape;
 
-/// The least cost of each amount that the arcs of a `min` pair can carry.
+/// The cost curve of the arcs of a `min` pair: the least cost of each amount that can be split among them.
 #[derive(Drop)]
 pub struct Curve {
-    // What takes memory for the numbers, where they want it.
+    // Allocates the numbers once the shape needs them.
     alloc: Global,
     shape: Shape,
     ghost sound: { AreSound (numbers_of shape) } by { IsSound-prop _ _ _ _ },
@@ -50,7 +50,7 @@ impl Model for Curve {
 }
 
 impl Curve {
-    /// The forced units, and what they cost.
+    /// Returns the forced units L and their cost F.
     pub fn forced(&self) -> (i64, i128)
         ensures units { result.0 ≡ forced_units (curve_arcs Form.One self.now) }
         ensures cost { result.1 ≡ forced_cost (curve_arcs Form.One self.now) }
@@ -58,14 +58,14 @@ impl Curve {
         (self.units(), self.cost())
     }
 
-    /// The fixed arcs of form 1.
+    /// Returns the fixed arcs of form 1.
     pub fn fixed(&self) -> Fixed
         ensures { fixed_list result ≡ filter has_low (curve_arcs Form.One self.now) }
     {
         self.spread()
     }
 
-    /// How many costs have free capacity.
+    /// Returns how many different costs have free capacity.
     pub fn free_len(&self) -> u64
         ensures arcs { result ≡ length (filter is_free (curve_arcs Form.One self.now)) }
         ensures costs { result ≡ length (free_costs (curve_arcs Form.One self.now)) }
@@ -73,7 +73,7 @@ impl Curve {
         self.steps_len()
     }
 
-    /// The free arc at `i` by rising cost, counted from 0: its cost, and its capacity.
+    /// Returns the cost and the capacity of the free arc at `i`, counted from 0 by ascending cost.
     pub fn free(&self, i: u64) -> Option<(i64, i64)>
         ensures { option_map step_arc result
             ≡ slice_get (filter is_free (curve_arcs Form.One self.now)) i }
@@ -81,7 +81,7 @@ impl Curve {
         self.step(i)
     }
 
-    /// The least cost of carrying `x`, or `None` where no split of it exists.
+    /// Returns the least cost of the amount `x`, or `None` if it cannot be split.
     pub fn least(&self, x: i64) -> Option<i128>
         ensures { IsCostOf (curve_arcs Form.One self.now) x result }
     {
@@ -102,7 +102,8 @@ impl Curve {
         if x == taken { Some(cost) } else { None }
     }
 
-    /// The least amount at which the curves differ, and the least cost there on each side.
+    /// Returns the least amount at which the curves differ and its least cost on each side, or `None` if the curves are
+    /// the same.
     pub fn gap(&self, other: &Curve) -> Option<Gap>
         ensures { MatchOption result
             (SameCurve (curve_arcs Form.One self.now) (curve_arcs Form.One other.now))
@@ -135,8 +136,8 @@ impl Curve {
         }
     }
 
-    // Where the curve and that of no arcs, on the right, first differ. Told apart from `gap`, since the curve of no
-    // arcs would want an allocator.
+    // Returns the gap between this curve and the curve of no arcs, on the right. This is separate from `gap` because an
+    // empty curve needs an allocator.
     fn gap_to_none(&self) -> Option<Gap>
         ensures { MatchOption result
             (SameCurve (told Form.One self.now.units self.now.cost self.now.steps) [])
@@ -157,7 +158,7 @@ impl Curve {
         })
     }
 
-    // Where the curve of no arcs, on the left, and this one first differ.
+    // Returns the gap between the curve of no arcs, on the left, and this curve.
     fn gap_from_none(&self) -> Option<Gap>
         ensures { MatchOption result
             (SameCurve [] (told Form.One self.now.units self.now.cost self.now.steps))
@@ -171,7 +172,7 @@ impl Curve {
         })
     }
 
-    // The fixed arcs.
+    // Returns the fixed arcs.
     fn spread(&self) -> Fixed
         ensures value { fixed_list result ≡ fixed_arcs self.now.units self.now.cost }
         ensures next { HasNext result }
@@ -193,7 +194,7 @@ impl Curve {
         }
     }
 
-    // Takes an arc that leaves this total.
+    // Adds an arc, with which the total capacity is `total`.
     fn grow(&mut self, arc: CostArc, total: i64) -> Result<(), BundleFault>
         requires arc { IsCostArc arc }
         requires total { total ≡ self.old.total +ℤ arc.cap }
@@ -209,7 +210,7 @@ impl Curve {
     }
 }
 
-// A difference in costs.
+// Makes a difference of a gap.
 fn by_costs(gap: Option<Gap>) -> Option<How>
     ensures { result ≡ option_map Costs gap }
 {

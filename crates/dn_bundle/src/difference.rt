@@ -1,4 +1,4 @@
-// Where two lists of steps first differ.
+// Finds the first gap between the breakpoints of two curves.
 ghost use Rattle.std.specs.Prelude.{◌≡◌, ◌-◌, ◌^◌, pos, negsuc, ◌+ℤ◌, ◌*ℤ◌, ◌≤ℤ◌, ◌<ℤ◌};
 ghost use Rattle.dn_arc.specs.State.Means.{IsMean};
 ghost use Rattle.dn_bundle.specs.State.Gaps.{unit_cost, gap_next, parted, first_gap, ArePart, AreWalks};
@@ -7,7 +7,7 @@ use crate::cost128::more_cost;
 use crate::steps::StepsIter;
 use dn_arc::Gap;
 
-// The first gap past an amount that costs the same on both sides, by the steps that are left.
+// Returns the first gap above `amount`, given the remaining breakpoints of two curves on which `amount` has this cost.
 pub(crate) fn first_gap(
     amount: i64,
     cost: i128,
@@ -37,7 +37,7 @@ pub(crate) fn first_gap(
     }
 }
 
-// A cost with that of one unit of a step, if there is one.
+// Returns the cost plus that of one unit at a breakpoint, if there is one.
 fn with_unit(cost: &i128, step: Option<(i64, i64)>) -> Option<i128>
     requires low { negsuc (2 ^ 126 - 1) ≤ℤ cost.now }
     requires high { cost.now ≤ℤ pos (2 ^ 126) }
@@ -49,7 +49,7 @@ fn with_unit(cost: &i128, step: Option<(i64, i64)>) -> Option<i128>
     }
 }
 
-// One unit further.
+// Returns the gap at the next amount, given the next breakpoint on each side.
 fn further(amount: &i64, cost: &i128, left: Option<(i64, i64)>, right: Option<(i64, i64)>) -> Gap
     requires some { pos 0 ≤ℤ amount.now }
     requires most { amount.now <ℤ pos (2 ^ 63 - 1) }
@@ -63,7 +63,7 @@ fn further(amount: &i64, cost: &i128, left: Option<(i64, i64)>, right: Option<(i
     }
 }
 
-// One unit further than a step.
+// Returns the gap at the first amount beyond the capacity of a breakpoint, given the next breakpoint on each side.
 fn past_step(
     amount: &i64,
     cost: &i128,
@@ -85,7 +85,7 @@ fn past_step(
     )
 }
 
-// The gap at two steps that are not the same, by the steps after them.
+// Returns the gap at two breakpoints that differ, given the breakpoints after them.
 fn parted(
     amount: &i64,
     cost: &i128,

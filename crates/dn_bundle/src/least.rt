@@ -20,7 +20,7 @@ pub struct Least {
 }
 
 impl Least {
-    /// The least length, or `None` where there is no arc.
+    /// Returns the least length, or `None` if there is no arc.
     pub fn get(&self) -> Option<i64>
         ensures { MatchOption result (length_told self.now.length ≡ [])
             (LeastLength (length_told self.now.length)) }
@@ -29,7 +29,7 @@ impl Least {
     }
 }
 
-// The least length of a bundle, `None` of none.
+// Returns the least length of a bundle, or `None` if there is no bundle.
 fn length_of(bundle: Option<&Least>) -> Option<i64>
     ensures { result ≡ option_and_then (λ b. b.length) (option_copied bundle.entry) }
 {

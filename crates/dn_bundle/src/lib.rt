@@ -1,11 +1,12 @@
-//! What the parallel arcs of one ordered pair of nodes mean: the least length, the total capacity, or the cost curve.
-//! A bundle merges arcs as they come and tells canonical arcs, in form 1 and in form 2, that mean the same. It takes no
-//! arc with which the capacities sum past 2^63-1, and tells where its meaning first differs from that of another.
+//! What the parallel arcs of one ordered pair of nodes mean: the least length, the total capacity, or the cost curve. A
+//! bundle merges arcs as they arrive. It lists canonical arcs that mean the same, in form 1 and in form 2. It refuses
+//! an arc with which the capacities would sum to more than 2^63-1, and it finds the first difference from another
+//! bundle.
 //!
-//! In the order of the data: `bundle` has the trait and the bundle of listed arcs; `least`, `total` and `curve` are the
-//! three bundles, the last over `steps` of free capacity, with costs of 128 bits in `cost128`. How a curve keeps its
-//! numbers is in `curve::shape`, how they are read in `curve::numbers`, and what it tells in `curve::canon_arcs`.
-//! `difference` finds the first gap between the steps of two curves.
+//! `bundle` has the trait, and makes a bundle from a list of arcs. `least`, `total` and `curve` have the three kinds of
+//! bundles. A curve stores its breakpoints in `steps`, and computes costs of 128 bits by `cost128`. `curve::shape`
+//! stores the numbers of a curve, `curve::numbers` reads them, and `curve::canon_arcs` lists its canonical arcs.
+//! `difference` finds the first gap between the breakpoints of two curves.
 #![tactic(auto)]
 
 pub mod bundle;

@@ -1,4 +1,4 @@
-// Free capacity by rising cost.
+// The breakpoints of a cost curve: its free capacity by ascending cost.
 ghost use Rattle.std.specs.Prelude.{◌≡◌, ◌-◌, ◌^◌, ℤ, pos, ◌+ℤ◌, ◌≤ℤ◌, List, [], length, slice_get, OnOk, OnErr, ◌≤◌};
 ghost use Rattle.std.specs.Iterator.{YieldsFirst, item_count};
 ghost use Rattle.std.specs.Option.{option_to_list};
@@ -10,7 +10,8 @@ use std::collections::btree_map::Iter;
 use std::marker::Model;
 use std::ops::Bound;
 
-/// Free capacity by rising cost. The least cost stands beside the map, so that one step takes no memory.
+/// Free capacity by ascending cost. The breakpoint of the least cost is stored outside the map, so that a single
+/// breakpoint needs no allocation.
 #[derive(Drop)]
 pub(crate) struct Steps {
     first: Option<(i64, i64)>,
@@ -29,7 +30,7 @@ impl Model for Steps {
     ghost invariant = { λ a. IsFirst a.first a.rest.entries };
 }
 
-// Puts capacity into a map, which joins what is there.
+// Adds capacity at a cost to a map.
 fn put_in(map: &mut BTreeMap<i64, i64>, step: (i64, i64)) -> Result<(), AllocError>
     requires some { pos 0 ≤ℤ step.1 }
     requires steps { AreSteps map.old.entries }
@@ -42,7 +43,7 @@ fn put_in(map: &mut BTreeMap<i64, i64>, step: (i64, i64)) -> Result<(), AllocErr
     Ok(())
 }
 
-// The first step past a cost.
+// Returns the first breakpoint of a map whose cost is above `cost`.
 fn past_in(map: &BTreeMap<i64, i64>, cost: &i64) -> Option<(i64, i64)>
     ensures { result ≡ step_past map.now.entries cost.now }
 {
@@ -51,7 +52,7 @@ fn past_in(map: &BTreeMap<i64, i64>, cost: &i64) -> Option<(i64, i64)>
     Some((*each, *room))
 }
 
-// Whether there is capacity at a cost.
+// Whether a map has capacity at this cost.
 fn has_in(map: &BTreeMap<i64, i64>, cost: &i64) -> bool
     ensures { result ≡ has_step map.now.entries cost.now }
 {
@@ -59,7 +60,7 @@ fn has_in(map: &BTreeMap<i64, i64>, cost: &i64) -> bool
 }
 
 impl Steps {
-    /// The free capacity of at most one cost.
+    /// Makes a list of at most one breakpoint.
     pub(crate) fn of(alloc: Global, first: Option<(i64, i64)>) -> Steps
         ensures { result ≡ steps_of first [] }
     {
@@ -69,26 +70,26 @@ impl Steps {
         }
     }
 
-    /// How many costs have free capacity.
+    /// Returns how many costs have free capacity.
     pub(crate) fn len(&self) -> u64
         ensures len { result ≡ length self.now }
         ensures small { result ≤ 2 ^ 63 }
     {
         match self.first {
-            // A map has fewer than 2^63 entries, so nothing saturates.
+            // A map has fewer than 2^63 entries, so the sum does not saturate.
             Some(_) => (self.rest.len() as u64).saturating_add(1),
             None => 0,
         }
     }
 
-    /// The least cost, and the capacity at it.
+    /// Returns the least cost, and the capacity at it.
     pub(crate) fn first(&self) -> Option<(i64, i64)>
         ensures { result ≡ slice_get self.now 0 }
     {
         self.first
     }
 
-    /// The step at `i` by rising cost, counted from 0.
+    /// Returns the breakpoint at `i`, counted from 0 by ascending cost.
     pub(crate) fn get(&self, i: u64) -> Option<(i64, i64)>
         ensures { result ≡ slice_get self.now i }
     {
@@ -102,7 +103,7 @@ impl Steps {
         None
     }
 
-    /// The first step past a cost.
+    /// Returns the first breakpoint whose cost is above `cost`.
     pub(crate) fn past(&self, cost: &i64) -> Option<(i64, i64)>
         ensures { result ≡ step_past self.now cost.now }
     {
@@ -122,7 +123,7 @@ impl Steps {
         }
     }
 
-    // Puts capacity at a cost, which joins what is there. On an error nothing has changed.
+    // Adds capacity at a cost. After an error, nothing has changed.
     fn put(&mut self, step: (i64, i64)) -> Result<(), AllocError>
         requires some { pos 1 ≤ℤ step.1 }
         requires steps { AreSteps self.old }
@@ -146,7 +147,7 @@ impl Steps {
         Ok(())
     }
 
-    /// Puts capacity at a cost, if there is any. On an error nothing has changed.
+    /// Adds capacity at a cost, if the capacity is above 0. After an error, nothing has changed.
     pub(crate) fn add(&mut self, step: (i64, i64)) -> Result<(), AllocError>
         requires some { pos 0 ≤ℤ step.1 }
         requires steps { AreSteps self.old }
@@ -157,7 +158,7 @@ impl Steps {
         if 0 < step.1 { self.put(step) } else { Ok(()) }
     }
 
-    /// The steps by rising cost.
+    /// Iterates over the breakpoints by ascending cost.
     pub(crate) fn iter(&self) -> StepsIter<'_>
         ensures { result ≡ self.now }
     {
@@ -168,7 +169,7 @@ impl Steps {
     }
 }
 
-/// The steps that are left, by rising cost.
+/// The remaining breakpoints, by ascending cost.
 #[derive(Drop)]
 pub(crate) struct StepsIter<'a> {
     first: Option<(i64, i64)>,
@@ -185,7 +186,7 @@ impl<'a> Model for StepsIter<'a> {
 }
 
 impl<'a> StepsIter<'a> {
-    /// The steps of at most one cost.
+    /// Iterates over at most one breakpoint.
     pub(crate) fn of(first: Option<(i64, i64)>) -> StepsIter<'a>
         ensures { result ≡ option_to_list first }
     {

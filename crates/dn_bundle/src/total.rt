@@ -10,7 +10,7 @@ use crate::bundle::{Bundle, BundleFault};
 use dn_arc::{CapArc, Form, How};
 use std::alloc::Global;
 
-/// The total capacity of the arcs of a `max` pair, 0 where there is no arc.
+/// The total capacity of the arcs of a `max` pair, or 0 if there is no arc.
 #[derive(Drop)]
 pub struct Total {
     total: i64,
@@ -19,7 +19,7 @@ pub struct Total {
 }
 
 impl Total {
-    /// The total capacity.
+    /// Returns the total capacity.
     pub fn get(&self) -> i64
         ensures { result ≡ total_cap (cap_told self.now.total) }
     {
@@ -27,7 +27,7 @@ impl Total {
     }
 }
 
-// The total capacity of a bundle, 0 of none.
+// Returns the total capacity of a bundle, or 0 if there is no bundle.
 fn total_of(bundle: Option<&Total>) -> i64
     ensures { result ≡ unwrap_or (option_map (λ b. b.total) (option_copied bundle.entry)) (pos 0) }
 {

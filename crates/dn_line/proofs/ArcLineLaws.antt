@@ -1,4 +1,4 @@
--- Lines whose words are a letter and numbers, with one blank between them.
+-- Lines whose words are a letter and numbers, separated by blanks.
 use Rattle.std.proofs.Common.{◌≡◌, ℕ, ℤ, pos, ◌≤ℤ◌, List, [], ◌∷◌, ◌++◌, Bool, true, false, not, ◌&&◌, cond, append-nil, refl, ap, sym, ◌∙◌, append_assoc, map, filter, Some, Ok}
 use Rattle.std.specs.List.{list_all}
 use Rattle.dn_num.specs.Number.{number_read}
@@ -27,7 +27,7 @@ cond_false x p q e = ap (λ (b : Bool). let r : Parts = cond b p q in r) e
 cond_true : (x : Bool) (p q : Parts) → x ≡ true → cond x p q ≡ p
 cond_true x p q e = ap (λ (b : Bool). let r : Parts = cond b p q in r) e
 
--- a run without blanks and a blank are a piece
+-- a run without blanks, followed by a blank, is a piece
 run_parts : (w : List ℕ) (b : ℕ) (l : List ℕ) → list_all is_clear w ≡ true → is_blank b ≡ true → parts is_blank (w ++ b ∷ l) ≡ (w ∷ (parts is_blank l).0, (parts is_blank l).1)
 run_parts [] b l h k = cond_true (is_blank b) ([] ∷ (parts is_blank l).0, (parts is_blank l).1) (onto b (parts is_blank l).0 (parts is_blank l).1) k
 run_parts (x ∷ w) b l h k =
@@ -39,7 +39,7 @@ kept : (w : List ℕ) (ws : List (List ℕ)) → has_bytes w ≡ true → filter
 kept [] ws h = cc
 kept (b ∷ w) ws h = refl
 
--- and the first word
+-- a run without blanks, followed by a blank, is the first word
 run_words : (w : List ℕ) (b : ℕ) (l : List ℕ) → list_all is_clear w ≡ true → has_bytes w ≡ true → is_blank b ≡ true → words (w ++ b ∷ l) ≡ w ∷ words l
 run_words w b l h k e = ap (λ (p : Parts). filter has_bytes (p.0 ++ p.1 ∷ [])) (run_parts w b l h e) ∙ kept w ((parts is_blank l).0 ++ (parts is_blank l).1 ∷ []) k
 
@@ -47,7 +47,7 @@ run_words w b l h k e = ap (λ (p : Parts). filter has_bytes (p.0 ++ p.1 ∷ [])
 run_alone : (w : List ℕ) → list_all is_clear w ≡ true → has_bytes w ≡ true → words w ≡ w ∷ []
 run_alone w h k = ap (λ (p : Parts). filter has_bytes (p.0 ++ p.1 ∷ [])) (clear_parts [] w h) ∙ kept w [] k
 
--- blanks begin no word
+-- a leading blank does not change the words
 blank_words : (b : ℕ) (l : List ℕ) → is_blank b ≡ true → words (b ∷ l) ≡ words l
 blank_words b l e = ap (λ (p : Parts). filter has_bytes (p.0 ++ p.1 ∷ [])) (run_parts [] b l refl e)
 
@@ -69,7 +69,7 @@ blanks_inner : (bs : List ℕ) → list_all is_blank bs ≡ true → list_all is
 blanks_inner [] h = refl
 blanks_inner (b ∷ bs) h = let f = all_first b bs h in both_true (is_inner b) (list_all is_inner bs) (blank_inner b f.0) (blanks_inner bs f.1)
 
--- a run without blanks, and blanks or none
+-- a run without blanks, followed by any blanks, is the only word
 run_last : (w bs : List ℕ) → list_all is_clear w ≡ true → has_bytes w ≡ true → list_all is_blank bs ≡ true → words (w ++ bs) ≡ w ∷ []
 run_last w [] h k e = ap words (append-nil w) ∙ run_alone w h k
 run_last w (b ∷ bs) h k e =
@@ -80,7 +80,7 @@ some_bytes : (w : List ℕ) (v : ℤ) → number_read w ≡ Ok v → has_bytes w
 some_bytes [] v h = cc
 some_bytes (b ∷ bs) v h = refl
 
--- one number, blanks or none, and LF
+-- one number, any blanks and LF are a line of one number
 pub last_number : (bytes left rest : List ℕ) (v : ℤ) → IsNumberFront bytes v left → IsLineEnd left rest → AreNumbers bytes (v ∷ []) rest
 last_number bytes left rest v n e =
     let clear = number_clear n.word v n.reads in
@@ -92,11 +92,11 @@ last_number bytes left rest v n e =
       says = ap (map said) (run_last n.word bs clear (some_bytes n.word v n.reads) e.blanks.all) ∙ ap (λ (w : Word). w ∷ []) (number_said n.word v n.reads);
     }
 
--- a number and blanks
+-- a number followed by blanks
 pub number_gap : (bytes left rest : List ℕ) (v : ℤ) → IsNumberFront bytes v left → IsGap left rest → IsNumberBefore bytes v rest
 number_gap bytes left rest v n g = record { left = left; front = n; gap = g }
 
--- and others after them
+-- a number and blanks before a line of numbers make a line of one more number
 pub more_numbers : (bytes left rest : List ℕ) (v : ℤ) (vs : List ℤ) → IsNumberBefore bytes v left → AreNumbers left vs rest → AreNumbers bytes (v ∷ vs) rest
 more_numbers bytes left rest v vs n m =
     let f = n.front in
@@ -120,7 +120,7 @@ more_numbers bytes left rest v vs n m =
           ∙ ap (λ (ws : List Word). number_word v ∷ ws) (ap (map said) (blanks_words bs m.line g.then.all) ∙ m.says);
     }
 
--- the arcs that numbers are
+-- the arc that three numbers spell in an `sp` text
 
 pub length_numbers : (bytes rest : List ℕ) (a b c : ℤ) → AreNumbers bytes (a ∷ b ∷ c ∷ []) rest → IsArcOf Sp bytes (SpArc a b c) rest
 length_numbers bytes rest a b c n = record {
@@ -149,7 +149,7 @@ cost_numbers bytes rest a b l c p n h k = record {
   reads = ap (checked_item Min A) n.says ∙ cost_arc_read (number_word a) (number_word b) (number_word l) (number_word c) (number_word p) a b l c p refl refl refl refl refl h k;
 }
 
--- behind the letter
+-- the head of a line that begins with the letter `a`
 
 letter_head : (kind : Kind) (ws : List Word) → has_arcs kind ≡ true → head_read (Some kind) (said (97 ∷ []) ∷ ws) ≡ Ok Heads.Arc
 letter_head Min ws h = refl
@@ -162,7 +162,7 @@ letter_head Co ws h = cc
 letter_words : (b : ℕ) (bs l : List ℕ) → is_blank b ≡ true → list_all is_blank bs ≡ true → said_words (97 ∷ b ∷ bs ++ l) ≡ said (97 ∷ []) ∷ said_words l
 letter_words b bs l h k = ap (map said) (run_words (97 ∷ []) b (bs ++ l) refl refl h ∙ ap (λ ws. (97 ∷ []) ∷ ws) (blanks_words bs l k))
 
--- the line of an arc, behind its letter and blanks
+-- the letter `a`, blanks, and the fields of an arc are the line of that arc
 pub letter_line : (kind : Kind) (bytes more rest : List ℕ) (arc : Line) → IsGap bytes more → IsArcOf kind more arc rest → BeginsWithArc kind (97 ∷ bytes) arc rest
 letter_line kind bytes more rest arc g a =
     let bs = g.then.blanks in

@@ -1,4 +1,4 @@
-// The lines of several arcs in their plain spelling, read together.
+// Reads the lines of several arcs at once, if they are in plain spelling.
 ghost use Rattle.std.specs.Prelude.{◌≡◌, ◌≤◌, ℕ, List, [], length, take};
 ghost use Rattle.dn_line.specs.State.ArcBlocks.{BeginWithArcs, ReadUpTo, last_left};
 
@@ -6,7 +6,7 @@ use crate::arc_lines::{PlainArc, arc_line};
 use crate::kind::Kind;
 use std::marker::Model;
 
-/// As many arcs are read together.
+/// The greatest count of arcs that one block reads.
 pub const BLOCK: usize = 16;
 
 /// An arc of a block.
@@ -14,11 +14,11 @@ pub const BLOCK: usize = 16;
 pub struct ArcLine {
     /// The arc.
     pub arc: PlainArc,
-    /// How many bytes follow its line, behind the LF that ends it.
+    /// The count of bytes that follow the LF of its line.
     pub left: usize,
 }
 
-// What stands where no arc does.
+// Fills the unused places of a block.
 const NO_ARC: ArcLine = ArcLine {
     arc: PlainArc {
         src: 0,
@@ -30,7 +30,7 @@ const NO_ARC: ArcLine = ArcLine {
     left: 0,
 };
 
-/// The arcs whose plain lines stand at the front of some bytes, one after the other.
+/// The arcs of consecutive plain lines at the beginning of some bytes.
 #[derive(Drop)]
 pub struct ArcBlock {
     arcs: [ArcLine; BLOCK],
@@ -49,7 +49,7 @@ impl Model for ArcBlock {
 }
 
 impl ArcBlock {
-    /// No arcs.
+    /// Returns a block without arcs.
     pub fn new() -> ArcBlock
         ensures { result ≡ [] }
     {
@@ -59,15 +59,15 @@ impl ArcBlock {
         }
     }
 
-    /// Reads the arcs at the front of these bytes, in a text of this kind, as far as their lines are plain and a block
-    /// has room, in place of those that it had.
+    /// Replaces the block by the arcs at the beginning of these bytes, in a text of this kind. It stops before the
+    /// first line that is not a plain arc line, and when the block is full.
     pub fn read(&mut self, kind: Kind, bytes: &[u8])
         ensures { BeginWithArcs kind bytes.now self.new }
     {
         self.len = read_arcs(kind, bytes, &mut self.arcs);
     }
 
-    /// The arcs.
+    /// Returns the arcs of the block, at most 16.
     pub fn arcs(&self) -> &[ArcLine]
         ensures arcs { result.now ≡ self.now }
         ensures few { length result.now ≤ 16 }
@@ -76,7 +76,7 @@ impl ArcBlock {
     }
 }
 
-// Reads the arcs at the front of these bytes, and answers how many they are.
+// Reads the arcs at the beginning of these bytes, and returns their count.
 fn read_arcs(kind: Kind, bytes: &[u8], arcs: &mut [ArcLine; BLOCK]) -> usize
     ensures arcs { BeginWithArcs kind bytes.now (take result arcs.new) }
     ensures within { result ≤ 16 }
@@ -95,7 +95,8 @@ fn read_arcs(kind: Kind, bytes: &[u8], arcs: &mut [ArcLine; BLOCK]) -> usize
     BLOCK
 }
 
-/// How many of so many bytes follow the last of these lines, which stand at their front.
+/// Returns how many bytes follow the last of these lines, which begin a piece of `all` bytes. If there are no lines,
+/// this is `all`.
 pub fn left_behind(arcs: &[ArcLine], all: usize) -> usize
     ensures { result ≡ last_left all arcs.now }
 {

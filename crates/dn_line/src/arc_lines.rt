@@ -1,4 +1,4 @@
-// Lines of arcs in their plain spelling, read in one pass.
+// Reads lines of arcs in plain spelling in one pass.
 ghost use Rattle.std.specs.Prelude.{◌≡◌, ◌+◌, ◌<◌, ◌≤◌, ◌∷◌, [], IfSome, drop, length};
 ghost use Rattle.dn_line.specs.State.ArcLines.{AreBlanks, AreNumbers, BeginsWithArc, IsArcOf, IsGap, IsLineEnd, IsNumberBefore, IsNumberFront, arc_of};
 
@@ -13,24 +13,24 @@ pub struct PlainArc {
     pub src: i64,
     /// The head.
     pub dst: i64,
-    /// The least amount.
+    /// The lower bound on its flow.
     pub low: i64,
     /// The capacity.
     pub cap: i64,
-    /// The cost of a unit; of an `sp` arc, its length.
+    /// The cost per unit, or for an `sp` arc the length.
     pub cost: i64,
 }
 
-// An arc, and what follows its line.
+// An arc, and the bytes after its line.
 #[derive(Clone, Copy)]
 pub(crate) struct ArcBefore<'a> {
     pub(crate) arc: PlainArc,
     pub(crate) rest: &'a [u8],
 }
 
-// The arc whose line stands at the front of these bytes, in a text of this kind, where the line is plain: its letter
-// and its numbers with blanks between them, no number with `+` before it, and LF at its end. Of any other line it says
-// nothing.
+// Reads the arc line that begins these bytes, in a text of this kind, if the line is plain: the letter and the numbers
+// with blanks between them, no number with a `+`, and an LF at its end. Returns none for any other line, whether or not
+// that line has a fault.
 pub(crate) fn arc_line(kind: Kind, bytes: &[u8]) -> Option<ArcBefore<'_>>
     ensures { IfSome result (λ a. BeginsWithArc kind bytes.now (arc_of kind a.arc) a.rest.now) }
 {
@@ -40,14 +40,14 @@ pub(crate) fn arc_line(kind: Kind, bytes: &[u8]) -> Option<ArcBefore<'_>>
     None
 }
 
-// A number, and what follows it.
+// A number, and the bytes after it.
 #[derive(Clone, Copy)]
 struct NumberFront<'a> {
     number: i64,
     rest: &'a [u8],
 }
 
-// Three numbers, and what follows the LF after them.
+// Three numbers, and the bytes after the LF that follows them.
 #[derive(Clone, Copy)]
 struct ThreeNumbers<'a> {
     first: i64,
@@ -56,11 +56,11 @@ struct ThreeNumbers<'a> {
     rest: &'a [u8],
 }
 
-// The longest line of three numbers of one to eight digits, with a byte for the blank after each and two for its end,
-// and as many more as a number of eight digits is read with.
+// The greatest length of a line of three numbers of one to eight digits, with one byte for the blank after each of the
+// first two and two bytes for the line end. It is long enough to read eight bytes at each number.
 const SHORT_LINE: usize = 28;
 
-// What follows the blanks at the front, if there are any.
+// Returns the bytes after any leading blanks.
 #[inline(always)]
 fn past_blanks(bytes: &[u8]) -> &[u8]
     ensures { AreBlanks bytes.now result.now }
@@ -73,7 +73,7 @@ fn past_blanks(bytes: &[u8]) -> &[u8]
     &[]
 }
 
-// What follows the blanks at the front, of which there is one at least.
+// Returns the bytes after the leading blanks, or none if there is no blank.
 #[inline(always)]
 fn after_blanks(bytes: &[u8]) -> Option<&[u8]>
     ensures { IfSome result (λ rest. IsGap bytes.now rest.now) }
@@ -84,7 +84,7 @@ fn after_blanks(bytes: &[u8]) -> Option<&[u8]>
     }
 }
 
-// What follows the blanks at the front, if there are any, and LF.
+// Returns the bytes after any leading blanks and the LF that follows them, or none if no LF follows.
 fn after_line_end(bytes: &[u8]) -> Option<&[u8]>
     ensures { IfSome result (λ rest. IsLineEnd bytes.now rest.now) }
 {
@@ -94,7 +94,7 @@ fn after_line_end(bytes: &[u8]) -> Option<&[u8]>
     }
 }
 
-// What follows a space at the front.
+// Returns the bytes after a leading space, or none if there is no space.
 #[inline(always)]
 fn after_space(bytes: &[u8]) -> Option<&[u8]>
     requires { 0 < length bytes.now }
@@ -108,7 +108,7 @@ fn after_space(bytes: &[u8]) -> Option<&[u8]>
     }
 }
 
-// What follows LF at the front, or CR and LF.
+// Returns the bytes after a leading LF or CR LF, or none if there is neither.
 #[inline(always)]
 fn after_plain_end(bytes: &[u8]) -> Option<&[u8]>
     requires { 1 < length bytes.now }
@@ -123,8 +123,8 @@ fn after_plain_end(bytes: &[u8]) -> Option<&[u8]>
     }
 }
 
-// The number of one to eight digits at the front, where a byte follows them that is no digit, or the first eight of
-// more.
+// Reads the number of one to eight digits at the beginning, or of the first eight digits if there are more. Returns
+// none if there is no digit.
 #[inline(always)]
 fn short_front(bytes: &[u8]) -> Option<NumberFront<'_>>
     requires { 8 ≤ length bytes.now }
@@ -138,8 +138,8 @@ fn short_front(bytes: &[u8]) -> Option<NumberFront<'_>>
     })
 }
 
-// The three numbers at the front, each of one to eight digits, with a space between them and LF or CR and LF after
-// them.
+// Reads three numbers of one to eight digits each, with one space between them and LF or CR LF after them. Returns none
+// for any other bytes, and for fewer bytes than `SHORT_LINE`.
 #[inline(always)]
 fn short_three(bytes: &[u8]) -> Option<ThreeNumbers<'_>>
     ensures { IfSome result (λ n. AreNumbers bytes.now (n.first ∷ n.second ∷ n.third ∷ []) n.rest.now) }
@@ -158,7 +158,7 @@ fn short_three(bytes: &[u8]) -> Option<ThreeNumbers<'_>>
     })
 }
 
-// The number at the front.
+// Reads the number at the beginning.
 fn any_front(bytes: &[u8]) -> Option<NumberFront<'_>>
     ensures { IfSome result (λ n. IsNumberFront bytes.now n.number n.rest.now) }
 {
@@ -169,7 +169,7 @@ fn any_front(bytes: &[u8]) -> Option<NumberFront<'_>>
     })
 }
 
-// A number at the front, and what follows the blanks after it.
+// Reads the number at the beginning, and the blanks after it, at least one.
 fn number_before(bytes: &[u8]) -> Option<NumberFront<'_>>
     ensures { IfSome result (λ n. IsNumberBefore bytes.now n.number n.rest.now) }
 {
@@ -189,7 +189,7 @@ fn number_before(bytes: &[u8]) -> Option<NumberFront<'_>>
     })
 }
 
-// The three numbers at the front, of any length, with blanks between them and LF after them.
+// Reads three numbers of any length, with blanks between them, and the LF after them.
 fn any_three(bytes: &[u8]) -> Option<ThreeNumbers<'_>>
     ensures { IfSome result (λ n. AreNumbers bytes.now (n.first ∷ n.second ∷ n.third ∷ []) n.rest.now) }
 {
@@ -204,7 +204,7 @@ fn any_three(bytes: &[u8]) -> Option<ThreeNumbers<'_>>
     })
 }
 
-// The three numbers at the front, with blanks between them and LF after them.
+// Reads three numbers with blanks between them, and the LF after them. It tries short numbers first.
 #[inline(always)]
 fn three_numbers(bytes: &[u8]) -> Option<ThreeNumbers<'_>>
     ensures { IfSome result (λ n. AreNumbers bytes.now (n.first ∷ n.second ∷ n.third ∷ []) n.rest.now) }
@@ -215,7 +215,7 @@ fn three_numbers(bytes: &[u8]) -> Option<ThreeNumbers<'_>>
     }
 }
 
-// The arc of an `sp` text, from the bytes after its letter.
+// Reads the arc of an `sp` text from the bytes after its letter and blanks.
 #[tactic(auto, using(crate::proofs::ArcLineLaws::length_numbers))]
 fn length_arc(bytes: &[u8]) -> Option<ArcBefore<'_>>
     ensures { IfSome result (λ a. IsArcOf Kind.Sp bytes.now (arc_of Kind.Sp a.arc) a.rest.now) }
@@ -233,7 +233,7 @@ fn length_arc(bytes: &[u8]) -> Option<ArcBefore<'_>>
     })
 }
 
-// The arc of a `max` text.
+// Reads the arc of a `max` text from the bytes after its letter and blanks.
 #[tactic(auto, using(crate::proofs::ArcLineLaws::cap_numbers))]
 fn cap_arc(bytes: &[u8]) -> Option<ArcBefore<'_>>
     ensures { IfSome result (λ a. IsArcOf Kind.Max bytes.now (arc_of Kind.Max a.arc) a.rest.now) }
@@ -254,7 +254,7 @@ fn cap_arc(bytes: &[u8]) -> Option<ArcBefore<'_>>
     })
 }
 
-// The arc of a `min` text.
+// Reads the arc of a `min` text from the bytes after its letter and blanks.
 fn cost_arc(bytes: &[u8]) -> Option<ArcBefore<'_>>
     ensures { IfSome result (λ a. IsArcOf Kind.Min bytes.now (arc_of Kind.Min a.arc) a.rest.now) }
 {
@@ -276,7 +276,7 @@ fn cost_arc(bytes: &[u8]) -> Option<ArcBefore<'_>>
     })
 }
 
-// The arc of a text of this kind, from the bytes after its letter.
+// Reads the arc of a text of this kind from the bytes after its letter and blanks.
 fn arc_before(kind: Kind, bytes: &[u8]) -> Option<ArcBefore<'_>>
     ensures { IfSome result (λ a. IsArcOf kind bytes.now (arc_of kind a.arc) a.rest.now) }
 {

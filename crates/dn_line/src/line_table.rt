@@ -1,11 +1,11 @@
-// The table of lines: which fields a line has, and where they begin.
+// The table of lines: the fields of each line, and where they begin.
 ghost use Rattle.std.specs.Prelude.{◌≡◌, ◌∷◌, map, MatchOption};
 ghost use Rattle.dn_line.specs.LineTable.{row, named, counts, after_name};
 
 use crate::kind::Kind;
 use crate::word::{Field, Keyword, Word};
 
-// The kind that the words after `p` begin to name.
+// Returns the kind that the words after `p` begin with the name of.
 pub(crate) fn named(words: &[Word]) -> Option<Kind>
     ensures { result ≡ named (map (λ w. w.keyword) words.now) }
 {
@@ -21,7 +21,7 @@ pub(crate) fn named(words: &[Word]) -> Option<Kind>
     }
 }
 
-// The fields of the line that this kind has under this letter.
+// Returns the fields of the line that this kind has for this letter.
 pub(crate) fn row(kind: Kind, letter: Keyword) -> Option<&'static [Field]>
     ensures { MatchOption result (row kind letter ≡ None) (λ fields. row kind letter ≡ Some fields.now) }
 {
@@ -44,7 +44,7 @@ pub(crate) fn row(kind: Kind, letter: Keyword) -> Option<&'static [Field]>
     }
 }
 
-// The fields of a problem line after the words that name its kind.
+// Returns the fields of a problem line, which follow the name of its kind.
 pub(crate) fn counts(kind: Kind) -> &'static [Field]
     ensures { result.now ≡ counts kind }
 {
@@ -54,7 +54,7 @@ pub(crate) fn counts(kind: Kind) -> &'static [Field]
     }
 }
 
-// What follows those words.
+// Returns the words after the name of the kind.
 pub(crate) fn after_name(kind: Kind, words: &[Word]) -> &[Word]
     ensures { result.now ≡ after_name kind words.now }
 {
@@ -65,7 +65,7 @@ pub(crate) fn after_name(kind: Kind, words: &[Word]) -> &[Word]
     }
 }
 
-// The kind that the words after `aux` begin to name.
+// Returns the kind that the words after `aux` begin with the name of.
 fn companion_named(words: &[Word]) -> Option<Kind>
     ensures { result ≡ named (Some Keyword.Aux ∷ map (λ w. w.keyword) words.now) }
 {

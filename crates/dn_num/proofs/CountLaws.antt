@@ -9,18 +9,18 @@ use Rattle.std.proofs.lemmas.Simd.{zip2_splat, zip2_splat_left, bitmask_splat, l
 use Rattle.std.proofs.lemmas.List.{length-map}
 use Rattle.dn_num.specs.Number.{is_digit}
 
--- the lanes less 48
+-- each lane minus 48, modulo 256
 abbrev lessened : List ℕ → List ℕ
 lessened xs = zip2 (λ a b. (a + (256 - b)) % 256) xs (replicate 8 48)
 
--- a lane that is no digit
+-- a lane is not a digit
 abbrev pub is_other : ℕ → Bool
 is_other x = ltb 9 ((x + 208) % 256)
 
 lessened_is : (xs : List ℕ) → length xs ≡ 8 → lessened xs ≡ map (λ x. (x + 208) % 256) xs
 lessened_is xs h = zip2_splat (λ a b. (a + (256 - b)) % 256) xs 8 48 h
 
--- the mask of the lanes that are none
+-- the mask of the lanes that are not digits
 pub others_mask : (xs : List ℕ) → length xs ≡ 8
     → mask_l (map (top 7) (zip2 (λ a b. cond (ltb a b) 255 0) (replicate 8 9) (lessened xs))) % 2 ^ 64 ≡ mask_l (map is_other xs)
 others_mask xs h =

@@ -1,4 +1,4 @@
--- Digits and the decimals that they make.
+-- The digits of a number make its decimal text.
 use Rattle.std.proofs.Common.{◌≡◌, ℕ, ◌+◌, ◌-◌, ◌*◌, ◌/◌, ◌%◌, ◌^◌, ◌<◌, ◌≤◌, ◌&&◌, List, [], ◌∷◌, ◌++◌, zero, suc, refl, ap, sym, ◌∙◌, arith, length, take, drop, get_or, cond, nat_eq, Bool, true, false, zero-mul, zero-add, pow-add, length-append}
 use Rattle.std.proofs.lemmas.Bool.Decides.{nat_tests}
 use Rattle.std.proofs.lemmas.Nat.{shr-shr}
@@ -14,7 +14,7 @@ use Rattle.dn_num.specs.State.Number.{begins_with_zero}
 use Rattle.dn_num.proofs.LaneLaws.{high}
 use Rattle.dn_num.proofs.ShortestLaws.{numerals, digits_are}
 
--- a word without its first lanes
+-- shifting a word right by z lanes drops its first z lanes
 pub lowered : (z : ℕ) (cs : List ℕ) → Each1 (λ c. c < 256) cs → number_l 256 cs / 2 ^ (8 * z) ≡ number_l 256 (drop z cs)
 lowered zero cs h = omega arith
 lowered (suc z) [] h = shifted_none (8 * suc z)
@@ -35,7 +35,7 @@ pub codes_small : (ds : List ℕ) → Each1 (λ d. d < 10) ds → Each1 (λ c. c
 codes_small [] h = tt
 codes_small (d ∷ ds) h = (omega (arith, h.0), codes_small ds h.1)
 
--- what digits are worth
+-- the codes of digits spell the number that the digits represent
 codes_value : (ds : List ℕ) → digits_number (codes_of ds) ≡ places ds
 codes_value [] = refl
 codes_value (d ∷ ds) =
@@ -55,7 +55,7 @@ eight_places n = omega arith
 pub eight_small : (n : ℕ) → n < 100000000 → Each1 (λ d. d < 10) (eight_digits n)
 eight_small n h = (omega arith, (omega arith, (omega arith, (omega arith, (omega arith, (omega arith, (omega arith, (omega arith, tt))))))))
 
--- digits without the zeros before them
+-- digits without leading zeros are a shortest text, and have the value of all digits
 record Stripped (ds : List ℕ) : Type 0 where
   digits : is_digits (drop (zeros_before ds) (codes_of ds)) ≡ true
   lead : begins_with_zero (drop (zeros_before ds) (codes_of ds)) ≡ true → length (drop (zeros_before ds) (codes_of ds)) ≡ 1
@@ -87,7 +87,7 @@ stripped (suc d) (e ∷ ds) h =
     no_zero : (d : ℕ) (cs : List ℕ) → begins_with_zero ((suc d + 48) ∷ cs) ≡ true → ⊥
     no_zero d cs e = grind (arith, nat_tests)
 
--- of eight digits
+-- the eight digits of a number without leading zeros are its decimal text
 pub short_decimal : (n : ℕ) → n < 100000000 → drop (zeros_before (eight_digits n)) (codes_of (eight_digits n)) ≡ decimal n
 short_decimal n h =
     let s : Stripped (eight_digits n) = stripped _ _ (eight_small n h) in
@@ -109,7 +109,7 @@ zeros_less (d ∷ ds) h = omega (arith, zeros_le d ds)
 pub few_zeros : (n : ℕ) → zeros_before (eight_digits n) ≤ 7
 few_zeros n = let less = zeros_less (eight_digits n) (omega arith) in omega arith
 
--- after the digits of a number without the zeros before them are put
+-- what holds after the digits of a number, without leading zeros, have been written
 pub record ShortPut (at z n : ℕ) (new front : List ℕ) : Type 0 where
   pub text : take (at + 8 - z) new ≡ front ++ decimal n
   pub end : at + 8 - z ≡ at + length (decimal n)
@@ -158,7 +158,7 @@ digits_append : (ds es : List ℕ) → 0 < length ds → list_all is_digit ds �
 digits_append [] es some h k = absurd (omega arith)
 digits_append (d ∷ ds) es some h k = all_append (d ∷ ds) es h k
 
--- the digits of a number from 10^8 on
+-- the decimal text of a number from 10^8 on ends with the eight digits of its remainder by 10^8
 pub long_decimal : (n : ℕ) → 100000000 ≤ n → n < 2 ^ 64 → decimal n ≡ decimal (n / 100000000) ++ codes_of (eight_digits (n % 100000000))
 long_decimal n h fits =
     let high : ℕ = n / 100000000 in

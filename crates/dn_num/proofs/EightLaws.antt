@@ -1,16 +1,16 @@
--- Words of digits, by halves.
+-- Splitting words into digits by multiplication.
 use Rattle.std.proofs.Common.{◌≡◌, ℕ, ◌+◌, ◌-◌, ◌*◌, ◌/◌, ◌%◌, ◌^◌, ◌<◌, List, [], ◌∷◌, ap, ◌∙◌, arith, bit_and, lit<}
 use Rattle.std.specs.Simd.Lanes.{Each1, number_l}
 use Rattle.dn_num.proofs.LaneLaws.{and_lanes, masks, low, number_pair, number_four}
 
--- multiplying in place of dividing
+-- below 10000, a multiplication and a shift divide by 100
 hundredth : (a : ℕ) → a < 10000 → a * 10486 / 1048576 ≡ a / 100
 hundredth a h = omega arith
 
 tenth : (a : ℕ) → a < 100 → a * 103 / 1024 ≡ a / 10
 tenth a h = omega arith
 
--- the first pair of each four
+-- the multiplication extracts the first pair of each four digits
 first_pairs : (w a b : ℕ) → a < 10000 → b < 10000 → w ≡ number_l 4294967296 (a ∷ b ∷ []) → bit_and (w * 10486 % 2 ^ 64 / 2 ^ 20) 0x0000007F0000007F ≡ number_l 4294967296 ((a / 100) ∷ (b / 100) ∷ [])
 first_pairs w a b h k is =
     let x : ℕ = a * 10486 / 1048576 in
@@ -31,7 +31,7 @@ pub pairs_are : (w a b : ℕ) → a < 10000 → b < 10000 → w ≡ number_l 429
 pairs_are w a b h k is =
     ap (λ q. (w * 65536 % 2 ^ 64 + (2 ^ 64 - q * 6553599 % 2 ^ 64)) % 2 ^ 64) (first_pairs w a b h k is) ∙ (omega arith)
 
--- the first digit of each pair
+-- the multiplication extracts the first digit of each pair
 first_digits : (w a b c d : ℕ) → Each1 (λ x. x < 100) (a ∷ b ∷ c ∷ d ∷ []) → w ≡ number_l 65536 (a ∷ b ∷ c ∷ d ∷ [])
     → bit_and (w * 103 % 2 ^ 64 / 2 ^ 10) 0x000F000F000F000F ≡ number_l 65536 ((a / 10) ∷ (b / 10) ∷ (c / 10) ∷ (d / 10) ∷ [])
 first_digits w a b c d (h, (i, (j, (k, _)))) is =

@@ -1,4 +1,4 @@
--- Words of lanes.
+-- Arithmetic on words of lanes.
 use Rattle.std.proofs.Common.{◌≡◌, ℕ, ◌+◌, ◌-◌, ◌*◌, ◌/◌, ◌%◌, ◌^◌, ◌<◌, List, [], ◌∷◌, refl, ap, sym, ◌∙◌, arith, length, map, bit_and, mul_comm, add_comm, lit<}
 use Rattle.std.proofs.lemmas.Nat.{shr_split, and_shr, and_mod, and_mask, div-mul-add, mod-mul-add}
 use Rattle.std.specs.Prelude.{replicate}
@@ -14,7 +14,7 @@ low k x X h = ap (λ n. n % 2 ^ k) (front k x X) ∙ mod-mul-add X (2 ^ k) x h
 pub high : (k x X : ℕ) → x < 2 ^ k → (x + 2 ^ k * X) / 2 ^ k ≡ X
 high k x X h = ap (λ n. n / 2 ^ k) (front k x X) ∙ div-mul-add X (2 ^ k) x h
 
--- the lowest lane of two words, and the others
+-- a bitwise and acts on the lowest lane and on the other lanes separately
 and_step : (k x X m M : ℕ) → x < 2 ^ k → m < 2 ^ k → bit_and (x + 2 ^ k * X) (m + 2 ^ k * M) ≡ bit_and x m + 2 ^ k * bit_and X M
 and_step k x X m M h g =
     let a : ℕ = x + 2 ^ k * X in
@@ -26,7 +26,7 @@ and_step k x X m M h g =
     sym (shr_split (bit_and a b) k) ∙ ap (λ n. n * 2 ^ k + bit_and a b % 2 ^ k) e ∙ ap (λ n. bit_and X M * 2 ^ k + n) f
     ∙ sym (front k (bit_and x m) (bit_and X M))
 
--- lane by lane with the same
+-- a bitwise and with the same mask in each lane masks each lane
 pub and_lanes : (k m : ℕ) (xs : List ℕ) → Each1 (λ x. x < 2 ^ k) xs → m < 2 ^ k
     → bit_and (number_l (2 ^ k) xs) (number_l (2 ^ k) (replicate (length xs) m)) ≡ number_l (2 ^ k) (map (λ x. bit_and x m) xs)
 and_lanes k m [] h g = refl
@@ -38,7 +38,7 @@ pub masks : (j : ℕ) (xs : List ℕ) → map (λ x. bit_and x (2 ^ j - 1)) xs �
 masks j [] = refl
 masks j (x ∷ xs) = ap (λ y. y ∷ map (λ x. bit_and x (2 ^ j - 1)) xs) (and_mask x j) ∙ ap (λ ys. (x % 2 ^ j) ∷ ys) (masks j xs)
 
--- the lower half of each byte
+-- a mask keeps the lower half of each byte
 pub low_halves : (w : ℕ) (ds : List ℕ) → length ds ≡ 8 → Each1 (λ d. d < 256) ds → w ≡ number_l 256 ds → bit_and w 0x0F0F0F0F0F0F0F0F ≡ number_l 256 (map (λ d. d % 16) ds)
 low_halves w ds n h e =
     ap (λ x. bit_and x 0x0F0F0F0F0F0F0F0F) e
@@ -46,7 +46,7 @@ low_halves w ds n h e =
     ∙ and_lanes 8 15 ds h (lit< tt)
     ∙ ap (number_l 256) (masks 4 ds)
 
--- two lanes of digits make one, by twice as many bits
+-- joining two lanes of digits makes one lane of twice as many bits
 
 pub number_pair : (p a b c d : ℕ) → a ≡ c → b ≡ d → number_l p (a ∷ b ∷ []) ≡ number_l p (c ∷ d ∷ [])
 number_pair p a b c d e f = ap (λ x. number_l p (x ∷ b ∷ [])) e ∙ ap (λ x. number_l p (c ∷ x ∷ [])) f
@@ -85,7 +85,7 @@ fours_are w a b c d (p, (q, (r, (s, _)))) is =
     ∙ ap (number_l 4294967296) (masks 16 sums)
     ∙ number_pair 4294967296 (s1 % 65536) (s2 % 65536) (a * 100 + b) (c * 100 + d) (low 16 (a * 100 + b) (b * 100 + c) (omega arith)) (low 16 (c * 100 + d) (d * 100) (omega arith))
 
--- the number of a word of eight lanes, by the four steps
+-- the four steps compute the number of a word of eight digits
 
 pub record Steps (w x y z : ℕ) : Type 0 where
   pub values : (ds : List ℕ) → length ds ≡ 8 → Each1 (λ d. d < 256) ds → w ≡ number_l 256 ds → x ≡ number_l 256 (map (λ d. d % 16) ds)

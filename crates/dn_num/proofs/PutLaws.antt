@@ -1,4 +1,4 @@
--- Words put into bytes, and the text of a number in them.
+-- Writing a word into bytes.
 use Rattle.std.proofs.Common.{◌≡◌, ℕ, ◌+◌, ◌*◌, ◌/◌, ◌%◌, ◌<◌, ◌≤◌, List, [], ◌∷◌, ◌++◌, zero, suc, refl, ap, sym, ◌∙◌, arith, length, take, drop}
 use Rattle.std.proofs.lemmas.List.{take-append-le, length-take-le}
 use Rattle.std.proofs.Math.Seq.{take-append-add}
@@ -7,7 +7,7 @@ use lib.Lanes.{digits_l, put_chunk}
 use Rattle.std.specs.Simd.Lanes.{Each1, number_l}
 use Rattle.dn_num.proofs.LaneLaws.{low, high}
 
--- the first bytes of a word of these lanes
+-- the first lanes of a word are the bytes that it was made of
 lanes_back : (k : ℕ) (cs : List ℕ) → length cs ≤ k → Each1 (λ c. c < 256) cs → take (length cs) (digits_l 256 k (number_l 256 cs)) ≡ cs
 lanes_back k [] h each = refl
 lanes_back zero (c ∷ cs) h each = absurd (omega arith)
@@ -17,7 +17,7 @@ lanes_back (suc k) (c ∷ cs) h each =
     let rest : (c + 256 * n) / 256 ≡ n = high 8 c n each.0 in
     ap (λ b. b ∷ take (length cs) (digits_l 256 k ((c + 256 * n) / 256))) first ∙ ap (λ m. c ∷ take (length cs) (digits_l 256 k m)) rest ∙ ap (λ l. c ∷ l) (lanes_back k cs (omega arith) each.1)
 
--- after a word is put
+-- the bytes after a word has been written
 pub word_put : (at w : ℕ) (bytes cs : List ℕ) → at + 8 ≤ length bytes → length cs ≤ 8 → Each1 (λ c. c < 256) cs → w ≡ number_l 256 cs
     → take (at + length cs) (put_chunk at bytes (digits_l 256 8 (w + 0))) ≡ take at bytes ++ cs
 word_put at w bytes cs h short each is =

@@ -15,7 +15,7 @@ use Rattle.dn_num.proofs.FrontLaws.{digits_front_read}
 use Rattle.dn_num.specs.State.Lanes.{places}
 use Rattle.dn_num.proofs.LaneLaws.{low, high}
 
--- a word without its higher lanes
+-- a word modulo 2^(8n) keeps its lowest n lanes
 lower : (n : ℕ) (bs : List ℕ) → Each1 (λ b. b < 256) bs → number_l 256 bs % 2 ^ (8 * n) ≡ number_l 256 (take n bs)
 lower zero bs h = omega arith
 lower (suc n) [] h = mod-eq_of_lt (pow_pos (8 * suc n))
@@ -29,7 +29,7 @@ lower (suc n) (b ∷ bs) h =
     ∙ ap (λ x. x * 256 + b) (lower n bs h.1)
     ∙ (omega arith)
 
--- lanes that move up, and zeros below them
+-- shifting a word left moves its lanes up, with zeros below them
 raised : (m n : ℕ) (bs : List ℕ) → Each1 (λ b. b < 256) bs → number_l 256 bs * 2 ^ (8 * m) % 2 ^ (8 * (m + n)) ≡ number_l 256 (replicate m 0 ++ take n bs)
 raised zero n bs h =
     let none : 8 * (zero + n) ≡ 8 * n = omega arith in
@@ -50,7 +50,7 @@ raised (suc m) n bs h =
     ∙ ap (λ x. x * 256 + 0) (raised m n bs h)
     ∙ (omega arith)
 
--- the first n of eight lanes, as the highest ones
+-- shifting a word left moves its first n lanes to the top
 pub first_lanes : (w n : ℕ) (bs : List ℕ) → n ≤ 8 → Each1 (λ b. b < 256) bs → w ≡ number_l 256 bs → w * 2 ^ (64 - 8 * n) % 2 ^ 64 ≡ number_l 256 (replicate (8 - n) 0 ++ take n bs)
 first_lanes w n bs k h e =
     let shift : 64 - 8 * n ≡ 8 * (8 - n) = omega arith in
@@ -60,7 +60,7 @@ first_lanes w n bs k h e =
     ∙ ap (λ i. number_l 256 bs * 2 ^ (8 * (8 - n)) % 2 ^ i) room
     ∙ raised (8 - n) n bs h
 
--- ---- the digits and zeros before them
+-- ---- the digits, with zeros before them
 
 each_append : (P : ℕ → Type 0) (xs ys : List ℕ) → Each1 P xs → Each1 P ys → Each1 P (xs ++ ys)
 each_append P [] ys h k = k
@@ -69,7 +69,7 @@ each_append P (x ∷ xs) ys h k = (h.0, each_append P xs ys h.1 k)
 after_one : (n : ℕ) → suc n ≡ 1 + n
 after_one n = omega arith
 
--- the bytes that are counted are digits
+-- the bytes that `prefix_len is_digit` counts are digits
 pub counted : (xs : List ℕ) → Each1 (λ d. is_digit d ≡ true) (take (prefix_len is_digit xs) xs)
 counted [] = tt
 counted (x ∷ xs) = by_test (counted xs) (is_digit x) refl
@@ -126,7 +126,7 @@ short_read ds v h e k =
     fit : nat_lt v (2 ^ 63) ≡ true
     fit = grind (arith, nat_tests)
 
--- what a word is worth of which the higher lanes are the first n of these bytes, and these are digits
+-- the value of a word whose higher lanes are the first n of these bytes, which are all digits
 
 pub record Word (n : ℕ) (bs : List ℕ) (w v : ℕ) : Type 0 where
   pub long : length bs ≡ 8

@@ -22,7 +22,7 @@ doubled j n = ap (λ i. i * n) (pow-suc 2 j) ∙ moved (2 ^ j)
     moved : (m : ℕ) → m * 2 * n ≡ 2 * (m * n)
     moved m = grind arith
 
--- j low zeros before the others
+-- multiplying by 2^j adds j trailing zeros
 shifted : (j k n : ℕ) → count_trailing_zeros (j + k) (2 ^ j * n) ≡ j + count_trailing_zeros k n
 shifted zero k n =
     let p : zero + k ≡ k = omega arith in
@@ -34,7 +34,7 @@ shifted (suc j) k n =
     let r : suc (j + count_trailing_zeros k n) ≡ suc j + count_trailing_zeros k n = omega arith in
     ap (λ i. count_trailing_zeros i (2 ^ suc j * n)) p ∙ ap (count_trailing_zeros (suc (j + k))) (doubled j n) ∙ even_step (j + k) (2 ^ j * n) ∙ ap suc (shifted j k n) ∙ r
 
--- one of the j lowest is set
+-- a nonzero number below 2^j leaves fewer than j trailing zeros
 set_below : (j k x n : ℕ) → 0 < x → x < 2 ^ j → count_trailing_zeros (j + k) (x + 2 ^ j * n) < j
 set_below zero k x n h i = absurd (omega arith)
 set_below (suc j) k x n h i = by_case (set_below j k (x / 2) n) (x % 2) refl
@@ -57,13 +57,13 @@ set_below (suc j) k x n h i = by_case (set_below j k (x / 2) n) (x % 2) refl
         let odd : (x + 2 * (2 ^ j * n)) % 2 ≡ 1 = omega arith in
         omega (arith, count ∙ odd_step (j + k) (x + 2 * (2 ^ j * n)) odd)
 
--- one more in the last lane
+-- the list with 1 added to its last lane
 abbrev topped : List ℕ → List ℕ
 topped [] = []
 topped (d ∷ []) = (d + 1) ∷ []
 topped (d ∷ e ∷ ds) = d ∷ topped (e ∷ ds)
 
--- zero lanes below the first other, or below the last
+-- the trailing zeros of the word, in lanes, are the leading zeros of its digits
 zero_lanes : (k d : ℕ) (ds : List ℕ) → Each1 (λ x. x < 10) (d ∷ ds) → count_trailing_zeros (8 * length (d ∷ ds) + k) (number_l 256 (topped (d ∷ ds))) / 8 ≡ zeros_before (d ∷ ds)
 zero_lanes k d [] h =
     let less : count_trailing_zeros (8 + k) (d + 1 + 256 * 0) < 8 = set_below 8 k (d + 1) 0 (omega arith) (omega (arith, h.0)) in

@@ -1,4 +1,4 @@
-// How many of the next eight bytes are digits.
+// Counts the digits at the beginning of the next eight bytes.
 ghost use Rattle.std.specs.Prelude.{◌≡◌, ◌+◌, ◌≤◌, length};
 ghost use Rattle.std.specs.Simd.Lanes.{chunk};
 ghost use Rattle.std.specs.List.{prefix_len};

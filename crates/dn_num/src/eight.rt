@@ -1,16 +1,17 @@
-// Eight digits of a number in one word, the first digit in its lowest byte.
+// Splits a number below 10^8 into its eight digits, one in each byte of a word, the first digit in the lowest byte.
 ghost use Rattle.std.specs.Prelude.{◌≡◌, ℕ, List, [], ◌∷◌, ◌/◌, ◌%◌, ◌<◌, ◌≤◌, length};
 ghost use Rattle.std.specs.Simd.Lanes.{Each1, number_l};
 ghost use Rattle.dn_num.specs.State.Digits.{eight_digits, zeros_before, codes_of};
 
-// What one unit of a division's result takes away, so that it stands in the lower half and the rest in the upper one.
+// Each factor is subtracted once for each unit of the quotient. This leaves the quotient in the lower half of a lane
+// and the remainder in the upper half.
 const FOURS: u64 = (10_000 << 32) - 1;
 
 const PAIRS: u64 = (100 << 16) - 1;
 
 const DIGITS: u64 = (10 << 8) - 1;
 
-// The first four of eight digits, and the others.
+// Splits a number into its first four digits and its last four.
 #[inline(always)]
 fn fours(number: u32) -> u64
     requires { number < 100000000 }
@@ -20,7 +21,7 @@ fn fours(number: u32) -> u64
     (number << 32) - number / 10_000 * FOURS
 }
 
-// The pairs of each four: below 10000, 10486 / 2^20 is near enough to 1 / 100.
+// Splits each four digits into two pairs. The factor 10486 / 2^20 replaces 1 / 100, and is exact enough below 10000.
 #[inline(always)]
 fn pairs(word: u64) -> u64
     ensures { (a b : ℕ) → a < 10000 → b < 10000 → word ≡ number_l 4294967296 (a ∷ b ∷ [])
@@ -30,7 +31,7 @@ fn pairs(word: u64) -> u64
     (word << 16).wrapping_sub(high.wrapping_mul(PAIRS))
 }
 
-// The digits of each pair: below 100, 103 / 2^10 is near enough to 1 / 10.
+// Splits each pair into two digits. The factor 103 / 2^10 replaces 1 / 10, and is exact enough below 100.
 #[inline(always)]
 fn digits(word: u64) -> u64
     ensures { (a b c d : ℕ) → Each1 (λ x. x < 100) (a ∷ b ∷ c ∷ d ∷ [])
@@ -42,7 +43,7 @@ fn digits(word: u64) -> u64
     (word << 8).wrapping_sub(high.wrapping_mul(DIGITS))
 }
 
-// The eight digits of a number, of which the first may be zeros.
+// Returns the eight digits of a number, with leading zeros.
 #[inline(always)]
 pub(crate) fn eight(number: u32) -> u64
     requires { number < 100000000 }
@@ -51,7 +52,7 @@ pub(crate) fn eight(number: u32) -> u64
     digits(pairs(fours(number)))
 }
 
-// How many zeros stand before the first other digit, or before the last digit.
+// Counts the leading zeros of eight digits. The last digit does not count as a leading zero.
 #[inline(always)]
 pub(crate) fn zeros(word: u64) -> u32
     ensures { (a b c d e f g h : ℕ) → Each1 (λ x. x < 10) (a ∷ b ∷ c ∷ d ∷ e ∷ f ∷ g ∷ h ∷ [])
@@ -61,7 +62,7 @@ pub(crate) fn zeros(word: u64) -> u32
     word.wrapping_add(1 << 56).trailing_zeros() / 8
 }
 
-// The codes of eight digits.
+// Returns the character codes of eight digits.
 #[inline(always)]
 pub(crate) fn codes(word: u64) -> u64
     ensures { (a b c d e f g h : ℕ) → Each1 (λ x. x < 10) (a ∷ b ∷ c ∷ d ∷ e ∷ f ∷ g ∷ h ∷ [])

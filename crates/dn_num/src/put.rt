@@ -1,4 +1,4 @@
-// The text of a number, put at a place in longer bytes.
+// Writes the text of a number at a place in longer bytes.
 ghost use Rattle.std.specs.Prelude.{◌≡◌, ℕ, List, ◌+◌, ◌<◌, ◌≤◌, ◌++◌, length, take};
 ghost use Rattle.std.specs.Fmt.{decimal, signed_decimal};
 ghost use Rattle.std.specs.Simd.Lanes.{Each1, number_l};
@@ -7,10 +7,10 @@ ghost use Rattle.dn_num.specs.State.Digits.{codes_of, eight_digits};
 use crate::eight::{codes, eight, zeros};
 use std::simd::prelude::*;
 
-// What eight digits do not reach.
+// The least number of more than eight digits.
 const EIGHT: u64 = 100_000_000;
 
-// Puts a word of up to eight bytes.
+// Writes a word of up to eight bytes.
 #[inline(always)]
 fn put_word(bytes: &mut [u8], at: usize, word: u64)
     requires { at + 8 ≤ length bytes.old }
@@ -22,7 +22,7 @@ fn put_word(bytes: &mut [u8], at: usize, word: u64)
         .copy_to_slice(&mut bytes[at..]);
 }
 
-// Puts the text of a number below 10^8.
+// Writes the shortest text of a number below 10^8, and returns where it ends.
 #[inline(always)]
 fn put_short(bytes: &mut [u8], at: usize, number: u32) -> usize
     requires few { number < 100000000 }
@@ -37,7 +37,7 @@ fn put_short(bytes: &mut [u8], at: usize, number: u32) -> usize
     at + 8 - zeros as usize
 }
 
-// Puts eight digits of a number below 10^8, with the zeros before it.
+// Writes the eight digits of a number below 10^8, with leading zeros, and returns where they end.
 #[inline(always)]
 fn put_eight(bytes: &mut [u8], at: usize, number: u32) -> usize
     requires few { number < 100000000 }
@@ -49,7 +49,7 @@ fn put_eight(bytes: &mut [u8], at: usize, number: u32) -> usize
     at + 8
 }
 
-// Puts the text of a number from 0 on.
+// Writes the shortest text of a number that is not negative, and returns where it ends.
 fn put_decimal(bytes: &mut [u8], at: usize, number: u64) -> usize
     requires { at + 24 ≤ length bytes.old }
     ensures text { take result bytes.new ≡ take at bytes.old ++ decimal number }
@@ -62,7 +62,7 @@ fn put_decimal(bytes: &mut [u8], at: usize, number: u64) -> usize
     put_eight(bytes, next, (number % EIGHT) as u32)
 }
 
-// Puts the text of any number.
+// Writes the shortest text of any number, and returns where it ends.
 #[inline(never)]
 fn put_signed(bytes: &mut [u8], at: usize, number: &i64) -> usize
     requires { at + 25 ≤ length bytes.old }
@@ -77,8 +77,8 @@ fn put_signed(bytes: &mut [u8], at: usize, number: &i64) -> usize
     }
 }
 
-/// Puts the shortest text of a number at this place, and answers where it ends. Bytes after it may change: up to 25
-/// from its place on.
+/// Writes the shortest text of a number at this place, and returns where it ends. Up to 25 bytes from this place on may
+/// change, including bytes after the text.
 #[inline(always)]
 pub fn put_number(bytes: &mut [u8], at: usize, number: &i64) -> usize
     requires { at + 25 ≤ length bytes.old }

@@ -6,16 +6,16 @@ ghost use Rattle.dn_num.specs.Number.{number_read, digits_number};
 use crate::count::digits_at;
 use crate::value::value;
 
-/// A number of one to eight digits, and where it ends.
+/// A number of one to eight digits, and how many digits it has.
 #[derive(Clone, Copy)]
 pub struct Short {
     /// The number.
     pub number: u64,
-    /// How many digits it has.
+    /// The count of its digits.
     pub used: usize,
 }
 
-// The next eight bytes as lanes of a word.
+// Returns the next eight bytes as a word, the first byte in the lowest lane.
 #[inline(always)]
 fn word_at(bytes: &[u8], at: usize) -> u64
     requires { at + 8 ≤ length bytes.now }
@@ -33,7 +33,7 @@ fn word_at(bytes: &[u8], at: usize) -> u64
     ])
 }
 
-// The first n of the next eight bytes as the highest lanes of a word, after zeros.
+// Returns the first `n` of the next eight bytes in the highest lanes of a word. The lower lanes are 0.
 #[inline(always)]
 fn word_of(bytes: &[u8], at: usize, n: usize) -> u64
     requires room { at + 8 ≤ length bytes.now }
@@ -44,8 +44,8 @@ fn word_of(bytes: &[u8], at: usize, n: usize) -> u64
     word_at(bytes, at) << (64 - 8 * n)
 }
 
-/// The number that the digits at this place spell, of the first eight where there are more. None where there is no
-/// digit.
+/// Returns the number that the digits at this place spell, or that the first eight of them spell if there are more.
+/// Returns none if there is no digit.
 #[inline(always)]
 pub fn short_number(bytes: &[u8], at: usize) -> Option<Short>
     requires { at + 8 ≤ length bytes.now }

@@ -1,9 +1,9 @@
-// The number of eight digits in one word, the first digit in its lowest byte.
+// Computes the number that eight digits in one word spell, the first digit in the lowest byte.
 ghost use Rattle.std.specs.Prelude.{◌≡◌, ℕ, List, [], ◌∷◌, ◌+◌, ◌*◌, ◌%◌, ◌^◌, ◌<◌, length, map};
 ghost use Rattle.std.specs.Simd.Lanes.{Each1, number_l};
 ghost use Rattle.dn_num.specs.State.Lanes.{places};
 
-// The values of eight digits.
+// Returns the values of eight digits, given their character codes.
 #[inline(always)]
 fn values(word: u64) -> u64
     ensures { (ds : List ℕ) → length ds ≡ 8 → Each1 (λ d. d < 256) ds → word ≡ number_l 256 ds
@@ -12,7 +12,7 @@ fn values(word: u64) -> u64
     word & 0x0F0F_0F0F_0F0F_0F0F
 }
 
-// Two digits together.
+// Joins each two digits into a number below 100.
 #[inline(always)]
 fn pairs(word: u64) -> u64
     ensures { (a b c d e f g h : ℕ) → Each1 (λ x. x < 10) (a ∷ b ∷ c ∷ d ∷ e ∷ f ∷ g ∷ h ∷ [])
@@ -22,7 +22,7 @@ fn pairs(word: u64) -> u64
     word.wrapping_mul(10).wrapping_add(word >> 8) & 0x00FF_00FF_00FF_00FF
 }
 
-// Two pairs together.
+// Joins each two pairs into a number below 10000.
 #[inline(always)]
 fn fours(word: u64) -> u64
     ensures { (a b c d : ℕ) → Each1 (λ x. x < 100) (a ∷ b ∷ c ∷ d ∷ [])
@@ -32,7 +32,7 @@ fn fours(word: u64) -> u64
     word.wrapping_mul(100).wrapping_add(word >> 16) & 0x0000_FFFF_0000_FFFF
 }
 
-// Two fours together.
+// Joins two numbers of four digits into one of eight.
 #[inline(always)]
 fn eight(word: u64) -> u64
     ensures { (a b : ℕ) → a < 10000 → b < 10000 → word ≡ number_l 4294967296 (a ∷ b ∷ [])
@@ -41,7 +41,7 @@ fn eight(word: u64) -> u64
     word.wrapping_mul(10000).wrapping_add(word >> 32) & 0xFFFF_FFFF
 }
 
-// The number of eight digits, of which the first may lack.
+// Returns the number that eight digits spell. Zero bytes at the beginning count as the digit 0.
 #[inline(always)]
 pub(crate) fn value(word: u64) -> u64
     ensures { (ds : List ℕ) → length ds ≡ 8 → Each1 (λ d. d < 256) ds → Each1 (λ d. d % 16 < 10) ds

@@ -1,4 +1,4 @@
--- As many entries are kept as the arcs of a graph come to.
+-- A table keeps as many entries as the arcs of a graph make.
 use Rattle.std.proofs.Common.{◌≡◌, ℕ, suc, ◌+◌, ◌*◌, ◌≤◌, ℤ, pos, int_lt, filter, List, [], ◌∷◌, length, map, Bool, true, false, cond, ◌||◌, Some, None, refl, sym, ap, ◌∙◌, arith, sum_by}
 use Rattle.std.proofs.lemmas.List.Sums.{sum_by-cons}
 use Rattle.std.proofs.Math.Bool.{or-true}
@@ -24,16 +24,16 @@ use Rattle.dn_table.proofs.PairLaws.{other_pair}
 abbrev pub Pair : Type 0
 Pair = ℤ × ℤ
 
--- whether the pair is among these
+-- whether the pair is in the list
 abbrev pub among : Pair → List Pair → Bool
 among p ps = list_any (same_pair p) ps
 
--- none stands twice
+-- no pair occurs twice
 abbrev pub Once : List Pair → Type 0
 Once [] = Unit {0}
 Once (p ∷ ps) = (among p ps ≡ false) × Once ps
 
--- all but this one
+-- the list without this pair
 abbrev without : Pair → List Pair → List Pair
 without p [] = []
 without p (q ∷ qs) = cond (same_pair p q) (without p qs) (q ∷ without p qs)
@@ -85,7 +85,7 @@ module _ (f : Pair → ℕ) where
       let rest : sum_by f qs ≡ 0 = all_none qs (λ r e. h r (ap (λ b. same_pair r q || b) e ∙ or-true (same_pair r q))) in
       omega arith
 
-  -- sums over pairs that stand once are equal where each pair of one that is not in the other adds nothing
+  -- sums over two lists without repeats are equal if each pair in only one of them adds nothing
   same_sum : (ps qs : List Pair) → Once ps → Once qs → ((r : Pair) → among r ps ≡ false → among r qs ≡ true → f r ≡ 0) → ((r : Pair) → among r ps ≡ true → among r qs ≡ false → f r ≡ 0) → sum_by f ps ≡ sum_by f qs
   same_sum [] qs op oq out back = sym (all_none qs (λ r e. out r refl e))
   same_sum (p ∷ ps) qs op oq out back =
@@ -137,7 +137,7 @@ none_alike : (k : Pair) (ks : List Pair) → AllByRecursion (λ y. same_pair k y
 none_alike k [] h = refl
 none_alike k (y ∷ ys) h = ap (λ b. b || among k ys) h.0 ∙ none_alike k ys h.1
 
--- different pairs stand once
+-- a list of different pairs has no repeats
 pub once_apart : (ks : List Pair) → IsDistinct same_pair ks → Once ks
 once_apart [] s = tt
 once_apart (k ∷ ks) s = (none_alike k ks (IsDistinct-head same_pair k ks s), once_apart ks (IsDistinct-tail same_pair k ks s))
@@ -168,7 +168,7 @@ module _ {B : Type 0} where
       by_test true g i = cc
       by_test false g i = i g
 
-  -- a sum over the bundles is one over their pairs
+  -- a sum over the bundles is a sum over their pairs
   sum_at : (f : Pair → ℕ) (g : B → ℕ) (table rest : List (Pair × B)) → ((k : Pair) → among k (keys_of rest) ≡ true → lookup (same_pair k) rest ≡ lookup (same_pair k) table) → Once (keys_of rest)
       → ((k : Pair) (b : B) → lookup (same_pair k) table ≡ Some b → g b ≡ f k) → sum_by (λ (e : Pair × B). g e.1) rest ≡ sum_by f (keys_of rest)
   sum_at f g table [] at s h = refl
@@ -187,7 +187,7 @@ module _ {B : Type 0} where
       below k m false q = sym (ap (λ b. cond b (Some e.1) (lookup (same_pair k) rest)) q) ∙ at k (ap (λ b. b || among k (keys_of rest)) q ∙ m)
 
 module _ {B Arc : Type 0} (kind : ArcKind Arc) (laws : IsKind kind) (tells : B → List Arc) where
-  -- the entries that a table's bundles come to are those of the arcs that it stands for
+  -- the bundles of a table make as many entries as the arcs that the table represents
   pub table_entries : (table : List (Pair × B)) (arcs : List (Pair × Arc)) → Once (keys_of table) → TableTells kind tells table arcs → AreArcs kind arcs → sum_by (λ (e : Pair × B). kind.entries (tells e.1)) table ≡ graph_entries kind arcs
   table_entries table arcs once t are =
       sum_at f (λ b. kind.entries (tells b)) table table (λ k m. refl) once at
@@ -211,7 +211,7 @@ module _ {B Arc : Type 0} (kind : ArcKind Arc) (laws : IsKind kind) (tells : B �
       back : (r : Pair) → among r (keys_of table) ≡ true → among r (distinct same_pair (map (λ a. a.0) arcs)) ≡ false → f r ≡ 0
       back r e g = ap kind.entries (no_bundle r arcs (sym (among_distinct r (map (λ a. a.0) arcs)) ∙ g)) ∙ laws.none_entries
 
--- one where it is this pair
+-- 1 if both are the same pair, and 0 otherwise
 abbrev one_if : Pair → Pair → ℕ
 one_if q p = cond (same_pair p q) 1 0
 
@@ -266,7 +266,7 @@ module _ {Arc : Type 0} where
       let head : length (bundle p arcs) ≡ 0 = ap (λ l. length (bundle p l)) e in
       omega arith
 
-  -- each arc is in one bundle at most
+  -- each arc is in at most one bundle
   bundles_few : (arcs : List (Pair × Arc)) (ps : List Pair) → Once ps → sum_by (λ p. length (bundle p arcs)) ps ≤ length arcs
   bundles_few [] ps o = let none = no_sum [] ps refl in omega arith
   bundles_few (a ∷ rest) ps o = let split = split_sum a rest ps in let one = one_at a.0 ps o in let more = bundles_few rest ps o in omega arith
@@ -281,7 +281,7 @@ module _ {Arc : Type 0} where
         let more = each_few arcs ps in
         omega arith
 
-    -- an arc comes to two entries at most
+    -- the entries are at most two for each arc
     pub graph_few : (arcs : List (Pair × Arc)) → graph_entries kind arcs ≤ 2 * length arcs
     graph_few arcs =
         let ps = distinct same_pair (map (λ (a : Pair × Arc). a.0) arcs) in

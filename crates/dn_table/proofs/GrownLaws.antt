@@ -1,4 +1,4 @@
--- What is found among entries of different pairs after a change.
+-- Look-ups among entries of different pairs after a change.
 use Rattle.std.proofs.Common.{◌≡◌, ◌↔◌, ℕ, zero, suc, ◌<◌, ℤ, List, [], ◌∷◌, ◌++◌, length, get_or, set, Bool, true, false, cond, Option, Some, None, is_some, refl, sym, ap, ◌∙◌, subst, arith}
 use Rattle.std.specs.List.{IsDistinct, list_any, slice_get}
 use Rattle.std.specs.List.Sorted.{IsStrictlySortedBy}
@@ -20,7 +20,7 @@ use Rattle.pair_index.proofs.EntryLaws.{keys_kept}
 use Rattle.pair_index.specs.State.Places.{key_at}
 
 module _ {X : Type 0} (t : ℤ × ℤ → Bool) (e : (ℤ × ℤ) × X) where
-  -- an entry behind the others
+  -- the look-up of an appended entry
   pub push_found : (es : List ((ℤ × ℤ) × X)) → lookup t es ≡ None → t e.0 ≡ true → lookup t (es ++ e ∷ []) ≡ Some e.1
   push_found [] h is = ap (λ b. cond b (Some e.1) None) is
   push_found (x ∷ xs) h is = by_test (t x.0) h (push_found xs)
@@ -33,7 +33,7 @@ module _ {X : Type 0} (t : ℤ × ℤ → Bool) (e : (ℤ × ℤ) × X) where
   push_other [] is = ap (λ b. cond b (Some e.1) None) is
   push_other (x ∷ xs) is = ap (cond (t x.0) (Some x.1)) (push_other xs is)
 
-  -- an entry with another value
+  -- changing the value of one entry does not change the look-up of others
   pub set_other : (es : List ((ℤ × ℤ) × X)) (i : ℕ) (w : X) → i < length es → e ≡ get_or es i e → t e.0 ≡ false → lookup t (set es i (e.0, w)) ≡ lookup t es
   set_other [] i w lt is no_test = refl
   set_other (x ∷ xs) zero w lt is no_test = ap (λ b. cond b (Some w) (lookup t xs)) no_test ∙ sym (ap (λ b. cond b (Some x.1) (lookup t xs)) (ap (λ (y : (ℤ × ℤ) × X). t y.0) (sym is) ∙ no_test))
@@ -60,11 +60,11 @@ module _ {X : Type 0} (p : ℤ × ℤ) (es : List ((ℤ × ℤ) × X)) where
     pub key_here : e.0 ≡ p
     key_here = sym (key_of_entry es i e placed) ∙ at
 
-    -- the bundle that stands at a place
+    -- the look-up of the entry at a position
     pub found_at : lookup (same_pair p) es ≡ Some e.1
     found_at = subst (λ k. lookup (same_pair k) es ≡ Some e.1) key_here (lookup_from_place pair_equiv es i e.0 e.1 apart placed)
 
-    -- and after it has changed
+    -- the look-up of an entry whose value has changed
     pub found_then : (w : X) → lookup (same_pair p) (set es i (e.0, w)) ≡ Some w
     found_then w =
         let here : slice_get (set es i (e.0, w)) i ≡ Some (e.0, w) = slice_get_set es i (e.0, w) inside in
@@ -79,22 +79,22 @@ module _ {X : Type 0} (p : ℤ × ℤ) (es : List ((ℤ × ℤ) × X)) where
     pub others_then : (w : X) (q : ℤ × ℤ) → same_pair p q ≡ false → lookup (same_pair q) (set es i (e.0, w)) ≡ lookup (same_pair q) es
     others_then w q other = set_other (same_pair q) e es i w inside is (ap (same_pair q) key_here ∙ other_pair p q other)
 
-    -- a bundle that has not changed
+    -- setting the same value changes nothing
     pub same_then : (w : X) → w ≡ e.1 → set es i (e.0, w) ≡ es
     same_then w f = ap (λ v. set es i (e.0, v)) f ∙ ap (set es i) is ∙ set-get_or es i e
 
-    -- the table has taken the arc that its bundle there has
+    -- if the bundle of a pair has taken an arc, the table has taken it
     pub grows_here : {Arc : Type 0} (kind : ArcKind Arc) (tells : X → List Arc) (arc : Arc) (w : X) → kind.Same (tells w) (tells e.1 ++ arc ∷ []) → Grows kind tells es (set es i (e.0, w)) p arc
     grows_here kind tells arc w same = grows_there kind tells es (set es i (e.0, w)) p arc e.1 w found_at (found_then w) (others_then w) same
 
--- tables with the same bundles tell the same
+-- tables with the same look-ups represent the same arcs
 pub tells_as : {B Arc : Type 0} (kind : ArcKind Arc) (tells : B → List Arc) (table other : List ((ℤ × ℤ) × B)) (arcs : List ((ℤ × ℤ) × Arc)) → ((p : ℤ × ℤ) → lookup (same_pair p) other ≡ lookup (same_pair p) table) → TableTells kind tells table arcs → TableTells kind tells other arcs
 tells_as kind tells table other arcs same t = record {
   stands = λ p. subst (λ o. AreCanonArcsOf kind (told_of tells o) (bundle p arcs)) (sym (same p)) (t.stands p);
   absent = λ p. subst (λ o. (o ≡ None) ↔ kind.Same (bundle p arcs) []) (sym (same p)) (t.absent p);
 }
 
--- and by rising pair they are the table
+-- a sorted table with the same look-ups represents the same arcs
 pub stands_as : {B Arc : Type 0} (kind : ArcKind Arc) (tells : B → List Arc) (table other : List ((ℤ × ℤ) × B)) (arcs : List ((ℤ × ℤ) × Arc)) → IsStrictlySortedBy pair_cmp (keys_of other) → ((p : ℤ × ℤ) → lookup (same_pair p) other ≡ lookup (same_pair p) table)
     → TableTells kind tells table arcs → TableStandsFor kind tells other arcs
 stands_as kind tells table other arcs rising same t = record { rising = rising; tells_them = tells_as kind tells table other arcs same t }

@@ -1,4 +1,4 @@
--- What a table becomes as an arc comes.
+-- How an arc changes a table.
 use Rattle.std.proofs.Common.{◌≡◌, ◌↔◌, ℤ, ◌<ℤ◌, List, [], ◌∷◌, ◌++◌, Option, Some, None, Result, Ok, Err, OnOk, OnErr, false, refl, sym, ap, ◌∙◌, subst}
 use Rattle.std.specs.Option.{IsSome}
 use Rattle.std.specs.Map.{lookup}
@@ -21,7 +21,7 @@ module _ {B Arc : Type 0} (kind : ArcKind Arc) (tells : B → List Arc) (m n : L
     others = others;
   }
 
-  -- a pair without a bundle gets one, as the arc means something
+  -- a pair without a bundle gets one if the arc means something
   pub grows_fresh : (e w : B) → lookup (same_pair pair) m ≡ None → lookup (same_pair pair) n ≡ Some w → ((p : ℤ × ℤ) → same_pair pair p ≡ false → lookup (same_pair p) n ≡ lookup (same_pair p) m)
       → tells e ≡ [] → kind.Same (tells w) (tells e ++ arc ∷ []) → (kind.Same (tells w) [] → ⊥) → Grows kind tells m n pair arc
   grows_fresh e w h f others none same some = record {
@@ -32,7 +32,7 @@ module _ {B Arc : Type 0} (kind : ArcKind Arc) (tells : B → List Arc) (m n : L
   }
 
 module _ {B Arc : Type 0} (kind : ArcKind Arc) (tells : B → List Arc) (m : List ((ℤ × ℤ) × B)) (pair : ℤ × ℤ) (arc : Arc) (meaning : IsMeaning kind.Same) where
-  -- a pair without a bundle gets none, as the arc means nothing
+  -- a pair without a bundle gets none if the arc means nothing
   pub grows_none : (e w : B) → lookup (same_pair pair) m ≡ None → tells e ≡ [] → kind.Same (tells w) (tells e ++ arc ∷ []) → kind.Same (tells w) [] → Grows kind tells m m pair arc
   grows_none e w h none same nothing =
       let alone : kind.Same [] (arc ∷ []) = meaning.same_trans [] (tells w) (arc ∷ []) (meaning.same_sym (tells w) [] nothing) (subst (λ l. kind.Same (tells w) (l ++ arc ∷ [])) none same) in
@@ -43,11 +43,11 @@ module _ {B Arc : Type 0} (kind : ArcKind Arc) (tells : B → List Arc) (m : Lis
         others = λ p f. refl;
       }
 
--- what a table tells at a pair that has a bundle
+-- the arcs that a table lists for a pair with a bundle
 pub told_there : {B Arc : Type 0} (tells : B → List Arc) (m : List ((ℤ × ℤ) × B)) (pair : ℤ × ℤ) (b : B) → lookup (same_pair pair) m ≡ Some b → told_at tells m pair ≡ tells b
 told_there tells m pair b e = ap (told_of tells) e
 
--- and at one that has none
+-- a table lists no arcs for a pair without a bundle
 pub told_none : {B Arc : Type 0} (tells : B → List Arc) (m : List ((ℤ × ℤ) × B)) (pair : ℤ × ℤ) → lookup (same_pair pair) m ≡ None → told_at tells m pair ≡ []
 told_none tells m pair e = ap (told_of tells) e
 
@@ -55,22 +55,22 @@ told_none tells m pair e = ap (told_of tells) e
 pub found_still : {B : Type 0} (o : Option B) (b w : B) → o ≡ Some b → w ≡ b → o ≡ Some w
 found_still o b w e f = e ∙ ap (λ x. Some x) (sym f)
 
--- a fault of a bundle's sum is one of the table's
+-- the sum of a bundle is too large exactly if that of the table at its pair is
 pub sum_told : {B Arc F : Type 0} (kind : ArcKind Arc) (tells : B → List Arc) (arc : Arc) (most : ℤ) (m : List ((ℤ × ℤ) × B)) (now : List ((ℤ × ℤ) × B)) (pair : ℤ × ℤ) (told : List Arc)
     → m ≡ now → told_at tells m pair ≡ told → F ↔ (most <ℤ kind.capacity (told ++ arc ∷ [])) → F ↔ (most <ℤ kind.capacity (told_at tells now pair ++ arc ∷ []))
 sum_told {B} {Arc} {F} kind tells arc most m now pair told e f h =
     subst (λ x. F ↔ (most <ℤ kind.capacity (told_at tells x pair ++ arc ∷ []))) e (subst (λ l. F ↔ (most <ℤ kind.capacity (l ++ arc ∷ []))) (sym f) h)
 
--- where neither of two faults can be, one says of the sum what the other does
+-- if neither of two faults can occur, a statement about one holds of the other
 pub neither : {F G X : Type 0} → (F → ⊥) → (G → ⊥) → F ↔ X → G ↔ X
 neither f g h = (λ y. absurd (g y), λ x. absurd (f (h.1 x)))
 
--- two facts of one success
+-- two facts about a success make a third
 pub on_ok_both : {T E P Q S : Type 0} (r : Result T E) → (P → Q → S) → OnOk r P → OnOk r Q → OnOk r S
 on_ok_both (Ok x) f p q = f p q
 on_ok_both (Err e) f p q = tt
 
--- a refusal for want of memory is none for a sum
+-- a result whose only error is `Memory` is not `Sum`
 pub only_memory : {T : Type 0} (r : Result T BundleFault) → OnErr r (r ≡ Err Memory) → r ≡ Err Sum → ⊥
 only_memory (Ok x) m e = cc
 only_memory (Err f) m e = cc

@@ -1,4 +1,4 @@
-// How many entries bundles come to.
+// Counts the entries that bundles make.
 ghost use Rattle.std.specs.Prelude.{◌≡◌, ◌<◌, ◌≤◌, ◌^◌, MatchOption};
 ghost use Rattle.std.specs.List.{IsDistinct};
 ghost use Rattle.std.specs.Map.{keys_of};
@@ -10,7 +10,7 @@ ghost use Rattle.dn_table.specs.State.Tables.{CountsEntries};
 
 use dn_bundle::{Bundle, Form};
 
-// The sum over the bundles of different pairs that tell the arcs of a graph.
+// Returns how many entries the bundles of different pairs make, or `u64::MAX` if this does not fit 64 bits.
 pub(crate) fn bundle_entries<B: Bundle>(entries: &[((i64, i64), B)]) -> u64
     ensures { IsDistinct same_pair (keys_of entries.now) → CountsEntries B.bundle entries.now result }
 {
@@ -20,7 +20,7 @@ pub(crate) fn bundle_entries<B: Bundle>(entries: &[((i64, i64), B)]) -> u64
     }
 }
 
-// The sum, where 64 bits hold it.
+// Returns how many entries the bundles make, if this fits 64 bits.
 fn count_entries<B: Bundle>(entries: &[((i64, i64), B)]) -> Option<u64>
     ensures { let all = entries_told (λ b. B.bundle.kind.entries (meant B.bundle b)) entries.now in
         MatchOption result (2 ^ 64 ≤ all) (λ n. n ≡ all) }

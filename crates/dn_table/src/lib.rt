@@ -1,5 +1,5 @@
-//! Bundles by ordered pair: a table that takes arcs as they come, each merged into the bundle of its pair, and the
-//! table of its bundles by rising pair.
+//! Bundles by ordered pair. `TableSoFar` takes arcs as they arrive, and merges each into the bundle of its pair.
+//! `Table` has the bundles by ascending pair.
 #![tactic(auto)]
 
 mod entry_sum;

@@ -15,11 +15,11 @@ use dn_bundle::{Bundle, Form};
 use pair_index::PairOrder;
 use std::marker::Model;
 
-/// The bundles of a graph by ordered pair. A pair whose arcs mean what no arcs mean has none.
+/// The bundles of a graph by ordered pair. A pair whose arcs mean the same as no arcs has no bundle.
 #[derive(Drop)]
 pub struct Table<B: Bundle> {
     entries: Vec<((i64, i64), B)>,
-    // How the entries stand by rising pair.
+    // The order of the entries by ascending pair.
     order: PairOrder,
 }
 
@@ -37,7 +37,7 @@ impl<B: Bundle> Model for Table<B> {
 }
 
 impl<B: Bundle> Table<B> {
-    // The table of entries that stand so by rising pair.
+    // Returns the table of these entries, which have this order by ascending pair.
     pub(crate) fn of(entries: Vec<((i64, i64), B)>, order: PairOrder) -> Table<B>
         requires { Orders order (keys_of entries.items) }
         ensures { result ≡ in_order entries.items }
@@ -45,7 +45,7 @@ impl<B: Bundle> Table<B> {
         Table { entries, order }
     }
 
-    /// The bundle of the arcs from `src` to `dst`, if they mean anything.
+    /// Returns the bundle of the arcs from `src` to `dst`, if they mean anything.
     pub fn get(&self, src: i64, dst: i64) -> Option<&B>
         ensures { option_copied result ≡ lookup (same_pair (src, dst)) self.now }
     {
@@ -55,7 +55,7 @@ impl<B: Bundle> Table<B> {
         }
     }
 
-    /// The pairs that have a bundle, by rising (src, dst). Takes no memory.
+    /// Iterates over the pairs that have a bundle, by ascending (src, dst). This does not allocate.
     pub fn pairs(&self) -> Pairs<'_, B>
         ensures value { result ≡ self.now }
         ensures rising { IsStrictlySortedBy pair_cmp (keys_of self.now) }
@@ -67,14 +67,14 @@ impl<B: Bundle> Table<B> {
         }
     }
 
-    /// How many entries its bundles come to, given that they are fewer than 2^64.
+    /// Returns how many entries the bundles make, if this is below 2^64.
     pub fn entries(&self) -> u64
         ensures { CountsEntries B.bundle self.now result }
     {
         bundle_entries(&self.entries)
     }
 
-    /// How many pairs have a bundle.
+    /// Returns how many pairs have a bundle.
     pub fn len(&self) -> usize
         ensures { result ≡ length self.now }
     {
@@ -82,12 +82,12 @@ impl<B: Bundle> Table<B> {
     }
 }
 
-/// The bundles of a table with their pairs, by rising (src, dst).
+/// Iterates over the bundles of a table with their pairs, by ascending (src, dst).
 #[derive(Drop)]
 pub struct Pairs<'a, B: Bundle> {
     entries: &'a [((i64, i64), B)],
     order: &'a PairOrder,
-    // Where the next one stands.
+    // The position of the next entry.
     place: Option<usize>,
 }
 

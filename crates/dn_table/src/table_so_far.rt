@@ -1,4 +1,4 @@
-// Bundles by their ordered pairs, as arcs come.
+// Bundles by their ordered pairs, while arcs arrive.
 ghost use Rattle.std.specs.Prelude.{◌≡◌, ◌<◌, ℤ, List, [], None, OnOk, OnErr, Some, Err, ◌↔◌, ◌-◌, ◌^◌, ◌++◌, ◌∷◌, false, true, vec_capacity, vec_len};
 ghost use Rattle.std.specs.List.{list_any};
 ghost use Rattle.std.specs.List.Sorted.{IsStrictlySortedBy};
@@ -16,12 +16,12 @@ use pair_index::{AHEAD, PairIndex, is_pair};
 use std::alloc::{AllocError, Global};
 use std::marker::Model;
 
-/// The bundles of the arcs so far, each pair's once, as their pairs came.
+/// The bundles of the arcs so far, one for each pair, in the order in which their pairs arrived.
 #[derive(Drop)]
 pub struct TableSoFar<B: Bundle> {
     entries: Vec<((i64, i64), B)>,
     index: PairIndex,
-    // Guesses where the pairs of the arcs that come next stand, and how many of them have been asked for.
+    // Hints of the positions of the next pairs, and how many of the hints are used.
     likely: [u32; AHEAD],
     asked: usize,
 }
@@ -39,7 +39,7 @@ impl<B: Bundle> Model for TableSoFar<B> {
 }
 
 impl<B: Bundle> TableSoFar<B> {
-    /// A table without bundles.
+    /// Returns a table without bundles.
     pub fn new(alloc: Global) -> TableSoFar<B>
         ensures { result ≡ [] }
     {
@@ -51,13 +51,14 @@ impl<B: Bundle> TableSoFar<B> {
         }
     }
 
-    /// Whether guesses where the next pairs stand would spare time, and none is left. It decides only the speed.
+    /// Whether hints of the positions of the next pairs may save time, and all earlier hints are used. This affects
+    /// only the speed.
     pub fn wants_guesses(&self) -> bool {
         AHEAD <= self.asked && self.index.is_scattered()
     }
 
-    /// Looks up together where these pairs stand, which are likely those of the arcs that come next, if that spares
-    /// time. It decides only the speed.
+    /// Looks up these pairs together, if that saves time. They are likely the pairs of the next arcs, and the positions
+    /// found become hints. This affects only the speed.
     pub fn guess(&mut self, pairs: &[(i64, i64); AHEAD])
         ensures { self.new ≡ self.old }
     {
@@ -67,7 +68,7 @@ impl<B: Bundle> TableSoFar<B> {
         }
     }
 
-    // Where the next pair stands, if it has an entry. The next guess is tried first.
+    // Returns the position of the next pair, if it has an entry. Tries the next hint first.
     fn place(&mut self, pair: &(i64, i64)) -> Option<usize>
         ensures place { IsPlace (keys_of self.old) pair.now result }
         ensures same { self.new ≡ self.old }
@@ -76,7 +77,7 @@ impl<B: Bundle> TableSoFar<B> {
         self.place_from(guess, pair)
     }
 
-    // The next guess, which is then used up.
+    // Returns the next hint, and marks it as used.
     #[inline]
     fn next_guess(&mut self) -> Option<usize>
         ensures { self.new ≡ self.old }
@@ -86,7 +87,7 @@ impl<B: Bundle> TableSoFar<B> {
         Some(guess)
     }
 
-    // Where a pair stands, if it has an entry. The guess is tried first.
+    // Returns the position of a pair, if it has an entry. Tries the hint first.
     #[inline]
     fn place_from(&self, guess: Option<usize>, pair: &(i64, i64)) -> Option<usize>
         ensures { IsPlace (keys_of self.now) pair.now result }
@@ -97,7 +98,7 @@ impl<B: Bundle> TableSoFar<B> {
         }
     }
 
-    // Whether a pair stands there.
+    // Whether the entry at this position is that of the pair.
     #[inline]
     fn stands_at(&self, at: usize, pair: &(i64, i64)) -> bool
         ensures { result ≡ true → IsPlace (keys_of self.now) pair.now (Some at) }
@@ -108,7 +109,7 @@ impl<B: Bundle> TableSoFar<B> {
         }
     }
 
-    // Puts an entry behind the others.
+    // Appends an entry.
     fn push(&mut self, alloc: Global, pair: (i64, i64), bundle: B) -> Result<(), AllocError>
         requires { list_any (same_pair pair) (keys_of self.old) ≡ false }
         ensures ok { OnOk result (self.new ≡ self.old ++ (pair, bundle) ∷ []) }
@@ -119,7 +120,7 @@ impl<B: Bundle> TableSoFar<B> {
         Ok(())
     }
 
-    // Puts a bundle at a pair that has none. On want of memory nothing has changed.
+    // Adds a bundle for a pair that has none. If an allocation fails, nothing changes.
     fn put(&mut self, alloc: Global, pair: (i64, i64), bundle: B) -> Result<(), BundleFault>
         requires { lookup (same_pair pair) self.old ≡ None }
         ensures there { OnOk result (lookup (same_pair pair) self.new ≡ Some bundle) }
@@ -134,12 +135,12 @@ impl<B: Bundle> TableSoFar<B> {
         }
     }
 
-    /// Takes an arc at a pair.
+    /// Adds an arc to the bundle of a pair.
     ///
     /// # Errors
     ///
-    /// `Sum` exactly where the capacities of the pair's arcs sum to more than 2^63 - 1, else `Memory` where a growth
-    /// was refused. On either nothing has changed.
+    /// Returns `Sum` exactly if the capacities of the pair's arcs sum to more than 2^63 - 1, and otherwise `Memory` if
+    /// an allocation fails. After an error, nothing has changed.
     pub fn add(&mut self, alloc: Global, pair: (i64, i64), arc: B::Arc) -> Result<(), BundleFault>
         requires { B.bundle.kind.IsArc arc }
         ensures ok { OnOk result (Adds B.bundle self.old self.new pair arc) }
@@ -153,7 +154,7 @@ impl<B: Bundle> TableSoFar<B> {
         }
     }
 
-    // The same at a pair that has no bundle.
+    // Adds an arc at a pair that has no bundle.
     fn add_fresh(&mut self, alloc: Global, pair: (i64, i64), arc: B::Arc) -> Result<(), BundleFault>
         requires is_arc { B.bundle.kind.IsArc arc }
         requires none { lookup (same_pair pair) self.old ≡ None }
@@ -170,14 +171,14 @@ impl<B: Bundle> TableSoFar<B> {
         self.put(alloc, pair, bundle)
     }
 
-    /// How many entries its bundles come to, given that they are fewer than 2^64.
+    /// Returns how many entries the bundles make, if this is below 2^64.
     pub fn entries(&self) -> u64
         ensures { CountsEntries B.bundle self.now result }
     {
         bundle_entries(&self.entries)
     }
 
-    /// The table of its bundles. Takes no memory.
+    /// Returns the table of these bundles. This does not allocate.
     pub fn end(self) -> Table<B>
         ensures rising { IsStrictlySortedBy pair_cmp (keys_of result) }
         ensures kept { (pair : ℤ × ℤ) → lookup (same_pair pair) result ≡ lookup (same_pair pair) self }
@@ -192,7 +193,7 @@ impl<B: Bundle> TableSoFar<B> {
     }
 }
 
-// Has room for an entry behind the others made, and its pair taken up in their index.
+// Reserves capacity for one more entry, and adds its pair to the index.
 fn note_next<X>(
     alloc: Global,
     entries: &mut Vec<((i64, i64), X)>,

@@ -1,4 +1,4 @@
--- From each pair to the next, where pairs rise.
+-- From each pair to the next among sorted pairs.
 use Rattle.std.proofs.Common.{◌≡◌, ℕ, ◌+◌, ◌<◌, ℤ, pos, List, length, ◌⊎◌, inl, inr, sym, ap, ◌∙◌, arith}
 use Rattle.std.specs.List.Sorted.{IsStrictlySortedBy}
 use Rattle.std.specs.Ordering.{ordering_reverse}
@@ -14,7 +14,7 @@ module _ (keys : List (ℤ × ℤ)) (up : IsStrictlySortedBy pair_cmp keys) wher
   pub up_at : (i j : ℕ) → i < j → j < length keys → pair_cmp (key_at keys i) (key_at keys j) ≡ Less
   up_at i j l inside = Less-from_sorted pair_cmp keys i j (pos 0, pos 0) up l inside
 
-  -- what comes later stands later
+  -- a greater key has a later position
   pub later_at : (at i : ℕ) → at < length keys → pair_cmp (key_at keys at) (key_at keys i) ≡ Less → at < i
   later_at at i inside past = by_place (cases_order at i)
     where
@@ -23,7 +23,7 @@ module _ (keys : List (ℤ × ℤ)) (up : IsStrictlySortedBy pair_cmp keys) wher
       by_place (inr (inl l)) = l
       by_place (inr (inr l)) = (let no : Greater ≡ Less = sym (ap ordering_reverse (up_at i at l inside)) ∙ sym (pair_total.antisymm (key_at keys at) (key_at keys i)) ∙ past in absurd (cc))
 
-  -- the first is the least
+  -- the first key is the least
   pub first_up : (i : ℕ) → i < length keys → (i ≡ 0) ⊎ (pair_cmp (key_at keys 0) (key_at keys i) ≡ Less)
   first_up i lt = by_place (cases_order 0 i)
     where
@@ -32,7 +32,7 @@ module _ (keys : List (ℤ × ℤ)) (up : IsStrictlySortedBy pair_cmp keys) wher
       by_place (inr (inl l)) = inr (up_at 0 i l lt)
       by_place (inr (inr l)) = absurd (omega arith)
 
-  -- and after each stands the next
+  -- the key at the next position is the next greater key
   pub next_up : (at i : ℕ) → at < length keys → i < length keys → pair_cmp (key_at keys at) (key_at keys i) ≡ Less → (i ≡ at + 1) ⊎ (pair_cmp (key_at keys (at + 1)) (key_at keys i) ≡ Less)
   next_up at i inside lt past = by_place (cases_order (at + 1) i) (later_at at i inside past)
     where

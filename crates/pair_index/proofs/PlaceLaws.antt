@@ -1,11 +1,11 @@
--- Keys at their places.
+-- Keys at their positions.
 use Rattle.std.proofs.Common.{◌≡◌, ℕ, suc, ◌<◌, ℤ, List, [], ◌∷◌, length, Bool, true, false, ◌||◌, refl, sym, arith}
 use Rattle.std.specs.List.{list_any}
 use Rattle.dn_arc.specs.Pairs.{same_pair}
 use Rattle.dn_arc.proofs.PairLaws.{pair_is}
 use Rattle.pair_index.specs.State.Places.{key_at}
 
--- a pair that stands at no place is not there
+-- a pair that is at no position is not among the keys
 pub none_from_places : (p : ℤ × ℤ) (keys : List (ℤ × ℤ)) → ((i : ℕ) → i < length keys → key_at keys i ≡ p → ⊥) → list_any (same_pair p) keys ≡ false
 none_from_places p [] never = refl
 none_from_places p (k ∷ keys) never = by_test (same_pair p k) refl (none_from_places p keys (λ i lt e. never (suc i) (omega arith) e))

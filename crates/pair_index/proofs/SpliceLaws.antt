@@ -1,4 +1,4 @@
--- One position more in the chain of its tail.
+-- Linking one more position into the chain of its tail.
 use Rattle.std.proofs.Common.{◌≡◌, ℕ, suc, ◌+◌, ◌-◌, ◌<◌, ◌≤◌, ℤ, pos, ◌<ℤ◌, ◌≤ℤ◌, List, [], ◌∷◌, ◌++◌, length, get_or, set, take, true, false, Some, ◌⊎◌, inl, inr, refl, sym, ap, ◌∙◌, subst, arith}
 use Rattle.std.specs.List.{list_any, IsDistinct}
 use Rattle.std.specs.Map.{keys_of}
@@ -16,7 +16,8 @@ use Rattle.pair_index.proofs.PlaceLaws.{none_from_places}
 use Rattle.pair_index.proofs.ChainLaws.{key_of_place, key_kept, key_new}
 use Rattle.pair_index.proofs.TailLaws.{least_from, greatest_before, pair_from}
 
--- what a splice changes: the chain of the tail `t` has a link more, after the position that `before` leads to or first
+-- the effect of a splice: the chain of the tail `t` has one more link, at its beginning or after the position of
+-- `before`
 pub record Spliced (heads tops next links : List ℕ) (t before after link : ℕ) : Type 0 where
   pub all_tops : length tops ≡ length heads
   pub all_links : length links ≡ length next + 1
@@ -27,7 +28,7 @@ pub record Spliced (heads tops next links : List ℕ) (t before after link : ℕ
   pub not_first : (before ≡ 0 → ⊥) → get_or tops t 0 ≡ get_or heads t 0
   pub follows : (b : ℕ) → before ≡ suc b → get_or links b 0 ≡ link
 
--- a chain begins with the new link
+-- a splice at the beginning of a chain
 pub spliced_first : (heads next : List ℕ) (t before after link : ℕ) → t < length heads → before ≡ 0 → Spliced heads (set heads t link) next (next ++ after ∷ []) t before after link
 spliced_first heads next t before after link known none = record {
   all_tops = length-set heads t link;
@@ -40,7 +41,7 @@ spliced_first heads next t before after link known none = record {
   follows = λ b e. absurd (omega (arith, e, none));
 }
 
--- or a position leads to it
+-- a splice after a position
 pub spliced_after : (heads next : List ℕ) (t before after link : ℕ) → (before ≡ 0 → ⊥) → before - 1 < length next → Spliced heads heads next (set (next ++ after ∷ []) (before - 1) link) t before after link
 spliced_after heads next t before after link some inside = record {
   all_tops = refl;
@@ -55,7 +56,7 @@ spliced_after heads next t before after link some inside = record {
       subst (λ m. get_or (set (next ++ after ∷ []) (before - 1) link) m 0 ≡ link) at (get_or-set_same (next ++ after ∷ []) (before - 1) link 0 (omega arith)));
 }
 
--- a pair that is not there stands at no place
+-- a pair that is not among the keys is at no position
 pub fresh_at : (k : ℤ × ℤ) (keys : List (ℤ × ℤ)) (i : ℕ) → list_any (same_pair k) keys ≡ false → i < length keys → key_at keys i ≡ k → ⊥
 fresh_at k keys i fresh lt e =
     let there : list_any (same_pair k) keys ≡ true = any_passes_from_place (same_pair k) keys i k (slice_get-get_or keys i (pos 0, pos 0) lt ∙ ap (λ x. Some x) e) (pair_self k) in
@@ -68,7 +69,7 @@ module _ (keys : List (ℤ × ℤ)) (k : ℤ × ℤ) where
   longer : (i : ℕ) → i < length keys → i < length now
   longer i lt = (let n : length now ≡ length keys + 1 = length_push keys k in omega arith)
 
-  -- the pairs in question are the same
+  -- the new pair does not satisfy `Asked`, so the link remains right
   still : (Asked : ℤ × ℤ → Type 0) (link : ℕ) → LeadsTo keys Asked link → (Asked k → ⊥) → LeadsTo now Asked link
   still Asked link old not = record {
     there = λ i e. (let at = old.there i e in (longer i at.0, subst Asked (sym (key_kept keys k i at.0)) at.1));
@@ -84,7 +85,7 @@ module _ (keys : List (ℤ × ℤ)) (k : ℤ × ℤ) where
           let n : length now ≡ length keys + 1 = length_push keys k in
           absurd (not (subst Asked (key_new keys k i (omega arith)) asked))
 
-  -- one more is in question, and is not the least
+  -- the new pair satisfies `Asked` but is not the least, so the link remains right
   behind : (Asked : ℤ × ℤ → Type 0) (link j : ℕ) → LeadsTo keys Asked link → link ≡ suc j → (key_at keys j).1 ≤ℤ k.1 → LeadsTo now Asked link
   behind Asked link j old is low = record {
     there = λ i e. (let at = old.there i e in (longer i at.0, subst Asked (sym (key_kept keys k i at.0)) at.1));
@@ -102,7 +103,7 @@ module _ (keys : List (ℤ × ℤ)) (k : ℤ × ℤ) where
           let inside : j < length keys = (old.there j is).0 in
           (j, is, subst (λ (p : ℤ × ℤ). p.1 ≤ℤ (key_at now i).1) (sym (key_kept keys k j inside)) (subst (λ (p : ℤ × ℤ). (key_at keys j).1 ≤ℤ p.1) (sym new) low))
 
-  -- one more is in question, and is the least
+  -- the new pair satisfies `Asked` and is the least, so the link to it is right
   ahead : (Asked : ℤ × ℤ → Type 0) → Asked k → ((i : ℕ) → i < length keys → Asked (key_at keys i) → k.1 ≤ℤ (key_at keys i).1) → LeadsTo now Asked (suc (length keys))
   ahead Asked here low = record {
     there = λ i e. (let n : length now ≡ length keys + 1 = length_push keys k in (omega (arith, e), subst Asked (sym (key_new keys k i (omega (arith, e)))) here));
@@ -115,10 +116,10 @@ module _ (keys : List (ℤ × ℤ)) (k : ℤ × ℤ) where
           let n : length now ≡ length keys + 1 = length_push keys k in
           subst (λ (p : ℤ × ℤ). k.1 ≤ℤ p.1) (sym (key_new keys k i (omega arith))) (let same : k.1 ≤ℤ k.1 = omega (arith, ints) in same)
 
--- the links with the position more
+-- the links with one more position
 module _ (heads tops next links : List ℕ) (keys : List (ℤ × ℤ)) (k : ℤ × ℤ) (t before after link : ℕ) (old : Links heads next keys) (fresh : list_any (same_pair k) keys ≡ false)
     (sought : Sought keys k before after) (stops : (i : ℕ) → after ≡ suc i → k.1 ≤ℤ (key_at keys i).1) (is : k.0 ≡ pos t) (known : t < length heads) (one : link ≡ suc (length keys)) (done : Spliced heads tops next links t before after link) where
-  -- where nothing is before it, the others of its tail are past it
+  -- if the splice is at the beginning, all heads of the tail are at least the new one
   all_past : before ≡ 0 → (i : ℕ) → i < length keys → (key_at keys i).0 ≡ k.0 → k.1 ≤ℤ (key_at keys i).1
   all_past none i lt tail = by_lt_z (key_at keys i).1 k.1
       (λ low. (let b = greatest_before keys k before after stops sought i lt tail low in let some : before ≡ suc b.0 = b.1 in absurd (omega (arith, some))))
@@ -147,7 +148,7 @@ module _ (heads tops next links : List ℕ) (keys : List (ℤ × ℤ)) (k : ℤ 
       subst (LeadsTo (now keys k) (λ p. p.0 ≡ pos u)) (sym (done.other_tops u apart))
       (still keys k (λ p. p.0 ≡ pos u) (get_or heads u 0) (old.at_head u inside) (λ e. (let same : pos u ≡ pos t = sym e ∙ is in apart (omega (arith, ints, same)))))
 
-  -- the last position leads on
+  -- the link of the new position is right
   last_leads : LeadsTo keys (IsAfter k) after
   last_leads = record {
     there = λ i e. (let at = inside i e in (
@@ -168,7 +169,7 @@ module _ (heads tops next links : List ℕ) (keys : List (ℤ × ℤ)) (k : ℤ 
           by_sought (inl s) = s.on.there i e
           by_sought (inr s) = (let at = s.on.there i e in (at.0, at.1.0 ∙ s.tail))
 
-  -- the position that it follows
+  -- the link of the position before the new one is right
   link_before : (b : ℕ) → before ≡ suc b → b < length keys → (key_at keys b).0 ≡ k.0 → (key_at keys b).1 <ℤ k.1 → LeadsTo (now keys k) (IsAfter (key_at keys b)) link
   link_before b is_b lt tail low =
       subst (LeadsTo (now keys k) (IsAfter (key_at keys b))) (sym one)
@@ -181,7 +182,7 @@ module _ (heads tops next links : List ℕ) (keys : List (ℤ × ℤ)) (k : ℤ 
       absurd (omega (arith, ints, upto, past))))
       (λ up. up)))
 
-  -- a position with a lesser head leads on as before, or to the new one
+  -- the link of a position with a lesser head is right, whether it has changed or not
   link_low : (i : ℕ) → i < length keys → (key_at keys i).0 ≡ k.0 → (key_at keys i).1 <ℤ k.1 → LeadsTo (now keys k) (IsAfter (key_at keys i)) (get_or links i 0)
   link_low i lt tail low = (let g = greatest_before keys k before after stops sought i lt tail low in by_place g.0 g.1 g.2 g.3 g.4 g.5 (cases_eq i g.0))
     where
@@ -197,7 +198,7 @@ module _ (heads tops next links : List ℕ) (keys : List (ℤ × ℤ)) (k : ℤ 
           subst (LeadsTo (now keys k) (IsAfter (key_at keys i))) (sym (done.other_links i (subst (λ n. i < n) (sym old.same) lt) (λ e. apart (omega (arith, e, is_b)))))
           (behind keys k (IsAfter (key_at keys i)) (get_or next i 0) at.0 on at.1 (omega (arith, ints, down, below)))
 
-  -- any other as before
+  -- the link of any other position is right
   link_other : (i : ℕ) → i < length keys → (IsAfter (key_at keys i) k → ⊥) → LeadsTo (now keys k) (IsAfter (key_at keys i)) (get_or links i 0)
   link_other i lt not =
       subst (LeadsTo (now keys k) (IsAfter (key_at keys i))) (sym (done.other_links i (subst (λ n. i < n) (sym old.same) lt) (λ e. by_sought e sought)))
@@ -252,7 +253,7 @@ module _ (heads tops next links : List ℕ) (keys : List (ℤ × ℤ)) (k : ℤ 
     at_next = λ i lt. link_now i lt (cases_lt i (length keys));
   }
 
--- what comes before the pair's place is one of the keys
+-- the position before the pair's place is one of a key
 pub before_inside : (keys : List (ℤ × ℤ)) (pair : ℤ × ℤ) (before after : ℕ) → (before ≡ 0 → ⊥) → Sought keys pair before after → before - 1 < length keys
 before_inside keys pair before after some (inl s) = absurd (some s.is)
 before_inside keys pair before after some (inr s) = (let at = s.is in let inside : s.at < length keys = s.inside in omega (arith, at))

@@ -1,4 +1,4 @@
--- Chains by tail: a step along one, and where a pair stands in one.
+-- Chains by tail: a step along a chain, and the place of a pair in a chain.
 use Rattle.std.proofs.Common.{◌≡◌, ℕ, zero, suc, ◌+◌, ◌-◌, ◌<◌, ◌≤◌, ℤ, pos, ◌<ℤ◌, ◌≤ℤ◌, List, [], ◌∷◌, ◌++◌, length, get_or, replicate, Bool, true, false, cond, ◌⊎◌, inl, inr, refl, sym, ap, ◌∙◌, subst, arith}
 use Rattle.std.specs.List.{list_any, count_by}
 use lib.Signed.{lt_z}
@@ -11,7 +11,7 @@ use Rattle.pair_index.specs.State.Places.{key_at}
 use Rattle.pair_index.specs.State.Tailed.{IsAfter, LeadsTo, Links, Sought}
 use Rattle.pair_index.proofs.PlaceLaws.{none_from_places}
 
--- of what fewer tests pass, fewer are counted
+-- if one test implies another, it counts at most as much
 test_le : (a b : Bool) → (a ≡ true → b ≡ true) → cond a 1 0 ≤ cond b 1 0
 test_le true b h = rw (h refl) (omega arith)
 test_le false b h = omega arith
@@ -36,7 +36,7 @@ module _ {X : Type 0} (p q : X → Bool) (less : (x : X) → q x ≡ true → p 
       let here : cond {A = ℕ} (q x) 1 0 ≤ cond {A = ℕ} (p x) 1 0 = test_le (q x) (p x) (less x) in
       omega (arith, one, two)
 
--- how many positions a chain can lead to from a link on: a measure
+-- how many positions a chain can reach from a link on, which decreases along a chain
 abbrev pub left_of : List (ℤ × ℤ) → ℕ → ℕ
 left_of keys zero = 0
 left_of keys (suc j) = suc (count_by (λ k. lt_z (key_at keys j).1 k.1) keys)
@@ -50,7 +50,7 @@ lt_self a = grind (arith, ints)
 lt_trans : (a b c : ℤ) → a <ℤ b → lt_z b c ≡ true → lt_z a c ≡ true
 lt_trans a b c h k = grind (arith, ints)
 
--- before the end, a link is one of the keys
+-- a link other than 0 leads to the position of a key with the pair's tail
 pub sought_inside : {keys : List (ℤ × ℤ)} (pair : ℤ × ℤ) (before link : ℕ) → (link ≡ 0 → ⊥) → Sought keys pair before link → (link - 1 < length keys) × ((key_at keys (link - 1)).0 ≡ pair.0)
 sought_inside pair before link some (inl s) = s.on.there (link - 1) (omega (arith, some))
 sought_inside pair before link some (inr s) = (let at = s.on.there (link - 1) (omega (arith, some)) in (at.0, at.1.0 ∙ s.tail))
@@ -66,20 +66,20 @@ module _ (heads next : List ℕ) (keys : List (ℤ × ℤ)) (links : Links heads
       keys j (pos 0, pos 0) on.0 (lt_true (key_at keys at).1 (key_at keys j).1 rises) (lt_self (key_at keys j).1) in
       omega arith
 
-  -- a step along a chain leads to less
+  -- a step along a chain decreases the measure
   pub falls : (link then : ℕ) → (link ≡ 0 → ⊥) → link - 1 < length keys → then ≡ get_or next (link - 1) 0 → left_of keys then < left_of keys link
   falls link then some inside e =
       subst (λ l. left_of keys then < left_of keys l) (let back : suc (link - 1) ≡ link = omega (arith, some) in back)
       (falls_at (link - 1) then inside e then refl)
 
-  -- no position has a tail past those that have chains
+  -- a tail beyond the chains has no position
   pub none_there : (tail : ℕ) (pair : ℤ × ℤ) → pair.0 ≡ pos tail → length heads ≤ tail → LeadsTo keys (λ p. p.0 ≡ pair.0) 0
   none_there tail pair is past = record {
     there = λ i e. absurd (omega arith);
     least = λ i inside e. (let t = links.tails i inside in let lt : t.0 < length heads = t.1 in let same : pos t.0 ≡ pos tail = sym t.2 ∙ e ∙ is in absurd (omega (arith, ints, same)));
   }
 
-  -- or one below 0
+  -- a tail below 0 has no position
   pub none_below : (pair : ℤ × ℤ) → pair.0 <ℤ pos 0 → LeadsTo keys (λ p. p.0 ≡ pair.0) 0
   none_below pair below = record {
     there = λ i e. absurd (omega arith);
@@ -90,7 +90,7 @@ module _ (heads next : List ℕ) (keys : List (ℤ × ℤ)) (links : Links heads
   first_there tail pair link is inside e =
       subst (LeadsTo keys (λ p. p.0 ≡ pair.0)) (sym e) (subst (λ z. LeadsTo keys (λ p. p.0 ≡ z) (get_or heads tail 0)) (sym is) (links.at_head tail inside))
 
-  -- past a lesser head the pair's place is sought on
+  -- after a lesser head, the search for a pair continues at the next link
   pub sought_on : (pair : ℤ × ℤ) (before link then : ℕ) → (link ≡ 0 → ⊥) → Sought keys pair before link → (key_at keys (link - 1)).1 <ℤ pair.1 → then ≡ get_or next (link - 1) 0 → Sought keys pair link then
   sought_on pair before link then some sought less e =
       let at = sought_inside pair before link some sought in
@@ -103,18 +103,18 @@ module _ (heads next : List ℕ) (keys : List (ℤ × ℤ)) (links : Links heads
         on = subst (LeadsTo keys (IsAfter (key_at keys (link - 1)))) (sym e) (links.at_next (link - 1) at.0);
       })
 
--- a pair is its tail and its head
+-- a pair is determined by its tail and its head
 pub pair_from : (p q : ℤ × ℤ) → p.0 ≡ q.0 → p.1 ≡ q.1 → p ≡ q
 pair_from p q e f = ap (λ (a : ℤ). (a, p.1)) e ∙ ap (λ (b : ℤ). (q.0, b)) f
 
--- what a spot says
+-- what a spot shows
 module _ (keys : List (ℤ × ℤ)) (pair : ℤ × ℤ) (before after : ℕ) (stops : (i : ℕ) → after ≡ suc i → pair.1 ≤ℤ (key_at keys i).1) where
-  -- the link after it leads to the least of the heads that are not below
+  -- `after` leads to the least head that is not below the pair's
   pub least_from : Sought keys pair before after → (i : ℕ) → i < length keys → (key_at keys i).0 ≡ pair.0 → pair.1 ≤ℤ (key_at keys i).1 → (j : ℕ) × (after ≡ suc j) × ((key_at keys j).1 ≤ℤ (key_at keys i).1)
   least_from (inl s) i inside tail up = s.on.least i inside tail
   least_from (inr s) i inside tail up = s.on.least i inside (tail ∙ sym s.tail, (let below = s.below in omega (arith, ints, below, up)))
 
-  -- where the pair stands, the link after it leads to it
+  -- if the pair is among the keys, `after` leads to its head
   pub found : (i : ℕ) → Sought keys pair before after → i < length keys → key_at keys i ≡ pair → (j : ℕ) × (after ≡ suc j) × ((key_at keys j).1 ≡ pair.1)
   found i sought inside e =
       let head : (key_at keys i).1 ≡ pair.1 = ap (λ (p : ℤ × ℤ). p.1) e in
@@ -123,7 +123,7 @@ module _ (keys : List (ℤ × ℤ)) (pair : ℤ × ℤ) (before after : ℕ) (st
       let down : (key_at keys l.0).1 ≤ℤ (key_at keys i).1 = l.2 in
       (l.0, l.1, omega (arith, ints, up, down, head))
 
-  -- of the lesser heads that before it leads to the greatest
+  -- `before` leads to the greatest head below the pair's
   pub greatest_before : Sought keys pair before after → (i : ℕ) → i < length keys → (key_at keys i).0 ≡ pair.0 → (key_at keys i).1 <ℤ pair.1 → (b : ℕ) × (before ≡ suc b) × (b < length keys) × ((key_at keys b).0 ≡ pair.0) × ((key_at keys b).1 <ℤ pair.1) × ((key_at keys i).1 ≤ℤ (key_at keys b).1)
   greatest_before (inl s) i inside tail low =
       let l = s.on.least i inside tail in
@@ -138,11 +138,11 @@ module _ (keys : List (ℤ × ℤ)) (pair : ℤ × ℤ) (before after : ℕ) (st
       absurd (omega (arith, ints, up, down, low))))
       (λ upto. (s.at, s.is, s.inside, s.tail, s.below, upto))
 
-  -- at the end of the chain the pair stands nowhere
+  -- if `after` is 0, the pair is not among the keys
   pub nowhere_past : Sought keys pair before after → after ≡ 0 → list_any (same_pair pair) keys ≡ false
   nowhere_past sought e = none_from_places pair keys (λ i lt is. (let at = found i sought lt is in let one : after ≡ suc at.0 = at.1 in omega (arith, one)))
 
-  -- nor where another pair stands at the link after it
+  -- if another pair is at `after`, the pair is not among the keys
   pub nowhere_else : Sought keys pair before after → (after ≡ 0 → ⊥) → (key_at keys (after - 1) ≡ pair → ⊥) → list_any (same_pair pair) keys ≡ false
   nowhere_else sought some other = none_from_places pair keys (λ i lt is.
       (let at = found i sought lt is in
@@ -150,15 +150,15 @@ module _ (keys : List (ℤ × ℤ)) (pair : ℤ × ℤ) (before after : ℕ) (st
       let back : after - 1 ≡ at.0 = omega (arith, one) in
       other (pair_from (key_at keys (after - 1)) pair (sought_inside pair before after some sought).1 (ap (λ j. (key_at keys j).1) back ∙ at.2))))
 
--- each of the keys has a link
+-- each position of a key has a link
 pub has_next : {heads next : List ℕ} {keys : List (ℤ × ℤ)} {i : ℕ} → Links heads next keys → i < length keys → i < length next
 has_next {i = i} links inside = subst (λ n. i < n) (sym links.same) inside
 
--- what is not up to another is past it
+-- a number that is not at most another is above it
 pub past_head : (a b : ℤ) → (a ≤ℤ b → ⊥) → b <ℤ a
 past_head a b h = by_lt_z b a (λ l. l) (λ l. absurd (h l))
 
--- more tails, without positions
+-- the links remain right with more tails that have no positions
 pub links_wider : (heads next : List ℕ) (keys : List (ℤ × ℤ)) (m : ℕ) → Links heads next keys → Links (heads ++ replicate m 0) next keys
 links_wider heads next keys m links = record {
   same = links.same;

@@ -20,18 +20,18 @@ int_less a b h = by_answer (int_cmp a b) refl
     by_answer Equal e = (let same = int_ranked a b Equal e in absurd (omega (arith, ints, h, same)))
     by_answer Greater e = (let back = int_ranked a b Greater e in absurd (omega (arith, ints, h, back)))
 
--- a lesser tail comes first
+-- a pair with a lesser tail is less
 pub less_by_tail : (p q : ℤ × ℤ) → p.0 <ℤ q.0 → pair_cmp p q ≡ Less
 less_by_tail p q h = ap (λ o. ordering_then o (int_cmp p.1 q.1)) (int_less p.0 q.0 h)
 
--- and of one tail the lesser head
+-- of two pairs with one tail, the pair with the lesser head is less
 pub less_by_head : (p q : ℤ × ℤ) → IsAfter p q → pair_cmp p q ≡ Less
 less_by_head p q h =
     ap (λ z. ordering_then (int_cmp p.0 z) (int_cmp p.1 q.1)) h.0
     ∙ ap (λ o. ordering_then o (int_cmp p.1 q.1)) (int_self p.0)
     ∙ int_less p.1 q.1 h.1
 
--- what comes later has a greater tail or head
+-- a greater pair has a greater tail, or the same tail and a greater head
 pub later : (p q : ℤ × ℤ) → pair_cmp p q ≡ Less → (p.0 <ℤ q.0) ⊎ IsAfter p q
 later p q h = by_tails (int_cmp p.0 q.0) refl
   where
@@ -46,18 +46,18 @@ later p q h = by_tails (int_cmp p.0 q.0) refl
     by_tails Greater e = (let no : Greater ≡ Less = ap (λ o. ordering_then o (int_cmp p.1 q.1)) e ∙ h in cc)
 
 module _ (heads next : List ℕ) (keys : List (ℤ × ℤ)) (links : Links heads next keys) where
-  -- a tail that has no first position has none
+  -- a tail whose first link is 0 has no position
   bare_none : (u i : ℕ) → get_or heads u 0 ≡ 0 → u < length heads → i < length keys → (key_at keys i).0 ≡ pos u → ⊥
   bare_none u i bare inside lt is = (let at = (links.at_head u inside).least i lt is in let one : get_or heads u 0 ≡ suc at.0 = at.1 in omega (arith, bare, one))
 
-  -- where no tail from one on has a position, no key has such a tail
+  -- if no tail from `low` on has a position, no key has such a tail
   pub none_from : (low i : ℕ) → IsBare heads low (length heads) → i < length keys → pos low ≤ℤ (key_at keys i).0 → ⊥
   none_from low i bare lt from =
       let t = links.tails i lt in
       let is = t.2 in
       bare_none t.0 i (bare t.0 (omega (arith, ints, from, is)) t.1) t.1 lt t.2
 
-  -- the first position of the tails from one on is the least of their keys
+  -- the first position of the tails from `low` on is that of a key with such a tail
   pub first_inside : (low at : ℕ) → IsFirstFrom heads low at → (at < length keys) × (pos low ≤ℤ (key_at keys at).0)
   first_inside low at f =
       let there = (links.at_head f.tail f.inside).there at f.is in
@@ -90,7 +90,7 @@ module _ (heads next : List ℕ) (keys : List (ℤ × ℤ)) (links : Links heads
           let past : f.tail < t.0 = omega (arith, apart, l) in
           inr (less_by_tail (key_at keys at) (key_at keys i) (omega (arith, ints, one, two, past)))
 
-  -- where a chain leads on, it leads to the next
+  -- the link of a position leads to the next greater key
   pub chain_next : (at j i : ℕ) → at < length keys → get_or next at 0 ≡ suc j → i < length keys → pair_cmp (key_at keys at) (key_at keys i) ≡ Less → (i ≡ j) ⊎ (pair_cmp (key_at keys j) (key_at keys i) ≡ Less)
   chain_next at j i inside is lt past = by_later (later (key_at keys at) (key_at keys i) past)
     where
@@ -111,7 +111,7 @@ module _ (heads next : List ℕ) (keys : List (ℤ × ℤ)) (links : Links heads
   pub chain_inside : (at j : ℕ) → at < length keys → get_or next at 0 ≡ suc j → (j < length keys) × (pair_cmp (key_at keys at) (key_at keys j) ≡ Less)
   chain_inside at j inside is = (let there = (links.at_next at inside).there j is in (there.0, less_by_head (key_at keys at) (key_at keys j) there.1))
 
-  -- where it ends, what comes later has a greater tail
+  -- at the end of a chain, greater keys have greater tails
   pub chain_end : (at tail i : ℕ) → at < length keys → get_or next at 0 ≡ 0 → (key_at keys at).0 ≡ pos tail → i < length keys → pair_cmp (key_at keys at) (key_at keys i) ≡ Less → pos (tail + 1) ≤ℤ (key_at keys i).0
   chain_end at tail i inside none is lt past = by_later (later (key_at keys at) (key_at keys i) past)
     where
@@ -122,11 +122,12 @@ module _ (heads next : List ℕ) (keys : List (ℤ × ℤ)) (links : Links heads
           let one : get_or next at 0 ≡ suc least.0 = least.1 in
           absurd (omega (arith, one, none))
 
-  -- what has a greater tail comes later
+  -- a key with a greater tail is greater
   pub past_tail : (at tail i : ℕ) → (key_at keys at).0 ≡ pos tail → pos (tail + 1) ≤ℤ (key_at keys i).0 → pair_cmp (key_at keys at) (key_at keys i) ≡ Less
   past_tail at tail i is from = less_by_tail (key_at keys at) (key_at keys i) (omega (arith, ints, is, from))
 
-  -- the first position of the tails from one on, where those are the keys in question
+  -- the first position of the tails from `low` on is that of the least key, if these tails are those of the keys that
+  -- satisfy `Asked`
   pub least_from_tail : (low : ℕ) (Asked : ℤ × ℤ → Type 0) (place : Option ℕ) → ((i : ℕ) → i < length keys → Asked (key_at keys i) → pos low ≤ℤ (key_at keys i).0) → ((i : ℕ) → i < length keys → pos low ≤ℤ (key_at keys i).0 → Asked (key_at keys i))
       → MatchOption place (IsBare heads low (length heads)) (λ at. IsFirstFrom heads low at) → IsLeast keys Asked place
   least_from_tail low Asked None to back bare = λ i lt asked. none_from low i bare lt (to i lt asked)
@@ -134,7 +135,7 @@ module _ (heads next : List ℕ) (keys : List (ℤ × ℤ)) (links : Links heads
       let there = first_inside low at f in
       (there.0, back at there.0 there.1, λ i lt asked. first_least low at i f lt (to i lt asked))
 
-  -- no tail is below 0
+  -- no key has a tail below 0
   pub from_zero : (i : ℕ) → i < length keys → pos 0 ≤ℤ (key_at keys i).0
   from_zero i lt = (let t = links.tails i lt in let is = t.2 in omega (arith, ints, is))
 

@@ -1,4 +1,4 @@
-// Where the entries of a list stand, by their ordered pairs.
+// Finds the entries of a list by their ordered pairs.
 ghost use Rattle.std.specs.Prelude.{◌≡◌, [], ◌∷◌, ◌++◌, ℤ, OnOk, OnErr, IfOk, false};
 ghost use Rattle.std.specs.List.{list_any, IsDistinct};
 ghost use Rattle.std.specs.List.Sorted.{IsStrictlySortedBy};
@@ -21,32 +21,32 @@ use std::collections::BTreeMap;
 /// How many pairs are looked up together.
 pub const AHEAD: usize = 16;
 
-// How entries are found. An index only goes on from one way to a later one.
+// How entries are found. An index changes from a way only to a later one, or to `Tails` when its chains are rebuilt.
 #[derive(Clone, Copy)]
 enum Way {
-    // By binary search, since the pairs rise.
+    // By binary search, since the pairs are sorted.
     Rising,
-    // By the chains of tails, where pairs come nearly in order.
+    // By chains of tails, for pairs that come nearly in order.
     Tails,
-    // By the chains of buckets.
+    // By chains of buckets.
     Chained,
-    // By an ordered map, where a chain would be long however pairs are spread.
+    // By an ordered map, if a chain would be long with every spread.
     Ordered,
 }
 
-/// Where the entries of a list stand, by their ordered pairs. It holds no entries: each call is given the list.
+/// Finds the entries of a list by their ordered pairs. The index does not own the entries; each call takes the list.
 #[derive(Drop)]
 pub struct PairIndex {
     way: Way,
-    // Empty unless they are the way.
+    // Empty unless `way` is `Tails`.
     tails: Tails,
-    // Without buckets unless they are the way.
+    // Without buckets unless `way` is `Chained`.
     chains: Chains,
-    // Empty unless it is the way.
+    // Empty unless `way` is `Ordered`.
     places: BTreeMap<(i64, i64), usize>,
 }
 
-// The place of each entry and that of a pair that comes next.
+// Returns the position of each entry and of a pair that comes next.
 fn places_with<X>(
     alloc: Global,
     entries: &[((i64, i64), X)],
@@ -64,7 +64,7 @@ fn places_with<X>(
 }
 
 impl PairIndex {
-    /// The index of no entries, which takes no memory.
+    /// Returns the index of no entries. This does not allocate.
     pub fn new(alloc: Global) -> PairIndex
         ensures { Indexes result [] }
     {
@@ -76,7 +76,7 @@ impl PairIndex {
         }
     }
 
-    /// Where the entry of a pair stands, if there is one. Takes no memory.
+    /// Returns the position of a pair's entry, if there is one. This does not allocate.
     #[tactic(auto, unfolding(crate::specs::State::Shown::ShowsIndex))]
     pub fn find<X>(&self, entries: &[((i64, i64), X)], pair: &(i64, i64)) -> Option<usize>
         requires { Indexes self.now (keys_of entries.now) }
@@ -95,14 +95,14 @@ impl PairIndex {
         }
     }
 
-    /// Whether looking up pairs together may spare time: where each is found on its own way through memory. It decides
-    /// only the speed, and has no contract.
+    /// Whether looking up pairs together may save time, because each look-up waits for memory of its own. This has no
+    /// contract, because it affects only the speed.
     pub fn is_scattered(&self) -> bool {
         matches!(self.way, Way::Tails | Way::Chained)
     }
 
-    /// Where each of these pairs may stand, if looking them up together spares time: places to look at first. They are
-    /// hints, so it has no contract: the caller sees whether the entry there is the pair's. Takes no memory.
+    /// Returns a hint of the position of each of these pairs, or `None` if looking them up together would save no time.
+    /// This has no contract: the caller checks whether the entry at a hint is the pair's. It does not allocate.
     #[tactic(auto, unfolding(crate::specs::State::Shown::ShowsIndex))]
     pub fn likely_places<X>(
         &self,
@@ -120,7 +120,8 @@ impl PairIndex {
         }
     }
 
-    /// How the entries stand by rising pair. They are put in order where they have none that serves. Takes no memory.
+    /// Returns the order of the entries by ascending pair. Sorts the entries in place unless they are sorted or linked
+    /// by tail. This does not allocate.
     #[tactic(auto, unfolding(crate::specs::State::Shown::ShowsIndex))]
     pub fn order<X>(self, entries: &mut [((i64, i64), X)]) -> PairOrder
         requires { Indexes self (keys_of entries.old) }
@@ -138,8 +139,9 @@ impl PairIndex {
         }
     }
 
-    // Takes up a pair by chains so spread, or by a later way. On want of memory nothing has changed. Which way it
-    // takes decides only the speed.
+    // Adds `pair` by rebuilding the index: by tails, or else by chains of this spread. If neither serves or `spread` is
+    // `None`, it falls back to the ordered map. If an allocation fails, nothing changes. Which way it takes affects
+    // only the speed.
     #[tactic(auto, unfolding(crate::specs::State::Shown::ShowsIndex))]
     fn rebuild<X>(
         &mut self,
@@ -174,8 +176,8 @@ impl PairIndex {
         Ok(())
     }
 
-    /// Takes up a pair that has no entry, and whose entry comes next. On want of memory, the one error, the index
-    /// still tells of the entries without it.
+    /// Adds a pair that has no entry, and whose entry comes next in the list. The only error is that an allocation
+    /// fails. Then the index still finds the entries without the pair.
     #[tactic(auto, unfolding(crate::specs::State::Shown::ShowsIndex))]
     pub fn note<X>(
         &mut self,

@@ -1,4 +1,4 @@
-// Entries by rising pair, whatever the order of their list.
+// The entries of a list by ascending pair, in whatever order the list has them.
 ghost use Rattle.std.specs.Prelude.{◌≡◌, ◌<◌, length};
 ghost use Rattle.std.specs.List.{IsDistinct};
 ghost use Rattle.std.specs.List.Sorted.{IsStrictlySortedBy};
@@ -11,15 +11,15 @@ ghost use Rattle.pair_index.specs.State.Places.{key_at, IsLeast, IsPlace};
 use crate::rising::place_by_search;
 use crate::tails::Tails;
 
-/// How the entries of a list stand by rising pair. It holds no entries: each call is given the list.
+/// The order of the entries of a list by ascending pair. It does not own the entries; each call takes the list.
 #[derive(Drop)]
 pub struct PairOrder {
-    // None where they stand in the list as they rise.
+    // None if the entries of the list are sorted.
     pub(crate) tails: Option<Tails>,
 }
 
 impl PairOrder {
-    /// Where the entry of a pair stands, if there is one. Takes no memory.
+    /// Returns the position of a pair's entry, if there is one. This does not allocate.
     pub fn find<X>(&self, entries: &[((i64, i64), X)], pair: &(i64, i64)) -> Option<usize>
         requires { Orders self.now (keys_of entries.now) }
         ensures { IsPlace (keys_of entries.now) pair.now result }
@@ -30,7 +30,7 @@ impl PairOrder {
         }
     }
 
-    /// Where the least pair stands, if there is one.
+    /// Returns the position of the least pair, if there is one.
     pub fn first<X>(&self, entries: &[((i64, i64), X)]) -> Option<usize>
         requires { Orders self.now (keys_of entries.now) }
         ensures { IsLeast (keys_of entries.now) (λ p. Unit {0}) result }
@@ -41,7 +41,7 @@ impl PairOrder {
         }
     }
 
-    /// Where the pair after the one at a position stands, if there is one.
+    /// Returns the position of the next pair after the one at a position, if there is one.
     pub fn next<X>(&self, entries: &[((i64, i64), X)], at: usize) -> Option<usize>
         requires ordered { Orders self.now (keys_of entries.now) }
         requires inside { at < length entries.now }
@@ -55,7 +55,7 @@ impl PairOrder {
     }
 }
 
-// The first position, where pairs rise.
+// Returns the first position, if pairs are sorted.
 fn first_rising<X>(entries: &[((i64, i64), X)]) -> Option<usize>
     requires { IsStrictlySortedBy pair_cmp (keys_of entries.now) }
     ensures { IsLeast (keys_of entries.now) (λ p. Unit {0}) result }
@@ -63,7 +63,7 @@ fn first_rising<X>(entries: &[((i64, i64), X)]) -> Option<usize>
     if entries.is_empty() { None } else { Some(0) }
 }
 
-// The position after one, where pairs rise.
+// Returns the position after this one, if pairs are sorted.
 fn next_rising<X>(entries: &[((i64, i64), X)], at: usize) -> Option<usize>
     requires rising { IsStrictlySortedBy pair_cmp (keys_of entries.now) }
     requires inside { at < length entries.now }

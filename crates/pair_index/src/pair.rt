@@ -1,14 +1,14 @@
 // Ordered pairs.
 ghost use Rattle.std.specs.Prelude.{◌≡◌, ◌≤ℤ◌, IsTrue, ◌↔◌};
 
-/// Whether both are one ordered pair: the same tail and the same head.
+/// Whether both are the same ordered pair, with the same tail and the same head.
 pub fn is_pair(left: &(i64, i64), right: &(i64, i64)) -> bool
     ensures { IsTrue result ↔ (left.now ≡ right.now) }
 {
     left.0 == right.0 && left.1 == right.1
 }
 
-// Whether the head of the one is not above that of the other.
+// Whether the head of `left` is at most that of `right`.
 pub(crate) fn is_head_upto(left: &(i64, i64), right: &(i64, i64)) -> bool
     ensures { IsTrue result ↔ (left.now.1 ≤ℤ right.now.1) }
 {

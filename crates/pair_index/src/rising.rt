@@ -1,4 +1,4 @@
-// Entries whose pairs rise.
+// Entries whose pairs are sorted.
 ghost use Rattle.std.specs.Prelude.{◌≡◌, ◌↔◌, [], ◌∷◌, ◌++◌, IsTrue, false};
 ghost use Rattle.std.specs.List.{list_any};
 ghost use Rattle.std.specs.List.Sorted.{IsStrictlySortedBy};
@@ -8,7 +8,7 @@ ghost use Rattle.pair_index.specs.State.Places.{IsPlace};
 
 use std::cmp::Ordering;
 
-// Whether a pair is past all pairs of entries that rise, so that it is none of them and they rise with it.
+// Whether appending `pair` keeps the keys sorted. If so, no entry has this pair.
 pub(crate) fn is_past<X>(entries: &[((i64, i64), X)], pair: &(i64, i64)) -> bool
     requires { IsStrictlySortedBy pair_cmp (keys_of entries.now) }
     ensures none { IsTrue result → list_any (same_pair pair.now) (keys_of entries.now) ≡ false }
@@ -23,7 +23,7 @@ pub(crate) fn is_past<X>(entries: &[((i64, i64), X)], pair: &(i64, i64)) -> bool
     }
 }
 
-/// Where a pair stands among entries by rising pair.
+/// Returns the position of a pair among entries that are sorted by pair.
 pub fn place_by_search<X>(entries: &[((i64, i64), X)], pair: &(i64, i64)) -> Option<usize>
     requires { IsStrictlySortedBy pair_cmp (keys_of entries.now) }
     ensures { IsPlace (keys_of entries.now) pair.now result }

@@ -1,4 +1,4 @@
-// Positions in chains, by tail and then by rising head.
+// Positions linked in chains, by tail and then by ascending head.
 ghost use Rattle.std.specs.Prelude.{◌≡◌, ◌<◌, ◌≤◌, ℕ, ℤ, false, IsTrue, slice_set, pos, ◌<ℤ◌, List, [], ◌∷◌, ◌++◌, MatchOption, length, Ok, true, ◌≢◌, IfOk, IfSome};
 ghost use Rattle.std.specs.List.{list_any, IsDistinct};
 ghost use Rattle.std.specs.Map.{keys_of};
@@ -11,69 +11,70 @@ use crate::index::AHEAD;
 use crate::pair::{is_head_upto, is_pair};
 use std::alloc::{AllocError, Global};
 
-// Links of 32 bits can name so many positions.
+// The greatest count of positions that links of 32 bits can name.
 const MOST_LINKED: usize = u32::MAX as usize;
 
-// A chain of so many positions is long.
+// The length at which a chain is long.
 const LONG: u32 = 12;
 
-// So many tails a position are few enough.
+// The greatest count of tails for each entry that there is capacity for.
 const DENSE: usize = 4;
 
-// Tails farther apart are not near one another, nor are those farther apart than there are entries for each of so many.
+// Two tails are near if they differ by at most one for each `SPAN` entries, and by at most `FARTHEST`.
 const FARTHEST: usize = 16384;
 
 const SPAN: usize = 64;
 
-// Per tail a link to the position with its least head, and per position a link to the one with the next greater head
-// of its tail. A link is one more than the position; 0 is the end.
+// For each tail a link to the position of its least head, and for each position a link to the one of its tail with the
+// next greater head. A link is the position plus one, and 0 ends the chain.
 #[derive(Drop)]
 pub(crate) struct Tails {
     heads: Vec<u32>,
     next: Vec<u32>,
 }
 
-// Where a pair belongs in the chain of its tail: the link to the last position with a lesser head, and that to the
-// position after it.
+// Where a pair belongs in the chain of its tail: the link to the last position with a lesser head, and the link to the
+// position after that.
 #[derive(Clone, Copy)]
 pub(crate) struct Spot {
     before: u32,
     after: u32,
 }
 
-// A pair's tail, if it is not below 0.
+// Returns the tail of a pair, if it is not below 0.
 fn tail_of(pair: &(i64, i64)) -> Option<usize>
     ensures { MatchOption result (pair.now.0 <ℤ pos 0) (λ tail. pair.now.0 ≡ pos tail) }
 {
     usize::try_from(pair.0).ok()
 }
 
-// How far apart tails may be that are near one another, among so many entries.
+// Returns how much two tails that are near may differ, among this many entries.
 fn span(entries: usize) -> u64 {
     (entries / SPAN).min(FARTHEST) as u64
 }
 
-// Whether most entries have a tail near that of the entry before. No contract: it decides only the speed.
+// Whether at most half of the entries have a tail that is not near that of the entry before. This has no contract,
+// because it affects only the speed.
 fn are_near<X>(entries: &[((i64, i64), X)]) -> bool {
     let near = span(entries.len());
     let mut far = 0usize;
     for i in 1..entries.len() {
         if near < entries[i].0.0.abs_diff(entries[i - 1].0.0) {
-            // There are fewer than entries, so nothing saturates.
+            // `far` is below the number of entries, so the sum does not saturate.
             far = far.saturating_add(1);
         }
     }
     far <= entries.len() / 2
 }
 
-// Whether most of these pairs have a tail near that of the pair before, among so many entries. No contract: it decides
-// only the speed.
+// Whether at most half of these pairs have a tail that is not near that of the pair before, among this many entries.
+// This has no contract, because it affects only the speed.
 pub(crate) fn are_near_pairs(pairs: &[(i64, i64); AHEAD], entries: usize) -> bool {
     let near = span(entries);
     let mut far = 0usize;
     for i in 1..AHEAD {
         if near < pairs[i].0.abs_diff(pairs[i - 1].0) {
-            // There are fewer than pairs, so nothing saturates.
+            // `far` is below the number of pairs, so the sum does not saturate.
             far = far.saturating_add(1);
         }
     }
@@ -81,7 +82,7 @@ pub(crate) fn are_near_pairs(pairs: &[(i64, i64); AHEAD], entries: usize) -> boo
 }
 
 impl Tails {
-    // Chains without tails, which take no memory.
+    // Returns chains without tails. This does not allocate.
     pub(crate) fn none(alloc: Global) -> Tails
         ensures heads { result.heads.items ≡ [] }
         ensures next { result.next.items ≡ [] }
@@ -92,7 +93,7 @@ impl Tails {
         }
     }
 
-    // The link to the first position of a pair's tail.
+    // Returns the link to the first position of a pair's tail.
     fn first_of(&self, pair: &(i64, i64)) -> u32
         ensures { (keys : List (ℤ × ℤ)) → IsTailed self.now keys → LeadsTo keys (λ p. p.0 ≡ pair.now.0) result }
     {
@@ -108,7 +109,7 @@ impl Tails {
         }
     }
 
-    // Where a pair belongs in the chain of its tail.
+    // Returns where a pair belongs in the chain of its tail.
     fn spot<X>(&self, entries: &[((i64, i64), X)], pair: &(i64, i64)) -> Spot
         requires { IsTailed self.now (keys_of entries.now) }
         ensures { IsSpot (keys_of entries.now) pair.now result }
@@ -126,8 +127,9 @@ impl Tails {
         Spot { before, after }
     }
 
-    // Chains of the entries and a pair that comes next, if pairs come nearly in order, no chain would be long, and
-    // tails are not many more than entries. That there are none decides only the speed.
+    // Returns the chains of the entries and of a pair that comes next. Returns `None` if pairs do not come nearly in
+    // order, if a chain would be long, or if a tail is below 0 or too great. Whether it returns chains affects only the
+    // speed.
     pub(crate) fn of<X>(
         alloc: Global,
         entries: &[((i64, i64), X)],
@@ -141,7 +143,7 @@ impl Tails {
             return Ok(None);
         }
         let mut tails = Tails::none(alloc);
-        // A slice has fewer entries than a `usize` counts, so nothing saturates.
+        // A slice has fewer entries than a `usize` counts, so the sum does not saturate.
         tails.next.reserve(entries.len().saturating_add(1))?;
         if tails.take_all(entries, pair)? {
             Ok(Some(tails))
@@ -151,7 +153,7 @@ impl Tails {
         }
     }
 
-    // Takes up the entries and then a pair. Answers whether each could be.
+    // Adds the entries and then a pair. Stops and returns false at the first one that cannot be added.
     fn take_all<X>(
         &mut self,
         entries: &[((i64, i64), X)],
@@ -170,14 +172,14 @@ impl Tails {
         self.take(entries, pair)
     }
 
-    // Whether so many entries are worth a look at whether they come nearly in order: when they have doubled. No
-    // contract: it decides only the speed.
+    // Whether the chains of tails remain the way. This is checked only when the links have no spare capacity, and then
+    // by whether pairs still come nearly in order. It has no contract, because it affects only the speed.
     pub(crate) fn stays<X>(&self, entries: &[((i64, i64), X)]) -> bool {
         self.next.len() < self.next.capacity() || are_near(entries)
     }
 
-    // Takes up a pair that comes next, unless its chain is long or its tail great. That it cannot be decides only the
-    // speed.
+    // Adds a pair that comes next. Returns false if its chain is long, or if its tail is below 0 or too great. A false
+    // result affects only the speed.
     pub(crate) fn take<X>(
         &mut self,
         entries: &[((i64, i64), X)],
@@ -198,7 +200,7 @@ impl Tails {
         Ok(true)
     }
 
-    // Whether a pair's chain is long. No contract: it decides only the speed.
+    // Whether the chain of a pair is long. This has no contract, because it affects only the speed.
     fn is_long(&self, pair: &(i64, i64)) -> bool {
         let mut link = self.first_of(pair);
         for _ in 0..LONG {
@@ -213,7 +215,8 @@ impl Tails {
         true
     }
 
-    // Makes room for a pair's link, unless its tail is great. That it is decides only the speed.
+    // Reserves capacity for the link of a pair. Returns false if its tail is below 0 or too great, or if the links do
+    // not suffice. A false result affects only the speed.
     fn make_room(&mut self, pair: &(i64, i64)) -> Result<bool, AllocError>
         ensures kept { (keys : List (ℤ × ℤ)) → IsTailed self.old keys → IsTailed self.new keys }
         ensures room { IfOk result (λ is. IsTrue is → HasRoomFor self.new pair.now) }
@@ -235,8 +238,8 @@ impl Tails {
         Ok(true)
     }
 
-    // Where each of these pairs may stand: the chains are walked in step, so that no load waits for that of another
-    // pair. No contract: it decides only the speed.
+    // Returns a hint for each of these pairs. The chains are walked in parallel, so that the load for one pair does not
+    // wait for the load for another. This has no contract, because it affects only the speed.
     pub(crate) fn likely_places<X>(
         &self,
         entries: &[((i64, i64), X)],
@@ -244,7 +247,7 @@ impl Tails {
     ) -> [u32; AHEAD] {
         let mut places = [0; AHEAD];
         for i in 0..AHEAD {
-            // 0 stands for no entry; then the first is looked at, which decides only the speed.
+            // A link of 0 means that there is no entry. The hint is then position 0, which affects only the speed.
             places[i] = self.first_of(&pairs[i]).saturating_sub(1);
         }
         for _ in 0..LONG {
@@ -262,8 +265,8 @@ impl Tails {
         places
     }
 
-    // The position after one in its chain, if the pair there has a lesser head than this one. No contract: it decides
-    // only the speed.
+    // Returns the position after `place` in its chain, if the head at `place` is below that of `pair`. This has no
+    // contract, because it affects only the speed.
     fn past<X>(&self, entries: &[((i64, i64), X)], place: u32, pair: &(i64, i64)) -> Option<u32> {
         let entry = entries.get(place as usize)?;
         if is_head_upto(pair, &entry.0) {
@@ -273,7 +276,7 @@ impl Tails {
         if link == 0 { None } else { Some(link - 1) }
     }
 
-    // Puts the next position, where the pair stands, into its chain. It takes no memory, since there is room.
+    // Links the next position, which is that of the pair. This does not allocate, since there is spare capacity.
     pub(crate) fn link<X>(&mut self, entries: &[((i64, i64), X)], pair: &(i64, i64))
         requires linked { IsTailed self.old (keys_of entries.now) }
         requires fresh { list_any (same_pair pair.now) (keys_of entries.now) ≡ false }
@@ -290,7 +293,7 @@ impl Tails {
         }
     }
 
-    // Lets the chain of a pair's tail begin with a link.
+    // Makes `link` the first link of the chain of a pair's tail.
     fn set_first(&mut self, pair: &(i64, i64), link: u32)
         ensures next { self.new.next ≡ self.old.next }
         ensures heads { (tail : ℕ) → pair.now.0 ≡ pos tail → tail < length self.old.heads.items
@@ -303,7 +306,7 @@ impl Tails {
         }
     }
 
-    // Where the pair stands among the entries.
+    // Returns the position of the pair's entry.
     pub(crate) fn find<X>(&self, entries: &[((i64, i64), X)], pair: &(i64, i64)) -> Option<usize>
         requires { IsTailed self.now (keys_of entries.now) }
         ensures { IsPlace (keys_of entries.now) pair.now result }
@@ -320,7 +323,7 @@ impl Tails {
         }
     }
 
-    // The first position of the tails from one on.
+    // Returns the first position of the least tail, from `tail` on, that has a position.
     fn first_from(&self, tail: usize) -> Option<usize>
         ensures { MatchOption result (IsBare self.now.heads.items tail (length self.now.heads.items))
             (λ at. IsFirstFrom self.now.heads.items tail at) }
@@ -334,14 +337,14 @@ impl Tails {
         None
     }
 
-    // The position of the least pair.
+    // Returns the position of the least pair.
     pub(crate) fn first(&self) -> Option<usize>
         ensures { (keys : List (ℤ × ℤ)) → IsTailed self.now keys → IsLeast keys (λ p. Unit {0}) result }
     {
         self.first_from(0)
     }
 
-    // The position of the least pair that is past the one at a position.
+    // Returns the position of the least pair above the one at a position.
     pub(crate) fn next<X>(&self, entries: &[((i64, i64), X)], at: usize) -> Option<usize>
         requires linked { IsTailed self.now (keys_of entries.now) }
         requires inside { at < length entries.now }

@@ -1,4 +1,4 @@
--- What a bundle owes the layers above it, whatever its kind.
+-- What every kind of bundle provides to the layers above it.
 use Rattle.std.specs.Prelude.{◌≡◌, ℤ, pos, ◌+ℤ◌, ◌≤ℤ◌, List, [], ◌++◌, Bool, Option, Some, None, MatchOption, FitsSigned}
 use Rattle.std.specs.Int.{w64}
 use Rattle.std.specs.List.{AllByRecursion}
@@ -8,68 +8,69 @@ use Rattle.dn_arc.specs.declared.arc.Form.{Form}
 use Rattle.dn_arc.specs.declared.arc.Form.TheVariants.{One}
 use Rattle.dn_arc.specs.declared.difference.How.{How}
 
--- the words of a bundle, which its kind defines
+-- what a kind of bundle specifies about itself
 pub record BundleWords (B Arc : Type 0) : Type 1 where
-  -- what its arcs are, and what they mean
+  -- the kind of its arcs, which defines what they mean
   pub kind : ArcKind Arc
-  -- the canonical arcs that it tells, by form; it stands for the arcs that mean the same
+  -- the canonical arcs that the bundle lists, by form; it represents all arcs that mean the same
   pub told : Form → B → List Arc
-  -- whether it may want memory as it takes arcs
+  -- whether adding an arc may run out of memory
   pub wants_memory : Bool
 
 -- the laws of a kind of arcs
 pub record IsKind {Arc : Type 0} (kind : ArcKind Arc) : Type 0 where
-  -- to mean the same is an equivalence in any order, and more arcs keep it
+  -- having the same meaning is an equivalence that ignores the order of arcs, and adding one arc to both lists keeps it
   pub meaning : IsMeaning kind.Same
-  -- the numbers of an arc give the arc back
+  -- the numbers of an arc determine the arc
   pub arc_of_numbers : (a : Arc) → kind.arc_of (kind.numbers a) ≡ Some a
-  -- an arc has the numbers that give it
+  -- an arc made from numbers has these numbers
   pub numbers_of_arc : (ns : List ℤ) (a : Arc) → kind.arc_of ns ≡ Some a → kind.numbers a ≡ ns
-  -- capacities add up
+  -- the capacity of two lists is the sum of their capacities
   pub capacity_append : (xs ys : List Arc) → kind.capacity (xs ++ ys) ≡ kind.capacity xs +ℤ kind.capacity ys
   pub capacity_some : (xs : List Arc) → AllByRecursion kind.IsArc xs → pos 0 ≤ℤ kind.capacity xs
-  -- canonical arcs are arcs of a problem
+  -- canonical arcs may occur in a problem
   pub canon_arcs : (form : Form) (xs : List Arc) → kind.IsCanon form xs → AllByRecursion kind.IsArc xs
-  -- no arcs are canonical
+  -- the empty list of arcs is canonical
   pub none_canon : (form : Form) → kind.IsCanon form []
-  -- canonical arcs that mean what no arcs mean are none
+  -- canonical arcs that mean the same as no arcs are the empty list
   pub nothing_told : (form : Form) (xs : List Arc) → kind.IsCanon form xs → kind.Same xs [] → xs ≡ []
-  -- the capacity follows from the meaning
+  -- arcs that mean the same have the same capacity
   pub same_capacity : (xs ys : List Arc) → AllByRecursion kind.IsArc xs → AllByRecursion kind.IsArc ys → kind.Same xs ys
       → kind.capacity xs ≡ kind.capacity ys
-  -- so does the number of entries
+  -- arcs that mean the same make the same number of entries
   pub same_entries : (xs ys : List Arc) → AllByRecursion kind.IsArc xs → AllByRecursion kind.IsArc ys → kind.Same xs ys
       → kind.entries xs ≡ kind.entries ys
-  -- no arcs come to no entries
+  -- no arcs make no entries
   pub none_entries : kind.entries [] ≡ 0
-  -- arcs of one meaning have no difference
+  -- arcs that mean the same have no difference
   pub none_differ : (xs ys : List Arc) (how : How) → kind.Differ xs ys how → kind.Same xs ys → ⊥
-  -- arcs have at most one first difference
+  -- two lists of arcs have at most one first difference
   pub one_differ : (xs ys : List Arc) (how other : How) → kind.Differ xs ys how → kind.Differ xs ys other → how ≡ other
-  -- it follows from the meanings
+  -- the first difference depends only on what the arcs mean
   pub same_differ : (xs xs' ys ys' : List Arc) (how : How) → kind.Same xs xs' → kind.Same ys ys' → kind.Differ xs ys how
       → kind.Differ xs' ys' how
 
--- canonical arcs of one form that mean the same are the same
+-- canonical arcs of one form that mean the same are equal
 abbrev pub IsDetermined : {Arc : Type 0} → ArcKind Arc → Type 0
 IsDetermined kind =
     (form : Form) (xs ys : List _) → kind.IsCanon form xs → kind.IsCanon form ys → kind.Same xs ys → xs ≡ ys
 
--- each number of each arc has 64 bits
+-- each number of each arc fits 64 signed bits
 abbrev pub NumbersFit : {Arc : Type 0} → ArcKind Arc → List Arc → Type 0
 NumbersFit kind xs = AllByRecursion (λ a. AllByRecursion (FitsSigned w64) (kind.numbers a)) xs
 
--- the arcs that a bundle tells; where there is no bundle, there are none
+-- the arcs that a bundle lists, or no arcs if there is no bundle
 abbrev pub told_of : {B Arc : Type 0} → (B → List Arc) → Option B → List Arc
 told_of told None = []
 told_of told (Some b) = told b
 
 module _ {B Arc : Type 0} (bundle : BundleWords B Arc) where
-  -- the arcs that a bundle tells in form 1, which mean what it means
+  -- the arcs that a bundle lists in form 1, which have its meaning
   abbrev pub meant : B → List Arc
   meant b = bundle.told One b
 
-  -- where the arcs of two bundles first differ, if they do; where there is no bundle, there are no arcs
+  -- the first difference between the arcs of two bundles, or none if they mean the same; where there is no bundle,
+  -- there are no arcs
   abbrev pub IsHow : Option B → Option B → Option How → Type 0
   IsHow left right how =
       MatchOption how (bundle.kind.Same (told_of meant left) (told_of meant right))

@@ -1,7 +1,7 @@
--- What parallel arcs of a `max` problem mean: their total capacity (First DIMACS Challenge, network flow format).
+-- The canonical arcs that represent a total capacity of a `max` problem (First DIMACS Challenge, network flow format).
 use Rattle.std.specs.Prelude.{ℤ, pos, List, [], ◌∷◌, cond, int_lt}
 use Rattle.dn_arc.specs.declared.arc.CapArc.{CapArc}
 
--- an arc of the total capacity, if it is above 0
+-- one arc of the total capacity, or no arc if the total is 0
 abbrev pub cap_told : ℤ → List CapArc
 cap_told z = cond (int_lt (pos 0) z) (record { cap = z } ∷ []) []

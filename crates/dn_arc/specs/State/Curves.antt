@@ -1,8 +1,8 @@
--- What a curve is.
+-- The numbers of a cost curve.
 use Rattle.std.specs.Prelude.{ℤ, List}
 use Rattle.dn_arc.specs.State.CurveTold.{IsSound}
 
--- the forced units and what they cost, all capacity, and the free capacity by rising COST
+-- the forced units and their cost, the total capacity, and the free capacity by ascending cost
 pub record CurveNumbers : Type 0 where
   pub units : ℤ
   pub cost : ℤ

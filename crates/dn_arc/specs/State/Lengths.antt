@@ -1,9 +1,9 @@
--- What parallel arcs of an `sp` graph mean: their least length (Ninth DIMACS Challenge, shortest-path formats; that
--- parallel arcs mean the shortest is this project's profile).
+-- The canonical arcs that represent a least length of an `sp` graph (Ninth DIMACS Challenge, shortest-path formats;
+-- that parallel arcs mean the shortest is this project's profile).
 use Rattle.std.specs.Prelude.{ℤ, List, [], ◌∷◌, Option, Some, None}
 use Rattle.dn_arc.specs.declared.arc.LengthArc.{LengthArc}
 
--- an arc of the least length, or none
+-- one arc of the least length, or no arc if there is none
 abbrev pub length_told : Option ℤ → List LengthArc
 length_told None = []
 length_told (Some w) = record { length = w } ∷ []

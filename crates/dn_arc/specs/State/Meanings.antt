@@ -1,7 +1,7 @@
--- When the arcs of one ordered pair mean the same (this project's profile).
+-- The laws of a meaning of parallel arcs (this project's profile).
 use Rattle.std.specs.Prelude.{List, ◌∷◌}
 
--- a meaning of lists of arcs: an equivalence that does not depend on their order and that more arcs keep
+-- a meaning of lists of arcs is an equivalence that ignores their order, and adding one arc to both lists keeps it
 pub record IsMeaning {Arc : Type 0} (Same : List Arc → List Arc → Type 0) : Type 0 where
   pub same_refl : (xs : List Arc) → Same xs xs
   pub same_sym : (xs ys : List Arc) → Same xs ys → Same ys xs

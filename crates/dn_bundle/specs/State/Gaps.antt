@@ -1,4 +1,4 @@
--- Where two curves part that cost the same up to an amount, by the steps after it.
+-- The first gap between two curves on which an amount has the same cost, given their breakpoints beyond this amount.
 use Rattle.std.specs.Prelude.{◌≡◌, ◌-◌, ◌^◌, ℤ, pos, ◌+ℤ◌, ◌*ℤ◌, ◌≤ℤ◌, List, [], ◌∷◌, Option, Some, None, ◌&&◌, cond, int_lt, slice_get}
 use Rattle.std.specs.Option.{option_map}
 use Rattle.std.specs.Ordering.{int_eq}
@@ -6,11 +6,11 @@ use Rattle.dn_arc.specs.declared.difference.Gap.{Gap}
 use Rattle.dn_arc.specs.State.Means.{IsMean}
 use Rattle.dn_arc.specs.State.Steps.{AreSteps, steps_room}
 
--- a cost with that of one unit of a step, if there is one
+-- the cost plus that of one unit at a breakpoint, if there is one
 abbrev pub unit_cost : ℤ → Option (ℤ × ℤ) → Option ℤ
 unit_cost cost step = option_map (λ (step : ℤ × ℤ). cost +ℤ step.0) step
 
--- one unit further: the next step's cost on each side, or none where no step is left
+-- the gap at the next amount: on each side its cost, or none if no breakpoint remains
 abbrev pub gap_next : ℤ → ℤ → Option (ℤ × ℤ) → Option (ℤ × ℤ) → Gap
 gap_next amount cost left right = record {
   amount = amount +ℤ pos 1;
@@ -18,7 +18,7 @@ gap_next amount cost left right = record {
   right = unit_cost cost right;
 }
 
--- the gap at two steps that are not the same, by those after them
+-- the gap at two breakpoints that differ, given the breakpoints after them
 abbrev pub parted : ℤ → ℤ → ℤ × ℤ → ℤ × ℤ → Option (ℤ × ℤ) → Option (ℤ × ℤ) → Gap
 parted amount cost l r left right =
     cond (int_eq l.0 r.0)
@@ -26,7 +26,7 @@ parted amount cost l r left right =
     (gap_next (amount +ℤ r.1) (cost +ℤ (r.1 *ℤ r.0)) (Some l) right))
     (gap_next amount cost (Some l) (Some r))
 
--- the first gap, by the first steps that are not the same
+-- the first gap, which the first two breakpoints that differ determine
 abbrev pub first_gap : ℤ → ℤ → List (ℤ × ℤ) → List (ℤ × ℤ) → Option Gap
 first_gap amount cost [] [] = None
 first_gap amount cost [] (r ∷ right) = Some (gap_next amount cost None (Some r))
@@ -36,7 +36,7 @@ first_gap amount cost (l ∷ left) (r ∷ right) =
     (first_gap (amount +ℤ l.1) (cost +ℤ (l.1 *ℤ l.0)) left right)
     (Some (parted amount cost l r (slice_get left 0) (slice_get right 0)))
 
--- two steps that are not the same, and what they go on from
+-- two breakpoints differ, and the amount before them has a cost in range
 pub record ArePart (amount cost : ℤ) (l r : ℤ × ℤ) : Type 0 where
   pub some : pos 0 ≤ℤ amount
   pub mean : IsMean cost amount
@@ -46,7 +46,7 @@ pub record ArePart (amount cost : ℤ) (l r : ℤ × ℤ) : Type 0 where
   pub right_most : (amount +ℤ r.1) ≤ℤ pos (2 ^ 63 - 1)
   pub differ : l.0 ≡ r.0 → l.1 ≡ r.1 → ⊥
 
--- steps on both sides that go on from an amount and its cost
+-- both lists of breakpoints are valid, and the amount before them has a cost in range
 pub record AreWalks (amount cost : ℤ) (left right : List (ℤ × ℤ)) : Type 0 where
   pub some : pos 0 ≤ℤ amount
   pub mean : IsMean cost amount

@@ -1,4 +1,4 @@
--- What a curve keeps: numbers in a box, or the cost and the capacity of free capacity at one cost.
+-- How a curve stores its numbers: in a box, or as one cost and the capacity at it.
 use Rattle.std.specs.Prelude.{◌≡◌, ℤ, pos, ◌+ℤ◌, ◌-ℤ◌, ◌*ℤ◌, [], Option, Some, None, cond, int_lt}
 use Rattle.dn_arc.specs.declared.arc.CostArc.{CostArc}
 use Rattle.dn_bundle.specs.declared.curve.shape.Numbers.{Numbers}
@@ -8,26 +8,26 @@ use Rattle.dn_arc.specs.State.CurveTold.{IsSound}
 use Rattle.dn_arc.specs.State.Curves.{CurveNumbers}
 use Rattle.dn_arc.specs.State.Steps.{steps_of, add_step}
 
--- the free capacity at one cost, if there is any
+-- the breakpoint, if it has capacity
 abbrev pub plain_step : ℤ × ℤ → Option (ℤ × ℤ)
 plain_step step = cond (int_lt (pos 0) step.1) (Some step) None
 
--- the numbers that a shape stands for: of one cost there are no forced units
+-- the numbers that a shape represents; a plain shape has no forced units
 abbrev pub numbers_of : Shape → Numbers
 numbers_of (Plain step) = record { units = pos 0; cost = pos 0; total = step.1; steps = steps_of (plain_step step) [] }
 numbers_of (Full numbers) = numbers.value
 
--- numbers that belong together
+-- the numbers are those of a valid curve
 abbrev pub AreSound : Numbers → Type 0
 AreSound n = IsSound n.units n.cost n.total n.steps
 
--- the curve of a shape
+-- the curve that a shape represents
 abbrev pub curve_of : (shape : Shape) → AreSound (numbers_of shape) → CurveNumbers
 curve_of shape sound =
     let n = numbers_of shape in
     record { units = n.units; cost = n.cost; total = n.total; steps = n.steps; sound = sound }
 
--- an arc more: its LOW is forced, and the rest of its CAP is free at its COST
+-- the new numbers have one more arc: its LOW is forced, and the rest of its CAP is free at its COST
 pub record IsGrown (old : Numbers) (a : CostArc) (new : Numbers) : Type 0 where
   pub units : new.units ≡ old.units +ℤ a.low
   pub cost : new.cost ≡ old.cost +ℤ (a.low *ℤ a.cost)

@@ -1,4 +1,4 @@
--- The arcs that each kind of bundle tells.
+-- The canonical arcs that each kind of bundle lists.
 use Rattle.std.specs.Prelude.{List}
 use Rattle.dn_arc.specs.declared.arc.LengthArc.{LengthArc}
 use Rattle.dn_arc.specs.declared.arc.CapArc.{CapArc}
@@ -11,14 +11,14 @@ use Rattle.dn_arc.specs.State.Lengths.{length_told}
 use Rattle.dn_arc.specs.State.Capacities.{cap_told}
 use Rattle.dn_arc.specs.State.CurveTold.{told}
 
--- an arc of the least length, or none
+-- one arc of the least length, or no arc if there is none
 abbrev pub least_arcs : Least → List LengthArc
 least_arcs b = length_told b.length
 
--- an arc of the total capacity, if it is above 0
+-- one arc of the total capacity, or no arc if the total is 0
 abbrev pub total_arcs : Total → List CapArc
 total_arcs b = cap_told b.total
 
--- the canonical arcs of the form
+-- the canonical arcs in this form
 abbrev pub curve_arcs : Form → Curve → List CostArc
 curve_arcs form b = told form b.units b.cost b.steps

@@ -1,4 +1,4 @@
-// The canonical arcs that a curve tells, in both forms.
+// The canonical arcs that a curve lists, in both forms.
 ghost use Rattle.std.specs.Prelude.{◌≡◌, ℕ, ◌+◌, ◌+ℤ◌, length, slice_get, Some, find, cond, int_lt, FitsSigned};
 ghost use Rattle.std.specs.Option.{option_map, ForSome};
 ghost use Rattle.std.specs.Int.{w64};
@@ -39,7 +39,7 @@ fn free_of(step: Option<(i64, i64)>) -> Option<CostArc>
     }
 }
 
-// The first of a fixed arc and the free capacity; at one cost they are one arc.
+// Returns the first of a fixed arc and the free capacity, by cost. If both have the same cost, they make one arc.
 fn join(fixed: CostArc, step: Option<(i64, i64)>) -> CostArc
     requires { ForSome step (λ step. fixed.cost ≡ step.0 → FitsSigned w64 (fixed.cap +ℤ step.1)) }
     ensures { result ≡ joined_head fixed (option_map step_arc step) }
@@ -63,7 +63,7 @@ fn join(fixed: CostArc, step: Option<(i64, i64)>) -> CostArc
 }
 
 impl Curve {
-    // The first canonical arc.
+    // Returns the first canonical arc.
     pub(super) fn first_arc(&self, form: Form) -> Option<CostArc>
         ensures { result ≡ slice_get (curve_arcs form self.now) 0 }
     {
@@ -77,7 +77,7 @@ impl Curve {
         }
     }
 
-    // The first fixed arc.
+    // Returns the first fixed arc.
     fn first_fixed(&self) -> Option<CostArc>
         ensures { result ≡ slice_get (fixed_arcs self.now.units self.now.cost) 0 }
     {
@@ -88,7 +88,7 @@ impl Curve {
         }
     }
 
-    // The first fixed arc past a cost.
+    // Returns the first fixed arc whose cost is above `past`.
     fn fixed_past(&self, past: &i64) -> Option<CostArc>
         ensures { result ≡ find (λ b. int_lt past.now b.cost) (fixed_arcs self.now.units self.now.cost) }
     {
@@ -113,7 +113,7 @@ impl Curve {
         }
     }
 
-    // How many canonical arcs form 1 has.
+    // Returns how many canonical arcs form 1 has.
     pub(super) fn len_one(&self) -> u64
         ensures { result ≡ length (curve_arcs Form.One self.now) }
     {
@@ -124,7 +124,7 @@ impl Curve {
         }
     }
 
-    // How many canonical arcs form 2 has.
+    // Returns how many canonical arcs form 2 has.
     pub(super) fn len_two(&self) -> u64
         ensures { result ≡ length (curve_arcs Form.Two self.now) }
     {
@@ -137,14 +137,14 @@ impl Curve {
         }
     }
 
-    // One where no free capacity stands at the cost.
+    // Returns 1 if there is no free capacity at this cost, and 0 otherwise.
     fn missing(&self, cost: &i64) -> u64
         ensures { result ≡ cond (has_step self.now.steps cost.now) 0 1 }
     {
         if self.has_step(cost) { 0 } else { 1 }
     }
 
-    // The canonical arc of form 1 after an arc.
+    // Returns the canonical arc of form 1 after this arc.
     pub(super) fn after_one(&self, arc: &CostArc) -> Option<CostArc>
         ensures { (i : ℕ) → slice_get (curve_arcs Form.One self.now) i ≡ Some arc.now
             → result ≡ slice_get (curve_arcs Form.One self.now) (i + 1) }
@@ -158,7 +158,7 @@ impl Curve {
         }
     }
 
-    // The canonical arc of form 2 past a cost.
+    // Returns the first canonical arc of form 2 whose cost is above `past`.
     pub(super) fn past_two(&self, past: &i64) -> Option<CostArc>
         ensures { result ≡ find (λ b. int_lt past.now b.cost)
             (curve_arcs Form.Two self.now) }

@@ -1,4 +1,4 @@
-// The numbers of a curve, read from how it keeps them.
+// Reads the numbers of a curve from its shape.
 ghost use Rattle.std.specs.Prelude.{◌≡◌, ◌≤◌, ◌^◌, length, slice_get};
 ghost use Rattle.dn_arc.specs.State.Steps.{step_past, has_step};
 
@@ -7,7 +7,7 @@ use crate::curve::shape::{Shape, plain_step};
 use crate::steps::StepsIter;
 
 impl Curve {
-    // The forced units.
+    // Returns the forced units.
     pub(super) fn units(&self) -> i64
         ensures { result ≡ self.now.units }
     {
@@ -17,7 +17,7 @@ impl Curve {
         }
     }
 
-    // What the forced units cost.
+    // Returns the cost of the forced units.
     pub(super) fn cost(&self) -> i128
         ensures { result ≡ self.now.cost }
     {
@@ -27,7 +27,7 @@ impl Curve {
         }
     }
 
-    // The capacities together.
+    // Returns the total capacity.
     pub(super) fn total(&self) -> i64
         ensures { result ≡ self.now.total }
     {
@@ -37,7 +37,7 @@ impl Curve {
         }
     }
 
-    // How many costs have free capacity.
+    // Returns how many different costs have free capacity.
     pub(super) fn steps_len(&self) -> u64
         ensures len { result ≡ length self.now.steps }
         ensures small { result ≤ 2 ^ 63 }
@@ -48,7 +48,7 @@ impl Curve {
         }
     }
 
-    // The least cost with free capacity, and the capacity at it.
+    // Returns the least cost that has free capacity, and the capacity at it.
     pub(super) fn first_step(&self) -> Option<(i64, i64)>
         ensures { result ≡ slice_get self.now.steps 0 }
     {
@@ -58,7 +58,7 @@ impl Curve {
         }
     }
 
-    // The step at `i` by rising cost, counted from 0.
+    // Returns the breakpoint at `i`, counted from 0 by ascending cost.
     pub(super) fn step(&self, i: u64) -> Option<(i64, i64)>
         ensures { result ≡ slice_get self.now.steps i }
     {
@@ -68,7 +68,7 @@ impl Curve {
         }
     }
 
-    // The first step past a cost.
+    // Returns the first breakpoint whose cost is above `past`.
     pub(super) fn step_past(&self, past: &i64) -> Option<(i64, i64)>
         ensures { result ≡ step_past self.now.steps past.now }
     {
@@ -84,7 +84,7 @@ impl Curve {
         }
     }
 
-    // Whether there is free capacity at a cost.
+    // Whether there is free capacity at this cost.
     pub(super) fn has_step(&self, at: &i64) -> bool
         ensures { result ≡ has_step self.now.steps at.now }
     {
@@ -94,7 +94,7 @@ impl Curve {
         }
     }
 
-    // The steps by rising cost.
+    // Iterates over the breakpoints by ascending cost.
     pub(super) fn steps(&self) -> StepsIter<'_>
         ensures { result ≡ self.now.steps }
     {

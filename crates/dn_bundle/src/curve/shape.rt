@@ -1,4 +1,4 @@
-// How a curve keeps its numbers, and how they take an arc.
+// How a curve stores its numbers, and how it adds an arc to them.
 ghost use Rattle.std.specs.Prelude.{◌≡◌, ◌+ℤ◌, OnOk, OnErr, IfOk};
 ghost use Rattle.dn_arc.specs.Canonical.{IsCostArc};
 ghost use Rattle.dn_bundle.specs.State.Shapes.{plain_step, numbers_of, AreSound, IsGrown};
@@ -13,23 +13,23 @@ use std::alloc::{AllocError, Global};
 pub(crate) struct Numbers {
     /// The forced units.
     pub(crate) units: i64,
-    /// What the forced units cost.
+    /// The cost of the forced units.
     pub(crate) cost: i128,
-    /// The capacities together.
+    /// The total capacity.
     pub(crate) total: i64,
-    /// The free capacity by rising cost.
+    /// The free capacity by ascending cost.
     pub(crate) steps: Steps,
 }
 
-/// How a curve keeps its numbers. Those of one cost and no forced units, as of most pairs, take no memory.
+/// How a curve stores its numbers. A curve with one cost and no forced units, as most pairs have, needs no allocation.
 #[derive(Drop)]
 pub(crate) enum Shape {
-    /// A cost, and the capacity at it.
+    /// A cost and the capacity at it.
     Plain((i64, i64)),
     Full(Box<Numbers>),
 }
 
-/// The free capacity at one cost, if there is any.
+/// Returns the breakpoint if it has capacity.
 pub(crate) fn plain_step(step: (i64, i64)) -> Option<(i64, i64)>
     ensures { result ≡ plain_step step }
 {
@@ -37,7 +37,7 @@ pub(crate) fn plain_step(step: (i64, i64)) -> Option<(i64, i64)>
 }
 
 impl Numbers {
-    // Takes an arc that leaves this total. On an error nothing has changed.
+    // Adds an arc, with which the total capacity is `total`. After an error, nothing has changed.
     fn add(&mut self, arc: CostArc, total: i64) -> Result<(), AllocError>
         requires sound { AreSound self.old }
         requires arc { IsCostArc arc }
@@ -53,7 +53,7 @@ impl Numbers {
     }
 }
 
-// The numbers of one cost with an arc more that leaves this total.
+// Makes the numbers of one breakpoint and adds an arc, with which the total capacity is `total`.
 fn full_with(
     alloc: Global,
     step: (i64, i64),
@@ -76,7 +76,7 @@ fn full_with(
 }
 
 impl Shape {
-    /// Takes an arc that leaves this total. On an error nothing has changed.
+    /// Adds an arc, with which the total capacity is `total`. After an error, nothing has changed.
     pub(crate) fn add(&mut self, alloc: Global, arc: CostArc, total: i64) -> Result<(), AllocError>
         requires sound { AreSound (numbers_of self.old) }
         requires arc { IsCostArc arc }

@@ -1,4 +1,4 @@
--- Lines of arcs at the front of longer bytes, in their plain spelling.
+-- Lines of arcs in plain spelling at the beginning of longer bytes.
 use Rattle.std.specs.Prelude.{◌≡◌, ℕ, ℤ, List, ◌∷◌, ◌++◌, map, Bool, true, false, None, Ok, Some}
 use Rattle.std.specs.List.{list_all}
 use Rattle.dn_num.specs.Number.{number_read}
@@ -14,15 +14,14 @@ use Rattle.dn_line.specs.declared.line.Line.TheVariants.{Skip, MinArc, MaxArc, S
 use Rattle.dn_line.specs.declared.word.Keyword.TheVariants.{A}
 use Rattle.dn_line.specs.declared.word.Word.{Word}
 
--- the arc of a line with these numbers, in a text of this kind; nothing where lines of the kind are no arcs
+-- the arc of a line with these numbers, in a text of this kind, or `Skip` if the kind has no arcs
 abbrev pub arc_of : Kind → PlainArc → Line
 arc_of Min a = MinArc a.src a.dst a.low a.cap a.cost
 arc_of Max a = MaxArc a.src a.dst a.cap
 arc_of Sp a = SpArc a.src a.dst a.cost
 arc_of _ a = Skip
 
--- the bytes are a line, the LF that ends it and the rest, and after a problem line of this kind the line reads as this
--- arc
+-- the bytes are a line, its LF and the rest, and after a problem line of this kind the line reads as this arc
 pub record BeginsWithArc (kind : Kind) (bytes : List ℕ) (arc : Line) (rest : List ℕ) : Type 0 where
   pub line : List ℕ
   pub whole : line ++ 10 ∷ rest ≡ bytes
@@ -30,13 +29,13 @@ pub record BeginsWithArc (kind : Kind) (bytes : List ℕ) (arc : Line) (rest : L
   pub head : head_read (Some kind) (said_words line) ≡ Ok Heads.Arc
   pub fields : fields_read (Some kind) (said_words line) ≡ Ok arc
 
--- the bytes are blanks, if there are any, and the rest
+-- the bytes are zero or more blanks, followed by the rest
 pub record AreBlanks (bytes rest : List ℕ) : Type 0 where
   pub blanks : List ℕ
   pub whole : blanks ++ rest ≡ bytes
   pub all : list_all is_blank blanks ≡ true
 
--- the bytes are a blank, more of them, if there are any, and the rest
+-- the bytes are one or more blanks, followed by the rest
 pub record IsGap (bytes rest : List ℕ) : Type 0 where
   pub blank : ℕ
   pub is : is_blank blank ≡ true
@@ -44,27 +43,27 @@ pub record IsGap (bytes rest : List ℕ) : Type 0 where
   pub whole : blank ∷ more ≡ bytes
   pub then : AreBlanks more rest
 
--- the bytes are blanks, if there are any, LF and the rest
+-- the bytes are zero or more blanks and LF, followed by the rest
 pub record IsLineEnd (bytes rest : List ℕ) : Type 0 where
   pub blanks : AreBlanks bytes (10 ∷ rest)
 
--- the bytes are a word of this number and the rest
+-- the bytes are a word that spells this number, followed by the rest
 pub record IsNumberFront (bytes : List ℕ) (number : ℤ) (rest : List ℕ) : Type 0 where
   pub word : List ℕ
   pub whole : word ++ rest ≡ bytes
   pub reads : number_read word ≡ Ok number
 
--- the bytes are a word of this number, blanks, at least one, and the rest
+-- the bytes are a word that spells this number and one or more blanks, followed by the rest
 pub record IsNumberBefore (bytes : List ℕ) (number : ℤ) (rest : List ℕ) : Type 0 where
   pub left : List ℕ
   pub front : IsNumberFront bytes number left
   pub gap : IsGap left rest
 
--- what a word of this number says
+-- the word that spells this number
 abbrev pub number_word : ℤ → Word
 number_word n = record { comment = false; keyword = None; number = Ok n }
 
--- the bytes are a line whose words are these numbers, LF and the rest
+-- the bytes are a line whose words spell these numbers, and LF, followed by the rest
 pub record AreNumbers (bytes : List ℕ) (numbers : List ℤ) (rest : List ℕ) : Type 0 where
   pub line : List ℕ
   pub whole : line ++ 10 ∷ rest ≡ bytes
@@ -78,7 +77,7 @@ has_arcs Max = true
 has_arcs Sp = true
 has_arcs _ = false
 
--- the bytes are a line, LF and the rest, and the words of the line read as this arc where they follow the letter
+-- the bytes are a line and LF, followed by the rest, and after the letter `a` the words of the line read as this arc
 pub record IsArcOf (kind : Kind) (bytes : List ℕ) (arc : Line) (rest : List ℕ) : Type 0 where
   pub line : List ℕ
   pub whole : line ++ 10 ∷ rest ≡ bytes

@@ -1,5 +1,5 @@
--- The faults that a line has by itself and the kind known. That one is a fault is of the formats; their numbers and
--- the order of checking are this project's profile.
+-- The first fault as a relation. Which lines have faults is of the formats; the numbers of the faults and the order of
+-- checking are this project's profile.
 use Rattle.std.specs.Prelude.{List, ◌∷◌, ◌++◌, true, false, ◌≡◌}
 use Rattle.std.specs.List.{All}
 use Rattle.dn_num.specs.declared.fault.NumFault.TheVariants as Num
@@ -8,7 +8,7 @@ use Rattle.dn_line.specs.declared.code.Code.{Code}
 use Rattle.dn_line.specs.declared.code.Code.TheVariants as Codes
 use Rattle.dn_line.specs.Faults.{Test}
 
--- this test is among them and holds, and those before it fail
+-- the test of this fault is among the tests and holds, and all tests before it fail
 abbrev pub Found : List Test → Code → Type 0
 Found ts c =
     (before : List Test) × (after : List Test) × (ts ≡ before ++ (c, true) ∷ after) × All (λ t. t.1 ≡ false) before

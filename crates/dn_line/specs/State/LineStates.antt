@@ -1,4 +1,4 @@
--- What is kept of a line, and which line a reader stands for.
+-- The state of a line, and the line that a reader represents.
 use Rattle.std.specs.Prelude.{◌≡◌, ℕ, List, [], ◌∷◌, ◌++◌, ◌+◌, length, take, min, map, filter, Bool, not, ◌&&◌, cond, true, false, nat_lt}
 use Rattle.std.specs.List.{position_or_len, before_first, list_all}
 use Rattle.dn_line.specs.Pieces.{parts, has_bytes, is_line_feed}
@@ -9,17 +9,17 @@ use Rattle.dn_line.specs.declared.words.Words.{Words}
 use Rattle.dn_line.specs.declared.line_state.LineState.{LineState}
 use Rattle.dn_line.specs.declared.line_reader.LineReader.{LineReader}
 
--- the first seven of these words: no line has more than six
+-- the state keeps the first seven of these words; no line has more than six
 pub record KeepsWords (s : Words) (ws : List Word) : Type 0 where
   pub count_is : s.count ≡ min (length ws) 7
   pub kept_is : take s.count s.kept ≡ take 7 ws
 
--- the pieces between blanks that are closed, and the one that may go on
+-- the state has taken these closed pieces between blanks, and this piece that may continue
 pub record LineStateAt (s : LineState) (p : List (List ℕ) × List ℕ) : Type 0 where
   pub words_are : KeepsWords s.words (map said (filter has_bytes p.0))
   pub last_is : WordAt s.last p.1
 
--- of this piece the line has taken all but the rest
+-- after the bytes l, the state has taken all of the piece but the rest
 pub record UsedUpTo (s : LineState) (l piece rest : List ℕ) : Type 0 where
   pub used : List ℕ
   pub whole : used ++ rest ≡ piece
@@ -30,12 +30,12 @@ abbrev pub begins_comment : List (List ℕ) → Bool
 begins_comment [] = false
 begins_comment (w ∷ ws) = is_comment w
 
--- the first of the words begins with `c`; where there is none, this is told
+-- the first of the words begins with `c`, or this value if there are no words
 abbrev pub comment_of : List Word → Bool → Bool
 comment_of [] b = b
 comment_of (w ∷ ws) b = w.comment
 
--- the line led here: to its end, or into a comment
+-- the state has taken the line to its end, or into a comment
 pub record Reached (s : LineState) (l : List ℕ) : Type 0 where
   pub used : List ℕ
   pub rest : List ℕ
@@ -43,7 +43,7 @@ pub record Reached (s : LineState) (l : List ℕ) : Type 0 where
   pub stands : LineStateAt s (parts is_blank used)
   pub enough : begins_comment (words used) ≡ false → rest ≡ []
 
--- its words are the line's; or the line is a comment, and they are its first
+-- the state has all words of the line, or the line is a comment and the state has its first words
 pub record HasWordsOf (s : LineState) (l : List ℕ) : Type 0 where
   pub used : List ℕ
   pub rest : List ℕ
@@ -54,15 +54,15 @@ pub record HasWordsOf (s : LineState) (l : List ℕ) : Type 0 where
   pub words_are : filter has_bytes (closed ++ last ∷ []) ≡ words used
   pub enough : begins_comment (words used) ≡ false → rest ≡ []
 
--- neither a blank nor LF
+-- the byte is neither a blank nor LF
 abbrev pub is_clear : ℕ → Bool
 is_clear b = not (is_blank b) && not (is_line_feed b)
 
--- no LF
+-- the byte is not LF
 abbrev pub is_inner : ℕ → Bool
 is_inner b = not (is_line_feed b)
 
--- of this piece, with which it began, the line has taken whole words, and the rest is left
+-- the line begins with this piece, of which the state has taken whole words, and the rest remains
 pub record Plain (s : LineState) (piece rest : List ℕ) : Type 0 where
   pub used : List ℕ
   pub closed : List (List ℕ)
@@ -71,7 +71,8 @@ pub record Plain (s : LineState) (piece rest : List ℕ) : Type 0 where
   pub parts_are : parts is_blank used ≡ (closed, [])
   pub stands : LineStateAt s (closed, [])
 
--- of this piece, with which it began, the line has taken all words, an LF has ended it, and the rest is left
+-- the line begins with this piece, of which the state has taken all words and the LF that ends them, and the rest
+-- remains
 pub record Ended (s : LineState) (piece rest : List ℕ) : Type 0 where
   pub used : List ℕ
   pub closed : List (List ℕ)
@@ -81,7 +82,7 @@ pub record Ended (s : LineState) (piece rest : List ℕ) : Type 0 where
   pub parts_are : parts is_blank used ≡ (closed, last)
   pub stands : LineStateAt s (closed ++ last ∷ [], [])
 
--- the one or the other
+-- `Ended` if an LF has ended the line, and `Plain` otherwise
 abbrev pub PlainOrEnded : LineState → List ℕ → List ℕ → Bool → Type 0
 PlainOrEnded s piece rest false = Plain s piece rest
 PlainOrEnded s piece rest true = Ended s piece rest
@@ -91,21 +92,21 @@ pub record LineSoFar : Type 0 where
   pub bytes : List ℕ
   pub ended : Bool
 
--- the reader stands for this line
+-- the reader represents this line
 pub record LineReaderAt (r : LineReader) (l : LineSoFar) : Type 0 where
   pub tells : HasWordsOf r.line l.bytes
   pub goes_on : l.ended ≡ false → Reached r.line l.bytes
   pub pending_is : r.pending ≡ (not l.ended && has_bytes l.bytes)
 
--- whether the piece has an LF
+-- the piece has an LF
 abbrev pub has_end : List ℕ → Bool
 has_end piece = nat_lt (position_or_len is_line_feed piece) (length piece)
 
--- how many bytes of the piece a step uses: up to and with its first LF, or all
+-- the count of bytes that a step uses: up to and including the first LF, or all
 abbrev pub used_of : List ℕ → ℕ
 used_of piece = position_or_len is_line_feed piece + cond (has_end piece) 1 0
 
--- the line with the piece up to its first LF more; another line where the one before has ended
+-- the line extended by the piece up to its first LF, or a new line if the earlier line has ended
 abbrev pub line_after : LineSoFar → List ℕ → LineSoFar
 line_after l [] = l
 line_after l (b ∷ bs) =
@@ -117,11 +118,11 @@ last_ended [] = record { bytes = []; ended = false }
 last_ended (l ∷ []) = record { bytes = l; ended = true }
 last_ended (l ∷ k ∷ ks) = last_ended (k ∷ ks)
 
--- the line that may go on, or where no byte of it came, the one before
+-- the line that may continue, or the last ended line if it has no bytes
 abbrev pub last_of : List (List ℕ) → List ℕ → LineSoFar
 last_of ls [] = last_ended ls
 last_of ls (b ∷ bs) = record { bytes = b ∷ bs; ended = false }
 
--- the line to which the bytes of a text lead
+-- the line that a reader represents after the bytes of a text
 abbrev pub line_of : List ℕ → LineSoFar
 line_of t = last_of (parts is_line_feed t).0 (parts is_line_feed t).1

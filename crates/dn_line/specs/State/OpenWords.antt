@@ -1,4 +1,4 @@
--- What is kept of a word that may go on.
+-- The state of a word that may continue.
 use Rattle.std.specs.Prelude.{◌≡◌, ℕ, List, [], ◌∷◌, Bool, false, nat_eq, Option, None}
 use Rattle.dn_num.specs.State.NumberReader.{NumberReaderAt}
 use Rattle.dn_line.specs.Words.{keyword_of}
@@ -7,7 +7,7 @@ use Rattle.dn_line.specs.declared.open_word.Short.{Short}
 use Rattle.dn_line.specs.declared.open_word.Short.TheVariants.{Zero, One, Two, Three, More}
 use Rattle.dn_line.specs.declared.open_word.OpenWord.{OpenWord}
 
--- its bytes where they are at most three, as in each keyword, or else the first of them
+-- the bytes of a word of at most three bytes, as each keyword is, or else the first byte
 abbrev pub short : List ℕ → Short
 short [] = Zero
 short (a ∷ []) = One a
@@ -15,12 +15,12 @@ short (a ∷ b ∷ []) = Two a b
 short (a ∷ b ∷ c ∷ []) = Three a b c
 short (a ∷ b ∷ c ∷ d ∷ ds) = More a
 
--- the word so far
+-- the state represents these bytes of a word
 pub record WordAt (o : OpenWord) (w : List ℕ) : Type 0 where
   pub short_is : o.short ≡ short w
   pub number_is : NumberReaderAt o.number w
 
--- a byte more
+-- the state after one more byte
 abbrev pub short_step : Short → ℕ → Short
 short_step Zero x = One x
 short_step (One a) x = Two a x

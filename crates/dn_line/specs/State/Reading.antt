@@ -1,4 +1,4 @@
--- What a line reads as: its first fault, or its item. A reading that computes, beside the relation `Spells`.
+-- The two steps of reading a line: its head, and its fields.
 use Rattle.std.specs.Prelude.{ℕ, List, cond, Option, Some, None, Result, Ok, Err, map}
 use Rattle.dn_line.specs.Words.{said_words, is_skip, first}
 use Rattle.dn_line.specs.LineTable.{kind_named, row, named}
@@ -15,12 +15,12 @@ use Rattle.dn_line.specs.declared.word.Word.{Word}
 use Rattle.dn_line.specs.declared.code.Code.{Code}
 use Rattle.dn_line.specs.Reading.{item, problem_named, spelled, unless, words_read}
 
--- a problem line of this kind
+-- the head of a problem line that names this kind
 abbrev pub problem_head : Option Kind → Head
 problem_head None = Heads.Skip
 problem_head (Some k) = Heads.Problem k
 
--- what a line is, by its first word and the kind that it names
+-- what a line is, given its first word and the kind that it names
 abbrev pub head_of : Option Keyword → Option Kind → Head
 head_of (Some Key.P) k = problem_head k
 head_of (Some Key.N) k = Heads.Node
@@ -30,31 +30,31 @@ head_of (Some Key.Q) k = Heads.Query
 head_of (Some Key.V) k = Heads.Point
 head_of _ k = Heads.Skip
 
--- the checks of a line's head
+-- what the checks of a line's head return
 abbrev pub head_read : Option Kind → List Word → Result Head Code
 head_read known ws =
     cond (is_skip ws) (Ok Heads.Skip) (unless (first_fault (head_tests known ws)) (head_of (first ws) (kind_named ws)))
 
--- the checks of its fields
+-- what the checks of a line's fields return
 abbrev pub fields_read : Option Kind → List Word → Result Line Code
 fields_read known ws =
     cond (is_skip ws) (Ok Items.Skip) (unless (first_fault (field_tests (fields known ws))) (spelled known ws))
 
--- what a line without its line feed reads as
+-- what a line without its LF reads as
 abbrev pub line_read : Option Kind → List ℕ → Result Line Code
 line_read known l = words_read known (said_words l)
 
--- the answer about the fields, where the head has no fault
+-- the result of the fields if the head has no fault, and the head's fault otherwise
 abbrev pub then_fields : Result Head Code → Result Line Code → Result Line Code
 then_fields (Ok h) r = r
 then_fields (Err c) r = Err c
 
--- a problem line, from the words after `p`
+-- what the fields of a problem line read as, given the words after `p`
 abbrev pub checked_problem : List Word → Result Line Code
 checked_problem ws =
     unless (first_fault (field_tests (problem_fields (named (map (λ w. w.keyword) ws)) ws)))
     (problem_named (named (map (λ w. w.keyword) ws)) ws)
 
--- another line, from the words after its letter
+-- what the fields of any other line read as, given the words after its letter
 abbrev pub checked_item : Kind → Keyword → List Word → Result Line Code
 checked_item k l ws = unless (first_fault (field_tests (row_fields (row k l) ws))) (item k l ws)

@@ -1,5 +1,5 @@
--- What a list of bundles by ordered pair stands for, what it becomes as an arc comes, and what an iterator over it
--- shows.
+-- The arcs that a list of bundles by ordered pair represents, how an arc changes the list, and what an iterator over it
+-- returns.
 use Rattle.std.specs.Prelude.{◌≡◌, ◌↔◌, ◌<◌, ◌-◌, ◌^◌, ℕ, ℤ, pos, ◌<ℤ◌, List, [], ◌∷◌, ◌++◌, None, false, IsSome}
 use Rattle.std.specs.Borrow.{Bor}
 use Rattle.std.specs.List.{AllByRecursion}
@@ -11,28 +11,29 @@ use Rattle.dn_arc.specs.State.Kinds.{AreCanonArcsOf}
 use Rattle.dn_table.specs.State.GraphEntries.{graph_entries}
 use Rattle.dn_arc.specs.Pairs.{bundle, pair_cmp, same_pair}
 
--- the arcs that the table tells at an ordered pair
+-- the arcs that the table lists for an ordered pair
 abbrev pub told_at : {B Arc : Type 0} → (B → List Arc) → List ((ℤ × ℤ) × B) → ℤ × ℤ → List Arc
 told_at tells table p = told_of tells (lookup (same_pair p) table)
 
--- at each pair the bundles tell what these arcs mean there; a pair whose arcs mean what no arcs mean has none
+-- for each pair, the table lists canonical arcs that mean the same as these arcs; a pair whose arcs mean the same as no
+-- arcs has no bundle
 pub record TableTells {B Arc : Type 0} (kind : ArcKind Arc) (tells : B → List Arc) (table : List ((ℤ × ℤ) × B))
     (arcs : List ((ℤ × ℤ) × Arc)) : Type 0 where
   pub stands : (p : ℤ × ℤ) → AreCanonArcsOf kind (told_at tells table p) (bundle p arcs)
   pub absent : (p : ℤ × ℤ) → (lookup (same_pair p) table ≡ None) ↔ kind.Same (bundle p arcs) []
 
--- the table of these arcs: bundles by rising pair that tell what they mean
+-- the table represents these arcs: its bundles are sorted by ascending pair and list arcs that mean the same
 pub record TableStandsFor {B Arc : Type 0} (kind : ArcKind Arc) (tells : B → List Arc) (table : List ((ℤ × ℤ) × B))
     (arcs : List ((ℤ × ℤ) × Arc)) : Type 0 where
   pub rising : IsStrictlySortedBy pair_cmp (keys_of table)
   pub tells_them : TableTells kind tells table arcs
 
--- what the iterator shows of an item
+-- the entry that an item of the iterator represents
 abbrev pub entry_of : {B : Type 0} → (ℤ × ℤ) × Bor B → (ℤ × ℤ) × B
 entry_of x = (x.0, x.1.now)
 
--- the table has taken an arc at this pair, and nothing elsewhere: its bundle there means the arcs so far and this one;
--- where it had none, it has one now exactly if the arc means anything
+-- the new table has one more arc at this pair and is the same elsewhere: its bundle there means the earlier arcs and
+-- this one, and a pair that had no bundle has one exactly if the arc means anything
 pub record Grows {B Arc : Type 0} (kind : ArcKind Arc) (tells : B → List Arc) (old new : List ((ℤ × ℤ) × B))
     (pair : ℤ × ℤ) (arc : Arc) : Type 0 where
   pub here : kind.Same (told_at tells new pair) (told_at tells old pair ++ arc ∷ [])
@@ -41,30 +42,30 @@ pub record Grows {B Arc : Type 0} (kind : ArcKind Arc) (tells : B → List Arc) 
       → (lookup (same_pair pair) new ≡ None) ↔ kind.Same (told_at tells new pair) []
   pub others : (p : ℤ × ℤ) → same_pair pair p ≡ false → lookup (same_pair p) new ≡ lookup (same_pair p) old
 
--- arcs of a problem, wherever they stand
+-- each arc may occur in a problem
 abbrev pub AreArcs : {Arc : Type 0} → ArcKind Arc → List ((ℤ × ℤ) × Arc) → Type 0
 AreArcs kind arcs = AllByRecursion (λ a. kind.IsArc a.1) arcs
 
--- what means something still does with an arc more
+-- arcs that mean something also mean something with one more arc
 abbrev pub Stays : {Arc : Type 0} → ArcKind Arc → Type 0
 Stays {Arc} kind =
     (xs : List Arc) (a : Arc) → AllByRecursion kind.IsArc xs → kind.IsArc a → kind.Same (xs ++ a ∷ []) []
     → kind.Same xs []
 
 module _ {B Arc : Type 0} (bundle : BundleWords B Arc) where
-  -- the bundles tell what these arcs mean
+  -- the bundles represent these arcs
   abbrev pub Tells : List ((ℤ × ℤ) × B) → List ((ℤ × ℤ) × Arc) → Type 0
   Tells = TableTells bundle.kind (meant bundle)
 
-  -- the table has taken an arc at this pair
+  -- the new table has one more arc at this pair
   abbrev pub Adds : List ((ℤ × ℤ) × B) → List ((ℤ × ℤ) × B) → ℤ × ℤ → Arc → Type 0
   Adds = Grows bundle.kind (meant bundle)
 
-  -- with this arc the capacities of its pair sum past 2^63 - 1
+  -- with this arc, the capacities of its pair sum to more than 2^63 - 1
   abbrev pub IsTooMuch : List ((ℤ × ℤ) × B) → ℤ × ℤ → Arc → Type 0
   IsTooMuch table pair arc = pos (2 ^ 63 - 1) <ℤ bundle.kind.capacity (told_at (meant bundle) table pair ++ arc ∷ [])
 
-  -- where they are fewer than 2^64, these are as many entries as the arcs of the table come to
+  -- n is how many entries the arcs of the table make, if that is below 2^64
   abbrev pub CountsEntries : List ((ℤ × ℤ) × B) → ℕ → Type 0
   CountsEntries table n = (arcs : List ((ℤ × ℤ) × Arc)) → Tells table arcs → AreArcs bundle.kind arcs
       → graph_entries bundle.kind arcs < 2 ^ 64 → n ≡ graph_entries bundle.kind arcs

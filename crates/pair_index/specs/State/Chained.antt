@@ -1,17 +1,17 @@
--- Positions in chains, by bucket. Only the proofs of this crate use these: a caller needs none of them.
+-- Positions linked in chains, by bucket. Only the proofs of this crate use these definitions.
 use Rattle.std.specs.Prelude.{◌≡◌, ℕ, suc, ◌<◌, ◌≤◌, ◌-◌, ◌^◌, ℤ, List, length, get_or, vec_capacity}
 use Rattle.pair_index.specs.State.Buckets.{bucket_of}
 use Rattle.pair_index.specs.State.Places.{key_at}
 use Rattle.pair_index.specs.declared.bucket.Spread.{Spread}
 use Rattle.pair_index.specs.declared.chains.Chains.{Chains}
 
--- the link leads to the last position below `below` whose pair is in the bucket, if there is one
+-- the link leads to the last position below `below` whose pair is in this bucket, or is 0 if there is none
 pub record LinksTo (spread : Spread) (count : ℕ) (keys : List (ℤ × ℤ)) (below bucket link : ℕ) : Type 0 where
   pub bound : link ≤ below
   pub there : (i : ℕ) → link ≡ suc i → bucket_of spread count (key_at keys i) ≡ bucket
   pub past : (i : ℕ) → i < below → bucket_of spread count (key_at keys i) ≡ bucket → i < link
 
--- the links of all positions
+-- the links of all positions are right
 pub record Links (spread : Spread) (heads next : List ℕ) (keys : List (ℤ × ℤ)) : Type 0 where
   pub some : 0 < length heads
   pub same : length next ≡ length keys
@@ -23,13 +23,13 @@ pub record Links (spread : Spread) (heads next : List ℕ) (keys : List (ℤ × 
 abbrev pub IsChained : Chains → List (ℤ × ℤ) → Type 0
 IsChained chains keys = Links chains.spread chains.heads.items chains.next.items keys
 
--- one position more has a bucket and a place for its link, and a link of 32 bits can name it
+-- there are buckets, there is spare capacity for one more link, and a link of 32 bits can name one more position
 pub record HasRoomForOne (chains : Chains) : Type 0 where
   pub some : 0 < length chains.heads.items
   pub spare : length chains.next.items < vec_capacity chains.next
   pub named : length chains.next.items < 2 ^ 32 - 1
 
--- the pair stands nowhere from the link's position on, and the chain of its bucket goes on there
+-- the pair, if it is there, is at a position below the link, and the link leads along the chain of its bucket
 pub record Sought (spread : Spread) (count : ℕ) (keys : List (ℤ × ℤ)) (pair : ℤ × ℤ) (link : ℕ) : Type 0 where
   pub bound : link ≤ length keys
   pub there : (i : ℕ) → link ≡ suc i → bucket_of spread count (key_at keys i) ≡ bucket_of spread count pair

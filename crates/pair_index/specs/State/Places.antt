@@ -1,4 +1,4 @@
--- Where a pair stands among keys. A caller relies on these.
+-- The position of a pair among keys. Callers rely on these definitions.
 use Rattle.std.specs.Prelude.{◌≡◌, ℕ, ◌<◌, ℤ, pos, List, length, get_or, false, ◌⊎◌, Option, MatchOption}
 use Rattle.std.specs.List.{list_any}
 use Rattle.std.specs.declared.cmp.Ordering.TheVariants.{Less}
@@ -8,12 +8,12 @@ use Rattle.dn_arc.specs.Pairs.{pair_cmp, same_pair}
 abbrev pub key_at : List (ℤ × ℤ) → ℕ → ℤ × ℤ
 key_at keys i = get_or keys i (pos 0, pos 0)
 
--- where a pair stands among the keys, if it does
+-- the option is the position of the pair among the keys, or none if the pair is not there
 abbrev pub IsPlace : List (ℤ × ℤ) → ℤ × ℤ → Option ℕ → Type 0
 IsPlace keys pair place =
     MatchOption place (list_any (same_pair pair) keys ≡ false) (λ i. (i < length keys) × (key_at keys i ≡ pair))
 
--- where the least stands of the keys in question, if there are any
+-- the option is the position of the least of the keys that satisfy `Asked`, or none if no key does
 abbrev pub IsLeast : List (ℤ × ℤ) → (ℤ × ℤ → Type 0) → Option ℕ → Type 0
 IsLeast keys Asked place =
     MatchOption place ((i : ℕ) → i < length keys → Asked (key_at keys i) → ⊥)

@@ -1,4 +1,4 @@
--- How an index finds keys. Only the proofs of this crate use these: a caller needs none of them.
+-- How an index finds keys. Only the proofs of this crate use these definitions.
 use Rattle.std.specs.Prelude.{ℕ, ℤ, List}
 use Rattle.std.specs.List.Sorted.{IsStrictlySortedBy}
 use Rattle.std.specs.BTreeMap.{BTreeMap, get}
@@ -11,11 +11,11 @@ use Rattle.pair_index.specs.State.Tailed.{IsTailed}
 use Rattle.pair_index.specs.declared.index.Way.{Way}
 use Rattle.pair_index.specs.declared.index.Way.TheVariants.{Rising, Tails, Chained, Ordered}
 
--- the map has the place of each key, and none for another pair
+-- the map has the position of each key, and nothing for any other pair
 abbrev pub HasPlaces : BTreeMap (ℤ × ℤ) ℕ → List (ℤ × ℤ) → Type 0
 HasPlaces places keys = (pair : ℤ × ℤ) → IsPlace keys pair (get pair_cmp places pair)
 
--- by the way of the index: the keys rise, the chains link them, or the map has their places
+-- the keys are sorted, the chains link them, or the map has their positions, according to the way of the index
 unfoldable pub ShowsIndex : Way → TailChains → Chains → BTreeMap (ℤ × ℤ) ℕ → List (ℤ × ℤ) → Type 0
 ShowsIndex Rising tails chains places keys = IsStrictlySortedBy pair_cmp keys
 ShowsIndex Tails tails chains places keys = IsTailed tails keys

@@ -1,5 +1,4 @@
--- Positions in chains, by tail and then by rising head. Only the proofs of this crate use these: a caller needs none of
--- them.
+-- Positions linked in chains, by tail and then by ascending head. Only the proofs of this crate use these definitions.
 use Rattle.std.specs.Prelude.{◌≡◌, ℕ, suc, ◌<◌, ◌≤◌, ◌-◌, ◌^◌, ℤ, pos, ◌<ℤ◌, ◌≤ℤ◌, ◌⊎◌, List, length, get_or, vec_capacity}
 use Rattle.pair_index.specs.State.Places.{key_at}
 use Rattle.pair_index.specs.declared.tails.Tails.{Tails}
@@ -9,13 +8,13 @@ use Rattle.pair_index.specs.declared.tails.Spot.{Spot}
 abbrev pub IsAfter : ℤ × ℤ → ℤ × ℤ → Type 0
 IsAfter p q = (q.0 ≡ p.0) × (p.1 <ℤ q.1)
 
--- of the pairs in question the link leads to that with the least head, if there is one
+-- the link leads to the position with the least head of the keys that satisfy `Asked`, or is 0 if no key does
 pub record LeadsTo (keys : List (ℤ × ℤ)) (Asked : ℤ × ℤ → Type 0) (link : ℕ) : Type 0 where
   pub there : (i : ℕ) → link ≡ suc i → (i < length keys) × Asked (key_at keys i)
   pub least : (i : ℕ) → i < length keys → Asked (key_at keys i)
       → (j : ℕ) × (link ≡ suc j) × ((key_at keys j).1 ≤ℤ (key_at keys i).1)
 
--- the links of all positions
+-- the links of all positions are right
 pub record Links (heads next : List ℕ) (keys : List (ℤ × ℤ)) : Type 0 where
   pub same : length next ≡ length keys
   pub apart : (i j : ℕ) → i < length keys → j < length keys → key_at keys i ≡ key_at keys j → i ≡ j
@@ -27,7 +26,7 @@ pub record Links (heads next : List ℕ) (keys : List (ℤ × ℤ)) : Type 0 whe
 abbrev pub IsTailed : Tails → List (ℤ × ℤ) → Type 0
 IsTailed tails keys = Links tails.heads.items tails.next.items keys
 
--- a chain has been gone along as far as one of its positions, whose head is below the pair's, and leads on by the link
+-- the search for the pair has passed a position of its tail with a lesser head, and continues at the link
 pub record Passed (keys : List (ℤ × ℤ)) (pair : ℤ × ℤ) (before link : ℕ) : Type 0 where
   pub at : ℕ
   pub is : before ≡ suc at
@@ -36,7 +35,7 @@ pub record Passed (keys : List (ℤ × ℤ)) (pair : ℤ × ℤ) (before link : 
   pub below : (key_at keys at).1 <ℤ pair.1
   pub on : LeadsTo keys (IsAfter (key_at keys at)) link
 
--- or not at all, and begins with the link
+-- the search for the pair has passed no position, and begins at the link
 pub record Begins (keys : List (ℤ × ℤ)) (pair : ℤ × ℤ) (before link : ℕ) : Type 0 where
   pub is : before ≡ 0
   pub on : LeadsTo keys (λ p. p.0 ≡ pair.0) link
@@ -44,12 +43,13 @@ pub record Begins (keys : List (ℤ × ℤ)) (pair : ℤ × ℤ) (before link : 
 abbrev pub Sought : List (ℤ × ℤ) → ℤ × ℤ → ℕ → ℕ → Type 0
 Sought keys pair before link = Begins keys pair before link ⊎ Passed keys pair before link
 
--- where the pair belongs in the chain of its tail
+-- the spot is where the pair belongs in the chain of its tail
 pub record IsSpot (keys : List (ℤ × ℤ)) (pair : ℤ × ℤ) (spot : Spot) : Type 0 where
   pub sought : Sought keys pair spot.before spot.after
   pub stops : (i : ℕ) → spot.after ≡ suc i → pair.1 ≤ℤ (key_at keys i).1
 
--- one position more has a tail with a chain and a place for its link, and a link of 32 bits can name it
+-- the pair's tail has a chain, there is spare capacity for one more link, and a link of 32 bits can name one more
+-- position
 pub record HasRoomFor (tails : Tails) (pair : ℤ × ℤ) : Type 0 where
   pub tail : ℕ
   pub is : pair.0 ≡ pos tail
@@ -57,11 +57,11 @@ pub record HasRoomFor (tails : Tails) (pair : ℤ × ℤ) : Type 0 where
   pub spare : length tails.next.items < vec_capacity tails.next
   pub named : length tails.next.items < 2 ^ 32 - 1
 
--- no tail from one to before another has a position
+-- no tail from `low` to below `high` has a position
 abbrev pub IsBare : List ℕ → ℕ → ℕ → Type 0
 IsBare heads low high = (u : ℕ) → low ≤ u → u < high → get_or heads u 0 ≡ 0
 
--- the position is the first of the first tail, from one on, that has any
+-- the position is the first one of the least tail, from `low` on, that has a position
 pub record IsFirstFrom (heads : List ℕ) (low at : ℕ) : Type 0 where
   pub tail : ℕ
   pub from : low ≤ tail

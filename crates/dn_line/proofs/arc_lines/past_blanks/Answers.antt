@@ -28,7 +28,7 @@ returns c =
       all = subst (λ l. list_all is_blank l ≡ true) (take_all i bytes over) c.loop-i.invariant.blank;
     }
 
--- one blank more
+-- leading blanks with one more blank are blanks
 blank_more : (bytes : List ℕ) (i : ℕ) → i < length bytes → list_all is_blank (take i bytes) ≡ true → is_blank (get_or bytes i 0) ≡ true → list_all is_blank (take (i + 1) bytes) ≡ true
 blank_more bytes i h all one =
     ap (λ n. list_all is_blank (take n bytes)) (next i)

@@ -3,7 +3,7 @@ use Rattle.dn_arc.specs.declared.arc.Form.TheVariants.{One}
 use Rattle.dn_table.specs.State.GraphEntries.{entries_told}
 use Rattle.dn_table.proofs.entry_sum.count_entries.Given as goal
 
--- the entries so far and those that are left are all
+-- the count so far and the entries of the remaining bundles sum to the total
 abbrev pub invariant-loop-bundle : goal.invariant-loop-bundle
 invariant-loop-bundle g l =
     let kind = g.B.Bundle.bundle.kind in

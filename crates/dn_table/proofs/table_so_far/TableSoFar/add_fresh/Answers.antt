@@ -6,7 +6,7 @@ use Rattle.dn_bundle.specs.declared.bundle.BundleFault.{BundleFault}
 use Rattle.dn_table.proofs.TableLaws.{grows_fresh, grows_none, told_none, sum_told, neither, on_ok_both, only_memory}
 use Rattle.dn_table.proofs.table_so_far.TableSoFar.add_fresh.Goals as goal
 
--- a fault of a bundle's sum
+-- the fault is `Sum`
 abbrev IsSum : BundleFault → Type 0
 IsSum fault = ◌≡◌ {A = Result (Unit {0}) BundleFault} (Err fault) (Err Sum)
 

@@ -7,6 +7,6 @@ use Rattle.pair_index.proofs.tails.Tails.spot.Given as goal
 abbrev pub invariant-loop-after : goal.invariant-loop-after
 invariant-loop-after g l = Sought (keys_of l.entries) l.pair l.before l.after
 
--- heads rise along a chain
+-- the measure decreases along a chain
 abbrev pub decreases-loop-after : goal.decreases-loop-after
 decreases-loop-after g l = left_of (keys_of l.entries) l.after
