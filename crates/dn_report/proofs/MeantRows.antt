@@ -107,11 +107,11 @@ length_says [] arcs stands are some = absurd (some (record { there = stands.same
 length_says (a ∷ []) arcs stands are some = (a.length, stands.same.there a.length (record { has = inl refl; least = (omega (arith, ints), tt) }), refl)
 length_says (a ∷ b ∷ rest) arcs stands are some = absurd stands.canonical
 
--- `max`: the printed total depends only on the meaning
+-- `max`: the printed total is the sum of the CAPs of the represented arcs
 total_says : Says capacities (λ arcs row. row ≡ total_words arcs) total_words
 total_says told arcs stands are some = ap (λ z. codes "total" ∷ signed_decimal z ∷ []) stands.same.is
 
--- `min`: the printed numbers depend only on the meaning
+-- `min`: the printed numbers are those of the represented arcs
 cost_says : Says costs (λ arcs row. row ≡ cost_words arcs) cost_words
 cost_says told arcs stands are some =
     let same = same_canon told arcs (cost_kind.canon_arcs One told stands.canonical) are stands.same in
