@@ -1,16 +1,16 @@
 #!/usr/bin/env bash
-# Measures dnorm on texts that are made to hurt its structures, each beside a road text.
+# Measures dnorm on adversarial texts, each beside a road text.
 #
 #     hostile.sh [BINARY] [N]
 #
-# BINARY is a program that is run as `BINARY < text`, by default that of the repository. N is the number of arcs (or of
-# node, coordinate and comment lines) of a text, by default 1000000; a text with empty lines has 10 N of them, and one
-# with a long line 100 N bytes.
+# BINARY is a program that is run as `BINARY < text`, by default that of the repository. N is the number of arcs of a
+# text (or of its node, coordinate or comment lines), by default 1000000. A text with empty lines has 10 N of them, and
+# a text with a long line has 100 N bytes.
 #
-# For each text the bytes of BINARY and of plain Rust are compared; where plain Rust is too slow, they are not. Then the
+# For each text the output of BINARY is compared with that of plain Rust, unless plain Rust is too slow. Then the
 # processor time of both is measured, in turn with that of BINARY on a shuffled road text. The last column is the time
-# of an arc over that of an arc of the road text, or of a byte where the text has hardly an arc; above MOST it is
-# marked. The status is 1 where bytes differ, or BINARY failed or was too slow.
+# per arc divided by the time per arc of the road text, or per byte if the text has hardly any arcs. A row with a ratio
+# above MOST is marked. The status is 1 if bytes differ, or if BINARY failed or was too slow.
 #
 # Environment:
 #     REPS=3           rounds
@@ -33,7 +33,7 @@ compile generate.rs measure.rs baselines/btree.rs
 road=$(text road-shuffled "$n" 1)
 failed=0
 
-# The kinds, each with what is counted and how many.
+# The kinds, each with the unit that is counted and its number.
 table() {
     cat << TABLE
 road-shuffled arc $n

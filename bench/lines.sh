@@ -1,12 +1,12 @@
 #!/usr/bin/env bash
-# Measures how fast lines are read, without a table and without writing.
+# Measures the speed of reading lines, without a table and without writing.
 #
 #     lines.sh [KIND] [N]
 #
-# KIND is one of the kinds of generate.rs, by default road-shuffled; N is the number of arcs, by default 4000000. A
-# program is made that takes the text into memory, and then reads it line by line in pieces of 64 KiB with the
-# LineReader of dn_line, and checks each line by itself. It is proved and built first, with rt, which takes some minutes
-# from nothing. Printed are MB/s, the median of the rounds, and the least and the greatest.
+# KIND is one of the kinds of generate.rs, by default road-shuffled. N is the number of arcs, by default 4000000. The
+# script makes a program that reads the text into memory, then reads it line by line, in pieces of 64 KiB, with the
+# LineReader of dn_line, and checks each line by itself. The program is proved and built first, with rt, which takes
+# some minutes from nothing. Printed are MB/s: the median of the rounds, the least and the greatest.
 #
 # Environment:
 #     ROUNDS=5         rounds
@@ -19,7 +19,7 @@ kind=${1:-road-shuffled}
 n=${2:-4000000}
 top=$(realpath "$here/..")
 
-# Makes a repository of its own: the two crates, and the program on standard input.
+# Makes a scratch repository: the two crates, and the program, which is read from standard input.
 build() {
     local crate place=$work/lines
     rm -rf "$place"

@@ -1,11 +1,11 @@
 #!/usr/bin/env bash
-# Measures dnorm beside other ways to canonical texts.
+# Measures dnorm beside other ways to make canonical texts.
 #
 #     run.sh [BINARY] [N]
 #
-# BINARY is a program that is run as `BINARY < text`: by default that of the repository; `-` for none, which measures
-# the baselines alone. N is the number of arcs of each text, by default 1000000. First all outputs are compared byte for
-# byte; a difference ends the run. Then come the times.
+# BINARY is a program that is run as `BINARY < text`. By default it is that of the repository; `-` measures only the
+# baselines. N is the number of arcs of each text, by default 1000000. First all outputs are compared byte for byte, and
+# a difference ends the run. Then the times are measured.
 #
 # Environment:
 #     REPS=3            rounds
@@ -45,7 +45,7 @@ slow=("$pipeline" "$dict")
 others=(min min-netgen max co-shuffled)
 [[ ${OTHERS:-1} == 1 ]] || others=()
 
-# Compares all outputs on small texts, clean, noisy and oddly spelled, and on those that are measured.
+# Compares all outputs on small texts (clean, noisy and with unusual spelling) and on the measured texts.
 agreement() {
     local kind
     for kind in road road-pairs road-shuffled multi; do
@@ -80,7 +80,7 @@ instructions() { # COMMAND FILE
         sed -n 's/.*Collected : \([0-9]*\).*/\1/p'
 }
 
-# Counts the instructions of each arc.
+# Counts the instructions per arc.
 counts() {
     local kind file arcs word count
     for kind in "${kinds[@]}"; do

@@ -1,9 +1,9 @@
-# What run.sh, hostile.sh and lines.sh have in common. They read it; by itself it does nothing.
+# Functions that run.sh, hostile.sh and lines.sh share. These scripts read this file; it does nothing by itself.
 # shellcheck shell=bash
 
 here=$(cd "$(dirname "${BASH_SOURCE[0]}")" && pwd)
 
-# The folder of programs and texts: KEEP, or one that is removed at the end.
+# The folder of programs and texts: KEEP, or a temporary one that is removed at the end.
 if [[ ${KEEP-} ]]; then
     mkdir -p "$KEEP"
     work=$(realpath "$KEEP")
@@ -12,7 +12,7 @@ else
     trap 'rm -rf "$work"' EXIT
 fi
 
-# The built program of the repository, or the one that is named.
+# Prints the path of the program: the one that is named, or the built program of the repository.
 program() { # [BINARY]
     local built=$here/../crates/dnorm/out/dnorm
     if [[ ${1-} ]]; then
@@ -26,7 +26,7 @@ program() { # [BINARY]
     fi
 }
 
-# Compiles Rust files of this folder into the working folder, where they are newer than what is there.
+# Compiles Rust files of this folder into the working folder, if they are newer than the compiled ones.
 compile() { # SOURCE..
     local source target
     for source; do
@@ -37,7 +37,7 @@ compile() { # SOURCE..
     done
 }
 
-# The file of a text; it is made where it is not there or older than its generator.
+# Prints the path of a text. The text is made if it does not exist or is older than its generator.
 text() { # KIND N SEED [FLAG..]
     local words="$*"
     local file=$work/${words// /_}.txt
@@ -48,7 +48,7 @@ text() { # KIND N SEED [FLAG..]
     echo "$file"
 }
 
-# Whether all programs give the same bytes with status 0, each in LIMIT seconds. Says what is not so.
+# Whether all programs give the same bytes with status 0, each in LIMIT seconds. Prints what goes wrong.
 agree() { # FILE NAME=COMMAND..
     local file=$1 name first='' word status
     shift

@@ -1,5 +1,6 @@
-# What canon-in-parts does to one part of a text, on whichever machine. It reads this file for the functions; a job runs
-# one of them, as `bash part.sh canon_part min 12 2 range.0000003`, in a folder that has the program as ./program.
+# What canon-in-parts does with one part of a text, on any machine. canon-in-parts reads this file for its functions. A
+# job runs one of them, as `bash part.sh canon_part min 12 2 range.0000003`, in a folder that has the program as
+# ./program.
 # shellcheck shell=bash
 set -euo pipefail
 export LC_ALL=C
@@ -7,14 +8,14 @@ export LC_ALL=C
 # A line whose first word is `a`.
 arc_line=$'^[ \t\r]*a([ \t\r]|$)'
 
-# `grep`, for which it is no failure that no line is found.
+# Runs `grep`, but does not fail if no line matches.
 find_lines() {
     grep -a "$@" || (($? == 1))
 }
 
-# The lines that stand before the arcs of a part, so that it is a text of its own. In `max` these are also a source and
-# a sink, whichever; in `max` and `min` an arc that says nothing, behind which a node line is as late as it is in the
-# whole text.
+# Prints the lines before the arcs of a part, which make the part a text of its own. In `max` these include a source and
+# a sink, any two nodes. In `max` and `min` they include an arc that means nothing, so that a later node line is a
+# LateNode, as it is in the whole text.
 front() { # KIND NODES ARCS
     case $1 in
         sp) printf 'p sp %s %s\n' "$2" "$3" ;;
@@ -23,7 +24,7 @@ front() { # KIND NODES ARCS
     esac
 }
 
-# Puts the arcs of a canonical text of a part: what stands behind its problem line and its source and sink.
+# Prints the arcs of a canonical text of a part: the lines after its problem line, source and sink.
 arcs_alone() { # KIND
     case $1 in
         max) tail -n +4 ;;
@@ -31,10 +32,10 @@ arcs_alone() { # KIND
     esac
 }
 
-# Makes PART.arcs, the canonical arcs of PART, and tells
+# Makes PART.arcs, the canonical arcs of PART, and prints
 #     r PART STATUS ARCS MADE LINE REFUSAL
 # where ARCS arc lines gave MADE canonical arcs, or LINE of PART has the first fault; without a fault LINE is 0. Then it
-# tells about a hundred tails, `s TAIL`, at equal distances among the canonical arcs.
+# prints about a hundred tails, each as `s TAIL`, at equal distances among the canonical arcs.
 canon_part() { # KIND NODES FORM PART
     local kind=$1 nodes=$2 form=$3 part=$4 ended=(0 0 0) arcs made line=0 refusal=''
     arcs=$(find_lines -c -E "$arc_line" "$part")
@@ -44,7 +45,7 @@ canon_part() { # KIND NODES FORM PART
         IFS=: read -r _ line refusal < "$part.why" || true
     fi
     if ((ended[1] != 0 && ended[1] != 2 || ended[2] != 0)); then
-        # Where the program did not fail, its line is not why.
+        # If another command than the program failed, the program's line is not the reason.
         ((ended[1] != 0 && ended[1] != 2)) || line=''
         echo "r $part 4 0 0 0 $line"
         exit 4
@@ -56,8 +57,9 @@ canon_part() { # KIND NODES FORM PART
     rm "$part.why"
 }
 
-# Cuts PART.arcs, in which tails rise, at the tails that `bounds` lists: into slice.RANGE.PART, where RANGE has the arcs
-# from its own bound on. Tails past 2^53 are compared as rounded, which keeps their order, and each in one range.
+# Cuts PART.arcs, which is sorted by tail, at the tails that `bounds` lists, into files slice.RANGE.PART. RANGE has the
+# arcs from its own bound on. Tails above 2^53 are compared as rounded numbers; this keeps their order, and each tail
+# stays in one range.
 cut_part() { # PART
     awk -v part="$1" '
         function slice(number) { return sprintf("slice.%07d.%s", number, part) }
@@ -72,5 +74,5 @@ cut_part() { # PART
     rm "$1.arcs"
 }
 
-# A job runs a function; who reads this file runs none.
+# A job runs a function; a script that only reads this file runs none.
 [[ ${BASH_SOURCE[0]} != "$0" ]] || "$@"

@@ -1,4 +1,5 @@
--- The arcs of a graph as items of its text: each spells, and has no fault after those before it.
+-- Lemmas on the arcs of a graph as items of its text: each arc's line spells it, and it has no fault after the items
+-- before it.
 use Rattle.std.proofs.Common.{◌≡◌, ℕ, suc, ◌+◌, ◌-◌, ◌<◌, ◌^◌, ℤ, pos, negsuc, ◌+ℤ◌, ◌≤ℤ◌, List, [], ◌∷◌, ◌++◌, length, Bool, true, false, cond, not, ◌&&◌, ◌||◌, map, filter, Option, Some, None, int_lt, refl, sym, ap, ◌∙◌, subst, arith, append_assoc, length-append}
 use Rattle.std.proofs.lemmas.Int.{ints}
 use Rattle.std.proofs.lemmas.Bool.Decides.{nat_tests}
@@ -32,22 +33,22 @@ use Rattle.dn_canon.proofs.ItemLaws.{AllFollow}
 use Rattle.dn_canon.proofs.OrderLaws.{all_at_pair, at_head}
 use Rattle.dn_canon.proofs.PartLaws.{all_at, fewer, each_follow, items_back, all_counted, always}
 
--- a node has 64 bits where NODES has
+-- a node fits 64 bits if NODES does
 pub node_fits : (nodes v : ℤ) → Fits nodes → IsNode nodes v → Fits v
 node_fits (pos n) (pos m) h i = let low = i.some in let high = i.most in let le : m < suc n = omega (arith, ints) in grind (arith, nat_tests)
 node_fits (pos n) (negsuc m) h i = let low = i.some in absurd (omega (arith, ints))
 node_fits (negsuc n) (pos m) h i = let high = i.most in absurd (omega (arith, ints))
 node_fits (negsuc n) (negsuc m) h i = let low = i.some in absurd (omega (arith, ints))
 
--- an ID from 1 on
+-- an ID of at least 1 is above 0
 above_zero : (v : ℤ) → pos 1 ≤ℤ v → int_lt (pos 0) v ≡ true
 above_zero v h = grind (arith, ints)
 
--- fewer than declared
+-- a text with fewer counted lines than declared is not full
 pub not_full : (c n : ℕ) → c < n → not (int_lt (pos c) (pos n)) ≡ false
 not_full c n h = grind (arith, ints)
 
--- a node is in range
+-- a node of the problem is in range
 pub node_in_range : (p : Problem) (v : ℤ) → IsNode p.nodes v → is_in_range (Some p) v ≡ true
 node_in_range p v i = by_kind (is_companion p.kind) (int_lt (pos 0) v) (int_lt p.nodes v) (above_zero v i.some) (test_no p.nodes v i.most)
   where
@@ -55,7 +56,7 @@ node_in_range p v i = by_kind (is_companion p.kind) (int_lt (pos 0) v) (int_lt p
     by_kind true a b e f = rw e refl
     by_kind false a b e f = rw (e, f) refl
 
--- the item of an arc of this kind, and the laws of the kind
+-- the item of an arc of this kind, with the laws that its text needs
 pub record IsArcItem {Arc : Type 0} (kind : ArcKind Arc) (arc_in : Line → Option ((ℤ × ℤ) × Arc)) (k : Kind) (item : (ℤ × ℤ) × Arc → Line) : Type 0 where
   pub arc_is : (a : (ℤ × ℤ) × Arc) → arc_in (item a) ≡ Some a
   pub problem_none : (nodes count : ℤ) → arc_in (Item.Graph k nodes count) ≡ None
@@ -69,7 +70,7 @@ pub record IsArcItem {Arc : Type 0} (kind : ArcKind Arc) (arc_in : Line → Opti
   pub no_supply : (a : (ℤ × ℤ) × Arc) → supply_in (item a) ≡ None
   pub kind_laws : IsKind kind
 
--- the item of an arc
+-- the item of a `min` arc
 abbrev pub min_item : (ℤ × ℤ) × CostArc → Line
 min_item a = Item.MinArc a.0.0 a.0.1 a.1.low a.1.cap a.1.cost
 
@@ -79,11 +80,11 @@ max_item a = Item.MaxArc a.0.0 a.0.1 a.1.cap
 abbrev pub sp_item : (ℤ × ℤ) × LengthArc → Line
 sp_item a = Item.SpArc a.0.0 a.0.1 a.1.length
 
--- order of three numbers
+-- at-most is transitive
 at_least : (a b c : ℤ) → a ≤ℤ b → b ≤ℤ c → a ≤ℤ c
 at_least a b c h g = omega (arith, ints)
 
--- `min`
+-- the laws of `min` items
 pub min_items : IsArcItem costs cost_arc_in Kinds.Min min_item
 min_items = record {
   arc_is = λ a. refl;
@@ -116,7 +117,7 @@ min_items = record {
   kind_laws = cost_kind;
 }
 
--- `max`
+-- the laws of `max` items
 pub max_items : IsArcItem capacities cap_arc_in Kinds.Max max_item
 max_items = record {
   arc_is = λ a. refl;
@@ -140,7 +141,7 @@ max_items = record {
   kind_laws = total_kind;
 }
 
--- `sp`
+-- the laws of `sp` items
 pub sp_items : IsArcItem lengths length_arc_in Kinds.Sp sp_item
 sp_items = record {
   arc_is = λ a. refl;
@@ -162,7 +163,7 @@ sp_items = record {
 }
 
 module _ {Arc : Type 0} where
-  -- the arcs of a pair in two lists
+  -- the arcs of a pair in two lists, one after the other
   pub bundle_append : (p : ℤ × ℤ) (xs ys : List ((ℤ × ℤ) × Arc)) → bundle p (xs ++ ys) ≡ bundle p xs ++ bundle p ys
   bundle_append p [] ys = refl
   bundle_append p (x ∷ xs) ys = by_test (same_pair p x.0) (bundle p xs) (bundle p ys) (bundle p (xs ++ ys)) (bundle_append p xs ys)
@@ -171,31 +172,31 @@ module _ {Arc : Type 0} where
       by_test true us vs ws e = ap (λ l. x.1 ∷ l) e
       by_test false us vs ws e = e
 
-  -- the arcs of an arc's pair: those before it, itself, and those after it
+  -- the arcs of an arc's pair are those before it, itself, and those after it
   bundle_at : (d : List ((ℤ × ℤ) × Arc)) (a : (ℤ × ℤ) × Arc) (r : List ((ℤ × ℤ) × Arc)) → bundle a.0 (d ++ a ∷ r) ≡ (bundle a.0 d ++ a.1 ∷ []) ++ bundle a.0 r
   bundle_at d a r =
       bundle_append a.0 d (a ∷ r) ∙ ap (λ l. bundle a.0 d ++ l) (at_head a r) ∙ sym (append_assoc (bundle a.0 d) (a.1 ∷ []) (bundle a.0 r))
 
 module _ {Arc : Type 0} (kind : ArcKind Arc) (arc_in : Line → Option ((ℤ × ℤ) × Arc)) (k : Kind) (item : (ℤ × ℤ) × Arc → Line) (laws : IsArcItem kind arc_in k item) where
-  -- the items of arcs give the arcs back
+  -- the arcs of the items are the arcs
   pub arcs_back : (xs : List ((ℤ × ℤ) × Arc)) → arcs_of arc_in (map item xs) ≡ xs
   arcs_back xs = items_back arc_in item (λ a. Unit {0}) (λ a h. laws.arc_is a) xs (always xs)
 
-  -- items that are no arcs add none
+  -- items without arcs add no arcs
   no_arc_more : (xs : List Line) (ys : List ((ℤ × ℤ) × Arc)) → arcs_of arc_in xs ≡ [] → arcs_of arc_in (xs ++ map item ys) ≡ ys
   no_arc_more xs ys e = filter_map-append arc_in xs (map item ys) ∙ ap (λ l. l ++ arcs_of arc_in (map item ys)) e ∙ arcs_back ys
 
-  -- items that are not counted add nothing to the count
+  -- items that are not counted do not change the count
   pub counted_more : (xs : List Line) (ys : List ((ℤ × ℤ) × Arc)) → counted xs ≡ 0 → counted (xs ++ map item ys) ≡ length ys
   counted_more xs ys e =
       ap length (filter-append is_counted xs (map item ys)) ∙ length-append (filter is_counted xs) (filter is_counted (map item ys))
       ∙ ap (λ n. n + counted (map item ys)) e ∙ (let c = all_counted item laws.counts ys in omega arith)
 
-  -- a part of a sum is within the range where the sum is
+  -- a partial sum is in range if the total is
   within : (capacity more : ℤ) (all : ℤ) → all ≡ capacity +ℤ more → pos 0 ≤ℤ more → all ≤ℤ pos (2 ^ 63 - 1) → int_lt (pos (2 ^ 63 - 1)) capacity ≡ false
   within capacity more all e h g = test_no (pos (2 ^ 63 - 1)) capacity (omega (arith, ints))
 
-  -- the capacities of an arc and those of its pair before it sum within the range
+  -- the capacities of an arc and of the earlier arcs of its pair sum within the range
   sum_within : (graph : Graph Arc) (d : List ((ℤ × ℤ) × Arc)) (a : (ℤ × ℤ) × Arc) (r : List ((ℤ × ℤ) × Arc)) → IsValidGraph kind graph → graph.arcs ≡ d ++ a ∷ r → passes kind d a ≡ false
   sum_within graph d a r v e =
       within (kind.capacity (bundle a.0 d ++ a.1 ∷ [])) (kind.capacity (bundle a.0 r)) (kind.capacity (bundle a.0 graph.arcs))
@@ -207,11 +208,11 @@ module _ {Arc : Type 0} (kind : ArcKind Arc) (arc_in : Line → Option ((ℤ × 
       rest [] h = h.1
       rest (x ∷ d) h = rest d h.1
 
-  -- two nodes are in range
+  -- two nodes of the problem are in range
   two_in_range : (p : Problem) (u v : ℤ) → IsNode p.nodes u → IsNode p.nodes v → not (list_all (is_in_range (Some p)) (u ∷ v ∷ [])) ≡ false
   two_in_range p u v h g = rw (node_in_range p u h, node_in_range p v g) refl
 
-  -- the arcs' items follow the problem line and items that are neither arcs nor counted
+  -- the items of the arcs follow the problem line and items that are neither arcs nor counted
   pub arcs_follow : (graph : Graph Arc) (ns : List Line) → IsValidGraph kind graph → arcs_of arc_in ns ≡ [] → counted ns ≡ 0
       → AllFollow (Item.Graph k graph.nodes (pos (length graph.arcs)) ∷ ns) (map (arc_row kind) graph.arcs) (map item graph.arcs)
   arcs_follow graph ns v no_arc none = each_follow (arc_row kind) item (Item.Graph k graph.nodes (pos (length graph.arcs)) ∷ ns) graph.arcs (λ d a r e.

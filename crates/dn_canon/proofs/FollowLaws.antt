@@ -1,4 +1,4 @@
--- The items of a valid instance: each follows those before it without a fault, and the end has none.
+-- Lemmas on the items of a valid instance: each follows the items before it without a fault, and the end has no fault.
 use Rattle.std.proofs.Common.{◌≡◌, ◌≢◌, ℕ, ◌<◌, ◌≤◌, ◌^◌, ℤ, pos, ◌≤ℤ◌, List, [], ◌∷◌, ◌++◌, length, Bool, true, false, cond, not, ◌&&◌, map, Some, None, int_lt, refl, ap, ◌∙◌, arith, length-append}
 use Rattle.std.proofs.lemmas.Int.{ints}
 use Rattle.std.proofs.lemmas.Bool.Decides.{nat_tests}
@@ -28,16 +28,16 @@ use Rattle.dn_canon.proofs.ArcItems.{node_fits, not_full, node_in_range, min_ite
 use Rattle.dn_canon.proofs.KeyLaws.{no_earlier}
 use Rattle.dn_canon.proofs.InstanceItems.{head_row, head_item, supply_item, query_item, point_item, body_rows, body_of, differ}
 
--- items of which none is an arc
+-- items of which none is an arc contain no arc
 no_arcs : {X : Type 0} (item : X → Line) → ((x : X) → is_arc (item x) ≡ false) → (xs : List X) → list_any is_arc (map item xs) ≡ false
 no_arcs item h [] = refl
 no_arcs item h (x ∷ xs) = rw (h x) (no_arcs item h xs)
 
--- an ID in range
+-- an ID in range passes the range test
 one_in_range : (p : Problem) (id : ℤ) → is_in_range (Some p) id ≡ true → not (list_all (is_in_range (Some p)) (id ∷ [])) ≡ false
 one_in_range p id h = rw h refl
 
--- the supplies' items follow the problem line
+-- the items of supplies follow the problem line
 supplies_follow : (graph : Graph _) (supplies : List (ℤ × ℤ)) → IsValidGraph costs graph → AreSupplies graph.nodes supplies
     → AllFollow (Item.Graph Kinds.Min graph.nodes (pos (length graph.arcs)) ∷ []) (map supply_row supplies) (map supply_item supplies)
 supplies_follow graph supplies v s = each_follow supply_row supply_item (Item.Graph Kinds.Min graph.nodes (pos (length graph.arcs)) ∷ []) supplies (λ d x r e.
@@ -59,7 +59,7 @@ supplies_follow graph supplies v s = each_follow supply_row supply_item (Item.Gr
       sum = refl;
     })
 
--- the terminals' items follow the problem line
+-- the source follows the problem line
 source_follows : (graph : Graph _) (source : ℤ) → IsValidGraph capacities graph → IsNode graph.nodes source
     → Follows (Item.Graph Kinds.Max graph.nodes (pos (length graph.arcs)) ∷ []) (map said (terminal_row source Key.S)) (Item.Terminal source Letters.S)
 source_follows graph source v i = record {
@@ -73,7 +73,7 @@ source_follows graph source v i = record {
   sum = refl;
 }
 
--- and the sink's follows both
+-- the sink follows the problem line and the source
 sink_follows : (graph : Graph _) (source sink : ℤ) → IsValidGraph capacities graph → IsNode graph.nodes sink → source ≢ sink
     → Follows (Item.Graph Kinds.Max graph.nodes (pos (length graph.arcs)) ∷ Item.Terminal source Letters.S ∷ []) (map said (terminal_row sink Key.T)) (Item.Terminal sink Letters.T)
 sink_follows graph source sink v i n = record {
@@ -87,15 +87,15 @@ sink_follows graph source sink v i n = record {
   sum = refl;
 }
 
--- an ID of a companion
+-- an ID of a companion is in range
 id_in_range : (id : ℤ) → pos 1 ≤ℤ id → (int_lt (pos 0) id && true) ≡ true
 id_in_range id h = grind (arith, ints)
 
--- fewer counted lines than declared
+-- a text with fewer counted lines than declared is not full
 still_wanted : {X : Type 0} (item : X → Line) (k : Kind) (xs d : List X) (x : X) (r : List X) → xs ≡ d ++ x ∷ r → counted (map item d) ≡ length d → is_full (Some (record { kind = k; nodes = pos 0; count = pos (length xs) })) (counted (map item d)) ≡ false
 still_wanted item k xs d x r e c = ap (λ n. not (int_lt (pos n) (pos (length xs)))) c ∙ not_full (length d) (length xs) (fewer xs d x r e)
 
--- the items of an `ss` list follow the problem line
+-- the items of an `ss` text follow the problem line
 sources_follow : (ids : List ℤ) → AllByRecursion IsId ids → AllFollow (Item.Aux Kinds.Ss (pos (length ids)) ∷ []) (map source_row ids) (map Item.Source ids)
 sources_follow ids v = each_follow source_row Item.Source (Item.Aux Kinds.Ss (pos (length ids)) ∷ []) ids (λ d x r e.
     let id = all_at IsId ids d x r e v in
@@ -110,11 +110,11 @@ sources_follow ids v = each_follow source_row Item.Source (Item.Aux Kinds.Ss (po
       sum = refl;
     })
 
--- two IDs of a companion
+-- two IDs of a companion pass the range test
 ids_in_range : (a b : Bool) → (a && true) ≡ true → (b && true) ≡ true → not ((a && true) && ((b && true) && true)) ≡ false
 ids_in_range a b h g = rw (h, g) refl
 
--- those of a `p2p` list
+-- the items of a `p2p` text follow the problem line
 queries_follow : (pairs : List (ℤ × ℤ)) → AllByRecursion (λ (q : ℤ × ℤ). IsId q.0 × IsId q.1) pairs → AllFollow (Item.Aux Kinds.P2p (pos (length pairs)) ∷ []) (map query_row pairs) (map query_item pairs)
 queries_follow pairs v = each_follow query_row query_item (Item.Aux Kinds.P2p (pos (length pairs)) ∷ []) pairs (λ d x r e.
     let ids = all_at (λ (q : ℤ × ℤ). IsId q.0 × IsId q.1) pairs d x r e v in
@@ -129,7 +129,7 @@ queries_follow pairs v = each_follow query_row query_item (Item.Aux Kinds.P2p (p
       sum = refl;
     })
 
--- and those of points
+-- the items of a `co` text follow the problem line
 points_follow : (points : List (ℤ × (ℤ × ℤ))) → ArePoints points → AllFollow (Item.Aux Kinds.Co (pos (length points)) ∷ []) (map point_row points) (map point_item points)
 points_follow points v = each_follow point_row point_item (Item.Aux Kinds.Co (pos (length points)) ∷ []) points (λ d x r e.
     let is = all_at IsPoint points d x r e v.each in
@@ -149,7 +149,7 @@ points_follow points v = each_follow point_row point_item (Item.Aux Kinds.Co (po
       sum = refl;
     })
 
--- the items after the problem line follow it
+-- the items of an instance follow its problem line
 pub body_follows : (I : Instance) → IsValid I → AllFollow (head_item I ∷ []) (body_rows I) (body_of I)
 body_follows (MinCostFlow supplies graph) v =
     follow_append (head_item (MinCostFlow supplies graph) ∷ []) (map supply_row supplies) (map (arc_row costs) graph.arcs) (map supply_item supplies) (map min_item graph.arcs)
@@ -167,7 +167,7 @@ body_follows (Sources ids) v = sources_follow ids v
 body_follows (Queries pairs) v = queries_follow pairs v
 body_follows (Coordinates points) v = points_follow points v
 
--- a count below 2^63 has 64 bits
+-- a count below 2^63 fits 64 bits
 count_fits : (n : ℕ) → n < 2 ^ 63 → Fits (pos n)
 count_fits n h = grind (arith, nat_tests)
 
@@ -175,7 +175,7 @@ count_fits n h = grind (arith, nat_tests)
 zero_least : (n : ℕ) → pos 0 ≤ℤ pos n
 zero_least n = omega (arith, ints)
 
--- a graph's problem line comes first, where its counts have 64 bits
+-- the problem line of a graph comes first without a fault, if its counts fit 64 bits
 graph_follows : (k : Kind) (key : Keyword) (nodes : ℤ) (n : ℕ) → slots_of (Item.Graph k nodes (pos n)) ≡ Some (Is Key.P ∷ Is key ∷ Natural nodes ∷ Natural (pos n) ∷ []) → keyword_of (kind_name k) ≡ Some key → Fits nodes → pos 0 ≤ℤ nodes → n < 2 ^ 63
     → Follows [] (map said (graph_row k nodes n)) (Item.Graph k nodes (pos n))
 graph_follows k key nodes n e named f some few = record {
@@ -194,7 +194,7 @@ graph_follows k key nodes n e named f some few = record {
   sum = refl;
 }
 
--- so does a companion's
+-- the problem line of a companion comes first without a fault, if its count fits 64 bits
 companion_follows : (k : Kind) (key : Keyword) (n : ℕ) → slots_of (Item.Aux k (pos n)) ≡ Some (Is Key.P ∷ Is Key.Aux ∷ Is Key.Sp ∷ Is key ∷ Natural (pos n) ∷ []) → keyword_of (kind_name k) ≡ Some key → n < 2 ^ 63
     → Follows [] (map said (companion_row k n)) (Item.Aux k (pos n))
 companion_follows k key n e named few = record {
@@ -213,7 +213,7 @@ companion_follows k key n e named few = record {
   sum = refl;
 }
 
--- the problem line's item is the first, and has no fault
+-- the problem line of a valid instance comes first without a fault
 pub head_follows : (I : Instance) → IsValid I → size_of I < 2 ^ 63 → Follows [] (map said (head_row I)) (head_item I)
 head_follows (MinCostFlow supplies graph) v few = graph_follows Kinds.Min Key.Min graph.nodes (length graph.arcs) refl refl v.0.nodes_fit v.0.some_nodes few
 head_follows (MaxFlow source sink graph) v few = graph_follows Kinds.Max Key.Max graph.nodes (length graph.arcs) refl refl v.0.nodes_fit v.0.some_nodes few
@@ -222,7 +222,7 @@ head_follows (Sources ids) v few = companion_follows Kinds.Ss Key.Ss (length ids
 head_follows (Queries pairs) v few = companion_follows Kinds.P2p Key.P2p (length pairs) refl refl few
 head_follows (Coordinates points) v few = companion_follows Kinds.Co Key.Co (length points) refl refl few
 
--- as many items are counted as the problem line says
+-- the number of counted items is the declared one
 items_counted : (I : Instance) → counted (head_item I ∷ body_of I) ≡ size_of I
 items_counted (MinCostFlow supplies graph) = counted_more costs cost_arc_in Kinds.Min min_item min_items (map supply_item supplies) graph.arcs (none_counted supply_item (λ s. refl) supplies)
 items_counted (MaxFlow source sink graph) = all_counted max_item max_items.counts graph.arcs
@@ -231,7 +231,7 @@ items_counted (Sources ids) = all_counted Item.Source (λ y. refl) ids
 items_counted (Queries pairs) = all_counted query_item (λ y. refl) pairs
 items_counted (Coordinates points) = all_counted point_item (λ y. refl) points
 
--- as many as declared are not too few
+-- a count that equals the declared one is not too few
 enough : (c n : ℕ) → c ≡ n → cond (not (not (int_lt (pos c) (pos n)))) (Some TooFewLines) None ≡ None
 enough c n e = (let lt : int_lt (pos c) (pos n) ≡ false = grind (arith, ints) in rw lt refl)
 
@@ -244,7 +244,7 @@ end_clean (Sources ids) = enough _ _ (items_counted (Sources ids))
 end_clean (Queries pairs) = enough _ _ (items_counted (Queries pairs))
 end_clean (Coordinates points) = enough _ _ (items_counted (Coordinates points))
 
--- no more items are counted than there are rows
+-- there are at most as many counted items as lines
 pub count_rows : (I : Instance) → size_of I ≤ length (body_rows I)
 count_rows (MinCostFlow supplies graph) = omega (arith, length-append (map supply_row supplies) (map (arc_row costs) graph.arcs), length-map graph.arcs (arc_row costs))
 count_rows (MaxFlow source sink graph) = omega (arith, length-map graph.arcs (arc_row capacities))

@@ -1,4 +1,4 @@
--- For all kinds but `min` the canonical text is the same in both forms.
+-- For all kinds but `min`, the canonical text is the same in both forms.
 use Rattle.std.proofs.Common.{◌≡◌, ◌≢◌, ℕ, List, refl, ◌∙◌}
 use Rattle.dn_line.specs.declared.kind.Kind.TheVariants as Kinds
 use Rattle.dn_arc.specs.declared.arc.Form.{Form}

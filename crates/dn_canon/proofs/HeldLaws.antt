@@ -1,4 +1,4 @@
--- The canonical text of what is held.
+-- Lemmas on writing the canonical text of a parsed instance.
 use Rattle.std.proofs.Common.{◌≡◌, ◌<◌, ◌^◌, ℤ, List, length, Result, Ok, Err, sym, ◌∙◌, subst}
 use Rattle.dn_arc.specs.Kinds.{ArcKind, lengths, capacities, costs}
 use Rattle.dn_arc.specs.declared.arc.Form.{Form}
@@ -26,12 +26,12 @@ use Rattle.dn_canon.specs.State.Writes.{Writes, WritesCanon, written_as}
 use Rattle.dn_canon.proofs.ToldLaws.{min_canon, max_canon, sp_canon, companion_canon}
 use Rattle.dn_sink.specs.Sinks.{SinkWords}
 
--- the graph that a table stands for makes a canonical one
+-- the arcs that a table lists make the canonical graph of each graph that the table represents
 abbrev Makes : {B Arc : Type 0} → Form → ArcKind Arc → (Form → B → List Arc) → (B → List Arc) → ℤ → Bundles B → Type 0
 Makes {B} {Arc} form kind tells one nodes table = (G : Graph Arc) → G.nodes ≡ nodes → TableTells kind one table G.arcs → IsValidGraph kind G → IsCanonGraphOf kind form (told_graph (tells form) nodes table) G
 
 module _ {S : Type 0} (sink : SinkWords S) (old new : S) (form : Form) where
-  -- a list that was put
+  -- the outcome of putting a list is the outcome of writing its text
   put_list : (K : Instance) (result : Result (Unit {0}) SinkFault) → size_of K < 2 ^ 63 → Puts sink old new (print K) result → Writes sink old new (print K) (size_of K) (written_as result)
   put_list K (Ok x) few p = (p, few)
   put_list K (Err x) few p = (p, few)

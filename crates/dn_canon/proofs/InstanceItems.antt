@@ -1,4 +1,4 @@
--- The rows of an instance and the items that they spell.
+-- The lines of an instance, and the items that they spell.
 use Rattle.std.proofs.Common.{◌≡◌, ◌≢◌, inl, inr, ℕ, ℤ, pos, List, [], ◌∷◌, ◌++◌, length, Bool, false, cond, map, Option, Some, None, refl, ap, ◌∙◌, append-nil}
 use Rattle.std.proofs.lemmas.Bool.{cases_Bool}
 use Rattle.std.proofs.lemmas.Bool.Decides.{Decides-int_eq}
@@ -29,7 +29,7 @@ use Rattle.dn_canon.proofs.PartLaws.{items_back, no_items, always, all_append, a
 use Rattle.dn_canon.proofs.ArcItems.{min_item, max_item, sp_item, min_items, max_items, sp_items, arcs_back}
 use Rattle.dn_canon.proofs.KeyLaws.{by_key_rising}
 
--- the problem line's row, and its item
+-- the words of the problem line
 abbrev pub head_row : Instance → Row
 head_row (MinCostFlow supplies graph) = graph_row Kinds.Min graph.nodes (length graph.arcs)
 head_row (MaxFlow source sink graph) = graph_row Kinds.Max graph.nodes (length graph.arcs)
@@ -50,15 +50,15 @@ head_item (Coordinates points) = Item.Aux Kinds.Co (pos (length points))
 abbrev pub supply_item : ℤ × ℤ → Line
 supply_item s = Item.Supply s.0 s.1
 
--- of a query
+-- the item of a query
 abbrev pub query_item : ℤ × ℤ → Line
 query_item q = Item.Query q.0 q.1
 
--- of a point
+-- the item of a point
 abbrev pub point_item : ℤ × (ℤ × ℤ) → Line
 point_item p = Item.Point p.0 p.1.0 p.1.1
 
--- the rows after it, and their items
+-- the words of the lines after the problem line
 abbrev pub body_rows : Instance → List Row
 body_rows (MinCostFlow supplies graph) = map supply_row supplies ++ map (arc_row costs) graph.arcs
 body_rows (MaxFlow source sink graph) = terminal_row source Key.S ∷ terminal_row sink Key.T ∷ map (arc_row capacities) graph.arcs
@@ -76,7 +76,7 @@ body_of (Sources ids) = map Item.Source ids
 body_of (Queries pairs) = map query_item pairs
 body_of (Coordinates points) = map point_item points
 
--- the rows are the first one and those after it
+-- the lines of an instance are its problem line and the lines after it
 pub rows_are : (I : Instance) → rows I ≡ head_row I ∷ body_rows I
 rows_are (MinCostFlow supplies graph) = refl
 rows_are (MaxFlow source sink graph) = refl
@@ -85,23 +85,23 @@ rows_are (Sources ids) = refl
 rows_are (Queries pairs) = refl
 rows_are (Coordinates points) = refl
 
--- a row of a keyword and numbers is of words
+-- a keyword of ink bytes and numbers are words
 row_words : (key : Keyword) (ns : List ℤ) → IsInk (keyword_text key) → AllWords (word_row key ns)
 row_words key ns h = (h, number_words ns)
 
--- so is that of a graph
+-- the problem line of a graph consists of words
 graph_words : (k : Kind) (nodes : ℤ) (n : ℕ) → IsInk (kind_name k) → AllWords (graph_row k nodes n)
 graph_words k nodes n h = ((refl, tt), (h, (number_word nodes, (number_word (pos n), tt))))
 
--- that of a companion
+-- the problem line of a companion consists of words
 companion_words : (k : Kind) (n : ℕ) → IsInk (kind_name k) → AllWords (companion_row k n)
 companion_words k n h = ((refl, tt), ((refl, (refl, (refl, tt))), ((refl, (refl, tt)), (h, (number_word (pos n), tt)))))
 
--- and those of arcs
+-- the lines of arcs consist of words
 arc_words : {Arc : Type 0} (kind : ArcKind Arc) (arcs : List ((ℤ × ℤ) × Arc)) → AllByRecursion AllWords (map (arc_row kind) arcs)
 arc_words kind arcs = all_map AllWords (arc_row kind) (λ a. row_words Key.A (a.0.0 ∷ a.0.1 ∷ kind.numbers a.1) (refl, tt)) arcs
 
--- each row after the problem line's is of words
+-- each line after the problem line consists of words
 pub body_words : (I : Instance) → AllByRecursion AllWords (body_rows I)
 body_words (MinCostFlow supplies graph) =
     all_append AllWords (map supply_row supplies) (map (arc_row costs) graph.arcs)
@@ -125,12 +125,12 @@ head_is (Sources ids) = record { words = companion_words Kinds.Ss (length ids) (
 head_is (Queries pairs) = record { words = companion_words Kinds.P2p (length pairs) (refl, (refl, (refl, tt))); kind = refl; declares = refl }
 head_is (Coordinates points) = record { words = companion_words Kinds.Co (length points) (refl, (refl, tt)); kind = refl; declares = refl }
 
--- NODES as a problem line's row says it; 0 for a companion
+-- NODES in the words of a problem line; 0 for a companion
 abbrev pub nodes_in : Row → ℤ
 nodes_in (p ∷ name ∷ nodes ∷ arcs ∷ []) = number_or_zero (number_read nodes)
 nodes_in _ = pos 0
 
--- NODES is read back
+-- NODES of the problem line is that of the instance
 pub nodes_back : (I : Instance) → IsValid I → nodes_in (head_row I) ≡ nodes_of I
 nodes_back (MinCostFlow supplies graph) v = ap number_or_zero (decimal_reads graph.nodes v.0.nodes_fit)
 nodes_back (MaxFlow source sink graph) v = ap number_or_zero (decimal_reads graph.nodes v.0.nodes_fit)
@@ -139,15 +139,15 @@ nodes_back (Sources ids) v = refl
 nodes_back (Queries pairs) v = refl
 nodes_back (Coordinates points) v = refl
 
--- numbers that are not the same are told apart
+-- different numbers compare as different
 pub differ : (a b : ℤ) → a ≢ b → int_eq a b ≡ false
 differ a b n = elim (cases_Bool (int_eq a b)) [ inl is ↦ absurd (n ((Decides-int_eq a b).0 is)) | inr is_not ↦ is_not ]
 
--- the item of a supply gives it back
+-- the supply of a supply's item is the supply
 supply_back : (nodes : ℤ) (s : ℤ × ℤ) → IsSupply nodes s → supply_in (supply_item s) ≡ Some s
 supply_back nodes s h = ap (λ (t : Bool). let o : Option (ℤ × ℤ) = cond t None (Some (s.0, s.1)) in o) (differ s.1 (pos 0) h.some)
 
--- the items give the supplies back
+-- the supplies of the items are the supplies
 supplies_back : (graph : Graph _) (supplies : List (ℤ × ℤ)) → AreSupplies graph.nodes supplies → supplies_of (map supply_item supplies ++ map min_item graph.arcs) ≡ supplies
 supplies_back graph supplies v =
     ap by_key (
@@ -157,7 +157,7 @@ supplies_back graph supplies v =
     ∙ append-nil supplies)
     ∙ by_key_rising supplies v.map
 
--- and the arcs
+-- the arcs of the items are the arcs
 min_arcs_back : (graph : Graph _) (supplies : List (ℤ × ℤ)) → arcs_of cost_arc_in (map supply_item supplies ++ map min_item graph.arcs) ≡ graph.arcs
 min_arcs_back graph supplies =
     filter_map-append cost_arc_in (map supply_item supplies) (map min_item graph.arcs)
@@ -176,7 +176,7 @@ body_makes (Queries pairs) v = ap (λ l. Some (Queries l)) (items_back query_in 
 body_makes (Coordinates points) v =
     ap (λ l. Some (Coordinates l)) (ap by_key (items_back point_in point_item (λ p. Unit {0}) (λ p h. refl) points (always points)) ∙ by_key_rising points v.map)
 
--- all items make it
+-- all items make the instance
 pub items_make : (I : Instance) → IsValid I → instance_of (head_item I ∷ body_of I) ≡ Some I
 items_make (MinCostFlow supplies graph) v = body_makes (MinCostFlow supplies graph) v
 items_make (MaxFlow source sink graph) v = body_makes (MaxFlow source sink graph) v

@@ -1,4 +1,5 @@
--- Rows that spell items one after another, without a fault, make a text without a fault that has these items.
+-- Lemmas on texts whose lines spell items one after another without a fault: the text has no fault, and has these
+-- items.
 use Rattle.std.proofs.Common.{◌≡◌, ℕ, ◌+◌, ◌-◌, ◌<◌, ◌^◌, List, [], ◌∷◌, ◌++◌, length, Bool, false, cond, map, fold, Option, Some, None, refl, sym, ap, ◌∙◌, subst, arith, append_assoc, append-nil, length-append}
 use Rattle.std.proofs.lemmas.Bool.Decides.{nat_tests}
 use Rattle.std.specs.List.{AllByRecursion, filter_map, cons_option}
@@ -23,7 +24,7 @@ use Rattle.dn_instance.proofs.CleanItems.{item_some, items_push, none_both}
 use Rattle.dn_sink.specs.Rows.{Row}
 use Rattle.dn_canon.proofs.RowLaws.{line_of, AllWords, said_are}
 
--- the row spells the item, which has no fault after those before it
+-- the words spell the item, and the item has no fault after the items before it
 pub record Follows (before : List Line) (ws : List Word) (i : Line) : Type 0 where
   pub spells : Spells (kind_known before) ws i
   pub early : is_late_node before ws ≡ false
@@ -34,34 +35,34 @@ pub record Follows (before : List Line) (ws : List Word) (i : Line) : Type 0 whe
   pub low : is_low_above_cap i ≡ false
   pub sum : is_sum_too_large before i ≡ false
 
--- each row has its item, which follows those before it
+-- each line spells its item, which follows the items before it
 abbrev pub AllFollow : List Line → List Row → List Line → Type 0
 AllFollow before [] [] = Unit {0}
 AllFollow before [] (i ∷ items) = ⊥
 AllFollow before (r ∷ rs) [] = ⊥
 AllFollow before (r ∷ rs) (i ∷ items) = Follows before (map said r) i × AllFollow (before ++ i ∷ []) rs items
 
--- no fault in either of two lists of tests
+-- two lists of tests without a fault have none together
 none_append : (ts us : List Test) → first_fault ts ≡ None → first_fault us ≡ None → first_fault (ts ++ us) ≡ None
 none_append ts us h g = fault_append ts us ∙ ap (λ x. option_or x (first_fault us)) h ∙ g
 
--- two tests that fail
+-- two tests that do not apply give no fault
 none_two : (a b : Bool) (c d : Code) → a ≡ false → b ≡ false → first_fault ((c, a) ∷ (d, b) ∷ []) ≡ None
 none_two a b c d p q = rw (p, q) refl
 
--- five tests that fail
+-- five tests that do not apply give no fault
 none_five : (a b c d e : Bool) (u v w x y : Code) → a ≡ false → b ≡ false → c ≡ false → d ≡ false → e ≡ false → first_fault ((u, a) ∷ (v, b) ∷ (w, c) ∷ (x, d) ∷ (y, e) ∷ []) ≡ None
 none_five a b c d e u v w x y p q r s t = rw (p, q, r, s, t) refl
 
--- a line that spells an item is read as it
+-- a line that spells an item is read as this item
 spells_item : (known : Option Kind) (l : List ℕ) (i : Line) → Spells known (said_words l) i → item_spelled (words_read known (said_words l)) ≡ Some i
 spells_item known l i s = ap item_spelled ((read_item known l i (spells_unskipped known l i s)).1 s) ∙ item_some i s.slots s.slots_are
 
--- a line that is not too far down and not skipped has the faults of its words
+-- a line that is not skipped, and whose number is in range, has only the faults of its words
 not_skipped : (b : Bool) (n : ℕ) (ts : List Test) → b ≡ false → is_too_long n ≡ false → first_fault ts ≡ None → first_fault ((TooLong, is_too_long n) ∷ cond b [] ts) ≡ None
 not_skipped b n ts e f h = rw (e, f) h
 
--- a line that is not too far down has no fault, where its item follows those before it
+-- a line whose number is in range has no fault, if its item follows the items before it
 no_fault : (n : ℕ) (before : List Line) (l : List ℕ) (i : Line) → is_too_long n ≡ false → Follows before (said_words l) i → line_fault n before (said_words l) ≡ None
 no_fault n before l i short f =
     let known = kind_known before in
@@ -78,11 +79,11 @@ no_fault n before l i short f =
     (none_append (order_tests before ws) (field_tests (fields known ws) ++ item_tests before (item_spelled (words_read known ws))) order
     (none_append (field_tests (fields known ws)) (item_tests before (item_spelled (words_read known ws))) own.1 item)))
 
--- the items of lines that are read under this kind
+-- the items of lines that are read as lines of this kind
 abbrev pub items_under : Option Kind → List (List ℕ) → List Line
 items_under k ls = filter_map (λ l. item_spelled (words_read k (said_words l))) ls
 
--- the problem line's item, which says the kind
+-- the item of a problem line that declares this kind
 pub record IsHead (r : Row) (h : Line) (k : Kind) : Type 0 where
   pub words : AllWords r
   pub kind : kind_named (map said r) ≡ Some k
@@ -97,11 +98,11 @@ module _ (r : Row) (h : Line) (k : Kind) (head : IsHead r h k) where
       by_problem None e = cc
       by_problem (Some p) e = e
 
-  -- the row of an item, as words of its line
+  -- the line of a row spells the item that the row spells
   row_spells : (x : Row) (i : Line) (items : List Line) → AllWords x → Follows (h ∷ items) (map said x) i → Spells (Some k) (said_words (line_of x)) i
   row_spells x i items w f = subst (λ ws. Spells (Some k) ws i) (sym (said_are x w)) (subst (λ o. Spells o (map said x) i) (known_is items) f.spells)
 
-  -- the items of the lines after the problem line depend on its kind alone
+  -- the items of the lines after the problem line depend only on its kind
   pub body_items : (before : List Line) (rs : List Row) (items : List Line) → AllByRecursion AllWords rs → AllFollow (h ∷ before) rs items → items_under (Some k) (map line_of rs) ≡ items
   body_items before [] [] w f = refl
   body_items before [] (i ∷ items) w f = absurd f
@@ -110,15 +111,15 @@ module _ (r : Row) (h : Line) (k : Kind) (head : IsHead r h k) where
       ap (λ (o : Option Line). cons_option o (items_under (Some k) (map line_of rs))) (spells_item (Some k) (line_of x) i (row_spells x i before w.0 f.0))
       ∙ ap (λ l. i ∷ l) (body_items (before ++ i ∷ []) rs items w.1 f.1)
 
--- the line of a row, whose words are the row's
+-- the line of a row follows the items before it if the row does
 line_follows : (before : List Line) (x : Row) (i : Line) → AllWords x → Follows before (map said x) i → Follows before (said_words (line_of x)) i
 line_follows before x i w f = subst (λ ws. Follows before ws i) (sym (said_are x w)) f
 
--- the line of a row adds its item
+-- the line of a row appends its item
 adds_item : (before : List Line) (x : Row) (i : Line) → AllWords x → Follows before (map said x) i → with_next before (said_words (line_of x)) ≡ before ++ i ∷ []
 adds_item before x i w f = ap (λ o. before ++ option_to_list o) (spells_item (kind_known before) (line_of x) i (line_follows before x i w f).spells)
 
--- the lines of rows add their items
+-- the lines of rows append their items
 rows_add : (before : List Line) (rs : List Row) (items : List Line) → AllByRecursion AllWords rs → AllFollow before rs items → fold (λ xs l. with_next xs (said_words l)) before (map line_of rs) ≡ before ++ items
 rows_add before [] [] w f = sym (append-nil before)
 rows_add before [] (i ∷ items) w f = absurd f
@@ -131,12 +132,12 @@ rows_add before (x ∷ rs) (i ∷ items) w f =
 pub items_are : (rs : List Row) (items : List Line) → AllByRecursion AllWords rs → AllFollow [] rs items → items_of (map line_of rs) ≡ items
 items_are rs items w f = rows_add [] rs items w f
 
--- the line after these lines has no fault
+-- the next line has no fault
 next_clean : (ls : List (List ℕ)) (before : List Line) (x : Row) (i : Line) → items_of ls ≡ before → AllWords x → Follows before (map said x) i → is_too_long (length ls + 1) ≡ false → fault_after ls (line_of x) ≡ None
 next_clean ls before x i e w f short =
     ap (λ items. line_fault (length ls + 1) items (said_words (line_of x))) e ∙ no_fault (length ls + 1) before (line_of x) i short (line_follows before x i w f)
 
--- wherever the lines are parted, the next one has no fault
+-- each of the lines has no fault after the lines before it
 parted_clean : (ls : List (List ℕ)) (before : List Line) (rs : List Row) (items : List Line) (b : List (List ℕ)) (l : List ℕ) (a : List (List ℕ)) → items_of ls ≡ before → AllByRecursion AllWords rs → AllFollow before rs items
     → map line_of rs ≡ b ++ l ∷ a → is_too_long (length (ls ++ b) + 1) ≡ false → fault_after (ls ++ b) l ≡ None
 parted_clean ls before [] items [] l a e w f p short = cc

@@ -1,4 +1,4 @@
--- Whether a text is the canonical text of what it reads as.
+-- Lemmas on whether a text is the canonical text of what it reads as.
 use Rattle.std.proofs.Common.{◌≡◌, ◌↔◌, ℕ, ◌<◌, ◌≤◌, ◌^◌, List, [], ◌∷◌, ◌++◌, length, take, drop, get_or, length-append, append-nil, Bool, true, false, Some, Ok, Err, refl, sym, ap, ◌∙◌, arith}
 use Rattle.std.proofs.lemmas.List.{drop_at, take_at}
 use Rattle.std.specs.List.{join_with_byte}
@@ -19,7 +19,7 @@ use Rattle.dn_canon.proofs.FollowLaws.{count_rows}
 use Rattle.dn_canon.proofs.InstanceItems.{rows_are}
 use Rattle.dn_canon.proofs.TextLaws.{texts_agree}
 
--- a text is at least as long as it has rows
+-- a text has at least as many bytes as lines
 rows_long : (rs : List Row) → length rs ≤ length (text_of rs)
 rows_long [] = omega arith
 rows_long (r ∷ rs) =
@@ -28,14 +28,14 @@ rows_long (r ∷ rs) =
     let more = rows_long rs in
     omega arith
 
--- and has a row for each counted line
+-- an instance has at least as many lines as counted lines
 enough : (I : Instance) → size_of I ≤ length (rows I)
 enough I = let count = count_rows I in let all = ap length (rows_are I) in omega arith
 
 print_long : (I : Instance) → size_of I ≤ length (print I)
 print_long I = let h = rows_long (rows I) in let g = enough I in omega arith
 
--- a text in memory is not one of so many lines
+-- a text of fewer than 2^63 bytes is not a canonical text of 2^63 counted lines
 not_so_large : (form : Form) (t : List ℕ) (I : Instance) → IsTooLarge form I → length t < 2 ^ 63 → (false ≡ true) ↔ IsCanonOf form t I
 not_so_large form t I (K, canon, large) small = (
   λ y. cc,
@@ -47,11 +47,11 @@ not_so_large form t I (K, canon, large) small = (
       ),
 )
 
--- the words of a sink that compares
+-- the description of a sink that compares
 abbrev matcher_words : SinkWords Matched
 matcher_words = record { taken = λ (m : Matched). Some (taken_of m); has_failed = λ (m : Matched). m.failed; is_flushed = λ (m : Matched). true }
 
--- what a sink that compares with the text t has taken tells that text, and what was put after it
+-- what a comparing sink has taken determines the text and the bytes put
 told_apart : (t u put put' : List ℕ) → length t ∷ (t ++ put) ≡ length u ∷ (u ++ put') → (t ≡ u) × (put ≡ put')
 told_apart t u put put' e =
     let many : length t ≡ length u = ap (λ l. get_or l 0 0) e in
@@ -61,13 +61,13 @@ told_apart t u put put' e =
     )
 
 module _ (form : Form) (t : List ℕ) (I : Instance) (old new : Matched) (begins : old.text ≡ t) (empty : old.put ≡ []) where
-  -- what was put is all that the sink has taken since
+  -- the bytes put are all that the sink has taken since it was made
   put_since : (put : List ℕ) → taken_of new ≡ taken_of old ++ put → (new.text ≡ t) × (new.put ≡ put)
   put_since put e =
       let from : taken_of old ≡ length t ∷ (t ++ []) = ap (λ l. length l ∷ (l ++ old.put)) begins ∙ ap (λ l. length t ∷ (t ++ l)) empty in
       told_apart new.text t new.put put (e ∙ ap (λ l. l ++ put) (from ∙ ap (λ l. length t ∷ l) (append-nil t)))
 
-  -- the canonical text was put whole
+  -- if the canonical text was put whole, the answer of the sink is right
   pub judged_whole : WritesCanon matcher_words old new form I (Ok tt) → (answer : Bool) → (answer ≡ true) ↔ (new.put ≡ new.text) → (answer ≡ true) ↔ IsCanonOf form t I
   judged_whole (J, canon, w) answer match =
       let since = put_since w.0.put w.0.bytes in
@@ -76,7 +76,7 @@ module _ (form : Form) (t : List ℕ) (I : Instance) (old new : Matched) (begins
         λ h. match.1 (whole ∙ (texts_agree form (print J) t I I (J, record { canon = canon; text_is = refl }) h).1 (refl_of I) ∙ sym since.0),
       )
 
-  -- only a prefix of it was put, since the text goes on otherwise
+  -- if the sink stopped the writing, the text is not canonical
   judged_part : WritesCanon matcher_words old new form I (Err Write) → (new.failed ≡ true → IsNoPrefix new.put new.text) → (false ≡ true) ↔ IsCanonOf form t I
   judged_part (J, canon, w) apart =
       let since = put_since w.0.put w.0.bytes in (
@@ -85,7 +85,7 @@ module _ (form : Form) (t : List ℕ) (I : Instance) (old new : Matched) (begins
             (ap (λ l. l ++ w.0.left) since.1 ∙ w.0.whole ∙ (texts_agree form (print J) t I I (J, record { canon = canon; text_is = refl }) h).1 (refl_of I) ∙ sym since.0)),
       )
 
-  -- the canonical text was not put whole
+  -- if writing was refused, the text is not canonical
   pub judged_unwritten : (e : Refusal) → WritesCanon matcher_words old new form I (Err e) → (new.failed ≡ true → IsNoPrefix new.put new.text) → length t < 2 ^ 63
       → (false ≡ true) ↔ IsCanonOf form t I
   judged_unwritten Write w apart small = judged_part w apart
@@ -95,7 +95,7 @@ module _ (form : Form) (t : List ℕ) (I : Instance) (old new : Matched) (begins
   judged_unwritten Read w apart small = absurd w.2
   judged_unwritten Endless w apart small = absurd w.2
 
--- the text is refused
+-- a refusal of reading is the refusal of the judgement
 pub refused_text : (form : Form) (t : List ℕ) (e : Refusal) → Outcome t (Err e) → JudgesCanon form t (Err e)
 refused_text form t (Text place code) h = h
 refused_text form t Memory h = h

@@ -1,4 +1,4 @@
--- Entries by rising key: put in one after another they make the list that they are.
+-- Lemmas on entries by rising key: inserting them one after another makes the same list.
 use Rattle.std.proofs.Common.{◌≡◌, ℤ, List, [], ◌∷◌, ◌++◌, Bool, false, ◌||◌, map, refl, sym, ap, ◌∙◌, subst, append_assoc, append-nil}
 use Rattle.std.specs.List.{AllByRecursion, fold, list_any}
 use Rattle.std.specs.Map.{keys_of}
@@ -12,16 +12,16 @@ use Rattle.dn_instance.specs.Items.{by_key}
 use Rattle.dn_instance.specs.Validity.{IsMap}
 
 module _ {X : Type 0} where
-  -- each key stands below k
+  -- each key is below k
   abbrev AllBelow : ℤ → List (ℤ × X) → Type 0
   AllBelow k es = AllByRecursion (λ (e : ℤ × X). int_cmp e.0 k ≡ Less) es
 
-  -- what holds of each key holds of the one at which the list is parted
+  -- what holds of each key holds of the key at this position
   key_at : (P : ℤ → Type 0) (d : List (ℤ × X)) (e : ℤ × X) (r : List (ℤ × X)) → AllByRecursion P (keys_of (d ++ e ∷ r)) → P e.0
   key_at P [] e r h = h.0
   key_at P (x ∷ d) e r h = key_at P d e r h.1
 
-  -- the keys before an entry stand below its key
+  -- the keys before an entry are below its key
   below_at : (d : List (ℤ × X)) (e : ℤ × X) (r : List (ℤ × X)) → IsMap (d ++ e ∷ r) → AllBelow e.0 d
   below_at [] e r m = tt
   below_at (x ∷ d) e r m = (
@@ -29,14 +29,14 @@ module _ {X : Type 0} where
     below_at d e r (sorted_tail int_cmp x.0 (keys_of (d ++ e ∷ r)) m),
   )
 
-  -- an entry above all keys goes to the end
+  -- an entry whose key is above all keys is appended
   put_last : (es : List (ℤ × X)) (k : ℤ) (v : X) → AllBelow k es → insert_entry int_cmp es k v ≡ es ++ (k, v) ∷ []
   put_last [] k v h = refl
   put_last (e ∷ es) k v h =
       ap (λ o. match_ordering o ((k, v) ∷ e ∷ es) ((e.0, v) ∷ es) (e ∷ insert_entry int_cmp es k v)) (int_cmp_total.antisymm k e.0 ∙ ap ordering_reverse h.0)
       ∙ ap (λ l. e ∷ l) (put_last es k v h.1)
 
-  -- so entries by rising key go one after another
+  -- entries by rising key are appended one after another
   put_all : (done es : List (ℤ × X)) → IsMap (done ++ es) → fold (λ m e. insert_entry int_cmp m e.0 e.1) done es ≡ done ++ es
   put_all done [] m = sym (append-nil done)
   put_all done (e ∷ es) m =
@@ -44,11 +44,11 @@ module _ {X : Type 0} where
       ∙ put_all (done ++ e ∷ []) es (subst IsMap (sym (append_assoc done (e ∷ []) es)) m)
       ∙ append_assoc done (e ∷ []) es
 
-  -- entries by rising key are those that they make
+  -- entries by rising key make themselves
   pub by_key_rising : (es : List (ℤ × X)) → IsMap es → by_key es ≡ es
   by_key_rising es m = put_all [] es m
 
-  -- no item has a key above those of all
+  -- if all keys are below k, no item has the key k
   none_below : (has : ℤ → Line → Bool) (item : ℤ × X → Line) → ((k : ℤ) (e : ℤ × X) → has k (item e) ≡ int_eq e.0 k) → (k : ℤ) (es : List (ℤ × X)) → AllBelow k es → list_any (has k) (map item es) ≡ false
   none_below has item h k [] b = refl
   none_below has item h k (e ∷ es) b = ap (λ (t : Bool). t || list_any (has k) (map item es)) (h k e ∙ ap is_eq b.0) ∙ none_below has item h k es b.1

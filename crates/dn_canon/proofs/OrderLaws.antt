@@ -1,4 +1,4 @@
--- Arcs by rising pair are determined by those of each pair.
+-- Lemmas that arcs sorted by pair are determined by the arcs of each pair.
 use Rattle.std.proofs.Common.{◌≡◌, ℤ, List, [], ◌∷◌, Bool, true, false, cond, refl, sym, ap, ◌∙◌, IsTrue}
 use Rattle.std.specs.List.{AllByRecursion}
 use Rattle.std.specs.Ordering.{is_eq, is_le, ordering_reverse}
@@ -8,17 +8,17 @@ use Rattle.dn_arc.proofs.PairLaws.{pair_is, pair_self, pair_total}
 use Rattle.dn_arc.specs.Pairs.{bundle, pair_cmp, pair_le, same_pair}
 use Rattle.dn_canon.specs.CanonInstances.{AreInOrder}
 
--- what comes after is what the other comes before
+-- an ordering whose reverse is `Greater` is `Less`
 reversed : (o : Ordering) → Greater ≡ ordering_reverse o → o ≡ Less
 reversed Less e = refl
 reversed Equal e = cc
 reversed Greater e = cc
 
--- two pairs the other way round
+-- if p comes after q, q comes before p
 flipped : (p q : ℤ × ℤ) → pair_cmp p q ≡ Greater → pair_cmp q p ≡ Less
 flipped p q e = reversed (pair_cmp q p) (sym e ∙ pair_total.antisymm p q)
 
--- a pair before p is before what does not stand before p
+-- a pair before k is before each pair that is not before k
 before_less : (p k q : ℤ × ℤ) → pair_cmp p k ≡ Less → pair_le k q ≡ true → pair_cmp p q ≡ Less
 before_less p k q h n = by_order (pair_cmp k q) refl n
   where
@@ -28,20 +28,20 @@ before_less p k q h n = by_order (pair_cmp k q) refl n
     by_order Greater e t = cc
 
 module _ {Arc : Type 0} where
-  -- no arc stands at an earlier pair
+  -- no arc is at a pair before k
   abbrev pub NoneBefore : ℤ × ℤ → List ((ℤ × ℤ) × Arc) → Type 0
   NoneBefore p xs = AllByRecursion (λ b. IsTrue (pair_le p b.0)) xs
 
-  -- at a pair before the first there are none
+  -- a pair before k has no arcs, if no arc is before k
   none_at : (p k : ℤ × ℤ) (ys : List ((ℤ × ℤ) × Arc)) → pair_cmp p k ≡ Less → NoneBefore k ys → bundle p ys ≡ []
   none_at p k [] h n = refl
   none_at p k (b ∷ ys) h n = ap (λ o. cond (is_eq o) (b.1 ∷ bundle p ys) (bundle p ys)) (before_less p k b.0 h n.0) ∙ none_at p k ys h n.1
 
-  -- nor where the first of a list comes later
+  -- a pair before the first arc's has no arcs in a sorted list
   none_from : (p : ℤ × ℤ) (b : (ℤ × ℤ) × Arc) (ys : List ((ℤ × ℤ) × Arc)) → pair_cmp p b.0 ≡ Less → NoneBefore b.0 ys → bundle p (b ∷ ys) ≡ []
   none_from p b ys h n = ap (λ o. cond (is_eq o) (b.1 ∷ bundle p ys) (bundle p ys)) h ∙ none_at p b.0 ys h n
 
-  -- at the pair of the first there is the first
+  -- the arcs at the first arc's pair begin with this arc
   pub at_head : (a : (ℤ × ℤ) × Arc) (xs : List ((ℤ × ℤ) × Arc)) → bundle a.0 (a ∷ xs) ≡ a.1 ∷ bundle a.0 xs
   at_head a xs = ap (λ t. cond t (a.1 ∷ bundle a.0 xs) (bundle a.0 xs)) (pair_self a.0)
 
@@ -54,22 +54,22 @@ module _ {Arc : Type 0} where
       by_test true more = (h a all.0, more)
       by_test false more = more
 
-  -- arcs in order with the same bundles begin at one pair
+  -- two sorted lists with the same arcs at each pair begin at the same pair
   same_key : (a b : (ℤ × ℤ) × Arc) (xs ys : List ((ℤ × ℤ) × Arc)) → AreInOrder (a ∷ xs) → AreInOrder (b ∷ ys) → ((q : ℤ × ℤ) → bundle q (a ∷ xs) ≡ bundle q (b ∷ ys)) → (o : Ordering) → pair_cmp a.0 b.0 ≡ o → a.0 ≡ b.0
   same_key a b xs ys r s h Less e = let no = sym (at_head a xs) ∙ h a.0 ∙ none_from a.0 b ys e s.0 in cc
   same_key a b xs ys r s h Equal e = pair_is a.0 b.0 (ap is_eq e)
   same_key a b xs ys r s h Greater e = let no = sym (at_head b ys) ∙ sym (h b.0) ∙ none_from b.0 a xs (flipped a.0 b.0 e) r.0 in cc
 
-  -- what is left of a bundle
+  -- two lists have the same rest if prepending elements under the same condition makes them equal
   rest_one : (t : Bool) (x : Arc) (xs ys : List Arc) → cond t (x ∷ xs) xs ≡ cond t (x ∷ ys) ys → xs ≡ ys
   rest_one true x xs ys e = cc
   rest_one false x xs ys e = e
 
-  -- an arc and its pair
+  -- equal pairs and equal arcs make equal placed arcs
   placed_is : (p q : ℤ × ℤ) (x y : Arc) → p ≡ q → x ≡ y → (let a : (ℤ × ℤ) × Arc = (p, x) in a) ≡ (q, y)
   placed_is p q x y e f = cc
 
-  -- arcs in order are the same where those of each pair are
+  -- two sorted lists with the same arcs at each pair are equal
   pub order_one : (xs ys : List ((ℤ × ℤ) × Arc)) → AreInOrder xs → AreInOrder ys → ((q : ℤ × ℤ) → bundle q xs ≡ bundle q ys) → xs ≡ ys
   order_one [] [] r s h = refl
   order_one [] (b ∷ ys) r s h = let no = h b.0 ∙ at_head b ys in cc

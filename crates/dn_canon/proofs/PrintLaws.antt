@@ -1,4 +1,4 @@
--- The printed text of a valid instance reads as it, and is the text of no other.
+-- Lemmas that the printed text of a valid instance reads as this instance, and is the text of no other.
 use Rattle.std.proofs.Common.{◌≡◌, ℕ, ◌-◌, ◌<◌, ◌^◌, ℤ, List, [], ◌∷◌, length, map, Some, None, sym, ap, ◌∙◌, subst, arith}
 use Rattle.std.proofs.lemmas.List.{length-map}
 use Rattle.std.specs.List.{AllByRecursion}
@@ -19,23 +19,23 @@ use Rattle.dn_canon.proofs.ItemLaws.{AllFollow, items_under, body_items, items_a
 use Rattle.dn_canon.proofs.InstanceItems.{head_row, head_item, body_rows, body_of, rows_are, body_words, head_is, nodes_in, nodes_back, body_makes, items_make}
 use Rattle.dn_canon.proofs.FollowLaws.{head_follows, body_follows, end_clean, count_rows}
 
--- the rows of an instance
+-- the words of all lines of an instance
 abbrev all_rows : Instance → List Row
 all_rows I = head_row I ∷ body_rows I
 
--- each is of words
+-- each line consists of words
 all_words : (I : Instance) → AllByRecursion AllWords (all_rows I)
 all_words I = ((head_is I).words, body_words I)
 
--- the text is that of the rows
+-- the printed text is the text of these lines
 text_is : (I : Instance) → print I ≡ text_of (all_rows I)
 text_is I = ap text_of (rows_are I)
 
--- the lines of a printed text are its rows' lines
+-- the lines of a printed text are the lines of its rows
 print_lines : (I : Instance) → lines (print I) ≡ map line_of (all_rows I)
 print_lines I = ap lines (text_is I) ∙ lines_are (all_rows I) (all_words I)
 
--- the items of the lines after the problem line
+-- the items of the lines after the problem line are those of the instance
 body_back : (I : Instance) → IsValid I → items_under (Some (kind_of I)) (map line_of (body_rows I)) ≡ body_of I
 body_back I v = body_items (head_row I) (head_item I) (kind_of I) (head_is I) [] (body_rows I) (body_of I) (body_words I) (body_follows I v)
 
@@ -45,7 +45,7 @@ record LinesRead (ls : List (List ℕ)) (I : Instance) : Type 0 where
   whole : end_fault (items_of ls) ≡ None
   instance_is : instance_of (items_of ls) ≡ Some I
 
--- the rows' lines read as the instance
+-- the lines of an instance read as it
 rows_read : (I : Instance) → IsValid I → length (map line_of (all_rows I)) < 2 ^ 63 - 1 → LinesRead (map line_of (all_rows I)) I
 rows_read I v few =
     let count : size_of I < 2 ^ 63 = omega (arith, length-map (all_rows I) line_of, count_rows I) in
@@ -57,19 +57,19 @@ rows_read I v few =
       instance_is = ap instance_of items ∙ items_make I v;
     }
 
--- a printed text of not too many lines reads as what it prints
+-- a printed text with few enough lines reads as the instance that it prints
 pub print_reads : (I : Instance) → IsValid I → length (lines (print I)) < 2 ^ 63 - 1 → Reads (print I) I
 print_reads I v few =
     let r : LinesRead (lines (print I)) I = subst (λ ls. LinesRead ls I) (sym (print_lines I)) (rows_read I v (subst (λ ls. length ls < 2 ^ 63 - 1) (print_lines I) few)) in
     record { clean = r.clean; whole = r.whole; instance_is = r.instance_is }
 
--- the same kind, NODES and items make the same instance
+-- equal kinds, NODES and items make the same instance
 made_one : (k l : Kind) (m n : ℤ) (xs ys : List Line) (I J : Instance) → k ≡ l → m ≡ n → xs ≡ ys → instance_as k m xs ≡ Some I → instance_as l n ys ≡ Some J → I ≡ J
 made_one k l m n xs ys I J e f g h i =
     let same : Some I ≡ Some J = sym h ∙ ap (λ z. instance_as z m xs) e ∙ ap (λ z. instance_as l z xs) f ∙ ap (instance_as l n) g ∙ i in
     cc
 
--- valid instances that print the same are the same
+-- valid instances with the same printed text are equal
 pub print_one : (I J : Instance) → IsValid I → IsValid J → print I ≡ print J → I ≡ J
 print_one I J v w e =
     let same : all_rows I ≡ all_rows J = rows_one (all_rows I) (all_rows J) (all_words I) (all_words J) (sym (text_is I) ∙ e ∙ text_is J) in

@@ -1,4 +1,4 @@
--- How the rows of a text go into a sink one by one.
+-- Lemmas on putting the lines of a text into a sink one by one.
 use Rattle.std.proofs.Common.{◌≡◌, ◌⊎◌, inl, inr, get_or, ℕ, ◌<◌, ◌≤◌, ℤ, List, [], ◌∷◌, ◌++◌, length, map, drop, Option, Some, None, slice_get, ap, sym, ◌∙◌, subst, arith, append-nil}
 use Rattle.std.proofs.lemmas.List.{drop_all, map-append}
 use Rattle.std.proofs.lemmas.List.Folds.{concat-append}
@@ -19,7 +19,7 @@ use Rattle.dn_canon.specs.declared.writer.NodeLines.{NodeLines}
 use Rattle.dn_canon.specs.declared.writer.NodeLines.TheVariants.{Terminals}
 use Rattle.dn_sink.specs.Sinks.{SinkWords}
 
--- the line of the next row goes by the block
+-- the line of the next row passes through the block
 pub row_more : {K : Type 0} {sink : SinkWords K} {a b c : K} {X : Type 0} {all line after : List ℕ} (row : X → Row) (before : List ℕ) (left rest : List X) (x : X) → left ≡ x ∷ rest
     → line ≡ line_text (row x) → HasPut sink a b (before ++ text_of (map row left)) all → HasPut sink b c after (before ++ line)
     → HasPut sink a c (after ++ text_of (map row rest)) all
@@ -27,25 +27,25 @@ row_more {K} {sink} {a} {b} {c} {X} {all} {line} {after} row before left rest x 
     pass_more before (line_text (row x)) (text_of (map row rest)) (subst (λ xs. HasPut sink a b (before ++ text_of (map row xs)) all) e h)
     (subst (λ l. HasPut sink b c after (before ++ l)) f p)
 
--- a front of what the block held and of that line is put
+-- if a prefix of the block and the next line is put, a prefix of the text is put
 pub row_stop : {K : Type 0} {sink : SinkWords K} {a b c : K} {X : Type 0} {all line : List ℕ} (row : X → Row) (before : List ℕ) (left rest : List X) (x : X) → left ≡ x ∷ rest
     → line ≡ line_text (row x) → HasPut sink a b (before ++ text_of (map row left)) all → PutsPrefix sink b c (before ++ line) → PutsPrefix sink a c all
 row_stop {K} {sink} {a} {b} {c} {X} {all} {line} row before left rest x e f h p =
     pass_stop before (line_text (row x)) (text_of (map row rest)) (subst (λ xs. HasPut sink a b (before ++ text_of (map row xs)) all) e h)
     (subst (λ l. PutsPrefix sink b c (before ++ l)) f p)
 
--- the rows of two lists
+-- the text of two lists of rows is the text of the first and then that of the second
 text-append : (rs ss : List Row) → text_of (rs ++ ss) ≡ text_of rs ++ text_of ss
 text-append rs ss = ap concat (map-append line_text rs ss) ∙ concat-append (map line_text rs) (map line_text ss)
 
--- the arcs of the next bundle, and those of the bundles after it
+-- the arc lines of a table are those of its next bundle and then those of the other bundles
 pub bundle_text : {B Arc : Type 0} (kind : ArcKind Arc) (tells : B → List Arc) (left rest : List ((ℤ × ℤ) × B)) (e : (ℤ × ℤ) × B) → left ≡ e ∷ rest
     → text_of (map (arc_row kind) (told_arcs tells left)) ≡ text_of (map (arc_row kind) (placed e.0 (tells e.1))) ++ text_of (map (arc_row kind) (told_arcs tells rest))
 bundle_text kind tells left rest e is =
     ap (λ es. text_of (map (arc_row kind) (told_arcs tells es))) is ∙ ap text_of (map-append (arc_row kind) (placed e.0 (tells e.1)) (told_arcs tells rest))
     ∙ text-append (map (arc_row kind) (placed e.0 (tells e.1))) (map (arc_row kind) (told_arcs tells rest))
 
--- there is an element below the length
+-- a position below the length has an element
 pub some_below : {X : Type 0} (xs : List X) (i : ℕ) (o : Option X) → i < length xs → o ≡ slice_get xs i → ((x : X) → o ≡ Some x → ⊥) → ⊥
 some_below {X} xs i o h e n = by_case (slice_get_cases xs i).1
   where
@@ -53,12 +53,12 @@ some_below {X} xs i o h e n = by_case (slice_get_cases xs i).1
     by_case (inl (x, below, at, is)) = n x (e ∙ at)
     by_case (inr (past, none)) = absurd (omega arith)
 
--- no row is left
+-- past the last row, only the block is left
 pub rows_done : {K : Type 0} {sink : SinkWords K} {a b : K} {all : List ℕ} {X : Type 0} (row : X → Row) (block : List ℕ) (xs : List X) (i : ℕ) → length xs ≤ i
     → HasPut sink a b (block ++ text_of (map row (drop i xs))) all → HasPut sink a b block all
 rows_done {K} {sink} {a} {b} {all} {X} row block xs i h has = all_done block (text_of (map row (drop i xs))) (ap (λ l. text_of (map row l)) (drop_all i xs h)) has
 
--- a graph's text, in parts
+-- the text of a graph is its problem line, its node lines and its arc lines
 pub graph_text : {Arc : Type 0} (arcs : ArcKind Arc) (kind : Kind) (graph : Graph Arc) (nodes : List Row) (count : ℕ) (line : List ℕ) → line ≡ line_text (graph_row kind graph.nodes count) → count ≡ length graph.arcs
     → line ++ (text_of nodes ++ (text_of (map (arc_row arcs) graph.arcs) ++ [])) ≡ text_of (graph_rows arcs kind graph nodes)
 graph_text arcs kind graph nodes count line e f =
@@ -66,11 +66,11 @@ graph_text arcs kind graph nodes count line e f =
     ∙ ap (λ l. line ++ l) (sym (text-append nodes (map (arc_row arcs) graph.arcs)))
     ∙ ap (λ l. l ++ text_of (nodes ++ map (arc_row arcs) graph.arcs)) (e ∙ ap (λ n. line_text (graph_row kind graph.nodes n)) f)
 
--- an arc's line
+-- the line of an arc's nodes and numbers is the arc's line
 pub arc_text : {Arc : Type 0} (arcs : ArcKind Arc) (pair : ℤ × ℤ) (arc : Arc) (ns : List ℤ) (line : List ℕ) → line ≡ line_text (word_row A (pair.0 ∷ pair.1 ∷ ns)) → arcs.numbers arc ≡ ns → line ≡ line_text (arc_row arcs (pair, arc))
 arc_text arcs pair arc ns line e f = e ∙ ap (λ ms. line_text (word_row A (pair.0 ∷ pair.1 ∷ ms))) (sym f)
 
--- the source's line, and the sink's
+-- the lines of the source and the sink are the node lines of a `max` problem
 pub terminals_text : (nodes : NodeLines) (source target : Bor ℤ) (first second : List ℕ) → nodes ≡ Terminals source target → first ≡ line_text (terminal_row source.now S) → second ≡ line_text (terminal_row target.now T)
     → first ++ second ≡ text_of (node_rows nodes)
 terminals_text nodes source target first second is e f =

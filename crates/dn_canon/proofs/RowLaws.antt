@@ -1,4 +1,4 @@
--- The lines of printed rows, and the words of each.
+-- Lemmas on the lines of printed rows and the words of these lines.
 use Rattle.std.proofs.Common.{◌≡◌, ℕ, zero, suc, ◌/◌, ◌%◌, ℤ, pos, negsuc, List, [], ◌∷◌, ◌++◌, Bool, true, false, cond, nat_lt, nat_eq, map, refl, sym, ap, ◌∙◌, subst, append_assoc, append-nil, arith}
 use Rattle.std.proofs.lemmas.Bool.Decides.{nat_tests}
 use Rattle.std.proofs.lemmas.List.Elements.{All-nil, All-cons}
@@ -10,61 +10,61 @@ use Rattle.dn_line.specs.State.Runs.{AllBlank, IsWord, AreRuns}
 use Rattle.dn_line.proofs.RunLaws.{runs_only}
 use Rattle.dn_sink.specs.Rows.{Row, text_of}
 
--- the line of a row, without its line feed
+-- the line of a row, without its LF
 abbrev pub line_of : Row → List ℕ
 line_of = join_with_byte 32
 
--- bytes above the space, neither blanks nor line feeds
+-- all bytes are above the space, so neither blanks nor LFs
 abbrev AllInk : List ℕ → Type 0
 AllInk w = AllByRecursion (λ b. let t : Bool = nat_lt 32 b in t ≡ true) w
 
--- such bytes, one at least
+-- at least one byte, and all bytes above the space
 abbrev pub IsInk : List ℕ → Type 0
 IsInk [] = ⊥
 IsInk (b ∷ bs) = AllInk (b ∷ bs)
 
--- each word of the row is one
+-- each word of the row is such a list of bytes
 abbrev pub AllWords : Row → Type 0
 AllWords = AllByRecursion IsInk
 
--- a word is of such bytes
+-- all bytes of a word are above the space
 ink_of : (w : List ℕ) → IsInk w → AllInk w
 ink_of [] h = absurd h
 ink_of (b ∷ bs) h = h
 
--- no line feed
+-- no byte is an LF
 abbrev NoFeed : List ℕ → Type 0
 NoFeed = AllByRecursion (λ b. is_line_feed b ≡ false)
 
--- a byte above the space is no blank
+-- a byte above the space is not a blank
 ink_plain : (b : ℕ) → nat_lt 32 b ≡ true → is_blank b ≡ false
 ink_plain b h = grind (arith, nat_tests)
 
--- nor a line feed
+-- a byte above the space is not an LF
 ink_no_feed : (b : ℕ) → nat_lt 32 b ≡ true → is_line_feed b ≡ false
 ink_no_feed b h = grind (arith, nat_tests)
 
--- a word holds no blank
+-- a word contains no blank
 no_blank : (w : List ℕ) → AllInk w → All (λ b. is_blank b ≡ false) w
 no_blank [] h = All-nil (λ b. is_blank b ≡ false)
 no_blank (b ∷ bs) h = All-cons (λ b. is_blank b ≡ false) b bs (ink_plain b h.0) (no_blank bs h.1)
 
--- so it is a word of a line
+-- bytes above the space are a word of a line
 word_is : (w : List ℕ) → IsInk w → IsWord w
 word_is [] h = absurd h
 word_is (b ∷ bs) h = (λ e. cc, no_blank (b ∷ bs) h)
 
--- no line feed in either part
+-- two lists without an LF have none together
 feed_append : (l m : List ℕ) → NoFeed l → NoFeed m → NoFeed (l ++ m)
 feed_append [] m h k = k
 feed_append (b ∷ bs) m h k = (h.0, feed_append bs m h.1 k)
 
--- a word holds no line feed
+-- a word contains no LF
 word_feed : (w : List ℕ) → AllInk w → NoFeed w
 word_feed [] h = tt
 word_feed (b ∷ bs) h = (ink_no_feed b h.0, word_feed bs h.1)
 
--- the line of a row holds no line feed
+-- the line of a row contains no LF
 line_feed : (r : Row) → AllWords r → NoFeed (line_of r)
 line_feed [] h = tt
 line_feed (w ∷ []) h = word_feed w (ink_of w h.0)
@@ -96,20 +96,20 @@ row_runs gap (w ∷ x ∷ xs) g h = record {
 words_are : (r : Row) → AllWords r → words (line_of r) ≡ r
 words_are r h = sym (runs_only (line_of r) r (row_runs [] r (All-nil (λ b. is_blank b ≡ true)) h))
 
--- and they say what its words say
+-- the words of a row's line say what the row's words say
 pub said_are : (r : Row) → AllWords r → said_words (line_of r) ≡ map said r
 said_are r h = ap (map said) (words_are r h)
 
--- the first line feed ends the first line
+-- the first LF ends the first part
 first_part : (l rest : List ℕ) → NoFeed l → parts is_line_feed (l ++ 10 ∷ rest) ≡ (l ∷ (parts is_line_feed rest).0, (parts is_line_feed rest).1)
 first_part [] rest h = refl
 first_part (b ∷ bs) rest h = rw (h.0, first_part bs rest h.1) refl
 
--- and the first line
+-- the first LF ends the first line
 first_line : (l rest : List ℕ) → NoFeed l → lines ((l ++ 10 ∷ []) ++ rest) ≡ l ∷ lines rest
 first_line l rest h = rw append_assoc (rw (first_part l rest h) refl)
 
--- the lines of printed rows are the rows' lines
+-- the lines of a printed text are the lines of its rows
 pub lines_are : (rs : List Row) → AllByRecursion AllWords rs → lines (text_of rs) ≡ map line_of rs
 lines_are [] h = refl
 lines_are (r ∷ rs) h = first_line (line_of r) (text_of rs) (line_feed r h.0) ∙ ap (λ ls. line_of r ∷ ls) (lines_are rs h.1)
@@ -119,7 +119,7 @@ all_words_are : (rs : List Row) → AllByRecursion AllWords rs → map words (ma
 all_words_are [] h = refl
 all_words_are (r ∷ rs) h = ap (λ x. x ∷ map words (map line_of rs)) (words_are r h.0) ∙ ap (λ xs. r ∷ xs) (all_words_are rs h.1)
 
--- rows of one text are the same
+-- rows with the same text are equal
 pub rows_one : (rs ss : List Row) → AllByRecursion AllWords rs → AllByRecursion AllWords ss → text_of rs ≡ text_of ss → rs ≡ ss
 rows_one rs ss h k e =
     let same_lines : map line_of rs ≡ map line_of ss = sym (lines_are rs h) ∙ ap lines e ∙ lines_are ss k in
@@ -139,7 +139,7 @@ more_digits (suc k) n c acc h =
       | false ↦ more_digits k (n / 10) g (c ∷ acc) (glyph_ink (n % 10), h)
     ]
 
--- digits are a word
+-- the digits of a number are a word
 some_digits : (k n : ℕ) → IsInk (digits_onto (suc k) 10 false n [])
 some_digits k n = by_test (nat_eq (n / 10) 0) (digit_glyph false (n % 10)) (glyph_ink (n % 10))
   where
@@ -147,17 +147,17 @@ some_digits k n = by_test (nat_eq (n / 10) 0) (digit_glyph false (n % 10)) (glyp
     by_test true g e = (e, tt)
     by_test false g e = more_digits k (n / 10) g [] (e, tt)
 
--- so is a decimal
+-- a decimal is a word
 decimal_word : (n : ℕ) → IsInk (decimal n)
 unfolding digits
 decimal_word n = some_digits 63 n
 
--- a number's text is a word
+-- the shortest text of a number is a word
 pub number_word : (n : ℤ) → IsInk (signed_decimal n)
 number_word (pos n) = decimal_word n
 number_word (negsuc n) = (refl, ink_of (decimal (suc n)) (decimal_word (suc n)))
 
--- and so are those of numbers
+-- the shortest texts of numbers are words
 pub number_words : (ns : List ℤ) → AllWords (map signed_decimal ns)
 number_words [] = tt
 number_words (n ∷ ns) = (number_word n, number_words ns)

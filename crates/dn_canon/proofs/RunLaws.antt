@@ -1,4 +1,4 @@
--- From a source to a sink.
+-- Lemmas on a run from a source to a sink.
 use Rattle.std.proofs.Common.{ℕ, List, Option, Some, None, Result, Ok, Err, IfSome}
 use Rattle.dn_arc.specs.declared.arc.Form.{Form}
 use Rattle.dn_instance.specs.State.Helds.{IsHeld, holding}
@@ -13,7 +13,7 @@ use Rattle.dn_canon.specs.State.Runs.{RunOutcome}
 use Rattle.dn_canon.specs.State.Writes.{WritesCanon}
 use Rattle.dn_sink.specs.Sinks.{SinkWords}
 
--- what was read is written
+-- after a text was read, the outcome of the run is that of writing
 pub run_written : {S : Type 0} (sink : SinkWords S) (old new : S) (form : Form) (given rest : Option (List ℕ)) (held : Held) (result : Result (Unit {0}) Refusal) → IfSome given (λ t. SourceOutcome t rest (Ok held))
     → ((I : Instance) → IsValid I → IsHeld (holding held) I → WritesCanon sink old new form I result) → IfSome given (λ t. RunOutcome sink old new form t rest result)
 run_written sink old new form None rest held result o w = tt
@@ -25,7 +25,7 @@ run_written sink old new form (Some t) rest held result o w = by_result result (
     by_result (Err CountTooLarge) h = (o.0.0, o.0.1, o.1, h)
     by_result (Err _) h = absurd h.2
 
--- what was refused is not
+-- a refusal of reading is the outcome of the run
 pub run_refused : {S : Type 0} (sink : SinkWords S) (old new : S) (form : Form) (given rest : Option (List ℕ)) (e : Refusal) → IfSome given (λ t. SourceOutcome t rest (Err e)) → IfSome given (λ t. RunOutcome sink old new form t rest (Err e))
 run_refused sink old new form None rest e o = tt
 run_refused sink old new form (Some t) rest e o = by_refusal e o

@@ -1,4 +1,4 @@
--- The arcs that the bundles of a table tell make the canonical graph of what the table stands for.
+-- Lemmas that the arcs that the bundles of a table list make the canonical graph of what the table represents.
 use Rattle.std.proofs.Common.{◌≡◌, ℤ, pos, negsuc, ◌-◌, ◌^◌, ◌≤ℤ◌, List, [], ◌∷◌, ◌++◌, Bool, true, false, cond, Option, Some, None, w64, refl, sym, ap, ◌∙◌, subst, arith, append-nil}
 use Rattle.std.proofs.lemmas.Bool.Decides.{nat_tests}
 use Rattle.std.proofs.lemmas.Map.Keys.{sorted_head, sorted_tail}
@@ -35,7 +35,7 @@ IsCompanion (Queries pairs) = Unit {0}
 IsCompanion (Coordinates points) = Unit {0}
 IsCompanion _ = ⊥
 
--- what bundles tell in each form is canonical, means the same in both, and has numbers of 64 bits
+-- what bundles list is canonical in each form, means the same in both, and has numbers of 64 bits
 pub record TellsCanon {B Arc : Type 0} (kind : ArcKind Arc) (told : Form → B → List Arc) : Type 0 where
   pub canonical : (form : Form) (b : B) → kind.IsCanon form (told form b)
   pub same_forms : (b : B) → kind.Same (told Two b) (told One b)
@@ -55,7 +55,7 @@ all_fit [] h = tt
 all_fit (n ∷ ns) h = (fits_signed n h.0, all_fit ns h.1)
 
 module _ {Arc : Type 0} where
-  -- the arcs of a pair, where those of one pair come first
+  -- the arcs of a pair, in a list that begins with arcs placed at one pair
   pub bundle_placed : (q p : ℤ × ℤ) (xs : List Arc) (rest : List ((ℤ × ℤ) × Arc)) → bundle q (placed p xs ++ rest) ≡ cond (same_pair q p) (xs ++ bundle q rest) (bundle q rest)
   bundle_placed q p [] rest = by_test (same_pair q p) (bundle q rest)
     where
@@ -68,7 +68,7 @@ module _ {Arc : Type 0} where
       by_test true ys zs = refl
       by_test false ys zs = refl
 
-  -- arcs of one pair, and arcs in order none of which stands before it
+  -- arcs placed at p, followed by sorted arcs none of which is before p, are sorted
   pub order_placed : (p : ℤ × ℤ) (xs : List Arc) (rest : List ((ℤ × ℤ) × Arc)) → NoneBefore p rest → AreInOrder rest → NoneBefore p (placed p xs ++ rest) × AreInOrder (placed p xs ++ rest)
   order_placed p [] rest n r = (n, r)
   order_placed p (x ∷ xs) rest n r = let more = order_placed p xs rest n r in ((equal_le (pair_cmp p p) (pair_self p), more.0), (more.0, more.1))
@@ -88,7 +88,7 @@ module _ {Arc : Type 0} where
       tail q true e = e.1
       tail q false e = e
 
-  -- what an arc tells of its pair, of a pair that has an arc
+  -- a fact of each arc's pair holds of a pair that has an arc
   pub at_some : (P : (ℤ × ℤ) × Arc → Type 0) (Q : ℤ × ℤ → Type 0) → ((a : (ℤ × ℤ) × Arc) → P a → Q a.0) → (arcs : List ((ℤ × ℤ) × Arc)) (q : ℤ × ℤ) (x : Arc) (xs : List Arc) → AllByRecursion P arcs → bundle q arcs ≡ x ∷ xs → Q q
   at_some P Q tells [] q x xs all e = cc
   at_some P Q tells (a ∷ rest) q x xs all e = by_test (same_pair q a.0) refl e (at_some P Q tells rest q x xs all.1)
@@ -102,7 +102,7 @@ module _ {Arc : Type 0} where
     none_before k [] h = tt
     none_before k (e ∷ es) h = before_placed k e.0 (tells e.1) (told_arcs tells es) h.0 (none_before k es h.1)
 
-    -- the told arcs stand by rising pair
+    -- the listed arcs of a table are sorted by pair
     told_order : (es : List ((ℤ × ℤ) × B)) → IsStrictlySortedBy pair_cmp (keys_of es) → AreInOrder (told_arcs tells es)
     told_order [] s = tt
     told_order (e ∷ es) s =
@@ -115,7 +115,7 @@ module _ {Arc : Type 0} where
         ∙ ap (λ o. cond (is_eq o) (tells e.1 ++ bundle k (told_arcs tells es)) (bundle k (told_arcs tells es))) h.0
         ∙ none_told k es h.1
 
-    -- those of a pair are what its bundle tells
+    -- the listed arcs at a pair are those of its bundle
     told_bundle : (q : ℤ × ℤ) (es : List ((ℤ × ℤ) × B)) → IsStrictlySortedBy pair_cmp (keys_of es) → bundle q (told_arcs tells es) ≡ told_at tells es q
     told_bundle q [] s = refl
     told_bundle q (e ∷ es) s =
@@ -145,7 +145,7 @@ module _ {B Arc : Type 0} (kind : ArcKind Arc) (laws : IsKind kind) (told : Form
   at_fit None = tt
   at_fit (Some b) = tells.fit form b
 
-  -- arcs between two nodes, with numbers of 64 bits
+  -- arcs at a pair of nodes, with numbers of 64 bits, are placed in the graph
   each_placed : (n : ℤ) (q : ℤ × ℤ) → IsNode n q.0 × IsNode n q.1 → (xs : List Arc) → AllByRecursion kind.IsArc xs → NumbersFit kind xs → AllByRecursion (λ x. IsPlaced kind n (q, x)) xs
   each_placed n q h [] is fit = tt
   each_placed n q h (x ∷ xs) is fit = (
@@ -153,7 +153,7 @@ module _ {B Arc : Type 0} (kind : ArcKind Arc) (laws : IsKind kind) (told : Form
     each_placed n q h xs is.1 fit.1,
   )
 
-  -- canonical arcs that mean what placed arcs of the pair do
+  -- canonical arcs that mean what placed arcs of the pair mean are placed too
   placed_at : (n : ℤ) (q : ℤ × ℤ) (arcs : List ((ℤ × ℤ) × Arc)) (xs : List Arc) → AllByRecursion (IsPlaced kind n) arcs → kind.IsCanon form xs → NumbersFit kind xs → kind.Same xs (bundle q arcs) → AllByRecursion (λ x. IsPlaced kind n (q, x)) xs
   placed_at n q arcs xs v c fit s = by_bundle (bundle q arcs) refl s
     where
@@ -161,7 +161,7 @@ module _ {B Arc : Type 0} (kind : ArcKind Arc) (laws : IsKind kind) (told : Form
       by_bundle [] f g = subst (AllByRecursion (λ x. IsPlaced kind n (q, x))) (sym (laws.nothing_told form xs c g)) tt
       by_bundle (b ∷ bs) f g = each_placed n q (at_some (IsPlaced kind n) (λ p. IsNode n p.0 × IsNode n p.1) (λ a h. (h.tail, h.head)) arcs q b bs v f) xs (laws.canon_arcs form xs c) fit
 
-  -- the told arcs make the canonical graph
+  -- the listed arcs of a table make the canonical graph
   pub told_canon : (nodes : ℤ) (table : List ((ℤ × ℤ) × B)) (G : Graph Arc) → G.nodes ≡ nodes → IsStrictlySortedBy pair_cmp (keys_of table)
       → ((p : ℤ × ℤ) → AreCanonArcsOf kind (told_at (told One) table p) (bundle p G.arcs)) → IsValidGraph kind G
       → IsCanonGraphOf kind form (told_graph (told form) nodes table) G
@@ -191,20 +191,20 @@ module _ {B Arc : Type 0} (kind : ArcKind Arc) (laws : IsKind kind) (told : Form
 pub min_canon : (form : Form) (supplies : List (ℤ × ℤ)) (G H : Graph CostArc) → IsCanonGraphOf costs form H G → AreSupplies H.nodes supplies → IsCanonInstanceOf form (MinCostFlow supplies H) (MinCostFlow supplies G)
 min_canon form supplies G H c are = record { valid = (c.valid, are); canonical = c.canonical; same = (refl, c.same) }
 
--- that of a `max` problem has its source, its sink and its canonical graph
+-- the canonical instance of a `max` problem has its source, its sink and its canonical graph
 pub max_canon : (form : Form) (source sink : ℤ) (G H : Graph CapArc) → IsCanonGraphOf capacities form H G → AreTerminals H.nodes source sink → IsCanonInstanceOf form (MaxFlow source sink H) (MaxFlow source sink G)
 max_canon form source sink G H c are = record { valid = (c.valid, are); canonical = c.canonical; same = (refl, refl, c.same) }
 
--- that of an `sp` graph has its canonical graph
+-- the canonical instance of an `sp` graph has its canonical graph
 pub sp_canon : (form : Form) (G H : Graph LengthArc) → IsCanonGraphOf lengths form H G → IsCanonInstanceOf form (ShortestPaths H) (ShortestPaths G)
 sp_canon form G H c = record { valid = c.valid; canonical = c.canonical; same = c.same }
 
--- canonical arcs do not depend on the supplies of a `min` problem
+-- the canonical arcs of a `min` problem do not depend on its supplies
 pub min_head : (form : Form) (s t : List (ℤ × ℤ)) (G H : Graph CostArc) → AreSupplies G.nodes t → IsCanonInstanceOf form (MinCostFlow s H) (MinCostFlow s G) → IsCanonInstanceOf form (MinCostFlow t H) (MinCostFlow t G)
 min_head form s t G H are c =
     min_canon form t G H (record { valid = c.valid.0; canonical = c.canonical; same = c.same.1 }) (subst (λ n. AreSupplies n t) c.same.1.nodes are)
 
--- nor on the source and the sink of a `max` problem
+-- the canonical arcs of a `max` problem do not depend on its source and sink
 pub max_head : (form : Form) (a b s t : ℤ) (G H : Graph CapArc) → AreTerminals G.nodes s t → IsCanonInstanceOf form (MaxFlow a b H) (MaxFlow a b G) → IsCanonInstanceOf form (MaxFlow s t H) (MaxFlow s t G)
 max_head form a b s t G H are c =
     max_canon form s t G H (record { valid = c.valid.0; canonical = c.canonical; same = c.same.2 }) (subst (λ n. AreTerminals n s t) c.same.2.nodes are)

@@ -1,4 +1,5 @@
--- Which instances are canonical, by form, and which is the canonical one of an instance (this project's profile).
+-- Which instances are canonical in each form, and which is the canonical instance of an instance (this project's
+-- profile).
 use Rattle.std.specs.Prelude.{ℤ, List, [], ◌∷◌, IsTrue}
 use Rattle.std.specs.List.{AllByRecursion}
 use Rattle.dn_arc.specs.declared.arc.Form.{Form}
@@ -8,17 +9,17 @@ use Rattle.dn_instance.specs.Instances.{Graph, Instance, MinCostFlow, MaxFlow, S
 use Rattle.dn_instance.specs.Sameness.{IsSame}
 use Rattle.dn_instance.specs.Validity.{IsValid}
 
--- the arcs stand by rising (SRC, DST)
+-- the arcs are sorted by ascending (SRC, DST)
 abbrev pub AreInOrder : {Arc : Type 0} → List ((ℤ × ℤ) × Arc) → Type 0
 AreInOrder [] = Unit {0}
 AreInOrder (a ∷ rest) = AllByRecursion (λ b. IsTrue (pair_le a.0 b.0)) rest × AreInOrder rest
 
--- and those of each ordered pair are the canonical ones
+-- the arcs are sorted, and those of each ordered pair are canonical in this form
 pub record IsCanonGraph {Arc : Type 0} (kind : ArcKind Arc) (form : Form) (graph : Graph Arc) : Type 0 where
   pub in_order : AreInOrder graph.arcs
   pub canonical : (p : ℤ × ℤ) → kind.IsCanon form (bundle p graph.arcs)
 
--- a companion is canonical as it is
+-- the graph of the instance is canonical; every companion is canonical
 abbrev pub IsCanonInstance : Form → Instance → Type 0
 IsCanonInstance form (MinCostFlow supplies graph) = IsCanonGraph costs form graph
 IsCanonInstance form (MaxFlow source sink graph) = IsCanonGraph capacities form graph

@@ -1,5 +1,5 @@
--- How an instance is printed: the lines of the two Challenges' formats, with single spaces, shortest decimals and an
--- LF after every line (this project's profile).
+-- How an instance is printed: the lines of the two Challenges' formats, with single spaces, shortest texts of numbers,
+-- and an LF after every line (this project's profile).
 use Rattle.std.specs.Prelude.{ℕ, ℤ, pos, List, [], ◌∷◌, ◌++◌, length, map}
 use Rattle.std.specs.Fmt.{signed_decimal}
 use Rattle.dn_line.specs.Names.{kind_name}
@@ -12,7 +12,7 @@ use Rattle.dn_sink.specs.Rows.{Row, text_of}
 use Rattle.dn_arc.specs.Kinds.{ArcKind, costs, capacities, lengths}
 use Rattle.dn_instance.specs.Instances.{Graph, Instance, MinCostFlow, MaxFlow, ShortestPaths, Sources, Queries, Coordinates}
 
--- a keyword, and numbers
+-- a keyword, followed by numbers
 abbrev pub word_row : Keyword → List ℤ → Row
 word_row keyword numbers = keyword_text keyword ∷ map signed_decimal numbers
 
@@ -34,7 +34,7 @@ supply_row supply = word_row N (supply.0 ∷ supply.1 ∷ [])
 abbrev pub terminal_row : ℤ → Keyword → Row
 terminal_row id letter = keyword_text N ∷ signed_decimal id ∷ keyword_text letter ∷ []
 
--- `a SRC DST`, and the arc's numbers
+-- `a SRC DST`, followed by the arc's numbers
 abbrev pub arc_row : {Arc : Type 0} → ArcKind Arc → (ℤ × ℤ) × Arc → Row
 arc_row kind arc = word_row A (arc.0.0 ∷ arc.0.1 ∷ kind.numbers arc.1)
 
@@ -50,13 +50,13 @@ query_row query = word_row Q (query.0 ∷ query.1 ∷ [])
 abbrev pub point_row : ℤ × (ℤ × ℤ) → Row
 point_row point = word_row V (point.0 ∷ point.1.0 ∷ point.1.1 ∷ [])
 
--- the problem line of a graph with the rows after it and before its arcs, and its arcs
+-- the lines of a graph: the problem line, the node lines, and the arcs in their order
 abbrev pub graph_rows : {Arc : Type 0} → ArcKind Arc → Kind → Graph Arc → List Row → List Row
 graph_rows arcs kind graph nodes =
     graph_row kind graph.nodes (length graph.arcs) ∷ (nodes ++ map (arc_row arcs) graph.arcs)
 
--- the words of each line: the problem line with the number of counted lines; node lines, supplies by rising ID or
--- source before sink; arcs and items in order, points by rising ID
+-- the lines of an instance: the problem line with the number of counted lines, and then the other lines in the
+-- instance's order. The source of a `max` problem comes before its sink
 abbrev pub rows : Instance → List Row
 rows (MinCostFlow supplies graph) = graph_rows costs Kinds.Min graph (map supply_row supplies)
 rows (MaxFlow source sink graph) =
@@ -66,6 +66,6 @@ rows (Sources ids) = companion_row Kinds.Ss (length ids) ∷ map source_row ids
 rows (Queries pairs) = companion_row Kinds.P2p (length pairs) ∷ map query_row pairs
 rows (Coordinates points) = companion_row Kinds.Co (length points) ∷ map point_row points
 
--- the text of an instance
+-- the printed text of an instance
 abbrev pub print : Instance → List ℕ
 print I = text_of (rows I)

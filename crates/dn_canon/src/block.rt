@@ -1,4 +1,4 @@
-// Lines of a text, gathered on the stack and put into a sink many at a time.
+// A buffer on the stack that gathers lines of a text, so that the sink takes many at a time.
 ghost use Rattle.std.specs.Prelude.{◌≡◌, ℕ, List, ◌+◌, ◌*◌, ◌<◌, ◌≤◌, [], ◌∷◌, ◌++◌, length, map, take, IsTrue, OnOk};
 ghost use Rattle.std.specs.Fmt.{signed_decimal};
 ghost use Rattle.dn_line.specs.declared.word.Keyword.TheVariants.{A};
@@ -13,10 +13,10 @@ use dn_num::put_number;
 use dn_sink::{Sink, SinkFault, put_all, put_and_flush};
 use std::marker::Model;
 
-// How many bytes a block holds.
+// The size of a block in bytes.
 const SIZE: usize = 8192;
-// The room for a line. The longest is that of an arc of `min`, of 107 bytes, and putting a number may change 5 bytes
-// more after it.
+// The free capacity that a line needs. The longest line, that of a `min` arc, has 107 bytes, and `put_number` may
+// overwrite 5 bytes after the end of its number.
 const LINE: usize = 128;
 
 // The bytes of a text that are not put yet.
@@ -37,7 +37,7 @@ impl Model for Block {
 }
 
 impl Block {
-    // No bytes.
+    // Returns an empty block.
     pub(crate) fn new() -> Block
         ensures { result ≡ [] }
     {
@@ -47,7 +47,7 @@ impl Block {
         }
     }
 
-    // Adds a byte.
+    // Appends a byte.
     pub(crate) fn byte(&mut self, byte: u8)
         requires { length self.old < 8192 }
         ensures { self.new ≡ self.old ++ byte ∷ [] }
@@ -56,7 +56,7 @@ impl Block {
         self.used += 1;
     }
 
-    // Adds bytes.
+    // Appends bytes.
     pub(crate) fn push(&mut self, bytes: &[u8])
         requires { length self.old + length bytes.now ≤ 8192 }
         ensures { self.new ≡ self.old ++ bytes.now }
@@ -65,7 +65,7 @@ impl Block {
         self.used += bytes.len();
     }
 
-    // Adds a space and a number.
+    // Appends a space and a number.
     pub(crate) fn number(&mut self, number: &i64)
         requires { length self.old + 26 ≤ 8192 }
         ensures text { self.new ≡ self.old ++ 32 ∷ signed_decimal number.now }
@@ -74,7 +74,7 @@ impl Block {
         self.used = put_spaced(&mut self.bytes, self.used, number);
     }
 
-    // Adds the line of a letter and numbers.
+    // Appends the line of a letter and numbers.
     pub(crate) fn line(&mut self, letter: u8, numbers: &[i64])
         requires room { HasRoom self.old }
         requires few { length numbers.now ≤ 5 }
@@ -86,7 +86,7 @@ impl Block {
         self.used = end + 1;
     }
 
-    // Adds the line of an arc at its ordered pair.
+    // Appends the line of an arc at its ordered pair.
     #[inline(always)]
     pub(crate) fn arc<P: Parts>(&mut self, pair: &(i64, i64), arc: &P)
         requires room { HasRoom self.old }
@@ -101,7 +101,7 @@ impl Block {
         self.used = end + 1;
     }
 
-    // Puts it into a sink, and empties it, where a line more has no room.
+    // Puts the block into a sink and empties it, if another line might not fit.
     #[inline(always)]
     pub(crate) fn make_room<K: Sink>(&mut self, sink: &mut K) -> Result<(), SinkFault>
         ensures put { Passes K.sink sink.old sink.new self.new self.old result }
@@ -114,7 +114,7 @@ impl Block {
         Ok(())
     }
 
-    // Puts it into a sink as the last of a text, and flushes the sink.
+    // Puts the block into a sink as the last one of a text, and flushes the sink.
     pub(crate) fn put_last<K: Sink>(&self, sink: &mut K) -> Result<(), SinkFault>
         ensures text { Puts K.sink sink.old sink.new self.now result }
         ensures flushed { OnOk result (IsTrue (K.sink.is_flushed sink.new)) }
@@ -123,7 +123,7 @@ impl Block {
     }
 }
 
-// Puts a space and a number at this place, and answers where they end.
+// Writes a space and a number at this position, and returns the position after them.
 #[inline(always)]
 fn put_spaced(bytes: &mut [u8; SIZE], at: usize, number: &i64) -> usize
     requires { at + 26 ≤ 8192 }
@@ -134,7 +134,7 @@ fn put_spaced(bytes: &mut [u8; SIZE], at: usize, number: &i64) -> usize
     put_number(bytes, at + 1, number)
 }
 
-// Puts numbers at this place, each after a space, and answers where they end.
+// Writes numbers at this position, each after a space, and returns the position after them.
 #[inline(always)]
 fn put_numbers(bytes: &mut [u8; SIZE], at: usize, numbers: &[i64]) -> usize
     requires { at + 21 * length numbers.now + 5 ≤ 8192 }
@@ -148,7 +148,7 @@ fn put_numbers(bytes: &mut [u8; SIZE], at: usize, numbers: &[i64]) -> usize
     end
 }
 
-// Puts the numbers of an arc at this place, each after a space, and answers where they end.
+// Writes the numbers of an arc at this position, each after a space, and returns the position after them.
 #[inline(always)]
 fn put_parts<P: Parts>(bytes: &mut [u8; SIZE], at: usize, arc: &P) -> usize
     requires { at + 21 * length (P.numbers arc.now) + 5 ≤ 8192 }

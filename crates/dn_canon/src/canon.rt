@@ -1,4 +1,4 @@
-// The canonical text of what is held, in a sink, in memory, and from a source to a sink.
+// Writes the canonical text of a parsed instance or of a source into a sink or memory, and judges texts.
 ghost use Rattle.std.specs.Prelude.{◌≡◌, ◌↔◌, IfErr, IfSome, IsTrue, OnOk};
 ghost use Rattle.dn_instance.specs.State.Helds.{IsHeld, holding};
 ghost use Rattle.dn_instance.specs.Instances.{Instance};
@@ -16,12 +16,13 @@ use dn_line::{Kind, Source};
 use dn_sink::{Bytes, Matcher, Sink, SinkFault};
 use std::alloc::Global;
 
-/// Puts the canonical text of what is held, a block of lines a put, and flushes. It takes no memory of its own.
+/// Writes the canonical text of a parsed instance into a sink, one block of lines at a time, and flushes the sink.
+/// Allocates nothing.
 ///
 /// # Errors
 ///
-/// `Write` where the sink failed, and then it took a prefix of the text; `CountTooLarge` where the text has more than
-/// 2^63-1 counted lines, and then nothing is put.
+/// `Write` if the sink failed; it has then taken a prefix of the text. `CountTooLarge` if the text has more than 2^63-1
+/// counted lines; nothing is put then.
 pub fn write_canon<K: Sink>(held: &Held, sink: &mut K, form: Form) -> Result<(), Refusal>
     ensures refusal { IfErr result IsOfWriting }
     ensures after { SinkAfter K.sink sink.old sink.new result }
@@ -52,11 +53,11 @@ pub fn write_canon<K: Sink>(held: &Held, sink: &mut K, form: Form) -> Result<(),
     }
 }
 
-/// The canonical text of what is held.
+/// Returns the canonical text of a parsed instance.
 ///
 /// # Errors
 ///
-/// `Memory` where there is none for the text; `CountTooLarge` where it has more counted lines than 2^63-1.
+/// `Memory` if an allocation for the text failed. `CountTooLarge` if the text has more than 2^63-1 counted lines.
 pub fn canon_text(alloc: Global, held: &Held, form: Form) -> Result<Vec<u8>, Refusal>
     ensures { (I : Instance) → IsValid I → IsHeld (holding held.now) I
         → TextOutcome (λ v. v.items) form I result }
@@ -69,12 +70,12 @@ pub fn canon_text(alloc: Global, held: &Held, form: Form) -> Result<Vec<u8>, Ref
     }
 }
 
-/// Reads the text that a source gives and then puts its canonical text. Nothing is put before the text is read and
-/// found without fault.
+/// Reads a source to its end, and then writes the canonical text of what it gave. Nothing is put before the whole text
+/// was read and has no fault.
 ///
 /// # Errors
 ///
-/// Those of reading and those of `write_canon`; but for `Write` nothing was put.
+/// The errors of `read_from` and of `write_canon`. Nothing was put, unless the error is `Write`.
 pub fn canon_run<S: Source, K: Sink>(
     alloc: Global,
     source: &mut S,
@@ -101,7 +102,7 @@ pub fn canon_run<S: Source, K: Sink>(
 ///
 /// # Errors
 ///
-/// `Text` with the first fault of the text. `Memory` comes only at a line without fault.
+/// `Text` with the first fault of the text. `Memory` only at a line without a fault.
 pub fn is_canon(alloc: Global, text: &[u8], form: Form) -> Result<bool, Refusal>
     ensures { JudgesCanon form text.now result }
 {
@@ -115,8 +116,8 @@ pub fn is_canon(alloc: Global, text: &[u8], form: Form) -> Result<bool, Refusal>
     }
 }
 
-/// Whether a text that reads as what is held is the canonical text of it in this form. The canonical text is compared
-/// as it is written, up to the first byte that differs, so this takes no memory.
+/// Whether `text`, which reads as the instance in `held`, is its canonical text in this form. The canonical text is
+/// compared while it is written, up to the first byte that differs, so nothing is allocated.
 pub fn is_canon_of(held: &Held, text: &[u8], form: Form) -> bool
     ensures { (I : Instance) → Reads text.now I → IsHeld (holding held.now) I
         → IsTrue result ↔ IsCanonOf form text.now I }
@@ -130,7 +131,7 @@ pub fn is_canon_of(held: &Held, text: &[u8], form: Form) -> bool
     }
 }
 
-// The refusal of a sink that failed.
+// Maps a failure of the sink to `Refusal::Write`.
 fn written(put: Result<(), SinkFault>) -> Result<(), Refusal>
     ensures { written_as put ≡ result }
 {

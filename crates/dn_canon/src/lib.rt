@@ -1,8 +1,8 @@
 //! Canonical texts: which instances are canonical in each form, how an instance is printed, and which text is the
-//! canonical one of an instance; how a text is written to a sink without memory.
+//! canonical text of an instance. Writing a canonical text into a sink allocates nothing.
 //!
-//! In the order of the data: `canon` has the public calls, from what is held, a text or a source to a sink; `writer`
-//! goes over the lines, which `print` adds to a `block`.
+//! In the order of the data: `canon` has the public functions, from a parsed instance, a text or a source to a sink;
+//! `writer` walks the lines; `print` appends each line to a `block`.
 #![tactic(auto)]
 
 mod block;

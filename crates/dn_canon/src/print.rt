@@ -1,5 +1,5 @@
-// The lines of a canonical text, each added to a block. Those that may come later than first put the block into a sink
-// where they have no room.
+// The lines of a canonical text, each appended to a block. All but the problem lines first put the block into a sink if
+// the line might not fit.
 ghost use Rattle.std.specs.Prelude.{◌≡◌, ◌+◌, ◌<◌, ◌≤◌, ◌^◌, [], ◌∷◌, ◌++◌, length, map};
 ghost use Rattle.std.specs.Fmt.{signed_decimal};
 ghost use Rattle.dn_line.specs.declared.word.Keyword.TheVariants.{A, S, T};
@@ -12,7 +12,7 @@ use dn_bundle::Parts;
 use dn_line::Kind;
 use dn_sink::{Sink, SinkFault};
 
-// The problem line of a graph.
+// Appends the problem line of a graph.
 pub(crate) fn graph_line(block: &mut Block, kind: Kind, nodes: &i64, arcs: u64)
     requires few { arcs < 2 ^ 63 }
     requires room { HasRoom block.old }
@@ -26,7 +26,7 @@ pub(crate) fn graph_line(block: &mut Block, kind: Kind, nodes: &i64, arcs: u64)
     block.byte(b'\n');
 }
 
-// The problem line of a companion.
+// Appends the problem line of a companion.
 pub(crate) fn companion_line(block: &mut Block, kind: Kind, items: u64)
     requires few { items < 2 ^ 63 }
     requires room { HasRoom block.old }
@@ -39,7 +39,7 @@ pub(crate) fn companion_line(block: &mut Block, kind: Kind, items: u64)
     block.byte(b'\n');
 }
 
-// The flow of a node.
+// Appends the node line of a supply.
 pub(crate) fn supply_line<K: Sink>(
     block: &mut Block,
     sink: &mut K,
@@ -52,7 +52,7 @@ pub(crate) fn supply_line<K: Sink>(
     row_line(block, sink, b'n', &[*id, *flow])
 }
 
-// The source of a `max` problem.
+// Appends the line of the source of a `max` problem.
 pub(crate) fn max_source_line<K: Sink>(
     block: &mut Block,
     sink: &mut K,
@@ -68,7 +68,7 @@ pub(crate) fn max_source_line<K: Sink>(
     Ok(())
 }
 
-// The sink of a `max` problem.
+// Appends the line of the sink of a `max` problem.
 pub(crate) fn max_sink_line<K: Sink>(
     block: &mut Block,
     sink: &mut K,
@@ -84,7 +84,7 @@ pub(crate) fn max_sink_line<K: Sink>(
     Ok(())
 }
 
-// An arc at its ordered pair.
+// Appends the line of an arc at its ordered pair.
 pub(crate) fn arc_line<P: Parts, K: Sink>(
     block: &mut Block,
     sink: &mut K,
@@ -100,7 +100,7 @@ pub(crate) fn arc_line<P: Parts, K: Sink>(
     Ok(())
 }
 
-// A source of queries.
+// Appends the line of an `ss` source.
 pub(crate) fn source_line<K: Sink>(
     block: &mut Block,
     sink: &mut K,
@@ -112,7 +112,7 @@ pub(crate) fn source_line<K: Sink>(
     row_line(block, sink, b's', &[*id])
 }
 
-// A query from point to point.
+// Appends the line of a `p2p` query.
 pub(crate) fn query_line<K: Sink>(
     block: &mut Block,
     sink: &mut K,
@@ -124,7 +124,7 @@ pub(crate) fn query_line<K: Sink>(
     row_line(block, sink, b'q', &[query.0, query.1])
 }
 
-// The coordinates of a node.
+// Appends the line of a node's coordinates.
 pub(crate) fn point_line<K: Sink>(
     block: &mut Block,
     sink: &mut K,
@@ -137,7 +137,7 @@ pub(crate) fn point_line<K: Sink>(
     row_line(block, sink, b'v', &[*id, place.0, place.1])
 }
 
-// A letter and numbers.
+// Appends the line of a letter and numbers.
 #[inline(always)]
 fn row_line<K: Sink>(
     block: &mut Block,

@@ -1,4 +1,4 @@
-// Writes the canonical text of what tables, lists and maps tell, a block of lines a put, without memory of its own.
+// Writes the canonical text of what tables, lists and maps list, one block of lines at a time, and allocates nothing.
 ghost use Rattle.std.specs.Prelude.{◌≡◌, ◌<◌, ◌≤◌, ◌^◌, ◌++◌, length, map, IsTrue, OnOk, MatchOption};
 ghost use Rattle.std.specs.List.Sorted.{IsStrictlySortedBy};
 ghost use Rattle.std.specs.Map.{keys_of};
@@ -26,18 +26,18 @@ use dn_line::Kind;
 use dn_sink::{Sink, SinkFault};
 use std::collections::BTreeMap;
 
-// What stands before the arcs of a graph.
+// The lines between the problem line and the arcs of a graph.
 #[derive(Clone, Copy)]
 pub(crate) enum NodeLines<'a> {
-    // The flow of each node whose flow is not 0.
+    // The node line of each node whose flow is not 0 (`min`).
     Supplies(&'a BTreeMap<i64, i64>),
-    // The source and the sink.
+    // The lines of the source and the sink (`max`).
     Terminals(&'a i64, &'a i64),
-    // Nothing.
+    // No lines (`sp`).
     NoNodes,
 }
 
-// Writes a graph. Two walks over the table: the number of arcs, and then the lines.
+// Writes a graph, in two walks over the table: the first counts the arcs, the second writes the lines.
 pub(crate) fn write_graph<B: Bundle, K: Sink>(
     sink: &mut K,
     kind: Kind,
@@ -64,7 +64,7 @@ pub(crate) fn write_graph<B: Bundle, K: Sink>(
     }
 }
 
-// Writes the sources of queries.
+// Writes an `ss` text.
 pub(crate) fn write_sources<K: Sink>(sink: &mut K, ids: &[i64]) -> Result<(), SinkFault>
     ensures few { length ids.now < 2 ^ 63 }
     ensures text { Puts K.sink sink.old sink.new (print (Sources ids.now)) result }
@@ -78,7 +78,7 @@ pub(crate) fn write_sources<K: Sink>(sink: &mut K, ids: &[i64]) -> Result<(), Si
     block.put_last(sink)
 }
 
-// Writes queries from point to point.
+// Writes a `p2p` text.
 pub(crate) fn write_queries<K: Sink>(sink: &mut K, queries: &[(i64, i64)]) -> Result<(), SinkFault>
     ensures few { length queries.now < 2 ^ 63 }
     ensures text { Puts K.sink sink.old sink.new (print (Queries queries.now)) result }
@@ -92,7 +92,7 @@ pub(crate) fn write_queries<K: Sink>(sink: &mut K, queries: &[(i64, i64)]) -> Re
     block.put_last(sink)
 }
 
-// Writes coordinates by rising ID.
+// Writes a `co` text, by rising ID.
 pub(crate) fn write_points<K: Sink>(
     sink: &mut K,
     points: &BTreeMap<i64, (i64, i64)>,
@@ -109,7 +109,7 @@ pub(crate) fn write_points<K: Sink>(
     block.put_last(sink)
 }
 
-// How many arcs a table tells, where 63 bits hold the number.
+// Returns the number of arcs that a table lists, if it is below 2^63.
 fn arc_count<B: Bundle>(table: &Table<B>, form: Form) -> Option<u64>
     ensures count { let all = length (told_arcs (B.bundle.told form) table.now) in
         MatchOption result (2 ^ 63 ≤ all) (λ n. (n ≡ all) × n < 2 ^ 63) }
@@ -122,7 +122,7 @@ fn arc_count<B: Bundle>(table: &Table<B>, form: Form) -> Option<u64>
     if all < 1 << 63 { Some(all) } else { None }
 }
 
-// The arcs of one pair.
+// Appends the arcs of one pair.
 fn put_bundle<B: Bundle, K: Sink>(
     block: &mut Block,
     sink: &mut K,
@@ -144,7 +144,7 @@ fn put_bundle<B: Bundle, K: Sink>(
     Ok(())
 }
 
-// The arcs of a graph.
+// Appends the arcs of a graph.
 fn put_table<B: Bundle, K: Sink>(
     block: &mut Block,
     sink: &mut K,
@@ -161,7 +161,7 @@ fn put_table<B: Bundle, K: Sink>(
     Ok(())
 }
 
-// The flows of a `min` problem.
+// Appends the node lines of a `min` problem.
 fn put_supplies<K: Sink>(
     block: &mut Block,
     sink: &mut K,
@@ -176,7 +176,7 @@ fn put_supplies<K: Sink>(
     Ok(())
 }
 
-// The lines between the problem line and the arcs.
+// Appends the lines between the problem line and the arcs.
 fn put_nodes<K: Sink>(
     block: &mut Block,
     sink: &mut K,
@@ -195,7 +195,7 @@ fn put_nodes<K: Sink>(
     }
 }
 
-// A graph: the problem line, the lines before the arcs, and the arcs.
+// Writes a graph: the problem line, the lines before the arcs, and the arcs. Then flushes the sink.
 fn put_graph<B: Bundle, K: Sink>(
     sink: &mut K,
     kind: Kind,

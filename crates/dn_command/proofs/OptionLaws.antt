@@ -1,4 +1,4 @@
--- The program's options are of the kind of which `clap` says what it reads.
+-- Lemmas that the program's options are simple, so that `clap`'s definitions say what it reads.
 use Rattle.std.proofs.Common.{◌≡◌, ◌∙◌, ◌||◌, List, Result, Ok, Err, IfOk, IsErrAnd, refl, inl, subst, false, true, map, ap, ap₂}
 use Rattle.std.specs.Borrow.{Bor}
 use Rattle.std.specs.declared.alloc.AllocError.{AllocError}
@@ -20,7 +20,7 @@ free forms = refl
 simple : (forms : Bor (List (Bor Text))) → is_simple (dnorm_app forms) ≡ true
 simple forms = refl
 
--- a command with one argument more, where it is known what the command and the argument are
+-- adding an argument to a command adds its rule, if the command and the argument are known
 pub adds_arg : (old : Command) (arg : Arg) (r : Result Command AllocError) {before : App} {rule : Rule}
     → app_of old ≡ before → (fields_of old).has_globals ≡ false → rule_of arg ≡ rule → arg.global ≡ false
     → IfOk r (AddsArg old arg)
@@ -29,7 +29,7 @@ adds_arg old arg (Ok c) is local ruled own adds =
     (adds.shape own ∙ ap₂ with_rule is ruled, adds.globals ∙ ap₂ (λ a b. a || b) local own)
 adds_arg old arg (Err e) is local ruled own adds = (tt, tt)
 
--- what the options' parse answers
+-- the result of `clap` is the parse of the words with the program's options
 pub is_parse : (a : App) (forms : Bor (List (Bor Text))) (words : List Text) (r : Result ArgMatches Error)
     → a ≡ dnorm_app forms → map (λ s. s.now) forms.now ≡ form_words
     → (is_simple_and_free a ≡ true → FailsBy (fault_of a words) r)
@@ -47,7 +47,7 @@ is_parse a forms words (Err e) is are_forms fails matches = record {
   matches = tt;
 }
 
--- what is answered where memory was wanted for the options
+-- if memory runs out for the options, the error is a parse of the words
 pub no_parse : (forms : Bor (List (Bor Text))) (words : List Text) (r : Result ArgMatches Error)
     → map (λ s. s.now) forms.now ≡ form_words → IsErrAnd r (λ e. kind_of e ≡ OutOfMemory) → IsParseOf words r
 no_parse forms words (Ok m) are_forms memory = elim memory [ ]

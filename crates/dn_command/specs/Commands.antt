@@ -6,11 +6,11 @@ use Rattle.dn_arc.specs.declared.arc.Form.TheVariants.{One}
 use Rattle.dn_command.specs.declared.command.Command.{Command}
 use Rattle.dn_command.specs.declared.command.Command.TheVariants as commands
 
--- what is asked for, of texts by their names
+-- what a command line asks for; texts are given by their names
 pub data Asked : Type 0 where
-  -- what the text holds
+  -- what the text contains
   Show : List ℕ → Asked
-  -- whether the text is accepted, and whether the companion of the second name, where there is one, fits it
+  -- whether the text is accepted and, if a companion is named, whether it fits
   Check : List ℕ → Option (List ℕ) → Asked
   -- the canonical text of the text, in this form
   Canon : List ℕ → Form → Asked
@@ -28,7 +28,7 @@ asks (commands.Compare left right) = Compare left.now right.now
 abbrev pub is_standard_input : List ℕ → Bool
 is_standard_input word = bytes_eq word (codes "-")
 
--- a word that names a text: `-`, or neither empty nor begun with `-`
+-- a word that names a text: `-`, or any non-empty word that does not begin with `-`
 abbrev pub is_name : List ℕ → Bool
 is_name [] = false
 is_name (b ∷ rest) = is_standard_input (b ∷ rest) || not (nat_eq b 45)
@@ -46,7 +46,7 @@ abbrev pub asked_of_two : List ℕ → List ℕ → List ℕ → Option Asked
 asked_of_two command left right =
     if bytes_eq command (codes "compare") && (is_name left && is_name right) then Some (Compare left right) else None
 
--- what the words after the program's name ask for where they are a plain form; no word asks for the canonical text of
+-- what the words after the program's name ask for, if they are a plain form; no words ask for the canonical text of
 -- standard input
 abbrev pub plain_words : List (List ℕ) → Option Asked
 plain_words [] = Some (Canon (codes "-") One)
@@ -55,12 +55,12 @@ plain_words (command ∷ name ∷ []) = asked_of_one command name
 plain_words (command ∷ left ∷ right ∷ []) = asked_of_two command left right
 plain_words (command ∷ first ∷ second ∷ third ∷ rest) = None
 
--- what a line of words, the program's name first, asks for where it is a plain form; an empty line counts as the name
--- alone
+-- what a line of words, the program's name first, asks for, if it is a plain form; an empty line counts as the name
+-- without words
 abbrev pub plain_asked : List (List ℕ) → Option Asked
 plain_asked words = plain_words (drop 1 words)
 
--- standard input is named for two texts
+-- standard input is named for both texts
 abbrev pub names_twice : Asked → Bool
 names_twice (Check name (Some companion)) = is_standard_input name && is_standard_input companion
 names_twice (Compare left right) = is_standard_input left && is_standard_input right

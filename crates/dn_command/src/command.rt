@@ -1,44 +1,43 @@
-// What a line of words asks for, and the lines that are told by their words alone.
+// Commands, and the plain forms of commands, which are recognised without `clap`.
 ghost use Rattle.std.specs.Prelude.{◌≡◌, map, string_bytes, option_map};
 ghost use Rattle.dn_command.specs.Commands.{asked_of_one, asked_of_two, asks, is_name, is_standard_input, names_twice};
 ghost use Rattle.dn_command.specs.Commands.{plain_asked};
 
 use dn_bundle::Form;
 
-/// What the words after the program's name ask for. A text is named by its file's name, or by `-`, which is standard
-/// input.
+/// A command. A text is given by the name of its file, or by `-` for standard input.
 #[derive(Clone, Copy)]
 pub enum Command<'a> {
-    /// `show FILE`: what a text holds.
+    /// `show FILE`: shows what a text contains.
     Show {
-        /// The text.
+        /// The name of the text.
         name: &'a str,
     },
-    /// `check FILE [--with COMPANION]`: whether a text is accepted, and whether a companion fits it.
+    /// `check FILE [--with COMPANION]`: checks whether a text is accepted, and whether a companion fits it.
     Check {
-        /// The text.
+        /// The name of the text.
         name: &'a str,
-        /// The companion, where one is named.
+        /// The name of the companion, if one is given.
         with: Option<&'a str>,
     },
-    /// `canon [--form 1|2] FILE`: the canonical text of a text.
+    /// `canon [--form 1|2] FILE`: writes the canonical text of a text.
     Canon {
-        /// The text.
+        /// The name of the text.
         name: &'a str,
-        /// The form in which it is written.
+        /// The form of the canonical text.
         form: Form,
     },
-    /// `compare LEFT RIGHT`: the first difference between two texts.
+    /// `compare LEFT RIGHT`: finds the first difference between two texts.
     Compare {
-        /// The left text.
+        /// The name of the left text.
         left: &'a str,
-        /// The right text.
+        /// The name of the right text.
         right: &'a str,
     },
 }
 
 impl Command<'_> {
-    /// Whether two of the texts are standard input, which can be read only once.
+    /// Whether both texts of the command are standard input, which can be read only once.
     pub fn names_standard_input_twice(&self) -> bool
         ensures { result ≡ names_twice (asks self.now) }
     {
@@ -53,9 +52,10 @@ impl Command<'_> {
     }
 }
 
-/// The command that a line of words is, the program's name first, where it is a plain form: `show FILE`, `check FILE`,
-/// `canon FILE` or `compare LEFT RIGHT`, each text named by `-` or by a word that is neither empty nor begins with `-`;
-/// or no word after the program's name, which is `canon -`. Canonical texts are in form 1. `None` for any other line.
+/// Returns the command of a line of words, the program's name first, if the line is a plain form, and `None` otherwise.
+/// The plain forms are `show FILE`, `check FILE`, `canon FILE` and `compare LEFT RIGHT`, where a text is `-` or any
+/// non-empty word that does not begin with `-`. No word after the program's name is a plain form too, and means `canon
+/// -`. The form of canonical texts is form 1.
 pub fn plain_command(words: &[String]) -> Option<Command<'_>>
     ensures { option_map asks result ≡ plain_asked (map string_bytes words.now) }
 {
@@ -71,7 +71,7 @@ pub fn plain_command(words: &[String]) -> Option<Command<'_>>
     }
 }
 
-// The command that a word is, with the name of a text after it.
+// Returns the plain command of this word and one text.
 fn plain_command_of_one<'a>(word: &str, name: &'a str) -> Option<Command<'a>>
     ensures { option_map asks result ≡ asked_of_one word.now name.now }
 {
@@ -89,7 +89,7 @@ fn plain_command_of_one<'a>(word: &str, name: &'a str) -> Option<Command<'a>>
     }
 }
 
-// The command that a word is, with the names of two texts after it.
+// Returns the plain command of this word and two texts.
 fn plain_compare<'a>(word: &str, left: &'a str, right: &'a str) -> Option<Command<'a>>
     ensures { option_map asks result ≡ asked_of_two word.now left.now right.now }
 {

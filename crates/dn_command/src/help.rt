@@ -1,4 +1,4 @@
-// What the help texts say, for people. No line of a help text is wider than 80 columns.
+// The help texts. Their lines have at most 80 columns.
 
 // The version of the program.
 pub(crate) const VERSION: &str = "1.1.0-dev";
@@ -8,7 +8,7 @@ pub(crate) const PROGRAM: &str = "\
 Canonicalises, checks and compares DIMACS network instances: min, max and sp
 problems, and ss, p2p and co companions of sp graphs.";
 
-// What each command does, in one line, and what it prints, with an example.
+// What each command does, in one line; then what it prints, with an example.
 pub(crate) const SHOW: &str = "Shows what a file contains";
 
 pub(crate) const SHOW_END: &str = "\
@@ -120,7 +120,7 @@ Example:
 5 units from node 1 to node 2 cost 4 in flow.min, and 3 in flow-cheaper.min.
 Smaller amounts cost the same in both.";
 
-// What each word is.
+// What each argument is.
 pub(crate) const TEXT: &str = "The name of a file, or - for standard input";
 
 pub(crate) const WITH: &str = "\

@@ -1,8 +1,8 @@
-//! The command line: what a line of words asks for.
+//! The command line: which command a line of words asks for.
 //!
-//! In the order of the data: `command` has the commands, and tells the lines that are plain forms by their words alone;
-//! `request` says what is to be done for any line, which it reads by the `options` that `clap` is given where it is no
-//! plain form; `help` has what the help texts say.
+//! In the order of the data: `command` has the commands, and recognises their plain forms; `request` returns what to do
+//! for any line, and reads lines other than plain forms with `clap`, which gets the `options`; `help` has the help
+//! texts.
 #![tactic(auto)]
 
 pub mod command;

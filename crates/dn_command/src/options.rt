@@ -1,4 +1,4 @@
-// The options that `clap` reads lines of words by.
+// The options that `clap` reads command lines with.
 ghost use Rattle.std.specs.Prelude.{◌≡◌, false, IfOk, map, string_bytes};
 ghost use Rattle.clap.specs.Words.{App, app_of, new_app, rule_of, with_rule, with_subcommand};
 ghost use Rattle.clap.specs.declared.builder.command.Command.TheViews.{out-Command as fields_of};
@@ -11,14 +11,14 @@ use crate::help;
 use clap::{Arg, ArgAction, ArgMatches, Command, Error};
 use std::alloc::{AllocError, Global};
 
-// What `clap` reads of a line of words.
+// Reads a line of words with `clap`.
 pub(crate) fn parse<'a>(alloc: Global, words: &'a [String]) -> Result<ArgMatches<'a>, Error>
     ensures { IsParseOf (map string_bytes words.entry.now) result }
 {
     parse_with(alloc, &["1", "2"], words)
 }
 
-// What `clap` reads of a line of words, where FORM is one of these.
+// Reads a line of words with `clap`, where FORM is one of these words.
 fn parse_with<'a>(
     alloc: Global,
     forms: &'a [&'a str],
@@ -33,7 +33,7 @@ fn parse_with<'a>(
     }
 }
 
-// The program with its commands.
+// Builds the program with its commands.
 fn dnorm_command<'a>(alloc: Global, forms: &'a [&'a str]) -> Result<Command<'a>, AllocError>
     ensures app { IfOk result (λ c. app_of c ≡ dnorm_app forms.entry) }
 {
@@ -47,7 +47,7 @@ fn dnorm_command<'a>(alloc: Global, forms: &'a [&'a str]) -> Result<Command<'a>,
     )
 }
 
-// A program with one command more, where memory was enough for both.
+// Adds a command to the program. Fails if either could not be built.
 fn add_command<'a>(
     program: Result<Command<'a>, AllocError>,
     command: Result<Command<'a>, AllocError>,
@@ -68,7 +68,7 @@ fn add_command<'a>(
     Err(AllocError)
 }
 
-// The program without its commands.
+// Builds the program without its commands.
 fn bare_command<'a>(alloc: Global) -> Command<'a>
     ensures app { app_of result ≡ bare_app }
     ensures local { (fields_of result).has_globals ≡ false }
@@ -81,7 +81,7 @@ fn bare_command<'a>(alloc: Global) -> Command<'a>
         .subcommand_required(true)
 }
 
-// `show FILE`.
+// Builds `show FILE`.
 fn show_command<'a>(alloc: Global) -> Result<Command<'a>, AllocError>
     ensures app { IfOk result (λ c. app_of c ≡ show_app) }
     ensures local { IfOk result (λ c. (fields_of c).has_globals ≡ false) }
@@ -89,7 +89,7 @@ fn show_command<'a>(alloc: Global) -> Result<Command<'a>, AllocError>
     text_command(alloc, "show", help::SHOW, help::SHOW_END, "FILE")
 }
 
-// `check FILE [--with COMPANION]`.
+// Builds `check FILE [--with COMPANION]`.
 fn check_command<'a>(alloc: Global) -> Result<Command<'a>, AllocError>
     ensures app { IfOk result (λ c. app_of c ≡ check_app) }
     ensures local { IfOk result (λ c. (fields_of c).has_globals ≡ false) }
@@ -104,7 +104,7 @@ fn check_command<'a>(alloc: Global) -> Result<Command<'a>, AllocError>
     )
 }
 
-// `canon [--form FORM] FILE`.
+// Builds `canon [--form FORM] FILE`.
 fn canon_command<'a>(alloc: Global, forms: &'a [&'a str]) -> Result<Command<'a>, AllocError>
     ensures app { IfOk result (λ c. app_of c ≡ canon_app forms.entry) }
     ensures local { IfOk result (λ c. (fields_of c).has_globals ≡ false) }
@@ -119,7 +119,7 @@ fn canon_command<'a>(alloc: Global, forms: &'a [&'a str]) -> Result<Command<'a>,
     )
 }
 
-// `compare LEFT RIGHT`.
+// Builds `compare LEFT RIGHT`.
 fn compare_command<'a>(alloc: Global) -> Result<Command<'a>, AllocError>
     ensures app { IfOk result (λ c. app_of c ≡ compare_app) }
     ensures local { IfOk result (λ c. (fields_of c).has_globals ≡ false) }
@@ -134,7 +134,7 @@ fn compare_command<'a>(alloc: Global) -> Result<Command<'a>, AllocError>
     )
 }
 
-// A command of this name, with a word that names a text and one argument more. Its help ends with `end`.
+// Builds a command of this name, with a word that names a text, and one more argument. Its help ends with `end`.
 fn wider_command<'a>(
     alloc: Global,
     name: &'a str,
@@ -155,7 +155,7 @@ fn wider_command<'a>(
     Err(AllocError)
 }
 
-// A command of this name, with a word that names a text. Its help ends with `end`.
+// Builds a command of this name, with a word that names a text. Its help ends with `end`.
 fn text_command<'a>(
     alloc: Global,
     name: &'a str,
@@ -173,7 +173,7 @@ fn text_command<'a>(
         .arg(text(alloc, text_name, help::TEXT))
 }
 
-// `--with COMPANION`.
+// Builds `--with COMPANION`.
 fn with_option<'a>(alloc: Global) -> Arg<'a>
     ensures rule { rule_of result ≡ with_option }
     ensures local { result.global ≡ false }
@@ -181,7 +181,7 @@ fn with_option<'a>(alloc: Global) -> Arg<'a>
     option(alloc, "with", "COMPANION", help::WITH)
 }
 
-// `--form FORM`.
+// Builds `--form FORM`.
 fn form_option<'a>(alloc: Global, forms: &'a [&'a str]) -> Arg<'a>
     ensures rule { rule_of result ≡ form_option forms.entry }
     ensures local { result.global ≡ false }
@@ -191,7 +191,7 @@ fn form_option<'a>(alloc: Global, forms: &'a [&'a str]) -> Arg<'a>
         .default_value("1")
 }
 
-// An option of this name, with one value.
+// Builds an option of this name, with one value.
 fn option<'a>(alloc: Global, name: &'a str, value: &'a str, help: &'a str) -> Arg<'a>
     ensures rule { rule_of result ≡ option_rule name.entry.now }
     ensures local { result.global ≡ false }
@@ -203,7 +203,7 @@ fn option<'a>(alloc: Global, name: &'a str, value: &'a str, help: &'a str) -> Ar
         .help(help)
 }
 
-// A word that names a text.
+// Builds an argument for a word that names a text.
 fn text<'a>(alloc: Global, name: &'a str, help: &'a str) -> Arg<'a>
     ensures rule { rule_of result ≡ text_rule name.entry.now }
     ensures local { result.global ≡ false }

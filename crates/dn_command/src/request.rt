@@ -1,4 +1,4 @@
-// What is to be done for a line of words.
+// What to do for a line of words.
 ghost use Rattle.std.specs.Prelude.{◌≡◌, [], IfOk, MatchResult, None, Some, map, option_map, string_bytes};
 ghost use Rattle.clap.specs.Words.{first_of, found_of, kind_of, rows_of, subcommand_rows_of};
 ghost use Rattle.dn_command.specs.Commands.{Asked, asks, plain_asked};
@@ -15,29 +15,28 @@ use clap::{ArgMatches, Error};
 use dn_bundle::Form;
 use std::alloc::{AllocError, Global};
 
-/// What is to be done for a line of words.
+/// What to do for a line of words.
 #[derive(Drop)]
 pub enum Request<'a> {
-    /// This command.
+    /// Run this command.
     Command(Command<'a>),
-    /// Help, or the version: this text is to be put on standard output.
+    /// Print this text on standard output: help, or the version.
     Print(String),
-    /// Nothing: the line is not one of the program's.
+    /// Refuse the line: it is not a command line of this program.
     Bad,
-    /// Nothing: memory was wanted while the line was read.
+    /// Refuse the line: memory ran out while it was read.
     Memory,
 }
 
-/// What is to be done for a line of words, the program's name first. A plain form (`plain_command`) is the command that
-/// its words say, and nothing else of the line is read. Any other line is read as `clap` reads it, with the
-/// subcommands `show FILE`, `check FILE [--with COMPANION]`, `canon [--form 1|2] FILE` and `compare LEFT RIGHT`: `--`
-/// ends the options, an option takes its value after `=` or as the next word, and none may be repeated. `-h`, `--help`
-/// and `help` call for help, `-V` and `--version` for the version. `Memory` where memory ran out in this; all else that
-/// is read as no command is `Bad`.
+/// Returns what to do for a line of words, the program's name first. A plain form (`plain_command`) is recognised by
+/// its words alone. `clap` reads any other line, with the subcommands `show FILE`, `check FILE [--with COMPANION]`,
+/// `canon [--form 1|2] FILE` and `compare LEFT RIGHT`: `--` ends the options, an option takes its value after `=` or as
+/// the next word, and no option may be repeated. `-h`, `--help` and `help` call for help, `-V` and `--version` for the
+/// version. The result is `Memory` if an allocation fails, and `Bad` for any other line that is not a command.
 ///
-/// What `clap` reads is said over its own definitions, which hold for every line; what they come to for the usual
-/// lines is said in plain words by laws (`words` in dn_laws). That every other line of words is read as by `clap` 4 in
-/// Rust is only tested, and so are the words of the help texts.
+/// The contract states what `clap` reads in terms of `clap`'s own definitions, which hold for every line. Laws state in
+/// plain words what this means for the usual lines (`words` in dn_laws). It is only tested, not proved, that other
+/// lines are read as `clap` 4 in Rust reads them. The words of the help texts are only tested too.
 pub fn request_of(alloc: Global, words: &[String]) -> Request<'_>
     ensures plain { (asked : Asked) → plain_asked (map string_bytes words.now) ≡ Some asked → Requests asked result }
     ensures other { plain_asked (map string_bytes words.now) ≡ None
@@ -49,7 +48,7 @@ pub fn request_of(alloc: Global, words: &[String]) -> Request<'_>
     }
 }
 
-// What is to be done for a line of words that `clap` reads.
+// Returns what to do for a line of words that `clap` reads.
 fn read<'a>(alloc: Global, words: &'a [String]) -> Request<'a>
     ensures { IsReadByClap (map string_bytes words.entry.now) result }
 {
@@ -63,7 +62,7 @@ fn read<'a>(alloc: Global, words: &'a [String]) -> Request<'a>
     }
 }
 
-// What is to be done where the parse has these matches.
+// Returns what to do for the matches of a successful parse.
 fn command_or_bad<'a>(matches: &ArgMatches<'a>) -> Request<'a>
     ensures { Answers [] (subcommand_asked (subcommand_rows_of matches.now)) result }
 {
@@ -73,7 +72,7 @@ fn command_or_bad<'a>(matches: &ArgMatches<'a>) -> Request<'a>
     }
 }
 
-// What is to be done where the parse has no matches.
+// Returns what to do for the error of a failed parse.
 fn answer<'a>(alloc: Global, error: &Error) -> Request<'a>
     ensures { AnswersKind (kind_of error.now) result }
 {
@@ -85,7 +84,7 @@ fn answer<'a>(alloc: Global, error: &Error) -> Request<'a>
     }
 }
 
-// What is to be done where this text is asked for.
+// Returns the request to print this text, or `Memory` if it could not be built.
 fn printed<'a>(text: Result<String, AllocError>) -> Request<'a>
     ensures { MatchResult text (λ t. result ≡ Request.Print t) (λ _. result ≡ Request.Memory) }
 {
@@ -95,14 +94,14 @@ fn printed<'a>(text: Result<String, AllocError>) -> Request<'a>
     }
 }
 
-// The name and the version of the program.
+// Returns the name and the version of the program, as a line.
 fn version_line(alloc: Global) -> Result<String, AllocError>
     ensures { IfOk result (λ text. string_bytes text ≡ version_line) }
 {
     format!(in alloc; "dnorm {VERSION}\n")
 }
 
-// The command that the matches are.
+// Returns the command that the matches ask for.
 fn command_of<'a>(matches: &ArgMatches<'a>) -> Option<Command<'a>>
     ensures { option_map asks result ≡ subcommand_asked (subcommand_rows_of matches.now) }
 {
@@ -110,7 +109,7 @@ fn command_of<'a>(matches: &ArgMatches<'a>) -> Option<Command<'a>>
     command_named(name, inner)
 }
 
-// The command of this name, by its matches.
+// Returns the command of this name that its matches ask for.
 fn command_named<'a>(name: &str, matches: &ArgMatches<'a>) -> Option<Command<'a>>
     ensures { option_map asks result ≡ command_asked name.now (rows_of (found_of matches.now)) }
 {
@@ -123,7 +122,7 @@ fn command_named<'a>(name: &str, matches: &ArgMatches<'a>) -> Option<Command<'a>
     }
 }
 
-// `show`, by its matches.
+// Returns the `show` command of these matches.
 fn show_of<'a>(matches: &ArgMatches<'a>) -> Option<Command<'a>>
     ensures { option_map asks result ≡ show_asked (rows_of (found_of matches.now)) }
 {
@@ -132,7 +131,7 @@ fn show_of<'a>(matches: &ArgMatches<'a>) -> Option<Command<'a>>
     })
 }
 
-// `check`, by its matches.
+// Returns the `check` command of these matches.
 fn check_of<'a>(matches: &ArgMatches<'a>) -> Option<Command<'a>>
     ensures { option_map asks result ≡ check_asked (rows_of (found_of matches.now)) }
 {
@@ -142,7 +141,7 @@ fn check_of<'a>(matches: &ArgMatches<'a>) -> Option<Command<'a>>
     })
 }
 
-// `canon`, by its matches.
+// Returns the `canon` command of these matches.
 fn canon_of<'a>(matches: &ArgMatches<'a>) -> Option<Command<'a>>
     ensures { option_map asks result ≡ canon_asked (rows_of (found_of matches.now)) }
 {
@@ -155,7 +154,7 @@ fn canon_of<'a>(matches: &ArgMatches<'a>) -> Option<Command<'a>>
     }
 }
 
-// `compare`, by its matches.
+// Returns the `compare` command of these matches.
 fn compare_of<'a>(matches: &ArgMatches<'a>) -> Option<Command<'a>>
     ensures { option_map asks result ≡ compare_asked (rows_of (found_of matches.now)) }
 {
@@ -165,7 +164,7 @@ fn compare_of<'a>(matches: &ArgMatches<'a>) -> Option<Command<'a>>
     Some(Command::Compare { left, right })
 }
 
-// The first word that the matches have under this name.
+// Returns the first word that the matches have under this name.
 #[tactic(auto, using(crate::proofs::RequestLaws::value_of_rows))]
 fn value<'a>(matches: &ArgMatches<'a>, name: &str) -> Option<&'a str>
     ensures { option_map (λ s. s.now) result ≡ first_of name.now (rows_of (found_of matches.now)) }
@@ -173,7 +172,7 @@ fn value<'a>(matches: &ArgMatches<'a>, name: &str) -> Option<&'a str>
     matches.get_str(name)
 }
 
-// The form of a word after `--form`.
+// Returns the form that a word after `--form` names.
 fn form_of(word: &str) -> Option<Form>
     ensures { result ≡ form_of word.now }
 {

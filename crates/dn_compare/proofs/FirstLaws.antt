@@ -1,4 +1,4 @@
--- Which verdict comes first, by what is the same before it.
+-- Lemmas on which verdict comes first, given what is the same before it.
 use Rattle.std.proofs.Common.{◌≡◌, ◌≢◌, ℕ, ℤ, pos, refl, sym, ◌∙◌}
 use Rattle.std.specs.Ordering.{int_cmp, ordering_then}
 use Rattle.std.specs.declared.cmp.Ordering.{Ordering}

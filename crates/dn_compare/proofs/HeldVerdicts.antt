@@ -1,4 +1,4 @@
--- The verdict on what is held of two texts.
+-- Lemmas on the verdict on two parsed instances.
 use Rattle.std.proofs.Common.{◌≡◌, ◌≢◌, ℕ, suc, zero, ◌<◌, ℤ, pos, List, [], ◌∷◌, Bool, true, false, cond, Option, Some, None, refl, sym, ap, ◌∙◌, subst, arith}
 use Rattle.std.specs.BTreeMap.{is_at}
 use Rattle.std.specs.List.{AllByRecursion}
@@ -74,7 +74,7 @@ pub supply_at : (s t : List (ℤ × ℤ)) (G H : Graph CostArc) (id l r : ℤ) �
 supply_at s t G H id l r n d =
     supply_first (MinCostFlow s G) (MinCostFlow t H) refl n id l r (ap Some d.differ.0, ap Some d.differ.1, inner l r d.differ.2) (λ q lt. ap Some (d.same_before q lt))
 
--- a flow that is held is not 0
+-- a flow in valid supplies is not 0
 some_flow : (nodes id b : ℤ) (s : List (ℤ × ℤ)) → AllByRecursion (IsSupply nodes) s → value_of s id ≡ Some b → b ≢ pos 0
 some_flow nodes id b [] a e = cc
 some_flow nodes id b (x ∷ s) a e = by_test (is_at (int_cmp id) x.0) e (some_flow nodes id b s a.1)
@@ -89,7 +89,7 @@ same_flow None (Some z) f g e = absurd (g z refl (sym e))
 same_flow (Some z) None f g e = absurd (f z refl e)
 same_flow (Some y) (Some z) f g e = ap Some e
 
--- valid supplies with the same flow everywhere are the same
+-- valid supplies with the same flow at every ID are equal
 pub supplies_same : (m n : ℤ) (s t : List (ℤ × ℤ)) → IdsRise s → IdsRise t → AllByRecursion (IsSupply m) s → AllByRecursion (IsSupply n) t → ((q : ℤ) → AlikeAt int_cmp by_flow s t q) → s ≡ t
 supplies_same m n s t rs rt some_s some_t e = same_entries s t rs rt (λ q. same_flow (value_of s q) (value_of t q) (λ z. some_flow m q z s some_s) (λ z. some_flow n q z t some_t) (e q))
 
@@ -99,7 +99,7 @@ supply_on ls rs lt rt id l r d (MinCostFlow s G) (MinCostFlow t H) v w n a b =
 supply_on ls rs lt rt id l r d (MinCostFlow s G) _ v w n a b = absurd b
 supply_on ls rs lt rt id l r d _ J v w n a b = absurd a
 
--- ---- what a call of the walk over two tables says
+-- ---- what the walk over two tables returns
 
 module _ (v : Verdict) where
   pub min_on : (ls rs : List (ℤ × ℤ)) (lt rt : List ((ℤ × ℤ) × CurveNumbers)) → ((q : ℤ) → AlikeAt int_cmp by_flow ls rs q)
@@ -136,7 +136,7 @@ sink_on a b c d l r lt rt s e f m _ J p q n x y = absurd x
 less_is : (j i : ℕ) → int_cmp (pos j) (pos i) ≡ Less → j < i
 less_is j i e = grind (arith, ints)
 
--- lists that have the same at every place are the same
+-- lists with the same item at every index are equal
 pub same_items : {A : Type 0} (xs ys : List A) → ((j : ℕ) → item_at xs j ≡ item_at ys j) → xs ≡ ys
 same_items [] [] h = refl
 same_items [] (y ∷ ys) h = (let never : None ≡ Some y = h 1 in cc)
@@ -190,7 +190,7 @@ points_on xs ys h _ J p q n x y = absurd x
 
 -- ---- kinds and nodes
 
--- what is the same contents has the same verdict
+-- a verdict on contents is a verdict on equal contents
 pub shown_on : (a b c d : Contents) (v : Verdict) → a ≡ c → b ≡ d → IsVerdictOn a b v → IsVerdictOn c d v
 shown_on a b c d v e f h = subst (λ x. IsVerdictOn x d v) e (subst (λ y. IsVerdictOn a y v) f h)
 

@@ -1,4 +1,4 @@
--- Two maps in step by rising ID.
+-- Lemmas on walking two maps in step, by rising ID.
 use Rattle.std.proofs.Common.{◌≡◌, ◌+◌, ◌<◌, length, ℤ, List, Option, Some, None, sym, ap, ◌∙◌, to_z, of_z, w64}
 use Rattle.std.specs.Int.RustNames.{FitsSigned}
 use Rattle.std.proofs.lemmas.Int.{to_z-of_z}
@@ -14,7 +14,7 @@ use Rattle.dn_compare.proofs.WalkLaws as Walk
 abbrev pub IdsRise : {V : Type 0} → List (ℤ × V) → Type 0
 IdsRise entries = Walk.Rises int_cmp int_cmp_total exact_signed entries
 
--- the lesser ID, as the code hands it on
+-- the lesser ID does not change when it is converted to 64 bits and back
 pub lesser_is : {o : Option ℤ} (id : ℤ) → FitsSigned w64 id → o ≡ Some id → o ≡ Some (to_z w64 (of_z w64 id))
 lesser_is id f e = e ∙ ap Some (sym (to_z-of_z w64 id f))
 
@@ -33,10 +33,10 @@ module _ {V : Type 0} (p : ℤ) (ls rs ls' rs' : List (ℤ × V)) (first : lesse
       pub halted : (what : W) → by.Differ a b what → IsParting int_cmp by ls rs (Some (p, what))
       halted = Walk.halted int_cmp int_cmp_total exact_signed p ls rs ls' rs' first left_is right_is left_rises right_rises by nothing no_differ a b a_is b_is
 
--- both walks are at their ends
+-- if both walks have ended, the maps do not differ
 pub ended : {V W : Type 0} (by : Comparison V W) (nothing : by.Alike None None) (no_differ : (what : W) → by.Differ None None what → ⊥) (ls rs : List (ℤ × V)) → lesser_key int_cmp (first_key ls) (first_key rs) ≡ None → IsParting int_cmp by ls rs None
 ended by nothing no_differ ls rs last = Walk.ended int_cmp int_cmp_total exact_signed by nothing no_differ ls rs last
 
--- rising entries that have the same at every ID are the same
+-- rising entries with the same value at every ID are equal
 pub same_entries : {V : Type 0} (es fs : List (ℤ × V)) → IdsRise es → IdsRise fs → ((q : ℤ) → value_of es q ≡ value_of fs q) → es ≡ fs
 same_entries es fs s t h = Walk.same_entries int_cmp int_cmp_total exact_signed es fs s t h

@@ -1,4 +1,4 @@
--- Two tables in step by rising pair.
+-- Lemmas on walking two tables in step, by rising pair.
 use Rattle.std.proofs.Common.{◌≡◌, ◌+◌, ◌<◌, length, ℤ, List, [], Option, Some, None}
 use Rattle.std.specs.Ordering.{int_cmp}
 use Rattle.std.proofs.lemmas.Map.Lookups.{CmpEqualImpliesEq, exact_pairs, exact_signed}
@@ -18,7 +18,7 @@ exact_pair = exact_pairs int_cmp int_cmp exact_signed exact_signed
 abbrev pub PairsRise : {B : Type 0} → List ((ℤ × ℤ) × B) → Type 0
 PairsRise table = Walk.Rises pair_cmp pair_total exact_pair table
 
--- what tables tell is what the arcs mean
+-- where the listed arcs of two tables first differ, the arcs that they represent do
 pub of_arcs : {B Arc : Type 0} (kind : ArcKind Arc) (laws : IsKind kind) (tells : B → List Arc) (left right : List ((ℤ × ℤ) × B)) (xs ys : List ((ℤ × ℤ) × Arc)) (o : Option ((ℤ × ℤ) × How))
     → TableTells kind tells left xs → TableTells kind tells right ys → IsParting pair_cmp (by_meaning kind tells) left right o → IsArcsParting kind xs ys o
 of_arcs {B} {Arc} kind laws tells left right xs ys o f g h = by_answer o h
@@ -50,6 +50,6 @@ module _ {B : Type 0} (p : ℤ × ℤ) (ls rs ls' rs' : List ((ℤ × ℤ) × B)
       pub halted : (how : How) → (by_meaning kind tells).Differ a b how → IsParting pair_cmp (by_meaning kind tells) ls rs (Some (p, how))
       halted = Walk.halted pair_cmp pair_total exact_pair p ls rs ls' rs' first left_is right_is left_rises right_rises (by_meaning kind tells) (laws.meaning.same_refl []) (λ how d. laws.none_differ [] [] how d (laws.meaning.same_refl [])) a b a_is b_is
 
--- both walks are at their ends
+-- if both walks have ended, the tables do not differ
 pub ended : {B Arc : Type 0} (kind : ArcKind Arc) (laws : IsKind kind) (tells : B → List Arc) (ls rs : List ((ℤ × ℤ) × B)) → lesser_key pair_cmp (first_key ls) (first_key rs) ≡ None → IsParting pair_cmp (by_meaning kind tells) ls rs None
 ended kind laws tells ls rs last = Walk.ended pair_cmp pair_total exact_pair (by_meaning kind tells) (laws.meaning.same_refl []) (λ how d. laws.none_differ [] [] how d (laws.meaning.same_refl [])) ls rs last

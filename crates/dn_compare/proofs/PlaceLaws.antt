@@ -1,4 +1,4 @@
--- The order in which verdicts stand.
+-- Lemmas on the order of verdicts.
 use Rattle.std.proofs.Common.{◌≡◌, ◌⊎◌, inl, inr, ℤ, refl, ap, ◌∙◌}
 use Rattle.std.specs.Cmp.{IsTotalOrder}
 use Rattle.std.specs.Ordering.{int_cmp, ordering_reverse}
@@ -17,7 +17,7 @@ place_total = then_total (on_total (λ (p : ℤ × (ℤ × ℤ)). p.0) int_cmp_t
 place_is : (p q : ℤ × (ℤ × ℤ)) → place_cmp p q ≡ Equal → p ≡ q
 place_is p q e = exact_pairs int_cmp pair_cmp exact_signed (exact_pairs int_cmp int_cmp exact_signed exact_signed) p q e
 
--- one of two verdicts stands earlier, or both stand at one place
+-- of two verdicts one is earlier, or both have the same place
 pub which_first : (v w : Verdict) → StandsEarlier v w ⊎ StandsEarlier w v ⊎ (place_of v ≡ place_of w)
 which_first v w = by_order (place_cmp (place_of v) (place_of w)) refl
   where

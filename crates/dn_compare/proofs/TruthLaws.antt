@@ -1,4 +1,4 @@
--- What a verdict says of two instances: by meaning, from the other side, and once at a place.
+-- Lemmas on which verdicts are true: they depend on the meaning, can be exchanged, and at most one is true at a place.
 use Rattle.std.proofs.Common.{◌≡◌, ◌≢◌, ℕ, ℤ, pos, List, length, Some, refl, sym, ap, ◌∙◌, subst}
 use Rattle.dn_arc.specs.Capacities.{total_cap}
 use Rattle.dn_arc.specs.Differences.{LengthsDiffer, TotalsDiffer, CurvesDiffer}
@@ -26,11 +26,11 @@ one_how (MaxFlow a b G) (MaxFlow c f H) p how other d e = total_kind.one_differ 
 one_how (ShortestPaths G) (ShortestPaths H) p how other d e = length_kind.one_differ (bundle p G.arcs) (bundle p H.arcs) how other d e
 one_how _ _ p how other d e = absurd d
 
--- the ID, pair or index of a place
+-- the ID, pair or index in a place
 abbrev key : ℤ × (ℤ × ℤ) → ℤ × ℤ
 key p = p.1
 
--- at one place at most one verdict is true
+-- at each place at most one verdict is true
 pub one_at : (I J : Instance) (v w : Verdict) → IsTrueOf I J v → IsTrueOf I J w → place_of v ≡ place_of w → v ≡ w
 one_at I J Verdicts.Same Verdicts.Same d e h = refl
 one_at I J (Verdicts.Kind l r) (Verdicts.Kind l' r') d e h = (let a = sym d.0 ∙ e.0 in let b = sym d.1 ∙ e.1 in cc)
@@ -53,7 +53,7 @@ one_at I J (Verdicts.Item i) (Verdicts.Item j) d e h = (let index : pos i ≡ po
 one_at I J (Verdicts.Point i) (Verdicts.Point j) d e h = (let id : i ≡ j = ap (λ p. (key p).0) h in cc)
 one_at I J _ _ d e h = (let variant = ap (λ (p : ℤ × (ℤ × ℤ)). p.0) h in cc)
 
--- what is looked at in two instances that are the same problem is the same
+-- instances that are the same problem have the same compared values
 pub record SeenSame (I I' : Instance) : Type 0 where
   pub kind : kind_of I ≡ kind_of I'
   pub nodes : nodes_of I ≡ nodes_of I'
@@ -108,7 +108,7 @@ items_turned (Sources xs) (Sources ys) i d = λ h. d (sym h)
 items_turned (Queries xs) (Queries ys) i d = λ h. d (sym h)
 items_turned _ _ i d = absurd d
 
--- what is true of instances is true of any that are the same problems
+-- a verdict on two instances is true of any instances that are the same problems
 pub true_by_meaning : (I I' J J' : Instance) (v : Verdict) → IsSame I I' → IsSame J J' → IsTrueOf I J v → IsTrueOf I' J' v
 true_by_meaning I I' J J' Verdicts.Same e f t = trans_of I' J J' (trans_of I' I J (sym_of I I' e) t) f
 true_by_meaning I I' J J' (Verdicts.Kind l r) e f t = differ_same (kind_of I) (kind_of I') (kind_of J) (kind_of J') l r (seen I I' e).kind (seen J J' f).kind t
@@ -145,7 +145,7 @@ bundles_turned (MaxFlow a b G) (MaxFlow c f H) p how d = totals_turned (bundle p
 bundles_turned (ShortestPaths G) (ShortestPaths H) p how d = lengths_turned (bundle p G.arcs) (bundle p H.arcs) how d
 bundles_turned _ _ p how d = absurd d
 
--- what is true of two instances is true of them in the other order, turned
+-- if a verdict is true of two instances, the exchanged verdict is true of them in the other order
 pub true_turned : (I J : Instance) (v : Verdict) → IsTrueOf I J v → IsTrueOf J I (turned v)
 true_turned I J Verdicts.Same t = sym_of I J t
 true_turned I J (Verdicts.Kind l r) t = differ_turned (kind_of I) (kind_of J) l r t
@@ -158,7 +158,7 @@ true_turned I J (Verdicts.Length l r) t = differ_turned (count_of I) (count_of J
 true_turned I J (Verdicts.Item i) t = items_turned I J i t
 true_turned I J (Verdicts.Point id) t = λ e. t (sym e)
 
--- instances that are the same problem differ at no pair and at no place
+-- instances that are the same problem differ at no pair
 pub no_bundles : (I J : Instance) (p : ℤ × ℤ) (how : How) → IsSame I J → BundlesDiffer I J p how → ⊥
 no_bundles (MinCostFlow s G) (MinCostFlow t H) p how e d = cost_kind.none_differ (bundle p G.arcs) (bundle p H.arcs) how d (e.1.bundles p)
 no_bundles (MaxFlow a b G) (MaxFlow c f H) p how e d = total_kind.none_differ (bundle p G.arcs) (bundle p H.arcs) how d (e.2.bundles p)

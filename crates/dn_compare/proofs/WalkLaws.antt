@@ -1,4 +1,4 @@
--- Two walks in step by rising key.
+-- Lemmas on two walks in step, by rising key.
 use Rattle.std.proofs.Common.{◌≡◌, ◌⊎◌, inl, inr, ◌+◌, ◌<◌, suc, length, List, [], ◌∷◌, Bool, true, false, cond, Option, Some, None, refl, sym, ap, ◌∙◌, subst, arith}
 use Rattle.std.specs.BTreeMap.{is_at}
 use Rattle.std.specs.Cmp.{IsTotalOrder}
@@ -28,15 +28,15 @@ reversed Equal e = cc
 reversed Greater e = cc
 
 module _ {K : Type 0} (cmp : K → K → Ordering) (total : IsTotalOrder cmp) (exact : CmpEqualImpliesEq cmp) where
-  -- whether a key is the one that is sought
+  -- whether a key q is the key p that is sought
   abbrev Sought : K → K → Bool
   Sought p = is_at (cmp p)
 
-  -- a key that is found is the one sought
+  -- a key that is found is the key that is sought
   pub key_is : (p q : K) → Sought p q ≡ true → p ≡ q
   key_is p q h = exact p q (equal_is (cmp p q) h)
 
-  -- a key is its own equal
+  -- a key equals itself
   pub key_self : (p : K) → cmp p p ≡ Equal
   key_self p = self_equal (cmp p p) (total.antisymm p p)
 
@@ -61,7 +61,7 @@ module _ {K : Type 0} (cmp : K → K → Ordering) (total : IsTotalOrder cmp) (e
     abbrev AllPast : K → List (K × V) → Type 0
     AllPast p es = AllByRecursion (λ k. cmp p k ≡ Less) (keys_of es)
 
-    -- at a key before all there is nothing
+    -- a key before all keys has no value
     none_in : (p : K) (es : List (K × V)) → AllPast p es → lookup (Sought p) es ≡ None
     none_in p [] a = refl
     none_in p (e ∷ es) a = ap (λ o. cond (is_eq o) (Some e.1) (lookup (Sought p) es)) a.0 ∙ none_in p es a.1
@@ -78,12 +78,12 @@ module _ {K : Type 0} (cmp : K → K → Ordering) (total : IsTotalOrder cmp) (e
     unfolding IsStrictlySortedBy
     tail_rises e es s = s.1
 
-    -- the first entry does not stand before p
+    -- the first entry is not before p
     abbrev pub IsDue : K → List (K × V) → Type 0
     IsDue p [] = Unit {0}
     IsDue p (e ∷ es) = (cmp p e.0 ≡ Less) ⊎ (p ≡ e.0)
 
-    -- what going past p does
+    -- what going past p does to the entries
     pub record Passes (p : K) (es : List (K × V)) : Type 0 where
       pub there : lookup (Sought p) es ≡ value_at (Sought p) es
       pub gone : lookup (Sought p) (after_key (Sought p) es) ≡ None
@@ -139,7 +139,7 @@ module _ {K : Type 0} (cmp : K → K → Ordering) (total : IsTotalOrder cmp) (e
     none_left (l ∷ ls) [] e = cc
     none_left (l ∷ ls) (r ∷ rs) e = cc
 
-    -- ---- one walk at least gets shorter
+    -- ---- at least one walk gets shorter
 
     after_le : (p : K) (ls : List (K × V)) → length (after_key (Sought p) ls) < suc (length ls)
     after_le p [] = omega arith
@@ -177,7 +177,7 @@ module _ {K : Type 0} (cmp : K → K → Ordering) (total : IsTotalOrder cmp) (e
         by_side (inl h) = omega (arith, first_lt ls h, after_le p rs)
         by_side (inr h) = omega (arith, first_lt rs h, after_le p ls)
 
-    -- ---- rising entries that have the same at every key are the same
+    -- ---- rising entries with the same value at every key are equal
 
     module _ (e f : K × V) (es fs : List (K × V)) (s : Rises (e ∷ es)) (t : Rises (f ∷ fs)) (h : (q : K) → lookup (Sought q) (e ∷ es) ≡ lookup (Sought q) (f ∷ fs)) where
       found : (x : K × V) (xs : List (K × V)) → lookup (Sought x.0) (x ∷ xs) ≡ Some x.1
@@ -219,15 +219,16 @@ module _ {K : Type 0} (cmp : K → K → Ordering) (total : IsTotalOrder cmp) (e
         let first : e ≡ f = ap (λ k. (k, e.1)) (heads e f es fs s t h) ∙ ap (λ v. (f.0, v)) (values e f es fs s t h) in
         ap (λ x. x ∷ es) first ∙ ap (λ xs. f ∷ xs) rest
 
-  -- ---- what is left decides
+  -- ---- the remaining entries decide
 
   module _ {V W : Type 0} (by : Comparison V W) (nothing : by.Alike None None) (no_differ : (what : W) → by.Differ None None what → ⊥) where
-    -- both walks are at their ends
+    -- if both walks have ended, the entries do not differ
     pub ended : (ls rs : List (K × V)) → lesser_key cmp (first_key ls) (first_key rs) ≡ None → IsParting cmp by ls rs None
     ended ls rs last = (let none = none_left ls rs last in subst (λ m. IsParting cmp by m rs None) (sym none.0) (subst (λ m. IsParting cmp by [] m None) (sym none.1) (λ q. nothing)))
 
     module _ (p : K) (ls rs : List (K × V)) where
-      -- going past a key at which both have the same leaves the parting
+      -- after a key with the same value on both sides, the first difference of the remaining entries is that of all
+      -- entries
       module _ (pl : Passes p ls) (pr : Passes p rs) (same : by.Alike (value_at (Sought p) ls) (value_at (Sought p) rs)) where
         same_at : (q : K) → AlikeAt cmp by (after_key (Sought p) ls) (after_key (Sought p) rs) q → AlikeAt cmp by ls rs q
         same_at q h = by_test (Sought p q) refl
@@ -249,14 +250,14 @@ module _ {K : Type 0} (cmp : K → K → Ordering) (total : IsTotalOrder cmp) (e
         go_on None h = λ q. same_at q (h q)
         go_on (Some x) h = record { differ = differ_at x.0 x.1 h.differ; same_before = λ q l. same_at q (h.same_before q l) }
 
-      -- a key at which they differ is the parting
+      -- a key with different values is the first difference
       stop : Passes p ls → Passes p rs → (what : W) → by.Differ (value_at (Sought p) ls) (value_at (Sought p) rs) what → IsParting cmp by ls rs (Some (p, what))
       stop pl pr what d = record {
         differ = subst (λ o. by.Differ o (lookup (Sought p) rs) what) (sym pl.there) (subst (λ o. by.Differ (value_at (Sought p) ls) o what) (sym pr.there) d);
         same_before = λ q l. subst (λ o. by.Alike o (lookup (Sought q) rs)) (sym (pl.before q l)) (subst (λ o. by.Alike None o) (sym (pr.before q l)) nothing);
       }
 
-  -- ---- one turn of two walks, as the code takes it
+  -- ---- one turn of two walks, in the form that the code has
 
   module _ {V : Type 0} (p : K) (ls rs ls' rs' : List (K × V)) (first : lesser_key cmp (first_key ls) (first_key rs) ≡ Some p) (left_is : ls' ≡ after_key (Sought p) ls) (right_is : rs' ≡ after_key (Sought p) rs) where
     pub fewer : length ls' + length rs' < length ls + length rs

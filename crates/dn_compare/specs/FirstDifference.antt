@@ -12,18 +12,18 @@ use Rattle.dn_compare.specs.Observed.{flow_of, source_of, sink_of, count_of, ite
 use Rattle.dn_compare.specs.declared.verdict.Verdict.{Verdict}
 use Rattle.dn_compare.specs.declared.verdict.Verdict.TheVariants.{Same, Kind, Nodes, Supply, Source, Sink, Pair, Length, Item, Point}
 
--- two values that differ: the left one and the right one
+-- the values x and y differ; `left` is x and `right` is y
 abbrev pub Differ : {A : Type 0} → A → A → A → A → Type 0
 Differ x y left right = (x ≡ left) × (y ≡ right) × (left ≢ right)
 
--- the arcs of an ordered pair differ in meaning, in this way
+-- the arcs of an ordered pair differ in meaning, and `how` says how
 abbrev pub BundlesDiffer : Instance → Instance → ℤ × ℤ → How → Type 0
 BundlesDiffer (MinCostFlow s G) (MinCostFlow t H) p how = costs.Differ (bundle p G.arcs) (bundle p H.arcs) how
 BundlesDiffer (MaxFlow a b G) (MaxFlow c d H) p how = capacities.Differ (bundle p G.arcs) (bundle p H.arcs) how
 BundlesDiffer (ShortestPaths G) (ShortestPaths H) p how = lengths.Differ (bundle p G.arcs) (bundle p H.arcs) how
 BundlesDiffer _ _ p how = ⊥
 
--- the items at a place differ
+-- the items at an index differ
 abbrev pub ItemsDiffer : Instance → Instance → ℕ → Type 0
 ItemsDiffer (Sources xs) (Sources ys) index = item_at xs index ≢ item_at ys index
 ItemsDiffer (Queries xs) (Queries ys) index = item_at xs index ≢ item_at ys index
@@ -42,7 +42,7 @@ IsTrueOf I J (Length left right) = Differ (count_of I) (count_of J) (Some left) 
 IsTrueOf I J (Item index) = ItemsDiffer I J index
 IsTrueOf I J (Point id) = point_of I id ≢ point_of J id
 
--- where a verdict stands: its variant, and then its ID, pair or index
+-- the place of a verdict in the order of verdicts: its variant, and then its ID, pair or index
 abbrev pub place_of : Verdict → ℤ × (ℤ × ℤ)
 place_of Same = (pos 0, (pos 0, pos 0))
 place_of (Kind left right) = (pos 1, (pos 0, pos 0))
@@ -55,15 +55,15 @@ place_of (Length left right) = (pos 7, (pos 0, pos 0))
 place_of (Item index) = (pos 8, (pos index, pos 0))
 place_of (Point id) = (pos 9, (id, pos 0))
 
--- the order of the places at which instances are compared
+-- the order of places, and so of verdicts
 abbrev pub place_cmp : ℤ × (ℤ × ℤ) → ℤ × (ℤ × ℤ) → Ordering
 place_cmp p q = ordering_then (int_cmp p.0 q.0) (pair_cmp p.1 q.1)
 
--- v stands earlier than w
+-- v comes before w in the order of verdicts
 abbrev pub StandsEarlier : Verdict → Verdict → Type 0
 StandsEarlier v w = place_cmp (place_of v) (place_of w) ≡ Less
 
--- the verdict on two instances: it is true of them, and no verdict that stands earlier is
+-- v is the first difference between two instances: it is true of them, and no earlier verdict is
 pub record IsFirstDifference (I J : Instance) (v : Verdict) : Type 0 where
   pub true_of : IsTrueOf I J v
   pub none_earlier : (w : Verdict) → StandsEarlier w v → IsTrueOf I J w → ⊥

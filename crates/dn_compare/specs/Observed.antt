@@ -1,15 +1,15 @@
--- What a verdict looks at in an instance: a value where instances of its kind have one (this project's profile).
+-- The values that a verdict compares, for the kinds of instances that have them (this project's profile).
 use Rattle.std.specs.Prelude.{ℕ, suc, zero, ℤ, pos, List, length, Option, Some, None, slice_get, unwrap_or}
 use Rattle.std.specs.BTreeMap.{is_at}
 use Rattle.std.specs.Map.{lookup}
 use Rattle.std.specs.Ordering.{int_cmp}
 use Rattle.dn_instance.specs.Instances.{Instance, MinCostFlow, MaxFlow, Sources, Queries, Coordinates}
 
--- what a map has at an ID
+-- the value of a map at an ID, if it has one
 abbrev pub value_of : {X : Type 0} → List (ℤ × X) → ℤ → Option X
 value_of entries id = lookup (is_at (int_cmp id)) entries
 
--- a flow; 0 where there is none
+-- a flow, or 0 if there is none
 abbrev pub flow_or_zero : Option ℤ → ℤ
 flow_or_zero flow = unwrap_or flow (pos 0)
 
@@ -23,7 +23,7 @@ abbrev pub source_of : Instance → Option ℤ
 source_of (MaxFlow source sink graph) = Some source
 source_of _ = None
 
--- its sink
+-- the sink of a `max` problem
 abbrev pub sink_of : Instance → Option ℤ
 sink_of (MaxFlow source sink graph) = Some sink
 sink_of _ = None
@@ -34,7 +34,7 @@ count_of (Sources ids) = Some (length ids)
 count_of (Queries pairs) = Some (length pairs)
 count_of _ = None
 
--- the item at a place, counted from 1
+-- the item at an index, counted from 1
 abbrev pub item_at : {X : Type 0} → List X → ℕ → Option X
 item_at items zero = None
 item_at items (suc i) = slice_get items i

@@ -1,4 +1,4 @@
-// The first difference between two texts that were read.
+// Computes the first difference between two parsed instances.
 ghost use Rattle.std.specs.Prelude.{◌≡◌, ℤ, List};
 ghost use Rattle.dn_instance.specs.State.Helds.{contents_kind, IsHeld, OfCo, OfMax, OfMin, holding, shown};
 ghost use Rattle.dn_instance.specs.Instances.{Instance};
@@ -13,9 +13,9 @@ use dn_bundle::{Bundle, Curve, Total};
 use dn_instance::{Held, Table, View};
 use std::collections::BTreeMap;
 
-/// The first difference between the instances that were read, in the order of the verdicts: the least ID, pair or place
-/// of the first variant that is true of them, and `Same` exactly where they are the same problem. One walk over both,
-/// whose steps are at most as many as what both hold. Takes no memory.
+/// Returns the first difference between two parsed instances, in the order of the variants of `Verdict`: the first
+/// variant that is true of them, at its least ID, pair or index. Returns `Same` if and only if they are the same
+/// problem. Walks both instances once, in at most as many steps as they have entries together. Allocates nothing.
 pub fn compare(left: &Held, right: &Held) -> Verdict
     ensures { (I J : Instance) → IsValid I → IsValid J → IsHeld (holding left.now) I → IsHeld (holding right.now) J
         → IsFirstDifference I J result }
@@ -35,7 +35,7 @@ pub fn compare(left: &Held, right: &Held) -> Verdict
     shown_verdict(left.view(), right.view())
 }
 
-// The verdict on two texts of one kind and of as many nodes.
+// Returns the verdict on two instances of the same kind and NODES.
 fn shown_verdict(left: View<'_>, right: View<'_>) -> Verdict
     requires { contents_kind (shown left) ≡ contents_kind (shown right) }
     ensures { IsVerdictOn (shown left.entry) (shown right.entry) result }
@@ -71,7 +71,7 @@ fn shown_verdict(left: View<'_>, right: View<'_>) -> Verdict
     }
 }
 
-// The verdict on two `min` problems of as many nodes.
+// Returns the verdict on two `min` problems with the same NODES.
 fn min_verdict(
     left: &BTreeMap<i64, i64>,
     left_table: &Table<Curve>,
@@ -86,7 +86,8 @@ fn min_verdict(
     }
 }
 
-// The verdict on two `max` problems of as many nodes, by their sources and sinks and their arcs.
+// Returns the verdict on two `max` problems with the same NODES. `left` and `right` are the source and the sink of
+// each.
 fn max_verdict(
     left: (i64, i64),
     left_table: &Table<Total>,
@@ -110,7 +111,7 @@ fn max_verdict(
     pair_verdict(left_table, right_table)
 }
 
-// The verdict on two graphs of as many nodes, where nothing else differs.
+// Returns the verdict on two graphs that can differ only in their arcs.
 fn pair_verdict<B: Bundle>(left: &Table<B>, right: &Table<B>) -> Verdict
     ensures { (xs ys : List ((ℤ × ℤ) × B.Arc))
         → Tells B.bundle left.now xs → Tells B.bundle right.now ys
@@ -122,7 +123,7 @@ fn pair_verdict<B: Bundle>(left: &Table<B>, right: &Table<B>) -> Verdict
     }
 }
 
-// The verdict on two lists.
+// Returns the verdict on two lists.
 fn list_verdict<T: Item>(left: &[T], right: &[T]) -> Verdict
     ensures { IsListVerdict left.now right.now result }
 {
@@ -138,7 +139,7 @@ fn list_verdict<T: Item>(left: &[T], right: &[T]) -> Verdict
     }
 }
 
-// The verdict on the points of two companions.
+// Returns the verdict on the points of two companions.
 fn point_verdict(left: &BTreeMap<i64, (i64, i64)>, right: &BTreeMap<i64, (i64, i64)>) -> Verdict
     ensures { IsVerdictOn (OfCo left.now.entries) (OfCo right.now.entries) result }
 {

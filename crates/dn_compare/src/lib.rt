@@ -1,8 +1,9 @@
-//! The first difference between two texts that were read: `compare` answers `Same` exactly where they are the same
-//! problem, else the first variant of `Verdict` that is true of them, at its least ID, pair, amount or place, with the
-//! values of both sides. No two verdicts are right, some verdict always is, and what a text means decides it.
+//! The first difference between two parsed instances. `compare` returns `Same` if and only if they are the same
+//! problem. Otherwise it returns the first variant of `Verdict` that is true of them, at its least ID, pair, amount or
+//! index, with the values of both sides. For any two instances exactly one verdict is right, and it depends only on
+//! what they mean.
 //!
-//! In the order of the data: `walk` goes over tables and maps in step, `parting` finds where they first differ, and
+//! In the order of the data: `walk` walks two tables or maps in step, `parting` finds where they first differ, and
 //! `difference` makes a `verdict` of it.
 #![tactic(auto)]
 

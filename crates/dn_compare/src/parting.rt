@@ -11,7 +11,8 @@ use dn_bundle::{Bundle, How};
 use dn_instance::Table;
 use std::collections::BTreeMap;
 
-// The least pair at which the arcs of two graphs differ in meaning, and how. One walk over both tables.
+// Returns the least pair at which the arcs of two graphs differ in meaning, and how they differ. Walks both tables
+// once.
 pub(crate) fn first_pair<B: Bundle>(left: &Table<B>, right: &Table<B>) -> Option<((i64, i64), How)>
     ensures { (xs ys : List ((ℤ × ℤ) × B.Arc))
         → Tells B.bundle left.now xs → Tells B.bundle right.now ys
@@ -27,7 +28,7 @@ pub(crate) fn first_pair<B: Bundle>(left: &Table<B>, right: &Table<B>) -> Option
     None
 }
 
-// The least ID at which the flows differ, and both flows.
+// Returns the least ID at which the flows differ, and both flows.
 pub(crate) fn first_supply(
     left: &BTreeMap<i64, i64>,
     right: &BTreeMap<i64, i64>,
@@ -46,7 +47,7 @@ pub(crate) fn first_supply(
     None
 }
 
-// The least ID at which the points differ, or one side has none.
+// Returns the least ID at which the points differ, or only one side has a point.
 pub(crate) fn first_point(
     left: &BTreeMap<i64, (i64, i64)>,
     right: &BTreeMap<i64, (i64, i64)>,
@@ -65,9 +66,9 @@ pub(crate) fn first_point(
     None
 }
 
-// What `==` tells apart exactly.
+// A type whose values can be compared exactly.
 pub(crate) trait Item: Copy {
-    // Whether both are the same.
+    // Whether both are equal.
     fn same(&self, other: &Self) -> bool
         ensures { IsTrue result ↔ self.now ≡ other.now };
 }
@@ -84,7 +85,7 @@ impl Item for (i64, i64) {
     }
 }
 
-// The first place, counted from 1, at which two lists of one length differ.
+// Returns the least index, counted from 1, at which two lists of the same length differ.
 pub(crate) fn first_item<T: Item>(left: &[T], right: &[T]) -> Option<u64>
     requires { length left.now ≡ length right.now }
     ensures { MatchOption result ((j : ℕ) → item_at left.now j ≡ item_at right.now j)

@@ -1,4 +1,4 @@
-// Where two instances part.
+// Where two instances first differ.
 ghost use Rattle.std.specs.Prelude.{◌≡◌};
 ghost use Rattle.dn_compare.specs.State.Turned.{turned, turned_how};
 
@@ -9,30 +9,33 @@ use dn_line::Kind;
 /// left and the right instance; they differ.
 #[derive(Clone, Copy, Debug, PartialEq, Eq)]
 pub enum Verdict {
-    /// They are the same problem.
+    /// The instances are the same problem.
     Same,
-    /// Their kinds.
+    /// The kinds differ.
     Kind { left: Kind, right: Kind },
-    /// Their numbers of nodes, 0 to 2^63-1.
+    /// The numbers of nodes differ. Range: 0 to 2^63-1.
     Nodes { left: i64, right: i64 },
-    /// The flows of a node of `min` problems, 64 bits each, 0 where it has none; `id` is the least such node, from 1.
+    /// The flows of a node of `min` problems differ. A flow has 64 bits, and is 0 for a node without one. `id` is the
+    /// least such node, from 1.
     Supply { id: i64, left: i64, right: i64 },
-    /// The IDs of the sources of `max` problems, from 1.
+    /// The sources of `max` problems differ. They are IDs, from 1.
     Source { left: i64, right: i64 },
-    /// The IDs of the sinks of `max` problems, from 1.
+    /// The sinks of `max` problems differ. They are IDs, from 1.
     Sink { left: i64, right: i64 },
-    /// What the arcs from node `src` to node `dst` mean, and how; the least such pair, by `src` and then by `dst`.
+    /// The arcs from node `src` to node `dst` differ in meaning, as `how` says. This is the least such pair, by `src`
+    /// and then by `dst`.
     Pair { src: i64, dst: i64, how: How },
-    /// The numbers of items of `ss` or `p2p` lists.
+    /// The numbers of items of `ss` or `p2p` lists differ.
     Length { left: u64, right: u64 },
-    /// The items at this place of `ss` or `p2p` lists of one length, counted from 1; the least such place.
+    /// The items at this index of `ss` or `p2p` lists of the same length differ. `index` is the least such index,
+    /// counted from 1.
     Item { index: u64 },
-    /// The points of this ID, or that one companion has none; the least such ID, from 1.
+    /// The points of this ID differ, or only one companion has one. `id` is the least such ID, from 1.
     Point { id: i64 },
 }
 
 impl Verdict {
-    /// The verdict on the same two instances in the other order.
+    /// Returns the verdict on the same two instances in the other order.
     pub fn turned(self) -> Verdict
         ensures { result ≡ turned self }
     {
@@ -74,7 +77,7 @@ impl Verdict {
     }
 }
 
-// How the arcs of a pair differ, seen from the other side.
+// Returns how the arcs of a pair differ, with both sides exchanged.
 fn turned_how(how: How) -> How
     ensures { result ≡ turned_how how }
 {

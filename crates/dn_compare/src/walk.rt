@@ -1,4 +1,4 @@
-// Walks over the bundles of a graph, and over what a map has, by rising key.
+// Walks over the bundles of a table and the entries of a map, by rising key.
 ghost use Rattle.std.specs.Prelude.{◌≡◌, ℤ, List};
 ghost use Rattle.std.specs.BTreeMap.{is_at};
 ghost use Rattle.std.specs.Option.{option_copied};
@@ -32,7 +32,7 @@ impl<'a, B: Bundle> Model for TableWalk<'a, B> {
 }
 
 impl<'a, B: Bundle> TableWalk<'a, B> {
-    // Before the first bundle.
+    // Returns a walk that begins at the first bundle.
     pub(crate) fn new(table: &'a Table<B>) -> TableWalk<'a, B>
         ensures all { result ≡ table.now }
         ensures rising { IsStrictlySortedBy pair_cmp (keys_of table.now) }
@@ -42,7 +42,7 @@ impl<'a, B: Bundle> TableWalk<'a, B> {
         TableWalk { next, rest }
     }
 
-    // The pair of the next bundle.
+    // Returns the pair of the next bundle.
     pub(crate) fn pair(&self) -> Option<(i64, i64)>
         ensures { result ≡ first_key self.now }
     {
@@ -52,7 +52,8 @@ impl<'a, B: Bundle> TableWalk<'a, B> {
         }
     }
 
-    // Goes past this pair: the bundle there, if the next one stands at it.
+    // Returns the bundle at this pair and goes past it, if it is the next bundle. Otherwise returns `None` and does not
+    // move.
     pub(crate) fn take(&mut self, pair: &(i64, i64)) -> Option<&'a B>
         ensures bundle { option_copied result ≡ value_at (same_pair pair.now) self.old }
         ensures rest { self.new ≡ after_key (same_pair pair.now) self.old }
@@ -68,7 +69,7 @@ impl<'a, B: Bundle> TableWalk<'a, B> {
     }
 }
 
-// The lesser of two pairs.
+// Returns the lesser of two pairs.
 pub(crate) fn lesser_pair(left: Option<(i64, i64)>, right: Option<(i64, i64)>) -> Option<(i64, i64)>
     ensures { result ≡ lesser_key pair_cmp left right }
 {
@@ -83,7 +84,7 @@ pub(crate) fn lesser_pair(left: Option<(i64, i64)>, right: Option<(i64, i64)>) -
     }
 }
 
-// A walk over what a map has by rising ID.
+// A walk over the entries of a map, by rising ID.
 #[derive(Drop)]
 pub(crate) struct MapWalk<'a, V: Copy> {
     next: Option<(i64, &'a V)>,
@@ -100,7 +101,7 @@ impl<'a, V: Copy> Model for MapWalk<'a, V> {
 }
 
 impl<'a, V: Copy> MapWalk<'a, V> {
-    // Before the least ID.
+    // Returns a walk that begins at the least ID.
     pub(crate) fn new(map: &'a BTreeMap<i64, V>) -> MapWalk<'a, V>
         ensures all { result ≡ map.now.entries }
         ensures rising { IsStrictlySortedBy int_cmp (keys_of map.now.entries) }
@@ -113,7 +114,7 @@ impl<'a, V: Copy> MapWalk<'a, V> {
         MapWalk { next, rest }
     }
 
-    // The next ID.
+    // Returns the ID of the next entry.
     pub(crate) fn id(&self) -> Option<i64>
         ensures { result ≡ first_key self.now }
     {
@@ -123,7 +124,8 @@ impl<'a, V: Copy> MapWalk<'a, V> {
         }
     }
 
-    // Goes past this ID: what the map has there, if the next entry stands at it.
+    // Returns the value at this ID and goes past it, if it is the next entry. Otherwise returns `None` and does not
+    // move.
     pub(crate) fn take(&mut self, id: &i64) -> Option<V>
         ensures value { result ≡ value_at (is_at (int_cmp id.now)) self.old }
         ensures rest { self.new ≡ after_key (is_at (int_cmp id.now)) self.old }
@@ -142,7 +144,7 @@ impl<'a, V: Copy> MapWalk<'a, V> {
     }
 }
 
-// The lesser of two IDs.
+// Returns the lesser of two IDs.
 pub(crate) fn lesser_id(left: Option<i64>, right: Option<i64>) -> Option<i64>
     ensures { result ≡ lesser_key int_cmp left right }
 {

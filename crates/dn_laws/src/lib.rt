@@ -1,7 +1,7 @@
-//! What the definitions say of one another, and worked examples of them: the laws and examples of numbers, lines,
-//! bundles, whole texts, rows, canonical texts, differences, reports and command lines, in the order of the data.
+//! Laws of the definitions, and worked examples of them: of numbers, lines, bundles, whole texts, rows, canonical
+//! texts, differences, reports and command lines, in the order of the data.
 //!
-//! A function here does nothing; its clauses are what is proved. The program does not stand on this crate.
+//! A function here does nothing; its clauses are what is proved. The program does not depend on this crate.
 #![tactic(auto)]
 
 pub mod bundles;

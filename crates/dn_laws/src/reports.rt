@@ -1,2 +1,2 @@
-// Lines that tell what was found.
+// The lines that commands print.
 pub mod examples;

@@ -1,3 +1,3 @@
-// Lines of words: what a command line asks for.
+// What command lines ask for.
 pub mod examples;
 pub mod laws;

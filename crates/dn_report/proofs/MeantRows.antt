@@ -1,4 +1,4 @@
--- What the rows of what is held say of the instance that it stands for.
+-- Lemmas that the lines of a parsed instance are right for the instance that it represents.
 use Rattle.std.proofs.Common.{◌≡◌, ◌↔◌, ℤ, pos, List, [], ◌∷◌, length, map, codes, Bool, true, false, cond, Option, Some, None, IfSome, inl, refl, sym, ap, ◌∙◌, subst, arith}
 use Rattle.std.proofs.lemmas.Int.{ints}
 use Rattle.std.specs.Fmt.{signed_decimal}
@@ -34,22 +34,22 @@ module _ {Arc : Type 0} (P : Arc → Type 0) (p : ℤ × ℤ) where
   some_more true a rest h all = (h, all)
   some_more false a rest h all = all
 
-  -- what holds of all arcs holds of those of a pair
+  -- what holds of all arcs holds of the arcs of each pair
   bundle_all : (arcs : List ((ℤ × ℤ) × Arc)) → AllByRecursion (λ a. P a.1) arcs → AllByRecursion P (bundle p arcs)
   bundle_all [] all = tt
   bundle_all (a ∷ rest) all = some_more (same_pair p a.0) a.1 (bundle p rest) all.0 (bundle_all rest all.1)
 
--- placed arcs are arcs of a problem
+-- the arcs of a valid graph are arcs of its kind
 are_arcs : {Arc : Type 0} (kind : ArcKind Arc) (nodes : ℤ) (arcs : List ((ℤ × ℤ) × Arc)) → AllByRecursion (IsPlaced kind nodes) arcs → AreArcs kind arcs
 are_arcs kind nodes [] all = tt
 are_arcs kind nodes (a ∷ rest) all = (all.0.is_arc, are_arcs kind nodes rest all.1)
 
--- words on what a bundle tells are words on the arcs that it stands for, where these mean anything
+-- words on the arcs that a bundle lists are right for the arcs that it represents, if these mean something
 abbrev Says : {Arc : Type 0} → ArcKind Arc → (List Arc → Row → Type 0) → (List Arc → Row) → Type 0
 Says {Arc} kind AreWords words = (told arcs : List Arc) → AreCanonArcsOf kind told arcs → AllByRecursion kind.IsArc arcs → (kind.Same arcs [] → ⊥) → AreWords arcs (words told)
 
 module _ {B Arc : Type 0} (kind : ArcKind Arc) (AreWords : List Arc → Row → Type 0) (words : List Arc → Row) (tells : B → List Arc) where
-  -- the words by pair
+  -- the words of each pair
   abbrev entries_told : Bundles B → List ((ℤ × ℤ) × Row)
   entries_told table = map (λ e. (e.0, words (tells e.1))) table
 
@@ -80,7 +80,7 @@ module _ {B Arc : Type 0} (kind : ArcKind Arc) (AreWords : List Arc → Row → 
         says (tells b) (bundle p arcs) (subst (λ o. AreCanonArcsOf kind (told_of tells o) (bundle p arcs)) e (stands.tells_them.stands p)) (bundle_all kind.IsArc p arcs are)
         (λ none. (let never : None ≡ Some b = sym ((stands.tells_them.absent p).1 none) ∙ e in cc))
 
-    -- a row for each pair whose arcs mean anything
+    -- one line for each pair whose arcs mean something
     are_rows : ArePairRows kind AreWords arcs (told_rows words tells table)
     are_rows = record {
       entries = entries_told table;
@@ -90,7 +90,7 @@ module _ {B Arc : Type 0} (kind : ArcKind Arc) (AreWords : List Arc → Row → 
       rows_are = rows_told table;
     }
 
-  -- the rows of a graph that is held
+  -- the lines of a parsed graph are right for the graph
   graph_shown : Says kind AreWords words → (name : Kind) (nodes lines : ℤ) (besides more : List Row) (table : Bundles B) (graph : Graph Arc) → nodes ≡ graph.nodes → lines ≡ pos (length graph.arcs) → besides ≡ more → TableStandsFor kind tells table graph.arcs
       → AllByRecursion (IsPlaced kind graph.nodes) graph.arcs → AreGraphRows kind AreWords name graph more (graph_rows name nodes lines besides (told_rows words tells table))
   graph_shown says name nodes lines besides more table graph e f g stands placed = record {
@@ -101,17 +101,17 @@ module _ {B Arc : Type 0} (kind : ArcKind Arc) (AreWords : List Arc → Row → 
         ∙ ap (λ l. graph_rows name graph.nodes (pos (length graph.arcs)) l (told_rows words tells table)) g;
   }
 
--- `sp`: the length that is told is the least one
+-- `sp`: the printed length is the least one
 length_says : Says lengths AreLengthWords length_words
 length_says [] arcs stands are some = absurd (some (record { there = stands.same.back; back = stands.same.there }))
 length_says (a ∷ []) arcs stands are some = (a.length, stands.same.there a.length (record { has = inl refl; least = (omega (arith, ints), tt) }), refl)
 length_says (a ∷ b ∷ rest) arcs stands are some = absurd stands.canonical
 
--- `max`
+-- `max`: the printed total is the sum of the CAPs of the represented arcs
 total_says : Says capacities (λ arcs row. row ≡ total_words arcs) total_words
 total_says told arcs stands are some = ap (λ z. codes "total" ∷ signed_decimal z ∷ []) stands.same.is
 
--- `min`
+-- `min`: the printed numbers are those of the represented arcs
 cost_says : Says costs (λ arcs row. row ≡ cost_words arcs) cost_words
 cost_says told arcs stands are some =
     let same = same_canon told arcs (cost_kind.canon_arcs One told stands.canonical) are stands.same in
@@ -135,7 +135,7 @@ sp_shown nodes lines table (ShortestPaths graph) e f shows valid =
     (_, graph_shown lengths AreLengthWords length_words least_arcs length_says Kinds.Sp nodes lines [] [] table graph e f refl shows valid.placed, refl)
 sp_shown nodes lines table _ e f shows valid = absurd shows
 
--- the rows of what is held are those of the instance
+-- the lines of parsed contents are right for the instance
 contents_shown : (nodes lines : ℤ) (x : Contents) (I : Instance) → nodes ≡ nodes_of I → lines ≡ pos (size_of I) → Shows x I → IsValid I → IsShown I (text_of (contents_rows nodes lines x))
 contents_shown nodes lines (OfMin flows table) I e f shows valid = min_shown nodes lines flows table I e f shows valid
 contents_shown nodes lines (OfMax source sink table) I e f shows valid = max_shown nodes lines source sink table I e f shows valid
@@ -145,6 +145,6 @@ contents_shown nodes lines (OfP2p pairs) (Queries items) e f shows valid = (_, a
 contents_shown nodes lines (OfCo points) (Coordinates items) e f shows valid = (_, ap (λ n. contents_rows nodes n (OfCo points)) f, refl)
 contents_shown nodes lines _ _ e f shows valid = absurd shows
 
--- the text of what is held is shown of each valid instance that it stands for
+-- the text of a parsed instance is shown of each valid instance that it represents
 pub held_shown : (h : Holding) (I : Instance) → IsValid I → IsHeld h I → IsShown I (text_of (held_rows h))
 held_shown h I valid held = contents_shown h.nodes h.lines h.contents I held.nodes_are held.lines_are held.shows valid

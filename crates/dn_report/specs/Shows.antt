@@ -1,4 +1,4 @@
--- What `show` tells of an instance (this project's profile).
+-- What `show` prints for an instance (this project's profile).
 use Rattle.std.specs.Prelude.{◌≡◌, ◌↔◌, ℕ, ℤ, pos, List, [], ◌∷◌, ◌++◌, length, map, codes, None, IfSome}
 use Rattle.std.specs.Fmt.{signed_decimal}
 use Rattle.std.specs.List.Sorted.{IsStrictlySortedBy}
@@ -18,7 +18,7 @@ use Rattle.dn_arc.specs.Pairs.{bundle, pair_cmp, same_pair}
 use Rattle.dn_instance.specs.Instances.{Graph, Instance, MinCostFlow, MaxFlow, ShortestPaths, Sources, Queries, Coordinates}
 use Rattle.dn_sink.specs.Rows.{Row, text_of}
 
--- `kind K`
+-- `kind K`, where K is the kind
 abbrev pub kind_row : Kind → Row
 kind_row kind = codes "kind" ∷ kind_name kind ∷ []
 
@@ -26,30 +26,31 @@ kind_row kind = codes "kind" ∷ kind_name kind ∷ []
 abbrev pub number_row : List ℕ → ℤ → Row
 number_row name n = name ∷ signed_decimal n ∷ []
 
--- `pair SRC DST`, and words on its arcs
+-- `pair SRC DST`, followed by words on its arcs
 abbrev pub pair_row : ℤ × ℤ → Row → Row
 pair_row p words = codes "pair" ∷ signed_decimal p.0 ∷ signed_decimal p.1 ∷ words
 
--- `sp`: `length W`, the least length
+-- the words on the arcs of an `sp` pair: `length W`, where W is their least length
 abbrev pub AreLengthWords : List LengthArc → Row → Type 0
 AreLengthWords arcs words =
     (w : ℤ) × LeastLength arcs w × (words ≡ codes "length" ∷ signed_decimal w ∷ [])
 
--- `max`: `total C`, the sum of the CAPs
+-- the words on the arcs of a `max` pair: `total C`, where C is the sum of their CAPs
 abbrev pub total_words : List CapArc → Row
 total_words arcs = codes "total" ∷ signed_decimal (total_cap arcs) ∷ []
 
--- `forced L cost F steps N`
+-- `forced L cost F steps N`, for L forced units of total cost F, and N costs with free capacity
 abbrev pub forced_words : ℤ → ℤ → ℕ → Row
 forced_words units cost steps =
     codes "forced" ∷ signed_decimal units ∷ codes "cost" ∷ signed_decimal cost
     ∷ codes "steps" ∷ signed_decimal (pos steps) ∷ []
 
--- `min`: the sum of the LOWs, that of LOW times COST, and at how many COSTs there is free capacity
+-- the words on the arcs of a `min` pair: L is the sum of their LOWs, F that of LOW times COST, and N the number of
+-- COSTs with free capacity
 abbrev pub cost_words : List CostArc → Row
 cost_words arcs = forced_words (forced_units arcs) (forced_cost arcs) (length (free_costs arcs))
 
--- a row for each ordered pair whose arcs do not mean what no arcs mean, by rising pair, with words on these arcs
+-- one line for each ordered pair whose arcs mean something, by ascending pair, with words on these arcs
 pub record ArePairRows {Arc : Type 0} (kind : ArcKind Arc) (AreWords : List Arc → Row → Type 0)
     (arcs : List ((ℤ × ℤ) × Arc)) (rows : List Row) : Type 0 where
   pub entries : List ((ℤ × ℤ) × Row)
@@ -58,32 +59,32 @@ pub record ArePairRows {Arc : Type 0} (kind : ArcKind Arc) (AreWords : List Arc 
   pub words : (p : ℤ × ℤ) → IfSome (lookup (same_pair p) entries) (AreWords (bundle p arcs))
   pub rows_are : rows ≡ map (λ e. pair_row e.0 e.1) entries
 
--- the rows of a graph: kind, nodes, lines, what its kind has besides, the number of pairs, and the pairs
+-- the lines of a graph: kind, nodes, lines, what else its kind has, the number of pairs, and the pairs
 abbrev pub graph_rows : Kind → ℤ → ℤ → List Row → List Row → List Row
 graph_rows kind nodes lines besides pairs =
     kind_row kind ∷ number_row (codes "nodes") nodes ∷ number_row (codes "lines") lines
     ∷ (besides ++ number_row (codes "pairs") (pos (length pairs)) ∷ pairs)
 
--- the rows of a companion: kind and lines
+-- the lines of a companion: kind and lines
 abbrev pub companion_rows : Kind → ℤ → List Row
 companion_rows kind lines = kind_row kind ∷ number_row (codes "lines") lines ∷ []
 
--- the number of supplies of a `min` problem
+-- the line of the number of supplies of a `min` problem
 abbrev pub supply_rows : List (ℤ × ℤ) → List Row
 supply_rows supplies = number_row (codes "supplies") (pos (length supplies)) ∷ []
 
--- the terminals of a `max` problem
+-- the lines of the source and the sink of a `max` problem
 abbrev pub terminal_rows : ℤ → ℤ → List Row
 terminal_rows source sink = number_row (codes "source") source ∷ number_row (codes "sink") sink ∷ []
 
--- rows of this graph; `lines` is the number of its arcs
+-- the lines of this graph; `lines` is the number of its arcs
 pub record AreGraphRows {Arc : Type 0} (kind : ArcKind Arc) (AreWords : List Arc → Row → Type 0) (name : Kind)
     (graph : Graph Arc) (besides rows : List Row) : Type 0 where
   pub pairs : List Row
   pub are_pairs : ArePairRows kind AreWords graph.arcs pairs
   pub rows_are : rows ≡ graph_rows name graph.nodes (pos (length graph.arcs)) besides pairs
 
--- the rows that `show` tells of an instance
+-- these are the lines that `show` prints for an instance
 abbrev pub AreShown : Instance → List Row → Type 0
 AreShown (MinCostFlow supplies graph) rows =
     AreGraphRows costs (λ arcs words. words ≡ cost_words arcs) Kinds.Min graph (supply_rows supplies) rows
@@ -94,6 +95,6 @@ AreShown (Sources ids) rows = rows ≡ companion_rows Kinds.Ss (pos (length ids)
 AreShown (Queries pairs) rows = rows ≡ companion_rows Kinds.P2p (pos (length pairs))
 AreShown (Coordinates points) rows = rows ≡ companion_rows Kinds.Co (pos (length points))
 
--- t is the text that `show` tells of an instance
+-- t is the text that `show` prints for an instance
 abbrev pub IsShown : Instance → List ℕ → Type 0
 IsShown I t = (rows : List Row) × AreShown I rows × (t ≡ text_of rows)

@@ -1,4 +1,4 @@
-// What `check` tells of texts that were accepted.
+// The lines that `check` prints for accepted texts.
 ghost use Rattle.std.specs.Prelude.{◌≡◌, ◌∷◌, codes, IsTrue, OnOk};
 ghost use Rattle.dn_sink.specs.Rows.{line_text, text_of};
 ghost use Rattle.dn_sink.specs.Puts.{Puts};
@@ -8,21 +8,21 @@ use crate::lines::{put_lines, word_line};
 use dn_line::Kind;
 use dn_sink::{LineBuffer, Sink, SinkFault, put_and_flush};
 
-/// In which forms a text is the canonical text of what it reads as.
+/// The forms in which a text is the canonical text of what it reads as.
 #[derive(Clone, Copy, Debug, PartialEq, Eq)]
 pub struct Forms {
-    /// In form 1.
+    /// Whether it is in form 1.
     pub one: bool,
-    /// In form 2.
+    /// Whether it is in form 2.
     pub two: bool,
 }
 
-/// Puts the kind of a text that was accepted, the kind of its companion, if there is one, which fits, and the forms in
-/// which the text is canonical. A line a put, and then it flushes. It takes no memory of its own.
+/// Puts the lines of `check`: the kind of an accepted text, the kind of its companion if there is one, which must fit,
+/// and the forms in which the text is canonical. Puts one line at a time, and then flushes the sink. Allocates nothing.
 ///
 /// # Errors
 ///
-/// The sink failed; it took a prefix of the text.
+/// The sink failed. It has taken a prefix of the text.
 pub fn put_checked<K: Sink>(
     sink: &mut K,
     kind: Kind,
@@ -36,7 +36,7 @@ pub fn put_checked<K: Sink>(
     put_and_flush(sink, b"")
 }
 
-// Puts them.
+// Puts the lines of `put_checked`.
 fn put_findings<K: Sink>(
     sink: &mut K,
     kind: Kind,
@@ -56,7 +56,7 @@ fn put_findings<K: Sink>(
     }
 }
 
-// The forms in which a text is canonical.
+// Returns the line of the forms in which a text is canonical.
 fn forms_line(forms: Forms) -> LineBuffer
     ensures { result ≡ line_text (codes "forms" ∷ form_words forms.one forms.two) }
 {

@@ -1,4 +1,4 @@
-// The line that tells why a run was refused.
+// The line that says why a run was refused.
 ghost use Rattle.std.specs.Prelude.{◌++◌, codes, map};
 ghost use Rattle.std.specs.List.{concat};
 ghost use Rattle.dn_sink.specs.Puts.{Puts};
@@ -8,11 +8,11 @@ use dn_instance::{CompanionFault, Place, Refusal};
 use dn_sink::{Sink, SinkFault, put_all};
 use itoa::Buffer;
 
-/// Puts the line that tells of a refusal of the text of this name: where it stands, its number, and its name.
+/// Puts the line of a refusal of the text of this name: the place of the fault, its number and its name.
 ///
 /// # Errors
 ///
-/// The sink failed; it may have taken a prefix of the line.
+/// The sink failed. It has taken a prefix of the line.
 pub fn put_fault_line<K: Sink>(sink: &mut K, name: &str, refusal: &Refusal) -> Result<(), SinkFault>
     ensures { Puts K.sink sink.old sink.new (fault_line name.now refusal.now) result }
 {
@@ -35,12 +35,12 @@ pub fn put_fault_line<K: Sink>(sink: &mut K, name: &str, refusal: &Refusal) -> R
     }
 }
 
-/// Puts the line that tells why the companion of this name does not fit its graph: the fault's number, its name, and
-/// the node that is not the graph's.
+/// Puts the line that says why the companion of this name does not fit its graph: the number and the name of the fault,
+/// and the node that is not in the graph.
 ///
 /// # Errors
 ///
-/// The sink failed; it may have taken a prefix of the line.
+/// The sink failed. It has taken a prefix of the line.
 pub fn put_unfit_line<K: Sink>(
     sink: &mut K,
     name: &str,
@@ -61,7 +61,7 @@ pub fn put_unfit_line<K: Sink>(
     }
 }
 
-// Puts a name, after a colon a number and a reason, and then a node and an LF.
+// Puts the name of a text, a colon, the number and the name of a fault, a node, and an LF.
 fn put_node_fault<K: Sink>(
     sink: &mut K,
     name: &[u8],
@@ -75,7 +75,7 @@ fn put_node_fault<K: Sink>(
     put_pieces(sink, &[name, b": ", number, b" ", reason, b" ", id, b"\n"])
 }
 
-// Puts a name, after a colon a number and a reason, and an LF.
+// Puts the name of a text, a colon, the number and the name of a fault, and an LF.
 fn put_kind_fault<K: Sink>(
     sink: &mut K,
     name: &[u8],
@@ -88,7 +88,7 @@ fn put_kind_fault<K: Sink>(
     put_pieces(sink, &[name, b": ", number, b" ", reason, b"\n"])
 }
 
-// Puts where a refusal stands, in three parts, and after a colon its number and its name, and an LF.
+// Puts the place of a refusal, given in three parts, a colon, the number and the name of the refusal, and an LF.
 fn put_line<K: Sink>(
     sink: &mut K,
     name: &[u8],
@@ -104,7 +104,7 @@ fn put_line<K: Sink>(
     put_refusal(sink, name, place, line, number, refusal.name().as_bytes())
 }
 
-// Puts three parts, after a colon a number and a reason, and an LF.
+// Puts three parts, a colon, the number and the name of a refusal, and an LF.
 fn put_refusal<K: Sink>(
     sink: &mut K,
     name: &[u8],

@@ -1,9 +1,10 @@
-//! The lines that the commands `show`, `check` and `compare` put: what a text that was read holds and means, what was
-//! found of texts that were accepted, and where two texts first differ. A line is put at once, no memory is taken, and
-//! the sink is flushed after the last line. And the line that tells why a text is refused, or a companion does not fit.
+//! The lines that the commands `show`, `check` and `compare` print: what a parsed instance contains and means, what was
+//! found of accepted texts, and where two texts first differ. Each line is put at once, nothing is allocated, and the
+//! sink is flushed after the last line. The crate also has the lines that say why a text is refused, or why a companion
+//! does not fit.
 //!
-//! `show`, `check` and `verdict` have a command's lines each, over `lines`, which makes and puts single ones, and
-//! `pair_line`, which makes that of an ordered pair. `fault_line` has the lines of refusals.
+//! `show`, `check` and `verdict` have the lines of one command each. They use `lines`, which makes and puts single
+//! lines, and `pair_line`, which makes the line of an ordered pair. `fault_line` has the lines of refusals.
 #![tactic(auto)]
 
 pub mod check;

@@ -1,4 +1,4 @@
-// Lines of two words, and how lines are put.
+// Lines of two words, and putting lines.
 ghost use Rattle.std.specs.Prelude.{◌≡◌, ◌≤◌, pos, [], ◌∷◌, length};
 ghost use Rattle.std.specs.List.{concat};
 ghost use Rattle.dn_sink.specs.Rows.{line_text};
@@ -17,7 +17,7 @@ pub(crate) fn put_lines<K: Sink>(sink: &mut K, lines: &[LineBuffer]) -> Result<(
     Ok(())
 }
 
-// Two words.
+// Returns the line of two words.
 pub(crate) fn word_line(word: &[u8], value: &[u8]) -> LineBuffer
     requires word { length word.now ≤ 8 }
     requires value { length value.now ≤ 8 }
@@ -29,7 +29,7 @@ pub(crate) fn word_line(word: &[u8], value: &[u8]) -> LineBuffer
     line
 }
 
-// A word and a number.
+// Returns the line of a word and a number.
 pub(crate) fn number_line(word: &[u8], number: &i64) -> LineBuffer
     requires { length word.now ≤ 8 }
     ensures { result ≡ line_text (number_row word.now number.now) }
@@ -40,7 +40,7 @@ pub(crate) fn number_line(word: &[u8], number: &i64) -> LineBuffer
     line
 }
 
-// A word and a count.
+// Returns the line of a word and a count.
 pub(crate) fn count_line(word: &[u8], count: u64) -> LineBuffer
     requires { length word.now ≤ 8 }
     ensures { result ≡ line_text (number_row word.now (pos count)) }

@@ -1,4 +1,4 @@
-// The line of an ordered pair, by what the bundle of its arcs tells.
+// The line of an ordered pair, made from the arcs that its bundle lists.
 ghost use Rattle.std.specs.Prelude.{◌≡◌, ◌≤◌, ◌++◌, ◌∷◌, List, codes, length};
 ghost use Rattle.std.specs.Fmt.{signed_decimal};
 ghost use Rattle.dn_arc.specs.State.Bundles.{meant};
@@ -9,12 +9,12 @@ ghost use Rattle.dn_report.specs.State.ToldRows.{length_words};
 use dn_bundle::{Bundle, Curve, Least, Total};
 use dn_sink::LineBuffer;
 
-// A bundle that is told in one line.
+// A bundle that `show` prints on one line.
 pub(crate) trait PairLine: Bundle {
-    // What the line says of the arcs that the bundle tells.
+    // The words of the line after the pair, given the arcs that the bundle lists.
     ghost words: { List Self.Arc → Row };
 
-    // Makes the line of the bundle of a pair, in place of what the line was.
+    // Replaces `line` by the line of this bundle and its pair.
     fn make_line(&self, line: &mut LineBuffer, pair: &(i64, i64))
         ensures { line.new ≡ line_text (pair_row pair.now (words (meant Self.bundle self.now))) };
 }
@@ -52,7 +52,7 @@ impl PairLine for Curve {
     }
 }
 
-// The line of a pair of a `min` problem.
+// Makes the line of a pair of a `min` problem.
 fn forced_line(line: &mut LineBuffer, pair: &(i64, i64), units: &i64, cost: &i128, steps: u64)
     ensures { line.new ≡ line_text (pair_row pair.now (forced_words units.now cost.now steps)) }
 {
@@ -66,7 +66,7 @@ fn forced_line(line: &mut LineBuffer, pair: &(i64, i64), units: &i64, cost: &i12
     line.newline();
 }
 
-// Begins the line of a pair.
+// Clears the line, and begins it with the word `pair` and the pair.
 fn begin_line(line: &mut LineBuffer, pair: &(i64, i64))
     ensures text { line.new
         ≡ (codes "pair" ++ 32 ∷ signed_decimal pair.now.0) ++ 32 ∷ signed_decimal pair.now.1 }

@@ -1,4 +1,4 @@
-// What `show` tells of a text that was read.
+// The lines that `show` prints for a parsed instance.
 ghost use Rattle.std.specs.Prelude.{◌++◌, ℕ, List, IsTrue, OnOk};
 ghost use Rattle.std.specs.List.{concat};
 ghost use Rattle.dn_arc.specs.declared.arc.Form.{Form};
@@ -15,14 +15,14 @@ use crate::pair_line::PairLine;
 use dn_instance::{Held, Table, View};
 use dn_sink::{LineBuffer, Sink, SinkFault, put_and_flush};
 
-/// Puts what is held of a text: its kind, its number of nodes and of counted lines, what its kind has besides, and for
-/// a graph the ordered pairs whose arcs mean anything, by rising pair, each with its least length, total capacity, or
-/// forced units, their cost and the number of costs with free capacity. A line a put, and then it flushes. It takes no
-/// memory of its own.
+/// Puts the lines of `show`: the kind, the number of nodes and of counted lines, what else the kind has, and, for a
+/// graph, the ordered pairs whose arcs mean something, by rising pair. Each pair has its least length, its total
+/// capacity, or its forced units, their cost and the number of costs with free capacity. Puts one line at a time, and
+/// then flushes the sink. Allocates nothing.
 ///
 /// # Errors
 ///
-/// The sink failed; it took a prefix of the text.
+/// The sink failed. It has taken a prefix of the text.
 pub fn put_shown<K: Sink>(sink: &mut K, held: &Held) -> Result<(), SinkFault>
     ensures text { (t : List ℕ) × Puts K.sink sink.old sink.new t result
         × ((I : Instance) → IsValid I → IsHeld (holding held.now) I → IsShown I t) }
@@ -32,7 +32,7 @@ pub fn put_shown<K: Sink>(sink: &mut K, held: &Held) -> Result<(), SinkFault>
     put_and_flush(sink, b"")
 }
 
-// Puts the rows of what is held.
+// Puts the lines of a parsed instance.
 fn put_held<K: Sink>(sink: &mut K, held: &Held) -> Result<(), SinkFault>
     ensures { Puts K.sink sink.old sink.new (text_of (held_rows (holding held.now))) result }
 {
@@ -58,7 +58,7 @@ fn put_held<K: Sink>(sink: &mut K, held: &Held) -> Result<(), SinkFault>
     }
 }
 
-// Puts the lines at the head of a graph, the number of its pairs, and the pairs.
+// Puts the first lines of a graph, the number of its pairs, and the line of each pair.
 fn put_graph<B: PairLine, K: Sink>(
     sink: &mut K,
     head: &[LineBuffer],

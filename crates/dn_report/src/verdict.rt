@@ -1,4 +1,4 @@
-// What `compare` tells of a verdict.
+// The line that `compare` prints for a verdict.
 ghost use Rattle.std.specs.Prelude.{◌≡◌, ◌≤◌, ◌+◌, ◌++◌, ◌∷◌, [], codes, length, IsTrue, OnOk};
 ghost use Rattle.std.specs.Fmt.{signed_decimal};
 ghost use Rattle.dn_sink.specs.Rows.{line_text};
@@ -10,12 +10,12 @@ use dn_compare::Verdict;
 use dn_line::Kind;
 use dn_sink::{LineBuffer, Sink, SinkFault, put_and_flush};
 
-/// Puts the line of a verdict, at once, and then flushes: `same`, or `differ`, what differs, where, and the values of
-/// the left and the right side. It takes no memory of its own.
+/// Puts the line of a verdict, and then flushes the sink. The line is `same`, or `differ`, what differs, where, and the
+/// values of the left and the right side. Allocates nothing.
 ///
 /// # Errors
 ///
-/// The sink failed; it took a prefix of the line.
+/// The sink failed. It has taken a prefix of the line.
 pub fn put_verdict<K: Sink>(sink: &mut K, verdict: &Verdict) -> Result<(), SinkFault>
     ensures text { Puts K.sink sink.old sink.new (line_text (verdict_row verdict.now)) result }
     ensures flushed { OnOk result (IsTrue (K.sink.is_flushed sink.new)) }
@@ -63,7 +63,7 @@ fn kinds_line(left: Kind, right: Kind) -> LineBuffer
     line
 }
 
-// What differs, and the numbers of both sides.
+// Returns a line of what differs, and the numbers of both sides.
 fn sides_line(what: &[u8], left: &i64, right: &i64) -> LineBuffer
     requires { length what.now ≤ 16 }
     ensures { result ≡ line_text (what.now ∷ signed_decimal left.now ∷ signed_decimal right.now ∷ []) }
@@ -149,7 +149,7 @@ fn gap_line(src: &i64, dst: &i64, gap: &Gap) -> LineBuffer
     line
 }
 
-// That a pair differs, at the front of its line.
+// Returns the beginning of the line of a pair that differs.
 fn pair_start(src: &i64, dst: &i64) -> LineBuffer
     ensures text { result
         ≡ (codes "differ pair" ++ 32 ∷ signed_decimal src.now) ++ 32 ∷ signed_decimal dst.now }
@@ -161,7 +161,7 @@ fn pair_start(src: &i64, dst: &i64) -> LineBuffer
     line
 }
 
-// Adds a space, and a number or `none`.
+// Appends a space, and a number or `none`.
 fn add_number(line: &mut LineBuffer, number: &Option<i64>)
     requires { length line.old ≤ 160 }
     ensures text { line.new ≡ line.old ++ 32 ∷ number_or_none number.now }
@@ -173,7 +173,7 @@ fn add_number(line: &mut LineBuffer, number: &Option<i64>)
     }
 }
 
-// The same of a cost.
+// Appends a space, and a cost or `none`.
 fn add_cost(line: &mut LineBuffer, cost: &Option<i128>)
     requires { length line.old ≤ 150 }
     ensures text { line.new ≡ line.old ++ 32 ∷ number_or_none cost.now }

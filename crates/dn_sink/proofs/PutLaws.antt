@@ -1,4 +1,4 @@
--- How a text goes into a sink piece by piece.
+-- Lemmas on putting a text into a sink piece by piece.
 use Rattle.std.proofs.Common.{◌≡◌, ℕ, ◌+◌, ◌-◌, ◌<◌, List, [], ◌++◌, length, take, drop, Result, Ok, Err, IsErr, ap, sym, ◌∙◌, refl, subst, arith, append_assoc, append-nil, take-append-drop}
 use Rattle.std.proofs.lemmas.List.{take_all, length-drop, drop-drop}
 use Rattle.std.proofs.lemmas.Result.{MatchResult-from_err}
@@ -8,11 +8,11 @@ use Rattle.dn_sink.specs.Sinks.{SinkWords}
 use Rattle.dn_sink.specs.Puts.{HasPut, PutsPrefix, Puts}
 use Rattle.dn_sink.specs.State.Turns.{Took}
 
--- nothing is put so far
+-- before the first put, the whole text is left
 pub put_from : {K : Type 0} {k : SinkWords K} {a : K} {left all : List ℕ} → left ≡ all → HasPut k a a left all
 put_from {K} {k} {a} {left} {all} e = record { put = []; bytes = Appends-nil (k.taken a); whole = e; fine = refl }
 
--- the next n bytes of a piece are put, which are some
+-- after a put of n bytes, n at least 1, the rest begins n bytes later
 pub put_part : {K : Type 0} (k : SinkWords K) (a b c : K) (piece : List ℕ) (at n : ℕ) → HasPut k a b (drop at piece) piece
     → Took k b c (take (length piece - at) (drop at piece)) n → 0 < n → HasPut k a c (drop (at + n) piece) piece
 put_part k a b c piece at n h t some =
@@ -27,7 +27,7 @@ put_part k a b c piece at n h t some =
     }
 
 module _ {K : Type 0} {k : SinkWords K} {a b c : K} where
-  -- the next piece is put
+  -- after the next piece is put, the rest of the text is left
   pub put_more : {x rest all : List ℕ} → HasPut k a b (x ++ rest) all → HasPut k b c [] x → HasPut k a c rest all
   put_more {x} {rest} {all} h p = record {
     put = h.put ++ p.put;
@@ -36,7 +36,7 @@ module _ {K : Type 0} {k : SinkWords K} {a b c : K} where
     fine = p.fine ∙ h.fine;
   }
 
-  -- a prefix of the next piece is put
+  -- if a prefix of the next piece is put, a prefix of the text is
   pub put_stop : (x rest : List ℕ) {all : List ℕ} → HasPut k a b (x ++ rest) all → PutsPrefix k b c x → PutsPrefix k a c all
   put_stop x rest {all} h f = record {
     put = h.put ++ f.put;
@@ -48,11 +48,11 @@ module _ {K : Type 0} {k : SinkWords K} {a b c : K} where
     failed = f.failed;
   }
 
--- what is left is put
+-- putting the rest ends a put of the whole text
 pub put_last : {K : Type 0} (k : SinkWords K) (a b c : K) (x all : List ℕ) (r : Result (Unit {0}) SinkFault) → HasPut k a b x all → Puts k b c x r → Puts k a c all r
 put_last k a b c x all (Ok u) h p = put_more (subst (λ l. HasPut k a b l all) (sym (append-nil x)) h) p
 put_last k a b c x all (Err e) h p = put_stop x [] (subst (λ l. HasPut k a b l all) (sym (append-nil x)) h) p
 
--- a refused call hands on its fault
+-- a fault of a call is the fault of the whole put
 pub stopped : {K : Type 0} {k : SinkWords K} {a b : K} {all : List ℕ} (r : Result (Unit {0}) SinkFault) → IsErr r → PutsPrefix k a b all → Puts k a b all r
 stopped r is f = MatchResult-from_err r _ _ is (λ e. f)

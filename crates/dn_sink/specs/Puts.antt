@@ -1,4 +1,4 @@
--- How far a text has gone into a sink (this project's profile).
+-- How much of a text a sink has taken (this project's profile).
 use Rattle.std.specs.Prelude.{◌≡◌, List, ℕ, [], ◌++◌, IsTrue, MatchResult}
 use Rattle.std.specs.Io.KnownBytes.{Appends}
 use Rattle.std.specs.declared.result.Result.{Result}
@@ -6,7 +6,7 @@ use Rattle.dn_sink.specs.Sinks.{SinkWords}
 use Rattle.dn_sink.specs.declared.sink.SinkFault.{SinkFault}
 
 module _ {S : Type 0} (sink : SinkWords S) (old new : S) where
-  -- the sink took all of the text but what is left, and whether it has failed is as it was
+  -- the sink took all of the text but the rest `left`, and this did not change whether it has failed
   pub record HasPut (left all : List ℕ) : Type 0 where
     pub put : List ℕ
     pub bytes : Appends (sink.taken old) (sink.taken new) put
@@ -21,6 +21,6 @@ module _ {S : Type 0} (sink : SinkWords S) (old new : S) where
     pub whole : put ++ left ≡ all
     pub failed : IsTrue (sink.has_failed new)
 
-  -- the sink took the whole text, or a prefix of it and has failed
+  -- on `Ok` the sink took the whole text; on a fault it took a prefix of the text, and has failed
   abbrev pub Puts : List ℕ → Result (Unit {0}) SinkFault → Type 0
   Puts all result = MatchResult result (λ _. HasPut [] all) (λ _. PutsPrefix all)

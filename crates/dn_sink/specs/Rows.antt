@@ -1,4 +1,5 @@
--- Texts by the words of their lines: single spaces between words, and an LF after every line (this project's profile).
+-- Texts as lists of lines, and lines as lists of words: single spaces between words, and an LF after every line (this
+-- project's profile).
 use Rattle.std.specs.Prelude.{ℕ, List, [], ◌∷◌, ◌++◌, map}
 use Rattle.std.specs.List.{join_with_byte, concat}
 
@@ -6,10 +7,10 @@ use Rattle.std.specs.List.{join_with_byte, concat}
 abbrev pub Row : Type 0
 Row = List (List ℕ)
 
--- words with single spaces between them, and an LF
+-- the words of a line with single spaces between them, and an LF
 abbrev pub line_text : Row → List ℕ
 line_text words = join_with_byte 32 words ++ 10 ∷ []
 
--- the text of rows
+-- the text of a list of lines
 abbrev pub text_of : List Row → List ℕ
 text_of rows = concat (map line_text rows)

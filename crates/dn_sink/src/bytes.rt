@@ -6,7 +6,7 @@ use crate::sink::{Sink, SinkFault};
 use std::alloc::Global;
 use std::marker::Model;
 
-/// Keeps the bytes in memory. Fails where it is refused the memory for them.
+/// Keeps the bytes in memory. Fails when an allocation for them fails.
 #[derive(Drop)]
 pub struct Bytes {
     all: Vec<u8>,
@@ -23,7 +23,7 @@ impl Model for Bytes {
 }
 
 impl Bytes {
-    /// No bytes yet.
+    /// Returns a sink without bytes.
     pub fn new(alloc: Global) -> Bytes
         ensures bytes { result.bytes ≡ [] }
         ensures fine { result.failed ≡ false }
@@ -34,14 +34,14 @@ impl Bytes {
         }
     }
 
-    /// The bytes taken.
+    /// Returns the bytes taken.
     pub fn taken(&self) -> &[u8]
         ensures { result.now ≡ self.now.bytes }
     {
         &self.all
     }
 
-    /// The vector of the bytes taken.
+    /// Returns the vector of the bytes taken.
     pub fn into_all(self) -> Vec<u8>
         ensures { result.items ≡ self.bytes }
     {
@@ -51,10 +51,10 @@ impl Bytes {
 }
 
 impl Sink for Bytes {
-    // The bytes taken are where they go.
+    // Nothing is buffered, so the sink is always flushed.
     ghost sink = { record { taken = λ s. Some s.bytes; has_failed = λ s. s.failed; is_flushed = λ _. true } };
 
-    // Takes the whole piece, or has failed; once it has, it takes nothing.
+    // Takes the whole piece or fails. A failed sink takes nothing.
     fn put(&mut self, piece: &[u8]) -> Result<usize, SinkFault>
         ensures turn { Turn ⟦<Bytes as Sink>⟧.sink self.old self.new piece.now result }
         ensures whole { IfOk result (λ n. (n ≡ length piece.now) × (self.new.failed ≡ false)) }
@@ -74,7 +74,7 @@ impl Sink for Bytes {
         }
     }
 
-    // Changes nothing, and answers a fault exactly where it has failed.
+    // Changes nothing. Returns a fault if and only if the sink has failed.
     fn flush(&mut self) -> Result<(), SinkFault>
         ensures flush { Flush ⟦<Bytes as Sink>⟧.sink self.old self.new result }
         ensures again { IsErr result ↔ IsTrue self.old.failed }

@@ -1,8 +1,8 @@
-//! Where the bytes of a text go. A `sink` takes bytes from the front of a piece, and tells what it has taken, whether
-//! it has failed, and whether it has handed on all that it took; `put_all` puts a whole piece.
+//! Where the bytes of a text go. A `Sink` takes bytes from the beginning of a piece. Its ghost member says which bytes
+//! it has taken, whether it has failed, and whether it has passed on all that it took. `put_all` puts a whole piece.
 //!
-//! `bytes` keeps them in memory, `room` fills a slice, `matcher` compares them with a text, and `to_write` hands them
-//! to a writer. `line_buffer` builds a line of words on the stack, and puts it into a sink at once.
+//! `bytes` keeps the bytes in memory, `room` fills a slice, `matcher` compares the bytes with a text, and `to_write`
+//! passes them to a writer. `line_buffer` builds a line on the stack and puts it into a sink as one piece.
 #![tactic(auto)]
 
 pub mod bytes;

@@ -1,4 +1,4 @@
-// One line of words, built on the stack.
+// A line of words, built on the stack.
 ghost use Rattle.std.specs.Prelude.{◌≡◌, ◌+◌, ◌<◌, ◌≤◌, pos, ◌∷◌, [], ◌++◌, length};
 ghost use Rattle.std.specs.Fmt.{decimal, signed_decimal};
 ghost use Rattle.dn_sink.specs.Puts.{Puts};
@@ -7,10 +7,10 @@ use crate::sink::{Sink, SinkFault, put_all};
 use itoa::Buffer;
 use std::marker::Model;
 
-// How many bytes a line may have: two numbers of 128 bits, three of 64 bits, and 46 bytes of words.
+// The greatest length of a line in bytes: two numbers of 128 bits, three of 64 bits, and 46 bytes of words.
 const ROOM: usize = 192;
 
-/// The bytes of a line so far. There is room for 192.
+/// The bytes of a line so far, at most 192.
 #[derive(Drop)]
 pub struct LineBuffer {
     bytes: [u8; ROOM],
@@ -28,7 +28,7 @@ impl Model for LineBuffer {
 }
 
 impl LineBuffer {
-    /// A line that begins with this word.
+    /// Returns a line that begins with this word.
     pub fn new(word: &[u8]) -> LineBuffer
         requires { length word.now ≤ 192 }
         ensures { result ≡ word.now }
@@ -41,7 +41,7 @@ impl LineBuffer {
         line
     }
 
-    /// Begins another line with this word, in place of what the line was.
+    /// Clears the line, and begins another with this word.
     pub fn begin(&mut self, word: &[u8])
         requires { length word.now ≤ 192 }
         ensures { self.new ≡ word.now }
@@ -50,7 +50,7 @@ impl LineBuffer {
         self.push(word);
     }
 
-    /// Adds a space and a word.
+    /// Appends a space and a word.
     pub fn word(&mut self, word: &[u8])
         requires { length self.old + length word.now < 192 }
         ensures { self.new ≡ self.old ++ 32 ∷ word.now }
@@ -59,7 +59,7 @@ impl LineBuffer {
         self.push(word);
     }
 
-    /// Adds a space and a number, 2 to 21 bytes.
+    /// Appends a space and a number: 2 to 21 bytes.
     pub fn number(&mut self, number: &i64)
         requires { length self.old + 21 ≤ 192 }
         ensures text { self.new ≡ self.old ++ 32 ∷ signed_decimal number.now }
@@ -69,7 +69,7 @@ impl LineBuffer {
         self.word(digits.format(*number).as_bytes());
     }
 
-    /// Adds a space and a count, 2 to 21 bytes.
+    /// Appends a space and a count: 2 to 21 bytes.
     pub fn count(&mut self, count: u64)
         requires { length self.old + 21 ≤ 192 }
         ensures text { self.new ≡ self.old ++ 32 ∷ signed_decimal (pos count) }
@@ -79,7 +79,7 @@ impl LineBuffer {
         self.word(buffer.format(count).as_bytes());
     }
 
-    /// Adds a space and a number of 128 bits, 2 to 41 bytes.
+    /// Appends a space and a number of 128 bits: 2 to 41 bytes.
     pub fn wide_number(&mut self, number: &i128)
         requires { length self.old + 41 ≤ 192 }
         ensures text { self.new ≡ self.old ++ 32 ∷ signed_decimal number.now }
@@ -89,7 +89,7 @@ impl LineBuffer {
         self.word(buffer.format(*number).as_bytes());
     }
 
-    /// Ends the line.
+    /// Appends an LF, which ends the line.
     pub fn newline(&mut self)
         requires { length self.old < 192 }
         ensures { self.new ≡ self.old ++ 10 ∷ [] }
@@ -97,18 +97,18 @@ impl LineBuffer {
         self.byte(b'\n');
     }
 
-    /// Puts it into a sink, as one piece.
+    /// Puts the line into a sink, as one piece.
     ///
     /// # Errors
     ///
-    /// The sink failed, or took 0 bytes of what was left; then it took a prefix of the line.
+    /// The sink failed, or took 0 bytes of the rest. It has then taken a prefix of the line.
     pub fn put<K: Sink>(&self, sink: &mut K) -> Result<(), SinkFault>
         ensures { Puts K.sink sink.old sink.new self.now result }
     {
         put_all(sink, &self.bytes[..self.used])
     }
 
-    // Adds a byte.
+    // Appends a byte.
     fn byte(&mut self, byte: u8)
         requires { length self.old < 192 }
         ensures { self.new ≡ self.old ++ byte ∷ [] }
@@ -117,7 +117,7 @@ impl LineBuffer {
         self.used += 1;
     }
 
-    // Adds bytes.
+    // Appends bytes.
     fn push(&mut self, bytes: &[u8])
         requires { length self.old + length bytes.now ≤ 192 }
         ensures { self.new ≡ self.old ++ bytes.now }

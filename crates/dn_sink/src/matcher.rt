@@ -1,4 +1,4 @@
-// A sink that compares.
+// A sink that compares its bytes with a text.
 ghost use Rattle.std.specs.Prelude.{◌≡◌, ◌↔◌, [], ◌++◌, length, take, false, true, Some, IsTrue, IsErr, IfOk, OnOk, OnErr};
 ghost use Rattle.dn_sink.specs.State.Matches.{IsNoPrefix, IsSamePrefix, taken_of};
 ghost use Rattle.dn_sink.specs.State.Turns.{Turn, Flush};
@@ -6,14 +6,14 @@ ghost use Rattle.dn_sink.specs.State.Turns.{Turn, Flush};
 use crate::sink::{Sink, SinkFault};
 use std::marker::Model;
 
-/// Compares the bytes that it takes with a text, and keeps none of them. After a byte with which the text does not go
-/// on it takes no other, and the next put fails.
+/// Compares the bytes that it takes with a text, and keeps none of them. It takes the first byte that does not match,
+/// and then no other: the next put fails.
 #[derive(Drop)]
 pub struct Matcher<'a> {
     text: &'a [u8],
-    // How many bytes of the text were taken.
+    // The number of bytes taken that match the text.
     matched: usize,
-    // The byte taken after them with which the text does not go on.
+    // The first byte that does not match, if one was taken.
     other: Option<u8>,
     failed: bool,
 }
@@ -33,7 +33,7 @@ impl<'a> Model for Matcher<'a> {
 }
 
 impl<'a> Matcher<'a> {
-    /// A sink that has taken nothing, for this text.
+    /// Returns a sink for this text that has taken nothing.
     pub fn new(text: &'a [u8]) -> Matcher<'a>
         ensures text { result.text ≡ text.entry.now }
         ensures put { result.put ≡ [] }
@@ -47,7 +47,7 @@ impl<'a> Matcher<'a> {
         }
     }
 
-    /// Whether the bytes put are the text.
+    /// Whether the bytes put are exactly the text.
     pub fn is_match(&self) -> bool
         ensures same { IsTrue result ↔ (self.now.put ≡ self.now.text) }
         ensures apart { IsTrue self.now.failed → IsNoPrefix self.now.put self.now.text }
@@ -57,10 +57,10 @@ impl<'a> Matcher<'a> {
 }
 
 impl<'a> Sink for Matcher<'a> {
-    // The bytes taken are compared.
+    // The bytes are compared at once, so the sink is always flushed.
     ghost sink = { record { taken = λ s. Some (taken_of s); has_failed = λ s. s.failed; is_flushed = λ _. true } };
 
-    // Takes the bytes with which the text goes on, and one after them; once it has taken such a one, it takes nothing.
+    // Takes the bytes that match the text, and the first one that does not. After such a byte it takes nothing.
     fn put(&mut self, piece: &[u8]) -> Result<usize, SinkFault>
         ensures turn { Turn ⟦<Matcher<'a> as Sink>⟧.sink self.old self.new piece.now result }
         ensures fault { IsErr result ↔ IsNoPrefix self.old.put self.old.text }
@@ -80,7 +80,7 @@ impl<'a> Sink for Matcher<'a> {
         Ok(n + 1)
     }
 
-    // Changes nothing, and answers a fault exactly where it has failed.
+    // Changes nothing. Returns a fault if and only if the sink has failed.
     fn flush(&mut self) -> Result<(), SinkFault>
         ensures flush { Flush ⟦<Matcher<'a> as Sink>⟧.sink self.old self.new result }
         ensures again { IsErr result ↔ IsTrue self.old.failed }
@@ -90,7 +90,7 @@ impl<'a> Sink for Matcher<'a> {
     }
 }
 
-// How many same bytes a text and a piece begin with.
+// Returns the length of the longest common prefix of a text and a piece.
 fn same_prefix(text: &[u8], piece: &[u8]) -> usize
     ensures { IsSamePrefix text.now piece.now result }
 {

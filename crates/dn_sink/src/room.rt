@@ -1,4 +1,4 @@
-// A sink over a slice.
+// A sink that fills a slice.
 ghost use Rattle.std.specs.Prelude.{◌≡◌, [], length, false, true, Some, Ok, IsTrue, IsOk, IfOk, OnOk, OnErr};
 ghost use Rattle.dn_sink.specs.State.Held.{room_for, filled};
 ghost use Rattle.dn_sink.specs.State.Turns.{Turn, Flush};
@@ -6,7 +6,7 @@ ghost use Rattle.dn_sink.specs.State.Turns.{Turn, Flush};
 use crate::sink::{Sink, SinkFault};
 use std::marker::Model;
 
-/// Fills a slice from its front. Has failed once it took 0 bytes of a piece that is not empty.
+/// Fills a slice from its beginning. The sink has failed once it took 0 bytes of a non-empty piece.
 #[derive(Drop)]
 pub struct Room<'a> {
     room: &'a mut [u8],
@@ -26,7 +26,7 @@ impl<'a> Model for Room<'a> {
 }
 
 impl<'a> Room<'a> {
-    /// A slice with nothing in it yet.
+    /// Returns a sink for a slice, with no bytes taken yet.
     pub fn new(room: &'a mut [u8]) -> Room<'a>
         ensures size { result.size ≡ length room.entry.now }
         ensures bytes { result.bytes ≡ [] }
@@ -39,7 +39,7 @@ impl<'a> Room<'a> {
         }
     }
 
-    /// The bytes taken.
+    /// Returns the bytes taken.
     pub fn taken(&self) -> &[u8]
         ensures { result.now ≡ self.now.bytes }
     {
@@ -48,10 +48,10 @@ impl<'a> Room<'a> {
 }
 
 impl<'a> Sink for Room<'a> {
-    // The bytes taken are where they go.
+    // Nothing is buffered, so the sink is always flushed.
     ghost sink = { record { taken = λ s. Some s.bytes; has_failed = λ s. s.failed; is_flushed = λ _. true } };
 
-    // Takes what has room, and never answers a fault.
+    // Takes as much of the piece as fits, and never returns a fault.
     fn put(&mut self, piece: &[u8]) -> Result<usize, SinkFault>
         ensures turn { Turn ⟦<Room<'a> as Sink>⟧.sink self.old self.new piece.now result }
         ensures room { result ≡ Ok (room_for self.old piece.now) }
@@ -67,7 +67,7 @@ impl<'a> Sink for Room<'a> {
         Ok(n)
     }
 
-    // Changes nothing, and always answers `Ok`.
+    // Changes nothing, and always returns `Ok`.
     fn flush(&mut self) -> Result<(), SinkFault>
         ensures flush { Flush ⟦<Room<'a> as Sink>⟧.sink self.old self.new result }
         ensures always { IsOk result }

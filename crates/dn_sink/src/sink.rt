@@ -6,31 +6,32 @@ ghost use Rattle.dn_sink.specs.State.Turns.{Turn, Flush};
 
 use thiserror::Error;
 
-/// The sink failed.
+/// The error of a sink that failed.
 #[derive(Clone, Copy, Debug, PartialEq, Eq, Error)]
 #[error("the sink of bytes failed")]
 pub struct SinkFault;
 
 /// Takes bytes piece by piece.
 pub trait Sink {
-    /// What it says of itself.
+    /// How the sink describes itself.
     ghost sink: { SinkWords Self };
 
-    /// Takes bytes from the front of `piece`, and answers how many. It answers a fault, and 0 where the piece is not
-    /// empty, only where it has failed; on a fault it took none. Else whether it has failed is as it was.
+    /// Takes bytes from the beginning of `piece`, and returns how many. It returns a fault, or 0 for a non-empty piece,
+    /// only if the sink has failed. On a fault it takes none. Otherwise it does not change whether the sink has failed.
     fn put(&mut self, piece: &[u8]) -> Result<usize, SinkFault>
         ensures { Turn sink self.old self.new piece.now result };
 
-    /// Hands on what it still holds of the bytes taken. Takes no bytes, and answers a fault only where it has failed.
+    /// Passes on the bytes taken that the sink still holds. It takes no bytes, and returns a fault only if the sink has
+    /// failed.
     fn flush(&mut self) -> Result<(), SinkFault>
         ensures { Flush sink self.old self.new result };
 }
 
-/// Puts a whole piece, in as many turns as the sink takes for it.
+/// Puts a whole piece, with as many calls of `Sink::put` as the sink needs.
 ///
 /// # Errors
 ///
-/// The sink failed, or took 0 bytes of what was left; then it took a prefix of the piece.
+/// The sink failed, or took 0 bytes of the rest. It has then taken a prefix of the piece.
 pub fn put_all<K: Sink>(sink: &mut K, piece: &[u8]) -> Result<(), SinkFault>
     ensures { Puts K.sink sink.old sink.new piece.now result }
 {
@@ -49,7 +50,7 @@ pub fn put_all<K: Sink>(sink: &mut K, piece: &[u8]) -> Result<(), SinkFault>
 ///
 /// # Errors
 ///
-/// The sink failed; it took the piece or a prefix of it.
+/// The sink failed. It has taken the piece or a prefix of it.
 pub fn put_and_flush<K: Sink>(sink: &mut K, piece: &[u8]) -> Result<(), SinkFault>
     ensures puts { Puts K.sink sink.old sink.new piece.now result }
     ensures flushed { OnOk result (IsTrue (K.sink.is_flushed sink.new)) }

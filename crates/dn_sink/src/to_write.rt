@@ -1,12 +1,12 @@
-// A sink over a writer.
+// A sink that passes its bytes to a writer.
 ghost use Rattle.std.specs.Prelude.{◌≡◌, false, IsTrue, IsErr, OnOk};
 ghost use Rattle.dn_sink.specs.State.Turns.{Turn, Flush};
 
 use crate::sink::{Sink, SinkFault};
 use std::io::Write;
 
-/// Hands the bytes to a writer. Every error of the writer is a failure, and so is it to take 0 bytes of a piece that is
-/// not empty; a failed sink does not write again.
+/// Passes the bytes to a writer. The sink fails if the writer returns an error, or takes 0 bytes of a non-empty piece.
+/// A failed sink does not write again.
 #[derive(Drop)]
 pub struct ToWrite<W: Write> {
     writer: W,
@@ -15,7 +15,7 @@ pub struct ToWrite<W: Write> {
 }
 
 impl<W: Write> ToWrite<W> {
-    /// A sink that has taken what the writer holds.
+    /// Returns a sink that counts the writer's present contents as taken.
     pub fn new(writer: W) -> ToWrite<W>
         ensures taken { ⟦<ToWrite<W> as Sink>⟧.sink.taken result ≡ W.contents writer }
         ensures fine { ⟦<ToWrite<W> as Sink>⟧.sink.has_failed result ≡ false }
@@ -29,14 +29,14 @@ impl<W: Write> ToWrite<W> {
 }
 
 impl<W: Write> Sink for ToWrite<W> {
-    // It is flushed where the writer was flushed after the last piece that it took.
+    // The sink is flushed if the writer was flushed after the last piece.
     ghost sink = { record {
       taken = λ s. W.contents s.writer;
       has_failed = λ s. s.failed;
       is_flushed = λ s. s.flushed;
     } };
 
-    // Once it has failed, it takes nothing.
+    // A failed sink takes nothing.
     fn put(&mut self, piece: &[u8]) -> Result<usize, SinkFault>
         ensures turn { Turn ⟦<ToWrite<W> as Sink>⟧.sink self.old self.new piece.now result }
         ensures again { IsTrue (⟦<ToWrite<W> as Sink>⟧.sink.has_failed self.old) → IsErr result }
@@ -60,7 +60,7 @@ impl<W: Write> Sink for ToWrite<W> {
         }
     }
 
-    // Once it has failed, it answers a fault.
+    // A failed sink returns a fault.
     fn flush(&mut self) -> Result<(), SinkFault>
         ensures flush { Flush ⟦<ToWrite<W> as Sink>⟧.sink self.old self.new result }
         ensures again { IsTrue (⟦<ToWrite<W> as Sink>⟧.sink.has_failed self.old) → IsErr result }

@@ -1,4 +1,4 @@
-// Bundles whose meanings are known from outside.
+// Bundles with known meanings.
 
 use dn_bundle::{
     Bundle, BundleFault, CapArc, CostArc, Curve, Fixed, Form, Gap, How, Least, LengthArc, Total,
@@ -10,7 +10,7 @@ use std::test::Fail;
 // LOW, CAP and COST of an arc.
 type Numbers = (i64, i64, i64);
 
-// Arcs, and what their curve tells.
+// Arcs, and what their curve must return.
 #[derive(Clone, Copy)]
 struct Row {
     arcs: &'static [Numbers],
@@ -24,7 +24,7 @@ struct Row {
 // Forced units, and free capacity at three costs.
 const WORKED: &[Numbers] = &[(1, 3, 0), (1, 2, 3), (0, 4, 1)];
 
-// Other arcs that mean the same.
+// Other arcs with the same meaning.
 const OTHER: &[Numbers] = &[
     (0, 1, 3),
     (0, 3, 1),
@@ -201,7 +201,7 @@ const ROWS: [Row; 12] = [
     },
 ];
 
-// Adds an arc, if a problem may have it.
+// Adds an arc to a curve, if a problem may have this arc.
 fn put(curve: &mut Curve, numbers: Numbers) -> Result<(), BundleFault> {
     let (low, cap, cost) = numbers;
     let arc = CostArc { low, cap, cost };
@@ -212,7 +212,7 @@ fn put(curve: &mut Curve, numbers: Numbers) -> Result<(), BundleFault> {
     }
 }
 
-// The curve of arcs.
+// Returns the curve of these arcs.
 fn curve_of(alloc: Global, arcs: &[Numbers]) -> Result<Curve, BundleFault> {
     let mut curve = Curve::empty(alloc);
     for numbers in arcs {
@@ -221,7 +221,7 @@ fn curve_of(alloc: Global, arcs: &[Numbers]) -> Result<Curve, BundleFault> {
     Ok(curve)
 }
 
-// Whether the free costs with their capacities are so many, of which this is the first.
+// Whether the curve has as many free costs as `free`, and its first free cost and capacity are those of `free`.
 fn has_free(curve: &Curve, free: &[(i64, i64)]) -> bool {
     let count = free.len() as u64;
     let first = match free {
@@ -231,17 +231,17 @@ fn has_free(curve: &Curve, free: &[(i64, i64)]) -> bool {
     curve.free(0) == first && curve.free_len() == count && curve.free(count).is_none()
 }
 
-// Whether it has these forced units and fixed arcs.
+// Whether the curve has the forced units and fixed arcs of the row.
 fn has_forced(curve: &Curve, row: &Row) -> bool {
     curve.forced() == row.forced && curve.fixed() == row.fixed
 }
 
-// Whether it has so many entries, and is nothing where there are none.
+// Whether the curve has this number of entries, and means nothing if and only if it has none.
 fn has_entries(curve: &Curve, entries: u64) -> bool {
     curve.entries() == entries && curve.is_nothing() == (entries == 0)
 }
 
-// Whether amounts have these least costs.
+// Whether these amounts have these least costs.
 fn has_least(curve: &Curve, costs: &[(i64, Option<i128>)]) -> bool {
     for (amount, cost) in costs {
         if curve.least(*amount) != *cost {
@@ -251,7 +251,7 @@ fn has_least(curve: &Curve, costs: &[(i64, Option<i128>)]) -> bool {
     true
 }
 
-// Whether the curve tells what the row says.
+// Whether the curve returns what the row says.
 fn is_told(curve: &Curve, row: &Row) -> bool {
     has_forced(curve, row)
         && has_free(curve, row.free)
@@ -268,7 +268,7 @@ fn curves(rt: HostRuntime) -> Result<(), Fail> {
     Ok(())
 }
 
-// Whether the second of two arcs makes the capacities sum past the limit, and the curve stays that of the first.
+// Whether the second of two arcs makes the capacities sum past the limit, and the curve stays that of the first arc.
 fn stays_past_the_limit(alloc: Global, first: Numbers, second: Numbers) -> bool {
     let mut curve = Curve::empty(alloc);
     put(&mut curve, first).is_ok()
@@ -290,7 +290,7 @@ fn sums_past_the_limit(rt: HostRuntime) {
     );
 }
 
-// Whether a bundle of lengths tells that this is the least.
+// Whether the methods of a bundle of lengths agree that this is the least length.
 fn is_least(least: &Least, answer: i64) -> bool {
     let arc = LengthArc { length: answer };
     least.get() == Some(answer)
@@ -313,7 +313,7 @@ fn lists_of_lengths(rt: HostRuntime) -> Result<(), Fail> {
     Ok(())
 }
 
-// Whether a bundle of capacities tells that this is the total, which is not 0.
+// Whether the methods of a bundle of capacities agree that this is the total capacity, which is not 0.
 fn is_total(total: &Total, answer: i64) -> bool {
     let arc = CapArc { cap: answer };
     total.get() == answer
@@ -362,7 +362,7 @@ fn lists_of_costs(rt: HostRuntime) -> Result<(), Fail> {
     Ok(())
 }
 
-// Whether a problem may have an arc of these numbers.
+// Whether a problem may have an arc with these numbers.
 fn is_arc(low: i64, cap: i64, cost: i64) -> bool {
     Curve::is_arc(&CostArc { low, cap, cost })
 }

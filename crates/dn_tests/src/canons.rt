@@ -1,4 +1,4 @@
-// Canonical texts in sinks of different makes.
+// Writing canonical texts into different sinks, and judging texts.
 
 use crate::stand_ins::{FailsOnce, LateWriter, NoFlush};
 use crate::texts::{COSTS, COSTS_ONE, ROADS, ROADS_CANON};
@@ -9,7 +9,7 @@ use dn_line::{FromRead, Source, SourceFault};
 use dn_sink::{Sink, SinkFault, ToWrite};
 use std::alloc::Global;
 
-// Whether a sink that fails as it is flushed takes a canonical text, and its failure is told.
+// Whether a sink whose flush fails takes the canonical text, and `write_canon` returns the failure.
 fn is_cut_by_flush(alloc: Global) -> Result<bool, Refusal> {
     let held = read_text(alloc, ROADS.as_bytes())?;
     let mut late = NoFlush::new(alloc);
@@ -23,7 +23,7 @@ fn a_sink_that_fails_as_it_is_flushed(rt: HostRuntime) {
     assert!(rt; is_cut_by_flush(rt.alloc()) == Ok(true));
 }
 
-// What is answered of writing to a vector, and to a writer that fails late.
+// Returns the results of writing to a vector, and to a writer whose flush fails.
 fn written(alloc: Global) -> Result<[Result<(), Refusal>; 2], Refusal> {
     let held = read_text(alloc, ROADS.as_bytes())?;
     let mut vector = ToWrite::new(Vec::new(alloc));
@@ -64,7 +64,8 @@ fn streams_that_fail_once(rt: HostRuntime) {
     assert!(rt; put_twice() == ([Err(SinkFault), Err(SinkFault)], [Err(SinkFault), Err(SinkFault)]));
 }
 
-// Texts of one problem: one that is not canonical, the canonical one, it without its last LF and with a comment more.
+// Texts of one problem: one that is not canonical, the canonical one, the canonical one without its last LF, and the
+// canonical one with a comment.
 const TEXTS: [&str; 4] = [
     ROADS,
     ROADS_CANON,
@@ -72,7 +73,7 @@ const TEXTS: [&str; 4] = [
     "p sp 3 5\na 1 2 3\na 2 1 4\na 2 2 0\na 2 3 9\na 3 1 -5\nc\n",
 ];
 
-// What is answered of them, and of the canonical text in form 1 of a `min` problem, in each form.
+// Judges these texts, and, in each form, a `min` text that is canonical in form 1.
 fn judged(alloc: Global) -> Result<([bool; 4], [bool; 2]), Refusal> {
     let roads = read_text(alloc, ROADS.as_bytes())?;
     let texts = TEXTS.map(|it| is_canon_of(&roads, it.as_bytes(), Form::One));

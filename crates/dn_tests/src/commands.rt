@@ -1,4 +1,4 @@
-// Lines of words, as `clap` 4 reads them, and the texts of help and of the version.
+// Command lines, compared with what `clap` 4 makes of them, and the texts of help, version and refusals.
 
 mod cases;
 
@@ -13,7 +13,7 @@ use std::test::Fail;
 
 const VERSION: &str = "dnorm 1.1.0-dev\n";
 
-// Words of their own, which stand apart by `|`, after the program's name.
+// Returns the words of a line after the program's name. `|` separates the words of the line.
 pub(crate) fn owned(alloc: Global, line: &str) -> Result<Vec<String>, AllocError> {
     let mut all = Vec::new(alloc);
     all.push(String::from_str(alloc, "dnorm")?)?;
@@ -23,7 +23,7 @@ pub(crate) fn owned(alloc: Global, line: &str) -> Result<Vec<String>, AllocError
     Ok(all)
 }
 
-// A command as the table of lines has it.
+// Returns a command in the notation of the tables.
 fn command_text(alloc: Global, command: &Command<'_>) -> Result<String, AllocError> {
     match command {
         Command::Show { name } => format!(in alloc; "show [{name}]"),
@@ -44,7 +44,7 @@ fn command_text(alloc: Global, command: &Command<'_>) -> Result<String, AllocErr
     }
 }
 
-// A request as the table of lines has it.
+// Returns a request in the notation of the tables.
 fn request_text(alloc: Global, request: &Request<'_>) -> Result<String, AllocError> {
     match request {
         Request::Command(command) => command_text(alloc, command),
@@ -55,7 +55,7 @@ fn request_text(alloc: Global, request: &Request<'_>) -> Result<String, AllocErr
     }
 }
 
-// Whether the words of a line are what the table says.
+// Whether the words of a line ask for what the table says.
 fn is_read(alloc: Global, line: &str, wanted: &str) -> Result<bool, AllocError> {
     let words = owned(alloc, line)?;
     let request = request_of(alloc, &words);
@@ -63,7 +63,7 @@ fn is_read(alloc: Global, line: &str, wanted: &str) -> Result<bool, AllocError> 
     Ok(text.as_str() == wanted)
 }
 
-// The first line that is read otherwise.
+// Returns the first line that asks for something else.
 fn first_other(alloc: Global, lines: &[(&'static str, &str)]) -> Option<&'static str> {
     for (line, wanted) in lines {
         if is_read(alloc, line, wanted) != Ok(true) {
@@ -140,7 +140,7 @@ const FAULTS: [CompanionFault; 2] = [
     CompanionFault::NotKinds,
 ];
 
-// What each refusal is written as, behind its number.
+// The sentence of each refusal, after its number.
 const SENTENCES: &str = "
 1 bad line
 2 line before the problem line
@@ -172,7 +172,7 @@ const SENTENCES: &str = "
 36 not a graph and a companion
 ";
 
-// Whether a refusal of this number is written as its sentence.
+// Whether a refusal of this number is displayed as its sentence.
 fn is_written<T: Display>(alloc: Global, number: u8, refusal: &T) -> bool {
     match format!(in alloc; "\n{number} {refusal}\n") {
         Ok(line) => SENTENCES.contains(line.as_str()),
@@ -194,7 +194,7 @@ fn refusals_are_written_as_sentences(rt: HostRuntime) -> Result<(), Fail> {
     Ok(())
 }
 
-// Whether help has the line of a refusal: its number and its name, and then a sentence.
+// Whether the help text has the line of a refusal: its number, its name, and then a sentence.
 fn has_line(alloc: Global, help: &str, number: u8, name: &str) -> bool {
     match format!(in alloc; " {number} {name}  ") {
         Ok(line) => help.contains(line.as_str()),

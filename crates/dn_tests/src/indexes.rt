@@ -1,10 +1,10 @@
-// Each way of finding pairs, compared with a plain scan, also where an allocation fails.
+// Each way of finding pairs, compared with a scan of the list. Allocations may fail.
 
 use pair_index::PairIndex;
 use std::alloc::{AllocError, Global};
 use std::marker::Model;
 
-// Entries as their pairs came, each with its number, and where they stand.
+// Numbered entries in the order in which their pairs came, and their index.
 #[derive(Drop)]
 struct Listed {
     entries: Vec<((i64, i64), usize)>,
@@ -31,7 +31,7 @@ impl Listed {
         }
     }
 
-    // Takes up a pair that has no entry.
+    // Adds an entry for a pair, if it has none.
     fn take(&mut self, alloc: Global, pair: (i64, i64)) -> Result<(), AllocError> {
         if self.index.find(&self.entries, &pair).is_some() {
             return Ok(());
@@ -42,7 +42,7 @@ impl Listed {
         Ok(self.entries.push((pair, number))?)
     }
 
-    // Whether each pair, and each the other way round, is found where a scan finds it.
+    // Whether each of these pairs, and each pair with its nodes exchanged, is found where a scan finds it.
     fn finds(&self, pairs: &[(i64, i64)]) -> bool {
         for pair in pairs {
             for asked in [*pair, (pair.1, pair.0)] {
@@ -55,7 +55,7 @@ impl Listed {
         true
     }
 
-    // Whether each pair is found once more when no more come, and a walk goes over all by rising pair.
+    // Whether the finished order finds each pair, and its walk visits all pairs by rising pair.
     fn finds_in_order(self, pairs: &[(i64, i64)]) -> bool {
         let Listed { mut entries, index } = self;
         let order = index.order(&mut entries);
@@ -85,8 +85,8 @@ impl Listed {
     }
 }
 
-// Whether these pairs are looked up by chains in the end, if they were found right all the time. Where an allocation
-// fails, the pairs so far are still found, and the next attempt is to go well.
+// Returns whether these pairs are looked up by chains at the end ("scattered") or not ("in order"), or what went wrong.
+// After an allocation failure the pairs so far must still be found, and the second attempt must succeed.
 fn way_to_find(alloc: Global, pairs: &[(i64, i64)]) -> Result<&'static str, AllocError> {
     let mut listed = Listed::new(alloc);
     for pair in pairs {
@@ -111,7 +111,7 @@ fn way_to_find(alloc: Global, pairs: &[(i64, i64)]) -> Result<&'static str, Allo
     Ok(way)
 }
 
-// Pairs whose nodes are multiples of these. Where an allocation fails, another attempt is made.
+// Returns pairs whose nodes are multiples of these numbers. Retries the allocation once if it fails.
 fn multiples(alloc: Global, tail: i64, head: i64) -> Result<Vec<(i64, i64)>, AllocError> {
     let mut pairs = match Vec::with_capacity(alloc, 150) {
         Ok(pairs) => pairs,
@@ -123,14 +123,14 @@ fn multiples(alloc: Global, tail: i64, head: i64) -> Result<Vec<(i64, i64)>, All
     Ok(pairs)
 }
 
-// The way in which these are looked up.
+// Returns `way_to_find` of these multiples.
 fn way_to_find_multiples(alloc: Global, tail: i64, head: i64) -> Result<&'static str, AllocError> {
     let pairs = multiples(alloc, tail, head)?;
     way_to_find(alloc, &pairs)
 }
 
-// Pairs of one bucket of 64, whichever way they are spread: the last 6 bits of `4 * tail + head` agree, and those of
-// the mixed numbers.
+// Pairs that fall into one of 64 buckets, both by the last 6 bits of `4 * tail + head` and by those of the mixed
+// number.
 const COLLIDING: [(i64, i64); 28] = [
     (70, 1000),
     (64, 2048),
@@ -162,7 +162,8 @@ const COLLIDING: [(i64, i64); 28] = [
     (6, 616),
 ];
 
-// Pairs that rise, that fall among near nodes, whose numbers `4 * tail + head` are one, and that lie far apart.
+// Pairs that rise, pairs that fall among near nodes, pairs with the same number `4 * tail + head`, and pairs that lie
+// far apart.
 #[test]
 fn finds_multiples(rt: HostRuntime) {
     for (tail, head, way) in [
@@ -179,7 +180,7 @@ fn finds_multiples(rt: HostRuntime) {
     }
 }
 
-// Pairs that come nearly in order: each followed by its reverse.
+// Pairs that come nearly in order: each is followed by its reverse.
 #[test]
 fn finds_reversed(rt: HostRuntime) {
     let mut pairs = match Vec::with_capacity(rt.alloc(), 1200) {

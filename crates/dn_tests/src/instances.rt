@@ -1,4 +1,4 @@
-// Texts that come in pieces, and what is held of them.
+// Texts that come in pieces, and the instances that they read as.
 
 use crate::stand_ins::Pieces;
 use crate::texts::{CAPACITIES, COSTS, COSTS_ONE, ROADS, ROADS_CANON};
@@ -9,7 +9,7 @@ use dn_line::{Code, Slice};
 use std::alloc::Global;
 use std::test::Fail;
 
-// A text, how many of its bytes have come when its fault shows, and its canonical text or its fault.
+// A text, the number of bytes after which its fault is known, and its canonical text or its fault.
 #[derive(Clone, Copy)]
 struct Case {
     text: &'static str,
@@ -18,7 +18,7 @@ struct Case {
 }
 
 impl Case {
-    // What a reader answers that was fed this front of the text.
+    // Returns what a reader must return after this prefix of the text.
     fn so_far(&self, front: &[u8]) -> Result<(), Refusal> {
         match self.answer {
             Err(fault) if front.len() >= self.shown => Err(fault),
@@ -26,7 +26,7 @@ impl Case {
         }
     }
 
-    // Whether a text is read so.
+    // Whether reading the text gave the expected canonical text or fault.
     fn is_read(&self, alloc: Global, read: Result<Held, Refusal>) -> bool {
         match read {
             Ok(held) => {
@@ -42,7 +42,7 @@ impl Case {
     }
 }
 
-// Faults of a second line.
+// Faults of the second line.
 const NOT_A_NUMBER: Refusal = Refusal::Text {
     place: Place::Line(2),
     code: Code::NotANumber,
@@ -120,7 +120,7 @@ const CASES: [Case; 11] = [
     },
 ];
 
-// Whether a reader that is fed a text byte by byte tells its fault as soon as the LF of the line has come.
+// Whether a reader that is fed the text byte by byte returns the fault as soon as the LF of the faulty line has come.
 fn tells_by_bytes(reader: &mut Reader, case: &Case) -> bool {
     let text = case.text.as_bytes();
     for at in 0..text.len() {
@@ -131,7 +131,7 @@ fn tells_by_bytes(reader: &mut Reader, case: &Case) -> bool {
     true
 }
 
-// Whether a text that is fed so is read so, too.
+// Whether the text is read as expected if it is fed byte by byte.
 fn is_so_by_bytes(alloc: Global, case: &Case) -> bool {
     let mut reader = Reader::new(alloc);
     let told = tells_by_bytes(&mut reader, case);
@@ -139,7 +139,7 @@ fn is_so_by_bytes(alloc: Global, case: &Case) -> bool {
     told && is_read
 }
 
-// The same of a text in two pieces.
+// Whether the text is read as expected if it is fed in two pieces, cut at `cut`.
 fn is_so_in_two(alloc: Global, case: &Case, cut: usize) -> bool {
     let text = case.text.as_bytes();
     let (front, back) = text.split_at(cut.min(text.len()));
@@ -149,7 +149,7 @@ fn is_so_in_two(alloc: Global, case: &Case, cut: usize) -> bool {
     told && is_read
 }
 
-// The same, cut at every place.
+// Whether the text is read as expected if it is fed in two pieces, cut at any place.
 fn is_so_in_two_pieces(alloc: Global, case: &Case) -> bool {
     for cut in 0..=case.text.len() {
         if !is_so_in_two(alloc, case, cut) {
@@ -159,7 +159,7 @@ fn is_so_in_two_pieces(alloc: Global, case: &Case) -> bool {
     true
 }
 
-// Whether a source is read with this refusal, with a copy and without, and the copy gains what was pulled.
+// Whether reading this source is refused with `fault`, with a copy and without, and the copy contains the bytes pulled.
 fn is_refused(alloc: Global, source: Pieces, fault: Refusal) -> bool {
     let text = source.rest;
     let mut alone = source;
@@ -170,7 +170,7 @@ fn is_refused(alloc: Global, source: Pieces, fault: Refusal) -> bool {
         && copy.as_slice() == &text[..text.len().saturating_sub(copied.rest.len())]
 }
 
-// Whether a source that fails at any pull gives the fault of a line that came whole before, or else `Read`.
+// Whether a source that fails at any pull gives the fault of an earlier complete line, and otherwise `Read`.
 fn is_so_of_failing(alloc: Global, case: &Case) -> bool {
     let text = case.text.as_bytes();
     for pulls in 0..=text.len() {
@@ -185,7 +185,7 @@ fn is_so_of_failing(alloc: Global, case: &Case) -> bool {
     true
 }
 
-// How a text was given where it was read otherwise.
+// Returns in which way the text was given when it was not read as expected.
 fn differs(alloc: Global, case: &Case) -> Option<&'static str> {
     if !case.is_read(alloc, read_text(alloc, case.text.as_bytes())) {
         Some("whole")
@@ -221,7 +221,7 @@ fn a_refusal_stays(rt: HostRuntime) {
     assert!(rt; reader.finish().err() == fault.err());
 }
 
-// Whether a text is read so behind a comment of 1,000,000 bytes.
+// Whether the text is read as expected after a comment of 1,000,000 bytes.
 fn is_so_behind_a_comment(alloc: Global, case: &Case) -> bool {
     let block = [b'1'; 1000];
     let mut reader = Reader::new(alloc);
@@ -254,7 +254,7 @@ fn a_copy_is_added(rt: HostRuntime) -> Result<(), Fail> {
     Ok(())
 }
 
-// Texts line by line, and the entries of a reader after each line.
+// Texts line by line, and the number of entries of a reader after each line.
 const ENTRIES: [&[(&str, u64)]; 4] = [
     &[
         ("p sp 3 7\n", 0),
@@ -292,7 +292,7 @@ const ENTRIES: [&[(&str, u64)]; 4] = [
     ],
 ];
 
-// Whether a reader tells these entries as it is fed the lines.
+// Whether a reader has these numbers of entries as it is fed the lines.
 fn tells_entries(reader: &mut Reader, lines: &[(&str, u64)]) -> bool {
     for (line, entries) in lines {
         let _ = reader.feed(line.as_bytes());

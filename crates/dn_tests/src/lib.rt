@@ -1,5 +1,5 @@
-//! Tests of the libraries over their public calls: texts, lines, numbers, arcs and runs whose answers are known from
-//! outside. They stand in a crate of their own, so that a library is proved once and not a second time with its tests.
+//! Tests of the public functions of the libraries: texts, lines, numbers, bundles, pairs and runs with known results.
+//! The tests have a crate of their own, so that a library is proved once, and not a second time with its tests.
 #![tactic(auto)]
 
 #[cfg(test)]

@@ -1,4 +1,4 @@
-// Lines whose answers are known from outside.
+// Lines with known meanings.
 
 use dn_line::{
     ArcBlock, Code, FromRead, Head, Kind, Letter, Line, LineReader, PlainArc, Slice, Source,
@@ -9,7 +9,7 @@ use std::io::Read;
 
 type Case = (Option<Kind>, &'static str, Result<Line, Code>);
 
-// Lines under the kind known, and what they read as.
+// Lines, the kind of their text if it is known, and what they read as.
 const LINES: [Case; 68] = [
     (None, "", Ok(Line::Skip)),
     (None, "\r", Ok(Line::Skip)),
@@ -296,7 +296,7 @@ const LINES: [Case; 68] = [
     ),
 ];
 
-// What the checks of the head and then those of the fields say.
+// Checks the head and then the fields of the line that was read.
 fn told(reader: &LineReader, known: Option<Kind>) -> Result<Line, Code> {
     match reader.head(known) {
         Ok(_) => reader.fields(known),
@@ -304,14 +304,14 @@ fn told(reader: &LineReader, known: Option<Kind>) -> Result<Line, Code> {
     }
 }
 
-// What is told of a line without an end.
+// Reads a line that lacks its LF, in one piece.
 fn told_whole(known: Option<Kind>, text: &[u8]) -> Result<Line, Code> {
     let mut reader = LineReader::new();
     let _ = reader.step(text);
     told(&reader, known)
 }
 
-// What is told of a line that comes byte by byte.
+// Reads a line byte by byte.
 fn told_by_bytes(known: Option<Kind>, text: &[u8]) -> Result<Line, Code> {
     let mut reader = LineReader::new();
     for byte in text {
@@ -321,7 +321,7 @@ fn told_by_bytes(known: Option<Kind>, text: &[u8]) -> Result<Line, Code> {
     told(&reader, known)
 }
 
-// What is told of a line that comes in two pieces.
+// Reads a line in two pieces.
 fn told_in_two(known: Option<Kind>, text: &[u8], cut: usize) -> Result<Line, Code> {
     let (front, back) = text.split_at(cut.min(text.len()));
     let mut reader = LineReader::new();
@@ -331,7 +331,7 @@ fn told_in_two(known: Option<Kind>, text: &[u8], cut: usize) -> Result<Line, Cod
     told(&reader, known)
 }
 
-// How the line was given where the answer was another one.
+// Returns in which way the line was given when the result was wrong.
 fn differs(case: &Case) -> Option<&'static str> {
     let (known, text, answer) = *case;
     if read_line(known, text.as_bytes()) != answer {
@@ -351,7 +351,7 @@ fn differs(case: &Case) -> Option<&'static str> {
     None
 }
 
-// The first of these lines with another answer, and how it was given.
+// Returns the first line with a wrong result, and in which way it was given.
 fn first_other(cases: &[Case]) -> Option<(&'static str, &'static str)> {
     for case in cases {
         if let Some(way) = differs(case) {
@@ -366,8 +366,8 @@ fn lines(rt: HostRuntime) {
     assert_eq!(rt; first_other(&LINES), None);
 }
 
-// Arcs whose plain lines stand in front of more bytes, how many bytes follow the first line, and how many such lines
-// there are.
+// Bytes that begin with plain arc lines, the arc of the first line, the number of bytes after that line, and the number
+// of plain arc lines.
 const PLAIN: [(Kind, &str, PlainArc, usize, usize); 6] = [
     (
         Kind::Sp,
@@ -449,7 +449,7 @@ const PLAIN: [(Kind, &str, PlainArc, usize, usize); 6] = [
     ),
 ];
 
-// Bytes in front of which stands no plain line of an arc.
+// Bytes that do not begin with a plain arc line.
 const NOT_PLAIN: [(Kind, &str); 9] = [
     (Kind::Sp, "a 1 2 +3\n"),
     (Kind::Sp, " a 1 2 3\n"),
@@ -482,7 +482,7 @@ fn plain_arcs(rt: HostRuntime) {
     }
 }
 
-// Bytes, how many of them a step uses, whether a line ends, whether one is begun, and what its head is.
+// Bytes, how many of them a step uses, whether a line ends, whether a line is open after that, and its head.
 const STEPS: [(&str, usize, bool, bool, Result<Head, Code>); 3] = [
     ("a\nb", 2, true, false, Err(Code::EarlyLine)),
     ("", 0, false, false, Err(Code::EarlyLine)),
@@ -516,12 +516,12 @@ fn a_long_comment(rt: HostRuntime) {
     assert!(rt; reader.head(None) == Ok(Head::Problem(Kind::Sp)));
 }
 
-// Comments, blanks and tabs as they are usual, lines that CR and LF end, and a last line without its LF.
+// A text with usual comments, blanks and tabs, lines that end with CR LF, and a last line without its LF.
 const USUAL: &str =
     "c sample in the manner of the road graphs\r\nc\r\np sp 3 4\r\n\r\na 1 2 803\r\na\t2\t1 803\r\n\
      \x20 a  2 3 158 \r\na 3 2 158";
 
-// What its lines spell.
+// What the lines of `USUAL` spell.
 const SPELLED: [Line; 8] = [
     Line::Skip,
     Line::Skip,
@@ -568,7 +568,7 @@ fn a_usual_text(rt: HostRuntime) {
     assert!(rt; rest.is_empty() && reader.pending());
 }
 
-// Gives one byte, and then fails.
+// A reader that gives one byte, and then fails.
 #[derive(Drop)]
 struct Failing {
     calls: u8,
@@ -590,7 +590,7 @@ impl Read for Failing {
     }
 }
 
-// What three pulls of up to four bytes answer.
+// Returns the results of three pulls of at most four bytes.
 fn three_pulls<S: Source + Drop>(mut source: S) -> [Result<usize, SourceFault>; 3] {
     let mut into = [0u8; 4];
     [

@@ -1,4 +1,4 @@
-// Each call that reads a text or writes its canonical text, where a growth may be refused.
+// Each function that reads a text or writes its canonical text, where an allocation may fail.
 
 use crate::texts::{ROADS, ROADS_CANON};
 use dn_bundle::Form;
@@ -9,7 +9,7 @@ use dn_sink::Bytes;
 use std::alloc::Global;
 use std::io::{Input, Read};
 
-// Whether this is the canonical text, in form 2, of what is held.
+// Whether this is the canonical text, in form 2, of the parsed instance.
 fn has_canon(alloc: Global, held: &Held, canon: &[u8]) -> Result<bool, Refusal> {
     Ok(canon_text(alloc, held, Form::Two)?.as_slice() == canon)
 }
@@ -30,7 +30,7 @@ fn is_kept(alloc: Global, text: &[u8], canon: &[u8]) -> Result<bool, Refusal> {
     Ok(right? && copy.as_slice() == text)
 }
 
-// The text is fed byte by byte, also after a refusal.
+// Feeds the text byte by byte, and goes on after a refusal.
 fn is_fed(alloc: Global, text: &[u8], canon: &[u8]) -> Result<bool, Refusal> {
     let mut reader = Reader::new(alloc);
     for byte in text {
@@ -39,7 +39,7 @@ fn is_fed(alloc: Global, text: &[u8], canon: &[u8]) -> Result<bool, Refusal> {
     has_canon(alloc, &reader.finish()?, canon)
 }
 
-// Where memory is wanted, a front of the canonical text may be put.
+// If memory runs out, a prefix of the canonical text may have been put.
 fn is_put(alloc: Global, text: &[u8], canon: &[u8]) -> Result<bool, Refusal> {
     let mut sink = Bytes::new(alloc);
     match canon_run(alloc, &mut Slice::new(text), &mut sink, Form::Two) {
@@ -50,7 +50,7 @@ fn is_put(alloc: Global, text: &[u8], canon: &[u8]) -> Result<bool, Refusal> {
     }
 }
 
-// Whether all calls on a text are right, but that one of them may want memory.
+// Whether the results of all functions on a text are right, except that one of them may be out of memory.
 fn are_right(alloc: Global, text: &[u8], canon: &[u8]) -> bool {
     let answers = [
         is_read(alloc, text, canon),
@@ -68,8 +68,8 @@ fn are_right(alloc: Global, text: &[u8], canon: &[u8]) -> bool {
     refused <= 1 && refused + right == answers.len()
 }
 
-// Standard input has a text, and behind a byte 0 its canonical text in form 2; or nothing. `tests/memory` refuses each
-// growth of this test in turn.
+// Standard input contains a text, a byte 0, and the canonical text in form 2; or nothing. `tests/memory` refuses each
+// allocation of this test in turn.
 #[test]
 fn a_refused_growth(rt: HostRuntime) {
     let mut given = Vec::new(rt.alloc());

@@ -1,4 +1,4 @@
-// Number texts whose numbers are known from outside.
+// Number texts with known numbers.
 
 use dn_num::{NumFault, NumberReader, append_number, number_front, number_into, read_number};
 

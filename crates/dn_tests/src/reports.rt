@@ -1,4 +1,4 @@
-// Reports of the greatest numbers, and in a room that is too small.
+// Reports of the greatest numbers, and reports into a slice that is too small.
 
 use dn_bundle::{Gap, How};
 use dn_compare::Verdict;

@@ -8,7 +8,8 @@ use dn_run::{Files, FilesFault, run};
 use dn_sink::{Bytes, Room};
 use std::alloc::Global;
 
-// Texts by their names, which give so many bytes a pull and fail after so many pulls; any other name has this fault.
+// Texts by name. Their sources give at most `size` bytes a pull, and fail after `pulls` pulls. Any other name has the
+// fault `other`.
 #[derive(Clone, Copy)]
 struct Texts<'a> {
     named: &'a [(&'static str, &'static str)],
@@ -52,7 +53,7 @@ impl<'a> Files for Texts<'a> {
     }
 }
 
-// What `out` and `err` take of a run, and its exit status.
+// The bytes that `out` and `err` take in a run, and its exit status.
 #[derive(Clone, Copy)]
 struct End<'a> {
     out: &'a str,
@@ -60,7 +61,7 @@ struct End<'a> {
     status: u8,
 }
 
-// Whether a run ends so.
+// Whether a run of these words ends as expected.
 fn ends(alloc: Global, words: &[String], files: &mut Texts<'_>, end: End<'_>) -> bool {
     let mut out = Bytes::new(alloc);
     let mut err = Bytes::new(alloc);
@@ -68,7 +69,7 @@ fn ends(alloc: Global, words: &[String], files: &mut Texts<'_>, end: End<'_>) ->
     status == end.status && out.taken() == end.out.as_bytes() && err.taken() == end.err.as_bytes()
 }
 
-// No words after the program's name, and no word at all.
+// A command line without words after the program's name, and an empty one.
 #[test]
 fn no_words(rt: HostRuntime) {
     let Ok(words) = owned(rt.alloc(), "") else {
@@ -86,7 +87,7 @@ fn no_words(rt: HostRuntime) {
     }
 }
 
-// Whether no text comes of `canon t` from these files, but this line.
+// Whether `canon t` on these files writes nothing to `out`, and this line to `err`.
 fn fails(alloc: Global, mut files: Texts<'_>, err: &str, status: u8) -> bool {
     let end = End {
         out: "",
@@ -106,7 +107,7 @@ fn a_file_without_memory(rt: HostRuntime) {
     assert!(rt; fails(rt.alloc(), files, "t: 30 Memory\n", 4));
 }
 
-// Sources that fail at the second pull, after a whole line, and at any pull of a byte.
+// Sources that fail at the second pull, after whole lines, and sources that give one byte a pull and fail at any pull.
 #[test]
 fn failing_sources(rt: HostRuntime) {
     let texts = [
@@ -130,7 +131,7 @@ fn failing_sources(rt: HostRuntime) {
     }
 }
 
-// Words, texts, and what `out` takes where it has room.
+// Command lines, texts, and the bytes that `out` takes if they fit.
 const PUT: [(&str, &[(&str, &str)], &str); 9] = [
     ("canon|t", &[("t", ROADS)], ROADS_CANON),
     (
@@ -171,7 +172,8 @@ const PUT: [(&str, &[(&str, &str)], &str); 9] = [
     ),
 ];
 
-// Whether a run fills a room of this size, which is too small, with a front of the text, and says so.
+// Whether a run fills an `out` of this size, which is too small, with a prefix of the text, and reports the failed
+// write.
 fn fills_room(
     alloc: Global,
     words: &[String],
@@ -194,7 +196,7 @@ fn fills_room(
         && out.taken() == &text.as_bytes()[..size.min(text.len())]
 }
 
-// Whether a run fills each room that is too small for its text.
+// Whether a run fills each `out` that is too small for its text.
 fn fills_rooms(
     alloc: Global,
     line: &str,
@@ -222,7 +224,7 @@ fn small_rooms(rt: HostRuntime) {
     }
 }
 
-// Where nothing is to be put, a room of no bytes changes nothing, nor does it where it is `err`.
+// If nothing is written to `out`, its size of 0 changes nothing. An `err` of size 0 does not change the status.
 #[test]
 fn rooms_of_no_bytes(rt: HostRuntime) {
     let Ok(words) = owned(rt.alloc(), "canon|t") else {
@@ -238,7 +240,7 @@ fn rooms_of_no_bytes(rt: HostRuntime) {
     assert!(rt; untold == 2);
 }
 
-// A sink that takes a byte a put, and one that fails as it is flushed.
+// A sink that takes one byte a put, and a sink whose flush fails.
 #[test]
 fn slow_and_late_sinks(rt: HostRuntime) {
     let Ok(words) = owned(rt.alloc(), "canon|t") else {

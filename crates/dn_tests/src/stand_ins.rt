@@ -1,4 +1,4 @@
-// Sources and sinks that stand in for slow and failing devices.
+// Sources and sinks that behave like slow and failing devices.
 ghost use Rattle.std.specs.Prelude.{◌≡◌, ◌||◌, None, false, true, Some};
 
 use dn_line::{Source, SourceFault};
@@ -7,7 +7,7 @@ use std::alloc::Global;
 use std::io;
 use std::io::{ErrorKind, Read, Write};
 
-/// A source that gives at most so many bytes a pull, and fails after so many pulls.
+/// A source that gives at most `size` bytes a pull, and fails after `pulls` pulls.
 #[derive(Clone, Copy)]
 pub(crate) struct Pieces<'a> {
     pub(crate) rest: &'a [u8],
@@ -17,7 +17,7 @@ pub(crate) struct Pieces<'a> {
 }
 
 impl<'a> Pieces<'a> {
-    /// Bytes in pieces of at most this size, by a source that fails after so many pulls.
+    /// Returns a source of these bytes that gives at most `size` a pull, and fails after `pulls` pulls.
     pub(crate) fn failing(rest: &'a [u8], size: usize, pulls: usize) -> Pieces<'a>
         ensures { result.failed ≡ false }
     {
@@ -78,7 +78,7 @@ impl Sink for OneByte {
     }
 }
 
-/// A sink that takes everything, and fails as it is flushed.
+/// A sink that takes everything, but whose flush fails.
 #[derive(Drop)]
 pub(crate) struct NoFlush {
     pub(crate) bytes: Bytes,
@@ -151,7 +151,7 @@ impl Write for FailsOnce {
     }
 }
 
-/// A writer that takes everything, and fails as it is flushed.
+/// A writer that takes everything, but whose flush fails.
 #[derive(Drop)]
 pub(crate) struct LateWriter;
 

@@ -1,6 +1,6 @@
 # Completions of dnorm for fish.
 
-# Whether the command is one of these. A file may have the name of a command, so later words do not count.
+# Whether the command is one of these. A file may have the name of a command, so only the first word counts.
 function __dnorm_command
     set -l words (commandline -opc)
     contains -- "$words[2]" $argv

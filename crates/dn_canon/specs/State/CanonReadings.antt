@@ -12,7 +12,7 @@ pub record ReadsBack (t : List ℕ) (I J : Instance) : Type 0 where
   pub same : IsSame I J
   pub only : (K : Instance) → Reads t K → K ≡ J
 
--- and t is the one canonical text of J
+-- t reads as J and as nothing else, J is the same problem as I, and t is the only canonical text of J
 pub record ReadsTwice (form : Form) (t : List ℕ) (I J : Instance) : Type 0 where
   pub back : ReadsBack t I J
   pub again : IsCanonOf form t J

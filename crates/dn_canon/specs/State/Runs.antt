@@ -1,4 +1,4 @@
--- What making the canonical text of a text does.
+-- What producing the canonical text of a text does.
 use Rattle.std.specs.Prelude.{◌≡◌, ◌↔◌, true, ◌<◌, ◌^◌, ℕ, List, Bool, Option, Ok, Err}
 use Rattle.std.specs.Io.KnownBytes.{IsAtEnd}
 use Rattle.std.specs.declared.result.Result.{Result}
@@ -15,27 +15,28 @@ use Rattle.dn_canon.specs.CanonInstances.{IsCanonInstanceOf}
 use Rattle.dn_canon.specs.CanonTexts.{IsCanonOf, IsTooLarge, PrintsCanon}
 use Rattle.dn_canon.specs.State.Writes.{WritesCanon}
 
--- why there is no canonical text of I: want of memory for it, where 63 bits hold its count, or they do not
+-- why there is no canonical text of I: out of memory, where the number of counted lines is below 2^63, or a larger
+-- number
 abbrev pub TextFault : Form → Instance → Refusal → Type 0
 TextFault form I Memory = (J : Instance) × IsCanonInstanceOf form J I × size_of J < 2 ^ 63
 TextFault form I CountTooLarge = IsTooLarge form I
 TextFault form I _ = ⊥
 
--- the canonical text of I, whose count 63 bits hold, or why there is none
+-- the canonical text of I, which has fewer than 2^63 counted lines, or why there is none
 abbrev pub TextOutcome : {V : Type 0} → (V → List ℕ) → Form → Instance → Result V Refusal → Type 0
 TextOutcome bytes form I (Ok text) = (J : Instance) × PrintsCanon form (bytes text) I J × size_of J < 2 ^ 63
 TextOutcome bytes form I (Err e) = TextFault form I e
 
--- t reads as an instance, and whether it is the canonical text of that; or its first fault; or want of memory at a line
--- without fault
+-- t reads as an instance, and the answer is whether t is the canonical text of that instance; or the first fault of t;
+-- or out of memory at a line without a fault
 abbrev pub JudgesCanon : Form → List ℕ → Result Bool Refusal → Type 0
 JudgesCanon form t (Ok answer) = (I : Instance) × Reads t I × ((answer ≡ true) ↔ IsCanonOf form t I)
 JudgesCanon form t (Err (Text place code)) = IsFirstFault t place code
 JudgesCanon form t (Err Memory) = WantsMemory 0 (lines t)
 JudgesCanon form t (Err _) = ⊥
 
--- the source gave the text t from here on, and now gives `rest`. At its end t reads as an instance, and the canonical
--- text of that is written, or not; a refusal of reading leaves the source as `read_from` does
+-- the source gave the text t from here on, and now gives `rest`. At its end t reads as an instance, and either its
+-- canonical text is written or writing is refused. A refusal of reading leaves the source as `read_from` does
 abbrev pub RunOutcome : {S : Type 0} → SinkWords S → S → S → Form → List ℕ → Option (List ℕ)
     → Result (Unit {0}) Refusal → Type 0
 RunOutcome sink old new form t rest (Ok x) =

@@ -15,39 +15,38 @@ use Rattle.dn_sink.specs.declared.sink.SinkFault.{SinkFault}
 use Rattle.dn_canon.specs.declared.writer.NodeLines.{NodeLines}
 use Rattle.dn_canon.specs.declared.writer.NodeLines.TheVariants.{Supplies, Terminals, NoNodes}
 
--- the rows before the arcs
+-- the lines between the problem line and the arcs
 abbrev pub node_rows : NodeLines → List Row
 node_rows (Supplies supplies) = map supply_row supplies.now.entries
 node_rows (Terminals source sink) = terminal_row source.now S ∷ terminal_row sink.now T ∷ []
 node_rows NoNodes = []
 
--- the text is written whole, or a prefix of it by a sink that has failed; or its count has more than 63 bits, and then
--- nothing is put
+-- the sink took the whole text, or has failed and took a prefix of it; or the text has 2^63 counted lines or more, and
+-- nothing was put
 abbrev pub Writes : {S : Type 0} → SinkWords S → S → S → List ℕ → ℕ → Result (Unit {0}) Refusal → Type 0
 Writes sink old new text count (Ok _) = HasPut sink old new [] text × count < 2 ^ 63
 Writes sink old new text count (Err Write) = PutsPrefix sink old new text × count < 2 ^ 63
 Writes sink old new text count (Err CountTooLarge) = (new ≡ old) × 2 ^ 63 ≤ count
 Writes sink old new text count (Err _) = ⊥
 
--- so is the text of the canonical instance of I, by its number of arcs, items or points
+-- the text of the canonical instance of I is written, or writing is refused
 abbrev pub WritesCanon : {S : Type 0} → SinkWords S → S → S → Form → Instance → Result (Unit {0}) Refusal → Type 0
 WritesCanon sink old new form I result =
     (J : Instance) × IsCanonInstanceOf form J I × Writes sink old new (print J) (size_of J) result
 
--- where it is done, whether the sink has failed is as it was; on `Write` it has failed, and on each other refusal
--- nothing was put
+-- on `Ok` whether the sink has failed did not change; on `Write` it has failed; on any other refusal nothing was put
 abbrev pub SinkAfter : {S : Type 0} → SinkWords S → S → S → Result (Unit {0}) Refusal → Type 0
 SinkAfter sink old new (Ok _) = sink.has_failed new ≡ sink.has_failed old
 SinkAfter sink old new (Err Write) = IsTrue (sink.has_failed new)
 SinkAfter sink old new (Err _) = new ≡ old
 
--- a refusal that writing gives
+-- a refusal that writing can give
 abbrev pub IsOfWriting : Refusal → Type 0
 IsOfWriting Write = Unit {0}
 IsOfWriting CountTooLarge = Unit {0}
 IsOfWriting _ = ⊥
 
--- what is answered of a text that was put, or was not
+-- the result of writing a text, given the result of putting it
 abbrev pub written_as : Result (Unit {0}) SinkFault → Result (Unit {0}) Refusal
 written_as (Ok x) = Ok x
 written_as (Err f) = Err Write

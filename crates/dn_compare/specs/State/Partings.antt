@@ -1,4 +1,4 @@
--- Where what two lists of entries have at their keys first differs.
+-- Where two lists of entries first differ.
 use Rattle.std.specs.Prelude.{◌≡◌, ◌≢◌, ℕ, ◌<◌, ℤ, List, length, Option, MatchOption}
 use Rattle.std.specs.BTreeMap.{is_at}
 use Rattle.std.specs.Map.{lookup}
@@ -16,40 +16,40 @@ use Rattle.dn_compare.specs.FirstDifference.{Differ, IsFirstDifference}
 use Rattle.dn_compare.specs.declared.verdict.Verdict.{Verdict}
 use Rattle.dn_compare.specs.declared.verdict.Verdict.TheVariants.{Same, Pair, Length, Item}
 
--- when values that may be missing are the same, and what is said of two that are not
+-- which values, each of which may be missing, count as the same, and what is said of two that differ
 pub record Comparison (V W : Type 0) : Type 1 where
   pub Alike : Option V → Option V → Type 0
   pub Differ : Option V → Option V → W → Type 0
 
 module _ {K V W : Type 0} (cmp : K → K → Ordering) (by : Comparison V W) (left right : List (K × V)) where
-  -- what both have at a key is the same
+  -- both lists have the same value at a key
   abbrev pub AlikeAt : K → Type 0
   AlikeAt k = by.Alike (lookup (is_at (cmp k)) left) (lookup (is_at (cmp k)) right)
 
-  -- the least key at which they differ, and how
+  -- the least key at which the lists differ, and how they differ
   pub record PartAt (key : K) (what : W) : Type 0 where
     pub differ : by.Differ (lookup (is_at (cmp key)) left) (lookup (is_at (cmp key)) right) what
     pub same_before : (k : K) → cmp k key ≡ Less → AlikeAt k
 
-  -- they are the same at every key, or this is where they first differ
+  -- the lists have the same value at every key, or this is where they first differ
   abbrev pub IsParting : Option (K × W) → Type 0
   IsParting parting = MatchOption parting ((k : K) → AlikeAt k) (λ x. PartAt x.0 x.1)
 
--- bundles by what they tell
+-- compares bundles by the meaning of the arcs that they list
 abbrev pub by_meaning : {B Arc : Type 0} → ArcKind Arc → (B → List Arc) → Comparison B How
 by_meaning kind tells = record {
   Alike = λ a b. kind.Same (told_of tells a) (told_of tells b);
   Differ = λ a b how. kind.Differ (told_of tells a) (told_of tells b) how;
 }
 
--- flows, both of them
+-- compares flows, and says both if they differ
 abbrev pub by_flow : Comparison ℤ (ℤ × ℤ)
 by_flow = record {
   Alike = λ a b. flow_or_zero a ≡ flow_or_zero b;
   Differ = λ a b flows. (flow_or_zero a ≡ flows.0) × (flow_or_zero b ≡ flows.1) × (flows.0 ≢ flows.1);
 }
 
--- points
+-- compares points
 abbrev pub by_point : Comparison (ℤ × ℤ) (Unit {0})
 by_point = record { Alike = λ a b. a ≡ b; Differ = λ a b what. a ≢ b }
 
@@ -59,19 +59,19 @@ pub record ArcsPartAt {Arc : Type 0} (kind : ArcKind Arc) (xs ys : List ((ℤ ×
   pub differ : kind.Differ (bundle pair xs) (bundle pair ys) how
   pub same_before : (p : ℤ × ℤ) → pair_cmp p pair ≡ Less → kind.Same (bundle p xs) (bundle p ys)
 
--- they mean the same at every pair, or this is where they first differ
+-- the graphs mean the same at every pair, or this is where they first differ
 abbrev pub IsArcsParting : {Arc : Type 0} → ArcKind Arc → List ((ℤ × ℤ) × Arc) → List ((ℤ × ℤ) × Arc)
     → Option ((ℤ × ℤ) × How) → Type 0
 IsArcsParting kind xs ys parting =
     MatchOption parting ((p : ℤ × ℤ) → kind.Same (bundle p xs) (bundle p ys)) (λ x. ArcsPartAt kind xs ys x.0 x.1)
 
--- the verdict on two graphs of as many nodes whose supplies or terminals are the same
+-- the verdict on two graphs with the same NODES and the same supplies or terminals
 abbrev pub IsPairVerdict : {Arc : Type 0} → ArcKind Arc → List ((ℤ × ℤ) × Arc) → List ((ℤ × ℤ) × Arc) → Verdict → Type 0
 IsPairVerdict kind xs ys Same = (p : ℤ × ℤ) → kind.Same (bundle p xs) (bundle p ys)
 IsPairVerdict kind xs ys (Pair src dst how) = ArcsPartAt kind xs ys (src, dst) how
 IsPairVerdict kind xs ys _ = ⊥
 
--- the first place, counted from 1, at which two lists differ
+-- the least index, counted from 1, at which two lists differ
 pub record ItemsPartAt {A : Type 0} (xs ys : List A) (index : ℕ) : Type 0 where
   pub differ : item_at xs index ≢ item_at ys index
   pub same_before : (j : ℕ) → j < index → item_at xs j ≡ item_at ys j
@@ -83,7 +83,7 @@ IsListVerdict xs ys (Length left right) = Differ (length xs) (length ys) left ri
 IsListVerdict xs ys (Item index) = (length xs ≡ length ys) × ItemsPartAt xs ys index
 IsListVerdict xs ys _ = ⊥
 
--- the verdict on any two valid instances of as many nodes of which this is held
+-- the verdict on any two valid instances with the same NODES that these contents represent
 abbrev pub IsVerdictOn : Contents → Contents → Verdict → Type 0
 IsVerdictOn a b v =
     (I J : Instance) → IsValid I → IsValid J → nodes_of I ≡ nodes_of J → Shows a I → Shows b J → IsFirstDifference I J v

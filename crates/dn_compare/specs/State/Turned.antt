@@ -1,21 +1,21 @@
--- Verdicts seen from the other side.
+-- Verdicts with left and right exchanged.
 use Rattle.dn_arc.specs.declared.difference.Gap.{Gap}
 use Rattle.dn_arc.specs.declared.difference.How.{How}
 use Rattle.dn_arc.specs.declared.difference.How.TheVariants.{Lengths, Totals, Costs}
 use Rattle.dn_compare.specs.declared.verdict.Verdict.{Verdict}
 use Rattle.dn_compare.specs.declared.verdict.Verdict.TheVariants.{Same, Kind, Nodes, Supply, Source, Sink, Pair, Length, Item, Point}
 
--- both costs in the other order
+-- the costs exchanged
 abbrev pub turned_gap : Gap → Gap
 turned_gap gap = record { amount = gap.amount; left = gap.right; right = gap.left }
 
--- how the arcs of a pair differ, from the other side
+-- how the arcs of a pair differ, with left and right exchanged
 abbrev pub turned_how : How → How
 turned_how (Lengths left right) = Lengths right left
 turned_how (Totals left right) = Totals right left
 turned_how (Costs gap) = Costs (turned_gap gap)
 
--- left and right in the other order
+-- the verdict with left and right exchanged
 abbrev pub turned : Verdict → Verdict
 turned Same = Same
 turned (Kind left right) = Kind right left

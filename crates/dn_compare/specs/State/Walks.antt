@@ -4,7 +4,7 @@ use Rattle.std.specs.Borrow.{Bor}
 use Rattle.std.specs.Ordering.{match_ordering}
 use Rattle.std.specs.declared.cmp.Ordering.{Ordering}
 
--- the entries that a walk has before it: the next one, and those after it
+-- the entries that a walk has not passed: the next one, and those after it
 abbrev pub before_walk : {K V : Type 0} → Option (K × Bor V) → List (K × V) → List (K × V)
 before_walk None rest = []
 before_walk (Some e) rest = (e.0, e.1.now) ∷ rest
@@ -14,17 +14,17 @@ abbrev pub first_key : {K V : Type 0} → List (K × V) → Option K
 first_key [] = None
 first_key (e ∷ es) = Some e.0
 
--- the value of the first entry, if it stands at the key that is sought
+-- the value of the first entry, if its key is the one that is sought
 abbrev pub value_at : {K V : Type 0} → (K → Bool) → List (K × V) → Option V
 value_at sought [] = None
 value_at sought (e ∷ es) = cond (sought e.0) (Some e.1) None
 
--- the entries past the key that is sought, where the first one does not stand before it
+-- the entries after the key that is sought, if the first entry has this key; otherwise all entries
 abbrev pub after_key : {K V : Type 0} → (K → Bool) → List (K × V) → List (K × V)
 after_key sought [] = []
 after_key sought (e ∷ es) = cond (sought e.0) es (e ∷ es)
 
--- the lesser of two keys, where there is one
+-- the lesser of two keys, or the only one
 abbrev pub lesser_key : {K : Type 0} → (K → K → Ordering) → Option K → Option K → Option K
 lesser_key cmp None right = right
 lesser_key cmp (Some l) None = Some l

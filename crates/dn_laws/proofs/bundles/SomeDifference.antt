@@ -1,4 +1,4 @@
--- Arcs that do not mean the same have a first difference.
+-- Lemmas that arcs that do not mean the same have a first difference.
 use Rattle.std.proofs.Common.{◌≡◌, ◌≢◌, ◌⊎◌, inl, inr, ℕ, suc, zero, ℤ, pos, negsuc, ◌+ℤ◌, ◌≤ℤ◌, ◌<ℤ◌, ◌↔◌, List, [], ◌∷◌, Option, Some, None, refl, sym, ap, subst, arith}
 use Rattle.std.specs.List.{AllByRecursion}
 use Rattle.std.proofs.lemmas.Int.{ints, by_lt_z}
@@ -21,7 +21,7 @@ use Rattle.dn_arc.proofs.CurvesLaws.{at_most_cap}
 use Rattle.dn_arc.proofs.CostKindLaws.{cost_kind}
 use Rattle.dn_arc.proofs.DifferencesLaws.{least_cost_unique}
 
--- whether two numbers are the same
+-- two numbers are equal, or they are not
 pub same_or_not : (a b : ℤ) → (a ≡ b) ⊎ (a ≢ b)
 same_or_not a b = by_lt_z a b (λ lt. inr (λ e. absurd (omega (arith, ints, e)))) (λ le. by_lt_z b a (λ gt. inr (λ e. absurd (omega (arith, ints, e)))) (λ ge. inl (omega (arith, ints))))
 
@@ -40,7 +40,7 @@ length_there : (xs ys : List LengthArc) (w : Option ℤ) → IsLengthOf xs w →
 length_there xs ys None h g v l = absurd (subst (λ zs. LeastLength zs v) h l).has
 length_there xs ys (Some w) h g v l = subst (LeastLength ys) (Least.least_unique xs w v h l) g
 
--- lists of one least length, or of none, mean the same
+-- lists with the same least length, or with none, mean the same
 pub same_by_length : (xs ys : List LengthArc) (w : Option ℤ) → IsLengthOf xs w → IsLengthOf ys w → SameLength xs ys
 same_by_length xs ys w l r = record { there = length_there xs ys w l r; back = length_there ys xs w r l }
 
@@ -85,7 +85,7 @@ module _ (xs ys : List CostArc) where
   abbrev AnyGap : Type 0
   AnyGap = (gap : Gap) × IsGap xs ys gap
 
-  -- one amount further
+  -- the same least costs up to an amount are the same up to the next one, or there is a gap
   further : (n : ℤ) → SameBelow n → SameBelow (n +ℤ pos 1) ⊎ AnyGap
   further n same = by_costs (cost_found xs n) (cost_found ys n)
     where
@@ -98,7 +98,7 @@ module _ (xs ys : List CostArc) where
         | inr n' ↦ inr (record { amount = n; left = l.0; right = r.0 }, record { left = l.1; right = r.1; differ = n'; same_below = same })
       ]
 
-  -- up to an amount they cost the same, or a gap comes before it
+  -- up to an amount the least costs are the same, or there is a gap
   search_gap : (n : ℕ) → SameBelow (pos 0) → SameBelow (pos n) ⊎ AnyGap
   search_gap zero none = inl none
   search_gap (suc n) none = elim (search_gap n none) [
@@ -113,7 +113,7 @@ module _ (xs ys : List CostArc) where
       λ l. (let some = some_amount ys x k g (Splits.least_bottom ys x k l).at in absurd (omega (arith, ints))),
     )
 
-    -- past both capacities there are no costs
+    -- if the least costs are the same up to both capacities, the lists mean the same
     past_both : (n : ℤ) → cost_cap xs <ℤ n → cost_cap ys <ℤ n → SameBelow n → SameCurve xs ys
     past_both n p q same = record {
       there = λ x k l. by_lt_z x n (λ lt. (same x k lt).0 l) (λ le. let most = at_most_cap xs x k (Splits.least_bottom xs x k l).at in absurd (omega (arith, ints)));

@@ -1,4 +1,4 @@
--- Worked first differences.
+-- Lemmas on the worked first differences.
 use Rattle.std.proofs.Common.{rules, ◌≡◌, inl, inr, ℤ, pos, negsuc, ◌≤ℤ◌, ◌-◌, ◌^◌, FitsSigned, w64, List, [], ◌∷◌, ◌++◌, Bool, true, false, cond, ◌||◌, Option, Some, None, refl, sym, ap, ◌∙◌, subst, arith}
 use Rattle.std.specs.BTreeMap.{is_at}
 use Rattle.std.specs.Cmp.{IsTotalOrder}
@@ -48,7 +48,7 @@ use Rattle.dn_compare.proofs.FirstLaws.{kind_first, nodes_first, source_first, s
 use Rattle.dn_compare.proofs.HeldVerdicts.{inner, supply_at, min_pairs, max_pairs, sp_pairs, sources_first, queries_first, points_first}
 use Rattle.dn_laws.proofs.differences.SomeVerdict.{same_outside, alike_outside, first_place, later_place}
 
--- ---- what holds at some keys and outside of them holds everywhere
+-- ---- what holds at some keys and at all others holds at every key
 
 module _ {K : Type 0} (cmp : K → K → Ordering) (total : IsTotalOrder cmp) (exact : CmpEqualImpliesEq cmp) (P : K → Type 0) where
   among : (ks : List K) → AllByRecursion P ks → (q : K) → list_any (is_at (cmp q)) ks ≡ true → P q
@@ -173,7 +173,7 @@ least_amount =
     costs_part (cost_arc_at (pos 0) (pos 2) (pos 1) ∷ cost_arc_at (pos 0) (pos 2) (pos 4) ∷ []) (cost_arc_at (pos 0) (pos 3) (pos 1) ∷ cost_arc_at (pos 0) (pos 1) (pos 4) ∷ []) (gap (pos 3) (Some (pos 6)) (Some (pos 3)))
     (step_gap (pos 0) (pos 0) (pos 4) ((pos 1, pos 2) ∷ (pos 4, pos 2) ∷ []) s (pos 0) (pos 0) (pos 4) ((pos 1, pos 3) ∷ (pos 4, pos 1) ∷ []) t refl refl) (λ e. cc, (λ e. cc, (λ e. cc, (λ e. cc, tt))))
 
--- free capacity at one cost
+-- free capacity at one cost is a sound curve
 free_sound : (k room : ℤ) → pos 1 ≤ℤ room → room ≤ℤ pos (2 ^ 63 - 1) → FitsSigned w64 k → IsSound (pos 0) (pos 0) room ((k, room) ∷ [])
 free_sound k room some most f = record {
   some = search rules;
@@ -204,7 +204,7 @@ forced_costs =
     costs_part (cost_arc_at (pos 1) (pos 1) (pos 4) ∷ []) (cost_arc_at (pos 1) (pos 1) (pos 5) ∷ []) (gap (pos 1) (Some (pos 4)) (Some (pos 5)))
     (cost_gap (pos 1) (pos 4) (pos 1) [] s (pos 1) (pos 5) (pos 1) [] t refl (λ e. cc)) (λ e. cc, (λ e. cc, tt))
 
--- free capacity at one cost on both sides, more of it on one
+-- free capacity at one cost on both sides, and more of it on one side
 module _ (k l r : ℤ) (g : Gap) (ls : pos 1 ≤ℤ l) (lm : l ≤ℤ pos (2 ^ 63 - 1)) (rs : pos 1 ≤ℤ r) (rm : r ≤ℤ pos (2 ^ 63 - 1)) (f : FitsSigned w64 k) where
   free_part : Some g ≡ first_gap (pos 0) (pos 0) ((k, l) ∷ []) ((k, r) ∷ []) → IsFirstDifference (with_costs (cost_arc_at (pos 0) l k ∷ [])) (with_costs (cost_arc_at (pos 0) r k ∷ [])) (Verdicts.Pair (pos 1) (pos 2) (Hows.Costs g))
   free_part e =

@@ -1,4 +1,4 @@
--- Valid instances have a verdict.
+-- Lemmas that valid instances have a first difference.
 use Rattle.std.proofs.Common.{◌≡◌, ◌≢◌, ◌⊎◌, inl, inr, ℕ, suc, zero, ◌<◌, ℤ, List, [], ◌∷◌, ◌++◌, length, Bool, true, false, cond, ◌||◌, Option, Some, None, refl, sym, ap, ◌∙◌, subst, arith}
 use Rattle.std.specs.BTreeMap.{is_at}
 use Rattle.std.specs.Cmp.{IsTotalOrder}
@@ -72,7 +72,7 @@ module _ {K : Type 0} (cmp : K → K → Ordering) (total : IsTotalOrder cmp) (e
     ]
   ]
 
-  -- nothing differs, or there is a least key at which something does, where nothing differs outside of some keys
+  -- if nothing differs outside of some keys, nothing differs at all, or there is a least key with a difference
   least : (ks : List K) → ((q : K) → list_any (is_at (cmp q)) ks ≡ false → Alike q) → ((q : K) → Alike q) ⊎ ((k : K) × Apart k × ((q : K) → cmp q k ≡ Less → Alike q))
   least ks outside = elim (among ks) [
     | inl all ↦ inl (λ q. anywhere q (all q))
@@ -118,7 +118,7 @@ SameHere kind G H p = kind.Same (bundle p G.arcs) (bundle p H.arcs)
 abbrev DifferHere : {Arc : Type 0} → ArcKind Arc → Graph Arc → Graph Arc → ℤ × ℤ → Type 0
 DifferHere kind G H p = (how : How) × kind.Differ (bundle p G.arcs) (bundle p H.arcs) how
 
--- at a pair that no arc has, both have no arcs
+-- at a pair that no arc has, neither list has arcs
 pub same_outside : {Arc : Type 0} (kind : ArcKind Arc) (laws : IsKind kind) (xs ys : List ((ℤ × ℤ) × Arc)) (p : ℤ × ℤ) → list_any (same_pair p) (keys_of xs ++ keys_of ys) ≡ false → kind.Same (bundle p xs) (bundle p ys)
 same_outside kind laws xs ys p e =
     let both = any_both (same_pair p) (keys_of xs) (keys_of ys) e in
@@ -144,13 +144,13 @@ none_found q (x ∷ es) e = by_test (is_at (int_cmp q) x.0) refl (none_found q e
     by_test true h i = (let never : true ≡ false = sym (ap (λ t. t || list_any (is_at (int_cmp q)) (keys_of es)) h) ∙ e in cc)
     by_test false h i = ap (λ t. cond t (Some x.1) (value_of es q)) h ∙ i (sym (ap (λ t. t || list_any (is_at (int_cmp q)) (keys_of es)) h) ∙ e)
 
--- at an ID that no entry has, both have nothing
+-- at an ID that no entry has, neither list has a value
 pub alike_outside : {X : Type 0} (es fs : List (ℤ × X)) (P : Option X → Option X → Type 0) → P None None → (q : ℤ) → list_any (is_at (int_cmp q)) (keys_of es ++ keys_of fs) ≡ false → P (value_of es q) (value_of fs q)
 alike_outside es fs P nothing q e =
     let both = any_both (is_at (int_cmp q)) (keys_of es) (keys_of fs) e in
     subst (λ a. P a (value_of fs q)) (sym (none_found q es both.0)) (subst (λ b. P None b) (sym (none_found q fs both.1)) nothing)
 
--- two maps have the same at every ID, or there is a least ID at which they do not
+-- two maps have the same value at every ID, or there is a least ID at which they differ
 least_id : {X : Type 0} (es fs : List (ℤ × X)) (P Q : Option X → Option X → Type 0) → ((a b : Option X) → P a b ⊎ Q a b) → P None None
     → ((q : ℤ) → P (value_of es q) (value_of fs q)) ⊎ ((k : ℤ) × Q (value_of es k) (value_of fs k) × ((q : ℤ) → int_cmp q k ≡ Less → P (value_of es q) (value_of fs q)))
 least_id es fs P Q decide nothing =
@@ -222,7 +222,7 @@ some_list xs ys decide = elim (length_or_not (length xs) (length ys)) [
 abbrev AnyVerdict : Instance → Instance → Type 0
 AnyVerdict I J = (v : Verdict) × IsFirstDifference I J v
 
--- the numbers of nodes differ, or what comes after them decides
+-- the numbers of nodes differ, or the remaining values decide
 by_nodes : (I J : Instance) → kind_of I ≡ kind_of J → (nodes_of I ≡ nodes_of J → AnyVerdict I J) → AnyVerdict I J
 by_nodes I J k f = elim (same_or_not (nodes_of I) (nodes_of J)) [ inl e ↦ f e | inr n ↦ (Verdicts.Nodes (nodes_of I) (nodes_of J), nodes_first I J k n) ]
 

@@ -1,4 +1,4 @@
--- Problems that are made of parts are the same where their parts are.
+-- Lemmas that problems that are made of parts are the same if their parts are the same.
 use Rattle.std.proofs.Common.{◌≡◌, ℤ, List, [], ◌∷◌, ◌++◌, length, map, Some, refl, sym, ap, ◌∙◌, subst}
 use Rattle.std.proofs.lemmas.List.{map-append}
 use Rattle.std.specs.List.{AllByRecursion, flat_map}
@@ -14,7 +14,7 @@ use Rattle.dn_instance.specs.Sameness.{SameGraph, IsSame}
 use Rattle.dn_instance.specs.Validity.{AreSupplies, AreTerminals, IsValid, IsValidGraph}
 use Rattle.dn_instance.proofs.SameLaws.{SameAt, placed_meaning}
 
--- the same problem has the same head
+-- an instance that is the same problem has the same head
 pub head_then : (I P Q : Instance) → SameHead I P → IsSame P Q → SameHead I Q
 head_then (MinCostFlow s G) (MinCostFlow t H) (MinCostFlow u K) h e = (h.0 ∙ e.0, h.1 ∙ e.1.nodes)
 head_then (MaxFlow a b G) (MaxFlow c d H) (MaxFlow f g K) h e = (h.0 ∙ e.0, h.1 ∙ e.1, h.2 ∙ e.2.nodes)
@@ -33,25 +33,25 @@ head_back (MaxFlow a b G) _ (MaxFlow f g K) h e = absurd e
 head_back (ShortestPaths G) _ (ShortestPaths K) h e = absurd e
 head_back _ _ _ h e = absurd h
 
--- what has the head of a graph problem is one
+-- an instance with the head of a graph problem is a graph problem
 pub head_turned : (I P : Instance) → SameHead I P → SameHead P P
 head_turned (MinCostFlow s G) (MinCostFlow t H) h = (refl, refl)
 head_turned (MaxFlow a b G) (MaxFlow c d H) h = (refl, refl, refl)
 head_turned (ShortestPaths G) (ShortestPaths H) h = refl
 head_turned _ _ h = absurd h
 
--- a problem that is made of parts is a graph problem
+-- an instance that is made of parts is a graph problem
 pub own_head : (I : Instance) (parts : List Instance) → AreParts parts I → SameHead I I
 own_head I [] p = absurd (p.some refl)
 own_head I (P ∷ parts) p = head_back I I P p.heads.0 p.heads.0
 
--- problems made of parts that are the same have the same head
+-- instances that are made of the same parts have the same head
 pub heads_agree : (I J : Instance) (parts others : List Instance) → AreParts parts I → AreParts others J → AreSame parts others → SameHead I J
 heads_agree I J [] others p q s = absurd (p.some refl)
 heads_agree I J (P ∷ parts) [] p q s = absurd s
 heads_agree I J (P ∷ parts) (Q ∷ others) p q s = head_back I J Q (head_then I P Q p.heads.0 s.0) q.heads.0
 
--- a problem of this kind and head, with a graph of so many nodes
+-- a problem of this kind and head whose graph has this number of nodes
 pub record IsMade {Arc : Type 0} (make : Graph Arc → Instance) (nodes : ℤ) (P : Instance) : Type 0 where
   pub graph : Graph Arc
   pub is : P ≡ make graph
@@ -69,7 +69,7 @@ pub record IsMaking {Arc : Type 0} (kind : ArcKind Arc) (make : Graph Arc → In
   pub valid_graph : (G : Graph Arc) → IsValid (make G) → IsValidGraph kind G
   pub make_valid : (G H : Graph Arc) → G.nodes ≡ H.nodes → IsValid (make G) → IsValidGraph kind H → IsValid (make H)
 
--- a `min` problem
+-- a problem with the head of a `min` problem is made of a graph
 open_min : (s : List (ℤ × ℤ)) (G : Graph _) (P : Instance) → SameHead (MinCostFlow s G) P → IsMade (MinCostFlow s) G.nodes P
 open_min s G (MinCostFlow t H) h = record { graph = H; is = ap (λ u. MinCostFlow u H) (sym h.0); nodes_are = h.1 }
 open_min s G _ h = absurd h
@@ -87,7 +87,7 @@ min_making s = record {
   make_valid = λ G H n v w. (w, subst (λ m. AreSupplies m s) n v.1);
 }
 
--- a `max` problem
+-- a problem with the head of a `max` problem is made of a graph
 open_max : (a b : ℤ) (G : Graph _) (P : Instance) → SameHead (MaxFlow a b G) P → IsMade (MaxFlow a b) G.nodes P
 open_max a b G (MaxFlow c d H) h = record { graph = H; is = ap (λ u. MaxFlow u d H) (sym h.0) ∙ ap (λ u. MaxFlow a u H) (sym h.1); nodes_are = h.2 }
 open_max a b G _ h = absurd h
@@ -105,7 +105,7 @@ max_making a b = record {
   make_valid = λ G H n v w. (w, subst (λ m. AreTerminals m a b) n v.1);
 }
 
--- an `sp` graph
+-- a problem with the head of an `sp` graph is made of a graph
 open_sp : (G : Graph _) (P : Instance) → SameHead (ShortestPaths G) P → IsMade ShortestPaths G.nodes P
 open_sp G (ShortestPaths H) h = record { graph = H; is = refl; nodes_are = h }
 open_sp G _ h = absurd h
@@ -127,7 +127,7 @@ sp_making = record {
 abbrev pub all_arcs : {Arc : Type 0} → List (Graph Arc) → List ((ℤ × ℤ) × Arc)
 all_arcs graphs = flat_map (λ G. G.arcs) graphs
 
--- an arc and its pair
+-- equal pairs and equal arcs make equal placed arcs
 placed_is : {Arc : Type 0} (p q : ℤ × ℤ) (x y : Arc) → p ≡ q → x ≡ y → (let a : (ℤ × ℤ) × Arc = (p, x) in a) ≡ (q, y)
 placed_is p q x y e f = cc
 
@@ -138,7 +138,7 @@ module _ {Arc : Type 0} (kind : ArcKind Arc) (make : Graph Arc → Instance) (ma
   abbrev line : (ℤ × ℤ) × Arc → (ℤ × ℤ) × List ℤ
   line a = (a.0, kind.numbers a.1)
 
-  -- arcs whose lines are the same are the same
+  -- arcs whose lines are equal are equal
   lines_one : (xs ys : List ((ℤ × ℤ) × Arc)) → map line xs ≡ map line ys → xs ≡ ys
   lines_one [] [] e = refl
   lines_one [] (b ∷ ys) e = cc
@@ -152,7 +152,7 @@ module _ {Arc : Type 0} (kind : ArcKind Arc) (make : Graph Arc → Instance) (ma
       let rest : xs ≡ ys = lines_one xs ys cc in
       cc
 
-  -- parts, by their graphs
+  -- parts, given by their graphs
   pub record AreMade (nodes : ℤ) (parts : List Instance) : Type 0 where
     pub graphs : List (Graph Arc)
     pub are : parts ≡ map make graphs
@@ -173,11 +173,11 @@ module _ {Arc : Type 0} (kind : ArcKind Arc) (make : Graph Arc → Instance) (ma
   all_lines [] = refl
   all_lines (H ∷ Hs) = ap (λ l. l ++ flat_map arc_lines (map make Hs)) (making.lines_are H) ∙ ap (λ l. map line H.arcs ++ l) (all_lines Hs) ∙ sym (map-append line H.arcs (all_arcs Hs))
 
-  -- the arcs of a graph that is made of parts are theirs
+  -- the arcs of a graph that is made of parts are the arcs of the parts
   pub arcs_are : (G : Graph Arc) (Hs : List (Graph Arc)) → AreParts (map make Hs) (make G) → G.arcs ≡ all_arcs Hs
   arcs_are G Hs p = lines_one G.arcs (all_arcs Hs) (sym (making.lines_are G) ∙ p.arcs ∙ all_lines Hs)
 
-  -- graphs that are the same, put together
+  -- the arcs of graphs that are the same, one graph after another, mean the same
   same_all : (Hs Ks : List (Graph Arc)) → AreSame (map make Hs) (map make Ks) → SameAt kind making.kind_laws.meaning (all_arcs Hs) (all_arcs Ks)
   same_all [] [] s = record { at = λ p. making.kind_laws.meaning.same_refl [] }
   same_all [] (K ∷ Ks) s = absurd s
@@ -202,7 +202,7 @@ module _ {Arc : Type 0} (kind : ArcKind Arc) (make : Graph Arc → Instance) (ma
       (graphs_same G K hs.graphs ks.graphs o.nodes_are (subst (λ l. AreParts l (make G)) hs.are p) (subst (λ l. AreParts l (make K)) ks.are q')
       (subst (AreSame (map make hs.graphs)) ks.are (subst (λ l. AreSame l others) hs.are s)))
 
--- what is made of parts that are the same is the same problem
+-- problems that are made of the same parts are the same problem
 pub parts_same : (I J : Instance) (parts others : List Instance) → AreParts parts I → AreParts others J → AreSame parts others → IsSame I J
 parts_same I J parts others p q s = by_kind I J parts others (heads_agree I J parts others p q s) p q s
   where

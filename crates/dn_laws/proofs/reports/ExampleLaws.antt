@@ -1,4 +1,4 @@
--- Worked reports of graphs.
+-- Lemmas on the worked reports of graphs.
 use Rattle.std.proofs.Common.{◌≡◌, ◌↔◌, inl, inr, ℤ, pos, negsuc, List, [], ◌∷◌, map, codes, Bool, true, false, Option, Some, None, IfSome, refl, sym, subst, arith}
 use Rattle.std.proofs.lemmas.Int.{ints}
 use Rattle.std.specs.Fmt.{digits, signed_decimal}
@@ -19,7 +19,7 @@ use Rattle.dn_laws.specs.State.DifferenceExamples.{cost_arc_at, flow_from, lengt
 use Rattle.dn_sink.specs.Rows.{Row}
 use Rattle.dn_report.specs.Shows.{AreLengthWords, total_words, cost_words, pair_row, ArePairRows, IsShown}
 
--- none of the keys is p
+-- p is none of the keys
 abbrev IsApart : ℤ × ℤ → List (ℤ × ℤ) → Type 0
 IsApart p keys = AllByRecursion (λ k. same_pair p k ≡ false) keys
 
@@ -31,7 +31,7 @@ bundle_apart : {Arc : Type 0} (p : ℤ × ℤ) (arcs : List ((ℤ × ℤ) × Arc
 bundle_apart p [] h = refl
 bundle_apart p (a ∷ arcs) h = rw (h.0) (bundle_apart p arcs h.1)
 
--- what holds at keys and apart from them holds everywhere
+-- what holds at some keys and at all others holds at every key
 by_keys : (P : ℤ × ℤ → Type 0) (p : ℤ × ℤ) (keys : List (ℤ × ℤ)) → AllByRecursion P keys → (IsApart p keys → P p) → P p
 by_keys P p [] all apart = apart tt
 by_keys P p (k ∷ ks) all apart = by_test (same_pair p k) refl (by_keys P p ks all.1)
@@ -41,7 +41,7 @@ by_keys P p (k ∷ ks) all apart = by_test (same_pair p k) refl (by_keys P p ks 
     by_test false e rest = rest (λ h. apart (e, h))
 
 module _ {Arc : Type 0} (kind : ArcKind Arc) (laws : IsKind kind) (AreWords : List Arc → Row → Type 0) (arcs : List ((ℤ × ℤ) × Arc)) (entries : List ((ℤ × ℤ) × Row)) where
-  -- the words at a pair, or none, are those on its arcs
+  -- the words at a pair, or none, are right for its arcs
   record IsTold (o : Option Row) (xs : List Arc) : Type 0 where
     meant : (o ≡ None) ↔ kind.Same xs []
     words : IfSome o (AreWords xs)
@@ -58,11 +58,11 @@ module _ {Arc : Type 0} (kind : ArcKind Arc) (laws : IsKind kind) (AreWords : Li
       λ p. by_keys ToldAt p (keys_of arcs) at (λ h. subst (λ o. IsTold o (bundle p arcs)) (sym (lookup_apart p entries (apart p h))) (subst (IsTold None) (sym (bundle_apart p arcs h)) nothing)) in
       record { entries = entries; rising = rising; meant = λ p. (told p).meant; words = λ p. (told p).words; rows_are = refl }
 
-  -- words on arcs that mean anything
+  -- words are right for arcs that mean something
   some_words : (row : Row) (xs : List Arc) → (kind.Same xs [] → ⊥) → AreWords xs row → IsTold (Some row) xs
   some_words row xs never is = record { meant = (λ h. cc, λ h. absurd (never h)); words = is }
 
--- `sp`
+-- the worked `sp` graph
 abbrev some_lengths : List ((ℤ × ℤ) × LengthArc)
 some_lengths = length_arc_at (pos 2) (pos 1) (pos 4) ∷ length_arc_at (pos 1) (pos 2) (pos 7) ∷ length_arc_at (pos 1) (pos 2) (pos 3) ∷ []
 
@@ -87,7 +87,7 @@ shown_lengths = (
   refl,
 )
 
--- `max`
+-- the worked `max` graph
 abbrev cap_entries : List ((ℤ × ℤ) × Row)
 cap_entries = ((pos 1, pos 2), codes "total" ∷ signed_decimal (pos 9) ∷ []) ∷ ((pos 1, pos 3), codes "total" ∷ signed_decimal (pos 2) ∷ []) ∷ []
 
@@ -118,7 +118,7 @@ shown_capacities = (
   refl,
 )
 
--- `min`
+-- the worked `min` graph
 abbrev some_costs : List ((ℤ × ℤ) × CostArc)
 some_costs = cost_arc_at (pos 1) (pos 3) (pos 2) ∷ cost_arc_at (pos 0) (pos 2) (pos 5) ∷ cost_arc_at (pos 2) (pos 2) (negsuc 6) ∷ []
 
@@ -128,7 +128,7 @@ cost_entries = ((pos 1, pos 2), cost_words (bundle (pos 1, pos 2) some_costs)) �
 abbrev AreCosts : List CostArc → Row → Type 0
 AreCosts arcs words = words ≡ cost_words arcs
 
--- its arcs can carry something
+-- the arcs of the worked `min` graph mean something
 never_nothing : costs.Same (bundle (pos 1, pos 2) some_costs) [] → ⊥
 never_nothing same =
     let are : AllByRecursion costs.IsArc (bundle (pos 1, pos 2) some_costs) = (record { some = omega (arith, ints); room = omega (arith, ints) }, (record { some = omega (arith, ints); room = omega (arith, ints) }, (record { some = omega (arith, ints); room = omega (arith, ints) }, tt))) in

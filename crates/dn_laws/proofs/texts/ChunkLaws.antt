@@ -1,4 +1,4 @@
--- Graph problems that are made of parts, and what is made of the canonical instances of these parts.
+-- Lemmas on graph problems that are made of parts, and on problems made of the canonical instances of these parts.
 use Rattle.std.proofs.Common.{◌≡◌, ◌≢◌, ◌↔◌, ℕ, ◌+◌, ◌-◌, ◌^◌, ℤ, pos, ◌≤ℤ◌, List, [], ◌∷◌, length, length-append, map, refl, sym, ap, ◌∙◌, subst}
 use Rattle.std.proofs.lemmas.List.Sums.{sum_by-cons}
 use Rattle.std.specs.List.{AllByRecursion, sum_by}
@@ -18,38 +18,38 @@ use Rattle.dn_canon.proofs.OrderLaws.{all_at_pair}
 use Rattle.dn_canon.proofs.PartLaws.{all_append}
 use Rattle.dn_canon.proofs.TextLaws.{texts_agree}
 
--- canonical instances are the same problems
+-- canonical instances are the same problems as the parts
 pub canons_same : (form : Form) (canons parts : List Instance) → AreCanonsOf form canons parts → AreSame parts canons
 canons_same form [] [] c = tt
 canons_same form [] (I ∷ parts) c = absurd c
 canons_same form (J ∷ canons) [] c = absurd c
 canons_same form (J ∷ canons) (I ∷ parts) c = (c.0.same, canons_same form canons parts c.1)
 
--- and valid
+-- canonical instances are valid
 pub canons_valid : (form : Form) (canons parts : List Instance) → AreCanonsOf form canons parts → AllByRecursion IsValid canons
 canons_valid form [] parts c = tt
 canons_valid form (J ∷ canons) [] c = absurd c
 canons_valid form (J ∷ canons) (I ∷ parts) c = (c.0.valid, canons_valid form canons parts c.1)
 
--- and have the heads of the parts
+-- canonical instances have the heads of the parts
 pub canons_heads : (form : Form) (I : Instance) (canons parts : List Instance) → AreCanonsOf form canons parts → AllByRecursion (SameHead I) parts → AllByRecursion (SameHead I) canons
 canons_heads form I [] parts c h = tt
 canons_heads form I (J ∷ canons) [] c h = absurd c
 canons_heads form I (J ∷ canons) (P ∷ parts) c h = (head_then I P J h.0 c.0.same, canons_heads form I canons parts c.1 h.1)
 
--- there are some where there are parts
+-- if there are parts, there are canonical instances
 canons_some : (form : Form) (canons parts : List Instance) → AreCanonsOf form canons parts → parts ≢ [] → canons ≢ []
 canons_some form canons [] c some = λ e. some refl
 canons_some form [] (P ∷ parts) c some = absurd c
 canons_some form (J ∷ canons) (P ∷ parts) c some = λ e. cc
 
--- how the problems of a kind and head are made of their graphs, and which are canonical
+-- how the problems of a kind and head are made of their graphs, and which of them are canonical
 pub record IsCanonMaking {Arc : Type 0} (kind : ArcKind Arc) (make : Graph Arc → Instance) : Type 0 where
   pub making : IsMaking kind make
   pub canon_graph : (form : Form) (G : Graph Arc) → IsCanonInstance form (make G) → IsCanonGraph kind form G
   pub make_canon : (form : Form) (G : Graph Arc) → IsCanonGraph kind form G → IsCanonInstance form (make G)
 
--- what holds of the graph problems of each kind
+-- what holds of the graph problems of each kind holds of all graph problems
 pub by_kind : (Q : Instance → Type 0) → ((Arc : Type 0) (kind : ArcKind Arc) (make : Graph Arc → Instance) → IsCanonMaking kind make → (G : Graph Arc) → Q (make G)) → (I : Instance) → SameHead I I → Q I
 by_kind Q f (MinCostFlow s G) h = f _ costs (MinCostFlow s) (record { making = min_making s; canon_graph = λ form K c. c; make_canon = λ form K c. c }) G
 by_kind Q f (MaxFlow a b G) h = f _ capacities (MaxFlow a b) (record { making = max_making a b; canon_graph = λ form K c. c; make_canon = λ form K c. c }) G
@@ -59,13 +59,13 @@ by_kind Q f (Queries pairs) h = absurd h
 by_kind Q f (Coordinates points) h = absurd h
 
 module _ {Arc : Type 0} (kind : ArcKind Arc) (make : Graph Arc → Instance) (making : IsMaking kind make) where
-  -- arcs of valid parts
+  -- the arcs of valid parts are placed in the graph
   pub placed_all : (n : ℤ) (Hs : List (Graph Arc)) → AllByRecursion (λ (H : Graph Arc). n ≡ H.nodes) Hs → AllByRecursion IsValid (map make Hs) → AllByRecursion (IsPlaced kind n) (all_arcs Hs)
   placed_all n [] e v = tt
   placed_all n (H ∷ Hs) e v =
       all_append (IsPlaced kind n) H.arcs (all_arcs Hs) (subst (λ m. AllByRecursion (IsPlaced kind m) H.arcs) (sym e.0) (making.valid_graph H v.0).placed) (placed_all n Hs e.1 v.1)
 
-  -- a graph of the same meaning as a valid one
+  -- a graph with the meaning of a valid one is valid, if its arcs are placed
   valid_over : (G K : Graph Arc) → SameGraph kind G K → IsValidGraph kind G → AllByRecursion (IsPlaced kind K.nodes) K.arcs → IsValidGraph kind K
   valid_over G K s v p =
       let are : (H : Graph Arc) → AllByRecursion (IsPlaced kind H.nodes) H.arcs → (q : ℤ × ℤ) → AllByRecursion kind.IsArc (bundle q H.arcs) = λ H placed q. all_at_pair (IsPlaced kind H.nodes) kind.IsArc (λ a h. h.is_arc) q H.arcs placed in
@@ -76,7 +76,7 @@ module _ {Arc : Type 0} (kind : ArcKind Arc) (make : Graph Arc → Instance) (ma
         capacities = λ q. subst (λ z. z ≤ℤ pos (2 ^ 63 - 1)) (making.kind_laws.same_capacity (bundle q G.arcs) (bundle q K.arcs) (are G v.placed q) (are K p q) (s.bundles q)) (v.capacities q);
       }
 
-  -- what is made of valid parts is valid where a problem that is the same is
+  -- a problem made of valid parts is valid, if it is the same as a valid problem
   valid_made : (G : Graph Arc) (J : Instance) (others : List Instance) → SameHead (make G) J → IsSame (make G) J → AreParts others J → AllByRecursion IsValid others → IsValid (make G) → IsValid J
   valid_made G J others h s p each v =
       let o = making.opens G J h in
@@ -93,7 +93,7 @@ module _ {Arc : Type 0} (kind : ArcKind Arc) (make : Graph Arc → Instance) (ma
   heads_made K [] e = tt
   heads_made K (C ∷ Cs) e = (making.head_is K C e.0, heads_made K Cs e.1)
 
-  -- parts of one head make a problem
+  -- parts with the same head make a problem
   whole_made : (G : Graph Arc) (others : List Instance) → others ≢ [] → AllByRecursion (SameHead (make G)) others → (W : Instance) × AreParts others W
   whole_made G others some h =
       let cs = graphs_of kind make making G others h in
@@ -112,7 +112,7 @@ module _ {Arc : Type 0} (kind : ArcKind Arc) (make : Graph Arc → Instance) (ma
   sizes (H ∷ Hs) =
       length-append H.arcs (all_arcs Hs) ∙ ap (λ n. n + length (all_arcs Hs)) (sym (making.size_is H)) ∙ ap (λ n. size_of (make H) + n) (sizes Hs) ∙ sym (sum_by-cons size_of (make H) (map make Hs))
 
-  -- the count is the sum of those of the parts
+  -- the number of arcs is the sum of the numbers of the parts
   size_made : (K : Graph Arc) (others : List Instance) → AreParts others (make K) → size_of (make K) ≡ sum_by size_of others
   size_made K others p =
       let cs = graphs_of kind make making K others p.heads in
@@ -129,11 +129,11 @@ whole_of form I c =
     let some = canons_some form c.canons c.parts c.canons_are c.parts_are.some in
     by_kind (λ I. AllByRecursion (SameHead I) c.canons → (W : Instance) × AreParts c.canons W) (λ Arc kind make canon G h. whole_made kind make canon.making G c.canons some h) I (own_head I c.parts c.parts_are) (canons_heads form I c.canons c.parts c.canons_are c.parts_are.heads)
 
--- which is the same as the whole
+-- the problem made of canonical instances is the same as the whole
 pub whole_same : (form : Form) (I W : Instance) (c : HasCanonParts form I) → AreParts c.canons W → IsSame I W
 whole_same form I W c w = parts_same I W c.parts c.canons c.parts_are w (canons_same form c.canons c.parts c.canons_are)
 
--- and valid exactly if the whole is
+-- the problem made of canonical instances is valid if and only if the whole is
 pub whole_valid : (form : Form) (I W : Instance) (c : HasCanonParts form I) → AreParts c.canons W → AllByRecursion IsValid c.parts → IsValid I ↔ IsValid W
 whole_valid form I W c w each =
     let same = whole_same form I W c w in (
@@ -141,11 +141,11 @@ whole_valid form I W c w each =
       parts_valid W I c.canons c.parts (sym_of I W same) w c.parts_are each,
     )
 
--- with the same canonical text
+-- the problem made of canonical instances has the canonical text of the whole
 pub whole_bytes : (from to : Form) (t u : List ℕ) (I W : Instance) (c : HasCanonParts from I) → AreParts c.canons W → IsCanonOf to t I → IsCanonOf to u W → t ≡ u
 whole_bytes from to t u I W c w x y = (texts_agree to t u I W x y).1 (whole_same from I W c w)
 
--- the count is the sum of those of the parts
+-- the number of counted lines is the sum of the numbers of the parts
 pub whole_size : (J : Instance) (others : List Instance) → AreParts others J → size_of J ≡ sum_by size_of others
 whole_size J others p =
     by_kind (λ J. AreParts others J → size_of J ≡ sum_by size_of others) (λ Arc kind make canon K q. size_made kind make canon.making K others q) J (own_head J others p) p

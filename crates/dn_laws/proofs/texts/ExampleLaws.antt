@@ -1,4 +1,4 @@
--- The worked `min` problem on one pair: valid, canonical, and the same as its canonical arcs.
+-- Lemmas on the worked `min` problem on one pair: it is valid, canonical, and the same as its canonical arcs.
 use Rattle.std.proofs.Common.{◌≡◌, ℤ, pos, ◌≤ℤ◌, ◌-◌, ◌^◌, List, [], Bool, true, false, cond, refl, sym, ap, ◌∙◌, subst, arith, append-nil}
 use Rattle.std.proofs.lemmas.Int.{ints}
 use Rattle.std.specs.List.{AllByRecursion}
@@ -20,15 +20,15 @@ use Rattle.dn_laws.specs.State.TextExamples.{on_one_pair}
 use Rattle.dn_canon.specs.State.ToldArcs.{placed}
 use Rattle.dn_canon.proofs.ToldLaws.{bundle_placed, order_placed}
 
--- the one pair
+-- the pair of all arcs
 abbrev here : ℤ × ℤ
 here = (pos 1, pos 2)
 
--- the arcs of a pair, where all are those of the one pair
+-- the arcs of a pair, if all arcs are at one pair
 bundle_at : (p : ℤ × ℤ) (arcs : List CostArc) → bundle p (placed here arcs) ≡ cond (same_pair p here) arcs []
 bundle_at p arcs = ap (bundle p) (sym (append-nil (placed here arcs))) ∙ bundle_placed p here arcs [] ∙ ap (λ l. cond (same_pair p here) l []) (append-nil arcs)
 
--- what holds of the arcs and of none holds of the bundle at each pair
+-- what holds of these arcs and of no arcs holds of the bundle at each pair
 at_each : (P : List CostArc → Type 0) (arcs : List CostArc) → P arcs → P [] → (p : ℤ × ℤ) → P (bundle p (placed here arcs))
 at_each P arcs all none p = subst P (sym (bundle_at p arcs)) (by_test (same_pair p here))
   where
@@ -39,7 +39,7 @@ at_each P arcs all none p = subst P (sym (bundle_at p arcs)) (by_test (same_pair
 in_order : (arcs : List CostArc) → AreInOrder (placed here arcs)
 in_order arcs = subst AreInOrder (append-nil (placed here arcs)) (order_placed here arcs [] tt tt).1
 
--- the arcs are between nodes, and their CAPs sum within the range
+-- placed arcs whose CAPs sum within the range make a valid problem
 pub valid_at : (arcs : List CostArc) → AllByRecursion (IsPlaced costs (pos 2)) (placed here arcs) → cost_cap arcs ≤ℤ pos (2 ^ 63 - 1) → IsValid (on_one_pair arcs)
 valid_at arcs each sum = (
   record {
@@ -62,7 +62,7 @@ placed_arc a is low cap cost = record {
 pub canonical_at : (form : Form) (arcs : List CostArc) → AreCanonCosts form arcs → IsCanonInstance form (on_one_pair arcs)
 canonical_at form arcs c = record { in_order = in_order arcs; canonical = at_each (AreCanonCosts form) arcs c (cost_kind.none_canon form) }
 
--- what is canonical on one pair is so of its arcs
+-- if the problem is canonical, its arcs are canonical
 pub canonical_here : (form : Form) (arcs : List CostArc) → IsCanonInstance form (on_one_pair arcs) → AreCanonCosts form arcs
 canonical_here form arcs c = subst (AreCanonCosts form) (bundle_at here arcs) (c.canonical here)
 

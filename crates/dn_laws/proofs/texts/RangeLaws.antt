@@ -1,4 +1,4 @@
--- The canonical arcs of ranges of SRC, one range after another, are those of the whole.
+-- Lemmas that the canonical arcs of ranges of SRC, one range after another, are the canonical arcs of the whole.
 use Rattle.std.proofs.Common.{◌≡◌, ◌↔◌, ◌-◌, ◌^◌, ℤ, pos, ◌≤ℤ◌, ◌<ℤ◌, List, [], ◌∷◌, ◌++◌, cond, int_lt, map, refl, sym, ap, ◌∙◌, subst, arith, append-nil, IsTrue}
 use Rattle.std.proofs.lemmas.Int.{ints}
 use Rattle.std.specs.List.{AllByRecursion, flat_map}
@@ -25,31 +25,31 @@ use Rattle.dn_canon.proofs.PartLaws.{all_append}
 use Rattle.dn_canon.proofs.TextLaws.{canon_one}
 use Rattle.dn_canon.proofs.ToldLaws.{all_from, at_some}
 
--- a pair of a lower SRC comes first
+-- a pair with a lower SRC comes first
 below_less : (p q : ℤ × ℤ) → p.0 <ℤ q.0 → pair_cmp p q ≡ Less
 below_less p q h = ap (λ t. ordering_then (cond t Less (cond (int_lt q.0 p.0) Greater Equal)) (int_cmp p.1 q.1)) (test_yes p.0 q.0 h)
 
--- what holds holds of each element
+-- a fact holds of each element
 each_of : {X : Type 0} (P : Type 0) → P → (xs : List X) → AllByRecursion (λ (x : X). P) xs
 each_of P h [] = tt
 each_of P h (x ∷ xs) = (h, each_of P h xs)
 
--- what holds of what each element becomes, as a fact of the element
+-- what holds of the mapped list holds of the image of each element
 all_unmap : {X Y : Type 0} (P : Y → Type 0) (f : X → Y) (xs : List X) → AllByRecursion P (map f xs) → AllByRecursion (λ x. P (f x)) xs
 all_unmap P f [] h = tt
 all_unmap P f (x ∷ xs) h = (h.0, all_unmap P f xs h.1)
 
 module _ {Arc : Type 0} where
-  -- each SRC of these arcs is below each SRC of those
+  -- each SRC of the first arcs is below each SRC of the second
   abbrev pub IsBelow : List ((ℤ × ℤ) × Arc) → List ((ℤ × ℤ) × Arc) → Type 0
   IsBelow xs ys = AllByRecursion (λ a. AllByRecursion (λ b. a.0.0 <ℤ b.0.0) ys) xs
 
-  -- a pair whose SRC is below that of each arc has none
+  -- a pair whose SRC is below all SRCs has no arcs
   none_below : (p : ℤ × ℤ) (ys : List ((ℤ × ℤ) × Arc)) → AllByRecursion (λ b. p.0 <ℤ b.0.0) ys → bundle p ys ≡ []
   none_below p [] h = refl
   none_below p (b ∷ ys) h = ap (λ o. cond (is_eq o) (b.1 ∷ bundle p ys) (bundle p ys)) (below_less p b.0 h.0) ∙ none_below p ys h.1
 
-  -- each pair has arcs in one of the two alone
+  -- each pair has arcs in at most one of the two lists
   in_one : (Q : List Arc → Type 0) (p : ℤ × ℤ) (xs ys : List ((ℤ × ℤ) × Arc)) → IsBelow xs ys → Q (bundle p xs) → Q (bundle p ys) → Q (bundle p (xs ++ ys))
   in_one Q p xs ys below low high = subst Q (sym (bundle_append p xs ys)) (by_low (bundle p xs) refl low)
     where
@@ -59,7 +59,7 @@ module _ {Arc : Type 0} where
           let above = at_some (λ a. AllByRecursion (λ b. a.0.0 <ℤ b.0.0) ys) (λ q. AllByRecursion (λ b. q.0 <ℤ b.0.0) ys) (λ a g. g) xs p u us below e in
           subst (λ l. Q ((u ∷ us) ++ l)) (sym (none_below p ys above)) (subst Q (sym (append-nil (u ∷ us))) h)
 
-  -- two lists in order, one below the other
+  -- two sorted lists, the first below the second, are sorted together
   order_joined : (xs ys : List ((ℤ × ℤ) × Arc)) → IsBelow xs ys → AreInOrder xs → AreInOrder ys → AreInOrder (xs ++ ys)
   order_joined [] ys below r s = s
   order_joined (a ∷ xs) ys below r s = (
@@ -68,7 +68,7 @@ module _ {Arc : Type 0} where
   )
 
 module _ {Arc : Type 0} (kind : ArcKind Arc) (laws : IsKind kind) (form : Form) where
-  -- canonical arcs that mean what these do
+  -- canonical arcs with the same meaning as these arcs
   pub record AreCanonArcs (xs cs : List ((ℤ × ℤ) × Arc)) : Type 0 where
     pub in_order : AreInOrder cs
     pub canonical : (p : ℤ × ℤ) → kind.IsCanon form (bundle p cs)
@@ -83,7 +83,7 @@ module _ {Arc : Type 0} (kind : ArcKind Arc) (laws : IsKind kind) (form : Form) 
     same = record { at = λ p. laws.meaning.same_refl [] };
   }
 
-  -- canonical arcs have no other SRC
+  -- canonical arcs have no other SRCs
   same_tails : (F : ℤ → Type 0) (xs cs : List ((ℤ × ℤ) × Arc)) → AreCanonArcs xs cs → AllByRecursion (λ a. F a.0.0) xs → AllByRecursion (λ a. F a.0.0) cs
   same_tails F xs cs c h = all_from (λ a. F a.0.0) cs (λ q. by_bundle q (bundle q xs) refl)
     where
@@ -93,13 +93,13 @@ module _ {Arc : Type 0} (kind : ArcKind Arc) (laws : IsKind kind) (form : Form) 
           subst (AllByRecursion (λ x. F q.0)) (sym (laws.nothing_told form (bundle q cs) (c.canonical q) told)) tt
       by_bundle q (u ∷ us) e = each_of (F q.0) (at_some (λ a. F a.0.0) (λ p. F p.0) (λ a g. g) xs q u us h e) (bundle q cs)
 
-  -- so they are below others where the arcs are
+  -- canonical arcs are below others if the arcs are
   below_canon : (xs cs ys ds : List ((ℤ × ℤ) × Arc)) → AreCanonArcs xs cs → AreCanonArcs ys ds → IsBelow xs ys → IsBelow cs ds
   below_canon xs cs ys ds c d h =
       same_tails (λ t. AllByRecursion (λ b. t <ℤ b.0.0) ds) xs cs c
       (all_mono (λ a. AllByRecursion (λ b. a.0.0 <ℤ b.0.0) ys) (λ a. AllByRecursion (λ b. a.0.0 <ℤ b.0.0) ds) (λ a g. same_tails (λ u. a.0.0 <ℤ u) ys ds d g) xs h)
 
-  -- two ranges
+  -- the canonical arcs of two ranges are those of both together
   joined_canon : (xs cs ys ds : List ((ℤ × ℤ) × Arc)) → AreCanonArcs xs cs → AreCanonArcs ys ds → IsBelow xs ys → AreCanonArcs (xs ++ ys) (cs ++ ds)
   joined_canon xs cs ys ds c d h =
       let below = below_canon xs cs ys ds c d h in
@@ -124,7 +124,7 @@ module _ {Arc : Type 0} (kind : ArcKind Arc) (make : Graph Arc → Instance) (ca
         same = record { at = (canon.making.same_graph H C c.same).bundles };
       }
 
-  -- the arcs of the lines of ranges
+  -- if the arc lines of ranges are below each other, the arcs are
   below_arcs : (H : Graph Arc) (Hs : List (Graph Arc)) → AreBelow (arc_lines (make H)) (flat_map arc_lines (map make Hs)) → IsBelow H.arcs (all_arcs Hs)
   below_arcs H Hs h =
       let line : (ℤ × ℤ) × Arc → (ℤ × ℤ) × List ℤ = λ a. (a.0, kind.numbers a.1) in
@@ -139,7 +139,7 @@ module _ {Arc : Type 0} (kind : ArcKind Arc) (make : Graph Arc → Instance) (ca
   all_canon (H ∷ Hs) [] c r = absurd c
   all_canon (H ∷ Hs) (C ∷ Cs) c r = joined_canon kind canon.making.kind_laws form H.arcs C.arcs (all_arcs Hs) (all_arcs Cs) (one_canon H C c.0) (all_canon Hs Cs c.1 r.1) (below_arcs H Hs r.0)
 
-  -- a graph with the canonical arcs of ranges
+  -- a graph with the canonical arcs of ranges is canonical
   graph_canon : (G K : Graph Arc) (xs : List ((ℤ × ℤ) × Arc)) (Cs : List (Graph Arc)) → AllByRecursion (λ (C : Graph Arc). K.nodes ≡ C.nodes) Cs → AllByRecursion IsValid (map make Cs) → AreParts (map make Cs) (make K) → CanonArcs xs (all_arcs Cs) → IsSame (make G) (make K)
       → IsCanonInstanceOf form (make K) (make G)
   graph_canon G K xs [] n v p c s = absurd (p.some refl)
@@ -173,14 +173,14 @@ module _ {Arc : Type 0} (kind : ArcKind Arc) (make : Graph Arc → Instance) (ca
       subst (λ W. IsCanonInstanceOf form W (make G)) (sym o.is)
       (graph_canon G K (all_arcs hs.graphs) cs.graphs cs.nodes_are (subst (AllByRecursion IsValid) cs.are (canons_valid form canons parts c)) (subst (λ l. AreParts l (make K)) cs.are q') all (subst (IsSame (make G)) o.is s))
 
--- what is made of the canonical instances of ranges is the canonical instance
+-- the problem made of the canonical instances of ranges is the canonical instance
 pub canon_made : (form : Form) (I J : Instance) (c : HasCanonParts form I) → AreRanges c.parts → AreParts c.canons J → IsCanonInstanceOf form J I
 canon_made form I J c r w =
     let own = own_head I c.parts c.parts_are in
     let same = whole_same form I J c w in
     by_kind (λ I. SameHead I J → IsSame I J → AreParts c.parts I → IsCanonInstanceOf form J I) (λ Arc kind make canon G h s p. made_canon kind make canon form G J c.parts c.canons h s p c.canons_are r w) I own (head_then I I J own same) same c.parts_are
 
--- and there is no other
+-- the canonical instance is made of the canonical instances of ranges
 made_of_canon : (form : Form) (I J : Instance) (c : HasCanonParts form I) → AreRanges c.parts → IsCanonInstanceOf form J I → AreParts c.canons J
 made_of_canon form I J c r j =
     let (W, w) = whole_of form I c in

@@ -1,4 +1,5 @@
--- The canonical text of a graph problem whose parts are ranges of SRC: its head, and the arc lines of the parts.
+-- Lemmas on the canonical text of a graph problem whose parts are ranges of SRC: its head, and the arc lines of the
+-- parts.
 use Rattle.std.proofs.Common.{◌≡◌, ◌↔◌, ℕ, ℤ, List, [], ◌∷◌, ◌++◌, length, map, refl, sym, ap, ◌∙◌, subst}
 use Rattle.std.proofs.lemmas.List.{map-append}
 use Rattle.std.specs.List.{AllByRecursion, flat_map, sum_by}
@@ -18,12 +19,12 @@ use Rattle.dn_laws.proofs.texts.ChunkLaws.{whole_of, whole_size}
 use Rattle.dn_laws.proofs.texts.RangeLaws.{canon_made}
 use Rattle.dn_canon.proofs.TextLaws.{texts_agree}
 
--- the rows of arcs are those of their lines
+-- the rows of arcs are the rows of their lines
 rows_of : {Arc : Type 0} (kind : ArcKind Arc) (arcs : List ((ℤ × ℤ) × Arc)) → map (arc_row kind) arcs ≡ map line_row (map (λ a. (a.0, kind.numbers a.1)) arcs)
 rows_of kind [] = refl
 rows_of kind (a ∷ arcs) = ap (λ l. arc_row kind a ∷ l) (rows_of kind arcs)
 
--- the rows of a graph problem are those before its arcs and those of its arcs
+-- the rows of a graph problem are the rows before its arcs and the rows of its arcs
 rows_parted : (I : Instance) → SameHead I I → rows I ≡ head_rows (size_of I) I ++ arc_rows I
 rows_parted (MinCostFlow s G) h = ap (λ l. graph_row Kinds.Min G.nodes (length G.arcs) ∷ (map supply_row s ++ l)) (rows_of costs G.arcs)
 rows_parted (MaxFlow a b G) h = ap (λ l. graph_row Kinds.Max G.nodes (length G.arcs) ∷ terminal_row a S ∷ terminal_row b T ∷ l) (rows_of capacities G.arcs)
@@ -34,7 +35,7 @@ pub each_parted : (I : Instance) (others : List Instance) → AllByRecursion (Sa
 each_parted I [] h = tt
 each_parted I (C ∷ others) h = (rows_parted C (head_turned I C h.0), each_parted I others h.1)
 
--- those before the arcs follow from the head
+-- the rows before the arcs follow from the head
 head_one : (n : ℕ) (I J : Instance) → SameHead I J → head_rows n J ≡ head_rows n I
 head_one n (MinCostFlow s G) (MinCostFlow t H) h = ap (λ m. graph_row Kinds.Min m n ∷ map supply_row t) (sym h.1) ∙ ap (λ u. graph_row Kinds.Min G.nodes n ∷ map supply_row u) (sym h.0)
 head_one n (MaxFlow a b G) (MaxFlow c d H) h =
@@ -44,12 +45,12 @@ head_one n (MaxFlow a b G) (MaxFlow c d H) h =
 head_one n (ShortestPaths G) (ShortestPaths H) h = ap (λ m. graph_row Kinds.Sp m n ∷ []) (sym h)
 head_one n _ _ h = absurd h
 
--- the rows of the arcs of parts
+-- the rows of the arc lines of parts are the arc rows of the parts, one part after another
 parts_rows : (others : List Instance) → map line_row (flat_map arc_lines others) ≡ flat_map arc_rows others
 parts_rows [] = refl
 parts_rows (C ∷ others) = map-append line_row (arc_lines C) (flat_map arc_lines others) ∙ ap (λ l. arc_rows C ++ l) (parts_rows others)
 
--- the rows of what is made of parts
+-- the rows of a problem that is made of parts
 rows_gathered : (I J : Instance) (others : List Instance) → SameHead I J → AreParts others J → rows J ≡ gathered_rows I others
 rows_gathered I J others h p =
     rows_parted J (own_head J others p)

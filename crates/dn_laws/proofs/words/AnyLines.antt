@@ -1,4 +1,4 @@
--- What `clap` reads of any words after `--`.
+-- Lemmas on what `clap` reads of any words after `--`.
 use Rattle.std.proofs.Common.{ℕ, List, [], ◌∷◌, None, codes, refl}
 use Rattle.std.specs.Borrow.{Bor}
 use Rattle.dn_arc.specs.declared.arc.Form.TheVariants.{One}

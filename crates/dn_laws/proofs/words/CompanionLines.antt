@@ -1,4 +1,4 @@
--- What `clap` reads of `check` with a companion.
+-- Lemmas on what `clap` reads of `check` with a companion.
 use Rattle.std.proofs.Common.{◌≡◌, List, [], ◌∷◌, ◌++◌, Some, true, codes, refl}
 use Rattle.std.specs.Borrow.{Bor}
 use Rattle.clap.specs.Words.{Text}

@@ -1,4 +1,4 @@
--- What `clap` reads of `canon` with a form.
+-- Lemmas on what `clap` reads of `canon` with a form.
 use Rattle.std.proofs.Common.{◌≡◌, ℕ, [], ◌∷◌, true, codes, refl}
 use Rattle.dn_arc.specs.declared.arc.Form.TheVariants.{One, Two}
 use Rattle.clap.specs.Words.{Text}

@@ -1,4 +1,4 @@
--- What `clap` makes of a line with a command, one word after the other.
+-- Lemmas on what `clap` makes of a line with a command, word by word.
 use Rattle.std.proofs.Common.{◌≡◌, ◌∙◌, ℕ, false, true, List, [], ◌∷◌, Option, Some, None, is_some, option_map, find, fold, refl, ap, ap₂}
 use Rattle.std.specs.Option.{option_map_or}
 use Rattle.std.specs.Borrow.{Bor}
@@ -13,17 +13,17 @@ use Rattle.dn_laws.proofs.words.ReadLaws.{Reads, name_cases}
 
 -- ---- the words after a command
 
--- `clap` reads these words of a command from one state to another, and finds no fault in them
+-- `clap` reads these words of a command from one state to another, without a fault
 pub record Passes (s : Shape) (from : Walk) (words : List Text) (to : Walk) : Type 0 where
   pub ends : fold (walked s.rules []) from words ≡ to
   pub none : walk_fault s [] from words ≡ []
 
--- no more words
+-- reading no words does not change the state
 pub no_more : {s : Shape} {w : Walk} → Passes s w [] w
 unfolding walk_fault
 no_more = record { ends = refl; none = refl }
 
--- a word that leads from one state to the next, and then other words
+-- a word that leads from one state to the next, followed by other words
 one_more : (s : Shape) (from next to : Walk) (word : Text) (rest : List Text)
     → (walked s.rules [] from word ≡ next) × (turn_fault s [] from word ≡ []) → Passes s next rest to
     → Passes s from (word ∷ rest) to
@@ -33,17 +33,17 @@ one_more s from next to word rest one others = record {
   none = ap₂ (λ (f : Kinds) (w : Walk). or_else f (walk_fault s [] w rest)) one.1 one.0 ∙ others.none;
 }
 
--- a word in which there is no fault, and then other words
+-- a word without a fault, followed by other words
 pub word_then : {s : Shape} {from to : Walk} {word : Text} {rest : List Text} → turn_fault s [] from word ≡ []
     → Passes s (walked s.rules [] from word) rest to → Passes s from (word ∷ rest) to
 word_then {s} {from} {to} {word} {rest} none others = one_more s from _ to word rest (refl, none) others
 
--- the state before a word, where no `--` came before it
+-- the state before a word, if no `--` came before it
 abbrev state : Held → Waiting → ℕ → Walk
 state held waiting position =
     record { held = held; waiting = waiting; position = position; is_trailing = false; stopped = None }
 
--- a word that names a text, where no option wants a value, and then other words
+-- a word that names a text, followed by other words, if no option waits for a value
 pub name_then : {s : Shape} {held : Held} {position : ℕ} {to : Walk} {word : Text} {rest : List Text}
     → is_name word ≡ true → step_fault s position held value ≡ []
     → Passes s (to_positional s.rules (arg_by_index s.rules position) word (state held idle position) held) rest to
@@ -57,7 +57,7 @@ name_then {s} {held} {position} {to} {word} {rest} is none others =
     (refl, refl) (λ b rest e. (simp e refl, simp e refl)) word is in
     one_more s from _ to word rest (one.0, one.1 ∙ none) others
 
--- a word that names a text, where an option wants a value, and then other words
+-- a word that names a text, followed by other words, if an option waits for a value
 pub value_then : {s : Shape} {held : Held} {id : Text} {position : ℕ} {to : Walk} {word : Text} {rest : List Text}
     → is_name word ≡ true
     → Passes s (after_step s.rules word (state held (option id) position)
@@ -75,18 +75,18 @@ value_then {s} {held} {id} {position} {to} {word} {rest} is others =
 
 -- ---- lines
 
--- what is found after a command's words
+-- the faults that are found after a command's words
 abbrev end_fault : Shape → Held → Kinds
 end_fault s end = or_else (settle_fault s.rules s.args_override_self end)
     (or_else (defaults_fault (settled s.rules end).rows s.rules) (check_fault s (finished s.rules end) false))
 
--- a command has no fault where its words have none, and none is found after them
+-- a command has no fault if its words have none, and none is found after them
 command_passes : (s : Shape) (words : List Text) (end : Walk) → Passes s (walk_from nothing_held) words end
     → end_fault s end.held ≡ [] → level_fault s [] nothing_held words false [] ≡ []
 command_passes s words end passes none =
     ap₂ (λ (f : Kinds) (w : Walk). or_else f (or_else [] (end_fault s w.held))) passes.none passes.ends ∙ none
 
--- a line has no fault where its command has none
+-- a line has no fault if its command has none
 line_passes : (a : App) (words rest : List Text) (command : Text) (s : Shape)
     → (walk a.top.rules (names_of a) nothing_held words).stopped ≡ Some (command, rest)
     → find (λ x. answers_to command (label_of x)) a.subs ≡ Some s
@@ -112,7 +112,7 @@ line_asks a words rest command s end stops finds ends =
     ∙ (ap (λ (o : Option Shape). subcommand_asked (option_map (λ x. rows_at x rest) o)) finds
     ∙ ap (λ (w : Walk). command_asked s.name (finished s.rules w.held)) ends)
 
--- what `clap` reads of a line: it stops at the command, whose words have no fault, and ask for this
+-- what `clap` reads of a line: it stops at the command, whose words have no fault and ask for this
 pub line_reads : (forms : Bor (List (Bor Text))) (program command : Text) (rest : List Text)
     → {asked : Asked} → {s : Shape} → {end : Walk}
     → let a = built (dnorm_app forms) in

@@ -1,4 +1,4 @@
--- What `clap` reads of plain forms.
+-- Lemmas on what `clap` reads of plain forms.
 use Rattle.std.proofs.Common.{◌≡◌, ℕ, List, [], ◌∷◌, None, true, codes, refl}
 use Rattle.std.specs.Borrow.{Bor}
 use Rattle.dn_arc.specs.declared.arc.Form.TheVariants.{One}

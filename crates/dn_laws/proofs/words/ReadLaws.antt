@@ -1,4 +1,4 @@
--- What the answer to a line of words is, by what `clap` finds in it.
+-- Lemmas on the request for a line of words, given what `clap` finds in it.
 use Rattle.std.proofs.Common.{◌≡◌, ◌⊎◌, ◌∙◌, ◌&&◌, ◌||◌, not, ℕ, nat_eq, Bool, false, true, true≢false, List, [], ◌∷◌, length, map, Option, Some, is_some, unwrap_or, codes, refl, sym, ap, subst, inl, inr, arith}
 use Rattle.std.proofs.lemmas.Bool.Decides.{nat_tests}
 use Rattle.std.specs.Borrow.{Bor}
@@ -21,7 +21,7 @@ not_dash false h = refl
 dash : (b : ℕ) → nat_eq b 45 ≡ true → b ≡ 45
 dash b e = grind (arith, nat_tests)
 
--- a word that names a text is `-`, or its first byte is another
+-- a word that names a text is `-`, or does not begin with `-`
 pub name_cases : (P : Text → Type 0) → P (codes "-") → ((b : ℕ) (rest : List ℕ) → nat_eq b 45 ≡ false → P (b ∷ rest))
     → (word : Text) → is_name word ≡ true → P word
 name_cases P one other [] h = absurd (true≢false (sym h))
@@ -34,7 +34,7 @@ name_cases P one other (b ∷ []) h = go (nat_eq b 45) refl
 
 -- ---- the forms in memory
 
--- references to the texts `1` and `2`, and to the two
+-- references to the texts `1` and `2`, and to both
 abbrev pub form_refs : (p q r : ℕ × ℕ) → Bor (List (Bor Text))
 form_refs p q r = record {
   ref_ptr = p;
@@ -68,16 +68,16 @@ forms_cases P h forms e = go forms.now e
 
 -- ---- lines
 
--- `clap` finds no fault in the words, and reads what is asked for
+-- `clap` finds no fault in the words, and they ask for this
 abbrev pub Reads : Bor (List (Bor Text)) → List Text → Asked → Type 0
 Reads forms words asked =
     (fault_of (dnorm_app forms) words ≡ []) × (subcommand_asked (subcommand_of (dnorm_app forms) words) ≡ Some asked)
 
--- no fault is among none
+-- no fault is among no faults
 none_among : (faults : Kinds) (k : ErrorKind) → faults ≡ [] → IsAmong k faults → ⊥
 none_among faults k none h = subst (λ (f : Kinds). IsAmong k f) none h
 
--- the answer where there is no fault
+-- the request, if there is no fault
 does : (faults : Kinds) (told : Option Asked) (asked : Asked) (r : Request) → faults ≡ [] → told ≡ Some asked
     → Answers faults told r → Requests asked r ⊎ (r ≡ requests.Memory)
 does faults told asked (requests.Command command) none is h = inl (ap (λ o. unwrap_or o asked) (sym h.1 ∙ is))
@@ -87,14 +87,14 @@ does faults told asked requests.Bad none is (inl h) = absurd (none_among _ _ non
 does faults told asked requests.Bad none is (inr h) = absurd (true≢false (ap is_some (sym is ∙ h.1)))
 does faults told asked requests.Memory none is h = inr refl
 
--- the answer to words that `clap` reads so, whichever forms in memory they are read with
+-- the request for words that `clap` reads as this, at any address of the forms
 pub answered : (words : List Text) (asked : Asked) → ((p q r : ℕ × ℕ) → Reads (form_refs p q r) words asked)
     → (r : Request) → IsReadByClap words r → Requests asked r ⊎ (r ≡ requests.Memory)
 answered words asked reads r h =
     let read = forms_cases (λ (f : Bor (List (Bor Text))). Reads f words asked) reads h.forms h.are_forms in
     does _ _ asked r read.0 read.1 h.answer
 
--- a call for help or for the version
+-- whether a fault is a call for help or for the version
 abbrev is_call : ErrorKind → Bool
 is_call DisplayHelp = true
 is_call DisplayVersion = true
@@ -144,12 +144,12 @@ versioned_by told requests.Bad (inl (k, (inr h), no_help, no_version)) = absurd 
 versioned_by told requests.Bad (inr h) = absurd (some_fault _ _ h.0)
 versioned_by told requests.Memory h = inr refl
 
--- the answer, by faults that are the same
+-- equal faults make the same requests right
 of_same : (faults same : Kinds) (told : Option Asked) (r : Request) → faults ≡ same → Answers faults told r
     → Answers same told r
 of_same faults same told r e h = subst (λ (f : Kinds). Answers f told r) e h
 
--- the answers where `clap` finds these faults
+-- the requests for words in which `clap` finds these faults
 pub mistaken : (words : List Text) (k : ErrorKind) (ks : Kinds)
     → ((p q r : ℕ × ℕ) → fault_of (dnorm_app (form_refs p q r)) words ≡ k ∷ ks) → NoCalls (k ∷ ks)
     → (r : Request) → IsReadByClap words r → (r ≡ requests.Bad) ⊎ (r ≡ requests.Memory)

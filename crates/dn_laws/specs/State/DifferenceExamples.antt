@@ -5,18 +5,18 @@ use Rattle.dn_arc.specs.declared.arc.CapArc.{CapArc}
 use Rattle.dn_arc.specs.declared.arc.CostArc.{CostArc}
 use Rattle.dn_instance.specs.Instances.{Instance, MinCostFlow, MaxFlow, ShortestPaths}
 
--- an arc by SRC, DST and its length; the same by its CAP
+-- arcs by SRC, DST, and their length or CAP
 abbrev pub length_arc_at : ℤ → ℤ → ℤ → (ℤ × ℤ) × LengthArc
 length_arc_at u v w = ((u, v), record { length = w })
 
 abbrev pub cap_arc_at : ℤ → ℤ → ℤ → (ℤ × ℤ) × CapArc
 cap_arc_at u v c = ((u, v), record { cap = c })
 
--- an arc from node 1 to node 2 by LOW, CAP and COST
+-- an arc from node 1 to node 2, by LOW, CAP and COST
 abbrev pub cost_arc_at : ℤ → ℤ → ℤ → (ℤ × ℤ) × CostArc
 cost_arc_at l c k = ((pos 1, pos 2), record { low = l; cap = c; cost = k })
 
--- problems of three nodes
+-- problems with these arcs or supplies: three nodes each, and two nodes in `with_costs`
 abbrev pub with_lengths : List ((ℤ × ℤ) × LengthArc) → Instance
 with_lengths arcs = ShortestPaths (record { nodes = pos 3; arcs = arcs })
 
@@ -29,7 +29,7 @@ supplied supplies = MinCostFlow supplies (record { nodes = pos 3; arcs = [] })
 abbrev pub with_costs : List ((ℤ × ℤ) × CostArc) → Instance
 with_costs arcs = MinCostFlow [] (record { nodes = pos 2; arcs = arcs })
 
--- parallel arcs, both directions, a self-loop and a negative length
+-- parallel arcs, arcs in both directions, a self-loop and a negative length
 abbrev pub worked_lengths : List ((ℤ × ℤ) × LengthArc)
 worked_lengths =
     length_arc_at (pos 1) (pos 2) (pos 7) ∷ length_arc_at (pos 1) (pos 2) (pos 3)
@@ -37,13 +37,13 @@ worked_lengths =
     ∷ length_arc_at (pos 2) (pos 2) (pos 0) ∷ length_arc_at (pos 3) (pos 1) (negsuc 4)
     ∷ length_arc_at (pos 2) (pos 3) (pos 9) ∷ []
 
--- what they mean, without the self-loop
+-- arcs that mean the same as these without the self-loop
 abbrev pub without_loop : List ((ℤ × ℤ) × LengthArc)
 without_loop =
     length_arc_at (pos 1) (pos 2) (pos 3) ∷ length_arc_at (pos 2) (pos 1) (pos 4)
     ∷ length_arc_at (pos 2) (pos 3) (pos 9) ∷ length_arc_at (pos 3) (pos 1) (negsuc 4) ∷ []
 
--- a capacity of 0, and a sum
+-- an arc of capacity 0, and two parallel arcs
 abbrev pub worked_capacities : List ((ℤ × ℤ) × CapArc)
 worked_capacities =
     cap_arc_at (pos 2) (pos 3) (pos 0) ∷ cap_arc_at (pos 1) (pos 2) (pos 4)
@@ -52,6 +52,6 @@ worked_capacities =
 abbrev pub without_nothing : List ((ℤ × ℤ) × CostArc)
 without_nothing = ((pos 2, pos 1), record { low = pos 0; cap = pos 3; cost = pos 1 }) ∷ []
 
--- an arc that carries nothing means nothing
+-- the same meaning, with an arc that carries nothing
 abbrev pub with_nothing : List ((ℤ × ℤ) × CostArc)
 with_nothing = cost_arc_at (pos 0) (pos 0) (pos 5) ∷ without_nothing

@@ -4,6 +4,6 @@ use Rattle.dn_arc.specs.declared.arc.CostArc.{CostArc}
 use Rattle.dn_instance.specs.Instances.{Instance, MinCostFlow}
 use Rattle.dn_canon.specs.State.ToldArcs.{placed}
 
--- two nodes, and these arcs from 1 to 2
+-- the problem with two nodes and these arcs from 1 to 2
 abbrev pub on_one_pair : List CostArc → Instance
 on_one_pair arcs = MinCostFlow [] (record { nodes = pos 2; arcs = placed (pos 1, pos 2) arcs })

@@ -1,4 +1,4 @@
-// Worked bundles, as theorems.
+// Worked bundles.
 ghost use Rattle.std.specs.Prelude.{ℤ, pos};
 ghost use Rattle.dn_arc.specs.Splits.{LeastCost};
 ghost use Rattle.dn_arc.specs.Meanings.{SameCurve};
@@ -7,7 +7,7 @@ ghost use Rattle.dn_laws.specs.State.BundleExamples.{worked, worked_one, worked_
 
 use dn_bundle::Form;
 
-/// Two forced units, then two units at 0, four at 1 and one at 3.
+/// The worked bundle has two forced units, then free capacity for two units at cost 0, four at 1 and one at 3.
 pub fn worked_costs()
     ensures none_below { (k : ℤ) → LeastCost worked (pos 1) k → ⊥ }
     ensures at_two { LeastCost worked (pos 2) (pos 3) }
@@ -15,7 +15,7 @@ pub fn worked_costs()
     ensures none_above { (k : ℤ) → LeastCost worked (pos 10) k → ⊥ }
 {}
 
-/// The worked bundle's canonical arcs.
+/// The canonical arcs of the worked bundle in each form.
 pub fn worked_forms()
     ensures one { AreCanonCosts Form.One worked_one }
     ensures two { AreCanonCosts Form.Two worked_two }
@@ -23,7 +23,7 @@ pub fn worked_forms()
     ensures same_two { SameCurve worked_two worked }
 {}
 
-/// Lists of arcs that are not canonical.
+/// Arcs that are canonical in form 2 only, and arcs that are canonical in neither form.
 pub fn other_lists()
     ensures mixed_two { AreCanonCosts Form.Two canon_in_two_alone }
     ensures mixed_one { AreCanonCosts Form.One canon_in_two_alone → ⊥ }

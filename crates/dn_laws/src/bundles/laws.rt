@@ -1,4 +1,4 @@
-// What the definitions of bundles say of one another.
+// Laws of the meaning of arcs and of canonical arcs.
 ghost use Rattle.std.specs.Prelude.{◌≡◌, ◌⊎◌, ◌↔◌, ℤ, pos, List, [], ◌∷◌, ◌++◌, length};
 ghost use Rattle.std.specs.List.{AllByRecursion};
 ghost use Rattle.std.specs.List.Sorted.{IsPermutation};
@@ -32,13 +32,14 @@ pub fn some_least_cost()
     ensures { (arcs : List CostArc) (x : ℤ) (xs : List ℤ) → IsSplit arcs x xs → (k : ℤ) × LeastCost arcs x k }
 {}
 
-/// No arcs carry the amount 0 at the cost 0, and no other amount.
+/// No arcs carry the amount 0 at cost 0, and carry no other amount.
 pub fn no_arcs()
     ensures nothing { LeastCost [] (pos 0) (pos 0) }
     ensures only { (x k : ℤ) → LeastCost [] x k → (x ≡ pos 0) × (k ≡ pos 0) }
 {}
 
-/// Meaning the same is an equivalence of lists of arcs that does not depend on their order and that more arcs keep.
+/// Meaning the same is an equivalence of lists of arcs. It does not depend on the order of arcs, and still holds after
+/// one arc is added to both lists.
 pub fn meanings()
     ensures lengths { IsMeaning SameLength }
     ensures capacities { IsMeaning SameTotal }
@@ -52,7 +53,7 @@ pub fn any_order()
     ensures costs { (xs ys : List CostArc) → IsPermutation xs ys → SameCurve xs ys }
 {}
 
-/// Arcs that mean the same still do so when the same arc comes after them.
+/// Two lists of arcs that mean the same still do when one arc is appended to both.
 pub fn one_more()
     ensures lengths { (xs ys : List LengthArc) (a : LengthArc) → SameLength xs ys
         → SameLength (xs ++ a ∷ []) (ys ++ a ∷ []) }
@@ -61,7 +62,7 @@ pub fn one_more()
     ensures costs { (xs ys : List CostArc) (a : CostArc) → SameCurve xs ys → SameCurve (xs ++ a ∷ []) (ys ++ a ∷ []) }
 {}
 
-/// Parts that mean the same, put together, mean the same.
+/// Lists of arcs that mean the same, joined with lists that mean the same, mean the same.
 pub fn put_together()
     ensures lengths { (xs xs' ys ys' : List LengthArc) → SameLength xs xs' → SameLength ys ys'
         → SameLength (xs ++ ys) (xs' ++ ys') }
@@ -71,25 +72,25 @@ pub fn put_together()
         → SameCurve (xs ++ ys) (xs' ++ ys') }
 {}
 
-/// The least cost of x among canonical arcs of a `min` pair is the forced cost plus what the units beyond the forced
-/// ones cost when they are filled into the free capacities by rising cost.
+/// The least cost of x among canonical arcs of a `min` pair is the forced cost plus the cost of the units beyond the
+/// forced ones, which fill the free capacities by rising cost.
 pub fn exchange()
     ensures { (form : Form) (arcs : List CostArc) → AreCanonCosts form arcs → (x k : ℤ)
         → LeastCost arcs x k ↔ IsFilling arcs x k }
 {}
 
-/// Canonical arcs of a `min` pair in one form that mean the same are the same.
+/// Canonical arcs of a `min` pair in the same form that mean the same are equal.
 pub fn determination(form: Form)
     ensures { (xs ys : List CostArc) → AreCanonCosts form xs → AreCanonCosts form ys → SameCurve xs ys → xs ≡ ys }
 {}
 
-/// Canonical arcs of an `sp` or a `max` pair that mean the same are the same.
+/// Canonical arcs of an `sp` or a `max` pair that mean the same are equal.
 pub fn determination_of_sums()
     ensures lengths { (xs ys : List LengthArc) → AreCanonLengths xs → AreCanonLengths ys → SameLength xs ys → xs ≡ ys }
     ensures capacities { (xs ys : List CapArc) → AreCanonCaps xs → AreCanonCaps ys → SameTotal xs ys → xs ≡ ys }
 {}
 
-/// The forced units, what they cost, and how many costs have free capacity follow from the meaning.
+/// The number of forced units, their cost, and the number of costs with free capacity follow from the meaning.
 pub fn parts_of_meaning()
     ensures units { (xs ys : List CostArc) → AllByRecursion IsCostArc xs → AllByRecursion IsCostArc ys → SameCurve xs ys
         → forced_units xs ≡ forced_units ys }
@@ -99,14 +100,14 @@ pub fn parts_of_meaning()
         → length (free_costs xs) ≡ length (free_costs ys) }
 {}
 
-/// Arcs that mean the same differ nowhere.
+/// Arcs that mean the same do not differ.
 pub fn differences()
     ensures lengths { (xs ys : List LengthArc) (how : How) → LengthsDiffer xs ys how → SameLength xs ys → ⊥ }
     ensures capacities { (xs ys : List CapArc) (how : How) → TotalsDiffer xs ys how → SameTotal xs ys → ⊥ }
     ensures costs { (xs ys : List CostArc) (how : How) → CurvesDiffer xs ys how → SameCurve xs ys → ⊥ }
 {}
 
-/// Arcs that do not mean the same differ somewhere.
+/// Arcs mean the same, or differ in some way.
 pub fn some_difference()
     ensures lengths { (xs ys : List LengthArc) → SameLength xs ys ⊎ ((how : How) × LengthsDiffer xs ys how) }
     ensures capacities { (xs ys : List CapArc) → SameTotal xs ys ⊎ ((how : How) × TotalsDiffer xs ys how) }
@@ -114,12 +115,12 @@ pub fn some_difference()
         → SameCurve xs ys ⊎ ((how : How) × CurvesDiffer xs ys how) }
 {}
 
-/// The order of arcs does not matter to a bundle.
+/// The order of arcs does not matter, for any kind of bundle.
 pub fn any_order_of<B: Bundle>()
     ensures { (xs ys : List B.Arc) → IsPermutation xs ys → B.bundle.kind.Same xs ys }
 {}
 
-/// Canonical arcs that mean the same are the same, in each form.
+/// A bundle whose canonical arcs, in each form, are equal if they mean the same.
 pub trait Determined: Bundle {
     ghost determined: { IsDetermined Self.bundle.kind };
 }

@@ -1,4 +1,4 @@
-// Worked first differences. Each verdict is written with the names of its fields, so that no side can change places.
+// Worked first differences. Each verdict names its fields, so that left and right cannot be confused.
 ghost use Rattle.std.specs.Prelude.{pos, negsuc, List, [], ◌∷◌};
 ghost use Rattle.dn_instance.specs.Instances.{ShortestPaths, Sources, Queries, Coordinates};
 ghost use Rattle.dn_compare.specs.FirstDifference.{IsFirstDifference};
@@ -10,7 +10,7 @@ use dn_bundle::{Gap, How};
 use dn_compare::Verdict;
 use dn_line::Kind;
 
-/// Kinds come before all else.
+/// A difference of kinds comes before any other.
 pub fn kinds() -> Verdict
     ensures { IsFirstDifference (with_lengths worked_lengths) (flow_from (pos 1) (pos 3) worked_capacities) result }
 {
@@ -20,7 +20,7 @@ pub fn kinds() -> Verdict
     }
 }
 
-/// Numbers of nodes.
+/// The numbers of nodes differ.
 pub fn nodes() -> Verdict
     ensures { IsFirstDifference (ShortestPaths (record { nodes = pos 3; arcs = [] }))
         (ShortestPaths (record { nodes = pos 4; arcs = [] })) result }
@@ -28,7 +28,7 @@ pub fn nodes() -> Verdict
     Verdict::Nodes { left: 3, right: 4 }
 }
 
-/// A supply of a node that has none on the other side.
+/// Only the left side has a supply for the node.
 pub fn missing_supply() -> Verdict
     ensures { IsFirstDifference (supplied ((pos 2, pos 5) ∷ [])) (supplied []) result }
 {
@@ -39,7 +39,7 @@ pub fn missing_supply() -> Verdict
     }
 }
 
-/// Two supplies differ: the one of the least ID.
+/// Two supplies differ. The verdict has the lesser ID.
 pub fn two_supplies() -> Verdict
     ensures { IsFirstDifference (supplied ((pos 2, pos 1) ∷ (pos 3, pos 5) ∷ []))
         (supplied ((pos 2, negsuc 0) ∷ (pos 3, pos 6) ∷ [])) result }
@@ -51,21 +51,21 @@ pub fn two_supplies() -> Verdict
     }
 }
 
-/// The source comes before the sink.
+/// Source and sink differ. The source comes first.
 pub fn source() -> Verdict
     ensures { IsFirstDifference (flow_from (pos 1) (pos 3) []) (flow_from (pos 2) (pos 1) []) result }
 {
     Verdict::Source { left: 1, right: 2 }
 }
 
-/// Sinks.
+/// The sinks differ.
 pub fn sink() -> Verdict
     ensures { IsFirstDifference (flow_from (pos 1) (pos 3) []) (flow_from (pos 1) (pos 2) []) result }
 {
     Verdict::Sink { left: 3, right: 2 }
 }
 
-/// A self-loop on one side alone; parallel arcs mean the shortest.
+/// Only the left side has a self-loop. Parallel arcs mean the shortest one.
 pub fn missing_length() -> Verdict
     ensures { IsFirstDifference (with_lengths worked_lengths) (with_lengths without_loop) result }
 {
@@ -79,7 +79,7 @@ pub fn missing_length() -> Verdict
     }
 }
 
-/// Two pairs differ: the one of the lesser SRC.
+/// Two pairs differ. The verdict has the lesser SRC.
 pub fn pair_by_src() -> Verdict
     ensures { IsFirstDifference
         (with_lengths (length_arc_at (pos 2) (pos 1) (pos 1) ∷ length_arc_at (pos 1) (pos 3) (pos 1) ∷ []))
@@ -95,7 +95,7 @@ pub fn pair_by_src() -> Verdict
     }
 }
 
-/// Two pairs of one SRC differ: the one of the lesser DST.
+/// Two pairs with the same SRC differ. The verdict has the lesser DST.
 pub fn pair_by_dst() -> Verdict
     ensures { IsFirstDifference
         (with_lengths (length_arc_at (pos 1) (pos 3) (pos 1) ∷ length_arc_at (pos 1) (pos 2) (pos 1) ∷ []))
@@ -111,7 +111,7 @@ pub fn pair_by_dst() -> Verdict
     }
 }
 
-/// Capacities of a pair that has no arc on the left; the pair from 1 to 2 differs too.
+/// The left side has no arc from 1 to 1. The pair from 1 to 2 differs too, but comes later.
 pub fn capacities() -> Verdict
     ensures { IsFirstDifference (flow_from (pos 1) (pos 3) worked_capacities)
         (flow_from (pos 1) (pos 3) (cap_arc_at (pos 1) (pos 3) (pos 2) ∷ cap_arc_at (pos 1) (pos 1) (pos 4) ∷ []))
@@ -124,7 +124,7 @@ pub fn capacities() -> Verdict
     }
 }
 
-/// Costs that differ from the amount 3 on; at 4 they differ too.
+/// The costs differ at the amounts 3 and 4. The verdict has the lesser amount.
 pub fn least_amount() -> Verdict
     ensures { IsFirstDifference
         (with_costs (cost_arc_at (pos 0) (pos 2) (pos 1) ∷ cost_arc_at (pos 0) (pos 2) (pos 4) ∷ []))
@@ -141,7 +141,7 @@ pub fn least_amount() -> Verdict
     }
 }
 
-/// An amount that a forced unit rules out on the left.
+/// The left side has a forced unit, so it cannot carry the amount 0.
 pub fn forced_unit() -> Verdict
     ensures { IsFirstDifference (with_costs (cost_arc_at (pos 1) (pos 2) (pos 1) ∷ []))
         (with_costs (cost_arc_at (pos 0) (pos 2) (pos 1) ∷ [])) result }
@@ -157,7 +157,7 @@ pub fn forced_unit() -> Verdict
     }
 }
 
-/// Forced costs.
+/// The forced costs differ.
 pub fn forced_costs() -> Verdict
     ensures { IsFirstDifference (with_costs (cost_arc_at (pos 1) (pos 1) (pos 4) ∷ []))
         (with_costs (cost_arc_at (pos 1) (pos 1) (pos 5) ∷ [])) result }
@@ -173,7 +173,7 @@ pub fn forced_costs() -> Verdict
     }
 }
 
-/// An amount that is past the left capacity.
+/// The amount exceeds the capacity of the left side.
 pub fn past_capacity() -> Verdict
     ensures { IsFirstDifference (with_costs (cost_arc_at (pos 0) (pos 2) (pos 4) ∷ []))
         (with_costs (cost_arc_at (pos 0) (pos 3) (pos 4) ∷ [])) result }
@@ -212,21 +212,21 @@ pub fn same() -> Verdict
     Verdict::Same
 }
 
-/// Numbers of items come before the items.
+/// The numbers of items come before the items.
 pub fn length() -> Verdict
     ensures { IsFirstDifference (Sources (pos 5 ∷ pos 2 ∷ pos 5 ∷ [])) (Sources (pos 5 ∷ pos 3 ∷ [])) result }
 {
     Verdict::Length { left: 3, right: 2 }
 }
 
-/// The second item.
+/// The second items differ.
 pub fn item() -> Verdict
     ensures { IsFirstDifference (Sources (pos 5 ∷ pos 2 ∷ pos 5 ∷ [])) (Sources (pos 5 ∷ pos 3 ∷ pos 5 ∷ [])) result }
 {
     Verdict::Item { index: 2 }
 }
 
-/// The same of queries.
+/// The numbers of queries differ.
 pub fn query_length() -> Verdict
     ensures { IsFirstDifference (Queries ((pos 1, pos 9) ∷ []))
         (Queries ((pos 1, pos 9) ∷ (pos 1, pos 9) ∷ [])) result }
@@ -234,7 +234,7 @@ pub fn query_length() -> Verdict
     Verdict::Length { left: 1, right: 2 }
 }
 
-/// Two queries differ: the first.
+/// Two queries differ. The verdict has the first one.
 pub fn query_item() -> Verdict
     ensures { IsFirstDifference (Queries ((pos 9, pos 1) ∷ (pos 1, pos 9) ∷ []))
         (Queries ((pos 1, pos 9) ∷ (pos 9, pos 1) ∷ [])) result }
@@ -242,7 +242,7 @@ pub fn query_item() -> Verdict
     Verdict::Item { index: 1 }
 }
 
-/// A point that one side lacks.
+/// Only the right side has a point for the ID.
 pub fn missing_point() -> Verdict
     ensures { IsFirstDifference (Coordinates ((pos 2, (pos 0, pos 0)) ∷ []))
         (Coordinates ((pos 1, (pos 0, pos 0)) ∷ (pos 2, (pos 0, pos 0)) ∷ [])) result }
@@ -250,7 +250,7 @@ pub fn missing_point() -> Verdict
     Verdict::Point { id: 1 }
 }
 
-/// Two points differ: the one of the least ID.
+/// Two points differ. The verdict has the lesser ID.
 pub fn two_points() -> Verdict
     ensures { IsFirstDifference (Coordinates ((pos 3, (pos 4, pos 5)) ∷ (pos 7, (pos 1, pos 2)) ∷ []))
         (Coordinates ((pos 3, (pos 5, pos 4)) ∷ (pos 7, (pos 2, pos 1)) ∷ [])) result }

@@ -1,4 +1,4 @@
-// Worked examples of texts: first faults, instances, entries.
+// Worked examples of texts: their first faults, instances and numbers of entries.
 ghost use Rattle.std.specs.Prelude.{◌≡◌, codes, List, [], ◌∷◌, pos, negsuc};
 ghost use Rattle.dn_instance.specs.State.EntryCount.{entries_of};
 ghost use Rattle.dn_instance.specs.Instances.{MinCostFlow, MaxFlow, ShortestPaths, Sources, Queries, Coordinates};
@@ -7,7 +7,7 @@ ghost use Rattle.dn_instance.specs.Texts.{Reads, IsFirstFault};
 use dn_instance::Place;
 use dn_line::Code;
 
-/// The first fault of a line, by the order of checking.
+/// First faults of one line, which show the order of checking.
 pub fn faults_of_a_line()
     ensures bad_word { IsFirstFault (codes "pp sp 0 0\n") (Place.Line 1) Code.BadLine }
     ensures blank_lines_count { IsFirstFault (codes "\n \nz\n") (Place.Line 3) Code.BadLine }
@@ -16,7 +16,7 @@ pub fn faults_of_a_line()
     ensures letter_before_node { IsFirstFault (codes "p max 2 1\nn 0 x\n") (Place.Line 2) Code.BadTerminal }
 {}
 
-/// Faults of a line's place, of its number of words and of its numbers.
+/// Faults of the place of a line, of its number of words, and of its numbers.
 pub fn faults_of_fields()
     ensures early { IsFirstFault (codes "a 1 2 3\n") (Place.Line 1) Code.EarlyLine }
     ensures wrong { IsFirstFault (codes "p sp 1 0\nn 1 5\n") (Place.Line 2) Code.WrongLine }
@@ -25,7 +25,7 @@ pub fn faults_of_fields()
     ensures negative { IsFirstFault (codes "p max 2 -1\n") (Place.Line 1) Code.Negative }
 {}
 
-/// Faults that need the lines before.
+/// Faults that depend on earlier lines.
 pub fn faults_after_lines()
     ensures second_problem { IsFirstFault (codes "p sp 0 0\np sp 0 0\n") (Place.Line 2) Code.SecondProblem }
     ensures late_node { IsFirstFault (codes "p min 2 1\na 1 2 0 1 1\nn 1 5\n") (Place.Line 3) Code.LateNode }
@@ -34,7 +34,7 @@ pub fn faults_after_lines()
     ensures too_many { IsFirstFault (codes "p sp 2 1\na 1 2 1\na 1 2\n") (Place.Line 3) Code.TooManyLines }
 {}
 
-/// Faults of nodes and capacities.
+/// Faults of nodes, terminals and capacities.
 pub fn faults_of_items()
     ensures stray { IsFirstFault (codes "p sp 2 1\na 1 3 1\n") (Place.Line 2) Code.NodeOutOfRange }
     ensures repeated { IsFirstFault (codes "p max 2 1\nn 1 s\nn 2 s\n") (Place.Line 3) Code.RepeatedNode }
@@ -51,7 +51,7 @@ pub fn faults_by_kind()
         (Place.Line 3) Code.SumTooLarge }
 {}
 
-/// Faults of a sum, of the end, and of the earliest line.
+/// Faults of a sum and of the end of a text. The fault of the earliest line comes first.
 pub fn faults_of_whole_texts()
     ensures sum { IsFirstFault (codes "p max 2 2\nn 1 s\nn 2 t\na 1 2 9223372036854775807\na 1 2 1\n")
         (Place.Line 5) Code.SumTooLarge }
@@ -61,7 +61,7 @@ pub fn faults_of_whole_texts()
     ensures earliest { IsFirstFault (codes "p sp 1 1\na 1 1 x\nz\n") (Place.Line 2) Code.NotANumber }
 {}
 
-/// A `min` text with parallel arcs reads as its arcs in file order; a node line of flow 0 gives no supply.
+/// A `min` text with parallel arcs reads as its arcs in file order. A node line of flow 0 gives no supply.
 pub fn read_min()
     ensures { Reads (codes "c forced units\np min 2 3\nn 2 0\nn 1 -7\na 1 2 1 3 0\na 1 2 1 2 3\na 1 2 0 4 1")
         (MinCostFlow ((pos 1, negsuc 6) ∷ []) (record {
@@ -74,7 +74,7 @@ pub fn read_min()
         })) }
 {}
 
-/// A `max` text and the three companions: terminals in either order, lists in file order, points by rising ID.
+/// A `max` text and the three kinds of companions: terminals in either order, lists in file order, points by rising ID.
 pub fn read_others()
     ensures max { Reads (codes "p max 2 1\nn 2 s\nn 1 t\na 1 2 0\n")
         (MaxFlow (pos 2) (pos 1) (record { nodes = pos 2; arcs = ((pos 1, pos 2), record { cap = pos 0 }) ∷ [] })) }
@@ -84,8 +84,8 @@ pub fn read_others()
         (Coordinates ((pos 1, (pos 5, negsuc 5)) ∷ (pos 3, (negsuc 73530766, pos 41085396)) ∷ [])) }
 {}
 
-/// Entries: a forced part and three costs with free capacity at one pair come to four; seven arcs at five pairs of an
-/// `sp` graph come to five.
+/// The numbers of entries. One `min` pair with forced units and three costs with free capacity has four; seven `sp`
+/// arcs at five pairs have five; two of three `max` arcs are parallel and the third carries nothing, so they have one.
 pub fn entries()
     ensures min { entries_of (MinCostFlow [] (record {
       nodes = pos 2;

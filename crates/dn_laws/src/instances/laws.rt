@@ -1,4 +1,4 @@
-// What the definitions of texts and instances say of one another.
+// Laws of texts and instances.
 ghost use Rattle.std.specs.Prelude.{◌≡◌, ◌⊎◌, ℕ, ℤ, List};
 ghost use Rattle.std.specs.List.Sorted.{IsPermutation};
 ghost use Rattle.dn_line.specs.declared.code.Code.{Code};
@@ -14,24 +14,24 @@ ghost use Rattle.dn_instance.specs.Sameness.{IsSame, SameGraph};
 ghost use Rattle.dn_instance.specs.Texts.{Reads, IsFirstFault};
 ghost use Rattle.dn_instance.specs.Validity.{IsValid};
 
-/// A text reads as one instance at most.
+/// A text reads as at most one instance.
 pub fn one_reading()
     ensures { (t : List ℕ) (I J : Instance) → Reads t I → Reads t J → I ≡ J }
 {}
 
-/// A text has one first fault at most: one place, and one code there.
+/// A text has at most one first fault: one place, and one code there.
 pub fn one_first_fault()
     ensures place { (t : List ℕ) (p q : Place) (c d : Code) → IsFirstFault t p c → IsFirstFault t q d → p ≡ q }
     ensures code { (t : List ℕ) (p q : Place) (c d : Code) → IsFirstFault t p c → IsFirstFault t q d → c ≡ d }
 {}
 
-/// A text reads as an instance exactly if it has no first fault.
+/// A text reads as an instance if and only if it has no first fault.
 pub fn accepted_or_faulty()
     ensures either { (t : List ℕ) → ((I : Instance) × Reads t I) ⊎ ((p : Place) × (c : Code) × IsFirstFault t p c) }
     ensures not_both { (t : List ℕ) (I : Instance) (p : Place) (c : Code) → Reads t I → IsFirstFault t p c → ⊥ }
 {}
 
-/// What a text reads as is valid.
+/// The instance that a text reads as is valid.
 pub fn valid_reading()
     ensures { (t : List ℕ) (I : Instance) → Reads t I → IsValid I }
 {}
@@ -43,7 +43,7 @@ pub fn same_instance()
     ensures transitive { (I J K : Instance) → IsSame I J → IsSame J K → IsSame I K }
 {}
 
-/// A graph does not depend on the order of its arcs.
+/// The order of its arcs does not matter to a graph.
 pub fn any_order()
     ensures lengths { (nodes : ℤ) (xs ys : List ((ℤ × ℤ) × LengthArc)) → IsPermutation xs ys
         → SameGraph lengths (record { nodes = nodes; arcs = xs }) (record { nodes = nodes; arcs = ys }) }
@@ -53,14 +53,14 @@ pub fn any_order()
         → SameGraph costs (record { nodes = nodes; arcs = xs }) (record { nodes = nodes; arcs = ys }) }
 {}
 
-/// Graph problems that are made of parts are the same problem where their parts are, each the same as the one at its
-/// place.
+/// Two graph problems that are made of parts are the same problem, if each part of one is the same problem as the part
+/// at its position of the other.
 pub fn in_parts()
     ensures { (I J : Instance) (parts others : List Instance) → AreParts parts I → AreParts others J
         → AreSame parts others → IsSame I J }
 {}
 
-/// What is held stands for one problem: all instances that it stands for are the same.
+/// All instances that a parsed instance represents are the same problem.
 pub fn one_held_meaning()
     ensures { (h : Holding) (I J : Instance) → IsHeld h I → IsHeld h J → IsSame I J }
 {}

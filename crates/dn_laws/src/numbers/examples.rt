@@ -1,4 +1,4 @@
-// Words at the edges of what a number text is, and what they read as.
+// Worked number texts, at the limits of the definition.
 ghost use Rattle.std.specs.Prelude.{◌≡◌, pos, negsuc, codes, []};
 ghost use Rattle.dn_num.specs.Number.{number_read};
 
@@ -12,7 +12,7 @@ pub fn values()
     ensures least { number_read (codes "-9223372036854775808") ≡ Ok (negsuc 9223372036854775807) }
 {}
 
-/// A number text has digits, and nothing but digits after its sign, however great the number that they begin.
+/// A number text has digits, and only digits after its sign, however great the number that its first digits spell.
 pub fn no_numbers()
     ensures empty { number_read [] ≡ Err NumFault.NotANumber }
     ensures sign { number_read (codes "+") ≡ Err NumFault.NotANumber }
@@ -20,7 +20,7 @@ pub fn no_numbers()
     ensures letter { number_read (codes "99999999999999999999x") ≡ Err NumFault.NotANumber }
 {}
 
-/// One above the greatest number, and one below the least.
+/// The number above the greatest one, and the one below the least.
 pub fn past_the_range()
     ensures above { number_read (codes "9223372036854775808") ≡ Err NumFault.OutOfRange }
     ensures below { number_read (codes "-9223372036854775809") ≡ Err NumFault.OutOfRange }

@@ -17,34 +17,34 @@ ghost use Rattle.dn_report.specs.declared.check.Forms.{Forms};
 use dn_instance::{CompanionFault, Place, Refusal};
 use dn_line::Code;
 
-/// Parallel arcs mean the shortest; pairs rise, whatever the order of the arcs; three arcs are three lines.
+/// Parallel arcs mean the shortest one, pairs are printed by rising pair, and `lines` counts all three arcs.
 pub fn shown_lengths()
     ensures { IsShown (with_lengths (length_arc_at (pos 2) (pos 1) (pos 4) ∷ length_arc_at (pos 1) (pos 2) (pos 7)
         ∷ length_arc_at (pos 1) (pos 2) (pos 3) ∷ []))
         (codes "kind sp\nnodes 3\nlines 3\npairs 2\npair 1 2 length 3\npair 2 1 length 4\n") }
 {}
 
-/// Capacities add up; the pair from 2 to 3, whose only arc carries nothing, is not told.
+/// Capacities add up. The pair from 2 to 3 is not printed, since its only arc carries nothing.
 pub fn shown_capacities()
     ensures { IsShown (flow_from (pos 1) (pos 3) worked_capacities)
         (codes "kind max\nnodes 3\nlines 4\nsource 1\nsink 3\npairs 2\npair 1 2 total 9\npair 1 3 total 2\n") }
 {}
 
-/// Forced units cost 2 and twice -7; there is free capacity at the costs 2 and 5.
+/// The forced units cost 2 and twice -7. There is free capacity at the costs 2 and 5.
 pub fn shown_costs()
     ensures { IsShown (with_costs (cost_arc_at (pos 1) (pos 3) (pos 2) ∷ cost_arc_at (pos 0) (pos 2) (pos 5)
         ∷ cost_arc_at (pos 2) (pos 2) (negsuc 6) ∷ []))
         (codes "kind min\nnodes 2\nlines 3\nsupplies 0\npairs 1\npair 1 2 forced 3 cost -12 steps 2\n") }
 {}
 
-/// Companions: their kinds, and how many items or points they have.
+/// Companions: their kind, and the number of their items or points.
 pub fn shown_companions()
     ensures sources { IsShown (Sources (pos 5 ∷ pos 2 ∷ pos 5 ∷ [])) (codes "kind ss\nlines 3\n") }
     ensures queries { IsShown (Queries ((pos 1, pos 9) ∷ [])) (codes "kind p2p\nlines 1\n") }
     ensures points { IsShown (Coordinates []) (codes "kind co\nlines 0\n") }
 {}
 
-/// A text alone, in both forms or one; a text with a companion, in no form.
+/// A text alone, canonical in both forms or only in form 2, and a text with a companion, canonical in neither form.
 pub fn checked()
     ensures both { text_of (checked_rows Kind.Min None (record { one = true; two = true }))
         ≡ codes "accepted min\nforms 1 2\n" }
@@ -54,7 +54,7 @@ pub fn checked()
         ≡ codes "accepted sp\nfits ss\nforms none\n" }
 {}
 
-/// No difference, kinds, and the numbers of items of two lists.
+/// Verdicts: no difference, kinds, supplies, and the lengths of two lists.
 pub fn verdicts()
     ensures same { line_text (verdict_row Verdict.Same) ≡ codes "same\n" }
     ensures kinds { line_text (verdict_row (Verdict.Kind Kind.Sp Kind.Max)) ≡ codes "differ kind sp max\n" }
@@ -63,7 +63,7 @@ pub fn verdicts()
     ensures lengths { line_text (verdict_row (Verdict.Length 3 2)) ≡ codes "differ length 3 2\n" }
 {}
 
-/// A pair that has no arc on the right, another capacity, and an amount that the left side can't carry.
+/// Verdicts on pairs: no arc on the right, another capacity, and an amount that the left side cannot carry.
 pub fn pair_verdicts()
     ensures length { line_text (verdict_row (Verdict.Pair (pos 2) (pos 2) (How.Lengths (Some (pos 0)) None)))
         ≡ codes "differ pair 2 2 length 0 none\n" }
@@ -74,7 +74,7 @@ pub fn pair_verdicts()
         ≡ codes "differ pair 1 2 amount 3 cost none 12\n" }
 {}
 
-/// Lines that tell of a refusal.
+/// Lines of refusals.
 pub fn fault_lines()
     ensures line { fault_line (codes "n.max") (Refusal.Text (Places.Line 5) Code.SumTooLarge)
         ≡ codes "n.max:5: 17 SumTooLarge\n" }
@@ -84,7 +84,7 @@ pub fn fault_lines()
     ensures write { fault_line (codes "g.gr") Refusal.Write ≡ codes "out: 33 Write\n" }
 {}
 
-/// Lines that tell why a companion does not fit.
+/// Lines of companions that do not fit.
 pub fn unfit_lines()
     ensures node { unfit_line (codes "c.co") (CompanionFault.NotInGraph (pos 4)) ≡ codes "c.co: 35 NotInGraph 4\n" }
     ensures kinds { unfit_line (codes "s.ss") CompanionFault.NotKinds ≡ codes "s.ss: 36 NotKinds\n" }

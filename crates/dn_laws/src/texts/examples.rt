@@ -9,7 +9,7 @@ ghost use Rattle.dn_canon.specs.Prints.{print};
 
 use dn_bundle::Form;
 
-/// Instances as text: single spaces, shortest numbers, the source before the sink.
+/// Printed instances: single spaces, shortest texts of numbers, and the source before the sink.
 pub fn printed()
     ensures sp { print
         (ShortestPaths (record {
@@ -33,7 +33,7 @@ pub fn canonical_texts()
         (codes "p min 2 4\na 1 2 0 2 0\na 1 2 1 5 1\na 1 2 1 1 2\na 1 2 0 1 3\n") (on_one_pair worked) }
 {}
 
-/// Instances that are canonical in one form alone, and one whose arcs are out of order.
+/// Instances that are canonical in one form only, and one whose arcs are out of order.
 pub fn canonical_instances()
     ensures one { IsCanonInstance Form.One (on_one_pair worked_one) }
     ensures one_is_not_two { IsCanonInstance Form.Two (on_one_pair worked_one) → ⊥ }

@@ -1,4 +1,4 @@
-// What the definitions of canonical texts say of one another.
+// Laws of canonical texts.
 ghost use Rattle.std.specs.Prelude.{◌≡◌, ◌↔◌, ℕ, ◌-◌, ◌<◌, ◌^◌, ℤ, List, ◌++◌, length};
 ghost use Rattle.std.specs.List.{AllByRecursion, sum_by};
 ghost use Rattle.dn_line.specs.Pieces.{lines};
@@ -18,35 +18,36 @@ ghost use Rattle.dn_sink.specs.Rows.{text_of};
 
 use dn_bundle::Form;
 
-/// Canonical texts of one form are the same bytes exactly where the instances are the same problem.
+/// Canonical texts of the same form are equal if and only if their instances are the same problem.
 pub fn same_bytes(form: Form)
     ensures { (t u : List ℕ) (I J : Instance) → IsCanonOf form t I → IsCanonOf form u J
         → (t ≡ u) ↔ IsSame I J }
 {}
 
-/// A canonical text of at most 2^63-2 lines is accepted as one instance, which is the same problem, and whose canonical
-/// text it is.
+/// A canonical text of at most 2^63-2 lines reads as exactly one instance. This is the same problem, and the text is
+/// its only canonical text.
 pub fn twice(form: Form)
     ensures { (t : List ℕ) (I : Instance) → length (lines t) < 2 ^ 63 - 1 → IsCanonOf form t I
         → (J : Instance) × ReadsTwice form t I J }
 {}
 
-/// What the canonical text of an instance reads as is its canonical instance.
+/// The instance that a canonical text of I reads as is the canonical instance of I.
 pub fn canonical_reading(form: Form)
     ensures { (t : List ℕ) (I J : Instance) → IsCanonOf form t I → Reads t J → IsCanonInstanceOf form J I }
 {}
 
-/// Written in one form, read back and written in the other: the same bytes as written in the other at once.
+/// Writing a problem in one form, reading that text back, and writing it in the other form gives the same bytes as
+/// writing the problem in the other form at once.
 pub fn crossed(from: Form, to: Form)
     ensures { (t u v : List ℕ) (I J : Instance) → IsCanonOf from t I → Reads t J
         → IsCanonOf to u I → IsCanonOf to v J → u ≡ v }
 {}
 
-/// In chunks: a graph problem that is made of parts, and one that is made of the canonical instances of these parts,
-/// are the same problem, and where the parts are valid, the one is valid exactly if the other is. So a text may be cut
-/// between its arc lines, and each piece be canonicalised behind the head of the whole: what these pieces come to, the
-/// arc lines of one after those of the other, has the canonical text of the whole, byte for byte. The pieces may be in
-/// another form than the whole.
+/// Chunks: a graph problem that is made of parts, and one that is made of the canonical instances of these parts, are
+/// the same problem. If the parts are valid, the one is valid if and only if the other is. So a text may be cut between
+/// its arc lines, and each chunk be canonicalised after the head of the whole. The arc lines of the results, one result
+/// after another, have the canonical text of the whole, byte for byte. The chunks may be in another form than the
+/// whole.
 pub fn in_chunks(from: Form, to: Form)
     ensures whole { (I : Instance) (c : HasCanonParts from I) → (W : Instance) × AreParts c.canons W }
     ensures same { (I W : Instance) (c : HasCanonParts from I) → AreParts c.canons W → IsSame I W }
@@ -56,9 +57,9 @@ pub fn in_chunks(from: Form, to: Form)
         → IsCanonOf to t I → IsCanonOf to u W → t ≡ u }
 {}
 
-/// In ranges: where each SRC in a part is below each SRC in a later one, the canonical instance of a graph problem is
-/// what is made of the canonical instances of its parts. So the one canonical text is the head of the whole, with the
-/// sum of the counts of the canonical texts of the parts, and their arc lines, one part after another.
+/// Ranges: if each SRC of a part is below each SRC of all later parts, the canonical instance of a graph problem is
+/// made of the canonical instances of its parts. So the canonical text of the whole is its head, with the sum of the
+/// counts of the canonical texts of the parts, and then the arc lines of these texts, one part after another.
 pub fn in_ranges(form: Form)
     ensures canon { (I J : Instance) (c : HasCanonParts form I) → AreRanges c.parts
         → AreParts c.canons J ↔ IsCanonInstanceOf form J I }
@@ -70,8 +71,8 @@ pub fn in_ranges(form: Form)
         → size_of J ≡ sum_by size_of c.canons }
 {}
 
-/// The canonical arcs of a graph problem do not depend on its supplies or terminals, so a part of it may be
-/// canonicalised behind others.
+/// The canonical arcs of a graph problem do not depend on its supplies or terminals. So a part may be canonicalised
+/// with other supplies or terminals.
 pub fn any_head(form: Form)
     ensures supplies { (s t : List (ℤ × ℤ)) (G H : Graph CostArc) → AreSupplies G.nodes t
         → IsCanonInstanceOf form (MinCostFlow s H) (MinCostFlow s G)

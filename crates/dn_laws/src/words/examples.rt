@@ -1,4 +1,4 @@
-// Worked examples of lines of words.
+// Worked command lines.
 ghost use Rattle.std.specs.Prelude.{◌≡◌, ◌⊎◌, codes, [], ◌∷◌, Some, None, false, true};
 ghost use Rattle.dn_arc.specs.declared.arc.Form.TheVariants.{One, Two};
 ghost use Rattle.dn_command.specs.Commands.{Canon, Check, Compare, Show, names_twice, plain_asked};
@@ -18,13 +18,13 @@ pub fn plain_forms()
         ≡ Some (Compare (codes "a") (codes "b")) }
 {}
 
-/// Words that name commands name texts as well, where a text's name stands.
+/// A word that names a command can also name a text.
 pub fn command_names()
     ensures show { plain_asked (codes "dnorm" ∷ codes "show" ∷ codes "help" ∷ []) ≡ Some (Show (codes "help")) }
     ensures canon { plain_asked (codes "dnorm" ∷ codes "canon" ∷ codes "show" ∷ []) ≡ Some (Canon (codes "show") One) }
 {}
 
-/// Lines that are no plain form.
+/// Lines that are not plain forms.
 pub fn other_lines()
     ensures no_file { plain_asked (codes "dnorm" ∷ codes "canon" ∷ []) ≡ None }
     ensures empty_file { plain_asked (codes "dnorm" ∷ codes "show" ∷ [] ∷ []) ≡ None }
@@ -42,8 +42,8 @@ pub fn standard_input()
     ensures one { names_twice (Canon (codes "-") Two) ≡ false }
 {}
 
-/// Lines with a mistake: no file, an option that is not there, a form that is not there, an option twice, and a
-/// word that is no command.
+/// Lines with a mistake: a missing file, an unknown option, an unknown form, a repeated option, and a word that is not
+/// a command.
 pub fn mistakes()
     ensures no_file { (r : Request) → IsReadByClap (codes "dnorm" ∷ codes "show" ∷ []) r → (r ≡ Bad) ⊎ (r ≡ Memory) }
     ensures option { (r : Request) → IsReadByClap (codes "dnorm" ∷ codes "show" ∷ codes "-x" ∷ []) r
@@ -57,7 +57,7 @@ pub fn mistakes()
         → (r ≡ Bad) ⊎ (r ≡ Memory) }
 {}
 
-/// Calls for help; one counts as soon as it is met, whatever follows.
+/// Calls for help. A call counts as soon as it is read, whatever follows it.
 pub fn calls_for_help()
     ensures long { (r : Request) → IsReadByClap (codes "dnorm" ∷ codes "--help" ∷ []) r → Prints r ⊎ (r ≡ Memory) }
     ensures short { (r : Request) → IsReadByClap (codes "dnorm" ∷ codes "-h" ∷ []) r → Prints r ⊎ (r ≡ Memory) }

@@ -1,5 +1,5 @@
-// What `clap`'s definitions make of lines of words, said without them: of the words that stand where a text is named,
-// and of the options.
+// What `clap`'s definitions say of the usual command lines, stated without them: which words name texts, and what the
+// options mean.
 ghost use Rattle.std.specs.Prelude.{◌≡◌, ◌⊎◌, ◌++◌, ◌∷◌, [], List, None, Some, codes, true, ℕ};
 ghost use Rattle.dn_arc.specs.declared.arc.Form.TheVariants.{One, Two};
 ghost use Rattle.dn_command.specs.Commands.{Canon, Check, Compare, Show, is_name};
@@ -8,7 +8,7 @@ ghost use Rattle.dn_command.specs.State.Requests.{Requests};
 ghost use Rattle.dn_command.specs.declared.request.Request.{Request};
 ghost use Rattle.dn_command.specs.declared.request.Request.TheVariants.{Memory};
 
-/// `clap` would read the plain forms as what they are by their words alone, but for the line without words.
+/// `clap` would read the plain forms, except the line without words, as the commands that they are.
 pub fn plain_forms()
     ensures show { (program name : List ℕ) (r : Request) → is_name name ≡ true
         → IsReadByClap (program ∷ codes "show" ∷ name ∷ []) r → Requests (Show name) r ⊎ (r ≡ Memory) }
@@ -21,8 +21,8 @@ pub fn plain_forms()
         → Requests (Compare left right) r ⊎ (r ≡ Memory) }
 {}
 
-/// `check NAME --with COMPANION`, `check --with COMPANION NAME` and `check NAME --with=COMPANION`, the last for any
-/// companion's name, check NAME with COMPANION.
+/// `check NAME --with COMPANION`, `check --with COMPANION NAME` and `check NAME --with=COMPANION` check NAME with
+/// COMPANION. In the last one, COMPANION can be any name.
 pub fn companions()
     ensures after { (program name companion : List ℕ) (r : Request) → is_name name ≡ true → is_name companion ≡ true
         → IsReadByClap (program ∷ codes "check" ∷ name ∷ codes "--with" ∷ companion ∷ []) r
@@ -48,7 +48,7 @@ pub fn forms()
         → Requests (Canon name Two) r ⊎ (r ≡ Memory) }
 {}
 
-/// Any words after `--` name texts, also empty ones and those that begin with `-`.
+/// Any words after `--` name texts, including empty ones and those that begin with `-`.
 pub fn any_names()
     ensures show { (program name : List ℕ) (r : Request)
         → IsReadByClap (program ∷ codes "show" ∷ codes "--" ∷ name ∷ []) r

@@ -1,4 +1,4 @@
--- The rows of what is held, by the arcs that its bundles tell.
+-- The lines of a parsed instance, made from the arcs that its bundles list.
 use Rattle.std.specs.Prelude.{ℤ, pos, List, [], ◌∷◌, length, map, codes}
 use Rattle.std.specs.Fmt.{signed_decimal}
 use Rattle.dn_line.specs.declared.kind.Kind.TheVariants as Kinds
@@ -9,20 +9,20 @@ use Rattle.dn_instance.specs.State.Helds.{Bundles, Contents, Holding, OfMin, OfM
 use Rattle.dn_sink.specs.Rows.{Row}
 use Rattle.dn_report.specs.Shows.{pair_row, total_words, cost_words, number_row, graph_rows, companion_rows, supply_rows, terminal_rows}
 
--- `length` and the length of the first arc; of no arcs nothing
+-- `length` and the length of the first arc, or nothing if there is no arc
 abbrev pub length_words : List LengthArc → Row
 length_words [] = []
 length_words (a ∷ rest) = codes "length" ∷ signed_decimal a.length ∷ []
 
--- the row of each bundle
+-- the line of each bundle
 abbrev pub told_rows : {B Arc : Type 0} → (List Arc → Row) → (B → List Arc) → Bundles B → List Row
 told_rows words tells table = map (λ e. pair_row e.0 (words (tells e.1))) table
 
--- how many bundles there are, and their rows
+-- the line of the number of bundles, and the line of each bundle
 abbrev pub table_rows : {B Arc : Type 0} → (List Arc → Row) → (B → List Arc) → Bundles B → List Row
 table_rows words tells table = number_row (codes "pairs") (pos (length table)) ∷ told_rows words tells table
 
--- the rows of what is held, of as many nodes and lines
+-- the lines of these contents, with this number of nodes and of counted lines
 abbrev pub contents_rows : ℤ → ℤ → Contents → List Row
 contents_rows nodes lines (OfMin flows table) =
     graph_rows Kinds.Min nodes lines (supply_rows flows) (told_rows cost_words (curve_arcs One) table)
@@ -33,6 +33,6 @@ contents_rows nodes lines (OfSs ids) = companion_rows Kinds.Ss lines
 contents_rows nodes lines (OfP2p pairs) = companion_rows Kinds.P2p lines
 contents_rows nodes lines (OfCo points) = companion_rows Kinds.Co lines
 
--- those of what is held
+-- the lines of a parsed instance
 abbrev pub held_rows : Holding → List Row
 held_rows h = contents_rows h.nodes h.lines h.contents

@@ -5,26 +5,26 @@ use Rattle.dn_sink.specs.Sinks.{SinkWords}
 use Rattle.dn_sink.specs.declared.sink.SinkFault.{SinkFault}
 
 module _ {S : Type 0} (sink : SinkWords S) (old new : S) where
-  -- it took the first n bytes of the piece, where what it takes is known. It has failed where it took none of a piece
-  -- that is not empty; else whether it has failed is as it was
+  -- the sink took the first n bytes of the piece, as far as its bytes are known. It has failed if it took none of a
+  -- non-empty piece; otherwise whether it has failed did not change
   pub record Took (piece : List ℕ) (n : ℕ) : Type 0 where
     pub bound : n ≤ length piece
     pub bytes : Appends (sink.taken old) (sink.taken new) (take n piece)
     pub none : n ≡ 0 → 0 < length piece → IsTrue (sink.has_failed new)
     pub fine : (n ≡ 0 → length piece ≡ 0) → sink.has_failed new ≡ sink.has_failed old
 
-  -- it took no bytes, and has failed
+  -- the sink took no bytes, and has failed
   pub record Refused : Type 0 where
     pub bytes : Keeps (sink.taken old) (sink.taken new)
     pub failed : IsTrue (sink.has_failed new)
 
-  -- what putting a piece does to it
+  -- what a put of a piece does to the sink
   pub record Turn (piece : List ℕ) (result : Result ℕ SinkFault) : Type 0 where
     pub ok : IfOk result (Took piece)
     pub err : OnErr result Refused
 
-  -- what a flush does to it: it takes no bytes. On `Ok` it has handed on all that it took, and whether it has failed is
-  -- as it was; on a fault it has failed
+  -- what a flush does to the sink: it takes no bytes. On `Ok` it has passed on all that it took, and whether it has
+  -- failed did not change. On a fault it has failed
   pub record Flush (result : Result (Unit {0}) SinkFault) : Type 0 where
     pub flushed : OnOk result (IsTrue (sink.is_flushed new))
     pub fine : OnOk result (sink.has_failed new ≡ sink.has_failed old)

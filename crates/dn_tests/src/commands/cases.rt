@@ -1,7 +1,8 @@
-// Lines of words after the program's name, apart by `|`, and what they are: what `clap` 4 in Rust made of them when it
-// was given the same options. It had no version there: what `--version` and `-V` are is this project's.
+// Command lines after the program's name, with `|` between the words, and what they ask for: what `clap` 4 in Rust
+// makes of them with the same options. `clap` had no version there; the results for `--version` and `-V` are this
+// project's.
 
-// Names of files, and what can stand in their place.
+// Names of files, and other words in their place.
 pub(super) const FILES: [(&str, &str); 48] = [
     ("show|a", "show [a]"),
     ("show|-", "show [-]"),
@@ -154,7 +155,7 @@ pub(super) const HELP: [(&str, &str); 46] = [
     ("show|help|x", "bad"),
 ];
 
-// The version, and words that are no command.
+// The version, and words that are not commands.
 pub(super) const OTHERS: [(&str, &str); 29] = [
     ("--version", "version"),
     ("-V", "version"),

@@ -6,7 +6,7 @@ use Rattle.dn_compare.specs.State.Partings.{by_meaning, IsParting}
 use Rattle.dn_compare.proofs.PairWalks.{PairsRise}
 use Rattle.dn_compare.proofs.parting.first_pair.Given as goal
 
--- what is right for what is left is right for the whole
+-- the first difference of the remaining entries is the first difference of all entries
 abbrev pub invariant-loop-pair : goal.invariant-loop-pair
 invariant-loop-pair g l =
     let by = by_meaning g.B.Bundle.bundle.kind (g.B.Bundle.bundle.told One) in

@@ -4,7 +4,7 @@ use Rattle.dn_compare.specs.State.Partings.{by_flow, IsParting}
 use Rattle.dn_compare.proofs.MapWalks.{IdsRise}
 use Rattle.dn_compare.proofs.parting.first_supply.Given as goal
 
--- what is right for what is left is right for the whole
+-- the first difference of the remaining entries is the first difference of all entries
 abbrev pub invariant-loop-id : goal.invariant-loop-id
 invariant-loop-id l = record {
   lefts : IdsRise l.lefts;

@@ -5,11 +5,11 @@ use Rattle.dn_sink.specs.Puts.{HasPut}
 use Rattle.dn_sink.proofs.PutLaws.{put_from, put_more, put_stop, stopped}
 use Rattle.dn_report.proofs.fault_line.put_pieces.Goals as goal
 
--- the text of pieces
+-- the bytes of pieces, one after the other
 abbrev text : List (Bor (List ℕ)) → List ℕ
 text pieces = concat (map (λ p. p.now) pieces)
 
--- what is left of pieces, by the next one
+-- the bytes from piece i on are those of piece i and then those of the other pieces
 next_piece : (pieces : List (Bor (List ℕ))) (i : ℕ) → i < length pieces
     → text (drop i pieces) ≡ (get_or pieces i (record { ref_ptr = (0, 0); now = [] })).now ++ text (drop (i + 1) pieces)
 next_piece pieces i h = ap text (drop_more pieces i (record { ref_ptr = (0, 0); now = [] }) h)
