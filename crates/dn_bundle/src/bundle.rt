@@ -1,8 +1,8 @@
 // The trait of bundles, which represent what the parallel arcs of one ordered pair mean.
-ghost use Rattle.std.specs.Prelude.{◌≡◌, ℕ, ◌+◌, ◌-◌, ◌^◌, pos, ◌≤ℤ◌, ◌<ℤ◌, ◌↔◌, [], ◌∷◌, ◌++◌, length, IsTrue, IfOk, OnOk, OnErr, slice_get};
+ghost use Rattle.std.specs.Prelude.{◌≡◌, ◌-◌, ◌^◌, pos, ◌≤ℤ◌, ◌<ℤ◌, ◌↔◌, [], length, IsTrue, IfOk, OnOk, OnErr, slice_get};
 ghost use Rattle.std.specs.List.{AllByRecursion};
 ghost use Rattle.std.specs.Option.{option_copied};
-ghost use Rattle.dn_arc.specs.State.Bundles.{BundleWords, IsHow, IsKind, NumbersFit, meant};
+ghost use Rattle.dn_arc.specs.State.Bundles.{BundleWords, Gains, IsAfter, IsHow, IsKind, NumbersFit, PassesSum, meant};
 ghost use Rattle.dn_arc.specs.declared.arc.Form.{Form};
 
 use dn_arc::{Form, How, Parts};
@@ -40,10 +40,9 @@ pub trait Bundle: Sized + Drop {
     /// allocation, and `Memory` if an allocation fails. After an error, the bundle is unchanged.
     fn add(&mut self, arc: Self::Arc) -> Result<(), BundleFault>
         requires { bundle.kind.IsArc arc }
-        ensures ok { OnOk result (bundle.kind.Same (meant bundle self.new) (meant bundle self.old ++ arc ∷ [])) }
+        ensures ok { OnOk result (Gains bundle self.old self.new arc) }
         ensures err { OnErr result (self.new ≡ self.old) }
-        ensures sum { (result ≡ Err BundleFault.Sum)
-            ↔ (pos (2 ^ 63 - 1) <ℤ bundle.kind.capacity (meant bundle self.old ++ arc ∷ [])) }
+        ensures sum { (result ≡ Err BundleFault.Sum) ↔ PassesSum bundle self.old arc }
         ensures memory { (result ≡ Err BundleFault.Memory) → IsTrue bundle.wants_memory };
 
     /// Whether the arcs of the bundle mean the same as no arcs.
@@ -76,8 +75,7 @@ pub trait Bundle: Sized + Drop {
 
     /// Returns the canonical arc after this one, or `None` after the last, so that a walk can continue from any arc.
     fn canon_after(&self, arc: &Self::Arc, form: Form) -> Option<Self::Arc>
-        ensures { (i : ℕ) → slice_get (bundle.told form self.now) i ≡ Some arc.now
-            → result ≡ slice_get (bundle.told form self.now) (i + 1) };
+        ensures { IsAfter (bundle.told form self.now) arc.now result };
 
     /// The laws of the kind of arcs.
     ghost laws: { IsKind bundle.kind };

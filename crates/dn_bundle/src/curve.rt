@@ -1,19 +1,20 @@
 // Cost curves: the least cost of each amount.
-ghost use Rattle.std.specs.Prelude.{◌≡◌, ◌+ℤ◌, [], ◌∷◌, ◌++◌, length, filter, slice_get, OnOk, OnErr, IfErr, MatchOption, refl, true};
+ghost use Rattle.std.specs.Prelude.{◌≡◌, ◌+ℤ◌, [], ◌∷◌, ◌++◌, length, filter, slice_get, OnOk, OnErr, IfErr, refl, true};
 ghost use Rattle.std.specs.Option.{option_map};
 ghost use Rattle.dn_arc.specs.Kinds.{costs};
 ghost use Rattle.dn_arc.specs.Meanings.{SameCurve};
 ghost use Rattle.dn_arc.specs.Canonical.{IsCostArc, has_low};
 ghost use Rattle.dn_arc.specs.Fillings.{forced_units, forced_cost};
 ghost use Rattle.dn_arc.specs.Entries.{free_costs};
-ghost use Rattle.dn_arc.specs.Differences.{IsCostOf, IsGap};
+ghost use Rattle.dn_arc.specs.Differences.{IsCostOf};
 ghost use Rattle.dn_arc.specs.State.CurveTold.{told, fixed_arcs, step_arc, fixed_list, HasNext, is_free};
+ghost use Rattle.dn_bundle.specs.State.Gaps.{IsGapOf};
 ghost use Rattle.dn_bundle.specs.State.Shapes.{numbers_of, AreSound};
 ghost use Rattle.dn_arc.proofs.SoundLaws.{IsSound-prop, sound_canonical, sound_same, sound_fit};
 ghost use Rattle.dn_arc.proofs.CostKindLaws.{cost_kind};
 ghost use Rattle.dn_arc.specs.declared.arc.Form.{Form};
 ghost use Rattle.dn_arc.specs.declared.difference.How.TheVariants.{Costs};
-ghost use Rattle.dn_bundle.specs.State.Tellings.{curve_arcs};
+ghost use Rattle.dn_bundle.specs.State.Tellings.{curve_arcs, form_one_arcs};
 
 use crate::bundle::{Bundle, BundleFault};
 use crate::cost128::{floor, more_cost};
@@ -52,38 +53,37 @@ impl Model for Curve {
 impl Curve {
     /// Returns the forced units L and their cost F.
     pub fn forced(&self) -> (i64, i128)
-        ensures units { result.0 ≡ forced_units (curve_arcs Form.One self.now) }
-        ensures cost { result.1 ≡ forced_cost (curve_arcs Form.One self.now) }
+        ensures units { result.0 ≡ forced_units (form_one_arcs self.now) }
+        ensures cost { result.1 ≡ forced_cost (form_one_arcs self.now) }
     {
         (self.units(), self.cost())
     }
 
     /// Returns the fixed arcs of form 1.
     pub fn fixed(&self) -> Fixed
-        ensures { fixed_list result ≡ filter has_low (curve_arcs Form.One self.now) }
+        ensures { fixed_list result ≡ filter has_low (form_one_arcs self.now) }
     {
         self.spread()
     }
 
     /// Returns how many different costs have free capacity.
     pub fn free_len(&self) -> u64
-        ensures arcs { result ≡ length (filter is_free (curve_arcs Form.One self.now)) }
-        ensures costs { result ≡ length (free_costs (curve_arcs Form.One self.now)) }
+        ensures arcs { result ≡ length (filter is_free (form_one_arcs self.now)) }
+        ensures costs { result ≡ length (free_costs (form_one_arcs self.now)) }
     {
         self.steps_len()
     }
 
     /// Returns the cost and the capacity of the free arc at `i`, counted from 0 by ascending cost.
     pub fn free(&self, i: u64) -> Option<(i64, i64)>
-        ensures { option_map step_arc result
-            ≡ slice_get (filter is_free (curve_arcs Form.One self.now)) i }
+        ensures { option_map step_arc result ≡ slice_get (filter is_free (form_one_arcs self.now)) i }
     {
         self.step(i)
     }
 
     /// Returns the least cost of the amount `x`, or `None` if it cannot be split.
     pub fn least(&self, x: i64) -> Option<i128>
-        ensures { IsCostOf (curve_arcs Form.One self.now) x result }
+        ensures { IsCostOf (form_one_arcs self.now) x result }
     {
         let units = self.units();
         if x < units {
@@ -105,9 +105,7 @@ impl Curve {
     /// Returns the least amount at which the curves differ and its least cost on each side, or `None` if the curves are
     /// the same.
     pub fn gap(&self, other: &Curve) -> Option<Gap>
-        ensures { MatchOption result
-            (SameCurve (curve_arcs Form.One self.now) (curve_arcs Form.One other.now))
-            (IsGap (curve_arcs Form.One self.now) (curve_arcs Form.One other.now)) }
+        ensures { IsGapOf (form_one_arcs self.now) (form_one_arcs other.now) result }
     {
         let left = self.units();
         let right = other.units();
@@ -139,9 +137,7 @@ impl Curve {
     // Returns the gap between this curve and the curve of no arcs, on the right. This is separate from `gap` because an
     // empty curve needs an allocator.
     fn gap_to_none(&self) -> Option<Gap>
-        ensures { MatchOption result
-            (SameCurve (told Form.One self.now.units self.now.cost self.now.steps) [])
-            (IsGap (told Form.One self.now.units self.now.cost self.now.steps) []) }
+        ensures { IsGapOf (told Form.One self.now.units self.now.cost self.now.steps) [] result }
     {
         if self.units() != 0 {
             return Some(Gap {
@@ -160,9 +156,7 @@ impl Curve {
 
     // Returns the gap between the curve of no arcs, on the left, and this curve.
     fn gap_from_none(&self) -> Option<Gap>
-        ensures { MatchOption result
-            (SameCurve [] (told Form.One self.now.units self.now.cost self.now.steps))
-            (IsGap [] (told Form.One self.now.units self.now.cost self.now.steps)) }
+        ensures { IsGapOf [] (told Form.One self.now.units self.now.cost self.now.steps) result }
     {
         let gap = self.gap_to_none()?;
         Some(Gap {

@@ -1,13 +1,12 @@
 // Writes the canonical text of a parsed instance or of a source into a sink or memory, and judges texts.
-ghost use Rattle.std.specs.Prelude.{◌≡◌, ◌↔◌, IfErr, IfSome, IsTrue, OnOk};
-ghost use Rattle.dn_instance.specs.State.Helds.{IsHeld, holding};
+ghost use Rattle.std.specs.Prelude.{◌≡◌, ◌↔◌, IfErr, IsTrue, OnOk};
+ghost use Rattle.dn_instance.specs.State.Helds.{IsHeld, OfHeld, holding};
 ghost use Rattle.dn_instance.specs.Instances.{Instance};
 ghost use Rattle.dn_instance.specs.State.SourceReads.{SourceLeft};
 ghost use Rattle.dn_instance.specs.Texts.{Reads};
-ghost use Rattle.dn_instance.specs.Validity.{IsValid};
 ghost use Rattle.dn_canon.specs.CanonTexts.{IsCanonOf};
 ghost use Rattle.dn_canon.specs.State.Writes.{IsOfWriting, SinkAfter, WritesCanon, written_as};
-ghost use Rattle.dn_canon.specs.State.Runs.{JudgesCanon, RunOutcome, TextOutcome};
+ghost use Rattle.dn_canon.specs.State.Runs.{JudgesCanon, RunsSource, TextOutcome};
 
 use crate::writer::{NodeLines, write_graph, write_points, write_queries, write_sources};
 use dn_bundle::Form;
@@ -27,8 +26,7 @@ pub fn write_canon<K: Sink>(held: &Held, sink: &mut K, form: Form) -> Result<(),
     ensures refusal { IfErr result IsOfWriting }
     ensures after { SinkAfter K.sink sink.old sink.new result }
     ensures flushed { OnOk result (IsTrue (K.sink.is_flushed sink.new)) }
-    ensures canon { (I : Instance) → IsValid I → IsHeld (holding held.now) I
-        → WritesCanon K.sink sink.old sink.new form I result }
+    ensures canon { OfHeld held.now (λ I. WritesCanon K.sink sink.old sink.new form I result) }
 {
     let nodes = held.nodes();
     match held.view() {
@@ -59,8 +57,7 @@ pub fn write_canon<K: Sink>(held: &Held, sink: &mut K, form: Form) -> Result<(),
 ///
 /// `Memory` if an allocation for the text failed. `CountTooLarge` if the text has more than 2^63-1 counted lines.
 pub fn canon_text(alloc: Global, held: &Held, form: Form) -> Result<Vec<u8>, Refusal>
-    ensures { (I : Instance) → IsValid I → IsHeld (holding held.now) I
-        → TextOutcome (λ v. v.items) form I result }
+    ensures { OfHeld held.now (λ I. TextOutcome (λ v. v.items) form I result) }
 {
     let mut bytes = Bytes::new(alloc);
     match write_canon(held, &mut bytes, form) {
@@ -82,8 +79,7 @@ pub fn canon_run<S: Source, K: Sink>(
     sink: &mut K,
     form: Form,
 ) -> Result<(), Refusal>
-    ensures outcome { IfSome (S.source.gives source.old)
-        (λ t. RunOutcome K.sink sink.old sink.new form t (S.source.gives source.new) result) }
+    ensures outcome { RunsSource S.source source.old source.new K.sink sink.old sink.new form result }
     ensures left { SourceLeft S.source source.old source.new result }
     ensures after { SinkAfter K.sink sink.old sink.new result }
     ensures flushed { OnOk result (IsTrue (K.sink.is_flushed sink.new)) }

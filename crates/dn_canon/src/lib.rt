@@ -11,4 +11,4 @@ mod print;
 mod writer;
 
 pub use canon::{canon_run, canon_text, is_canon, is_canon_of, write_canon};
-pub use dn_sink::{Bytes, Room, Sink, SinkFault, ToWrite, put_all};
+pub use dn_sink::{Bytes, Room, Sink, SinkFault, ToWrite};

@@ -52,11 +52,11 @@ impl Command<'_> {
     }
 }
 
-/// Returns the command of a line of words, the program's name first, if the line is a plain form, and `None` otherwise.
-/// The plain forms are `show FILE`, `check FILE`, `canon FILE` and `compare LEFT RIGHT`, where a text is `-` or any
-/// non-empty word that does not begin with `-`. No word after the program's name is a plain form too, and means `canon
-/// -`. The form of canonical texts is form 1.
-pub fn plain_command(words: &[String]) -> Option<Command<'_>>
+// Returns the command of a line of words, the program's name first, if the line is a plain form, and `None` otherwise.
+// The plain forms are `show FILE`, `check FILE`, `canon FILE` and `compare LEFT RIGHT`, where a text is `-` or any
+// non-empty word that does not begin with `-`. No word after the program's name is a plain form too, and means `canon
+// -`. The form of canonical texts is form 1.
+pub(crate) fn plain_command(words: &[String]) -> Option<Command<'_>>
     ensures { option_map asks result ≡ plain_asked (map string_bytes words.now) }
 {
     match words {

@@ -10,5 +10,5 @@ mod help;
 mod options;
 pub mod request;
 
-pub use command::{Command, plain_command};
+pub use command::Command;
 pub use request::{Request, request_of};

@@ -1,9 +1,7 @@
 // Computes the first difference between two parsed instances.
 ghost use Rattle.std.specs.Prelude.{◌≡◌, ℤ, List};
-ghost use Rattle.dn_instance.specs.State.Helds.{contents_kind, IsHeld, OfCo, OfMax, OfMin, holding, shown};
-ghost use Rattle.dn_instance.specs.Instances.{Instance};
+ghost use Rattle.dn_instance.specs.State.Helds.{contents_kind, OfBoth, OfCo, OfMax, OfMin, shown};
 ghost use Rattle.dn_table.specs.State.Tables.{Tells};
-ghost use Rattle.dn_instance.specs.Validity.{IsValid};
 ghost use Rattle.dn_compare.specs.FirstDifference.{IsFirstDifference};
 ghost use Rattle.dn_compare.specs.State.Partings.{IsListVerdict, IsPairVerdict, IsVerdictOn};
 
@@ -17,8 +15,7 @@ use std::collections::BTreeMap;
 /// variant that is true of them, at its least ID, pair or index. Returns `Same` if and only if they are the same
 /// problem. Walks both instances once, in at most as many steps as they have entries together. Allocates nothing.
 pub fn compare(left: &Held, right: &Held) -> Verdict
-    ensures { (I J : Instance) → IsValid I → IsValid J → IsHeld (holding left.now) I → IsHeld (holding right.now) J
-        → IsFirstDifference I J result }
+    ensures { OfBoth left.now right.now (λ I J. IsFirstDifference I J result) }
 {
     if left.kind() != right.kind() {
         return Verdict::Kind {

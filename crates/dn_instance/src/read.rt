@@ -1,10 +1,10 @@
 // A whole text, from memory or from a source.
-ghost use Rattle.std.specs.Prelude.{◌≡◌, ◌<◌, ◌≤◌, [], ◌++◌, ℕ, List, length, Err, None, IsTrue, IfOk, IfErr, IfSome, OnOk, OnErr};
+ghost use Rattle.std.specs.Prelude.{◌≡◌, ◌<◌, ◌≤◌, [], ◌++◌, ℕ, List, length, Err, None, IsTrue, IfOk, IfErr, OnOk, OnErr};
 ghost use Rattle.std.specs.Io.KnownBytes.{Consumes, IsAtEnd, Keeps};
 ghost use Rattle.dn_instance.specs.State.Readers.{Outcome, refusal_of};
 ghost use Rattle.dn_instance.specs.State.ReaderStates.{IsFed, ReaderAt};
 ghost use Rattle.dn_instance.specs.SourceReads.{IsOfReading};
-ghost use Rattle.dn_instance.specs.State.SourceReads.{CopyOutcome, HoldsCopied, HoldsSome, SourceLeft, SourceOutcome};
+ghost use Rattle.dn_instance.specs.State.SourceReads.{CopiesSource, HoldsCopied, HoldsSome, ReadsSource, SourceLeft};
 
 use crate::held::Held;
 use crate::reader::Reader;
@@ -29,7 +29,7 @@ pub fn read_text(alloc: Global, text: &[u8]) -> Result<Held, Refusal>
 /// past its end. Answers `Read` where the source failed, and `Endless` where 2^40 pulls gave bytes and no end came.
 pub fn read_from<S: Source>(alloc: Global, source: &mut S) -> Result<Held, Refusal>
     ensures held { IfOk result HoldsSome }
-    ensures outcome { IfSome (S.source.gives source.old) (λ t. SourceOutcome t (S.source.gives source.new) result) }
+    ensures outcome { ReadsSource S.source source.old source.new result }
     ensures refusal { IfErr result IsOfReading }
     ensures left { SourceLeft S.source source.old source.new result }
 {
@@ -48,8 +48,7 @@ pub fn read_keep<S: Source>(
 ) -> Result<Held, Refusal>
     ensures prefix { (more : List ℕ) × (text.new.items ≡ text.old.items ++ more) }
     ensures held { IfOk result (HoldsCopied text.old.items text.new.items) }
-    ensures outcome { IfSome (S.source.gives source.old)
-        (λ t. CopyOutcome t (S.source.gives source.new) text.old.items text.new.items result) }
+    ensures outcome { CopiesSource S.source source.old source.new text.old.items text.new.items result }
     ensures refusal { IfErr result IsOfReading }
     ensures left { SourceLeft S.source source.old source.new result }
 {
@@ -62,8 +61,7 @@ pub fn read_keep<S: Source>(
 fn feed_all<S: Source>(source: &mut S, reader: &mut Reader) -> Result<(), Refusal>
     requires { ReaderAt reader.old [] × (refusal_of reader.old ≡ None) }
     ensures ok { OnOk result (IsFed (S.source.gives source.old) (S.source.gives source.new) reader.new) }
-    ensures err { IfErr result (λ e. IfSome (S.source.gives source.old)
-        (λ t. SourceOutcome t (S.source.gives source.new) (Err e))) }
+    ensures err { IfErr result (λ e. ReadsSource S.source source.old source.new (Err e)) }
     ensures refusal { IfErr result IsOfReading }
     ensures left { SourceLeft S.source source.old source.new result }
 {
@@ -88,8 +86,8 @@ fn keep_all<S: Source>(
     ensures prefix { (more : List ℕ) × (text.new.items ≡ text.old.items ++ more) }
     ensures ok { OnOk result ((fed : IsFed (S.source.gives source.old) (S.source.gives source.new) reader.new)
         × (text.new.items ≡ text.old.items ++ fed.given)) }
-    ensures err { IfErr result (λ e. IfSome (S.source.gives source.old)
-        (λ t. CopyOutcome t (S.source.gives source.new) text.old.items text.new.items (Err e))) }
+    ensures err { IfErr result
+        (λ e. CopiesSource S.source source.old source.new text.old.items text.new.items (Err e)) }
     ensures refusal { IfErr result IsOfReading }
     ensures left { SourceLeft S.source source.old source.new result }
 {

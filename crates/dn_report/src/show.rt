@@ -2,9 +2,7 @@
 ghost use Rattle.std.specs.Prelude.{◌++◌, ℕ, List, IsTrue, OnOk};
 ghost use Rattle.std.specs.List.{concat};
 ghost use Rattle.dn_arc.specs.declared.arc.Form.{Form};
-ghost use Rattle.dn_instance.specs.State.Helds.{IsHeld, holding};
-ghost use Rattle.dn_instance.specs.Instances.{Instance};
-ghost use Rattle.dn_instance.specs.Validity.{IsValid};
+ghost use Rattle.dn_instance.specs.State.Helds.{OfHeld, holding};
 ghost use Rattle.dn_sink.specs.Rows.{text_of};
 ghost use Rattle.dn_sink.specs.Puts.{Puts};
 ghost use Rattle.dn_report.specs.Shows.{IsShown};
@@ -25,7 +23,7 @@ use dn_sink::{LineBuffer, Sink, SinkFault, put_and_flush};
 /// The sink failed. It has taken a prefix of the text.
 pub fn put_shown<K: Sink>(sink: &mut K, held: &Held) -> Result<(), SinkFault>
     ensures text { (t : List ℕ) × Puts K.sink sink.old sink.new t result
-        × ((I : Instance) → IsValid I → IsHeld (holding held.now) I → IsShown I t) }
+        × OfHeld held.now (λ I. IsShown I t) }
     ensures flushed { OnOk result (IsTrue (K.sink.is_flushed sink.new)) }
 {
     put_held(sink, held)?;

@@ -1,7 +1,7 @@
 // A run on the host.
 ghost use Rattle.std.specs.Prelude.{◌≡◌, ◌≤◌, ℕ, List, None, map, string_bytes, IfOk, OnErr};
 ghost use Rattle.dn_run.specs.Streams.{sink_run};
-ghost use Rattle.dnorm.specs.HostRuns.{HostRun, HostWords, RanOnHost};
+ghost use Rattle.dnorm.specs.HostRuns.{HostRun, RanOnHost};
 
 use crate::retried::Retried;
 use dn_instance::Refusal;

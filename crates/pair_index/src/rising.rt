@@ -23,8 +23,8 @@ pub(crate) fn is_past<X>(entries: &[((i64, i64), X)], pair: &(i64, i64)) -> bool
     }
 }
 
-/// Returns the position of a pair among entries that are sorted by pair.
-pub fn place_by_search<X>(entries: &[((i64, i64), X)], pair: &(i64, i64)) -> Option<usize>
+// Returns the position of a pair among entries that are sorted by pair.
+pub(crate) fn place_by_search<X>(entries: &[((i64, i64), X)], pair: &(i64, i64)) -> Option<usize>
     requires { IsStrictlySortedBy pair_cmp (keys_of entries.now) }
     ensures { IsPlace (keys_of entries.now) pair.now result }
 {

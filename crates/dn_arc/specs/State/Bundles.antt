@@ -1,5 +1,5 @@
 -- What every kind of bundle provides to the layers above it.
-use Rattle.std.specs.Prelude.{◌≡◌, ℤ, pos, ◌+ℤ◌, ◌≤ℤ◌, List, [], ◌++◌, Bool, Option, Some, None, MatchOption, FitsSigned}
+use Rattle.std.specs.Prelude.{◌≡◌, ℕ, ◌+◌, ◌-◌, ◌^◌, ℤ, pos, ◌+ℤ◌, ◌≤ℤ◌, ◌<ℤ◌, List, [], ◌∷◌, ◌++◌, slice_get, Bool, Option, Some, None, MatchOption, FitsSigned}
 use Rattle.std.specs.Int.{w64}
 use Rattle.std.specs.List.{AllByRecursion}
 use Rattle.dn_arc.specs.Kinds.{ArcKind}
@@ -64,10 +64,22 @@ abbrev pub told_of : {B Arc : Type 0} → (B → List Arc) → Option B → List
 told_of told None = []
 told_of told (Some b) = told b
 
+-- the option is the element after this one, or none after the last, wherever the list has this element
+abbrev pub IsAfter : {A : Type 0} → List A → A → Option A → Type 0
+IsAfter xs x next = (i : ℕ) → slice_get xs i ≡ Some x → next ≡ slice_get xs (i + 1)
+
 module _ {B Arc : Type 0} (bundle : BundleWords B Arc) where
   -- the arcs that a bundle lists in form 1, which have its meaning
   abbrev pub meant : B → List Arc
   meant b = bundle.told One b
+
+  -- the second bundle means what the first one does with one more arc
+  abbrev pub Gains : B → B → Arc → Type 0
+  Gains old new arc = bundle.kind.Same (meant new) (meant old ++ arc ∷ [])
+
+  -- with one more arc, the capacities of a bundle sum to more than 2 ^ 63 - 1
+  abbrev pub PassesSum : B → Arc → Type 0
+  PassesSum b arc = pos (2 ^ 63 - 1) <ℤ bundle.kind.capacity (meant b ++ arc ∷ [])
 
   -- the first difference between the arcs of two bundles, or none if they mean the same; where there is no bundle,
   -- there are no arcs

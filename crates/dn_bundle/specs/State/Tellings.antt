@@ -4,6 +4,7 @@ use Rattle.dn_arc.specs.declared.arc.LengthArc.{LengthArc}
 use Rattle.dn_arc.specs.declared.arc.CapArc.{CapArc}
 use Rattle.dn_arc.specs.declared.arc.CostArc.{CostArc}
 use Rattle.dn_arc.specs.declared.arc.Form.{Form}
+use Rattle.dn_arc.specs.declared.arc.Form.TheVariants.{One}
 use Rattle.dn_bundle.specs.declared.least.Least.{Least}
 use Rattle.dn_bundle.specs.declared.total.Total.{Total}
 use Rattle.dn_bundle.specs.declared.curve.Curve.{Curve}
@@ -22,3 +23,7 @@ total_arcs b = cap_told b.total
 -- the canonical arcs in this form
 abbrev pub curve_arcs : Form → Curve → List CostArc
 curve_arcs form b = told form b.units b.cost b.steps
+
+-- the canonical arcs in form 1
+abbrev pub form_one_arcs : Curve → List CostArc
+form_one_arcs b = curve_arcs One b

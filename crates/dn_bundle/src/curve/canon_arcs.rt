@@ -1,9 +1,10 @@
 // The canonical arcs that a curve lists, in both forms.
-ghost use Rattle.std.specs.Prelude.{◌≡◌, ℕ, ◌+◌, ◌+ℤ◌, length, slice_get, Some, find, cond, int_lt, FitsSigned};
+ghost use Rattle.std.specs.Prelude.{◌≡◌, ◌+◌, ◌+ℤ◌, length, slice_get, Some, find, cond, int_lt, FitsSigned};
 ghost use Rattle.std.specs.Option.{option_map, ForSome};
 ghost use Rattle.std.specs.Int.{w64};
+ghost use Rattle.dn_arc.specs.State.Bundles.{IsAfter};
 ghost use Rattle.dn_arc.specs.State.Steps.{has_step};
-ghost use Rattle.dn_bundle.specs.State.Tellings.{curve_arcs};
+ghost use Rattle.dn_bundle.specs.State.Tellings.{curve_arcs, form_one_arcs};
 ghost use Rattle.dn_arc.specs.State.CurveTold.{fixed_arc, fixed_arcs, step_arc, joined_head};
 ghost use Rattle.dn_arc.specs.declared.arc.Form.{Form};
 
@@ -115,7 +116,7 @@ impl Curve {
 
     // Returns how many canonical arcs form 1 has.
     pub(super) fn len_one(&self) -> u64
-        ensures { result ≡ length (curve_arcs Form.One self.now) }
+        ensures { result ≡ length (form_one_arcs self.now) }
     {
         match self.spread() {
             Fixed::Zero => self.steps_len(),
@@ -146,8 +147,7 @@ impl Curve {
 
     // Returns the canonical arc of form 1 after this arc.
     pub(super) fn after_one(&self, arc: &CostArc) -> Option<CostArc>
-        ensures { (i : ℕ) → slice_get (curve_arcs Form.One self.now) i ≡ Some arc.now
-            → result ≡ slice_get (curve_arcs Form.One self.now) (i + 1) }
+        ensures { IsAfter (form_one_arcs self.now) arc.now result }
     {
         if arc.low == 0 {
             return free_of(self.step_past(&arc.cost));
@@ -160,8 +160,7 @@ impl Curve {
 
     // Returns the first canonical arc of form 2 whose cost is above `past`.
     pub(super) fn past_two(&self, past: &i64) -> Option<CostArc>
-        ensures { result ≡ find (λ b. int_lt past.now b.cost)
-            (curve_arcs Form.Two self.now) }
+        ensures { result ≡ find (λ b. int_lt past.now b.cost) (curve_arcs Form.Two self.now) }
     {
         let step = self.step_past(past);
         match self.fixed_past(past) {

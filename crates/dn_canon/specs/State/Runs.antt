@@ -1,8 +1,9 @@
 -- What producing the canonical text of a text does.
-use Rattle.std.specs.Prelude.{◌≡◌, ◌↔◌, true, ◌<◌, ◌^◌, ℕ, List, Bool, Option, Ok, Err}
+use Rattle.std.specs.Prelude.{◌≡◌, ◌↔◌, true, ◌<◌, ◌^◌, ℕ, List, Bool, Option, Ok, Err, IfSome}
 use Rattle.std.specs.Io.KnownBytes.{IsAtEnd}
 use Rattle.std.specs.declared.result.Result.{Result}
 use Rattle.dn_line.specs.Pieces.{lines}
+use Rattle.dn_line.specs.Sources.{SourceWords}
 use Rattle.dn_arc.specs.declared.arc.Form.{Form}
 use Rattle.dn_instance.specs.Instances.{Instance, size_of}
 use Rattle.dn_instance.specs.Readers.{WantsMemory}
@@ -46,3 +47,9 @@ RunOutcome sink old new form t rest (Err Write) =
 RunOutcome sink old new form t rest (Err CountTooLarge) =
     (I : Instance) × Reads t I × IsAtEnd rest × WritesCanon sink old new form I (Err CountTooLarge)
 RunOutcome sink old new form t rest (Err refusal) = SourceOutcome t rest (Err refusal)
+
+-- what canonicalising the text of a source returns, if its bytes are known
+abbrev pub RunsSource : {T S : Type 0} → SourceWords T → T → T → SinkWords S → S → S → Form → Result (Unit {0}) Refusal
+    → Type 0
+RunsSource source before after sink old new form result =
+    IfSome (source.gives before) (λ t. RunOutcome sink old new form t (source.gives after) result)

@@ -9,6 +9,7 @@ use Rattle.dn_arc.specs.State.Curves.{CurveNumbers}
 use Rattle.dn_bundle.specs.declared.least.Least.{Least}
 use Rattle.dn_bundle.specs.declared.total.Total.{Total}
 use Rattle.dn_instance.specs.Instances.{Instance, MinCostFlow, MaxFlow, ShortestPaths, Sources, Queries, Coordinates, nodes_of, size_of}
+use Rattle.dn_instance.specs.Validity.{IsValid}
 use Rattle.dn_table.specs.State.Tables.{TableStandsFor}
 use Rattle.dn_instance.specs.declared.content.Content.{Content}
 use Rattle.dn_instance.specs.declared.content.Content.TheVariants as Kept
@@ -91,3 +92,12 @@ shown (Views.Sp table) = OfSp table.now
 shown (Views.Ss items) = OfSs items.now
 shown (Views.P2p items) = OfP2p items.now
 shown (Views.Co points) = OfCo points.now.entries
+
+-- this is so of every valid instance that a parsed instance represents
+abbrev pub OfHeld : Held → (Instance → Type 0) → Type 0
+OfHeld held Is = (I : Instance) → IsValid I → IsHeld (holding held) I → Is I
+
+-- this is so of any two valid instances that two parsed instances represent
+abbrev pub OfBoth : Held → Held → (Instance → Instance → Type 0) → Type 0
+OfBoth left right Are =
+    (I J : Instance) → IsValid I → IsValid J → IsHeld (holding left) I → IsHeld (holding right) J → Are I J

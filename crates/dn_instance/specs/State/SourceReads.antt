@@ -1,5 +1,5 @@
 -- What is answered of the text that a source gives.
-use Rattle.std.specs.Prelude.{◌≡◌, ◌⊎◌, ℕ, ◌<◌, ◌≤◌, ◌^◌, List, ◌++◌, length, Option, Some, Result, Ok, Err, IsErrOf, IsTrue}
+use Rattle.std.specs.Prelude.{◌≡◌, ◌⊎◌, ℕ, ◌<◌, ◌≤◌, ◌^◌, List, ◌++◌, length, Option, Some, Result, Ok, Err, IfSome, IsErrOf, IsTrue}
 use Rattle.std.specs.Io.KnownBytes.{IsAtEnd}
 use Rattle.dn_line.specs.Pieces.{lines}
 use Rattle.dn_line.specs.Sources.{SourceWords}
@@ -51,6 +51,10 @@ SourceOutcome t new (Err Endless) = (c : CleanSoFar t new) × (2 ^ 40 ≤ length
 SourceOutcome t new (Err Write) = ⊥
 SourceOutcome t new (Err CountTooLarge) = ⊥
 
+-- what reading a source returns, if its bytes are known
+abbrev pub ReadsSource : {S : Type 0} → SourceWords S → S → S → Result Held Refusal → Type 0
+ReadsSource source old new result = IfSome (source.gives old) (λ t. SourceOutcome t (source.gives new) result)
+
 -- how reading leaves a source, whatever it gives: it was pulled only while no line was faulty; it has failed where the
 -- answer is `Read`, and once it has failed, it stays so
 pub record SourceLeft {S A : Type 0} (source : SourceWords S) (old new : S) (result : Result A Refusal) : Type 0 where
@@ -84,6 +88,11 @@ abbrev pub CopyOutcome : List ℕ → Option (List ℕ) → List ℕ → List �
 CopyOutcome t new old_copy new_copy (Err Memory) =
     (SourceOutcome t new (Err Memory) × Copied t new old_copy new_copy) ⊎ LacksRoom t new old_copy new_copy
 CopyOutcome t new old_copy new_copy result = SourceOutcome t new result × Copied t new old_copy new_copy
+
+-- what reading a source with a copy returns, if its bytes are known
+abbrev pub CopiesSource : {S : Type 0} → SourceWords S → S → S → List ℕ → List ℕ → Result Held Refusal → Type 0
+CopiesSource source old new old_copy new_copy result =
+    IfSome (source.gives old) (λ t. CopyOutcome t (source.gives new) old_copy new_copy result)
 
 -- what is held stands for the instance that some text reads as, whatever is known of the bytes of its source
 abbrev pub HoldsSome : Held → Type 0
