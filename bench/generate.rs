@@ -1,16 +1,16 @@
-// Writes one DIMACS network text to standard output, always the same for the same words.
+// Writes one DIMACS network text to standard output. The same arguments always give the same text.
 //
 //   generate KIND N [SEED] [--noise] [--odd]
 //
-// N is the number of arcs, met within a small factor, where the table says nothing else. --noise
-// adds comments, blank lines, CRs, tabs and runs of blanks; --odd spells some numbers with `+` and
+// N is the number of arcs, met within a small factor, unless the table says otherwise. --noise adds
+// comments, blank lines, CRs, tabs and runs of blanks. --odd spells some numbers with `+` and
 // leading zeros.
 //
-// Texts as people have them:
+// Texts as they are common:
 //
 // road               sp, sparse grid, both directions, arcs by rising (tail, head)
-// road-pairs         the same arcs, each followed by its reverse, in blocks out of order
-// road-shuffled      the same arcs in random order
+// road-pairs         the arcs of road, each followed by its reverse, in blocks out of order
+// road-shuffled      the arcs of road in random order
 // multi              sp, N/10 ordered pairs with 10 arcs each, random order
 // max                frames of grids joined by permutations, 1 arc in 20 between frames doubled
 // min                feasible, with LOW > 0, parallel arcs, some negative costs
@@ -18,7 +18,7 @@
 // co, co-shuffled    N/4 points, by rising ID or in random order
 // ss, p2p            N/4 queries
 //
-// Texts made to hurt:
+// Adversarial texts:
 //
 // sp-falling         pairs fall
 // sp-alternating     tails from both ends: 1, N, 2, N-1, ..
@@ -31,18 +31,18 @@
 // sp-sparse          random nodes of all 63 bits
 // sp-collide-first   pairs of one bucket in the index's first spread
 // sp-collide         pairs of one bucket in both spreads of the index
-// sp-collide-late    the same after as many random pairs
+// sp-collide-late    pairs as of sp-collide, after as many random pairs
 // sp-hubs            a power law: few nodes with most arcs, each arc followed by its reverse
-// sp-hubs-shuffled   the same arcs in random order
-// sp-hubs-adjacency  the same arcs by rising tail, heads of one tail in random order
+// sp-hubs-shuffled   the arcs of sp-hubs in random order
+// sp-hubs-adjacency  the arcs of sp-hubs by rising tail, heads of one tail in random order
 // sp-ring4           a ring, each node joined to the nearest 4, each arc followed by its reverse, in
 //                    blocks out of order
 // sp-ring10, sp-ring16
-//                    the same with the nearest 10 and 16
-// sp-again           N/2 arcs as of sp-ring10, and then the same once more in random order
+//                    rings with the nearest 10 and 16 nodes
+// sp-again           N/2 arcs as of sp-ring10, and then the same arcs again in random order
 // max-onepair        all arcs of one ordered pair
 // min-onepair        all arcs of one ordered pair, all costs different, random order
-// min-falling        the same, costs fall
+// min-falling        as min-onepair, but costs fall
 // min-one-cost       all arcs of one ordered pair and one cost
 // min-nodes-falling  N node lines by falling ID, 1 in 4 of flow 0, and one arc
 // co-falling         N points by falling ID
@@ -148,10 +148,10 @@ impl Text {
 /// An undirected road between two nodes, with its length.
 type Edge = (u32, u32, u32);
 
-/// The edges (u < v) of a sparse grid with about `arcs / 2` edges, and the number of nodes.
+/// Returns the edges (u < v) of a sparse grid with about `arcs / 2` edges, and the number of nodes.
 fn road_edges(arcs: u64, random: &mut Random) -> (i64, Vec<Edge>) {
-    // The largest road files have some 2.44 arcs per node: each of the two grid edges of a node
-    // is kept with chance 0.61. A few far edges stand for bridges and motorways.
+    // The largest road files have about 2.44 arcs per node, so each of the two grid edges of a node
+    // is kept with probability 0.61. A few long edges represent bridges and motorways.
     let n = ((arcs as f64 / 2.44) as u64).max(2);
     let width = ((n as f64).sqrt() as u64).max(1);
     let mut edges = Vec::with_capacity(arcs as usize / 2 + 16);
@@ -182,7 +182,7 @@ fn road_length(random: &mut Random) -> u32 {
     }
 }
 
-/// Each edge and its reverse, edge by edge.
+/// Returns each edge and its reverse, edge by edge.
 fn both_ways(edges: &[Edge]) -> Vec<Edge> {
     let both = |&(u, v, w): &Edge| [(u, v, w), (v, u, w)];
     edges.iter().flat_map(both).collect()
@@ -243,7 +243,7 @@ fn multi(text: &mut Text, random: &mut Random, n: u64) {
 }
 
 fn max(text: &mut Text, random: &mut Random, n: u64) {
-    // b frames of a*a nodes; about 4 arcs in the frame and 1 between frames per node
+    // b frames of a*a nodes; per node about 4 arcs within the frame and 1 between frames
     let (least, most) = (1, 1000);
     let per = (n as f64 / 5.0).max(8.0);
     let a = (per.cbrt() as u64).max(2);
@@ -288,7 +288,7 @@ fn max(text: &mut Text, random: &mut Random, n: u64) {
     }
 }
 
-/// Paths from sources to sinks carry a flow that LOW and CAP admit; supplies follow from it, so the
+/// Paths from sources to sinks carry a flow within LOW and CAP. The supplies follow from it, so the
 /// text is feasible. The other arcs are random, 1 in 3 parallel to an earlier one.
 fn min(text: &mut Text, random: &mut Random, n: u64) {
     let nodes = (n / 8).max(4) as i64;
@@ -340,8 +340,8 @@ fn min(text: &mut Text, random: &mut Random, n: u64) {
     min_text(text, nodes, &supply, &arcs);
 }
 
-/// A chain of arcs carries the flow of each source to a sink, and random arcs leave each node of it. As
-/// netgen writes them, tails rise within a chain, and heads come in random order.
+/// A chain of arcs carries the flow of each source to a sink, and random arcs leave each node of
+/// the chain. As in netgen's output, tails rise within a chain, and heads come in random order.
 fn netgen(text: &mut Text, random: &mut Random, n: u64) {
     let nodes = (n / 8).max(4) as i64;
     let ends = (nodes / 1000).max(1);
@@ -425,7 +425,7 @@ fn queries(text: &mut Text, random: &mut Random, n: u64, kind: &str) {
 
 type Pair = (i64, i64);
 
-/// Random pairs of the nodes that `node` makes of the numbers 1 to `count`.
+/// Returns random pairs of the nodes that `node` makes of the numbers 1 to `count`.
 fn random_pairs(random: &mut Random, n: u64, count: i64, node: impl Fn(i64) -> i64) -> Vec<Pair> {
     let mut one = || node(random.range(1, count));
     (0..n).map(|_| (one(), one())).collect()
@@ -436,20 +436,20 @@ fn alternating(n: i64) -> impl Iterator<Item = Pair> {
     (0..n).map(move |i| (tail(i), tail(n - 1 - i)))
 }
 
-/// Pairs with one sum of head and four times the tail, in random order.
+/// Returns pairs with the same head + 4 * tail, in random order.
 fn one_sum(random: &mut Random, n: i64) -> Vec<Pair> {
     let mut pairs: Vec<Pair> = (1..=n).map(|tail| (tail, 4 * (n - tail) + 1)).collect();
     random.shuffle(&mut pairs);
     pairs
 }
 
-// The numbers by which the index (crates/pair_index/src/bucket.rt) mixes a tail and a head, and both:
+// The factors by which the index (crates/pair_index/src/bucket.rt) mixes a tail, a head, and both:
 //   both = tail * TAIL ^ (head * HEAD).rotate_left(32),  mixed = (both ^ both >> 32) * BOTH
 const TAIL: u64 = 0x9E37_79B9_7F4A_7C15;
 const HEAD: u64 = 0xC2B2_AE3D_27D4_EB4F;
 const BOTH: u64 = 0xD6E8_FEB8_6659_FD93;
 
-/// What an odd number is multiplied by to make 1.
+/// Returns the inverse of an odd number modulo 2^64.
 fn inverse(odd: u64) -> u64 {
     let mut x = odd; // right in three bits, and each round doubles them
     for _ in 0..5 {
@@ -458,8 +458,8 @@ fn inverse(odd: u64) -> u64 {
     x
 }
 
-/// Different pairs that agree in 4 * tail + head modulo 2^40 and in the upper 32 bits of `mixed`, so
-/// that neither spread tells them apart at any number of buckets up to 2^32.
+/// Returns different pairs that agree in 4 * tail + head modulo 2^40 and in the upper 32 bits of
+/// `mixed`, so that both spreads put them into one bucket, for any number of buckets up to 2^32.
 fn colliding(random: &mut Random, n: u64) -> Vec<Pair> {
     const HALF: u64 = (1 << 32) - 1;
     const SUM: u64 = 12_345;
@@ -470,11 +470,11 @@ fn colliding(random: &mut Random, n: u64) -> Vec<Pair> {
     let (sum, ratio) = (SUM.wrapping_mul(TAIL), TAIL.wrapping_mul(head_back));
     let mut pairs = Vec::with_capacity(n as usize);
     for lower in 0..n {
-        // The lower half of `mixed` numbers the pairs.
+        // The lower half of `mixed` is the number of the pair.
         let folded = (UPPER << 32 | lower).wrapping_mul(both_back);
         let both = folded ^ folded >> 32;
         // For a lower half of dst, the sum modulo 2^32 gives 30 bits of the lower half of src, and
-        // that gives the upper half of dst. The four ways to go on are tried.
+        // these give the upper half of dst. The four possible values of the other bits are tried.
         let found = 'search: loop {
             let dst_low = random.next() & HALF;
             let src_four = sum.wrapping_sub(ratio.wrapping_mul(dst_low)) & HALF;
@@ -499,13 +499,13 @@ fn colliding(random: &mut Random, n: u64) -> Vec<Pair> {
     pairs
 }
 
-/// Each pair followed by its reverse.
+/// Returns each pair followed by its reverse.
 fn reversed_too(pairs: &[Pair]) -> Vec<Pair> {
     pairs.iter().flat_map(|&(u, v)| [(u, v), (v, u)]).collect()
 }
 
-/// The pairs of a graph that grows: each new node is joined to three older ones, most often to those
-/// that many are joined to already.
+/// Returns the pairs of a graph that grows: each new node is joined to three older ones, most often
+/// to nodes that many others are joined to already.
 fn hubs(random: &mut Random, n: u64, kind: &str) -> Vec<Pair> {
     let nodes = (n / 6).max(2) as i64;
     let mut ends = vec![1];
@@ -535,7 +535,8 @@ fn hubs(random: &mut Random, n: u64, kind: &str) -> Vec<Pair> {
     pairs
 }
 
-/// The pairs of a ring in which each node is joined to the nearest `degree`, in blocks of 64.
+/// Returns the pairs of a ring in which each node is joined to the nearest `degree` nodes, in
+/// blocks of 64.
 fn ring(random: &mut Random, n: u64, degree: i64) -> Vec<Pair> {
     let nodes = (n as i64 / degree).max(degree + 1);
     let edges: Vec<Pair> = (1..=nodes)
@@ -546,7 +547,7 @@ fn ring(random: &mut Random, n: u64, degree: i64) -> Vec<Pair> {
     reversed_too(&blocks.concat())
 }
 
-/// The pairs of a ring of degree 10, and then the same once more in random order.
+/// Returns the pairs of a ring of degree 10, and then the same pairs again in random order.
 fn again(random: &mut Random, n: u64) -> Vec<Pair> {
     let first = ring(random, n / 2, 10);
     let mut second = first.clone();
@@ -554,7 +555,7 @@ fn again(random: &mut Random, n: u64) -> Vec<Pair> {
     [first, second].concat()
 }
 
-/// Arcs of pairs that hurt, with random lengths.
+/// Writes arcs of adversarial pairs, with random lengths.
 fn hostile_sp(text: &mut Text, random: &mut Random, kind: &str, n: u64) {
     let count = n.max(1) as i64;
     let pairs = match kind {
@@ -637,7 +638,7 @@ fn nodes_falling(text: &mut Text, n: i64) {
     text.row("a", &[1, 2, 0, 1, 1], "");
 }
 
-/// A text of ten arcs in which something else is long.
+/// Writes a text of ten arcs in which something else is long.
 fn few_arcs(text: &mut Text, kind: &str, n: usize) {
     text.row("p sp", &[10, 10], "");
     let (before, after) = match kind {

@@ -1,18 +1,18 @@
 #!/usr/bin/env python3
-"""Prints the row of a hostile text, or without words the heads of the columns.
+"""Prints the row of an adversarial text, or, without arguments, the heads of the columns.
 
     hostile_table.py [KIND UNIT COUNT BYTES ROAD_ARCS ROAD_BYTES MOST] < lines of measure
 
-The lines are those of `text`, of `road` (the same program on a road text) and of `plain` (the plain Rust on the hostile
-text). Times are processor time, user and system. Each figure is the median of its rounds, and the ratio is that of the
-two times of one round. The status is 1 where a program failed."""
+The lines are those of `text`, of `road` (the same program on a road text) and of `plain` (plain Rust on the adversarial
+text). Times are processor time, user and system. Each figure is the median of its rounds. A ratio is that of the two
+times of one round. The status is 1 if a program failed."""
 
 import statistics
 import sys
 
 
 def rounds() -> tuple[dict[str, list[float]], list[float], list[str]]:
-    """The times of each program in ms, the memory of `text` in KiB, and what failed."""
+    """Returns the times of each program in ms, the memory of `text` in KiB, and what failed."""
     times: dict[str, list[float]] = {"text": [], "road": [], "plain": []}
     peaks, failed = [], []
     for line in sys.stdin:

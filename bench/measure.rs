@@ -1,8 +1,8 @@
 // measure REPS INPUT OUTPUT NAME=COMMAND..   runs each command REPS times, in turn, with its
 // standard input from INPUT and its standard output to OUTPUT. Prints one line a run:
 //   NAME TAB wall-ms TAB user-ms TAB sys-ms TAB peak-KiB TAB status
-// Commands go through `sh -c`. Peak is that of the largest single process (so not the sum over a
-// pipeline). Rounds are interleaved, so that a busy spell of the machine meets all commands.
+// Commands run through `sh -c`. Peak is that of the largest single process, not the sum over a
+// pipeline. Rounds are interleaved, so that a busy time of the machine affects all commands.
 
 use std::fs::File;
 use std::process::{Command, Stdio};

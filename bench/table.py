@@ -1,11 +1,11 @@
 #!/usr/bin/env python3
-"""Prints a row for each program, over a text of so many UNITs (arc or line) and bytes.
+"""Prints a row for each program, for a text with this number of UNITs (arc or line) and of bytes.
 
     table.py TITLE UNIT COUNT BYTES SUBJECT < lines of measure
 
-Each figure is the median of its rounds. The ratios are SUBJECT's time over the row's, each from one round: wall time,
-with the least and the greatest beside it, then processor time (user and system), which a busy machine disturbs less.
-The status is 1 where a program failed."""
+Each figure is the median of its rounds. A ratio is SUBJECT's time divided by the row's, in one round. There is one for
+wall time, with the least and the greatest beside it, and one for processor time (user and system), which a busy machine
+disturbs less. The status is 1 if a program failed."""
 
 import statistics
 import sys
@@ -13,7 +13,7 @@ from typing import NamedTuple
 
 
 class Round(NamedTuple):
-    """What one run of a program took: times in ms, and memory in KiB."""
+    """The costs of one run of a program: times in ms, and memory in KiB."""
 
     wall: float
     user: float
@@ -21,12 +21,12 @@ class Round(NamedTuple):
     peak: float
 
     def work(self) -> float:
-        """The processor time."""
+        """Returns the processor time."""
         return self.user + self.system
 
 
 def rounds() -> tuple[dict[str, list[Round]], bool]:
-    """The rounds of each program, and whether one of them failed."""
+    """Returns the rounds of each program, and whether one of them failed."""
     found: dict[str, list[Round]] = {}
     failed = False
     for line in sys.stdin:
@@ -39,7 +39,7 @@ def rounds() -> tuple[dict[str, list[Round]], bool]:
 
 
 def ratios(base: list[Round], rows: list[Round]) -> str:
-    """The times of the subject over those of a program."""
+    """Returns the ratios of the subject's times to those of a program."""
     walls = [it.wall / row.wall for it, row in zip(base, rows)]
     works = [it.work() / max(row.work(), 0.1) for it, row in zip(base, rows)]
     wall = f"{statistics.median(walls):7.2f} ({min(walls):.2f}..{max(walls):.2f})"

@@ -1,11 +1,11 @@
-"""Small texts whose answers are known from outside: what each command puts of them, and the statuses."""
+"""Small texts with known answers: what each command prints for them, and the statuses."""
 
 from collections.abc import Iterator
 
-# Parallel arcs, both directions, a self-loop, a negative length; and the canonical text.
+# Parallel arcs, both directions, a self-loop and a negative length; and the canonical text.
 ROADS = b"p sp 3 7\na 1 2 7\na 1 2 3\na 2 1 4\na 1 2 3\na 2 2 0\na 3 1 -5\na 2 3 9\n"
 ROADS_CANON = b"p sp 3 5\na 1 2 3\na 2 1 4\na 2 2 0\na 2 3 9\na 3 1 -5\n"
-# A capacity of 0, a sum, and the sink before the source.
+# An arc of capacity 0, two parallel arcs, and the sink before the source.
 CAPACITIES = b"p max 3 4\nn 3 t\nn 1 s\na 2 3 0\na 1 2 4\na 1 3 2\na 1 2 5\n"
 # Forced units and free capacity; and the canonical texts in form 1 and in form 2.
 COSTS = b"p min 2 3\na 1 2 1 3 0\na 1 2 1 2 3\na 1 2 0 4 1\n"
@@ -17,8 +17,8 @@ FLOWS_CANON = b"p min 4 5\nn 1 4\nn 4 -4\na 1 2 0 4 2\na 1 3 0 2 2\na 2 3 0 2 1\
 # Capacities of one pair that sum past the limit.
 FULL = b"p max 2 2\nn 1 s\nn 2 t\na 1 2 9223372036854775807\na 1 2 1\n"
 
-# Words, texts by their names (`-` is standard input), what is put on standard output and on standard error, and the
-# status. What is shown.
+# Runs of `show`. A row has the arguments, the texts by their names (`-` is standard input), the expected standard
+# output and standard error, and the status.
 SHOWN = [
     (
         "show g.gr",
@@ -105,7 +105,7 @@ SHOWN = [
     ("show n.max", {"n.max": FULL}, b"", b"n.max:5: 17 SumTooLarge\n", 2),
 ]
 
-# What is checked.
+# Runs of `check`.
 CHECKED = [
     ("check m.min", {"m.min": FLOWS}, b"accepted min\nforms none\n", b"", 0),
     ("check m.min", {"m.min": FLOWS_CANON}, b"accepted min\nforms 1 2\n", b"", 0),
@@ -122,7 +122,7 @@ CHECKED = [
     ("check n.max", {"n.max": FULL}, b"", b"n.max:5: 17 SumTooLarge\n", 2),
 ]
 
-# Texts and companions.
+# Runs of `check` with a companion.
 FITTED = [
     (
         "check g.gr --with s.ss",
@@ -204,7 +204,7 @@ FITTED = [
     ("check - --with -", {"-": ROADS}, b"", b"dnorm: standard input named twice\n", 3),
 ]
 
-# Texts that are compared; those that differ stand below.
+# Runs of `compare` on texts that do not differ, and on texts that cannot be compared. `COMPARED` has texts that differ.
 PAIRS = [
     ("compare - g.gr", {"-": ROADS_CANON, "g.gr": ROADS}, b"same\n", b"", 0),
     ("compare g.gr g.gr", {"g.gr": ROADS}, b"same\n", b"", 0),
@@ -223,7 +223,7 @@ PAIRS = [
     ("compare l r", {"l": b"p aux sp co 1\nv 2 0 0\n", "r": b"p aux sp co 1\nv 2 0 0\n"}, b"same\n", b"", 0),
 ]
 
-# Canonical texts, and words that are no command.
+# Runs of `canon`, and wrong command lines.
 OTHERS = [
     ("canon -", {"-": ROADS}, ROADS_CANON, b"", 0),
     ("canon g.gr", {"g.gr": ROADS}, ROADS_CANON, b"", 0),
@@ -340,7 +340,7 @@ CANONICAL = [
     (b"p sp 9223372036854775807 0\n", b"p sp 9223372036854775807 0\n", b"p sp 9223372036854775807 0\n"),
 ]
 
-# A left text and a right one, the line on them, and the line on them in the other order.
+# A left text, a right text, the line that `compare` prints, and the line for the other order.
 COMPARED = [
     (ROADS, CAPACITIES, b"differ kind sp max\n", b"differ kind max sp\n"),
     (b"p sp 3 0\n", b"p sp 4 0\n", b"differ nodes 3 4\n", b"differ nodes 4 3\n"),
@@ -437,7 +437,7 @@ COMPARED = [
     ),
 ]
 
-# Texts, and the line that tells why `t`, which is such a text, is refused.
+# Texts, and the line of the refusal of a text that is named `t`.
 REFUSED = [
     (b"", b"t:end: 18 NoProblem\n"),
     (b"x 1\n", b"t:1: 1 BadLine\n"),
@@ -499,7 +499,7 @@ REFUSED = [
 
 
 def rows() -> Iterator[tuple[str, dict[str, bytes], bytes, bytes, int]]:
-    """All runs that the tables tell: words, texts by their names, both streams and the status."""
+    """Yields all runs of the tables: arguments, texts by their names, both streams and the status."""
     yield "", {"-": ROADS}, ROADS_CANON, b"", 0
     yield from [*SHOWN, *CHECKED, *FITTED, *PAIRS, *OTHERS]
     for text, err in REFUSED:

@@ -1,6 +1,6 @@
-"""A second reading of docs/FORMAT.md, plain and slow: what a text reads as or its first fault, what it means, its
-canonical texts, what `show` tells of it, the first difference of two texts, and whether a companion fits. What the arcs
-of a `min` pair cost is found by trying all splits."""
+"""A second implementation of docs/FORMAT.md, simple and slow. It computes what a text reads as or its first fault, what
+the text means, its canonical texts, what `show` prints for it, the first difference of two texts, and whether a
+companion fits. It finds the costs of the arcs of a `min` pair by trying all splits."""
 
 import re
 from collections.abc import Iterable, Sequence
@@ -9,7 +9,7 @@ from dataclasses import dataclass, field
 MOST = 2**63 - 1
 LETTERS = {"p", "n", "a", "s", "q", "v"}
 NUMBER = re.compile(r"[+-]?[0-9]+")
-# The lines of each kind: the fields of its problem line, then those of the others, by their letters.
+# The lines of each kind: the fields of its problem line, then the fields of its other lines, by their letters.
 LINES = {
     "min": {"p": "NODES ARCS", "n": "ID FLOW", "a": "SRC DST LOW CAP COST"},
     "max": {"p": "NODES ARCS", "n": "ID TERMINAL", "a": "SRC DST CAP"},
@@ -28,19 +28,19 @@ CODES = (
     "TooFewLines TooLong"
 ).split()
 
-# The numbers of a counted line, and those of an arc behind its pair.
+# The numbers of a counted line; and those of an arc after its pair.
 Item = tuple[int, ...]
 Numbers = Sequence[int]
 Pair = tuple[int, int]
-# What the arcs of a pair mean: a length or a total, or of `min` the forced units, their cost, and the free units at
-# each cost.
+# What the arcs of a pair mean: a length or a total capacity; for `min` the forced units, their cost, and the free units
+# at each cost.
 Meaning = int | tuple[int, int, dict[int, int]]
 
 
 @dataclass
 class Text:
-    """What was read of a text so far. The items are those of its counted lines, in file order; `flows` has each node
-    line, and `terminals` the source and the sink by their letters."""
+    """A text as far as it was read. `items` has its counted lines in file order, `flows` each node line of a `min`
+    text, and `terminals` the source and the sink by their letters."""
 
     kind: str = ""
     nodes: int = 0
@@ -50,7 +50,7 @@ class Text:
     items: list[Item] = field(default_factory=list)
 
     def arcs(self) -> dict[Pair, list[Numbers]]:
-        """The numbers of the arcs of each ordered pair."""
+        """Returns the numbers of the arcs of each ordered pair."""
         found: dict[Pair, list[Numbers]] = {}
         for src, dst, *numbers in self.items:
             found.setdefault((src, dst), []).append(numbers)
@@ -69,7 +69,7 @@ class Fault(Exception):
 
 
 def read(text: bytes) -> Text:
-    """What a text, in bytes, reads as; raises its first fault."""
+    """Returns what a text, in bytes, reads as, or raises its first fault."""
     so_far = Text()
     pieces = text.decode("latin-1").split("\n")
     for at, piece in enumerate(pieces[:-1] if pieces[-1] == "" else pieces, 1):
@@ -86,19 +86,19 @@ def read(text: bytes) -> Text:
 
 
 def kind_named(words: list[str]) -> str:
-    """The kind that the words after `p` begin with."""
+    """Returns the kind that the words after `p` begin with."""
     return next((kind for kind, names in NAMES.items() if words[: len(names)] == names), "")
 
 
 def fields_of(so_far: Text, words: list[str]) -> tuple[list[str], list[str]]:
-    """The names of a line's fields, and their words."""
+    """Returns the names of a line's fields, and their words."""
     letter, *rest = words
     kind = so_far.kind or kind_named(rest)
     return LINES[kind][letter].split(), rest if so_far.kind else rest[len(NAMES[kind]) :]
 
 
 def fault_of_line(so_far: Text, words: list[str]) -> int:
-    """The number of the first fault of a line, or 0."""
+    """Returns the number of the first fault of a line, or 0."""
     letter, kind = words[0], so_far.kind
     if letter not in LETTERS:
         return 1
@@ -121,7 +121,7 @@ def fault_of_line(so_far: Text, words: list[str]) -> int:
 
 
 def fault_of_fields(so_far: Text, fields: dict[str, str]) -> int:
-    """The number of the first fault of a line's fields, from 9 on, or 0."""
+    """Returns the number of the first fault of a line's fields, from 9 on, or 0."""
     texts = [value for name, value in fields.items() if name != "TERMINAL"]
     if not all(NUMBER.fullmatch(it) for it in texts):
         return 9
@@ -139,7 +139,7 @@ def fault_of_fields(so_far: Text, fields: dict[str, str]) -> int:
 
 
 def fault_of_item(so_far: Text, numbers: dict[str, int], terminal: str | None) -> int:
-    """The number of the first fault that a line has beside the lines before it, from 14 on, or 0."""
+    """Returns the number of the first fault of a line that depends on earlier lines, from 14 on, or 0."""
     node = numbers.get("ID")
     if terminal in so_far.terminals or "FLOW" in numbers and node in so_far.flows:
         return 14
@@ -158,7 +158,7 @@ def fault_of_item(so_far: Text, numbers: dict[str, int], terminal: str | None) -
 
 
 def take(so_far: Text, words: list[str]) -> None:
-    """Adds a line without fault."""
+    """Adds a line without a fault."""
     if words[0] == "p":
         _, values = fields_of(so_far, words)
         so_far.kind = kind_named(words[1:])
@@ -173,7 +173,7 @@ def take(so_far: Text, words: list[str]) -> None:
 
 
 def fault_of_end(so_far: Text) -> int:
-    """The number of the first fault at the end, or 0."""
+    """Returns the number of the first fault at the end of the text, or 0."""
     if not so_far.kind:
         return 18
     if so_far.kind == "max" and len(so_far.terminals) < 2:
@@ -182,12 +182,12 @@ def fault_of_end(so_far: Text) -> int:
 
 
 def forced(arcs: Iterable[Numbers]) -> tuple[int, int]:
-    """The forced units of `min` arcs, and their cost."""
+    """Returns the forced units of `min` arcs, and their cost."""
     return sum(low for low, _, _ in arcs), sum(low * cost for low, _, cost in arcs)
 
 
 def free(arcs: Iterable[Numbers]) -> dict[int, int]:
-    """The free units of `min` arcs at each cost where there are some."""
+    """Returns the free units of `min` arcs at each cost that has any."""
     units: dict[int, int] = {}
     for low, cap, cost in arcs:
         units[cost] = units.get(cost, 0) + cap - low
@@ -195,7 +195,7 @@ def free(arcs: Iterable[Numbers]) -> dict[int, int]:
 
 
 def curve(arcs: Iterable[Numbers]) -> dict[int, int]:
-    """The least cost of each amount, by trying all splits. For small capacities alone."""
+    """Returns the least cost of each amount, by trying all splits. Only for small capacities."""
     costs = {0: 0}
     for low, cap, cost in arcs:
         found: dict[int, int] = {}
@@ -208,7 +208,7 @@ def curve(arcs: Iterable[Numbers]) -> dict[int, int]:
 
 
 def meaning(kind: str, arcs: Sequence[Numbers]) -> Meaning | None:
-    """What the arcs of one pair mean, or None where they mean what no arcs mean."""
+    """Returns what the arcs of one pair mean, or None if they mean nothing."""
     if kind == "sp":
         return min(it[0] for it in arcs) if arcs else None
     if kind == "max":
@@ -218,13 +218,13 @@ def meaning(kind: str, arcs: Sequence[Numbers]) -> Meaning | None:
 
 
 def meanings(text: Text) -> dict[Pair, Meaning]:
-    """What each ordered pair means whose arcs mean anything, by rising pair."""
+    """Returns what each ordered pair means whose arcs mean something, by rising pair."""
     found = {pair: meaning(text.kind, arcs) for pair, arcs in sorted(text.arcs().items())}
     return {pair: it for pair, it in found.items() if it is not None}
 
 
 def canonical_arcs(units: int, cost: int, free_units: dict[int, int], form: int) -> list[Item]:
-    """The canonical arcs of a `min` pair: LOW, CAP and COST of each."""
+    """Returns the canonical arcs of a `min` pair: LOW, CAP and COST of each."""
     fixed = []
     if units:
         each, rest = cost // units, cost % units
@@ -236,7 +236,7 @@ def canonical_arcs(units: int, cost: int, free_units: dict[int, int], form: int)
 
 
 def canonical(text: Text, form: int) -> bytes:
-    """The canonical text."""
+    """Returns the canonical text."""
     heads: list[str] = []
     if text.kind not in GRAPHS:
         items = sorted(text.items) if text.kind == "co" else text.items
@@ -254,7 +254,7 @@ def canonical(text: Text, form: int) -> bytes:
 
 
 def shown(text: Text) -> bytes:
-    """What `show` tells."""
+    """Returns what `show` prints."""
     rows = [f"kind {text.kind}", f"lines {len(text.items)}"]
     if text.kind in GRAPHS:
         rows.insert(1, f"nodes {text.nodes}")
@@ -269,14 +269,14 @@ def shown(text: Text) -> bytes:
 
 
 def words_on(kind: str, it: Meaning) -> str:
-    """What `show` tells of what a pair means."""
+    """Returns the words that `show` prints for what a pair means."""
     if isinstance(it, int):
         return f"{'length' if kind == 'sp' else 'total'} {it}"
     return f"forced {it[0]} cost {it[1]} steps {len(it[2])}"
 
 
 def difference(left: Text, right: Text) -> str:
-    """What `compare` tells of two texts."""
+    """Returns what `compare` prints for two texts."""
     if left.kind != right.kind:
         return f"differ kind {left.kind} {right.kind}"
     if left.nodes != right.nodes:
@@ -293,7 +293,8 @@ def difference(left: Text, right: Text) -> str:
 
 
 def difference_of_pairs(left: Text, right: Text) -> str:
-    """The first ordered pair whose arcs differ in meaning, by the costs of all amounts for `min`."""
+    """Returns the line of the first ordered pair whose arcs differ in meaning. For `min` this compares the costs of all
+    amounts."""
     for pair in sorted({*left.arcs(), *right.arcs()}):
         arcs = [it.arcs().get(pair, []) for it in (left, right)]
         how = how_of_costs(*map(curve, arcs)) if left.kind == "min" else how_of_numbers(left.kind, *arcs)
@@ -303,7 +304,7 @@ def difference_of_pairs(left: Text, right: Text) -> str:
 
 
 def how_of_numbers(kind: str, left: Sequence[Numbers], right: Sequence[Numbers]) -> str:
-    """How the lengths or the capacities differ."""
+    """Returns how the lengths or the capacities differ."""
     values = [meaning(kind, it) for it in (left, right)]
     if values[0] == values[1]:
         return ""
@@ -312,7 +313,7 @@ def how_of_numbers(kind: str, left: Sequence[Numbers], right: Sequence[Numbers])
 
 
 def how_of_costs(left: dict[int, int], right: dict[int, int]) -> str:
-    """The least amount at which two curves differ, and both costs there."""
+    """Returns the least amount at which two curves differ, and both costs there."""
     for amount in sorted({*left, *right}):
         if left.get(amount) != right.get(amount):
             return f"amount {amount} cost {left.get(amount, 'none')} {right.get(amount, 'none')}"
@@ -320,7 +321,7 @@ def how_of_costs(left: dict[int, int], right: dict[int, int]) -> str:
 
 
 def difference_of_items(left: Text, right: Text) -> str:
-    """The first difference of two lists, or of two maps of points."""
+    """Returns the first difference of two lists, or of two maps of points."""
     if left.kind == "co":
         points = [{it[0]: it[1:] for it in text.items} for text in (left, right)]
         apart = [it for it in sorted({*points[0], *points[1]}) if points[0].get(it) != points[1].get(it)]
@@ -332,12 +333,12 @@ def difference_of_items(left: Text, right: Text) -> str:
 
 
 def forms(text: Text, given: bytes) -> str:
-    """The forms in which a text, of these bytes, is canonical."""
+    """Returns the forms in which a text, given with its bytes, is canonical."""
     return " ".join(str(it) for it in (1, 2) if canonical(text, it) == given) or "none"
 
 
 def unfit(graph: Text, companion: Text) -> str:
-    """Why a companion does not fit a graph, or nothing."""
+    """Returns why a companion does not fit a graph, or nothing."""
     if graph.kind != "sp" or companion.kind in GRAPHS:
         return "36 NotKinds"
     items = sorted(it[:1] for it in companion.items) if companion.kind == "co" else companion.items

@@ -1,5 +1,5 @@
-"""What the tests of the built program share: which program is tested, how it is run, and how what is found is compared
-and counted. A test prints a line for each failure, and last how many checks passed and failed."""
+"""What the tests of the built program share: which program is tested, how it is run, and how results are compared and
+counted. A test prints a line for each failure, and at the end how many checks passed and failed."""
 
 import os
 import resource
@@ -10,14 +10,14 @@ from collections.abc import Callable, Sequence
 from typing import IO, Any, NamedTuple
 
 ROOT = os.path.dirname(os.path.dirname(os.path.realpath(__file__)))
-# A run that takes longer is ended, and fails the test.
+# A run that takes longer, in seconds, is ended and fails the test.
 LIMIT = 60
-# The words of a command.
+# The arguments of a command, after its name.
 Words = Sequence[str | bytes]
 
 
 class Answer(NamedTuple):
-    """What a run put on standard output and on standard error, and its status: below 0 the signal that ended it."""
+    """The standard output and the standard error of a run, and its status: below 0 for the signal that ended it."""
 
     out: bytes
     err: bytes
@@ -25,20 +25,20 @@ class Answer(NamedTuple):
 
 
 class Tally:
-    """How many checks passed and failed."""
+    """The number of checks that passed and failed."""
 
     def __init__(self) -> None:
         self.passed = self.failed = 0
 
     def same(self, name: str, found: object, wanted: object) -> None:
-        """Checks that both are the same, else says so."""
+        """Checks that both are the same, and otherwise prints what differs."""
         if found == wanted:
             self.passed += 1
         else:
             self.fail(f"{name}: wanted {wanted!r:.300}, found {found!r:.300}")
 
     def holds(self, name: str, is_so: object) -> None:
-        """Checks that this is so, else says so."""
+        """Checks that this holds, and otherwise prints that it does not."""
         self.same(name, bool(is_so), True)
 
     def fail(self, line: str) -> None:
@@ -46,24 +46,24 @@ class Tally:
         print(line, flush=True)
 
     def leave_out(self, what: str, tool: str) -> None:
-        """Says that a part is left out, and which tool it needs. With CI=true in the environment that is a failure."""
+        """Prints that a part is left out, and which tool it needs. If CI=true is set, that is a failure."""
         if os.environ.get("CI") == "true":
             self.fail(f"left out for want of {tool}: {what}")
         else:
             self.pass_over(what, tool)
 
     def pass_over(self, what: str, needs: str) -> None:
-        """Says that a part is left out that this machine does not let run, and what it needs."""
+        """Prints that a part is left out because this machine does not allow it, and what it needs."""
         print(f"left out for want of {needs}: {what}", flush=True)
 
     def end(self) -> int:
-        """Says how many checks passed and failed, and answers the status."""
+        """Prints how many checks passed and failed, and returns the status."""
         print(f"{self.passed} passed, {self.failed} failed")
         return 0 if self.failed == 0 else 1
 
 
 def program() -> str:
-    """The program that is tested: the first argument, else the one that stands built in the repository."""
+    """Returns the program that is tested: the first argument, or else the built program of the repository."""
     path = os.path.abspath(sys.argv[1]) if sys.argv[1:] else f"{ROOT}/crates/dnorm/out/dnorm"
     if not os.access(path, os.X_OK):
         sys.exit(f"{path} is no program: tools/build builds it")
@@ -71,7 +71,7 @@ def program() -> str:
 
 
 def listed() -> list[tuple[int, str, str]]:
-    """What share/installed.txt lists: modes, places in the repository and places below a prefix."""
+    """Returns what share/installed.txt lists: modes, paths in the repository and paths below a prefix."""
     with open(f"{ROOT}/share/installed.txt", encoding="utf-8") as lines:
         found = [line.split() for line in lines if not line.startswith("#")]
     return [(int(mode, 8), place, to) for mode, place, to in found]
@@ -84,7 +84,7 @@ def run(words: Words, given: bytes = b"", **more: Any) -> Answer:
 
 
 def within(level: int, words: Words, given: bytes = b"", **more: Any) -> Answer | None:
-    """Runs a program in so much memory, in kB. None where it does not start."""
+    """Runs a program with this memory, in kB. Returns None if the program does not start."""
     limit = (level * 1024, level * 1024)
     try:
         return run(words, given, preexec_fn=lambda: resource.setrlimit(resource.RLIMIT_AS, limit), **more)
@@ -93,7 +93,7 @@ def within(level: int, words: Words, given: bytes = b"", **more: Any) -> Answer 
 
 
 def least_level(is_enough: Callable[[int], bool]) -> int:
-    """The least memory, in kB, that is enough."""
+    """Returns the least memory, in kB, that is enough."""
     low, high = 0, 1 << 20
     while high - low > 16:
         level = (low + high) // 2
@@ -121,7 +121,7 @@ class Quick:
 
 
 def pipe(stream: IO[bytes] | None) -> IO[bytes]:
-    """A stream of a process that was started with a pipe for it."""
+    """Returns a stream of a process that was started with a pipe for it."""
     assert stream is not None
     return stream
 
@@ -133,8 +133,8 @@ def write(path: str, text: str | bytes) -> None:
 
 
 def loaded_first(tally: Tally, folder: str, what: str, source: str) -> str | None:
-    """A library made of a C source, which is to be loaded before all others, for what a test does with it. None where
-    it cannot be made: without a C compiler this is left out."""
+    """Makes a library from a C source, which is to be loaded before all others. Returns None if it cannot be made:
+    without a C compiler, what needs it is left out."""
     compiler, library = shutil.which("cc"), f"{folder}/first.so"
     if not compiler:
         tally.leave_out(what, "cc")

@@ -1,24 +1,24 @@
-"""Random small texts of all six kinds, correct and faulty, in many spellings; the same chance makes the same texts."""
+"""Random small texts of all six kinds, correct and faulty, in many spellings. The same seed makes the same texts."""
 
 from random import Random
 
 from reading import COUNTED, GRAPHS, MOST, NAMES, Item, Text
 
-# Numbers at the edges, as words.
+# Numbers at the limits, and words for faulty lines.
 EDGES = [MOST, -MOST, -MOST - 1, MOST - 1]
 WORDS = "0 1 -1 + - -0 007 +2 1.5 x s t a n q v p c P sp".split() + [str(it) for it in (MOST, MOST + 1, -MOST - 2)]
 LETTERS = ["a", "n", "p", "s", "q", "v", "aa", "A", "z", "-", "1"]
 
 
 def number(chance: Random, low: int, high: int) -> int:
-    """A small number, now and then one at the edge of what a number can be."""
+    """Returns a small number, sometimes one at the limits of a number."""
     if chance.random() < 0.02:
         return chance.choice(EDGES)
     return chance.randint(low, high)
 
 
 def made(chance: Random, kind: str, is_wide: bool = False) -> Text:
-    """A random text that is most often accepted; wide ones have greater capacities."""
+    """Returns a random text that is usually accepted. Wide texts have greater capacities."""
     text = Text(kind, chance.randint(2, 4))
     if chance.random() < 0.02:
         text.nodes = MOST
@@ -43,16 +43,16 @@ def made(chance: Random, kind: str, is_wide: bool = False) -> Text:
 
 
 def made_item(chance: Random, kind: str, before: int) -> Item:
-    """An item of a companion that has so many before."""
+    """Returns an item of a companion after this many other items."""
     node = number(chance, 1, 5)
     if kind == "co":
-        # 5 is prime, so that no ID comes again within five.
+        # 5 is prime, so no ID is repeated within five items.
         return before * 2 % 5 + 5 * (before // 5) + 1, number(chance, -9, 9), number(chance, -9, 9)
     return (node,) if kind == "ss" else (node, chance.randint(1, 5))
 
 
 def lines_of(chance: Random, text: Text) -> list[list[str]]:
-    """The lines of a text, node lines and points in any order."""
+    """Returns the lines of a text, with node lines and points in any order."""
     counts = [text.nodes, len(text.items)] if text.kind in GRAPHS else [len(text.items)]
     heads: list[list[object]] = [["n", node, flow] for node, flow in text.flows.items()]
     heads += [["n", node, letter] for letter, node in text.terminals.items()]
@@ -66,7 +66,7 @@ def lines_of(chance: Random, text: Text) -> list[list[str]]:
 
 
 def spelled(chance: Random, lines: list[list[str]]) -> bytes:
-    """The bytes of lines, half of the time with comments, blanks and numbers that are not the shortest."""
+    """Returns the bytes of lines, half of the time with comments, blanks and numbers that are not the shortest."""
     if chance.random() < 0.5:
         return "".join(" ".join(line) + "\n" for line in lines).encode()
     text = ""
@@ -78,14 +78,14 @@ def spelled(chance: Random, lines: list[list[str]]) -> bytes:
 
 
 def respelled(chance: Random, word: str) -> str:
-    """A number by another text of it, now and then; another word as it is."""
+    """Sometimes returns another text of a number, and otherwise the word itself."""
     if word.isdigit() and chance.random() < 0.2:
         return chance.choice(["+", "0", "+00", "-" if word == "0" else ""]) + word
     return word
 
 
 def spoilt(chance: Random, lines: list[list[str]]) -> list[list[str]]:
-    """Lines of which one or two are another now, moved, repeated or missing."""
+    """Returns lines with one or two faults: changed, moved, repeated or missing lines."""
     lines = [list(it) for it in lines]
     for _ in range(chance.choice([1, 1, 1, 2])):
         if lines:
@@ -94,7 +94,7 @@ def spoilt(chance: Random, lines: list[list[str]]) -> list[list[str]]:
 
 
 def spoil(chance: Random, lines: list[list[str]]) -> None:
-    """Makes one line another one, most often in a field, or moves, repeats or takes out a line."""
+    """Changes a line, usually one field, or moves, repeats or removes a line."""
     line, other = chance.choice(lines), chance.choice(lines)
     at = chance.randrange(len(line))
     match chance.randrange(17):

@@ -1,6 +1,6 @@
-"""What the pages say of the tree: code that they quote, files and names that they place, and links.
+"""Compares the pages with the repository: code that they quote, files and names that they mention, and links.
 
-tools/definitions calls `complaints`. Each of them is a line, which begins with the page."""
+tools/definitions calls `complaints`. Each complaint is a line that begins with the page."""
 
 import glob
 import os
@@ -9,10 +9,10 @@ from collections.abc import Iterator
 
 ROOT = os.path.dirname(os.path.dirname(os.path.realpath(__file__)))
 DOCS = sorted(os.path.relpath(it, ROOT) for it in glob.glob(f"{ROOT}/docs/*.md"))
-# The pages whose files and places are looked up, and those whose links are followed.
+# The pages whose paths are checked, and the pages whose links are checked.
 PLACING = ["README.md", "CONTRIBUTING.md", *DOCS]
 LINKING = [*PLACING, "CHANGELOG.md", "bench/README.md"]
-# The page whose blocks of code are all quoted from a source, and the pages whose names all stand in sources.
+# The page whose blocks of code are all quoted from a source, and the pages whose names must all be in sources.
 QUOTING = "docs/PROVED.md"
 NAMING = ["docs/PROVED.md", "docs/ARCHITECTURE.md"]
 
@@ -23,22 +23,23 @@ LINK = re.compile(r"\]\(([^)\s]+)\)")
 SPAN = re.compile(r"`([^`\n]+)`")
 WORD = re.compile(r"[^\W\d]\w*")
 COMMENT = re.compile(r"^\s*(?:--|//).*$", re.M)
-# What a source defines: an item of Rattle, or a definition, which begins a line.
+# What a source defines: an item of Rattle, or a definition that begins a line.
 DEFINED = re.compile(
     r"\b(?:fn|struct|enum|trait|type|const) (\w+)"
     r"|^ *(?:(?:abbrev|unfoldable|opaque) )?(?:pub )?(?:(?:record|data) )?(\w+)(?= [:({]|$)",
     re.M,
 )
-# A name of Rattle, maybe below others: `run`, `Reader::feed`.
+# A name in Rattle, with or without a path: `run`, `Reader::feed`.
 NAME = r"[^\W\d]\w*(?:::\w+)*"
 PATH = re.compile(r"(?:\./)?[\w.*-]+(?:/[\w.*-]+)+/?|[\w.-]+/|\w[\w.-]*\.(?:rt|antt|py|sh|md|txt|rs|edit)")
-# Folders of what is made, and words that stand for folders of a user.
+# Folders of generated files, and words for folders of a user.
 ELSEWHERE = {"out", "dist", "PREFIX", "DESTDIR"}
 # Names, a crate and a file of it: `a` and `b` (dn_run, `runs`); `a` in dn_run, `runs`; `a`, dn_run, `runs`.
 PLACED = re.compile(rf"((?:`{NAME}` and )*`{NAME}`),?(?: \(| in | )(\w+), `([\w/]+)`(?: and `([\w/]+)`)?")
 # Names and their crate: `a` and `b` (dn_run).
 IN_CRATE = re.compile(rf"((?:`{NAME}`(?:, | and ))*`{NAME}`) \((dn\w+|pair_index)\)")
-# A name and a module of a crate that is told before it: `a` (`runs`). In the same way bundles have their kinds.
+# A name and a module of a crate that the text named before: `a` (`runs`). Bundles have their kinds in the same
+# notation.
 IN_FILE = re.compile(rf"`({NAME})` \(`(?!(?:sp|max|min)`)([a-z_0-9]+)`\)")
 
 
@@ -52,18 +53,18 @@ def page_text(page: str) -> str:
 
 
 def prose(page: str) -> str:
-    """A page without its blocks of code."""
+    """Returns a page without its blocks of code."""
     return FENCE.sub("", page_text(page))
 
 
 def anchors(page: str) -> set[str]:
-    """What a link to a page can name: its headings, as GitHub spells them."""
+    """Returns what a link to a page can name: its headings, as GitHub spells them."""
     heads = [re.sub(r"\]\([^)]*\)", "]", it) for it in HEADING.findall(prose(page))]
     return {re.sub(r"[^\w\- ]", "", it.lower()).strip().replace(" ", "-") for it in heads}
 
 
 def bad_links(page: str) -> Iterator[str]:
-    """Links to files or anchors that are not there."""
+    """Yields links to files or anchors that do not exist."""
     for link in LINK.findall(SPAN.sub("", prose(page))):
         path, _, anchor = link.partition("#")
         if "://" in link or link.startswith("mailto:"):
@@ -76,7 +77,7 @@ def bad_links(page: str) -> Iterator[str]:
 
 
 def bad_quotes(page: str) -> Iterator[str]:
-    """Blocks of code that are not lines of the source that they name."""
+    """Yields blocks of code that are not lines of the source that they name."""
     quotes = QUOTE.findall(page_text(page))
     if len(quotes) != len(FENCE.findall(page_text(page))):
         yield f"{page}: a block of code has no line '<!-- from FILE -->' before it"
@@ -88,7 +89,8 @@ def bad_quotes(page: str) -> Iterator[str]:
 
 
 def is_there(path: str) -> bool:
-    """Whether a path that a page names is there: from the top, in a crate, or below a prefix; a file alone anywhere."""
+    """Whether a path that a page names exists: from the top, in a crate, or below a prefix; a file name alone,
+    anywhere."""
     path = path.removeprefix("./").rstrip("/").replace("NAME", "*")
     tops = ["", "crates/*/", "crates/*/specs/"] if "/" in path or "." not in path else ["**/"]
     found = [
@@ -99,14 +101,14 @@ def is_there(path: str) -> bool:
 
 
 def bad_paths(page: str) -> Iterator[str]:
-    """Paths that are not there."""
+    """Yields paths that do not exist."""
     for span in SPAN.findall(prose(page)):
         if PATH.fullmatch(span) and WORD.search(span) and not ELSEWHERE & set(span.split("/")) and not is_there(span):
             yield f"{page}: there is no {span}"
 
 
 def sources(crate: str, file: str = "") -> list[str]:
-    """The sources of a crate, or those that this name of a file or a module stands for; `*` is every crate."""
+    """Returns the sources of a crate, or those that this name of a file or a module means; `*` is every crate."""
     top = f"{ROOT}/crates/{crate}"
     if not file:
         return [it for kind in ("rt", "antt") for it in glob.glob(f"{top}/s*/**/*.{kind}", recursive=True)]
@@ -119,17 +121,17 @@ def crates() -> set[str]:
 
 
 def words_of(paths: list[str]) -> set[str]:
-    """The words of sources, but those of comments."""
+    """Returns the words of sources, without comments."""
     return {word for path in paths for word in WORD.findall(COMMENT.sub("", text_of(path)))}
 
 
 def lacks(known: set[str], names: list[str]) -> list[str]:
-    """The names whose last part is not known."""
+    """Returns the names whose last part is not known."""
     return [name for name in names if name.rpartition("::")[2] not in known]
 
 
 def misplaced(page: str, crate: str, files: list[str], names: list[str]) -> Iterator[str]:
-    """The files that the crate does not have, and the names that none of its files defines."""
+    """Yields the files that the crate does not have, and the names that none of its files defines."""
     found = []
     for file in files:
         here = sources(crate, file)
@@ -142,7 +144,7 @@ def misplaced(page: str, crate: str, files: list[str], names: list[str]) -> Iter
 
 
 def bad_places(page: str) -> Iterator[str]:
-    """Names that do not stand in the files that the page says."""
+    """Yields names that are not in the files that the page says."""
     known = crates()
     for names, crate, *files in PLACED.findall(prose(page)):
         if crate in known:
@@ -157,13 +159,14 @@ def bad_places(page: str) -> Iterator[str]:
 
 
 def cells(line: str) -> list[str]:
-    """The cells of a row; none where the line is no row, or parts the head from the rows."""
+    """Returns the cells of a row; none if the line is not a row, or is the line between the head and the rows."""
     return [it.strip() for it in line.strip("|").split(" | ")] if line.startswith("| ") else []
 
 
 def bad_rows(page: str) -> Iterator[str]:
-    """Names in the first column of a table below a heading '### CRATE: ..' that the crate does not have; in a table of
-    places, those that none of the files has; in a table of laws, those that the module does not have."""
+    """Yields wrong names in the first column of a table below a heading '### CRATE: ..': names that the crate does not
+    have; in a table of places, names that none of the files has; in a table of laws, names that the module does not
+    have."""
     known, crate, head, module = crates(), "", [""], ""
     for line in prose(page).split("\n"):
         if line.startswith("#"):
@@ -195,7 +198,7 @@ def bad_rows(page: str) -> Iterator[str]:
 
 
 def bad_names(page: str) -> Iterator[str]:
-    """Names that no source of the crates has."""
+    """Yields names that no source of the crates has."""
     words = words_of(sources("*")) | crates()
     for span in dict.fromkeys(SPAN.findall(prose(page))):
         if re.fullmatch(NAME, span) and set(span.split("::")) - words:
@@ -205,7 +208,7 @@ def bad_names(page: str) -> Iterator[str]:
 
 
 def complaints() -> Iterator[str]:
-    """All that the pages say and that is not so."""
+    """Yields all wrong statements of the pages."""
     yield from bad_quotes(QUOTING)
     for page in LINKING:
         yield from bad_links(page)

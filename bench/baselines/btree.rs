@@ -4,8 +4,8 @@
 //   btree                           standard input to standard output, form 1
 //   btree canon [--form 1|2] FILE   `-` is standard input
 //
-// Refusals go to standard error as `NAME:LINE: NUMBER CODE` with status 2. It stands on
-// docs/FORMAT.md alone and shares no code with dnorm, so equal bytes are evidence.
+// Refusals go to standard error as `NAME:LINE: NUMBER CODE` with status 2. The program is written
+// from docs/FORMAT.md alone and shares no code with dnorm, so equal bytes are evidence.
 
 use std::collections::{BTreeMap, BTreeSet};
 use std::fs::File;
@@ -83,7 +83,7 @@ fn is_digits(word: &str) -> bool {
     !digits.is_empty() && digits.bytes().all(|b| b.is_ascii_digit())
 }
 
-/// The number fields; a word that is no number is found before one that is out of range.
+/// The number fields; NotANumber is found before OutOfRange.
 fn numbers<const N: usize>(words: &[&str]) -> Result<[i64; N], u8> {
     let mut out = [0; N];
     let mut range = false;

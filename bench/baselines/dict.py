@@ -1,6 +1,6 @@
 #!/usr/bin/env python3
-"""Canonical texts of `sp` with a dict and sorted(), from standard input to standard output. It judges little: node
-numbers and the number of arcs."""
+"""Canonical texts of `sp` with a dict and sorted(), from standard input to standard output. It checks only node numbers
+and the number of arcs."""
 
 import sys
 

@@ -1,8 +1,8 @@
 #!/bin/sh
-# Canonical texts of `sp` with the tools of a shell, from standard input to standard output. It judges nothing: the text
-# has to be right already, with numbers in their shortest spelling. Keys are compared by sort(1), which is exact for
-# whole numbers of any length; no number passes through awk's doubles. Reading a pipe, sort starts with a small buffer
-# and merges temporary files; SORT_FLAG=-S1G gives it memory, and with it several threads.
+# Canonical texts of `sp` with shell tools, from standard input to standard output. It checks nothing: the text must be
+# correct, with numbers in their shortest spelling. sort(1) compares keys, which is exact for whole numbers of any
+# length; no number passes through awk's doubles. When sort reads a pipe, it starts with a small buffer and merges
+# temporary files. SORT_FLAG=-S1G gives it memory, and with it several threads.
 export LC_ALL=C
 dir=$(mktemp -d) || exit 4
 trap 'rm -rf "$dir"' EXIT

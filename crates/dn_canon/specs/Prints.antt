@@ -12,41 +12,41 @@ use Rattle.dn_sink.specs.Rows.{Row, text_of}
 use Rattle.dn_arc.specs.Kinds.{ArcKind, costs, capacities, lengths}
 use Rattle.dn_instance.specs.Instances.{Graph, Instance, MinCostFlow, MaxFlow, ShortestPaths, Sources, Queries, Coordinates}
 
--- a keyword, followed by numbers
+-- the line of a keyword and numbers
 abbrev pub word_row : Keyword → List ℤ → Row
 word_row keyword numbers = keyword_text keyword ∷ map signed_decimal numbers
 
--- `p KIND NODES ARCS`
+-- the problem line of a graph, `p KIND NODES ARCS`
 abbrev pub graph_row : Kind → ℤ → ℕ → Row
 graph_row kind nodes arcs =
     keyword_text P ∷ kind_name kind ∷ signed_decimal nodes ∷ signed_decimal (pos arcs) ∷ []
 
--- `p aux sp KIND K`
+-- the problem line of a companion, `p aux sp KIND K`
 abbrev pub companion_row : Kind → ℕ → Row
 companion_row kind count =
     keyword_text P ∷ keyword_text Aux ∷ keyword_text Sp ∷ kind_name kind ∷ signed_decimal (pos count) ∷ []
 
--- `n ID FLOW`
+-- the node line of a supply, `n ID FLOW`
 abbrev pub supply_row : ℤ × ℤ → Row
 supply_row supply = word_row N (supply.0 ∷ supply.1 ∷ [])
 
--- `n ID s` or `n ID t`
+-- the node line of a source or a sink, `n ID s` or `n ID t`
 abbrev pub terminal_row : ℤ → Keyword → Row
 terminal_row id letter = keyword_text N ∷ signed_decimal id ∷ keyword_text letter ∷ []
 
--- `a SRC DST`, followed by the arc's numbers
+-- the line of an arc, `a SRC DST` and then the arc's numbers
 abbrev pub arc_row : {Arc : Type 0} → ArcKind Arc → (ℤ × ℤ) × Arc → Row
 arc_row kind arc = word_row A (arc.0.0 ∷ arc.0.1 ∷ kind.numbers arc.1)
 
--- `s ID`
+-- the line of a source of queries, `s ID`
 abbrev pub source_row : ℤ → Row
 source_row id = word_row S (id ∷ [])
 
--- `q ID1 ID2`
+-- the line of a query, `q ID1 ID2`
 abbrev pub query_row : ℤ × ℤ → Row
 query_row query = word_row Q (query.0 ∷ query.1 ∷ [])
 
--- `v ID X Y`
+-- the line of a point, `v ID X Y`
 abbrev pub point_row : ℤ × (ℤ × ℤ) → Row
 point_row point = word_row V (point.0 ∷ point.1.0 ∷ point.1.1 ∷ [])
 

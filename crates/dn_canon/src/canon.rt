@@ -67,8 +67,8 @@ pub fn canon_text(alloc: Global, held: &Held, form: Form) -> Result<Vec<u8>, Ref
     }
 }
 
-/// Reads a source to its end, and then writes the canonical text of what it gave. Nothing is put before the whole text
-/// was read and has no fault.
+/// Reads the text of a source, and then writes its canonical text. Nothing is put before the whole text was read and
+/// has no fault.
 ///
 /// # Errors
 ///

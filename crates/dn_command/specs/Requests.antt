@@ -54,8 +54,8 @@ abbrev pub HasMistake : Kinds → Type 0
 HasMistake faults = (k : ErrorKind) × IsAmong k faults × (k ≢ DisplayHelp) × (k ≢ DisplayVersion)
 
 -- which requests are right, given the faults that the words may have and what the subcommand that was read asks for: a
--- command only if there is no fault, and it is the one asked for; help or the version only if the words call for it; a
--- bad line only if there is a mistake, or nothing is asked for; out of memory always
+-- command only if there is no fault and it is the one asked for; help or the version only if the words call for it; a
+-- bad line only if there is a mistake, or there is no fault but nothing is asked for; out of memory always
 abbrev pub Answers : Kinds → Option Asked → Request → Type 0
 Answers faults asked (requests.Command command) = (faults ≡ []) × (asked ≡ Some (asks command))
 Answers faults asked (requests.Print text) =

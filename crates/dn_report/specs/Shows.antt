@@ -22,7 +22,7 @@ use Rattle.dn_sink.specs.Rows.{Row, text_of}
 abbrev pub kind_row : Kind → Row
 kind_row kind = codes "kind" ∷ kind_name kind ∷ []
 
--- a word and a number
+-- the line of a word and a number
 abbrev pub number_row : List ℕ → ℤ → Row
 number_row name n = name ∷ signed_decimal n ∷ []
 
@@ -45,7 +45,7 @@ forced_words units cost steps =
     codes "forced" ∷ signed_decimal units ∷ codes "cost" ∷ signed_decimal cost
     ∷ codes "steps" ∷ signed_decimal (pos steps) ∷ []
 
--- the words on the arcs of a `min` pair: L is the sum of their LOWs, F that of LOW times COST, and N the number of
+-- the words on the arcs of a `min` pair: L is the sum of their LOWs, F the sum of LOW times COST, and N the number of
 -- COSTs with free capacity
 abbrev pub cost_words : List CostArc → Row
 cost_words arcs = forced_words (forced_units arcs) (forced_cost arcs) (length (free_costs arcs))

@@ -1,4 +1,4 @@
--- What `compare` tells of a verdict (this project's profile).
+-- What `compare` prints for a verdict (this project's profile).
 use Rattle.std.specs.Prelude.{ℕ, ℤ, pos, List, [], ◌∷◌, ◌++◌, codes, Option, Some, None}
 use Rattle.std.specs.Fmt.{signed_decimal}
 use Rattle.dn_line.specs.Names.{kind_name}
@@ -20,11 +20,11 @@ how_words (Totals left right) = codes "capacity" ∷ signed_decimal left ∷ sig
 how_words (Costs gap) =
     codes "amount" ∷ signed_decimal gap.amount ∷ codes "cost" ∷ number_or_none gap.left ∷ number_or_none gap.right ∷ []
 
--- what differs, and the values of both sides
+-- the line of a difference: what differs, and the numbers of both sides
 abbrev pub sides_row : Row → ℤ → ℤ → Row
 sides_row what left right = codes "differ" ∷ (what ++ signed_decimal left ∷ signed_decimal right ∷ [])
 
--- the words of a verdict
+-- the line of a verdict
 abbrev pub verdict_row : Verdict → Row
 verdict_row Same = codes "same" ∷ []
 verdict_row (Kind left right) = codes "differ" ∷ codes "kind" ∷ kind_name left ∷ kind_name right ∷ []

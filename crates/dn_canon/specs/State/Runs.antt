@@ -16,8 +16,8 @@ use Rattle.dn_canon.specs.CanonInstances.{IsCanonInstanceOf}
 use Rattle.dn_canon.specs.CanonTexts.{IsCanonOf, IsTooLarge, PrintsCanon}
 use Rattle.dn_canon.specs.State.Writes.{WritesCanon}
 
--- why there is no canonical text of I: out of memory, where the number of counted lines is below 2^63, or a larger
--- number
+-- why no canonical text of I was made: memory ran out, though the text has fewer than 2^63 counted lines, or it has
+-- 2^63 or more
 abbrev pub TextFault : Form → Instance → Refusal → Type 0
 TextFault form I Memory = (J : Instance) × IsCanonInstanceOf form J I × size_of J < 2 ^ 63
 TextFault form I CountTooLarge = IsTooLarge form I
