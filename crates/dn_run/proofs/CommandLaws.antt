@@ -1,4 +1,4 @@
--- What each command comes to.
+-- Lemmas on how each command ends.
 use Rattle.std.proofs.Common.{◌≡◌, ◌≢◌, ◌⊎◌, codes, ℕ, List, [], Option, Some, None, Result, Ok, Err, IfSome, refl, sym, ◌∙◌, subst, inr}
 use Rattle.dn_line.specs.declared.kind.Kind.{Kind}
 use Rattle.dn_arc.specs.declared.arc.Form.{Form}
@@ -53,7 +53,7 @@ module _ {T S : Type 0} (text : AskedText T) (out : SinkRun S) (held : Held) whe
     canon_done writes = on_read (PutsCanon form) (λ _. Never) (IsRefusedText text) (IsRefusedCanon form text) text out held (Done 0) h (done_unread 0 text.name)
         (λ b I reads is. (let w = writes I (reads_valid b I reads) is in (I, reads, print w.0, (refl, (w.0, record { canon = w.1; text_is = refl })), added w.2.0)))
 
-    -- the text is not written
+    -- `canon` ends as its answer says if the canonical text is not written
     pub canon_unwritten : (e : Refusal) → IsOfWriting e → ((I : Instance) → IsValid I → IsHeld (holding held) I → WritesCanon out.words out.old out.new form I (Err e))
         → OnText (PutsCanon form) (λ _. Never) (IsRefusedCanon form text) text out (unwritten text.name e)
     canon_unwritten e after writes = on_read (PutsCanon form) (λ _. Never) (IsRefusedText text) (IsRefusedCanon form text) text out held (unwritten text.name e) h (unread e after)
@@ -76,7 +76,7 @@ module _ {T S : Type 0} (text : AskedText T) (out : SinkRun S) (held : Held) whe
         by_refusal b Read I reads w = absurd w.2
         by_refusal b Endless I reads w = absurd w.2
 
--- where a text is not written, `out` has failed, or nothing was put
+-- if a canonical text is not written, `out` has failed, or is unchanged
 pub canon_after : {S : Type 0} (sink : SinkWords S) (old new : S) (name : List ℕ) (e : Refusal) → SinkAfter sink old new (Err e)
     → OutAfter (sink_run sink (old, new)) (unwritten name e)
 canon_after sink old new name CountTooLarge h = h
@@ -86,7 +86,7 @@ canon_after sink old new name Memory h = h
 canon_after sink old new name Read h = h
 canon_after sink old new name Endless h = h
 
--- why a text is not written may be why `canon` refuses it
+-- `canon` may end because its text was not written
 pub unwritten_answers : (form : Form) (name : List ℕ) (e : Refusal) → IsOfWriting e → IsAnswerTo (Canon name form) (unwritten name e)
 unwritten_answers form name CountTooLarge h = (refl, inr refl)
 unwritten_answers form name Write h = tt
@@ -95,7 +95,7 @@ unwritten_answers form name Memory h = absurd h
 unwritten_answers form name Read h = absurd h
 unwritten_answers form name Endless h = absurd h
 
--- a text that is refused as it is read
+-- a reason of reading to refuse a text is a reason of `canon`
 pub canon_refused : {T : Type 0} (text : AskedText T) (form : Form) (b : List ℕ) (e : Refusal) → IsRefusedText text b e → IsRefusedCanon form text b e
 canon_refused text form b (Text place code) h = h
 canon_refused text form b Memory h = h
@@ -106,7 +106,7 @@ canon_refused text form b CountTooLarge h = absurd h
 
 -- ---- `check`
 
--- the copy is the text
+-- what holds of the bytes behind a name holds of b, if the text was handed out and these bytes are b
 copy_at : (fault : Option FilesFault) (behind : Option (List ℕ)) (P : List ℕ → Type 0) → (fault ≡ None → IfSome behind P) → (b : List ℕ) → fault ≡ None → behind ≡ Some b → P b
 copy_at fault behind P h b none e = subst (λ o. IfSome o P) e (h none)
 
@@ -128,7 +128,7 @@ module _ {T S : Type 0} (text : AskedText T) (out : SinkRun S) (held : Held) (ke
 
 -- ---- two texts
 
--- where a text is held, it was handed out, and reads as an instance where its bytes are known
+-- a text that was read was handed out, and reads as an instance if its bytes are known
 pub held_read : {T : Type 0} (text : AskedText T) (Refuses : List ℕ → Refusal → Type 0) (held : Held) → IsRead Refuses text (Ok held) → (text.fault ≡ None) × IfSome text.behind (λ b. (I : Instance) × Reads b I)
 held_read text Refuses held h =
     let handed = no_fault held text.fault h.not_handed in (handed, by_behind text.behind (λ b known (I, reads, is). (I, reads)) (h.handed handed))
@@ -137,7 +137,8 @@ held_read text Refuses held h =
     no_fault held None h = refl
     no_fault held (Some f) h = absurd (not_refused held (unopened f) h)
 
--- what is behind a second name before the first is taken
+-- taking the first text does not change what is behind the second name, so `IsRead` of the second text holds with the
+-- bytes that were behind its name before
 pub before_first : {F T : Type 0} (files : FilesRun F T) (mid : F) (left right : List ℕ) → KeepsOthers (files.words.behind files.old) (files.words.behind mid) left → (left ≡ codes "-" → right ≢ codes "-")
     → (r : Result Held Refusal) → IsRead (IsRefusedText (text_asked (record files { old = mid }) mid files.new right)) (text_asked (record files { old = mid }) mid files.new right) r
     → IsRead (IsRefusedText (text_asked files mid files.new right)) (text_asked files mid files.new right) r
@@ -153,19 +154,19 @@ before_first {F} {T} files mid left right keeps apart r h = subst (λ o. IsRead 
     }
 
 module _ {T S : Type 0} (left right : AskedText T) (out : SinkRun S) (graph : Held) (h : IsRead (IsRefusedCopy left) left (Ok graph)) where
-  -- the right text is refused
+  -- if the right text is refused, so `check` ends
   pub fit_refused : (e : Refusal) → IsRead (IsRefusedText right) right (Err e) → OnTwoTexts PutsFit Unfits (IsRefusedCopy left) left right out (Refused right.name e)
   fit_refused e k = on_left_read PutsFit Unfits (IsRefusedCopy left) left right out graph (Refused right.name e) h
       (λ b I reads is. on_refused (λ x J. PutsFit b I J) (Unfits I) (IsRefusedText right) (IsRefusedText right) right out e k (λ x r. r))
 
   module _ (companion : Held) (k : IsRead (IsRefusedText right) right (Ok companion)) where
-    -- the companion does not fit
+    -- if the companion does not fit, so `check` ends
     pub unfit : (fault : CompanionFault) → judged (holding graph) (holding companion) ≡ Err fault → OnTwoTexts PutsFit Unfits (IsRefusedCopy left) left right out (Unfit right.name fault)
     unfit fault u = on_left_read PutsFit Unfits (IsRefusedCopy left) left right out graph (Unfit right.name fault) h
         (λ b I reads is. on_read (λ x J. PutsFit b I J) (Unfits I) (IsRefusedText right) (IsRefusedText right) right out companion (Unfit right.name fault) k (unfit_unread right.name fault right.name)
         (λ x J reads' is'. (J, reads', refl, sym (judged_is (holding graph) (holding companion) I J is is') ∙ u)))
 
-    -- it fits
+    -- if the companion fits, `check` puts the lines of both texts
     module _ (kept copy : List ℕ) (s : copy ≡ kept) (c : IsCopy left kept (Ok graph)) (all : HoldsCopied [] kept graph) (fit : judged (holding graph) (holding companion) ≡ Ok tt) (with : Kind) (w : with ≡ contents_kind (holding companion).contents) where
       pub fits : (answer : Answer) → ((I : Instance) → Reads copy I → IsHeld (holding graph) I → PutsFinding (PutsChecked (Some with) copy I) out answer)
           → OnTwoTexts PutsFit Unfits (IsRefusedCopy left) left right out answer
@@ -194,12 +195,12 @@ module _ {T S : Type 0} (left right : AskedText T) (out : SinkRun S) (graph : He
 -- ---- `compare`
 
 module _ {T S : Type 0} (left right : AskedText T) (out : SinkRun S) (one : Held) (h : IsRead (IsRefusedText left) left (Ok one)) where
-  -- the right text is refused
+  -- if the right text is refused, so `compare` ends
   pub compare_refused : (e : Refusal) → IsRead (IsRefusedText right) right (Err e) → OnTwoTexts (λ _. PutsCompared) (λ _ _. Never) (IsRefusedText left) left right out (Refused right.name e)
   compare_refused e k = on_left_read (λ _. PutsCompared) (λ _ _. Never) (IsRefusedText left) left right out one (Refused right.name e) h
       (λ b I reads is. on_refused (λ x J. PutsCompared I J) (λ _. Never) (IsRefusedText right) (IsRefusedText right) right out e k (λ x r. r))
 
-  -- both are compared
+  -- if both texts were read, `compare` puts their first difference
   pub compared : (other : Held) → IsRead (IsRefusedText right) right (Ok other) → (answer : Answer) → IsFound answer
       → ((I J : Instance) → IsValid I → IsValid J → IsHeld (holding one) I → IsHeld (holding other) J → PutsFinding (PutsCompared I J) out answer)
       → OnTwoTexts (λ _. PutsCompared) (λ _ _. Never) (IsRefusedText left) left right out answer
@@ -213,7 +214,7 @@ module _ {T S : Type 0} (left right : AskedText T) (out : SinkRun S) (one : Held
       by_answer x I J reads (Unfit of fault) p = absurd p
       by_answer x I J reads Cut (status, t, p, f) = (J, reads, status, t, p, f)
 
--- what is found is done with 0 or 1, or cut off
+-- `compare` may end done with 0 or 1, or with `Cut`
 pub found_answers : (l r : List ℕ) (answer : Answer) → IsFound answer → IsAnswerTo (Compare l r) answer
 found_answers l r (Done status) h = h
 found_answers l r (Refused of e) h = absurd h

@@ -1,4 +1,4 @@
--- What is put of a verdict.
+-- Lemmas on what `compare` puts for a verdict.
 use Rattle.std.proofs.Common.{◌≡◌, ◌≤◌, ℕ, refl, sym, ap, ◌∙◌, subst, arith}
 use Rattle.dn_instance.specs.Instances.{Instance}
 use Rattle.dn_sink.specs.Rows.{line_text}
@@ -22,7 +22,7 @@ most_of (Length l r) = omega arith
 most_of (Item i) = omega arith
 most_of (Point id) = omega arith
 
--- the status is 0 only where nothing differs
+-- the status of a verdict is 0 only if nothing differs
 same_of : (v : Verdict) → verdict_status v ≡ 0 → v ≡ Same
 same_of Same e = refl
 same_of (Kind l r) e = cc
@@ -35,7 +35,7 @@ same_of (Length l r) e = cc
 same_of (Item i) e = cc
 same_of (Point id) e = cc
 
--- the line of a first difference, and its status
+-- the line and the status of a first difference are what `compare` puts
 pub compared_as : (I J : Instance) (v : Verdict) (status : ℕ) → IsFirstDifference I J v → status ≡ verdict_status v → PutsCompared I J status (line_text (verdict_row v))
 compared_as I J v status first e = record {
   verdict = v;

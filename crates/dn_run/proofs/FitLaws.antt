@@ -1,4 +1,4 @@
--- Whether a companion fits, of what is held and of the instances that it stands for.
+-- Lemmas that a companion fits as a parsed instance as it fits as the instance that this represents.
 use Rattle.std.proofs.Common.{◌≡◌, ℤ, refl, ap, ◌∙◌, true}
 use Rattle.std.specs.List.{flat_map}
 use Rattle.std.specs.Map.{keys_of}
@@ -26,6 +26,6 @@ fit_is n (OfP2p pairs) d (Queries xs) J e h k = refl
 fit_is n (OfCo points) d (Coordinates xs) J e h k = refl
 fit_is n _ d _ J e h k = absurd h
 
--- what is judged of what is held is so of the instances
+-- the check of two parsed instances returns whether the instances that they represent fit
 pub judged_is : (g k : Holding) (I J : Instance) → IsHeld g I → IsHeld k J → judged g k ≡ companion_fit I J
 judged_is g k I J h i = fit_is g.nodes g.contents k.contents I J h.nodes_are h.shows i.shows

@@ -1,4 +1,4 @@
--- What a text that was asked for is read as.
+-- Lemmas on what reading a text that a run asks for returns.
 use Rattle.std.proofs.Common.{◌≡◌, ℕ, List, [], ◌++◌, Option, Some, None, Result, Ok, Err, IsTrue, OnOk, IfOk, IfSome, IsErrOf, refl, sym, ap, ◌∙◌, subst, inl, inr, append-nil}
 use Rattle.std.specs.Io.KnownBytes.{IsAtEnd}
 use Rattle.dn_instance.specs.State.SourceReads.{CopyOutcome, Copied, SourceOutcome, HoldsCopied, HoldsSome}
@@ -20,7 +20,7 @@ module _ {T : Type 0} (text : AskedText T) where
     reads_as b (Err Write) h read = h
     reads_as b (Err CountTooLarge) h read = h
 
-    -- the source that was handed out is read
+    -- reading the source that was handed out returns what `IsRead` says
     pub handed_reads : (given : Option (List ℕ)) (r : Result Held Refusal) → given ≡ text.behind → IfSome given (λ b. SourceOutcome b (text.source.gives source) r)
         → (IsErrOf r Read → IsTrue (text.source.has_failed source)) → IfOk r HoldsSome → IsRead (IsRefusedText text) text r
     handed_reads given r e h read held = record {
@@ -61,7 +61,7 @@ module _ {T : Type 0} (text : AskedText T) where
         held_of (Ok held) (t, o, same) = (t, o)
         held_of (Err e) h = tt
 
--- nothing is left, so the copy is the whole text
+-- if nothing is left of the text, the copy is the whole text
 whole_copy : (b copy : List ℕ) (new : Option (List ℕ)) → IsAtEnd new → Copied b new [] copy → copy ≡ b
 whole_copy b copy (Some rest) end c = c.copy ∙ sym (append-nil c.given) ∙ ap (λ l. c.given ++ l) (sym (left c.rest c.rest_is)) ∙ sym c.whole
   where
@@ -72,7 +72,7 @@ whole_copy b copy None end c = absurd (none c.rest c.rest_is)
     none : (rest' : List ℕ) → None ≡ Some rest' → ⊥
     none rest' e = cc
 
--- where all that the source gave is copied, the copy is what was behind the name
+-- if a source that gave what is behind a name was read and copied, the copy is what is behind the name
 pub handed_copy : (new given behind : Option (List ℕ)) (old copy : List ℕ) (r : Result Held Refusal) → old ≡ [] → given ≡ behind → IfSome given (λ b. CopyOutcome b new old copy r) → IfSome behind (λ b. OnOk r (copy ≡ b))
 handed_copy new given behind old copy r empty e h = subst (λ o. IfSome o (λ b. OnOk r (copy ≡ b))) e (by_given given (subst (λ l. IfSome given (λ b. CopyOutcome b new l copy r)) empty h))
   where
@@ -84,6 +84,6 @@ handed_copy new given behind old copy r empty e h = subst (λ o. IfSome o (λ b.
     by_given None h = tt
     by_given (Some b) h = by_result b r h
 
--- a copy that begins with nothing is the text that was read
+-- a copy that was empty before is the text that was read
 pub handed_copied : (old copy : List ℕ) (r : Result Held Refusal) → old ≡ [] → IfOk r (HoldsCopied old copy) → IfOk r (HoldsCopied [] copy)
 handed_copied old copy r empty h = subst (λ l. IfOk r (HoldsCopied l copy)) empty h

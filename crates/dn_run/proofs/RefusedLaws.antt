@@ -1,4 +1,4 @@
--- On status 2 what was asked for is not accepted.
+-- Lemmas that a command that ends with status 2 does not accept its texts.
 use Rattle.std.proofs.Common.{◌≡◌, ◌⊎◌, ℕ, List, Option, Some, None, IfSome, refl, sym, ap, ◌∙◌, subst, inl, inr, arith, ◌≤◌}
 use Rattle.dn_arc.specs.declared.arc.Form.{Form}
 use Rattle.dn_instance.specs.Instances.{Instance}
@@ -20,12 +20,12 @@ use Rattle.dn_run.specs.declared.files.FilesFault.{FilesFault}
 use Rattle.dn_run.specs.declared.files.FilesFault.TheVariants as Files
 use Rattle.dn_run.proofs.OutcomeLaws.{by_behind}
 
--- a text that the files do not hand out has another status
+-- the status of a text that the files do not hand out is not 2
 unopened_status : (name : List ℕ) (fault : FilesFault) → status_of (Refused name (unopened fault)) ≡ 2 → ⊥
 unopened_status name Files.Device e = cc
 unopened_status name Files.Memory e = cc
 
--- an instance is the one that the text reads as
+-- a text reads as one instance at most
 one_reading : (b : List ℕ) (I J : Instance) → Reads b I → Reads b J → I ≡ J
 one_reading b I J r s = some_is I J (sym r.instance_is ∙ s.instance_is)
 
@@ -42,11 +42,11 @@ module _ {T S : Type 0} (Puts : List ℕ → Instance → ℕ → List ℕ → T
   by_answer name b (Unfit of fault) two (I, reads, n, u) = unfit b I fault reads u
   by_answer name b Cut two r = cc
 
-  -- of one text
+  -- if a command with one text ends with status 2, P holds of its bytes if they are known
   pub none_of : (answer : Answer) → status_of answer ≡ 2 → OnText Puts Unfits Refuses text out answer → IfSome text.behind P
   none_of answer two h = by_behind text.behind (λ b known r. by_answer text.name b answer two r) (h.handed (handed_or_not text.fault text.name answer two h.not_handed))
 
--- a text that is refused as it is read reads as no instance
+-- a text that is refused with status 2 when it is read reads as no instance
 unread : {T : Type 0} (text : AskedText T) (b : List ℕ) (e : Refusal) → IsRefusedText text b e → refusal_status e ≡ 2 → (I : Instance) → Reads b I → ⊥
 unread text b (Text place code) h two I reads = not_both b I place code reads h
 unread text b Memory h two I reads = cc
@@ -71,7 +71,7 @@ too_large form text b Read h two I reads = cc
 too_large form text b Endless h two I reads = cc
 too_large form text b Write h two I reads = absurd h
 
--- what is done with 0 is not done with 2
+-- a status that is 0 is not 2
 zero_two : (status : ℕ) → status ≡ 0 → status ≡ 2 → ⊥
 zero_two status zero two = apart (sym zero ∙ two)
   where
@@ -85,7 +85,8 @@ module _ {T S : Type 0} (Puts : List ℕ → Instance → Instance → ℕ → L
   right_none None b e r two = tt
   right_none (Some c) b e r two = λ I J reads reads'. absurd (refused b e r two I reads)
 
-  -- of two texts
+  -- if a command with two texts ends with status 2, P holds of the instances that their bytes read as, if the bytes are
+  -- known
   pub none_of_two : (answer : Answer) → status_of answer ≡ 2 → OnTwoTexts Puts Unfits Refuses left right out answer
       → IfSome left.behind (λ b. IfSome right.behind (λ c. (I J : Instance) → Reads b I → Reads c J → P I J))
   none_of_two answer two h = by_behind left.behind (λ b known. by_case b) (h.handed (handed_or_not left.fault left.name answer two h.not_handed))
@@ -100,7 +101,7 @@ module _ {T S : Type 0} (Puts : List ℕ → Instance → Instance → ℕ → L
           (λ c L fault readsL u I J readsI readsJ. subst (λ x. P x J) (one_reading b K I reads readsI) (subst (λ y. P K y) (one_reading c L J readsL readsJ) (unfit K L fault u)))
           answer two on
 
--- what a command came to
+-- a command that ends with status 2 does not accept its texts
 pub not_accepted : {F T S : Type 0} (files : FilesRun F T) (out : SinkRun S) (asked : Asked) (answer : Answer) → Performs files out asked answer → status_of answer ≡ 2 → NotAccepted files asked
 not_accepted files out (Show name) answer p two =
     none_of PutsShown (λ _. Never) _ _ out (λ b. (I : Instance) → Reads b I → ⊥) (λ b I status t q e. zero_two status q.0 e) (λ b e r e2. unread _ b e r e2) (λ b I fault reads u. absurd u) answer two p.means

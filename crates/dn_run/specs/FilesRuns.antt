@@ -1,4 +1,4 @@
--- What a run asks of the files (this project's profile).
+-- Which texts a run asks the files for (this project's profile).
 use Rattle.std.specs.Prelude.{◌≡◌, ◌⊎◌, ℕ, List, None, IfSome}
 use Rattle.dn_line.specs.Sources.{SourceWords}
 use Rattle.dn_instance.specs.Instances.{Instance}
@@ -8,19 +8,20 @@ use Rattle.dn_run.specs.Answers.{Answer, Refused}
 use Rattle.dn_run.specs.Takings.{AsksOne, FilesWords}
 use Rattle.dn_run.specs.Texts.{AskedText}
 
--- the files of a run: their words, and those of the sources of texts; what they were before it, and what they are after
--- it
+-- the files of a run: how they and the sources of their texts describe themselves, and the files before and after the
+-- run
 pub record FilesRun (F T : Type 0) : Type 1 where
   pub words : FilesWords F T
   pub source : SourceWords T
   pub old : F
   pub new : F
 
--- files of these words that were the first and are the second
+-- the files with these descriptions: the first before the run, and the second after it
 abbrev pub files_run : {F T : Type 0} → FilesWords F T → SourceWords T → F × F → FilesRun F T
 files_run words source files = record { words = words; source = source; old = files.0; new = files.1 }
 
--- the text of this name, for which the files were asked as they were `before`, which made them `after`
+-- the text of this name that a run asked for, where asking changed the files from `before` to `after`. The bytes behind
+-- the name are those before the run
 abbrev pub text_asked : {F T : Type 0} → FilesRun F T → F → F → List ℕ → AskedText T
 text_asked files before after name = record {
   name = name;
@@ -30,25 +31,26 @@ text_asked files before after name = record {
   source = files.source;
 }
 
--- one text was asked for
+-- the run asked for one text, which has this name, and `Means` holds of it
 pub record OneAsked {F T : Type 0} (files : FilesRun F T) (name : List ℕ) (Means : AskedText T → Type 0) : Type 0 where
   pub asks : AsksOne files.words files.old files.new name
   pub means : Means (text_asked files files.old files.new name)
 
--- this text is refused, and the files are asked for no other
+-- the files did not change after the first text, and the answer refuses this text by its name
 pub record StopsAtFirst {F T : Type 0} (files : FilesRun F T) (mid : F) (name : List ℕ) (answer : Answer)
     : Type 0 where
   pub stays : files.new ≡ mid
   pub refused : (refusal : Refusal) × (answer ≡ Refused name refusal)
 
--- the first text was handed out, and reads as an instance where its bytes are known; so the files are asked for the
--- second
+-- the left text was handed out, it reads as an instance if the bytes behind its name are known, and the run then asked
+-- for the right text
 pub record GoesOn {F T : Type 0} (files : FilesRun F T) (mid : F) (left right : List ℕ) : Type 0 where
   pub handed : files.words.fault mid left ≡ None
   pub read : IfSome (files.words.behind files.old left) (λ b. (I : Instance) × Reads b I)
   pub asks : AsksOne files.words mid files.new right
 
--- two texts were asked for, one after the other, the second only where the first could be read
+-- the run asked for the left text, and then either refused it and asked for no other, or had read it and asked for the
+-- right text; and `Means` holds of both texts
 pub record TwoAsked {F T : Type 0} (files : FilesRun F T) (left right : List ℕ) (answer : Answer)
     (Means : AskedText T → AskedText T → Type 0) : Type 0 where
   pub mid : F

@@ -1,4 +1,4 @@
--- What a command did, by what it comes to (this project's profile).
+-- What a command has done with its texts, by how it has ended (this project's profile).
 use Rattle.std.specs.Prelude.{◌≡◌, ◌⊎◌, ℕ, List, None, IfSome}
 use Rattle.std.specs.Io.KnownBytes.{Appends}
 use Rattle.dn_instance.specs.Instances.{Instance}
@@ -11,9 +11,10 @@ use Rattle.dn_run.specs.Answers.{Answer, Done, Refused, Unfit, Cut}
 use Rattle.dn_run.specs.Streams.{SinkRun}
 use Rattle.dn_run.specs.Texts.{AskedText, HasFailed, IsRefusedText, unopened}
 
--- what was done of the text b, which has this name. Done: b reads as an instance, and `out` took what the command puts
--- of it, with this status; or this text is refused; or it does not fit; or `out` has failed, and took a prefix of what
--- the command puts.
+-- the answer is right for the text b of this name. Done: b reads as an instance, and `out` took a text that the command
+-- puts for this instance, with this status. Refused: the name is this one, and the reason is one to refuse b. Unfit: b
+-- reads as an instance, the name is this one, and the fault is why this instance does not fit. Cut: b reads as an
+-- instance, and `out` has failed after it took a prefix of a text that the command puts for this instance
 abbrev pub RanOn : {S : Type 0} → (List ℕ → Instance → ℕ → List ℕ → Type 0) → (Instance → CompanionFault → Type 0)
     → (List ℕ → Refusal → Type 0) → List ℕ → SinkRun S → List ℕ → Answer → Type 0
 RanOn Puts Unfits Refuses name out b (Done status) =
@@ -25,16 +26,17 @@ RanOn Puts Unfits Refuses name out b Cut =
     (I : Instance) × Reads b I × (status : ℕ) × (t : List ℕ) × Puts b I status t
     × PutsPrefix out.words out.old out.new t
 
--- what was done of some text that has this name, whatever is known of its bytes: where it is not refused, the answer
--- says of one text what it says of bytes that are known
+-- the answer refuses a text, or is right for some text b of this name, whether or not the bytes behind the name are
+-- known
 abbrev pub RanOnSome : {S : Type 0} → (List ℕ → Instance → ℕ → List ℕ → Type 0) → (Instance → CompanionFault → Type 0)
     → (List ℕ → Refusal → Type 0) → List ℕ → SinkRun S → Answer → Type 0
 RanOnSome Puts Unfits Refuses name out (Refused of refusal) = Unit {0}
 RanOnSome Puts Unfits Refuses name out answer = (b : List ℕ) × RanOn Puts Unfits Refuses name out b answer
 
--- where the text was not handed out, it is refused for that; where it was, its source has failed if it is refused with
--- `Read`, and if the bytes behind its name are known, the answer says what was done of them; whatever is known of them,
--- the answer says what was done of some text, if it is not refused
+-- what a command has done with one text. If the files did not hand it out, the answer refuses it for that. If they
+-- handed it out and the answer refuses it with `Read`, its source has failed. If they handed it out and the bytes
+-- behind its name are known, the answer is right for these bytes. In each case the answer is right for some text,
+-- unless it is a refusal
 pub record OnText {T S : Type 0} (Puts : List ℕ → Instance → ℕ → List ℕ → Type 0)
     (Unfits : Instance → CompanionFault → Type 0) (Refuses : List ℕ → Refusal → Type 0)
     (text : AskedText T) (out : SinkRun S) (answer : Answer) : Type 0 where
@@ -43,12 +45,12 @@ pub record OnText {T S : Type 0} (Puts : List ℕ → Instance → ℕ → List 
   pub handed : text.fault ≡ None → IfSome text.behind (λ b. RanOn Puts Unfits Refuses text.name out b answer)
   pub some : RanOnSome Puts Unfits Refuses text.name out answer
 
--- the text b, which has this name, is refused
+-- the answer refuses the text of this name, for a reason to refuse b
 abbrev pub IsRefusedAs : (List ℕ → Refusal → Type 0) → List ℕ → List ℕ → Answer → Type 0
 IsRefusedAs Refuses name b answer = (refusal : Refusal) × (answer ≡ Refused name refusal) × Refuses b refusal
 
--- what was done of some two texts, whatever is known of their bytes: where none is refused, the left one reads as an
--- instance, and the answer says of one right text, which has this name, what it says of bytes that are known
+-- the answer refuses a text, or is right for some two texts, of which the left one reads as an instance and the right
+-- one has this name, whether or not the bytes behind the names are known
 abbrev pub RanOnTwo : {S : Type 0} → (List ℕ → Instance → Instance → ℕ → List ℕ → Type 0)
     → (Instance → Instance → CompanionFault → Type 0) → (List ℕ → Refusal → Type 0) → List ℕ → SinkRun S → Answer
     → Type 0
@@ -56,9 +58,10 @@ RanOnTwo Puts Unfits Refuses name out (Refused of refusal) = Unit {0}
 RanOnTwo Puts Unfits Refuses name out answer =
     (b : List ℕ) × (I : Instance) × Reads b I × RanOnSome (λ c J. Puts b I J) (Unfits I) Refuses name out answer
 
--- of two texts, the left one read first: it is refused, or it reads as an instance, and the answer says what was done
--- of it and of the right text, where the bytes behind their names are known; whatever is known of them, the answer says
--- what was done of some two texts, if none is refused
+-- what a command has done with two texts, of which it reads the left one first. If the files did not hand out the left
+-- text, the answer refuses it for that. If they handed it out and the bytes behind its name are known, the answer
+-- refuses it, or it reads as an instance and `OnText` holds of the right text. In each case the answer is right for
+-- some two texts, unless it is a refusal
 pub record OnTwoTexts {T S : Type 0} (Puts : List ℕ → Instance → Instance → ℕ → List ℕ → Type 0)
     (Unfits : Instance → Instance → CompanionFault → Type 0) (Refuses : List ℕ → Refusal → Type 0)
     (left right : AskedText T) (out : SinkRun S) (answer : Answer) : Type 0 where

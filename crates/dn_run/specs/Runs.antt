@@ -1,4 +1,4 @@
--- What a run does for what it is asked for (this project's profile).
+-- What a run does for a command (this project's profile).
 use Rattle.std.specs.Prelude.{◌≡◌, ◌↔◌, ℕ, ◌≤◌, List, true, Option, None, Some, IfSome, Ok, Err}
 use Rattle.dn_line.specs.declared.kind.Kind.{Kind}
 use Rattle.dn_arc.specs.declared.arc.Form.{Form}
@@ -23,38 +23,40 @@ use Rattle.dn_run.specs.Outcomes.{OnText, OnTwoTexts}
 use Rattle.dn_run.specs.Streams.{SinkRun, TakesLine}
 use Rattle.dn_run.specs.Texts.{IsRefusedText, IsRefusedCanon, IsRefusedCopy}
 
--- `show`: what is told of the instance
+-- `show` puts the lines that describe the instance, with status 0
 abbrev pub PutsShown : List ℕ → Instance → ℕ → List ℕ → Type 0
 PutsShown b I status t = (status ≡ 0) × IsShown I t
 
--- `canon`: the canonical text of the instance
+-- `canon` puts the canonical text of the instance in this form, with status 0
 abbrev pub PutsCanon : Form → List ℕ → Instance → ℕ → List ℕ → Type 0
 PutsCanon form b I status t = (status ≡ 0) × IsCanonOf form t I
 
--- the forms in which b is the canonical text of the instance
+-- these are the forms in which b is the canonical text of the instance
 pub record AreForms (b : List ℕ) (I : Instance) (forms : Forms) : Type 0 where
   pub one : (forms.one ≡ true) ↔ IsCanonOf One b I
   pub two : (forms.two ≡ true) ↔ IsCanonOf Two b I
 
--- `check`: the kind of the instance, that of a companion, and the forms in which its text is canonical
+-- `check` puts the kind of the instance, the kind of the companion if there is one, and the forms in which b is the
+-- canonical text of the instance, with status 0
 abbrev pub PutsChecked : Option Kind → List ℕ → Instance → ℕ → List ℕ → Type 0
 PutsChecked companion b I status t = (status ≡ 0) × (forms : Forms) × AreForms b I forms
     × (t ≡ text_of (checked_rows (kind_of I) companion forms))
 
--- the same where a companion fits
+-- `check` with a companion J that fits I puts the kinds of I and J, and the forms in which b is the canonical text of
+-- I, with status 0
 abbrev pub PutsFit : List ℕ → Instance → Instance → ℕ → List ℕ → Type 0
 PutsFit b I J status t = (companion_fit I J ≡ Ok tt) × PutsChecked (Some (kind_of J)) b I status t
 
--- why a companion does not fit
+-- the companion J does not fit I, for this reason
 abbrev pub Unfits : Instance → Instance → CompanionFault → Type 0
 Unfits I J fault = companion_fit I J ≡ Err fault
 
--- no companion is asked for
+-- never true: a command that asks for no companion has no fault of one
 abbrev pub Never : CompanionFault → Type 0
 Never fault = ⊥
 
--- `compare`: the line of the first difference; the status is 0 exactly where the instances are the same problem, and
--- else 1
+-- `compare` puts the line of the first difference between I and J. The status is 0 if and only if I and J are the same
+-- problem, and otherwise 1
 pub record PutsCompared (I J : Instance) (status : ℕ) (t : List ℕ) : Type 0 where
   pub verdict : Verdict
   pub first : IsFirstDifference I J verdict
@@ -62,7 +64,7 @@ pub record PutsCompared (I J : Instance) (status : ℕ) (t : List ℕ) : Type 0 
   pub most : status ≤ 1
   pub same : (status ≡ 0) ↔ IsSame I J
 
--- what a command does
+-- what a command does: which texts it asks for, and what it does with them
 abbrev pub Performs : {F T S : Type 0} → FilesRun F T → SinkRun S → Asked → Answer → Type 0
 Performs files out (Show name) answer =
     OneAsked files name (λ text. OnText PutsShown (λ _. Never) (IsRefusedText text) text out answer)
@@ -77,7 +79,8 @@ Performs files out (Compare left right) answer =
     TwoAsked files left right answer
     (λ l r. OnTwoTexts (λ _. PutsCompared) (λ _ _. Never) (IsRefusedText l) l r out answer)
 
--- what holds of the run of a command: one answer is what its status says, what it did, and what it told
+-- what the run of a command does: one answer gives the exit status, what the command has done with its texts, and what
+-- it has done to `out` and `err`; and it is an answer that the command may have
 pub record CommandRun {F T S E : Type 0} (files : FilesRun F T) (out : SinkRun S) (err : SinkRun E) (asked : Asked)
     (number : ℕ) : Type 0 where
   pub answer : Answer
@@ -87,8 +90,8 @@ pub record CommandRun {F T S E : Type 0} (files : FilesRun F T) (out : SinkRun S
   pub out_after : OutAfter out answer
   pub tells : Tells err answer
 
--- the text, or the two texts together, are not accepted for what was asked: one reads as no instance, the canonical
--- text is too large, or the companion does not fit; where the bytes behind all names are known
+-- the command does not accept its text, or its two texts together, if the bytes behind all names are known: one reads
+-- as no instance, the canonical text that is asked for is too large, or the companion does not fit
 abbrev pub NotAccepted : {F T : Type 0} → FilesRun F T → Asked → Type 0
 NotAccepted files (Show name) = IfSome (files.words.behind files.old name) (λ b. (I : Instance) → Reads b I → ⊥)
 NotAccepted files (Check name None) = IfSome (files.words.behind files.old name) (λ b. (I : Instance) → Reads b I → ⊥)
@@ -101,7 +104,8 @@ NotAccepted files (Compare left right) =
     IfSome (files.words.behind files.old left) (λ b. IfSome (files.words.behind files.old right)
     (λ c. (I J : Instance) → Reads b I → Reads c J → ⊥))
 
--- a run that is refused for its words: status 3, this line on `err`, and nothing else
+-- a run that is refused because of its words: the exit status is 3, the run puts this line on `err`, and the files and
+-- `out` are unchanged
 pub record IsRefusedRun {F T S E : Type 0} (files : FilesRun F T) (out : SinkRun S) (err : SinkRun E) (line : List ℕ)
     (number : ℕ) : Type 0 where
   pub status_is : number ≡ 3

@@ -1,32 +1,34 @@
--- What files say of themselves, and what asking them for a text does (this project's profile).
+-- How files describe themselves, and what asking them for a text does (this project's profile).
 use Rattle.std.specs.Prelude.{◌≡◌, ◌≢◌, ℕ, List, Option, Some, None, false, Result, IfOk, OnOk, codes}
 use Rattle.std.specs.Result.{IfErr}
 use Rattle.dn_line.specs.Sources.{SourceWords}
 use Rattle.dn_run.specs.declared.files.FilesFault.{FilesFault}
 
--- the words of files that hand out texts of type T, which their kind defines
+-- the description of files of type F, which hand out texts of type T
 pub record FilesWords (F T : Type 0) : Type 1 where
-  -- the bytes behind a name, where they are known
+  -- the bytes behind a name, if they are known
   pub behind : F → List ℕ → Option (List ℕ)
-  -- why the text of a name was not handed out when the files were last asked for it; `None` where it was
+  -- why the files did not hand out the text of a name when they were last asked for it, or `None` if they did
   pub fault : F → List ℕ → Option FilesFault
-  -- whether asking once for the text of this name makes the second of the first
+  -- whether asking once for the text of this name can change the first state of the files to the second
   pub Asks : F → List ℕ → F → Type 0
-  -- whether asking for the text of this name hands out this source
+  -- whether asking for the text of this name can hand out this source
   pub Hands : F → List ℕ → T → Type 0
 
--- once the text of this name is taken, what is behind every name has stayed, but for `-` where that is the name
+-- taking the text of `name` did not change what is behind any name, except what is behind `-` if `name` is `-`
 abbrev pub KeepsOthers : (List ℕ → Option (List ℕ)) → (List ℕ → Option (List ℕ)) → List ℕ → Type 0
 KeepsOthers before after name = (other : List ℕ) → (name ≡ codes "-" → other ≢ codes "-") → after other ≡ before other
 
 module _ {F T : Type 0} (files : FilesWords F T) (old new : F) (name : List ℕ) where
-  -- the files were asked once, for the text of this name; what is behind every other name stays
+  -- the files were asked once, for the text of this name. This did not change what is behind any name, except what is
+  -- behind `-` if this name is `-`
   pub record AsksOne : Type 0 where
     pub asks : files.Asks old name new
     pub keeps : KeepsOthers (files.behind old) (files.behind new) name
 
-  -- what taking a text does: on `Ok` a source is handed out that gives what is behind the name and has not failed; else
-  -- the files say why none is
+  -- what taking the text of this name does. On `Ok` the files hand out a source that gives what is behind the name and
+  -- has not failed, and afterwards they have no fault for the name. On a fault, afterwards they have this fault for the
+  -- name
   pub record Takes (source : SourceWords T) (result : Result T FilesFault) : Type 0 where
     pub text : IfOk result (λ t. source.gives t ≡ files.behind old name)
     pub fine : IfOk result (λ t. source.has_failed t ≡ false)

@@ -1,4 +1,4 @@
--- A text that a run asks for, what it is read as, and why it is refused (this project's profile).
+-- A text that a run asks for, and why it is refused (this project's profile).
 use Rattle.std.specs.Prelude.{◌≡◌, ◌⊎◌, ℕ, ◌<◌, ◌≤◌, ◌^◌, List, ◌++◌, length, Option, IsTrue}
 use Rattle.dn_line.specs.Sources.{SourceWords}
 use Rattle.dn_arc.specs.declared.arc.Form.{Form}
@@ -12,8 +12,9 @@ use Rattle.dn_canon.specs.CanonTexts.{IsTooLarge}
 use Rattle.dn_run.specs.declared.files.FilesFault.{FilesFault}
 use Rattle.dn_run.specs.declared.files.FilesFault.TheVariants as Files
 
--- a text that a run asked for: its name; the bytes behind it before the run, where they are known; why it was not
--- handed out, or None; which sources are handed out for it; the words of the sources of texts
+-- a text that a run asked for: its name; the bytes behind the name before the run, if they are known; why the files did
+-- not hand it out, or `None` if they did; which sources they can hand out for it; and how these sources describe
+-- themselves
 pub record AskedText (T : Type 0) : Type 1 where
   pub name : List ℕ
   pub behind : Option (List ℕ)
@@ -21,37 +22,40 @@ pub record AskedText (T : Type 0) : Type 1 where
   pub Hands : T → Type 0
   pub source : SourceWords T
 
--- this source comes, by the pulls of reading, of one that is handed out for the text
+-- this is a source that was handed out for the text, as the pulls of reading left it
 pub record ComesOf {T : Type 0} (text : AskedText T) (source : T) : Type 0 where
   pub first : T
   pub handed : text.Hands first
   pub pulled : PulledWhileClean text.source first source
 
--- the source handed out for this text, as pulls left it, has failed
+-- a source that was handed out for this text has failed, as the pulls of reading left it
 pub record HasFailed {T : Type 0} (text : AskedText T) : Type 0 where
   pub source : T
   pub comes : ComesOf text source
   pub failed : IsTrue (text.source.has_failed source)
 
--- of the text b such a source gave a prefix, and no line that LFs have ended there is faulty
+-- the source of the text b has failed. It gave a prefix of b, and no line that ends with an LF in that prefix has a
+-- fault
 abbrev pub IsUnread : {T : Type 0} → AskedText T → List ℕ → Type 0
 IsUnread text b = (f : HasFailed text) × CleanSoFar b (text.source.gives f.source)
 
--- of the text b the source gave 2 ^ 40 bytes or more, and no line that LFs have ended there is faulty
+-- the source of the text b gave a prefix of b of 2 ^ 40 bytes or more, and no line that ends with an LF in that prefix
+-- has a fault
 pub record IsEndless {T : Type 0} (text : AskedText T) (b : List ℕ) : Type 0 where
   pub source : T
   pub comes : ComesOf text source
   pub clean : CleanSoFar b (text.source.gives source)
   pub many : 2 ^ 40 ≤ length clean.given
 
--- memory ran out at a line of the text b that such a source had not ended before its last piece
+-- memory ran out at a line of the text b that had not ended before the last piece that the source gave. Neither this
+-- line nor an earlier one has a fault
 pub record IsOutOfMemory {T : Type 0} (text : AskedText T) (b : List ℕ) : Type 0 where
   pub source : T
   pub comes : ComesOf text source
   pub ran_out : RanOut b (text.source.gives source)
 
--- why the text b is refused as it is read: its first fault; memory ran out at a line, and neither it nor an earlier
--- line has a fault; the text's source failed, or had no end
+-- this is a reason to refuse the text b when it is read: its first fault; memory ran out at a line, and neither this
+-- line nor an earlier one has a fault; its source has failed; or its source gave 2 ^ 40 bytes or more
 abbrev pub IsRefusedText : {T : Type 0} → AskedText T → List ℕ → Refusal → Type 0
 IsRefusedText text b (Text place code) = IsFirstFault b place code
 IsRefusedText text b Memory = IsOutOfMemory text b
@@ -60,12 +64,14 @@ IsRefusedText text b Endless = IsEndless text b
 IsRefusedText text b Write = ⊥
 IsRefusedText text b CountTooLarge = ⊥
 
--- why a text is refused whose canonical text is asked for: that, or the canonical text is too large
+-- this is a reason to refuse the text b when its canonical text is asked for: a reason of reading, or that the
+-- canonical text of what b reads as is too large
 abbrev pub IsRefusedCanon : {T : Type 0} → Form → AskedText T → List ℕ → Refusal → Type 0
 IsRefusedCanon form text b CountTooLarge = (I : Instance) × Reads b I × IsTooLarge form I
 IsRefusedCanon form text b refusal = IsRefusedText text b refusal
 
--- a copy of the text b lacked memory for a piece of it; no line that LFs have ended before that piece is faulty
+-- memory ran out for the copy of a non-empty piece of the text b, and no line that ends with an LF before that piece
+-- has a fault
 pub record LacksCopy (b : List ℕ) : Type 0 where
   pub given : List ℕ
   pub piece : List ℕ
@@ -74,12 +80,14 @@ pub record LacksCopy (b : List ℕ) : Type 0 where
   pub some : 0 < length piece
   pub clean : IsClean (ended given)
 
--- why a text is refused that is copied as it is read: that of reading, or memory was wanted for the copy
+-- this is a reason to refuse the text b when it is read and copied: a reason of reading, or that memory ran out for the
+-- copy
 abbrev pub IsRefusedCopy : {T : Type 0} → AskedText T → List ℕ → Refusal → Type 0
 IsRefusedCopy text b Memory = IsOutOfMemory text b ⊎ LacksCopy b
 IsRefusedCopy text b refusal = IsRefusedText text b refusal
 
--- what is answered where the files do not hand out a text
+-- the reason to refuse a text that the files do not hand out: `Read` if it could not be opened, and `Memory` if memory
+-- ran out
 abbrev pub unopened : FilesFault → Refusal
 unopened Files.Device = Read
 unopened Files.Memory = Memory

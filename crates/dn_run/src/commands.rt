@@ -1,4 +1,4 @@
-// The commands, each over files and `out`.
+// The commands. Each asks files for its texts, and puts what it finds on `out`.
 ghost use Rattle.std.specs.Prelude.{◌≡◌, ◌≢◌, None, Some, false, codes};
 ghost use Rattle.dn_command.specs.Commands.{Canon, Check, Compare, Show, asks, names_twice};
 ghost use Rattle.dn_run.specs.State.Runs.{Does};
@@ -15,7 +15,7 @@ use dn_report::put_shown;
 use dn_sink::Sink;
 use std::alloc::Global;
 
-// Does what is asked for, and answers the exit status.
+// Performs a command, and returns the exit status.
 pub(crate) fn perform<'a, F: Files, O: Sink>(
     alloc: Global,
     command: &Command<'a>,
@@ -38,7 +38,7 @@ pub(crate) fn perform<'a, F: Files, O: Sink>(
     }
 }
 
-// Puts what the text of this name holds.
+// Puts the lines that describe the instance in the text of this name.
 fn show<'a, F: Files, O: Sink>(
     alloc: Global,
     name: &'a str,
@@ -61,7 +61,7 @@ fn show<'a, F: Files, O: Sink>(
     }
 }
 
-// Puts the canonical text of the text of this name.
+// Puts the canonical text, in this form, of what the text of this name reads as.
 fn canon<'a, F: Files, O: Sink>(
     alloc: Global,
     name: &'a str,
@@ -85,7 +85,7 @@ fn canon<'a, F: Files, O: Sink>(
     }
 }
 
-// Puts that the text of this name is accepted, and the forms in which it is canonical.
+// Puts the kind of the text of this name, and the forms in which it is canonical.
 fn check<'a, F: Files, O: Sink>(
     alloc: Global,
     name: &'a str,
@@ -106,7 +106,7 @@ fn check<'a, F: Files, O: Sink>(
     }
 }
 
-// The same, and that the companion fits it.
+// Puts the kinds of the text and of its companion, which must fit, and the forms in which the text is canonical.
 fn check_with<'a, F: Files, O: Sink>(
     alloc: Global,
     name: &'a str,
@@ -152,7 +152,7 @@ fn check_with<'a, F: Files, O: Sink>(
     }
 }
 
-// Puts the first difference between the texts of these names.
+// Puts the first difference between the texts of these names, or that they are the same problem.
 fn compare_named<'a, F: Files, O: Sink>(
     alloc: Global,
     left: &'a str,

@@ -1,33 +1,34 @@
-// Texts by name.
+// Files, which hand out texts by name.
 ghost use Rattle.dn_run.specs.Takings.{FilesWords, Takes};
 
 use dn_line::Source;
 use thiserror::Error;
 
-/// Why a text could not be had.
+/// Why files did not hand out a text.
 #[derive(Clone, Copy, Debug, PartialEq, Eq, Error)]
 pub enum FilesFault {
     /// There is no such file, or it could not be opened.
     #[error("the file could not be opened")]
     Device,
-    /// A growth of memory was refused.
+    /// An allocation failed.
     #[error("out of memory")]
     Memory,
 }
 
-/// Hands out texts by name; `-` is standard input.
+/// Hands out texts by name. The name `-` is standard input.
 pub trait Files {
-    /// A text that was handed out.
+    /// A text that the files hand out.
     type Text: Source + Drop;
 
-    /// What they say of themselves.
+    /// How the files describe themselves.
     ghost files: { FilesWords Self Self.Text };
 
-    /// Hands out the text of this name. What is behind the names stays, but for `-` when `-` is taken.
+    /// Hands out the text of this name. Does not change what is behind any name, except what is behind `-` if this name
+    /// is `-`.
     ///
     /// # Errors
     ///
-    /// The text could not be had.
+    /// `Device` if the text could not be opened. `Memory` if an allocation failed.
     fn take(&mut self, name: &str) -> Result<Self::Text, FilesFault>
         ensures { Takes files self.old self.new name.now Self.Text.source result };
 }

@@ -1,4 +1,4 @@
-// What is found of texts that were read, put on `out`.
+// Puts what `check` and `compare` find in texts that were read.
 ghost use Rattle.std.specs.Prelude.{◌≡◌, ℕ, List, Option, IsTrue, OnOk};
 ghost use Rattle.dn_instance.specs.State.Helds.{IsHeld, holding};
 ghost use Rattle.dn_instance.specs.Instances.{Instance};
@@ -20,7 +20,8 @@ use dn_line::Kind;
 use dn_report::{Forms, put_checked, put_verdict};
 use dn_sink::Sink;
 
-// Puts that a text that was read is accepted, which companion fits it, and the forms in which it is canonical.
+// Puts the kind of a text that was read, the kind of its companion if it has one, and the forms in which the text is
+// canonical.
 pub(crate) fn put_check<'a, O: Sink>(
     held: &Held,
     companion: Option<Kind>,
@@ -42,7 +43,8 @@ pub(crate) fn put_check<'a, O: Sink>(
     }
 }
 
-// Puts the first difference between two texts that were read; the status is 0 where they are the same problem, else 1.
+// Puts the first difference between two parsed instances, or that they are the same problem. Returns the exit status: 0
+// if they are the same problem, and otherwise 1.
 pub(crate) fn put_compared<'a, O: Sink>(
     left: &Held,
     right: &Held,
@@ -61,7 +63,7 @@ pub(crate) fn put_compared<'a, O: Sink>(
     }
 }
 
-// The status of a comparison.
+// Returns the exit status of a comparison.
 fn verdict_status(verdict: &Verdict) -> u8
     ensures { result ≡ verdict_status verdict.now }
 {
@@ -71,7 +73,8 @@ fn verdict_status(verdict: &Verdict) -> u8
     }
 }
 
-// The forms in which a text that reads as what is held is the canonical text of it. Only those of `min` differ.
+// Returns the forms in which `text`, which reads as the instance in `held`, is its canonical text. The two forms differ
+// for `min` only.
 fn forms_of(held: &Held, text: &[u8]) -> Forms
     ensures { (I : Instance) → Reads text.now I → IsHeld (holding held.now) I → AreForms text.now I result }
 {

@@ -1,9 +1,9 @@
-//! A run of the program, over any files and any streams: the words that tell it, the texts that it asks for by name,
-//! the line that tells of a refusal, and the exit status.
+//! A run of the program, over any files and any streams: the words of the command line, the texts that it asks for by
+//! name, the line that says why it was refused, and the exit status.
 //!
-//! In the order of the data: `files` hands out texts by name, `texts` reads them, `commands` does what is asked for,
-//! `findings` puts what is found of texts that were read, `stop` is why a command stops before it is done, and `runs`
-//! does what a line of words asks for.
+//! In the order of the data: `files` hands out texts by name, `texts` reads them, `commands` performs the commands,
+//! `findings` puts what `check` and `compare` find in texts that were read, `stop` has the reasons why a command stops
+//! before it is done, and `runs` does what the words ask for.
 #![tactic(auto)]
 
 mod commands;

@@ -15,10 +15,10 @@ use dn_report::put_fault_line;
 use dn_sink::{Sink, put_all, put_and_flush};
 use std::alloc::Global;
 
-/// Does what the words ask for, the program's name first, and answers the exit status: 0 where it is done, and texts
-/// that are compared are the same problem; 1 where they differ; 2 where a text is refused, or a companion does not fit;
-/// 3 where the words are no command, or name standard input twice; and 4 where memory, a file, a source or `out`
-/// failed. Why it stopped is told on `err`, in one line; a fault of `err` is ignored.
+/// Does what the words ask for, the program's name first, and returns the exit status: 0 if that is done, and texts
+/// that are compared are the same problem; 1 if they differ; 2 if a text is refused or a companion does not fit; 3 if
+/// the words are no command, or name standard input for two texts; 4 if an allocation, a file, a source or `out`
+/// failed, or a source has no end. On 2, 3 and 4 it puts one line on `err` that says why. It ignores a fault of `err`.
 pub fn run<F: Files, O: Sink, E: Sink>(
     alloc: Global,
     words: &[String],
@@ -34,7 +34,7 @@ pub fn run<F: Files, O: Sink, E: Sink>(
     run_request(alloc, &request, files, out, err)
 }
 
-/// Tells on `err` that the words are no command, and answers the exit status, 3. A fault of `err` is ignored.
+/// Puts the line for words that are no command on `err`, and returns the exit status, 3. Ignores a fault of `err`.
 pub fn refuse_words<E: Sink>(err: &mut E) -> u8
     ensures status { result ≡ 3 }
     ensures told { TakesLine (sink_run E.sink (err.old, err.new)) bad_command_line }
@@ -43,7 +43,7 @@ pub fn refuse_words<E: Sink>(err: &mut E) -> u8
     3
 }
 
-// Does what is requested, and answers the exit status.
+// Does what the request asks for, and returns the exit status.
 fn run_request<F: Files, O: Sink, E: Sink>(
     alloc: Global,
     request: &Request<'_>,
@@ -69,7 +69,7 @@ fn run_request<F: Files, O: Sink, E: Sink>(
     }
 }
 
-// Runs a command, and answers the exit status.
+// Runs a command, and returns the exit status.
 fn run_command<F: Files, O: Sink, E: Sink>(
     alloc: Global,
     command: &Command<'_>,
@@ -97,7 +97,7 @@ fn run_command<F: Files, O: Sink, E: Sink>(
     }
 }
 
-// Puts a text on `out`, and answers the exit status.
+// Puts a text on `out`, and returns the exit status.
 fn print<O: Sink, E: Sink>(text: &str, out: &mut O, err: &mut E) -> u8
     ensures prints { PrintsText text.now (sink_run O.sink (out.old, out.new))
         (sink_run E.sink (err.old, err.new)) result }

@@ -11,12 +11,12 @@ use dn_sink::Sink;
 // Why a command stops before it is done.
 #[derive(Clone, Copy)]
 pub(crate) enum Stop<'a> {
-    // The text of this name is refused.
+    // The text of this name is refused, for this reason.
     Refused {
         name: &'a str,
         refusal: Refusal,
     },
-    // The companion of this name does not fit.
+    // The companion of this name does not fit, for this reason.
     Unfit {
         name: &'a str,
         fault: CompanionFault,
@@ -26,7 +26,8 @@ pub(crate) enum Stop<'a> {
 }
 
 impl Stop<'_> {
-    // The exit status: 2 where a text is refused or does not fit, 4 where memory, a source or standard output failed.
+    // Returns the exit status: 2 for a fault of a text, a canonical text that is too large, or a companion that does
+    // not fit, and 4 for any other reason.
     pub(crate) fn status(&self) -> u8
         ensures { result ≡ status_of (stopped self.now) }
     {
@@ -37,7 +38,7 @@ impl Stop<'_> {
         }
     }
 
-    // Puts the line that tells of it. A fault of the sink is ignored.
+    // Puts the line that says why the command stopped. Ignores a fault of the sink.
     pub(crate) fn tell<E: Sink>(&self, err: &mut E)
         ensures { Tells (sink_run E.sink (err.old, err.new)) (stopped self.now) }
     {
@@ -49,7 +50,7 @@ impl Stop<'_> {
     }
 }
 
-// Why a command stops whose text of this name could not be written.
+// Returns why a command stops that could not write the canonical text for this name.
 pub(crate) fn unwritten(name: &str, refusal: Refusal) -> Stop<'_>
     ensures { stopped result ≡ unwritten name.entry.now refusal }
 {
@@ -63,7 +64,7 @@ pub(crate) fn unwritten(name: &str, refusal: Refusal) -> Stop<'_>
     }
 }
 
-// The status of a refusal.
+// Returns the exit status of a refusal.
 fn refusal_status(refusal: &Refusal) -> u8
     ensures { result ≡ refusal_status refusal.now }
 {

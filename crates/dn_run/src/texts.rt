@@ -1,4 +1,4 @@
-// Reads texts by their names.
+// Reads texts by name.
 ghost use Rattle.std.specs.Prelude.{◌≡◌, [], IfErr, IfOk};
 ghost use Rattle.dn_instance.specs.SourceReads.{IsOfReading};
 ghost use Rattle.dn_instance.specs.State.SourceReads.{HoldsCopied};
@@ -11,7 +11,7 @@ use crate::files::{Files, FilesFault};
 use dn_instance::{Held, Refusal, read_from, read_keep};
 use std::alloc::Global;
 
-// What the text of this name reads as.
+// Reads the text of this name.
 pub(crate) fn read_named<F: Files>(
     alloc: Global,
     name: &str,
@@ -31,7 +31,7 @@ pub(crate) fn read_named<F: Files>(
     }
 }
 
-// The same, with a copy of the text, which begins with nothing.
+// Reads the text of this name, and copies it into `copy`, which is empty before.
 pub(crate) fn copy_named<F: Files>(
     alloc: Global,
     name: &str,
@@ -56,7 +56,7 @@ pub(crate) fn copy_named<F: Files>(
     }
 }
 
-// What is answered where the files do not hand out a text.
+// Returns the reason to refuse a text that the files did not hand out.
 fn unopened(fault: FilesFault) -> Refusal
     ensures is { result ≡ unopened fault }
     ensures refusal { IsOfReading result }

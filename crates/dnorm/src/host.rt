@@ -1,4 +1,4 @@
-// A run on the host.
+// A run of the program on the host.
 ghost use Rattle.std.specs.Prelude.{◌≡◌, ◌≤◌, ℕ, List, None, map, string_bytes, IfOk, OnErr};
 ghost use Rattle.dn_run.specs.Streams.{sink_run};
 ghost use Rattle.dnorm.specs.HostRuns.{HostRun, RanOnHost};
@@ -13,7 +13,7 @@ use std::io::{BufWriter, ErrorKind, Printer, Read};
 use std::rt::Runtime;
 use std::{env, fs, io};
 
-/// The files of the host by their paths, and its standard input. Which bytes they give is not known.
+/// The files of the host, by their paths, and its standard input. The bytes that they give are not known.
 #[derive(Drop)]
 pub struct HostFiles<'a, R> {
     host: &'a R,
@@ -21,7 +21,7 @@ pub struct HostFiles<'a, R> {
 }
 
 impl<'a, R> HostFiles<'a, R> {
-    /// No text was asked for yet.
+    /// Returns the files of a host, with no fault.
     pub fn new(host: &'a R) -> HostFiles<'a, R>
         ensures { result.fault ≡ None }
     {
@@ -47,7 +47,7 @@ impl<I: Read, F: Read> Read for HostText<I, F> {
     }
 }
 
-/// A text of the host.
+/// The source of a text of the host.
 pub type HostSource<R> = FromRead<Retried<HostText<<R as Input>::Reader, <R as fs::Files>::File>>>;
 
 /// The standard output of the host, buffered.
@@ -82,8 +82,8 @@ impl<'a, R: fs::Files + Input> Files for HostFiles<'a, R> {
     }
 }
 
-/// A run on the host's files, its arguments and its standard output, and the exit status. Arguments that are not UTF-8
-/// are no command.
+/// Runs the program with the host's arguments, files and standard output, and returns the exit status. Arguments that
+/// are not UTF-8 are no command.
 pub fn run_on<'a, R: Runtime + AllocGlobal, E: Sink>(host: &'a R, err: &mut E) -> u8
     ensures status { result ≤ 4 }
     ensures ran { HostRun (record { files = ⟦<HostFiles<'a, R> as Files>⟧.files; source = ⟦<HostSource<R> as Source>⟧.source;
@@ -102,7 +102,7 @@ pub fn run_on<'a, R: Runtime + AllocGlobal, E: Sink>(host: &'a R, err: &mut E) -
     }
 }
 
-// What an error of opening is told as.
+// Maps an open error to a `FilesFault`.
 fn fault_of(error: &io::Error) -> FilesFault {
     match error.kind() {
         ErrorKind::OutOfMemory => FilesFault::Memory,
@@ -110,7 +110,8 @@ fn fault_of(error: &io::Error) -> FilesFault {
     }
 }
 
-// Fails where there is no memory, or an argument is not UTF-8.
+// Runs the program with the host's arguments. Fails if there is no memory for them or for the output buffer, or if an
+// argument is not UTF-8.
 fn run_with_arguments<'a, R: Runtime + AllocGlobal, E: Sink>(host: &'a R, err: &mut E) -> io::Result<u8>
     ensures status { IfOk result (λ status. status ≤ 4) }
     ensures ran { IfOk result (λ status. (arguments : List (List ℕ)) × RanOnHost
@@ -125,7 +126,7 @@ fn run_with_arguments<'a, R: Runtime + AllocGlobal, E: Sink>(host: &'a R, err: &
     status
 }
 
-// A run on these words. Fails where there is no memory for its output.
+// Runs the program with these words. Fails if there is no memory for the output buffer.
 fn run_words<'a, R: Runtime + AllocGlobal, E: Sink>(
     host: &'a R,
     words: &[String],

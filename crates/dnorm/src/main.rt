@@ -1,5 +1,6 @@
-//! The program: what DIMACS network instances hold, their first faults and differences, and their canonical texts.
-//! `main` hands the host to `host`, which runs the words of the command line on the host's files and streams.
+//! The program `dnorm`. It prints what DIMACS network instances contain, their first faults and differences, and their
+//! canonical texts. `main` passes the host to `host`, which does what the words of the command line ask for with the
+//! host's files and streams.
 #![tactic(auto)]
 
 pub mod host;

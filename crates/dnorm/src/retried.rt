@@ -1,9 +1,9 @@
-// Streams that are interrupted.
+// Retries interrupted reads and writes.
 
 use std::io;
 use std::io::{ErrorKind, Read, Write};
 
-/// A stream whose reads and writes are tried again where they were interrupted, as good as without end.
+/// A stream that retries interrupted reads and writes. A call fails after 2^64-1 interruptions.
 #[derive(Drop)]
 pub struct Retried<S> {
     /// The stream.

@@ -1,4 +1,4 @@
--- What a run comes to, whatever it was asked for.
+-- How a command has ended, by its result.
 use Rattle.std.specs.Prelude.{ℕ, List, Result, Ok, Err}
 use Rattle.dn_instance.specs.declared.refusal.Refusal.{Refusal}
 use Rattle.dn_instance.specs.declared.refusal.Refusal.TheVariants.{Write}
@@ -6,18 +6,18 @@ use Rattle.dn_run.specs.declared.stop.Stop.{Stop}
 use Rattle.dn_run.specs.declared.stop.Stop.TheVariants as Stops
 use Rattle.dn_run.specs.Answers.{Answer, Cut, Done, Refused, Unfit}
 
--- what a command comes to whose text of this name could not be written
+-- how a command has ended that could not write the canonical text for this name
 abbrev pub unwritten : List ℕ → Refusal → Answer
 unwritten name Write = Cut
 unwritten name refusal = Refused name refusal
 
--- what a command comes to, by why it stopped
+-- how a command has ended that stopped for this reason
 abbrev pub stopped : Stop → Answer
 stopped (Stops.Refused name refusal) = Refused name.now refusal
 stopped (Stops.Unfit name fault) = Unfit name.now fault
 stopped Stops.Cut = Cut
 
--- what a command comes to, by its result
+-- how a command with this result has ended
 abbrev pub answer_of : Result ℕ Stop → Answer
 answer_of (Ok status) = Done status
 answer_of (Err stop) = stopped stop

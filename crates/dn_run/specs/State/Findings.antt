@@ -1,4 +1,4 @@
--- What is found of texts that were read.
+-- What `check` and `compare` put for texts that were read.
 use Rattle.std.specs.Prelude.{◌≤◌, ℕ, List}
 use Rattle.std.specs.Io.KnownBytes.{Appends}
 use Rattle.dn_sink.specs.Puts.{PutsPrefix}
@@ -7,13 +7,14 @@ use Rattle.dn_compare.specs.declared.verdict.Verdict.TheVariants.{Same}
 use Rattle.dn_run.specs.Answers.{Answer, Done, Cut}
 use Rattle.dn_run.specs.Streams.{SinkRun}
 
--- what is found is put, with status 0 or 1, or the sink failed
+-- the answer is done, with status 0 or 1, or `Cut`
 abbrev pub IsFound : Answer → Type 0
 IsFound (Done status) = status ≤ 1
 IsFound Cut = Unit {0}
 IsFound _ = ⊥
 
--- what is put by what is found, or a prefix of it where the sink failed
+-- `out` took a text that `Puts` allows with the status of the answer; or the answer is `Cut`, and `out` took a prefix
+-- of a text that `Puts` allows and has failed
 abbrev pub PutsFinding : {S : Type 0} → (ℕ → List ℕ → Type 0) → SinkRun S → Answer → Type 0
 PutsFinding Puts out (Done status) =
     (t : List ℕ) × Puts status t × Appends (out.words.taken out.old) (out.words.taken out.new) t
@@ -21,7 +22,7 @@ PutsFinding Puts out Cut =
     (status : ℕ) × (t : List ℕ) × Puts status t × PutsPrefix out.words out.old out.new t
 PutsFinding Puts out _ = ⊥
 
--- the status of a comparison: 0 where nothing differs, else 1
+-- the exit status of a comparison: 0 if nothing differs, and otherwise 1
 abbrev pub verdict_status : Verdict → ℕ
 verdict_status Same = 0
 verdict_status _ = 1

@@ -1,4 +1,4 @@
--- A text that a run asks for, what it is read as, and why it is refused.
+-- What reading a text that a run asks for returns.
 use Rattle.std.specs.Prelude.{◌≡◌, ℕ, List, None, Result, Ok, Err, OnOk, IsErrOf, IfOk, IfSome}
 use Rattle.dn_instance.specs.State.SourceReads.{HoldsSome}
 use Rattle.dn_instance.specs.State.Helds.{IsHeld, holding}
@@ -10,14 +10,16 @@ use Rattle.dn_instance.specs.declared.refusal.Refusal.TheVariants.{Read}
 use Rattle.dn_run.specs.declared.files.FilesFault.TheVariants as Files
 use Rattle.dn_run.specs.Texts.{AskedText, HasFailed, unopened}
 
--- what the text b is read as: an instance that the held one stands for, or why not
+-- what reading the text b returns: a parsed instance that represents the instance that b reads as, or a reason to
+-- refuse b
 abbrev pub ReadsAs : (List ℕ → Refusal → Type 0) → List ℕ → Result Held Refusal → Type 0
 ReadsAs Refuses b (Ok held) = (I : Instance) × Reads b I × IsHeld (holding held) I
 ReadsAs Refuses b (Err refusal) = Refuses b refusal
 
--- where the text was not handed out, the result says why; where it was, its source has failed if the result is `Read`,
--- and if the bytes behind its name are known, the result says what they are read as; what is held stands for an
--- instance that some text reads as
+-- what reading a text by its name returns. If the files did not hand it out, the result is the refusal for that. If
+-- they handed it out and the result is `Read`, its source has failed. If they handed it out and the bytes behind its
+-- name are known, the result is one of reading these bytes. In each case a parsed instance represents an instance that
+-- some text reads as
 pub record IsRead {T : Type 0} (Refuses : List ℕ → Refusal → Type 0) (text : AskedText T)
     (result : Result Held Refusal) : Type 0 where
   pub not_handed : IfSome text.fault (λ fault. result ≡ Err (unopened fault))
@@ -25,6 +27,6 @@ pub record IsRead {T : Type 0} (Refuses : List ℕ → Refusal → Type 0) (text
   pub handed : text.fault ≡ None → IfSome text.behind (λ b. ReadsAs Refuses b result)
   pub held : IfOk result HoldsSome
 
--- where a text is held, the copy is the bytes that were behind its name
+-- if the text was handed out and read, and the bytes behind its name are known, the copy is these bytes
 abbrev pub IsCopy : {T : Type 0} → AskedText T → List ℕ → Result Held Refusal → Type 0
 IsCopy text copy result = text.fault ≡ None → IfSome text.behind (λ b. OnOk result (copy ≡ b))

@@ -8,7 +8,7 @@ use Rattle.dn_run.specs.Streams.{SinkRun}
 use Rattle.dn_run.specs.Words.{AskedRun, RequestRun}
 use Rattle.dn_run.proofs.runs.run.Goals as goal
 
--- what a run does for a request of what was asked for
+-- a run that does what a request asks for does what its command asks for
 asked_for : {F T S E : Type 0} (files : FilesRun F T) (out : SinkRun S) (err : SinkRun E) (asked : Asked) (number : ℕ) (request : Request)
     → Requests asked request → RequestRun files out err request number → AskedRun files out err asked number
 asked_for files out err asked number (Command command) is ran = subst (λ a. AskedRun files out err a number) is ran

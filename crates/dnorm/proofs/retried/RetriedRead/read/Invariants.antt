@@ -1,6 +1,6 @@
 use Rattle.std.specs.Io.KnownBytes.{Keeps}
 use Rattle.dnorm.proofs.retried.RetriedRead.read.Given as goal
 
--- no byte is lost where a read is interrupted
+-- an interrupted read loses no byte
 abbrev pub invariant-loop : goal.invariant-loop
 invariant-loop g l = Keeps (g.S.Read.remaining l.fn.self.stream) (g.S.Read.remaining l.self.stream)

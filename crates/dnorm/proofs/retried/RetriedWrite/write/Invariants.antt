@@ -1,6 +1,6 @@
 use Rattle.std.specs.Io.KnownBytes.{Keeps}
 use Rattle.dnorm.proofs.retried.RetriedWrite.write.Given as goal
 
--- nothing is written where a write is interrupted
+-- an interrupted write writes nothing
 abbrev pub invariant-loop : goal.invariant-loop
 invariant-loop g l = Keeps (g.S.Write.contents l.fn.self.stream) (g.S.Write.contents l.self.stream)
