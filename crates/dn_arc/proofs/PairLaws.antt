@@ -18,10 +18,17 @@ equal_is Greater h = cc
 pub pair_is : (p q : ℤ × ℤ) → same_pair p q ≡ true → p ≡ q
 pair_is p q h = exact_pairs int_cmp int_cmp exact_signed exact_signed p q (equal_is (pair_cmp p q) h)
 
-self_equal : (o : Ordering) → o ≡ ordering_reverse o → o ≡ Equal
+-- an ordering that is its own reverse is `Equal`
+pub self_equal : (o : Ordering) → o ≡ ordering_reverse o → o ≡ Equal
 self_equal Less e = cc
 self_equal Equal e = refl
 self_equal Greater e = cc
+
+-- an ordering whose reverse is `Greater` is `Less`
+pub reversed : (o : Ordering) → Greater ≡ ordering_reverse o → o ≡ Less
+reversed Less e = refl
+reversed Equal e = cc
+reversed Greater e = cc
 
 -- a number compares equal to itself
 pub int_self : (z : ℤ) → int_cmp z z ≡ Equal

@@ -16,6 +16,7 @@ use Rattle.dn_arc.proofs.PartsLaws.{test_yes, test_no}
 use Rattle.dn_arc.proofs.StepArcsLaws.{steps_some}
 use Rattle.dn_bundle.proofs.Cost128Laws.{more_fits}
 use Rattle.dn_bundle.proofs.StepLaws.{less, not_less, next_fits, next_is}
+use Rattle.dn_arc.proofs.CanonsLaws.{eq_yes}
 
 -- the amount plus one, as the code computes it
 module _ (amount : ℤ) (some : pos 0 ≤ℤ amount) (most : amount <ℤ pos (2 ^ 63 - 1)) where
@@ -66,9 +67,6 @@ module _ (amount cost : ℤ) (step : ℤ × ℤ) (some : pos 0 ≤ℤ amount) (r
 
       pub past_gap : (g : Gap) (left right : Option (ℤ × ℤ)) → g ≡ gap_next (to_z w64 (of_z w64 (to_z w64 (of_z w64 amount) +ℤ to_z w64 (of_z w64 step.1)))) (to_z w128 (of_z w128 r)) left right → g ≡ gap_next (amount +ℤ step.1) (cost +ℤ (step.1 *ℤ step.0)) left right
       past_gap g left right h = h ∙ ap (λ z. gap_next z (to_z w128 (of_z w128 r)) left right) sum_is ∙ ap (λ z. gap_next (amount +ℤ step.1) z left right) cost_is
-
-eq_yes : (x y : ℤ) → x ≡ y → int_eq x y ≡ true
-eq_yes x y h = grind (arith, ints)
 
 eq_no : (x y : ℤ) → (x ≡ y → ⊥) → int_eq x y ≡ false
 eq_no x y h = grind (arith, ints)

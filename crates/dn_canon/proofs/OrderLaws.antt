@@ -1,18 +1,12 @@
 -- Lemmas that arcs sorted by pair are determined by the arcs of each pair.
 use Rattle.std.proofs.Common.{◌≡◌, ℤ, List, [], ◌∷◌, Bool, true, false, cond, refl, sym, ap, ◌∙◌, IsTrue}
 use Rattle.std.specs.List.{AllByRecursion}
-use Rattle.std.specs.Ordering.{is_eq, is_le, ordering_reverse}
+use Rattle.std.specs.Ordering.{is_eq, is_le}
 use Rattle.std.specs.declared.cmp.Ordering.{Ordering}
 use Rattle.std.specs.declared.cmp.Ordering.TheVariants.{Less, Equal, Greater}
-use Rattle.dn_arc.proofs.PairLaws.{pair_is, pair_self, pair_total}
+use Rattle.dn_arc.proofs.PairLaws.{pair_is, pair_self, pair_total, reversed}
 use Rattle.dn_arc.specs.Pairs.{bundle, pair_cmp, pair_le, same_pair}
 use Rattle.dn_canon.specs.CanonInstances.{AreInOrder}
-
--- an ordering whose reverse is `Greater` is `Less`
-reversed : (o : Ordering) → Greater ≡ ordering_reverse o → o ≡ Less
-reversed Less e = refl
-reversed Equal e = cc
-reversed Greater e = cc
 
 -- if p comes after q, q comes before p
 flipped : (p q : ℤ × ℤ) → pair_cmp p q ≡ Greater → pair_cmp q p ≡ Less

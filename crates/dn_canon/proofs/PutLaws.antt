@@ -1,10 +1,8 @@
 -- Lemmas on putting the lines of a text into a sink one by one.
 use Rattle.std.proofs.Common.{◌≡◌, ◌⊎◌, inl, inr, get_or, ℕ, ◌<◌, ◌≤◌, ℤ, List, [], ◌∷◌, ◌++◌, length, map, drop, Option, Some, None, slice_get, ap, sym, ◌∙◌, subst, arith, append-nil}
 use Rattle.std.proofs.lemmas.List.{drop_all, map-append}
-use Rattle.std.proofs.lemmas.List.Folds.{concat-append}
 use Rattle.std.proofs.lemmas.Option.{slice_get_cases}
 use Rattle.std.specs.Borrow.{Bor}
-use Rattle.std.specs.List.{concat}
 use Rattle.dn_line.specs.declared.kind.Kind.{Kind}
 use Rattle.dn_line.specs.declared.word.Keyword.TheVariants.{A, S, T}
 use Rattle.dn_arc.specs.Kinds.{ArcKind}
@@ -18,6 +16,7 @@ use Rattle.dn_canon.specs.State.Writes.{node_rows}
 use Rattle.dn_canon.specs.declared.writer.NodeLines.{NodeLines}
 use Rattle.dn_canon.specs.declared.writer.NodeLines.TheVariants.{Terminals}
 use Rattle.dn_sink.specs.Sinks.{SinkWords}
+use Rattle.dn_sink.proofs.RowLaws.{text-append}
 
 -- the line of the next row passes through the block
 pub row_more : {K : Type 0} {sink : SinkWords K} {a b c : K} {X : Type 0} {all line after : List ℕ} (row : X → Row) (before : List ℕ) (left rest : List X) (x : X) → left ≡ x ∷ rest
@@ -33,10 +32,6 @@ pub row_stop : {K : Type 0} {sink : SinkWords K} {a b c : K} {X : Type 0} {all l
 row_stop {K} {sink} {a} {b} {c} {X} {all} {line} row before left rest x e f h p =
     pass_stop before (line_text (row x)) (text_of (map row rest)) (subst (λ xs. HasPut sink a b (before ++ text_of (map row xs)) all) e h)
     (subst (λ l. PutsPrefix sink b c (before ++ l)) f p)
-
--- the text of two lists of rows is the text of the first and then that of the second
-text-append : (rs ss : List Row) → text_of (rs ++ ss) ≡ text_of rs ++ text_of ss
-text-append rs ss = ap concat (map-append line_text rs ss) ∙ concat-append (map line_text rs) (map line_text ss)
 
 -- the arc lines of a table are those of its next bundle and then those of the other bundles
 pub bundle_text : {B Arc : Type 0} (kind : ArcKind Arc) (tells : B → List Arc) (left rest : List ((ℤ × ℤ) × B)) (e : (ℤ × ℤ) × B) → left ≡ e ∷ rest

@@ -5,27 +5,13 @@ use Rattle.std.specs.Cmp.{IsTotalOrder}
 use Rattle.std.specs.List.{AllByRecursion}
 use Rattle.std.specs.List.Sorted.{IsStrictlySortedBy}
 use Rattle.std.specs.Map.{keys_of, lookup}
-use Rattle.std.specs.Ordering.{is_eq, match_ordering, ordering_reverse}
+use Rattle.std.specs.Ordering.{is_eq, match_ordering}
 use Rattle.std.specs.declared.cmp.Ordering.{Ordering}
 use Rattle.std.specs.declared.cmp.Ordering.TheVariants.{Less, Equal, Greater}
 use Rattle.std.proofs.lemmas.Map.Lookups.{CmpEqualImpliesEq}
 use Rattle.dn_compare.specs.State.Walks.{first_key, value_at, after_key, lesser_key}
 use Rattle.dn_compare.specs.State.Partings.{Comparison, AlikeAt, IsParting}
-
-equal_is : (o : Ordering) → is_eq o ≡ true → o ≡ Equal
-equal_is Less h = cc
-equal_is Equal h = refl
-equal_is Greater h = cc
-
-self_equal : (o : Ordering) → o ≡ ordering_reverse o → o ≡ Equal
-self_equal Less e = cc
-self_equal Equal e = refl
-self_equal Greater e = cc
-
-reversed : (o : Ordering) → Greater ≡ ordering_reverse o → o ≡ Less
-reversed Less e = refl
-reversed Equal e = cc
-reversed Greater e = cc
+use Rattle.dn_arc.proofs.PairLaws.{equal_is, self_equal, reversed}
 
 module _ {K : Type 0} (cmp : K → K → Ordering) (total : IsTotalOrder cmp) (exact : CmpEqualImpliesEq cmp) where
   -- whether a key q is the key p that is sought

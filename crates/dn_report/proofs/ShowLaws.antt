@@ -1,7 +1,5 @@
 -- Lemmas on the lines that `show` prints for a parsed instance.
-use Rattle.std.proofs.Common.{◌≡◌, ℕ, ℤ, pos, List, [], ◌∷◌, ◌++◌, length, map, codes, suc, refl, sym, ap, ◌∙◌, append_assoc}
-use Rattle.std.proofs.lemmas.List.{map-append}
-use Rattle.std.proofs.lemmas.List.Folds.{concat-append}
+use Rattle.std.proofs.Common.{◌≡◌, ℕ, ℤ, pos, List, [], ◌∷◌, ◌++◌, length, codes, suc, refl, sym, ap, ◌∙◌, append_assoc}
 use Rattle.std.specs.List.{concat}
 use Rattle.dn_line.specs.Names.{kind_name}
 use Rattle.dn_line.specs.declared.kind.Kind.{Kind}
@@ -9,10 +7,7 @@ use Rattle.dn_instance.specs.State.Helds.{Bundles, Contents, Holding, contents_k
 use Rattle.dn_sink.specs.Rows.{Row, line_text, text_of}
 use Rattle.dn_report.specs.Shows.{kind_row, number_row, pair_row, graph_rows, supply_rows, terminal_rows}
 use Rattle.dn_report.specs.State.ToldRows.{told_rows, table_rows, contents_rows, held_rows}
-
--- the text of two lists of rows is the text of the first and then that of the second
-text-append : (rs ss : List Row) → text_of (rs ++ ss) ≡ text_of rs ++ text_of ss
-text-append rs ss = ap concat (map-append line_text rs ss) ∙ concat-append (map line_text rs) (map line_text ss)
+use Rattle.dn_sink.proofs.RowLaws.{text-append}
 
 module _ {B Arc : Type 0} (words : List Arc → Row) (tells : B → List Arc) where
   -- the lines of a table are the line of the next bundle and then those of the other bundles

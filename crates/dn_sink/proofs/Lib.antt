@@ -1,2 +1,3 @@
 pub mod PutLaws
 pub mod MatchLaws
+pub mod RowLaws

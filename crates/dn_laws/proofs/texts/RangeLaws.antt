@@ -1,15 +1,13 @@
 -- Lemmas that the canonical arcs of ranges of SRC, one range after another, are the canonical arcs of the whole.
-use Rattle.std.proofs.Common.{◌≡◌, ◌↔◌, ◌-◌, ◌^◌, ℤ, pos, ◌≤ℤ◌, ◌<ℤ◌, List, [], ◌∷◌, ◌++◌, cond, int_lt, map, refl, sym, ap, ◌∙◌, subst, arith, append-nil, IsTrue}
+use Rattle.std.proofs.Common.{◌≡◌, ◌↔◌, ◌-◌, ◌^◌, ℤ, pos, ◌≤ℤ◌, ◌<ℤ◌, List, [], ◌∷◌, ◌++◌, cond, map, refl, sym, ap, ◌∙◌, subst, arith, append-nil, IsTrue}
 use Rattle.std.proofs.lemmas.Int.{ints}
 use Rattle.std.specs.List.{AllByRecursion, flat_map}
-use Rattle.std.specs.Ordering.{int_cmp, is_eq, is_le, ordering_then}
-use Rattle.std.specs.declared.cmp.Ordering.TheVariants.{Less, Equal, Greater}
+use Rattle.std.specs.Ordering.{is_eq, is_le}
 use Rattle.dn_arc.specs.declared.arc.Form.{Form}
 use Rattle.dn_arc.specs.State.Bundles.{IsKind}
 use Rattle.dn_arc.specs.Kinds.{ArcKind}
 use Rattle.dn_arc.proofs.OrdersLaws.{same_joined}
-use Rattle.dn_arc.proofs.PartsLaws.{test_yes}
-use Rattle.dn_arc.specs.Pairs.{bundle, pair_cmp, pair_le}
+use Rattle.dn_arc.specs.Pairs.{bundle, pair_le}
 use Rattle.dn_instance.specs.Instances.{Graph, Instance}
 use Rattle.dn_instance.specs.State.Parts.{AreParts, SameHead, arc_lines}
 use Rattle.dn_instance.specs.Sameness.{IsSame}
@@ -24,10 +22,7 @@ use Rattle.dn_laws.proofs.texts.ChunkLaws.{IsCanonMaking, by_kind, canons_valid,
 use Rattle.dn_canon.proofs.PartLaws.{all_append}
 use Rattle.dn_canon.proofs.TextLaws.{canon_one}
 use Rattle.dn_canon.proofs.ToldLaws.{all_from, at_some}
-
--- a pair with a lower SRC comes first
-below_less : (p q : ℤ × ℤ) → p.0 <ℤ q.0 → pair_cmp p q ≡ Less
-below_less p q h = ap (λ t. ordering_then (cond t Less (cond (int_lt q.0 p.0) Greater Equal)) (int_cmp p.1 q.1)) (test_yes p.0 q.0 h)
+use Rattle.pair_index.proofs.WalkLaws.{less_by_tail}
 
 -- a fact holds of each element
 each_of : {X : Type 0} (P : Type 0) → P → (xs : List X) → AllByRecursion (λ (x : X). P) xs
@@ -47,7 +42,7 @@ module _ {Arc : Type 0} where
   -- a pair whose SRC is below all SRCs has no arcs
   none_below : (p : ℤ × ℤ) (ys : List ((ℤ × ℤ) × Arc)) → AllByRecursion (λ b. p.0 <ℤ b.0.0) ys → bundle p ys ≡ []
   none_below p [] h = refl
-  none_below p (b ∷ ys) h = ap (λ o. cond (is_eq o) (b.1 ∷ bundle p ys) (bundle p ys)) (below_less p b.0 h.0) ∙ none_below p ys h.1
+  none_below p (b ∷ ys) h = ap (λ o. cond (is_eq o) (b.1 ∷ bundle p ys) (bundle p ys)) (less_by_tail p b.0 h.0) ∙ none_below p ys h.1
 
   -- each pair has arcs in at most one of the two lists
   in_one : (Q : List Arc → Type 0) (p : ℤ × ℤ) (xs ys : List ((ℤ × ℤ) × Arc)) → IsBelow xs ys → Q (bundle p xs) → Q (bundle p ys) → Q (bundle p (xs ++ ys))
@@ -63,7 +58,7 @@ module _ {Arc : Type 0} where
   order_joined : (xs ys : List ((ℤ × ℤ) × Arc)) → IsBelow xs ys → AreInOrder xs → AreInOrder ys → AreInOrder (xs ++ ys)
   order_joined [] ys below r s = s
   order_joined (a ∷ xs) ys below r s = (
-    all_append (λ b. IsTrue (pair_le a.0 b.0)) xs ys r.0 (all_mono (λ b. a.0.0 <ℤ b.0.0) (λ b. IsTrue (pair_le a.0 b.0)) (λ b h. ap is_le (below_less a.0 b.0 h)) ys below.0),
+    all_append (λ b. IsTrue (pair_le a.0 b.0)) xs ys r.0 (all_mono (λ b. a.0.0 <ℤ b.0.0) (λ b. IsTrue (pair_le a.0 b.0)) (λ b h. ap is_le (less_by_tail a.0 b.0 h)) ys below.0),
     order_joined xs ys below.1 r.1 s,
   )
 
