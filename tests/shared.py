@@ -48,13 +48,13 @@ class Tally:
     def leave_out(self, what: str, tool: str) -> None:
         """Prints that a part is left out, and which tool it needs. If CI=true is set, that is a failure."""
         if os.environ.get("CI") == "true":
-            self.fail(f"left out for want of {tool}: {what}")
+            self.fail(f"left out, since {tool} is missing: {what}")
         else:
             self.pass_over(what, tool)
 
     def pass_over(self, what: str, needs: str) -> None:
         """Prints that a part is left out because this machine does not allow it, and what it needs."""
-        print(f"left out for want of {needs}: {what}", flush=True)
+        print(f"left out, since {needs} is missing: {what}", flush=True)
 
     def end(self) -> int:
         """Prints how many checks passed and failed, and returns the status."""
