@@ -37,6 +37,7 @@ use Rattle.dn_instance.proofs.CleanItems.{or_none}
 use Rattle.dn_instance.proofs.MapLaws.{by_key_push, found_by_key}
 use Rattle.dn_arc.proofs.PairLaws.{int_self}
 use Rattle.dn_instance.proofs.PairLaws.{sought_is}
+use Rattle.dn_table.proofs.GrownLaws.{none_is}
 
 -- the answer on an item is that of its first fault
 abbrev pub Answering : ℤ → Draft → Line → Result (Unit {0}) ItemFault → Type 0
@@ -140,10 +141,6 @@ point_answer nodes id x y points r ans before p d =
     ∙ ap (λ b. point_fault b id) (sym (points_named id before) ∙ sym (found_by_key id (filter_map point_in before)) ∙ ap (λ m. is_some (lookup (is_at (int_cmp id)) m)) (sym d.holds))))
     ans
 
-not_some_is : {X : Type 0} (o : Option X) → is_some o ≡ false → o ≡ None
-not_some_is None h = refl
-not_some_is (Some x) h = cc
-
 -- a table holds what it held where an item is no arc
 pub table_kept : {B Arc : Type 0} (kind : ArcKind Arc) (arc_in : Line → Option ((ℤ × ℤ) × Arc)) (tells : B → List Arc) (table : List ((ℤ × ℤ) × B)) (before : List Line) (i : Line) → arcs_of arc_in (i ∷ []) ≡ [] → TableHolds kind arc_in tells table before → TableHolds kind arc_in tells table (before ++ i ∷ [])
 table_kept kind arc_in tells table before i e t =
@@ -155,7 +152,7 @@ source_stand nodes id a b a' t (Err e) ans ok before holds = tt
 source_stand nodes id a b a' t (Ok x) ans ok before holds =
     let one = none_first (not (in_graph nodes id)) NodeOutOfRange _ ans in
     let two = none_first (is_some a) RepeatedNode _ one.1 in
-    let none : terminal_of S before ≡ None = sym holds.0 ∙ not_some_is a two.0 in (
+    let none : terminal_of S before ≡ None = sym holds.0 ∙ none_is a two.0 in (
       ok ∙ sym (terminal_push S before (Item.Terminal id S) ∙ ap (λ o. option_or o (Some id)) none),
       holds.1 ∙ sym (terminal_push T before (Item.Terminal id S) ∙ or_none (terminal_of T before)),
       table_kept capacities cap_arc_in _ t before (Item.Terminal id S) refl holds.2,
@@ -166,7 +163,7 @@ sink_stand nodes id a b b' t (Err e) ans ok before holds = tt
 sink_stand nodes id a b b' t (Ok x) ans ok before holds =
     let one = none_first (not (in_graph nodes id)) NodeOutOfRange _ ans in
     let two = none_first (is_some b) RepeatedNode _ one.1 in
-    let none : terminal_of T before ≡ None = sym holds.1 ∙ not_some_is b two.0 in (
+    let none : terminal_of T before ≡ None = sym holds.1 ∙ none_is b two.0 in (
       holds.0 ∙ sym (terminal_push S before (Item.Terminal id T) ∙ or_none (terminal_of S before)),
       ok ∙ sym (terminal_push T before (Item.Terminal id T) ∙ ap (λ o. option_or o (Some id)) none),
       table_kept capacities cap_arc_in _ t before (Item.Terminal id T) refl holds.2,
