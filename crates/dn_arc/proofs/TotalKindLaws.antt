@@ -32,7 +32,7 @@ pub total-append : (xs ys : List CapArc) → total_cap (xs ++ ys) ≡ total_cap 
 total-append [] ys = omega (arith, ints)
 total-append (a ∷ xs) ys = let i = total-append xs ys in omega (arith, ints)
 
-total_some : (xs : List CapArc) → AllByRecursion IsCapArc xs → pos 0 ≤ℤ total_cap xs
+pub total_some : (xs : List CapArc) → AllByRecursion IsCapArc xs → pos 0 ≤ℤ total_cap xs
 total_some [] h = ≤ℤ_refl _
 total_some (a ∷ xs) h = let some = h.0.some in let i = total_some xs h.1 in omega (arith, ints)
 

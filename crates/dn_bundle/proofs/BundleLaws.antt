@@ -22,7 +22,7 @@ all_drop P [] (suc n) h = tt
 all_drop P (x ∷ xs) zero h = h
 all_drop P (x ∷ xs) (suc n) h = all_drop P xs n h.1
 
-all_end : {A : Type 0} (P : A → Type 0) (xs : List A) (x : A) → AllByRecursion P xs → P x → AllByRecursion P (xs ++ x ∷ [])
+pub all_end : {A : Type 0} (P : A → Type 0) (xs : List A) (x : A) → AllByRecursion P xs → P x → AllByRecursion P (xs ++ x ∷ [])
 all_end P [] x h p = (p, tt)
 all_end P (y ∷ xs) x h p = (h.0, all_end P xs x h.1 p)
 

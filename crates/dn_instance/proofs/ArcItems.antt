@@ -1,7 +1,7 @@
 -- Arc lines after the items before them: their first fault, and what the table comes to hold.
-use Rattle.std.proofs.Common.{◌≡◌, ◌-◌, ◌^◌, ℤ, pos, ◌≤ℤ◌, ◌+ℤ◌, List, [], ◌∷◌, ◌++◌, Bool, true, false, cond, not, ◌&&◌, int_lt, Option, Some, None, refl, sym, ap, ◌∙◌, subst, arith, inl, inr}
+use Rattle.std.proofs.Common.{◌≡◌, ◌-◌, ◌^◌, ℤ, pos, ◌+ℤ◌, List, [], ◌∷◌, ◌++◌, Bool, true, false, cond, not, ◌&&◌, int_lt, Option, Some, None, refl, sym, ap, ◌∙◌, subst, arith, inl, inr}
 use Rattle.std.proofs.lemmas.Int.{ints}
-use Rattle.std.specs.List.{list_all, AllByRecursion}
+use Rattle.std.specs.List.{list_all}
 use Rattle.dn_line.specs.declared.code.Code.{Code}
 use Rattle.dn_line.specs.declared.code.Code.TheVariants.{NodeOutOfRange, SumTooLarge}
 use Rattle.dn_line.specs.declared.kind.Kind.TheVariants as Kinds
@@ -10,9 +10,7 @@ use Rattle.dn_line.specs.declared.line.Line.TheVariants as Item
 use Rattle.dn_line.specs.Faults.{first_fault}
 use Rattle.dn_arc.specs.Kinds.{ArcKind, lengths, capacities}
 use Rattle.dn_arc.specs.Capacities.{total_cap}
-use Rattle.dn_arc.specs.Canonical.{IsCapArc}
 use Rattle.dn_arc.proofs.LengthsLaws.{least_of}
-use Rattle.dn_arc.specs.declared.arc.CapArc.{CapArc}
 use Rattle.dn_instance.specs.Items.{Problem, problem_of, arcs_of, length_arc_in, cap_arc_in}
 use Rattle.dn_instance.specs.TextFaults.{is_companion, is_in_range, item_tests}
 use Rattle.dn_instance.specs.State.ItemFaults.{in_graph, arc_fault}
@@ -20,7 +18,9 @@ use Rattle.dn_instance.specs.State.Drafts.{TableHolds}
 use Rattle.dn_arc.specs.Pairs.{bundle}
 use Rattle.dn_table.specs.State.Tables.{TableTells, AreArcs, Stays}
 use Rattle.dn_instance.proofs.SumLaws.{total_append, total_passes}
-use Rattle.dn_instance.proofs.ValidLaws.{all_push, arcs_push}
+use Rattle.dn_instance.proofs.ValidLaws.{arcs_push}
+use Rattle.dn_arc.proofs.TotalKindLaws.{total_some}
+use Rattle.dn_bundle.proofs.BundleLaws.{all_end}
 
 -- both nodes of a pair in range
 pub ends_range : (p : Problem) (s d : ℤ) → is_companion p.kind ≡ false → list_all (is_in_range (Some p)) (s ∷ d ∷ []) ≡ (in_graph p.nodes s && in_graph p.nodes d)
@@ -46,7 +46,7 @@ pub table_grown : {B Arc : Type 0} (kind : ArcKind Arc) (arc_in : Line → Optio
     → AreArcs kind (arcs_of arc_in before) → kind.IsArc a.1 → TableTells kind tells table (arcs_of arc_in before ++ a ∷ []) → TableHolds kind arc_in tells table (before ++ i ∷ [])
 table_grown kind arc_in tells table before i a e are is t = record {
   tells_them = subst (TableTells kind tells table) (sym e) t;
-  are_arcs = subst (AreArcs kind) (sym e) (all_push (λ b. kind.IsArc b.1) (arcs_of arc_in before) a are is);
+  are_arcs = subst (AreArcs kind) (sym e) (all_end (λ b. kind.IsArc b.1) (arcs_of arc_in before) a are is);
 }
 
 no_arcs_more : {A : Type 0} (xs : List A) (a : A) → xs ++ a ∷ [] ≡ [] → ⊥
@@ -59,10 +59,6 @@ length_stays xs a are is same = elim (least_of (xs ++ a ∷ [])) [
   | inl e ↦ absurd (no_arcs_more xs a e)
   | inr w ↦ absurd (same.there w.0 w.1).has
 ]
-
-total_some : (xs : List CapArc) → AllByRecursion IsCapArc xs → pos 0 ≤ℤ total_cap xs
-total_some [] h = omega (arith, ints)
-total_some (x ∷ xs) h = let i = total_some xs h.1 in let s = h.0.some in omega (arith, ints)
 
 -- a capacity does not go away
 pub cap_stays : Stays capacities

@@ -18,9 +18,8 @@ use Rattle.dn_line.specs.declared.word.Keyword.{Keyword}
 use Rattle.dn_line.specs.declared.word.Keyword.TheVariants as Key
 use Rattle.dn_line.specs.declared.word.Word.{Word}
 use Rattle.dn_instance.specs.State.ArcRuns.{AreFaultless, AreInTime, arc_items}
-use Rattle.dn_instance.specs.State.Drafts.{HasSigns}
+use Rattle.dn_instance.specs.State.Drafts.{HasRoom, HasSigns}
 use Rattle.dn_instance.specs.Items.{Problem, counted, is_counted, kind_known, problem_of}
-use Rattle.dn_instance.specs.State.Progresses.{HasRoom}
 use Rattle.dn_line.specs.declared.code.Code.TheVariants.{LateNode, TooManyLines}
 use Rattle.dn_instance.specs.TextFaults.{is_arc, is_companion, is_counted_letter, is_full, is_node_letter, item_tests, order_tests}
 use Rattle.dn_instance.specs.Texts.{IsClean, items_of}

@@ -1,7 +1,7 @@
 -- Arcs that are taken one after the other.
 use Rattle.std.proofs.Common.{◌≡◌, ◌<◌, ◌≤◌, ◌+◌, ◌-◌, ◌^◌, ◌+ℤ◌, ◌-ℤ◌, negsuc, FitsSigned, w64, ℕ, zero, suc, ℤ, pos, ◌≤ℤ◌, ◌<ℤ◌, List, [], ◌∷◌, ◌++◌, length, take, get_or, filter, true, false, cond, not, ◌||◌, int_lt, Option, Some, None, Result, Ok, Err, OnOk, refl, sym, subst, ap, ◌∙◌, arith, append-nil, append_assoc, length-append}
 use Rattle.std.specs.List.{AllByRecursion, list_any}
-use Rattle.std.specs.Option.{option_or}
+use Rattle.std.specs.Option.{option_map, option_or}
 use Rattle.std.specs.Result.{is_err}
 use Rattle.std.proofs.Math.Bool.{or-true}
 use Rattle.std.specs.Int.{saturate_signed}
@@ -23,12 +23,12 @@ use Rattle.dn_instance.specs.State.ArcRuns.{AreFaultless, AreInTime, Joins, arc_
 use Rattle.dn_instance.specs.State.Drafts.{DraftHolds, HasSigns, draft_kind}
 use Rattle.dn_instance.specs.State.ItemFaults.{AnswersFault}
 use Rattle.dn_instance.specs.Items.{Problem, counted, is_counted, problem_in, problem_of}
-use Rattle.dn_instance.specs.State.Progresses.{ProgressAt}
+use Rattle.dn_instance.specs.State.TextsSoFar.{HasRead, problem_as}
 use Rattle.dn_instance.specs.TextFaults.{is_arc, is_companion, is_full, item_tests}
 use Rattle.dn_instance.specs.declared.draft.Draft.{Draft}
-use Rattle.dn_instance.specs.declared.progress.Progress.{Progress}
 use Rattle.dn_instance.specs.declared.refusal.ItemFault.{ItemFault}
-use Rattle.dn_instance.proofs.ProgressLaws.{counted_yes, problem_kept}
+use Rattle.dn_instance.specs.declared.text_so_far.TextSoFar.{TextSoFar}
+use Rattle.dn_instance.proofs.ItemSteps.{counted_yes, problem_kept, problem_told}
 
 -- one item more without fault
 faultless_more : (before items : List Line) (i : Line) → AreFaultless before items → first_fault (item_tests (before ++ items) (Some i)) ≡ None → AreFaultless before (items ++ i ∷ [])
@@ -127,32 +127,32 @@ come_in_time kind (a ∷ arcs) before p c h r =
     shift k n = omega arith
 
 -- what has been read with arcs more
-module _ (p : Progress) (d : Draft) (before : List Line) (at : ProgressAt p before) (same : draft_kind d ≡ draft_kind p.draft) (graph : is_companion (draft_kind p.draft) ≡ false) where
-  arcs_then : (arcs : List ArcLine) (n : ℤ) → n ≡ pos (counted before + length arcs) → list_any is_arc (before ++ arc_items (draft_kind p.draft) arcs) ≡ int_lt (pos 0) n
+module _ (t : TextSoFar) (d : Draft) (kind : Kind) (before : List Line) (at : HasRead t before) (is : draft_kind t.draft ≡ Some kind) (kept : draft_kind d ≡ draft_kind t.draft) (graph : is_companion kind ≡ false) where
+  arcs_then : (arcs : List ArcLine) (n : ℤ) → n ≡ pos (counted before + length arcs) → list_any is_arc (before ++ arc_items kind arcs) ≡ int_lt (pos 0) n
   arcs_then [] n e =
-      ap (list_any is_arc) (append-nil before) ∙ at.arcs_are graph ∙ ap (int_lt (pos 0)) (at.counted_is ∙ sym (e ∙ ap pos (none (counted before))))
+      ap (list_any is_arc) (append-nil before) ∙ at.arcs_are kind is graph ∙ ap (int_lt (pos 0)) (at.counted_is ∙ sym (e ∙ ap pos (none (counted before))))
     where
       none : (k : ℕ) → k + 0 ≡ k
       none k = omega arith
   arcs_then (a ∷ arcs) n e =
-      list_any-append is_arc before (arc_items (draft_kind p.draft) (a ∷ arcs))
-      ∙ ap (λ b. list_any is_arc before || (b || list_any is_arc (arc_items (draft_kind p.draft) arcs))) (one_arc (draft_kind p.draft) a graph)
+      list_any-append is_arc before (arc_items kind (a ∷ arcs))
+      ∙ ap (λ b. list_any is_arc before || (b || list_any is_arc (arc_items kind arcs))) (one_arc kind a graph)
       ∙ or-true (list_any is_arc before)
       ∙ sym (ap (int_lt (pos 0)) e ∙ above (counted before) (length arcs))
     where
       above : (k m : ℕ) → int_lt (pos 0) (pos (k + suc m)) ≡ true
       above k m = grind (arith, ints, nat_tests)
 
-  pub arcs_read : (arcs : List ArcLine) (n : ℤ) → n ≡ pos (counted before + length arcs) → counted before + length arcs < 2 ^ 63 → DraftHolds d (before ++ arc_items (draft_kind p.draft) arcs)
-      → ProgressAt (record { nodes = p.nodes; count = p.count; counted = n; draft = d }) (before ++ arc_items (draft_kind p.draft) arcs)
+  pub arcs_read : (arcs : List ArcLine) (n : ℤ) → n ≡ pos (counted before + length arcs) → counted before + length arcs < 2 ^ 63 → DraftHolds d (before ++ arc_items kind arcs)
+      → HasRead (record t { counted = n; draft = d }) (before ++ arc_items kind arcs)
   arcs_read arcs n e few h =
-      let all = counted_all (draft_kind p.draft) before arcs graph in
+      let all = counted_all kind before arcs graph in
       record {
-        problem_is = problem_all before (arc_items (draft_kind p.draft) arcs) _ at.problem_is ∙ ap (λ k. Some (record { kind = k; nodes = p.nodes; count = p.count })) (sym same);
+        problem_is = problem_all before (arc_items kind arcs) _ (problem_told t before kind at is) ∙ sym (ap (option_map (problem_as t)) (kept ∙ is));
         count_fits = at.count_fits;
         counted_is = e ∙ ap pos (sym all);
         counted_few = subst (λ k. k < 2 ^ 63) (sym all) few;
-        arcs_are = λ _. arcs_then arcs n e;
+        arcs_are = λ _ _ _. arcs_then arcs n e;
         holds = h;
       }
 

@@ -23,8 +23,9 @@ use Rattle.dn_instance.specs.State.ItemFaults.{in_graph, arc_fault}
 use Rattle.dn_arc.specs.Pairs.{bundle}
 use Rattle.dn_table.specs.State.Tables.{Stays}
 use Rattle.dn_instance.proofs.SumLaws.{passes, cost_passes}
-use Rattle.dn_instance.proofs.ValidLaws.{all_push, arcs_push}
+use Rattle.dn_instance.proofs.ValidLaws.{arcs_push}
 use Rattle.dn_instance.proofs.ArcItems.{stray_is}
+use Rattle.dn_bundle.proofs.BundleLaws.{all_end}
 
 -- arcs without capacity carry nothing
 none_carried : (xs : List CostArc) → AllByRecursion IsCostArc xs → cost_cap xs ≡ pos 0 → SameAbove xs []
@@ -41,7 +42,7 @@ none_carried (a ∷ xs) are e =
 -- what can be carried can still be with an arc more
 pub cost_stays : Stays costs
 cost_stays xs a are is nothing =
-    let all = cost_cap_same (xs ++ a ∷ []) [] (all_push IsCostArc xs a are is) tt nothing in
+    let all = cost_cap_same (xs ++ a ∷ []) [] (all_end IsCostArc xs a are is) tt nothing in
     let parts = cost_kind.capacity_append xs (a ∷ []) in
     let some = cost_kind.capacity_some xs are in
     let low = is.some in

@@ -10,6 +10,7 @@ use Rattle.std.specs.BTreeMap.{BTreeMap, is_at, insert_entry}
 use Rattle.std.specs.Map.{lookup}
 use Rattle.dn_line.specs.declared.code.Code.{Code}
 use Rattle.dn_line.specs.declared.code.Code.TheVariants.{NodeOutOfRange, RepeatedNode, SameTerminal}
+use Rattle.dn_line.specs.declared.kind.Kind.{Kind}
 use Rattle.dn_line.specs.declared.kind.Kind.TheVariants as Kinds
 use Rattle.dn_line.specs.declared.kind.Letter.{Letter}
 use Rattle.dn_line.specs.declared.kind.Letter.TheVariants.{S, T}
@@ -20,7 +21,7 @@ use Rattle.dn_line.specs.Faults.{first_fault}
 use Rattle.dn_instance.specs.declared.draft.Draft.{Draft}
 use Rattle.dn_instance.specs.declared.draft.Draft.TheVariants as Drafts
 use Rattle.dn_instance.specs.declared.refusal.ItemFault.{ItemFault}
-use Rattle.dn_instance.specs.State.Drafts.{draft_kind, DraftHolds, TableHolds}
+use Rattle.dn_instance.specs.State.Drafts.{draft_kind, DraftHolds, IsDraftOf, TableHolds}
 use Rattle.dn_instance.specs.Items.{Problem, problem_of, problem_in, arcs_of, length_arc_in, cap_arc_in, cost_arc_in, terminal_of, source_in, query_in, point_in, by_key}
 use Rattle.dn_instance.specs.State.ItemFaults.{AnswersFault, in_graph, terminal_fault, id_fault, pair_fault, point_fault}
 use Rattle.dn_instance.specs.TextFaults.{is_companion, is_in_range, is_id, item_tests, has_point}
@@ -36,10 +37,11 @@ use Rattle.dn_instance.proofs.CleanItems.{or_none}
 use Rattle.dn_instance.proofs.MapLaws.{by_key_push, found_by_key}
 use Rattle.dn_arc.proofs.PairLaws.{int_self}
 use Rattle.dn_instance.proofs.PairLaws.{sought_is}
+use Rattle.dn_table.proofs.GrownLaws.{none_is}
 
 -- the answer on an item is that of its first fault
 abbrev pub Answering : ℤ → Draft → Line → Result (Unit {0}) ItemFault → Type 0
-Answering nodes d l r = (before : List Line) (p : Problem) → problem_of before ≡ Some p → p.kind ≡ draft_kind d → p.nodes ≡ nodes → DraftHolds d before → AnswersFault r (first_fault (item_tests before (Some l)))
+Answering nodes d l r = (before : List Line) (p : Problem) → IsDraftOf d nodes p before → AnswersFault r (first_fault (item_tests before (Some l)))
 
 -- what is held with the item, where it is taken
 abbrev pub Standing : Draft → Line → Draft → Result (Unit {0}) ItemFault → Type 0
@@ -51,6 +53,9 @@ to_answer nodes d d' l l' r r' e f g h = subst (λ x. Answering nodes x l r) (sy
 pub to_stand : (d d' : Draft) (l l' : Line) (e e' : Draft) (r r' : Result (Unit {0}) ItemFault) → d ≡ d' → l ≡ l' → e ≡ e' → r ≡ r' → Standing d' l' e' r' → Standing d l e r
 to_stand d d' l l' e e' r r' a b c f h =
     subst (λ x. Standing x l e r) (sym a) (subst (λ x. Standing d' x e r) (sym b) (subst (λ x. Standing d' l' x r) (sym c) (subst (Standing d' l' e') (sym f) h)))
+
+pub own_kind : {a b : Kind} → Some a ≡ Some b → b ≡ a
+own_kind h = cc
 
 and_one : (a : Bool) → (a && true) ≡ a
 and_one true = refl
@@ -87,28 +92,28 @@ abbrev pub or_else : Bool → Code → Option Code → Option Code
 or_else b c later = cond b (Some c) later
 
 pub source_answer : (nodes id : ℤ) (a b : Option ℤ) (t : _) (r : Result (Unit {0}) ItemFault) → AnswersFault r (terminal_fault nodes a b id) → Answering nodes (Drafts.Max a b t) (Item.Terminal id S) r
-source_answer nodes id a b t r ans before p h k n holds =
+source_answer nodes id a b t r ans before p d =
     subst (AnswersFault r)
-    (sym (ap (λ x. or_else x NodeOutOfRange (or_else (is_some (terminal_of S before)) RepeatedNode (or_else (is_id id (terminal_of T before)) SameTerminal None))) (stray_one before p h id (ap is_companion k))
-    ∙ ap (λ m. terminal_fault m (terminal_of S before) (terminal_of T before) id) n
-    ∙ ap (λ x. terminal_fault nodes x (terminal_of T before) id) (sym holds.0)
-    ∙ ap (λ x. terminal_fault nodes a x id) (sym holds.1)))
+    (sym (ap (λ x. or_else x NodeOutOfRange (or_else (is_some (terminal_of S before)) RepeatedNode (or_else (is_id id (terminal_of T before)) SameTerminal None))) (stray_one before p d.problem_is id (ap is_companion (own_kind d.kind_is)))
+    ∙ ap (λ m. terminal_fault m (terminal_of S before) (terminal_of T before) id) d.nodes_are
+    ∙ ap (λ x. terminal_fault nodes x (terminal_of T before) id) (sym d.holds.0)
+    ∙ ap (λ x. terminal_fault nodes a x id) (sym d.holds.1)))
     ans
 
 pub sink_answer : (nodes id : ℤ) (a b : Option ℤ) (t : _) (r : Result (Unit {0}) ItemFault) → AnswersFault r (terminal_fault nodes b a id) → Answering nodes (Drafts.Max a b t) (Item.Terminal id T) r
-sink_answer nodes id a b t r ans before p h k n holds =
+sink_answer nodes id a b t r ans before p d =
     subst (AnswersFault r)
-    (sym (ap (λ x. or_else x NodeOutOfRange (or_else (is_some (terminal_of T before)) RepeatedNode (or_else (is_id id (terminal_of S before)) SameTerminal None))) (stray_one before p h id (ap is_companion k))
-    ∙ ap (λ m. terminal_fault m (terminal_of T before) (terminal_of S before) id) n
-    ∙ ap (λ x. terminal_fault nodes x (terminal_of S before) id) (sym holds.1)
-    ∙ ap (λ x. terminal_fault nodes b x id) (sym holds.0)))
+    (sym (ap (λ x. or_else x NodeOutOfRange (or_else (is_some (terminal_of T before)) RepeatedNode (or_else (is_id id (terminal_of S before)) SameTerminal None))) (stray_one before p d.problem_is id (ap is_companion (own_kind d.kind_is)))
+    ∙ ap (λ m. terminal_fault m (terminal_of T before) (terminal_of S before) id) d.nodes_are
+    ∙ ap (λ x. terminal_fault nodes x (terminal_of S before) id) (sym d.holds.1)
+    ∙ ap (λ x. terminal_fault nodes b x id) (sym d.holds.0)))
     ans
 
 pub id_answer : (nodes id : ℤ) (ids : _) (r : Result (Unit {0}) ItemFault) → AnswersFault r (id_fault id) → Answering nodes (Drafts.Ss ids) (Item.Source id) r
-id_answer nodes id ids r ans before p h k n holds = subst (AnswersFault r) (sym (ap (λ x. or_else x NodeOutOfRange None) (stray_id before p h id (ap is_companion k)))) ans
+id_answer nodes id ids r ans before p d = subst (AnswersFault r) (sym (ap (λ x. or_else x NodeOutOfRange None) (stray_id before p d.problem_is id (ap is_companion (own_kind d.kind_is))))) ans
 
 pub pair_answer : (nodes : ℤ) (pair : ℤ × ℤ) (pairs : _) (r : Result (Unit {0}) ItemFault) → AnswersFault r (pair_fault pair) → Answering nodes (Drafts.P2p pairs) (Item.Query pair.0 pair.1) r
-pair_answer nodes pair pairs r ans before p h k n holds = subst (AnswersFault r) (sym (ap (λ x. or_else x NodeOutOfRange None) (stray_ids before p h pair.0 pair.1 (ap is_companion k)))) ans
+pair_answer nodes pair pairs r ans before p d = subst (AnswersFault r) (sym (ap (λ x. or_else x NodeOutOfRange None) (stray_ids before p d.problem_is pair.0 pair.1 (ap is_companion (own_kind d.kind_is))))) ans
 
 int_eq_is : (a b : ℤ) → int_eq a b ≡ true → a ≡ b
 int_eq_is a b h = grind (arith, ints, nat_tests)
@@ -130,15 +135,11 @@ points_named q (Item.Point id x y ∷ rest) = ap (λ b. b || list_any (λ e. is_
 points_named q (_ ∷ rest) = points_named q rest
 
 pub point_answer : (nodes id x y : ℤ) (points : BTreeMap ℤ (ℤ × ℤ)) (r : Result (Unit {0}) ItemFault) → AnswersFault r (point_fault (is_some (lookup (is_at (int_cmp id)) points.entries)) id) → Answering nodes (Drafts.Co points) (Item.Point id x y) r
-point_answer nodes id x y points r ans before p h k n holds =
+point_answer nodes id x y points r ans before p d =
     subst (AnswersFault r)
-    (sym (ap (λ z. or_else z NodeOutOfRange (or_else (list_any (has_point id) before) RepeatedNode None)) (stray_id before p h id (ap is_companion k))
-    ∙ ap (λ b. point_fault b id) (sym (points_named id before) ∙ sym (found_by_key id (filter_map point_in before)) ∙ ap (λ m. is_some (lookup (is_at (int_cmp id)) m)) (sym holds))))
+    (sym (ap (λ z. or_else z NodeOutOfRange (or_else (list_any (has_point id) before) RepeatedNode None)) (stray_id before p d.problem_is id (ap is_companion (own_kind d.kind_is)))
+    ∙ ap (λ b. point_fault b id) (sym (points_named id before) ∙ sym (found_by_key id (filter_map point_in before)) ∙ ap (λ m. is_some (lookup (is_at (int_cmp id)) m)) (sym d.holds))))
     ans
-
-not_some_is : {X : Type 0} (o : Option X) → is_some o ≡ false → o ≡ None
-not_some_is None h = refl
-not_some_is (Some x) h = cc
 
 -- a table holds what it held where an item is no arc
 pub table_kept : {B Arc : Type 0} (kind : ArcKind Arc) (arc_in : Line → Option ((ℤ × ℤ) × Arc)) (tells : B → List Arc) (table : List ((ℤ × ℤ) × B)) (before : List Line) (i : Line) → arcs_of arc_in (i ∷ []) ≡ [] → TableHolds kind arc_in tells table before → TableHolds kind arc_in tells table (before ++ i ∷ [])
@@ -151,7 +152,7 @@ source_stand nodes id a b a' t (Err e) ans ok before holds = tt
 source_stand nodes id a b a' t (Ok x) ans ok before holds =
     let one = none_first (not (in_graph nodes id)) NodeOutOfRange _ ans in
     let two = none_first (is_some a) RepeatedNode _ one.1 in
-    let none : terminal_of S before ≡ None = sym holds.0 ∙ not_some_is a two.0 in (
+    let none : terminal_of S before ≡ None = sym holds.0 ∙ none_is a two.0 in (
       ok ∙ sym (terminal_push S before (Item.Terminal id S) ∙ ap (λ o. option_or o (Some id)) none),
       holds.1 ∙ sym (terminal_push T before (Item.Terminal id S) ∙ or_none (terminal_of T before)),
       table_kept capacities cap_arc_in _ t before (Item.Terminal id S) refl holds.2,
@@ -162,7 +163,7 @@ sink_stand nodes id a b b' t (Err e) ans ok before holds = tt
 sink_stand nodes id a b b' t (Ok x) ans ok before holds =
     let one = none_first (not (in_graph nodes id)) NodeOutOfRange _ ans in
     let two = none_first (is_some b) RepeatedNode _ one.1 in
-    let none : terminal_of T before ≡ None = sym holds.1 ∙ not_some_is b two.0 in (
+    let none : terminal_of T before ≡ None = sym holds.1 ∙ none_is b two.0 in (
       holds.0 ∙ sym (terminal_push S before (Item.Terminal id T) ∙ or_none (terminal_of S before)),
       ok ∙ sym (terminal_push T before (Item.Terminal id T) ∙ ap (λ o. option_or o (Some id)) none),
       table_kept capacities cap_arc_in _ t before (Item.Terminal id T) refl holds.2,
@@ -200,35 +201,41 @@ none_told kind arc_in tells laws = record {
   are_arcs = tt;
 }
 
--- a problem line adds nothing to what no items make
-pub held_problem : (d : Draft) (i : Line) → IsSome (problem_in i) → DraftHolds d [] → DraftHolds d (i ∷ [])
-held_problem d (Item.Graph k n c) h holds = by_kind d holds
+-- a problem line adds nothing to what the draft of its kind begins with
+pub held_problem : (d : Draft) (i : Line) → IsSome (problem_in i) → IsSome (draft_kind d) → DraftHolds d [] → DraftHolds d (i ∷ [])
+held_problem d (Item.Graph k n c) h some holds = by_kind d some holds
   where
-    by_kind : (d : Draft) → DraftHolds d [] → DraftHolds d (Item.Graph k n c ∷ [])
-    by_kind (Drafts.Min s z t) holds = (holds.0, holds.1, table_kept costs cost_arc_in _ t [] (Item.Graph k n c) refl holds.2)
-    by_kind (Drafts.Max a b t) holds = (holds.0, holds.1, table_kept capacities cap_arc_in _ t [] (Item.Graph k n c) refl holds.2)
-    by_kind (Drafts.Sp t) holds = table_kept lengths length_arc_in _ t [] (Item.Graph k n c) refl holds
-    by_kind (Drafts.Ss ids) holds = holds
-    by_kind (Drafts.P2p pairs) holds = holds
-    by_kind (Drafts.Co points) holds = holds
-held_problem d (Item.Aux k c) h holds = by_kind d holds
+    by_kind : (d : Draft) → IsSome (draft_kind d) → DraftHolds d [] → DraftHolds d (Item.Graph k n c ∷ [])
+    by_kind Drafts.Empty some holds = cc
+    by_kind (Drafts.Min s z t) some holds = (holds.0, holds.1, table_kept costs cost_arc_in _ t [] (Item.Graph k n c) refl holds.2)
+    by_kind (Drafts.Max a b t) some holds = (holds.0, holds.1, table_kept capacities cap_arc_in _ t [] (Item.Graph k n c) refl holds.2)
+    by_kind (Drafts.Sp t) some holds = table_kept lengths length_arc_in _ t [] (Item.Graph k n c) refl holds
+    by_kind (Drafts.Ss ids) some holds = holds
+    by_kind (Drafts.P2p pairs) some holds = holds
+    by_kind (Drafts.Co points) some holds = holds
+held_problem d (Item.Aux k c) h some holds = by_kind d some holds
   where
-    by_kind : (d : Draft) → DraftHolds d [] → DraftHolds d (Item.Aux k c ∷ [])
-    by_kind (Drafts.Min s z t) holds = (holds.0, holds.1, table_kept costs cost_arc_in _ t [] (Item.Aux k c) refl holds.2)
-    by_kind (Drafts.Max a b t) holds = (holds.0, holds.1, table_kept capacities cap_arc_in _ t [] (Item.Aux k c) refl holds.2)
-    by_kind (Drafts.Sp t) holds = table_kept lengths length_arc_in _ t [] (Item.Aux k c) refl holds
-    by_kind (Drafts.Ss ids) holds = holds
-    by_kind (Drafts.P2p pairs) holds = holds
-    by_kind (Drafts.Co points) holds = holds
-held_problem d Item.Skip h holds = cc
-held_problem d (Item.Supply _ _) h holds = cc
-held_problem d (Item.Terminal _ _) h holds = cc
-held_problem d (Item.MinArc _ _ _ _ _) h holds = cc
-held_problem d (Item.MaxArc _ _ _) h holds = cc
-held_problem d (Item.SpArc _ _ _) h holds = cc
-held_problem d (Item.Source _) h holds = cc
-held_problem d (Item.Query _ _) h holds = cc
-held_problem d (Item.Point _ _ _) h holds = cc
+    by_kind : (d : Draft) → IsSome (draft_kind d) → DraftHolds d [] → DraftHolds d (Item.Aux k c ∷ [])
+    by_kind Drafts.Empty some holds = cc
+    by_kind (Drafts.Min s z t) some holds = (holds.0, holds.1, table_kept costs cost_arc_in _ t [] (Item.Aux k c) refl holds.2)
+    by_kind (Drafts.Max a b t) some holds = (holds.0, holds.1, table_kept capacities cap_arc_in _ t [] (Item.Aux k c) refl holds.2)
+    by_kind (Drafts.Sp t) some holds = table_kept lengths length_arc_in _ t [] (Item.Aux k c) refl holds
+    by_kind (Drafts.Ss ids) some holds = holds
+    by_kind (Drafts.P2p pairs) some holds = holds
+    by_kind (Drafts.Co points) some holds = holds
+held_problem d Item.Skip h some holds = cc
+held_problem d (Item.Supply _ _) h some holds = cc
+held_problem d (Item.Terminal _ _) h some holds = cc
+held_problem d (Item.MinArc _ _ _ _ _) h some holds = cc
+held_problem d (Item.MaxArc _ _ _) h some holds = cc
+held_problem d (Item.SpArc _ _ _) h some holds = cc
+held_problem d (Item.Source _) h some holds = cc
+held_problem d (Item.Query _ _) h some holds = cc
+held_problem d (Item.Point _ _ _) h some holds = cc
+
+-- a draft of some kind is not empty
+pub no_empty : (d : Draft) (kind : Kind) → Drafts.Empty ≡ d → draft_kind d ≡ Some kind → ⊥
+no_empty d kind e h = let never : None ≡ Some kind = ap draft_kind e ∙ h in cc
 
 -- no line of a kind of text but its own
 pub no_min : (i : Line) → Some Kinds.Min ≡ kind_before i → ((id flow : ℤ) → i ≡ Item.Supply id flow → ⊥) → ((src dst low top cost : ℤ) → i ≡ Item.MinArc src dst low top cost → ⊥) → ⊥

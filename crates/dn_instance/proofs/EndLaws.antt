@@ -3,6 +3,7 @@ use Rattle.std.proofs.Common.{◌≡◌, ℤ, pos, List, [], ◌∷◌, Bool, tr
 use Rattle.std.specs.Option.{option_map}
 use Rattle.dn_line.specs.declared.code.Code.{Code}
 use Rattle.dn_line.specs.declared.code.Code.TheVariants.{NoProblem, MissingTerminal, TooFewLines}
+use Rattle.dn_line.specs.declared.kind.Kind.{Kind}
 use Rattle.dn_line.specs.declared.kind.Letter.TheVariants.{S, T}
 use Rattle.dn_line.specs.declared.line.Line.{Line}
 use Rattle.dn_line.specs.Faults.{first_fault}
@@ -15,10 +16,10 @@ use Rattle.dn_table.proofs.GrownLaws.{stands_as}
 use Rattle.dn_instance.specs.Instances.{Graph, MaxFlow}
 use Rattle.dn_instance.specs.Items.{Problem, counted, terminal_of, graph_of, max_flow, arcs_of, cap_arc_in}
 use Rattle.dn_instance.specs.TextFaults.{end_fault, lacks_terminal, is_full}
-use Rattle.dn_instance.specs.State.Progresses.{ProgressAt}
 use Rattle.dn_instance.specs.State.Drafts.{draft_kind, DraftHolds}
 use Rattle.dn_instance.specs.State.Ends.{Makes, EndsWith}
 use Rattle.dn_instance.specs.State.Helds.{Bundles, Shows, contents_of, holding}
+use Rattle.dn_instance.specs.State.TextsSoFar.{HasRead, problem_as}
 use Rattle.dn_instance.specs.declared.content.Content.{Content}
 use Rattle.dn_instance.specs.declared.content.Content.TheVariants as Kept
 use Rattle.dn_instance.specs.declared.draft.Draft.{Draft}
@@ -26,47 +27,57 @@ use Rattle.dn_instance.specs.declared.draft.Draft.TheVariants as Drafts
 use Rattle.dn_arc.specs.declared.arc.CapArc.{CapArc}
 use Rattle.dn_bundle.specs.declared.total.Total.{Total}
 use Rattle.dn_instance.specs.declared.held.Held.{Held}
-use Rattle.dn_instance.specs.declared.progress.Progress.{Progress}
+use Rattle.dn_instance.specs.declared.text_so_far.TextSoFar.{TextSoFar}
+use Rattle.dn_instance.proofs.ItemSteps.{problem_told}
 
 -- the faults at the end, by the problem
 abbrev ends_by : Option Problem → List Line → Option Code
 ends_by o items = first_fault ((NoProblem, is_none o) ∷ (MissingTerminal, lacks_terminal (option_map (λ (p : Problem). p.kind) o) items) ∷ (TooFewLines, not (is_full o (counted items))) ∷ [])
 
-end_is : (p : Progress) (items : List Line) (lacks few : Bool) → ProgressAt p items → lacks_terminal (Some (draft_kind p.draft)) items ≡ lacks → int_lt p.counted p.count ≡ few
+end_is : (t : TextSoFar) (items : List Line) (kind : Kind) (lacks few : Bool) → HasRead t items → draft_kind t.draft ≡ Some kind → lacks_terminal (Some kind) items ≡ lacks → int_lt t.counted t.count ≡ few
     → end_fault items ≡ cond lacks (Some MissingTerminal) (cond few (Some TooFewLines) None)
-end_is p items lacks few at l f =
-    ap (λ o. ends_by o items) at.problem_is
-    ∙ ap (λ b. cond b (Some MissingTerminal) (cond (not (not (int_lt (pos (counted items)) p.count))) (Some TooFewLines) None)) l
-    ∙ ap (λ b. cond lacks (Some MissingTerminal) (cond b (Some TooFewLines) None)) (twice (int_lt (pos (counted items)) p.count) ∙ ap (λ n. int_lt n p.count) (sym at.counted_is) ∙ f)
+end_is t items kind lacks few at is l f =
+    ap (λ o. ends_by o items) (problem_told t items kind at is)
+    ∙ ap (λ b. cond b (Some MissingTerminal) (cond (not (not (int_lt (pos (counted items)) t.count))) (Some TooFewLines) None)) l
+    ∙ ap (λ b. cond lacks (Some MissingTerminal) (cond b (Some TooFewLines) None)) (twice (int_lt (pos (counted items)) t.count) ∙ ap (λ n. int_lt n t.count) (sym at.counted_is) ∙ f)
   where
     twice : (b : Bool) → not (not b) ≡ b
     twice true = refl
     twice false = refl
 
 -- all is there
-pub ends_whole : (p : Progress) (items : List Line) (content : Content) (held : Held) → ProgressAt p items → Makes (draft_kind p.draft) p.nodes items (Ok content) → int_lt p.counted p.count ≡ false
-    → (holding held).nodes ≡ p.nodes → (holding held).lines ≡ p.counted → (holding held).contents ≡ contents_of content → EndsWith items (Ok held)
-ends_whole p items content held at made enough nodes lines contents = (
-  end_is p items false false at made.0 enough,
-  record {
-    problem = record { kind = draft_kind p.draft; nodes = p.nodes; count = p.count };
-    problem_is = at.problem_is;
-    instance = made.1.0;
-    made = made.1.1;
-    nodes_are = nodes;
-    lines_are = lines ∙ at.counted_is;
-    shows = subst (λ c. Shows c made.1.0) (sym contents) made.1.2;
-  },
-)
-
-pub ends_early : (p : Progress) (items : List Line) (content : Content) → ProgressAt p items → Makes (draft_kind p.draft) p.nodes items (Ok content) → int_lt p.counted p.count ≡ true → end_fault items ≡ Some TooFewLines
-ends_early p items content at made few = end_is p items false true at made.0 few
-
-pub ends_lacking : (p : Progress) (items : List Line) (code : Code) → ProgressAt p items → Makes (draft_kind p.draft) p.nodes items (Err code) → end_fault items ≡ Some code
-ends_lacking p items code at made = by_few (int_lt p.counted p.count) refl
+pub ends_whole : (t : TextSoFar) (items : List Line) (content : Content) (held : Held) → HasRead t items → Makes (draft_kind t.draft) t.nodes items (Ok content) → int_lt t.counted t.count ≡ false
+    → (holding held).nodes ≡ t.nodes → (holding held).lines ≡ t.counted → (holding held).contents ≡ contents_of content → EndsWith items (Ok held)
+ends_whole t items content held at made enough nodes lines contents = by_kind (draft_kind t.draft) refl made
   where
-    by_few : (b : Bool) → int_lt p.counted p.count ≡ b → end_fault items ≡ Some code
-    by_few b e = end_is p items true b at made.1 e ∙ ap Some (sym made.0)
+    by_kind : (o : Option Kind) → draft_kind t.draft ≡ o → Makes o t.nodes items (Ok content) → EndsWith items (Ok held)
+    by_kind None is made = cc
+    by_kind (Some kind) is made = (
+      end_is t items kind false false at is made.0 enough,
+      record {
+        problem = problem_as t kind;
+        problem_is = problem_told t items kind at is;
+        instance = made.1.0;
+        made = made.1.1;
+        nodes_are = nodes;
+        lines_are = lines ∙ at.counted_is;
+        shows = subst (λ c. Shows c made.1.0) (sym contents) made.1.2;
+      },
+    )
+
+pub ends_early : (t : TextSoFar) (items : List Line) (content : Content) → HasRead t items → Makes (draft_kind t.draft) t.nodes items (Ok content) → int_lt t.counted t.count ≡ true → end_fault items ≡ Some TooFewLines
+ends_early t items content at made few = by_kind (draft_kind t.draft) refl made
+  where
+    by_kind : (o : Option Kind) → draft_kind t.draft ≡ o → Makes o t.nodes items (Ok content) → end_fault items ≡ Some TooFewLines
+    by_kind None is made = cc
+    by_kind (Some kind) is made = end_is t items kind false true at is made.0 few
+
+pub ends_lacking : (t : TextSoFar) (items : List Line) (code : Code) → HasRead t items → Makes (draft_kind t.draft) t.nodes items (Err code) → end_fault items ≡ Some code
+ends_lacking t items code at made = by_kind (draft_kind t.draft) refl made (int_lt t.counted t.count) refl
+  where
+    by_kind : (o : Option Kind) → draft_kind t.draft ≡ o → Makes o t.nodes items (Err code) → (b : Bool) → int_lt t.counted t.count ≡ b → end_fault items ≡ Some code
+    by_kind None is made b e = let same : code ≡ NoProblem = cc in ap (λ o. ends_by o items) (at.problem_is ∙ ap (option_map (problem_as t)) is) ∙ ap Some (sym same)
+    by_kind (Some kind) is made b e = end_is t items kind true b at is made.1 e ∙ ap Some (sym made.0)
 
 max_made : (a b : ℤ) (x y : Option ℤ) (G : Graph CapArc) → x ≡ Some a → y ≡ Some b → max_flow x y G ≡ Some (MaxFlow a b G)
 max_made a b x y G e f = ap (λ o. max_flow o y G) e ∙ ap (λ o. max_flow (Some a) o G) f

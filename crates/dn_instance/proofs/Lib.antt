@@ -8,7 +8,7 @@ pub mod ValidLaws
 pub mod TellsLaws
 pub mod ArcItems
 pub mod DraftLaws
-pub mod ProgressLaws
+pub mod ItemSteps
 pub mod NextLaws
 pub mod FollowLaws
 pub mod HeldLaws

@@ -9,7 +9,7 @@ use Rattle.dn_line.specs.Faults.{first_fault}
 use Rattle.dn_instance.specs.TextFaults.{line_tests, line_fault, is_too_long}
 use Rattle.dn_instance.specs.declared.text_so_far.TextSoFar.{TextSoFar}
 use Rattle.dn_instance.specs.Texts.{IsClean, items_of, with_next}
-use Rattle.dn_instance.specs.State.TextsSoFar.{IsProgress, TextAt, fault_next}
+use Rattle.dn_instance.specs.State.TextsSoFar.{HasRead, TextAt, fault_next}
 use Rattle.dn_instance.proofs.FirstFaults.{fault_after}
 use Rattle.dn_instance.proofs.CleanItems.{items_push}
 
@@ -57,14 +57,14 @@ clean_more ls l clean h number code f = by_split (split ls f.before f.after l f.
     by_split (inr (a, e)) = clean number code (record { before = f.before; line = f.line; after = a; lines_are = e; number_is = f.number_is; fault_is = f.fault_is })
 
 -- with a line more
-pub read_more : (t : TextSoFar) (ls : List (List ℕ)) (l : List ℕ) (u : TextSoFar) → TextAt t ls → fault_after ls l ≡ None → u.closed ≡ suc (length ls) → suc (length ls) < 2 ^ 63 - 1 → IsProgress u.progress (with_next (items_of ls) (said_words l)) → TextAt u (ls ++ l ∷ [])
+pub read_more : (t : TextSoFar) (ls : List (List ℕ)) (l : List ℕ) (u : TextSoFar) → TextAt t ls → fault_after ls l ≡ None → u.closed ≡ suc (length ls) → suc (length ls) < 2 ^ 63 - 1 → HasRead u (with_next (items_of ls) (said_words l)) → TextAt u (ls ++ l ∷ [])
 read_more t ls l u h f number few p =
     let n : length (ls ++ l ∷ []) ≡ suc (length ls) = length-append ls (l ∷ []) ∙ arith_one (length ls) in
     record {
       clean = clean_more ls l h.clean f;
       few = subst (λ k. k < 2 ^ 63 - 1) (sym n) few;
       number_is = number ∙ sym n;
-      progress_is = subst (IsProgress u.progress) (sym (items_push ls l)) p;
+      items_are = subst (HasRead u) (sym (items_push ls l)) p;
     }
   where
     arith_one : (k : ℕ) → k + 1 ≡ suc k

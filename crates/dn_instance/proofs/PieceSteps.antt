@@ -122,14 +122,6 @@ place_bound (b ∷ bs) = by_test (is_line_feed b) (place_bound bs)
     by_test true h = omega arith
     by_test false h = omega arith
 
--- how much of a piece is taken
-pub used_bound : (piece : List ℕ) → used_of piece ≤ length piece
-used_bound piece = by_end (has_end piece) refl
-  where
-    by_end : (x : Bool) → has_end piece ≡ x → position_or_len is_line_feed piece + cond x 1 0 ≤ length piece
-    by_end true e = let h = ltb-true (position_or_len is_line_feed piece) (length piece) e in omega arith
-    by_end false e = let h = place_bound piece in omega arith
-
 -- what is left of a piece from a place on
 abbrev pub rest_of : List ℕ → ℕ → List ℕ
 rest_of p i = take (length p - i) (drop i p)

@@ -16,7 +16,7 @@ use Rattle.dn_instance.specs.Texts.{items_of, IsClean}
 use Rattle.dn_instance.proofs.CleanItems.{IsNext, by_items, problem_push}
 use Rattle.dn_instance.proofs.DraftLaws.{points_named}
 use Rattle.dn_instance.proofs.MapLaws.{by_key_push, found_by_key, one_more_key}
-use Rattle.dn_instance.proofs.ProgressLaws.{counted_yes, counted_no}
+use Rattle.dn_instance.proofs.ItemSteps.{counted_yes, counted_no}
 use Rattle.dn_instance.proofs.ValidLaws.{kept, grown, item_fits, OnSlots, some_is}
 
 -- as many as counted, and a companion has no nodes
@@ -119,7 +119,7 @@ problem_sized ls p I clean h e =
     (s.nodes_are, s.size_is)
 
 -- the entries of the items so far fit 64 bits where their number is one of 64 signed bits
-so_far_by : (o : Option Problem) (items : List Line) → SizedFor o items → entries_by o items ≤ 2 * counted items
+so_far_by : (o : Option Problem) (items : List Line) → SizedFor o items → entries_by (option_map (λ (p : Problem). p.kind) o) items ≤ 2 * counted items
 so_far_by None items s = omega arith
 so_far_by (Some p) items s = by_kind p.kind s
   where

@@ -26,17 +26,17 @@ use Rattle.dn_instance.specs.declared.refusal.ItemFault.{ItemFault}
 use Rattle.dn_instance.specs.Items.{cost_arc_in, supply_in, supplies_of, by_key}
 use Rattle.dn_instance.specs.State.ItemFaults.{AnswersFault, supply_fault}
 use Rattle.dn_instance.specs.TextFaults.{is_companion, has_supply}
-use Rattle.dn_instance.proofs.DraftLaws.{Answering, Standing, Keeping, stray_one, or_else, sought_eq, table_kept}
+use Rattle.dn_instance.proofs.DraftLaws.{Answering, Standing, Keeping, own_kind, stray_one, or_else, sought_eq, table_kept}
 use Rattle.dn_instance.proofs.MapLaws.{by_key_push, lookup_put, some_cond}
 use Rattle.dn_instance.proofs.ValidLaws.{supplies_grow}
 
 pub supply_answer : (nodes id flow : ℤ) (supplies : BTreeMap ℤ ℤ) (idle : BTreeSet ℤ) (t : _) (r : Result (Unit {0}) ItemFault)
     → AnswersFault r (supply_fault nodes (is_some (Map.get int_cmp supplies id) || Set.contains int_cmp idle id) id) → Answering nodes (Drafts.Min supplies idle t) (Item.Supply id flow) r
-supply_answer nodes id flow supplies idle t r ans before p h k n holds =
+supply_answer nodes id flow supplies idle t r ans before p d =
     subst (AnswersFault r)
-    (sym (ap (λ x. or_else x NodeOutOfRange (or_else (list_any (has_supply id) before) RepeatedNode None)) (stray_one before p h id (ap is_companion k))
-    ∙ ap (λ m. supply_fault m (list_any (has_supply id) before) id) n
-    ∙ ap (λ b. supply_fault nodes b id) (sym (holds.1 id))))
+    (sym (ap (λ x. or_else x NodeOutOfRange (or_else (list_any (has_supply id) before) RepeatedNode None)) (stray_one before p d.problem_is id (ap is_companion (own_kind d.kind_is)))
+    ∙ ap (λ m. supply_fault m (list_any (has_supply id) before) id) d.nodes_are
+    ∙ ap (λ b. supply_fault nodes b id) (sym (d.holds.1 id))))
     ans
 
 eq_swap : (a b : ℤ) → int_eq a b ≡ int_eq b a

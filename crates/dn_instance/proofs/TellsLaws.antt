@@ -15,7 +15,8 @@ use Rattle.dn_instance.proofs.SumLaws.{passes}
 use Rattle.dn_instance.specs.State.ItemFaults.{in_graph, arc_fault}
 use Rattle.dn_line.specs.declared.code.Code.TheVariants.{SumTooLarge}
 use Rattle.std.proofs.lemmas.Int.{ints, by_lt_z}
-use Rattle.dn_instance.proofs.ValidLaws.{bundle_push, all_push}
+use Rattle.dn_instance.proofs.ValidLaws.{bundle_push}
+use Rattle.dn_bundle.proofs.BundleLaws.{all_end}
 
 module _ {B Arc : Type 0} (kind : ArcKind Arc) (tells : B → List Arc) (laws : IsKind kind) (canonical : (b : B) → kind.IsCanon One (tells b)) where
   told_canon : (o : Option B) → kind.IsCanon One (told_of tells o)
@@ -92,8 +93,8 @@ pub told_capacity : {B Arc : Type 0} (kind : ArcKind Arc) (tells : B → List Ar
     → kind.capacity (told_at tells m p ++ arc ∷ []) ≡ kind.capacity (bundle p arcs ++ arc ∷ [])
 told_capacity kind tells laws m arcs p arc old are is =
     laws.same_capacity (told_at tells m p ++ arc ∷ []) (bundle p arcs ++ arc ∷ [])
-    (all_push kind.IsArc (told_at tells m p) arc (laws.canon_arcs One (told_at tells m p) (old.stands p).canonical) is)
-    (all_push kind.IsArc (bundle p arcs) arc (bundle_arcs kind p arcs are) is)
+    (all_end kind.IsArc (told_at tells m p) arc (laws.canon_arcs One (told_at tells m p) (old.stands p).canonical) is)
+    (all_end kind.IsArc (bundle p arcs) arc (bundle_arcs kind p arcs are) is)
     (same_push kind.Same laws.meaning (told_at tells m p) (bundle p arcs) arc (old.stands p).same)
 
 past_none : (x y : ℤ) → (x <ℤ y → ⊥) → int_lt x y ≡ false

@@ -28,6 +28,9 @@ use Rattle.dn_arc.proofs.PairLaws.{pair_is}
 use Rattle.dn_instance.proofs.SumLaws.{passes, total_passes, cost_passes}
 use Rattle.dn_instance.proofs.CleanItems.{IsNext, by_items, problem_push, or_none, or_assoc}
 use Rattle.dn_instance.proofs.MapLaws.{each_put, map_put, by_key_push, no_keys}
+use Rattle.dn_line.proofs.PlainLaws.{and_both}
+use Rattle.dn_table.proofs.GrownLaws.{none_is}
+use Rattle.dn_bundle.proofs.BundleLaws.{all_end}
 
 -- the number of a slot fits
 abbrev SlotFits : Slot → Type 0
@@ -59,10 +62,6 @@ OnSlots (Some slots) = AllByRecursion SlotFits slots
 pub item_fits : (known : Option Kind) (l : List ℕ) (i : Line) → Spells known (said_words l) i → OnSlots (slots_of i)
 item_fits known l i s = subst OnSlots (sym s.slots_are) (slots_fit s.slots (words l) s.fit)
 
-and_both : (a b : Bool) → (a && b) ≡ true → (a ≡ true) × (b ≡ true)
-and_both true b h = (refl, h)
-and_both false b h = cc
-
 not_true : (b : Bool) → not b ≡ true → b ≡ false
 not_true true h = cc
 not_true false h = refl
@@ -90,11 +89,6 @@ id_in_range p id f h = record { some = above_zero id (and_both (int_lt (pos 0) i
 ids_in_range : (before : List Line) (i : Line) (p : Problem) → problem_of before ≡ Some p → IsNext before i → list_all (is_in_range (Some p)) (ids_in i) ≡ true
 ids_in_range before i p h n = ap (λ o. list_all (is_in_range o) (ids_in i)) (sym h) ∙ not_false (list_all (is_in_range (problem_of before)) (ids_in i)) n.in_range
 
--- what holds of each element, and of one more
-pub all_push : {X : Type 0} (P : X → Type 0) (xs : List X) (x : X) → AllByRecursion P xs → P x → AllByRecursion P (xs ++ x ∷ [])
-all_push P [] x all here = (here, tt)
-all_push P (y ∷ xs) x all here = (all.0, all_push P xs x all.1 here)
-
 module _ {Arc : Type 0} where
   -- the bundle with one arc more
   pub bundle_push : (p : ℤ × ℤ) (xs : List ((ℤ × ℤ) × Arc)) (a : (ℤ × ℤ) × Arc) → bundle p (xs ++ a ∷ []) ≡ bundle p xs ++ cond (same_pair p a.0) (a.1 ∷ []) []
@@ -112,7 +106,7 @@ module _ {Arc : Type 0} (kind : ArcKind Arc) where
   graph_push nodes arcs a v placed sum = record {
     some_nodes = v.some_nodes;
     nodes_fit = v.nodes_fit;
-    placed = all_push (IsPlaced kind nodes) arcs a v.placed placed;
+    placed = all_end (IsPlaced kind nodes) arcs a v.placed placed;
     capacities = λ p. by_test p (same_pair p a.0) refl;
   }
     where
@@ -224,21 +218,17 @@ pub terminal_push : (letter : Letter) (before : List Line) (i : Line) → termin
 terminal_push letter [] i = or_none (terminal_in letter i)
 terminal_push letter (x ∷ xs) i = ap (option_or (terminal_in letter x)) (terminal_push letter xs i) ∙ or_assoc (terminal_in letter x) (terminal_of letter xs) (terminal_in letter i)
 
-not_some : {X : Type 0} (o : Option X) → is_some o ≡ false → o ≡ None
-not_some None h = refl
-not_some (Some x) h = cc
-
 -- a terminal that is named once, and is not the other one
 ends_grown : (nodes : ℤ) (before : List Line) (id : ℤ) (letter : Letter) → IsNode nodes id → is_some (terminal_of letter before) ≡ false → is_id id (terminal_of (other_letter letter) before) ≡ false
     → AreEnds nodes (terminal_of S before) (terminal_of T before) → (let after = before ++ Item.Terminal id letter ∷ [] in AreEnds nodes (terminal_of S after) (terminal_of T after))
 ends_grown nodes before id S node once h ends =
-    let none = not_some (terminal_of S before) once in
+    let none = none_is (terminal_of S before) once in
     let source : terminal_of S (before ++ Item.Terminal id S ∷ []) ≡ Some id = terminal_push S before (Item.Terminal id S) ∙ ap (λ o. option_or o (Some id)) none in
     let sink : terminal_of T (before ++ Item.Terminal id S ∷ []) ≡ terminal_of T before = terminal_push T before (Item.Terminal id S) ∙ or_none (terminal_of T before) in
     subst (λ o. AreEnds nodes o (terminal_of T (before ++ Item.Terminal id S ∷ []))) (sym source)
     (subst (λ o. AreEnds nodes (Some id) o) (sym sink) (source_named nodes id (terminal_of T before) node (subst (λ o. AreEnds nodes o (terminal_of T before)) none ends) h))
 ends_grown nodes before id T node once h ends =
-    let none = not_some (terminal_of T before) once in
+    let none = none_is (terminal_of T before) once in
     let sink : terminal_of T (before ++ Item.Terminal id T ∷ []) ≡ Some id = terminal_push T before (Item.Terminal id T) ∙ ap (λ o. option_or o (Some id)) none in
     let source : terminal_of S (before ++ Item.Terminal id T ∷ []) ≡ terminal_of S before = terminal_push S before (Item.Terminal id T) ∙ or_none (terminal_of S before) in
     subst (λ o. AreEnds nodes o (terminal_of T (before ++ Item.Terminal id T ∷ []))) (sym source)
@@ -313,7 +303,7 @@ next_item p Kinds.Ss before (Item.Source id) e b h n s =
     let i = Item.Source id in
     let range = and_both (is_in_range (Some p) id) true (ids_in_range before i p h n) in
     let fit = item_fits (kind_known before) n.line i n.spells in
-    subst (AllByRecursion IsId) (sym (grown source_in before i id refl)) (all_push IsId (filter_map source_in before) id s (id_in_range p id fit.1.0 range.0))
+    subst (AllByRecursion IsId) (sym (grown source_in before i id refl)) (all_end IsId (filter_map source_in before) id s (id_in_range p id fit.1.0 range.0))
 next_item p Kinds.P2p before (Item.Query first second) e b h n s =
     let i = Item.Query first second in
     let P : ℤ × ℤ → Type 0 = λ q. IsId q.0 × IsId q.1 in
@@ -321,7 +311,7 @@ next_item p Kinds.P2p before (Item.Query first second) e b h n s =
     let two = and_both (is_in_range (Some p) second) true one.1 in
     let fit = item_fits (kind_known before) n.line i n.spells in
     subst (AllByRecursion P) (sym (grown query_in before i (first, second) refl))
-    (all_push P (filter_map query_in before) (first, second) s (id_in_range p first fit.1.0 one.0, id_in_range p second fit.1.1.0 two.0))
+    (all_end P (filter_map query_in before) (first, second) s (id_in_range p first fit.1.0 one.0, id_in_range p second fit.1.1.0 two.0))
 next_item p Kinds.Co before (Item.Point id x y) e b h n s =
     let i = Item.Point id x y in
     let range = and_both (is_in_range (Some p) id) true (ids_in_range before i p h n) in

@@ -2,7 +2,6 @@ pub mod Parts
 pub mod EntryCount
 pub mod ItemFaults
 pub mod Drafts
-pub mod Progresses
 pub mod ArcRuns
 pub mod TextsSoFar
 pub mod Helds

@@ -1,18 +1,17 @@
-// An instance in the making: what the items after the problem line have made so far.
+// An instance in the making: what the items so far have made.
 ghost use Rattle.std.specs.Prelude.{◌≡◌, ◌<◌, ◌≤◌, ◌^◌, ℤ, List, ◌∷◌, ◌++◌, [], OnOk, OnErr, Some, length, take};
 ghost use Rattle.std.specs.List.{AllByRecursion};
 ghost use Rattle.dn_line.specs.State.ArcLines.{arc_of};
 ghost use Rattle.dn_line.specs.declared.line.Line.{Line};
 ghost use Rattle.dn_line.specs.declared.line.Line.TheVariants.{MinArc, MaxArc, SpArc};
 ghost use Rattle.dn_line.specs.Faults.{first_fault};
-ghost use Rattle.dn_line.specs.State.Spelling.{kind_before};
-ghost use Rattle.dn_instance.specs.Items.{Problem, problem_of};
+ghost use Rattle.dn_instance.specs.Items.{Problem};
 ghost use Rattle.dn_instance.specs.TextFaults.{item_tests};
 ghost use Rattle.dn_instance.specs.State.ItemFaults.{AnswersFault};
 ghost use Rattle.dn_instance.specs.State.ArcRuns.{Joins, arc_items};
-ghost use Rattle.dn_instance.specs.State.Drafts.{draft_kind, DraftHolds, HasSigns};
+ghost use Rattle.dn_instance.specs.State.Drafts.{draft_kind, ComesNext, DraftHolds, HasSigns, IsDraftOf};
 ghost use Rattle.dn_instance.specs.State.Ends.{Makes};
-ghost use Rattle.dn_instance.specs.State.EntryCount.{entries_as};
+ghost use Rattle.dn_instance.specs.State.EntryCount.{entries_by};
 
 use crate::ahead::look_ahead;
 use crate::arcs::{LineBundle, take_arcs};
@@ -25,13 +24,15 @@ use dn_table::TableSoFar;
 use std::alloc::Global;
 use std::collections::{BTreeMap, BTreeSet};
 
-// What the items so far make, by kind: flows, terminals, bundles by ordered pair, lists and points. Arcs are merged
-// into the bundle of their pair as they come.
+// What the items so far make, by kind: flows, terminals, bundles by ordered pair, lists and points. Each arc is merged
+// into the bundle of its pair at once.
 #[derive(Drop)]
 pub(crate) enum Draft {
+    // There is no problem line yet.
+    Empty,
     Min {
         supplies: BTreeMap<i64, i64>,
-        // The nodes whose `n` lines have flow 0: a second `n` line of such a node is a fault, too.
+        // The nodes whose `n` lines have flow 0. A second `n` line of such a node is a fault, too.
         idle: BTreeSet<i64>,
         table: TableSoFar<Curve>,
     },
@@ -47,9 +48,9 @@ pub(crate) enum Draft {
 }
 
 impl Draft {
-    // What no items make.
+    // Makes the draft of a problem line of this kind.
     pub(crate) fn new(alloc: Global, kind: &Kind) -> Draft
-        ensures kind { draft_kind result ≡ kind.now }
+        ensures kind { draft_kind result ≡ Some kind.now }
         ensures none { DraftHolds result [] }
     {
         match kind {
@@ -70,21 +71,22 @@ impl Draft {
         }
     }
 
-    // The kind of text that it is of.
-    pub(crate) fn kind(&self) -> Kind
+    // Returns the kind that the problem line names.
+    pub(crate) fn kind(&self) -> Option<Kind>
         ensures { result ≡ draft_kind self.now }
     {
         match self {
-            Draft::Min { .. } => Kind::Min,
-            Draft::Max { .. } => Kind::Max,
-            Draft::Sp(_) => Kind::Sp,
-            Draft::Ss(_) => Kind::Ss,
-            Draft::P2p(_) => Kind::P2p,
-            Draft::Co(_) => Kind::Co,
+            Draft::Empty => None,
+            Draft::Min { .. } => Some(Kind::Min),
+            Draft::Max { .. } => Some(Kind::Max),
+            Draft::Sp(_) => Some(Kind::Sp),
+            Draft::Ss(_) => Some(Kind::Ss),
+            Draft::P2p(_) => Some(Kind::P2p),
+            Draft::Co(_) => Some(Kind::Co),
         }
     }
 
-    // Looks up together where the pairs of the arcs that come next stand. It decides only the speed.
+    // Looks up the places of the pairs of these arcs together, before the arcs are taken. This affects only the speed.
     pub(crate) fn look_ahead(&mut self, arcs: &[ArcLine])
         ensures { self.new ≡ self.old }
     {
@@ -92,17 +94,15 @@ impl Draft {
             Draft::Min { table, .. } => look_ahead(table, arcs),
             Draft::Max { table, .. } => look_ahead(table, arcs),
             Draft::Sp(table) => look_ahead(table, arcs),
-            Draft::Ss(_) | Draft::P2p(_) | Draft::Co(_) => {}
+            Draft::Empty | Draft::Ss(_) | Draft::P2p(_) | Draft::Co(_) => {}
         }
     }
 
-    // Takes the next item. One that this kind of text does not have is refused.
+    // Takes the next item after the problem line, or returns its fault.
     pub(crate) fn take(&mut self, alloc: Global, nodes: &i64, line: Line) -> Result<(), ItemFault>
-        ensures answer { Some (draft_kind self.old) ≡ kind_before line → HasSigns line
-            → (before : List Line) (p : Problem) → problem_of before ≡ Some p → p.kind ≡ draft_kind self.old
-            → p.nodes ≡ nodes.now → DraftHolds self.old before
+        ensures answer { (before : List Line) → ComesNext self.old nodes.now before line
             → AnswersFault result (first_fault (item_tests before (Some line))) }
-        ensures stands { HasSigns line → (before : List Line) → DraftHolds self.old before
+        ensures holds { (before : List Line) → ComesNext self.old nodes.now before line
             → OnOk result (DraftHolds self.new (before ++ line ∷ [])) }
         ensures unchanged { (before : List Line) → DraftHolds self.old before
             → OnErr result (DraftHolds self.new before) }
@@ -130,18 +130,17 @@ impl Draft {
                 (first, second),
             ),
             (Draft::Co(points), Line::Point { id, x, y }) => take_point(points, &id, (x, y)),
-            // Never: a line of another kind of text is refused before it is read as an item.
+            // Never: the reader refuses a line of another kind of text before it reads the line as an item.
             _ => Err(ItemFault::Text(Code::WrongLine)),
         }
     }
 
-    // Takes arcs one after the other, up to the first that has a fault or that memory lacks for, and answers how many
-    // were taken.
+    // Takes arcs one after the other, up to the first that has a fault or that finds the program out of memory. Returns
+    // how many it takes.
     pub(crate) fn take_arcs(&mut self, alloc: Global, nodes: &i64, arcs: &[ArcLine]) -> usize
-        ensures taken { AllByRecursion HasSigns (arc_items (draft_kind self.old) arcs.now)
-            → (before : List Line) (p : Problem) → problem_of before ≡ Some p → p.kind ≡ draft_kind self.old
-            → p.nodes ≡ nodes.now → DraftHolds self.old before
-            → Joins DraftHolds before self.new (arc_items (draft_kind self.old) (take result arcs.now)) }
+        ensures taken { (before : List Line) (p : Problem) → IsDraftOf self.old nodes.now p before
+            → AllByRecursion HasSigns (arc_items p.kind arcs.now)
+            → Joins DraftHolds before self.new (arc_items p.kind (take result arcs.now)) }
         ensures within { result ≤ length arcs.now }
         ensures kept { draft_kind self.new ≡ draft_kind self.old }
     {
@@ -149,16 +148,18 @@ impl Draft {
             Draft::Min { table, .. } => take_arcs(table, alloc, nodes, arcs),
             Draft::Max { table, .. } => take_arcs(table, alloc, nodes, arcs),
             Draft::Sp(table) => take_arcs(table, alloc, nodes, arcs),
-            Draft::Ss(_) | Draft::P2p(_) | Draft::Co(_) => 0,
+            Draft::Empty | Draft::Ss(_) | Draft::P2p(_) | Draft::Co(_) => 0,
         }
     }
 
-    // How many entries the items so far come to.
+    // Counts the entries that the items so far come to.
     pub(crate) fn entries(&self) -> u64
-        ensures { (items : List Line) → DraftHolds self.now items → entries_as (draft_kind self.now) items < 2 ^ 64
-            → result ≡ entries_as (draft_kind self.now) items }
+        ensures { (items : List Line) → DraftHolds self.now items
+            → entries_by (draft_kind self.now) items < 2 ^ 64
+            → result ≡ entries_by (draft_kind self.now) items }
     {
         match self {
+            Draft::Empty => 0,
             Draft::Min { table, .. } => table.entries(),
             Draft::Max { table, .. } => table.entries(),
             Draft::Sp(table) => table.entries(),
@@ -168,11 +169,13 @@ impl Draft {
         }
     }
 
-    // What is kept of the items, where none lacks.
+    // Returns what is kept of the items, or the fault where the problem line or a terminal is missing.
     pub(crate) fn end(self) -> Result<Content, Code>
-        ensures { (nodes : ℤ) (items : List Line) → DraftHolds self items → Makes (draft_kind self) nodes items result }
+        ensures { (nodes : ℤ) (items : List Line) → DraftHolds self items
+            → Makes (draft_kind self) nodes items result }
     {
         match self {
+            Draft::Empty => Err(Code::NoProblem),
             Draft::Min {
                 supplies,
                 idle,
@@ -207,7 +210,7 @@ impl Draft {
     }
 }
 
-// The numbers of an arc's line. What they are of another line is not used.
+// Returns the numbers of an arc's line. Those of another line are not used.
 fn numbers_of(line: &Line) -> PlainArc
     ensures min { (u v l c p : ℤ) → line.now ≡ MinArc u v l c p → arc_of Kind.Min result ≡ line.now }
     ensures max { (u v c : ℤ) → line.now ≡ MaxArc u v c → arc_of Kind.Max result ≡ line.now }

@@ -2,11 +2,9 @@
 ghost use Rattle.std.specs.Prelude.{◌≡◌, ◌≤◌, ℕ, List, [], ◌++◌, length, take, drop, Some, None, Err, ◌<◌, IfOk, MatchResult};
 ghost use Rattle.dn_line.specs.State.LineStates.{LineSoFar, LineReaderAt, used_of};
 ghost use Rattle.dn_line.specs.Pieces.{lines};
-ghost use Rattle.dn_instance.specs.State.EntryCount.{entries_so_far};
-ghost use Rattle.dn_instance.specs.Texts.{items_of};
-ghost use Rattle.dn_instance.specs.Readers.{WantsMemory, ended};
-ghost use Rattle.dn_instance.specs.State.Readers.{EntriesBefore, Fed, Outcome, lines_taken, refusal_of, answer_of};
-ghost use Rattle.dn_instance.specs.State.ReaderStates.{ReaderAt, IsReading, Takes, TakesAll, Advances, Finishes, Steps};
+ghost use Rattle.dn_instance.specs.Readers.{ended};
+ghost use Rattle.dn_instance.specs.State.Readers.{Fed, Outcome, refusal_of, answer_of};
+ghost use Rattle.dn_instance.specs.State.ReaderStates.{ReaderAt, IsReading, Takes, TakesAll, Advances, CountsBefore, CountsRead, Finishes, Steps, WantsAtEnd, WantsInPiece};
 ghost use Rattle.dn_instance.specs.State.Refusals.{refused_at};
 ghost use Rattle.dn_instance.specs.State.TextsSoFar.{TextAt};
 
@@ -122,8 +120,7 @@ impl Reader {
     pub fn feed(&mut self, piece: &[u8]) -> Result<(), Refusal>
         ensures stands { (t : List ℕ) → ReaderAt self.old t → ReaderAt self.new (t ++ piece.now) }
         ensures told { (t : List ℕ) → ReaderAt self.old t → Fed (t ++ piece.now) result }
-        ensures memory { (t : List ℕ) → ReaderAt self.old t → refusal_of self.old ≡ None → result ≡ Err Refusal.Memory
-            → WantsMemory (length (ended t)) (ended (t ++ piece.now)) × (length (ended t) ≤ lines_taken self.new) }
+        ensures memory { WantsInPiece self.old self.new piece.now result }
         ensures answer { result ≡ answer_of (refusal_of self.new) }
         ensures again { (e : Refusal) → refusal_of self.old ≡ Some e → self.new ≡ self.old }
     {
@@ -144,10 +141,8 @@ impl Reader {
     /// How many entries the complete lines so far come to, counted as `Held::entries` does; 0 before the problem line;
     /// of a refused reader, the lines before the refused one.
     pub fn entries(&self) -> u64
-        ensures fine { (t : List ℕ) → ReaderAt self.now t → refusal_of self.now ≡ None
-            → result ≡ entries_so_far (items_of (ended t)) }
-        ensures refused { (t : List ℕ) (e : Refusal) → ReaderAt self.now t → refusal_of self.now ≡ Some e
-            → EntriesBefore (lines_taken self.now) (ended t) e result }
+        ensures fine { CountsRead self.now result }
+        ensures refused { CountsBefore self.now result }
     {
         self.text.entries()
     }
@@ -155,8 +150,7 @@ impl Reader {
     /// What the whole text reads as. A last line without LF is taken before the end is judged.
     pub fn finish(mut self) -> Result<Held, Refusal>
         ensures outcome { (t : List ℕ) → ReaderAt self t → Outcome t result }
-        ensures memory { (t : List ℕ) → ReaderAt self t → refusal_of self ≡ None → result ≡ Err Refusal.Memory
-            → WantsMemory (length (ended t)) (lines t) }
+        ensures memory { WantsAtEnd self result }
         ensures again { (e : Refusal) → refusal_of self ≡ Some e → result ≡ Err e }
     {
         if let Some(refusal) = self.refusal {

@@ -1,49 +1,60 @@
-// What the complete lines of a text make, one after the other.
-ghost use Rattle.std.specs.Prelude.{◌≡◌, ◌≢◌, ◌≤◌, ℕ, ◌+◌, length, take, List, ◌∷◌, ◌++◌, [], OnOk, OnErr, Ok, Err, Some, None, Option, cond, true, false};
+// The complete lines of a text: how many they are, and what their items make.
+ghost use Rattle.std.specs.Prelude.{◌≡◌, ◌≢◌, ◌<◌, ◌≤◌, ◌≤ℤ◌, ℕ, ◌+◌, pos, length, take, List, ◌∷◌, ◌++◌, [], OnOk, OnErr, Err, Some, None, true, false};
 ghost use Rattle.dn_line.specs.declared.line.Line.{Line};
 ghost use Rattle.dn_line.specs.declared.word.Word.{Word};
-ghost use Rattle.dn_line.specs.Words.{is_skip, said_words};
-ghost use Rattle.dn_line.specs.Faults.{first_fault};
-ghost use Rattle.dn_line.specs.State.Reading.{head_read};
+ghost use Rattle.dn_line.specs.LineTable.{kind_named};
+ghost use Rattle.dn_line.specs.Words.{first, is_skip, said_words};
+ghost use Rattle.dn_line.specs.Faults.{first_fault, head_tests};
+ghost use Rattle.dn_line.specs.State.Reading.{head_of};
 ghost use Rattle.dn_line.specs.State.LineStates.{LineSoFar, LineReaderAt};
-ghost use Rattle.dn_instance.specs.Items.{kind_known};
+ghost use Rattle.dn_instance.specs.Items.{problem_in, kind_known, is_counted};
 ghost use Rattle.dn_instance.specs.TextFaults.{is_companion, order_tests, item_tests, line_fault};
+ghost use Rattle.dn_instance.specs.State.ArcRuns.{AreInTime, Joins, arc_items};
 ghost use Rattle.dn_instance.specs.State.Ends.{EndsWith};
 ghost use Rattle.dn_instance.specs.State.EntryCount.{entries_so_far};
 ghost use Rattle.dn_instance.specs.State.ItemFaults.{AnswersFault};
 ghost use Rattle.dn_instance.specs.Texts.{items_of, with_next};
-ghost use Rattle.dn_instance.specs.State.TextsSoFar.{IsProgress, MayFollow, next_read, fault_next, TextAt, ReadsFront};
+ghost use Rattle.dn_instance.specs.State.TextsSoFar.{Awaits, AwaitsArcs, HasRead, next_read, fault_next, TextAt, ReadsFront};
 
+use crate::draft::Draft;
 use crate::held::Held;
-use crate::progress::Progress;
 use crate::refusal::ItemFault;
-use dn_line::{ArcBlock, BLOCK, Code, Head, Kind, Line, LineReader, left_behind};
+use dn_line::{ArcBlock, ArcLine, BLOCK, Code, Head, Kind, Line, LineReader, left_behind};
 use std::alloc::Global;
-use std::mem::replace;
 
-// As many lines as a text may have.
+// The greatest number of lines that a text may have.
 const LAST: u64 = (1 << 63) - 2;
 
-// The complete lines of a text so far, none of which has a fault: how many they are, and, from the problem line on,
-// what they make.
+// The complete lines of a text so far, none of which has a fault. Before the problem line, the draft is empty and the
+// numbers other than `closed` are 0.
 #[derive(Drop)]
 pub(crate) struct TextSoFar {
+    // The number of lines.
     closed: u64,
-    progress: Option<Progress>,
+    // NODES.
+    nodes: i64,
+    // The number of counted lines that the problem line declares: ARCS or K.
+    count: i64,
+    // The number of counted lines so far.
+    counted: i64,
+    draft: Draft,
 }
 
 impl TextSoFar {
-    // No lines.
+    // Makes a text that has no lines.
     pub(crate) fn new() -> TextSoFar
         ensures { TextAt result [] }
     {
         TextSoFar {
             closed: 0,
-            progress: None,
+            nodes: 0,
+            count: 0,
+            counted: 0,
+            draft: Draft::Empty,
         }
     }
 
-    // The number of the next line.
+    // Returns the number of the next line.
     pub(crate) fn next_number(&self) -> u64
         ensures { (ls : List (List ℕ)) → TextAt self.now ls → result ≡ length ls + 1 }
     {
@@ -51,34 +62,29 @@ impl TextSoFar {
         self.closed.saturating_add(1)
     }
 
-    // The kind that the problem line names.
-    fn kind(&self) -> Option<Kind>
-        ensures { (items : List Line) → IsProgress self.now.progress items → result ≡ kind_known items }
-    {
-        match &self.progress {
-            Some(progress) => Some(progress.kind()),
-            None => None,
-        }
-    }
-
-    // The first fault of a line by those before it, where its head has none.
+    // Returns the first fault that a line has by the lines before it, where its head has none.
     fn check_order(&self, head: Head) -> Option<Code>
-        ensures { (items : List Line) (ws : List Word) → IsProgress self.now.progress items
-            → head_read (kind_known items) ws ≡ Ok head
-            → result ≡ cond (is_skip ws) None (first_fault (order_tests items ws)) }
+        ensures answer { (before : List Line) (ws : List Word) → HasRead self.now before
+            → first_fault (head_tests (kind_known before) ws) ≡ None
+            → head ≡ head_of (first ws) (kind_named ws)
+            → result ≡ first_fault (order_tests before ws) }
+        ensures skip { head ≡ Head.Skip → result ≡ None }
     {
-        match &self.progress {
-            Some(progress) => progress.check_order(head),
-            None => None,
+        match head {
+            Head::Node if 0 < self.counted => Some(Code::LateNode),
+            Head::Arc | Head::Source | Head::Query | Head::Point if self.count <= self.counted => {
+                Some(Code::TooManyLines)
+            }
+            _ => None,
         }
     }
 
-    // What the next line reads as.
+    // Returns what the next line reads as.
     fn read(&self, line: &LineReader) -> Result<Line, Code>
-        ensures { (items : List Line) (l : LineSoFar) → IsProgress self.now.progress items → LineReaderAt line.now l
-            → result ≡ next_read items (said_words l.bytes) }
+        ensures { (items : List Line) (l : LineSoFar) → HasRead self.now items
+            → LineReaderAt line.now l → result ≡ next_read items (said_words l.bytes) }
     {
-        let known = self.kind();
+        let known = self.draft.kind();
         match line.head(known) {
             Ok(head) => match self.check_order(head) {
                 Some(code) => Err(code),
@@ -88,41 +94,103 @@ impl TextSoFar {
         }
     }
 
-    // Takes the next line, its number aside.
+    // Takes the problem line, which is the first item.
+    fn begin(&mut self, alloc: Global, kind: &Kind, nodes: &i64, count: &i64)
+        ensures read { (before : List Line) (i : Line) → Awaits self.old before i
+            → problem_in i ≡ Some (record { kind = kind.now; nodes = nodes.now; count = count.now })
+            → HasRead self.new (before ++ i ∷ []) }
+        ensures kept { self.new.closed ≡ self.old.closed }
+    {
+        self.nodes = *nodes;
+        self.count = *count;
+        self.draft = Draft::new(alloc, kind);
+    }
+
+    // Takes the next item after the problem line, or returns its fault.
+    fn take_item(&mut self, alloc: Global, item: Line) -> Result<(), ItemFault>
+        ensures answer { (before : List Line) → Awaits self.old before item → problem_in item ≡ None
+            → AnswersFault result (first_fault (item_tests before (Some item))) }
+        ensures read { (before : List Line) → Awaits self.old before item → problem_in item ≡ None
+            → OnOk result (HasRead self.new (before ++ item ∷ [])) }
+        ensures unchanged { (before : List Line) → HasRead self.old before
+            → OnErr result (HasRead self.new before) }
+        ensures kept { self.new.closed ≡ self.old.closed }
+    {
+        match self.draft.take(alloc, &self.nodes, item) {
+            Ok(()) => {
+                if is_counted(&item) {
+                    // The reader takes at most as many counted lines as are declared, so nothing saturates.
+                    self.counted = self.counted.saturating_add(1);
+                }
+                Ok(())
+            }
+            Err(fault) => Err(fault),
+        }
+    }
+
+    // Takes the next item, or returns its fault.
+    fn take(&mut self, alloc: Global, item: Line) -> Result<(), ItemFault>
+        ensures answer { (before : List Line) → Awaits self.old before item
+            → AnswersFault result (first_fault (item_tests before (Some item))) }
+        ensures read { (before : List Line) → Awaits self.old before item
+            → OnOk result (HasRead self.new (before ++ item ∷ [])) }
+        ensures unchanged { (before : List Line) → HasRead self.old before
+            → OnErr result (HasRead self.new before) }
+        ensures kept { self.new.closed ≡ self.old.closed }
+    {
+        match item {
+            Line::Graph { kind, nodes, arcs } => {
+                self.begin(alloc, &kind, &nodes, &arcs);
+                Ok(())
+            }
+            Line::Aux { kind, count } => {
+                self.begin(alloc, &kind, &0, &count);
+                Ok(())
+            }
+            _ => self.take_item(alloc, item),
+        }
+    }
+
+    // Takes the item of the next line, or returns the line's fault. The number of the line is left to the caller.
     fn judge(&mut self, alloc: Global, line: &LineReader) -> Result<(), ItemFault>
-        ensures answer { (items : List Line) (l : LineSoFar) → IsProgress self.old.progress items
+        ensures answer { (items : List Line) (l : LineSoFar) → HasRead self.old items
             → LineReaderAt line.now l
             → AnswersFault result (fault_next items (said_words l.bytes)) }
-        ensures stands { (items : List Line) (l : LineSoFar) → IsProgress self.old.progress items
+        ensures read { (items : List Line) (l : LineSoFar) → HasRead self.old items
             → LineReaderAt line.now l
-            → OnOk result (IsProgress self.new.progress (with_next items (said_words l.bytes))) }
+            → OnOk result (HasRead self.new (with_next items (said_words l.bytes))) }
+        ensures unchanged { (items : List Line) → HasRead self.old items
+            → OnErr result (HasRead self.new items) }
         ensures kept { self.new.closed ≡ self.old.closed }
-        ensures item { (items : List Line) (l : LineSoFar) → IsProgress self.old.progress items
-            → LineReaderAt line.now l → result ≡ Err ItemFault.Memory → is_skip (said_words l.bytes) ≡ false }
-        ensures unchanged { (items : List Line) → IsProgress self.old.progress items
-            → OnErr result (IsProgress self.new.progress items) }
+        ensures item { (items : List Line) (l : LineSoFar) → HasRead self.old items
+            → LineReaderAt line.now l
+            → result ≡ Err ItemFault.Memory → is_skip (said_words l.bytes) ≡ false }
     {
         match self.read(line) {
             Ok(item) => {
                 if is_skip(&item) {
                     Ok(())
                 } else {
-                    put(&mut self.progress, alloc, item)
+                    self.take(alloc, item)
                 }
             }
             Err(code) => Err(ItemFault::Text(code)),
         }
     }
 
-    // Takes the next line.
+    // Takes the next line, or returns its fault.
     pub(crate) fn take_line(&mut self, alloc: Global, line: &LineReader) -> Result<(), ItemFault>
-        ensures answer { (ls : List (List ℕ)) (l : LineSoFar) → TextAt self.old ls → LineReaderAt line.now l
+        ensures answer { (ls : List (List ℕ)) (l : LineSoFar) → TextAt self.old ls
+            → LineReaderAt line.now l
             → AnswersFault result (line_fault (length ls + 1) (items_of ls) (said_words l.bytes)) }
-        ensures stands { (ls : List (List ℕ)) (l : LineSoFar) → TextAt self.old ls → LineReaderAt line.now l
+        ensures stands { (ls : List (List ℕ)) (l : LineSoFar) → TextAt self.old ls
+            → LineReaderAt line.now l
             → OnOk result (TextAt self.new (ls ++ l.bytes ∷ [])) }
-        ensures item { (ls : List (List ℕ)) (l : LineSoFar) → TextAt self.old ls → LineReaderAt line.now l
+        ensures item { (ls : List (List ℕ)) (l : LineSoFar) → TextAt self.old ls
+            → LineReaderAt line.now l
             → result ≡ Err ItemFault.Memory → is_skip (said_words l.bytes) ≡ false }
-        ensures unchanged { (ls : List (List ℕ)) → TextAt self.old ls → OnErr result (TextAt self.new ls) }
+        ensures unchanged { (ls : List (List ℕ)) → TextAt self.old ls
+            → OnErr result (TextAt self.new ls) }
     {
         if LAST <= self.closed {
             return Err(ItemFault::Text(Code::TooLong));
@@ -136,51 +204,88 @@ impl TextSoFar {
         }
     }
 
-    // Takes the arcs whose plain lines stand at the front of these bytes, as many as one block has, up to the first
-    // that has a fault or that memory lacks for. Answers how many bytes their lines have, the LFs among them. The block
-    // is there to be read into.
+    // Takes arcs one after the other, up to the first that is one too many, has a fault or finds the program out of
+    // memory. Returns how many it takes. `look_ahead` affects only the speed.
+    fn take_run(&mut self, alloc: Global, arcs: &[ArcLine]) -> usize
+        ensures taken { (kind : Kind) (before : List Line)
+            → AwaitsArcs self.old kind before arcs.now
+            → let items = arc_items kind (take result arcs.now) in
+            Joins HasRead before self.new items × AreInTime before items }
+        ensures within { result ≤ length arcs.now }
+        ensures kept { self.new.closed ≡ self.old.closed }
+    {
+        self.draft.look_ahead(arcs);
+        // The reader takes at most as many counted lines as are declared, so nothing saturates, here and below.
+        let most = self.count.saturating_sub(self.counted);
+        let few = first_arcs(arcs, &most);
+        let taken = self.draft.take_arcs(alloc, &self.nodes, few);
+        self.counted = self.counted.saturating_add(taken as i64);
+        taken
+    }
+
+    // Takes the arcs whose plain lines are at the front of these bytes, as many as one block has, up to the first that
+    // has a fault or finds the program out of memory. Returns how many bytes their lines have, with the LFs that end
+    // them. The block is memory to read into.
     pub(crate) fn take_arcs(&mut self, alloc: Global, block: &mut ArcBlock, bytes: &[u8]) -> usize
-        ensures taken { (ls : List (List ℕ)) → TextAt self.old ls → ReadsFront self.new ls (take result bytes.now) }
+        ensures taken { (ls : List (List ℕ)) → TextAt self.old ls
+            → ReadsFront self.new ls (take result bytes.now) }
         ensures within { result ≤ length bytes.now }
     {
-        let Some(progress) = &mut self.progress else {
+        let Some(kind) = self.draft.kind() else {
             return 0;
         };
-        let kind = progress.kind();
         if is_companion(&kind) || LAST - BLOCK as u64 <= self.closed {
             return 0;
         }
         block.read(kind, bytes);
         let arcs = block.arcs();
-        let taken = progress.take_arcs(alloc, arcs);
+        let taken = self.take_run(alloc, arcs);
         self.closed += taken as u64;
         let left = left_behind(&arcs[..taken], bytes.len());
         // No more bytes are left than there were, so nothing saturates.
         bytes.len().saturating_sub(left)
     }
 
-    // How many entries the lines so far come to.
+    // Counts the entries that the lines so far come to.
     pub(crate) fn entries(&self) -> u64
-        ensures { (ls : List (List ℕ)) → TextAt self.now ls → result ≡ entries_so_far (items_of ls) }
+        ensures { (ls : List (List ℕ)) → TextAt self.now ls
+            → result ≡ entries_so_far (items_of ls) }
     {
-        match &self.progress {
-            Some(progress) => progress.entries(),
-            None => 0,
-        }
+        self.draft.entries()
     }
 
-    // What is held at the end, or the fault there.
+    // Returns what is held at the end, or the fault there.
     pub(crate) fn end(self) -> Result<Held, Code>
         ensures { (ls : List (List ℕ)) → TextAt self ls → EndsWith (items_of ls) result }
     {
-        match self.progress {
-            Some(progress) => progress.end(),
-            None => Err(Code::NoProblem),
+        match self.draft.end() {
+            Ok(content) => {
+                if self.counted < self.count {
+                    drop(content);
+                    Err(Code::TooFewLines)
+                } else {
+                    Ok(Held::new(self.nodes, self.counted, content))
+                }
+            }
+            Err(code) => Err(code),
         }
     }
 }
 
-// Whether lines of this kind of text are no arcs.
+// Returns this many arcs at the front, or all if there are fewer.
+fn first_arcs<'a>(arcs: &'a [ArcLine], most: &i64) -> &'a [ArcLine]
+    ensures front { result.now ≡ take (length result.now) arcs.now }
+    ensures most { 0 < length result.now → pos (length result.now) ≤ℤ most.now }
+    ensures within { length result.now ≤ length arcs.now }
+{
+    match usize::try_from(*most) {
+        Ok(most) if most < arcs.len() => &arcs[..most],
+        Ok(_) => arcs,
+        Err(_) => &[],
+    }
+}
+
+// Whether texts of this kind have no arcs.
 fn is_companion(kind: &Kind) -> bool
     ensures { result ≡ is_companion kind.now }
 {
@@ -195,24 +300,17 @@ fn is_skip(item: &Line) -> bool
     matches!(item, Line::Skip)
 }
 
-// Takes the next item. The first is the problem line.
-fn put(progress: &mut Option<Progress>, alloc: Global, item: Line) -> Result<(), ItemFault>
-    ensures answer { (before : List Line) → IsProgress progress.old before → MayFollow before item
-        → AnswersFault result (first_fault (item_tests before (Some item))) }
-    ensures stands { (before : List Line) → IsProgress progress.old before → MayFollow before item
-        → OnOk result (IsProgress progress.new (before ++ item ∷ [])) }
-    ensures unchanged { (before : List Line) → IsProgress progress.old before
-        → OnErr result (IsProgress progress.new before) }
+// Whether ARCS or K counts the line.
+fn is_counted(item: &Line) -> bool
+    ensures { result ≡ is_counted item.now }
 {
-    match progress {
-        Some(progress) => progress.take(alloc, item),
-        None => {
-            drop(replace(progress, Progress::begin(alloc, &item)));
-            match progress {
-                Some(_) => Ok(()),
-                // Never: an item before the problem line is refused before it comes here.
-                None => Err(ItemFault::Text(Code::UnknownProblem)),
-            }
-        }
-    }
+    matches!(
+        item,
+        Line::MinArc { .. }
+            | Line::MaxArc { .. }
+            | Line::SpArc { .. }
+            | Line::Source { .. }
+            | Line::Query { .. }
+            | Line::Point { .. }
+    )
 }

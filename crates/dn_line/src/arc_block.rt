@@ -2,7 +2,7 @@
 ghost use Rattle.std.specs.Prelude.{◌≡◌, ◌≤◌, ℕ, List, [], length, take};
 ghost use Rattle.dn_line.specs.State.ArcBlocks.{BeginWithArcs, ReadUpTo, last_left};
 
-use crate::arc_lines::{PlainArc, arc_line};
+use crate::arc_lines::{PlainArc, read_arc_line};
 use crate::kind::Kind;
 use std::marker::Model;
 
@@ -83,7 +83,7 @@ fn read_arcs(kind: Kind, bytes: &[u8], arcs: &mut [ArcLine; BLOCK]) -> usize
 {
     let mut rest = bytes;
     for i in 0..BLOCK {
-        let Some(next) = arc_line(kind, rest) else {
+        let Some(next) = read_arc_line(kind, rest) else {
             return i;
         };
         rest = next.rest;

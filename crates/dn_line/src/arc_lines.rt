@@ -31,7 +31,7 @@ pub(crate) struct ArcBefore<'a> {
 // Reads the arc line that begins these bytes, in a text of this kind, if the line is plain: the letter and the numbers
 // with blanks between them, no number with a `+`, and an LF at its end. Returns none for any other line, whether or not
 // that line has a fault.
-pub(crate) fn arc_line(kind: Kind, bytes: &[u8]) -> Option<ArcBefore<'_>>
+pub(crate) fn read_arc_line(kind: Kind, bytes: &[u8]) -> Option<ArcBefore<'_>>
     ensures { IfSome result (λ a. BeginsWithArc kind bytes.now (arc_of kind a.arc) a.rest.now) }
 {
     if let [b'a', rest @ ..] = bytes {

@@ -39,7 +39,7 @@ module _ {X : Type 0} (t : ℤ × ℤ → Bool) (e : (ℤ × ℤ) × X) where
   set_other (x ∷ xs) zero w lt is no_test = ap (λ b. cond b (Some w) (lookup t xs)) no_test ∙ sym (ap (λ b. cond b (Some x.1) (lookup t xs)) (ap (λ (y : (ℤ × ℤ) × X). t y.0) (sym is) ∙ no_test))
   set_other (x ∷ xs) (suc i) w lt is no_test = ap (cond (t x.0) (Some x.1)) (set_other xs i w (omega arith) is no_test)
 
-none_is : {X : Type 0} (o : Option X) → is_some o ≡ false → o ≡ None
+pub none_is : {X : Type 0} (o : Option X) → is_some o ≡ false → o ≡ None
 none_is None h = refl
 none_is (Some x) h = cc
 

@@ -6,7 +6,7 @@ use Rattle.dn_line.specs.declared.arc_block.ArcLine.{ArcLine}
 use Rattle.dn_line.specs.declared.kind.Kind.{Kind}
 use Rattle.dn_line.specs.declared.line.Line.{Line}
 use Rattle.dn_instance.specs.TextFaults.{item_tests}
-use Rattle.dn_instance.specs.State.Progresses.{HasRoom}
+use Rattle.dn_instance.specs.State.Drafts.{HasRoom}
 
 -- the items of these arcs, in a text of this kind
 abbrev pub arc_items : Kind → List ArcLine → List Line

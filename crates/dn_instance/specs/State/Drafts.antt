@@ -1,5 +1,5 @@
 -- What an instance in the making has made of the items so far.
-use Rattle.std.specs.Prelude.{◌≡◌, ℤ, pos, ◌≤ℤ◌, ◌||◌, List, Option, is_some, filter_map}
+use Rattle.std.specs.Prelude.{◌≡◌, ℤ, pos, ◌≤ℤ◌, ◌||◌, List, [], true, false, Option, Some, None, is_some, filter_map}
 use Rattle.std.specs.BTreeMap as Map
 use Rattle.std.specs.BTreeSet as Set
 use Rattle.std.specs.List.{list_any}
@@ -9,22 +9,25 @@ use Rattle.dn_line.specs.declared.kind.Kind.TheVariants as Kinds
 use Rattle.dn_line.specs.declared.kind.Letter.TheVariants.{S, T}
 use Rattle.dn_line.specs.declared.line.Line.{Line}
 use Rattle.dn_line.specs.declared.line.Line.TheVariants as Item
+use Rattle.dn_line.specs.State.Spelling.{kind_before}
 use Rattle.dn_arc.specs.Kinds.{ArcKind, lengths, capacities, costs}
 use Rattle.dn_bundle.specs.State.Tellings.{least_arcs, total_arcs, curve_arcs}
 use Rattle.dn_arc.specs.declared.arc.Form.TheVariants.{One}
-use Rattle.dn_instance.specs.Items.{arcs_of, length_arc_in, cap_arc_in, cost_arc_in, supplies_of, terminal_of, source_in, query_in, point_in, by_key}
-use Rattle.dn_instance.specs.TextFaults.{has_supply}
+use Rattle.dn_instance.specs.Items.{Problem, problem_of, is_counted, counted, arcs_of, length_arc_in, cap_arc_in, cost_arc_in, supplies_of, terminal_of, source_in, query_in, point_in, by_key}
+use Rattle.dn_instance.specs.TextFaults.{has_supply, is_full}
 use Rattle.dn_table.specs.State.Tables.{TableTells, AreArcs}
 use Rattle.dn_instance.specs.declared.draft.Draft.{Draft}
 use Rattle.dn_instance.specs.declared.draft.Draft.TheVariants as Drafts
 
-abbrev pub draft_kind : Draft → Kind
-draft_kind (Drafts.Min supplies idle table) = Kinds.Min
-draft_kind (Drafts.Max source sink table) = Kinds.Max
-draft_kind (Drafts.Sp table) = Kinds.Sp
-draft_kind (Drafts.Ss ids) = Kinds.Ss
-draft_kind (Drafts.P2p pairs) = Kinds.P2p
-draft_kind (Drafts.Co points) = Kinds.Co
+-- the kind that the problem line names; none before it
+abbrev pub draft_kind : Draft → Option Kind
+draft_kind Drafts.Empty = None
+draft_kind (Drafts.Min supplies idle table) = Some Kinds.Min
+draft_kind (Drafts.Max source sink table) = Some Kinds.Max
+draft_kind (Drafts.Sp table) = Some Kinds.Sp
+draft_kind (Drafts.Ss ids) = Some Kinds.Ss
+draft_kind (Drafts.P2p pairs) = Some Kinds.P2p
+draft_kind (Drafts.Co points) = Some Kinds.Co
 
 -- the numbers of an item that may not be below 0 are not
 abbrev pub HasSigns : Line → Type 0
@@ -32,14 +35,19 @@ HasSigns (Item.MinArc src dst low cap cost) = (pos 0 ≤ℤ low) × (pos 0 ≤�
 HasSigns (Item.MaxArc src dst cap) = pos 0 ≤ℤ cap
 HasSigns _ = Unit {0}
 
+-- a counted item comes while fewer are read than declared
+abbrev pub HasRoom : List Line → Line → Type 0
+HasRoom items i = is_counted i ≡ true → is_full (problem_of items) (counted items) ≡ false
+
 -- the table tells what the arcs among the items mean
 pub record TableHolds {B Arc : Type 0} (kind : ArcKind Arc) (arc_in : Line → Option ((ℤ × ℤ) × Arc))
     (tells : B → List Arc) (table : List ((ℤ × ℤ) × B)) (items : List Line) : Type 0 where
   pub tells_them : TableTells kind tells table (arcs_of arc_in items)
   pub are_arcs : AreArcs kind (arcs_of arc_in items)
 
--- what these items have made
+-- what these items have made; before the problem line there are none
 abbrev pub DraftHolds : Draft → List Line → Type 0
+DraftHolds Drafts.Empty items = items ≡ []
 DraftHolds (Drafts.Min supplies idle table) items =
     (supplies.entries ≡ supplies_of items)
     × ((q : ℤ) → (is_some (Map.get int_cmp supplies q) || Set.contains int_cmp idle q) ≡ list_any (has_supply q) items)
@@ -51,3 +59,17 @@ DraftHolds (Drafts.Sp table) items = TableHolds lengths length_arc_in least_arcs
 DraftHolds (Drafts.Ss ids) items = ids.items ≡ filter_map source_in items
 DraftHolds (Drafts.P2p pairs) items = pairs.items ≡ filter_map query_in items
 DraftHolds (Drafts.Co points) items = points.entries ≡ by_key (filter_map point_in items)
+
+-- these items declare this problem of as many nodes, and the draft has made what they make of it
+pub record IsDraftOf (draft : Draft) (nodes : ℤ) (problem : Problem) (items : List Line) : Type 0 where
+  pub problem_is : problem_of items ≡ Some problem
+  pub kind_is : draft_kind draft ≡ Some problem.kind
+  pub nodes_are : problem.nodes ≡ nodes
+  pub holds : DraftHolds draft items
+
+-- the draft has made what these items make, and the next item is one of its kind of text
+pub record ComesNext (draft : Draft) (nodes : ℤ) (before : List Line) (i : Line) : Type 0 where
+  pub problem : Problem
+  pub drafted : IsDraftOf draft nodes problem before
+  pub of_kind : kind_before i ≡ Some problem.kind
+  pub signs : HasSigns i

@@ -1,7 +1,7 @@
 -- What the end of a text makes of its items.
-use Rattle.std.specs.Prelude.{◌≡◌, ℤ, pos, List, Some, None, true, false, Result, Ok, Err}
+use Rattle.std.specs.Prelude.{◌≡◌, ℤ, pos, List, true, false, Option, Some, None, Result, Ok, Err}
 use Rattle.dn_line.specs.declared.code.Code.{Code}
-use Rattle.dn_line.specs.declared.code.Code.TheVariants.{MissingTerminal}
+use Rattle.dn_line.specs.declared.code.Code.TheVariants.{NoProblem, MissingTerminal}
 use Rattle.dn_line.specs.declared.kind.Kind.{Kind}
 use Rattle.dn_line.specs.declared.line.Line.{Line}
 use Rattle.dn_instance.specs.Instances.{Instance}
@@ -11,14 +11,15 @@ use Rattle.dn_instance.specs.State.Helds.{Shows, contents_of, holding}
 use Rattle.dn_instance.specs.declared.content.Content.{Content}
 use Rattle.dn_instance.specs.declared.held.Held.{Held}
 
--- the instance of this kind, or the terminal that it lacks
-abbrev pub Makes : Kind → ℤ → List Line → Result Content Code → Type 0
-Makes kind nodes items (Ok content) =
+-- the instance of this kind, or the terminal that it lacks; no instance before the problem line
+abbrev pub Makes : Option Kind → ℤ → List Line → Result Content Code → Type 0
+Makes None nodes items result = result ≡ Err NoProblem
+Makes (Some kind) nodes items (Ok content) =
     (lacks_terminal (Some kind) items ≡ false)
     × ((I : Instance) × (instance_as kind nodes items ≡ Some I) × Shows (contents_of content) I)
-Makes kind nodes items (Err code) = (code ≡ MissingTerminal) × (lacks_terminal (Some kind) items ≡ true)
+Makes (Some kind) nodes items (Err code) = (code ≡ MissingTerminal) × (lacks_terminal (Some kind) items ≡ true)
 
--- what is held stands for the instance that the items make of a problem, with its nodes and the lines counted
+-- what is held represents the instance that the items make of a problem, with its nodes and the lines counted
 pub record HoldsAll (held : Held) (items : List Line) : Type 0 where
   pub problem : Problem
   pub problem_is : problem_of items ≡ Some problem

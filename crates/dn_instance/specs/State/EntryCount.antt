@@ -5,7 +5,7 @@ use Rattle.dn_line.specs.declared.kind.Kind.TheVariants as Kinds
 use Rattle.dn_line.specs.declared.line.Line.{Line}
 use Rattle.dn_arc.specs.Kinds.{costs, capacities, lengths}
 use Rattle.dn_table.specs.State.GraphEntries.{graph_entries}
-use Rattle.dn_instance.specs.Items.{Problem, problem_of, arcs_of, length_arc_in, cap_arc_in, cost_arc_in, source_in, query_in, point_in, by_key}
+use Rattle.dn_instance.specs.Items.{kind_known, arcs_of, length_arc_in, cap_arc_in, cost_arc_in, source_in, query_in, point_in, by_key}
 use Rattle.dn_instance.specs.Instances.{Instance, MinCostFlow, MaxFlow, ShortestPaths, Sources, Queries, Coordinates}
 
 -- for a companion, the number of its items
@@ -26,10 +26,11 @@ entries_as Kinds.Ss items = length (filter_map source_in items)
 entries_as Kinds.P2p items = length (filter_map query_in items)
 entries_as Kinds.Co items = length (by_key (filter_map point_in items))
 
--- of the items so far; none before the problem line
-abbrev pub entries_by : Option Problem → List Line → ℕ
+-- the entries under the kind that is declared; none before the problem line
+abbrev pub entries_by : Option Kind → List Line → ℕ
 entries_by None items = 0
-entries_by (Some p) items = entries_as p.kind items
+entries_by (Some kind) items = entries_as kind items
 
+-- the entries of the items so far
 abbrev pub entries_so_far : List Line → ℕ
-entries_so_far items = entries_by (problem_of items) items
+entries_so_far items = entries_by (kind_known items) items

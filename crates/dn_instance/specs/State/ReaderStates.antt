@@ -9,7 +9,9 @@ use Rattle.dn_instance.specs.declared.held.Held.{Held}
 use Rattle.dn_instance.specs.declared.refusal.Refusal.{Refusal}
 use Rattle.dn_instance.specs.declared.refusal.Refusal.TheVariants.{Memory}
 use Rattle.dn_instance.specs.Readers.{WantsMemory, ended}
-use Rattle.dn_instance.specs.State.Readers.{Outcome, IsRefused, IsNext, lines_taken, refusal_of}
+use Rattle.dn_instance.specs.State.EntryCount.{entries_so_far}
+use Rattle.dn_instance.specs.State.Readers.{EntriesBefore, Outcome, IsRefused, IsNext, lines_taken, refusal_of}
+use Rattle.dn_instance.specs.Texts.{items_of}
 use Rattle.dn_instance.specs.State.TextsSoFar.{TextAt}
 
 -- the bytes of a text after its last LF
@@ -63,11 +65,31 @@ abbrev pub Steps : Reader → List ℕ → List ℕ → Result ℕ Refusal → T
 Steps r t piece (Ok n) = IsReading r (t ++ take n piece)
 Steps r t piece (Err e) = Advances r t (t ++ take (used_of piece) piece) (Err e)
 
--- what is answered at the end of the bytes that the reader stands for; memory is wanted only where no line was refused
+-- if memory runs out in a piece, it does so at a line that is no complete line of the earlier pieces, all of whose
+-- complete lines the reader has taken
+abbrev pub WantsInPiece : Reader → Reader → List ℕ → Result (Unit {0}) Refusal → Type 0
+WantsInPiece old new piece result =
+    (t : List ℕ) → ReaderAt old t → refusal_of old ≡ None → result ≡ Err Memory
+    → WantsMemory (length (ended t)) (ended (t ++ piece)) × (length (ended t) ≤ lines_taken new)
+
+-- if memory runs out at the end of a text, it does so at a last line without LF
+abbrev pub WantsAtEnd : Reader → Result Held Refusal → Type 0
+WantsAtEnd r result =
+    (t : List ℕ) → ReaderAt r t → refusal_of r ≡ None → result ≡ Err Memory → WantsMemory (length (ended t)) (lines t)
+
+-- what a reader returns at the end of the bytes that it represents
 pub record Finishes (r : Reader) (result : Result Held Refusal) : Type 0 where
   pub outcome : (t : List ℕ) → ReaderAt r t → Outcome t result
-  pub memory : (t : List ℕ) → ReaderAt r t → r.refusal ≡ None → result ≡ Err Memory
-      → WantsMemory (length (ended t)) (lines t)
+  pub memory : WantsAtEnd r result
+
+-- a reader without refusal makes so many entries of its complete lines
+abbrev pub CountsRead : Reader → ℕ → Type 0
+CountsRead r n = (t : List ℕ) → ReaderAt r t → refusal_of r ≡ None → n ≡ entries_so_far (items_of (ended t))
+
+-- a reader with a refusal made so many entries of the lines before the refused one
+abbrev pub CountsBefore : Reader → ℕ → Type 0
+CountsBefore r n =
+    (t : List ℕ) (e : Refusal) → ReaderAt r t → refusal_of r ≡ Some e → EntriesBefore (lines_taken r) (ended t) e n
 
 -- the source has given all that it had, and the reader has taken it and has no refusal
 pub record IsFed (old new : Option (List ℕ)) (r : Reader) : Type 0 where

@@ -1,6 +1,9 @@
 -- What the complete lines so far make, and what the next one reads as after them.
-use Rattle.std.specs.Prelude.{◌≡◌, ℕ, ◌-◌, ◌^◌, ◌<◌, List, [], ◌∷◌, ◌++◌, length, cond, true, flat_map, Option, Some, None, Result, Ok, IsSome}
-use Rattle.std.specs.List.{list_all, AllByRecursion}
+use Rattle.std.specs.Prelude.{◌≡◌, ℕ, ◌-◌, ◌^◌, ◌<◌, pos, ◌<ℤ◌, List, [], ◌∷◌, ◌++◌, length, cond, true, false, flat_map, Option, Some, None, Result, Ok, IsSome, int_lt}
+use Rattle.std.specs.List.{list_all, list_any, AllByRecursion}
+use Rattle.std.specs.Option.{option_map}
+use Rattle.dn_line.specs.declared.arc_block.ArcLine.{ArcLine}
+use Rattle.dn_line.specs.declared.kind.Kind.{Kind}
 use Rattle.dn_line.specs.declared.line.Line.{Line}
 use Rattle.dn_line.specs.declared.line.Line.TheVariants.{Skip}
 use Rattle.dn_line.specs.declared.word.Word.{Word}
@@ -10,18 +13,26 @@ use Rattle.dn_line.specs.State.LineStates.{is_inner}
 use Rattle.dn_line.specs.Faults.{first_fault, head_tests, field_tests, fields}
 use Rattle.dn_line.specs.State.Spelling.{slots_of, kind_before}
 use Rattle.dn_line.specs.Reading.{unless, spelled}
-use Rattle.dn_instance.specs.Items.{kind_known}
-use Rattle.dn_instance.specs.TextFaults.{order_tests, line_tests}
+use Rattle.dn_instance.specs.Items.{Problem, problem_of, kind_known, counted}
+use Rattle.dn_instance.specs.TextFaults.{is_arc, is_companion, order_tests, line_tests}
 use Rattle.dn_instance.specs.Texts.{items_of, IsClean}
-use Rattle.dn_instance.specs.State.Drafts.{HasSigns}
-use Rattle.dn_instance.specs.State.Progresses.{ProgressAt, HasRoom}
-use Rattle.dn_instance.specs.declared.progress.Progress.{Progress}
+use Rattle.dn_instance.specs.State.ArcRuns.{arc_items}
+use Rattle.dn_instance.specs.State.Drafts.{draft_kind, DraftHolds, HasRoom, HasSigns}
 use Rattle.dn_instance.specs.declared.text_so_far.TextSoFar.{TextSoFar}
 
--- these items have been read; before the problem line there are none
-abbrev pub IsProgress : Option Progress → List Line → Type 0
-IsProgress None items = items ≡ []
-IsProgress (Some p) items = ProgressAt p items
+-- the problem of this kind with the numbers of the problem line
+abbrev pub problem_as : TextSoFar → Kind → Problem
+problem_as t kind = record { kind = kind; nodes = t.nodes; count = t.count }
+
+-- these items have been read
+pub record HasRead (t : TextSoFar) (items : List Line) : Type 0 where
+  pub problem_is : problem_of items ≡ option_map (problem_as t) (draft_kind t.draft)
+  pub count_fits : t.count <ℤ pos (2 ^ 63)
+  pub counted_is : t.counted ≡ pos (counted items)
+  pub counted_few : counted items < 2 ^ 63
+  pub arcs_are : (kind : Kind) → draft_kind t.draft ≡ Some kind → is_companion kind ≡ false
+      → list_any is_arc items ≡ int_lt (pos 0) t.counted
+  pub holds : DraftHolds t.draft items
 
 -- what a line reads as after these items, by its faults up to those of its fields
 abbrev pub next_read : List Line → List Word → Result Line Code
@@ -37,6 +48,18 @@ pub record MayFollow (before : List Line) (i : Line) : Type 0 where
   pub signs : HasSigns i
   pub room : HasRoom before i
 
+-- these items have been read, and this one may follow them
+pub record Awaits (t : TextSoFar) (before : List Line) (i : Line) : Type 0 where
+  pub read : HasRead t before
+  pub may : MayFollow before i
+
+-- these items of a graph problem of this kind have been read, and the numbers of these arcs have their signs
+pub record AwaitsArcs (t : TextSoFar) (kind : Kind) (before : List Line) (arcs : List ArcLine) : Type 0 where
+  pub read : HasRead t before
+  pub kind_is : draft_kind t.draft ≡ Some kind
+  pub graph : is_companion kind ≡ false
+  pub signs : AllByRecursion HasSigns (arc_items kind arcs)
+
 -- the fault of a line after these items, its number aside
 abbrev pub fault_next : List Line → List Word → Option Code
 fault_next before ws = cond (is_skip ws) None (first_fault (line_tests before ws))
@@ -46,7 +69,7 @@ pub record TextAt (t : TextSoFar) (ls : List (List ℕ)) : Type 0 where
   pub clean : IsClean ls
   pub few : length ls < 2 ^ 63 - 1
   pub number_is : t.closed ≡ length ls
-  pub progress_is : IsProgress t.progress (items_of ls)
+  pub items_are : HasRead t (items_of ls)
 
 -- lines, each with the LF that ends it
 abbrev pub closed_lines : List (List ℕ) → List ℕ

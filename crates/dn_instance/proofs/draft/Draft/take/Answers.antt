@@ -1,22 +1,24 @@
-use Rattle.std.proofs.Common.{rules, w64, Some, ap, sym, subst, ◌∙◌}
+use Rattle.std.proofs.Common.{rules, w64, refl, ap, sym, subst, ◌∙◌}
 use Rattle.std.specs.Int.RustNames.{FitsSigned}
 use Rattle.std.proofs.lemmas.Int.{to_z-of_z}
 use Rattle.std.proofs.lemmas.Result.{on_err_weaker}
 use Rattle.dn_line.specs.declared.line.Line.TheVariants.{Terminal}
 use Rattle.dn_instance.specs.declared.draft.Draft.TheVariants as Drafts
 use Rattle.dn_instance.specs.State.Drafts.{HasSigns, draft_kind}
-use Rattle.dn_instance.proofs.DraftLaws.{to_answer, to_stand, to_keep, keep_same, source_keep, sink_keep, cap_keep, source_answer, sink_answer, id_answer, pair_answer, point_answer, source_stand, sink_stand, cap_stand, id_stand, pair_stand, point_stand, no_min, no_max, no_sp, no_ss, no_p2p, no_co, refused}
+use Rattle.dn_instance.proofs.DraftLaws.{Answering, Standing, no_empty, own_kind, to_answer, to_stand, to_keep, keep_same, source_keep, sink_keep, cap_keep, source_answer, sink_answer, id_answer, pair_answer, point_answer, source_stand, sink_stand, cap_stand, id_stand, pair_stand, point_stand, no_min, no_max, no_sp, no_ss, no_p2p, no_co, refused}
 use Rattle.dn_instance.proofs.SupplyItems.{supply_answer, supply_stand, supply_keep, cost_stand}
 use Rattle.dn_instance.proofs.draft.Draft.take.Goals as goal
-use Rattle.dn_instance.proofs.draft.Draft.take.Goals.{in-Min-MinArc, in-Min-Supply, in-Max-MaxArc, in-Max-Terminal+in-S, in-Max-Terminal+in-T, in-Sp-SpArc, in-Ss-Source, in-P2p-Query, in-Co-Point, in_default, in_default-2, in_default-3, in_default-4, in_default-5, in_default-6}
+use Rattle.dn_instance.proofs.draft.Draft.take.Goals.{in-Min-MinArc, in-Min-Supply, in-Max-MaxArc, in-Max-Terminal+in-S, in-Max-Terminal+in-T, in-Sp-SpArc, in-Ss-Source, in-P2p-Query, in-Co-Point, in_default, in_default-2, in_default-3, in_default-4, in_default-5, in_default-6, in_default-7}
 
 pub returns-clause-answer : goal.returns-clause-answer
-returns-clause-answer c kind signs =
+returns-clause-answer c before next =
+    let kind = next.drafted.kind_is ∙ sym next.of_kind in
+    let answering : Answering c.args.nodes.now c.args.self.now c.args.line c.match-self.result =
     elim c.match-self.branch [
       | in-Min-MinArc w ↦
           (let e = c.numbers_of-arc.ensures.min _ _ _ _ _ w.in-Min-MinArc.is-1 in
           to_answer c.args.nodes.now c.args.self.now _ c.args.line _ c.match-self.result _ w.in-Min-MinArc.is-0 (sym e) w.result-is
-          (λ before p h k n holds. w.take.ensures.answer (subst HasSigns (sym e) signs) before p h k n holds.2))
+          (λ items p d. w.take.ensures.answer (subst HasSigns (sym e) next.signs) items p d.problem_is (own_kind d.kind_is) d.nodes_are d.holds.2))
       | in-Min-Supply w ↦
           (let fi : FitsSigned w64 w.in-Min-Supply.id = search rules in
           let ff : FitsSigned w64 w.in-Min-Supply.flow = search rules in
@@ -26,7 +28,7 @@ returns-clause-answer c kind signs =
       | in-Max-MaxArc w ↦
           (let e = c.numbers_of-arc.ensures.max _ _ _ w.in-Max-MaxArc.is-1 in
           to_answer c.args.nodes.now c.args.self.now _ c.args.line _ c.match-self.result _ w.in-Max-MaxArc.is-0 (sym e) w.result-is
-          (λ before p h k n holds. w.take-in-Max-MaxArc.ensures.answer (subst HasSigns (sym e) signs) before p h k n holds.2))
+          (λ items p d. w.take-in-Max-MaxArc.ensures.answer (subst HasSigns (sym e) next.signs) items p d.problem_is (own_kind d.kind_is) d.nodes_are d.holds.2))
       | in-Max-Terminal+in-S w ↦
           (let fi : FitsSigned w64 w.in-Max-Terminal.id = search rules in
           let ans = simp to_z-of_z at w.take_terminal.ensures.answer in
@@ -39,7 +41,8 @@ returns-clause-answer c kind signs =
           (sink_answer c.args.nodes.now w.in-Max-Terminal.id _ _ _ w.take_terminal-in-T.result ans))
       | in-Sp-SpArc w ↦
           (let e = c.numbers_of-arc.ensures.sp _ _ _ w.in-Sp-SpArc.is-1 in
-          to_answer c.args.nodes.now c.args.self.now _ c.args.line _ c.match-self.result _ w.in-Sp-SpArc.is-0 (sym e) w.result-is (w.take-in-Sp-SpArc.ensures.answer (subst HasSigns (sym e) signs)))
+          to_answer c.args.nodes.now c.args.self.now _ c.args.line _ c.match-self.result _ w.in-Sp-SpArc.is-0 (sym e) w.result-is
+          (λ items p d. w.take-in-Sp-SpArc.ensures.answer (subst HasSigns (sym e) next.signs) items p d.problem_is (own_kind d.kind_is) d.nodes_are d.holds))
       | in-Ss-Source w ↦
           (let fi : FitsSigned w64 w.in-Ss-Source.id = search rules in
           let ans = simp to_z-of_z at w.take_source.ensures.answer in
@@ -56,22 +59,26 @@ returns-clause-answer c kind signs =
           let ans = simp to_z-of_z at w.take_point.ensures.answer in
           to_answer c.args.nodes.now c.args.self.now _ c.args.line _ c.match-self.result _ w.in-Co-Point.is-0 w.in-Co-Point.is-1 w.result-is
           (point_answer c.args.nodes.now w.in-Co-Point.id w.in-Co-Point.x w.in-Co-Point.y w.in-Co-Point.points w.take_point.result ans))
-      | in_default-2 w ↦ absurd (no_max c.args.line (ap (λ d. Some (draft_kind d)) (sym w.in_default.is-0) ∙ kind) w.in_default.not-Terminal-1 w.in_default.not-MaxArc-1)
-      | in_default-3 w ↦ absurd (no_sp c.args.line (ap (λ d. Some (draft_kind d)) (sym w.in_default.is-0) ∙ kind) w.in_default.not-SpArc-1)
-      | in_default-4 w ↦ absurd (no_ss c.args.line (ap (λ d. Some (draft_kind d)) (sym w.in_default.is-0) ∙ kind) w.in_default.not-Source-1)
-      | in_default-5 w ↦ absurd (no_p2p c.args.line (ap (λ d. Some (draft_kind d)) (sym w.in_default.is-0) ∙ kind) w.in_default.not-Query-1)
-      | in_default-6 w ↦ absurd (no_co c.args.line (ap (λ d. Some (draft_kind d)) (sym w.in_default.is-0) ∙ kind) w.in_default.not-Point-1)
-      | in_default w ↦ absurd (no_min c.args.line (ap (λ d. Some (draft_kind d)) (sym w.in_default.is-0) ∙ kind) w.in_default.not-Supply-1 w.in_default.not-MinArc-1)
+      | in_default-2 w ↦ absurd (no_max c.args.line (ap draft_kind (sym w.in_default.is-0) ∙ kind) w.in_default.not-Terminal-1 w.in_default.not-MaxArc-1)
+      | in_default-3 w ↦ absurd (no_sp c.args.line (ap draft_kind (sym w.in_default.is-0) ∙ kind) w.in_default.not-SpArc-1)
+      | in_default-4 w ↦ absurd (no_ss c.args.line (ap draft_kind (sym w.in_default.is-0) ∙ kind) w.in_default.not-Source-1)
+      | in_default-5 w ↦ absurd (no_p2p c.args.line (ap draft_kind (sym w.in_default.is-0) ∙ kind) w.in_default.not-Query-1)
+      | in_default-7 w ↦ absurd (no_empty c.args.self.now _ (sym w.in_default.is-0) next.drafted.kind_is)
+      | in_default-6 w ↦ absurd (no_co c.args.line (ap draft_kind (sym w.in_default.is-0) ∙ kind) w.in_default.not-Point-1)
+      | in_default w ↦ absurd (no_min c.args.line (ap draft_kind (sym w.in_default.is-0) ∙ kind) w.in_default.not-Supply-1 w.in_default.not-MinArc-1)
     ]
+    in
+    answering before next.problem next.drafted
 
-pub returns-clause-stands : goal.returns-clause-stands
-returns-clause-stands c signs =
+pub returns-clause-holds : goal.returns-clause-holds
+returns-clause-holds c before next =
+    let standing : Standing c.args.self.now c.args.line c.match-self.self c.match-self.result =
     elim c.match-self.branch [
       | in-Min-MinArc w ↦
           (let r = c.numbers_of-arc.result in
           let e = c.numbers_of-arc.ensures.min _ _ _ _ _ w.in-Min-MinArc.is-1 in
           to_stand c.args.self.now _ c.args.line _ c.match-self.self _ c.match-self.result _ w.in-Min-MinArc.is-0 (sym e) w.self-is w.result-is
-          (cost_stand w.in-Min-MinArc.supplies-0 w.in-Min-MinArc.idle-0 _ _ r.src r.dst r.low r.cap r.cost w.take.result (w.take.ensures.stands (subst HasSigns (sym e) signs))))
+          (cost_stand w.in-Min-MinArc.supplies-0 w.in-Min-MinArc.idle-0 _ _ r.src r.dst r.low r.cap r.cost w.take.result (w.take.ensures.stands (subst HasSigns (sym e) next.signs))))
       | in-Min-Supply w ↦
           (let fi : FitsSigned w64 w.in-Min-Supply.id = search rules in
           let ff : FitsSigned w64 w.in-Min-Supply.flow = search rules in
@@ -83,7 +90,7 @@ returns-clause-stands c signs =
           (let r = c.numbers_of-arc.result in
           let e = c.numbers_of-arc.ensures.max _ _ _ w.in-Max-MaxArc.is-1 in
           to_stand c.args.self.now _ c.args.line _ c.match-self.self _ c.match-self.result _ w.in-Max-MaxArc.is-0 (sym e) w.self-is w.result-is
-          (cap_stand _ _ _ _ r.src r.dst r.cap w.take-in-Max-MaxArc.result (w.take-in-Max-MaxArc.ensures.stands (subst HasSigns (sym e) signs))))
+          (cap_stand _ _ _ _ r.src r.dst r.cap w.take-in-Max-MaxArc.result (w.take-in-Max-MaxArc.ensures.stands (subst HasSigns (sym e) next.signs))))
       | in-Max-Terminal+in-S w ↦
           (let fi : FitsSigned w64 w.in-Max-Terminal.id = search rules in
           let ans = simp to_z-of_z at w.take_terminal.ensures.answer in
@@ -98,7 +105,7 @@ returns-clause-stands c signs =
           (sink_stand c.args.nodes.now w.in-Max-Terminal.id _ _ _ _ w.take_terminal-in-T.result ans ok))
       | in-Sp-SpArc w ↦
           (let e = c.numbers_of-arc.ensures.sp _ _ _ w.in-Sp-SpArc.is-1 in
-          to_stand c.args.self.now _ c.args.line _ c.match-self.self _ c.match-self.result _ w.in-Sp-SpArc.is-0 (sym e) w.self-is w.result-is (w.take-in-Sp-SpArc.ensures.stands (subst HasSigns (sym e) signs)))
+          to_stand c.args.self.now _ c.args.line _ c.match-self.self _ c.match-self.result _ w.in-Sp-SpArc.is-0 (sym e) w.self-is w.result-is (w.take-in-Sp-SpArc.ensures.stands (subst HasSigns (sym e) next.signs)))
       | in-Ss-Source w ↦
           (let fi : FitsSigned w64 w.in-Ss-Source.id = search rules in
           let ok = simp to_z-of_z at w.take_source.ensures.ok in
@@ -121,9 +128,12 @@ returns-clause-stands c signs =
       | in_default-3 w ↦ refused c.args.self.now c.args.line c.match-self.self c.match-self.result _ w.result-is
       | in_default-4 w ↦ refused c.args.self.now c.args.line c.match-self.self c.match-self.result _ w.result-is
       | in_default-5 w ↦ refused c.args.self.now c.args.line c.match-self.self c.match-self.result _ w.result-is
+      | in_default-7 w ↦ refused c.args.self.now c.args.line c.match-self.self c.match-self.result _ w.result-is
       | in_default-6 w ↦ refused c.args.self.now c.args.line c.match-self.self c.match-self.result _ w.result-is
       | in_default w ↦ refused c.args.self.now c.args.line c.match-self.self c.match-self.result _ w.result-is
     ]
+    in
+    standing before next.drafted.holds
 
 pub returns-clause-unchanged : goal.returns-clause-unchanged
 returns-clause-unchanged c =
@@ -141,6 +151,7 @@ returns-clause-unchanged c =
       | in_default-3 w ↦ to_keep c.args.self.now _ c.match-self.self _ c.match-self.result _ w.in_default.is-0 w.self-is w.result-is (λ before holds. holds)
       | in_default-4 w ↦ to_keep c.args.self.now _ c.match-self.self _ c.match-self.result _ w.in_default.is-0 w.self-is w.result-is (λ before holds. holds)
       | in_default-5 w ↦ to_keep c.args.self.now _ c.match-self.self _ c.match-self.result _ w.in_default.is-0 w.self-is w.result-is (λ before holds. holds)
+      | in_default-7 w ↦ to_keep c.args.self.now _ c.match-self.self _ c.match-self.result _ refl w.self-is w.result-is (λ before holds. holds)
       | in_default-6 w ↦ to_keep c.args.self.now _ c.match-self.self _ c.match-self.result _ w.in_default.is-0 w.self-is w.result-is (λ before holds. holds)
       | in_default w ↦ to_keep c.args.self.now _ c.match-self.self _ c.match-self.result _ w.in_default.is-0 w.self-is w.result-is (λ before holds. holds)
     ]
@@ -161,6 +172,7 @@ returns-clause-kept c =
       | in_default-3 w ↦ ap draft_kind w.self-is ∙ sym (ap draft_kind w.in_default.is-0)
       | in_default-4 w ↦ ap draft_kind w.self-is ∙ sym (ap draft_kind w.in_default.is-0)
       | in_default-5 w ↦ ap draft_kind w.self-is ∙ sym (ap draft_kind w.in_default.is-0)
+      | in_default-7 w ↦ ap draft_kind w.self-is
       | in_default-6 w ↦ ap draft_kind w.self-is ∙ sym (ap draft_kind w.in_default.is-0)
       | in_default w ↦ ap draft_kind w.self-is ∙ sym (ap draft_kind w.in_default.is-0)
     ]

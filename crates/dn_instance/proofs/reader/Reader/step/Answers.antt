@@ -5,8 +5,9 @@ use Rattle.dn_instance.specs.Readers.{ended}
 use Rattle.dn_instance.specs.State.Readers.{IsRefused}
 use Rattle.dn_instance.specs.State.ReaderStates.{StopsIn}
 use Rattle.dn_instance.specs.State.TextsSoFar.{TextAt}
-use Rattle.dn_instance.proofs.PieceSteps.{ended_then, goes_on, used_bound}
+use Rattle.dn_instance.proofs.PieceSteps.{ended_then, goes_on}
 use Rattle.dn_instance.proofs.reader.Reader.step.Goals as goal
+use Rattle.dn_line.proofs.BeginLaws.{used_within}
 
 pub returns-in-Ok-close-clause-advances : goal.returns-in-Ok-close-clause-advances
 returns-in-Ok-close-clause-advances c t h =
@@ -44,7 +45,7 @@ returns-in-Ok-2-clause-advances c t h =
     }
 
 pub returns-in-Ok-close-clause-bound : goal.returns-in-Ok-close-clause-bound
-returns-in-Ok-close-clause-bound c = subst (λ n. n ≤ length c.args.piece.now) (sym c.in-Ok.ensures.ok.0) (used_bound c.args.piece.now)
+returns-in-Ok-close-clause-bound c = subst (λ n. n ≤ length c.args.piece.now) (sym c.in-Ok.ensures.ok.0) (used_within c.args.piece.now)
 
 pub returns-in-Ok-2-clause-bound : goal.returns-in-Ok-2-clause-bound
-returns-in-Ok-2-clause-bound c = subst (λ n. n ≤ length c.args.piece.now) (sym c.in-Ok.ensures.ok.0) (used_bound c.args.piece.now)
+returns-in-Ok-2-clause-bound c = subst (λ n. n ≤ length c.args.piece.now) (sym c.in-Ok.ensures.ok.0) (used_within c.args.piece.now)

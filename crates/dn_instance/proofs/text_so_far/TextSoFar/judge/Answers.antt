@@ -1,22 +1,19 @@
-use Rattle.std.proofs.Common.{Ok, OnOk, sym, ap, ◌∙◌, subst, refl}
+use Rattle.std.proofs.Common.{Ok, OnOk, sym, ap, ◌∙◌, subst}
 use Rattle.dn_line.specs.Words.{said_words}
-use Rattle.dn_instance.specs.State.TextsSoFar.{IsProgress}
+use Rattle.dn_instance.specs.State.TextsSoFar.{HasRead}
 use Rattle.dn_instance.specs.State.ItemFaults.{AnswersFault}
 use Rattle.dn_instance.proofs.CleanItems.{skip_adds_none}
 use Rattle.dn_instance.proofs.FollowLaws.{skip_only, skip_faultless, not_skipped, follows_as, same_fault, adds_it, line_refused}
 use Rattle.dn_instance.proofs.text_so_far.TextSoFar.judge.Goals as goal
 
--- src/text_so_far.rt:62:5
 pub returns-then-is_skip-clause-answer : goal.returns-then-is_skip-clause-answer
 returns-then-is_skip-clause-answer c items l at stands =
     skip_faultless items (said_words l.bytes) (skip_only items (said_words l.bytes) (sym (c.read.ensures items l at stands) ∙ c.in-Ok.is ∙ ap Ok (c.is_skip.ensures.skip c.if-is_skip.true)))
 
--- src/text_so_far.rt:62:5
-pub returns-then-is_skip-clause-stands : goal.returns-then-is_skip-clause-stands
-returns-then-is_skip-clause-stands c items l at stands =
-    subst (IsProgress c.args.self.now.progress) (sym (skip_adds_none items (said_words l.bytes) (skip_only items (said_words l.bytes) (sym (c.read.ensures items l at stands) ∙ c.in-Ok.is ∙ ap Ok (c.is_skip.ensures.skip c.if-is_skip.true))))) at
+pub returns-then-is_skip-clause-read : goal.returns-then-is_skip-clause-read
+returns-then-is_skip-clause-read c items l at stands =
+    subst (HasRead c.args.self.now) (sym (skip_adds_none items (said_words l.bytes) (skip_only items (said_words l.bytes) (sym (c.read.ensures items l at stands) ∙ c.in-Ok.is ∙ ap Ok (c.is_skip.ensures.skip c.if-is_skip.true))))) at
 
--- src/text_so_far.rt:62:5
 pub returns-else-is_skip : goal.returns-else-is_skip
 returns-else-is_skip c = record {
   answer = λ items l at stands.
@@ -24,18 +21,17 @@ returns-else-is_skip c = record {
       let r = sym (c.read.ensures items l at stands) ∙ c.in-Ok.is in
       let e = not_skipped items ws c.in-Ok.item r (c.is_skip.ensures.item c.if-is_skip.false) in
       let f = follows_as items ws e c.in-Ok.item r in
-      subst (AnswersFault c.put.result) (sym (same_fault items ws c.in-Ok.item e f)) (c.put.ensures.answer items at f.may);
-  stands = λ items l at stands.
+      subst (AnswersFault c.take.result) (sym (same_fault items ws c.in-Ok.item e f)) (c.take.ensures.answer items (record { read = at; may = f.may }));
+  read = λ items l at stands.
       let ws = said_words l.bytes in
       let r = sym (c.read.ensures items l at stands) ∙ c.in-Ok.is in
       let e = not_skipped items ws c.in-Ok.item r (c.is_skip.ensures.item c.if-is_skip.false) in
       let f = follows_as items ws e c.in-Ok.item r in
-      subst (λ x. OnOk c.put.result (IsProgress c.put.new.progress x)) (sym (adds_it items ws c.in-Ok.item e f)) (c.put.ensures.stands items at f.may);
-  kept = refl;
+      subst (λ x. OnOk c.take.result (HasRead c.take.new.self x)) (sym (adds_it items ws c.in-Ok.item e f)) (c.take.ensures.read items (record { read = at; may = f.may }));
+  unchanged = λ items at. c.take.ensures.unchanged items at;
+  kept = c.take.ensures.kept;
   item = λ items l at stands _. not_skipped items (said_words l.bytes) c.in-Ok.item (sym (c.read.ensures items l at stands) ∙ c.in-Ok.is) (c.is_skip.ensures.item c.if-is_skip.false);
-  unchanged = λ items at. c.put.ensures.unchanged items at;
 }
 
--- src/text_so_far.rt:62:5
 pub returns-in-Err-clause-answer : goal.returns-in-Err-clause-answer
 returns-in-Err-clause-answer c items l at stands = line_refused items (said_words l.bytes) c.in-Err.code (sym (c.read.ensures items l at stands) ∙ c.in-Err.is)

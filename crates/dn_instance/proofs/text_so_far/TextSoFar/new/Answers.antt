@@ -3,4 +3,9 @@ use Rattle.dn_instance.proofs.LineSteps.{no_lines}
 use Rattle.dn_instance.proofs.text_so_far.TextSoFar.new.Goals as goal
 
 pub returns : goal.returns
-returns c = record { clean = no_lines; few = omega arith; number_is = refl; progress_is = refl }
+returns c = record {
+  clean = no_lines;
+  few = omega arith;
+  number_is = refl;
+  items_are = record { problem_is = refl; count_fits = omega arith; counted_is = refl; counted_few = omega arith; arcs_are = λ kind is graph. refl; holds = refl };
+}

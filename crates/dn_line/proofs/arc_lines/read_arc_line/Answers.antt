@@ -4,7 +4,7 @@ use Rattle.dn_line.specs.State.ArcLines.{BeginsWithArc, IsArcOf, IsGap, arc_of}
 use Rattle.dn_line.specs.declared.arc_lines.ArcBefore.{ArcBefore}
 use Rattle.dn_line.specs.declared.kind.Kind.{Kind}
 use Rattle.dn_line.proofs.ArcLineLaws.{letter_line}
-use Rattle.dn_line.proofs.arc_lines.arc_line.Goals as goal
+use Rattle.dn_line.proofs.arc_lines.read_arc_line.Goals as goal
 
 begins : (kind : Kind) (bytes more : List ℕ) (found : Option ArcBefore) → 0 < length bytes → get_or bytes 0 0 ≡ 97 → IsGap (drop 1 bytes) more
     → IfSome found (λ a. IsArcOf kind more (arc_of kind a.arc) a.rest.now) → IfSome found (λ a. BeginsWithArc kind bytes (arc_of kind a.arc) a.rest.now)

@@ -1,0 +1,205 @@
+-- The items of the complete lines with one item more.
+use Rattle.std.proofs.Common.{◌≡◌, ◌<◌, ℕ, ◌+◌, ℤ, pos, ◌+ℤ◌, ◌<ℤ◌, List, [], ◌∷◌, ◌++◌, length, filter, Bool, true, false, cond, not, ◌||◌, int_lt, Option, Some, None, is_some, IsSome, refl, sym, subst, ap, ◌∙◌, arith, ◌≤◌, ◌^◌, ◌-◌, FitsSigned, w64, suc}
+use Rattle.std.proofs.lemmas.Int.{ints, fits_signed_from_abs}
+use Rattle.std.proofs.lemmas.Bool.Decides.{nat_tests}
+use Rattle.std.proofs.lemmas.List.Folds.{list_any-append}
+use Rattle.std.proofs.Math.Bool.{or-false, or-true}
+use Rattle.std.proofs.Math.Nat.{min-eq_left}
+use Rattle.std.specs.Int.{saturate_signed}
+use Rattle.std.specs.List.{list_any}
+use Rattle.std.specs.Option.{option_map, option_or}
+use Rattle.dn_line.specs.declared.line.Line.{Line}
+use Rattle.dn_line.specs.declared.line.Line.TheVariants as Item
+use Rattle.dn_line.specs.declared.kind.Kind.{Kind}
+use Rattle.dn_line.specs.declared.kind.Kind.TheVariants as Kinds
+use Rattle.dn_line.specs.State.Spelling.{kind_before, slots_of}
+use Rattle.dn_instance.specs.Items.{Problem, problem_of, problem_in, kind_known, counted, is_counted}
+use Rattle.dn_instance.specs.TextFaults.{is_arc, is_companion, is_full}
+use Rattle.dn_instance.specs.State.Drafts.{draft_kind, ComesNext, DraftHolds, HasRoom}
+use Rattle.dn_instance.specs.State.TextsSoFar.{Awaits, HasRead, problem_as}
+use Rattle.dn_instance.specs.declared.draft.Draft.{Draft}
+use Rattle.dn_instance.specs.declared.draft.Draft.TheVariants as Drafts
+use Rattle.dn_instance.specs.declared.text_so_far.TextSoFar.{TextSoFar}
+use Rattle.dn_instance.proofs.CleanItems.{problem_push}
+use Rattle.dn_instance.proofs.DraftLaws.{held_problem}
+
+-- the draft is of the kind that is declared
+pub kind_told : (t : TextSoFar) (items : List Line) → HasRead t items → kind_known items ≡ draft_kind t.draft
+kind_told t items at = ap (option_map (λ (p : Problem). p.kind)) at.problem_is ∙ kind_as (draft_kind t.draft)
+  where
+    kind_as : (o : Option Kind) → option_map (λ (p : Problem). p.kind) (option_map (problem_as t) o) ≡ o
+    kind_as None = refl
+    kind_as (Some kind) = refl
+
+-- the problem of a draft of this kind
+pub problem_told : (t : TextSoFar) (items : List Line) (kind : Kind) → HasRead t items → draft_kind t.draft ≡ Some kind → problem_of items ≡ Some (problem_as t kind)
+problem_told t items kind at is = at.problem_is ∙ ap (option_map (problem_as t)) is
+
+-- the number of lines is of no account for the items
+pub with_lines : (t : TextSoFar) (n : ℕ) (items : List Line) → HasRead t items → HasRead (record t { closed = n }) items
+with_lines t n items at = record {
+  problem_is = at.problem_is;
+  count_fits = at.count_fits;
+  counted_is = at.counted_is;
+  counted_few = at.counted_few;
+  arcs_are = at.arcs_are;
+  holds = at.holds;
+}
+
+-- an item other than a problem line is of a kind
+kind_of_item : (i : Line) → problem_in i ≡ None → IsSome (slots_of i) → (kind : Kind) × (kind_before i ≡ Some kind)
+kind_of_item Item.Skip h s = cc
+kind_of_item (Item.Graph _ _ _) h s = cc
+kind_of_item (Item.Aux _ _) h s = cc
+kind_of_item (Item.Supply _ _) h s = (Kinds.Min, refl)
+kind_of_item (Item.Terminal _ _) h s = (Kinds.Max, refl)
+kind_of_item (Item.MinArc _ _ _ _ _) h s = (Kinds.Min, refl)
+kind_of_item (Item.MaxArc _ _ _) h s = (Kinds.Max, refl)
+kind_of_item (Item.SpArc _ _ _) h s = (Kinds.Sp, refl)
+kind_of_item (Item.Source _) h s = (Kinds.Ss, refl)
+kind_of_item (Item.Query _ _) h s = (Kinds.P2p, refl)
+kind_of_item (Item.Point _ _ _) h s = (Kinds.Co, refl)
+
+pub comes_next : (t : TextSoFar) (before : List Line) (i : Line) → Awaits t before i → problem_in i ≡ None → ComesNext t.draft t.nodes before i
+comes_next t before i a none =
+    let k = kind_of_item i none a.may.spelled in
+    let kind_is : draft_kind t.draft ≡ Some k.0 = sym (kind_told t before a.read) ∙ a.may.kind_is ∙ k.1 in
+    record {
+      problem = problem_as t k.0;
+      drafted = record { problem_is = problem_told t before k.0 a.read kind_is; kind_is = kind_is; nodes_are = refl; holds = a.read.holds };
+      of_kind = k.1;
+      signs = a.may.signs;
+    }
+
+pub problem_kept : (items : List Line) (i : Line) (p : Problem) → problem_of items ≡ Some p → problem_of (items ++ i ∷ []) ≡ Some p
+problem_kept items i p h = problem_push items i ∙ ap (λ o. option_or o (problem_in i)) h
+
+-- with an item that is counted, or is not
+pub counted_yes : (items : List Line) (i : Line) → is_counted i ≡ true → counted (items ++ i ∷ []) ≡ suc (counted items)
+counted_yes [] i h = ap (λ b. length (cond b (i ∷ []) [])) h
+counted_yes (x ∷ rest) i h = by_test (is_counted x) (counted_yes rest i h)
+  where
+    by_test : (b : Bool) → length (filter is_counted (rest ++ i ∷ [])) ≡ suc (length (filter is_counted rest))
+        → length (cond b (x ∷ filter is_counted (rest ++ i ∷ [])) (filter is_counted (rest ++ i ∷ []))) ≡ suc (length (cond b (x ∷ filter is_counted rest) (filter is_counted rest)))
+    by_test true e = ap suc e
+    by_test false e = e
+
+pub counted_no : (items : List Line) (i : Line) → is_counted i ≡ false → counted (items ++ i ∷ []) ≡ counted items
+counted_no [] i h = ap (λ b. length (cond b (i ∷ []) [])) h
+counted_no (x ∷ rest) i h = by_test (is_counted x) (counted_no rest i h)
+  where
+    by_test : (b : Bool) → length (filter is_counted (rest ++ i ∷ [])) ≡ length (filter is_counted rest)
+        → length (cond b (x ∷ filter is_counted (rest ++ i ∷ [])) (filter is_counted (rest ++ i ∷ []))) ≡ length (cond b (x ∷ filter is_counted rest) (filter is_counted rest))
+    by_test true e = ap suc e
+    by_test false e = e
+
+any_push : (items : List Line) (i : Line) → list_any is_arc (items ++ i ∷ []) ≡ (list_any is_arc items || is_arc i)
+any_push items i = list_any-append is_arc items (i ∷ []) ∙ ap (λ b. list_any is_arc items || b) (or-false (is_arc i))
+
+-- a problem's counted lines are its arcs
+arc_counted : (k : Kind) (i : Line) → is_companion k ≡ false → Some k ≡ kind_before i → is_arc i ≡ is_counted i
+arc_counted k (Item.Source id) c h = cc
+arc_counted k (Item.Query a b) c h = cc
+arc_counted k (Item.Point id x y) c h = cc
+arc_counted k (Item.MinArc a b c d e) _ h = refl
+arc_counted k (Item.MaxArc a b c) _ h = refl
+arc_counted k (Item.SpArc a b c) _ h = refl
+arc_counted k Item.Skip c h = refl
+arc_counted k (Item.Graph _ _ _) c h = refl
+arc_counted k (Item.Aux _ _) c h = refl
+arc_counted k (Item.Supply _ _) c h = refl
+arc_counted k (Item.Terminal _ _) c h = refl
+
+-- one more than a number below one that fits is not saturated
+pub next_fits : (k : ℕ) (m : ℤ) → m <ℤ pos (2 ^ 63) → int_lt (pos k) m ≡ true → FitsSigned w64 (pos (suc k))
+next_fits k m f h = fits_signed_from_abs w64 (pos (suc k)) (grind (arith, ints, nat_tests))
+
+pub next_few : (k : ℕ) (m : ℤ) → m <ℤ pos (2 ^ 63) → int_lt (pos k) m ≡ true → suc k < 2 ^ 63
+next_few k m f h = grind (arith, ints, nat_tests)
+
+pub sum_is : (k : ℕ) (m : ℤ) → m <ℤ pos (2 ^ 63) → int_lt (pos k) m ≡ true → saturate_signed w64 (pos k +ℤ pos 1) ≡ pos (suc k)
+sum_is k m f h =
+    let small : (k + 1) ≤ 2 ^ 63 - 1 = grind (arith, ints, nat_tests) in
+    let one_more : k + 1 ≡ suc k = grind (arith) in
+    ap pos (min-eq_left small ∙ one_more)
+
+-- as many lines as declared are not read yet
+pub has_room : (t : TextSoFar) (items : List Line) (i : Line) (kind : Kind) → HasRead t items → draft_kind t.draft ≡ Some kind → HasRoom items i → is_counted i ≡ true → int_lt (pos (counted items)) t.count ≡ true
+has_room t items i kind at is room y = not_not _ (sym (ap (λ o. is_full o (counted items)) (problem_told t items kind at is)) ∙ room y)
+  where
+    not_not : (b : Bool) → not b ≡ false → b ≡ true
+    not_not true h = refl
+    not_not false h = cc
+
+-- with one item more
+module _ (t : TextSoFar) (d : Draft) (items : List Line) (i : Line) (at : HasRead t items) (next : ComesNext t.draft t.nodes items i) (kept : draft_kind d ≡ draft_kind t.draft) where
+  arcs_then : (n : ℤ) (b : Bool) → is_counted i ≡ b → n ≡ pos (counted (items ++ i ∷ [])) → (kind : Kind) → draft_kind d ≡ Some kind → is_companion kind ≡ false → list_any is_arc (items ++ i ∷ []) ≡ int_lt (pos 0) n
+  arcs_then n b c e kind is graph =
+      any_push items i ∙ ap (λ x. list_any is_arc items || x) (arc_counted kind i graph (sym is ∙ kept ∙ next.drafted.kind_is ∙ sym next.of_kind) ∙ c) ∙ by_test b c
+    where
+      above : (k : ℕ) → int_lt (pos 0) (pos (suc k)) ≡ true
+      above k = grind (arith, ints, nat_tests)
+
+      by_test : (b : Bool) → is_counted i ≡ b → (list_any is_arc items || b) ≡ int_lt (pos 0) n
+      by_test true c = or-true (list_any is_arc items) ∙ sym (ap (int_lt (pos 0)) (e ∙ ap pos (counted_yes items i c)) ∙ above (counted items))
+      by_test false c = or-false (list_any is_arc items) ∙ at.arcs_are kind (sym kept ∙ is) graph ∙ ap (int_lt (pos 0)) (at.counted_is ∙ sym (e ∙ ap pos (counted_no items i c)))
+
+  pub is_then : (n : ℤ) → n ≡ pos (counted (items ++ i ∷ [])) → counted (items ++ i ∷ []) < 2 ^ 63 → DraftHolds d (items ++ i ∷ []) → HasRead (record t { counted = n; draft = d }) (items ++ i ∷ [])
+  is_then n e few h =
+      let kind = next.drafted.kind_is in
+      record {
+        problem_is = problem_kept items i _ (problem_told t items _ at kind) ∙ sym (ap (option_map (problem_as t)) (kept ∙ kind));
+        count_fits = at.count_fits;
+        counted_is = e;
+        counted_few = few;
+        arcs_are = arcs_then n (is_counted i) refl e;
+        holds = h;
+      }
+
+-- a problem line is of no kind, it is no arc, and it is not counted
+heads : (i : Line) → IsSome (problem_in i) → (kind_before i ≡ None) × (list_any is_arc (i ∷ []) ≡ false) × (counted (i ∷ []) ≡ 0)
+heads (Item.Graph k n c) s = (refl, refl, refl)
+heads (Item.Aux k c) s = (refl, refl, refl)
+heads Item.Skip s = cc
+heads (Item.Supply _ _) s = cc
+heads (Item.Terminal _ _) s = cc
+heads (Item.MinArc _ _ _ _ _) s = cc
+heads (Item.MaxArc _ _ _) s = cc
+heads (Item.SpArc _ _ _) s = cc
+heads (Item.Source _) s = cc
+heads (Item.Query _ _) s = cc
+heads (Item.Point _ _ _) s = cc
+
+-- before the problem line there are no items
+none_made : (d : Draft) (items : List Line) → draft_kind d ≡ None → DraftHolds d items → items ≡ []
+none_made Drafts.Empty items e h = h
+none_made (Drafts.Min _ _ _) items e h = cc
+none_made (Drafts.Max _ _ _) items e h = cc
+none_made (Drafts.Sp _) items e h = cc
+none_made (Drafts.Ss _) items e h = cc
+none_made (Drafts.P2p _) items e h = cc
+none_made (Drafts.Co _) items e h = cc
+
+pub none_before : (t : TextSoFar) (before : List Line) (i : Line) (p : Problem) → Awaits t before i → problem_in i ≡ Some p → before ≡ []
+none_before t before i p a is = none_made t.draft before (sym (kind_told t before a.read) ∙ a.may.kind_is ∙ (heads i (ap is_some is)).0) a.read.holds
+
+-- what has been read with the problem line
+pub begun : (t u : TextSoFar) (before : List Line) (i : Line) (p : Problem) → Awaits t before i → problem_in i ≡ Some p → draft_kind u.draft ≡ Some p.kind → p ≡ problem_as u p.kind → u.count <ℤ pos (2 ^ 63) → u.counted ≡ t.counted → DraftHolds u.draft []
+    → HasRead u (before ++ i ∷ [])
+begun t u before i p a is kind same_problem fits same holds = subst (λ items. HasRead u (items ++ i ∷ [])) (sym first) (record {
+  problem_is = ap (λ o. option_or o None) is ∙ ap Some same_problem ∙ sym (ap (option_map (problem_as u)) kind);
+  count_fits = fits;
+  counted_is = none ∙ sym (ap pos head.2);
+  counted_few = subst (λ n. n < 2 ^ 63) (sym head.2) (omega arith);
+  arcs_are = λ k is_kind graph. head.1 ∙ sym (ap (int_lt (pos 0)) none);
+  holds = held_problem u.draft i (ap is_some is) (ap is_some kind) holds;
+})
+  where
+    first : before ≡ []
+    first = none_before t before i p a is
+
+    head : (kind_before i ≡ None) × (list_any is_arc (i ∷ []) ≡ false) × (counted (i ∷ []) ≡ 0)
+    head = heads i (ap is_some is)
+
+    none : u.counted ≡ pos 0
+    none = same ∙ a.read.counted_is ∙ ap (λ items. pos (counted items)) first
