@@ -66,7 +66,7 @@ def program() -> str:
     """Returns the program that is tested: the first argument, or else the built program of the repository."""
     path = os.path.abspath(sys.argv[1]) if sys.argv[1:] else f"{ROOT}/crates/dnorm/out/dnorm"
     if not os.access(path, os.X_OK):
-        sys.exit(f"{path} is no program: tools/build builds it")
+        sys.exit(f"{path} is not a program: tools/build builds it")
     return path
 
 
