@@ -26,8 +26,8 @@ refusal_status (Text place code) = 2
 refusal_status CountTooLarge = 2
 refusal_status _ = 4
 
--- the exit status of a command that has ended like this: that of what is done, that of the refusal, 2 for a companion
--- that does not fit, or 4 if `out` has failed
+-- the exit status of a command that has ended like this: the given one if it is done, that of the refusal if a text is
+-- refused, 2 if a companion does not fit, and 4 if `out` has failed
 abbrev pub status_of : Answer → ℕ
 status_of (Done status) = status
 status_of (Refused name refusal) = refusal_status refusal
@@ -53,7 +53,7 @@ OutAfter out (Refused name refusal) = out.new ≡ out.old
 OutAfter out (Unfit name fault) = out.new ≡ out.old
 OutAfter out Cut = IsTrue (out.words.has_failed out.new)
 
--- a command that is done has status 0, or, if it compares, 0 or 1
+-- a command that is done has status 0, or, if it is a comparison, 0 or 1
 abbrev pub IsDoneWith : Asked → ℕ → Type 0
 IsDoneWith (Compare left right) status = status ≤ 1
 IsDoneWith _ status = status ≡ 0
@@ -70,8 +70,8 @@ abbrev pub IsCompanionOf : Asked → List ℕ → Type 0
 IsCompanionOf (Check name companion) of = companion ≡ Some of
 IsCompanionOf _ of = ⊥
 
--- the command may refuse a text for this reason: any that reading has, and, if the canonical text is asked for, also
--- that it is too large
+-- the command may refuse a text for this reason: any reason of reading, or, if the canonical text is asked for, that it
+-- is too large
 abbrev pub MayRefuse : Asked → Refusal → Type 0
 MayRefuse (Canon name form) refusal = IsOfReading refusal ⊎ (refusal ≡ CountTooLarge)
 MayRefuse _ refusal = IsOfReading refusal

@@ -49,8 +49,8 @@ pub record GoesOn {F T : Type 0} (files : FilesRun F T) (mid : F) (left right : 
   pub read : IfSome (files.words.behind files.old left) (λ b. (I : Instance) × Reads b I)
   pub asks : AsksOne files.words mid files.new right
 
--- the run asked for the left text, and then either refused it and asked for no other, or had read it and asked for the
--- right text; and `Means` holds of both texts
+-- the run asked for the left text first. Then it refused this text and asked for no other, or it went on to the right
+-- text as `GoesOn` says. `Means` holds of both texts
 pub record TwoAsked {F T : Type 0} (files : FilesRun F T) (left right : List ℕ) (answer : Answer)
     (Means : AskedText T → AskedText T → Type 0) : Type 0 where
   pub mid : F

@@ -47,7 +47,7 @@ PutsChecked companion b I status t = (status ≡ 0) × (forms : Forms) × AreFor
 abbrev pub PutsFit : List ℕ → Instance → Instance → ℕ → List ℕ → Type 0
 PutsFit b I J status t = (companion_fit I J ≡ Ok tt) × PutsChecked (Some (kind_of J)) b I status t
 
--- the companion J does not fit I, for this reason
+-- J is not a companion that fits I, for this reason
 abbrev pub Unfits : Instance → Instance → CompanionFault → Type 0
 Unfits I J fault = companion_fit I J ≡ Err fault
 

@@ -26,9 +26,9 @@ module _ {F T : Type 0} (files : FilesWords F T) (old new : F) (name : List ℕ)
     pub asks : files.Asks old name new
     pub keeps : KeepsOthers (files.behind old) (files.behind new) name
 
-  -- what taking the text of this name does. On `Ok` the files hand out a source that gives what is behind the name and
-  -- has not failed, and afterwards they have no fault for the name. On a fault, afterwards they have this fault for the
-  -- name
+  -- what taking the text of this name does: the files were asked once for it. On `Ok` they hand out a source for the
+  -- name that gives what is behind it and has not failed, and afterwards they have no fault for the name. On a fault,
+  -- afterwards they have this fault for the name
   pub record Takes (source : SourceWords T) (result : Result T FilesFault) : Type 0 where
     pub text : IfOk result (λ t. source.gives t ≡ files.behind old name)
     pub fine : IfOk result (λ t. source.has_failed t ≡ false)
