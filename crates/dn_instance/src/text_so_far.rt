@@ -7,9 +7,10 @@ ghost use Rattle.dn_line.specs.Words.{first, said_words};
 ghost use Rattle.dn_line.specs.Faults.{first_fault, head_tests};
 ghost use Rattle.dn_line.specs.State.Reading.{head_of};
 ghost use Rattle.dn_line.specs.State.LineStates.{LineSoFar, LineReaderAt};
-ghost use Rattle.dn_instance.specs.Items.{problem_in, kind_known, is_counted};
+ghost use Rattle.dn_instance.specs.Items.{problem_in, is_counted};
 ghost use Rattle.dn_instance.specs.TextFaults.{is_companion, order_tests, item_tests, line_fault};
 ghost use Rattle.dn_instance.specs.State.ArcRuns.{AreInTime, Joins, arc_items};
+ghost use Rattle.dn_instance.specs.State.Drafts.{draft_kind};
 ghost use Rattle.dn_instance.specs.State.Ends.{EndsWith};
 ghost use Rattle.dn_instance.specs.State.EntryCount.{entries_so_far};
 ghost use Rattle.dn_instance.specs.State.ItemFaults.{AnswersFault};
@@ -65,7 +66,7 @@ impl TextSoFar {
     // Returns the first fault that a line has by the lines before it, where its head has none.
     fn check_order(&self, head: Head) -> Option<Code>
         ensures answer { (before : List Line) (ws : List Word) → HasRead self.now before
-            → first_fault (head_tests (kind_known before) ws) ≡ None
+            → first_fault (head_tests (draft_kind self.now.draft) ws) ≡ None
             → head ≡ head_of (first ws) (kind_named ws)
             → result ≡ first_fault (order_tests before ws) }
         ensures skip { head ≡ Head.Skip → result ≡ None }
