@@ -46,6 +46,19 @@ with_lines t n items at = record {
   holds = at.holds;
 }
 
+pub no_problem : (i : Line) → ((kind : Kind) (nodes arcs : ℤ) → i ≡ Item.Graph kind nodes arcs → ⊥) → ((kind : Kind) (count : ℤ) → i ≡ Item.Aux kind count → ⊥) → problem_in i ≡ None
+no_problem (Item.Graph kind nodes arcs) g a = absurd (g kind nodes arcs refl)
+no_problem (Item.Aux kind count) g a = absurd (a kind count refl)
+no_problem Item.Skip g a = refl
+no_problem (Item.Supply _ _) g a = refl
+no_problem (Item.Terminal _ _) g a = refl
+no_problem (Item.MinArc _ _ _ _ _) g a = refl
+no_problem (Item.MaxArc _ _ _) g a = refl
+no_problem (Item.SpArc _ _ _) g a = refl
+no_problem (Item.Source _) g a = refl
+no_problem (Item.Query _ _) g a = refl
+no_problem (Item.Point _ _ _) g a = refl
+
 -- an item other than a problem line is of a kind
 kind_of_item : (i : Line) → problem_in i ≡ None → IsSome (slots_of i) → (kind : Kind) × (kind_before i ≡ Some kind)
 kind_of_item Item.Skip h s = cc

@@ -108,7 +108,7 @@ impl TextSoFar {
     }
 
     // Takes the next item after the problem line, or returns its fault.
-    fn take_item(&mut self, alloc: Global, item: Line) -> Result<(), ItemFault>
+    fn take(&mut self, alloc: Global, item: Line) -> Result<(), ItemFault>
         ensures answer { (before : List Line) → Awaits self.old before item → problem_in item ≡ None
             → AnswersFault result (first_fault (item_tests before (Some item))) }
         ensures read { (before : List Line) → Awaits self.old before item → problem_in item ≡ None
@@ -129,29 +129,6 @@ impl TextSoFar {
         }
     }
 
-    // Takes the next item, or returns its fault.
-    fn take(&mut self, alloc: Global, item: Line) -> Result<(), ItemFault>
-        ensures answer { (before : List Line) → Awaits self.old before item
-            → AnswersFault result (first_fault (item_tests before (Some item))) }
-        ensures read { (before : List Line) → Awaits self.old before item
-            → OnOk result (HasRead self.new (before ++ item ∷ [])) }
-        ensures unchanged { (before : List Line) → HasRead self.old before
-            → OnErr result (HasRead self.new before) }
-        ensures kept { self.new.closed ≡ self.old.closed }
-    {
-        match item {
-            Line::Graph { kind, nodes, arcs } => {
-                self.begin(alloc, &kind, &nodes, &arcs);
-                Ok(())
-            }
-            Line::Aux { kind, count } => {
-                self.begin(alloc, &kind, &0, &count);
-                Ok(())
-            }
-            _ => self.take_item(alloc, item),
-        }
-    }
-
     // Takes the item of the next line, or returns the line's fault. The number of the line is left to the caller.
     fn judge(&mut self, alloc: Global, line: &LineReader) -> Result<(), ItemFault>
         ensures answer { (items : List Line) (l : LineSoFar) → HasRead self.old items
@@ -165,13 +142,18 @@ impl TextSoFar {
         ensures kept { self.new.closed ≡ self.old.closed }
     {
         match self.read(line) {
-            Ok(item) => {
-                if is_skip(&item) {
+            Ok(item) => match item {
+                Line::Skip => Ok(()),
+                Line::Graph { kind, nodes, arcs } => {
+                    self.begin(alloc, &kind, &nodes, &arcs);
                     Ok(())
-                } else {
-                    self.take(alloc, item)
                 }
-            }
+                Line::Aux { kind, count } => {
+                    self.begin(alloc, &kind, &0, &count);
+                    Ok(())
+                }
+                _ => self.take(alloc, item),
+            },
             Err(code) => Err(ItemFault::Text(code)),
         }
     }
@@ -285,14 +267,6 @@ fn is_companion(kind: &Kind) -> bool
     ensures { result ≡ is_companion kind.now }
 {
     matches!(kind, Kind::Ss | Kind::P2p | Kind::Co)
-}
-
-// Whether the line spells no item.
-fn is_skip(item: &Line) -> bool
-    ensures skip { result ≡ true → item.now ≡ Line.Skip }
-    ensures item { result ≡ false → item.now ≢ Line.Skip }
-{
-    matches!(item, Line::Skip)
 }
 
 // Whether ARCS or K counts the line.

@@ -8,7 +8,7 @@ use Rattle.dn_instance.specs.State.Drafts.{DraftHolds, is_graph}
 use Rattle.dn_instance.specs.State.ItemFaults.{AnswersFault}
 use Rattle.dn_instance.specs.State.TextsSoFar.{problem_as}
 use Rattle.dn_instance.proofs.ItemSteps.{comes_next, counted_yes, counted_no, next_few, next_fits, sum_is, has_room, is_then}
-use Rattle.dn_instance.proofs.text_so_far.TextSoFar.take_item.Goals as goal
+use Rattle.dn_instance.proofs.text_so_far.TextSoFar.take.Goals as goal
 
 pub returns-then-is_counted-clause-read : goal.returns-then-is_counted-clause-read
 returns-then-is_counted-clause-read c before a none =
