@@ -20,7 +20,7 @@ use Rattle.dn_line.specs.declared.kind.Kind.{Kind}
 use Rattle.dn_line.specs.declared.kind.Kind.TheVariants.{Min, Max, Sp, Ss, P2p, Co}
 use Rattle.dn_line.specs.declared.line.Line.{Line}
 use Rattle.dn_instance.specs.State.ArcRuns.{AreFaultless, AreInTime, Joins, arc_items}
-use Rattle.dn_instance.specs.State.Drafts.{DraftHolds, HasSigns, draft_kind}
+use Rattle.dn_instance.specs.State.Drafts.{DraftHolds, HasSigns, draft_kind, is_graph}
 use Rattle.dn_instance.specs.State.ItemFaults.{AnswersFault}
 use Rattle.dn_instance.specs.Items.{Problem, counted, is_counted, problem_in, problem_of}
 use Rattle.dn_instance.specs.State.TextsSoFar.{HasRead, problem_as}
@@ -130,7 +130,7 @@ come_in_time kind (a ∷ arcs) before p c h r =
 module _ (t : TextSoFar) (d : Draft) (kind : Kind) (before : List Line) (at : HasRead t before) (is : draft_kind t.draft ≡ Some kind) (kept : draft_kind d ≡ draft_kind t.draft) (graph : is_companion kind ≡ false) where
   arcs_then : (arcs : List ArcLine) (n : ℤ) → n ≡ pos (counted before + length arcs) → list_any is_arc (before ++ arc_items kind arcs) ≡ int_lt (pos 0) n
   arcs_then [] n e =
-      ap (list_any is_arc) (append-nil before) ∙ at.arcs_are kind is graph ∙ ap (int_lt (pos 0)) (at.counted_is ∙ sym (e ∙ ap pos (none (counted before))))
+      ap (list_any is_arc) (append-nil before) ∙ at.arcs_are (ap is_graph is ∙ ap not graph) ∙ ap (int_lt (pos 0)) (at.counted_is ∙ sym (e ∙ ap pos (none (counted before))))
     where
       none : (k : ℕ) → k + 0 ≡ k
       none k = omega arith
@@ -152,7 +152,7 @@ module _ (t : TextSoFar) (d : Draft) (kind : Kind) (before : List Line) (at : Ha
         count_fits = at.count_fits;
         counted_is = e ∙ ap pos (sym all);
         counted_few = subst (λ k. k < 2 ^ 63) (sym all) few;
-        arcs_are = λ _ _ _. arcs_then arcs n e;
+        arcs_are = λ _. arcs_then arcs n e;
         holds = h;
       }
 

@@ -230,6 +230,18 @@ module _ (before : List Line) (ws : List Word) (i : Line) (e : is_skip ws ≡ fa
   pub adds_it : with_next before ws ≡ before ++ i ∷ []
   adds_it = ap (λ o. before ++ option_to_list o) f.reads
 
+-- an item that is read of a line may follow those before it, its faults are the line's, and it comes after the others
+pub record IsNextItem (before : List Line) (ws : List Word) (i : Line) : Type 0 where
+  pub may : MayFollow before i
+  pub fault : fault_next before ws ≡ first_fault (item_tests before (Some i))
+  pub adds : with_next before ws ≡ before ++ i ∷ []
+
+pub next_item : (before : List Line) (ws : List Word) (i : Line) → next_read before ws ≡ Ok i → (i ≡ Item.Skip → ⊥) → IsNextItem before ws i
+next_item before ws i h n =
+    let e = not_skipped before ws i h n in
+    let f = follows_as before ws e i h in
+    record { may = f.may; fault = same_fault before ws i e f; adds = adds_it before ws i e f }
+
 -- a fault up to the fields is the line's
 pub line_refused : (before : List Line) (ws : List Word) (c : Code) → next_read before ws ≡ Err c → fault_next before ws ≡ Some c
 line_refused before ws c h = by_skip (is_skip ws) refl

@@ -14,8 +14,8 @@ use Rattle.dn_line.specs.declared.kind.Kind.{Kind}
 use Rattle.dn_line.specs.declared.kind.Kind.TheVariants as Kinds
 use Rattle.dn_line.specs.State.Spelling.{kind_before, slots_of}
 use Rattle.dn_instance.specs.Items.{Problem, problem_of, problem_in, kind_known, counted, is_counted}
-use Rattle.dn_instance.specs.TextFaults.{is_arc, is_companion, is_full}
-use Rattle.dn_instance.specs.State.Drafts.{draft_kind, ComesNext, DraftHolds, HasRoom}
+use Rattle.dn_instance.specs.TextFaults.{is_arc, is_full}
+use Rattle.dn_instance.specs.State.Drafts.{draft_kind, is_graph, ComesNext, DraftHolds, HasRoom}
 use Rattle.dn_instance.specs.State.TextsSoFar.{Awaits, HasRead, problem_as}
 use Rattle.dn_instance.specs.declared.draft.Draft.{Draft}
 use Rattle.dn_instance.specs.declared.draft.Draft.TheVariants as Drafts
@@ -45,6 +45,19 @@ with_lines t n items at = record {
   arcs_are = at.arcs_are;
   holds = at.holds;
 }
+
+pub no_problem : (i : Line) → ((kind : Kind) (nodes arcs : ℤ) → i ≡ Item.Graph kind nodes arcs → ⊥) → ((kind : Kind) (count : ℤ) → i ≡ Item.Aux kind count → ⊥) → problem_in i ≡ None
+no_problem (Item.Graph kind nodes arcs) g a = absurd (g kind nodes arcs refl)
+no_problem (Item.Aux kind count) g a = absurd (a kind count refl)
+no_problem Item.Skip g a = refl
+no_problem (Item.Supply _ _) g a = refl
+no_problem (Item.Terminal _ _) g a = refl
+no_problem (Item.MinArc _ _ _ _ _) g a = refl
+no_problem (Item.MaxArc _ _ _) g a = refl
+no_problem (Item.SpArc _ _ _) g a = refl
+no_problem (Item.Source _) g a = refl
+no_problem (Item.Query _ _) g a = refl
+no_problem (Item.Point _ _ _) g a = refl
 
 -- an item other than a problem line is of a kind
 kind_of_item : (i : Line) → problem_in i ≡ None → IsSome (slots_of i) → (kind : Kind) × (kind_before i ≡ Some kind)
@@ -97,18 +110,18 @@ any_push : (items : List Line) (i : Line) → list_any is_arc (items ++ i ∷ []
 any_push items i = list_any-append is_arc items (i ∷ []) ∙ ap (λ b. list_any is_arc items || b) (or-false (is_arc i))
 
 -- a problem's counted lines are its arcs
-arc_counted : (k : Kind) (i : Line) → is_companion k ≡ false → Some k ≡ kind_before i → is_arc i ≡ is_counted i
-arc_counted k (Item.Source id) c h = cc
-arc_counted k (Item.Query a b) c h = cc
-arc_counted k (Item.Point id x y) c h = cc
-arc_counted k (Item.MinArc a b c d e) _ h = refl
-arc_counted k (Item.MaxArc a b c) _ h = refl
-arc_counted k (Item.SpArc a b c) _ h = refl
-arc_counted k Item.Skip c h = refl
-arc_counted k (Item.Graph _ _ _) c h = refl
-arc_counted k (Item.Aux _ _) c h = refl
-arc_counted k (Item.Supply _ _) c h = refl
-arc_counted k (Item.Terminal _ _) c h = refl
+arc_counted : (i : Line) → is_graph (kind_before i) ≡ true → is_arc i ≡ is_counted i
+arc_counted (Item.Source id) h = cc
+arc_counted (Item.Query a b) h = cc
+arc_counted (Item.Point id x y) h = cc
+arc_counted (Item.MinArc a b c d e) h = refl
+arc_counted (Item.MaxArc a b c) h = refl
+arc_counted (Item.SpArc a b c) h = refl
+arc_counted Item.Skip h = refl
+arc_counted (Item.Graph _ _ _) h = refl
+arc_counted (Item.Aux _ _) h = refl
+arc_counted (Item.Supply _ _) h = refl
+arc_counted (Item.Terminal _ _) h = refl
 
 -- one more than a number below one that fits is not saturated
 pub next_fits : (k : ℕ) (m : ℤ) → m <ℤ pos (2 ^ 63) → int_lt (pos k) m ≡ true → FitsSigned w64 (pos (suc k))
@@ -133,16 +146,16 @@ has_room t items i kind at is room y = not_not _ (sym (ap (λ o. is_full o (coun
 
 -- with one item more
 module _ (t : TextSoFar) (d : Draft) (items : List Line) (i : Line) (at : HasRead t items) (next : ComesNext t.draft t.nodes items i) (kept : draft_kind d ≡ draft_kind t.draft) where
-  arcs_then : (n : ℤ) (b : Bool) → is_counted i ≡ b → n ≡ pos (counted (items ++ i ∷ [])) → (kind : Kind) → draft_kind d ≡ Some kind → is_companion kind ≡ false → list_any is_arc (items ++ i ∷ []) ≡ int_lt (pos 0) n
-  arcs_then n b c e kind is graph =
-      any_push items i ∙ ap (λ x. list_any is_arc items || x) (arc_counted kind i graph (sym is ∙ kept ∙ next.drafted.kind_is ∙ sym next.of_kind) ∙ c) ∙ by_test b c
+  arcs_then : (n : ℤ) (b : Bool) → is_counted i ≡ b → n ≡ pos (counted (items ++ i ∷ [])) → is_graph (draft_kind d) ≡ true → list_any is_arc (items ++ i ∷ []) ≡ int_lt (pos 0) n
+  arcs_then n b c e graph =
+      any_push items i ∙ ap (λ x. list_any is_arc items || x) (arc_counted i (ap is_graph (next.of_kind ∙ sym next.drafted.kind_is ∙ sym kept) ∙ graph) ∙ c) ∙ by_test b c
     where
       above : (k : ℕ) → int_lt (pos 0) (pos (suc k)) ≡ true
       above k = grind (arith, ints, nat_tests)
 
       by_test : (b : Bool) → is_counted i ≡ b → (list_any is_arc items || b) ≡ int_lt (pos 0) n
       by_test true c = or-true (list_any is_arc items) ∙ sym (ap (int_lt (pos 0)) (e ∙ ap pos (counted_yes items i c)) ∙ above (counted items))
-      by_test false c = or-false (list_any is_arc items) ∙ at.arcs_are kind (sym kept ∙ is) graph ∙ ap (int_lt (pos 0)) (at.counted_is ∙ sym (e ∙ ap pos (counted_no items i c)))
+      by_test false c = or-false (list_any is_arc items) ∙ at.arcs_are (ap is_graph (sym kept) ∙ graph) ∙ ap (int_lt (pos 0)) (at.counted_is ∙ sym (e ∙ ap pos (counted_no items i c)))
 
   pub is_then : (n : ℤ) → n ≡ pos (counted (items ++ i ∷ [])) → counted (items ++ i ∷ []) < 2 ^ 63 → DraftHolds d (items ++ i ∷ []) → HasRead (record t { counted = n; draft = d }) (items ++ i ∷ [])
   is_then n e few h =
@@ -191,7 +204,7 @@ begun t u before i p a is kind same_problem fits same holds = subst (λ items. H
   count_fits = fits;
   counted_is = none ∙ sym (ap pos head.2);
   counted_few = subst (λ n. n < 2 ^ 63) (sym head.2) (omega arith);
-  arcs_are = λ k is_kind graph. head.1 ∙ sym (ap (int_lt (pos 0)) none);
+  arcs_are = λ graph. head.1 ∙ sym (ap (int_lt (pos 0)) none);
   holds = held_problem u.draft i (ap is_some is) (ap is_some kind) holds;
 })
   where

@@ -1,29 +1,22 @@
 -- What the next line reads as, check by check.
-use Rattle.std.proofs.Common.{◌≡◌, pos, List, [], ◌∷◌, ◌++◌, Bool, true, false, cond, not, ◌&&◌, int_lt, Option, Some, None, is_none, is_some, Result, Ok, Err, refl, sym, ap, ◌∙◌}
-use Rattle.std.specs.List.{list_any}
+use Rattle.std.proofs.Common.{◌≡◌, List, ◌++◌, Bool, true, false, cond, Option, Some, None, Result, Ok, Err, refl, sym, ap, ◌∙◌}
 use Rattle.std.specs.Option.{option_or}
 use Rattle.dn_line.specs.declared.line.Line.{Line}
 use Rattle.dn_line.specs.declared.line.Line.TheVariants.{Skip}
 use Rattle.dn_line.specs.declared.line.Head.{Head}
 use Rattle.dn_line.specs.declared.line.Head.TheVariants as Heads
 use Rattle.dn_line.specs.declared.kind.Kind.{Kind}
-use Rattle.dn_line.specs.declared.kind.Kind.TheVariants as Kinds
-use Rattle.dn_line.specs.declared.word.Keyword.{Keyword}
-use Rattle.dn_line.specs.declared.word.Keyword.TheVariants as Key
 use Rattle.dn_line.specs.declared.word.Word.{Word}
 use Rattle.dn_line.specs.declared.code.Code.{Code}
-use Rattle.dn_line.specs.declared.code.Code.TheVariants.{BadLine, EarlyLine, SecondProblem, UnknownProblem, WrongLine, LateNode, TooManyLines}
 use Rattle.dn_line.specs.Words.{is_skip, first}
 use Rattle.dn_line.specs.LineTable.{kind_named}
-use Rattle.dn_line.specs.Faults.{Test, first_fault, is_letter, is_p, row_of, head_tests, field_tests, fields}
+use Rattle.dn_line.specs.Faults.{Test, first_fault, head_tests, field_tests, fields}
 use Rattle.dn_line.specs.Reading.{unless, spelled}
 use Rattle.dn_line.specs.State.Reading.{head_of, head_read, fields_read}
 use Rattle.dn_line.proofs.FaultLaws.{fault_append}
-use Rattle.dn_instance.specs.Items.{problem_of, kind_known, counted}
-use Rattle.dn_instance.specs.TextFaults.{is_arc, is_companion, is_counted_letter, is_full, is_node_letter, order_tests}
-use Rattle.dn_instance.specs.State.TextsSoFar.{HasRead, next_read}
-use Rattle.dn_instance.specs.declared.text_so_far.TextSoFar.{TextSoFar}
-use Rattle.dn_instance.proofs.ItemSteps.{kind_told}
+use Rattle.dn_instance.specs.Items.{kind_known}
+use Rattle.dn_instance.specs.TextFaults.{order_tests}
+use Rattle.dn_instance.specs.State.TextsSoFar.{next_read}
 
 -- a line that is not skipped has the head that it names, where the checks find no fault
 pub head_told : (known : Option Kind) (ws : List Word) (head : Head) → is_skip ws ≡ false → head_read known ws ≡ Ok head → (first_fault (head_tests known ws) ≡ None) × (head ≡ head_of (first ws) (kind_named ws))
@@ -36,56 +29,15 @@ head_told known ws head e h = by_fault (first_fault (head_tests known ws)) refl 
 pub head_skips : (known : Option Kind) (ws : List Word) (head : Head) → is_skip ws ≡ true → head_read known ws ≡ Ok head → head ≡ Heads.Skip
 head_skips known ws head e h = let same : Ok Heads.Skip ≡ Ok head = sym (ap (λ b. cond b (Ok Heads.Skip) (unless (first_fault (head_tests known ws)) (head_of (first ws) (kind_named ws)))) e) ∙ h in cc
 
--- the first fault of a head of these words, by the kind known
-abbrev head_fault : Option Kind → Option Keyword → Option Kind → Option Code
-head_fault known letter named =
-    first_fault
-    ((BadLine, not (is_letter letter))
-    ∷ (EarlyLine, is_none known && not (is_p letter))
-    ∷ (SecondProblem, is_some known && is_p letter)
-    ∷ (UnknownProblem, is_p letter && is_none named)
-    ∷ (WrongLine, not (is_p letter) && is_none (row_of known letter))
-    ∷ [])
-
--- only texts of flow problems have node lines
-has_nodes : (known named : Option Kind) → head_fault known (Some Key.N) named ≡ None → (kind : Kind) × (known ≡ Some kind) × (is_companion kind ≡ false)
-has_nodes None named h = cc
-has_nodes (Some Kinds.Min) named h = (Kinds.Min, refl, refl)
-has_nodes (Some Kinds.Max) named h = (Kinds.Max, refl, refl)
-has_nodes (Some Kinds.Sp) named h = cc
-has_nodes (Some Kinds.Ss) named h = cc
-has_nodes (Some Kinds.P2p) named h = cc
-has_nodes (Some Kinds.Co) named h = cc
-
-node_letter : (letter : Option Keyword) (named : Option Kind) → Heads.Node ≡ head_of letter named → letter ≡ Some Key.N
-node_letter (Some Key.N) named h = refl
-node_letter (Some Key.P) None h = cc
-node_letter (Some Key.P) (Some kind) h = cc
-node_letter (Some Key.A) named h = cc
-node_letter (Some Key.S) named h = cc
-node_letter (Some Key.Q) named h = cc
-node_letter (Some Key.V) named h = cc
-node_letter (Some k) named h = cc
-node_letter None named h = cc
-
--- a node line is late once arcs have come
-pub node_order : (t : TextSoFar) (before : List Line) (ws : List Word) (late : Bool) → HasRead t before → first_fault (head_tests (kind_known before) ws) ≡ None → Heads.Node ≡ head_of (first ws) (kind_named ws) → int_lt (pos 0) t.counted ≡ late
-    → cond late (Some LateNode) None ≡ first_fault (order_tests before ws)
-node_order t before ws late at h e l =
-    let letter = node_letter (first ws) (kind_named ws) e in
-    let k = has_nodes (kind_known before) (kind_named ws) (sym (ap (λ w. head_fault (kind_known before) w (kind_named ws)) letter) ∙ h) in
-    sym (ap (λ w. cond (is_node_letter w && list_any is_arc before) (Some LateNode) (cond (is_counted_letter w && is_full (problem_of before) (counted before)) (Some TooManyLines) None)) letter
-    ∙ ap (λ b. cond b (Some LateNode) None) (at.arcs_are k.0 (sym (kind_told t before at) ∙ k.1) k.2 ∙ l))
-
--- a fault that the lines before give a head, where the line is not skipped
-pub order_told : (before : List Line) (ws : List Word) (head : Head) (fault : Option Code) → head_read (kind_known before) ws ≡ Ok head
-    → (first_fault (head_tests (kind_known before) ws) ≡ None → head ≡ head_of (first ws) (kind_named ws) → fault ≡ first_fault (order_tests before ws)) → (head ≡ Heads.Skip → fault ≡ None)
+-- a fault of a head by the lines before, where the line is not skipped
+pub order_told : (known : Option Kind) (before : List Line) (ws : List Word) (head : Head) (fault : Option Code) → head_read known ws ≡ Ok head
+    → (first_fault (head_tests known ws) ≡ None → head ≡ head_of (first ws) (kind_named ws) → fault ≡ first_fault (order_tests before ws)) → (head ≡ Heads.Skip → fault ≡ None)
     → fault ≡ cond (is_skip ws) None (first_fault (order_tests before ws))
-order_told before ws head fault h answer skip = by_skip (is_skip ws) refl
+order_told known before ws head fault h answer skip = by_skip (is_skip ws) refl
   where
     by_skip : (b : Bool) → is_skip ws ≡ b → fault ≡ cond (is_skip ws) None (first_fault (order_tests before ws))
-    by_skip true e = skip (head_skips (kind_known before) ws head e h) ∙ sym (ap (λ b. cond b None (first_fault (order_tests before ws))) e)
-    by_skip false e = let told = head_told (kind_known before) ws head e h in answer told.0 told.1 ∙ sym (ap (λ b. cond b None (first_fault (order_tests before ws))) e)
+    by_skip true e = skip (head_skips known ws head e h) ∙ sym (ap (λ b. cond b None (first_fault (order_tests before ws))) e)
+    by_skip false e = let told = head_told known ws head e h in answer told.0 told.1 ∙ sym (ap (λ b. cond b None (first_fault (order_tests before ws))) e)
 
 module _ (before : List Line) (ws : List Word) where
   abbrev known : Option Kind

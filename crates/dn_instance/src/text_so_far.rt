@@ -7,9 +7,10 @@ ghost use Rattle.dn_line.specs.Words.{first, is_skip, said_words};
 ghost use Rattle.dn_line.specs.Faults.{first_fault, head_tests};
 ghost use Rattle.dn_line.specs.State.Reading.{head_of};
 ghost use Rattle.dn_line.specs.State.LineStates.{LineSoFar, LineReaderAt};
-ghost use Rattle.dn_instance.specs.Items.{problem_in, kind_known, is_counted};
+ghost use Rattle.dn_instance.specs.Items.{problem_in, is_counted};
 ghost use Rattle.dn_instance.specs.TextFaults.{is_companion, order_tests, item_tests, line_fault};
 ghost use Rattle.dn_instance.specs.State.ArcRuns.{AreInTime, Joins, arc_items};
+ghost use Rattle.dn_instance.specs.State.Drafts.{draft_kind};
 ghost use Rattle.dn_instance.specs.State.Ends.{EndsWith};
 ghost use Rattle.dn_instance.specs.State.EntryCount.{entries_so_far};
 ghost use Rattle.dn_instance.specs.State.ItemFaults.{AnswersFault};
@@ -65,7 +66,7 @@ impl TextSoFar {
     // Returns the first fault that a line has by the lines before it, where its head has none.
     fn check_order(&self, head: Head) -> Option<Code>
         ensures answer { (before : List Line) (ws : List Word) → HasRead self.now before
-            → first_fault (head_tests (kind_known before) ws) ≡ None
+            → first_fault (head_tests (draft_kind self.now.draft) ws) ≡ None
             → head ≡ head_of (first ws) (kind_named ws)
             → result ≡ first_fault (order_tests before ws) }
         ensures skip { head ≡ Head.Skip → result ≡ None }
@@ -107,7 +108,7 @@ impl TextSoFar {
     }
 
     // Takes the next item after the problem line, or returns its fault.
-    fn take_item(&mut self, alloc: Global, item: Line) -> Result<(), ItemFault>
+    fn take(&mut self, alloc: Global, item: Line) -> Result<(), ItemFault>
         ensures answer { (before : List Line) → Awaits self.old before item → problem_in item ≡ None
             → AnswersFault result (first_fault (item_tests before (Some item))) }
         ensures read { (before : List Line) → Awaits self.old before item → problem_in item ≡ None
@@ -128,29 +129,6 @@ impl TextSoFar {
         }
     }
 
-    // Takes the next item, or returns its fault.
-    fn take(&mut self, alloc: Global, item: Line) -> Result<(), ItemFault>
-        ensures answer { (before : List Line) → Awaits self.old before item
-            → AnswersFault result (first_fault (item_tests before (Some item))) }
-        ensures read { (before : List Line) → Awaits self.old before item
-            → OnOk result (HasRead self.new (before ++ item ∷ [])) }
-        ensures unchanged { (before : List Line) → HasRead self.old before
-            → OnErr result (HasRead self.new before) }
-        ensures kept { self.new.closed ≡ self.old.closed }
-    {
-        match item {
-            Line::Graph { kind, nodes, arcs } => {
-                self.begin(alloc, &kind, &nodes, &arcs);
-                Ok(())
-            }
-            Line::Aux { kind, count } => {
-                self.begin(alloc, &kind, &0, &count);
-                Ok(())
-            }
-            _ => self.take_item(alloc, item),
-        }
-    }
-
     // Takes the item of the next line, or returns the line's fault. The number of the line is left to the caller.
     fn judge(&mut self, alloc: Global, line: &LineReader) -> Result<(), ItemFault>
         ensures answer { (items : List Line) (l : LineSoFar) → HasRead self.old items
@@ -167,13 +145,18 @@ impl TextSoFar {
             → result ≡ Err ItemFault.Memory → is_skip (said_words l.bytes) ≡ false }
     {
         match self.read(line) {
-            Ok(item) => {
-                if is_skip(&item) {
+            Ok(item) => match item {
+                Line::Skip => Ok(()),
+                Line::Graph { kind, nodes, arcs } => {
+                    self.begin(alloc, &kind, &nodes, &arcs);
                     Ok(())
-                } else {
-                    self.take(alloc, item)
                 }
-            }
+                Line::Aux { kind, count } => {
+                    self.begin(alloc, &kind, &0, &count);
+                    Ok(())
+                }
+                _ => self.take(alloc, item),
+            },
             Err(code) => Err(ItemFault::Text(code)),
         }
     }
@@ -290,14 +273,6 @@ fn is_companion(kind: &Kind) -> bool
     ensures { result ≡ is_companion kind.now }
 {
     matches!(kind, Kind::Ss | Kind::P2p | Kind::Co)
-}
-
-// Whether the line spells no item.
-fn is_skip(item: &Line) -> bool
-    ensures skip { result ≡ true → item.now ≡ Line.Skip }
-    ensures item { result ≡ false → item.now ≢ Line.Skip }
-{
-    matches!(item, Line::Skip)
 }
 
 // Whether ARCS or K counts the line.

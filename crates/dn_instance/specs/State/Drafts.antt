@@ -1,5 +1,5 @@
 -- What an instance in the making has made of the items so far.
-use Rattle.std.specs.Prelude.{◌≡◌, ℤ, pos, ◌≤ℤ◌, ◌||◌, List, [], true, false, Option, Some, None, is_some, filter_map}
+use Rattle.std.specs.Prelude.{◌≡◌, ℤ, pos, ◌≤ℤ◌, ◌||◌, List, [], Bool, true, false, not, Option, Some, None, is_some, filter_map}
 use Rattle.std.specs.BTreeMap as Map
 use Rattle.std.specs.BTreeSet as Set
 use Rattle.std.specs.List.{list_any}
@@ -14,7 +14,7 @@ use Rattle.dn_arc.specs.Kinds.{ArcKind, lengths, capacities, costs}
 use Rattle.dn_bundle.specs.State.Tellings.{least_arcs, total_arcs, curve_arcs}
 use Rattle.dn_arc.specs.declared.arc.Form.TheVariants.{One}
 use Rattle.dn_instance.specs.Items.{Problem, problem_of, is_counted, counted, arcs_of, length_arc_in, cap_arc_in, cost_arc_in, supplies_of, terminal_of, source_in, query_in, point_in, by_key}
-use Rattle.dn_instance.specs.TextFaults.{has_supply, is_full}
+use Rattle.dn_instance.specs.TextFaults.{has_supply, is_companion, is_full}
 use Rattle.dn_table.specs.State.Tables.{TableTells, AreArcs}
 use Rattle.dn_instance.specs.declared.draft.Draft.{Draft}
 use Rattle.dn_instance.specs.declared.draft.Draft.TheVariants as Drafts
@@ -28,6 +28,11 @@ draft_kind (Drafts.Sp table) = Some Kinds.Sp
 draft_kind (Drafts.Ss ids) = Some Kinds.Ss
 draft_kind (Drafts.P2p pairs) = Some Kinds.P2p
 draft_kind (Drafts.Co points) = Some Kinds.Co
+
+-- texts of this kind have arcs
+abbrev pub is_graph : Option Kind → Bool
+is_graph None = false
+is_graph (Some kind) = not (is_companion kind)
 
 -- the numbers of an item that may not be below 0 are not
 abbrev pub HasSigns : Line → Type 0

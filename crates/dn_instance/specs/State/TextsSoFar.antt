@@ -17,7 +17,7 @@ use Rattle.dn_instance.specs.Items.{Problem, problem_of, kind_known, counted}
 use Rattle.dn_instance.specs.TextFaults.{is_arc, is_companion, order_tests, line_tests}
 use Rattle.dn_instance.specs.Texts.{items_of, IsClean}
 use Rattle.dn_instance.specs.State.ArcRuns.{arc_items}
-use Rattle.dn_instance.specs.State.Drafts.{draft_kind, DraftHolds, HasRoom, HasSigns}
+use Rattle.dn_instance.specs.State.Drafts.{draft_kind, is_graph, DraftHolds, HasRoom, HasSigns}
 use Rattle.dn_instance.specs.declared.text_so_far.TextSoFar.{TextSoFar}
 
 -- the problem of this kind with the numbers of the problem line
@@ -30,8 +30,7 @@ pub record HasRead (t : TextSoFar) (items : List Line) : Type 0 where
   pub count_fits : t.count <ℤ pos (2 ^ 63)
   pub counted_is : t.counted ≡ pos (counted items)
   pub counted_few : counted items < 2 ^ 63
-  pub arcs_are : (kind : Kind) → draft_kind t.draft ≡ Some kind → is_companion kind ≡ false
-      → list_any is_arc items ≡ int_lt (pos 0) t.counted
+  pub arcs_are : is_graph (draft_kind t.draft) ≡ true → list_any is_arc items ≡ int_lt (pos 0) t.counted
   pub holds : DraftHolds t.draft items
 
 -- what a line reads as after these items, by its faults up to those of its fields

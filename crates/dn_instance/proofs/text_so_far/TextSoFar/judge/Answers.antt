@@ -1,37 +1,60 @@
-use Rattle.std.proofs.Common.{Ok, OnOk, sym, ap, ◌∙◌, subst}
+use Rattle.std.proofs.Common.{rules, Some, Ok, OnOk, w64, FitsSigned, to_z-of_z, sym, ap, ◌∙◌, subst}
+use Rattle.dn_line.specs.Faults.{first_fault}
 use Rattle.dn_line.specs.Words.{said_words}
-use Rattle.dn_instance.specs.State.TextsSoFar.{HasRead}
+use Rattle.dn_instance.specs.Items.{problem_in}
 use Rattle.dn_instance.specs.State.ItemFaults.{AnswersFault}
+use Rattle.dn_instance.specs.State.TextsSoFar.{HasRead}
+use Rattle.dn_instance.specs.TextFaults.{item_tests}
 use Rattle.dn_instance.proofs.CleanItems.{skip_adds_none}
-use Rattle.dn_instance.proofs.FollowLaws.{skip_only, skip_faultless, not_skipped, follows_as, same_fault, adds_it, line_refused}
+use Rattle.dn_instance.proofs.FollowLaws.{skip_only, skip_faultless, not_skipped, next_item, line_refused}
+use Rattle.dn_instance.proofs.ItemSteps.{no_problem}
 use Rattle.dn_instance.proofs.text_so_far.TextSoFar.judge.Goals as goal
 
-pub returns-then-is_skip-clause-answer : goal.returns-then-is_skip-clause-answer
-returns-then-is_skip-clause-answer c items l at stands =
-    skip_faultless items (said_words l.bytes) (skip_only items (said_words l.bytes) (sym (c.read.ensures items l at stands) ∙ c.in-Ok.is ∙ ap Ok (c.is_skip.ensures.skip c.if-is_skip.true)))
+pub returns-in-Skip-clause-answer : goal.returns-in-Skip-clause-answer
+returns-in-Skip-clause-answer c items l at stands =
+    let ws = said_words l.bytes in
+    skip_faultless items ws (skip_only items ws (sym (c.read.ensures items l at stands) ∙ c.in-Ok.is ∙ ap Ok c.in-Skip.is))
 
-pub returns-then-is_skip-clause-read : goal.returns-then-is_skip-clause-read
-returns-then-is_skip-clause-read c items l at stands =
-    subst (HasRead c.args.self.now) (sym (skip_adds_none items (said_words l.bytes) (skip_only items (said_words l.bytes) (sym (c.read.ensures items l at stands) ∙ c.in-Ok.is ∙ ap Ok (c.is_skip.ensures.skip c.if-is_skip.true))))) at
+pub returns-in-Skip-clause-read : goal.returns-in-Skip-clause-read
+returns-in-Skip-clause-read c items l at stands =
+    let ws = said_words l.bytes in
+    subst (HasRead c.args.self.now) (sym (skip_adds_none items ws (skip_only items ws (sym (c.read.ensures items l at stands) ∙ c.in-Ok.is ∙ ap Ok c.in-Skip.is)))) at
 
-pub returns-else-is_skip : goal.returns-else-is_skip
-returns-else-is_skip c = record {
-  answer = λ items l at stands.
-      let ws = said_words l.bytes in
-      let r = sym (c.read.ensures items l at stands) ∙ c.in-Ok.is in
-      let e = not_skipped items ws c.in-Ok.item r (c.is_skip.ensures.item c.if-is_skip.false) in
-      let f = follows_as items ws e c.in-Ok.item r in
-      subst (AnswersFault c.take.result) (sym (same_fault items ws c.in-Ok.item e f)) (c.take.ensures.answer items (record { read = at; may = f.may }));
-  read = λ items l at stands.
-      let ws = said_words l.bytes in
-      let r = sym (c.read.ensures items l at stands) ∙ c.in-Ok.is in
-      let e = not_skipped items ws c.in-Ok.item r (c.is_skip.ensures.item c.if-is_skip.false) in
-      let f = follows_as items ws e c.in-Ok.item r in
-      subst (λ x. OnOk c.take.result (HasRead c.take.new.self x)) (sym (adds_it items ws c.in-Ok.item e f)) (c.take.ensures.read items (record { read = at; may = f.may }));
-  unchanged = λ items at. c.take.ensures.unchanged items at;
-  kept = c.take.ensures.kept;
-  item = λ items l at stands _. not_skipped items (said_words l.bytes) c.in-Ok.item (sym (c.read.ensures items l at stands) ∙ c.in-Ok.is) (c.is_skip.ensures.item c.if-is_skip.false);
-}
+pub returns-in-Graph-clause-answer : goal.returns-in-Graph-clause-answer
+returns-in-Graph-clause-answer c items l at stands =
+    let next = next_item items (said_words l.bytes) c.in-Ok.item (sym (c.read.ensures items l at stands) ∙ c.in-Ok.is) (λ skip. (let never = sym c.in-Graph.is ∙ skip in cc)) in
+    next.fault ∙ ap (λ i. first_fault (item_tests items (Some i))) c.in-Graph.is
+
+pub returns-in-Graph-clause-read : goal.returns-in-Graph-clause-read
+returns-in-Graph-clause-read c items l at stands =
+    let next = next_item items (said_words l.bytes) c.in-Ok.item (sym (c.read.ensures items l at stands) ∙ c.in-Ok.is) (λ skip. (let never = sym c.in-Graph.is ∙ skip in cc)) in
+    let fnodes : FitsSigned w64 c.in-Graph.nodes = search rules in
+    let farcs : FitsSigned w64 c.in-Graph.arcs = search rules in
+    subst (HasRead c.begin.new.self) (sym next.adds) (c.begin.ensures.read items c.in-Ok.item (record { read = at; may = next.may }) (ap problem_in c.in-Graph.is ∙ simp to_z-of_z))
+
+pub returns-in-Aux-clause-answer : goal.returns-in-Aux-clause-answer
+returns-in-Aux-clause-answer c items l at stands =
+    let next = next_item items (said_words l.bytes) c.in-Ok.item (sym (c.read.ensures items l at stands) ∙ c.in-Ok.is) (λ skip. (let never = sym c.in-Aux.is ∙ skip in cc)) in
+    next.fault ∙ ap (λ i. first_fault (item_tests items (Some i))) c.in-Aux.is
+
+pub returns-in-Aux-clause-read : goal.returns-in-Aux-clause-read
+returns-in-Aux-clause-read c items l at stands =
+    let next = next_item items (said_words l.bytes) c.in-Ok.item (sym (c.read.ensures items l at stands) ∙ c.in-Ok.is) (λ skip. (let never = sym c.in-Aux.is ∙ skip in cc)) in
+    let fcount : FitsSigned w64 c.in-Aux.count = search rules in
+    subst (HasRead c.begin-in-Aux.new.self) (sym next.adds) (c.begin-in-Aux.ensures.read items c.in-Ok.item (record { read = at; may = next.may }) (ap problem_in c.in-Aux.is ∙ simp to_z-of_z))
+
+pub returns-in_default-clause-answer : goal.returns-in_default-clause-answer
+returns-in_default-clause-answer c items l at stands =
+    let next = next_item items (said_words l.bytes) c.in-Ok.item (sym (c.read.ensures items l at stands) ∙ c.in-Ok.is) c.in_default.not-Skip in
+    subst (AnswersFault c.take.result) (sym next.fault) (c.take.ensures.answer items (record { read = at; may = next.may }) (no_problem c.in-Ok.item c.in_default.not-Graph c.in_default.not-Aux))
+
+pub returns-in_default-clause-read : goal.returns-in_default-clause-read
+returns-in_default-clause-read c items l at stands =
+    let next = next_item items (said_words l.bytes) c.in-Ok.item (sym (c.read.ensures items l at stands) ∙ c.in-Ok.is) c.in_default.not-Skip in
+    subst (λ x. OnOk c.take.result (HasRead c.take.new.self x)) (sym next.adds) (c.take.ensures.read items (record { read = at; may = next.may }) (no_problem c.in-Ok.item c.in_default.not-Graph c.in_default.not-Aux))
+
+pub returns-in_default-clause-item : goal.returns-in_default-clause-item
+returns-in_default-clause-item c items l at stands _ = not_skipped items (said_words l.bytes) c.in-Ok.item (sym (c.read.ensures items l at stands) ∙ c.in-Ok.is) c.in_default.not-Skip
 
 pub returns-in-Err-clause-answer : goal.returns-in-Err-clause-answer
 returns-in-Err-clause-answer c items l at stands = line_refused items (said_words l.bytes) c.in-Err.code (sym (c.read.ensures items l at stands) ∙ c.in-Err.is)

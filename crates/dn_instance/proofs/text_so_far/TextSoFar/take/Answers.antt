@@ -4,11 +4,11 @@ use Rattle.std.specs.Option.{option_map}
 use Rattle.dn_line.specs.Faults.{first_fault}
 use Rattle.dn_instance.specs.Items.{counted}
 use Rattle.dn_instance.specs.TextFaults.{item_tests}
-use Rattle.dn_instance.specs.State.Drafts.{DraftHolds}
+use Rattle.dn_instance.specs.State.Drafts.{DraftHolds, is_graph}
 use Rattle.dn_instance.specs.State.ItemFaults.{AnswersFault}
 use Rattle.dn_instance.specs.State.TextsSoFar.{problem_as}
 use Rattle.dn_instance.proofs.ItemSteps.{comes_next, counted_yes, counted_no, next_few, next_fits, sum_is, has_room, is_then}
-use Rattle.dn_instance.proofs.text_so_far.TextSoFar.take_item.Goals as goal
+use Rattle.dn_instance.proofs.text_so_far.TextSoFar.take.Goals as goal
 
 pub returns-then-is_counted-clause-read : goal.returns-then-is_counted-clause-read
 returns-then-is_counted-clause-read c before a none =
@@ -46,6 +46,6 @@ returns-in-Err-clause-unchanged c before at = record {
   count_fits = at.count_fits;
   counted_is = at.counted_is;
   counted_few = at.counted_few;
-  arcs_are = λ kind is. at.arcs_are kind (sym c.take.ensures.kept ∙ is);
+  arcs_are = λ graph. at.arcs_are (ap is_graph (sym c.take.ensures.kept) ∙ graph);
   holds = subst (λ r. OnErr r (DraftHolds c.take.new.self before)) c.in-Err.is (c.take.ensures.unchanged before at.holds);
 }
