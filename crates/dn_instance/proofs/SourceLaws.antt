@@ -74,7 +74,7 @@ told_piece t new Write h s = absurd h
 told_piece t new CountTooLarge h s = absurd h
 
 -- refused at a piece
-pub refused_given : (old mid new : Option (List ℕ)) (given piece : List ℕ) (r : Reader) (e : Refusal) → Consumes old mid given → Consumes mid new piece → length piece ≤ 2 ^ 16 → ReaderAt r given → r.refusal ≡ None → IsRefused 0 (ended (given ++ piece)) e
+pub refused_given : (old mid new : Option (List ℕ)) (given piece : List ℕ) (r : Reader) (e : Refusal) → Consumes old mid given → Consumes mid new piece → length piece ≤ 2 ^ 12 → ReaderAt r given → r.refusal ≡ None → IsRefused 0 (ended (given ++ piece)) e
     → (e ≡ Memory → WantsMemory (length (ended given)) (ended (given ++ piece))) → IfSome old (λ t. SourceOutcome t new (Err e))
 refused_given None mid new given piece r e c d short s none h m = tt
 refused_given (Some t) None new given piece r e c d short s none h m = absurd c

@@ -17,7 +17,7 @@ pub record CleanSoFar (t : List ℕ) (new : Option (List ℕ)) : Type 0 where
   pub rest_is : new ≡ Some rest
   pub clean : IsClean (ended given)
 
--- of the text t the source gave all but the rest, last a piece of at most 2 ^ 16 bytes; memory ran out at a line that
+-- of the text t the source gave all but the rest, last a piece of at most 2 ^ 12 bytes; memory ran out at a line that
 -- had not ended before this piece, and neither it nor an earlier line has a fault
 pub record RanOut (t : List ℕ) (new : Option (List ℕ)) : Type 0 where
   pub before : List ℕ
@@ -25,7 +25,7 @@ pub record RanOut (t : List ℕ) (new : Option (List ℕ)) : Type 0 where
   pub rest : List ℕ
   pub whole : t ≡ before ++ (piece ++ rest)
   pub rest_is : IfSome new (λ left. left ≡ rest)
-  pub short : length piece ≤ 2 ^ 16
+  pub short : length piece ≤ 2 ^ 12
   pub wants : WantsMemory (length (ended before)) (lines (before ++ piece))
 
 -- a source became `new` by pulls that each gave at least one byte, where its bytes are known

@@ -15,6 +15,9 @@ use std::alloc::Global;
 // How often a source is pulled before it is held to have no end.
 const PULLS: u64 = 1 << 40;
 
+// How many bytes a source is asked for at once.
+const PIECE: usize = 4096;
+
 /// What a text reads as, or its first fault. `Memory` comes only at a line without fault.
 pub fn read_text(alloc: Global, text: &[u8]) -> Result<Held, Refusal>
     ensures { Outcome text.now result }
@@ -65,7 +68,7 @@ fn feed_all<S: Source>(source: &mut S, reader: &mut Reader) -> Result<(), Refusa
     ensures refusal { IfErr result IsOfReading }
     ensures left { SourceLeft S.source source.old source.new result }
 {
-    let mut room = [0u8; 65536];
+    let mut room = [0u8; PIECE];
     for _ in 0..PULLS {
         let piece = next_piece(source, &mut room)?;
         if piece.is_empty() {
@@ -91,7 +94,7 @@ fn keep_all<S: Source>(
     ensures refusal { IfErr result IsOfReading }
     ensures left { SourceLeft S.source source.old source.new result }
 {
-    let mut room = [0u8; 65536];
+    let mut room = [0u8; PIECE];
     for _ in 0..PULLS {
         let bytes = next_piece(source, &mut room)?;
         if bytes.is_empty() {

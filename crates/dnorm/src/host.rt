@@ -1,5 +1,5 @@
 // A run of the program on the host.
-ghost use Rattle.std.specs.Prelude.{◌≡◌, ◌≤◌, ℕ, List, None, map, string_bytes, IfOk, OnErr};
+ghost use Rattle.std.specs.Prelude.{◌≡◌, ◌≤◌, false, ℕ, List, None, map, string_bytes, IfOk, OnErr};
 ghost use Rattle.dn_run.specs.Streams.{sink_run};
 ghost use Rattle.dnorm.specs.HostRuns.{HostRun, RanOnHost};
 
@@ -9,9 +9,12 @@ use dn_line::{FromRead, Source};
 use dn_report::put_fault_line;
 use dn_run::{Files, FilesFault, refuse_words, run};
 use dn_sink::{Sink, ToWrite};
-use std::io::{BufWriter, ErrorKind, Printer, Read};
+use std::io::{BufReader, BufWriter, ErrorKind, Printer, Read};
 use std::rt::Runtime;
 use std::{env, fs, io};
+
+// The size in bytes of the buffer of a stream.
+const BUFFER: usize = 65536;
 
 /// The files of the host, by their paths, and its standard input. The bytes that they give are not known.
 #[derive(Drop)]
@@ -47,13 +50,15 @@ impl<I: Read, F: Read> Read for HostText<I, F> {
     }
 }
 
-/// The source of a text of the host.
-pub type HostSource<R> = FromRead<Retried<HostText<<R as Input>::Reader, <R as fs::Files>::File>>>;
+/// The source of a text of the host, buffered.
+pub type HostSource<R> = FromRead<
+    BufReader<Retried<HostText<<R as Input>::Reader, <R as fs::Files>::File>>>,
+>;
 
 /// The standard output of the host, buffered.
 pub type HostOut<'a, R> = ToWrite<BufWriter<Printer<'a, R>>>;
 
-impl<'a, R: fs::Files + Input> Files for HostFiles<'a, R> {
+impl<'a, R: fs::Files + Input + AllocGlobal> Files for HostFiles<'a, R> {
     type Text = HostSource<R>;
 
     ghost files = { record {
@@ -65,14 +70,8 @@ impl<'a, R: fs::Files + Input> Files for HostFiles<'a, R> {
 
     fn take(&mut self, name: &str) -> Result<Self::Text, FilesFault> {
         self.fault = None;
-        if name == "-" {
-            let stream = HostText::Input(self.host.reader());
-            return Ok(FromRead::new(Retried { stream }));
-        }
-        match fs::open(self.host, name) {
-            Ok(file) => Ok(FromRead::new(Retried {
-                stream: HostText::File(file),
-            })),
+        match opened(self.host, name) {
+            Ok(source) => Ok(source),
             Err(error) => {
                 let fault = fault_of(&error);
                 self.fault = Some(fault);
@@ -82,12 +81,29 @@ impl<'a, R: fs::Files + Input> Files for HostFiles<'a, R> {
     }
 }
 
+// Opens a text of the host. The buffer keeps the number of reads small, however few bytes a pull asks for.
+fn opened<R: fs::Files + Input + AllocGlobal>(host: &R, name: &str) -> io::Result<HostSource<R>>
+    ensures gives { IfOk result (λ t. ⟦<HostSource<R> as Source>⟧.source.gives t ≡ None) }
+    ensures fine { IfOk result (λ t. ⟦<HostSource<R> as Source>⟧.source.has_failed t ≡ false) }
+{
+    let stream = if name == "-" {
+        HostText::Input(host.reader())
+    } else {
+        HostText::File(fs::open(host, name)?)
+    };
+    let reader = BufReader::with_capacity(host.alloc(), BUFFER, Retried { stream })?;
+    Ok(FromRead::new(reader))
+}
+
 /// Runs the program with the host's arguments, files and standard output, and returns the exit status. Arguments that
 /// are not UTF-8 are no command.
 pub fn run_on<'a, R: Runtime + AllocGlobal, E: Sink>(host: &'a R, err: &mut E) -> u8
     ensures status { result ≤ 4 }
-    ensures ran { HostRun (record { files = ⟦<HostFiles<'a, R> as Files>⟧.files; source = ⟦<HostSource<R> as Source>⟧.source;
-            out = ⟦<HostOut<'a, R> as Sink>⟧.sink })
+    ensures ran { HostRun (record {
+      files = ⟦<HostFiles<'a, R> as Files>⟧.files;
+      source = ⟦<HostSource<R> as Source>⟧.source;
+      out = ⟦<HostOut<'a, R> as Sink>⟧.sink;
+    })
         (sink_run E.sink (err.old, err.new)) result }
 {
     match run_with_arguments(host, err) {
@@ -112,11 +128,17 @@ fn fault_of(error: &io::Error) -> FilesFault {
 
 // Runs the program with the host's arguments. Fails if there is no memory for them or for the output buffer, or if an
 // argument is not UTF-8.
-fn run_with_arguments<'a, R: Runtime + AllocGlobal, E: Sink>(host: &'a R, err: &mut E) -> io::Result<u8>
+fn run_with_arguments<'a, R: Runtime + AllocGlobal, E: Sink>(
+    host: &'a R,
+    err: &mut E,
+) -> io::Result<u8>
     ensures status { IfOk result (λ status. status ≤ 4) }
     ensures ran { IfOk result (λ status. (arguments : List (List ℕ)) × RanOnHost
-        (record { files = ⟦<HostFiles<'a, R> as Files>⟧.files; source = ⟦<HostSource<R> as Source>⟧.source;
-            out = ⟦<HostOut<'a, R> as Sink>⟧.sink })
+        (record {
+          files = ⟦<HostFiles<'a, R> as Files>⟧.files;
+          source = ⟦<HostSource<R> as Source>⟧.source;
+          out = ⟦<HostOut<'a, R> as Sink>⟧.sink;
+        })
         (sink_run E.sink (err.old, err.new)) arguments status) }
     ensures err { OnErr result (err.new ≡ err.old) }
 {
@@ -134,12 +156,15 @@ fn run_words<'a, R: Runtime + AllocGlobal, E: Sink>(
 ) -> io::Result<u8>
     ensures status { IfOk result (λ status. status ≤ 4) }
     ensures ran { IfOk result (RanOnHost
-        (record { files = ⟦<HostFiles<'a, R> as Files>⟧.files; source = ⟦<HostSource<R> as Source>⟧.source;
-            out = ⟦<HostOut<'a, R> as Sink>⟧.sink })
+        (record {
+          files = ⟦<HostFiles<'a, R> as Files>⟧.files;
+          source = ⟦<HostSource<R> as Source>⟧.source;
+          out = ⟦<HostOut<'a, R> as Sink>⟧.sink;
+        })
         (sink_run E.sink (err.old, err.new)) (map string_bytes words.now)) }
     ensures err { OnErr result (err.new ≡ err.old) }
 {
-    let mut out = ToWrite::new(BufWriter::with_capacity(host.alloc(), 65536, io::writer(host))?);
+    let mut out = ToWrite::new(BufWriter::with_capacity(host.alloc(), BUFFER, io::writer(host))?);
     let mut files = HostFiles::new(host);
     let status = run(host.alloc(), words, &mut files, &mut out, err);
     drop(out);

@@ -13,14 +13,14 @@ use Rattle.dn_instance.specs.Texts.{IsClean, IsFirstFault}
 use Rattle.dn_instance.specs.SourceReads.{CleanSoFar, PulledWhileClean}
 
 -- of the text t the source has given `before`, where no line that LFs have ended is faulty, and then a piece of at most
--- 2 ^ 16 bytes; it still gives the rest. The refused line is one whose LF is in that piece.
+-- 2 ^ 12 bytes; it still gives the rest. The refused line is one whose LF is in that piece.
 pub record StopsInPiece (t : List ℕ) (new : Option (List ℕ)) (e : Refusal) : Type 0 where
   pub before : List ℕ
   pub piece : List ℕ
   pub rest : List ℕ
   pub whole : t ≡ before ++ (piece ++ rest)
   pub rest_is : new ≡ Some rest
-  pub short : length piece ≤ 2 ^ 16
+  pub short : length piece ≤ 2 ^ 12
   pub clean : IsClean (ended before)
   pub refused : IsRefused (length (ended before)) (ended (before ++ piece)) e
 

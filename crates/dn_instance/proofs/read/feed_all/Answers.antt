@@ -20,7 +20,7 @@ pub returns-in_err-feed-clause-err : goal.returns-in_err-feed-clause-err
 returns-in_err-feed-clause-err g c =
     let t = c.loop.invariant.given.0 in
     let piece = c.in_ok-piece.piece.now in
-    let room : length c.loop.room ≡ 65536 = search rules in
+    let room : length c.loop.room ≡ 4096 = search rules in
     handed_on _ _ _ c.from_residual-in_err-feed.ensures
     (refused_given _ _ _ t piece c.loop.reader c.in_err-feed.field-0.0 c.loop.invariant.given.1 c.in_ok-piece.ensures.bytes (subst (λ n. length piece ≤ n) room c.in_ok-piece.ensures.bound) c.loop.invariant.given.2 c.loop.invariant.fine (c.in_err-feed.ensures.told t c.loop.invariant.given.2)
     (λ memory. (c.in_err-feed.ensures.memory t c.loop.invariant.given.2 c.loop.invariant.fine (ap (λ x. Err x) memory)).0))

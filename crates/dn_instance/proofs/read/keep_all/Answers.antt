@@ -30,7 +30,7 @@ returns-in_err-feed-clause-err g c =
     let t = c.loop.invariant.given.0 in
     let piece = c.in_ok-bytes.bytes.now in
     let more = Consumes-trans _ _ _ t piece c.loop.invariant.given.1 c.in_ok-bytes.ensures.bytes in
-    let room : length c.loop.room ≡ 65536 = search rules in
+    let room : length c.loop.room ≡ 4096 = search rules in
     handed_on _ _ _ c.from_residual-in_err-feed.ensures
     (copied _ _ (t ++ piece) _ _ (Err c.in_err-feed.field-0.0) more (c.in_ok-keep_piece.ensures.ok ∙ ap (λ l. l ++ piece) c.loop.invariant.given.4 ∙ append_assoc _ t piece)
     (refused_given _ _ _ t piece c.loop.reader c.in_err-feed.field-0.0 c.loop.invariant.given.1 c.in_ok-bytes.ensures.bytes (subst (λ n. length piece ≤ n) room c.in_ok-bytes.ensures.bound) c.loop.invariant.given.2 c.loop.invariant.fine (c.in_err-feed.ensures.told t c.loop.invariant.given.2)

@@ -19,7 +19,7 @@ pub returns-in_default : goal.returns-in_default
 returns-in_default g c = record {
   status = omega arith;
   ran = out_of_memory refl (
-      c.put_fault_line.result,
-      subst (λ e. Puts g.E.Sink.sink e c.put_fault_line.new.sink (fault_line (codes "dnorm") Memory) c.put_fault_line.result) c.in-Err.ensures.err c.put_fault_line.ensures,
-      );
+    c.put_fault_line.result,
+    subst (λ e. Puts g.E.Sink.sink e c.put_fault_line.new.sink (fault_line (codes "dnorm") Memory) c.put_fault_line.result) c.in-Err.ensures.err c.put_fault_line.ensures,
+  );
 }
