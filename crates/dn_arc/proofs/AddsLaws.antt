@@ -17,9 +17,11 @@ use Rattle.dn_arc.proofs.CurvesLaws.{above_meaning}
 use Rattle.dn_arc.proofs.OrdersLaws.{at_end}
 
 -- removing the fixed arcs subtracts the forced units and their cost
-off : (fixed rest : List CostArc) (x k : ℤ) → AllByRecursion IsFixedArc fixed → AtMost (fixed ++ rest) x k → AtMost rest (x -ℤ forced_units fixed) (k -ℤ forced_cost fixed)
+off : (fixed rest : List CostArc) (x k : ℤ) → AllByRecursion IsFixedArc fixed → AtMost (fixed ++ rest) x k
+    → AtMost rest (x -ℤ forced_units fixed) (k -ℤ forced_cost fixed)
 off [] rest x k f s =
-    subst (λ y. AtMost rest y (k -ℤ pos 0)) (let e : x ≡ x -ℤ pos 0 = omega (arith, ints) in e) (more rest x k (k -ℤ pos 0) (omega (arith, ints)) s)
+    subst (λ y. AtMost rest y (k -ℤ pos 0)) (let e : x ≡ x -ℤ pos 0 = omega (arith, ints) in e)
+    (more rest x k (k -ℤ pos 0) (omega (arith, ints)) s)
 off (a ∷ fixed) rest x k f s =
     let l = s.low_is in
     let u = s.cap_is in
@@ -28,13 +30,17 @@ off (a ∷ fixed) rest x k f s =
     let w = s.within in
     let is_low : s.share ≡ a.low = omega (arith, ints) in
     let p = ap (λ y. a.cost *ℤ y) is_low in
-    subst (λ y. AtMost rest y (k -ℤ forced_cost (a ∷ fixed))) (let e : s.other -ℤ forced_units fixed ≡ x -ℤ (a.low +ℤ forced_units fixed) = omega (arith, ints) in e)
-    (more rest (s.other -ℤ forced_units fixed) (s.spent -ℤ forced_cost fixed) (k -ℤ forced_cost (a ∷ fixed)) (omega (arith, ints)) (off fixed rest s.other s.spent f.1 s.rest))
+    subst (λ y. AtMost rest y (k -ℤ forced_cost (a ∷ fixed)))
+    (let e : s.other -ℤ forced_units fixed ≡ x -ℤ (a.low +ℤ forced_units fixed) = omega (arith, ints) in e)
+    (more rest (s.other -ℤ forced_units fixed) (s.spent -ℤ forced_cost fixed) (k -ℤ forced_cost (a ∷ fixed))
+    (omega (arith, ints)) (off fixed rest s.other s.spent f.1 s.rest))
 
 -- adding the fixed arcs adds the forced units and their cost
-on : (fixed rest : List CostArc) (y j : ℤ) → AllByRecursion IsFixedArc fixed → AtMost rest y j → AtMost (fixed ++ rest) (forced_units fixed +ℤ y) (forced_cost fixed +ℤ j)
+on : (fixed rest : List CostArc) (y j : ℤ) → AllByRecursion IsFixedArc fixed → AtMost rest y j
+    → AtMost (fixed ++ rest) (forced_units fixed +ℤ y) (forced_cost fixed +ℤ j)
 on [] rest y j f s =
-    subst (λ z. AtMost rest z (pos 0 +ℤ j)) (let e : y ≡ pos 0 +ℤ y = omega (arith, ints) in e) (more rest y j (pos 0 +ℤ j) (omega (arith, ints)) s)
+    subst (λ z. AtMost rest z (pos 0 +ℤ j)) (let e : y ≡ pos 0 +ℤ y = omega (arith, ints) in e)
+    (more rest y j (pos 0 +ℤ j) (omega (arith, ints)) s)
 on (a ∷ fixed) rest y j f s =
     let full = f.0.full in
     record {
@@ -49,7 +55,8 @@ on (a ∷ fixed) rest y j f s =
     }
 
 -- an arc without capacity can be removed from a split
-none_there : (cost room : ℤ) (xs : List CostArc) → room ≡ pos 0 → (x k : ℤ) → Share (pos 0) room cost (AtMost xs) x k → AtMost xs x k
+none_there : (cost room : ℤ) (xs : List CostArc) → room ≡ pos 0 → (x k : ℤ) → Share (pos 0) room cost (AtMost xs) x k
+    → AtMost xs x k
 none_there cost room xs e x k s =
     let l = s.low_is in
     let u = s.cap_is in
@@ -58,18 +65,31 @@ none_there cost room xs e x k s =
     let none : s.share ≡ pos 0 = omega (arith, ints) in
     let p = ap (λ y. cost *ℤ y) none in
     let z : cost *ℤ pos 0 ≡ pos 0 = omega (arith, ints) in
-    subst (λ y. AtMost xs y k) (let e : s.other ≡ x = omega (arith, ints) in e) (more xs s.other s.spent k (omega (arith, ints)) s.rest)
+    subst (λ y. AtMost xs y k) (let e : s.other ≡ x = omega (arith, ints) in e)
+    (more xs s.other s.spent k (omega (arith, ints)) s.rest)
 
-none_back : (cost room : ℤ) (xs : List CostArc) → room ≡ pos 0 → (x k : ℤ) → AtMost xs x k → Share (pos 0) room cost (AtMost xs) x k
+none_back : (cost room : ℤ) (xs : List CostArc) → room ≡ pos 0 → (x k : ℤ) → AtMost xs x k
+    → Share (pos 0) room cost (AtMost xs) x k
 none_back cost room xs e x k s =
     let z : cost *ℤ pos 0 ≡ pos 0 = omega (arith, ints) in
-    record { share = pos 0; other = x; spent = k; low_is = ≤ℤ_refl _; cap_is = omega (arith, ints); amount = omega (arith, ints); within = omega (arith, ints); rest = s }
+    record {
+      share = pos 0;
+      other = x;
+      spent = k;
+      low_is = ≤ℤ_refl _;
+      cap_is = omega (arith, ints);
+      amount =
+          omega (arith, ints);
+      within = omega (arith, ints);
+      rest = s;
+    }
 
 -- an arc without capacity means nothing
 pub above_none : (cost room : ℤ) (xs : List CostArc) → room ≡ pos 0 → SameAbove (free_arc cost room ∷ xs) xs
 above_none cost room xs e = record { there = none_there cost room xs e; back = none_back cost room xs e }
 
-merge_there : (cost u w : ℤ) (R : ℤ → ℤ → Type 0) → pos 0 ≤ℤ u → pos 0 ≤ℤ w → (x k : ℤ) → Share (pos 0) (u +ℤ w) cost R x k → Share (pos 0) w cost (Share (pos 0) u cost R) x k
+merge_there : (cost u w : ℤ) (R : ℤ → ℤ → Type 0) → pos 0 ≤ℤ u → pos 0 ≤ℤ w → (x k : ℤ)
+    → Share (pos 0) (u +ℤ w) cost R x k → Share (pos 0) w cost (Share (pos 0) u cost R) x k
 merge_there cost u w R h g x k s =
     let l = s.low_is in
     let c = s.cap_is in
@@ -86,7 +106,18 @@ merge_there cost u w R h g x k s =
       cap_is = ≤ℤ_refl _;
       amount = omega (arith, ints);
       within = omega (arith, ints);
-      rest = record { share = s.share -ℤ w; other = s.other; spent = s.spent; low_is = omega (arith, ints); cap_is = omega (arith, ints); amount = refl; within = ≤ℤ_refl _; rest = s.rest };
+      rest =
+          record {
+            share = s.share -ℤ w;
+            other = s.other;
+            spent = s.spent;
+            low_is = omega (arith, ints);
+            cap_is =
+                omega (arith, ints);
+            amount = refl;
+            within = ≤ℤ_refl _;
+            rest = s.rest;
+          };
     })
     (λ under.
     let z : cost *ℤ pos 0 ≡ pos 0 = omega (arith, ints) in
@@ -98,10 +129,22 @@ merge_there cost u w R h g x k s =
       cap_is = under;
       amount = a;
       within = i;
-      rest = record { share = pos 0; other = s.other; spent = s.spent; low_is = ≤ℤ_refl _; cap_is = h; amount = omega (arith, ints); within = omega (arith, ints); rest = s.rest };
+      rest =
+          record {
+            share = pos 0;
+            other = s.other;
+            spent = s.spent;
+            low_is = ≤ℤ_refl _;
+            cap_is = h;
+            amount =
+                omega (arith, ints);
+            within = omega (arith, ints);
+            rest = s.rest;
+          };
     })
 
-merge_back : (cost u w : ℤ) (R : ℤ → ℤ → Type 0) (x k : ℤ) → Share (pos 0) w cost (Share (pos 0) u cost R) x k → Share (pos 0) (u +ℤ w) cost R x k
+merge_back : (cost u w : ℤ) (R : ℤ → ℤ → Type 0) (x k : ℤ) → Share (pos 0) w cost (Share (pos 0) u cost R) x k
+    → Share (pos 0) (u +ℤ w) cost R x k
 merge_back cost u w R x k s =
     let t = s.rest in
     let l = s.low_is in
@@ -113,34 +156,69 @@ merge_back cost u w R x k s =
     let b = t.amount in
     let j = t.within in
     let p = mul_add cost s.share t.share in
-    record { share = s.share +ℤ t.share; other = t.other; spent = t.spent; low_is = omega (arith, ints); cap_is = omega (arith, ints); amount = omega (arith, ints); within = omega (arith, ints); rest = t.rest }
+    record {
+      share = s.share +ℤ t.share;
+      other = t.other;
+      spent = t.spent;
+      low_is = omega (arith, ints);
+      cap_is =
+          omega (arith, ints);
+      amount = omega (arith, ints);
+      within = omega (arith, ints);
+      rest = t.rest;
+    }
 
 -- two free arcs of one cost mean the same as one
-pub above_merge : (cost u w : ℤ) (xs : List CostArc) → pos 0 ≤ℤ u → pos 0 ≤ℤ w → SameAbove (free_arc cost (u +ℤ w) ∷ xs) (free_arc cost w ∷ free_arc cost u ∷ xs)
-above_merge cost u w xs h g = record { there = merge_there cost u w (AtMost xs) h g; back = merge_back cost u w (AtMost xs) }
+pub above_merge : (cost u w : ℤ) (xs : List CostArc) → pos 0 ≤ℤ u → pos 0 ≤ℤ w
+    → SameAbove (free_arc cost (u +ℤ w) ∷ xs) (free_arc cost w ∷ free_arc cost u ∷ xs)
+above_merge cost u w xs h g =
+    record { there = merge_there cost u w (AtMost xs) h g; back = merge_back cost u w (AtMost xs) }
 
-part_there : (low cap cost : ℤ) (R : ℤ → ℤ → Type 0) (x k : ℤ) → Share low cap cost R x k → Share (pos 0) (cap -ℤ low) cost R (x -ℤ low) (k -ℤ (cost *ℤ low))
+part_there : (low cap cost : ℤ) (R : ℤ → ℤ → Type 0) (x k : ℤ) → Share low cap cost R x k
+    → Share (pos 0) (cap -ℤ low) cost R (x -ℤ low) (k -ℤ (cost *ℤ low))
 part_there low cap cost R x k s =
     let l = s.low_is in
     let c = s.cap_is in
     let a = s.amount in
     let i = s.within in
     let m = mul_sub cost s.share low in
-    record { share = s.share -ℤ low; other = s.other; spent = s.spent; low_is = omega (arith, ints); cap_is = omega (arith, ints); amount = omega (arith, ints); within = omega (arith, ints); rest = s.rest }
+    record {
+      share = s.share -ℤ low;
+      other = s.other;
+      spent = s.spent;
+      low_is = omega (arith, ints);
+      cap_is =
+          omega (arith, ints);
+      amount = omega (arith, ints);
+      within = omega (arith, ints);
+      rest = s.rest;
+    }
 
-part_back : (low cap cost : ℤ) (R : ℤ → ℤ → Type 0) (x k : ℤ) → Share (pos 0) (cap -ℤ low) cost R x k → Share low cap cost R (low +ℤ x) ((cost *ℤ low) +ℤ k)
+part_back : (low cap cost : ℤ) (R : ℤ → ℤ → Type 0) (x k : ℤ) → Share (pos 0) (cap -ℤ low) cost R x k
+    → Share low cap cost R (low +ℤ x) ((cost *ℤ low) +ℤ k)
 part_back low cap cost R x k s =
     let l = s.low_is in
     let c = s.cap_is in
     let a = s.amount in
     let i = s.within in
     let m = mul_add cost low s.share in
-    record { share = low +ℤ s.share; other = s.other; spent = s.spent; low_is = omega (arith, ints); cap_is = omega (arith, ints); amount = omega (arith, ints); within = omega (arith, ints); rest = s.rest }
+    record {
+      share = low +ℤ s.share;
+      other = s.other;
+      spent = s.spent;
+      low_is = omega (arith, ints);
+      cap_is =
+          omega (arith, ints);
+      amount = omega (arith, ints);
+      within = omega (arith, ints);
+      rest = s.rest;
+    }
 
 at_values : (arcs : List CostArc) (x y k j : ℤ) → x ≡ y → k ≡ j → AtMost arcs x k → AtMost arcs y j
 at_values arcs x y k j e f s = subst (λ z. AtMost arcs z j) e (subst (AtMost arcs x) f s)
 
-add_above : (fixed fixed' free free' : List CostArc) (a : CostArc) → AllByRecursion IsFixedArc fixed → AllByRecursion IsFixedArc fixed'
+add_above : (fixed fixed' free free' : List CostArc) (a : CostArc) → AllByRecursion IsFixedArc fixed
+    → AllByRecursion IsFixedArc fixed'
     → forced_units fixed' ≡ forced_units fixed +ℤ a.low
     → forced_cost fixed' ≡ forced_cost fixed +ℤ (a.cost *ℤ a.low)
     → SameAbove free' (free_arc a.cost (a.cap -ℤ a.low) ∷ free)
@@ -149,22 +227,28 @@ add_above fixed fixed' free free' a f g u c s = record {
   there = λ x k r.
       let whole = s.there _ _ (off fixed' free' x k g r) in
       let back = part_back a.low a.cap a.cost (AtMost free) _ _ whole in
-      at_values (fixed ++ a ∷ free) _ x _ k (omega (arith, ints)) (omega (arith, ints)) (on fixed (a ∷ free) _ _ f back);
+      at_values (fixed ++ a ∷ free) _ x _ k (omega (arith, ints)) (omega (arith, ints))
+      (on fixed (a ∷ free) _ _ f back);
   back = λ x k r.
       let part = part_there a.low a.cap a.cost (AtMost free) _ _ (off fixed (a ∷ free) x k f r) in
-      at_values (fixed' ++ free') _ x _ k (omega (arith, ints)) (omega (arith, ints)) (on fixed' free' _ _ g (s.back _ _ part));
+      at_values (fixed' ++ free') _ x _ k (omega (arith, ints)) (omega (arith, ints))
+      (on fixed' free' _ _ g (s.back _ _ part));
 }
 
 -- one more arc adds its forced units and their cost, and its free part becomes one more free arc
-pub add_end : (fixed fixed' free free' : List CostArc) (a : CostArc) → AllByRecursion IsFixedArc fixed → AllByRecursion IsFixedArc fixed'
+pub add_end : (fixed fixed' free free' : List CostArc) (a : CostArc) → AllByRecursion IsFixedArc fixed
+    → AllByRecursion IsFixedArc fixed'
     → forced_units fixed' ≡ forced_units fixed +ℤ a.low
     → forced_cost fixed' ≡ forced_cost fixed +ℤ (a.cost *ℤ a.low)
     → SameAbove free' (free_arc a.cost (a.cap -ℤ a.low) ∷ free)
     → SameCurve (fixed' ++ free') ((fixed ++ free) ++ a ∷ [])
 add_end fixed fixed' free free' a f g u c s =
     same _ _ (above_meaning.same_trans _ _ _ (add_above fixed fixed' free free' a f g u c s)
-    (above_meaning.same_trans _ _ _ (middle fixed) (above_meaning.same_sym _ _ (at_end SameAbove above_meaning (fixed ++ free) a))))
+    (above_meaning.same_trans _ _ _ (middle fixed)
+    (above_meaning.same_sym _ _ (at_end SameAbove above_meaning (fixed ++ free) a))))
   where
     middle : (xs : List CostArc) → SameAbove (xs ++ a ∷ free) (a ∷ (xs ++ free))
     middle [] = above_meaning.same_refl _
-    middle (x ∷ xs) = above_meaning.same_trans _ _ _ (above_meaning.same_more x _ _ (middle xs)) (above_meaning.same_swap x a (xs ++ free))
+    middle (x ∷ xs) =
+        above_meaning.same_trans _ _ _ (above_meaning.same_more x _ _ (middle xs))
+        (above_meaning.same_swap x a (xs ++ free))

@@ -48,7 +48,8 @@ units_some : (arcs : List CostArc) → AllByRecursion IsCostArc arcs → pos 0 �
 units_some [] h = ≤ℤ_refl _
 units_some (a ∷ rest) h = let low = h.0.some in let i = units_some rest h.1 in omega (arith, ints)
 
-none_forced : (arcs : List CostArc) → AllByRecursion IsCostArc arcs → forced_units arcs ≡ pos 0 → forced_cost arcs ≡ pos 0
+none_forced : (arcs : List CostArc) → AllByRecursion IsCostArc arcs → forced_units arcs ≡ pos 0
+    → forced_cost arcs ≡ pos 0
 none_forced [] h e = refl
 none_forced (a ∷ rest) h e =
     let low = h.0.some in
@@ -62,16 +63,24 @@ canon_same : (arcs : List CostArc) → AllByRecursion IsCostArc arcs → SameCur
 canon_same [] h = curve_meaning.same_refl []
 canon_same (a ∷ rest) h =
     let high = h.0.room in
-    let more : SameAbove (map step_arc (arc_steps (a ∷ rest))) (free_arc a.cost (a.cap -ℤ a.low) ∷ map step_arc (arc_steps rest)) =
-    by_test (λ (l : List (ℤ × ℤ)). SameAbove (map step_arc l) (free_arc a.cost (a.cap -ℤ a.low) ∷ map step_arc (arc_steps rest))) a.low a.cap (put_step (arc_steps rest) (a.cost, room a)) (arc_steps rest)
+    let more : SameAbove (map step_arc (arc_steps (a ∷ rest)))
+    (free_arc a.cost (a.cap -ℤ a.low) ∷ map step_arc (arc_steps rest)) =
+    by_test
+    (λ (l : List (ℤ × ℤ)). SameAbove (map step_arc l)
+    (free_arc a.cost (a.cap -ℤ a.low) ∷ map step_arc (arc_steps rest))) a.low a.cap
+    (put_step (arc_steps rest) (a.cost, room a)) (arc_steps rest)
     (λ lt. put_above (arc_steps rest) (a.cost, room a) (omega (arith, ints)) (arc_steps_are rest))
-    (λ le. above_meaning.same_sym _ _ (above_none a.cost (a.cap -ℤ a.low) (map step_arc (arc_steps rest)) (omega (arith, ints)))) in
-    let added = told_added (forced_units rest) (forced_cost rest) (forced_units (a ∷ rest)) (forced_cost (a ∷ rest)) (arc_steps rest) (arc_steps (a ∷ rest)) a
+    (λ le. above_meaning.same_sym _ _
+    (above_none a.cost (a.cap -ℤ a.low) (map step_arc (arc_steps rest)) (omega (arith, ints)))) in
+    let added =
+    told_added (forced_units rest) (forced_cost rest) (forced_units (a ∷ rest)) (forced_cost (a ∷ rest))
+    (arc_steps rest) (arc_steps (a ∷ rest)) a
     (units_some rest h.1) (none_forced rest h.1) (arc_steps_are rest)
     (units_some (a ∷ rest) h) (none_forced (a ∷ rest) h) (arc_steps_are (a ∷ rest))
     (omega (arith, ints)) (omega (arith, ints)) more in
     curve_meaning.same_trans _ _ _ added
-    (curve_meaning.same_trans _ _ _ (at_end SameCurve curve_meaning (canon rest) a) (curve_meaning.same_more a _ _ (canon_same rest h.1)))
+    (curve_meaning.same_trans _ _ _ (at_end SameCurve curve_meaning (canon rest) a)
+    (curve_meaning.same_more a _ _ (canon_same rest h.1)))
 
 back : (steps : List (ℤ × ℤ)) → map (λ (a : CostArc). (a.cost, a.cap)) (map step_arc steps) ≡ steps
 back [] = refl
@@ -83,19 +92,45 @@ pub record IsSameCanon (xs ys : List CostArc) : Type 0 where
   pub cost : forced_cost xs ≡ forced_cost ys
   pub steps : arc_steps xs ≡ arc_steps ys
 
-pub same_canon : (xs ys : List CostArc) → AllByRecursion IsCostArc xs → AllByRecursion IsCostArc ys → SameCurve xs ys → IsSameCanon xs ys
+pub same_canon : (xs ys : List CostArc) → AllByRecursion IsCostArc xs → AllByRecursion IsCostArc ys → SameCurve xs ys
+    → IsSameCanon xs ys
 same_canon xs ys h g s =
-    let p = told_one (forced_units xs) (forced_cost xs) (arc_steps xs) (units_some xs h) (none_forced xs h) (arc_steps_are xs) in
-    let q = told_one (forced_units ys) (forced_cost ys) (arc_steps ys) (units_some ys g) (none_forced ys g) (arc_steps_are ys) in
-    let same = curve_meaning.same_trans _ _ _ (canon_same xs h) (curve_meaning.same_trans _ _ _ s (curve_meaning.same_sym _ _ (canon_same ys g))) in
+    let p =
+    told_one (forced_units xs) (forced_cost xs) (arc_steps xs) (units_some xs h) (none_forced xs h)
+    (arc_steps_are xs) in
+    let q =
+    told_one (forced_units ys) (forced_cost ys) (arc_steps ys) (units_some ys g) (none_forced ys g)
+    (arc_steps_are ys) in
+    let same =
+    curve_meaning.same_trans _ _ _ (canon_same xs h)
+    (curve_meaning.same_trans _ _ _ s (curve_meaning.same_sym _ _ (canon_same ys g))) in
     let t = same_fill (canon xs) (canon ys) (form_one_ordered (canon xs) p) (form_one_ordered (canon ys) q) same in
-    let u = told_units (forced_units xs) (forced_cost xs) (arc_steps xs) (units_some xs h) (none_forced xs h) (arc_steps_are xs) in
-    let v = told_units (forced_units ys) (forced_cost ys) (arc_steps ys) (units_some ys g) (none_forced ys g) (arc_steps_are ys) in
-    let c = told_cost (forced_units xs) (forced_cost xs) (arc_steps xs) (units_some xs h) (none_forced xs h) (arc_steps_are xs) in
-    let d = told_cost (forced_units ys) (forced_cost ys) (arc_steps ys) (units_some ys g) (none_forced ys g) (arc_steps_are ys) in
-    let a = told_apart (forced_units xs) (forced_cost xs) (arc_steps xs) (units_some xs h) (none_forced xs h) (arc_steps_are xs) in
-    let b = told_apart (forced_units ys) (forced_cost ys) (arc_steps ys) (units_some ys g) (none_forced ys g) (arc_steps_are ys) in
-    let f = free_same (map step_arc (arc_steps xs)) (map step_arc (arc_steps ys)) (free_arcs (arc_steps xs) (arc_steps_are xs)) (free_arcs (arc_steps ys) (arc_steps_are ys)) (record { whole = sym a.room ∙ t.whole ∙ b.room; each = λ y l w. sym (a.fill y l) ∙ t.each y l (subst (λ z. y ≤ℤ z) (sym a.room) w) ∙ b.fill y l }) in
+    let u =
+    told_units (forced_units xs) (forced_cost xs) (arc_steps xs) (units_some xs h) (none_forced xs h)
+    (arc_steps_are xs) in
+    let v =
+    told_units (forced_units ys) (forced_cost ys) (arc_steps ys) (units_some ys g) (none_forced ys g)
+    (arc_steps_are ys) in
+    let c =
+    told_cost (forced_units xs) (forced_cost xs) (arc_steps xs) (units_some xs h) (none_forced xs h)
+    (arc_steps_are xs) in
+    let d =
+    told_cost (forced_units ys) (forced_cost ys) (arc_steps ys) (units_some ys g) (none_forced ys g)
+    (arc_steps_are ys) in
+    let a =
+    told_apart (forced_units xs) (forced_cost xs) (arc_steps xs) (units_some xs h) (none_forced xs h)
+    (arc_steps_are xs) in
+    let b =
+    told_apart (forced_units ys) (forced_cost ys) (arc_steps ys) (units_some ys g) (none_forced ys g)
+    (arc_steps_are ys) in
+    let f =
+    free_same (map step_arc (arc_steps xs)) (map step_arc (arc_steps ys))
+    (free_arcs (arc_steps xs) (arc_steps_are xs)) (free_arcs (arc_steps ys) (arc_steps_are ys))
+    (record {
+      whole = sym a.room ∙ t.whole ∙ b.room;
+      each =
+          λ y l w. sym (a.fill y l) ∙ t.each y l (subst (λ z. y ≤ℤ z) (sym a.room) w) ∙ b.fill y l;
+    }) in
     record {
       units = sym u ∙ t.units ∙ v;
       cost = sym c ∙ t.cost ∙ d;
@@ -103,11 +138,13 @@ same_canon xs ys h g s =
     }
 
 -- a case distinction by the order of two numbers
-pub by_cmp : {G : Type 0} (a b : ℤ) → (int_cmp a b ≡ Less → a <ℤ b → G) → (int_cmp a b ≡ Equal → a ≡ b → G) → (int_cmp a b ≡ Greater → b <ℤ a → G) → G
+pub by_cmp : {G : Type 0} (a b : ℤ) → (int_cmp a b ≡ Less → a <ℤ b → G) → (int_cmp a b ≡ Equal → a ≡ b → G)
+    → (int_cmp a b ≡ Greater → b <ℤ a → G) → G
 by_cmp a b f g h = by_ranked (a <ℤ b) (a ≡ b) (b <ℤ a) (int_cmp a b) (int_ranked a b (int_cmp a b) refl) f g h
 
 pub eq_yes : (a b : ℤ) → a ≡ b → int_eq a b ≡ true
-eq_yes a b e = by_cmp a b (λ c lt. absurd (omega (arith, ints))) (λ c eq. ap is_eq c) (λ c gt. absurd (omega (arith, ints)))
+eq_yes a b e =
+    by_cmp a b (λ c lt. absurd (omega (arith, ints))) (λ c eq. ap is_eq c) (λ c gt. absurd (omega (arith, ints)))
 
 pub eq_below : (a b : ℤ) → a <ℤ b → int_eq a b ≡ false
 eq_below a b h = by_cmp a b (λ c lt. ap is_eq c) (λ c eq. absurd (omega (arith, ints))) (λ c gt. ap is_eq c)
@@ -126,13 +163,18 @@ or_same true c = refl
 or_same false c = refl
 
 -- a cost has capacity after an insertion exactly if it had capacity before or is the inserted cost
-has_put : (steps : List (ℤ × ℤ)) (more : ℤ × ℤ) (c : ℤ) → has_step (put_step steps more) c ≡ (int_eq c more.0 || has_step steps c)
+has_put : (steps : List (ℤ × ℤ)) (more : ℤ × ℤ) (c : ℤ)
+    → has_step (put_step steps more) c ≡ (int_eq c more.0 || has_step steps c)
 has_put [] more c = refl
 has_put (step ∷ rest) more c =
-    by_test (λ (l : List (ℤ × ℤ)). has_step l c ≡ (int_eq c more.0 || has_step (step ∷ rest) c)) more.0 step.0 (more ∷ step ∷ rest) (cond (int_lt step.0 more.0) (step ∷ put_step rest more) ((step.0, step.1 +ℤ more.1) ∷ rest))
+    by_test (λ (l : List (ℤ × ℤ)). has_step l c ≡ (int_eq c more.0 || has_step (step ∷ rest) c)) more.0 step.0
+    (more ∷ step ∷ rest)
+    (cond (int_lt step.0 more.0) (step ∷ put_step rest more) ((step.0, step.1 +ℤ more.1) ∷ rest))
     (λ lt. refl)
-    (λ le. by_test (λ (l : List (ℤ × ℤ)). has_step l c ≡ (int_eq c more.0 || has_step (step ∷ rest) c)) step.0 more.0 (step ∷ put_step rest more) ((step.0, step.1 +ℤ more.1) ∷ rest)
-    (λ lt. ap (λ b. int_eq c step.0 || b) (has_put rest more c) ∙ or_swap (int_eq c step.0) (int_eq c more.0) (has_step rest c))
+    (λ le. by_test (λ (l : List (ℤ × ℤ)). has_step l c ≡ (int_eq c more.0 || has_step (step ∷ rest) c)) step.0 more.0
+    (step ∷ put_step rest more) ((step.0, step.1 +ℤ more.1) ∷ rest)
+    (λ lt. ap (λ b. int_eq c step.0 || b) (has_put rest more c)
+    ∙ or_swap (int_eq c step.0) (int_eq c more.0) (has_step rest c))
     (λ ge.
     let same : step.0 ≡ more.0 = omega (arith, ints) in
     or_same (int_eq c step.0) (has_step rest c) ∙ ap (λ z. int_eq c z || (int_eq c step.0 || has_step rest c)) same))
@@ -142,14 +184,27 @@ none_has c [] h = refl
 none_has c (step ∷ rest) h = ap (λ b. b || has_step rest c) (eq_below c step.0 h.0) ∙ none_has c rest h.1
 
 -- an insertion adds one breakpoint, unless there was one at this cost
-length_put : (steps : List (ℤ × ℤ)) (more : ℤ × ℤ) → AreSteps steps → length (put_step steps more) ≡ cond (has_step steps more.0) (length steps) (suc (length steps))
+length_put : (steps : List (ℤ × ℤ)) (more : ℤ × ℤ) → AreSteps steps
+    → length (put_step steps more) ≡ cond (has_step steps more.0) (length steps) (suc (length steps))
 length_put [] more s = refl
 length_put (step ∷ rest) more s =
-    by_test (λ (l : List (ℤ × ℤ)). length l ≡ cond (has_step (step ∷ rest) more.0) (length (step ∷ rest)) (suc (length (step ∷ rest)))) more.0 step.0 (more ∷ step ∷ rest) (cond (int_lt step.0 more.0) (step ∷ put_step rest more) ((step.0, step.1 +ℤ more.1) ∷ rest))
-    (λ lt. sym (ap (λ b. cond b (length (step ∷ rest)) (suc (length (step ∷ rest)))) (none_has more.0 (step ∷ rest) (lt, costs_lower more.0 step.0 rest lt s.1))))
-    (λ le. by_test (λ (l : List (ℤ × ℤ)). length l ≡ cond (has_step (step ∷ rest) more.0) (length (step ∷ rest)) (suc (length (step ∷ rest)))) step.0 more.0 (step ∷ put_step rest more) ((step.0, step.1 +ℤ more.1) ∷ rest)
-    (λ lt. ap suc (length_put rest more s.2) ∙ one_more (has_step rest more.0) (length rest) ∙ sym (ap (λ b. cond (b || has_step rest more.0) (length (step ∷ rest)) (suc (length (step ∷ rest)))) (eq_past more.0 step.0 lt)))
-    (λ ge. sym (ap (λ b. cond (b || has_step rest more.0) (length (step ∷ rest)) (suc (length (step ∷ rest)))) (eq_yes more.0 step.0 (omega (arith, ints))))))
+    by_test
+    (λ (l : List (ℤ × ℤ)). length l ≡ cond (has_step (step ∷ rest) more.0) (length (step ∷ rest))
+    (suc (length (step ∷ rest)))) more.0 step.0 (more ∷ step ∷ rest)
+    (cond (int_lt step.0 more.0) (step ∷ put_step rest more) ((step.0, step.1 +ℤ more.1) ∷ rest))
+    (λ lt. sym
+    (ap (λ b. cond b (length (step ∷ rest)) (suc (length (step ∷ rest))))
+    (none_has more.0 (step ∷ rest) (lt, costs_lower more.0 step.0 rest lt s.1))))
+    (λ le. by_test
+    (λ (l : List (ℤ × ℤ)). length l ≡ cond (has_step (step ∷ rest) more.0) (length (step ∷ rest))
+    (suc (length (step ∷ rest)))) step.0 more.0 (step ∷ put_step rest more) ((step.0, step.1 +ℤ more.1) ∷ rest)
+    (λ lt. ap suc (length_put rest more s.2) ∙ one_more (has_step rest more.0) (length rest)
+    ∙ sym
+    (ap (λ b. cond (b || has_step rest more.0) (length (step ∷ rest)) (suc (length (step ∷ rest))))
+    (eq_past more.0 step.0 lt)))
+    (λ ge. sym
+    (ap (λ b. cond (b || has_step rest more.0) (length (step ∷ rest)) (suc (length (step ∷ rest))))
+    (eq_yes more.0 step.0 (omega (arith, ints))))))
   where
     one_more : (b : Bool) (n : ℕ) → suc (cond b n (suc n)) ≡ cond b (suc n) (suc (suc n))
     one_more true n = refl
@@ -162,7 +217,10 @@ costs_of arcs = map (λ (a : CostArc). a.cost) (filter has_room arcs)
 has_cost : (arcs : List CostArc) (c : ℤ) → list_any (int_eq c) (costs_of arcs) ≡ has_step (arc_steps arcs) c
 has_cost [] c = refl
 has_cost (a ∷ rest) c =
-    elim (int_lt a.low a.cap) as (λ v. list_any (int_eq c) (map (λ (a : CostArc). a.cost) (cond v (a ∷ filter has_room rest) (filter has_room rest))) ≡ has_step (cond v (put_step (arc_steps rest) (a.cost, room a)) (arc_steps rest)) c) [
+    elim (int_lt a.low a.cap) as
+    (λ v. list_any (int_eq c)
+    (map (λ (a : CostArc). a.cost) (cond v (a ∷ filter has_room rest) (filter has_room rest))) ≡ has_step
+    (cond v (put_step (arc_steps rest) (a.cost, room a)) (arc_steps rest)) c) [
       | true ↦ ap (λ b. int_eq c a.cost || b) (has_cost rest c) ∙ sym (has_put (arc_steps rest) (a.cost, room a) c)
       | false ↦ has_cost rest c
     ]
@@ -172,29 +230,45 @@ pub count_costs : (arcs : List CostArc) → length (distinct int_eq (costs_of ar
 count_costs [] = refl
 count_costs (a ∷ rest) =
     let i = count_costs rest in
-    elim (int_lt a.low a.cap) as (λ v. length (distinct int_eq (map (λ (a : CostArc). a.cost) (cond v (a ∷ filter has_room rest) (filter has_room rest)))) ≡ length (cond v (put_step (arc_steps rest) (a.cost, room a)) (arc_steps rest))) [
-      | true ↦ ap (λ b. length (cond b (distinct int_eq (costs_of rest)) (a.cost ∷ distinct int_eq (costs_of rest)))) (has_cost rest a.cost) ∙ either (has_step (arc_steps rest) a.cost) i ∙ sym (length_put (arc_steps rest) (a.cost, room a) (arc_steps_are rest))
+    elim (int_lt a.low a.cap) as
+    (λ v. length
+    (distinct int_eq
+    (map (λ (a : CostArc). a.cost) (cond v (a ∷ filter has_room rest) (filter has_room rest)))) ≡ length
+    (cond v (put_step (arc_steps rest) (a.cost, room a)) (arc_steps rest))) [
+      | true ↦ ap (λ b. length (cond b (distinct int_eq (costs_of rest)) (a.cost ∷ distinct int_eq (costs_of rest))))
+          (has_cost rest a.cost) ∙ either (has_step (arc_steps rest) a.cost) i
+          ∙ sym (length_put (arc_steps rest) (a.cost, room a) (arc_steps_are rest))
       | false ↦ i
     ]
   where
-    either : (b : Bool) → length (distinct int_eq (costs_of rest)) ≡ length (arc_steps rest) → length (cond b (distinct int_eq (costs_of rest)) (a.cost ∷ distinct int_eq (costs_of rest))) ≡ cond b (length (arc_steps rest)) (suc (length (arc_steps rest)))
+    either : (b : Bool) → length (distinct int_eq (costs_of rest)) ≡ length (arc_steps rest)
+        → length (cond b (distinct int_eq (costs_of rest)) (a.cost ∷ distinct int_eq (costs_of rest))) ≡ cond b
+        (length (arc_steps rest)) (suc (length (arc_steps rest)))
     either true i = i
     either false i = ap suc i
 
-any_low : (arcs : List CostArc) → AllByRecursion IsCostArc arcs → list_any has_low arcs ≡ int_lt (pos 0) (forced_units arcs)
+any_low : (arcs : List CostArc) → AllByRecursion IsCostArc arcs
+    → list_any has_low arcs ≡ int_lt (pos 0) (forced_units arcs)
 any_low [] h = refl
 any_low (a ∷ rest) h =
     let low = h.0.some in
     let left = units_some rest h.1 in
     by_lt_z (pos 0) a.low
-    (λ lt. ap (λ b. b || list_any has_low rest) (test_yes (pos 0) a.low lt) ∙ sym (test_yes (pos 0) (forced_units (a ∷ rest)) (omega (arith, ints))))
-    (λ le. ap (λ b. b || list_any has_low rest) (test_no (pos 0) a.low le) ∙ any_low rest h.1 ∙ ap (λ z. int_lt (pos 0) z) (let e : forced_units rest ≡ forced_units (a ∷ rest) = omega (arith, ints) in e))
+    (λ lt. ap (λ b. b || list_any has_low rest) (test_yes (pos 0) a.low lt)
+    ∙ sym (test_yes (pos 0) (forced_units (a ∷ rest)) (omega (arith, ints))))
+    (λ le. ap (λ b. b || list_any has_low rest) (test_no (pos 0) a.low le) ∙ any_low rest h.1
+    ∙ ap (λ z. int_lt (pos 0) z) (let e : forced_units rest ≡ forced_units (a ∷ rest) = omega (arith, ints) in e))
 
 -- the entries are one for forced units, if there are any, and one for each breakpoint
-pub entries_are : (arcs : List CostArc) → AllByRecursion IsCostArc arcs → cost_entries arcs ≡ cond (int_lt (pos 0) (forced_units arcs)) 1 0 + length (arc_steps arcs)
-entries_are arcs h = ap (λ b. cond b 1 0 + length (distinct int_eq (costs_of arcs))) (any_low arcs h) ∙ ap (λ n. cond (int_lt (pos 0) (forced_units arcs)) 1 0 + n) (count_costs arcs)
+pub entries_are : (arcs : List CostArc) → AllByRecursion IsCostArc arcs
+    → cost_entries arcs ≡ cond (int_lt (pos 0) (forced_units arcs)) 1 0 + length (arc_steps arcs)
+entries_are arcs h =
+    ap (λ b. cond b 1 0 + length (distinct int_eq (costs_of arcs))) (any_low arcs h)
+    ∙ ap (λ n. cond (int_lt (pos 0) (forced_units arcs)) 1 0 + n) (count_costs arcs)
 
-pub entries_same : (xs ys : List CostArc) → AllByRecursion IsCostArc xs → AllByRecursion IsCostArc ys → SameCurve xs ys → cost_entries xs ≡ cost_entries ys
+pub entries_same : (xs ys : List CostArc) → AllByRecursion IsCostArc xs → AllByRecursion IsCostArc ys → SameCurve xs ys
+    → cost_entries xs ≡ cost_entries ys
 entries_same xs ys h g s =
     let c = same_canon xs ys h g s in
-    entries_are xs h ∙ ap (λ z. cond (int_lt (pos 0) z) 1 0 + length (arc_steps xs)) c.units ∙ ap (λ l. cond (int_lt (pos 0) (forced_units ys)) 1 0 + length l) c.steps ∙ sym (entries_are ys g)
+    entries_are xs h ∙ ap (λ z. cond (int_lt (pos 0) z) 1 0 + length (arc_steps xs)) c.units
+    ∙ ap (λ l. cond (int_lt (pos 0) (forced_units ys)) 1 0 + length l) c.steps ∙ sym (entries_are ys g)

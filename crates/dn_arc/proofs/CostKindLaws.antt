@@ -46,12 +46,16 @@ none_canon One = record { fixed = []; free = []; parts = refl; each_fixed = tt; 
 none_canon Two = record { each = tt; rising = tt; near = tt }
 
 -- an amount has the same option of a cost on both sides, if its least costs are the same
-same_option : (xs ys : List CostArc) (x : ℤ) (l r : Option ℤ) → ((k : ℤ) → LeastCost xs x k → LeastCost ys x k) → ((k : ℤ) → LeastCost ys x k → LeastCost xs x k) → IsCostOf xs x l → IsCostOf ys x r → l ≡ r
+same_option : (xs ys : List CostArc) (x : ℤ) (l r : Option ℤ) → ((k : ℤ) → LeastCost xs x k → LeastCost ys x k)
+    → ((k : ℤ) → LeastCost ys x k → LeastCost xs x k) → IsCostOf xs x l → IsCostOf ys x r → l ≡ r
 same_option xs ys x None r there back l' r' = cost_of_one ys x None r (λ k c. l' k (back k c)) r'
 same_option xs ys x (Some j) r there back l' r' = cost_of_one ys x (Some j) r (there j l') r'
 
 not_below : (xs ys : List CostArc) (g h : Gap) → IsGap xs ys g → IsGap xs ys h → g.amount <ℤ h.amount → ⊥
-not_below xs ys g h p q lt = p.differ (same_option xs ys g.amount g.left g.right (λ k. (q.same_below g.amount k lt).0) (λ k. (q.same_below g.amount k lt).1) p.left p.right)
+not_below xs ys g h p q lt =
+    p.differ
+    (same_option xs ys g.amount g.left g.right (λ k. (q.same_below g.amount k lt).0)
+    (λ k. (q.same_below g.amount k lt).1) p.left p.right)
 
 gap_same : (g h : Gap) → g.amount ≡ h.amount → g.left ≡ h.left → g.right ≡ h.right → g ≡ h
 gap_same g h a l r =
@@ -75,15 +79,21 @@ one_differ xs ys (Costs g) (Totals l r) d e = absurd e
 one_differ xs ys (Lengths l r) other d e = absurd d
 one_differ xs ys (Totals l r) other d e = absurd d
 
-same_gap : (xs xs' ys ys' : List CostArc) (g : Gap) → SameCurve xs xs' → SameCurve ys ys' → IsGap xs ys g → IsGap xs' ys' g
+same_gap : (xs xs' ys ys' : List CostArc) (g : Gap) → SameCurve xs xs' → SameCurve ys ys' → IsGap xs ys g
+    → IsGap xs' ys' g
 same_gap xs xs' ys ys' g s t p = record {
   left = cost_of_same xs xs' g.amount g.left s p.left;
   right = cost_of_same ys ys' g.amount g.right t p.right;
   differ = p.differ;
-  same_below = λ x k lt. ((λ c. t.there x k ((p.same_below x k lt).0 (s.back x k c))), (λ c. s.there x k ((p.same_below x k lt).1 (t.back x k c))));
+  same_below =
+      λ x k lt. (
+        (λ c. t.there x k ((p.same_below x k lt).0 (s.back x k c))),
+        (λ c. s.there x k ((p.same_below x k lt).1 (t.back x k c))),
+      );
 }
 
-same_differ : (xs xs' ys ys' : List CostArc) (how : How) → SameCurve xs xs' → SameCurve ys ys' → CurvesDiffer xs ys how → CurvesDiffer xs' ys' how
+same_differ : (xs xs' ys ys' : List CostArc) (how : How) → SameCurve xs xs' → SameCurve ys ys' → CurvesDiffer xs ys how
+    → CurvesDiffer xs' ys' how
 same_differ xs xs' ys ys' (Costs g) s t d = same_gap xs xs' ys ys' g s t d
 same_differ xs xs' ys ys' (Lengths l r) s t d = d
 same_differ xs xs' ys ys' (Totals l r) s t d = d

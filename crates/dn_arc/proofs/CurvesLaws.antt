@@ -29,7 +29,9 @@ pub above_meaning : IsMeaning SameAbove
 above_meaning = record {
   same_refl = λ xs. record { there = λ x k l. l; back = λ x k l. l };
   same_sym = λ xs ys s. record { there = s.back; back = s.there };
-  same_trans = λ xs ys zs s t. record { there = λ x k l. t.there x k (s.there x k l); back = λ x k l. s.back x k (t.back x k l) };
+  same_trans =
+      λ xs ys zs s t. record
+      { there = λ x k l. t.there x k (s.there x k l); back = λ x k l. s.back x k (t.back x k l) };
   same_more = above_more;
   same_swap = above_swap;
 }
@@ -38,7 +40,9 @@ pub curve_meaning : IsMeaning SameCurve
 curve_meaning = record {
   same_refl = λ xs. record { there = λ x k l. l; back = λ x k l. l };
   same_sym = λ xs ys s. record { there = s.back; back = s.there };
-  same_trans = λ xs ys zs s t. record { there = λ x k l. t.there x k (s.there x k l); back = λ x k l. s.back x k (t.back x k l) };
+  same_trans =
+      λ xs ys zs s t. record
+      { there = λ x k l. t.there x k (s.there x k l); back = λ x k l. s.back x k (t.back x k l) };
   same_more = λ a xs ys s. same (a ∷ xs) (a ∷ ys) (above_more a xs ys (above xs ys s));
   same_swap = λ a b xs. same (a ∷ b ∷ xs) (b ∷ a ∷ xs) (above_swap a b xs);
 }
@@ -63,7 +67,17 @@ brim (a ∷ rest) h =
     let i = brim rest h.1 in
     record {
       cost = (a.cost *ℤ a.cap) +ℤ i.cost;
-      is = record { share = a.cap; other = cost_cap rest; spent = i.cost; low_is = h.0.room; cap_is = ≤ℤ_refl _; amount = refl; within = ≤ℤ_refl _; rest = i.is };
+      is = record {
+        share = a.cap;
+        other = cost_cap rest;
+        spent = i.cost;
+        low_is = h.0.room;
+        cap_is = ≤ℤ_refl _;
+        amount =
+            refl;
+        within = ≤ℤ_refl _;
+        rest = i.is;
+      };
     }
 
 no_more : (xs ys : List CostArc) → AllByRecursion IsCostArc xs → SameCurve xs ys → cost_cap xs ≤ℤ cost_cap ys
@@ -72,5 +86,7 @@ no_more xs ys h s =
     at_most_cap ys (cost_cap xs) b.cost ((above xs ys s).there (cost_cap xs) b.cost b.is)
 
 -- arcs of the same cost curve have the same total capacity
-pub cost_cap_same : (xs ys : List CostArc) → AllByRecursion IsCostArc xs → AllByRecursion IsCostArc ys → SameCurve xs ys → cost_cap xs ≡ cost_cap ys
-cost_cap_same xs ys h g s = antisym _ _ (no_more xs ys h s) (no_more ys xs g (record { there = s.back; back = s.there }))
+pub cost_cap_same : (xs ys : List CostArc) → AllByRecursion IsCostArc xs → AllByRecursion IsCostArc ys → SameCurve xs ys
+    → cost_cap xs ≡ cost_cap ys
+cost_cap_same xs ys h g s =
+    antisym _ _ (no_more xs ys h s) (no_more ys xs g (record { there = s.back; back = s.there }))

@@ -34,8 +34,11 @@ cost_of_same xs ys x (Some k) s h = s.there x k h
 pub curves_differ : (xs ys : List CostArc) (how : How) → CurvesDiffer xs ys how → SameCurve xs ys → ⊥
 curves_differ xs ys (Lengths left right) d s = d
 curves_differ xs ys (Totals left right) d s = d
-curves_differ xs ys (Costs gap) d s = d.differ (cost_of_one ys gap.amount gap.left gap.right (cost_of_same xs ys gap.amount gap.left s d.left) d.right)
+curves_differ xs ys (Costs gap) d s =
+    d.differ (cost_of_one ys gap.amount gap.left gap.right (cost_of_same xs ys gap.amount gap.left s d.left) d.right)
 
 -- no arcs carry amount 0 at cost 0
 pub no_arcs_cost : LeastCost [] (pos 0) (pos 0)
-no_arcs_cost = bottom_least [] (pos 0) (pos 0) (record { at = record { amount = refl; within = ≤ℤ_refl _ }; least = λ j s. s.within })
+no_arcs_cost =
+    bottom_least [] (pos 0) (pos 0)
+    (record { at = record { amount = refl; within = ≤ℤ_refl _ }; least = λ j s. s.within })

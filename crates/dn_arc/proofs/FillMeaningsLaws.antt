@@ -12,7 +12,8 @@ use Rattle.dn_arc.proofs.FillsLaws.{AreOrdered, filling_of_least, least_of_filli
 use Rattle.dn_arc.proofs.FormOneLaws.{IsSameFill}
 use Rattle.dn_arc.proofs.PartsLaws.{free_parts, room_parts, fill_parts}
 
-one_way : (xs ys : List CostArc) → AreOrdered xs → AreOrdered ys → IsSameFill xs ys → (x k : ℤ) → LeastCost xs x k → LeastCost ys x k
+one_way : (xs ys : List CostArc) → AreOrdered xs → AreOrdered ys → IsSameFill xs ys → (x k : ℤ) → LeastCost xs x k
+    → LeastCost ys x k
 one_way xs ys o p s x k l =
     let f = filling_of_least xs x k o l in
     let low = f.low in
@@ -23,18 +24,29 @@ one_way xs ys o p s x k l =
     least_of_filling ys x k p (record {
       low = omega (arith, ints);
       high = omega (arith, ints);
-      cost = f.cost ∙ ap (λ z. z +ℤ fill_cost xs (x -ℤ forced_units xs)) s.cost ∙ ap (λ z. forced_cost ys +ℤ z) (s.each (x -ℤ forced_units xs) (omega (arith, ints)) high ∙ ap (fill_cost ys) more);
+      cost =
+          f.cost ∙ ap (λ z. z +ℤ fill_cost xs (x -ℤ forced_units xs)) s.cost
+          ∙ ap (λ z. forced_cost ys +ℤ z)
+          (s.each (x -ℤ forced_units xs) (omega (arith, ints)) high ∙ ap (fill_cost ys) more);
     })
 
 flip : (xs ys : List CostArc) → IsSameFill xs ys → IsSameFill ys xs
-flip xs ys s = record { units = sym s.units; cost = sym s.cost; whole = sym s.whole; each = λ y l u. sym (s.each y l (subst (λ z. y ≤ℤ z) (sym s.whole) u)) }
+flip xs ys s =
+    record {
+      units = sym s.units;
+      cost = sym s.cost;
+      whole = sym s.whole;
+      each =
+          λ y l u. sym (s.each y l (subst (λ z. y ≤ℤ z) (sym s.whole) u));
+    }
 
 -- sorted arcs with equal filling costs mean the same
 pub same_by_fill : (xs ys : List CostArc) → AreOrdered xs → AreOrdered ys → IsSameFill xs ys → SameCurve xs ys
 same_by_fill xs ys o p s = record { there = one_way xs ys o p s; back = one_way ys xs p o (flip xs ys s) }
 
 -- sorted arcs with equal forced units, forced costs and free parts mean the same
-pub same_by_parts : (xs ys : List CostArc) → AreOrdered xs → AreOrdered ys → forced_units xs ≡ forced_units ys → forced_cost xs ≡ forced_cost ys → free_parts xs ≡ free_parts ys → SameCurve xs ys
+pub same_by_parts : (xs ys : List CostArc) → AreOrdered xs → AreOrdered ys → forced_units xs ≡ forced_units ys
+    → forced_cost xs ≡ forced_cost ys → free_parts xs ≡ free_parts ys → SameCurve xs ys
 same_by_parts xs ys o p u c e =
     same_by_fill xs ys o p (record {
       units = u;

@@ -26,7 +26,8 @@ AreOrdered (a ∷ rest) = IsCostArc a × (pos 0 <ℤ room a → NoneCheaper a.co
 pub fill_low : (a : CostArc) (rest : List CostArc) (y : ℤ) → y ≤ℤ room a → fill_cost (a ∷ rest) y ≡ a.cost *ℤ y
 fill_low a rest y h = grind (arith, ints)
 
-pub fill_high : (a : CostArc) (rest : List CostArc) (y : ℤ) → room a <ℤ y → fill_cost (a ∷ rest) y ≡ (a.cost *ℤ room a) +ℤ fill_cost rest (y -ℤ room a)
+pub fill_high : (a : CostArc) (rest : List CostArc) (y : ℤ) → room a <ℤ y
+    → fill_cost (a ∷ rest) y ≡ (a.cost *ℤ room a) +ℤ fill_cost rest (y -ℤ room a)
 fill_high a rest y h = grind (arith, ints)
 
 pub fill_zero : (arcs : List CostArc) → AreOrdered arcs → fill_cost arcs (pos 0) ≡ pos 0
@@ -57,7 +58,8 @@ dearer c p u w h g f =
 both_over : (fz fzd k f1 f2 f3 cd : ℤ) → fzd ≡ k +ℤ f2 → fz ≡ k +ℤ f1 → (f1 +ℤ cd) ≤ℤ f3 → f3 ≡ f2 → (fz +ℤ cd) ≤ℤ fzd
 both_over fz fzd k f1 f2 f3 cd h1 h2 h3 h4 = omega (arith, ints)
 
-one_over : (p c u z d fz fzd f0 f2 f3 : ℤ) → fzd ≡ (p *ℤ u) +ℤ f2 → fz ≡ p *ℤ z → (f0 +ℤ (c *ℤ ((z +ℤ d) -ℤ u))) ≤ℤ f3 → f0 ≡ pos 0 → f3 ≡ f2 → (c *ℤ (u -ℤ z)) ≤ℤ (p *ℤ (u -ℤ z)) → (fz +ℤ (c *ℤ d)) ≤ℤ fzd
+one_over : (p c u z d fz fzd f0 f2 f3 : ℤ) → fzd ≡ (p *ℤ u) +ℤ f2 → fz ≡ p *ℤ z → (f0 +ℤ (c *ℤ ((z +ℤ d) -ℤ u))) ≤ℤ f3
+    → f0 ≡ pos 0 → f3 ≡ f2 → (c *ℤ (u -ℤ z)) ≤ℤ (p *ℤ (u -ℤ z)) → (fz +ℤ (c *ℤ d)) ≤ℤ fzd
 one_over p c u z d fz fzd f0 f2 f3 h1 h2 h3 h4 h5 h6 =
     let g1 = mul_sub c (z +ℤ d) u in
     let g2 = mul_add c z d in
@@ -69,7 +71,8 @@ none_over : (p c z d fz fzd : ℤ) → fzd ≡ p *ℤ (z +ℤ d) → fz ≡ p *�
 none_over p c z d fz fzd h1 h2 h3 = let g = mul_add p z d in omega (arith, ints)
 
 -- each additional unit costs at least c
-slope : (arcs : List CostArc) (c z d : ℤ) → AreOrdered arcs → NoneCheaper c arcs → pos 0 ≤ℤ z → pos 0 ≤ℤ d → (z +ℤ d) ≤ℤ free_room arcs → (fill_cost arcs z +ℤ (c *ℤ d)) ≤ℤ fill_cost arcs (z +ℤ d)
+slope : (arcs : List CostArc) (c z d : ℤ) → AreOrdered arcs → NoneCheaper c arcs → pos 0 ≤ℤ z → pos 0 ≤ℤ d
+    → (z +ℤ d) ≤ℤ free_room arcs → (fill_cost arcs z +ℤ (c *ℤ d)) ≤ℤ fill_cost arcs (z +ℤ d)
 slope [] c z d o h p q r =
     let e : d ≡ pos 0 = omega (arith, ints) in
     let g = ap (λ y. c *ℤ y) e in
@@ -89,7 +92,8 @@ slope (a ∷ rest) c z d o h p q r =
     let part = fill_low a rest z under in
     let i = slope rest c (pos 0) ((z +ℤ d) -ℤ room a) o.2 h.1 (≤ℤ_refl _) (omega (arith, ints)) (omega (arith, ints)) in
     let none = fill_zero rest o.2 in
-    let e = ap (fill_cost rest) (let e : pos 0 +ℤ ((z +ℤ d) -ℤ room a) ≡ (z +ℤ d) -ℤ room a = omega (arith, ints) in e) in
+    let e =
+    ap (fill_cost rest) (let e : pos 0 +ℤ ((z +ℤ d) -ℤ room a) ≡ (z +ℤ d) -ℤ room a = omega (arith, ints) in e) in
     let m = dearer c a.cost (room a) (room a -ℤ z) (omega (arith, ints)) (omega (arith, ints)) h.0 in
     one_over a.cost c (room a) z d _ _ _ _ _ whole part i none e m))
     (λ within.
@@ -100,7 +104,8 @@ slope (a ∷ rest) c z d o h p q r =
     none_over a.cost c z d _ _ whole part m)
 
 -- each additional unit costs at least c, if free capacity precedes the arcs or no unit is added
-slope_after : (arcs : List CostArc) (c u z d : ℤ) → AreOrdered arcs → (pos 0 <ℤ u → NoneCheaper c arcs) → pos 0 ≤ℤ z → pos 0 ≤ℤ d → d ≤ℤ u → (z +ℤ d) ≤ℤ free_room arcs → (fill_cost arcs z +ℤ (c *ℤ d)) ≤ℤ fill_cost arcs (z +ℤ d)
+slope_after : (arcs : List CostArc) (c u z d : ℤ) → AreOrdered arcs → (pos 0 <ℤ u → NoneCheaper c arcs) → pos 0 ≤ℤ z
+    → pos 0 ≤ℤ d → d ≤ℤ u → (z +ℤ d) ≤ℤ free_room arcs → (fill_cost arcs z +ℤ (c *ℤ d)) ≤ℤ fill_cost arcs (z +ℤ d)
 slope_after arcs c u z d o h p q l r =
     by_lt_z (pos 0) u
     (λ lt. slope arcs c z d o (h lt) p q r)
@@ -110,10 +115,13 @@ slope_after arcs c u z d o h p q l r =
     let f = ap (fill_cost arcs) (let f : z +ℤ d ≡ z = omega (arith, ints) in f) in
     omega (arith, ints))
 
-past_cost : (p low u t f fx f1 f2 f3 spent k : ℤ) → fx ≡ (p *ℤ u) +ℤ f1 → (f1 +ℤ (p *ℤ (u -ℤ t))) ≤ℤ f2 → f2 ≡ f3 → (f +ℤ f3) ≤ℤ spent → ((p *ℤ (low +ℤ t)) +ℤ spent) ≤ℤ k → (((p *ℤ low) +ℤ f) +ℤ fx) ≤ℤ k
-past_cost p low u t f fx f1 f2 f3 spent k h1 h2 h3 h4 h5 = let g = mul_sub p u t in let e = mul_add p low t in omega (arith, ints)
+past_cost : (p low u t f fx f1 f2 f3 spent k : ℤ) → fx ≡ (p *ℤ u) +ℤ f1 → (f1 +ℤ (p *ℤ (u -ℤ t))) ≤ℤ f2 → f2 ≡ f3
+    → (f +ℤ f3) ≤ℤ spent → ((p *ℤ (low +ℤ t)) +ℤ spent) ≤ℤ k → (((p *ℤ low) +ℤ f) +ℤ fx) ≤ℤ k
+past_cost p low u t f fx f1 f2 f3 spent k h1 h2 h3 h4 h5 = let g = mul_sub p u t in let e = mul_add p low t in
+    omega (arith, ints)
 
-within_cost : (p low z t y f fx f0 f2 f3 spent k : ℤ) → fx ≡ p *ℤ z → z ≡ t +ℤ y → (f0 +ℤ (p *ℤ y)) ≤ℤ f2 → f0 ≡ pos 0 → f2 ≡ f3 → (f +ℤ f3) ≤ℤ spent → ((p *ℤ (low +ℤ t)) +ℤ spent) ≤ℤ k → (((p *ℤ low) +ℤ f) +ℤ fx) ≤ℤ k
+within_cost : (p low z t y f fx f0 f2 f3 spent k : ℤ) → fx ≡ p *ℤ z → z ≡ t +ℤ y → (f0 +ℤ (p *ℤ y)) ≤ℤ f2 → f0 ≡ pos 0
+    → f2 ≡ f3 → (f +ℤ f3) ≤ℤ spent → ((p *ℤ (low +ℤ t)) +ℤ spent) ≤ℤ k → (((p *ℤ low) +ℤ f) +ℤ fx) ≤ℤ k
 within_cost p low z t y f fx f0 f2 f3 spent k h1 h2 h3 h4 h5 h6 h7 =
     let g = mul_add p t y in
     let e = mul_add p low t in
@@ -128,7 +136,8 @@ pub record IsUnder (arcs : List CostArc) (x k : ℤ) : Type 0 where
 
 -- no split costs less than filling the arcs
 pub filled : (arcs : List CostArc) (x k : ℤ) → AreOrdered arcs → AtMost arcs x k → IsUnder arcs x k
-filled [] x k o s = let e = s.amount in let w = s.within in record { low = omega (arith, ints); high = omega (arith, ints); cost = omega (arith, ints) }
+filled [] x k o s = let e = s.amount in let w = s.within in
+    record { low = omega (arith, ints); high = omega (arith, ints); cost = omega (arith, ints) }
 filled (a ∷ rest) x k o s =
     let i = filled rest s.other s.spent o.2 s.rest in
     let least = i.low in
@@ -139,32 +148,42 @@ filled (a ∷ rest) x k o s =
     let z = x -ℤ (a.low +ℤ forced_units rest) in
     let t = s.share -ℤ a.low in
     let y = s.other -ℤ forced_units rest in
-    let w : ((a.cost *ℤ (a.low +ℤ t)) +ℤ s.spent) ≤ℤ k = subst (λ v. ((a.cost *ℤ v) +ℤ s.spent) ≤ℤ k) (let v : s.share ≡ a.low +ℤ (s.share -ℤ a.low) = omega (arith, ints) in v) s.within in
+    let w : ((a.cost *ℤ (a.low +ℤ t)) +ℤ s.spent) ≤ℤ k =
+    subst (λ v. ((a.cost *ℤ v) +ℤ s.spent) ≤ℤ k)
+    (let v : s.share ≡ a.low +ℤ (s.share -ℤ a.low) = omega (arith, ints) in v) s.within in
     record {
       low = omega (arith, ints);
       high = omega (arith, ints);
       cost = by_lt_z (room a) z
           (λ past.
           let whole = fill_high a rest z past in
-          let j = slope_after rest a.cost (room a) (z -ℤ room a) (room a -ℤ t) o.2 o.1 (omega (arith, ints)) (omega (arith, ints)) (omega (arith, ints)) (omega (arith, ints)) in
+          let j =
+          slope_after rest a.cost (room a) (z -ℤ room a) (room a -ℤ t) o.2 o.1 (omega (arith, ints))
+          (omega (arith, ints)) (omega (arith, ints)) (omega (arith, ints)) in
           let same = ap (fill_cost rest) (let g : (z -ℤ room a) +ℤ (room a -ℤ t) ≡ y = omega (arith, ints) in g) in
           past_cost a.cost a.low (room a) t (forced_cost rest) _ _ _ _ s.spent k whole j same i.cost w)
           (λ within.
           let whole = fill_low a rest z within in
-          let j = slope_after rest a.cost (room a) (pos 0) y o.2 o.1 (≤ℤ_refl _) (omega (arith, ints)) (omega (arith, ints)) (omega (arith, ints)) in
+          let j =
+          slope_after rest a.cost (room a) (pos 0) y o.2 o.1 (≤ℤ_refl _) (omega (arith, ints)) (omega (arith, ints))
+          (omega (arith, ints)) in
           let none = fill_zero rest o.2 in
           let same = ap (fill_cost rest) (let g : pos 0 +ℤ y ≡ y = omega (arith, ints) in g) in
-          within_cost a.cost a.low z t y (forced_cost rest) _ _ _ _ s.spent k whole (let g : z ≡ t +ℤ y = omega (arith, ints) in g) j none same i.cost w);
+          within_cost a.cost a.low z t y (forced_cost rest) _ _ _ _ s.spent k whole
+          (let g : z ≡ t +ℤ y = omega (arith, ints) in g) j none same i.cost w);
     }
 
-past_reach : (p low cap f fx f1 : ℤ) → fx ≡ (p *ℤ (cap -ℤ low)) +ℤ f1 → ((p *ℤ cap) +ℤ (f +ℤ f1)) ≤ℤ (((p *ℤ low) +ℤ f) +ℤ fx)
+past_reach : (p low cap f fx f1 : ℤ) → fx ≡ (p *ℤ (cap -ℤ low)) +ℤ f1
+    → ((p *ℤ cap) +ℤ (f +ℤ f1)) ≤ℤ (((p *ℤ low) +ℤ f) +ℤ fx)
 past_reach p low cap f fx f1 h = let g = mul_sub p cap low in omega (arith, ints)
 
-within_reach : (p low z f fx f0 : ℤ) → fx ≡ p *ℤ z → f0 ≡ pos 0 → ((p *ℤ (low +ℤ z)) +ℤ (f +ℤ f0)) ≤ℤ (((p *ℤ low) +ℤ f) +ℤ fx)
+within_reach : (p low z f fx f0 : ℤ) → fx ≡ p *ℤ z → f0 ≡ pos 0
+    → ((p *ℤ (low +ℤ z)) +ℤ (f +ℤ f0)) ≤ℤ (((p *ℤ low) +ℤ f) +ℤ fx)
 within_reach p low z f fx f0 h g = let e = mul_add p low z in omega (arith, ints)
 
 -- filling the arcs is a split
-pub reach : (arcs : List CostArc) (z : ℤ) → AreOrdered arcs → pos 0 ≤ℤ z → z ≤ℤ free_room arcs → AtMost arcs (forced_units arcs +ℤ z) (forced_cost arcs +ℤ fill_cost arcs z)
+pub reach : (arcs : List CostArc) (z : ℤ) → AreOrdered arcs → pos 0 ≤ℤ z → z ≤ℤ free_room arcs
+    → AtMost arcs (forced_units arcs +ℤ z) (forced_cost arcs +ℤ fill_cost arcs z)
 reach [] z o l u = record { amount = omega (arith, ints); within = ≤ℤ_refl _ }
 reach (a ∷ rest) z o l u =
     let some = o.0.room in
@@ -190,9 +209,12 @@ reach (a ∷ rest) z o l u =
       rest = reach rest (pos 0) o.2 (≤ℤ_refl _) (room_some rest o.2);
     })
 
-reach_at : (arcs : List CostArc) (x : ℤ) → AreOrdered arcs → forced_units arcs ≤ℤ x → (x -ℤ forced_units arcs) ≤ℤ free_room arcs → AtMost arcs x (forced_cost arcs +ℤ fill_cost arcs (x -ℤ forced_units arcs))
+reach_at : (arcs : List CostArc) (x : ℤ) → AreOrdered arcs → forced_units arcs ≤ℤ x
+    → (x -ℤ forced_units arcs) ≤ℤ free_room arcs
+    → AtMost arcs x (forced_cost arcs +ℤ fill_cost arcs (x -ℤ forced_units arcs))
 reach_at arcs x o l u =
-    subst (λ z. AtMost arcs z (forced_cost arcs +ℤ fill_cost arcs (x -ℤ forced_units arcs))) (let e : forced_units arcs +ℤ (x -ℤ forced_units arcs) ≡ x = omega (arith, ints) in e)
+    subst (λ z. AtMost arcs z (forced_cost arcs +ℤ fill_cost arcs (x -ℤ forced_units arcs)))
+    (let e : forced_units arcs +ℤ (x -ℤ forced_units arcs) ≡ x = omega (arith, ints) in e)
     (reach arcs (x -ℤ forced_units arcs) o (omega (arith, ints)) u)
 
 -- a least cost is the cost of filling the arcs

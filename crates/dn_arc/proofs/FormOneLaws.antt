@@ -38,7 +38,8 @@ record IsShown (xs ys : List CostArc) (y : ℤ) : Type 0 where
   high : ((forced_units xs +ℤ y) -ℤ forced_units ys) ≤ℤ free_room ys
   cost : forced_cost xs +ℤ fill_cost xs y ≡ forced_cost ys +ℤ fill_cost ys ((forced_units xs +ℤ y) -ℤ forced_units ys)
 
-shown : (xs ys : List CostArc) → AreOrdered xs → AreOrdered ys → ((x k : ℤ) → LeastCost xs x k → LeastCost ys x k) → (y : ℤ) → pos 0 ≤ℤ y → y ≤ℤ free_room xs → IsShown xs ys y
+shown : (xs ys : List CostArc) → AreOrdered xs → AreOrdered ys → ((x k : ℤ) → LeastCost xs x k → LeastCost ys x k)
+    → (y : ℤ) → pos 0 ≤ℤ y → y ≤ℤ free_room xs → IsShown xs ys y
 shown xs ys o p s y l u =
     let back : (forced_units xs +ℤ y) -ℤ forced_units xs ≡ y = omega (arith, ints) in
     let here : IsFilling xs (forced_units xs +ℤ y) (forced_cost xs +ℤ fill_cost xs y) = record {
@@ -62,7 +63,9 @@ same_fill xs ys o p s =
     let h1 = (there (free_room xs) c1 (≤ℤ_refl _)).high in
     let h2 = (back (free_room ys) c2 (≤ℤ_refl _)).high in
     let at : (y : ℤ) → (forced_units xs +ℤ y) -ℤ forced_units ys ≡ y = λ y. omega (arith, ints) in
-    let even : (y : ℤ) → pos 0 ≤ℤ y → y ≤ℤ free_room xs → forced_cost xs +ℤ fill_cost xs y ≡ forced_cost ys +ℤ fill_cost ys y = λ y l u. (there y l u).cost ∙ ap (λ z. forced_cost ys +ℤ fill_cost ys z) (at y) in
+    let even : (y : ℤ) → pos 0 ≤ℤ y → y ≤ℤ free_room xs
+    → forced_cost xs +ℤ fill_cost xs y ≡ forced_cost ys +ℤ fill_cost ys y =
+    λ y l u. (there y l u).cost ∙ ap (λ z. forced_cost ys +ℤ fill_cost ys z) (at y) in
     let e0 = even (pos 0) (≤ℤ_refl _) c1 in
     let z1 = fill_zero xs o in
     let z2 = fill_zero ys p in
@@ -94,12 +97,14 @@ at_one a rest f =
     e ∙ m
 
 -- the cost of filling the arcs beyond the first arc
-after : (a : CostArc) (rest : List CostArc) (y : ℤ) → pos 0 <ℤ y → fill_cost (a ∷ rest) (room a +ℤ y) ≡ (a.cost *ℤ room a) +ℤ fill_cost rest y
+after : (a : CostArc) (rest : List CostArc) (y : ℤ) → pos 0 <ℤ y
+    → fill_cost (a ∷ rest) (room a +ℤ y) ≡ (a.cost *ℤ room a) +ℤ fill_cost rest y
 after a rest y h =
     fill_high a rest (room a +ℤ y) (omega (arith, ints))
     ∙ ap (λ z. (a.cost *ℤ room a) +ℤ fill_cost rest z) (let e : (room a +ℤ y) -ℤ room a ≡ y = omega (arith, ints) in e)
 
-same_cost : (a b : CostArc) (f g : List CostArc) → AreFree (a ∷ f) → AreFree (b ∷ g) → IsSameFree (a ∷ f) (b ∷ g) → a.cost ≡ b.cost
+same_cost : (a b : CostArc) (f g : List CostArc) → AreFree (a ∷ f) → AreFree (b ∷ g) → IsSameFree (a ∷ f) (b ∷ g)
+    → a.cost ≡ b.cost
 same_cost a b f g p q s =
     let none = p.each.0.none in
     let some = p.each.0.room in
@@ -109,7 +114,8 @@ same_cost a b f g p q s =
 no_slope : (c d u x y : ℤ) → c <ℤ d → x ≡ (c *ℤ u) +ℤ d → y ≡ c *ℤ (u +ℤ pos 1) → x ≡ y → ⊥
 no_slope c d u x y h e f s = let g = mul_suc c u in absurd (omega (arith, ints))
 
-not_less : (a b : CostArc) (f g : List CostArc) → AreFree (a ∷ f) → AreFree (b ∷ g) → IsSameFree (a ∷ f) (b ∷ g) → room a <ℤ room b → ⊥
+not_less : (a b : CostArc) (f g : List CostArc) → AreFree (a ∷ f) → AreFree (b ∷ g) → IsSameFree (a ∷ f) (b ∷ g)
+    → room a <ℤ room b → ⊥
 not_less a b [] g p q s h =
     let e = s.whole in
     let k = some_free g (rest_free b g q) in
@@ -123,16 +129,21 @@ not_less a b (e ∷ f) g p q s h =
     let here = s.whole in
     let k = some_free g (rest_free b g q) in
     let dearer = p.rising.0.0 in
-    let left = after a (e ∷ f) (pos 1) (omega (arith, ints)) ∙ ap (λ z. (a.cost *ℤ room a) +ℤ z) (at_one e f p.each.1.0) in
+    let left =
+    after a (e ∷ f) (pos 1) (omega (arith, ints)) ∙ ap (λ z. (a.cost *ℤ room a) +ℤ z) (at_one e f p.each.1.0) in
     let right = fill_low b g (room a +ℤ pos 1) (omega (arith, ints)) ∙ ap (λ z. z *ℤ (room a +ℤ pos 1)) (sym cost) in
-    no_slope a.cost e.cost (room a) _ _ dearer left right (s.each (room a +ℤ pos 1) (omega (arith, ints)) (omega (arith, ints)))
+    no_slope a.cost e.cost (room a) _ _ dearer left right
+    (s.each (room a +ℤ pos 1) (omega (arith, ints)) (omega (arith, ints)))
 
-same_room : (a b : CostArc) (f g : List CostArc) → AreFree (a ∷ f) → AreFree (b ∷ g) → IsSameFree (a ∷ f) (b ∷ g) → room a ≡ room b
+same_room : (a b : CostArc) (f g : List CostArc) → AreFree (a ∷ f) → AreFree (b ∷ g) → IsSameFree (a ∷ f) (b ∷ g)
+    → room a ≡ room b
 same_room a b f g p q s =
     by_lt_z (room a) (room b) (λ lt. absurd (not_less a b f g p q s lt)) (λ le.
-    by_lt_z (room b) (room a) (λ lt. absurd (not_less b a g f q p (flip (a ∷ f) (b ∷ g) s) lt)) (λ ge. omega (arith, ints)))
+    by_lt_z (room b) (room a) (λ lt. absurd (not_less b a g f q p (flip (a ∷ f) (b ∷ g) s) lt))
+    (λ ge. omega (arith, ints)))
 
-same_rest : (a : CostArc) (f g : List CostArc) → AreFree (a ∷ f) → AreFree (a ∷ g) → IsSameFree (a ∷ f) (a ∷ g) → IsSameFree f g
+same_rest : (a : CostArc) (f g : List CostArc) → AreFree (a ∷ f) → AreFree (a ∷ g) → IsSameFree (a ∷ f) (a ∷ g)
+    → IsSameFree f g
 same_rest a f g p q s = record {
   whole = cancel (room a) _ _ s.whole;
   each = λ y h k.
@@ -140,10 +151,12 @@ same_rest a f g p q s = record {
       (λ lt.
       let none = p.each.0.none in
       let some = p.each.0.room in
-      cancel (a.cost *ℤ room a) _ _ (sym (after a f y lt) ∙ s.each (room a +ℤ y) (omega (arith, ints)) (omega (arith, ints)) ∙ after a g y lt))
+      cancel (a.cost *ℤ room a) _ _
+      (sym (after a f y lt) ∙ s.each (room a +ℤ y) (omega (arith, ints)) (omega (arith, ints)) ∙ after a g y lt))
       (λ le.
       let none : pos 0 ≡ y = omega (arith, ints) in
-      subst (λ z. fill_cost f z ≡ fill_cost g z) none (fill_zero f (free_ordered f (rest_free a f p)) ∙ sym (fill_zero g (free_ordered g (rest_free a g q)))));
+      subst (λ z. fill_cost f z ≡ fill_cost g z) none
+      (fill_zero f (free_ordered f (rest_free a f p)) ∙ sym (fill_zero g (free_ordered g (rest_free a g q)))));
 }
 
 same_cap : (a b : CostArc) → IsFreeArc a → IsFreeArc b → room a ≡ room b → a.cap ≡ b.cap
@@ -152,10 +165,14 @@ same_cap a b p q e = let l = p.none in let u = q.none in omega (arith, ints)
 -- the cost of filling determines free arcs
 pub free_same : (f g : List CostArc) → AreFree f → AreFree g → IsSameFree f g → f ≡ g
 free_same [] [] p q s = refl
-free_same [] (b ∷ g) p q s = let e = s.whole in let none = q.each.0.none in let some = q.each.0.room in let k = some_free g (rest_free b g q) in absurd (omega (arith, ints))
-free_same (a ∷ f) [] p q s = let e = s.whole in let none = p.each.0.none in let some = p.each.0.room in let k = some_free f (rest_free a f p) in absurd (omega (arith, ints))
+free_same [] (b ∷ g) p q s = let e = s.whole in let none = q.each.0.none in let some = q.each.0.room in
+    let k = some_free g (rest_free b g q) in absurd (omega (arith, ints))
+free_same (a ∷ f) [] p q s = let e = s.whole in let none = p.each.0.none in let some = p.each.0.room in
+    let k = some_free f (rest_free a f p) in absurd (omega (arith, ints))
 free_same (a ∷ f) (b ∷ g) p q s =
-    let e = arc_same a b (p.each.0.none ∙ sym q.each.0.none) (same_cap a b p.each.0 q.each.0 (same_room a b f g p q s)) (same_cost a b f g p q s) in
+    let e =
+    arc_same a b (p.each.0.none ∙ sym q.each.0.none) (same_cap a b p.each.0 q.each.0 (same_room a b f g p q s))
+    (same_cost a b f g p q s) in
     let q' : AreFree (a ∷ g) = subst (λ x. AreFree (x ∷ g)) (sym e) q in
     let s' : IsSameFree (a ∷ f) (a ∷ g) = subst (λ x. IsSameFree (a ∷ f) (x ∷ g)) (sym e) s in
     ap (λ l. a ∷ l) (free_same f g (rest_free a f p) (rest_free a g q') (same_rest a f g p q' s')) ∙ ap (λ x. x ∷ g) e
@@ -193,7 +210,8 @@ one_spread a f =
     let z : a.cost *ℤ pos 0 ≡ pos 0 = omega (arith, ints) in
     record { whole = omega (arith, ints); low = ≤ℤ_refl _; high = omega (arith, ints) }
 
-two_spread : (a b : CostArc) → IsFixedArc a → IsFixedArc b → b.cost ≡ a.cost +ℤ pos 1 → IsFloor (forced_cost (a ∷ b ∷ [])) (forced_units (a ∷ b ∷ [])) a.cost b.low
+two_spread : (a b : CostArc) → IsFixedArc a → IsFixedArc b → b.cost ≡ a.cost +ℤ pos 1
+    → IsFloor (forced_cost (a ∷ b ∷ [])) (forced_units (a ∷ b ∷ [])) a.cost b.low
 two_spread a b f g e =
     let some = f.some in
     let more = g.some in
@@ -210,31 +228,37 @@ arc_of : (a b : CostArc) → IsFixedArc a → IsFixedArc b → a.low ≡ b.low �
 arc_of a b f g l p = arc_same a b l (f.full ∙ l ∙ sym g.full) p
 
 -- the forced units and their cost determine fixed arcs
-pub fixed_same : (f g : List CostArc) → AreFixed f → AreFixed g → forced_units f ≡ forced_units g → forced_cost f ≡ forced_cost g → f ≡ g
+pub fixed_same : (f g : List CostArc) → AreFixed f → AreFixed g → forced_units f ≡ forced_units g
+    → forced_cost f ≡ forced_cost g → f ≡ g
 fixed_same [] [] p q u c = refl
 fixed_same [] (b ∷ []) p q u c = let some = q.each.0.some in absurd (omega (arith, ints))
-fixed_same [] (b ∷ d ∷ []) p q u c = let some = q.each.0.some in let more = q.each.1.0.some in absurd (omega (arith, ints))
+fixed_same [] (b ∷ d ∷ []) p q u c = let some = q.each.0.some in let more = q.each.1.0.some in
+    absurd (omega (arith, ints))
 fixed_same (a ∷ []) [] p q u c = let some = p.each.0.some in absurd (omega (arith, ints))
-fixed_same (a ∷ b ∷ []) [] p q u c = let some = p.each.0.some in let more = p.each.1.0.some in absurd (omega (arith, ints))
+fixed_same (a ∷ b ∷ []) [] p q u c = let some = p.each.0.some in let more = p.each.1.0.some in
+    absurd (omega (arith, ints))
 fixed_same (a ∷ []) (b ∷ []) p q u c =
     let s = one_spread a p.each.0 in
     let t : IsFloor (forced_cost (a ∷ [])) (forced_units (a ∷ [])) b.cost (pos 0) = rw (u, c) (one_spread b q.each.0) in
     ap (λ x. x ∷ []) (arc_of a b p.each.0 q.each.0 (omega (arith, ints)) (spread_each _ _ _ _ _ _ s t))
 fixed_same (a ∷ []) (b ∷ d ∷ []) p q u c =
     let s = one_spread a p.each.0 in
-    let t : IsFloor (forced_cost (a ∷ [])) (forced_units (a ∷ [])) b.cost d.low = rw (u, c) (two_spread b d q.each.0 q.each.1.0 q.near) in
+    let t : IsFloor (forced_cost (a ∷ [])) (forced_units (a ∷ [])) b.cost d.low =
+    rw (u, c) (two_spread b d q.each.0 q.each.1.0 q.near) in
     let e = spread_rest _ _ _ _ _ _ s t in
     let more = q.each.1.0.some in
     absurd (omega (arith, ints))
 fixed_same (a ∷ b ∷ []) (d ∷ []) p q u c =
     let s = two_spread a b p.each.0 p.each.1.0 p.near in
-    let t : IsFloor (forced_cost (a ∷ b ∷ [])) (forced_units (a ∷ b ∷ [])) d.cost (pos 0) = rw (u, c) (one_spread d q.each.0) in
+    let t : IsFloor (forced_cost (a ∷ b ∷ [])) (forced_units (a ∷ b ∷ [])) d.cost (pos 0) =
+    rw (u, c) (one_spread d q.each.0) in
     let e = spread_rest _ _ _ _ _ _ s t in
     let more = p.each.1.0.some in
     absurd (omega (arith, ints))
 fixed_same (a ∷ b ∷ []) (d ∷ e ∷ []) p q u c =
     let s = two_spread a b p.each.0 p.each.1.0 p.near in
-    let t : IsFloor (forced_cost (a ∷ b ∷ [])) (forced_units (a ∷ b ∷ [])) d.cost e.low = rw (u, c) (two_spread d e q.each.0 q.each.1.0 q.near) in
+    let t : IsFloor (forced_cost (a ∷ b ∷ [])) (forced_units (a ∷ b ∷ [])) d.cost e.low =
+    rw (u, c) (two_spread d e q.each.0 q.each.1.0 q.near) in
     let each = spread_each _ _ _ _ _ _ s t in
     let rest = spread_rest _ _ _ _ _ _ s t in
     ap (λ x. x ∷ b ∷ []) (arc_of a d p.each.0 q.each.0 (omega (arith, ints)) each)
@@ -248,6 +272,14 @@ determination_one xs ys p q s =
     let t = same_fill xs ys (form_one_ordered xs p) (form_one_ordered ys q) s in
     let a = apart_form xs p in
     let b = apart_form ys q in
-    let e = fixed_same p.fixed q.fixed (fixed_of xs p) (fixed_of ys q) (sym a.units ∙ t.units ∙ b.units) (sym a.cost ∙ t.cost ∙ b.cost) in
-    let f = free_same p.free q.free (free_of xs p) (free_of ys q) (record { whole = sym a.room ∙ t.whole ∙ b.room; each = λ y l u. sym (a.fill y l) ∙ t.each y l (subst (λ z. y ≤ℤ z) (sym a.room) u) ∙ b.fill y l }) in
+    let e =
+    fixed_same p.fixed q.fixed (fixed_of xs p) (fixed_of ys q) (sym a.units ∙ t.units ∙ b.units)
+    (sym a.cost ∙ t.cost ∙ b.cost) in
+    let f =
+    free_same p.free q.free (free_of xs p) (free_of ys q)
+    (record {
+      whole = sym a.room ∙ t.whole ∙ b.room;
+      each =
+          λ y l u. sym (a.fill y l) ∙ t.each y l (subst (λ z. y ≤ℤ z) (sym a.room) u) ∙ b.fill y l;
+    }) in
     p.parts ∙ ap (λ l. l ++ p.free) e ∙ ap (λ l. q.fixed ++ l) f ∙ sym q.parts

@@ -39,26 +39,32 @@ above_lower c d (x ∷ xs) h a = let lt = a.0 in (omega (arith, ints), above_low
 
 none_cheaper : (c : ℤ) (arcs : List CostArc) → AreAbove c arcs → NoneCheaper c arcs
 none_cheaper c [] h = tt
-none_cheaper c (a ∷ rest) h = let lt = h.0 in ((λ some. let le : c ≤ℤ a.cost = omega (arith, ints) in le), none_cheaper c rest h.1)
+none_cheaper c (a ∷ rest) h = let lt =
+    h.0 in ((λ some. let le : c ≤ℤ a.cost = omega (arith, ints) in le), none_cheaper c rest h.1)
 
 pub free_arc_is : (a : CostArc) → IsFreeArc a → IsCostArc a
-free_arc_is a f = let none = f.none in let some = f.room in record { some = omega (arith, ints); room = omega (arith, ints) }
+free_arc_is a f = let none = f.none in let some = f.room in
+    record { some = omega (arith, ints); room = omega (arith, ints) }
 
 pub fixed_arc_is : (a : CostArc) → IsFixedArc a → IsCostArc a
-fixed_arc_is a f = let some = f.some in let full = f.full in record { some = omega (arith, ints); room = omega (arith, ints) }
+fixed_arc_is a f = let some = f.some in let full = f.full in
+    record { some = omega (arith, ints); room = omega (arith, ints) }
 
 pub free_ordered : (arcs : List CostArc) → AreFree arcs → AreOrdered arcs
 free_ordered [] f = tt
-free_ordered (a ∷ rest) f = (free_arc_is a f.each.0, (λ some. none_cheaper a.cost rest f.rising.0), free_ordered rest (rest_free a rest f))
+free_ordered (a ∷ rest) f =
+    (free_arc_is a f.each.0, (λ some. none_cheaper a.cost rest f.rising.0), free_ordered rest (rest_free a rest f))
 
-fixed_before : (fixed free : List CostArc) → AllByRecursion IsFixedArc fixed → AreOrdered free → AreOrdered (fixed ++ free)
+fixed_before : (fixed free : List CostArc) → AllByRecursion IsFixedArc fixed → AreOrdered free
+    → AreOrdered (fixed ++ free)
 fixed_before [] free f o = o
 fixed_before (a ∷ rest) free f o =
     let full = f.0.full in
     (fixed_arc_is a f.0, (λ some. absurd (omega (arith, ints))), fixed_before rest free f.1 o)
 
 pub form_one_ordered : (arcs : List CostArc) → IsFormOne arcs → AreOrdered arcs
-form_one_ordered arcs f = subst AreOrdered (sym f.parts) (fixed_before f.fixed f.free f.each_fixed (free_ordered f.free (free_of arcs f)))
+form_one_ordered arcs f =
+    subst AreOrdered (sym f.parts) (fixed_before f.fixed f.free f.each_fixed (free_ordered f.free (free_of arcs f)))
 
 pub mixed_ordered : (arcs : List CostArc) → AllByRecursion IsMixedArc arcs → AreRising arcs → AreOrdered arcs
 mixed_ordered [] m r = tt
@@ -98,10 +104,12 @@ none_past : (p u fx f1 f2 : ℤ) → u ≡ pos 0 → fx ≡ (p *ℤ u) +ℤ f1 �
 none_past p u fx f1 f2 h e g = let m = ap (λ z. p *ℤ z) h in omega (arith, ints)
 
 -- filling skips an arc without free capacity
-pub fill_past : (a : CostArc) (rest : List CostArc) (y : ℤ) → AreOrdered rest → room a ≡ pos 0 → pos 0 ≤ℤ y → fill_cost (a ∷ rest) y ≡ fill_cost rest y
+pub fill_past : (a : CostArc) (rest : List CostArc) (y : ℤ) → AreOrdered rest → room a ≡ pos 0 → pos 0 ≤ℤ y
+    → fill_cost (a ∷ rest) y ≡ fill_cost rest y
 fill_past a rest y o none h =
     by_lt_z (room a) y
-    (λ past. none_past a.cost (room a) _ _ _ none (fill_high a rest y past) (ap (fill_cost rest) (let e : y -ℤ room a ≡ y = omega (arith, ints) in e)))
+    (λ past. none_past a.cost (room a) _ _ _ none (fill_high a rest y past)
+    (ap (fill_cost rest) (let e : y -ℤ room a ≡ y = omega (arith, ints) in e)))
     (λ within.
     let nothing : y ≡ pos 0 = omega (arith, ints) in
     let e = fill_low a rest y within in
@@ -110,7 +118,8 @@ fill_past a rest y o none h =
     let z = fill_zero rest o in
     omega (arith, ints))
 
-pub apart : (fixed free : List CostArc) → AllByRecursion IsFixedArc fixed → AreFree free → IsApart (fixed ++ free) fixed free
+pub apart : (fixed free : List CostArc) → AllByRecursion IsFixedArc fixed → AreFree free
+    → IsApart (fixed ++ free) fixed free
 apart [] free f g = free_apart free g.each
 apart (a ∷ rest) free f g =
     let i = apart rest free f.1 g in
@@ -120,8 +129,11 @@ apart (a ∷ rest) free f g =
       units = ap (λ z. a.low +ℤ z) i.units;
       cost = ap (λ z. (a.cost *ℤ a.low) +ℤ z) i.cost;
       room = omega (arith, ints);
-      fill = λ y h. fill_past a (rest ++ free) y (fixed_before rest free f.1 (free_ordered free g)) (omega (arith, ints)) h ∙ i.fill y h;
+      fill =
+          λ y h. fill_past a (rest ++ free) y (fixed_before rest free f.1 (free_ordered free g)) (omega (arith, ints)) h
+          ∙ i.fill y h;
     }
 
 pub apart_form : (arcs : List CostArc) (f : IsFormOne arcs) → IsApart arcs f.fixed f.free
-apart_form arcs f = subst (λ l. IsApart l f.fixed f.free) (sym f.parts) (apart f.fixed f.free f.each_fixed (free_of arcs f))
+apart_form arcs f =
+    subst (λ l. IsApart l f.fixed f.free) (sym f.parts) (apart f.fixed f.free f.each_fixed (free_of arcs f))

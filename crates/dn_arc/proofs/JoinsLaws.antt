@@ -20,7 +20,9 @@ abbrev pub joined : CostArc → CostArc → CostArc
 joined a b = record { low = a.low +ℤ b.low; cap = a.cap +ℤ b.cap; cost = b.cost }
 
 -- a case distinction by where the arc is inserted
-by_place : (P : List CostArc → Type 0) (a b : CostArc) (rest : List CostArc) → (a.cost <ℤ b.cost → P (a ∷ b ∷ rest)) → (b.cost <ℤ a.cost → P (b ∷ join_arc a rest)) → (a.cost ≡ b.cost → P (joined a b ∷ rest)) → P (join_arc a (b ∷ rest))
+by_place : (P : List CostArc → Type 0) (a b : CostArc) (rest : List CostArc) → (a.cost <ℤ b.cost → P (a ∷ b ∷ rest))
+    → (b.cost <ℤ a.cost → P (b ∷ join_arc a rest)) → (a.cost ≡ b.cost → P (joined a b ∷ rest))
+    → P (join_arc a (b ∷ rest))
 by_place P a b rest f g h =
     by_test P a.cost b.cost (a ∷ b ∷ rest) (cond (int_lt b.cost a.cost) (b ∷ join_arc a rest) (joined a b ∷ rest)) f
     (λ le. by_test P b.cost a.cost (b ∷ join_arc a rest) (joined a b ∷ rest) g (λ ge. h (omega (arith, ints))))
@@ -36,7 +38,8 @@ joined_units a (b ∷ rest) =
 cost_of_both : (p q u v f : ℤ) → p ≡ q → (q *ℤ (u +ℤ v)) +ℤ f ≡ (p *ℤ u) +ℤ ((q *ℤ v) +ℤ f)
 cost_of_both p q u v f e = let g = mul_add q u v in let h = ap (λ z. z *ℤ u) e in omega (arith, ints)
 
-pub joined_cost : (a : CostArc) (arcs : List CostArc) → forced_cost (join_arc a arcs) ≡ (a.cost *ℤ a.low) +ℤ forced_cost arcs
+pub joined_cost : (a : CostArc) (arcs : List CostArc)
+    → forced_cost (join_arc a arcs) ≡ (a.cost *ℤ a.low) +ℤ forced_cost arcs
 joined_cost a [] = refl
 joined_cost a (b ∷ rest) =
     by_place (λ (l : List CostArc). forced_cost l ≡ (a.cost *ℤ a.low) +ℤ forced_cost (b ∷ rest)) a b rest
@@ -53,7 +56,8 @@ joined_cap a (b ∷ rest) =
     (λ eq. omega (arith, ints))
 
 -- each cost after an insertion is the inserted cost or was there before
-pub joined_costs : (P : ℤ → Type 0) (a : CostArc) (arcs : List CostArc) → P a.cost → AllByRecursion (λ (b : CostArc). P b.cost) arcs → AllByRecursion (λ (b : CostArc). P b.cost) (join_arc a arcs)
+pub joined_costs : (P : ℤ → Type 0) (a : CostArc) (arcs : List CostArc) → P a.cost
+    → AllByRecursion (λ (b : CostArc). P b.cost) arcs → AllByRecursion (λ (b : CostArc). P b.cost) (join_arc a arcs)
 joined_costs P a [] p h = (p, tt)
 joined_costs P a (b ∷ rest) p h =
     by_place (AllByRecursion (λ (b : CostArc). P b.cost)) a b rest
@@ -69,11 +73,13 @@ joined_rising a (b ∷ rest) r =
     (λ gt. (joined_costs (λ c. b.cost <ℤ c) a rest gt r.0, joined_rising a rest r.1))
     (λ eq. r)
 
-joined_mixed : (a : CostArc) (arcs : List CostArc) → IsFixedArc a → AllByRecursion IsMixedArc arcs → AllByRecursion IsMixedArc (join_arc a arcs)
+joined_mixed : (a : CostArc) (arcs : List CostArc) → IsFixedArc a → AllByRecursion IsMixedArc arcs
+    → AllByRecursion IsMixedArc (join_arc a arcs)
 joined_mixed a [] f m = (fixed_mixed a f, tt)
   where
     fixed_mixed : (a : CostArc) → IsFixedArc a → IsMixedArc a
-    fixed_mixed a f = let some = f.some in let full = f.full in record { is_arc = fixed_arc_is a f; room = omega (arith, ints) }
+    fixed_mixed a f = let some = f.some in let full = f.full in
+        record { is_arc = fixed_arc_is a f; room = omega (arith, ints) }
 joined_mixed a (b ∷ rest) f m =
     let some = f.some in
     let full = f.full in
@@ -83,30 +89,48 @@ joined_mixed a (b ∷ rest) f m =
     (λ eq.
     let low = m.0.is_arc.some in
     let high = m.0.is_arc.room in
-    let cap = m.0.room in
-    (record { is_arc = record { some = omega (arith, ints); room = omega (arith, ints) }; room = omega (arith, ints) }, m.1))
+    let cap = m.0.room in (
+      record {
+        is_arc = record { some = omega (arith, ints); room = omega (arith, ints) };
+        room =
+            omega (arith, ints);
+      },
+      m.1,
+    ))
 
 -- inserting an arc without free capacity does not change the free parts
 joined_free : (a : CostArc) (arcs : List CostArc) → a.cap ≡ a.low → free_parts (join_arc a arcs) ≡ free_parts arcs
-joined_free a [] f = by_test (λ (l : List CostArc). map free_part l ≡ []) a.low a.cap (a ∷ []) [] (λ lt. absurd (omega (arith, ints))) (λ le. refl)
+joined_free a [] f =
+    by_test (λ (l : List CostArc). map free_part l ≡ []) a.low a.cap (a ∷ []) [] (λ lt. absurd (omega (arith, ints)))
+    (λ le. refl)
 joined_free a (b ∷ rest) f =
     by_place (λ (l : List CostArc). free_parts l ≡ free_parts (b ∷ rest)) a b rest
-    (λ lt. by_test (λ (l : List CostArc). map free_part l ≡ free_parts (b ∷ rest)) a.low a.cap (a ∷ filter has_room (b ∷ rest)) (filter has_room (b ∷ rest)) (λ lt. absurd (omega (arith, ints))) (λ le. refl))
+    (λ lt. by_test (λ (l : List CostArc). map free_part l ≡ free_parts (b ∷ rest)) a.low a.cap
+    (a ∷ filter has_room (b ∷ rest)) (filter has_room (b ∷ rest)) (λ lt. absurd (omega (arith, ints))) (λ le. refl))
     (λ gt. both b (join_arc a rest) rest (joined_free a rest f))
     (λ eq.
     let low : int_lt (a.low +ℤ b.low) (a.cap +ℤ b.cap) ≡ int_lt b.low b.cap = tests in
     let same_room : room (joined a b) ≡ room b = omega (arith, ints) in
     ap (λ t. map free_part (cond t (joined a b ∷ filter has_room rest) (filter has_room rest))) low
-    ∙ by_test (λ (l : List CostArc). map free_part (cond (int_lt b.low b.cap) (joined a b ∷ filter has_room rest) (filter has_room rest)) ≡ map free_part l) b.low b.cap (b ∷ filter has_room rest) (filter has_room rest)
+    ∙ by_test
+    (λ (l : List CostArc). map free_part
+    (cond (int_lt b.low b.cap) (joined a b ∷ filter has_room rest)
+    (filter has_room rest)) ≡ map free_part l) b.low b.cap (b ∷ filter has_room rest) (filter has_room rest)
     (λ lt.
     let t : int_lt b.low b.cap ≡ true = grind (arith, ints) in
-    ap (λ t. map free_part (cond t (joined a b ∷ filter has_room rest) (filter has_room rest))) t ∙ ap (λ (z : ℤ). let x : CostArc = record { low = pos 0; cap = z; cost = b.cost } in x ∷ free_parts rest) same_room)
+    ap (λ t. map free_part (cond t (joined a b ∷ filter has_room rest) (filter has_room rest))) t
+    ∙ ap (λ (z : ℤ). let x : CostArc = record { low = pos 0; cap = z; cost = b.cost } in
+    x ∷ free_parts rest) same_room)
     (λ le.
     let t : int_lt b.low b.cap ≡ false = grind (arith, ints) in
     ap (λ t. map free_part (cond t (joined a b ∷ filter has_room rest) (filter has_room rest))) t))
   where
-    both : (b : CostArc) (xs ys : List CostArc) → free_parts xs ≡ free_parts ys → free_parts (b ∷ xs) ≡ free_parts (b ∷ ys)
-    both b xs ys e = elim (has_room b) as (λ v. map free_part (cond v (b ∷ filter has_room xs) (filter has_room xs)) ≡ map free_part (cond v (b ∷ filter has_room ys) (filter has_room ys))) [ true ↦ ap (λ l. free_part b ∷ l) e | false ↦ e ]
+    both : (b : CostArc) (xs ys : List CostArc) → free_parts xs ≡ free_parts ys
+        → free_parts (b ∷ xs) ≡ free_parts (b ∷ ys)
+    both b xs ys e =
+        elim (has_room b) as
+        (λ v. map free_part (cond v (b ∷ filter has_room xs) (filter has_room xs)) ≡ map free_part
+        (cond v (b ∷ filter has_room ys) (filter has_room ys))) [ true ↦ ap (λ l. free_part b ∷ l) e | false ↦ e ]
 
     tests : int_lt (a.low +ℤ b.low) (a.cap +ℤ b.cap) ≡ int_lt b.low b.cap
     tests = by_lt_z b.low b.cap
@@ -120,16 +144,24 @@ record IsLowFirst (a : CostArc) (arcs lows : List CostArc) : Type 0 where
   cost : arc.cost ≡ a.cost
 
 kept_low : (a : CostArc) (rest : List CostArc) → pos 0 <ℤ a.low → filter has_low (a ∷ rest) ≡ a ∷ filter has_low rest
-kept_low a rest h = by_test (λ (l : List CostArc). l ≡ a ∷ filter has_low rest) (pos 0) a.low (a ∷ filter has_low rest) (filter has_low rest) (λ lt. refl) (λ le. absurd (omega (arith, ints)))
+kept_low a rest h =
+    by_test (λ (l : List CostArc). l ≡ a ∷ filter has_low rest) (pos 0) a.low (a ∷ filter has_low rest)
+    (filter has_low rest) (λ lt. refl) (λ le. absurd (omega (arith, ints)))
 
 -- an arc whose cost is not above that of the inserted arc has LOW 0
-no_low : (a b : CostArc) (rest : List CostArc) → b.cost ≤ℤ a.cost → AreAbove a.cost (filter has_low (b ∷ rest)) → (filter has_low (b ∷ rest) ≡ filter has_low rest) × (b.low ≤ℤ pos 0)
+no_low : (a b : CostArc) (rest : List CostArc) → b.cost ≤ℤ a.cost → AreAbove a.cost (filter has_low (b ∷ rest))
+    → (filter has_low (b ∷ rest) ≡ filter has_low rest) × (b.low ≤ℤ pos 0)
 no_low a b rest h u =
     by_lt_z (pos 0) b.low
     (λ lt. let v = subst (AreAbove a.cost) (kept_low b rest lt) u in let w = v.0 in absurd (omega (arith, ints)))
-    (λ le. (by_test (λ (l : List CostArc). l ≡ filter has_low rest) (pos 0) b.low (b ∷ filter has_low rest) (filter has_low rest) (λ lt. absurd (omega (arith, ints))) (λ _. refl), le))
+    (λ le. (
+      by_test (λ (l : List CostArc). l ≡ filter has_low rest) (pos 0) b.low (b ∷ filter has_low rest)
+          (filter has_low rest) (λ lt. absurd (omega (arith, ints))) (λ _. refl),
+      le,
+    ))
 
-joined_low : (a : CostArc) (arcs : List CostArc) → pos 1 ≤ℤ a.low → AllByRecursion IsMixedArc arcs → AreAbove a.cost (filter has_low arcs) → IsLowFirst a (join_arc a arcs) (filter has_low arcs)
+joined_low : (a : CostArc) (arcs : List CostArc) → pos 1 ≤ℤ a.low → AllByRecursion IsMixedArc arcs
+    → AreAbove a.cost (filter has_low arcs) → IsLowFirst a (join_arc a arcs) (filter has_low arcs)
 joined_low a [] f m u = record { arc = a; is = kept_low a [] (omega (arith, ints)); cost = refl }
 joined_low a (b ∷ rest) f m u =
     by_place (λ (l : List CostArc). IsLowFirst a l (filter has_low (b ∷ rest))) a b rest
@@ -146,10 +178,17 @@ joined_low a (b ∷ rest) f m u =
     (λ eq.
     let n = no_low a b rest (omega (arith, ints)) u in
     let low = m.0.is_arc.some in
-    record { arc = joined a b; is = kept_low (joined a b) rest (omega (arith, ints)) ∙ ap (λ l. joined a b ∷ l) (sym n.0); cost = sym eq })
+    record {
+      arc = joined a b;
+      is =
+          kept_low (joined a b) rest (omega (arith, ints)) ∙ ap (λ l. joined a b ∷ l) (sym n.0);
+      cost = sym eq;
+    })
   where
     skip : (b : CostArc) (xs : List CostArc) → b.low ≤ℤ pos 0 → filter has_low (b ∷ xs) ≡ filter has_low xs
-    skip b xs h = by_test (λ (l : List CostArc). l ≡ filter has_low xs) (pos 0) b.low (b ∷ filter has_low xs) (filter has_low xs) (λ lt. absurd (omega (arith, ints))) (λ le. refl)
+    skip b xs h =
+        by_test (λ (l : List CostArc). l ≡ filter has_low xs) (pos 0) b.low (b ∷ filter has_low xs) (filter has_low xs)
+        (λ lt. absurd (omega (arith, ints))) (λ le. refl)
 
 -- what holds of the arcs after fixed arcs have been merged into arcs without LOW
 pub record AreJoined (fixed free arcs : List CostArc) : Type 0 where
@@ -161,10 +200,22 @@ pub record AreJoined (fixed free arcs : List CostArc) : Type 0 where
   pub cap : cost_cap arcs ≡ cost_cap fixed +ℤ cost_cap free
   pub parts : free_parts arcs ≡ free_parts free
 
-join_none : (free : List CostArc) → AllByRecursion IsMixedArc free → AreRising free → filter has_low free ≡ [] → AreJoined [] free free
-join_none free m r n = record { each = m; rising = r; near = subst AreNear (sym n) tt; units = omega (arith, ints); cost = omega (arith, ints); cap = omega (arith, ints); parts = refl }
+join_none : (free : List CostArc) → AllByRecursion IsMixedArc free → AreRising free → filter has_low free ≡ []
+    → AreJoined [] free free
+join_none free m r n =
+    record {
+      each = m;
+      rising = r;
+      near = subst AreNear (sym n) tt;
+      units = omega (arith, ints);
+      cost =
+          omega (arith, ints);
+      cap = omega (arith, ints);
+      parts = refl;
+    }
 
-join_one : (a : CostArc) (free : List CostArc) → IsFixedArc a → AllByRecursion IsMixedArc free → AreRising free → filter has_low free ≡ [] → AreJoined (a ∷ []) free (join_arc a free)
+join_one : (a : CostArc) (free : List CostArc) → IsFixedArc a → AllByRecursion IsMixedArc free → AreRising free
+    → filter has_low free ≡ [] → AreJoined (a ∷ []) free (join_arc a free)
 join_one a free f m r n =
     let l = joined_low a free f.some m (subst (AreAbove a.cost) (sym n) tt) in
     let is : filter has_low (join_arc a free) ≡ l.arc ∷ [] = l.is ∙ ap (λ x. l.arc ∷ x) n in
@@ -181,7 +232,9 @@ join_one a free f m r n =
       parts = joined_free a free f.full;
     }
 
-join_two : (a b : CostArc) (free : List CostArc) → IsFixedArc a → IsFixedArc b → b.cost ≡ a.cost +ℤ pos 1 → AllByRecursion IsMixedArc free → AreRising free → filter has_low free ≡ [] → AreJoined (a ∷ b ∷ []) free (join_arc a (join_arc b free))
+join_two : (a b : CostArc) (free : List CostArc) → IsFixedArc a → IsFixedArc b → b.cost ≡ a.cost +ℤ pos 1
+    → AllByRecursion IsMixedArc free → AreRising free → filter has_low free ≡ []
+    → AreJoined (a ∷ b ∷ []) free (join_arc a (join_arc b free))
 join_two a b free f g e m r n =
     let arcs = join_arc b free in
     let i = join_one b free g m r n in
@@ -207,7 +260,8 @@ join_two a b free f g e m r n =
       parts = joined_free a arcs f.full ∙ i.parts;
     }
 
-pub join_all : (fixed free : List CostArc) → AreFixed fixed → AllByRecursion IsMixedArc free → AreRising free → filter has_low free ≡ [] → AreJoined fixed free (join_arcs fixed free)
+pub join_all : (fixed free : List CostArc) → AreFixed fixed → AllByRecursion IsMixedArc free → AreRising free
+    → filter has_low free ≡ [] → AreJoined fixed free (join_arcs fixed free)
 join_all [] free f m r n = join_none free m r n
 join_all (a ∷ []) free f m r n = join_one a free f.each.0 m r n
 join_all (a ∷ b ∷ []) free f m r n = join_two a b free f.each.0 f.each.1.0 f.near m r n

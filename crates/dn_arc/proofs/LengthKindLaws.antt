@@ -37,14 +37,17 @@ same_entries [] (b ∷ ys) s = absurd (first_length b ys (length_meaning.same_sy
 same_entries (a ∷ xs) [] s = absurd (first_length a xs s)
 same_entries (a ∷ xs) (b ∷ ys) s = refl
 
-one_differ : (xs ys : List LengthArc) (how other : How) → LengthsDiffer xs ys how → LengthsDiffer xs ys other → how ≡ other
-one_differ xs ys (Lengths l r) (Lengths l' r') d e = ap (λ v. Lengths v r) (length_of_one xs l l' d.0 e.0) ∙ ap (Lengths l') (length_of_one ys r r' d.1 e.1)
+one_differ : (xs ys : List LengthArc) (how other : How) → LengthsDiffer xs ys how → LengthsDiffer xs ys other
+    → how ≡ other
+one_differ xs ys (Lengths l r) (Lengths l' r') d e =
+    ap (λ v. Lengths v r) (length_of_one xs l l' d.0 e.0) ∙ ap (Lengths l') (length_of_one ys r r' d.1 e.1)
 one_differ xs ys (Lengths l r) (Totals l' r') d e = absurd e
 one_differ xs ys (Lengths l r) (Costs g) d e = absurd e
 one_differ xs ys (Totals l r) other d e = absurd d
 one_differ xs ys (Costs g) other d e = absurd d
 
-same_differ : (xs xs' ys ys' : List LengthArc) (how : How) → SameLength xs xs' → SameLength ys ys' → LengthsDiffer xs ys how → LengthsDiffer xs' ys' how
+same_differ : (xs xs' ys ys' : List LengthArc) (how : How) → SameLength xs xs' → SameLength ys ys'
+    → LengthsDiffer xs ys how → LengthsDiffer xs' ys' how
 same_differ xs xs' ys ys' (Lengths l r) s t d = (length_of_same xs xs' l s d.0, length_of_same ys ys' r t d.1, d.2)
 same_differ xs xs' ys ys' (Totals l r) s t d = d
 same_differ xs xs' ys ys' (Costs g) s t d = d

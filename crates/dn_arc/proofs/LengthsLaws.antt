@@ -32,13 +32,23 @@ pub least_of : (xs : List LengthArc) → (xs ≡ []) ⊎ ((w : ℤ) × LeastLeng
 least_of [] = inl refl
 least_of (a ∷ rest) =
     elim (least_of rest) [
-      | inl e ↦ inr (a.length, record { has = inl refl; least = (≤ℤ_refl a.length, subst (λ l. NoneShorter l a.length) (sym e) tt) })
+      | inl e ↦ inr (
+        a.length,
+        record
+            { has = inl refl; least = (≤ℤ_refl a.length, subst (λ l. NoneShorter l a.length) (sym e) tt) },
+      )
       | inr p ↦ by_lt_z p.0 a.length
-          (λ lt. let h : p.0 ≤ℤ a.length = omega (arith, ints) in inr (p.0, record { has = inr p.1.has; least = (h, p.1.least) }))
-          (λ le. inr (a.length, record { has = inl refl; least = (≤ℤ_refl a.length, none_lower rest a.length p.0 le p.1.least) }))
+          (λ lt. let h : p.0 ≤ℤ a.length = omega (arith, ints) in
+          inr (p.0, record { has = inr p.1.has; least = (h, p.1.least) }))
+          (λ le. inr (
+            a.length,
+            record
+                { has = inl refl; least = (≤ℤ_refl a.length, none_lower rest a.length p.0 le p.1.least) },
+          ))
     ]
 
-one_way : (a : LengthArc) (xs ys : List LengthArc) → SameLength xs ys → (w : ℤ) → LeastLength (a ∷ xs) w → LeastLength (a ∷ ys) w
+one_way : (a : LengthArc) (xs ys : List LengthArc) → SameLength xs ys → (w : ℤ) → LeastLength (a ∷ xs) w
+    → LeastLength (a ∷ ys) w
 one_way a xs ys s w h =
     let n = h.least in
     record {
@@ -110,7 +120,12 @@ length_of_one xs (Some v) (Some w) g h = ap Some (least_unique xs v w g h)
 
 -- arcs that mean the same have the same least length, or none
 pub length_of_same : (xs ys : List LengthArc) (v : Option ℤ) → SameLength xs ys → IsLengthOf xs v → IsLengthOf ys v
-length_of_same xs ys None s h = elim (least_of ys) [ inl e ↦ e | inr p ↦ absurd (no_length p.0 (subst (λ l. LeastLength l p.0) h (s.back p.0 p.1))) ]
+length_of_same xs ys None s h =
+    elim (least_of ys) [
+      | inl e ↦ e
+      | inr p ↦ absurd
+          (no_length p.0 (subst (λ l. LeastLength l p.0) h (s.back p.0 p.1)))
+    ]
 length_of_same xs ys (Some v) s h = s.there v h
 
 -- arcs of the same least length have no difference

@@ -24,14 +24,18 @@ floor_is (negsuc a) n h = record {
 }
 
 -- the quotient and the remainder of a cost by its units
-pub floor_of : (cost units each rest : ℤ) → pos 0 <ℤ units → each ≡ int_div_euclid cost units → rest ≡ int_rem_euclid cost units → IsFloor cost units each rest
-floor_of cost (pos n) each rest h e f = subst (λ r. IsFloor cost (pos n) each r) (sym f) (subst (λ d. IsFloor cost (pos n) d (int_rem_euclid cost (pos n))) (sym e) (floor_is cost n (omega (arith, ints))))
+pub floor_of : (cost units each rest : ℤ) → pos 0 <ℤ units → each ≡ int_div_euclid cost units
+    → rest ≡ int_rem_euclid cost units → IsFloor cost units each rest
+floor_of cost (pos n) each rest h e f =
+    subst (λ r. IsFloor cost (pos n) each r) (sym f)
+    (subst (λ d. IsFloor cost (pos n) d (int_rem_euclid cost (pos n))) (sym e) (floor_is cost n (omega (arith, ints))))
 floor_of cost (negsuc n) each rest h e f = absurd (omega (arith, ints))
 
 most : (l c k : ℕ) → c ≤ k → l * c ≤ l * k
 most l c k h = grind arith
 
-mean_more : (all : ℤ) (u l : ℕ) (cost : ℤ) → negsuc (2 ^ 63 - 1) ≤ℤ cost → cost ≤ℤ pos (2 ^ 63 - 1) → IsMean all (pos u) → IsMean (all +ℤ (pos l *ℤ cost)) (pos u +ℤ pos l)
+mean_more : (all : ℤ) (u l : ℕ) (cost : ℤ) → negsuc (2 ^ 63 - 1) ≤ℤ cost → cost ≤ℤ pos (2 ^ 63 - 1) → IsMean all (pos u)
+    → IsMean (all +ℤ (pos l *ℤ cost)) (pos u +ℤ pos l)
 mean_more all u l (pos c) h k m =
     let low = m.least in
     let high = m.greatest in
@@ -46,13 +50,16 @@ mean_more all u l (negsuc c) h k m =
     record { least = omega (arith, ints); greatest = omega (arith, ints) }
 
 -- the bounds hold after units at a cost of 64 bits are added
-pub more_mean : (all low cost units : ℤ) → pos 0 ≤ℤ units → pos 0 ≤ℤ low → FitsSigned w64 cost → IsMean all units → IsMean (all +ℤ (low *ℤ cost)) (units +ℤ low)
-more_mean all (pos l) cost (pos u) h k f m = mean_more all u l cost (omega (arith, ints, f.sfits)) (omega (arith, ints, f.sfits)) m
+pub more_mean : (all low cost units : ℤ) → pos 0 ≤ℤ units → pos 0 ≤ℤ low → FitsSigned w64 cost → IsMean all units
+    → IsMean (all +ℤ (low *ℤ cost)) (units +ℤ low)
+more_mean all (pos l) cost (pos u) h k f m =
+    mean_more all u l cost (omega (arith, ints, f.sfits)) (omega (arith, ints, f.sfits)) m
 more_mean all (negsuc l) cost units h k f m = absurd (omega (arith, ints))
 more_mean all (pos l) cost (negsuc u) h k f m = absurd (omega (arith, ints))
 
 -- the cost per unit, rounded down, fits 64 bits
-pub each_fits : (cost units each : ℤ) → pos 0 <ℤ units → IsMean cost units → each ≡ int_div_euclid cost units → FitsSigned w64 each
+pub each_fits : (cost units each : ℤ) → pos 0 <ℤ units → IsMean cost units → each ≡ int_div_euclid cost units
+    → FitsSigned w64 each
 each_fits (pos a) (pos n) each h m e =
     let high = m.greatest in
     let some : 0 < n = omega (arith, ints) in
@@ -66,7 +73,8 @@ each_fits (negsuc a) (pos n) each h m e =
 each_fits cost (negsuc n) each h m e = absurd (omega (arith, ints))
 
 -- if some units cost one more, the greater cost fits 64 bits too
-pub each_next : (cost units each rest : ℤ) → IsMean cost units → IsFloor cost units each rest → pos 0 <ℤ rest → each <ℤ pos (2 ^ 63 - 1)
+pub each_next : (cost units each rest : ℤ) → IsMean cost units → IsFloor cost units each rest → pos 0 <ℤ rest
+    → each <ℤ pos (2 ^ 63 - 1)
 each_next cost units each rest m f h =
     by_lt_z each (pos (2 ^ 63 - 1)) (λ lt. lt) (λ le.
     let whole = f.whole in
@@ -98,4 +106,5 @@ fits_some (negsuc n) h g = absurd (omega (arith, ints))
 pub fits_next : (z : ℤ) → FitsSigned w64 z → z <ℤ pos (2 ^ 63 - 1) → FitsSigned w64 (z +ℤ pos 1)
 fits_next (pos n) f h = record { sfits = omega (arith, ints) }
 fits_next (negsuc zero) f h = record { sfits = omega (arith, ints) }
-fits_next (negsuc (suc n)) f h = let e : negsuc (suc n) +ℤ pos 1 ≡ negsuc n = omega (arith, ints) in subst (FitsSigned w64) (sym e) (record { sfits = omega (arith, f.sfits) })
+fits_next (negsuc (suc n)) f h = let e : negsuc (suc n) +ℤ pos 1 ≡ negsuc n = omega (arith, ints) in
+    subst (FitsSigned w64) (sym e) (record { sfits = omega (arith, f.sfits) })

@@ -19,7 +19,8 @@ pub test_no : (x y : ℤ) → y ≤ℤ x → int_lt x y ≡ false
 test_no x y h = grind (arith, ints)
 
 -- what holds in both cases of a comparison holds of the choice
-pub by_test : {A : Type 0} (P : A → Type 0) (x y : ℤ) (a b : A) → (x <ℤ y → P a) → (y ≤ℤ x → P b) → P (cond (int_lt x y) a b)
+pub by_test : {A : Type 0} (P : A → Type 0) (x y : ℤ) (a b : A) → (x <ℤ y → P a) → (y ≤ℤ x → P b)
+    → P (cond (int_lt x y) a b)
 by_test P x y a b f g =
     by_lt_z x y
     (λ lt. subst (λ t. P (cond t a b)) (sym (test_yes x y lt)) (f lt))
@@ -42,7 +43,8 @@ free_parts arcs = map free_part (filter has_room arcs)
 pub each_fixed_part : (xs : List CostArc) → AllByRecursion IsFixedArc (fixed_parts xs)
 each_fixed_part [] = tt
 each_fixed_part (a ∷ rest) =
-    by_test (λ (l : List CostArc). AllByRecursion IsFixedArc (map fixed_part l)) (pos 0) a.low (a ∷ filter has_low rest) (filter has_low rest)
+    by_test (λ (l : List CostArc). AllByRecursion IsFixedArc (map fixed_part l)) (pos 0) a.low (a ∷ filter has_low rest)
+    (filter has_low rest)
     (λ lt. (record { some = omega (arith, ints); full = refl }, each_fixed_part rest))
     (λ le. each_fixed_part rest)
 
@@ -58,21 +60,24 @@ parts_fixed xs n = record { each = each_fixed_part xs; near = near_parts (filter
 above_parts : (c : ℤ) (xs : List CostArc) → AreAbove c xs → AreAbove c (free_parts xs)
 above_parts c [] h = tt
 above_parts c (a ∷ rest) h =
-    by_test (λ (l : List CostArc). AreAbove c (map free_part l)) a.low a.cap (a ∷ filter has_room rest) (filter has_room rest)
+    by_test (λ (l : List CostArc). AreAbove c (map free_part l)) a.low a.cap (a ∷ filter has_room rest)
+    (filter has_room rest)
     (λ lt. (h.0, above_parts c rest h.1))
     (λ le. above_parts c rest h.1)
 
 each_free_part : (xs : List CostArc) → AllByRecursion IsFreeArc (free_parts xs)
 each_free_part [] = tt
 each_free_part (a ∷ rest) =
-    by_test (λ (l : List CostArc). AllByRecursion IsFreeArc (map free_part l)) a.low a.cap (a ∷ filter has_room rest) (filter has_room rest)
+    by_test (λ (l : List CostArc). AllByRecursion IsFreeArc (map free_part l)) a.low a.cap (a ∷ filter has_room rest)
+    (filter has_room rest)
     (λ lt. (record { none = refl; room = omega (arith, ints) }, each_free_part rest))
     (λ le. each_free_part rest)
 
 rising_parts : (xs : List CostArc) → AreRising xs → AreRising (free_parts xs)
 rising_parts [] r = tt
 rising_parts (a ∷ rest) r =
-    by_test (λ (l : List CostArc). AreRising (map free_part l)) a.low a.cap (a ∷ filter has_room rest) (filter has_room rest)
+    by_test (λ (l : List CostArc). AreRising (map free_part l)) a.low a.cap (a ∷ filter has_room rest)
+    (filter has_room rest)
     (λ lt. (above_parts a.cost rest r.0, rising_parts rest r.1))
     (λ le. rising_parts rest r.1)
 
@@ -84,7 +89,8 @@ units_parts [] o = refl
 units_parts (a ∷ rest) o =
     let some = o.0.some in
     let i = units_parts rest o.2 in
-    by_test (λ (l : List CostArc). forced_units (a ∷ rest) ≡ forced_units (map fixed_part l)) (pos 0) a.low (a ∷ filter has_low rest) (filter has_low rest)
+    by_test (λ (l : List CostArc). forced_units (a ∷ rest) ≡ forced_units (map fixed_part l)) (pos 0) a.low
+    (a ∷ filter has_low rest) (filter has_low rest)
     (λ lt. ap (λ z. a.low +ℤ z) i)
     (λ le. omega (arith, ints))
 
@@ -93,7 +99,8 @@ cost_parts [] o = refl
 cost_parts (a ∷ rest) o =
     let some = o.0.some in
     let i = cost_parts rest o.2 in
-    by_test (λ (l : List CostArc). forced_cost (a ∷ rest) ≡ forced_cost (map fixed_part l)) (pos 0) a.low (a ∷ filter has_low rest) (filter has_low rest)
+    by_test (λ (l : List CostArc). forced_cost (a ∷ rest) ≡ forced_cost (map fixed_part l)) (pos 0) a.low
+    (a ∷ filter has_low rest) (filter has_low rest)
     (λ lt. ap (λ z. (a.cost *ℤ a.low) +ℤ z) i)
     (λ le.
     let none : a.low ≡ pos 0 = omega (arith, ints) in
@@ -105,18 +112,21 @@ room_parts [] o = refl
 room_parts (a ∷ rest) o =
     let some = o.0.room in
     let i = room_parts rest o.2 in
-    by_test (λ (l : List CostArc). free_room (a ∷ rest) ≡ free_room (map free_part l)) a.low a.cap (a ∷ filter has_room rest) (filter has_room rest)
+    by_test (λ (l : List CostArc). free_room (a ∷ rest) ≡ free_room (map free_part l)) a.low a.cap
+    (a ∷ filter has_room rest) (filter has_room rest)
     (λ lt. omega (arith, ints))
     (λ le. omega (arith, ints))
 
 same_past : (p u v fx fy f1 f2 : ℤ) → u ≡ v → fx ≡ (p *ℤ u) +ℤ f1 → fy ≡ (p *ℤ v) +ℤ f2 → f1 ≡ f2 → fx ≡ fy
 same_past p u v fx fy f1 f2 h e g m = let n = ap (λ z. p *ℤ z) h in omega (arith, ints)
 
-pub fill_parts : (xs : List CostArc) → AreOrdered xs → (y : ℤ) → pos 0 ≤ℤ y → fill_cost xs y ≡ fill_cost (free_parts xs) y
+pub fill_parts : (xs : List CostArc) → AreOrdered xs → (y : ℤ) → pos 0 ≤ℤ y
+    → fill_cost xs y ≡ fill_cost (free_parts xs) y
 fill_parts [] o y h = refl
 fill_parts (a ∷ rest) o y h =
     let some = o.0.room in
-    by_test (λ (l : List CostArc). fill_cost (a ∷ rest) y ≡ fill_cost (map free_part l) y) a.low a.cap (a ∷ filter has_room rest) (filter has_room rest)
+    by_test (λ (l : List CostArc). fill_cost (a ∷ rest) y ≡ fill_cost (map free_part l) y) a.low a.cap
+    (a ∷ filter has_room rest) (filter has_room rest)
     (λ lt.
     let b = free_part a in
     let e : room a ≡ room b = omega (arith, ints) in
@@ -132,4 +142,5 @@ fill_parts (a ∷ rest) o y h =
 
 -- sorted arcs are filled as their fixed and their free parts
 pub apart_parts : (xs : List CostArc) → AreOrdered xs → IsApart xs (fixed_parts xs) (free_parts xs)
-apart_parts xs o = record { units = units_parts xs o; cost = cost_parts xs o; room = room_parts xs o; fill = fill_parts xs o }
+apart_parts xs o =
+    record { units = units_parts xs o; cost = cost_parts xs o; room = room_parts xs o; fill = fill_parts xs o }

@@ -25,10 +25,23 @@ abbrev pub AtMost : List CostArc → ℤ → ℤ → Type 0
 AtMost [] = IsNothing
 AtMost (a ∷ rest) = Share a.low a.cap a.cost (AtMost rest)
 
-pub share_map : (l c p : ℤ) (R S : ℤ → ℤ → Type 0) → ((x k : ℤ) → R x k → S x k) → (x k : ℤ) → Share l c p R x k → Share l c p S x k
-share_map l c p R S f x k s = record { share = s.share; other = s.other; spent = s.spent; low_is = s.low_is; cap_is = s.cap_is; amount = s.amount; within = s.within; rest = f s.other s.spent s.rest }
+pub share_map : (l c p : ℤ) (R S : ℤ → ℤ → Type 0) → ((x k : ℤ) → R x k → S x k) → (x k : ℤ) → Share l c p R x k
+    → Share l c p S x k
+share_map l c p R S f x k s =
+    record {
+      share = s.share;
+      other = s.other;
+      spent = s.spent;
+      low_is = s.low_is;
+      cap_is = s.cap_is;
+      amount =
+          s.amount;
+      within = s.within;
+      rest = f s.other s.spent s.rest;
+    }
 
-pub share_swap : (l c p m d q : ℤ) (R : ℤ → ℤ → Type 0) (x k : ℤ) → Share l c p (Share m d q R) x k → Share m d q (Share l c p R) x k
+pub share_swap : (l c p m d q : ℤ) (R : ℤ → ℤ → Type 0) (x k : ℤ) → Share l c p (Share m d q R) x k
+    → Share m d q (Share l c p R) x k
 share_swap l c p m d q R x k s =
     let t = s.rest in
     let e = s.amount in
@@ -43,13 +56,34 @@ share_swap l c p m d q R x k s =
       cap_is = t.cap_is;
       amount = omega (arith, ints);
       within = omega (arith, ints);
-      rest = record { share = s.share; other = t.other; spent = t.spent; low_is = s.low_is; cap_is = s.cap_is; amount = refl; within = ≤ℤ_refl _; rest = t.rest };
+      rest =
+          record {
+            share = s.share;
+            other = t.other;
+            spent = t.spent;
+            low_is = s.low_is;
+            cap_is = s.cap_is;
+            amount =
+                refl;
+            within = ≤ℤ_refl _;
+            rest = t.rest;
+          };
     }
 
 pub share_more : (l c p : ℤ) (R : ℤ → ℤ → Type 0) (x k j : ℤ) → k ≤ℤ j → Share l c p R x k → Share l c p R x j
 share_more l c p R x k j h s =
     let g = s.within in
-    record { share = s.share; other = s.other; spent = s.spent; low_is = s.low_is; cap_is = s.cap_is; amount = s.amount; within = omega (arith, ints); rest = s.rest }
+    record {
+      share = s.share;
+      other = s.other;
+      spent = s.spent;
+      low_is = s.low_is;
+      cap_is = s.cap_is;
+      amount =
+          s.amount;
+      within = omega (arith, ints);
+      rest = s.rest;
+    }
 
 pub more : (arcs : List CostArc) (x k j : ℤ) → k ≤ℤ j → AtMost arcs x k → AtMost arcs x j
 more [] x k j h s = let g = s.within in record { amount = s.amount; within = omega (arith, ints) }

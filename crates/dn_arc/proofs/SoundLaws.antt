@@ -27,16 +27,20 @@ use Rattle.dn_arc.proofs.ToldLaws.{carried, told_canonical, told_same, told_cap,
 
 steps_prop : (steps : List (ℤ × ℤ)) → IsProp (AreSteps steps)
 steps_prop [] = hlevel props
-steps_prop (step ∷ rest) = let i = steps_prop rest in let a = AllByRecursion-prop (λ (other : ℤ × ℤ). step.0 <ℤ other.0) (λ _. hlevel props) rest in hlevel (props, i, a)
+steps_prop (step ∷ rest) = let i = steps_prop rest in
+    let a = AllByRecursion-prop (λ (other : ℤ × ℤ). step.0 <ℤ other.0) (λ _. hlevel props) rest in hlevel (props, i, a)
 
 pub IsSound-prop : (units cost total : ℤ) (steps : List (ℤ × ℤ)) → IsProp (IsSound units cost total steps)
-IsSound-prop units cost total steps = let i = steps_prop steps in let a = AllByRecursion-prop (λ (step : ℤ × ℤ). FitsSigned w64 step.0) (λ _. hlevel props) steps in hlevel (props, i, a)
+IsSound-prop units cost total steps = let i = steps_prop steps in
+    let a = AllByRecursion-prop (λ (step : ℤ × ℤ). FitsSigned w64 step.0) (λ _. hlevel props) steps in
+    hlevel (props, i, a)
 
 -- the costs fit 64 bits
 abbrev CostsFit : List CostArc → Type 0
 CostsFit arcs = AllByRecursion (λ (a : CostArc). FitsSigned w64 a.cost) arcs
 
-steps_fit : (steps : List (ℤ × ℤ)) → AllByRecursion (λ (step : ℤ × ℤ). FitsSigned w64 step.0) steps → CostsFit (map step_arc steps)
+steps_fit : (steps : List (ℤ × ℤ)) → AllByRecursion (λ (step : ℤ × ℤ). FitsSigned w64 step.0) steps
+    → CostsFit (map step_arc steps)
 steps_fit [] f = tt
 steps_fit (step ∷ rest) f = (f.0, steps_fit rest f.1)
 
@@ -47,8 +51,16 @@ fixed_fit units cost m =
     by_test CostsFit (pos 0) units (spread_arcs units each rest) []
     (λ lt.
     let f = each_fits cost units each lt m refl in
-    by_test CostsFit (pos 0) rest (fixed_arc (units -ℤ rest) each ∷ fixed_arc rest (each +ℤ pos 1) ∷ []) (fixed_arc units each ∷ [])
-    (λ some. (f, (fits_next each f (each_next cost units each rest m (floor_of cost units each rest lt refl refl) some), tt)))
+    by_test CostsFit (pos 0) rest (fixed_arc (units -ℤ rest) each ∷ fixed_arc rest (each +ℤ pos 1) ∷ [])
+    (fixed_arc units each ∷ [])
+    (λ some. (
+      f,
+      (
+        fits_next each f
+            (each_next cost units each rest m (floor_of cost units each rest lt refl refl) some),
+        tt,
+      ),
+    ))
     (λ none. (f, tt)))
     (λ le. tt)
 
@@ -66,13 +78,20 @@ caps_some [] h = omega (arith, ints)
 caps_some (a ∷ rest) h = let low = h.0.some in let high = h.0.room in let i = caps_some rest h.1 in omega (arith, ints)
 
 -- the numbers of arcs fit 64 bits if their total capacity and their costs do
-numbers_fit : (arcs : List CostArc) → AllByRecursion IsCostArc arcs → cost_cap arcs ≤ℤ pos (2 ^ 63 - 1) → CostsFit arcs → NumbersFit costs arcs
+numbers_fit : (arcs : List CostArc) → AllByRecursion IsCostArc arcs → cost_cap arcs ≤ℤ pos (2 ^ 63 - 1) → CostsFit arcs
+    → NumbersFit costs arcs
 numbers_fit [] h m f = tt
 numbers_fit (a ∷ rest) h m f =
     let low = h.0.some in
     let high = h.0.room in
-    let left = caps_some rest h.1 in
-    ((fits_some a.low low (omega (arith, ints)), (fits_some a.cap (omega (arith, ints)) (omega (arith, ints)), (f.0, tt))), numbers_fit rest h.1 (omega (arith, ints)) f.1)
+    let left = caps_some rest h.1 in (
+      (
+        fits_some a.low low (omega (arith, ints)),
+        (fits_some a.cap (omega (arith, ints)) (omega (arith, ints)), (f.0, tt)),
+      ),
+      numbers_fit rest h.1
+          (omega (arith, ints)) f.1,
+    )
 
 module _ (units cost total : ℤ) (steps : List (ℤ × ℤ)) (s : IsSound units cost total steps) where
   pub none_is : units ≡ pos 0 → cost ≡ pos 0
@@ -91,11 +110,15 @@ module _ (units cost total : ℤ) (steps : List (ℤ × ℤ)) (s : IsSound units
   sound_arcs form = told_arcs units cost steps s.some none_is s.rising form
 
   costs_fit : (form : Form) → CostsFit (told form units cost steps)
-  costs_fit One = both_fit (fixed_arcs units cost) (map step_arc steps) (fixed_fit units cost s.mean) (steps_fit steps s.fit)
-  costs_fit Two = join_fit (fixed_arcs units cost) (map step_arc steps) (fixed_fit units cost s.mean) (steps_fit steps s.fit)
+  costs_fit One =
+      both_fit (fixed_arcs units cost) (map step_arc steps) (fixed_fit units cost s.mean) (steps_fit steps s.fit)
+  costs_fit Two =
+      join_fit (fixed_arcs units cost) (map step_arc steps) (fixed_fit units cost s.mean) (steps_fit steps s.fit)
 
   pub sound_fit : (form : Form) → NumbersFit costs (told form units cost steps)
-  sound_fit form = numbers_fit (told form units cost steps) (sound_arcs form) (subst (λ z. z ≤ℤ pos (2 ^ 63 - 1)) (sym (sound_cap form)) s.most) (costs_fit form)
+  sound_fit form =
+      numbers_fit (told form units cost steps) (sound_arcs form)
+      (subst (λ z. z ≤ℤ pos (2 ^ 63 - 1)) (sym (sound_cap form)) s.most) (costs_fit form)
 
 -- adding an arc's forced and free part to the curve means the same as appending the arc
 pub told_added : (units cost units' cost' : ℤ) (steps steps' : List (ℤ × ℤ)) (a : CostArc)
@@ -107,7 +130,8 @@ pub told_added : (units cost units' cost' : ℤ) (steps steps' : List (ℤ × �
 told_added units cost units' cost' steps steps' a h n s h' n' s' eu ec sa =
     let old = carried units cost steps h n s in
     let new = carried units' cost' steps' h' n' s' in
-    add_end (fixed_arcs units cost) (fixed_arcs units' cost') (map step_arc steps) (map step_arc steps') a old.are.each new.are.each
+    add_end (fixed_arcs units cost) (fixed_arcs units' cost') (map step_arc steps)
+    (map step_arc steps') a old.are.each new.are.each
     (new.units_is ∙ eu ∙ ap (λ z. z +ℤ a.low) (sym old.units_is))
     (new.cost_is ∙ ec ∙ ap (λ z. cost +ℤ z) (*ℤ_comm a.low a.cost) ∙ ap (λ z. z +ℤ (a.cost *ℤ a.low)) (sym old.cost_is))
     sa

@@ -87,7 +87,17 @@ one_share low cost R x (inl never) = inl (λ k s.
 one_share low cost R x (inr b) = inr (
   (cost *ℤ low) +ℤ b.0,
   record {
-    at = record { share = low; other = x -ℤ low; spent = b.0; low_is = ≤ℤ_refl _; cap_is = ≤ℤ_refl _; amount = omega (arith, ints); within = ≤ℤ_refl _; rest = b.1.at };
+    at = record {
+      share = low;
+      other = x -ℤ low;
+      spent = b.0;
+      low_is = ≤ℤ_refl _;
+      cap_is = ≤ℤ_refl _;
+      amount =
+          omega (arith, ints);
+      within = ≤ℤ_refl _;
+      rest = b.1.at;
+    };
     least = λ j s.
         let e = s.amount in
         let f = s.low_is in
@@ -102,30 +112,89 @@ one_share low cost R x (inr b) = inr (
 )
 
 -- the lesser of two least costs
-best_of : (P Q R : ℤ → ℤ → Type 0) (x : ℤ) → ((k : ℤ) → P x k → R x k) → ((k : ℤ) → Q x k → R x k) → ((k : ℤ) → R x k → P x k ⊎ Q x k) → Found P x → Found Q x → Found R x
+best_of : (P Q R : ℤ → ℤ → Type 0) (x : ℤ) → ((k : ℤ) → P x k → R x k) → ((k : ℤ) → Q x k → R x k)
+    → ((k : ℤ) → R x k → P x k ⊎ Q x k) → Found P x → Found Q x → Found R x
 best_of P Q R x f g h (inl never) (inl none) = inl (λ k r. elim (h k r) [ inl p ↦ never k p | inr q ↦ none k q ])
-best_of P Q R x f g h (inl never) (inr b) = inr (b.0, record { at = g b.0 b.1.at; least = λ j r. elim (h j r) [ inl p ↦ absurd (never j p) | inr q ↦ b.1.least j q ] })
-best_of P Q R x f g h (inr a) (inl none) = inr (a.0, record { at = f a.0 a.1.at; least = λ j r. elim (h j r) [ inl p ↦ a.1.least j p | inr q ↦ absurd (none j q) ] })
+best_of P Q R x f g h (inl never) (inr b) =
+    inr (
+      b.0,
+      record
+          { at = g b.0 b.1.at; least = λ j r. elim (h j r) [ inl p ↦ absurd (never j p) | inr q ↦ b.1.least j q ] },
+    )
+best_of P Q R x f g h (inr a) (inl none) =
+    inr (
+      a.0,
+      record
+          { at = f a.0 a.1.at; least = λ j r. elim (h j r) [ inl p ↦ a.1.least j p | inr q ↦ absurd (none j q) ] },
+    )
 best_of P Q R x f g h (inr a) (inr b) =
     by_lt_z a.0 b.0
-    (λ lt. inr (a.0, record { at = f a.0 a.1.at; least = λ j r. elim (h j r) [ inl p ↦ a.1.least j p | inr q ↦ (let d = b.1.least j q in omega (arith, ints)) ] }))
-    (λ le. inr (b.0, record { at = g b.0 b.1.at; least = λ j r. elim (h j r) [ inl p ↦ (let d = a.1.least j p in omega (arith, ints)) | inr q ↦ b.1.least j q ] }))
+    (λ lt. inr (
+      a.0,
+      record {
+        at = f a.0 a.1.at;
+        least =
+            λ j r. elim (h j r) [ inl p ↦ a.1.least j p | inr q ↦ (let d = b.1.least j q in omega (arith, ints)) ];
+      },
+    ))
+    (λ le. inr (
+      b.0,
+      record {
+        at = g b.0 b.1.at;
+        least =
+            λ j r. elim (h j r) [ inl p ↦ (let d = a.1.least j p in omega (arith, ints)) | inr q ↦ b.1.least j q ];
+      },
+    ))
 
 wider : (l c m d p : ℤ) (R : ℤ → ℤ → Type 0) → m ≤ℤ l → c ≤ℤ d → (x k : ℤ) → Share l c p R x k → Share m d p R x k
 wider l c m d p R h g x k s =
     let u = s.low_is in
     let v = s.cap_is in
-    record { share = s.share; other = s.other; spent = s.spent; low_is = omega (arith, ints); cap_is = omega (arith, ints); amount = s.amount; within = s.within; rest = s.rest }
+    record {
+      share = s.share;
+      other = s.other;
+      spent = s.spent;
+      low_is = omega (arith, ints);
+      cap_is =
+          omega (arith, ints);
+      amount = s.amount;
+      within = s.within;
+      rest = s.rest;
+    }
 
-cut : (low mid cap cost : ℤ) (R : ℤ → ℤ → Type 0) (x k : ℤ) → Share low cap cost R x k → Share low mid cost R x k ⊎ Share (mid +ℤ pos 1) cap cost R x k
+cut : (low mid cap cost : ℤ) (R : ℤ → ℤ → Type 0) (x k : ℤ) → Share low cap cost R x k
+    → Share low mid cost R x k ⊎ Share (mid +ℤ pos 1) cap cost R x k
 cut low mid cap cost R x k s =
     let u = s.low_is in
     let v = s.cap_is in
     by_lt_z mid s.share
-    (λ lt. inr (record { share = s.share; other = s.other; spent = s.spent; low_is = omega (arith, ints); cap_is = v; amount = s.amount; within = s.within; rest = s.rest }))
-    (λ le. inl (record { share = s.share; other = s.other; spent = s.spent; low_is = u; cap_is = le; amount = s.amount; within = s.within; rest = s.rest }))
+    (λ lt. inr
+    (record {
+      share = s.share;
+      other = s.other;
+      spent = s.spent;
+      low_is = omega (arith, ints);
+      cap_is = v;
+      amount =
+          s.amount;
+      within = s.within;
+      rest = s.rest;
+    }))
+    (λ le. inl
+    (record {
+      share = s.share;
+      other = s.other;
+      spent = s.spent;
+      low_is = u;
+      cap_is = le;
+      amount = s.amount;
+      within =
+          s.within;
+      rest = s.rest;
+    }))
 
-some_share : (n : ℕ) (low cap cost : ℤ) → cap ≡ low +ℤ pos n → (R : ℤ → ℤ → Type 0) → ((y : ℤ) → Found R y) → (x : ℤ) → Found (Share low cap cost R) x
+some_share : (n : ℕ) (low cap cost : ℤ) → cap ≡ low +ℤ pos n → (R : ℤ → ℤ → Type 0) → ((y : ℤ) → Found R y) → (x : ℤ)
+    → Found (Share low cap cost R) x
 some_share zero low cap cost e R f x =
     let same : low ≡ cap = omega (arith, ints) in
     subst (λ c. Found (Share low c cost R) x) same (one_share low cost R x (f (x -ℤ low)))
@@ -136,7 +205,8 @@ some_share (suc n) low cap cost e R f x =
     best_of (Share low (low +ℤ pos n) cost R) (Share cap cap cost R) (Share low cap cost R) x
     (wider low (low +ℤ pos n) low cap cost R (≤ℤ_refl low) h2 x)
     (wider cap cap low cap cost R h3 (≤ℤ_refl cap) x)
-    (λ k s. subst (λ c. Share low (low +ℤ pos n) cost R x k ⊎ Share c cap cost R x k) h1 (cut low (low +ℤ pos n) cap cost R x k s))
+    (λ k s. subst (λ c. Share low (low +ℤ pos n) cost R x k ⊎ Share c cap cost R x k) h1
+    (cut low (low +ℤ pos n) cap cost R x k s))
     (some_share n low (low +ℤ pos n) cost refl R f x)
     (one_share cap cost R x (f (x -ℤ cap)))
 
@@ -162,7 +232,8 @@ nothing_found x =
     (λ lt. inl (λ k s. let e = s.amount in absurd (omega (arith, ints))))
     (λ le. by_lt_z (pos 0) x
     (λ gt. inl (λ k s. let e = s.amount in absurd (omega (arith, ints))))
-    (λ ge. inr (pos 0, record { at = record { amount = omega (arith, ints); within = ≤ℤ_refl _ }; least = λ j s. s.within })))
+    (λ ge. inr
+    (pos 0, record { at = record { amount = omega (arith, ints); within = ≤ℤ_refl _ }; least = λ j s. s.within })))
 
 -- an amount has no cost, or it has a least one
 pub least_of : (arcs : List CostArc) (x : ℤ) → Found (AtMost arcs) x
@@ -182,7 +253,8 @@ pub record SameAbove (xs ys : List CostArc) : Type 0 where
   pub there : (x k : ℤ) → AtMost xs x k → AtMost ys x k
   pub back : (x k : ℤ) → AtMost ys x k → AtMost xs x k
 
-one_above : (xs ys : List CostArc) → ((x k : ℤ) → LeastCost xs x k → LeastCost ys x k) → (x k : ℤ) → AtMost xs x k → AtMost ys x k
+one_above : (xs ys : List CostArc) → ((x k : ℤ) → LeastCost xs x k → LeastCost ys x k) → (x k : ℤ) → AtMost xs x k
+    → AtMost ys x k
 one_above xs ys f x k s = elim (least_of xs x) [
   | inl never ↦ absurd (never k s)
   | inr b ↦ more ys x b.0 k (b.1.least k s) (least_bottom ys x b.0 (f x b.0 (bottom_least xs x b.0 b.1))).at

@@ -24,14 +24,18 @@ above_arcs c (s ∷ rest) h = (h.0, above_arcs c rest h.1)
 -- the arcs of breakpoints are free arcs
 pub free_arcs : (steps : List (ℤ × ℤ)) → AreSteps steps → AreFree (map step_arc steps)
 free_arcs [] s = record { each = tt; rising = tt }
-free_arcs (step ∷ rest) s = let i = free_arcs rest s.2 in record { each = (record { none = refl; room = s.0 }, i.each); rising = (above_arcs step.0 rest s.1, i.rising) }
+free_arcs (step ∷ rest) s = let i = free_arcs rest s.2 in
+    record { each = (record { none = refl; room = s.0 }, i.each); rising = (above_arcs step.0 rest s.1, i.rising) }
 
-pub above_put : (c : ℤ) (steps : List (ℤ × ℤ)) (more : ℤ × ℤ) → c <ℤ more.0 → CostsAbove c steps → CostsAbove c (put_step steps more)
+pub above_put : (c : ℤ) (steps : List (ℤ × ℤ)) (more : ℤ × ℤ) → c <ℤ more.0 → CostsAbove c steps
+    → CostsAbove c (put_step steps more)
 above_put c [] more h a = (h, tt)
 above_put c (step ∷ rest) more h a =
-    by_test (CostsAbove c) more.0 step.0 (more ∷ step ∷ rest) (cond (int_lt step.0 more.0) (step ∷ put_step rest more) ((step.0, step.1 +ℤ more.1) ∷ rest))
+    by_test (CostsAbove c) more.0 step.0 (more ∷ step ∷ rest)
+    (cond (int_lt step.0 more.0) (step ∷ put_step rest more) ((step.0, step.1 +ℤ more.1) ∷ rest))
     (λ lt. (h, a))
-    (λ le. by_test (CostsAbove c) step.0 more.0 (step ∷ put_step rest more) ((step.0, step.1 +ℤ more.1) ∷ rest) (λ lt. (a.0, above_put c rest more h a.1)) (λ ge. a))
+    (λ le. by_test (CostsAbove c) step.0 more.0 (step ∷ put_step rest more) ((step.0, step.1 +ℤ more.1) ∷ rest)
+    (λ lt. (a.0, above_put c rest more h a.1)) (λ ge. a))
 
 -- breakpoints above a cost are above each lower cost
 pub costs_lower : (c d : ℤ) (steps : List (ℤ × ℤ)) → c <ℤ d → CostsAbove d steps → CostsAbove c steps
@@ -39,11 +43,13 @@ costs_lower c d [] h a = tt
 costs_lower c d (step ∷ rest) h a = let lt = a.0 in (omega (arith, ints), costs_lower c d rest h a.1)
 
 -- adding capacity keeps the breakpoints sorted
-pub put_steps : (steps : List (ℤ × ℤ)) (more : ℤ × ℤ) → pos 1 ≤ℤ more.1 → AreSteps steps → AreSteps (put_step steps more)
+pub put_steps : (steps : List (ℤ × ℤ)) (more : ℤ × ℤ) → pos 1 ≤ℤ more.1 → AreSteps steps
+    → AreSteps (put_step steps more)
 put_steps [] more h s = (h, tt, tt)
 put_steps (step ∷ rest) more h s =
     let some = s.0 in
-    by_test AreSteps more.0 step.0 (more ∷ step ∷ rest) (cond (int_lt step.0 more.0) (step ∷ put_step rest more) ((step.0, step.1 +ℤ more.1) ∷ rest))
+    by_test AreSteps more.0 step.0 (more ∷ step ∷ rest)
+    (cond (int_lt step.0 more.0) (step ∷ put_step rest more) ((step.0, step.1 +ℤ more.1) ∷ rest))
     (λ lt. (h, (lt, costs_lower more.0 step.0 rest lt s.1), s))
     (λ le. by_test AreSteps step.0 more.0 (step ∷ put_step rest more) ((step.0, step.1 +ℤ more.1) ∷ rest)
     (λ lt. (s.0, above_put step.0 rest more lt s.1, put_steps rest more h s.2))
@@ -53,24 +59,35 @@ put_steps (step ∷ rest) more h s =
 pub put_room : (steps : List (ℤ × ℤ)) (more : ℤ × ℤ) → steps_room (put_step steps more) ≡ steps_room steps +ℤ more.1
 put_room [] more = omega (arith, ints)
 put_room (step ∷ rest) more =
-    by_test (λ (l : List (ℤ × ℤ)). steps_room l ≡ steps_room (step ∷ rest) +ℤ more.1) more.0 step.0 (more ∷ step ∷ rest) (cond (int_lt step.0 more.0) (step ∷ put_step rest more) ((step.0, step.1 +ℤ more.1) ∷ rest))
+    by_test (λ (l : List (ℤ × ℤ)). steps_room l ≡ steps_room (step ∷ rest) +ℤ more.1) more.0 step.0 (more ∷ step ∷ rest)
+    (cond (int_lt step.0 more.0) (step ∷ put_step rest more) ((step.0, step.1 +ℤ more.1) ∷ rest))
     (λ lt. omega (arith, ints))
-    (λ le. by_test (λ (l : List (ℤ × ℤ)). steps_room l ≡ steps_room (step ∷ rest) +ℤ more.1) step.0 more.0 (step ∷ put_step rest more) ((step.0, step.1 +ℤ more.1) ∷ rest)
+    (λ le. by_test (λ (l : List (ℤ × ℤ)). steps_room l ≡ steps_room (step ∷ rest) +ℤ more.1) step.0 more.0
+    (step ∷ put_step rest more) ((step.0, step.1 +ℤ more.1) ∷ rest)
     (λ lt. let i = put_room rest more in omega (arith, ints))
     (λ ge. omega (arith, ints)))
 
 -- adding capacity at a cost means the same as one more free arc
-pub put_above : (steps : List (ℤ × ℤ)) (more : ℤ × ℤ) → pos 1 ≤ℤ more.1 → AreSteps steps → SameAbove (map step_arc (put_step steps more)) (step_arc more ∷ map step_arc steps)
+pub put_above : (steps : List (ℤ × ℤ)) (more : ℤ × ℤ) → pos 1 ≤ℤ more.1 → AreSteps steps
+    → SameAbove (map step_arc (put_step steps more)) (step_arc more ∷ map step_arc steps)
 put_above [] more h s = above_meaning.same_refl _
 put_above (step ∷ rest) more h s =
     let some = s.0 in
-    by_test (λ (l : List (ℤ × ℤ)). SameAbove (map step_arc l) (step_arc more ∷ map step_arc (step ∷ rest))) more.0 step.0 (more ∷ step ∷ rest) (cond (int_lt step.0 more.0) (step ∷ put_step rest more) ((step.0, step.1 +ℤ more.1) ∷ rest))
+    by_test
+    (λ (l : List (ℤ × ℤ)). SameAbove (map step_arc l) (step_arc more ∷ map step_arc (step ∷ rest))) more.0 step.0
+    (more ∷ step ∷ rest)
+    (cond (int_lt step.0 more.0) (step ∷ put_step rest more) ((step.0, step.1 +ℤ more.1) ∷ rest))
     (λ lt. above_meaning.same_refl _)
-    (λ le. by_test (λ (l : List (ℤ × ℤ)). SameAbove (map step_arc l) (step_arc more ∷ map step_arc (step ∷ rest))) step.0 more.0 (step ∷ put_step rest more) ((step.0, step.1 +ℤ more.1) ∷ rest)
-    (λ lt. above_meaning.same_trans _ _ _ (above_meaning.same_more (step_arc step) _ _ (put_above rest more h s.2)) (above_meaning.same_swap (step_arc step) (step_arc more) (map step_arc rest)))
+    (λ le. by_test
+    (λ (l : List (ℤ × ℤ)). SameAbove (map step_arc l) (step_arc more ∷ map step_arc (step ∷ rest))) step.0 more.0
+    (step ∷ put_step rest more) ((step.0, step.1 +ℤ more.1) ∷ rest)
+    (λ lt. above_meaning.same_trans _ _ _ (above_meaning.same_more (step_arc step) _ _ (put_above rest more h s.2))
+    (above_meaning.same_swap (step_arc step) (step_arc more) (map step_arc rest)))
     (λ ge.
     let same_cost : step.0 ≡ more.0 = omega (arith, ints) in
-    subst (λ c. SameAbove (free_arc step.0 (step.1 +ℤ more.1) ∷ map step_arc rest) (free_arc c more.1 ∷ free_arc step.0 step.1 ∷ map step_arc rest)) same_cost
+    subst
+    (λ c. SameAbove (free_arc step.0 (step.1 +ℤ more.1) ∷ map step_arc rest)
+    (free_arc c more.1 ∷ free_arc step.0 step.1 ∷ map step_arc rest)) same_cost
     (above_merge step.0 step.1 more.1 (map step_arc rest) (omega (arith, ints)) (omega (arith, ints)))))
 
 pub steps_some : (steps : List (ℤ × ℤ)) → AreSteps steps → pos 0 ≤ℤ steps_room steps

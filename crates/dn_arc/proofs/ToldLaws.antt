@@ -32,20 +32,30 @@ pub record Carries (arcs : List CostArc) (units cost : ℤ) : Type 0 where
   pub units_is : forced_units arcs ≡ units
   pub cost_is : forced_cost arcs ≡ cost
 
-two_cost : (units each rest cost : ℤ) → cost ≡ (each *ℤ units) +ℤ rest → (each *ℤ (units -ℤ rest)) +ℤ (((each +ℤ pos 1) *ℤ rest) +ℤ pos 0) ≡ cost
+two_cost : (units each rest cost : ℤ) → cost ≡ (each *ℤ units) +ℤ rest
+    → (each *ℤ (units -ℤ rest)) +ℤ (((each +ℤ pos 1) *ℤ rest) +ℤ pos 0) ≡ cost
 two_cost units each rest cost h =
     let g = *ℤ_comm (each +ℤ pos 1) rest ∙ mul_suc rest each ∙ ap (λ z. z +ℤ rest) (*ℤ_comm rest each) in
     let m = mul_sub each units rest in
     omega (arith, ints)
 
-pub spread_carries : (units each rest cost : ℤ) → pos 0 <ℤ units → IsFloor cost units each rest → Carries (spread_arcs units each rest) units cost
+pub spread_carries : (units each rest cost : ℤ) → pos 0 <ℤ units → IsFloor cost units each rest
+    → Carries (spread_arcs units each rest) units cost
 spread_carries units each rest cost h f =
     let e = f.whole in
     let l = f.low in
     let u = f.high in
-    by_test (λ (l : List CostArc). Carries l units cost) (pos 0) rest (fixed_arc (units -ℤ rest) each ∷ fixed_arc rest (each +ℤ pos 1) ∷ []) (fixed_arc units each ∷ [])
+    by_test (λ (l : List CostArc). Carries l units cost) (pos 0) rest
+    (fixed_arc (units -ℤ rest) each ∷ fixed_arc rest (each +ℤ pos 1) ∷ []) (fixed_arc units each ∷ [])
     (λ lt. record {
-      are = record { each = (record { some = omega (arith, ints); full = refl }, (record { some = omega (arith, ints); full = refl }, tt)); near = refl };
+      are =
+          record {
+            each = (
+              record { some = omega (arith, ints); full = refl },
+              (record { some = omega (arith, ints); full = refl }, tt),
+            );
+            near = refl;
+          };
       units_is = omega (arith, ints);
       cost_is = two_cost units each rest cost e;
     })
@@ -55,10 +65,13 @@ spread_carries units each rest cost h f =
       cost_is = omega (arith, ints);
     })
 
-pub fixed_carries : (units cost : ℤ) → pos 0 ≤ℤ units → (units ≡ pos 0 → cost ≡ pos 0) → Carries (fixed_arcs units cost) units cost
+pub fixed_carries : (units cost : ℤ) → pos 0 ≤ℤ units → (units ≡ pos 0 → cost ≡ pos 0)
+    → Carries (fixed_arcs units cost) units cost
 fixed_carries units cost h n =
-    by_test (λ (l : List CostArc). Carries l units cost) (pos 0) units (spread_arcs units (int_div_euclid cost units) (int_rem_euclid cost units)) []
-    (λ lt. spread_carries units (int_div_euclid cost units) (int_rem_euclid cost units) cost lt (floor_of cost units _ _ lt refl refl))
+    by_test (λ (l : List CostArc). Carries l units cost) (pos 0) units
+    (spread_arcs units (int_div_euclid cost units) (int_rem_euclid cost units)) []
+    (λ lt. spread_carries units (int_div_euclid cost units) (int_rem_euclid cost units) cost lt
+    (floor_of cost units _ _ lt refl refl))
     (λ le.
     let none : units ≡ pos 0 = omega (arith, ints) in
     let nothing = n none in
@@ -66,14 +79,17 @@ fixed_carries units cost h n =
 
 steps_mixed : (steps : List (ℤ × ℤ)) → AreSteps steps → AllByRecursion IsMixedArc (map step_arc steps)
 steps_mixed [] s = tt
-steps_mixed (step ∷ rest) s = let some = s.0 in (record { is_arc = record { some = ≤ℤ_refl _; room = omega (arith, ints) }; room = s.0 }, steps_mixed rest s.2)
+steps_mixed (step ∷ rest) s = let some =
+    s.0 in
+    (record { is_arc = record { some = ≤ℤ_refl _; room = omega (arith, ints) }; room = s.0 }, steps_mixed rest s.2)
 
 pub steps_low : (steps : List (ℤ × ℤ)) → filter has_low (map step_arc steps) ≡ []
 steps_low [] = refl
 steps_low (step ∷ rest) = steps_low rest
 
 -- the canonical arcs of forced units, their cost and breakpoints
-module _ (units cost : ℤ) (steps : List (ℤ × ℤ)) (some : pos 0 ≤ℤ units) (none : units ≡ pos 0 → cost ≡ pos 0) (rising : AreSteps steps) where
+module _ (units cost : ℤ) (steps : List (ℤ × ℤ)) (some : pos 0 ≤ℤ units) (none : units ≡ pos 0 → cost ≡ pos 0)
+    (rising : AreSteps steps) where
   pub carried : Carries (fixed_arcs units cost) units cost
   carried = fixed_carries units cost some none
 
@@ -89,7 +105,9 @@ module _ (units cost : ℤ) (steps : List (ℤ × ℤ)) (some : pos 0 ≤ℤ uni
   }
 
   joins : AreJoined (fixed_arcs units cost) (map step_arc steps) (told Two units cost steps)
-  joins = join_all (fixed_arcs units cost) (map step_arc steps) carried.are (steps_mixed steps rising) (free_arcs steps rising).rising (steps_low steps)
+  joins =
+      join_all (fixed_arcs units cost) (map step_arc steps) carried.are (steps_mixed steps rising)
+      (free_arcs steps rising).rising (steps_low steps)
 
   pub told_two : IsFormTwo (told Two units cost steps)
   told_two = record { each = joins.each; rising = joins.rising; near = joins.near }
@@ -104,7 +122,8 @@ steps_units (step ∷ rest) = let i = steps_units rest in omega (arith, ints)
 
 steps_cost : (steps : List (ℤ × ℤ)) → forced_cost (map step_arc steps) ≡ pos 0
 steps_cost [] = refl
-steps_cost (step ∷ rest) = let i = steps_cost rest in let z : step.0 *ℤ pos 0 ≡ pos 0 = omega (arith, ints) in omega (arith, ints)
+steps_cost (step ∷ rest) = let i = steps_cost rest in let z : step.0 *ℤ pos 0 ≡ pos 0 = omega (arith, ints) in
+    omega (arith, ints)
 
 steps_cap : (steps : List (ℤ × ℤ)) → cost_cap (map step_arc steps) ≡ steps_room steps
 steps_cap [] = refl
@@ -119,7 +138,9 @@ record AreSums (fixed free : List CostArc) : Type 0 where
   parts : free_parts (fixed ++ free) ≡ free_parts free
 
 sums : (fixed free : List CostArc) → AllByRecursion IsFixedArc fixed → AreSums fixed free
-sums [] free f = record { units = omega (arith, ints); cost = omega (arith, ints); cap = omega (arith, ints); full = refl; parts = refl }
+sums [] free f =
+    record
+    { units = omega (arith, ints); cost = omega (arith, ints); cap = omega (arith, ints); full = refl; parts = refl }
 sums (a ∷ fixed) free f =
     let i = sums fixed free f.1 in
     let full = f.0.full in
@@ -132,10 +153,14 @@ sums (a ∷ fixed) free f =
       cost = omega (arith, ints);
       cap = omega (arith, ints);
       full = omega (arith, ints);
-      parts = by_test (λ (l : List CostArc). map free_part l ≡ free_parts free) a.low a.cap (a ∷ filter has_room (fixed ++ free)) (filter has_room (fixed ++ free)) (λ lt. absurd (omega (arith, ints))) (λ le. i.parts);
+      parts =
+          by_test (λ (l : List CostArc). map free_part l ≡ free_parts free) a.low a.cap
+          (a ∷ filter has_room (fixed ++ free)) (filter has_room (fixed ++ free)) (λ lt. absurd (omega (arith, ints)))
+          (λ le. i.parts);
     }
 
-module _ (units cost : ℤ) (steps : List (ℤ × ℤ)) (some : pos 0 ≤ℤ units) (none : units ≡ pos 0 → cost ≡ pos 0) (rising : AreSteps steps) where
+module _ (units cost : ℤ) (steps : List (ℤ × ℤ)) (some : pos 0 ≤ℤ units) (none : units ≡ pos 0 → cost ≡ pos 0)
+    (rising : AreSteps steps) where
   abbrev fixed : Carries (fixed_arcs units cost) units cost
   fixed = carried units cost steps some none rising
 
@@ -157,11 +182,16 @@ module _ (units cost : ℤ) (steps : List (ℤ × ℤ)) (some : pos 0 ≤ℤ uni
 
   pub told_cap : (form : Form) → cost_cap (told form units cost steps) ≡ units +ℤ steps_room steps
   told_cap One = let e = all.cap in let f = fixed.units_is in let g = steps_cap steps in omega (arith, ints)
-  told_cap Two = let e = join.cap in let f = fixed.units_is in let g = steps_cap steps in let h = all.full in omega (arith, ints)
+  told_cap Two = let e = join.cap in let f = fixed.units_is in let g = steps_cap steps in let h = all.full in
+      omega (arith, ints)
 
   -- both forms mean the same
   pub told_same : SameCurve (told Two units cost steps) (told One units cost steps)
-  told_same = same_by_parts (told Two units cost steps) (told One units cost steps) (form_two_ordered _ (told_two units cost steps some none rising)) (form_one_ordered _ (told_one units cost steps some none rising)) (join.units ∙ sym all.units) (join.cost ∙ sym all.cost) (join.parts ∙ sym all.parts)
+  told_same =
+      same_by_parts (told Two units cost steps) (told One units cost steps)
+      (form_two_ordered _ (told_two units cost steps some none rising))
+      (form_one_ordered _ (told_one units cost steps some none rising)) (join.units ∙ sym all.units)
+      (join.cost ∙ sym all.cost) (join.parts ∙ sym all.parts)
 
   pub told_arcs : (form : Form) → AllByRecursion IsCostArc (told form units cost steps)
   told_arcs One = form_one_arcs _ (told_one units cost steps some none rising)

@@ -48,7 +48,8 @@ one_differ xs ys (Totals l r) (Costs g) d e = absurd e
 one_differ xs ys (Lengths l r) other d e = absurd d
 one_differ xs ys (Costs g) other d e = absurd d
 
-same_differ : (xs xs' ys ys' : List CapArc) (how : How) → SameTotal xs xs' → SameTotal ys ys' → TotalsDiffer xs ys how → TotalsDiffer xs' ys' how
+same_differ : (xs xs' ys ys' : List CapArc) (how : How) → SameTotal xs xs' → SameTotal ys ys' → TotalsDiffer xs ys how
+    → TotalsDiffer xs' ys' how
 same_differ xs xs' ys ys' (Totals l r) s t d = (sym s.is ∙ d.0, sym t.is ∙ d.1, d.2)
 same_differ xs xs' ys ys' (Lengths l r) s t d = d
 same_differ xs xs' ys ys' (Costs g) s t d = d
@@ -78,4 +79,6 @@ pub total_canonical : (z : ℤ) → AreCanonCaps (cap_told z)
 total_canonical z = by_test AreCanonCaps (pos 0) z (record { cap = z } ∷ []) [] (λ lt. omega (arith, ints)) (λ le. tt)
 
 pub total_fit : (z : ℤ) → pos 0 ≤ℤ z → z ≤ℤ pos (2 ^ 63 - 1) → NumbersFit capacities (cap_told z)
-total_fit z h g = by_test (NumbersFit capacities) (pos 0) z (record { cap = z } ∷ []) [] (λ lt. ((fits_some z h g, tt), tt)) (λ le. tt)
+total_fit z h g =
+    by_test (NumbersFit capacities) (pos 0) z (record { cap = z } ∷ []) [] (λ lt. ((fits_some z h g, tt), tt))
+    (λ le. tt)

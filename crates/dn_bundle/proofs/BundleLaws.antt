@@ -22,11 +22,13 @@ all_drop P [] (suc n) h = tt
 all_drop P (x ∷ xs) zero h = h
 all_drop P (x ∷ xs) (suc n) h = all_drop P xs n h.1
 
-pub all_end : {A : Type 0} (P : A → Type 0) (xs : List A) (x : A) → AllByRecursion P xs → P x → AllByRecursion P (xs ++ x ∷ [])
+pub all_end : {A : Type 0} (P : A → Type 0) (xs : List A) (x : A) → AllByRecursion P xs → P x
+    → AllByRecursion P (xs ++ x ∷ [])
 all_end P [] x h p = (p, tt)
 all_end P (y ∷ xs) x h p = (h.0, all_end P xs x h.1 p)
 
-all_get : {A : Type 0} (P : A → Type 0) (xs : List A) (i : ℕ) (d : A) → i < length xs → AllByRecursion P xs → P (get_or xs i d)
+all_get : {A : Type 0} (P : A → Type 0) (xs : List A) (i : ℕ) (d : A) → i < length xs → AllByRecursion P xs
+    → P (get_or xs i d)
 all_get P [] i d h a = absurd (omega arith)
 all_get P (x ∷ xs) zero d h a = a.0
 all_get P (x ∷ xs) (suc i) d h a = all_get P xs i d (omega arith) a.1
@@ -36,31 +38,44 @@ module _ {Arc : Type 0} (kind : ArcKind Arc) (laws : IsKind kind) where
   none_cap = let e = laws.capacity_append [] [] in omega (arith, ints)
 
   -- a prefix of the arcs has no more capacity than all arcs
-  taken_cap : (arcs : List Arc) (n : ℕ) → AllByRecursion kind.IsArc arcs → kind.capacity (take n arcs) ≤ℤ kind.capacity arcs
+  taken_cap : (arcs : List Arc) (n : ℕ) → AllByRecursion kind.IsArc arcs
+      → kind.capacity (take n arcs) ≤ℤ kind.capacity arcs
   taken_cap arcs n a =
       let e = sym (laws.capacity_append (take n arcs) (drop n arcs)) ∙ ap kind.capacity (take-append-drop n arcs) in
       let s = laws.capacity_some (drop n arcs) (all_drop kind.IsArc arcs n a) in
       omega (arith, ints)
 
-  pub next_arc : (arcs : List Arc) (i : ℕ) (arc : Arc) → AllByRecursion kind.IsArc arcs → i < length arcs → arc ≡ get_or arcs i arc → kind.IsArc arc
+  pub next_arc : (arcs : List Arc) (i : ℕ) (arc : Arc) → AllByRecursion kind.IsArc arcs → i < length arcs
+      → arc ≡ get_or arcs i arc → kind.IsArc arc
   next_arc arcs i arc a h is = subst kind.IsArc (sym is) (all_get kind.IsArc arcs i arc h a)
 
   -- a bundle that represents the arcs so far, and the next arc
-  module _ (arcs told : List Arc) (i : ℕ) (arc : Arc) (a : AllByRecursion kind.IsArc arcs) (h : i < length arcs) (is : arc ≡ get_or arcs i arc) (told_arcs : AllByRecursion kind.IsArc told) (same : kind.Same told (take i arcs)) where
+  module _ (arcs told : List Arc) (i : ℕ) (arc : Arc) (a : AllByRecursion kind.IsArc arcs) (h : i < length arcs)
+      (is : arc ≡ get_or arcs i arc) (told_arcs : AllByRecursion kind.IsArc told)
+      (same : kind.Same told (take i arcs)) where
     next_is : take (i + 1) arcs ≡ take i arcs ++ arc ∷ []
-    next_is = ap (λ n. take n arcs) (let e : i + 1 ≡ suc i = omega arith in e) ∙ take-suc arcs i arc h ∙ ap (λ x. take i arcs ++ x ∷ []) (sym is)
+    next_is =
+        ap (λ n. take n arcs) (let e : i + 1 ≡ suc i = omega arith in e) ∙ take-suc arcs i arc h
+        ∙ ap (λ x. take i arcs ++ x ∷ []) (sym is)
 
     both_same : kind.Same (told ++ arc ∷ []) (take (i + 1) arcs)
-    both_same = subst (kind.Same (told ++ arc ∷ [])) (sym next_is) (same_push kind.Same laws.meaning told (take i arcs) arc same)
+    both_same =
+        subst (kind.Same (told ++ arc ∷ [])) (sym next_is)
+        (same_push kind.Same laws.meaning told (take i arcs) arc same)
 
     pub next_same : (new : List Arc) → kind.Same new (told ++ arc ∷ []) → kind.Same new (take (i + 1) arcs)
     next_same new s = laws.meaning.same_trans _ _ _ s both_same
 
     next_cap : kind.capacity (told ++ arc ∷ []) ≡ kind.capacity (take (i + 1) arcs)
-    next_cap = laws.same_capacity _ _ (all_end kind.IsArc told arc told_arcs (next_arc arcs i arc a h is)) (all_take kind.IsArc arcs (i + 1) a) both_same
+    next_cap =
+        laws.same_capacity _ _ (all_end kind.IsArc told arc told_arcs (next_arc arcs i arc a h is))
+        (all_take kind.IsArc arcs (i + 1) a) both_same
 
-    pub next_fits : (pos (2 ^ 63 - 1) <ℤ kind.capacity (told ++ arc ∷ []) → ⊥) → kind.capacity (take (i + 1) arcs) ≤ℤ pos (2 ^ 63 - 1)
-    next_fits n = by_lt_z (pos (2 ^ 63 - 1)) (kind.capacity (take (i + 1) arcs)) (λ lt. absurd (n (subst (λ z. pos (2 ^ 63 - 1) <ℤ z) (sym next_cap) lt))) (λ le. le)
+    pub next_fits : (pos (2 ^ 63 - 1) <ℤ kind.capacity (told ++ arc ∷ []) → ⊥)
+        → kind.capacity (take (i + 1) arcs) ≤ℤ pos (2 ^ 63 - 1)
+    next_fits n =
+        by_lt_z (pos (2 ^ 63 - 1)) (kind.capacity (take (i + 1) arcs))
+        (λ lt. absurd (n (subst (λ z. pos (2 ^ 63 - 1) <ℤ z) (sym next_cap) lt))) (λ le. le)
 
     pub too_much : pos (2 ^ 63 - 1) <ℤ kind.capacity (told ++ arc ∷ []) → pos (2 ^ 63 - 1) <ℤ kind.capacity arcs
     too_much m = let e = next_cap in let t = taken_cap arcs (i + 1) a in omega (arith, ints)

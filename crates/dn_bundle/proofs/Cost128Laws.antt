@@ -33,7 +33,9 @@ bits_most : (x : ℤ) → FitsSigned w64 x → pos 0 <ℤ x → of_z w128 x ≡ 
 bits_most (pos n) f h e = omega (arith, f.sfits)
 bits_most (negsuc n) f h e = omega (arith, ints)
 
-pub divides : (units : ℤ) → FitsSigned w64 units → pos 0 <ℤ units → IsNonZero w128 (to_z w128 (of_z w128 (to_z w64 (of_z w64 units)))) × (of_z w128 (to_z w128 (of_z w128 (to_z w64 (of_z w64 units)))) ≡ 2 ^ 128 - 1 → ⊥)
+pub divides : (units : ℤ) → FitsSigned w64 units → pos 0 <ℤ units
+    → IsNonZero w128 (to_z w128 (of_z w128 (to_z w64 (of_z w64 units))))
+    × (of_z w128 (to_z w128 (of_z w128 (to_z w64 (of_z w64 units)))) ≡ 2 ^ 128 - 1 → ⊥)
 divides units f some = rw (widened units f) (bits_some units some, bits_most units f some)
 
 pub rest_fits : (cost units each rest : ℤ) → FitsSigned w64 units → IsFloor cost units each rest → FitsSigned w64 rest
@@ -42,14 +44,19 @@ rest_fits cost (negsuc u) each (pos r) f h = let high = h.high in absurd (omega 
 rest_fits cost units each (negsuc r) f h = let low = h.low in absurd (omega (arith, ints))
 
 pub product_fits : (units cost : ℤ) → FitsSigned w64 units → FitsSigned w64 cost → FitsSigned w128 (units *ℤ cost)
-product_fits units cost f g = fits_signed_mul w128 units cost (2 ^ 63) (2 ^ 63) (omega (arith, ints, f.sfits)) (omega (arith, ints, g.sfits)) (lit< tt)
+product_fits units cost f g =
+    fits_signed_mul w128 units cost (2 ^ 63) (2 ^ 63) (omega (arith, ints, f.sfits)) (omega (arith, ints, g.sfits))
+    (lit< tt)
 
 -- the cost with that of more units fits 128 bits
-pub more_fits : (all units cost before : ℤ) → pos 0 ≤ℤ before → pos 0 ≤ℤ units → (before +ℤ units) ≤ℤ pos (2 ^ 63 - 1) → FitsSigned w64 cost → IsMean all before → FitsSigned w128 (all +ℤ (units *ℤ cost))
-more_fits all units cost before h k r f m = cost_fits _ (before +ℤ units) (omega (arith, ints)) r (more_mean all units cost before h k f m)
+pub more_fits : (all units cost before : ℤ) → pos 0 ≤ℤ before → pos 0 ≤ℤ units → (before +ℤ units) ≤ℤ pos (2 ^ 63 - 1)
+    → FitsSigned w64 cost → IsMean all before → FitsSigned w128 (all +ℤ (units *ℤ cost))
+more_fits all units cost before h k r f m =
+    cost_fits _ (before +ℤ units) (omega (arith, ints)) r (more_mean all units cost before h k f m)
 
 -- the range of a cost of units, and of this cost with that of one more unit
-pub mean_range : (cost units : ℤ) → pos 0 ≤ℤ units → units <ℤ pos (2 ^ 63 - 1) → IsMean cost units → (negsuc (2 ^ 126 - 1) ≤ℤ cost) × (cost ≤ℤ pos (2 ^ 126))
+pub mean_range : (cost units : ℤ) → pos 0 ≤ℤ units → units <ℤ pos (2 ^ 63 - 1) → IsMean cost units
+    → (negsuc (2 ^ 126 - 1) ≤ℤ cost) × (cost ≤ℤ pos (2 ^ 126))
 mean_range cost (pos u) h k m = let low = m.least in let high = m.greatest in (omega (arith, ints), omega (arith, ints))
 mean_range cost (negsuc u) h k m = absurd (omega (arith, ints))
 
@@ -57,9 +64,12 @@ range_fits : (x : ℤ) → negsuc (2 ^ 127 - 1) ≤ℤ x → x ≤ℤ pos (2 ^ 1
 range_fits (pos n) h k = record { sfits = omega (arith, ints) }
 range_fits (negsuc n) h k = record { sfits = omega (arith, ints) }
 
-with_unit_fits : (cost unit : ℤ) → negsuc (2 ^ 126 - 1) ≤ℤ cost → cost ≤ℤ pos (2 ^ 126) → FitsSigned w64 unit → FitsSigned w128 (cost +ℤ unit)
-with_unit_fits cost (pos n) h k f = range_fits (cost +ℤ pos n) (omega (arith, ints, f.sfits)) (omega (arith, ints, f.sfits))
-with_unit_fits cost (negsuc n) h k f = range_fits (cost +ℤ negsuc n) (omega (arith, ints, f.sfits)) (omega (arith, ints, f.sfits))
+with_unit_fits : (cost unit : ℤ) → negsuc (2 ^ 126 - 1) ≤ℤ cost → cost ≤ℤ pos (2 ^ 126) → FitsSigned w64 unit
+    → FitsSigned w128 (cost +ℤ unit)
+with_unit_fits cost (pos n) h k f =
+    range_fits (cost +ℤ pos n) (omega (arith, ints, f.sfits)) (omega (arith, ints, f.sfits))
+with_unit_fits cost (negsuc n) h k f =
+    range_fits (cost +ℤ negsuc n) (omega (arith, ints, f.sfits)) (omega (arith, ints, f.sfits))
 
 module _ (cost unit : ℤ) (h : negsuc (2 ^ 126 - 1) ≤ℤ cost) (k : cost ≤ℤ pos (2 ^ 126)) (f : FitsSigned w64 unit) where
   sum_same : to_z w128 (of_z w128 cost) +ℤ to_z w128 (of_z w128 (to_z w64 (of_z w64 unit))) ≡ cost +ℤ unit
@@ -68,21 +78,50 @@ module _ (cost unit : ℤ) (h : negsuc (2 ^ 126 - 1) ≤ℤ cost) (k : cost ≤�
   pub unit_fits : FitsSigned w128 (to_z w128 (of_z w128 cost) +ℤ to_z w128 (of_z w128 (to_z w64 (of_z w64 unit))))
   unit_fits = subst (FitsSigned w128) (sym sum_same) (with_unit_fits cost unit h k f)
 
-  pub unit_is : to_z w128 (of_z w128 (to_z w128 (of_z w128 cost) +ℤ to_z w128 (of_z w128 (to_z w64 (of_z w64 unit))))) ≡ cost +ℤ unit
+  pub unit_is : to_z w128
+      (of_z w128 (to_z w128 (of_z w128 cost) +ℤ to_z w128 (of_z w128 (to_z w64 (of_z w64 unit))))) ≡ cost +ℤ unit
   unit_is = ap (λ z. to_z w128 (of_z w128 z)) sum_same ∙ to_z-of_z w128 (cost +ℤ unit) (with_unit_fits cost unit h k f)
 
 -- the sum with a product that the code computes
-module _ (all units cost : ℤ) (fa : FitsSigned w128 all) (fu : FitsSigned w64 units) (fc : FitsSigned w64 cost) (fs : FitsSigned w128 (all +ℤ (units *ℤ cost))) where
-  pub operands_fit : FitsSigned w128 (to_z w128 (of_z w128 all) +ℤ to_z w128 (of_z w128 (to_z w128 (of_z w128 (to_z w64 (of_z w64 units))) *ℤ to_z w128 (of_z w128 (to_z w64 (of_z w64 cost))))))
-  operands_fit = rw (widened units fu, widened cost fc, to_z-of_z w128 all fa, to_z-of_z w128 (units *ℤ cost) (product_fits units cost fu fc)) fs
+module _ (all units cost : ℤ) (fa : FitsSigned w128 all) (fu : FitsSigned w64 units) (fc : FitsSigned w64 cost)
+    (fs : FitsSigned w128 (all +ℤ (units *ℤ cost))) where
+  pub operands_fit : FitsSigned w128
+      (to_z w128 (of_z w128 all) +ℤ to_z w128
+      (of_z w128
+      (to_z w128 (of_z w128 (to_z w64 (of_z w64 units))) *ℤ to_z w128 (of_z w128 (to_z w64 (of_z w64 cost))))))
+  operands_fit =
+      rw (
+        widened units fu,
+        widened cost fc,
+        to_z-of_z w128 all fa,
+        to_z-of_z w128 (units *ℤ cost)
+            (product_fits units cost fu fc),
+      ) fs
 
-  pub sum_is : to_z w128 (of_z w128 (to_z w128 (of_z w128 all) +ℤ to_z w128 (of_z w128 (to_z w128 (of_z w128 (to_z w64 (of_z w64 units))) *ℤ to_z w128 (of_z w128 (to_z w64 (of_z w64 cost))))))) ≡ all +ℤ (units *ℤ cost)
-  sum_is = rw (widened units fu, widened cost fc, to_z-of_z w128 all fa, to_z-of_z w128 (units *ℤ cost) (product_fits units cost fu fc), to_z-of_z w128 (all +ℤ (units *ℤ cost)) fs) refl
+  pub sum_is : to_z w128
+      (of_z w128
+      (to_z w128 (of_z w128 all) +ℤ to_z w128
+      (of_z w128
+      (to_z w128 (of_z w128 (to_z w64 (of_z w64 units))) *ℤ to_z w128
+      (of_z w128 (to_z w64 (of_z w64 cost))))))) ≡ all +ℤ (units *ℤ cost)
+  sum_is =
+      rw (
+        widened units fu,
+        widened cost fc,
+        to_z-of_z w128 all fa,
+        to_z-of_z w128 (units *ℤ cost)
+            (product_fits units cost fu fc),
+        to_z-of_z w128 (all +ℤ (units *ℤ cost)) fs,
+      ) refl
 
 -- the quotient and the remainder that the code computes
-module _ (cost units each : ℤ) (fa : FitsSigned w128 cost) (fu : FitsSigned w64 units) (h : pos 0 <ℤ units) (m : IsMean cost units) (e : each ≡ int_div_euclid (to_z w128 (of_z w128 cost)) (to_z w128 (of_z w128 (to_z w64 (of_z w64 units))))) where
+module _ (cost units each : ℤ) (fa : FitsSigned w128 cost) (fu : FitsSigned w64 units) (h : pos 0 <ℤ units)
+    (m : IsMean cost units)
+    (e : each ≡ int_div_euclid (to_z w128 (of_z w128 cost)) (to_z w128 (of_z w128 (to_z w64 (of_z w64 units))))) where
   each_is : each ≡ int_div_euclid cost units
-  each_is = e ∙ ap (λ a. int_div_euclid a (to_z w128 (of_z w128 (to_z w64 (of_z w64 units))))) (to_z-of_z w128 cost fa) ∙ ap (int_div_euclid cost) (widened units fu)
+  each_is =
+      e ∙ ap (λ a. int_div_euclid a (to_z w128 (of_z w128 (to_z w64 (of_z w64 units))))) (to_z-of_z w128 cost fa)
+      ∙ ap (int_div_euclid cost) (widened units fu)
 
   each_fit : FitsSigned w64 each
   each_fit = each_fits cost units each h m each_is
@@ -90,9 +129,13 @@ module _ (cost units each : ℤ) (fa : FitsSigned w128 cost) (fu : FitsSigned w6
   pub each_narrows : FitsSigned w64 (to_z w128 (of_z w128 each))
   each_narrows = narrows each each_fit
 
-  module _ (rest : ℤ) (r : rest ≡ int_rem_euclid (to_z w128 (of_z w128 cost)) (to_z w128 (of_z w128 (to_z w64 (of_z w64 units))))) where
+  module _ (rest : ℤ)
+      (r : rest ≡ int_rem_euclid (to_z w128 (of_z w128 cost)) (to_z w128 (of_z w128 (to_z w64 (of_z w64 units))))) where
     floor : IsFloor cost units each rest
-    floor = floor_of cost units each rest h each_is (r ∙ ap (λ a. int_rem_euclid a (to_z w128 (of_z w128 (to_z w64 (of_z w64 units))))) (to_z-of_z w128 cost fa) ∙ ap (int_rem_euclid cost) (widened units fu))
+    floor =
+        floor_of cost units each rest h each_is
+        (r ∙ ap (λ a. int_rem_euclid a (to_z w128 (of_z w128 (to_z w64 (of_z w64 units))))) (to_z-of_z w128 cost fa)
+        ∙ ap (int_rem_euclid cost) (widened units fu))
 
     rest_fit : FitsSigned w64 rest
     rest_fit = rest_fits cost units each rest fu floor
@@ -100,5 +143,8 @@ module _ (cost units each : ℤ) (fa : FitsSigned w128 cost) (fu : FitsSigned w6
     pub rest_narrows : FitsSigned w64 (to_z w128 (of_z w128 rest))
     rest_narrows = narrows rest rest_fit
 
-    pub floor_is : IsFloor cost units (to_z w64 (of_z w64 (to_z w128 (of_z w128 each)))) (to_z w64 (of_z w64 (to_z w128 (of_z w128 rest))))
-    floor_is = subst (λ d. IsFloor cost units d (to_z w64 (of_z w64 (to_z w128 (of_z w128 rest))))) (sym (narrowed each each_fit)) (subst (λ r. IsFloor cost units each r) (sym (narrowed rest rest_fit)) floor)
+    pub floor_is : IsFloor cost units (to_z w64 (of_z w64 (to_z w128 (of_z w128 each))))
+        (to_z w64 (of_z w64 (to_z w128 (of_z w128 rest))))
+    floor_is =
+        subst (λ d. IsFloor cost units d (to_z w64 (of_z w64 (to_z w128 (of_z w128 rest)))))
+        (sym (narrowed each each_fit)) (subst (λ r. IsFloor cost units each r) (sym (narrowed rest rest_fit)) floor)

@@ -39,34 +39,48 @@ apart (a ∷ fixed) steps f =
     let i = apart fixed steps f.1 in
     let t = test_yes (pos 0) a.low (omega (arith, ints)) in
     record {
-      low = ap (λ b. cond b (a ∷ filter has_low (fixed ++ map step_arc steps)) (filter has_low (fixed ++ map step_arc steps))) t ∙ ap (λ l. a ∷ l) i.low;
-      free = ap (λ b. cond (not b) (a ∷ filter is_free (fixed ++ map step_arc steps)) (filter is_free (fixed ++ map step_arc steps))) t ∙ i.free;
+      low =
+          ap (λ b. cond b (a ∷ filter has_low (fixed ++ map step_arc steps))
+          (filter has_low (fixed ++ map step_arc steps))) t ∙ ap (λ l. a ∷ l) i.low;
+      free =
+          ap (λ b. cond (not b) (a ∷ filter is_free (fixed ++ map step_arc steps))
+          (filter is_free (fixed ++ map step_arc steps))) t ∙ i.free;
     }
 
-put_first : (step : ℤ × ℤ) (rest : List (ℤ × ℤ)) → AllByRecursion (λ (other : ℤ × ℤ). step.0 <ℤ other.0) rest → put_step rest step ≡ step ∷ rest
+put_first : (step : ℤ × ℤ) (rest : List (ℤ × ℤ)) → AllByRecursion (λ (other : ℤ × ℤ). step.0 <ℤ other.0) rest
+    → put_step rest step ≡ step ∷ rest
 put_first step [] h = refl
-put_first step (other ∷ rest) h = ap (λ b. cond b (step ∷ other ∷ rest) (cond (int_lt other.0 step.0) (other ∷ put_step rest step) ((other.0, other.1 +ℤ step.1) ∷ rest))) (test_yes step.0 other.0 h.0)
+put_first step (other ∷ rest) h =
+    ap (λ b. cond b (step ∷ other ∷ rest)
+    (cond (int_lt other.0 step.0) (other ∷ put_step rest step) ((other.0, other.1 +ℤ step.1) ∷ rest)))
+    (test_yes step.0 other.0 h.0)
 
 -- the breakpoints of the arcs of breakpoints are the breakpoints themselves
 steps_back : (steps : List (ℤ × ℤ)) → AreSteps steps → arc_steps (map step_arc steps) ≡ steps
 steps_back [] s = refl
 steps_back (step ∷ rest) s =
     let some = s.0 in
-    ap (λ b. cond b (put_step (arc_steps (map step_arc rest)) (step.0, room (step_arc step))) (arc_steps (map step_arc rest))) (test_yes (pos 0) step.1 (omega (arith, ints)))
+    ap (λ b. cond b (put_step (arc_steps (map step_arc rest)) (step.0, room (step_arc step)))
+    (arc_steps (map step_arc rest))) (test_yes (pos 0) step.1 (omega (arith, ints)))
     ∙ ap (λ l. put_step l (step.0, room (step_arc step))) (steps_back rest s.2)
     ∙ ap (λ z. put_step rest (step.0, z)) (let e : room (step_arc step) ≡ step.1 = omega (arith, ints) in e)
     ∙ put_first step rest s.1
 
-fixed_back : (fixed : List CostArc) (steps : List (ℤ × ℤ)) → AllByRecursion IsFixedArc fixed → arc_steps (fixed ++ map step_arc steps) ≡ arc_steps (map step_arc steps)
+fixed_back : (fixed : List CostArc) (steps : List (ℤ × ℤ)) → AllByRecursion IsFixedArc fixed
+    → arc_steps (fixed ++ map step_arc steps) ≡ arc_steps (map step_arc steps)
 fixed_back [] steps f = refl
 fixed_back (a ∷ fixed) steps f =
     let full = f.0.full in
-    ap (λ b. cond b (put_step (arc_steps (fixed ++ map step_arc steps)) (a.cost, room a)) (arc_steps (fixed ++ map step_arc steps))) (test_no a.low a.cap (omega (arith, ints))) ∙ fixed_back fixed steps f.1
+    ap (λ b. cond b (put_step (arc_steps (fixed ++ map step_arc steps)) (a.cost, room a))
+    (arc_steps (fixed ++ map step_arc steps))) (test_no a.low a.cap (omega (arith, ints)))
+    ∙ fixed_back fixed steps f.1
 
 -- the numbers of a curve
 module _ (units cost total : ℤ) (steps : List (ℤ × ℤ)) (s : IsSound units cost total steps) where
   both : AreApart (fixed_arcs units cost) steps
-  both = apart (fixed_arcs units cost) steps (carried units cost steps s.some (none_is units cost total steps s) s.rising).are.each
+  both =
+      apart (fixed_arcs units cost) steps
+      (carried units cost steps s.some (none_is units cost total steps s) s.rising).are.each
 
   -- the arcs with LOW above 0 are the fixed arcs
   pub low_arcs : filter has_low (told One units cost steps) ≡ fixed_arcs units cost
@@ -77,7 +91,8 @@ module _ (units cost total : ℤ) (steps : List (ℤ × ℤ)) (s : IsSound units
   free_arcs = both.free
 
   steps_told : arc_steps (told One units cost steps) ≡ steps
-  steps_told = let c = carried units cost steps s.some (none_is units cost total steps s) s.rising in fixed_back (fixed_arcs units cost) steps c.are.each ∙ steps_back steps s.rising
+  steps_told = let c = carried units cost steps s.some (none_is units cost total steps s) s.rising in
+      fixed_back (fixed_arcs units cost) steps c.are.each ∙ steps_back steps s.rising
 
   -- the costs with free capacity are those of the breakpoints
   pub costs_told : length (free_costs (told One units cost steps)) ≡ length steps
@@ -86,7 +101,8 @@ module _ (units cost total : ℤ) (steps : List (ℤ × ℤ)) (s : IsSound units
   pub entries_told : cost_entries (told One units cost steps) ≡ cond (int_lt (pos 0) units) 1 0 + length steps
   entries_told =
       entries_are (told One units cost steps) (sound_arcs units cost total steps s One)
-      ∙ ap (λ z. cond (int_lt (pos 0) z) 1 0 + length (arc_steps (told One units cost steps))) (told_units units cost steps s.some (none_is units cost total steps s) s.rising)
+      ∙ ap (λ z. cond (int_lt (pos 0) z) 1 0 + length (arc_steps (told One units cost steps)))
+      (told_units units cost steps s.some (none_is units cost total steps s) s.rising)
       ∙ ap (λ l. cond (int_lt (pos 0) units) 1 0 + length l) steps_told
 
   nothing_there : total ≡ pos 0 → SameCurve (told One units cost steps) []
@@ -95,20 +111,27 @@ module _ (units cost total : ℤ) (steps : List (ℤ × ℤ)) (s : IsSound units
       let some = s.some in
       let left = steps_some steps s.rising in
       let rooms : steps_room steps ≡ pos 0 = omega (arith, ints) in
-      by_test (λ (l : List CostArc). SameCurve (l ++ map step_arc steps) []) (pos 0) units (spread_arcs units (int_div_euclid cost units) (int_rem_euclid cost units)) []
+      by_test (λ (l : List CostArc). SameCurve (l ++ map step_arc steps) []) (pos 0) units
+      (spread_arcs units (int_div_euclid cost units) (int_rem_euclid cost units)) []
       (λ lt. absurd (omega (arith, ints)))
-      (λ le. subst (λ l. SameCurve l []) (sym (ap (map step_arc) (no_steps steps s.rising rooms))) (curve_meaning.same_refl []))
+      (λ le. subst (λ l. SameCurve l []) (sym (ap (map step_arc) (no_steps steps s.rising rooms)))
+      (curve_meaning.same_refl []))
     where
       no_steps : (steps : List (ℤ × ℤ)) → AreSteps steps → steps_room steps ≡ pos 0 → steps ≡ []
       no_steps [] r e = refl
       no_steps (step ∷ rest) r e = let some = r.0 in let left = steps_some rest r.2 in absurd (omega (arith, ints))
 
   nothing_back : SameCurve (told One units cost steps) [] → total ≡ pos 0
-  nothing_back m = sym (sound_cap units cost total steps s One) ∙ cost_cap_same (told One units cost steps) [] (sound_arcs units cost total steps s One) tt m
+  nothing_back m =
+      sym (sound_cap units cost total steps s One)
+      ∙ cost_cap_same (told One units cost steps) [] (sound_arcs units cost total steps s One) tt m
 
   -- a curve means the same as no arcs exactly if its capacity is 0
-  pub nothing_is : FitsSigned w64 total → (IsTrue (nat_eq (of_z w64 total) 0) → SameCurve (told One units cost steps) []) × (SameCurve (told One units cost steps) [] → IsTrue (nat_eq (of_z w64 total) 0))
-  nothing_is f = ((λ t. nothing_there (is_zero total f (test_zero _ t))), (λ m. zero_test _ (ap (of_z w64) (nothing_back m))))
+  pub nothing_is : FitsSigned w64 total
+      → (IsTrue (nat_eq (of_z w64 total) 0) → SameCurve (told One units cost steps) [])
+      × (SameCurve (told One units cost steps) [] → IsTrue (nat_eq (of_z w64 total) 0))
+  nothing_is f =
+      ((λ t. nothing_there (is_zero total f (test_zero _ t))), (λ m. zero_test _ (ap (of_z w64) (nothing_back m))))
     where
       test_zero : (n : ℕ) → IsTrue (nat_eq n 0) → n ≡ 0
       test_zero n h = grind (arith, nat_tests)
@@ -116,11 +139,14 @@ module _ (units cost total : ℤ) (steps : List (ℤ × ℤ)) (s : IsSound units
       zero_test : (n : ℕ) → n ≡ 0 → IsTrue (nat_eq n 0)
       zero_test n h = grind (arith, nat_tests)
 
-  pub entries_code : (n len : ℕ) → n ≡ cond (int_lt (pos 0) units) 1 0 → len ≡ length steps → n + len ≡ cost_entries (told One units cost steps)
+  pub entries_code : (n len : ℕ) → n ≡ cond (int_lt (pos 0) units) 1 0 → len ≡ length steps
+      → n + len ≡ cost_entries (told One units cost steps)
   entries_code n len e f = ap (λ z. z + len) e ∙ ap (λ z. cond (int_lt (pos 0) units) 1 0 + z) f ∙ sym entries_told
 
   pub none_forced : (n : ℕ) → n ≡ 0 → FitsSigned w64 units → of_z w64 units ≡ 0 → n ≡ cond (int_lt (pos 0) units) 1 0
-  none_forced n e f z = let u = is_zero units f z in e ∙ sym (ap (λ b. cond b 1 0) (test_no (pos 0) units (omega (arith, ints))))
+  none_forced n e f z = let u = is_zero units f z in
+      e ∙ sym (ap (λ b. cond b 1 0) (test_no (pos 0) units (omega (arith, ints))))
 
-  pub some_forced : (n : ℕ) → n ≡ 1 → FitsSigned w64 units → (of_z w64 units ≡ 0 → ⊥) → n ≡ cond (int_lt (pos 0) units) 1 0
+  pub some_forced : (n : ℕ) → n ≡ 1 → FitsSigned w64 units → (of_z w64 units ≡ 0 → ⊥)
+      → n ≡ cond (int_lt (pos 0) units) 1 0
   some_forced n e f z = e ∙ sym (ap (λ b. cond b 1 0) (test_yes (pos 0) units (not_zero units f z s.some)))

@@ -11,7 +11,8 @@ use Rattle.dn_arc.proofs.PartsLaws.{test_yes, test_no}
 use Rattle.dn_arc.proofs.ToldLaws.{spread_carries, fixed_carries}
 
 -- the quotient and the remainder of the cost determine the fixed arcs
-floor_arcs : (units cost each rest : ℤ) → pos 0 <ℤ units → IsFloor cost units each rest → spread_arcs units each rest ≡ fixed_arcs units cost
+floor_arcs : (units cost each rest : ℤ) → pos 0 <ℤ units → IsFloor cost units each rest
+    → spread_arcs units each rest ≡ fixed_arcs units cost
 floor_arcs units cost each rest h f =
     let a = spread_carries units each rest cost h f in
     let b = fixed_carries units cost (omega (arith, ints)) (λ e. absurd (omega (arith, ints))) in
@@ -34,7 +35,8 @@ pub none_fixed : (units cost : ℤ) → FitsSigned w64 units → of_z w64 units 
 none_fixed units cost f h = subst (λ z. [] ≡ fixed_arcs z cost) (sym (is_zero units f h)) refl
 
 -- the fixed arcs that the code makes
-module _ (units cost each rest : ℤ) (fu : FitsSigned w64 units) (fe : FitsSigned w64 each) (fr : FitsSigned w64 rest) (some : pos 0 ≤ℤ units) (nonzero : of_z w64 units ≡ 0 → ⊥) (f : IsFloor cost units each rest) where
+module _ (units cost each rest : ℤ) (fu : FitsSigned w64 units) (fe : FitsSigned w64 each) (fr : FitsSigned w64 rest)
+    (some : pos 0 ≤ℤ units) (nonzero : of_z w64 units ≡ 0 → ⊥) (f : IsFloor cost units each rest) where
   lower_fits : FitsSigned w64 (units -ℤ rest)
   lower_fits = fits_less units rest fu f.low f.high
 
@@ -49,23 +51,32 @@ module _ (units cost each rest : ℤ) (fu : FitsSigned w64 units) (fe : FitsSign
   pub each_below : IsMean cost units → (of_z w64 rest ≡ 0 → ⊥) → to_z w64 (of_z w64 each) <ℤ pos (2 ^ 63 - 1)
   each_below m z = rw (to_z-of_z w64 each fe) (each_next cost units each rest m f (not_zero rest fr z f.low))
 
-  pub one_fixed : of_z w64 rest ≡ 0 → fixed_arc (to_z w64 (of_z w64 units)) (to_z w64 (of_z w64 each)) ∷ [] ≡ fixed_arcs units cost
+  pub one_fixed : of_z w64 rest ≡ 0
+      → fixed_arc (to_z w64 (of_z w64 units)) (to_z w64 (of_z w64 each)) ∷ [] ≡ fixed_arcs units cost
   one_fixed z =
       let lt = not_zero units fu nonzero some in
       let e = is_zero rest fr z in
-      ap (λ u. fixed_arc u (to_z w64 (of_z w64 each)) ∷ []) (to_z-of_z w64 units fu) ∙ ap (λ p. fixed_arc units p ∷ []) (to_z-of_z w64 each fe)
-      ∙ ap (λ b. cond b (fixed_arc (units -ℤ rest) each ∷ fixed_arc rest (each +ℤ pos 1) ∷ []) (fixed_arc units each ∷ [])) (sym (test_no (pos 0) rest (omega (arith, ints))))
+      ap (λ u. fixed_arc u (to_z w64 (of_z w64 each)) ∷ []) (to_z-of_z w64 units fu)
+      ∙ ap (λ p. fixed_arc units p ∷ []) (to_z-of_z w64 each fe)
+      ∙ ap (λ b. cond b (fixed_arc (units -ℤ rest) each ∷ fixed_arc rest (each +ℤ pos 1) ∷ [])
+      (fixed_arc units each ∷ [])) (sym (test_no (pos 0) rest (omega (arith, ints))))
       ∙ floor_arcs units cost each rest lt f
 
-  pub two_fixed : (of_z w64 rest ≡ 0 → ⊥) → fixed_arc (to_z w64 (of_z w64 (to_z w64 (of_z w64 units) -ℤ to_z w64 (of_z w64 rest)))) (to_z w64 (of_z w64 each)) ∷ fixed_arc (to_z w64 (of_z w64 rest)) (to_z w64 (of_z w64 each) +ℤ pos 1) ∷ [] ≡ fixed_arcs units cost
+  pub two_fixed : (of_z w64 rest ≡ 0 → ⊥)
+      → fixed_arc (to_z w64 (of_z w64 (to_z w64 (of_z w64 units) -ℤ to_z w64 (of_z w64 rest))))
+      (to_z w64 (of_z w64 each)) ∷ fixed_arc (to_z w64 (of_z w64 rest))
+      (to_z w64 (of_z w64 each) +ℤ pos 1) ∷ [] ≡ fixed_arcs units cost
   two_fixed z =
       let lt = not_zero units fu nonzero some in
       let left = not_zero rest fr z f.low in
       let e2 = ap (λ z. to_z w64 (of_z w64 z)) lower_is ∙ to_z-of_z w64 (units -ℤ rest) lower_fits in
-      ap (λ u. fixed_arc u (to_z w64 (of_z w64 each)) ∷ fixed_arc (to_z w64 (of_z w64 rest)) (to_z w64 (of_z w64 each) +ℤ pos 1) ∷ []) e2
-      ∙ ap (λ p. fixed_arc (units -ℤ rest) p ∷ fixed_arc (to_z w64 (of_z w64 rest)) (p +ℤ pos 1) ∷ []) (to_z-of_z w64 each fe)
+      ap (λ u. fixed_arc u (to_z w64 (of_z w64 each)) ∷ fixed_arc (to_z w64 (of_z w64 rest))
+      (to_z w64 (of_z w64 each) +ℤ pos 1) ∷ []) e2
+      ∙ ap (λ p. fixed_arc (units -ℤ rest) p ∷ fixed_arc (to_z w64 (of_z w64 rest)) (p +ℤ pos 1) ∷ [])
+      (to_z-of_z w64 each fe)
       ∙ ap (λ r. fixed_arc (units -ℤ rest) each ∷ fixed_arc r (each +ℤ pos 1) ∷ []) (to_z-of_z w64 rest fr)
-      ∙ ap (λ b. cond b (fixed_arc (units -ℤ rest) each ∷ fixed_arc rest (each +ℤ pos 1) ∷ []) (fixed_arc units each ∷ [])) (sym (test_yes (pos 0) rest left))
+      ∙ ap (λ b. cond b (fixed_arc (units -ℤ rest) each ∷ fixed_arc rest (each +ℤ pos 1) ∷ [])
+      (fixed_arc units each ∷ [])) (sym (test_yes (pos 0) rest left))
       ∙ floor_arcs units cost each rest lt f
 
 pub zero_is : (z : ℤ) → z ≡ pos 0 → of_z w64 z ≡ 0

@@ -33,22 +33,27 @@ most (pos n) f = omega (arith, ints, f.sfits)
 most (negsuc n) f = omega (arith, ints)
 
 -- a curve whose numbers do not change does not change
-pub same_curve : (old new : Shape) (s : AreSound (numbers_of old)) (t : AreSound (numbers_of new)) → numbers_of new ≡ numbers_of old → curve_of new t ≡ curve_of old s
+pub same_curve : (old new : Shape) (s : AreSound (numbers_of old)) (t : AreSound (numbers_of new))
+    → numbers_of new ≡ numbers_of old → curve_of new t ≡ curve_of old s
 same_curve old new s t e = same_numbers _ _ (ap (λ (n : Numbers). (n.units, (n.cost, (n.total, n.steps)))) e)
 
 -- the costs fit 64 bits
 abbrev pub CostsFit : List (ℤ × ℤ) → Type 0
 CostsFit steps = AllByRecursion (λ (step : ℤ × ℤ). FitsSigned w64 step.0) steps
 
-fit_put : (steps : List (ℤ × ℤ)) (more : ℤ × ℤ) → FitsSigned w64 more.0 → CostsFit steps → CostsFit (put_step steps more)
+fit_put : (steps : List (ℤ × ℤ)) (more : ℤ × ℤ) → FitsSigned w64 more.0 → CostsFit steps
+    → CostsFit (put_step steps more)
 fit_put [] more f g = (f, tt)
 fit_put (step ∷ rest) more f g =
-    by_test CostsFit more.0 step.0 (more ∷ step ∷ rest) (cond (int_lt step.0 more.0) (step ∷ put_step rest more) ((step.0, step.1 +ℤ more.1) ∷ rest))
+    by_test CostsFit more.0 step.0 (more ∷ step ∷ rest)
+    (cond (int_lt step.0 more.0) (step ∷ put_step rest more) ((step.0, step.1 +ℤ more.1) ∷ rest))
     (λ lt. (f, g))
-    (λ le. by_test CostsFit step.0 more.0 (step ∷ put_step rest more) ((step.0, step.1 +ℤ more.1) ∷ rest) (λ lt. (g.0, fit_put rest more f g.1)) (λ ge. g))
+    (λ le. by_test CostsFit step.0 more.0 (step ∷ put_step rest more) ((step.0, step.1 +ℤ more.1) ∷ rest)
+    (λ lt. (g.0, fit_put rest more f g.1)) (λ ge. g))
 
 -- a curve, an arc, and the total capacity with the arc
-module _ (units cost total : ℤ) (steps : List (ℤ × ℤ)) (a : CostArc) (total' : ℤ) (s : IsSound units cost total steps) (h : IsCostArc a) (e : total' ≡ total +ℤ a.cap) (ft : FitsSigned w64 total') where
+module _ (units cost total : ℤ) (steps : List (ℤ × ℤ)) (a : CostArc) (total' : ℤ) (s : IsSound units cost total steps)
+    (h : IsCostArc a) (e : total' ≡ total +ℤ a.cap) (ft : FitsSigned w64 total') where
   pub units_most : (units +ℤ a.low) ≤ℤ pos (2 ^ 63 - 1)
   units_most =
       let whole = s.whole in
@@ -79,17 +84,21 @@ module _ (units cost total : ℤ) (steps : List (ℤ × ℤ)) (a : CostArc) (tot
   added : SameAbove (map step_arc (add_step steps more)) (free_arc a.cost (a.cap -ℤ a.low) ∷ map step_arc steps)
   added =
       let room = h.room in
-      by_test (λ (l : List (ℤ × ℤ)). SameAbove (map step_arc l) (free_arc a.cost (a.cap -ℤ a.low) ∷ map step_arc steps)) (pos 0) (a.cap -ℤ a.low) (put_step steps more) steps
+      by_test (λ (l : List (ℤ × ℤ)). SameAbove (map step_arc l) (free_arc a.cost (a.cap -ℤ a.low) ∷ map step_arc steps))
+      (pos 0) (a.cap -ℤ a.low) (put_step steps more) steps
       (λ lt. put_above steps more (omega (arith, ints)) s.rising)
       (λ le. above_meaning.same_sym _ _ (above_none a.cost (a.cap -ℤ a.low) (map step_arc steps) (omega (arith, ints))))
 
   rises : AreSteps (add_step steps more)
-  rises = by_test AreSteps (pos 0) (a.cap -ℤ a.low) (put_step steps more) steps (λ lt. put_steps steps more (omega (arith, ints)) s.rising) (λ le. s.rising)
+  rises =
+      by_test AreSteps (pos 0) (a.cap -ℤ a.low) (put_step steps more) steps
+      (λ lt. put_steps steps more (omega (arith, ints)) s.rising) (λ le. s.rising)
 
   rooms : steps_room (add_step steps more) ≡ steps_room steps +ℤ (a.cap -ℤ a.low)
   rooms =
       let room = h.room in
-      by_test (λ (l : List (ℤ × ℤ)). steps_room l ≡ steps_room steps +ℤ (a.cap -ℤ a.low)) (pos 0) (a.cap -ℤ a.low) (put_step steps more) steps (λ lt. put_room steps more) (λ le. omega (arith, ints))
+      by_test (λ (l : List (ℤ × ℤ)). steps_room l ≡ steps_room steps +ℤ (a.cap -ℤ a.low)) (pos 0) (a.cap -ℤ a.low)
+      (put_step steps more) steps (λ lt. put_room steps more) (λ le. omega (arith, ints))
 
   module _ (fk : FitsSigned w64 a.cost) where
     grown : IsSound (units +ℤ a.low) (cost +ℤ (a.low *ℤ a.cost)) total' (add_step steps more)
@@ -104,11 +113,14 @@ module _ (units cost total : ℤ) (steps : List (ℤ × ℤ)) (a : CostArc) (tot
           whole = omega (arith, ints);
           most = most total' ft;
           rising = rises;
-          fit = by_test CostsFit (pos 0) (a.cap -ℤ a.low) (put_step steps more) steps (λ lt. fit_put steps more fk s.fit) (λ le. s.fit);
+          fit =
+              by_test CostsFit (pos 0) (a.cap -ℤ a.low) (put_step steps more) steps (λ lt. fit_put steps more fk s.fit)
+              (λ le. s.fit);
         }
 
     -- the values as the code stores them
-    module _ (u c t : ℤ) (l : List (ℤ × ℤ)) (eu : u ≡ units +ℤ a.low) (ec : c ≡ cost +ℤ (a.low *ℤ a.cost)) (et : t ≡ total') (el : l ≡ add_step steps more) where
+    module _ (u c t : ℤ) (l : List (ℤ × ℤ)) (eu : u ≡ units +ℤ a.low) (ec : c ≡ cost +ℤ (a.low *ℤ a.cost))
+        (et : t ≡ total') (el : l ≡ add_step steps more) where
       pub grown_sound : IsSound u c t l
       grown_sound =
           subst (λ z. IsSound z c t l) (sym eu) (subst (λ z. IsSound (units +ℤ a.low) z t l) (sym ec)
@@ -118,31 +130,45 @@ module _ (units cost total : ℤ) (steps : List (ℤ × ℤ)) (a : CostArc) (tot
       pub grown_same : SameCurve (told One u c l) (told One units cost steps ++ a ∷ [])
       grown_same =
           let n = grown_sound in
-          told_added units cost u c steps l a s.some (none_is units cost total steps s) s.rising n.some (none_is u c t l n) n.rising eu ec
-          (subst (λ z. SameAbove (map step_arc z) (free_arc a.cost (a.cap -ℤ a.low) ∷ map step_arc steps)) (sym el) added)
+          told_added units cost u c steps l a s.some (none_is units cost total steps s) s.rising n.some
+          (none_is u c t l n) n.rising eu ec
+          (subst (λ z. SameAbove (map step_arc z) (free_arc a.cost (a.cap -ℤ a.low) ∷ map step_arc steps))
+          (sym el) added)
 
   -- the breakpoint that the code makes of the arc
-  pub step_is : FitsSigned w64 a.cost → FitsSigned w64 a.low → FitsSigned w64 a.cap → (to_z w64 (of_z w64 a.cost), to_z w64 (of_z w64 (to_z w64 (of_z w64 a.cap) -ℤ to_z w64 (of_z w64 a.low)))) ≡ more
+  pub step_is : FitsSigned w64 a.cost → FitsSigned w64 a.low → FitsSigned w64 a.cap
+      → (
+        to_z w64 (of_z w64 a.cost),
+        to_z w64
+            (of_z w64 (to_z w64 (of_z w64 a.cap) -ℤ to_z w64 (of_z w64 a.low))),
+      ) ≡ more
   step_is f g k =
-      ap (λ z. (z, to_z w64 (of_z w64 (to_z w64 (of_z w64 a.cap) -ℤ to_z w64 (of_z w64 a.low))))) (to_z-of_z w64 a.cost f)
-      ∙ ap (λ z. (a.cost, z)) ((rw (to_z-of_z w64 a.cap k, to_z-of_z w64 a.low g) refl) ∙ to_z-of_z w64 (a.cap -ℤ a.low) room_fits)
+      ap (λ z. (z, to_z w64 (of_z w64 (to_z w64 (of_z w64 a.cap) -ℤ to_z w64 (of_z w64 a.low)))))
+      (to_z-of_z w64 a.cost f)
+      ∙ ap (λ z. (a.cost, z))
+      ((rw (to_z-of_z w64 a.cap k, to_z-of_z w64 a.low g) refl) ∙ to_z-of_z w64 (a.cap -ℤ a.low) room_fits)
 
-  pub units_are : FitsSigned w64 units → FitsSigned w64 a.low → to_z w64 (of_z w64 (to_z w64 (of_z w64 units) +ℤ to_z w64 (of_z w64 a.low))) ≡ units +ℤ a.low
+  pub units_are : FitsSigned w64 units → FitsSigned w64 a.low
+      → to_z w64 (of_z w64 (to_z w64 (of_z w64 units) +ℤ to_z w64 (of_z w64 a.low))) ≡ units +ℤ a.low
   units_are f g = (rw (to_z-of_z w64 units f, to_z-of_z w64 a.low g) refl) ∙ to_z-of_z w64 (units +ℤ a.low) units_fit
 
 -- the numbers of a curve, an arc, and the total capacity with the arc
-module _ (old new : Numbers) (a : CostArc) (total : ℤ) (s : AreSound old) (h : IsCostArc a) (e : total ≡ old.total +ℤ a.cap) (f : FitsSigned w64 total) (fk : FitsSigned w64 a.cost) where
+module _ (old new : Numbers) (a : CostArc) (total : ℤ) (s : AreSound old) (h : IsCostArc a)
+    (e : total ≡ old.total +ℤ a.cap) (f : FitsSigned w64 total) (fk : FitsSigned w64 a.cost) where
   -- numbers to which the arc was added mean one more arc
-  pub taken_same : IsGrown old a new → SameCurve (told One new.units new.cost new.steps) (told One old.units old.cost old.steps ++ a ∷ [])
+  pub taken_same : IsGrown old a new
+      → SameCurve (told One new.units new.cost new.steps) (told One old.units old.cost old.steps ++ a ∷ [])
   taken_same g = grown_same old.units old.cost old.total old.steps a total s h e f fk new.units new.cost new.total new.steps g.units g.cost (g.total ∙ sym e) g.steps
 
   -- the numbers are valid, whether the arc was added or they have not changed
-  pub taken_sound : {E : Type 0} (r : Result (Unit {0}) E) → OnOk r (IsGrown old a new) → OnErr r (new ≡ old) → AreSound new
+  pub taken_sound : {E : Type 0} (r : Result (Unit {0}) E) → OnOk r (IsGrown old a new) → OnErr r (new ≡ old)
+      → AreSound new
   taken_sound (Ok x) ok err = grown_sound old.units old.cost old.total old.steps a total s h e f fk new.units new.cost new.total new.steps ok.units ok.cost (ok.total ∙ sym e) ok.steps
   taken_sound (Err x) ok err = subst AreSound (sym err) s
 
 -- the total capacity with one more arc
-pushed : (units cost total : ℤ) (steps : List (ℤ × ℤ)) (a : CostArc) → IsSound units cost total steps → cost_cap (told One units cost steps ++ a ∷ []) ≡ total +ℤ a.cap
+pushed : (units cost total : ℤ) (steps : List (ℤ × ℤ)) (a : CostArc) → IsSound units cost total steps
+    → cost_cap (told One units cost steps ++ a ∷ []) ≡ total +ℤ a.cap
 pushed units cost total steps a s =
     let e = cost_kind.capacity_append (told One units cost steps) (a ∷ []) in
     let f = sound_cap units cost total steps s One in
@@ -152,7 +178,10 @@ two_are : (a b : ℤ) → FitsSigned w64 a → FitsSigned w64 b → to_z w64 (of
 two_are a b f g = rw (to_z-of_z w64 a f, to_z-of_z w64 b g) refl
 
 -- if the sum does not fit, the capacities sum to more than 2^63-1
-pub too_much : (units cost total : ℤ) (steps : List (ℤ × ℤ)) (a : CostArc) → IsSound units cost total steps → IsCostArc a → FitsSigned w64 total → FitsSigned w64 a.cap → (FitsSigned w64 (to_z w64 (of_z w64 total) +ℤ to_z w64 (of_z w64 a.cap)) → ⊥) → pos (2 ^ 63 - 1) <ℤ cost_cap (told One units cost steps ++ a ∷ [])
+pub too_much : (units cost total : ℤ) (steps : List (ℤ × ℤ)) (a : CostArc) → IsSound units cost total steps
+    → IsCostArc a → FitsSigned w64 total → FitsSigned w64 a.cap
+    → (FitsSigned w64 (to_z w64 (of_z w64 total) +ℤ to_z w64 (of_z w64 a.cap)) → ⊥)
+    → pos (2 ^ 63 - 1) <ℤ cost_cap (told One units cost steps ++ a ∷ [])
 too_much units cost total steps a s h f g n =
     let whole = s.whole in
     let left = steps_some steps s.rising in
@@ -160,10 +189,16 @@ too_much units cost total steps a s h f g n =
     let low = h.some in
     let room = h.room in
     subst (λ z. pos (2 ^ 63 - 1) <ℤ z) (sym (pushed units cost total steps a s))
-    (by_lt_z (pos (2 ^ 63 - 1)) (total +ℤ a.cap) (λ lt. lt) (λ le. absurd (n (subst (FitsSigned w64) (sym (two_are total a.cap f g)) (fits_some (total +ℤ a.cap) (omega (arith, ints)) le)))))
+    (by_lt_z (pos (2 ^ 63 - 1)) (total +ℤ a.cap) (λ lt. lt)
+    (λ le. absurd
+    (n (subst (FitsSigned w64) (sym (two_are total a.cap f g))
+    (fits_some (total +ℤ a.cap) (omega (arith, ints)) le)))))
 
 -- if the sum fits, the capacities do not sum to more than 2^63-1
-pub not_too_much : (units cost total : ℤ) (steps : List (ℤ × ℤ)) (a : CostArc) → IsSound units cost total steps → FitsSigned w64 total → FitsSigned w64 a.cap → FitsSigned w64 (to_z w64 (of_z w64 total) +ℤ to_z w64 (of_z w64 a.cap)) → pos (2 ^ 63 - 1) <ℤ cost_cap (told One units cost steps ++ a ∷ []) → ⊥
+pub not_too_much : (units cost total : ℤ) (steps : List (ℤ × ℤ)) (a : CostArc) → IsSound units cost total steps
+    → FitsSigned w64 total → FitsSigned w64 a.cap
+    → FitsSigned w64 (to_z w64 (of_z w64 total) +ℤ to_z w64 (of_z w64 a.cap))
+    → pos (2 ^ 63 - 1) <ℤ cost_cap (told One units cost steps ++ a ∷ []) → ⊥
 not_too_much units cost total steps a s f g fits n =
     let e = pushed units cost total steps a s in
     let m = most (total +ℤ a.cap) (subst (FitsSigned w64) (two_are total a.cap f g) fits) in

@@ -42,37 +42,47 @@ has_other c a (b ∷ rest) h =
     (λ gt. ap (λ l. has_arc l c) (join_past a b rest gt) ∙ ap (λ v. int_eq c b.cost || v) (has_other c a rest h))
 
 -- inserting an arc adds one arc, unless there is one of its cost
-count_join : (a : CostArc) (arcs : List CostArc) → AreRising arcs → length (join_arc a arcs) ≡ length arcs + one_unless (has_arc arcs a.cost)
+count_join : (a : CostArc) (arcs : List CostArc) → AreRising arcs
+    → length (join_arc a arcs) ≡ length arcs + one_unless (has_arc arcs a.cost)
 count_join a [] r = refl
 count_join a (b ∷ rest) r =
     by_order a.cost b.cost
     (λ lt.
-    let none : one_unless (has_arc (b ∷ rest) a.cost) ≡ 1 = ap one_unless (none_has a.cost (b ∷ rest) (lt, above_lower a.cost b.cost rest lt r.0)) in
+    let none : one_unless (has_arc (b ∷ rest) a.cost) ≡ 1 =
+    ap one_unless (none_has a.cost (b ∷ rest) (lt, above_lower a.cost b.cost rest lt r.0)) in
     let e = ap length (join_before a b rest lt) in
     omega (arith, e, none))
     (λ eq.
-    let there : one_unless (has_arc (b ∷ rest) a.cost) ≡ 0 = ap (λ v. one_unless (v || has_arc rest a.cost)) (eq_yes a.cost b.cost eq) in
+    let there : one_unless (has_arc (b ∷ rest) a.cost) ≡ 0 =
+    ap (λ v. one_unless (v || has_arc rest a.cost)) (eq_yes a.cost b.cost eq) in
     let e = ap length (join_at a b rest eq) in
     omega (arith, e, there))
     (λ gt.
-    let same : one_unless (has_arc (b ∷ rest) a.cost) ≡ one_unless (has_arc rest a.cost) = ap (λ v. one_unless (v || has_arc rest a.cost)) (eq_past a.cost b.cost gt) in
+    let same : one_unless (has_arc (b ∷ rest) a.cost) ≡ one_unless (has_arc rest a.cost) =
+    ap (λ v. one_unless (v || has_arc rest a.cost)) (eq_past a.cost b.cost gt) in
     let e = ap length (join_past a b rest gt) in
     let i = count_join a rest r.1 in
     omega (arith, e, i, same))
 
 -- how many arcs form 2 has, by its fixed arcs
-module _ (units cost total : ℤ) (steps : List (ℤ × ℤ)) (s : IsSound units cost total steps) (len : ℕ) (len_is : len ≡ length steps) where
+module _ (units cost total : ℤ) (steps : List (ℤ × ℤ)) (s : IsSound units cost total steps) (len : ℕ)
+    (len_is : len ≡ length steps) where
   steps_len : length (map step_arc steps) ≡ length steps
   steps_len = length-map steps step_arc
 
-  pub len_with_one : (u c : ℤ) (more : ℕ) → fixed_arc u c ∷ [] ≡ fixed_arcs units cost → more ≡ one_unless (has_step steps c) → len + more ≡ length (told Two units cost steps)
+  pub len_with_one : (u c : ℤ) (more : ℕ) → fixed_arc u c ∷ [] ≡ fixed_arcs units cost
+      → more ≡ one_unless (has_step steps c) → len + more ≡ length (told Two units cost steps)
   len_with_one u c more e m =
       let n = count_join (fixed_arc u c) (map step_arc steps) (free_arcs steps s.rising).rising in
-      let h : one_unless (has_arc (map step_arc steps) c) ≡ one_unless (has_step steps c) = ap one_unless (has_steps steps c) in
+      let h : one_unless (has_arc (map step_arc steps) c) ≡ one_unless (has_step steps c) =
+      ap one_unless (has_steps steps c) in
       let k = steps_len in
-      (let sum : len + more ≡ length (join_arc (fixed_arc u c) (map step_arc steps)) = omega (arith, n, h, k, m, len_is) in sum) ∙ ap (λ l. length (join_arcs l (map step_arc steps))) e
+      (let sum : len + more ≡ length (join_arc (fixed_arc u c) (map step_arc steps)) =
+      omega (arith, n, h, k, m, len_is) in sum) ∙ ap (λ l. length (join_arcs l (map step_arc steps))) e
 
-  pub len_with_two : (u c v : ℤ) (more next : ℕ) → fixed_arc u c ∷ fixed_arc v (c +ℤ pos 1) ∷ [] ≡ fixed_arcs units cost → more ≡ one_unless (has_step steps c) → next ≡ one_unless (has_step steps (c +ℤ pos 1)) → (len + more) + next ≡ length (told Two units cost steps)
+  pub len_with_two : (u c v : ℤ) (more next : ℕ) → fixed_arc u c ∷ fixed_arc v (c +ℤ pos 1) ∷ [] ≡ fixed_arcs units cost
+      → more ≡ one_unless (has_step steps c) → next ≡ one_unless (has_step steps (c +ℤ pos 1))
+      → (len + more) + next ≡ length (told Two units cost steps)
   len_with_two u c v more next e m w =
       let free = map step_arc steps in
       let a = fixed_arc u c in
@@ -80,8 +90,11 @@ module _ (units cost total : ℤ) (steps : List (ℤ × ℤ)) (s : IsSound units
       let rising = (free_arcs steps s.rising).rising in
       let inner = count_join b free rising in
       let outer = count_join a (join_arc b free) (joined_rising b free rising) in
-      let h : one_unless (has_arc free (c +ℤ pos 1)) ≡ one_unless (has_step steps (c +ℤ pos 1)) = ap one_unless (has_steps steps (c +ℤ pos 1)) in
+      let h : one_unless (has_arc free (c +ℤ pos 1)) ≡ one_unless (has_step steps (c +ℤ pos 1)) =
+      ap one_unless (has_steps steps (c +ℤ pos 1)) in
       let up : c <ℤ (c +ℤ pos 1) = omega (arith, ints) in
-      let g : one_unless (has_arc (join_arc b free) c) ≡ one_unless (has_step steps c) = ap one_unless (has_other c b free up ∙ has_steps steps c) in
+      let g : one_unless (has_arc (join_arc b free) c) ≡ one_unless (has_step steps c) =
+      ap one_unless (has_other c b free up ∙ has_steps steps c) in
       let k = steps_len in
-      (let sum : (len + more) + next ≡ length (join_arc a (join_arc b free)) = omega (arith, inner, outer, h, g, k, m, w, len_is) in sum) ∙ ap (λ l. length (join_arcs l free)) e
+      (let sum : (len + more) + next ≡ length (join_arc a (join_arc b free)) =
+      omega (arith, inner, outer, h, g, k, m, w, len_is) in sum) ∙ ap (λ l. length (join_arcs l free)) e

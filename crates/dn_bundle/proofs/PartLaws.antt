@@ -39,24 +39,31 @@ record IsFirstGap (amount cost : ℤ) (left right : List (ℤ × ℤ)) (g : Gap)
   pub below : (x : ℤ) → x <ℤ g.amount → SameAt amount cost left amount cost right x
 
 -- the cost of the next amount
-next_cost : (amount cost : ℤ) (steps : List (ℤ × ℤ)) → AreSteps steps → IsCostAt amount cost steps (amount +ℤ pos 1) (unit_cost cost (slice_get steps 0))
+next_cost : (amount cost : ℤ) (steps : List (ℤ × ℤ)) → AreSteps steps
+    → IsCostAt amount cost steps (amount +ℤ pos 1) (unit_cost cost (slice_get steps 0))
 next_cost amount cost [] s = λ k p. let high = p.high in omega (arith, ints)
 next_cost amount cost (step ∷ rest) s =
     let some = s.0 in
     subst (IsAt amount cost (step ∷ rest) (amount +ℤ pos 1))
-    (let one : (amount +ℤ pos 1) -ℤ amount ≡ pos 1 = omega (arith, ints) in ap (λ z. cost +ℤ (z *ℤ step.0)) one ∙ ap (λ z. cost +ℤ z) (let e : pos 1 *ℤ step.0 ≡ step.0 = omega (arith, ints) in e))
+    (let one : (amount +ℤ pos 1) -ℤ amount ≡ pos 1 = omega (arith, ints) in
+    ap (λ z. cost +ℤ (z *ℤ step.0)) one ∙ ap (λ z. cost +ℤ z)
+    (let e : pos 1 *ℤ step.0 ≡ step.0 = omega (arith, ints) in e))
     (at_here amount cost step rest (amount +ℤ pos 1) s.2 (omega (arith, ints)) (omega (arith, ints)))
 
 -- the costs up to this amount are the same on both sides
-start_same : (amount cost : ℤ) (left right : List (ℤ × ℤ)) → AreSteps left → AreSteps right → (x k : ℤ) → x <ℤ (amount +ℤ pos 1) → IsAt amount cost left x k → IsAt amount cost right x k
+start_same : (amount cost : ℤ) (left right : List (ℤ × ℤ)) → AreSteps left → AreSteps right → (x k : ℤ)
+    → x <ℤ (amount +ℤ pos 1) → IsAt amount cost left x k → IsAt amount cost right x k
 start_same amount cost left right sl sr x k h p =
     let low = p.low in
     let e : x ≡ amount = omega (arith, ints) in
     let q = subst (λ z. IsAt amount cost left z k) e p in
     let is = at_one amount cost left amount cost k (at_start amount cost left sl) q in
-    subst (λ z. IsAt amount cost right z k) (sym e) (subst (IsAt amount cost right amount) is (at_start amount cost right sr))
+    subst (λ z. IsAt amount cost right z k) (sym e)
+    (subst (IsAt amount cost right amount) is (at_start amount cost right sr))
 
-gap_now : (amount cost : ℤ) (left right : List (ℤ × ℤ)) → AreSteps left → AreSteps right → unit_cost cost (slice_get left 0) ≢ unit_cost cost (slice_get right 0) → IsFirstGap amount cost left right (gap_next amount cost (slice_get left 0) (slice_get right 0))
+gap_now : (amount cost : ℤ) (left right : List (ℤ × ℤ)) → AreSteps left → AreSteps right
+    → unit_cost cost (slice_get left 0) ≢ unit_cost cost (slice_get right 0)
+    → IsFirstGap amount cost left right (gap_next amount cost (slice_get left 0) (slice_get right 0))
 gap_now amount cost left right sl sr n = record {
   past = omega (arith, ints);
   left_is = next_cost amount cost left sl;
@@ -65,12 +72,15 @@ gap_now amount cost left right sl sr n = record {
   below = λ x h k. (start_same amount cost left right sl sr x k h, start_same amount cost right left sr sl x k h);
 }
 
-cost_at_same : (amount cost : ℤ) (steps : List (ℤ × ℤ)) (amount' cost' : ℤ) (steps' : List (ℤ × ℤ)) (x : ℤ) (o : Option ℤ) → SameAt amount cost steps amount' cost' steps' x → IsCostAt amount' cost' steps' x o → IsCostAt amount cost steps x o
+cost_at_same : (amount cost : ℤ) (steps : List (ℤ × ℤ)) (amount' cost' : ℤ) (steps' : List (ℤ × ℤ)) (x : ℤ)
+    (o : Option ℤ) → SameAt amount cost steps amount' cost' steps' x → IsCostAt amount' cost' steps' x o
+    → IsCostAt amount cost steps x o
 cost_at_same amount cost steps amount' cost' steps' x None s c = λ k p. c k ((s k).0 p)
 cost_at_same amount cost steps amount' cost' steps' x (Some k) s c = (s k).1 c
 
 -- a gap beyond breakpoints that cost the same on both sides
-module _ (amount cost : ℤ) (left right : List (ℤ × ℤ)) (amount' cost' : ℤ) (left' right' : List (ℤ × ℤ)) (on : amount ≤ℤ amount')
+module _ (amount cost : ℤ) (left right : List (ℤ × ℤ)) (amount' cost' : ℤ) (left' right' : List (ℤ × ℤ))
+    (on : amount ≤ℤ amount')
     (sl : (x : ℤ) → amount' <ℤ x → SameAt amount cost left amount' cost' left' x)
     (sr : (x : ℤ) → amount' <ℤ x → SameAt amount cost right amount' cost' right' x)
     (within : (x : ℤ) → x ≤ℤ amount' → SameAt amount cost left amount cost right x) where
@@ -84,7 +94,10 @@ module _ (amount cost : ℤ) (left right : List (ℤ × ℤ)) (amount' cost' : �
         differ = f.differ;
         below = λ x lt k.
             by_lt_z amount' x
-            (λ up. ((λ p. (sr x up k).1 ((f.below x lt k).0 ((sl x up k).0 p))), (λ p. (sl x up k).1 ((f.below x lt k).1 ((sr x up k).0 p)))))
+            (λ up. (
+              (λ p. (sr x up k).1 ((f.below x lt k).0 ((sl x up k).0 p))),
+              (λ p. (sl x up k).1 ((f.below x lt k).1 ((sr x up k).0 p))),
+            ))
             (λ le. within x le k);
       }
 
@@ -102,21 +115,30 @@ split d s c =
 
 module _ (amount cost : ℤ) (step : ℤ × ℤ) (rest : List (ℤ × ℤ)) (s : AreSteps rest) where
   -- the cost of an amount within the first breakpoint
-  here_is : (x k : ℤ) → (x -ℤ amount) ≤ℤ step.1 → IsAt amount cost (step ∷ rest) x k → k ≡ cost +ℤ ((x -ℤ amount) *ℤ step.0)
+  here_is : (x k : ℤ) → (x -ℤ amount) ≤ℤ step.1 → IsAt amount cost (step ∷ rest) x k
+      → k ≡ cost +ℤ ((x -ℤ amount) *ℤ step.0)
   here_is x k h p = at_one amount cost (step ∷ rest) x k _ p (at_here amount cost step rest x s p.low h)
 
   -- the costs beyond a part of the first breakpoint
-  cut_same : (d : ℤ) → pos 0 ≤ℤ d → d <ℤ step.1 → (x : ℤ) → (amount +ℤ d) <ℤ x → SameAt amount cost (step ∷ rest) (amount +ℤ d) (cost +ℤ (d *ℤ step.0)) (cut d step ∷ rest) x
+  cut_same : (d : ℤ) → pos 0 ≤ℤ d → d <ℤ step.1 → (x : ℤ) → (amount +ℤ d) <ℤ x
+      → SameAt amount cost (step ∷ rest) (amount +ℤ d) (cost +ℤ (d *ℤ step.0)) (cut d step ∷ rest) x
   cut_same d h l x u k =
       by_lt_z step.1 (x -ℤ amount)
       (λ lt.
       let over : (amount +ℤ step.1) <ℤ x = omega (arith, ints) in
       let end : (amount +ℤ d) +ℤ (step.1 -ℤ d) ≡ amount +ℤ step.1 = omega (arith, ints) in
-      let all : (cost +ℤ (d *ℤ step.0)) +ℤ ((step.1 -ℤ d) *ℤ step.0) ≡ cost +ℤ (step.1 *ℤ step.0) = let e = split d step.1 step.0 in omega (arith, ints) in
+      let all : (cost +ℤ (d *ℤ step.0)) +ℤ ((step.1 -ℤ d) *ℤ step.0) ≡ cost +ℤ (step.1 *ℤ step.0) = let e =
+      split d step.1 step.0 in omega (arith, ints) in
       let some : pos 1 ≤ℤ (step.1 -ℤ d) = omega (arith, ints) in
       let past : ((amount +ℤ d) +ℤ (step.1 -ℤ d)) <ℤ x = omega (arith, ints) in (
-        (λ p. more_at (amount +ℤ d) (cost +ℤ (d *ℤ step.0)) (cut d step) rest x some past k (subst (λ z. IsAt z ((cost +ℤ (d *ℤ step.0)) +ℤ ((step.1 -ℤ d) *ℤ step.0)) rest x k) (sym end) (subst (λ z. IsAt (amount +ℤ step.1) z rest x k) (sym all) (at_more amount cost step rest x (omega (arith, ints)) over k p)))),
-        (λ p. more_at amount cost step rest x (omega (arith, ints)) over k (subst (λ z. IsAt z (cost +ℤ (step.1 *ℤ step.0)) rest x k) end (subst (λ z. IsAt ((amount +ℤ d) +ℤ (step.1 -ℤ d)) z rest x k) all (at_more (amount +ℤ d) (cost +ℤ (d *ℤ step.0)) (cut d step) rest x some past k p)))),
+        (λ p. more_at (amount +ℤ d) (cost +ℤ (d *ℤ step.0)) (cut d step) rest x some past k
+            (subst (λ z. IsAt z ((cost +ℤ (d *ℤ step.0)) +ℤ ((step.1 -ℤ d) *ℤ step.0)) rest x k) (sym end)
+            (subst (λ z. IsAt (amount +ℤ step.1) z rest x k) (sym all)
+            (at_more amount cost step rest x (omega (arith, ints)) over k p)))),
+        (λ p. more_at amount cost step rest x (omega (arith, ints)) over k
+            (subst (λ z. IsAt z (cost +ℤ (step.1 *ℤ step.0)) rest x k) end
+            (subst (λ z. IsAt ((amount +ℤ d) +ℤ (step.1 -ℤ d)) z rest x k) all
+            (at_more (amount +ℤ d) (cost +ℤ (d *ℤ step.0)) (cut d step) rest x some past k p)))),
       ))
       (λ le.
       let all : (cost +ℤ (d *ℤ step.0)) +ℤ ((x -ℤ (amount +ℤ d)) *ℤ step.0) ≡ cost +ℤ ((x -ℤ amount) *ℤ step.0) =
@@ -124,25 +146,40 @@ module _ (amount cost : ℤ) (step : ℤ × ℤ) (rest : List (ℤ × ℤ)) (s :
       let f : (x -ℤ amount) -ℤ d ≡ x -ℤ (amount +ℤ d) = omega (arith, ints) in
       let g = ap (λ z. z *ℤ step.0) f in
       omega (arith, ints) in (
-        (λ p. subst (IsAt (amount +ℤ d) (cost +ℤ (d *ℤ step.0)) (cut d step ∷ rest) x) (all ∙ sym (here_is x k le p)) (at_here (amount +ℤ d) (cost +ℤ (d *ℤ step.0)) (cut d step) rest x s (omega (arith, ints)) (omega (arith, ints)))),
-        (λ p. subst (IsAt amount cost (step ∷ rest) x) (sym all ∙ sym (at_one (amount +ℤ d) (cost +ℤ (d *ℤ step.0)) (cut d step ∷ rest) x k _ p (at_here (amount +ℤ d) (cost +ℤ (d *ℤ step.0)) (cut d step) rest x s (omega (arith, ints)) (omega (arith, ints))))) (at_here amount cost step rest x s (omega (arith, ints)) le)),
+        (λ p. subst (IsAt (amount +ℤ d) (cost +ℤ (d *ℤ step.0)) (cut d step ∷ rest) x) (all ∙ sym (here_is x k le p))
+            (at_here (amount +ℤ d) (cost +ℤ (d *ℤ step.0)) (cut d step) rest x s (omega (arith, ints))
+            (omega (arith, ints)))),
+        (λ p. subst (IsAt amount cost (step ∷ rest) x)
+            (sym all ∙ sym
+            (at_one (amount +ℤ d) (cost +ℤ (d *ℤ step.0)) (cut d step ∷ rest) x k _ p
+            (at_here (amount +ℤ d) (cost +ℤ (d *ℤ step.0)) (cut d step) rest x s (omega (arith, ints))
+            (omega (arith, ints))))) (at_here amount cost step rest x s (omega (arith, ints)) le)),
       ))
 
 -- the costs beyond the first breakpoint
-past_same : (amount cost : ℤ) (step : ℤ × ℤ) (rest : List (ℤ × ℤ)) → pos 1 ≤ℤ step.1 → (x : ℤ) → (amount +ℤ step.1) <ℤ x → SameAt amount cost (step ∷ rest) (amount +ℤ step.1) (cost +ℤ (step.1 *ℤ step.0)) rest x
-past_same amount cost step rest some x u k = (at_more amount cost step rest x some u k, more_at amount cost step rest x some u k)
+past_same : (amount cost : ℤ) (step : ℤ × ℤ) (rest : List (ℤ × ℤ)) → pos 1 ≤ℤ step.1 → (x : ℤ) → (amount +ℤ step.1) <ℤ x
+    → SameAt amount cost (step ∷ rest) (amount +ℤ step.1) (cost +ℤ (step.1 *ℤ step.0)) rest x
+past_same amount cost step rest some x u k =
+    (at_more amount cost step rest x some u k, more_at amount cost step rest x some u k)
 
 -- within the first breakpoints of both sides, which have one cost, the costs are the same
-here_same : (amount cost : ℤ) (l r : ℤ × ℤ) (left right : List (ℤ × ℤ)) → AreSteps left → AreSteps right → l.0 ≡ r.0 → (x k : ℤ) → (x -ℤ amount) ≤ℤ l.1 → (x -ℤ amount) ≤ℤ r.1 → IsAt amount cost (l ∷ left) x k → IsAt amount cost (r ∷ right) x k
+here_same : (amount cost : ℤ) (l r : ℤ × ℤ) (left right : List (ℤ × ℤ)) → AreSteps left → AreSteps right → l.0 ≡ r.0
+    → (x k : ℤ) → (x -ℤ amount) ≤ℤ l.1 → (x -ℤ amount) ≤ℤ r.1 → IsAt amount cost (l ∷ left) x k
+    → IsAt amount cost (r ∷ right) x k
 here_same amount cost l r left right sl sr e x k h g p =
-    subst (IsAt amount cost (r ∷ right) x) (ap (λ z. cost +ℤ ((x -ℤ amount) *ℤ z)) (sym e) ∙ sym (here_is amount cost l left sl x k h p)) (at_here amount cost r right x sr p.low g)
+    subst (IsAt amount cost (r ∷ right) x)
+    (ap (λ z. cost +ℤ ((x -ℤ amount) *ℤ z)) (sym e) ∙ sym (here_is amount cost l left sl x k h p))
+    (at_here amount cost r right x sr p.low g)
 
 -- the breakpoint after one has a higher cost
-next_differs : (cost : ℤ) (step other : ℤ × ℤ) (rest : List (ℤ × ℤ)) → AreSteps (step ∷ rest) → step.0 ≡ other.0 → unit_cost cost (slice_get rest 0) ≢ unit_cost cost (Some other)
+next_differs : (cost : ℤ) (step other : ℤ × ℤ) (rest : List (ℤ × ℤ)) → AreSteps (step ∷ rest) → step.0 ≡ other.0
+    → unit_cost cost (slice_get rest 0) ≢ unit_cost cost (Some other)
 next_differs cost step other [] s e = λ h. cc
-next_differs cost step other (next ∷ rest) s e = λ h. let up = s.1.0 in let f = ap (λ o. unwrap_or o (pos 0)) h in omega (arith, ints)
+next_differs cost step other (next ∷ rest) s e = λ h. let up = s.1.0 in let f = ap (λ o. unwrap_or o (pos 0)) h in
+    omega (arith, ints)
 
-module _ (amount cost : ℤ) (l r : ℤ × ℤ) (left right : List (ℤ × ℤ)) (sl : AreSteps (l ∷ left)) (sr : AreSteps (r ∷ right)) where
+module _ (amount cost : ℤ) (l r : ℤ × ℤ) (left right : List (ℤ × ℤ)) (sl : AreSteps (l ∷ left))
+    (sr : AreSteps (r ∷ right)) where
   abbrev after : Option Gap
   after = first_gap (amount +ℤ l.1) (cost +ℤ (l.1 *ℤ l.0)) left right
 
@@ -153,65 +190,104 @@ module _ (amount cost : ℤ) (l r : ℤ × ℤ) (left right : List (ℤ × ℤ))
   right_ends = gap_next (amount +ℤ r.1) (cost +ℤ (r.1 *ℤ r.0)) (Some l) (slice_get right 0)
 
   abbrev tests : Bool → Bool → Bool → Option Gap
-  tests s t u = cond (s && t) after (Some (cond s (cond u left_ends right_ends) (gap_next amount cost (Some l) (Some r))))
+  tests s t u =
+      cond (s && t) after (Some (cond s (cond u left_ends right_ends) (gap_next amount cost (Some l) (Some r))))
 
   abbrev Found : Option Gap → Type 0
   Found o = MatchOption o ((l ∷ left) ≡ (r ∷ right)) (IsFirstGap amount cost (l ∷ left) (r ∷ right))
 
   apart_costs : (l.0 ≡ r.0 → ⊥) → IsFirstGap amount cost (l ∷ left) (r ∷ right) (gap_next amount cost (Some l) (Some r))
-  apart_costs n = gap_now amount cost (l ∷ left) (r ∷ right) sl sr (λ e. let f = ap (λ o. unwrap_or o (pos 0)) e in n (omega (arith, ints)))
+  apart_costs n =
+      gap_now amount cost (l ∷ left) (r ∷ right) sl sr
+      (λ e. let f = ap (λ o. unwrap_or o (pos 0)) e in n (omega (arith, ints)))
 
   left_first : l.0 ≡ r.0 → l.1 <ℤ r.1 → IsFirstGap amount cost (l ∷ left) (r ∷ right) left_ends
   left_first e h =
       let some = sl.0 in
       let rest : AreSteps (cut l.1 r ∷ right) = (omega (arith, ints), sr.1, sr.2) in
-      later amount cost (l ∷ left) (r ∷ right) (amount +ℤ l.1) (cost +ℤ (l.1 *ℤ l.0)) left (cut l.1 r ∷ right) (omega (arith, ints))
+      later amount cost (l ∷ left) (r ∷ right) (amount +ℤ l.1) (cost +ℤ (l.1 *ℤ l.0)) left (cut l.1 r ∷ right)
+      (omega (arith, ints))
       (past_same amount cost l left some)
-      (λ x u. subst (λ z. SameAt amount cost (r ∷ right) (amount +ℤ l.1) (cost +ℤ (l.1 *ℤ z)) (cut l.1 r ∷ right) x) (sym e) (cut_same amount cost r right sr.2 l.1 (omega (arith, ints)) h x u))
-      (λ x u k. (here_same amount cost l r left right sl.2 sr.2 e x k (omega (arith, ints)) (omega (arith, ints)), here_same amount cost r l right left sr.2 sl.2 (sym e) x k (omega (arith, ints)) (omega (arith, ints))))
-      left_ends (gap_now (amount +ℤ l.1) (cost +ℤ (l.1 *ℤ l.0)) left (cut l.1 r ∷ right) sl.2 rest (next_differs (cost +ℤ (l.1 *ℤ l.0)) l r left sl e))
+      (λ x u. subst (λ z. SameAt amount cost (r ∷ right) (amount +ℤ l.1) (cost +ℤ (l.1 *ℤ z)) (cut l.1 r ∷ right) x)
+      (sym e) (cut_same amount cost r right sr.2 l.1 (omega (arith, ints)) h x u))
+      (λ x u k. (
+        here_same amount cost l r left right sl.2 sr.2 e x k (omega (arith, ints))
+            (omega (arith, ints)),
+        here_same amount cost r l right left sr.2 sl.2 (sym e) x k (omega (arith, ints))
+            (omega (arith, ints)),
+      ))
+      left_ends
+      (gap_now (amount +ℤ l.1) (cost +ℤ (l.1 *ℤ l.0)) left (cut l.1 r ∷ right) sl.2 rest
+      (next_differs (cost +ℤ (l.1 *ℤ l.0)) l r left sl e))
 
   right_first : l.0 ≡ r.0 → r.1 <ℤ l.1 → IsFirstGap amount cost (l ∷ left) (r ∷ right) right_ends
   right_first e h =
       let some = sr.0 in
       let rest : AreSteps (cut r.1 l ∷ left) = (omega (arith, ints), sl.1, sl.2) in
-      later amount cost (l ∷ left) (r ∷ right) (amount +ℤ r.1) (cost +ℤ (r.1 *ℤ r.0)) (cut r.1 l ∷ left) right (omega (arith, ints))
-      (λ x u. subst (λ z. SameAt amount cost (l ∷ left) (amount +ℤ r.1) (cost +ℤ (r.1 *ℤ z)) (cut r.1 l ∷ left) x) e (cut_same amount cost l left sl.2 r.1 (omega (arith, ints)) h x u))
+      later amount cost (l ∷ left) (r ∷ right) (amount +ℤ r.1) (cost +ℤ (r.1 *ℤ r.0)) (cut r.1 l ∷ left) right
+      (omega (arith, ints))
+      (λ x u. subst (λ z. SameAt amount cost (l ∷ left) (amount +ℤ r.1) (cost +ℤ (r.1 *ℤ z)) (cut r.1 l ∷ left) x) e
+      (cut_same amount cost l left sl.2 r.1 (omega (arith, ints)) h x u))
       (past_same amount cost r right some)
-      (λ x u k. (here_same amount cost l r left right sl.2 sr.2 e x k (omega (arith, ints)) (omega (arith, ints)), here_same amount cost r l right left sr.2 sl.2 (sym e) x k (omega (arith, ints)) (omega (arith, ints))))
-      right_ends (gap_now (amount +ℤ r.1) (cost +ℤ (r.1 *ℤ r.0)) (cut r.1 l ∷ left) right rest sr.2 (λ f. next_differs (cost +ℤ (r.1 *ℤ r.0)) r l right sr (sym e) (sym f)))
+      (λ x u k. (
+        here_same amount cost l r left right sl.2 sr.2 e x k (omega (arith, ints))
+            (omega (arith, ints)),
+        here_same amount cost r l right left sr.2 sl.2 (sym e) x k (omega (arith, ints))
+            (omega (arith, ints)),
+      ))
+      right_ends
+      (gap_now (amount +ℤ r.1) (cost +ℤ (r.1 *ℤ r.0)) (cut r.1 l ∷ left) right rest sr.2
+      (λ f. next_differs (cost +ℤ (r.1 *ℤ r.0)) r l right sr (sym e) (sym f)))
 
-  both_end : l.0 ≡ r.0 → l.1 ≡ r.1 → (o : Option Gap) → MatchOption o (left ≡ right) (IsFirstGap (amount +ℤ l.1) (cost +ℤ (l.1 *ℤ l.0)) left right) → Found o
-  both_end e f None s = let same : l ≡ r = ap (λ z. (z, l.1)) e ∙ ap (λ z. (r.0, z)) f in ap (λ z. z ∷ left) same ∙ ap (λ z. r ∷ z) s
+  both_end : l.0 ≡ r.0 → l.1 ≡ r.1 → (o : Option Gap)
+      → MatchOption o (left ≡ right) (IsFirstGap (amount +ℤ l.1) (cost +ℤ (l.1 *ℤ l.0)) left right) → Found o
+  both_end e f None s = let same : l ≡ r = ap (λ z. (z, l.1)) e ∙ ap (λ z. (r.0, z)) f in
+      ap (λ z. z ∷ left) same ∙ ap (λ z. r ∷ z) s
   both_end e f (Some g) i =
       let some = sl.0 in
       later amount cost (l ∷ left) (r ∷ right) (amount +ℤ l.1) (cost +ℤ (l.1 *ℤ l.0)) left right (omega (arith, ints))
       (past_same amount cost l left some)
-      (subst (λ (z : ℤ × ℤ). (x : ℤ) → (amount +ℤ z.1) <ℤ x → SameAt amount cost (r ∷ right) (amount +ℤ z.1) (cost +ℤ (z.1 *ℤ z.0)) right x) (ap (λ z. (r.0, z)) (sym f) ∙ ap (λ z. (z, l.1)) (sym e)) (past_same amount cost r right sr.0))
-      (λ x u k. (here_same amount cost l r left right sl.2 sr.2 e x k (omega (arith, ints)) (omega (arith, ints)), here_same amount cost r l right left sr.2 sl.2 (sym e) x k (omega (arith, ints)) (omega (arith, ints))))
+      (subst
+      (λ (z : ℤ × ℤ). (x : ℤ) → (amount +ℤ z.1) <ℤ x
+      → SameAt amount cost (r ∷ right) (amount +ℤ z.1) (cost +ℤ (z.1 *ℤ z.0)) right x)
+      (ap (λ z. (r.0, z)) (sym f) ∙ ap (λ z. (z, l.1)) (sym e)) (past_same amount cost r right sr.0))
+      (λ x u k. (
+        here_same amount cost l r left right sl.2 sr.2 e x k (omega (arith, ints))
+            (omega (arith, ints)),
+        here_same amount cost r l right left sr.2 sl.2 (sym e) x k (omega (arith, ints))
+            (omega (arith, ints)),
+      ))
       g i
 
-  found_next : MatchOption after (left ≡ right) (IsFirstGap (amount +ℤ l.1) (cost +ℤ (l.1 *ℤ l.0)) left right) → Found (first_gap amount cost (l ∷ left) (r ∷ right))
+  found_next : MatchOption after (left ≡ right) (IsFirstGap (amount +ℤ l.1) (cost +ℤ (l.1 *ℤ l.0)) left right)
+      → Found (first_gap amount cost (l ∷ left) (r ∷ right))
   found_next i =
       by_order l.0 r.0
-      (λ lt. subst (λ s. Found (tests s (int_eq l.1 r.1) (int_lt l.1 r.1))) (sym (eq_below l.0 r.0 lt)) (apart_costs (λ e. omega (arith, ints))))
+      (λ lt. subst (λ s. Found (tests s (int_eq l.1 r.1) (int_lt l.1 r.1))) (sym (eq_below l.0 r.0 lt))
+      (apart_costs (λ e. omega (arith, ints))))
       (λ e.
       subst (λ s. Found (tests s (int_eq l.1 r.1) (int_lt l.1 r.1))) (sym (eq_yes l.0 r.0 e))
       (by_order l.1 r.1
-      (λ lt. subst (λ t. Found (tests true t (int_lt l.1 r.1))) (sym (eq_below l.1 r.1 lt)) (subst (λ u. Found (tests true false u)) (sym (test_yes l.1 r.1 lt)) (left_first e lt)))
+      (λ lt. subst (λ t. Found (tests true t (int_lt l.1 r.1))) (sym (eq_below l.1 r.1 lt))
+      (subst (λ u. Found (tests true false u)) (sym (test_yes l.1 r.1 lt)) (left_first e lt)))
       (λ f. subst (λ t. Found (tests true t (int_lt l.1 r.1))) (sym (eq_yes l.1 r.1 f)) (both_end e f after i))
-      (λ gt. subst (λ t. Found (tests true t (int_lt l.1 r.1))) (sym (eq_past l.1 r.1 gt)) (subst (λ u. Found (tests true false u)) (sym (test_no l.1 r.1 (omega (arith, ints)))) (right_first e gt)))))
-      (λ gt. subst (λ s. Found (tests s (int_eq l.1 r.1) (int_lt l.1 r.1))) (sym (eq_past l.0 r.0 gt)) (apart_costs (λ e. omega (arith, ints))))
+      (λ gt. subst (λ t. Found (tests true t (int_lt l.1 r.1))) (sym (eq_past l.1 r.1 gt))
+      (subst (λ u. Found (tests true false u)) (sym (test_no l.1 r.1 (omega (arith, ints)))) (right_first e gt)))))
+      (λ gt. subst (λ s. Found (tests s (int_eq l.1 r.1) (int_lt l.1 r.1))) (sym (eq_past l.0 r.0 gt))
+      (apart_costs (λ e. omega (arith, ints))))
 
 -- the gap that the search finds is the first gap, and if it finds none, the breakpoints are the same
-found : (amount cost : ℤ) (left right : List (ℤ × ℤ)) → AreSteps left → AreSteps right → MatchOption (first_gap amount cost left right) (left ≡ right) (IsFirstGap amount cost left right)
+found : (amount cost : ℤ) (left right : List (ℤ × ℤ)) → AreSteps left → AreSteps right
+    → MatchOption (first_gap amount cost left right) (left ≡ right) (IsFirstGap amount cost left right)
 found amount cost [] [] sl sr = refl
 found amount cost [] (r ∷ right) sl sr = gap_now amount cost [] (r ∷ right) sl sr (λ e. cc)
 found amount cost (l ∷ left) [] sl sr = gap_now amount cost (l ∷ left) [] sl sr (λ e. cc)
-found amount cost (l ∷ left) (r ∷ right) sl sr = found_next amount cost l r left right sl sr (found (amount +ℤ l.1) (cost +ℤ (l.1 *ℤ l.0)) left right sl.2 sr.2)
+found amount cost (l ∷ left) (r ∷ right) sl sr =
+    found_next amount cost l r left right sl sr (found (amount +ℤ l.1) (cost +ℤ (l.1 *ℤ l.0)) left right sl.2 sr.2)
 
 -- the costs of a curve, by its breakpoints
-cost_of_at : (units cost total : ℤ) (steps : List (ℤ × ℤ)) → IsSound units cost total steps → (x : ℤ) (o : Option ℤ) → IsCostAt units cost steps x o → IsCostOf (told One units cost steps) x o
+cost_of_at : (units cost total : ℤ) (steps : List (ℤ × ℤ)) → IsSound units cost total steps → (x : ℤ) (o : Option ℤ)
+    → IsCostAt units cost steps x o → IsCostOf (told One units cost steps) x o
 cost_of_at units cost total steps s x None c = λ k l. c k (least_at units cost total steps s x k l)
 cost_of_at units cost total steps s x (Some k) c = at_least units cost total steps s x k c
 
@@ -223,21 +299,34 @@ module _ (units cost total : ℤ) (steps : List (ℤ × ℤ)) (s : IsSound units
   below_units x k h l = too_little units cost steps x k h (least_at units cost total steps s x k l)
 
 -- the gap between two curves
-module _ (units cost total : ℤ) (steps : List (ℤ × ℤ)) (s : IsSound units cost total steps) (units' cost' total' : ℤ) (steps' : List (ℤ × ℤ)) (s' : IsSound units' cost' total' steps') where
-  pub left_gap : units <ℤ units' → IsGap (told One units cost steps) (told One units' cost' steps') (record { amount = units; left = Some cost; right = None })
+module _ (units cost total : ℤ) (steps : List (ℤ × ℤ)) (s : IsSound units cost total steps) (units' cost' total' : ℤ)
+    (steps' : List (ℤ × ℤ)) (s' : IsSound units' cost' total' steps') where
+  pub left_gap : units <ℤ units'
+      → IsGap (told One units cost steps) (told One units' cost' steps')
+      (record { amount = units; left = Some cost; right = None })
   left_gap h = record {
     left = at_units units cost total steps s;
     right = λ k l. below_units units' cost' total' steps' s' units k h l;
     differ = λ e. cc;
-    same_below = λ x k lt. ((λ l. absurd (below_units units cost total steps s x k lt l)), (λ l. absurd (below_units units' cost' total' steps' s' x k (omega (arith, ints)) l)));
+    same_below =
+        λ x k lt. (
+          (λ l. absurd (below_units units cost total steps s x k lt l)),
+          (λ l. absurd (below_units units' cost' total' steps' s' x k (omega (arith, ints)) l)),
+        );
   }
 
-  pub right_gap : units' <ℤ units → IsGap (told One units cost steps) (told One units' cost' steps') (record { amount = units'; left = None; right = Some cost' })
+  pub right_gap : units' <ℤ units
+      → IsGap (told One units cost steps) (told One units' cost' steps')
+      (record { amount = units'; left = None; right = Some cost' })
   right_gap h = record {
     left = λ k l. below_units units cost total steps s units' k h l;
     right = at_units units' cost' total' steps' s';
     differ = λ e. cc;
-    same_below = λ x k lt. ((λ l. absurd (below_units units cost total steps s x k (omega (arith, ints)) l)), (λ l. absurd (below_units units' cost' total' steps' s' x k lt l)));
+    same_below =
+        λ x k lt. (
+          (λ l. absurd (below_units units cost total steps s x k (omega (arith, ints)) l)),
+          (λ l. absurd (below_units units' cost' total' steps' s' x k lt l)),
+        );
   }
 
   pub from_units : units ≡ units' → AreWalks units cost steps steps'
@@ -255,20 +344,32 @@ module _ (units cost total : ℤ) (steps : List (ℤ × ℤ)) (s : IsSound units
         right_most = omega (arith, ints);
       }
 
-  pub cost_gap : units ≡ units' → (cost ≡ cost' → ⊥) → IsGap (told One units cost steps) (told One units' cost' steps') (record { amount = units; left = Some cost; right = Some cost' })
+  pub cost_gap : units ≡ units' → (cost ≡ cost' → ⊥)
+      → IsGap (told One units cost steps) (told One units' cost' steps')
+      (record { amount = units; left = Some cost; right = Some cost' })
   cost_gap e n = record {
     left = at_units units cost total steps s;
-    right = subst (λ z. LeastCost (told One units' cost' steps') z cost') (sym e) (at_units units' cost' total' steps' s');
+    right =
+        subst (λ z. LeastCost (told One units' cost' steps') z cost') (sym e) (at_units units' cost' total' steps' s');
     differ = λ f. let g = ap (λ o. unwrap_or o (pos 0)) f in n g;
-    same_below = λ x k lt. ((λ l. absurd (below_units units cost total steps s x k lt l)), (λ l. absurd (below_units units' cost' total' steps' s' x k (omega (arith, ints)) l)));
+    same_below =
+        λ x k lt. (
+          (λ l. absurd (below_units units cost total steps s x k lt l)),
+          (λ l. absurd (below_units units' cost' total' steps' s' x k (omega (arith, ints)) l)),
+        );
   }
 
 abbrev pub Parts : ℤ → ℤ → List (ℤ × ℤ) → ℤ → ℤ → List (ℤ × ℤ) → Option Gap → Type 0
-Parts units cost steps units' cost' steps' o = MatchOption o (SameCurve (told One units cost steps) (told One units' cost' steps')) (IsGap (told One units cost steps) (told One units' cost' steps'))
+Parts units cost steps units' cost' steps' o =
+    MatchOption o (SameCurve (told One units cost steps) (told One units' cost' steps'))
+    (IsGap (told One units cost steps) (told One units' cost' steps'))
 
-module _ (units cost total total' : ℤ) (steps steps' : List (ℤ × ℤ)) (s : IsSound units cost total steps) (s' : IsSound units cost total' steps') where
-  parts_by : (o : Option Gap) → MatchOption o (steps ≡ steps') (IsFirstGap units cost steps steps') → Parts units cost steps units cost steps' o
-  parts_by None e = subst (λ z. SameCurve (told One units cost steps) (told One units cost z)) e (curve_meaning.same_refl _)
+module _ (units cost total total' : ℤ) (steps steps' : List (ℤ × ℤ)) (s : IsSound units cost total steps)
+    (s' : IsSound units cost total' steps') where
+  parts_by : (o : Option Gap) → MatchOption o (steps ≡ steps') (IsFirstGap units cost steps steps')
+      → Parts units cost steps units cost steps' o
+  parts_by None e =
+      subst (λ z. SameCurve (told One units cost steps) (told One units cost z)) e (curve_meaning.same_refl _)
   parts_by (Some g) f = record {
     left = cost_of_at units cost total steps s g.amount g.left f.left_is;
     right = cost_of_at units cost total' steps' s' g.amount g.right f.right_is;
@@ -280,11 +381,17 @@ module _ (units cost total total' : ℤ) (steps steps' : List (ℤ × ℤ)) (s :
   }
 
 -- the gap between curves that have the same forced units at the same cost
-pub step_gap : (units cost total : ℤ) (steps : List (ℤ × ℤ)) → IsSound units cost total steps → (units' cost' total' : ℤ) (steps' : List (ℤ × ℤ)) → IsSound units' cost' total' steps' → units ≡ units' → cost ≡ cost' → Parts units cost steps units' cost' steps' (first_gap units cost steps steps')
+pub step_gap : (units cost total : ℤ) (steps : List (ℤ × ℤ)) → IsSound units cost total steps
+    → (units' cost' total' : ℤ) (steps' : List (ℤ × ℤ)) → IsSound units' cost' total' steps' → units ≡ units'
+    → cost ≡ cost' → Parts units cost steps units' cost' steps' (first_gap units cost steps steps')
 step_gap units cost total steps s units' cost' total' steps' s' e f =
-    let t = subst (λ z. IsSound z cost total' steps') (sym e) (subst (λ z. IsSound units' z total' steps') (sym f) s') in
-    let p = parts_by units cost total total' steps steps' s t (first_gap units cost steps steps') (found units cost steps steps' s.rising t.rising) in
-    subst (λ z. Parts units cost steps z cost' steps' (first_gap units cost steps steps')) e (subst (λ z. Parts units cost steps units z steps' (first_gap units cost steps steps')) f p)
+    let t =
+    subst (λ z. IsSound z cost total' steps') (sym e) (subst (λ z. IsSound units' z total' steps') (sym f) s') in
+    let p =
+    parts_by units cost total total' steps steps' s t (first_gap units cost steps steps')
+    (found units cost steps steps' s.rising t.rising) in
+    subst (λ z. Parts units cost steps z cost' steps' (first_gap units cost steps steps')) e
+    (subst (λ z. Parts units cost steps units z steps' (first_gap units cost steps steps')) f p)
 
 none_sound : IsSound (pos 0) (pos 0) (pos 0) []
 none_sound = record {
@@ -298,23 +405,34 @@ none_sound = record {
 
 -- the gap between a curve and the curve of no arcs
 module _ (units cost total : ℤ) (steps : List (ℤ × ℤ)) (s : IsSound units cost total steps) where
-  pub forced_gap : (units ≡ pos 0 → ⊥) → IsGap (told One units cost steps) [] (record { amount = pos 0; left = None; right = Some (pos 0) })
-  forced_gap n = let some = s.some in right_gap units cost total steps s (pos 0) (pos 0) (pos 0) [] none_sound (by_lt_z (pos 0) units (λ lt. lt) (λ le. absurd (n (omega (arith, ints)))))
+  pub forced_gap : (units ≡ pos 0 → ⊥)
+      → IsGap (told One units cost steps) [] (record { amount = pos 0; left = None; right = Some (pos 0) })
+  forced_gap n = let some = s.some in
+      right_gap units cost total steps s (pos 0) (pos 0) (pos 0) [] none_sound
+      (by_lt_z (pos 0) units (λ lt. lt) (λ le. absurd (n (omega (arith, ints)))))
 
   free_parts : units ≡ pos 0 → Parts units cost steps (pos 0) (pos 0) [] (first_gap units cost steps [])
-  free_parts e = step_gap units cost total steps s (pos 0) (pos 0) (pos 0) [] none_sound e (none_is units cost total steps s e)
+  free_parts e =
+      step_gap units cost total steps s (pos 0) (pos 0) (pos 0) [] none_sound e (none_is units cost total steps s e)
 
 -- a curve without forced units and without breakpoints means the same as no arcs
-pub no_gap : (units cost total : ℤ) (steps : List (ℤ × ℤ)) → IsSound units cost total steps → units ≡ pos 0 → None ≡ slice_get steps 0 → SameCurve (told One units cost steps) []
+pub no_gap : (units cost total : ℤ) (steps : List (ℤ × ℤ)) → IsSound units cost total steps → units ≡ pos 0
+    → None ≡ slice_get steps 0 → SameCurve (told One units cost steps) []
 no_gap units cost total [] s e h = free_parts units cost total [] s e
 no_gap units cost total (step ∷ rest) s e h = cc
 
-pub free_gap : (units cost total : ℤ) (steps : List (ℤ × ℤ)) → IsSound units cost total steps → units ≡ pos 0 → (step : ℤ × ℤ) → Some step ≡ slice_get steps 0 → IsGap (told One units cost steps) [] (record { amount = pos 1; left = Some step.0; right = None })
+pub free_gap : (units cost total : ℤ) (steps : List (ℤ × ℤ)) → IsSound units cost total steps → units ≡ pos 0
+    → (step : ℤ × ℤ) → Some step ≡ slice_get steps 0
+    → IsGap (told One units cost steps) [] (record { amount = pos 1; left = Some step.0; right = None })
 free_gap units cost total [] s e step h = cc
 free_gap units cost total (first ∷ rest) s e step h =
     let same = ap (λ o. unwrap_or o (pos 0, pos 0)) h in
     let one : units +ℤ pos 1 ≡ pos 1 = omega (arith, ints) in
     let z = none_is units cost total (first ∷ rest) s e in
     let c : cost +ℤ first.0 ≡ first.0 = omega (arith, ints) in
-    subst (λ z. IsGap (told One units cost (first ∷ rest)) [] (record { amount = pos 1; left = Some z; right = None })) (c ∙ ap (λ p. p.0) (sym same))
-    (subst (λ z. IsGap (told One units cost (first ∷ rest)) [] (record { amount = z; left = Some (cost +ℤ first.0); right = None })) one (free_parts units cost total (first ∷ rest) s e))
+    subst (λ z. IsGap (told One units cost (first ∷ rest)) [] (record { amount = pos 1; left = Some z; right = None }))
+    (c ∙ ap (λ p. p.0) (sym same))
+    (subst
+    (λ z. IsGap (told One units cost (first ∷ rest)) []
+    (record { amount = z; left = Some (cost +ℤ first.0); right = None })) one
+    (free_parts units cost total (first ∷ rest) s e))

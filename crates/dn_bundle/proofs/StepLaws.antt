@@ -24,20 +24,24 @@ use Rattle.dn_arc.specs.State.Steps.{steps_of, IsFirst, put_step, step_past, has
 -- adding a breakpoint, by the result of a comparison
 module _ (step more : ℤ × ℤ) (rest : List (ℤ × ℤ)) where
   pub put_before : more.0 <ℤ step.0 → put_step (step ∷ rest) more ≡ more ∷ step ∷ rest
-  put_before h = let e : int_lt more.0 step.0 ≡ true = grind (arith, ints) in ap (λ t. cond t (more ∷ step ∷ rest) (cond (int_lt step.0 more.0) (step ∷ put_step rest more) ((step.0, step.1 +ℤ more.1) ∷ rest))) e
+  put_before h = let e : int_lt more.0 step.0 ≡ true = grind (arith, ints) in
+      ap (λ t. cond t (more ∷ step ∷ rest)
+      (cond (int_lt step.0 more.0) (step ∷ put_step rest more) ((step.0, step.1 +ℤ more.1) ∷ rest))) e
 
   pub put_past : step.0 <ℤ more.0 → put_step (step ∷ rest) more ≡ step ∷ put_step rest more
   put_past h =
       let e : int_lt more.0 step.0 ≡ false = grind (arith, ints) in
       let f : int_lt step.0 more.0 ≡ true = grind (arith, ints) in
-      ap (λ t. cond t (more ∷ step ∷ rest) (cond (int_lt step.0 more.0) (step ∷ put_step rest more) ((step.0, step.1 +ℤ more.1) ∷ rest))) e
+      ap (λ t. cond t (more ∷ step ∷ rest)
+      (cond (int_lt step.0 more.0) (step ∷ put_step rest more) ((step.0, step.1 +ℤ more.1) ∷ rest))) e
       ∙ ap (λ t. cond t (step ∷ put_step rest more) ((step.0, step.1 +ℤ more.1) ∷ rest)) f
 
   pub put_at : more.0 ≡ step.0 → put_step (step ∷ rest) more ≡ (step.0, step.1 +ℤ more.1) ∷ rest
   put_at h =
       let e : int_lt more.0 step.0 ≡ false = grind (arith, ints) in
       let f : int_lt step.0 more.0 ≡ false = grind (arith, ints) in
-      ap (λ t. cond t (more ∷ step ∷ rest) (cond (int_lt step.0 more.0) (step ∷ put_step rest more) ((step.0, step.1 +ℤ more.1) ∷ rest))) e
+      ap (λ t. cond t (more ∷ step ∷ rest)
+      (cond (int_lt step.0 more.0) (step ∷ put_step rest more) ((step.0, step.1 +ℤ more.1) ∷ rest))) e
       ∙ ap (λ t. cond t (step ∷ put_step rest more) ((step.0, step.1 +ℤ more.1) ∷ rest)) f
 
 -- the capacity that a map has at a cost
@@ -45,34 +49,49 @@ abbrev held : List (ℤ × ℤ) → ℤ → ℤ
 held es cost = unwrap_or (lookup (is_at (int_cmp cost)) es) (pos 0)
 
 -- adding capacity to a map is one insertion
-pub put_is : (es : List (ℤ × ℤ)) (more : ℤ × ℤ) → IsStrictlySortedBy int_cmp (keys_of es) → insert_entry int_cmp es more.0 (held es more.0 +ℤ more.1) ≡ put_step es more
+pub put_is : (es : List (ℤ × ℤ)) (more : ℤ × ℤ) → IsStrictlySortedBy int_cmp (keys_of es)
+    → insert_entry int_cmp es more.0 (held es more.0 +ℤ more.1) ≡ put_step es more
 put_is [] more s = ap (λ z. (more.0, z) ∷ []) (let e : pos 0 +ℤ more.1 ≡ more.1 = omega (arith, ints) in e)
 put_is (step ∷ rest) more s =
     let all = held (step ∷ rest) more.0 +ℤ more.1 in
-    let by : (o : Ordering) → int_cmp more.0 step.0 ≡ o → insert_entry int_cmp (step ∷ rest) more.0 all ≡ match_ordering o ((more.0, all) ∷ step ∷ rest) ((step.0, all) ∷ rest) (step ∷ insert_entry int_cmp rest more.0 all) = λ o c. ap (λ o. match_ordering o ((more.0, all) ∷ step ∷ rest) ((step.0, all) ∷ rest) (step ∷ insert_entry int_cmp rest more.0 all)) c in
+    let by : (o : Ordering) → int_cmp more.0 step.0 ≡ o
+    → insert_entry int_cmp (step ∷ rest) more.0 all ≡ match_ordering o ((more.0, all) ∷ step ∷ rest)
+    ((step.0, all) ∷ rest) (step ∷ insert_entry int_cmp rest more.0 all) =
+    λ o c. ap
+    (λ o. match_ordering o ((more.0, all) ∷ step ∷ rest) ((step.0, all) ∷ rest)
+    (step ∷ insert_entry int_cmp rest more.0 all)) c in
     by_cmp more.0 step.0
     (λ c lt.
-    let none = lookup-none (is_at (int_cmp more.0)) (step ∷ rest) (none_below_head int_cmp_total more.0 step rest s c) in
+    let none =
+    lookup-none (is_at (int_cmp more.0)) (step ∷ rest) (none_below_head int_cmp_total more.0 step rest s c) in
     by Less c
     ∙ ap (λ o. (more.0, unwrap_or o (pos 0) +ℤ more.1) ∷ step ∷ rest) none
     ∙ ap (λ z. (more.0, z) ∷ step ∷ rest) (let e : pos 0 +ℤ more.1 ≡ more.1 = omega (arith, ints) in e)
     ∙ sym (put_before step more rest lt))
     (λ c eq.
-    let there : lookup (is_at (int_cmp more.0)) (step ∷ rest) ≡ Some step.1 = ap (λ o. cond (is_eq o) (Some step.1) (lookup (is_at (int_cmp more.0)) rest)) c in
+    let there : lookup (is_at (int_cmp more.0)) (step ∷ rest) ≡ Some step.1 =
+    ap (λ o. cond (is_eq o) (Some step.1) (lookup (is_at (int_cmp more.0)) rest)) c in
     by Equal c
     ∙ ap (λ o. (step.0, unwrap_or o (pos 0) +ℤ more.1) ∷ rest) there
     ∙ sym (put_at step more rest eq))
     (λ c gt.
-    let past : lookup (is_at (int_cmp more.0)) (step ∷ rest) ≡ lookup (is_at (int_cmp more.0)) rest = ap (λ o. cond (is_eq o) (Some step.1) (lookup (is_at (int_cmp more.0)) rest)) c in
+    let past : lookup (is_at (int_cmp more.0)) (step ∷ rest) ≡ lookup (is_at (int_cmp more.0)) rest =
+    ap (λ o. cond (is_eq o) (Some step.1) (lookup (is_at (int_cmp more.0)) rest)) c in
     by Greater c
     ∙ ap (λ o. step ∷ insert_entry int_cmp rest more.0 (unwrap_or o (pos 0) +ℤ more.1)) past
     ∙ ap (λ l. step ∷ l) (put_is rest more (sorted_tail int_cmp step.0 (keys_of rest) s))
     ∙ sym (put_past step more rest gt))
 
 -- a cost below all others is inserted at the beginning
-pub insert_front : (es : List (ℤ × ℤ)) (cost room : ℤ) → AllByRecursion (λ (other : ℤ × ℤ). cost <ℤ other.0) es → insert_entry int_cmp es cost room ≡ (cost, room) ∷ es
+pub insert_front : (es : List (ℤ × ℤ)) (cost room : ℤ) → AllByRecursion (λ (other : ℤ × ℤ). cost <ℤ other.0) es
+    → insert_entry int_cmp es cost room ≡ (cost, room) ∷ es
 insert_front [] cost room h = refl
-insert_front (step ∷ rest) cost room h = by_cmp cost step.0 (λ c lt. ap (λ o. match_ordering o ((cost, room) ∷ step ∷ rest) ((step.0, room) ∷ rest) (step ∷ insert_entry int_cmp rest cost room)) c) (λ c eq. let lt = h.0 in absurd (omega (arith, ints))) (λ c gt. let lt = h.0 in absurd (omega (arith, ints)))
+insert_front (step ∷ rest) cost room h =
+    by_cmp cost step.0
+    (λ c lt. ap
+    (λ o. match_ordering o ((cost, room) ∷ step ∷ rest) ((step.0, room) ∷ rest)
+    (step ∷ insert_entry int_cmp rest cost room)) c) (λ c eq. let lt = h.0 in absurd (omega (arith, ints)))
+    (λ c gt. let lt = h.0 in absurd (omega (arith, ints)))
 
 by_bool : (P : Bool → Type 0) (b : Bool) → P true → P false → P b
 by_bool P true h g = h
@@ -89,19 +108,29 @@ in_range_is a b =
     (λ c eq. (let e : int_lt a b ≡ false = grind (arith, ints) in e) ∙ sym (ap (λ o. is_lt o && not false) c))
     (λ c gt. (let e : int_lt a b ≡ false = grind (arith, ints) in e) ∙ sym (ap (λ o. is_lt o && not false) c))
 
-first_in_range : (es : List (ℤ × ℤ)) (cost : ℤ) → step_past es cost ≡ slice_get (filter (λ (e : ℤ × ℤ). in_range cost e.0) es) 0
+first_in_range : (es : List (ℤ × ℤ)) (cost : ℤ)
+    → step_past es cost ≡ slice_get (filter (λ (e : ℤ × ℤ). in_range cost e.0) es) 0
 first_in_range [] cost = refl
 first_in_range (e ∷ es) cost =
     ap (λ t. cond t (Some e) (step_past es cost)) (in_range_is cost e.0)
-    ∙ by_bool (λ b. cond b (Some e) (step_past es cost) ≡ slice_get (cond b (e ∷ filter (λ (e : ℤ × ℤ). in_range cost e.0) es) (filter (λ (e : ℤ × ℤ). in_range cost e.0) es)) 0) (in_range cost e.0) refl (first_in_range es cost)
+    ∙ by_bool
+    (λ b. cond b (Some e) (step_past es cost) ≡ slice_get
+    (cond b (e ∷ filter (λ (e : ℤ × ℤ). in_range cost e.0) es) (filter (λ (e : ℤ × ℤ). in_range cost e.0) es)) 0)
+    (in_range cost e.0) refl (first_in_range es cost)
 
-module _ (es found : List (ℤ × ℤ)) (cost : ℤ) (fits : FitsSigned w64 cost) (is : found ≡ filter (λ (e : ℤ × ℤ). in_range (to_z w64 (of_z w64 cost)) e.0) es) where
+module _ (es found : List (ℤ × ℤ)) (cost : ℤ) (fits : FitsSigned w64 cost)
+    (is : found ≡ filter (λ (e : ℤ × ℤ). in_range (to_z w64 (of_z w64 cost)) e.0) es) where
   here : step_past es cost ≡ slice_get found 0
-  here = first_in_range es cost ∙ ap (λ z. slice_get (filter (λ (e : ℤ × ℤ). in_range z e.0) es) 0) (sym (to_z-of_z w64 cost fits)) ∙ ap (λ l. slice_get l 0) (sym is)
+  here =
+      first_in_range es cost ∙ ap (λ z. slice_get (filter (λ (e : ℤ × ℤ). in_range z e.0) es) 0)
+      (sym (to_z-of_z w64 cost fits)) ∙ ap (λ l. slice_get l 0) (sym is)
 
   -- the first entry of a range is the first breakpoint above its start
-  pub first_past : (left : List (ℤ × ℤ)) (step : ℤ × ℤ) → FitsSigned w64 step.0 → FitsSigned w64 step.1 → found ≡ step ∷ left → Some (to_z w64 (of_z w64 step.0), to_z w64 (of_z w64 step.1)) ≡ step_past es cost
-  first_past left step f g h = ap (λ z. Some (z, to_z w64 (of_z w64 step.1))) (to_z-of_z w64 step.0 f) ∙ ap (λ z. Some (step.0, z)) (to_z-of_z w64 step.1 g) ∙ sym (here ∙ ap (λ l. slice_get l 0) h)
+  pub first_past : (left : List (ℤ × ℤ)) (step : ℤ × ℤ) → FitsSigned w64 step.0 → FitsSigned w64 step.1
+      → found ≡ step ∷ left → Some (to_z w64 (of_z w64 step.0), to_z w64 (of_z w64 step.1)) ≡ step_past es cost
+  first_past left step f g h =
+      ap (λ z. Some (z, to_z w64 (of_z w64 step.1))) (to_z-of_z w64 step.0 f)
+      ∙ ap (λ z. Some (step.0, z)) (to_z-of_z w64 step.1 g) ∙ sym (here ∙ ap (λ l. slice_get l 0) h)
 
   pub none_past : found ≡ [] → None ≡ step_past es cost
   none_past h = sym (here ∙ ap (λ l. slice_get l 0) h)
@@ -109,7 +138,9 @@ module _ (es found : List (ℤ × ℤ)) (cost : ℤ) (fits : FitsSigned w64 cost
 -- a map has a breakpoint exactly if a look-up finds it
 pub has_is : (es : List (ℤ × ℤ)) (cost : ℤ) → is_some (lookup (is_at (int_cmp cost)) es) ≡ has_step es cost
 has_is [] cost = refl
-has_is (step ∷ rest) cost = by_bool (λ b. is_some (cond b (Some step.1) (lookup (is_at (int_cmp cost)) rest)) ≡ (b || has_step rest cost)) (is_at (int_cmp cost) step.0) refl (has_is rest cost)
+has_is (step ∷ rest) cost =
+    by_bool (λ b. is_some (cond b (Some step.1) (lookup (is_at (int_cmp cost)) rest)) ≡ (b || has_step rest cost))
+    (is_at (int_cmp cost) step.0) refl (has_is rest cost)
 
 -- the capacity at a cost is at most the total
 pub held_most : (es : List (ℤ × ℤ)) (cost : ℤ) → AreSteps es → (pos 0 ≤ℤ held es cost) × (held es cost ≤ℤ steps_room es)
@@ -120,27 +151,44 @@ held_most (step ∷ rest) cost s =
     let i = held_most rest cost s.2 in
     let l = i.0 in
     let u = i.1 in
-    by_bool (λ b. (pos 0 ≤ℤ unwrap_or (cond b (Some step.1) (lookup (is_at (int_cmp cost)) rest)) (pos 0)) × (unwrap_or (cond b (Some step.1) (lookup (is_at (int_cmp cost)) rest)) (pos 0) ≤ℤ (step.1 +ℤ steps_room rest))) (is_at (int_cmp cost) step.0) (omega (arith, ints), omega (arith, ints)) (l, omega (arith, ints))
+    by_bool
+    (λ b. (pos 0 ≤ℤ unwrap_or (cond b (Some step.1) (lookup (is_at (int_cmp cost)) rest)) (pos 0))
+    × (unwrap_or (cond b (Some step.1) (lookup (is_at (int_cmp cost)) rest)) (pos 0) ≤ℤ
+    (step.1 +ℤ steps_room rest))) (is_at (int_cmp cost) step.0) (omega (arith, ints), omega (arith, ints))
+    (l, omega (arith, ints))
 
 -- the capacity at a cost fits 64 bits, and so does its sum with the added capacity
-held_fits : (es : List (ℤ × ℤ)) (more : ℤ × ℤ) (now : ℤ) → pos 0 ≤ℤ more.1 → AreSteps es → (steps_room es +ℤ more.1) ≤ℤ pos (2 ^ 63 - 1) → now ≡ held es more.0 → FitsSigned w64 now × FitsSigned w64 (now +ℤ more.1)
+held_fits : (es : List (ℤ × ℤ)) (more : ℤ × ℤ) (now : ℤ) → pos 0 ≤ℤ more.1 → AreSteps es
+    → (steps_room es +ℤ more.1) ≤ℤ pos (2 ^ 63 - 1) → now ≡ held es more.0 → FitsSigned w64 now
+    × FitsSigned w64 (now +ℤ more.1)
 held_fits es more now h s f e =
     let m = held_most es more.0 s in
     let l = m.0 in
-    let u = m.1 in
-    (fits_some now (omega (arith, ints)) (omega (arith, ints)), fits_some (now +ℤ more.1) (omega (arith, ints)) (omega (arith, ints)))
+    let u = m.1 in (
+      fits_some now (omega (arith, ints)) (omega (arith, ints)),
+      fits_some (now +ℤ more.1) (omega (arith, ints))
+          (omega (arith, ints)),
+    )
 
 -- the sum of the capacity at a cost and the added capacity, as the code computes it
-pub sum_fits : (es : List (ℤ × ℤ)) (more : ℤ × ℤ) (now : ℤ) → pos 0 ≤ℤ more.1 → AreSteps es → (steps_room es +ℤ more.1) ≤ℤ pos (2 ^ 63 - 1) → now ≡ held es more.0 → FitsSigned w64 more.1 → FitsSigned w64 (to_z w64 (of_z w64 now) +ℤ to_z w64 (of_z w64 more.1))
-sum_fits es more now h s f e g = let b = held_fits es more now h s f e in rw (to_z-of_z w64 now b.0, to_z-of_z w64 more.1 g) b.1
+pub sum_fits : (es : List (ℤ × ℤ)) (more : ℤ × ℤ) (now : ℤ) → pos 0 ≤ℤ more.1 → AreSteps es
+    → (steps_room es +ℤ more.1) ≤ℤ pos (2 ^ 63 - 1) → now ≡ held es more.0 → FitsSigned w64 more.1
+    → FitsSigned w64 (to_z w64 (of_z w64 now) +ℤ to_z w64 (of_z w64 more.1))
+sum_fits es more now h s f e g = let b = held_fits es more now h s f e in
+    rw (to_z-of_z w64 now b.0, to_z-of_z w64 more.1 g) b.1
 
-pub sum_is : (es : List (ℤ × ℤ)) (more : ℤ × ℤ) (now : ℤ) (new : List (ℤ × ℤ)) → pos 0 ≤ℤ more.1 → AreSteps es → (steps_room es +ℤ more.1) ≤ℤ pos (2 ^ 63 - 1) → now ≡ held es more.0 → FitsSigned w64 more.0 → FitsSigned w64 more.1 → IsStrictlySortedBy int_cmp (keys_of es)
-    → new ≡ insert_entry int_cmp es (to_z w64 (of_z w64 more.0)) (to_z w64 (of_z w64 (to_z w64 (of_z w64 now) +ℤ to_z w64 (of_z w64 more.1)))) → new ≡ put_step es more
+pub sum_is : (es : List (ℤ × ℤ)) (more : ℤ × ℤ) (now : ℤ) (new : List (ℤ × ℤ)) → pos 0 ≤ℤ more.1 → AreSteps es
+    → (steps_room es +ℤ more.1) ≤ℤ pos (2 ^ 63 - 1) → now ≡ held es more.0 → FitsSigned w64 more.0
+    → FitsSigned w64 more.1 → IsStrictlySortedBy int_cmp (keys_of es)
+    → new ≡ insert_entry int_cmp es (to_z w64 (of_z w64 more.0))
+    (to_z w64 (of_z w64 (to_z w64 (of_z w64 now) +ℤ to_z w64 (of_z w64 more.1)))) → new ≡ put_step es more
 sum_is es more now new h s f e g0 g o i =
     let b = held_fits es more now h s f e in
     i
-    ∙ ap (λ z. insert_entry int_cmp es z (to_z w64 (of_z w64 (to_z w64 (of_z w64 now) +ℤ to_z w64 (of_z w64 more.1))))) (to_z-of_z w64 more.0 g0)
-    ∙ ap (λ z. insert_entry int_cmp es more.0 z) ((rw (to_z-of_z w64 now b.0, to_z-of_z w64 more.1 g) refl) ∙ to_z-of_z w64 (now +ℤ more.1) b.1)
+    ∙ ap (λ z. insert_entry int_cmp es z (to_z w64 (of_z w64 (to_z w64 (of_z w64 now) +ℤ to_z w64 (of_z w64 more.1)))))
+    (to_z-of_z w64 more.0 g0)
+    ∙ ap (λ z. insert_entry int_cmp es more.0 z)
+    ((rw (to_z-of_z w64 now b.0, to_z-of_z w64 more.1 g) refl) ∙ to_z-of_z w64 (now +ℤ more.1) b.1)
     ∙ ap (λ z. insert_entry int_cmp es more.0 (z +ℤ more.1)) e
     ∙ put_is es more o
 
@@ -148,43 +196,67 @@ sum_is es more now new h s f e g0 g o i =
 pub next_fits : (x : ℤ) → FitsSigned w64 x → x <ℤ pos (2 ^ 63 - 1) → FitsSigned w64 (to_z w64 (of_z w64 x) +ℤ pos 1)
 next_fits x f h = subst (λ z. FitsSigned w64 (z +ℤ pos 1)) (sym (to_z-of_z w64 x f)) (fits_next x f h)
 
-pub next_is : (x : ℤ) → FitsSigned w64 x → x <ℤ pos (2 ^ 63 - 1) → to_z w64 (of_z w64 (to_z w64 (of_z w64 x) +ℤ pos 1)) ≡ x +ℤ pos 1
-next_is x f h = ap (λ z. to_z w64 (of_z w64 (z +ℤ pos 1))) (to_z-of_z w64 x f) ∙ to_z-of_z w64 (x +ℤ pos 1) (fits_next x f h)
+pub next_is : (x : ℤ) → FitsSigned w64 x → x <ℤ pos (2 ^ 63 - 1)
+    → to_z w64 (of_z w64 (to_z w64 (of_z w64 x) +ℤ pos 1)) ≡ x +ℤ pos 1
+next_is x f h =
+    ap (λ z. to_z w64 (of_z w64 (z +ℤ pos 1))) (to_z-of_z w64 x f) ∙ to_z-of_z w64 (x +ℤ pos 1) (fits_next x f h)
 
 -- what a comparison of two numbers in the code shows
-pub less : (x y : ℤ) → FitsSigned w64 x → FitsSigned w64 y → int_lt (to_z w64 (of_z w64 x)) (to_z w64 (of_z w64 y)) ≡ true → x <ℤ y
-less x y f g h = let e : int_lt x y ≡ true = sym (rw (to_z-of_z w64 x f, to_z-of_z w64 y g) refl) ∙ h in grind (arith, ints)
+pub less : (x y : ℤ) → FitsSigned w64 x → FitsSigned w64 y
+    → int_lt (to_z w64 (of_z w64 x)) (to_z w64 (of_z w64 y)) ≡ true → x <ℤ y
+less x y f g h = let e : int_lt x y ≡ true = sym (rw (to_z-of_z w64 x f, to_z-of_z w64 y g) refl) ∙ h in
+    grind (arith, ints)
 
-pub not_less : (x y : ℤ) → FitsSigned w64 x → FitsSigned w64 y → int_lt (to_z w64 (of_z w64 x)) (to_z w64 (of_z w64 y)) ≡ false → y ≤ℤ x
-not_less x y f g h = let e : int_lt x y ≡ false = sym (rw (to_z-of_z w64 x f, to_z-of_z w64 y g) refl) ∙ h in grind (arith, ints)
+pub not_less : (x y : ℤ) → FitsSigned w64 x → FitsSigned w64 y
+    → int_lt (to_z w64 (of_z w64 x)) (to_z w64 (of_z w64 y)) ≡ false → y ≤ℤ x
+not_less x y f g h = let e : int_lt x y ≡ false = sym (rw (to_z-of_z w64 x f, to_z-of_z w64 y g) refl) ∙ h in
+    grind (arith, ints)
 
-pub not_apart : (x y : ℤ) → FitsSigned w64 x → FitsSigned w64 y → int_lt (to_z w64 (of_z w64 x)) (to_z w64 (of_z w64 y)) ≡ false → int_lt (to_z w64 (of_z w64 y)) (to_z w64 (of_z w64 x)) ≡ false → x ≡ y
+pub not_apart : (x y : ℤ) → FitsSigned w64 x → FitsSigned w64 y
+    → int_lt (to_z w64 (of_z w64 x)) (to_z w64 (of_z w64 y)) ≡ false
+    → int_lt (to_z w64 (of_z w64 y)) (to_z w64 (of_z w64 x)) ≡ false → x ≡ y
 not_apart x y f g h k = let ge = not_less x y f g h in let le = not_less y x g f k in omega (arith, ints)
 
-module _ (first : Option (ℤ × ℤ)) (rest now : List (ℤ × ℤ)) (least step : ℤ × ℤ) (is : first ≡ Some least) (is_first : IsFirst first rest) (view : steps_of first rest ≡ now) (l0 : FitsSigned w64 least.0) (l1 : FitsSigned w64 least.1) (s0 : FitsSigned w64 step.0) (s1 : FitsSigned w64 step.1) where
+module _ (first : Option (ℤ × ℤ)) (rest now : List (ℤ × ℤ)) (least step : ℤ × ℤ) (is : first ≡ Some least)
+    (is_first : IsFirst first rest) (view : steps_of first rest ≡ now) (l0 : FitsSigned w64 least.0)
+    (l1 : FitsSigned w64 least.1) (s0 : FitsSigned w64 step.0) (s1 : FitsSigned w64 step.1) where
   above : AllByRecursion (λ (other : ℤ × ℤ). least.0 <ℤ other.0) rest
   above = subst (λ o. IsFirst o rest) is is_first
 
   now_is : now ≡ least ∷ rest
   now_is = sym view ∙ ap (λ o. steps_of o rest) is
 
-  pub lower_above : (new : List (ℤ × ℤ)) → int_lt (to_z w64 (of_z w64 step.0)) (to_z w64 (of_z w64 least.0)) ≡ true → new ≡ insert_entry int_cmp rest (to_z w64 (of_z w64 least.0)) (to_z w64 (of_z w64 least.1)) → new ≡ least ∷ rest
-  lower_above new h e = e ∙ ap (λ z. insert_entry int_cmp rest z (to_z w64 (of_z w64 least.1))) (to_z-of_z w64 least.0 l0) ∙ ap (insert_entry int_cmp rest least.0) (to_z-of_z w64 least.1 l1) ∙ insert_front rest least.0 least.1 above
+  pub lower_above : (new : List (ℤ × ℤ)) → int_lt (to_z w64 (of_z w64 step.0)) (to_z w64 (of_z w64 least.0)) ≡ true
+      → new ≡ insert_entry int_cmp rest (to_z w64 (of_z w64 least.0)) (to_z w64 (of_z w64 least.1)) → new ≡ least ∷ rest
+  lower_above new h e =
+      e ∙ ap (λ z. insert_entry int_cmp rest z (to_z w64 (of_z w64 least.1))) (to_z-of_z w64 least.0 l0)
+      ∙ ap (insert_entry int_cmp rest least.0) (to_z-of_z w64 least.1 l1) ∙ insert_front rest least.0 least.1 above
 
-  pub lower_first : (new : List (ℤ × ℤ)) → int_lt (to_z w64 (of_z w64 step.0)) (to_z w64 (of_z w64 least.0)) ≡ true → new ≡ insert_entry int_cmp rest (to_z w64 (of_z w64 least.0)) (to_z w64 (of_z w64 least.1)) → AllByRecursion (λ (other : ℤ × ℤ). step.0 <ℤ other.0) new
+  pub lower_first : (new : List (ℤ × ℤ)) → int_lt (to_z w64 (of_z w64 step.0)) (to_z w64 (of_z w64 least.0)) ≡ true
+      → new ≡ insert_entry int_cmp rest (to_z w64 (of_z w64 least.0)) (to_z w64 (of_z w64 least.1))
+      → AllByRecursion (λ (other : ℤ × ℤ). step.0 <ℤ other.0) new
   lower_first new h e =
       let lt = less step.0 least.0 s0 l0 h in
       subst (AllByRecursion (λ (other : ℤ × ℤ). step.0 <ℤ other.0)) (sym (lower_above new h e)) (lt, lower rest above)
     where
-      lower : (es : List (ℤ × ℤ)) → AllByRecursion (λ (other : ℤ × ℤ). least.0 <ℤ other.0) es → AllByRecursion (λ (other : ℤ × ℤ). step.0 <ℤ other.0) es
+      lower : (es : List (ℤ × ℤ)) → AllByRecursion (λ (other : ℤ × ℤ). least.0 <ℤ other.0) es
+          → AllByRecursion (λ (other : ℤ × ℤ). step.0 <ℤ other.0) es
       lower [] a = tt
       lower (e ∷ es) a = let lt = less step.0 least.0 s0 l0 h in let up = a.0 in (omega (arith, ints), lower es a.1)
 
-  pub lower_put : (new : List (ℤ × ℤ)) → int_lt (to_z w64 (of_z w64 step.0)) (to_z w64 (of_z w64 least.0)) ≡ true → new ≡ insert_entry int_cmp rest (to_z w64 (of_z w64 least.0)) (to_z w64 (of_z w64 least.1)) → step ∷ new ≡ put_step now step
-  lower_put new h e = ap (λ l. step ∷ l) (lower_above new h e) ∙ sym (ap (λ l. put_step l step) now_is ∙ put_before least step rest (less step.0 least.0 s0 l0 h))
+  pub lower_put : (new : List (ℤ × ℤ)) → int_lt (to_z w64 (of_z w64 step.0)) (to_z w64 (of_z w64 least.0)) ≡ true
+      → new ≡ insert_entry int_cmp rest (to_z w64 (of_z w64 least.0)) (to_z w64 (of_z w64 least.1))
+      → step ∷ new ≡ put_step now step
+  lower_put new h e =
+      ap (λ l. step ∷ l) (lower_above new h e)
+      ∙ sym (ap (λ l. put_step l step) now_is ∙ put_before least step rest (less step.0 least.0 s0 l0 h))
 
-  pub higher_first : (new : List (ℤ × ℤ)) → int_lt (to_z w64 (of_z w64 least.0)) (to_z w64 (of_z w64 step.0)) ≡ true → new ≡ put_step rest step → IsFirst first new
-  higher_first new h e = subst (λ o. IsFirst o new) (sym is) (subst (AllByRecursion (λ (other : ℤ × ℤ). least.0 <ℤ other.0)) (sym e) (above_put least.0 rest step (less least.0 step.0 l0 s0 h) above))
+  pub higher_first : (new : List (ℤ × ℤ)) → int_lt (to_z w64 (of_z w64 least.0)) (to_z w64 (of_z w64 step.0)) ≡ true
+      → new ≡ put_step rest step → IsFirst first new
+  higher_first new h e =
+      subst (λ o. IsFirst o new) (sym is)
+      (subst (AllByRecursion (λ (other : ℤ × ℤ). least.0 <ℤ other.0)) (sym e)
+      (above_put least.0 rest step (less least.0 step.0 l0 s0 h) above))
 
   pub same_first : AllByRecursion (λ (other : ℤ × ℤ). to_z w64 (of_z w64 least.0) <ℤ other.0) rest
   same_first = subst (λ z. AllByRecursion (λ (other : ℤ × ℤ). z <ℤ other.0) rest) (sym (to_z-of_z w64 least.0 l0)) above
@@ -201,10 +273,18 @@ module _ (first : Option (ℤ × ℤ)) (rest now : List (ℤ × ℤ)) (least ste
     pub same_fits : FitsSigned w64 (to_z w64 (of_z w64 least.1) +ℤ to_z w64 (of_z w64 step.1))
     same_fits = rw (to_z-of_z w64 least.1 l1, to_z-of_z w64 step.1 s1) sum_fit
 
-    pub same_put : int_lt (to_z w64 (of_z w64 step.0)) (to_z w64 (of_z w64 least.0)) ≡ false → int_lt (to_z w64 (of_z w64 least.0)) (to_z w64 (of_z w64 step.0)) ≡ false → (to_z w64 (of_z w64 least.0), to_z w64 (of_z w64 (to_z w64 (of_z w64 least.1) +ℤ to_z w64 (of_z w64 step.1)))) ∷ rest ≡ put_step now step
+    pub same_put : int_lt (to_z w64 (of_z w64 step.0)) (to_z w64 (of_z w64 least.0)) ≡ false
+        → int_lt (to_z w64 (of_z w64 least.0)) (to_z w64 (of_z w64 step.0)) ≡ false
+        → (
+          to_z w64 (of_z w64 least.0),
+          to_z w64
+              (of_z w64 (to_z w64 (of_z w64 least.1) +ℤ to_z w64 (of_z w64 step.1))),
+        ) ∷ rest ≡ put_step now step
     same_put h g =
         let low = not_less step.0 least.0 s0 l0 h in
         let high = not_less least.0 step.0 l0 s0 g in
-        ap (λ z. (z, to_z w64 (of_z w64 (to_z w64 (of_z w64 least.1) +ℤ to_z w64 (of_z w64 step.1)))) ∷ rest) (to_z-of_z w64 least.0 l0)
-        ∙ ap (λ z. (least.0, z) ∷ rest) ((rw (to_z-of_z w64 least.1 l1, to_z-of_z w64 step.1 s1) refl) ∙ to_z-of_z w64 (least.1 +ℤ step.1) sum_fit)
+        ap (λ z. (z, to_z w64 (of_z w64 (to_z w64 (of_z w64 least.1) +ℤ to_z w64 (of_z w64 step.1)))) ∷ rest)
+        (to_z-of_z w64 least.0 l0)
+        ∙ ap (λ z. (least.0, z) ∷ rest)
+        ((rw (to_z-of_z w64 least.1 l1, to_z-of_z w64 step.1 s1) refl) ∙ to_z-of_z w64 (least.1 +ℤ step.1) sum_fit)
         ∙ sym (ap (λ l. put_step l step) now_is ∙ put_at least step rest (omega (arith, ints)))

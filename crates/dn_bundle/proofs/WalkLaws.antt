@@ -36,22 +36,28 @@ steps_zero : (steps : List (ℤ × ℤ)) → AreSteps steps → steps_cost steps
 steps_zero steps s = fill_zero (map step_arc steps) (free_ordered (map step_arc steps) (free_arcs steps s))
 
 module _ (units cost total : ℤ) (steps : List (ℤ × ℤ)) (s : IsSound units cost total steps) where
-  same_cost : (x : ℤ) → units ≤ℤ x → forced_cost (told One units cost steps) +ℤ fill_cost (told One units cost steps) (x -ℤ forced_units (told One units cost steps)) ≡ cost +ℤ steps_cost steps (x -ℤ units)
+  same_cost : (x : ℤ) → units ≤ℤ x
+      → forced_cost (told One units cost steps) +ℤ fill_cost (told One units cost steps)
+      (x -ℤ forced_units (told One units cost steps)) ≡ cost +ℤ steps_cost steps (x -ℤ units)
   same_cost x h =
       let n = none_is units cost total steps s in
       let a = told_apart units cost steps s.some n s.rising in
-      ap (λ z. z +ℤ fill_cost (told One units cost steps) (x -ℤ forced_units (told One units cost steps))) (told_cost units cost steps s.some n s.rising)
+      ap (λ z. z +ℤ fill_cost (told One units cost steps) (x -ℤ forced_units (told One units cost steps)))
+      (told_cost units cost steps s.some n s.rising)
       ∙ ap (λ z. cost +ℤ fill_cost (told One units cost steps) (x -ℤ z)) (told_units units cost steps s.some n s.rising)
       ∙ ap (λ z. cost +ℤ z) (a.fill (x -ℤ units) (omega (arith, ints)))
 
   same_room : free_room (told One units cost steps) ≡ steps_room steps
-  same_room = (told_apart units cost steps s.some (none_is units cost total steps s) s.rising).room ∙ steps_free_room steps
+  same_room = (told_apart units cost steps s.some (none_is units cost total steps s) s.rising).room
+      ∙ steps_free_room steps
 
   -- the least costs of a curve, by its breakpoints
   pub least_at : (x k : ℤ) → LeastCost (told One units cost steps) x k → IsAt units cost steps x k
   least_at x k l =
       let n = none_is units cost total steps s in
-      let f = filling_of_least (told One units cost steps) x k (form_one_ordered _ (told_one units cost steps s.some n s.rising)) l in
+      let f =
+      filling_of_least (told One units cost steps) x k
+      (form_one_ordered _ (told_one units cost steps s.some n s.rising)) l in
       let u = told_units units cost steps s.some n s.rising in
       let r = same_room in
       let low = f.low in
@@ -66,25 +72,35 @@ module _ (units cost total : ℤ) (steps : List (ℤ × ℤ)) (s : IsSound units
       let r = same_room in
       let low = p.low in
       let high = p.high in
-      least_of_filling (told One units cost steps) x k (form_one_ordered _ (told_one units cost steps s.some n s.rising)) (record { low = omega (arith, ints); high = omega (arith, ints); cost = p.is ∙ sym (same_cost x p.low) })
+      least_of_filling (told One units cost steps) x k
+      (form_one_ordered _ (told_one units cost steps s.some n s.rising))
+      (record { low = omega (arith, ints); high = omega (arith, ints); cost = p.is ∙ sym (same_cost x p.low) })
 
 -- the costs beyond the first breakpoint
-module _ (amount cost : ℤ) (step : ℤ × ℤ) (rest : List (ℤ × ℤ)) (x : ℤ) (some : pos 1 ≤ℤ step.1) (past : (amount +ℤ step.1) <ℤ x) where
+module _ (amount cost : ℤ) (step : ℤ × ℤ) (rest : List (ℤ × ℤ)) (x : ℤ) (some : pos 1 ≤ℤ step.1)
+    (past : (amount +ℤ step.1) <ℤ x) where
   more_cost : steps_cost (step ∷ rest) (x -ℤ amount) ≡ (step.1 *ℤ step.0) +ℤ steps_cost rest (x -ℤ (amount +ℤ step.1))
   more_cost =
       fill_high (step_arc step) (map step_arc rest) (x -ℤ amount) (omega (arith, ints))
-      ∙ ap (λ z. (step.0 *ℤ z) +ℤ fill_cost (map step_arc rest) ((x -ℤ amount) -ℤ z)) (let e : room (step_arc step) ≡ step.1 = omega (arith, ints) in e)
+      ∙ ap (λ z. (step.0 *ℤ z) +ℤ fill_cost (map step_arc rest) ((x -ℤ amount) -ℤ z))
+      (let e : room (step_arc step) ≡ step.1 = omega (arith, ints) in e)
       ∙ ap (λ z. z +ℤ fill_cost (map step_arc rest) ((x -ℤ amount) -ℤ step.1)) (*ℤ_comm step.0 step.1)
-      ∙ ap (λ z. (step.1 *ℤ step.0) +ℤ fill_cost (map step_arc rest) z) (let e : (x -ℤ amount) -ℤ step.1 ≡ x -ℤ (amount +ℤ step.1) = omega (arith, ints) in e)
+      ∙ ap (λ z. (step.1 *ℤ step.0) +ℤ fill_cost (map step_arc rest) z)
+      (let e : (x -ℤ amount) -ℤ step.1 ≡ x -ℤ (amount +ℤ step.1) = omega (arith, ints) in e)
 
-  pub at_more : (k : ℤ) → IsAt amount cost (step ∷ rest) x k → IsAt (amount +ℤ step.1) (cost +ℤ (step.1 *ℤ step.0)) rest x k
-  at_more k p = let high = p.high in let e = p.is in let m = more_cost in record { low = omega (arith, ints); high = omega (arith, ints); is = omega (arith, ints) }
+  pub at_more : (k : ℤ) → IsAt amount cost (step ∷ rest) x k
+      → IsAt (amount +ℤ step.1) (cost +ℤ (step.1 *ℤ step.0)) rest x k
+  at_more k p = let high = p.high in let e = p.is in let m = more_cost in
+      record { low = omega (arith, ints); high = omega (arith, ints); is = omega (arith, ints) }
 
-  pub more_at : (k : ℤ) → IsAt (amount +ℤ step.1) (cost +ℤ (step.1 *ℤ step.0)) rest x k → IsAt amount cost (step ∷ rest) x k
-  more_at k p = let high = p.high in let e = p.is in let m = more_cost in record { low = omega (arith, ints); high = omega (arith, ints); is = omega (arith, ints) }
+  pub more_at : (k : ℤ) → IsAt (amount +ℤ step.1) (cost +ℤ (step.1 *ℤ step.0)) rest x k
+      → IsAt amount cost (step ∷ rest) x k
+  more_at k p = let high = p.high in let e = p.is in let m = more_cost in
+      record { low = omega (arith, ints); high = omega (arith, ints); is = omega (arith, ints) }
 
 -- the cost of an amount within the first breakpoint
-pub at_here : (amount cost : ℤ) (step : ℤ × ℤ) (rest : List (ℤ × ℤ)) (x : ℤ) → AreSteps rest → amount ≤ℤ x → (x -ℤ amount) ≤ℤ step.1 → IsAt amount cost (step ∷ rest) x (cost +ℤ ((x -ℤ amount) *ℤ step.0))
+pub at_here : (amount cost : ℤ) (step : ℤ × ℤ) (rest : List (ℤ × ℤ)) (x : ℤ) → AreSteps rest → amount ≤ℤ x
+    → (x -ℤ amount) ≤ℤ step.1 → IsAt amount cost (step ∷ rest) x (cost +ℤ ((x -ℤ amount) *ℤ step.0))
 at_here amount cost step rest x s h g =
     let left = steps_some rest s in
     let e = fill_low (step_arc step) (map step_arc rest) (x -ℤ amount) (omega (arith, ints)) in
@@ -99,7 +115,8 @@ at_start amount cost steps s =
     record { low = omega (arith, ints); high = omega (arith, ints); is = omega (arith, ints) }
 
 -- an amount has one cost
-pub at_one : (amount cost : ℤ) (steps : List (ℤ × ℤ)) (x j k : ℤ) → IsAt amount cost steps x j → IsAt amount cost steps x k → j ≡ k
+pub at_one : (amount cost : ℤ) (steps : List (ℤ × ℤ)) (x j k : ℤ) → IsAt amount cost steps x j
+    → IsAt amount cost steps x k → j ≡ k
 at_one amount cost steps x j k p q = p.is ∙ sym q.is
 
 -- the loop has sent `taken` units at the cost `spent`, and the remaining breakpoints give x the same cost
@@ -113,32 +130,43 @@ pub record IsTaken (units cost : ℤ) (steps : List (ℤ × ℤ)) (x taken spent
   pub most : (taken +ℤ steps_room rest) ≤ℤ pos (2 ^ 63 - 1)
 
 within : (left room : ℤ) → FitsSigned w64 room → le_z left (to_z w64 (of_z w64 room)) ≡ true → left ≤ℤ room
-within left room f h = let e : le_z left room ≡ true = sym (ap (le_z left) (to_z-of_z w64 room f)) ∙ h in grind (arith, ints)
+within left room f h = let e : le_z left room ≡ true = sym (ap (le_z left) (to_z-of_z w64 room f)) ∙ h in
+    grind (arith, ints)
 
 past : (left room : ℤ) → FitsSigned w64 room → le_z left (to_z w64 (of_z w64 room)) ≡ false → room <ℤ left
-past left room f h = let e : le_z left room ≡ false = sym (ap (le_z left) (to_z-of_z w64 room f)) ∙ h in grind (arith, ints)
+past left room f h = let e : le_z left room ≡ false = sym (ap (le_z left) (to_z-of_z w64 room f)) ∙ h in
+    grind (arith, ints)
 
 -- one turn of the loop in the code
-module _ (units cost : ℤ) (steps : List (ℤ × ℤ)) (x taken spent : ℤ) (list rest : List (ℤ × ℤ)) (step : ℤ × ℤ) (fx : FitsSigned w64 x) (f0 : FitsSigned w64 step.0) (f1 : FitsSigned w64 step.1) (t : IsTaken units cost steps x taken spent list) (e : list ≡ step ∷ rest) where
+module _ (units cost : ℤ) (steps : List (ℤ × ℤ)) (x taken spent : ℤ) (list rest : List (ℤ × ℤ)) (step : ℤ × ℤ)
+    (fx : FitsSigned w64 x) (f0 : FitsSigned w64 step.0) (f1 : FitsSigned w64 step.1)
+    (t : IsTaken units cost steps x taken spent list) (e : list ≡ step ∷ rest) where
   here : IsTaken units cost steps x taken spent (step ∷ rest)
   here = subst (IsTaken units cost steps x taken spent) e t
 
   left_is : to_z w64 (of_z w64 (x -ℤ taken)) ≡ x -ℤ taken
-  left_is = let some = t.some in let low = t.low in let m = most x fx in to_z-of_z w64 (x -ℤ taken) (fits_some (x -ℤ taken) (omega (arith, ints)) (omega (arith, ints)))
+  left_is = let some = t.some in let low = t.low in let m = most x fx in
+      to_z-of_z w64 (x -ℤ taken) (fits_some (x -ℤ taken) (omega (arith, ints)) (omega (arith, ints)))
 
   last : le_z (to_z w64 (of_z w64 (x -ℤ taken))) (to_z w64 (of_z w64 step.1)) ≡ true → (x -ℤ taken) ≤ℤ step.1
   last h = within (x -ℤ taken) step.1 f1 (sym (ap (λ z. le_z z (to_z w64 (of_z w64 step.1))) left_is) ∙ h)
 
-  pub last_fits : le_z (to_z w64 (of_z w64 (x -ℤ taken))) (to_z w64 (of_z w64 step.1)) ≡ true → FitsSigned w128 (spent +ℤ (to_z w64 (of_z w64 (x -ℤ taken)) *ℤ step.0))
+  pub last_fits : le_z (to_z w64 (of_z w64 (x -ℤ taken))) (to_z w64 (of_z w64 step.1)) ≡ true
+      → FitsSigned w128 (spent +ℤ (to_z w64 (of_z w64 (x -ℤ taken)) *ℤ step.0))
   last_fits h =
       let low = t.low in
       let u = last h in
       let m = here.most in
       let left = steps_some rest here.rising.2 in
-      subst (λ z. FitsSigned w128 (spent +ℤ (z *ℤ step.0))) (sym left_is) (more_fits spent (x -ℤ taken) step.0 taken t.some (omega (arith, ints)) (omega (arith, ints)) f0 t.mean)
+      subst (λ z. FitsSigned w128 (spent +ℤ (z *ℤ step.0))) (sym left_is)
+      (more_fits spent (x -ℤ taken) step.0 taken t.some (omega (arith, ints)) (omega (arith, ints)) f0 t.mean)
 
-  pub last_is : (r : ℤ) → le_z (to_z w64 (of_z w64 (x -ℤ taken))) (to_z w64 (of_z w64 step.1)) ≡ true → r ≡ spent +ℤ (to_z w64 (of_z w64 (x -ℤ taken)) *ℤ step.0) → IsAt units cost steps x r
-  last_is r h v = here.back r (subst (IsAt taken spent (step ∷ rest) x) (sym (v ∙ ap (λ z. spent +ℤ (z *ℤ step.0)) left_is)) (at_here taken spent step rest x here.rising.2 t.low (last h)))
+  pub last_is : (r : ℤ) → le_z (to_z w64 (of_z w64 (x -ℤ taken))) (to_z w64 (of_z w64 step.1)) ≡ true
+      → r ≡ spent +ℤ (to_z w64 (of_z w64 (x -ℤ taken)) *ℤ step.0) → IsAt units cost steps x r
+  last_is r h v =
+      here.back r
+      (subst (IsAt taken spent (step ∷ rest) x) (sym (v ∙ ap (λ z. spent +ℤ (z *ℤ step.0)) left_is))
+      (at_here taken spent step rest x here.rising.2 t.low (last h)))
 
   pub next_fits : FitsSigned w128 (spent +ℤ (step.1 *ℤ step.0))
   next_fits =
@@ -147,7 +175,10 @@ module _ (units cost : ℤ) (steps : List (ℤ × ℤ)) (x taken spent : ℤ) (l
       let left = steps_some rest here.rising.2 in
       more_fits spent step.1 step.0 taken t.some (omega (arith, ints)) (omega (arith, ints)) f0 t.mean
 
-  pub next : (r : ℤ) → FitsSigned w128 r → le_z (to_z w64 (of_z w64 (x -ℤ taken))) (to_z w64 (of_z w64 step.1)) ≡ false → r ≡ spent +ℤ (step.1 *ℤ step.0) → IsTaken units cost steps x (to_z w64 (of_z w64 (taken +ℤ to_z w64 (of_z w64 step.1)))) (to_z w128 (of_z w128 r)) rest
+  pub next : (r : ℤ) → FitsSigned w128 r → le_z (to_z w64 (of_z w64 (x -ℤ taken))) (to_z w64 (of_z w64 step.1)) ≡ false
+      → r ≡ spent +ℤ (step.1 *ℤ step.0)
+      → IsTaken units cost steps x (to_z w64 (of_z w64 (taken +ℤ to_z w64 (of_z w64 step.1))))
+      (to_z w128 (of_z w128 r)) rest
   next r fr h v =
       let p = past (x -ℤ taken) step.1 f1 (sym (ap (λ z. le_z z (to_z w64 (of_z w64 step.1))) left_is) ∙ h) in
       let some = here.rising.0 in
@@ -165,11 +196,15 @@ module _ (units cost : ℤ) (steps : List (ℤ × ℤ)) (x taken spent : ℤ) (l
         rising = here.rising.2;
         most = omega (arith, ints);
       } in
-      let taken_is : to_z w64 (of_z w64 (taken +ℤ to_z w64 (of_z w64 step.1))) ≡ taken +ℤ step.1 = ap (λ z. to_z w64 (of_z w64 (taken +ℤ z))) (to_z-of_z w64 step.1 f1) ∙ to_z-of_z w64 (taken +ℤ step.1) (fits_some (taken +ℤ step.1) (omega (arith, ints)) (omega (arith, ints))) in
-      subst (λ z. IsTaken units cost steps x z (to_z w128 (of_z w128 r)) rest) (sym taken_is) (subst (λ z. IsTaken units cost steps x (taken +ℤ step.1) z rest) (sym (to_z-of_z w128 r fr ∙ v)) new)
+      let taken_is : to_z w64 (of_z w64 (taken +ℤ to_z w64 (of_z w64 step.1))) ≡ taken +ℤ step.1 =
+      ap (λ z. to_z w64 (of_z w64 (taken +ℤ z))) (to_z-of_z w64 step.1 f1)
+      ∙ to_z-of_z w64 (taken +ℤ step.1) (fits_some (taken +ℤ step.1) (omega (arith, ints)) (omega (arith, ints))) in
+      subst (λ z. IsTaken units cost steps x z (to_z w128 (of_z w128 r)) rest) (sym taken_is)
+      (subst (λ z. IsTaken units cost steps x (taken +ℤ step.1) z rest) (sym (to_z-of_z w128 r fr ∙ v)) new)
 
 -- the end of the loop
-module _ (units cost : ℤ) (steps : List (ℤ × ℤ)) (x taken spent : ℤ) (list : List (ℤ × ℤ)) (t : IsTaken units cost steps x taken spent list) (e : list ≡ []) where
+module _ (units cost : ℤ) (steps : List (ℤ × ℤ)) (x taken spent : ℤ) (list : List (ℤ × ℤ))
+    (t : IsTaken units cost steps x taken spent list) (e : list ≡ []) where
   done : IsTaken units cost steps x taken spent []
   done = subst (IsTaken units cost steps x taken spent) e t
 

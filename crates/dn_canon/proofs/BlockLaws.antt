@@ -19,11 +19,13 @@ module _ {K : Type 0} {sink : SinkWords K} {a b : K} where
   }
 
   -- a fault of a call is the fault of the whole pass
-  pub pass_stopped : (block : List ℕ) {all : List ℕ} (r : Result (Unit {0}) SinkFault) → IsErr r → PutsPrefix sink a b all → Passes sink a b block all r
+  pub pass_stopped : (block : List ℕ) {all : List ℕ} (r : Result (Unit {0}) SinkFault) → IsErr r
+      → PutsPrefix sink a b all → Passes sink a b block all r
   pass_stopped block {all} r is f = MatchResult-from_err r _ _ is (λ e. f)
 
 -- if x is the rest of a text, and y the rest of x, then y is the rest of the text
-pub pass_on : {K : Type 0} {sink : SinkWords K} {a b c : K} {x y all : List ℕ} → HasPut sink a b x all → HasPut sink b c y x → HasPut sink a c y all
+pub pass_on : {K : Type 0} {sink : SinkWords K} {a b c : K} {x y all : List ℕ} → HasPut sink a b x all
+    → HasPut sink b c y x → HasPut sink a c y all
 pass_on {K} {sink} {a} {b} {c} {x} {y} {all} h p = record {
   put = h.put ++ p.put;
   bytes = Appends-trans (sink.taken a) (sink.taken b) (sink.taken c) h.put p.put h.bytes p.bytes;
@@ -32,7 +34,8 @@ pass_on {K} {sink} {a} {b} {c} {x} {y} {all} h p = record {
 }
 
 -- if x is the rest of a text, and a prefix of x is put, a prefix of the text is put
-prefix_on : {K : Type 0} {sink : SinkWords K} {a b c : K} {x all : List ℕ} → HasPut sink a b x all → PutsPrefix sink b c x → PutsPrefix sink a c all
+prefix_on : {K : Type 0} {sink : SinkWords K} {a b c : K} {x all : List ℕ} → HasPut sink a b x all
+    → PutsPrefix sink b c x → PutsPrefix sink a c all
 prefix_on {K} {sink} {a} {b} {c} {x} {all} h f = record {
   put = h.put ++ f.put;
   left = f.left;
@@ -42,30 +45,41 @@ prefix_on {K} {sink} {a} {b} {c} {x} {all} h f = record {
 }
 
 -- if x is the rest of a text, what a call does with x it does with the text
-pub pass_last : {K : Type 0} (sink : SinkWords K) (a b c : K) (x block all : List ℕ) (r : Result (Unit {0}) SinkFault) → HasPut sink a b x all
+pub pass_last : {K : Type 0} (sink : SinkWords K) (a b c : K) (x block all : List ℕ) (r : Result (Unit {0}) SinkFault)
+    → HasPut sink a b x all
     → Passes sink b c block x r → Passes sink a c block all r
 pass_last sink a b c x block all (Ok u) h p = pass_on h p
 pass_last sink a b c x block all (Err e) h p = prefix_on h p
 
 -- appending a text to the whole text appends it to the rest
-longer : {K : Type 0} {sink : SinkWords K} {a b : K} {left all : List ℕ} (rest : List ℕ) → HasPut sink a b left all → HasPut sink a b (left ++ rest) (all ++ rest)
+longer : {K : Type 0} {sink : SinkWords K} {a b : K} {left all : List ℕ} (rest : List ℕ) → HasPut sink a b left all
+    → HasPut sink a b (left ++ rest) (all ++ rest)
 longer {K} {sink} {a} {b} {left} {all} rest h =
-    record { put = h.put; bytes = h.bytes; whole = sym (append_assoc h.put left rest) ∙ ap (λ l. l ++ rest) h.whole; fine = h.fine }
+    record {
+      put = h.put;
+      bytes = h.bytes;
+      whole = sym (append_assoc h.put left rest) ∙ ap (λ l. l ++ rest) h.whole;
+      fine =
+          h.fine;
+    }
 
 -- a part x of the rest passes through the block
-pub pass_more : {K : Type 0} {sink : SinkWords K} {a b c : K} {after all : List ℕ} (before x rest : List ℕ) → HasPut sink a b (before ++ (x ++ rest)) all
+pub pass_more : {K : Type 0} {sink : SinkWords K} {a b c : K} {after all : List ℕ} (before x rest : List ℕ)
+    → HasPut sink a b (before ++ (x ++ rest)) all
     → HasPut sink b c after (before ++ x) → HasPut sink a c (after ++ rest) all
 pass_more {K} {sink} {a} {b} {c} {after} {all} before x rest h p =
     pass_on (subst (λ l. HasPut sink a b l all) (sym (append_assoc before x rest)) h) (longer rest p)
 
 -- if a prefix of the block and the part x is put, a prefix of the text is put
-pub pass_stop : {K : Type 0} {sink : SinkWords K} {a b c : K} {all : List ℕ} (before x rest : List ℕ) → HasPut sink a b (before ++ (x ++ rest)) all
+pub pass_stop : {K : Type 0} {sink : SinkWords K} {a b c : K} {all : List ℕ} (before x rest : List ℕ)
+    → HasPut sink a b (before ++ (x ++ rest)) all
     → PutsPrefix sink b c (before ++ x) → PutsPrefix sink a c all
 pass_stop {K} {sink} {a} {b} {c} {all} before x rest h f =
     prefix_on (subst (λ l. HasPut sink a b l all) (sym (append_assoc before x rest)) h) (prefix_more rest f)
 
 -- if no text follows the block, the block is the rest
-pub all_done : {K : Type 0} {sink : SinkWords K} {a b : K} {all : List ℕ} (block left : List ℕ) → left ≡ [] → HasPut sink a b (block ++ left) all
+pub all_done : {K : Type 0} {sink : SinkWords K} {a b : K} {all : List ℕ} (block left : List ℕ) → left ≡ []
+    → HasPut sink a b (block ++ left) all
     → HasPut sink a b block all
 all_done {K} {sink} {a} {b} {all} block left e has =
     subst (λ l. HasPut sink a b l all) (ap (λ l. block ++ l) e ∙ append-nil block) has

@@ -7,7 +7,8 @@ use Rattle.dn_instance.specs.Sameness.{IsSame}
 use Rattle.dn_canon.specs.CanonInstances.{IsCanonInstance}
 use Rattle.dn_canon.specs.CanonTexts.{IsCanonOf}
 
-canonical_in : (form form' : Form) (J : Instance) → kind_of J ≢ Kinds.Min → IsCanonInstance form J → IsCanonInstance form' J
+canonical_in : (form form' : Form) (J : Instance) → kind_of J ≢ Kinds.Min → IsCanonInstance form J
+    → IsCanonInstance form' J
 canonical_in form form' (MinCostFlow supplies graph) other h = absurd (other refl)
 canonical_in form form' (MaxFlow source sink graph) other h = record { in_order = h.in_order; canonical = h.canonical }
 canonical_in form form' (ShortestPaths graph) other h = record { in_order = h.in_order; canonical = h.canonical }
@@ -24,7 +25,8 @@ same_kind (Queries xs) (Queries ys) h = refl
 same_kind (Coordinates xs) (Coordinates ys) h = refl
 same_kind _ _ h = absurd h
 
-pub canon_in : (form form' : Form) (t : List ℕ) (I : Instance) → kind_of I ≢ Kinds.Min → IsCanonOf form t I → IsCanonOf form' t I
+pub canon_in : (form form' : Form) (t : List ℕ) (I : Instance) → kind_of I ≢ Kinds.Min → IsCanonOf form t I
+    → IsCanonOf form' t I
 canon_in form form' t I other (J, h) = (
   J,
   record {

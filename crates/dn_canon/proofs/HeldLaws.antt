@@ -28,78 +28,127 @@ use Rattle.dn_sink.specs.Sinks.{SinkWords}
 
 -- the arcs that a table lists make the canonical graph of each graph that the table represents
 abbrev Makes : {B Arc : Type 0} → Form → ArcKind Arc → (Form → B → List Arc) → (B → List Arc) → ℤ → Bundles B → Type 0
-Makes {B} {Arc} form kind tells one nodes table = (G : Graph Arc) → G.nodes ≡ nodes → TableTells kind one table G.arcs → IsValidGraph kind G → IsCanonGraphOf kind form (told_graph (tells form) nodes table) G
+Makes {B} {Arc} form kind tells one nodes table = (G : Graph Arc) → G.nodes ≡ nodes → TableTells kind one table G.arcs
+    → IsValidGraph kind G → IsCanonGraphOf kind form (told_graph (tells form) nodes table) G
 
 module _ {S : Type 0} (sink : SinkWords S) (old new : S) (form : Form) where
   -- the outcome of putting a list is the outcome of writing its text
-  put_list : (K : Instance) (result : Result (Unit {0}) SinkFault) → size_of K < 2 ^ 63 → Puts sink old new (print K) result → Writes sink old new (print K) (size_of K) (written_as result)
+  put_list : (K : Instance) (result : Result (Unit {0}) SinkFault) → size_of K < 2 ^ 63
+      → Puts sink old new (print K) result → Writes sink old new (print K) (size_of K) (written_as result)
   put_list K (Ok x) few p = (p, few)
   put_list K (Err x) few p = (p, few)
 
-  pub sources_written : (ids : List ℤ) (c : Contents) (I : Instance) (result : Result (Unit {0}) SinkFault) → OfSs ids ≡ c → Shows c I → IsValid I → length ids < 2 ^ 63 → Puts sink old new (print (Sources ids)) result
+  pub sources_written : (ids : List ℤ) (c : Contents) (I : Instance) (result : Result (Unit {0}) SinkFault)
+      → OfSs ids ≡ c → Shows c I → IsValid I → length ids < 2 ^ 63 → Puts sink old new (print (Sources ids)) result
       → WritesCanon sink old new form I (written_as result)
   sources_written ids c I result e shows valid few p = by_kind I (subst (λ x. Shows x I) (sym e) shows) valid
     where
       by_kind : (I : Instance) → Shows (OfSs ids) I → IsValid I → WritesCanon sink old new form I (written_as result)
-      by_kind (Sources items) s v = subst (λ l. WritesCanon sink old new form (Sources l) (written_as result)) s (Sources ids, companion_canon form (Sources ids) tt (subst (λ l. IsValid (Sources l)) (sym s) v), put_list (Sources ids) result few p)
+      by_kind (Sources items) s v =
+          subst (λ l. WritesCanon sink old new form (Sources l) (written_as result)) s (
+            Sources ids,
+            companion_canon form (Sources ids) tt (subst (λ l. IsValid (Sources l)) (sym s) v),
+            put_list
+                (Sources ids) result few p,
+          )
       by_kind _ s v = absurd s
 
-  pub queries_written : (pairs : List (ℤ × ℤ)) (c : Contents) (I : Instance) (result : Result (Unit {0}) SinkFault) → OfP2p pairs ≡ c → Shows c I → IsValid I → length pairs < 2 ^ 63 → Puts sink old new (print (Queries pairs)) result
+  pub queries_written : (pairs : List (ℤ × ℤ)) (c : Contents) (I : Instance) (result : Result (Unit {0}) SinkFault)
+      → OfP2p pairs ≡ c → Shows c I → IsValid I → length pairs < 2 ^ 63
+      → Puts sink old new (print (Queries pairs)) result
       → WritesCanon sink old new form I (written_as result)
   queries_written pairs c I result e shows valid few p = by_kind I (subst (λ x. Shows x I) (sym e) shows) valid
     where
       by_kind : (I : Instance) → Shows (OfP2p pairs) I → IsValid I → WritesCanon sink old new form I (written_as result)
-      by_kind (Queries items) s v = subst (λ l. WritesCanon sink old new form (Queries l) (written_as result)) s (Queries pairs, companion_canon form (Queries pairs) tt (subst (λ l. IsValid (Queries l)) (sym s) v), put_list (Queries pairs) result few p)
+      by_kind (Queries items) s v =
+          subst (λ l. WritesCanon sink old new form (Queries l) (written_as result)) s (
+            Queries pairs,
+            companion_canon form (Queries pairs) tt (subst (λ l. IsValid (Queries l)) (sym s) v),
+            put_list
+                (Queries pairs) result few p,
+          )
       by_kind _ s v = absurd s
 
-  pub points_written : (points : List (ℤ × (ℤ × ℤ))) (c : Contents) (I : Instance) (result : Result (Unit {0}) SinkFault) → OfCo points ≡ c → Shows c I → IsValid I → length points < 2 ^ 63 → Puts sink old new (print (Coordinates points)) result
+  pub points_written : (points : List (ℤ × (ℤ × ℤ))) (c : Contents) (I : Instance)
+      (result : Result (Unit {0}) SinkFault) → OfCo points ≡ c → Shows c I → IsValid I → length points < 2 ^ 63
+      → Puts sink old new (print (Coordinates points)) result
       → WritesCanon sink old new form I (written_as result)
   points_written points c I result e shows valid few p = by_kind I (subst (λ x. Shows x I) (sym e) shows) valid
     where
       by_kind : (I : Instance) → Shows (OfCo points) I → IsValid I → WritesCanon sink old new form I (written_as result)
-      by_kind (Coordinates items) s v = subst (λ l. WritesCanon sink old new form (Coordinates l) (written_as result)) s (Coordinates points, companion_canon form (Coordinates points) tt (subst (λ l. IsValid (Coordinates l)) (sym s) v), put_list (Coordinates points) result few p)
+      by_kind (Coordinates items) s v =
+          subst (λ l. WritesCanon sink old new form (Coordinates l) (written_as result)) s (
+            Coordinates points,
+            companion_canon form (Coordinates points) tt
+                (subst (λ l. IsValid (Coordinates l)) (sym s) v),
+            put_list (Coordinates points) result few p,
+          )
       by_kind _ s v = absurd s
 
-  pub lengths_written : (tells : Form → Least → List LengthArc) (nodes : ℤ) (table : Bundles Least) (h : Holding) (I : Instance) (result : Result (Unit {0}) Refusal) → OfSp table ≡ h.contents → nodes ≡ h.nodes → IsHeld h I → IsValid I
-      → Makes form lengths tells (λ (b : Least). length_told b.length) nodes table → Writes sink old new (print (ShortestPaths (told_graph (tells form) nodes table))) (length (told_arcs (tells form) table)) result
+  pub lengths_written : (tells : Form → Least → List LengthArc) (nodes : ℤ) (table : Bundles Least) (h : Holding)
+      (I : Instance) (result : Result (Unit {0}) Refusal) → OfSp table ≡ h.contents → nodes ≡ h.nodes → IsHeld h I
+      → IsValid I
+      → Makes form lengths tells (λ (b : Least). length_told b.length) nodes table
+      → Writes sink old new (print (ShortestPaths (told_graph (tells form) nodes table)))
+      (length (told_arcs (tells form) table)) result
       → WritesCanon sink old new form I result
-  lengths_written tells nodes table h I result e n held valid makes w = by_kind I (subst (λ x. Shows x I) (sym e) held.shows) (n ∙ held.nodes_are) valid
+  lengths_written tells nodes table h I result e n held valid makes w =
+      by_kind I (subst (λ x. Shows x I) (sym e) held.shows) (n ∙ held.nodes_are) valid
     where
       H : Graph LengthArc
       H = told_graph (tells form) nodes table
 
-      by_kind : (I : Instance) → Shows (OfSp table) I → nodes ≡ nodes_of I → IsValid I → WritesCanon sink old new form I result
+      by_kind : (I : Instance) → Shows (OfSp table) I → nodes ≡ nodes_of I → IsValid I
+          → WritesCanon sink old new form I result
       by_kind (ShortestPaths G) s m v =
           (ShortestPaths H, sp_canon form G H (makes G (sym m) s.tells_them v), w)
       by_kind _ s m v = absurd s
 
-  pub capacities_written : (tells : Form → Total → List CapArc) (nodes a b : ℤ) (table : Bundles Total) (h : Holding) (I : Instance) (result : Result (Unit {0}) Refusal) → OfMax a b table ≡ h.contents → nodes ≡ h.nodes → IsHeld h I → IsValid I
-      → Makes form capacities tells (λ (b : Total). cap_told b.total) nodes table → Writes sink old new (print (MaxFlow a b (told_graph (tells form) nodes table))) (length (told_arcs (tells form) table)) result
+  pub capacities_written : (tells : Form → Total → List CapArc) (nodes a b : ℤ) (table : Bundles Total) (h : Holding)
+      (I : Instance) (result : Result (Unit {0}) Refusal) → OfMax a b table ≡ h.contents → nodes ≡ h.nodes → IsHeld h I
+      → IsValid I
+      → Makes form capacities tells (λ (b : Total). cap_told b.total) nodes table
+      → Writes sink old new (print (MaxFlow a b (told_graph (tells form) nodes table)))
+      (length (told_arcs (tells form) table)) result
       → WritesCanon sink old new form I result
-  capacities_written tells nodes a b table h I result e n held valid makes w = by_kind I (subst (λ x. Shows x I) (sym e) held.shows) (n ∙ held.nodes_are) valid
+  capacities_written tells nodes a b table h I result e n held valid makes w =
+      by_kind I (subst (λ x. Shows x I) (sym e) held.shows) (n ∙ held.nodes_are) valid
     where
       H : Graph CapArc
       H = told_graph (tells form) nodes table
 
-      by_kind : (I : Instance) → Shows (OfMax a b table) I → nodes ≡ nodes_of I → IsValid I → WritesCanon sink old new form I result
+      by_kind : (I : Instance) → Shows (OfMax a b table) I → nodes ≡ nodes_of I → IsValid I
+          → WritesCanon sink old new form I result
       by_kind (MaxFlow s t G) sh m v =
-          let ends : AreTerminals nodes a b = subst (λ k. AreTerminals k a b) (sym m) (subst (λ x. AreTerminals G.nodes x b) (sym sh.0) (subst (λ y. AreTerminals G.nodes s y) (sym sh.1) v.1)) in
+          let ends : AreTerminals nodes a b =
+          subst (λ k. AreTerminals k a b) (sym m)
+          (subst (λ x. AreTerminals G.nodes x b) (sym sh.0)
+          (subst (λ y. AreTerminals G.nodes s y) (sym sh.1) v.1)) in
           let canon : IsCanonGraphOf capacities form H G = makes G (sym m) sh.2.tells_them v.0 in
           subst (λ x. WritesCanon sink old new form (MaxFlow x t G) result) sh.0
-          (subst (λ y. WritesCanon sink old new form (MaxFlow a y G) result) sh.1 (MaxFlow a b H, max_canon form a b G H canon ends, w))
+          (subst (λ y. WritesCanon sink old new form (MaxFlow a y G) result) sh.1
+          (MaxFlow a b H, max_canon form a b G H canon ends, w))
       by_kind _ sh m v = absurd sh
 
-  pub costs_written : (tells : Form → CurveNumbers → List CostArc) (nodes : ℤ) (flows : List (ℤ × ℤ)) (table : Bundles CurveNumbers) (h : Holding) (I : Instance) (result : Result (Unit {0}) Refusal) → OfMin flows table ≡ h.contents → nodes ≡ h.nodes → IsHeld h I → IsValid I
-      → Makes form costs tells (λ (b : CurveNumbers). told One b.units b.cost b.steps) nodes table → Writes sink old new (print (MinCostFlow flows (told_graph (tells form) nodes table))) (length (told_arcs (tells form) table)) result
+  pub costs_written : (tells : Form → CurveNumbers → List CostArc) (nodes : ℤ) (flows : List (ℤ × ℤ))
+      (table : Bundles CurveNumbers) (h : Holding) (I : Instance) (result : Result (Unit {0}) Refusal)
+      → OfMin flows table ≡ h.contents → nodes ≡ h.nodes → IsHeld h I → IsValid I
+      → Makes form costs tells (λ (b : CurveNumbers). told One b.units b.cost b.steps) nodes table
+      → Writes sink old new (print (MinCostFlow flows (told_graph (tells form) nodes table)))
+      (length (told_arcs (tells form) table)) result
       → WritesCanon sink old new form I result
-  costs_written tells nodes flows table h I result e n held valid makes w = by_kind I (subst (λ x. Shows x I) (sym e) held.shows) (n ∙ held.nodes_are) valid
+  costs_written tells nodes flows table h I result e n held valid makes w =
+      by_kind I (subst (λ x. Shows x I) (sym e) held.shows) (n ∙ held.nodes_are) valid
     where
       H : Graph CostArc
       H = told_graph (tells form) nodes table
 
-      by_kind : (I : Instance) → Shows (OfMin flows table) I → nodes ≡ nodes_of I → IsValid I → WritesCanon sink old new form I result
+      by_kind : (I : Instance) → Shows (OfMin flows table) I → nodes ≡ nodes_of I → IsValid I
+          → WritesCanon sink old new form I result
       by_kind (MinCostFlow supplies G) s m v =
-          let are : AreSupplies nodes flows = subst (λ k. AreSupplies k flows) (sym m) (subst (AreSupplies G.nodes) (sym s.0) v.1) in
+          let are : AreSupplies nodes flows =
+          subst (λ k. AreSupplies k flows) (sym m) (subst (AreSupplies G.nodes) (sym s.0) v.1) in
           let canon : IsCanonGraphOf costs form H G = makes G (sym m) s.1.tells_them v.0 in
-          subst (λ l. WritesCanon sink old new form (MinCostFlow l G) result) s.0 (MinCostFlow flows H, min_canon form flows G H canon are, w)
+          subst (λ l. WritesCanon sink old new form (MinCostFlow l G) result) s.0
+          (MinCostFlow flows H, min_canon form flows G H canon are, w)
       by_kind _ s m v = absurd s

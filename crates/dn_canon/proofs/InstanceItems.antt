@@ -61,7 +61,8 @@ point_item p = Item.Point p.0 p.1.0 p.1.1
 -- the words of the lines after the problem line
 abbrev pub body_rows : Instance → List Row
 body_rows (MinCostFlow supplies graph) = map supply_row supplies ++ map (arc_row costs) graph.arcs
-body_rows (MaxFlow source sink graph) = terminal_row source Key.S ∷ terminal_row sink Key.T ∷ map (arc_row capacities) graph.arcs
+body_rows (MaxFlow source sink graph) =
+    terminal_row source Key.S ∷ terminal_row sink Key.T ∷ map (arc_row capacities) graph.arcs
 body_rows (ShortestPaths graph) = map (arc_row lengths) graph.arcs
 body_rows (Sources ids) = map source_row ids
 body_rows (Queries pairs) = map query_row pairs
@@ -70,7 +71,8 @@ body_rows (Coordinates points) = map point_row points
 -- the items after the problem line
 abbrev pub body_of : Instance → List Line
 body_of (MinCostFlow supplies graph) = map supply_item supplies ++ map min_item graph.arcs
-body_of (MaxFlow source sink graph) = Item.Terminal source Letters.S ∷ Item.Terminal sink Letters.T ∷ map max_item graph.arcs
+body_of (MaxFlow source sink graph) =
+    Item.Terminal source Letters.S ∷ Item.Terminal sink Letters.T ∷ map max_item graph.arcs
 body_of (ShortestPaths graph) = map sp_item graph.arcs
 body_of (Sources ids) = map Item.Source ids
 body_of (Queries pairs) = map query_item pairs
@@ -98,8 +100,10 @@ companion_words : (k : Kind) (n : ℕ) → IsInk (kind_name k) → AllWords (com
 companion_words k n h = ((refl, tt), ((refl, (refl, (refl, tt))), ((refl, (refl, tt)), (h, (number_word (pos n), tt)))))
 
 -- the lines of arcs consist of words
-arc_words : {Arc : Type 0} (kind : ArcKind Arc) (arcs : List ((ℤ × ℤ) × Arc)) → AllByRecursion AllWords (map (arc_row kind) arcs)
-arc_words kind arcs = all_map AllWords (arc_row kind) (λ a. row_words Key.A (a.0.0 ∷ a.0.1 ∷ kind.numbers a.1) (refl, tt)) arcs
+arc_words : {Arc : Type 0} (kind : ArcKind Arc) (arcs : List ((ℤ × ℤ) × Arc))
+    → AllByRecursion AllWords (map (arc_row kind) arcs)
+arc_words kind arcs =
+    all_map AllWords (arc_row kind) (λ a. row_words Key.A (a.0.0 ∷ a.0.1 ∷ kind.numbers a.1) (refl, tt)) arcs
 
 -- each line after the problem line consists of words
 pub body_words : (I : Instance) → AllByRecursion AllWords (body_rows I)
@@ -114,16 +118,34 @@ body_words (MaxFlow source sink graph) = (
 body_words (ShortestPaths graph) = arc_words lengths graph.arcs
 body_words (Sources ids) = all_map AllWords source_row (λ i. row_words Key.S (i ∷ []) (refl, tt)) ids
 body_words (Queries pairs) = all_map AllWords query_row (λ q. row_words Key.Q (q.0 ∷ q.1 ∷ []) (refl, tt)) pairs
-body_words (Coordinates points) = all_map AllWords point_row (λ p. row_words Key.V (p.0 ∷ p.1.0 ∷ p.1.1 ∷ []) (refl, tt)) points
+body_words (Coordinates points) =
+    all_map AllWords point_row (λ p. row_words Key.V (p.0 ∷ p.1.0 ∷ p.1.1 ∷ []) (refl, tt)) points
 
 -- the problem line names the kind
 pub head_is : (I : Instance) → IsHead (head_row I) (head_item I) (kind_of I)
-head_is (MinCostFlow supplies graph) = record { words = graph_words Kinds.Min graph.nodes (length graph.arcs) (refl, (refl, (refl, tt))); kind = refl; declares = refl }
-head_is (MaxFlow source sink graph) = record { words = graph_words Kinds.Max graph.nodes (length graph.arcs) (refl, (refl, (refl, tt))); kind = refl; declares = refl }
-head_is (ShortestPaths graph) = record { words = graph_words Kinds.Sp graph.nodes (length graph.arcs) (refl, (refl, tt)); kind = refl; declares = refl }
-head_is (Sources ids) = record { words = companion_words Kinds.Ss (length ids) (refl, (refl, tt)); kind = refl; declares = refl }
-head_is (Queries pairs) = record { words = companion_words Kinds.P2p (length pairs) (refl, (refl, (refl, tt))); kind = refl; declares = refl }
-head_is (Coordinates points) = record { words = companion_words Kinds.Co (length points) (refl, (refl, tt)); kind = refl; declares = refl }
+head_is (MinCostFlow supplies graph) =
+    record {
+      words = graph_words Kinds.Min graph.nodes (length graph.arcs) (refl, (refl, (refl, tt)));
+      kind = refl;
+      declares =
+          refl;
+    }
+head_is (MaxFlow source sink graph) =
+    record {
+      words = graph_words Kinds.Max graph.nodes (length graph.arcs) (refl, (refl, (refl, tt)));
+      kind = refl;
+      declares =
+          refl;
+    }
+head_is (ShortestPaths graph) =
+    record
+    { words = graph_words Kinds.Sp graph.nodes (length graph.arcs) (refl, (refl, tt)); kind = refl; declares = refl }
+head_is (Sources ids) =
+    record { words = companion_words Kinds.Ss (length ids) (refl, (refl, tt)); kind = refl; declares = refl }
+head_is (Queries pairs) =
+    record { words = companion_words Kinds.P2p (length pairs) (refl, (refl, (refl, tt))); kind = refl; declares = refl }
+head_is (Coordinates points) =
+    record { words = companion_words Kinds.Co (length points) (refl, (refl, tt)); kind = refl; declares = refl }
 
 -- NODES in the words of a problem line; 0 for a companion
 abbrev pub nodes_in : Row → ℤ
@@ -145,36 +167,51 @@ differ a b n = elim (cases_Bool (int_eq a b)) [ inl is ↦ absurd (n ((Decides-i
 
 -- the supply of a supply's item is the supply
 supply_back : (nodes : ℤ) (s : ℤ × ℤ) → IsSupply nodes s → supply_in (supply_item s) ≡ Some s
-supply_back nodes s h = ap (λ (t : Bool). let o : Option (ℤ × ℤ) = cond t None (Some (s.0, s.1)) in o) (differ s.1 (pos 0) h.some)
+supply_back nodes s h =
+    ap (λ (t : Bool). let o : Option (ℤ × ℤ) = cond t None (Some (s.0, s.1)) in o) (differ s.1 (pos 0) h.some)
 
 -- the supplies of the items are the supplies
-supplies_back : (graph : Graph _) (supplies : List (ℤ × ℤ)) → AreSupplies graph.nodes supplies → supplies_of (map supply_item supplies ++ map min_item graph.arcs) ≡ supplies
+supplies_back : (graph : Graph _) (supplies : List (ℤ × ℤ)) → AreSupplies graph.nodes supplies
+    → supplies_of (map supply_item supplies ++ map min_item graph.arcs) ≡ supplies
 supplies_back graph supplies v =
     ap by_key (
     filter_map-append supply_in (map supply_item supplies) (map min_item graph.arcs)
-    ∙ ap (λ l. l ++ filter_map supply_in (map min_item graph.arcs)) (items_back supply_in supply_item (IsSupply graph.nodes) (supply_back graph.nodes) supplies v.each)
+    ∙ ap (λ l. l ++ filter_map supply_in (map min_item graph.arcs))
+    (items_back supply_in supply_item (IsSupply graph.nodes) (supply_back graph.nodes) supplies v.each)
     ∙ ap (λ l. supplies ++ l) (no_items supply_in min_item min_items.no_supply graph.arcs)
     ∙ append-nil supplies)
     ∙ by_key_rising supplies v.map
 
 -- the arcs of the items are the arcs
-min_arcs_back : (graph : Graph _) (supplies : List (ℤ × ℤ)) → arcs_of cost_arc_in (map supply_item supplies ++ map min_item graph.arcs) ≡ graph.arcs
+min_arcs_back : (graph : Graph _) (supplies : List (ℤ × ℤ))
+    → arcs_of cost_arc_in (map supply_item supplies ++ map min_item graph.arcs) ≡ graph.arcs
 min_arcs_back graph supplies =
     filter_map-append cost_arc_in (map supply_item supplies) (map min_item graph.arcs)
-    ∙ ap (λ l. l ++ arcs_of cost_arc_in (map min_item graph.arcs)) (no_items cost_arc_in supply_item (λ s. refl) supplies)
+    ∙ ap (λ l. l ++ arcs_of cost_arc_in (map min_item graph.arcs))
+    (no_items cost_arc_in supply_item (λ s. refl) supplies)
     ∙ arcs_back costs cost_arc_in Kinds.Min min_item min_items graph.arcs
 
 -- the items after the problem line make the instance
 pub body_makes : (I : Instance) → IsValid I → instance_as (kind_of I) (nodes_of I) (body_of I) ≡ Some I
 body_makes (MinCostFlow supplies graph) v =
-    ap (λ s. Some (MinCostFlow s (graph_of cost_arc_in graph.nodes (body_of (MinCostFlow supplies graph))))) (supplies_back graph supplies v.1)
-    ∙ ap (λ arcs. Some (MinCostFlow supplies (record { nodes = graph.nodes; arcs = arcs }))) (min_arcs_back graph supplies)
-body_makes (MaxFlow source sink graph) v = ap (λ arcs. Some (MaxFlow source sink (record { nodes = graph.nodes; arcs = arcs }))) (arcs_back capacities cap_arc_in Kinds.Max max_item max_items graph.arcs)
-body_makes (ShortestPaths graph) v = ap (λ arcs. Some (ShortestPaths (record { nodes = graph.nodes; arcs = arcs }))) (arcs_back lengths length_arc_in Kinds.Sp sp_item sp_items graph.arcs)
-body_makes (Sources ids) v = ap (λ l. Some (Sources l)) (items_back source_in Item.Source (λ i. Unit {0}) (λ i h. refl) ids (always ids))
-body_makes (Queries pairs) v = ap (λ l. Some (Queries l)) (items_back query_in query_item (λ q. Unit {0}) (λ q h. refl) pairs (always pairs))
+    ap (λ s. Some (MinCostFlow s (graph_of cost_arc_in graph.nodes (body_of (MinCostFlow supplies graph)))))
+    (supplies_back graph supplies v.1)
+    ∙ ap (λ arcs. Some (MinCostFlow supplies (record { nodes = graph.nodes; arcs = arcs })))
+    (min_arcs_back graph supplies)
+body_makes (MaxFlow source sink graph) v =
+    ap (λ arcs. Some (MaxFlow source sink (record { nodes = graph.nodes; arcs = arcs })))
+    (arcs_back capacities cap_arc_in Kinds.Max max_item max_items graph.arcs)
+body_makes (ShortestPaths graph) v =
+    ap (λ arcs. Some (ShortestPaths (record { nodes = graph.nodes; arcs = arcs })))
+    (arcs_back lengths length_arc_in Kinds.Sp sp_item sp_items graph.arcs)
+body_makes (Sources ids) v =
+    ap (λ l. Some (Sources l)) (items_back source_in Item.Source (λ i. Unit {0}) (λ i h. refl) ids (always ids))
+body_makes (Queries pairs) v =
+    ap (λ l. Some (Queries l)) (items_back query_in query_item (λ q. Unit {0}) (λ q h. refl) pairs (always pairs))
 body_makes (Coordinates points) v =
-    ap (λ l. Some (Coordinates l)) (ap by_key (items_back point_in point_item (λ p. Unit {0}) (λ p h. refl) points (always points)) ∙ by_key_rising points v.map)
+    ap (λ l. Some (Coordinates l))
+    (ap by_key (items_back point_in point_item (λ p. Unit {0}) (λ p h. refl) points (always points))
+    ∙ by_key_rising points v.map)
 
 -- all items make the instance
 pub items_make : (I : Instance) → IsValid I → instance_of (head_item I ∷ body_of I) ≡ Some I

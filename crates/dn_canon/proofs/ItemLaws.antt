@@ -51,32 +51,43 @@ none_two : (a b : Bool) (c d : Code) → a ≡ false → b ≡ false → first_f
 none_two a b c d p q = rw (p, q) refl
 
 -- five tests that do not apply give no fault
-none_five : (a b c d e : Bool) (u v w x y : Code) → a ≡ false → b ≡ false → c ≡ false → d ≡ false → e ≡ false → first_fault ((u, a) ∷ (v, b) ∷ (w, c) ∷ (x, d) ∷ (y, e) ∷ []) ≡ None
+none_five : (a b c d e : Bool) (u v w x y : Code) → a ≡ false → b ≡ false → c ≡ false → d ≡ false → e ≡ false
+    → first_fault ((u, a) ∷ (v, b) ∷ (w, c) ∷ (x, d) ∷ (y, e) ∷ []) ≡ None
 none_five a b c d e u v w x y p q r s t = rw (p, q, r, s, t) refl
 
 -- a line that spells an item is read as this item
-spells_item : (known : Option Kind) (l : List ℕ) (i : Line) → Spells known (said_words l) i → item_spelled (words_read known (said_words l)) ≡ Some i
-spells_item known l i s = ap item_spelled ((read_item known l i (spells_unskipped known l i s)).1 s) ∙ item_some i s.slots s.slots_are
+spells_item : (known : Option Kind) (l : List ℕ) (i : Line) → Spells known (said_words l) i
+    → item_spelled (words_read known (said_words l)) ≡ Some i
+spells_item known l i s =
+    ap item_spelled ((read_item known l i (spells_unskipped known l i s)).1 s) ∙ item_some i s.slots s.slots_are
 
 -- a line that is not skipped, and whose number is in range, has only the faults of its words
-not_skipped : (b : Bool) (n : ℕ) (ts : List Test) → b ≡ false → is_too_long n ≡ false → first_fault ts ≡ None → first_fault ((TooLong, is_too_long n) ∷ cond b [] ts) ≡ None
+not_skipped : (b : Bool) (n : ℕ) (ts : List Test) → b ≡ false → is_too_long n ≡ false → first_fault ts ≡ None
+    → first_fault ((TooLong, is_too_long n) ∷ cond b [] ts) ≡ None
 not_skipped b n ts e f h = rw (e, f) h
 
 -- a line whose number is in range has no fault, if its item follows the items before it
-no_fault : (n : ℕ) (before : List Line) (l : List ℕ) (i : Line) → is_too_long n ≡ false → Follows before (said_words l) i → line_fault n before (said_words l) ≡ None
+no_fault : (n : ℕ) (before : List Line) (l : List ℕ) (i : Line) → is_too_long n ≡ false
+    → Follows before (said_words l) i → line_fault n before (said_words l) ≡ None
 no_fault n before l i short f =
     let known = kind_known before in
     let ws = said_words l in
     let own = none_both (head_tests known ws) (field_tests (fields known ws)) (spells_faultless known ws i f.spells) in
-    let order : first_fault (order_tests before ws) ≡ None = none_two (is_late_node before ws) (is_surplus before ws) LateNode TooManyLines f.early f.wanted in
+    let order : first_fault (order_tests before ws) ≡ None =
+    none_two (is_late_node before ws) (is_surplus before ws) LateNode TooManyLines f.early f.wanted in
     let last : first_fault (item_tests before (Some i)) ≡ None =
-    none_five (is_stray before i) (is_repeated before i) (is_same_terminal before i) (is_low_above_cap i) (is_sum_too_large before i)
+    none_five (is_stray before i) (is_repeated before i) (is_same_terminal before i) (is_low_above_cap i)
+    (is_sum_too_large before i)
     NodeOutOfRange RepeatedNode SameTerminal LowAboveCap SumTooLarge
     f.in_range f.once f.apart f.low f.sum in
-    let item : first_fault (item_tests before (item_spelled (words_read known ws))) ≡ None = ap (λ o. first_fault (item_tests before o)) (spells_item known l i f.spells) ∙ last in
+    let item : first_fault (item_tests before (item_spelled (words_read known ws))) ≡ None =
+    ap (λ o. first_fault (item_tests before o)) (spells_item known l i f.spells) ∙ last in
     not_skipped (is_skip ws) n (line_tests before ws) (spells_unskipped known l i f.spells) short
-    (none_append (head_tests known ws) (order_tests before ws ++ (field_tests (fields known ws) ++ item_tests before (item_spelled (words_read known ws)))) own.0
-    (none_append (order_tests before ws) (field_tests (fields known ws) ++ item_tests before (item_spelled (words_read known ws))) order
+    (none_append (head_tests known ws)
+    (order_tests before ws ++
+    (field_tests (fields known ws) ++ item_tests before (item_spelled (words_read known ws)))) own.0
+    (none_append (order_tests before ws)
+    (field_tests (fields known ws) ++ item_tests before (item_spelled (words_read known ws))) order
     (none_append (field_tests (fields known ws)) (item_tests before (item_spelled (words_read known ws))) own.1 item)))
 
 -- the items of lines that are read as lines of this kind
@@ -94,33 +105,44 @@ module _ (r : Row) (h : Line) (k : Kind) (head : IsHead r h k) where
   known_is : (items : List Line) → kind_known (h ∷ items) ≡ Some k
   known_is items = by_problem (problem_in h) head.declares
     where
-      by_problem : (o : Option Problem) → option_map (λ (p : Problem). p.kind) o ≡ Some k → option_map (λ (p : Problem). p.kind) (option_or o (problem_of items)) ≡ Some k
+      by_problem : (o : Option Problem) → option_map (λ (p : Problem). p.kind) o ≡ Some k
+          → option_map (λ (p : Problem). p.kind) (option_or o (problem_of items)) ≡ Some k
       by_problem None e = cc
       by_problem (Some p) e = e
 
   -- the line of a row spells the item that the row spells
-  row_spells : (x : Row) (i : Line) (items : List Line) → AllWords x → Follows (h ∷ items) (map said x) i → Spells (Some k) (said_words (line_of x)) i
-  row_spells x i items w f = subst (λ ws. Spells (Some k) ws i) (sym (said_are x w)) (subst (λ o. Spells o (map said x) i) (known_is items) f.spells)
+  row_spells : (x : Row) (i : Line) (items : List Line) → AllWords x → Follows (h ∷ items) (map said x) i
+      → Spells (Some k) (said_words (line_of x)) i
+  row_spells x i items w f =
+      subst (λ ws. Spells (Some k) ws i) (sym (said_are x w))
+      (subst (λ o. Spells o (map said x) i) (known_is items) f.spells)
 
   -- the items of the lines after the problem line depend only on its kind
-  pub body_items : (before : List Line) (rs : List Row) (items : List Line) → AllByRecursion AllWords rs → AllFollow (h ∷ before) rs items → items_under (Some k) (map line_of rs) ≡ items
+  pub body_items : (before : List Line) (rs : List Row) (items : List Line) → AllByRecursion AllWords rs
+      → AllFollow (h ∷ before) rs items → items_under (Some k) (map line_of rs) ≡ items
   body_items before [] [] w f = refl
   body_items before [] (i ∷ items) w f = absurd f
   body_items before (x ∷ rs) [] w f = absurd f
   body_items before (x ∷ rs) (i ∷ items) w f =
-      ap (λ (o : Option Line). cons_option o (items_under (Some k) (map line_of rs))) (spells_item (Some k) (line_of x) i (row_spells x i before w.0 f.0))
+      ap (λ (o : Option Line). cons_option o (items_under (Some k) (map line_of rs)))
+      (spells_item (Some k) (line_of x) i (row_spells x i before w.0 f.0))
       ∙ ap (λ l. i ∷ l) (body_items (before ++ i ∷ []) rs items w.1 f.1)
 
 -- the line of a row follows the items before it if the row does
-line_follows : (before : List Line) (x : Row) (i : Line) → AllWords x → Follows before (map said x) i → Follows before (said_words (line_of x)) i
+line_follows : (before : List Line) (x : Row) (i : Line) → AllWords x → Follows before (map said x) i
+    → Follows before (said_words (line_of x)) i
 line_follows before x i w f = subst (λ ws. Follows before ws i) (sym (said_are x w)) f
 
 -- the line of a row appends its item
-adds_item : (before : List Line) (x : Row) (i : Line) → AllWords x → Follows before (map said x) i → with_next before (said_words (line_of x)) ≡ before ++ i ∷ []
-adds_item before x i w f = ap (λ o. before ++ option_to_list o) (spells_item (kind_known before) (line_of x) i (line_follows before x i w f).spells)
+adds_item : (before : List Line) (x : Row) (i : Line) → AllWords x → Follows before (map said x) i
+    → with_next before (said_words (line_of x)) ≡ before ++ i ∷ []
+adds_item before x i w f =
+    ap (λ o. before ++ option_to_list o)
+    (spells_item (kind_known before) (line_of x) i (line_follows before x i w f).spells)
 
 -- the lines of rows append their items
-rows_add : (before : List Line) (rs : List Row) (items : List Line) → AllByRecursion AllWords rs → AllFollow before rs items → fold (λ xs l. with_next xs (said_words l)) before (map line_of rs) ≡ before ++ items
+rows_add : (before : List Line) (rs : List Row) (items : List Line) → AllByRecursion AllWords rs
+    → AllFollow before rs items → fold (λ xs l. with_next xs (said_words l)) before (map line_of rs) ≡ before ++ items
 rows_add before [] [] w f = sym (append-nil before)
 rows_add before [] (i ∷ items) w f = absurd f
 rows_add before (x ∷ rs) [] w f = absurd f
@@ -129,16 +151,20 @@ rows_add before (x ∷ rs) (i ∷ items) w f =
     ∙ rows_add (before ++ i ∷ []) rs items w.1 f.1
     ∙ append_assoc before (i ∷ []) items
 
-pub items_are : (rs : List Row) (items : List Line) → AllByRecursion AllWords rs → AllFollow [] rs items → items_of (map line_of rs) ≡ items
+pub items_are : (rs : List Row) (items : List Line) → AllByRecursion AllWords rs → AllFollow [] rs items
+    → items_of (map line_of rs) ≡ items
 items_are rs items w f = rows_add [] rs items w f
 
 -- the next line has no fault
-next_clean : (ls : List (List ℕ)) (before : List Line) (x : Row) (i : Line) → items_of ls ≡ before → AllWords x → Follows before (map said x) i → is_too_long (length ls + 1) ≡ false → fault_after ls (line_of x) ≡ None
+next_clean : (ls : List (List ℕ)) (before : List Line) (x : Row) (i : Line) → items_of ls ≡ before → AllWords x
+    → Follows before (map said x) i → is_too_long (length ls + 1) ≡ false → fault_after ls (line_of x) ≡ None
 next_clean ls before x i e w f short =
-    ap (λ items. line_fault (length ls + 1) items (said_words (line_of x))) e ∙ no_fault (length ls + 1) before (line_of x) i short (line_follows before x i w f)
+    ap (λ items. line_fault (length ls + 1) items (said_words (line_of x))) e
+    ∙ no_fault (length ls + 1) before (line_of x) i short (line_follows before x i w f)
 
 -- each of the lines has no fault after the lines before it
-parted_clean : (ls : List (List ℕ)) (before : List Line) (rs : List Row) (items : List Line) (b : List (List ℕ)) (l : List ℕ) (a : List (List ℕ)) → items_of ls ≡ before → AllByRecursion AllWords rs → AllFollow before rs items
+parted_clean : (ls : List (List ℕ)) (before : List Line) (rs : List Row) (items : List Line) (b : List (List ℕ))
+    (l : List ℕ) (a : List (List ℕ)) → items_of ls ≡ before → AllByRecursion AllWords rs → AllFollow before rs items
     → map line_of rs ≡ b ++ l ∷ a → is_too_long (length (ls ++ b) + 1) ≡ false → fault_after (ls ++ b) l ≡ None
 parted_clean ls before [] items [] l a e w f p short = cc
 parted_clean ls before [] items (y ∷ b) l a e w f p short = cc
@@ -146,22 +172,29 @@ parted_clean ls before (x ∷ rs) [] b l a e w f p short = absurd f
 parted_clean ls before (x ∷ rs) (i ∷ items) [] l a e w f p short =
     let here : line_of x ≡ l = cc in
     subst (λ m. fault_after m l ≡ None) (sym (append-nil ls))
-    (subst (λ m. fault_after ls m ≡ None) here (next_clean ls before x i e w.0 f.0 (subst (λ m. is_too_long (length m + 1) ≡ false) (append-nil ls) short)))
+    (subst (λ m. fault_after ls m ≡ None) here
+    (next_clean ls before x i e w.0 f.0 (subst (λ m. is_too_long (length m + 1) ≡ false) (append-nil ls) short)))
 parted_clean ls before (x ∷ rs) (i ∷ items) (y ∷ b) l a e w f p short =
     let here : line_of x ≡ y = cc in
     let rest : map line_of rs ≡ b ++ l ∷ a = cc in
     let more : items_of (ls ++ y ∷ []) ≡ before ++ i ∷ [] =
-    items_push ls y ∙ ap (λ xs. with_next xs (said_words y)) e ∙ subst (λ m. with_next before (said_words m) ≡ before ++ i ∷ []) here (adds_item before x i w.0 f.0) in
+    items_push ls y ∙ ap (λ xs. with_next xs (said_words y)) e
+    ∙ subst (λ m. with_next before (said_words m) ≡ before ++ i ∷ []) here (adds_item before x i w.0 f.0) in
     subst (λ m. fault_after m l ≡ None) (append_assoc ls (y ∷ []) b)
-    (parted_clean (ls ++ y ∷ []) (before ++ i ∷ []) rs items b l a more w.1 f.1 rest (subst (λ m. is_too_long (length m + 1) ≡ false) (sym (append_assoc ls (y ∷ []) b)) short))
+    (parted_clean (ls ++ y ∷ []) (before ++ i ∷ []) rs items b l a more w.1 f.1 rest
+    (subst (λ m. is_too_long (length m + 1) ≡ false) (sym (append_assoc ls (y ∷ []) b)) short))
 
 -- rows whose items follow one another make a text without a fault
-pub rows_clean : (rs : List Row) (items : List Line) → AllByRecursion AllWords rs → AllFollow [] rs items → length (map line_of rs) < 2 ^ 63 - 1 → IsClean (map line_of rs)
+pub rows_clean : (rs : List Row) (items : List Line) → AllByRecursion AllWords rs → AllFollow [] rs items
+    → length (map line_of rs) < 2 ^ 63 - 1 → IsClean (map line_of rs)
 rows_clean rs items w f few = λ n c at.
     let parted = ap length at.lines_are in
     let count : length at.before + 1 < 2 ^ 63 - 1 = omega (arith, length-append at.before (at.line ∷ at.after)) in
-    let none : fault_after at.before at.line ≡ None = parted_clean [] [] rs items at.before at.line at.after refl w f at.lines_are (short (length at.before + 1) count) in
-    let some : fault_after at.before at.line ≡ Some c = subst (λ (m : ℕ). line_fault m (items_of at.before) (said_words at.line) ≡ Some c) at.number_is at.fault_is in
+    let none : fault_after at.before at.line ≡ None =
+    parted_clean [] [] rs items at.before at.line at.after refl w f at.lines_are
+    (short (length at.before + 1) count) in
+    let some : fault_after at.before at.line ≡ Some c =
+    subst (λ (m : ℕ). line_fault m (items_of at.before) (said_words at.line) ≡ Some c) at.number_is at.fault_is in
     let never : None ≡ Some c = sym none ∙ some in
     cc
   where

@@ -36,7 +36,8 @@ print_long : (I : Instance) → size_of I ≤ length (print I)
 print_long I = let h = rows_long (rows I) in let g = enough I in omega arith
 
 -- a text of fewer than 2^63 bytes is not a canonical text of 2^63 counted lines
-not_so_large : (form : Form) (t : List ℕ) (I : Instance) → IsTooLarge form I → length t < 2 ^ 63 → (false ≡ true) ↔ IsCanonOf form t I
+not_so_large : (form : Form) (t : List ℕ) (I : Instance) → IsTooLarge form I → length t < 2 ^ 63
+    → (false ≡ true) ↔ IsCanonOf form t I
 not_so_large form t I (K, canon, large) small = (
   λ y. cc,
   λ h. (
@@ -49,7 +50,13 @@ not_so_large form t I (K, canon, large) small = (
 
 -- the description of a sink that compares
 abbrev matcher_words : SinkWords Matched
-matcher_words = record { taken = λ (m : Matched). Some (taken_of m); has_failed = λ (m : Matched). m.failed; is_flushed = λ (m : Matched). true }
+matcher_words =
+    record {
+      taken = λ (m : Matched). Some (taken_of m);
+      has_failed = λ (m : Matched). m.failed;
+      is_flushed =
+          λ (m : Matched). true;
+    }
 
 -- what a comparing sink has taken determines the text and the bytes put
 told_apart : (t u put put' : List ℕ) → length t ∷ (t ++ put) ≡ length u ∷ (u ++ put') → (t ≡ u) × (put ≡ put')
@@ -60,33 +67,42 @@ told_apart t u put put' e =
       sym (drop_at t put (length u) many) ∙ ap (λ l. drop (length u) l) rest ∙ drop_at u put' (length u) refl,
     )
 
-module _ (form : Form) (t : List ℕ) (I : Instance) (old new : Matched) (begins : old.text ≡ t) (empty : old.put ≡ []) where
+module _ (form : Form) (t : List ℕ) (I : Instance) (old new : Matched) (begins : old.text ≡ t)
+    (empty : old.put ≡ []) where
   -- the bytes put are all that the sink has taken since it was made
   put_since : (put : List ℕ) → taken_of new ≡ taken_of old ++ put → (new.text ≡ t) × (new.put ≡ put)
   put_since put e =
-      let from : taken_of old ≡ length t ∷ (t ++ []) = ap (λ l. length l ∷ (l ++ old.put)) begins ∙ ap (λ l. length t ∷ (t ++ l)) empty in
+      let from : taken_of old ≡ length t ∷ (t ++ []) =
+      ap (λ l. length l ∷ (l ++ old.put)) begins ∙ ap (λ l. length t ∷ (t ++ l)) empty in
       told_apart new.text t new.put put (e ∙ ap (λ l. l ++ put) (from ∙ ap (λ l. length t ∷ l) (append-nil t)))
 
   -- if the canonical text was put whole, the answer of the sink is right
-  pub judged_whole : WritesCanon matcher_words old new form I (Ok tt) → (answer : Bool) → (answer ≡ true) ↔ (new.put ≡ new.text) → (answer ≡ true) ↔ IsCanonOf form t I
+  pub judged_whole : WritesCanon matcher_words old new form I (Ok tt) → (answer : Bool)
+      → (answer ≡ true) ↔ (new.put ≡ new.text) → (answer ≡ true) ↔ IsCanonOf form t I
   judged_whole (J, canon, w) answer match =
       let since = put_since w.0.put w.0.bytes in
       let whole : new.put ≡ print J = since.1 ∙ sym (append-nil w.0.put) ∙ w.0.whole in (
         λ y. (J, record { canon = canon; text_is = sym since.0 ∙ sym (match.0 y) ∙ whole }),
-        λ h. match.1 (whole ∙ (texts_agree form (print J) t I I (J, record { canon = canon; text_is = refl }) h).1 (refl_of I) ∙ sym since.0),
+        λ h. match.1
+            (whole ∙ (texts_agree form (print J) t I I (J, record { canon = canon; text_is = refl }) h).1 (refl_of I)
+            ∙ sym since.0),
       )
 
   -- if the sink stopped the writing, the text is not canonical
-  judged_part : WritesCanon matcher_words old new form I (Err Write) → (new.failed ≡ true → IsNoPrefix new.put new.text) → (false ≡ true) ↔ IsCanonOf form t I
+  judged_part : WritesCanon matcher_words old new form I (Err Write) → (new.failed ≡ true → IsNoPrefix new.put new.text)
+      → (false ≡ true) ↔ IsCanonOf form t I
   judged_part (J, canon, w) apart =
       let since = put_since w.0.put w.0.bytes in (
         λ y. cc,
         λ h. absurd (apart w.0.failed w.0.left
-            (ap (λ l. l ++ w.0.left) since.1 ∙ w.0.whole ∙ (texts_agree form (print J) t I I (J, record { canon = canon; text_is = refl }) h).1 (refl_of I) ∙ sym since.0)),
+            (ap (λ l. l ++ w.0.left) since.1 ∙ w.0.whole
+            ∙ (texts_agree form (print J) t I I (J, record { canon = canon; text_is = refl }) h).1 (refl_of I)
+            ∙ sym since.0)),
       )
 
   -- if writing was refused, the text is not canonical
-  pub judged_unwritten : (e : Refusal) → WritesCanon matcher_words old new form I (Err e) → (new.failed ≡ true → IsNoPrefix new.put new.text) → length t < 2 ^ 63
+  pub judged_unwritten : (e : Refusal) → WritesCanon matcher_words old new form I (Err e)
+      → (new.failed ≡ true → IsNoPrefix new.put new.text) → length t < 2 ^ 63
       → (false ≡ true) ↔ IsCanonOf form t I
   judged_unwritten Write w apart small = judged_part w apart
   judged_unwritten CountTooLarge (K, canon, w) apart small = not_so_large form t I (K, canon, w.1) small

@@ -17,7 +17,8 @@ module _ {X : Type 0} where
   AllBelow k es = AllByRecursion (λ (e : ℤ × X). int_cmp e.0 k ≡ Less) es
 
   -- what holds of each key holds of the key at this position
-  key_at : (P : ℤ → Type 0) (d : List (ℤ × X)) (e : ℤ × X) (r : List (ℤ × X)) → AllByRecursion P (keys_of (d ++ e ∷ r)) → P e.0
+  key_at : (P : ℤ → Type 0) (d : List (ℤ × X)) (e : ℤ × X) (r : List (ℤ × X)) → AllByRecursion P (keys_of (d ++ e ∷ r))
+      → P e.0
   key_at P [] e r h = h.0
   key_at P (x ∷ d) e r h = key_at P d e r h.1
 
@@ -33,11 +34,13 @@ module _ {X : Type 0} where
   put_last : (es : List (ℤ × X)) (k : ℤ) (v : X) → AllBelow k es → insert_entry int_cmp es k v ≡ es ++ (k, v) ∷ []
   put_last [] k v h = refl
   put_last (e ∷ es) k v h =
-      ap (λ o. match_ordering o ((k, v) ∷ e ∷ es) ((e.0, v) ∷ es) (e ∷ insert_entry int_cmp es k v)) (int_cmp_total.antisymm k e.0 ∙ ap ordering_reverse h.0)
+      ap (λ o. match_ordering o ((k, v) ∷ e ∷ es) ((e.0, v) ∷ es) (e ∷ insert_entry int_cmp es k v))
+      (int_cmp_total.antisymm k e.0 ∙ ap ordering_reverse h.0)
       ∙ ap (λ l. e ∷ l) (put_last es k v h.1)
 
   -- entries by rising key are appended one after another
-  put_all : (done es : List (ℤ × X)) → IsMap (done ++ es) → fold (λ m e. insert_entry int_cmp m e.0 e.1) done es ≡ done ++ es
+  put_all : (done es : List (ℤ × X)) → IsMap (done ++ es)
+      → fold (λ m e. insert_entry int_cmp m e.0 e.1) done es ≡ done ++ es
   put_all done [] m = sym (append-nil done)
   put_all done (e ∷ es) m =
       ap (λ l. fold (λ n x. insert_entry int_cmp n x.0 x.1) l es) (put_last done e.0 e.1 (below_at done e es m))
@@ -49,10 +52,14 @@ module _ {X : Type 0} where
   by_key_rising es m = put_all [] es m
 
   -- if all keys are below k, no item has the key k
-  none_below : (has : ℤ → Line → Bool) (item : ℤ × X → Line) → ((k : ℤ) (e : ℤ × X) → has k (item e) ≡ int_eq e.0 k) → (k : ℤ) (es : List (ℤ × X)) → AllBelow k es → list_any (has k) (map item es) ≡ false
+  none_below : (has : ℤ → Line → Bool) (item : ℤ × X → Line) → ((k : ℤ) (e : ℤ × X) → has k (item e) ≡ int_eq e.0 k)
+      → (k : ℤ) (es : List (ℤ × X)) → AllBelow k es → list_any (has k) (map item es) ≡ false
   none_below has item h k [] b = refl
-  none_below has item h k (e ∷ es) b = ap (λ (t : Bool). t || list_any (has k) (map item es)) (h k e ∙ ap is_eq b.0) ∙ none_below has item h k es b.1
+  none_below has item h k (e ∷ es) b =
+      ap (λ (t : Bool). t || list_any (has k) (map item es)) (h k e ∙ ap is_eq b.0) ∙ none_below has item h k es b.1
 
   -- no item before that of an entry has its key
-  pub no_earlier : (has : ℤ → Line → Bool) (item : ℤ × X → Line) → ((k : ℤ) (e : ℤ × X) → has k (item e) ≡ int_eq e.0 k) → (es d : List (ℤ × X)) (e : ℤ × X) (r : List (ℤ × X)) → es ≡ d ++ e ∷ r → IsMap es → list_any (has e.0) (map item d) ≡ false
+  pub no_earlier : (has : ℤ → Line → Bool) (item : ℤ × X → Line) → ((k : ℤ) (e : ℤ × X) → has k (item e) ≡ int_eq e.0 k)
+      → (es d : List (ℤ × X)) (e : ℤ × X) (r : List (ℤ × X)) → es ≡ d ++ e ∷ r → IsMap es
+      → list_any (has e.0) (map item d) ≡ false
   no_earlier has item h es d e r p m = none_below has item h e.0 d (below_at d e r (subst IsMap p m))

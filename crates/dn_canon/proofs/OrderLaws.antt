@@ -29,10 +29,12 @@ module _ {Arc : Type 0} where
   -- a pair before k has no arcs, if no arc is before k
   none_at : (p k : ℤ × ℤ) (ys : List ((ℤ × ℤ) × Arc)) → pair_cmp p k ≡ Less → NoneBefore k ys → bundle p ys ≡ []
   none_at p k [] h n = refl
-  none_at p k (b ∷ ys) h n = ap (λ o. cond (is_eq o) (b.1 ∷ bundle p ys) (bundle p ys)) (before_less p k b.0 h n.0) ∙ none_at p k ys h n.1
+  none_at p k (b ∷ ys) h n =
+      ap (λ o. cond (is_eq o) (b.1 ∷ bundle p ys) (bundle p ys)) (before_less p k b.0 h n.0) ∙ none_at p k ys h n.1
 
   -- a pair before the first arc's has no arcs in a sorted list
-  none_from : (p : ℤ × ℤ) (b : (ℤ × ℤ) × Arc) (ys : List ((ℤ × ℤ) × Arc)) → pair_cmp p b.0 ≡ Less → NoneBefore b.0 ys → bundle p (b ∷ ys) ≡ []
+  none_from : (p : ℤ × ℤ) (b : (ℤ × ℤ) × Arc) (ys : List ((ℤ × ℤ) × Arc)) → pair_cmp p b.0 ≡ Less → NoneBefore b.0 ys
+      → bundle p (b ∷ ys) ≡ []
   none_from p b ys h n = ap (λ o. cond (is_eq o) (b.1 ∷ bundle p ys) (bundle p ys)) h ∙ none_at p b.0 ys h n
 
   -- the arcs at the first arc's pair begin with this arc
@@ -40,19 +42,23 @@ module _ {Arc : Type 0} where
   at_head a xs = ap (λ t. cond t (a.1 ∷ bundle a.0 xs) (bundle a.0 xs)) (pair_self a.0)
 
   -- what holds of each arc holds of the arcs of each pair
-  pub all_at_pair : (P : (ℤ × ℤ) × Arc → Type 0) (Q : Arc → Type 0) → ((a : (ℤ × ℤ) × Arc) → P a → Q a.1) → (q : ℤ × ℤ) (arcs : List ((ℤ × ℤ) × Arc)) → AllByRecursion P arcs → AllByRecursion Q (bundle q arcs)
+  pub all_at_pair : (P : (ℤ × ℤ) × Arc → Type 0) (Q : Arc → Type 0) → ((a : (ℤ × ℤ) × Arc) → P a → Q a.1)
+      → (q : ℤ × ℤ) (arcs : List ((ℤ × ℤ) × Arc)) → AllByRecursion P arcs → AllByRecursion Q (bundle q arcs)
   all_at_pair P Q h q [] all = tt
   all_at_pair P Q h q (a ∷ rest) all = by_test (same_pair q a.0) (all_at_pair P Q h q rest all.1)
     where
-      by_test : (t : Bool) → AllByRecursion Q (bundle q rest) → AllByRecursion Q (cond t (a.1 ∷ bundle q rest) (bundle q rest))
+      by_test : (t : Bool) → AllByRecursion Q (bundle q rest)
+          → AllByRecursion Q (cond t (a.1 ∷ bundle q rest) (bundle q rest))
       by_test true more = (h a all.0, more)
       by_test false more = more
 
   -- two sorted lists with the same arcs at each pair begin at the same pair
-  same_key : (a b : (ℤ × ℤ) × Arc) (xs ys : List ((ℤ × ℤ) × Arc)) → AreInOrder (a ∷ xs) → AreInOrder (b ∷ ys) → ((q : ℤ × ℤ) → bundle q (a ∷ xs) ≡ bundle q (b ∷ ys)) → (o : Ordering) → pair_cmp a.0 b.0 ≡ o → a.0 ≡ b.0
+  same_key : (a b : (ℤ × ℤ) × Arc) (xs ys : List ((ℤ × ℤ) × Arc)) → AreInOrder (a ∷ xs) → AreInOrder (b ∷ ys)
+      → ((q : ℤ × ℤ) → bundle q (a ∷ xs) ≡ bundle q (b ∷ ys)) → (o : Ordering) → pair_cmp a.0 b.0 ≡ o → a.0 ≡ b.0
   same_key a b xs ys r s h Less e = let no = sym (at_head a xs) ∙ h a.0 ∙ none_from a.0 b ys e s.0 in cc
   same_key a b xs ys r s h Equal e = pair_is a.0 b.0 (ap is_eq e)
-  same_key a b xs ys r s h Greater e = let no = sym (at_head b ys) ∙ sym (h b.0) ∙ none_from b.0 a xs (flipped a.0 b.0 e) r.0 in cc
+  same_key a b xs ys r s h Greater e = let no =
+      sym (at_head b ys) ∙ sym (h b.0) ∙ none_from b.0 a xs (flipped a.0 b.0 e) r.0 in cc
 
   -- two lists have the same rest if prepending elements under the same condition makes them equal
   rest_one : (t : Bool) (x : Arc) (xs ys : List Arc) → cond t (x ∷ xs) xs ≡ cond t (x ∷ ys) ys → xs ≡ ys
@@ -64,15 +70,20 @@ module _ {Arc : Type 0} where
   placed_is p q x y e f = cc
 
   -- two sorted lists with the same arcs at each pair are equal
-  pub order_one : (xs ys : List ((ℤ × ℤ) × Arc)) → AreInOrder xs → AreInOrder ys → ((q : ℤ × ℤ) → bundle q xs ≡ bundle q ys) → xs ≡ ys
+  pub order_one : (xs ys : List ((ℤ × ℤ) × Arc)) → AreInOrder xs → AreInOrder ys
+      → ((q : ℤ × ℤ) → bundle q xs ≡ bundle q ys) → xs ≡ ys
   order_one [] [] r s h = refl
   order_one [] (b ∷ ys) r s h = let no = h b.0 ∙ at_head b ys in cc
   order_one (a ∷ xs) [] r s h = let no = sym (at_head a xs) ∙ h a.0 in cc
   order_one (a ∷ xs) (b ∷ ys) r s h =
       let key : a.0 ≡ b.0 = same_key a b xs ys r s h (pair_cmp a.0 b.0) refl in
-      let heads : a.1 ∷ bundle a.0 xs ≡ b.1 ∷ bundle b.0 ys = sym (at_head a xs) ∙ h a.0 ∙ ap (λ p. bundle p (b ∷ ys)) key ∙ at_head b ys in
+      let heads : a.1 ∷ bundle a.0 xs ≡ b.1 ∷ bundle b.0 ys =
+      sym (at_head a xs) ∙ h a.0 ∙ ap (λ p. bundle p (b ∷ ys)) key ∙ at_head b ys in
       let arc : a.1 ≡ b.1 = cc in
       let here : a ≡ b = placed_is a.0 b.0 a.1 b.1 key arc in
-      let tails : (q : ℤ × ℤ) → bundle q xs ≡ bundle q ys = λ q. rest_one (same_pair q a.0) a.1 (bundle q xs) (bundle q ys) (h q ∙ ap (λ (c : (ℤ × ℤ) × Arc). bundle q (c ∷ ys)) (sym here)) in
+      let tails : (q : ℤ × ℤ)
+      → bundle q xs ≡ bundle q ys =
+      λ q. rest_one (same_pair q a.0) a.1 (bundle q xs) (bundle q ys)
+      (h q ∙ ap (λ (c : (ℤ × ℤ) × Arc). bundle q (c ∷ ys)) (sym here)) in
       let rest : xs ≡ ys = order_one xs ys r.1 s.1 tails in
       cc

@@ -37,7 +37,9 @@ print_lines I = ap lines (text_is I) ∙ lines_are (all_rows I) (all_words I)
 
 -- the items of the lines after the problem line are those of the instance
 body_back : (I : Instance) → IsValid I → items_under (Some (kind_of I)) (map line_of (body_rows I)) ≡ body_of I
-body_back I v = body_items (head_row I) (head_item I) (kind_of I) (head_is I) [] (body_rows I) (body_of I) (body_words I) (body_follows I v)
+body_back I v =
+    body_items (head_row I) (head_item I) (kind_of I) (head_is I) [] (body_rows I) (body_of I) (body_words I)
+    (body_follows I v)
 
 -- the lines read as the instance
 record LinesRead (ls : List (List ℕ)) (I : Instance) : Type 0 where
@@ -46,7 +48,8 @@ record LinesRead (ls : List (List ℕ)) (I : Instance) : Type 0 where
   instance_is : instance_of (items_of ls) ≡ Some I
 
 -- the lines of an instance read as it
-rows_read : (I : Instance) → IsValid I → length (map line_of (all_rows I)) < 2 ^ 63 - 1 → LinesRead (map line_of (all_rows I)) I
+rows_read : (I : Instance) → IsValid I → length (map line_of (all_rows I)) < 2 ^ 63 - 1
+    → LinesRead (map line_of (all_rows I)) I
 rows_read I v few =
     let count : size_of I < 2 ^ 63 = omega (arith, length-map (all_rows I) line_of, count_rows I) in
     let follow : AllFollow [] (all_rows I) (head_item I ∷ body_of I) = (head_follows I v count, body_follows I v) in
@@ -60,23 +63,32 @@ rows_read I v few =
 -- a printed text with few enough lines reads as the instance that it prints
 pub print_reads : (I : Instance) → IsValid I → length (lines (print I)) < 2 ^ 63 - 1 → Reads (print I) I
 print_reads I v few =
-    let r : LinesRead (lines (print I)) I = subst (λ ls. LinesRead ls I) (sym (print_lines I)) (rows_read I v (subst (λ ls. length ls < 2 ^ 63 - 1) (print_lines I) few)) in
+    let r : LinesRead (lines (print I)) I =
+    subst (λ ls. LinesRead ls I) (sym (print_lines I))
+    (rows_read I v (subst (λ ls. length ls < 2 ^ 63 - 1) (print_lines I) few)) in
     record { clean = r.clean; whole = r.whole; instance_is = r.instance_is }
 
 -- equal kinds, NODES and items make the same instance
-made_one : (k l : Kind) (m n : ℤ) (xs ys : List Line) (I J : Instance) → k ≡ l → m ≡ n → xs ≡ ys → instance_as k m xs ≡ Some I → instance_as l n ys ≡ Some J → I ≡ J
+made_one : (k l : Kind) (m n : ℤ) (xs ys : List Line) (I J : Instance) → k ≡ l → m ≡ n → xs ≡ ys
+    → instance_as k m xs ≡ Some I → instance_as l n ys ≡ Some J → I ≡ J
 made_one k l m n xs ys I J e f g h i =
-    let same : Some I ≡ Some J = sym h ∙ ap (λ z. instance_as z m xs) e ∙ ap (λ z. instance_as l z xs) f ∙ ap (instance_as l n) g ∙ i in
+    let same : Some I ≡ Some J =
+    sym h ∙ ap (λ z. instance_as z m xs) e ∙ ap (λ z. instance_as l z xs) f ∙ ap (instance_as l n) g ∙ i in
     cc
 
 -- valid instances with the same printed text are equal
 pub print_one : (I J : Instance) → IsValid I → IsValid J → print I ≡ print J → I ≡ J
 print_one I J v w e =
-    let same : all_rows I ≡ all_rows J = rows_one (all_rows I) (all_rows J) (all_words I) (all_words J) (sym (text_is I) ∙ e ∙ text_is J) in
+    let same : all_rows I ≡ all_rows J =
+    rows_one (all_rows I) (all_rows J) (all_words I) (all_words J) (sym (text_is I) ∙ e ∙ text_is J) in
     let heads : head_row I ≡ head_row J = cc in
     let bodies : body_rows I ≡ body_rows J = cc in
-    let named : Some (kind_of I) ≡ Some (kind_of J) = sym (head_is I).kind ∙ ap (λ r. kind_named (map said r)) heads ∙ (head_is J).kind in
+    let named : Some (kind_of I) ≡ Some (kind_of J) =
+    sym (head_is I).kind ∙ ap (λ r. kind_named (map said r)) heads ∙ (head_is J).kind in
     let kinds : kind_of I ≡ kind_of J = cc in
     let nodes : nodes_of I ≡ nodes_of J = sym (nodes_back I v) ∙ ap nodes_in heads ∙ nodes_back J w in
-    let items : body_of I ≡ body_of J = sym (body_back I v) ∙ ap (λ k. items_under (Some k) (map line_of (body_rows I))) kinds ∙ ap (λ rs. items_under (Some (kind_of J)) (map line_of rs)) bodies ∙ body_back J w in
-    made_one (kind_of I) (kind_of J) (nodes_of I) (nodes_of J) (body_of I) (body_of J) I J kinds nodes items (body_makes I v) (body_makes J w)
+    let items : body_of I ≡ body_of J =
+    sym (body_back I v) ∙ ap (λ k. items_under (Some k) (map line_of (body_rows I))) kinds
+    ∙ ap (λ rs. items_under (Some (kind_of J)) (map line_of rs)) bodies ∙ body_back J w in
+    made_one (kind_of I) (kind_of J) (nodes_of I) (nodes_of J) (body_of I) (body_of J) I J kinds nodes items
+    (body_makes I v) (body_makes J w)

@@ -68,7 +68,8 @@ word_feed (b ∷ bs) h = (ink_no_feed b h.0, word_feed bs h.1)
 line_feed : (r : Row) → AllWords r → NoFeed (line_of r)
 line_feed [] h = tt
 line_feed (w ∷ []) h = word_feed w (ink_of w h.0)
-line_feed (w ∷ x ∷ xs) h = feed_append w (32 ∷ line_of (x ∷ xs)) (word_feed w (ink_of w h.0)) (refl, line_feed (x ∷ xs) h.1)
+line_feed (w ∷ x ∷ xs) h =
+    feed_append w (32 ∷ line_of (x ∷ xs)) (word_feed w (ink_of w h.0)) (refl, line_feed (x ∷ xs) h.1)
 
 -- after blanks, the words of a row are the runs of its line
 row_runs : (gap : List ℕ) (r : Row) → AllBlank gap → AllWords r → AreRuns (gap ++ line_of r) r
@@ -89,7 +90,8 @@ row_runs gap (w ∷ x ∷ xs) g h = record {
   blanks = g;
   word = word_is w h.0;
   breaks = refl;
-  goes = row_runs (32 ∷ []) (x ∷ xs) (All-cons (λ b. is_blank b ≡ true) 32 [] refl (All-nil (λ b. is_blank b ≡ true))) h.1;
+  goes =
+      row_runs (32 ∷ []) (x ∷ xs) (All-cons (λ b. is_blank b ≡ true) 32 [] refl (All-nil (λ b. is_blank b ≡ true))) h.1;
 }
 
 -- the words of a row's line are the row
@@ -101,7 +103,8 @@ pub said_are : (r : Row) → AllWords r → said_words (line_of r) ≡ map said 
 said_are r h = ap (map said) (words_are r h)
 
 -- the first LF ends the first part
-first_part : (l rest : List ℕ) → NoFeed l → parts is_line_feed (l ++ 10 ∷ rest) ≡ (l ∷ (parts is_line_feed rest).0, (parts is_line_feed rest).1)
+first_part : (l rest : List ℕ) → NoFeed l
+    → parts is_line_feed (l ++ 10 ∷ rest) ≡ (l ∷ (parts is_line_feed rest).0, (parts is_line_feed rest).1)
 first_part [] rest h = refl
 first_part (b ∷ bs) rest h = rw (h.0, first_part bs rest h.1) refl
 
@@ -112,15 +115,18 @@ first_line l rest h = rw append_assoc (rw (first_part l rest h) refl)
 -- the lines of a printed text are the lines of its rows
 pub lines_are : (rs : List Row) → AllByRecursion AllWords rs → lines (text_of rs) ≡ map line_of rs
 lines_are [] h = refl
-lines_are (r ∷ rs) h = first_line (line_of r) (text_of rs) (line_feed r h.0) ∙ ap (λ ls. line_of r ∷ ls) (lines_are rs h.1)
+lines_are (r ∷ rs) h =
+    first_line (line_of r) (text_of rs) (line_feed r h.0) ∙ ap (λ ls. line_of r ∷ ls) (lines_are rs h.1)
 
 -- the words of the rows' lines are the rows
 all_words_are : (rs : List Row) → AllByRecursion AllWords rs → map words (map line_of rs) ≡ rs
 all_words_are [] h = refl
-all_words_are (r ∷ rs) h = ap (λ x. x ∷ map words (map line_of rs)) (words_are r h.0) ∙ ap (λ xs. r ∷ xs) (all_words_are rs h.1)
+all_words_are (r ∷ rs) h =
+    ap (λ x. x ∷ map words (map line_of rs)) (words_are r h.0) ∙ ap (λ xs. r ∷ xs) (all_words_are rs h.1)
 
 -- rows with the same text are equal
-pub rows_one : (rs ss : List Row) → AllByRecursion AllWords rs → AllByRecursion AllWords ss → text_of rs ≡ text_of ss → rs ≡ ss
+pub rows_one : (rs ss : List Row) → AllByRecursion AllWords rs → AllByRecursion AllWords ss → text_of rs ≡ text_of ss
+    → rs ≡ ss
 rows_one rs ss h k e =
     let same_lines : map line_of rs ≡ map line_of ss = sym (lines_are rs h) ∙ ap lines e ∙ lines_are ss k in
     sym (all_words_are rs h) ∙ ap (map words) same_lines ∙ all_words_are ss k
@@ -143,7 +149,8 @@ more_digits (suc k) n c acc h =
 some_digits : (k n : ℕ) → IsInk (digits_onto (suc k) 10 false n [])
 some_digits k n = by_test (nat_eq (n / 10) 0) (digit_glyph false (n % 10)) (glyph_ink (n % 10))
   where
-    by_test : (t : Bool) (g : ℕ) → nat_lt 32 g ≡ true → IsInk (cond t (g ∷ []) (digits_onto k 10 false (n / 10) (g ∷ [])))
+    by_test : (t : Bool) (g : ℕ) → nat_lt 32 g ≡ true
+        → IsInk (cond t (g ∷ []) (digits_onto k 10 false (n / 10) (g ∷ [])))
     by_test true g e = (e, tt)
     by_test false g e = more_digits k (n / 10) g [] (e, tt)
 

@@ -25,14 +25,17 @@ use Rattle.dn_canon.proofs.OrderLaws.{order_one}
 use Rattle.dn_canon.proofs.PrintLaws.{print_one, print_reads}
 
 -- graphs of equal nodes and arcs are equal
-graph_is : {Arc : Type 0} (m n : ℤ) (xs ys : List ((ℤ × ℤ) × Arc)) → m ≡ n → xs ≡ ys → (let G : Graph Arc = record { nodes = m; arcs = xs } in G) ≡ record { nodes = n; arcs = ys }
+graph_is : {Arc : Type 0} (m n : ℤ) (xs ys : List ((ℤ × ℤ) × Arc)) → m ≡ n → xs ≡ ys
+    → (let G : Graph Arc = record { nodes = m; arcs = xs } in G) ≡ record { nodes = n; arcs = ys }
 graph_is m n xs ys e f = cc
 
 -- canonical graphs that mean the same are the same
-graph_one : {Arc : Type 0} (kind : ArcKind Arc) → IsDetermined kind → (form : Form) (G H : Graph Arc) → IsCanonGraph kind form G → IsCanonGraph kind form H → SameGraph kind G H → G ≡ H
+graph_one : {Arc : Type 0} (kind : ArcKind Arc) → IsDetermined kind → (form : Form) (G H : Graph Arc)
+    → IsCanonGraph kind form G → IsCanonGraph kind form H → SameGraph kind G H → G ≡ H
 graph_one kind determined form G H c d s =
     graph_is G.nodes H.nodes G.arcs H.arcs s.nodes
-    (order_one G.arcs H.arcs c.in_order d.in_order (λ q. determined form (bundle q G.arcs) (bundle q H.arcs) (c.canonical q) (d.canonical q) (s.bundles q)))
+    (order_one G.arcs H.arcs c.in_order d.in_order
+    (λ q. determined form (bundle q G.arcs) (bundle q H.arcs) (c.canonical q) (d.canonical q) (s.bundles q)))
 
 -- `min` problems of equal supplies and graphs are equal
 min_is : (s t : List (ℤ × ℤ)) (G H : Graph _) → s ≡ t → G ≡ H → MinCostFlow s G ≡ MinCostFlow t H
@@ -44,42 +47,63 @@ max_is a b c d G H e f g = cc
 
 -- canonical instances that pose the same problem are equal
 pub canon_one : (form : Form) (I J : Instance) → IsCanonInstance form I → IsCanonInstance form J → IsSame I J → I ≡ J
-canon_one form (MinCostFlow s G) (MinCostFlow t H) c d e = min_is s t G H e.0 (graph_one costs determination_of_forms form G H c d e.1)
-canon_one form (MaxFlow a b G) (MaxFlow a' b' H) c d e = max_is a b a' b' G H e.0 e.1 (graph_one capacities total_determined form G H c d e.2)
-canon_one form (ShortestPaths G) (ShortestPaths H) c d e = ap ShortestPaths (graph_one lengths length_determined form G H c d e)
+canon_one form (MinCostFlow s G) (MinCostFlow t H) c d e =
+    min_is s t G H e.0 (graph_one costs determination_of_forms form G H c d e.1)
+canon_one form (MaxFlow a b G) (MaxFlow a' b' H) c d e =
+    max_is a b a' b' G H e.0 e.1 (graph_one capacities total_determined form G H c d e.2)
+canon_one form (ShortestPaths G) (ShortestPaths H) c d e =
+    ap ShortestPaths (graph_one lengths length_determined form G H c d e)
 canon_one form (Sources xs) (Sources ys) c d e = ap Sources e
 canon_one form (Queries xs) (Queries ys) c d e = ap Queries e
 canon_one form (Coordinates xs) (Coordinates ys) c d e = ap Coordinates e
 canon_one form _ _ c d e = absurd e
 
 -- equal canonical texts pose the same problem
-bytes_same : (form : Form) (t u : List ℕ) (I J : Instance) → IsCanonOf form t I → IsCanonOf form u J → t ≡ u → IsSame I J
+bytes_same : (form : Form) (t u : List ℕ) (I J : Instance) → IsCanonOf form t I → IsCanonOf form u J → t ≡ u
+    → IsSame I J
 bytes_same form t u I J (C, c) (D, d) e =
     let one : C ≡ D = print_one C D c.canon.valid d.canon.valid (sym c.text_is ∙ e ∙ d.text_is) in
     trans_of I C J c.canon.same (sym_of J C (subst (IsSame J) (sym one) d.canon.same))
 
 -- texts of the same problem have equal canonical texts
-same_bytes : (form : Form) (t u : List ℕ) (I J : Instance) → IsCanonOf form t I → IsCanonOf form u J → IsSame I J → t ≡ u
+same_bytes : (form : Form) (t u : List ℕ) (I J : Instance) → IsCanonOf form t I → IsCanonOf form u J → IsSame I J
+    → t ≡ u
 same_bytes form t u I J (C, c) (D, d) s =
-    let one = canon_one form C D c.canon.canonical d.canon.canonical (trans_of C I D (sym_of I C c.canon.same) (trans_of I J D s d.canon.same)) in
+    let one =
+    canon_one form C D c.canon.canonical d.canon.canonical
+    (trans_of C I D (sym_of I C c.canon.same) (trans_of I J D s d.canon.same)) in
     c.text_is ∙ ap print one ∙ sym d.text_is
 
 -- canonical texts are equal if and only if the problems are the same
-pub texts_agree : (form : Form) (t u : List ℕ) (I J : Instance) → IsCanonOf form t I → IsCanonOf form u J → (t ≡ u) ↔ IsSame I J
+pub texts_agree : (form : Form) (t u : List ℕ) (I J : Instance) → IsCanonOf form t I → IsCanonOf form u J
+    → (t ≡ u) ↔ IsSame I J
 texts_agree form t u I J c d = (bytes_same form t u I J c d, same_bytes form t u I J c d)
 
 -- a canonical text with few enough lines reads as the instance that it prints
-canon_reads : (form : Form) (t : List ℕ) (I C : Instance) → length (lines t) < 2 ^ 63 - 1 → PrintsCanon form t I C → Reads t C
-canon_reads form t I C few c = subst (λ s. Reads s C) (sym c.text_is) (print_reads C c.canon.valid (subst (λ s. length (lines s) < 2 ^ 63 - 1) c.text_is few))
+canon_reads : (form : Form) (t : List ℕ) (I C : Instance) → length (lines t) < 2 ^ 63 - 1 → PrintsCanon form t I C
+    → Reads t C
+canon_reads form t I C few c =
+    subst (λ s. Reads s C) (sym c.text_is)
+    (print_reads C c.canon.valid (subst (λ s. length (lines s) < 2 ^ 63 - 1) c.text_is few))
 
 -- a canonical text with few enough lines reads as one instance, and is its only canonical text
-pub reads_twice : (form : Form) (t : List ℕ) (I : Instance) → length (lines t) < 2 ^ 63 - 1 → IsCanonOf form t I → (J : Instance) × ReadsTwice form t I J
+pub reads_twice : (form : Form) (t : List ℕ) (I : Instance) → length (lines t) < 2 ^ 63 - 1 → IsCanonOf form t I
+    → (J : Instance) × ReadsTwice form t I J
 reads_twice form t I few (C, c) =
     let reads = canon_reads form t I C few c in
-    let own : IsCanonOf form t C = (C, record { canon = record { valid = c.canon.valid; canonical = c.canon.canonical; same = refl_of C }; text_is = c.text_is }) in (
+    let own : IsCanonOf form t C = (
       C,
       record {
-        back = record { reads = reads; same = c.canon.same; only = λ K r. some_is K C (sym r.instance_is ∙ reads.instance_is) };
+        canon = record { valid = c.canon.valid; canonical = c.canon.canonical; same = refl_of C };
+        text_is =
+            c.text_is;
+      },
+    ) in (
+      C,
+      record {
+        back =
+            record
+            { reads = reads; same = c.canon.same; only = λ K r. some_is K C (sym r.instance_is ∙ reads.instance_is) };
         again = own;
         only = λ u d. same_bytes form u t C C d own (refl_of C);
       },
@@ -91,19 +115,24 @@ short n h = grind (arith, nat_tests)
 
 -- an accepted text has fewer than 2^63-1 lines
 reads_few : (t : List ℕ) (I : Instance) → Reads t I → length (lines t) < 2 ^ 63 - 1
-reads_few t I r = by_clean_lines (λ ls. length ls < 2 ^ 63 - 1) (lines t) r.clean (λ b l h few. few_more b l (short (length b + 1) (none_first (is_too_long (length b + 1)) TooLong _ h).0)) (omega arith)
+reads_few t I r =
+    by_clean_lines (λ ls. length ls < 2 ^ 63 - 1) (lines t) r.clean
+    (λ b l h few. few_more b l (short (length b + 1) (none_first (is_too_long (length b + 1)) TooLong _ h).0))
+    (omega arith)
   where
     few_more : (b : List (List ℕ)) (l : List ℕ) → length b + 1 < 2 ^ 63 - 1 → length (b ++ l ∷ []) < 2 ^ 63 - 1
     few_more b l h = omega (arith, length-append b (l ∷ []))
 
 -- what a canonical text reads as is the canonical instance
-pub reads_canon : (form : Form) (t : List ℕ) (I J : Instance) → IsCanonOf form t I → Reads t J → IsCanonInstanceOf form J I
+pub reads_canon : (form : Form) (t : List ℕ) (I J : Instance) → IsCanonOf form t I → Reads t J
+    → IsCanonInstanceOf form J I
 reads_canon form t I J (C, c) r =
     let reads = canon_reads form t I C (reads_few t J r) c in
     subst (λ K. IsCanonInstanceOf form K I) (some_is C J (sym reads.instance_is ∙ r.instance_is)) c.canon
 
 -- what a canonical text reads as has the same canonical texts as the instance that it came from
-pub forms_cross : (from to : Form) (t u v : List ℕ) (I J : Instance) → IsCanonOf from t I → Reads t J → IsCanonOf to u I → IsCanonOf to v J → u ≡ v
+pub forms_cross : (from to : Form) (t u v : List ℕ) (I J : Instance) → IsCanonOf from t I → Reads t J → IsCanonOf to u I
+    → IsCanonOf to v J → u ≡ v
 forms_cross from to t u v I J c r d e =
     let (K, back) = reads_twice from t I (reads_few t J r) c in
     let one : J ≡ K = back.back.only J r in

@@ -56,49 +56,62 @@ all_fit (n ∷ ns) h = (fits_signed n h.0, all_fit ns h.1)
 
 module _ {Arc : Type 0} where
   -- the arcs of a pair, in a list that begins with arcs placed at one pair
-  pub bundle_placed : (q p : ℤ × ℤ) (xs : List Arc) (rest : List ((ℤ × ℤ) × Arc)) → bundle q (placed p xs ++ rest) ≡ cond (same_pair q p) (xs ++ bundle q rest) (bundle q rest)
+  pub bundle_placed : (q p : ℤ × ℤ) (xs : List Arc) (rest : List ((ℤ × ℤ) × Arc))
+      → bundle q (placed p xs ++ rest) ≡ cond (same_pair q p) (xs ++ bundle q rest) (bundle q rest)
   bundle_placed q p [] rest = by_test (same_pair q p) (bundle q rest)
     where
       by_test : (t : Bool) (ys : List Arc) → ys ≡ cond t ys ys
       by_test true ys = refl
       by_test false ys = refl
-  bundle_placed q p (x ∷ xs) rest = ap (λ l. cond (same_pair q p) (x ∷ l) l) (bundle_placed q p xs rest) ∙ by_test (same_pair q p) xs (bundle q rest)
+  bundle_placed q p (x ∷ xs) rest =
+      ap (λ l. cond (same_pair q p) (x ∷ l) l) (bundle_placed q p xs rest) ∙ by_test (same_pair q p) xs (bundle q rest)
     where
-      by_test : (t : Bool) (ys zs : List Arc) → cond t (x ∷ cond t (ys ++ zs) zs) (cond t (ys ++ zs) zs) ≡ cond t ((x ∷ ys) ++ zs) zs
+      by_test : (t : Bool) (ys zs : List Arc)
+          → cond t (x ∷ cond t (ys ++ zs) zs) (cond t (ys ++ zs) zs) ≡ cond t ((x ∷ ys) ++ zs) zs
       by_test true ys zs = refl
       by_test false ys zs = refl
 
   -- arcs placed at p, followed by sorted arcs none of which is before p, are sorted
-  pub order_placed : (p : ℤ × ℤ) (xs : List Arc) (rest : List ((ℤ × ℤ) × Arc)) → NoneBefore p rest → AreInOrder rest → NoneBefore p (placed p xs ++ rest) × AreInOrder (placed p xs ++ rest)
+  pub order_placed : (p : ℤ × ℤ) (xs : List Arc) (rest : List ((ℤ × ℤ) × Arc)) → NoneBefore p rest → AreInOrder rest
+      → NoneBefore p (placed p xs ++ rest) × AreInOrder (placed p xs ++ rest)
   order_placed p [] rest n r = (n, r)
-  order_placed p (x ∷ xs) rest n r = let more = order_placed p xs rest n r in ((equal_le (pair_cmp p p) (pair_self p), more.0), (more.0, more.1))
+  order_placed p (x ∷ xs) rest n r = let more =
+      order_placed p xs rest n r in ((equal_le (pair_cmp p p) (pair_self p), more.0), (more.0, more.1))
 
-  before_placed : (k p : ℤ × ℤ) (xs : List Arc) (rest : List ((ℤ × ℤ) × Arc)) → pair_cmp k p ≡ Less → NoneBefore k rest → NoneBefore k (placed p xs ++ rest)
+  before_placed : (k p : ℤ × ℤ) (xs : List Arc) (rest : List ((ℤ × ℤ) × Arc)) → pair_cmp k p ≡ Less → NoneBefore k rest
+      → NoneBefore k (placed p xs ++ rest)
   before_placed k p [] rest e n = n
   before_placed k p (x ∷ xs) rest e n = (ap is_le e, before_placed k p xs rest e n)
 
   -- what holds of the arcs of each pair holds of each arc
-  pub all_from : (P : (ℤ × ℤ) × Arc → Type 0) (arcs : List ((ℤ × ℤ) × Arc)) → ((q : ℤ × ℤ) → AllByRecursion (λ x. P (q, x)) (bundle q arcs)) → AllByRecursion P arcs
+  pub all_from : (P : (ℤ × ℤ) × Arc → Type 0) (arcs : List ((ℤ × ℤ) × Arc))
+      → ((q : ℤ × ℤ) → AllByRecursion (λ x. P (q, x)) (bundle q arcs)) → AllByRecursion P arcs
   all_from P [] h = tt
   all_from P (a ∷ rest) h =
-      let here : AllByRecursion (λ x. P (a.0, x)) (a.1 ∷ bundle a.0 rest) = subst (AllByRecursion (λ x. P (a.0, x))) (at_head a rest) (h a.0) in
+      let here : AllByRecursion (λ x. P (a.0, x)) (a.1 ∷ bundle a.0 rest) =
+      subst (AllByRecursion (λ x. P (a.0, x))) (at_head a rest) (h a.0) in
       (here.0, all_from P rest (λ q. tail q (same_pair q a.0) (h q)))
     where
-      tail : (q : ℤ × ℤ) (t : Bool) → AllByRecursion (λ x. P (q, x)) (cond t (a.1 ∷ bundle q rest) (bundle q rest)) → AllByRecursion (λ x. P (q, x)) (bundle q rest)
+      tail : (q : ℤ × ℤ) (t : Bool) → AllByRecursion (λ x. P (q, x)) (cond t (a.1 ∷ bundle q rest) (bundle q rest))
+          → AllByRecursion (λ x. P (q, x)) (bundle q rest)
       tail q true e = e.1
       tail q false e = e
 
   -- a fact of each arc's pair holds of a pair that has an arc
-  pub at_some : (P : (ℤ × ℤ) × Arc → Type 0) (Q : ℤ × ℤ → Type 0) → ((a : (ℤ × ℤ) × Arc) → P a → Q a.0) → (arcs : List ((ℤ × ℤ) × Arc)) (q : ℤ × ℤ) (x : Arc) (xs : List Arc) → AllByRecursion P arcs → bundle q arcs ≡ x ∷ xs → Q q
+  pub at_some : (P : (ℤ × ℤ) × Arc → Type 0) (Q : ℤ × ℤ → Type 0) → ((a : (ℤ × ℤ) × Arc) → P a → Q a.0)
+      → (arcs : List ((ℤ × ℤ) × Arc)) (q : ℤ × ℤ) (x : Arc) (xs : List Arc) → AllByRecursion P arcs
+      → bundle q arcs ≡ x ∷ xs → Q q
   at_some P Q tells [] q x xs all e = cc
   at_some P Q tells (a ∷ rest) q x xs all e = by_test (same_pair q a.0) refl e (at_some P Q tells rest q x xs all.1)
     where
-      by_test : (t : Bool) → same_pair q a.0 ≡ t → cond t (a.1 ∷ bundle q rest) (bundle q rest) ≡ x ∷ xs → (bundle q rest ≡ x ∷ xs → Q q) → Q q
+      by_test : (t : Bool) → same_pair q a.0 ≡ t → cond t (a.1 ∷ bundle q rest) (bundle q rest) ≡ x ∷ xs
+          → (bundle q rest ≡ x ∷ xs → Q q) → Q q
       by_test true f g h = subst Q (sym (pair_is q a.0 f)) (tells a all.0)
       by_test false f g h = h g
 
   module _ {B : Type 0} (tells : B → List Arc) where
-    none_before : (k : ℤ × ℤ) (es : List ((ℤ × ℤ) × B)) → AllByRecursion (λ y. pair_cmp k y ≡ Less) (keys_of es) → NoneBefore k (told_arcs tells es)
+    none_before : (k : ℤ × ℤ) (es : List ((ℤ × ℤ) × B)) → AllByRecursion (λ y. pair_cmp k y ≡ Less) (keys_of es)
+        → NoneBefore k (told_arcs tells es)
     none_before k [] h = tt
     none_before k (e ∷ es) h = before_placed k e.0 (tells e.1) (told_arcs tells es) h.0 (none_before k es h.1)
 
@@ -106,9 +119,12 @@ module _ {Arc : Type 0} where
     told_order : (es : List ((ℤ × ℤ) × B)) → IsStrictlySortedBy pair_cmp (keys_of es) → AreInOrder (told_arcs tells es)
     told_order [] s = tt
     told_order (e ∷ es) s =
-        (order_placed e.0 (tells e.1) (told_arcs tells es) (none_before e.0 es (sorted_head pair_cmp e.0 (keys_of es) s)) (told_order es (sorted_tail pair_cmp e.0 (keys_of es) s))).1
+        (order_placed e.0 (tells e.1) (told_arcs tells es)
+        (none_before e.0 es (sorted_head pair_cmp e.0 (keys_of es) s))
+        (told_order es (sorted_tail pair_cmp e.0 (keys_of es) s))).1
 
-    none_told : (k : ℤ × ℤ) (es : List ((ℤ × ℤ) × B)) → AllByRecursion (λ y. pair_cmp k y ≡ Less) (keys_of es) → bundle k (told_arcs tells es) ≡ []
+    none_told : (k : ℤ × ℤ) (es : List ((ℤ × ℤ) × B)) → AllByRecursion (λ y. pair_cmp k y ≡ Less) (keys_of es)
+        → bundle k (told_arcs tells es) ≡ []
     none_told k [] h = refl
     none_told k (e ∷ es) h =
         bundle_placed k e.0 (tells e.1) (told_arcs tells es)
@@ -116,19 +132,25 @@ module _ {Arc : Type 0} where
         ∙ none_told k es h.1
 
     -- the listed arcs at a pair are those of its bundle
-    told_bundle : (q : ℤ × ℤ) (es : List ((ℤ × ℤ) × B)) → IsStrictlySortedBy pair_cmp (keys_of es) → bundle q (told_arcs tells es) ≡ told_at tells es q
+    told_bundle : (q : ℤ × ℤ) (es : List ((ℤ × ℤ) × B)) → IsStrictlySortedBy pair_cmp (keys_of es)
+        → bundle q (told_arcs tells es) ≡ told_at tells es q
     told_bundle q [] s = refl
     told_bundle q (e ∷ es) s =
-        bundle_placed q e.0 (tells e.1) (told_arcs tells es) ∙ by_test (same_pair q e.0) refl (told_bundle q es (sorted_tail pair_cmp e.0 (keys_of es) s))
+        bundle_placed q e.0 (tells e.1) (told_arcs tells es)
+        ∙ by_test (same_pair q e.0) refl (told_bundle q es (sorted_tail pair_cmp e.0 (keys_of es) s))
       where
         by_test : (t : Bool) → same_pair q e.0 ≡ t → bundle q (told_arcs tells es) ≡ told_at tells es q
-            → cond t (tells e.1 ++ bundle q (told_arcs tells es)) (bundle q (told_arcs tells es)) ≡ told_of tells (cond t (Some e.1) (lookup (same_pair q) es))
+            → cond t (tells e.1 ++ bundle q (told_arcs tells es)) (bundle q (told_arcs tells es)) ≡ told_of tells
+            (cond t (Some e.1) (lookup (same_pair q) es))
         by_test true f r =
-            ap (λ l. tells e.1 ++ l) (subst (λ p. bundle p (told_arcs tells es) ≡ []) (sym (pair_is q e.0 f)) (none_told e.0 es (sorted_head pair_cmp e.0 (keys_of es) s)))
+            ap (λ l. tells e.1 ++ l)
+            (subst (λ p. bundle p (told_arcs tells es) ≡ []) (sym (pair_is q e.0 f))
+            (none_told e.0 es (sorted_head pair_cmp e.0 (keys_of es) s)))
             ∙ append-nil (tells e.1)
         by_test false f r = r
 
-module _ {B Arc : Type 0} (kind : ArcKind Arc) (laws : IsKind kind) (told : Form → B → List Arc) (tells : TellsCanon kind told) (form : Form) where
+module _ {B Arc : Type 0} (kind : ArcKind Arc) (laws : IsKind kind) (told : Form → B → List Arc)
+    (tells : TellsCanon kind told) (form : Form) where
   same_one : (f : Form) (b : B) → kind.Same (told f b) (told One b)
   same_one One b = laws.meaning.same_refl (told One b)
   same_one Two b = tells.same_forms b
@@ -146,7 +168,8 @@ module _ {B Arc : Type 0} (kind : ArcKind Arc) (laws : IsKind kind) (told : Form
   at_fit (Some b) = tells.fit form b
 
   -- arcs at a pair of nodes, with numbers of 64 bits, are placed in the graph
-  each_placed : (n : ℤ) (q : ℤ × ℤ) → IsNode n q.0 × IsNode n q.1 → (xs : List Arc) → AllByRecursion kind.IsArc xs → NumbersFit kind xs → AllByRecursion (λ x. IsPlaced kind n (q, x)) xs
+  each_placed : (n : ℤ) (q : ℤ × ℤ) → IsNode n q.0 × IsNode n q.1 → (xs : List Arc) → AllByRecursion kind.IsArc xs
+      → NumbersFit kind xs → AllByRecursion (λ x. IsPlaced kind n (q, x)) xs
   each_placed n q h [] is fit = tt
   each_placed n q h (x ∷ xs) is fit = (
     record { tail = h.0; head = h.1; is_arc = is.0; numbers = all_fit (kind.numbers x) fit.0 },
@@ -154,60 +177,88 @@ module _ {B Arc : Type 0} (kind : ArcKind Arc) (laws : IsKind kind) (told : Form
   )
 
   -- canonical arcs that mean what placed arcs of the pair mean are placed too
-  placed_at : (n : ℤ) (q : ℤ × ℤ) (arcs : List ((ℤ × ℤ) × Arc)) (xs : List Arc) → AllByRecursion (IsPlaced kind n) arcs → kind.IsCanon form xs → NumbersFit kind xs → kind.Same xs (bundle q arcs) → AllByRecursion (λ x. IsPlaced kind n (q, x)) xs
+  placed_at : (n : ℤ) (q : ℤ × ℤ) (arcs : List ((ℤ × ℤ) × Arc)) (xs : List Arc) → AllByRecursion (IsPlaced kind n) arcs
+      → kind.IsCanon form xs → NumbersFit kind xs → kind.Same xs (bundle q arcs)
+      → AllByRecursion (λ x. IsPlaced kind n (q, x)) xs
   placed_at n q arcs xs v c fit s = by_bundle (bundle q arcs) refl s
     where
-      by_bundle : (bs : List Arc) → bundle q arcs ≡ bs → kind.Same xs bs → AllByRecursion (λ x. IsPlaced kind n (q, x)) xs
+      by_bundle : (bs : List Arc) → bundle q arcs ≡ bs → kind.Same xs bs
+          → AllByRecursion (λ x. IsPlaced kind n (q, x)) xs
       by_bundle [] f g = subst (AllByRecursion (λ x. IsPlaced kind n (q, x))) (sym (laws.nothing_told form xs c g)) tt
-      by_bundle (b ∷ bs) f g = each_placed n q (at_some (IsPlaced kind n) (λ p. IsNode n p.0 × IsNode n p.1) (λ a h. (h.tail, h.head)) arcs q b bs v f) xs (laws.canon_arcs form xs c) fit
+      by_bundle (b ∷ bs) f g =
+          each_placed n q
+          (at_some (IsPlaced kind n) (λ p. IsNode n p.0 × IsNode n p.1) (λ a h. (h.tail, h.head)) arcs q b bs v f) xs
+          (laws.canon_arcs form xs c) fit
 
   -- the listed arcs of a table make the canonical graph
-  pub told_canon : (nodes : ℤ) (table : List ((ℤ × ℤ) × B)) (G : Graph Arc) → G.nodes ≡ nodes → IsStrictlySortedBy pair_cmp (keys_of table)
+  pub told_canon : (nodes : ℤ) (table : List ((ℤ × ℤ) × B)) (G : Graph Arc) → G.nodes ≡ nodes
+      → IsStrictlySortedBy pair_cmp (keys_of table)
       → ((p : ℤ × ℤ) → AreCanonArcsOf kind (told_at (told One) table p) (bundle p G.arcs)) → IsValidGraph kind G
       → IsCanonGraphOf kind form (told_graph (told form) nodes table) G
   told_canon nodes table G is rising stands valid =
       let arcs = G.arcs in
       let all = told_arcs (told form) table in
       let at : (q : ℤ × ℤ) → bundle q all ≡ told_at (told form) table q = λ q. told_bundle (told form) q table rising in
-      let canon : (q : ℤ × ℤ) → kind.IsCanon form (bundle q all) = λ q. subst (kind.IsCanon form) (sym (at q)) (at_canon (lookup (same_pair q) table)) in
-      let fit : (q : ℤ × ℤ) → NumbersFit kind (bundle q all) = λ q. subst (NumbersFit kind) (sym (at q)) (at_fit (lookup (same_pair q) table)) in
+      let canon : (q : ℤ × ℤ)
+      → kind.IsCanon form (bundle q all) =
+      λ q. subst (kind.IsCanon form) (sym (at q)) (at_canon (lookup (same_pair q) table)) in
+      let fit : (q : ℤ × ℤ)
+      → NumbersFit kind (bundle q all) =
+      λ q. subst (NumbersFit kind) (sym (at q)) (at_fit (lookup (same_pair q) table)) in
       let means : (q : ℤ × ℤ) → kind.Same (bundle q all) (bundle q arcs) =
       λ q. subst (λ l. kind.Same l (bundle q arcs)) (sym (at q))
-      (laws.meaning.same_trans (told_at (told form) table q) (told_at (told One) table q) (bundle q arcs) (at_same (lookup (same_pair q) table)) (stands q).same) in
-      let are : (q : ℤ × ℤ) → AllByRecursion kind.IsArc (bundle q arcs) = λ q. all_at_pair (IsPlaced kind G.nodes) kind.IsArc (λ a p. p.is_arc) q arcs valid.placed in
+      (laws.meaning.same_trans (told_at (told form) table q) (told_at (told One) table q) (bundle q arcs)
+      (at_same (lookup (same_pair q) table)) (stands q).same) in
+      let are : (q : ℤ × ℤ)
+      → AllByRecursion kind.IsArc (bundle q arcs) =
+      λ q. all_at_pair (IsPlaced kind G.nodes) kind.IsArc (λ a p. p.is_arc) q arcs valid.placed in
       subst (λ n. IsCanonGraphOf kind form (told_graph (told form) n table) G) is
       (record {
         valid = record {
           some_nodes = valid.some_nodes;
           nodes_fit = valid.nodes_fit;
-          placed = all_from (IsPlaced kind G.nodes) all (λ q. placed_at G.nodes q arcs (bundle q all) valid.placed (canon q) (fit q) (means q));
-          capacities = λ q. subst (λ z. z ≤ℤ pos (2 ^ 63 - 1)) (laws.same_capacity (bundle q arcs) (bundle q all) (are q) (laws.canon_arcs form (bundle q all) (canon q)) (laws.meaning.same_sym (bundle q all) (bundle q arcs) (means q))) (valid.capacities q);
+          placed =
+              all_from (IsPlaced kind G.nodes) all
+              (λ q. placed_at G.nodes q arcs (bundle q all) valid.placed (canon q) (fit q) (means q));
+          capacities =
+              λ q. subst (λ z. z ≤ℤ pos (2 ^ 63 - 1))
+              (laws.same_capacity (bundle q arcs) (bundle q all) (are q) (laws.canon_arcs form (bundle q all) (canon q))
+              (laws.meaning.same_sym (bundle q all) (bundle q arcs) (means q))) (valid.capacities q);
         };
         canonical = record { in_order = told_order (told form) table rising; canonical = canon };
         same = record { nodes = refl; bundles = λ q. laws.meaning.same_sym (bundle q all) (bundle q arcs) (means q) };
       })
 
 -- the canonical instance of a `min` problem has its supplies and its canonical graph
-pub min_canon : (form : Form) (supplies : List (ℤ × ℤ)) (G H : Graph CostArc) → IsCanonGraphOf costs form H G → AreSupplies H.nodes supplies → IsCanonInstanceOf form (MinCostFlow supplies H) (MinCostFlow supplies G)
+pub min_canon : (form : Form) (supplies : List (ℤ × ℤ)) (G H : Graph CostArc) → IsCanonGraphOf costs form H G
+    → AreSupplies H.nodes supplies → IsCanonInstanceOf form (MinCostFlow supplies H) (MinCostFlow supplies G)
 min_canon form supplies G H c are = record { valid = (c.valid, are); canonical = c.canonical; same = (refl, c.same) }
 
 -- the canonical instance of a `max` problem has its source, its sink and its canonical graph
-pub max_canon : (form : Form) (source sink : ℤ) (G H : Graph CapArc) → IsCanonGraphOf capacities form H G → AreTerminals H.nodes source sink → IsCanonInstanceOf form (MaxFlow source sink H) (MaxFlow source sink G)
-max_canon form source sink G H c are = record { valid = (c.valid, are); canonical = c.canonical; same = (refl, refl, c.same) }
+pub max_canon : (form : Form) (source sink : ℤ) (G H : Graph CapArc) → IsCanonGraphOf capacities form H G
+    → AreTerminals H.nodes source sink → IsCanonInstanceOf form (MaxFlow source sink H) (MaxFlow source sink G)
+max_canon form source sink G H c are =
+    record { valid = (c.valid, are); canonical = c.canonical; same = (refl, refl, c.same) }
 
 -- the canonical instance of an `sp` graph has its canonical graph
-pub sp_canon : (form : Form) (G H : Graph LengthArc) → IsCanonGraphOf lengths form H G → IsCanonInstanceOf form (ShortestPaths H) (ShortestPaths G)
+pub sp_canon : (form : Form) (G H : Graph LengthArc) → IsCanonGraphOf lengths form H G
+    → IsCanonInstanceOf form (ShortestPaths H) (ShortestPaths G)
 sp_canon form G H c = record { valid = c.valid; canonical = c.canonical; same = c.same }
 
 -- the canonical arcs of a `min` problem do not depend on its supplies
-pub min_head : (form : Form) (s t : List (ℤ × ℤ)) (G H : Graph CostArc) → AreSupplies G.nodes t → IsCanonInstanceOf form (MinCostFlow s H) (MinCostFlow s G) → IsCanonInstanceOf form (MinCostFlow t H) (MinCostFlow t G)
+pub min_head : (form : Form) (s t : List (ℤ × ℤ)) (G H : Graph CostArc) → AreSupplies G.nodes t
+    → IsCanonInstanceOf form (MinCostFlow s H) (MinCostFlow s G)
+    → IsCanonInstanceOf form (MinCostFlow t H) (MinCostFlow t G)
 min_head form s t G H are c =
-    min_canon form t G H (record { valid = c.valid.0; canonical = c.canonical; same = c.same.1 }) (subst (λ n. AreSupplies n t) c.same.1.nodes are)
+    min_canon form t G H (record { valid = c.valid.0; canonical = c.canonical; same = c.same.1 })
+    (subst (λ n. AreSupplies n t) c.same.1.nodes are)
 
 -- the canonical arcs of a `max` problem do not depend on its source and sink
-pub max_head : (form : Form) (a b s t : ℤ) (G H : Graph CapArc) → AreTerminals G.nodes s t → IsCanonInstanceOf form (MaxFlow a b H) (MaxFlow a b G) → IsCanonInstanceOf form (MaxFlow s t H) (MaxFlow s t G)
+pub max_head : (form : Form) (a b s t : ℤ) (G H : Graph CapArc) → AreTerminals G.nodes s t
+    → IsCanonInstanceOf form (MaxFlow a b H) (MaxFlow a b G) → IsCanonInstanceOf form (MaxFlow s t H) (MaxFlow s t G)
 max_head form a b s t G H are c =
-    max_canon form s t G H (record { valid = c.valid.0; canonical = c.canonical; same = c.same.2 }) (subst (λ n. AreTerminals n s t) c.same.2.nodes are)
+    max_canon form s t G H (record { valid = c.valid.0; canonical = c.canonical; same = c.same.2 })
+    (subst (λ n. AreTerminals n s t) c.same.2.nodes are)
 
 -- a companion is its own canonical instance
 pub companion_canon : (form : Form) (I : Instance) → IsCompanion I → IsValid I → IsCanonInstanceOf form I I

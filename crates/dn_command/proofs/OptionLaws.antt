@@ -43,7 +43,9 @@ is_parse a forms words (Ok m) is are_forms fails matches = record {
 is_parse a forms words (Err e) is are_forms fails matches = record {
   forms = forms;
   are_forms = are_forms;
-  fails = subst (λ b. FailsBy {T = ArgMatches} (fault_of b words) (Err e)) is (fails (ap is_simple_and_free is ∙ free forms));
+  fails =
+      subst (λ b. FailsBy {T = ArgMatches} (fault_of b words) (Err e)) is
+      (fails (ap is_simple_and_free is ∙ free forms));
   matches = tt;
 }
 

@@ -38,8 +38,13 @@ pub answers : (faults : Kinds) (asked : Option Asked) (e : Error) (r : Request) 
     → AnswersKind (kind_of e) r → Answers faults asked r
 answers faults asked e (requests.Command command) has h = elim h [ ]
 answers faults asked e (requests.Print text) has (inl help) =
-    inl (subst (λ k. IsAmong k faults) help (among faults e has (λ m. absurd (true≢false (ap is_memory (sym m ∙ help))))))
+    inl (subst (λ k. IsAmong k faults) help
+    (among faults e has (λ m. absurd (true≢false (ap is_memory (sym m ∙ help))))))
 answers faults asked e (requests.Print text) has (inr (version, is)) =
-    inr (subst (λ k. IsAmong k faults) version (among faults e has (λ m. absurd (true≢false (ap is_memory (sym m ∙ version))))), is)
+    inr (
+      subst (λ k. IsAmong k faults) version
+          (among faults e has (λ m. absurd (true≢false (ap is_memory (sym m ∙ version))))),
+      is,
+    )
 answers faults asked e requests.Bad has h = inl (kind_of e, among faults e has h.2, h.0, h.1)
 answers faults asked e requests.Memory has h = tt

@@ -41,7 +41,8 @@ module _ (I J : Instance) where
         earlier _ lt t = cc
 
     module _ (nodes : nodes_of I ≡ nodes_of J) where
-      pub supply_first : (id l r : ℤ) → IsTrueOf I J (Verdicts.Supply id l r) → ((q : ℤ) → int_cmp q id ≡ Less → flow_of I q ≡ flow_of J q) → IsFirstDifference I J (Verdicts.Supply id l r)
+      pub supply_first : (id l r : ℤ) → IsTrueOf I J (Verdicts.Supply id l r)
+          → ((q : ℤ) → int_cmp q id ≡ Less → flow_of I q ≡ flow_of J q) → IsFirstDifference I J (Verdicts.Supply id l r)
       supply_first id l r d before = record { true_of = d; none_earlier = earlier }
         where
           earlier : IsFirst (Verdicts.Supply id l r)
@@ -75,7 +76,9 @@ module _ (I J : Instance) where
               earlier _ lt t = cc
 
           module _ (sink : sink_of I ≡ sink_of J) where
-            pub pair_first : (src dst : ℤ) (how : How) → BundlesDiffer I J (src, dst) how → ((q : ℤ × ℤ) (other : How) → pair_cmp q (src, dst) ≡ Less → BundlesDiffer I J q other → ⊥) → IsFirstDifference I J (Verdicts.Pair src dst how)
+            pub pair_first : (src dst : ℤ) (how : How) → BundlesDiffer I J (src, dst) how
+                → ((q : ℤ × ℤ) (other : How) → pair_cmp q (src, dst) ≡ Less → BundlesDiffer I J q other → ⊥)
+                → IsFirstDifference I J (Verdicts.Pair src dst how)
             pair_first src dst how d before = record { true_of = d; none_earlier = earlier }
               where
                 earlier : IsFirst (Verdicts.Pair src dst how)
@@ -89,7 +92,8 @@ module _ (I J : Instance) where
                 earlier _ lt t = cc
 
             module _ (bundles : (p : ℤ × ℤ) (how : How) → BundlesDiffer I J p how → ⊥) where
-              pub length_first : (l r : ℕ) → IsTrueOf I J (Verdicts.Length l r) → IsFirstDifference I J (Verdicts.Length l r)
+              pub length_first : (l r : ℕ) → IsTrueOf I J (Verdicts.Length l r)
+                  → IsFirstDifference I J (Verdicts.Length l r)
               length_first l r d = record { true_of = d; none_earlier = earlier }
                 where
                   earlier : IsFirst (Verdicts.Length l r)
@@ -103,7 +107,9 @@ module _ (I J : Instance) where
                   earlier _ lt t = cc
 
               module _ (count : count_of I ≡ count_of J) where
-                pub item_first : (i : ℕ) → ItemsDiffer I J i → ((j : ℕ) → int_cmp (pos j) (pos i) ≡ Less → ItemsDiffer I J j → ⊥) → IsFirstDifference I J (Verdicts.Item i)
+                pub item_first : (i : ℕ) → ItemsDiffer I J i
+                    → ((j : ℕ) → int_cmp (pos j) (pos i) ≡ Less → ItemsDiffer I J j → ⊥)
+                    → IsFirstDifference I J (Verdicts.Item i)
                 item_first i d before = record { true_of = d; none_earlier = earlier }
                   where
                     earlier : IsFirst (Verdicts.Item i)
@@ -118,7 +124,9 @@ module _ (I J : Instance) where
                     earlier (Verdicts.Item j) lt t = before j (first_of_two (int_cmp (pos j) (pos i)) lt) t
                     earlier _ lt t = cc
 
-                pub point_first : (id : ℤ) → IsTrueOf I J (Verdicts.Point id) → ((q : ℤ) → int_cmp q id ≡ Less → point_of I q ≡ point_of J q) → ((j : ℕ) → ItemsDiffer I J j → ⊥) → IsFirstDifference I J (Verdicts.Point id)
+                pub point_first : (id : ℤ) → IsTrueOf I J (Verdicts.Point id)
+                    → ((q : ℤ) → int_cmp q id ≡ Less → point_of I q ≡ point_of J q) → ((j : ℕ) → ItemsDiffer I J j → ⊥)
+                    → IsFirstDifference I J (Verdicts.Point id)
                 point_first id d before items = record { true_of = d; none_earlier = earlier }
                   where
                     earlier : IsFirst (Verdicts.Point id)

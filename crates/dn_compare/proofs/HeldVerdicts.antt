@@ -41,28 +41,38 @@ use Rattle.dn_compare.proofs.VerdictLaws.{same_first}
 -- ---- graphs
 
 module _ {Arc : Type 0} (kind : ArcKind Arc) (laws : IsKind kind) (xs ys : List ((ℤ × ℤ) × Arc)) where
-  pairs_first : (I J : Instance) → ((p : ℤ × ℤ) (how : How) → kind.Differ (bundle p xs) (bundle p ys) how → BundlesDiffer I J p how)
-      → ((p : ℤ × ℤ) (how : How) → BundlesDiffer I J p how → kind.Differ (bundle p xs) (bundle p ys) how) → (((p : ℤ × ℤ) → kind.Same (bundle p xs) (bundle p ys)) → IsSame I J)
-      → kind_of I ≡ kind_of J → nodes_of I ≡ nodes_of J → ((id : ℤ) → flow_of I id ≡ flow_of J id) → source_of I ≡ source_of J → sink_of I ≡ sink_of J
+  pairs_first : (I J : Instance)
+      → ((p : ℤ × ℤ) (how : How) → kind.Differ (bundle p xs) (bundle p ys) how → BundlesDiffer I J p how)
+      → ((p : ℤ × ℤ) (how : How) → BundlesDiffer I J p how → kind.Differ (bundle p xs) (bundle p ys) how)
+      → (((p : ℤ × ℤ) → kind.Same (bundle p xs) (bundle p ys)) → IsSame I J)
+      → kind_of I ≡ kind_of J → nodes_of I ≡ nodes_of J → ((id : ℤ) → flow_of I id ≡ flow_of J id)
+      → source_of I ≡ source_of J → sink_of I ≡ sink_of J
       → (v : Verdict) → IsPairVerdict kind xs ys v → IsFirstDifference I J v
   pairs_first I J there back same k n f s t Verdicts.Same h = same_first I J (same h)
   pairs_first I J there back same k n f s t (Verdicts.Pair src dst how) h =
-      pair_first I J k n f s t src dst how (there (src, dst) how h.differ) (λ q other lt d. laws.none_differ (bundle q xs) (bundle q ys) other (back q other d) (h.same_before q lt))
+      pair_first I J k n f s t src dst how (there (src, dst) how h.differ)
+      (λ q other lt d. laws.none_differ (bundle q xs) (bundle q ys) other (back q other d) (h.same_before q lt))
   pairs_first I J there back same k n f s t _ h = absurd h
 
-pub min_pairs : (s t : List (ℤ × ℤ)) (G H : Graph CostArc) (v : Verdict) → s ≡ t → G.nodes ≡ H.nodes → IsPairVerdict costs G.arcs H.arcs v → IsFirstDifference (MinCostFlow s G) (MinCostFlow t H) v
+pub min_pairs : (s t : List (ℤ × ℤ)) (G H : Graph CostArc) (v : Verdict) → s ≡ t → G.nodes ≡ H.nodes
+    → IsPairVerdict costs G.arcs H.arcs v → IsFirstDifference (MinCostFlow s G) (MinCostFlow t H) v
 min_pairs s t G H v e n h =
-    pairs_first costs cost_kind G.arcs H.arcs (MinCostFlow s G) (MinCostFlow t H) (λ p how d. d) (λ p how d. d) (λ same. (e, record { nodes = n; bundles = same }))
+    pairs_first costs cost_kind G.arcs H.arcs (MinCostFlow s G) (MinCostFlow t H) (λ p how d. d) (λ p how d. d)
+    (λ same. (e, record { nodes = n; bundles = same }))
     refl n (λ id. ap (λ m. Some (flow_or_zero (value_of m id))) e) refl refl v h
 
-pub max_pairs : (a b c d : ℤ) (G H : Graph CapArc) (v : Verdict) → a ≡ c → b ≡ d → G.nodes ≡ H.nodes → IsPairVerdict capacities G.arcs H.arcs v → IsFirstDifference (MaxFlow a b G) (MaxFlow c d H) v
+pub max_pairs : (a b c d : ℤ) (G H : Graph CapArc) (v : Verdict) → a ≡ c → b ≡ d → G.nodes ≡ H.nodes
+    → IsPairVerdict capacities G.arcs H.arcs v → IsFirstDifference (MaxFlow a b G) (MaxFlow c d H) v
 max_pairs a b c d G H v e f n h =
-    pairs_first capacities total_kind G.arcs H.arcs (MaxFlow a b G) (MaxFlow c d H) (λ p how x. x) (λ p how x. x) (λ same. (e, f, record { nodes = n; bundles = same }))
+    pairs_first capacities total_kind G.arcs H.arcs (MaxFlow a b G) (MaxFlow c d H) (λ p how x. x) (λ p how x. x)
+    (λ same. (e, f, record { nodes = n; bundles = same }))
     refl n (λ id. refl) (ap Some e) (ap Some f) v h
 
-pub sp_pairs : (G H : Graph LengthArc) (v : Verdict) → G.nodes ≡ H.nodes → IsPairVerdict lengths G.arcs H.arcs v → IsFirstDifference (ShortestPaths G) (ShortestPaths H) v
+pub sp_pairs : (G H : Graph LengthArc) (v : Verdict) → G.nodes ≡ H.nodes → IsPairVerdict lengths G.arcs H.arcs v
+    → IsFirstDifference (ShortestPaths G) (ShortestPaths H) v
 sp_pairs G H v n h =
-    pairs_first lengths length_kind G.arcs H.arcs (ShortestPaths G) (ShortestPaths H) (λ p how d. d) (λ p how d. d) (λ same. record { nodes = n; bundles = same })
+    pairs_first lengths length_kind G.arcs H.arcs (ShortestPaths G) (ShortestPaths H) (λ p how d. d) (λ p how d. d)
+    (λ same. record { nodes = n; bundles = same })
     refl n (λ id. refl) refl refl v h
 
 -- ---- supplies
@@ -70,9 +80,12 @@ sp_pairs G H v n h =
 pub inner : {A : Type 0} (l r : A) → l ≢ r → Some l ≢ Some r
 inner l r n e = (let same : l ≡ r = cc in n same)
 
-pub supply_at : (s t : List (ℤ × ℤ)) (G H : Graph CostArc) (id l r : ℤ) → G.nodes ≡ H.nodes → PartAt int_cmp by_flow s t id (l, r) → IsFirstDifference (MinCostFlow s G) (MinCostFlow t H) (Verdicts.Supply id l r)
+pub supply_at : (s t : List (ℤ × ℤ)) (G H : Graph CostArc) (id l r : ℤ) → G.nodes ≡ H.nodes
+    → PartAt int_cmp by_flow s t id (l, r)
+    → IsFirstDifference (MinCostFlow s G) (MinCostFlow t H) (Verdicts.Supply id l r)
 supply_at s t G H id l r n d =
-    supply_first (MinCostFlow s G) (MinCostFlow t H) refl n id l r (ap Some d.differ.0, ap Some d.differ.1, inner l r d.differ.2) (λ q lt. ap Some (d.same_before q lt))
+    supply_first (MinCostFlow s G) (MinCostFlow t H) refl n id l r
+    (ap Some d.differ.0, ap Some d.differ.1, inner l r d.differ.2) (λ q lt. ap Some (d.same_before q lt))
 
 -- a flow in valid supplies is not 0
 some_flow : (nodes id b : ℤ) (s : List (ℤ × ℤ)) → AllByRecursion (IsSupply nodes) s → value_of s id ≡ Some b → b ≢ pos 0
@@ -83,51 +96,79 @@ some_flow nodes id b (x ∷ s) a e = by_test (is_at (int_cmp id) x.0) e (some_fl
     by_test true e i = (let same : x.1 ≡ b = cc in λ z. a.0.some (same ∙ z))
     by_test false e i = i e
 
-same_flow : (a b : Option ℤ) → ((z : ℤ) → a ≡ Some z → z ≢ pos 0) → ((z : ℤ) → b ≡ Some z → z ≢ pos 0) → flow_or_zero a ≡ flow_or_zero b → a ≡ b
+same_flow : (a b : Option ℤ) → ((z : ℤ) → a ≡ Some z → z ≢ pos 0) → ((z : ℤ) → b ≡ Some z → z ≢ pos 0)
+    → flow_or_zero a ≡ flow_or_zero b → a ≡ b
 same_flow None None f g e = refl
 same_flow None (Some z) f g e = absurd (g z refl (sym e))
 same_flow (Some z) None f g e = absurd (f z refl e)
 same_flow (Some y) (Some z) f g e = ap Some e
 
 -- valid supplies with the same flow at every ID are equal
-pub supplies_same : (m n : ℤ) (s t : List (ℤ × ℤ)) → IdsRise s → IdsRise t → AllByRecursion (IsSupply m) s → AllByRecursion (IsSupply n) t → ((q : ℤ) → AlikeAt int_cmp by_flow s t q) → s ≡ t
-supplies_same m n s t rs rt some_s some_t e = same_entries s t rs rt (λ q. same_flow (value_of s q) (value_of t q) (λ z. some_flow m q z s some_s) (λ z. some_flow n q z t some_t) (e q))
+pub supplies_same : (m n : ℤ) (s t : List (ℤ × ℤ)) → IdsRise s → IdsRise t → AllByRecursion (IsSupply m) s
+    → AllByRecursion (IsSupply n) t → ((q : ℤ) → AlikeAt int_cmp by_flow s t q) → s ≡ t
+supplies_same m n s t rs rt some_s some_t e =
+    same_entries s t rs rt
+    (λ q. same_flow (value_of s q) (value_of t q) (λ z. some_flow m q z s some_s) (λ z. some_flow n q z t some_t) (e q))
 
-pub supply_on : (ls rs : List (ℤ × ℤ)) (lt rt : List ((ℤ × ℤ) × CurveNumbers)) (id l r : ℤ) → PartAt int_cmp by_flow ls rs id (l, r) → IsVerdictOn (OfMin ls lt) (OfMin rs rt) (Verdicts.Supply id l r)
+pub supply_on : (ls rs : List (ℤ × ℤ)) (lt rt : List ((ℤ × ℤ) × CurveNumbers)) (id l r : ℤ)
+    → PartAt int_cmp by_flow ls rs id (l, r) → IsVerdictOn (OfMin ls lt) (OfMin rs rt) (Verdicts.Supply id l r)
 supply_on ls rs lt rt id l r d (MinCostFlow s G) (MinCostFlow t H) v w n a b =
-    supply_at s t G H id l r n (subst (λ m. PartAt int_cmp by_flow m t id (l, r)) a.0 (subst (λ m. PartAt int_cmp by_flow ls m id (l, r)) b.0 d))
+    supply_at s t G H id l r n
+    (subst (λ m. PartAt int_cmp by_flow m t id (l, r)) a.0
+    (subst (λ m. PartAt int_cmp by_flow ls m id (l, r)) b.0 d))
 supply_on ls rs lt rt id l r d (MinCostFlow s G) _ v w n a b = absurd b
 supply_on ls rs lt rt id l r d _ J v w n a b = absurd a
 
 -- ---- what the walk over two tables returns
 
 module _ (v : Verdict) where
-  pub min_on : (ls rs : List (ℤ × ℤ)) (lt rt : List ((ℤ × ℤ) × CurveNumbers)) → ((q : ℤ) → AlikeAt int_cmp by_flow ls rs q)
-      → ((xs ys : List ((ℤ × ℤ) × CostArc)) → TableTells costs (λ (b : CurveNumbers). told One b.units b.cost b.steps) lt xs → TableTells costs (λ (b : CurveNumbers). told One b.units b.cost b.steps) rt ys → IsPairVerdict costs xs ys v) → IsVerdictOn (OfMin ls lt) (OfMin rs rt) v
+  pub min_on : (ls rs : List (ℤ × ℤ)) (lt rt : List ((ℤ × ℤ) × CurveNumbers))
+      → ((q : ℤ) → AlikeAt int_cmp by_flow ls rs q)
+      → ((xs ys : List ((ℤ × ℤ) × CostArc))
+      → TableTells costs (λ (b : CurveNumbers). told One b.units b.cost b.steps) lt xs
+      → TableTells costs (λ (b : CurveNumbers). told One b.units b.cost b.steps) rt ys
+      → IsPairVerdict costs xs ys v) → IsVerdictOn (OfMin ls lt) (OfMin rs rt) v
   min_on ls rs lt rt same h (MinCostFlow s G) (MinCostFlow t H) f g n a b =
-      let flows : (q : ℤ) → AlikeAt int_cmp by_flow s t q = subst (λ m. (q : ℤ) → AlikeAt int_cmp by_flow m t q) a.0 (subst (λ m. (q : ℤ) → AlikeAt int_cmp by_flow ls m q) b.0 same) in
-      min_pairs s t G H v (supplies_same G.nodes H.nodes s t f.1.map g.1.map f.1.each g.1.each flows) n (h G.arcs H.arcs a.1.tells_them b.1.tells_them)
+      let flows : (q : ℤ)
+      → AlikeAt int_cmp by_flow s t q =
+      subst (λ m. (q : ℤ) → AlikeAt int_cmp by_flow m t q) a.0
+      (subst (λ m. (q : ℤ) → AlikeAt int_cmp by_flow ls m q) b.0 same) in
+      min_pairs s t G H v (supplies_same G.nodes H.nodes s t f.1.map g.1.map f.1.each g.1.each flows) n
+      (h G.arcs H.arcs a.1.tells_them b.1.tells_them)
   min_on ls rs lt rt same h (MinCostFlow s G) _ f g n a b = absurd b
   min_on ls rs lt rt same h _ J f g n a b = absurd a
 
   pub max_on : (a b c d : ℤ) (lt rt : List ((ℤ × ℤ) × Total)) → a ≡ c → b ≡ d
-      → ((xs ys : List ((ℤ × ℤ) × CapArc)) → TableTells capacities (λ (b : Total). cap_told b.total) lt xs → TableTells capacities (λ (b : Total). cap_told b.total) rt ys → IsPairVerdict capacities xs ys v) → IsVerdictOn (OfMax a b lt) (OfMax c d rt) v
-  max_on a b c d lt rt e f h (MaxFlow s t G) (MaxFlow u w H) p q n x y = max_pairs s t u w G H v (sym x.0 ∙ e ∙ y.0) (sym x.1 ∙ f ∙ y.1) n (h G.arcs H.arcs x.2.tells_them y.2.tells_them)
+      → ((xs ys : List ((ℤ × ℤ) × CapArc)) → TableTells capacities (λ (b : Total). cap_told b.total) lt xs
+      → TableTells capacities (λ (b : Total). cap_told b.total) rt ys → IsPairVerdict capacities xs ys v)
+      → IsVerdictOn (OfMax a b lt) (OfMax c d rt) v
+  max_on a b c d lt rt e f h (MaxFlow s t G) (MaxFlow u w H) p q n x y =
+      max_pairs s t u w G H v (sym x.0 ∙ e ∙ y.0) (sym x.1 ∙ f ∙ y.1) n (h G.arcs H.arcs x.2.tells_them y.2.tells_them)
   max_on a b c d lt rt e f h (MaxFlow s t G) _ p q n x y = absurd y
   max_on a b c d lt rt e f h _ J p q n x y = absurd x
 
-  pub sp_on : (lt rt : List ((ℤ × ℤ) × Least)) → ((xs ys : List ((ℤ × ℤ) × LengthArc)) → TableTells lengths (λ (b : Least). length_told b.length) lt xs → TableTells lengths (λ (b : Least). length_told b.length) rt ys → IsPairVerdict lengths xs ys v) → IsVerdictOn (OfSp lt) (OfSp rt) v
-  sp_on lt rt h (ShortestPaths G) (ShortestPaths H) p q n x y = sp_pairs G H v n (h G.arcs H.arcs x.tells_them y.tells_them)
+  pub sp_on : (lt rt : List ((ℤ × ℤ) × Least))
+      → ((xs ys : List ((ℤ × ℤ) × LengthArc)) → TableTells lengths (λ (b : Least). length_told b.length) lt xs
+      → TableTells lengths (λ (b : Least). length_told b.length) rt ys → IsPairVerdict lengths xs ys v)
+      → IsVerdictOn (OfSp lt) (OfSp rt) v
+  sp_on lt rt h (ShortestPaths G) (ShortestPaths H) p q n x y =
+      sp_pairs G H v n (h G.arcs H.arcs x.tells_them y.tells_them)
   sp_on lt rt h (ShortestPaths G) _ p q n x y = absurd y
   sp_on lt rt h _ J p q n x y = absurd x
 
-pub source_on : (a b c d l r : ℤ) (lt rt : List ((ℤ × ℤ) × Total)) → a ≡ l → c ≡ r → l ≢ r → IsVerdictOn (OfMax a b lt) (OfMax c d rt) (Verdicts.Source l r)
-source_on a b c d l r lt rt e f m (MaxFlow s t G) (MaxFlow u w H) p q n x y = source_first (MaxFlow s t G) (MaxFlow u w H) refl n (λ id. refl) l r (ap Some (sym x.0 ∙ e), ap Some (sym y.0 ∙ f), inner l r m)
+pub source_on : (a b c d l r : ℤ) (lt rt : List ((ℤ × ℤ) × Total)) → a ≡ l → c ≡ r → l ≢ r
+    → IsVerdictOn (OfMax a b lt) (OfMax c d rt) (Verdicts.Source l r)
+source_on a b c d l r lt rt e f m (MaxFlow s t G) (MaxFlow u w H) p q n x y =
+    source_first (MaxFlow s t G) (MaxFlow u w H) refl n (λ id. refl) l r
+    (ap Some (sym x.0 ∙ e), ap Some (sym y.0 ∙ f), inner l r m)
 source_on a b c d l r lt rt e f m (MaxFlow s t G) _ p q n x y = absurd y
 source_on a b c d l r lt rt e f m _ J p q n x y = absurd x
 
-pub sink_on : (a b c d l r : ℤ) (lt rt : List ((ℤ × ℤ) × Total)) → a ≡ c → b ≡ l → d ≡ r → l ≢ r → IsVerdictOn (OfMax a b lt) (OfMax c d rt) (Verdicts.Sink l r)
-sink_on a b c d l r lt rt s e f m (MaxFlow i j G) (MaxFlow u w H) p q n x y = sink_first (MaxFlow i j G) (MaxFlow u w H) refl n (λ id. refl) (ap Some (sym x.0 ∙ s ∙ y.0)) l r (ap Some (sym x.1 ∙ e), ap Some (sym y.1 ∙ f), inner l r m)
+pub sink_on : (a b c d l r : ℤ) (lt rt : List ((ℤ × ℤ) × Total)) → a ≡ c → b ≡ l → d ≡ r → l ≢ r
+    → IsVerdictOn (OfMax a b lt) (OfMax c d rt) (Verdicts.Sink l r)
+sink_on a b c d l r lt rt s e f m (MaxFlow i j G) (MaxFlow u w H) p q n x y =
+    sink_first (MaxFlow i j G) (MaxFlow u w H) refl n (λ id. refl) (ap Some (sym x.0 ∙ s ∙ y.0)) l r
+    (ap Some (sym x.1 ∙ e), ap Some (sym y.1 ∙ f), inner l r m)
 sink_on a b c d l r lt rt s e f m (MaxFlow i j G) _ p q n x y = absurd y
 sink_on a b c d l r lt rt s e f m _ J p q n x y = absurd x
 
@@ -150,41 +191,63 @@ same_items (x ∷ xs) (y ∷ ys) h =
     after h zero = refl
     after h (suc j) = h (suc (suc j))
 
-pub sources_first : (xs ys : List ℤ) (v : Verdict) → IsListVerdict xs ys v → IsFirstDifference (Sources xs) (Sources ys) v
+pub sources_first : (xs ys : List ℤ) (v : Verdict) → IsListVerdict xs ys v
+    → IsFirstDifference (Sources xs) (Sources ys) v
 sources_first xs ys Verdicts.Same h = same_first (Sources xs) (Sources ys) h
-sources_first xs ys (Verdicts.Length l r) h = length_first (Sources xs) (Sources ys) refl refl (λ id. refl) refl refl (λ p how d. d) l r (ap Some h.0, ap Some h.1, inner l r h.2)
-sources_first xs ys (Verdicts.Item i) h = item_first (Sources xs) (Sources ys) refl refl (λ id. refl) refl refl (λ p how d. d) (ap Some h.0) i h.1.differ (λ j lt d. d (h.1.same_before j (less_is j i lt)))
+sources_first xs ys (Verdicts.Length l r) h =
+    length_first (Sources xs) (Sources ys) refl refl (λ id. refl) refl refl (λ p how d. d) l r
+    (ap Some h.0, ap Some h.1, inner l r h.2)
+sources_first xs ys (Verdicts.Item i) h =
+    item_first (Sources xs) (Sources ys) refl refl (λ id. refl) refl refl (λ p how d. d) (ap Some h.0) i h.1.differ
+    (λ j lt d. d (h.1.same_before j (less_is j i lt)))
 sources_first xs ys _ h = absurd h
 
-pub queries_first : (xs ys : List (ℤ × ℤ)) (v : Verdict) → IsListVerdict xs ys v → IsFirstDifference (Queries xs) (Queries ys) v
+pub queries_first : (xs ys : List (ℤ × ℤ)) (v : Verdict) → IsListVerdict xs ys v
+    → IsFirstDifference (Queries xs) (Queries ys) v
 queries_first xs ys Verdicts.Same h = same_first (Queries xs) (Queries ys) h
-queries_first xs ys (Verdicts.Length l r) h = length_first (Queries xs) (Queries ys) refl refl (λ id. refl) refl refl (λ p how d. d) l r (ap Some h.0, ap Some h.1, inner l r h.2)
-queries_first xs ys (Verdicts.Item i) h = item_first (Queries xs) (Queries ys) refl refl (λ id. refl) refl refl (λ p how d. d) (ap Some h.0) i h.1.differ (λ j lt d. d (h.1.same_before j (less_is j i lt)))
+queries_first xs ys (Verdicts.Length l r) h =
+    length_first (Queries xs) (Queries ys) refl refl (λ id. refl) refl refl (λ p how d. d) l r
+    (ap Some h.0, ap Some h.1, inner l r h.2)
+queries_first xs ys (Verdicts.Item i) h =
+    item_first (Queries xs) (Queries ys) refl refl (λ id. refl) refl refl (λ p how d. d) (ap Some h.0) i h.1.differ
+    (λ j lt d. d (h.1.same_before j (less_is j i lt)))
 queries_first xs ys _ h = absurd h
 
 pub ss_on : (xs ys : List ℤ) (v : Verdict) → IsListVerdict xs ys v → IsVerdictOn (OfSs xs) (OfSs ys) v
-ss_on xs ys v h (Sources is) (Sources js) p q n x y = subst (λ l. IsFirstDifference (Sources l) (Sources js) v) x (subst (λ l. IsFirstDifference (Sources xs) (Sources l) v) y (sources_first xs ys v h))
+ss_on xs ys v h (Sources is) (Sources js) p q n x y =
+    subst (λ l. IsFirstDifference (Sources l) (Sources js) v) x
+    (subst (λ l. IsFirstDifference (Sources xs) (Sources l) v) y (sources_first xs ys v h))
 ss_on xs ys v h (Sources is) _ p q n x y = absurd y
 ss_on xs ys v h _ J p q n x y = absurd x
 
 pub p2p_on : (xs ys : List (ℤ × ℤ)) (v : Verdict) → IsListVerdict xs ys v → IsVerdictOn (OfP2p xs) (OfP2p ys) v
-p2p_on xs ys v h (Queries is) (Queries js) p q n x y = subst (λ l. IsFirstDifference (Queries l) (Queries js) v) x (subst (λ l. IsFirstDifference (Queries xs) (Queries l) v) y (queries_first xs ys v h))
+p2p_on xs ys v h (Queries is) (Queries js) p q n x y =
+    subst (λ l. IsFirstDifference (Queries l) (Queries js) v) x
+    (subst (λ l. IsFirstDifference (Queries xs) (Queries l) v) y (queries_first xs ys v h))
 p2p_on xs ys v h (Queries is) _ p q n x y = absurd y
 p2p_on xs ys v h _ J p q n x y = absurd x
 
 -- ---- points
 
-pub points_first : (xs ys : List (ℤ × (ℤ × ℤ))) (id : ℤ) → PartAt int_cmp by_point xs ys id tt → IsFirstDifference (Coordinates xs) (Coordinates ys) (Verdicts.Point id)
-points_first xs ys id d = point_first (Coordinates xs) (Coordinates ys) refl refl (λ i. refl) refl refl (λ p how d. d) refl id d.differ (λ q lt. d.same_before q lt) (λ j d. d)
+pub points_first : (xs ys : List (ℤ × (ℤ × ℤ))) (id : ℤ) → PartAt int_cmp by_point xs ys id tt
+    → IsFirstDifference (Coordinates xs) (Coordinates ys) (Verdicts.Point id)
+points_first xs ys id d =
+    point_first (Coordinates xs) (Coordinates ys) refl refl (λ i. refl) refl refl (λ p how d. d) refl id d.differ
+    (λ q lt. d.same_before q lt) (λ j d. d)
 
-pub point_on : (xs ys : List (ℤ × (ℤ × ℤ))) (id : ℤ) → PartAt int_cmp by_point xs ys id tt → IsVerdictOn (OfCo xs) (OfCo ys) (Verdicts.Point id)
-point_on xs ys id d (Coordinates is) (Coordinates js) p q n x y = subst (λ l. IsFirstDifference (Coordinates l) (Coordinates js) (Verdicts.Point id)) x (subst (λ l. IsFirstDifference (Coordinates xs) (Coordinates l) (Verdicts.Point id)) y (points_first xs ys id d))
+pub point_on : (xs ys : List (ℤ × (ℤ × ℤ))) (id : ℤ) → PartAt int_cmp by_point xs ys id tt
+    → IsVerdictOn (OfCo xs) (OfCo ys) (Verdicts.Point id)
+point_on xs ys id d (Coordinates is) (Coordinates js) p q n x y =
+    subst (λ l. IsFirstDifference (Coordinates l) (Coordinates js) (Verdicts.Point id)) x
+    (subst (λ l. IsFirstDifference (Coordinates xs) (Coordinates l) (Verdicts.Point id)) y (points_first xs ys id d))
 point_on xs ys id d (Coordinates is) _ p q n x y = absurd y
 point_on xs ys id d _ J p q n x y = absurd x
 
-pub points_on : (xs ys : List (ℤ × (ℤ × ℤ))) → ((q : ℤ) → AlikeAt int_cmp by_point xs ys q) → IsVerdictOn (OfCo xs) (OfCo ys) Verdicts.Same
+pub points_on : (xs ys : List (ℤ × (ℤ × ℤ))) → ((q : ℤ) → AlikeAt int_cmp by_point xs ys q)
+    → IsVerdictOn (OfCo xs) (OfCo ys) Verdicts.Same
 points_on xs ys h (Coordinates is) (Coordinates js) p q n x y =
-    same_first (Coordinates is) (Coordinates js) (same_entries is js p.map q.map (λ i. ap (λ m. value_of m i) (sym x) ∙ h i ∙ ap (λ m. value_of m i) y))
+    same_first (Coordinates is) (Coordinates js)
+    (same_entries is js p.map q.map (λ i. ap (λ m. value_of m i) (sym x) ∙ h i ∙ ap (λ m. value_of m i) y))
 points_on xs ys h (Coordinates is) _ p q n x y = absurd y
 points_on xs ys h _ J p q n x y = absurd x
 
@@ -195,18 +258,27 @@ pub shown_on : (a b c d : Contents) (v : Verdict) → a ≡ c → b ≡ d → Is
 shown_on a b c d v e f h = subst (λ x. IsVerdictOn x d v) e (subst (λ y. IsVerdictOn a y v) f h)
 
 module _ (a b : Holding) (I J : Instance) (p : IsHeld a I) (q : IsHeld b J) where
-  pub kinds_on : (l r : Kind) → l ≡ contents_kind a.contents → r ≡ contents_kind b.contents → l ≢ r → IsFirstDifference I J (Verdicts.Kind l r)
+  pub kinds_on : (l r : Kind) → l ≡ contents_kind a.contents → r ≡ contents_kind b.contents → l ≢ r
+      → IsFirstDifference I J (Verdicts.Kind l r)
   kinds_on l r e f n =
       let left : kind_of I ≡ l = sym (e ∙ held_kind a I p) in
       let right : kind_of J ≡ r = sym (f ∙ held_kind b J q) in
-      subst (λ k. IsFirstDifference I J (Verdicts.Kind k r)) left (subst (λ k. IsFirstDifference I J (Verdicts.Kind (kind_of I) k)) right (kind_first I J (λ s. n (sym left ∙ s ∙ right))))
+      subst (λ k. IsFirstDifference I J (Verdicts.Kind k r)) left
+      (subst (λ k. IsFirstDifference I J (Verdicts.Kind (kind_of I) k)) right
+      (kind_first I J (λ s. n (sym left ∙ s ∙ right))))
 
-  pub nodes_on : contents_kind a.contents ≡ contents_kind b.contents → (l r : ℤ) → l ≡ a.nodes → r ≡ b.nodes → l ≢ r → IsFirstDifference I J (Verdicts.Nodes l r)
+  pub nodes_on : contents_kind a.contents ≡ contents_kind b.contents → (l r : ℤ) → l ≡ a.nodes → r ≡ b.nodes → l ≢ r
+      → IsFirstDifference I J (Verdicts.Nodes l r)
   nodes_on k l r e f n =
       let left : nodes_of I ≡ l = sym (e ∙ p.nodes_are) in
       let right : nodes_of J ≡ r = sym (f ∙ q.nodes_are) in
       let kinds : kind_of I ≡ kind_of J = sym (held_kind a I p) ∙ k ∙ held_kind b J q in
-      subst (λ k. IsFirstDifference I J (Verdicts.Nodes k r)) left (subst (λ k. IsFirstDifference I J (Verdicts.Nodes (nodes_of I) k)) right (nodes_first I J kinds (λ s. n (sym left ∙ s ∙ right))))
+      subst (λ k. IsFirstDifference I J (Verdicts.Nodes k r)) left
+      (subst (λ k. IsFirstDifference I J (Verdicts.Nodes (nodes_of I) k)) right
+      (nodes_first I J kinds (λ s. n (sym left ∙ s ∙ right))))
 
-  pub held_on : (c d : Contents) (v : Verdict) → IsVerdictOn c d v → c ≡ a.contents → d ≡ b.contents → a.nodes ≡ b.nodes → IsValid I → IsValid J → IsFirstDifference I J v
-  held_on c d v h e f n x y = h I J x y (sym p.nodes_are ∙ n ∙ q.nodes_are) (subst (λ z. Shows z I) (sym e) p.shows) (subst (λ z. Shows z J) (sym f) q.shows)
+  pub held_on : (c d : Contents) (v : Verdict) → IsVerdictOn c d v → c ≡ a.contents → d ≡ b.contents → a.nodes ≡ b.nodes
+      → IsValid I → IsValid J → IsFirstDifference I J v
+  held_on c d v h e f n x y =
+      h I J x y (sym p.nodes_are ∙ n ∙ q.nodes_are) (subst (λ z. Shows z I) (sym e) p.shows)
+      (subst (λ z. Shows z J) (sym f) q.shows)

@@ -12,7 +12,8 @@ use Rattle.dn_compare.specs.FirstDifference.{place_cmp, place_of, StandsEarlier}
 use Rattle.dn_compare.specs.declared.verdict.Verdict.{Verdict}
 
 place_total : IsTotalOrder place_cmp
-place_total = then_total (on_total (λ (p : ℤ × (ℤ × ℤ)). p.0) int_cmp_total) (on_total (λ (p : ℤ × (ℤ × ℤ)). p.1) pair_total)
+place_total =
+    then_total (on_total (λ (p : ℤ × (ℤ × ℤ)). p.0) int_cmp_total) (on_total (λ (p : ℤ × (ℤ × ℤ)). p.1) pair_total)
 
 place_is : (p q : ℤ × (ℤ × ℤ)) → place_cmp p q ≡ Equal → p ≡ q
 place_is p q e = exact_pairs int_cmp pair_cmp exact_signed (exact_pairs int_cmp int_cmp exact_signed exact_signed) p q e
@@ -21,7 +22,8 @@ place_is p q e = exact_pairs int_cmp pair_cmp exact_signed (exact_pairs int_cmp 
 pub which_first : (v w : Verdict) → StandsEarlier v w ⊎ StandsEarlier w v ⊎ (place_of v ≡ place_of w)
 which_first v w = by_order (place_cmp (place_of v) (place_of w)) refl
   where
-    by_order : (o : Ordering) → place_cmp (place_of v) (place_of w) ≡ o → StandsEarlier v w ⊎ StandsEarlier w v ⊎ (place_of v ≡ place_of w)
+    by_order : (o : Ordering) → place_cmp (place_of v) (place_of w) ≡ o
+        → StandsEarlier v w ⊎ StandsEarlier w v ⊎ (place_of v ≡ place_of w)
     by_order Less e = inl e
     by_order Equal e = inr (inr (place_is (place_of v) (place_of w) e))
     by_order Greater e = inr (inl (place_total.antisymm (place_of w) (place_of v) ∙ ap ordering_reverse e))

@@ -35,7 +35,8 @@ pub same_first : (I J : Instance) → IsSame I J → IsFirstDifference I J Verdi
 same_first I J e = record { true_of = e; none_earlier = λ w lt t. none_before_same w lt }
 
 -- the first difference depends only on the meanings
-pub first_by_meaning : (I I' J J' : Instance) (v : Verdict) → IsSame I I' → IsSame J J' → IsFirstDifference I J v → IsFirstDifference I' J' v
+pub first_by_meaning : (I I' J J' : Instance) (v : Verdict) → IsSame I I' → IsSame J J' → IsFirstDifference I J v
+    → IsFirstDifference I' J' v
 first_by_meaning I I' J J' v e f h = record {
   true_of = true_by_meaning I I' J J' v e f h.true_of;
   none_earlier = λ w lt t. h.none_earlier w lt (true_by_meaning I' I J' J w (sym_of I I' e) (sym_of J J' f) t);
@@ -57,5 +58,8 @@ place_turned (Verdicts.Point id) = refl
 pub first_turned : (I J : Instance) (v : Verdict) → IsFirstDifference I J v → IsFirstDifference J I (turned v)
 first_turned I J v h = record {
   true_of = true_turned I J v h.true_of;
-  none_earlier = λ w lt t. h.none_earlier (turned w) (ap (λ p. place_cmp p (place_of v)) (place_turned w) ∙ ap (place_cmp (place_of w)) (sym (place_turned v)) ∙ lt) (true_turned J I w t);
+  none_earlier =
+      λ w lt t. h.none_earlier (turned w)
+      (ap (λ p. place_cmp p (place_of v)) (place_turned w) ∙ ap (place_cmp (place_of w)) (sym (place_turned v)) ∙ lt)
+      (true_turned J I w t);
 }

@@ -34,7 +34,9 @@ module _ {K : Type 0} (cmp : K → K → Ordering) (total : IsTotalOrder cmp) (e
     where
       by_test : (t : Bool) → Sought q p ≡ t → Sought q p ≡ false
       by_test false e = e
-      by_test true e = (let one : q ≡ p = key_is q p e in let never : true ≡ false = sym (ap is_eq (key_self p)) ∙ ap (Sought p) (sym one) ∙ h in cc)
+      by_test true e =
+          (let one : q ≡ p = key_is q p e in
+          let never : true ≡ false = sym (ap is_eq (key_self p)) ∙ ap (Sought p) (sym one) ∙ h in cc)
 
   no_keys : IsStrictlySortedBy cmp []
   unfolding IsStrictlySortedBy
@@ -85,7 +87,9 @@ module _ {K : Type 0} (cmp : K → K → Ordering) (total : IsTotalOrder cmp) (e
         record {
           there = ap (λ b. cond b (Some e.1) (lookup (Sought e.0) es)) t ∙ sym (ap (λ b. cond b (Some e.1) None) t);
           gone = ap (λ l. lookup (Sought e.0) l) after ∙ none;
-          others = λ q f. ap (λ l. lookup (Sought q) l) after ∙ sym (ap (λ b. cond b (Some e.1) (lookup (Sought q) es)) (other_key e.0 q f));
+          others =
+              λ q f. ap (λ l. lookup (Sought q) l) after
+              ∙ sym (ap (λ b. cond b (Some e.1) (lookup (Sought q) es)) (other_key e.0 q f));
           before = λ q l. none_in q (e ∷ es) (l, past_from q e.0 es l (head_past e es s));
           rises = subst Rises (sym after) (tail_rises e es s);
         }
@@ -108,12 +112,16 @@ module _ {K : Type 0} (cmp : K → K → Ordering) (total : IsTotalOrder cmp) (e
     passes p (e ∷ es) s (inl l) = passes_below p e es s l
     passes p (e ∷ es) s (inr h) = subst (λ k. Passes k (e ∷ es)) (sym h) (passes_here e es s)
 
-    both_due : (p : K) (l r : K × V) (ls rs : List (K × V)) (o : Ordering) → cmp l.0 r.0 ≡ o → Some (match_ordering o l.0 l.0 r.0) ≡ Some p → IsDue p (l ∷ ls) × IsDue p (r ∷ rs)
-    both_due p l r ls rs Less h e = (let one : l.0 ≡ p = cc in (inr (sym one), inl (subst (λ k. cmp k r.0 ≡ Less) one h)))
+    both_due : (p : K) (l r : K × V) (ls rs : List (K × V)) (o : Ordering) → cmp l.0 r.0 ≡ o
+        → Some (match_ordering o l.0 l.0 r.0) ≡ Some p → IsDue p (l ∷ ls) × IsDue p (r ∷ rs)
+    both_due p l r ls rs Less h e =
+        (let one : l.0 ≡ p = cc in (inr (sym one), inl (subst (λ k. cmp k r.0 ≡ Less) one h)))
     both_due p l r ls rs Equal h e = (let one : l.0 ≡ p = cc in (inr (sym one), inr (sym one ∙ exact l.0 r.0 h)))
-    both_due p l r ls rs Greater h e = (let one : r.0 ≡ p = cc in (inl (subst (λ k. cmp k l.0 ≡ Less) one (flipped l.0 r.0 h)), inr (sym one)))
+    both_due p l r ls rs Greater h e =
+        (let one : r.0 ≡ p = cc in (inl (subst (λ k. cmp k l.0 ≡ Less) one (flipped l.0 r.0 h)), inr (sym one)))
 
-    due : (p : K) (ls rs : List (K × V)) → lesser_key cmp (first_key ls) (first_key rs) ≡ Some p → IsDue p ls × IsDue p rs
+    due : (p : K) (ls rs : List (K × V)) → lesser_key cmp (first_key ls) (first_key rs) ≡ Some p → IsDue p ls
+        × IsDue p rs
     due p [] [] e = (tt, tt)
     due p [] (r ∷ rs) e = (let one : r.0 ≡ p = cc in (tt, inr (sym one)))
     due p (l ∷ ls) [] e = (let one : l.0 ≡ p = cc in (inr (sym one), tt))
@@ -135,37 +143,44 @@ module _ {K : Type 0} (cmp : K → K → Ordering) (total : IsTotalOrder cmp) (e
         by_test true = omega arith
         by_test false = omega arith
 
-    after_lt : (p : K) (e : K × V) (es : List (K × V)) → p ≡ e.0 → length (after_key (Sought p) (e ∷ es)) < length (e ∷ es)
+    after_lt : (p : K) (e : K × V) (es : List (K × V)) → p ≡ e.0
+        → length (after_key (Sought p) (e ∷ es)) < length (e ∷ es)
     after_lt p e es h =
-        let after : after_key (Sought p) (e ∷ es) ≡ es = ap (λ b. cond b es (e ∷ es)) (ap (λ k. Sought k e.0) h ∙ ap is_eq (key_self e.0)) in
+        let after : after_key (Sought p) (e ∷ es) ≡ es =
+        ap (λ b. cond b es (e ∷ es)) (ap (λ k. Sought k e.0) h ∙ ap is_eq (key_self e.0)) in
         let same : length (after_key (Sought p) (e ∷ es)) ≡ length es = ap length after in
         omega (arith, same)
 
-    at_one : (p : K) (ls rs : List (K × V)) → lesser_key cmp (first_key ls) (first_key rs) ≡ Some p → (first_key ls ≡ Some p) ⊎ (first_key rs ≡ Some p)
+    at_one : (p : K) (ls rs : List (K × V)) → lesser_key cmp (first_key ls) (first_key rs) ≡ Some p
+        → (first_key ls ≡ Some p) ⊎ (first_key rs ≡ Some p)
     at_one p [] [] e = cc
     at_one p [] (r ∷ rs) e = inr e
     at_one p (l ∷ ls) [] e = inl e
     at_one p (l ∷ ls) (r ∷ rs) e = by_order (cmp l.0 r.0) e
       where
-        by_order : (o : Ordering) → Some (match_ordering o l.0 l.0 r.0) ≡ Some p → (Some l.0 ≡ Some p) ⊎ (Some r.0 ≡ Some p)
+        by_order : (o : Ordering) → Some (match_ordering o l.0 l.0 r.0) ≡ Some p
+            → (Some l.0 ≡ Some p) ⊎ (Some r.0 ≡ Some p)
         by_order Less e = inl e
         by_order Equal e = inl e
         by_order Greater e = inr e
 
-    shorter : (p : K) (ls rs : List (K × V)) → lesser_key cmp (first_key ls) (first_key rs) ≡ Some p → length (after_key (Sought p) ls) + length (after_key (Sought p) rs) < length ls + length rs
+    shorter : (p : K) (ls rs : List (K × V)) → lesser_key cmp (first_key ls) (first_key rs) ≡ Some p
+        → length (after_key (Sought p) ls) + length (after_key (Sought p) rs) < length ls + length rs
     shorter p ls rs e = by_side (at_one p ls rs e)
       where
         first_lt : (es : List (K × V)) → first_key es ≡ Some p → length (after_key (Sought p) es) < length es
         first_lt [] h = cc
         first_lt (x ∷ es) h = (let one : x.0 ≡ p = cc in after_lt p x es (sym one))
 
-        by_side : (first_key ls ≡ Some p) ⊎ (first_key rs ≡ Some p) → length (after_key (Sought p) ls) + length (after_key (Sought p) rs) < length ls + length rs
+        by_side : (first_key ls ≡ Some p) ⊎ (first_key rs ≡ Some p)
+            → length (after_key (Sought p) ls) + length (after_key (Sought p) rs) < length ls + length rs
         by_side (inl h) = omega (arith, first_lt ls h, after_le p rs)
         by_side (inr h) = omega (arith, first_lt rs h, after_le p ls)
 
     -- ---- rising entries with the same value at every key are equal
 
-    module _ (e f : K × V) (es fs : List (K × V)) (s : Rises (e ∷ es)) (t : Rises (f ∷ fs)) (h : (q : K) → lookup (Sought q) (e ∷ es) ≡ lookup (Sought q) (f ∷ fs)) where
+    module _ (e f : K × V) (es fs : List (K × V)) (s : Rises (e ∷ es)) (t : Rises (f ∷ fs))
+        (h : (q : K) → lookup (Sought q) (e ∷ es) ≡ lookup (Sought q) (f ∷ fs)) where
       found : (x : K × V) (xs : List (K × V)) → lookup (Sought x.0) (x ∷ xs) ≡ Some x.1
       found x xs = ap (λ o. cond (is_eq o) (Some x.1) (lookup (Sought x.0) xs)) (key_self x.0)
 
@@ -175,15 +190,20 @@ module _ {K : Type 0} (cmp : K → K → Ordering) (total : IsTotalOrder cmp) (e
           by_order : (o : Ordering) → cmp e.0 f.0 ≡ o → e.0 ≡ f.0
           by_order Equal l = exact e.0 f.0 l
           by_order Less l =
-              let never : Some e.1 ≡ None = sym (found e es) ∙ h e.0 ∙ none_in e.0 (f ∷ fs) (l, past_from e.0 f.0 fs l (head_past f fs t)) in
+              let never : Some e.1 ≡ None =
+              sym (found e es) ∙ h e.0 ∙ none_in e.0 (f ∷ fs) (l, past_from e.0 f.0 fs l (head_past f fs t)) in
               cc
           by_order Greater g =
               let l = flipped e.0 f.0 g in
-              let never : Some f.1 ≡ None = sym (found f fs) ∙ sym (h f.0) ∙ none_in f.0 (e ∷ es) (l, past_from f.0 e.0 es l (head_past e es s)) in
+              let never : Some f.1 ≡ None =
+              sym (found f fs) ∙ sym (h f.0)
+              ∙ none_in f.0 (e ∷ es) (l, past_from f.0 e.0 es l (head_past e es s)) in
               cc
 
       values : e.1 ≡ f.1
-      values = (let both : Some e.1 ≡ Some f.1 = sym (found e es) ∙ h e.0 ∙ ap (λ k. lookup (Sought k) (f ∷ fs)) heads ∙ found f fs in cc)
+      values =
+          (let both : Some e.1 ≡ Some f.1 =
+          sym (found e es) ∙ h e.0 ∙ ap (λ k. lookup (Sought k) (f ∷ fs)) heads ∙ found f fs in cc)
 
       tails : (q : K) → lookup (Sought q) es ≡ lookup (Sought q) fs
       tails q = by_test (Sought q e.0) refl
@@ -191,15 +211,22 @@ module _ {K : Type 0} (cmp : K → K → Ordering) (total : IsTotalOrder cmp) (e
           by_test : (b : Bool) → Sought q e.0 ≡ b → lookup (Sought q) es ≡ lookup (Sought q) fs
           by_test true b =
               let one = key_is q e.0 b in
-              subst (λ k. lookup (Sought k) es ≡ lookup (Sought k) fs) (sym one) (none_in e.0 es (head_past e es s) ∙ sym (subst (λ k. lookup (Sought k) fs ≡ None) (sym heads) (none_in f.0 fs (head_past f fs t))))
+              subst (λ k. lookup (Sought k) es ≡ lookup (Sought k) fs) (sym one)
+              (none_in e.0 es (head_past e es s)
+              ∙ sym (subst (λ k. lookup (Sought k) fs ≡ None) (sym heads) (none_in f.0 fs (head_past f fs t))))
           by_test false b =
               sym (ap (λ x. cond x (Some e.1) (lookup (Sought q) es)) b) ∙ h q
               ∙ ap (λ x. cond x (Some f.1) (lookup (Sought q) fs)) (ap (Sought q) (sym heads) ∙ b)
 
-    pub same_entries : (es fs : List (K × V)) → Rises es → Rises fs → ((q : K) → lookup (Sought q) es ≡ lookup (Sought q) fs) → es ≡ fs
+    pub same_entries : (es fs : List (K × V)) → Rises es → Rises fs
+        → ((q : K) → lookup (Sought q) es ≡ lookup (Sought q) fs) → es ≡ fs
     same_entries [] [] s t h = refl
-    same_entries [] (f ∷ fs) s t h = (let never : None ≡ Some f.1 = h f.0 ∙ ap (λ o. cond (is_eq o) (Some f.1) (lookup (Sought f.0) fs)) (key_self f.0) in cc)
-    same_entries (e ∷ es) [] s t h = (let never : None ≡ Some e.1 = sym (h e.0) ∙ ap (λ o. cond (is_eq o) (Some e.1) (lookup (Sought e.0) es)) (key_self e.0) in cc)
+    same_entries [] (f ∷ fs) s t h =
+        (let never : None ≡ Some f.1 =
+        h f.0 ∙ ap (λ o. cond (is_eq o) (Some f.1) (lookup (Sought f.0) fs)) (key_self f.0) in cc)
+    same_entries (e ∷ es) [] s t h =
+        (let never : None ≡ Some e.1 =
+        sym (h e.0) ∙ ap (λ o. cond (is_eq o) (Some e.1) (lookup (Sought e.0) es)) (key_self e.0) in cc)
     same_entries (e ∷ es) (f ∷ fs) s t h =
         let rest : es ≡ fs = same_entries es fs (tail_rises e es s) (tail_rises f fs t) (tails e f es fs s t h) in
         let first : e ≡ f = ap (λ k. (k, e.1)) (heads e f es fs s t h) ∙ ap (λ v. (f.0, v)) (values e f es fs s t h) in
@@ -207,59 +234,104 @@ module _ {K : Type 0} (cmp : K → K → Ordering) (total : IsTotalOrder cmp) (e
 
   -- ---- the remaining entries decide
 
-  module _ {V W : Type 0} (by : Comparison V W) (nothing : by.Alike None None) (no_differ : (what : W) → by.Differ None None what → ⊥) where
+  module _ {V W : Type 0} (by : Comparison V W) (nothing : by.Alike None None)
+      (no_differ : (what : W) → by.Differ None None what → ⊥) where
     -- if both walks have ended, the entries do not differ
-    pub ended : (ls rs : List (K × V)) → lesser_key cmp (first_key ls) (first_key rs) ≡ None → IsParting cmp by ls rs None
-    ended ls rs last = (let none = none_left ls rs last in subst (λ m. IsParting cmp by m rs None) (sym none.0) (subst (λ m. IsParting cmp by [] m None) (sym none.1) (λ q. nothing)))
+    pub ended : (ls rs : List (K × V)) → lesser_key cmp (first_key ls) (first_key rs) ≡ None
+        → IsParting cmp by ls rs None
+    ended ls rs last =
+        (let none = none_left ls rs last in
+        subst (λ m. IsParting cmp by m rs None) (sym none.0)
+        (subst (λ m. IsParting cmp by [] m None) (sym none.1) (λ q. nothing)))
 
     module _ (p : K) (ls rs : List (K × V)) where
       -- after a key with the same value on both sides, the first difference of the remaining entries is that of all
       -- entries
-      module _ (pl : Passes p ls) (pr : Passes p rs) (same : by.Alike (value_at (Sought p) ls) (value_at (Sought p) rs)) where
-        same_at : (q : K) → AlikeAt cmp by (after_key (Sought p) ls) (after_key (Sought p) rs) q → AlikeAt cmp by ls rs q
+      module _ (pl : Passes p ls) (pr : Passes p rs)
+          (same : by.Alike (value_at (Sought p) ls) (value_at (Sought p) rs)) where
+        same_at : (q : K) → AlikeAt cmp by (after_key (Sought p) ls) (after_key (Sought p) rs) q
+            → AlikeAt cmp by ls rs q
         same_at q h = by_test (Sought p q) refl
           where
             by_test : (t : Bool) → Sought p q ≡ t → AlikeAt cmp by ls rs q
-            by_test true e = subst (λ k. AlikeAt cmp by ls rs k) (key_is p q e) (subst (λ o. by.Alike o (lookup (Sought p) rs)) (sym pl.there) (subst (λ o. by.Alike (value_at (Sought p) ls) o) (sym pr.there) same))
-            by_test false e = subst (λ o. by.Alike o (lookup (Sought q) rs)) (pl.others q e) (subst (λ o. by.Alike (lookup (Sought q) (after_key (Sought p) ls)) o) (pr.others q e) h)
+            by_test true e =
+                subst (λ k. AlikeAt cmp by ls rs k) (key_is p q e)
+                (subst (λ o. by.Alike o (lookup (Sought p) rs)) (sym pl.there)
+                (subst (λ o. by.Alike (value_at (Sought p) ls) o) (sym pr.there) same))
+            by_test false e =
+                subst (λ o. by.Alike o (lookup (Sought q) rs)) (pl.others q e)
+                (subst (λ o. by.Alike (lookup (Sought q) (after_key (Sought p) ls)) o) (pr.others q e) h)
 
-        differ_at : (q : K) (what : W) → by.Differ (lookup (Sought q) (after_key (Sought p) ls)) (lookup (Sought q) (after_key (Sought p) rs)) what → by.Differ (lookup (Sought q) ls) (lookup (Sought q) rs) what
+        differ_at : (q : K) (what : W)
+            → by.Differ (lookup (Sought q) (after_key (Sought p) ls)) (lookup (Sought q) (after_key (Sought p) rs)) what
+            → by.Differ (lookup (Sought q) ls) (lookup (Sought q) rs) what
         differ_at q what h = by_test (Sought p q) refl
           where
             by_test : (t : Bool) → Sought p q ≡ t → by.Differ (lookup (Sought q) ls) (lookup (Sought q) rs) what
             by_test true e =
-                let at_p : by.Differ (lookup (Sought p) (after_key (Sought p) ls)) (lookup (Sought p) (after_key (Sought p) rs)) what = subst (λ k. by.Differ (lookup (Sought k) (after_key (Sought p) ls)) (lookup (Sought k) (after_key (Sought p) rs)) what) (sym (key_is p q e)) h in
-                absurd (no_differ what (subst (λ o. by.Differ None o what) pr.gone (subst (λ o. by.Differ o (lookup (Sought p) (after_key (Sought p) rs)) what) pl.gone at_p)))
-            by_test false e = subst (λ o. by.Differ o (lookup (Sought q) rs) what) (pl.others q e) (subst (λ o. by.Differ (lookup (Sought q) (after_key (Sought p) ls)) o what) (pr.others q e) h)
+                let at_p : by.Differ (lookup (Sought p) (after_key (Sought p) ls))
+                (lookup (Sought p) (after_key (Sought p) rs)) what =
+                subst
+                (λ k. by.Differ (lookup (Sought k) (after_key (Sought p) ls))
+                (lookup (Sought k) (after_key (Sought p) rs)) what) (sym (key_is p q e)) h in
+                absurd
+                (no_differ what
+                (subst (λ o. by.Differ None o what) pr.gone
+                (subst (λ o. by.Differ o (lookup (Sought p) (after_key (Sought p) rs)) what) pl.gone at_p)))
+            by_test false e =
+                subst (λ o. by.Differ o (lookup (Sought q) rs) what) (pl.others q e)
+                (subst (λ o. by.Differ (lookup (Sought q) (after_key (Sought p) ls)) o what) (pr.others q e) h)
 
-        go_on : (o : Option (K × W)) → IsParting cmp by (after_key (Sought p) ls) (after_key (Sought p) rs) o → IsParting cmp by ls rs o
+        go_on : (o : Option (K × W)) → IsParting cmp by (after_key (Sought p) ls) (after_key (Sought p) rs) o
+            → IsParting cmp by ls rs o
         go_on None h = λ q. same_at q (h q)
-        go_on (Some x) h = record { differ = differ_at x.0 x.1 h.differ; same_before = λ q l. same_at q (h.same_before q l) }
+        go_on (Some x) h =
+            record { differ = differ_at x.0 x.1 h.differ; same_before = λ q l. same_at q (h.same_before q l) }
 
       -- a key with different values is the first difference
-      stop : Passes p ls → Passes p rs → (what : W) → by.Differ (value_at (Sought p) ls) (value_at (Sought p) rs) what → IsParting cmp by ls rs (Some (p, what))
+      stop : Passes p ls → Passes p rs → (what : W) → by.Differ (value_at (Sought p) ls) (value_at (Sought p) rs) what
+          → IsParting cmp by ls rs (Some (p, what))
       stop pl pr what d = record {
-        differ = subst (λ o. by.Differ o (lookup (Sought p) rs) what) (sym pl.there) (subst (λ o. by.Differ (value_at (Sought p) ls) o what) (sym pr.there) d);
-        same_before = λ q l. subst (λ o. by.Alike o (lookup (Sought q) rs)) (sym (pl.before q l)) (subst (λ o. by.Alike None o) (sym (pr.before q l)) nothing);
+        differ =
+            subst (λ o. by.Differ o (lookup (Sought p) rs) what) (sym pl.there)
+            (subst (λ o. by.Differ (value_at (Sought p) ls) o what) (sym pr.there) d);
+        same_before =
+            λ q l. subst (λ o. by.Alike o (lookup (Sought q) rs)) (sym (pl.before q l))
+            (subst (λ o. by.Alike None o) (sym (pr.before q l)) nothing);
       }
 
   -- ---- one turn of two walks, in the form that the code has
 
-  module _ {V : Type 0} (p : K) (ls rs ls' rs' : List (K × V)) (first : lesser_key cmp (first_key ls) (first_key rs) ≡ Some p) (left_is : ls' ≡ after_key (Sought p) ls) (right_is : rs' ≡ after_key (Sought p) rs) where
+  module _ {V : Type 0} (p : K) (ls rs ls' rs' : List (K × V))
+      (first : lesser_key cmp (first_key ls) (first_key rs) ≡ Some p) (left_is : ls' ≡ after_key (Sought p) ls)
+      (right_is : rs' ≡ after_key (Sought p) rs) where
     pub fewer : length ls' + length rs' < length ls + length rs
-    fewer = subst (λ l. length l + length rs' < length ls + length rs) (sym left_is) (subst (λ r. length (after_key (Sought p) ls) + length r < length ls + length rs) (sym right_is) (shorter p ls rs first))
+    fewer =
+        subst (λ l. length l + length rs' < length ls + length rs) (sym left_is)
+        (subst (λ r. length (after_key (Sought p) ls) + length r < length ls + length rs) (sym right_is)
+        (shorter p ls rs first))
 
     module _ (left_rises : Rises ls) (right_rises : Rises rs) where
       pub rise_on : Rises ls' × Rises rs'
-      rise_on = (let d = due p ls rs first in (subst Rises (sym left_is) (passes p ls left_rises d.0).rises, subst Rises (sym right_is) (passes p rs right_rises d.1).rises))
+      rise_on =
+          (let d =
+          due p ls rs first in (
+            subst Rises (sym left_is) (passes p ls left_rises d.0).rises,
+            subst Rises (sym right_is)
+                (passes p rs right_rises d.1).rises,
+          ))
 
-      module _ {W : Type 0} (by : Comparison V W) (nothing : by.Alike None None) (no_differ : (what : W) → by.Differ None None what → ⊥) (a b : Option V) (a_is : a ≡ value_at (Sought p) ls) (b_is : b ≡ value_at (Sought p) rs) where
+      module _ {W : Type 0} (by : Comparison V W) (nothing : by.Alike None None)
+          (no_differ : (what : W) → by.Differ None None what → ⊥) (a b : Option V) (a_is : a ≡ value_at (Sought p) ls)
+          (b_is : b ≡ value_at (Sought p) rs) where
         pub kept : by.Alike a b → (o : Option (K × W)) → IsParting cmp by ls' rs' o → IsParting cmp by ls rs o
         kept same o h =
             let d = due p ls rs first in
-            let here : by.Alike (value_at (Sought p) ls) (value_at (Sought p) rs) = subst (λ x. by.Alike x (value_at (Sought p) rs)) a_is (subst (λ x. by.Alike a x) b_is same) in
+            let here : by.Alike (value_at (Sought p) ls) (value_at (Sought p) rs) =
+            subst (λ x. by.Alike x (value_at (Sought p) rs)) a_is (subst (λ x. by.Alike a x) b_is same) in
             go_on by nothing no_differ p ls rs (passes p ls left_rises d.0) (passes p rs right_rises d.1) here o
-            (subst (λ l. IsParting cmp by l (after_key (Sought p) rs) o) left_is (subst (λ r. IsParting cmp by ls' r o) right_is h))
+            (subst (λ l. IsParting cmp by l (after_key (Sought p) rs) o) left_is
+            (subst (λ r. IsParting cmp by ls' r o) right_is h))
 
         pub halted : (what : W) → by.Differ a b what → IsParting cmp by ls rs (Some (p, what))
         halted what differ =

@@ -32,7 +32,8 @@ use Rattle.dn_instance.proofs.LineSteps.{clean_more, fault_is_next, in_time}
 use Rattle.dn_instance.proofs.NextLaws.{head_skips, head_told, then_fields}
 
 -- the letter of an arc's line
-letter : (k : Option Keyword) (named : Option Kind) → Heads.Arc ≡ head_of k named → (is_node_letter k ≡ false) × (is_counted_letter k ≡ true)
+letter : (k : Option Keyword) (named : Option Kind) → Heads.Arc ≡ head_of k named → (is_node_letter k ≡ false)
+    × (is_counted_letter k ≡ true)
 letter (Some Key.A) named h = (refl, refl)
 letter (Some Key.P) None h = cc
 letter (Some Key.P) (Some kind) h = cc
@@ -43,7 +44,8 @@ letter (Some Key.V) named h = cc
 letter (Some k) named h = cc
 letter None named h = cc
 
-module _ (kind : Kind) (before : List Line) (p : Problem) (problem : problem_of before ≡ Some p) (is : p.kind ≡ kind) (ws : List Word) (i : Line)
+module _ (kind : Kind) (before : List Line) (p : Problem) (problem : problem_of before ≡ Some p) (is : p.kind ≡ kind)
+    (ws : List Word) (i : Line)
     (head : head_read (Some kind) ws ≡ Ok Heads.Arc) (fields : fields_read (Some kind) ws ≡ Ok i) where
   known : kind_known before ≡ Some kind
   known = ap (option_map (λ (x : Problem). x.kind)) problem ∙ ap Some is
@@ -62,9 +64,11 @@ module _ (kind : Kind) (before : List Line) (p : Problem) (problem : problem_of 
   in_order : is_full (problem_of before) (counted before) ≡ false → first_fault (order_tests before ws) ≡ None
   in_order room =
       let l = letter (first ws) (kind_named ws) (head_told (Some kind) ws Heads.Arc counts head).1 in
-      by_letter (is_node_letter (first ws)) (is_counted_letter (first ws)) (is_full (problem_of before) (counted before)) l.0 room
+      by_letter (is_node_letter (first ws)) (is_counted_letter (first ws))
+      (is_full (problem_of before) (counted before)) l.0 room
     where
-      by_letter : (a b c : Bool) → a ≡ false → c ≡ false → cond (a && list_any is_arc before) (Some LateNode) (cond (b && c) (Some TooManyLines) None) ≡ None
+      by_letter : (a b c : Bool) → a ≡ false → c ≡ false
+          → cond (a && list_any is_arc before) (Some LateNode) (cond (b && c) (Some TooManyLines) None) ≡ None
       by_letter false true false e f = refl
       by_letter false false false e f = refl
       by_letter true b c e f = cc
@@ -72,20 +76,26 @@ module _ (kind : Kind) (before : List Line) (p : Problem) (problem : problem_of 
 
   pub reads_arc : is_full (problem_of before) (counted before) ≡ false → next_read before ws ≡ Ok i
   reads_arc room =
-      sym (then_fields before ws Heads.Arc head_here (ap (λ b. cond b None (first_fault (order_tests before ws))) counts ∙ in_order room))
+      sym (then_fields before ws Heads.Arc head_here
+      (ap (λ b. cond b None (first_fault (order_tests before ws))) counts ∙ in_order room))
       ∙ ap (λ k. fields_read k ws) known ∙ fields
 
 -- numbers of an arc's line that may not be below 0 are not
-pub line_signs : (kind : Kind) (ws : List Word) (i : Line) → head_read (Some kind) ws ≡ Ok Heads.Arc → fields_read (Some kind) ws ≡ Ok i → HasSigns i
+pub line_signs : (kind : Kind) (ws : List Word) (i : Line) → head_read (Some kind) ws ≡ Ok Heads.Arc
+    → fields_read (Some kind) ws ≡ Ok i → HasSigns i
 line_signs kind ws i head fields =
     let before : List Line = Graph kind (pos 0) (pos 1) ∷ [] in
     let p : Problem = record { kind = kind; nodes = pos 0; count = pos 1 } in
-    (follows_as before ws (counts kind before p refl refl ws i head fields) i (reads_arc kind before p refl refl ws i head fields refl)).may.signs
+    (follows_as before ws (counts kind before p refl refl ws i head fields) i
+    (reads_arc kind before p refl refl ws i head fields refl)).may.signs
 
-pub run_signs : (kind : Kind) (arcs : List ArcLine) (bytes rest : List ℕ) → ReadUpTo kind bytes arcs rest → AllByRecursion HasSigns (arc_items kind arcs)
+pub run_signs : (kind : Kind) (arcs : List ArcLine) (bytes rest : List ℕ) → ReadUpTo kind bytes arcs rest
+    → AllByRecursion HasSigns (arc_items kind arcs)
 run_signs kind [] bytes rest r = tt
 run_signs kind (a ∷ arcs) bytes rest r =
-    let b = r.1.begins in (line_signs kind (said_words b.line) (arc_of kind a.arc) b.head b.fields, run_signs kind arcs r.0 rest r.2)
+    let b =
+    r.1.begins in
+    (line_signs kind (said_words b.line) (arc_of kind a.arc) b.head b.fields, run_signs kind arcs r.0 rest r.2)
 
 -- with these arcs more, lines have no fault
 pub record RunOn (kind : Kind) (bytes rest : List ℕ) (ls : List (List ℕ)) (arcs : List ArcLine) : Type 0 where
@@ -101,22 +111,29 @@ record OneOn (kind : Kind) (ls : List (List ℕ)) (l : List ℕ) (i : Line) : Ty
   clean : IsClean (ls ++ l ∷ [])
   items : items_of (ls ++ l ∷ []) ≡ items_of ls ++ i ∷ []
 
-one_on : (kind : Kind) (ls : List (List ℕ)) (l : List ℕ) (i : Line) (p : Problem) → IsClean ls → problem_of (items_of ls) ≡ Some p → p.kind ≡ kind
-    → head_read (Some kind) (said_words l) ≡ Ok Heads.Arc → fields_read (Some kind) (said_words l) ≡ Ok i → is_counted i ≡ true → first_fault (item_tests (items_of ls) (Some i)) ≡ None
+one_on : (kind : Kind) (ls : List (List ℕ)) (l : List ℕ) (i : Line) (p : Problem) → IsClean ls
+    → problem_of (items_of ls) ≡ Some p → p.kind ≡ kind
+    → head_read (Some kind) (said_words l) ≡ Ok Heads.Arc → fields_read (Some kind) (said_words l) ≡ Ok i
+    → is_counted i ≡ true → first_fault (item_tests (items_of ls) (Some i)) ≡ None
     → HasRoom (items_of ls) i → length ls < 2 ^ 63 - 2 → OneOn kind ls l i
 one_on kind ls l i p clean problem is head fields counted_is none room few =
     let before = items_of ls in
     let ws = said_words l in
     let counts_here = counts kind before p problem is ws i head fields in
-    let f = follows_as before ws counts_here i (reads_arc kind before p problem is ws i head fields (room counted_is)) in
-    let fault : fault_after ls l ≡ None = fault_is_next (length ls + 1) before ws (in_time (length ls) (length ls) refl few) ∙ (same_fault before ws i counts_here f ∙ none) in
+    let f =
+    follows_as before ws counts_here i (reads_arc kind before p problem is ws i head fields (room counted_is)) in
+    let fault : fault_after ls l ≡ None =
+    fault_is_next (length ls + 1) before ws (in_time (length ls) (length ls) refl few)
+    ∙ (same_fault before ws i counts_here f ∙ none) in
     record {
       clean = clean_more ls l clean fault;
       items = items_push ls l ∙ adds_it before ws i counts_here f;
     }
 
-pub run_on : (kind : Kind) (arcs : List ArcLine) (bytes rest : List ℕ) (ls : List (List ℕ)) (p : Problem) → is_companion kind ≡ false → ReadUpTo kind bytes arcs rest → IsClean ls
-    → problem_of (items_of ls) ≡ Some p → p.kind ≡ kind → AreFaultless (items_of ls) (arc_items kind arcs) → AreInTime (items_of ls) (arc_items kind arcs) → length ls + length arcs < 2 ^ 63 - 1
+pub run_on : (kind : Kind) (arcs : List ArcLine) (bytes rest : List ℕ) (ls : List (List ℕ)) (p : Problem)
+    → is_companion kind ≡ false → ReadUpTo kind bytes arcs rest → IsClean ls
+    → problem_of (items_of ls) ≡ Some p → p.kind ≡ kind → AreFaultless (items_of ls) (arc_items kind arcs)
+    → AreInTime (items_of ls) (arc_items kind arcs) → length ls + length arcs < 2 ^ 63 - 1
     → RunOn kind bytes rest ls arcs
 run_on kind [] bytes rest ls p graph r clean problem is f t few = record {
   more = [];
@@ -142,11 +159,14 @@ run_on kind (a ∷ arcs) bytes rest ls p graph r clean problem is f t few =
     let joined : (ls ++ l ∷ []) ++ more.more ≡ ls ++ l ∷ more.more = append_assoc ls (l ∷ []) more.more in
     record {
       more = l ∷ more.more;
-      whole = append_assoc (l ++ 10 ∷ []) (closed_lines more.more) rest ∙ append_assoc l (10 ∷ []) (closed_lines more.more ++ rest) ∙ ap (λ x. l ++ 10 ∷ x) more.whole ∙ b.whole;
+      whole =
+          append_assoc (l ++ 10 ∷ []) (closed_lines more.more) rest
+          ∙ append_assoc l (10 ∷ []) (closed_lines more.more ++ rest) ∙ ap (λ x. l ++ 10 ∷ x) more.whole ∙ b.whole;
       inner = (b.inner, more.inner);
       clean = subst IsClean joined more.clean;
       items =
-          ap items_of (sym joined) ∙ more.items ∙ ap (λ x. x ++ arc_items kind arcs) one.items ∙ append_assoc (items_of ls) (i ∷ []) (arc_items kind arcs);
+          ap items_of (sym joined) ∙ more.items ∙ ap (λ x. x ++ arc_items kind arcs) one.items
+          ∙ append_assoc (items_of ls) (i ∷ []) (arc_items kind arcs);
       number = ap length (sym joined) ∙ more.number ∙ (omega arith);
     }
 

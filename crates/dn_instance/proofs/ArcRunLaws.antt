@@ -31,13 +31,19 @@ use Rattle.dn_instance.specs.declared.text_so_far.TextSoFar.{TextSoFar}
 use Rattle.dn_instance.proofs.ItemSteps.{counted_yes, problem_kept, problem_told}
 
 -- one item more without fault
-faultless_more : (before items : List Line) (i : Line) → AreFaultless before items → first_fault (item_tests (before ++ items) (Some i)) ≡ None → AreFaultless before (items ++ i ∷ [])
+faultless_more : (before items : List Line) (i : Line) → AreFaultless before items
+    → first_fault (item_tests (before ++ items) (Some i)) ≡ None → AreFaultless before (items ++ i ∷ [])
 faultless_more before [] i h f = (subst (λ b. first_fault (item_tests b (Some i)) ≡ None) (append-nil before) f, tt)
-faultless_more before (x ∷ items) i h f =
-    (h.0, faultless_more (before ++ x ∷ []) items i h.1 (subst (λ b. first_fault (item_tests b (Some i)) ≡ None) (sym (append_assoc before (x ∷ []) items)) f))
+faultless_more before (x ∷ items) i h f = (
+  h.0,
+  faultless_more (before ++ x ∷ []) items i h.1
+      (subst (λ b. first_fault (item_tests b (Some i)) ≡ None) (sym (append_assoc before (x ∷ []) items)) f),
+)
 
-pub joins_more : {H : Type 0} (Holds : H → List Line → Type 0) (before : List Line) (held more : H) (items : List Line) (i : Line) → Joins Holds before held items
-    → first_fault (item_tests (before ++ items) (Some i)) ≡ None → Holds more ((before ++ items) ++ i ∷ []) → Joins Holds before more (items ++ i ∷ [])
+pub joins_more : {H : Type 0} (Holds : H → List Line → Type 0) (before : List Line) (held more : H) (items : List Line)
+    (i : Line) → Joins Holds before held items
+    → first_fault (item_tests (before ++ items) (Some i)) ≡ None → Holds more ((before ++ items) ++ i ∷ [])
+    → Joins Holds before more (items ++ i ∷ [])
 joins_more Holds before held more items i j f h = record {
   faultless = faultless_more before items i j.faultless f;
   holds = subst (Holds more) (append_assoc before items (i ∷ [])) h;
@@ -52,29 +58,36 @@ pub no_error : {P : Type 0} (r : Result (Unit {0}) ItemFault) → is_err r ≡ f
 no_error (Ok x) e h = h
 no_error (Err c) e h = cc
 
-or_kept : (a b c : Option Problem) (p : Problem) → option_or a b ≡ Some p → (b ≡ Some p → c ≡ Some p) → option_or a c ≡ Some p
+or_kept : (a b c : Option Problem) (p : Problem) → option_or a b ≡ Some p → (b ≡ Some p → c ≡ Some p)
+    → option_or a c ≡ Some p
 or_kept None b c p h k = k h
 or_kept (Some x) b c p h k = h
 
 -- the problem stays the first
-pub problem_all : (before items : List Line) (p : Problem) → problem_of before ≡ Some p → problem_of (before ++ items) ≡ Some p
+pub problem_all : (before items : List Line) (p : Problem) → problem_of before ≡ Some p
+    → problem_of (before ++ items) ≡ Some p
 problem_all [] items p h = cc
-problem_all (x ∷ before) items p h = or_kept (problem_in x) (problem_of before) (problem_of (before ++ items)) p h (problem_all before items p)
+problem_all (x ∷ before) items p h =
+    or_kept (problem_in x) (problem_of before) (problem_of (before ++ items)) p h (problem_all before items p)
 
 -- the next arc
-pub items_next : (kind : Kind) (arcs : List ArcLine) (i : ℕ) (d : ArcLine) → i < length arcs → arc_items kind (take (i + 1) arcs) ≡ arc_items kind (take i arcs) ++ arc_of kind (get_or arcs i d).arc ∷ []
+pub items_next : (kind : Kind) (arcs : List ArcLine) (i : ℕ) (d : ArcLine) → i < length arcs
+    → arc_items kind (take (i + 1) arcs) ≡ arc_items kind (take i arcs) ++ arc_of kind (get_or arcs i d).arc ∷ []
 items_next kind arcs i d h =
-    ap (λ n. arc_items kind (take n arcs)) (one i) ∙ ap (arc_items kind) (take-suc arcs i d h) ∙ map-append (λ (a : ArcLine). arc_of kind a.arc) (take i arcs) (get_or arcs i d ∷ [])
+    ap (λ n. arc_items kind (take n arcs)) (one i) ∙ ap (arc_items kind) (take-suc arcs i d h)
+    ∙ map-append (λ (a : ArcLine). arc_of kind a.arc) (take i arcs) (get_or arcs i d ∷ [])
   where
     one : (i : ℕ) → i + 1 ≡ suc i
     one i = omega arith
 
-pub sign_at : (kind : Kind) (arcs : List ArcLine) (i : ℕ) (d : ArcLine) → i < length arcs → AllByRecursion HasSigns (arc_items kind arcs) → HasSigns (arc_of kind (get_or arcs i d).arc)
+pub sign_at : (kind : Kind) (arcs : List ArcLine) (i : ℕ) (d : ArcLine) → i < length arcs
+    → AllByRecursion HasSigns (arc_items kind arcs) → HasSigns (arc_of kind (get_or arcs i d).arc)
 sign_at kind [] i d h s = absurd (omega arith)
 sign_at kind (a ∷ arcs) zero d h s = s.0
 sign_at kind (a ∷ arcs) (suc i) d h s = sign_at kind arcs i d (omega arith) s.1
 
-pub signs_front : (kind : Kind) (arcs : List ArcLine) (n : ℕ) → AllByRecursion HasSigns (arc_items kind arcs) → AllByRecursion HasSigns (arc_items kind (take n arcs))
+pub signs_front : (kind : Kind) (arcs : List ArcLine) (n : ℕ) → AllByRecursion HasSigns (arc_items kind arcs)
+    → AllByRecursion HasSigns (arc_items kind (take n arcs))
 signs_front kind [] zero s = tt
 signs_front kind [] (suc n) s = tt
 signs_front kind (a ∷ arcs) zero s = tt
@@ -97,27 +110,31 @@ one_arc Ss a c = cc
 one_arc P2p a c = cc
 one_arc Co a c = cc
 
-all_counted : (kind : Kind) (arcs : List ArcLine) → is_companion kind ≡ false → counted (arc_items kind arcs) ≡ length arcs
+all_counted : (kind : Kind) (arcs : List ArcLine) → is_companion kind ≡ false
+    → counted (arc_items kind arcs) ≡ length arcs
 all_counted kind [] c = refl
 all_counted kind (a ∷ arcs) c =
     let rest = filter is_counted (arc_items kind arcs) in
     ap (λ b. length (cond b (arc_of kind a.arc ∷ rest) rest)) (one_counted kind a c) ∙ ap suc (all_counted kind arcs c)
 
-counted_all : (kind : Kind) (before : List Line) (arcs : List ArcLine) → is_companion kind ≡ false → counted (before ++ arc_items kind arcs) ≡ counted before + length arcs
+counted_all : (kind : Kind) (before : List Line) (arcs : List ArcLine) → is_companion kind ≡ false
+    → counted (before ++ arc_items kind arcs) ≡ counted before + length arcs
 counted_all kind before arcs c =
     ap length (filter-append is_counted before (arc_items kind arcs))
     ∙ length-append (filter is_counted before) (filter is_counted (arc_items kind arcs))
     ∙ ap (λ n. counted before + n) (all_counted kind arcs c)
 
 -- as many arcs as are still declared come in time
-pub come_in_time : (kind : Kind) (arcs : List ArcLine) (before : List Line) (p : Problem) → is_companion kind ≡ false → problem_of before ≡ Some p → (0 < length arcs → pos (counted before + length arcs) ≤ℤ p.count)
+pub come_in_time : (kind : Kind) (arcs : List ArcLine) (before : List Line) (p : Problem) → is_companion kind ≡ false
+    → problem_of before ≡ Some p → (0 < length arcs → pos (counted before + length arcs) ≤ℤ p.count)
     → AreInTime before (arc_items kind arcs)
 come_in_time kind [] before p c h r = tt
 come_in_time kind (a ∷ arcs) before p c h r =
     let i = arc_of kind a.arc in (
       (λ _. ap (λ o. is_full o (counted before)) h ∙ below (counted before) (length arcs) p.count (r (omega arith))),
       come_in_time kind arcs (before ++ i ∷ []) p c (problem_kept before i p h)
-          (λ _. subst (λ n. pos (n + length arcs) ≤ℤ p.count) (sym (counted_yes before i (one_counted kind a c))) (subst (λ n. pos n ≤ℤ p.count) (shift (counted before) (length arcs)) (r (omega arith)))),
+          (λ _. subst (λ n. pos (n + length arcs) ≤ℤ p.count) (sym (counted_yes before i (one_counted kind a c)))
+          (subst (λ n. pos n ≤ℤ p.count) (shift (counted before) (length arcs)) (r (omega arith)))),
     )
   where
     below : (k n : ℕ) (m : ℤ) → pos (k + suc n) ≤ℤ m → not (int_lt (pos k) m) ≡ false
@@ -127,10 +144,14 @@ come_in_time kind (a ∷ arcs) before p c h r =
     shift k n = omega arith
 
 -- what has been read with arcs more
-module _ (t : TextSoFar) (d : Draft) (kind : Kind) (before : List Line) (at : HasRead t before) (is : draft_kind t.draft ≡ Some kind) (kept : draft_kind d ≡ draft_kind t.draft) (graph : is_companion kind ≡ false) where
-  arcs_then : (arcs : List ArcLine) (n : ℤ) → n ≡ pos (counted before + length arcs) → list_any is_arc (before ++ arc_items kind arcs) ≡ int_lt (pos 0) n
+module _ (t : TextSoFar) (d : Draft) (kind : Kind) (before : List Line) (at : HasRead t before)
+    (is : draft_kind t.draft ≡ Some kind) (kept : draft_kind d ≡ draft_kind t.draft)
+    (graph : is_companion kind ≡ false) where
+  arcs_then : (arcs : List ArcLine) (n : ℤ) → n ≡ pos (counted before + length arcs)
+      → list_any is_arc (before ++ arc_items kind arcs) ≡ int_lt (pos 0) n
   arcs_then [] n e =
-      ap (list_any is_arc) (append-nil before) ∙ at.arcs_are (ap is_graph is ∙ ap not graph) ∙ ap (int_lt (pos 0)) (at.counted_is ∙ sym (e ∙ ap pos (none (counted before))))
+      ap (list_any is_arc) (append-nil before) ∙ at.arcs_are (ap is_graph is ∙ ap not graph)
+      ∙ ap (int_lt (pos 0)) (at.counted_is ∙ sym (e ∙ ap pos (none (counted before))))
     where
       none : (k : ℕ) → k + 0 ≡ k
       none k = omega arith
@@ -143,12 +164,15 @@ module _ (t : TextSoFar) (d : Draft) (kind : Kind) (before : List Line) (at : Ha
       above : (k m : ℕ) → int_lt (pos 0) (pos (k + suc m)) ≡ true
       above k m = grind (arith, ints, nat_tests)
 
-  pub arcs_read : (arcs : List ArcLine) (n : ℤ) → n ≡ pos (counted before + length arcs) → counted before + length arcs < 2 ^ 63 → DraftHolds d (before ++ arc_items kind arcs)
+  pub arcs_read : (arcs : List ArcLine) (n : ℤ) → n ≡ pos (counted before + length arcs)
+      → counted before + length arcs < 2 ^ 63 → DraftHolds d (before ++ arc_items kind arcs)
       → HasRead (record t { counted = n; draft = d }) (before ++ arc_items kind arcs)
   arcs_read arcs n e few h =
       let all = counted_all kind before arcs graph in
       record {
-        problem_is = problem_all before (arc_items kind arcs) _ (problem_told t before kind at is) ∙ sym (ap (option_map (problem_as t)) (kept ∙ is));
+        problem_is =
+            problem_all before (arc_items kind arcs) _ (problem_told t before kind at is)
+            ∙ sym (ap (option_map (problem_as t)) (kept ∙ is));
         count_fits = at.count_fits;
         counted_is = e ∙ ap pos (sym all);
         counted_few = subst (λ k. k < 2 ^ 63) (sym all) few;
@@ -162,13 +186,15 @@ within n (pos m) some h = omega (arith, ints)
 within n (negsuc m) some h = absurd (omega (arith, ints))
 
 -- as many arcs as are taken are still declared
-pub still_declared : (k m n : ℕ) (count s : ℤ) → s ≡ saturate_signed w64 (count -ℤ pos k) → (0 < n → pos n ≤ℤ s) → m ≤ n → 0 < m → pos (k + m) ≤ℤ count
+pub still_declared : (k m n : ℕ) (count s : ℤ) → s ≡ saturate_signed w64 (count -ℤ pos k) → (0 < n → pos n ≤ℤ s) → m ≤ n
+    → 0 < m → pos (k + m) ≤ℤ count
 still_declared k m n count s e most h some =
     let some_n : 0 < n = omega arith in
     let all : pos n ≤ℤ (count -ℤ pos k) = within n (count -ℤ pos k) some_n (subst (λ x. pos n ≤ℤ x) e (most some_n)) in
     omega (arith, ints)
 
-pub still_few : (k m : ℕ) (count : ℤ) → count <ℤ pos (2 ^ 63) → k < 2 ^ 63 → (0 < m → pos (k + m) ≤ℤ count) → k + m < 2 ^ 63
+pub still_few : (k m : ℕ) (count : ℤ) → count <ℤ pos (2 ^ 63) → k < 2 ^ 63 → (0 < m → pos (k + m) ≤ℤ count)
+    → k + m < 2 ^ 63
 still_few k zero count f h declared = omega arith
 still_few k (suc m) count f h declared = let d = declared (omega arith) in omega (arith, ints)
 

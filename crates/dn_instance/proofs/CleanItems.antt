@@ -44,9 +44,11 @@ both_none (Some x) y h = cc
 pub none_both : (ts us : List Test) → first_fault (ts ++ us) ≡ None → (first_fault ts ≡ None) × (first_fault us ≡ None)
 none_both ts us h = both_none (first_fault ts) (first_fault us) (sym (fault_append ts us) ∙ h)
 
-pub problem_push : (xs : List Line) (i : Line) → Of.problem_of (xs ++ i ∷ []) ≡ option_or (Of.problem_of xs) (problem_in i)
+pub problem_push : (xs : List Line) (i : Line)
+    → Of.problem_of (xs ++ i ∷ []) ≡ option_or (Of.problem_of xs) (problem_in i)
 problem_push [] i = or_none (problem_in i)
-problem_push (x ∷ xs) i = ap (option_or (problem_in x)) (problem_push xs i) ∙ or_assoc (problem_in x) (Of.problem_of xs) (problem_in i)
+problem_push (x ∷ xs) i =
+    ap (option_or (problem_in x)) (problem_push xs i) ∙ or_assoc (problem_in x) (Of.problem_of xs) (problem_in i)
 
 -- the items of the lines and of one more
 pub items_push : (ls : List (List ℕ)) (l : List ℕ) → items_of (ls ++ l ∷ []) ≡ with_next (items_of ls) (said_words l)
@@ -55,7 +57,9 @@ items_push ls l = fold-append (λ before x. with_next before (said_words x)) [] 
 -- a skipped line adds none
 pub skip_adds_none : (before : List Line) (ws : List Word) → is_skip ws ≡ true → with_next before ws ≡ before
 skip_adds_none before ws e =
-    ap (λ r. before ++ option_to_list (item_spelled r)) (ap (λ b. cond b (Ok Item.Skip) (unless (first_fault (own_tests (kind_known before) ws)) (spelled (kind_known before) ws))) e)
+    ap (λ r. before ++ option_to_list (item_spelled r))
+    (ap (λ b. cond b (Ok Item.Skip)
+    (unless (first_fault (own_tests (kind_known before) ws)) (spelled (kind_known before) ws))) e)
     ∙ append-nil before
 
 -- what is known of a line that is not skipped and has no fault
@@ -64,17 +68,26 @@ pub record NoFault (before : List Line) (ws : List Word) : Type 0 where
   fields : first_fault (field_tests (fields (kind_known before) ws)) ≡ None
   item : first_fault (item_tests before (item_spelled (words_read (kind_known before) ws))) ≡ None
 
-pub no_fault : (n : ℕ) (before : List Line) (ws : List Word) → is_skip ws ≡ false → line_fault n before ws ≡ None → NoFault before ws
+pub no_fault : (n : ℕ) (before : List Line) (ws : List Word) → is_skip ws ≡ false → line_fault n before ws ≡ None
+    → NoFault before ws
 no_fault n before ws e h =
     let known = kind_known before in
     let late = none_first (is_too_long n) TooLong _ h in
-    let all : first_fault (line_tests before ws) ≡ None = ap (λ b. first_fault (cond b [] (line_tests before ws))) (sym e) ∙ late.1 in
-    let one = none_both (head_tests known ws) (order_tests before ws ++ (field_tests (fields known ws) ++ item_tests before (item_spelled (words_read known ws)))) all in
-    let two = none_both (order_tests before ws) (field_tests (fields known ws) ++ item_tests before (item_spelled (words_read known ws))) one.1 in
-    let three = none_both (field_tests (fields known ws)) (item_tests before (item_spelled (words_read known ws))) two.1 in
+    let all : first_fault (line_tests before ws) ≡ None =
+    ap (λ b. first_fault (cond b [] (line_tests before ws))) (sym e) ∙ late.1 in
+    let one =
+    none_both (head_tests known ws)
+    (order_tests before ws ++
+    (field_tests (fields known ws) ++ item_tests before (item_spelled (words_read known ws)))) all in
+    let two =
+    none_both (order_tests before ws)
+    (field_tests (fields known ws) ++ item_tests before (item_spelled (words_read known ws))) one.1 in
+    let three =
+    none_both (field_tests (fields known ws)) (item_tests before (item_spelled (words_read known ws))) two.1 in
     record { head = one.0; fields = three.0; item = three.1 }
 
-own_none : (before : List Line) (ws : List Word) → NoFault before ws → first_fault (own_tests (kind_known before) ws) ≡ None
+own_none : (before : List Line) (ws : List Word) → NoFault before ws
+    → first_fault (own_tests (kind_known before) ws) ≡ None
 own_none before ws n =
     fault_append (head_tests (kind_known before) ws) (field_tests (fields (kind_known before) ws))
     ∙ ap (λ x. option_or x (first_fault (field_tests (fields (kind_known before) ws)))) n.head
@@ -84,7 +97,8 @@ pub item_some : (i : Line) (slots : List Slot) → slots_of i ≡ Some slots →
 item_some Item.Skip slots h = cc
 item_some _ slots h = refl
 
-next_from : (before : List Line) (l : List ℕ) (i : Line) → Spells (kind_known before) (said_words l) i → first_fault (item_tests before (Some i)) ≡ None → IsNext before i
+next_from : (before : List Line) (l : List ℕ) (i : Line) → Spells (kind_known before) (said_words l) i
+    → first_fault (item_tests before (Some i)) ≡ None → IsNext before i
 next_from before l i s h =
     let a = none_first (is_stray before i) NodeOutOfRange _ h in
     let b = none_first (is_repeated before i) RepeatedNode _ a.1 in
@@ -99,7 +113,8 @@ record ReadsNext (before : List Line) (l : List ℕ) : Type 0 where
   next : IsNext before item
   read : item_spelled (words_read (kind_known before) (said_words l)) ≡ Some item
 
-reads_next : (before : List Line) (l : List ℕ) → is_skip (said_words l) ≡ false → NoFault before (said_words l) → ReadsNext before l
+reads_next : (before : List Line) (l : List ℕ) → is_skip (said_words l) ≡ false → NoFault before (said_words l)
+    → ReadsNext before l
 reads_next before l e n =
     let known = kind_known before in
     let ws = said_words l in
@@ -114,12 +129,16 @@ reads_next before l e n =
     }
 
 -- what holds of no item, and goes on over the next item, holds of the items of a clean text
-module _ (Q : List Line → Type 0) (go : (before : List Line) (i : Line) → Q before → IsNext before i → Q (before ++ i ∷ [])) where
-  one_line : (ls : List (List ℕ)) (l : List ℕ) (b : Bool) → is_skip (said_words l) ≡ b → fault_after ls l ≡ None → Q (items_of ls) → Q (items_of (ls ++ l ∷ []))
+module _ (Q : List Line → Type 0)
+    (go : (before : List Line) (i : Line) → Q before → IsNext before i → Q (before ++ i ∷ [])) where
+  one_line : (ls : List (List ℕ)) (l : List ℕ) (b : Bool) → is_skip (said_words l) ≡ b → fault_after ls l ≡ None
+      → Q (items_of ls) → Q (items_of (ls ++ l ∷ []))
   one_line ls l true e h q = subst Q (sym (items_push ls l ∙ skip_adds_none (items_of ls) (said_words l) e)) q
   one_line ls l false e h q =
       let r = reads_next (items_of ls) l e (no_fault (length ls + 1) (items_of ls) (said_words l) e h) in
-      subst Q (sym (items_push ls l ∙ ap (λ o. items_of ls ++ option_to_list o) r.read)) (go (items_of ls) r.item q r.next)
+      subst Q (sym (items_push ls l ∙ ap (λ o. items_of ls ++ option_to_list o) r.read))
+      (go (items_of ls) r.item q r.next)
 
   pub by_items : Q [] → (ls : List (List ℕ)) → IsClean ls → Q (items_of ls)
-  by_items none ls clean = by_clean_lines (λ xs. Q (items_of xs)) ls clean (λ b l h q. one_line b l (is_skip (said_words l)) refl h q) none
+  by_items none ls clean =
+      by_clean_lines (λ xs. Q (items_of xs)) ls clean (λ b l h q. one_line b l (is_skip (said_words l)) refl h q) none

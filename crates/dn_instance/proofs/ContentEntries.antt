@@ -18,25 +18,33 @@ use Rattle.dn_instance.proofs.EntryLaws.{placed_arcs}
 
 -- what is counted of a table
 abbrev Counts : {B Arc : Type 0} → ArcKind Arc → (B → List Arc) → Bundles B → ℕ → Type 0
-Counts {B} {Arc} kind tells table n = (arcs : List ((ℤ × ℤ) × Arc)) → TableTells kind tells table arcs → AreArcs kind arcs → graph_entries kind arcs < 2 ^ 64 → n ≡ graph_entries kind arcs
+Counts {B} {Arc} kind tells table n = (arcs : List ((ℤ × ℤ) × Arc)) → TableTells kind tells table arcs
+    → AreArcs kind arcs → graph_entries kind arcs < 2 ^ 64 → n ≡ graph_entries kind arcs
 
-pub min_entries : (flows : List (ℤ × ℤ)) (table : Bundles CurveNumbers) (n : ℕ) → Counts costs (λ (b : CurveNumbers). told One b.units b.cost b.steps) table n → (I : Instance) → IsValid I → Shows (OfMin flows table) I → entries_of I < 2 ^ 64 → n ≡ entries_of I
-min_entries flows table n c (MinCostFlow supplies G) v s few = c G.arcs s.1.tells_them (placed_arcs costs G.nodes G.arcs v.0.placed) few
+pub min_entries : (flows : List (ℤ × ℤ)) (table : Bundles CurveNumbers) (n : ℕ)
+    → Counts costs (λ (b : CurveNumbers). told One b.units b.cost b.steps) table n → (I : Instance) → IsValid I
+    → Shows (OfMin flows table) I → entries_of I < 2 ^ 64 → n ≡ entries_of I
+min_entries flows table n c (MinCostFlow supplies G) v s few =
+    c G.arcs s.1.tells_them (placed_arcs costs G.nodes G.arcs v.0.placed) few
 min_entries flows table n c (MaxFlow _ _ _) v s few = absurd s
 min_entries flows table n c (ShortestPaths _) v s few = absurd s
 min_entries flows table n c (Sources _) v s few = absurd s
 min_entries flows table n c (Queries _) v s few = absurd s
 min_entries flows table n c (Coordinates _) v s few = absurd s
 
-pub max_entries : (source sink : ℤ) (table : Bundles Total) (n : ℕ) → Counts capacities (λ (b : Total). cap_told b.total) table n → (I : Instance) → IsValid I → Shows (OfMax source sink table) I → entries_of I < 2 ^ 64 → n ≡ entries_of I
-max_entries source sink table n c (MaxFlow _ _ G) v s few = c G.arcs s.2.tells_them (placed_arcs capacities G.nodes G.arcs v.0.placed) few
+pub max_entries : (source sink : ℤ) (table : Bundles Total) (n : ℕ)
+    → Counts capacities (λ (b : Total). cap_told b.total) table n → (I : Instance) → IsValid I
+    → Shows (OfMax source sink table) I → entries_of I < 2 ^ 64 → n ≡ entries_of I
+max_entries source sink table n c (MaxFlow _ _ G) v s few =
+    c G.arcs s.2.tells_them (placed_arcs capacities G.nodes G.arcs v.0.placed) few
 max_entries source sink table n c (MinCostFlow _ _) v s few = absurd s
 max_entries source sink table n c (ShortestPaths _) v s few = absurd s
 max_entries source sink table n c (Sources _) v s few = absurd s
 max_entries source sink table n c (Queries _) v s few = absurd s
 max_entries source sink table n c (Coordinates _) v s few = absurd s
 
-pub sp_entries : (table : Bundles Least) (n : ℕ) → Counts lengths (λ (b : Least). length_told b.length) table n → (I : Instance) → IsValid I → Shows (OfSp table) I → entries_of I < 2 ^ 64 → n ≡ entries_of I
+pub sp_entries : (table : Bundles Least) (n : ℕ) → Counts lengths (λ (b : Least). length_told b.length) table n
+    → (I : Instance) → IsValid I → Shows (OfSp table) I → entries_of I < 2 ^ 64 → n ≡ entries_of I
 sp_entries table n c (ShortestPaths G) v s few = c G.arcs s.tells_them (placed_arcs lengths G.nodes G.arcs v.placed) few
 sp_entries table n c (MinCostFlow _ _) v s few = absurd s
 sp_entries table n c (MaxFlow _ _ _) v s few = absurd s

@@ -37,7 +37,9 @@ none_carried (a ∷ xs) are e =
     let cap : a.cap ≡ pos 0 = omega (arith, ints) in
     let low : a.low ≡ pos 0 = omega (arith, ints) in
     let others : cost_cap xs ≡ pos 0 = omega (arith, ints) in
-    above_meaning.same_trans (a ∷ xs) xs [] (subst (λ l. SameAbove (record { low = l; cap = a.cap; cost = a.cost } ∷ xs) xs) (sym low) (above_none a.cost a.cap xs cap)) (none_carried xs are.1 others)
+    above_meaning.same_trans (a ∷ xs) xs []
+    (subst (λ l. SameAbove (record { low = l; cap = a.cap; cost = a.cost } ∷ xs) xs) (sym low)
+    (above_none a.cost a.cap xs cap)) (none_carried xs are.1 others)
 
 -- what can be carried can still be with an arc more
 pub cost_stays : Stays costs
@@ -49,7 +51,8 @@ cost_stays xs a are is nothing =
     let room = is.room in
     same xs [] (none_carried xs are (omega (arith, ints)))
 
-pub is_cost_arc : (l u k : ℤ) → pos 0 ≤ℤ l → IsTrue (not (int_lt u l)) ↔ IsCostArc (record { low = l; cap = u; cost = k })
+pub is_cost_arc : (l u k : ℤ) → pos 0 ≤ℤ l
+    → IsTrue (not (int_lt u l)) ↔ IsCostArc (record { low = l; cap = u; cost = k })
 is_cost_arc l u k some = (λ h. record { some = some; room = within h }, λ a. back a.room)
   where
     within : not (int_lt u l) ≡ true → l ≤ℤ u
@@ -63,23 +66,34 @@ not_not true = refl
 not_not false = refl
 
 pub cost_item : (before : List Line) (p : Problem) (s d l u k : ℤ) → problem_of before ≡ Some p → p.kind ≡ Kinds.Min
-    → first_fault (item_tests before (Some (Item.MinArc s d l u k))) ≡ arc_fault costs p.nodes (arcs_of cost_arc_in before) (not (int_lt u l)) ((s, d), record { low = l; cap = u; cost = k })
+    → first_fault (item_tests before (Some (Item.MinArc s d l u k))) ≡ arc_fault costs p.nodes
+    (arcs_of cost_arc_in before) (not (int_lt u l)) ((s, d), record { low = l; cap = u; cost = k })
 cost_item before p s d l u k h e =
-    let fault : Bool → Bool → Bool → Option Code = λ stray low sum. cond stray (Some NodeOutOfRange) (cond low (Some LowAboveCap) (cond sum (Some SumTooLarge) None)) in
+    let fault : Bool → Bool → Bool
+    → Option Code =
+    λ stray low sum. cond stray (Some NodeOutOfRange)
+    (cond low (Some LowAboveCap) (cond sum (Some SumTooLarge) None)) in
     let sums : Bool = int_lt (pos (2 ^ 63 - 1)) (cost_cap (bundle (s, d) (arcs_of cost_arc_in before)) +ℤ u) in
     let in_range : Bool = in_graph p.nodes s && in_graph p.nodes d in
     ap (λ b. fault b (int_lt u l) sums) (stray_is before p (Item.MinArc s d l u k) s d h (ap is_companion e))
     ∙ ap (λ b. fault (not in_range) b sums) (sym (not_not (int_lt u l)))
-    ∙ ap (λ b. fault (not in_range) (not (not (int_lt u l))) b) (cost_passes (arcs_of cost_arc_in before) ((s, d), record { low = l; cap = u; cost = k }))
+    ∙ ap (λ b. fault (not in_range) (not (not (int_lt u l))) b)
+    (cost_passes (arcs_of cost_arc_in before) ((s, d), record { low = l; cap = u; cost = k }))
 
-pub cost_grown : (before : List Line) (s d l u k : ℤ) → arcs_of cost_arc_in (before ++ Item.MinArc s d l u k ∷ []) ≡ arcs_of cost_arc_in before ++ ((s, d), record { low = l; cap = u; cost = k }) ∷ []
+pub cost_grown : (before : List Line) (s d l u k : ℤ)
+    → arcs_of cost_arc_in (before ++ Item.MinArc s d l u k ∷ []) ≡ arcs_of cost_arc_in before ++
+    ((s, d), record { low = l; cap = u; cost = k }) ∷ []
 cost_grown before s d l u k = arcs_push cost_arc_in before (Item.MinArc s d l u k)
 
 -- an arc is taken only where a problem may have it
-pub taken_arc : (nodes : ℤ) (before : List Line) (is : Bool) (a : (ℤ × ℤ) × CostArc) → arc_fault costs nodes (arcs_of cost_arc_in before) is a ≡ None → is ≡ true
+pub taken_arc : (nodes : ℤ) (before : List Line) (is : Bool) (a : (ℤ × ℤ) × CostArc)
+    → arc_fault costs nodes (arcs_of cost_arc_in before) is a ≡ None → is ≡ true
 taken_arc nodes before is a h = by_range (not (in_graph nodes a.0.0 && in_graph nodes a.0.1)) is h
   where
-    by_range : (b i : Bool) → cond b (Some NodeOutOfRange) (cond (not i) (Some LowAboveCap) (cond (passes costs (arcs_of cost_arc_in before) a) (Some SumTooLarge) None)) ≡ None → i ≡ true
+    by_range : (b i : Bool)
+        → cond b (Some NodeOutOfRange)
+        (cond (not i) (Some LowAboveCap)
+        (cond (passes costs (arcs_of cost_arc_in before) a) (Some SumTooLarge) None)) ≡ None → i ≡ true
     by_range true i g = cc
     by_range false true g = refl
     by_range false false g = cc

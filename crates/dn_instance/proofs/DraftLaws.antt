@@ -41,18 +41,25 @@ use Rattle.dn_table.proofs.GrownLaws.{none_is}
 
 -- the answer on an item is that of its first fault
 abbrev pub Answering : ℤ → Draft → Line → Result (Unit {0}) ItemFault → Type 0
-Answering nodes d l r = (before : List Line) (p : Problem) → IsDraftOf d nodes p before → AnswersFault r (first_fault (item_tests before (Some l)))
+Answering nodes d l r = (before : List Line) (p : Problem) → IsDraftOf d nodes p before
+    → AnswersFault r (first_fault (item_tests before (Some l)))
 
 -- what is held with the item, where it is taken
 abbrev pub Standing : Draft → Line → Draft → Result (Unit {0}) ItemFault → Type 0
 Standing d l e r = (before : List Line) → DraftHolds d before → OnOk r (DraftHolds e (before ++ l ∷ []))
 
-pub to_answer : (nodes : ℤ) (d d' : Draft) (l l' : Line) (r r' : Result (Unit {0}) ItemFault) → d ≡ d' → l ≡ l' → r ≡ r' → Answering nodes d' l' r' → Answering nodes d l r
-to_answer nodes d d' l l' r r' e f g h = subst (λ x. Answering nodes x l r) (sym e) (subst (λ x. Answering nodes d' x r) (sym f) (subst (Answering nodes d' l') (sym g) h))
+pub to_answer : (nodes : ℤ) (d d' : Draft) (l l' : Line) (r r' : Result (Unit {0}) ItemFault) → d ≡ d' → l ≡ l' → r ≡ r'
+    → Answering nodes d' l' r' → Answering nodes d l r
+to_answer nodes d d' l l' r r' e f g h =
+    subst (λ x. Answering nodes x l r) (sym e)
+    (subst (λ x. Answering nodes d' x r) (sym f) (subst (Answering nodes d' l') (sym g) h))
 
-pub to_stand : (d d' : Draft) (l l' : Line) (e e' : Draft) (r r' : Result (Unit {0}) ItemFault) → d ≡ d' → l ≡ l' → e ≡ e' → r ≡ r' → Standing d' l' e' r' → Standing d l e r
+pub to_stand : (d d' : Draft) (l l' : Line) (e e' : Draft) (r r' : Result (Unit {0}) ItemFault) → d ≡ d' → l ≡ l'
+    → e ≡ e' → r ≡ r' → Standing d' l' e' r' → Standing d l e r
 to_stand d d' l l' e e' r r' a b c f h =
-    subst (λ x. Standing x l e r) (sym a) (subst (λ x. Standing d' x e r) (sym b) (subst (λ x. Standing d' l' x r) (sym c) (subst (Standing d' l' e') (sym f) h)))
+    subst (λ x. Standing x l e r) (sym a)
+    (subst (λ x. Standing d' x e r) (sym b)
+    (subst (λ x. Standing d' l' x r) (sym c) (subst (Standing d' l' e') (sym f) h)))
 
 pub own_kind : {a b : Kind} → Some a ≡ Some b → b ≡ a
 own_kind h = cc
@@ -62,14 +69,17 @@ and_one true = refl
 and_one false = refl
 
 -- one node of a graph in range
-one_range : (p : Problem) (id : ℤ) → is_companion p.kind ≡ false → list_all (is_in_range (Some p)) (id ∷ []) ≡ in_graph p.nodes id
+one_range : (p : Problem) (id : ℤ) → is_companion p.kind ≡ false
+    → list_all (is_in_range (Some p)) (id ∷ []) ≡ in_graph p.nodes id
 one_range p id c = rw c (and_one (in_graph p.nodes id))
 
 -- one ID of a companion
-one_id : (p : Problem) (id : ℤ) → is_companion p.kind ≡ true → list_all (is_in_range (Some p)) (id ∷ []) ≡ int_lt (pos 0) id
+one_id : (p : Problem) (id : ℤ) → is_companion p.kind ≡ true
+    → list_all (is_in_range (Some p)) (id ∷ []) ≡ int_lt (pos 0) id
 one_id p id c = rw c (and_one (int_lt (pos 0) id && true) ∙ and_one (int_lt (pos 0) id))
 
-two_ids : (p : Problem) (a b : ℤ) → is_companion p.kind ≡ true → list_all (is_in_range (Some p)) (a ∷ b ∷ []) ≡ (int_lt (pos 0) a && int_lt (pos 0) b)
+two_ids : (p : Problem) (a b : ℤ) → is_companion p.kind ≡ true
+    → list_all (is_in_range (Some p)) (a ∷ b ∷ []) ≡ (int_lt (pos 0) a && int_lt (pos 0) b)
 two_ids p a b c = rw c (by_tests (int_lt (pos 0) a) (int_lt (pos 0) b))
   where
     by_tests : (x y : Bool) → ((x && true) && ((y && true) && true)) ≡ (x && y)
@@ -78,42 +88,63 @@ two_ids p a b c = rw c (by_tests (int_lt (pos 0) a) (int_lt (pos 0) b))
     by_tests false y = refl
 
 module _ (before : List Line) (p : Problem) (h : problem_of before ≡ Some p) where
-  pub stray_one : (id : ℤ) → is_companion p.kind ≡ false → not (list_all (is_in_range (problem_of before)) (id ∷ [])) ≡ not (in_graph p.nodes id)
+  pub stray_one : (id : ℤ) → is_companion p.kind ≡ false
+      → not (list_all (is_in_range (problem_of before)) (id ∷ [])) ≡ not (in_graph p.nodes id)
   stray_one id c = ap (λ o. not (list_all (is_in_range o) (id ∷ []))) h ∙ ap not (one_range p id c)
 
-  stray_id : (id : ℤ) → is_companion p.kind ≡ true → not (list_all (is_in_range (problem_of before)) (id ∷ [])) ≡ not (int_lt (pos 0) id)
+  stray_id : (id : ℤ) → is_companion p.kind ≡ true
+      → not (list_all (is_in_range (problem_of before)) (id ∷ [])) ≡ not (int_lt (pos 0) id)
   stray_id id c = ap (λ o. not (list_all (is_in_range o) (id ∷ []))) h ∙ ap not (one_id p id c)
 
-  stray_ids : (a b : ℤ) → is_companion p.kind ≡ true → not (list_all (is_in_range (problem_of before)) (a ∷ b ∷ [])) ≡ not (int_lt (pos 0) a && int_lt (pos 0) b)
+  stray_ids : (a b : ℤ) → is_companion p.kind ≡ true
+      → not (list_all (is_in_range (problem_of before)) (a ∷ b ∷ [])) ≡ not (int_lt (pos 0) a && int_lt (pos 0) b)
   stray_ids a b c = ap (λ o. not (list_all (is_in_range o) (a ∷ b ∷ []))) h ∙ ap not (two_ids p a b c)
 
 -- a choice of a fault or a later one
 abbrev pub or_else : Bool → Code → Option Code → Option Code
 or_else b c later = cond b (Some c) later
 
-pub source_answer : (nodes id : ℤ) (a b : Option ℤ) (t : _) (r : Result (Unit {0}) ItemFault) → AnswersFault r (terminal_fault nodes a b id) → Answering nodes (Drafts.Max a b t) (Item.Terminal id S) r
+pub source_answer : (nodes id : ℤ) (a b : Option ℤ) (t : _) (r : Result (Unit {0}) ItemFault)
+    → AnswersFault r (terminal_fault nodes a b id) → Answering nodes (Drafts.Max a b t) (Item.Terminal id S) r
 source_answer nodes id a b t r ans before p d =
     subst (AnswersFault r)
-    (sym (ap (λ x. or_else x NodeOutOfRange (or_else (is_some (terminal_of S before)) RepeatedNode (or_else (is_id id (terminal_of T before)) SameTerminal None))) (stray_one before p d.problem_is id (ap is_companion (own_kind d.kind_is)))
+    (sym (ap
+    (λ x. or_else x NodeOutOfRange
+    (or_else (is_some (terminal_of S before)) RepeatedNode
+    (or_else (is_id id (terminal_of T before)) SameTerminal None)))
+    (stray_one before p d.problem_is id (ap is_companion (own_kind d.kind_is)))
     ∙ ap (λ m. terminal_fault m (terminal_of S before) (terminal_of T before) id) d.nodes_are
     ∙ ap (λ x. terminal_fault nodes x (terminal_of T before) id) (sym d.holds.0)
     ∙ ap (λ x. terminal_fault nodes a x id) (sym d.holds.1)))
     ans
 
-pub sink_answer : (nodes id : ℤ) (a b : Option ℤ) (t : _) (r : Result (Unit {0}) ItemFault) → AnswersFault r (terminal_fault nodes b a id) → Answering nodes (Drafts.Max a b t) (Item.Terminal id T) r
+pub sink_answer : (nodes id : ℤ) (a b : Option ℤ) (t : _) (r : Result (Unit {0}) ItemFault)
+    → AnswersFault r (terminal_fault nodes b a id) → Answering nodes (Drafts.Max a b t) (Item.Terminal id T) r
 sink_answer nodes id a b t r ans before p d =
     subst (AnswersFault r)
-    (sym (ap (λ x. or_else x NodeOutOfRange (or_else (is_some (terminal_of T before)) RepeatedNode (or_else (is_id id (terminal_of S before)) SameTerminal None))) (stray_one before p d.problem_is id (ap is_companion (own_kind d.kind_is)))
+    (sym (ap
+    (λ x. or_else x NodeOutOfRange
+    (or_else (is_some (terminal_of T before)) RepeatedNode
+    (or_else (is_id id (terminal_of S before)) SameTerminal None)))
+    (stray_one before p d.problem_is id (ap is_companion (own_kind d.kind_is)))
     ∙ ap (λ m. terminal_fault m (terminal_of T before) (terminal_of S before) id) d.nodes_are
     ∙ ap (λ x. terminal_fault nodes x (terminal_of S before) id) (sym d.holds.1)
     ∙ ap (λ x. terminal_fault nodes b x id) (sym d.holds.0)))
     ans
 
-pub id_answer : (nodes id : ℤ) (ids : _) (r : Result (Unit {0}) ItemFault) → AnswersFault r (id_fault id) → Answering nodes (Drafts.Ss ids) (Item.Source id) r
-id_answer nodes id ids r ans before p d = subst (AnswersFault r) (sym (ap (λ x. or_else x NodeOutOfRange None) (stray_id before p d.problem_is id (ap is_companion (own_kind d.kind_is))))) ans
+pub id_answer : (nodes id : ℤ) (ids : _) (r : Result (Unit {0}) ItemFault) → AnswersFault r (id_fault id)
+    → Answering nodes (Drafts.Ss ids) (Item.Source id) r
+id_answer nodes id ids r ans before p d =
+    subst (AnswersFault r)
+    (sym (ap (λ x. or_else x NodeOutOfRange None)
+    (stray_id before p d.problem_is id (ap is_companion (own_kind d.kind_is))))) ans
 
-pub pair_answer : (nodes : ℤ) (pair : ℤ × ℤ) (pairs : _) (r : Result (Unit {0}) ItemFault) → AnswersFault r (pair_fault pair) → Answering nodes (Drafts.P2p pairs) (Item.Query pair.0 pair.1) r
-pair_answer nodes pair pairs r ans before p d = subst (AnswersFault r) (sym (ap (λ x. or_else x NodeOutOfRange None) (stray_ids before p d.problem_is pair.0 pair.1 (ap is_companion (own_kind d.kind_is))))) ans
+pub pair_answer : (nodes : ℤ) (pair : ℤ × ℤ) (pairs : _) (r : Result (Unit {0}) ItemFault)
+    → AnswersFault r (pair_fault pair) → Answering nodes (Drafts.P2p pairs) (Item.Query pair.0 pair.1) r
+pair_answer nodes pair pairs r ans before p d =
+    subst (AnswersFault r)
+    (sym (ap (λ x. or_else x NodeOutOfRange None)
+    (stray_ids before p d.problem_is pair.0 pair.1 (ap is_companion (own_kind d.kind_is))))) ans
 
 int_eq_is : (a b : ℤ) → int_eq a b ≡ true → a ≡ b
 int_eq_is a b h = grind (arith, ints, nat_tests)
@@ -129,25 +160,42 @@ sought_eq q k false h = h ∙ sym (not_equal (int_eq k q) refl)
         let never : true ≡ false = sym (ap is_eq (int_self q)) ∙ ap (λ z. is_eq (int_cmp q z)) (sym same) ∙ h in
         cc
 
-pub points_named : (q : ℤ) (items : List Line) → list_any (λ e. is_at (int_cmp q) e.0) (filter_map point_in items) ≡ list_any (has_point q) items
+pub points_named : (q : ℤ) (items : List Line)
+    → list_any (λ e. is_at (int_cmp q) e.0) (filter_map point_in items) ≡ list_any (has_point q) items
 points_named q [] = refl
-points_named q (Item.Point id x y ∷ rest) = ap (λ b. b || list_any (λ e. is_at (int_cmp q) e.0) (filter_map point_in rest)) (sought_eq q id (is_at (int_cmp q) id) refl) ∙ ap (λ b. int_eq id q || b) (points_named q rest)
+points_named q (Item.Point id x y ∷ rest) =
+    ap (λ b. b || list_any (λ e. is_at (int_cmp q) e.0) (filter_map point_in rest))
+    (sought_eq q id (is_at (int_cmp q) id) refl) ∙ ap (λ b. int_eq id q || b) (points_named q rest)
 points_named q (_ ∷ rest) = points_named q rest
 
-pub point_answer : (nodes id x y : ℤ) (points : BTreeMap ℤ (ℤ × ℤ)) (r : Result (Unit {0}) ItemFault) → AnswersFault r (point_fault (is_some (lookup (is_at (int_cmp id)) points.entries)) id) → Answering nodes (Drafts.Co points) (Item.Point id x y) r
+pub point_answer : (nodes id x y : ℤ) (points : BTreeMap ℤ (ℤ × ℤ)) (r : Result (Unit {0}) ItemFault)
+    → AnswersFault r (point_fault (is_some (lookup (is_at (int_cmp id)) points.entries)) id)
+    → Answering nodes (Drafts.Co points) (Item.Point id x y) r
 point_answer nodes id x y points r ans before p d =
     subst (AnswersFault r)
-    (sym (ap (λ z. or_else z NodeOutOfRange (or_else (list_any (has_point id) before) RepeatedNode None)) (stray_id before p d.problem_is id (ap is_companion (own_kind d.kind_is)))
-    ∙ ap (λ b. point_fault b id) (sym (points_named id before) ∙ sym (found_by_key id (filter_map point_in before)) ∙ ap (λ m. is_some (lookup (is_at (int_cmp id)) m)) (sym d.holds))))
+    (sym (ap (λ z. or_else z NodeOutOfRange (or_else (list_any (has_point id) before) RepeatedNode None))
+    (stray_id before p d.problem_is id (ap is_companion (own_kind d.kind_is)))
+    ∙ ap (λ b. point_fault b id)
+    (sym (points_named id before) ∙ sym (found_by_key id (filter_map point_in before))
+    ∙ ap (λ m. is_some (lookup (is_at (int_cmp id)) m)) (sym d.holds))))
     ans
 
 -- a table holds what it held where an item is no arc
-pub table_kept : {B Arc : Type 0} (kind : ArcKind Arc) (arc_in : Line → Option ((ℤ × ℤ) × Arc)) (tells : B → List Arc) (table : List ((ℤ × ℤ) × B)) (before : List Line) (i : Line) → arcs_of arc_in (i ∷ []) ≡ [] → TableHolds kind arc_in tells table before → TableHolds kind arc_in tells table (before ++ i ∷ [])
+pub table_kept : {B Arc : Type 0} (kind : ArcKind Arc) (arc_in : Line → Option ((ℤ × ℤ) × Arc)) (tells : B → List Arc)
+    (table : List ((ℤ × ℤ) × B)) (before : List Line) (i : Line) → arcs_of arc_in (i ∷ []) ≡ []
+    → TableHolds kind arc_in tells table before → TableHolds kind arc_in tells table (before ++ i ∷ [])
 table_kept kind arc_in tells table before i e t =
-    let same : arcs_of arc_in (before ++ i ∷ []) ≡ arcs_of arc_in before = arcs_push arc_in before i ∙ ap (λ l. arcs_of arc_in before ++ l) e ∙ append-nil (arcs_of arc_in before) in
-    record { tells_them = subst (TableTells kind tells table) (sym same) t.tells_them; are_arcs = subst (AreArcs kind) (sym same) t.are_arcs }
+    let same : arcs_of arc_in (before ++ i ∷ []) ≡ arcs_of arc_in before =
+    arcs_push arc_in before i ∙ ap (λ l. arcs_of arc_in before ++ l) e ∙ append-nil (arcs_of arc_in before) in
+    record {
+      tells_them = subst (TableTells kind tells table) (sym same) t.tells_them;
+      are_arcs =
+          subst (AreArcs kind) (sym same) t.are_arcs;
+    }
 
-pub source_stand : (nodes id : ℤ) (a b a' : Option ℤ) (t : _) (r : Result (Unit {0}) ItemFault) → AnswersFault r (terminal_fault nodes a b id) → OnOk r (a' ≡ Some id) → Standing (Drafts.Max a b t) (Item.Terminal id S) (Drafts.Max a' b t) r
+pub source_stand : (nodes id : ℤ) (a b a' : Option ℤ) (t : _) (r : Result (Unit {0}) ItemFault)
+    → AnswersFault r (terminal_fault nodes a b id) → OnOk r (a' ≡ Some id)
+    → Standing (Drafts.Max a b t) (Item.Terminal id S) (Drafts.Max a' b t) r
 source_stand nodes id a b a' t (Err e) ans ok before holds = tt
 source_stand nodes id a b a' t (Ok x) ans ok before holds =
     let one = none_first (not (in_graph nodes id)) NodeOutOfRange _ ans in
@@ -158,7 +206,9 @@ source_stand nodes id a b a' t (Ok x) ans ok before holds =
       table_kept capacities cap_arc_in _ t before (Item.Terminal id S) refl holds.2,
     )
 
-pub sink_stand : (nodes id : ℤ) (a b b' : Option ℤ) (t : _) (r : Result (Unit {0}) ItemFault) → AnswersFault r (terminal_fault nodes b a id) → OnOk r (b' ≡ Some id) → Standing (Drafts.Max a b t) (Item.Terminal id T) (Drafts.Max a b' t) r
+pub sink_stand : (nodes id : ℤ) (a b b' : Option ℤ) (t : _) (r : Result (Unit {0}) ItemFault)
+    → AnswersFault r (terminal_fault nodes b a id) → OnOk r (b' ≡ Some id)
+    → Standing (Drafts.Max a b t) (Item.Terminal id T) (Drafts.Max a b' t) r
 sink_stand nodes id a b b' t (Err e) ans ok before holds = tt
 sink_stand nodes id a b b' t (Ok x) ans ok before holds =
     let one = none_first (not (in_graph nodes id)) NodeOutOfRange _ ans in
@@ -171,28 +221,48 @@ sink_stand nodes id a b b' t (Ok x) ans ok before holds =
 
 -- an arc leaves the terminals
 pub cap_stand : (a b : Option ℤ) (t t' : _) (src dst cap : ℤ) (r : Result (Unit {0}) ItemFault)
-    → ((before : List Line) → TableHolds capacities cap_arc_in (λ (x : Total). cap_told x.total) t before → OnOk r (TableHolds capacities cap_arc_in (λ (x : Total). cap_told x.total) t' (before ++ Item.MaxArc src dst cap ∷ [])))
+    → ((before : List Line) → TableHolds capacities cap_arc_in (λ (x : Total). cap_told x.total) t before
+    → OnOk r
+    (TableHolds capacities cap_arc_in (λ (x : Total). cap_told x.total) t'
+    (before ++ Item.MaxArc src dst cap ∷ [])))
     → Standing (Drafts.Max a b t) (Item.MaxArc src dst cap) (Drafts.Max a b t') r
 cap_stand a b t t' src dst cap r ok before holds =
     let i = Item.MaxArc src dst cap in
     on_ok_weaker r
-    (λ table. (holds.0 ∙ sym (terminal_push S before i ∙ or_none (terminal_of S before)), holds.1 ∙ sym (terminal_push T before i ∙ or_none (terminal_of T before)), table))
+    (λ table. (
+      holds.0 ∙ sym (terminal_push S before i ∙ or_none (terminal_of S before)),
+      holds.1
+          ∙ sym (terminal_push T before i ∙ or_none (terminal_of T before)),
+      table,
+    ))
     (ok before holds.2)
 
-pub id_stand : (id : ℤ) (ids ids' : Vec ℤ Global) (r : Result (Unit {0}) ItemFault) → OnOk r (ids'.items ≡ ids.items ++ id ∷ []) → Standing (Drafts.Ss ids) (Item.Source id) (Drafts.Ss ids') r
-id_stand id ids ids' r ok before holds = on_ok_weaker r (λ e. e ∙ ap (λ l. l ++ id ∷ []) holds ∙ sym (grown source_in before (Item.Source id) id refl)) ok
+pub id_stand : (id : ℤ) (ids ids' : Vec ℤ Global) (r : Result (Unit {0}) ItemFault)
+    → OnOk r (ids'.items ≡ ids.items ++ id ∷ []) → Standing (Drafts.Ss ids) (Item.Source id) (Drafts.Ss ids') r
+id_stand id ids ids' r ok before holds =
+    on_ok_weaker r (λ e. e ∙ ap (λ l. l ++ id ∷ []) holds ∙ sym (grown source_in before (Item.Source id) id refl)) ok
 
-pub pair_stand : (pair : ℤ × ℤ) (pairs pairs' : Vec (ℤ × ℤ) Global) (r : Result (Unit {0}) ItemFault) → OnOk r (pairs'.items ≡ pairs.items ++ pair ∷ []) → Standing (Drafts.P2p pairs) (Item.Query pair.0 pair.1) (Drafts.P2p pairs') r
-pair_stand pair pairs pairs' r ok before holds = on_ok_weaker r (λ e. e ∙ ap (λ l. l ++ pair ∷ []) holds ∙ sym (grown query_in before (Item.Query pair.0 pair.1) pair refl)) ok
+pub pair_stand : (pair : ℤ × ℤ) (pairs pairs' : Vec (ℤ × ℤ) Global) (r : Result (Unit {0}) ItemFault)
+    → OnOk r (pairs'.items ≡ pairs.items ++ pair ∷ [])
+    → Standing (Drafts.P2p pairs) (Item.Query pair.0 pair.1) (Drafts.P2p pairs') r
+pair_stand pair pairs pairs' r ok before holds =
+    on_ok_weaker r
+    (λ e. e ∙ ap (λ l. l ++ pair ∷ []) holds ∙ sym (grown query_in before (Item.Query pair.0 pair.1) pair refl)) ok
 
-pub point_stand : (id x y : ℤ) (points points' : BTreeMap ℤ (ℤ × ℤ)) (r : Result (Unit {0}) ItemFault) → OnOk r (points'.entries ≡ insert_entry int_cmp points.entries id (x, y)) → Standing (Drafts.Co points) (Item.Point id x y) (Drafts.Co points') r
+pub point_stand : (id x y : ℤ) (points points' : BTreeMap ℤ (ℤ × ℤ)) (r : Result (Unit {0}) ItemFault)
+    → OnOk r (points'.entries ≡ insert_entry int_cmp points.entries id (x, y))
+    → Standing (Drafts.Co points) (Item.Point id x y) (Drafts.Co points') r
 point_stand id x y points points' r ok before holds =
     on_ok_weaker r
-    (λ e. e ∙ ap (λ m. insert_entry int_cmp m id (x, y)) holds ∙ sym (ap by_key (grown point_in before (Item.Point id x y) (id, (x, y)) refl) ∙ by_key_push (filter_map point_in before) (id, (x, y))))
+    (λ e. e ∙ ap (λ m. insert_entry int_cmp m id (x, y)) holds
+    ∙ sym
+    (ap by_key (grown point_in before (Item.Point id x y) (id, (x, y)) refl)
+    ∙ by_key_push (filter_map point_in before) (id, (x, y))))
     ok
 
 -- a table without bundles tells no arcs
-pub none_told : {B Arc : Type 0} (kind : ArcKind Arc) (arc_in : Line → Option ((ℤ × ℤ) × Arc)) (tells : B → List Arc) → IsKind kind → TableHolds kind arc_in tells [] []
+pub none_told : {B Arc : Type 0} (kind : ArcKind Arc) (arc_in : Line → Option ((ℤ × ℤ) × Arc)) (tells : B → List Arc)
+    → IsKind kind → TableHolds kind arc_in tells [] []
 none_told kind arc_in tells laws = record {
   tells_them = record {
     stands = λ p. record { canonical = laws.none_canon One; same = laws.meaning.same_refl [] };
@@ -202,13 +272,16 @@ none_told kind arc_in tells laws = record {
 }
 
 -- a problem line adds nothing to what the draft of its kind begins with
-pub held_problem : (d : Draft) (i : Line) → IsSome (problem_in i) → IsSome (draft_kind d) → DraftHolds d [] → DraftHolds d (i ∷ [])
+pub held_problem : (d : Draft) (i : Line) → IsSome (problem_in i) → IsSome (draft_kind d) → DraftHolds d []
+    → DraftHolds d (i ∷ [])
 held_problem d (Item.Graph k n c) h some holds = by_kind d some holds
   where
     by_kind : (d : Draft) → IsSome (draft_kind d) → DraftHolds d [] → DraftHolds d (Item.Graph k n c ∷ [])
     by_kind Drafts.Empty some holds = cc
-    by_kind (Drafts.Min s z t) some holds = (holds.0, holds.1, table_kept costs cost_arc_in _ t [] (Item.Graph k n c) refl holds.2)
-    by_kind (Drafts.Max a b t) some holds = (holds.0, holds.1, table_kept capacities cap_arc_in _ t [] (Item.Graph k n c) refl holds.2)
+    by_kind (Drafts.Min s z t) some holds =
+        (holds.0, holds.1, table_kept costs cost_arc_in _ t [] (Item.Graph k n c) refl holds.2)
+    by_kind (Drafts.Max a b t) some holds =
+        (holds.0, holds.1, table_kept capacities cap_arc_in _ t [] (Item.Graph k n c) refl holds.2)
     by_kind (Drafts.Sp t) some holds = table_kept lengths length_arc_in _ t [] (Item.Graph k n c) refl holds
     by_kind (Drafts.Ss ids) some holds = holds
     by_kind (Drafts.P2p pairs) some holds = holds
@@ -217,8 +290,10 @@ held_problem d (Item.Aux k c) h some holds = by_kind d some holds
   where
     by_kind : (d : Draft) → IsSome (draft_kind d) → DraftHolds d [] → DraftHolds d (Item.Aux k c ∷ [])
     by_kind Drafts.Empty some holds = cc
-    by_kind (Drafts.Min s z t) some holds = (holds.0, holds.1, table_kept costs cost_arc_in _ t [] (Item.Aux k c) refl holds.2)
-    by_kind (Drafts.Max a b t) some holds = (holds.0, holds.1, table_kept capacities cap_arc_in _ t [] (Item.Aux k c) refl holds.2)
+    by_kind (Drafts.Min s z t) some holds =
+        (holds.0, holds.1, table_kept costs cost_arc_in _ t [] (Item.Aux k c) refl holds.2)
+    by_kind (Drafts.Max a b t) some holds =
+        (holds.0, holds.1, table_kept capacities cap_arc_in _ t [] (Item.Aux k c) refl holds.2)
     by_kind (Drafts.Sp t) some holds = table_kept lengths length_arc_in _ t [] (Item.Aux k c) refl holds
     by_kind (Drafts.Ss ids) some holds = holds
     by_kind (Drafts.P2p pairs) some holds = holds
@@ -238,12 +313,15 @@ pub no_empty : (d : Draft) (kind : Kind) → Drafts.Empty ≡ d → draft_kind d
 no_empty d kind e h = let never : None ≡ Some kind = ap draft_kind e ∙ h in cc
 
 -- no line of a kind of text but its own
-pub no_min : (i : Line) → Some Kinds.Min ≡ kind_before i → ((id flow : ℤ) → i ≡ Item.Supply id flow → ⊥) → ((src dst low top cost : ℤ) → i ≡ Item.MinArc src dst low top cost → ⊥) → ⊥
+pub no_min : (i : Line) → Some Kinds.Min ≡ kind_before i → ((id flow : ℤ) → i ≡ Item.Supply id flow → ⊥)
+    → ((src dst low top cost : ℤ) → i ≡ Item.MinArc src dst low top cost → ⊥) → ⊥
 no_min (Item.Supply id flow) h n a = n id flow refl
 no_min (Item.MinArc src dst low top cost) h n a = a src dst low top cost refl
 no_min _ h n a = cc
 
-pub no_max : (i : Line) → Some Kinds.Max ≡ kind_before i → ((id : ℤ) (letter : Letter) → i ≡ Item.Terminal id letter → ⊥) → ((src dst cap : ℤ) → i ≡ Item.MaxArc src dst cap → ⊥) → ⊥
+pub no_max : (i : Line) → Some Kinds.Max ≡ kind_before i
+    → ((id : ℤ) (letter : Letter) → i ≡ Item.Terminal id letter → ⊥)
+    → ((src dst cap : ℤ) → i ≡ Item.MaxArc src dst cap → ⊥) → ⊥
 no_max (Item.Terminal id letter) h n a = n id letter refl
 no_max (Item.MaxArc src dst cap) h n a = a src dst cap refl
 no_max _ h n a = cc
@@ -265,24 +343,33 @@ no_co (Item.Point id x y) h a = a id x y refl
 no_co _ h a = cc
 
 -- a refused item leaves nothing to show
-pub refused : (d : Draft) (l : Line) (e : Draft) (r : Result (Unit {0}) ItemFault) (f : ItemFault) → r ≡ Err f → Standing d l e r
+pub refused : (d : Draft) (l : Line) (e : Draft) (r : Result (Unit {0}) ItemFault) (f : ItemFault) → r ≡ Err f
+    → Standing d l e r
 refused d l e r f h before holds = subst (λ x. OnOk x (DraftHolds e (before ++ l ∷ []))) (sym h) tt
 
 -- what is held where the item is not taken
 abbrev pub Keeping : Draft → Draft → Result (Unit {0}) ItemFault → Type 0
 Keeping d e r = (before : List Line) → DraftHolds d before → OnErr r (DraftHolds e before)
 
-pub to_keep : (d d' e e' : Draft) (r r' : Result (Unit {0}) ItemFault) → d ≡ d' → e ≡ e' → r ≡ r' → Keeping d' e' r' → Keeping d e r
-to_keep d d' e e' r r' a b c h = subst (λ x. Keeping x e r) (sym a) (subst (λ x. Keeping d' x r) (sym b) (subst (Keeping d' e') (sym c) h))
+pub to_keep : (d d' e e' : Draft) (r r' : Result (Unit {0}) ItemFault) → d ≡ d' → e ≡ e' → r ≡ r' → Keeping d' e' r'
+    → Keeping d e r
+to_keep d d' e e' r r' a b c h =
+    subst (λ x. Keeping x e r) (sym a) (subst (λ x. Keeping d' x r) (sym b) (subst (Keeping d' e') (sym c) h))
 
 pub keep_same : (d e : Draft) (r : Result (Unit {0}) ItemFault) → OnErr r (e ≡ d) → Keeping d e r
 keep_same d e r same before holds = on_err_weaker r (λ is. subst (λ x. DraftHolds x before) (sym is) holds) same
 
-pub source_keep : (a a' b : Option ℤ) (t : _) (r : Result (Unit {0}) ItemFault) → OnErr r (a' ≡ a) → Keeping (Drafts.Max a b t) (Drafts.Max a' b t) r
-source_keep a a' b t r same = keep_same (Drafts.Max a b t) (Drafts.Max a' b t) r (on_err_weaker r (ap (λ x. Drafts.Max x b t)) same)
+pub source_keep : (a a' b : Option ℤ) (t : _) (r : Result (Unit {0}) ItemFault) → OnErr r (a' ≡ a)
+    → Keeping (Drafts.Max a b t) (Drafts.Max a' b t) r
+source_keep a a' b t r same =
+    keep_same (Drafts.Max a b t) (Drafts.Max a' b t) r (on_err_weaker r (ap (λ x. Drafts.Max x b t)) same)
 
-pub sink_keep : (a b b' : Option ℤ) (t : _) (r : Result (Unit {0}) ItemFault) → OnErr r (b' ≡ b) → Keeping (Drafts.Max a b t) (Drafts.Max a b' t) r
-sink_keep a b b' t r same = keep_same (Drafts.Max a b t) (Drafts.Max a b' t) r (on_err_weaker r (ap (λ x. Drafts.Max a x t)) same)
+pub sink_keep : (a b b' : Option ℤ) (t : _) (r : Result (Unit {0}) ItemFault) → OnErr r (b' ≡ b)
+    → Keeping (Drafts.Max a b t) (Drafts.Max a b' t) r
+sink_keep a b b' t r same =
+    keep_same (Drafts.Max a b t) (Drafts.Max a b' t) r (on_err_weaker r (ap (λ x. Drafts.Max a x t)) same)
 
-pub cap_keep : (a b : Option ℤ) (t t' : _) (r : Result (Unit {0}) ItemFault) → OnErr r (t' ≡ t) → Keeping (Drafts.Max a b t) (Drafts.Max a b t') r
-cap_keep a b t t' r same = keep_same (Drafts.Max a b t) (Drafts.Max a b t') r (on_err_weaker r (ap (λ x. Drafts.Max a b x)) same)
+pub cap_keep : (a b : Option ℤ) (t t' : _) (r : Result (Unit {0}) ItemFault) → OnErr r (t' ≡ t)
+    → Keeping (Drafts.Max a b t) (Drafts.Max a b t') r
+cap_keep a b t t' r same =
+    keep_same (Drafts.Max a b t) (Drafts.Max a b t') r (on_err_weaker r (ap (λ x. Drafts.Max a b x)) same)

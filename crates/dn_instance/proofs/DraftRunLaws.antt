@@ -23,19 +23,25 @@ not_named : (q : ℤ) (arcs : List ArcLine) → list_any (has_supply q) (arc_ite
 not_named q [] = refl
 not_named q (a ∷ arcs) = not_named q arcs
 
-pub supplies_kept : (before : List Line) (arcs : List ArcLine) → supplies_of (before ++ arc_items Min arcs) ≡ supplies_of before
+pub supplies_kept : (before : List Line) (arcs : List ArcLine)
+    → supplies_of (before ++ arc_items Min arcs) ≡ supplies_of before
 supplies_kept before arcs =
-    ap by_key (filter_map-append supply_in before (arc_items Min arcs) ∙ ap (λ l. filter_map supply_in before ++ l) (no_supplies arcs) ∙ append-nil (filter_map supply_in before))
+    ap by_key
+    (filter_map-append supply_in before (arc_items Min arcs)
+    ∙ ap (λ l. filter_map supply_in before ++ l) (no_supplies arcs) ∙ append-nil (filter_map supply_in before))
 
-pub named_kept : (q : ℤ) (before : List Line) (arcs : List ArcLine) → list_any (has_supply q) (before ++ arc_items Min arcs) ≡ list_any (has_supply q) before
+pub named_kept : (q : ℤ) (before : List Line) (arcs : List ArcLine)
+    → list_any (has_supply q) (before ++ arc_items Min arcs) ≡ list_any (has_supply q) before
 named_kept q before arcs =
-    list_any-append (has_supply q) before (arc_items Min arcs) ∙ ap (λ b. list_any (has_supply q) before || b) (not_named q arcs) ∙ or-false (list_any (has_supply q) before)
+    list_any-append (has_supply q) before (arc_items Min arcs)
+    ∙ ap (λ b. list_any (has_supply q) before || b) (not_named q arcs) ∙ or-false (list_any (has_supply q) before)
 
 no_terminal : (letter : Letter) (arcs : List ArcLine) → terminal_of letter (arc_items Max arcs) ≡ None
 no_terminal letter [] = refl
 no_terminal letter (a ∷ arcs) = no_terminal letter arcs
 
-pub terminal_kept : (letter : Letter) (before : List Line) (arcs : List ArcLine) → terminal_of letter (before ++ arc_items Max arcs) ≡ terminal_of letter before
+pub terminal_kept : (letter : Letter) (before : List Line) (arcs : List ArcLine)
+    → terminal_of letter (before ++ arc_items Max arcs) ≡ terminal_of letter before
 terminal_kept letter [] arcs = no_terminal letter arcs
 terminal_kept letter (x ∷ before) arcs = ap (option_or (terminal_in letter x)) (terminal_kept letter before arcs)
 

@@ -32,22 +32,30 @@ use Rattle.dn_instance.proofs.ItemSteps.{problem_told}
 
 -- the faults at the end, by the problem
 abbrev ends_by : Option Problem → List Line → Option Code
-ends_by o items = first_fault ((NoProblem, is_none o) ∷ (MissingTerminal, lacks_terminal (option_map (λ (p : Problem). p.kind) o) items) ∷ (TooFewLines, not (is_full o (counted items))) ∷ [])
+ends_by o items =
+    first_fault
+    ((NoProblem, is_none o) ∷ (MissingTerminal, lacks_terminal (option_map (λ (p : Problem). p.kind) o) items) ∷
+    (TooFewLines, not (is_full o (counted items))) ∷ [])
 
-end_is : (t : TextSoFar) (items : List Line) (kind : Kind) (lacks few : Bool) → HasRead t items → draft_kind t.draft ≡ Some kind → lacks_terminal (Some kind) items ≡ lacks → int_lt t.counted t.count ≡ few
+end_is : (t : TextSoFar) (items : List Line) (kind : Kind) (lacks few : Bool) → HasRead t items
+    → draft_kind t.draft ≡ Some kind → lacks_terminal (Some kind) items ≡ lacks → int_lt t.counted t.count ≡ few
     → end_fault items ≡ cond lacks (Some MissingTerminal) (cond few (Some TooFewLines) None)
 end_is t items kind lacks few at is l f =
     ap (λ o. ends_by o items) (problem_told t items kind at is)
-    ∙ ap (λ b. cond b (Some MissingTerminal) (cond (not (not (int_lt (pos (counted items)) t.count))) (Some TooFewLines) None)) l
-    ∙ ap (λ b. cond lacks (Some MissingTerminal) (cond b (Some TooFewLines) None)) (twice (int_lt (pos (counted items)) t.count) ∙ ap (λ n. int_lt n t.count) (sym at.counted_is) ∙ f)
+    ∙ ap (λ b. cond b (Some MissingTerminal)
+    (cond (not (not (int_lt (pos (counted items)) t.count))) (Some TooFewLines) None)) l
+    ∙ ap (λ b. cond lacks (Some MissingTerminal) (cond b (Some TooFewLines) None))
+    (twice (int_lt (pos (counted items)) t.count) ∙ ap (λ n. int_lt n t.count) (sym at.counted_is) ∙ f)
   where
     twice : (b : Bool) → not (not b) ≡ b
     twice true = refl
     twice false = refl
 
 -- all is there
-pub ends_whole : (t : TextSoFar) (items : List Line) (content : Content) (held : Held) → HasRead t items → Makes (draft_kind t.draft) t.nodes items (Ok content) → int_lt t.counted t.count ≡ false
-    → (holding held).nodes ≡ t.nodes → (holding held).lines ≡ t.counted → (holding held).contents ≡ contents_of content → EndsWith items (Ok held)
+pub ends_whole : (t : TextSoFar) (items : List Line) (content : Content) (held : Held) → HasRead t items
+    → Makes (draft_kind t.draft) t.nodes items (Ok content) → int_lt t.counted t.count ≡ false
+    → (holding held).nodes ≡ t.nodes → (holding held).lines ≡ t.counted → (holding held).contents ≡ contents_of content
+    → EndsWith items (Ok held)
 ends_whole t items content held at made enough nodes lines contents = by_kind (draft_kind t.draft) refl made
   where
     by_kind : (o : Option Kind) → draft_kind t.draft ≡ o → Makes o t.nodes items (Ok content) → EndsWith items (Ok held)
@@ -65,31 +73,53 @@ ends_whole t items content held at made enough nodes lines contents = by_kind (d
       },
     )
 
-pub ends_early : (t : TextSoFar) (items : List Line) (content : Content) → HasRead t items → Makes (draft_kind t.draft) t.nodes items (Ok content) → int_lt t.counted t.count ≡ true → end_fault items ≡ Some TooFewLines
+pub ends_early : (t : TextSoFar) (items : List Line) (content : Content) → HasRead t items
+    → Makes (draft_kind t.draft) t.nodes items (Ok content) → int_lt t.counted t.count ≡ true
+    → end_fault items ≡ Some TooFewLines
 ends_early t items content at made few = by_kind (draft_kind t.draft) refl made
   where
-    by_kind : (o : Option Kind) → draft_kind t.draft ≡ o → Makes o t.nodes items (Ok content) → end_fault items ≡ Some TooFewLines
+    by_kind : (o : Option Kind) → draft_kind t.draft ≡ o → Makes o t.nodes items (Ok content)
+        → end_fault items ≡ Some TooFewLines
     by_kind None is made = cc
     by_kind (Some kind) is made = end_is t items kind false true at is made.0 few
 
-pub ends_lacking : (t : TextSoFar) (items : List Line) (code : Code) → HasRead t items → Makes (draft_kind t.draft) t.nodes items (Err code) → end_fault items ≡ Some code
+pub ends_lacking : (t : TextSoFar) (items : List Line) (code : Code) → HasRead t items
+    → Makes (draft_kind t.draft) t.nodes items (Err code) → end_fault items ≡ Some code
 ends_lacking t items code at made = by_kind (draft_kind t.draft) refl made (int_lt t.counted t.count) refl
   where
-    by_kind : (o : Option Kind) → draft_kind t.draft ≡ o → Makes o t.nodes items (Err code) → (b : Bool) → int_lt t.counted t.count ≡ b → end_fault items ≡ Some code
-    by_kind None is made b e = let same : code ≡ NoProblem = cc in ap (λ o. ends_by o items) (at.problem_is ∙ ap (option_map (problem_as t)) is) ∙ ap Some (sym same)
+    by_kind : (o : Option Kind) → draft_kind t.draft ≡ o → Makes o t.nodes items (Err code) → (b : Bool)
+        → int_lt t.counted t.count ≡ b → end_fault items ≡ Some code
+    by_kind None is made b e = let same : code ≡ NoProblem = cc in
+        ap (λ o. ends_by o items) (at.problem_is ∙ ap (option_map (problem_as t)) is) ∙ ap Some (sym same)
     by_kind (Some kind) is made b e = end_is t items kind true b at is made.1 e ∙ ap Some (sym made.0)
 
-max_made : (a b : ℤ) (x y : Option ℤ) (G : Graph CapArc) → x ≡ Some a → y ≡ Some b → max_flow x y G ≡ Some (MaxFlow a b G)
+max_made : (a b : ℤ) (x y : Option ℤ) (G : Graph CapArc) → x ≡ Some a → y ≡ Some b
+    → max_flow x y G ≡ Some (MaxFlow a b G)
 max_made a b x y G e f = ap (λ o. max_flow o y G) e ∙ ap (λ o. max_flow (Some a) o G) f
 
 -- source and sink are there
-pub both_named : (d : Draft) (s t : Option ℤ) (table kept : Bundles Total) → IsStrictlySortedBy pair_cmp (keys_of kept) → ((p : ℤ × ℤ) → lookup (same_pair p) kept ≡ lookup (same_pair p) table) → (a b u v nodes : ℤ) (items : List Line) → d ≡ Drafts.Max s t table → s ≡ Some a → t ≡ Some b → u ≡ a → v ≡ b → DraftHolds d items → Makes (draft_kind d) nodes items (Ok (Kept.Max u v kept))
+pub both_named : (d : Draft) (s t : Option ℤ) (table kept : Bundles Total) → IsStrictlySortedBy pair_cmp (keys_of kept)
+    → ((p : ℤ × ℤ) → lookup (same_pair p) kept ≡ lookup (same_pair p) table) → (a b u v nodes : ℤ) (items : List Line)
+    → d ≡ Drafts.Max s t table → s ≡ Some a → t ≡ Some b → u ≡ a → v ≡ b → DraftHolds d items
+    → Makes (draft_kind d) nodes items (Ok (Kept.Max u v kept))
 both_named d s t table kept rising alike a b u v nodes items is source sink same also h =
     let k : DraftHolds (Drafts.Max s t table) items = subst (λ x. DraftHolds x items) is h in
     let one : terminal_of S items ≡ Some a = sym k.0 ∙ source in
     let other : terminal_of T items ≡ Some b = sym k.1 ∙ sink in
-    let out : Makes (draft_kind (Drafts.Max s t table)) nodes items (Ok (Kept.Max a b kept)) =
-    (ap (λ o. is_none o || is_none (terminal_of T items)) one ∙ ap is_none other, (MaxFlow a b (graph_of cap_arc_in nodes items), max_made a b _ _ (graph_of cap_arc_in nodes items) one other, (refl, refl, stands_as capacities (λ (x : Total). cap_told x.total) table kept (arcs_of cap_arc_in items) rising alike k.2.tells_them))) in
+    let out : Makes (draft_kind (Drafts.Max s t table)) nodes items (Ok (Kept.Max a b kept)) = (
+      ap (λ o. is_none o || is_none (terminal_of T items)) one
+          ∙ ap is_none other,
+      (
+        MaxFlow a b (graph_of cap_arc_in nodes items),
+        max_made a b _ _ (graph_of cap_arc_in nodes items) one other,
+        (
+          refl,
+          refl,
+          stands_as capacities (λ (x : Total). cap_told x.total) table kept
+              (arcs_of cap_arc_in items) rising alike k.2.tells_them,
+        ),
+      ),
+    ) in
     subst (λ x. Makes (draft_kind x) nodes items (Ok (Kept.Max u v kept))) (sym is)
     (subst (λ x. Makes (draft_kind (Drafts.Max s t table)) nodes items (Ok (Kept.Max x v kept))) (sym same)
     (subst (λ y. Makes (draft_kind (Drafts.Max s t table)) nodes items (Ok (Kept.Max a y kept))) (sym also) out))

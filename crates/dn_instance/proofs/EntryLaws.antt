@@ -9,7 +9,8 @@ use Rattle.dn_instance.specs.Instances.{Instance, MinCostFlow, MaxFlow, Shortest
 use Rattle.dn_instance.specs.Validity.{IsPlaced}
 
 -- valid arcs are arcs of a problem
-pub placed_arcs : {Arc : Type 0} (kind : ArcKind Arc) (nodes : ℤ) (arcs : List (Pair × Arc)) → AllByRecursion (IsPlaced kind nodes) arcs → AreArcs kind arcs
+pub placed_arcs : {Arc : Type 0} (kind : ArcKind Arc) (nodes : ℤ) (arcs : List (Pair × Arc))
+    → AllByRecursion (IsPlaced kind nodes) arcs → AreArcs kind arcs
 placed_arcs kind nodes [] h = tt
 placed_arcs kind nodes (a ∷ rest) h = (h.0.is_arc, placed_arcs kind nodes rest h.1)
 

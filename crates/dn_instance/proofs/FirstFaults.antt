@@ -23,7 +23,8 @@ abbrev pub fault_after : List (List ℕ) → List ℕ → Option Code
 fault_after before l = line_fault (length before + 1) (items_of before) (said_words l)
 
 -- two ways to part one list at the same place are one
-pub same_front : {X : Type 0} (a b : List X) (x y : X) (xs ys : List X) → a ++ x ∷ xs ≡ b ++ y ∷ ys → length a ≡ length b → (a ≡ b) × (x ≡ y)
+pub same_front : {X : Type 0} (a b : List X) (x y : X) (xs ys : List X) → a ++ x ∷ xs ≡ b ++ y ∷ ys
+    → length a ≡ length b → (a ≡ b) × (x ≡ y)
 same_front [] [] x y xs ys e h = let same : x ≡ y = cc in (refl, same)
 same_front [] (d ∷ b) x y xs ys e h = absurd (omega arith)
 same_front (c ∷ a) [] x y xs ys e h = absurd (omega arith)
@@ -34,7 +35,8 @@ same_front (c ∷ a) (d ∷ b) x y xs ys e h =
     (ap (λ z. z ∷ a) heads ∙ ap (λ z. d ∷ z) r.0, r.1)
 
 -- the fault at a line is that of the line after those before it
-pub fault_there : (ls before after : List (List ℕ)) (l : List ℕ) (n : ℕ) (c : Code) → ls ≡ before ++ l ∷ after → n ≡ length before + 1 → FaultAt ls n c → fault_after before l ≡ Some c
+pub fault_there : (ls before after : List (List ℕ)) (l : List ℕ) (n : ℕ) (c : Code) → ls ≡ before ++ l ∷ after
+    → n ≡ length before + 1 → FaultAt ls n c → fault_after before l ≡ Some c
 fault_there ls before after l n c e m f =
     let number : length f.before ≡ length before = (let h = f.number_is in omega arith) in
     let r = same_front f.before before f.line l f.after after (sym f.lines_are ∙ e) number in
@@ -43,22 +45,28 @@ fault_there ls before after l n c e m f =
     (subst (λ (b : List (List ℕ)). line_fault n (items_of b) (said_words f.line) ≡ Some c) r.0 f.fault_is))
 
 -- a line of a clean text has no fault
-pub clean_there : (ls before after : List (List ℕ)) (l : List ℕ) → ls ≡ before ++ l ∷ after → IsClean ls → fault_after before l ≡ None
+pub clean_there : (ls before after : List (List ℕ)) (l : List ℕ) → ls ≡ before ++ l ∷ after → IsClean ls
+    → fault_after before l ≡ None
 clean_there ls before after l e clean = by_fault (fault_after before l) refl
   where
     by_fault : (f : Option Code) → fault_after before l ≡ f → fault_after before l ≡ None
     by_fault None h = h
-    by_fault (Some c) h = absurd (clean (length before + 1) c (record { before = before; line = l; after = after; lines_are = e; number_is = refl; fault_is = h }))
+    by_fault (Some c) h =
+        absurd
+        (clean (length before + 1) c
+        (record { before = before; line = l; after = after; lines_are = e; number_is = refl; fault_is = h }))
 
 -- the faults of the lines come after the first k
 abbrev NoneUpTo : List (List ℕ) → ℕ → Type 0
 NoneUpTo ls k = (n : ℕ) (c : Code) → FaultAt ls n c → k < n
 
-one_more : (before : List (List ℕ)) (l : List ℕ) (after : List (List ℕ)) → before ++ l ∷ after ≡ (before ++ l ∷ []) ++ after
+one_more : (before : List (List ℕ)) (l : List ℕ) (after : List (List ℕ))
+    → before ++ l ∷ after ≡ (before ++ l ∷ []) ++ after
 one_more before l after = sym (append_assoc before (l ∷ []) after)
 
 -- a line without fault puts off the first one
-later : (ls before after : List (List ℕ)) (l : List ℕ) → ls ≡ before ++ l ∷ after → NoneUpTo ls (length before) → fault_after before l ≡ None → NoneUpTo ls (length (before ++ l ∷ []))
+later : (ls before after : List (List ℕ)) (l : List ℕ) → ls ≡ before ++ l ∷ after → NoneUpTo ls (length before)
+    → fault_after before l ≡ None → NoneUpTo ls (length (before ++ l ∷ []))
 later ls before after l e none h n c f =
     by_number (n - (length before + 1)) refl
   where
@@ -67,7 +75,8 @@ later ls before after l e none h n c f =
 
     by_number : (d : ℕ) → n - (length before + 1) ≡ d → length (before ++ l ∷ []) < n
     by_number zero g =
-        let there : fault_after before l ≡ Some c = fault_there ls before after l n c e (let p = past in omega arith) f in
+        let there : fault_after before l ≡ Some c =
+        fault_there ls before after l n c e (let p = past in omega arith) f in
         let never : None ≡ Some c = sym h ∙ there in
         cc
     by_number (suc d) g = let p = past in omega (arith, length-append before (l ∷ []))
@@ -86,7 +95,8 @@ abbrev Found : List (List ℕ) → Option (ℕ × Code) → Type 0
 Found ls None = IsClean ls
 Found ls (Some f) = IsFirstFaultAt ls f.0 f.1
 
-found_here : (ls before after : List (List ℕ)) (l : List ℕ) (f : Option Code) (found : Option (ℕ × Code)) → ls ≡ before ++ l ∷ after → NoneUpTo ls (length before) → fault_after before l ≡ f
+found_here : (ls before after : List (List ℕ)) (l : List ℕ) (f : Option Code) (found : Option (ℕ × Code))
+    → ls ≡ before ++ l ∷ after → NoneUpTo ls (length before) → fault_after before l ≡ f
     → (fault_after before l ≡ None → Found ls found) → Found ls (or_later f (length before + 1) found)
 found_here ls before after l None found e none h go = go h
 found_here ls before after l (Some c) found e none h go =
@@ -95,12 +105,14 @@ found_here ls before after l (Some c) found e none h go =
       first = λ n d g. (let p = none n d g in omega arith);
     }
 
-found_from : (ls before rest : List (List ℕ)) → ls ≡ before ++ rest → NoneUpTo ls (length before) → Found ls (found_in before rest)
+found_from : (ls before rest : List (List ℕ)) → ls ≡ before ++ rest → NoneUpTo ls (length before)
+    → Found ls (found_in before rest)
 found_from ls before [] e none = λ n c f.
     let p = none n c f in
     let m = f.number_is in
     let all : length ls ≡ length before = ap length e ∙ ap length (append-nil before) in
-    let parts : length ls ≡ length f.before + suc (length f.after) = ap length f.lines_are ∙ length-append f.before (f.line ∷ f.after) in
+    let parts : length ls ≡ length f.before + suc (length f.after) =
+    ap length f.lines_are ∙ length-append f.before (f.line ∷ f.after) in
     omega arith
 found_from ls before (l ∷ rest) e none =
     found_here ls before rest l (fault_after before l) (found_in (before ++ l ∷ []) rest) e none refl
@@ -122,7 +134,8 @@ clean_from : (P : List (List ℕ) → Type 0) (ls before rest : List (List ℕ))
     → ((b : List (List ℕ)) (l : List ℕ) → fault_after b l ≡ None → P b → P (b ++ l ∷ [])) → P before → P ls
 clean_from P ls before [] e clean step here = subst P (sym (append-nil before) ∙ sym e) here
 clean_from P ls before (l ∷ rest) e clean step here =
-    clean_from P ls (before ++ l ∷ []) rest (e ∙ one_more before l rest) clean step (step before l (clean_there ls before rest l e clean) here)
+    clean_from P ls (before ++ l ∷ []) rest (e ∙ one_more before l rest) clean step
+    (step before l (clean_there ls before rest l e clean) here)
 
 pub by_clean_lines : (P : List (List ℕ) → Type 0) (ls : List (List ℕ)) → IsClean ls
     → ((b : List (List ℕ)) (l : List ℕ) → fault_after b l ≡ None → P b → P (b ++ l ∷ [])) → P [] → P ls
@@ -156,12 +169,15 @@ same_code t (Places.Line m) Places.End c d f g = absurd (g.clean m c f.at)
 same_code t Places.End (Places.Line n) c d f g = absurd (f.clean n d g.at)
 same_code t Places.End Places.End c d f g = some_same c d _ _ f.fault_is g.fault_is refl
 
-later_lines : (before ls ms : List (List ℕ)) (x : ℕ × Code) → found_in before ls ≡ Some x → found_in before (ls ++ ms) ≡ Some x
+later_lines : (before ls ms : List (List ℕ)) (x : ℕ × Code) → found_in before ls ≡ Some x
+    → found_in before (ls ++ ms) ≡ Some x
 later_lines before [] ms x h = cc
 later_lines before (l ∷ ls) ms x h = by_fault (fault_after before l) (later_lines (before ++ l ∷ []) ls ms x) h
   where
-    by_fault : (f : Option Code) → (found_in (before ++ l ∷ []) ls ≡ Some x → found_in (before ++ l ∷ []) (ls ++ ms) ≡ Some x)
-        → or_later f (length before + 1) (found_in (before ++ l ∷ []) ls) ≡ Some x → or_later f (length before + 1) (found_in (before ++ l ∷ []) (ls ++ ms)) ≡ Some x
+    by_fault : (f : Option Code)
+        → (found_in (before ++ l ∷ []) ls ≡ Some x → found_in (before ++ l ∷ []) (ls ++ ms) ≡ Some x)
+        → or_later f (length before + 1) (found_in (before ++ l ∷ []) ls) ≡ Some x
+        → or_later f (length before + 1) (found_in (before ++ l ∷ []) (ls ++ ms)) ≡ Some x
     by_fault None go g = go g
     by_fault (Some c) go g = g
 
@@ -183,24 +199,29 @@ not_both t I (Places.Line n) c r f = r.clean n c f.at
 not_both t I Places.End c r f = let never : None ≡ Some c = sym r.whole ∙ f.fault_is in cc
 
 -- the first test fails where no fault is found
-pub none_first : {X : Type 0} (b : Bool) (x : X) (rest : Option X) → cond b (Some x) rest ≡ None → (b ≡ false) × (rest ≡ None)
+pub none_first : {X : Type 0} (b : Bool) (x : X) (rest : Option X) → cond b (Some x) rest ≡ None → (b ≡ false)
+    × (rest ≡ None)
 none_first true x rest h = cc
 none_first false x rest h = (refl, h)
 
-with_terminals : (a b : Option ℤ) (G : Graph CapArc) → (is_none a || is_none b) ≡ false → (I : Instance) × (max_flow a b G ≡ Some I)
+with_terminals : (a b : Option ℤ) (G : Graph CapArc) → (is_none a || is_none b) ≡ false → (I : Instance)
+    × (max_flow a b G ≡ Some I)
 with_terminals None b G h = cc
 with_terminals (Some a) None G h = cc
 with_terminals (Some a) (Some b) G h = (_, refl)
 
-of_kind : (k : Kind) (nodes : ℤ) (items : List Line) → lacks_terminal (Some k) items ≡ false → (I : Instance) × (instance_as k nodes items ≡ Some I)
+of_kind : (k : Kind) (nodes : ℤ) (items : List Line) → lacks_terminal (Some k) items ≡ false → (I : Instance)
+    × (instance_as k nodes items ≡ Some I)
 of_kind Kinds.Min nodes items h = (_, refl)
-of_kind Kinds.Max nodes items h = with_terminals (terminal_of S items) (terminal_of T items) (graph_of cap_arc_in nodes items) h
+of_kind Kinds.Max nodes items h =
+    with_terminals (terminal_of S items) (terminal_of T items) (graph_of cap_arc_in nodes items) h
 of_kind Kinds.Sp nodes items h = (_, refl)
 of_kind Kinds.Ss nodes items h = (_, refl)
 of_kind Kinds.P2p nodes items h = (_, refl)
 of_kind Kinds.Co nodes items h = (_, refl)
 
-of_problem : (o : Option Problem) (items : List Line) → is_none o ≡ false → lacks_terminal (option_map (λ (p : Problem). p.kind) o) items ≡ false
+of_problem : (o : Option Problem) (items : List Line) → is_none o ≡ false
+    → lacks_terminal (option_map (λ (p : Problem). p.kind) o) items ≡ false
     → (I : Instance) × (option_and_then (λ (p : Problem). instance_as p.kind p.nodes items) o ≡ Some I)
 of_problem None items h g = cc
 of_problem (Some p) items h g = of_kind p.kind p.nodes items g
@@ -216,7 +237,8 @@ abbrev Either : List ℕ → Type 0
 Either t = ((I : Instance) × Reads t I) ⊎ ((p : Place) × (c : Code) × IsFirstFault t p c)
 
 at_end : (t : List ℕ) (f : Option Code) → IsClean (lines t) → end_fault (items_of (lines t)) ≡ f → Either t
-at_end t None clean h = let m = made (items_of (lines t)) h in inl (m.0, record { clean = clean; whole = h; instance_is = m.1 })
+at_end t None clean h = let m = made (items_of (lines t)) h in
+    inl (m.0, record { clean = clean; whole = h; instance_is = m.1 })
 at_end t (Some c) clean h = inr (Places.End, c, record { clean = clean; fault_is = h })
 
 by_found : (t : List ℕ) (f : Option (ℕ × Code)) → Found (lines t) f → Either t

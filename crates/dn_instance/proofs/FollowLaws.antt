@@ -53,7 +53,8 @@ signs (Item.Query _ _) ws f = tt
 signs (Item.Point _ _ _) ws f = tt
 
 -- a counted item has the letter of one
-letter : (i : Line) (ws : List Word) → FitSome (slots_of i) ws → is_counted i ≡ true → is_counted_letter (first ws) ≡ true
+letter : (i : Line) (ws : List Word) → FitSome (slots_of i) ws → is_counted i ≡ true
+    → is_counted_letter (first ws) ≡ true
 letter (Item.MinArc src dst low top cost) [] f h = absurd f
 letter (Item.MinArc src dst low top cost) (w ∷ ws) f h = ap is_counted_letter f.0
 letter (Item.MaxArc src dst top) [] f h = absurd f
@@ -92,7 +93,9 @@ module _ (before : List Line) (ws : List Word) (e : is_skip ws ≡ false) where
       record { head = a.0; order = b.0; field = b.1 }
 
   own_none : Faultless → first_fault (own_tests known ws) ≡ None
-  own_none f = fault_append (head_tests known ws) (field_tests (fields known ws)) ∙ ap (λ x. option_or x (first_fault (field_tests (fields known ws)))) f.head ∙ f.field
+  own_none f =
+      fault_append (head_tests known ws) (field_tests (fields known ws))
+      ∙ ap (λ x. option_or x (first_fault (field_tests (fields known ws)))) f.head ∙ f.field
 
   spells : Faultless → Spells known ws (spelled known ws)
   spells f = faultless_spells known ws (own_none f)
@@ -107,7 +110,9 @@ module _ (before : List Line) (ws : List Word) (e : is_skip ws ≡ false) where
         kind_is = s.kind_is;
         spelled = ap is_some s.slots_are;
         signs = signs (spelled known ws) ws fit;
-        room = λ c. sym (ap (λ b. b && is_full (problem_of before) (counted before)) (letter (spelled known ws) ws fit c)) ∙ surplus.0;
+        room =
+            λ c. sym (ap (λ b. b && is_full (problem_of before) (counted before)) (letter (spelled known ws) ws fit c))
+            ∙ surplus.0;
       }
 
   abbrev all_but_items : List Test
@@ -120,14 +125,16 @@ module _ (before : List Line) (ws : List Word) (e : is_skip ws ≡ false) where
   pub taken : (i : Line) → next_read before ws ≡ Ok i → (first_fault all_but_items ≡ None) × (spelled known ws ≡ i)
   taken i h = by_fault (first_fault all_but_items) refl (sym by_next ∙ h)
     where
-      by_fault : (f : Option Code) → first_fault all_but_items ≡ f → unless f (spelled known ws) ≡ Ok i → (first_fault all_but_items ≡ None) × (spelled known ws ≡ i)
+      by_fault : (f : Option Code) → first_fault all_but_items ≡ f → unless f (spelled known ws) ≡ Ok i
+          → (first_fault all_but_items ≡ None) × (spelled known ws ≡ i)
       by_fault None g u = let same : spelled known ws ≡ i = cc in (g, same)
       by_fault (Some c) g u = cc
 
   refused_by : (c : Code) → next_read before ws ≡ Err c → first_fault all_but_items ≡ Some c
   refused_by c h = by_fault (first_fault all_but_items) refl (sym by_next ∙ h)
     where
-      by_fault : (f : Option Code) → first_fault all_but_items ≡ f → unless f (spelled known ws) ≡ Err c → first_fault all_but_items ≡ Some c
+      by_fault : (f : Option Code) → first_fault all_but_items ≡ f → unless f (spelled known ws) ≡ Err c
+          → first_fault all_but_items ≡ Some c
       by_fault None g u = cc
       by_fault (Some d) g u = let same : d ≡ c = cc in g ∙ ap Some same
 
@@ -150,14 +157,19 @@ module _ (before : List Line) (ws : List Word) (e : is_skip ws ≡ false) where
   some_item (Item.Query _ _) h = refl
   some_item (Item.Point _ _ _) h = refl
 
-  all_parts : (items : Option Line) → first_fault (head_tests known ws ++ (order_tests before ws ++ (field_tests (fields known ws) ++ item_tests before items)))
-      ≡ option_or (first_fault (head_tests known ws)) (option_or (first_fault (order_tests before ws)) (option_or (first_fault (field_tests (fields known ws))) (first_fault (item_tests before items))))
+  all_parts : (items : Option Line)
+      → first_fault
+      (head_tests known ws ++ (order_tests before ws ++ (field_tests (fields known ws) ++ item_tests before items)))
+      ≡ option_or (first_fault (head_tests known ws))
+      (option_or (first_fault (order_tests before ws))
+      (option_or (first_fault (field_tests (fields known ws))) (first_fault (item_tests before items))))
   all_parts items =
       let tests = item_tests before items in
       let own = field_tests (fields known ws) in
       fault_append (head_tests known ws) (order_tests before ws ++ (own ++ tests))
       ∙ ap (option_or (first_fault (head_tests known ws)))
-      (fault_append (order_tests before ws) (own ++ tests) ∙ ap (option_or (first_fault (order_tests before ws))) (fault_append own tests))
+      (fault_append (order_tests before ws) (own ++ tests)
+      ∙ ap (option_or (first_fault (order_tests before ws))) (fault_append own tests))
 
   -- the item follows those before it, and its faults are the line's
   pub record Follows (i : Line) : Type 0 where
@@ -175,14 +187,22 @@ module _ (before : List Line) (ws : List Word) (e : is_skip ws ≡ false) where
         may = may;
         reads = reads;
         faults =
-            ap (λ o. first_fault (head_tests known ws ++ (order_tests before ws ++ (field_tests (fields known ws) ++ item_tests before o)))) reads
+            ap (λ o. first_fault
+            (head_tests known ws ++
+            (order_tests before ws ++ (field_tests (fields known ws) ++ item_tests before o)))) reads
             ∙ all_parts (Some i)
-            ∙ ap (λ x. option_or x (option_or (first_fault (order_tests before ws)) (option_or (first_fault (field_tests (fields known ws))) (first_fault (item_tests before (Some i)))))) f.head
-            ∙ ap (λ x. option_or x (option_or (first_fault (field_tests (fields known ws))) (first_fault (item_tests before (Some i))))) f.order
+            ∙ ap (λ x. option_or x
+            (option_or (first_fault (order_tests before ws))
+            (option_or (first_fault (field_tests (fields known ws)))
+            (first_fault (item_tests before (Some i)))))) f.head
+            ∙ ap (λ x. option_or x
+            (option_or (first_fault (field_tests (fields known ws)))
+            (first_fault (item_tests before (Some i))))) f.order
             ∙ ap (λ x. option_or x (first_fault (item_tests before (Some i)))) f.field;
       }
 
-  or_front : {X : Type 0} (a b c d : Option X) (x : X) → option_or a (option_or b c) ≡ Some x → option_or a (option_or b (option_or c d)) ≡ Some x
+  or_front : {X : Type 0} (a b c d : Option X) (x : X) → option_or a (option_or b c) ≡ Some x
+      → option_or a (option_or b (option_or c d)) ≡ Some x
   or_front None None None d x h = cc
   or_front None None (Some y) d x h = h
   or_front None (Some y) c d x h = h
@@ -193,8 +213,11 @@ module _ (before : List Line) (ws : List Word) (e : is_skip ws ≡ false) where
   refused c h =
       let tests = item_spelled (words_read known ws) in
       all_parts tests
-      ∙ or_front (first_fault (head_tests known ws)) (first_fault (order_tests before ws)) (first_fault (field_tests (fields known ws))) (first_fault (item_tests before tests)) c
-      (sym (fault_append (head_tests known ws) later ∙ ap (option_or (first_fault (head_tests known ws))) (fault_append (order_tests before ws) (field_tests (fields known ws)))) ∙ refused_by c h)
+      ∙ or_front (first_fault (head_tests known ws)) (first_fault (order_tests before ws))
+      (first_fault (field_tests (fields known ws))) (first_fault (item_tests before tests)) c
+      (sym (fault_append (head_tests known ws) later
+      ∙ ap (option_or (first_fault (head_tests known ws)))
+      (fault_append (order_tests before ws) (field_tests (fields known ws)))) ∙ refused_by c h)
 
 -- what reads as nothing is skipped
 pub skip_only : (before : List Line) (ws : List Word) → next_read before ws ≡ Ok Item.Skip → is_skip ws ≡ true
@@ -209,17 +232,24 @@ skip_only before ws h = by_skip (is_skip ws) refl
 
 -- and what is skipped reads as nothing
 pub skips : (before : List Line) (ws : List Word) → is_skip ws ≡ true → next_read before ws ≡ Ok Item.Skip
-skips before ws e = ap (λ b. cond b (Ok Item.Skip) (unless (first_fault (head_tests (kind_known before) ws ++ (order_tests before ws ++ field_tests (fields (kind_known before) ws)))) (spelled (kind_known before) ws))) e
+skips before ws e =
+    ap (λ b. cond b (Ok Item.Skip)
+    (unless
+    (first_fault
+    (head_tests (kind_known before) ws ++ (order_tests before ws ++ field_tests (fields (kind_known before) ws))))
+    (spelled (kind_known before) ws))) e
 
 pub skip_faultless : (before : List Line) (ws : List Word) → is_skip ws ≡ true → fault_next before ws ≡ None
 skip_faultless before ws e = ap (λ b. cond b None (first_fault (line_tests before ws))) e
 
 -- an item is read of a line that is not skipped
-pub not_skipped : (before : List Line) (ws : List Word) (i : Line) → next_read before ws ≡ Ok i → (i ≡ Item.Skip → ⊥) → is_skip ws ≡ false
+pub not_skipped : (before : List Line) (ws : List Word) (i : Line) → next_read before ws ≡ Ok i → (i ≡ Item.Skip → ⊥)
+    → is_skip ws ≡ false
 not_skipped before ws i h n = by_skip (is_skip ws) refl
   where
     by_skip : (b : Bool) → is_skip ws ≡ b → is_skip ws ≡ false
-    by_skip true e = let same : Ok Item.Skip ≡ Ok i = sym (skips before ws e) ∙ h in absurd (n (let is : i ≡ Item.Skip = cc in is))
+    by_skip true e = let same : Ok Item.Skip ≡ Ok i = sym (skips before ws e) ∙ h in
+        absurd (n (let is : i ≡ Item.Skip = cc in is))
     by_skip false e = e
 
 module _ (before : List Line) (ws : List Word) (i : Line) (e : is_skip ws ≡ false) (f : Follows before ws e i) where
@@ -236,14 +266,16 @@ pub record IsNextItem (before : List Line) (ws : List Word) (i : Line) : Type 0 
   pub fault : fault_next before ws ≡ first_fault (item_tests before (Some i))
   pub adds : with_next before ws ≡ before ++ i ∷ []
 
-pub next_item : (before : List Line) (ws : List Word) (i : Line) → next_read before ws ≡ Ok i → (i ≡ Item.Skip → ⊥) → IsNextItem before ws i
+pub next_item : (before : List Line) (ws : List Word) (i : Line) → next_read before ws ≡ Ok i → (i ≡ Item.Skip → ⊥)
+    → IsNextItem before ws i
 next_item before ws i h n =
     let e = not_skipped before ws i h n in
     let f = follows_as before ws e i h in
     record { may = f.may; fault = same_fault before ws i e f; adds = adds_it before ws i e f }
 
 -- a fault up to the fields is the line's
-pub line_refused : (before : List Line) (ws : List Word) (c : Code) → next_read before ws ≡ Err c → fault_next before ws ≡ Some c
+pub line_refused : (before : List Line) (ws : List Word) (c : Code) → next_read before ws ≡ Err c
+    → fault_next before ws ≡ Some c
 line_refused before ws c h = by_skip (is_skip ws) refl
   where
     by_skip : (b : Bool) → is_skip ws ≡ b → fault_next before ws ≡ Some c

@@ -32,7 +32,8 @@ kind_told t items at = ap (option_map (λ (p : Problem). p.kind)) at.problem_is 
     kind_as (Some kind) = refl
 
 -- the problem of a draft of this kind
-pub problem_told : (t : TextSoFar) (items : List Line) (kind : Kind) → HasRead t items → draft_kind t.draft ≡ Some kind → problem_of items ≡ Some (problem_as t kind)
+pub problem_told : (t : TextSoFar) (items : List Line) (kind : Kind) → HasRead t items → draft_kind t.draft ≡ Some kind
+    → problem_of items ≡ Some (problem_as t kind)
 problem_told t items kind at is = at.problem_is ∙ ap (option_map (problem_as t)) is
 
 -- the number of lines is of no account for the items
@@ -46,7 +47,8 @@ with_lines t n items at = record {
   holds = at.holds;
 }
 
-pub no_problem : (i : Line) → ((kind : Kind) (nodes arcs : ℤ) → i ≡ Item.Graph kind nodes arcs → ⊥) → ((kind : Kind) (count : ℤ) → i ≡ Item.Aux kind count → ⊥) → problem_in i ≡ None
+pub no_problem : (i : Line) → ((kind : Kind) (nodes arcs : ℤ) → i ≡ Item.Graph kind nodes arcs → ⊥)
+    → ((kind : Kind) (count : ℤ) → i ≡ Item.Aux kind count → ⊥) → problem_in i ≡ None
 no_problem (Item.Graph kind nodes arcs) g a = absurd (g kind nodes arcs refl)
 no_problem (Item.Aux kind count) g a = absurd (a kind count refl)
 no_problem Item.Skip g a = refl
@@ -73,18 +75,27 @@ kind_of_item (Item.Source _) h s = (Kinds.Ss, refl)
 kind_of_item (Item.Query _ _) h s = (Kinds.P2p, refl)
 kind_of_item (Item.Point _ _ _) h s = (Kinds.Co, refl)
 
-pub comes_next : (t : TextSoFar) (before : List Line) (i : Line) → Awaits t before i → problem_in i ≡ None → ComesNext t.draft t.nodes before i
+pub comes_next : (t : TextSoFar) (before : List Line) (i : Line) → Awaits t before i → problem_in i ≡ None
+    → ComesNext t.draft t.nodes before i
 comes_next t before i a none =
     let k = kind_of_item i none a.may.spelled in
     let kind_is : draft_kind t.draft ≡ Some k.0 = sym (kind_told t before a.read) ∙ a.may.kind_is ∙ k.1 in
     record {
       problem = problem_as t k.0;
-      drafted = record { problem_is = problem_told t before k.0 a.read kind_is; kind_is = kind_is; nodes_are = refl; holds = a.read.holds };
+      drafted =
+          record {
+            problem_is = problem_told t before k.0 a.read kind_is;
+            kind_is = kind_is;
+            nodes_are = refl;
+            holds =
+                a.read.holds;
+          };
       of_kind = k.1;
       signs = a.may.signs;
     }
 
-pub problem_kept : (items : List Line) (i : Line) (p : Problem) → problem_of items ≡ Some p → problem_of (items ++ i ∷ []) ≡ Some p
+pub problem_kept : (items : List Line) (i : Line) (p : Problem) → problem_of items ≡ Some p
+    → problem_of (items ++ i ∷ []) ≡ Some p
 problem_kept items i p h = problem_push items i ∙ ap (λ o. option_or o (problem_in i)) h
 
 -- with an item that is counted, or is not
@@ -93,7 +104,8 @@ counted_yes [] i h = ap (λ b. length (cond b (i ∷ []) [])) h
 counted_yes (x ∷ rest) i h = by_test (is_counted x) (counted_yes rest i h)
   where
     by_test : (b : Bool) → length (filter is_counted (rest ++ i ∷ [])) ≡ suc (length (filter is_counted rest))
-        → length (cond b (x ∷ filter is_counted (rest ++ i ∷ [])) (filter is_counted (rest ++ i ∷ []))) ≡ suc (length (cond b (x ∷ filter is_counted rest) (filter is_counted rest)))
+        → length (cond b (x ∷ filter is_counted (rest ++ i ∷ [])) (filter is_counted (rest ++ i ∷ []))) ≡ suc
+        (length (cond b (x ∷ filter is_counted rest) (filter is_counted rest)))
     by_test true e = ap suc e
     by_test false e = e
 
@@ -102,7 +114,8 @@ counted_no [] i h = ap (λ b. length (cond b (i ∷ []) [])) h
 counted_no (x ∷ rest) i h = by_test (is_counted x) (counted_no rest i h)
   where
     by_test : (b : Bool) → length (filter is_counted (rest ++ i ∷ [])) ≡ length (filter is_counted rest)
-        → length (cond b (x ∷ filter is_counted (rest ++ i ∷ [])) (filter is_counted (rest ++ i ∷ []))) ≡ length (cond b (x ∷ filter is_counted rest) (filter is_counted rest))
+        → length (cond b (x ∷ filter is_counted (rest ++ i ∷ [])) (filter is_counted (rest ++ i ∷ []))) ≡ length
+        (cond b (x ∷ filter is_counted rest) (filter is_counted rest))
     by_test true e = ap suc e
     by_test false e = e
 
@@ -130,38 +143,52 @@ next_fits k m f h = fits_signed_from_abs w64 (pos (suc k)) (grind (arith, ints, 
 pub next_few : (k : ℕ) (m : ℤ) → m <ℤ pos (2 ^ 63) → int_lt (pos k) m ≡ true → suc k < 2 ^ 63
 next_few k m f h = grind (arith, ints, nat_tests)
 
-pub sum_is : (k : ℕ) (m : ℤ) → m <ℤ pos (2 ^ 63) → int_lt (pos k) m ≡ true → saturate_signed w64 (pos k +ℤ pos 1) ≡ pos (suc k)
+pub sum_is : (k : ℕ) (m : ℤ) → m <ℤ pos (2 ^ 63) → int_lt (pos k) m ≡ true
+    → saturate_signed w64 (pos k +ℤ pos 1) ≡ pos (suc k)
 sum_is k m f h =
     let small : (k + 1) ≤ 2 ^ 63 - 1 = grind (arith, ints, nat_tests) in
     let one_more : k + 1 ≡ suc k = grind (arith) in
     ap pos (min-eq_left small ∙ one_more)
 
 -- as many lines as declared are not read yet
-pub has_room : (t : TextSoFar) (items : List Line) (i : Line) (kind : Kind) → HasRead t items → draft_kind t.draft ≡ Some kind → HasRoom items i → is_counted i ≡ true → int_lt (pos (counted items)) t.count ≡ true
-has_room t items i kind at is room y = not_not _ (sym (ap (λ o. is_full o (counted items)) (problem_told t items kind at is)) ∙ room y)
+pub has_room : (t : TextSoFar) (items : List Line) (i : Line) (kind : Kind) → HasRead t items
+    → draft_kind t.draft ≡ Some kind → HasRoom items i → is_counted i ≡ true
+    → int_lt (pos (counted items)) t.count ≡ true
+has_room t items i kind at is room y =
+    not_not _ (sym (ap (λ o. is_full o (counted items)) (problem_told t items kind at is)) ∙ room y)
   where
     not_not : (b : Bool) → not b ≡ false → b ≡ true
     not_not true h = refl
     not_not false h = cc
 
 -- with one item more
-module _ (t : TextSoFar) (d : Draft) (items : List Line) (i : Line) (at : HasRead t items) (next : ComesNext t.draft t.nodes items i) (kept : draft_kind d ≡ draft_kind t.draft) where
-  arcs_then : (n : ℤ) (b : Bool) → is_counted i ≡ b → n ≡ pos (counted (items ++ i ∷ [])) → is_graph (draft_kind d) ≡ true → list_any is_arc (items ++ i ∷ []) ≡ int_lt (pos 0) n
+module _ (t : TextSoFar) (d : Draft) (items : List Line) (i : Line) (at : HasRead t items)
+    (next : ComesNext t.draft t.nodes items i) (kept : draft_kind d ≡ draft_kind t.draft) where
+  arcs_then : (n : ℤ) (b : Bool) → is_counted i ≡ b → n ≡ pos (counted (items ++ i ∷ []))
+      → is_graph (draft_kind d) ≡ true → list_any is_arc (items ++ i ∷ []) ≡ int_lt (pos 0) n
   arcs_then n b c e graph =
-      any_push items i ∙ ap (λ x. list_any is_arc items || x) (arc_counted i (ap is_graph (next.of_kind ∙ sym next.drafted.kind_is ∙ sym kept) ∙ graph) ∙ c) ∙ by_test b c
+      any_push items i ∙ ap (λ x. list_any is_arc items || x)
+      (arc_counted i (ap is_graph (next.of_kind ∙ sym next.drafted.kind_is ∙ sym kept) ∙ graph) ∙ c) ∙ by_test b c
     where
       above : (k : ℕ) → int_lt (pos 0) (pos (suc k)) ≡ true
       above k = grind (arith, ints, nat_tests)
 
       by_test : (b : Bool) → is_counted i ≡ b → (list_any is_arc items || b) ≡ int_lt (pos 0) n
-      by_test true c = or-true (list_any is_arc items) ∙ sym (ap (int_lt (pos 0)) (e ∙ ap pos (counted_yes items i c)) ∙ above (counted items))
-      by_test false c = or-false (list_any is_arc items) ∙ at.arcs_are (ap is_graph (sym kept) ∙ graph) ∙ ap (int_lt (pos 0)) (at.counted_is ∙ sym (e ∙ ap pos (counted_no items i c)))
+      by_test true c =
+          or-true (list_any is_arc items) ∙ sym
+          (ap (int_lt (pos 0)) (e ∙ ap pos (counted_yes items i c)) ∙ above (counted items))
+      by_test false c =
+          or-false (list_any is_arc items) ∙ at.arcs_are (ap is_graph (sym kept) ∙ graph)
+          ∙ ap (int_lt (pos 0)) (at.counted_is ∙ sym (e ∙ ap pos (counted_no items i c)))
 
-  pub is_then : (n : ℤ) → n ≡ pos (counted (items ++ i ∷ [])) → counted (items ++ i ∷ []) < 2 ^ 63 → DraftHolds d (items ++ i ∷ []) → HasRead (record t { counted = n; draft = d }) (items ++ i ∷ [])
+  pub is_then : (n : ℤ) → n ≡ pos (counted (items ++ i ∷ [])) → counted (items ++ i ∷ []) < 2 ^ 63
+      → DraftHolds d (items ++ i ∷ []) → HasRead (record t { counted = n; draft = d }) (items ++ i ∷ [])
   is_then n e few h =
       let kind = next.drafted.kind_is in
       record {
-        problem_is = problem_kept items i _ (problem_told t items _ at kind) ∙ sym (ap (option_map (problem_as t)) (kept ∙ kind));
+        problem_is =
+            problem_kept items i _ (problem_told t items _ at kind)
+            ∙ sym (ap (option_map (problem_as t)) (kept ∙ kind));
         count_fits = at.count_fits;
         counted_is = e;
         counted_few = few;
@@ -170,7 +197,8 @@ module _ (t : TextSoFar) (d : Draft) (items : List Line) (i : Line) (at : HasRea
       }
 
 -- a problem line is of no kind, it is no arc, and it is not counted
-heads : (i : Line) → IsSome (problem_in i) → (kind_before i ≡ None) × (list_any is_arc (i ∷ []) ≡ false) × (counted (i ∷ []) ≡ 0)
+heads : (i : Line) → IsSome (problem_in i) → (kind_before i ≡ None) × (list_any is_arc (i ∷ []) ≡ false)
+    × (counted (i ∷ []) ≡ 0)
 heads (Item.Graph k n c) s = (refl, refl, refl)
 heads (Item.Aux k c) s = (refl, refl, refl)
 heads Item.Skip s = cc
@@ -193,20 +221,26 @@ none_made (Drafts.Ss _) items e h = cc
 none_made (Drafts.P2p _) items e h = cc
 none_made (Drafts.Co _) items e h = cc
 
-pub none_before : (t : TextSoFar) (before : List Line) (i : Line) (p : Problem) → Awaits t before i → problem_in i ≡ Some p → before ≡ []
-none_before t before i p a is = none_made t.draft before (sym (kind_told t before a.read) ∙ a.may.kind_is ∙ (heads i (ap is_some is)).0) a.read.holds
+pub none_before : (t : TextSoFar) (before : List Line) (i : Line) (p : Problem) → Awaits t before i
+    → problem_in i ≡ Some p → before ≡ []
+none_before t before i p a is =
+    none_made t.draft before
+    (sym (kind_told t before a.read) ∙ a.may.kind_is ∙ (heads i (ap is_some is)).0) a.read.holds
 
 -- what has been read with the problem line
-pub begun : (t u : TextSoFar) (before : List Line) (i : Line) (p : Problem) → Awaits t before i → problem_in i ≡ Some p → draft_kind u.draft ≡ Some p.kind → p ≡ problem_as u p.kind → u.count <ℤ pos (2 ^ 63) → u.counted ≡ t.counted → DraftHolds u.draft []
+pub begun : (t u : TextSoFar) (before : List Line) (i : Line) (p : Problem) → Awaits t before i → problem_in i ≡ Some p
+    → draft_kind u.draft ≡ Some p.kind → p ≡ problem_as u p.kind → u.count <ℤ pos (2 ^ 63) → u.counted ≡ t.counted
+    → DraftHolds u.draft []
     → HasRead u (before ++ i ∷ [])
-begun t u before i p a is kind same_problem fits same holds = subst (λ items. HasRead u (items ++ i ∷ [])) (sym first) (record {
-  problem_is = ap (λ o. option_or o None) is ∙ ap Some same_problem ∙ sym (ap (option_map (problem_as u)) kind);
-  count_fits = fits;
-  counted_is = none ∙ sym (ap pos head.2);
-  counted_few = subst (λ n. n < 2 ^ 63) (sym head.2) (omega arith);
-  arcs_are = λ graph. head.1 ∙ sym (ap (int_lt (pos 0)) none);
-  holds = held_problem u.draft i (ap is_some is) (ap is_some kind) holds;
-})
+begun t u before i p a is kind same_problem fits same holds =
+    subst (λ items. HasRead u (items ++ i ∷ [])) (sym first) (record {
+      problem_is = ap (λ o. option_or o None) is ∙ ap Some same_problem ∙ sym (ap (option_map (problem_as u)) kind);
+      count_fits = fits;
+      counted_is = none ∙ sym (ap pos head.2);
+      counted_few = subst (λ n. n < 2 ^ 63) (sym head.2) (omega arith);
+      arcs_are = λ graph. head.1 ∙ sym (ap (int_lt (pos 0)) none);
+      holds = held_problem u.draft i (ap is_some is) (ap is_some kind) holds;
+    })
   where
     first : before ≡ []
     first = none_before t before i p a is

@@ -19,25 +19,40 @@ use Rattle.dn_instance.specs.TextFaults.{order_tests}
 use Rattle.dn_instance.specs.State.TextsSoFar.{next_read}
 
 -- a line that is not skipped has the head that it names, where the checks find no fault
-pub head_told : (known : Option Kind) (ws : List Word) (head : Head) → is_skip ws ≡ false → head_read known ws ≡ Ok head → (first_fault (head_tests known ws) ≡ None) × (head ≡ head_of (first ws) (kind_named ws))
-head_told known ws head e h = by_fault (first_fault (head_tests known ws)) refl (sym (ap (λ b. cond b (Ok Heads.Skip) (unless (first_fault (head_tests known ws)) (head_of (first ws) (kind_named ws)))) e) ∙ h)
+pub head_told : (known : Option Kind) (ws : List Word) (head : Head) → is_skip ws ≡ false → head_read known ws ≡ Ok head
+    → (first_fault (head_tests known ws) ≡ None) × (head ≡ head_of (first ws) (kind_named ws))
+head_told known ws head e h =
+    by_fault (first_fault (head_tests known ws)) refl
+    (sym (ap
+    (λ b. cond b (Ok Heads.Skip) (unless (first_fault (head_tests known ws)) (head_of (first ws) (kind_named ws)))) e)
+    ∙ h)
   where
-    by_fault : (f : Option Code) → first_fault (head_tests known ws) ≡ f → unless f (head_of (first ws) (kind_named ws)) ≡ Ok head → (first_fault (head_tests known ws) ≡ None) × (head ≡ head_of (first ws) (kind_named ws))
+    by_fault : (f : Option Code) → first_fault (head_tests known ws) ≡ f
+        → unless f (head_of (first ws) (kind_named ws)) ≡ Ok head → (first_fault (head_tests known ws) ≡ None)
+        × (head ≡ head_of (first ws) (kind_named ws))
     by_fault None f g = (f, (let same : head_of (first ws) (kind_named ws) ≡ head = cc in sym same))
     by_fault (Some c) f g = cc
 
-pub head_skips : (known : Option Kind) (ws : List Word) (head : Head) → is_skip ws ≡ true → head_read known ws ≡ Ok head → head ≡ Heads.Skip
-head_skips known ws head e h = let same : Ok Heads.Skip ≡ Ok head = sym (ap (λ b. cond b (Ok Heads.Skip) (unless (first_fault (head_tests known ws)) (head_of (first ws) (kind_named ws)))) e) ∙ h in cc
+pub head_skips : (known : Option Kind) (ws : List Word) (head : Head) → is_skip ws ≡ true → head_read known ws ≡ Ok head
+    → head ≡ Heads.Skip
+head_skips known ws head e h = let same : Ok Heads.Skip ≡ Ok head =
+    sym (ap
+    (λ b. cond b (Ok Heads.Skip) (unless (first_fault (head_tests known ws)) (head_of (first ws) (kind_named ws)))) e)
+    ∙ h in cc
 
 -- a fault of a head by the lines before, where the line is not skipped
-pub order_told : (known : Option Kind) (before : List Line) (ws : List Word) (head : Head) (fault : Option Code) → head_read known ws ≡ Ok head
-    → (first_fault (head_tests known ws) ≡ None → head ≡ head_of (first ws) (kind_named ws) → fault ≡ first_fault (order_tests before ws)) → (head ≡ Heads.Skip → fault ≡ None)
+pub order_told : (known : Option Kind) (before : List Line) (ws : List Word) (head : Head) (fault : Option Code)
+    → head_read known ws ≡ Ok head
+    → (first_fault (head_tests known ws) ≡ None → head ≡ head_of (first ws) (kind_named ws)
+    → fault ≡ first_fault (order_tests before ws)) → (head ≡ Heads.Skip → fault ≡ None)
     → fault ≡ cond (is_skip ws) None (first_fault (order_tests before ws))
 order_told known before ws head fault h answer skip = by_skip (is_skip ws) refl
   where
     by_skip : (b : Bool) → is_skip ws ≡ b → fault ≡ cond (is_skip ws) None (first_fault (order_tests before ws))
-    by_skip true e = skip (head_skips known ws head e h) ∙ sym (ap (λ b. cond b None (first_fault (order_tests before ws))) e)
-    by_skip false e = let told = head_told known ws head e h in answer told.0 told.1 ∙ sym (ap (λ b. cond b None (first_fault (order_tests before ws))) e)
+    by_skip true e =
+        skip (head_skips known ws head e h) ∙ sym (ap (λ b. cond b None (first_fault (order_tests before ws))) e)
+    by_skip false e = let told = head_told known ws head e h in
+        answer told.0 told.1 ∙ sym (ap (λ b. cond b None (first_fault (order_tests before ws))) e)
 
 module _ (before : List Line) (ws : List Word) where
   abbrev known : Option Kind
@@ -49,10 +64,15 @@ module _ (before : List Line) (ws : List Word) where
   abbrev read_by : Option Code → Option Code → Option Code → Result Line Code
   read_by head order field = unless (option_or head (option_or order field)) (spelled known ws)
 
-  parted : is_skip ws ≡ false → next_read before ws ≡ read_by (first_fault (head_tests known ws)) (first_fault (order_tests before ws)) (first_fault (field_tests (fields known ws)))
+  parted : is_skip ws ≡ false
+      → next_read before ws ≡ read_by (first_fault (head_tests known ws)) (first_fault (order_tests before ws))
+      (first_fault (field_tests (fields known ws)))
   parted e =
       ap (λ b. cond b (Ok Skip) (unless (first_fault (head_tests known ws ++ later)) (spelled known ws))) e
-      ∙ ap (λ f. unless f (spelled known ws)) (fault_append (head_tests known ws) later ∙ ap (option_or (first_fault (head_tests known ws))) (fault_append (order_tests before ws) (field_tests (fields known ws))))
+      ∙ ap (λ f. unless f (spelled known ws))
+      (fault_append (head_tests known ws) later
+      ∙ ap (option_or (first_fault (head_tests known ws)))
+      (fault_append (order_tests before ws) (field_tests (fields known ws))))
 
   skipped_next : is_skip ws ≡ true → next_read before ws ≡ Ok Skip
   skipped_next e = ap (λ b. cond b (Ok Skip) (unless (first_fault (head_tests known ws ++ later)) (spelled known ws))) e
@@ -66,30 +86,47 @@ module _ (before : List Line) (ws : List Word) where
       by_fault (Some d) g = let same : d ≡ c = cc in ap Some same
 
       by_skip : (b : Bool) → is_skip ws ≡ b → next_read before ws ≡ Err c
-      by_skip true e = let never : Ok Heads.Skip ≡ Err c = sym (ap (λ b. cond b (Ok Heads.Skip) (unless (first_fault (head_tests known ws)) (head_of (first ws) (kind_named ws)))) e) ∙ h in cc
+      by_skip true e = let never : Ok Heads.Skip ≡ Err c =
+          sym (ap
+          (λ b. cond b (Ok Heads.Skip)
+          (unless (first_fault (head_tests known ws)) (head_of (first ws) (kind_named ws)))) e) ∙ h in cc
       by_skip false e =
-          let f = by_fault (first_fault (head_tests known ws)) (sym (ap (λ b. cond b (Ok Heads.Skip) (unless (first_fault (head_tests known ws)) (head_of (first ws) (kind_named ws)))) e) ∙ h) in
-          parted e ∙ ap (λ x. read_by x (first_fault (order_tests before ws)) (first_fault (field_tests (fields known ws)))) f
+          let f =
+          by_fault (first_fault (head_tests known ws))
+          (sym (ap
+          (λ b. cond b (Ok Heads.Skip)
+          (unless (first_fault (head_tests known ws)) (head_of (first ws) (kind_named ws)))) e) ∙ h) in
+          parted e ∙ ap
+          (λ x. read_by x (first_fault (order_tests before ws)) (first_fault (field_tests (fields known ws)))) f
 
   -- a fault by the lines before
-  pub order_refused : (head : Head) (c : Code) → head_read known ws ≡ Ok head → cond (is_skip ws) None (first_fault (order_tests before ws)) ≡ Some c → next_read before ws ≡ Err c
+  pub order_refused : (head : Head) (c : Code) → head_read known ws ≡ Ok head
+      → cond (is_skip ws) None (first_fault (order_tests before ws)) ≡ Some c → next_read before ws ≡ Err c
   order_refused head c h o = by_skip (is_skip ws) refl
     where
       by_skip : (b : Bool) → is_skip ws ≡ b → next_read before ws ≡ Err c
-      by_skip true e = let never : None ≡ Some c = sym (ap (λ b. cond b None (first_fault (order_tests before ws))) e) ∙ o in cc
+      by_skip true e = let never : None ≡ Some c =
+          sym (ap (λ b. cond b None (first_fault (order_tests before ws))) e) ∙ o in cc
       by_skip false e =
           parted e
-          ∙ ap (λ x. read_by x (first_fault (order_tests before ws)) (first_fault (field_tests (fields known ws)))) (head_told known ws head e h).0
-          ∙ ap (λ x. read_by None x (first_fault (field_tests (fields known ws)))) (sym (ap (λ b. cond b None (first_fault (order_tests before ws))) e) ∙ o)
+          ∙ ap (λ x. read_by x (first_fault (order_tests before ws)) (first_fault (field_tests (fields known ws))))
+          (head_told known ws head e h).0
+          ∙ ap (λ x. read_by None x (first_fault (field_tests (fields known ws))))
+          (sym (ap (λ b. cond b None (first_fault (order_tests before ws))) e) ∙ o)
 
   -- no fault so far
-  pub then_fields : (head : Head) → head_read known ws ≡ Ok head → cond (is_skip ws) None (first_fault (order_tests before ws)) ≡ None → fields_read known ws ≡ next_read before ws
+  pub then_fields : (head : Head) → head_read known ws ≡ Ok head
+      → cond (is_skip ws) None (first_fault (order_tests before ws)) ≡ None → fields_read known ws ≡ next_read before ws
   then_fields head h o = by_skip (is_skip ws) refl
     where
       by_skip : (b : Bool) → is_skip ws ≡ b → fields_read known ws ≡ next_read before ws
-      by_skip true e = ap (λ b. cond b (Ok Skip) (unless (first_fault (field_tests (fields known ws))) (spelled known ws))) e ∙ sym (skipped_next e)
+      by_skip true e =
+          ap (λ b. cond b (Ok Skip) (unless (first_fault (field_tests (fields known ws))) (spelled known ws))) e
+          ∙ sym (skipped_next e)
       by_skip false e =
           ap (λ b. cond b (Ok Skip) (unless (first_fault (field_tests (fields known ws))) (spelled known ws))) e
           ∙ sym (parted e
-          ∙ ap (λ x. read_by x (first_fault (order_tests before ws)) (first_fault (field_tests (fields known ws)))) (head_told known ws head e h).0
-          ∙ ap (λ x. read_by None x (first_fault (field_tests (fields known ws)))) (sym (ap (λ b. cond b None (first_fault (order_tests before ws))) e) ∙ o))
+          ∙ ap (λ x. read_by x (first_fault (order_tests before ws)) (first_fault (field_tests (fields known ws))))
+          (head_told known ws head e h).0
+          ∙ ap (λ x. read_by None x (first_fault (field_tests (fields known ws))))
+          (sym (ap (λ b. cond b None (first_fault (order_tests before ws))) e) ∙ o))

@@ -14,25 +14,35 @@ use Rattle.dn_instance.specs.State.ReaderStates.{open_of}
 use Rattle.dn_instance.specs.State.TextsSoFar.{AreInner, closed_lines}
 
 -- the line that a piece's LF ends comes after those before it
-closes : (p : Parts) (ls : List (List ℕ)) (o : List ℕ) → p ≡ (ls ++ o ∷ [], []) → p.0 ≡ ls ++ (last_of p.0 p.1).bytes ∷ []
+closes : (p : Parts) (ls : List (List ℕ)) (o : List ℕ) → p ≡ (ls ++ o ∷ [], [])
+    → p.0 ≡ ls ++ (last_of p.0 p.1).bytes ∷ []
 closes p ls o e =
     ap (λ (q : Parts). q.0) e
-    ∙ ap (λ l. ls ++ l ∷ []) (sym (ap (λ (q : Parts). (last_of q.0 q.1).bytes) e ∙ ap (λ (l : LineSoFar). l.bytes) (ended_push ls o)))
+    ∙ ap (λ l. ls ++ l ∷ [])
+    (sym (ap (λ (q : Parts). (last_of q.0 q.1).bytes) e ∙ ap (λ (l : LineSoFar). l.bytes) (ended_push ls o)))
 
 -- what a piece's LF ends
-pub ends_at : (t piece : List ℕ) → has_end piece ≡ true → parts is_line_feed (t ++ take (used_of piece) piece) ≡ (ended t ++ (open_of t ++ before_first is_line_feed piece) ∷ [], [])
+pub ends_at : (t piece : List ℕ) → has_end piece ≡ true
+    → parts is_line_feed (t ++ take (used_of piece) piece) ≡
+    (ended t ++ (open_of t ++ before_first is_line_feed piece) ∷ [], [])
 ends_at t piece e = by_end (has_end piece) e
   where
     end : ℕ
     end = position_or_len is_line_feed piece
 
-    by_end : (x : Bool) → x ≡ true → parts is_line_feed (t ++ take (end + cond x 1 0) piece) ≡ (ended t ++ (open_of t ++ before_first is_line_feed piece) ∷ [], [])
+    by_end : (x : Bool) → x ≡ true
+        → parts is_line_feed (t ++ take (end + cond x 1 0) piece) ≡
+        (ended t ++ (open_of t ++ before_first is_line_feed piece) ∷ [], [])
     by_end true f =
-        parts_end is_line_feed t piece end refl (ltb-true _ _ e) ∙ ap (λ (q : Parts). let r : Parts = (q.0 ++ q.1 ∷ [], []) in r) (parts_run is_line_feed t piece)
+        parts_end is_line_feed t piece end refl (ltb-true _ _ e)
+        ∙ ap (λ (q : Parts). let r : Parts = (q.0 ++ q.1 ∷ [], []) in r) (parts_run is_line_feed t piece)
     by_end false f = cc
 
-pub ended_then : (t piece : List ℕ) → has_end piece ≡ true → ended (t ++ take (used_of piece) piece) ≡ ended t ++ (line_of (t ++ take (used_of piece) piece)).bytes ∷ []
-ended_then t piece e = closes (parts is_line_feed (t ++ take (used_of piece) piece)) (ended t) (open_of t ++ before_first is_line_feed piece) (ends_at t piece e)
+pub ended_then : (t piece : List ℕ) → has_end piece ≡ true
+    → ended (t ++ take (used_of piece) piece) ≡ ended t ++ (line_of (t ++ take (used_of piece) piece)).bytes ∷ []
+ended_then t piece e =
+    closes (parts is_line_feed (t ++ take (used_of piece) piece)) (ended t)
+    (open_of t ++ before_first is_line_feed piece) (ends_at t piece e)
 
 pub goes_on : (t piece : List ℕ) → has_end piece ≡ false → ended (t ++ take (used_of piece) piece) ≡ ended t
 goes_on t piece e = by_end (has_end piece) e
@@ -45,7 +55,8 @@ goes_on t piece e = by_end (has_end piece) e
 
     by_end : (x : Bool) → x ≡ false → ended (t ++ take (end + cond x 1 0) piece) ≡ ended t
     by_end true f = cc
-    by_end false f = ap (λ n. ended (t ++ take n piece)) (plus_zero end) ∙ ap (λ (q : Parts). q.0) (parts_run is_line_feed t piece)
+    by_end false f =
+        ap (λ n. ended (t ++ take n piece)) (plus_zero end) ∙ ap (λ (q : Parts). q.0) (parts_run is_line_feed t piece)
 
 -- the lines of more text begin with those of the text
 pub record More (ls ms : List (List ℕ)) : Type 0 where
@@ -55,7 +66,9 @@ pub record More (ls ms : List (List ℕ)) : Type 0 where
 one_byte : (t : List ℕ) (b : ℕ) → More (ended t) (ended (t ++ b ∷ []))
 one_byte t b = by_test (is_line_feed b) (parts_push is_line_feed t b)
   where
-    by_test : (x : Bool) → parts is_line_feed (t ++ b ∷ []) ≡ cond x ((parts is_line_feed t).0 ++ (parts is_line_feed t).1 ∷ [], []) ((parts is_line_feed t).0, (parts is_line_feed t).1 ++ b ∷ []) → More (ended t) (ended (t ++ b ∷ []))
+    by_test : (x : Bool)
+        → parts is_line_feed (t ++ b ∷ []) ≡ cond x ((parts is_line_feed t).0 ++ (parts is_line_feed t).1 ∷ [], [])
+        ((parts is_line_feed t).0, (parts is_line_feed t).1 ++ b ∷ []) → More (ended t) (ended (t ++ b ∷ []))
     by_test true p = record { rest = (parts is_line_feed t).1 ∷ []; whole = ap (λ (q : Parts). q.0) p }
     by_test false p = record { rest = []; whole = ap (λ (q : Parts). q.0) p ∙ sym (append-nil (ended t)) }
 
@@ -66,11 +79,14 @@ ended_more t (b ∷ u) =
     let more = ended_more (t ++ b ∷ []) u in
     record {
       rest = one.rest ++ more.rest;
-      whole = ap ended (sym (append_assoc t (b ∷ []) u)) ∙ more.whole ∙ ap (λ l. l ++ more.rest) one.whole ∙ append_assoc (ended t) one.rest more.rest;
+      whole =
+          ap ended (sym (append_assoc t (b ∷ []) u)) ∙ more.whole ∙ ap (λ l. l ++ more.rest) one.whole
+          ∙ append_assoc (ended t) one.rest more.rest;
     }
 
 -- whether the last line lacks its LF, by the line that the reader has
-pending_at : (x : Bool) (bytes o : List ℕ) → cond x [] bytes ≡ o → true ≡ (not x && has_bytes bytes) → if_any o ≡ bytes ∷ []
+pending_at : (x : Bool) (bytes o : List ℕ) → cond x [] bytes ≡ o → true ≡ (not x && has_bytes bytes)
+    → if_any o ≡ bytes ∷ []
 pending_at true bytes o e h = cc
 pending_at false [] o e h = cc
 pending_at false (b ∷ bs) o e h = ap if_any (sym e)
@@ -80,32 +96,41 @@ none_at true bytes o e h = sym e
 none_at false [] o e h = sym e
 none_at false (b ∷ bs) o e h = cc
 
-pub with_last : (t : List ℕ) (l : LineSoFar) → cond l.ended [] l.bytes ≡ open_of t → true ≡ (not l.ended && has_bytes l.bytes) → lines t ≡ ended t ++ l.bytes ∷ []
+pub with_last : (t : List ℕ) (l : LineSoFar) → cond l.ended [] l.bytes ≡ open_of t
+    → true ≡ (not l.ended && has_bytes l.bytes) → lines t ≡ ended t ++ l.bytes ∷ []
 with_last t l e h = ap (λ x. ended t ++ x) (pending_at l.ended l.bytes (open_of t) e h)
 
-pub none_open : (t : List ℕ) (l : LineSoFar) → cond l.ended [] l.bytes ≡ open_of t → false ≡ (not l.ended && has_bytes l.bytes) → open_of t ≡ []
+pub none_open : (t : List ℕ) (l : LineSoFar) → cond l.ended [] l.bytes ≡ open_of t
+    → false ≡ (not l.ended && has_bytes l.bytes) → open_of t ≡ []
 none_open t l e h = none_at l.ended l.bytes (open_of t) e h
 
 pub without_last : (t : List ℕ) → open_of t ≡ [] → lines t ≡ ended t
 without_last t e = ap (λ o. ended t ++ if_any o) e ∙ append-nil (ended t)
 
 -- a line of a piece after a text whose last line has ended
-pub line_more : (t piece line rest : List ℕ) → open_of t ≡ [] → line ++ 10 ∷ rest ≡ piece → list_all is_inner line ≡ true
+pub line_more : (t piece line rest : List ℕ) → open_of t ≡ [] → line ++ 10 ∷ rest ≡ piece
+    → list_all is_inner line ≡ true
     → parts is_line_feed (t ++ take (used_of piece) piece) ≡ (ended t ++ line ∷ [], [])
 line_more t piece line rest o e h =
     ends_at t piece (ap has_end (sym e) ∙ line_ends line rest h)
-    ∙ ap (λ (x : List ℕ). let p : Parts = (ended t ++ x ∷ [], []) in p) (ap (λ x. x ++ before_first is_line_feed piece) o ∙ ap (before_first is_line_feed) (sym e) ∙ line_before line rest h)
+    ∙ ap (λ (x : List ℕ). let p : Parts = (ended t ++ x ∷ [], []) in p)
+    (ap (λ x. x ++ before_first is_line_feed piece) o ∙ ap (before_first is_line_feed) (sym e)
+    ∙ line_before line rest h)
 
 -- lines with their LFs after such a text
-pub closed_more : (t : List ℕ) (more : List (List ℕ)) → open_of t ≡ [] → AreInner more → parts is_line_feed (t ++ closed_lines more) ≡ (ended t ++ more, [])
+pub closed_more : (t : List ℕ) (more : List (List ℕ)) → open_of t ≡ [] → AreInner more
+    → parts is_line_feed (t ++ closed_lines more) ≡ (ended t ++ more, [])
 closed_more t [] o h =
     ap (parts is_line_feed) (append-nil t)
     ∙ ap (λ (x : List ℕ). let p : Parts = (ended t, x) in p) o
     ∙ ap (λ (x : List (List ℕ)). let p : Parts = (x, []) in p) (sym (append-nil (ended t)))
 closed_more t (l ∷ more) o h =
     let piece : List ℕ = l ++ 10 ∷ [] in
-    let all : take (used_of piece) piece ≡ piece = take_all (used_of piece) piece (let u = line_used l [] h.0 in let n = length-append l (10 ∷ []) in omega arith) in
-    let one : parts is_line_feed (t ++ piece) ≡ (ended t ++ l ∷ [], []) = ap (λ x. parts is_line_feed (t ++ x)) (sym all) ∙ line_more t piece l [] o refl h.0 in
+    let all : take (used_of piece) piece ≡ piece =
+    take_all (used_of piece) piece
+    (let u = line_used l [] h.0 in let n = length-append l (10 ∷ []) in omega arith) in
+    let one : parts is_line_feed (t ++ piece) ≡ (ended t ++ l ∷ [], []) =
+    ap (λ x. parts is_line_feed (t ++ x)) (sym all) ∙ line_more t piece l [] o refl h.0 in
     ap (parts is_line_feed) (sym (append_assoc t piece (closed_lines more)))
     ∙ closed_more (t ++ piece) more (ap (λ (p : Parts). p.1) one) h.1
     ∙ ap (λ (x : List (List ℕ)). let p : Parts = (x ++ more, []) in p) (ap (λ (p : Parts). p.0) one)
@@ -118,7 +143,8 @@ place_bound : (piece : List ℕ) → position_or_len is_line_feed piece ≤ leng
 place_bound [] = omega arith
 place_bound (b ∷ bs) = by_test (is_line_feed b) (place_bound bs)
   where
-    by_test : (x : Bool) → position_or_len is_line_feed bs ≤ length bs → cond (not x) (1 + position_or_len is_line_feed bs) 0 ≤ suc (length bs)
+    by_test : (x : Bool) → position_or_len is_line_feed bs ≤ length bs
+        → cond (not x) (1 + position_or_len is_line_feed bs) 0 ≤ suc (length bs)
     by_test true h = omega arith
     by_test false h = omega arith
 
@@ -134,7 +160,9 @@ rest_len p i = ap length (rest_is p i) ∙ length-drop i p
 
 -- a piece, part by part
 pub step_on : (t p : List ℕ) (i n : ℕ) → (t ++ take i p) ++ take n (rest_of p i) ≡ t ++ take (i + n) p
-step_on t p i n = ap (λ l. (t ++ take i p) ++ take n l) (rest_is p i) ∙ append_assoc t (take i p) (take n (drop i p)) ∙ ap (λ l. t ++ l) (sym (take-add i n p))
+step_on t p i n =
+    ap (λ l. (t ++ take i p) ++ take n l) (rest_is p i) ∙ append_assoc t (take i p) (take n (drop i p))
+    ∙ ap (λ l. t ++ l) (sym (take-add i n p))
 
 pub whole_of : (t p : List ℕ) (j : ℕ) → t ++ p ≡ (t ++ take j p) ++ drop j p
 whole_of t p j = ap (λ l. t ++ l) (sym (take-append-drop j p)) ∙ sym (append_assoc t (take j p) (drop j p))

@@ -30,22 +30,38 @@ use Rattle.dn_instance.specs.declared.held.Held.{Held}
 use Rattle.dn_instance.specs.declared.text_so_far.TextSoFar.{TextSoFar}
 
 -- the fault of a line after clean lines is the first
-fault_first : (ls : List (List ℕ)) (l : List ℕ) (number : ℕ) (code : Code) → IsClean ls → number ≡ length ls + 1 → line_fault (length ls + 1) (items_of ls) (said_words l) ≡ Some code → IsFirstFaultAt (ls ++ l ∷ []) number code
+fault_first : (ls : List (List ℕ)) (l : List ℕ) (number : ℕ) (code : Code) → IsClean ls → number ≡ length ls + 1
+    → line_fault (length ls + 1) (items_of ls) (said_words l) ≡ Some code → IsFirstFaultAt (ls ++ l ∷ []) number code
 fault_first ls l number code clean n f = record {
-  at = record { before = ls; line = l; after = []; lines_are = refl; number_is = n; fault_is = subst (λ k. line_fault k (items_of ls) (said_words l) ≡ Some code) (sym n) f };
+  at = record {
+    before = ls;
+    line = l;
+    after = [];
+    lines_are = refl;
+    number_is = n;
+    fault_is =
+        subst (λ k. line_fault k (items_of ls) (said_words l) ≡ Some code) (sym n) f;
+  };
   first = λ other fault g. by_split other fault g (split ls g.before g.after l g.line g.lines_are);
 }
   where
-    by_split : (other : ℕ) (fault : Code) (g : FaultAt (ls ++ l ∷ []) other fault) → ((g.before ≡ ls) × (g.line ≡ l)) ⊎ ((a : List (List ℕ)) × (ls ≡ g.before ++ g.line ∷ a)) → number ≤ other
+    by_split : (other : ℕ) (fault : Code) (g : FaultAt (ls ++ l ∷ []) other fault)
+        → ((g.before ≡ ls) × (g.line ≡ l)) ⊎ ((a : List (List ℕ)) × (ls ≡ g.before ++ g.line ∷ a)) → number ≤ other
     by_split other fault g (inl (b, m)) = let k = ap length b in let o = g.number_is in omega arith
-    by_split other fault g (inr (a, e)) = absurd (clean other fault (record { before = g.before; line = g.line; after = a; lines_are = e; number_is = g.number_is; fault_is = g.fault_is }))
+    by_split other fault g (inr (a, e)) =
+        absurd
+        (clean other fault
+        (record
+        { before = g.before; line = g.line; after = a; lines_are = e; number_is = g.number_is; fault_is = g.fault_is }))
 
 all_of : (ls : List (List ℕ)) (l : List ℕ) → take (length ls + 1) (ls ++ l ∷ []) ≡ ls ++ l ∷ []
 all_of ls l = take_all (length ls + 1) (ls ++ l ∷ []) (let n = length-append ls (l ∷ []) in omega arith)
 
 -- the next line is refused
-pub refused_next : (ls : List (List ℕ)) (l : List ℕ) (number : ℕ) (fault : ItemFault) → IsClean ls → number ≡ length ls + 1 → AnswersFault (Err fault) (line_fault (length ls + 1) (items_of ls) (said_words l))
-    → (fault ≡ Faults.Memory → is_skip (said_words l) ≡ false) → IsRefused (length ls) (ls ++ l ∷ []) (refused_at number fault)
+pub refused_next : (ls : List (List ℕ)) (l : List ℕ) (number : ℕ) (fault : ItemFault) → IsClean ls
+    → number ≡ length ls + 1 → AnswersFault (Err fault) (line_fault (length ls + 1) (items_of ls) (said_words l))
+    → (fault ≡ Faults.Memory → is_skip (said_words l) ≡ false)
+    → IsRefused (length ls) (ls ++ l ∷ []) (refused_at number fault)
 refused_next ls l number (Faults.Text code) clean n h item = fault_first ls l number code clean n h
 refused_next ls l number Faults.Memory clean n h item = record {
   earlier = ls;
@@ -58,8 +74,10 @@ refused_next ls l number Faults.Memory clean n h item = record {
 }
 
 -- a refusal stays, whatever lines come
-pub refused_on : (before earlier : ℕ) (ls ms : List (List ℕ)) (e : Refusal) → earlier ≤ before → More ls ms → IsRefused before ls e → IsRefused earlier ms e
-refused_on before earlier ls ms (Text (Places.Line number) code) b m f = subst (λ x. IsFirstFaultAt x number code) (sym m.whole) (first_on ls m.rest number code f)
+pub refused_on : (before earlier : ℕ) (ls ms : List (List ℕ)) (e : Refusal) → earlier ≤ before → More ls ms
+    → IsRefused before ls e → IsRefused earlier ms e
+refused_on before earlier ls ms (Text (Places.Line number) code) b m f =
+    subst (λ x. IsFirstFaultAt x number code) (sym m.whole) (first_on ls m.rest number code f)
 refused_on before earlier ls ms (Text Places.End code) b m f = absurd f
 refused_on before earlier ls ms Memory b m w = record {
   earlier = w.earlier;
@@ -84,14 +102,19 @@ pub reading : (r : Reader) (t : List ℕ) → r.refusal ≡ None → ReaderAt r 
 reading r t e h = subst (λ o. MatchOption o (IsReading r t) (λ x. IsRefused 0 (ended t) x × StopsIn r (ended t) x)) e h
 
 pub stands : (r : Reader) (t : List ℕ) → r.refusal ≡ None → IsReading r t → ReaderAt r t
-stands r t e h = subst (λ o. MatchOption o (IsReading r t) (λ x. IsRefused 0 (ended t) x × StopsIn r (ended t) x)) (sym e) h
+stands r t e h =
+    subst (λ o. MatchOption o (IsReading r t) (λ x. IsRefused 0 (ended t) x × StopsIn r (ended t) x)) (sym e) h
 
 -- and one with this
-pub refused : (r : Reader) (t : List ℕ) (x : Refusal) → r.refusal ≡ Some x → ReaderAt r t → IsRefused 0 (ended t) x × StopsIn r (ended t) x
-refused r t x e h = subst (λ o. MatchOption o (IsReading r t) (λ y. IsRefused 0 (ended t) y × StopsIn r (ended t) y)) e h
+pub refused : (r : Reader) (t : List ℕ) (x : Refusal) → r.refusal ≡ Some x → ReaderAt r t → IsRefused 0 (ended t) x
+    × StopsIn r (ended t) x
+refused r t x e h =
+    subst (λ o. MatchOption o (IsReading r t) (λ y. IsRefused 0 (ended t) y × StopsIn r (ended t) y)) e h
 
-pub refuses : (r : Reader) (t : List ℕ) (x : Refusal) → r.refusal ≡ Some x → IsRefused 0 (ended t) x × StopsIn r (ended t) x → ReaderAt r t
-refuses r t x e h = subst (λ o. MatchOption o (IsReading r t) (λ y. IsRefused 0 (ended t) y × StopsIn r (ended t) y)) (sym e) h
+pub refuses : (r : Reader) (t : List ℕ) (x : Refusal) → r.refusal ≡ Some x → IsRefused 0 (ended t) x
+    × StopsIn r (ended t) x → ReaderAt r t
+refuses r t x e h =
+    subst (λ o. MatchOption o (IsReading r t) (λ y. IsRefused 0 (ended t) y × StopsIn r (ended t) y)) (sym e) h
 
 -- what is answered of the text so far
 pub fed : (r : Reader) (t : List ℕ) → ReaderAt r t → Fed t (answer_of r.refusal)
@@ -102,7 +125,8 @@ fed r t h = by_refusal r.refusal refl
     by_refusal (Some x) e = (refused r t x e h).0
 
 -- a last line without LF
-pub takes_last : (r : Reader) (t bytes : List ℕ) (x : Result (Unit {0}) Refusal) → lines t ≡ ended t ++ bytes ∷ [] → Takes r (ended t) bytes x → TakesAll r t x
+pub takes_last : (r : Reader) (t bytes : List ℕ) (x : Result (Unit {0}) Refusal) → lines t ≡ ended t ++ bytes ∷ []
+    → Takes r (ended t) bytes x → TakesAll r t x
 takes_last r t bytes (Ok x) e h = subst (TextAt r.text) (sym e) h
 takes_last r t bytes (Err x) e h = subst (λ ls. IsRefused (length (ended t)) ls x) (sym e) h.1
 
@@ -111,7 +135,8 @@ next_on taken ls ms (Text (Places.Line number) code) m n = n
 next_on taken ls ms (Text Places.End code) m n = n
 next_on taken ls ms Memory m n = (
   (let k = ap length m.whole in let h = length-append ls m.rest in let q = n.0 in omega arith),
-  subst IsClean (sym (ap (take (taken + 1)) m.whole ∙ take-append-le (taken + 1) ls m.rest (let q = n.0 in omega arith))) n.1,
+  subst IsClean
+      (sym (ap (take (taken + 1)) m.whole ∙ take-append-le (taken + 1) ls m.rest (let q = n.0 in omega arith))) n.1,
 )
 next_on taken ls ms Read m n = n
 next_on taken ls ms Endless m n = n
@@ -120,31 +145,51 @@ next_on taken ls ms CountTooLarge m n = n
 
 -- those before the refused one are read, whatever lines come
 pub stops_on : (r : Reader) (ls ms : List (List ℕ)) (e : Refusal) → More ls ms → StopsIn r ls e → StopsIn r ms e
-stops_on r ls ms e m s = record { before = s.before; rest = s.rest ++ m.rest; whole = m.whole ∙ ap (λ l. l ++ m.rest) s.whole ∙ append_assoc s.before s.rest m.rest; read = s.read; next = next_on (length s.before) ls ms e m s.next }
+stops_on r ls ms e m s =
+    record {
+      before = s.before;
+      rest = s.rest ++ m.rest;
+      whole =
+          m.whole ∙ ap (λ l. l ++ m.rest) s.whole ∙ append_assoc s.before s.rest m.rest;
+      read = s.read;
+      next =
+          next_on (length s.before) ls ms e m s.next;
+    }
 
 pub still_refused : (r : Reader) (t u : List ℕ) (e : Refusal) → r.refusal ≡ Some e → ReaderAt r t → ReaderAt r (t ++ u)
 still_refused r t u e is h =
     let was = refused r t e is h in
-    refuses r (t ++ u) e is (refused_on 0 0 (ended t) (ended (t ++ u)) e (omega arith) (ended_more t u) was.0, stops_on r (ended t) (ended (t ++ u)) e (ended_more t u) was.1)
+    refuses r (t ++ u) e is (
+      refused_on 0 0 (ended t) (ended (t ++ u)) e (omega arith) (ended_more t u) was.0,
+      stops_on r (ended t)
+          (ended (t ++ u)) e (ended_more t u) was.1,
+    )
 
-pub next_after : (ls : List (List ℕ)) (l : List ℕ) (number : ℕ) (fault : ItemFault) → IsClean ls → number ≡ length ls + 1 → AnswersFault (Err fault) (line_fault (length ls + 1) (items_of ls) (said_words l)) → IsNext (length ls) (ls ++ l ∷ []) (refused_at number fault)
+pub next_after : (ls : List (List ℕ)) (l : List ℕ) (number : ℕ) (fault : ItemFault) → IsClean ls
+    → number ≡ length ls + 1 → AnswersFault (Err fault) (line_fault (length ls + 1) (items_of ls) (said_words l))
+    → IsNext (length ls) (ls ++ l ∷ []) (refused_at number fault)
 next_after ls l number (Faults.Text code) clean n h = n
-next_after ls l number Faults.Memory clean n h = ((let m = length-append ls (l ∷ []) in omega arith), subst IsClean (sym (all_of ls l)) (clean_more ls l clean h))
+next_after ls l number Faults.Memory clean n h =
+    ((let m = length-append ls (l ∷ []) in omega arith), subst IsClean (sym (all_of ls l)) (clean_more ls l clean h))
 
 -- the entries of those
-pub entries_before : (r : Reader) (ls : List (List ℕ)) (e : Refusal) (n : ℕ) → StopsIn r ls e → ((before : List (List ℕ)) → TextAt r.text before → n ≡ entries_so_far (items_of before)) → EntriesBefore (lines_taken r) ls e n
+pub entries_before : (r : Reader) (ls : List (List ℕ)) (e : Refusal) (n : ℕ) → StopsIn r ls e
+    → ((before : List (List ℕ)) → TextAt r.text before → n ≡ entries_so_far (items_of before))
+    → EntriesBefore (lines_taken r) ls e n
 entries_before r ls e n s h = (
   subst (λ k. IsNext k ls e) (sym s.read.number_is) s.next,
   h s.before s.read ∙ ap (λ l. entries_so_far (items_of l)) (sym front),
 )
   where
     front : take (lines_taken r) ls ≡ s.before
-    front = ap (λ k. take k ls) s.read.number_is ∙ ap (take (length s.before)) s.whole ∙ take-append_seam s.before s.rest
+    front =
+        ap (λ k. take k ls) s.read.number_is ∙ ap (take (length s.before)) s.whole ∙ take-append_seam s.before s.rest
 
 -- the lines of a front of a piece
 pub more_from : (t p : List ℕ) (i n : ℕ) → More (ended ((t ++ take i p) ++ take n (rest_of p i))) (ended (t ++ p))
 more_from t p i n =
-    subst (λ u. More (ended ((t ++ take i p) ++ take n (rest_of p i))) (ended u)) (sym (whole_of t p (i + n) ∙ ap (λ l. l ++ drop (i + n) p) (sym (step_on t p i n))))
+    subst (λ u. More (ended ((t ++ take i p) ++ take n (rest_of p i))) (ended u))
+    (sym (whole_of t p (i + n) ∙ ap (λ l. l ++ drop (i + n) p) (sym (step_on t p i n))))
     (ended_more ((t ++ take i p) ++ take n (rest_of p i)) (drop (i + n) p))
 
 pub more_count : (ls ms : List (List ℕ)) → More ls ms → length ls ≤ length ms
@@ -168,15 +213,20 @@ pub refused_before : (r : Reader) (t : List ℕ) (e : Refusal) → r.refusal ≡
 refused_before r t e is h = refused_early t e (refused r t e is h).0
 
 pub refused_last : (t : List ℕ) (before : ℕ) (e : Refusal) → IsRefused before (lines t) e → Outcome t (Err e)
-refused_last t before e h = told_of t e (refused_on before 0 (lines t) (lines t) e (omega arith) (record { rest = []; whole = sym (append-nil (lines t)) }) h)
+refused_last t before e h =
+    told_of t e
+    (refused_on before 0 (lines t) (lines t) e (omega arith)
+    (record { rest = []; whole = sym (append-nil (lines t)) }) h)
 
 -- what is answered of a text that was fed at once
-pub read_whole : (r : Reader) (t : List ℕ) (fed : Result (Unit {0}) Refusal) (a : Result Held Refusal) → Fed t fed → ReaderAt r t → MatchResult fed (λ x. Finishes r a) (λ e. a ≡ Err e) → Outcome t a
+pub read_whole : (r : Reader) (t : List ℕ) (fed : Result (Unit {0}) Refusal) (a : Result Held Refusal) → Fed t fed
+    → ReaderAt r t → MatchResult fed (λ x. Finishes r a) (λ e. a ≡ Err e) → Outcome t a
 read_whole r t (Ok x) a told at h = h.outcome t at
 read_whole r t (Err e) a told at h = subst (Outcome t) (sym h) (refused_early t e told)
 
 -- what is held of a whole text
-pub held_whole : (x : TextSoFar) (t : List ℕ) (held : Held) → TextAt x (lines t) → EndsWith (items_of (lines t)) (Ok held) → Outcome t (Ok held)
+pub held_whole : (x : TextSoFar) (t : List ℕ) (held : Held) → TextAt x (lines t)
+    → EndsWith (items_of (lines t)) (Ok held) → Outcome t (Ok held)
 held_whole x t held r e =
     let all = e.1 in
     let size = problem_sized (lines t) all.problem all.instance r.clean all.problem_is all.made in (
@@ -184,7 +234,9 @@ held_whole x t held r e =
       record {
         clean = r.clean;
         whole = e.0;
-        instance_is = ap (option_and_then (λ (p : Problem). instance_as p.kind p.nodes (items_of (lines t)))) all.problem_is ∙ all.made;
+        instance_is =
+            ap (option_and_then (λ (p : Problem). instance_as p.kind p.nodes (items_of (lines t)))) all.problem_is
+            ∙ all.made;
       },
       record {
         nodes_are = all.nodes_are ∙ size.0;

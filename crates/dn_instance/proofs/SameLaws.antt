@@ -25,7 +25,8 @@ module _ {Arc : Type 0} (kind : ArcKind Arc) (meaning : IsMeaning kind.Same) whe
   graph_refl G = record { nodes = refl; bundles = λ p. meaning.same_refl (bundle p G.arcs) }
 
   pub graph_sym : (G H : Graph Arc) → SameGraph kind G H → SameGraph kind H G
-  graph_sym G H s = record { nodes = sym s.nodes; bundles = λ p. meaning.same_sym (bundle p G.arcs) (bundle p H.arcs) (s.bundles p) }
+  graph_sym G H s =
+      record { nodes = sym s.nodes; bundles = λ p. meaning.same_sym (bundle p G.arcs) (bundle p H.arcs) (s.bundles p) }
 
   pub graph_trans : (G H K : Graph Arc) → SameGraph kind G H → SameGraph kind H K → SameGraph kind G K
   graph_trans G H K s t = record {
@@ -37,11 +38,14 @@ module _ {Arc : Type 0} (kind : ArcKind Arc) (meaning : IsMeaning kind.Same) whe
   pub record SameAt (xs ys : List ((ℤ × ℤ) × Arc)) : Type 0 where
     pub at : (p : ℤ × ℤ) → kind.Same (bundle p xs) (bundle p ys)
 
-  more_at : (t : Bool) (a : Arc) (xs ys : List Arc) → kind.Same xs ys → kind.Same (cond t (a ∷ xs) xs) (cond t (a ∷ ys) ys)
+  more_at : (t : Bool) (a : Arc) (xs ys : List Arc) → kind.Same xs ys
+      → kind.Same (cond t (a ∷ xs) xs) (cond t (a ∷ ys) ys)
   more_at true a xs ys s = meaning.same_more a xs ys s
   more_at false a xs ys s = s
 
-  swap_at : (s t : Bool) (a b : Arc) (xs : List Arc) → kind.Same (cond s (a ∷ cond t (b ∷ xs) xs) (cond t (b ∷ xs) xs)) (cond t (b ∷ cond s (a ∷ xs) xs) (cond s (a ∷ xs) xs))
+  swap_at : (s t : Bool) (a b : Arc) (xs : List Arc)
+      → kind.Same (cond s (a ∷ cond t (b ∷ xs) xs) (cond t (b ∷ xs) xs))
+      (cond t (b ∷ cond s (a ∷ xs) xs) (cond s (a ∷ xs) xs))
   swap_at true true a b xs = meaning.same_swap a b xs
   swap_at true false a b xs = meaning.same_refl (a ∷ xs)
   swap_at false true a b xs = meaning.same_refl (b ∷ xs)
@@ -51,22 +55,27 @@ module _ {Arc : Type 0} (kind : ArcKind Arc) (meaning : IsMeaning kind.Same) whe
   placed_meaning = record {
     same_refl = λ xs. record { at = λ p. meaning.same_refl (bundle p xs) };
     same_sym = λ xs ys s. record { at = λ p. meaning.same_sym (bundle p xs) (bundle p ys) (s.at p) };
-    same_trans = λ xs ys zs s t. record { at = λ p. meaning.same_trans (bundle p xs) (bundle p ys) (bundle p zs) (s.at p) (t.at p) };
+    same_trans =
+        λ xs ys zs s t. record
+        { at = λ p. meaning.same_trans (bundle p xs) (bundle p ys) (bundle p zs) (s.at p) (t.at p) };
     same_more = λ a xs ys s. record { at = λ p. more_at (same_pair p a.0) a.1 (bundle p xs) (bundle p ys) (s.at p) };
     same_swap = λ a b xs. record { at = λ p. swap_at (same_pair p a.0) (same_pair p b.0) a.1 b.1 (bundle p xs) };
   }
 
-  pub graph_order : (nodes : ℤ) (xs ys : List ((ℤ × ℤ) × Arc)) → IsPermutation xs ys → SameGraph kind (record { nodes = nodes; arcs = xs }) (record { nodes = nodes; arcs = ys })
+  pub graph_order : (nodes : ℤ) (xs ys : List ((ℤ × ℤ) × Arc)) → IsPermutation xs ys
+      → SameGraph kind (record { nodes = nodes; arcs = xs }) (record { nodes = nodes; arcs = ys })
   graph_order nodes xs ys h = let s = any_order SameAt placed_meaning xs ys h in record { nodes = refl; bundles = s.at }
 
   -- graphs of one table, and as many nodes
-  table_one : {B : Type 0} (tells : B → List Arc) (table : List ((ℤ × ℤ) × B)) (G H : Graph Arc) → G.nodes ≡ H.nodes → TableStandsFor kind tells table G.arcs → TableStandsFor kind tells table H.arcs → SameGraph kind G H
+  table_one : {B : Type 0} (tells : B → List Arc) (table : List ((ℤ × ℤ) × B)) (G H : Graph Arc) → G.nodes ≡ H.nodes
+      → TableStandsFor kind tells table G.arcs → TableStandsFor kind tells table H.arcs → SameGraph kind G H
   table_one tells table G H n s t = record { nodes = n; bundles = at }
     where
       at : (p : ℤ × ℤ) → kind.Same (bundle p G.arcs) (bundle p H.arcs)
       at p =
           let told = told_at tells table p in
-          meaning.same_trans (bundle p G.arcs) told (bundle p H.arcs) (meaning.same_sym told (bundle p G.arcs) (s.tells_them.stands p).same) (t.tells_them.stands p).same
+          meaning.same_trans (bundle p G.arcs) told (bundle p H.arcs)
+          (meaning.same_sym told (bundle p G.arcs) (s.tells_them.stands p).same) (t.tells_them.stands p).same
 
 pub refl_of : (I : Instance) → IsSame I I
 refl_of (MinCostFlow s G) = (refl, graph_refl costs curve_meaning G)
@@ -86,8 +95,10 @@ sym_of (Coordinates xs) (Coordinates ys) e = sym e
 sym_of _ _ e = absurd e
 
 pub trans_of : (I J K : Instance) → IsSame I J → IsSame J K → IsSame I K
-trans_of (MinCostFlow s G) (MinCostFlow t H) (MinCostFlow u K) e f = (e.0 ∙ f.0, graph_trans costs curve_meaning G H K e.1 f.1)
-trans_of (MaxFlow a b G) (MaxFlow c d H) (MaxFlow g h K) e f = (e.0 ∙ f.0, e.1 ∙ f.1, graph_trans capacities total_meaning G H K e.2 f.2)
+trans_of (MinCostFlow s G) (MinCostFlow t H) (MinCostFlow u K) e f =
+    (e.0 ∙ f.0, graph_trans costs curve_meaning G H K e.1 f.1)
+trans_of (MaxFlow a b G) (MaxFlow c d H) (MaxFlow g h K) e f =
+    (e.0 ∙ f.0, e.1 ∙ f.1, graph_trans capacities total_meaning G H K e.2 f.2)
 trans_of (ShortestPaths G) (ShortestPaths H) (ShortestPaths K) e f = graph_trans lengths length_meaning G H K e f
 trans_of (Sources xs) (Sources ys) (Sources zs) e f = e ∙ f
 trans_of (Queries xs) (Queries ys) (Queries zs) e f = e ∙ f
@@ -101,9 +112,19 @@ trans_of (Coordinates xs) (Coordinates ys) _ e f = absurd f
 trans_of _ _ _ e f = absurd e
 
 shows_one : (c : Contents) (I J : Instance) → nodes_of I ≡ nodes_of J → Shows c I → Shows c J → IsSame I J
-shows_one (OfMin flows table) (MinCostFlow s G) (MinCostFlow t H) n x y = (sym x.0 ∙ y.0, table_one costs curve_meaning (λ (b : CurveNumbers). told One b.units b.cost b.steps) table G H n x.1 y.1)
-shows_one (OfMax source sink table) (MaxFlow a b G) (MaxFlow c d H) n x y = (sym x.0 ∙ y.0, sym x.1 ∙ y.1, table_one capacities total_meaning (λ (b : Total). cap_told b.total) table G H n x.2 y.2)
-shows_one (OfSp table) (ShortestPaths G) (ShortestPaths H) n x y = table_one lengths length_meaning (λ (b : Least). length_told b.length) table G H n x y
+shows_one (OfMin flows table) (MinCostFlow s G) (MinCostFlow t H) n x y = (
+  sym x.0 ∙ y.0,
+  table_one costs curve_meaning
+      (λ (b : CurveNumbers). told One b.units b.cost b.steps) table G H n x.1 y.1,
+)
+shows_one (OfMax source sink table) (MaxFlow a b G) (MaxFlow c d H) n x y = (
+  sym x.0 ∙ y.0,
+  sym x.1 ∙ y.1,
+  table_one capacities total_meaning
+      (λ (b : Total). cap_told b.total) table G H n x.2 y.2,
+)
+shows_one (OfSp table) (ShortestPaths G) (ShortestPaths H) n x y =
+    table_one lengths length_meaning (λ (b : Least). length_told b.length) table G H n x y
 shows_one (OfSs ids) (Sources xs) (Sources ys) n x y = sym x ∙ y
 shows_one (OfP2p pairs) (Queries xs) (Queries ys) n x y = sym x ∙ y
 shows_one (OfCo points) (Coordinates xs) (Coordinates ys) n x y = sym x ∙ y

@@ -25,7 +25,11 @@ front_lines : (given rest : List ℕ) → More (ended given) (lines (given ++ re
 front_lines given rest =
     let m = ended_more given rest in
     let n = lines_more (given ++ rest) in
-    record { rest = m.rest ++ n.rest; whole = n.whole ∙ ap (λ l. l ++ n.rest) m.whole ∙ append_assoc (ended given) m.rest n.rest }
+    record {
+      rest = m.rest ++ n.rest;
+      whole =
+          n.whole ∙ ap (λ l. l ++ n.rest) m.whole ∙ append_assoc (ended given) m.rest n.rest;
+    }
 
 -- memory that ran out as a text was refused ran out at a line of its last piece, or at its last line
 pub ran_out : (t : List ℕ) (new : Option (List ℕ)) → StopsAt t new Memory → RanOut t new
@@ -38,7 +42,9 @@ ran_out t new (inl s) =
       whole = s.whole;
       rest_is = subst (λ o. IfSome o (λ left. left ≡ s.rest)) (sym s.rest_is) refl;
       short = s.short;
-      wants = refused_on (length (ended s.before)) (length (ended s.before)) (ended all) (lines all) Memory (omega arith) (lines_more all) s.refused;
+      wants =
+          refused_on (length (ended s.before)) (length (ended s.before)) (ended all) (lines all) Memory (omega arith)
+          (lines_more all) s.refused;
     }
 ran_out t new (inr s) = record {
   before = t;
@@ -55,7 +61,8 @@ ran_out t new (inr s) = record {
     nothing_left (Some left) h = h
 
 -- the refusal of a line after these
-refused_past : (before : ℕ) (ls : List (List ℕ)) (e : Refusal) → IsRefused 0 ls e → (e ≡ Memory → WantsMemory before ls) → IsRefused before ls e
+refused_past : (before : ℕ) (ls : List (List ℕ)) (e : Refusal) → IsRefused 0 ls e → (e ≡ Memory → WantsMemory before ls)
+    → IsRefused before ls e
 refused_past before ls (Text (Places.Line number) code) h m = h
 refused_past before ls (Text Places.End code) h m = h
 refused_past before ls Memory h m = m refl
@@ -64,7 +71,8 @@ refused_past before ls Endless h m = h
 refused_past before ls Write h m = h
 refused_past before ls CountTooLarge h m = h
 
-told_piece : (t : List ℕ) (new : Option (List ℕ)) (e : Refusal) → IsRefused 0 (lines t) e → StopsInPiece t new e → SourceOutcome t new (Err e)
+told_piece : (t : List ℕ) (new : Option (List ℕ)) (e : Refusal) → IsRefused 0 (lines t) e → StopsInPiece t new e
+    → SourceOutcome t new (Err e)
 told_piece t new (Text (Places.Line number) code) h s = (h, inl s)
 told_piece t new (Text Places.End code) h s = absurd h
 told_piece t new Memory h s = inl s
@@ -74,8 +82,11 @@ told_piece t new Write h s = absurd h
 told_piece t new CountTooLarge h s = absurd h
 
 -- refused at a piece
-pub refused_given : (old mid new : Option (List ℕ)) (given piece : List ℕ) (r : Reader) (e : Refusal) → Consumes old mid given → Consumes mid new piece → length piece ≤ 2 ^ 12 → ReaderAt r given → r.refusal ≡ None → IsRefused 0 (ended (given ++ piece)) e
-    → (e ≡ Memory → WantsMemory (length (ended given)) (ended (given ++ piece))) → IfSome old (λ t. SourceOutcome t new (Err e))
+pub refused_given : (old mid new : Option (List ℕ)) (given piece : List ℕ) (r : Reader) (e : Refusal)
+    → Consumes old mid given → Consumes mid new piece → length piece ≤ 2 ^ 12 → ReaderAt r given → r.refusal ≡ None
+    → IsRefused 0 (ended (given ++ piece)) e
+    → (e ≡ Memory → WantsMemory (length (ended given)) (ended (given ++ piece)))
+    → IfSome old (λ t. SourceOutcome t new (Err e))
 refused_given None mid new given piece r e c d short s none h m = tt
 refused_given (Some t) None new given piece r e c d short s none h m = absurd c
 refused_given (Some t) (Some both) None given piece r e c d short s none h m = absurd d
@@ -83,21 +94,36 @@ refused_given (Some t) (Some both) (Some rest) given piece r e c d short s none 
     let all = given ++ piece in
     let whole : t ≡ given ++ (piece ++ rest) = c ∙ ap (λ l. given ++ l) d in
     told_piece t (Some rest) e
-    (refused_on 0 0 (ended all) (lines t) e (omega arith) (subst (λ x. More (ended all) (lines x)) (append_assoc given piece rest ∙ sym whole) (front_lines all rest)) h)
-    (record { before = given; piece = piece; rest = rest; whole = whole; rest_is = refl; short = short; clean = (reading r given none s).read.clean; refused = refused_past (length (ended given)) (ended all) e h m })
+    (refused_on 0 0 (ended all) (lines t) e (omega arith)
+    (subst (λ x. More (ended all) (lines x)) (append_assoc given piece rest ∙ sym whole) (front_lines all rest)) h)
+    (record {
+      before = given;
+      piece = piece;
+      rest = rest;
+      whole = whole;
+      rest_is = refl;
+      short =
+          short;
+      clean = (reading r given none s).read.clean;
+      refused =
+          refused_past (length (ended given)) (ended all) e h m;
+    })
 
 -- what holds of a refusal holds of the answer that hands it on
-pub handed_on : {A : Type 0} (a : Result A Refusal) (e : Refusal) (P : Refusal → Type 0) → IsErr a × IsErrAnd a (λ x. x ≡ e) → P e → IfErr a P
+pub handed_on : {A : Type 0} (a : Result A Refusal) (e : Refusal) (P : Refusal → Type 0) → IsErr a
+    × IsErrAnd a (λ x. x ≡ e) → P e → IfErr a P
 handed_on (Ok x) e P is p = tt
 handed_on (Err x) e P is p = subst P (sym is.1) p
 
 -- an answer that hands on a refusal is no success
-pub handed_none : {A : Type 0} (a : Result A Refusal) (e : Refusal) (P : Type 0) → IsErr a × IsErrAnd a (λ x. x ≡ e) → OnOk a P
+pub handed_none : {A : Type 0} (a : Result A Refusal) (e : Refusal) (P : Type 0) → IsErr a × IsErrAnd a (λ x. x ≡ e)
+    → OnOk a P
 handed_none (Ok x) e P is = absurd (let never = is.0 in cc)
 handed_none (Err x) e P is = tt
 
 -- an answer that hands on another refusal is not `Read`
-pub handed_other : {A F : Type 0} (a : Result A Refusal) (e : Refusal) → IsErr a × IsErrAnd a (λ x. x ≡ e) → (e ≡ Read → ⊥) → IsErrOf a Read → F
+pub handed_other : {A F : Type 0} (a : Result A Refusal) (e : Refusal) → IsErr a × IsErrAnd a (λ x. x ≡ e)
+    → (e ≡ Read → ⊥) → IsErrOf a Read → F
 handed_other (Ok x) e is other h = absurd (let never = is.0 in cc)
 handed_other (Err x) e is other h = let same : x ≡ Read = cc in absurd (other (sym is.1 ∙ same))
 
@@ -114,26 +140,55 @@ pub refused_unread : (n : ℕ) (ls : List (List ℕ)) (e : Refusal) → IsRefuse
 refused_unread n ls e h is = subst (IsRefused n ls) is h
 
 -- the source has no end
-pub endless_given : (old new : Option (List ℕ)) (given : List ℕ) (r : Reader) (count : ℕ) → Consumes old new given → ReaderAt r given → r.refusal ≡ None → count ≤ length given → 2 ^ 40 ≤ count → IfSome old (λ t. SourceOutcome t new (Err Endless))
+pub endless_given : (old new : Option (List ℕ)) (given : List ℕ) (r : Reader) (count : ℕ) → Consumes old new given
+    → ReaderAt r given → r.refusal ≡ None → count ≤ length given → 2 ^ 40 ≤ count
+    → IfSome old (λ t. SourceOutcome t new (Err Endless))
 endless_given None new given r count c s none h k = tt
 endless_given (Some t) None given r count c s none h k = absurd c
-endless_given (Some t) (Some rest) given r count c s none h k =
-    (record { given = given; rest = rest; whole = c; rest_is = refl; clean = (reading r given none s).read.clean }, omega arith)
+endless_given (Some t) (Some rest) given r count c s none h k = (
+  record {
+    given = given;
+    rest = rest;
+    whole = c;
+    rest_is =
+        refl;
+    clean = (reading r given none s).read.clean;
+  },
+  omega arith,
+)
 
 -- what was read so far has no faulty line
-clean_before : (whole rest : Option (List ℕ)) (given : List ℕ) (r : Reader) → Consumes whole rest given → ReaderAt r given → r.refusal ≡ None → IfSome whole (λ t. CleanSoFar t rest)
+clean_before : (whole rest : Option (List ℕ)) (given : List ℕ) (r : Reader) → Consumes whole rest given
+    → ReaderAt r given → r.refusal ≡ None → IfSome whole (λ t. CleanSoFar t rest)
 clean_before None rest given r c s none = tt
 clean_before (Some t) None given r c s none = absurd c
-clean_before (Some t) (Some rest) given r c s none = record { given = given; rest = rest; whole = c; rest_is = refl; clean = (reading r given none s).read.clean }
+clean_before (Some t) (Some rest) given r c s none =
+    record { given = given; rest = rest; whole = c; rest_is = refl; clean = (reading r given none s).read.clean }
 
 module _ {S : Type 0} {source : SourceWords S} {old before : S} (given : List ℕ) (r : Reader) where
   -- no pull more
-  pub pulled_so_far : PulledBytes source old before → Consumes (source.gives old) (source.gives before) given → ReaderAt r given → r.refusal ≡ None → PulledWhileClean source old before
-  pulled_so_far p c s none = record { before = before; pulls = p; clean = clean_before (source.gives old) (source.gives before) given r c s none; last = inl refl }
+  pub pulled_so_far : PulledBytes source old before → Consumes (source.gives old) (source.gives before) given
+      → ReaderAt r given → r.refusal ≡ None → PulledWhileClean source old before
+  pulled_so_far p c s none =
+      record {
+        before = before;
+        pulls = p;
+        clean =
+            clean_before (source.gives old) (source.gives before) given r c s none;
+        last = inl refl;
+      }
 
   -- one pull more
-  pub pulled_on : {new : S} → PulledBytes source old before → Consumes (source.gives old) (source.gives before) given → ReaderAt r given → r.refusal ≡ None → source.Pulls before new → PulledWhileClean source old new
-  pulled_on p c s none more = record { before = before; pulls = p; clean = clean_before (source.gives old) (source.gives before) given r c s none; last = inr more }
+  pub pulled_on : {new : S} → PulledBytes source old before → Consumes (source.gives old) (source.gives before) given
+      → ReaderAt r given → r.refusal ≡ None → source.Pulls before new → PulledWhileClean source old new
+  pulled_on p c s none more =
+      record {
+        before = before;
+        pulls = p;
+        clean =
+            clean_before (source.gives old) (source.gives before) given r c s none;
+        last = inr more;
+      }
 
 pub not_refused : (o : Option Refusal) → Ok tt ≡ answer_of o → o ≡ None
 not_refused None e = refl
@@ -147,12 +202,17 @@ pub has_some : (piece : List ℕ) (test : Bool) → test ≡ (length piece == 0)
 has_some piece test is e = let some = eqb-false (length piece) 0 (sym is ∙ e) in omega arith
 
 -- an empty piece adds nothing
-pub given_at_end : (old mid new : Option (List ℕ)) (given piece : List ℕ) → piece ≡ [] → Consumes old mid given → Consumes mid new piece → Consumes old new given
-given_at_end old mid new given piece none c d = subst (λ l. Consumes old new l) (ap (λ l. given ++ l) none ∙ append-nil given) (Consumes-trans old mid new given piece c d)
+pub given_at_end : (old mid new : Option (List ℕ)) (given piece : List ℕ) → piece ≡ [] → Consumes old mid given
+    → Consumes mid new piece → Consumes old new given
+given_at_end old mid new given piece none c d =
+    subst (λ l. Consumes old new l) (ap (λ l. given ++ l) none ∙ append-nil given)
+    (Consumes-trans old mid new given piece c d)
 
-told_end : (t : List ℕ) (new : Option (List ℕ)) (r : Result Held Refusal) → IsAtEnd new → IsClean (ended t) → (r ≡ Err Memory → WantsMemory (length (ended t)) (lines t)) → Outcome t r → SourceOutcome t new r
+told_end : (t : List ℕ) (new : Option (List ℕ)) (r : Result Held Refusal) → IsAtEnd new → IsClean (ended t)
+    → (r ≡ Err Memory → WantsMemory (length (ended t)) (lines t)) → Outcome t r → SourceOutcome t new r
 told_end t new (Ok held) e clean m h = (h, e)
-told_end t new (Err (Text (Places.Line number) code)) e clean m h = (h, inr (record { at_end = e; clean = clean; refused = h }))
+told_end t new (Err (Text (Places.Line number) code)) e clean m h =
+    (h, inr (record { at_end = e; clean = clean; refused = h }))
 told_end t new (Err (Text Places.End code)) e clean m h = (h, inr (record { at_end = e; clean = clean; refused = h }))
 told_end t new (Err Memory) e clean m h = inr (record { at_end = e; clean = clean; refused = m refl })
 told_end t new (Err Read) e clean m h = absurd h
@@ -161,14 +221,19 @@ told_end t new (Err Write) e clean m h = absurd h
 told_end t new (Err CountTooLarge) e clean m h = absurd h
 
 -- the source is at its end, and all that it gave is read
-pub ended_given : (old new : Option (List ℕ)) (given : List ℕ) (r : Reader) (a : Result Held Refusal) → Consumes old new given → IsAtEnd new → ReaderAt r given → r.refusal ≡ None → (a ≡ Err Memory → WantsMemory (length (ended given)) (lines given)) → Outcome given a → IfSome old (λ t. SourceOutcome t new a)
+pub ended_given : (old new : Option (List ℕ)) (given : List ℕ) (r : Reader) (a : Result Held Refusal)
+    → Consumes old new given → IsAtEnd new → ReaderAt r given → r.refusal ≡ None
+    → (a ≡ Err Memory → WantsMemory (length (ended given)) (lines given)) → Outcome given a
+    → IfSome old (λ t. SourceOutcome t new a)
 ended_given None new given r a c e s none m h = tt
 ended_given (Some t) None given r a c e s none m h = absurd c
 ended_given (Some t) (Some rest) given r a c e s none m h =
     let all : t ≡ given = c ∙ ap (λ l. given ++ l) e ∙ append-nil given in
-    subst (λ l. SourceOutcome l (Some rest) a) (sym all) (told_end given (Some rest) a e (reading r given none s).read.clean m h)
+    subst (λ l. SourceOutcome l (Some rest) a) (sym all)
+    (told_end given (Some rest) a e (reading r given none s).read.clean m h)
 
-told_copy : (t : List ℕ) (new : Option (List ℕ)) (old_copy new_copy : List ℕ) (r : Result Held Refusal) → SourceOutcome t new r → Copied t new old_copy new_copy → CopyOutcome t new old_copy new_copy r
+told_copy : (t : List ℕ) (new : Option (List ℕ)) (old_copy new_copy : List ℕ) (r : Result Held Refusal)
+    → SourceOutcome t new r → Copied t new old_copy new_copy → CopyOutcome t new old_copy new_copy r
 told_copy t new old_copy new_copy (Ok held) h k = (h, k)
 told_copy t new old_copy new_copy (Err (Text place code)) h k = (h, k)
 told_copy t new old_copy new_copy (Err Memory) h k = inl (h, k)
@@ -178,14 +243,19 @@ told_copy t new old_copy new_copy (Err Write) h k = absurd h
 told_copy t new old_copy new_copy (Err CountTooLarge) h k = absurd h
 
 -- the copy has gained what the source gave
-pub copied : (old new : Option (List ℕ)) (given old_copy new_copy : List ℕ) (r : Result Held Refusal) → Consumes old new given → new_copy ≡ old_copy ++ given
+pub copied : (old new : Option (List ℕ)) (given old_copy new_copy : List ℕ) (r : Result Held Refusal)
+    → Consumes old new given → new_copy ≡ old_copy ++ given
     → IfSome old (λ t. SourceOutcome t new r) → IfSome old (λ t. CopyOutcome t new old_copy new_copy r)
 copied None new given old_copy new_copy r c k h = tt
 copied (Some t) None given old_copy new_copy r c k h = absurd c
-copied (Some t) (Some rest) given old_copy new_copy r c k h = told_copy t (Some rest) old_copy new_copy r h (record { given = given; rest = rest; whole = c; rest_is = refl; copy = k })
+copied (Some t) (Some rest) given old_copy new_copy r c k h =
+    told_copy t (Some rest) old_copy new_copy r h
+    (record { given = given; rest = rest; whole = c; rest_is = refl; copy = k })
 
 -- the copy lacked memory for a piece
-pub uncopied : (old mid new : Option (List ℕ)) (given piece old_copy new_copy : List ℕ) (e : Refusal) (r : Reader) → Consumes old mid given → Consumes mid new piece → 0 < length piece → new_copy ≡ old_copy ++ given → ReaderAt r given → r.refusal ≡ None → e ≡ Memory
+pub uncopied : (old mid new : Option (List ℕ)) (given piece old_copy new_copy : List ℕ) (e : Refusal) (r : Reader)
+    → Consumes old mid given → Consumes mid new piece → 0 < length piece → new_copy ≡ old_copy ++ given
+    → ReaderAt r given → r.refusal ≡ None → e ≡ Memory
     → IfSome old (λ t. CopyOutcome t new old_copy new_copy (Err e))
 uncopied None mid new given piece old_copy new_copy e r c d l k s none memory = tt
 uncopied (Some t) None new given piece old_copy new_copy e r c d l k s none memory = absurd c
@@ -203,14 +273,23 @@ uncopied (Some t) (Some both) (Some rest) given piece old_copy new_copy e r c d 
     }))
 
 -- the source failed, and the copy has what it gave
-pub failed_copy : (old mid new : Option (List ℕ)) (given old_copy new_copy : List ℕ) (e : Refusal) (r : Reader) → Consumes old mid given → Keeps mid new → new_copy ≡ old_copy ++ given → ReaderAt r given → r.refusal ≡ None → e ≡ Read
+pub failed_copy : (old mid new : Option (List ℕ)) (given old_copy new_copy : List ℕ) (e : Refusal) (r : Reader)
+    → Consumes old mid given → Keeps mid new → new_copy ≡ old_copy ++ given → ReaderAt r given → r.refusal ≡ None
+    → e ≡ Read
     → IfSome old (λ t. CopyOutcome t new old_copy new_copy (Err e))
 failed_copy None mid new given old_copy new_copy e r c d k s none read = tt
 failed_copy (Some t) None new given old_copy new_copy e r c d k s none read = absurd c
 failed_copy (Some t) (Some rest) None given old_copy new_copy e r c d k s none read = absurd d
 failed_copy (Some t) (Some rest) (Some left) given old_copy new_copy e r c d k s none read =
     subst (λ x. CopyOutcome t (Some left) old_copy new_copy (Err x)) (sym read) (
-      record { given = given; rest = left; whole = c ∙ ap (λ l. given ++ l) (sym d); rest_is = refl; clean = (reading r given none s).read.clean },
+      record {
+        given = given;
+        rest = left;
+        whole = c ∙ ap (λ l. given ++ l) (sym d);
+        rest_is =
+            refl;
+        clean = (reading r given none s).read.clean;
+      },
       record { given = given; rest = left; whole = c ∙ ap (λ l. given ++ l) (sym d); rest_is = refl; copy = k },
     )
 
@@ -229,24 +308,34 @@ same_refusal a e f h k = cc
 -- what is answered once all that the source gave was fed, or feeding gave a refusal
 module _ (old new : Option (List ℕ)) (r : Reader) (a : Result Held Refusal) where
   finished_given : (fed : IsFed old new r) → Finishes r a → IfSome old (λ t. SourceOutcome t new a)
-  finished_given fed h = ended_given old new fed.given r a fed.gave fed.at_end fed.read fed.fine (h.memory fed.given fed.read fed.fine) (h.outcome fed.given fed.read)
+  finished_given fed h =
+      ended_given old new fed.given r a fed.gave fed.at_end fed.read fed.fine (h.memory fed.given fed.read fed.fine)
+      (h.outcome fed.given fed.read)
 
-  pub finished : (fed : Result (Unit {0}) Refusal) → OnOk fed (IsFed old new r) → IfErr fed (λ e. IfSome old (λ t. SourceOutcome t new (Err e))) → MatchResult fed (λ x. Finishes r a) (λ e. a ≡ Err e)
+  pub finished : (fed : Result (Unit {0}) Refusal) → OnOk fed (IsFed old new r)
+      → IfErr fed (λ e. IfSome old (λ t. SourceOutcome t new (Err e)))
+      → MatchResult fed (λ x. Finishes r a) (λ e. a ≡ Err e)
       → IfSome old (λ t. SourceOutcome t new a)
   finished (Ok x) ok err h = finished_given ok h
   finished (Err e) ok err h = subst (λ x. IfSome old (λ t. SourceOutcome t new x)) (sym h) err
 
-  pub finished_copy : (old_copy new_copy : List ℕ) (fed : Result (Unit {0}) Refusal) → OnOk fed ((all : IsFed old new r) × (new_copy ≡ old_copy ++ all.given)) → IfErr fed (λ e. IfSome old (λ t. CopyOutcome t new old_copy new_copy (Err e)))
+  pub finished_copy : (old_copy new_copy : List ℕ) (fed : Result (Unit {0}) Refusal)
+      → OnOk fed ((all : IsFed old new r) × (new_copy ≡ old_copy ++ all.given))
+      → IfErr fed (λ e. IfSome old (λ t. CopyOutcome t new old_copy new_copy (Err e)))
       → MatchResult fed (λ x. Finishes r a) (λ e. a ≡ Err e) → IfSome old (λ t. CopyOutcome t new old_copy new_copy a)
-  finished_copy old_copy new_copy (Ok x) ok err h = copied old new ok.0.given old_copy new_copy a ok.0.gave ok.1 (finished_given ok.0 h)
-  finished_copy old_copy new_copy (Err e) ok err h = subst (λ x. IfSome old (λ t. CopyOutcome t new old_copy new_copy x)) (sym h) err
+  finished_copy old_copy new_copy (Ok x) ok err h =
+      copied old new ok.0.given old_copy new_copy a ok.0.gave ok.1 (finished_given ok.0 h)
+  finished_copy old_copy new_copy (Err e) ok err h =
+      subst (λ x. IfSome old (λ t. CopyOutcome t new old_copy new_copy x)) (sym h) err
 
-  pub finished_by_reading : (fed : Result (Unit {0}) Refusal) → OnOk fed (IsFed old new r) → IfErr fed IsOfReading → MatchResult fed (λ x. Finishes r a) (λ e. a ≡ Err e) → IfErr a IsOfReading
+  pub finished_by_reading : (fed : Result (Unit {0}) Refusal) → OnOk fed (IsFed old new r) → IfErr fed IsOfReading
+      → MatchResult fed (λ x. Finishes r a) (λ e. a ≡ Err e) → IfErr a IsOfReading
   finished_by_reading (Ok x) ok err h = of_reading ok.given a (h.outcome ok.given ok.read)
   finished_by_reading (Err e) ok err h = subst (λ x. IfErr x IsOfReading) (sym h) err
 
   -- what is held stands for an instance
-  pub finished_held : (fed : Result (Unit {0}) Refusal) → OnOk fed (IsFed old new r) → MatchResult fed (λ x. Finishes r a) (λ e. a ≡ Err e) → IfOk a HoldsSome
+  pub finished_held : (fed : Result (Unit {0}) Refusal) → OnOk fed (IsFed old new r)
+      → MatchResult fed (λ x. Finishes r a) (λ e. a ≡ Err e) → IfOk a HoldsSome
   finished_held (Ok x) ok h = by_answer a (h.outcome ok.given ok.read)
     where
       by_answer : (b : Result Held Refusal) → Outcome ok.given b → IfOk b HoldsSome
@@ -254,7 +343,9 @@ module _ (old new : Option (List ℕ)) (r : Reader) (a : Result Held Refusal) wh
       by_answer (Err e) o = tt
   finished_held (Err e) ok h = subst (λ x. IfOk x HoldsSome) (sym h) tt
 
-  pub finished_copied : (old_copy new_copy : List ℕ) (fed : Result (Unit {0}) Refusal) → OnOk fed ((all : IsFed old new r) × (new_copy ≡ old_copy ++ all.given)) → MatchResult fed (λ x. Finishes r a) (λ e. a ≡ Err e)
+  pub finished_copied : (old_copy new_copy : List ℕ) (fed : Result (Unit {0}) Refusal)
+      → OnOk fed ((all : IsFed old new r) × (new_copy ≡ old_copy ++ all.given))
+      → MatchResult fed (λ x. Finishes r a) (λ e. a ≡ Err e)
       → IfOk a (HoldsCopied old_copy new_copy)
   finished_copied old_copy new_copy (Ok x) ok h = by_answer a (h.outcome ok.0.given ok.0.read)
     where
@@ -263,11 +354,13 @@ module _ (old new : Option (List ℕ)) (r : Reader) (a : Result Held Refusal) wh
       by_answer (Err e) o = tt
   finished_copied old_copy new_copy (Err e) ok h = subst (λ x. IfOk x (HoldsCopied old_copy new_copy)) (sym h) tt
 
-  pub finished_failed : {F : Type 0} (fed : Result (Unit {0}) Refusal) → OnOk fed (IsFed old new r) → (IsErrOf fed Read → F) → MatchResult fed (λ x. Finishes r a) (λ e. a ≡ Err e) → IsErrOf a Read → F
+  pub finished_failed : {F : Type 0} (fed : Result (Unit {0}) Refusal) → OnOk fed (IsFed old new r)
+      → (IsErrOf fed Read → F) → MatchResult fed (λ x. Finishes r a) (λ e. a ≡ Err e) → IsErrOf a Read → F
   finished_failed (Ok x) ok err h is = absurd (subst (Outcome ok.given) is (h.outcome ok.given ok.read))
   finished_failed (Err e) ok err h is = err (ap (λ x. Err x) (same_refusal a e Read h is))
 
 -- that a copy was made, too, aside
-pub fed_alone : (old new : Option (List ℕ)) (r : Reader) (P : IsFed old new r → Type 0) (fed : Result (Unit {0}) Refusal) → OnOk fed ((all : IsFed old new r) × P all) → OnOk fed (IsFed old new r)
+pub fed_alone : (old new : Option (List ℕ)) (r : Reader) (P : IsFed old new r → Type 0)
+    (fed : Result (Unit {0}) Refusal) → OnOk fed ((all : IsFed old new r) × P all) → OnOk fed (IsFed old new r)
 fed_alone old new r P (Ok x) h = h.0
 fed_alone old new r P (Err e) h = tt

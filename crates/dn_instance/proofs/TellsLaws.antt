@@ -18,31 +18,39 @@ use Rattle.std.proofs.lemmas.Int.{ints, by_lt_z}
 use Rattle.dn_instance.proofs.ValidLaws.{bundle_push}
 use Rattle.dn_bundle.proofs.BundleLaws.{all_end}
 
-module _ {B Arc : Type 0} (kind : ArcKind Arc) (tells : B → List Arc) (laws : IsKind kind) (canonical : (b : B) → kind.IsCanon One (tells b)) where
+module _ {B Arc : Type 0} (kind : ArcKind Arc) (tells : B → List Arc) (laws : IsKind kind)
+    (canonical : (b : B) → kind.IsCanon One (tells b)) where
   told_canon : (o : Option B) → kind.IsCanon One (told_of tells o)
   told_canon None = laws.none_canon One
   told_canon (Some b) = canonical b
 
-bundle_arcs : {Arc : Type 0} (kind : ArcKind Arc) (p : ℤ × ℤ) (arcs : List ((ℤ × ℤ) × Arc)) → AreArcs kind arcs → AllByRecursion kind.IsArc (bundle p arcs)
+bundle_arcs : {Arc : Type 0} (kind : ArcKind Arc) (p : ℤ × ℤ) (arcs : List ((ℤ × ℤ) × Arc)) → AreArcs kind arcs
+    → AllByRecursion kind.IsArc (bundle p arcs)
 bundle_arcs kind p [] h = tt
 bundle_arcs kind p (a ∷ rest) h = by_test (same_pair p a.0) (bundle_arcs kind p rest h.1)
   where
-    by_test : (t : Bool) → AllByRecursion kind.IsArc (bundle p rest) → AllByRecursion kind.IsArc (cond t (a.1 ∷ bundle p rest) (bundle p rest))
+    by_test : (t : Bool) → AllByRecursion kind.IsArc (bundle p rest)
+        → AllByRecursion kind.IsArc (cond t (a.1 ∷ bundle p rest) (bundle p rest))
     by_test true all = (h.0, all)
     by_test false all = all
 
-module _ {B Arc : Type 0} (kind : ArcKind Arc) (tells : B → List Arc) (laws : IsKind kind) (canonical : (b : B) → kind.IsCanon One (tells b)) (stays : Stays kind)
-    (m n : List ((ℤ × ℤ) × B)) (arcs : List ((ℤ × ℤ) × Arc)) (pair : ℤ × ℤ) (arc : Arc) (old : TableTells kind tells m arcs) (are : AreArcs kind arcs) (is : kind.IsArc arc) (grows : Grows kind tells m n pair arc) where
+module _ {B Arc : Type 0} (kind : ArcKind Arc) (tells : B → List Arc) (laws : IsKind kind)
+    (canonical : (b : B) → kind.IsCanon One (tells b)) (stays : Stays kind)
+    (m n : List ((ℤ × ℤ) × B)) (arcs : List ((ℤ × ℤ) × Arc)) (pair : ℤ × ℤ) (arc : Arc)
+    (old : TableTells kind tells m arcs) (are : AreArcs kind arcs) (is : kind.IsArc arc)
+    (grows : Grows kind tells m n pair arc) where
   bundle_here : bundle pair (arcs ++ (pair, arc) ∷ []) ≡ bundle pair arcs ++ arc ∷ []
   bundle_here = bundle_push pair arcs (pair, arc) ∙ ap (λ t. bundle pair arcs ++ cond t (arc ∷ []) []) (pair_self pair)
 
   bundle_there : (p : ℤ × ℤ) → same_pair p pair ≡ false → bundle p (arcs ++ (pair, arc) ∷ []) ≡ bundle p arcs
-  bundle_there p e = bundle_push p arcs (pair, arc) ∙ ap (λ t. bundle p arcs ++ cond t (arc ∷ []) []) e ∙ append-nil (bundle p arcs)
+  bundle_there p e =
+      bundle_push p arcs (pair, arc) ∙ ap (λ t. bundle p arcs ++ cond t (arc ∷ []) []) e ∙ append-nil (bundle p arcs)
 
   same_here : kind.Same (told_at tells n pair) (bundle pair (arcs ++ (pair, arc) ∷ []))
   same_here =
       subst (kind.Same (told_at tells n pair)) (sym bundle_here)
-      (laws.meaning.same_trans (told_at tells n pair) (told_at tells m pair ++ arc ∷ []) (bundle pair arcs ++ arc ∷ []) grows.here
+      (laws.meaning.same_trans (told_at tells n pair) (told_at tells m pair ++ arc ∷ [])
+      (bundle pair arcs ++ arc ∷ []) grows.here
       (same_push kind.Same laws.meaning (told_at tells m pair) (bundle pair arcs) arc (old.stands pair).same))
 
   some_not_none : (b : B) → lookup (same_pair pair) m ≡ Some b → lookup (same_pair pair) n ≡ None → ⊥
@@ -54,42 +62,57 @@ module _ {B Arc : Type 0} (kind : ArcKind Arc) (tells : B → List Arc) (laws : 
   absent_here : (lookup (same_pair pair) n ≡ None) ↔ kind.Same (bundle pair (arcs ++ (pair, arc) ∷ [])) []
   absent_here = by_old (lookup (same_pair pair) m) refl
     where
-      by_old : (o : Option B) → lookup (same_pair pair) m ≡ o → (lookup (same_pair pair) n ≡ None) ↔ kind.Same (bundle pair (arcs ++ (pair, arc) ∷ [])) []
+      by_old : (o : Option B) → lookup (same_pair pair) m ≡ o
+          → (lookup (same_pair pair) n ≡ None) ↔ kind.Same (bundle pair (arcs ++ (pair, arc) ∷ [])) []
       by_old None e =
           let f = grows.fresh e in
           let told = told_at tells n pair in
-          let here = bundle pair (arcs ++ (pair, arc) ∷ []) in
-          (λ g. laws.meaning.same_trans here told [] (laws.meaning.same_sym told here same_here) (f.0 g), λ s. f.1 (laws.meaning.same_trans told here [] same_here s))
+          let here = bundle pair (arcs ++ (pair, arc) ∷ []) in (
+            λ g. laws.meaning.same_trans here told [] (laws.meaning.same_sym told here same_here) (f.0 g),
+            λ s. f.1
+                (laws.meaning.same_trans told here [] same_here s),
+          )
       by_old (Some b) e = (
         λ g. absurd (some_not_none b e g),
         λ s.
-            let nothing = stays (bundle pair arcs) arc (bundle_arcs kind pair arcs are) is (subst (λ l. kind.Same l []) bundle_here s) in
+            let nothing =
+            stays (bundle pair arcs) arc (bundle_arcs kind pair arcs are) is
+            (subst (λ l. kind.Same l []) bundle_here s) in
             let gone : lookup (same_pair pair) m ≡ None = (old.absent pair).1 nothing in
             let never : None ≡ Some b = sym gone ∙ e in
             cc,
       )
 
-  stands_at : (p : ℤ × ℤ) (t : Bool) → same_pair pair p ≡ t → AreCanonArcsOf kind (told_at tells n p) (bundle p (arcs ++ (pair, arc) ∷ []))
+  stands_at : (p : ℤ × ℤ) (t : Bool) → same_pair pair p ≡ t
+      → AreCanonArcsOf kind (told_at tells n p) (bundle p (arcs ++ (pair, arc) ∷ []))
   stands_at p true e =
       subst (λ q. AreCanonArcsOf kind (told_at tells n q) (bundle q (arcs ++ (pair, arc) ∷ []))) (pair_is pair p e)
       (record { canonical = told_canon kind tells laws canonical (lookup (same_pair pair) n); same = same_here })
   stands_at p false e = record {
     canonical = told_canon kind tells laws canonical (lookup (same_pair p) n);
-    same = subst (λ l. kind.Same (told_at tells n p) l) (sym (bundle_there p (other_pair pair p e))) (subst (λ o. kind.Same (told_of tells o) (bundle p arcs)) (sym (grows.others p e)) (old.stands p).same);
+    same =
+        subst (λ l. kind.Same (told_at tells n p) l) (sym (bundle_there p (other_pair pair p e)))
+        (subst (λ o. kind.Same (told_of tells o) (bundle p arcs)) (sym (grows.others p e)) (old.stands p).same);
   }
 
-  absent_at : (p : ℤ × ℤ) (t : Bool) → same_pair pair p ≡ t → (lookup (same_pair p) n ≡ None) ↔ kind.Same (bundle p (arcs ++ (pair, arc) ∷ [])) []
-  absent_at p true e = subst (λ q. (lookup (same_pair q) n ≡ None) ↔ kind.Same (bundle q (arcs ++ (pair, arc) ∷ [])) []) (pair_is pair p e) absent_here
+  absent_at : (p : ℤ × ℤ) (t : Bool) → same_pair pair p ≡ t
+      → (lookup (same_pair p) n ≡ None) ↔ kind.Same (bundle p (arcs ++ (pair, arc) ∷ [])) []
+  absent_at p true e =
+      subst (λ q. (lookup (same_pair q) n ≡ None) ↔ kind.Same (bundle q (arcs ++ (pair, arc) ∷ [])) [])
+      (pair_is pair p e) absent_here
   absent_at p false e =
       subst (λ l. (lookup (same_pair p) n ≡ None) ↔ kind.Same l []) (sym (bundle_there p (other_pair pair p e)))
       (subst (λ o. (o ≡ None) ↔ kind.Same (bundle p arcs) []) (sym (grows.others p e)) (old.absent p))
 
   -- with one arc more
   pub tells_more : TableTells kind tells n (arcs ++ (pair, arc) ∷ [])
-  tells_more = record { stands = λ p. stands_at p (same_pair pair p) refl; absent = λ p. absent_at p (same_pair pair p) refl }
+  tells_more =
+      record { stands = λ p. stands_at p (same_pair pair p) refl; absent = λ p. absent_at p (same_pair pair p) refl }
 
 -- the capacity of what a table tells at a pair, with an arc more, is that of the arcs
-pub told_capacity : {B Arc : Type 0} (kind : ArcKind Arc) (tells : B → List Arc) → IsKind kind → (m : List ((ℤ × ℤ) × B)) (arcs : List ((ℤ × ℤ) × Arc)) (p : ℤ × ℤ) (arc : Arc) → TableTells kind tells m arcs → AreArcs kind arcs → kind.IsArc arc
+pub told_capacity : {B Arc : Type 0} (kind : ArcKind Arc) (tells : B → List Arc) → IsKind kind
+    → (m : List ((ℤ × ℤ) × B)) (arcs : List ((ℤ × ℤ) × Arc)) (p : ℤ × ℤ) (arc : Arc) → TableTells kind tells m arcs
+    → AreArcs kind arcs → kind.IsArc arc
     → kind.capacity (told_at tells m p ++ arc ∷ []) ≡ kind.capacity (bundle p arcs ++ arc ∷ [])
 told_capacity kind tells laws m arcs p arc old are is =
     laws.same_capacity (told_at tells m p ++ arc ∷ []) (bundle p arcs ++ arc ∷ [])
@@ -101,15 +124,22 @@ past_none : (x y : ℤ) → (x <ℤ y → ⊥) → int_lt x y ≡ false
 past_none x y h = by_lt_z x y (λ lt. absurd (h lt)) (λ le. grind (arith, ints))
 
 -- an arc that a table has taken has no fault
-pub taken_fault : {Arc : Type 0} (kind : ArcKind Arc) (nodes : ℤ) (arcs : List ((ℤ × ℤ) × Arc)) (is : Bool) (a : (ℤ × ℤ) × Arc) → (in_graph nodes a.0.0 && in_graph nodes a.0.1) ≡ true → is ≡ true → passes kind arcs a ≡ false → arc_fault kind nodes arcs is a ≡ None
+pub taken_fault : {Arc : Type 0} (kind : ArcKind Arc) (nodes : ℤ) (arcs : List ((ℤ × ℤ) × Arc)) (is : Bool)
+    (a : (ℤ × ℤ) × Arc) → (in_graph nodes a.0.0 && in_graph nodes a.0.1) ≡ true → is ≡ true → passes kind arcs a ≡ false
+    → arc_fault kind nodes arcs is a ≡ None
 taken_fault kind nodes arcs is a e f g = rw (e, f, g) refl
 
-pub sum_fault : {Arc : Type 0} (kind : ArcKind Arc) (nodes : ℤ) (arcs : List ((ℤ × ℤ) × Arc)) (is : Bool) (a : (ℤ × ℤ) × Arc) → (in_graph nodes a.0.0 && in_graph nodes a.0.1) ≡ true → is ≡ true → passes kind arcs a ≡ true → arc_fault kind nodes arcs is a ≡ Some SumTooLarge
+pub sum_fault : {Arc : Type 0} (kind : ArcKind Arc) (nodes : ℤ) (arcs : List ((ℤ × ℤ) × Arc)) (is : Bool)
+    (a : (ℤ × ℤ) × Arc) → (in_graph nodes a.0.0 && in_graph nodes a.0.1) ≡ true → is ≡ true → passes kind arcs a ≡ true
+    → arc_fault kind nodes arcs is a ≡ Some SumTooLarge
 sum_fault kind nodes arcs is a e f g = rw (e, f, g) refl
 
 -- whether the sum passes, by what the table answers
-pub sum_passes : {B Arc F : Type 0} (kind : ArcKind Arc) (tells : B → List Arc) → IsKind kind → (m : List ((ℤ × ℤ) × B)) (arcs : List ((ℤ × ℤ) × Arc)) (p : ℤ × ℤ) (arc : Arc) → TableTells kind tells m arcs → AreArcs kind arcs → kind.IsArc arc
-    → F ↔ (pos (2 ^ 63 - 1) <ℤ kind.capacity (told_at tells m p ++ arc ∷ [])) → (F → passes kind arcs (p, arc) ≡ true) × ((F → ⊥) → passes kind arcs (p, arc) ≡ false)
+pub sum_passes : {B Arc F : Type 0} (kind : ArcKind Arc) (tells : B → List Arc) → IsKind kind
+    → (m : List ((ℤ × ℤ) × B)) (arcs : List ((ℤ × ℤ) × Arc)) (p : ℤ × ℤ) (arc : Arc) → TableTells kind tells m arcs
+    → AreArcs kind arcs → kind.IsArc arc
+    → F ↔ (pos (2 ^ 63 - 1) <ℤ kind.capacity (told_at tells m p ++ arc ∷ [])) → (F → passes kind arcs (p, arc) ≡ true)
+    × ((F → ⊥) → passes kind arcs (p, arc) ≡ false)
 sum_passes kind tells laws m arcs p arc old are is h =
     let e = told_capacity kind tells laws m arcs p arc old are is in
     let past = kind.capacity (bundle p arcs ++ arc ∷ []) in (

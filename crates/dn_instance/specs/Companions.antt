@@ -1,4 +1,4 @@
--- Whether the nodes that a companion names are a graph's (this project's profile).
+-- Whether the nodes that a companion names are nodes of a graph (this project's profile).
 use Rattle.std.specs.Prelude.{ℕ, ℤ, List, [], ◌∷◌, int_lt, Option, Some, None, Result, Ok, Err, codes}
 use Rattle.std.specs.List.{find}
 use Rattle.dn_instance.specs.declared.companion.CompanionFault.{CompanionFault}
@@ -18,11 +18,11 @@ fault_name NotKinds = codes "NotKinds"
 abbrev pub both_nodes : ℤ × ℤ → List ℤ
 both_nodes p = p.0 ∷ p.1 ∷ []
 
--- refused with this node, if there is one
+-- the refusal that names this node, if there is a node
 abbrev pub unless_found : Option ℤ → Result (Unit {0}) CompanionFault
 unless_found None = Ok tt
 unless_found (Some id) = Err (NotInGraph id)
 
--- refused with the first of the nodes that is above NODES, if there is one
+-- the refusal that names the first of these nodes that is above NODES, if there is one
 abbrev pub within : ℤ → List ℤ → Result (Unit {0}) CompanionFault
 within nodes ids = unless_found (find (int_lt nodes) ids)

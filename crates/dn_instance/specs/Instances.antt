@@ -7,24 +7,24 @@ use Rattle.dn_arc.specs.declared.arc.LengthArc.{LengthArc}
 use Rattle.dn_arc.specs.declared.arc.CapArc.{CapArc}
 use Rattle.dn_arc.specs.declared.arc.CostArc.{CostArc}
 
--- nodes 1 to `nodes`, and the arcs in file order, each at its ordered pair (SRC, DST)
+-- a graph has the nodes 1 to `nodes`, and arcs in file order, each with its ordered pair (SRC, DST)
 pub record Graph (Arc : Type 0) : Type 0 where
   pub nodes : ℤ
   pub arcs : List ((ℤ × ℤ) × Arc)
 
 -- an instance of one of the six kinds
 pub data Instance : Type 0 where
-  -- `min`: the flow of each node whose flow is not 0, by rising ID, and the arcs
+  -- `min`: the flow of each node whose flow is not 0, by ascending ID, and the arcs
   MinCostFlow : List (ℤ × ℤ) → Graph CostArc → Instance
-  -- `max`: source, sink and arcs
+  -- `max`: the source, the sink and the arcs
   MaxFlow : ℤ → ℤ → Graph CapArc → Instance
-  -- `sp`: arcs
+  -- `sp`: the arcs
   ShortestPaths : Graph LengthArc → Instance
   -- `ss`: IDs in file order
   Sources : List ℤ → Instance
   -- `p2p`: pairs of IDs in file order
   Queries : List (ℤ × ℤ) → Instance
-  -- `co`: X and Y of each ID, by rising ID
+  -- `co`: X and Y of each ID, by ascending ID
   Coordinates : List (ℤ × (ℤ × ℤ)) → Instance
 
 -- the kind of an instance
@@ -36,7 +36,7 @@ kind_of (Sources ids) = Ss
 kind_of (Queries pairs) = P2p
 kind_of (Coordinates points) = Co
 
--- NODES; 0 for a companion
+-- NODES of an instance, or 0 for a companion
 abbrev pub nodes_of : Instance → ℤ
 nodes_of (MinCostFlow supplies graph) = graph.nodes
 nodes_of (MaxFlow source sink graph) = graph.nodes
@@ -45,7 +45,7 @@ nodes_of (Sources ids) = pos 0
 nodes_of (Queries pairs) = pos 0
 nodes_of (Coordinates points) = pos 0
 
--- ARCS or K: the number of arcs, items or points
+-- ARCS or K of an instance: the number of its arcs, items or points
 abbrev pub size_of : Instance → ℕ
 size_of (MinCostFlow supplies graph) = length graph.arcs
 size_of (MaxFlow source sink graph) = length graph.arcs

@@ -1,10 +1,10 @@
--- What a reader answers (this project's profile).
+-- What a reader returns (this project's profile).
 use Rattle.std.specs.Prelude.{◌≡◌, ℕ, ◌≤◌, List, [], ◌∷◌, ◌++◌, length, false}
 use Rattle.dn_line.specs.Pieces.{parts, is_line_feed}
 use Rattle.dn_line.specs.Words.{is_skip, said_words}
 use Rattle.dn_instance.specs.Texts.{IsClean}
 
--- the lines of a text that LFs have ended
+-- the complete lines of a text, which an LF ends
 abbrev pub ended : List ℕ → List (List ℕ)
 ended t = (parts is_line_feed t).0
 

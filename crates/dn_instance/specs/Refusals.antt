@@ -1,4 +1,4 @@
--- Numbers and names of refusals (this project's profile), and the refusal of a line.
+-- The numbers and names of refusals (this project's profile).
 use Rattle.std.specs.Prelude.{ℕ, List, codes}
 use Rattle.dn_line.specs.Names.{code_name, code_number}
 use Rattle.dn_instance.specs.declared.refusal.ItemFault.TheVariants as Faults

@@ -4,12 +4,13 @@ use Rattle.dn_arc.specs.Kinds.{ArcKind, costs, capacities, lengths}
 use Rattle.dn_arc.specs.Pairs.{bundle}
 use Rattle.dn_instance.specs.Instances.{Graph, Instance, MinCostFlow, MaxFlow, ShortestPaths, Sources, Queries, Coordinates}
 
--- the same NODES, and at each ordered pair arcs that mean the same
+-- two graphs have the same NODES, and at each ordered pair arcs that mean the same
 pub record SameGraph {Arc : Type 0} (kind : ArcKind Arc) (G H : Graph Arc) : Type 0 where
   pub nodes : G.nodes ≡ H.nodes
   pub bundles : (p : ℤ × ℤ) → kind.Same (bundle p G.arcs) (bundle p H.arcs)
 
--- the same kind, supplies or terminals, graph, list of items or map of points
+-- two instances are of the same kind, with the same supplies or terminals and graphs that mean the same, or the same
+-- list of items or map of points
 abbrev pub IsSame : Instance → Instance → Type 0
 IsSame (MinCostFlow s G) (MinCostFlow t H) = (s ≡ t) × SameGraph costs G H
 IsSame (MaxFlow a b G) (MaxFlow c d H) = (a ≡ c) × (b ≡ d) × SameGraph capacities G H

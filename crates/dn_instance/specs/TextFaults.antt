@@ -1,5 +1,5 @@
--- The faults that a line has after the items of the lines before it, and those at the end. Their numbers and the
--- order of checking are this project's profile; what is a fault is of the formats, as docs/FORMAT.md says of each.
+-- The faults that a line has after the items of the lines before it, and those at the end. The formats say what is a
+-- fault, as docs/FORMAT.md describes; the numbers and the order of checking are this project's profile.
 use Rattle.std.specs.Prelude.{ℕ, ◌-◌, ◌^◌, ℤ, pos, ◌+ℤ◌, List, [], ◌∷◌, ◌++◌, Bool, true, false, ◌&&◌, ◌||◌, not, cond, nat_le, is_none, is_some, Option, Some, None, Result, Ok, Err, int_lt}
 use Rattle.std.specs.List.{list_any, list_all}
 use Rattle.std.specs.Ordering.{int_eq}
@@ -28,23 +28,23 @@ item_spelled (Ok Item.Skip) = None
 item_spelled (Ok i) = Some i
 item_spelled (Err code) = None
 
--- the line's number is 2^63 - 1 at least
+-- the number of the line is at least 2^63 - 1
 abbrev pub is_too_long : ℕ → Bool
 is_too_long number = nat_le (2 ^ 63 - 1) number
 
--- an arc line
+-- the item is an arc
 abbrev pub is_arc : Line → Bool
 is_arc (Item.MinArc src dst low cap cost) = true
 is_arc (Item.MaxArc src dst cap) = true
 is_arc (Item.SpArc src dst length) = true
 is_arc _ = false
 
--- the letter `n` of a node line
+-- `n` is the letter of a node line
 abbrev pub is_node_letter : Option Keyword → Bool
 is_node_letter (Some Key.N) = true
 is_node_letter _ = false
 
--- the letter of a counted line
+-- these are the letters of counted lines
 abbrev pub is_counted_letter : Option Keyword → Bool
 is_counted_letter (Some Key.A) = true
 is_counted_letter (Some Key.S) = true
@@ -52,16 +52,16 @@ is_counted_letter (Some Key.Q) = true
 is_counted_letter (Some Key.V) = true
 is_counted_letter _ = false
 
--- an `n` line after an `a` line
+-- an `n` line comes after an `a` line
 abbrev pub is_late_node : List Line → List Word → Bool
 is_late_node before ws = is_node_letter (first ws) && list_any is_arc before
 
--- as many counted lines as declared
+-- the text has as many counted lines as it declares
 abbrev pub is_full : Option Problem → ℕ → Bool
 is_full None count = false
 is_full (Some p) count = not (int_lt (pos count) p.count)
 
--- a counted line when as many as declared were read
+-- a counted line comes after as many as are declared
 abbrev pub is_surplus : List Line → List Word → Bool
 is_surplus before ws = is_counted_letter (first ws) && is_full (problem_of before) (counted before)
 
@@ -77,50 +77,50 @@ ids_in (Item.Query first second) = first ∷ second ∷ []
 ids_in (Item.Point id x y) = id ∷ []
 ids_in _ = []
 
--- a kind of companions
+-- these kinds are companions
 abbrev pub is_companion : Kind → Bool
 is_companion Kinds.Ss = true
 is_companion Kinds.P2p = true
 is_companion Kinds.Co = true
 is_companion _ = false
 
--- 1 to NODES; in a companion, at least 1
+-- a node is in range: 1 to NODES, or at least 1 in a companion
 abbrev pub is_in_range : Option Problem → ℤ → Bool
 is_in_range None id = false
 is_in_range (Some p) id = int_lt (pos 0) id && (is_companion p.kind || not (int_lt p.nodes id))
 
--- an ID, SRC or DST out of range
+-- an ID, SRC or DST is out of range
 abbrev pub is_stray : List Line → Line → Bool
 is_stray before i = not (list_all (is_in_range (problem_of before)) (ids_in i))
 
--- a node line for this ID
+-- the item is a node line of a `min` text for this ID
 abbrev pub has_supply : ℤ → Line → Bool
 has_supply id (Item.Supply i flow) = int_eq i id
 has_supply id _ = false
 
--- a point for this ID
+-- the item is a point with this ID
 abbrev pub has_point : ℤ → Line → Bool
 has_point id (Item.Point i x y) = int_eq i id
 has_point id _ = false
 
--- a second node line or point for an ID, a second line for a terminal
+-- an earlier line is a node line or a point for the same ID, or a line for the same terminal
 abbrev pub is_repeated : List Line → Line → Bool
 is_repeated before (Item.Supply id flow) = list_any (has_supply id) before
 is_repeated before (Item.Terminal id letter) = is_some (terminal_of letter before)
 is_repeated before (Item.Point id x y) = list_any (has_point id) before
 is_repeated before _ = false
 
--- `t` for `s`, and `s` for `t`
+-- the other letter: `t` for `s`, and `s` for `t`
 abbrev pub other_letter : Letter → Letter
 other_letter Letters.S = Letters.T
 other_letter Letters.T = Letters.S
 
--- this node was named
+-- the node is this one, if there is one
 abbrev pub is_id : ℤ → Option ℤ → Bool
 is_id id None = false
 is_id id (Some other) = int_eq other id
 
--- source and sink are one node
+-- source and sink are the same node
 abbrev pub is_same_terminal : List Line → Line → Bool
 is_same_terminal before (Item.Terminal id letter) = is_id id (terminal_of (other_letter letter) before)
 is_same_terminal before _ = false
@@ -130,7 +130,7 @@ abbrev pub is_low_above_cap : Line → Bool
 is_low_above_cap (Item.MinArc src dst low cap cost) = int_lt cap low
 is_low_above_cap _ = false
 
--- the CAPs of this pair's earlier arcs and this one sum past 2^63 - 1
+-- the CAPs of the earlier arcs of this pair and of this one sum to more than 2^63 - 1
 abbrev pub is_sum_too_large : List Line → Line → Bool
 is_sum_too_large before (Item.MinArc src dst low cap cost) =
     int_lt (pos (2 ^ 63 - 1)) (cost_cap (bundle (src, dst) (arcs_of cost_arc_in before)) +ℤ cap)
@@ -138,12 +138,12 @@ is_sum_too_large before (Item.MaxArc src dst cap) =
     int_lt (pos (2 ^ 63 - 1)) (total_cap (bundle (src, dst) (arcs_of cap_arc_in before)) +ℤ cap)
 is_sum_too_large before _ = false
 
--- a fault of the item, where the line spells one
+-- a fault of the item, if the line spells one
 abbrev pub on_item : (Line → Bool) → Option Line → Bool
 on_item test None = false
 on_item test (Some i) = test i
 
--- the faults of an item after those before it, in the order of checking
+-- the faults that an item can have after the items before it, in the order of checking
 abbrev pub item_tests : List Line → Option Line → List Test
 item_tests before i =
     (NodeOutOfRange, on_item (is_stray before) i)
@@ -153,11 +153,11 @@ item_tests before i =
     ∷ (SumTooLarge, on_item (is_sum_too_large before) i)
     ∷ []
 
--- the faults of a line that need the lines before it
+-- the faults of a line that depend on the lines before it
 abbrev pub order_tests : List Line → List Word → List Test
 order_tests before ws = (LateNode, is_late_node before ws) ∷ (TooManyLines, is_surplus before ws) ∷ []
 
--- the faults of a line after these items, in the order of checking
+-- the faults that a line can have after these items, in the order of checking
 abbrev pub line_tests : List Line → List Word → List Test
 line_tests before ws =
     let known = kind_known before in
@@ -165,16 +165,16 @@ line_tests before ws =
     ++ (order_tests before ws
     ++ (field_tests (fields known ws) ++ item_tests before (item_spelled (words_read known ws))))
 
--- the first fault of the line of this number after these items; a skipped line can only be too long
+-- the first fault of the line with this number after these items; a skipped line can only be too long
 abbrev pub line_fault : ℕ → List Line → List Word → Option Code
 line_fault number before ws = first_fault ((TooLong, is_too_long number) ∷ cond (is_skip ws) [] (line_tests before ws))
 
--- a `max` problem without source or sink
+-- a `max` problem lacks its source or its sink
 abbrev pub lacks_terminal : Option Kind → List Line → Bool
 lacks_terminal (Some Kinds.Max) items = is_none (terminal_of Letters.S items) || is_none (terminal_of Letters.T items)
 lacks_terminal _ items = false
 
--- the faults at the end, in the order of checking
+-- the faults that a text can have at its end, in the order of checking
 abbrev pub end_tests : List Line → List Test
 end_tests items =
     (NoProblem, is_none (problem_of items))
@@ -182,6 +182,6 @@ end_tests items =
     ∷ (TooFewLines, not (is_full (problem_of items) (counted items)))
     ∷ []
 
--- the first fault of the end, if there is one
+-- the first fault at the end, if there is one
 abbrev pub end_fault : List Line → Option Code
 end_fault items = first_fault (end_tests items)

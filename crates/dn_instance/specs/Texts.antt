@@ -13,15 +13,15 @@ use Rattle.dn_instance.specs.Instances.{Instance}
 use Rattle.dn_instance.specs.Items.{instance_of, kind_known}
 use Rattle.dn_instance.specs.TextFaults.{item_spelled, line_fault, end_fault}
 
--- these items, and the one that the next line spells under the kind that they declare, if it spells one
+-- these items, followed by the item that the next line spells under the kind that they declare, if it spells one
 abbrev pub with_next : List Line → List Word → List Line
 with_next before ws = before ++ option_to_list (item_spelled (words_read (kind_known before) ws))
 
--- the items that the lines spell, in order, each after those before it
+-- the items that the lines spell, in order
 abbrev pub items_of : List (List ℕ) → List Line
 items_of ls = fold (λ before l. with_next before (said_words l)) [] ls
 
--- the line of this number, counted from 1, has this fault after the lines before it
+-- the line with this number, counted from 1, has this fault after the lines before it
 pub record FaultAt (ls : List (List ℕ)) (number : ℕ) (code : Code) : Type 0 where
   pub before : List (List ℕ)
   pub line : List ℕ
@@ -39,17 +39,17 @@ pub record IsFirstFaultAt (ls : List (List ℕ)) (number : ℕ) (code : Code) : 
   pub at : FaultAt ls number code
   pub first : (other : ℕ) (fault : Code) → FaultAt ls other fault → number ≤ other
 
--- no line has a fault, and the end has this one
+-- no line has a fault, and the end has this fault
 pub record IsEndFault (ls : List (List ℕ)) (code : Code) : Type 0 where
   pub clean : IsClean ls
   pub fault_is : end_fault (items_of ls) ≡ Some code
 
--- the first fault of a text: at the earliest faulty line, else at the end
+-- the first fault of a text is that of its earliest faulty line, or else that of its end
 abbrev pub IsFirstFault : List ℕ → Place → Code → Type 0
 IsFirstFault t (Places.Line number) code = IsFirstFaultAt (lines t) number code
 IsFirstFault t Places.End code = IsEndFault (lines t) code
 
--- the text is accepted, and describes this instance
+-- the text is accepted, and reads as this instance
 pub record Reads (t : List ℕ) (I : Instance) : Type 0 where
   pub clean : IsClean (lines t)
   pub whole : end_fault (items_of (lines t)) ≡ None

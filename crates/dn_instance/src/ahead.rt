@@ -1,4 +1,4 @@
-// The arcs that come next, looked at before they are taken.
+// Looks up where arcs go in a table before they are taken.
 ghost use Rattle.std.specs.Prelude.{◌≡◌};
 
 use dn_bundle::Bundle;
@@ -6,7 +6,8 @@ use dn_line::ArcLine;
 use dn_table::TableSoFar;
 use pair_index::AHEAD;
 
-// Has a table look up together where the pairs of these arcs stand, where that spares time. It decides only the speed.
+// Lets a table look up the positions of the pairs of these arcs together, if that saves time. This affects only the
+// speed.
 pub(crate) fn look_ahead<B: Bundle>(table: &mut TableSoFar<B>, arcs: &[ArcLine])
     ensures { table.new ≡ table.old }
 {
@@ -15,8 +16,8 @@ pub(crate) fn look_ahead<B: Bundle>(table: &mut TableSoFar<B>, arcs: &[ArcLine])
     }
 }
 
-// The ordered pairs of these arcs. Where there are fewer, (0, 0), which no arc has, stands for the others. No contract:
-// they are used for guesses.
+// Returns the ordered pairs of these arcs, filled up with (0, 0), which no arc has. This has no contract, because the
+// pairs are used only for hints.
 fn pairs_of(arcs: &[ArcLine]) -> [(i64, i64); AHEAD] {
     let mut pairs = [(0, 0); AHEAD];
     for (pair, next) in pairs.iter_mut().zip(arcs) {

@@ -1,4 +1,4 @@
-// Arcs as they come, merged into the bundles of their pairs.
+// Merges arcs into the bundles of their pairs as they arrive.
 ghost use Rattle.std.specs.Prelude.{◌≡◌, ◌↔◌, ℤ, List, [], ◌∷◌, ◌++◌, Bool, IsTrue, OnOk, OnErr, ◌&&◌};
 ghost use Rattle.dn_arc.specs.declared.arc.Form.{Form};
 ghost use Rattle.std.specs.Prelude.{Some, ◌≤◌, length, take};
@@ -22,14 +22,14 @@ use dn_line::{ArcLine, Code, Kind, Line, PlainArc};
 use dn_table::TableSoFar;
 use std::alloc::Global;
 
-// Whether a graph of this many nodes has the node.
+// Whether a graph with this many nodes has the node.
 pub(crate) fn in_graph(nodes: &i64, id: &i64) -> bool
     ensures { result ≡ in_graph nodes.now id.now }
 {
     0 < *id && *id <= *nodes
 }
 
-// Takes an arc between the nodes of a pair. On a fault nothing has changed.
+// Adds an arc between the nodes of a pair. After an error, nothing has changed.
 #[inline(always)]
 fn take_arc<B: Bundle>(
     table: &mut TableSoFar<B>,
@@ -59,15 +59,15 @@ fn take_arc<B: Bundle>(
     }
 }
 
-// A bundle of the arcs of one kind of text, which are taken from the numbers of their lines.
+// A bundle of the arcs of one kind of text. It makes these arcs from the numbers of their lines.
 pub(crate) trait LineBundle: Bundle {
     // The kind of text.
     ghost text: { Kind };
 
-    // Whether a table holds what the arcs among these items mean.
+    // A table represents the meaning of the arcs among these items.
     ghost holds: { List ((ℤ × ℤ) × Self) → List Line → Type 0 };
 
-    // Takes the arc of a line. On a fault nothing has changed.
+    // Adds the arc of a line. After an error, nothing has changed.
     fn take(
         table: &mut TableSoFar<Self>,
         alloc: Global,
@@ -149,8 +149,8 @@ impl LineBundle for Curve {
     }
 }
 
-// Takes arcs one after the other, up to the first that has a fault or that memory lacks for, and answers how many were
-// taken.
+// Adds arcs one after the other, up to the first that has a fault or for which memory runs out. Returns how many it
+// adds.
 pub(crate) fn take_arcs<B: LineBundle>(
     table: &mut TableSoFar<B>,
     alloc: Global,
@@ -170,7 +170,7 @@ pub(crate) fn take_arcs<B: LineBundle>(
     arcs.len()
 }
 
-// Whether it has both nodes of a pair.
+// Whether a graph has both nodes of a pair.
 fn joins_nodes(nodes: &i64, pair: &(i64, i64)) -> bool
     ensures { result ≡ (in_graph nodes.now pair.now.0 && in_graph nodes.now pair.now.1) }
 {

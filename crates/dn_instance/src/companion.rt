@@ -1,4 +1,4 @@
-// Whether a companion fits a graph.
+// Checks a companion against a graph.
 ghost use Rattle.std.specs.Prelude.{◌≡◌, ◌∷◌, []};
 ghost use Rattle.std.specs.List.{flat_map};
 ghost use Rattle.std.specs.Map.{keys_of};
@@ -14,19 +14,19 @@ use thiserror::Error;
 /// Why a companion does not fit a graph. Numbers and names are this project's profile.
 #[derive(Clone, Copy, Debug, PartialEq, Eq, Error)]
 pub enum CompanionFault {
-    /// 36: the first text is not `sp`, or the second is no companion.
+    /// 36: the first text is not `sp`, or the second is not a companion.
     #[error("not a graph and a companion")]
     NotKinds,
     /// 35: the companion names a node above NODES.
     #[error("node not in the graph")]
     NotInGraph {
-        /// The first such node: in file order, of a query's two the first before the second, points by rising ID.
+        /// The first such node, in file order, for `p2p` ID1 before ID2, and for `co` by ascending ID.
         id: i64,
     },
 }
 
 impl CompanionFault {
-    /// The number of the fault: 35 or 36.
+    /// Returns the number of the fault: 35 or 36.
     pub fn number(self) -> u8
         ensures { result ≡ fault_number self }
     {
@@ -36,7 +36,7 @@ impl CompanionFault {
         }
     }
 
-    /// The name of the fault, as it is printed: the variant's own.
+    /// Returns the name of the fault as it is printed: that of the variant.
     pub fn name(self) -> &'static str
         ensures { result.now ≡ fault_name self }
     {
@@ -47,12 +47,12 @@ impl CompanionFault {
     }
 }
 
-/// Whether the nodes that a companion names are nodes of the graph. Takes no memory.
+/// Checks that the nodes that a companion names are nodes of the graph. Allocates nothing.
 ///
 /// # Errors
 ///
-/// `NotKinds` unless `graph` is `sp` and `companion` is `ss`, `p2p` or `co`; else `NotInGraph` with the first node
-/// above NODES.
+/// Returns `NotKinds` unless `graph` is `sp` and `companion` is `ss`, `p2p` or `co`, and otherwise `NotInGraph` with
+/// the first node above NODES.
 pub fn check_companion(graph: &Held, companion: &Held) -> Result<(), CompanionFault>
     ensures { result ≡ judged (holding graph.now) (holding companion.now) }
 {
@@ -68,7 +68,7 @@ pub fn check_companion(graph: &Held, companion: &Held) -> Result<(), CompanionFa
     }
 }
 
-// Whether a node is at most NODES.
+// Checks that a node is at most NODES.
 fn check_id(nodes: &i64, id: &i64) -> Result<(), CompanionFault>
     ensures { result ≡ within nodes.now (id.now ∷ []) }
 {
@@ -79,7 +79,7 @@ fn check_id(nodes: &i64, id: &i64) -> Result<(), CompanionFault>
     }
 }
 
-// The same of a list.
+// Checks the IDs of an `ss` companion.
 fn check_ids(nodes: &i64, ids: &[i64]) -> Result<(), CompanionFault>
     ensures { result ≡ within nodes.now ids.now }
 {
@@ -91,7 +91,7 @@ fn check_ids(nodes: &i64, ids: &[i64]) -> Result<(), CompanionFault>
     Ok(())
 }
 
-// The same of pairs.
+// Checks the IDs of a `p2p` companion.
 fn check_pairs(nodes: &i64, pairs: &[(i64, i64)]) -> Result<(), CompanionFault>
     ensures { result ≡ within nodes.now (flat_map both_nodes pairs.now) }
 {
@@ -106,7 +106,7 @@ fn check_pairs(nodes: &i64, pairs: &[(i64, i64)]) -> Result<(), CompanionFault>
     Ok(())
 }
 
-// The same of points.
+// Checks the IDs of a `co` companion.
 fn check_points(nodes: &i64, points: &BTreeMap<i64, (i64, i64)>) -> Result<(), CompanionFault>
     ensures { result ≡ within nodes.now (keys_of points.now.entries) }
 {

@@ -1,4 +1,4 @@
-// What is kept of a text, by kind.
+// The content of a parsed instance, by kind.
 ghost use Rattle.std.specs.Prelude.{◌≡◌, ◌<◌, ◌^◌};
 ghost use Rattle.dn_instance.specs.State.EntryCount.{entries_of};
 ghost use Rattle.dn_instance.specs.State.Helds.{contents_kind, pair_count, Shows, contents_of, shown};
@@ -29,7 +29,7 @@ pub(crate) enum Content {
 }
 
 impl Content {
-    // The kind of text that it is of.
+    // Returns the kind of the text.
     pub(crate) fn kind(&self) -> Kind
         ensures { result ≡ contents_kind (contents_of self.now) }
     {
@@ -43,7 +43,7 @@ impl Content {
         }
     }
 
-    // How many ordered pairs have a bundle.
+    // Returns how many ordered pairs have a bundle.
     pub(crate) fn pairs(&self) -> usize
         ensures { result ≡ pair_count (contents_of self.now) }
     {
@@ -55,7 +55,7 @@ impl Content {
         }
     }
 
-    // How many entries it comes to.
+    // Returns how many entries the content makes.
     pub(crate) fn entries(&self) -> u64
         ensures { (I : Instance) → IsValid I → Shows (contents_of self.now) I → entries_of I < 2 ^ 64
             → result ≡ entries_of I }
@@ -70,7 +70,7 @@ impl Content {
         }
     }
 
-    // All of it.
+    // Returns a view of the content.
     pub(crate) fn view(&self) -> View<'_>
         ensures { shown result ≡ contents_of self.now }
     {

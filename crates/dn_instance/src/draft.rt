@@ -1,4 +1,4 @@
-// An instance in the making: what the items so far have made.
+// What the items so far make of an instance.
 ghost use Rattle.std.specs.Prelude.{◌≡◌, ◌<◌, ◌≤◌, ◌^◌, ℤ, List, ◌∷◌, ◌++◌, [], OnOk, OnErr, Some, length, take};
 ghost use Rattle.std.specs.List.{AllByRecursion};
 ghost use Rattle.dn_line.specs.State.ArcLines.{arc_of};
@@ -25,7 +25,7 @@ use std::alloc::Global;
 use std::collections::{BTreeMap, BTreeSet};
 
 // What the items so far make, by kind: flows, terminals, bundles by ordered pair, lists and points. Each arc is merged
-// into the bundle of its pair at once.
+// into the bundle of its pair when it arrives.
 #[derive(Drop)]
 pub(crate) enum Draft {
     // There is no problem line yet.
@@ -152,7 +152,7 @@ impl Draft {
         }
     }
 
-    // Counts the entries that the items so far come to.
+    // Counts the entries that the items so far make.
     pub(crate) fn entries(&self) -> u64
         ensures { (items : List Line) → DraftHolds self.now items
             → entries_by (draft_kind self.now) items < 2 ^ 64

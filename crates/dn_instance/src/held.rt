@@ -1,4 +1,4 @@
-// What is held of a text that was read.
+// The parsed instance.
 ghost use Rattle.std.specs.Prelude.{◌≡◌};
 ghost use Rattle.dn_instance.specs.State.EntryCount.{entries_of};
 ghost use Rattle.dn_instance.specs.State.Helds.{contents_kind, pair_count, IsHeld, contents_of, holding, shown};
@@ -9,7 +9,7 @@ use crate::content::Content;
 use crate::view::View;
 use dn_line::Kind;
 
-/// The problem, graph or companion that a text was read as.
+/// A parsed instance: the problem, graph or companion that a text reads as.
 #[derive(Drop)]
 pub struct Held {
     nodes: i64,
@@ -18,7 +18,7 @@ pub struct Held {
 }
 
 impl Held {
-    // What is held of a text with these nodes and as many counted lines.
+    // Makes the parsed instance of a text with this NODES and this many counted lines.
     pub(crate) fn new(nodes: i64, lines: i64, content: Content) -> Held
         ensures nodes { (holding result).nodes ≡ nodes }
         ensures lines { (holding result).lines ≡ lines }
@@ -31,36 +31,37 @@ impl Held {
         }
     }
 
-    /// The kind of text that it is.
+    /// Returns the kind of the text.
     pub fn kind(&self) -> Kind
         ensures { result ≡ contents_kind (holding self.now).contents }
     {
         self.content.kind()
     }
 
-    /// NODES; 0 for a companion.
+    /// Returns NODES, or 0 for a companion.
     pub fn nodes(&self) -> i64
         ensures { result ≡ (holding self.now).nodes }
     {
         self.nodes
     }
 
-    /// How many counted lines were read: arcs, items or points.
+    /// Returns how many counted lines were read: arcs, items or points.
     pub fn lines(&self) -> i64
         ensures { result ≡ (holding self.now).lines }
     {
         self.lines
     }
 
-    /// How many ordered pairs have a bundle; 0 for a companion.
+    /// Returns how many ordered pairs have a bundle, or 0 for a companion.
     pub fn pairs(&self) -> u64
         ensures { result ≡ pair_count (holding self.now).contents }
     {
         self.content.pairs() as u64
     }
 
-    /// How many entries it comes to: `sp` and `max` the pairs that have a bundle; `min` the pairs with a LOW above 0,
-    /// and each COST of a pair that has an arc whose CAP is above its LOW; a companion its items.
+    /// Returns how many entries the instance makes: for `sp` and `max` the pairs that have a bundle, for `min` the
+    /// pairs with a LOW above 0 and each COST of a pair with an arc whose CAP is above its LOW, and for a companion its
+    /// items.
     pub fn entries(&self) -> u64
         ensures { (I : Instance) → IsValid I → IsHeld (holding self.now) I → result ≡ entries_of I }
     {
@@ -71,7 +72,7 @@ impl Held {
         }
     }
 
-    /// All that is held.
+    /// Returns a view of the whole content.
     pub fn view(&self) -> View<'_>
         ensures { shown result ≡ (holding self.now).contents }
     {

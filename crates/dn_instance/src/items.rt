@@ -1,4 +1,4 @@
-// Items other than arcs, as they come.
+// Takes items other than arcs as they arrive.
 ghost use Rattle.std.specs.Prelude.{◌≡◌, ◌||◌, ◌&&◌, ℤ, [], ◌∷◌, ◌++◌, OnOk, OnErr, Some, pos, is_some, cond, true, Err};
 ghost use Rattle.std.specs.BTreeMap as Map;
 ghost use Rattle.std.specs.BTreeSet as Set;
@@ -10,7 +10,7 @@ use crate::refusal::ItemFault;
 use dn_line::Code;
 use std::collections::{BTreeMap, BTreeSet};
 
-// Takes the terminal of a `max` node line, beside the other one. On a fault nothing has changed.
+// Takes the terminal of a `max` node line, given the other terminal. After an error, nothing has changed.
 pub(crate) fn take_terminal(
     own: &mut Option<i64>,
     other: &Option<i64>,
@@ -36,7 +36,7 @@ pub(crate) fn take_terminal(
     Ok(())
 }
 
-// Takes the ID of an `ss` line. On a fault nothing has changed.
+// Takes the ID of an `ss` line. After an error, nothing has changed.
 pub(crate) fn take_source(ids: &mut Vec<i64>, id: &i64) -> Result<(), ItemFault>
     ensures answer { AnswersFault result (id_fault id.now) }
     ensures ok { OnOk result (ids.new.items ≡ ids.old.items ++ id.now ∷ []) }
@@ -51,7 +51,7 @@ pub(crate) fn take_source(ids: &mut Vec<i64>, id: &i64) -> Result<(), ItemFault>
     }
 }
 
-// Takes the IDs of a `p2p` line. On a fault nothing has changed.
+// Takes the IDs of a `p2p` line. After an error, nothing has changed.
 pub(crate) fn take_query(pairs: &mut Vec<(i64, i64)>, pair: (i64, i64)) -> Result<(), ItemFault>
     ensures answer { AnswersFault result (pair_fault pair) }
     ensures ok { OnOk result (pairs.new.items ≡ pairs.old.items ++ pair ∷ []) }
@@ -66,7 +66,7 @@ pub(crate) fn take_query(pairs: &mut Vec<(i64, i64)>, pair: (i64, i64)) -> Resul
     }
 }
 
-// Takes the point of a `co` line. On a fault nothing has changed.
+// Takes the point of a `co` line. After an error, nothing has changed.
 pub(crate) fn take_point(
     points: &mut BTreeMap<i64, (i64, i64)>,
     id: &i64,
@@ -88,8 +88,8 @@ pub(crate) fn take_point(
     }
 }
 
-// Takes the flow of a `min` node line: beside the supplies, the nodes are kept whose lines give them the flow 0. On a
-// fault nothing has changed.
+// Takes the flow of a `min` node line. Nodes whose flow is 0 are kept apart from the supplies. After an error, nothing
+// has changed.
 pub(crate) fn take_supply(
     supplies: &mut BTreeMap<i64, i64>,
     idle: &mut BTreeSet<i64>,
@@ -120,7 +120,7 @@ pub(crate) fn take_supply(
     }
 }
 
-// Takes a flow other than 0 of a node that had no line. On want of memory nothing has changed.
+// Adds a flow other than 0 for a node without a line. If an allocation fails, nothing changes.
 fn put_flow(supplies: &mut BTreeMap<i64, i64>, id: &i64, flow: &i64) -> Result<(), ItemFault>
     ensures ok { OnOk result (supplies.new.entries ≡ Map.insert_entry int_cmp supplies.old.entries id.now flow.now) }
     ensures err { OnErr result (supplies.new.entries ≡ supplies.old.entries) }
@@ -132,7 +132,7 @@ fn put_flow(supplies: &mut BTreeMap<i64, i64>, id: &i64, flow: &i64) -> Result<(
     }
 }
 
-// Notes a node whose line gives it the flow 0.
+// Records a node whose line gives it the flow 0.
 fn put_idle(idle: &mut BTreeSet<i64>, id: &i64) -> Result<(), ItemFault>
     ensures ok { OnOk result ((q : ℤ) → Set.contains int_cmp idle.new q
         ≡ cond (Map.is_at (int_cmp id.now) q) true (Set.contains int_cmp idle.old q)) }

@@ -1,11 +1,12 @@
-//! Whole texts: the instance that a text reads as, or its first fault; what an instance means. A text comes whole, in
-//! pieces, or from a source; its first fault is told as soon as its line has come, and a refusal stays.
+//! Whole texts: which instance a text reads as, or its first fault, and what an instance means. A text can be read
+//! whole, in pieces, or from a source. Its first fault is returned as soon as its line has arrived, and a refusal stays
+//! the same.
 //!
-//! In the order of the data: `read` takes a text from memory or pulls it from a source, `reader` takes it in pieces, and
-//! `text_so_far` takes each line and checks what depends on the number and order of lines. `draft` is what the items
-//! make: `arcs` and `items` take them, and `ahead` looks up where the next arcs go. `refusal` says why an item and a text
-//! are refused, and where. What is read is `held`, by kind in `content`, and shown by a `view`; `companion` judges a
-//! companion by its graph.
+//! In the order of the data: `read` reads a text from memory or from a source, `reader` reads it in pieces, and
+//! `text_so_far` takes each line and checks what depends on the number and order of lines. `draft` has what the items
+//! make: `arcs` and `items` take them, and `ahead` looks up where the next arcs go. `refusal` says why an item or a
+//! text is refused, and where. `held` is the parsed instance, whose `content` depends on the kind, and a `view` shows
+//! it. `companion` checks a companion against its graph.
 #![tactic(auto)]
 
 mod ahead;

@@ -1,4 +1,4 @@
-// A whole text, from memory or from a source.
+// Reads a whole text from memory or from a source.
 ghost use Rattle.std.specs.Prelude.{◌≡◌, ◌<◌, ◌≤◌, [], ◌++◌, ℕ, List, length, Err, None, IsTrue, IfOk, IfErr, OnOk, OnErr};
 ghost use Rattle.std.specs.Io.KnownBytes.{Consumes, IsAtEnd, Keeps};
 ghost use Rattle.dn_instance.specs.State.Readers.{Outcome, refusal_of};
@@ -12,13 +12,13 @@ use crate::refusal::Refusal;
 use dn_line::Source;
 use std::alloc::Global;
 
-// How often a source is pulled before it is held to have no end.
+// After this many pulls that gave bytes, a source counts as endless.
 const PULLS: u64 = 1 << 40;
 
-// How many bytes a source is asked for at once.
+// How many bytes a pull asks for.
 const PIECE: usize = 4096;
 
-/// What a text reads as, or its first fault. `Memory` comes only at a line without fault.
+/// Returns what a text reads as, or its first fault. Returns `Memory` only at a line without a fault.
 pub fn read_text(alloc: Global, text: &[u8]) -> Result<Held, Refusal>
     ensures { Outcome text.now result }
 {
@@ -27,9 +27,9 @@ pub fn read_text(alloc: Global, text: &[u8]) -> Result<Held, Refusal>
     reader.finish_fed(fed)
 }
 
-/// What the text that a source gives reads as, or its first fault. What is held stands for the instance that some text
-/// reads as, also where nothing is known of the bytes of the source. Pulls no more once the text is refused, and not
-/// past its end. Answers `Read` where the source failed, and `Endless` where 2^40 pulls gave bytes and no end came.
+/// Returns what the text of a source reads as, or its first fault. The parsed instance represents an instance that some
+/// text reads as, even if the bytes of the source are unknown. Stops pulling once the text is refused or at its end.
+/// Returns `Read` if the source fails, and `Endless` if 2^40 pulls give bytes and no end comes.
 pub fn read_from<S: Source>(alloc: Global, source: &mut S) -> Result<Held, Refusal>
     ensures held { IfOk result HoldsSome }
     ensures outcome { ReadsSource S.source source.old source.new result }
@@ -41,9 +41,9 @@ pub fn read_from<S: Source>(alloc: Global, source: &mut S) -> Result<Held, Refus
     reader.finish_fed(fed)
 }
 
-/// As `read_from`, and each piece is added to `text` before it is read: `text` gains all that the source gives, but for
-/// a piece for which memory was wanted. `Memory` for the copy comes only while no line of the earlier pieces that an LF
-/// has ended is faulty.
+/// Reads a text as `read_from` does, and appends each piece to `text` before reading it. So `text` gains everything
+/// that the source gives, except for a piece for which memory runs out. `Memory` for the copy comes only while no
+/// complete line of the earlier pieces is faulty.
 pub fn read_keep<S: Source>(
     alloc: Global,
     source: &mut S,
@@ -60,7 +60,7 @@ pub fn read_keep<S: Source>(
     reader.finish_fed(fed)
 }
 
-// Feeds a reader that has no bytes yet all that a source gives.
+// Feeds everything that a source gives to a reader without bytes.
 fn feed_all<S: Source>(source: &mut S, reader: &mut Reader) -> Result<(), Refusal>
     requires { ReaderAt reader.old [] × (refusal_of reader.old ≡ None) }
     ensures ok { OnOk result (IsFed (S.source.gives source.old) (S.source.gives source.new) reader.new) }
@@ -79,7 +79,7 @@ fn feed_all<S: Source>(source: &mut S, reader: &mut Reader) -> Result<(), Refusa
     Err(Refusal::Endless)
 }
 
-// The same, and each piece is added to `text` before the reader is fed it.
+// Feeds everything that a source gives to a reader without bytes, and first appends each piece to `text`.
 fn keep_all<S: Source>(
     source: &mut S,
     text: &mut Vec<u8>,
@@ -106,7 +106,7 @@ fn keep_all<S: Source>(
     Err(Refusal::Endless)
 }
 
-// The next bytes of a source, in this room; none only at the end. Answers `Read` where it failed.
+// Pulls the next bytes of a source into `room`. Returns none only at the end, and `Read` if the source fails.
 fn next_piece<'a, S: Source>(source: &mut S, room: &'a mut [u8]) -> Result<&'a [u8], Refusal>
     requires { 0 < length room.old }
     ensures bytes { IfOk result (λ piece. Consumes (S.source.gives source.old) (S.source.gives source.new) piece.now) }
@@ -124,7 +124,7 @@ fn next_piece<'a, S: Source>(source: &mut S, room: &'a mut [u8]) -> Result<&'a [
     }
 }
 
-// Adds a piece to a copy. On want of memory nothing has changed.
+// Appends a piece to a copy. If an allocation fails, nothing changes.
 fn keep_piece(text: &mut Vec<u8>, piece: &[u8]) -> Result<(), Refusal>
     ensures ok { OnOk result (text.new.items ≡ text.old.items ++ piece.now) }
     ensures err { OnErr result (text.new.items ≡ text.old.items) }

@@ -1,4 +1,4 @@
-// A text that is read in any pieces.
+// Reads a text in any pieces.
 ghost use Rattle.std.specs.Prelude.{◌≡◌, ◌≤◌, ℕ, List, [], ◌++◌, length, take, drop, Some, None, Err, ◌<◌, IfOk, MatchResult};
 ghost use Rattle.dn_line.specs.State.LineStates.{LineSoFar, LineReaderAt, used_of};
 ghost use Rattle.dn_line.specs.Pieces.{lines};
@@ -14,7 +14,7 @@ use crate::text_so_far::TextSoFar;
 use dn_line::{ArcBlock, LineReader};
 use std::alloc::Global;
 
-/// Reads a text that comes in any pieces. It stands for the bytes that were fed.
+/// Reads a text that arrives in any pieces. A reader represents the bytes that it was fed.
 #[derive(Drop)]
 pub struct Reader {
     alloc: Global,
@@ -24,7 +24,7 @@ pub struct Reader {
 }
 
 impl Reader {
-    /// A reader that no byte came to. What it reads is kept in memory of `alloc`.
+    /// Returns a reader without bytes. It allocates what it keeps from `alloc`.
     pub fn new(alloc: Global) -> Reader
         ensures stands { ReaderAt result [] }
         ensures fine { refusal_of result ≡ None }
@@ -37,7 +37,7 @@ impl Reader {
         }
     }
 
-    // Takes the line that it stands for.
+    // Takes the line that the line reader represents.
     fn close(&mut self) -> Result<(), Refusal>
         ensures taken { (ls : List (List ℕ)) (l : LineSoFar) → TextAt self.old.text ls → LineReaderAt self.old.line l
             → Takes self.new ls l.bytes result }
@@ -56,8 +56,7 @@ impl Reader {
         }
     }
 
-    // Takes the arcs whose plain lines stand at the front of a piece, where no line goes on, and answers how long they
-    // are.
+    // Takes the plain arc lines that a piece begins with, if no line is open. Returns how many bytes they have.
     fn take_arcs(&mut self, block: &mut ArcBlock, piece: &[u8]) -> usize
         ensures taken { (t : List ℕ) → IsReading self.old t → IsReading self.new (t ++ take result piece.now) }
         ensures within { result ≤ length piece.now }
@@ -69,7 +68,7 @@ impl Reader {
         }
     }
 
-    // Takes the front of a piece up to and with its first LF, or all of it, and answers how long that is.
+    // Takes a piece up to and with its first LF, or all of it. Returns how many bytes it takes.
     fn step(&mut self, piece: &[u8]) -> Result<usize, Refusal>
         requires { 0 < length piece.now }
         ensures used { IfOk result (λ n. n ≡ used_of piece.now) }
@@ -85,12 +84,12 @@ impl Reader {
                 Err(refusal) => Err(refusal),
             },
             Ok(step) => Ok(step.used),
-            // Never: a line reader is of fixed size.
+            // Never: a line reader has a fixed size.
             Err(_) => Err(Refusal::Memory),
         }
     }
 
-    // Takes plain lines of arcs at the front of a piece, or its front as `step` does, and answers how long that is.
+    // Takes plain arc lines, or else what `step` takes. Returns how many bytes it takes.
     fn advance(&mut self, block: &mut ArcBlock, piece: &[u8]) -> Result<usize, Refusal>
         requires { 0 < length piece.now }
         ensures some { IfOk result (λ n. 0 < n) }
@@ -115,8 +114,9 @@ impl Reader {
         }
     }
 
-    /// Takes the next piece of the text. Answers the first fault of the text as soon as the LF of its line has come,
-    /// and not before; want of memory only at a line without fault; and a refusal that it has answered again.
+    /// Takes the next piece of the text. Returns the first fault of the text as soon as the LF of its line has arrived,
+    /// and not before. Returns `Memory` only at a line that spells an item and has no fault. After a refusal, returns
+    /// the same refusal at each call.
     pub fn feed(&mut self, piece: &[u8]) -> Result<(), Refusal>
         ensures stands { (t : List ℕ) → ReaderAt self.old t → ReaderAt self.new (t ++ piece.now) }
         ensures told { (t : List ℕ) → ReaderAt self.old t → Fed (t ++ piece.now) result }
@@ -138,8 +138,8 @@ impl Reader {
         Ok(())
     }
 
-    /// How many entries the complete lines so far come to, counted as `Held::entries` does; 0 before the problem line;
-    /// of a refused reader, the lines before the refused one.
+    /// Returns how many entries the complete lines so far make, counted as by `Held::entries`. Before the problem line
+    /// this is 0. For a refused reader, the lines before the refused one count.
     pub fn entries(&self) -> u64
         ensures fine { CountsRead self.now result }
         ensures refused { CountsBefore self.now result }
@@ -147,7 +147,7 @@ impl Reader {
         self.text.entries()
     }
 
-    /// What the whole text reads as. A last line without LF is taken before the end is judged.
+    /// Returns what the whole text reads as. Takes a last line without LF before it checks the end.
     pub fn finish(mut self) -> Result<Held, Refusal>
         ensures outcome { (t : List ℕ) → ReaderAt self t → Outcome t result }
         ensures memory { WantsAtEnd self result }
@@ -172,14 +172,14 @@ impl Reader {
         }
     }
 
-    // What the complete lines make.
+    // Returns what the complete lines make.
     fn into_text(self) -> TextSoFar
         ensures { result ≡ self.text }
     {
         self.text
     }
 
-    // The same once pieces were fed, or the refusal that this gave.
+    // Finishes a reader that was fed pieces, or returns the refusal of feeding.
     pub(crate) fn finish_fed(self, fed: Result<(), Refusal>) -> Result<Held, Refusal>
         ensures { MatchResult fed (λ x. Finishes self result) (λ e. result ≡ Err e) }
     {
@@ -193,7 +193,7 @@ impl Reader {
     }
 }
 
-// The refusal of the line of this number.
+// Returns the refusal of the line with this number.
 fn refused_at(number: u64, fault: ItemFault) -> Refusal
     ensures { result ≡ refused_at number fault }
 {

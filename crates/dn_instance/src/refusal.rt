@@ -1,4 +1,4 @@
-// Why an item is not taken, and why a text is not read, or not written.
+// Why an item is not taken, and why a text is not read or not written.
 ghost use Rattle.std.specs.Prelude.{◌≡◌};
 ghost use Rattle.dn_instance.specs.Refusals.{refusal_name, refusal_number};
 
@@ -6,7 +6,7 @@ use dn_line::Code;
 use std::error::Error;
 use std::fmt;
 
-// Why an item is not taken: a fault of the text, or want of memory.
+// Why an item is not taken: the text has a fault, or memory ran out.
 #[derive(Clone, Copy)]
 pub(crate) enum ItemFault {
     Text(Code),
@@ -16,27 +16,27 @@ pub(crate) enum ItemFault {
 /// Where a text is refused.
 #[derive(Clone, Copy, Debug, PartialEq, Eq)]
 pub enum Place {
-    /// At this line, counted from 1, comments and blank lines too.
+    /// At this line, counted from 1, including comments and blank lines.
     Line(u64),
-    /// At the end, where no line is faulty.
+    /// At the end, if no line is faulty.
     End,
 }
 
 /// Why a text was not read, or its canonical text not written. Numbers and names are this project's profile.
 #[derive(Clone, Copy, Debug, PartialEq, Eq)]
 pub enum Refusal {
-    /// 1 to 21: the first fault of the text, and where it stands.
+    /// 1 to 21: the first fault of the text, and its place.
     Text {
-        /// Where the fault stands.
+        /// The place of the fault.
         place: Place,
-        /// Which fault it is.
+        /// The fault.
         code: Code,
     },
-    /// 30: a growth of memory was refused.
+    /// 30: an allocation failed.
     Memory,
     /// 31: the source of bytes failed.
     Read,
-    /// 32: 2^40 pulls gave bytes, and no end came.
+    /// 32: 2^40 pulls gave bytes, and the end did not come.
     Endless,
     /// 33: the sink of bytes failed.
     Write,
@@ -60,7 +60,7 @@ impl fmt::Display for Refusal {
 impl Error for Refusal {}
 
 impl Refusal {
-    /// The number of the refusal: 1 to 21, or 30 to 34.
+    /// Returns the number of the refusal: 1 to 21, or 30 to 34.
     pub fn number(self) -> u8
         ensures { result ≡ refusal_number self }
     {
@@ -74,7 +74,7 @@ impl Refusal {
         }
     }
 
-    /// The name of the refusal, as it is printed: the code's, or the variant's own.
+    /// Returns the name of the refusal as it is printed: that of the code or of the variant.
     pub fn name(self) -> &'static str
         ensures { result.now ≡ refusal_name self }
     {

@@ -63,7 +63,7 @@ impl TextSoFar {
         self.closed.saturating_add(1)
     }
 
-    // Returns the first fault that a line has by the lines before it, where its head has none.
+    // Returns the first fault that a line has because of the lines before it, if its head has no fault.
     fn check_order(&self, head: Head) -> Option<Code>
         ensures answer { (before : List Line) (ws : List Word) → HasRead self.now before
             → first_fault (head_tests (draft_kind self.now.draft) ws) ≡ None
@@ -229,7 +229,7 @@ impl TextSoFar {
         bytes.len().saturating_sub(left)
     }
 
-    // Counts the entries that the lines so far come to.
+    // Counts the entries that the lines so far make.
     pub(crate) fn entries(&self) -> u64
         ensures { (ls : List (List ℕ)) → TextAt self.now ls
             → result ≡ entries_so_far (items_of ls) }
@@ -237,7 +237,7 @@ impl TextSoFar {
         self.draft.entries()
     }
 
-    // Returns what is held at the end, or the fault there.
+    // Returns the parsed instance at the end, or the fault there.
     pub(crate) fn end(self) -> Result<Held, Code>
         ensures { (ls : List (List ℕ)) → TextAt self ls → EndsWith (items_of ls) result }
     {

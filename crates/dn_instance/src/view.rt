@@ -1,10 +1,10 @@
-// What is shown of a text that was read.
+// A view of a parsed instance.
 
 use dn_bundle::{Curve, Least, Total};
 use dn_table::Table;
 use std::collections::BTreeMap;
 
-/// What is held of a text, by kind.
+/// The content of a parsed instance, by kind.
 #[derive(Clone, Copy)]
 pub enum View<'a> {
     /// A `min` problem: the flow of each node whose flow is not 0, and a cost curve for each pair.

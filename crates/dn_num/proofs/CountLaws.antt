@@ -22,7 +22,8 @@ lessened_is xs h = zip2_splat (λ a b. (a + (256 - b)) % 256) xs 8 48 h
 
 -- the mask of the lanes that are not digits
 pub others_mask : (xs : List ℕ) → length xs ≡ 8
-    → mask_l (map (top 7) (zip2 (λ a b. cond (ltb a b) 255 0) (replicate 8 9) (lessened xs))) % 2 ^ 64 ≡ mask_l (map is_other xs)
+    → mask_l (map (top 7) (zip2 (λ a b. cond (ltb a b) 255 0) (replicate 8 9) (lessened xs))) % 2 ^ 64 ≡ mask_l
+    (map is_other xs)
 others_mask xs h =
     let ds : List ℕ = map (λ x. (x + 208) % 256) xs in
     let long : length ds ≡ 8 = length-map xs (λ x. (x + 208) % 256) ∙ h in
@@ -35,18 +36,23 @@ others_mask xs h =
 
 same_prefix : (p q : ℕ → Bool) (xs : List ℕ) → Each1 (λ x. p x ≡ q x) xs → prefix_len p xs ≡ prefix_len q xs
 same_prefix p q [] h = refl
-same_prefix p q (x ∷ xs) h = ap (λ b. cond b (1 + prefix_len p xs) 0) h.0 ∙ ap (λ n. cond (q x) (1 + n) 0) (same_prefix p q xs h.1)
+same_prefix p q (x ∷ xs) h =
+    ap (λ b. cond b (1 + prefix_len p xs) 0) h.0 ∙ ap (λ n. cond (q x) (1 + n) 0) (same_prefix p q xs h.1)
 
 digit_test : (x : ℕ) → x < 256 → not (is_other x) ≡ is_digit x
 digit_test x h = grind (arith, nat_tests)
 
 digits_prefix : (xs : List ℕ) → Each1 (λ x. x < 256) xs → prefix_len (λ x. not (is_other x)) xs ≡ prefix_len is_digit xs
-digits_prefix xs h = same_prefix (λ x. not (is_other x)) is_digit xs (Each1-weaker (λ x. x < 256) (λ x. not (is_other x) ≡ is_digit x) digit_test xs h)
+digits_prefix xs h =
+    same_prefix (λ x. not (is_other x)) is_digit xs
+    (Each1-weaker (λ x. x < 256) (λ x. not (is_other x) ≡ is_digit x) digit_test xs h)
 
-pub all_digits : (xs : List ℕ) (m : ℕ) → length xs ≡ 8 → Each1 (λ x. x < 256) xs → m ≡ mask_l (map is_other xs) → m ≡ 0 → 8 ≡ prefix_len is_digit xs
+pub all_digits : (xs : List ℕ) (m : ℕ) → length xs ≡ 8 → Each1 (λ x. x < 256) xs → m ≡ mask_l (map is_other xs) → m ≡ 0
+    → 8 ≡ prefix_len is_digit xs
 all_digits xs m n h e z = sym (sym (digits_prefix xs h) ∙ leading_from_mask_l is_other xs (sym e ∙ z) ∙ n)
 
-pub some_digits : (xs : List ℕ) (m : ℕ) → length xs ≡ 8 → Each1 (λ x. x < 256) xs → m ≡ mask_l (map is_other xs) → 0 < m → count_trailing_zeros 64 m ≡ prefix_len is_digit xs
+pub some_digits : (xs : List ℕ) (m : ℕ) → length xs ≡ 8 → Each1 (λ x. x < 256) xs → m ≡ mask_l (map is_other xs) → 0 < m
+    → count_trailing_zeros 64 m ≡ prefix_len is_digit xs
 some_digits xs m n h e z =
     ap (count_trailing_zeros 64) e ∙ trailing_mask_l is_other 64 xs (omega arith) (omega arith) ∙ digits_prefix xs h
 
@@ -58,5 +64,6 @@ prefix_le (x ∷ xs) = by_test (is_digit x) (prefix_le xs)
     by_test true h = omega arith
     by_test false h = omega arith
 
-pub some_within : (xs : List ℕ) (m : ℕ) → length xs ≡ 8 → Each1 (λ x. x < 256) xs → m ≡ mask_l (map is_other xs) → 0 < m → count_trailing_zeros 64 m ≤ 8
+pub some_within : (xs : List ℕ) (m : ℕ) → length xs ≡ 8 → Each1 (λ x. x < 256) xs → m ≡ mask_l (map is_other xs) → 0 < m
+    → count_trailing_zeros 64 m ≤ 8
 some_within xs m n h e z = omega (arith, some_digits xs m n h e z, prefix_le xs, n)

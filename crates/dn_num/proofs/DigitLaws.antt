@@ -24,7 +24,8 @@ lowered (suc z) [] h = shifted_none (8 * suc z)
 lowered (suc z) (c ∷ cs) h =
     let n : ℕ = number_l 256 cs in
     let e : 8 * suc z ≡ 8 + 8 * z = omega arith in
-    ap (λ k. (c + 256 * n) / 2 ^ k) e ∙ sym (shr-shr (c + 256 * n) 8 (8 * z)) ∙ ap (λ m. m / 2 ^ (8 * z)) (high 8 c n h.0) ∙ lowered z cs h.1
+    ap (λ k. (c + 256 * n) / 2 ^ k) e ∙ sym (shr-shr (c + 256 * n) 8 (8 * z))
+    ∙ ap (λ m. m / 2 ^ (8 * z)) (high 8 c n h.0) ∙ lowered z cs h.1
 
 pub each_drop : (P : ℕ → Type 0) (z : ℕ) (cs : List ℕ) → Each1 P cs → Each1 P (drop z cs)
 each_drop P zero cs h = h
@@ -40,7 +41,9 @@ codes_value : (ds : List ℕ) → digits_number (codes_of ds) ≡ places ds
 codes_value [] = refl
 codes_value (d ∷ ds) =
     let e : d + 48 - 48 ≡ d = omega arith in
-    ap (λ n. (d + 48 - 48) * 10 ^ n + digits_number (codes_of ds)) (length-map ds (λ d. d + 48)) ∙ ap (λ x. x * 10 ^ length ds + digits_number (codes_of ds)) e ∙ ap (λ x. d * 10 ^ length ds + x) (codes_value ds)
+    ap (λ n. (d + 48 - 48) * 10 ^ n + digits_number (codes_of ds)) (length-map ds (λ d. d + 48))
+    ∙ ap (λ x. x * 10 ^ length ds + digits_number (codes_of ds)) e
+    ∙ ap (λ x. d * 10 ^ length ds + x) (codes_value ds)
 
 code_digit : (d : ℕ) → d < 10 → is_digit (d + 48) ≡ true
 code_digit d h = grind (arith, nat_tests)
@@ -53,12 +56,16 @@ pub eight_places : (n : ℕ) → places (eight_digits n) ≡ n
 eight_places n = omega arith
 
 pub eight_small : (n : ℕ) → n < 100000000 → Each1 (λ d. d < 10) (eight_digits n)
-eight_small n h = (omega arith, (omega arith, (omega arith, (omega arith, (omega arith, (omega arith, (omega arith, (omega arith, tt))))))))
+eight_small n h = (
+  omega arith,
+  (omega arith, (omega arith, (omega arith, (omega arith, (omega arith, (omega arith, (omega arith, tt))))))),
+)
 
 -- digits without leading zeros are a shortest text, and have the value of all digits
 record Stripped (ds : List ℕ) : Type 0 where
   digits : is_digits (drop (zeros_before ds) (codes_of ds)) ≡ true
-  lead : begins_with_zero (drop (zeros_before ds) (codes_of ds)) ≡ true → length (drop (zeros_before ds) (codes_of ds)) ≡ 1
+  lead : begins_with_zero (drop (zeros_before ds) (codes_of ds)) ≡ true
+      → length (drop (zeros_before ds) (codes_of ds)) ≡ 1
   value : digits_number (drop (zeros_before ds) (codes_of ds)) ≡ places ds
 
 stripped : (d : ℕ) (ds : List ℕ) → Each1 (λ d. d < 10) (d ∷ ds) → Stripped (d ∷ ds)
@@ -66,15 +73,19 @@ stripped d [] h = record { digits = codes_digits (d ∷ []) h; lead = λ e. refl
 stripped zero (e ∷ ds) h =
     let next : Stripped (e ∷ ds) = stripped e ds h.1 in
     let one : 1 + zeros_before (e ∷ ds) ≡ suc (zeros_before (e ∷ ds)) = omega arith in
-    let same : drop (1 + zeros_before (e ∷ ds)) (codes_of (zero ∷ e ∷ ds)) ≡ drop (zeros_before (e ∷ ds)) (codes_of (e ∷ ds)) = ap (λ n. drop n (codes_of (zero ∷ e ∷ ds))) one in
+    let same : drop (1 + zeros_before (e ∷ ds)) (codes_of (zero ∷ e ∷ ds)) ≡ drop (zeros_before (e ∷ ds))
+    (codes_of (e ∷ ds)) = ap (λ n. drop n (codes_of (zero ∷ e ∷ ds))) one in
     record {
       digits = ap is_digits same ∙ next.digits;
       lead = λ f. ap length same ∙ next.lead (ap begins_with_zero (sym same) ∙ f);
-      value = ap digits_number same ∙ next.value ∙ sym (zero-add (places (e ∷ ds))) ∙ ap (λ x. x + places (e ∷ ds)) (sym (zero-mul (10 ^ length (e ∷ ds))));
+      value =
+          ap digits_number same ∙ next.value ∙ sym (zero-add (places (e ∷ ds)))
+          ∙ ap (λ x. x + places (e ∷ ds)) (sym (zero-mul (10 ^ length (e ∷ ds))));
     }
 stripped (suc d) (e ∷ ds) h =
     let none : zeros_before (suc d ∷ e ∷ ds) ≡ 0 = ap (λ b. cond b (1 + zeros_before (e ∷ ds)) 0) (not_zero d) in
-    let same : drop (zeros_before (suc d ∷ e ∷ ds)) (codes_of (suc d ∷ e ∷ ds)) ≡ codes_of (suc d ∷ e ∷ ds) = ap (λ n. drop n (codes_of (suc d ∷ e ∷ ds))) none in
+    let same : drop (zeros_before (suc d ∷ e ∷ ds)) (codes_of (suc d ∷ e ∷ ds)) ≡ codes_of (suc d ∷ e ∷ ds) =
+    ap (λ n. drop n (codes_of (suc d ∷ e ∷ ds))) none in
     record {
       digits = ap is_digits same ∙ codes_digits (suc d ∷ e ∷ ds) h;
       lead = λ f. absurd (no_zero d (codes_of (e ∷ ds)) (ap begins_with_zero (sym same) ∙ f));
@@ -88,10 +99,12 @@ stripped (suc d) (e ∷ ds) h =
     no_zero d cs e = grind (arith, nat_tests)
 
 -- the eight digits of a number without leading zeros are its decimal text
-pub short_decimal : (n : ℕ) → n < 100000000 → drop (zeros_before (eight_digits n)) (codes_of (eight_digits n)) ≡ decimal n
+pub short_decimal : (n : ℕ) → n < 100000000
+    → drop (zeros_before (eight_digits n)) (codes_of (eight_digits n)) ≡ decimal n
 short_decimal n h =
     let s : Stripped (eight_digits n) = stripped _ _ (eight_small n h) in
-    let value : digits_number (drop (zeros_before (eight_digits n)) (codes_of (eight_digits n))) ≡ n = s.value ∙ eight_places n in
+    let value : digits_number (drop (zeros_before (eight_digits n)) (codes_of (eight_digits n))) ≡ n =
+    s.value ∙ eight_places n in
     sym (digits_are _ s.digits s.lead (omega (arith, value))) ∙ ap decimal value
 
 zeros_le : (d : ℕ) (ds : List ℕ) → zeros_before (d ∷ ds) ≤ length ds
@@ -114,8 +127,10 @@ pub record ShortPut (at z n : ℕ) (new front : List ℕ) : Type 0 where
   pub text : take (at + 8 - z) new ≡ front ++ decimal n
   pub end : at + 8 - z ≡ at + length (decimal n)
 
-pub short_put : (at z w n : ℕ) (new front : List ℕ) → n < 100000000 → z ≡ zeros_before (eight_digits n) → w ≡ number_l 256 (codes_of (eight_digits n))
-    → ((cs : List ℕ) → length cs ≤ 8 → Each1 (λ c. c < 256) cs → w / 2 ^ (8 * z) ≡ number_l 256 cs → take (at + length cs) new ≡ front ++ cs)
+pub short_put : (at z w n : ℕ) (new front : List ℕ) → n < 100000000 → z ≡ zeros_before (eight_digits n)
+    → w ≡ number_l 256 (codes_of (eight_digits n))
+    → ((cs : List ℕ) → length cs ≤ 8 → Each1 (λ c. c < 256) cs → w / 2 ^ (8 * z) ≡ number_l 256 cs
+    → take (at + length cs) new ≡ front ++ cs)
     → ShortPut at z n new front
 short_put at z w n new front few zeros word put =
     let all : List ℕ = codes_of (eight_digits n) in
@@ -124,7 +139,9 @@ short_put at z w n new front few zeros word put =
     let long : length (drop z all) ≡ 8 - z = length-drop z all in
     let less : zeros_before (eight_digits n) ≤ 7 = few_zeros n in
     let end : at + 8 - z ≡ at + length (drop z all) = omega arith in
-    let text = put (drop z all) (omega arith) (each_drop (λ c. c < 256) z all small) (ap (λ m. m / 2 ^ (8 * z)) word ∙ lowered z all small) in
+    let text =
+    put (drop z all) (omega arith) (each_drop (λ c. c < 256) z all small)
+    (ap (λ m. m / 2 ^ (8 * z)) word ∙ lowered z all small) in
     record {
       text = ap (λ k. take k new) end ∙ text ∙ ap (λ l. front ++ l) same;
       end = end ∙ ap (λ l. at + length l) same;
@@ -132,11 +149,13 @@ short_put at z w n new front few zeros word put =
 
 -- ---- numbers of more than eight digits
 
-all_append : (ds es : List ℕ) → list_all is_digit ds ≡ true → list_all is_digit es ≡ true → list_all is_digit (ds ++ es) ≡ true
+all_append : (ds es : List ℕ) → list_all is_digit ds ≡ true → list_all is_digit es ≡ true
+    → list_all is_digit (ds ++ es) ≡ true
 all_append [] es h k = k
 all_append (d ∷ ds) es h k = by_test (λ i. all_append ds es i k) (is_digit d) h
   where
-    by_test : (list_all is_digit ds ≡ true → list_all is_digit (ds ++ es) ≡ true) → (b : Bool) → b && list_all is_digit ds ≡ true → b && list_all is_digit (ds ++ es) ≡ true
+    by_test : (list_all is_digit ds ≡ true → list_all is_digit (ds ++ es) ≡ true) → (b : Bool)
+        → b && list_all is_digit ds ≡ true → b && list_all is_digit (ds ++ es) ≡ true
     by_test more true h = more h
     by_test more false h = cc
 
@@ -144,8 +163,11 @@ number_append : (ds es : List ℕ) → digits_number (ds ++ es) ≡ digits_numbe
 number_append [] es = sym (ap (λ x. x + digits_number es) (zero-mul (10 ^ length es)) ∙ zero-add (digits_number es))
 number_append (d ∷ ds) es =
     let p : ℕ = 10 ^ length es in
-    let more : 10 ^ length (ds ++ es) ≡ 10 ^ length ds * p = ap (λ k. 10 ^ k) (length-append ds es) ∙ pow-add 10 (length ds) (length es) in
-    ap (λ x. (d - 48) * x + digits_number (ds ++ es)) more ∙ ap (λ x. (d - 48) * (10 ^ length ds * p) + x) (number_append ds es) ∙ gathered (d - 48) (10 ^ length ds) p (digits_number ds) (digits_number es)
+    let more : 10 ^ length (ds ++ es) ≡ 10 ^ length ds * p =
+    ap (λ k. 10 ^ k) (length-append ds es) ∙ pow-add 10 (length ds) (length es) in
+    ap (λ x. (d - 48) * x + digits_number (ds ++ es)) more
+    ∙ ap (λ x. (d - 48) * (10 ^ length ds * p) + x) (number_append ds es)
+    ∙ gathered (d - 48) (10 ^ length ds) p (digits_number ds) (digits_number es)
   where
     gathered : (a b p x y : ℕ) → a * (b * p) + (x * p + y) ≡ (a * b + x) * p + y
     gathered a b p x y = grind arith
@@ -154,22 +176,32 @@ no_lead : (ds es : List ℕ) → 0 < length ds → 48 < get_or ds 0 0 → begins
 no_lead [] es h k e = absurd (omega arith)
 no_lead (d ∷ ds) es h k e = grind (arith, nat_tests)
 
-digits_append : (ds es : List ℕ) → 0 < length ds → list_all is_digit ds ≡ true → list_all is_digit es ≡ true → is_digits (ds ++ es) ≡ true
+digits_append : (ds es : List ℕ) → 0 < length ds → list_all is_digit ds ≡ true → list_all is_digit es ≡ true
+    → is_digits (ds ++ es) ≡ true
 digits_append [] es some h k = absurd (omega arith)
 digits_append (d ∷ ds) es some h k = all_append (d ∷ ds) es h k
 
 -- the decimal text of a number from 10^8 on ends with the eight digits of its remainder by 10^8
-pub long_decimal : (n : ℕ) → 100000000 ≤ n → n < 2 ^ 64 → decimal n ≡ decimal (n / 100000000) ++ codes_of (eight_digits (n % 100000000))
+pub long_decimal : (n : ℕ) → 100000000 ≤ n → n < 2 ^ 64
+    → decimal n ≡ decimal (n / 100000000) ++ codes_of (eight_digits (n % 100000000))
 long_decimal n h fits =
     let high : ℕ = n / 100000000 in
     let last : ℕ = n % 100000000 in
     let within : high < 2 ^ 64 = omega arith in
     let some : 0 < length (decimal high) = decimal_nonempty high within in
     let front : digits_number (decimal high) ≡ high = digits_value-decimal numerals high within in
-    let back : digits_number (codes_of (eight_digits last)) ≡ last = codes_value (eight_digits last) ∙ eight_places last in
+    let back : digits_number (codes_of (eight_digits last)) ≡ last =
+    codes_value (eight_digits last) ∙ eight_places last in
     let value : digits_number (decimal high ++ codes_of (eight_digits last)) ≡ n =
-    number_append (decimal high) (codes_of (eight_digits last)) ∙ ap (λ x. x * 100000000 + digits_number (codes_of (eight_digits last))) front ∙ ap (λ x. high * 100000000 + x) back ∙ (omega arith) in
-    let digits = digits_append (decimal high) (codes_of (eight_digits last)) some (digits_decimal numerals high within) (codes_digits (eight_digits last) (eight_small last (omega arith))) in
-    let lead : begins_with_zero (decimal high ++ codes_of (eight_digits last)) ≡ true → length (decimal high ++ codes_of (eight_digits last)) ≡ 1 =
-    λ e. absurd (no_lead (decimal high) (codes_of (eight_digits last)) some (first_decimal high (omega arith) within) e) in
-    ap decimal (sym value) ∙ digits_are (decimal high ++ codes_of (eight_digits last)) digits lead (omega (arith, value))
+    number_append (decimal high) (codes_of (eight_digits last))
+    ∙ ap (λ x. x * 100000000 + digits_number (codes_of (eight_digits last))) front
+    ∙ ap (λ x. high * 100000000 + x) back ∙ (omega arith) in
+    let digits =
+    digits_append (decimal high) (codes_of (eight_digits last)) some (digits_decimal numerals high within)
+    (codes_digits (eight_digits last) (eight_small last (omega arith))) in
+    let lead : begins_with_zero (decimal high ++ codes_of (eight_digits last)) ≡ true
+    → length (decimal high ++ codes_of (eight_digits last)) ≡ 1 =
+    λ e. absurd
+    (no_lead (decimal high) (codes_of (eight_digits last)) some (first_decimal high (omega arith) within) e) in
+    ap decimal (sym value) ∙ digits_are (decimal high ++ codes_of (eight_digits last)) digits lead
+    (omega (arith, value))

@@ -11,7 +11,8 @@ tenth : (a : ℕ) → a < 100 → a * 103 / 1024 ≡ a / 10
 tenth a h = omega arith
 
 -- the multiplication extracts the first pair of each four digits
-first_pairs : (w a b : ℕ) → a < 10000 → b < 10000 → w ≡ number_l 4294967296 (a ∷ b ∷ []) → bit_and (w * 10486 % 2 ^ 64 / 2 ^ 20) 0x0000007F0000007F ≡ number_l 4294967296 ((a / 100) ∷ (b / 100) ∷ [])
+first_pairs : (w a b : ℕ) → a < 10000 → b < 10000 → w ≡ number_l 4294967296 (a ∷ b ∷ [])
+    → bit_and (w * 10486 % 2 ^ 64 / 2 ^ 20) 0x0000007F0000007F ≡ number_l 4294967296 ((a / 100) ∷ (b / 100) ∷ [])
 first_pairs w a b h k is =
     let x : ℕ = a * 10486 / 1048576 in
     let y : ℕ = b * 10486 / 1048576 in
@@ -23,17 +24,20 @@ first_pairs w a b h k is =
     ap (λ n. bit_and n 0x0000007F0000007F) half
     ∙ and_lanes 32 127 lanes (omega arith, (omega arith, tt)) (lit< tt)
     ∙ ap (number_l 4294967296) (masks 7 lanes)
-    ∙ number_pair 4294967296 ((x + 128 * (32 * z)) % 128) (y % 128) (a / 100) (b / 100) (low 7 x (32 * z) (omega arith) ∙ p) (omega arith)
+    ∙ number_pair 4294967296 ((x + 128 * (32 * z)) % 128) (y % 128) (a / 100) (b / 100)
+    (low 7 x (32 * z) (omega arith) ∙ p) (omega arith)
 
 pub pairs_are : (w a b : ℕ) → a < 10000 → b < 10000 → w ≡ number_l 4294967296 (a ∷ b ∷ [])
-    → (w * 65536 % 2 ^ 64 + (2 ^ 64 - bit_and (w * 10486 % 2 ^ 64 / 2 ^ 20) 0x0000007F0000007F * 6553599 % 2 ^ 64)) % 2 ^ 64
+    → (w * 65536 % 2 ^ 64 +
+    (2 ^ 64 - bit_and (w * 10486 % 2 ^ 64 / 2 ^ 20) 0x0000007F0000007F * 6553599 % 2 ^ 64)) % 2 ^ 64
     ≡ number_l 65536 ((a / 100) ∷ (a % 100) ∷ (b / 100) ∷ (b % 100) ∷ [])
 pairs_are w a b h k is =
     ap (λ q. (w * 65536 % 2 ^ 64 + (2 ^ 64 - q * 6553599 % 2 ^ 64)) % 2 ^ 64) (first_pairs w a b h k is) ∙ (omega arith)
 
 -- the multiplication extracts the first digit of each pair
 first_digits : (w a b c d : ℕ) → Each1 (λ x. x < 100) (a ∷ b ∷ c ∷ d ∷ []) → w ≡ number_l 65536 (a ∷ b ∷ c ∷ d ∷ [])
-    → bit_and (w * 103 % 2 ^ 64 / 2 ^ 10) 0x000F000F000F000F ≡ number_l 65536 ((a / 10) ∷ (b / 10) ∷ (c / 10) ∷ (d / 10) ∷ [])
+    → bit_and (w * 103 % 2 ^ 64 / 2 ^ 10) 0x000F000F000F000F ≡ number_l 65536
+    ((a / 10) ∷ (b / 10) ∷ (c / 10) ∷ (d / 10) ∷ [])
 first_digits w a b c d (h, (i, (j, (k, _)))) is =
     let p : a * 103 / 1024 ≡ a / 10 = tenth a h in
     let q : b * 103 / 1024 ≡ b / 10 = tenth b i in
@@ -56,9 +60,12 @@ first_digits w a b c d (h, (i, (j, (k, _)))) is =
 pub digits_are : (w a b c d : ℕ) → Each1 (λ x. x < 100) (a ∷ b ∷ c ∷ d ∷ []) → w ≡ number_l 65536 (a ∷ b ∷ c ∷ d ∷ [])
     → (w * 256 % 2 ^ 64 + (2 ^ 64 - bit_and (w * 103 % 2 ^ 64 / 2 ^ 10) 0x000F000F000F000F * 2559 % 2 ^ 64)) % 2 ^ 64
     ≡ number_l 256 ((a / 10) ∷ (a % 10) ∷ (b / 10) ∷ (b % 10) ∷ (c / 10) ∷ (c % 10) ∷ (d / 10) ∷ (d % 10) ∷ [])
-digits_are w a b c d h is = ap (λ q. (w * 256 % 2 ^ 64 + (2 ^ 64 - q * 2559 % 2 ^ 64)) % 2 ^ 64) (first_digits w a b c d h is) ∙ subtracted w a b c d h is
+digits_are w a b c d h is =
+    ap (λ q. (w * 256 % 2 ^ 64 + (2 ^ 64 - q * 2559 % 2 ^ 64)) % 2 ^ 64) (first_digits w a b c d h is)
+    ∙ subtracted w a b c d h is
   where
     subtracted : (w a b c d : ℕ) → Each1 (λ x. x < 100) (a ∷ b ∷ c ∷ d ∷ []) → w ≡ number_l 65536 (a ∷ b ∷ c ∷ d ∷ [])
-        → (w * 256 % 2 ^ 64 + (2 ^ 64 - number_l 65536 ((a / 10) ∷ (b / 10) ∷ (c / 10) ∷ (d / 10) ∷ []) * 2559 % 2 ^ 64)) % 2 ^ 64
+        → (w * 256 % 2 ^ 64 +
+        (2 ^ 64 - number_l 65536 ((a / 10) ∷ (b / 10) ∷ (c / 10) ∷ (d / 10) ∷ []) * 2559 % 2 ^ 64)) % 2 ^ 64
         ≡ number_l 256 ((a / 10) ∷ (a % 10) ∷ (b / 10) ∷ (b % 10) ∷ (c / 10) ∷ (c % 10) ∷ (d / 10) ∷ (d % 10) ∷ [])
     subtracted w a b c d (h, (i, (j, (k, _)))) is = omega arith

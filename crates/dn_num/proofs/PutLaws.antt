@@ -8,17 +8,21 @@ use Rattle.std.specs.Simd.Lanes.{Each1, number_l}
 use Rattle.dn_num.proofs.LaneLaws.{low, high}
 
 -- the first lanes of a word are the bytes that it was made of
-lanes_back : (k : ℕ) (cs : List ℕ) → length cs ≤ k → Each1 (λ c. c < 256) cs → take (length cs) (digits_l 256 k (number_l 256 cs)) ≡ cs
+lanes_back : (k : ℕ) (cs : List ℕ) → length cs ≤ k → Each1 (λ c. c < 256) cs
+    → take (length cs) (digits_l 256 k (number_l 256 cs)) ≡ cs
 lanes_back k [] h each = refl
 lanes_back zero (c ∷ cs) h each = absurd (omega arith)
 lanes_back (suc k) (c ∷ cs) h each =
     let n : ℕ = number_l 256 cs in
     let first : (c + 256 * n) % 256 ≡ c = low 8 c n each.0 in
     let rest : (c + 256 * n) / 256 ≡ n = high 8 c n each.0 in
-    ap (λ b. b ∷ take (length cs) (digits_l 256 k ((c + 256 * n) / 256))) first ∙ ap (λ m. c ∷ take (length cs) (digits_l 256 k m)) rest ∙ ap (λ l. c ∷ l) (lanes_back k cs (omega arith) each.1)
+    ap (λ b. b ∷ take (length cs) (digits_l 256 k ((c + 256 * n) / 256))) first
+    ∙ ap (λ m. c ∷ take (length cs) (digits_l 256 k m)) rest
+    ∙ ap (λ l. c ∷ l) (lanes_back k cs (omega arith) each.1)
 
 -- the bytes after a word has been written
-pub word_put : (at w : ℕ) (bytes cs : List ℕ) → at + 8 ≤ length bytes → length cs ≤ 8 → Each1 (λ c. c < 256) cs → w ≡ number_l 256 cs
+pub word_put : (at w : ℕ) (bytes cs : List ℕ) → at + 8 ≤ length bytes → length cs ≤ 8 → Each1 (λ c. c < 256) cs
+    → w ≡ number_l 256 cs
     → take (at + length cs) (put_chunk at bytes (digits_l 256 8 (w + 0))) ≡ take at bytes ++ cs
 word_put at w bytes cs h short each is =
     let word : List ℕ = digits_l 256 8 (w + 0) in

@@ -30,10 +30,12 @@ lower (suc n) (b ∷ bs) h =
     ∙ (omega arith)
 
 -- shifting a word left moves its lanes up, with zeros below them
-raised : (m n : ℕ) (bs : List ℕ) → Each1 (λ b. b < 256) bs → number_l 256 bs * 2 ^ (8 * m) % 2 ^ (8 * (m + n)) ≡ number_l 256 (replicate m 0 ++ take n bs)
+raised : (m n : ℕ) (bs : List ℕ) → Each1 (λ b. b < 256) bs
+    → number_l 256 bs * 2 ^ (8 * m) % 2 ^ (8 * (m + n)) ≡ number_l 256 (replicate m 0 ++ take n bs)
 raised zero n bs h =
     let none : 8 * (zero + n) ≡ 8 * n = omega arith in
-    ap (λ x. x % 2 ^ (8 * (zero + n))) (mul-one (number_l 256 bs)) ∙ ap (λ k. number_l 256 bs % 2 ^ k) none ∙ lower n bs h
+    ap (λ x. x % 2 ^ (8 * (zero + n))) (mul-one (number_l 256 bs)) ∙ ap (λ k. number_l 256 bs % 2 ^ k) none
+    ∙ lower n bs h
 raised (suc m) n bs h =
     let up : ℕ = number_l 256 bs * 2 ^ (8 * m) in
     let rest : ℕ = number_l 256 (replicate m 0 ++ take n bs) in
@@ -51,7 +53,8 @@ raised (suc m) n bs h =
     ∙ (omega arith)
 
 -- shifting a word left moves its first n lanes to the top
-pub first_lanes : (w n : ℕ) (bs : List ℕ) → n ≤ 8 → Each1 (λ b. b < 256) bs → w ≡ number_l 256 bs → w * 2 ^ (64 - 8 * n) % 2 ^ 64 ≡ number_l 256 (replicate (8 - n) 0 ++ take n bs)
+pub first_lanes : (w n : ℕ) (bs : List ℕ) → n ≤ 8 → Each1 (λ b. b < 256) bs → w ≡ number_l 256 bs
+    → w * 2 ^ (64 - 8 * n) % 2 ^ 64 ≡ number_l 256 (replicate (8 - n) 0 ++ take n bs)
 first_lanes w n bs k h e =
     let shift : 64 - 8 * n ≡ 8 * (8 - n) = omega arith in
     let room : 64 ≡ 8 * (8 - n + n) = omega arith in
@@ -74,9 +77,11 @@ pub counted : (xs : List ℕ) → Each1 (λ d. is_digit d ≡ true) (take (prefi
 counted [] = tt
 counted (x ∷ xs) = by_test (counted xs) (is_digit x) refl
   where
-    by_test : Each1 (λ d. is_digit d ≡ true) (take (prefix_len is_digit xs) xs) → (b : Bool) → is_digit x ≡ b → Each1 (λ d. is_digit d ≡ true) (take (cond b (1 + prefix_len is_digit xs) 0) (x ∷ xs))
+    by_test : Each1 (λ d. is_digit d ≡ true) (take (prefix_len is_digit xs) xs) → (b : Bool) → is_digit x ≡ b
+        → Each1 (λ d. is_digit d ≡ true) (take (cond b (1 + prefix_len is_digit xs) 0) (x ∷ xs))
     by_test h false e = tt
-    by_test h true e = subst (λ n. Each1 (λ d. is_digit d ≡ true) (take n (x ∷ xs))) (after_one (prefix_len is_digit xs)) (e, h)
+    by_test h true e =
+        subst (λ n. Each1 (λ d. is_digit d ≡ true) (take n (x ∷ xs))) (after_one (prefix_len is_digit xs)) (e, h)
 
 listed : (ds : List ℕ) → Each1 (λ d. is_digit d ≡ true) ds → list_all is_digit ds ≡ true
 listed [] h = refl
@@ -100,7 +105,10 @@ places_digits (d ∷ ds) h =
 
 places_zeros : (k : ℕ) (ds : List ℕ) → places (map (λ d. d % 16) (replicate k 0 ++ ds)) ≡ places (map (λ d. d % 16) ds)
 places_zeros zero ds = refl
-places_zeros (suc k) ds = ap (λ x. x + places (map (λ d. d % 16) (replicate k 0 ++ ds))) (zero-mul (10 ^ length (map (λ d. d % 16) (replicate k 0 ++ ds)))) ∙ zero-add (places (map (λ d. d % 16) (replicate k 0 ++ ds))) ∙ places_zeros k ds
+places_zeros (suc k) ds =
+    ap (λ x. x + places (map (λ d. d % 16) (replicate k 0 ++ ds)))
+    (zero-mul (10 ^ length (map (λ d. d % 16) (replicate k 0 ++ ds))))
+    ∙ zero-add (places (map (λ d. d % 16) (replicate k 0 ++ ds))) ∙ places_zeros k ds
 
 places_lt : (ds : List ℕ) → Each1 (λ d. d % 16 < 10) ds → places (map (λ d. d % 16) ds) < 10 ^ length ds
 places_lt [] h = lit< tt
@@ -113,7 +121,8 @@ places_lt (d ∷ ds) h =
     let q : d % 16 * 10 ^ n ≡ d % 16 * 10 ^ length ds = ap (λ i. d % 16 * 10 ^ i) e in
     omega (arith, more, k, p, q)
 
-short_read : (ds : List ℕ) (v : ℕ) → list_all is_digit ds ≡ true → v ≡ digits_number ds → v < 100000000 → state_read (digits_state false ds) ≡ Ok (pos v)
+short_read : (ds : List ℕ) (v : ℕ) → list_all is_digit ds ≡ true → v ≡ digits_number ds → v < 100000000
+    → state_read (digits_state false ds) ≡ Ok (pos v)
 short_read ds v h e k =
     ap (λ b. state_read (cond b (Digits false (limited (digits_number ds))) NoNumber)) h
     ∙ ap (λ n. state_read (Digits false (limited n))) (sym e)
@@ -133,7 +142,8 @@ pub record Word (n : ℕ) (bs : List ℕ) (w v : ℕ) : Type 0 where
   pub count : n ≡ prefix_len is_digit bs
   pub within : n ≤ 8
   pub word : w ≡ number_l 256 (replicate (8 - n) 0 ++ take n bs)
-  pub value : (ds : List ℕ) → length ds ≡ 8 → Each1 (λ d. d < 256) ds → Each1 (λ d. d % 16 < 10) ds → w ≡ number_l 256 ds → v ≡ places (map (λ d. d % 16) ds)
+  pub value : (ds : List ℕ) → length ds ≡ 8 → Each1 (λ d. d < 256) ds → Each1 (λ d. d % 16 < 10) ds
+      → w ≡ number_l 256 ds → v ≡ places (map (λ d. d % 16) ds)
 
 digits_of : (n : ℕ) (bs : List ℕ) (w v : ℕ) → Word n bs w v → Each1 (λ d. is_digit d ≡ true) (take n bs)
 digits_of n bs w v h = subst (λ k. Each1 (λ d. is_digit d ≡ true) (take k bs)) (sym h.count) (counted bs)
@@ -143,12 +153,15 @@ eight_long n bs w v h =
     length-append (replicate (8 - n) 0) (take n bs) ∙ ap (λ k. k + length (take n bs)) (length-replicate (8 - n) 0)
     ∙ ap (λ k. 8 - n + k) (length-take-le n bs (omega (arith, h.within, h.long))) ∙ (omega (arith, h.within))
 
-small_lanes : (n : ℕ) (bs : List ℕ) (w v : ℕ) → Word n bs w v → Each1 (λ d. d % 16 < 10) (replicate (8 - n) 0 ++ take n bs)
+small_lanes : (n : ℕ) (bs : List ℕ) (w v : ℕ) → Word n bs w v
+    → Each1 (λ d. d % 16 < 10) (replicate (8 - n) 0 ++ take n bs)
 small_lanes n bs w v h =
-    each_append (λ d. d % 16 < 10) (replicate (8 - n) 0) (take n bs) (Each1-replicate (λ d. d % 16 < 10) (8 - n) 0 (lit< tt))
+    each_append (λ d. d % 16 < 10) (replicate (8 - n) 0) (take n bs)
+    (Each1-replicate (λ d. d % 16 < 10) (8 - n) 0 (lit< tt))
     (Each1-weaker (λ d. is_digit d ≡ true) (λ d. d % 16 < 10) digit_small (take n bs) (digits_of n bs w v h))
 
-worth : (n : ℕ) (bs : List ℕ) (w v : ℕ) → Word n bs w v → v ≡ places (map (λ d. d % 16) (replicate (8 - n) 0 ++ take n bs))
+worth : (n : ℕ) (bs : List ℕ) (w v : ℕ) → Word n bs w v
+    → v ≡ places (map (λ d. d % 16) (replicate (8 - n) 0 ++ take n bs))
 worth n bs w v h =
     h.value (replicate (8 - n) 0 ++ take n bs) (eight_long n bs w v h)
     (each_append (λ d. d < 256) (replicate (8 - n) 0) (take n bs) (Each1-replicate (λ d. d < 256) (8 - n) 0 (lit< tt))
@@ -159,16 +172,23 @@ worth n bs w v h =
 pub word_bound : (n : ℕ) (bs : List ℕ) (w v : ℕ) → Word n bs w v → v < 100000000
 word_bound n bs w v h =
     let all : List ℕ = replicate (8 - n) 0 ++ take n bs in
-    let k : places (map (λ d. d % 16) all) < 10 ^ 8 = subst (λ i. places (map (λ d. d % 16) all) < 10 ^ i) (eight_long n bs w v h) (places_lt all (small_lanes n bs w v h)) in
+    let k : places (map (λ d. d % 16) all) < 10 ^ 8 =
+    subst (λ i. places (map (λ d. d % 16) all) < 10 ^ i) (eight_long n bs w v h)
+    (places_lt all (small_lanes n bs w v h)) in
     subst (λ x. x < 100000000) (sym (worth n bs w v h)) k
 
-pub word_reads : (n : ℕ) (bytes : List ℕ) (w v : ℕ) → 0 < n → Word n (take 8 bytes) w v → number_read (take n bytes) ≡ Ok (pos v)
+pub word_reads : (n : ℕ) (bytes : List ℕ) (w v : ℕ) → 0 < n → Word n (take 8 bytes) w v
+    → number_read (take n bytes) ≡ Ok (pos v)
 word_reads n bytes w v k h =
     let bs : List ℕ = take 8 bytes in
     let same : take n bs ≡ take n bytes = take-take n 8 bytes h.within in
-    let all : list_all is_digit (take n bytes) ≡ true = ap (list_all is_digit) (sym same) ∙ listed (take n bs) (digits_of n bs w v h) in
-    let is : v ≡ digits_number (take n bytes) = worth n bs w v h ∙ places_zeros (8 - n) (take n bs) ∙ places_digits (take n bs) (digits_of n bs w v h) ∙ ap digits_number same in
-    digits_front_read bytes n (pos v) k all (some bytes h.long) (short_read (take n bytes) v all is (word_bound n bs w v h))
+    let all : list_all is_digit (take n bytes) ≡ true =
+    ap (list_all is_digit) (sym same) ∙ listed (take n bs) (digits_of n bs w v h) in
+    let is : v ≡ digits_number (take n bytes) =
+    worth n bs w v h ∙ places_zeros (8 - n) (take n bs) ∙ places_digits (take n bs) (digits_of n bs w v h)
+    ∙ ap digits_number same in
+    digits_front_read bytes n (pos v) k all (some bytes h.long)
+    (short_read (take n bytes) v all is (word_bound n bs w v h))
   where
     some : (l : List ℕ) → length (take 8 l) ≡ 8 → 0 < length l
     some [] e = absurd (omega arith)

@@ -37,26 +37,43 @@ use Rattle.dn_sink.specs.Sinks.{SinkWords}
 module _ {T S : Type 0} (text : AskedText T) (out : SinkRun S) (held : Held) where
   -- ---- `show`
 
-  module _ (h : IsRead (IsRefusedText text) text (Ok held)) (t : List ℕ) (shows : (I : Instance) → IsValid I → IsHeld (holding held) I → IsShown I t) where
-    pub shown_done : HasPut out.words out.old out.new [] t → OnText PutsShown (λ _. Never) (IsRefusedText text) text out (Done 0)
-    shown_done put = on_read PutsShown (λ _. Never) (IsRefusedText text) (IsRefusedText text) text out held (Done 0) h (done_unread 0 text.name)
+  module _ (h : IsRead (IsRefusedText text) text (Ok held)) (t : List ℕ)
+      (shows : (I : Instance) → IsValid I → IsHeld (holding held) I → IsShown I t) where
+    pub shown_done : HasPut out.words out.old out.new [] t
+        → OnText PutsShown (λ _. Never) (IsRefusedText text) text out (Done 0)
+    shown_done put =
+        on_read PutsShown (λ _. Never) (IsRefusedText text) (IsRefusedText text) text out held (Done 0) h
+        (done_unread 0 text.name)
         (λ b I reads is. (I, reads, t, (refl, shows I (reads_valid b I reads) is), added put))
 
-    pub shown_cut : PutsPrefix out.words out.old out.new t → OnText PutsShown (λ _. Never) (IsRefusedText text) text out Cut
-    shown_cut part = on_read PutsShown (λ _. Never) (IsRefusedText text) (IsRefusedText text) text out held Cut h (cut_unread text.name)
+    pub shown_cut : PutsPrefix out.words out.old out.new t
+        → OnText PutsShown (λ _. Never) (IsRefusedText text) text out Cut
+    shown_cut part =
+        on_read PutsShown (λ _. Never) (IsRefusedText text) (IsRefusedText text) text out held Cut h
+        (cut_unread text.name)
         (λ b I reads is. (I, reads, 0, t, (refl, shows I (reads_valid b I reads) is), part))
 
   -- ---- `canon`
 
   module _ (form : Form) (h : IsRead (IsRefusedText text) text (Ok held)) where
-    pub canon_done : ((I : Instance) → IsValid I → IsHeld (holding held) I → WritesCanon out.words out.old out.new form I (Ok tt)) → OnText (PutsCanon form) (λ _. Never) (IsRefusedCanon form text) text out (Done 0)
-    canon_done writes = on_read (PutsCanon form) (λ _. Never) (IsRefusedText text) (IsRefusedCanon form text) text out held (Done 0) h (done_unread 0 text.name)
-        (λ b I reads is. (let w = writes I (reads_valid b I reads) is in (I, reads, print w.0, (refl, (w.0, record { canon = w.1; text_is = refl })), added w.2.0)))
+    pub canon_done :
+        ((I : Instance) → IsValid I → IsHeld (holding held) I → WritesCanon out.words out.old out.new form I (Ok tt))
+        → OnText (PutsCanon form) (λ _. Never) (IsRefusedCanon form text) text out (Done 0)
+    canon_done writes =
+        on_read (PutsCanon form) (λ _. Never) (IsRefusedText text) (IsRefusedCanon form text) text out held (Done 0) h
+        (done_unread 0 text.name)
+        (λ b I reads is.
+        (let w =
+        writes I (reads_valid b I reads) is in
+        (I, reads, print w.0, (refl, (w.0, record { canon = w.1; text_is = refl })), added w.2.0)))
 
     -- `canon` ends as its answer says if the canonical text is not written
-    pub canon_unwritten : (e : Refusal) → IsOfWriting e → ((I : Instance) → IsValid I → IsHeld (holding held) I → WritesCanon out.words out.old out.new form I (Err e))
+    pub canon_unwritten : (e : Refusal) → IsOfWriting e
+        → ((I : Instance) → IsValid I → IsHeld (holding held) I → WritesCanon out.words out.old out.new form I (Err e))
         → OnText (PutsCanon form) (λ _. Never) (IsRefusedCanon form text) text out (unwritten text.name e)
-    canon_unwritten e after writes = on_read (PutsCanon form) (λ _. Never) (IsRefusedText text) (IsRefusedCanon form text) text out held (unwritten text.name e) h (unread e after)
+    canon_unwritten e after writes =
+        on_read (PutsCanon form) (λ _. Never) (IsRefusedText text) (IsRefusedCanon form text) text out held
+        (unwritten text.name e) h (unread e after)
         (λ b I reads is. by_refusal b e I reads (writes I (reads_valid b I reads) is))
       where
         unread : (e : Refusal) → IsOfWriting e → unwritten text.name e ≡ Refused text.name Read → ⊥
@@ -67,9 +84,11 @@ module _ {T S : Type 0} (text : AskedText T) (out : SinkRun S) (held : Held) whe
         unread Read h e = absurd h
         unread Endless h e = absurd h
 
-        by_refusal : (b : List ℕ) (e : Refusal) (I : Instance) → Reads b I → WritesCanon out.words out.old out.new form I (Err e)
+        by_refusal : (b : List ℕ) (e : Refusal) (I : Instance) → Reads b I
+            → WritesCanon out.words out.old out.new form I (Err e)
             → RanOn (PutsCanon form) (λ _. Never) (IsRefusedCanon form text) text.name out b (unwritten text.name e)
-        by_refusal b Write I reads (J, canon, w) = (I, reads, 0, print J, (refl, (J, record { canon = canon; text_is = refl })), w.0)
+        by_refusal b Write I reads (J, canon, w) =
+            (I, reads, 0, print J, (refl, (J, record { canon = canon; text_is = refl })), w.0)
         by_refusal b CountTooLarge I reads (J, canon, w) = (refl, (I, reads, (J, canon, w.1)))
         by_refusal b (Text place code) I reads w = absurd w.2
         by_refusal b Memory I reads w = absurd w.2
@@ -77,7 +96,8 @@ module _ {T S : Type 0} (text : AskedText T) (out : SinkRun S) (held : Held) whe
         by_refusal b Endless I reads w = absurd w.2
 
 -- if a canonical text is not written, `out` has failed, or is unchanged
-pub canon_after : {S : Type 0} (sink : SinkWords S) (old new : S) (name : List ℕ) (e : Refusal) → SinkAfter sink old new (Err e)
+pub canon_after : {S : Type 0} (sink : SinkWords S) (old new : S) (name : List ℕ) (e : Refusal)
+    → SinkAfter sink old new (Err e)
     → OutAfter (sink_run sink (old, new)) (unwritten name e)
 canon_after sink old new name CountTooLarge h = h
 canon_after sink old new name Write h = h
@@ -87,7 +107,8 @@ canon_after sink old new name Read h = h
 canon_after sink old new name Endless h = h
 
 -- `canon` may end because its text was not written
-pub unwritten_answers : (form : Form) (name : List ℕ) (e : Refusal) → IsOfWriting e → IsAnswerTo (Canon name form) (unwritten name e)
+pub unwritten_answers : (form : Form) (name : List ℕ) (e : Refusal) → IsOfWriting e
+    → IsAnswerTo (Canon name form) (unwritten name e)
 unwritten_answers form name CountTooLarge h = (refl, inr refl)
 unwritten_answers form name Write h = tt
 unwritten_answers form name (Text place code) h = absurd h
@@ -96,7 +117,8 @@ unwritten_answers form name Read h = absurd h
 unwritten_answers form name Endless h = absurd h
 
 -- a reason of reading to refuse a text is a reason of `canon`
-pub canon_refused : {T : Type 0} (text : AskedText T) (form : Form) (b : List ℕ) (e : Refusal) → IsRefusedText text b e → IsRefusedCanon form text b e
+pub canon_refused : {T : Type 0} (text : AskedText T) (form : Form) (b : List ℕ) (e : Refusal) → IsRefusedText text b e
+    → IsRefusedCanon form text b e
 canon_refused text form b (Text place code) h = h
 canon_refused text form b Memory h = h
 canon_refused text form b Read h = h
@@ -107,20 +129,31 @@ canon_refused text form b CountTooLarge h = absurd h
 -- ---- `check`
 
 -- what holds of the bytes behind a name holds of b, if the text was handed out and these bytes are b
-copy_at : (fault : Option FilesFault) (behind : Option (List ℕ)) (P : List ℕ → Type 0) → (fault ≡ None → IfSome behind P) → (b : List ℕ) → fault ≡ None → behind ≡ Some b → P b
+copy_at : (fault : Option FilesFault) (behind : Option (List ℕ)) (P : List ℕ → Type 0)
+    → (fault ≡ None → IfSome behind P) → (b : List ℕ) → fault ≡ None → behind ≡ Some b → P b
 copy_at fault behind P h b none e = subst (λ o. IfSome o P) e (h none)
 
-module _ {T S : Type 0} (text : AskedText T) (out : SinkRun S) (held : Held) (kept copy : List ℕ) (s : copy ≡ kept) (h : IsRead (IsRefusedCopy text) text (Ok held)) (c : IsCopy text kept (Ok held)) (k : HoldsCopied [] kept held) where
-  pub checked : (answer : Answer) → IsFound answer → ((I : Instance) → Reads copy I → IsHeld (holding held) I → PutsFinding (PutsChecked None copy I) out answer)
+module _ {T S : Type 0} (text : AskedText T) (out : SinkRun S) (held : Held) (kept copy : List ℕ) (s : copy ≡ kept)
+    (h : IsRead (IsRefusedCopy text) text (Ok held)) (c : IsCopy text kept (Ok held))
+    (k : HoldsCopied [] kept held) where
+  pub checked : (answer : Answer) → IsFound answer
+      → ((I : Instance) → Reads copy I → IsHeld (holding held) I → PutsFinding (PutsChecked None copy I) out answer)
       → OnText (PutsChecked None) (λ _. Never) (IsRefusedCopy text) text out answer
-  checked answer found puts = on_held (PutsChecked None) (λ _. Never) (IsRefusedCopy text) (IsRefusedCopy text) text out held answer h (λ e. absurd (subst IsFound e found))
+  checked answer found puts =
+      on_held (PutsChecked None) (λ _. Never) (IsRefusedCopy text) (IsRefusedCopy text) text out held answer h
+      (λ e. absurd (subst IsFound e found))
       (λ b none e I reads is. (let same : copy ≡ b = s ∙ copy_at text.fault text.behind (λ x. kept ≡ x) c b none e in
-      by_answer b I reads answer (subst (λ x. PutsFinding (PutsChecked None x I) out answer) same (puts I (subst (λ x. Reads x I) (sym same) reads) is))))
+      by_answer b I reads answer
+      (subst (λ x. PutsFinding (PutsChecked None x I) out answer) same
+      (puts I (subst (λ x. Reads x I) (sym same) reads) is))))
       (let (t, (I, reads, is), same) = k in
       let here : Reads copy I = subst (λ x. Reads x I) (sym (s ∙ same)) reads in
-      as_some (PutsChecked None) (λ _. Never) (IsRefusedCopy text) (IsRefusedCopy text) text out answer (copy, by_answer copy I here answer (puts I here is)))
+      as_some (PutsChecked None) (λ _. Never) (IsRefusedCopy text) (IsRefusedCopy text) text out answer
+      (copy, by_answer copy I here answer (puts I here is)))
     where
-      by_answer : (b : List ℕ) (I : Instance) → Reads b I → (answer : Answer) → PutsFinding (PutsChecked None b I) out answer → RanOn (PutsChecked None) (λ _. Never) (IsRefusedCopy text) text.name out b answer
+      by_answer : (b : List ℕ) (I : Instance) → Reads b I → (answer : Answer)
+          → PutsFinding (PutsChecked None b I) out answer
+          → RanOn (PutsChecked None) (λ _. Never) (IsRefusedCopy text) text.name out b answer
       by_answer b I reads (Done status) (t, p, a) = (I, reads, t, p, a)
       by_answer b I reads (Refused of e) p = absurd p
       by_answer b I reads (Unfit of fault) p = absurd p
@@ -129,9 +162,12 @@ module _ {T S : Type 0} (text : AskedText T) (out : SinkRun S) (held : Held) (ke
 -- ---- two texts
 
 -- a text that was read was handed out, and reads as an instance if its bytes are known
-pub held_read : {T : Type 0} (text : AskedText T) (Refuses : List ℕ → Refusal → Type 0) (held : Held) → IsRead Refuses text (Ok held) → (text.fault ≡ None) × IfSome text.behind (λ b. (I : Instance) × Reads b I)
+pub held_read : {T : Type 0} (text : AskedText T) (Refuses : List ℕ → Refusal → Type 0) (held : Held)
+    → IsRead Refuses text (Ok held) → (text.fault ≡ None) × IfSome text.behind (λ b. (I : Instance) × Reads b I)
 held_read text Refuses held h =
-    let handed = no_fault held text.fault h.not_handed in (handed, by_behind text.behind (λ b known (I, reads, is). (I, reads)) (h.handed handed))
+    let handed =
+    no_fault held text.fault h.not_handed in
+    (handed, by_behind text.behind (λ b known (I, reads, is). (I, reads)) (h.handed handed))
   where
     no_fault : (held : Held) (fault : Option FilesFault) → IfSome fault (λ f. Ok held ≡ Err (unopened f)) → fault ≡ None
     no_fault held None h = refl
@@ -139,10 +175,14 @@ held_read text Refuses held h =
 
 -- taking the first text does not change what is behind the second name, so `IsRead` of the second text holds with the
 -- bytes that were behind its name before
-pub before_first : {F T : Type 0} (files : FilesRun F T) (mid : F) (left right : List ℕ) → KeepsOthers (files.words.behind files.old) (files.words.behind mid) left → (left ≡ codes "-" → right ≢ codes "-")
-    → (r : Result Held Refusal) → IsRead (IsRefusedText (text_asked (record files { old = mid }) mid files.new right)) (text_asked (record files { old = mid }) mid files.new right) r
+pub before_first : {F T : Type 0} (files : FilesRun F T) (mid : F) (left right : List ℕ)
+    → KeepsOthers (files.words.behind files.old) (files.words.behind mid) left → (left ≡ codes "-" → right ≢ codes "-")
+    → (r : Result Held Refusal)
+    → IsRead (IsRefusedText (text_asked (record files { old = mid }) mid files.new right))
+    (text_asked (record files { old = mid }) mid files.new right) r
     → IsRead (IsRefusedText (text_asked files mid files.new right)) (text_asked files mid files.new right) r
-before_first {F} {T} files mid left right keeps apart r h = subst (λ o. IsRead (IsRefusedText (with_behind o)) (with_behind o) r) (keeps right apart) h
+before_first {F} {T} files mid left right keeps apart r h =
+    subst (λ o. IsRead (IsRefusedText (with_behind o)) (with_behind o) r) (keeps right apart) h
   where
     with_behind : Option (List ℕ) → AskedText T
     with_behind o = record {
@@ -153,62 +193,93 @@ before_first {F} {T} files mid left right keeps apart r h = subst (λ o. IsRead 
       source = files.source;
     }
 
-module _ {T S : Type 0} (left right : AskedText T) (out : SinkRun S) (graph : Held) (h : IsRead (IsRefusedCopy left) left (Ok graph)) where
+module _ {T S : Type 0} (left right : AskedText T) (out : SinkRun S) (graph : Held)
+    (h : IsRead (IsRefusedCopy left) left (Ok graph)) where
   -- if the right text is refused, so `check` ends
-  pub fit_refused : (e : Refusal) → IsRead (IsRefusedText right) right (Err e) → OnTwoTexts PutsFit Unfits (IsRefusedCopy left) left right out (Refused right.name e)
+  pub fit_refused : (e : Refusal) → IsRead (IsRefusedText right) right (Err e)
+      → OnTwoTexts PutsFit Unfits (IsRefusedCopy left) left right out (Refused right.name e)
   fit_refused e k = on_left_read PutsFit Unfits (IsRefusedCopy left) left right out graph (Refused right.name e) h
-      (λ b I reads is. on_refused (λ x J. PutsFit b I J) (Unfits I) (IsRefusedText right) (IsRefusedText right) right out e k (λ x r. r))
+      (λ b I reads is. on_refused (λ x J. PutsFit b I J) (Unfits I) (IsRefusedText right)
+      (IsRefusedText right) right out e k (λ x r. r))
 
   module _ (companion : Held) (k : IsRead (IsRefusedText right) right (Ok companion)) where
     -- if the companion does not fit, so `check` ends
-    pub unfit : (fault : CompanionFault) → judged (holding graph) (holding companion) ≡ Err fault → OnTwoTexts PutsFit Unfits (IsRefusedCopy left) left right out (Unfit right.name fault)
+    pub unfit : (fault : CompanionFault) → judged (holding graph) (holding companion) ≡ Err fault
+        → OnTwoTexts PutsFit Unfits (IsRefusedCopy left) left right out (Unfit right.name fault)
     unfit fault u = on_left_read PutsFit Unfits (IsRefusedCopy left) left right out graph (Unfit right.name fault) h
-        (λ b I reads is. on_read (λ x J. PutsFit b I J) (Unfits I) (IsRefusedText right) (IsRefusedText right) right out companion (Unfit right.name fault) k (unfit_unread right.name fault right.name)
+        (λ b I reads is. on_read (λ x J. PutsFit b I J) (Unfits I) (IsRefusedText right)
+        (IsRefusedText right) right out companion (Unfit right.name fault) k
+        (unfit_unread right.name fault right.name)
         (λ x J reads' is'. (J, reads', refl, sym (judged_is (holding graph) (holding companion) I J is is') ∙ u)))
 
     -- if the companion fits, `check` puts the lines of both texts
-    module _ (kept copy : List ℕ) (s : copy ≡ kept) (c : IsCopy left kept (Ok graph)) (all : HoldsCopied [] kept graph) (fit : judged (holding graph) (holding companion) ≡ Ok tt) (with : Kind) (w : with ≡ contents_kind (holding companion).contents) where
-      pub fits : (answer : Answer) → ((I : Instance) → Reads copy I → IsHeld (holding graph) I → PutsFinding (PutsChecked (Some with) copy I) out answer)
+    module _ (kept copy : List ℕ) (s : copy ≡ kept) (c : IsCopy left kept (Ok graph)) (all : HoldsCopied [] kept graph)
+        (fit : judged (holding graph) (holding companion) ≡ Ok tt) (with : Kind)
+        (w : with ≡ contents_kind (holding companion).contents) where
+      pub fits : (answer : Answer)
+          → ((I : Instance) → Reads copy I → IsHeld (holding graph) I
+          → PutsFinding (PutsChecked (Some with) copy I) out answer)
           → OnTwoTexts PutsFit Unfits (IsRefusedCopy left) left right out answer
       fits answer puts = on_left PutsFit Unfits (IsRefusedCopy left) left right out graph answer h
-          (λ b none e I reads is. inr (let same : copy ≡ b = s ∙ copy_at left.fault left.behind (λ x. kept ≡ x) c b none e in
-          by_answer b I is answer (subst (λ x. PutsFinding (PutsChecked (Some with) x I) out answer) same (puts I (subst (λ x. Reads x I) (sym same) reads) is))))
+          (λ b none e I reads is. inr
+          (let same : copy ≡ b = s ∙ copy_at left.fault left.behind (λ x. kept ≡ x) c b none e in
+          by_answer b I is answer
+          (subst (λ x. PutsFinding (PutsChecked (Some with) x I) out answer) same
+          (puts I (subst (λ x. Reads x I) (sym same) reads) is))))
           (let (t, (I, reads, is), same) = all in
           let here : Reads copy I = subst (λ x. Reads x I) (sym (s ∙ same)) reads in
-          as_two PutsFit Unfits (IsRefusedCopy left) left right out answer (copy, I, here, (by_answer copy I is answer (puts I here is)).some))
+          as_two PutsFit Unfits (IsRefusedCopy left) left right out answer
+          (copy, I, here, (by_answer copy I is answer (puts I here is)).some))
         where
-          fit_on : (b : List ℕ) (I : Instance) → IsHeld (holding graph) I → (J : Instance) → IsHeld (holding companion) J → (status : ℕ) (t : List ℕ) → PutsChecked (Some with) b I status t → PutsFit b I J status t
+          fit_on : (b : List ℕ) (I : Instance) → IsHeld (holding graph) I → (J : Instance)
+              → IsHeld (holding companion) J → (status : ℕ) (t : List ℕ) → PutsChecked (Some with) b I status t
+              → PutsFit b I J status t
           fit_on b I is J is' status t p = (
             sym (judged_is (holding graph) (holding companion) I J is is') ∙ fit,
             subst (λ x. PutsChecked (Some x) b I status t) (w ∙ held_kind (holding companion) J is') p,
           )
 
-          by_answer : (b : List ℕ) (I : Instance) → IsHeld (holding graph) I → (answer : Answer) → PutsFinding (PutsChecked (Some with) b I) out answer
+          by_answer : (b : List ℕ) (I : Instance) → IsHeld (holding graph) I → (answer : Answer)
+              → PutsFinding (PutsChecked (Some with) b I) out answer
               → OnText (λ x J. PutsFit b I J) (Unfits I) (IsRefusedText right) right out answer
-          by_answer b I is (Done status) (t, p, a) = on_read (λ x J. PutsFit b I J) (Unfits I) (IsRefusedText right) (IsRefusedText right) right out companion (Done status) k (done_unread status right.name)
+          by_answer b I is (Done status) (t, p, a) =
+              on_read (λ x J. PutsFit b I J) (Unfits I) (IsRefusedText right) (IsRefusedText right) right out companion
+              (Done status) k (done_unread status right.name)
               (λ x J reads' is'. (J, reads', t, fit_on b I is J is' status t p, a))
           by_answer b I is (Refused of e) p = absurd p
           by_answer b I is (Unfit of fault) p = absurd p
-          by_answer b I is Cut (status, t, p, f) = on_read (λ x J. PutsFit b I J) (Unfits I) (IsRefusedText right) (IsRefusedText right) right out companion Cut k (cut_unread right.name)
+          by_answer b I is Cut (status, t, p, f) =
+              on_read (λ x J. PutsFit b I J) (Unfits I) (IsRefusedText right)
+              (IsRefusedText right) right out companion Cut k (cut_unread right.name)
               (λ x J reads' is'. (J, reads', status, t, fit_on b I is J is' status t p, f))
 
 -- ---- `compare`
 
-module _ {T S : Type 0} (left right : AskedText T) (out : SinkRun S) (one : Held) (h : IsRead (IsRefusedText left) left (Ok one)) where
+module _ {T S : Type 0} (left right : AskedText T) (out : SinkRun S) (one : Held)
+    (h : IsRead (IsRefusedText left) left (Ok one)) where
   -- if the right text is refused, so `compare` ends
-  pub compare_refused : (e : Refusal) → IsRead (IsRefusedText right) right (Err e) → OnTwoTexts (λ _. PutsCompared) (λ _ _. Never) (IsRefusedText left) left right out (Refused right.name e)
-  compare_refused e k = on_left_read (λ _. PutsCompared) (λ _ _. Never) (IsRefusedText left) left right out one (Refused right.name e) h
-      (λ b I reads is. on_refused (λ x J. PutsCompared I J) (λ _. Never) (IsRefusedText right) (IsRefusedText right) right out e k (λ x r. r))
+  pub compare_refused : (e : Refusal) → IsRead (IsRefusedText right) right (Err e)
+      → OnTwoTexts (λ _. PutsCompared) (λ _ _. Never) (IsRefusedText left) left right out (Refused right.name e)
+  compare_refused e k =
+      on_left_read (λ _. PutsCompared) (λ _ _. Never) (IsRefusedText left) left right out one (Refused right.name e) h
+      (λ b I reads is. on_refused (λ x J. PutsCompared I J) (λ _. Never) (IsRefusedText right)
+      (IsRefusedText right) right out e k (λ x r. r))
 
   -- if both texts were read, `compare` puts their first difference
   pub compared : (other : Held) → IsRead (IsRefusedText right) right (Ok other) → (answer : Answer) → IsFound answer
-      → ((I J : Instance) → IsValid I → IsValid J → IsHeld (holding one) I → IsHeld (holding other) J → PutsFinding (PutsCompared I J) out answer)
+      → ((I J : Instance) → IsValid I → IsValid J → IsHeld (holding one) I → IsHeld (holding other) J
+      → PutsFinding (PutsCompared I J) out answer)
       → OnTwoTexts (λ _. PutsCompared) (λ _ _. Never) (IsRefusedText left) left right out answer
-  compared other k answer found puts = on_left_read (λ _. PutsCompared) (λ _ _. Never) (IsRefusedText left) left right out one answer h
-      (λ b I reads is. on_read (λ x J. PutsCompared I J) (λ _. Never) (IsRefusedText right) (IsRefusedText right) right out other answer k (λ e. absurd (subst IsFound e found))
-      (λ x J reads' is'. by_answer x I J reads' answer (puts I J (reads_valid b I reads) (reads_valid x J reads') is is')))
+  compared other k answer found puts =
+      on_left_read (λ _. PutsCompared) (λ _ _. Never) (IsRefusedText left) left right out one answer h
+      (λ b I reads is. on_read (λ x J. PutsCompared I J) (λ _. Never) (IsRefusedText right)
+      (IsRefusedText right) right out other answer k (λ e. absurd (subst IsFound e found))
+      (λ x J reads' is'. by_answer x I J reads' answer
+      (puts I J (reads_valid b I reads) (reads_valid x J reads') is is')))
     where
-      by_answer : (x : List ℕ) (I J : Instance) → Reads x J → (answer : Answer) → PutsFinding (PutsCompared I J) out answer → RanOn (λ x J. PutsCompared I J) (λ _. Never) (IsRefusedText right) right.name out x answer
+      by_answer : (x : List ℕ) (I J : Instance) → Reads x J → (answer : Answer)
+          → PutsFinding (PutsCompared I J) out answer
+          → RanOn (λ x J. PutsCompared I J) (λ _. Never) (IsRefusedText right) right.name out x answer
       by_answer x I J reads (Done status) (t, p, a) = (J, reads, t, p, a)
       by_answer x I J reads (Refused of e) p = absurd p
       by_answer x I J reads (Unfit of fault) p = absurd p

@@ -36,7 +36,8 @@ same_of (Item i) e = cc
 same_of (Point id) e = cc
 
 -- the line and the status of a first difference are what `compare` puts
-pub compared_as : (I J : Instance) (v : Verdict) (status : ℕ) → IsFirstDifference I J v → status ≡ verdict_status v → PutsCompared I J status (line_text (verdict_row v))
+pub compared_as : (I J : Instance) (v : Verdict) (status : ℕ) → IsFirstDifference I J v → status ≡ verdict_status v
+    → PutsCompared I J status (line_text (verdict_row v))
 compared_as I J v status first e = record {
   verdict = v;
   first = first;

@@ -17,10 +17,12 @@ named_is n (OfP2p pairs) (Queries xs) h = ap (λ l. within n (flat_map both_node
 named_is n (OfCo points) (Coordinates xs) h = ap (λ l. within n (keys_of l)) h
 named_is n _ _ h = absurd h
 
-fit_is : (n : ℤ) (c d : Contents) (I J : Instance) → n ≡ nodes_of I → Shows c I → Shows d J → judged_by (is_graph c) n (named_nodes d) ≡ companion_fit I J
+fit_is : (n : ℤ) (c d : Contents) (I J : Instance) → n ≡ nodes_of I → Shows c I → Shows d J
+    → judged_by (is_graph c) n (named_nodes d) ≡ companion_fit I J
 fit_is n (OfMin flows table) d (MinCostFlow s G) J e h k = refl
 fit_is n (OfMax source sink table) d (MaxFlow s t G) J e h k = refl
-fit_is n (OfSp table) d (ShortestPaths G) J e h k = ap (λ m. judged_by true m (named_nodes d)) e ∙ named_is G.nodes d J k
+fit_is n (OfSp table) d (ShortestPaths G) J e h k =
+    ap (λ m. judged_by true m (named_nodes d)) e ∙ named_is G.nodes d J k
 fit_is n (OfSs ids) d (Sources xs) J e h k = refl
 fit_is n (OfP2p pairs) d (Queries xs) J e h k = refl
 fit_is n (OfCo points) d (Coordinates xs) J e h k = refl

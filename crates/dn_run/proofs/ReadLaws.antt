@@ -11,18 +11,22 @@ use Rattle.dn_run.specs.State.Texts.{IsRead, ReadsAs}
 
 module _ {T : Type 0} (text : AskedText T) where
   module _ (source : T) (comes : ComesOf text source) (fine : text.fault ≡ None) where
-    reads_as : (b : List ℕ) (r : Result Held Refusal) → SourceOutcome b (text.source.gives source) r → (IsErrOf r Read → IsTrue (text.source.has_failed source)) → ReadsAs (IsRefusedText text) b r
+    reads_as : (b : List ℕ) (r : Result Held Refusal) → SourceOutcome b (text.source.gives source) r
+        → (IsErrOf r Read → IsTrue (text.source.has_failed source)) → ReadsAs (IsRefusedText text) b r
     reads_as b (Ok held) h read = h.0
     reads_as b (Err (Text place code)) h read = h.0
-    reads_as b (Err Memory) h read = record { source = source; comes = comes; ran_out = ran_out b (text.source.gives source) h }
+    reads_as b (Err Memory) h read =
+        record { source = source; comes = comes; ran_out = ran_out b (text.source.gives source) h }
     reads_as b (Err Read) h read = (record { source = source; comes = comes; failed = read refl }, h)
     reads_as b (Err Endless) (c, many) read = record { source = source; comes = comes; clean = c; many = many }
     reads_as b (Err Write) h read = h
     reads_as b (Err CountTooLarge) h read = h
 
     -- reading the source that was handed out returns what `IsRead` says
-    pub handed_reads : (given : Option (List ℕ)) (r : Result Held Refusal) → given ≡ text.behind → IfSome given (λ b. SourceOutcome b (text.source.gives source) r)
-        → (IsErrOf r Read → IsTrue (text.source.has_failed source)) → IfOk r HoldsSome → IsRead (IsRefusedText text) text r
+    pub handed_reads : (given : Option (List ℕ)) (r : Result Held Refusal) → given ≡ text.behind
+        → IfSome given (λ b. SourceOutcome b (text.source.gives source) r)
+        → (IsErrOf r Read → IsTrue (text.source.has_failed source)) → IfOk r HoldsSome
+        → IsRead (IsRefusedText text) text r
     handed_reads given r e h read held = record {
       not_handed = subst (λ o. IfSome o (λ f. r ≡ Err (unopened f))) (sym fine) tt;
       failed = λ _ is. record { source = source; comes = comes; failed = read is };
@@ -30,30 +34,41 @@ module _ {T : Type 0} (text : AskedText T) where
       held = held;
     }
       where
-        by_given : (o : Option (List ℕ)) → IfSome o (λ b. SourceOutcome b (text.source.gives source) r) → IfSome o (λ b. ReadsAs (IsRefusedText text) b r)
+        by_given : (o : Option (List ℕ)) → IfSome o (λ b. SourceOutcome b (text.source.gives source) r)
+            → IfSome o (λ b. ReadsAs (IsRefusedText text) b r)
         by_given None h = tt
         by_given (Some b) h = reads_as b r h read
 
-    copies_as : (b copy : List ℕ) (r : Result Held Refusal) → CopyOutcome b (text.source.gives source) [] copy r → (IsErrOf r Read → IsTrue (text.source.has_failed source)) → ReadsAs (IsRefusedCopy text) b r
+    copies_as : (b copy : List ℕ) (r : Result Held Refusal) → CopyOutcome b (text.source.gives source) [] copy r
+        → (IsErrOf r Read → IsTrue (text.source.has_failed source)) → ReadsAs (IsRefusedCopy text) b r
     copies_as b copy (Ok held) h read = h.0.0
     copies_as b copy (Err (Text place code)) h read = h.0.0
-    copies_as b copy (Err Memory) (inl h) read = inl (record { source = source; comes = comes; ran_out = ran_out b (text.source.gives source) h.0 })
-    copies_as b copy (Err Memory) (inr l) read = inr (record { given = l.given; piece = l.piece; rest = l.rest; whole = l.whole; some = l.some; clean = l.clean })
+    copies_as b copy (Err Memory) (inl h) read =
+        inl (record { source = source; comes = comes; ran_out = ran_out b (text.source.gives source) h.0 })
+    copies_as b copy (Err Memory) (inr l) read =
+        inr (record
+        { given = l.given; piece = l.piece; rest = l.rest; whole = l.whole; some = l.some; clean = l.clean })
     copies_as b copy (Err Read) h read = (record { source = source; comes = comes; failed = read refl }, h.0)
-    copies_as b copy (Err Endless) ((c, many), copied) read = record { source = source; comes = comes; clean = c; many = many }
+    copies_as b copy (Err Endless) ((c, many), copied) read =
+        record { source = source; comes = comes; clean = c; many = many }
     copies_as b copy (Err Write) h read = h.0
     copies_as b copy (Err CountTooLarge) h read = h.0
 
-    pub handed_copies : (given : Option (List ℕ)) (old copy : List ℕ) (r : Result Held Refusal) → old ≡ [] → given ≡ text.behind → IfSome given (λ b. CopyOutcome b (text.source.gives source) old copy r)
-        → (IsErrOf r Read → IsTrue (text.source.has_failed source)) → IfOk r (HoldsCopied old copy) → IsRead (IsRefusedCopy text) text r
+    pub handed_copies : (given : Option (List ℕ)) (old copy : List ℕ) (r : Result Held Refusal) → old ≡ []
+        → given ≡ text.behind → IfSome given (λ b. CopyOutcome b (text.source.gives source) old copy r)
+        → (IsErrOf r Read → IsTrue (text.source.has_failed source)) → IfOk r (HoldsCopied old copy)
+        → IsRead (IsRefusedCopy text) text r
     handed_copies given old copy r empty e h read held = record {
       not_handed = subst (λ o. IfSome o (λ f. r ≡ Err (unopened f))) (sym fine) tt;
       failed = λ _ is. record { source = source; comes = comes; failed = read is };
-      handed = λ _. subst (λ o. IfSome o (λ b. ReadsAs (IsRefusedCopy text) b r)) e (by_given given (subst (λ l. IfSome given (λ b. CopyOutcome b (text.source.gives source) l copy r)) empty h));
+      handed =
+          λ _. subst (λ o. IfSome o (λ b. ReadsAs (IsRefusedCopy text) b r)) e
+          (by_given given (subst (λ l. IfSome given (λ b. CopyOutcome b (text.source.gives source) l copy r)) empty h));
       held = held_of r held;
     }
       where
-        by_given : (o : Option (List ℕ)) → IfSome o (λ b. CopyOutcome b (text.source.gives source) [] copy r) → IfSome o (λ b. ReadsAs (IsRefusedCopy text) b r)
+        by_given : (o : Option (List ℕ)) → IfSome o (λ b. CopyOutcome b (text.source.gives source) [] copy r)
+            → IfSome o (λ b. ReadsAs (IsRefusedCopy text) b r)
         by_given None h = tt
         by_given (Some b) h = copies_as b copy r h read
 
@@ -63,7 +78,8 @@ module _ {T : Type 0} (text : AskedText T) where
 
 -- if nothing is left of the text, the copy is the whole text
 whole_copy : (b copy : List ℕ) (new : Option (List ℕ)) → IsAtEnd new → Copied b new [] copy → copy ≡ b
-whole_copy b copy (Some rest) end c = c.copy ∙ sym (append-nil c.given) ∙ ap (λ l. c.given ++ l) (sym (left c.rest c.rest_is)) ∙ sym c.whole
+whole_copy b copy (Some rest) end c =
+    c.copy ∙ sym (append-nil c.given) ∙ ap (λ l. c.given ++ l) (sym (left c.rest c.rest_is)) ∙ sym c.whole
   where
     left : (rest' : List ℕ) → Some rest ≡ Some rest' → rest' ≡ []
     left rest' e = cc
@@ -73,8 +89,11 @@ whole_copy b copy None end c = absurd (none c.rest c.rest_is)
     none rest' e = cc
 
 -- if a source that gave what is behind a name was read and copied, the copy is what is behind the name
-pub handed_copy : (new given behind : Option (List ℕ)) (old copy : List ℕ) (r : Result Held Refusal) → old ≡ [] → given ≡ behind → IfSome given (λ b. CopyOutcome b new old copy r) → IfSome behind (λ b. OnOk r (copy ≡ b))
-handed_copy new given behind old copy r empty e h = subst (λ o. IfSome o (λ b. OnOk r (copy ≡ b))) e (by_given given (subst (λ l. IfSome given (λ b. CopyOutcome b new l copy r)) empty h))
+pub handed_copy : (new given behind : Option (List ℕ)) (old copy : List ℕ) (r : Result Held Refusal) → old ≡ []
+    → given ≡ behind → IfSome given (λ b. CopyOutcome b new old copy r) → IfSome behind (λ b. OnOk r (copy ≡ b))
+handed_copy new given behind old copy r empty e h =
+    subst (λ o. IfSome o (λ b. OnOk r (copy ≡ b))) e
+    (by_given given (subst (λ l. IfSome given (λ b. CopyOutcome b new l copy r)) empty h))
   where
     by_result : (b : List ℕ) (r : Result Held Refusal) → CopyOutcome b new [] copy r → OnOk r (copy ≡ b)
     by_result b (Ok held) h = whole_copy b copy new h.0.1 h.1
@@ -85,5 +104,6 @@ handed_copy new given behind old copy r empty e h = subst (λ o. IfSome o (λ b.
     by_given (Some b) h = by_result b r h
 
 -- a copy that was empty before is the text that was read
-pub handed_copied : (old copy : List ℕ) (r : Result Held Refusal) → old ≡ [] → IfOk r (HoldsCopied old copy) → IfOk r (HoldsCopied [] copy)
+pub handed_copied : (old copy : List ℕ) (r : Result Held Refusal) → old ≡ [] → IfOk r (HoldsCopied old copy)
+    → IfOk r (HoldsCopied [] copy)
 handed_copied old copy r empty h = subst (λ l. IfOk r (HoldsCopied l copy)) empty h

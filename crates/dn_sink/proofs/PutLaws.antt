@@ -13,12 +13,15 @@ pub put_from : {K : Type 0} {k : SinkWords K} {a : K} {left all : List ℕ} → 
 put_from {K} {k} {a} {left} {all} e = record { put = []; bytes = Appends-nil (k.taken a); whole = e; fine = refl }
 
 -- after a put of n bytes, n at least 1, the rest begins n bytes later
-pub put_part : {K : Type 0} (k : SinkWords K) (a b c : K) (piece : List ℕ) (at n : ℕ) → HasPut k a b (drop at piece) piece
+pub put_part : {K : Type 0} (k : SinkWords K) (a b c : K) (piece : List ℕ) (at n : ℕ)
+    → HasPut k a b (drop at piece) piece
     → Took k b c (take (length piece - at) (drop at piece)) n → 0 < n → HasPut k a c (drop (at + n) piece) piece
 put_part k a b c piece at n h t some =
-    let rest : take (length piece - at) (drop at piece) ≡ drop at piece = take_all (length piece - at) (drop at piece) (omega (arith, length-drop at piece)) in
+    let rest : take (length piece - at) (drop at piece) ≡ drop at piece =
+    take_all (length piece - at) (drop at piece) (omega (arith, length-drop at piece)) in
     let next : take n (take (length piece - at) (drop at piece)) ++ drop (at + n) piece ≡ drop at piece =
-    ap (λ l. take n l ++ drop (at + n) piece) rest ∙ ap (λ l. take n (drop at piece) ++ l) (sym (drop-drop n at piece)) ∙ take-append-drop n (drop at piece) in
+    ap (λ l. take n l ++ drop (at + n) piece) rest ∙ ap (λ l. take n (drop at piece) ++ l) (sym (drop-drop n at piece))
+    ∙ take-append-drop n (drop at piece) in
     record {
       put = h.put ++ take n (take (length piece - at) (drop at piece));
       bytes = Appends-trans (k.taken a) (k.taken b) (k.taken c) h.put _ h.bytes t.bytes;
@@ -37,22 +40,26 @@ module _ {K : Type 0} {k : SinkWords K} {a b c : K} where
   }
 
   -- if a prefix of the next piece is put, a prefix of the text is
-  pub put_stop : (x rest : List ℕ) {all : List ℕ} → HasPut k a b (x ++ rest) all → PutsPrefix k b c x → PutsPrefix k a c all
+  pub put_stop : (x rest : List ℕ) {all : List ℕ} → HasPut k a b (x ++ rest) all → PutsPrefix k b c x
+      → PutsPrefix k a c all
   put_stop x rest {all} h f = record {
     put = h.put ++ f.put;
     left = f.left ++ rest;
     bytes = Appends-trans (k.taken a) (k.taken b) (k.taken c) h.put f.put h.bytes f.bytes;
     whole =
-        append_assoc h.put f.put (f.left ++ rest) ∙ ap (λ l. h.put ++ l) (sym (append_assoc f.put f.left rest) ∙ ap (λ l. l ++ rest) f.whole)
+        append_assoc h.put f.put (f.left ++ rest)
+        ∙ ap (λ l. h.put ++ l) (sym (append_assoc f.put f.left rest) ∙ ap (λ l. l ++ rest) f.whole)
         ∙ h.whole;
     failed = f.failed;
   }
 
 -- putting the rest ends a put of the whole text
-pub put_last : {K : Type 0} (k : SinkWords K) (a b c : K) (x all : List ℕ) (r : Result (Unit {0}) SinkFault) → HasPut k a b x all → Puts k b c x r → Puts k a c all r
+pub put_last : {K : Type 0} (k : SinkWords K) (a b c : K) (x all : List ℕ) (r : Result (Unit {0}) SinkFault)
+    → HasPut k a b x all → Puts k b c x r → Puts k a c all r
 put_last k a b c x all (Ok u) h p = put_more (subst (λ l. HasPut k a b l all) (sym (append-nil x)) h) p
 put_last k a b c x all (Err e) h p = put_stop x [] (subst (λ l. HasPut k a b l all) (sym (append-nil x)) h) p
 
 -- a fault of a call is the fault of the whole put
-pub stopped : {K : Type 0} {k : SinkWords K} {a b : K} {all : List ℕ} (r : Result (Unit {0}) SinkFault) → IsErr r → PutsPrefix k a b all → Puts k a b all r
+pub stopped : {K : Type 0} {k : SinkWords K} {a b : K} {all : List ℕ} (r : Result (Unit {0}) SinkFault) → IsErr r
+    → PutsPrefix k a b all → Puts k a b all r
 stopped r is f = MatchResult-from_err r _ _ is (λ e. f)

@@ -42,7 +42,8 @@ not_self : (p : Pair) (qs : List Pair) → among p (without p qs) ≡ false
 not_self p [] = refl
 not_self p (q ∷ qs) = by_test (same_pair p q) refl (not_self p qs)
   where
-    by_test : (t : Bool) → same_pair p q ≡ t → among p (without p qs) ≡ false → among p (cond t (without p qs) (q ∷ without p qs)) ≡ false
+    by_test : (t : Bool) → same_pair p q ≡ t → among p (without p qs) ≡ false
+        → among p (cond t (without p qs) (q ∷ without p qs)) ≡ false
     by_test true e i = i
     by_test false e i = ap (λ b. b || among p (without p qs)) e ∙ i
 
@@ -50,7 +51,8 @@ others_stay : (p r : Pair) (qs : List Pair) → same_pair r p ≡ false → amon
 others_stay p r [] n = refl
 others_stay p r (q ∷ qs) n = by_test (same_pair p q) refl (others_stay p r qs n)
   where
-    by_test : (t : Bool) → same_pair p q ≡ t → among r (without p qs) ≡ among r qs → among r (cond t (without p qs) (q ∷ without p qs)) ≡ (same_pair r q || among r qs)
+    by_test : (t : Bool) → same_pair p q ≡ t → among r (without p qs) ≡ among r qs
+        → among r (cond t (without p qs) (q ∷ without p qs)) ≡ (same_pair r q || among r qs)
     by_test true e i = i ∙ sym (ap (λ b. b || among r qs) (ap (same_pair r) (sym (pair_is p q e)) ∙ n))
     by_test false e i = ap (λ b. same_pair r q || b) i
 
@@ -63,15 +65,18 @@ once_without p (q ∷ qs) o = by_test (same_pair p q) refl (once_without p qs o.
     by_test false e i = (others_stay p q qs (other_pair p q e) ∙ o.0, i)
 
 module _ (f : Pair → ℕ) where
-  sum_without : (p : Pair) (qs : List Pair) → Once qs → sum_by f qs ≡ cond (among p qs) (f p) 0 + sum_by f (without p qs)
+  sum_without : (p : Pair) (qs : List Pair) → Once qs
+      → sum_by f qs ≡ cond (among p qs) (f p) 0 + sum_by f (without p qs)
   sum_without p [] o = refl
   sum_without p (q ∷ qs) o = by_test (same_pair p q) refl (sum_without p qs o.1)
     where
-      by_test : (t : Bool) → same_pair p q ≡ t → sum_by f qs ≡ cond (among p qs) (f p) 0 + sum_by f (without p qs) → sum_by f (q ∷ qs) ≡ cond (t || among p qs) (f p) 0 + sum_by f (cond t (without p qs) (q ∷ without p qs))
+      by_test : (t : Bool) → same_pair p q ≡ t → sum_by f qs ≡ cond (among p qs) (f p) 0 + sum_by f (without p qs)
+          → sum_by f (q ∷ qs) ≡ cond (t || among p qs) (f p) 0 + sum_by f (cond t (without p qs) (q ∷ without p qs))
       by_test true e i =
           let same : p ≡ q = pair_is p q e in
           let none : among p qs ≡ false = ap (λ r. among r qs) same ∙ o.0 in
-          let rest : sum_by f qs ≡ 0 + sum_by f (without p qs) = i ∙ ap (λ b. cond b (f p) 0 + sum_by f (without p qs)) none in
+          let rest : sum_by f qs ≡ 0 + sum_by f (without p qs) =
+          i ∙ ap (λ b. cond b (f p) 0 + sum_by f (without p qs)) none in
           let head : f q ≡ f p = ap f (sym same) in
           let whole = sum_by-cons f q qs in
           omega arith
@@ -82,16 +87,20 @@ module _ (f : Pair → ℕ) where
   all_none (q ∷ qs) h =
       let whole = sum_by-cons f q qs in
       let head : f q ≡ 0 = h q (ap (λ b. b || among q qs) (pair_self q)) in
-      let rest : sum_by f qs ≡ 0 = all_none qs (λ r e. h r (ap (λ b. same_pair r q || b) e ∙ or-true (same_pair r q))) in
+      let rest : sum_by f qs ≡ 0 =
+      all_none qs (λ r e. h r (ap (λ b. same_pair r q || b) e ∙ or-true (same_pair r q))) in
       omega arith
 
   -- sums over two lists without repeats are equal if each pair in only one of them adds nothing
-  same_sum : (ps qs : List Pair) → Once ps → Once qs → ((r : Pair) → among r ps ≡ false → among r qs ≡ true → f r ≡ 0) → ((r : Pair) → among r ps ≡ true → among r qs ≡ false → f r ≡ 0) → sum_by f ps ≡ sum_by f qs
+  same_sum : (ps qs : List Pair) → Once ps → Once qs → ((r : Pair) → among r ps ≡ false → among r qs ≡ true → f r ≡ 0)
+      → ((r : Pair) → among r ps ≡ true → among r qs ≡ false → f r ≡ 0) → sum_by f ps ≡ sum_by f qs
   same_sum [] qs op oq out back = sym (all_none qs (λ r e. out r refl e))
   same_sum (p ∷ ps) qs op oq out back =
       let whole = sum_by-cons f p ps in
       let part = sum_without p qs oq in
-      let rest = same_sum ps (without p qs) op.1 (once_without p qs oq) (λ r e g. out_rest r (same_pair r p) refl e g) (λ r e g. back_rest r (same_pair r p) refl e g) in
+      let rest =
+      same_sum ps (without p qs) op.1 (once_without p qs oq) (λ r e g. out_rest r (same_pair r p) refl e g)
+      (λ r e g. back_rest r (same_pair r p) refl e g) in
       let head = here (among p qs) refl in
       omega arith
     where
@@ -99,19 +108,22 @@ module _ (f : Pair → ℕ) where
       here true e = refl
       here false e = sym (back p (ap (λ b. b || among p ps) (pair_self p)) e)
 
-      out_rest : (r : Pair) (t : Bool) → same_pair r p ≡ t → among r ps ≡ false → among r (without p qs) ≡ true → f r ≡ 0
+      out_rest : (r : Pair) (t : Bool) → same_pair r p ≡ t → among r ps ≡ false → among r (without p qs) ≡ true
+          → f r ≡ 0
       out_rest r true e g h =
           let same : r ≡ p = pair_is r p e in
           let never : true ≡ false = sym h ∙ ap (λ x. among x (without p qs)) same ∙ not_self p qs in
           cc
       out_rest r false e g h = out r (ap (λ b. b || among r ps) e ∙ g) (sym (others_stay p r qs e) ∙ h)
 
-      back_rest : (r : Pair) (t : Bool) → same_pair r p ≡ t → among r ps ≡ true → among r (without p qs) ≡ false → f r ≡ 0
+      back_rest : (r : Pair) (t : Bool) → same_pair r p ≡ t → among r ps ≡ true → among r (without p qs) ≡ false
+          → f r ≡ 0
       back_rest r true e g h =
           let same : r ≡ p = pair_is r p e in
           let never : true ≡ false = sym g ∙ ap (λ x. among x ps) same ∙ op.0 in
           cc
-      back_rest r false e g h = back r (ap (λ b. same_pair r p || b) g ∙ or-true (same_pair r p)) (sym (others_stay p r qs e) ∙ h)
+      back_rest r false e g h =
+          back r (ap (λ b. same_pair r p || b) g ∙ or-true (same_pair r p)) (sym (others_stay p r qs e) ∙ h)
 
 among_distinct : (r : Pair) (ps : List Pair) → among r (distinct same_pair ps) ≡ among r ps
 among_distinct r [] = refl
@@ -121,7 +133,8 @@ among_distinct r (p ∷ ps) = by_test (among p ps) refl (among_distinct r ps)
     by_both true e g = ap (λ x. among x ps) (pair_is r p e) ∙ g
     by_both false e g = refl
 
-    by_test : (t : Bool) → among p ps ≡ t → among r (distinct same_pair ps) ≡ among r ps → among r (cond t (distinct same_pair ps) (p ∷ distinct same_pair ps)) ≡ (same_pair r p || among r ps)
+    by_test : (t : Bool) → among p ps ≡ t → among r (distinct same_pair ps) ≡ among r ps
+        → among r (cond t (distinct same_pair ps) (p ∷ distinct same_pair ps)) ≡ (same_pair r p || among r ps)
     by_test true e i = i ∙ by_both (same_pair r p) refl e
     by_test false e i = ap (λ b. same_pair r p || b) i
 
@@ -129,7 +142,8 @@ once_distinct : (ps : List Pair) → Once (distinct same_pair ps)
 once_distinct [] = tt
 once_distinct (p ∷ ps) = by_test (among p ps) refl (once_distinct ps)
   where
-    by_test : (t : Bool) → among p ps ≡ t → Once (distinct same_pair ps) → Once (cond t (distinct same_pair ps) (p ∷ distinct same_pair ps))
+    by_test : (t : Bool) → among p ps ≡ t → Once (distinct same_pair ps)
+        → Once (cond t (distinct same_pair ps) (p ∷ distinct same_pair ps))
     by_test true e i = i
     by_test false e i = (among_distinct p ps ∙ e, i)
 
@@ -140,22 +154,27 @@ none_alike k (y ∷ ys) h = ap (λ b. b || among k ys) h.0 ∙ none_alike k ys h
 -- a list of different pairs has no repeats
 pub once_apart : (ks : List Pair) → IsDistinct same_pair ks → Once ks
 once_apart [] s = tt
-once_apart (k ∷ ks) s = (none_alike k ks (IsDistinct-head same_pair k ks s), once_apart ks (IsDistinct-tail same_pair k ks s))
+once_apart (k ∷ ks) s =
+    (none_alike k ks (IsDistinct-head same_pair k ks s), once_apart ks (IsDistinct-tail same_pair k ks s))
 
 module _ {Arc : Type 0} where
   no_bundle : (r : Pair) (arcs : List (Pair × Arc)) → among r (map (λ a. a.0) arcs) ≡ false → bundle r arcs ≡ []
   no_bundle r [] e = refl
   no_bundle r (a ∷ rest) e = by_test (same_pair r a.0) e (no_bundle r rest)
     where
-      by_test : (t : Bool) → (t || among r (map (λ (x : Pair × Arc). x.0) rest)) ≡ false → (among r (map (λ (x : Pair × Arc). x.0) rest) ≡ false → bundle r rest ≡ []) → cond t (a.1 ∷ bundle r rest) (bundle r rest) ≡ []
+      by_test : (t : Bool) → (t || among r (map (λ (x : Pair × Arc). x.0) rest)) ≡ false
+          → (among r (map (λ (x : Pair × Arc). x.0) rest) ≡ false → bundle r rest ≡ [])
+          → cond t (a.1 ∷ bundle r rest) (bundle r rest) ≡ []
       by_test true g i = cc
       by_test false g i = i g
 
-  bundle_arcs : (P : Arc → Type 0) (r : Pair) (arcs : List (Pair × Arc)) → AllByRecursion (λ a. P a.1) arcs → AllByRecursion P (bundle r arcs)
+  bundle_arcs : (P : Arc → Type 0) (r : Pair) (arcs : List (Pair × Arc)) → AllByRecursion (λ a. P a.1) arcs
+      → AllByRecursion P (bundle r arcs)
   bundle_arcs P r [] h = tt
   bundle_arcs P r (a ∷ rest) h = by_test (same_pair r a.0) (bundle_arcs P r rest h.1)
     where
-      by_test : (t : Bool) → AllByRecursion P (bundle r rest) → AllByRecursion P (cond t (a.1 ∷ bundle r rest) (bundle r rest))
+      by_test : (t : Bool) → AllByRecursion P (bundle r rest)
+          → AllByRecursion P (cond t (a.1 ∷ bundle r rest) (bundle r rest))
       by_test true i = (h.0, i)
       by_test false i = i
 
@@ -164,34 +183,48 @@ module _ {B : Type 0} where
   no_entry r [] e = refl
   no_entry r (x ∷ rest) e = by_test (same_pair r x.0) e (no_entry r rest)
     where
-      by_test : (t : Bool) → (t || among r (keys_of rest)) ≡ false → (among r (keys_of rest) ≡ false → lookup (same_pair r) rest ≡ None) → cond t (Some x.1) (lookup (same_pair r) rest) ≡ None
+      by_test : (t : Bool) → (t || among r (keys_of rest)) ≡ false
+          → (among r (keys_of rest) ≡ false → lookup (same_pair r) rest ≡ None)
+          → cond t (Some x.1) (lookup (same_pair r) rest) ≡ None
       by_test true g i = cc
       by_test false g i = i g
 
   -- a sum over the bundles is a sum over their pairs
-  sum_at : (f : Pair → ℕ) (g : B → ℕ) (table rest : List (Pair × B)) → ((k : Pair) → among k (keys_of rest) ≡ true → lookup (same_pair k) rest ≡ lookup (same_pair k) table) → Once (keys_of rest)
-      → ((k : Pair) (b : B) → lookup (same_pair k) table ≡ Some b → g b ≡ f k) → sum_by (λ (e : Pair × B). g e.1) rest ≡ sum_by f (keys_of rest)
+  sum_at : (f : Pair → ℕ) (g : B → ℕ) (table rest : List (Pair × B))
+      → ((k : Pair) → among k (keys_of rest) ≡ true → lookup (same_pair k) rest ≡ lookup (same_pair k) table)
+      → Once (keys_of rest)
+      → ((k : Pair) (b : B) → lookup (same_pair k) table ≡ Some b → g b ≡ f k)
+      → sum_by (λ (e : Pair × B). g e.1) rest ≡ sum_by f (keys_of rest)
   sum_at f g table [] at s h = refl
   sum_at f g table (e ∷ rest) at s h =
       let whole = sum_by-cons (λ (x : Pair × B). g x.1) e rest in
       let part = sum_by-cons f e.0 (keys_of rest) in
       let more = sum_at f g table rest (λ k m. below k m (same_pair k e.0) refl) s.1 h in
-      let here : g e.1 ≡ f e.0 = h e.0 e.1 (sym (at e.0 (ap (λ b. b || among e.0 (keys_of rest)) (pair_self e.0))) ∙ ap (λ b. cond b (Some e.1) (lookup (same_pair e.0) rest)) (pair_self e.0)) in
+      let here : g e.1 ≡ f e.0 =
+      h e.0 e.1
+      (sym (at e.0 (ap (λ b. b || among e.0 (keys_of rest)) (pair_self e.0)))
+      ∙ ap (λ b. cond b (Some e.1) (lookup (same_pair e.0) rest)) (pair_self e.0)) in
       omega arith
     where
-      below : (k : Pair) → among k (keys_of rest) ≡ true → (t : Bool) → same_pair k e.0 ≡ t → lookup (same_pair k) rest ≡ lookup (same_pair k) table
+      below : (k : Pair) → among k (keys_of rest) ≡ true → (t : Bool) → same_pair k e.0 ≡ t
+          → lookup (same_pair k) rest ≡ lookup (same_pair k) table
       below k m true q =
           let same : k ≡ e.0 = pair_is k e.0 q in
           let never : true ≡ false = sym m ∙ ap (λ x. among x (keys_of rest)) same ∙ s.0 in
           cc
-      below k m false q = sym (ap (λ b. cond b (Some e.1) (lookup (same_pair k) rest)) q) ∙ at k (ap (λ b. b || among k (keys_of rest)) q ∙ m)
+      below k m false q =
+          sym (ap (λ b. cond b (Some e.1) (lookup (same_pair k) rest)) q)
+          ∙ at k (ap (λ b. b || among k (keys_of rest)) q ∙ m)
 
 module _ {B Arc : Type 0} (kind : ArcKind Arc) (laws : IsKind kind) (tells : B → List Arc) where
   -- the bundles of a table make as many entries as the arcs that the table represents
-  pub table_entries : (table : List (Pair × B)) (arcs : List (Pair × Arc)) → Once (keys_of table) → TableTells kind tells table arcs → AreArcs kind arcs → sum_by (λ (e : Pair × B). kind.entries (tells e.1)) table ≡ graph_entries kind arcs
+  pub table_entries : (table : List (Pair × B)) (arcs : List (Pair × Arc)) → Once (keys_of table)
+      → TableTells kind tells table arcs → AreArcs kind arcs
+      → sum_by (λ (e : Pair × B). kind.entries (tells e.1)) table ≡ graph_entries kind arcs
   table_entries table arcs once t are =
       sum_at f (λ b. kind.entries (tells b)) table table (λ k m. refl) once at
-      ∙ same_sum f (keys_of table) (distinct same_pair (map (λ a. a.0) arcs)) once (once_distinct (map (λ a. a.0) arcs)) out back
+      ∙ same_sum f (keys_of table) (distinct same_pair (map (λ a. a.0) arcs)) once
+      (once_distinct (map (λ a. a.0) arcs)) out back
     where
       f : Pair → ℕ
       f p = kind.entries (bundle p arcs)
@@ -199,17 +232,23 @@ module _ {B Arc : Type 0} (kind : ArcKind Arc) (laws : IsKind kind) (tells : B �
       arcs_at : (p : Pair) → AllByRecursion kind.IsArc (bundle p arcs)
       arcs_at p = bundle_arcs kind.IsArc p arcs are
 
-      at : (k : Pair) (b : B) → lookup (same_pair k) table ≡ Some b → kind.entries (tells b) ≡ kind.entries (bundle k arcs)
+      at : (k : Pair) (b : B) → lookup (same_pair k) table ≡ Some b
+          → kind.entries (tells b) ≡ kind.entries (bundle k arcs)
       at k b e =
           let stands = t.stands k in
           ap (λ o. kind.entries (told_of tells o)) (sym e)
-          ∙ laws.same_entries (told_at tells table k) (bundle k arcs) (laws.canon_arcs One (told_at tells table k) stands.canonical) (arcs_at k) stands.same
+          ∙ laws.same_entries (told_at tells table k) (bundle k arcs)
+          (laws.canon_arcs One (told_at tells table k) stands.canonical) (arcs_at k) stands.same
 
-      out : (r : Pair) → among r (keys_of table) ≡ false → among r (distinct same_pair (map (λ a. a.0) arcs)) ≡ true → f r ≡ 0
-      out r e g = laws.same_entries (bundle r arcs) [] (arcs_at r) tt ((t.absent r).0 (no_entry r table e)) ∙ laws.none_entries
+      out : (r : Pair) → among r (keys_of table) ≡ false → among r (distinct same_pair (map (λ a. a.0) arcs)) ≡ true
+          → f r ≡ 0
+      out r e g =
+          laws.same_entries (bundle r arcs) [] (arcs_at r) tt ((t.absent r).0 (no_entry r table e)) ∙ laws.none_entries
 
-      back : (r : Pair) → among r (keys_of table) ≡ true → among r (distinct same_pair (map (λ a. a.0) arcs)) ≡ false → f r ≡ 0
-      back r e g = ap kind.entries (no_bundle r arcs (sym (among_distinct r (map (λ a. a.0) arcs)) ∙ g)) ∙ laws.none_entries
+      back : (r : Pair) → among r (keys_of table) ≡ true → among r (distinct same_pair (map (λ a. a.0) arcs)) ≡ false
+          → f r ≡ 0
+      back r e g =
+          ap kind.entries (no_bundle r arcs (sym (among_distinct r (map (λ a. a.0) arcs)) ∙ g)) ∙ laws.none_entries
 
 -- 1 if both are the same pair, and 0 otherwise
 abbrev one_if : Pair → Pair → ℕ
@@ -219,7 +258,8 @@ none_at : (q : Pair) (ps : List Pair) → among q ps ≡ false → sum_by (one_i
 none_at q [] e = refl
 none_at q (p ∷ ps) e = by_test (same_pair q p) refl e (none_at q ps)
   where
-    by_test : (t : Bool) → same_pair q p ≡ t → (t || among q ps) ≡ false → (among q ps ≡ false → sum_by (one_if q) ps ≡ 0) → sum_by (one_if q) (p ∷ ps) ≡ 0
+    by_test : (t : Bool) → same_pair q p ≡ t → (t || among q ps) ≡ false
+        → (among q ps ≡ false → sum_by (one_if q) ps ≡ 0) → sum_by (one_if q) (p ∷ ps) ≡ 0
     by_test true f g i = cc
     by_test false f g i =
         let whole = sum_by-cons (one_if q) p ps in
@@ -267,12 +307,15 @@ module _ {Arc : Type 0} where
       omega arith
 
   -- each arc is in at most one bundle
-  bundles_few : (arcs : List (Pair × Arc)) (ps : List Pair) → Once ps → sum_by (λ p. length (bundle p arcs)) ps ≤ length arcs
+  bundles_few : (arcs : List (Pair × Arc)) (ps : List Pair) → Once ps
+      → sum_by (λ p. length (bundle p arcs)) ps ≤ length arcs
   bundles_few [] ps o = let none = no_sum [] ps refl in omega arith
-  bundles_few (a ∷ rest) ps o = let split = split_sum a rest ps in let one = one_at a.0 ps o in let more = bundles_few rest ps o in omega arith
+  bundles_few (a ∷ rest) ps o = let split = split_sum a rest ps in let one = one_at a.0 ps o in
+      let more = bundles_few rest ps o in omega arith
 
   module _ (kind : ArcKind Arc) (bound : (xs : List Arc) → kind.entries xs ≤ 2 * length xs) where
-    each_few : (arcs : List (Pair × Arc)) (ps : List Pair) → sum_by (λ p. kind.entries (bundle p arcs)) ps ≤ 2 * sum_by (λ p. length (bundle p arcs)) ps
+    each_few : (arcs : List (Pair × Arc)) (ps : List Pair)
+        → sum_by (λ p. kind.entries (bundle p arcs)) ps ≤ 2 * sum_by (λ p. length (bundle p arcs)) ps
     each_few arcs [] = omega arith
     each_few arcs (p ∷ ps) =
         let one = sum_by-cons (λ x. kind.entries (bundle x arcs)) p ps in
@@ -305,7 +348,8 @@ distinct_few : (zs : List ℤ) → length (distinct int_eq zs) ≤ length zs
 distinct_few [] = omega arith
 distinct_few (z ∷ zs) = by_test (list_any (int_eq z) zs) (distinct_few zs)
   where
-    by_test : (t : Bool) → length (distinct int_eq zs) ≤ length zs → length (cond t (distinct int_eq zs) (z ∷ distinct int_eq zs)) ≤ suc (length zs)
+    by_test : (t : Bool) → length (distinct int_eq zs) ≤ length zs
+        → length (cond t (distinct int_eq zs) (z ∷ distinct int_eq zs)) ≤ suc (length zs)
     by_test true h = omega arith
     by_test false h = omega arith
 
@@ -313,7 +357,9 @@ roomy_few : (xs : List CostArc) → length (map (λ (a : CostArc). a.cost) (filt
 roomy_few [] = omega arith
 roomy_few (a ∷ rest) = by_test (has_room a) (roomy_few rest)
   where
-    by_test : (t : Bool) → length (map (λ (x : CostArc). x.cost) (filter has_room rest)) ≤ length rest → length (map (λ (x : CostArc). x.cost) (cond t (a ∷ filter has_room rest) (filter has_room rest))) ≤ suc (length rest)
+    by_test : (t : Bool) → length (map (λ (x : CostArc). x.cost) (filter has_room rest)) ≤ length rest
+        → length (map (λ (x : CostArc). x.cost) (cond t (a ∷ filter has_room rest) (filter has_room rest))) ≤ suc
+        (length rest)
     by_test true h = omega arith
     by_test false h = omega arith
 
@@ -323,7 +369,8 @@ costs_few (a ∷ rest) =
     let all = a ∷ rest in
     let one = distinct_few (map (λ (x : CostArc). x.cost) (filter has_room all)) in
     let two = roomy_few all in
-    at_most (list_any has_low all) _ (length (distinct int_eq (map (λ (x : CostArc). x.cost) (filter has_room all)))) one two
+    at_most (list_any has_low all) _
+    (length (distinct int_eq (map (λ (x : CostArc). x.cost) (filter has_room all)))) one two
   where
     at_most : (b : Bool) (m n : ℕ) → n ≤ m → m ≤ length (a ∷ rest) → cond b 1 0 + n ≤ 2 * length (a ∷ rest)
     at_most true m n h k = omega arith

@@ -25,7 +25,9 @@ module _ {X : Type 0} (t : ℤ × ℤ → Bool) (e : (ℤ × ℤ) × X) where
   push_found [] h is = ap (λ b. cond b (Some e.1) None) is
   push_found (x ∷ xs) h is = by_test (t x.0) h (push_found xs)
     where
-      by_test : (b : Bool) → cond b (Some x.1) (lookup t xs) ≡ None → (lookup t xs ≡ None → t e.0 ≡ true → lookup t (xs ++ e ∷ []) ≡ Some e.1) → cond b (Some x.1) (lookup t (xs ++ e ∷ [])) ≡ Some e.1
+      by_test : (b : Bool) → cond b (Some x.1) (lookup t xs) ≡ None
+          → (lookup t xs ≡ None → t e.0 ≡ true → lookup t (xs ++ e ∷ []) ≡ Some e.1)
+          → cond b (Some x.1) (lookup t (xs ++ e ∷ [])) ≡ Some e.1
       by_test true g i = cc
       by_test false g i = i g is
 
@@ -34,9 +36,12 @@ module _ {X : Type 0} (t : ℤ × ℤ → Bool) (e : (ℤ × ℤ) × X) where
   push_other (x ∷ xs) is = ap (cond (t x.0) (Some x.1)) (push_other xs is)
 
   -- changing the value of one entry does not change the look-up of others
-  pub set_other : (es : List ((ℤ × ℤ) × X)) (i : ℕ) (w : X) → i < length es → e ≡ get_or es i e → t e.0 ≡ false → lookup t (set es i (e.0, w)) ≡ lookup t es
+  pub set_other : (es : List ((ℤ × ℤ) × X)) (i : ℕ) (w : X) → i < length es → e ≡ get_or es i e → t e.0 ≡ false
+      → lookup t (set es i (e.0, w)) ≡ lookup t es
   set_other [] i w lt is no_test = refl
-  set_other (x ∷ xs) zero w lt is no_test = ap (λ b. cond b (Some w) (lookup t xs)) no_test ∙ sym (ap (λ b. cond b (Some x.1) (lookup t xs)) (ap (λ (y : (ℤ × ℤ) × X). t y.0) (sym is) ∙ no_test))
+  set_other (x ∷ xs) zero w lt is no_test =
+      ap (λ b. cond b (Some w) (lookup t xs)) no_test
+      ∙ sym (ap (λ b. cond b (Some x.1) (lookup t xs)) (ap (λ (y : (ℤ × ℤ) × X). t y.0) (sym is) ∙ no_test))
   set_other (x ∷ xs) (suc i) w lt is no_test = ap (cond (t x.0) (Some x.1)) (set_other xs i w (omega arith) is no_test)
 
 pub none_is : {X : Type 0} (o : Option X) → is_some o ≡ false → o ≡ None
@@ -50,7 +55,8 @@ module _ {X : Type 0} (p : ℤ × ℤ) (es : List ((ℤ × ℤ) × X)) where
   pub any_none : lookup (same_pair p) es ≡ None → list_any (same_pair p) (keys_of es) ≡ false
   any_none h = sym (is_some-lookup (same_pair p) es) ∙ ap is_some h
 
-  module _ (apart : IsDistinct same_pair (keys_of es)) (i : ℕ) (e : (ℤ × ℤ) × X) (lt : i < length (keys_of es)) (at : key_at (keys_of es) i ≡ p) (is : e ≡ get_or es i e) where
+  module _ (apart : IsDistinct same_pair (keys_of es)) (i : ℕ) (e : (ℤ × ℤ) × X) (lt : i < length (keys_of es))
+      (at : key_at (keys_of es) i ≡ p) (is : e ≡ get_or es i e) where
     inside : i < length es
     inside = subst (λ n. i < n) (length-keys_of es) lt
 
@@ -62,39 +68,52 @@ module _ {X : Type 0} (p : ℤ × ℤ) (es : List ((ℤ × ℤ) × X)) where
 
     -- the look-up of the entry at a position
     pub found_at : lookup (same_pair p) es ≡ Some e.1
-    found_at = subst (λ k. lookup (same_pair k) es ≡ Some e.1) key_here (lookup_from_place pair_equiv es i e.0 e.1 apart placed)
+    found_at =
+        subst (λ k. lookup (same_pair k) es ≡ Some e.1) key_here
+        (lookup_from_place pair_equiv es i e.0 e.1 apart placed)
 
     -- the look-up of an entry whose value has changed
     pub found_then : (w : X) → lookup (same_pair p) (set es i (e.0, w)) ≡ Some w
     found_then w =
         let here : slice_get (set es i (e.0, w)) i ≡ Some (e.0, w) = slice_get_set es i (e.0, w) inside in
         subst (λ k. lookup (same_pair k) (set es i (e.0, w)) ≡ Some w) key_here
-        (lookup_from_place pair_equiv (set es i (e.0, w)) i e.0 w (subst (IsDistinct same_pair) (sym (keys_kept es i e w lt is)) apart) here)
+        (lookup_from_place pair_equiv (set es i (e.0, w)) i e.0 w
+        (subst (IsDistinct same_pair) (sym (keys_kept es i e w lt is)) apart) here)
       where
-        slice_get_set : (xs : List ((ℤ × ℤ) × X)) (j : ℕ) (y : (ℤ × ℤ) × X) → j < length xs → slice_get (set xs j y) j ≡ Some y
+        slice_get_set : (xs : List ((ℤ × ℤ) × X)) (j : ℕ) (y : (ℤ × ℤ) × X) → j < length xs
+            → slice_get (set xs j y) j ≡ Some y
         slice_get_set [] j y l = absurd (omega arith)
         slice_get_set (x ∷ xs) zero y l = refl
         slice_get_set (x ∷ xs) (suc j) y l = slice_get_set xs j y (omega arith)
 
-    pub others_then : (w : X) (q : ℤ × ℤ) → same_pair p q ≡ false → lookup (same_pair q) (set es i (e.0, w)) ≡ lookup (same_pair q) es
-    others_then w q other = set_other (same_pair q) e es i w inside is (ap (same_pair q) key_here ∙ other_pair p q other)
+    pub others_then : (w : X) (q : ℤ × ℤ) → same_pair p q ≡ false
+        → lookup (same_pair q) (set es i (e.0, w)) ≡ lookup (same_pair q) es
+    others_then w q other =
+        set_other (same_pair q) e es i w inside is (ap (same_pair q) key_here ∙ other_pair p q other)
 
     -- setting the same value changes nothing
     pub same_then : (w : X) → w ≡ e.1 → set es i (e.0, w) ≡ es
     same_then w f = ap (λ v. set es i (e.0, v)) f ∙ ap (set es i) is ∙ set-get_or es i e
 
     -- if the bundle of a pair has taken an arc, the table has taken it
-    pub grows_here : {Arc : Type 0} (kind : ArcKind Arc) (tells : X → List Arc) (arc : Arc) (w : X) → kind.Same (tells w) (tells e.1 ++ arc ∷ []) → Grows kind tells es (set es i (e.0, w)) p arc
-    grows_here kind tells arc w same = grows_there kind tells es (set es i (e.0, w)) p arc e.1 w found_at (found_then w) (others_then w) same
+    pub grows_here : {Arc : Type 0} (kind : ArcKind Arc) (tells : X → List Arc) (arc : Arc) (w : X)
+        → kind.Same (tells w) (tells e.1 ++ arc ∷ []) → Grows kind tells es (set es i (e.0, w)) p arc
+    grows_here kind tells arc w same =
+        grows_there kind tells es (set es i (e.0, w)) p arc e.1 w found_at (found_then w) (others_then w) same
 
 -- tables with the same look-ups represent the same arcs
-pub tells_as : {B Arc : Type 0} (kind : ArcKind Arc) (tells : B → List Arc) (table other : List ((ℤ × ℤ) × B)) (arcs : List ((ℤ × ℤ) × Arc)) → ((p : ℤ × ℤ) → lookup (same_pair p) other ≡ lookup (same_pair p) table) → TableTells kind tells table arcs → TableTells kind tells other arcs
+pub tells_as : {B Arc : Type 0} (kind : ArcKind Arc) (tells : B → List Arc) (table other : List ((ℤ × ℤ) × B))
+    (arcs : List ((ℤ × ℤ) × Arc)) → ((p : ℤ × ℤ) → lookup (same_pair p) other ≡ lookup (same_pair p) table)
+    → TableTells kind tells table arcs → TableTells kind tells other arcs
 tells_as kind tells table other arcs same t = record {
   stands = λ p. subst (λ o. AreCanonArcsOf kind (told_of tells o) (bundle p arcs)) (sym (same p)) (t.stands p);
   absent = λ p. subst (λ o. (o ≡ None) ↔ kind.Same (bundle p arcs) []) (sym (same p)) (t.absent p);
 }
 
 -- a sorted table with the same look-ups represents the same arcs
-pub stands_as : {B Arc : Type 0} (kind : ArcKind Arc) (tells : B → List Arc) (table other : List ((ℤ × ℤ) × B)) (arcs : List ((ℤ × ℤ) × Arc)) → IsStrictlySortedBy pair_cmp (keys_of other) → ((p : ℤ × ℤ) → lookup (same_pair p) other ≡ lookup (same_pair p) table)
+pub stands_as : {B Arc : Type 0} (kind : ArcKind Arc) (tells : B → List Arc) (table other : List ((ℤ × ℤ) × B))
+    (arcs : List ((ℤ × ℤ) × Arc)) → IsStrictlySortedBy pair_cmp (keys_of other)
+    → ((p : ℤ × ℤ) → lookup (same_pair p) other ≡ lookup (same_pair p) table)
     → TableTells kind tells table arcs → TableStandsFor kind tells other arcs
-stands_as kind tells table other arcs rising same t = record { rising = rising; tells_them = tells_as kind tells table other arcs same t }
+stands_as kind tells table other arcs rising same t =
+    record { rising = rising; tells_them = tells_as kind tells table other arcs same t }

@@ -10,32 +10,50 @@ use Rattle.dn_arc.specs.Pairs.{same_pair}
 use Rattle.dn_arc.specs.State.Bundles.{told_of}
 use Rattle.dn_table.specs.State.Tables.{told_at, Grows}
 
-module _ {B Arc : Type 0} (kind : ArcKind Arc) (tells : B → List Arc) (m n : List ((ℤ × ℤ) × B)) (pair : ℤ × ℤ) (arc : Arc) where
+module _ {B Arc : Type 0} (kind : ArcKind Arc) (tells : B → List Arc) (m n : List ((ℤ × ℤ) × B)) (pair : ℤ × ℤ)
+    (arc : Arc) where
   -- the bundle of the pair has taken the arc
-  pub grows_there : (b w : B) → lookup (same_pair pair) m ≡ Some b → lookup (same_pair pair) n ≡ Some w → ((p : ℤ × ℤ) → same_pair pair p ≡ false → lookup (same_pair p) n ≡ lookup (same_pair p) m)
+  pub grows_there : (b w : B) → lookup (same_pair pair) m ≡ Some b → lookup (same_pair pair) n ≡ Some w
+      → ((p : ℤ × ℤ) → same_pair pair p ≡ false → lookup (same_pair p) n ≡ lookup (same_pair p) m)
       → kind.Same (tells w) (tells b ++ arc ∷ []) → Grows kind tells m n pair arc
   grows_there b w e f others same = record {
-    here = subst (λ o. kind.Same (told_of tells o) (told_at tells m pair ++ arc ∷ [])) (sym f) (subst (λ o. kind.Same (tells w) (told_of tells o ++ arc ∷ [])) (sym e) same);
+    here =
+        subst (λ o. kind.Same (told_of tells o) (told_at tells m pair ++ arc ∷ [])) (sym f)
+        (subst (λ o. kind.Same (tells w) (told_of tells o ++ arc ∷ [])) (sym e) same);
     kept = λ s. subst IsSome (sym f) refl;
     fresh = λ g. (let never : None ≡ Some b = sym g ∙ e in cc);
     others = others;
   }
 
   -- a pair without a bundle gets one if the arc means something
-  pub grows_fresh : (e w : B) → lookup (same_pair pair) m ≡ None → lookup (same_pair pair) n ≡ Some w → ((p : ℤ × ℤ) → same_pair pair p ≡ false → lookup (same_pair p) n ≡ lookup (same_pair p) m)
-      → tells e ≡ [] → kind.Same (tells w) (tells e ++ arc ∷ []) → (kind.Same (tells w) [] → ⊥) → Grows kind tells m n pair arc
+  pub grows_fresh : (e w : B) → lookup (same_pair pair) m ≡ None → lookup (same_pair pair) n ≡ Some w
+      → ((p : ℤ × ℤ) → same_pair pair p ≡ false → lookup (same_pair p) n ≡ lookup (same_pair p) m)
+      → tells e ≡ [] → kind.Same (tells w) (tells e ++ arc ∷ []) → (kind.Same (tells w) [] → ⊥)
+      → Grows kind tells m n pair arc
   grows_fresh e w h f others none same some = record {
-    here = subst (λ o. kind.Same (told_of tells o) (told_at tells m pair ++ arc ∷ [])) (sym f) (subst (λ o. kind.Same (tells w) (told_of tells o ++ arc ∷ [])) (sym h) (subst (λ l. kind.Same (tells w) (l ++ arc ∷ [])) none same));
+    here =
+        subst (λ o. kind.Same (told_of tells o) (told_at tells m pair ++ arc ∷ [])) (sym f)
+        (subst (λ o. kind.Same (tells w) (told_of tells o ++ arc ∷ [])) (sym h)
+        (subst (λ l. kind.Same (tells w) (l ++ arc ∷ [])) none same));
     kept = λ s. subst IsSome (sym f) refl;
-    fresh = λ g. (λ no. (let never : None ≡ Some w = sym no ∙ f in cc), λ s. absurd (some (subst (λ o. kind.Same (told_of tells o) []) f s)));
+    fresh =
+        λ g. (
+          λ no. (let never : None ≡ Some w = sym no ∙ f in cc),
+          λ s. absurd
+              (some (subst (λ o. kind.Same (told_of tells o) []) f s)),
+        );
     others = others;
   }
 
-module _ {B Arc : Type 0} (kind : ArcKind Arc) (tells : B → List Arc) (m : List ((ℤ × ℤ) × B)) (pair : ℤ × ℤ) (arc : Arc) (meaning : IsMeaning kind.Same) where
+module _ {B Arc : Type 0} (kind : ArcKind Arc) (tells : B → List Arc) (m : List ((ℤ × ℤ) × B)) (pair : ℤ × ℤ)
+    (arc : Arc) (meaning : IsMeaning kind.Same) where
   -- a pair without a bundle gets none if the arc means nothing
-  pub grows_none : (e w : B) → lookup (same_pair pair) m ≡ None → tells e ≡ [] → kind.Same (tells w) (tells e ++ arc ∷ []) → kind.Same (tells w) [] → Grows kind tells m m pair arc
+  pub grows_none : (e w : B) → lookup (same_pair pair) m ≡ None → tells e ≡ []
+      → kind.Same (tells w) (tells e ++ arc ∷ []) → kind.Same (tells w) [] → Grows kind tells m m pair arc
   grows_none e w h none same nothing =
-      let alone : kind.Same [] (arc ∷ []) = meaning.same_trans [] (tells w) (arc ∷ []) (meaning.same_sym (tells w) [] nothing) (subst (λ l. kind.Same (tells w) (l ++ arc ∷ [])) none same) in
+      let alone : kind.Same [] (arc ∷ []) =
+      meaning.same_trans [] (tells w) (arc ∷ []) (meaning.same_sym (tells w) [] nothing)
+      (subst (λ l. kind.Same (tells w) (l ++ arc ∷ [])) none same) in
       record {
         here = subst (λ o. kind.Same (told_of tells o) (told_of tells o ++ arc ∷ [])) (sym h) alone;
         kept = λ s. s;
@@ -44,11 +62,13 @@ module _ {B Arc : Type 0} (kind : ArcKind Arc) (tells : B → List Arc) (m : Lis
       }
 
 -- the arcs that a table lists for a pair with a bundle
-pub told_there : {B Arc : Type 0} (tells : B → List Arc) (m : List ((ℤ × ℤ) × B)) (pair : ℤ × ℤ) (b : B) → lookup (same_pair pair) m ≡ Some b → told_at tells m pair ≡ tells b
+pub told_there : {B Arc : Type 0} (tells : B → List Arc) (m : List ((ℤ × ℤ) × B)) (pair : ℤ × ℤ) (b : B)
+    → lookup (same_pair pair) m ≡ Some b → told_at tells m pair ≡ tells b
 told_there tells m pair b e = ap (told_of tells) e
 
 -- a table lists no arcs for a pair without a bundle
-pub told_none : {B Arc : Type 0} (tells : B → List Arc) (m : List ((ℤ × ℤ) × B)) (pair : ℤ × ℤ) → lookup (same_pair pair) m ≡ None → told_at tells m pair ≡ []
+pub told_none : {B Arc : Type 0} (tells : B → List Arc) (m : List ((ℤ × ℤ) × B)) (pair : ℤ × ℤ)
+    → lookup (same_pair pair) m ≡ None → told_at tells m pair ≡ []
 told_none tells m pair e = ap (told_of tells) e
 
 -- a bundle that has not changed is the one that was found
@@ -56,10 +76,13 @@ pub found_still : {B : Type 0} (o : Option B) (b w : B) → o ≡ Some b → w �
 found_still o b w e f = e ∙ ap (λ x. Some x) (sym f)
 
 -- the sum of a bundle is too large exactly if that of the table at its pair is
-pub sum_told : {B Arc F : Type 0} (kind : ArcKind Arc) (tells : B → List Arc) (arc : Arc) (most : ℤ) (m : List ((ℤ × ℤ) × B)) (now : List ((ℤ × ℤ) × B)) (pair : ℤ × ℤ) (told : List Arc)
-    → m ≡ now → told_at tells m pair ≡ told → F ↔ (most <ℤ kind.capacity (told ++ arc ∷ [])) → F ↔ (most <ℤ kind.capacity (told_at tells now pair ++ arc ∷ []))
+pub sum_told : {B Arc F : Type 0} (kind : ArcKind Arc) (tells : B → List Arc) (arc : Arc) (most : ℤ)
+    (m : List ((ℤ × ℤ) × B)) (now : List ((ℤ × ℤ) × B)) (pair : ℤ × ℤ) (told : List Arc)
+    → m ≡ now → told_at tells m pair ≡ told → F ↔ (most <ℤ kind.capacity (told ++ arc ∷ []))
+    → F ↔ (most <ℤ kind.capacity (told_at tells now pair ++ arc ∷ []))
 sum_told {B} {Arc} {F} kind tells arc most m now pair told e f h =
-    subst (λ x. F ↔ (most <ℤ kind.capacity (told_at tells x pair ++ arc ∷ []))) e (subst (λ l. F ↔ (most <ℤ kind.capacity (l ++ arc ∷ []))) (sym f) h)
+    subst (λ x. F ↔ (most <ℤ kind.capacity (told_at tells x pair ++ arc ∷ []))) e
+    (subst (λ l. F ↔ (most <ℤ kind.capacity (l ++ arc ∷ []))) (sym f) h)
 
 -- if neither of two faults can occur, a statement about one holds of the other
 pub neither : {F G X : Type 0} → (F → ⊥) → (G → ⊥) → F ↔ X → G ↔ X

@@ -19,9 +19,15 @@ module _ (keys : List (ℤ × ℤ)) (up : IsStrictlySortedBy pair_cmp keys) wher
   later_at at i inside past = by_place (cases_order at i)
     where
       by_place : (at ≡ i) ⊎ ((at < i) ⊎ (i < at)) → at < i
-      by_place (inl e) = (let no : Equal ≡ Less = sym (tied_itself pair_total (key_at keys i)) ∙ ap (λ j. pair_cmp (key_at keys j) (key_at keys i)) (sym e) ∙ past in absurd (cc))
+      by_place (inl e) =
+          (let no : Equal ≡ Less =
+          sym (tied_itself pair_total (key_at keys i)) ∙ ap (λ j. pair_cmp (key_at keys j) (key_at keys i)) (sym e)
+          ∙ past in absurd (cc))
       by_place (inr (inl l)) = l
-      by_place (inr (inr l)) = (let no : Greater ≡ Less = sym (ap ordering_reverse (up_at i at l inside)) ∙ sym (pair_total.antisymm (key_at keys at) (key_at keys i)) ∙ past in absurd (cc))
+      by_place (inr (inr l)) =
+          (let no : Greater ≡ Less =
+          sym (ap ordering_reverse (up_at i at l inside)) ∙ sym (pair_total.antisymm (key_at keys at) (key_at keys i))
+          ∙ past in absurd (cc))
 
   -- the first key is the least
   pub first_up : (i : ℕ) → i < length keys → (i ≡ 0) ⊎ (pair_cmp (key_at keys 0) (key_at keys i) ≡ Less)
@@ -33,10 +39,12 @@ module _ (keys : List (ℤ × ℤ)) (up : IsStrictlySortedBy pair_cmp keys) wher
       by_place (inr (inr l)) = absurd (omega arith)
 
   -- the key at the next position is the next greater key
-  pub next_up : (at i : ℕ) → at < length keys → i < length keys → pair_cmp (key_at keys at) (key_at keys i) ≡ Less → (i ≡ at + 1) ⊎ (pair_cmp (key_at keys (at + 1)) (key_at keys i) ≡ Less)
+  pub next_up : (at i : ℕ) → at < length keys → i < length keys → pair_cmp (key_at keys at) (key_at keys i) ≡ Less
+      → (i ≡ at + 1) ⊎ (pair_cmp (key_at keys (at + 1)) (key_at keys i) ≡ Less)
   next_up at i inside lt past = by_place (cases_order (at + 1) i) (later_at at i inside past)
     where
-      by_place : (at + 1 ≡ i) ⊎ ((at + 1 < i) ⊎ (i < at + 1)) → at < i → (i ≡ at + 1) ⊎ (pair_cmp (key_at keys (at + 1)) (key_at keys i) ≡ Less)
+      by_place : (at + 1 ≡ i) ⊎ ((at + 1 < i) ⊎ (i < at + 1)) → at < i
+          → (i ≡ at + 1) ⊎ (pair_cmp (key_at keys (at + 1)) (key_at keys i) ≡ Less)
       by_place (inl e) l = inl (sym e)
       by_place (inr (inl m)) l = inr (up_at (at + 1) i m lt)
       by_place (inr (inr m)) l = absurd (omega arith)

@@ -20,7 +20,8 @@ module _ {X : Type 0} (p q : X → Bool) (less : (x : X) → q x ≡ true → p 
   count_le : (xs : List X) → count_by q xs ≤ count_by p xs
   count_le xs = sum_by-le-sum_by (λ x. cond (q x) 1 0) (λ x. cond (p x) 1 0) xs (λ x. test_le (q x) (p x) (less x))
 
-  pub count_fewer : (xs : List X) (i : ℕ) (d : X) → i < length xs → p (get_or xs i d) ≡ true → q (get_or xs i d) ≡ false → count_by q xs < count_by p xs
+  pub count_fewer : (xs : List X) (i : ℕ) (d : X) → i < length xs → p (get_or xs i d) ≡ true → q (get_or xs i d) ≡ false
+      → count_by q xs < count_by p xs
   count_fewer [] i d lt passes fails = absurd (omega arith)
   count_fewer (x ∷ xs) zero d lt passes fails =
       let one = sum_by-cons (λ (y : X). cond (q y) 1 0) x xs in
@@ -51,47 +52,63 @@ lt_trans : (a b c : ℤ) → a <ℤ b → lt_z b c ≡ true → lt_z a c ≡ tru
 lt_trans a b c h k = grind (arith, ints)
 
 -- a link other than 0 leads to the position of a key with the pair's tail
-pub sought_inside : {keys : List (ℤ × ℤ)} (pair : ℤ × ℤ) (before link : ℕ) → (link ≡ 0 → ⊥) → Sought keys pair before link → (link - 1 < length keys) × ((key_at keys (link - 1)).0 ≡ pair.0)
+pub sought_inside : {keys : List (ℤ × ℤ)} (pair : ℤ × ℤ) (before link : ℕ) → (link ≡ 0 → ⊥)
+    → Sought keys pair before link → (link - 1 < length keys) × ((key_at keys (link - 1)).0 ≡ pair.0)
 sought_inside pair before link some (inl s) = s.on.there (link - 1) (omega (arith, some))
-sought_inside pair before link some (inr s) = (let at = s.on.there (link - 1) (omega (arith, some)) in (at.0, at.1.0 ∙ s.tail))
+sought_inside pair before link some (inr s) =
+    (let at = s.on.there (link - 1) (omega (arith, some)) in (at.0, at.1.0 ∙ s.tail))
 
 module _ (heads next : List ℕ) (keys : List (ℤ × ℤ)) (links : Links heads next keys) where
-  falls_at : (at then : ℕ) → at < length keys → then ≡ get_or next at 0 → (l : ℕ) → l ≡ then → left_of keys l < left_of keys (suc at)
+  falls_at : (at then : ℕ) → at < length keys → then ≡ get_or next at 0 → (l : ℕ) → l ≡ then
+      → left_of keys l < left_of keys (suc at)
   falls_at at then inside e zero f = omega arith
   falls_at at then inside e (suc j) f =
       let on = (links.at_next at inside).there j (sym (f ∙ e)) in
       let rises : (key_at keys at).1 <ℤ (key_at keys j).1 = on.1.1 in
-      let fewer : count_by (λ (k : ℤ × ℤ). lt_z (key_at keys j).1 k.1) keys < count_by (λ (k : ℤ × ℤ). lt_z (key_at keys at).1 k.1) keys =
-      count_fewer (λ (k : ℤ × ℤ). lt_z (key_at keys at).1 k.1) (λ (k : ℤ × ℤ). lt_z (key_at keys j).1 k.1) (λ k h. lt_trans (key_at keys at).1 (key_at keys j).1 k.1 rises h)
+      let fewer : count_by (λ (k : ℤ × ℤ). lt_z (key_at keys j).1 k.1) keys < count_by
+      (λ (k : ℤ × ℤ). lt_z (key_at keys at).1 k.1) keys =
+      count_fewer (λ (k : ℤ × ℤ). lt_z (key_at keys at).1 k.1) (λ (k : ℤ × ℤ). lt_z (key_at keys j).1 k.1)
+      (λ k h. lt_trans (key_at keys at).1 (key_at keys j).1 k.1 rises h)
       keys j (pos 0, pos 0) on.0 (lt_true (key_at keys at).1 (key_at keys j).1 rises) (lt_self (key_at keys j).1) in
       omega arith
 
   -- a step along a chain decreases the measure
-  pub falls : (link then : ℕ) → (link ≡ 0 → ⊥) → link - 1 < length keys → then ≡ get_or next (link - 1) 0 → left_of keys then < left_of keys link
+  pub falls : (link then : ℕ) → (link ≡ 0 → ⊥) → link - 1 < length keys → then ≡ get_or next (link - 1) 0
+      → left_of keys then < left_of keys link
   falls link then some inside e =
       subst (λ l. left_of keys then < left_of keys l) (let back : suc (link - 1) ≡ link = omega (arith, some) in back)
       (falls_at (link - 1) then inside e then refl)
 
   -- a tail beyond the chains has no position
-  pub none_there : (tail : ℕ) (pair : ℤ × ℤ) → pair.0 ≡ pos tail → length heads ≤ tail → LeadsTo keys (λ p. p.0 ≡ pair.0) 0
+  pub none_there : (tail : ℕ) (pair : ℤ × ℤ) → pair.0 ≡ pos tail → length heads ≤ tail
+      → LeadsTo keys (λ p. p.0 ≡ pair.0) 0
   none_there tail pair is past = record {
     there = λ i e. absurd (omega arith);
-    least = λ i inside e. (let t = links.tails i inside in let lt : t.0 < length heads = t.1 in let same : pos t.0 ≡ pos tail = sym t.2 ∙ e ∙ is in absurd (omega (arith, ints, same)));
+    least =
+        λ i inside e.
+        (let t = links.tails i inside in let lt : t.0 < length heads = t.1 in
+        let same : pos t.0 ≡ pos tail = sym t.2 ∙ e ∙ is in absurd (omega (arith, ints, same)));
   }
 
   -- a tail below 0 has no position
   pub none_below : (pair : ℤ × ℤ) → pair.0 <ℤ pos 0 → LeadsTo keys (λ p. p.0 ≡ pair.0) 0
   none_below pair below = record {
     there = λ i e. absurd (omega arith);
-    least = λ i inside e. (let t = links.tails i inside in let same : pos t.0 ≡ pair.0 = sym t.2 ∙ e in absurd (omega (arith, ints, same, below)));
+    least =
+        λ i inside e.
+        (let t = links.tails i inside in let same : pos t.0 ≡ pair.0 = sym t.2 ∙ e in
+        absurd (omega (arith, ints, same, below)));
   }
 
-  pub first_there : (tail : ℕ) (pair : ℤ × ℤ) (link : ℕ) → pair.0 ≡ pos tail → tail < length heads → link ≡ get_or heads tail 0 → LeadsTo keys (λ p. p.0 ≡ pair.0) link
+  pub first_there : (tail : ℕ) (pair : ℤ × ℤ) (link : ℕ) → pair.0 ≡ pos tail → tail < length heads
+      → link ≡ get_or heads tail 0 → LeadsTo keys (λ p. p.0 ≡ pair.0) link
   first_there tail pair link is inside e =
-      subst (LeadsTo keys (λ p. p.0 ≡ pair.0)) (sym e) (subst (λ z. LeadsTo keys (λ p. p.0 ≡ z) (get_or heads tail 0)) (sym is) (links.at_head tail inside))
+      subst (LeadsTo keys (λ p. p.0 ≡ pair.0)) (sym e)
+      (subst (λ z. LeadsTo keys (λ p. p.0 ≡ z) (get_or heads tail 0)) (sym is) (links.at_head tail inside))
 
   -- after a lesser head, the search for a pair continues at the next link
-  pub sought_on : (pair : ℤ × ℤ) (before link then : ℕ) → (link ≡ 0 → ⊥) → Sought keys pair before link → (key_at keys (link - 1)).1 <ℤ pair.1 → then ≡ get_or next (link - 1) 0 → Sought keys pair link then
+  pub sought_on : (pair : ℤ × ℤ) (before link then : ℕ) → (link ≡ 0 → ⊥) → Sought keys pair before link
+      → (key_at keys (link - 1)).1 <ℤ pair.1 → then ≡ get_or next (link - 1) 0 → Sought keys pair link then
   sought_on pair before link then some sought less e =
       let at = sought_inside pair before link some sought in
       inr (record {
@@ -108,14 +125,18 @@ pub pair_from : (p q : ℤ × ℤ) → p.0 ≡ q.0 → p.1 ≡ q.1 → p ≡ q
 pair_from p q e f = ap (λ (a : ℤ). (a, p.1)) e ∙ ap (λ (b : ℤ). (q.0, b)) f
 
 -- what a spot shows
-module _ (keys : List (ℤ × ℤ)) (pair : ℤ × ℤ) (before after : ℕ) (stops : (i : ℕ) → after ≡ suc i → pair.1 ≤ℤ (key_at keys i).1) where
+module _ (keys : List (ℤ × ℤ)) (pair : ℤ × ℤ) (before after : ℕ)
+    (stops : (i : ℕ) → after ≡ suc i → pair.1 ≤ℤ (key_at keys i).1) where
   -- `after` leads to the least head that is not below the pair's
-  pub least_from : Sought keys pair before after → (i : ℕ) → i < length keys → (key_at keys i).0 ≡ pair.0 → pair.1 ≤ℤ (key_at keys i).1 → (j : ℕ) × (after ≡ suc j) × ((key_at keys j).1 ≤ℤ (key_at keys i).1)
+  pub least_from : Sought keys pair before after → (i : ℕ) → i < length keys → (key_at keys i).0 ≡ pair.0
+      → pair.1 ≤ℤ (key_at keys i).1 → (j : ℕ) × (after ≡ suc j) × ((key_at keys j).1 ≤ℤ (key_at keys i).1)
   least_from (inl s) i inside tail up = s.on.least i inside tail
-  least_from (inr s) i inside tail up = s.on.least i inside (tail ∙ sym s.tail, (let below = s.below in omega (arith, ints, below, up)))
+  least_from (inr s) i inside tail up =
+      s.on.least i inside (tail ∙ sym s.tail, (let below = s.below in omega (arith, ints, below, up)))
 
   -- if the pair is among the keys, `after` leads to its head
-  pub found : (i : ℕ) → Sought keys pair before after → i < length keys → key_at keys i ≡ pair → (j : ℕ) × (after ≡ suc j) × ((key_at keys j).1 ≡ pair.1)
+  pub found : (i : ℕ) → Sought keys pair before after → i < length keys → key_at keys i ≡ pair → (j : ℕ)
+      × (after ≡ suc j) × ((key_at keys j).1 ≡ pair.1)
   found i sought inside e =
       let head : (key_at keys i).1 ≡ pair.1 = ap (λ (p : ℤ × ℤ). p.1) e in
       let l = least_from sought i inside (ap (λ (p : ℤ × ℤ). p.0) e) (omega (arith, ints, head)) in
@@ -124,7 +145,9 @@ module _ (keys : List (ℤ × ℤ)) (pair : ℤ × ℤ) (before after : ℕ) (st
       (l.0, l.1, omega (arith, ints, up, down, head))
 
   -- `before` leads to the greatest head below the pair's
-  pub greatest_before : Sought keys pair before after → (i : ℕ) → i < length keys → (key_at keys i).0 ≡ pair.0 → (key_at keys i).1 <ℤ pair.1 → (b : ℕ) × (before ≡ suc b) × (b < length keys) × ((key_at keys b).0 ≡ pair.0) × ((key_at keys b).1 <ℤ pair.1) × ((key_at keys i).1 ≤ℤ (key_at keys b).1)
+  pub greatest_before : Sought keys pair before after → (i : ℕ) → i < length keys → (key_at keys i).0 ≡ pair.0
+      → (key_at keys i).1 <ℤ pair.1 → (b : ℕ) × (before ≡ suc b) × (b < length keys) × ((key_at keys b).0 ≡ pair.0)
+      × ((key_at keys b).1 <ℤ pair.1) × ((key_at keys i).1 ≤ℤ (key_at keys b).1)
   greatest_before (inl s) i inside tail low =
       let l = s.on.least i inside tail in
       let up = stops l.0 l.1 in
@@ -140,18 +163,24 @@ module _ (keys : List (ℤ × ℤ)) (pair : ℤ × ℤ) (before after : ℕ) (st
 
   -- if `after` is 0, the pair is not among the keys
   pub nowhere_past : Sought keys pair before after → after ≡ 0 → list_any (same_pair pair) keys ≡ false
-  nowhere_past sought e = none_from_places pair keys (λ i lt is. (let at = found i sought lt is in let one : after ≡ suc at.0 = at.1 in omega (arith, one)))
+  nowhere_past sought e =
+      none_from_places pair keys
+      (λ i lt is. (let at = found i sought lt is in let one : after ≡ suc at.0 = at.1 in omega (arith, one)))
 
   -- if another pair is at `after`, the pair is not among the keys
-  pub nowhere_else : Sought keys pair before after → (after ≡ 0 → ⊥) → (key_at keys (after - 1) ≡ pair → ⊥) → list_any (same_pair pair) keys ≡ false
+  pub nowhere_else : Sought keys pair before after → (after ≡ 0 → ⊥) → (key_at keys (after - 1) ≡ pair → ⊥)
+      → list_any (same_pair pair) keys ≡ false
   nowhere_else sought some other = none_from_places pair keys (λ i lt is.
       (let at = found i sought lt is in
       let one : after ≡ suc at.0 = at.1 in
       let back : after - 1 ≡ at.0 = omega (arith, one) in
-      other (pair_from (key_at keys (after - 1)) pair (sought_inside pair before after some sought).1 (ap (λ j. (key_at keys j).1) back ∙ at.2))))
+      other
+      (pair_from (key_at keys (after - 1)) pair (sought_inside pair before after some sought).1
+      (ap (λ j. (key_at keys j).1) back ∙ at.2))))
 
 -- each position of a key has a link
-pub has_next : {heads next : List ℕ} {keys : List (ℤ × ℤ)} {i : ℕ} → Links heads next keys → i < length keys → i < length next
+pub has_next : {heads next : List ℕ} {keys : List (ℤ × ℤ)} {i : ℕ} → Links heads next keys → i < length keys
+    → i < length next
 has_next {i = i} links inside = subst (λ n. i < n) (sym links.same) inside
 
 -- a number that is not at most another is above it
@@ -159,18 +188,29 @@ pub past_head : (a b : ℤ) → (a ≤ℤ b → ⊥) → b <ℤ a
 past_head a b h = by_lt_z b a (λ l. l) (λ l. absurd (h l))
 
 -- the links remain right with more tails that have no positions
-pub links_wider : (heads next : List ℕ) (keys : List (ℤ × ℤ)) (m : ℕ) → Links heads next keys → Links (heads ++ replicate m 0) next keys
+pub links_wider : (heads next : List ℕ) (keys : List (ℤ × ℤ)) (m : ℕ) → Links heads next keys
+    → Links (heads ++ replicate m 0) next keys
 links_wider heads next keys m links = record {
   same = links.same;
   apart = links.apart;
-  tails = λ i lt. (let t = links.tails i lt in let inside : t.0 < length heads = t.1 in (t.0, omega (arith, length-append heads (replicate m 0)), t.2));
+  tails =
+      λ i lt.
+      (let t = links.tails i lt in
+      let inside : t.0 < length heads = t.1 in (t.0, omega (arith, length-append heads (replicate m 0)), t.2));
   at_head = λ t lt. by_place t lt (cases_lt t (length heads));
   at_next = links.at_next;
 }
   where
-    by_place : (t : ℕ) → t < length (heads ++ replicate m 0) → (t < length heads) ⊎ (length heads ≤ t) → LeadsTo keys (λ p. p.0 ≡ pos t) (get_or (heads ++ replicate m 0) t 0)
-    by_place t lt (inl l) = subst (LeadsTo keys (λ p. p.0 ≡ pos t)) (sym (get_or_append_left heads (replicate m 0) 0 t l)) (links.at_head t l)
+    by_place : (t : ℕ) → t < length (heads ++ replicate m 0) → (t < length heads) ⊎ (length heads ≤ t)
+        → LeadsTo keys (λ p. p.0 ≡ pos t) (get_or (heads ++ replicate m 0) t 0)
+    by_place t lt (inl l) =
+        subst (LeadsTo keys (λ p. p.0 ≡ pos t)) (sym (get_or_append_left heads (replicate m 0) 0 t l))
+        (links.at_head t l)
     by_place t lt (inr l) =
-        let past : t < length heads + m = subst (λ n. t < n) (length-append heads (replicate m 0) ∙ ap (λ n. length heads + n) (length-replicate m 0)) lt in
-        let value : get_or (heads ++ replicate m 0) t 0 ≡ 0 = get_or-append_right heads (replicate m 0) (length heads) t 0 refl l ∙ get_or-replicate m (t - length heads) 0 0 (omega arith) in
+        let past : t < length heads + m =
+        subst (λ n. t < n)
+        (length-append heads (replicate m 0) ∙ ap (λ n. length heads + n) (length-replicate m 0)) lt in
+        let value : get_or (heads ++ replicate m 0) t 0 ≡ 0 =
+        get_or-append_right heads (replicate m 0) (length heads) t 0 refl l
+        ∙ get_or-replicate m (t - length heads) 0 0 (omega arith) in
         subst (LeadsTo keys (λ p. p.0 ≡ pos t)) (sym value) (none_there heads next keys links t (pos t, pos 0) refl l)

@@ -42,13 +42,20 @@ later p q h = by_tails (int_cmp p.0 q.0) refl
 
     by_tails : (o : Ordering) → o ≡ int_cmp p.0 q.0 → (p.0 <ℤ q.0) ⊎ IsAfter p q
     by_tails Less e = inl (int_ranked p.0 q.0 Less e)
-    by_tails Equal e = inr (sym (int_ranked p.0 q.0 Equal e), by_heads (int_cmp p.1 q.1) refl (ap (λ o. ordering_then o (int_cmp p.1 q.1)) e ∙ h))
+    by_tails Equal e =
+        inr (
+          sym (int_ranked p.0 q.0 Equal e),
+          by_heads (int_cmp p.1 q.1) refl
+              (ap (λ o. ordering_then o (int_cmp p.1 q.1)) e ∙ h),
+        )
     by_tails Greater e = (let no : Greater ≡ Less = ap (λ o. ordering_then o (int_cmp p.1 q.1)) e ∙ h in cc)
 
 module _ (heads next : List ℕ) (keys : List (ℤ × ℤ)) (links : Links heads next keys) where
   -- a tail whose first link is 0 has no position
   bare_none : (u i : ℕ) → get_or heads u 0 ≡ 0 → u < length heads → i < length keys → (key_at keys i).0 ≡ pos u → ⊥
-  bare_none u i bare inside lt is = (let at = (links.at_head u inside).least i lt is in let one : get_or heads u 0 ≡ suc at.0 = at.1 in omega (arith, bare, one))
+  bare_none u i bare inside lt is =
+      (let at = (links.at_head u inside).least i lt is in let one : get_or heads u 0 ≡ suc at.0 = at.1 in
+      omega (arith, bare, one))
 
   -- if no tail from `low` on has a position, no key has such a tail
   pub none_from : (low i : ℕ) → IsBare heads low (length heads) → i < length keys → pos low ≤ℤ (key_at keys i).0 → ⊥
@@ -65,7 +72,8 @@ module _ (heads next : List ℕ) (keys : List (ℤ × ℤ)) (links : Links heads
       let from : low ≤ f.tail = f.from in
       (there.0, omega (arith, ints, from, is))
 
-  pub first_least : (low at i : ℕ) → IsFirstFrom heads low at → i < length keys → pos low ≤ℤ (key_at keys i).0 → (i ≡ at) ⊎ (pair_cmp (key_at keys at) (key_at keys i) ≡ Less)
+  pub first_least : (low at i : ℕ) → IsFirstFrom heads low at → i < length keys → pos low ≤ℤ (key_at keys i).0
+      → (i ≡ at) ⊎ (pair_cmp (key_at keys at) (key_at keys i) ≡ Less)
   first_least low at i f lt from = by_tail (cases_lt t.0 f.tail) (cases_eq t.0 f.tail)
     where
       t : (u : ℕ) × (u < length heads) × ((key_at keys i).0 ≡ pos u)
@@ -74,16 +82,23 @@ module _ (heads next : List ℕ) (keys : List (ℤ × ℤ)) (links : Links heads
       there : (at < length keys) × ((key_at keys at).0 ≡ pos f.tail)
       there = (links.at_head f.tail f.inside).there at f.is
 
-      by_tail : (t.0 < f.tail) ⊎ (f.tail ≤ t.0) → (t.0 ≡ f.tail) ⊎ (t.0 ≡ f.tail → ⊥) → (i ≡ at) ⊎ (pair_cmp (key_at keys at) (key_at keys i) ≡ Less)
-      by_tail (inl l) other = (let is = t.2 in absurd (bare_none t.0 i (f.bare t.0 (omega (arith, ints, from, is)) l) t.1 lt t.2))
+      by_tail : (t.0 < f.tail) ⊎ (f.tail ≤ t.0) → (t.0 ≡ f.tail) ⊎ (t.0 ≡ f.tail → ⊥)
+          → (i ≡ at) ⊎ (pair_cmp (key_at keys at) (key_at keys i) ≡ Less)
+      by_tail (inl l) other =
+          (let is = t.2 in absurd (bare_none t.0 i (f.bare t.0 (omega (arith, ints, from, is)) l) t.1 lt t.2))
       by_tail (inr l) (inl e) =
           let here : (key_at keys i).0 ≡ pos f.tail = t.2 ∙ ap (λ n. pos n) e in
           let least = (links.at_head f.tail f.inside).least i lt here in
-          let same : at ≡ least.0 = (let one : get_or heads f.tail 0 ≡ suc least.0 = least.1 in let two : get_or heads f.tail 0 ≡ suc at = f.is in omega (arith, one, two)) in
-          let upto : (key_at keys at).1 ≤ℤ (key_at keys i).1 = subst (λ m. (key_at keys m).1 ≤ℤ (key_at keys i).1) (sym same) least.2 in
+          let same : at ≡ least.0 =
+          (let one : get_or heads f.tail 0 ≡ suc least.0 = least.1 in
+          let two : get_or heads f.tail 0 ≡ suc at = f.is in omega (arith, one, two)) in
+          let upto : (key_at keys at).1 ≤ℤ (key_at keys i).1 =
+          subst (λ m. (key_at keys m).1 ≤ℤ (key_at keys i).1) (sym same) least.2 in
           by_lt_z (key_at keys at).1 (key_at keys i).1
           (λ less. inr (less_by_head (key_at keys at) (key_at keys i) (here ∙ sym there.1, less)))
-          (λ back. inl (links.apart i at lt there.0 (pair_from (key_at keys i) (key_at keys at) (here ∙ sym there.1) (omega (arith, ints, upto, back)))))
+          (λ back. inl
+          (links.apart i at lt there.0
+          (pair_from (key_at keys i) (key_at keys at) (here ∙ sym there.1) (omega (arith, ints, upto, back)))))
       by_tail (inr l) (inr apart) =
           let one = t.2 in
           let two = there.1 in
@@ -91,31 +106,42 @@ module _ (heads next : List ℕ) (keys : List (ℤ × ℤ)) (links : Links heads
           inr (less_by_tail (key_at keys at) (key_at keys i) (omega (arith, ints, one, two, past)))
 
   -- the link of a position leads to the next greater key
-  pub chain_next : (at j i : ℕ) → at < length keys → get_or next at 0 ≡ suc j → i < length keys → pair_cmp (key_at keys at) (key_at keys i) ≡ Less → (i ≡ j) ⊎ (pair_cmp (key_at keys j) (key_at keys i) ≡ Less)
+  pub chain_next : (at j i : ℕ) → at < length keys → get_or next at 0 ≡ suc j → i < length keys
+      → pair_cmp (key_at keys at) (key_at keys i) ≡ Less → (i ≡ j) ⊎ (pair_cmp (key_at keys j) (key_at keys i) ≡ Less)
   chain_next at j i inside is lt past = by_later (later (key_at keys at) (key_at keys i) past)
     where
       there : (j < length keys) × IsAfter (key_at keys at) (key_at keys j)
       there = (links.at_next at inside).there j is
 
-      by_later : ((key_at keys at).0 <ℤ (key_at keys i).0) ⊎ IsAfter (key_at keys at) (key_at keys i) → (i ≡ j) ⊎ (pair_cmp (key_at keys j) (key_at keys i) ≡ Less)
-      by_later (inl up) = inr (less_by_tail (key_at keys j) (key_at keys i) (subst (λ z. z <ℤ (key_at keys i).0) (sym there.1.0) up))
+      by_later : ((key_at keys at).0 <ℤ (key_at keys i).0) ⊎ IsAfter (key_at keys at) (key_at keys i)
+          → (i ≡ j) ⊎ (pair_cmp (key_at keys j) (key_at keys i) ≡ Less)
+      by_later (inl up) =
+          inr (less_by_tail (key_at keys j) (key_at keys i) (subst (λ z. z <ℤ (key_at keys i).0) (sym there.1.0) up))
       by_later (inr after) =
           let least = (links.at_next at inside).least i lt after in
           let same : j ≡ least.0 = (let one : get_or next at 0 ≡ suc least.0 = least.1 in omega (arith, one, is)) in
-          let upto : (key_at keys j).1 ≤ℤ (key_at keys i).1 = subst (λ m. (key_at keys m).1 ≤ℤ (key_at keys i).1) (sym same) least.2 in
+          let upto : (key_at keys j).1 ≤ℤ (key_at keys i).1 =
+          subst (λ m. (key_at keys m).1 ≤ℤ (key_at keys i).1) (sym same) least.2 in
           let tails : (key_at keys i).0 ≡ (key_at keys j).0 = after.0 ∙ sym there.1.0 in
           by_lt_z (key_at keys j).1 (key_at keys i).1
           (λ less. inr (less_by_head (key_at keys j) (key_at keys i) (tails, less)))
-          (λ back. inl (links.apart i j lt there.0 (pair_from (key_at keys i) (key_at keys j) tails (omega (arith, ints, upto, back)))))
+          (λ back. inl
+          (links.apart i j lt there.0
+          (pair_from (key_at keys i) (key_at keys j) tails (omega (arith, ints, upto, back)))))
 
-  pub chain_inside : (at j : ℕ) → at < length keys → get_or next at 0 ≡ suc j → (j < length keys) × (pair_cmp (key_at keys at) (key_at keys j) ≡ Less)
-  chain_inside at j inside is = (let there = (links.at_next at inside).there j is in (there.0, less_by_head (key_at keys at) (key_at keys j) there.1))
+  pub chain_inside : (at j : ℕ) → at < length keys → get_or next at 0 ≡ suc j → (j < length keys)
+      × (pair_cmp (key_at keys at) (key_at keys j) ≡ Less)
+  chain_inside at j inside is =
+      (let there = (links.at_next at inside).there j is in
+      (there.0, less_by_head (key_at keys at) (key_at keys j) there.1))
 
   -- at the end of a chain, greater keys have greater tails
-  pub chain_end : (at tail i : ℕ) → at < length keys → get_or next at 0 ≡ 0 → (key_at keys at).0 ≡ pos tail → i < length keys → pair_cmp (key_at keys at) (key_at keys i) ≡ Less → pos (tail + 1) ≤ℤ (key_at keys i).0
+  pub chain_end : (at tail i : ℕ) → at < length keys → get_or next at 0 ≡ 0 → (key_at keys at).0 ≡ pos tail
+      → i < length keys → pair_cmp (key_at keys at) (key_at keys i) ≡ Less → pos (tail + 1) ≤ℤ (key_at keys i).0
   chain_end at tail i inside none is lt past = by_later (later (key_at keys at) (key_at keys i) past)
     where
-      by_later : ((key_at keys at).0 <ℤ (key_at keys i).0) ⊎ IsAfter (key_at keys at) (key_at keys i) → pos (tail + 1) ≤ℤ (key_at keys i).0
+      by_later : ((key_at keys at).0 <ℤ (key_at keys i).0) ⊎ IsAfter (key_at keys at) (key_at keys i)
+          → pos (tail + 1) ≤ℤ (key_at keys i).0
       by_later (inl up) = omega (arith, ints, up, is)
       by_later (inr after) =
           let least = (links.at_next at inside).least i lt after in
@@ -123,12 +149,15 @@ module _ (heads next : List ℕ) (keys : List (ℤ × ℤ)) (links : Links heads
           absurd (omega (arith, one, none))
 
   -- a key with a greater tail is greater
-  pub past_tail : (at tail i : ℕ) → (key_at keys at).0 ≡ pos tail → pos (tail + 1) ≤ℤ (key_at keys i).0 → pair_cmp (key_at keys at) (key_at keys i) ≡ Less
+  pub past_tail : (at tail i : ℕ) → (key_at keys at).0 ≡ pos tail → pos (tail + 1) ≤ℤ (key_at keys i).0
+      → pair_cmp (key_at keys at) (key_at keys i) ≡ Less
   past_tail at tail i is from = less_by_tail (key_at keys at) (key_at keys i) (omega (arith, ints, is, from))
 
   -- the first position of the tails from `low` on is that of the least key, if these tails are those of the keys that
   -- satisfy `Asked`
-  pub least_from_tail : (low : ℕ) (Asked : ℤ × ℤ → Type 0) (place : Option ℕ) → ((i : ℕ) → i < length keys → Asked (key_at keys i) → pos low ≤ℤ (key_at keys i).0) → ((i : ℕ) → i < length keys → pos low ≤ℤ (key_at keys i).0 → Asked (key_at keys i))
+  pub least_from_tail : (low : ℕ) (Asked : ℤ × ℤ → Type 0) (place : Option ℕ)
+      → ((i : ℕ) → i < length keys → Asked (key_at keys i) → pos low ≤ℤ (key_at keys i).0)
+      → ((i : ℕ) → i < length keys → pos low ≤ℤ (key_at keys i).0 → Asked (key_at keys i))
       → MatchOption place (IsBare heads low (length heads)) (λ at. IsFirstFrom heads low at) → IsLeast keys Asked place
   least_from_tail low Asked None to back bare = λ i lt asked. none_from low i bare lt (to i lt asked)
   least_from_tail low Asked (Some at) to back f =
@@ -141,4 +170,6 @@ module _ (heads next : List ℕ) (keys : List (ℤ × ℤ)) (links : Links heads
 
   -- a tail that has a position has a chain
   pub tail_known : (tail i : ℕ) → i < length keys → (key_at keys i).0 ≡ pos tail → tail < length heads
-  tail_known tail i lt is = (let t = links.tails i lt in let two = t.2 in let inside : t.0 < length heads = t.1 in let same : pos t.0 ≡ pos tail = sym two ∙ is in omega (arith, ints, same))
+  tail_known tail i lt is =
+      (let t = links.tails i lt in let two = t.2 in let inside : t.0 < length heads = t.1 in
+      let same : pos t.0 ≡ pos tail = sym two ∙ is in omega (arith, ints, same))

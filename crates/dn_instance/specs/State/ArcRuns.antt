@@ -1,4 +1,4 @@
--- Arcs that are taken one after the other.
+-- Arcs that are added one after the other.
 use Rattle.std.specs.Prelude.{◌≡◌, List, [], ◌∷◌, ◌++◌, map, None, Some}
 use Rattle.dn_line.specs.State.ArcLines.{arc_of}
 use Rattle.dn_line.specs.Faults.{first_fault}
@@ -18,12 +18,12 @@ AreFaultless before [] = Unit {0}
 AreFaultless before (i ∷ items) =
     (first_fault (item_tests before (Some i)) ≡ None) × AreFaultless (before ++ i ∷ []) items
 
--- each of these items comes while fewer are read than declared, where it is counted
+-- each counted item comes while fewer lines are read than declared
 abbrev pub AreInTime : List Line → List Line → Type 0
 AreInTime before [] = Unit {0}
 AreInTime before (i ∷ items) = HasRoom before i × AreInTime (before ++ i ∷ []) items
 
--- these items have no fault after those before them, and what is held is what they make together
+-- none of these items has a fault after those before it, and `held` represents all items together
 pub record Joins {H : Type 0} (Holds : H → List Line → Type 0) (before : List Line) (held : H) (items : List Line)
     : Type 0 where
   pub faultless : AreFaultless before items

@@ -12,7 +12,7 @@ abbrev pub is_graph : Contents → Bool
 is_graph (OfSp table) = true
 is_graph _ = false
 
--- the nodes that a companion names: in file order, points by rising ID; other texts are no companions
+-- the nodes that a companion names, in file order, and points by ascending ID; other texts are no companions
 abbrev pub named_nodes : Contents → Option (List ℤ)
 named_nodes (OfSs ids) = Some ids
 named_nodes (OfP2p pairs) = Some (flat_map both_nodes pairs)
@@ -23,6 +23,6 @@ abbrev pub judged_by : Bool → ℤ → Option (List ℤ) → Result (Unit {0}) 
 judged_by true nodes (Some ids) = within nodes ids
 judged_by _ nodes _ = Err NotKinds
 
--- whether a companion fits a graph
+-- the result of checking a companion against a graph
 abbrev pub judged : Holding → Holding → Result (Unit {0}) CompanionFault
 judged graph companion = judged_by (is_graph graph.contents) graph.nodes (named_nodes companion.contents)

@@ -1,4 +1,4 @@
--- What an instance in the making has made of the items so far.
+-- What the items so far make of an instance.
 use Rattle.std.specs.Prelude.{◌≡◌, ℤ, pos, ◌≤ℤ◌, ◌||◌, List, [], Bool, true, false, not, Option, Some, None, is_some, filter_map}
 use Rattle.std.specs.BTreeMap as Map
 use Rattle.std.specs.BTreeSet as Set
@@ -19,7 +19,7 @@ use Rattle.dn_table.specs.State.Tables.{TableTells, AreArcs}
 use Rattle.dn_instance.specs.declared.draft.Draft.{Draft}
 use Rattle.dn_instance.specs.declared.draft.Draft.TheVariants as Drafts
 
--- the kind that the problem line names; none before it
+-- the kind that the problem line names, or none before it
 abbrev pub draft_kind : Draft → Option Kind
 draft_kind Drafts.Empty = None
 draft_kind (Drafts.Min supplies idle table) = Some Kinds.Min
@@ -34,7 +34,7 @@ abbrev pub is_graph : Option Kind → Bool
 is_graph None = false
 is_graph (Some kind) = not (is_companion kind)
 
--- the numbers of an item that may not be below 0 are not
+-- the numbers of an item that may not be negative are at least 0
 abbrev pub HasSigns : Line → Type 0
 HasSigns (Item.MinArc src dst low cap cost) = (pos 0 ≤ℤ low) × (pos 0 ≤ℤ cap)
 HasSigns (Item.MaxArc src dst cap) = pos 0 ≤ℤ cap
@@ -44,7 +44,7 @@ HasSigns _ = Unit {0}
 abbrev pub HasRoom : List Line → Line → Type 0
 HasRoom items i = is_counted i ≡ true → is_full (problem_of items) (counted items) ≡ false
 
--- the table tells what the arcs among the items mean
+-- the table represents the meaning of the arcs among the items
 pub record TableHolds {B Arc : Type 0} (kind : ArcKind Arc) (arc_in : Line → Option ((ℤ × ℤ) × Arc))
     (tells : B → List Arc) (table : List ((ℤ × ℤ) × B)) (items : List Line) : Type 0 where
   pub tells_them : TableTells kind tells table (arcs_of arc_in items)

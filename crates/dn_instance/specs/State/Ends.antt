@@ -11,7 +11,7 @@ use Rattle.dn_instance.specs.State.Helds.{Shows, contents_of, holding}
 use Rattle.dn_instance.specs.declared.content.Content.{Content}
 use Rattle.dn_instance.specs.declared.held.Held.{Held}
 
--- the instance of this kind, or the terminal that it lacks; no instance before the problem line
+-- the instance of this kind that the items make, or that a terminal or the problem line is missing
 abbrev pub Makes : Option Kind → ℤ → List Line → Result Content Code → Type 0
 Makes None nodes items result = result ≡ Err NoProblem
 Makes (Some kind) nodes items (Ok content) =
@@ -19,7 +19,7 @@ Makes (Some kind) nodes items (Ok content) =
     × ((I : Instance) × (instance_as kind nodes items ≡ Some I) × Shows (contents_of content) I)
 Makes (Some kind) nodes items (Err code) = (code ≡ MissingTerminal) × (lacks_terminal (Some kind) items ≡ true)
 
--- what is held represents the instance that the items make of a problem, with its nodes and the lines counted
+-- the parsed instance represents the instance that the items make, with its nodes and counted lines
 pub record HoldsAll (held : Held) (items : List Line) : Type 0 where
   pub problem : Problem
   pub problem_is : problem_of items ≡ Some problem
@@ -29,7 +29,7 @@ pub record HoldsAll (held : Held) (items : List Line) : Type 0 where
   pub lines_are : (holding held).lines ≡ pos (counted items)
   pub shows : Shows (holding held).contents instance
 
--- the instance that the items make, or the fault at the end
+-- the parsed instance of the items, or the fault at the end
 abbrev pub EndsWith : List Line → Result Held Code → Type 0
 EndsWith items (Ok held) = (end_fault items ≡ None) × HoldsAll held items
 EndsWith items (Err code) = end_fault items ≡ Some code

@@ -1,4 +1,4 @@
--- How many entries an instance comes to: what has to be kept of it (this project's profile).
+-- How many entries an instance makes: what must be kept of it (this project's profile).
 use Rattle.std.specs.Prelude.{ℕ, List, length, filter_map, Option, Some, None}
 use Rattle.dn_line.specs.declared.kind.Kind.{Kind}
 use Rattle.dn_line.specs.declared.kind.Kind.TheVariants as Kinds
@@ -8,7 +8,7 @@ use Rattle.dn_table.specs.State.GraphEntries.{graph_entries}
 use Rattle.dn_instance.specs.Items.{kind_known, arcs_of, length_arc_in, cap_arc_in, cost_arc_in, source_in, query_in, point_in, by_key}
 use Rattle.dn_instance.specs.Instances.{Instance, MinCostFlow, MaxFlow, ShortestPaths, Sources, Queries, Coordinates}
 
--- for a companion, the number of its items
+-- the entries of an instance; for a companion, the number of its items
 abbrev pub entries_of : Instance → ℕ
 entries_of (MinCostFlow supplies graph) = graph_entries costs graph.arcs
 entries_of (MaxFlow source sink graph) = graph_entries capacities graph.arcs
@@ -17,7 +17,7 @@ entries_of (Sources ids) = length ids
 entries_of (Queries pairs) = length pairs
 entries_of (Coordinates points) = length points
 
--- the entries of what these items make of a problem of this kind
+-- the entries that these items make of a problem of this kind
 abbrev pub entries_as : Kind → List Line → ℕ
 entries_as Kinds.Min items = graph_entries costs (arcs_of cost_arc_in items)
 entries_as Kinds.Max items = graph_entries capacities (arcs_of cap_arc_in items)

@@ -1,4 +1,4 @@
--- What is held of a text that was read, which instance it stands for, and what a view shows of it.
+-- What a parsed instance has, which instance it represents, and what a view shows.
 use Rattle.std.specs.Prelude.{◌≡◌, ℕ, ℤ, pos, List, length}
 use Rattle.dn_line.specs.declared.kind.Kind.{Kind}
 use Rattle.dn_line.specs.declared.kind.Kind.TheVariants as Kinds
@@ -17,11 +17,11 @@ use Rattle.dn_instance.specs.declared.held.Held.{Held}
 use Rattle.dn_instance.specs.declared.view.View.{View}
 use Rattle.dn_instance.specs.declared.view.View.TheVariants as Views
 
--- bundles by ordered pair
+-- the bundles of a graph by ordered pair
 abbrev pub Bundles : Type 0 → Type 0
 Bundles B = List ((ℤ × ℤ) × B)
 
--- what is held by kind: flows, terminals and the bundles of a graph; the items of a companion
+-- the contents of a parsed instance, by kind: flows, terminals and the bundles of a graph, or the items of a companion
 pub data Contents : Type 0 where
   OfMin : List (ℤ × ℤ) → Bundles CurveNumbers → Contents
   OfMax : ℤ → ℤ → Bundles Total → Contents
@@ -30,7 +30,7 @@ pub data Contents : Type 0 where
   OfP2p : List (ℤ × ℤ) → Contents
   OfCo : List (ℤ × (ℤ × ℤ)) → Contents
 
--- nodes, the number of counted lines, and the rest by kind
+-- a parsed instance: nodes, the number of counted lines, and its contents
 pub record Holding : Type 0 where
   pub nodes : ℤ
   pub lines : ℤ
@@ -44,7 +44,7 @@ contents_kind (OfSs ids) = Kinds.Ss
 contents_kind (OfP2p pairs) = Kinds.P2p
 contents_kind (OfCo points) = Kinds.Co
 
--- the ordered pairs that have a bundle; a companion has none
+-- the number of ordered pairs that have a bundle, or 0 for a companion
 abbrev pub pair_count : Contents → ℕ
 pair_count (OfMin flows table) = length table
 pair_count (OfMax source sink table) = length table
@@ -53,7 +53,7 @@ pair_count (OfSs ids) = 0
 pair_count (OfP2p pairs) = 0
 pair_count (OfCo points) = 0
 
--- the bundles are the table of the arcs, and the rest is the instance's own
+-- the contents represent the instance: the bundles are the table of its arcs, and the rest is equal
 abbrev pub Shows : Contents → Instance → Type 0
 Shows (OfMin flows table) (MinCostFlow supplies graph) =
     (flows ≡ supplies) × TableStandsFor costs (curve_arcs One) table graph.arcs
@@ -65,13 +65,13 @@ Shows (OfP2p pairs) (Queries items) = pairs ≡ items
 Shows (OfCo points) (Coordinates items) = points ≡ items
 Shows _ _ = ⊥
 
--- what is held stands for the instance
+-- the parsed instance represents the instance
 pub record IsHeld (h : Holding) (I : Instance) : Type 0 where
   pub nodes_are : h.nodes ≡ nodes_of I
   pub lines_are : h.lines ≡ pos (size_of I)
   pub shows : Shows h.contents I
 
--- what is kept
+-- the contents that the code keeps
 abbrev pub contents_of : Content → Contents
 contents_of (Kept.Min supplies table) = OfMin supplies.entries table
 contents_of (Kept.Max source sink table) = OfMax source sink table
@@ -80,11 +80,11 @@ contents_of (Kept.Ss ids) = OfSs ids.items
 contents_of (Kept.P2p pairs) = OfP2p pairs.items
 contents_of (Kept.Co points) = OfCo points.entries
 
--- all that is held
+-- the parsed instance that the code keeps
 abbrev pub holding : Held → Holding
 holding h = record { nodes = h.nodes; lines = h.lines; contents = contents_of h.content }
 
--- what a view shows
+-- the contents that a view shows
 abbrev pub shown : View → Contents
 shown (Views.Min supplies table) = OfMin supplies.now.entries table.now
 shown (Views.Max source sink table) = OfMax source sink table.now

@@ -6,11 +6,11 @@ use Rattle.dn_arc.specs.Kinds.{ArcKind, costs, capacities, lengths}
 use Rattle.dn_instance.specs.Instances.{Graph, Instance, MinCostFlow, MaxFlow, ShortestPaths}
 use Rattle.dn_instance.specs.Sameness.{IsSame}
 
--- the arcs of a graph as their lines tell them: the ordered pair, and the numbers after it
+-- the arcs of a graph, each as its ordered pair and the numbers after it
 abbrev pub graph_lines : {Arc : Type 0} → ArcKind Arc → Graph Arc → List ((ℤ × ℤ) × List ℤ)
 graph_lines kind graph = map (λ a. (a.0, kind.numbers a.1)) graph.arcs
 
--- those of a graph problem; a companion has none
+-- the arcs of a graph problem; a companion has none
 abbrev pub arc_lines : Instance → List ((ℤ × ℤ) × List ℤ)
 arc_lines (MinCostFlow supplies graph) = graph_lines costs graph
 arc_lines (MaxFlow source sink graph) = graph_lines capacities graph
@@ -24,13 +24,14 @@ SameHead (MaxFlow a b G) (MaxFlow c d H) = (a ≡ c) × (b ≡ d) × (G.nodes �
 SameHead (ShortestPaths G) (ShortestPaths H) = G.nodes ≡ H.nodes
 SameHead _ _ = ⊥
 
--- there are parts, each has the head of I, and the arcs of I are those of the parts, one part after another
+-- there are parts, each has the kind, NODES and supplies or terminals of I, and the arcs of I are those of the parts,
+-- one part after another
 pub record AreParts (parts : List Instance) (I : Instance) : Type 0 where
   pub some : parts ≢ []
   pub heads : AllByRecursion (SameHead I) parts
   pub arcs : arc_lines I ≡ flat_map arc_lines parts
 
--- as many problems, each the same as the one at its place
+-- two lists of instances of equal length, each the same problem as the one at its place
 abbrev pub AreSame : List Instance → List Instance → Type 0
 AreSame [] [] = Unit {0}
 AreSame (I ∷ Is) (J ∷ Js) = IsSame I J × AreSame Is Js

@@ -1,4 +1,4 @@
--- What the state of a reader stands for, between the bytes that it is fed.
+-- What the state of a reader represents between the bytes that it is fed.
 use Rattle.std.specs.Prelude.{◌≡◌, ℕ, ◌≤◌, List, [], ◌∷◌, ◌++◌, length, take, cond, Option, Some, None, MatchOption, Result, Ok, Err}
 use Rattle.std.specs.Io.KnownBytes.{Consumes, IsAtEnd}
 use Rattle.dn_line.specs.Pieces.{parts, lines, is_line_feed}
@@ -18,18 +18,18 @@ use Rattle.dn_instance.specs.State.TextsSoFar.{TextAt}
 abbrev pub open_of : List ℕ → List ℕ
 open_of t = (parts is_line_feed t).1
 
--- the line reader has these bytes of a line that may go on; where there are none, the line before is of no account
+-- the line reader has read these bytes of a line that may continue; if there are none, its earlier line does not matter
 pub record HasOpen (r : LineReader) (bytes : List ℕ) : Type 0 where
   pub line : LineSoFar
   pub stands : LineReaderAt r line
   pub open_is : cond line.ended [] line.bytes ≡ bytes
 
--- the lines that LFs have ended are read, and the next so far as it has come
+-- the reader has taken the complete lines, and has read the bytes after them
 pub record IsReading (r : Reader) (t : List ℕ) : Type 0 where
   pub read : TextAt r.text (ended t)
   pub line : HasOpen r.line (open_of t)
 
--- of these lines those before the refused one are read
+-- the reader has taken the lines before the refused one
 pub record StopsIn (r : Reader) (ls : List (List ℕ)) (e : Refusal) : Type 0 where
   pub before : List (List ℕ)
   pub rest : List (List ℕ)
@@ -37,30 +37,30 @@ pub record StopsIn (r : Reader) (ls : List (List ℕ)) (e : Refusal) : Type 0 wh
   pub read : TextAt r.text before
   pub next : IsNext (length before) ls e
 
--- the reader is where these bytes lead
+-- the reader represents these bytes
 abbrev pub ReaderAt : Reader → List ℕ → Type 0
 ReaderAt r t = MatchOption r.refusal (IsReading r t) (λ e. IsRefused 0 (ended t) e × StopsIn r (ended t) e)
 
--- one line more is read, or the refusal is kept
+-- the reader has taken one more line, or keeps the refusal
 abbrev pub Takes : Reader → List (List ℕ) → List ℕ → Result (Unit {0}) Refusal → Type 0
 Takes r ls l (Ok x) = TextAt r.text (ls ++ l ∷ [])
 Takes r ls l (Err e) =
     (r.refusal ≡ Some e) × IsRefused (length ls) (ls ++ l ∷ []) e × StopsIn r (ls ++ l ∷ []) e
     × (lines_taken r ≡ length ls)
 
--- all lines are read, or one is refused
+-- the reader has taken all lines, or one is refused
 abbrev pub TakesAll : Reader → List ℕ → Result (Unit {0}) Refusal → Type 0
 TakesAll r t (Ok x) = TextAt r.text (lines t)
 TakesAll r t (Err e) = IsRefused (length (ended t)) (lines t) e
 
--- from t on it is read up to u, or the refusal of a line after those of t is kept
+-- from t on the reader has read up to u, or it keeps the refusal of a line after those of t
 abbrev pub Advances : Reader → List ℕ → List ℕ → Result ℕ Refusal → Type 0
 Advances r t u (Ok n) = IsReading r u
 Advances r t u (Err e) =
     (r.refusal ≡ Some e) × IsRefused (length (ended t)) (ended u) e × StopsIn r (ended u) e
     × (length (ended t) ≤ lines_taken r)
 
--- after t the front of a piece that is taken is read, or the refusal of a line that ends there is kept
+-- after t the reader has read a prefix of the piece, or it keeps the refusal of a line that ends there
 abbrev pub Steps : Reader → List ℕ → List ℕ → Result ℕ Refusal → Type 0
 Steps r t piece (Ok n) = IsReading r (t ++ take n piece)
 Steps r t piece (Err e) = Advances r t (t ++ take (used_of piece) piece) (Err e)
@@ -91,7 +91,7 @@ abbrev pub CountsBefore : Reader → ℕ → Type 0
 CountsBefore r n =
     (t : List ℕ) (e : Refusal) → ReaderAt r t → refusal_of r ≡ Some e → EntriesBefore (lines_taken r) (ended t) e n
 
--- the source has given all that it had, and the reader has taken it and has no refusal
+-- the source has given all its bytes, and the reader has read them without a refusal
 pub record IsFed (old new : Option (List ℕ)) (r : Reader) : Type 0 where
   pub given : List ℕ
   pub gave : Consumes old new given

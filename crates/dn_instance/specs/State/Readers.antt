@@ -1,4 +1,4 @@
--- What a reader answers.
+-- What a reader returns.
 use Rattle.std.specs.Prelude.{◌≡◌, ℕ, ◌+◌, ◌<◌, List, length, take, Option, Some, None, Result, Ok, Err}
 use Rattle.dn_line.specs.Pieces.{lines}
 use Rattle.dn_instance.specs.declared.refusal.Place.TheVariants as Places
@@ -12,8 +12,8 @@ use Rattle.dn_instance.specs.State.Helds.{IsHeld, holding}
 use Rattle.dn_instance.specs.Texts.{items_of, IsClean, IsFirstFaultAt, IsFirstFault, Reads}
 use Rattle.dn_instance.specs.Readers.{WantsMemory, ended}
 
--- why these lines are not all taken: the first fault among them, or want of memory at a line without one, after the
--- first `before`
+-- why not all of these lines are taken: the first fault among them, or memory ran out at a line after the first
+-- `before` lines
 abbrev pub IsRefused : ℕ → List (List ℕ) → Refusal → Type 0
 IsRefused before ls (Text (Places.Line number) code) = IsFirstFaultAt ls number code
 IsRefused before ls (Text Places.End code) = ⊥
@@ -23,13 +23,14 @@ IsRefused before ls Endless = ⊥
 IsRefused before ls Write = ⊥
 IsRefused before ls CountTooLarge = ⊥
 
--- what is answered of a text so far: its complete lines have no fault, or the first one among them; memory is wanted
--- only at a line without fault
+-- the result of feeding the text so far: its complete lines have no fault, or this is their first fault, or memory ran
+-- out at a line without a fault
 abbrev pub Fed : List ℕ → Result (Unit {0}) Refusal → Type 0
 Fed t (Ok x) = IsClean (ended t)
 Fed t (Err e) = IsRefused 0 (ended t) e
 
--- what is answered of a whole text: what it reads as, or its first fault; memory is wanted only at a line without fault
+-- the result of reading a whole text: what it reads as, its first fault, or that memory ran out at a line without a
+-- fault
 abbrev pub Outcome : List ℕ → Result Held Refusal → Type 0
 Outcome t (Ok held) = (I : Instance) × Reads t I × IsHeld (holding held) I
 Outcome t (Err (Text place code)) = IsFirstFault t place code
@@ -39,26 +40,26 @@ Outcome t (Err Endless) = ⊥
 Outcome t (Err Write) = ⊥
 Outcome t (Err CountTooLarge) = ⊥
 
--- the refusal that a reader repeats from here on
+-- the refusal that a reader keeps
 abbrev pub refusal_of : Reader → Option Refusal
 refusal_of r = r.refusal
 
--- a refusal, if there is one
+-- the result of a reader with this refusal, if there is one
 abbrev pub answer_of : Option Refusal → Result (Unit {0}) Refusal
 answer_of None = Ok tt
 answer_of (Some e) = Err e
 
--- how many lines a reader has taken
+-- the number of lines that a reader has taken
 abbrev pub lines_taken : Reader → ℕ
 lines_taken r = r.text.closed
 
--- of these lines the refused one is the next after the first `taken`: the one that the refusal names, or one at which
--- memory was wanted, and neither it nor an earlier line has a fault
+-- the refused line is the next after the first `taken` lines: the refusal names it, or memory ran out at it, and
+-- neither it nor an earlier line has a fault
 abbrev pub IsNext : ℕ → List (List ℕ) → Refusal → Type 0
 IsNext taken ls (Text (Places.Line number) code) = number ≡ taken + 1
 IsNext taken ls Memory = (taken < length ls) × IsClean (take (taken + 1) ls)
 IsNext taken ls _ = ⊥
 
--- the refused line is the next after the first `taken`, and these are the entries of the lines before it
+-- the refused line is the next after the first `taken` lines, and the number is that of the entries of these lines
 abbrev pub EntriesBefore : ℕ → List (List ℕ) → Refusal → ℕ → Type 0
 EntriesBefore taken ls e n = IsNext taken ls e × (n ≡ entries_so_far (items_of (take taken ls)))

@@ -1,4 +1,4 @@
--- Numbers and names of refusals (this project's profile), and the refusal of a line.
+-- The refusal of a line.
 use Rattle.std.specs.Prelude.{ℕ}
 use Rattle.dn_instance.specs.declared.refusal.ItemFault.{ItemFault}
 use Rattle.dn_instance.specs.declared.refusal.ItemFault.TheVariants as Faults
@@ -6,7 +6,7 @@ use Rattle.dn_instance.specs.declared.refusal.Place.TheVariants as Places
 use Rattle.dn_instance.specs.declared.refusal.Refusal.{Refusal}
 use Rattle.dn_instance.specs.declared.refusal.Refusal.TheVariants.{Text, Memory}
 
--- the fault of the line of this number
+-- the refusal of the line with this number for this fault
 abbrev pub refused_at : ℕ → ItemFault → Refusal
 refused_at number (Faults.Text code) = Text (Places.Line number) code
 refused_at number Faults.Memory = Memory

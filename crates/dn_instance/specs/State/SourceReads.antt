@@ -1,4 +1,4 @@
--- What is answered of the text that a source gives.
+-- What reading the text of a source returns.
 use Rattle.std.specs.Prelude.{◌≡◌, ◌⊎◌, ℕ, ◌<◌, ◌≤◌, ◌^◌, List, ◌++◌, length, Option, Some, Result, Ok, Err, IfSome, IsErrOf, IsTrue}
 use Rattle.std.specs.Io.KnownBytes.{IsAtEnd}
 use Rattle.dn_line.specs.Pieces.{lines}
@@ -12,8 +12,8 @@ use Rattle.dn_instance.specs.State.Readers.{IsRefused, Outcome}
 use Rattle.dn_instance.specs.Texts.{IsClean, IsFirstFault}
 use Rattle.dn_instance.specs.SourceReads.{CleanSoFar, PulledWhileClean}
 
--- of the text t the source has given `before`, where no line that LFs have ended is faulty, and then a piece of at most
--- 2 ^ 12 bytes; it still gives the rest. The refused line is one whose LF is in that piece.
+-- the source has given `before`, in which no complete line is faulty, and then a piece of at most 2 ^ 12 bytes, and
+-- still gives the rest of the text t; the LF of the refused line is in that piece
 pub record StopsInPiece (t : List ℕ) (new : Option (List ℕ)) (e : Refusal) : Type 0 where
   pub before : List ℕ
   pub piece : List ℕ
@@ -24,24 +24,24 @@ pub record StopsInPiece (t : List ℕ) (new : Option (List ℕ)) (e : Refusal) :
   pub clean : IsClean (ended before)
   pub refused : IsRefused (length (ended before)) (ended (before ++ piece)) e
 
--- why a text is refused after all lines that LFs have ended: the fault of its end, or a last line without LF is refused
+-- why a text without faulty complete lines is refused: the fault of its end, or its last line without LF is refused
 abbrev pub IsRefusedLast : List ℕ → Refusal → Type 0
 IsRefusedLast t (Text Places.End code) = IsFirstFault t Places.End code
 IsRefusedLast t e = IsRefused (length (ended t)) (lines t) e
 
--- the source has given all of the text t, where no line that LFs have ended is faulty
+-- the source has given all of the text t, in which no complete line is faulty
 pub record StopsAtEnd (t : List ℕ) (new : Option (List ℕ)) (e : Refusal) : Type 0 where
   pub at_end : IsAtEnd new
   pub clean : IsClean (ended t)
   pub refused : IsRefusedLast t e
 
--- where a source that gave the text t was left as the text was refused
+-- where the source stood when the text t was refused
 abbrev pub StopsAt : List ℕ → Option (List ℕ) → Refusal → Type 0
 StopsAt t new e = StopsInPiece t new e ⊎ StopsAtEnd t new e
 
--- of a source that gave the text t from here on, and now gives `new`: what t reads as, with nothing left; or its first
--- fault, or want of memory at a line without fault, with nothing given after the piece of that line; or no end, after
--- lines without fault
+-- the result of reading a source that gave the text t from here on, and now gives `new`: what t reads as, with nothing
+-- left; its first fault, or that memory ran out, with nothing given after the piece of that line; that the source
+-- failed, or has no end, after lines without a fault
 abbrev pub SourceOutcome : List ℕ → Option (List ℕ) → Result Held Refusal → Type 0
 SourceOutcome t new (Ok held) = Outcome t (Ok held) × IsAtEnd new
 SourceOutcome t new (Err (Text place code)) = IsFirstFault t place code × StopsAt t new (Text place code)
@@ -55,14 +55,14 @@ SourceOutcome t new (Err CountTooLarge) = ⊥
 abbrev pub ReadsSource : {S : Type 0} → SourceWords S → S → S → Result Held Refusal → Type 0
 ReadsSource source old new result = IfSome (source.gives old) (λ t. SourceOutcome t (source.gives new) result)
 
--- how reading leaves a source, whatever it gives: it was pulled only while no line was faulty; it has failed where the
--- answer is `Read`, and once it has failed, it stays so
+-- how reading leaves a source, whatever it gives: it was pulled only while no line was faulty; it has failed if the
+-- result is `Read`; and once it has failed, it stays failed
 pub record SourceLeft {S A : Type 0} (source : SourceWords S) (old new : S) (result : Result A Refusal) : Type 0 where
   pub read : IsErrOf result Read → IsTrue (source.has_failed new)
   pub stays : IsTrue (source.has_failed old) → IsTrue (source.has_failed new)
   pub pulls : PulledWhileClean source old new
 
--- of the text t the source has given these bytes, which the copy has gained, and it still gives the rest
+-- the source has given these bytes of the text t, the copy has gained them, and the source still gives the rest
 pub record Copied (t : List ℕ) (new : Option (List ℕ)) (old_copy new_copy : List ℕ) : Type 0 where
   pub given : List ℕ
   pub rest : List ℕ
@@ -70,8 +70,8 @@ pub record Copied (t : List ℕ) (new : Option (List ℕ)) (old_copy new_copy : 
   pub rest_is : new ≡ Some rest
   pub copy : new_copy ≡ old_copy ++ given
 
--- of the text t the source has given these bytes, which the copy has gained, and then a piece of at least one byte, for
--- which the copy lacked memory; no line that LFs have ended before that piece is faulty
+-- the source has given these bytes of the text t, the copy has gained them, and memory ran out for the next piece; no
+-- complete line among these bytes is faulty
 pub record LacksRoom (t : List ℕ) (new : Option (List ℕ)) (old_copy new_copy : List ℕ) : Type 0 where
   pub given : List ℕ
   pub piece : List ℕ
@@ -82,8 +82,8 @@ pub record LacksRoom (t : List ℕ) (new : Option (List ℕ)) (old_copy new_copy
   pub copy : new_copy ≡ old_copy ++ given
   pub clean : IsClean (ended given)
 
--- the same of a source whose text is copied as it comes: the copy has gained all that the source gave, or all but the
--- piece for which it lacked memory
+-- the result of reading a source with a copy: the copy has gained all bytes that the source gave, or all but the piece
+-- for which memory ran out
 abbrev pub CopyOutcome : List ℕ → Option (List ℕ) → List ℕ → List ℕ → Result Held Refusal → Type 0
 CopyOutcome t new old_copy new_copy (Err Memory) =
     (SourceOutcome t new (Err Memory) × Copied t new old_copy new_copy) ⊎ LacksRoom t new old_copy new_copy
@@ -94,10 +94,10 @@ abbrev pub CopiesSource : {S : Type 0} → SourceWords S → S → S → List �
 CopiesSource source old new old_copy new_copy result =
     IfSome (source.gives old) (λ t. CopyOutcome t (source.gives new) old_copy new_copy result)
 
--- what is held stands for the instance that some text reads as, whatever is known of the bytes of its source
+-- the parsed instance represents an instance that some text reads as, even if the bytes of the source are unknown
 abbrev pub HoldsSome : Held → Type 0
 HoldsSome held = (t : List ℕ) × Outcome t (Ok held)
 
--- so it does, and the copy has gained that text
+-- the parsed instance represents an instance that some text reads as, and the copy has gained this text
 abbrev pub HoldsCopied : List ℕ → List ℕ → Held → Type 0
 HoldsCopied old_copy new_copy held = (t : List ℕ) × Outcome t (Ok held) × (new_copy ≡ old_copy ++ t)

@@ -1,4 +1,4 @@
--- What the complete lines so far make, and what the next one reads as after them.
+-- What the complete lines so far make, and what the next line reads as after them.
 use Rattle.std.specs.Prelude.{◌≡◌, ℕ, ◌-◌, ◌^◌, ◌<◌, pos, ◌<ℤ◌, List, [], ◌∷◌, ◌++◌, length, cond, true, false, flat_map, Option, Some, None, Result, Ok, IsSome, int_lt}
 use Rattle.std.specs.List.{list_all, list_any, AllByRecursion}
 use Rattle.std.specs.Option.{option_map}
@@ -33,14 +33,14 @@ pub record HasRead (t : TextSoFar) (items : List Line) : Type 0 where
   pub arcs_are : is_graph (draft_kind t.draft) ≡ true → list_any is_arc items ≡ int_lt (pos 0) t.counted
   pub holds : DraftHolds t.draft items
 
--- what a line reads as after these items, by its faults up to those of its fields
+-- what a line reads as after these items, judged by its faults up to those of its fields
 abbrev pub next_read : List Line → List Word → Result Line Code
 next_read before ws =
     let known = kind_known before in
     let faults = head_tests known ws ++ (order_tests before ws ++ field_tests (fields known ws)) in
     cond (is_skip ws) (Ok Skip) (unless (first_fault faults) (spelled known ws))
 
--- a line after these items spells this item, and may stand there
+-- a line after these items spells this item, and may come there
 pub record MayFollow (before : List Line) (i : Line) : Type 0 where
   pub kind_is : kind_known before ≡ kind_before i
   pub spelled : IsSome (slots_of i)
@@ -59,7 +59,7 @@ pub record AwaitsArcs (t : TextSoFar) (kind : Kind) (before : List Line) (arcs :
   pub graph : is_companion kind ≡ false
   pub signs : AllByRecursion HasSigns (arc_items kind arcs)
 
--- the fault of a line after these items, its number aside
+-- the fault of a line after these items, without that of its number
 abbrev pub fault_next : List Line → List Word → Option Code
 fault_next before ws = cond (is_skip ws) None (first_fault (line_tests before ws))
 
@@ -74,11 +74,11 @@ pub record TextAt (t : TextSoFar) (ls : List (List ℕ)) : Type 0 where
 abbrev pub closed_lines : List (List ℕ) → List ℕ
 closed_lines ls = flat_map (λ l. l ++ 10 ∷ []) ls
 
--- no LF within
+-- no line contains an LF
 abbrev pub AreInner : List (List ℕ) → Type 0
 AreInner ls = AllByRecursion (λ l. list_all is_inner l ≡ true) ls
 
--- the bytes are lines, each with the LF that ends it, and with these more than `ls` have been read
+-- the bytes are complete lines, and these lines have been read after `ls`
 pub record ReadsFront (t : TextSoFar) (ls : List (List ℕ)) (bytes : List ℕ) : Type 0 where
   pub more : List (List ℕ)
   pub whole : closed_lines more ≡ bytes

@@ -18,16 +18,24 @@ abbrev by_cost : List CostArc
 by_cost = arc (pos 1) (pos 3) (pos 0) ∷ arc (pos 0) (pos 4) (pos 1) ∷ arc (pos 1) (pos 2) (pos 3) ∷ []
 
 by_cost_same : SameCurve by_cost worked
-by_cost_same = curve_meaning.same_more _ _ _ (curve_meaning.same_swap (arc (pos 0) (pos 4) (pos 1)) (arc (pos 1) (pos 2) (pos 3)) [])
+by_cost_same =
+    curve_meaning.same_more _ _ _
+    (curve_meaning.same_swap (arc (pos 0) (pos 4) (pos 1)) (arc (pos 1) (pos 2) (pos 3)) [])
 
 by_cost_ordered : AreOrdered by_cost
 by_cost_ordered = search rules
 
 pub worked_at_two : LeastCost worked (pos 2) (pos 3)
-worked_at_two = by_cost_same.there (pos 2) (pos 3) (least_of_filling by_cost (pos 2) (pos 3) by_cost_ordered (record { low = omega (arith, ints); high = omega (arith, ints); cost = refl }))
+worked_at_two =
+    by_cost_same.there (pos 2) (pos 3)
+    (least_of_filling by_cost (pos 2) (pos 3) by_cost_ordered
+    (record { low = omega (arith, ints); high = omega (arith, ints); cost = refl }))
 
 pub worked_at_five : LeastCost worked (pos 5) (pos 4)
-worked_at_five = by_cost_same.there (pos 5) (pos 4) (least_of_filling by_cost (pos 5) (pos 4) by_cost_ordered (record { low = omega (arith, ints); high = omega (arith, ints); cost = refl }))
+worked_at_five =
+    by_cost_same.there (pos 5) (pos 4)
+    (least_of_filling by_cost (pos 5) (pos 4) by_cost_ordered
+    (record { low = omega (arith, ints); high = omega (arith, ints); cost = refl }))
 
 pub worked_form_one : IsFormOne worked_one
 worked_form_one = record {
@@ -41,10 +49,15 @@ worked_form_one = record {
 }
 
 pub worked_same_one : SameCurve worked_one worked
-worked_same_one = curve_meaning.same_trans _ _ _ (same_by_parts worked_one by_cost (form_one_ordered worked_one worked_form_one) by_cost_ordered refl refl refl) by_cost_same
+worked_same_one =
+    curve_meaning.same_trans _ _ _
+    (same_by_parts worked_one by_cost
+    (form_one_ordered worked_one worked_form_one) by_cost_ordered refl refl refl) by_cost_same
 
 worked_two_ordered : AreOrdered worked_two
 worked_two_ordered = search rules
 
 pub worked_same_two : SameCurve worked_two worked
-worked_same_two = curve_meaning.same_trans _ _ _ (same_by_parts worked_two by_cost worked_two_ordered by_cost_ordered refl refl refl) by_cost_same
+worked_same_two =
+    curve_meaning.same_trans _ _ _
+    (same_by_parts worked_two by_cost worked_two_ordered by_cost_ordered refl refl refl) by_cost_same

@@ -23,20 +23,24 @@ use Rattle.dn_arc.proofs.DifferencesLaws.{least_cost_unique}
 
 -- two numbers are equal, or they are not
 pub same_or_not : (a b : ℤ) → (a ≡ b) ⊎ (a ≢ b)
-same_or_not a b = by_lt_z a b (λ lt. inr (λ e. absurd (omega (arith, ints, e)))) (λ le. by_lt_z b a (λ gt. inr (λ e. absurd (omega (arith, ints, e)))) (λ ge. inl (omega (arith, ints))))
+same_or_not a b =
+    by_lt_z a b (λ lt. inr (λ e. absurd (omega (arith, ints, e))))
+    (λ le. by_lt_z b a (λ gt. inr (λ e. absurd (omega (arith, ints, e)))) (λ ge. inl (omega (arith, ints))))
 
 same_option_or_not : (a b : Option ℤ) → (a ≡ b) ⊎ (a ≢ b)
 same_option_or_not None None = inl refl
 same_option_or_not None (Some b) = inr (λ e. cc)
 same_option_or_not (Some a) None = inr (λ e. cc)
-same_option_or_not (Some a) (Some b) = elim (same_or_not a b) [ inl e ↦ inl (ap Some e) | inr n ↦ inr (λ e. let f : a ≡ b = cc in n f) ]
+same_option_or_not (Some a) (Some b) =
+    elim (same_or_not a b) [ inl e ↦ inl (ap Some e) | inr n ↦ inr (λ e. let f : a ≡ b = cc in n f) ]
 
 -- ---- lengths
 
 length_found : (xs : List LengthArc) → (w : Option ℤ) × IsLengthOf xs w
 length_found xs = elim (Least.least_of xs) [ inl e ↦ (None, e) | inr p ↦ (Some p.0, p.1) ]
 
-length_there : (xs ys : List LengthArc) (w : Option ℤ) → IsLengthOf xs w → IsLengthOf ys w → (v : ℤ) → LeastLength xs v → LeastLength ys v
+length_there : (xs ys : List LengthArc) (w : Option ℤ) → IsLengthOf xs w → IsLengthOf ys w → (v : ℤ) → LeastLength xs v
+    → LeastLength ys v
 length_there xs ys None h g v l = absurd (subst (λ zs. LeastLength zs v) h l).has
 length_there xs ys (Some w) h g v l = subst (LeastLength ys) (Least.least_unique xs w v h l) g
 
@@ -47,23 +51,37 @@ same_by_length xs ys w l r = record { there = length_there xs ys w l r; back = l
 pub length_or_differ : (xs ys : List LengthArc) → SameLength xs ys ⊎ ((how : How) × LengthsDiffer xs ys how)
 length_or_differ xs ys = by_lengths (length_found xs) (length_found ys)
   where
-    by_lengths : ((w : Option ℤ) × IsLengthOf xs w) → ((w : Option ℤ) × IsLengthOf ys w) → SameLength xs ys ⊎ ((how : How) × LengthsDiffer xs ys how)
+    by_lengths : ((w : Option ℤ) × IsLengthOf xs w) → ((w : Option ℤ) × IsLengthOf ys w)
+        → SameLength xs ys ⊎ ((how : How) × LengthsDiffer xs ys how)
     by_lengths l r = elim (same_option_or_not l.0 r.0) [
-      | inl e ↦ (let right : IsLengthOf ys l.0 = subst (IsLengthOf ys) (sym e) r.1 in inl (same_by_length xs ys l.0 l.1 right))
+      | inl e ↦
+          (let right : IsLengthOf ys l.0 = subst (IsLengthOf ys) (sym e) r.1 in
+          inl (same_by_length xs ys l.0 l.1 right))
       | inr n ↦ inr (Lengths l.0 r.0, (l.1, r.1, n))
     ]
 
 -- ---- capacities
 
 pub total_or_differ : (xs ys : List CapArc) → SameTotal xs ys ⊎ ((how : How) × TotalsDiffer xs ys how)
-total_or_differ xs ys = elim (same_or_not (total_cap xs) (total_cap ys)) [ inl e ↦ inl (record { is = e }) | inr n ↦ inr (Totals (total_cap xs) (total_cap ys), (refl, refl, n)) ]
+total_or_differ xs ys =
+    elim (same_or_not (total_cap xs) (total_cap ys)) [
+      | inl e ↦ inl (record { is = e })
+      | inr n ↦ inr
+          (Totals (total_cap xs) (total_cap ys), (refl, refl, n))
+    ]
 
 -- ---- costs
 
 cost_found : (xs : List CostArc) (x : ℤ) → (k : Option ℤ) × IsCostOf xs x k
-cost_found xs x = elim (Splits.least_of xs x) [ inl never ↦ (None, λ k l. never k (Splits.least_bottom xs x k l).at) | inr b ↦ (Some b.0, Splits.bottom_least xs x b.0 b.1) ]
+cost_found xs x =
+    elim (Splits.least_of xs x) [
+      | inl never ↦ (None, λ k l. never k (Splits.least_bottom xs x k l).at)
+      | inr b ↦
+          (Some b.0, Splits.bottom_least xs x b.0 b.1)
+    ]
 
-cost_there : (xs ys : List CostArc) (x : ℤ) (c : Option ℤ) → IsCostOf xs x c → IsCostOf ys x c → (k : ℤ) → LeastCost xs x k → LeastCost ys x k
+cost_there : (xs ys : List CostArc) (x : ℤ) (c : Option ℤ) → IsCostOf xs x c → IsCostOf ys x c → (k : ℤ)
+    → LeastCost xs x k → LeastCost ys x k
 cost_there xs ys x None h g k l = absurd (h k l)
 cost_there xs ys x (Some c) h g k l = subst (LeastCost ys x) (least_cost_unique xs x c k h l) g
 
@@ -89,20 +107,32 @@ module _ (xs ys : List CostArc) where
   further : (n : ℤ) → SameBelow n → SameBelow (n +ℤ pos 1) ⊎ AnyGap
   further n same = by_costs (cost_found xs n) (cost_found ys n)
     where
-      by_costs : ((k : Option ℤ) × IsCostOf xs n k) → ((k : Option ℤ) × IsCostOf ys n k) → SameBelow (n +ℤ pos 1) ⊎ AnyGap
+      by_costs : ((k : Option ℤ) × IsCostOf xs n k) → ((k : Option ℤ) × IsCostOf ys n k)
+          → SameBelow (n +ℤ pos 1) ⊎ AnyGap
       by_costs l r = elim (same_option_or_not l.0 r.0) [
         | inl e ↦ (let right : IsCostOf ys n l.0 = subst (IsCostOf ys n) (sym e) r.1 in
             inl (λ x k lt. by_lt_z x n (same x k) (λ le.
             let here : n ≡ x = omega (arith, ints) in
-            subst (λ z. LeastCost xs z k ↔ LeastCost ys z k) here (cost_there xs ys n l.0 l.1 right k, cost_there ys xs n l.0 right l.1 k))))
-        | inr n' ↦ inr (record { amount = n; left = l.0; right = r.0 }, record { left = l.1; right = r.1; differ = n'; same_below = same })
+            subst (λ z. LeastCost xs z k ↔ LeastCost ys z k) here
+            (cost_there xs ys n l.0 l.1 right k, cost_there ys xs n l.0 right l.1 k))))
+        | inr n' ↦ inr (
+          record { amount = n; left = l.0; right = r.0 },
+          record
+              { left = l.1; right = r.1; differ = n'; same_below = same },
+        )
       ]
 
   -- up to an amount the least costs are the same, or there is a gap
   search_gap : (n : ℕ) → SameBelow (pos 0) → SameBelow (pos n) ⊎ AnyGap
   search_gap zero none = inl none
   search_gap (suc n) none = elim (search_gap n none) [
-    | inl same ↦ elim (further (pos n) same) [ inl more ↦ (let e : pos n +ℤ pos 1 ≡ pos (suc n) = omega (arith, ints) in inl (subst SameBelow e more)) | inr gap ↦ inr gap ]
+    | inl same ↦ elim
+        (further (pos n) same) [
+          | inl more ↦
+              (let e : pos n +ℤ pos 1 ≡ pos (suc n) = omega (arith, ints) in
+              inl (subst SameBelow e more))
+          | inr gap ↦ inr gap
+        ]
     | inr gap ↦ inr gap
   ]
 
@@ -116,8 +146,12 @@ module _ (xs ys : List CostArc) where
     -- if the least costs are the same up to both capacities, the lists mean the same
     past_both : (n : ℤ) → cost_cap xs <ℤ n → cost_cap ys <ℤ n → SameBelow n → SameCurve xs ys
     past_both n p q same = record {
-      there = λ x k l. by_lt_z x n (λ lt. (same x k lt).0 l) (λ le. let most = at_most_cap xs x k (Splits.least_bottom xs x k l).at in absurd (omega (arith, ints)));
-      back = λ x k l. by_lt_z x n (λ lt. (same x k lt).1 l) (λ le. let most = at_most_cap ys x k (Splits.least_bottom ys x k l).at in absurd (omega (arith, ints)));
+      there =
+          λ x k l. by_lt_z x n (λ lt. (same x k lt).0 l)
+          (λ le. let most = at_most_cap xs x k (Splits.least_bottom xs x k l).at in absurd (omega (arith, ints)));
+      back =
+          λ x k l. by_lt_z x n (λ lt. (same x k lt).1 l)
+          (λ le. let most = at_most_cap ys x k (Splits.least_bottom ys x k l).at in absurd (omega (arith, ints)));
     }
 
     pub curve_or_differ : SameCurve xs ys ⊎ ((how : How) × CurvesDiffer xs ys how)

@@ -46,7 +46,8 @@ own_head I [] p = absurd (p.some refl)
 own_head I (P ∷ parts) p = head_back I I P p.heads.0 p.heads.0
 
 -- instances that are made of the same parts have the same head
-pub heads_agree : (I J : Instance) (parts others : List Instance) → AreParts parts I → AreParts others J → AreSame parts others → SameHead I J
+pub heads_agree : (I J : Instance) (parts others : List Instance) → AreParts parts I → AreParts others J
+    → AreSame parts others → SameHead I J
 heads_agree I J [] others p q s = absurd (p.some refl)
 heads_agree I J (P ∷ parts) [] p q s = absurd s
 heads_agree I J (P ∷ parts) (Q ∷ others) p q s = head_back I J Q (head_then I P Q p.heads.0 s.0) q.heads.0
@@ -70,7 +71,8 @@ pub record IsMaking {Arc : Type 0} (kind : ArcKind Arc) (make : Graph Arc → In
   pub make_valid : (G H : Graph Arc) → G.nodes ≡ H.nodes → IsValid (make G) → IsValidGraph kind H → IsValid (make H)
 
 -- a problem with the head of a `min` problem is made of a graph
-open_min : (s : List (ℤ × ℤ)) (G : Graph _) (P : Instance) → SameHead (MinCostFlow s G) P → IsMade (MinCostFlow s) G.nodes P
+open_min : (s : List (ℤ × ℤ)) (G : Graph _) (P : Instance) → SameHead (MinCostFlow s G) P
+    → IsMade (MinCostFlow s) G.nodes P
 open_min s G (MinCostFlow t H) h = record { graph = H; is = ap (λ u. MinCostFlow u H) (sym h.0); nodes_are = h.1 }
 open_min s G _ h = absurd h
 
@@ -89,7 +91,8 @@ min_making s = record {
 
 -- a problem with the head of a `max` problem is made of a graph
 open_max : (a b : ℤ) (G : Graph _) (P : Instance) → SameHead (MaxFlow a b G) P → IsMade (MaxFlow a b) G.nodes P
-open_max a b G (MaxFlow c d H) h = record { graph = H; is = ap (λ u. MaxFlow u d H) (sym h.0) ∙ ap (λ u. MaxFlow a u H) (sym h.1); nodes_are = h.2 }
+open_max a b G (MaxFlow c d H) h =
+    record { graph = H; is = ap (λ u. MaxFlow u d H) (sym h.0) ∙ ap (λ u. MaxFlow a u H) (sym h.1); nodes_are = h.2 }
 open_max a b G _ h = absurd h
 
 pub max_making : (a b : ℤ) → IsMaking capacities (MaxFlow a b)
@@ -147,7 +150,9 @@ module _ {Arc : Type 0} (kind : ArcKind Arc) (make : Graph Arc → Instance) (ma
       let first : line a ≡ line b = cc in
       let pair : a.0 ≡ b.0 = ap (λ (l : (ℤ × ℤ) × List ℤ). l.0) first in
       let numbers : kind.numbers a.1 ≡ kind.numbers b.1 = ap (λ (l : (ℤ × ℤ) × List ℤ). l.1) first in
-      let arc : a.1 ≡ b.1 = some_one a.1 b.1 (sym (making.kind_laws.arc_of_numbers a.1) ∙ ap kind.arc_of numbers ∙ making.kind_laws.arc_of_numbers b.1) in
+      let arc : a.1 ≡ b.1 =
+      some_one a.1 b.1
+      (sym (making.kind_laws.arc_of_numbers a.1) ∙ ap kind.arc_of numbers ∙ making.kind_laws.arc_of_numbers b.1) in
       let here : a ≡ b = placed_is a.0 b.0 a.1 b.1 pair arc in
       let rest : xs ≡ ys = lines_one xs ys cc in
       cc
@@ -158,7 +163,8 @@ module _ {Arc : Type 0} (kind : ArcKind Arc) (make : Graph Arc → Instance) (ma
     pub are : parts ≡ map make graphs
     pub nodes_are : AllByRecursion (λ (H : Graph Arc). nodes ≡ H.nodes) graphs
 
-  pub graphs_of : (G : Graph Arc) (parts : List Instance) → AllByRecursion (SameHead (make G)) parts → AreMade G.nodes parts
+  pub graphs_of : (G : Graph Arc) (parts : List Instance) → AllByRecursion (SameHead (make G)) parts
+      → AreMade G.nodes parts
   graphs_of G [] h = record { graphs = []; are = refl; nodes_are = tt }
   graphs_of G (P ∷ parts) h =
       let first = making.opens G P h.0 in
@@ -171,27 +177,36 @@ module _ {Arc : Type 0} (kind : ArcKind Arc) (make : Graph Arc → Instance) (ma
 
   pub all_lines : (Hs : List (Graph Arc)) → flat_map arc_lines (map make Hs) ≡ map line (all_arcs Hs)
   all_lines [] = refl
-  all_lines (H ∷ Hs) = ap (λ l. l ++ flat_map arc_lines (map make Hs)) (making.lines_are H) ∙ ap (λ l. map line H.arcs ++ l) (all_lines Hs) ∙ sym (map-append line H.arcs (all_arcs Hs))
+  all_lines (H ∷ Hs) =
+      ap (λ l. l ++ flat_map arc_lines (map make Hs)) (making.lines_are H)
+      ∙ ap (λ l. map line H.arcs ++ l) (all_lines Hs) ∙ sym (map-append line H.arcs (all_arcs Hs))
 
   -- the arcs of a graph that is made of parts are the arcs of the parts
   pub arcs_are : (G : Graph Arc) (Hs : List (Graph Arc)) → AreParts (map make Hs) (make G) → G.arcs ≡ all_arcs Hs
   arcs_are G Hs p = lines_one G.arcs (all_arcs Hs) (sym (making.lines_are G) ∙ p.arcs ∙ all_lines Hs)
 
   -- the arcs of graphs that are the same, one graph after another, mean the same
-  same_all : (Hs Ks : List (Graph Arc)) → AreSame (map make Hs) (map make Ks) → SameAt kind making.kind_laws.meaning (all_arcs Hs) (all_arcs Ks)
+  same_all : (Hs Ks : List (Graph Arc)) → AreSame (map make Hs) (map make Ks)
+      → SameAt kind making.kind_laws.meaning (all_arcs Hs) (all_arcs Ks)
   same_all [] [] s = record { at = λ p. making.kind_laws.meaning.same_refl [] }
   same_all [] (K ∷ Ks) s = absurd s
   same_all (H ∷ Hs) [] s = absurd s
   same_all (H ∷ Hs) (K ∷ Ks) s =
       let meaning = making.kind_laws.meaning in
-      same_joined (SameAt kind meaning) (placed_meaning kind meaning) H.arcs K.arcs (all_arcs Hs) (all_arcs Ks) (record { at = (making.same_graph H K s.0).bundles }) (same_all Hs Ks s.1)
+      same_joined (SameAt kind meaning) (placed_meaning kind meaning) H.arcs K.arcs (all_arcs Hs) (all_arcs Ks)
+      (record { at = (making.same_graph H K s.0).bundles }) (same_all Hs Ks s.1)
 
-  graphs_same : (G K : Graph Arc) (Hs Ks : List (Graph Arc)) → G.nodes ≡ K.nodes → AreParts (map make Hs) (make G) → AreParts (map make Ks) (make K) → AreSame (map make Hs) (map make Ks) → IsSame (make G) (make K)
+  graphs_same : (G K : Graph Arc) (Hs Ks : List (Graph Arc)) → G.nodes ≡ K.nodes → AreParts (map make Hs) (make G)
+      → AreParts (map make Ks) (make K) → AreSame (map make Hs) (map make Ks) → IsSame (make G) (make K)
   graphs_same G K Hs Ks n p q s =
-      let all = subst (SameAt kind making.kind_laws.meaning G.arcs) (sym (arcs_are K Ks q)) (subst (λ l. SameAt kind making.kind_laws.meaning l (all_arcs Ks)) (sym (arcs_are G Hs p)) (same_all Hs Ks s)) in
+      let all =
+      subst (SameAt kind making.kind_laws.meaning G.arcs) (sym (arcs_are K Ks q))
+      (subst (λ l. SameAt kind making.kind_laws.meaning l (all_arcs Ks)) (sym (arcs_are G Hs p))
+      (same_all Hs Ks s)) in
       making.make_same G K (record { nodes = n; bundles = all.at })
 
-  made_same : (G : Graph Arc) (J : Instance) (parts others : List Instance) → SameHead (make G) J → AreParts parts (make G) → AreParts others J → AreSame parts others → IsSame (make G) J
+  made_same : (G : Graph Arc) (J : Instance) (parts others : List Instance) → SameHead (make G) J
+      → AreParts parts (make G) → AreParts others J → AreSame parts others → IsSame (make G) J
   made_same G J parts others h p q s =
       let o = making.opens G J h in
       let K = o.graph in
@@ -199,14 +214,17 @@ module _ {Arc : Type 0} (kind : ArcKind Arc) (make : Graph Arc → Instance) (ma
       let hs = graphs_of G parts p.heads in
       let ks = graphs_of K others q'.heads in
       subst (IsSame (make G)) (sym o.is)
-      (graphs_same G K hs.graphs ks.graphs o.nodes_are (subst (λ l. AreParts l (make G)) hs.are p) (subst (λ l. AreParts l (make K)) ks.are q')
+      (graphs_same G K hs.graphs ks.graphs o.nodes_are (subst (λ l. AreParts l (make G)) hs.are p)
+      (subst (λ l. AreParts l (make K)) ks.are q')
       (subst (AreSame (map make hs.graphs)) ks.are (subst (λ l. AreSame l others) hs.are s)))
 
 -- problems that are made of the same parts are the same problem
-pub parts_same : (I J : Instance) (parts others : List Instance) → AreParts parts I → AreParts others J → AreSame parts others → IsSame I J
+pub parts_same : (I J : Instance) (parts others : List Instance) → AreParts parts I → AreParts others J
+    → AreSame parts others → IsSame I J
 parts_same I J parts others p q s = by_kind I J parts others (heads_agree I J parts others p q s) p q s
   where
-    by_kind : (I J : Instance) (parts others : List Instance) → SameHead I J → AreParts parts I → AreParts others J → AreSame parts others → IsSame I J
+    by_kind : (I J : Instance) (parts others : List Instance) → SameHead I J → AreParts parts I → AreParts others J
+        → AreSame parts others → IsSame I J
     by_kind (MinCostFlow s G) J parts others h = made_same costs (MinCostFlow s) (min_making s) G J parts others h
     by_kind (MaxFlow a b G) J parts others h = made_same capacities (MaxFlow a b) (max_making a b) G J parts others h
     by_kind (ShortestPaths G) J parts others h = made_same lengths ShortestPaths sp_making G J parts others h

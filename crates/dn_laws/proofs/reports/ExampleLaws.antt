@@ -23,7 +23,8 @@ use Rattle.dn_report.specs.Shows.{AreLengthWords, total_words, cost_words, pair_
 abbrev IsApart : ℤ × ℤ → List (ℤ × ℤ) → Type 0
 IsApart p keys = AllByRecursion (λ k. same_pair p k ≡ false) keys
 
-lookup_apart : {X : Type 0} (p : ℤ × ℤ) (es : List ((ℤ × ℤ) × X)) → IsApart p (keys_of es) → lookup (same_pair p) es ≡ None
+lookup_apart : {X : Type 0} (p : ℤ × ℤ) (es : List ((ℤ × ℤ) × X)) → IsApart p (keys_of es)
+    → lookup (same_pair p) es ≡ None
 lookup_apart p [] h = refl
 lookup_apart p (e ∷ es) h = rw (h.0) (lookup_apart p es h.1)
 
@@ -40,7 +41,8 @@ by_keys P p (k ∷ ks) all apart = by_test (same_pair p k) refl (by_keys P p ks 
     by_test true e rest = subst P (sym (pair_is p k e)) all.0
     by_test false e rest = rest (λ h. apart (e, h))
 
-module _ {Arc : Type 0} (kind : ArcKind Arc) (laws : IsKind kind) (AreWords : List Arc → Row → Type 0) (arcs : List ((ℤ × ℤ) × Arc)) (entries : List ((ℤ × ℤ) × Row)) where
+module _ {Arc : Type 0} (kind : ArcKind Arc) (laws : IsKind kind) (AreWords : List Arc → Row → Type 0)
+    (arcs : List ((ℤ × ℤ) × Arc)) (entries : List ((ℤ × ℤ) × Row)) where
   -- the words at a pair, or none, are right for its arcs
   record IsTold (o : Option Row) (xs : List Arc) : Type 0 where
     meant : (o ≡ None) ↔ kind.Same xs []
@@ -52,11 +54,22 @@ module _ {Arc : Type 0} (kind : ArcKind Arc) (laws : IsKind kind) (AreWords : Li
   nothing : IsTold None []
   nothing = record { meant = (λ h. laws.meaning.same_refl [], λ h. refl); words = tt }
 
-  pair_rows : IsStrictlySortedBy pair_cmp (keys_of entries) → AllByRecursion ToldAt (keys_of arcs) → ((p : ℤ × ℤ) → IsApart p (keys_of arcs) → IsApart p (keys_of entries)) → ArePairRows kind AreWords arcs (map (λ e. pair_row e.0 e.1) entries)
+  pair_rows : IsStrictlySortedBy pair_cmp (keys_of entries) → AllByRecursion ToldAt (keys_of arcs)
+      → ((p : ℤ × ℤ) → IsApart p (keys_of arcs) → IsApart p (keys_of entries))
+      → ArePairRows kind AreWords arcs (map (λ e. pair_row e.0 e.1) entries)
   pair_rows rising at apart =
       let told : (p : ℤ × ℤ) → ToldAt p =
-      λ p. by_keys ToldAt p (keys_of arcs) at (λ h. subst (λ o. IsTold o (bundle p arcs)) (sym (lookup_apart p entries (apart p h))) (subst (IsTold None) (sym (bundle_apart p arcs h)) nothing)) in
-      record { entries = entries; rising = rising; meant = λ p. (told p).meant; words = λ p. (told p).words; rows_are = refl }
+      λ p. by_keys ToldAt p (keys_of arcs) at
+      (λ h. subst (λ o. IsTold o (bundle p arcs)) (sym (lookup_apart p entries (apart p h)))
+      (subst (IsTold None) (sym (bundle_apart p arcs h)) nothing)) in
+      record {
+        entries = entries;
+        rising = rising;
+        meant = λ p. (told p).meant;
+        words = λ p. (told p).words;
+        rows_are =
+            refl;
+      }
 
   -- words are right for arcs that mean something
   some_words : (row : Row) (xs : List Arc) → (kind.Same xs [] → ⊥) → AreWords xs row → IsTold (Some row) xs
@@ -64,55 +77,79 @@ module _ {Arc : Type 0} (kind : ArcKind Arc) (laws : IsKind kind) (AreWords : Li
 
 -- the worked `sp` graph
 abbrev some_lengths : List ((ℤ × ℤ) × LengthArc)
-some_lengths = length_arc_at (pos 2) (pos 1) (pos 4) ∷ length_arc_at (pos 1) (pos 2) (pos 7) ∷ length_arc_at (pos 1) (pos 2) (pos 3) ∷ []
+some_lengths =
+    length_arc_at (pos 2) (pos 1) (pos 4) ∷ length_arc_at (pos 1) (pos 2) (pos 7) ∷ length_arc_at (pos 1) (pos 2)
+    (pos 3) ∷ []
 
 abbrev length_entries : List ((ℤ × ℤ) × Row)
-length_entries = ((pos 1, pos 2), codes "length" ∷ signed_decimal (pos 3) ∷ []) ∷ ((pos 2, pos 1), codes "length" ∷ signed_decimal (pos 4) ∷ []) ∷ []
+length_entries = ((pos 1, pos 2), codes "length" ∷ signed_decimal (pos 3) ∷ []) ∷
+    ((pos 2, pos 1), codes "length" ∷ signed_decimal (pos 4) ∷ []) ∷ []
 
-first_two : IsTold lengths length_kind AreLengthWords some_lengths length_entries (lookup (same_pair (pos 1, pos 2)) length_entries) (bundle (pos 1, pos 2) some_lengths)
+first_two : IsTold lengths length_kind AreLengthWords some_lengths length_entries
+    (lookup (same_pair (pos 1, pos 2)) length_entries) (bundle (pos 1, pos 2) some_lengths)
 first_two =
-    let least : AreLengthWords (bundle (pos 1, pos 2) some_lengths) (codes "length" ∷ signed_decimal (pos 3) ∷ []) = (pos 3, record { has = inr (inl refl); least = (omega (arith, ints), (omega (arith, ints), tt)) }, refl) in
-    some_words lengths length_kind AreLengthWords some_lengths length_entries _ _ (λ same. (same.there (pos 3) least.1).has) least
+    let least : AreLengthWords (bundle (pos 1, pos 2) some_lengths) (codes "length" ∷ signed_decimal (pos 3) ∷ []) =
+    (pos 3, record { has = inr (inl refl); least = (omega (arith, ints), (omega (arith, ints), tt)) }, refl) in
+    some_words lengths length_kind AreLengthWords some_lengths length_entries _ _
+    (λ same. (same.there (pos 3) least.1).has) least
 
-second_one : IsTold lengths length_kind AreLengthWords some_lengths length_entries (lookup (same_pair (pos 2, pos 1)) length_entries) (bundle (pos 2, pos 1) some_lengths)
+second_one : IsTold lengths length_kind AreLengthWords some_lengths length_entries
+    (lookup (same_pair (pos 2, pos 1)) length_entries) (bundle (pos 2, pos 1) some_lengths)
 second_one =
-    let least : AreLengthWords (bundle (pos 2, pos 1) some_lengths) (codes "length" ∷ signed_decimal (pos 4) ∷ []) = (pos 4, record { has = inl refl; least = (omega (arith, ints), tt) }, refl) in
-    some_words lengths length_kind AreLengthWords some_lengths length_entries _ _ (λ same. (same.there (pos 4) least.1).has) least
+    let least : AreLengthWords (bundle (pos 2, pos 1) some_lengths) (codes "length" ∷ signed_decimal (pos 4) ∷ []) =
+    (pos 4, record { has = inl refl; least = (omega (arith, ints), tt) }, refl) in
+    some_words lengths length_kind AreLengthWords some_lengths length_entries _ _
+    (λ same. (same.there (pos 4) least.1).has) least
 
-pub shown_lengths : IsShown (with_lengths some_lengths) (codes "kind sp\nnodes 3\nlines 3\npairs 2\npair 1 2 length 3\npair 2 1 length 4\n")
+pub shown_lengths : IsShown (with_lengths some_lengths)
+    (codes "kind sp\nnodes 3\nlines 3\npairs 2\npair 1 2 length 3\npair 2 1 length 4\n")
 unfolding digits IsStrictlySortedBy
 shown_lengths = (
   _,
-  record { pairs = _; are_pairs = pair_rows lengths length_kind AreLengthWords some_lengths length_entries ((refl, tt), (tt, tt)) (second_one, (first_two, (first_two, tt))) (λ p h. (h.1.0, (h.0, tt))); rows_are = refl },
+  record {
+    pairs = _;
+    are_pairs =
+        pair_rows lengths length_kind AreLengthWords some_lengths length_entries ((refl, tt), (tt, tt))
+        (second_one, (first_two, (first_two, tt))) (λ p h. (h.1.0, (h.0, tt)));
+    rows_are = refl;
+  },
   refl,
 )
 
 -- the worked `max` graph
 abbrev cap_entries : List ((ℤ × ℤ) × Row)
-cap_entries = ((pos 1, pos 2), codes "total" ∷ signed_decimal (pos 9) ∷ []) ∷ ((pos 1, pos 3), codes "total" ∷ signed_decimal (pos 2) ∷ []) ∷ []
+cap_entries = ((pos 1, pos 2), codes "total" ∷ signed_decimal (pos 9) ∷ []) ∷
+    ((pos 1, pos 3), codes "total" ∷ signed_decimal (pos 2) ∷ []) ∷ []
 
 abbrev AreTotal : List CapArc → Row → Type 0
 AreTotal arcs words = words ≡ total_words arcs
 
 abbrev CapTold : ℤ × ℤ → Type 0
-CapTold p = IsTold capacities total_kind AreTotal worked_capacities cap_entries (lookup (same_pair p) cap_entries) (bundle p worked_capacities)
+CapTold p =
+    IsTold capacities total_kind AreTotal worked_capacities cap_entries (lookup (same_pair p) cap_entries)
+    (bundle p worked_capacities)
 
 two_to_three : CapTold (pos 2, pos 3)
 two_to_three = record { meant = (λ h. record { is = refl }, λ h. refl); words = tt }
 
 one_to_two : CapTold (pos 1, pos 2)
-one_to_two = some_words capacities total_kind AreTotal worked_capacities cap_entries _ _ (λ same. let e = same.is in cc) refl
+one_to_two =
+    some_words capacities total_kind AreTotal worked_capacities cap_entries _ _ (λ same. let e = same.is in cc) refl
 
 one_to_three : CapTold (pos 1, pos 3)
-one_to_three = some_words capacities total_kind AreTotal worked_capacities cap_entries _ _ (λ same. let e = same.is in cc) refl
+one_to_three =
+    some_words capacities total_kind AreTotal worked_capacities cap_entries _ _ (λ same. let e = same.is in cc) refl
 
-pub shown_capacities : IsShown (flow_from (pos 1) (pos 3) worked_capacities) (codes "kind max\nnodes 3\nlines 4\nsource 1\nsink 3\npairs 2\npair 1 2 total 9\npair 1 3 total 2\n")
+pub shown_capacities : IsShown (flow_from (pos 1) (pos 3) worked_capacities)
+    (codes "kind max\nnodes 3\nlines 4\nsource 1\nsink 3\npairs 2\npair 1 2 total 9\npair 1 3 total 2\n")
 unfolding digits IsStrictlySortedBy
 shown_capacities = (
   _,
   record {
     pairs = _;
-    are_pairs = pair_rows capacities total_kind AreTotal worked_capacities cap_entries ((refl, tt), (tt, tt)) (two_to_three, (one_to_two, (one_to_three, (one_to_two, tt)))) (λ p h. (h.1.0, (h.1.1.0, tt)));
+    are_pairs =
+        pair_rows capacities total_kind AreTotal worked_capacities cap_entries ((refl, tt), (tt, tt))
+        (two_to_three, (one_to_two, (one_to_three, (one_to_two, tt)))) (λ p h. (h.1.0, (h.1.1.0, tt)));
     rows_are = refl;
   },
   refl,
@@ -120,7 +157,9 @@ shown_capacities = (
 
 -- the worked `min` graph
 abbrev some_costs : List ((ℤ × ℤ) × CostArc)
-some_costs = cost_arc_at (pos 1) (pos 3) (pos 2) ∷ cost_arc_at (pos 0) (pos 2) (pos 5) ∷ cost_arc_at (pos 2) (pos 2) (negsuc 6) ∷ []
+some_costs =
+    cost_arc_at (pos 1) (pos 3) (pos 2) ∷ cost_arc_at (pos 0) (pos 2) (pos 5) ∷ cost_arc_at (pos 2) (pos 2)
+    (negsuc 6) ∷ []
 
 abbrev cost_entries : List ((ℤ × ℤ) × Row)
 cost_entries = ((pos 1, pos 2), cost_words (bundle (pos 1, pos 2) some_costs)) ∷ []
@@ -131,17 +170,31 @@ AreCosts arcs words = words ≡ cost_words arcs
 -- the arcs of the worked `min` graph mean something
 never_nothing : costs.Same (bundle (pos 1, pos 2) some_costs) [] → ⊥
 never_nothing same =
-    let are : AllByRecursion costs.IsArc (bundle (pos 1, pos 2) some_costs) = (record { some = omega (arith, ints); room = omega (arith, ints) }, (record { some = omega (arith, ints); room = omega (arith, ints) }, (record { some = omega (arith, ints); room = omega (arith, ints) }, tt))) in
+    let are : AllByRecursion costs.IsArc (bundle (pos 1, pos 2) some_costs) = (
+      record { some = omega (arith, ints); room = omega (arith, ints) },
+      (
+        record { some = omega (arith, ints); room = omega (arith, ints) },
+        (record { some = omega (arith, ints); room = omega (arith, ints) }, tt),
+      ),
+    ) in
     let none : pos 7 ≡ pos 0 = cost_kind.same_capacity (bundle (pos 1, pos 2) some_costs) [] are tt same in
     cc
 
-costs_told : IsTold costs cost_kind AreCosts some_costs cost_entries (lookup (same_pair (pos 1, pos 2)) cost_entries) (bundle (pos 1, pos 2) some_costs)
+costs_told : IsTold costs cost_kind AreCosts some_costs cost_entries (lookup (same_pair (pos 1, pos 2)) cost_entries)
+    (bundle (pos 1, pos 2) some_costs)
 costs_told = some_words costs cost_kind AreCosts some_costs cost_entries _ _ never_nothing refl
 
-pub shown_costs : IsShown (with_costs some_costs) (codes "kind min\nnodes 2\nlines 3\nsupplies 0\npairs 1\npair 1 2 forced 3 cost -12 steps 2\n")
+pub shown_costs : IsShown (with_costs some_costs)
+    (codes "kind min\nnodes 2\nlines 3\nsupplies 0\npairs 1\npair 1 2 forced 3 cost -12 steps 2\n")
 unfolding digits IsStrictlySortedBy
 shown_costs = (
   _,
-  record { pairs = _; are_pairs = pair_rows costs cost_kind AreCosts some_costs cost_entries (tt, tt) (costs_told, (costs_told, (costs_told, tt))) (λ p h. (h.0, tt)); rows_are = refl },
+  record {
+    pairs = _;
+    are_pairs =
+        pair_rows costs cost_kind AreCosts some_costs cost_entries (tt, tt) (costs_told, (costs_told, (costs_told, tt)))
+        (λ p h. (h.0, tt));
+    rows_are = refl;
+  },
   refl,
 )

@@ -26,10 +26,13 @@ here = (pos 1, pos 2)
 
 -- the arcs of a pair, if all arcs are at one pair
 bundle_at : (p : ℤ × ℤ) (arcs : List CostArc) → bundle p (placed here arcs) ≡ cond (same_pair p here) arcs []
-bundle_at p arcs = ap (bundle p) (sym (append-nil (placed here arcs))) ∙ bundle_placed p here arcs [] ∙ ap (λ l. cond (same_pair p here) l []) (append-nil arcs)
+bundle_at p arcs =
+    ap (bundle p) (sym (append-nil (placed here arcs))) ∙ bundle_placed p here arcs []
+    ∙ ap (λ l. cond (same_pair p here) l []) (append-nil arcs)
 
 -- what holds of these arcs and of no arcs holds of the bundle at each pair
-at_each : (P : List CostArc → Type 0) (arcs : List CostArc) → P arcs → P [] → (p : ℤ × ℤ) → P (bundle p (placed here arcs))
+at_each : (P : List CostArc → Type 0) (arcs : List CostArc) → P arcs → P [] → (p : ℤ × ℤ)
+    → P (bundle p (placed here arcs))
 at_each P arcs all none p = subst P (sym (bundle_at p arcs)) (by_test (same_pair p here))
   where
     by_test : (t : Bool) → P (cond t arcs [])
@@ -40,7 +43,8 @@ in_order : (arcs : List CostArc) → AreInOrder (placed here arcs)
 in_order arcs = subst AreInOrder (append-nil (placed here arcs)) (order_placed here arcs [] tt tt).1
 
 -- placed arcs whose CAPs sum within the range make a valid problem
-pub valid_at : (arcs : List CostArc) → AllByRecursion (IsPlaced costs (pos 2)) (placed here arcs) → cost_cap arcs ≤ℤ pos (2 ^ 63 - 1) → IsValid (on_one_pair arcs)
+pub valid_at : (arcs : List CostArc) → AllByRecursion (IsPlaced costs (pos 2)) (placed here arcs)
+    → cost_cap arcs ≤ℤ pos (2 ^ 63 - 1) → IsValid (on_one_pair arcs)
 valid_at arcs each sum = (
   record {
     some_nodes = omega (arith, ints);
@@ -59,15 +63,26 @@ placed_arc a is low cap cost = record {
   numbers = (low, (cap, (cost, tt)));
 }
 
-pub canonical_at : (form : Form) (arcs : List CostArc) → AreCanonCosts form arcs → IsCanonInstance form (on_one_pair arcs)
-canonical_at form arcs c = record { in_order = in_order arcs; canonical = at_each (AreCanonCosts form) arcs c (cost_kind.none_canon form) }
+pub canonical_at : (form : Form) (arcs : List CostArc) → AreCanonCosts form arcs
+    → IsCanonInstance form (on_one_pair arcs)
+canonical_at form arcs c =
+    record { in_order = in_order arcs; canonical = at_each (AreCanonCosts form) arcs c (cost_kind.none_canon form) }
 
 -- if the problem is canonical, its arcs are canonical
-pub canonical_here : (form : Form) (arcs : List CostArc) → IsCanonInstance form (on_one_pair arcs) → AreCanonCosts form arcs
+pub canonical_here : (form : Form) (arcs : List CostArc) → IsCanonInstance form (on_one_pair arcs)
+    → AreCanonCosts form arcs
 canonical_here form arcs c = subst (AreCanonCosts form) (bundle_at here arcs) (c.canonical here)
 
-pub same_at : (xs ys : List CostArc) → SameCurve xs ys → SameGraph costs (record { nodes = pos 2; arcs = placed here xs }) (record { nodes = pos 2; arcs = placed here ys })
-same_at xs ys s = record { nodes = refl; bundles = λ p. subst (λ l. SameCurve l (bundle p (placed here ys))) (sym (bundle_at p xs)) (subst (λ l. SameCurve (cond (same_pair p here) xs []) l) (sym (bundle_at p ys)) (by_test (same_pair p here))) }
+pub same_at : (xs ys : List CostArc) → SameCurve xs ys
+    → SameGraph costs (record { nodes = pos 2; arcs = placed here xs })
+    (record { nodes = pos 2; arcs = placed here ys })
+same_at xs ys s =
+    record {
+      nodes = refl;
+      bundles =
+          λ p. subst (λ l. SameCurve l (bundle p (placed here ys))) (sym (bundle_at p xs))
+          (subst (λ l. SameCurve (cond (same_pair p here) xs []) l) (sym (bundle_at p ys)) (by_test (same_pair p here)));
+    }
   where
     by_test : (t : Bool) → SameCurve (cond t xs []) (cond t ys [])
     by_test true = s
@@ -84,7 +99,10 @@ worked_one_valid =
         one_placed _ _ _ (omega (arith, ints)) (omega (arith, ints)) refl refl refl,
         (
           one_placed _ _ _ (omega (arith, ints)) (omega (arith, ints)) refl refl refl,
-          (one_placed _ _ _ (omega (arith, ints)) (omega (arith, ints)) refl refl refl, (one_placed _ _ _ (omega (arith, ints)) (omega (arith, ints)) refl refl refl, tt)),
+          (
+            one_placed _ _ _ (omega (arith, ints)) (omega (arith, ints)) refl refl refl,
+            (one_placed _ _ _ (omega (arith, ints)) (omega (arith, ints)) refl refl refl, tt),
+          ),
         ),
       ),
     )
@@ -96,7 +114,10 @@ worked_two_valid =
       one_placed _ _ _ (omega (arith, ints)) (omega (arith, ints)) refl refl refl,
       (
         one_placed _ _ _ (omega (arith, ints)) (omega (arith, ints)) refl refl refl,
-        (one_placed _ _ _ (omega (arith, ints)) (omega (arith, ints)) refl refl refl, (one_placed _ _ _ (omega (arith, ints)) (omega (arith, ints)) refl refl refl, tt)),
+        (
+          one_placed _ _ _ (omega (arith, ints)) (omega (arith, ints)) refl refl refl,
+          (one_placed _ _ _ (omega (arith, ints)) (omega (arith, ints)) refl refl refl, tt),
+        ),
       ),
     )
     (omega (arith, ints))

@@ -30,7 +30,8 @@ each_of P h [] = tt
 each_of P h (x ∷ xs) = (h, each_of P h xs)
 
 -- what holds of the mapped list holds of the image of each element
-all_unmap : {X Y : Type 0} (P : Y → Type 0) (f : X → Y) (xs : List X) → AllByRecursion P (map f xs) → AllByRecursion (λ x. P (f x)) xs
+all_unmap : {X Y : Type 0} (P : Y → Type 0) (f : X → Y) (xs : List X) → AllByRecursion P (map f xs)
+    → AllByRecursion (λ x. P (f x)) xs
 all_unmap P f [] h = tt
 all_unmap P f (x ∷ xs) h = (h.0, all_unmap P f xs h.1)
 
@@ -42,23 +43,29 @@ module _ {Arc : Type 0} where
   -- a pair whose SRC is below all SRCs has no arcs
   none_below : (p : ℤ × ℤ) (ys : List ((ℤ × ℤ) × Arc)) → AllByRecursion (λ b. p.0 <ℤ b.0.0) ys → bundle p ys ≡ []
   none_below p [] h = refl
-  none_below p (b ∷ ys) h = ap (λ o. cond (is_eq o) (b.1 ∷ bundle p ys) (bundle p ys)) (less_by_tail p b.0 h.0) ∙ none_below p ys h.1
+  none_below p (b ∷ ys) h =
+      ap (λ o. cond (is_eq o) (b.1 ∷ bundle p ys) (bundle p ys)) (less_by_tail p b.0 h.0) ∙ none_below p ys h.1
 
   -- each pair has arcs in at most one of the two lists
-  in_one : (Q : List Arc → Type 0) (p : ℤ × ℤ) (xs ys : List ((ℤ × ℤ) × Arc)) → IsBelow xs ys → Q (bundle p xs) → Q (bundle p ys) → Q (bundle p (xs ++ ys))
+  in_one : (Q : List Arc → Type 0) (p : ℤ × ℤ) (xs ys : List ((ℤ × ℤ) × Arc)) → IsBelow xs ys → Q (bundle p xs)
+      → Q (bundle p ys) → Q (bundle p (xs ++ ys))
   in_one Q p xs ys below low high = subst Q (sym (bundle_append p xs ys)) (by_low (bundle p xs) refl low)
     where
       by_low : (us : List Arc) → bundle p xs ≡ us → Q us → Q (us ++ bundle p ys)
       by_low [] e h = high
       by_low (u ∷ us) e h =
-          let above = at_some (λ a. AllByRecursion (λ b. a.0.0 <ℤ b.0.0) ys) (λ q. AllByRecursion (λ b. q.0 <ℤ b.0.0) ys) (λ a g. g) xs p u us below e in
+          let above =
+          at_some (λ a. AllByRecursion (λ b. a.0.0 <ℤ b.0.0) ys) (λ q. AllByRecursion (λ b. q.0 <ℤ b.0.0) ys)
+          (λ a g. g) xs p u us below e in
           subst (λ l. Q ((u ∷ us) ++ l)) (sym (none_below p ys above)) (subst Q (sym (append-nil (u ∷ us))) h)
 
   -- two sorted lists, the first below the second, are sorted together
   order_joined : (xs ys : List ((ℤ × ℤ) × Arc)) → IsBelow xs ys → AreInOrder xs → AreInOrder ys → AreInOrder (xs ++ ys)
   order_joined [] ys below r s = s
   order_joined (a ∷ xs) ys below r s = (
-    all_append (λ b. IsTrue (pair_le a.0 b.0)) xs ys r.0 (all_mono (λ b. a.0.0 <ℤ b.0.0) (λ b. IsTrue (pair_le a.0 b.0)) (λ b h. ap is_le (less_by_tail a.0 b.0 h)) ys below.0),
+    all_append (λ b. IsTrue (pair_le a.0 b.0)) xs ys r.0
+        (all_mono (λ b. a.0.0 <ℤ b.0.0) (λ b. IsTrue (pair_le a.0 b.0))
+        (λ b h. ap is_le (less_by_tail a.0 b.0 h)) ys below.0),
     order_joined xs ys below.1 r.1 s,
   )
 
@@ -79,23 +86,28 @@ module _ {Arc : Type 0} (kind : ArcKind Arc) (laws : IsKind kind) (form : Form) 
   }
 
   -- canonical arcs have no other SRCs
-  same_tails : (F : ℤ → Type 0) (xs cs : List ((ℤ × ℤ) × Arc)) → AreCanonArcs xs cs → AllByRecursion (λ a. F a.0.0) xs → AllByRecursion (λ a. F a.0.0) cs
+  same_tails : (F : ℤ → Type 0) (xs cs : List ((ℤ × ℤ) × Arc)) → AreCanonArcs xs cs → AllByRecursion (λ a. F a.0.0) xs
+      → AllByRecursion (λ a. F a.0.0) cs
   same_tails F xs cs c h = all_from (λ a. F a.0.0) cs (λ q. by_bundle q (bundle q xs) refl)
     where
       by_bundle : (q : ℤ × ℤ) (us : List Arc) → bundle q xs ≡ us → AllByRecursion (λ x. F q.0) (bundle q cs)
       by_bundle q [] e =
           let told = laws.meaning.same_sym [] (bundle q cs) (subst (λ l. kind.Same l (bundle q cs)) e (c.same.at q)) in
           subst (AllByRecursion (λ x. F q.0)) (sym (laws.nothing_told form (bundle q cs) (c.canonical q) told)) tt
-      by_bundle q (u ∷ us) e = each_of (F q.0) (at_some (λ a. F a.0.0) (λ p. F p.0) (λ a g. g) xs q u us h e) (bundle q cs)
+      by_bundle q (u ∷ us) e =
+          each_of (F q.0) (at_some (λ a. F a.0.0) (λ p. F p.0) (λ a g. g) xs q u us h e) (bundle q cs)
 
   -- canonical arcs are below others if the arcs are
-  below_canon : (xs cs ys ds : List ((ℤ × ℤ) × Arc)) → AreCanonArcs xs cs → AreCanonArcs ys ds → IsBelow xs ys → IsBelow cs ds
+  below_canon : (xs cs ys ds : List ((ℤ × ℤ) × Arc)) → AreCanonArcs xs cs → AreCanonArcs ys ds → IsBelow xs ys
+      → IsBelow cs ds
   below_canon xs cs ys ds c d h =
       same_tails (λ t. AllByRecursion (λ b. t <ℤ b.0.0) ds) xs cs c
-      (all_mono (λ a. AllByRecursion (λ b. a.0.0 <ℤ b.0.0) ys) (λ a. AllByRecursion (λ b. a.0.0 <ℤ b.0.0) ds) (λ a g. same_tails (λ u. a.0.0 <ℤ u) ys ds d g) xs h)
+      (all_mono (λ a. AllByRecursion (λ b. a.0.0 <ℤ b.0.0) ys) (λ a. AllByRecursion (λ b. a.0.0 <ℤ b.0.0) ds)
+      (λ a g. same_tails (λ u. a.0.0 <ℤ u) ys ds d g) xs h)
 
   -- the canonical arcs of two ranges are those of both together
-  joined_canon : (xs cs ys ds : List ((ℤ × ℤ) × Arc)) → AreCanonArcs xs cs → AreCanonArcs ys ds → IsBelow xs ys → AreCanonArcs (xs ++ ys) (cs ++ ds)
+  joined_canon : (xs cs ys ds : List ((ℤ × ℤ) × Arc)) → AreCanonArcs xs cs → AreCanonArcs ys ds → IsBelow xs ys
+      → AreCanonArcs (xs ++ ys) (cs ++ ds)
   joined_canon xs cs ys ds c d h =
       let below = below_canon xs cs ys ds c d h in
       record {
@@ -105,7 +117,8 @@ module _ {Arc : Type 0} (kind : ArcKind Arc) (laws : IsKind kind) (form : Form) 
         same = same_joined (SameAt kind laws.meaning) (placed_meaning kind laws.meaning) xs cs ys ds c.same d.same;
       }
 
-module _ {Arc : Type 0} (kind : ArcKind Arc) (make : Graph Arc → Instance) (canon : IsCanonMaking kind make) (form : Form) where
+module _ {Arc : Type 0} (kind : ArcKind Arc) (make : Graph Arc → Instance) (canon : IsCanonMaking kind make)
+    (form : Form) where
   abbrev CanonArcs : List ((ℤ × ℤ) × Arc) → List ((ℤ × ℤ) × Arc) → Type 0
   CanonArcs xs cs = AreCanonArcs kind canon.making.kind_laws form xs cs
 
@@ -120,22 +133,33 @@ module _ {Arc : Type 0} (kind : ArcKind Arc) (make : Graph Arc → Instance) (ca
       }
 
   -- if the arc lines of ranges are below each other, the arcs are
-  below_arcs : (H : Graph Arc) (Hs : List (Graph Arc)) → AreBelow (arc_lines (make H)) (flat_map arc_lines (map make Hs)) → IsBelow H.arcs (all_arcs Hs)
+  below_arcs : (H : Graph Arc) (Hs : List (Graph Arc))
+      → AreBelow (arc_lines (make H)) (flat_map arc_lines (map make Hs)) → IsBelow H.arcs (all_arcs Hs)
   below_arcs H Hs h =
       let line : (ℤ × ℤ) × Arc → (ℤ × ℤ) × List ℤ = λ a. (a.0, kind.numbers a.1) in
-      let lines = subst (λ l. AreBelow (map line H.arcs) l) (all_lines kind make canon.making Hs) (subst (λ l. AreBelow l (flat_map arc_lines (map make Hs))) (canon.making.lines_are H) h) in
-      all_mono (λ a. AllByRecursion (λ (m : (ℤ × ℤ) × List ℤ). a.0.0 <ℤ m.0.0) (map line (all_arcs Hs))) (λ a. AllByRecursion (λ b. a.0.0 <ℤ b.0.0) (all_arcs Hs))
+      let lines =
+      subst (λ l. AreBelow (map line H.arcs) l) (all_lines kind make canon.making Hs)
+      (subst (λ l. AreBelow l (flat_map arc_lines (map make Hs))) (canon.making.lines_are H) h) in
+      all_mono (λ a. AllByRecursion (λ (m : (ℤ × ℤ) × List ℤ). a.0.0 <ℤ m.0.0) (map line (all_arcs Hs)))
+      (λ a. AllByRecursion (λ b. a.0.0 <ℤ b.0.0) (all_arcs Hs))
       (λ a g. all_unmap (λ (m : (ℤ × ℤ) × List ℤ). a.0.0 <ℤ m.0.0) line (all_arcs Hs) g) H.arcs
-      (all_unmap (λ (l : (ℤ × ℤ) × List ℤ). AllByRecursion (λ (m : (ℤ × ℤ) × List ℤ). l.0.0 <ℤ m.0.0) (map line (all_arcs Hs))) line H.arcs lines)
+      (all_unmap
+      (λ (l : (ℤ × ℤ) × List ℤ). AllByRecursion (λ (m : (ℤ × ℤ) × List ℤ). l.0.0 <ℤ m.0.0)
+      (map line (all_arcs Hs))) line H.arcs lines)
 
-  all_canon : (Hs Cs : List (Graph Arc)) → AreCanonsOf form (map make Cs) (map make Hs) → AreRanges (map make Hs) → CanonArcs (all_arcs Hs) (all_arcs Cs)
+  all_canon : (Hs Cs : List (Graph Arc)) → AreCanonsOf form (map make Cs) (map make Hs) → AreRanges (map make Hs)
+      → CanonArcs (all_arcs Hs) (all_arcs Cs)
   all_canon [] [] c r = none_canon kind canon.making.kind_laws form
   all_canon [] (C ∷ Cs) c r = absurd c
   all_canon (H ∷ Hs) [] c r = absurd c
-  all_canon (H ∷ Hs) (C ∷ Cs) c r = joined_canon kind canon.making.kind_laws form H.arcs C.arcs (all_arcs Hs) (all_arcs Cs) (one_canon H C c.0) (all_canon Hs Cs c.1 r.1) (below_arcs H Hs r.0)
+  all_canon (H ∷ Hs) (C ∷ Cs) c r =
+      joined_canon kind canon.making.kind_laws form H.arcs C.arcs (all_arcs Hs) (all_arcs Cs) (one_canon H C c.0)
+      (all_canon Hs Cs c.1 r.1) (below_arcs H Hs r.0)
 
   -- a graph with the canonical arcs of ranges is canonical
-  graph_canon : (G K : Graph Arc) (xs : List ((ℤ × ℤ) × Arc)) (Cs : List (Graph Arc)) → AllByRecursion (λ (C : Graph Arc). K.nodes ≡ C.nodes) Cs → AllByRecursion IsValid (map make Cs) → AreParts (map make Cs) (make K) → CanonArcs xs (all_arcs Cs) → IsSame (make G) (make K)
+  graph_canon : (G K : Graph Arc) (xs : List ((ℤ × ℤ) × Arc)) (Cs : List (Graph Arc))
+      → AllByRecursion (λ (C : Graph Arc). K.nodes ≡ C.nodes) Cs → AllByRecursion IsValid (map make Cs)
+      → AreParts (map make Cs) (make K) → CanonArcs xs (all_arcs Cs) → IsSame (make G) (make K)
       → IsCanonInstanceOf form (make K) (make G)
   graph_canon G K xs [] n v p c s = absurd (p.some refl)
   graph_canon G K xs (C ∷ Cs) n v p c s =
@@ -155,7 +179,9 @@ module _ {Arc : Type 0} (kind : ArcKind Arc) (make : Graph Arc → Instance) (ca
         same = s;
       }
 
-  made_canon : (G : Graph Arc) (J : Instance) (parts canons : List Instance) → SameHead (make G) J → IsSame (make G) J → AreParts parts (make G) → AreCanonsOf form canons parts → AreRanges parts → AreParts canons J → IsCanonInstanceOf form J (make G)
+  made_canon : (G : Graph Arc) (J : Instance) (parts canons : List Instance) → SameHead (make G) J → IsSame (make G) J
+      → AreParts parts (make G) → AreCanonsOf form canons parts → AreRanges parts → AreParts canons J
+      → IsCanonInstanceOf form J (make G)
   made_canon G J parts canons h s p c r q =
       let making = canon.making in
       let o = making.opens G J h in
@@ -163,24 +189,31 @@ module _ {Arc : Type 0} (kind : ArcKind Arc) (make : Graph Arc → Instance) (ca
       let q' : AreParts canons (make K) = subst (AreParts canons) o.is q in
       let hs = graphs_of kind make making G parts p.heads in
       let cs = graphs_of kind make making K canons q'.heads in
-      let each = subst (AreCanonsOf form (map make cs.graphs)) hs.are (subst (λ l. AreCanonsOf form l parts) cs.are c) in
+      let each =
+      subst (AreCanonsOf form (map make cs.graphs)) hs.are (subst (λ l. AreCanonsOf form l parts) cs.are c) in
       let all = all_canon hs.graphs cs.graphs each (subst AreRanges hs.are r) in
       subst (λ W. IsCanonInstanceOf form W (make G)) (sym o.is)
-      (graph_canon G K (all_arcs hs.graphs) cs.graphs cs.nodes_are (subst (AllByRecursion IsValid) cs.are (canons_valid form canons parts c)) (subst (λ l. AreParts l (make K)) cs.are q') all (subst (IsSame (make G)) o.is s))
+      (graph_canon G K (all_arcs hs.graphs) cs.graphs cs.nodes_are
+      (subst (AllByRecursion IsValid) cs.are (canons_valid form canons parts c))
+      (subst (λ l. AreParts l (make K)) cs.are q') all (subst (IsSame (make G)) o.is s))
 
 -- the problem made of the canonical instances of ranges is the canonical instance
-pub canon_made : (form : Form) (I J : Instance) (c : HasCanonParts form I) → AreRanges c.parts → AreParts c.canons J → IsCanonInstanceOf form J I
+pub canon_made : (form : Form) (I J : Instance) (c : HasCanonParts form I) → AreRanges c.parts → AreParts c.canons J
+    → IsCanonInstanceOf form J I
 canon_made form I J c r w =
     let own = own_head I c.parts c.parts_are in
     let same = whole_same form I J c w in
     by_kind (λ I. SameHead I J → IsSame I J → AreParts c.parts I → IsCanonInstanceOf form J I) (λ Arc kind make canon G h s p. made_canon kind make canon form G J c.parts c.canons h s p c.canons_are r w) I own (head_then I I J own same) same c.parts_are
 
 -- the canonical instance is made of the canonical instances of ranges
-made_of_canon : (form : Form) (I J : Instance) (c : HasCanonParts form I) → AreRanges c.parts → IsCanonInstanceOf form J I → AreParts c.canons J
+made_of_canon : (form : Form) (I J : Instance) (c : HasCanonParts form I) → AreRanges c.parts
+    → IsCanonInstanceOf form J I → AreParts c.canons J
 made_of_canon form I J c r j =
     let (W, w) = whole_of form I c in
     let canon = canon_made form I W c r w in
-    subst (AreParts c.canons) (canon_one form W J canon.canonical j.canonical (trans_of W I J (sym_of I W canon.same) j.same)) w
+    subst (AreParts c.canons)
+    (canon_one form W J canon.canonical j.canonical (trans_of W I J (sym_of I W canon.same) j.same)) w
 
-pub ranges_canon : (form : Form) (I J : Instance) (c : HasCanonParts form I) → AreRanges c.parts → AreParts c.canons J ↔ IsCanonInstanceOf form J I
+pub ranges_canon : (form : Form) (I J : Instance) (c : HasCanonParts form I) → AreRanges c.parts
+    → AreParts c.canons J ↔ IsCanonInstanceOf form J I
 ranges_canon form I J c r = (canon_made form I J c r, made_of_canon form I J c r)

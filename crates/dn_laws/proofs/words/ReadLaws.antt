@@ -59,7 +59,9 @@ forms_cases P h forms e = go forms.now e
     go (a ∷ []) e = absurd (omega (arith, ap length e))
     go (a ∷ b ∷ c ∷ rest) e = absurd (omega (arith, ap length e))
     go (a ∷ b ∷ []) e =
-        subst (λ (t : Text). P (record { ref_ptr = forms.ref_ptr; now = record { ref_ptr = a.ref_ptr; now = t } ∷ b ∷ [] }))
+        subst
+        (λ (t : Text). P
+        (record { ref_ptr = forms.ref_ptr; now = record { ref_ptr = a.ref_ptr; now = t } ∷ b ∷ [] }))
         (sym (ap first e))
         (subst (λ (t : Text). P (record {
           ref_ptr = forms.ref_ptr;
@@ -121,7 +123,8 @@ mistaken_by : (told : Option Asked) (k : ErrorKind) (ks : Kinds) (r : Request) �
     → Answers (k ∷ ks) told r → (r ≡ requests.Bad) ⊎ (r ≡ requests.Memory)
 mistaken_by told k ks (requests.Command command) none h = absurd (some_fault k ks h.0)
 mistaken_by told k ks (requests.Print text) none (inl h) = absurd (true≢false (no_call (k ∷ ks) DisplayHelp none h))
-mistaken_by told k ks (requests.Print text) none (inr h) = absurd (true≢false (no_call (k ∷ ks) DisplayVersion none h.0))
+mistaken_by told k ks (requests.Print text) none (inr h) =
+    absurd (true≢false (no_call (k ∷ ks) DisplayVersion none h.0))
 mistaken_by told k ks requests.Bad none h = inl refl
 mistaken_by told k ks requests.Memory none h = inr refl
 
@@ -154,19 +157,25 @@ pub mistaken : (words : List Text) (k : ErrorKind) (ks : Kinds)
     → ((p q r : ℕ × ℕ) → fault_of (dnorm_app (form_refs p q r)) words ≡ k ∷ ks) → NoCalls (k ∷ ks)
     → (r : Request) → IsReadByClap words r → (r ≡ requests.Bad) ⊎ (r ≡ requests.Memory)
 mistaken words k ks faults none r h =
-    let e = forms_cases (λ (f : Bor (List (Bor Text))). fault_of (dnorm_app f) words ≡ k ∷ ks) faults h.forms h.are_forms in
+    let e =
+    forms_cases (λ (f : Bor (List (Bor Text))). fault_of (dnorm_app f) words ≡ k ∷ ks) faults h.forms h.are_forms in
     mistaken_by _ k ks r none (of_same _ _ _ r e h.answer)
 
 pub helped : (words : List Text)
     → ((p q r : ℕ × ℕ) → fault_of (dnorm_app (form_refs p q r)) words ≡ DisplayHelp ∷ [])
     → (r : Request) → IsReadByClap words r → Prints r ⊎ (r ≡ requests.Memory)
 helped words faults r h =
-    let e = forms_cases (λ (f : Bor (List (Bor Text))). fault_of (dnorm_app f) words ≡ DisplayHelp ∷ []) faults h.forms h.are_forms in
+    let e =
+    forms_cases
+    (λ (f : Bor (List (Bor Text))). fault_of (dnorm_app f) words ≡ DisplayHelp ∷ []) faults h.forms h.are_forms in
     helped_by _ r (of_same _ _ _ r e h.answer)
 
 pub versioned : (words : List Text)
     → ((p q r : ℕ × ℕ) → fault_of (dnorm_app (form_refs p q r)) words ≡ DisplayVersion ∷ [])
     → (r : Request) → IsReadByClap words r → PrintsVersion r ⊎ (r ≡ requests.Memory)
 versioned words faults r h =
-    let e = forms_cases (λ (f : Bor (List (Bor Text))). fault_of (dnorm_app f) words ≡ DisplayVersion ∷ []) faults h.forms h.are_forms in
+    let e =
+    forms_cases
+    (λ (f : Bor (List (Bor Text))). fault_of
+    (dnorm_app f) words ≡ DisplayVersion ∷ []) faults h.forms h.are_forms in
     versioned_by _ r (of_same _ _ _ r e h.answer)

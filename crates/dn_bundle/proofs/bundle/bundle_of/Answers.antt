@@ -5,7 +5,12 @@ use Rattle.dn_bundle.proofs.BundleLaws.{none_cap, next_arc, next_same, next_fits
 use Rattle.dn_bundle.proofs.bundle.bundle_of.Goals as goal
 
 pub loop-arc-init : goal.loop-arc-init
-loop-arc-init g c = let laws = g.met.B.Bundle.laws in (subst (λ l. g.B.Bundle.bundle.kind.Same l []) (sym (c.empty-bundle.ensures One)) (laws.meaning.same_refl []), none_cap g.B.Bundle.bundle.kind laws)
+loop-arc-init g c = let laws =
+    g.met.B.Bundle.laws in (
+      subst (λ l. g.B.Bundle.bundle.kind.Same l []) (sym (c.empty-bundle.ensures One))
+          (laws.meaning.same_refl []),
+      none_cap g.B.Bundle.bundle.kind laws,
+    )
 
 pub add-requires : goal.add-requires
 add-requires g c = next_arc g.B.Bundle.bundle.kind g.met.B.Bundle.laws c.args.arcs.now c.loop-arc.arc-index c.arc-item.result c.requires c.loop-arc-test.true c.arc-item.is
@@ -30,7 +35,11 @@ pub loop-arc-smaller : goal.loop-arc-smaller
 loop-arc-smaller g c = let more = c.loop-arc-test.true in omega arith
 
 pub returns-clause-ok : goal.returns-clause-ok
-returns-clause-ok g c = subst (g.B.Bundle.bundle.kind.Same (g.B.Bundle.bundle.told One c.loop-arc.bundle)) (take_all c.loop-arc.arc-index c.args.arcs.now c.loop-arc-test.false) c.loop-arc.invariant.0
+returns-clause-ok g c =
+    subst (g.B.Bundle.bundle.kind.Same (g.B.Bundle.bundle.told One c.loop-arc.bundle))
+    (take_all c.loop-arc.arc-index c.args.arcs.now c.loop-arc-test.false) c.loop-arc.invariant.0
 
 pub returns-clause-fits : goal.returns-clause-fits
-returns-clause-fits g c = subst (λ l. g.B.Bundle.bundle.kind.capacity l ≤ℤ pos (2 ^ 63 - 1)) (take_all c.loop-arc.arc-index c.args.arcs.now c.loop-arc-test.false) c.loop-arc.invariant.1
+returns-clause-fits g c =
+    subst (λ l. g.B.Bundle.bundle.kind.capacity l ≤ℤ pos (2 ^ 63 - 1))
+    (take_all c.loop-arc.arc-index c.args.arcs.now c.loop-arc-test.false) c.loop-arc.invariant.1

@@ -10,7 +10,9 @@ pub overflow_add-result : goal.overflow_add-result
 overflow_add-result c = unit_fits c.args.cost.now c.in-Some.step.0 c.requires.low c.requires.high (search rules)
 
 pub returns-in-Some : goal.returns-in-Some
-returns-in-Some c = ap Some (unit_is c.args.cost.now c.in-Some.step.0 c.requires.low c.requires.high (search rules)) ∙ sym (ap (unit_cost c.args.cost.now) c.in-Some.is)
+returns-in-Some c =
+    ap Some (unit_is c.args.cost.now c.in-Some.step.0 c.requires.low c.requires.high (search rules))
+    ∙ sym (ap (unit_cost c.args.cost.now) c.in-Some.is)
 
 pub returns-in-None : goal.returns-in-None
 returns-in-None c = sym (ap (unit_cost c.args.cost.now) c.in-None.is)

@@ -7,4 +7,5 @@ returns-in-Ok-clause-outcome g c =
 
 pub returns-in-Err-clause-outcome : goal.returns-in-Err-clause-outcome
 returns-in-Err-clause-outcome g c =
-    run_refused g.K.Sink.sink c.args.sink.now c.args.sink.now c.args.form (g.S.Source.source.gives c.args.source.now) (g.S.Source.source.gives c.read_from.new.source) c.in-Err.refusal c.in-Err.ensures.outcome
+    run_refused g.K.Sink.sink c.args.sink.now c.args.sink.now c.args.form (g.S.Source.source.gives c.args.source.now)
+    (g.S.Source.source.gives c.read_from.new.source) c.in-Err.refusal c.in-Err.ensures.outcome

@@ -17,25 +17,37 @@ pub returns-in_err-arc_line : goal.returns-in_err-arc_line
 returns-in_err-arc_line g c =
     let told = g.B.Bundle.bundle.told c.args.form c.args.bundle.now in
     pass_stopped c.arc_line.new.block c.from_residual.result c.from_residual.ensures.0
-    (row_stop (arc_row g.B.Bundle.bundle.kind) c.loop.block (placed c.args.pair.now (drop c.loop.counter told)) (placed c.args.pair.now (drop (c.loop.counter + 1) told)) (c.args.pair.now, c.in-Some.arc)
-    (ap (placed c.args.pair.now) (drop_get told c.loop.counter c.in-Some.arc (sym c.loop.invariant.next ∙ c.in-Some.is)))
-    (arc_text g.B.Bundle.bundle.kind c.args.pair.now c.in-Some.arc _ _ refl (g.met.B.Bundle.same_numbers c.in-Some.arc)) c.loop.invariant.has c.in_err-arc_line.ensures)
+    (row_stop (arc_row g.B.Bundle.bundle.kind) c.loop.block (placed c.args.pair.now (drop c.loop.counter told))
+    (placed c.args.pair.now (drop (c.loop.counter + 1) told)) (c.args.pair.now, c.in-Some.arc)
+    (ap (placed c.args.pair.now)
+    (drop_get told c.loop.counter c.in-Some.arc (sym c.loop.invariant.next ∙ c.in-Some.is)))
+    (arc_text g.B.Bundle.bundle.kind c.args.pair.now c.in-Some.arc _ _ refl
+    (g.met.B.Bundle.same_numbers c.in-Some.arc)) c.loop.invariant.has c.in_err-arc_line.ensures)
 
 pub loop-preserved : goal.loop-preserved
 loop-preserved g c =
     let told = g.B.Bundle.bundle.told c.args.form c.args.bundle.now in
-    let text : ℕ → List ℕ = λ i. text_of (map (arc_row g.B.Bundle.bundle.kind) (placed c.args.pair.now (drop i told))) in
+    let text : ℕ
+    → List ℕ = λ i. text_of (map (arc_row g.B.Bundle.bundle.kind) (placed c.args.pair.now (drop i told))) in
     elim c.match-next.branch [
       | in-Some+in_ok-arc_line w ↦
           let here = sym c.loop.invariant.next ∙ w.in-Some.is in
           record {
             next = w.next-is ∙ w.canon_after-next.ensures c.loop.counter here;
             has =
-                subst (λ s. HasPut g.K.Sink.sink c.args.sink.now s (c.match-next.block ++ text (c.loop.counter + 1)) (c.args.block.now ++ text 0)) (sym w.sink-is)
-                (subst (λ b. HasPut g.K.Sink.sink c.args.sink.now w.arc_line.new.sink (b ++ text (c.loop.counter + 1)) (c.args.block.now ++ text 0)) (sym w.block-is)
-                (row_more (arc_row g.B.Bundle.bundle.kind) c.loop.block (placed c.args.pair.now (drop c.loop.counter told)) (placed c.args.pair.now (drop (c.loop.counter + 1) told)) (c.args.pair.now, w.in-Some.arc)
+                subst
+                (λ s. HasPut g.K.Sink.sink c.args.sink.now s (c.match-next.block ++ text (c.loop.counter + 1))
+                (c.args.block.now ++ text 0)) (sym w.sink-is)
+                (subst
+                (λ b. HasPut g.K.Sink.sink c.args.sink.now w.arc_line.new.sink (b ++ text (c.loop.counter + 1))
+                (c.args.block.now ++ text 0)) (sym w.block-is)
+                (row_more (arc_row g.B.Bundle.bundle.kind) c.loop.block
+                (placed c.args.pair.now (drop c.loop.counter told))
+                (placed c.args.pair.now (drop (c.loop.counter + 1) told)) (c.args.pair.now, w.in-Some.arc)
                 (ap (placed c.args.pair.now) (drop_get told c.loop.counter w.in-Some.arc here))
-                (arc_text g.B.Bundle.bundle.kind c.args.pair.now w.in-Some.arc _ _ refl (g.met.B.Bundle.same_numbers w.in-Some.arc)) c.loop.invariant.has w.in_ok-arc_line.ensures));
+                (arc_text g.B.Bundle.bundle.kind c.args.pair.now w.in-Some.arc _ _ refl
+                (g.met.B.Bundle.same_numbers w.in-Some.arc)) c.loop.invariant.has w.in_ok-arc_line.ensures));
           }
-      | in_default w ↦ absurd (some_below told c.loop.counter c.loop.next (omega arith) c.loop.invariant.next w.in_default.not-Some)
+      | in_default w ↦ absurd
+          (some_below told c.loop.counter c.loop.next (omega arith) c.loop.invariant.next w.in_default.not-Some)
     ]

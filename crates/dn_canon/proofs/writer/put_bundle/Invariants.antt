@@ -10,5 +10,7 @@ invariant-loop g l =
     let told = g.B.Bundle.bundle.told l.form l.bundle in
     record {
       next : l.next ≡ slice_get told l.counter;
-      has : HasPut g.K.Sink.sink l.fn.sink l.sink (l.block ++ text_of (map (arc_row g.B.Bundle.bundle.kind) (placed l.pair (drop l.counter told)))) (l.fn.block ++ text_of (map (arc_row g.B.Bundle.bundle.kind) (placed l.pair told)));
+      has : HasPut g.K.Sink.sink l.fn.sink l.sink
+          (l.block ++ text_of (map (arc_row g.B.Bundle.bundle.kind) (placed l.pair (drop l.counter told))))
+          (l.fn.block ++ text_of (map (arc_row g.B.Bundle.bundle.kind) (placed l.pair told)));
     }

@@ -8,4 +8,6 @@ use Rattle.dn_canon.proofs.writer.put_table.Given as goal
 abbrev pub invariant-loop-pair : goal.invariant-loop-pair
 invariant-loop-pair g l =
     let tells = g.B.Bundle.bundle.told l.form in
-    HasPut g.K.Sink.sink l.fn.sink l.sink (l.block ++ text_of (map (arc_row g.B.Bundle.bundle.kind) (told_arcs tells l.pair-iterator))) (l.fn.block ++ text_of (map (arc_row g.B.Bundle.bundle.kind) (told_arcs tells l.table)))
+    HasPut g.K.Sink.sink l.fn.sink l.sink
+    (l.block ++ text_of (map (arc_row g.B.Bundle.bundle.kind) (told_arcs tells l.pair-iterator)))
+    (l.fn.block ++ text_of (map (arc_row g.B.Bundle.bundle.kind) (told_arcs tells l.table)))

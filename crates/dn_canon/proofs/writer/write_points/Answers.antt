@@ -8,7 +8,9 @@ use Rattle.dn_canon.proofs.PutLaws.{row_more, row_stop}
 use Rattle.dn_canon.proofs.writer.write_points.Goals as goal
 
 pub loop-id-preserved : goal.loop-id-preserved
-loop-id-preserved g c = row_more point_row c.loop-id.block c.loop-id.id-iterator c.next.new.self (c.in-Some.id.now, c.in-Some.place.now) c.in-Some.ensures.steps refl c.loop-id.invariant c.in_ok-point_line.ensures
+loop-id-preserved g c =
+    row_more point_row c.loop-id.block c.loop-id.id-iterator c.next.new.self
+    (c.in-Some.id.now, c.in-Some.place.now) c.in-Some.ensures.steps refl c.loop-id.invariant c.in_ok-point_line.ensures
 
 pub returns-in_err-point_line-clause-text : goal.returns-in_err-point_line-clause-text
 returns-in_err-point_line-clause-text g c =
@@ -17,6 +19,8 @@ returns-in_err-point_line-clause-text g c =
 
 pub returns-clause-text : goal.returns-clause-text
 returns-clause-text g c =
-    put_last g.K.Sink.sink c.args.sink.now c.loop-id.sink c.put_last.new.sink c.loop-id.block (print (Coordinates c.args.points.now.entries)) c.put_last.result
-    (all_done c.loop-id.block (text_of (map point_row c.loop-id.id-iterator)) (ap (λ left. text_of (map point_row left)) c.in-None.ensures.steps.0) c.loop-id.invariant)
+    put_last g.K.Sink.sink c.args.sink.now c.loop-id.sink c.put_last.new.sink c.loop-id.block
+    (print (Coordinates c.args.points.now.entries)) c.put_last.result
+    (all_done c.loop-id.block (text_of (map point_row c.loop-id.id-iterator))
+    (ap (λ left. text_of (map point_row left)) c.in-None.ensures.steps.0) c.loop-id.invariant)
     c.put_last.ensures.text

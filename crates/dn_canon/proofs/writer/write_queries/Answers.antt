@@ -9,13 +9,21 @@ use Rattle.dn_canon.proofs.writer.write_queries.Goals as goal
 pub returns-in_err-query_line-clause-text : goal.returns-in_err-query_line-clause-text
 returns-in_err-query_line-clause-text g c =
     stopped c.from_residual.result c.from_residual.ensures.0
-    (row_stop query_row c.loop-query.block (drop c.loop-query.query-index c.args.queries.now) (drop (c.loop-query.query-index + 1) c.args.queries.now) _ (drop_more c.args.queries.now c.loop-query.query-index (pos 0, pos 0) c.loop-query-test.true) refl c.loop-query.invariant c.in_err-query_line.ensures)
+    (row_stop query_row c.loop-query.block (drop c.loop-query.query-index c.args.queries.now)
+    (drop (c.loop-query.query-index + 1) c.args.queries.now) _
+    (drop_more c.args.queries.now c.loop-query.query-index
+    (pos 0, pos 0) c.loop-query-test.true) refl c.loop-query.invariant c.in_err-query_line.ensures)
 
 pub loop-query-preserved : goal.loop-query-preserved
-loop-query-preserved g c = row_more query_row c.loop-query.block (drop c.loop-query.query-index c.args.queries.now) (drop (c.loop-query.query-index + 1) c.args.queries.now) _ (drop_more c.args.queries.now c.loop-query.query-index (pos 0, pos 0) c.loop-query-test.true) refl c.loop-query.invariant c.in_ok-query_line.ensures
+loop-query-preserved g c =
+    row_more query_row c.loop-query.block (drop c.loop-query.query-index c.args.queries.now)
+    (drop (c.loop-query.query-index + 1) c.args.queries.now) _
+    (drop_more c.args.queries.now c.loop-query.query-index
+    (pos 0, pos 0) c.loop-query-test.true) refl c.loop-query.invariant c.in_ok-query_line.ensures
 
 pub returns-clause-text : goal.returns-clause-text
 returns-clause-text g c =
-    put_last g.K.Sink.sink c.args.sink.now c.loop-query.sink c.put_last.new.sink c.loop-query.block (print (Queries c.args.queries.now)) c.put_last.result
+    put_last g.K.Sink.sink c.args.sink.now c.loop-query.sink c.put_last.new.sink c.loop-query.block
+    (print (Queries c.args.queries.now)) c.put_last.result
     (rows_done query_row c.loop-query.block c.args.queries.now c.loop-query.query-index c.loop-query-test.false c.loop-query.invariant)
     c.put_last.ensures.text

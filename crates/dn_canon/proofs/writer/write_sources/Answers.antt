@@ -9,13 +9,21 @@ use Rattle.dn_canon.proofs.writer.write_sources.Goals as goal
 pub returns-in_err-source_line-clause-text : goal.returns-in_err-source_line-clause-text
 returns-in_err-source_line-clause-text g c =
     stopped c.from_residual.result c.from_residual.ensures.0
-    (row_stop source_row c.loop-id.block (drop c.loop-id.id-index c.args.ids.now) (drop (c.loop-id.id-index + 1) c.args.ids.now) _ (drop_more c.args.ids.now c.loop-id.id-index (pos 0) c.loop-id-test.true) refl c.loop-id.invariant c.in_err-source_line.ensures)
+    (row_stop source_row c.loop-id.block (drop c.loop-id.id-index c.args.ids.now)
+    (drop (c.loop-id.id-index + 1) c.args.ids.now) _
+    (drop_more c.args.ids.now c.loop-id.id-index
+    (pos 0) c.loop-id-test.true) refl c.loop-id.invariant c.in_err-source_line.ensures)
 
 pub loop-id-preserved : goal.loop-id-preserved
-loop-id-preserved g c = row_more source_row c.loop-id.block (drop c.loop-id.id-index c.args.ids.now) (drop (c.loop-id.id-index + 1) c.args.ids.now) _ (drop_more c.args.ids.now c.loop-id.id-index (pos 0) c.loop-id-test.true) refl c.loop-id.invariant c.in_ok-source_line.ensures
+loop-id-preserved g c =
+    row_more source_row c.loop-id.block (drop c.loop-id.id-index c.args.ids.now)
+    (drop (c.loop-id.id-index + 1) c.args.ids.now) _
+    (drop_more c.args.ids.now c.loop-id.id-index
+    (pos 0) c.loop-id-test.true) refl c.loop-id.invariant c.in_ok-source_line.ensures
 
 pub returns-clause-text : goal.returns-clause-text
 returns-clause-text g c =
-    put_last g.K.Sink.sink c.args.sink.now c.loop-id.sink c.put_last.new.sink c.loop-id.block (print (Sources c.args.ids.now)) c.put_last.result
+    put_last g.K.Sink.sink c.args.sink.now c.loop-id.sink c.put_last.new.sink c.loop-id.block
+    (print (Sources c.args.ids.now)) c.put_last.result
     (rows_done source_row c.loop-id.block c.args.ids.now c.loop-id.id-index c.loop-id-test.false c.loop-id.invariant)
     c.put_last.ensures.text

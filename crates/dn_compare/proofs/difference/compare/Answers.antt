@@ -14,13 +14,18 @@ pub returns-then-nodes : goal.returns-then-nodes
 returns-then-nodes c I J x y p q =
     let left : FitsSigned w64 c.nodes-then-nodes.result = search rules in
     let right : FitsSigned w64 c.nodes-then-nodes-2.result = search rules in
-    let kinds : contents_kind (holding c.args.left.now).contents ≡ contents_kind (holding c.args.right.now).contents = search rules in
+    let kinds : contents_kind (holding c.args.left.now).contents ≡ contents_kind (holding c.args.right.now).contents =
+    search rules in
     let differ : c.nodes-then-nodes.result ≢ c.nodes-then-nodes-2.result = λ e.
-    c.if-nodes.true (ap (of_z w64) (c.nodes.ensures ∙ sym c.nodes-then-nodes.ensures ∙ e ∙ c.nodes-then-nodes-2.ensures ∙ sym c.nodes-2.ensures)) in
+    c.if-nodes.true
+    (ap (of_z w64)
+    (c.nodes.ensures ∙ sym c.nodes-then-nodes.ensures ∙ e ∙ c.nodes-then-nodes-2.ensures
+    ∙ sym c.nodes-2.ensures)) in
     rw (to_z-of_z w64 c.nodes-then-nodes.result left, to_z-of_z w64 c.nodes-then-nodes-2.result right)
     (nodes_on (holding c.args.left.now) (holding c.args.right.now) I J p q kinds c.nodes-then-nodes.result c.nodes-then-nodes-2.result c.nodes-then-nodes.ensures c.nodes-then-nodes-2.ensures differ)
 
 pub returns : goal.returns
 returns c I J x y p q =
     let nodes : (holding c.args.left.now).nodes ≡ (holding c.args.right.now).nodes = search rules in
-    held_on (holding c.args.left.now) (holding c.args.right.now) I J p q (shown c.view.result) (shown c.view-2.result) c.shown_verdict.result c.shown_verdict.ensures c.view.ensures c.view-2.ensures nodes x y
+    held_on (holding c.args.left.now) (holding c.args.right.now) I J p q (shown c.view.result)
+    (shown c.view-2.result) c.shown_verdict.result c.shown_verdict.ensures c.view.ensures c.view-2.ensures nodes x y

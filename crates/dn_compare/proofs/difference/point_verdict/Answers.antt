@@ -7,7 +7,8 @@ use Rattle.dn_compare.proofs.difference.point_verdict.Goals as goal
 pub returns-in-Some : goal.returns-in-Some
 returns-in-Some c =
     let id : FitsSigned w64 c.in-Some.id = search rules in
-    rw (to_z-of_z w64 c.in-Some.id id) (point_on c.args.left.now.entries c.args.right.now.entries c.in-Some.id c.in-Some.ensures)
+    rw (to_z-of_z w64 c.in-Some.id id)
+    (point_on c.args.left.now.entries c.args.right.now.entries c.in-Some.id c.in-Some.ensures)
 
 pub returns-in-None : goal.returns-in-None
 returns-in-None c = points_on c.args.left.now.entries c.args.right.now.entries c.in-None.ensures

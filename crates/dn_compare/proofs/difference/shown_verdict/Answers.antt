@@ -27,20 +27,27 @@ returns-in-Max-Max c =
 pub returns-in-Sp-Sp : goal.returns-in-Sp-Sp
 returns-in-Sp-Sp c =
     let m = c.in-Sp-Sp in
-    shown_on (OfSp m.l.now) (OfSp m.r.now) (shown c.args.left) (shown c.args.right) c.pair_verdict.result (sym (ap shown m.is-0)) (sym (ap shown m.is-1)) (sp_on c.pair_verdict.result m.l.now m.r.now c.pair_verdict.ensures)
+    shown_on (OfSp m.l.now) (OfSp m.r.now) (shown c.args.left) (shown c.args.right) c.pair_verdict.result
+    (sym (ap shown m.is-0)) (sym (ap shown m.is-1))
+    (sp_on c.pair_verdict.result m.l.now m.r.now c.pair_verdict.ensures)
 
 pub returns-in-Ss-Ss : goal.returns-in-Ss-Ss
 returns-in-Ss-Ss c =
     let m = c.in-Ss-Ss in
-    shown_on (OfSs m.l.now) (OfSs m.r.now) (shown c.args.left) (shown c.args.right) c.list_verdict.result (sym (ap shown m.is-0)) (sym (ap shown m.is-1)) (ss_on m.l.now m.r.now c.list_verdict.result c.list_verdict.ensures)
+    shown_on (OfSs m.l.now) (OfSs m.r.now) (shown c.args.left) (shown c.args.right) c.list_verdict.result
+    (sym (ap shown m.is-0)) (sym (ap shown m.is-1))
+    (ss_on m.l.now m.r.now c.list_verdict.result c.list_verdict.ensures)
 
 pub returns-in-P2p-P2p : goal.returns-in-P2p-P2p
 returns-in-P2p-P2p c =
     let m = c.in-P2p-P2p in
     let v = c.list_verdict-in-P2p-P2p in
-    shown_on (OfP2p m.l.now) (OfP2p m.r.now) (shown c.args.left) (shown c.args.right) v.result (sym (ap shown m.is-0)) (sym (ap shown m.is-1)) (p2p_on m.l.now m.r.now v.result v.ensures)
+    shown_on (OfP2p m.l.now) (OfP2p m.r.now) (shown c.args.left) (shown c.args.right) v.result (sym (ap shown m.is-0))
+    (sym (ap shown m.is-1)) (p2p_on m.l.now m.r.now v.result v.ensures)
 
 pub returns-in-Co-Co : goal.returns-in-Co-Co
 returns-in-Co-Co c =
     let m = c.in-Co-Co in
-    shown_on (OfCo m.l.now.entries) (OfCo m.r.now.entries) (shown c.args.left) (shown c.args.right) c.point_verdict.result (sym (ap shown m.is-0)) (sym (ap shown m.is-1)) c.point_verdict.ensures
+    shown_on (OfCo m.l.now.entries) (OfCo m.r.now.entries) (shown c.args.left)
+    (shown c.args.right) c.point_verdict.result (sym (ap shown m.is-0))
+    (sym (ap shown m.is-1)) c.point_verdict.ensures

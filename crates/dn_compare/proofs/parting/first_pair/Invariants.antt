@@ -13,7 +13,8 @@ invariant-loop-pair g l =
     record {
       lefts : PairsRise l.lefts;
       rights : PairsRise l.rights;
-      rest : (o : Option ((ℤ × ℤ) × How)) → IsParting pair_cmp by l.lefts l.rights o → IsParting pair_cmp by l.left l.right o;
+      rest : (o : Option ((ℤ × ℤ) × How)) → IsParting pair_cmp by l.lefts l.rights o
+          → IsParting pair_cmp by l.left l.right o;
     }
 
 abbrev pub decreases-loop-pair : goal.decreases-loop-pair

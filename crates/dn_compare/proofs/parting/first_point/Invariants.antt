@@ -9,7 +9,8 @@ abbrev pub invariant-loop-id : goal.invariant-loop-id
 invariant-loop-id l = record {
   lefts : IdsRise l.lefts;
   rights : IdsRise l.rights;
-  rest : (o : Option (ℤ × (Unit {0}))) → IsParting int_cmp by_point l.lefts l.rights o → IsParting int_cmp by_point l.left.entries l.right.entries o;
+  rest : (o : Option (ℤ × (Unit {0}))) → IsParting int_cmp by_point l.lefts l.rights o
+      → IsParting int_cmp by_point l.left.entries l.right.entries o;
 }
 
 abbrev pub decreases-loop-id : goal.decreases-loop-id

@@ -9,7 +9,8 @@ abbrev pub invariant-loop-id : goal.invariant-loop-id
 invariant-loop-id l = record {
   lefts : IdsRise l.lefts;
   rights : IdsRise l.rights;
-  rest : (o : Option (ℤ × (ℤ × ℤ))) → IsParting int_cmp by_flow l.lefts l.rights o → IsParting int_cmp by_flow l.left.entries l.right.entries o;
+  rest : (o : Option (ℤ × (ℤ × ℤ))) → IsParting int_cmp by_flow l.lefts l.rights o
+      → IsParting int_cmp by_flow l.left.entries l.right.entries o;
 }
 
 abbrev pub decreases-loop-id : goal.decreases-loop-id

@@ -12,7 +12,9 @@ returns-in-Ok-clause-answer g c arcs is old are both =
 
 pub returns-in-Ok-clause-stands : goal.returns-in-Ok-clause-stands
 returns-in-Ok-clause-stands g c arcs stays old are =
-    tells_more g.B.Bundle.bundle.kind (g.B.Bundle.bundle.told One) g.met.B.Bundle.laws (g.met.B.Bundle.canonical One) stays c.args.table.now c.add.new.self arcs c.args.pair c.args.arc old are (c.if-not-is_arc.ensures.0 refl) c.in-Ok.ensures.ok
+    tells_more g.B.Bundle.bundle.kind (g.B.Bundle.bundle.told One) g.met.B.Bundle.laws
+    (g.met.B.Bundle.canonical One) stays c.args.table.now c.add.new.self arcs c.args.pair c.args.arc old are
+    (c.if-not-is_arc.ensures.0 refl) c.in-Ok.ensures.ok
 
 pub returns-in-Err-Sum-clause-answer : goal.returns-in-Err-Sum-clause-answer
 returns-in-Err-Sum-clause-answer g c arcs is old are both =

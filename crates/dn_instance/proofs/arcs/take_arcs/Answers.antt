@@ -16,7 +16,10 @@ loop-i-preserved g c = record {
       let fine = sym c.is_err.ensures.value ∙ c.if-is_err.false in
       let sign = sign_at text arcs i _ here signs in
       let answer = c.take.ensures.answer sign (before ++ items) p (problem_all before items p h) k n j.holds in
-      subst (λ (l : List Line). Joins g.B.LineBundle.holds before c.take.new.table l) (sym (items_next text arcs i _ here))
-      (joins_more g.B.LineBundle.holds before c.loop-i.table c.take.new.table items _ j (no_fault c.take.result _ fine answer) (no_error c.take.result fine (c.take.ensures.stands sign (before ++ items) j.holds)))
+      subst (λ (l : List Line). Joins g.B.LineBundle.holds before c.take.new.table l)
+      (sym (items_next text arcs i _ here))
+      (joins_more g.B.LineBundle.holds before c.loop-i.table c.take.new.table items _ j
+      (no_fault c.take.result _ fine answer)
+      (no_error c.take.result fine (c.take.ensures.stands sign (before ++ items) j.holds)))
       );
 }

@@ -9,7 +9,8 @@ use Rattle.dn_instance.proofs.arcs.take_arcs.Given as goal
 abbrev pub invariant-loop-i : goal.invariant-loop-i
 invariant-loop-i g l =
     record {
-      joins : AllByRecursion HasSigns (arc_items g.B.LineBundle.text l.arcs) → (before : List Line) (p : Problem) → problem_of before ≡ Some p
+      joins : AllByRecursion HasSigns (arc_items g.B.LineBundle.text l.arcs) → (before : List Line) (p : Problem)
+          → problem_of before ≡ Some p
           → p.kind ≡ g.B.LineBundle.text → p.nodes ≡ l.nodes → g.B.LineBundle.holds l.fn.table before
           → Joins g.B.LineBundle.holds before l.table (arc_items g.B.LineBundle.text (take l.i l.arcs));
     }

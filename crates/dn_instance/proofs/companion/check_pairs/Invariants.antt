@@ -5,4 +5,5 @@ use Rattle.dn_instance.proofs.companion.check_pairs.Given as goal
 
 -- the nodes that are left decide
 abbrev pub invariant-loop-pair : goal.invariant-loop-pair
-invariant-loop-pair l = within l.nodes (flat_map both_nodes (drop l.pair-index l.pairs)) ≡ within l.nodes (flat_map both_nodes l.pairs)
+invariant-loop-pair l =
+    within l.nodes (flat_map both_nodes (drop l.pair-index l.pairs)) ≡ within l.nodes (flat_map both_nodes l.pairs)

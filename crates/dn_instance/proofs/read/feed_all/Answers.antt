@@ -10,7 +10,8 @@ returns-then-is_empty-clause-ok g c =
     let none = has_none piece _ c.is_empty.ensures c.if-is_empty.true in
     record {
       given = c.loop.invariant.given.0;
-      gave = given_at_end _ _ _ c.loop.invariant.given.0 piece none c.loop.invariant.given.1 c.in_ok-piece.ensures.bytes;
+      gave =
+          given_at_end _ _ _ c.loop.invariant.given.0 piece none c.loop.invariant.given.1 c.in_ok-piece.ensures.bytes;
       at_end = c.in_ok-piece.ensures.end none;
       read = c.loop.invariant.given.2;
       fine = c.loop.invariant.fine;
@@ -23,7 +24,8 @@ returns-in_err-feed-clause-err g c =
     let room : length c.loop.room ≡ 4096 = search rules in
     handed_on _ _ _ c.from_residual-in_err-feed.ensures
     (refused_given _ _ _ t piece c.loop.reader c.in_err-feed.field-0.0 c.loop.invariant.given.1 c.in_ok-piece.ensures.bytes (subst (λ n. length piece ≤ n) room c.in_ok-piece.ensures.bound) c.loop.invariant.given.2 c.loop.invariant.fine (c.in_err-feed.ensures.told t c.loop.invariant.given.2)
-    (λ memory. (c.in_err-feed.ensures.memory t c.loop.invariant.given.2 c.loop.invariant.fine (ap (λ x. Err x) memory)).0))
+    (λ memory.
+    (c.in_err-feed.ensures.memory t c.loop.invariant.given.2 c.loop.invariant.fine (ap (λ x. Err x) memory)).0))
 
 pub loop-preserved : goal.loop-preserved
 loop-preserved g c =
@@ -66,13 +68,22 @@ returns-then-is_empty-clause-left g c = record {
 
 pub returns-in_err-feed-clause-left : goal.returns-in_err-feed-clause-left
 returns-in_err-feed-clause-left g c = record {
-  read = handed_other _ _ c.from_residual-in_err-feed.ensures (refused_unread _ _ _ (c.in_err-feed.ensures.told c.loop.invariant.given.0 c.loop.invariant.given.2));
+  read =
+      handed_other _ _ c.from_residual-in_err-feed.ensures
+      (refused_unread _ _ _ (c.in_err-feed.ensures.told c.loop.invariant.given.0 c.loop.invariant.given.2));
   stays = λ failed. c.next_piece.ensures.stays (c.loop.invariant.stays failed);
   pulls = pulled_on c.loop.invariant.given.0 c.loop.reader c.loop.invariant.pulls c.loop.invariant.given.1 c.loop.invariant.given.2 c.loop.invariant.fine c.next_piece.ensures.pulls;
 }
 
 pub loop-init : goal.loop-init
-loop-init g c = record { given = ([], Consumes-nil (g.S.Source.source.gives c.args.source.now), c.requires.0, search rules); fine = c.requires.1; pulls = unpulled; stays = λ failed. failed }
+loop-init g c =
+    record {
+      given = ([], Consumes-nil (g.S.Source.source.gives c.args.source.now), c.requires.0, search rules);
+      fine =
+          c.requires.1;
+      pulls = unpulled;
+      stays = λ failed. failed;
+    }
 
 pub returns-clause-left : goal.returns-clause-left
 returns-clause-left g c = record {
@@ -82,10 +93,13 @@ returns-clause-left g c = record {
 }
 
 pub returns-in_err-feed-clause-refusal : goal.returns-in_err-feed-clause-refusal
-returns-in_err-feed-clause-refusal g c = handed_on _ _ IsOfReading c.from_residual-in_err-feed.ensures (refused_reading _ _ _ (c.in_err-feed.ensures.told c.loop.invariant.given.0 c.loop.invariant.given.2))
+returns-in_err-feed-clause-refusal g c =
+    handed_on _ _ IsOfReading c.from_residual-in_err-feed.ensures
+    (refused_reading _ _ _ (c.in_err-feed.ensures.told c.loop.invariant.given.0 c.loop.invariant.given.2))
 
 pub returns-in_err-piece-clause-refusal : goal.returns-in_err-piece-clause-refusal
-returns-in_err-piece-clause-refusal g c = handed_on _ _ IsOfReading c.from_residual.ensures (subst IsOfReading (sym c.in_err-piece.ensures.refusal) tt)
+returns-in_err-piece-clause-refusal g c =
+    handed_on _ _ IsOfReading c.from_residual.ensures (subst IsOfReading (sym c.in_err-piece.ensures.refusal) tt)
 
 pub returns-in_err-piece-clause-ok : goal.returns-in_err-piece-clause-ok
 returns-in_err-piece-clause-ok g c = handed_none _ _ _ c.from_residual.ensures

@@ -10,7 +10,8 @@ invariant-loop g l =
     let gives = g.S.Source.source.gives in
     let has_failed = g.S.Source.source.has_failed in
     record {
-      given : (t : List ℕ) × Consumes (gives l.fn.source) (gives l.source) t × ReaderAt l.reader t × (l.counter ≤ length t);
+      given : (t : List ℕ) × Consumes (gives l.fn.source) (gives l.source) t × ReaderAt l.reader t
+          × (l.counter ≤ length t);
       fine : refusal_of l.reader ≡ None;
       pulls : PulledBytes g.S.Source.source l.fn.source l.source;
       stays : IsTrue (has_failed l.fn.source) → IsTrue (has_failed l.source);

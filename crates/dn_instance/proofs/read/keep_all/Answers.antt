@@ -11,7 +11,8 @@ returns-then-is_empty-clause-ok g c =
     let none = has_none piece _ c.is_empty.ensures c.if-is_empty.true in (
       record {
         given = c.loop.invariant.given.0;
-        gave = given_at_end _ _ _ c.loop.invariant.given.0 piece none c.loop.invariant.given.1 c.in_ok-bytes.ensures.bytes;
+        gave =
+            given_at_end _ _ _ c.loop.invariant.given.0 piece none c.loop.invariant.given.1 c.in_ok-bytes.ensures.bytes;
         at_end = c.in_ok-bytes.ensures.end none;
         read = c.loop.invariant.given.2;
         fine = c.loop.invariant.fine;
@@ -23,7 +24,9 @@ pub returns-in_err-keep_piece-clause-err : goal.returns-in_err-keep_piece-clause
 returns-in_err-keep_piece-clause-err g c =
     handed_on _ _ _ c.from_residual-in_err-keep_piece.ensures
     (uncopied _ _ _ c.loop.invariant.given.0 c.in_ok-bytes.bytes.now _ _ c.in_err-keep_piece.field-0.0 c.loop.reader c.loop.invariant.given.1 c.in_ok-bytes.ensures.bytes
-    (has_some c.in_ok-bytes.bytes.now _ c.is_empty.ensures c.if-is_empty.false) (c.in_err-keep_piece.ensures.err ∙ c.loop.invariant.given.4) c.loop.invariant.given.2 c.loop.invariant.fine c.in_err-keep_piece.ensures.memory)
+    (has_some c.in_ok-bytes.bytes.now _ c.is_empty.ensures c.if-is_empty.false)
+    (c.in_err-keep_piece.ensures.err
+    ∙ c.loop.invariant.given.4) c.loop.invariant.given.2 c.loop.invariant.fine c.in_err-keep_piece.ensures.memory)
 
 pub returns-in_err-feed-clause-err : goal.returns-in_err-feed-clause-err
 returns-in_err-feed-clause-err g c =
@@ -32,9 +35,11 @@ returns-in_err-feed-clause-err g c =
     let more = Consumes-trans _ _ _ t piece c.loop.invariant.given.1 c.in_ok-bytes.ensures.bytes in
     let room : length c.loop.room ≡ 4096 = search rules in
     handed_on _ _ _ c.from_residual-in_err-feed.ensures
-    (copied _ _ (t ++ piece) _ _ (Err c.in_err-feed.field-0.0) more (c.in_ok-keep_piece.ensures.ok ∙ ap (λ l. l ++ piece) c.loop.invariant.given.4 ∙ append_assoc _ t piece)
+    (copied _ _ (t ++ piece) _ _ (Err c.in_err-feed.field-0.0) more
+    (c.in_ok-keep_piece.ensures.ok ∙ ap (λ l. l ++ piece) c.loop.invariant.given.4 ∙ append_assoc _ t piece)
     (refused_given _ _ _ t piece c.loop.reader c.in_err-feed.field-0.0 c.loop.invariant.given.1 c.in_ok-bytes.ensures.bytes (subst (λ n. length piece ≤ n) room c.in_ok-bytes.ensures.bound) c.loop.invariant.given.2 c.loop.invariant.fine (c.in_err-feed.ensures.told t c.loop.invariant.given.2)
-    (λ memory. (c.in_err-feed.ensures.memory t c.loop.invariant.given.2 c.loop.invariant.fine (ap (λ x. Err x) memory)).0)))
+    (λ memory.
+    (c.in_err-feed.ensures.memory t c.loop.invariant.given.2 c.loop.invariant.fine (ap (λ x. Err x) memory)).0)))
 
 pub loop-preserved : goal.loop-preserved
 loop-preserved g c =
@@ -86,20 +91,37 @@ returns-then-is_empty-clause-left g c = record {
 
 pub returns-in_err-keep_piece-clause-left : goal.returns-in_err-keep_piece-clause-left
 returns-in_err-keep_piece-clause-left g c = record {
-  read = handed_other _ _ c.from_residual-in_err-keep_piece.ensures (λ read. (let memory = c.in_err-keep_piece.ensures.memory in cc));
+  read =
+      handed_other _ _ c.from_residual-in_err-keep_piece.ensures
+      (λ read. (let memory = c.in_err-keep_piece.ensures.memory in cc));
   stays = λ failed. c.next_piece.ensures.stays (c.loop.invariant.stays failed);
   pulls = pulled_on c.loop.invariant.given.0 c.loop.reader c.loop.invariant.pulls c.loop.invariant.given.1 c.loop.invariant.given.2 c.loop.invariant.fine c.next_piece.ensures.pulls;
 }
 
 pub returns-in_err-feed-clause-left : goal.returns-in_err-feed-clause-left
 returns-in_err-feed-clause-left g c = record {
-  read = handed_other _ _ c.from_residual-in_err-feed.ensures (refused_unread _ _ _ (c.in_err-feed.ensures.told c.loop.invariant.given.0 c.loop.invariant.given.2));
+  read =
+      handed_other _ _ c.from_residual-in_err-feed.ensures
+      (refused_unread _ _ _ (c.in_err-feed.ensures.told c.loop.invariant.given.0 c.loop.invariant.given.2));
   stays = λ failed. c.next_piece.ensures.stays (c.loop.invariant.stays failed);
   pulls = pulled_on c.loop.invariant.given.0 c.loop.reader c.loop.invariant.pulls c.loop.invariant.given.1 c.loop.invariant.given.2 c.loop.invariant.fine c.next_piece.ensures.pulls;
 }
 
 pub loop-init : goal.loop-init
-loop-init g c = record { given = ([], Consumes-nil (g.S.Source.source.gives c.args.source.now), c.requires.0, search rules, sym (append-nil _)); fine = c.requires.1; pulls = unpulled; stays = λ failed. failed }
+loop-init g c =
+    record {
+      given = (
+        [],
+        Consumes-nil (g.S.Source.source.gives c.args.source.now),
+        c.requires.0,
+        search rules,
+        sym
+            (append-nil _),
+      );
+      fine = c.requires.1;
+      pulls = unpulled;
+      stays = λ failed. failed;
+    }
 
 pub returns-clause-left : goal.returns-clause-left
 returns-clause-left g c = record {
@@ -109,13 +131,17 @@ returns-clause-left g c = record {
 }
 
 pub returns-in_err-keep_piece-clause-prefix : goal.returns-in_err-keep_piece-clause-prefix
-returns-in_err-keep_piece-clause-prefix g c = (c.loop.invariant.given.0, c.in_err-keep_piece.ensures.err ∙ c.loop.invariant.given.4)
+returns-in_err-keep_piece-clause-prefix g c =
+    (c.loop.invariant.given.0, c.in_err-keep_piece.ensures.err ∙ c.loop.invariant.given.4)
 
 pub returns-in_err-feed-clause-prefix : goal.returns-in_err-feed-clause-prefix
 returns-in_err-feed-clause-prefix g c =
     let t = c.loop.invariant.given.0 in
-    let piece = c.in_ok-bytes.bytes.now in
-    (t ++ piece, ◌∙◌ {A = List ℕ} c.in_ok-keep_piece.ensures.ok (ap (λ l. l ++ piece) c.loop.invariant.given.4 ∙ append_assoc _ t piece))
+    let piece = c.in_ok-bytes.bytes.now in (
+      t ++ piece,
+      ◌∙◌ {A = List ℕ} c.in_ok-keep_piece.ensures.ok
+          (ap (λ l. l ++ piece) c.loop.invariant.given.4 ∙ append_assoc _ t piece),
+    )
 
 pub returns-then-is_empty-clause-prefix : goal.returns-then-is_empty-clause-prefix
 returns-then-is_empty-clause-prefix g c = (c.loop.invariant.given.0, c.loop.invariant.given.4)
@@ -128,13 +154,17 @@ returns-clause-prefix g c = (c.loop.invariant.given.0, c.loop.invariant.given.4)
 
 pub returns-in_err-keep_piece-clause-refusal : goal.returns-in_err-keep_piece-clause-refusal
 returns-in_err-keep_piece-clause-refusal g c =
-    handed_on _ _ IsOfReading c.from_residual-in_err-keep_piece.ensures (subst IsOfReading (sym c.in_err-keep_piece.ensures.memory) tt)
+    handed_on _ _ IsOfReading c.from_residual-in_err-keep_piece.ensures
+    (subst IsOfReading (sym c.in_err-keep_piece.ensures.memory) tt)
 
 pub returns-in_err-feed-clause-refusal : goal.returns-in_err-feed-clause-refusal
-returns-in_err-feed-clause-refusal g c = handed_on _ _ IsOfReading c.from_residual-in_err-feed.ensures (refused_reading _ _ _ (c.in_err-feed.ensures.told c.loop.invariant.given.0 c.loop.invariant.given.2))
+returns-in_err-feed-clause-refusal g c =
+    handed_on _ _ IsOfReading c.from_residual-in_err-feed.ensures
+    (refused_reading _ _ _ (c.in_err-feed.ensures.told c.loop.invariant.given.0 c.loop.invariant.given.2))
 
 pub returns-in_err-bytes-clause-refusal : goal.returns-in_err-bytes-clause-refusal
-returns-in_err-bytes-clause-refusal g c = handed_on _ _ IsOfReading c.from_residual.ensures (subst IsOfReading (sym c.in_err-bytes.ensures.refusal) tt)
+returns-in_err-bytes-clause-refusal g c =
+    handed_on _ _ IsOfReading c.from_residual.ensures (subst IsOfReading (sym c.in_err-bytes.ensures.refusal) tt)
 
 pub returns-in_err-bytes-clause-ok : goal.returns-in_err-bytes-clause-ok
 returns-in_err-bytes-clause-ok g c = handed_none _ _ _ c.from_residual.ensures

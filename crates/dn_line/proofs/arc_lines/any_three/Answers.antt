@@ -6,7 +6,10 @@ use Rattle.dn_line.proofs.arc_lines.any_three.Goals as goal
 pub returns : goal.returns
 returns c =
     let first : to_z w64 (of_z w64 c.in_ok-first.first.number) ≡ c.in_ok-first.first.number = omega (arith, ints) in
-    let second : to_z w64 (of_z w64 c.in_ok-second.second.number) ≡ c.in_ok-second.second.number = omega (arith, ints) in
+    let second : to_z w64 (of_z w64 c.in_ok-second.second.number) ≡ c.in_ok-second.second.number =
+    omega (arith, ints) in
     let third : to_z w64 (of_z w64 c.in_ok-third.third.number) ≡ c.in_ok-third.third.number = omega (arith, ints) in
     simp (first, second, third)
-    (more_numbers _ _ _ _ _ c.in_ok-first.ensures (more_numbers _ _ _ _ _ c.in_ok-second.ensures (last_number _ _ _ _ c.in_ok-third.ensures c.in_ok-after_line_end.ensures)))
+    (more_numbers _ _ _ _ _ c.in_ok-first.ensures
+    (more_numbers _ _ _ _ _ c.in_ok-second.ensures
+    (last_number _ _ _ _ c.in_ok-third.ensures c.in_ok-after_line_end.ensures)))

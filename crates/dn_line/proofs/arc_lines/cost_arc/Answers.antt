@@ -14,4 +14,6 @@ returns c =
     let low_natural : pos 0 ≤ℤ n.first = omega (arith, ints) in
     let cap_natural : pos 0 ≤ℤ n.second = omega (arith, ints) in
     simp (src, dst, low, cap, cost)
-    (cost_numbers _ _ _ _ _ _ _ (more_numbers _ _ _ _ _ c.in_ok-src.ensures (more_numbers _ _ _ _ _ c.in_ok-dst.ensures c.in_ok-numbers.ensures)) low_natural cap_natural)
+    (cost_numbers _ _ _ _ _ _ _
+    (more_numbers _ _ _ _ _ c.in_ok-src.ensures
+    (more_numbers _ _ _ _ _ c.in_ok-dst.ensures c.in_ok-numbers.ensures)) low_natural cap_natural)

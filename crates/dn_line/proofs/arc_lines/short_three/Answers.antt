@@ -6,7 +6,8 @@ use Rattle.dn_line.proofs.arc_lines.short_three.Goals as goal
 pub returns : goal.returns
 returns c =
     let first : to_z w64 (of_z w64 c.in_ok-first.first.number) ≡ c.in_ok-first.first.number = omega (arith, ints) in
-    let second : to_z w64 (of_z w64 c.in_ok-second.second.number) ≡ c.in_ok-second.second.number = omega (arith, ints) in
+    let second : to_z w64 (of_z w64 c.in_ok-second.second.number) ≡ c.in_ok-second.second.number =
+    omega (arith, ints) in
     let third : to_z w64 (of_z w64 c.in_ok-third.third.number) ≡ c.in_ok-third.third.number = omega (arith, ints) in
     simp (first, second, third)
     (more_numbers _ _ _ _ _ (number_gap _ _ _ _ c.in_ok-first.ensures.number c.in_ok-after_space.ensures.gap)

@@ -8,16 +8,19 @@ pub returns-then-others-eq0-clause-count : goal.returns-then-others-eq0-clause-c
 returns-then-others-eq0-clause-count c =
     let bs = chunk c.args.at 8 c.args.bytes.now in
     let long = length-chunk c.args.at 8 c.args.bytes.now c.requires in
-    all_digits bs _ long (below_from_Fits w8 bs (chunk-fits w8 c.args.at 8 c.args.bytes.now c.type_inv.bytes)) (others_mask bs long) c.if-others-eq0.true
+    all_digits bs _ long (below_from_Fits w8 bs (chunk-fits w8 c.args.at 8 c.args.bytes.now c.type_inv.bytes))
+    (others_mask bs long) c.if-others-eq0.true
 
 pub returns-else-others-eq0-clause-count : goal.returns-else-others-eq0-clause-count
 returns-else-others-eq0-clause-count c =
     let bs = chunk c.args.at 8 c.args.bytes.now in
     let long = length-chunk c.args.at 8 c.args.bytes.now c.requires in
-    some_digits bs _ long (below_from_Fits w8 bs (chunk-fits w8 c.args.at 8 c.args.bytes.now c.type_inv.bytes)) (others_mask bs long) (omega arith)
+    some_digits bs _ long (below_from_Fits w8 bs (chunk-fits w8 c.args.at 8 c.args.bytes.now c.type_inv.bytes))
+    (others_mask bs long) (omega arith)
 
 pub returns-else-others-eq0-clause-within : goal.returns-else-others-eq0-clause-within
 returns-else-others-eq0-clause-within c =
     let bs = chunk c.args.at 8 c.args.bytes.now in
     let long = length-chunk c.args.at 8 c.args.bytes.now c.requires in
-    some_within bs _ long (below_from_Fits w8 bs (chunk-fits w8 c.args.at 8 c.args.bytes.now c.type_inv.bytes)) (others_mask bs long) (omega arith)
+    some_within bs _ long (below_from_Fits w8 bs (chunk-fits w8 c.args.at 8 c.args.bytes.now c.type_inv.bytes))
+    (others_mask bs long) (omega arith)

@@ -5,4 +5,5 @@ use Rattle.dn_report.proofs.fault_line.put_pieces.Given as goal
 
 abbrev pub invariant-loop-piece : goal.invariant-loop-piece
 invariant-loop-piece g l =
-    HasPut g.K.Sink.sink l.fn.sink l.sink (concat (map (λ p. p.now) (drop l.piece-index l.pieces))) (concat (map (λ p. p.now) l.pieces))
+    HasPut g.K.Sink.sink l.fn.sink l.sink (concat (map (λ p. p.now) (drop l.piece-index l.pieces)))
+    (concat (map (λ p. p.now) l.pieces))

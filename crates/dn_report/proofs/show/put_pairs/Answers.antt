@@ -9,7 +9,9 @@ use Rattle.dn_report.proofs.show.put_pairs.Goals as goal
 
 pub loop-pair-init : goal.loop-pair-init
 loop-pair-init g c =
-    put_from (ap (λ t. text_of (told_rows g.B.PairLine.words (g.B.Bundle.bundle.told One) t)) (c.into_iter-pair-iterator.ensures.into_iter_gives ∙ c.pairs-pair-items.ensures.value))
+    put_from
+    (ap (λ t. text_of (told_rows g.B.PairLine.words (g.B.Bundle.bundle.told One) t))
+    (c.into_iter-pair-iterator.ensures.into_iter_gives ∙ c.pairs-pair-items.ensures.value))
 
 pub loop-pair-preserved : goal.loop-pair-preserved
 loop-pair-preserved g c =

@@ -8,8 +8,12 @@ use Rattle.dn_report.proofs.show.put_shown.Goals as goal
 
 pub returns-in_err-put_held-clause-text : goal.returns-in_err-put_held-clause-text
 returns-in_err-put_held-clause-text g c =
-    let h = holding c.args.held.now in
-    (text_of (held_rows h), stopped c.from_residual.result c.from_residual.ensures.0 c.in_err-put_held.ensures, held_shown h)
+    let h = holding c.args.held.now in (
+      text_of
+          (held_rows h),
+      stopped c.from_residual.result c.from_residual.ensures.0 c.in_err-put_held.ensures,
+      held_shown h,
+    )
 
 pub returns-clause-text : goal.returns-clause-text
 returns-clause-text g c =

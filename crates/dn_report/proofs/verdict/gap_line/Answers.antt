@@ -7,8 +7,10 @@ use Rattle.dn_report.proofs.verdict.gap_line.Goals as goal
 pub returns : goal.returns
 returns c =
     c.newline.ensures ∙ ap (λ l. l ++ 10 ∷ [])
-    (added (codes "differ pair" ++ 32 ∷ signed_decimal c.args.src.now) (signed_decimal c.args.dst.now) _ c.pair_start-line.ensures.text
+    (added (codes "differ pair" ++ 32 ∷ signed_decimal c.args.src.now)
+    (signed_decimal c.args.dst.now) _ c.pair_start-line.ensures.text
     (added c.pair_start-line.result (codes "amount") _ c.word.ensures
     (added c.word.new.self (signed_decimal c.args.gap.now.amount) _ c.number.ensures.text
     (added c.number.new.self (codes "cost") _ c.word-2.ensures
-    (added c.word-2.new.self (number_or_none c.args.gap.now.left) _ c.add_cost.ensures.text c.add_cost-2.ensures.text)))))
+    (added c.word-2.new.self
+    (number_or_none c.args.gap.now.left) _ c.add_cost.ensures.text c.add_cost-2.ensures.text)))))

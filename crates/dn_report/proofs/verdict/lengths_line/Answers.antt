@@ -7,6 +7,7 @@ use Rattle.dn_report.proofs.verdict.lengths_line.Goals as goal
 pub returns : goal.returns
 returns c =
     c.newline.ensures ∙ ap (λ l. l ++ 10 ∷ [])
-    (added (codes "differ pair" ++ 32 ∷ signed_decimal c.args.src.now) (signed_decimal c.args.dst.now) _ c.pair_start-line.ensures.text
+    (added (codes "differ pair" ++ 32 ∷ signed_decimal c.args.src.now)
+    (signed_decimal c.args.dst.now) _ c.pair_start-line.ensures.text
     (added c.pair_start-line.result (codes "length") _ c.word.ensures
     (added c.word.new.self (number_or_none c.args.left.now) _ c.add_number.ensures.text c.add_number-2.ensures.text)))

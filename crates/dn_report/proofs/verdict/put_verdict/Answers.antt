@@ -7,10 +7,12 @@ use Rattle.dn_report.proofs.verdict.put_verdict.Goals as goal
 
 pub returns-in_err-put-clause-text : goal.returns-in_err-put-clause-text
 returns-in_err-put-clause-text g c =
-    stopped c.from_residual.result c.from_residual.ensures.0 (subst (PutsPrefix g.K.Sink.sink c.args.sink.now c.put.new.sink) c.verdict_line.ensures c.in_err-put.ensures)
+    stopped c.from_residual.result c.from_residual.ensures.0
+    (subst (PutsPrefix g.K.Sink.sink c.args.sink.now c.put.new.sink) c.verdict_line.ensures c.in_err-put.ensures)
 
 pub returns-clause-text : goal.returns-clause-text
 returns-clause-text g c =
-    put_last g.K.Sink.sink c.args.sink.now c.put.new.sink c.put_and_flush.new.sink [] (line_text (verdict_row c.args.verdict.now)) c.put_and_flush.result
+    put_last g.K.Sink.sink c.args.sink.now c.put.new.sink c.put_and_flush.new.sink []
+    (line_text (verdict_row c.args.verdict.now)) c.put_and_flush.result
     (subst (HasPut g.K.Sink.sink c.args.sink.now c.put.new.sink []) c.verdict_line.ensures c.in_ok-put.ensures)
     c.put_and_flush.ensures.puts

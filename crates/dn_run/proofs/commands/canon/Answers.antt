@@ -12,7 +12,12 @@ use Rattle.dn_run.proofs.commands.canon.Goals as goal
 
 pub returns-in-Ok-written : goal.returns-in-Ok-written
 returns-in-Ok-written g c = record {
-  performs = record { asks = c.in-Ok.ensures.asks; means = canon_done _ _ c.in-Ok.held c.args.form c.in-Ok.ensures.read c.in-Ok-written.ensures.canon };
+  performs =
+      record {
+        asks = c.in-Ok.ensures.asks;
+        means =
+            canon_done _ _ c.in-Ok.held c.args.form c.in-Ok.ensures.read c.in-Ok-written.ensures.canon;
+      };
   out_after = c.in-Ok-written.ensures.after;
   answers = refl;
   flushed = c.in-Ok-written.ensures.flushed;
@@ -27,7 +32,9 @@ returns-in-Err-written g c =
     record {
       performs = record {
         asks = c.in-Ok.ensures.asks;
-        means = subst (λ a. OnText (PutsCanon c.args.form) (λ _. Never) (IsRefusedCanon c.args.form text) text out a) (sym c.unwritten.ensures)
+        means =
+            subst (λ a. OnText (PutsCanon c.args.form) (λ _. Never) (IsRefusedCanon c.args.form text) text out a)
+            (sym c.unwritten.ensures)
             (canon_unwritten text out c.in-Ok.held c.args.form c.in-Ok.ensures.read refusal c.in-Err-written.ensures.refusal c.in-Err-written.ensures.canon);
       };
       out_after = subst (OutAfter out) (sym c.unwritten.ensures)
@@ -41,7 +48,9 @@ pub returns-in-Err : goal.returns-in-Err
 returns-in-Err g c = record {
   performs = record {
     asks = c.in-Err.ensures.asks;
-    means = on_refused _ _ _ _ _ _ c.in-Err.refusal c.in-Err.ensures.read (λ b r. canon_refused _ c.args.form b c.in-Err.refusal r);
+    means =
+        on_refused _ _ _ _ _ _ c.in-Err.refusal c.in-Err.ensures.read
+        (λ b r. canon_refused _ c.args.form b c.in-Err.refusal r);
   };
   out_after = refl;
   answers = (refl, inl c.in-Err.ensures.refusal);

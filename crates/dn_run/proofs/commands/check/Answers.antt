@@ -16,7 +16,12 @@ returns-in-Ok g c = record {
 
 pub returns : goal.returns
 returns g c = record {
-  performs = record { asks = c.in-Err.ensures.asks; means = on_refused _ _ _ _ _ _ c.in-Err.refusal c.in-Err.ensures.read (λ b r. r) };
+  performs =
+      record {
+        asks = c.in-Err.ensures.asks;
+        means =
+            on_refused _ _ _ _ _ _ c.in-Err.refusal c.in-Err.ensures.read (λ b r. r);
+      };
   out_after = refl;
   answers = (inl refl, c.in-Err.ensures.refusal);
   flushed = tt;

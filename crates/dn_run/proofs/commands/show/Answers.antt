@@ -7,7 +7,11 @@ pub returns-in-Ok-put : goal.returns-in-Ok-put
 returns-in-Ok-put g c = record {
   performs = (
       let shown = c.in-Ok-put.ensures.text in
-      record { asks = c.in-Ok.ensures.asks; means = shown_done _ _ c.in-Ok.held c.in-Ok.ensures.read shown.0 shown.2 shown.1 }
+      record {
+        asks = c.in-Ok.ensures.asks;
+        means =
+            shown_done _ _ c.in-Ok.held c.in-Ok.ensures.read shown.0 shown.2 shown.1;
+      }
       );
   out_after = c.in-Ok-put.ensures.text.1.fine;
   answers = refl;
@@ -18,7 +22,11 @@ pub returns-in-Err-put : goal.returns-in-Err-put
 returns-in-Err-put g c = record {
   performs = (
       let shown = c.in-Err-put.ensures.text in
-      record { asks = c.in-Ok.ensures.asks; means = shown_cut _ _ c.in-Ok.held c.in-Ok.ensures.read shown.0 shown.2 shown.1 }
+      record {
+        asks = c.in-Ok.ensures.asks;
+        means =
+            shown_cut _ _ c.in-Ok.held c.in-Ok.ensures.read shown.0 shown.2 shown.1;
+      }
       );
   out_after = c.in-Err-put.ensures.text.1.failed;
   answers = tt;
@@ -27,7 +35,12 @@ returns-in-Err-put g c = record {
 
 pub returns-in-Err : goal.returns-in-Err
 returns-in-Err g c = record {
-  performs = record { asks = c.in-Err.ensures.asks; means = on_refused _ _ _ _ _ _ c.in-Err.refusal c.in-Err.ensures.read (λ b r. r) };
+  performs =
+      record {
+        asks = c.in-Err.ensures.asks;
+        means =
+            on_refused _ _ _ _ _ _ c.in-Err.refusal c.in-Err.ensures.read (λ b r. r);
+      };
   out_after = refl;
   answers = (refl, c.in-Err.ensures.refusal);
   flushed = tt;

@@ -8,6 +8,12 @@ pub returns-in-Ok-clause-prints : goal.returns-in-Ok-clause-prints
 returns-in-Ok-clause-prints g c = record {
   answer = Done 0;
   status_is = refl;
-  puts = inl (refl, subst (λ l. Appends (g.O.Sink.sink.taken c.args.out.now) (g.O.Sink.sink.taken c.put_and_flush.new.sink) l) c.as_bytes.ensures.value (added c.in-Ok.ensures.puts));
+  puts =
+      inl (
+        refl,
+        subst
+            (λ l. Appends (g.O.Sink.sink.taken c.args.out.now)
+            (g.O.Sink.sink.taken c.put_and_flush.new.sink) l) c.as_bytes.ensures.value (added c.in-Ok.ensures.puts),
+      );
   tells = refl;
 }

@@ -12,7 +12,9 @@ other e = cc
 
 pub returns-then-names_standard_input_twice-clause-asked : goal.returns-then-names_standard_input_twice-clause-asked
 returns-then-names_standard_input_twice-clause-asked g c = record {
-  twice = λ _. record { status_is = refl; files_stay = refl; out_stays = refl; tells = (c.put_all.result, c.put_all.ensures) };
+  twice =
+      λ _. record
+      { status_is = refl; files_stay = refl; out_stays = refl; tells = (c.put_all.result, c.put_all.ensures) };
   once = λ no. absurd (apart (c.if-names_standard_input_twice.ensures ∙ no));
   refused = λ two. absurd (other two);
 }
@@ -22,7 +24,16 @@ returns-in-Ok-clause-asked g c =
     let ran = c.in-Ok.ensures in
     record {
       twice = λ yes. absurd (apart (sym (c.if-names_standard_input_twice.ensures ∙ yes)));
-      once = λ _. record { answer = Done c.in-Ok.status; status_is = refl; answers = ran.answers; performs = ran.performs; out_after = ran.out_after; tells = refl };
+      once =
+          λ _. record {
+            answer = Done c.in-Ok.status;
+            status_is = refl;
+            answers = ran.answers;
+            performs = ran.performs;
+            out_after =
+                ran.out_after;
+            tells = refl;
+          };
       refused = λ two. not_accepted _ _ _ (Done c.in-Ok.status) ran.performs two;
     }
 

@@ -7,10 +7,13 @@ use Rattle.dn_table.proofs.entry_sum.bundle_entries.Goals as goal
 
 pub returns-in-Some : goal.returns-in-Some
 returns-in-Some g c apart arcs tells are few =
-    c.in-Some.ensures ∙ table_entries g.B.Bundle.bundle.kind g.met.B.Bundle.laws (g.B.Bundle.bundle.told One) c.args.entries.now arcs (once_apart (keys_of c.args.entries.now) apart) tells are
+    c.in-Some.ensures ∙ table_entries g.B.Bundle.bundle.kind g.met.B.Bundle.laws
+    (g.B.Bundle.bundle.told One) c.args.entries.now arcs (once_apart (keys_of c.args.entries.now) apart) tells are
 
 pub returns-in-None : goal.returns-in-None
 returns-in-None g c apart arcs tells are few =
-    let all = table_entries g.B.Bundle.bundle.kind g.met.B.Bundle.laws (g.B.Bundle.bundle.told One) c.args.entries.now arcs (once_apart (keys_of c.args.entries.now) apart) tells are in
+    let all =
+    table_entries g.B.Bundle.bundle.kind g.met.B.Bundle.laws (g.B.Bundle.bundle.told One) c.args.entries.now arcs
+    (once_apart (keys_of c.args.entries.now) apart) tells are in
     let over : 2 ^ 64 ≤ graph_entries g.B.Bundle.bundle.kind arcs = subst (λ n. 2 ^ 64 ≤ n) all c.in-None.ensures in
     absurd (omega arith)

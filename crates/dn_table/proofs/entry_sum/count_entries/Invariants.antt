@@ -8,4 +8,5 @@ abbrev pub invariant-loop-bundle : goal.invariant-loop-bundle
 invariant-loop-bundle g l =
     let kind = g.B.Bundle.bundle.kind in
     let told = g.B.Bundle.bundle.told One in
-    l.all + entries_told (λ b. kind.entries (told b)) (drop l.bundle-index l.entries) ≡ entries_told (λ b. kind.entries (told b)) l.entries
+    l.all + entries_told (λ b. kind.entries (told b)) (drop l.bundle-index l.entries) ≡ entries_told
+    (λ b. kind.entries (told b)) l.entries

@@ -13,13 +13,18 @@ returns-in-Ok-clause-ran g c = let r = c.in-Ok.ensures.ran in ran r.0 r.1
 pub returns-in-InvalidData-clause-ran : goal.returns-in-InvalidData-clause-ran
 returns-in-InvalidData-clause-ran g c =
     refused c.refuse_words.ensures.status
-    (subst (λ e. TakesLine (sink_run g.E.Sink.sink (e, c.refuse_words.new.err)) bad_command_line) c.in-Err.ensures.err c.refuse_words.ensures.told)
+    (subst
+    (λ e. TakesLine
+    (sink_run g.E.Sink.sink
+    (e, c.refuse_words.new.err)) bad_command_line) c.in-Err.ensures.err c.refuse_words.ensures.told)
 
 pub returns-in_default : goal.returns-in_default
 returns-in_default g c = record {
   status = omega arith;
   ran = out_of_memory refl (
     c.put_fault_line.result,
-    subst (λ e. Puts g.E.Sink.sink e c.put_fault_line.new.sink (fault_line (codes "dnorm") Memory) c.put_fault_line.result) c.in-Err.ensures.err c.put_fault_line.ensures,
+    subst
+        (λ e. Puts g.E.Sink.sink e c.put_fault_line.new.sink
+        (fault_line (codes "dnorm") Memory) c.put_fault_line.result) c.in-Err.ensures.err c.put_fault_line.ensures,
   );
 }

@@ -13,6 +13,8 @@ loop-i-preserved g c =
 
 pub returns : goal.returns
 returns g c =
-    places_more (keys_of c.args.entries.now) c.args.pair.now (length c.args.entries.now) (sym (length-keys_of c.args.entries.now)) c.loop-i.places c.insert-2.new.self
-    (subst (λ es. HasPlaces c.loop-i.places (keys_of es)) (take_all c.loop-i.i c.args.entries.now (omega arith)) c.loop-i.invariant)
+    places_more (keys_of c.args.entries.now) c.args.pair.now (length c.args.entries.now)
+    (sym (length-keys_of c.args.entries.now)) c.loop-i.places c.insert-2.new.self
+    (subst (λ es. HasPlaces c.loop-i.places (keys_of es))
+    (take_all c.loop-i.i c.args.entries.now (omega arith)) c.loop-i.invariant)
     (λ q. c.in_ok-insert-2.ensures.updates.0 q)

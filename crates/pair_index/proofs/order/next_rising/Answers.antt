@@ -9,8 +9,12 @@ returns-then-next-entries g c =
     let keys = keys_of c.args.entries.now in
     let all = length-keys_of c.args.entries.now in
     let inside = subst (λ n. c.args.at < n) (sym all) c.requires.inside in
-    let next = subst (λ n. c.args.at + 1 < n) (sym all) c.if-next-entries.true in
-    (next, up_at keys c.requires.rising c.args.at (c.args.at + 1) (omega arith) next, λ i lt past. next_up keys c.requires.rising c.args.at i inside lt past)
+    let next = subst (λ n. c.args.at + 1 < n) (sym all) c.if-next-entries.true in (
+      next,
+      up_at keys c.requires.rising c.args.at (c.args.at + 1)
+          (omega arith) next,
+      λ i lt past. next_up keys c.requires.rising c.args.at i inside lt past,
+    )
 
 pub returns-else-next-entries : goal.returns-else-next-entries
 returns-else-next-entries g c i lt past =

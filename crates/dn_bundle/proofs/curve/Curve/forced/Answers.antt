@@ -8,9 +8,15 @@ use Rattle.dn_bundle.proofs.curve.Curve.forced.Goals as goal
 pub returns-clause-units : goal.returns-clause-units
 returns-clause-units c =
     let self = c.args.self.now in
-    to_z-of_z w64 c.units.result (search rules) ∙ c.units.ensures ∙ sym (told_units self.units self.cost self.steps self.sound.some (none_is self.units self.cost self.total self.steps self.sound) self.sound.rising)
+    to_z-of_z w64 c.units.result (search rules) ∙ c.units.ensures
+    ∙ sym
+    (told_units self.units self.cost self.steps self.sound.some
+    (none_is self.units self.cost self.total self.steps self.sound) self.sound.rising)
 
 pub returns-clause-cost : goal.returns-clause-cost
 returns-clause-cost c =
     let self = c.args.self.now in
-    to_z-of_z w128 c.cost.result (search rules) ∙ c.cost.ensures ∙ sym (told_cost self.units self.cost self.steps self.sound.some (none_is self.units self.cost self.total self.steps self.sound) self.sound.rising)
+    to_z-of_z w128 c.cost.result (search rules) ∙ c.cost.ensures
+    ∙ sym
+    (told_cost self.units self.cost self.steps self.sound.some
+    (none_is self.units self.cost self.total self.steps self.sound) self.sound.rising)

@@ -5,7 +5,10 @@ use Rattle.dn_bundle.proofs.CurveLaws.{free_arcs, costs_told}
 use Rattle.dn_bundle.proofs.curve.Curve.free_len.Goals as goal
 
 pub returns-clause-arcs : goal.returns-clause-arcs
-returns-clause-arcs c = let self = c.args.self.now in c.steps_len.ensures.len ∙ sym (ap length (free_arcs self.units self.cost self.total self.steps self.sound) ∙ length-map self.steps step_arc)
+returns-clause-arcs c = let self = c.args.self.now in
+    c.steps_len.ensures.len ∙ sym
+    (ap length (free_arcs self.units self.cost self.total self.steps self.sound) ∙ length-map self.steps step_arc)
 
 pub returns-clause-costs : goal.returns-clause-costs
-returns-clause-costs c = let self = c.args.self.now in c.steps_len.ensures.len ∙ sym (costs_told self.units self.cost self.total self.steps self.sound)
+returns-clause-costs c = let self = c.args.self.now in
+    c.steps_len.ensures.len ∙ sym (costs_told self.units self.cost self.total self.steps self.sound)

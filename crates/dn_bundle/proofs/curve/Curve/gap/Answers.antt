@@ -57,7 +57,9 @@ returns-then-left_cost-right_cost c =
     let s : IsSound l lc self.total self.steps = rw (c.units-left.ensures, c.cost-left_cost.ensures) self.sound in
     let o : IsSound r rc other.total other.steps = rw (c.units-right.ensures, c.cost-right_cost.ensures) other.sound in
     rw (to_z-of_z w64 l f, to_z-of_z w128 lc h, to_z-of_z w128 rc k, ← c.units-left.ensures, ← c.cost-left_cost.ensures, ← c.units-right.ensures, ← c.cost-right_cost.ensures)
-    (cost_gap l lc self.total self.steps s r rc other.total other.steps o (not_apart l r f g c.if-left-right.false c.if-right-left.false) (λ e. c.if-left_cost-right_cost.true (ap (of_z w128) e)))
+    (cost_gap l lc self.total self.steps s r rc other.total other.steps o
+    (not_apart l r f g c.if-left-right.false c.if-right-left.false)
+    (λ e. c.if-left_cost-right_cost.true (ap (of_z w128) e)))
 
 pub first_gap-requires : goal.first_gap-requires
 first_gap-requires c =
@@ -74,7 +76,8 @@ first_gap-requires c =
     let s : IsSound l lc self.total self.steps = rw (c.units-left.ensures, c.cost-left_cost.ensures) self.sound in
     let o : IsSound r rc other.total other.steps = rw (c.units-right.ensures, c.cost-right_cost.ensures) other.sound in
     rw (to_z-of_z w64 l f, to_z-of_z w128 lc h, c.steps.ensures, c.steps-else-left_cost-right_cost.ensures)
-    (from_units l lc self.total self.steps s r rc other.total other.steps o (not_apart l r f g c.if-left-right.false c.if-right-left.false))
+    (from_units l lc self.total self.steps s r rc other.total other.steps o
+    (not_apart l r f g c.if-left-right.false c.if-right-left.false))
 
 pub returns-else-left_cost-right_cost : goal.returns-else-left_cost-right_cost
 returns-else-left_cost-right_cost c =
@@ -90,7 +93,11 @@ returns-else-left_cost-right_cost c =
     let k : FitsSigned w128 rc = search rules in
     let s : IsSound l lc self.total self.steps = rw (c.units-left.ensures, c.cost-left_cost.ensures) self.sound in
     let o : IsSound r rc other.total other.steps = rw (c.units-right.ensures, c.cost-right_cost.ensures) other.sound in
-    let first : c.first_gap.result ≡ first_gap l lc self.steps other.steps = c.first_gap.ensures ∙ rw (to_z-of_z w64 l f, to_z-of_z w128 lc h, c.steps.ensures, c.steps-else-left_cost-right_cost.ensures) refl in
+    let first : c.first_gap.result ≡ first_gap l lc self.steps other.steps =
+    c.first_gap.ensures ∙ rw
+    (to_z-of_z w64 l f, to_z-of_z w128 lc h, c.steps.ensures, c.steps-else-left_cost-right_cost.ensures) refl in
     rw (← c.units-left.ensures, ← c.cost-left_cost.ensures, ← c.units-right.ensures, ← c.cost-right_cost.ensures)
     (subst (Parts l lc self.steps r rc other.steps) (sym first)
-    (step_gap l lc self.total self.steps s r rc other.total other.steps o (not_apart l r f g c.if-left-right.false c.if-right-left.false) (sym (to_z-of_z w128 lc h) ∙ ap (to_z w128) c.if-left_cost-right_cost.false ∙ to_z-of_z w128 rc k)))
+    (step_gap l lc self.total self.steps s r rc other.total other.steps o
+    (not_apart l r f g c.if-left-right.false c.if-right-left.false)
+    (sym (to_z-of_z w128 lc h) ∙ ap (to_z w128) c.if-left_cost-right_cost.false ∙ to_z-of_z w128 rc k)))

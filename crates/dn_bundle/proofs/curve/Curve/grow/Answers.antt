@@ -10,16 +10,24 @@ use Rattle.dn_bundle.proofs.curve.Curve.grow.Goals as goal
 pub invariant_of-self-inside : goal.invariant_of-self-inside
 invariant_of-self-inside c =
     let old = numbers_of c.self.inside.shape in
-    let total = c.requires.total ∙ ap (λ (v : CurveNumbers). v.total +ℤ c.args.arc.cap) (sym c.self.view_is) in
-    (taken_sound old (numbers_of c.add.new.self) c.args.arc c.args.total c.self.inside.sound c.requires.arc total c.ranges.total (search rules) c.add.result c.add.ensures.ok c.add.ensures.err, tt)
+    let total = c.requires.total ∙ ap (λ (v : CurveNumbers). v.total +ℤ c.args.arc.cap) (sym c.self.view_is) in (
+      taken_sound old
+          (numbers_of c.add.new.self) c.args.arc c.args.total c.self.inside.sound c.requires.arc total c.ranges.total
+          (search rules) c.add.result c.add.ensures.ok c.add.ensures.err,
+      tt,
+    )
 
 pub returns-in-Err-clause-err : goal.returns-in-Err-clause-err
-returns-in-Err-clause-err c = same_curve c.self.inside.shape c.add.new.self c.self.inside.sound _ c.in-Err.ensures.err ∙ c.self.view_is
+returns-in-Err-clause-err c =
+    same_curve c.self.inside.shape c.add.new.self c.self.inside.sound _ c.in-Err.ensures.err ∙ c.self.view_is
 
 pub returns-clause-ok : goal.returns-clause-ok
 returns-clause-ok c =
     let old = numbers_of c.self.inside.shape in
     let new = numbers_of c.add.new.self in
     let total = c.requires.total ∙ ap (λ (v : CurveNumbers). v.total +ℤ c.args.arc.cap) (sym c.self.view_is) in
-    subst (λ (v : CurveNumbers). SameCurve (told One new.units new.cost new.steps) (told One v.units v.cost v.steps ++ c.args.arc ∷ [])) c.self.view_is
-    (taken_same old new c.args.arc c.args.total c.self.inside.sound c.requires.arc total c.ranges.total (search rules) c.in_default.ensures.ok)
+    subst
+    (λ (v : CurveNumbers). SameCurve (told One new.units new.cost new.steps)
+    (told One v.units v.cost v.steps ++ c.args.arc ∷ [])) c.self.view_is
+    (taken_same old new c.args.arc c.args.total c.self.inside.sound c.requires.arc total c.ranges.total
+    (search rules) c.in_default.ensures.ok)

@@ -9,7 +9,12 @@ use Rattle.dn_bundle.proofs.curve.Curve.spread.Goals as goal
 pub returns-then-units-eq0 : goal.returns-then-units-eq0
 returns-then-units-eq0 c =
     let self = c.args.self.now in
-    record { value = rw (← c.units-units.ensures) (none_fixed c.units-units.result self.cost (search rules) c.if-units-eq0.true); next = tt }
+    record {
+      value =
+          rw (← c.units-units.ensures)
+          (none_fixed c.units-units.result self.cost (search rules) c.if-units-eq0.true);
+      next = tt;
+    }
 
 pub floor-each-requires : goal.floor-each-requires
 floor-each-requires c =
@@ -21,7 +26,8 @@ floor-each-requires c =
     let some : pos 0 ≤ℤ units = rw c.units-units.ensures self.sound.some in
     let mean : IsMean cost units = rw (c.units-units.ensures, c.cost-cost.ensures) self.sound.mean in
     let unit = not_zero units fu c.if-units-eq0.false some in
-    let mean_is : IsMean (to_z w128 (of_z w128 cost)) (to_z w64 (of_z w64 units)) = rw (to_z-of_z w128 cost fc, to_z-of_z w64 units fu) mean in
+    let mean_is : IsMean (to_z w128 (of_z w128 cost)) (to_z w64 (of_z w64 units)) =
+    rw (to_z-of_z w128 cost fc, to_z-of_z w64 units fu) mean in
     record { unit = rw (to_z-of_z w64 units fu) unit; mean = mean_is }
 
 pub overflow_sub-result : goal.overflow_sub-result
@@ -33,8 +39,10 @@ overflow_sub-result c =
     let fc : FitsSigned w128 cost = search rules in
     let some : pos 0 ≤ℤ units = rw c.units-units.ensures self.sound.some in
     let mean : IsMean cost units = rw (c.units-units.ensures, c.cost-cost.ensures) self.sound.mean in
-    let floor : IsFloor cost units c.floor-each.result.0 c.floor-each.result.1 = rw (to_z-of_z w128 cost fc, to_z-of_z w64 units fu) at c.floor-each.ensures in
-    less_fits units cost c.floor-each.result.0 c.floor-each.result.1 fu (search rules) (search rules) some c.if-units-eq0.false floor
+    let floor : IsFloor cost units c.floor-each.result.0 c.floor-each.result.1 =
+    rw (to_z-of_z w128 cost fc, to_z-of_z w64 units fu) at c.floor-each.ensures in
+    less_fits units cost c.floor-each.result.0 c.floor-each.result.1 fu (search rules)
+    (search rules) some c.if-units-eq0.false floor
 
 pub returns-then-rest-eq0 : goal.returns-then-rest-eq0
 returns-then-rest-eq0 c =
@@ -45,9 +53,13 @@ returns-then-rest-eq0 c =
     let fc : FitsSigned w128 cost = search rules in
     let some : pos 0 ≤ℤ units = rw c.units-units.ensures self.sound.some in
     let mean : IsMean cost units = rw (c.units-units.ensures, c.cost-cost.ensures) self.sound.mean in
-    let floor : IsFloor cost units c.floor-each.result.0 c.floor-each.result.1 = rw (to_z-of_z w128 cost fc, to_z-of_z w64 units fu) at c.floor-each.ensures in
+    let floor : IsFloor cost units c.floor-each.result.0 c.floor-each.result.1 =
+    rw (to_z-of_z w128 cost fc, to_z-of_z w64 units fu) at c.floor-each.ensures in
     record {
-      value = rw (← c.units-units.ensures, ← c.cost-cost.ensures) (one_fixed units cost c.floor-each.result.0 c.floor-each.result.1 fu (search rules) (search rules) some c.if-units-eq0.false floor c.if-rest-eq0.true);
+      value =
+          rw (← c.units-units.ensures, ← c.cost-cost.ensures)
+          (one_fixed units cost c.floor-each.result.0 c.floor-each.result.1 fu (search rules)
+          (search rules) some c.if-units-eq0.false floor c.if-rest-eq0.true);
       next = tt;
     }
 
@@ -60,7 +72,8 @@ returns-else-rest-eq0 c =
     let fc : FitsSigned w128 cost = search rules in
     let some : pos 0 ≤ℤ units = rw c.units-units.ensures self.sound.some in
     let mean : IsMean cost units = rw (c.units-units.ensures, c.cost-cost.ensures) self.sound.mean in
-    let floor : IsFloor cost units c.floor-each.result.0 c.floor-each.result.1 = rw (to_z-of_z w128 cost fc, to_z-of_z w64 units fu) at c.floor-each.ensures in
+    let floor : IsFloor cost units c.floor-each.result.0 c.floor-each.result.1 =
+    rw (to_z-of_z w128 cost fc, to_z-of_z w64 units fu) at c.floor-each.ensures in
     let fe : FitsSigned w64 c.floor-each.result.0 = search rules in
     let fr : FitsSigned w64 c.floor-each.result.1 = search rules in
     record {

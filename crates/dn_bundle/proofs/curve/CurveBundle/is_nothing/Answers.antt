@@ -6,4 +6,6 @@ use Rattle.dn_bundle.proofs.curve.CurveBundle.is_nothing.Goals as goal
 pub returns : goal.returns
 returns c =
     let self = c.args.self.now in
-    rw c.total.ensures (nothing_is self.units self.cost self.total self.steps self.sound (subst (FitsSigned w64) c.total.ensures (search rules)))
+    rw c.total.ensures
+    (nothing_is self.units self.cost self.total self.steps self.sound
+    (subst (FitsSigned w64) c.total.ensures (search rules)))

@@ -7,5 +7,6 @@ pub returns : goal.returns
 returns c =
     let room : c.self.inside.used + 128 ≤ 8192 = search rules in
     let first = take_more_set c.self.inside.bytes c.self.inside.used c.args.letter (omega arith) in
-    line_added c.args.self.now _ _ _ c.args.letter c.args.numbers.now (first ∙ ap (λ l. l ++ c.args.letter ∷ []) c.self.view_is) c.put_numbers-end.ensures.text
+    line_added c.args.self.now _ _ _ c.args.letter c.args.numbers.now
+    (first ∙ ap (λ l. l ++ c.args.letter ∷ []) c.self.view_is) c.put_numbers-end.ensures.text
     (take_more_set c.put_numbers-end.new.bytes c.put_numbers-end.result 10 (omega arith))

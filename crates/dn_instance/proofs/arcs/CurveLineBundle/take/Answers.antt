@@ -27,7 +27,8 @@ returns-clause-answer c signs before p h k n t =
     let answer = simp to_z-of_z at c.take_arc.ensures.answer in
     let is = not (int_lt a.cap a.low) in
     subst (AnswersFault c.take_arc.result)
-    (sym (cost_item before p a.src a.dst a.low a.cap a.cost h k ∙ ap (λ m. arc_fault costs m (arcs_of cost_arc_in before) is ((a.src, a.dst), arc)) n))
+    (sym (cost_item before p a.src a.dst a.low a.cap a.cost h k
+    ∙ ap (λ m. arc_fault costs m (arcs_of cost_arc_in before) is ((a.src, a.dst), arc)) n))
     (answer (arcs_of cost_arc_in before) is t.tells_them t.are_arcs (is_cost_arc a.low a.cap a.cost signs.0))
 
 pub returns-clause-stands : goal.returns-clause-stands
@@ -41,16 +42,25 @@ returns-clause-stands c signs before t =
     let stands = simp to_z-of_z at c.take_arc.ensures.stands in
     let is = not (int_lt c.args.arc.now.cap c.args.arc.now.low) in
     let arcs = arcs_of cost_arc_in before in
-    by_result c.take_arc.result (answer arcs is t.tells_them t.are_arcs (is_cost_arc c.args.arc.now.low c.args.arc.now.cap c.args.arc.now.cost signs.0)) (stands arcs cost_stays t.tells_them t.are_arcs)
+    by_result c.take_arc.result
+    (answer arcs is t.tells_them t.are_arcs
+    (is_cost_arc c.args.arc.now.low c.args.arc.now.cap c.args.arc.now.cost signs.0))
+    (stands arcs cost_stays t.tells_them t.are_arcs)
   where
     placed : (ℤ × ℤ) × CostArc
     placed = let a = c.args.arc.now in ((a.src, a.dst), record { low = a.low; cap = a.cap; cost = a.cost })
 
-    by_result : (r : Result (Unit {0}) ItemFault) → AnswersFault r (arc_fault costs c.args.nodes.now (arcs_of cost_arc_in before) (not (int_lt c.args.arc.now.cap c.args.arc.now.low)) placed)
-        → OnOk r (TableTells costs (λ b. told One b.units b.cost b.steps) c.take_arc.new.table (arcs_of cost_arc_in before ++ placed ∷ []))
+    by_result : (r : Result (Unit {0}) ItemFault)
+        → AnswersFault r
+        (arc_fault costs c.args.nodes.now (arcs_of cost_arc_in before)
+        (not (int_lt c.args.arc.now.cap c.args.arc.now.low)) placed)
+        → OnOk r
+        (TableTells costs (λ b. told One b.units b.cost b.steps) c.take_arc.new.table
+        (arcs_of cost_arc_in before ++ placed ∷ []))
         → OnOk r (TableHolds costs cost_arc_in (λ b. told One b.units b.cost b.steps) c.take_arc.new.table (before ++ MinArc c.args.arc.now.src c.args.arc.now.dst c.args.arc.now.low c.args.arc.now.cap c.args.arc.now.cost ∷ []))
     by_result (Err e) ans ok = tt
     by_result (Ok x) ans ok =
         table_grown costs cost_arc_in _ c.take_arc.new.table before _ placed (cost_grown before c.args.arc.now.src c.args.arc.now.dst c.args.arc.now.low c.args.arc.now.cap c.args.arc.now.cost) t.are_arcs
-        ((is_cost_arc c.args.arc.now.low c.args.arc.now.cap c.args.arc.now.cost signs.0).0 (taken_arc c.args.nodes.now before _ placed ans))
+        ((is_cost_arc c.args.arc.now.low c.args.arc.now.cap c.args.arc.now.cost signs.0).0
+        (taken_arc c.args.nodes.now before _ placed ans))
         ok

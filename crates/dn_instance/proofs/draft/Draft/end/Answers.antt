@@ -17,7 +17,19 @@ use Rattle.dn_instance.proofs.draft.Draft.end.Goals as goal
 pub returns-in-Min : goal.returns-in-Min
 returns-in-Min c nodes items h =
     let k = subst (λ d. DraftHolds d items) c.in-Min.is h in
-    let out : Makes (draft_kind (Drafts.Min c.in-Min.supplies c.in-Min.idle c.in-Min.table)) nodes items (Ok (Kept.Min c.in-Min.supplies c.end.result)) = (refl, (_, refl, (k.0, stands_as costs (λ (b : CurveNumbers). told One b.units b.cost b.steps) c.in-Min.table c.end.result (arcs_of cost_arc_in items) c.end.ensures.rising c.end.ensures.kept k.2.tells_them))) in
+    let out : Makes (draft_kind (Drafts.Min c.in-Min.supplies c.in-Min.idle c.in-Min.table)) nodes items
+    (Ok (Kept.Min c.in-Min.supplies c.end.result)) = (
+      refl,
+      (
+        _,
+        refl,
+        (
+          k.0,
+          stands_as costs (λ (b : CurveNumbers). told One b.units b.cost b.steps) c.in-Min.table c.end.result
+              (arcs_of cost_arc_in items) c.end.ensures.rising c.end.ensures.kept k.2.tells_them,
+        ),
+      ),
+    ) in
     subst (λ d. Makes (draft_kind d) nodes items (Ok (Kept.Min c.in-Min.supplies c.end.result))) (sym c.in-Min.is) out
 
 pub returns-in-Some-Some : goal.returns-in-Some-Some
@@ -29,23 +41,34 @@ returns-in-Some-Some c nodes items h =
 pub returns-in-Sp : goal.returns-in-Sp
 returns-in-Sp c nodes items h =
     let k = subst (λ d. DraftHolds d items) c.in-Sp.is h in
-    let out : Makes (draft_kind (Drafts.Sp c.in-Sp.table)) nodes items (Ok (Kept.Sp c.end-in-Sp.result)) = (refl, (_, refl, stands_as lengths (λ (b : Least). length_told b.length) c.in-Sp.table c.end-in-Sp.result (arcs_of length_arc_in items) c.end-in-Sp.ensures.rising c.end-in-Sp.ensures.kept k.tells_them)) in
+    let out : Makes (draft_kind (Drafts.Sp c.in-Sp.table)) nodes items (Ok (Kept.Sp c.end-in-Sp.result)) = (
+      refl,
+      (
+        _,
+        refl,
+        stands_as lengths (λ (b : Least). length_told b.length) c.in-Sp.table c.end-in-Sp.result
+            (arcs_of length_arc_in items) c.end-in-Sp.ensures.rising c.end-in-Sp.ensures.kept k.tells_them,
+      ),
+    ) in
     subst (λ d. Makes (draft_kind d) nodes items (Ok (Kept.Sp c.end-in-Sp.result))) (sym c.in-Sp.is) out
 
 pub returns-in-Ss : goal.returns-in-Ss
 returns-in-Ss c nodes items h =
     let k = subst (λ d. DraftHolds d items) c.in-Ss.is h in
-    let out : Makes (draft_kind (Drafts.Ss c.in-Ss.ids)) nodes items (Ok (Kept.Ss c.in-Ss.ids)) = (refl, (_, refl, k)) in
+    let out : Makes (draft_kind (Drafts.Ss c.in-Ss.ids)) nodes items (Ok (Kept.Ss c.in-Ss.ids)) =
+    (refl, (_, refl, k)) in
     subst (λ d. Makes (draft_kind d) nodes items (Ok (Kept.Ss c.in-Ss.ids))) (sym c.in-Ss.is) out
 
 pub returns-in-P2p : goal.returns-in-P2p
 returns-in-P2p c nodes items h =
     let k = subst (λ d. DraftHolds d items) c.in-P2p.is h in
-    let out : Makes (draft_kind (Drafts.P2p c.in-P2p.pairs)) nodes items (Ok (Kept.P2p c.in-P2p.pairs)) = (refl, (_, refl, k)) in
+    let out : Makes (draft_kind (Drafts.P2p c.in-P2p.pairs)) nodes items (Ok (Kept.P2p c.in-P2p.pairs)) =
+    (refl, (_, refl, k)) in
     subst (λ d. Makes (draft_kind d) nodes items (Ok (Kept.P2p c.in-P2p.pairs))) (sym c.in-P2p.is) out
 
 pub returns-in-Co : goal.returns-in-Co
 returns-in-Co c nodes items h =
     let k = subst (λ d. DraftHolds d items) c.in-Co.is h in
-    let out : Makes (draft_kind (Drafts.Co c.in-Co.points)) nodes items (Ok (Kept.Co c.in-Co.points)) = (refl, (_, refl, k)) in
+    let out : Makes (draft_kind (Drafts.Co c.in-Co.points)) nodes items (Ok (Kept.Co c.in-Co.points)) =
+    (refl, (_, refl, k)) in
     subst (λ d. Makes (draft_kind d) nodes items (Ok (Kept.Co c.in-Co.points))) (sym c.in-Co.is) out

@@ -27,12 +27,15 @@ returns-in-Sp c items h few =
 
 pub returns-in-Ss : goal.returns-in-Ss
 returns-in-Ss c items h few =
-    c.len.ensures ∙ c.in-Ss.ids.ok.0 ∙ ap length (subst (λ d. DraftHolds d items) c.in-Ss.is h) ∙ sym (ap (λ k. entries_by k items) (ap draft_kind c.in-Ss.is))
+    c.len.ensures ∙ c.in-Ss.ids.ok.0 ∙ ap length (subst (λ d. DraftHolds d items) c.in-Ss.is h)
+    ∙ sym (ap (λ k. entries_by k items) (ap draft_kind c.in-Ss.is))
 
 pub returns-in-P2p : goal.returns-in-P2p
 returns-in-P2p c items h few =
-    c.len-in-P2p.ensures ∙ c.in-P2p.pairs.ok.0 ∙ ap length (subst (λ d. DraftHolds d items) c.in-P2p.is h) ∙ sym (ap (λ k. entries_by k items) (ap draft_kind c.in-P2p.is))
+    c.len-in-P2p.ensures ∙ c.in-P2p.pairs.ok.0 ∙ ap length (subst (λ d. DraftHolds d items) c.in-P2p.is h)
+    ∙ sym (ap (λ k. entries_by k items) (ap draft_kind c.in-P2p.is))
 
 pub returns-in-Co : goal.returns-in-Co
 returns-in-Co c items h few =
-    c.len-in-Co.ensures.len ∙ ap length (subst (λ d. DraftHolds d items) c.in-Co.is h) ∙ sym (ap (λ k. entries_by k items) (ap draft_kind c.in-Co.is))
+    c.len-in-Co.ensures.len ∙ ap length (subst (λ d. DraftHolds d items) c.in-Co.is h)
+    ∙ sym (ap (λ k. entries_by k items) (ap draft_kind c.in-Co.is))

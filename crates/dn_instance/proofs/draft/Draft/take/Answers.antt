@@ -17,8 +17,10 @@ returns-clause-answer c before next =
     elim c.match-self.branch [
       | in-Min-MinArc w ↦
           (let e = c.numbers_of-arc.ensures.min _ _ _ _ _ w.in-Min-MinArc.is-1 in
-          to_answer c.args.nodes.now c.args.self.now _ c.args.line _ c.match-self.result _ w.in-Min-MinArc.is-0 (sym e) w.result-is
-          (λ items p d. w.take.ensures.answer (subst HasSigns (sym e) next.signs) items p d.problem_is (own_kind d.kind_is) d.nodes_are d.holds.2))
+          to_answer c.args.nodes.now c.args.self.now _ c.args.line _ c.match-self.result _ w.in-Min-MinArc.is-0
+          (sym e) w.result-is
+          (λ items p d. w.take.ensures.answer (subst HasSigns (sym e) next.signs) items p d.problem_is
+          (own_kind d.kind_is) d.nodes_are d.holds.2))
       | in-Min-Supply w ↦
           (let fi : FitsSigned w64 w.in-Min-Supply.id = search rules in
           let ff : FitsSigned w64 w.in-Min-Supply.flow = search rules in
@@ -27,22 +29,28 @@ returns-clause-answer c before next =
           (supply_answer c.args.nodes.now w.in-Min-Supply.id w.in-Min-Supply.flow w.in-Min-Supply.supplies w.in-Min-Supply.idle _ w.take_supply.result ans))
       | in-Max-MaxArc w ↦
           (let e = c.numbers_of-arc.ensures.max _ _ _ w.in-Max-MaxArc.is-1 in
-          to_answer c.args.nodes.now c.args.self.now _ c.args.line _ c.match-self.result _ w.in-Max-MaxArc.is-0 (sym e) w.result-is
-          (λ items p d. w.take-in-Max-MaxArc.ensures.answer (subst HasSigns (sym e) next.signs) items p d.problem_is (own_kind d.kind_is) d.nodes_are d.holds.2))
+          to_answer c.args.nodes.now c.args.self.now _ c.args.line _ c.match-self.result _ w.in-Max-MaxArc.is-0
+          (sym e) w.result-is
+          (λ items p d. w.take-in-Max-MaxArc.ensures.answer (subst HasSigns (sym e) next.signs) items p d.problem_is
+          (own_kind d.kind_is) d.nodes_are d.holds.2))
       | in-Max-Terminal+in-S w ↦
           (let fi : FitsSigned w64 w.in-Max-Terminal.id = search rules in
           let ans = simp to_z-of_z at w.take_terminal.ensures.answer in
-          to_answer c.args.nodes.now c.args.self.now _ c.args.line _ c.match-self.result _ w.in-Max-Terminal.is-0 (w.in-Max-Terminal.is-1 ∙ ap (Terminal w.in-Max-Terminal.id) w.in-S.is) w.result-is
+          to_answer c.args.nodes.now c.args.self.now _ c.args.line _ c.match-self.result _ w.in-Max-Terminal.is-0
+          (w.in-Max-Terminal.is-1 ∙ ap (Terminal w.in-Max-Terminal.id) w.in-S.is) w.result-is
           (source_answer c.args.nodes.now w.in-Max-Terminal.id _ _ _ w.take_terminal.result ans))
       | in-Max-Terminal+in-T w ↦
           (let fi : FitsSigned w64 w.in-Max-Terminal.id = search rules in
           let ans = simp to_z-of_z at w.take_terminal-in-T.ensures.answer in
-          to_answer c.args.nodes.now c.args.self.now _ c.args.line _ c.match-self.result _ w.in-Max-Terminal.is-0 (w.in-Max-Terminal.is-1 ∙ ap (Terminal w.in-Max-Terminal.id) w.in-T.is) w.result-is
+          to_answer c.args.nodes.now c.args.self.now _ c.args.line _ c.match-self.result _ w.in-Max-Terminal.is-0
+          (w.in-Max-Terminal.is-1 ∙ ap (Terminal w.in-Max-Terminal.id) w.in-T.is) w.result-is
           (sink_answer c.args.nodes.now w.in-Max-Terminal.id _ _ _ w.take_terminal-in-T.result ans))
       | in-Sp-SpArc w ↦
           (let e = c.numbers_of-arc.ensures.sp _ _ _ w.in-Sp-SpArc.is-1 in
-          to_answer c.args.nodes.now c.args.self.now _ c.args.line _ c.match-self.result _ w.in-Sp-SpArc.is-0 (sym e) w.result-is
-          (λ items p d. w.take-in-Sp-SpArc.ensures.answer (subst HasSigns (sym e) next.signs) items p d.problem_is (own_kind d.kind_is) d.nodes_are d.holds))
+          to_answer c.args.nodes.now c.args.self.now _ c.args.line _ c.match-self.result _ w.in-Sp-SpArc.is-0
+          (sym e) w.result-is
+          (λ items p d. w.take-in-Sp-SpArc.ensures.answer (subst HasSigns (sym e) next.signs) items p d.problem_is
+          (own_kind d.kind_is) d.nodes_are d.holds))
       | in-Ss-Source w ↦
           (let fi : FitsSigned w64 w.in-Ss-Source.id = search rules in
           let ans = simp to_z-of_z at w.take_source.ensures.answer in
@@ -53,19 +61,28 @@ returns-clause-answer c before next =
           let fb : FitsSigned w64 w.in-P2p-Query.second = search rules in
           let ans = simp to_z-of_z at w.take_query.ensures.answer in
           to_answer c.args.nodes.now c.args.self.now _ c.args.line _ c.match-self.result _ w.in-P2p-Query.is-0 w.in-P2p-Query.is-1 w.result-is
-          (pair_answer c.args.nodes.now (w.in-P2p-Query.first, w.in-P2p-Query.second) w.in-P2p-Query.pairs w.take_query.result ans))
+          (pair_answer c.args.nodes.now
+          (w.in-P2p-Query.first, w.in-P2p-Query.second) w.in-P2p-Query.pairs w.take_query.result ans))
       | in-Co-Point w ↦
           (let fi : FitsSigned w64 w.in-Co-Point.id = search rules in
           let ans = simp to_z-of_z at w.take_point.ensures.answer in
           to_answer c.args.nodes.now c.args.self.now _ c.args.line _ c.match-self.result _ w.in-Co-Point.is-0 w.in-Co-Point.is-1 w.result-is
           (point_answer c.args.nodes.now w.in-Co-Point.id w.in-Co-Point.x w.in-Co-Point.y w.in-Co-Point.points w.take_point.result ans))
-      | in_default-2 w ↦ absurd (no_max c.args.line (ap draft_kind (sym w.in_default.is-0) ∙ kind) w.in_default.not-Terminal-1 w.in_default.not-MaxArc-1)
-      | in_default-3 w ↦ absurd (no_sp c.args.line (ap draft_kind (sym w.in_default.is-0) ∙ kind) w.in_default.not-SpArc-1)
-      | in_default-4 w ↦ absurd (no_ss c.args.line (ap draft_kind (sym w.in_default.is-0) ∙ kind) w.in_default.not-Source-1)
-      | in_default-5 w ↦ absurd (no_p2p c.args.line (ap draft_kind (sym w.in_default.is-0) ∙ kind) w.in_default.not-Query-1)
+      | in_default-2 w ↦ absurd
+          (no_max c.args.line
+          (ap draft_kind (sym w.in_default.is-0) ∙ kind) w.in_default.not-Terminal-1 w.in_default.not-MaxArc-1)
+      | in_default-3 w ↦ absurd
+          (no_sp c.args.line (ap draft_kind (sym w.in_default.is-0) ∙ kind) w.in_default.not-SpArc-1)
+      | in_default-4 w ↦ absurd
+          (no_ss c.args.line (ap draft_kind (sym w.in_default.is-0) ∙ kind) w.in_default.not-Source-1)
+      | in_default-5 w ↦ absurd
+          (no_p2p c.args.line (ap draft_kind (sym w.in_default.is-0) ∙ kind) w.in_default.not-Query-1)
       | in_default-7 w ↦ absurd (no_empty c.args.self.now _ (sym w.in_default.is-0) next.drafted.kind_is)
-      | in_default-6 w ↦ absurd (no_co c.args.line (ap draft_kind (sym w.in_default.is-0) ∙ kind) w.in_default.not-Point-1)
-      | in_default w ↦ absurd (no_min c.args.line (ap draft_kind (sym w.in_default.is-0) ∙ kind) w.in_default.not-Supply-1 w.in_default.not-MinArc-1)
+      | in_default-6 w ↦ absurd
+          (no_co c.args.line (ap draft_kind (sym w.in_default.is-0) ∙ kind) w.in_default.not-Point-1)
+      | in_default w ↦ absurd
+          (no_min c.args.line
+          (ap draft_kind (sym w.in_default.is-0) ∙ kind) w.in_default.not-Supply-1 w.in_default.not-MinArc-1)
     ]
     in
     answering before next.problem next.drafted
@@ -77,8 +94,10 @@ returns-clause-holds c before next =
       | in-Min-MinArc w ↦
           (let r = c.numbers_of-arc.result in
           let e = c.numbers_of-arc.ensures.min _ _ _ _ _ w.in-Min-MinArc.is-1 in
-          to_stand c.args.self.now _ c.args.line _ c.match-self.self _ c.match-self.result _ w.in-Min-MinArc.is-0 (sym e) w.self-is w.result-is
-          (cost_stand w.in-Min-MinArc.supplies-0 w.in-Min-MinArc.idle-0 _ _ r.src r.dst r.low r.cap r.cost w.take.result (w.take.ensures.stands (subst HasSigns (sym e) next.signs))))
+          to_stand c.args.self.now _ c.args.line _ c.match-self.self _ c.match-self.result _ w.in-Min-MinArc.is-0
+          (sym e) w.self-is w.result-is
+          (cost_stand w.in-Min-MinArc.supplies-0 w.in-Min-MinArc.idle-0 _ _ r.src r.dst r.low r.cap r.cost w.take.result
+          (w.take.ensures.stands (subst HasSigns (sym e) next.signs))))
       | in-Min-Supply w ↦
           (let fi : FitsSigned w64 w.in-Min-Supply.id = search rules in
           let ff : FitsSigned w64 w.in-Min-Supply.flow = search rules in
@@ -89,23 +108,28 @@ returns-clause-holds c before next =
       | in-Max-MaxArc w ↦
           (let r = c.numbers_of-arc.result in
           let e = c.numbers_of-arc.ensures.max _ _ _ w.in-Max-MaxArc.is-1 in
-          to_stand c.args.self.now _ c.args.line _ c.match-self.self _ c.match-self.result _ w.in-Max-MaxArc.is-0 (sym e) w.self-is w.result-is
-          (cap_stand _ _ _ _ r.src r.dst r.cap w.take-in-Max-MaxArc.result (w.take-in-Max-MaxArc.ensures.stands (subst HasSigns (sym e) next.signs))))
+          to_stand c.args.self.now _ c.args.line _ c.match-self.self _ c.match-self.result _ w.in-Max-MaxArc.is-0
+          (sym e) w.self-is w.result-is
+          (cap_stand _ _ _ _ r.src r.dst r.cap w.take-in-Max-MaxArc.result
+          (w.take-in-Max-MaxArc.ensures.stands (subst HasSigns (sym e) next.signs))))
       | in-Max-Terminal+in-S w ↦
           (let fi : FitsSigned w64 w.in-Max-Terminal.id = search rules in
           let ans = simp to_z-of_z at w.take_terminal.ensures.answer in
           let ok = simp to_z-of_z at w.take_terminal.ensures.ok in
-          to_stand c.args.self.now _ c.args.line _ c.match-self.self _ c.match-self.result _ w.in-Max-Terminal.is-0 (w.in-Max-Terminal.is-1 ∙ ap (Terminal w.in-Max-Terminal.id) w.in-S.is) w.self-is w.result-is
+          to_stand c.args.self.now _ c.args.line _ c.match-self.self _ c.match-self.result _ w.in-Max-Terminal.is-0
+          (w.in-Max-Terminal.is-1 ∙ ap (Terminal w.in-Max-Terminal.id) w.in-S.is) w.self-is w.result-is
           (source_stand c.args.nodes.now w.in-Max-Terminal.id _ _ _ _ w.take_terminal.result ans ok))
       | in-Max-Terminal+in-T w ↦
           (let fi : FitsSigned w64 w.in-Max-Terminal.id = search rules in
           let ans = simp to_z-of_z at w.take_terminal-in-T.ensures.answer in
           let ok = simp to_z-of_z at w.take_terminal-in-T.ensures.ok in
-          to_stand c.args.self.now _ c.args.line _ c.match-self.self _ c.match-self.result _ w.in-Max-Terminal.is-0 (w.in-Max-Terminal.is-1 ∙ ap (Terminal w.in-Max-Terminal.id) w.in-T.is) w.self-is w.result-is
+          to_stand c.args.self.now _ c.args.line _ c.match-self.self _ c.match-self.result _ w.in-Max-Terminal.is-0
+          (w.in-Max-Terminal.is-1 ∙ ap (Terminal w.in-Max-Terminal.id) w.in-T.is) w.self-is w.result-is
           (sink_stand c.args.nodes.now w.in-Max-Terminal.id _ _ _ _ w.take_terminal-in-T.result ans ok))
       | in-Sp-SpArc w ↦
           (let e = c.numbers_of-arc.ensures.sp _ _ _ w.in-Sp-SpArc.is-1 in
-          to_stand c.args.self.now _ c.args.line _ c.match-self.self _ c.match-self.result _ w.in-Sp-SpArc.is-0 (sym e) w.self-is w.result-is (w.take-in-Sp-SpArc.ensures.stands (subst HasSigns (sym e) next.signs)))
+          to_stand c.args.self.now _ c.args.line _ c.match-self.self _ c.match-self.result _ w.in-Sp-SpArc.is-0
+          (sym e) w.self-is w.result-is (w.take-in-Sp-SpArc.ensures.stands (subst HasSigns (sym e) next.signs)))
       | in-Ss-Source w ↦
           (let fi : FitsSigned w64 w.in-Ss-Source.id = search rules in
           let ok = simp to_z-of_z at w.take_source.ensures.ok in
@@ -151,7 +175,8 @@ returns-clause-unchanged c =
       | in_default-3 w ↦ to_keep c.args.self.now _ c.match-self.self _ c.match-self.result _ w.in_default.is-0 w.self-is w.result-is (λ before holds. holds)
       | in_default-4 w ↦ to_keep c.args.self.now _ c.match-self.self _ c.match-self.result _ w.in_default.is-0 w.self-is w.result-is (λ before holds. holds)
       | in_default-5 w ↦ to_keep c.args.self.now _ c.match-self.self _ c.match-self.result _ w.in_default.is-0 w.self-is w.result-is (λ before holds. holds)
-      | in_default-7 w ↦ to_keep c.args.self.now _ c.match-self.self _ c.match-self.result _ refl w.self-is w.result-is (λ before holds. holds)
+      | in_default-7 w ↦ to_keep c.args.self.now _ c.match-self.self _ c.match-self.result _ refl w.self-is w.result-is
+          (λ before holds. holds)
       | in_default-6 w ↦ to_keep c.args.self.now _ c.match-self.self _ c.match-self.result _ w.in_default.is-0 w.self-is w.result-is (λ before holds. holds)
       | in_default w ↦ to_keep c.args.self.now _ c.match-self.self _ c.match-self.result _ w.in_default.is-0 w.self-is w.result-is (λ before holds. holds)
     ]

@@ -8,13 +8,18 @@ returns-in-Err-clause-taken c ls l h stands =
     let all = ls ++ l.bytes ∷ [] in
     let number = c.next_number-number.ensures ls h in (
       refl,
-      subst (IsRefused (length ls) all) (sym c.refused_at-refusal.ensures) (refused_next ls l.bytes c.next_number-number.result c.in-Err.fault h.clean number (c.in-Err.ensures.answer ls l h stands) (λ e. c.in-Err.ensures.item ls l h stands (ap Err e))),
+      subst (IsRefused (length ls) all) (sym c.refused_at-refusal.ensures)
+          (refused_next ls l.bytes c.next_number-number.result c.in-Err.fault h.clean number
+          (c.in-Err.ensures.answer ls l h stands) (λ e. c.in-Err.ensures.item ls l h stands (ap Err e))),
       record {
         before = ls;
         rest = l.bytes ∷ [];
         whole = refl;
         read = c.in-Err.ensures.unchanged ls h;
-        next = subst (IsNext (length ls) all) (sym c.refused_at-refusal.ensures) (next_after ls l.bytes c.next_number-number.result c.in-Err.fault h.clean number (c.in-Err.ensures.answer ls l h stands));
+        next =
+            subst (IsNext (length ls) all) (sym c.refused_at-refusal.ensures)
+            (next_after ls l.bytes c.next_number-number.result c.in-Err.fault h.clean number
+            (c.in-Err.ensures.answer ls l h stands));
       },
       (c.in-Err.ensures.unchanged ls h).number_is,
     )

@@ -8,9 +8,13 @@ use Rattle.dn_instance.proofs.reader.Reader.close_last.Goals as goal
 pub returns-then-pending : goal.returns-then-pending
 returns-then-pending c t h =
     let l = h.line.line in
-    takes_last c.close.new.self t l.bytes c.close.result (with_last t l h.line.open_is (sym c.if-pending.true ∙ c.pending.ensures l h.line.stands)) (c.close.ensures.taken (ended t) l h.read h.line.stands)
+    takes_last c.close.new.self t l.bytes c.close.result
+    (with_last t l h.line.open_is (sym c.if-pending.true ∙ c.pending.ensures l h.line.stands))
+    (c.close.ensures.taken (ended t) l h.read h.line.stands)
 
 pub returns-else-pending : goal.returns-else-pending
 returns-else-pending c t h =
     let l = h.line.line in
-    subst (TextAt c.args.self.now.text) (sym (without_last t (none_open t l h.line.open_is (sym c.if-pending.false ∙ c.pending.ensures l h.line.stands)))) h.read
+    subst (TextAt c.args.self.now.text)
+    (sym (without_last t
+    (none_open t l h.line.open_is (sym c.if-pending.false ∙ c.pending.ensures l h.line.stands)))) h.read

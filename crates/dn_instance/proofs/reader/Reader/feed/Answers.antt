@@ -21,8 +21,11 @@ returns-in-Some-clause-told c t h =
     (refused r u c.in-Some.refusal c.in-Some.is (still_refused r t c.args.piece.now c.in-Some.refusal c.in-Some.is h)).0
 
 -- the line that was refused, after those of the text so far
-refused_within : (c : goal.In-Err) (t : List ℕ) (reads : IsReading c.loop-at.self (t ++ take c.loop-at.at c.args.piece.now))
-    → (let u = t ++ c.args.piece.now in (c.advance.new.self.refusal ≡ Some c.in-Err.refusal) × IsRefused (length (ended t)) (ended u) c.in-Err.refusal × StopsIn c.advance.new.self (ended u) c.in-Err.refusal × (length (ended t) ≤ lines_taken c.advance.new.self))
+refused_within : (c : goal.In-Err) (t : List ℕ)
+    (reads : IsReading c.loop-at.self (t ++ take c.loop-at.at c.args.piece.now))
+    → (let u = t ++ c.args.piece.now in (c.advance.new.self.refusal ≡ Some c.in-Err.refusal)
+    × IsRefused (length (ended t)) (ended u) c.in-Err.refusal
+    × StopsIn c.advance.new.self (ended u) c.in-Err.refusal × (length (ended t) ≤ lines_taken c.advance.new.self))
 refused_within c t reads =
     let p = c.args.piece.now in
     let i = c.loop-at.at in
@@ -31,19 +34,22 @@ refused_within c t reads =
     let a = c.in-Err.ensures.advances u reads in
     let e = c.in-Err.refusal in (
       a.0,
-      refused_on (length (ended u)) (length (ended t)) (ended (u ++ take n (rest_of p i))) (ended (t ++ p)) e (more_count (ended t) (ended u) (ended_more t (take i p))) (more_from t p i n) a.1,
+      refused_on (length (ended u)) (length (ended t)) (ended (u ++ take n (rest_of p i))) (ended (t ++ p)) e
+          (more_count (ended t) (ended u) (ended_more t (take i p))) (more_from t p i n) a.1,
       stops_on c.advance.new.self (ended (u ++ take n (rest_of p i))) (ended (t ++ p)) e (more_from t p i n) a.2,
       (let more = more_count (ended t) (ended u) (ended_more t (take i p)) in let all = a.3 in omega arith),
     )
 
 refused_at_all : (before : ℕ) (ls : List (List ℕ)) (e : Refusal) → IsRefused before ls e → IsRefused 0 ls e
-refused_at_all before ls e r = refused_on before 0 ls ls e (omega arith) (record { rest = []; whole = sym (append-nil ls) }) r
+refused_at_all before ls e r =
+    refused_on before 0 ls ls e (omega arith) (record { rest = []; whole = sym (append-nil ls) }) r
 
 pub returns-in-Err-clause-stands : goal.returns-in-Err-clause-stands
 returns-in-Err-clause-stands c t h =
     let r = refused_within c t (c.loop-at.invariant.reads t h) in
     let u = t ++ c.args.piece.now in
-    refuses c.advance.new.self u c.in-Err.refusal r.0 (refused_at_all (length (ended t)) (ended u) c.in-Err.refusal r.1, r.2)
+    refuses c.advance.new.self u c.in-Err.refusal r.0
+    (refused_at_all (length (ended t)) (ended u) c.in-Err.refusal r.1, r.2)
 
 pub returns-in-Err-clause-told : goal.returns-in-Err-clause-told
 returns-in-Err-clause-told c t h =
@@ -75,4 +81,6 @@ loop-at-preserved c = record {
 
 pub returns-clause-told : goal.returns-clause-told
 returns-clause-told c t h =
-    subst (λ l. IsClean (ended (t ++ l))) (take_all c.loop-at.at c.args.piece.now (let over = c.loop-at-test.false in omega arith)) (c.loop-at.invariant.reads t h).read.clean
+    subst (λ l. IsClean (ended (t ++ l)))
+    (take_all c.loop-at.at c.args.piece.now (let over = c.loop-at-test.false in omega arith))
+    (c.loop-at.invariant.reads t h).read.clean

@@ -11,12 +11,19 @@ returns-in-Some-clause-outcome c t h = refused_before c.args.self t c.in-Some.re
 pub returns-in-Ok-end-clause-outcome : goal.returns-in-Ok-end-clause-outcome
 returns-in-Ok-end-clause-outcome c t h =
     let all = c.in-Ok.ensures t (reading c.args.self t (none_from c.args.self.refusal c.in_default.not-Some) h) in
-    held_whole c.close_last.new.self.text t c.in-Ok-end.held all (c.in-Ok-end.ensures (lines t) (subst (λ text. TextAt text (lines t)) (sym c.into_text.ensures) all))
+    held_whole c.close_last.new.self.text t c.in-Ok-end.held all
+    (c.in-Ok-end.ensures (lines t) (subst (λ text. TextAt text (lines t)) (sym c.into_text.ensures) all))
 
 pub returns-in-Err-end-clause-outcome : goal.returns-in-Err-end-clause-outcome
 returns-in-Err-end-clause-outcome c t h =
     let all = c.in-Ok.ensures t (reading c.args.self t (none_from c.args.self.refusal c.in_default.not-Some) h) in
-    record { clean = all.clean; fault_is = c.in-Err-end.ensures (lines t) (subst (λ text. TextAt text (lines t)) (sym c.into_text.ensures) all) }
+    record {
+      clean = all.clean;
+      fault_is =
+          c.in-Err-end.ensures (lines t) (subst (λ text. TextAt text (lines t)) (sym c.into_text.ensures) all);
+    }
 
 pub returns-in-Err-clause-outcome : goal.returns-in-Err-clause-outcome
-returns-in-Err-clause-outcome c t h = refused_last t (length (ended t)) c.in-Err.refusal (c.in-Err.ensures t (reading c.args.self t (none_from c.args.self.refusal c.in_default.not-Some) h))
+returns-in-Err-clause-outcome c t h =
+    refused_last t (length (ended t)) c.in-Err.refusal
+    (c.in-Err.ensures t (reading c.args.self t (none_from c.args.self.refusal c.in_default.not-Some) h))

@@ -8,7 +8,8 @@ returns-then-self c ls h =
     let at = h.items_are in
     let counted : FitsSigned w64 c.args.self.counted = search rules in
     let count : FitsSigned w64 c.args.self.count = search rules in
-    ends_early c.args.self (items_of ls) c.in-Ok.content at (c.in-Ok.ensures c.args.self.nodes (items_of ls) at.holds) (simp to_z-of_z at c.if-self.true)
+    ends_early c.args.self (items_of ls) c.in-Ok.content at (c.in-Ok.ensures c.args.self.nodes (items_of ls) at.holds)
+    (simp to_z-of_z at c.if-self.true)
 
 pub returns-else-self : goal.returns-else-self
 returns-else-self c ls h =
@@ -16,8 +17,11 @@ returns-else-self c ls h =
     let nodes : FitsSigned w64 c.args.self.nodes = search rules in
     let counted : FitsSigned w64 c.args.self.counted = search rules in
     let count : FitsSigned w64 c.args.self.count = search rules in
-    ends_whole c.args.self (items_of ls) c.in-Ok.content c.new.result at (c.in-Ok.ensures c.args.self.nodes (items_of ls) at.holds) (simp to_z-of_z at c.if-self.false)
+    ends_whole c.args.self (items_of ls) c.in-Ok.content c.new.result at
+    (c.in-Ok.ensures c.args.self.nodes (items_of ls) at.holds) (simp to_z-of_z at c.if-self.false)
     (simp to_z-of_z at c.new.ensures.nodes) (simp to_z-of_z at c.new.ensures.lines) c.new.ensures.contents
 
 pub returns-in-Err : goal.returns-in-Err
-returns-in-Err c ls h = ends_lacking c.args.self (items_of ls) c.in-Err.code h.items_are (c.in-Err.ensures c.args.self.nodes (items_of ls) h.items_are.holds)
+returns-in-Err c ls h =
+    ends_lacking c.args.self (items_of ls) c.in-Err.code h.items_are
+    (c.in-Err.ensures c.args.self.nodes (items_of ls) h.items_are.holds)

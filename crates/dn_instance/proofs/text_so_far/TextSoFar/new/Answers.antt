@@ -7,5 +7,14 @@ returns c = record {
   clean = no_lines;
   few = omega arith;
   number_is = refl;
-  items_are = record { problem_is = refl; count_fits = omega arith; counted_is = refl; counted_few = omega arith; arcs_are = λ graph. refl; holds = refl };
+  items_are =
+      record {
+        problem_is = refl;
+        count_fits = omega arith;
+        counted_is = refl;
+        counted_few = omega arith;
+        arcs_are =
+            λ graph. refl;
+        holds = refl;
+      };
 }

@@ -10,17 +10,24 @@ pub returns-in-Some : goal.returns-in-Some
 returns-in-Some c items l at stands =
     let ws = said_words l.bytes in
     let known = draft_kind c.args.self.now.draft in
-    let head : head_read known ws ≡ Ok c.in-Ok.head = ap (λ k. head_read k ws) (sym c.kind-known.ensures) ∙ sym (c.head.ensures l stands) ∙ c.in-Ok.is in
-    let order = order_told known items ws c.in-Ok.head _ head (c.check_order.ensures.answer items ws at) c.check_order.ensures.skip in
-    sym (order_refused items ws c.in-Ok.head c.in-Some.code (ap (λ k. head_read k ws) (kind_told c.args.self.now items at) ∙ head) (sym order ∙ c.in-Some.is))
+    let head : head_read known ws ≡ Ok c.in-Ok.head =
+    ap (λ k. head_read k ws) (sym c.kind-known.ensures) ∙ sym (c.head.ensures l stands) ∙ c.in-Ok.is in
+    let order =
+    order_told known items ws c.in-Ok.head _ head
+    (c.check_order.ensures.answer items ws at) c.check_order.ensures.skip in
+    sym (order_refused items ws c.in-Ok.head c.in-Some.code
+    (ap (λ k. head_read k ws) (kind_told c.args.self.now items at) ∙ head) (sym order ∙ c.in-Some.is))
 
 pub returns-in-None : goal.returns-in-None
 returns-in-None c items l at stands =
     let ws = said_words l.bytes in
     let known = draft_kind c.args.self.now.draft in
     let same = kind_told c.args.self.now items at in
-    let head : head_read known ws ≡ Ok c.in-Ok.head = ap (λ k. head_read k ws) (sym c.kind-known.ensures) ∙ sym (c.head.ensures l stands) ∙ c.in-Ok.is in
-    let order = order_told known items ws c.in-Ok.head _ head (c.check_order.ensures.answer items ws at) c.check_order.ensures.skip in
+    let head : head_read known ws ≡ Ok c.in-Ok.head =
+    ap (λ k. head_read k ws) (sym c.kind-known.ensures) ∙ sym (c.head.ensures l stands) ∙ c.in-Ok.is in
+    let order =
+    order_told known items ws c.in-Ok.head _ head
+    (c.check_order.ensures.answer items ws at) c.check_order.ensures.skip in
     c.fields.ensures l stands ∙ ap (λ k. fields_read k ws) (c.kind-known.ensures ∙ sym same)
     ∙ then_fields items ws c.in-Ok.head (ap (λ k. head_read k ws) same ∙ head) (sym order ∙ c.in-None.is)
 
@@ -28,4 +35,5 @@ pub returns-in-Err : goal.returns-in-Err
 returns-in-Err c items l at stands =
     let ws = said_words l.bytes in
     let known = kind_told c.args.self.now items at ∙ sym c.kind-known.ensures in
-    sym (head_refused items ws c.in-Err.code (ap (λ k. head_read k ws) known ∙ sym (c.head.ensures l stands) ∙ c.in-Err.is))
+    sym (head_refused items ws c.in-Err.code
+    (ap (λ k. head_read k ws) known ∙ sym (c.head.ensures l stands) ∙ c.in-Err.is))

@@ -19,26 +19,40 @@ returns-then-is_counted-clause-read c before a none =
     let below = has_room c.args.self.now before c.args.item next.problem.kind at next.drafted.kind_is a.may.room y in
     let more = counted_yes before c.args.item y in
     let k = counted before in
-    let sum : c.saturating_add-self.result ≡ pos (suc k) = c.saturating_add-self.ensures ∙ ap (λ z. saturate_signed w64 (z +ℤ pos 1)) (to_z-of_z f ∙ at.counted_is) ∙ sum_is k c.args.self.now.count at.count_fits below in
-    let n : to_z w64 (of_z w64 c.saturating_add-self.result) ≡ pos (counted (before ++ c.args.item ∷ [])) = ap (λ z. to_z w64 (of_z w64 z)) sum ∙ to_z-of_z (next_fits k c.args.self.now.count at.count_fits below) ∙ ap pos (sym more) in
-    is_then c.args.self.now c.take.new.self before c.args.item at next c.take.ensures.kept _ n (subst (λ x. x < 2 ^ 63) (sym more) (next_few k c.args.self.now.count at.count_fits below)) (subst (λ r. OnOk r (DraftHolds c.take.new.self (before ++ c.args.item ∷ []))) c.in-Ok.is (c.take.ensures.holds before next))
+    let sum : c.saturating_add-self.result ≡ pos (suc k) =
+    c.saturating_add-self.ensures ∙ ap (λ z. saturate_signed w64 (z +ℤ pos 1)) (to_z-of_z f ∙ at.counted_is)
+    ∙ sum_is k c.args.self.now.count at.count_fits below in
+    let n : to_z w64 (of_z w64 c.saturating_add-self.result) ≡ pos (counted (before ++ c.args.item ∷ [])) =
+    ap (λ z. to_z w64 (of_z w64 z)) sum ∙ to_z-of_z (next_fits k c.args.self.now.count at.count_fits below)
+    ∙ ap pos (sym more) in
+    is_then c.args.self.now c.take.new.self before c.args.item at next c.take.ensures.kept _ n
+    (subst (λ x. x < 2 ^ 63) (sym more) (next_few k c.args.self.now.count at.count_fits below))
+    (subst (λ r. OnOk r (DraftHolds c.take.new.self (before ++ c.args.item ∷ []))) c.in-Ok.is
+    (c.take.ensures.holds before next))
 
 pub returns-else-is_counted-clause-read : goal.returns-else-is_counted-clause-read
 returns-else-is_counted-clause-read c before a none =
     let next = comes_next c.args.self.now before c.args.item a none in
     let same = sym (counted_no before c.args.item (sym c.is_counted.ensures ∙ c.if-is_counted.false)) in
-    is_then c.args.self.now c.take.new.self before c.args.item a.read next c.take.ensures.kept _ (a.read.counted_is ∙ ap pos same) (subst (λ x. x < 2 ^ 63) same a.read.counted_few) (subst (λ r. OnOk r (DraftHolds c.take.new.self (before ++ c.args.item ∷ []))) c.in-Ok.is (c.take.ensures.holds before next))
+    is_then c.args.self.now c.take.new.self before c.args.item a.read next c.take.ensures.kept _
+    (a.read.counted_is ∙ ap pos same) (subst (λ x. x < 2 ^ 63) same a.read.counted_few)
+    (subst (λ r. OnOk r (DraftHolds c.take.new.self (before ++ c.args.item ∷ []))) c.in-Ok.is
+    (c.take.ensures.holds before next))
 
 pub returns-in-Err-clause-answer : goal.returns-in-Err-clause-answer
-returns-in-Err-clause-answer c before a none = subst (λ r. AnswersFault r (first_fault (item_tests before (Some c.args.item)))) c.in-Err.is (c.take.ensures.answer before (comes_next c.args.self.now before c.args.item a none))
+returns-in-Err-clause-answer c before a none =
+    subst (λ r. AnswersFault r (first_fault (item_tests before (Some c.args.item)))) c.in-Err.is
+    (c.take.ensures.answer before (comes_next c.args.self.now before c.args.item a none))
 
 pub returns-then-is_counted-clause-answer : goal.returns-then-is_counted-clause-answer
 returns-then-is_counted-clause-answer c before a none =
-    subst (λ r. AnswersFault r (first_fault (item_tests before (Some c.args.item)))) c.in-Ok.is (c.take.ensures.answer before (comes_next c.args.self.now before c.args.item a none))
+    subst (λ r. AnswersFault r (first_fault (item_tests before (Some c.args.item)))) c.in-Ok.is
+    (c.take.ensures.answer before (comes_next c.args.self.now before c.args.item a none))
 
 pub returns-else-is_counted-clause-answer : goal.returns-else-is_counted-clause-answer
 returns-else-is_counted-clause-answer c before a none =
-    subst (λ r. AnswersFault r (first_fault (item_tests before (Some c.args.item)))) c.in-Ok.is (c.take.ensures.answer before (comes_next c.args.self.now before c.args.item a none))
+    subst (λ r. AnswersFault r (first_fault (item_tests before (Some c.args.item)))) c.in-Ok.is
+    (c.take.ensures.answer before (comes_next c.args.self.now before c.args.item a none))
 
 pub returns-in-Err-clause-unchanged : goal.returns-in-Err-clause-unchanged
 returns-in-Err-clause-unchanged c before at = record {
@@ -47,5 +61,6 @@ returns-in-Err-clause-unchanged c before at = record {
   counted_is = at.counted_is;
   counted_few = at.counted_few;
   arcs_are = λ graph. at.arcs_are (ap is_graph (sym c.take.ensures.kept) ∙ graph);
-  holds = subst (λ r. OnErr r (DraftHolds c.take.new.self before)) c.in-Err.is (c.take.ensures.unchanged before at.holds);
+  holds =
+      subst (λ r. OnErr r (DraftHolds c.take.new.self before)) c.in-Err.is (c.take.ensures.unchanged before at.holds);
 }

@@ -10,7 +10,8 @@ pub returns-clause-text : goal.returns-clause-text
 returns-clause-text c = ranges_text c.args.form
 
 pub returns-clause-parts : goal.returns-clause-parts
-returns-clause-parts c = λ I p. each_parted I p.canons (canons_heads c.args.form I p.canons p.parts p.canons_are p.parts_are.heads)
+returns-clause-parts c =
+    λ I p. each_parted I p.canons (canons_heads c.args.form I p.canons p.parts p.canons_are p.parts_are.heads)
 
 pub returns-clause-count : goal.returns-clause-count
 returns-clause-count c = λ I J p q. whole_size J p.canons q

@@ -21,5 +21,8 @@ returns c l h =
 pub returns-then-is_comment : goal.returns-then-is_comment
 returns-then-is_comment c l h =
     let u = c.loop-rest.invariant l h in
-    let begins = ap begins_comment (words_parts (l ++ u.used)) ∙ sym (c.is_comment.ensures (parts is_blank (l ++ u.used)) u.stands) ∙ c.if-is_comment.true in
-    fed_reached c.loop-rest.self l c.args.piece.now c.loop-rest.rest.now u (λ e. let bad : true ≡ false = sym begins ∙ e in cc)
+    let begins =
+    ap begins_comment (words_parts (l ++ u.used))
+    ∙ sym (c.is_comment.ensures (parts is_blank (l ++ u.used)) u.stands) ∙ c.if-is_comment.true in
+    fed_reached c.loop-rest.self l c.args.piece.now c.loop-rest.rest.now u
+    (λ e. let bad : true ≡ false = sym begins ∙ e in cc)

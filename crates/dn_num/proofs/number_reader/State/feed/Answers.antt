@@ -10,7 +10,8 @@ returns-in-Digits c b e =
 
 pub loop-i-preserved : goal.loop-i-preserved
 loop-i-preserved c b e =
-    c.step-state.ensures ∙ step_more b c.args.bytes.now c.loop-i.i c.loop-i.state (c.loop-i.invariant b e) c.loop-i-test.true
+    c.step-state.ensures ∙ step_more b c.args.bytes.now c.loop-i.i c.loop-i.state
+    (c.loop-i.invariant b e) c.loop-i-test.true
 
 pub returns : goal.returns
 returns c b e = all_taken b c.args.bytes.now c.loop-i.i _ (c.loop-i.invariant b e) c.loop-i-test.false

@@ -12,15 +12,23 @@ pub returns-in-Some : goal.returns-in-Some
 returns-in-Some g c =
     let es = c.self.inside.entries.items in
     let lt = subst (λ xs. c.in-Some.place < length (keys_of xs)) c.deref.ensures.value c.in-Some.ensures.0 in
-    let there = key_is c.args.src c.args.dst c.ranges.src c.ranges.dst (λ (k : ℤ × ℤ). key_at (keys_of c.deref.result.now) c.in-Some.place ≡ k) c.in-Some.ensures.1 in
+    let there =
+    key_is c.args.src c.args.dst c.ranges.src c.ranges.dst
+    (λ (k : ℤ × ℤ). key_at (keys_of c.deref.result.now) c.in-Some.place ≡ k) c.in-Some.ensures.1 in
     let at = subst (λ xs. key_at (keys_of xs) c.in-Some.place ≡ (c.args.src, c.args.dst)) c.deref.ensures.value there in
-    sym (found_at (c.args.src, c.args.dst) es c.self.invariant.apart c.in-Some.place c.index.result.now lt at c.index.ensures)
+    sym (found_at
+    (c.args.src, c.args.dst) es c.self.invariant.apart c.in-Some.place c.index.result.now lt at c.index.ensures)
     ∙ sym (found_in_order es c.self.invariant.apart (c.args.src, c.args.dst))
     ∙ ap (lookup (same_pair (c.args.src, c.args.dst))) c.self.view_is
 
 pub returns-in-None : goal.returns-in-None
 returns-in-None g c =
     let es = c.self.inside.entries.items in
-    let there = key_is c.args.src c.args.dst c.ranges.src c.ranges.dst (λ (k : ℤ × ℤ). list_any (same_pair k) (keys_of c.deref.result.now) ≡ false) c.in-None.ensures in
-    let none = subst (λ xs. list_any (same_pair (c.args.src, c.args.dst)) (keys_of xs) ≡ false) c.deref.ensures.value there in
-    sym (lookup_none (c.args.src, c.args.dst) es none) ∙ sym (found_in_order es c.self.invariant.apart (c.args.src, c.args.dst)) ∙ ap (lookup (same_pair (c.args.src, c.args.dst))) c.self.view_is
+    let there =
+    key_is c.args.src c.args.dst c.ranges.src c.ranges.dst
+    (λ (k : ℤ × ℤ). list_any (same_pair k) (keys_of c.deref.result.now) ≡ false) c.in-None.ensures in
+    let none =
+    subst (λ xs. list_any (same_pair (c.args.src, c.args.dst)) (keys_of xs) ≡ false) c.deref.ensures.value there in
+    sym (lookup_none (c.args.src, c.args.dst) es none)
+    ∙ sym (found_in_order es c.self.invariant.apart (c.args.src, c.args.dst))
+    ∙ ap (lookup (same_pair (c.args.src, c.args.dst))) c.self.view_is

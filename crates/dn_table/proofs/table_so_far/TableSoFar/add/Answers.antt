@@ -17,7 +17,8 @@ invariant_of-self g c =
 
 pub add_fresh-requires-clause-none : goal.add_fresh-requires-clause-none
 add_fresh-requires-clause-none g c =
-    ap (lookup (same_pair c.args.pair)) c.place.ensures.same ∙ lookup_none c.args.pair c.args.self.now c.in-None.ensures.place
+    ap (lookup (same_pair c.args.pair)) c.place.ensures.same
+    ∙ lookup_none c.args.pair c.args.self.now c.in-None.ensures.place
 
 pub returns-in-Some-clause-ok : goal.returns-in-Some-clause-ok
 returns-in-Some-clause-ok g c =
@@ -26,7 +27,9 @@ returns-in-Some-clause-ok g c =
     let lt = subst (λ xs. c.in-Some.i < length (keys_of xs)) (sym old) c.in-Some.ensures.place.0 in
     let at = subst (λ xs. key_at (keys_of xs) c.in-Some.i ≡ c.args.pair) (sym old) c.in-Some.ensures.place.1 in
     on_ok_weaker c.add.result
-    (λ same. subst (λ m. Grows g.B.Bundle.bundle.kind (g.B.Bundle.bundle.told One) m (set es c.in-Some.i (c.index_mut.result.now.0, c.add.new.self)) c.args.pair c.args.arc) old
+    (λ same. subst
+    (λ m. Grows g.B.Bundle.bundle.kind (g.B.Bundle.bundle.told One) m
+    (set es c.in-Some.i (c.index_mut.result.now.0, c.add.new.self)) c.args.pair c.args.arc) old
     (grows_here c.args.pair es c.self.invariant.apart c.in-Some.i c.index_mut.result.now lt at c.index_mut.ensures.value g.B.Bundle.bundle.kind (g.B.Bundle.bundle.told One) c.args.arc c.add.new.self same))
     c.add.ensures.ok
 
@@ -46,7 +49,8 @@ returns-in-Some-clause-sum g c =
     let old = c.self.view_is ∙ c.place.ensures.same in
     let lt = subst (λ xs. c.in-Some.i < length (keys_of xs)) (sym old) c.in-Some.ensures.place.0 in
     let at = subst (λ xs. key_at (keys_of xs) c.in-Some.i ≡ c.args.pair) (sym old) c.in-Some.ensures.place.1 in
-    sum_told g.B.Bundle.bundle.kind (g.B.Bundle.bundle.told One) c.args.arc _ es c.args.self.now c.args.pair (g.B.Bundle.bundle.told One c.index_mut.result.now.1) old
+    sum_told g.B.Bundle.bundle.kind (g.B.Bundle.bundle.told One) c.args.arc _ es c.args.self.now c.args.pair
+    (g.B.Bundle.bundle.told One c.index_mut.result.now.1) old
     (told_there (g.B.Bundle.bundle.told One) es c.args.pair c.index_mut.result.now.1
     (found_at c.args.pair es c.self.invariant.apart c.in-Some.i c.index_mut.result.now lt at c.index_mut.ensures.value))
     c.add.ensures.sum

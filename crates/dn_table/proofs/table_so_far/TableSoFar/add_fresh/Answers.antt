@@ -13,8 +13,12 @@ IsSum fault = ◌≡◌ {A = Result (Unit {0}) BundleFault} (Err fault) (Err Sum
 pub returns-in_err-add-clause-sum : goal.returns-in_err-add-clause-sum
 returns-in_err-add-clause-sum g c =
     let p = err_from_is_err_and c.from_residual.result c.from_residual.ensures.1 in
-    rw (p.1, p.2) (sum_told {F = IsSum c.in_err-add.field-0.0} g.B.Bundle.bundle.kind (g.B.Bundle.bundle.told One) c.args.arc _ c.args.self.now c.args.self.now c.args.pair (g.B.Bundle.bundle.told One c.empty-bundle.result) refl
-    (told_none (g.B.Bundle.bundle.told One) c.args.self.now c.args.pair c.requires.none ∙ sym (c.empty-bundle.ensures One))
+    rw (p.1, p.2)
+    (sum_told {F = IsSum c.in_err-add.field-0.0} g.B.Bundle.bundle.kind
+    (g.B.Bundle.bundle.told One) c.args.arc _ c.args.self.now c.args.self.now c.args.pair
+    (g.B.Bundle.bundle.told One c.empty-bundle.result) refl
+    (told_none (g.B.Bundle.bundle.told One) c.args.self.now c.args.pair c.requires.none
+    ∙ sym (c.empty-bundle.ensures One))
     c.in_err-add.ensures.sum)
 
 pub returns-then-is_nothing-clause-ok : goal.returns-then-is_nothing-clause-ok
@@ -27,8 +31,11 @@ returns-then-is_nothing-clause-ok g c =
 pub returns-then-is_nothing-clause-sum : goal.returns-then-is_nothing-clause-sum
 returns-then-is_nothing-clause-sum g c =
     neither (λ e. cc) (λ e. cc)
-    (sum_told g.B.Bundle.bundle.kind (g.B.Bundle.bundle.told One) c.args.arc _ c.args.self.now c.args.self.now c.args.pair (g.B.Bundle.bundle.told One c.empty-bundle.result) refl
-    (told_none (g.B.Bundle.bundle.told One) c.args.self.now c.args.pair c.requires.none ∙ sym (c.empty-bundle.ensures One))
+    (sum_told g.B.Bundle.bundle.kind
+    (g.B.Bundle.bundle.told One) c.args.arc _ c.args.self.now c.args.self.now c.args.pair
+    (g.B.Bundle.bundle.told One c.empty-bundle.result) refl
+    (told_none (g.B.Bundle.bundle.told One) c.args.self.now c.args.pair c.requires.none
+    ∙ sym (c.empty-bundle.ensures One))
     c.in_ok-add.ensures.sum)
 
 pub returns-clause-ok : goal.returns-clause-ok
@@ -45,6 +52,9 @@ returns-clause-ok g c =
 pub returns-clause-sum : goal.returns-clause-sum
 returns-clause-sum g c =
     neither (λ e. cc) (only_memory c.put.result c.put.ensures.memory)
-    (sum_told g.B.Bundle.bundle.kind (g.B.Bundle.bundle.told One) c.args.arc _ c.args.self.now c.args.self.now c.args.pair (g.B.Bundle.bundle.told One c.empty-bundle.result) refl
-    (told_none (g.B.Bundle.bundle.told One) c.args.self.now c.args.pair c.requires.none ∙ sym (c.empty-bundle.ensures One))
+    (sum_told g.B.Bundle.bundle.kind
+    (g.B.Bundle.bundle.told One) c.args.arc _ c.args.self.now c.args.self.now c.args.pair
+    (g.B.Bundle.bundle.told One c.empty-bundle.result) refl
+    (told_none (g.B.Bundle.bundle.told One) c.args.self.now c.args.pair c.requires.none
+    ∙ sym (c.empty-bundle.ensures One))
     c.in_ok-add.ensures.sum)

@@ -8,5 +8,7 @@ use Rattle.dn_table.proofs.table_so_far.TableSoFar.entries.Goals as goal
 
 pub returns : goal.returns
 returns g c arcs tells are few =
-    c.bundle_entries.ensures (subst (λ es. IsDistinct same_pair (keys_of es)) (sym c.deref.ensures.value) c.self.invariant.apart) arcs
-    (subst (λ es. TableTells g.B.Bundle.bundle.kind (g.B.Bundle.bundle.told One) es arcs) (sym (c.deref.ensures.value ∙ c.self.view_is)) tells) are few
+    c.bundle_entries.ensures
+    (subst (λ es. IsDistinct same_pair (keys_of es)) (sym c.deref.ensures.value) c.self.invariant.apart) arcs
+    (subst (λ es. TableTells g.B.Bundle.bundle.kind (g.B.Bundle.bundle.told One) es arcs)
+    (sym (c.deref.ensures.value ∙ c.self.view_is)) tells) are few

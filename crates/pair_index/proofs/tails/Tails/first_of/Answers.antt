@@ -13,7 +13,8 @@ returns-then-tail-len c keys links =
 pub returns-else-tail-len : goal.returns-else-tail-len
 returns-else-tail-len c keys links =
     let self = c.args.self.now in
-    none_there self.heads.items self.next.items keys links c.in-Some.tail c.args.pair.now c.in-Some.ensures (subst (λ n. n ≤ c.in-Some.tail) (c.len.ensures ∙ self.heads.ok.0) c.if-tail-len.false)
+    none_there self.heads.items self.next.items keys links c.in-Some.tail c.args.pair.now c.in-Some.ensures
+    (subst (λ n. n ≤ c.in-Some.tail) (c.len.ensures ∙ self.heads.ok.0) c.if-tail-len.false)
 
 pub returns-in-None : goal.returns-in-None
 returns-in-None c keys links =

@@ -29,16 +29,20 @@ loop-after-smaller g c =
     let self = c.args.self.now in
     let in_keys = (sought_inside c.args.pair.now c.loop-after.before c.loop-after.after c.loop-after-test.true c.loop-after.invariant).0 in
     falls self.heads.items self.next.items (keys_of c.args.entries.now) c.requires c.loop-after.after c.index-after.result.now c.loop-after-test.true in_keys
-    (get_or_read self.next.items (c.loop-after.after - 1) c.index-after.result.now (has_next c.requires in_keys) c.index-after.ensures 0)
+    (get_or_read self.next.items (c.loop-after.after - 1) c.index-after.result.now
+    (has_next c.requires in_keys) c.index-after.ensures 0)
 
 pub loop-after-preserved : goal.loop-after-preserved
 loop-after-preserved g c =
     let self = c.args.self.now in
     let in_keys = (sought_inside c.args.pair.now c.loop-after.before c.loop-after.after c.loop-after-test.true c.loop-after.invariant).0 in
     sought_on self.heads.items self.next.items (keys_of c.args.entries.now) c.requires c.args.pair.now c.loop-after.before c.loop-after.after c.index-after.result.now c.loop-after-test.true c.loop-after.invariant
-    (past_head c.args.pair.now.1 (key_at (keys_of c.args.entries.now) (c.loop-after.after - 1)).1 (λ h. false≢true (c.if-is_head_upto.ensures.1
-    (subst (λ (k : ℤ × ℤ). c.args.pair.now.1 ≤ℤ k.1) (key_of_place c.args.entries.now (c.loop-after.after - 1) c.index-entries-at.result in_keys) h))))
-    (get_or_read self.next.items (c.loop-after.after - 1) c.index-after.result.now (has_next c.requires in_keys) c.index-after.ensures 0)
+    (past_head c.args.pair.now.1 (key_at (keys_of c.args.entries.now) (c.loop-after.after - 1)).1
+    (λ h. false≢true (c.if-is_head_upto.ensures.1
+    (subst (λ (k : ℤ × ℤ). c.args.pair.now.1 ≤ℤ k.1)
+    (key_of_place c.args.entries.now (c.loop-after.after - 1) c.index-entries-at.result in_keys) h))))
+    (get_or_read self.next.items (c.loop-after.after - 1) c.index-after.result.now
+    (has_next c.requires in_keys) c.index-after.ensures 0)
 
 pub returns-then-is_head_upto : goal.returns-then-is_head_upto
 returns-then-is_head_upto g c =
@@ -48,5 +52,7 @@ returns-then-is_head_upto g c =
       sought = c.loop-after.invariant;
       stops = λ i e. (let at : c.loop-after.after - 1 ≡ i = omega (arith, e) in
           subst (λ j. c.args.pair.now.1 ≤ℤ (key_at (keys_of c.args.entries.now) j).1) at
-          (subst (λ (k : ℤ × ℤ). c.args.pair.now.1 ≤ℤ k.1) (sym (key_of_place c.args.entries.now (c.loop-after.after - 1) c.index-entries-at.result in_keys)) (c.if-is_head_upto.ensures.0 refl)));
+          (subst (λ (k : ℤ × ℤ). c.args.pair.now.1 ≤ℤ k.1)
+          (sym (key_of_place c.args.entries.now (c.loop-after.after - 1) c.index-entries-at.result in_keys))
+          (c.if-is_head_upto.ensures.0 refl)));
     }

@@ -18,4 +18,5 @@ returns-then-arc-step-clause-ok c =
       | else-step-eq0 w ↦ inr (eqb-true _ _ (sym w.value-is ∙ c.if-arc-step.true))
     ] in
     rw (to_z-of_z w64 arc.cost f, to_z-of_z w64 c.args.total c.ranges.total)
-    (plain_grown c.args.self.now step arc c.args.total c.in-Plain.is c.requires.sound c.requires.arc c.requires.total (is_zero arc.low (search rules) c.if-arc-eq0-2.true) c.if-arc-eq0.false f one)
+    (plain_grown c.args.self.now step arc c.args.total c.in-Plain.is c.requires.sound c.requires.arc c.requires.total
+    (is_zero arc.low (search rules) c.if-arc-eq0-2.true) c.if-arc-eq0.false f one)
