@@ -1,8 +1,6 @@
 -- The numbers and names of refusals (this project's profile).
 use Rattle.std.specs.Prelude.{ℕ, List, codes}
 use Rattle.dn_line.specs.Names.{code_name, code_number}
-use Rattle.dn_instance.specs.declared.refusal.ItemFault.TheVariants as Faults
-use Rattle.dn_instance.specs.declared.refusal.Place.TheVariants as Places
 use Rattle.dn_instance.specs.declared.refusal.Refusal.{Refusal}
 use Rattle.dn_instance.specs.declared.refusal.Refusal.TheVariants.{Text, Memory, Read, Endless, Write, CountTooLarge}
 

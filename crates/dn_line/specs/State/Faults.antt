@@ -2,10 +2,7 @@
 -- checking are this project's profile.
 use Rattle.std.specs.Prelude.{List, ◌∷◌, ◌++◌, true, false, ◌≡◌}
 use Rattle.std.specs.List.{All}
-use Rattle.dn_num.specs.declared.fault.NumFault.TheVariants as Num
-use Rattle.dn_line.specs.declared.word.Keyword.TheVariants as Key
 use Rattle.dn_line.specs.declared.code.Code.{Code}
-use Rattle.dn_line.specs.declared.code.Code.TheVariants as Codes
 use Rattle.dn_line.specs.Faults.{Test}
 
 -- the test of this fault is among the tests and holds, and all tests before it fail

@@ -4,7 +4,6 @@ use Rattle.dn_line.specs.Words.{said_words, is_skip, first}
 use Rattle.dn_line.specs.LineTable.{kind_named, row, named}
 use Rattle.dn_line.specs.Faults.{first_fault, head_tests, field_tests, fields, problem_fields, row_fields}
 use Rattle.dn_line.specs.declared.kind.Kind.{Kind}
-use Rattle.dn_line.specs.declared.kind.Letter.TheVariants as Letters
 use Rattle.dn_line.specs.declared.line.Head.{Head}
 use Rattle.dn_line.specs.declared.line.Head.TheVariants as Heads
 use Rattle.dn_line.specs.declared.line.Line.{Line}
