@@ -1,4 +1,4 @@
--- Arc lines after the items before them: their first fault, and what the table comes to hold.
+-- Lemmas on arc lines after the items before them: the first fault, and what the table then holds.
 use Rattle.std.proofs.Common.{◌≡◌, ◌-◌, ◌^◌, ℤ, pos, ◌+ℤ◌, List, [], ◌∷◌, ◌++◌, Bool, true, false, cond, not, ◌&&◌, int_lt, Option, Some, None, refl, sym, ap, ◌∙◌, subst, arith, inl, inr}
 use Rattle.std.proofs.lemmas.Int.{ints}
 use Rattle.std.specs.List.{list_all}
@@ -22,7 +22,7 @@ use Rattle.dn_instance.proofs.ValidLaws.{arcs_push}
 use Rattle.dn_arc.proofs.TotalKindLaws.{total_some}
 use Rattle.dn_bundle.proofs.BundleLaws.{all_end}
 
--- both nodes of a pair in range
+-- both nodes of a pair are in range
 pub ends_range : (p : Problem) (s d : ℤ) → is_companion p.kind ≡ false
     → list_all (is_in_range (Some p)) (s ∷ d ∷ []) ≡ (in_graph p.nodes s && in_graph p.nodes d)
 ends_range p s d c = rw c (and_true (in_graph p.nodes s) (in_graph p.nodes d))
@@ -49,7 +49,7 @@ pub length_grown : (before : List Line) (s d l : ℤ)
     ((s, d), record { length = l }) ∷ []
 length_grown before s d l = arcs_push length_arc_in before (Item.SpArc s d l)
 
--- the table with one arc line more
+-- the table holds one more arc line
 pub table_grown : {B Arc : Type 0} (kind : ArcKind Arc) (arc_in : Line → Option ((ℤ × ℤ) × Arc)) (tells : B → List Arc)
     (table : List ((ℤ × ℤ) × B)) (before : List Line) (i : Line) (a : (ℤ × ℤ) × Arc)
     → arcs_of arc_in (before ++ i ∷ []) ≡ arcs_of arc_in before ++ a ∷ []
@@ -65,14 +65,14 @@ no_arcs_more : {A : Type 0} (xs : List A) (a : A) → xs ++ a ∷ [] ≡ [] → 
 no_arcs_more [] a e = cc
 no_arcs_more (x ∷ xs) a e = cc
 
--- an arc has a length
+-- `sp` arcs that mean something also mean something with one more arc
 pub length_stays : Stays lengths
 length_stays xs a are is same = elim (least_of (xs ++ a ∷ [])) [
   | inl e ↦ absurd (no_arcs_more xs a e)
   | inr w ↦ absurd (same.there w.0 w.1).has
 ]
 
--- a capacity does not go away
+-- `max` arcs that mean something also mean something with one more arc
 pub cap_stays : Stays capacities
 cap_stays xs a are is same =
     let e = same.is in

@@ -1,4 +1,4 @@
--- The lines of arcs that are taken one after the other.
+-- Lemmas on the lines of arcs that are taken one after another.
 use Rattle.std.proofs.Common.{◌≡◌, ◌<◌, ◌+◌, ◌-◌, ◌^◌, ℕ, zero, suc, pos, List, [], ◌∷◌, ◌++◌, length, take, Bool, true, false, cond, ◌&&◌, Option, Some, None, Ok, refl, sym, subst, ap, ◌∙◌, arith, append-nil, append_assoc, length-append}
 use Rattle.std.specs.List.{AllByRecursion, list_any}
 use Rattle.std.specs.Option.{option_map}
@@ -31,7 +31,7 @@ use Rattle.dn_instance.proofs.FollowLaws.{follows_as, same_fault, adds_it}
 use Rattle.dn_instance.proofs.LineSteps.{clean_more, fault_is_next, in_time}
 use Rattle.dn_instance.proofs.NextLaws.{head_skips, head_told, then_fields}
 
--- the letter of an arc's line
+-- the letter of an arc line is that of a counted line, and not that of a node line
 letter : (k : Option Keyword) (named : Option Kind) → Heads.Arc ≡ head_of k named → (is_node_letter k ≡ false)
     × (is_counted_letter k ≡ true)
 letter (Some Key.A) named h = (refl, refl)
@@ -60,7 +60,7 @@ module _ (kind : Kind) (before : List Line) (p : Problem) (problem : problem_of 
       by_skip true e = let never : Heads.Arc ≡ Heads.Skip = head_skips (Some kind) ws Heads.Arc e head in cc
       by_skip false e = e
 
-  -- an arc in time has no fault by the lines before
+  -- an arc has no fault because of the lines before it, if they are not as many counted lines as declared
   in_order : is_full (problem_of before) (counted before) ≡ false → first_fault (order_tests before ws) ≡ None
   in_order room =
       let l = letter (first ws) (kind_named ws) (head_told (Some kind) ws Heads.Arc counts head).1 in
@@ -80,7 +80,7 @@ module _ (kind : Kind) (before : List Line) (p : Problem) (problem : problem_of 
       (ap (λ b. cond b None (first_fault (order_tests before ws))) counts ∙ in_order room))
       ∙ ap (λ k. fields_read k ws) known ∙ fields
 
--- numbers of an arc's line that may not be below 0 are not
+-- LOW and CAP of an arc that a line spells are at least 0
 pub line_signs : (kind : Kind) (ws : List Word) (i : Line) → head_read (Some kind) ws ≡ Ok Heads.Arc
     → fields_read (Some kind) ws ≡ Ok i → HasSigns i
 line_signs kind ws i head fields =
@@ -97,7 +97,7 @@ run_signs kind (a ∷ arcs) bytes rest r =
     r.1.begins in
     (line_signs kind (said_words b.line) (arc_of kind a.arc) b.head b.fields, run_signs kind arcs r.0 rest r.2)
 
--- with these arcs more, lines have no fault
+-- the bytes begin with the lines of these arcs, and these lines have no fault after the earlier lines
 pub record RunOn (kind : Kind) (bytes rest : List ℕ) (ls : List (List ℕ)) (arcs : List ArcLine) : Type 0 where
   pub more : List (List ℕ)
   pub whole : closed_lines more ++ rest ≡ bytes
@@ -106,7 +106,7 @@ pub record RunOn (kind : Kind) (bytes rest : List ℕ) (ls : List (List ℕ)) (a
   pub items : items_of (ls ++ more) ≡ items_of ls ++ arc_items kind arcs
   pub number : length (ls ++ more) ≡ length ls + length arcs
 
--- one arc's line
+-- the line of an arc has no fault after the earlier lines, and adds the arc
 record OneOn (kind : Kind) (ls : List (List ℕ)) (l : List ℕ) (i : Line) : Type 0 where
   clean : IsClean (ls ++ l ∷ [])
   items : items_of (ls ++ l ∷ []) ≡ items_of ls ++ i ∷ []
@@ -170,7 +170,7 @@ run_on kind (a ∷ arcs) bytes rest ls p graph r clean problem is f t few =
       number = ap length (sym joined) ∙ more.number ∙ (omega arith);
     }
 
--- the first of these lines
+-- the first m of these lines
 pub run_front : (kind : Kind) (arcs : List ArcLine) (m : ℕ) (bytes rest : List ℕ) → ReadUpTo kind bytes arcs rest
     → (next : List ℕ) × ReadUpTo kind bytes (take m arcs) next × (length next ≡ last_left (length bytes) (take m arcs))
 run_front kind [] zero bytes rest r = (bytes, refl, refl)
@@ -180,7 +180,7 @@ run_front kind (a ∷ arcs) (suc m) bytes rest r =
     let q = run_front kind arcs m r.0 rest r.2 in
     (q.0, (r.0, r.1, q.1), subst (λ n. length q.0 ≡ last_left n (take m arcs)) (sym r.1.left) q.2)
 
--- what stands before the rest
+-- the bytes before the rest
 pub front_of : (a b c : List ℕ) → a ++ b ≡ c → take (length c - length b) c ≡ a
 front_of a b c e =
     ap (λ x. take (length x - length b) x) (sym e)

@@ -1,4 +1,4 @@
--- Arcs that are taken one after the other.
+-- Lemmas on arcs that are taken one after another.
 use Rattle.std.proofs.Common.{◌≡◌, ◌<◌, ◌≤◌, ◌+◌, ◌-◌, ◌^◌, ◌+ℤ◌, ◌-ℤ◌, negsuc, FitsSigned, w64, ℕ, zero, suc, ℤ, pos, ◌≤ℤ◌, ◌<ℤ◌, List, [], ◌∷◌, ◌++◌, length, take, get_or, filter, true, false, cond, not, ◌||◌, int_lt, Option, Some, None, Result, Ok, Err, OnOk, refl, sym, subst, ap, ◌∙◌, arith, append-nil, append_assoc, length-append}
 use Rattle.std.specs.List.{AllByRecursion, list_any}
 use Rattle.std.specs.Option.{option_map, option_or}
@@ -30,7 +30,7 @@ use Rattle.dn_instance.specs.declared.refusal.ItemFault.{ItemFault}
 use Rattle.dn_instance.specs.declared.text_so_far.TextSoFar.{TextSoFar}
 use Rattle.dn_instance.proofs.ItemSteps.{counted_yes, problem_kept, problem_told}
 
--- one item more without fault
+-- items without a fault, followed by one more, have no fault
 faultless_more : (before items : List Line) (i : Line) → AreFaultless before items
     → first_fault (item_tests (before ++ items) (Some i)) ≡ None → AreFaultless before (items ++ i ∷ [])
 faultless_more before [] i h f = (subst (λ b. first_fault (item_tests b (Some i)) ≡ None) (append-nil before) f, tt)
@@ -49,7 +49,7 @@ joins_more Holds before held more items i j f h = record {
   holds = subst (Holds more) (append_assoc before items (i ∷ [])) h;
 }
 
--- what is answered without an error
+-- what holds if a result is not an error
 pub no_fault : (r : Result (Unit {0}) ItemFault) (f : Option Code) → is_err r ≡ false → AnswersFault r f → f ≡ None
 no_fault (Ok x) f e h = h
 no_fault (Err c) f e h = cc
@@ -63,14 +63,14 @@ or_kept : (a b c : Option Problem) (p : Problem) → option_or a b ≡ Some p �
 or_kept None b c p h k = k h
 or_kept (Some x) b c p h k = h
 
--- the problem stays the first
+-- the first problem line stays the first with more items
 pub problem_all : (before items : List Line) (p : Problem) → problem_of before ≡ Some p
     → problem_of (before ++ items) ≡ Some p
 problem_all [] items p h = cc
 problem_all (x ∷ before) items p h =
     or_kept (problem_in x) (problem_of before) (problem_of (before ++ items)) p h (problem_all before items p)
 
--- the next arc
+-- the items of the first arcs and of the next arc
 pub items_next : (kind : Kind) (arcs : List ArcLine) (i : ℕ) (d : ArcLine) → i < length arcs
     → arc_items kind (take (i + 1) arcs) ≡ arc_items kind (take i arcs) ++ arc_of kind (get_or arcs i d).arc ∷ []
 items_next kind arcs i d h =
@@ -124,7 +124,7 @@ counted_all kind before arcs c =
     ∙ length-append (filter is_counted before) (filter is_counted (arc_items kind arcs))
     ∙ ap (λ n. counted before + n) (all_counted kind arcs c)
 
--- as many arcs as are still declared come in time
+-- arcs do not follow as many counted lines as declared, if they are at most as many as are still declared
 pub come_in_time : (kind : Kind) (arcs : List ArcLine) (before : List Line) (p : Problem) → is_companion kind ≡ false
     → problem_of before ≡ Some p → (0 < length arcs → pos (counted before + length arcs) ≤ℤ p.count)
     → AreInTime before (arc_items kind arcs)
@@ -143,7 +143,7 @@ come_in_time kind (a ∷ arcs) before p c h r =
     shift : (k n : ℕ) → k + suc n ≡ suc k + n
     shift k n = omega arith
 
--- what has been read with arcs more
+-- more arcs have been read
 module _ (t : TextSoFar) (d : Draft) (kind : Kind) (before : List Line) (at : HasRead t before)
     (is : draft_kind t.draft ≡ Some kind) (kept : draft_kind d ≡ draft_kind t.draft)
     (graph : is_companion kind ≡ false) where
@@ -180,12 +180,12 @@ module _ (t : TextSoFar) (d : Draft) (kind : Kind) (before : List Line) (at : Ha
         holds = h;
       }
 
--- a difference that is more than 0 is not more for being saturated
+-- a number above 0 that is at most a saturated difference is at most the difference
 within : (n : ℕ) (z : ℤ) → 0 < n → pos n ≤ℤ saturate_signed w64 z → pos n ≤ℤ z
 within n (pos m) some h = omega (arith, ints)
 within n (negsuc m) some h = absurd (omega (arith, ints))
 
--- as many arcs as are taken are still declared
+-- the arcs that are taken are at most as many as are still declared
 pub still_declared : (k m n : ℕ) (count s : ℤ) → s ≡ saturate_signed w64 (count -ℤ pos k) → (0 < n → pos n ≤ℤ s) → m ≤ n
     → 0 < m → pos (k + m) ≤ℤ count
 still_declared k m n count s e most h some =

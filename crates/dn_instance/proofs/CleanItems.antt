@@ -1,4 +1,5 @@
--- The items of a clean text, one by one: each line adds none, or one that has no fault after those before it.
+-- Lemmas on the items of a text without a fault: each line adds no item, or one that has no fault after those before
+-- it.
 use Rattle.std.proofs.Common.{◌≡◌, ℕ, ◌+◌, List, [], ◌∷◌, ◌++◌, length, Bool, true, false, cond, Option, Some, None, Ok, refl, sym, ap, ◌∙◌, subst, append-nil}
 use Rattle.std.specs.Option.{option_or, option_to_list}
 use Rattle.std.proofs.lemmas.List.Sums.{fold-append}
@@ -19,7 +20,7 @@ use Rattle.dn_instance.specs.TextFaults.{item_spelled, is_too_long, is_stray, is
 use Rattle.dn_instance.specs.Texts.{with_next, items_of, IsClean}
 use Rattle.dn_instance.proofs.FirstFaults.{fault_after, by_clean_lines, none_first}
 
--- the item without a fault after these
+-- a line spells this item, which has no fault after these items
 pub record IsNext (before : List Line) (i : Line) : Type 0 where
   pub line : List ℕ
   pub spells : Spells (kind_known before) (said_words line) i
@@ -50,11 +51,11 @@ problem_push [] i = or_none (problem_in i)
 problem_push (x ∷ xs) i =
     ap (option_or (problem_in x)) (problem_push xs i) ∙ or_assoc (problem_in x) (Of.problem_of xs) (problem_in i)
 
--- the items of the lines and of one more
+-- the items of the lines and of one more line
 pub items_push : (ls : List (List ℕ)) (l : List ℕ) → items_of (ls ++ l ∷ []) ≡ with_next (items_of ls) (said_words l)
 items_push ls l = fold-append (λ before x. with_next before (said_words x)) [] ls (l ∷ [])
 
--- a skipped line adds none
+-- a skipped line adds no item
 pub skip_adds_none : (before : List Line) (ws : List Word) → is_skip ws ≡ true → with_next before ws ≡ before
 skip_adds_none before ws e =
     ap (λ r. before ++ option_to_list (item_spelled r))
@@ -62,7 +63,7 @@ skip_adds_none before ws e =
     (unless (first_fault (own_tests (kind_known before) ws)) (spelled (kind_known before) ws))) e)
     ∙ append-nil before
 
--- what is known of a line that is not skipped and has no fault
+-- the head, the fields and the item of a line have no fault
 pub record NoFault (before : List Line) (ws : List Word) : Type 0 where
   head : first_fault (head_tests (kind_known before) ws) ≡ None
   fields : first_fault (field_tests (fields (kind_known before) ws)) ≡ None
@@ -107,7 +108,7 @@ next_from before l i s h =
     let e = none_first (is_sum_too_large before i) SumTooLarge _ d.1 in
     record { line = l; spells = s; in_range = a.0; once = b.0; apart = c.0; low = d.0; sum = e.0 }
 
--- what a line without fault reads as under the kind known
+-- what a line without a fault reads as under the known kind
 record ReadsNext (before : List Line) (l : List ℕ) : Type 0 where
   item : Line
   next : IsNext before item
@@ -128,7 +129,7 @@ reads_next before l e n =
       read = some;
     }
 
--- what holds of no item, and goes on over the next item, holds of the items of a clean text
+-- what holds of no items, and also with each next item, holds of the items of a text without a fault
 module _ (Q : List Line → Type 0)
     (go : (before : List Line) (i : Line) → Q before → IsNext before i → Q (before ++ i ∷ [])) where
   one_line : (ls : List (List ℕ)) (l : List ℕ) (b : Bool) → is_skip (said_words l) ≡ b → fault_after ls l ≡ None

@@ -1,4 +1,4 @@
--- As many entries as what is held comes to.
+-- Lemmas on the number of entries that the content of a parsed instance makes.
 use Rattle.std.proofs.Common.{◌≡◌, ◌<◌, ◌^◌, ℕ, ℤ, List, length, ap}
 use Rattle.dn_arc.specs.Kinds.{ArcKind, costs, capacities, lengths}
 use Rattle.dn_arc.specs.State.CurveTold.{told}
@@ -16,7 +16,7 @@ use Rattle.dn_table.specs.State.Tables.{TableTells, AreArcs}
 use Rattle.dn_instance.specs.Validity.{IsValid}
 use Rattle.dn_instance.proofs.EntryLaws.{placed_arcs}
 
--- what is counted of a table
+-- n is the number of entries of the arcs that a table represents, if this is below 2^64
 abbrev Counts : {B Arc : Type 0} → ArcKind Arc → (B → List Arc) → Bundles B → ℕ → Type 0
 Counts {B} {Arc} kind tells table n = (arcs : List ((ℤ × ℤ) × Arc)) → TableTells kind tells table arcs
     → AreArcs kind arcs → graph_entries kind arcs < 2 ^ 64 → n ≡ graph_entries kind arcs

@@ -1,4 +1,4 @@
--- Arc lines of a `min` text after the items before them: their first fault, and what the table comes to hold.
+-- Lemmas on arc lines of a `min` text after the items before them: the first fault, and what the table then holds.
 use Rattle.std.proofs.Common.{◌≡◌, ◌-◌, ◌^◌, ℤ, pos, ◌≤ℤ◌, ◌+ℤ◌, List, [], ◌∷◌, ◌++◌, Bool, true, false, cond, not, ◌&&◌, int_lt, IsTrue, ◌↔◌, Option, Some, None, refl, sym, ap, ◌∙◌, subst, arith}
 use Rattle.std.proofs.lemmas.Int.{ints}
 use Rattle.std.proofs.lemmas.Bool.Decides.{nat_tests}
@@ -27,7 +27,7 @@ use Rattle.dn_instance.proofs.ValidLaws.{arcs_push}
 use Rattle.dn_instance.proofs.ArcItems.{stray_is}
 use Rattle.dn_bundle.proofs.BundleLaws.{all_end}
 
--- arcs without capacity carry nothing
+-- arcs whose CAPs sum to 0 mean the same as no arcs
 none_carried : (xs : List CostArc) → AllByRecursion IsCostArc xs → cost_cap xs ≡ pos 0 → SameAbove xs []
 none_carried [] are e = above_meaning.same_refl []
 none_carried (a ∷ xs) are e =
@@ -41,7 +41,7 @@ none_carried (a ∷ xs) are e =
     (subst (λ l. SameAbove (record { low = l; cap = a.cap; cost = a.cost } ∷ xs) xs) (sym low)
     (above_none a.cost a.cap xs cap)) (none_carried xs are.1 others)
 
--- what can be carried can still be with an arc more
+-- `min` arcs that mean something also mean something with one more arc
 pub cost_stays : Stays costs
 cost_stays xs a are is nothing =
     let all = cost_cap_same (xs ++ a ∷ []) [] (all_end IsCostArc xs a are is) tt nothing in
@@ -85,7 +85,7 @@ pub cost_grown : (before : List Line) (s d l u k : ℤ)
     ((s, d), record { low = l; cap = u; cost = k }) ∷ []
 cost_grown before s d l u k = arcs_push cost_arc_in before (Item.MinArc s d l u k)
 
--- an arc is taken only where a problem may have it
+-- an arc without a fault may occur in a problem
 pub taken_arc : (nodes : ℤ) (before : List Line) (is : Bool) (a : (ℤ × ℤ) × CostArc)
     → arc_fault costs nodes (arcs_of cost_arc_in before) is a ≡ None → is ≡ true
 taken_arc nodes before is a h = by_range (not (in_graph nodes a.0.0 && in_graph nodes a.0.1)) is h

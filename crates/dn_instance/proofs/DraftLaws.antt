@@ -1,4 +1,4 @@
--- One item more of an instance in the making: what the answer says, and what it comes to hold.
+-- Lemmas on taking one more item into a draft: what the result says, and what the draft then holds.
 use Rattle.std.proofs.Common.{◌≡◌, ℤ, pos, List, [], ◌∷◌, ◌++◌, Bool, true, false, cond, not, ◌&&◌, ◌||◌, int_lt, Option, Some, None, is_some, IsSome, Result, Ok, Err, OnOk, OnErr, filter_map, refl, sym, ap, ◌∙◌, subst, arith, append-nil, Vec, Global}
 use Rattle.std.proofs.lemmas.Int.{ints}
 use Rattle.std.proofs.lemmas.Bool.Decides.{nat_tests}
@@ -39,12 +39,12 @@ use Rattle.dn_arc.proofs.PairLaws.{int_self}
 use Rattle.dn_instance.proofs.PairLaws.{sought_is}
 use Rattle.dn_table.proofs.GrownLaws.{none_is}
 
--- the answer on an item is that of its first fault
+-- the result of taking an item says its first fault
 abbrev pub Answering : ℤ → Draft → Line → Result (Unit {0}) ItemFault → Type 0
 Answering nodes d l r = (before : List Line) (p : Problem) → IsDraftOf d nodes p before
     → AnswersFault r (first_fault (item_tests before (Some l)))
 
--- what is held with the item, where it is taken
+-- if the item is taken, the draft holds it with the others
 abbrev pub Standing : Draft → Line → Draft → Result (Unit {0}) ItemFault → Type 0
 Standing d l e r = (before : List Line) → DraftHolds d before → OnOk r (DraftHolds e (before ++ l ∷ []))
 
@@ -68,12 +68,12 @@ and_one : (a : Bool) → (a && true) ≡ a
 and_one true = refl
 and_one false = refl
 
--- one node of a graph in range
+-- whether a graph has one node
 one_range : (p : Problem) (id : ℤ) → is_companion p.kind ≡ false
     → list_all (is_in_range (Some p)) (id ∷ []) ≡ in_graph p.nodes id
 one_range p id c = rw c (and_one (in_graph p.nodes id))
 
--- one ID of a companion
+-- whether one ID of a companion is in range
 one_id : (p : Problem) (id : ℤ) → is_companion p.kind ≡ true
     → list_all (is_in_range (Some p)) (id ∷ []) ≡ int_lt (pos 0) id
 one_id p id c = rw c (and_one (int_lt (pos 0) id && true) ∙ and_one (int_lt (pos 0) id))
@@ -100,7 +100,7 @@ module _ (before : List Line) (p : Problem) (h : problem_of before ≡ Some p) w
       → not (list_all (is_in_range (problem_of before)) (a ∷ b ∷ [])) ≡ not (int_lt (pos 0) a && int_lt (pos 0) b)
   stray_ids a b c = ap (λ o. not (list_all (is_in_range o) (a ∷ b ∷ []))) h ∙ ap not (two_ids p a b c)
 
--- a choice of a fault or a later one
+-- this fault if the test applies, and a later fault otherwise
 abbrev pub or_else : Bool → Code → Option Code → Option Code
 or_else b c later = cond b (Some c) later
 
@@ -180,7 +180,7 @@ point_answer nodes id x y points r ans before p d =
     ∙ ap (λ m. is_some (lookup (is_at (int_cmp id)) m)) (sym d.holds))))
     ans
 
--- a table holds what it held where an item is no arc
+-- an item that is not an arc does not change what the table holds
 pub table_kept : {B Arc : Type 0} (kind : ArcKind Arc) (arc_in : Line → Option ((ℤ × ℤ) × Arc)) (tells : B → List Arc)
     (table : List ((ℤ × ℤ) × B)) (before : List Line) (i : Line) → arcs_of arc_in (i ∷ []) ≡ []
     → TableHolds kind arc_in tells table before → TableHolds kind arc_in tells table (before ++ i ∷ [])
@@ -219,7 +219,7 @@ sink_stand nodes id a b b' t (Ok x) ans ok before holds =
       table_kept capacities cap_arc_in _ t before (Item.Terminal id T) refl holds.2,
     )
 
--- an arc leaves the terminals
+-- an arc does not change the terminals
 pub cap_stand : (a b : Option ℤ) (t t' : _) (src dst cap : ℤ) (r : Result (Unit {0}) ItemFault)
     → ((before : List Line) → TableHolds capacities cap_arc_in (λ (x : Total). cap_told x.total) t before
     → OnOk r
@@ -260,7 +260,7 @@ point_stand id x y points points' r ok before holds =
     ∙ by_key_push (filter_map point_in before) (id, (x, y))))
     ok
 
--- a table without bundles tells no arcs
+-- a table without bundles represents no arcs
 pub none_told : {B Arc : Type 0} (kind : ArcKind Arc) (arc_in : Line → Option ((ℤ × ℤ) × Arc)) (tells : B → List Arc)
     → IsKind kind → TableHolds kind arc_in tells [] []
 none_told kind arc_in tells laws = record {
@@ -271,7 +271,7 @@ none_told kind arc_in tells laws = record {
   are_arcs = tt;
 }
 
--- a problem line adds nothing to what the draft of its kind begins with
+-- a draft that holds no items also holds its problem line
 pub held_problem : (d : Draft) (i : Line) → IsSome (problem_in i) → IsSome (draft_kind d) → DraftHolds d []
     → DraftHolds d (i ∷ [])
 held_problem d (Item.Graph k n c) h some holds = by_kind d some holds
@@ -308,11 +308,11 @@ held_problem d (Item.Source _) h some holds = cc
 held_problem d (Item.Query _ _) h some holds = cc
 held_problem d (Item.Point _ _ _) h some holds = cc
 
--- a draft of some kind is not empty
+-- a draft of a known kind is not empty
 pub no_empty : (d : Draft) (kind : Kind) → Drafts.Empty ≡ d → draft_kind d ≡ Some kind → ⊥
 no_empty d kind e h = let never : None ≡ Some kind = ap draft_kind e ∙ h in cc
 
--- no line of a kind of text but its own
+-- an item of a kind is one of the items of this kind
 pub no_min : (i : Line) → Some Kinds.Min ≡ kind_before i → ((id flow : ℤ) → i ≡ Item.Supply id flow → ⊥)
     → ((src dst low top cost : ℤ) → i ≡ Item.MinArc src dst low top cost → ⊥) → ⊥
 no_min (Item.Supply id flow) h n a = n id flow refl
@@ -342,12 +342,12 @@ pub no_co : (i : Line) → Some Kinds.Co ≡ kind_before i → ((id x y : ℤ) �
 no_co (Item.Point id x y) h a = a id x y refl
 no_co _ h a = cc
 
--- a refused item leaves nothing to show
+-- nothing is to be shown of the draft after an error
 pub refused : (d : Draft) (l : Line) (e : Draft) (r : Result (Unit {0}) ItemFault) (f : ItemFault) → r ≡ Err f
     → Standing d l e r
 refused d l e r f h before holds = subst (λ x. OnOk x (DraftHolds e (before ++ l ∷ []))) (sym h) tt
 
--- what is held where the item is not taken
+-- if the item is not taken, the draft holds what it held
 abbrev pub Keeping : Draft → Draft → Result (Unit {0}) ItemFault → Type 0
 Keeping d e r = (before : List Line) → DraftHolds d before → OnErr r (DraftHolds e before)
 

@@ -1,4 +1,4 @@
--- What arcs that are taken leave of what other items have made.
+-- Lemmas that arcs do not change what other items have made.
 use Rattle.std.proofs.Common.{◌≡◌, ℤ, List, [], ◌∷◌, ◌++◌, false, ◌||◌, None, refl, sym, subst, ap, ◌∙◌, append-nil}
 use Rattle.std.specs.List.{filter_map, list_any}
 use Rattle.std.specs.Option.{option_or}
@@ -45,7 +45,7 @@ pub terminal_kept : (letter : Letter) (before : List Line) (arcs : List ArcLine)
 terminal_kept letter [] arcs = no_terminal letter arcs
 terminal_kept letter (x ∷ before) arcs = ap (option_or (terminal_in letter x)) (terminal_kept letter before arcs)
 
--- no items
+-- a run of no arcs changes nothing
 pub joins_none : (d : Draft) (before : List Line) → DraftHolds d before → Joins DraftHolds before d []
 joins_none d before h = record {
   faultless = tt;

@@ -1,4 +1,4 @@
--- What the end of a text makes of its items.
+-- Lemmas on the end of a text.
 use Rattle.std.proofs.Common.{◌≡◌, ℤ, pos, List, [], ◌∷◌, Bool, true, false, ◌||◌, cond, not, int_lt, Option, Some, None, is_none, Ok, Err, refl, sym, ap, ◌∙◌, subst}
 use Rattle.std.specs.Option.{option_map}
 use Rattle.dn_line.specs.declared.code.Code.{Code}
@@ -30,7 +30,7 @@ use Rattle.dn_instance.specs.declared.held.Held.{Held}
 use Rattle.dn_instance.specs.declared.text_so_far.TextSoFar.{TextSoFar}
 use Rattle.dn_instance.proofs.ItemSteps.{problem_told}
 
--- the faults at the end, by the problem
+-- the first fault at the end, given the problem
 abbrev ends_by : Option Problem → List Line → Option Code
 ends_by o items =
     first_fault
@@ -51,7 +51,7 @@ end_is t items kind lacks few at is l f =
     twice true = refl
     twice false = refl
 
--- all is there
+-- content and as many counted lines as declared end a text without a fault
 pub ends_whole : (t : TextSoFar) (items : List Line) (content : Content) (held : Held) → HasRead t items
     → Makes (draft_kind t.draft) t.nodes items (Ok content) → int_lt t.counted t.count ≡ false
     → (holding held).nodes ≡ t.nodes → (holding held).lines ≡ t.counted → (holding held).contents ≡ contents_of content
@@ -97,7 +97,7 @@ max_made : (a b : ℤ) (x y : Option ℤ) (G : Graph CapArc) → x ≡ Some a �
     → max_flow x y G ≡ Some (MaxFlow a b G)
 max_made a b x y G e f = ap (λ o. max_flow o y G) e ∙ ap (λ o. max_flow (Some a) o G) f
 
--- source and sink are there
+-- a `max` draft with a source and a sink makes content
 pub both_named : (d : Draft) (s t : Option ℤ) (table kept : Bundles Total) → IsStrictlySortedBy pair_cmp (keys_of kept)
     → ((p : ℤ × ℤ) → lookup (same_pair p) kept ≡ lookup (same_pair p) table) → (a b u v nodes : ℤ) (items : List Line)
     → d ≡ Drafts.Max s t table → s ≡ Some a → t ≡ Some b → u ≡ a → v ≡ b → DraftHolds d items

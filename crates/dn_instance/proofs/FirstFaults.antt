@@ -1,4 +1,4 @@
--- The first fault of a text, found line by line.
+-- Lemmas on finding the first fault of a text line by line.
 use Rattle.std.proofs.Common.{◌≡◌, ℕ, zero, suc, ◌+◌, ◌-◌, ◌<◌, List, [], ◌∷◌, ◌++◌, length, Bool, true, false, cond, ◌||◌, Option, Some, None, is_none, ◌⊎◌, inl, inr, refl, sym, ap, ◌∙◌, subst, arith, append_assoc, append-nil, length-append}
 use Rattle.dn_line.specs.declared.code.Code.{Code}
 use Rattle.dn_line.specs.declared.kind.Kind.{Kind}
@@ -18,11 +18,11 @@ use Rattle.dn_instance.specs.Items.{Problem, problem_of, instance_of, instance_a
 use Rattle.dn_instance.specs.TextFaults.{line_fault, end_fault, lacks_terminal}
 use Rattle.dn_instance.specs.Texts.{items_of, FaultAt, IsClean, IsFirstFaultAt, IsFirstFault, Reads}
 
--- the fault of the line that follows these lines
+-- the first fault of the line that follows these lines
 abbrev pub fault_after : List (List ℕ) → List ℕ → Option Code
 fault_after before l = line_fault (length before + 1) (items_of before) (said_words l)
 
--- two ways to part one list at the same place are one
+-- two splits of a list at the same position are the same
 pub same_front : {X : Type 0} (a b : List X) (x y : X) (xs ys : List X) → a ++ x ∷ xs ≡ b ++ y ∷ ys
     → length a ≡ length b → (a ≡ b) × (x ≡ y)
 same_front [] [] x y xs ys e h = let same : x ≡ y = cc in (refl, same)
@@ -34,7 +34,7 @@ same_front (c ∷ a) (d ∷ b) x y xs ys e h =
     let r = same_front a b x y xs ys rest (omega arith) in
     (ap (λ z. z ∷ a) heads ∙ ap (λ z. d ∷ z) r.0, r.1)
 
--- the fault at a line is that of the line after those before it
+-- the fault at a line is that of this line after the lines before it
 pub fault_there : (ls before after : List (List ℕ)) (l : List ℕ) (n : ℕ) (c : Code) → ls ≡ before ++ l ∷ after
     → n ≡ length before + 1 → FaultAt ls n c → fault_after before l ≡ Some c
 fault_there ls before after l n c e m f =
@@ -44,7 +44,7 @@ fault_there ls before after l n c e m f =
     (subst (λ (x : List ℕ). line_fault n (items_of before) (said_words x) ≡ Some c) r.1
     (subst (λ (b : List (List ℕ)). line_fault n (items_of b) (said_words f.line) ≡ Some c) r.0 f.fault_is))
 
--- a line of a clean text has no fault
+-- a line of a text without a fault has no fault
 pub clean_there : (ls before after : List (List ℕ)) (l : List ℕ) → ls ≡ before ++ l ∷ after → IsClean ls
     → fault_after before l ≡ None
 clean_there ls before after l e clean = by_fault (fault_after before l) refl
@@ -56,7 +56,7 @@ clean_there ls before after l e clean = by_fault (fault_after before l) refl
         (clean (length before + 1) c
         (record { before = before; line = l; after = after; lines_are = e; number_is = refl; fault_is = h }))
 
--- the faults of the lines come after the first k
+-- the first k lines have no fault
 abbrev NoneUpTo : List (List ℕ) → ℕ → Type 0
 NoneUpTo ls k = (n : ℕ) (c : Code) → FaultAt ls n c → k < n
 
@@ -64,7 +64,7 @@ one_more : (before : List (List ℕ)) (l : List ℕ) (after : List (List ℕ))
     → before ++ l ∷ after ≡ (before ++ l ∷ []) ++ after
 one_more before l after = sym (append_assoc before (l ∷ []) after)
 
--- a line without fault puts off the first one
+-- if the first k lines and the next line have no fault, the first k + 1 lines have no fault
 later : (ls before after : List (List ℕ)) (l : List ℕ) → ls ≡ before ++ l ∷ after → NoneUpTo ls (length before)
     → fault_after before l ≡ None → NoneUpTo ls (length (before ++ l ∷ []))
 later ls before after l e none h n c f =
@@ -85,12 +85,12 @@ abbrev or_later : Option Code → ℕ → Option (ℕ × Code) → Option (ℕ �
 or_later None n found = found
 or_later (Some c) n found = Some (n, c)
 
--- the first fault of the lines that follow these, line by line
+-- the first fault of the lines that follow these lines, and the number of its line
 abbrev pub found_in : List (List ℕ) → List (List ℕ) → Option (ℕ × Code)
 found_in before [] = None
 found_in before (l ∷ rest) = or_later (fault_after before l) (length before + 1) (found_in (before ++ l ∷ []) rest)
 
--- no fault, or this first one
+-- no line has a fault, or this is the first fault
 abbrev Found : List (List ℕ) → Option (ℕ × Code) → Type 0
 Found ls None = IsClean ls
 Found ls (Some f) = IsFirstFaultAt ls f.0 f.1
@@ -121,15 +121,15 @@ found_from ls before (l ∷ rest) e none =
 found_is : (ls : List (List ℕ)) → Found ls (found_in [] ls)
 found_is ls = found_from ls [] ls refl (λ n c f. (let m = f.number_is in omega arith))
 
--- the fault that is found line by line is the first
+-- the fault that is found line by line is the first fault
 pub first_is : (ls : List (List ℕ)) (n : ℕ) (c : Code) → found_in [] ls ≡ Some (n, c) → IsFirstFaultAt ls n c
 first_is ls n c h = subst (Found ls) h (found_is ls)
 
--- where none is found, there is none
+-- if no fault is found, no line has a fault
 pub clean_is : (ls : List (List ℕ)) → found_in [] ls ≡ None → IsClean ls
 clean_is ls h = subst (Found ls) h (found_is ls)
 
--- what holds of no line, and goes on over a line without fault, holds of a clean text
+-- what holds of no lines, and also with each next line without a fault, holds of lines without a fault
 clean_from : (P : List (List ℕ) → Type 0) (ls before rest : List (List ℕ)) → ls ≡ before ++ rest → IsClean ls
     → ((b : List (List ℕ)) (l : List ℕ) → fault_after b l ≡ None → P b → P (b ++ l ∷ [])) → P before → P ls
 clean_from P ls before [] e clean step here = subst P (sym (append-nil before) ∙ sym e) here
@@ -153,7 +153,7 @@ same_place t Places.End Places.End c d f g = refl
 some_same : (c d : Code) (x y : Option Code) → x ≡ Some c → y ≡ Some d → x ≡ y → c ≡ d
 some_same c d x y e f g = cc
 
--- and its fault is one
+-- lines have only one first fault
 same_fault : (ls : List (List ℕ)) (m n : ℕ) (c d : Code) → IsFirstFaultAt ls m c → IsFirstFaultAt ls n d → c ≡ d
 same_fault ls m n c d f g =
     let same = same_number ls m n c d f g in
@@ -181,7 +181,7 @@ later_lines before (l ∷ ls) ms x h = by_fault (fault_after before l) (later_li
     by_fault None go g = go g
     by_fault (Some c) go g = g
 
--- what follows the first fault does not change it
+-- later lines do not change the first fault
 pub first_on : (ls ms : List (List ℕ)) (n : ℕ) (c : Code) → IsFirstFaultAt ls n c → IsFirstFaultAt (ls ++ ms) n c
 first_on ls ms n c f = by_found (found_in [] ls) refl
   where
@@ -198,7 +198,7 @@ pub not_both : (t : List ℕ) (I : Instance) (p : Place) (c : Code) → Reads t 
 not_both t I (Places.Line n) c r f = r.clean n c f.at
 not_both t I Places.End c r f = let never : None ≡ Some c = sym r.whole ∙ f.fault_is in cc
 
--- the first test fails where no fault is found
+-- if no fault is found, the first test does not apply
 pub none_first : {X : Type 0} (b : Bool) (x : X) (rest : Option X) → cond b (Some x) rest ≡ None → (b ≡ false)
     × (rest ≡ None)
 none_first true x rest h = cc
@@ -226,7 +226,7 @@ of_problem : (o : Option Problem) (items : List Line) → is_none o ≡ false
 of_problem None items h g = cc
 of_problem (Some p) items h g = of_kind p.kind p.nodes items g
 
--- items that lack nothing at the end make an instance
+-- items without a fault at the end make an instance
 made : (items : List Line) → end_fault items ≡ None → (I : Instance) × (instance_of items ≡ Some I)
 made items h =
     let one = none_first (is_none (problem_of items)) NoProblem _ h in

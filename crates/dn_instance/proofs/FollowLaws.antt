@@ -1,4 +1,4 @@
--- What a line that has no fault up to its fields says of its item.
+-- Lemmas on the item of a line that has no fault up to its fields.
 use Rattle.std.proofs.Common.{◌≡◌, List, [], ◌∷◌, ◌++◌, Bool, true, false, ◌&&◌, cond, Option, Some, None, IsSome, is_some, Ok, Err, refl, sym, ap, ◌∙◌, subst}
 use Rattle.std.specs.Option.{option_or, option_to_list}
 use Rattle.dn_line.specs.declared.line.Line.{Line}
@@ -21,7 +21,7 @@ use Rattle.dn_instance.specs.State.TextsSoFar.{next_read, fault_next, MayFollow}
 use Rattle.dn_instance.proofs.FirstFaults.{none_first}
 use Rattle.dn_instance.proofs.CleanItems.{none_both}
 
--- the words stand at the places, if there are any
+-- there are slots, and the words fit them
 abbrev FitSome : Option (List Slot) → List Word → Type 0
 FitSome None ws = ⊥
 FitSome (Some slots) ws = FitSlots slots ws
@@ -29,7 +29,7 @@ FitSome (Some slots) ws = FitSlots slots ws
 fit_some : (known : Option Kind) (ws : List Word) (i : Line) → Spells known ws i → FitSome (slots_of i) ws
 fit_some known ws i s = subst (λ o. FitSome o ws) (sym s.slots_are) s.fit
 
--- numbers that may not be below 0 are not
+-- LOW and CAP of an item that words spell are at least 0
 signs : (i : Line) (ws : List Word) → FitSome (slots_of i) ws → HasSigns i
 signs (Item.MinArc src dst low top cost) [] f = absurd f
 signs (Item.MinArc src dst low top cost) (w ∷ []) f = absurd f.1
@@ -52,7 +52,7 @@ signs (Item.Source _) ws f = tt
 signs (Item.Query _ _) ws f = tt
 signs (Item.Point _ _ _) ws f = tt
 
--- a counted item has the letter of one
+-- the line of a counted item has the letter of a counted line
 letter : (i : Line) (ws : List Word) → FitSome (slots_of i) ws → is_counted i ≡ true
     → is_counted_letter (first ws) ≡ true
 letter (Item.MinArc src dst low top cost) [] f h = absurd f
@@ -80,7 +80,7 @@ module _ (before : List Line) (ws : List Word) (e : is_skip ws ≡ false) where
   abbrev later : List Test
   later = order_tests before ws ++ field_tests (fields known ws)
 
-  -- no fault up to the fields
+  -- the head, the order and the fields have no fault
   record Faultless : Type 0 where
     head : first_fault (head_tests known ws) ≡ None
     order : first_fault (order_tests before ws) ≡ None
@@ -121,7 +121,7 @@ module _ (before : List Line) (ws : List Word) (e : is_skip ws ≡ false) where
   by_next : next_read before ws ≡ unless (first_fault all_but_items) (spelled known ws)
   by_next = ap (λ b. cond b (Ok Item.Skip) (unless (first_fault all_but_items) (spelled known ws))) e
 
-  -- what is read where no fault is found
+  -- if no fault is found, the line reads as the item that it spells
   pub taken : (i : Line) → next_read before ws ≡ Ok i → (first_fault all_but_items ≡ None) × (spelled known ws ≡ i)
   taken i h = by_fault (first_fault all_but_items) refl (sym by_next ∙ h)
     where
@@ -171,7 +171,7 @@ module _ (before : List Line) (ws : List Word) (e : is_skip ws ≡ false) where
       (fault_append (order_tests before ws) (own ++ tests)
       ∙ ap (option_or (first_fault (order_tests before ws))) (fault_append own tests))
 
-  -- the item follows those before it, and its faults are the line's
+  -- the item may follow the items before it, and has the first fault of the line
   pub record Follows (i : Line) : Type 0 where
     pub may : MayFollow before i
     pub reads : item_spelled (words_read known ws) ≡ Some i
@@ -208,7 +208,7 @@ module _ (before : List Line) (ws : List Word) (e : is_skip ws ≡ false) where
   or_front None (Some y) c d x h = h
   or_front (Some y) b c d x h = h
 
-  -- a fault up to the fields is the line's
+  -- a fault up to the fields is the first fault of the line
   pub refused : (c : Code) → next_read before ws ≡ Err c → first_fault (line_tests before ws) ≡ Some c
   refused c h =
       let tests = item_spelled (words_read known ws) in
@@ -219,7 +219,7 @@ module _ (before : List Line) (ws : List Word) (e : is_skip ws ≡ false) where
       ∙ ap (option_or (first_fault (head_tests known ws)))
       (fault_append (order_tests before ws) (field_tests (fields known ws)))) ∙ refused_by c h)
 
--- what reads as nothing is skipped
+-- a line that reads as `Skip` is skipped
 pub skip_only : (before : List Line) (ws : List Word) → next_read before ws ≡ Ok Item.Skip → is_skip ws ≡ true
 skip_only before ws h = by_skip (is_skip ws) refl
   where
@@ -230,7 +230,7 @@ skip_only before ws h = by_skip (is_skip ws) refl
         absurd_some : IsSome (slots_of Item.Skip) → is_skip ws ≡ true
         absurd_some s = cc
 
--- and what is skipped reads as nothing
+-- a skipped line reads as `Skip`, and has no fault
 pub skips : (before : List Line) (ws : List Word) → is_skip ws ≡ true → next_read before ws ≡ Ok Item.Skip
 skips before ws e =
     ap (λ b. cond b (Ok Item.Skip)
@@ -242,7 +242,7 @@ skips before ws e =
 pub skip_faultless : (before : List Line) (ws : List Word) → is_skip ws ≡ true → fault_next before ws ≡ None
 skip_faultless before ws e = ap (λ b. cond b None (first_fault (line_tests before ws))) e
 
--- an item is read of a line that is not skipped
+-- a line that reads as an item other than `Skip` is not skipped
 pub not_skipped : (before : List Line) (ws : List Word) (i : Line) → next_read before ws ≡ Ok i → (i ≡ Item.Skip → ⊥)
     → is_skip ws ≡ false
 not_skipped before ws i h n = by_skip (is_skip ws) refl
@@ -253,14 +253,14 @@ not_skipped before ws i h n = by_skip (is_skip ws) refl
     by_skip false e = e
 
 module _ (before : List Line) (ws : List Word) (i : Line) (e : is_skip ws ≡ false) (f : Follows before ws e i) where
-  -- the faults of the line are those of its item, and the item comes after the others
+  -- the first fault of the line is that of its item, and the line adds this item
   pub same_fault : fault_next before ws ≡ first_fault (item_tests before (Some i))
   same_fault = ap (λ b. cond b None (first_fault (line_tests before ws))) e ∙ f.faults
 
   pub adds_it : with_next before ws ≡ before ++ i ∷ []
   adds_it = ap (λ o. before ++ option_to_list o) f.reads
 
--- an item that is read of a line may follow those before it, its faults are the line's, and it comes after the others
+-- an item may follow the items before it, has the first fault of its line, and is what the line adds
 pub record IsNextItem (before : List Line) (ws : List Word) (i : Line) : Type 0 where
   pub may : MayFollow before i
   pub fault : fault_next before ws ≡ first_fault (item_tests before (Some i))
@@ -273,7 +273,7 @@ next_item before ws i h n =
     let f = follows_as before ws e i h in
     record { may = f.may; fault = same_fault before ws i e f; adds = adds_it before ws i e f }
 
--- a fault up to the fields is the line's
+-- a fault up to the fields is the first fault of the line
 pub line_refused : (before : List Line) (ws : List Word) (c : Code) → next_read before ws ≡ Err c
     → fault_next before ws ≡ Some c
 line_refused before ws c h = by_skip (is_skip ws) refl

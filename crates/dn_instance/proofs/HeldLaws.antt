@@ -1,4 +1,4 @@
--- What is held, and the instances that it stands for.
+-- Lemmas on parsed instances and the instances that they represent.
 use Rattle.std.proofs.Common.{◌≡◌, refl}
 use Rattle.dn_instance.specs.State.Helds.{Contents, Holding, IsHeld, OfMin, OfMax, OfSp, OfSs, OfP2p, OfCo, Shows, contents_kind}
 use Rattle.dn_instance.specs.Instances.{Instance, MinCostFlow, MaxFlow, ShortestPaths, Sources, Queries, Coordinates, kind_of}
@@ -12,6 +12,6 @@ shown_kind (OfP2p pairs) (Queries xs) h = refl
 shown_kind (OfCo points) (Coordinates xs) h = refl
 shown_kind _ _ h = absurd h
 
--- the kind of what is held is that of the instance
+-- a parsed instance has the kind of the instance that it represents
 pub held_kind : (g : Holding) (I : Instance) → IsHeld g I → contents_kind g.contents ≡ kind_of I
 held_kind g I h = shown_kind g.contents I h.shows

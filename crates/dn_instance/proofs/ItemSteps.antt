@@ -1,4 +1,4 @@
--- The items of the complete lines with one item more.
+-- Lemmas on the items that have been read and one more item.
 use Rattle.std.proofs.Common.{◌≡◌, ◌<◌, ℕ, ◌+◌, ℤ, pos, ◌+ℤ◌, ◌<ℤ◌, List, [], ◌∷◌, ◌++◌, length, filter, Bool, true, false, cond, not, ◌||◌, int_lt, Option, Some, None, is_some, IsSome, refl, sym, subst, ap, ◌∙◌, arith, ◌≤◌, ◌^◌, ◌-◌, FitsSigned, w64, suc}
 use Rattle.std.proofs.lemmas.Int.{ints, fits_signed_from_abs}
 use Rattle.std.proofs.lemmas.Bool.Decides.{nat_tests}
@@ -23,7 +23,7 @@ use Rattle.dn_instance.specs.declared.text_so_far.TextSoFar.{TextSoFar}
 use Rattle.dn_instance.proofs.CleanItems.{problem_push}
 use Rattle.dn_instance.proofs.DraftLaws.{held_problem}
 
--- the draft is of the kind that is declared
+-- the draft is of the declared kind
 pub kind_told : (t : TextSoFar) (items : List Line) → HasRead t items → kind_known items ≡ draft_kind t.draft
 kind_told t items at = ap (option_map (λ (p : Problem). p.kind)) at.problem_is ∙ kind_as (draft_kind t.draft)
   where
@@ -31,12 +31,12 @@ kind_told t items at = ap (option_map (λ (p : Problem). p.kind)) at.problem_is 
     kind_as None = refl
     kind_as (Some kind) = refl
 
--- the problem of a draft of this kind
+-- the items declare the problem of the draft's kind
 pub problem_told : (t : TextSoFar) (items : List Line) (kind : Kind) → HasRead t items → draft_kind t.draft ≡ Some kind
     → problem_of items ≡ Some (problem_as t kind)
 problem_told t items kind at is = at.problem_is ∙ ap (option_map (problem_as t)) is
 
--- the number of lines is of no account for the items
+-- the items that have been read do not depend on the number of lines
 pub with_lines : (t : TextSoFar) (n : ℕ) (items : List Line) → HasRead t items → HasRead (record t { closed = n }) items
 with_lines t n items at = record {
   problem_is = at.problem_is;
@@ -61,7 +61,7 @@ no_problem (Item.Source _) g a = refl
 no_problem (Item.Query _ _) g a = refl
 no_problem (Item.Point _ _ _) g a = refl
 
--- an item other than a problem line is of a kind
+-- an item other than a problem line belongs to a kind
 kind_of_item : (i : Line) → problem_in i ≡ None → IsSome (slots_of i) → (kind : Kind) × (kind_before i ≡ Some kind)
 kind_of_item Item.Skip h s = cc
 kind_of_item (Item.Graph _ _ _) h s = cc
@@ -98,7 +98,7 @@ pub problem_kept : (items : List Line) (i : Line) (p : Problem) → problem_of i
     → problem_of (items ++ i ∷ []) ≡ Some p
 problem_kept items i p h = problem_push items i ∙ ap (λ o. option_or o (problem_in i)) h
 
--- with an item that is counted, or is not
+-- a counted item adds 1 to the count, and any other item adds nothing
 pub counted_yes : (items : List Line) (i : Line) → is_counted i ≡ true → counted (items ++ i ∷ []) ≡ suc (counted items)
 counted_yes [] i h = ap (λ b. length (cond b (i ∷ []) [])) h
 counted_yes (x ∷ rest) i h = by_test (is_counted x) (counted_yes rest i h)
@@ -122,7 +122,7 @@ counted_no (x ∷ rest) i h = by_test (is_counted x) (counted_no rest i h)
 any_push : (items : List Line) (i : Line) → list_any is_arc (items ++ i ∷ []) ≡ (list_any is_arc items || is_arc i)
 any_push items i = list_any-append is_arc items (i ∷ []) ∙ ap (λ b. list_any is_arc items || b) (or-false (is_arc i))
 
--- a problem's counted lines are its arcs
+-- in a graph problem, the counted items are the arcs
 arc_counted : (i : Line) → is_graph (kind_before i) ≡ true → is_arc i ≡ is_counted i
 arc_counted (Item.Source id) h = cc
 arc_counted (Item.Query a b) h = cc
@@ -136,7 +136,7 @@ arc_counted (Item.Aux _ _) h = refl
 arc_counted (Item.Supply _ _) h = refl
 arc_counted (Item.Terminal _ _) h = refl
 
--- one more than a number below one that fits is not saturated
+-- adding 1 to a number that is below a number of 64 bits does not saturate
 pub next_fits : (k : ℕ) (m : ℤ) → m <ℤ pos (2 ^ 63) → int_lt (pos k) m ≡ true → FitsSigned w64 (pos (suc k))
 next_fits k m f h = fits_signed_from_abs w64 (pos (suc k)) (grind (arith, ints, nat_tests))
 
@@ -150,7 +150,7 @@ sum_is k m f h =
     let one_more : k + 1 ≡ suc k = grind (arith) in
     ap pos (min-eq_left small ∙ one_more)
 
--- as many lines as declared are not read yet
+-- if a counted item may follow, fewer counted lines than declared have been read
 pub has_room : (t : TextSoFar) (items : List Line) (i : Line) (kind : Kind) → HasRead t items
     → draft_kind t.draft ≡ Some kind → HasRoom items i → is_counted i ≡ true
     → int_lt (pos (counted items)) t.count ≡ true
@@ -161,7 +161,7 @@ has_room t items i kind at is room y =
     not_not true h = refl
     not_not false h = cc
 
--- with one item more
+-- one more item has been read
 module _ (t : TextSoFar) (d : Draft) (items : List Line) (i : Line) (at : HasRead t items)
     (next : ComesNext t.draft t.nodes items i) (kept : draft_kind d ≡ draft_kind t.draft) where
   arcs_then : (n : ℤ) (b : Bool) → is_counted i ≡ b → n ≡ pos (counted (items ++ i ∷ []))
@@ -196,7 +196,7 @@ module _ (t : TextSoFar) (d : Draft) (items : List Line) (i : Line) (at : HasRea
         holds = h;
       }
 
--- a problem line is of no kind, it is no arc, and it is not counted
+-- a problem line belongs to no kind, is not an arc, and is not counted
 heads : (i : Line) → IsSome (problem_in i) → (kind_before i ≡ None) × (list_any is_arc (i ∷ []) ≡ false)
     × (counted (i ∷ []) ≡ 0)
 heads (Item.Graph k n c) s = (refl, refl, refl)
@@ -211,7 +211,7 @@ heads (Item.Source _) s = cc
 heads (Item.Query _ _) s = cc
 heads (Item.Point _ _ _) s = cc
 
--- before the problem line there are no items
+-- before the problem line, there are no items
 none_made : (d : Draft) (items : List Line) → draft_kind d ≡ None → DraftHolds d items → items ≡ []
 none_made Drafts.Empty items e h = h
 none_made (Drafts.Min _ _ _) items e h = cc
@@ -227,7 +227,7 @@ none_before t before i p a is =
     none_made t.draft before
     (sym (kind_told t before a.read) ∙ a.may.kind_is ∙ (heads i (ap is_some is)).0) a.read.holds
 
--- what has been read with the problem line
+-- the problem line has been read
 pub begun : (t u : TextSoFar) (before : List Line) (i : Line) (p : Problem) → Awaits t before i → problem_in i ≡ Some p
     → draft_kind u.draft ≡ Some p.kind → p ≡ problem_as u p.kind → u.count <ℤ pos (2 ^ 63) → u.counted ≡ t.counted
     → DraftHolds u.draft []

@@ -1,4 +1,4 @@
--- The complete lines with one line more.
+-- Lemmas on the complete lines and one more line.
 use Rattle.std.proofs.Common.{◌≡◌, ℕ, suc, ◌+◌, ◌-◌, ◌^◌, ◌<◌, ◌≤◌, List, [], ◌∷◌, ◌++◌, length, Bool, true, false, cond, Some, None, refl, sym, ap, ◌∙◌, subst, arith, length-append, ◌⊎◌, inl, inr}
 use Rattle.std.proofs.lemmas.Bool.Decides.{nat_tests}
 use Rattle.dn_line.specs.declared.line.Line.{Line}
@@ -13,7 +13,7 @@ use Rattle.dn_instance.specs.State.TextsSoFar.{HasRead, TextAt, fault_next}
 use Rattle.dn_instance.proofs.FirstFaults.{fault_after}
 use Rattle.dn_instance.proofs.CleanItems.{items_push}
 
--- a line that is not too long has the faults of its items and words
+-- a line that is not too long has only the faults of its words and its item
 pub fault_is_next : (n : ℕ) (before : List Line) (ws : List Word) → is_too_long n ≡ false
     → line_fault n before ws ≡ fault_next before ws
 fault_is_next n before ws h =
@@ -31,7 +31,7 @@ too_long n before ws h = ap (λ b. cond b (Some TooLong) (first_fault (cond (is_
 pub is_late : (n m : ℕ) → m ≡ n → 2 ^ 63 - 2 ≤ m → is_too_long (n + 1) ≡ true
 is_late n m e h = grind (arith, nat_tests)
 
--- where a line stands in a list with one more at its end
+-- a line of a list with one more line is the last line, or a line of the list
 pub split : (ls before after : List (List ℕ)) (l m : List ℕ) → ls ++ l ∷ [] ≡ before ++ m ∷ after
     → ((before ≡ ls) × (m ≡ l)) ⊎ ((a : List (List ℕ)) × (ls ≡ before ++ m ∷ a))
 split [] [] after l m e = let same : m ≡ l = cc in inl (refl, same)
@@ -53,7 +53,7 @@ pub no_lines : IsClean []
 no_lines number code f = let n = ap length f.lines_are in let k = length-append f.before (f.line ∷ f.after) in
     omega arith
 
--- a clean text stays so with a line without fault
+-- lines without a fault, followed by one more, have no fault
 pub clean_more : (ls : List (List ℕ)) (l : List ℕ) → IsClean ls → fault_after ls l ≡ None → IsClean (ls ++ l ∷ [])
 clean_more ls l clean h number code f = by_split (split ls f.before f.after l f.line f.lines_are)
   where
@@ -68,7 +68,7 @@ clean_more ls l clean h number code f = by_split (split ls f.before f.after l f.
         (record
         { before = f.before; line = f.line; after = a; lines_are = e; number_is = f.number_is; fault_is = f.fault_is })
 
--- with a line more
+-- one more line has been read
 pub read_more : (t : TextSoFar) (ls : List (List ℕ)) (l : List ℕ) (u : TextSoFar) → TextAt t ls
     → fault_after ls l ≡ None → u.closed ≡ suc (length ls) → suc (length ls) < 2 ^ 63 - 1
     → HasRead u (with_next (items_of ls) (said_words l)) → TextAt u (ls ++ l ∷ [])

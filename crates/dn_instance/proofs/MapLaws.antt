@@ -1,4 +1,4 @@
--- Entries put into their places by rising key.
+-- Lemmas on inserting entries by ascending key.
 use Rattle.std.proofs.Common.{◌≡◌, is_eq, suc, length, ℤ, List, [], ◌∷◌, ◌++◌, refl, sym, ap, ◌∙◌, subst, Bool, true, false, cond, ◌||◌, Option, Some, is_some}
 use Rattle.std.specs.List.{AllByRecursion, fold, list_any}
 use Rattle.std.specs.List.Sorted.{IsStrictlySortedBy}
@@ -15,7 +15,7 @@ use Rattle.dn_instance.proofs.PairLaws.{sought_is}
 use Rattle.dn_instance.specs.Items.{by_key}
 use Rattle.dn_instance.specs.Validity.{IsMap}
 
--- what holds of each element where something else does
+-- what follows from a property of each element holds of each element
 pub all_mono : {Y : Type 0} (P Q : Y → Type 0) → ((y : Y) → P y → Q y) → (ys : List Y) → AllByRecursion P ys
     → AllByRecursion Q ys
 all_mono P Q f [] a = tt
@@ -34,7 +34,7 @@ module _ {X : Type 0} (k : ℤ) (v : X) where
   each_by P e es rest Equal h new old all put = (subst (λ z. P (z, v)) (exact_signed k e.0 h) new, all)
   each_by P e es rest Greater h new old all put = (old, put)
 
-  -- what holds of each entry and of the one put in
+  -- what holds of each entry and of the inserted one holds of each entry after inserting
   pub each_put : (P : ℤ × X → Type 0) (es : List (ℤ × X)) → P (k, v) → AllByRecursion P es
       → AllByRecursion P (insert_entry int_cmp es k v)
   each_put P [] new all = (new, tt)
@@ -70,7 +70,7 @@ module _ {X : Type 0} (k : ℤ) (v : X) where
   map_by e es rest Equal h old put keys = old
   map_by e es rest Greater h old put keys = (keys old.0 (int_cmp_total.antisymm e.0 k ∙ ap ordering_reverse h), put)
 
-  -- keys that rise still rise
+  -- ascending keys are ascending after inserting
   pub map_put : (es : List (ℤ × X)) → IsMap es → IsMap (insert_entry int_cmp es k v)
   unfolding IsStrictlySortedBy
   map_put [] m = (tt, tt)
@@ -78,17 +78,17 @@ module _ {X : Type 0} (k : ℤ) (v : X) where
       map_by e es (insert_entry int_cmp es k v) (int_cmp k e.0) refl m (map_put es m.1)
       (λ all below. keys_put (λ y. int_cmp e.0 y ≡ Less) es below all)
 
--- one entry more
+-- one more entry is inserted by its key
 pub by_key_push : {X : Type 0} (es : List (ℤ × X)) (e : ℤ × X)
     → by_key (es ++ e ∷ []) ≡ insert_entry int_cmp (by_key es) e.0 e.1
 by_key_push es e = fold-append (λ m x. insert_entry int_cmp m x.0 x.1) [] es (e ∷ [])
 
--- no keys rise
+-- the empty list of keys is ascending
 pub no_keys : IsStrictlySortedBy int_cmp []
 unfolding IsStrictlySortedBy
 no_keys = tt
 
--- whether a key is the one that is sought
+-- whether a key is the sought one
 abbrev Sought : ℤ → ℤ → Bool
 Sought q k = is_at (int_cmp q) k
 
@@ -123,7 +123,7 @@ found_by q k v e es rest Greater h i = by_tests (Sought q e.0) (Sought q k) refl
     by_tests false true a b = rw (a, i, b) refl
     by_tests false false a b = rw (a, i, b) refl
 
--- what is found among entries with one put in
+-- what is found after inserting an entry
 pub lookup_put : {X : Type 0} (q k : ℤ) (v : X) (es : List (ℤ × X))
     → lookup (is_at (int_cmp q)) (insert_entry int_cmp es k v) ≡ cond (Sought q k) (Some v)
     (lookup (is_at (int_cmp q)) es)
@@ -153,12 +153,12 @@ found_fold q m (e ∷ es) =
     ∙ ap (λ b. b || list_any (λ x. Sought q x.0) es) (some_cond (Sought q e.0) e.1 (lookup (is_at (int_cmp q)) m))
     ∙ or_swap (Sought q e.0) (is_some (lookup (is_at (int_cmp q)) m)) (list_any (λ x. Sought q x.0) es)
 
--- a key is found among entries by rising key exactly if it is among the entries
+-- a key is found among entries by ascending key exactly if it is among the entries
 pub found_by_key : {X : Type 0} (q : ℤ) (es : List (ℤ × X))
     → is_some (lookup (is_at (int_cmp q)) (by_key es)) ≡ list_any (λ e. Sought q e.0) es
 found_by_key q es = found_fold q [] es
 
--- a key that is not there yet is one more
+-- inserting a new key adds one entry
 module _ {X : Type 0} (k : ℤ) (v : X) where
   more_by : (e : ℤ × X) (es rest : List (ℤ × X)) (r : Ordering) → int_cmp k e.0 ≡ r
       → is_some (cond (Sought k e.0) (Some e.1) (lookup (is_at (int_cmp k)) es)) ≡ false

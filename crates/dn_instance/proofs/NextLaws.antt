@@ -1,4 +1,4 @@
--- What the next line reads as, check by check.
+-- Lemmas on what the next line reads as, check by check.
 use Rattle.std.proofs.Common.{◌≡◌, List, ◌++◌, Bool, true, false, cond, Option, Some, None, Result, Ok, Err, refl, sym, ap, ◌∙◌}
 use Rattle.std.specs.Option.{option_or}
 use Rattle.dn_line.specs.declared.line.Line.{Line}
@@ -18,7 +18,7 @@ use Rattle.dn_instance.specs.Items.{kind_known}
 use Rattle.dn_instance.specs.TextFaults.{order_tests}
 use Rattle.dn_instance.specs.State.TextsSoFar.{next_read}
 
--- a line that is not skipped has the head that it names, where the checks find no fault
+-- a line that is not skipped, and in whose head no fault is found, has the head that it names
 pub head_told : (known : Option Kind) (ws : List Word) (head : Head) → is_skip ws ≡ false → head_read known ws ≡ Ok head
     → (first_fault (head_tests known ws) ≡ None) × (head ≡ head_of (first ws) (kind_named ws))
 head_told known ws head e h =
@@ -40,7 +40,7 @@ head_skips known ws head e h = let same : Ok Heads.Skip ≡ Ok head =
     (λ b. cond b (Ok Heads.Skip) (unless (first_fault (head_tests known ws)) (head_of (first ws) (kind_named ws)))) e)
     ∙ h in cc
 
--- a fault of a head by the lines before, where the line is not skipped
+-- the fault that a head has because of the lines before it, unless the line is skipped
 pub order_told : (known : Option Kind) (before : List Line) (ws : List Word) (head : Head) (fault : Option Code)
     → head_read known ws ≡ Ok head
     → (first_fault (head_tests known ws) ≡ None → head ≡ head_of (first ws) (kind_named ws)
@@ -77,7 +77,7 @@ module _ (before : List Line) (ws : List Word) where
   skipped_next : is_skip ws ≡ true → next_read before ws ≡ Ok Skip
   skipped_next e = ap (λ b. cond b (Ok Skip) (unless (first_fault (head_tests known ws ++ later)) (spelled known ws))) e
 
-  -- a fault of the head
+  -- a fault of the head is the fault of the line
   pub head_refused : (c : Code) → head_read known ws ≡ Err c → next_read before ws ≡ Err c
   head_refused c h = by_skip (is_skip ws) refl
     where
@@ -99,7 +99,7 @@ module _ (before : List Line) (ws : List Word) where
           parted e ∙ ap
           (λ x. read_by x (first_fault (order_tests before ws)) (first_fault (field_tests (fields known ws)))) f
 
-  -- a fault by the lines before
+  -- a fault because of the lines before is the fault of the line
   pub order_refused : (head : Head) (c : Code) → head_read known ws ≡ Ok head
       → cond (is_skip ws) None (first_fault (order_tests before ws)) ≡ Some c → next_read before ws ≡ Err c
   order_refused head c h o = by_skip (is_skip ws) refl
@@ -114,7 +114,7 @@ module _ (before : List Line) (ws : List Word) where
           ∙ ap (λ x. read_by None x (first_fault (field_tests (fields known ws))))
           (sym (ap (λ b. cond b None (first_fault (order_tests before ws))) e) ∙ o)
 
-  -- no fault so far
+  -- without such faults, the line reads as its fields do
   pub then_fields : (head : Head) → head_read known ws ≡ Ok head
       → cond (is_skip ws) None (first_fault (order_tests before ws)) ≡ None → fields_read known ws ≡ next_read before ws
   then_fields head h o = by_skip (is_skip ws) refl

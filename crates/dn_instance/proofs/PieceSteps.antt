@@ -1,4 +1,4 @@
--- The lines that LFs have ended, as pieces come.
+-- Lemmas on the complete lines of a text when a piece is appended.
 use Rattle.std.proofs.Common.{◌≡◌, ℕ, suc, ◌+◌, ◌-◌, ◌≤◌, List, [], ◌∷◌, ◌++◌, length, length-append, take, drop, take-append-drop, Bool, true, false, cond, not, ◌&&◌, refl, sym, ap, ◌∙◌, append-nil, append_assoc, arith}
 use Rattle.std.proofs.lemmas.Bool.{ltb-true}
 use Rattle.std.proofs.Math.Seq.{take-add}
@@ -13,7 +13,7 @@ use Rattle.dn_instance.specs.Readers.{ended}
 use Rattle.dn_instance.specs.State.ReaderStates.{open_of}
 use Rattle.dn_instance.specs.State.TextsSoFar.{AreInner, closed_lines}
 
--- the line that a piece's LF ends comes after those before it
+-- the line that an LF ends follows the lines before it
 closes : (p : Parts) (ls : List (List ℕ)) (o : List ℕ) → p ≡ (ls ++ o ∷ [], [])
     → p.0 ≡ ls ++ (last_of p.0 p.1).bytes ∷ []
 closes p ls o e =
@@ -21,7 +21,7 @@ closes p ls o e =
     ∙ ap (λ l. ls ++ l ∷ [])
     (sym (ap (λ (q : Parts). (last_of q.0 q.1).bytes) e ∙ ap (λ (l : LineSoFar). l.bytes) (ended_push ls o)))
 
--- what a piece's LF ends
+-- the first LF of a piece ends one more line
 pub ends_at : (t piece : List ℕ) → has_end piece ≡ true
     → parts is_line_feed (t ++ take (used_of piece) piece) ≡
     (ended t ++ (open_of t ++ before_first is_line_feed piece) ∷ [], [])
@@ -58,7 +58,7 @@ goes_on t piece e = by_end (has_end piece) e
     by_end false f =
         ap (λ n. ended (t ++ take n piece)) (plus_zero end) ∙ ap (λ (q : Parts). q.0) (parts_run is_line_feed t piece)
 
--- the lines of more text begin with those of the text
+-- the second list of lines begins with the first
 pub record More (ls ms : List (List ℕ)) : Type 0 where
   pub rest : List (List ℕ)
   pub whole : ms ≡ ls ++ rest
@@ -84,7 +84,7 @@ ended_more t (b ∷ u) =
           ∙ append_assoc (ended t) one.rest more.rest;
     }
 
--- whether the last line lacks its LF, by the line that the reader has
+-- whether a text has a last line without an LF, given the line of the reader
 pending_at : (x : Bool) (bytes o : List ℕ) → cond x [] bytes ≡ o → true ≡ (not x && has_bytes bytes)
     → if_any o ≡ bytes ∷ []
 pending_at true bytes o e h = cc
@@ -107,7 +107,7 @@ none_open t l e h = none_at l.ended l.bytes (open_of t) e h
 pub without_last : (t : List ℕ) → open_of t ≡ [] → lines t ≡ ended t
 without_last t e = ap (λ o. ended t ++ if_any o) e ∙ append-nil (ended t)
 
--- a line of a piece after a text whose last line has ended
+-- if no line is open, the first LF of a piece ends the first line of the piece
 pub line_more : (t piece line rest : List ℕ) → open_of t ≡ [] → line ++ 10 ∷ rest ≡ piece
     → list_all is_inner line ≡ true
     → parts is_line_feed (t ++ take (used_of piece) piece) ≡ (ended t ++ line ∷ [], [])
@@ -117,7 +117,7 @@ line_more t piece line rest o e h =
     (ap (λ x. x ++ before_first is_line_feed piece) o ∙ ap (before_first is_line_feed) (sym e)
     ∙ line_before line rest h)
 
--- lines with their LFs after such a text
+-- if no line is open, lines with their LFs follow the complete lines
 pub closed_more : (t : List ℕ) (more : List (List ℕ)) → open_of t ≡ [] → AreInner more
     → parts is_line_feed (t ++ closed_lines more) ≡ (ended t ++ more, [])
 closed_more t [] o h =
@@ -148,7 +148,7 @@ place_bound (b ∷ bs) = by_test (is_line_feed b) (place_bound bs)
     by_test true h = omega arith
     by_test false h = omega arith
 
--- what is left of a piece from a place on
+-- the bytes of a piece from position i on
 abbrev pub rest_of : List ℕ → ℕ → List ℕ
 rest_of p i = take (length p - i) (drop i p)
 
@@ -158,7 +158,7 @@ rest_is p i = take_all (length p - i) (drop i p) (omega (arith, length-drop i p)
 pub rest_len : (p : List ℕ) (i : ℕ) → length (rest_of p i) ≡ length p - i
 rest_len p i = ap length (rest_is p i) ∙ length-drop i p
 
--- a piece, part by part
+-- the first i bytes of a piece and the next n bytes are its first i + n bytes
 pub step_on : (t p : List ℕ) (i n : ℕ) → (t ++ take i p) ++ take n (rest_of p i) ≡ t ++ take (i + n) p
 step_on t p i n =
     ap (λ l. (t ++ take i p) ++ take n l) (rest_is p i) ∙ append_assoc t (take i p) (take n (drop i p))

@@ -1,4 +1,4 @@
--- What a reader has read as it goes on.
+-- Lemmas on what a reader has read.
 use Rattle.std.proofs.Common.{◌≡◌, ℕ, ◌+◌, ◌≤◌, false, List, [], ◌∷◌, ◌++◌, length, take, drop, Option, Some, None, Ok, Err, Result, MatchOption, MatchResult, ◌⊎◌, inl, inr, refl, sym, ap, ◌∙◌, subst, arith, length-append, append-nil, append_assoc, pos, option_and_then}
 use Rattle.std.proofs.Math.Seq.{take-append_seam}
 use Rattle.std.proofs.lemmas.List.{take_all, take-append-le}
@@ -29,7 +29,7 @@ use Rattle.dn_instance.specs.Items.{Problem, instance_as}
 use Rattle.dn_instance.specs.declared.held.Held.{Held}
 use Rattle.dn_instance.specs.declared.text_so_far.TextSoFar.{TextSoFar}
 
--- the fault of a line after clean lines is the first
+-- the fault of a line that follows lines without a fault is the first fault
 fault_first : (ls : List (List ℕ)) (l : List ℕ) (number : ℕ) (code : Code) → IsClean ls → number ≡ length ls + 1
     → line_fault (length ls + 1) (items_of ls) (said_words l) ≡ Some code → IsFirstFaultAt (ls ++ l ∷ []) number code
 fault_first ls l number code clean n f = record {
@@ -73,7 +73,7 @@ refused_next ls l number Faults.Memory clean n h item = record {
   clean = clean_more ls l clean h;
 }
 
--- a refusal stays, whatever lines come
+-- later lines do not change a refusal
 pub refused_on : (before earlier : ℕ) (ls ms : List (List ℕ)) (e : Refusal) → earlier ≤ before → More ls ms
     → IsRefused before ls e → IsRefused earlier ms e
 refused_on before earlier ls ms (Text (Places.Line number) code) b m f =
@@ -97,7 +97,7 @@ pub none_from : (o : Option Refusal) → ((x : Refusal) → o ≡ Some x → ⊥
 none_from None h = refl
 none_from (Some x) h = absurd (h x refl)
 
--- a reader without refusal
+-- a reader without a refusal has read the bytes that it represents
 pub reading : (r : Reader) (t : List ℕ) → r.refusal ≡ None → ReaderAt r t → IsReading r t
 reading r t e h = subst (λ o. MatchOption o (IsReading r t) (λ x. IsRefused 0 (ended t) x × StopsIn r (ended t) x)) e h
 
@@ -105,7 +105,7 @@ pub stands : (r : Reader) (t : List ℕ) → r.refusal ≡ None → IsReading r 
 stands r t e h =
     subst (λ o. MatchOption o (IsReading r t) (λ x. IsRefused 0 (ended t) x × StopsIn r (ended t) x)) (sym e) h
 
--- and one with this
+-- a reader with a refusal represents bytes with a refused line
 pub refused : (r : Reader) (t : List ℕ) (x : Refusal) → r.refusal ≡ Some x → ReaderAt r t → IsRefused 0 (ended t) x
     × StopsIn r (ended t) x
 refused r t x e h =
@@ -116,7 +116,7 @@ pub refuses : (r : Reader) (t : List ℕ) (x : Refusal) → r.refusal ≡ Some x
 refuses r t x e h =
     subst (λ o. MatchOption o (IsReading r t) (λ y. IsRefused 0 (ended t) y × StopsIn r (ended t) y)) (sym e) h
 
--- what is answered of the text so far
+-- what a reader returns for the text so far
 pub fed : (r : Reader) (t : List ℕ) → ReaderAt r t → Fed t (answer_of r.refusal)
 fed r t h = by_refusal r.refusal refl
   where
@@ -124,7 +124,7 @@ fed r t h = by_refusal r.refusal refl
     by_refusal None e = (reading r t e h).read.clean
     by_refusal (Some x) e = (refused r t x e h).0
 
--- a last line without LF
+-- a reader takes a last line without an LF
 pub takes_last : (r : Reader) (t bytes : List ℕ) (x : Result (Unit {0}) Refusal) → lines t ≡ ended t ++ bytes ∷ []
     → Takes r (ended t) bytes x → TakesAll r t x
 takes_last r t bytes (Ok x) e h = subst (TextAt r.text) (sym e) h
@@ -143,7 +143,7 @@ next_on taken ls ms Endless m n = n
 next_on taken ls ms Write m n = n
 next_on taken ls ms CountTooLarge m n = n
 
--- those before the refused one are read, whatever lines come
+-- later lines do not change which lines before the refused line are read
 pub stops_on : (r : Reader) (ls ms : List (List ℕ)) (e : Refusal) → More ls ms → StopsIn r ls e → StopsIn r ms e
 stops_on r ls ms e m s =
     record {
@@ -172,7 +172,7 @@ next_after ls l number (Faults.Text code) clean n h = n
 next_after ls l number Faults.Memory clean n h =
     ((let m = length-append ls (l ∷ []) in omega arith), subst IsClean (sym (all_of ls l)) (clean_more ls l clean h))
 
--- the entries of those
+-- the entries of the lines before the refused line
 pub entries_before : (r : Reader) (ls : List (List ℕ)) (e : Refusal) (n : ℕ) → StopsIn r ls e
     → ((before : List (List ℕ)) → TextAt r.text before → n ≡ entries_so_far (items_of before))
     → EntriesBefore (lines_taken r) ls e n
@@ -185,7 +185,7 @@ entries_before r ls e n s h = (
     front =
         ap (λ k. take k ls) s.read.number_is ∙ ap (take (length s.before)) s.whole ∙ take-append_seam s.before s.rest
 
--- the lines of a front of a piece
+-- the complete lines after a prefix of a piece are the first complete lines after the piece
 pub more_from : (t p : List ℕ) (i n : ℕ) → More (ended ((t ++ take i p) ++ take n (rest_of p i))) (ended (t ++ p))
 more_from t p i n =
     subst (λ u. More (ended ((t ++ take i p) ++ take n (rest_of p i))) (ended u))
@@ -195,7 +195,7 @@ more_from t p i n =
 pub more_count : (ls ms : List (List ℕ)) → More ls ms → length ls ≤ length ms
 more_count ls ms m = let n = ap length m.whole in let k = length-append ls m.rest in omega arith
 
--- the refusal of a whole text
+-- the refusal of all lines is the outcome of the text
 told_of : (t : List ℕ) (e : Refusal) → IsRefused 0 (lines t) e → Outcome t (Err e)
 told_of t (Text (Places.Line number) code) h = h
 told_of t (Text Places.End code) h = absurd h
@@ -205,7 +205,7 @@ told_of t Endless h = absurd h
 told_of t Write h = absurd h
 told_of t CountTooLarge h = absurd h
 
--- and of the lines that LFs have ended
+-- the refusal of the complete lines is the outcome of the text
 pub refused_early : (t : List ℕ) (e : Refusal) → IsRefused 0 (ended t) e → Outcome t (Err e)
 refused_early t e h = told_of t e (refused_on 0 0 (ended t) (lines t) e (omega arith) (lines_more t) h)
 
@@ -218,13 +218,13 @@ refused_last t before e h =
     (refused_on before 0 (lines t) (lines t) e (omega arith)
     (record { rest = []; whole = sym (append-nil (lines t)) }) h)
 
--- what is answered of a text that was fed at once
+-- the outcome of a text that is fed at once
 pub read_whole : (r : Reader) (t : List ℕ) (fed : Result (Unit {0}) Refusal) (a : Result Held Refusal) → Fed t fed
     → ReaderAt r t → MatchResult fed (λ x. Finishes r a) (λ e. a ≡ Err e) → Outcome t a
 read_whole r t (Ok x) a told at h = h.outcome t at
 read_whole r t (Err e) a told at h = subst (Outcome t) (sym h) (refused_early t e told)
 
--- what is held of a whole text
+-- the parsed instance of a whole text represents what the text reads as
 pub held_whole : (x : TextSoFar) (t : List ℕ) (held : Held) → TextAt x (lines t)
     → EndsWith (items_of (lines t)) (Ok held) → Outcome t (Ok held)
 held_whole x t held r e =

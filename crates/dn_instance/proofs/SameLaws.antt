@@ -1,4 +1,5 @@
--- Being the same problem is an equivalence, and does not depend on the order of arcs; what is held is one problem.
+-- Lemmas that posing the same problem is an equivalence that ignores the order of arcs, and that a parsed instance
+-- represents one problem.
 use Rattle.std.proofs.Common.{◌≡◌, ℤ, List, ◌∷◌, Bool, true, false, cond, refl, sym, ◌∙◌}
 use Rattle.std.specs.List.Sorted.{IsPermutation}
 use Rattle.dn_arc.specs.State.Meanings.{IsMeaning}
@@ -34,7 +35,7 @@ module _ {Arc : Type 0} (kind : ArcKind Arc) (meaning : IsMeaning kind.Same) whe
     bundles = λ p. meaning.same_trans (bundle p G.arcs) (bundle p H.arcs) (bundle p K.arcs) (s.bundles p) (t.bundles p);
   }
 
-  -- arcs with their pairs, by what they mean at each pair
+  -- two lists of arcs mean the same at each pair
   pub record SameAt (xs ys : List ((ℤ × ℤ) × Arc)) : Type 0 where
     pub at : (p : ℤ × ℤ) → kind.Same (bundle p xs) (bundle p ys)
 
@@ -66,7 +67,7 @@ module _ {Arc : Type 0} (kind : ArcKind Arc) (meaning : IsMeaning kind.Same) whe
       → SameGraph kind (record { nodes = nodes; arcs = xs }) (record { nodes = nodes; arcs = ys })
   graph_order nodes xs ys h = let s = any_order SameAt placed_meaning xs ys h in record { nodes = refl; bundles = s.at }
 
-  -- graphs of one table, and as many nodes
+  -- graphs with the same NODES that one table represents mean the same
   table_one : {B : Type 0} (tells : B → List Arc) (table : List ((ℤ × ℤ) × B)) (G H : Graph Arc) → G.nodes ≡ H.nodes
       → TableStandsFor kind tells table G.arcs → TableStandsFor kind tells table H.arcs → SameGraph kind G H
   table_one tells table G H n s t = record { nodes = n; bundles = at }
@@ -136,6 +137,6 @@ shows_one (OfP2p pairs) (Queries xs) _ n x y = absurd y
 shows_one (OfCo points) (Coordinates xs) _ n x y = absurd y
 shows_one _ _ _ n x y = absurd x
 
--- what is held stands for one problem
+-- the instances that a parsed instance represents pose the same problem
 pub held_one : (h : Holding) (I J : Instance) → IsHeld h I → IsHeld h J → IsSame I J
 held_one h I J x y = shows_one h.contents I J (sym x.nodes_are ∙ y.nodes_are) x.shows y.shows

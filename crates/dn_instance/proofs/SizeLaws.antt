@@ -1,4 +1,4 @@
--- As many lines are counted as a clean text has arcs, items or points.
+-- Lemmas that a text without a fault has as many counted lines as arcs, items or points.
 use Rattle.std.proofs.Common.{◌≡◌, ℕ, suc, ◌+◌, ◌*◌, ◌≤◌, ◌<◌, ◌^◌, ℤ, pos, List, [], ◌∷◌, ◌++◌, length, length-append, filter_map, Option, Some, None, true, false, refl, sym, ap, ◌∙◌, subst, arith}
 use Rattle.std.specs.Option.{option_or, option_map}
 use Rattle.dn_line.specs.declared.kind.Kind.{Kind}
@@ -19,7 +19,7 @@ use Rattle.dn_instance.proofs.MapLaws.{by_key_push, found_by_key, one_more_key}
 use Rattle.dn_instance.proofs.ItemSteps.{counted_yes, counted_no}
 use Rattle.dn_instance.proofs.ValidLaws.{kept, grown, item_fits, OnSlots, some_is}
 
--- as many as counted, and a companion has no nodes
+-- there are as many counted lines as arcs, items or points, and NODES of a companion is 0
 abbrev SizedAs : Kind → ℤ → List Line → Type 0
 SizedAs Kinds.Min nodes items = counted items ≡ length (arcs_of cost_arc_in items)
 SizedAs Kinds.Max nodes items = counted items ≡ length (arcs_of cap_arc_in items)
@@ -80,7 +80,7 @@ next_sized Kinds.P2p nodes before (Item.Query first second) e n s =
 next_sized Kinds.Co nodes before (Item.Point id x y) e n s = (s.0, one_point before id x y n s.1)
 next_sized _ nodes before _ e n s = cc
 
--- a problem line alone
+-- after the problem line alone, the numbers agree
 first_sized : (i : Line) → OnSlots (slots_of i) → None ≡ kind_before i → SizedFor (problem_in i) (i ∷ [])
 first_sized (Item.Graph Kinds.Min nodes arcs) s e = refl
 first_sized (Item.Graph Kinds.Max nodes arcs) s e = refl
@@ -119,7 +119,7 @@ clean_sized ls clean =
     (grow (problem_of before) before i refl n s))
     refl ls clean
 
--- nodes and size of the instance that is made
+-- the instance has these NODES and as many arcs, items or points as there are counted lines
 record HasSize (nodes : ℤ) (items : List Line) (I : Instance) : Type 0 where
   nodes_are : nodes ≡ nodes_of I
   size_is : counted items ≡ size_of I
@@ -153,7 +153,7 @@ problem_sized ls p I clean h e =
     kind_sized p.kind p.nodes (items_of ls) I (subst (λ o. SizedFor o (items_of ls)) h (clean_sized ls clean)) e in
     (s.nodes_are, s.size_is)
 
--- the entries of the items so far fit 64 bits where their number is one of 64 signed bits
+-- the entries of the items so far fit 64 bits, since there are at most two for each counted line
 so_far_by : (o : Option Problem) (items : List Line) → SizedFor o items
     → entries_by (option_map (λ (p : Problem). p.kind) o) items ≤ 2 * counted items
 so_far_by None items s = omega arith

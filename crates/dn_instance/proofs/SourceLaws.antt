@@ -1,4 +1,4 @@
--- What is answered of a text as its source gives it.
+-- Lemmas on the outcome of reading a source.
 use Rattle.std.proofs.Common.{◌≡◌, inl, inr, ℕ, ◌<◌, ◌≤◌, ◌^◌, List, [], ◌++◌, append_assoc, append-nil, length, Bool, true, false, ◌==◌, Option, Some, None, Result, Ok, Err, refl, sym, ap, ◌∙◌, subst, arith, IfSome, IfErr, IfOk, IsErr, IsErrAnd, IsErrOf, MatchResult, OnOk}
 use Rattle.std.specs.Io.KnownBytes.{Consumes, IsAtEnd, Keeps}
 use Rattle.std.proofs.KnownBytes.{Consumes-trans}
@@ -20,7 +20,7 @@ use Rattle.dn_instance.specs.Texts.{IsClean}
 use Rattle.dn_instance.proofs.PieceSteps.{More, ended_more, lines_more}
 use Rattle.dn_instance.proofs.ReaderLaws.{reading, refused_on}
 
--- the lines of a front come first
+-- the complete lines of a prefix are the first lines of the text
 front_lines : (given rest : List ℕ) → More (ended given) (lines (given ++ rest))
 front_lines given rest =
     let m = ended_more given rest in
@@ -31,7 +31,7 @@ front_lines given rest =
           n.whole ∙ ap (λ l. l ++ n.rest) m.whole ∙ append_assoc (ended given) m.rest n.rest;
     }
 
--- memory that ran out as a text was refused ran out at a line of its last piece, or at its last line
+-- if a text was refused because memory ran out, memory ran out at a line of the last piece, or at the last line
 pub ran_out : (t : List ℕ) (new : Option (List ℕ)) → StopsAt t new Memory → RanOut t new
 ran_out t new (inl s) =
     let all = s.before ++ s.piece in
@@ -60,7 +60,7 @@ ran_out t new (inr s) = record {
     nothing_left None h = tt
     nothing_left (Some left) h = h
 
--- the refusal of a line after these
+-- a refusal is one after the first `before` lines, if memory ran out only after these
 refused_past : (before : ℕ) (ls : List (List ℕ)) (e : Refusal) → IsRefused 0 ls e → (e ≡ Memory → WantsMemory before ls)
     → IsRefused before ls e
 refused_past before ls (Text (Places.Line number) code) h m = h
@@ -81,7 +81,7 @@ told_piece t new Endless h s = absurd h
 told_piece t new Write h s = absurd h
 told_piece t new CountTooLarge h s = absurd h
 
--- refused at a piece
+-- the outcome of a text that is refused at a piece
 pub refused_given : (old mid new : Option (List ℕ)) (given piece : List ℕ) (r : Reader) (e : Refusal)
     → Consumes old mid given → Consumes mid new piece → length piece ≤ 2 ^ 12 → ReaderAt r given → r.refusal ≡ None
     → IsRefused 0 (ended (given ++ piece)) e
@@ -109,25 +109,25 @@ refused_given (Some t) (Some both) (Some rest) given piece r e c d short s none 
           refused_past (length (ended given)) (ended all) e h m;
     })
 
--- what holds of a refusal holds of the answer that hands it on
+-- what holds of a refusal holds of a result that passes it on
 pub handed_on : {A : Type 0} (a : Result A Refusal) (e : Refusal) (P : Refusal → Type 0) → IsErr a
     × IsErrAnd a (λ x. x ≡ e) → P e → IfErr a P
 handed_on (Ok x) e P is p = tt
 handed_on (Err x) e P is p = subst P (sym is.1) p
 
--- an answer that hands on a refusal is no success
+-- a result that passes on a refusal is not a success
 pub handed_none : {A : Type 0} (a : Result A Refusal) (e : Refusal) (P : Type 0) → IsErr a × IsErrAnd a (λ x. x ≡ e)
     → OnOk a P
 handed_none (Ok x) e P is = absurd (let never = is.0 in cc)
 handed_none (Err x) e P is = tt
 
--- an answer that hands on another refusal is not `Read`
+-- a result that passes on a refusal other than `Read` is not `Read`
 pub handed_other : {A F : Type 0} (a : Result A Refusal) (e : Refusal) → IsErr a × IsErrAnd a (λ x. x ≡ e)
     → (e ≡ Read → ⊥) → IsErrOf a Read → F
 handed_other (Ok x) e is other h = absurd (let never = is.0 in cc)
 handed_other (Err x) e is other h = let same : x ≡ Read = cc in absurd (other (sym is.1 ∙ same))
 
--- a refusal at a line is one that reading gives, and not `Read`
+-- a refusal at a line is one that reading returns, and is not `Read`
 pub refused_reading : (n : ℕ) (ls : List (List ℕ)) (e : Refusal) → IsRefused n ls e → IsOfReading e
 refused_reading n ls (Text place code) h = tt
 refused_reading n ls Memory h = tt
@@ -139,7 +139,7 @@ refused_reading n ls CountTooLarge h = absurd h
 pub refused_unread : (n : ℕ) (ls : List (List ℕ)) (e : Refusal) → IsRefused n ls e → e ≡ Read → ⊥
 refused_unread n ls e h is = subst (IsRefused n ls) is h
 
--- the source has no end
+-- the outcome of a source that does not end
 pub endless_given : (old new : Option (List ℕ)) (given : List ℕ) (r : Reader) (count : ℕ) → Consumes old new given
     → ReaderAt r given → r.refusal ≡ None → count ≤ length given → 2 ^ 40 ≤ count
     → IfSome old (λ t. SourceOutcome t new (Err Endless))
@@ -157,7 +157,7 @@ endless_given (Some t) (Some rest) given r count c s none h k = (
   omega arith,
 )
 
--- what was read so far has no faulty line
+-- no complete line that was read so far has a fault
 clean_before : (whole rest : Option (List ℕ)) (given : List ℕ) (r : Reader) → Consumes whole rest given
     → ReaderAt r given → r.refusal ≡ None → IfSome whole (λ t. CleanSoFar t rest)
 clean_before None rest given r c s none = tt
@@ -166,7 +166,7 @@ clean_before (Some t) (Some rest) given r c s none =
     record { given = given; rest = rest; whole = c; rest_is = refl; clean = (reading r given none s).read.clean }
 
 module _ {S : Type 0} {source : SourceWords S} {old before : S} (given : List ℕ) (r : Reader) where
-  -- no pull more
+  -- the source was pulled only while no complete line had a fault
   pub pulled_so_far : PulledBytes source old before → Consumes (source.gives old) (source.gives before) given
       → ReaderAt r given → r.refusal ≡ None → PulledWhileClean source old before
   pulled_so_far p c s none =
@@ -178,7 +178,7 @@ module _ {S : Type 0} {source : SourceWords S} {old before : S} (given : List �
         last = inl refl;
       }
 
-  -- one pull more
+  -- the source was pulled once more after no complete line had a fault
   pub pulled_on : {new : S} → PulledBytes source old before → Consumes (source.gives old) (source.gives before) given
       → ReaderAt r given → r.refusal ≡ None → source.Pulls before new → PulledWhileClean source old new
   pulled_on p c s none more =
@@ -201,7 +201,7 @@ has_none piece test is e = nil_from_length piece (eqb-true (length piece) 0 (sym
 pub has_some : (piece : List ℕ) (test : Bool) → test ≡ (length piece == 0) → test ≡ false → 0 < length piece
 has_some piece test is e = let some = eqb-false (length piece) 0 (sym is ∙ e) in omega arith
 
--- an empty piece adds nothing
+-- an empty piece adds no bytes
 pub given_at_end : (old mid new : Option (List ℕ)) (given piece : List ℕ) → piece ≡ [] → Consumes old mid given
     → Consumes mid new piece → Consumes old new given
 given_at_end old mid new given piece none c d =
@@ -220,7 +220,7 @@ told_end t new (Err Endless) e clean m h = absurd h
 told_end t new (Err Write) e clean m h = absurd h
 told_end t new (Err CountTooLarge) e clean m h = absurd h
 
--- the source is at its end, and all that it gave is read
+-- the outcome of a source that is at its end, and all of whose bytes the reader has read
 pub ended_given : (old new : Option (List ℕ)) (given : List ℕ) (r : Reader) (a : Result Held Refusal)
     → Consumes old new given → IsAtEnd new → ReaderAt r given → r.refusal ≡ None
     → (a ≡ Err Memory → WantsMemory (length (ended given)) (lines given)) → Outcome given a
@@ -242,7 +242,7 @@ told_copy t new old_copy new_copy (Err Endless) h k = (h, k)
 told_copy t new old_copy new_copy (Err Write) h k = absurd h
 told_copy t new old_copy new_copy (Err CountTooLarge) h k = absurd h
 
--- the copy has gained what the source gave
+-- the outcome if the copy has gained all bytes that the source gave
 pub copied : (old new : Option (List ℕ)) (given old_copy new_copy : List ℕ) (r : Result Held Refusal)
     → Consumes old new given → new_copy ≡ old_copy ++ given
     → IfSome old (λ t. SourceOutcome t new r) → IfSome old (λ t. CopyOutcome t new old_copy new_copy r)
@@ -252,7 +252,7 @@ copied (Some t) (Some rest) given old_copy new_copy r c k h =
     told_copy t (Some rest) old_copy new_copy r h
     (record { given = given; rest = rest; whole = c; rest_is = refl; copy = k })
 
--- the copy lacked memory for a piece
+-- the outcome if memory runs out for the copy of a piece
 pub uncopied : (old mid new : Option (List ℕ)) (given piece old_copy new_copy : List ℕ) (e : Refusal) (r : Reader)
     → Consumes old mid given → Consumes mid new piece → 0 < length piece → new_copy ≡ old_copy ++ given
     → ReaderAt r given → r.refusal ≡ None → e ≡ Memory
@@ -272,7 +272,7 @@ uncopied (Some t) (Some both) (Some rest) given piece old_copy new_copy e r c d 
       clean = (reading r given none s).read.clean;
     }))
 
--- the source failed, and the copy has what it gave
+-- the outcome if the source fails, and the copy has gained all bytes that it gave
 pub failed_copy : (old mid new : Option (List ℕ)) (given old_copy new_copy : List ℕ) (e : Refusal) (r : Reader)
     → Consumes old mid given → Keeps mid new → new_copy ≡ old_copy ++ given → ReaderAt r given → r.refusal ≡ None
     → e ≡ Read
@@ -305,7 +305,7 @@ of_reading t (Err CountTooLarge) h = absurd h
 same_refusal : (a : Result Held Refusal) (e f : Refusal) → a ≡ Err e → a ≡ Err f → e ≡ f
 same_refusal a e f h k = cc
 
--- what is answered once all that the source gave was fed, or feeding gave a refusal
+-- the outcome after all bytes of a source were fed, or after feeding returned a refusal
 module _ (old new : Option (List ℕ)) (r : Reader) (a : Result Held Refusal) where
   finished_given : (fed : IsFed old new r) → Finishes r a → IfSome old (λ t. SourceOutcome t new a)
   finished_given fed h =
@@ -333,7 +333,7 @@ module _ (old new : Option (List ℕ)) (r : Reader) (a : Result Held Refusal) wh
   finished_by_reading (Ok x) ok err h = of_reading ok.given a (h.outcome ok.given ok.read)
   finished_by_reading (Err e) ok err h = subst (λ x. IfErr x IsOfReading) (sym h) err
 
-  -- what is held stands for an instance
+  -- the parsed instance represents what some text reads as
   pub finished_held : (fed : Result (Unit {0}) Refusal) → OnOk fed (IsFed old new r)
       → MatchResult fed (λ x. Finishes r a) (λ e. a ≡ Err e) → IfOk a HoldsSome
   finished_held (Ok x) ok h = by_answer a (h.outcome ok.given ok.read)
@@ -359,7 +359,7 @@ module _ (old new : Option (List ℕ)) (r : Reader) (a : Result Held Refusal) wh
   finished_failed (Ok x) ok err h is = absurd (subst (Outcome ok.given) is (h.outcome ok.given ok.read))
   finished_failed (Err e) ok err h is = err (ap (λ x. Err x) (same_refusal a e Read h is))
 
--- that a copy was made, too, aside
+-- a source that was fed with a copy was fed
 pub fed_alone : (old new : Option (List ℕ)) (r : Reader) (P : IsFed old new r → Type 0)
     (fed : Result (Unit {0}) Refusal) → OnOk fed ((all : IsFed old new r) × P all) → OnOk fed (IsFed old new r)
 fed_alone old new r P (Ok x) h = h.0

@@ -1,4 +1,4 @@
--- The CAPs of an ordered pair, with one arc more.
+-- Lemmas on the CAPs of an ordered pair with one more arc.
 use Rattle.std.proofs.Common.{◌≡◌, ◌-◌, ◌^◌, ℤ, pos, ◌+ℤ◌, List, [], ◌∷◌, ◌++◌, Bool, int_lt, sym, ap, arith}
 use Rattle.std.proofs.lemmas.Int.{ints}
 use Rattle.dn_arc.specs.Kinds.{ArcKind, capacities, costs}
@@ -8,7 +8,7 @@ use Rattle.dn_arc.specs.declared.arc.CapArc.{CapArc}
 use Rattle.dn_arc.specs.declared.arc.CostArc.{CostArc}
 use Rattle.dn_arc.specs.Pairs.{bundle}
 
--- the capacities of these arcs and this one at its ordered pair sum past 2^63 - 1, for any kind of arcs
+-- the capacities of this arc and of the arcs of its ordered pair sum to more than 2^63 - 1, for any kind of arcs
 abbrev pub passes : {Arc : Type 0} → ArcKind Arc → List ((ℤ × ℤ) × Arc) → (ℤ × ℤ) × Arc → Bool
 passes kind before a = int_lt (pos (2 ^ 63 - 1)) (kind.capacity (bundle a.0 before ++ a.1 ∷ []))
 
@@ -20,7 +20,7 @@ cost_append : (xs : List CostArc) (a : CostArc) → cost_cap (xs ++ a ∷ []) �
 cost_append [] a = omega (arith, ints)
 cost_append (x ∷ xs) a = let i = cost_append xs a in omega (arith, ints)
 
--- the same, as it is said of a `max` line and of a `min` line
+-- whether the CAPs of `max` arcs, or of `min` arcs, sum to more than 2^63 - 1
 pub total_passes : (before : List ((ℤ × ℤ) × CapArc)) (a : (ℤ × ℤ) × CapArc)
     → int_lt (pos (2 ^ 63 - 1)) (total_cap (bundle a.0 before) +ℤ a.1.cap) ≡ passes capacities before a
 total_passes before a = ap (int_lt (pos (2 ^ 63 - 1))) (sym (total_append (bundle a.0 before) a.1))

@@ -1,4 +1,4 @@
--- Node lines of a `min` text after the items before them: their first fault, and what is held with them.
+-- Lemmas on node lines of a `min` text after the items before them: the first fault, and what the draft then holds.
 use Rattle.std.proofs.Common.{◌≡◌, ℤ, pos, List, [], ◌∷◌, ◌++◌, Bool, true, false, cond, ◌&&◌, ◌||◌, Some, None, is_some, Result, Ok, Err, OnOk, OnErr, filter_map, refl, sym, ap, ◌∙◌, subst, arith, append-nil}
 use Rattle.std.proofs.Math.Bool.{or-false}
 use Rattle.std.proofs.lemmas.Int.{ints}
@@ -51,7 +51,7 @@ eq_swap a b = by_tests (int_eq a b) (int_eq b a) refl refl
     by_tests true false h g = absurd (grind (arith, ints, nat_tests))
     by_tests false true h g = absurd (grind (arith, ints, nat_tests))
 
--- whose lines name a node, with one line more
+-- whether an ID has a node line, with one more node line
 named_push : (q id flow : ℤ) (before : List Line)
     → list_any (has_supply q) (before ++ Item.Supply id flow ∷ []) ≡ (list_any (has_supply q) before || int_eq id q)
 named_push q id flow before =
@@ -129,7 +129,7 @@ supply_stand id flow s s' z z' t (Ok x) put kept before holds = (
   table_kept costs cost_arc_in _ t before (Item.Supply id flow) refl holds.2,
 )
 
--- a node line that is not taken leaves the flows
+-- a node line that is not taken does not change what the draft holds
 pub supply_keep : (s s' : BTreeMap ℤ ℤ) (z z' : BTreeSet ℤ) (t : _) (r : Result (Unit {0}) ItemFault)
     → OnErr r ((s'.entries ≡ s.entries) × (z'.keys ≡ z.keys)) → Keeping (Drafts.Min s z t) (Drafts.Min s' z' t) r
 supply_keep s s' z z' t (Ok x) same before holds = tt
@@ -140,7 +140,7 @@ supply_keep s s' z z' t (Err e) same before holds = (
   holds.2,
 )
 
--- an arc leaves the flows
+-- an arc does not change the flows
 pub cost_stand : (s : BTreeMap ℤ ℤ) (z : BTreeSet ℤ) (t t' : _) (src dst low top cost : ℤ)
     (r : Result (Unit {0}) ItemFault)
     → ((before : List Line)

@@ -1,4 +1,4 @@
--- A table that tells what arcs mean, as one arc more comes.
+-- Lemmas on a table that represents arcs when one more arc is added.
 use Rattle.std.proofs.Common.{◌≡◌, ◌↔◌, ℤ, pos, ◌<ℤ◌, int_lt, ◌-◌, ◌^◌, ◌&&◌, arith, List, [], ◌∷◌, ◌++◌, Bool, true, false, cond, Option, Some, None, IsSome, is_some, refl, sym, ap, ◌∙◌, subst, append-nil}
 use Rattle.std.specs.List.{AllByRecursion}
 use Rattle.std.specs.Map.{lookup}
@@ -104,12 +104,12 @@ module _ {B Arc : Type 0} (kind : ArcKind Arc) (tells : B → List Arc) (laws : 
       subst (λ l. (lookup (same_pair p) n ≡ None) ↔ kind.Same l []) (sym (bundle_there p (other_pair pair p e)))
       (subst (λ o. (o ≡ None) ↔ kind.Same (bundle p arcs) []) (sym (grows.others p e)) (old.absent p))
 
-  -- with one arc more
+  -- the new table represents the arcs with one more arc
   pub tells_more : TableTells kind tells n (arcs ++ (pair, arc) ∷ [])
   tells_more =
       record { stands = λ p. stands_at p (same_pair pair p) refl; absent = λ p. absent_at p (same_pair pair p) refl }
 
--- the capacity of what a table tells at a pair, with an arc more, is that of the arcs
+-- at a pair, the arcs of the graph and those that the table lists have the same capacity with one more arc
 pub told_capacity : {B Arc : Type 0} (kind : ArcKind Arc) (tells : B → List Arc) → IsKind kind
     → (m : List ((ℤ × ℤ) × B)) (arcs : List ((ℤ × ℤ) × Arc)) (p : ℤ × ℤ) (arc : Arc) → TableTells kind tells m arcs
     → AreArcs kind arcs → kind.IsArc arc
@@ -123,7 +123,7 @@ told_capacity kind tells laws m arcs p arc old are is =
 past_none : (x y : ℤ) → (x <ℤ y → ⊥) → int_lt x y ≡ false
 past_none x y h = by_lt_z x y (λ lt. absurd (h lt)) (λ le. grind (arith, ints))
 
--- an arc that a table has taken has no fault
+-- an arc has no fault, or only that of its sum
 pub taken_fault : {Arc : Type 0} (kind : ArcKind Arc) (nodes : ℤ) (arcs : List ((ℤ × ℤ) × Arc)) (is : Bool)
     (a : (ℤ × ℤ) × Arc) → (in_graph nodes a.0.0 && in_graph nodes a.0.1) ≡ true → is ≡ true → passes kind arcs a ≡ false
     → arc_fault kind nodes arcs is a ≡ None
@@ -134,7 +134,7 @@ pub sum_fault : {Arc : Type 0} (kind : ArcKind Arc) (nodes : ℤ) (arcs : List (
     → arc_fault kind nodes arcs is a ≡ Some SumTooLarge
 sum_fault kind nodes arcs is a e f g = rw (e, f, g) refl
 
--- whether the sum passes, by what the table answers
+-- the sum of the capacities is too large exactly if the table finds it too large
 pub sum_passes : {B Arc F : Type 0} (kind : ArcKind Arc) (tells : B → List Arc) → IsKind kind
     → (m : List ((ℤ × ℤ) × B)) (arcs : List ((ℤ × ℤ) × Arc)) (p : ℤ × ℤ) (arc : Arc) → TableTells kind tells m arcs
     → AreArcs kind arcs → kind.IsArc arc

@@ -1,4 +1,4 @@
--- What a text reads as is valid.
+-- Lemmas that what a text reads as is valid.
 use Rattle.std.proofs.Common.{◌≡◌, ℕ, ◌-◌, ◌^◌, ℤ, pos, negsuc, ◌≤ℤ◌, List, [], ◌∷◌, ◌++◌, Bool, true, false, cond, not, ◌&&◌, ◌||◌, map, Option, Some, None, is_some, option_and_then, Ok, Err, int_lt, refl, sym, ap, ◌∙◌, subst, append-nil, arith, filter_map}
 use Rattle.std.proofs.lemmas.Int.{ints}
 use Rattle.std.proofs.lemmas.Bool.Decides.{nat_tests}
@@ -32,7 +32,7 @@ use Rattle.dn_line.proofs.PlainLaws.{and_both}
 use Rattle.dn_table.proofs.GrownLaws.{none_is}
 use Rattle.dn_bundle.proofs.BundleLaws.{all_end}
 
--- the number of a slot fits
+-- the number of a slot fits 64 signed bits
 abbrev SlotFits : Slot → Type 0
 SlotFits (Is k) = Unit {0}
 SlotFits (Number n) = Fits n
@@ -59,7 +59,7 @@ abbrev pub OnSlots : Option (List Slot) → Type 0
 OnSlots None = ⊥
 OnSlots (Some slots) = AllByRecursion SlotFits slots
 
--- the numbers of an item that a line spells fit
+-- the numbers of an item that a line spells fit 64 signed bits
 pub item_fits : (known : Option Kind) (l : List ℕ) (i : Line) → Spells known (said_words l) i → OnSlots (slots_of i)
 item_fits known l i s = subst OnSlots (sym s.slots_are) (slots_fit s.slots (words l) s.fit)
 
@@ -100,7 +100,7 @@ ids_in_range before i p h n =
     ∙ not_false (list_all (is_in_range (problem_of before)) (ids_in i)) n.in_range
 
 module _ {Arc : Type 0} where
-  -- the bundle with one arc more
+  -- the bundle of a pair with one more arc
   pub bundle_push : (p : ℤ × ℤ) (xs : List ((ℤ × ℤ) × Arc)) (a : (ℤ × ℤ) × Arc)
       → bundle p (xs ++ a ∷ []) ≡ bundle p xs ++ cond (same_pair p a.0) (a.1 ∷ []) []
   bundle_push p [] a = refl
@@ -113,7 +113,7 @@ module _ {Arc : Type 0} where
       by_test false us vs ws e = e
 
 module _ {Arc : Type 0} (kind : ArcKind Arc) where
-  -- one arc more, where its capacity may be added
+  -- a valid graph is valid with one more arc, if the CAPs of its pair do not sum to too much
   graph_push : (nodes : ℤ) (arcs : List ((ℤ × ℤ) × Arc)) (a : (ℤ × ℤ) × Arc)
       → IsValidGraph kind (record { nodes = nodes; arcs = arcs }) → IsPlaced kind nodes a → passes kind arcs a ≡ false
       → IsValidGraph kind (record { nodes = nodes; arcs = arcs ++ a ∷ [] })
@@ -137,7 +137,7 @@ module _ {Arc : Type 0} (kind : ArcKind Arc) where
           bundle_push p arcs a ∙ ap (λ t. bundle p arcs ++ cond t (a.1 ∷ []) []) e ∙ append-nil (bundle p arcs) in
           subst (λ l. kind.capacity l ≤ℤ pos (2 ^ 63 - 1)) (sym here) (v.capacities p)
 
--- the arcs with those of one item more
+-- the arcs of the items with one more item
 pub arcs_push : {Arc : Type 0} (arc_in : Line → Option ((ℤ × ℤ) × Arc)) (before : List Line) (i : Line)
     → arcs_of arc_in (before ++ i ∷ []) ≡ arcs_of arc_in before ++ arcs_of arc_in (i ∷ [])
 arcs_push arc_in before i = filter_map-append arc_in before (i ∷ [])
@@ -159,14 +159,14 @@ module _ {Arc : Type 0} (kind : ArcKind Arc) (arc_in : Line → Option ((ℤ × 
       (sym (arcs_push arc_in before i ∙ ap (λ l. arcs_of arc_in before ++ l) e
       ∙ append-nil (arcs_of arc_in before))) v
 
--- the terminals that are named so far
+-- the terminals that are named so far are valid
 abbrev AreEnds : ℤ → Option ℤ → Option ℤ → Type 0
 AreEnds nodes None None = Unit {0}
 AreEnds nodes (Some a) None = IsNode nodes a
 AreEnds nodes None (Some b) = IsNode nodes b
 AreEnds nodes (Some a) (Some b) = AreTerminals nodes a b
 
--- the items so far make a valid instance of this kind
+-- what the items so far make in a problem of this kind is valid
 abbrev SoundAs : Kind → ℤ → List Line → Type 0
 SoundAs Kinds.Min nodes items = IsValidGraph costs (graph_of cost_arc_in nodes items)
     × AreSupplies nodes (supplies_of items)
@@ -195,7 +195,7 @@ none_graph kind nodes none f h =
           λ p. subst (λ z. z ≤ℤ pos (2 ^ 63 - 1)) (sym none) (omega (arith, ints));
     }
 
--- a problem line alone
+-- what a problem line alone makes is valid
 first_item : (i : Line) → OnSlots (slots_of i) → None ≡ kind_before i → SoundFor (problem_in i) (i ∷ [])
 first_item (Item.Graph Kinds.Min nodes arcs) s e = let n =
     s.1.1.0 in (none_graph costs nodes refl n.0 n.1, record { map = no_keys; each = tt })
@@ -216,7 +216,7 @@ first_item (Item.Source id) s e = cc
 first_item (Item.Query first second) s e = cc
 first_item (Item.Point id x y) s e = cc
 
--- the flows with one node line more
+-- the flows with one more node line
 pub supplies_grow : (before : List Line) (id flow : ℤ) (o : Option (ℤ × ℤ)) → supply_in (Item.Supply id flow) ≡ o
     → supplies_of (before ++ Item.Supply id flow ∷ []) ≡ by_key
     (filter_map supply_in before ++ filter_map (λ x. x) (o ∷ []))
@@ -225,7 +225,7 @@ supplies_grow before id flow o e =
     (filter_map-append supply_in before (Item.Supply id flow ∷ [])
     ∙ ap (λ (x : Option (ℤ × ℤ)). filter_map supply_in before ++ filter_map (λ y. y) (x ∷ [])) e)
 
--- a node's flow put into the supplies, unless it is 0
+-- valid flows are valid with the flow of one more node line
 supplies_grown : (nodes : ℤ) (before : List Line) (id flow : ℤ) → IsNode nodes id → Fits flow
     → AreSupplies nodes (supplies_of before) → AreSupplies nodes (supplies_of (before ++ Item.Supply id flow ∷ []))
 supplies_grown nodes before id flow node fit s = by_test (int_eq flow (pos 0)) refl
@@ -255,7 +255,7 @@ int_eq_self (negsuc n) = grind (arith, nat_tests)
 apart : (a b : ℤ) → int_eq a b ≡ false → a ≡ b → ⊥
 apart a b h e = let never : true ≡ false = sym (int_eq_self b) ∙ ap (λ z. int_eq z b) (sym e) ∙ h in cc
 
--- a source, where the sink that may be named is another node
+-- a terminal that is not the other one is valid with it
 source_named : (nodes id : ℤ) (t : Option ℤ) → IsNode nodes id → AreEnds nodes None t → is_id id t ≡ false
     → AreEnds nodes (Some id) t
 source_named nodes id None node ends h = node
@@ -274,7 +274,7 @@ terminal_push letter (x ∷ xs) i =
     ap (option_or (terminal_in letter x)) (terminal_push letter xs i)
     ∙ or_assoc (terminal_in letter x) (terminal_of letter xs) (terminal_in letter i)
 
--- a terminal that is named once, and is not the other one
+-- the terminals are valid with one that was not named and is not the other one
 ends_grown : (nodes : ℤ) (before : List Line) (id : ℤ) (letter : Letter) → IsNode nodes id
     → is_some (terminal_of letter before) ≡ false → is_id id (terminal_of (other_letter letter) before) ≡ false
     → AreEnds nodes (terminal_of S before) (terminal_of T before)
@@ -301,7 +301,7 @@ ends_grown nodes before id T node once h ends =
     (sink_named nodes id (terminal_of S before) node
     (subst (λ o. AreEnds nodes (terminal_of S before) o) none ends) h))
 
--- another item names no terminal
+-- an item that names no terminal leaves the terminals valid
 ends_kept : (nodes : ℤ) (before : List Line) (i : Line) → terminal_in S i ≡ None → terminal_in T i ≡ None
     → AreEnds nodes (terminal_of S before) (terminal_of T before)
     → AreEnds nodes (terminal_of S (before ++ i ∷ [])) (terminal_of T (before ++ i ∷ []))
@@ -313,7 +313,7 @@ ends_kept nodes before i e f ends =
     subst (λ o. AreEnds nodes o (terminal_of T (before ++ i ∷ []))) (sym source)
     (subst (λ o. AreEnds nodes (terminal_of S before) o) (sym sink) ends)
 
--- both ends of the next arc are nodes
+-- both ends of an arc are nodes
 record HasEnds (p : Problem) (src dst : ℤ) : Type 0 where
   tail : IsNode p.nodes src
   head : IsNode p.nodes dst
@@ -325,7 +325,7 @@ ends_in_range p src dst c h =
     let two = and_both (is_in_range (Some p) dst) true one.1 in
     record { tail = node_in_range p src c one.0; head = node_in_range p dst c two.0 }
 
--- one item more that changes nothing of these
+-- one more item adds nothing to a list, or adds what it gives
 pub kept : {X : Type 0} (f : Line → Option X) (before : List Line) (i : Line) → f i ≡ None
     → filter_map f (before ++ i ∷ []) ≡ filter_map f before
 kept f before i e =
@@ -337,7 +337,7 @@ pub grown : {X : Type 0} (f : Line → Option X) (before : List Line) (i : Line)
 grown f before i x e =
     filter_map-append f before (i ∷ []) ∙ ap (λ (o : Option _). filter_map f before ++ filter_map (λ y. y) (o ∷ [])) e
 
--- one item more of a problem
+-- what the items of a problem make is valid with the next item
 next_item : (p : Problem) (k : Kind) (before : List Line) (i : Line) → p.kind ≡ k → Some k ≡ kind_before i
     → problem_of before ≡ Some p → IsNext before i → SoundAs k p.nodes before → SoundAs k p.nodes (before ++ i ∷ [])
 next_item p Kinds.Min before (Item.Supply id flow) e b h n s =
@@ -423,7 +423,7 @@ next_item p Kinds.Co before (Item.Point id x y) e b h n s =
     })
 next_item p _ before _ e b h n s = cc
 
--- a problem goes on over the next item
+-- what the items make is valid with the next item
 grow : (o : Option Problem) (before : List Line) (i : Line) → problem_of before ≡ o → IsNext before i
     → SoundFor o before → SoundFor (option_or o (problem_in i)) (before ++ i ∷ [])
 grow None before i h n none =
@@ -434,7 +434,7 @@ grow (Some p) before i h n s =
     let known : Some p.kind ≡ kind_before i = sym (ap (option_map (λ (q : Problem). q.kind)) h) ∙ n.spells.kind_is in
     next_item p p.kind before i refl known h n s
 
--- the items of a clean text make a valid instance as far as they go
+-- what the items of a text without a fault make is valid
 pub clean_sound : (ls : List (List ℕ)) → IsClean ls → Sound (items_of ls)
 clean_sound ls clean =
     by_items Sound

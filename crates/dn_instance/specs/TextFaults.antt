@@ -1,5 +1,6 @@
--- The faults that a line has after the items of the lines before it, and those at the end. The formats say what is a
--- fault, as docs/FORMAT.md describes; the numbers and the order of checking are this project's profile.
+-- The faults that a line has after the items of the lines before it, and the faults at the end of a text. What is a
+-- fault is of the formats, as docs/FORMAT.md says for each; the numbers of the faults and the order of checking are
+-- this project's profile.
 use Rattle.std.specs.Prelude.{ℕ, ◌-◌, ◌^◌, ℤ, pos, ◌+ℤ◌, List, [], ◌∷◌, ◌++◌, Bool, true, false, ◌&&◌, ◌||◌, not, cond, nat_le, is_none, is_some, Option, Some, None, Result, Ok, Err, int_lt}
 use Rattle.std.specs.List.{list_any, list_all}
 use Rattle.std.specs.Ordering.{int_eq}
@@ -22,7 +23,7 @@ use Rattle.dn_arc.specs.Splits.{cost_cap}
 use Rattle.dn_arc.specs.Pairs.{bundle}
 use Rattle.dn_instance.specs.Items.{Problem, problem_of, kind_known, counted, arcs_of, cap_arc_in, cost_arc_in, terminal_of}
 
--- the item that a line spells, if it spells one
+-- the item that a line reads as, unless the line is skipped or has a fault by itself
 abbrev pub item_spelled : Result Line Code → Option Line
 item_spelled (Ok Item.Skip) = None
 item_spelled (Ok i) = Some i
@@ -32,19 +33,19 @@ item_spelled (Err code) = None
 abbrev pub is_too_long : ℕ → Bool
 is_too_long number = nat_le (2 ^ 63 - 1) number
 
--- the item is an arc
+-- the line is an arc line
 abbrev pub is_arc : Line → Bool
 is_arc (Item.MinArc src dst low cap cost) = true
 is_arc (Item.MaxArc src dst cap) = true
 is_arc (Item.SpArc src dst length) = true
 is_arc _ = false
 
--- `n` is the letter of a node line
+-- the letter is the `n` of a node line
 abbrev pub is_node_letter : Option Keyword → Bool
 is_node_letter (Some Key.N) = true
 is_node_letter _ = false
 
--- these are the letters of counted lines
+-- the letter is that of a counted line: `a`, `s`, `q` or `v`
 abbrev pub is_counted_letter : Option Keyword → Bool
 is_counted_letter (Some Key.A) = true
 is_counted_letter (Some Key.S) = true
@@ -52,16 +53,16 @@ is_counted_letter (Some Key.Q) = true
 is_counted_letter (Some Key.V) = true
 is_counted_letter _ = false
 
--- an `n` line comes after an `a` line
+-- an `n` line follows an `a` line
 abbrev pub is_late_node : List Line → List Word → Bool
 is_late_node before ws = is_node_letter (first ws) && list_any is_arc before
 
--- the text has as many counted lines as it declares
+-- there are at least as many counted lines as declared
 abbrev pub is_full : Option Problem → ℕ → Bool
 is_full None count = false
 is_full (Some p) count = not (int_lt (pos count) p.count)
 
--- a counted line comes after as many as are declared
+-- a counted line follows at least as many counted lines as declared
 abbrev pub is_surplus : List Line → List Word → Bool
 is_surplus before ws = is_counted_letter (first ws) && is_full (problem_of before) (counted before)
 
@@ -77,60 +78,61 @@ ids_in (Item.Query first second) = first ∷ second ∷ []
 ids_in (Item.Point id x y) = id ∷ []
 ids_in _ = []
 
--- these kinds are companions
+-- texts of this kind are companions
 abbrev pub is_companion : Kind → Bool
 is_companion Kinds.Ss = true
 is_companion Kinds.P2p = true
 is_companion Kinds.Co = true
 is_companion _ = false
 
--- a node is in range: 1 to NODES, or at least 1 in a companion
+-- an ID is in range if it is from 1 to NODES, or in a companion if it is at least 1; without a problem line, no ID is
+-- in range
 abbrev pub is_in_range : Option Problem → ℤ → Bool
 is_in_range None id = false
 is_in_range (Some p) id = int_lt (pos 0) id && (is_companion p.kind || not (int_lt p.nodes id))
 
--- an ID, SRC or DST is out of range
+-- an ID, SRC or DST of the line is not in range
 abbrev pub is_stray : List Line → Line → Bool
 is_stray before i = not (list_all (is_in_range (problem_of before)) (ids_in i))
 
--- the item is a node line of a `min` text for this ID
+-- the line is a `min` node line of this ID
 abbrev pub has_supply : ℤ → Line → Bool
 has_supply id (Item.Supply i flow) = int_eq i id
 has_supply id _ = false
 
--- the item is a point with this ID
+-- the line is a `v` line of this ID
 abbrev pub has_point : ℤ → Line → Bool
 has_point id (Item.Point i x y) = int_eq i id
 has_point id _ = false
 
--- an earlier line is a node line or a point for the same ID, or a line for the same terminal
+-- an ID has a second `min` node line or a second `v` line, or a letter has a second `max` node line
 abbrev pub is_repeated : List Line → Line → Bool
 is_repeated before (Item.Supply id flow) = list_any (has_supply id) before
 is_repeated before (Item.Terminal id letter) = is_some (terminal_of letter before)
 is_repeated before (Item.Point id x y) = list_any (has_point id) before
 is_repeated before _ = false
 
--- the other letter: `t` for `s`, and `s` for `t`
+-- the other letter is `t` for `s`, and `s` for `t`
 abbrev pub other_letter : Letter → Letter
 other_letter Letters.S = Letters.T
 other_letter Letters.T = Letters.S
 
--- the node is this one, if there is one
+-- a node is named, and it is this one
 abbrev pub is_id : ℤ → Option ℤ → Bool
 is_id id None = false
 is_id id (Some other) = int_eq other id
 
--- source and sink are the same node
+-- a `max` node line names the node of the other letter, so the source and the sink would be one node
 abbrev pub is_same_terminal : List Line → Line → Bool
 is_same_terminal before (Item.Terminal id letter) = is_id id (terminal_of (other_letter letter) before)
 is_same_terminal before _ = false
 
--- LOW is above CAP
+-- LOW of a `min` arc is above its CAP
 abbrev pub is_low_above_cap : Line → Bool
 is_low_above_cap (Item.MinArc src dst low cap cost) = int_lt cap low
 is_low_above_cap _ = false
 
--- the CAPs of the earlier arcs of this pair and of this one sum to more than 2^63 - 1
+-- the CAPs of this arc and of the earlier arcs of its ordered pair sum to more than 2^63 - 1
 abbrev pub is_sum_too_large : List Line → Line → Bool
 is_sum_too_large before (Item.MinArc src dst low cap cost) =
     int_lt (pos (2 ^ 63 - 1)) (cost_cap (bundle (src, dst) (arcs_of cost_arc_in before)) +ℤ cap)
@@ -138,12 +140,12 @@ is_sum_too_large before (Item.MaxArc src dst cap) =
     int_lt (pos (2 ^ 63 - 1)) (total_cap (bundle (src, dst) (arcs_of cap_arc_in before)) +ℤ cap)
 is_sum_too_large before _ = false
 
--- a fault of the item, if the line spells one
+-- the line spells an item, and the test applies to this item
 abbrev pub on_item : (Line → Bool) → Option Line → Bool
 on_item test None = false
 on_item test (Some i) = test i
 
--- the faults that an item can have after the items before it, in the order of checking
+-- the faults that an item has after the items before it, in the order of checking
 abbrev pub item_tests : List Line → Option Line → List Test
 item_tests before i =
     (NodeOutOfRange, on_item (is_stray before) i)
@@ -153,11 +155,11 @@ item_tests before i =
     ∷ (SumTooLarge, on_item (is_sum_too_large before) i)
     ∷ []
 
--- the faults of a line that depend on the lines before it
+-- the faults that a line has because of its letter and of the items before it, in the order of checking
 abbrev pub order_tests : List Line → List Word → List Test
 order_tests before ws = (LateNode, is_late_node before ws) ∷ (TooManyLines, is_surplus before ws) ∷ []
 
--- the faults that a line can have after these items, in the order of checking
+-- the faults of a line after these items, except `TooLong`, in the order of checking
 abbrev pub line_tests : List Line → List Word → List Test
 line_tests before ws =
     let known = kind_known before in
@@ -165,16 +167,17 @@ line_tests before ws =
     ++ (order_tests before ws
     ++ (field_tests (fields known ws) ++ item_tests before (item_spelled (words_read known ws))))
 
--- the first fault of the line with this number after these items; a skipped line can only be too long
+-- the first fault of the line with this number after these items; the only fault that a skipped line can have is
+-- `TooLong`
 abbrev pub line_fault : ℕ → List Line → List Word → Option Code
 line_fault number before ws = first_fault ((TooLong, is_too_long number) ∷ cond (is_skip ws) [] (line_tests before ws))
 
--- a `max` problem lacks its source or its sink
+-- a `max` text has no source or no sink
 abbrev pub lacks_terminal : Option Kind → List Line → Bool
 lacks_terminal (Some Kinds.Max) items = is_none (terminal_of Letters.S items) || is_none (terminal_of Letters.T items)
 lacks_terminal _ items = false
 
--- the faults that a text can have at its end, in the order of checking
+-- the faults at the end of a text with these items, in the order of checking
 abbrev pub end_tests : List Line → List Test
 end_tests items =
     (NoProblem, is_none (problem_of items))
@@ -182,6 +185,6 @@ end_tests items =
     ∷ (TooFewLines, not (is_full (problem_of items) (counted items)))
     ∷ []
 
--- the first fault at the end, if there is one
+-- the first fault at the end of a text with these items, if there is one
 abbrev pub end_fault : List Line → Option Code
 end_fault items = first_fault (end_tests items)

@@ -17,11 +17,11 @@ use Rattle.dn_instance.specs.TextFaults.{item_spelled, line_fault, end_fault}
 abbrev pub with_next : List Line → List Word → List Line
 with_next before ws = before ++ option_to_list (item_spelled (words_read (kind_known before) ws))
 
--- the items that the lines spell, in order
+-- the items that the lines spell, in order, where each line is read after the items of the lines before it
 abbrev pub items_of : List (List ℕ) → List Line
 items_of ls = fold (λ before l. with_next before (said_words l)) [] ls
 
--- the line with this number, counted from 1, has this fault after the lines before it
+-- the line with this number, counted from 1, has this fault as its first one after the lines before it
 pub record FaultAt (ls : List (List ℕ)) (number : ℕ) (code : Code) : Type 0 where
   pub before : List (List ℕ)
   pub line : List ℕ
@@ -34,22 +34,23 @@ pub record FaultAt (ls : List (List ℕ)) (number : ℕ) (code : Code) : Type 0 
 abbrev pub IsClean : List (List ℕ) → Type 0
 IsClean ls = (number : ℕ) (code : Code) → FaultAt ls number code → ⊥
 
--- the line has this fault, and no earlier line has one
+-- this is the first fault of the line with this number, and no earlier line has a fault
 pub record IsFirstFaultAt (ls : List (List ℕ)) (number : ℕ) (code : Code) : Type 0 where
   pub at : FaultAt ls number code
   pub first : (other : ℕ) (fault : Code) → FaultAt ls other fault → number ≤ other
 
--- no line has a fault, and the end has this fault
+-- no line has a fault, and this is the first fault at the end
 pub record IsEndFault (ls : List (List ℕ)) (code : Code) : Type 0 where
   pub clean : IsClean ls
   pub fault_is : end_fault (items_of ls) ≡ Some code
 
--- the first fault of a text is that of its earliest faulty line, or else that of its end
+-- the first fault of a text is the first fault of its earliest line that has one, or, if no line has a fault, the first
+-- fault at the end
 abbrev pub IsFirstFault : List ℕ → Place → Code → Type 0
 IsFirstFault t (Places.Line number) code = IsFirstFaultAt (lines t) number code
 IsFirstFault t Places.End code = IsEndFault (lines t) code
 
--- the text is accepted, and reads as this instance
+-- the text has no fault, and its items make this instance
 pub record Reads (t : List ℕ) (I : Instance) : Type 0 where
   pub clean : IsClean (lines t)
   pub whole : end_fault (items_of (lines t)) ≡ None

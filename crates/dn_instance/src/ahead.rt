@@ -1,4 +1,4 @@
-// Looks up where arcs go in a table before they are taken.
+// Looks up the pairs of the next arcs before the arcs are taken.
 ghost use Rattle.std.specs.Prelude.{◌≡◌};
 
 use dn_bundle::Bundle;
@@ -6,8 +6,7 @@ use dn_line::ArcLine;
 use dn_table::TableSoFar;
 use pair_index::AHEAD;
 
-// Lets a table look up the positions of the pairs of these arcs together, if that saves time. This affects only the
-// speed.
+// Looks up the pairs of these arcs together in a table, if that may save time. This affects only the speed.
 pub(crate) fn look_ahead<B: Bundle>(table: &mut TableSoFar<B>, arcs: &[ArcLine])
     ensures { table.new ≡ table.old }
 {
@@ -16,8 +15,8 @@ pub(crate) fn look_ahead<B: Bundle>(table: &mut TableSoFar<B>, arcs: &[ArcLine])
     }
 }
 
-// Returns the ordered pairs of these arcs, filled up with (0, 0), which no arc has. This has no contract, because the
-// pairs are used only for hints.
+// Returns the ordered pairs of the first `AHEAD` arcs. If there are fewer arcs, the other elements are (0, 0), which is
+// the pair of no valid arc. The pairs are used only for hints, so there is no contract.
 fn pairs_of(arcs: &[ArcLine]) -> [(i64, i64); AHEAD] {
     let mut pairs = [(0, 0); AHEAD];
     for (pair, next) in pairs.iter_mut().zip(arcs) {

@@ -29,7 +29,7 @@ pub(crate) fn in_graph(nodes: &i64, id: &i64) -> bool
     0 < *id && *id <= *nodes
 }
 
-// Adds an arc between the nodes of a pair. After an error, nothing has changed.
+// Takes an arc between the nodes of a pair. On a fault, nothing changes.
 #[inline(always)]
 fn take_arc<B: Bundle>(
     table: &mut TableSoFar<B>,
@@ -59,15 +59,15 @@ fn take_arc<B: Bundle>(
     }
 }
 
-// A bundle of the arcs of one kind of text. It makes these arcs from the numbers of their lines.
+// A bundle of the arcs of one kind of text, which takes each arc from the numbers of its line.
 pub(crate) trait LineBundle: Bundle {
     // The kind of text.
     ghost text: { Kind };
 
-    // A table represents the meaning of the arcs among these items.
+    // Whether a table represents the arcs among these items.
     ghost holds: { List ((ℤ × ℤ) × Self) → List Line → Type 0 };
 
-    // Adds the arc of a line. After an error, nothing has changed.
+    // Takes the arc of a line. On a fault, nothing changes.
     fn take(
         table: &mut TableSoFar<Self>,
         alloc: Global,
@@ -149,8 +149,8 @@ impl LineBundle for Curve {
     }
 }
 
-// Adds arcs one after the other, up to the first that has a fault or for which memory runs out. Returns how many it
-// adds.
+// Takes arcs one after another, up to the first that has a fault or for which an allocation fails. Returns how many it
+// takes.
 pub(crate) fn take_arcs<B: LineBundle>(
     table: &mut TableSoFar<B>,
     alloc: Global,
@@ -170,7 +170,7 @@ pub(crate) fn take_arcs<B: LineBundle>(
     arcs.len()
 }
 
-// Whether a graph has both nodes of a pair.
+// Whether a graph with this many nodes has both nodes of a pair.
 fn joins_nodes(nodes: &i64, pair: &(i64, i64)) -> bool
     ensures { result ≡ (in_graph nodes.now pair.now.0 && in_graph nodes.now pair.now.1) }
 {

@@ -1,4 +1,4 @@
-// Checks a companion against a graph.
+// Judges whether a companion fits a graph.
 ghost use Rattle.std.specs.Prelude.{◌≡◌, ◌∷◌, []};
 ghost use Rattle.std.specs.List.{flat_map};
 ghost use Rattle.std.specs.Map.{keys_of};
@@ -11,7 +11,7 @@ use crate::view::View;
 use std::collections::BTreeMap;
 use thiserror::Error;
 
-/// Why a companion does not fit a graph. Numbers and names are this project's profile.
+/// Why a companion does not fit a graph. The numbers and names are this project's profile.
 #[derive(Clone, Copy, Debug, PartialEq, Eq, Error)]
 pub enum CompanionFault {
     /// 36: the first text is not `sp`, or the second is not a companion.
@@ -20,7 +20,7 @@ pub enum CompanionFault {
     /// 35: the companion names a node above NODES.
     #[error("node not in the graph")]
     NotInGraph {
-        /// The first such node, in file order, for `p2p` ID1 before ID2, and for `co` by ascending ID.
+        /// The first such node: in the order of the file for `ss` and `p2p`, and by ascending ID for `co`.
         id: i64,
     },
 }
@@ -36,7 +36,7 @@ impl CompanionFault {
         }
     }
 
-    /// Returns the name of the fault as it is printed: that of the variant.
+    /// Returns the name of the fault as it is printed, which is the name of the variant.
     pub fn name(self) -> &'static str
         ensures { result.now ≡ fault_name self }
     {
@@ -51,8 +51,8 @@ impl CompanionFault {
 ///
 /// # Errors
 ///
-/// Returns `NotKinds` unless `graph` is `sp` and `companion` is `ss`, `p2p` or `co`, and otherwise `NotInGraph` with
-/// the first node above NODES.
+/// `NotKinds` unless `graph` is `sp` and `companion` is `ss`, `p2p` or `co`. Otherwise `NotInGraph` with the first node
+/// above NODES, if there is one.
 pub fn check_companion(graph: &Held, companion: &Held) -> Result<(), CompanionFault>
     ensures { result ≡ judged (holding graph.now) (holding companion.now) }
 {
@@ -79,7 +79,7 @@ fn check_id(nodes: &i64, id: &i64) -> Result<(), CompanionFault>
     }
 }
 
-// Checks the IDs of an `ss` companion.
+// Checks that each node of a list is at most NODES.
 fn check_ids(nodes: &i64, ids: &[i64]) -> Result<(), CompanionFault>
     ensures { result ≡ within nodes.now ids.now }
 {
@@ -91,7 +91,7 @@ fn check_ids(nodes: &i64, ids: &[i64]) -> Result<(), CompanionFault>
     Ok(())
 }
 
-// Checks the IDs of a `p2p` companion.
+// Checks that both nodes of each pair are at most NODES, the first node before the second.
 fn check_pairs(nodes: &i64, pairs: &[(i64, i64)]) -> Result<(), CompanionFault>
     ensures { result ≡ within nodes.now (flat_map both_nodes pairs.now) }
 {
@@ -106,7 +106,7 @@ fn check_pairs(nodes: &i64, pairs: &[(i64, i64)]) -> Result<(), CompanionFault>
     Ok(())
 }
 
-// Checks the IDs of a `co` companion.
+// Checks that the ID of each point is at most NODES, by ascending ID.
 fn check_points(nodes: &i64, points: &BTreeMap<i64, (i64, i64)>) -> Result<(), CompanionFault>
     ensures { result ≡ within nodes.now (keys_of points.now.entries) }
 {

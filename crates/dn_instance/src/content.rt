@@ -1,4 +1,4 @@
-// The content of a parsed instance, by kind.
+// What a parsed instance holds, by kind.
 ghost use Rattle.std.specs.Prelude.{◌≡◌, ◌<◌, ◌^◌};
 ghost use Rattle.dn_instance.specs.State.EntryCount.{entries_of};
 ghost use Rattle.dn_instance.specs.State.Helds.{contents_kind, pair_count, Shows, contents_of, shown};
@@ -43,7 +43,7 @@ impl Content {
         }
     }
 
-    // Returns how many ordered pairs have a bundle.
+    // Returns how many ordered pairs have a bundle, or 0 for a companion.
     pub(crate) fn pairs(&self) -> usize
         ensures { result ≡ pair_count (contents_of self.now) }
     {
@@ -55,7 +55,7 @@ impl Content {
         }
     }
 
-    // Returns how many entries the content makes.
+    // Returns how many entries the instance makes, if this is below 2^64.
     pub(crate) fn entries(&self) -> u64
         ensures { (I : Instance) → IsValid I → Shows (contents_of self.now) I → entries_of I < 2 ^ 64
             → result ≡ entries_of I }

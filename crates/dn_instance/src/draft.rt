@@ -1,4 +1,4 @@
-// What the items so far make of an instance.
+// What the items so far make.
 ghost use Rattle.std.specs.Prelude.{◌≡◌, ◌<◌, ◌≤◌, ◌^◌, ℤ, List, ◌∷◌, ◌++◌, [], OnOk, OnErr, Some, length, take};
 ghost use Rattle.std.specs.List.{AllByRecursion};
 ghost use Rattle.dn_line.specs.State.ArcLines.{arc_of};
@@ -25,7 +25,7 @@ use std::alloc::Global;
 use std::collections::{BTreeMap, BTreeSet};
 
 // What the items so far make, by kind: flows, terminals, bundles by ordered pair, lists and points. Each arc is merged
-// into the bundle of its pair when it arrives.
+// into the bundle of its pair at once.
 #[derive(Drop)]
 pub(crate) enum Draft {
     // There is no problem line yet.
@@ -135,8 +135,8 @@ impl Draft {
         }
     }
 
-    // Takes arcs one after the other, up to the first that has a fault or that finds the program out of memory. Returns
-    // how many it takes.
+    // Takes arcs one after another, up to the first that has a fault or for which an allocation fails. Returns how many
+    // it takes.
     pub(crate) fn take_arcs(&mut self, alloc: Global, nodes: &i64, arcs: &[ArcLine]) -> usize
         ensures taken { (before : List Line) (p : Problem) → IsDraftOf self.old nodes.now p before
             → AllByRecursion HasSigns (arc_items p.kind arcs.now)
@@ -152,7 +152,7 @@ impl Draft {
         }
     }
 
-    // Counts the entries that the items so far make.
+    // Returns how many entries the items so far make, if this is below 2^64.
     pub(crate) fn entries(&self) -> u64
         ensures { (items : List Line) → DraftHolds self.now items
             → entries_by (draft_kind self.now) items < 2 ^ 64
@@ -169,7 +169,7 @@ impl Draft {
         }
     }
 
-    // Returns what is kept of the items, or the fault where the problem line or a terminal is missing.
+    // Returns the content that the items make, or the fault if the problem line or a terminal is missing.
     pub(crate) fn end(self) -> Result<Content, Code>
         ensures { (nodes : ℤ) (items : List Line) → DraftHolds self items
             → Makes (draft_kind self) nodes items result }
@@ -210,7 +210,7 @@ impl Draft {
     }
 }
 
-// Returns the numbers of an arc's line. Those of another line are not used.
+// Returns the numbers of an arc line. The numbers returned for any other line are not used.
 fn numbers_of(line: &Line) -> PlainArc
     ensures min { (u v l c p : ℤ) → line.now ≡ MinArc u v l c p → arc_of Kind.Min result ≡ line.now }
     ensures max { (u v c : ℤ) → line.now ≡ MaxArc u v c → arc_of Kind.Max result ≡ line.now }

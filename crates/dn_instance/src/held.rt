@@ -1,4 +1,4 @@
-// The parsed instance.
+// The parsed instance of a text.
 ghost use Rattle.std.specs.Prelude.{◌≡◌};
 ghost use Rattle.dn_instance.specs.State.EntryCount.{entries_of};
 ghost use Rattle.dn_instance.specs.State.Helds.{contents_kind, pair_count, IsHeld, contents_of, holding, shown};
@@ -18,7 +18,7 @@ pub struct Held {
 }
 
 impl Held {
-    // Makes the parsed instance of a text with this NODES and this many counted lines.
+    // Returns a parsed instance with these NODES, this number of counted lines, and this content.
     pub(crate) fn new(nodes: i64, lines: i64, content: Content) -> Held
         ensures nodes { (holding result).nodes ≡ nodes }
         ensures lines { (holding result).lines ≡ lines }
@@ -45,7 +45,7 @@ impl Held {
         self.nodes
     }
 
-    /// Returns how many counted lines were read: arcs, items or points.
+    /// Returns how many counted lines were read: the number of arcs, items or points.
     pub fn lines(&self) -> i64
         ensures { result ≡ (holding self.now).lines }
     {
@@ -59,9 +59,9 @@ impl Held {
         self.content.pairs() as u64
     }
 
-    /// Returns how many entries the instance makes: for `sp` and `max` the pairs that have a bundle, for `min` the
-    /// pairs with a LOW above 0 and each COST of a pair with an arc whose CAP is above its LOW, and for a companion its
-    /// items.
+    /// Returns how many entries the instance makes. An `sp` or `max` instance makes one for each pair that has a
+    /// bundle. A `min` instance makes one for each pair with a LOW above 0, and one for each COST of a pair that has an
+    /// arc of this COST whose CAP is above its LOW. A companion makes one for each item or point.
     pub fn entries(&self) -> u64
         ensures { (I : Instance) → IsValid I → IsHeld (holding self.now) I → result ≡ entries_of I }
     {
@@ -72,7 +72,7 @@ impl Held {
         }
     }
 
-    /// Returns a view of the whole content.
+    /// Returns a view of what the parsed instance holds.
     pub fn view(&self) -> View<'_>
         ensures { shown result ≡ (holding self.now).contents }
     {

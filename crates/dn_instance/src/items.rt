@@ -10,7 +10,8 @@ use crate::refusal::ItemFault;
 use dn_line::Code;
 use std::collections::{BTreeMap, BTreeSet};
 
-// Takes the terminal of a `max` node line, given the other terminal. After an error, nothing has changed.
+// Takes the node of a `max` node line. `own` is the terminal of the letter of this line, and `other` is the other
+// terminal. On a fault, nothing changes.
 pub(crate) fn take_terminal(
     own: &mut Option<i64>,
     other: &Option<i64>,
@@ -36,7 +37,7 @@ pub(crate) fn take_terminal(
     Ok(())
 }
 
-// Takes the ID of an `ss` line. After an error, nothing has changed.
+// Takes the ID of an `s` line of an `ss` text. On a fault, nothing changes.
 pub(crate) fn take_source(ids: &mut Vec<i64>, id: &i64) -> Result<(), ItemFault>
     ensures answer { AnswersFault result (id_fault id.now) }
     ensures ok { OnOk result (ids.new.items ≡ ids.old.items ++ id.now ∷ []) }
@@ -51,7 +52,7 @@ pub(crate) fn take_source(ids: &mut Vec<i64>, id: &i64) -> Result<(), ItemFault>
     }
 }
 
-// Takes the IDs of a `p2p` line. After an error, nothing has changed.
+// Takes the two IDs of a `q` line of a `p2p` text. On a fault, nothing changes.
 pub(crate) fn take_query(pairs: &mut Vec<(i64, i64)>, pair: (i64, i64)) -> Result<(), ItemFault>
     ensures answer { AnswersFault result (pair_fault pair) }
     ensures ok { OnOk result (pairs.new.items ≡ pairs.old.items ++ pair ∷ []) }
@@ -66,7 +67,7 @@ pub(crate) fn take_query(pairs: &mut Vec<(i64, i64)>, pair: (i64, i64)) -> Resul
     }
 }
 
-// Takes the point of a `co` line. After an error, nothing has changed.
+// Takes the point of a `v` line of a `co` text. On a fault, nothing changes.
 pub(crate) fn take_point(
     points: &mut BTreeMap<i64, (i64, i64)>,
     id: &i64,
@@ -88,8 +89,8 @@ pub(crate) fn take_point(
     }
 }
 
-// Takes the flow of a `min` node line. Nodes whose flow is 0 are kept apart from the supplies. After an error, nothing
-// has changed.
+// Takes the flow of a `min` node line. Puts a flow other than 0 into `supplies`, and a node whose flow is 0 into
+// `idle`. On a fault, nothing changes.
 pub(crate) fn take_supply(
     supplies: &mut BTreeMap<i64, i64>,
     idle: &mut BTreeSet<i64>,
@@ -120,7 +121,7 @@ pub(crate) fn take_supply(
     }
 }
 
-// Adds a flow other than 0 for a node without a line. If an allocation fails, nothing changes.
+// Adds the flow, which is not 0, of a node without an earlier line. If an allocation fails, nothing changes.
 fn put_flow(supplies: &mut BTreeMap<i64, i64>, id: &i64, flow: &i64) -> Result<(), ItemFault>
     ensures ok { OnOk result (supplies.new.entries ≡ Map.insert_entry int_cmp supplies.old.entries id.now flow.now) }
     ensures err { OnErr result (supplies.new.entries ≡ supplies.old.entries) }
@@ -132,7 +133,7 @@ fn put_flow(supplies: &mut BTreeMap<i64, i64>, id: &i64, flow: &i64) -> Result<(
     }
 }
 
-// Records a node whose line gives it the flow 0.
+// Adds a node whose flow is 0. If an allocation fails, nothing changes.
 fn put_idle(idle: &mut BTreeSet<i64>, id: &i64) -> Result<(), ItemFault>
     ensures ok { OnOk result ((q : ℤ) → Set.contains int_cmp idle.new q
         ≡ cond (Map.is_at (int_cmp id.now) q) true (Set.contains int_cmp idle.old q)) }

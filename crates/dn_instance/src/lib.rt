@@ -1,12 +1,12 @@
-//! Whole texts: which instance a text reads as, or its first fault, and what an instance means. A text can be read
-//! whole, in pieces, or from a source. Its first fault is returned as soon as its line has arrived, and a refusal stays
-//! the same.
+//! Whole texts: the instance that a text reads as, or its first fault, and what an instance means. A text arrives
+//! whole, in pieces, or from a source. The reader returns the first fault of a text as soon as its line is complete,
+//! and keeps a refusal.
 //!
-//! In the order of the data: `read` reads a text from memory or from a source, `reader` reads it in pieces, and
-//! `text_so_far` takes each line and checks what depends on the number and order of lines. `draft` has what the items
-//! make: `arcs` and `items` take them, and `ahead` looks up where the next arcs go. `refusal` says why an item or a
-//! text is refused, and where. `held` is the parsed instance, whose `content` depends on the kind, and a `view` shows
-//! it. `companion` checks a companion against its graph.
+//! In the order of the data: `read` takes a text from memory or pulls it from a source, `reader` takes it in pieces,
+//! and `text_so_far` takes each line and checks what depends on the number and order of lines. `draft` holds what the
+//! items make: `arcs` and `items` take them, and `ahead` looks up the pairs of the next arcs. `refusal` says why an
+//! item or a text is refused, and where. `held` is a parsed instance, `content` is what it holds by kind, and `view`
+//! shows it. `companion` judges a companion by its graph.
 #![tactic(auto)]
 
 mod ahead;

@@ -12,13 +12,17 @@ use crate::refusal::Refusal;
 use dn_line::Source;
 use std::alloc::Global;
 
-// After this many pulls that gave bytes, a source counts as endless.
+// How many pulls may give bytes before a source counts as endless.
 const PULLS: u64 = 1 << 40;
 
-// How many bytes a pull asks for.
+// How many bytes a source is asked for at once.
 const PIECE: usize = 4096;
 
-/// Returns what a text reads as, or its first fault. Returns `Memory` only at a line without a fault.
+/// Reads a text from memory, and returns its parsed instance.
+///
+/// # Errors
+///
+/// `Text` with the first fault of the text. `Memory` only at a line without a fault.
 pub fn read_text(alloc: Global, text: &[u8]) -> Result<Held, Refusal>
     ensures { Outcome text.now result }
 {
@@ -27,9 +31,15 @@ pub fn read_text(alloc: Global, text: &[u8]) -> Result<Held, Refusal>
     reader.finish_fed(fed)
 }
 
-/// Returns what the text of a source reads as, or its first fault. The parsed instance represents an instance that some
-/// text reads as, even if the bytes of the source are unknown. Stops pulling once the text is refused or at its end.
-/// Returns `Read` if the source fails, and `Endless` if 2^40 pulls give bytes and no end comes.
+/// Reads the text of a source to its end, and returns its parsed instance. The parsed instance represents what some
+/// text reads as, even if nothing is known about the bytes of the source. Pulls no more once the text is refused, and
+/// not past its end.
+///
+/// # Errors
+///
+/// `Text` with the first fault of the text. `Memory` only at a line without a fault. `Read` if the source failed.
+/// `Endless` if 2^40 pulls gave bytes and the source did not end. `Read` and `Endless` only if no complete line of the
+/// bytes given has a fault.
 pub fn read_from<S: Source>(alloc: Global, source: &mut S) -> Result<Held, Refusal>
     ensures held { IfOk result HoldsSome }
     ensures outcome { ReadsSource S.source source.old source.new result }
@@ -41,9 +51,13 @@ pub fn read_from<S: Source>(alloc: Global, source: &mut S) -> Result<Held, Refus
     reader.finish_fed(fed)
 }
 
-/// Reads a text as `read_from` does, and appends each piece to `text` before reading it. So `text` gains everything
-/// that the source gives, except for a piece for which memory runs out. `Memory` for the copy comes only while no
-/// complete line of the earlier pieces is faulty.
+/// Reads the text of a source as `read_from` does, and appends each piece to `text` before reading it. `text` gains all
+/// bytes that the source gives, except a piece for which an allocation fails.
+///
+/// # Errors
+///
+/// The errors of `read_from`. `Memory` also if an allocation for the copy of a piece fails; then no complete line of
+/// the earlier pieces has a fault.
 pub fn read_keep<S: Source>(
     alloc: Global,
     source: &mut S,
@@ -60,7 +74,7 @@ pub fn read_keep<S: Source>(
     reader.finish_fed(fed)
 }
 
-// Feeds everything that a source gives to a reader without bytes.
+// Feeds all that a source gives to a reader that has no bytes yet.
 fn feed_all<S: Source>(source: &mut S, reader: &mut Reader) -> Result<(), Refusal>
     requires { ReaderAt reader.old [] × (refusal_of reader.old ≡ None) }
     ensures ok { OnOk result (IsFed (S.source.gives source.old) (S.source.gives source.new) reader.new) }
@@ -79,7 +93,7 @@ fn feed_all<S: Source>(source: &mut S, reader: &mut Reader) -> Result<(), Refusa
     Err(Refusal::Endless)
 }
 
-// Feeds everything that a source gives to a reader without bytes, and first appends each piece to `text`.
+// Feeds all that a source gives to a reader that has no bytes yet, and appends each piece to `text` before feeding it.
 fn keep_all<S: Source>(
     source: &mut S,
     text: &mut Vec<u8>,
@@ -106,7 +120,8 @@ fn keep_all<S: Source>(
     Err(Refusal::Endless)
 }
 
-// Pulls the next bytes of a source into `room`. Returns none only at the end, and `Read` if the source fails.
+// Pulls the next bytes of a source into `room`, and returns them. There are none only at the end. Returns `Read` if the
+// source failed.
 fn next_piece<'a, S: Source>(source: &mut S, room: &'a mut [u8]) -> Result<&'a [u8], Refusal>
     requires { 0 < length room.old }
     ensures bytes { IfOk result (λ piece. Consumes (S.source.gives source.old) (S.source.gives source.new) piece.now) }

@@ -14,7 +14,7 @@ use crate::text_so_far::TextSoFar;
 use dn_line::{ArcBlock, LineReader};
 use std::alloc::Global;
 
-/// Reads a text that arrives in any pieces. A reader represents the bytes that it was fed.
+/// Reads a text that arrives in any pieces. Represents the bytes that it was fed.
 #[derive(Drop)]
 pub struct Reader {
     alloc: Global,
@@ -24,7 +24,7 @@ pub struct Reader {
 }
 
 impl Reader {
-    /// Returns a reader without bytes. It allocates what it keeps from `alloc`.
+    /// Makes a reader that was fed no bytes. It allocates with `alloc`.
     pub fn new(alloc: Global) -> Reader
         ensures stands { ReaderAt result [] }
         ensures fine { refusal_of result ≡ None }
@@ -37,7 +37,7 @@ impl Reader {
         }
     }
 
-    // Takes the line that the line reader represents.
+    // Takes the line that the line reader represents, or keeps and returns its refusal.
     fn close(&mut self) -> Result<(), Refusal>
         ensures taken { (ls : List (List ℕ)) (l : LineSoFar) → TextAt self.old.text ls → LineReaderAt self.old.line l
             → Takes self.new ls l.bytes result }
@@ -56,7 +56,7 @@ impl Reader {
         }
     }
 
-    // Takes the plain arc lines that a piece begins with, if no line is open. Returns how many bytes they have.
+    // Takes plain arc lines at the beginning of a piece, if no line is open. Returns how many bytes it takes.
     fn take_arcs(&mut self, block: &mut ArcBlock, piece: &[u8]) -> usize
         ensures taken { (t : List ℕ) → IsReading self.old t → IsReading self.new (t ++ take result piece.now) }
         ensures within { result ≤ length piece.now }
@@ -68,7 +68,7 @@ impl Reader {
         }
     }
 
-    // Takes a piece up to and with its first LF, or all of it. Returns how many bytes it takes.
+    // Takes a piece up to and including its first LF, or all of it if there is no LF. Returns how many bytes it takes.
     fn step(&mut self, piece: &[u8]) -> Result<usize, Refusal>
         requires { 0 < length piece.now }
         ensures used { IfOk result (λ n. n ≡ used_of piece.now) }
@@ -89,7 +89,8 @@ impl Reader {
         }
     }
 
-    // Takes plain arc lines, or else what `step` takes. Returns how many bytes it takes.
+    // Takes plain arc lines at the beginning of a piece, or, if there are none, what `step` takes. Returns how many
+    // bytes it takes.
     fn advance(&mut self, block: &mut ArcBlock, piece: &[u8]) -> Result<usize, Refusal>
         requires { 0 < length piece.now }
         ensures some { IfOk result (λ n. 0 < n) }
@@ -103,7 +104,7 @@ impl Reader {
         if 0 < used { Ok(used) } else { self.step(piece) }
     }
 
-    // Takes a last line without LF.
+    // Takes a last line without an LF, if there is one.
     fn close_last(&mut self) -> Result<(), Refusal>
         ensures { (t : List ℕ) → IsReading self.old t → TakesAll self.new t result }
     {
@@ -114,9 +115,12 @@ impl Reader {
         }
     }
 
-    /// Takes the next piece of the text. Returns the first fault of the text as soon as the LF of its line has arrived,
-    /// and not before. Returns `Memory` only at a line that spells an item and has no fault. After a refusal, returns
-    /// the same refusal at each call.
+    /// Takes the next piece of the text.
+    ///
+    /// # Errors
+    ///
+    /// `Text` with the first fault of the text, as soon as the LF of its line has arrived, and not before. `Memory`
+    /// only at a line without a fault. Once a call has returned a refusal, every later call returns it.
     pub fn feed(&mut self, piece: &[u8]) -> Result<(), Refusal>
         ensures stands { (t : List ℕ) → ReaderAt self.old t → ReaderAt self.new (t ++ piece.now) }
         ensures told { (t : List ℕ) → ReaderAt self.old t → Fed (t ++ piece.now) result }
@@ -138,8 +142,8 @@ impl Reader {
         Ok(())
     }
 
-    /// Returns how many entries the complete lines so far make, counted as by `Held::entries`. Before the problem line
-    /// this is 0. For a refused reader, the lines before the refused one count.
+    /// Returns how many entries the complete lines so far make, as `Held::entries` counts them, or 0 before the problem
+    /// line. After a refusal, counts those of the lines before the refused line.
     pub fn entries(&self) -> u64
         ensures fine { CountsRead self.now result }
         ensures refused { CountsBefore self.now result }
@@ -147,7 +151,12 @@ impl Reader {
         self.text.entries()
     }
 
-    /// Returns what the whole text reads as. Takes a last line without LF before it checks the end.
+    /// Takes a last line without an LF, then the end of the text, and returns the parsed instance of the whole text.
+    ///
+    /// # Errors
+    ///
+    /// The refusal that `feed` has returned. Otherwise, `Text` with the first fault of the text, which can be at its
+    /// end, or `Memory` only at a last line without an LF and without a fault.
     pub fn finish(mut self) -> Result<Held, Refusal>
         ensures outcome { (t : List ℕ) → ReaderAt self t → Outcome t result }
         ensures memory { WantsAtEnd self result }
@@ -179,7 +188,7 @@ impl Reader {
         self.text
     }
 
-    // Finishes a reader that was fed pieces, or returns the refusal of feeding.
+    // Returns what `finish` returns, or the refusal that feeding returned.
     pub(crate) fn finish_fed(self, fed: Result<(), Refusal>) -> Result<Held, Refusal>
         ensures { MatchResult fed (λ x. Finishes self result) (λ e. result ≡ Err e) }
     {
@@ -193,7 +202,7 @@ impl Reader {
     }
 }
 
-// Returns the refusal of the line with this number.
+// Returns the refusal for this fault of the line with this number.
 fn refused_at(number: u64, fault: ItemFault) -> Refusal
     ensures { result ≡ refused_at number fault }
 {

@@ -1,4 +1,4 @@
-// Why an item is not taken, and why a text is not read or not written.
+// Why an item is not taken, a text is not read, or a canonical text is not written.
 ghost use Rattle.std.specs.Prelude.{◌≡◌};
 ghost use Rattle.dn_instance.specs.Refusals.{refusal_name, refusal_number};
 
@@ -6,7 +6,7 @@ use dn_line::Code;
 use std::error::Error;
 use std::fmt;
 
-// Why an item is not taken: the text has a fault, or memory ran out.
+// Why an item is not taken: it has a fault, or an allocation fails.
 #[derive(Clone, Copy)]
 pub(crate) enum ItemFault {
     Text(Code),
@@ -16,31 +16,31 @@ pub(crate) enum ItemFault {
 /// Where a text is refused.
 #[derive(Clone, Copy, Debug, PartialEq, Eq)]
 pub enum Place {
-    /// At this line, counted from 1, including comments and blank lines.
+    /// At this line. Lines are counted from 1, including comments and blank lines.
     Line(u64),
-    /// At the end, if no line is faulty.
+    /// At the end, if no line has a fault.
     End,
 }
 
-/// Why a text was not read, or its canonical text not written. Numbers and names are this project's profile.
+/// Why a text was not read, or its canonical text was not written. The numbers and names are this project's profile.
 #[derive(Clone, Copy, Debug, PartialEq, Eq)]
 pub enum Refusal {
-    /// 1 to 21: the first fault of the text, and its place.
+    /// 1 to 21: the first fault of the text, and where it is.
     Text {
-        /// The place of the fault.
+        /// Where the fault is.
         place: Place,
-        /// The fault.
+        /// Which fault it is.
         code: Code,
     },
     /// 30: an allocation failed.
     Memory,
     /// 31: the source of bytes failed.
     Read,
-    /// 32: 2^40 pulls gave bytes, and the end did not come.
+    /// 32: 2^40 pulls gave bytes, and the source did not end.
     Endless,
     /// 33: the sink of bytes failed.
     Write,
-    /// 34: the canonical text has more counted lines than 2^63-1.
+    /// 34: the canonical text has more than 2^63-1 counted lines.
     CountTooLarge,
 }
 
@@ -74,7 +74,8 @@ impl Refusal {
         }
     }
 
-    /// Returns the name of the refusal as it is printed: that of the code or of the variant.
+    /// Returns the name of the refusal as it is printed: the name of the fault for `Text`, and the name of the variant
+    /// otherwise.
     pub fn name(self) -> &'static str
         ensures { result.now ≡ refusal_name self }
     {

@@ -63,7 +63,8 @@ impl TextSoFar {
         self.closed.saturating_add(1)
     }
 
-    // Returns the first fault that a line has because of the lines before it, if its head has no fault.
+    // Returns the first fault that a line with this head has because of the lines before it. The head has no fault
+    // itself.
     fn check_order(&self, head: Head) -> Option<Code>
         ensures answer { (before : List Line) (ws : List Word) → HasRead self.now before
             → first_fault (head_tests (draft_kind self.now.draft) ws) ≡ None
@@ -129,7 +130,7 @@ impl TextSoFar {
         }
     }
 
-    // Takes the item of the next line, or returns the line's fault. The number of the line is left to the caller.
+    // Takes the item of the next line, or returns the line's fault. The caller counts the line, and checks its number.
     fn judge(&mut self, alloc: Global, line: &LineReader) -> Result<(), ItemFault>
         ensures answer { (items : List Line) (l : LineSoFar) → HasRead self.old items
             → LineReaderAt line.now l
@@ -187,8 +188,8 @@ impl TextSoFar {
         }
     }
 
-    // Takes arcs one after the other, up to the first that is one too many, has a fault or finds the program out of
-    // memory. Returns how many it takes. `look_ahead` affects only the speed.
+    // Takes arcs one after another, up to the first that is one too many, has a fault, or for which an allocation
+    // fails. Returns how many it takes. `look_ahead` affects only the speed.
     fn take_run(&mut self, alloc: Global, arcs: &[ArcLine]) -> usize
         ensures taken { (kind : Kind) (before : List Line)
             → AwaitsArcs self.old kind before arcs.now
@@ -206,8 +207,8 @@ impl TextSoFar {
         taken
     }
 
-    // Takes the arcs whose plain lines are at the front of these bytes, as many as one block has, up to the first that
-    // has a fault or finds the program out of memory. Returns how many bytes their lines have, with the LFs that end
+    // Takes the arcs of plain lines at the beginning of these bytes, at most as many as one block has, up to the first
+    // that has a fault or for which an allocation fails. Returns how many bytes their lines have, with the LFs that end
     // them. The block is memory to read into.
     pub(crate) fn take_arcs(&mut self, alloc: Global, block: &mut ArcBlock, bytes: &[u8]) -> usize
         ensures taken { (ls : List (List ℕ)) → TextAt self.old ls
@@ -229,7 +230,7 @@ impl TextSoFar {
         bytes.len().saturating_sub(left)
     }
 
-    // Counts the entries that the lines so far make.
+    // Returns how many entries the lines so far make.
     pub(crate) fn entries(&self) -> u64
         ensures { (ls : List (List ℕ)) → TextAt self.now ls
             → result ≡ entries_so_far (items_of ls) }
@@ -237,7 +238,7 @@ impl TextSoFar {
         self.draft.entries()
     }
 
-    // Returns the parsed instance at the end, or the fault there.
+    // Returns the parsed instance at the end of the text, or the fault at the end.
     pub(crate) fn end(self) -> Result<Held, Code>
         ensures { (ls : List (List ℕ)) → TextAt self ls → EndsWith (items_of ls) result }
     {
@@ -255,7 +256,7 @@ impl TextSoFar {
     }
 }
 
-// Returns this many arcs at the front, or all if there are fewer.
+// Returns the first `most` arcs, or all if there are fewer, or none if `most` is below 0.
 fn first_arcs<'a>(arcs: &'a [ArcLine], most: &i64) -> &'a [ArcLine]
     ensures front { result.now ≡ take (length result.now) arcs.now }
     ensures most { 0 < length result.now → pos (length result.now) ≤ℤ most.now }

@@ -92,7 +92,7 @@ fn way_to_find(alloc: Global, pairs: &[(i64, i64)]) -> Result<&'static str, Allo
     for pair in pairs {
         if listed.take(alloc, *pair).is_err() {
             if !listed.finds(pairs) {
-                return Ok("a wrong place after want of memory");
+                return Ok("a wrong place after an allocation failure");
             }
             listed.take(alloc, *pair)?;
         }

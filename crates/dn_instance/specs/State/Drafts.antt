@@ -1,4 +1,4 @@
--- What the items so far make of an instance.
+-- What a draft holds of the items so far.
 use Rattle.std.specs.Prelude.{◌≡◌, ℤ, pos, ◌≤ℤ◌, ◌||◌, List, [], Bool, true, false, not, Option, Some, None, is_some, filter_map}
 use Rattle.std.specs.BTreeMap as Map
 use Rattle.std.specs.BTreeSet as Set
@@ -19,7 +19,7 @@ use Rattle.dn_table.specs.State.Tables.{TableTells, AreArcs}
 use Rattle.dn_instance.specs.declared.draft.Draft.{Draft}
 use Rattle.dn_instance.specs.declared.draft.Draft.TheVariants as Drafts
 
--- the kind that the problem line names, or none before it
+-- the kind that the problem line declares; before the problem line, there is none
 abbrev pub draft_kind : Draft → Option Kind
 draft_kind Drafts.Empty = None
 draft_kind (Drafts.Min supplies idle table) = Some Kinds.Min
@@ -29,28 +29,28 @@ draft_kind (Drafts.Ss ids) = Some Kinds.Ss
 draft_kind (Drafts.P2p pairs) = Some Kinds.P2p
 draft_kind (Drafts.Co points) = Some Kinds.Co
 
--- texts of this kind have arcs
+-- the kind is known, and texts of this kind have arcs
 abbrev pub is_graph : Option Kind → Bool
 is_graph None = false
 is_graph (Some kind) = not (is_companion kind)
 
--- the numbers of an item that may not be negative are at least 0
+-- LOW and CAP of an arc are at least 0
 abbrev pub HasSigns : Line → Type 0
 HasSigns (Item.MinArc src dst low cap cost) = (pos 0 ≤ℤ low) × (pos 0 ≤ℤ cap)
 HasSigns (Item.MaxArc src dst cap) = pos 0 ≤ℤ cap
 HasSigns _ = Unit {0}
 
--- a counted item comes while fewer are read than declared
+-- if the item is counted, it does not follow as many counted lines as declared
 abbrev pub HasRoom : List Line → Line → Type 0
 HasRoom items i = is_counted i ≡ true → is_full (problem_of items) (counted items) ≡ false
 
--- the table represents the meaning of the arcs among the items
+-- the table represents the arcs among the items, and a problem may have each of these arcs
 pub record TableHolds {B Arc : Type 0} (kind : ArcKind Arc) (arc_in : Line → Option ((ℤ × ℤ) × Arc))
     (tells : B → List Arc) (table : List ((ℤ × ℤ) × B)) (items : List Line) : Type 0 where
   pub tells_them : TableTells kind tells table (arcs_of arc_in items)
   pub are_arcs : AreArcs kind (arcs_of arc_in items)
 
--- what these items have made; before the problem line there are none
+-- the draft holds what these items make; before the problem line, there are no items
 abbrev pub DraftHolds : Draft → List Line → Type 0
 DraftHolds Drafts.Empty items = items ≡ []
 DraftHolds (Drafts.Min supplies idle table) items =
@@ -65,14 +65,15 @@ DraftHolds (Drafts.Ss ids) items = ids.items ≡ filter_map source_in items
 DraftHolds (Drafts.P2p pairs) items = pairs.items ≡ filter_map query_in items
 DraftHolds (Drafts.Co points) items = points.entries ≡ by_key (filter_map point_in items)
 
--- these items declare this problem of as many nodes, and the draft has made what they make of it
+-- these items declare this problem, `nodes` is its NODES, and the draft is of its kind and holds what the items make
 pub record IsDraftOf (draft : Draft) (nodes : ℤ) (problem : Problem) (items : List Line) : Type 0 where
   pub problem_is : problem_of items ≡ Some problem
   pub kind_is : draft_kind draft ≡ Some problem.kind
   pub nodes_are : problem.nodes ≡ nodes
   pub holds : DraftHolds draft items
 
--- the draft has made what these items make, and the next item is one of its kind of text
+-- the draft holds what the items of a problem make, the next item is of the same kind of text, and its LOW and CAP are
+-- at least 0 if it is an arc that has them
 pub record ComesNext (draft : Draft) (nodes : ℤ) (before : List Line) (i : Line) : Type 0 where
   pub problem : Problem
   pub drafted : IsDraftOf draft nodes problem before

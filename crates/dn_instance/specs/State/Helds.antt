@@ -1,4 +1,4 @@
--- What a parsed instance has, which instance it represents, and what a view shows.
+-- What a parsed instance holds, which instances it represents, and what a view shows of it.
 use Rattle.std.specs.Prelude.{◌≡◌, ℕ, ℤ, pos, List, length}
 use Rattle.dn_line.specs.declared.kind.Kind.{Kind}
 use Rattle.dn_line.specs.declared.kind.Kind.TheVariants as Kinds
@@ -17,11 +17,11 @@ use Rattle.dn_instance.specs.declared.held.Held.{Held}
 use Rattle.dn_instance.specs.declared.view.View.{View}
 use Rattle.dn_instance.specs.declared.view.View.TheVariants as Views
 
--- the bundles of a graph by ordered pair
+-- bundles with their ordered pairs
 abbrev pub Bundles : Type 0 → Type 0
 Bundles B = List ((ℤ × ℤ) × B)
 
--- the contents of a parsed instance, by kind: flows, terminals and the bundles of a graph, or the items of a companion
+-- what a parsed instance holds, by kind: the flows or terminals and the bundles of a graph, or the items of a companion
 pub data Contents : Type 0 where
   OfMin : List (ℤ × ℤ) → Bundles CurveNumbers → Contents
   OfMax : ℤ → ℤ → Bundles Total → Contents
@@ -30,7 +30,7 @@ pub data Contents : Type 0 where
   OfP2p : List (ℤ × ℤ) → Contents
   OfCo : List (ℤ × (ℤ × ℤ)) → Contents
 
--- a parsed instance: nodes, the number of counted lines, and its contents
+-- what a parsed instance holds: NODES, the number of counted lines, and the rest by kind
 pub record Holding : Type 0 where
   pub nodes : ℤ
   pub lines : ℤ
@@ -53,7 +53,7 @@ pair_count (OfSs ids) = 0
 pair_count (OfP2p pairs) = 0
 pair_count (OfCo points) = 0
 
--- the contents represent the instance: the bundles are the table of its arcs, and the rest is equal
+-- the contents represent the instance: the bundles represent its arcs, and everything else is equal
 abbrev pub Shows : Contents → Instance → Type 0
 Shows (OfMin flows table) (MinCostFlow supplies graph) =
     (flows ≡ supplies) × TableStandsFor costs (curve_arcs One) table graph.arcs
@@ -65,13 +65,13 @@ Shows (OfP2p pairs) (Queries items) = pairs ≡ items
 Shows (OfCo points) (Coordinates items) = points ≡ items
 Shows _ _ = ⊥
 
--- the parsed instance represents the instance
+-- the parsed instance represents this instance: NODES and the size are equal, and the contents represent it
 pub record IsHeld (h : Holding) (I : Instance) : Type 0 where
   pub nodes_are : h.nodes ≡ nodes_of I
   pub lines_are : h.lines ≡ pos (size_of I)
   pub shows : Shows h.contents I
 
--- the contents that the code keeps
+-- what a `Content` holds
 abbrev pub contents_of : Content → Contents
 contents_of (Kept.Min supplies table) = OfMin supplies.entries table
 contents_of (Kept.Max source sink table) = OfMax source sink table
@@ -80,11 +80,11 @@ contents_of (Kept.Ss ids) = OfSs ids.items
 contents_of (Kept.P2p pairs) = OfP2p pairs.items
 contents_of (Kept.Co points) = OfCo points.entries
 
--- the parsed instance that the code keeps
+-- what a parsed instance holds
 abbrev pub holding : Held → Holding
 holding h = record { nodes = h.nodes; lines = h.lines; contents = contents_of h.content }
 
--- the contents that a view shows
+-- what a view shows
 abbrev pub shown : View → Contents
 shown (Views.Min supplies table) = OfMin supplies.now.entries table.now
 shown (Views.Max source sink table) = OfMax source sink table.now
@@ -93,11 +93,11 @@ shown (Views.Ss items) = OfSs items.now
 shown (Views.P2p items) = OfP2p items.now
 shown (Views.Co points) = OfCo points.now.entries
 
--- this is so of every valid instance that a parsed instance represents
+-- `Is` holds of every valid instance that the parsed instance represents
 abbrev pub OfHeld : Held → (Instance → Type 0) → Type 0
 OfHeld held Is = (I : Instance) → IsValid I → IsHeld (holding held) I → Is I
 
--- this is so of any two valid instances that two parsed instances represent
+-- `Are` holds of any two valid instances that the two parsed instances represent
 abbrev pub OfBoth : Held → Held → (Instance → Instance → Type 0) → Type 0
 OfBoth left right Are =
     (I J : Instance) → IsValid I → IsValid J → IsHeld (holding left) I → IsHeld (holding right) J → Are I J

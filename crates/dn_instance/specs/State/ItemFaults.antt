@@ -1,4 +1,4 @@
--- What the result of taking an item says of its first fault.
+-- What the result of taking an item says about its first fault.
 use Rattle.std.specs.Prelude.{◌≡◌, ◌-◌, ◌^◌, ℤ, pos, List, [], ◌∷◌, ◌++◌, Bool, ◌&&◌, not, int_lt, Option, Some, None, is_some, Result, Ok, Err}
 use Rattle.dn_line.specs.declared.code.Code.{Code}
 use Rattle.dn_line.specs.declared.code.Code.TheVariants.{NodeOutOfRange, RepeatedNode, SameTerminal, LowAboveCap, SumTooLarge}
@@ -9,17 +9,17 @@ use Rattle.dn_instance.specs.TextFaults.{is_id}
 use Rattle.dn_instance.specs.declared.refusal.ItemFault.{ItemFault}
 use Rattle.dn_instance.specs.declared.refusal.ItemFault.TheVariants.{Text, Memory}
 
--- an item without fault is taken, or refused because memory runs out; any other is refused with its first fault
+-- the result is this fault if there is one, and otherwise success or `Memory`
 abbrev pub AnswersFault : Result (Unit {0}) ItemFault → Option Code → Type 0
 AnswersFault (Ok x) fault = fault ≡ None
 AnswersFault (Err (Text code)) fault = fault ≡ Some code
 AnswersFault (Err Memory) fault = fault ≡ None
 
--- the graph has this node
+-- a graph with this many nodes has the node
 abbrev pub in_graph : ℤ → ℤ → Bool
 in_graph nodes id = int_lt (pos 0) id && not (int_lt nodes id)
 
--- the first fault of an arc after these arcs, given whether a problem may have it
+-- the first fault of an arc after these arcs; `is_arc` says whether a problem may have the arc
 abbrev pub arc_fault : {Arc : Type 0} → ArcKind Arc → ℤ → List ((ℤ × ℤ) × Arc) → Bool → (ℤ × ℤ) × Arc → Option Code
 arc_fault kind nodes before is_arc a =
     first_fault
@@ -28,13 +28,13 @@ arc_fault kind nodes before is_arc a =
     ∷ (SumTooLarge, int_lt (pos (2 ^ 63 - 1)) (kind.capacity (bundle a.0 before ++ a.1 ∷ [])))
     ∷ [])
 
--- the first fault of a terminal, given the terminal of its letter so far and the other one
+-- the first fault of a `max` node line, given the terminals of its own letter and of the other letter so far
 abbrev pub terminal_fault : ℤ → Option ℤ → Option ℤ → ℤ → Option Code
 terminal_fault nodes own other id =
     first_fault
     ((NodeOutOfRange, not (in_graph nodes id)) ∷ (RepeatedNode, is_some own) ∷ (SameTerminal, is_id id other) ∷ [])
 
--- the first fault of a node line of a `min` text, given whether the node had one
+-- the first fault of a `min` node line; `named` says whether its ID has an earlier node line
 abbrev pub supply_fault : ℤ → Bool → ℤ → Option Code
 supply_fault nodes named id = first_fault ((NodeOutOfRange, not (in_graph nodes id)) ∷ (RepeatedNode, named) ∷ [])
 
@@ -42,10 +42,10 @@ supply_fault nodes named id = first_fault ((NodeOutOfRange, not (in_graph nodes 
 abbrev pub id_fault : ℤ → Option Code
 id_fault id = first_fault ((NodeOutOfRange, not (int_lt (pos 0) id)) ∷ [])
 
--- the first fault of two IDs of a companion
+-- the first fault of the two IDs of a query
 abbrev pub pair_fault : ℤ × ℤ → Option Code
 pair_fault p = first_fault ((NodeOutOfRange, not (int_lt (pos 0) p.0 && int_lt (pos 0) p.1)) ∷ [])
 
--- the first fault of a point, given whether its ID had one
+-- the first fault of a point; `named` says whether its ID has an earlier point
 abbrev pub point_fault : Bool → ℤ → Option Code
 point_fault named id = first_fault ((NodeOutOfRange, not (int_lt (pos 0) id)) ∷ (RepeatedNode, named) ∷ [])

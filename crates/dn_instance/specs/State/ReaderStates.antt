@@ -1,4 +1,4 @@
--- What the state of a reader represents between the bytes that it is fed.
+-- What the state of a reader represents.
 use Rattle.std.specs.Prelude.{◌≡◌, ℕ, ◌≤◌, List, [], ◌∷◌, ◌++◌, length, take, cond, Option, Some, None, MatchOption, Result, Ok, Err}
 use Rattle.std.specs.Io.KnownBytes.{Consumes, IsAtEnd}
 use Rattle.dn_line.specs.Pieces.{parts, lines, is_line_feed}
@@ -18,18 +18,18 @@ use Rattle.dn_instance.specs.State.TextsSoFar.{TextAt}
 abbrev pub open_of : List ℕ → List ℕ
 open_of t = (parts is_line_feed t).1
 
--- the line reader has read these bytes of a line that may continue; if there are none, its earlier line does not matter
+-- the line reader has read these bytes of an open line, or none if its line has ended
 pub record HasOpen (r : LineReader) (bytes : List ℕ) : Type 0 where
   pub line : LineSoFar
   pub stands : LineReaderAt r line
   pub open_is : cond line.ended [] line.bytes ≡ bytes
 
--- the reader has taken the complete lines, and has read the bytes after them
+-- the reader has taken the complete lines of the text, and has read the bytes after its last LF
 pub record IsReading (r : Reader) (t : List ℕ) : Type 0 where
   pub read : TextAt r.text (ended t)
   pub line : HasOpen r.line (open_of t)
 
--- the reader has taken the lines before the refused one
+-- the reader has taken those of these lines that precede the refused line
 pub record StopsIn (r : Reader) (ls : List (List ℕ)) (e : Refusal) : Type 0 where
   pub before : List (List ℕ)
   pub rest : List (List ℕ)
@@ -37,42 +37,46 @@ pub record StopsIn (r : Reader) (ls : List (List ℕ)) (e : Refusal) : Type 0 wh
   pub read : TextAt r.text before
   pub next : IsNext (length before) ls e
 
--- the reader represents these bytes
+-- the reader represents these bytes: it has read them all, or it keeps the refusal of one of their complete lines and
+-- has taken the lines before that line
 abbrev pub ReaderAt : Reader → List ℕ → Type 0
 ReaderAt r t = MatchOption r.refusal (IsReading r t) (λ e. IsRefused 0 (ended t) e × StopsIn r (ended t) e)
 
--- the reader has taken one more line, or keeps the refusal
+-- the reader has taken one more line, or it keeps the refusal of this line and has taken only the lines before it
 abbrev pub Takes : Reader → List (List ℕ) → List ℕ → Result (Unit {0}) Refusal → Type 0
 Takes r ls l (Ok x) = TextAt r.text (ls ++ l ∷ [])
 Takes r ls l (Err e) =
     (r.refusal ≡ Some e) × IsRefused (length ls) (ls ++ l ∷ []) e × StopsIn r (ls ++ l ∷ []) e
     × (lines_taken r ≡ length ls)
 
--- the reader has taken all lines, or one is refused
+-- the reader has taken all lines of the text, or the text is refused; memory can run out only at a last line without an
+-- LF
 abbrev pub TakesAll : Reader → List ℕ → Result (Unit {0}) Refusal → Type 0
 TakesAll r t (Ok x) = TextAt r.text (lines t)
 TakesAll r t (Err e) = IsRefused (length (ended t)) (lines t) e
 
--- from t on the reader has read up to u, or it keeps the refusal of a line after those of t
+-- after t, the reader has read the text up to u, or it keeps the refusal of a complete line of u and has taken at least
+-- the complete lines of t; memory can run out only after the complete lines of t
 abbrev pub Advances : Reader → List ℕ → List ℕ → Result ℕ Refusal → Type 0
 Advances r t u (Ok n) = IsReading r u
 Advances r t u (Err e) =
     (r.refusal ≡ Some e) × IsRefused (length (ended t)) (ended u) e × StopsIn r (ended u) e
     × (length (ended t) ≤ lines_taken r)
 
--- after t the reader has read a prefix of the piece, or it keeps the refusal of a line that ends there
+-- after t, the reader has read the first n bytes of the piece, or it keeps the refusal of a line up to the first LF of
+-- the piece
 abbrev pub Steps : Reader → List ℕ → List ℕ → Result ℕ Refusal → Type 0
 Steps r t piece (Ok n) = IsReading r (t ++ take n piece)
 Steps r t piece (Err e) = Advances r t (t ++ take (used_of piece) piece) (Err e)
 
--- if memory runs out in a piece, it does so at a line that is no complete line of the earlier pieces, all of whose
--- complete lines the reader has taken
+-- if memory runs out in a piece, it runs out at a line that was not complete before the piece, and the reader has taken
+-- all lines that were complete before it
 abbrev pub WantsInPiece : Reader → Reader → List ℕ → Result (Unit {0}) Refusal → Type 0
 WantsInPiece old new piece result =
     (t : List ℕ) → ReaderAt old t → refusal_of old ≡ None → result ≡ Err Memory
     → WantsMemory (length (ended t)) (ended (t ++ piece)) × (length (ended t) ≤ lines_taken new)
 
--- if memory runs out at the end of a text, it does so at a last line without LF
+-- if memory runs out at the end of a text, it runs out at a last line without an LF
 abbrev pub WantsAtEnd : Reader → Result Held Refusal → Type 0
 WantsAtEnd r result =
     (t : List ℕ) → ReaderAt r t → refusal_of r ≡ None → result ≡ Err Memory → WantsMemory (length (ended t)) (lines t)
@@ -82,16 +86,16 @@ pub record Finishes (r : Reader) (result : Result Held Refusal) : Type 0 where
   pub outcome : (t : List ℕ) → ReaderAt r t → Outcome t result
   pub memory : WantsAtEnd r result
 
--- a reader without refusal makes so many entries of its complete lines
+-- n is the number of entries that the complete lines make, if the reader has no refusal
 abbrev pub CountsRead : Reader → ℕ → Type 0
 CountsRead r n = (t : List ℕ) → ReaderAt r t → refusal_of r ≡ None → n ≡ entries_so_far (items_of (ended t))
 
--- a reader with a refusal made so many entries of the lines before the refused one
+-- n is the number of entries that the lines before the refused line make, if the reader has a refusal
 abbrev pub CountsBefore : Reader → ℕ → Type 0
 CountsBefore r n =
     (t : List ℕ) (e : Refusal) → ReaderAt r t → refusal_of r ≡ Some e → EntriesBefore (lines_taken r) (ended t) e n
 
--- the source has given all its bytes, and the reader has read them without a refusal
+-- the source is at its end, and the reader has read all bytes that the source gave and has no refusal
 pub record IsFed (old new : Option (List ℕ)) (r : Reader) : Type 0 where
   pub given : List ℕ
   pub gave : Consumes old new given

@@ -12,8 +12,8 @@ use Rattle.dn_instance.specs.State.Helds.{IsHeld, holding}
 use Rattle.dn_instance.specs.Texts.{items_of, IsClean, IsFirstFaultAt, IsFirstFault, Reads}
 use Rattle.dn_instance.specs.Readers.{WantsMemory, ended}
 
--- why not all of these lines are taken: the first fault among them, or memory ran out at a line after the first
--- `before` lines
+-- why these lines are refused: for the first fault among them, or because memory ran out at a line that follows at
+-- least `before` lines, where neither it nor an earlier line has a fault
 abbrev pub IsRefused : ℕ → List (List ℕ) → Refusal → Type 0
 IsRefused before ls (Text (Places.Line number) code) = IsFirstFaultAt ls number code
 IsRefused before ls (Text Places.End code) = ⊥
@@ -23,14 +23,14 @@ IsRefused before ls Endless = ⊥
 IsRefused before ls Write = ⊥
 IsRefused before ls CountTooLarge = ⊥
 
--- the result of feeding the text so far: its complete lines have no fault, or this is their first fault, or memory ran
--- out at a line without a fault
+-- what feeding a text up to here returns: success if no complete line has a fault, the first fault among the complete
+-- lines, or `Memory` at a complete line where neither it nor an earlier line has a fault
 abbrev pub Fed : List ℕ → Result (Unit {0}) Refusal → Type 0
 Fed t (Ok x) = IsClean (ended t)
 Fed t (Err e) = IsRefused 0 (ended t) e
 
--- the result of reading a whole text: what it reads as, its first fault, or that memory ran out at a line without a
--- fault
+-- what reading a whole text returns: a parsed instance that represents what the text reads as, the first fault of the
+-- text, or `Memory` at a line where neither it nor an earlier line has a fault
 abbrev pub Outcome : List ℕ → Result Held Refusal → Type 0
 Outcome t (Ok held) = (I : Instance) × Reads t I × IsHeld (holding held) I
 Outcome t (Err (Text place code)) = IsFirstFault t place code
@@ -40,11 +40,11 @@ Outcome t (Err Endless) = ⊥
 Outcome t (Err Write) = ⊥
 Outcome t (Err CountTooLarge) = ⊥
 
--- the refusal that a reader keeps
+-- the refusal that a reader keeps, if there is one; every later call returns it
 abbrev pub refusal_of : Reader → Option Refusal
 refusal_of r = r.refusal
 
--- the result of a reader with this refusal, if there is one
+-- this refusal if there is one, and success otherwise
 abbrev pub answer_of : Option Refusal → Result (Unit {0}) Refusal
 answer_of None = Ok tt
 answer_of (Some e) = Err e
@@ -53,13 +53,14 @@ answer_of (Some e) = Err e
 abbrev pub lines_taken : Reader → ℕ
 lines_taken r = r.text.closed
 
--- the refused line is the next after the first `taken` lines: the refusal names it, or memory ran out at it, and
--- neither it nor an earlier line has a fault
+-- the refused line is the first after the first `taken` of these lines: it is the line that the refusal names, or the
+-- one at which memory ran out, where neither it nor an earlier line has a fault
 abbrev pub IsNext : ℕ → List (List ℕ) → Refusal → Type 0
 IsNext taken ls (Text (Places.Line number) code) = number ≡ taken + 1
 IsNext taken ls Memory = (taken < length ls) × IsClean (take (taken + 1) ls)
 IsNext taken ls _ = ⊥
 
--- the refused line is the next after the first `taken` lines, and the number is that of the entries of these lines
+-- the refused line is the first after the first `taken` of these lines, and n is the number of entries that the lines
+-- before it make
 abbrev pub EntriesBefore : ℕ → List (List ℕ) → Refusal → ℕ → Type 0
 EntriesBefore taken ls e n = IsNext taken ls e × (n ≡ entries_so_far (items_of (take taken ls)))

@@ -6,7 +6,7 @@ use Rattle.dn_instance.specs.declared.refusal.Place.TheVariants as Places
 use Rattle.dn_instance.specs.declared.refusal.Refusal.{Refusal}
 use Rattle.dn_instance.specs.declared.refusal.Refusal.TheVariants.{Text, Memory}
 
--- the refusal of the line with this number for this fault
+-- the refusal for this fault of the line with this number
 abbrev pub refused_at : ℕ → ItemFault → Refusal
 refused_at number (Faults.Text code) = Text (Places.Line number) code
 refused_at number Faults.Memory = Memory

@@ -1,4 +1,4 @@
--- What reading the text of a source returns.
+-- What reading a source returns, and in which state it leaves the source.
 use Rattle.std.specs.Prelude.{◌≡◌, ◌⊎◌, ℕ, ◌<◌, ◌≤◌, ◌^◌, List, ◌++◌, length, Option, Some, Result, Ok, Err, IfSome, IsErrOf, IsTrue}
 use Rattle.std.specs.Io.KnownBytes.{IsAtEnd}
 use Rattle.dn_line.specs.Pieces.{lines}
@@ -12,8 +12,8 @@ use Rattle.dn_instance.specs.State.Readers.{IsRefused, Outcome}
 use Rattle.dn_instance.specs.Texts.{IsClean, IsFirstFault}
 use Rattle.dn_instance.specs.SourceReads.{CleanSoFar, PulledWhileClean}
 
--- the source has given `before`, in which no complete line is faulty, and then a piece of at most 2 ^ 12 bytes, and
--- still gives the rest of the text t; the LF of the refused line is in that piece
+-- of the text t, the source has given `before`, of which no complete line has a fault, and then a piece of at most 2^12
+-- bytes; it still gives the rest. The LF of the refused line is in this piece
 pub record StopsInPiece (t : List ℕ) (new : Option (List ℕ)) (e : Refusal) : Type 0 where
   pub before : List ℕ
   pub piece : List ℕ
@@ -24,24 +24,27 @@ pub record StopsInPiece (t : List ℕ) (new : Option (List ℕ)) (e : Refusal) :
   pub clean : IsClean (ended before)
   pub refused : IsRefused (length (ended before)) (ended (before ++ piece)) e
 
--- why a text without faulty complete lines is refused: the fault of its end, or its last line without LF is refused
+-- why a text is refused after all its complete lines: for a fault at its end, or at a last line without an LF
 abbrev pub IsRefusedLast : List ℕ → Refusal → Type 0
 IsRefusedLast t (Text Places.End code) = IsFirstFault t Places.End code
 IsRefusedLast t e = IsRefused (length (ended t)) (lines t) e
 
--- the source has given all of the text t, in which no complete line is faulty
+-- the source has given all of the text t, no complete line of t has a fault, and the refusal is of the end or of a last
+-- line without an LF
 pub record StopsAtEnd (t : List ℕ) (new : Option (List ℕ)) (e : Refusal) : Type 0 where
   pub at_end : IsAtEnd new
   pub clean : IsClean (ended t)
   pub refused : IsRefusedLast t e
 
--- where the source stood when the text t was refused
+-- in which state the source of the text t is when the text is refused: after a piece with the LF of the refused line,
+-- or at its end
 abbrev pub StopsAt : List ℕ → Option (List ℕ) → Refusal → Type 0
 StopsAt t new e = StopsInPiece t new e ⊎ StopsAtEnd t new e
 
--- the result of reading a source that gave the text t from here on, and now gives `new`: what t reads as, with nothing
--- left; its first fault, or that memory ran out, with nothing given after the piece of that line; that the source
--- failed, or has no end, after lines without a fault
+-- what reading a source of the text t returns, where `new` is what the source gives afterwards. It returns a parsed
+-- instance that represents what t reads as, with the source at its end; the first fault of t, or `Memory`, with the
+-- source as `StopsAt` says; or `Read`, or `Endless` after at least 2^40 bytes, where no complete line of the bytes
+-- given has a fault
 abbrev pub SourceOutcome : List ℕ → Option (List ℕ) → Result Held Refusal → Type 0
 SourceOutcome t new (Ok held) = Outcome t (Ok held) × IsAtEnd new
 SourceOutcome t new (Err (Text place code)) = IsFirstFault t place code × StopsAt t new (Text place code)
@@ -51,18 +54,18 @@ SourceOutcome t new (Err Endless) = (c : CleanSoFar t new) × (2 ^ 40 ≤ length
 SourceOutcome t new (Err Write) = ⊥
 SourceOutcome t new (Err CountTooLarge) = ⊥
 
--- what reading a source returns, if its bytes are known
+-- what reading a source returns, if the bytes of the source are known
 abbrev pub ReadsSource : {S : Type 0} → SourceWords S → S → S → Result Held Refusal → Type 0
 ReadsSource source old new result = IfSome (source.gives old) (λ t. SourceOutcome t (source.gives new) result)
 
--- how reading leaves a source, whatever it gives: it was pulled only while no line was faulty; it has failed if the
--- result is `Read`; and once it has failed, it stays failed
+-- how reading leaves a source: the source has failed if the result is `Read`, it has failed if it had failed before,
+-- and it was pulled only while no complete line of the bytes given had a fault
 pub record SourceLeft {S A : Type 0} (source : SourceWords S) (old new : S) (result : Result A Refusal) : Type 0 where
   pub read : IsErrOf result Read → IsTrue (source.has_failed new)
   pub stays : IsTrue (source.has_failed old) → IsTrue (source.has_failed new)
   pub pulls : PulledWhileClean source old new
 
--- the source has given these bytes of the text t, the copy has gained them, and the source still gives the rest
+-- of the text t, the source has given bytes that the copy has gained, and it still gives the rest
 pub record Copied (t : List ℕ) (new : Option (List ℕ)) (old_copy new_copy : List ℕ) : Type 0 where
   pub given : List ℕ
   pub rest : List ℕ
@@ -70,8 +73,8 @@ pub record Copied (t : List ℕ) (new : Option (List ℕ)) (old_copy new_copy : 
   pub rest_is : new ≡ Some rest
   pub copy : new_copy ≡ old_copy ++ given
 
--- the source has given these bytes of the text t, the copy has gained them, and memory ran out for the next piece; no
--- complete line among these bytes is faulty
+-- of the text t, the source has given bytes that the copy has gained, and then a piece of at least one byte that the
+-- copy has not gained; it still gives the rest. No complete line of the bytes before this piece has a fault
 pub record LacksRoom (t : List ℕ) (new : Option (List ℕ)) (old_copy new_copy : List ℕ) : Type 0 where
   pub given : List ℕ
   pub piece : List ℕ
@@ -82,22 +85,22 @@ pub record LacksRoom (t : List ℕ) (new : Option (List ℕ)) (old_copy new_copy
   pub copy : new_copy ≡ old_copy ++ given
   pub clean : IsClean (ended given)
 
--- the result of reading a source with a copy: the copy has gained all bytes that the source gave, or all but the piece
--- for which memory ran out
+-- what reading a source with a copy returns: the outcome of reading the source, where the copy has gained all bytes
+-- given; or `Memory`, where the copy has gained all bytes given but the last piece
 abbrev pub CopyOutcome : List ℕ → Option (List ℕ) → List ℕ → List ℕ → Result Held Refusal → Type 0
 CopyOutcome t new old_copy new_copy (Err Memory) =
     (SourceOutcome t new (Err Memory) × Copied t new old_copy new_copy) ⊎ LacksRoom t new old_copy new_copy
 CopyOutcome t new old_copy new_copy result = SourceOutcome t new result × Copied t new old_copy new_copy
 
--- what reading a source with a copy returns, if its bytes are known
+-- what reading a source with a copy returns, if the bytes of the source are known
 abbrev pub CopiesSource : {S : Type 0} → SourceWords S → S → S → List ℕ → List ℕ → Result Held Refusal → Type 0
 CopiesSource source old new old_copy new_copy result =
     IfSome (source.gives old) (λ t. CopyOutcome t (source.gives new) old_copy new_copy result)
 
--- the parsed instance represents an instance that some text reads as, even if the bytes of the source are unknown
+-- the parsed instance represents what some text reads as, whether or not the bytes of the source are known
 abbrev pub HoldsSome : Held → Type 0
 HoldsSome held = (t : List ℕ) × Outcome t (Ok held)
 
--- the parsed instance represents an instance that some text reads as, and the copy has gained this text
+-- the parsed instance represents what some text reads as, and the copy has gained this text
 abbrev pub HoldsCopied : List ℕ → List ℕ → Held → Type 0
 HoldsCopied old_copy new_copy held = (t : List ℕ) × Outcome t (Ok held) × (new_copy ≡ old_copy ++ t)

@@ -24,7 +24,7 @@ use Rattle.dn_instance.specs.declared.text_so_far.TextSoFar.{TextSoFar}
 abbrev pub problem_as : TextSoFar → Kind → Problem
 problem_as t kind = record { kind = kind; nodes = t.nodes; count = t.count }
 
--- these items have been read
+-- the text so far has read these items
 pub record HasRead (t : TextSoFar) (items : List Line) : Type 0 where
   pub problem_is : problem_of items ≡ option_map (problem_as t) (draft_kind t.draft)
   pub count_fits : t.count <ℤ pos (2 ^ 63)
@@ -33,44 +33,45 @@ pub record HasRead (t : TextSoFar) (items : List Line) : Type 0 where
   pub arcs_are : is_graph (draft_kind t.draft) ≡ true → list_any is_arc items ≡ int_lt (pos 0) t.counted
   pub holds : DraftHolds t.draft items
 
--- what a line reads as after these items, judged by its faults up to those of its fields
+-- what a line reads as after these items, where the faults of its item are not checked
 abbrev pub next_read : List Line → List Word → Result Line Code
 next_read before ws =
     let known = kind_known before in
     let faults = head_tests known ws ++ (order_tests before ws ++ field_tests (fields known ws)) in
     cond (is_skip ws) (Ok Skip) (unless (first_fault faults) (spelled known ws))
 
--- a line after these items spells this item, and may come there
+-- a line after these items can spell this item: the item belongs to the known kind, its LOW and CAP are at least 0, and
+-- if it is counted, there are not as many counted lines as declared
 pub record MayFollow (before : List Line) (i : Line) : Type 0 where
   pub kind_is : kind_known before ≡ kind_before i
   pub spelled : IsSome (slots_of i)
   pub signs : HasSigns i
   pub room : HasRoom before i
 
--- these items have been read, and this one may follow them
+-- the text so far has read these items, and this item may follow them
 pub record Awaits (t : TextSoFar) (before : List Line) (i : Line) : Type 0 where
   pub read : HasRead t before
   pub may : MayFollow before i
 
--- these items of a graph problem of this kind have been read, and the numbers of these arcs have their signs
+-- the text so far has read these items of a graph problem of this kind, and LOW and CAP of these arcs are at least 0
 pub record AwaitsArcs (t : TextSoFar) (kind : Kind) (before : List Line) (arcs : List ArcLine) : Type 0 where
   pub read : HasRead t before
   pub kind_is : draft_kind t.draft ≡ Some kind
   pub graph : is_companion kind ≡ false
   pub signs : AllByRecursion HasSigns (arc_items kind arcs)
 
--- the fault of a line after these items, without that of its number
+-- the first fault of a line after these items, except `TooLong`
 abbrev pub fault_next : List Line → List Word → Option Code
 fault_next before ws = cond (is_skip ws) None (first_fault (line_tests before ws))
 
--- these lines have been read, and none has a fault
+-- the text so far has read these lines; no line has a fault, and there are fewer than 2^63 - 1 lines
 pub record TextAt (t : TextSoFar) (ls : List (List ℕ)) : Type 0 where
   pub clean : IsClean ls
   pub few : length ls < 2 ^ 63 - 1
   pub number_is : t.closed ≡ length ls
   pub items_are : HasRead t (items_of ls)
 
--- lines, each with the LF that ends it
+-- the lines, each followed by its LF
 abbrev pub closed_lines : List (List ℕ) → List ℕ
 closed_lines ls = flat_map (λ l. l ++ 10 ∷ []) ls
 
@@ -78,7 +79,7 @@ closed_lines ls = flat_map (λ l. l ++ 10 ∷ []) ls
 abbrev pub AreInner : List (List ℕ) → Type 0
 AreInner ls = AllByRecursion (λ l. list_all is_inner l ≡ true) ls
 
--- the bytes are complete lines, and these lines have been read after `ls`
+-- the bytes are lines, each followed by its LF, and the text so far has read these lines after `ls`
 pub record ReadsFront (t : TextSoFar) (ls : List (List ℕ)) (bytes : List ℕ) : Type 0 where
   pub more : List (List ℕ)
   pub whole : closed_lines more ≡ bytes

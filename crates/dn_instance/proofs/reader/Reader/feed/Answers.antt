@@ -20,7 +20,7 @@ returns-in-Some-clause-told c t h =
     let u = t ++ c.args.piece.now in
     (refused r u c.in-Some.refusal c.in-Some.is (still_refused r t c.args.piece.now c.in-Some.refusal c.in-Some.is h)).0
 
--- the line that was refused, after those of the text so far
+-- the refused line is a complete line of the text with the piece
 refused_within : (c : goal.In-Err) (t : List ℕ)
     (reads : IsReading c.loop-at.self (t ++ take c.loop-at.at c.args.piece.now))
     → (let u = t ++ c.args.piece.now in (c.advance.new.self.refusal ≡ Some c.in-Err.refusal)

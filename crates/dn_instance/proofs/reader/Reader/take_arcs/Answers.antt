@@ -8,7 +8,7 @@ use Rattle.dn_instance.specs.declared.reader.Reader.{Reader}
 use Rattle.dn_instance.proofs.PieceSteps.{none_open, closed_more}
 use Rattle.dn_instance.proofs.reader.Reader.take_arcs.Goals as goal
 
--- lines of arcs are read where no line goes on
+-- arc lines have been read after a text without an open line
 with_arcs : (r : Reader) (t front : List ℕ) → HasOpen r.line (open_of t) → open_of t ≡ []
     → ReadsFront r.text (ended t) front → IsReading r (t ++ front)
 with_arcs r t front line none f =
