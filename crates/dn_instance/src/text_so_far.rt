@@ -188,7 +188,7 @@ impl TextSoFar {
         }
     }
 
-    // Takes arcs one after another, up to the first that is one too many, has a fault, or for which an allocation
+    // Takes arcs one after another, up to the first that is one too many, that has a fault, or for which an allocation
     // fails. Returns how many it takes. `look_ahead` affects only the speed.
     fn take_run(&mut self, alloc: Global, arcs: &[ArcLine]) -> usize
         ensures taken { (kind : Kind) (before : List Line)
