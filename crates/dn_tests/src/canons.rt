@@ -61,7 +61,13 @@ fn put_twice() -> ([Result<usize, SinkFault>; 2], [Result<(), SinkFault>; 2]) {
 #[test]
 fn streams_that_fail_once(rt: HostRuntime) {
     assert!(rt; pulled() == [Err(SourceFault), Err(SourceFault)]);
-    assert!(rt; put_twice() == ([Err(SinkFault), Err(SinkFault)], [Err(SinkFault), Err(SinkFault)]));
+    assert!(rt;
+        put_twice()
+            == (
+                [Err(SinkFault), Err(SinkFault)],
+                [Err(SinkFault), Err(SinkFault)]
+            )
+    );
 }
 
 // Texts of one problem: one that is not canonical, the canonical one, the canonical one without its last LF, and the
