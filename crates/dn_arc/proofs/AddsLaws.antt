@@ -9,7 +9,7 @@ use Rattle.dn_arc.specs.declared.arc.CostArc.{CostArc}
 use Rattle.dn_arc.specs.Meanings.{SameCurve}
 use Rattle.dn_arc.specs.Canonical.{IsFixedArc}
 use Rattle.dn_arc.specs.Fillings.{forced_units, forced_cost}
-use Rattle.dn_arc.specs.State.CurveTold.{free_arc}
+use Rattle.dn_arc.specs.State.CurveListed.{free_arc}
 use Rattle.dn_arc.proofs.ProductsLaws.{mul_add, mul_sub}
 use Rattle.dn_arc.proofs.SharesLaws.{Share, AtMost, more}
 use Rattle.dn_arc.proofs.SplitsLaws.{SameAbove, same}

@@ -16,7 +16,7 @@ use Rattle.dn_arc.specs.Entries.{distinct, has_room, cost_entries}
 use Rattle.dn_arc.specs.Fillings.{forced_units, forced_cost}
 use Rattle.dn_arc.specs.State.Fillings.{room}
 use Rattle.dn_arc.specs.State.Steps.{put_step, has_step, AreSteps}
-use Rattle.dn_arc.specs.State.CurveTold.{free_arc, step_arc, told}
+use Rattle.dn_arc.specs.State.CurveListed.{free_arc, step_arc, listed}
 use Rattle.dn_arc.proofs.SplitsLaws.{SameAbove}
 use Rattle.dn_arc.proofs.CurvesLaws.{above_meaning, curve_meaning}
 use Rattle.dn_arc.proofs.OrdersLaws.{at_end}
@@ -25,8 +25,8 @@ use Rattle.dn_arc.proofs.FormsLaws.{form_one_ordered}
 use Rattle.dn_arc.proofs.FormOneLaws.{same_fill, free_same}
 use Rattle.dn_arc.proofs.AddsLaws.{above_none}
 use Rattle.dn_arc.proofs.StepArcsLaws.{CostsAbove, costs_lower, free_arcs, put_steps, put_above}
-use Rattle.dn_arc.proofs.ToldLaws.{told_one, told_apart, told_units, told_cost}
-use Rattle.dn_arc.proofs.SoundLaws.{told_added}
+use Rattle.dn_arc.proofs.ListedLaws.{listed_one, listed_apart, listed_units, listed_cost}
+use Rattle.dn_arc.proofs.SoundLaws.{listed_added}
 
 -- the breakpoints of arcs: their free capacity by ascending cost
 abbrev pub arc_steps : List CostArc → List (ℤ × ℤ)
@@ -35,7 +35,7 @@ arc_steps (a ∷ rest) = cond (int_lt a.low a.cap) (put_step (arc_steps rest) (a
 
 -- the canonical arcs of form 1
 abbrev pub canon : List CostArc → List CostArc
-canon arcs = told One (forced_units arcs) (forced_cost arcs) (arc_steps arcs)
+canon arcs = listed One (forced_units arcs) (forced_cost arcs) (arc_steps arcs)
 
 arc_steps_are : (arcs : List CostArc) → AreSteps (arc_steps arcs)
 arc_steps_are [] = tt
@@ -73,7 +73,7 @@ canon_same (a ∷ rest) h =
     (λ le. above_meaning.same_sym _ _
     (above_none a.cost (a.cap -ℤ a.low) (map step_arc (arc_steps rest)) (omega (arith, ints)))) in
     let added =
-    told_added (forced_units rest) (forced_cost rest) (forced_units (a ∷ rest)) (forced_cost (a ∷ rest))
+    listed_added (forced_units rest) (forced_cost rest) (forced_units (a ∷ rest)) (forced_cost (a ∷ rest))
     (arc_steps rest) (arc_steps (a ∷ rest)) a
     (units_some rest h.1) (none_forced rest h.1) (arc_steps_are rest)
     (units_some (a ∷ rest) h) (none_forced (a ∷ rest) h) (arc_steps_are (a ∷ rest))
@@ -96,32 +96,32 @@ pub same_canon : (xs ys : List CostArc) → AllByRecursion IsCostArc xs → AllB
     → IsSameCanon xs ys
 same_canon xs ys h g s =
     let p =
-    told_one (forced_units xs) (forced_cost xs) (arc_steps xs) (units_some xs h) (none_forced xs h)
+    listed_one (forced_units xs) (forced_cost xs) (arc_steps xs) (units_some xs h) (none_forced xs h)
     (arc_steps_are xs) in
     let q =
-    told_one (forced_units ys) (forced_cost ys) (arc_steps ys) (units_some ys g) (none_forced ys g)
+    listed_one (forced_units ys) (forced_cost ys) (arc_steps ys) (units_some ys g) (none_forced ys g)
     (arc_steps_are ys) in
     let same =
     curve_meaning.same_trans _ _ _ (canon_same xs h)
     (curve_meaning.same_trans _ _ _ s (curve_meaning.same_sym _ _ (canon_same ys g))) in
     let t = same_fill (canon xs) (canon ys) (form_one_ordered (canon xs) p) (form_one_ordered (canon ys) q) same in
     let u =
-    told_units (forced_units xs) (forced_cost xs) (arc_steps xs) (units_some xs h) (none_forced xs h)
+    listed_units (forced_units xs) (forced_cost xs) (arc_steps xs) (units_some xs h) (none_forced xs h)
     (arc_steps_are xs) in
     let v =
-    told_units (forced_units ys) (forced_cost ys) (arc_steps ys) (units_some ys g) (none_forced ys g)
+    listed_units (forced_units ys) (forced_cost ys) (arc_steps ys) (units_some ys g) (none_forced ys g)
     (arc_steps_are ys) in
     let c =
-    told_cost (forced_units xs) (forced_cost xs) (arc_steps xs) (units_some xs h) (none_forced xs h)
+    listed_cost (forced_units xs) (forced_cost xs) (arc_steps xs) (units_some xs h) (none_forced xs h)
     (arc_steps_are xs) in
     let d =
-    told_cost (forced_units ys) (forced_cost ys) (arc_steps ys) (units_some ys g) (none_forced ys g)
+    listed_cost (forced_units ys) (forced_cost ys) (arc_steps ys) (units_some ys g) (none_forced ys g)
     (arc_steps_are ys) in
     let a =
-    told_apart (forced_units xs) (forced_cost xs) (arc_steps xs) (units_some xs h) (none_forced xs h)
+    listed_apart (forced_units xs) (forced_cost xs) (arc_steps xs) (units_some xs h) (none_forced xs h)
     (arc_steps_are xs) in
     let b =
-    told_apart (forced_units ys) (forced_cost ys) (arc_steps ys) (units_some ys g) (none_forced ys g)
+    listed_apart (forced_units ys) (forced_cost ys) (arc_steps ys) (units_some ys g) (none_forced ys g)
     (arc_steps_are ys) in
     let f =
     free_same (map step_arc (arc_steps xs)) (map step_arc (arc_steps ys))

@@ -15,7 +15,7 @@ use Rattle.dn_arc.specs.Meanings.{SameLength}
 use Rattle.dn_arc.specs.Canonical.{AreCanonLengths}
 use Rattle.dn_arc.specs.Differences.{LengthsDiffer}
 use Rattle.dn_arc.specs.Entries.{length_entries}
-use Rattle.dn_arc.specs.State.Lengths.{length_told}
+use Rattle.dn_arc.specs.State.Lengths.{length_listed}
 use Rattle.dn_arc.proofs.LengthsLaws.{length_meaning, lengths_determined, lengths_differ, length_of_one, length_of_same, first_length}
 
 any_arcs : (xs : List LengthArc) → AllByRecursion (λ (a : LengthArc). Unit {0}) xs
@@ -61,7 +61,7 @@ length_kind = record {
   capacity_some = λ xs h. omega (arith, ints);
   canon_arcs = λ form xs c. any_arcs xs;
   none_canon = λ form. tt;
-  nothing_told = λ form xs c s. lengths_determined xs [] c tt s;
+  nothing_listed = λ form xs c s. lengths_determined xs [] c tt s;
   same_capacity = λ xs ys h g s. refl;
   same_entries = λ xs ys h g s. same_entries xs ys s;
   none_entries = refl;
@@ -73,10 +73,10 @@ length_kind = record {
 pub length_determined : IsDetermined lengths
 length_determined form xs ys p q s = lengths_determined xs ys p q s
 
-pub length_canonical : (o : Option ℤ) → AreCanonLengths (length_told o)
+pub length_canonical : (o : Option ℤ) → AreCanonLengths (length_listed o)
 length_canonical None = tt
 length_canonical (Some w) = tt
 
-pub length_fit : (o : Option ℤ) → ForSome o (λ w. FitsSigned w64 w) → NumbersFit lengths (length_told o)
+pub length_fit : (o : Option ℤ) → ForSome o (λ w. FitsSigned w64 w) → NumbersFit lengths (length_listed o)
 length_fit None h = tt
 length_fit (Some w) h = ((h w refl, tt), tt)

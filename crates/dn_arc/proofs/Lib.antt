@@ -19,7 +19,7 @@ pub mod AddsLaws
 pub mod StepArcsLaws
 pub mod MeansLaws
 pub mod JoinsLaws
-pub mod ToldLaws
+pub mod ListedLaws
 pub mod SoundLaws
 pub mod StoredLaws
 pub mod CanonsLaws

@@ -17,13 +17,13 @@ use Rattle.dn_arc.specs.Meanings.{SameCurve}
 use Rattle.dn_arc.specs.Canonical.{IsCostArc, AreCanonCosts}
 use Rattle.dn_arc.specs.State.Means.{IsMean}
 use Rattle.dn_arc.specs.State.Steps.{AreSteps}
-use Rattle.dn_arc.specs.State.CurveTold.{fixed_arc, free_arc, step_arc, spread_arcs, fixed_arcs, join_arcs, told, IsSound}
+use Rattle.dn_arc.specs.State.CurveListed.{fixed_arc, free_arc, step_arc, spread_arcs, fixed_arcs, join_arcs, listed, IsSound}
 use Rattle.dn_arc.proofs.SplitsLaws.{SameAbove}
 use Rattle.dn_arc.proofs.AddsLaws.{add_end}
 use Rattle.dn_arc.proofs.MeansLaws.{floor_of, each_fits, each_next, none_cost, fits_some, fits_next}
 use Rattle.dn_arc.proofs.PartsLaws.{by_test}
 use Rattle.dn_arc.proofs.JoinsLaws.{joined_costs}
-use Rattle.dn_arc.proofs.ToldLaws.{carried, told_canonical, told_same, told_cap, told_arcs}
+use Rattle.dn_arc.proofs.ListedLaws.{carried, listed_canonical, listed_same, listed_cap, listed_arcs}
 
 steps_prop : (steps : List (ℤ × ℤ)) → IsProp (AreSteps steps)
 steps_prop [] = hlevel props
@@ -97,37 +97,37 @@ module _ (units cost total : ℤ) (steps : List (ℤ × ℤ)) (s : IsSound units
   pub none_is : units ≡ pos 0 → cost ≡ pos 0
   none_is e = none_cost cost units e s.mean
 
-  pub sound_canonical : (form : Form) → AreCanonCosts form (told form units cost steps)
-  sound_canonical form = told_canonical units cost steps s.some none_is s.rising form
+  pub sound_canonical : (form : Form) → AreCanonCosts form (listed form units cost steps)
+  sound_canonical form = listed_canonical units cost steps s.some none_is s.rising form
 
-  pub sound_same : SameCurve (told Two units cost steps) (told One units cost steps)
-  sound_same = told_same units cost steps s.some none_is s.rising
+  pub sound_same : SameCurve (listed Two units cost steps) (listed One units cost steps)
+  sound_same = listed_same units cost steps s.some none_is s.rising
 
-  pub sound_cap : (form : Form) → cost_cap (told form units cost steps) ≡ total
-  sound_cap form = told_cap units cost steps s.some none_is s.rising form ∙ sym s.whole
+  pub sound_cap : (form : Form) → cost_cap (listed form units cost steps) ≡ total
+  sound_cap form = listed_cap units cost steps s.some none_is s.rising form ∙ sym s.whole
 
-  pub sound_arcs : (form : Form) → AllByRecursion IsCostArc (told form units cost steps)
-  sound_arcs form = told_arcs units cost steps s.some none_is s.rising form
+  pub sound_arcs : (form : Form) → AllByRecursion IsCostArc (listed form units cost steps)
+  sound_arcs form = listed_arcs units cost steps s.some none_is s.rising form
 
-  costs_fit : (form : Form) → CostsFit (told form units cost steps)
+  costs_fit : (form : Form) → CostsFit (listed form units cost steps)
   costs_fit One =
       both_fit (fixed_arcs units cost) (map step_arc steps) (fixed_fit units cost s.mean) (steps_fit steps s.fit)
   costs_fit Two =
       join_fit (fixed_arcs units cost) (map step_arc steps) (fixed_fit units cost s.mean) (steps_fit steps s.fit)
 
-  pub sound_fit : (form : Form) → NumbersFit costs (told form units cost steps)
+  pub sound_fit : (form : Form) → NumbersFit costs (listed form units cost steps)
   sound_fit form =
-      numbers_fit (told form units cost steps) (sound_arcs form)
+      numbers_fit (listed form units cost steps) (sound_arcs form)
       (subst (λ z. z ≤ℤ pos (2 ^ 63 - 1)) (sym (sound_cap form)) s.most) (costs_fit form)
 
 -- adding an arc's forced and free part to the curve means the same as appending the arc
-pub told_added : (units cost units' cost' : ℤ) (steps steps' : List (ℤ × ℤ)) (a : CostArc)
+pub listed_added : (units cost units' cost' : ℤ) (steps steps' : List (ℤ × ℤ)) (a : CostArc)
     → pos 0 ≤ℤ units → (units ≡ pos 0 → cost ≡ pos 0) → AreSteps steps
     → pos 0 ≤ℤ units' → (units' ≡ pos 0 → cost' ≡ pos 0) → AreSteps steps'
     → units' ≡ units +ℤ a.low → cost' ≡ cost +ℤ (a.low *ℤ a.cost)
     → SameAbove (map step_arc steps') (free_arc a.cost (a.cap -ℤ a.low) ∷ map step_arc steps)
-    → SameCurve (told One units' cost' steps') (told One units cost steps ++ a ∷ [])
-told_added units cost units' cost' steps steps' a h n s h' n' s' eu ec sa =
+    → SameCurve (listed One units' cost' steps') (listed One units cost steps ++ a ∷ [])
+listed_added units cost units' cost' steps steps' a h n s h' n' s' eu ec sa =
     let old = carried units cost steps h n s in
     let new = carried units' cost' steps' h' n' s' in
     add_end (fixed_arcs units cost) (fixed_arcs units' cost') (map step_arc steps)

@@ -5,7 +5,7 @@ use Rattle.std.proofs.Common.{subst, arith}
 use Rattle.std.proofs.lemmas.Int.{ints}
 use Rattle.std.specs.List.{AllByRecursion}
 use Rattle.dn_arc.specs.State.Fillings.{free_room}
-use Rattle.dn_arc.specs.State.CurveTold.{free_arc, step_arc}
+use Rattle.dn_arc.specs.State.CurveListed.{free_arc, step_arc}
 use Rattle.dn_arc.specs.State.Steps.{put_step, AreSteps, steps_room}
 use Rattle.dn_arc.proofs.SplitsLaws.{SameAbove}
 use Rattle.dn_arc.proofs.CurvesLaws.{above_meaning}

@@ -3,7 +3,7 @@ use Rattle.std.specs.Prelude.{◌≡◌, ℤ, List}
 use Rattle.std.specs.Coded.{Coded, coded_ℤ, coded×, coded_list}
 use Rattle.std.proofs.Common.{sym, ap, subst}
 use base.Stored.{coded_via}
-use Rattle.dn_arc.specs.State.CurveTold.{IsSound}
+use Rattle.dn_arc.specs.State.CurveListed.{IsSound}
 use Rattle.dn_arc.specs.State.Curves.{CurveNumbers}
 use Rattle.dn_arc.proofs.SoundLaws.{IsSound-prop}
 

@@ -11,7 +11,7 @@ use Rattle.dn_arc.specs.declared.difference.How.TheVariants.{Lengths, Totals, Co
 use Rattle.dn_arc.specs.Kinds.{capacities}
 use Rattle.dn_arc.specs.State.Bundles.{IsKind, IsDetermined, NumbersFit}
 use Rattle.dn_arc.specs.Capacities.{total_cap}
-use Rattle.dn_arc.specs.State.Capacities.{cap_told}
+use Rattle.dn_arc.specs.State.Capacities.{cap_listed}
 use Rattle.dn_arc.specs.Meanings.{SameTotal}
 use Rattle.dn_arc.specs.Canonical.{IsCapArc, AreCanonCaps}
 use Rattle.dn_arc.specs.Differences.{TotalsDiffer}
@@ -63,7 +63,7 @@ total_kind = record {
   capacity_some = total_some;
   canon_arcs = λ form xs c. canon_arcs xs c;
   none_canon = λ form. tt;
-  nothing_told = λ form xs c s. totals_determined xs [] c tt s;
+  nothing_listed = λ form xs c s. totals_determined xs [] c tt s;
   same_capacity = λ xs ys h g s. s.is;
   same_entries = λ xs ys h g s. ap (λ z. cond (int_lt (pos 0) z) 1 0) s.is;
   none_entries = refl;
@@ -75,10 +75,10 @@ total_kind = record {
 pub total_determined : IsDetermined capacities
 total_determined form xs ys p q s = totals_determined xs ys p q s
 
-pub total_canonical : (z : ℤ) → AreCanonCaps (cap_told z)
+pub total_canonical : (z : ℤ) → AreCanonCaps (cap_listed z)
 total_canonical z = by_test AreCanonCaps (pos 0) z (record { cap = z } ∷ []) [] (λ lt. omega (arith, ints)) (λ le. tt)
 
-pub total_fit : (z : ℤ) → pos 0 ≤ℤ z → z ≤ℤ pos (2 ^ 63 - 1) → NumbersFit capacities (cap_told z)
+pub total_fit : (z : ℤ) → pos 0 ≤ℤ z → z ≤ℤ pos (2 ^ 63 - 1) → NumbersFit capacities (cap_listed z)
 total_fit z h g =
     by_test (NumbersFit capacities) (pos 0) z (record { cap = z } ∷ []) [] (λ lt. ((fits_some z h g, tt), tt))
     (λ le. tt)

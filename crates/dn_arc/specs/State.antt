@@ -6,5 +6,5 @@ pub mod Fillings
 pub mod Bundles
 pub mod Steps
 pub mod Means
-pub mod CurveTold
+pub mod CurveListed
 pub mod Curves

@@ -50,32 +50,32 @@ module _ {Arc : Type 0} (kind : ArcKind Arc) (laws : IsKind kind) where
   next_arc arcs i arc a h is = subst kind.IsArc (sym is) (all_get kind.IsArc arcs i arc h a)
 
   -- a bundle that represents the arcs so far, and the next arc
-  module _ (arcs told : List Arc) (i : ℕ) (arc : Arc) (a : AllByRecursion kind.IsArc arcs) (h : i < length arcs)
-      (is : arc ≡ get_or arcs i arc) (told_arcs : AllByRecursion kind.IsArc told)
-      (same : kind.Same told (take i arcs)) where
+  module _ (arcs listed : List Arc) (i : ℕ) (arc : Arc) (a : AllByRecursion kind.IsArc arcs) (h : i < length arcs)
+      (is : arc ≡ get_or arcs i arc) (listed_arcs : AllByRecursion kind.IsArc listed)
+      (same : kind.Same listed (take i arcs)) where
     next_is : take (i + 1) arcs ≡ take i arcs ++ arc ∷ []
     next_is =
         ap (λ n. take n arcs) (let e : i + 1 ≡ suc i = omega arith in e) ∙ take-suc arcs i arc h
         ∙ ap (λ x. take i arcs ++ x ∷ []) (sym is)
 
-    both_same : kind.Same (told ++ arc ∷ []) (take (i + 1) arcs)
+    both_same : kind.Same (listed ++ arc ∷ []) (take (i + 1) arcs)
     both_same =
-        subst (kind.Same (told ++ arc ∷ [])) (sym next_is)
-        (same_push kind.Same laws.meaning told (take i arcs) arc same)
+        subst (kind.Same (listed ++ arc ∷ [])) (sym next_is)
+        (same_push kind.Same laws.meaning listed (take i arcs) arc same)
 
-    pub next_same : (new : List Arc) → kind.Same new (told ++ arc ∷ []) → kind.Same new (take (i + 1) arcs)
+    pub next_same : (new : List Arc) → kind.Same new (listed ++ arc ∷ []) → kind.Same new (take (i + 1) arcs)
     next_same new s = laws.meaning.same_trans _ _ _ s both_same
 
-    next_cap : kind.capacity (told ++ arc ∷ []) ≡ kind.capacity (take (i + 1) arcs)
+    next_cap : kind.capacity (listed ++ arc ∷ []) ≡ kind.capacity (take (i + 1) arcs)
     next_cap =
-        laws.same_capacity _ _ (all_end kind.IsArc told arc told_arcs (next_arc arcs i arc a h is))
+        laws.same_capacity _ _ (all_end kind.IsArc listed arc listed_arcs (next_arc arcs i arc a h is))
         (all_take kind.IsArc arcs (i + 1) a) both_same
 
-    pub next_fits : (pos (2 ^ 63 - 1) <ℤ kind.capacity (told ++ arc ∷ []) → ⊥)
+    pub next_fits : (pos (2 ^ 63 - 1) <ℤ kind.capacity (listed ++ arc ∷ []) → ⊥)
         → kind.capacity (take (i + 1) arcs) ≤ℤ pos (2 ^ 63 - 1)
     next_fits n =
         by_lt_z (pos (2 ^ 63 - 1)) (kind.capacity (take (i + 1) arcs))
         (λ lt. absurd (n (subst (λ z. pos (2 ^ 63 - 1) <ℤ z) (sym next_cap) lt))) (λ le. le)
 
-    pub too_much : pos (2 ^ 63 - 1) <ℤ kind.capacity (told ++ arc ∷ []) → pos (2 ^ 63 - 1) <ℤ kind.capacity arcs
+    pub too_much : pos (2 ^ 63 - 1) <ℤ kind.capacity (listed ++ arc ∷ []) → pos (2 ^ 63 - 1) <ℤ kind.capacity arcs
     too_much m = let e = next_cap in let t = taken_cap arcs (i + 1) a in omega (arith, ints)

@@ -14,12 +14,12 @@ use Rattle.dn_arc.specs.Canonical.{IsFixedArc, has_low}
 use Rattle.dn_arc.specs.Entries.{cost_entries, free_costs}
 use Rattle.dn_arc.specs.State.Fillings.{room}
 use Rattle.dn_arc.specs.State.Steps.{put_step, AreSteps, steps_room}
-use Rattle.dn_arc.specs.State.CurveTold.{step_arc, spread_arcs, fixed_arcs, told, IsSound, is_free}
+use Rattle.dn_arc.specs.State.CurveListed.{step_arc, spread_arcs, fixed_arcs, listed, IsSound, is_free}
 use Rattle.dn_arc.proofs.CurvesLaws.{curve_meaning, cost_cap_same}
 use Rattle.dn_arc.proofs.PartsLaws.{by_test, test_yes, test_no}
 use Rattle.dn_arc.proofs.StepArcsLaws.{steps_some}
 use Rattle.dn_arc.proofs.CanonsLaws.{arc_steps, count_costs, entries_are}
-use Rattle.dn_arc.proofs.ToldLaws.{carried, told_units, steps_low}
+use Rattle.dn_arc.proofs.ListedLaws.{carried, listed_units, steps_low}
 use Rattle.dn_arc.proofs.SoundLaws.{none_is, sound_cap, sound_arcs}
 use Rattle.dn_bundle.proofs.FixedLaws.{is_zero, not_zero}
 
@@ -32,11 +32,11 @@ record AreApart (fixed : List CostArc) (steps : List (ℤ × ℤ)) : Type 0 wher
   low : filter has_low (fixed ++ map step_arc steps) ≡ fixed
   free : filter is_free (fixed ++ map step_arc steps) ≡ map step_arc steps
 
-apart : (fixed : List CostArc) (steps : List (ℤ × ℤ)) → AllByRecursion IsFixedArc fixed → AreApart fixed steps
-apart [] steps f = record { low = steps_low steps; free = steps_free steps }
-apart (a ∷ fixed) steps f =
+fixed_apart : (fixed : List CostArc) (steps : List (ℤ × ℤ)) → AllByRecursion IsFixedArc fixed → AreApart fixed steps
+fixed_apart [] steps f = record { low = steps_low steps; free = steps_free steps }
+fixed_apart (a ∷ fixed) steps f =
     let some = f.0.some in
-    let i = apart fixed steps f.1 in
+    let i = fixed_apart fixed steps f.1 in
     let t = test_yes (pos 0) a.low (omega (arith, ints)) in
     record {
       low =
@@ -79,33 +79,33 @@ fixed_back (a ∷ fixed) steps f =
 module _ (units cost total : ℤ) (steps : List (ℤ × ℤ)) (s : IsSound units cost total steps) where
   both : AreApart (fixed_arcs units cost) steps
   both =
-      apart (fixed_arcs units cost) steps
+      fixed_apart (fixed_arcs units cost) steps
       (carried units cost steps s.some (none_is units cost total steps s) s.rising).are.each
 
   -- the arcs with LOW above 0 are the fixed arcs
-  pub low_arcs : filter has_low (told One units cost steps) ≡ fixed_arcs units cost
+  pub low_arcs : filter has_low (listed One units cost steps) ≡ fixed_arcs units cost
   low_arcs = both.low
 
   -- the arcs with LOW 0 are the arcs of the breakpoints
-  pub free_arcs : filter is_free (told One units cost steps) ≡ map step_arc steps
+  pub free_arcs : filter is_free (listed One units cost steps) ≡ map step_arc steps
   free_arcs = both.free
 
-  steps_told : arc_steps (told One units cost steps) ≡ steps
-  steps_told = let c = carried units cost steps s.some (none_is units cost total steps s) s.rising in
+  steps_listed : arc_steps (listed One units cost steps) ≡ steps
+  steps_listed = let c = carried units cost steps s.some (none_is units cost total steps s) s.rising in
       fixed_back (fixed_arcs units cost) steps c.are.each ∙ steps_back steps s.rising
 
   -- the costs with free capacity are those of the breakpoints
-  pub costs_told : length (free_costs (told One units cost steps)) ≡ length steps
-  costs_told = count_costs (told One units cost steps) ∙ ap length steps_told
+  pub costs_listed : length (free_costs (listed One units cost steps)) ≡ length steps
+  costs_listed = count_costs (listed One units cost steps) ∙ ap length steps_listed
 
-  pub entries_told : cost_entries (told One units cost steps) ≡ cond (int_lt (pos 0) units) 1 0 + length steps
-  entries_told =
-      entries_are (told One units cost steps) (sound_arcs units cost total steps s One)
-      ∙ ap (λ z. cond (int_lt (pos 0) z) 1 0 + length (arc_steps (told One units cost steps)))
-      (told_units units cost steps s.some (none_is units cost total steps s) s.rising)
-      ∙ ap (λ l. cond (int_lt (pos 0) units) 1 0 + length l) steps_told
+  pub entries_listed : cost_entries (listed One units cost steps) ≡ cond (int_lt (pos 0) units) 1 0 + length steps
+  entries_listed =
+      entries_are (listed One units cost steps) (sound_arcs units cost total steps s One)
+      ∙ ap (λ z. cond (int_lt (pos 0) z) 1 0 + length (arc_steps (listed One units cost steps)))
+      (listed_units units cost steps s.some (none_is units cost total steps s) s.rising)
+      ∙ ap (λ l. cond (int_lt (pos 0) units) 1 0 + length l) steps_listed
 
-  nothing_there : total ≡ pos 0 → SameCurve (told One units cost steps) []
+  nothing_there : total ≡ pos 0 → SameCurve (listed One units cost steps) []
   nothing_there e =
       let whole = s.whole in
       let some = s.some in
@@ -121,15 +121,15 @@ module _ (units cost total : ℤ) (steps : List (ℤ × ℤ)) (s : IsSound units
       no_steps [] r e = refl
       no_steps (step ∷ rest) r e = let some = r.0 in let left = steps_some rest r.2 in absurd (omega (arith, ints))
 
-  nothing_back : SameCurve (told One units cost steps) [] → total ≡ pos 0
+  nothing_back : SameCurve (listed One units cost steps) [] → total ≡ pos 0
   nothing_back m =
       sym (sound_cap units cost total steps s One)
-      ∙ cost_cap_same (told One units cost steps) [] (sound_arcs units cost total steps s One) tt m
+      ∙ cost_cap_same (listed One units cost steps) [] (sound_arcs units cost total steps s One) tt m
 
   -- a curve means the same as no arcs exactly if its capacity is 0
   pub nothing_is : FitsSigned w64 total
-      → (IsTrue (nat_eq (of_z w64 total) 0) → SameCurve (told One units cost steps) [])
-      × (SameCurve (told One units cost steps) [] → IsTrue (nat_eq (of_z w64 total) 0))
+      → (IsTrue (nat_eq (of_z w64 total) 0) → SameCurve (listed One units cost steps) [])
+      × (SameCurve (listed One units cost steps) [] → IsTrue (nat_eq (of_z w64 total) 0))
   nothing_is f =
       ((λ t. nothing_there (is_zero total f (test_zero _ t))), (λ m. zero_test _ (ap (of_z w64) (nothing_back m))))
     where
@@ -140,8 +140,8 @@ module _ (units cost total : ℤ) (steps : List (ℤ × ℤ)) (s : IsSound units
       zero_test n h = grind (arith, nat_tests)
 
   pub entries_code : (n len : ℕ) → n ≡ cond (int_lt (pos 0) units) 1 0 → len ≡ length steps
-      → n + len ≡ cost_entries (told One units cost steps)
-  entries_code n len e f = ap (λ z. z + len) e ∙ ap (λ z. cond (int_lt (pos 0) units) 1 0 + z) f ∙ sym entries_told
+      → n + len ≡ cost_entries (listed One units cost steps)
+  entries_code n len e f = ap (λ z. z + len) e ∙ ap (λ z. cond (int_lt (pos 0) units) 1 0 + z) f ∙ sym entries_listed
 
   pub none_forced : (n : ℕ) → n ≡ 0 → FitsSigned w64 units → of_z w64 units ≡ 0 → n ≡ cond (int_lt (pos 0) units) 1 0
   none_forced n e f z = let u = is_zero units f z in

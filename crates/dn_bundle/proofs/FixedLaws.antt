@@ -5,10 +5,10 @@ use Rattle.std.specs.Int.RustNames.{FitsSigned}
 use Rattle.std.proofs.lemmas.Int.{ints, to_z-of_z}
 use Rattle.dn_arc.specs.State.Means.{IsMean, IsFloor}
 use Rattle.dn_arc.proofs.MeansLaws.{fits_some, each_next}
-use Rattle.dn_arc.specs.State.CurveTold.{fixed_arc, spread_arcs, fixed_arcs}
+use Rattle.dn_arc.specs.State.CurveListed.{fixed_arc, spread_arcs, fixed_arcs}
 use Rattle.dn_arc.proofs.FormOneLaws.{fixed_same}
 use Rattle.dn_arc.proofs.PartsLaws.{test_yes, test_no}
-use Rattle.dn_arc.proofs.ToldLaws.{spread_carries, fixed_carries}
+use Rattle.dn_arc.proofs.ListedLaws.{spread_carries, fixed_carries}
 
 -- the quotient and the remainder of the cost determine the fixed arcs
 floor_arcs : (units cost each rest : ℤ) → pos 0 <ℤ units → IsFloor cost units each rest

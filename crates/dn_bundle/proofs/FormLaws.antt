@@ -11,13 +11,13 @@ use Rattle.dn_arc.specs.declared.arc.Form.TheVariants.{One, Two}
 use Rattle.dn_arc.specs.Canonical.{IsFixedArc, AreNear, AreRising}
 use Rattle.dn_arc.specs.Fillings.{forced_units}
 use Rattle.dn_arc.specs.State.Steps.{step_past, AreSteps, steps_room}
-use Rattle.dn_arc.specs.State.CurveTold.{fixed_arc, step_arc, fixed_arcs, join_arc, join_arcs, joined_head, told, IsSound}
+use Rattle.dn_arc.specs.State.CurveListed.{fixed_arc, step_arc, fixed_arcs, join_arc, join_arcs, joined_head, listed, IsSound}
 use Rattle.dn_arc.proofs.FormsLaws.{AreAbove, AreFixed}
 use Rattle.dn_arc.proofs.PartsLaws.{test_yes, test_no}
 use Rattle.dn_arc.proofs.MeansLaws.{fits_some}
 use Rattle.dn_arc.proofs.StepArcsLaws.{free_arcs, steps_some}
 use Rattle.dn_arc.proofs.JoinsLaws.{joined}
-use Rattle.dn_arc.proofs.ToldLaws.{Carries, carried, told_two}
+use Rattle.dn_arc.proofs.ListedLaws.{Carries, carried, listed_two}
 use Rattle.dn_arc.proofs.SoundLaws.{none_is}
 use Rattle.dn_bundle.proofs.StepLaws.{less, not_less, next_is}
 
@@ -405,46 +405,46 @@ module _ (units cost total : ℤ) (steps : List (ℤ × ℤ)) (s : IsSound units
   is : Carries (fixed_arcs units cost) units cost
   is = carried units cost steps s.some (none_is units cost total steps s) s.rising
 
-  pub next_free : (a : CostArc) (i : ℕ) → a.low ≡ pos 0 → slice_get (told One units cost steps) i ≡ Some a
-      → option_map step_arc (step_past steps a.cost) ≡ slice_get (told One units cost steps) (i + 1)
+  pub next_free : (a : CostArc) (i : ℕ) → a.low ≡ pos 0 → slice_get (listed One units cost steps) i ≡ Some a
+      → option_map step_arc (step_past steps a.cost) ≡ slice_get (listed One units cost steps) (i + 1)
   next_free a i z e =
       sym (past_steps steps a.cost) ∙ after_free (fixed_arcs units cost) (map step_arc steps) i a is.are.each
-      (free_arcs steps s.rising).rising z e ∙ at_next (told One units cost steps) i
+      (free_arcs steps s.rising).rising z e ∙ at_next (listed One units cost steps) i
 
-  pub next_fixed : (a : CostArc) (i : ℕ) → (a.low ≡ pos 0 → ⊥) → slice_get (told One units cost steps) i ≡ Some a
+  pub next_fixed : (a : CostArc) (i : ℕ) → (a.low ≡ pos 0 → ⊥) → slice_get (listed One units cost steps) i ≡ Some a
       → or_first (arc_past a.cost (fixed_arcs units cost)) (option_map step_arc (slice_get steps 0)) ≡ slice_get
-      (told One units cost steps) (i + 1)
+      (listed One units cost steps) (i + 1)
   next_fixed a i z e =
       ap (or_first (arc_past a.cost (fixed_arcs units cost))) (sym (first_step steps))
       ∙ after_fixed (fixed_arcs units cost) (map step_arc steps) i a (fixed_rises (fixed_arcs units cost) is.are.near)
       (steps_none steps) z e
-      ∙ at_next (told One units cost steps) i
+      ∙ at_next (listed One units cost steps) i
 
   pub first_of_one : or_first (slice_get (fixed_arcs units cost) 0)
-      (option_map step_arc (slice_get steps 0)) ≡ slice_get (told One units cost steps) 0
+      (option_map step_arc (slice_get steps 0)) ≡ slice_get (listed One units cost steps) 0
   first_of_one =
       ap (or_first (slice_get (fixed_arcs units cost) 0)) (sym (first_step steps))
       ∙ first_of_both (fixed_arcs units cost) (map step_arc steps)
 
   pub first_of_two : first_joined (slice_get (fixed_arcs units cost) 0)
-      (option_map step_arc (slice_get steps 0)) ≡ slice_get (told Two units cost steps) 0
+      (option_map step_arc (slice_get steps 0)) ≡ slice_get (listed Two units cost steps) 0
   first_of_two =
       ap (first_joined (slice_get (fixed_arcs units cost) 0)) (sym (first_step steps))
       ∙ sym (joined_first (fixed_arcs units cost) (map step_arc steps) is.are)
 
   pub past_of_two : (c : ℤ)
       → first_joined (arc_past c (fixed_arcs units cost)) (option_map step_arc (step_past steps c)) ≡ arc_past c
-      (told Two units cost steps)
+      (listed Two units cost steps)
   past_of_two c =
       ap (first_joined (arc_past c (fixed_arcs units cost))) (sym (past_steps steps c))
       ∙ sym (joined_past c (fixed_arcs units cost) (map step_arc steps) is.are)
 
-  pub next_two : (a : CostArc) (i : ℕ) → slice_get (told Two units cost steps) i ≡ Some a
-      → arc_past a.cost (told Two units cost steps) ≡ slice_get (told Two units cost steps) (i + 1)
+  pub next_two : (a : CostArc) (i : ℕ) → slice_get (listed Two units cost steps) i ≡ Some a
+      → arc_past a.cost (listed Two units cost steps) ≡ slice_get (listed Two units cost steps) (i + 1)
   next_two a i e =
-      after_place (told Two units cost steps) i a
-      (told_two units cost steps s.some (none_is units cost total steps s) s.rising).rising e
-      ∙ at_next (told Two units cost steps) i
+      after_place (listed Two units cost steps) i a
+      (listed_two units cost steps s.some (none_is units cost total steps s) s.rising).rising e
+      ∙ at_next (listed Two units cost steps) i
 
   fixed_are : AllByRecursion (λ (b : CostArc). IsPart units b.cap) (fixed_arcs units cost)
   fixed_are = let u = is.units_is in fixed_parts units (fixed_arcs units cost) is.are.each (omega (arith, ints))

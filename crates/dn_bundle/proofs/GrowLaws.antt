@@ -15,7 +15,7 @@ use Rattle.dn_arc.specs.Splits.{cost_cap}
 use Rattle.dn_arc.specs.Meanings.{SameCurve}
 use Rattle.dn_arc.specs.Canonical.{IsCostArc}
 use Rattle.dn_arc.specs.State.Steps.{put_step, add_step, AreSteps, steps_room}
-use Rattle.dn_arc.specs.State.CurveTold.{free_arc, step_arc, told, IsSound}
+use Rattle.dn_arc.specs.State.CurveListed.{free_arc, step_arc, listed, IsSound}
 use Rattle.dn_bundle.specs.State.Shapes.{numbers_of, AreSound, curve_of, IsGrown}
 use Rattle.dn_arc.proofs.SplitsLaws.{SameAbove}
 use Rattle.dn_arc.proofs.CurvesLaws.{above_meaning}
@@ -25,7 +25,7 @@ use Rattle.dn_arc.proofs.MeansLaws.{more_mean, fits_some}
 use Rattle.dn_arc.proofs.StepArcsLaws.{steps_some, put_steps, put_room, put_above}
 use Rattle.dn_arc.proofs.CostKindLaws.{cost_kind}
 use Rattle.dn_arc.proofs.StoredLaws.{same_numbers}
-use Rattle.dn_arc.proofs.SoundLaws.{none_is, sound_cap, told_added}
+use Rattle.dn_arc.proofs.SoundLaws.{none_is, sound_cap, listed_added}
 use Rattle.dn_bundle.proofs.Cost128Laws.{more_fits}
 
 pub most : (z : ℤ) → FitsSigned w64 z → z ≤ℤ pos (2 ^ 63 - 1)
@@ -127,10 +127,10 @@ module _ (units cost total : ℤ) (steps : List (ℤ × ℤ)) (a : CostArc) (tot
           (subst (λ z. IsSound (units +ℤ a.low) (cost +ℤ (a.low *ℤ a.cost)) z l) (sym et)
           (subst (λ z. IsSound (units +ℤ a.low) (cost +ℤ (a.low *ℤ a.cost)) total' z) (sym el) grown)))
 
-      pub grown_same : SameCurve (told One u c l) (told One units cost steps ++ a ∷ [])
+      pub grown_same : SameCurve (listed One u c l) (listed One units cost steps ++ a ∷ [])
       grown_same =
           let n = grown_sound in
-          told_added units cost u c steps l a s.some (none_is units cost total steps s) s.rising n.some
+          listed_added units cost u c steps l a s.some (none_is units cost total steps s) s.rising n.some
           (none_is u c t l n) n.rising eu ec
           (subst (λ z. SameAbove (map step_arc z) (free_arc a.cost (a.cap -ℤ a.low) ∷ map step_arc steps))
           (sym el) added)
@@ -157,7 +157,7 @@ module _ (old new : Numbers) (a : CostArc) (total : ℤ) (s : AreSound old) (h :
     (e : total ≡ old.total +ℤ a.cap) (f : FitsSigned w64 total) (fk : FitsSigned w64 a.cost) where
   -- numbers to which the arc was added mean one more arc
   pub taken_same : IsGrown old a new
-      → SameCurve (told One new.units new.cost new.steps) (told One old.units old.cost old.steps ++ a ∷ [])
+      → SameCurve (listed One new.units new.cost new.steps) (listed One old.units old.cost old.steps ++ a ∷ [])
   taken_same g = grown_same old.units old.cost old.total old.steps a total s h e f fk new.units new.cost new.total new.steps g.units g.cost (g.total ∙ sym e) g.steps
 
   -- the numbers are valid, whether the arc was added or they have not changed
@@ -168,9 +168,9 @@ module _ (old new : Numbers) (a : CostArc) (total : ℤ) (s : AreSound old) (h :
 
 -- the total capacity with one more arc
 pushed : (units cost total : ℤ) (steps : List (ℤ × ℤ)) (a : CostArc) → IsSound units cost total steps
-    → cost_cap (told One units cost steps ++ a ∷ []) ≡ total +ℤ a.cap
+    → cost_cap (listed One units cost steps ++ a ∷ []) ≡ total +ℤ a.cap
 pushed units cost total steps a s =
-    let e = cost_kind.capacity_append (told One units cost steps) (a ∷ []) in
+    let e = cost_kind.capacity_append (listed One units cost steps) (a ∷ []) in
     let f = sound_cap units cost total steps s One in
     omega (arith, ints)
 
@@ -181,7 +181,7 @@ two_are a b f g = rw (to_z-of_z w64 a f, to_z-of_z w64 b g) refl
 pub too_much : (units cost total : ℤ) (steps : List (ℤ × ℤ)) (a : CostArc) → IsSound units cost total steps
     → IsCostArc a → FitsSigned w64 total → FitsSigned w64 a.cap
     → (FitsSigned w64 (to_z w64 (of_z w64 total) +ℤ to_z w64 (of_z w64 a.cap)) → ⊥)
-    → pos (2 ^ 63 - 1) <ℤ cost_cap (told One units cost steps ++ a ∷ [])
+    → pos (2 ^ 63 - 1) <ℤ cost_cap (listed One units cost steps ++ a ∷ [])
 too_much units cost total steps a s h f g n =
     let whole = s.whole in
     let left = steps_some steps s.rising in
@@ -198,7 +198,7 @@ too_much units cost total steps a s h f g n =
 pub not_too_much : (units cost total : ℤ) (steps : List (ℤ × ℤ)) (a : CostArc) → IsSound units cost total steps
     → FitsSigned w64 total → FitsSigned w64 a.cap
     → FitsSigned w64 (to_z w64 (of_z w64 total) +ℤ to_z w64 (of_z w64 a.cap))
-    → pos (2 ^ 63 - 1) <ℤ cost_cap (told One units cost steps ++ a ∷ []) → ⊥
+    → pos (2 ^ 63 - 1) <ℤ cost_cap (listed One units cost steps ++ a ∷ []) → ⊥
 not_too_much units cost total steps a s f g fits n =
     let e = pushed units cost total steps a s in
     let m = most (total +ℤ a.cap) (subst (FitsSigned w64) (two_are total a.cap f g) fits) in

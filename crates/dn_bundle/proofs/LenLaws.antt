@@ -9,7 +9,7 @@ use Rattle.dn_arc.specs.declared.arc.CostArc.{CostArc}
 use Rattle.dn_arc.specs.declared.arc.Form.TheVariants.{Two}
 use Rattle.dn_arc.specs.Canonical.{AreRising}
 use Rattle.dn_arc.specs.State.Steps.{has_step}
-use Rattle.dn_arc.specs.State.CurveTold.{fixed_arc, step_arc, fixed_arcs, join_arc, join_arcs, told, IsSound}
+use Rattle.dn_arc.specs.State.CurveListed.{fixed_arc, step_arc, fixed_arcs, join_arc, join_arcs, listed, IsSound}
 use Rattle.dn_arc.proofs.FormsLaws.{AreAbove, above_lower}
 use Rattle.dn_arc.proofs.StepArcsLaws.{free_arcs}
 use Rattle.dn_arc.proofs.JoinsLaws.{joined_rising}
@@ -71,7 +71,7 @@ module _ (units cost total : ℤ) (steps : List (ℤ × ℤ)) (s : IsSound units
   steps_len = length-map steps step_arc
 
   pub len_with_one : (u c : ℤ) (more : ℕ) → fixed_arc u c ∷ [] ≡ fixed_arcs units cost
-      → more ≡ one_unless (has_step steps c) → len + more ≡ length (told Two units cost steps)
+      → more ≡ one_unless (has_step steps c) → len + more ≡ length (listed Two units cost steps)
   len_with_one u c more e m =
       let n = count_join (fixed_arc u c) (map step_arc steps) (free_arcs steps s.rising).rising in
       let h : one_unless (has_arc (map step_arc steps) c) ≡ one_unless (has_step steps c) =
@@ -82,7 +82,7 @@ module _ (units cost total : ℤ) (steps : List (ℤ × ℤ)) (s : IsSound units
 
   pub len_with_two : (u c v : ℤ) (more next : ℕ) → fixed_arc u c ∷ fixed_arc v (c +ℤ pos 1) ∷ [] ≡ fixed_arcs units cost
       → more ≡ one_unless (has_step steps c) → next ≡ one_unless (has_step steps (c +ℤ pos 1))
-      → (len + more) + next ≡ length (told Two units cost steps)
+      → (len + more) + next ≡ length (listed Two units cost steps)
   len_with_two u c v more next e m w =
       let free = map step_arc steps in
       let a = fixed_arc u c in

@@ -11,7 +11,7 @@ use Rattle.dn_arc.specs.Meanings.{SameCurve}
 use Rattle.dn_arc.specs.Splits.{LeastCost}
 use Rattle.dn_arc.specs.Differences.{IsCostOf, IsGap}
 use Rattle.dn_arc.specs.State.Steps.{AreSteps}
-use Rattle.dn_arc.specs.State.CurveTold.{told, IsSound}
+use Rattle.dn_arc.specs.State.CurveListed.{listed, IsSound}
 use Rattle.dn_bundle.specs.State.Gaps.{AreWalks, unit_cost, gap_next, first_gap}
 use Rattle.dn_arc.proofs.ProductsLaws.{mul_sub}
 use Rattle.dn_arc.proofs.CurvesLaws.{curve_meaning}
@@ -287,22 +287,22 @@ found amount cost (l ∷ left) (r ∷ right) sl sr =
 
 -- the costs of a curve, by its breakpoints
 cost_of_at : (units cost total : ℤ) (steps : List (ℤ × ℤ)) → IsSound units cost total steps → (x : ℤ) (o : Option ℤ)
-    → IsCostAt units cost steps x o → IsCostOf (told One units cost steps) x o
+    → IsCostAt units cost steps x o → IsCostOf (listed One units cost steps) x o
 cost_of_at units cost total steps s x None c = λ k l. c k (least_at units cost total steps s x k l)
 cost_of_at units cost total steps s x (Some k) c = at_least units cost total steps s x k c
 
 module _ (units cost total : ℤ) (steps : List (ℤ × ℤ)) (s : IsSound units cost total steps) where
-  at_units : LeastCost (told One units cost steps) units cost
+  at_units : LeastCost (listed One units cost steps) units cost
   at_units = at_least units cost total steps s units cost (at_start units cost steps s.rising)
 
-  below_units : (x k : ℤ) → x <ℤ units → LeastCost (told One units cost steps) x k → ⊥
+  below_units : (x k : ℤ) → x <ℤ units → LeastCost (listed One units cost steps) x k → ⊥
   below_units x k h l = too_little units cost steps x k h (least_at units cost total steps s x k l)
 
 -- the gap between two curves
 module _ (units cost total : ℤ) (steps : List (ℤ × ℤ)) (s : IsSound units cost total steps) (units' cost' total' : ℤ)
     (steps' : List (ℤ × ℤ)) (s' : IsSound units' cost' total' steps') where
   pub left_gap : units <ℤ units'
-      → IsGap (told One units cost steps) (told One units' cost' steps')
+      → IsGap (listed One units cost steps) (listed One units' cost' steps')
       (record { amount = units; left = Some cost; right = None })
   left_gap h = record {
     left = at_units units cost total steps s;
@@ -316,7 +316,7 @@ module _ (units cost total : ℤ) (steps : List (ℤ × ℤ)) (s : IsSound units
   }
 
   pub right_gap : units' <ℤ units
-      → IsGap (told One units cost steps) (told One units' cost' steps')
+      → IsGap (listed One units cost steps) (listed One units' cost' steps')
       (record { amount = units'; left = None; right = Some cost' })
   right_gap h = record {
     left = λ k l. below_units units cost total steps s units' k h l;
@@ -345,12 +345,12 @@ module _ (units cost total : ℤ) (steps : List (ℤ × ℤ)) (s : IsSound units
       }
 
   pub cost_gap : units ≡ units' → (cost ≡ cost' → ⊥)
-      → IsGap (told One units cost steps) (told One units' cost' steps')
+      → IsGap (listed One units cost steps) (listed One units' cost' steps')
       (record { amount = units; left = Some cost; right = Some cost' })
   cost_gap e n = record {
     left = at_units units cost total steps s;
     right =
-        subst (λ z. LeastCost (told One units' cost' steps') z cost') (sym e) (at_units units' cost' total' steps' s');
+        subst (λ z. LeastCost (listed One units' cost' steps') z cost') (sym e) (at_units units' cost' total' steps' s');
     differ = λ f. let g = ap (λ o. unwrap_or o (pos 0)) f in n g;
     same_below =
         λ x k lt. (
@@ -361,15 +361,15 @@ module _ (units cost total : ℤ) (steps : List (ℤ × ℤ)) (s : IsSound units
 
 abbrev pub Parts : ℤ → ℤ → List (ℤ × ℤ) → ℤ → ℤ → List (ℤ × ℤ) → Option Gap → Type 0
 Parts units cost steps units' cost' steps' o =
-    MatchOption o (SameCurve (told One units cost steps) (told One units' cost' steps'))
-    (IsGap (told One units cost steps) (told One units' cost' steps'))
+    MatchOption o (SameCurve (listed One units cost steps) (listed One units' cost' steps'))
+    (IsGap (listed One units cost steps) (listed One units' cost' steps'))
 
 module _ (units cost total total' : ℤ) (steps steps' : List (ℤ × ℤ)) (s : IsSound units cost total steps)
     (s' : IsSound units cost total' steps') where
   parts_by : (o : Option Gap) → MatchOption o (steps ≡ steps') (IsFirstGap units cost steps steps')
       → Parts units cost steps units cost steps' o
   parts_by None e =
-      subst (λ z. SameCurve (told One units cost steps) (told One units cost z)) e (curve_meaning.same_refl _)
+      subst (λ z. SameCurve (listed One units cost steps) (listed One units cost z)) e (curve_meaning.same_refl _)
   parts_by (Some g) f = record {
     left = cost_of_at units cost total steps s g.amount g.left f.left_is;
     right = cost_of_at units cost total' steps' s' g.amount g.right f.right_is;
@@ -406,7 +406,7 @@ none_sound = record {
 -- the gap between a curve and the curve of no arcs
 module _ (units cost total : ℤ) (steps : List (ℤ × ℤ)) (s : IsSound units cost total steps) where
   pub forced_gap : (units ≡ pos 0 → ⊥)
-      → IsGap (told One units cost steps) [] (record { amount = pos 0; left = None; right = Some (pos 0) })
+      → IsGap (listed One units cost steps) [] (record { amount = pos 0; left = None; right = Some (pos 0) })
   forced_gap n = let some = s.some in
       right_gap units cost total steps s (pos 0) (pos 0) (pos 0) [] none_sound
       (by_lt_z (pos 0) units (λ lt. lt) (λ le. absurd (n (omega (arith, ints)))))
@@ -417,22 +417,22 @@ module _ (units cost total : ℤ) (steps : List (ℤ × ℤ)) (s : IsSound units
 
 -- a curve without forced units and without breakpoints means the same as no arcs
 pub no_gap : (units cost total : ℤ) (steps : List (ℤ × ℤ)) → IsSound units cost total steps → units ≡ pos 0
-    → None ≡ slice_get steps 0 → SameCurve (told One units cost steps) []
+    → None ≡ slice_get steps 0 → SameCurve (listed One units cost steps) []
 no_gap units cost total [] s e h = free_parts units cost total [] s e
 no_gap units cost total (step ∷ rest) s e h = cc
 
 pub free_gap : (units cost total : ℤ) (steps : List (ℤ × ℤ)) → IsSound units cost total steps → units ≡ pos 0
     → (step : ℤ × ℤ) → Some step ≡ slice_get steps 0
-    → IsGap (told One units cost steps) [] (record { amount = pos 1; left = Some step.0; right = None })
+    → IsGap (listed One units cost steps) [] (record { amount = pos 1; left = Some step.0; right = None })
 free_gap units cost total [] s e step h = cc
 free_gap units cost total (first ∷ rest) s e step h =
     let same = ap (λ o. unwrap_or o (pos 0, pos 0)) h in
     let one : units +ℤ pos 1 ≡ pos 1 = omega (arith, ints) in
     let z = none_is units cost total (first ∷ rest) s e in
     let c : cost +ℤ first.0 ≡ first.0 = omega (arith, ints) in
-    subst (λ z. IsGap (told One units cost (first ∷ rest)) [] (record { amount = pos 1; left = Some z; right = None }))
+    subst (λ z. IsGap (listed One units cost (first ∷ rest)) [] (record { amount = pos 1; left = Some z; right = None }))
     (c ∙ ap (λ p. p.0) (sym same))
     (subst
-    (λ z. IsGap (told One units cost (first ∷ rest)) []
+    (λ z. IsGap (listed One units cost (first ∷ rest)) []
     (record { amount = z; left = Some (cost +ℤ first.0); right = None })) one
     (free_parts units cost total (first ∷ rest) s e))

@@ -12,11 +12,11 @@ use Rattle.dn_arc.specs.Fillings.{forced_units, forced_cost}
 use Rattle.dn_arc.specs.State.Fillings.{room, free_room, fill_cost}
 use Rattle.dn_arc.specs.State.Means.{IsMean}
 use Rattle.dn_arc.specs.State.Steps.{AreSteps, steps_room}
-use Rattle.dn_arc.specs.State.CurveTold.{step_arc, told, IsSound}
+use Rattle.dn_arc.specs.State.CurveListed.{step_arc, listed, IsSound}
 use Rattle.dn_arc.proofs.FillsLaws.{fill_low, fill_high, fill_zero, filling_of_least, least_of_filling}
 use Rattle.dn_arc.proofs.FormsLaws.{free_ordered, form_one_ordered}
 use Rattle.dn_arc.proofs.StepArcsLaws.{free_arcs, steps_some, steps_free_room}
-use Rattle.dn_arc.proofs.ToldLaws.{told_one, told_units, told_cost, told_apart}
+use Rattle.dn_arc.proofs.ListedLaws.{listed_one, listed_units, listed_cost, listed_apart}
 use Rattle.dn_arc.proofs.SoundLaws.{none_is}
 use Rattle.dn_arc.proofs.MeansLaws.{more_mean, fits_some}
 use Rattle.dn_bundle.proofs.Cost128Laws.{more_fits}
@@ -37,43 +37,43 @@ steps_zero steps s = fill_zero (map step_arc steps) (free_ordered (map step_arc 
 
 module _ (units cost total : ℤ) (steps : List (ℤ × ℤ)) (s : IsSound units cost total steps) where
   same_cost : (x : ℤ) → units ≤ℤ x
-      → forced_cost (told One units cost steps) +ℤ fill_cost (told One units cost steps)
-      (x -ℤ forced_units (told One units cost steps)) ≡ cost +ℤ steps_cost steps (x -ℤ units)
+      → forced_cost (listed One units cost steps) +ℤ fill_cost (listed One units cost steps)
+      (x -ℤ forced_units (listed One units cost steps)) ≡ cost +ℤ steps_cost steps (x -ℤ units)
   same_cost x h =
       let n = none_is units cost total steps s in
-      let a = told_apart units cost steps s.some n s.rising in
-      ap (λ z. z +ℤ fill_cost (told One units cost steps) (x -ℤ forced_units (told One units cost steps)))
-      (told_cost units cost steps s.some n s.rising)
-      ∙ ap (λ z. cost +ℤ fill_cost (told One units cost steps) (x -ℤ z)) (told_units units cost steps s.some n s.rising)
+      let a = listed_apart units cost steps s.some n s.rising in
+      ap (λ z. z +ℤ fill_cost (listed One units cost steps) (x -ℤ forced_units (listed One units cost steps)))
+      (listed_cost units cost steps s.some n s.rising)
+      ∙ ap (λ z. cost +ℤ fill_cost (listed One units cost steps) (x -ℤ z)) (listed_units units cost steps s.some n s.rising)
       ∙ ap (λ z. cost +ℤ z) (a.fill (x -ℤ units) (omega (arith, ints)))
 
-  same_room : free_room (told One units cost steps) ≡ steps_room steps
-  same_room = (told_apart units cost steps s.some (none_is units cost total steps s) s.rising).room
+  same_room : free_room (listed One units cost steps) ≡ steps_room steps
+  same_room = (listed_apart units cost steps s.some (none_is units cost total steps s) s.rising).room
       ∙ steps_free_room steps
 
   -- the least costs of a curve, by its breakpoints
-  pub least_at : (x k : ℤ) → LeastCost (told One units cost steps) x k → IsAt units cost steps x k
+  pub least_at : (x k : ℤ) → LeastCost (listed One units cost steps) x k → IsAt units cost steps x k
   least_at x k l =
       let n = none_is units cost total steps s in
       let f =
-      filling_of_least (told One units cost steps) x k
-      (form_one_ordered _ (told_one units cost steps s.some n s.rising)) l in
-      let u = told_units units cost steps s.some n s.rising in
+      filling_of_least (listed One units cost steps) x k
+      (form_one_ordered _ (listed_one units cost steps s.some n s.rising)) l in
+      let u = listed_units units cost steps s.some n s.rising in
       let r = same_room in
       let low = f.low in
       let high = f.high in
       let under : units ≤ℤ x = omega (arith, ints) in
       record { low = under; high = omega (arith, ints); is = f.cost ∙ same_cost x under }
 
-  pub at_least : (x k : ℤ) → IsAt units cost steps x k → LeastCost (told One units cost steps) x k
+  pub at_least : (x k : ℤ) → IsAt units cost steps x k → LeastCost (listed One units cost steps) x k
   at_least x k p =
       let n = none_is units cost total steps s in
-      let u = told_units units cost steps s.some n s.rising in
+      let u = listed_units units cost steps s.some n s.rising in
       let r = same_room in
       let low = p.low in
       let high = p.high in
-      least_of_filling (told One units cost steps) x k
-      (form_one_ordered _ (told_one units cost steps s.some n s.rising))
+      least_of_filling (listed One units cost steps) x k
+      (form_one_ordered _ (listed_one units cost steps s.some n s.rising))
       (record { low = omega (arith, ints); high = omega (arith, ints); cost = p.is ∙ sym (same_cost x p.low) })
 
 -- the costs beyond the first breakpoint

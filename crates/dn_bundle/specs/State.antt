@@ -1,3 +1,3 @@
 pub mod Shapes
-pub mod Tellings
+pub mod Listings
 pub mod Gaps

@@ -30,7 +30,7 @@ pub trait Bundle: Sized + Drop {
 
     /// Returns the bundle of no arcs.
     fn empty(alloc: Global) -> Self
-        ensures { (form : Form) → bundle.told form result ≡ [] };
+        ensures { (form : Form) → bundle.listed form result ≡ [] };
 
     /// Whether a problem may have this arc.
     fn is_arc(arc: &Self::Arc) -> bool
@@ -67,27 +67,27 @@ pub trait Bundle: Sized + Drop {
 
     /// Returns how many canonical arcs the bundle lists in this form.
     fn canon_len(&self, form: Form) -> u64
-        ensures { result ≡ length (bundle.told form self.now) };
+        ensures { result ≡ length (bundle.listed form self.now) };
 
     /// Returns the canonical arc at `i`, counted from 0, or `None` if `i` is not below `canon_len`.
     fn canon_arc(&self, i: u64, form: Form) -> Option<Self::Arc>
-        ensures { result ≡ slice_get (bundle.told form self.now) i };
+        ensures { result ≡ slice_get (bundle.listed form self.now) i };
 
     /// Returns the canonical arc after this one, or `None` after the last, so that a walk can continue from any arc.
     fn canon_after(&self, arc: &Self::Arc, form: Form) -> Option<Self::Arc>
-        ensures { IsAfter (bundle.told form self.now) arc.now result };
+        ensures { IsAfter (bundle.listed form self.now) arc.now result };
 
     /// The laws of the kind of arcs.
     ghost laws: { IsKind bundle.kind };
 
     /// The listed arcs are canonical.
-    ghost canonical: { (form : Form) (b : Self) → bundle.kind.IsCanon form (bundle.told form b) };
+    ghost canonical: { (form : Form) (b : Self) → bundle.kind.IsCanon form (bundle.listed form b) };
 
     /// The arcs listed in either form mean the same.
-    ghost same_forms: { (b : Self) → bundle.kind.Same (bundle.told Form.Two b) (meant bundle b) };
+    ghost same_forms: { (b : Self) → bundle.kind.Same (bundle.listed Form.Two b) (meant bundle b) };
 
     /// The numbers of the listed arcs fit 64 signed bits.
-    ghost fit: { (form : Form) (b : Self) → NumbersFit bundle.kind (bundle.told form b) };
+    ghost fit: { (form : Form) (b : Self) → NumbersFit bundle.kind (bundle.listed form b) };
 
     /// The numbers of an arc are those of its line.
     ghost same_numbers: { (a : Self.Arc) → bundle.kind.numbers a ≡ Self.Arc.numbers a };

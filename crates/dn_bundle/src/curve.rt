@@ -7,14 +7,14 @@ ghost use Rattle.dn_arc.specs.Canonical.{IsCostArc, has_low};
 ghost use Rattle.dn_arc.specs.Fillings.{forced_units, forced_cost};
 ghost use Rattle.dn_arc.specs.Entries.{free_costs};
 ghost use Rattle.dn_arc.specs.Differences.{IsCostOf};
-ghost use Rattle.dn_arc.specs.State.CurveTold.{told, fixed_arcs, step_arc, fixed_list, HasNext, is_free};
+ghost use Rattle.dn_arc.specs.State.CurveListed.{listed, fixed_arcs, step_arc, fixed_list, HasNext, is_free};
 ghost use Rattle.dn_bundle.specs.State.Gaps.{IsGapOf};
 ghost use Rattle.dn_bundle.specs.State.Shapes.{numbers_of, AreSound};
 ghost use Rattle.dn_arc.proofs.SoundLaws.{IsSound-prop, sound_canonical, sound_same, sound_fit};
 ghost use Rattle.dn_arc.proofs.CostKindLaws.{cost_kind};
 ghost use Rattle.dn_arc.specs.declared.arc.Form.{Form};
 ghost use Rattle.dn_arc.specs.declared.difference.How.TheVariants.{Costs};
-ghost use Rattle.dn_bundle.specs.State.Tellings.{curve_arcs, form_one_arcs};
+ghost use Rattle.dn_bundle.specs.State.Listings.{curve_arcs, form_one_arcs};
 
 use crate::bundle::{Bundle, BundleFault};
 use crate::cost128::{floor, more_cost};
@@ -137,7 +137,7 @@ impl Curve {
     // Returns the gap between this curve and the curve of no arcs, on the right. This is separate from `gap` because an
     // empty curve needs an allocator.
     fn gap_to_none(&self) -> Option<Gap>
-        ensures { IsGapOf (told Form.One self.now.units self.now.cost self.now.steps) [] result }
+        ensures { IsGapOf (listed Form.One self.now.units self.now.cost self.now.steps) [] result }
     {
         if self.units() != 0 {
             return Some(Gap {
@@ -156,7 +156,7 @@ impl Curve {
 
     // Returns the gap between the curve of no arcs, on the left, and this curve.
     fn gap_from_none(&self) -> Option<Gap>
-        ensures { IsGapOf [] (told Form.One self.now.units self.now.cost self.now.steps) result }
+        ensures { IsGapOf [] (listed Form.One self.now.units self.now.cost self.now.steps) result }
     {
         let gap = self.gap_to_none()?;
         Some(Gap {
@@ -192,8 +192,8 @@ impl Curve {
     fn grow(&mut self, arc: CostArc, total: i64) -> Result<(), BundleFault>
         requires arc { IsCostArc arc }
         requires total { total ≡ self.old.total +ℤ arc.cap }
-        ensures ok { OnOk result (SameCurve (told Form.One self.new.units self.new.cost self.new.steps)
-            (told Form.One self.old.units self.old.cost self.old.steps ++ arc ∷ [])) }
+        ensures ok { OnOk result (SameCurve (listed Form.One self.new.units self.new.cost self.new.steps)
+            (listed Form.One self.old.units self.old.cost self.old.steps ++ arc ∷ [])) }
         ensures err { OnErr result (self.new ≡ self.old) }
         ensures memory { IfErr result (λ e. e ≡ BundleFault.Memory) }
     {
@@ -217,7 +217,7 @@ fn by_costs(gap: Option<Gap>) -> Option<How>
 impl Bundle for Curve {
     type Arc = CostArc;
 
-    ghost bundle = { record { kind = costs; told = curve_arcs; wants_memory = true } };
+    ghost bundle = { record { kind = costs; listed = curve_arcs; wants_memory = true } };
 
     ghost laws = { cost_kind };
 

@@ -5,7 +5,7 @@ ghost use Rattle.std.specs.Option.{ForSome, option_copied, option_and_then};
 ghost use Rattle.std.proofs.Props.{props};
 ghost use Rattle.dn_arc.specs.Kinds.{lengths};
 ghost use Rattle.dn_arc.specs.Lengths.{LeastLength};
-ghost use Rattle.dn_arc.specs.State.Lengths.{length_told};
+ghost use Rattle.dn_arc.specs.State.Lengths.{length_listed};
 ghost use Rattle.dn_arc.proofs.LengthKindLaws.{length_kind, length_canonical, length_fit};
 
 use crate::bundle::{Bundle, BundleFault};
@@ -22,8 +22,8 @@ pub struct Least {
 impl Least {
     /// Returns the least length, or `None` if there is no arc.
     pub fn get(&self) -> Option<i64>
-        ensures { MatchOption result (length_told self.now.length ≡ [])
-            (LeastLength (length_told self.now.length)) }
+        ensures { MatchOption result (length_listed self.now.length ≡ [])
+            (LeastLength (length_listed self.now.length)) }
     {
         self.length
     }
@@ -42,13 +42,13 @@ fn length_of(bundle: Option<&Least>) -> Option<i64>
 impl Bundle for Least {
     type Arc = LengthArc;
 
-    ghost bundle = { record { kind = lengths; told = λ form b. length_told b.length; wants_memory = false } };
+    ghost bundle = { record { kind = lengths; listed = λ form b. length_listed b.length; wants_memory = false } };
 
     ghost laws = { length_kind };
 
     ghost canonical = { λ form b. length_canonical b.length };
 
-    ghost same_forms = { λ b. length_kind.meaning.same_refl (length_told b.length) };
+    ghost same_forms = { λ b. length_kind.meaning.same_refl (length_listed b.length) };
 
     ghost fit = { λ form b. length_fit b.length b.fits };
 

@@ -124,7 +124,7 @@ impl Steps {
     }
 
     // Adds capacity at a cost. After an error, nothing has changed.
-    fn put(&mut self, step: (i64, i64)) -> Result<(), AllocError>
+    fn insert(&mut self, step: (i64, i64)) -> Result<(), AllocError>
         requires some { pos 1 ≤ℤ step.1 }
         requires steps { AreSteps self.old }
         requires fits { (steps_room self.old +ℤ step.1) ≤ℤ pos (2 ^ 63 - 1) }
@@ -155,7 +155,7 @@ impl Steps {
         ensures ok { OnOk result (self.new ≡ add_step self.old step) }
         ensures err { OnErr result (self.new ≡ self.old) }
     {
-        if 0 < step.1 { self.put(step) } else { Ok(()) }
+        if 0 < step.1 { self.insert(step) } else { Ok(()) }
     }
 
     /// Iterates over the breakpoints by ascending cost.

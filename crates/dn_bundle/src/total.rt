@@ -3,7 +3,7 @@ ghost use Rattle.std.specs.Prelude.{◌≡◌, ◌-◌, ◌^◌, pos, ◌≤ℤ�
 ghost use Rattle.std.specs.Option.{option_copied, option_map, unwrap_or};
 ghost use Rattle.dn_arc.specs.Kinds.{capacities};
 ghost use Rattle.dn_arc.specs.Capacities.{total_cap};
-ghost use Rattle.dn_arc.specs.State.Capacities.{cap_told};
+ghost use Rattle.dn_arc.specs.State.Capacities.{cap_listed};
 ghost use Rattle.dn_arc.proofs.TotalKindLaws.{total_kind, total_canonical, total_fit};
 
 use crate::bundle::{Bundle, BundleFault};
@@ -21,7 +21,7 @@ pub struct Total {
 impl Total {
     /// Returns the total capacity.
     pub fn get(&self) -> i64
-        ensures { result ≡ total_cap (cap_told self.now.total) }
+        ensures { result ≡ total_cap (cap_listed self.now.total) }
     {
         self.total
     }
@@ -40,13 +40,13 @@ fn total_of(bundle: Option<&Total>) -> i64
 impl Bundle for Total {
     type Arc = CapArc;
 
-    ghost bundle = { record { kind = capacities; told = λ form b. cap_told b.total; wants_memory = false } };
+    ghost bundle = { record { kind = capacities; listed = λ form b. cap_listed b.total; wants_memory = false } };
 
     ghost laws = { total_kind };
 
     ghost canonical = { λ form b. total_canonical b.total };
 
-    ghost same_forms = { λ b. total_kind.meaning.same_refl (cap_told b.total) };
+    ghost same_forms = { λ b. total_kind.meaning.same_refl (cap_listed b.total) };
 
     ghost fit = { λ form b. total_fit b.total b.some b.most };
 

@@ -9,27 +9,27 @@ use Rattle.dn_arc.specs.declared.arc.CostArc.{CostArc}
 use Rattle.dn_arc.specs.State.Curves.{CurveNumbers}
 use Rattle.dn_bundle.specs.declared.least.Least.{Least}
 use Rattle.dn_bundle.specs.declared.total.Total.{Total}
-use Rattle.dn_arc.specs.State.Lengths.{length_told}
-use Rattle.dn_arc.specs.State.Capacities.{cap_told}
-use Rattle.dn_arc.specs.State.CurveTold.{told}
-use Rattle.dn_instance.specs.State.Helds.{Bundles, Contents, Holding, IsHeld, Shows, OfMin, OfMax, OfSp, OfSs, OfP2p, OfCo}
+use Rattle.dn_arc.specs.State.Lengths.{length_listed}
+use Rattle.dn_arc.specs.State.Capacities.{cap_listed}
+use Rattle.dn_arc.specs.State.CurveListed.{listed}
+use Rattle.dn_instance.specs.State.Helds.{Bundles, Contents, Parsed, IsHeld, Shows, OfMin, OfMax, OfSp, OfSs, OfP2p, OfCo}
 use Rattle.dn_instance.specs.Instances.{Graph, Instance, MinCostFlow, MaxFlow, ShortestPaths, Sources, Queries, Coordinates, nodes_of, size_of}
-use Rattle.dn_table.specs.State.Tables.{TableTells}
+use Rattle.dn_table.specs.State.Tables.{TableLists}
 use Rattle.dn_instance.specs.Validity.{IsValid, IsValidGraph, AreSupplies, AreTerminals}
 use Rattle.dn_instance.specs.declared.refusal.Refusal.{Refusal}
 use Rattle.dn_sink.specs.declared.sink.SinkFault.{SinkFault}
 use Rattle.dn_canon.specs.Prints.{print}
 use Rattle.dn_sink.specs.Puts.{Puts}
 use Rattle.dn_canon.specs.State.CanonInstances.{IsCanonGraphOf}
-use Rattle.dn_canon.specs.State.ToldArcs.{told_arcs, told_graph}
+use Rattle.dn_canon.specs.State.ListedArcs.{listed_arcs, listed_graph}
 use Rattle.dn_canon.specs.State.Writes.{Writes, WritesCanon, written_as}
-use Rattle.dn_canon.proofs.ToldLaws.{min_canon, max_canon, sp_canon, companion_canon}
+use Rattle.dn_canon.proofs.ListedLaws.{min_canon, max_canon, sp_canon, companion_canon}
 use Rattle.dn_sink.specs.Sinks.{SinkWords}
 
 -- the arcs that a table lists make the canonical graph of each graph that the table represents
 abbrev Makes : {B Arc : Type 0} → Form → ArcKind Arc → (Form → B → List Arc) → (B → List Arc) → ℤ → Bundles B → Type 0
-Makes {B} {Arc} form kind tells one nodes table = (G : Graph Arc) → G.nodes ≡ nodes → TableTells kind one table G.arcs
-    → IsValidGraph kind G → IsCanonGraphOf kind form (told_graph (tells form) nodes table) G
+Makes {B} {Arc} form kind lists one nodes table = (G : Graph Arc) → G.nodes ≡ nodes → TableLists kind one table G.arcs
+    → IsValidGraph kind G → IsCanonGraphOf kind form (listed_graph (lists form) nodes table) G
 
 module _ {S : Type 0} (sink : SinkWords S) (old new : S) (form : Form) where
   -- the outcome of putting a list is the outcome of writing its text
@@ -85,37 +85,37 @@ module _ {S : Type 0} (sink : SinkWords S) (old new : S) (form : Form) where
           )
       by_kind _ s v = absurd s
 
-  pub lengths_written : (tells : Form → Least → List LengthArc) (nodes : ℤ) (table : Bundles Least) (h : Holding)
+  pub lengths_written : (lists : Form → Least → List LengthArc) (nodes : ℤ) (table : Bundles Least) (h : Parsed)
       (I : Instance) (result : Result (Unit {0}) Refusal) → OfSp table ≡ h.contents → nodes ≡ h.nodes → IsHeld h I
       → IsValid I
-      → Makes form lengths tells (λ (b : Least). length_told b.length) nodes table
-      → Writes sink old new (print (ShortestPaths (told_graph (tells form) nodes table)))
-      (length (told_arcs (tells form) table)) result
+      → Makes form lengths lists (λ (b : Least). length_listed b.length) nodes table
+      → Writes sink old new (print (ShortestPaths (listed_graph (lists form) nodes table)))
+      (length (listed_arcs (lists form) table)) result
       → WritesCanon sink old new form I result
-  lengths_written tells nodes table h I result e n held valid makes w =
+  lengths_written lists nodes table h I result e n held valid makes w =
       by_kind I (subst (λ x. Shows x I) (sym e) held.shows) (n ∙ held.nodes_are) valid
     where
       H : Graph LengthArc
-      H = told_graph (tells form) nodes table
+      H = listed_graph (lists form) nodes table
 
       by_kind : (I : Instance) → Shows (OfSp table) I → nodes ≡ nodes_of I → IsValid I
           → WritesCanon sink old new form I result
       by_kind (ShortestPaths G) s m v =
-          (ShortestPaths H, sp_canon form G H (makes G (sym m) s.tells_them v), w)
+          (ShortestPaths H, sp_canon form G H (makes G (sym m) s.lists_them v), w)
       by_kind _ s m v = absurd s
 
-  pub capacities_written : (tells : Form → Total → List CapArc) (nodes a b : ℤ) (table : Bundles Total) (h : Holding)
+  pub capacities_written : (lists : Form → Total → List CapArc) (nodes a b : ℤ) (table : Bundles Total) (h : Parsed)
       (I : Instance) (result : Result (Unit {0}) Refusal) → OfMax a b table ≡ h.contents → nodes ≡ h.nodes → IsHeld h I
       → IsValid I
-      → Makes form capacities tells (λ (b : Total). cap_told b.total) nodes table
-      → Writes sink old new (print (MaxFlow a b (told_graph (tells form) nodes table)))
-      (length (told_arcs (tells form) table)) result
+      → Makes form capacities lists (λ (b : Total). cap_listed b.total) nodes table
+      → Writes sink old new (print (MaxFlow a b (listed_graph (lists form) nodes table)))
+      (length (listed_arcs (lists form) table)) result
       → WritesCanon sink old new form I result
-  capacities_written tells nodes a b table h I result e n held valid makes w =
+  capacities_written lists nodes a b table h I result e n held valid makes w =
       by_kind I (subst (λ x. Shows x I) (sym e) held.shows) (n ∙ held.nodes_are) valid
     where
       H : Graph CapArc
-      H = told_graph (tells form) nodes table
+      H = listed_graph (lists form) nodes table
 
       by_kind : (I : Instance) → Shows (OfMax a b table) I → nodes ≡ nodes_of I → IsValid I
           → WritesCanon sink old new form I result
@@ -124,31 +124,31 @@ module _ {S : Type 0} (sink : SinkWords S) (old new : S) (form : Form) where
           subst (λ k. AreTerminals k a b) (sym m)
           (subst (λ x. AreTerminals G.nodes x b) (sym sh.0)
           (subst (λ y. AreTerminals G.nodes s y) (sym sh.1) v.1)) in
-          let canon : IsCanonGraphOf capacities form H G = makes G (sym m) sh.2.tells_them v.0 in
+          let canon : IsCanonGraphOf capacities form H G = makes G (sym m) sh.2.lists_them v.0 in
           subst (λ x. WritesCanon sink old new form (MaxFlow x t G) result) sh.0
           (subst (λ y. WritesCanon sink old new form (MaxFlow a y G) result) sh.1
           (MaxFlow a b H, max_canon form a b G H canon ends, w))
       by_kind _ sh m v = absurd sh
 
-  pub costs_written : (tells : Form → CurveNumbers → List CostArc) (nodes : ℤ) (flows : List (ℤ × ℤ))
-      (table : Bundles CurveNumbers) (h : Holding) (I : Instance) (result : Result (Unit {0}) Refusal)
+  pub costs_written : (lists : Form → CurveNumbers → List CostArc) (nodes : ℤ) (flows : List (ℤ × ℤ))
+      (table : Bundles CurveNumbers) (h : Parsed) (I : Instance) (result : Result (Unit {0}) Refusal)
       → OfMin flows table ≡ h.contents → nodes ≡ h.nodes → IsHeld h I → IsValid I
-      → Makes form costs tells (λ (b : CurveNumbers). told One b.units b.cost b.steps) nodes table
-      → Writes sink old new (print (MinCostFlow flows (told_graph (tells form) nodes table)))
-      (length (told_arcs (tells form) table)) result
+      → Makes form costs lists (λ (b : CurveNumbers). listed One b.units b.cost b.steps) nodes table
+      → Writes sink old new (print (MinCostFlow flows (listed_graph (lists form) nodes table)))
+      (length (listed_arcs (lists form) table)) result
       → WritesCanon sink old new form I result
-  costs_written tells nodes flows table h I result e n held valid makes w =
+  costs_written lists nodes flows table h I result e n held valid makes w =
       by_kind I (subst (λ x. Shows x I) (sym e) held.shows) (n ∙ held.nodes_are) valid
     where
       H : Graph CostArc
-      H = told_graph (tells form) nodes table
+      H = listed_graph (lists form) nodes table
 
       by_kind : (I : Instance) → Shows (OfMin flows table) I → nodes ≡ nodes_of I → IsValid I
           → WritesCanon sink old new form I result
       by_kind (MinCostFlow supplies G) s m v =
           let are : AreSupplies nodes flows =
           subst (λ k. AreSupplies k flows) (sym m) (subst (AreSupplies G.nodes) (sym s.0) v.1) in
-          let canon : IsCanonGraphOf costs form H G = makes G (sym m) s.1.tells_them v.0 in
+          let canon : IsCanonGraphOf costs form H G = makes G (sym m) s.1.lists_them v.0 in
           subst (λ l. WritesCanon sink old new form (MinCostFlow l G) result) s.0
           (MinCostFlow flows H, min_canon form flows G H canon are, w)
       by_kind _ s m v = absurd s

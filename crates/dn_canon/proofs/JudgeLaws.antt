@@ -59,8 +59,8 @@ matcher_words =
     }
 
 -- what a comparing sink has taken determines the text and the bytes put
-told_apart : (t u put put' : List ℕ) → length t ∷ (t ++ put) ≡ length u ∷ (u ++ put') → (t ≡ u) × (put ≡ put')
-told_apart t u put put' e =
+listed_apart : (t u put put' : List ℕ) → length t ∷ (t ++ put) ≡ length u ∷ (u ++ put') → (t ≡ u) × (put ≡ put')
+listed_apart t u put put' e =
     let many : length t ≡ length u = ap (λ l. get_or l 0 0) e in
     let rest : t ++ put ≡ u ++ put' = ap (λ l. drop 1 l) e in (
       sym (take_at t put (length u) many) ∙ ap (λ l. take (length u) l) rest ∙ take_at u put' (length u) refl,
@@ -74,7 +74,7 @@ module _ (form : Form) (t : List ℕ) (I : Instance) (old new : Matched) (begins
   put_since put e =
       let from : taken_of old ≡ length t ∷ (t ++ []) =
       ap (λ l. length l ∷ (l ++ old.put)) begins ∙ ap (λ l. length t ∷ (t ++ l)) empty in
-      told_apart new.text t new.put put (e ∙ ap (λ l. l ++ put) (from ∙ ap (λ l. length t ∷ l) (append-nil t)))
+      listed_apart new.text t new.put put (e ∙ ap (λ l. l ++ put) (from ∙ ap (λ l. length t ∷ l) (append-nil t)))
 
   -- if the canonical text was put whole, the answer of the sink is right
   pub judged_whole : WritesCanon matcher_words old new form I (Ok tt) → (answer : Bool)

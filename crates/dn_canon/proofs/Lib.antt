@@ -12,7 +12,7 @@ pub mod TextLaws
 pub mod PutLaws
 pub mod LineLaws
 pub mod BlockLaws
-pub mod ToldLaws
+pub mod ListedLaws
 pub mod HeldLaws
 pub mod RunLaws
 pub mod JudgeLaws

@@ -11,7 +11,7 @@ use Rattle.dn_canon.specs.Prints.{word_row, graph_row, terminal_row, arc_row, gr
 use Rattle.dn_sink.specs.Rows.{Row, line_text, text_of}
 use Rattle.dn_sink.specs.Puts.{HasPut, PutsPrefix}
 use Rattle.dn_canon.proofs.BlockLaws.{pass_more, pass_stop, all_done}
-use Rattle.dn_canon.specs.State.ToldArcs.{placed, told_arcs}
+use Rattle.dn_canon.specs.State.ListedArcs.{placed, listed_arcs}
 use Rattle.dn_canon.specs.State.Writes.{node_rows}
 use Rattle.dn_canon.specs.declared.writer.NodeLines.{NodeLines}
 use Rattle.dn_canon.specs.declared.writer.NodeLines.TheVariants.{Terminals}
@@ -40,14 +40,14 @@ row_stop {K} {sink} {a} {b} {c} {X} {all} {line} row before left rest x e f h p 
     (subst (λ l. PutsPrefix sink b c (before ++ l)) f p)
 
 -- the arc lines of a table are those of its next bundle and then those of the other bundles
-pub bundle_text : {B Arc : Type 0} (kind : ArcKind Arc) (tells : B → List Arc) (left rest : List ((ℤ × ℤ) × B))
+pub bundle_text : {B Arc : Type 0} (kind : ArcKind Arc) (lists : B → List Arc) (left rest : List ((ℤ × ℤ) × B))
     (e : (ℤ × ℤ) × B) → left ≡ e ∷ rest
-    → text_of (map (arc_row kind) (told_arcs tells left)) ≡ text_of
-    (map (arc_row kind) (placed e.0 (tells e.1))) ++ text_of (map (arc_row kind) (told_arcs tells rest))
-bundle_text kind tells left rest e is =
-    ap (λ es. text_of (map (arc_row kind) (told_arcs tells es))) is
-    ∙ ap text_of (map-append (arc_row kind) (placed e.0 (tells e.1)) (told_arcs tells rest))
-    ∙ text-append (map (arc_row kind) (placed e.0 (tells e.1))) (map (arc_row kind) (told_arcs tells rest))
+    → text_of (map (arc_row kind) (listed_arcs lists left)) ≡ text_of
+    (map (arc_row kind) (placed e.0 (lists e.1))) ++ text_of (map (arc_row kind) (listed_arcs lists rest))
+bundle_text kind lists left rest e is =
+    ap (λ es. text_of (map (arc_row kind) (listed_arcs lists es))) is
+    ∙ ap text_of (map-append (arc_row kind) (placed e.0 (lists e.1)) (listed_arcs lists rest))
+    ∙ text-append (map (arc_row kind) (placed e.0 (lists e.1))) (map (arc_row kind) (listed_arcs lists rest))
 
 -- a position below the length has an element
 pub some_below : {X : Type 0} (xs : List X) (i : ℕ) (o : Option X) → i < length xs → o ≡ slice_get xs i

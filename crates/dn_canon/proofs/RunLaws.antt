@@ -1,7 +1,7 @@
 -- Lemmas on a run from a source to a sink.
 use Rattle.std.proofs.Common.{ℕ, List, Option, Some, None, Result, Ok, Err, IfSome}
 use Rattle.dn_arc.specs.declared.arc.Form.{Form}
-use Rattle.dn_instance.specs.State.Helds.{IsHeld, holding}
+use Rattle.dn_instance.specs.State.Helds.{IsHeld, parsed}
 use Rattle.dn_instance.specs.Instances.{Instance}
 use Rattle.dn_instance.specs.State.SourceReads.{SourceOutcome}
 use Rattle.dn_instance.specs.Validity.{IsValid}
@@ -16,7 +16,7 @@ use Rattle.dn_sink.specs.Sinks.{SinkWords}
 -- after a text was read, the outcome of the run is that of writing
 pub run_written : {S : Type 0} (sink : SinkWords S) (old new : S) (form : Form) (given rest : Option (List ℕ))
     (held : Held) (result : Result (Unit {0}) Refusal) → IfSome given (λ t. SourceOutcome t rest (Ok held))
-    → ((I : Instance) → IsValid I → IsHeld (holding held) I → WritesCanon sink old new form I result)
+    → ((I : Instance) → IsValid I → IsHeld (parsed held) I → WritesCanon sink old new form I result)
     → IfSome given (λ t. RunOutcome sink old new form t rest result)
 run_written sink old new form None rest held result o w = tt
 run_written sink old new form (Some t) rest held result o w =

@@ -3,6 +3,6 @@ pub mod CanonReadings
 pub mod PartCanons
 pub mod Lines
 pub mod Blocks
-pub mod ToldArcs
+pub mod ListedArcs
 pub mod Writes
 pub mod Runs

@@ -4,7 +4,7 @@ ghost use Rattle.std.specs.List.Sorted.{IsStrictlySortedBy};
 ghost use Rattle.std.specs.Map.{keys_of};
 ghost use Rattle.dn_instance.specs.Instances.{Graph, Sources, Queries, Coordinates};
 ghost use Rattle.dn_arc.specs.Pairs.{pair_cmp};
-ghost use Rattle.dn_table.specs.State.Tables.{Tells};
+ghost use Rattle.dn_table.specs.State.Tables.{Lists};
 ghost use Rattle.dn_instance.specs.Validity.{IsValidGraph};
 ghost use Rattle.dn_canon.specs.State.Blocks.{Passes};
 ghost use Rattle.dn_canon.specs.State.Lines.{AreShort};
@@ -12,7 +12,7 @@ ghost use Rattle.dn_canon.specs.Prints.{arc_row, supply_row, graph_rows, print};
 ghost use Rattle.dn_sink.specs.Rows.{text_of};
 ghost use Rattle.dn_sink.specs.Puts.{Puts};
 ghost use Rattle.dn_canon.specs.State.CanonInstances.{IsCanonGraphOf};
-ghost use Rattle.dn_canon.specs.State.ToldArcs.{placed, told_arcs, told_graph};
+ghost use Rattle.dn_canon.specs.State.ListedArcs.{placed, listed_arcs, listed_graph};
 ghost use Rattle.dn_canon.specs.State.Writes.{node_rows, Writes};
 
 use crate::block::Block;
@@ -47,13 +47,13 @@ pub(crate) fn write_graph<B: Bundle, K: Sink>(
     form: Form,
 ) -> Result<(), Refusal>
     requires { AreShort B.bundle.kind }
-    ensures text { let graph = told_graph (B.bundle.told form) nodes.now table.now in
+    ensures text { let graph = listed_graph (B.bundle.listed form) nodes.now table.now in
         let text = text_of (graph_rows B.bundle.kind kind graph (node_rows lines.now)) in
         Writes K.sink sink.old sink.new text (length graph.arcs) result }
     ensures flushed { OnOk result (IsTrue (K.sink.is_flushed sink.new)) }
-    ensures canon { (G : Graph B.Arc) → G.nodes ≡ nodes.now → Tells B.bundle table.now G.arcs
+    ensures canon { (G : Graph B.Arc) → G.nodes ≡ nodes.now → Lists B.bundle table.now G.arcs
         → IsValidGraph B.bundle.kind G
-        → IsCanonGraphOf B.bundle.kind form (told_graph (B.bundle.told form) nodes.now table.now) G }
+        → IsCanonGraphOf B.bundle.kind form (listed_graph (B.bundle.listed form) nodes.now table.now) G }
 {
     match arc_count(table, form) {
         Some(count) => match put_graph(sink, kind, nodes, count, lines, table, form) {
@@ -111,7 +111,7 @@ pub(crate) fn write_points<K: Sink>(
 
 // Returns the number of arcs that a table lists, if it is below 2^63.
 fn arc_count<B: Bundle>(table: &Table<B>, form: Form) -> Option<u64>
-    ensures count { let all = length (told_arcs (B.bundle.told form) table.now) in
+    ensures count { let all = length (listed_arcs (B.bundle.listed form) table.now) in
         MatchOption result (2 ^ 63 ≤ all) (λ n. (n ≡ all) × n < 2 ^ 63) }
     ensures rising { IsStrictlySortedBy pair_cmp (keys_of table.now) }
 {
@@ -132,7 +132,7 @@ fn put_bundle<B: Bundle, K: Sink>(
 ) -> Result<(), SinkFault>
     requires { AreShort B.bundle.kind }
     ensures { Passes K.sink sink.old sink.new block.new
-        (block.old ++ text_of (map (arc_row B.bundle.kind) (placed pair.now (B.bundle.told form bundle.now)))) result }
+        (block.old ++ text_of (map (arc_row B.bundle.kind) (placed pair.now (B.bundle.listed form bundle.now)))) result }
 {
     let mut next = bundle.canon_arc(0, form);
     for _ in 0..bundle.canon_len(form) {
@@ -153,7 +153,7 @@ fn put_table<B: Bundle, K: Sink>(
 ) -> Result<(), SinkFault>
     requires { AreShort B.bundle.kind }
     ensures { Passes K.sink sink.old sink.new block.new
-        (block.old ++ text_of (map (arc_row B.bundle.kind) (told_arcs (B.bundle.told form) table.now))) result }
+        (block.old ++ text_of (map (arc_row B.bundle.kind) (listed_arcs (B.bundle.listed form) table.now))) result }
 {
     for (pair, bundle) in table.pairs() {
         put_bundle(block, sink, &pair, bundle, form)?;
@@ -207,8 +207,8 @@ fn put_graph<B: Bundle, K: Sink>(
 ) -> Result<(), SinkFault>
     requires short { AreShort B.bundle.kind }
     requires few { count < 2 ^ 63 }
-    requires count { count ≡ length (told_arcs (B.bundle.told form) table.now) }
-    ensures text { let graph = told_graph (B.bundle.told form) nodes.now table.now in
+    requires count { count ≡ length (listed_arcs (B.bundle.listed form) table.now) }
+    ensures text { let graph = listed_graph (B.bundle.listed form) nodes.now table.now in
         let text = text_of (graph_rows B.bundle.kind kind graph (node_rows lines.now)) in
         Puts K.sink sink.old sink.new text result }
     ensures flushed { OnOk result (IsTrue (K.sink.is_flushed sink.new)) }

@@ -11,9 +11,9 @@ use Rattle.dn_arc.specs.Kinds.{ArcKind, costs, capacities, lengths}
 use Rattle.dn_arc.specs.declared.arc.LengthArc.{LengthArc}
 use Rattle.dn_arc.specs.declared.arc.CapArc.{CapArc}
 use Rattle.dn_arc.specs.declared.arc.CostArc.{CostArc}
-use Rattle.dn_arc.specs.State.Lengths.{length_told}
-use Rattle.dn_arc.specs.State.Capacities.{cap_told}
-use Rattle.dn_arc.specs.State.CurveTold.{told}
+use Rattle.dn_arc.specs.State.Lengths.{length_listed}
+use Rattle.dn_arc.specs.State.Capacities.{cap_listed}
+use Rattle.dn_arc.specs.State.CurveListed.{listed}
 use Rattle.dn_arc.specs.declared.arc.Form.TheVariants.{One}
 use Rattle.dn_arc.specs.State.Curves.{CurveNumbers}
 use Rattle.dn_bundle.specs.declared.least.Least.{Least}
@@ -22,12 +22,12 @@ use Rattle.dn_arc.specs.declared.difference.How.{How}
 use Rattle.dn_arc.proofs.CostKindLaws.{cost_kind}
 use Rattle.dn_arc.proofs.TotalKindLaws.{total_kind}
 use Rattle.dn_arc.proofs.LengthKindLaws.{length_kind}
-use Rattle.dn_instance.specs.State.Helds.{Contents, Holding, OfMin, OfMax, OfSp, OfSs, OfP2p, OfCo, Shows, IsHeld, contents_kind}
+use Rattle.dn_instance.specs.State.Helds.{Contents, Parsed, OfMin, OfMax, OfSp, OfSs, OfP2p, OfCo, Shows, IsHeld, contents_kind}
 use Rattle.dn_instance.specs.Instances.{Graph, Instance, MinCostFlow, MaxFlow, ShortestPaths, Sources, Queries, Coordinates, kind_of, nodes_of}
 use Rattle.dn_arc.specs.Pairs.{bundle}
 use Rattle.dn_instance.specs.Sameness.{IsSame}
 use Rattle.dn_instance.proofs.HeldLaws.{held_kind}
-use Rattle.dn_table.specs.State.Tables.{TableTells}
+use Rattle.dn_table.specs.State.Tables.{TableLists}
 use Rattle.dn_instance.specs.Validity.{IsSupply, IsValid}
 use Rattle.dn_compare.specs.Observed.{value_of, flow_or_zero, flow_of, source_of, sink_of, item_at}
 use Rattle.dn_compare.specs.FirstDifference.{BundlesDiffer, IsFirstDifference}
@@ -125,8 +125,8 @@ module _ (v : Verdict) where
   pub min_on : (ls rs : List (ℤ × ℤ)) (lt rt : List ((ℤ × ℤ) × CurveNumbers))
       → ((q : ℤ) → AlikeAt int_cmp by_flow ls rs q)
       → ((xs ys : List ((ℤ × ℤ) × CostArc))
-      → TableTells costs (λ (b : CurveNumbers). told One b.units b.cost b.steps) lt xs
-      → TableTells costs (λ (b : CurveNumbers). told One b.units b.cost b.steps) rt ys
+      → TableLists costs (λ (b : CurveNumbers). listed One b.units b.cost b.steps) lt xs
+      → TableLists costs (λ (b : CurveNumbers). listed One b.units b.cost b.steps) rt ys
       → IsPairVerdict costs xs ys v) → IsVerdictOn (OfMin ls lt) (OfMin rs rt) v
   min_on ls rs lt rt same h (MinCostFlow s G) (MinCostFlow t H) f g n a b =
       let flows : (q : ℤ)
@@ -134,25 +134,25 @@ module _ (v : Verdict) where
       subst (λ m. (q : ℤ) → AlikeAt int_cmp by_flow m t q) a.0
       (subst (λ m. (q : ℤ) → AlikeAt int_cmp by_flow ls m q) b.0 same) in
       min_pairs s t G H v (supplies_same G.nodes H.nodes s t f.1.map g.1.map f.1.each g.1.each flows) n
-      (h G.arcs H.arcs a.1.tells_them b.1.tells_them)
+      (h G.arcs H.arcs a.1.lists_them b.1.lists_them)
   min_on ls rs lt rt same h (MinCostFlow s G) _ f g n a b = absurd b
   min_on ls rs lt rt same h _ J f g n a b = absurd a
 
   pub max_on : (a b c d : ℤ) (lt rt : List ((ℤ × ℤ) × Total)) → a ≡ c → b ≡ d
-      → ((xs ys : List ((ℤ × ℤ) × CapArc)) → TableTells capacities (λ (b : Total). cap_told b.total) lt xs
-      → TableTells capacities (λ (b : Total). cap_told b.total) rt ys → IsPairVerdict capacities xs ys v)
+      → ((xs ys : List ((ℤ × ℤ) × CapArc)) → TableLists capacities (λ (b : Total). cap_listed b.total) lt xs
+      → TableLists capacities (λ (b : Total). cap_listed b.total) rt ys → IsPairVerdict capacities xs ys v)
       → IsVerdictOn (OfMax a b lt) (OfMax c d rt) v
   max_on a b c d lt rt e f h (MaxFlow s t G) (MaxFlow u w H) p q n x y =
-      max_pairs s t u w G H v (sym x.0 ∙ e ∙ y.0) (sym x.1 ∙ f ∙ y.1) n (h G.arcs H.arcs x.2.tells_them y.2.tells_them)
+      max_pairs s t u w G H v (sym x.0 ∙ e ∙ y.0) (sym x.1 ∙ f ∙ y.1) n (h G.arcs H.arcs x.2.lists_them y.2.lists_them)
   max_on a b c d lt rt e f h (MaxFlow s t G) _ p q n x y = absurd y
   max_on a b c d lt rt e f h _ J p q n x y = absurd x
 
   pub sp_on : (lt rt : List ((ℤ × ℤ) × Least))
-      → ((xs ys : List ((ℤ × ℤ) × LengthArc)) → TableTells lengths (λ (b : Least). length_told b.length) lt xs
-      → TableTells lengths (λ (b : Least). length_told b.length) rt ys → IsPairVerdict lengths xs ys v)
+      → ((xs ys : List ((ℤ × ℤ) × LengthArc)) → TableLists lengths (λ (b : Least). length_listed b.length) lt xs
+      → TableLists lengths (λ (b : Least). length_listed b.length) rt ys → IsPairVerdict lengths xs ys v)
       → IsVerdictOn (OfSp lt) (OfSp rt) v
   sp_on lt rt h (ShortestPaths G) (ShortestPaths H) p q n x y =
-      sp_pairs G H v n (h G.arcs H.arcs x.tells_them y.tells_them)
+      sp_pairs G H v n (h G.arcs H.arcs x.lists_them y.lists_them)
   sp_on lt rt h (ShortestPaths G) _ p q n x y = absurd y
   sp_on lt rt h _ J p q n x y = absurd x
 
@@ -257,7 +257,7 @@ points_on xs ys h _ J p q n x y = absurd x
 pub shown_on : (a b c d : Contents) (v : Verdict) → a ≡ c → b ≡ d → IsVerdictOn a b v → IsVerdictOn c d v
 shown_on a b c d v e f h = subst (λ x. IsVerdictOn x d v) e (subst (λ y. IsVerdictOn a y v) f h)
 
-module _ (a b : Holding) (I J : Instance) (p : IsHeld a I) (q : IsHeld b J) where
+module _ (a b : Parsed) (I J : Instance) (p : IsHeld a I) (q : IsHeld b J) where
   pub kinds_on : (l r : Kind) → l ≡ contents_kind a.contents → r ≡ contents_kind b.contents → l ≢ r
       → IsFirstDifference I J (Verdicts.Kind l r)
   kinds_on l r e f n =

@@ -1,7 +1,7 @@
 // Computes the first difference between two parsed instances.
 ghost use Rattle.std.specs.Prelude.{◌≡◌, ℤ, List};
-ghost use Rattle.dn_instance.specs.State.Helds.{contents_kind, OfBoth, OfCo, OfMax, OfMin, shown};
-ghost use Rattle.dn_table.specs.State.Tables.{Tells};
+ghost use Rattle.dn_instance.specs.State.Helds.{contents_kind, OfBoth, OfCo, OfMax, OfMin, viewed};
+ghost use Rattle.dn_table.specs.State.Tables.{Lists};
 ghost use Rattle.dn_compare.specs.FirstDifference.{IsFirstDifference};
 ghost use Rattle.dn_compare.specs.State.Partings.{IsListVerdict, IsPairVerdict, IsVerdictOn};
 
@@ -34,8 +34,8 @@ pub fn compare(left: &Held, right: &Held) -> Verdict
 
 // Returns the verdict on two instances of the same kind and NODES.
 fn shown_verdict(left: View<'_>, right: View<'_>) -> Verdict
-    requires { contents_kind (shown left) ≡ contents_kind (shown right) }
-    ensures { IsVerdictOn (shown left.entry) (shown right.entry) result }
+    requires { contents_kind (viewed left) ≡ contents_kind (viewed right) }
+    ensures { IsVerdictOn (viewed left.entry) (viewed right.entry) result }
 {
     match (left, right) {
         (
@@ -111,7 +111,7 @@ fn max_verdict(
 // Returns the verdict on two graphs that can differ only in their arcs.
 fn pair_verdict<B: Bundle>(left: &Table<B>, right: &Table<B>) -> Verdict
     ensures { (xs ys : List ((ℤ × ℤ) × B.Arc))
-        → Tells B.bundle left.now xs → Tells B.bundle right.now ys
+        → Lists B.bundle left.now xs → Lists B.bundle right.now ys
         → IsPairVerdict B.bundle.kind xs ys result }
 {
     match first_pair(left, right) {

@@ -2,7 +2,7 @@
 ghost use Rattle.std.specs.Prelude.{◌≡◌, ◌↔◌, ℕ, ℤ, List, IsTrue, MatchOption, length};
 ghost use Rattle.std.specs.Option.{option_map};
 ghost use Rattle.std.specs.Ordering.{int_cmp};
-ghost use Rattle.dn_table.specs.State.Tables.{Tells};
+ghost use Rattle.dn_table.specs.State.Tables.{Lists};
 ghost use Rattle.dn_compare.specs.Observed.{item_at};
 ghost use Rattle.dn_compare.specs.State.Partings.{by_flow, by_point, IsArcsParting, IsParting, ItemsPartAt};
 
@@ -15,7 +15,7 @@ use std::collections::BTreeMap;
 // once.
 pub(crate) fn first_pair<B: Bundle>(left: &Table<B>, right: &Table<B>) -> Option<((i64, i64), How)>
     ensures { (xs ys : List ((ℤ × ℤ) × B.Arc))
-        → Tells B.bundle left.now xs → Tells B.bundle right.now ys
+        → Lists B.bundle left.now xs → Lists B.bundle right.now ys
         → IsArcsParting B.bundle.kind xs ys result }
 {
     let mut lefts = TableWalk::new(left);

@@ -16,7 +16,7 @@ use Rattle.dn_instance.specs.TextFaults.{is_companion, is_in_range, item_tests}
 use Rattle.dn_instance.specs.State.ItemFaults.{in_graph, arc_fault}
 use Rattle.dn_instance.specs.State.Drafts.{TableHolds}
 use Rattle.dn_arc.specs.Pairs.{bundle}
-use Rattle.dn_table.specs.State.Tables.{TableTells, AreArcs, Stays}
+use Rattle.dn_table.specs.State.Tables.{TableLists, AreArcs, Stays}
 use Rattle.dn_instance.proofs.SumLaws.{total_append, total_passes}
 use Rattle.dn_instance.proofs.ValidLaws.{arcs_push}
 use Rattle.dn_arc.proofs.TotalKindLaws.{total_some}
@@ -50,14 +50,14 @@ pub length_grown : (before : List Line) (s d l : ℤ)
 length_grown before s d l = arcs_push length_arc_in before (Item.SpArc s d l)
 
 -- the table holds one more arc line
-pub table_grown : {B Arc : Type 0} (kind : ArcKind Arc) (arc_in : Line → Option ((ℤ × ℤ) × Arc)) (tells : B → List Arc)
+pub table_grown : {B Arc : Type 0} (kind : ArcKind Arc) (arc_in : Line → Option ((ℤ × ℤ) × Arc)) (lists : B → List Arc)
     (table : List ((ℤ × ℤ) × B)) (before : List Line) (i : Line) (a : (ℤ × ℤ) × Arc)
     → arcs_of arc_in (before ++ i ∷ []) ≡ arcs_of arc_in before ++ a ∷ []
     → AreArcs kind (arcs_of arc_in before) → kind.IsArc a.1
-    → TableTells kind tells table (arcs_of arc_in before ++ a ∷ [])
-    → TableHolds kind arc_in tells table (before ++ i ∷ [])
-table_grown kind arc_in tells table before i a e are is t = record {
-  tells_them = subst (TableTells kind tells table) (sym e) t;
+    → TableLists kind lists table (arcs_of arc_in before ++ a ∷ [])
+    → TableHolds kind arc_in lists table (before ++ i ∷ [])
+table_grown kind arc_in lists table before i a e are is t = record {
+  lists_them = subst (TableLists kind lists table) (sym e) t;
   are_arcs = subst (AreArcs kind) (sym e) (all_end (λ b. kind.IsArc b.1) (arcs_of arc_in before) a are is);
 }
 

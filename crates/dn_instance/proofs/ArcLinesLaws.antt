@@ -29,7 +29,7 @@ use Rattle.dn_instance.proofs.CleanItems.{items_push}
 use Rattle.dn_instance.proofs.FirstFaults.{fault_after}
 use Rattle.dn_instance.proofs.FollowLaws.{follows_as, same_fault, adds_it}
 use Rattle.dn_instance.proofs.LineSteps.{clean_more, fault_is_next, in_time}
-use Rattle.dn_instance.proofs.NextLaws.{head_skips, head_told, then_fields}
+use Rattle.dn_instance.proofs.NextLaws.{head_skips, head_agrees, then_fields}
 
 -- the letter of an arc line is that of a counted line, and not that of a node line
 letter : (k : Option Keyword) (named : Option Kind) → Heads.Arc ≡ head_of k named → (is_node_letter k ≡ false)
@@ -63,7 +63,7 @@ module _ (kind : Kind) (before : List Line) (p : Problem) (problem : problem_of 
   -- an arc has no fault because of the lines before it, if they are not as many counted lines as declared
   in_order : is_full (problem_of before) (counted before) ≡ false → first_fault (order_tests before ws) ≡ None
   in_order room =
-      let l = letter (first ws) (kind_named ws) (head_told (Some kind) ws Heads.Arc counts head).1 in
+      let l = letter (first ws) (kind_named ws) (head_agrees (Some kind) ws Heads.Arc counts head).1 in
       by_letter (is_node_letter (first ws)) (is_counted_letter (first ws))
       (is_full (problem_of before) (counted before)) l.0 room
     where

@@ -28,7 +28,7 @@ use Rattle.dn_instance.specs.TextFaults.{is_arc, is_companion, is_full, item_tes
 use Rattle.dn_instance.specs.declared.draft.Draft.{Draft}
 use Rattle.dn_instance.specs.declared.refusal.ItemFault.{ItemFault}
 use Rattle.dn_instance.specs.declared.text_so_far.TextSoFar.{TextSoFar}
-use Rattle.dn_instance.proofs.ItemSteps.{counted_yes, problem_kept, problem_told}
+use Rattle.dn_instance.proofs.ItemSteps.{counted_yes, problem_kept, problem_agrees}
 
 -- items without a fault, followed by one more, have no fault
 faultless_more : (before items : List Line) (i : Line) → AreFaultless before items
@@ -171,7 +171,7 @@ module _ (t : TextSoFar) (d : Draft) (kind : Kind) (before : List Line) (at : Ha
       let all = counted_all kind before arcs graph in
       record {
         problem_is =
-            problem_all before (arc_items kind arcs) _ (problem_told t before kind at is)
+            problem_all before (arc_items kind arcs) _ (problem_agrees t before kind at is)
             ∙ sym (ap (option_map (problem_as t)) (kept ∙ is));
         count_fits = at.count_fits;
         counted_is = e ∙ ap pos (sym all);

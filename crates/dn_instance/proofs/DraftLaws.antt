@@ -29,9 +29,9 @@ use Rattle.dn_instance.proofs.ValidLaws.{terminal_push, grown, int_eq_self, arcs
 use Rattle.dn_arc.specs.State.Bundles.{IsKind}
 use Rattle.dn_arc.specs.declared.arc.Form.TheVariants.{One}
 use Rattle.dn_arc.specs.Kinds.{ArcKind, lengths, capacities, costs}
-use Rattle.dn_arc.specs.State.Capacities.{cap_told}
+use Rattle.dn_arc.specs.State.Capacities.{cap_listed}
 use Rattle.dn_bundle.specs.declared.total.Total.{Total}
-use Rattle.dn_table.specs.State.Tables.{TableTells, AreArcs}
+use Rattle.dn_table.specs.State.Tables.{TableLists, AreArcs}
 use Rattle.dn_instance.proofs.FirstFaults.{none_first}
 use Rattle.dn_instance.proofs.CleanItems.{or_none}
 use Rattle.dn_instance.proofs.MapLaws.{by_key_push, found_by_key}
@@ -181,14 +181,14 @@ point_answer nodes id x y points r ans before p d =
     ans
 
 -- an item that is not an arc does not change what the table holds
-pub table_kept : {B Arc : Type 0} (kind : ArcKind Arc) (arc_in : Line → Option ((ℤ × ℤ) × Arc)) (tells : B → List Arc)
+pub table_kept : {B Arc : Type 0} (kind : ArcKind Arc) (arc_in : Line → Option ((ℤ × ℤ) × Arc)) (lists : B → List Arc)
     (table : List ((ℤ × ℤ) × B)) (before : List Line) (i : Line) → arcs_of arc_in (i ∷ []) ≡ []
-    → TableHolds kind arc_in tells table before → TableHolds kind arc_in tells table (before ++ i ∷ [])
-table_kept kind arc_in tells table before i e t =
+    → TableHolds kind arc_in lists table before → TableHolds kind arc_in lists table (before ++ i ∷ [])
+table_kept kind arc_in lists table before i e t =
     let same : arcs_of arc_in (before ++ i ∷ []) ≡ arcs_of arc_in before =
     arcs_push arc_in before i ∙ ap (λ l. arcs_of arc_in before ++ l) e ∙ append-nil (arcs_of arc_in before) in
     record {
-      tells_them = subst (TableTells kind tells table) (sym same) t.tells_them;
+      lists_them = subst (TableLists kind lists table) (sym same) t.lists_them;
       are_arcs =
           subst (AreArcs kind) (sym same) t.are_arcs;
     }
@@ -221,9 +221,9 @@ sink_stand nodes id a b b' t (Ok x) ans ok before holds =
 
 -- an arc does not change the terminals
 pub cap_stand : (a b : Option ℤ) (t t' : _) (src dst cap : ℤ) (r : Result (Unit {0}) ItemFault)
-    → ((before : List Line) → TableHolds capacities cap_arc_in (λ (x : Total). cap_told x.total) t before
+    → ((before : List Line) → TableHolds capacities cap_arc_in (λ (x : Total). cap_listed x.total) t before
     → OnOk r
-    (TableHolds capacities cap_arc_in (λ (x : Total). cap_told x.total) t'
+    (TableHolds capacities cap_arc_in (λ (x : Total). cap_listed x.total) t'
     (before ++ Item.MaxArc src dst cap ∷ [])))
     → Standing (Drafts.Max a b t) (Item.MaxArc src dst cap) (Drafts.Max a b t') r
 cap_stand a b t t' src dst cap r ok before holds =
@@ -261,10 +261,10 @@ point_stand id x y points points' r ok before holds =
     ok
 
 -- a table without bundles represents no arcs
-pub none_told : {B Arc : Type 0} (kind : ArcKind Arc) (arc_in : Line → Option ((ℤ × ℤ) × Arc)) (tells : B → List Arc)
-    → IsKind kind → TableHolds kind arc_in tells [] []
-none_told kind arc_in tells laws = record {
-  tells_them = record {
+pub none_listed : {B Arc : Type 0} (kind : ArcKind Arc) (arc_in : Line → Option ((ℤ × ℤ) × Arc)) (lists : B → List Arc)
+    → IsKind kind → TableHolds kind arc_in lists [] []
+none_listed kind arc_in lists laws = record {
+  lists_them = record {
     stands = λ p. record { canonical = laws.none_canon One; same = laws.meaning.same_refl [] };
     absent = λ p. (λ e. laws.meaning.same_refl [], λ s. refl);
   };

@@ -8,7 +8,7 @@ use Rattle.dn_line.specs.declared.kind.Letter.TheVariants.{S, T}
 use Rattle.dn_line.specs.declared.line.Line.{Line}
 use Rattle.dn_line.specs.Faults.{first_fault}
 use Rattle.dn_arc.specs.Kinds.{capacities}
-use Rattle.dn_arc.specs.State.Capacities.{cap_told}
+use Rattle.dn_arc.specs.State.Capacities.{cap_listed}
 use Rattle.std.specs.List.Sorted.{IsStrictlySortedBy}
 use Rattle.std.specs.Map.{keys_of, lookup}
 use Rattle.dn_arc.specs.Pairs.{pair_cmp, same_pair}
@@ -18,7 +18,7 @@ use Rattle.dn_instance.specs.Items.{Problem, counted, terminal_of, graph_of, max
 use Rattle.dn_instance.specs.TextFaults.{end_fault, lacks_terminal, is_full}
 use Rattle.dn_instance.specs.State.Drafts.{draft_kind, DraftHolds}
 use Rattle.dn_instance.specs.State.Ends.{Makes, EndsWith}
-use Rattle.dn_instance.specs.State.Helds.{Bundles, Shows, contents_of, holding}
+use Rattle.dn_instance.specs.State.Helds.{Bundles, Shows, contents_of, parsed}
 use Rattle.dn_instance.specs.State.TextsSoFar.{HasRead, problem_as}
 use Rattle.dn_instance.specs.declared.content.Content.{Content}
 use Rattle.dn_instance.specs.declared.content.Content.TheVariants as Kept
@@ -28,7 +28,7 @@ use Rattle.dn_arc.specs.declared.arc.CapArc.{CapArc}
 use Rattle.dn_bundle.specs.declared.total.Total.{Total}
 use Rattle.dn_instance.specs.declared.held.Held.{Held}
 use Rattle.dn_instance.specs.declared.text_so_far.TextSoFar.{TextSoFar}
-use Rattle.dn_instance.proofs.ItemSteps.{problem_told}
+use Rattle.dn_instance.proofs.ItemSteps.{problem_agrees}
 
 -- the first fault at the end, given the problem
 abbrev ends_by : Option Problem → List Line → Option Code
@@ -41,7 +41,7 @@ end_is : (t : TextSoFar) (items : List Line) (kind : Kind) (lacks few : Bool) �
     → draft_kind t.draft ≡ Some kind → lacks_terminal (Some kind) items ≡ lacks → int_lt t.counted t.count ≡ few
     → end_fault items ≡ cond lacks (Some MissingTerminal) (cond few (Some TooFewLines) None)
 end_is t items kind lacks few at is l f =
-    ap (λ o. ends_by o items) (problem_told t items kind at is)
+    ap (λ o. ends_by o items) (problem_agrees t items kind at is)
     ∙ ap (λ b. cond b (Some MissingTerminal)
     (cond (not (not (int_lt (pos (counted items)) t.count))) (Some TooFewLines) None)) l
     ∙ ap (λ b. cond lacks (Some MissingTerminal) (cond b (Some TooFewLines) None))
@@ -54,7 +54,7 @@ end_is t items kind lacks few at is l f =
 -- content and as many counted lines as declared end a text without a fault
 pub ends_whole : (t : TextSoFar) (items : List Line) (content : Content) (held : Held) → HasRead t items
     → Makes (draft_kind t.draft) t.nodes items (Ok content) → int_lt t.counted t.count ≡ false
-    → (holding held).nodes ≡ t.nodes → (holding held).lines ≡ t.counted → (holding held).contents ≡ contents_of content
+    → (parsed held).nodes ≡ t.nodes → (parsed held).lines ≡ t.counted → (parsed held).contents ≡ contents_of content
     → EndsWith items (Ok held)
 ends_whole t items content held at made enough nodes lines contents = by_kind (draft_kind t.draft) refl made
   where
@@ -64,7 +64,7 @@ ends_whole t items content held at made enough nodes lines contents = by_kind (d
       end_is t items kind false false at is made.0 enough,
       record {
         problem = problem_as t kind;
-        problem_is = problem_told t items kind at is;
+        problem_is = problem_agrees t items kind at is;
         instance = made.1.0;
         made = made.1.1;
         nodes_are = nodes;
@@ -115,8 +115,8 @@ both_named d s t table kept rising alike a b u v nodes items is source sink same
         (
           refl,
           refl,
-          stands_as capacities (λ (x : Total). cap_told x.total) table kept
-              (arcs_of cap_arc_in items) rising alike k.2.tells_them,
+          stands_as capacities (λ (x : Total). cap_listed x.total) table kept
+              (arcs_of cap_arc_in items) rising alike k.2.lists_them,
         ),
       ),
     ) in

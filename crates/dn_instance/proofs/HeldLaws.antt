@@ -1,6 +1,6 @@
 -- Lemmas on parsed instances and the instances that they represent.
 use Rattle.std.proofs.Common.{◌≡◌, refl}
-use Rattle.dn_instance.specs.State.Helds.{Contents, Holding, IsHeld, OfMin, OfMax, OfSp, OfSs, OfP2p, OfCo, Shows, contents_kind}
+use Rattle.dn_instance.specs.State.Helds.{Contents, Parsed, IsHeld, OfMin, OfMax, OfSp, OfSs, OfP2p, OfCo, Shows, contents_kind}
 use Rattle.dn_instance.specs.Instances.{Instance, MinCostFlow, MaxFlow, ShortestPaths, Sources, Queries, Coordinates, kind_of}
 
 shown_kind : (c : Contents) (I : Instance) → Shows c I → contents_kind c ≡ kind_of I
@@ -13,5 +13,5 @@ shown_kind (OfCo points) (Coordinates xs) h = refl
 shown_kind _ _ h = absurd h
 
 -- a parsed instance has the kind of the instance that it represents
-pub held_kind : (g : Holding) (I : Instance) → IsHeld g I → contents_kind g.contents ≡ kind_of I
+pub held_kind : (g : Parsed) (I : Instance) → IsHeld g I → contents_kind g.contents ≡ kind_of I
 held_kind g I h = shown_kind g.contents I h.shows

@@ -24,17 +24,17 @@ use Rattle.dn_instance.proofs.CleanItems.{problem_push}
 use Rattle.dn_instance.proofs.DraftLaws.{held_problem}
 
 -- the draft is of the declared kind
-pub kind_told : (t : TextSoFar) (items : List Line) → HasRead t items → kind_known items ≡ draft_kind t.draft
-kind_told t items at = ap (option_map (λ (p : Problem). p.kind)) at.problem_is ∙ kind_as (draft_kind t.draft)
+pub kind_agrees : (t : TextSoFar) (items : List Line) → HasRead t items → kind_known items ≡ draft_kind t.draft
+kind_agrees t items at = ap (option_map (λ (p : Problem). p.kind)) at.problem_is ∙ kind_as (draft_kind t.draft)
   where
     kind_as : (o : Option Kind) → option_map (λ (p : Problem). p.kind) (option_map (problem_as t) o) ≡ o
     kind_as None = refl
     kind_as (Some kind) = refl
 
 -- the items declare the problem of the draft's kind
-pub problem_told : (t : TextSoFar) (items : List Line) (kind : Kind) → HasRead t items → draft_kind t.draft ≡ Some kind
+pub problem_agrees : (t : TextSoFar) (items : List Line) (kind : Kind) → HasRead t items → draft_kind t.draft ≡ Some kind
     → problem_of items ≡ Some (problem_as t kind)
-problem_told t items kind at is = at.problem_is ∙ ap (option_map (problem_as t)) is
+problem_agrees t items kind at is = at.problem_is ∙ ap (option_map (problem_as t)) is
 
 -- the items that have been read do not depend on the number of lines
 pub with_lines : (t : TextSoFar) (n : ℕ) (items : List Line) → HasRead t items → HasRead (record t { closed = n }) items
@@ -79,12 +79,12 @@ pub comes_next : (t : TextSoFar) (before : List Line) (i : Line) → Awaits t be
     → ComesNext t.draft t.nodes before i
 comes_next t before i a none =
     let k = kind_of_item i none a.may.spelled in
-    let kind_is : draft_kind t.draft ≡ Some k.0 = sym (kind_told t before a.read) ∙ a.may.kind_is ∙ k.1 in
+    let kind_is : draft_kind t.draft ≡ Some k.0 = sym (kind_agrees t before a.read) ∙ a.may.kind_is ∙ k.1 in
     record {
       problem = problem_as t k.0;
       drafted =
           record {
-            problem_is = problem_told t before k.0 a.read kind_is;
+            problem_is = problem_agrees t before k.0 a.read kind_is;
             kind_is = kind_is;
             nodes_are = refl;
             holds =
@@ -155,7 +155,7 @@ pub has_room : (t : TextSoFar) (items : List Line) (i : Line) (kind : Kind) → 
     → draft_kind t.draft ≡ Some kind → HasRoom items i → is_counted i ≡ true
     → int_lt (pos (counted items)) t.count ≡ true
 has_room t items i kind at is room y =
-    not_not _ (sym (ap (λ o. is_full o (counted items)) (problem_told t items kind at is)) ∙ room y)
+    not_not _ (sym (ap (λ o. is_full o (counted items)) (problem_agrees t items kind at is)) ∙ room y)
   where
     not_not : (b : Bool) → not b ≡ false → b ≡ true
     not_not true h = refl
@@ -187,7 +187,7 @@ module _ (t : TextSoFar) (d : Draft) (items : List Line) (i : Line) (at : HasRea
       let kind = next.drafted.kind_is in
       record {
         problem_is =
-            problem_kept items i _ (problem_told t items _ at kind)
+            problem_kept items i _ (problem_agrees t items _ at kind)
             ∙ sym (ap (option_map (problem_as t)) (kept ∙ kind));
         count_fits = at.count_fits;
         counted_is = e;
@@ -225,7 +225,7 @@ pub none_before : (t : TextSoFar) (before : List Line) (i : Line) (p : Problem) 
     → problem_in i ≡ Some p → before ≡ []
 none_before t before i p a is =
     none_made t.draft before
-    (sym (kind_told t before a.read) ∙ a.may.kind_is ∙ (heads i (ap is_some is)).0) a.read.holds
+    (sym (kind_agrees t before a.read) ∙ a.may.kind_is ∙ (heads i (ap is_some is)).0) a.read.holds
 
 -- the problem line has been read
 pub begun : (t u : TextSoFar) (before : List Line) (i : Line) (p : Problem) → Awaits t before i → problem_in i ≡ Some p

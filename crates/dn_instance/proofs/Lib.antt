@@ -5,7 +5,7 @@ pub mod CleanItems
 pub mod MapLaws
 pub mod SumLaws
 pub mod ValidLaws
-pub mod TellsLaws
+pub mod ListsLaws
 pub mod ArcItems
 pub mod DraftLaws
 pub mod ItemSteps

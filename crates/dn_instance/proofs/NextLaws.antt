@@ -19,9 +19,9 @@ use Rattle.dn_instance.specs.TextFaults.{order_tests}
 use Rattle.dn_instance.specs.State.TextsSoFar.{next_read}
 
 -- a line that is not skipped, and in whose head no fault is found, has the head that it names
-pub head_told : (known : Option Kind) (ws : List Word) (head : Head) → is_skip ws ≡ false → head_read known ws ≡ Ok head
+pub head_agrees : (known : Option Kind) (ws : List Word) (head : Head) → is_skip ws ≡ false → head_read known ws ≡ Ok head
     → (first_fault (head_tests known ws) ≡ None) × (head ≡ head_of (first ws) (kind_named ws))
-head_told known ws head e h =
+head_agrees known ws head e h =
     by_fault (first_fault (head_tests known ws)) refl
     (sym (ap
     (λ b. cond b (Ok Heads.Skip) (unless (first_fault (head_tests known ws)) (head_of (first ws) (kind_named ws)))) e)
@@ -41,18 +41,18 @@ head_skips known ws head e h = let same : Ok Heads.Skip ≡ Ok head =
     ∙ h in cc
 
 -- the fault that a head has because of the lines before it, unless the line is skipped
-pub order_told : (known : Option Kind) (before : List Line) (ws : List Word) (head : Head) (fault : Option Code)
+pub order_agrees : (known : Option Kind) (before : List Line) (ws : List Word) (head : Head) (fault : Option Code)
     → head_read known ws ≡ Ok head
     → (first_fault (head_tests known ws) ≡ None → head ≡ head_of (first ws) (kind_named ws)
     → fault ≡ first_fault (order_tests before ws)) → (head ≡ Heads.Skip → fault ≡ None)
     → fault ≡ cond (is_skip ws) None (first_fault (order_tests before ws))
-order_told known before ws head fault h answer skip = by_skip (is_skip ws) refl
+order_agrees known before ws head fault h answer skip = by_skip (is_skip ws) refl
   where
     by_skip : (b : Bool) → is_skip ws ≡ b → fault ≡ cond (is_skip ws) None (first_fault (order_tests before ws))
     by_skip true e =
         skip (head_skips known ws head e h) ∙ sym (ap (λ b. cond b None (first_fault (order_tests before ws))) e)
-    by_skip false e = let told = head_told known ws head e h in
-        answer told.0 told.1 ∙ sym (ap (λ b. cond b None (first_fault (order_tests before ws))) e)
+    by_skip false e = let listed = head_agrees known ws head e h in
+        answer listed.0 listed.1 ∙ sym (ap (λ b. cond b None (first_fault (order_tests before ws))) e)
 
 module _ (before : List Line) (ws : List Word) where
   abbrev known : Option Kind
@@ -110,7 +110,7 @@ module _ (before : List Line) (ws : List Word) where
       by_skip false e =
           parted e
           ∙ ap (λ x. read_by x (first_fault (order_tests before ws)) (first_fault (field_tests (fields known ws))))
-          (head_told known ws head e h).0
+          (head_agrees known ws head e h).0
           ∙ ap (λ x. read_by None x (first_fault (field_tests (fields known ws))))
           (sym (ap (λ b. cond b None (first_fault (order_tests before ws))) e) ∙ o)
 
@@ -127,6 +127,6 @@ module _ (before : List Line) (ws : List Word) where
           ap (λ b. cond b (Ok Skip) (unless (first_fault (field_tests (fields known ws))) (spelled known ws))) e
           ∙ sym (parted e
           ∙ ap (λ x. read_by x (first_fault (order_tests before ws)) (first_fault (field_tests (fields known ws))))
-          (head_told known ws head e h).0
+          (head_agrees known ws head e h).0
           ∙ ap (λ x. read_by None x (first_fault (field_tests (fields known ws))))
           (sym (ap (λ b. cond b None (first_fault (order_tests before ws))) e) ∙ o))

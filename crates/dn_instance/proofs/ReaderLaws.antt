@@ -196,33 +196,33 @@ pub more_count : (ls ms : List (List ℕ)) → More ls ms → length ls ≤ leng
 more_count ls ms m = let n = ap length m.whole in let k = length-append ls m.rest in omega arith
 
 -- the refusal of all lines is the outcome of the text
-told_of : (t : List ℕ) (e : Refusal) → IsRefused 0 (lines t) e → Outcome t (Err e)
-told_of t (Text (Places.Line number) code) h = h
-told_of t (Text Places.End code) h = absurd h
-told_of t Memory h = h
-told_of t Read h = absurd h
-told_of t Endless h = absurd h
-told_of t Write h = absurd h
-told_of t CountTooLarge h = absurd h
+listed_of : (t : List ℕ) (e : Refusal) → IsRefused 0 (lines t) e → Outcome t (Err e)
+listed_of t (Text (Places.Line number) code) h = h
+listed_of t (Text Places.End code) h = absurd h
+listed_of t Memory h = h
+listed_of t Read h = absurd h
+listed_of t Endless h = absurd h
+listed_of t Write h = absurd h
+listed_of t CountTooLarge h = absurd h
 
 -- the refusal of the complete lines is the outcome of the text
 pub refused_early : (t : List ℕ) (e : Refusal) → IsRefused 0 (ended t) e → Outcome t (Err e)
-refused_early t e h = told_of t e (refused_on 0 0 (ended t) (lines t) e (omega arith) (lines_more t) h)
+refused_early t e h = listed_of t e (refused_on 0 0 (ended t) (lines t) e (omega arith) (lines_more t) h)
 
 pub refused_before : (r : Reader) (t : List ℕ) (e : Refusal) → r.refusal ≡ Some e → ReaderAt r t → Outcome t (Err e)
 refused_before r t e is h = refused_early t e (refused r t e is h).0
 
 pub refused_last : (t : List ℕ) (before : ℕ) (e : Refusal) → IsRefused before (lines t) e → Outcome t (Err e)
 refused_last t before e h =
-    told_of t e
+    listed_of t e
     (refused_on before 0 (lines t) (lines t) e (omega arith)
     (record { rest = []; whole = sym (append-nil (lines t)) }) h)
 
 -- the outcome of a text that is fed at once
 pub read_whole : (r : Reader) (t : List ℕ) (fed : Result (Unit {0}) Refusal) (a : Result Held Refusal) → Fed t fed
     → ReaderAt r t → MatchResult fed (λ x. Finishes r a) (λ e. a ≡ Err e) → Outcome t a
-read_whole r t (Ok x) a told at h = h.outcome t at
-read_whole r t (Err e) a told at h = subst (Outcome t) (sym h) (refused_early t e told)
+read_whole r t (Ok x) a listed at h = h.outcome t at
+read_whole r t (Err e) a listed at h = subst (Outcome t) (sym h) (refused_early t e listed)
 
 -- the parsed instance of a whole text represents what the text reads as
 pub held_whole : (x : TextSoFar) (t : List ℕ) (held : Held) → TextAt x (lines t)

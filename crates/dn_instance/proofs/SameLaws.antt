@@ -9,16 +9,16 @@ use Rattle.dn_arc.proofs.LengthsLaws.{length_meaning}
 use Rattle.dn_arc.proofs.TotalsLaws.{total_meaning}
 use Rattle.dn_arc.proofs.CurvesLaws.{curve_meaning}
 use Rattle.dn_arc.specs.Pairs.{bundle, same_pair}
-use Rattle.dn_arc.specs.State.Lengths.{length_told}
-use Rattle.dn_arc.specs.State.Capacities.{cap_told}
-use Rattle.dn_arc.specs.State.CurveTold.{told}
+use Rattle.dn_arc.specs.State.Lengths.{length_listed}
+use Rattle.dn_arc.specs.State.Capacities.{cap_listed}
+use Rattle.dn_arc.specs.State.CurveListed.{listed}
 use Rattle.dn_arc.specs.declared.arc.Form.TheVariants.{One}
 use Rattle.dn_arc.specs.State.Curves.{CurveNumbers}
 use Rattle.dn_bundle.specs.declared.least.Least.{Least}
 use Rattle.dn_bundle.specs.declared.total.Total.{Total}
-use Rattle.dn_instance.specs.State.Helds.{Contents, Holding, IsHeld, Shows, OfMin, OfMax, OfSp, OfSs, OfP2p, OfCo}
+use Rattle.dn_instance.specs.State.Helds.{Contents, Parsed, IsHeld, Shows, OfMin, OfMax, OfSp, OfSs, OfP2p, OfCo}
 use Rattle.dn_instance.specs.Instances.{Graph, Instance, MinCostFlow, MaxFlow, ShortestPaths, Sources, Queries, Coordinates, nodes_of}
-use Rattle.dn_table.specs.State.Tables.{told_at, TableStandsFor}
+use Rattle.dn_table.specs.State.Tables.{listed_at, TableStandsFor}
 use Rattle.dn_instance.specs.Sameness.{SameGraph, IsSame}
 
 module _ {Arc : Type 0} (kind : ArcKind Arc) (meaning : IsMeaning kind.Same) where
@@ -68,15 +68,15 @@ module _ {Arc : Type 0} (kind : ArcKind Arc) (meaning : IsMeaning kind.Same) whe
   graph_order nodes xs ys h = let s = any_order SameAt placed_meaning xs ys h in record { nodes = refl; bundles = s.at }
 
   -- graphs with the same NODES that one table represents mean the same
-  table_one : {B : Type 0} (tells : B → List Arc) (table : List ((ℤ × ℤ) × B)) (G H : Graph Arc) → G.nodes ≡ H.nodes
-      → TableStandsFor kind tells table G.arcs → TableStandsFor kind tells table H.arcs → SameGraph kind G H
-  table_one tells table G H n s t = record { nodes = n; bundles = at }
+  table_one : {B : Type 0} (lists : B → List Arc) (table : List ((ℤ × ℤ) × B)) (G H : Graph Arc) → G.nodes ≡ H.nodes
+      → TableStandsFor kind lists table G.arcs → TableStandsFor kind lists table H.arcs → SameGraph kind G H
+  table_one lists table G H n s t = record { nodes = n; bundles = at }
     where
       at : (p : ℤ × ℤ) → kind.Same (bundle p G.arcs) (bundle p H.arcs)
       at p =
-          let told = told_at tells table p in
-          meaning.same_trans (bundle p G.arcs) told (bundle p H.arcs)
-          (meaning.same_sym told (bundle p G.arcs) (s.tells_them.stands p).same) (t.tells_them.stands p).same
+          let listed = listed_at lists table p in
+          meaning.same_trans (bundle p G.arcs) listed (bundle p H.arcs)
+          (meaning.same_sym listed (bundle p G.arcs) (s.lists_them.stands p).same) (t.lists_them.stands p).same
 
 pub refl_of : (I : Instance) → IsSame I I
 refl_of (MinCostFlow s G) = (refl, graph_refl costs curve_meaning G)
@@ -116,16 +116,16 @@ shows_one : (c : Contents) (I J : Instance) → nodes_of I ≡ nodes_of J → Sh
 shows_one (OfMin flows table) (MinCostFlow s G) (MinCostFlow t H) n x y = (
   sym x.0 ∙ y.0,
   table_one costs curve_meaning
-      (λ (b : CurveNumbers). told One b.units b.cost b.steps) table G H n x.1 y.1,
+      (λ (b : CurveNumbers). listed One b.units b.cost b.steps) table G H n x.1 y.1,
 )
 shows_one (OfMax source sink table) (MaxFlow a b G) (MaxFlow c d H) n x y = (
   sym x.0 ∙ y.0,
   sym x.1 ∙ y.1,
   table_one capacities total_meaning
-      (λ (b : Total). cap_told b.total) table G H n x.2 y.2,
+      (λ (b : Total). cap_listed b.total) table G H n x.2 y.2,
 )
 shows_one (OfSp table) (ShortestPaths G) (ShortestPaths H) n x y =
-    table_one lengths length_meaning (λ (b : Least). length_told b.length) table G H n x y
+    table_one lengths length_meaning (λ (b : Least). length_listed b.length) table G H n x y
 shows_one (OfSs ids) (Sources xs) (Sources ys) n x y = sym x ∙ y
 shows_one (OfP2p pairs) (Queries xs) (Queries ys) n x y = sym x ∙ y
 shows_one (OfCo points) (Coordinates xs) (Coordinates ys) n x y = sym x ∙ y
@@ -138,5 +138,5 @@ shows_one (OfCo points) (Coordinates xs) _ n x y = absurd y
 shows_one _ _ _ n x y = absurd x
 
 -- the instances that a parsed instance represents pose the same problem
-pub held_one : (h : Holding) (I J : Instance) → IsHeld h I → IsHeld h J → IsSame I J
+pub held_one : (h : Parsed) (I J : Instance) → IsHeld h I → IsHeld h J → IsSame I J
 held_one h I J x y = shows_one h.contents I J (sym x.nodes_are ∙ y.nodes_are) x.shows y.shows

@@ -71,15 +71,15 @@ refused_past before ls Endless h m = h
 refused_past before ls Write h m = h
 refused_past before ls CountTooLarge h m = h
 
-told_piece : (t : List ℕ) (new : Option (List ℕ)) (e : Refusal) → IsRefused 0 (lines t) e → StopsInPiece t new e
+piece_outcome : (t : List ℕ) (new : Option (List ℕ)) (e : Refusal) → IsRefused 0 (lines t) e → StopsInPiece t new e
     → SourceOutcome t new (Err e)
-told_piece t new (Text (Places.Line number) code) h s = (h, inl s)
-told_piece t new (Text Places.End code) h s = absurd h
-told_piece t new Memory h s = inl s
-told_piece t new Read h s = absurd h
-told_piece t new Endless h s = absurd h
-told_piece t new Write h s = absurd h
-told_piece t new CountTooLarge h s = absurd h
+piece_outcome t new (Text (Places.Line number) code) h s = (h, inl s)
+piece_outcome t new (Text Places.End code) h s = absurd h
+piece_outcome t new Memory h s = inl s
+piece_outcome t new Read h s = absurd h
+piece_outcome t new Endless h s = absurd h
+piece_outcome t new Write h s = absurd h
+piece_outcome t new CountTooLarge h s = absurd h
 
 -- the outcome of a text that is refused at a piece
 pub refused_given : (old mid new : Option (List ℕ)) (given piece : List ℕ) (r : Reader) (e : Refusal)
@@ -93,7 +93,7 @@ refused_given (Some t) (Some both) None given piece r e c d short s none h m = a
 refused_given (Some t) (Some both) (Some rest) given piece r e c d short s none h m =
     let all = given ++ piece in
     let whole : t ≡ given ++ (piece ++ rest) = c ∙ ap (λ l. given ++ l) d in
-    told_piece t (Some rest) e
+    piece_outcome t (Some rest) e
     (refused_on 0 0 (ended all) (lines t) e (omega arith)
     (subst (λ x. More (ended all) (lines x)) (append_assoc given piece rest ∙ sym whole) (front_lines all rest)) h)
     (record {
@@ -208,17 +208,17 @@ given_at_end old mid new given piece none c d =
     subst (λ l. Consumes old new l) (ap (λ l. given ++ l) none ∙ append-nil given)
     (Consumes-trans old mid new given piece c d)
 
-told_end : (t : List ℕ) (new : Option (List ℕ)) (r : Result Held Refusal) → IsAtEnd new → IsClean (ended t)
+end_outcome : (t : List ℕ) (new : Option (List ℕ)) (r : Result Held Refusal) → IsAtEnd new → IsClean (ended t)
     → (r ≡ Err Memory → WantsMemory (length (ended t)) (lines t)) → Outcome t r → SourceOutcome t new r
-told_end t new (Ok held) e clean m h = (h, e)
-told_end t new (Err (Text (Places.Line number) code)) e clean m h =
+end_outcome t new (Ok held) e clean m h = (h, e)
+end_outcome t new (Err (Text (Places.Line number) code)) e clean m h =
     (h, inr (record { at_end = e; clean = clean; refused = h }))
-told_end t new (Err (Text Places.End code)) e clean m h = (h, inr (record { at_end = e; clean = clean; refused = h }))
-told_end t new (Err Memory) e clean m h = inr (record { at_end = e; clean = clean; refused = m refl })
-told_end t new (Err Read) e clean m h = absurd h
-told_end t new (Err Endless) e clean m h = absurd h
-told_end t new (Err Write) e clean m h = absurd h
-told_end t new (Err CountTooLarge) e clean m h = absurd h
+end_outcome t new (Err (Text Places.End code)) e clean m h = (h, inr (record { at_end = e; clean = clean; refused = h }))
+end_outcome t new (Err Memory) e clean m h = inr (record { at_end = e; clean = clean; refused = m refl })
+end_outcome t new (Err Read) e clean m h = absurd h
+end_outcome t new (Err Endless) e clean m h = absurd h
+end_outcome t new (Err Write) e clean m h = absurd h
+end_outcome t new (Err CountTooLarge) e clean m h = absurd h
 
 -- the outcome of a source that is at its end, and all of whose bytes the reader has read
 pub ended_given : (old new : Option (List ℕ)) (given : List ℕ) (r : Reader) (a : Result Held Refusal)
@@ -230,17 +230,17 @@ ended_given (Some t) None given r a c e s none m h = absurd c
 ended_given (Some t) (Some rest) given r a c e s none m h =
     let all : t ≡ given = c ∙ ap (λ l. given ++ l) e ∙ append-nil given in
     subst (λ l. SourceOutcome l (Some rest) a) (sym all)
-    (told_end given (Some rest) a e (reading r given none s).read.clean m h)
+    (end_outcome given (Some rest) a e (reading r given none s).read.clean m h)
 
-told_copy : (t : List ℕ) (new : Option (List ℕ)) (old_copy new_copy : List ℕ) (r : Result Held Refusal)
+copy_outcome : (t : List ℕ) (new : Option (List ℕ)) (old_copy new_copy : List ℕ) (r : Result Held Refusal)
     → SourceOutcome t new r → Copied t new old_copy new_copy → CopyOutcome t new old_copy new_copy r
-told_copy t new old_copy new_copy (Ok held) h k = (h, k)
-told_copy t new old_copy new_copy (Err (Text place code)) h k = (h, k)
-told_copy t new old_copy new_copy (Err Memory) h k = inl (h, k)
-told_copy t new old_copy new_copy (Err Read) h k = (h, k)
-told_copy t new old_copy new_copy (Err Endless) h k = (h, k)
-told_copy t new old_copy new_copy (Err Write) h k = absurd h
-told_copy t new old_copy new_copy (Err CountTooLarge) h k = absurd h
+copy_outcome t new old_copy new_copy (Ok held) h k = (h, k)
+copy_outcome t new old_copy new_copy (Err (Text place code)) h k = (h, k)
+copy_outcome t new old_copy new_copy (Err Memory) h k = inl (h, k)
+copy_outcome t new old_copy new_copy (Err Read) h k = (h, k)
+copy_outcome t new old_copy new_copy (Err Endless) h k = (h, k)
+copy_outcome t new old_copy new_copy (Err Write) h k = absurd h
+copy_outcome t new old_copy new_copy (Err CountTooLarge) h k = absurd h
 
 -- the outcome if the copy has gained all bytes that the source gave
 pub copied : (old new : Option (List ℕ)) (given old_copy new_copy : List ℕ) (r : Result Held Refusal)
@@ -249,7 +249,7 @@ pub copied : (old new : Option (List ℕ)) (given old_copy new_copy : List ℕ) 
 copied None new given old_copy new_copy r c k h = tt
 copied (Some t) None given old_copy new_copy r c k h = absurd c
 copied (Some t) (Some rest) given old_copy new_copy r c k h =
-    told_copy t (Some rest) old_copy new_copy r h
+    copy_outcome t (Some rest) old_copy new_copy r h
     (record { given = given; rest = rest; whole = c; rest_is = refl; copy = k })
 
 -- the outcome if memory runs out for the copy of a piece

@@ -17,7 +17,7 @@ use Rattle.dn_line.specs.declared.code.Code.TheVariants.{NodeOutOfRange, Repeate
 use Rattle.dn_line.specs.declared.line.Line.{Line}
 use Rattle.dn_line.specs.declared.line.Line.TheVariants as Item
 use Rattle.dn_arc.specs.Kinds.{costs}
-use Rattle.dn_arc.specs.State.CurveTold.{told}
+use Rattle.dn_arc.specs.State.CurveListed.{listed}
 use Rattle.dn_arc.specs.declared.arc.Form.TheVariants.{One}
 use Rattle.dn_arc.specs.State.Curves.{CurveNumbers}
 use Rattle.dn_instance.specs.State.Drafts.{TableHolds}
@@ -144,9 +144,9 @@ supply_keep s s' z z' t (Err e) same before holds = (
 pub cost_stand : (s : BTreeMap ℤ ℤ) (z : BTreeSet ℤ) (t t' : _) (src dst low top cost : ℤ)
     (r : Result (Unit {0}) ItemFault)
     → ((before : List Line)
-    → TableHolds costs cost_arc_in (λ (x : CurveNumbers). told One x.units x.cost x.steps) t before
+    → TableHolds costs cost_arc_in (λ (x : CurveNumbers). listed One x.units x.cost x.steps) t before
     → OnOk r
-    (TableHolds costs cost_arc_in (λ (x : CurveNumbers). told One x.units x.cost x.steps) t'
+    (TableHolds costs cost_arc_in (λ (x : CurveNumbers). listed One x.units x.cost x.steps) t'
     (before ++ Item.MinArc src dst low top cost ∷ [])))
     → Standing (Drafts.Min s z t) (Item.MinArc src dst low top cost) (Drafts.Min s z t') r
 cost_stand s z t t' src dst low top cost r ok before holds =

@@ -252,20 +252,20 @@ pub int_eq_self : (z : ℤ) → int_eq z z ≡ true
 int_eq_self (pos n) = grind (arith, nat_tests)
 int_eq_self (negsuc n) = grind (arith, nat_tests)
 
-apart : (a b : ℤ) → int_eq a b ≡ false → a ≡ b → ⊥
-apart a b h e = let never : true ≡ false = sym (int_eq_self b) ∙ ap (λ z. int_eq z b) (sym e) ∙ h in cc
+ids_differ : (a b : ℤ) → int_eq a b ≡ false → a ≡ b → ⊥
+ids_differ a b h e = let never : true ≡ false = sym (int_eq_self b) ∙ ap (λ z. int_eq z b) (sym e) ∙ h in cc
 
 -- a terminal that is not the other one is valid with it
 source_named : (nodes id : ℤ) (t : Option ℤ) → IsNode nodes id → AreEnds nodes None t → is_id id t ≡ false
     → AreEnds nodes (Some id) t
 source_named nodes id None node ends h = node
 source_named nodes id (Some b) node ends h =
-    record { source_is = node; sink_is = ends; differ = λ e. apart b id h (sym e) }
+    record { source_is = node; sink_is = ends; differ = λ e. ids_differ b id h (sym e) }
 
 sink_named : (nodes id : ℤ) (s : Option ℤ) → IsNode nodes id → AreEnds nodes s None → is_id id s ≡ false
     → AreEnds nodes s (Some id)
 sink_named nodes id None node ends h = node
-sink_named nodes id (Some a) node ends h = record { source_is = ends; sink_is = node; differ = apart a id h }
+sink_named nodes id (Some a) node ends h = record { source_is = ends; sink_is = node; differ = ids_differ a id h }
 
 pub terminal_push : (letter : Letter) (before : List Line) (i : Line)
     → terminal_of letter (before ++ i ∷ []) ≡ option_or (terminal_of letter before) (terminal_in letter i)

@@ -8,13 +8,13 @@ ghost use Rattle.dn_line.specs.Faults.{first_fault};
 ghost use Rattle.dn_line.specs.declared.kind.Kind.{Kind};
 ghost use Rattle.dn_line.specs.declared.line.Line.{Line};
 ghost use Rattle.dn_arc.specs.Kinds.{lengths, capacities, costs};
-ghost use Rattle.dn_bundle.specs.State.Tellings.{least_arcs, total_arcs, curve_arcs};
+ghost use Rattle.dn_bundle.specs.State.Listings.{least_arcs, total_arcs, curve_arcs};
 ghost use Rattle.dn_instance.specs.Items.{Problem, problem_of, length_arc_in, cap_arc_in, cost_arc_in};
 ghost use Rattle.dn_instance.specs.TextFaults.{item_tests};
 ghost use Rattle.dn_instance.specs.State.ArcRuns.{Joins, arc_items};
 ghost use Rattle.dn_instance.specs.State.Drafts.{HasSigns, TableHolds};
 ghost use Rattle.dn_instance.specs.State.ItemFaults.{AnswersFault, in_graph, arc_fault};
-ghost use Rattle.dn_table.specs.State.Tables.{AreArcs, Stays, Tells};
+ghost use Rattle.dn_table.specs.State.Tables.{AreArcs, Stays, Lists};
 
 use crate::refusal::ItemFault;
 use dn_bundle::{Bundle, BundleFault, CapArc, CostArc, Curve, Form, Least, LengthArc, Total};
@@ -39,11 +39,11 @@ fn take_arc<B: Bundle>(
     arc: B::Arc,
 ) -> Result<(), ItemFault>
     ensures answer { (arcs : List ((ℤ × ℤ) × B.Arc)) (is : Bool)
-        → Tells B.bundle table.old arcs → AreArcs B.bundle.kind arcs → (IsTrue is ↔ B.bundle.kind.IsArc arc)
+        → Lists B.bundle table.old arcs → AreArcs B.bundle.kind arcs → (IsTrue is ↔ B.bundle.kind.IsArc arc)
         → AnswersFault result (arc_fault B.bundle.kind nodes.now arcs is (pair, arc)) }
     ensures stands { (arcs : List ((ℤ × ℤ) × B.Arc)) → Stays B.bundle.kind
-        → Tells B.bundle table.old arcs → AreArcs B.bundle.kind arcs
-        → OnOk result (Tells B.bundle table.new (arcs ++ (pair, arc) ∷ [])) }
+        → Lists B.bundle table.old arcs → AreArcs B.bundle.kind arcs
+        → OnOk result (Lists B.bundle table.new (arcs ++ (pair, arc) ∷ [])) }
     ensures err { OnErr result (table.new ≡ table.old) }
 {
     if !joins_nodes(nodes, &pair) {

@@ -1,7 +1,7 @@
 // What a parsed instance holds, by kind.
 ghost use Rattle.std.specs.Prelude.{◌≡◌, ◌<◌, ◌^◌};
 ghost use Rattle.dn_instance.specs.State.EntryCount.{entries_of};
-ghost use Rattle.dn_instance.specs.State.Helds.{contents_kind, pair_count, Shows, contents_of, shown};
+ghost use Rattle.dn_instance.specs.State.Helds.{contents_kind, pair_count, Shows, contents_of, viewed};
 ghost use Rattle.dn_instance.specs.Instances.{Instance};
 ghost use Rattle.dn_instance.specs.Validity.{IsValid};
 
@@ -72,7 +72,7 @@ impl Content {
 
     // Returns a view of the content.
     pub(crate) fn view(&self) -> View<'_>
-        ensures { shown result ≡ contents_of self.now }
+        ensures { viewed result ≡ contents_of self.now }
     {
         match self {
             Content::Min { supplies, table } => View::Min { supplies, table },

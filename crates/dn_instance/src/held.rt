@@ -1,7 +1,7 @@
 // The parsed instance of a text.
 ghost use Rattle.std.specs.Prelude.{◌≡◌};
 ghost use Rattle.dn_instance.specs.State.EntryCount.{entries_of};
-ghost use Rattle.dn_instance.specs.State.Helds.{contents_kind, pair_count, IsHeld, contents_of, holding, shown};
+ghost use Rattle.dn_instance.specs.State.Helds.{contents_kind, pair_count, IsHeld, contents_of, parsed, viewed};
 ghost use Rattle.dn_instance.specs.Instances.{Instance};
 ghost use Rattle.dn_instance.specs.Validity.{IsValid};
 
@@ -20,9 +20,9 @@ pub struct Held {
 impl Held {
     // Returns a parsed instance with these NODES, this number of counted lines, and this content.
     pub(crate) fn new(nodes: i64, lines: i64, content: Content) -> Held
-        ensures nodes { (holding result).nodes ≡ nodes }
-        ensures lines { (holding result).lines ≡ lines }
-        ensures contents { (holding result).contents ≡ contents_of content }
+        ensures nodes { (parsed result).nodes ≡ nodes }
+        ensures lines { (parsed result).lines ≡ lines }
+        ensures contents { (parsed result).contents ≡ contents_of content }
     {
         Held {
             nodes,
@@ -33,28 +33,28 @@ impl Held {
 
     /// Returns the kind of the text.
     pub fn kind(&self) -> Kind
-        ensures { result ≡ contents_kind (holding self.now).contents }
+        ensures { result ≡ contents_kind (parsed self.now).contents }
     {
         self.content.kind()
     }
 
     /// Returns NODES, or 0 for a companion.
     pub fn nodes(&self) -> i64
-        ensures { result ≡ (holding self.now).nodes }
+        ensures { result ≡ (parsed self.now).nodes }
     {
         self.nodes
     }
 
     /// Returns how many counted lines were read: the number of arcs, items or points.
     pub fn lines(&self) -> i64
-        ensures { result ≡ (holding self.now).lines }
+        ensures { result ≡ (parsed self.now).lines }
     {
         self.lines
     }
 
     /// Returns how many ordered pairs have a bundle, or 0 for a companion.
     pub fn pairs(&self) -> u64
-        ensures { result ≡ pair_count (holding self.now).contents }
+        ensures { result ≡ pair_count (parsed self.now).contents }
     {
         self.content.pairs() as u64
     }
@@ -63,7 +63,7 @@ impl Held {
     /// bundle. A `min` instance makes one for each pair with a LOW above 0, and one for each COST of a pair that has an
     /// arc of this COST whose CAP is above its LOW. A companion makes one for each item or point.
     pub fn entries(&self) -> u64
-        ensures { (I : Instance) → IsValid I → IsHeld (holding self.now) I → result ≡ entries_of I }
+        ensures { (I : Instance) → IsValid I → IsHeld (parsed self.now) I → result ≡ entries_of I }
     {
         if self.lines == 0 {
             0
@@ -74,7 +74,7 @@ impl Held {
 
     /// Returns a view of what the parsed instance holds.
     pub fn view(&self) -> View<'_>
-        ensures { shown result ≡ (holding self.now).contents }
+        ensures { viewed result ≡ (parsed self.now).contents }
     {
         self.content.view()
     }

@@ -124,7 +124,7 @@ impl Reader {
     /// returns it.
     pub fn feed(&mut self, piece: &[u8]) -> Result<(), Refusal>
         ensures stands { (t : List ℕ) → ReaderAt self.old t → ReaderAt self.new (t ++ piece.now) }
-        ensures told { (t : List ℕ) → ReaderAt self.old t → Fed (t ++ piece.now) result }
+        ensures fed { (t : List ℕ) → ReaderAt self.old t → Fed (t ++ piece.now) result }
         ensures memory { WantsInPiece self.old self.new piece.now result }
         ensures answer { result ≡ answer_of (refusal_of self.new) }
         ensures again { (e : Refusal) → refusal_of self.old ≡ Some e → self.new ≡ self.old }

@@ -3,44 +3,44 @@ use Rattle.std.proofs.Common.{◌≡◌, ℕ, ℤ, pos, List, [], ◌∷◌, ◌
 use Rattle.std.specs.List.{concat}
 use Rattle.dn_line.specs.Names.{kind_name}
 use Rattle.dn_line.specs.declared.kind.Kind.{Kind}
-use Rattle.dn_instance.specs.State.Helds.{Bundles, Contents, Holding, contents_kind}
+use Rattle.dn_instance.specs.State.Helds.{Bundles, Contents, Parsed, contents_kind}
 use Rattle.dn_sink.specs.Rows.{Row, line_text, text_of}
 use Rattle.dn_report.specs.Shows.{kind_row, number_row, pair_row, graph_rows, supply_rows, terminal_rows}
-use Rattle.dn_report.specs.State.ToldRows.{told_rows, table_rows, contents_rows, held_rows}
+use Rattle.dn_report.specs.State.ListedRows.{listed_rows, table_rows, contents_rows, held_rows}
 use Rattle.dn_sink.proofs.RowLaws.{text-append}
 
-module _ {B Arc : Type 0} (words : List Arc → Row) (tells : B → List Arc) where
+module _ {B Arc : Type 0} (words : List Arc → Row) (lists : B → List Arc) where
   -- the lines of a table are the line of the next bundle and then those of the other bundles
   pub pair_next : (left rest : Bundles B) (e : (ℤ × ℤ) × B) (line : List ℕ) → left ≡ e ∷ rest
-      → line ≡ line_text (pair_row e.0 (words (tells e.1)))
-      → text_of (told_rows words tells left) ≡ line ++ text_of (told_rows words tells rest)
+      → line ≡ line_text (pair_row e.0 (words (lists e.1)))
+      → text_of (listed_rows words lists left) ≡ line ++ text_of (listed_rows words lists rest)
   pair_next left rest e line h is =
-      ap (λ l. text_of (told_rows words tells l)) h ∙ ap (λ l. l ++ text_of (told_rows words tells rest)) (sym is)
+      ap (λ l. text_of (listed_rows words lists l)) h ∙ ap (λ l. l ++ text_of (listed_rows words lists rest)) (sym is)
 
   -- the line of the number of bundles and their lines are the lines of the table
   pub table_text : (table : Bundles B) (n : ℕ) (line : List ℕ) → line ≡ line_text (number_row (codes "pairs") (pos n))
       → n ≡ length table
-      → line ++ text_of (told_rows words tells table) ≡ text_of (table_rows words tells table)
+      → line ++ text_of (listed_rows words lists table) ≡ text_of (table_rows words lists table)
   table_text table n line is e =
-      ap (λ l. l ++ text_of (told_rows words tells table))
+      ap (λ l. l ++ text_of (listed_rows words lists table))
       (is ∙ ap (λ m. line_text (number_row (codes "pairs") (pos m))) e)
 
   -- there are as many lines as bundles
-  pub count_told : (table : Bundles B) → length (told_rows words tells table) ≡ length table
-  count_told [] = refl
-  count_told (e ∷ es) = ap suc (count_told es)
+  pub count_listed : (table : Bundles B) → length (listed_rows words lists table) ≡ length table
+  count_listed [] = refl
+  count_listed (e ∷ es) = ap suc (count_listed es)
 
   -- the first lines of a graph and the lines of its table are the lines of the graph
   pub graph_text : (kind : Kind) (nodes lines : ℤ) (besides : List Row) (table : Bundles B) (a b c : List ℕ)
       (ds : List (List ℕ)) → a ≡ line_text (kind_row kind) → b ≡ line_text (number_row (codes "nodes") nodes)
       → c ≡ line_text (number_row (codes "lines") lines) → concat ds ≡ text_of besides
-      → concat (a ∷ b ∷ c ∷ ds) ++ text_of (table_rows words tells table) ≡ text_of
-      (graph_rows kind nodes lines besides (told_rows words tells table))
+      → concat (a ∷ b ∷ c ∷ ds) ++ text_of (table_rows words lists table) ≡ text_of
+      (graph_rows kind nodes lines besides (listed_rows words lists table))
   graph_text kind nodes lines besides table a b c ds e f g h =
-      let rows = told_rows words tells table in
-      let tail : text_of (table_rows words tells table) ≡ text_of
+      let rows = listed_rows words lists table in
+      let tail : text_of (table_rows words lists table) ≡ text_of
       (number_row (codes "pairs") (pos (length rows)) ∷ rows) =
-      ap (λ n. text_of (number_row (codes "pairs") (pos n) ∷ rows)) (sym (count_told table)) in
+      ap (λ n. text_of (number_row (codes "pairs") (pos n) ∷ rows)) (sym (count_listed table)) in
       let rest = text_of (number_row (codes "pairs") (pos (length rows)) ∷ rows) in
       let start : a ++ (b ++ (c ++ concat ds)) ≡ line_text (kind_row kind) ++
       (line_text (number_row (codes "nodes") nodes) ++
@@ -48,7 +48,7 @@ module _ {B Arc : Type 0} (words : List Arc → Row) (tells : B → List Arc) wh
       let one = line_text (kind_row kind) in
       let two = line_text (number_row (codes "nodes") nodes) in
       let three = line_text (number_row (codes "lines") lines) in
-      ap (λ l. l ++ text_of (table_rows words tells table)) start
+      ap (λ l. l ++ text_of (table_rows words lists table)) start
       ∙ ap (λ l. (one ++ (two ++ (three ++ text_of besides))) ++ l) tail
       ∙ append_assoc one (two ++ (three ++ text_of besides)) rest
       ∙ ap (λ l. one ++ l) (append_assoc two (three ++ text_of besides) rest)
@@ -63,7 +63,7 @@ kind_text a word kind x y e f g h =
     e ∙ ap (λ w. line_text (codes "kind" ∷ w ∷ [])) (f ∙ ap kind_name (g ∙ ap contents_kind (sym h)))
 
 -- the text of a parsed instance, from its parts
-pub held_text : (h : Holding) (nodes lines : ℤ) (x : Contents) (text : List ℕ) → nodes ≡ h.nodes → lines ≡ h.lines
+pub held_text : (h : Parsed) (nodes lines : ℤ) (x : Contents) (text : List ℕ) → nodes ≡ h.nodes → lines ≡ h.lines
     → x ≡ h.contents → text ≡ text_of (contents_rows nodes lines x) → text ≡ text_of (held_rows h)
 held_text h nodes lines x text e f g is =
     is ∙ ap (λ n. text_of (contents_rows n lines x)) e ∙ ap (λ n. text_of (contents_rows h.nodes n x)) f

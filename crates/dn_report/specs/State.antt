@@ -1,1 +1,1 @@
-pub mod ToldRows
+pub mod ListedRows

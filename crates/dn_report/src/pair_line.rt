@@ -4,7 +4,7 @@ ghost use Rattle.std.specs.Fmt.{signed_decimal};
 ghost use Rattle.dn_arc.specs.State.Bundles.{meant};
 ghost use Rattle.dn_sink.specs.Rows.{Row, line_text};
 ghost use Rattle.dn_report.specs.Shows.{cost_words, forced_words, pair_row, total_words};
-ghost use Rattle.dn_report.specs.State.ToldRows.{length_words};
+ghost use Rattle.dn_report.specs.State.ListedRows.{length_words};
 
 use dn_bundle::{Bundle, Curve, Least, Total};
 use dn_sink::LineBuffer;

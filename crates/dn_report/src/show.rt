@@ -2,11 +2,11 @@
 ghost use Rattle.std.specs.Prelude.{◌++◌, ℕ, List, IsTrue, OnOk};
 ghost use Rattle.std.specs.List.{concat};
 ghost use Rattle.dn_arc.specs.declared.arc.Form.{Form};
-ghost use Rattle.dn_instance.specs.State.Helds.{OfHeld, holding};
+ghost use Rattle.dn_instance.specs.State.Helds.{OfHeld, parsed};
 ghost use Rattle.dn_sink.specs.Rows.{text_of};
 ghost use Rattle.dn_sink.specs.Puts.{Puts};
 ghost use Rattle.dn_report.specs.Shows.{IsShown};
-ghost use Rattle.dn_report.specs.State.ToldRows.{held_rows, table_rows, told_rows};
+ghost use Rattle.dn_report.specs.State.ListedRows.{held_rows, table_rows, listed_rows};
 
 use crate::lines::{count_line, number_line, put_lines, word_line};
 use crate::pair_line::PairLine;
@@ -32,7 +32,7 @@ pub fn put_shown<K: Sink>(sink: &mut K, held: &Held) -> Result<(), SinkFault>
 
 // Puts the lines of a parsed instance.
 fn put_held<K: Sink>(sink: &mut K, held: &Held) -> Result<(), SinkFault>
-    ensures { Puts K.sink sink.old sink.new (text_of (held_rows (holding held.now))) result }
+    ensures { Puts K.sink sink.old sink.new (text_of (held_rows (parsed held.now))) result }
 {
     let kind = word_line(b"kind", held.kind().name().as_bytes());
     let nodes = number_line(b"nodes", &held.nodes());
@@ -63,7 +63,7 @@ fn put_graph<B: PairLine, K: Sink>(
     table: &Table<B>,
 ) -> Result<(), SinkFault>
     ensures { Puts K.sink sink.old sink.new
-        (concat head.now ++ text_of (table_rows B.words (B.bundle.told Form.One) table.now)) result }
+        (concat head.now ++ text_of (table_rows B.words (B.bundle.listed Form.One) table.now)) result }
 {
     put_lines(sink, head)?;
     count_line(b"pairs", table.len() as u64).put(sink)?;
@@ -73,7 +73,7 @@ fn put_graph<B: PairLine, K: Sink>(
 // Puts the line of each pair.
 fn put_pairs<B: PairLine, K: Sink>(sink: &mut K, table: &Table<B>) -> Result<(), SinkFault>
     ensures { Puts K.sink sink.old sink.new
-        (text_of (told_rows B.words (B.bundle.told Form.One) table.now)) result }
+        (text_of (listed_rows B.words (B.bundle.listed Form.One) table.now)) result }
 {
     let mut line = LineBuffer::new(b"");
     for (pair, bundle) in table.pairs() {

@@ -4,7 +4,7 @@ use Rattle.dn_line.specs.declared.kind.Kind.{Kind}
 use Rattle.dn_arc.specs.declared.arc.Form.{Form}
 use Rattle.dn_instance.specs.State.Companions.{judged}
 use Rattle.dn_instance.specs.State.SourceReads.{HoldsCopied}
-use Rattle.dn_instance.specs.State.Helds.{IsHeld, contents_kind, holding}
+use Rattle.dn_instance.specs.State.Helds.{IsHeld, contents_kind, parsed}
 use Rattle.dn_instance.specs.Instances.{Instance}
 use Rattle.dn_instance.specs.Texts.{Reads}
 use Rattle.dn_instance.specs.Validity.{IsValid}
@@ -38,7 +38,7 @@ module _ {T S : Type 0} (text : AskedText T) (out : SinkRun S) (held : Held) whe
   -- ---- `show`
 
   module _ (h : IsRead (IsRefusedText text) text (Ok held)) (t : List ℕ)
-      (shows : (I : Instance) → IsValid I → IsHeld (holding held) I → IsShown I t) where
+      (shows : (I : Instance) → IsValid I → IsHeld (parsed held) I → IsShown I t) where
     pub shown_done : HasPut out.words out.old out.new [] t
         → OnText PutsShown (λ _. Never) (IsRefusedText text) text out (Done 0)
     shown_done put =
@@ -57,7 +57,7 @@ module _ {T S : Type 0} (text : AskedText T) (out : SinkRun S) (held : Held) whe
 
   module _ (form : Form) (h : IsRead (IsRefusedText text) text (Ok held)) where
     pub canon_done :
-        ((I : Instance) → IsValid I → IsHeld (holding held) I → WritesCanon out.words out.old out.new form I (Ok tt))
+        ((I : Instance) → IsValid I → IsHeld (parsed held) I → WritesCanon out.words out.old out.new form I (Ok tt))
         → OnText (PutsCanon form) (λ _. Never) (IsRefusedCanon form text) text out (Done 0)
     canon_done writes =
         on_read (PutsCanon form) (λ _. Never) (IsRefusedText text) (IsRefusedCanon form text) text out held (Done 0) h
@@ -69,7 +69,7 @@ module _ {T S : Type 0} (text : AskedText T) (out : SinkRun S) (held : Held) whe
 
     -- `canon` ends as its answer says if the canonical text is not written
     pub canon_unwritten : (e : Refusal) → IsOfWriting e
-        → ((I : Instance) → IsValid I → IsHeld (holding held) I → WritesCanon out.words out.old out.new form I (Err e))
+        → ((I : Instance) → IsValid I → IsHeld (parsed held) I → WritesCanon out.words out.old out.new form I (Err e))
         → OnText (PutsCanon form) (λ _. Never) (IsRefusedCanon form text) text out (unwritten text.name e)
     canon_unwritten e after writes =
         on_read (PutsCanon form) (λ _. Never) (IsRefusedText text) (IsRefusedCanon form text) text out held
@@ -137,7 +137,7 @@ module _ {T S : Type 0} (text : AskedText T) (out : SinkRun S) (held : Held) (ke
     (h : IsRead (IsRefusedCopy text) text (Ok held)) (c : IsCopy text kept (Ok held))
     (k : HoldsCopied [] kept held) where
   pub checked : (answer : Answer) → IsFound answer
-      → ((I : Instance) → Reads copy I → IsHeld (holding held) I → PutsFinding (PutsChecked None copy I) out answer)
+      → ((I : Instance) → Reads copy I → IsHeld (parsed held) I → PutsFinding (PutsChecked None copy I) out answer)
       → OnText (PutsChecked None) (λ _. Never) (IsRefusedCopy text) text out answer
   checked answer found puts =
       on_held (PutsChecked None) (λ _. Never) (IsRefusedCopy text) (IsRefusedCopy text) text out held answer h
@@ -204,20 +204,20 @@ module _ {T S : Type 0} (left right : AskedText T) (out : SinkRun S) (graph : He
 
   module _ (companion : Held) (k : IsRead (IsRefusedText right) right (Ok companion)) where
     -- if the companion does not fit, so `check` ends
-    pub unfit : (fault : CompanionFault) → judged (holding graph) (holding companion) ≡ Err fault
+    pub unfit : (fault : CompanionFault) → judged (parsed graph) (parsed companion) ≡ Err fault
         → OnTwoTexts PutsFit Unfits (IsRefusedCopy left) left right out (Unfit right.name fault)
     unfit fault u = on_left_read PutsFit Unfits (IsRefusedCopy left) left right out graph (Unfit right.name fault) h
         (λ b I reads is. on_read (λ x J. PutsFit b I J) (Unfits I) (IsRefusedText right)
         (IsRefusedText right) right out companion (Unfit right.name fault) k
         (unfit_unread right.name fault right.name)
-        (λ x J reads' is'. (J, reads', refl, sym (judged_is (holding graph) (holding companion) I J is is') ∙ u)))
+        (λ x J reads' is'. (J, reads', refl, sym (judged_is (parsed graph) (parsed companion) I J is is') ∙ u)))
 
     -- if the companion fits, `check` puts the lines of both texts
     module _ (kept copy : List ℕ) (s : copy ≡ kept) (c : IsCopy left kept (Ok graph)) (all : HoldsCopied [] kept graph)
-        (fit : judged (holding graph) (holding companion) ≡ Ok tt) (with : Kind)
-        (w : with ≡ contents_kind (holding companion).contents) where
+        (fit : judged (parsed graph) (parsed companion) ≡ Ok tt) (with : Kind)
+        (w : with ≡ contents_kind (parsed companion).contents) where
       pub fits : (answer : Answer)
-          → ((I : Instance) → Reads copy I → IsHeld (holding graph) I
+          → ((I : Instance) → Reads copy I → IsHeld (parsed graph) I
           → PutsFinding (PutsChecked (Some with) copy I) out answer)
           → OnTwoTexts PutsFit Unfits (IsRefusedCopy left) left right out answer
       fits answer puts = on_left PutsFit Unfits (IsRefusedCopy left) left right out graph answer h
@@ -231,15 +231,15 @@ module _ {T S : Type 0} (left right : AskedText T) (out : SinkRun S) (graph : He
           as_two PutsFit Unfits (IsRefusedCopy left) left right out answer
           (copy, I, here, (by_answer copy I is answer (puts I here is)).some))
         where
-          fit_on : (b : List ℕ) (I : Instance) → IsHeld (holding graph) I → (J : Instance)
-              → IsHeld (holding companion) J → (status : ℕ) (t : List ℕ) → PutsChecked (Some with) b I status t
+          fit_on : (b : List ℕ) (I : Instance) → IsHeld (parsed graph) I → (J : Instance)
+              → IsHeld (parsed companion) J → (status : ℕ) (t : List ℕ) → PutsChecked (Some with) b I status t
               → PutsFit b I J status t
           fit_on b I is J is' status t p = (
-            sym (judged_is (holding graph) (holding companion) I J is is') ∙ fit,
-            subst (λ x. PutsChecked (Some x) b I status t) (w ∙ held_kind (holding companion) J is') p,
+            sym (judged_is (parsed graph) (parsed companion) I J is is') ∙ fit,
+            subst (λ x. PutsChecked (Some x) b I status t) (w ∙ held_kind (parsed companion) J is') p,
           )
 
-          by_answer : (b : List ℕ) (I : Instance) → IsHeld (holding graph) I → (answer : Answer)
+          by_answer : (b : List ℕ) (I : Instance) → IsHeld (parsed graph) I → (answer : Answer)
               → PutsFinding (PutsChecked (Some with) b I) out answer
               → OnText (λ x J. PutsFit b I J) (Unfits I) (IsRefusedText right) right out answer
           by_answer b I is (Done status) (t, p, a) =
@@ -267,7 +267,7 @@ module _ {T S : Type 0} (left right : AskedText T) (out : SinkRun S) (one : Held
 
   -- if both texts were read, `compare` puts their first difference
   pub compared : (other : Held) → IsRead (IsRefusedText right) right (Ok other) → (answer : Answer) → IsFound answer
-      → ((I J : Instance) → IsValid I → IsValid J → IsHeld (holding one) I → IsHeld (holding other) J
+      → ((I J : Instance) → IsValid I → IsValid J → IsHeld (parsed one) I → IsHeld (parsed other) J
       → PutsFinding (PutsCompared I J) out answer)
       → OnTwoTexts (λ _. PutsCompared) (λ _ _. Never) (IsRefusedText left) left right out answer
   compared other k answer found puts =

@@ -4,7 +4,7 @@ use Rattle.std.specs.List.{flat_map}
 use Rattle.std.specs.Map.{keys_of}
 use Rattle.dn_instance.specs.Companions.{both_nodes, within}
 use Rattle.dn_instance.specs.State.Companions.{is_graph, judged, judged_by, named_nodes}
-use Rattle.dn_instance.specs.State.Helds.{Contents, Holding, IsHeld, OfMin, OfMax, OfSp, OfSs, OfP2p, OfCo, Shows}
+use Rattle.dn_instance.specs.State.Helds.{Contents, Parsed, IsHeld, OfMin, OfMax, OfSp, OfSs, OfP2p, OfCo, Shows}
 use Rattle.dn_instance.specs.Instances.{Instance, MinCostFlow, MaxFlow, ShortestPaths, Sources, Queries, Coordinates, nodes_of}
 use Rattle.dn_run.specs.Fits.{companion_fit, nodes_fit}
 
@@ -29,5 +29,5 @@ fit_is n (OfCo points) d (Coordinates xs) J e h k = refl
 fit_is n _ d _ J e h k = absurd h
 
 -- the check of two parsed instances returns whether the instances that they represent fit
-pub judged_is : (g k : Holding) (I J : Instance) → IsHeld g I → IsHeld k J → judged g k ≡ companion_fit I J
+pub judged_is : (g k : Parsed) (I J : Instance) → IsHeld g I → IsHeld k J → judged g k ≡ companion_fit I J
 judged_is g k I J h i = fit_is g.nodes g.contents k.contents I J h.nodes_are h.shows i.shows

@@ -1,7 +1,7 @@
 -- Lemmas on how a command ends, from the results of reading its texts.
 use Rattle.std.proofs.Common.{◌≡◌, ◌⊎◌, ℕ, List, [], Option, Some, None, Result, Ok, Err, IfSome, refl, sym, ap, ◌∙◌, subst, inl, inr, append-nil}
 use Rattle.std.specs.Io.KnownBytes.{Appends}
-use Rattle.dn_instance.specs.State.Helds.{IsHeld, holding}
+use Rattle.dn_instance.specs.State.Helds.{IsHeld, parsed}
 use Rattle.dn_instance.specs.Instances.{Instance}
 use Rattle.dn_instance.specs.Texts.{Reads}
 use Rattle.dn_instance.specs.declared.companion.CompanionFault.{CompanionFault}
@@ -32,9 +32,9 @@ abbrev refused_result : Refusal → Result Held Refusal
 refused_result e = Err e
 
 -- the reason of a refusal; of any other answer, `Memory`
-abbrev told_refusal : Answer → Refusal
-told_refusal (Refused name e) = e
-told_refusal _ = Memory
+abbrev refusal_outcome : Answer → Refusal
+refusal_outcome (Refused name e) = e
+refusal_outcome _ = Memory
 
 -- the answers `Done`, `Unfit` and `Cut` are no refusal with `Read`
 pub done_unread : (status : ℕ) (name : List ℕ) → Done status ≡ Refused name Read → ⊥
@@ -73,7 +73,7 @@ module _ {T S : Type 0} (Puts : List ℕ → Instance → ℕ → List ℕ → T
     (Reading Refuses : List ℕ → Refusal → Type 0) (text : AskedText T) (out : SinkRun S) where
   -- if the text was read, `OnText` holds of an answer that is right for the bytes behind its name and for some text
   pub on_held : (held : Held) (answer : Answer) → IsRead Reading text (Ok held) → (answer ≡ Refused text.name Read → ⊥)
-      → ((b : List ℕ) → text.fault ≡ None → text.behind ≡ Some b → (I : Instance) → Reads b I → IsHeld (holding held) I
+      → ((b : List ℕ) → text.fault ≡ None → text.behind ≡ Some b → (I : Instance) → Reads b I → IsHeld (parsed held) I
       → RanOn Puts Unfits Refuses text.name out b answer)
       → RanOnSome Puts Unfits Refuses text.name out answer → OnText Puts Unfits Refuses text out answer
   on_held held answer h unread ran some = record {
@@ -94,7 +94,7 @@ module _ {T S : Type 0} (Puts : List ℕ → Instance → ℕ → List ℕ → T
   -- if the text was read, `OnText` holds of an answer that is right for each text that reads as an instance that `held`
   -- represents
   pub on_read : (held : Held) (answer : Answer) → IsRead Reading text (Ok held) → (answer ≡ Refused text.name Read → ⊥)
-      → ((b : List ℕ) (I : Instance) → Reads b I → IsHeld (holding held) I
+      → ((b : List ℕ) (I : Instance) → Reads b I → IsHeld (parsed held) I
       → RanOn Puts Unfits Refuses text.name out b answer)
       → OnText Puts Unfits Refuses text out answer
   on_read held answer h unread ran =
@@ -107,7 +107,7 @@ module _ {T S : Type 0} (Puts : List ℕ → Instance → ℕ → List ℕ → T
       → OnText Puts Unfits Refuses text out (Refused text.name refusal)
   on_refused refusal h more = record {
     not_handed = of_fault text.name text.fault refusal (Err refusal) refl h.not_handed;
-    failed = λ fine e. h.failed fine (ap refused_result (ap told_refusal e));
+    failed = λ fine e. h.failed fine (ap refused_result (ap refusal_outcome e));
     handed = λ none. by_behind text.behind (λ b e refused. (refl, more b refused)) (h.handed none);
     some = tt;
   }
@@ -118,7 +118,7 @@ module _ {T S : Type 0} (Puts : List ℕ → Instance → Instance → ℕ → L
   -- if the left text was read, `OnTwoTexts` holds of an answer that is right for the bytes behind the names and for
   -- some two texts
   pub on_left : (held : Held) (answer : Answer) → IsRead Refuses left (Ok held)
-      → ((b : List ℕ) → left.fault ≡ None → left.behind ≡ Some b → (I : Instance) → Reads b I → IsHeld (holding held) I
+      → ((b : List ℕ) → left.fault ≡ None → left.behind ≡ Some b → (I : Instance) → Reads b I → IsHeld (parsed held) I
       → IsRefusedAs Refuses left.name b answer ⊎ OnText (λ c J. Puts b I J) (Unfits I)
       (IsRefusedText right) right out answer)
       → RanOnTwo Puts Unfits (IsRefusedText right) right.name out answer
@@ -152,7 +152,7 @@ module _ {T S : Type 0} (Puts : List ℕ → Instance → Instance → ℕ → L
   -- if the left text was read, `OnTwoTexts` holds of an answer that is right for each left text that reads as an
   -- instance that `held` represents
   pub on_left_read : (held : Held) (answer : Answer) → IsRead Refuses left (Ok held)
-      → ((b : List ℕ) (I : Instance) → Reads b I → IsHeld (holding held) I
+      → ((b : List ℕ) (I : Instance) → Reads b I → IsHeld (parsed held) I
       → OnText (λ c J. Puts b I J) (Unfits I) (IsRefusedText right) right out answer)
       → OnTwoTexts Puts Unfits Refuses left right out answer
   on_left_read held answer h ran =

@@ -84,10 +84,10 @@ too_large form text b Write h two I reads = absurd h
 
 -- a status that is 0 is not 2
 zero_two : (status : ℕ) → status ≡ 0 → status ≡ 2 → ⊥
-zero_two status zero two = apart (sym zero ∙ two)
+zero_two status zero two = zero_is_not_two (sym zero ∙ two)
   where
-    apart : ◌≡◌ {A = ℕ} 0 2 → ⊥
-    apart e = cc
+    zero_is_not_two : ◌≡◌ {A = ℕ} 0 2 → ⊥
+    zero_is_not_two e = cc
 
 module _ {T S : Type 0} (Puts : List ℕ → Instance → Instance → ℕ → List ℕ → Type 0)
     (Unfits : Instance → Instance → CompanionFault → Type 0) (Refuses : List ℕ → Refusal → Type 0)
@@ -146,7 +146,7 @@ not_accepted files out (Compare left right) answer p two =
     (λ b e r e2. unread _ b e r e2) (λ I J fault u. absurd u) answer two p.means
   where
     most_two : (n : ℕ) → n ≤ 1 → n ≡ 2 → ⊥
-    most_two n m e = apart (subst (λ k. k ≤ 1) e m)
+    most_two n m e = two_is_above_one (subst (λ k. k ≤ 1) e m)
       where
-        apart : 2 ≤ 1 → ⊥
-        apart h = omega arith
+        two_is_above_one : 2 ≤ 1 → ⊥
+        two_is_above_one h = omega arith

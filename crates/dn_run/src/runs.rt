@@ -37,7 +37,7 @@ pub fn run<F: Files, O: Sink, E: Sink>(
 /// Puts the line for words that are no command on `err`, and returns the exit status, 3. Ignores a fault of `err`.
 pub fn refuse_words<E: Sink>(err: &mut E) -> u8
     ensures status { result ≡ 3 }
-    ensures told { TakesLine (sink_run E.sink (err.old, err.new)) bad_command_line }
+    ensures said { TakesLine (sink_run E.sink (err.old, err.new)) bad_command_line }
 {
     let _ = put_all(err, b"dnorm: bad command line\n");
     3

@@ -6,7 +6,7 @@ use Rattle.std.proofs.lemmas.Map.Keys.{IsDistinct-head, IsDistinct-tail}
 use Rattle.std.specs.List.{AllByRecursion, list_any, IsDistinct}
 use Rattle.std.specs.Map.{keys_of, lookup}
 use Rattle.std.specs.Ordering.{int_eq}
-use Rattle.dn_arc.specs.State.Bundles.{IsKind, told_of}
+use Rattle.dn_arc.specs.State.Bundles.{IsKind, listed_of}
 use Rattle.dn_arc.specs.Canonical.{has_low}
 use Rattle.dn_arc.specs.Capacities.{total_cap}
 use Rattle.dn_arc.specs.Entries.{distinct, has_room, length_entries, cap_entries, cost_entries}
@@ -17,7 +17,7 @@ use Rattle.dn_arc.specs.Kinds.{ArcKind}
 use Rattle.dn_arc.specs.declared.arc.Form.TheVariants.{One}
 use Rattle.dn_table.specs.State.GraphEntries.{graph_entries}
 use Rattle.dn_arc.specs.Pairs.{bundle, same_pair}
-use Rattle.dn_table.specs.State.Tables.{told_at, TableTells, AreArcs}
+use Rattle.dn_table.specs.State.Tables.{listed_at, TableLists, AreArcs}
 use Rattle.dn_arc.proofs.PairLaws.{pair_is, pair_self}
 use Rattle.dn_table.proofs.PairLaws.{other_pair}
 
@@ -216,13 +216,13 @@ module _ {B : Type 0} where
           sym (ap (λ b. cond b (Some e.1) (lookup (same_pair k) rest)) q)
           ∙ at k (ap (λ b. b || among k (keys_of rest)) q ∙ m)
 
-module _ {B Arc : Type 0} (kind : ArcKind Arc) (laws : IsKind kind) (tells : B → List Arc) where
+module _ {B Arc : Type 0} (kind : ArcKind Arc) (laws : IsKind kind) (lists : B → List Arc) where
   -- the bundles of a table make as many entries as the arcs that the table represents
   pub table_entries : (table : List (Pair × B)) (arcs : List (Pair × Arc)) → Once (keys_of table)
-      → TableTells kind tells table arcs → AreArcs kind arcs
-      → sum_by (λ (e : Pair × B). kind.entries (tells e.1)) table ≡ graph_entries kind arcs
+      → TableLists kind lists table arcs → AreArcs kind arcs
+      → sum_by (λ (e : Pair × B). kind.entries (lists e.1)) table ≡ graph_entries kind arcs
   table_entries table arcs once t are =
-      sum_at f (λ b. kind.entries (tells b)) table table (λ k m. refl) once at
+      sum_at f (λ b. kind.entries (lists b)) table table (λ k m. refl) once at
       ∙ same_sum f (keys_of table) (distinct same_pair (map (λ a. a.0) arcs)) once
       (once_distinct (map (λ a. a.0) arcs)) out back
     where
@@ -233,12 +233,12 @@ module _ {B Arc : Type 0} (kind : ArcKind Arc) (laws : IsKind kind) (tells : B �
       arcs_at p = bundle_arcs kind.IsArc p arcs are
 
       at : (k : Pair) (b : B) → lookup (same_pair k) table ≡ Some b
-          → kind.entries (tells b) ≡ kind.entries (bundle k arcs)
+          → kind.entries (lists b) ≡ kind.entries (bundle k arcs)
       at k b e =
           let stands = t.stands k in
-          ap (λ o. kind.entries (told_of tells o)) (sym e)
-          ∙ laws.same_entries (told_at tells table k) (bundle k arcs)
-          (laws.canon_arcs One (told_at tells table k) stands.canonical) (arcs_at k) stands.same
+          ap (λ o. kind.entries (listed_of lists o)) (sym e)
+          ∙ laws.same_entries (listed_at lists table k) (bundle k arcs)
+          (laws.canon_arcs One (listed_at lists table k) stands.canonical) (arcs_at k) stands.same
 
       out : (r : Pair) → among r (keys_of table) ≡ false → among r (distinct same_pair (map (λ a. a.0) arcs)) ≡ true
           → f r ≡ 0

@@ -7,11 +7,11 @@ use Rattle.std.proofs.lemmas.List.{set-get_or}
 use Rattle.std.proofs.lemmas.Map.Entries.{lookup_from_place, length-keys_of}
 use Rattle.std.proofs.lemmas.Map.Made.{is_some-lookup}
 use Rattle.std.proofs.lemmas.Option.{slice_get-get_or}
-use Rattle.dn_arc.specs.State.Bundles.{told_of}
+use Rattle.dn_arc.specs.State.Bundles.{listed_of}
 use Rattle.dn_arc.specs.Kinds.{ArcKind}
 use Rattle.dn_arc.specs.State.Kinds.{AreCanonArcsOf}
 use Rattle.dn_arc.specs.Pairs.{bundle, pair_cmp, same_pair}
-use Rattle.dn_table.specs.State.Tables.{Grows, TableStandsFor, TableTells}
+use Rattle.dn_table.specs.State.Tables.{Grows, TableStandsFor, TableLists}
 use Rattle.dn_table.proofs.PairLaws.{other_pair}
 use Rattle.dn_table.proofs.TableLaws.{grows_there}
 use Rattle.dn_arc.proofs.PairLaws.{pair_equiv}
@@ -96,24 +96,24 @@ module _ {X : Type 0} (p : ℤ × ℤ) (es : List ((ℤ × ℤ) × X)) where
     same_then w f = ap (λ v. set es i (e.0, v)) f ∙ ap (set es i) is ∙ set-get_or es i e
 
     -- if the bundle of a pair has taken an arc, the table has taken it
-    pub grows_here : {Arc : Type 0} (kind : ArcKind Arc) (tells : X → List Arc) (arc : Arc) (w : X)
-        → kind.Same (tells w) (tells e.1 ++ arc ∷ []) → Grows kind tells es (set es i (e.0, w)) p arc
-    grows_here kind tells arc w same =
-        grows_there kind tells es (set es i (e.0, w)) p arc e.1 w found_at (found_then w) (others_then w) same
+    pub grows_here : {Arc : Type 0} (kind : ArcKind Arc) (lists : X → List Arc) (arc : Arc) (w : X)
+        → kind.Same (lists w) (lists e.1 ++ arc ∷ []) → Grows kind lists es (set es i (e.0, w)) p arc
+    grows_here kind lists arc w same =
+        grows_there kind lists es (set es i (e.0, w)) p arc e.1 w found_at (found_then w) (others_then w) same
 
 -- tables with the same look-ups represent the same arcs
-pub tells_as : {B Arc : Type 0} (kind : ArcKind Arc) (tells : B → List Arc) (table other : List ((ℤ × ℤ) × B))
+pub lists_as : {B Arc : Type 0} (kind : ArcKind Arc) (lists : B → List Arc) (table other : List ((ℤ × ℤ) × B))
     (arcs : List ((ℤ × ℤ) × Arc)) → ((p : ℤ × ℤ) → lookup (same_pair p) other ≡ lookup (same_pair p) table)
-    → TableTells kind tells table arcs → TableTells kind tells other arcs
-tells_as kind tells table other arcs same t = record {
-  stands = λ p. subst (λ o. AreCanonArcsOf kind (told_of tells o) (bundle p arcs)) (sym (same p)) (t.stands p);
+    → TableLists kind lists table arcs → TableLists kind lists other arcs
+lists_as kind lists table other arcs same t = record {
+  stands = λ p. subst (λ o. AreCanonArcsOf kind (listed_of lists o) (bundle p arcs)) (sym (same p)) (t.stands p);
   absent = λ p. subst (λ o. (o ≡ None) ↔ kind.Same (bundle p arcs) []) (sym (same p)) (t.absent p);
 }
 
 -- a sorted table with the same look-ups represents the same arcs
-pub stands_as : {B Arc : Type 0} (kind : ArcKind Arc) (tells : B → List Arc) (table other : List ((ℤ × ℤ) × B))
+pub stands_as : {B Arc : Type 0} (kind : ArcKind Arc) (lists : B → List Arc) (table other : List ((ℤ × ℤ) × B))
     (arcs : List ((ℤ × ℤ) × Arc)) → IsStrictlySortedBy pair_cmp (keys_of other)
     → ((p : ℤ × ℤ) → lookup (same_pair p) other ≡ lookup (same_pair p) table)
-    → TableTells kind tells table arcs → TableStandsFor kind tells other arcs
-stands_as kind tells table other arcs rising same t =
-    record { rising = rising; tells_them = tells_as kind tells table other arcs same t }
+    → TableLists kind lists table arcs → TableStandsFor kind lists other arcs
+stands_as kind lists table other arcs rising same t =
+    record { rising = rising; lists_them = lists_as kind lists table other arcs same t }

@@ -7,19 +7,19 @@ use Rattle.dn_arc.specs.State.Meanings.{IsMeaning}
 use Rattle.dn_bundle.specs.declared.bundle.BundleFault.{BundleFault}
 use Rattle.dn_bundle.specs.declared.bundle.BundleFault.TheVariants.{Sum, Memory}
 use Rattle.dn_arc.specs.Pairs.{same_pair}
-use Rattle.dn_arc.specs.State.Bundles.{told_of}
-use Rattle.dn_table.specs.State.Tables.{told_at, Grows}
+use Rattle.dn_arc.specs.State.Bundles.{listed_of}
+use Rattle.dn_table.specs.State.Tables.{listed_at, Grows}
 
-module _ {B Arc : Type 0} (kind : ArcKind Arc) (tells : B → List Arc) (m n : List ((ℤ × ℤ) × B)) (pair : ℤ × ℤ)
+module _ {B Arc : Type 0} (kind : ArcKind Arc) (lists : B → List Arc) (m n : List ((ℤ × ℤ) × B)) (pair : ℤ × ℤ)
     (arc : Arc) where
   -- the bundle of the pair has taken the arc
   pub grows_there : (b w : B) → lookup (same_pair pair) m ≡ Some b → lookup (same_pair pair) n ≡ Some w
       → ((p : ℤ × ℤ) → same_pair pair p ≡ false → lookup (same_pair p) n ≡ lookup (same_pair p) m)
-      → kind.Same (tells w) (tells b ++ arc ∷ []) → Grows kind tells m n pair arc
+      → kind.Same (lists w) (lists b ++ arc ∷ []) → Grows kind lists m n pair arc
   grows_there b w e f others same = record {
     here =
-        subst (λ o. kind.Same (told_of tells o) (told_at tells m pair ++ arc ∷ [])) (sym f)
-        (subst (λ o. kind.Same (tells w) (told_of tells o ++ arc ∷ [])) (sym e) same);
+        subst (λ o. kind.Same (listed_of lists o) (listed_at lists m pair ++ arc ∷ [])) (sym f)
+        (subst (λ o. kind.Same (lists w) (listed_of lists o ++ arc ∷ [])) (sym e) same);
     kept = λ s. subst IsSome (sym f) refl;
     fresh = λ g. (let never : None ≡ Some b = sym g ∙ e in cc);
     others = others;
@@ -28,60 +28,60 @@ module _ {B Arc : Type 0} (kind : ArcKind Arc) (tells : B → List Arc) (m n : L
   -- a pair without a bundle gets one if the arc means something
   pub grows_fresh : (e w : B) → lookup (same_pair pair) m ≡ None → lookup (same_pair pair) n ≡ Some w
       → ((p : ℤ × ℤ) → same_pair pair p ≡ false → lookup (same_pair p) n ≡ lookup (same_pair p) m)
-      → tells e ≡ [] → kind.Same (tells w) (tells e ++ arc ∷ []) → (kind.Same (tells w) [] → ⊥)
-      → Grows kind tells m n pair arc
+      → lists e ≡ [] → kind.Same (lists w) (lists e ++ arc ∷ []) → (kind.Same (lists w) [] → ⊥)
+      → Grows kind lists m n pair arc
   grows_fresh e w h f others none same some = record {
     here =
-        subst (λ o. kind.Same (told_of tells o) (told_at tells m pair ++ arc ∷ [])) (sym f)
-        (subst (λ o. kind.Same (tells w) (told_of tells o ++ arc ∷ [])) (sym h)
-        (subst (λ l. kind.Same (tells w) (l ++ arc ∷ [])) none same));
+        subst (λ o. kind.Same (listed_of lists o) (listed_at lists m pair ++ arc ∷ [])) (sym f)
+        (subst (λ o. kind.Same (lists w) (listed_of lists o ++ arc ∷ [])) (sym h)
+        (subst (λ l. kind.Same (lists w) (l ++ arc ∷ [])) none same));
     kept = λ s. subst IsSome (sym f) refl;
     fresh =
         λ g. (
           λ no. (let never : None ≡ Some w = sym no ∙ f in cc),
           λ s. absurd
-              (some (subst (λ o. kind.Same (told_of tells o) []) f s)),
+              (some (subst (λ o. kind.Same (listed_of lists o) []) f s)),
         );
     others = others;
   }
 
-module _ {B Arc : Type 0} (kind : ArcKind Arc) (tells : B → List Arc) (m : List ((ℤ × ℤ) × B)) (pair : ℤ × ℤ)
+module _ {B Arc : Type 0} (kind : ArcKind Arc) (lists : B → List Arc) (m : List ((ℤ × ℤ) × B)) (pair : ℤ × ℤ)
     (arc : Arc) (meaning : IsMeaning kind.Same) where
   -- a pair without a bundle gets none if the arc means nothing
-  pub grows_none : (e w : B) → lookup (same_pair pair) m ≡ None → tells e ≡ []
-      → kind.Same (tells w) (tells e ++ arc ∷ []) → kind.Same (tells w) [] → Grows kind tells m m pair arc
+  pub grows_none : (e w : B) → lookup (same_pair pair) m ≡ None → lists e ≡ []
+      → kind.Same (lists w) (lists e ++ arc ∷ []) → kind.Same (lists w) [] → Grows kind lists m m pair arc
   grows_none e w h none same nothing =
       let alone : kind.Same [] (arc ∷ []) =
-      meaning.same_trans [] (tells w) (arc ∷ []) (meaning.same_sym (tells w) [] nothing)
-      (subst (λ l. kind.Same (tells w) (l ++ arc ∷ [])) none same) in
+      meaning.same_trans [] (lists w) (arc ∷ []) (meaning.same_sym (lists w) [] nothing)
+      (subst (λ l. kind.Same (lists w) (l ++ arc ∷ [])) none same) in
       record {
-        here = subst (λ o. kind.Same (told_of tells o) (told_of tells o ++ arc ∷ [])) (sym h) alone;
+        here = subst (λ o. kind.Same (listed_of lists o) (listed_of lists o ++ arc ∷ [])) (sym h) alone;
         kept = λ s. s;
-        fresh = λ g. (λ no. subst (λ o. kind.Same (told_of tells o) []) (sym h) (meaning.same_refl []), λ s. h);
+        fresh = λ g. (λ no. subst (λ o. kind.Same (listed_of lists o) []) (sym h) (meaning.same_refl []), λ s. h);
         others = λ p f. refl;
       }
 
 -- the arcs that a table lists for a pair with a bundle
-pub told_there : {B Arc : Type 0} (tells : B → List Arc) (m : List ((ℤ × ℤ) × B)) (pair : ℤ × ℤ) (b : B)
-    → lookup (same_pair pair) m ≡ Some b → told_at tells m pair ≡ tells b
-told_there tells m pair b e = ap (told_of tells) e
+pub listed_there : {B Arc : Type 0} (lists : B → List Arc) (m : List ((ℤ × ℤ) × B)) (pair : ℤ × ℤ) (b : B)
+    → lookup (same_pair pair) m ≡ Some b → listed_at lists m pair ≡ lists b
+listed_there lists m pair b e = ap (listed_of lists) e
 
 -- a table lists no arcs for a pair without a bundle
-pub told_none : {B Arc : Type 0} (tells : B → List Arc) (m : List ((ℤ × ℤ) × B)) (pair : ℤ × ℤ)
-    → lookup (same_pair pair) m ≡ None → told_at tells m pair ≡ []
-told_none tells m pair e = ap (told_of tells) e
+pub listed_none : {B Arc : Type 0} (lists : B → List Arc) (m : List ((ℤ × ℤ) × B)) (pair : ℤ × ℤ)
+    → lookup (same_pair pair) m ≡ None → listed_at lists m pair ≡ []
+listed_none lists m pair e = ap (listed_of lists) e
 
 -- a bundle that has not changed is the one that was found
 pub found_still : {B : Type 0} (o : Option B) (b w : B) → o ≡ Some b → w ≡ b → o ≡ Some w
 found_still o b w e f = e ∙ ap (λ x. Some x) (sym f)
 
 -- the sum of a bundle is too large exactly if that of the table at its pair is
-pub sum_told : {B Arc F : Type 0} (kind : ArcKind Arc) (tells : B → List Arc) (arc : Arc) (most : ℤ)
-    (m : List ((ℤ × ℤ) × B)) (now : List ((ℤ × ℤ) × B)) (pair : ℤ × ℤ) (told : List Arc)
-    → m ≡ now → told_at tells m pair ≡ told → F ↔ (most <ℤ kind.capacity (told ++ arc ∷ []))
-    → F ↔ (most <ℤ kind.capacity (told_at tells now pair ++ arc ∷ []))
-sum_told {B} {Arc} {F} kind tells arc most m now pair told e f h =
-    subst (λ x. F ↔ (most <ℤ kind.capacity (told_at tells x pair ++ arc ∷ []))) e
+pub sum_listed : {B Arc F : Type 0} (kind : ArcKind Arc) (lists : B → List Arc) (arc : Arc) (most : ℤ)
+    (m : List ((ℤ × ℤ) × B)) (now : List ((ℤ × ℤ) × B)) (pair : ℤ × ℤ) (listed : List Arc)
+    → m ≡ now → listed_at lists m pair ≡ listed → F ↔ (most <ℤ kind.capacity (listed ++ arc ∷ []))
+    → F ↔ (most <ℤ kind.capacity (listed_at lists now pair ++ arc ∷ []))
+sum_listed {B} {Arc} {F} kind lists arc most m now pair listed e f h =
+    subst (λ x. F ↔ (most <ℤ kind.capacity (listed_at lists x pair ++ arc ∷ []))) e
     (subst (λ l. F ↔ (most <ℤ kind.capacity (l ++ arc ∷ []))) (sym f) h)
 
 -- if neither of two faults can occur, a statement about one holds of the other

@@ -4,7 +4,7 @@ ghost use Rattle.std.specs.List.{IsDistinct};
 ghost use Rattle.std.specs.Map.{keys_of};
 ghost use Rattle.dn_arc.specs.declared.arc.Form.{Form};
 ghost use Rattle.dn_arc.specs.Pairs.{same_pair};
-ghost use Rattle.dn_table.specs.State.GraphEntries.{entries_told};
+ghost use Rattle.dn_table.specs.State.GraphEntries.{entries_listed};
 ghost use Rattle.dn_arc.specs.State.Bundles.{meant};
 ghost use Rattle.dn_table.specs.State.Tables.{CountsEntries};
 
@@ -22,7 +22,7 @@ pub(crate) fn bundle_entries<B: Bundle>(entries: &[((i64, i64), B)]) -> u64
 
 // Returns how many entries the bundles make, if this fits 64 bits.
 fn count_entries<B: Bundle>(entries: &[((i64, i64), B)]) -> Option<u64>
-    ensures { let all = entries_told (λ b. B.bundle.kind.entries (meant B.bundle b)) entries.now in
+    ensures { let all = entries_listed (λ b. B.bundle.kind.entries (meant B.bundle b)) entries.now in
         MatchOption result (2 ^ 64 ≤ all) (λ n. n ≡ all) }
 {
     let mut all = 0u64;

@@ -121,7 +121,7 @@ impl<B: Bundle> TableSoFar<B> {
     }
 
     // Adds a bundle for a pair that has none. If an allocation fails, nothing changes.
-    fn put(&mut self, alloc: Global, pair: (i64, i64), bundle: B) -> Result<(), BundleFault>
+    fn insert(&mut self, alloc: Global, pair: (i64, i64), bundle: B) -> Result<(), BundleFault>
         requires { lookup (same_pair pair) self.old ≡ None }
         ensures there { OnOk result (lookup (same_pair pair) self.new ≡ Some bundle) }
         ensures others { OnOk result
@@ -168,7 +168,7 @@ impl<B: Bundle> TableSoFar<B> {
         if bundle.is_nothing() {
             return Ok(());
         }
-        self.put(alloc, pair, bundle)
+        self.insert(alloc, pair, bundle)
     }
 
     /// Returns how many entries the bundles make, if this is below 2^64.

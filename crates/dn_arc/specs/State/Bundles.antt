@@ -13,7 +13,7 @@ pub record BundleWords (B Arc : Type 0) : Type 1 where
   -- the kind of its arcs, which defines what they mean
   pub kind : ArcKind Arc
   -- the canonical arcs that the bundle lists, by form; it represents all arcs that mean the same
-  pub told : Form → B → List Arc
+  pub listed : Form → B → List Arc
   -- whether adding an arc may run out of memory
   pub wants_memory : Bool
 
@@ -33,7 +33,7 @@ pub record IsKind {Arc : Type 0} (kind : ArcKind Arc) : Type 0 where
   -- the empty list of arcs is canonical
   pub none_canon : (form : Form) → kind.IsCanon form []
   -- canonical arcs that mean the same as no arcs are the empty list
-  pub nothing_told : (form : Form) (xs : List Arc) → kind.IsCanon form xs → kind.Same xs [] → xs ≡ []
+  pub nothing_listed : (form : Form) (xs : List Arc) → kind.IsCanon form xs → kind.Same xs [] → xs ≡ []
   -- arcs that mean the same have the same capacity
   pub same_capacity : (xs ys : List Arc) → AllByRecursion kind.IsArc xs → AllByRecursion kind.IsArc ys → kind.Same xs ys
       → kind.capacity xs ≡ kind.capacity ys
@@ -60,9 +60,9 @@ abbrev pub NumbersFit : {Arc : Type 0} → ArcKind Arc → List Arc → Type 0
 NumbersFit kind xs = AllByRecursion (λ a. AllByRecursion (FitsSigned w64) (kind.numbers a)) xs
 
 -- the arcs that a bundle lists, or no arcs if there is no bundle
-abbrev pub told_of : {B Arc : Type 0} → (B → List Arc) → Option B → List Arc
-told_of told None = []
-told_of told (Some b) = told b
+abbrev pub listed_of : {B Arc : Type 0} → (B → List Arc) → Option B → List Arc
+listed_of listed None = []
+listed_of listed (Some b) = listed b
 
 -- the option is the element after this one, or none after the last, wherever the list has this element
 abbrev pub IsAfter : {A : Type 0} → List A → A → Option A → Type 0
@@ -71,7 +71,7 @@ IsAfter xs x next = (i : ℕ) → slice_get xs i ≡ Some x → next ≡ slice_g
 module _ {B Arc : Type 0} (bundle : BundleWords B Arc) where
   -- the arcs that a bundle lists in form 1, which have its meaning
   abbrev pub meant : B → List Arc
-  meant b = bundle.told One b
+  meant b = bundle.listed One b
 
   -- the second bundle means what the first one does with one more arc
   abbrev pub Gains : B → B → Arc → Type 0
@@ -85,5 +85,5 @@ module _ {B Arc : Type 0} (bundle : BundleWords B Arc) where
   -- there are no arcs
   abbrev pub IsHow : Option B → Option B → Option How → Type 0
   IsHow left right how =
-      MatchOption how (bundle.kind.Same (told_of meant left) (told_of meant right))
-      (bundle.kind.Differ (told_of meant left) (told_of meant right))
+      MatchOption how (bundle.kind.Same (listed_of meant left) (listed_of meant right))
+      (bundle.kind.Differ (listed_of meant left) (listed_of meant right))

@@ -3,5 +3,5 @@ use Rattle.std.specs.Prelude.{ℤ, pos, List, [], ◌∷◌, cond, int_lt}
 use Rattle.dn_arc.specs.declared.arc.CapArc.{CapArc}
 
 -- one arc of the total capacity, or no arc if the total is 0
-abbrev pub cap_told : ℤ → List CapArc
-cap_told z = cond (int_lt (pos 0) z) (record { cap = z } ∷ []) []
+abbrev pub cap_listed : ℤ → List CapArc
+cap_listed z = cond (int_lt (pos 0) z) (record { cap = z } ∷ []) []

@@ -1,6 +1,6 @@
 -- The numbers of a cost curve.
 use Rattle.std.specs.Prelude.{ℤ, List}
-use Rattle.dn_arc.specs.State.CurveTold.{IsSound}
+use Rattle.dn_arc.specs.State.CurveListed.{IsSound}
 
 -- the forced units and their cost, the total capacity, and the free capacity by ascending cost
 pub record CurveNumbers : Type 0 where

@@ -4,6 +4,6 @@ use Rattle.std.specs.Prelude.{ℤ, List, [], ◌∷◌, Option, Some, None}
 use Rattle.dn_arc.specs.declared.arc.LengthArc.{LengthArc}
 
 -- one arc of the least length, or no arc if there is none
-abbrev pub length_told : Option ℤ → List LengthArc
-length_told None = []
-length_told (Some w) = record { length = w } ∷ []
+abbrev pub length_listed : Option ℤ → List LengthArc
+length_listed None = []
+length_listed (Some w) = record { length = w } ∷ []

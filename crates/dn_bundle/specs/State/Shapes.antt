@@ -4,7 +4,7 @@ use Rattle.dn_arc.specs.declared.arc.CostArc.{CostArc}
 use Rattle.dn_bundle.specs.declared.curve.shape.Numbers.{Numbers}
 use Rattle.dn_bundle.specs.declared.curve.shape.Shape.{Shape}
 use Rattle.dn_bundle.specs.declared.curve.shape.Shape.TheVariants.{Plain, Full}
-use Rattle.dn_arc.specs.State.CurveTold.{IsSound}
+use Rattle.dn_arc.specs.State.CurveListed.{IsSound}
 use Rattle.dn_arc.specs.State.Curves.{CurveNumbers}
 use Rattle.dn_arc.specs.State.Steps.{steps_of, add_step}
 

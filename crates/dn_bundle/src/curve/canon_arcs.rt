@@ -4,8 +4,8 @@ ghost use Rattle.std.specs.Option.{option_map, ForSome};
 ghost use Rattle.std.specs.Int.{w64};
 ghost use Rattle.dn_arc.specs.State.Bundles.{IsAfter};
 ghost use Rattle.dn_arc.specs.State.Steps.{has_step};
-ghost use Rattle.dn_bundle.specs.State.Tellings.{curve_arcs, form_one_arcs};
-ghost use Rattle.dn_arc.specs.State.CurveTold.{fixed_arc, fixed_arcs, step_arc, joined_head};
+ghost use Rattle.dn_bundle.specs.State.Listings.{curve_arcs, form_one_arcs};
+ghost use Rattle.dn_arc.specs.State.CurveListed.{fixed_arc, fixed_arcs, step_arc, joined_head};
 ghost use Rattle.dn_arc.specs.declared.arc.Form.{Form};
 
 use crate::curve::Curve;

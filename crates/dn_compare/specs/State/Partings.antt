@@ -4,7 +4,7 @@ use Rattle.std.specs.BTreeMap.{is_at}
 use Rattle.std.specs.Map.{lookup}
 use Rattle.std.specs.declared.cmp.Ordering.{Ordering}
 use Rattle.std.specs.declared.cmp.Ordering.TheVariants.{Less}
-use Rattle.dn_arc.specs.State.Bundles.{told_of}
+use Rattle.dn_arc.specs.State.Bundles.{listed_of}
 use Rattle.dn_arc.specs.Kinds.{ArcKind}
 use Rattle.dn_arc.specs.declared.difference.How.{How}
 use Rattle.dn_instance.specs.State.Helds.{Contents, Shows}
@@ -37,9 +37,9 @@ module _ {K V W : Type 0} (cmp : K → K → Ordering) (by : Comparison V W) (le
 
 -- compares bundles by the meaning of the arcs that they list
 abbrev pub by_meaning : {B Arc : Type 0} → ArcKind Arc → (B → List Arc) → Comparison B How
-by_meaning kind tells = record {
-  Alike = λ a b. kind.Same (told_of tells a) (told_of tells b);
-  Differ = λ a b how. kind.Differ (told_of tells a) (told_of tells b) how;
+by_meaning kind lists = record {
+  Alike = λ a b. kind.Same (listed_of lists a) (listed_of lists b);
+  Differ = λ a b how. kind.Differ (listed_of lists a) (listed_of lists b) how;
 }
 
 -- compares flows, and says both if they differ

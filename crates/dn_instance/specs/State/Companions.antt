@@ -2,7 +2,7 @@
 use Rattle.std.specs.Prelude.{ℤ, List, Bool, true, false, Option, Some, None, Result, Err}
 use Rattle.std.specs.List.{flat_map}
 use Rattle.std.specs.Map.{keys_of}
-use Rattle.dn_instance.specs.State.Helds.{Contents, Holding, OfSp, OfSs, OfP2p, OfCo}
+use Rattle.dn_instance.specs.State.Helds.{Contents, Parsed, OfSp, OfSs, OfP2p, OfCo}
 use Rattle.dn_instance.specs.declared.companion.CompanionFault.{CompanionFault}
 use Rattle.dn_instance.specs.declared.companion.CompanionFault.TheVariants.{NotKinds}
 use Rattle.dn_instance.specs.Companions.{both_nodes, within}
@@ -25,5 +25,5 @@ judged_by true nodes (Some ids) = within nodes ids
 judged_by _ nodes _ = Err NotKinds
 
 -- the fault of this companion of this graph, or success if the companion fits the graph
-abbrev pub judged : Holding → Holding → Result (Unit {0}) CompanionFault
+abbrev pub judged : Parsed → Parsed → Result (Unit {0}) CompanionFault
 judged graph companion = judged_by (is_graph graph.contents) graph.nodes (named_nodes companion.contents)

@@ -11,11 +11,11 @@ use Rattle.dn_line.specs.declared.line.Line.{Line}
 use Rattle.dn_line.specs.declared.line.Line.TheVariants as Item
 use Rattle.dn_line.specs.State.Spelling.{kind_before}
 use Rattle.dn_arc.specs.Kinds.{ArcKind, lengths, capacities, costs}
-use Rattle.dn_bundle.specs.State.Tellings.{least_arcs, total_arcs, curve_arcs}
+use Rattle.dn_bundle.specs.State.Listings.{least_arcs, total_arcs, curve_arcs}
 use Rattle.dn_arc.specs.declared.arc.Form.TheVariants.{One}
 use Rattle.dn_instance.specs.Items.{Problem, problem_of, is_counted, counted, arcs_of, length_arc_in, cap_arc_in, cost_arc_in, supplies_of, terminal_of, source_in, query_in, point_in, by_key}
 use Rattle.dn_instance.specs.TextFaults.{has_supply, is_companion, is_full}
-use Rattle.dn_table.specs.State.Tables.{TableTells, AreArcs}
+use Rattle.dn_table.specs.State.Tables.{TableLists, AreArcs}
 use Rattle.dn_instance.specs.declared.draft.Draft.{Draft}
 use Rattle.dn_instance.specs.declared.draft.Draft.TheVariants as Drafts
 
@@ -46,8 +46,8 @@ HasRoom items i = is_counted i ≡ true → is_full (problem_of items) (counted 
 
 -- the table represents the arcs among the items, and a problem may have each of these arcs
 pub record TableHolds {B Arc : Type 0} (kind : ArcKind Arc) (arc_in : Line → Option ((ℤ × ℤ) × Arc))
-    (tells : B → List Arc) (table : List ((ℤ × ℤ) × B)) (items : List Line) : Type 0 where
-  pub tells_them : TableTells kind tells table (arcs_of arc_in items)
+    (lists : B → List Arc) (table : List ((ℤ × ℤ) × B)) (items : List Line) : Type 0 where
+  pub lists_them : TableLists kind lists table (arcs_of arc_in items)
   pub are_arcs : AreArcs kind (arcs_of arc_in items)
 
 -- the draft holds what these items make; before the problem line, there are no items

@@ -7,7 +7,7 @@ use Rattle.dn_line.specs.declared.line.Line.{Line}
 use Rattle.dn_instance.specs.Instances.{Instance}
 use Rattle.dn_instance.specs.Items.{Problem, problem_of, instance_as, counted}
 use Rattle.dn_instance.specs.TextFaults.{lacks_terminal, end_fault}
-use Rattle.dn_instance.specs.State.Helds.{Shows, contents_of, holding}
+use Rattle.dn_instance.specs.State.Helds.{Shows, contents_of, parsed}
 use Rattle.dn_instance.specs.declared.content.Content.{Content}
 use Rattle.dn_instance.specs.declared.held.Held.{Held}
 
@@ -27,9 +27,9 @@ pub record HoldsAll (held : Held) (items : List Line) : Type 0 where
   pub problem_is : problem_of items ≡ Some problem
   pub instance : Instance
   pub made : instance_as problem.kind problem.nodes items ≡ Some instance
-  pub nodes_are : (holding held).nodes ≡ problem.nodes
-  pub lines_are : (holding held).lines ≡ pos (counted items)
-  pub shows : Shows (holding held).contents instance
+  pub nodes_are : (parsed held).nodes ≡ problem.nodes
+  pub lines_are : (parsed held).lines ≡ pos (counted items)
+  pub shows : Shows (parsed held).contents instance
 
 -- the result is a parsed instance that represents what the items make, if the end has no fault, and the first fault at
 -- the end otherwise

@@ -3,7 +3,7 @@ use Rattle.std.specs.Prelude.{◌≡◌, ℕ, ℤ, pos, List, length}
 use Rattle.dn_line.specs.declared.kind.Kind.{Kind}
 use Rattle.dn_line.specs.declared.kind.Kind.TheVariants as Kinds
 use Rattle.dn_arc.specs.Kinds.{lengths, capacities, costs}
-use Rattle.dn_bundle.specs.State.Tellings.{least_arcs, total_arcs, curve_arcs}
+use Rattle.dn_bundle.specs.State.Listings.{least_arcs, total_arcs, curve_arcs}
 use Rattle.dn_arc.specs.declared.arc.Form.TheVariants.{One}
 use Rattle.dn_arc.specs.State.Curves.{CurveNumbers}
 use Rattle.dn_bundle.specs.declared.least.Least.{Least}
@@ -31,7 +31,7 @@ pub data Contents : Type 0 where
   OfCo : List (ℤ × (ℤ × ℤ)) → Contents
 
 -- what a parsed instance holds: NODES, the number of counted lines, and the rest by kind
-pub record Holding : Type 0 where
+pub record Parsed : Type 0 where
   pub nodes : ℤ
   pub lines : ℤ
   pub contents : Contents
@@ -66,7 +66,7 @@ Shows (OfCo points) (Coordinates items) = points ≡ items
 Shows _ _ = ⊥
 
 -- the parsed instance represents this instance: NODES and the size are equal, and the contents represent it
-pub record IsHeld (h : Holding) (I : Instance) : Type 0 where
+pub record IsHeld (h : Parsed) (I : Instance) : Type 0 where
   pub nodes_are : h.nodes ≡ nodes_of I
   pub lines_are : h.lines ≡ pos (size_of I)
   pub shows : Shows h.contents I
@@ -81,23 +81,23 @@ contents_of (Kept.P2p pairs) = OfP2p pairs.items
 contents_of (Kept.Co points) = OfCo points.entries
 
 -- what a parsed instance holds
-abbrev pub holding : Held → Holding
-holding h = record { nodes = h.nodes; lines = h.lines; contents = contents_of h.content }
+abbrev pub parsed : Held → Parsed
+parsed h = record { nodes = h.nodes; lines = h.lines; contents = contents_of h.content }
 
 -- what a view shows
-abbrev pub shown : View → Contents
-shown (Views.Min supplies table) = OfMin supplies.now.entries table.now
-shown (Views.Max source sink table) = OfMax source sink table.now
-shown (Views.Sp table) = OfSp table.now
-shown (Views.Ss items) = OfSs items.now
-shown (Views.P2p items) = OfP2p items.now
-shown (Views.Co points) = OfCo points.now.entries
+abbrev pub viewed : View → Contents
+viewed (Views.Min supplies table) = OfMin supplies.now.entries table.now
+viewed (Views.Max source sink table) = OfMax source sink table.now
+viewed (Views.Sp table) = OfSp table.now
+viewed (Views.Ss items) = OfSs items.now
+viewed (Views.P2p items) = OfP2p items.now
+viewed (Views.Co points) = OfCo points.now.entries
 
 -- `Is` holds of every valid instance that the parsed instance represents
 abbrev pub OfHeld : Held → (Instance → Type 0) → Type 0
-OfHeld held Is = (I : Instance) → IsValid I → IsHeld (holding held) I → Is I
+OfHeld held Is = (I : Instance) → IsValid I → IsHeld (parsed held) I → Is I
 
 -- `Are` holds of any two valid instances that the two parsed instances represent
 abbrev pub OfBoth : Held → Held → (Instance → Instance → Type 0) → Type 0
 OfBoth left right Are =
-    (I J : Instance) → IsValid I → IsValid J → IsHeld (holding left) I → IsHeld (holding right) J → Are I J
+    (I J : Instance) → IsValid I → IsValid J → IsHeld (parsed left) I → IsHeld (parsed right) J → Are I J

@@ -8,7 +8,7 @@ use Rattle.dn_instance.specs.declared.held.Held.{Held}
 use Rattle.dn_instance.specs.declared.reader.Reader.{Reader}
 use Rattle.dn_instance.specs.State.EntryCount.{entries_so_far}
 use Rattle.dn_instance.specs.Instances.{Instance}
-use Rattle.dn_instance.specs.State.Helds.{IsHeld, holding}
+use Rattle.dn_instance.specs.State.Helds.{IsHeld, parsed}
 use Rattle.dn_instance.specs.Texts.{items_of, IsClean, IsFirstFaultAt, IsFirstFault, Reads}
 use Rattle.dn_instance.specs.Readers.{WantsMemory, ended}
 
@@ -32,7 +32,7 @@ Fed t (Err e) = IsRefused 0 (ended t) e
 -- what reading a whole text returns: a parsed instance that represents what the text reads as, the first fault of the
 -- text, or `Memory` at a line where neither it nor an earlier line has a fault
 abbrev pub Outcome : List ℕ → Result Held Refusal → Type 0
-Outcome t (Ok held) = (I : Instance) × Reads t I × IsHeld (holding held) I
+Outcome t (Ok held) = (I : Instance) × Reads t I × IsHeld (parsed held) I
 Outcome t (Err (Text place code)) = IsFirstFault t place code
 Outcome t (Err Memory) = WantsMemory 0 (lines t)
 Outcome t (Err Read) = ⊥

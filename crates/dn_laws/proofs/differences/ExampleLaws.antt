@@ -14,7 +14,7 @@ use Rattle.dn_line.specs.declared.kind.Kind.TheVariants as Kinds
 use Rattle.dn_arc.specs.State.Bundles.{IsKind}
 use Rattle.dn_arc.specs.Kinds.{ArcKind}
 use Rattle.dn_arc.specs.Kinds as Arcs
-use Rattle.dn_arc.specs.State.CurveTold.{IsSound}
+use Rattle.dn_arc.specs.State.CurveListed.{IsSound}
 use Rattle.dn_arc.specs.Differences.{IsGap}
 use Rattle.dn_arc.specs.Lengths.{LeastLength}
 use Rattle.dn_arc.specs.Meanings.{SameLength, SameCurve}

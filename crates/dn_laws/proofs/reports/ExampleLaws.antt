@@ -44,35 +44,35 @@ by_keys P p (k ∷ ks) all apart = by_test (same_pair p k) refl (by_keys P p ks 
 module _ {Arc : Type 0} (kind : ArcKind Arc) (laws : IsKind kind) (AreWords : List Arc → Row → Type 0)
     (arcs : List ((ℤ × ℤ) × Arc)) (entries : List ((ℤ × ℤ) × Row)) where
   -- the words at a pair, or none, are right for its arcs
-  record IsTold (o : Option Row) (xs : List Arc) : Type 0 where
+  record IsListed (o : Option Row) (xs : List Arc) : Type 0 where
     meant : (o ≡ None) ↔ kind.Same xs []
     words : IfSome o (AreWords xs)
 
-  abbrev ToldAt : ℤ × ℤ → Type 0
-  ToldAt p = IsTold (lookup (same_pair p) entries) (bundle p arcs)
+  abbrev ListedAt : ℤ × ℤ → Type 0
+  ListedAt p = IsListed (lookup (same_pair p) entries) (bundle p arcs)
 
-  nothing : IsTold None []
+  nothing : IsListed None []
   nothing = record { meant = (λ h. laws.meaning.same_refl [], λ h. refl); words = tt }
 
-  pair_rows : IsStrictlySortedBy pair_cmp (keys_of entries) → AllByRecursion ToldAt (keys_of arcs)
+  pair_rows : IsStrictlySortedBy pair_cmp (keys_of entries) → AllByRecursion ListedAt (keys_of arcs)
       → ((p : ℤ × ℤ) → IsApart p (keys_of arcs) → IsApart p (keys_of entries))
       → ArePairRows kind AreWords arcs (map (λ e. pair_row e.0 e.1) entries)
   pair_rows rising at apart =
-      let told : (p : ℤ × ℤ) → ToldAt p =
-      λ p. by_keys ToldAt p (keys_of arcs) at
-      (λ h. subst (λ o. IsTold o (bundle p arcs)) (sym (lookup_apart p entries (apart p h)))
-      (subst (IsTold None) (sym (bundle_apart p arcs h)) nothing)) in
+      let listed : (p : ℤ × ℤ) → ListedAt p =
+      λ p. by_keys ListedAt p (keys_of arcs) at
+      (λ h. subst (λ o. IsListed o (bundle p arcs)) (sym (lookup_apart p entries (apart p h)))
+      (subst (IsListed None) (sym (bundle_apart p arcs h)) nothing)) in
       record {
         entries = entries;
         rising = rising;
-        meant = λ p. (told p).meant;
-        words = λ p. (told p).words;
+        meant = λ p. (listed p).meant;
+        words = λ p. (listed p).words;
         rows_are =
             refl;
       }
 
   -- words are right for arcs that mean something
-  some_words : (row : Row) (xs : List Arc) → (kind.Same xs [] → ⊥) → AreWords xs row → IsTold (Some row) xs
+  some_words : (row : Row) (xs : List Arc) → (kind.Same xs [] → ⊥) → AreWords xs row → IsListed (Some row) xs
   some_words row xs never is = record { meant = (λ h. cc, λ h. absurd (never h)); words = is }
 
 -- the worked `sp` graph
@@ -85,7 +85,7 @@ abbrev length_entries : List ((ℤ × ℤ) × Row)
 length_entries = ((pos 1, pos 2), codes "length" ∷ signed_decimal (pos 3) ∷ []) ∷
     ((pos 2, pos 1), codes "length" ∷ signed_decimal (pos 4) ∷ []) ∷ []
 
-first_two : IsTold lengths length_kind AreLengthWords some_lengths length_entries
+first_two : IsListed lengths length_kind AreLengthWords some_lengths length_entries
     (lookup (same_pair (pos 1, pos 2)) length_entries) (bundle (pos 1, pos 2) some_lengths)
 first_two =
     let least : AreLengthWords (bundle (pos 1, pos 2) some_lengths) (codes "length" ∷ signed_decimal (pos 3) ∷ []) =
@@ -93,7 +93,7 @@ first_two =
     some_words lengths length_kind AreLengthWords some_lengths length_entries _ _
     (λ same. (same.there (pos 3) least.1).has) least
 
-second_one : IsTold lengths length_kind AreLengthWords some_lengths length_entries
+second_one : IsListed lengths length_kind AreLengthWords some_lengths length_entries
     (lookup (same_pair (pos 2, pos 1)) length_entries) (bundle (pos 2, pos 1) some_lengths)
 second_one =
     let least : AreLengthWords (bundle (pos 2, pos 1) some_lengths) (codes "length" ∷ signed_decimal (pos 4) ∷ []) =
@@ -124,19 +124,19 @@ cap_entries = ((pos 1, pos 2), codes "total" ∷ signed_decimal (pos 9) ∷ []) 
 abbrev AreTotal : List CapArc → Row → Type 0
 AreTotal arcs words = words ≡ total_words arcs
 
-abbrev CapTold : ℤ × ℤ → Type 0
-CapTold p =
-    IsTold capacities total_kind AreTotal worked_capacities cap_entries (lookup (same_pair p) cap_entries)
+abbrev CapListed : ℤ × ℤ → Type 0
+CapListed p =
+    IsListed capacities total_kind AreTotal worked_capacities cap_entries (lookup (same_pair p) cap_entries)
     (bundle p worked_capacities)
 
-two_to_three : CapTold (pos 2, pos 3)
+two_to_three : CapListed (pos 2, pos 3)
 two_to_three = record { meant = (λ h. record { is = refl }, λ h. refl); words = tt }
 
-one_to_two : CapTold (pos 1, pos 2)
+one_to_two : CapListed (pos 1, pos 2)
 one_to_two =
     some_words capacities total_kind AreTotal worked_capacities cap_entries _ _ (λ same. let e = same.is in cc) refl
 
-one_to_three : CapTold (pos 1, pos 3)
+one_to_three : CapListed (pos 1, pos 3)
 one_to_three =
     some_words capacities total_kind AreTotal worked_capacities cap_entries _ _ (λ same. let e = same.is in cc) refl
 
@@ -180,9 +180,9 @@ never_nothing same =
     let none : pos 7 ≡ pos 0 = cost_kind.same_capacity (bundle (pos 1, pos 2) some_costs) [] are tt same in
     cc
 
-costs_told : IsTold costs cost_kind AreCosts some_costs cost_entries (lookup (same_pair (pos 1, pos 2)) cost_entries)
+costs_listed : IsListed costs cost_kind AreCosts some_costs cost_entries (lookup (same_pair (pos 1, pos 2)) cost_entries)
     (bundle (pos 1, pos 2) some_costs)
-costs_told = some_words costs cost_kind AreCosts some_costs cost_entries _ _ never_nothing refl
+costs_listed = some_words costs cost_kind AreCosts some_costs cost_entries _ _ never_nothing refl
 
 pub shown_costs : IsShown (with_costs some_costs)
     (codes "kind min\nnodes 2\nlines 3\nsupplies 0\npairs 1\npair 1 2 forced 3 cost -12 steps 2\n")
@@ -192,7 +192,7 @@ shown_costs = (
   record {
     pairs = _;
     are_pairs =
-        pair_rows costs cost_kind AreCosts some_costs cost_entries (tt, tt) (costs_told, (costs_told, (costs_told, tt)))
+        pair_rows costs cost_kind AreCosts some_costs cost_entries (tt, tt) (costs_listed, (costs_listed, (costs_listed, tt)))
         (λ p h. (h.0, tt));
     rows_are = refl;
   },

@@ -17,8 +17,8 @@ use Rattle.dn_instance.specs.Sameness.{SameGraph}
 use Rattle.dn_instance.proofs.MapLaws.{no_keys}
 use Rattle.dn_canon.specs.CanonInstances.{AreInOrder, IsCanonInstance}
 use Rattle.dn_laws.specs.State.TextExamples.{on_one_pair}
-use Rattle.dn_canon.specs.State.ToldArcs.{placed}
-use Rattle.dn_canon.proofs.ToldLaws.{bundle_placed, order_placed}
+use Rattle.dn_canon.specs.State.ListedArcs.{placed}
+use Rattle.dn_canon.proofs.ListedLaws.{bundle_placed, order_placed}
 
 -- the pair of all arcs
 abbrev here : ℤ × ℤ

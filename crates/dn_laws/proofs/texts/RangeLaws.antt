@@ -21,7 +21,7 @@ use Rattle.dn_canon.proofs.ArcItems.{bundle_append}
 use Rattle.dn_laws.proofs.texts.ChunkLaws.{IsCanonMaking, by_kind, canons_valid, placed_all, whole_of, whole_same}
 use Rattle.dn_canon.proofs.PartLaws.{all_append}
 use Rattle.dn_canon.proofs.TextLaws.{canon_one}
-use Rattle.dn_canon.proofs.ToldLaws.{all_from, at_some}
+use Rattle.dn_canon.proofs.ListedLaws.{all_from, at_some}
 use Rattle.pair_index.proofs.WalkLaws.{less_by_tail}
 
 -- a fact holds of each element
@@ -92,8 +92,8 @@ module _ {Arc : Type 0} (kind : ArcKind Arc) (laws : IsKind kind) (form : Form) 
     where
       by_bundle : (q : ℤ × ℤ) (us : List Arc) → bundle q xs ≡ us → AllByRecursion (λ x. F q.0) (bundle q cs)
       by_bundle q [] e =
-          let told = laws.meaning.same_sym [] (bundle q cs) (subst (λ l. kind.Same l (bundle q cs)) e (c.same.at q)) in
-          subst (AllByRecursion (λ x. F q.0)) (sym (laws.nothing_told form (bundle q cs) (c.canonical q) told)) tt
+          let listed = laws.meaning.same_sym [] (bundle q cs) (subst (λ l. kind.Same l (bundle q cs)) e (c.same.at q)) in
+          subst (AllByRecursion (λ x. F q.0)) (sym (laws.nothing_listed form (bundle q cs) (c.canonical q) listed)) tt
       by_bundle q (u ∷ us) e =
           each_of (F q.0) (at_some (λ a. F a.0.0) (λ p. F p.0) (λ a g. g) xs q u us h e) (bundle q cs)
 

@@ -80,14 +80,14 @@ none_among : (faults : Kinds) (k : ErrorKind) → faults ≡ [] → IsAmong k fa
 none_among faults k none h = subst (λ (f : Kinds). IsAmong k f) none h
 
 -- the request, if there is no fault
-does : (faults : Kinds) (told : Option Asked) (asked : Asked) (r : Request) → faults ≡ [] → told ≡ Some asked
-    → Answers faults told r → Requests asked r ⊎ (r ≡ requests.Memory)
-does faults told asked (requests.Command command) none is h = inl (ap (λ o. unwrap_or o asked) (sym h.1 ∙ is))
-does faults told asked (requests.Print text) none is (inl h) = absurd (none_among _ _ none h)
-does faults told asked (requests.Print text) none is (inr h) = absurd (none_among _ _ none h.0)
-does faults told asked requests.Bad none is (inl h) = absurd (none_among _ _ none h.1)
-does faults told asked requests.Bad none is (inr h) = absurd (true≢false (ap is_some (sym is ∙ h.1)))
-does faults told asked requests.Memory none is h = inr refl
+does : (faults : Kinds) (listed : Option Asked) (asked : Asked) (r : Request) → faults ≡ [] → listed ≡ Some asked
+    → Answers faults listed r → Requests asked r ⊎ (r ≡ requests.Memory)
+does faults listed asked (requests.Command command) none is h = inl (ap (λ o. unwrap_or o asked) (sym h.1 ∙ is))
+does faults listed asked (requests.Print text) none is (inl h) = absurd (none_among _ _ none h)
+does faults listed asked (requests.Print text) none is (inr h) = absurd (none_among _ _ none h.0)
+does faults listed asked requests.Bad none is (inl h) = absurd (none_among _ _ none h.1)
+does faults listed asked requests.Bad none is (inr h) = absurd (true≢false (ap is_some (sym is ∙ h.1)))
+does faults listed asked requests.Memory none is h = inr refl
 
 -- the request for words that `clap` reads as this, at any address of the forms
 pub answered : (words : List Text) (asked : Asked) → ((p q r : ℕ × ℕ) → Reads (form_refs p q r) words asked)
@@ -119,38 +119,38 @@ no_call (x ∷ xs) k none (inr h) = no_call xs k none.1 h
 some_fault : (k : ErrorKind) (ks : Kinds) → k ∷ ks ≡ [] → ⊥
 some_fault k ks e = omega (arith, ap length e)
 
-mistaken_by : (told : Option Asked) (k : ErrorKind) (ks : Kinds) (r : Request) → NoCalls (k ∷ ks)
-    → Answers (k ∷ ks) told r → (r ≡ requests.Bad) ⊎ (r ≡ requests.Memory)
-mistaken_by told k ks (requests.Command command) none h = absurd (some_fault k ks h.0)
-mistaken_by told k ks (requests.Print text) none (inl h) = absurd (true≢false (no_call (k ∷ ks) DisplayHelp none h))
-mistaken_by told k ks (requests.Print text) none (inr h) =
+mistaken_by : (listed : Option Asked) (k : ErrorKind) (ks : Kinds) (r : Request) → NoCalls (k ∷ ks)
+    → Answers (k ∷ ks) listed r → (r ≡ requests.Bad) ⊎ (r ≡ requests.Memory)
+mistaken_by listed k ks (requests.Command command) none h = absurd (some_fault k ks h.0)
+mistaken_by listed k ks (requests.Print text) none (inl h) = absurd (true≢false (no_call (k ∷ ks) DisplayHelp none h))
+mistaken_by listed k ks (requests.Print text) none (inr h) =
     absurd (true≢false (no_call (k ∷ ks) DisplayVersion none h.0))
-mistaken_by told k ks requests.Bad none h = inl refl
-mistaken_by told k ks requests.Memory none h = inr refl
+mistaken_by listed k ks requests.Bad none h = inl refl
+mistaken_by listed k ks requests.Memory none h = inr refl
 
-helped_by : (told : Option Asked) (r : Request) → Answers (DisplayHelp ∷ []) told r → Prints r ⊎ (r ≡ requests.Memory)
-helped_by told (requests.Command command) h = absurd (some_fault _ _ h.0)
-helped_by told (requests.Print text) h = inl tt
-helped_by told requests.Bad (inl (k, (inl e), no_help, no_version)) = absurd (no_help e)
-helped_by told requests.Bad (inl (k, (inr h), no_help, no_version)) = absurd h
-helped_by told requests.Bad (inr h) = absurd (some_fault _ _ h.0)
-helped_by told requests.Memory h = inr refl
+helped_by : (listed : Option Asked) (r : Request) → Answers (DisplayHelp ∷ []) listed r → Prints r ⊎ (r ≡ requests.Memory)
+helped_by listed (requests.Command command) h = absurd (some_fault _ _ h.0)
+helped_by listed (requests.Print text) h = inl tt
+helped_by listed requests.Bad (inl (k, (inl e), no_help, no_version)) = absurd (no_help e)
+helped_by listed requests.Bad (inl (k, (inr h), no_help, no_version)) = absurd h
+helped_by listed requests.Bad (inr h) = absurd (some_fault _ _ h.0)
+helped_by listed requests.Memory h = inr refl
 
-versioned_by : (told : Option Asked) (r : Request) → Answers (DisplayVersion ∷ []) told r
+versioned_by : (listed : Option Asked) (r : Request) → Answers (DisplayVersion ∷ []) listed r
     → PrintsVersion r ⊎ (r ≡ requests.Memory)
-versioned_by told (requests.Command command) h = absurd (some_fault _ _ h.0)
-versioned_by told (requests.Print text) (inl (inl e)) = absurd (true≢false (ap is_version (sym e)))
-versioned_by told (requests.Print text) (inl (inr h)) = absurd h
-versioned_by told (requests.Print text) (inr h) = inl h.1
-versioned_by told requests.Bad (inl (k, (inl e), no_help, no_version)) = absurd (no_version e)
-versioned_by told requests.Bad (inl (k, (inr h), no_help, no_version)) = absurd h
-versioned_by told requests.Bad (inr h) = absurd (some_fault _ _ h.0)
-versioned_by told requests.Memory h = inr refl
+versioned_by listed (requests.Command command) h = absurd (some_fault _ _ h.0)
+versioned_by listed (requests.Print text) (inl (inl e)) = absurd (true≢false (ap is_version (sym e)))
+versioned_by listed (requests.Print text) (inl (inr h)) = absurd h
+versioned_by listed (requests.Print text) (inr h) = inl h.1
+versioned_by listed requests.Bad (inl (k, (inl e), no_help, no_version)) = absurd (no_version e)
+versioned_by listed requests.Bad (inl (k, (inr h), no_help, no_version)) = absurd h
+versioned_by listed requests.Bad (inr h) = absurd (some_fault _ _ h.0)
+versioned_by listed requests.Memory h = inr refl
 
 -- equal faults make the same requests right
-of_same : (faults same : Kinds) (told : Option Asked) (r : Request) → faults ≡ same → Answers faults told r
-    → Answers same told r
-of_same faults same told r e h = subst (λ (f : Kinds). Answers f told r) e h
+of_same : (faults same : Kinds) (listed : Option Asked) (r : Request) → faults ≡ same → Answers faults listed r
+    → Answers same listed r
+of_same faults same listed r e h = subst (λ (f : Kinds). Answers f listed r) e h
 
 -- the requests for words in which `clap` finds these faults
 pub mistaken : (words : List Text) (k : ErrorKind) (ks : Kinds)

@@ -2,7 +2,7 @@
 use Rattle.std.specs.Prelude.{pos, List, []}
 use Rattle.dn_arc.specs.declared.arc.CostArc.{CostArc}
 use Rattle.dn_instance.specs.Instances.{Instance, MinCostFlow}
-use Rattle.dn_canon.specs.State.ToldArcs.{placed}
+use Rattle.dn_canon.specs.State.ListedArcs.{placed}
 
 -- the problem with two nodes and these arcs from 1 to 2
 abbrev pub on_one_pair : List CostArc → Instance

@@ -7,7 +7,7 @@ ghost use Rattle.dn_arc.specs.declared.arc.CapArc.{CapArc};
 ghost use Rattle.dn_arc.specs.declared.arc.CostArc.{CostArc};
 ghost use Rattle.dn_arc.specs.Kinds.{lengths, capacities, costs};
 ghost use Rattle.dn_instance.specs.declared.refusal.Place.{Place};
-ghost use Rattle.dn_instance.specs.State.Helds.{Holding, IsHeld};
+ghost use Rattle.dn_instance.specs.State.Helds.{Parsed, IsHeld};
 ghost use Rattle.dn_instance.specs.Instances.{Graph, Instance};
 ghost use Rattle.dn_instance.specs.State.Parts.{AreParts, AreSame};
 ghost use Rattle.dn_instance.specs.Sameness.{IsSame, SameGraph};
@@ -62,5 +62,5 @@ pub fn in_parts()
 
 /// All instances that a parsed instance represents are the same problem.
 pub fn one_held_meaning()
-    ensures { (h : Holding) (I J : Instance) → IsHeld h I → IsHeld h J → IsSame I J }
+    ensures { (h : Parsed) (I J : Instance) → IsHeld h I → IsHeld h J → IsSame I J }
 {}

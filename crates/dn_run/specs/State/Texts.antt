@@ -1,7 +1,7 @@
 -- What reading a text that a run asks for returns.
 use Rattle.std.specs.Prelude.{◌≡◌, ℕ, List, None, Result, Ok, Err, OnOk, IsErrOf, IfOk, IfSome}
 use Rattle.dn_instance.specs.State.SourceReads.{HoldsSome}
-use Rattle.dn_instance.specs.State.Helds.{IsHeld, holding}
+use Rattle.dn_instance.specs.State.Helds.{IsHeld, parsed}
 use Rattle.dn_instance.specs.Instances.{Instance}
 use Rattle.dn_instance.specs.Texts.{Reads}
 use Rattle.dn_instance.specs.declared.held.Held.{Held}
@@ -13,7 +13,7 @@ use Rattle.dn_run.specs.Texts.{AskedText, HasFailed, unopened}
 -- what reading the text b returns: a parsed instance that represents the instance that b reads as, or a reason to
 -- refuse b
 abbrev pub ReadsAs : (List ℕ → Refusal → Type 0) → List ℕ → Result Held Refusal → Type 0
-ReadsAs Refuses b (Ok held) = (I : Instance) × Reads b I × IsHeld (holding held) I
+ReadsAs Refuses b (Ok held) = (I : Instance) × Reads b I × IsHeld (parsed held) I
 ReadsAs Refuses b (Err refusal) = Refuses b refusal
 
 -- what reading a text by its name returns. If the files did not hand it out, the result is the refusal for that. If

@@ -9,5 +9,5 @@ abbrev pub graph_entries : {Arc : Type 0} → ArcKind Arc → List ((ℤ × ℤ)
 graph_entries kind arcs = sum_by (λ p. kind.entries (bundle p arcs)) (distinct same_pair (map (λ a. a.0) arcs))
 
 -- the sum of this number over the bundles of a table
-abbrev pub entries_told : {B : Type 0} → (B → ℕ) → List ((ℤ × ℤ) × B) → ℕ
-entries_told each table = sum_by (λ e. each e.1) table
+abbrev pub entries_listed : {B : Type 0} → (B → ℕ) → List ((ℤ × ℤ) × B) → ℕ
+entries_listed each table = sum_by (λ e. each e.1) table

@@ -5,28 +5,28 @@ use Rattle.std.specs.Borrow.{Bor}
 use Rattle.std.specs.List.{AllByRecursion}
 use Rattle.std.specs.List.Sorted.{IsStrictlySortedBy}
 use Rattle.std.specs.Map.{keys_of, lookup}
-use Rattle.dn_arc.specs.State.Bundles.{BundleWords, meant, told_of}
+use Rattle.dn_arc.specs.State.Bundles.{BundleWords, meant, listed_of}
 use Rattle.dn_arc.specs.Kinds.{ArcKind}
 use Rattle.dn_arc.specs.State.Kinds.{AreCanonArcsOf}
 use Rattle.dn_table.specs.State.GraphEntries.{graph_entries}
 use Rattle.dn_arc.specs.Pairs.{bundle, pair_cmp, same_pair}
 
 -- the arcs that the table lists for an ordered pair
-abbrev pub told_at : {B Arc : Type 0} → (B → List Arc) → List ((ℤ × ℤ) × B) → ℤ × ℤ → List Arc
-told_at tells table p = told_of tells (lookup (same_pair p) table)
+abbrev pub listed_at : {B Arc : Type 0} → (B → List Arc) → List ((ℤ × ℤ) × B) → ℤ × ℤ → List Arc
+listed_at lists table p = listed_of lists (lookup (same_pair p) table)
 
 -- for each pair, the table lists canonical arcs that mean the same as these arcs; a pair whose arcs mean the same as no
 -- arcs has no bundle
-pub record TableTells {B Arc : Type 0} (kind : ArcKind Arc) (tells : B → List Arc) (table : List ((ℤ × ℤ) × B))
+pub record TableLists {B Arc : Type 0} (kind : ArcKind Arc) (lists : B → List Arc) (table : List ((ℤ × ℤ) × B))
     (arcs : List ((ℤ × ℤ) × Arc)) : Type 0 where
-  pub stands : (p : ℤ × ℤ) → AreCanonArcsOf kind (told_at tells table p) (bundle p arcs)
+  pub stands : (p : ℤ × ℤ) → AreCanonArcsOf kind (listed_at lists table p) (bundle p arcs)
   pub absent : (p : ℤ × ℤ) → (lookup (same_pair p) table ≡ None) ↔ kind.Same (bundle p arcs) []
 
 -- the table represents these arcs: its bundles are sorted by ascending pair and list arcs that mean the same
-pub record TableStandsFor {B Arc : Type 0} (kind : ArcKind Arc) (tells : B → List Arc) (table : List ((ℤ × ℤ) × B))
+pub record TableStandsFor {B Arc : Type 0} (kind : ArcKind Arc) (lists : B → List Arc) (table : List ((ℤ × ℤ) × B))
     (arcs : List ((ℤ × ℤ) × Arc)) : Type 0 where
   pub rising : IsStrictlySortedBy pair_cmp (keys_of table)
-  pub tells_them : TableTells kind tells table arcs
+  pub lists_them : TableLists kind lists table arcs
 
 -- the entry that an item of the iterator represents
 abbrev pub entry_of : {B : Type 0} → (ℤ × ℤ) × Bor B → (ℤ × ℤ) × B
@@ -34,12 +34,12 @@ entry_of x = (x.0, x.1.now)
 
 -- the new table has one more arc at this pair and is the same elsewhere: its bundle there means the earlier arcs and
 -- this one, and a pair that had no bundle has one exactly if the arc means anything
-pub record Grows {B Arc : Type 0} (kind : ArcKind Arc) (tells : B → List Arc) (old new : List ((ℤ × ℤ) × B))
+pub record Grows {B Arc : Type 0} (kind : ArcKind Arc) (lists : B → List Arc) (old new : List ((ℤ × ℤ) × B))
     (pair : ℤ × ℤ) (arc : Arc) : Type 0 where
-  pub here : kind.Same (told_at tells new pair) (told_at tells old pair ++ arc ∷ [])
+  pub here : kind.Same (listed_at lists new pair) (listed_at lists old pair ++ arc ∷ [])
   pub kept : IsSome (lookup (same_pair pair) old) → IsSome (lookup (same_pair pair) new)
   pub fresh : lookup (same_pair pair) old ≡ None
-      → (lookup (same_pair pair) new ≡ None) ↔ kind.Same (told_at tells new pair) []
+      → (lookup (same_pair pair) new ≡ None) ↔ kind.Same (listed_at lists new pair) []
   pub others : (p : ℤ × ℤ) → same_pair pair p ≡ false → lookup (same_pair p) new ≡ lookup (same_pair p) old
 
 -- each arc may occur in a problem
@@ -54,8 +54,8 @@ Stays {Arc} kind =
 
 module _ {B Arc : Type 0} (bundle : BundleWords B Arc) where
   -- the bundles represent these arcs
-  abbrev pub Tells : List ((ℤ × ℤ) × B) → List ((ℤ × ℤ) × Arc) → Type 0
-  Tells = TableTells bundle.kind (meant bundle)
+  abbrev pub Lists : List ((ℤ × ℤ) × B) → List ((ℤ × ℤ) × Arc) → Type 0
+  Lists = TableLists bundle.kind (meant bundle)
 
   -- the new table has one more arc at this pair
   abbrev pub Adds : List ((ℤ × ℤ) × B) → List ((ℤ × ℤ) × B) → ℤ × ℤ → Arc → Type 0
@@ -63,9 +63,9 @@ module _ {B Arc : Type 0} (bundle : BundleWords B Arc) where
 
   -- with this arc, the capacities of its pair sum to more than 2^63 - 1
   abbrev pub IsTooMuch : List ((ℤ × ℤ) × B) → ℤ × ℤ → Arc → Type 0
-  IsTooMuch table pair arc = pos (2 ^ 63 - 1) <ℤ bundle.kind.capacity (told_at (meant bundle) table pair ++ arc ∷ [])
+  IsTooMuch table pair arc = pos (2 ^ 63 - 1) <ℤ bundle.kind.capacity (listed_at (meant bundle) table pair ++ arc ∷ [])
 
   -- n is how many entries the arcs of the table make, if that is below 2^64
   abbrev pub CountsEntries : List ((ℤ × ℤ) × B) → ℕ → Type 0
-  CountsEntries table n = (arcs : List ((ℤ × ℤ) × Arc)) → Tells table arcs → AreArcs bundle.kind arcs
+  CountsEntries table n = (arcs : List ((ℤ × ℤ) × Arc)) → Lists table arcs → AreArcs bundle.kind arcs
       → graph_entries bundle.kind arcs < 2 ^ 64 → n ≡ graph_entries bundle.kind arcs

@@ -18,17 +18,17 @@ add-requires g c = next_arc g.B.Bundle.bundle.kind g.met.B.Bundle.laws c.args.ar
 pub returns-in-Err-clause-sum : goal.returns-in-Err-clause-sum
 returns-in-Err-clause-sum g c = λ e.
     let laws = g.met.B.Bundle.laws in
-    let told = g.B.Bundle.bundle.told One c.loop-arc.bundle in
-    let told_arcs = laws.canon_arcs One told (g.met.B.Bundle.canonical One c.loop-arc.bundle) in
-    too_much g.B.Bundle.bundle.kind laws c.args.arcs.now told c.loop-arc.arc-index c.arc-item.result c.requires c.loop-arc-test.true c.arc-item.is told_arcs c.loop-arc.invariant.0 (c.in-Err.ensures.sum.0 cc)
+    let listed = g.B.Bundle.bundle.listed One c.loop-arc.bundle in
+    let listed_arcs = laws.canon_arcs One listed (g.met.B.Bundle.canonical One c.loop-arc.bundle) in
+    too_much g.B.Bundle.bundle.kind laws c.args.arcs.now listed c.loop-arc.arc-index c.arc-item.result c.requires c.loop-arc-test.true c.arc-item.is listed_arcs c.loop-arc.invariant.0 (c.in-Err.ensures.sum.0 cc)
 
 pub loop-arc-preserved : goal.loop-arc-preserved
 loop-arc-preserved g c =
     let laws = g.met.B.Bundle.laws in
-    let told = g.B.Bundle.bundle.told One c.loop-arc.bundle in
-    let told_arcs = laws.canon_arcs One told (g.met.B.Bundle.canonical One c.loop-arc.bundle) in (
-      next_same g.B.Bundle.bundle.kind laws c.args.arcs.now told c.loop-arc.arc-index c.arc-item.result c.requires c.loop-arc-test.true c.arc-item.is told_arcs c.loop-arc.invariant.0 _ c.in_default.ensures.ok,
-      next_fits g.B.Bundle.bundle.kind laws c.args.arcs.now told c.loop-arc.arc-index c.arc-item.result c.requires c.loop-arc-test.true c.arc-item.is told_arcs c.loop-arc.invariant.0 (λ m. let e = c.in_default.ensures.sum.1 m in cc),
+    let listed = g.B.Bundle.bundle.listed One c.loop-arc.bundle in
+    let listed_arcs = laws.canon_arcs One listed (g.met.B.Bundle.canonical One c.loop-arc.bundle) in (
+      next_same g.B.Bundle.bundle.kind laws c.args.arcs.now listed c.loop-arc.arc-index c.arc-item.result c.requires c.loop-arc-test.true c.arc-item.is listed_arcs c.loop-arc.invariant.0 _ c.in_default.ensures.ok,
+      next_fits g.B.Bundle.bundle.kind laws c.args.arcs.now listed c.loop-arc.arc-index c.arc-item.result c.requires c.loop-arc-test.true c.arc-item.is listed_arcs c.loop-arc.invariant.0 (λ m. let e = c.in_default.ensures.sum.1 m in cc),
     )
 
 pub loop-arc-smaller : goal.loop-arc-smaller
@@ -36,7 +36,7 @@ loop-arc-smaller g c = let more = c.loop-arc-test.true in omega arith
 
 pub returns-clause-ok : goal.returns-clause-ok
 returns-clause-ok g c =
-    subst (g.B.Bundle.bundle.kind.Same (g.B.Bundle.bundle.told One c.loop-arc.bundle))
+    subst (g.B.Bundle.bundle.kind.Same (g.B.Bundle.bundle.listed One c.loop-arc.bundle))
     (take_all c.loop-arc.arc-index c.args.arcs.now c.loop-arc-test.false) c.loop-arc.invariant.0
 
 pub returns-clause-fits : goal.returns-clause-fits

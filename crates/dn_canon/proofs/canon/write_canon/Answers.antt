@@ -1,7 +1,7 @@
 use Rattle.std.proofs.Common.{◌∙◌, FitsSigned, w64, rules, subst, to_z-of_z}
-use Rattle.dn_arc.specs.State.CurveTold.{told}
-use Rattle.dn_arc.specs.State.Lengths.{length_told}
-use Rattle.dn_arc.specs.State.Capacities.{cap_told}
+use Rattle.dn_arc.specs.State.CurveListed.{listed}
+use Rattle.dn_arc.specs.State.Lengths.{length_listed}
+use Rattle.dn_arc.specs.State.Capacities.{cap_listed}
 use Rattle.dn_arc.specs.declared.arc.Form.{Form}
 use Rattle.dn_arc.specs.State.Curves.{CurveNumbers}
 use Rattle.dn_bundle.specs.declared.least.Least.{Least}
@@ -13,7 +13,7 @@ use Rattle.dn_canon.proofs.canon.write_canon.Goals as goal
 pub returns-in-Min-clause-canon : goal.returns-in-Min-clause-canon
 returns-in-Min-clause-canon g c I v h =
     let nodes : FitsSigned w64 c.nodes-nodes.result = search rules in
-    costs_written g.K.Sink.sink c.args.sink.now c.write_graph.new.sink c.args.form (λ (f : Form) (b : CurveNumbers). told f b.units b.cost b.steps) _ c.in-Min.supplies.now.entries c.in-Min.table.now _ I c.write_graph.result
+    costs_written g.K.Sink.sink c.args.sink.now c.write_graph.new.sink c.args.form (λ (f : Form) (b : CurveNumbers). listed f b.units b.cost b.steps) _ c.in-Min.supplies.now.entries c.in-Min.table.now _ I c.write_graph.result
     c.in-Min.ensures
     (to_z-of_z nodes ∙ c.nodes-nodes.ensures) h v c.write_graph.ensures.canon c.write_graph.ensures.text
 
@@ -22,7 +22,7 @@ returns-in-Max-clause-canon g c I v h =
     let nodes : FitsSigned w64 c.nodes-nodes.result = search rules in
     let source : FitsSigned w64 c.in-Max.source = search rules in
     let target : FitsSigned w64 c.in-Max.target = search rules in
-    capacities_written g.K.Sink.sink c.args.sink.now c.write_graph-in-Max.new.sink c.args.form (λ (f : Form) (b : Total). cap_told b.total) c.nodes-nodes.result c.in-Max.source c.in-Max.target c.in-Max.table.now _ I c.write_graph-in-Max.result
+    capacities_written g.K.Sink.sink c.args.sink.now c.write_graph-in-Max.new.sink c.args.form (λ (f : Form) (b : Total). cap_listed b.total) c.nodes-nodes.result c.in-Max.source c.in-Max.target c.in-Max.table.now _ I c.write_graph-in-Max.result
     c.in-Max.ensures c.nodes-nodes.ensures h v (simp to_z-of_z at c.write_graph-in-Max.ensures.canon)
     (simp to_z-of_z at c.write_graph-in-Max.ensures.text)
 
@@ -30,7 +30,7 @@ pub returns-in-Sp-clause-canon : goal.returns-in-Sp-clause-canon
 returns-in-Sp-clause-canon g c I v h =
     let nodes : FitsSigned w64 c.nodes-nodes.result = search rules in
     lengths_written g.K.Sink.sink c.args.sink.now c.write_graph-in-Sp.new.sink c.args.form
-    (λ (f : Form) (b : Least). length_told b.length) _ c.in-Sp.table.now _ I c.write_graph-in-Sp.result
+    (λ (f : Form) (b : Least). length_listed b.length) _ c.in-Sp.table.now _ I c.write_graph-in-Sp.result
     c.in-Sp.ensures
     (to_z-of_z nodes ∙ c.nodes-nodes.ensures) h v c.write_graph-in-Sp.ensures.canon c.write_graph-in-Sp.ensures.text
 

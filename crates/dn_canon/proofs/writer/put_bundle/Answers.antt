@@ -2,7 +2,7 @@ use Rattle.std.proofs.Common.{map, drop, refl, sym, ap, ◌∙◌, ◌+◌, ◌+
 use Rattle.dn_canon.specs.Prints.{arc_row}
 use Rattle.dn_sink.specs.Rows.{text_of}
 use Rattle.dn_sink.specs.Puts.{HasPut}
-use Rattle.dn_canon.specs.State.ToldArcs.{placed}
+use Rattle.dn_canon.specs.State.ListedArcs.{placed}
 use Rattle.dn_sink.proofs.PutLaws.{put_from}
 use Rattle.dn_canon.proofs.BlockLaws.{pass_stopped}
 use Rattle.dn_canon.proofs.LineLaws.{drop_get}
@@ -15,20 +15,20 @@ loop-init g c = record { next = c.canon_arc-next.ensures; has = put_from refl }
 
 pub returns-in_err-arc_line : goal.returns-in_err-arc_line
 returns-in_err-arc_line g c =
-    let told = g.B.Bundle.bundle.told c.args.form c.args.bundle.now in
+    let listed = g.B.Bundle.bundle.listed c.args.form c.args.bundle.now in
     pass_stopped c.arc_line.new.block c.from_residual.result c.from_residual.ensures.0
-    (row_stop (arc_row g.B.Bundle.bundle.kind) c.loop.block (placed c.args.pair.now (drop c.loop.counter told))
-    (placed c.args.pair.now (drop (c.loop.counter + 1) told)) (c.args.pair.now, c.in-Some.arc)
+    (row_stop (arc_row g.B.Bundle.bundle.kind) c.loop.block (placed c.args.pair.now (drop c.loop.counter listed))
+    (placed c.args.pair.now (drop (c.loop.counter + 1) listed)) (c.args.pair.now, c.in-Some.arc)
     (ap (placed c.args.pair.now)
-    (drop_get told c.loop.counter c.in-Some.arc (sym c.loop.invariant.next ∙ c.in-Some.is)))
+    (drop_get listed c.loop.counter c.in-Some.arc (sym c.loop.invariant.next ∙ c.in-Some.is)))
     (arc_text g.B.Bundle.bundle.kind c.args.pair.now c.in-Some.arc _ _ refl
     (g.met.B.Bundle.same_numbers c.in-Some.arc)) c.loop.invariant.has c.in_err-arc_line.ensures)
 
 pub loop-preserved : goal.loop-preserved
 loop-preserved g c =
-    let told = g.B.Bundle.bundle.told c.args.form c.args.bundle.now in
+    let listed = g.B.Bundle.bundle.listed c.args.form c.args.bundle.now in
     let text : ℕ
-    → List ℕ = λ i. text_of (map (arc_row g.B.Bundle.bundle.kind) (placed c.args.pair.now (drop i told))) in
+    → List ℕ = λ i. text_of (map (arc_row g.B.Bundle.bundle.kind) (placed c.args.pair.now (drop i listed))) in
     elim c.match-next.branch [
       | in-Some+in_ok-arc_line w ↦
           let here = sym c.loop.invariant.next ∙ w.in-Some.is in
@@ -42,12 +42,12 @@ loop-preserved g c =
                 (λ b. HasPut g.K.Sink.sink c.args.sink.now w.arc_line.new.sink (b ++ text (c.loop.counter + 1))
                 (c.args.block.now ++ text 0)) (sym w.block-is)
                 (row_more (arc_row g.B.Bundle.bundle.kind) c.loop.block
-                (placed c.args.pair.now (drop c.loop.counter told))
-                (placed c.args.pair.now (drop (c.loop.counter + 1) told)) (c.args.pair.now, w.in-Some.arc)
-                (ap (placed c.args.pair.now) (drop_get told c.loop.counter w.in-Some.arc here))
+                (placed c.args.pair.now (drop c.loop.counter listed))
+                (placed c.args.pair.now (drop (c.loop.counter + 1) listed)) (c.args.pair.now, w.in-Some.arc)
+                (ap (placed c.args.pair.now) (drop_get listed c.loop.counter w.in-Some.arc here))
                 (arc_text g.B.Bundle.bundle.kind c.args.pair.now w.in-Some.arc _ _ refl
                 (g.met.B.Bundle.same_numbers w.in-Some.arc)) c.loop.invariant.has w.in_ok-arc_line.ensures));
           }
       | in_default w ↦ absurd
-          (some_below told c.loop.counter c.loop.next (omega arith) c.loop.invariant.next w.in_default.not-Some)
+          (some_below listed c.loop.counter c.loop.next (omega arith) c.loop.invariant.next w.in_default.not-Some)
     ]

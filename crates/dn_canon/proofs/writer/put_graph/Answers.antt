@@ -1,7 +1,7 @@
 use Rattle.std.proofs.Common.{◌≡◌, [], ◌++◌, map, refl, ap, ◌∙◌}
 use Rattle.dn_canon.specs.Prints.{arc_row, graph_row, graph_rows}
 use Rattle.dn_sink.specs.Rows.{line_text, text_of}
-use Rattle.dn_canon.specs.State.ToldArcs.{told_graph}
+use Rattle.dn_canon.specs.State.ListedArcs.{listed_graph}
 use Rattle.dn_canon.specs.State.Writes.{node_rows}
 use Rattle.dn_sink.proofs.PutLaws.{put_from, put_last, stopped}
 use Rattle.dn_canon.proofs.BlockLaws.{pass_more, pass_stop, all_done}
@@ -10,7 +10,7 @@ use Rattle.dn_canon.proofs.writer.put_graph.Goals as goal
 
 pub returns-in_err-put_nodes-clause-text : goal.returns-in_err-put_nodes-clause-text
 returns-in_err-put_nodes-clause-text g c =
-    let graph = told_graph (g.B.Bundle.bundle.told c.args.form) c.args.nodes.now c.args.table.now in
+    let graph = listed_graph (g.B.Bundle.bundle.listed c.args.form) c.args.nodes.now c.args.table.now in
     let nodes = text_of (node_rows c.args.lines.now) in
     let arcs = text_of (map (arc_row g.B.Bundle.bundle.kind) graph.arcs) in
     let line = line_text (graph_row c.args.kind c.args.nodes.now c.args.count) in
@@ -24,7 +24,7 @@ returns-in_err-put_nodes-clause-text g c =
 
 pub returns-in_err-put_table-clause-text : goal.returns-in_err-put_table-clause-text
 returns-in_err-put_table-clause-text g c =
-    let graph = told_graph (g.B.Bundle.bundle.told c.args.form) c.args.nodes.now c.args.table.now in
+    let graph = listed_graph (g.B.Bundle.bundle.listed c.args.form) c.args.nodes.now c.args.table.now in
     let nodes = text_of (node_rows c.args.lines.now) in
     let arcs = text_of (map (arc_row g.B.Bundle.bundle.kind) graph.arcs) in
     let line = line_text (graph_row c.args.kind c.args.nodes.now c.args.count) in
@@ -40,7 +40,7 @@ returns-in_err-put_table-clause-text g c =
 
 pub returns-clause-text : goal.returns-clause-text
 returns-clause-text g c =
-    let graph = told_graph (g.B.Bundle.bundle.told c.args.form) c.args.nodes.now c.args.table.now in
+    let graph = listed_graph (g.B.Bundle.bundle.listed c.args.form) c.args.nodes.now c.args.table.now in
     let nodes = text_of (node_rows c.args.lines.now) in
     let arcs = text_of (map (arc_row g.B.Bundle.bundle.kind) graph.arcs) in
     let line = line_text (graph_row c.args.kind c.args.nodes.now c.args.count) in

@@ -12,10 +12,10 @@ returns-in-Some-how g c xs ys l r =
     search rules in
     let answer = Some (c.in-Some.pair, c.in-Some-how.how) in
     of_arcs g.B.Bundle.bundle.kind g.met.B.Bundle.laws
-    (g.B.Bundle.bundle.told One) c.args.left.now c.args.right.now xs ys answer l r
+    (g.B.Bundle.bundle.listed One) c.args.left.now c.args.right.now xs ys answer l r
     (c.loop-pair.invariant.rest answer
     (halted c.in-Some.pair c.loop-pair.lefts c.loop-pair.rights c.take.new.self c.take-in-Some.new.self first c.take.ensures.rest c.take-in-Some.ensures.rest c.loop-pair.invariant.lefts c.loop-pair.invariant.rights g.B.Bundle.bundle.kind g.met.B.Bundle.laws
-    (g.B.Bundle.bundle.told One) (option_copied c.take.result) (option_copied c.take-in-Some.result) c.take.ensures.bundle c.take-in-Some.ensures.bundle c.in-Some-how.how c.in-Some-how.ensures))
+    (g.B.Bundle.bundle.listed One) (option_copied c.take.result) (option_copied c.take-in-Some.result) c.take.ensures.bundle c.take-in-Some.ensures.bundle c.in-Some-how.how c.in-Some-how.ensures))
 
 pub loop-pair-smaller : goal.loop-pair-smaller
 loop-pair-smaller g c =
@@ -33,14 +33,14 @@ loop-pair-preserved g c =
       rights = rise.1;
       rest = λ o h. c.loop-pair.invariant.rest o
           (kept c.in-Some.pair c.loop-pair.lefts c.loop-pair.rights c.take.new.self c.take-in-Some.new.self first c.take.ensures.rest c.take-in-Some.ensures.rest c.loop-pair.invariant.lefts c.loop-pair.invariant.rights
-          g.B.Bundle.bundle.kind g.met.B.Bundle.laws (g.B.Bundle.bundle.told One) (option_copied c.take.result) (option_copied c.take-in-Some.result) c.take.ensures.bundle c.take-in-Some.ensures.bundle c.in_default-how.ensures o h);
+          g.B.Bundle.bundle.kind g.met.B.Bundle.laws (g.B.Bundle.bundle.listed One) (option_copied c.take.result) (option_copied c.take-in-Some.result) c.take.ensures.bundle c.take-in-Some.ensures.bundle c.in_default-how.ensures o h);
     }
 
 pub returns : goal.returns
 returns g c xs ys l r =
     let last : lesser_key pair_cmp (first_key c.loop-pair.lefts) (first_key c.loop-pair.rights) ≡ None = search rules in
     of_arcs g.B.Bundle.bundle.kind g.met.B.Bundle.laws
-    (g.B.Bundle.bundle.told One) c.args.left.now c.args.right.now xs ys None l r
+    (g.B.Bundle.bundle.listed One) c.args.left.now c.args.right.now xs ys None l r
     (c.loop-pair.invariant.rest None
     (ended g.B.Bundle.bundle.kind g.met.B.Bundle.laws
-    (g.B.Bundle.bundle.told One) c.loop-pair.lefts c.loop-pair.rights last))
+    (g.B.Bundle.bundle.listed One) c.loop-pair.lefts c.loop-pair.rights last))

@@ -9,7 +9,7 @@ use Rattle.dn_compare.proofs.parting.first_pair.Given as goal
 -- the first difference of the remaining entries is the first difference of all entries
 abbrev pub invariant-loop-pair : goal.invariant-loop-pair
 invariant-loop-pair g l =
-    let by = by_meaning g.B.Bundle.bundle.kind (g.B.Bundle.bundle.told One) in
+    let by = by_meaning g.B.Bundle.bundle.kind (g.B.Bundle.bundle.listed One) in
     record {
       lefts : PairsRise l.lefts;
       rights : PairsRise l.rights;

@@ -23,7 +23,7 @@ returns-in_err-feed-clause-err g c =
     let piece = c.in_ok-piece.piece.now in
     let room : length c.loop.room ≡ 4096 = search rules in
     handed_on _ _ _ c.from_residual-in_err-feed.ensures
-    (refused_given _ _ _ t piece c.loop.reader c.in_err-feed.field-0.0 c.loop.invariant.given.1 c.in_ok-piece.ensures.bytes (subst (λ n. length piece ≤ n) room c.in_ok-piece.ensures.bound) c.loop.invariant.given.2 c.loop.invariant.fine (c.in_err-feed.ensures.told t c.loop.invariant.given.2)
+    (refused_given _ _ _ t piece c.loop.reader c.in_err-feed.field-0.0 c.loop.invariant.given.1 c.in_ok-piece.ensures.bytes (subst (λ n. length piece ≤ n) room c.in_ok-piece.ensures.bound) c.loop.invariant.given.2 c.loop.invariant.fine (c.in_err-feed.ensures.fed t c.loop.invariant.given.2)
     (λ memory.
     (c.in_err-feed.ensures.memory t c.loop.invariant.given.2 c.loop.invariant.fine (ap (λ x. Err x) memory)).0))
 
@@ -70,7 +70,7 @@ pub returns-in_err-feed-clause-left : goal.returns-in_err-feed-clause-left
 returns-in_err-feed-clause-left g c = record {
   read =
       handed_other _ _ c.from_residual-in_err-feed.ensures
-      (refused_unread _ _ _ (c.in_err-feed.ensures.told c.loop.invariant.given.0 c.loop.invariant.given.2));
+      (refused_unread _ _ _ (c.in_err-feed.ensures.fed c.loop.invariant.given.0 c.loop.invariant.given.2));
   stays = λ failed. c.next_piece.ensures.stays (c.loop.invariant.stays failed);
   pulls = pulled_on c.loop.invariant.given.0 c.loop.reader c.loop.invariant.pulls c.loop.invariant.given.1 c.loop.invariant.given.2 c.loop.invariant.fine c.next_piece.ensures.pulls;
 }
@@ -95,7 +95,7 @@ returns-clause-left g c = record {
 pub returns-in_err-feed-clause-refusal : goal.returns-in_err-feed-clause-refusal
 returns-in_err-feed-clause-refusal g c =
     handed_on _ _ IsOfReading c.from_residual-in_err-feed.ensures
-    (refused_reading _ _ _ (c.in_err-feed.ensures.told c.loop.invariant.given.0 c.loop.invariant.given.2))
+    (refused_reading _ _ _ (c.in_err-feed.ensures.fed c.loop.invariant.given.0 c.loop.invariant.given.2))
 
 pub returns-in_err-piece-clause-refusal : goal.returns-in_err-piece-clause-refusal
 returns-in_err-piece-clause-refusal g c =

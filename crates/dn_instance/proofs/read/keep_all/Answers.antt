@@ -37,7 +37,7 @@ returns-in_err-feed-clause-err g c =
     handed_on _ _ _ c.from_residual-in_err-feed.ensures
     (copied _ _ (t ++ piece) _ _ (Err c.in_err-feed.field-0.0) more
     (c.in_ok-keep_piece.ensures.ok ∙ ap (λ l. l ++ piece) c.loop.invariant.given.4 ∙ append_assoc _ t piece)
-    (refused_given _ _ _ t piece c.loop.reader c.in_err-feed.field-0.0 c.loop.invariant.given.1 c.in_ok-bytes.ensures.bytes (subst (λ n. length piece ≤ n) room c.in_ok-bytes.ensures.bound) c.loop.invariant.given.2 c.loop.invariant.fine (c.in_err-feed.ensures.told t c.loop.invariant.given.2)
+    (refused_given _ _ _ t piece c.loop.reader c.in_err-feed.field-0.0 c.loop.invariant.given.1 c.in_ok-bytes.ensures.bytes (subst (λ n. length piece ≤ n) room c.in_ok-bytes.ensures.bound) c.loop.invariant.given.2 c.loop.invariant.fine (c.in_err-feed.ensures.fed t c.loop.invariant.given.2)
     (λ memory.
     (c.in_err-feed.ensures.memory t c.loop.invariant.given.2 c.loop.invariant.fine (ap (λ x. Err x) memory)).0)))
 
@@ -102,7 +102,7 @@ pub returns-in_err-feed-clause-left : goal.returns-in_err-feed-clause-left
 returns-in_err-feed-clause-left g c = record {
   read =
       handed_other _ _ c.from_residual-in_err-feed.ensures
-      (refused_unread _ _ _ (c.in_err-feed.ensures.told c.loop.invariant.given.0 c.loop.invariant.given.2));
+      (refused_unread _ _ _ (c.in_err-feed.ensures.fed c.loop.invariant.given.0 c.loop.invariant.given.2));
   stays = λ failed. c.next_piece.ensures.stays (c.loop.invariant.stays failed);
   pulls = pulled_on c.loop.invariant.given.0 c.loop.reader c.loop.invariant.pulls c.loop.invariant.given.1 c.loop.invariant.given.2 c.loop.invariant.fine c.next_piece.ensures.pulls;
 }
@@ -160,7 +160,7 @@ returns-in_err-keep_piece-clause-refusal g c =
 pub returns-in_err-feed-clause-refusal : goal.returns-in_err-feed-clause-refusal
 returns-in_err-feed-clause-refusal g c =
     handed_on _ _ IsOfReading c.from_residual-in_err-feed.ensures
-    (refused_reading _ _ _ (c.in_err-feed.ensures.told c.loop.invariant.given.0 c.loop.invariant.given.2))
+    (refused_reading _ _ _ (c.in_err-feed.ensures.fed c.loop.invariant.given.0 c.loop.invariant.given.2))
 
 pub returns-in_err-bytes-clause-refusal : goal.returns-in_err-bytes-clause-refusal
 returns-in_err-bytes-clause-refusal g c =

@@ -1,17 +1,17 @@
 use Rattle.std.proofs.Common.{rules, refl, ◌∷◌, [], ◌∙◌, subst, FitsSigned, w64, to_z, of_z, to_z-of_z}
 use Rattle.dn_line.specs.declared.kind.Kind.TheVariants as Kinds
-use Rattle.dn_bundle.specs.State.Tellings.{least_arcs, total_arcs, curve_arcs}
+use Rattle.dn_bundle.specs.State.Listings.{least_arcs, total_arcs, curve_arcs}
 use Rattle.dn_arc.specs.declared.arc.Form.TheVariants.{One}
-use Rattle.dn_instance.specs.State.Helds.{OfMin, OfMax, OfSp, holding}
+use Rattle.dn_instance.specs.State.Helds.{OfMin, OfMax, OfSp, parsed}
 use Rattle.dn_sink.specs.Puts.{Puts}
 use Rattle.dn_report.specs.Shows.{cost_words, total_words, supply_rows, terminal_rows}
-use Rattle.dn_report.specs.State.ToldRows.{length_words}
+use Rattle.dn_report.specs.State.ListedRows.{length_words}
 use Rattle.dn_report.proofs.ShowLaws.{graph_text, kind_text, held_text, supplies_text, terminals_text}
 use Rattle.dn_report.proofs.show.put_held.Goals as goal
 
 pub returns-in-Min : goal.returns-in-Min
 returns-in-Min g c =
-    let h = holding c.args.held.now in
+    let h = parsed c.args.held.now in
     let x = OfMin c.in-Min.supplies.now.entries c.in-Min.table.now in
     let nodes : FitsSigned w64 c.nodes.result = search rules in
     let lines : FitsSigned w64 c.lines.result = search rules in
@@ -28,7 +28,7 @@ returns-in-Min g c =
 
 pub returns-in-Max : goal.returns-in-Max
 returns-in-Max g c =
-    let h = holding c.args.held.now in
+    let h = parsed c.args.held.now in
     let x = OfMax c.in-Max.source c.in-Max.target c.in-Max.table.now in
     let nodes : FitsSigned w64 c.nodes.result = search rules in
     let lines : FitsSigned w64 c.lines.result = search rules in
@@ -48,7 +48,7 @@ returns-in-Max g c =
 
 pub returns-in-Sp : goal.returns-in-Sp
 returns-in-Sp g c =
-    let h = holding c.args.held.now in
+    let h = parsed c.args.held.now in
     let x = OfSp c.in-Sp.table.now in
     let nodes : FitsSigned w64 c.nodes.result = search rules in
     let lines : FitsSigned w64 c.lines.result = search rules in

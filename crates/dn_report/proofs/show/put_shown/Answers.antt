@@ -1,14 +1,14 @@
 use Rattle.std.proofs.Common.{[]}
-use Rattle.dn_instance.specs.State.Helds.{holding}
+use Rattle.dn_instance.specs.State.Helds.{parsed}
 use Rattle.dn_sink.specs.Rows.{text_of}
 use Rattle.dn_sink.proofs.PutLaws.{put_last, stopped}
-use Rattle.dn_report.specs.State.ToldRows.{held_rows}
+use Rattle.dn_report.specs.State.ListedRows.{held_rows}
 use Rattle.dn_report.proofs.MeantRows.{held_shown}
 use Rattle.dn_report.proofs.show.put_shown.Goals as goal
 
 pub returns-in_err-put_held-clause-text : goal.returns-in_err-put_held-clause-text
 returns-in_err-put_held-clause-text g c =
-    let h = holding c.args.held.now in (
+    let h = parsed c.args.held.now in (
       text_of
           (held_rows h),
       stopped c.from_residual.result c.from_residual.ensures.0 c.in_err-put_held.ensures,
@@ -17,6 +17,6 @@ returns-in_err-put_held-clause-text g c =
 
 pub returns-clause-text : goal.returns-clause-text
 returns-clause-text g c =
-    let h = holding c.args.held.now in
+    let h = parsed c.args.held.now in
     let all = text_of (held_rows h) in
     (all, put_last g.K.Sink.sink c.args.sink.now c.put_held.new.sink c.put_and_flush.new.sink [] all c.put_and_flush.result c.in_ok-put_held.ensures c.put_and_flush.ensures.puts, held_shown h)

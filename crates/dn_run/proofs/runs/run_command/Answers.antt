@@ -4,8 +4,8 @@ use Rattle.dn_run.specs.State.Answers.{stopped}
 use Rattle.dn_run.proofs.RefusedLaws.{not_accepted}
 use Rattle.dn_run.proofs.runs.run_command.Goals as goal
 
-apart : true ≡ false → ⊥
-apart e = cc
+true_is_not_false : true ≡ false → ⊥
+true_is_not_false e = cc
 
 other : ◌≡◌ {A = ℕ} 3 2 → ⊥
 other e = cc
@@ -15,7 +15,7 @@ returns-then-names_standard_input_twice-clause-asked g c = record {
   twice =
       λ _. record
       { status_is = refl; files_stay = refl; out_stays = refl; tells = (c.put_all.result, c.put_all.ensures) };
-  once = λ no. absurd (apart (c.if-names_standard_input_twice.ensures ∙ no));
+  once = λ no. absurd (true_is_not_false (c.if-names_standard_input_twice.ensures ∙ no));
   refused = λ two. absurd (other two);
 }
 
@@ -23,7 +23,7 @@ pub returns-in-Ok-clause-asked : goal.returns-in-Ok-clause-asked
 returns-in-Ok-clause-asked g c =
     let ran = c.in-Ok.ensures in
     record {
-      twice = λ yes. absurd (apart (sym (c.if-names_standard_input_twice.ensures ∙ yes)));
+      twice = λ yes. absurd (true_is_not_false (sym (c.if-names_standard_input_twice.ensures ∙ yes)));
       once =
           λ _. record {
             answer = Done c.in-Ok.status;
@@ -41,7 +41,7 @@ pub returns-in-Err-clause-asked : goal.returns-in-Err-clause-asked
 returns-in-Err-clause-asked g c =
     let ran = c.in-Err.ensures in
     record {
-      twice = λ yes. absurd (apart (sym (c.if-names_standard_input_twice.ensures ∙ yes)));
+      twice = λ yes. absurd (true_is_not_false (sym (c.if-names_standard_input_twice.ensures ∙ yes)));
       once = λ _. record {
         answer = stopped c.in-Err.stop;
         status_is = c.status.ensures;

@@ -1,12 +1,12 @@
 use Rattle.std.proofs.Common.{◌≡◌, ◌+◌, drop}
 use Rattle.dn_arc.specs.declared.arc.Form.TheVariants.{One}
-use Rattle.dn_table.specs.State.GraphEntries.{entries_told}
+use Rattle.dn_table.specs.State.GraphEntries.{entries_listed}
 use Rattle.dn_table.proofs.entry_sum.count_entries.Given as goal
 
 -- the count so far and the entries of the remaining bundles sum to the total
 abbrev pub invariant-loop-bundle : goal.invariant-loop-bundle
 invariant-loop-bundle g l =
     let kind = g.B.Bundle.bundle.kind in
-    let told = g.B.Bundle.bundle.told One in
-    l.all + entries_told (λ b. kind.entries (told b)) (drop l.bundle-index l.entries) ≡ entries_told
-    (λ b. kind.entries (told b)) l.entries
+    let listed = g.B.Bundle.bundle.listed One in
+    l.all + entries_listed (λ b. kind.entries (listed b)) (drop l.bundle-index l.entries) ≡ entries_listed
+    (λ b. kind.entries (listed b)) l.entries

@@ -16,7 +16,7 @@ returns-in-InvalidData-clause-ran g c =
     (subst
     (λ e. TakesLine
     (sink_run g.E.Sink.sink
-    (e, c.refuse_words.new.err)) bad_command_line) c.in-Err.ensures.err c.refuse_words.ensures.told)
+    (e, c.refuse_words.new.err)) bad_command_line) c.in-Err.ensures.err c.refuse_words.ensures.said)
 
 pub returns-in_default : goal.returns-in_default
 returns-in_default g c = record {

@@ -1,7 +1,7 @@
 use Rattle.std.proofs.Common.{sym, ap, ◌∙◌, length}
 use Rattle.std.proofs.lemmas.List.{length-map}
-use Rattle.dn_arc.specs.State.CurveTold.{step_arc}
-use Rattle.dn_bundle.proofs.CurveLaws.{free_arcs, costs_told}
+use Rattle.dn_arc.specs.State.CurveListed.{step_arc}
+use Rattle.dn_bundle.proofs.CurveLaws.{free_arcs, costs_listed}
 use Rattle.dn_bundle.proofs.curve.Curve.free_len.Goals as goal
 
 pub returns-clause-arcs : goal.returns-clause-arcs
@@ -11,4 +11,4 @@ returns-clause-arcs c = let self = c.args.self.now in
 
 pub returns-clause-costs : goal.returns-clause-costs
 returns-clause-costs c = let self = c.args.self.now in
-    c.steps_len.ensures.len ∙ sym (costs_told self.units self.cost self.total self.steps self.sound)
+    c.steps_len.ensures.len ∙ sym (costs_listed self.units self.cost self.total self.steps self.sound)

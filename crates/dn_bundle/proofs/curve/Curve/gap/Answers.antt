@@ -2,7 +2,7 @@ use Rattle.std.proofs.Common.{rules, ◌≡◌, refl, sym, ap, ◌∙◌, subst,
 use Rattle.std.specs.Int.{w128}
 use Rattle.std.specs.Int.RustNames.{FitsSigned}
 use Rattle.std.proofs.lemmas.Int.{to_z-of_z}
-use Rattle.dn_arc.specs.State.CurveTold.{IsSound}
+use Rattle.dn_arc.specs.State.CurveListed.{IsSound}
 use Rattle.dn_bundle.specs.State.Gaps.{first_gap}
 use Rattle.dn_bundle.proofs.StepLaws.{less, not_apart}
 use Rattle.dn_bundle.proofs.PartLaws.{from_units, left_gap, right_gap, cost_gap, step_gap, Parts}

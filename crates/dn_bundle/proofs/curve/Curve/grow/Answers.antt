@@ -1,7 +1,7 @@
 use Rattle.std.proofs.Common.{rules, ◌+ℤ◌, ◌++◌, ◌∷◌, [], ap, sym, ◌∙◌, subst}
 use Rattle.dn_arc.specs.declared.arc.Form.TheVariants.{One}
 use Rattle.dn_arc.specs.Meanings.{SameCurve}
-use Rattle.dn_arc.specs.State.CurveTold.{told}
+use Rattle.dn_arc.specs.State.CurveListed.{listed}
 use Rattle.dn_arc.specs.State.Curves.{CurveNumbers}
 use Rattle.dn_bundle.specs.State.Shapes.{numbers_of}
 use Rattle.dn_bundle.proofs.GrowLaws.{taken_same, taken_sound, same_curve}
@@ -27,7 +27,7 @@ returns-clause-ok c =
     let new = numbers_of c.add.new.self in
     let total = c.requires.total ∙ ap (λ (v : CurveNumbers). v.total +ℤ c.args.arc.cap) (sym c.self.view_is) in
     subst
-    (λ (v : CurveNumbers). SameCurve (told One new.units new.cost new.steps)
-    (told One v.units v.cost v.steps ++ c.args.arc ∷ [])) c.self.view_is
+    (λ (v : CurveNumbers). SameCurve (listed One new.units new.cost new.steps)
+    (listed One v.units v.cost v.steps ++ c.args.arc ∷ [])) c.self.view_is
     (taken_same old new c.args.arc c.args.total c.self.inside.sound c.requires.arc total c.ranges.total
     (search rules) c.in_default.ensures.ok)

@@ -3,12 +3,12 @@ use Rattle.std.specs.Int.RustNames.{FitsSigned}
 use Rattle.std.proofs.lemmas.Int.{to_z-of_z}
 use Rattle.dn_line.specs.declared.line.Line.TheVariants.{MinArc}
 use Rattle.dn_arc.specs.Kinds.{costs}
-use Rattle.dn_arc.specs.State.CurveTold.{told}
+use Rattle.dn_arc.specs.State.CurveListed.{listed}
 use Rattle.dn_arc.specs.declared.arc.CostArc.{CostArc}
 use Rattle.dn_arc.specs.declared.arc.Form.TheVariants.{One}
 use Rattle.dn_instance.specs.declared.refusal.ItemFault.{ItemFault}
 use Rattle.dn_instance.specs.State.Drafts.{TableHolds}
-use Rattle.dn_table.specs.State.Tables.{TableTells}
+use Rattle.dn_table.specs.State.Tables.{TableLists}
 use Rattle.dn_instance.specs.Items.{arcs_of, cost_arc_in}
 use Rattle.dn_instance.specs.State.ItemFaults.{AnswersFault, arc_fault}
 use Rattle.dn_instance.proofs.ArcItems.{table_grown}
@@ -29,7 +29,7 @@ returns-clause-answer c signs before p h k n t =
     subst (AnswersFault c.take_arc.result)
     (sym (cost_item before p a.src a.dst a.low a.cap a.cost h k
     ∙ ap (λ m. arc_fault costs m (arcs_of cost_arc_in before) is ((a.src, a.dst), arc)) n))
-    (answer (arcs_of cost_arc_in before) is t.tells_them t.are_arcs (is_cost_arc a.low a.cap a.cost signs.0))
+    (answer (arcs_of cost_arc_in before) is t.lists_them t.are_arcs (is_cost_arc a.low a.cap a.cost signs.0))
 
 pub returns-clause-stands : goal.returns-clause-stands
 returns-clause-stands c signs before t =
@@ -43,9 +43,9 @@ returns-clause-stands c signs before t =
     let is = not (int_lt c.args.arc.now.cap c.args.arc.now.low) in
     let arcs = arcs_of cost_arc_in before in
     by_result c.take_arc.result
-    (answer arcs is t.tells_them t.are_arcs
+    (answer arcs is t.lists_them t.are_arcs
     (is_cost_arc c.args.arc.now.low c.args.arc.now.cap c.args.arc.now.cost signs.0))
-    (stands arcs cost_stays t.tells_them t.are_arcs)
+    (stands arcs cost_stays t.lists_them t.are_arcs)
   where
     placed : (ℤ × ℤ) × CostArc
     placed = let a = c.args.arc.now in ((a.src, a.dst), record { low = a.low; cap = a.cap; cost = a.cost })
@@ -55,9 +55,9 @@ returns-clause-stands c signs before t =
         (arc_fault costs c.args.nodes.now (arcs_of cost_arc_in before)
         (not (int_lt c.args.arc.now.cap c.args.arc.now.low)) placed)
         → OnOk r
-        (TableTells costs (λ b. told One b.units b.cost b.steps) c.take_arc.new.table
+        (TableLists costs (λ b. listed One b.units b.cost b.steps) c.take_arc.new.table
         (arcs_of cost_arc_in before ++ placed ∷ []))
-        → OnOk r (TableHolds costs cost_arc_in (λ b. told One b.units b.cost b.steps) c.take_arc.new.table (before ++ MinArc c.args.arc.now.src c.args.arc.now.dst c.args.arc.now.low c.args.arc.now.cap c.args.arc.now.cost ∷ []))
+        → OnOk r (TableHolds costs cost_arc_in (λ b. listed One b.units b.cost b.steps) c.take_arc.new.table (before ++ MinArc c.args.arc.now.src c.args.arc.now.dst c.args.arc.now.low c.args.arc.now.cap c.args.arc.now.cost ∷ []))
     by_result (Err e) ans ok = tt
     by_result (Ok x) ans ok =
         table_grown costs cost_arc_in _ c.take_arc.new.table before _ placed (cost_grown before c.args.arc.now.src c.args.arc.now.dst c.args.arc.now.low c.args.arc.now.cap c.args.arc.now.cost) t.are_arcs

@@ -20,7 +20,7 @@ returns-clause-answer c signs before p h k n t =
     subst (AnswersFault c.take_arc.result)
     (sym (length_item before p a.src a.dst a.cost h k
     ∙ ap (λ m. arc_fault lengths m (arcs_of length_arc_in before) true ((a.src, a.dst), arc)) n))
-    (answer (arcs_of length_arc_in before) true t.tells_them t.are_arcs (λ x. tt, λ x. refl))
+    (answer (arcs_of length_arc_in before) true t.lists_them t.are_arcs (λ x. tt, λ x. refl))
 
 pub returns-clause-stands : goal.returns-clause-stands
 returns-clause-stands c signs before t =
@@ -33,4 +33,4 @@ returns-clause-stands c signs before t =
     on_ok_weaker c.take_arc.result
     (table_grown lengths length_arc_in _ c.take_arc.new.table before _ ((a.src, a.dst), arc)
     (length_grown before a.src a.dst a.cost) t.are_arcs tt)
-    (stands (arcs_of length_arc_in before) length_stays t.tells_them t.are_arcs)
+    (stands (arcs_of length_arc_in before) length_stays t.lists_them t.are_arcs)

@@ -20,7 +20,7 @@ returns-clause-answer c some before p h k n t =
     subst (AnswersFault c.take_arc.result)
     (sym (cap_item before p a.src a.dst a.cap h k
     ∙ ap (λ m. arc_fault capacities m (arcs_of cap_arc_in before) true ((a.src, a.dst), arc)) n))
-    (answer (arcs_of cap_arc_in before) true t.tells_them t.are_arcs (λ x. record { some = some }, λ x. refl))
+    (answer (arcs_of cap_arc_in before) true t.lists_them t.are_arcs (λ x. record { some = some }, λ x. refl))
 
 pub returns-clause-stands : goal.returns-clause-stands
 returns-clause-stands c some before t =
@@ -33,4 +33,4 @@ returns-clause-stands c some before t =
     on_ok_weaker c.take_arc.result
     (table_grown capacities cap_arc_in _ c.take_arc.new.table before _ ((a.src, a.dst), arc)
     (cap_grown before a.src a.dst a.cap) t.are_arcs (record { some = some }))
-    (stands (arcs_of cap_arc_in before) cap_stays t.tells_them t.are_arcs)
+    (stands (arcs_of cap_arc_in before) cap_stays t.lists_them t.are_arcs)

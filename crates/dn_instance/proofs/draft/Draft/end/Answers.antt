@@ -4,8 +4,8 @@ use Rattle.dn_instance.specs.State.Ends.{Makes}
 use Rattle.dn_instance.specs.declared.content.Content.TheVariants as Kept
 use Rattle.dn_instance.specs.declared.draft.Draft.TheVariants as Drafts
 use Rattle.dn_arc.specs.Kinds.{lengths, costs}
-use Rattle.dn_arc.specs.State.Lengths.{length_told}
-use Rattle.dn_arc.specs.State.CurveTold.{told}
+use Rattle.dn_arc.specs.State.Lengths.{length_listed}
+use Rattle.dn_arc.specs.State.CurveListed.{listed}
 use Rattle.dn_arc.specs.declared.arc.Form.TheVariants.{One}
 use Rattle.dn_arc.specs.State.Curves.{CurveNumbers}
 use Rattle.dn_bundle.specs.declared.least.Least.{Least}
@@ -25,8 +25,8 @@ returns-in-Min c nodes items h =
         refl,
         (
           k.0,
-          stands_as costs (λ (b : CurveNumbers). told One b.units b.cost b.steps) c.in-Min.table c.end.result
-              (arcs_of cost_arc_in items) c.end.ensures.rising c.end.ensures.kept k.2.tells_them,
+          stands_as costs (λ (b : CurveNumbers). listed One b.units b.cost b.steps) c.in-Min.table c.end.result
+              (arcs_of cost_arc_in items) c.end.ensures.rising c.end.ensures.kept k.2.lists_them,
         ),
       ),
     ) in
@@ -46,8 +46,8 @@ returns-in-Sp c nodes items h =
       (
         _,
         refl,
-        stands_as lengths (λ (b : Least). length_told b.length) c.in-Sp.table c.end-in-Sp.result
-            (arcs_of length_arc_in items) c.end-in-Sp.ensures.rising c.end-in-Sp.ensures.kept k.tells_them,
+        stands_as lengths (λ (b : Least). length_listed b.length) c.in-Sp.table c.end-in-Sp.result
+            (arcs_of length_arc_in items) c.end-in-Sp.ensures.rising c.end-in-Sp.ensures.kept k.lists_them,
       ),
     ) in
     subst (λ d. Makes (draft_kind d) nodes items (Ok (Kept.Sp c.end-in-Sp.result))) (sym c.in-Sp.is) out

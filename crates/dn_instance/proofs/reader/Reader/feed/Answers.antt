@@ -14,8 +14,8 @@ use Rattle.dn_instance.proofs.reader.Reader.feed.Goals as goal
 pub returns-in-Some-clause-stands : goal.returns-in-Some-clause-stands
 returns-in-Some-clause-stands c t h = still_refused c.args.self.now t c.args.piece.now c.in-Some.refusal c.in-Some.is h
 
-pub returns-in-Some-clause-told : goal.returns-in-Some-clause-told
-returns-in-Some-clause-told c t h =
+pub returns-in-Some-clause-fed : goal.returns-in-Some-clause-fed
+returns-in-Some-clause-fed c t h =
     let r = c.args.self.now in
     let u = t ++ c.args.piece.now in
     (refused r u c.in-Some.refusal c.in-Some.is (still_refused r t c.args.piece.now c.in-Some.refusal c.in-Some.is h)).0
@@ -51,8 +51,8 @@ returns-in-Err-clause-stands c t h =
     refuses c.advance.new.self u c.in-Err.refusal r.0
     (refused_at_all (length (ended t)) (ended u) c.in-Err.refusal r.1, r.2)
 
-pub returns-in-Err-clause-told : goal.returns-in-Err-clause-told
-returns-in-Err-clause-told c t h =
+pub returns-in-Err-clause-fed : goal.returns-in-Err-clause-fed
+returns-in-Err-clause-fed c t h =
     let r = refused_within c t (c.loop-at.invariant.reads t h) in
     refused_at_all (length (ended t)) (ended (t ++ c.args.piece.now)) c.in-Err.refusal r.1
 
@@ -79,8 +79,8 @@ loop-at-preserved c = record {
       );
 }
 
-pub returns-clause-told : goal.returns-clause-told
-returns-clause-told c t h =
+pub returns-clause-fed : goal.returns-clause-fed
+returns-clause-fed c t h =
     subst (λ l. IsClean (ended (t ++ l)))
     (take_all c.loop-at.at c.args.piece.now (let over = c.loop-at-test.false in omega arith))
     (c.loop-at.invariant.reads t h).read.clean

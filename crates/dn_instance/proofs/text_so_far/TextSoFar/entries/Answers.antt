@@ -1,7 +1,7 @@
 use Rattle.std.proofs.Common.{◌<◌, ◌^◌, sym, ap, ◌∙◌, subst}
 use Rattle.dn_instance.specs.State.EntryCount.{entries_by}
 use Rattle.dn_instance.specs.Texts.{items_of}
-use Rattle.dn_instance.proofs.ItemSteps.{kind_told}
+use Rattle.dn_instance.proofs.ItemSteps.{kind_agrees}
 use Rattle.dn_instance.proofs.SizeLaws.{so_far_fits}
 use Rattle.dn_instance.proofs.text_so_far.TextSoFar.entries.Goals as goal
 
@@ -9,5 +9,5 @@ pub returns : goal.returns
 returns c ls h =
     let items = items_of ls in
     let at = h.items_are in
-    let same = ap (λ o. entries_by o items) (kind_told c.args.self.now items at) in
+    let same = ap (λ o. entries_by o items) (kind_agrees c.args.self.now items at) in
     c.entries.ensures items at.holds (subst (λ n. n < 2 ^ 64) same (so_far_fits ls h.clean at.counted_few)) ∙ sym same

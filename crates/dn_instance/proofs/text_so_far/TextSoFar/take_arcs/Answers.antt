@@ -7,7 +7,7 @@ use Rattle.dn_instance.specs.TextFaults.{is_companion}
 use Rattle.dn_instance.specs.Texts.{items_of}
 use Rattle.dn_instance.specs.State.TextsSoFar.{HasRead}
 use Rattle.dn_instance.proofs.ArcLinesLaws.{front_of, run_front, run_on, run_signs}
-use Rattle.dn_instance.proofs.ItemSteps.{problem_told, with_lines}
+use Rattle.dn_instance.proofs.ItemSteps.{problem_agrees, with_lines}
 use Rattle.dn_instance.proofs.text_so_far.TextSoFar.take_arcs.Goals as goal
 
 pub returns-clause-taken : goal.returns-clause-taken
@@ -33,7 +33,7 @@ returns-clause-taken c ls at =
     let k = c.if-self.false in omega arith) in
     let on =
     run_on kind taken bytes front.0 ls _ graph front.1 at.clean
-    (problem_told self items kind at.items_are is) refl j.0.faultless j.1 (omega arith) in
+    (problem_agrees self items kind at.items_are is) refl j.0.faultless j.1 (omega arith) in
     record {
       more = on.more;
       whole =

@@ -9,7 +9,7 @@ use Rattle.dn_instance.specs.State.Drafts.{DraftHolds, HasSigns, IsDraftOf, draf
 use Rattle.dn_instance.specs.State.TextsSoFar.{problem_as}
 use Rattle.dn_instance.specs.Items.{Problem, counted}
 use Rattle.dn_instance.proofs.ArcRunLaws.{arcs_read, come_in_time, signs_front, still_declared, still_few, sum_fits, sum_taken}
-use Rattle.dn_instance.proofs.ItemSteps.{problem_told}
+use Rattle.dn_instance.proofs.ItemSteps.{problem_agrees}
 use Rattle.dn_instance.proofs.text_so_far.TextSoFar.take_run.Goals as goal
 
 pub returns-clause-taken : goal.returns-clause-taken
@@ -24,7 +24,7 @@ returns-clause-taken c kind before a =
     let same = c.look_ahead.ensures in
     let taken : List ArcLine = take m arcs in
     let p : Problem = problem_as self kind in
-    let problem = problem_told self before kind at a.kind_is in
+    let problem = problem_agrees self before kind at a.kind_is in
     let fits : FitsSigned w64 self.counted = search rules in
     let fits_count : FitsSigned w64 self.count = search rules in
     let signs_few =

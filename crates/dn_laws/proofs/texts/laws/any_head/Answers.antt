@@ -1,4 +1,4 @@
-use Rattle.dn_canon.proofs.ToldLaws.{min_head, max_head}
+use Rattle.dn_canon.proofs.ListedLaws.{min_head, max_head}
 use Rattle.dn_laws.proofs.texts.laws.any_head.Goals as goal
 
 pub returns-clause-supplies : goal.returns-clause-supplies

@@ -4,7 +4,7 @@ use Rattle.std.proofs.lemmas.Result.{on_ok_weaker, on_err_weaker}
 use Rattle.dn_arc.specs.declared.arc.Form.TheVariants.{One}
 use Rattle.dn_arc.specs.Pairs.{same_pair}
 use Rattle.dn_table.specs.State.Tables.{Grows}
-use Rattle.dn_table.proofs.TableLaws.{told_there, sum_told}
+use Rattle.dn_table.proofs.TableLaws.{listed_there, sum_listed}
 use Rattle.dn_table.proofs.GrownLaws.{lookup_none, found_at, same_then, grows_here}
 use Rattle.pair_index.specs.State.Places.{key_at}
 use Rattle.pair_index.proofs.EntryLaws.{indexes_kept}
@@ -28,9 +28,9 @@ returns-in-Some-clause-ok g c =
     let at = subst (λ xs. key_at (keys_of xs) c.in-Some.i ≡ c.args.pair) (sym old) c.in-Some.ensures.place.1 in
     on_ok_weaker c.add.result
     (λ same. subst
-    (λ m. Grows g.B.Bundle.bundle.kind (g.B.Bundle.bundle.told One) m
+    (λ m. Grows g.B.Bundle.bundle.kind (g.B.Bundle.bundle.listed One) m
     (set es c.in-Some.i (c.index_mut.result.now.0, c.add.new.self)) c.args.pair c.args.arc) old
-    (grows_here c.args.pair es c.self.invariant.apart c.in-Some.i c.index_mut.result.now lt at c.index_mut.ensures.value g.B.Bundle.bundle.kind (g.B.Bundle.bundle.told One) c.args.arc c.add.new.self same))
+    (grows_here c.args.pair es c.self.invariant.apart c.in-Some.i c.index_mut.result.now lt at c.index_mut.ensures.value g.B.Bundle.bundle.kind (g.B.Bundle.bundle.listed One) c.args.arc c.add.new.self same))
     c.add.ensures.ok
 
 pub returns-in-Some-clause-err : goal.returns-in-Some-clause-err
@@ -49,8 +49,8 @@ returns-in-Some-clause-sum g c =
     let old = c.self.view_is ∙ c.place.ensures.same in
     let lt = subst (λ xs. c.in-Some.i < length (keys_of xs)) (sym old) c.in-Some.ensures.place.0 in
     let at = subst (λ xs. key_at (keys_of xs) c.in-Some.i ≡ c.args.pair) (sym old) c.in-Some.ensures.place.1 in
-    sum_told g.B.Bundle.bundle.kind (g.B.Bundle.bundle.told One) c.args.arc _ es c.args.self.now c.args.pair
-    (g.B.Bundle.bundle.told One c.index_mut.result.now.1) old
-    (told_there (g.B.Bundle.bundle.told One) es c.args.pair c.index_mut.result.now.1
+    sum_listed g.B.Bundle.bundle.kind (g.B.Bundle.bundle.listed One) c.args.arc _ es c.args.self.now c.args.pair
+    (g.B.Bundle.bundle.listed One c.index_mut.result.now.1) old
+    (listed_there (g.B.Bundle.bundle.listed One) es c.args.pair c.index_mut.result.now.1
     (found_at c.args.pair es c.self.invariant.apart c.in-Some.i c.index_mut.result.now lt at c.index_mut.ensures.value))
     c.add.ensures.sum

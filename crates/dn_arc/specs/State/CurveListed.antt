@@ -52,9 +52,9 @@ join_arcs [] arcs = arcs
 join_arcs (a ∷ rest) arcs = join_arc a (join_arcs rest arcs)
 
 -- the canonical arcs in this form
-abbrev pub told : Form → ℤ → ℤ → List (ℤ × ℤ) → List CostArc
-told One units cost steps = fixed_arcs units cost ++ map step_arc steps
-told Two units cost steps = join_arcs (fixed_arcs units cost) (map step_arc steps)
+abbrev pub listed : Form → ℤ → ℤ → List (ℤ × ℤ) → List CostArc
+listed One units cost steps = fixed_arcs units cost ++ map step_arc steps
+listed Two units cost steps = join_arcs (fixed_arcs units cost) (map step_arc steps)
 
 -- a curve is valid: the units are at least 0 and their cost per unit fits 64 bits; the total, at most 2^63 - 1, is the
 -- units plus the free capacity; the breakpoints are valid, and their costs fit 64 bits

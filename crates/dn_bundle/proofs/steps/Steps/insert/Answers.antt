@@ -1,6 +1,6 @@
 use Rattle.std.proofs.Common.{rules}
 use Rattle.dn_bundle.proofs.StepLaws.{lower_first, lower_put, higher_first, same_first, same_fits, same_put}
-use Rattle.dn_bundle.proofs.steps.Steps.put.Goals as goal
+use Rattle.dn_bundle.proofs.steps.Steps.insert.Goals as goal
 
 pub invariant_of-self-then-step-least : goal.invariant_of-self-then-step-least
 invariant_of-self-then-step-least c = lower_first c.self.inside.first c.self.inside.rest.entries c.args.self.now c.in-Some.least c.args.step c.in-Some.is c.self.invariant c.self.view_is (search rules) (search rules) (search rules) (search rules) c.insert.new.self.entries c.if-step-least.true c.in_ok-insert-in-Some.ensures.entries

@@ -17,15 +17,15 @@ use Rattle.dn_arc.specs.State.Kinds.{AreCanonArcsOf}
 use Rattle.dn_arc.specs.declared.arc.LengthArc.{LengthArc}
 use Rattle.dn_arc.specs.declared.arc.CapArc.{CapArc}
 use Rattle.dn_arc.specs.declared.arc.CostArc.{CostArc}
-use Rattle.dn_arc.specs.State.Bundles.{IsKind, NumbersFit, told_of}
+use Rattle.dn_arc.specs.State.Bundles.{IsKind, NumbersFit, listed_of}
 use Rattle.dn_instance.specs.Instances.{Graph, Instance, MinCostFlow, MaxFlow, ShortestPaths, Sources, Queries, Coordinates}
 use Rattle.dn_arc.specs.Pairs.{bundle, pair_cmp, same_pair}
-use Rattle.dn_table.specs.State.Tables.{told_at}
+use Rattle.dn_table.specs.State.Tables.{listed_at}
 use Rattle.dn_instance.specs.Validity.{Fits, IsNode, IsPlaced, IsValidGraph, IsValid, AreSupplies, AreTerminals}
 use Rattle.dn_arc.proofs.PairLaws.{pair_is, pair_self}
 use Rattle.dn_canon.specs.CanonInstances.{AreInOrder, IsCanonInstanceOf}
 use Rattle.dn_canon.specs.State.CanonInstances.{IsCanonGraphOf}
-use Rattle.dn_canon.specs.State.ToldArcs.{placed, told_arcs, told_graph}
+use Rattle.dn_canon.specs.State.ListedArcs.{placed, listed_arcs, listed_graph}
 use Rattle.dn_canon.proofs.OrderLaws.{NoneBefore, all_at_pair, at_head}
 
 -- an instance without a graph
@@ -36,10 +36,10 @@ IsCompanion (Coordinates points) = Unit {0}
 IsCompanion _ = ⊥
 
 -- what bundles list is canonical in each form, means the same in both, and has numbers of 64 bits
-pub record TellsCanon {B Arc : Type 0} (kind : ArcKind Arc) (told : Form → B → List Arc) : Type 0 where
-  pub canonical : (form : Form) (b : B) → kind.IsCanon form (told form b)
-  pub same_forms : (b : B) → kind.Same (told Two b) (told One b)
-  pub fit : (form : Form) (b : B) → NumbersFit kind (told form b)
+pub record ListsCanon {B Arc : Type 0} (kind : ArcKind Arc) (listed : Form → B → List Arc) : Type 0 where
+  pub canonical : (form : Form) (b : B) → kind.IsCanon form (listed form b)
+  pub same_forms : (b : B) → kind.Same (listed Two b) (listed One b)
+  pub fit : (form : Form) (b : B) → NumbersFit kind (listed form b)
 
 equal_le : (o : Ordering) → is_eq o ≡ true → is_le o ≡ true
 equal_le Less e = refl
@@ -101,71 +101,71 @@ module _ {Arc : Type 0} where
   pub at_some : (P : (ℤ × ℤ) × Arc → Type 0) (Q : ℤ × ℤ → Type 0) → ((a : (ℤ × ℤ) × Arc) → P a → Q a.0)
       → (arcs : List ((ℤ × ℤ) × Arc)) (q : ℤ × ℤ) (x : Arc) (xs : List Arc) → AllByRecursion P arcs
       → bundle q arcs ≡ x ∷ xs → Q q
-  at_some P Q tells [] q x xs all e = cc
-  at_some P Q tells (a ∷ rest) q x xs all e = by_test (same_pair q a.0) refl e (at_some P Q tells rest q x xs all.1)
+  at_some P Q lists [] q x xs all e = cc
+  at_some P Q lists (a ∷ rest) q x xs all e = by_test (same_pair q a.0) refl e (at_some P Q lists rest q x xs all.1)
     where
       by_test : (t : Bool) → same_pair q a.0 ≡ t → cond t (a.1 ∷ bundle q rest) (bundle q rest) ≡ x ∷ xs
           → (bundle q rest ≡ x ∷ xs → Q q) → Q q
-      by_test true f g h = subst Q (sym (pair_is q a.0 f)) (tells a all.0)
+      by_test true f g h = subst Q (sym (pair_is q a.0 f)) (lists a all.0)
       by_test false f g h = h g
 
-  module _ {B : Type 0} (tells : B → List Arc) where
+  module _ {B : Type 0} (lists : B → List Arc) where
     none_before : (k : ℤ × ℤ) (es : List ((ℤ × ℤ) × B)) → AllByRecursion (λ y. pair_cmp k y ≡ Less) (keys_of es)
-        → NoneBefore k (told_arcs tells es)
+        → NoneBefore k (listed_arcs lists es)
     none_before k [] h = tt
-    none_before k (e ∷ es) h = before_placed k e.0 (tells e.1) (told_arcs tells es) h.0 (none_before k es h.1)
+    none_before k (e ∷ es) h = before_placed k e.0 (lists e.1) (listed_arcs lists es) h.0 (none_before k es h.1)
 
     -- the listed arcs of a table are sorted by pair
-    told_order : (es : List ((ℤ × ℤ) × B)) → IsStrictlySortedBy pair_cmp (keys_of es) → AreInOrder (told_arcs tells es)
-    told_order [] s = tt
-    told_order (e ∷ es) s =
-        (order_placed e.0 (tells e.1) (told_arcs tells es)
+    listed_order : (es : List ((ℤ × ℤ) × B)) → IsStrictlySortedBy pair_cmp (keys_of es) → AreInOrder (listed_arcs lists es)
+    listed_order [] s = tt
+    listed_order (e ∷ es) s =
+        (order_placed e.0 (lists e.1) (listed_arcs lists es)
         (none_before e.0 es (sorted_head pair_cmp e.0 (keys_of es) s))
-        (told_order es (sorted_tail pair_cmp e.0 (keys_of es) s))).1
+        (listed_order es (sorted_tail pair_cmp e.0 (keys_of es) s))).1
 
-    none_told : (k : ℤ × ℤ) (es : List ((ℤ × ℤ) × B)) → AllByRecursion (λ y. pair_cmp k y ≡ Less) (keys_of es)
-        → bundle k (told_arcs tells es) ≡ []
-    none_told k [] h = refl
-    none_told k (e ∷ es) h =
-        bundle_placed k e.0 (tells e.1) (told_arcs tells es)
-        ∙ ap (λ o. cond (is_eq o) (tells e.1 ++ bundle k (told_arcs tells es)) (bundle k (told_arcs tells es))) h.0
-        ∙ none_told k es h.1
+    none_listed : (k : ℤ × ℤ) (es : List ((ℤ × ℤ) × B)) → AllByRecursion (λ y. pair_cmp k y ≡ Less) (keys_of es)
+        → bundle k (listed_arcs lists es) ≡ []
+    none_listed k [] h = refl
+    none_listed k (e ∷ es) h =
+        bundle_placed k e.0 (lists e.1) (listed_arcs lists es)
+        ∙ ap (λ o. cond (is_eq o) (lists e.1 ++ bundle k (listed_arcs lists es)) (bundle k (listed_arcs lists es))) h.0
+        ∙ none_listed k es h.1
 
     -- the listed arcs at a pair are those of its bundle
-    told_bundle : (q : ℤ × ℤ) (es : List ((ℤ × ℤ) × B)) → IsStrictlySortedBy pair_cmp (keys_of es)
-        → bundle q (told_arcs tells es) ≡ told_at tells es q
-    told_bundle q [] s = refl
-    told_bundle q (e ∷ es) s =
-        bundle_placed q e.0 (tells e.1) (told_arcs tells es)
-        ∙ by_test (same_pair q e.0) refl (told_bundle q es (sorted_tail pair_cmp e.0 (keys_of es) s))
+    listed_bundle : (q : ℤ × ℤ) (es : List ((ℤ × ℤ) × B)) → IsStrictlySortedBy pair_cmp (keys_of es)
+        → bundle q (listed_arcs lists es) ≡ listed_at lists es q
+    listed_bundle q [] s = refl
+    listed_bundle q (e ∷ es) s =
+        bundle_placed q e.0 (lists e.1) (listed_arcs lists es)
+        ∙ by_test (same_pair q e.0) refl (listed_bundle q es (sorted_tail pair_cmp e.0 (keys_of es) s))
       where
-        by_test : (t : Bool) → same_pair q e.0 ≡ t → bundle q (told_arcs tells es) ≡ told_at tells es q
-            → cond t (tells e.1 ++ bundle q (told_arcs tells es)) (bundle q (told_arcs tells es)) ≡ told_of tells
+        by_test : (t : Bool) → same_pair q e.0 ≡ t → bundle q (listed_arcs lists es) ≡ listed_at lists es q
+            → cond t (lists e.1 ++ bundle q (listed_arcs lists es)) (bundle q (listed_arcs lists es)) ≡ listed_of lists
             (cond t (Some e.1) (lookup (same_pair q) es))
         by_test true f r =
-            ap (λ l. tells e.1 ++ l)
-            (subst (λ p. bundle p (told_arcs tells es) ≡ []) (sym (pair_is q e.0 f))
-            (none_told e.0 es (sorted_head pair_cmp e.0 (keys_of es) s)))
-            ∙ append-nil (tells e.1)
+            ap (λ l. lists e.1 ++ l)
+            (subst (λ p. bundle p (listed_arcs lists es) ≡ []) (sym (pair_is q e.0 f))
+            (none_listed e.0 es (sorted_head pair_cmp e.0 (keys_of es) s)))
+            ∙ append-nil (lists e.1)
         by_test false f r = r
 
-module _ {B Arc : Type 0} (kind : ArcKind Arc) (laws : IsKind kind) (told : Form → B → List Arc)
-    (tells : TellsCanon kind told) (form : Form) where
-  same_one : (f : Form) (b : B) → kind.Same (told f b) (told One b)
-  same_one One b = laws.meaning.same_refl (told One b)
-  same_one Two b = tells.same_forms b
+module _ {B Arc : Type 0} (kind : ArcKind Arc) (laws : IsKind kind) (listed : Form → B → List Arc)
+    (lists : ListsCanon kind listed) (form : Form) where
+  same_one : (f : Form) (b : B) → kind.Same (listed f b) (listed One b)
+  same_one One b = laws.meaning.same_refl (listed One b)
+  same_one Two b = lists.same_forms b
 
-  at_same : (o : Option B) → kind.Same (told_of (told form) o) (told_of (told One) o)
+  at_same : (o : Option B) → kind.Same (listed_of (listed form) o) (listed_of (listed One) o)
   at_same None = laws.meaning.same_refl []
   at_same (Some b) = same_one form b
 
-  at_canon : (o : Option B) → kind.IsCanon form (told_of (told form) o)
+  at_canon : (o : Option B) → kind.IsCanon form (listed_of (listed form) o)
   at_canon None = laws.none_canon form
-  at_canon (Some b) = tells.canonical form b
+  at_canon (Some b) = lists.canonical form b
 
-  at_fit : (o : Option B) → NumbersFit kind (told_of (told form) o)
+  at_fit : (o : Option B) → NumbersFit kind (listed_of (listed form) o)
   at_fit None = tt
-  at_fit (Some b) = tells.fit form b
+  at_fit (Some b) = lists.fit form b
 
   -- arcs at a pair of nodes, with numbers of 64 bits, are placed in the graph
   each_placed : (n : ℤ) (q : ℤ × ℤ) → IsNode n q.0 × IsNode n q.1 → (xs : List Arc) → AllByRecursion kind.IsArc xs
@@ -184,21 +184,21 @@ module _ {B Arc : Type 0} (kind : ArcKind Arc) (laws : IsKind kind) (told : Form
     where
       by_bundle : (bs : List Arc) → bundle q arcs ≡ bs → kind.Same xs bs
           → AllByRecursion (λ x. IsPlaced kind n (q, x)) xs
-      by_bundle [] f g = subst (AllByRecursion (λ x. IsPlaced kind n (q, x))) (sym (laws.nothing_told form xs c g)) tt
+      by_bundle [] f g = subst (AllByRecursion (λ x. IsPlaced kind n (q, x))) (sym (laws.nothing_listed form xs c g)) tt
       by_bundle (b ∷ bs) f g =
           each_placed n q
           (at_some (IsPlaced kind n) (λ p. IsNode n p.0 × IsNode n p.1) (λ a h. (h.tail, h.head)) arcs q b bs v f) xs
           (laws.canon_arcs form xs c) fit
 
   -- the listed arcs of a table make the canonical graph
-  pub told_canon : (nodes : ℤ) (table : List ((ℤ × ℤ) × B)) (G : Graph Arc) → G.nodes ≡ nodes
+  pub listed_canon : (nodes : ℤ) (table : List ((ℤ × ℤ) × B)) (G : Graph Arc) → G.nodes ≡ nodes
       → IsStrictlySortedBy pair_cmp (keys_of table)
-      → ((p : ℤ × ℤ) → AreCanonArcsOf kind (told_at (told One) table p) (bundle p G.arcs)) → IsValidGraph kind G
-      → IsCanonGraphOf kind form (told_graph (told form) nodes table) G
-  told_canon nodes table G is rising stands valid =
+      → ((p : ℤ × ℤ) → AreCanonArcsOf kind (listed_at (listed One) table p) (bundle p G.arcs)) → IsValidGraph kind G
+      → IsCanonGraphOf kind form (listed_graph (listed form) nodes table) G
+  listed_canon nodes table G is rising stands valid =
       let arcs = G.arcs in
-      let all = told_arcs (told form) table in
-      let at : (q : ℤ × ℤ) → bundle q all ≡ told_at (told form) table q = λ q. told_bundle (told form) q table rising in
+      let all = listed_arcs (listed form) table in
+      let at : (q : ℤ × ℤ) → bundle q all ≡ listed_at (listed form) table q = λ q. listed_bundle (listed form) q table rising in
       let canon : (q : ℤ × ℤ)
       → kind.IsCanon form (bundle q all) =
       λ q. subst (kind.IsCanon form) (sym (at q)) (at_canon (lookup (same_pair q) table)) in
@@ -207,12 +207,12 @@ module _ {B Arc : Type 0} (kind : ArcKind Arc) (laws : IsKind kind) (told : Form
       λ q. subst (NumbersFit kind) (sym (at q)) (at_fit (lookup (same_pair q) table)) in
       let means : (q : ℤ × ℤ) → kind.Same (bundle q all) (bundle q arcs) =
       λ q. subst (λ l. kind.Same l (bundle q arcs)) (sym (at q))
-      (laws.meaning.same_trans (told_at (told form) table q) (told_at (told One) table q) (bundle q arcs)
+      (laws.meaning.same_trans (listed_at (listed form) table q) (listed_at (listed One) table q) (bundle q arcs)
       (at_same (lookup (same_pair q) table)) (stands q).same) in
       let are : (q : ℤ × ℤ)
       → AllByRecursion kind.IsArc (bundle q arcs) =
       λ q. all_at_pair (IsPlaced kind G.nodes) kind.IsArc (λ a p. p.is_arc) q arcs valid.placed in
-      subst (λ n. IsCanonGraphOf kind form (told_graph (told form) n table) G) is
+      subst (λ n. IsCanonGraphOf kind form (listed_graph (listed form) n table) G) is
       (record {
         valid = record {
           some_nodes = valid.some_nodes;
@@ -225,7 +225,7 @@ module _ {B Arc : Type 0} (kind : ArcKind Arc) (laws : IsKind kind) (told : Form
               (laws.same_capacity (bundle q arcs) (bundle q all) (are q) (laws.canon_arcs form (bundle q all) (canon q))
               (laws.meaning.same_sym (bundle q all) (bundle q arcs) (means q))) (valid.capacities q);
         };
-        canonical = record { in_order = told_order (told form) table rising; canonical = canon };
+        canonical = record { in_order = listed_order (listed form) table rising; canonical = canon };
         same = record { nodes = refl; bundles = λ q. laws.meaning.same_sym (bundle q all) (bundle q arcs) (means q) };
       })
 

@@ -5,10 +5,10 @@ use Rattle.std.specs.Map.{lookup}
 use Rattle.dn_arc.specs.declared.arc.Form.TheVariants.{One}
 use Rattle.dn_arc.specs.Kinds.{ArcKind}
 use Rattle.dn_arc.specs.State.Kinds.{AreCanonArcsOf}
-use Rattle.dn_arc.specs.State.Bundles.{IsKind, told_of}
+use Rattle.dn_arc.specs.State.Bundles.{IsKind, listed_of}
 use Rattle.dn_arc.proofs.OrdersLaws.{same_push}
 use Rattle.dn_arc.specs.Pairs.{bundle, same_pair}
-use Rattle.dn_table.specs.State.Tables.{told_at, Grows, TableTells, AreArcs, Stays}
+use Rattle.dn_table.specs.State.Tables.{listed_at, Grows, TableLists, AreArcs, Stays}
 use Rattle.dn_arc.proofs.PairLaws.{pair_is, pair_self}
 use Rattle.dn_table.proofs.PairLaws.{other_pair}
 use Rattle.dn_instance.proofs.SumLaws.{passes}
@@ -18,11 +18,11 @@ use Rattle.std.proofs.lemmas.Int.{ints, by_lt_z}
 use Rattle.dn_instance.proofs.ValidLaws.{bundle_push}
 use Rattle.dn_bundle.proofs.BundleLaws.{all_end}
 
-module _ {B Arc : Type 0} (kind : ArcKind Arc) (tells : B → List Arc) (laws : IsKind kind)
-    (canonical : (b : B) → kind.IsCanon One (tells b)) where
-  told_canon : (o : Option B) → kind.IsCanon One (told_of tells o)
-  told_canon None = laws.none_canon One
-  told_canon (Some b) = canonical b
+module _ {B Arc : Type 0} (kind : ArcKind Arc) (lists : B → List Arc) (laws : IsKind kind)
+    (canonical : (b : B) → kind.IsCanon One (lists b)) where
+  listed_canon : (o : Option B) → kind.IsCanon One (listed_of lists o)
+  listed_canon None = laws.none_canon One
+  listed_canon (Some b) = canonical b
 
 bundle_arcs : {Arc : Type 0} (kind : ArcKind Arc) (p : ℤ × ℤ) (arcs : List ((ℤ × ℤ) × Arc)) → AreArcs kind arcs
     → AllByRecursion kind.IsArc (bundle p arcs)
@@ -34,11 +34,11 @@ bundle_arcs kind p (a ∷ rest) h = by_test (same_pair p a.0) (bundle_arcs kind 
     by_test true all = (h.0, all)
     by_test false all = all
 
-module _ {B Arc : Type 0} (kind : ArcKind Arc) (tells : B → List Arc) (laws : IsKind kind)
-    (canonical : (b : B) → kind.IsCanon One (tells b)) (stays : Stays kind)
+module _ {B Arc : Type 0} (kind : ArcKind Arc) (lists : B → List Arc) (laws : IsKind kind)
+    (canonical : (b : B) → kind.IsCanon One (lists b)) (stays : Stays kind)
     (m n : List ((ℤ × ℤ) × B)) (arcs : List ((ℤ × ℤ) × Arc)) (pair : ℤ × ℤ) (arc : Arc)
-    (old : TableTells kind tells m arcs) (are : AreArcs kind arcs) (is : kind.IsArc arc)
-    (grows : Grows kind tells m n pair arc) where
+    (old : TableLists kind lists m arcs) (are : AreArcs kind arcs) (is : kind.IsArc arc)
+    (grows : Grows kind lists m n pair arc) where
   bundle_here : bundle pair (arcs ++ (pair, arc) ∷ []) ≡ bundle pair arcs ++ arc ∷ []
   bundle_here = bundle_push pair arcs (pair, arc) ∙ ap (λ t. bundle pair arcs ++ cond t (arc ∷ []) []) (pair_self pair)
 
@@ -46,12 +46,12 @@ module _ {B Arc : Type 0} (kind : ArcKind Arc) (tells : B → List Arc) (laws : 
   bundle_there p e =
       bundle_push p arcs (pair, arc) ∙ ap (λ t. bundle p arcs ++ cond t (arc ∷ []) []) e ∙ append-nil (bundle p arcs)
 
-  same_here : kind.Same (told_at tells n pair) (bundle pair (arcs ++ (pair, arc) ∷ []))
+  same_here : kind.Same (listed_at lists n pair) (bundle pair (arcs ++ (pair, arc) ∷ []))
   same_here =
-      subst (kind.Same (told_at tells n pair)) (sym bundle_here)
-      (laws.meaning.same_trans (told_at tells n pair) (told_at tells m pair ++ arc ∷ [])
+      subst (kind.Same (listed_at lists n pair)) (sym bundle_here)
+      (laws.meaning.same_trans (listed_at lists n pair) (listed_at lists m pair ++ arc ∷ [])
       (bundle pair arcs ++ arc ∷ []) grows.here
-      (same_push kind.Same laws.meaning (told_at tells m pair) (bundle pair arcs) arc (old.stands pair).same))
+      (same_push kind.Same laws.meaning (listed_at lists m pair) (bundle pair arcs) arc (old.stands pair).same))
 
   some_not_none : (b : B) → lookup (same_pair pair) m ≡ Some b → lookup (same_pair pair) n ≡ None → ⊥
   some_not_none b e g =
@@ -66,11 +66,11 @@ module _ {B Arc : Type 0} (kind : ArcKind Arc) (tells : B → List Arc) (laws : 
           → (lookup (same_pair pair) n ≡ None) ↔ kind.Same (bundle pair (arcs ++ (pair, arc) ∷ [])) []
       by_old None e =
           let f = grows.fresh e in
-          let told = told_at tells n pair in
+          let listed = listed_at lists n pair in
           let here = bundle pair (arcs ++ (pair, arc) ∷ []) in (
-            λ g. laws.meaning.same_trans here told [] (laws.meaning.same_sym told here same_here) (f.0 g),
+            λ g. laws.meaning.same_trans here listed [] (laws.meaning.same_sym listed here same_here) (f.0 g),
             λ s. f.1
-                (laws.meaning.same_trans told here [] same_here s),
+                (laws.meaning.same_trans listed here [] same_here s),
           )
       by_old (Some b) e = (
         λ g. absurd (some_not_none b e g),
@@ -84,15 +84,15 @@ module _ {B Arc : Type 0} (kind : ArcKind Arc) (tells : B → List Arc) (laws : 
       )
 
   stands_at : (p : ℤ × ℤ) (t : Bool) → same_pair pair p ≡ t
-      → AreCanonArcsOf kind (told_at tells n p) (bundle p (arcs ++ (pair, arc) ∷ []))
+      → AreCanonArcsOf kind (listed_at lists n p) (bundle p (arcs ++ (pair, arc) ∷ []))
   stands_at p true e =
-      subst (λ q. AreCanonArcsOf kind (told_at tells n q) (bundle q (arcs ++ (pair, arc) ∷ []))) (pair_is pair p e)
-      (record { canonical = told_canon kind tells laws canonical (lookup (same_pair pair) n); same = same_here })
+      subst (λ q. AreCanonArcsOf kind (listed_at lists n q) (bundle q (arcs ++ (pair, arc) ∷ []))) (pair_is pair p e)
+      (record { canonical = listed_canon kind lists laws canonical (lookup (same_pair pair) n); same = same_here })
   stands_at p false e = record {
-    canonical = told_canon kind tells laws canonical (lookup (same_pair p) n);
+    canonical = listed_canon kind lists laws canonical (lookup (same_pair p) n);
     same =
-        subst (λ l. kind.Same (told_at tells n p) l) (sym (bundle_there p (other_pair pair p e)))
-        (subst (λ o. kind.Same (told_of tells o) (bundle p arcs)) (sym (grows.others p e)) (old.stands p).same);
+        subst (λ l. kind.Same (listed_at lists n p) l) (sym (bundle_there p (other_pair pair p e)))
+        (subst (λ o. kind.Same (listed_of lists o) (bundle p arcs)) (sym (grows.others p e)) (old.stands p).same);
   }
 
   absent_at : (p : ℤ × ℤ) (t : Bool) → same_pair pair p ≡ t
@@ -105,20 +105,20 @@ module _ {B Arc : Type 0} (kind : ArcKind Arc) (tells : B → List Arc) (laws : 
       (subst (λ o. (o ≡ None) ↔ kind.Same (bundle p arcs) []) (sym (grows.others p e)) (old.absent p))
 
   -- the new table represents the arcs with one more arc
-  pub tells_more : TableTells kind tells n (arcs ++ (pair, arc) ∷ [])
-  tells_more =
+  pub lists_more : TableLists kind lists n (arcs ++ (pair, arc) ∷ [])
+  lists_more =
       record { stands = λ p. stands_at p (same_pair pair p) refl; absent = λ p. absent_at p (same_pair pair p) refl }
 
 -- at a pair, the arcs of the graph and those that the table lists have the same capacity with one more arc
-pub told_capacity : {B Arc : Type 0} (kind : ArcKind Arc) (tells : B → List Arc) → IsKind kind
-    → (m : List ((ℤ × ℤ) × B)) (arcs : List ((ℤ × ℤ) × Arc)) (p : ℤ × ℤ) (arc : Arc) → TableTells kind tells m arcs
+pub listed_capacity : {B Arc : Type 0} (kind : ArcKind Arc) (lists : B → List Arc) → IsKind kind
+    → (m : List ((ℤ × ℤ) × B)) (arcs : List ((ℤ × ℤ) × Arc)) (p : ℤ × ℤ) (arc : Arc) → TableLists kind lists m arcs
     → AreArcs kind arcs → kind.IsArc arc
-    → kind.capacity (told_at tells m p ++ arc ∷ []) ≡ kind.capacity (bundle p arcs ++ arc ∷ [])
-told_capacity kind tells laws m arcs p arc old are is =
-    laws.same_capacity (told_at tells m p ++ arc ∷ []) (bundle p arcs ++ arc ∷ [])
-    (all_end kind.IsArc (told_at tells m p) arc (laws.canon_arcs One (told_at tells m p) (old.stands p).canonical) is)
+    → kind.capacity (listed_at lists m p ++ arc ∷ []) ≡ kind.capacity (bundle p arcs ++ arc ∷ [])
+listed_capacity kind lists laws m arcs p arc old are is =
+    laws.same_capacity (listed_at lists m p ++ arc ∷ []) (bundle p arcs ++ arc ∷ [])
+    (all_end kind.IsArc (listed_at lists m p) arc (laws.canon_arcs One (listed_at lists m p) (old.stands p).canonical) is)
     (all_end kind.IsArc (bundle p arcs) arc (bundle_arcs kind p arcs are) is)
-    (same_push kind.Same laws.meaning (told_at tells m p) (bundle p arcs) arc (old.stands p).same)
+    (same_push kind.Same laws.meaning (listed_at lists m p) (bundle p arcs) arc (old.stands p).same)
 
 past_none : (x y : ℤ) → (x <ℤ y → ⊥) → int_lt x y ≡ false
 past_none x y h = by_lt_z x y (λ lt. absurd (h lt)) (λ le. grind (arith, ints))
@@ -135,13 +135,13 @@ pub sum_fault : {Arc : Type 0} (kind : ArcKind Arc) (nodes : ℤ) (arcs : List (
 sum_fault kind nodes arcs is a e f g = rw (e, f, g) refl
 
 -- the sum of the capacities is too large exactly if the table finds it too large
-pub sum_passes : {B Arc F : Type 0} (kind : ArcKind Arc) (tells : B → List Arc) → IsKind kind
-    → (m : List ((ℤ × ℤ) × B)) (arcs : List ((ℤ × ℤ) × Arc)) (p : ℤ × ℤ) (arc : Arc) → TableTells kind tells m arcs
+pub sum_passes : {B Arc F : Type 0} (kind : ArcKind Arc) (lists : B → List Arc) → IsKind kind
+    → (m : List ((ℤ × ℤ) × B)) (arcs : List ((ℤ × ℤ) × Arc)) (p : ℤ × ℤ) (arc : Arc) → TableLists kind lists m arcs
     → AreArcs kind arcs → kind.IsArc arc
-    → F ↔ (pos (2 ^ 63 - 1) <ℤ kind.capacity (told_at tells m p ++ arc ∷ [])) → (F → passes kind arcs (p, arc) ≡ true)
+    → F ↔ (pos (2 ^ 63 - 1) <ℤ kind.capacity (listed_at lists m p ++ arc ∷ [])) → (F → passes kind arcs (p, arc) ≡ true)
     × ((F → ⊥) → passes kind arcs (p, arc) ≡ false)
-sum_passes kind tells laws m arcs p arc old are is h =
-    let e = told_capacity kind tells laws m arcs p arc old are is in
+sum_passes kind lists laws m arcs p arc old are is h =
+    let e = listed_capacity kind lists laws m arcs p arc old are is in
     let past = kind.capacity (bundle p arcs ++ arc ∷ []) in (
       λ f. (let lt : pos (2 ^ 63 - 1) <ℤ past = subst (λ z. pos (2 ^ 63 - 1) <ℤ z) e (h.0 f) in grind (arith, ints)),
       λ no. past_none (pos (2 ^ 63 - 1)) past (λ lt. no (h.1 (subst (λ z. pos (2 ^ 63 - 1) <ℤ z) (sym e) lt))),

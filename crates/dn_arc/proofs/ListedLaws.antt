@@ -17,7 +17,7 @@ use Rattle.dn_arc.specs.Entries.{has_room}
 use Rattle.dn_arc.specs.Fillings.{forced_units, forced_cost}
 use Rattle.dn_arc.specs.State.Means.{IsFloor}
 use Rattle.dn_arc.specs.State.Steps.{AreSteps, steps_room}
-use Rattle.dn_arc.specs.State.CurveTold.{fixed_arc, step_arc, spread_arcs, fixed_arcs, told}
+use Rattle.dn_arc.specs.State.CurveListed.{fixed_arc, step_arc, spread_arcs, fixed_arcs, listed}
 use Rattle.dn_arc.proofs.ProductsLaws.{mul_sub, mul_suc}
 use Rattle.dn_arc.proofs.MeansLaws.{floor_of}
 use Rattle.dn_arc.proofs.FormsLaws.{AreFixed, IsApart, apart, form_one_ordered, form_one_arcs, form_two_ordered, form_two_arcs}
@@ -93,8 +93,8 @@ module _ (units cost : ℤ) (steps : List (ℤ × ℤ)) (some : pos 0 ≤ℤ uni
   pub carried : Carries (fixed_arcs units cost) units cost
   carried = fixed_carries units cost some none
 
-  pub told_one : IsFormOne (told One units cost steps)
-  told_one = record {
+  pub listed_one : IsFormOne (listed One units cost steps)
+  listed_one = record {
     fixed = fixed_arcs units cost;
     free = map step_arc steps;
     parts = refl;
@@ -104,17 +104,17 @@ module _ (units cost : ℤ) (steps : List (ℤ × ℤ)) (some : pos 0 ≤ℤ uni
     rising = (free_arcs steps rising).rising;
   }
 
-  joins : AreJoined (fixed_arcs units cost) (map step_arc steps) (told Two units cost steps)
+  joins : AreJoined (fixed_arcs units cost) (map step_arc steps) (listed Two units cost steps)
   joins =
       join_all (fixed_arcs units cost) (map step_arc steps) carried.are (steps_mixed steps rising)
       (free_arcs steps rising).rising (steps_low steps)
 
-  pub told_two : IsFormTwo (told Two units cost steps)
-  told_two = record { each = joins.each; rising = joins.rising; near = joins.near }
+  pub listed_two : IsFormTwo (listed Two units cost steps)
+  listed_two = record { each = joins.each; rising = joins.rising; near = joins.near }
 
-  pub told_canonical : (form : Form) → AreCanonCosts form (told form units cost steps)
-  told_canonical One = told_one
-  told_canonical Two = told_two
+  pub listed_canonical : (form : Form) → AreCanonCosts form (listed form units cost steps)
+  listed_canonical One = listed_one
+  listed_canonical Two = listed_two
 
 steps_units : (steps : List (ℤ × ℤ)) → forced_units (map step_arc steps) ≡ pos 0
 steps_units [] = refl
@@ -164,35 +164,35 @@ module _ (units cost : ℤ) (steps : List (ℤ × ℤ)) (some : pos 0 ≤ℤ uni
   abbrev fixed : Carries (fixed_arcs units cost) units cost
   fixed = carried units cost steps some none rising
 
-  abbrev join : AreJoined (fixed_arcs units cost) (map step_arc steps) (told Two units cost steps)
+  abbrev join : AreJoined (fixed_arcs units cost) (map step_arc steps) (listed Two units cost steps)
   join = joins units cost steps some none rising
 
   all : AreSums (fixed_arcs units cost) (map step_arc steps)
   all = sums (fixed_arcs units cost) (map step_arc steps) fixed.are.each
 
   -- the arcs of form 1 are filled as the fixed arcs and the breakpoints
-  pub told_apart : IsApart (told One units cost steps) (fixed_arcs units cost) (map step_arc steps)
-  told_apart = apart (fixed_arcs units cost) (map step_arc steps) fixed.are.each (free_arcs steps rising)
+  pub listed_apart : IsApart (listed One units cost steps) (fixed_arcs units cost) (map step_arc steps)
+  listed_apart = apart (fixed_arcs units cost) (map step_arc steps) fixed.are.each (free_arcs steps rising)
 
-  pub told_units : forced_units (told One units cost steps) ≡ units
-  told_units = let e = all.units in let f = fixed.units_is in let g = steps_units steps in omega (arith, ints)
+  pub listed_units : forced_units (listed One units cost steps) ≡ units
+  listed_units = let e = all.units in let f = fixed.units_is in let g = steps_units steps in omega (arith, ints)
 
-  pub told_cost : forced_cost (told One units cost steps) ≡ cost
-  told_cost = let e = all.cost in let f = fixed.cost_is in let g = steps_cost steps in omega (arith, ints)
+  pub listed_cost : forced_cost (listed One units cost steps) ≡ cost
+  listed_cost = let e = all.cost in let f = fixed.cost_is in let g = steps_cost steps in omega (arith, ints)
 
-  pub told_cap : (form : Form) → cost_cap (told form units cost steps) ≡ units +ℤ steps_room steps
-  told_cap One = let e = all.cap in let f = fixed.units_is in let g = steps_cap steps in omega (arith, ints)
-  told_cap Two = let e = join.cap in let f = fixed.units_is in let g = steps_cap steps in let h = all.full in
+  pub listed_cap : (form : Form) → cost_cap (listed form units cost steps) ≡ units +ℤ steps_room steps
+  listed_cap One = let e = all.cap in let f = fixed.units_is in let g = steps_cap steps in omega (arith, ints)
+  listed_cap Two = let e = join.cap in let f = fixed.units_is in let g = steps_cap steps in let h = all.full in
       omega (arith, ints)
 
   -- both forms mean the same
-  pub told_same : SameCurve (told Two units cost steps) (told One units cost steps)
-  told_same =
-      same_by_parts (told Two units cost steps) (told One units cost steps)
-      (form_two_ordered _ (told_two units cost steps some none rising))
-      (form_one_ordered _ (told_one units cost steps some none rising)) (join.units ∙ sym all.units)
+  pub listed_same : SameCurve (listed Two units cost steps) (listed One units cost steps)
+  listed_same =
+      same_by_parts (listed Two units cost steps) (listed One units cost steps)
+      (form_two_ordered _ (listed_two units cost steps some none rising))
+      (form_one_ordered _ (listed_one units cost steps some none rising)) (join.units ∙ sym all.units)
       (join.cost ∙ sym all.cost) (join.parts ∙ sym all.parts)
 
-  pub told_arcs : (form : Form) → AllByRecursion IsCostArc (told form units cost steps)
-  told_arcs One = form_one_arcs _ (told_one units cost steps some none rising)
-  told_arcs Two = form_two_arcs _ (told_two units cost steps some none rising)
+  pub listed_arcs : (form : Form) → AllByRecursion IsCostArc (listed form units cost steps)
+  listed_arcs One = form_one_arcs _ (listed_one units cost steps some none rising)
+  listed_arcs Two = form_two_arcs _ (listed_two units cost steps some none rising)

@@ -4,7 +4,7 @@ use Rattle.dn_arc.specs.Pairs.{same_pair}
 use Rattle.dn_arc.proofs.PairLaws.{pair_self}
 use Rattle.dn_table.proofs.PairLaws.{other_pair}
 use Rattle.dn_table.proofs.GrownLaws.{push_found, push_other, any_none}
-use Rattle.dn_table.proofs.table_so_far.TableSoFar.put.Goals as goal
+use Rattle.dn_table.proofs.table_so_far.TableSoFar.insert.Goals as goal
 
 pub push-requires : goal.push-requires
 push-requires g c = any_none c.args.pair c.args.self.now c.requires
