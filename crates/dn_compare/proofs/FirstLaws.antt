@@ -8,8 +8,8 @@ use Rattle.dn_instance.specs.Instances.{Instance, kind_of, nodes_of}
 use Rattle.dn_arc.specs.Pairs.{pair_cmp}
 use Rattle.dn_compare.specs.Observed.{flow_of, source_of, sink_of, count_of, point_of}
 use Rattle.dn_compare.specs.FirstDifference.{Differ, BundlesDiffer, ItemsDiffer, IsTrueOf, StandsEarlier, IsFirstDifference}
-use Rattle.dn_compare.specs.declared.verdict.Verdict.{Verdict}
-use Rattle.dn_compare.specs.declared.verdict.Verdict.TheVariants as Verdicts
+use Rattle.dn_instance.specs.declared.verdict.Verdict.{Verdict}
+use Rattle.dn_instance.specs.declared.verdict.Verdict.TheVariants as Verdicts
 use Rattle.dn_compare.proofs.TruthLaws.{seen, no_bundles, no_items}
 
 equal : {A : Type 0} {x y l r : A} → x ≡ y → Differ x y l r → ⊥

@@ -9,7 +9,7 @@ use Rattle.std.proofs.lemmas.Map.Lookups.{exact_pairs, exact_signed}
 use Rattle.dn_arc.specs.Pairs.{pair_cmp}
 use Rattle.dn_arc.proofs.PairLaws.{pair_total}
 use Rattle.dn_compare.specs.FirstDifference.{place_cmp, place_of, StandsEarlier}
-use Rattle.dn_compare.specs.declared.verdict.Verdict.{Verdict}
+use Rattle.dn_instance.specs.declared.verdict.Verdict.{Verdict}
 
 place_total : IsTotalOrder place_cmp
 place_total =

@@ -16,9 +16,9 @@ use Rattle.dn_instance.specs.Sameness.{IsSame}
 use Rattle.dn_instance.proofs.SameLaws.{sym_of, trans_of}
 use Rattle.dn_compare.specs.Observed.{value_of, flow_or_zero, flow_of, source_of, sink_of, count_of, item_at, point_of}
 use Rattle.dn_compare.specs.FirstDifference.{Differ, BundlesDiffer, ItemsDiffer, IsTrueOf, place_of}
-use Rattle.dn_compare.specs.State.Turned.{turned, turned_how}
-use Rattle.dn_compare.specs.declared.verdict.Verdict.{Verdict}
-use Rattle.dn_compare.specs.declared.verdict.Verdict.TheVariants as Verdicts
+use Rattle.dn_instance.specs.State.Turned.{turned, turned_how}
+use Rattle.dn_instance.specs.declared.verdict.Verdict.{Verdict}
+use Rattle.dn_instance.specs.declared.verdict.Verdict.TheVariants as Verdicts
 
 one_how : (I J : Instance) (p : ℤ × ℤ) (how other : How) → BundlesDiffer I J p how → BundlesDiffer I J p other
     → how ≡ other

@@ -4,9 +4,9 @@ use Rattle.dn_instance.specs.Instances.{Instance}
 use Rattle.dn_instance.specs.Sameness.{IsSame}
 use Rattle.dn_instance.proofs.SameLaws.{sym_of}
 use Rattle.dn_compare.specs.FirstDifference.{IsFirstDifference, StandsEarlier, place_of, place_cmp}
-use Rattle.dn_compare.specs.State.Turned.{turned}
-use Rattle.dn_compare.specs.declared.verdict.Verdict.{Verdict}
-use Rattle.dn_compare.specs.declared.verdict.Verdict.TheVariants as Verdicts
+use Rattle.dn_instance.specs.State.Turned.{turned}
+use Rattle.dn_instance.specs.declared.verdict.Verdict.{Verdict}
+use Rattle.dn_instance.specs.declared.verdict.Verdict.TheVariants as Verdicts
 use Rattle.dn_compare.proofs.PlaceLaws.{which_first}
 use Rattle.dn_compare.proofs.TruthLaws.{one_at, true_by_meaning, true_turned}
 

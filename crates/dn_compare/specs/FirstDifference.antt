@@ -9,8 +9,8 @@ use Rattle.dn_instance.specs.Instances.{Instance, MinCostFlow, MaxFlow, Shortest
 use Rattle.dn_arc.specs.Pairs.{bundle, pair_cmp}
 use Rattle.dn_instance.specs.Sameness.{IsSame}
 use Rattle.dn_compare.specs.Observed.{flow_of, source_of, sink_of, count_of, item_at, point_of}
-use Rattle.dn_compare.specs.declared.verdict.Verdict.{Verdict}
-use Rattle.dn_compare.specs.declared.verdict.Verdict.TheVariants.{Same, Kind, Nodes, Supply, Source, Sink, Pair, Length, Item, Point}
+use Rattle.dn_instance.specs.declared.verdict.Verdict.{Verdict}
+use Rattle.dn_instance.specs.declared.verdict.Verdict.TheVariants.{Same, Kind, Nodes, Supply, Source, Sink, Pair, Length, Item, Point}
 
 -- the values x and y differ; `left` is x and `right` is y
 abbrev pub Differ : {A : Type 0} → A → A → A → A → Type 0

@@ -1,3 +1,2 @@
-pub mod Turned
 pub mod Walks
 pub mod Partings

@@ -6,9 +6,8 @@ ghost use Rattle.dn_compare.specs.FirstDifference.{IsFirstDifference};
 ghost use Rattle.dn_compare.specs.State.Partings.{IsListVerdict, IsPairVerdict, IsVerdictOn};
 
 use crate::parting::{Item, first_item, first_pair, first_point, first_supply};
-use crate::verdict::Verdict;
 use dn_bundle::{Bundle, Curve, Total};
-use dn_instance::{Held, Table, View};
+use dn_instance::{Held, Table, Verdict, View};
 use std::collections::BTreeMap;
 
 /// Returns the first difference between two parsed instances, in the order of the variants of `Verdict`: the first

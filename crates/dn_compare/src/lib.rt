@@ -4,13 +4,12 @@
 //! what they mean.
 //!
 //! In the order of the data: `walk` walks two tables or maps in step, `parting` finds where they first differ, and
-//! `difference` makes a `verdict` of it.
+//! `difference` makes a `Verdict` of it, a type of `dn_instance`.
 #![tactic(auto)]
 
 mod difference;
 mod parting;
-pub mod verdict;
 mod walk;
 
 pub use difference::compare;
-pub use verdict::Verdict;
+pub use dn_instance::Verdict;

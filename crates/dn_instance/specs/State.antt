@@ -11,3 +11,4 @@ pub mod Readers
 pub mod ReaderStates
 pub mod SourceReads
 pub mod Companions
+pub mod Turned

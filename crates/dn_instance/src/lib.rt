@@ -6,7 +6,7 @@
 //! and `text_so_far` takes each line and checks what depends on the number and order of lines. `draft` holds what the
 //! items make: `arcs` and `items` take them, and `ahead` looks up the pairs of the next arcs. `refusal` says why an
 //! item or a text is refused, and where. `held` is a parsed instance, `content` is what it holds by kind, and `view`
-//! shows it. `companion` judges a companion by its graph.
+//! shows it. `companion` judges a companion by its graph. `verdict` says where two instances first differ.
 #![tactic(auto)]
 
 mod ahead;
@@ -20,6 +20,7 @@ pub mod read;
 pub mod reader;
 pub mod refusal;
 mod text_so_far;
+pub mod verdict;
 pub mod view;
 
 pub use companion::{CompanionFault, check_companion};
@@ -28,4 +29,5 @@ pub use held::Held;
 pub use read::{read_from, read_keep, read_text};
 pub use reader::Reader;
 pub use refusal::{Place, Refusal};
+pub use verdict::Verdict;
 pub use view::View;

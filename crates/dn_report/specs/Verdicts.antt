@@ -4,8 +4,8 @@ use Rattle.std.specs.Fmt.{signed_decimal}
 use Rattle.dn_line.specs.Names.{kind_name}
 use Rattle.dn_arc.specs.declared.difference.How.{How}
 use Rattle.dn_arc.specs.declared.difference.How.TheVariants.{Lengths, Totals, Costs}
-use Rattle.dn_compare.specs.declared.verdict.Verdict.{Verdict}
-use Rattle.dn_compare.specs.declared.verdict.Verdict.TheVariants.{Same, Kind, Nodes, Supply, Source, Sink, Pair, Length, Item, Point}
+use Rattle.dn_instance.specs.declared.verdict.Verdict.{Verdict}
+use Rattle.dn_instance.specs.declared.verdict.Verdict.TheVariants.{Same, Kind, Nodes, Supply, Source, Sink, Pair, Length, Item, Point}
 use Rattle.dn_sink.specs.Rows.{Row}
 
 -- a number, or `none`

@@ -6,7 +6,7 @@ ghost use Rattle.dn_sink.specs.Puts.{Puts};
 ghost use Rattle.dn_report.specs.Verdicts.{number_or_none, verdict_row};
 
 use dn_bundle::{Gap, How};
-use dn_compare::Verdict;
+use dn_instance::Verdict;
 use dn_line::Kind;
 use dn_sink::{LineBuffer, Sink, SinkFault, put_and_flush};
 

@@ -4,8 +4,8 @@ use Rattle.dn_instance.specs.Instances.{Instance}
 use Rattle.dn_sink.specs.Rows.{line_text}
 use Rattle.dn_report.specs.Verdicts.{verdict_row}
 use Rattle.dn_compare.specs.FirstDifference.{IsFirstDifference}
-use Rattle.dn_compare.specs.declared.verdict.Verdict.{Verdict}
-use Rattle.dn_compare.specs.declared.verdict.Verdict.TheVariants.{Same, Kind, Nodes, Supply, Source, Sink, Pair, Length, Item, Point}
+use Rattle.dn_instance.specs.declared.verdict.Verdict.{Verdict}
+use Rattle.dn_instance.specs.declared.verdict.Verdict.TheVariants.{Same, Kind, Nodes, Supply, Source, Sink, Pair, Length, Item, Point}
 use Rattle.dn_compare.proofs.VerdictLaws.{one_first, same_first}
 use Rattle.dn_run.specs.State.Findings.{verdict_status}
 use Rattle.dn_run.specs.Runs.{PutsCompared}

@@ -9,7 +9,7 @@ use Rattle.dn_instance.specs.Texts.{Reads}
 use Rattle.dn_instance.specs.declared.companion.CompanionFault.{CompanionFault}
 use Rattle.dn_canon.specs.CanonTexts.{IsCanonOf, IsTooLarge}
 use Rattle.dn_compare.specs.FirstDifference.{IsFirstDifference}
-use Rattle.dn_compare.specs.declared.verdict.Verdict.{Verdict}
+use Rattle.dn_instance.specs.declared.verdict.Verdict.{Verdict}
 use Rattle.dn_sink.specs.Rows.{line_text, text_of}
 use Rattle.dn_report.specs.Checks.{checked_rows}
 use Rattle.dn_report.specs.Shows.{IsShown}

@@ -13,8 +13,8 @@ use Rattle.dn_arc.specs.Pairs.{bundle, pair_cmp}
 use Rattle.dn_instance.specs.Validity.{IsValid}
 use Rattle.dn_compare.specs.Observed.{flow_or_zero, item_at}
 use Rattle.dn_compare.specs.FirstDifference.{Differ, IsFirstDifference}
-use Rattle.dn_compare.specs.declared.verdict.Verdict.{Verdict}
-use Rattle.dn_compare.specs.declared.verdict.Verdict.TheVariants.{Same, Pair, Length, Item}
+use Rattle.dn_instance.specs.declared.verdict.Verdict.{Verdict}
+use Rattle.dn_instance.specs.declared.verdict.Verdict.TheVariants.{Same, Pair, Length, Item}
 
 -- which values, each of which may be missing, count as the same, and what is said of two that differ
 pub record Comparison (V W : Type 0) : Type 1 where

@@ -23,8 +23,8 @@ use Rattle.dn_arc.proofs.PairLaws.{pair_total}
 use Rattle.dn_compare.specs.Observed.{value_of, flow_or_zero, item_at}
 use Rattle.dn_compare.specs.FirstDifference.{IsFirstDifference}
 use Rattle.dn_compare.specs.State.Partings.{IsPairVerdict, ItemsPartAt, IsListVerdict}
-use Rattle.dn_compare.specs.declared.verdict.Verdict.{Verdict}
-use Rattle.dn_compare.specs.declared.verdict.Verdict.TheVariants as Verdicts
+use Rattle.dn_instance.specs.declared.verdict.Verdict.{Verdict}
+use Rattle.dn_instance.specs.declared.verdict.Verdict.TheVariants as Verdicts
 use Rattle.dn_compare.proofs.WalkLaws.{key_self, key_is}
 use Rattle.dn_compare.proofs.PairWalks.{exact_pair}
 use Rattle.dn_compare.proofs.MapWalks.{same_entries}

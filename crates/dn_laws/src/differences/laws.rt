@@ -4,8 +4,8 @@ ghost use Rattle.dn_instance.specs.Instances.{Instance};
 ghost use Rattle.dn_instance.specs.Sameness.{IsSame};
 ghost use Rattle.dn_instance.specs.Validity.{IsValid};
 ghost use Rattle.dn_compare.specs.FirstDifference.{IsFirstDifference};
-ghost use Rattle.dn_compare.specs.State.Turned.{turned};
-ghost use Rattle.dn_compare.specs.declared.verdict.Verdict.{Verdict};
+ghost use Rattle.dn_instance.specs.State.Turned.{turned};
+ghost use Rattle.dn_instance.specs.declared.verdict.Verdict.{Verdict};
 
 /// Two instances have at most one first difference.
 pub fn one_verdict()

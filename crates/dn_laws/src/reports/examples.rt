@@ -6,7 +6,7 @@ ghost use Rattle.dn_arc.specs.declared.difference.How.{How};
 ghost use Rattle.dn_instance.specs.Instances.{Sources, Queries, Coordinates};
 ghost use Rattle.dn_instance.specs.declared.refusal.Place.TheVariants as Places;
 ghost use Rattle.dn_laws.specs.State.DifferenceExamples.{cost_arc_at, flow_from, length_arc_at, with_costs, with_lengths, worked_capacities};
-ghost use Rattle.dn_compare.specs.declared.verdict.Verdict.{Verdict};
+ghost use Rattle.dn_instance.specs.declared.verdict.Verdict.{Verdict};
 ghost use Rattle.dn_sink.specs.Rows.{line_text, text_of};
 ghost use Rattle.dn_report.specs.Shows.{IsShown};
 ghost use Rattle.dn_report.specs.Checks.{checked_rows};

@@ -1,6 +1,6 @@
 // Where two instances first differ.
 ghost use Rattle.std.specs.Prelude.{◌≡◌};
-ghost use Rattle.dn_compare.specs.State.Turned.{turned, turned_how};
+ghost use Rattle.dn_instance.specs.State.Turned.{turned, turned_how};
 
 use dn_bundle::{Gap, How};
 use dn_line::Kind;
