@@ -158,12 +158,14 @@ module _ (old new : Numbers) (a : CostArc) (total : ℤ) (s : AreSound old) (h :
   -- numbers to which the arc was added mean one more arc
   pub taken_same : IsGrown old a new
       → SameCurve (listed One new.units new.cost new.steps) (listed One old.units old.cost old.steps ++ a ∷ [])
-  taken_same g = grown_same old.units old.cost old.total old.steps a total s h e f fk new.units new.cost new.total new.steps g.units g.cost (g.total ∙ sym e) g.steps
+  taken_same g = grown_same old.units old.cost old.total old.steps a total s h e f fk new.units new.cost new.total
+      new.steps g.units g.cost (g.total ∙ sym e) g.steps
 
   -- the numbers are valid, whether the arc was added or they have not changed
   pub taken_sound : {E : Type 0} (r : Result (Unit {0}) E) → OnOk r (IsGrown old a new) → OnErr r (new ≡ old)
       → AreSound new
-  taken_sound (Ok x) ok err = grown_sound old.units old.cost old.total old.steps a total s h e f fk new.units new.cost new.total new.steps ok.units ok.cost (ok.total ∙ sym e) ok.steps
+  taken_sound (Ok x) ok err = grown_sound old.units old.cost old.total old.steps a total s h e f fk new.units new.cost
+      new.total new.steps ok.units ok.cost (ok.total ∙ sym e) ok.steps
   taken_sound (Err x) ok err = subst AreSound (sym err) s
 
 -- the total capacity with one more arc

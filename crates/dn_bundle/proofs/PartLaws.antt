@@ -350,7 +350,8 @@ module _ (units cost total : ℤ) (steps : List (ℤ × ℤ)) (s : IsSound units
   cost_gap e n = record {
     left = at_units units cost total steps s;
     right =
-        subst (λ z. LeastCost (listed One units' cost' steps') z cost') (sym e) (at_units units' cost' total' steps' s');
+        subst (λ z. LeastCost (listed One units' cost' steps') z cost') (sym e)
+        (at_units units' cost' total' steps' s');
     differ = λ f. let g = ap (λ o. unwrap_or o (pos 0)) f in n g;
     same_below =
         λ x k lt. (
@@ -430,7 +431,8 @@ free_gap units cost total (first ∷ rest) s e step h =
     let one : units +ℤ pos 1 ≡ pos 1 = omega (arith, ints) in
     let z = none_is units cost total (first ∷ rest) s e in
     let c : cost +ℤ first.0 ≡ first.0 = omega (arith, ints) in
-    subst (λ z. IsGap (listed One units cost (first ∷ rest)) [] (record { amount = pos 1; left = Some z; right = None }))
+    subst (λ z. IsGap (listed One units cost (first ∷ rest)) []
+    (record { amount = pos 1; left = Some z; right = None }))
     (c ∙ ap (λ p. p.0) (sym same))
     (subst
     (λ z. IsGap (listed One units cost (first ∷ rest)) []

@@ -44,7 +44,8 @@ module _ (units cost total : ℤ) (steps : List (ℤ × ℤ)) (s : IsSound units
       let a = listed_apart units cost steps s.some n s.rising in
       ap (λ z. z +ℤ fill_cost (listed One units cost steps) (x -ℤ forced_units (listed One units cost steps)))
       (listed_cost units cost steps s.some n s.rising)
-      ∙ ap (λ z. cost +ℤ fill_cost (listed One units cost steps) (x -ℤ z)) (listed_units units cost steps s.some n s.rising)
+      ∙ ap (λ z. cost +ℤ fill_cost (listed One units cost steps) (x -ℤ z))
+      (listed_units units cost steps s.some n s.rising)
       ∙ ap (λ z. cost +ℤ z) (a.fill (x -ℤ units) (omega (arith, ints)))
 
   same_room : free_room (listed One units cost steps) ≡ steps_room steps

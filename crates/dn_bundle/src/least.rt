@@ -1,10 +1,10 @@
 // The least length of the arcs of a pair.
-ghost use Rattle.std.specs.Prelude.{◌≡◌, [], FitsSigned, MatchOption, refl, false};
+ghost use Rattle.std.specs.Prelude.{◌≡◌, FitsSigned, refl, false};
 ghost use Rattle.std.specs.Int.{w64};
 ghost use Rattle.std.specs.Option.{ForSome, option_copied, option_and_then};
 ghost use Rattle.std.proofs.Props.{props};
 ghost use Rattle.dn_arc.specs.Kinds.{lengths};
-ghost use Rattle.dn_arc.specs.Lengths.{LeastLength};
+ghost use Rattle.dn_arc.specs.Differences.{IsLengthOf};
 ghost use Rattle.dn_arc.specs.State.Lengths.{length_listed};
 ghost use Rattle.dn_arc.proofs.LengthKindLaws.{length_kind, length_canonical, length_fit};
 
@@ -22,8 +22,7 @@ pub struct Least {
 impl Least {
     /// Returns the least length, or `None` if there is no arc.
     pub fn get(&self) -> Option<i64>
-        ensures { MatchOption result (length_listed self.now.length ≡ [])
-            (LeastLength (length_listed self.now.length)) }
+        ensures { IsLengthOf (length_listed self.now.length) result }
     {
         self.length
     }

@@ -155,7 +155,11 @@ impl Steps {
         ensures ok { OnOk result (self.new ≡ add_step self.old step) }
         ensures err { OnErr result (self.new ≡ self.old) }
     {
-        if 0 < step.1 { self.insert(step) } else { Ok(()) }
+        if 0 < step.1 {
+            self.insert(step)
+        } else {
+            Ok(())
+        }
     }
 
     /// Iterates over the breakpoints by ascending cost.

@@ -116,7 +116,8 @@ module _ {Arc : Type 0} where
     none_before k (e ∷ es) h = before_placed k e.0 (lists e.1) (listed_arcs lists es) h.0 (none_before k es h.1)
 
     -- the listed arcs of a table are sorted by pair
-    listed_order : (es : List ((ℤ × ℤ) × B)) → IsStrictlySortedBy pair_cmp (keys_of es) → AreInOrder (listed_arcs lists es)
+    listed_order : (es : List ((ℤ × ℤ) × B)) → IsStrictlySortedBy pair_cmp (keys_of es) → AreInOrder
+        (listed_arcs lists es)
     listed_order [] s = tt
     listed_order (e ∷ es) s =
         (order_placed e.0 (lists e.1) (listed_arcs lists es)
@@ -198,7 +199,8 @@ module _ {B Arc : Type 0} (kind : ArcKind Arc) (laws : IsKind kind) (listed : Fo
   listed_canon nodes table G is rising stands valid =
       let arcs = G.arcs in
       let all = listed_arcs (listed form) table in
-      let at : (q : ℤ × ℤ) → bundle q all ≡ listed_at (listed form) table q = λ q. listed_bundle (listed form) q table rising in
+      let at : (q : ℤ × ℤ) → bundle q all ≡ listed_at (listed form) table q = λ q. listed_bundle (listed form) q table
+      rising in
       let canon : (q : ℤ × ℤ)
       → kind.IsCanon form (bundle q all) =
       λ q. subst (kind.IsCanon form) (sym (at q)) (at_canon (lookup (same_pair q) table)) in

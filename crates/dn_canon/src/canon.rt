@@ -1,9 +1,8 @@
 // Writes the canonical text of a parsed instance or of a source into a sink or memory, and judges texts.
 ghost use Rattle.std.specs.Prelude.{◌≡◌, ◌↔◌, IfErr, IsTrue, OnOk};
-ghost use Rattle.dn_instance.specs.State.Helds.{IsHeld, OfHeld, parsed};
-ghost use Rattle.dn_instance.specs.Instances.{Instance};
+ghost use Rattle.dn_instance.specs.State.Helds.{OfHeld};
+ghost use Rattle.dn_instance.specs.State.Readers.{OfText};
 ghost use Rattle.dn_instance.specs.State.SourceReads.{SourceLeft};
-ghost use Rattle.dn_instance.specs.Texts.{Reads};
 ghost use Rattle.dn_canon.specs.CanonTexts.{IsCanonOf};
 ghost use Rattle.dn_canon.specs.State.Writes.{IsOfWriting, SinkAfter, WritesCanon, written_as};
 ghost use Rattle.dn_canon.specs.State.Runs.{JudgesCanon, RunsSource, TextOutcome};
@@ -115,8 +114,7 @@ pub fn is_canon(alloc: Global, text: &[u8], form: Form) -> Result<bool, Refusal>
 /// Whether `text`, which reads as the instance in `held`, is its canonical text in this form. The canonical text is
 /// compared while it is written, up to the first byte that differs, so nothing is allocated.
 pub fn is_canon_of(held: &Held, text: &[u8], form: Form) -> bool
-    ensures { (I : Instance) → Reads text.now I → IsHeld (parsed held.now) I
-        → IsTrue result ↔ IsCanonOf form text.now I }
+    ensures { OfText text.now held.now (λ I. IsTrue result ↔ IsCanonOf form text.now I) }
 {
     let mut matcher = Matcher::new(text);
     let written = write_canon(held, &mut matcher, form);

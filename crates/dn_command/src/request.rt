@@ -1,9 +1,9 @@
 // What to do for a line of words.
-ghost use Rattle.std.specs.Prelude.{◌≡◌, [], IfOk, MatchResult, None, Some, map, option_map, string_bytes};
+ghost use Rattle.std.specs.Prelude.{◌≡◌, [], IfOk, MatchResult, map, option_map, string_bytes};
 ghost use Rattle.clap.specs.Words.{first_of, found_of, kind_of, rows_of, subcommand_rows_of};
-ghost use Rattle.dn_command.specs.Commands.{Asked, asks, plain_asked};
+ghost use Rattle.dn_command.specs.Commands.{asks};
 ghost use Rattle.dn_command.specs.Requests.{Answers, IsReadByClap, canon_asked};
-ghost use Rattle.dn_command.specs.State.Requests.{AnswersKind, Requests};
+ghost use Rattle.dn_command.specs.State.Requests.{AnswersKind, IsOtherRequest, IsPlainRequest};
 ghost use Rattle.dn_command.specs.Requests.{check_asked, command_asked, compare_asked, form_of, version_line};
 ghost use Rattle.dn_command.specs.Requests.{show_asked, subcommand_asked};
 
@@ -38,9 +38,8 @@ pub enum Request<'a> {
 /// plain words what this means for the usual lines (`words` in dn_laws). It is only tested, not proved, that other
 /// lines are read as `clap` 4 in Rust reads them. The words of the help texts are only tested too.
 pub fn request_of(alloc: Global, words: &[String]) -> Request<'_>
-    ensures plain { (asked : Asked) → plain_asked (map string_bytes words.now) ≡ Some asked → Requests asked result }
-    ensures other { plain_asked (map string_bytes words.now) ≡ None
-        → IsReadByClap (map string_bytes words.now) result }
+    ensures plain { IsPlainRequest (map string_bytes words.now) result }
+    ensures other { IsOtherRequest (map string_bytes words.now) result }
 {
     match plain_command(words) {
         Some(command) => Request::Command(command),

@@ -33,10 +33,12 @@ module _ {V : Type 0} (p : ℤ) (ls rs ls' rs' : List (ℤ × V))
         (no_differ : (what : W) → by.Differ None None what → ⊥) (a b : Option V)
         (a_is : a ≡ value_at (is_at (int_cmp p)) ls) (b_is : b ≡ value_at (is_at (int_cmp p)) rs) where
       pub kept : by.Alike a b → (o : Option (ℤ × W)) → IsParting int_cmp by ls' rs' o → IsParting int_cmp by ls rs o
-      kept = Walk.kept int_cmp int_cmp_total exact_signed p ls rs ls' rs' first left_is right_is left_rises right_rises by nothing no_differ a b a_is b_is
+      kept = Walk.kept int_cmp int_cmp_total exact_signed p ls rs ls' rs' first left_is right_is left_rises right_rises
+          by nothing no_differ a b a_is b_is
 
       pub halted : (what : W) → by.Differ a b what → IsParting int_cmp by ls rs (Some (p, what))
-      halted = Walk.halted int_cmp int_cmp_total exact_signed p ls rs ls' rs' first left_is right_is left_rises right_rises by nothing no_differ a b a_is b_is
+      halted = Walk.halted int_cmp int_cmp_total exact_signed p ls rs ls' rs' first left_is right_is left_rises
+          right_rises by nothing no_differ a b a_is b_is
 
 -- if both walks have ended, the maps do not differ
 pub ended : {V W : Type 0} (by : Comparison V W) (nothing : by.Alike None None)

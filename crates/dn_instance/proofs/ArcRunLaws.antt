@@ -17,7 +17,7 @@ use Rattle.dn_line.specs.Faults.{first_fault}
 use Rattle.dn_line.specs.declared.arc_block.ArcLine.{ArcLine}
 use Rattle.dn_line.specs.declared.code.Code.{Code}
 use Rattle.dn_line.specs.declared.kind.Kind.{Kind}
-use Rattle.dn_line.specs.declared.kind.Kind.TheVariants.{Min, Max, Sp, Ss, P2p, Co}
+use Rattle.dn_line.specs.declared.kind.Kind.TheVariants.{Min, Max, Sp}
 use Rattle.dn_line.specs.declared.line.Line.{Line}
 use Rattle.dn_instance.specs.State.ArcRuns.{AreFaultless, AreInTime, Joins, arc_items}
 use Rattle.dn_instance.specs.State.Drafts.{DraftHolds, HasSigns, draft_kind, is_graph}
@@ -98,17 +98,13 @@ pub one_counted : (kind : Kind) (a : ArcLine) → is_companion kind ≡ false �
 one_counted Min a c = refl
 one_counted Max a c = refl
 one_counted Sp a c = refl
-one_counted Ss a c = cc
-one_counted P2p a c = cc
-one_counted Co a c = cc
+one_counted _ a c = cc
 
 one_arc : (kind : Kind) (a : ArcLine) → is_companion kind ≡ false → is_arc (arc_of kind a.arc) ≡ true
 one_arc Min a c = refl
 one_arc Max a c = refl
 one_arc Sp a c = refl
-one_arc Ss a c = cc
-one_arc P2p a c = cc
-one_arc Co a c = cc
+one_arc _ a c = cc
 
 all_counted : (kind : Kind) (arcs : List ArcLine) → is_companion kind ≡ false
     → counted (arc_items kind arcs) ≡ length arcs

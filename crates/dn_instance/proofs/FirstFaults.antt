@@ -215,10 +215,7 @@ of_kind : (k : Kind) (nodes : ℤ) (items : List Line) → lacks_terminal (Some 
 of_kind Kinds.Min nodes items h = (_, refl)
 of_kind Kinds.Max nodes items h =
     with_terminals (terminal_of S items) (terminal_of T items) (graph_of cap_arc_in nodes items) h
-of_kind Kinds.Sp nodes items h = (_, refl)
-of_kind Kinds.Ss nodes items h = (_, refl)
-of_kind Kinds.P2p nodes items h = (_, refl)
-of_kind Kinds.Co nodes items h = (_, refl)
+of_kind _ nodes items h = (_, refl)
 
 of_problem : (o : Option Problem) (items : List Line) → is_none o ≡ false
     → lacks_terminal (option_map (λ (p : Problem). p.kind) o) items ≡ false

@@ -32,7 +32,8 @@ kind_agrees t items at = ap (option_map (λ (p : Problem). p.kind)) at.problem_i
     kind_as (Some kind) = refl
 
 -- the items declare the problem of the draft's kind
-pub problem_agrees : (t : TextSoFar) (items : List Line) (kind : Kind) → HasRead t items → draft_kind t.draft ≡ Some kind
+pub problem_agrees : (t : TextSoFar) (items : List Line) (kind : Kind) → HasRead t items → draft_kind t.draft ≡ Some
+    kind
     → problem_of items ≡ Some (problem_as t kind)
 problem_agrees t items kind at is = at.problem_is ∙ ap (option_map (problem_as t)) is
 

@@ -116,7 +116,8 @@ pub listed_capacity : {B Arc : Type 0} (kind : ArcKind Arc) (lists : B → List 
     → kind.capacity (listed_at lists m p ++ arc ∷ []) ≡ kind.capacity (bundle p arcs ++ arc ∷ [])
 listed_capacity kind lists laws m arcs p arc old are is =
     laws.same_capacity (listed_at lists m p ++ arc ∷ []) (bundle p arcs ++ arc ∷ [])
-    (all_end kind.IsArc (listed_at lists m p) arc (laws.canon_arcs One (listed_at lists m p) (old.stands p).canonical) is)
+    (all_end kind.IsArc (listed_at lists m p) arc (laws.canon_arcs One (listed_at lists m p) (old.stands p).canonical)
+    is)
     (all_end kind.IsArc (bundle p arcs) arc (bundle_arcs kind p arcs are) is)
     (same_push kind.Same laws.meaning (listed_at lists m p) (bundle p arcs) arc (old.stands p).same)
 

@@ -19,7 +19,8 @@ use Rattle.dn_instance.specs.TextFaults.{order_tests}
 use Rattle.dn_instance.specs.State.TextsSoFar.{next_read}
 
 -- a line that is not skipped, and in whose head no fault is found, has the head that it names
-pub head_agrees : (known : Option Kind) (ws : List Word) (head : Head) → is_skip ws ≡ false → head_read known ws ≡ Ok head
+pub head_agrees : (known : Option Kind) (ws : List Word) (head : Head) → is_skip ws ≡ false → head_read known ws ≡ Ok
+    head
     → (first_fault (head_tests known ws) ≡ None) × (head ≡ head_of (first ws) (kind_named ws))
 head_agrees known ws head e h =
     by_fault (first_fault (head_tests known ws)) refl

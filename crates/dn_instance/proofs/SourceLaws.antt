@@ -213,7 +213,8 @@ end_outcome : (t : List ℕ) (new : Option (List ℕ)) (r : Result Held Refusal)
 end_outcome t new (Ok held) e clean m h = (h, e)
 end_outcome t new (Err (Text (Places.Line number) code)) e clean m h =
     (h, inr (record { at_end = e; clean = clean; refused = h }))
-end_outcome t new (Err (Text Places.End code)) e clean m h = (h, inr (record { at_end = e; clean = clean; refused = h }))
+end_outcome t new (Err (Text Places.End code)) e clean m h =
+    (h, inr (record { at_end = e; clean = clean; refused = h }))
 end_outcome t new (Err Memory) e clean m h = inr (record { at_end = e; clean = clean; refused = m refl })
 end_outcome t new (Err Read) e clean m h = absurd h
 end_outcome t new (Err Endless) e clean m h = absurd h

@@ -8,7 +8,7 @@ use Rattle.dn_line.specs.State.Reading.{head_read, fields_read, checked_item}
 use Rattle.dn_line.specs.State.LineStates.{is_clear, is_inner}
 use Rattle.dn_line.specs.State.ArcLines.{BeginsWithArc, IsGap, IsLineEnd, IsNumberBefore, IsNumberFront, AreNumbers, IsArcOf, number_word, has_arcs}
 use Rattle.dn_line.specs.declared.kind.Kind.{Kind}
-use Rattle.dn_line.specs.declared.kind.Kind.TheVariants.{Min, Max, Sp, Ss, P2p, Co}
+use Rattle.dn_line.specs.declared.kind.Kind.TheVariants.{Min, Max, Sp}
 use Rattle.dn_line.specs.declared.line.Head.TheVariants as Heads
 use Rattle.dn_line.specs.declared.line.Line.{Line}
 use Rattle.dn_line.specs.declared.line.Line.TheVariants.{SpArc, MaxArc, MinArc}
@@ -182,9 +182,7 @@ letter_head : (kind : Kind) (ws : List Word) → has_arcs kind ≡ true
 letter_head Min ws h = refl
 letter_head Max ws h = refl
 letter_head Sp ws h = refl
-letter_head Ss ws h = cc
-letter_head P2p ws h = cc
-letter_head Co ws h = cc
+letter_head _ ws h = cc
 
 letter_words : (b : ℕ) (bs l : List ℕ) → is_blank b ≡ true → list_all is_blank bs ≡ true
     → said_words (97 ∷ b ∷ bs ++ l) ≡ said (97 ∷ []) ∷ said_words l

@@ -1,7 +1,7 @@
 // Short numbers at a place in longer bytes.
-ghost use Rattle.std.specs.Prelude.{◌≡◌, ◌+◌, ◌-◌, ◌*◌, ◌^◌, ◌%◌, ◌<◌, ◌≤◌, ◌++◌, length, drop, take, pos, Ok, IfSome, replicate, slice_index};
+ghost use Rattle.std.specs.Prelude.{◌≡◌, ◌+◌, ◌-◌, ◌*◌, ◌^◌, ◌%◌, ◌<◌, ◌≤◌, ◌++◌, length, take, IfSome, replicate, slice_index};
 ghost use Rattle.std.specs.Simd.Lanes.{chunk, number_l};
-ghost use Rattle.dn_num.specs.Number.{number_read, digits_number};
+ghost use Rattle.dn_num.specs.State.Lanes.{IsShortAt};
 
 use crate::count::digits_at;
 use crate::value::value;
@@ -49,7 +49,7 @@ fn word_of(bytes: &[u8], at: usize, n: usize) -> u64
 #[inline(always)]
 pub fn short_number(bytes: &[u8], at: usize) -> Option<Short>
     requires { at + 8 ≤ length bytes.now }
-    ensures read { IfSome result (λ s. number_read (take s.used (drop at bytes.now)) ≡ Ok (pos s.number)) }
+    ensures read { IfSome result (IsShortAt bytes.now at) }
     ensures some { IfSome result (λ s. 0 < s.used) }
     ensures within { IfSome result (λ s. s.used ≤ 8) }
     ensures bound { IfSome result (λ s. s.number < 100000000) }

@@ -48,7 +48,8 @@ are_arcs kind nodes (a ∷ rest) all = (all.0.is_arc, are_arcs kind nodes rest a
 
 -- words on the arcs that a bundle lists are right for the arcs that it represents, if these mean something
 abbrev Says : {Arc : Type 0} → ArcKind Arc → (List Arc → Row → Type 0) → (List Arc → Row) → Type 0
-Says {Arc} kind AreWords words = (listed arcs : List Arc) → AreCanonArcsOf kind listed arcs → AllByRecursion kind.IsArc arcs
+Says {Arc} kind AreWords words = (listed arcs : List Arc) → AreCanonArcsOf kind listed arcs → AllByRecursion kind.IsArc
+    arcs
     → (kind.Same arcs [] → ⊥) → AreWords arcs (words listed)
 
 module _ {B Arc : Type 0} (kind : ArcKind Arc) (AreWords : List Arc → Row → Type 0) (words : List Arc → Row)
@@ -170,8 +171,12 @@ max_shown nodes lines source sink table _ e f shows valid = absurd shows
 
 sp_shown : (nodes lines : ℤ) (table : Bundles Least) (I : Instance) → nodes ≡ nodes_of I → lines ≡ pos (size_of I)
     → Shows (OfSp table) I → IsValid I → IsShown I (text_of (contents_rows nodes lines (OfSp table)))
-sp_shown nodes lines table (ShortestPaths graph) e f shows valid =
-    (_, graph_shown lengths AreLengthWords length_words least_arcs length_says Kinds.Sp nodes lines [] [] table graph e f refl shows valid.placed, refl)
+sp_shown nodes lines table (ShortestPaths graph) e f shows valid = (
+  _,
+  graph_shown lengths AreLengthWords length_words least_arcs length_says Kinds.Sp nodes lines [] [] table graph e
+      f refl shows valid.placed,
+  refl,
+)
 sp_shown nodes lines table _ e f shows valid = absurd shows
 
 -- the lines of parsed contents are right for the instance

@@ -2,11 +2,10 @@
 ghost use Rattle.std.specs.Prelude.{◌++◌, ℕ, List, IsTrue, OnOk};
 ghost use Rattle.std.specs.List.{concat};
 ghost use Rattle.dn_arc.specs.declared.arc.Form.{Form};
-ghost use Rattle.dn_instance.specs.State.Helds.{OfHeld, parsed};
+ghost use Rattle.dn_instance.specs.State.Helds.{parsed};
 ghost use Rattle.dn_sink.specs.Rows.{text_of};
 ghost use Rattle.dn_sink.specs.Puts.{Puts};
-ghost use Rattle.dn_report.specs.Shows.{IsShown};
-ghost use Rattle.dn_report.specs.State.ListedRows.{held_rows, table_rows, listed_rows};
+ghost use Rattle.dn_report.specs.State.ListedRows.{ShowsHeld, held_rows, table_rows, listed_rows};
 
 use crate::lines::{count_line, number_line, put_lines, word_line};
 use crate::pair_line::PairLine;
@@ -22,8 +21,7 @@ use dn_sink::{LineBuffer, Sink, SinkFault, put_and_flush};
 ///
 /// The sink failed. It has taken a prefix of the text.
 pub fn put_shown<K: Sink>(sink: &mut K, held: &Held) -> Result<(), SinkFault>
-    ensures text { (t : List ℕ) × Puts K.sink sink.old sink.new t result
-        × OfHeld held.now (λ I. IsShown I t) }
+    ensures text { (t : List ℕ) × Puts K.sink sink.old sink.new t result × ShowsHeld held.now t }
     ensures flushed { OnOk result (IsTrue (K.sink.is_flushed sink.new)) }
 {
     put_held(sink, held)?;

@@ -1,9 +1,7 @@
 // Puts what `check` and `compare` find in texts that were read.
 ghost use Rattle.std.specs.Prelude.{◌≡◌, ℕ, List, Option, IsTrue, OnOk};
-ghost use Rattle.dn_instance.specs.State.Helds.{IsHeld, parsed};
-ghost use Rattle.dn_instance.specs.Instances.{Instance};
-ghost use Rattle.dn_instance.specs.Texts.{Reads};
-ghost use Rattle.dn_instance.specs.Validity.{IsValid};
+ghost use Rattle.dn_instance.specs.State.Helds.{OfBoth};
+ghost use Rattle.dn_instance.specs.State.Readers.{OfText};
 ghost use Rattle.dn_command.specs.Commands.{Check};
 ghost use Rattle.dn_run.specs.Answers.{IsAnswerTo, OutAfter};
 ghost use Rattle.dn_run.specs.State.Answers.{answer_of};
@@ -28,9 +26,8 @@ pub(crate) fn put_check<'a, O: Sink>(
     text: &[u8],
     out: &mut O,
 ) -> Result<u8, Stop<'a>>
-    ensures puts { (I : Instance) → Reads text.now I → IsHeld (parsed held.now) I
-        → PutsFinding (PutsChecked companion text.now I) (sink_run O.sink (out.old, out.new))
-        (answer_of result) }
+    ensures puts { OfText text.now held.now
+        (λ I. PutsFinding (PutsChecked companion text.now I) (sink_run O.sink (out.old, out.new)) (answer_of result)) }
     ensures out_after { OutAfter (sink_run O.sink (out.old, out.new)) (answer_of result) }
     ensures answers { (name : List ℕ) (with : Option (List ℕ)) → IsAnswerTo (Check name with) (answer_of result) }
     ensures found { IsFound (answer_of result) }
@@ -50,8 +47,8 @@ pub(crate) fn put_compared<'a, O: Sink>(
     right: &Held,
     out: &mut O,
 ) -> Result<u8, Stop<'a>>
-    ensures puts { (I J : Instance) → IsValid I → IsValid J → IsHeld (parsed left.now) I → IsHeld (parsed right.now) J
-        → PutsFinding (PutsCompared I J) (sink_run O.sink (out.old, out.new)) (answer_of result) }
+    ensures puts { OfBoth left.now right.now
+        (λ I J. PutsFinding (PutsCompared I J) (sink_run O.sink (out.old, out.new)) (answer_of result)) }
     ensures out_after { OutAfter (sink_run O.sink (out.old, out.new)) (answer_of result) }
     ensures found { IsFound (answer_of result) }
     ensures flushed { OnOk result (IsTrue (O.sink.is_flushed out.new)) }
@@ -76,7 +73,7 @@ fn verdict_status(verdict: &Verdict) -> u8
 // Returns the forms in which `text`, which reads as the instance in `held`, is its canonical text. The two forms differ
 // for `min` only.
 fn forms_of(held: &Held, text: &[u8]) -> Forms
-    ensures { (I : Instance) → Reads text.now I → IsHeld (parsed held.now) I → AreForms text.now I result }
+    ensures { OfText text.now held.now (λ I. AreForms text.now I result) }
 {
     let one = is_canon_of(held, text, Form::One);
     let two = match held.kind() {

@@ -1,12 +1,12 @@
 // Finds the entries of a list by their ordered pairs.
-ghost use Rattle.std.specs.Prelude.{◌≡◌, [], ◌∷◌, ◌++◌, ℤ, OnOk, OnErr, IfOk, false};
+ghost use Rattle.std.specs.Prelude.{◌≡◌, [], ◌∷◌, ◌++◌, OnOk, OnErr, IfOk, false};
 ghost use Rattle.std.specs.List.{list_any, IsDistinct};
 ghost use Rattle.std.specs.List.Sorted.{IsStrictlySortedBy};
-ghost use Rattle.std.specs.Map.{keys_of, lookup};
+ghost use Rattle.std.specs.Map.{keys_of};
 ghost use Rattle.pair_index.specs.State.Indexed.{Indexes};
 ghost use Rattle.pair_index.specs.State.Ordered.{Orders};
 ghost use Rattle.dn_arc.specs.Pairs.{pair_cmp, same_pair};
-ghost use Rattle.pair_index.specs.State.Places.{IsPlace};
+ghost use Rattle.pair_index.specs.State.Places.{IsPlace, SameEntries};
 ghost use Rattle.pair_index.specs.State.Shown.{HasPlaces};
 
 use crate::bucket::Spread;
@@ -126,7 +126,7 @@ impl PairIndex {
     pub fn order<X>(self, entries: &mut [((i64, i64), X)]) -> PairOrder
         requires { Indexes self (keys_of entries.old) }
         ensures ordered { Orders result (keys_of entries.new) }
-        ensures same { (pair : ℤ × ℤ) → lookup (same_pair pair) entries.new ≡ lookup (same_pair pair) entries.old }
+        ensures same { SameEntries entries.new entries.old }
     {
         let PairIndex { way, tails, .. } = self;
         match way {

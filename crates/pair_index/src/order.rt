@@ -3,10 +3,9 @@ ghost use Rattle.std.specs.Prelude.{◌≡◌, ◌<◌, length};
 ghost use Rattle.std.specs.List.{IsDistinct};
 ghost use Rattle.std.specs.List.Sorted.{IsStrictlySortedBy};
 ghost use Rattle.std.specs.Map.{keys_of};
-ghost use Rattle.std.specs.declared.cmp.Ordering.TheVariants.{Less};
 ghost use Rattle.pair_index.specs.State.Ordered.{Orders};
 ghost use Rattle.dn_arc.specs.Pairs.{pair_cmp, same_pair};
-ghost use Rattle.pair_index.specs.State.Places.{key_at, IsLeast, IsPlace};
+ghost use Rattle.pair_index.specs.State.Places.{IsKeyAfter, IsLeast, IsPlace};
 
 use crate::rising::place_by_search;
 use crate::tails::Tails;
@@ -45,8 +44,7 @@ impl PairOrder {
     pub fn next<X>(&self, entries: &[((i64, i64), X)], at: usize) -> Option<usize>
         requires ordered { Orders self.now (keys_of entries.now) }
         requires inside { at < length entries.now }
-        ensures { IsLeast (keys_of entries.now)
-            (λ p. pair_cmp (key_at (keys_of entries.now) at) p ≡ Less) result }
+        ensures { IsKeyAfter (keys_of entries.now) at result }
     {
         match &self.tails {
             Some(tails) => tails.next(entries, at),
@@ -67,8 +65,7 @@ fn first_rising<X>(entries: &[((i64, i64), X)]) -> Option<usize>
 fn next_rising<X>(entries: &[((i64, i64), X)], at: usize) -> Option<usize>
     requires rising { IsStrictlySortedBy pair_cmp (keys_of entries.now) }
     requires inside { at < length entries.now }
-    ensures { IsLeast (keys_of entries.now)
-        (λ p. pair_cmp (key_at (keys_of entries.now) at) p ≡ Less) result }
+    ensures { IsKeyAfter (keys_of entries.now) at result }
 {
     let next = at + 1;
     if next < entries.len() {

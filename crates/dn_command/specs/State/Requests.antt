@@ -1,11 +1,11 @@
 -- What a request does for a line of words (this project's profile).
-use Rattle.std.specs.Prelude.{◌≡◌, ◌≢◌, ◌⊎◌, ⊤, string_bytes}
+use Rattle.std.specs.Prelude.{◌≡◌, ◌≢◌, ◌⊎◌, ⊤, ℕ, List, None, Some, string_bytes}
 use Rattle.clap.specs.declared.error.kind.ErrorKind.{ErrorKind}
 use Rattle.clap.specs.declared.error.kind.ErrorKind.TheVariants.{DisplayHelp, DisplayVersion, OutOfMemory}
-use Rattle.dn_command.specs.Commands.{Asked, asks}
+use Rattle.dn_command.specs.Commands.{Asked, asks, plain_asked}
 use Rattle.dn_command.specs.declared.request.Request.{Request}
 use Rattle.dn_command.specs.declared.request.Request.TheVariants as requests
-use Rattle.dn_command.specs.Requests.{version_line}
+use Rattle.dn_command.specs.Requests.{IsReadByClap, version_line}
 
 -- which requests are right for an error of this kind: help, the version, a bad line, or out of memory
 abbrev pub AnswersKind : ErrorKind → Request → Type 0
@@ -19,6 +19,14 @@ AnswersKind kind requests.Memory = ⊤
 abbrev pub Requests : Asked → Request → Type 0
 Requests asked (requests.Command command) = asks command ≡ asked
 Requests asked request = ⊥
+
+-- if the words are a plain command, the request is for it
+abbrev pub IsPlainRequest : List (List ℕ) → Request → Type 0
+IsPlainRequest words request = (asked : Asked) → plain_asked words ≡ Some asked → Requests asked request
+
+-- if the words are no plain command, `clap` reads them
+abbrev pub IsOtherRequest : List (List ℕ) → Request → Type 0
+IsOtherRequest words request = plain_asked words ≡ None → IsReadByClap words request
 
 -- the request prints a text
 abbrev pub Prints : Request → Type 0

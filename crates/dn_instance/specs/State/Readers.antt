@@ -40,6 +40,10 @@ Outcome t (Err Endless) = ⊥
 Outcome t (Err Write) = ⊥
 Outcome t (Err CountTooLarge) = ⊥
 
+-- `Is` holds of every instance that the text reads as and the parsed instance represents
+abbrev pub OfText : List ℕ → Held → (Instance → Type 0) → Type 0
+OfText text held Is = (I : Instance) → Reads text I → IsHeld (parsed held) I → Is I
+
 -- the refusal that a reader keeps, if there is one; every later call returns it
 abbrev pub refusal_of : Reader → Option Refusal
 refusal_of r = r.refusal

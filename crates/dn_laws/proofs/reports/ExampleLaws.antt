@@ -180,7 +180,8 @@ never_nothing same =
     let none : pos 7 ≡ pos 0 = cost_kind.same_capacity (bundle (pos 1, pos 2) some_costs) [] are tt same in
     cc
 
-costs_listed : IsListed costs cost_kind AreCosts some_costs cost_entries (lookup (same_pair (pos 1, pos 2)) cost_entries)
+costs_listed : IsListed costs cost_kind AreCosts some_costs cost_entries
+    (lookup (same_pair (pos 1, pos 2)) cost_entries)
     (bundle (pos 1, pos 2) some_costs)
 costs_listed = some_words costs cost_kind AreCosts some_costs cost_entries _ _ never_nothing refl
 
@@ -192,7 +193,8 @@ shown_costs = (
   record {
     pairs = _;
     are_pairs =
-        pair_rows costs cost_kind AreCosts some_costs cost_entries (tt, tt) (costs_listed, (costs_listed, (costs_listed, tt)))
+        pair_rows costs cost_kind AreCosts some_costs cost_entries (tt, tt)
+        (costs_listed, (costs_listed, (costs_listed, tt)))
         (λ p h. (h.0, tt));
     rows_are = refl;
   },

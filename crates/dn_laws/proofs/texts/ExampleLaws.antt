@@ -81,7 +81,8 @@ same_at xs ys s =
       nodes = refl;
       bundles =
           λ p. subst (λ l. SameCurve l (bundle p (placed here ys))) (sym (bundle_at p xs))
-          (subst (λ l. SameCurve (cond (same_pair p here) xs []) l) (sym (bundle_at p ys)) (by_test (same_pair p here)));
+          (subst (λ l. SameCurve (cond (same_pair p here) xs []) l) (sym (bundle_at p ys))
+          (by_test (same_pair p here)));
     }
   where
     by_test : (t : Bool) → SameCurve (cond t xs []) (cond t ys [])

@@ -92,7 +92,8 @@ module _ {Arc : Type 0} (kind : ArcKind Arc) (laws : IsKind kind) (form : Form) 
     where
       by_bundle : (q : ℤ × ℤ) (us : List Arc) → bundle q xs ≡ us → AllByRecursion (λ x. F q.0) (bundle q cs)
       by_bundle q [] e =
-          let listed = laws.meaning.same_sym [] (bundle q cs) (subst (λ l. kind.Same l (bundle q cs)) e (c.same.at q)) in
+          let listed = laws.meaning.same_sym [] (bundle q cs)
+          (subst (λ l. kind.Same l (bundle q cs)) e (c.same.at q)) in
           subst (AllByRecursion (λ x. F q.0)) (sym (laws.nothing_listed form (bundle q cs) (c.canonical q) listed)) tt
       by_bundle q (u ∷ us) e =
           each_of (F q.0) (at_some (λ a. F a.0.0) (λ p. F p.0) (λ a g. g) xs q u us h e) (bundle q cs)
@@ -203,7 +204,9 @@ pub canon_made : (form : Form) (I J : Instance) (c : HasCanonParts form I) → A
 canon_made form I J c r w =
     let own = own_head I c.parts c.parts_are in
     let same = whole_same form I J c w in
-    by_kind (λ I. SameHead I J → IsSame I J → AreParts c.parts I → IsCanonInstanceOf form J I) (λ Arc kind make canon G h s p. made_canon kind make canon form G J c.parts c.canons h s p c.canons_are r w) I own (head_then I I J own same) same c.parts_are
+    by_kind (λ I. SameHead I J → IsSame I J → AreParts c.parts I → IsCanonInstanceOf form J I)
+    (λ Arc kind make canon G h s p. made_canon kind make canon form G J c.parts c.canons h s p c.canons_are r w) I
+    own (head_then I I J own same) same c.parts_are
 
 -- the canonical instance is made of the canonical instances of ranges
 made_of_canon : (form : Form) (I J : Instance) (c : HasCanonParts form I) → AreRanges c.parts

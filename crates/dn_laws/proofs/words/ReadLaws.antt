@@ -128,7 +128,8 @@ mistaken_by listed k ks (requests.Print text) none (inr h) =
 mistaken_by listed k ks requests.Bad none h = inl refl
 mistaken_by listed k ks requests.Memory none h = inr refl
 
-helped_by : (listed : Option Asked) (r : Request) → Answers (DisplayHelp ∷ []) listed r → Prints r ⊎ (r ≡ requests.Memory)
+helped_by : (listed : Option Asked) (r : Request) → Answers (DisplayHelp ∷ []) listed r → Prints r ⊎
+    (r ≡ requests.Memory)
 helped_by listed (requests.Command command) h = absurd (some_fault _ _ h.0)
 helped_by listed (requests.Print text) h = inl tt
 helped_by listed requests.Bad (inl (k, (inl e), no_help, no_version)) = absurd (no_help e)

@@ -98,6 +98,10 @@ pub record LineReaderAt (r : LineReader) (l : LineSoFar) : Type 0 where
   pub goes_on : l.ended ≡ false → Reached r.line l.bytes
   pub pending_is : r.pending ≡ (not l.ended && has_bytes l.bytes)
 
+-- `Is` holds of every line that the reader represents
+abbrev pub OfLine : LineReader → (LineSoFar → Type 0) → Type 0
+OfLine r Is = (l : LineSoFar) → LineReaderAt r l → Is l
+
 -- the piece has an LF
 abbrev pub has_end : List ℕ → Bool
 has_end piece = nat_lt (position_or_len is_line_feed piece) (length piece)

@@ -1,13 +1,14 @@
 -- The lines of a parsed instance, made from the arcs that its bundles list.
-use Rattle.std.specs.Prelude.{ℤ, pos, List, [], ◌∷◌, length, map, codes}
+use Rattle.std.specs.Prelude.{ℕ, ℤ, pos, List, [], ◌∷◌, length, map, codes}
 use Rattle.std.specs.Fmt.{signed_decimal}
 use Rattle.dn_line.specs.declared.kind.Kind.TheVariants as Kinds
 use Rattle.dn_bundle.specs.State.Listings.{least_arcs, total_arcs, curve_arcs}
 use Rattle.dn_arc.specs.declared.arc.Form.TheVariants.{One}
 use Rattle.dn_arc.specs.declared.arc.LengthArc.{LengthArc}
-use Rattle.dn_instance.specs.State.Helds.{Bundles, Contents, Parsed, OfMin, OfMax, OfSp, OfSs, OfP2p, OfCo}
+use Rattle.dn_instance.specs.State.Helds.{Bundles, Contents, OfCo, OfHeld, OfMax, OfMin, OfP2p, OfSp, OfSs, Parsed}
+use Rattle.dn_instance.specs.declared.held.Held.{Held}
 use Rattle.dn_sink.specs.Rows.{Row}
-use Rattle.dn_report.specs.Shows.{pair_row, total_words, cost_words, number_row, graph_rows, companion_rows, supply_rows, terminal_rows}
+use Rattle.dn_report.specs.Shows.{IsShown, pair_row, total_words, cost_words, number_row, graph_rows, companion_rows, supply_rows, terminal_rows}
 
 -- `length` and the length of the first arc, or nothing if there is no arc
 abbrev pub length_words : List LengthArc → Row
@@ -36,3 +37,7 @@ contents_rows nodes lines (OfCo points) = companion_rows Kinds.Co lines
 -- the lines of a parsed instance
 abbrev pub held_rows : Parsed → List Row
 held_rows h = contents_rows h.nodes h.lines h.contents
+
+-- `show` prints this text of every valid instance that the parsed instance represents
+abbrev pub ShowsHeld : Held → List ℕ → Type 0
+ShowsHeld held text = OfHeld held (λ I. IsShown I text)

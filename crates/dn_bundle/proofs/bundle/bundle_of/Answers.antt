@@ -13,22 +13,27 @@ loop-arc-init g c = let laws =
     )
 
 pub add-requires : goal.add-requires
-add-requires g c = next_arc g.B.Bundle.bundle.kind g.met.B.Bundle.laws c.args.arcs.now c.loop-arc.arc-index c.arc-item.result c.requires c.loop-arc-test.true c.arc-item.is
+add-requires g c = next_arc g.B.Bundle.bundle.kind g.met.B.Bundle.laws c.args.arcs.now c.loop-arc.arc-index
+    c.arc-item.result c.requires c.loop-arc-test.true c.arc-item.is
 
 pub returns-in-Err-clause-sum : goal.returns-in-Err-clause-sum
 returns-in-Err-clause-sum g c = λ e.
     let laws = g.met.B.Bundle.laws in
     let listed = g.B.Bundle.bundle.listed One c.loop-arc.bundle in
     let listed_arcs = laws.canon_arcs One listed (g.met.B.Bundle.canonical One c.loop-arc.bundle) in
-    too_much g.B.Bundle.bundle.kind laws c.args.arcs.now listed c.loop-arc.arc-index c.arc-item.result c.requires c.loop-arc-test.true c.arc-item.is listed_arcs c.loop-arc.invariant.0 (c.in-Err.ensures.sum.0 cc)
+    too_much g.B.Bundle.bundle.kind laws c.args.arcs.now listed c.loop-arc.arc-index c.arc-item.result c.requires
+    c.loop-arc-test.true c.arc-item.is listed_arcs c.loop-arc.invariant.0 (c.in-Err.ensures.sum.0 cc)
 
 pub loop-arc-preserved : goal.loop-arc-preserved
 loop-arc-preserved g c =
     let laws = g.met.B.Bundle.laws in
     let listed = g.B.Bundle.bundle.listed One c.loop-arc.bundle in
     let listed_arcs = laws.canon_arcs One listed (g.met.B.Bundle.canonical One c.loop-arc.bundle) in (
-      next_same g.B.Bundle.bundle.kind laws c.args.arcs.now listed c.loop-arc.arc-index c.arc-item.result c.requires c.loop-arc-test.true c.arc-item.is listed_arcs c.loop-arc.invariant.0 _ c.in_default.ensures.ok,
-      next_fits g.B.Bundle.bundle.kind laws c.args.arcs.now listed c.loop-arc.arc-index c.arc-item.result c.requires c.loop-arc-test.true c.arc-item.is listed_arcs c.loop-arc.invariant.0 (λ m. let e = c.in_default.ensures.sum.1 m in cc),
+      next_same g.B.Bundle.bundle.kind laws c.args.arcs.now listed c.loop-arc.arc-index c.arc-item.result c.requires
+          c.loop-arc-test.true c.arc-item.is listed_arcs c.loop-arc.invariant.0 _ c.in_default.ensures.ok,
+      next_fits g.B.Bundle.bundle.kind laws c.args.arcs.now listed c.loop-arc.arc-index c.arc-item.result c.requires
+          c.loop-arc-test.true c.arc-item.is listed_arcs c.loop-arc.invariant.0
+          (λ m. let e = c.in_default.ensures.sum.1 m in cc),
     )
 
 pub loop-arc-smaller : goal.loop-arc-smaller

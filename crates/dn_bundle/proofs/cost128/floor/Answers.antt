@@ -22,7 +22,10 @@ rem_euclid-rest-requires c = let d = divides c.args.units.now (search rules) c.r
     record { nonzero = d.0; no_overflow = λ e f. d.1 e }
 
 pub overflow_cast-rest : goal.overflow_cast-rest
-overflow_cast-rest c = rest_narrows c.args.cost.now c.args.units.now c.div_euclid-each.result (search rules) (search rules) c.requires.unit c.requires.mean c.div_euclid-each.ensures c.rem_euclid-rest.result c.rem_euclid-rest.ensures.value
+overflow_cast-rest c = rest_narrows c.args.cost.now c.args.units.now c.div_euclid-each.result (search rules)
+    (search rules) c.requires.unit c.requires.mean c.div_euclid-each.ensures c.rem_euclid-rest.result
+    c.rem_euclid-rest.ensures.value
 
 pub returns : goal.returns
-returns c = floor_is c.args.cost.now c.args.units.now c.div_euclid-each.result (search rules) (search rules) c.requires.unit c.requires.mean c.div_euclid-each.ensures c.rem_euclid-rest.result c.rem_euclid-rest.ensures.value
+returns c = floor_is c.args.cost.now c.args.units.now c.div_euclid-each.result (search rules) (search rules)
+    c.requires.unit c.requires.mean c.div_euclid-each.ensures c.rem_euclid-rest.result c.rem_euclid-rest.ensures.value

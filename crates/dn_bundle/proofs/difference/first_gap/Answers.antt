@@ -22,7 +22,9 @@ parted-requires c =
 
 pub returns-then-ne : goal.returns-then-ne
 returns-then-ne c =
-    gap_found _ _ _ _ _ _ _ _ _ _ _ _ c.loop-l.invariant c.in-Some.ensures.steps c.in-Some-next.ensures.steps (search rules) c.next-then-ne.result c.next-then-ne-2.result _ _ c.next-then-ne.ensures.steps c.next-then-ne-2.ensures.steps c.parted.result c.parted.ensures
+    gap_found _ _ _ _ _ _ _ _ _ _ _ _ c.loop-l.invariant c.in-Some.ensures.steps c.in-Some-next.ensures.steps
+    (search rules) c.next-then-ne.result c.next-then-ne-2.result _ _ c.next-then-ne.ensures.steps
+    c.next-then-ne-2.ensures.steps c.parted.result c.parted.ensures
     ∙ entry_is c.args.amount c.args.cost c.ranges.amount c.ranges.cost c.args.left c.args.right
 
 pub more_cost-cost-requires : goal.more_cost-cost-requires

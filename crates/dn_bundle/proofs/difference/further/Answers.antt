@@ -16,4 +16,5 @@ with_unit-requires-2 c = let range =
     record { low = range.0; high = range.1 }
 
 pub returns : goal.returns
-returns c = next_gap c.args.amount.now c.requires.some c.requires.most c.args.cost.now c.args.left c.args.right c.with_unit.result c.with_unit-2.result c.with_unit.ensures c.with_unit-2.ensures
+returns c = next_gap c.args.amount.now c.requires.some c.requires.most c.args.cost.now c.args.left c.args.right
+    c.with_unit.result c.with_unit-2.result c.with_unit.ensures c.with_unit-2.ensures

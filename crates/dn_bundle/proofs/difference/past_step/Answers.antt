@@ -25,4 +25,6 @@ further-requires-clause-mean c =
     (search rules) c.requires.mean c.more_cost.result c.more_cost.ensures
 
 pub returns : goal.returns
-returns c = past_gap c.args.amount.now c.args.cost.now c.args.step.now c.requires.some c.requires.room c.requires.most (search rules) c.requires.mean c.more_cost.result c.more_cost.ensures c.further.result c.args.left c.args.right c.further.ensures
+returns c = past_gap c.args.amount.now c.args.cost.now c.args.step.now c.requires.some c.requires.room c.requires.most
+    (search rules) c.requires.mean c.more_cost.result c.more_cost.ensures c.further.result c.args.left c.args.right
+    c.further.ensures

@@ -12,4 +12,5 @@ loop-id-preserved g c =
 pub returns-in_err-supply_line : goal.returns-in_err-supply_line
 returns-in_err-supply_line g c =
     pass_stopped c.supply_line.new.block c.from_residual.result c.from_residual.ensures.0
-    (row_stop supply_row c.loop-id.block c.loop-id.id-iterator c.next.new.self (c.in-Some.id.now, c.in-Some.flow.now) c.in-Some.ensures.steps refl c.loop-id.invariant c.in_err-supply_line.ensures)
+    (row_stop supply_row c.loop-id.block c.loop-id.id-iterator c.next.new.self (c.in-Some.id.now, c.in-Some.flow.now)
+    c.in-Some.ensures.steps refl c.loop-id.invariant c.in_err-supply_line.ensures)

@@ -15,7 +15,8 @@ loop-id-preserved g c =
 pub returns-in_err-point_line-clause-text : goal.returns-in_err-point_line-clause-text
 returns-in_err-point_line-clause-text g c =
     stopped c.from_residual.result c.from_residual.ensures.0
-    (row_stop point_row c.loop-id.block c.loop-id.id-iterator c.next.new.self (c.in-Some.id.now, c.in-Some.place.now) c.in-Some.ensures.steps refl c.loop-id.invariant c.in_err-point_line.ensures)
+    (row_stop point_row c.loop-id.block c.loop-id.id-iterator c.next.new.self (c.in-Some.id.now, c.in-Some.place.now)
+    c.in-Some.ensures.steps refl c.loop-id.invariant c.in_err-point_line.ensures)
 
 pub returns-clause-text : goal.returns-clause-text
 returns-clause-text g c =

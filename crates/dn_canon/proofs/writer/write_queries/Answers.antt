@@ -25,5 +25,6 @@ pub returns-clause-text : goal.returns-clause-text
 returns-clause-text g c =
     put_last g.K.Sink.sink c.args.sink.now c.loop-query.sink c.put_last.new.sink c.loop-query.block
     (print (Queries c.args.queries.now)) c.put_last.result
-    (rows_done query_row c.loop-query.block c.args.queries.now c.loop-query.query-index c.loop-query-test.false c.loop-query.invariant)
+    (rows_done query_row c.loop-query.block c.args.queries.now c.loop-query.query-index c.loop-query-test.false
+    c.loop-query.invariant)
     c.put_last.ensures.text

@@ -8,7 +8,8 @@ use Rattle.dn_compare.proofs.difference.compare.Goals as goal
 pub returns-then-ne : goal.returns-then-ne
 returns-then-ne c I J x y p q =
     let differ : c.kind-then-ne.result ≢ c.kind-then-ne-2.result = search rules in
-    kinds_on (parsed c.args.left.now) (parsed c.args.right.now) I J p q c.kind-then-ne.result c.kind-then-ne-2.result c.kind-then-ne.ensures c.kind-then-ne-2.ensures differ
+    kinds_on (parsed c.args.left.now) (parsed c.args.right.now) I J p q c.kind-then-ne.result c.kind-then-ne-2.result
+    c.kind-then-ne.ensures c.kind-then-ne-2.ensures differ
 
 pub returns-then-nodes : goal.returns-then-nodes
 returns-then-nodes c I J x y p q =
@@ -22,7 +23,8 @@ returns-then-nodes c I J x y p q =
     (c.nodes.ensures ∙ sym c.nodes-then-nodes.ensures ∙ e ∙ c.nodes-then-nodes-2.ensures
     ∙ sym c.nodes-2.ensures)) in
     rw (to_z-of_z w64 c.nodes-then-nodes.result left, to_z-of_z w64 c.nodes-then-nodes-2.result right)
-    (nodes_on (parsed c.args.left.now) (parsed c.args.right.now) I J p q kinds c.nodes-then-nodes.result c.nodes-then-nodes-2.result c.nodes-then-nodes.ensures c.nodes-then-nodes-2.ensures differ)
+    (nodes_on (parsed c.args.left.now) (parsed c.args.right.now) I J p q kinds c.nodes-then-nodes.result
+    c.nodes-then-nodes-2.result c.nodes-then-nodes.ensures c.nodes-then-nodes-2.ensures differ)
 
 pub returns : goal.returns
 returns c I J x y p q =

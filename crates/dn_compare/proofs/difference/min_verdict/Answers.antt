@@ -10,7 +10,9 @@ returns-in-Some c =
     let left : FitsSigned w64 c.in-Some.left = search rules in
     let right : FitsSigned w64 c.in-Some.right = search rules in
     rw (to_z-of_z w64 c.in-Some.id id, to_z-of_z w64 c.in-Some.left left, to_z-of_z w64 c.in-Some.right right)
-    (supply_on c.args.left.now.entries c.args.right.now.entries c.args.left_table.now c.args.right_table.now c.in-Some.id c.in-Some.left c.in-Some.right c.in-Some.ensures)
+    (supply_on c.args.left.now.entries c.args.right.now.entries c.args.left_table.now c.args.right_table.now
+    c.in-Some.id c.in-Some.left c.in-Some.right c.in-Some.ensures)
 
 pub returns-in-None : goal.returns-in-None
-returns-in-None c = min_on c.pair_verdict.result c.args.left.now.entries c.args.right.now.entries c.args.left_table.now c.args.right_table.now c.in-None.ensures c.pair_verdict.ensures
+returns-in-None c = min_on c.pair_verdict.result c.args.left.now.entries c.args.right.now.entries c.args.left_table.now
+    c.args.right_table.now c.in-None.ensures c.pair_verdict.ensures

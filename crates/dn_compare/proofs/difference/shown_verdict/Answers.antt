@@ -8,7 +8,8 @@ use Rattle.dn_compare.proofs.difference.shown_verdict.Goals as goal
 pub returns-in-Min-Min : goal.returns-in-Min-Min
 returns-in-Min-Min c =
     let m = c.in-Min-Min in
-    shown_on (OfMin m.l.now.entries m.lt.now) (OfMin m.r.now.entries m.rt.now) (viewed c.args.left) (viewed c.args.right)
+    shown_on (OfMin m.l.now.entries m.lt.now) (OfMin m.r.now.entries m.rt.now) (viewed c.args.left)
+    (viewed c.args.right)
     c.min_verdict.result (sym (ap viewed m.is-0)) (sym (ap viewed m.is-1)) c.min_verdict.ensures
 
 pub returns-in-Max-Max : goal.returns-in-Max-Max
@@ -42,7 +43,8 @@ pub returns-in-P2p-P2p : goal.returns-in-P2p-P2p
 returns-in-P2p-P2p c =
     let m = c.in-P2p-P2p in
     let v = c.list_verdict-in-P2p-P2p in
-    shown_on (OfP2p m.l.now) (OfP2p m.r.now) (viewed c.args.left) (viewed c.args.right) v.result (sym (ap viewed m.is-0))
+    shown_on (OfP2p m.l.now) (OfP2p m.r.now) (viewed c.args.left) (viewed c.args.right) v.result
+    (sym (ap viewed m.is-0))
     (sym (ap viewed m.is-1)) (p2p_on m.l.now m.r.now v.result v.ensures)
 
 pub returns-in-Co-Co : goal.returns-in-Co-Co

@@ -12,14 +12,17 @@ returns-then-ne c =
     lesser_is c.in-Some.id (search rules) (search rules) in
     let differ : c.take-point.result ≢ c.take-other.result = search rules in
     c.loop-id.invariant.rest (Some (id, tt))
-    (halted id c.loop-id.lefts c.loop-id.rights c.take-point.new.self c.take-other.new.self first c.take-point.ensures.rest c.take-other.ensures.rest c.loop-id.invariant.lefts c.loop-id.invariant.rights by_point refl (λ what d. d refl)
+    (halted id c.loop-id.lefts c.loop-id.rights c.take-point.new.self c.take-other.new.self first
+    c.take-point.ensures.rest c.take-other.ensures.rest c.loop-id.invariant.lefts c.loop-id.invariant.rights
+    by_point refl (λ what d. d refl)
     c.take-point.result c.take-other.result c.take-point.ensures.value c.take-other.ensures.value tt differ)
 
 pub loop-id-smaller : goal.loop-id-smaller
 loop-id-smaller c =
     let first : lesser_key int_cmp (first_key c.loop-id.lefts) (first_key c.loop-id.rights) ≡ Some
     (to_z w64 (of_z w64 c.in-Some.id)) = lesser_is c.in-Some.id (search rules) (search rules) in
-    fewer (to_z w64 (of_z w64 c.in-Some.id)) c.loop-id.lefts c.loop-id.rights c.take-point.new.self c.take-other.new.self first c.take-point.ensures.rest c.take-other.ensures.rest
+    fewer (to_z w64 (of_z w64 c.in-Some.id)) c.loop-id.lefts c.loop-id.rights c.take-point.new.self
+    c.take-other.new.self first c.take-point.ensures.rest c.take-other.ensures.rest
 
 pub loop-id-preserved : goal.loop-id-preserved
 loop-id-preserved c =
@@ -27,12 +30,15 @@ loop-id-preserved c =
     let first : lesser_key int_cmp (first_key c.loop-id.lefts) (first_key c.loop-id.rights) ≡ Some id =
     lesser_is c.in-Some.id (search rules) (search rules) in
     let same : c.take-point.result ≡ c.take-other.result = search rules in
-    let rise = rise_on id c.loop-id.lefts c.loop-id.rights c.take-point.new.self c.take-other.new.self first c.take-point.ensures.rest c.take-other.ensures.rest c.loop-id.invariant.lefts c.loop-id.invariant.rights in
+    let rise = rise_on id c.loop-id.lefts c.loop-id.rights c.take-point.new.self c.take-other.new.self first
+    c.take-point.ensures.rest c.take-other.ensures.rest c.loop-id.invariant.lefts c.loop-id.invariant.rights in
     record {
       lefts = rise.0;
       rights = rise.1;
       rest = λ o h. c.loop-id.invariant.rest o
-          (kept id c.loop-id.lefts c.loop-id.rights c.take-point.new.self c.take-other.new.self first c.take-point.ensures.rest c.take-other.ensures.rest c.loop-id.invariant.lefts c.loop-id.invariant.rights by_point refl (λ what d. d refl)
+          (kept id c.loop-id.lefts c.loop-id.rights c.take-point.new.self c.take-other.new.self first
+          c.take-point.ensures.rest c.take-other.ensures.rest c.loop-id.invariant.lefts c.loop-id.invariant.rights
+          by_point refl (λ what d. d refl)
           c.take-point.result c.take-other.result c.take-point.ensures.value c.take-other.ensures.value same o h);
     }
 

@@ -16,14 +16,17 @@ returns-then-left-right c =
     let right : flow_or_zero c.take-in-Some.result ≡ flows.1 = search rules in
     let differ : flows.0 ≢ flows.1 = search rules in
     c.loop-id.invariant.rest (Some (id, flows))
-    (halted id c.loop-id.lefts c.loop-id.rights c.take.new.self c.take-in-Some.new.self first c.take.ensures.rest c.take-in-Some.ensures.rest c.loop-id.invariant.lefts c.loop-id.invariant.rights by_flow refl (λ what d. d.2 (sym d.0 ∙ d.1))
+    (halted id c.loop-id.lefts c.loop-id.rights c.take.new.self c.take-in-Some.new.self first c.take.ensures.rest
+    c.take-in-Some.ensures.rest c.loop-id.invariant.lefts c.loop-id.invariant.rights by_flow refl
+    (λ what d. d.2 (sym d.0 ∙ d.1))
     c.take.result c.take-in-Some.result c.take.ensures.value c.take-in-Some.ensures.value flows (left, right, differ))
 
 pub loop-id-smaller : goal.loop-id-smaller
 loop-id-smaller c =
     let first : lesser_key int_cmp (first_key c.loop-id.lefts) (first_key c.loop-id.rights) ≡ Some
     (to_z w64 (of_z w64 c.in-Some.id)) = lesser_is c.in-Some.id (search rules) (search rules) in
-    fewer (to_z w64 (of_z w64 c.in-Some.id)) c.loop-id.lefts c.loop-id.rights c.take.new.self c.take-in-Some.new.self first c.take.ensures.rest c.take-in-Some.ensures.rest
+    fewer (to_z w64 (of_z w64 c.in-Some.id)) c.loop-id.lefts c.loop-id.rights c.take.new.self c.take-in-Some.new.self
+    first c.take.ensures.rest c.take-in-Some.ensures.rest
 
 pub loop-id-preserved : goal.loop-id-preserved
 loop-id-preserved c =
@@ -31,12 +34,15 @@ loop-id-preserved c =
     let first : lesser_key int_cmp (first_key c.loop-id.lefts) (first_key c.loop-id.rights) ≡ Some id =
     lesser_is c.in-Some.id (search rules) (search rules) in
     let same : flow_or_zero c.take.result ≡ flow_or_zero c.take-in-Some.result = search rules in
-    let rise = rise_on id c.loop-id.lefts c.loop-id.rights c.take.new.self c.take-in-Some.new.self first c.take.ensures.rest c.take-in-Some.ensures.rest c.loop-id.invariant.lefts c.loop-id.invariant.rights in
+    let rise = rise_on id c.loop-id.lefts c.loop-id.rights c.take.new.self c.take-in-Some.new.self first
+    c.take.ensures.rest c.take-in-Some.ensures.rest c.loop-id.invariant.lefts c.loop-id.invariant.rights in
     record {
       lefts = rise.0;
       rights = rise.1;
       rest = λ o h. c.loop-id.invariant.rest o
-          (kept id c.loop-id.lefts c.loop-id.rights c.take.new.self c.take-in-Some.new.self first c.take.ensures.rest c.take-in-Some.ensures.rest c.loop-id.invariant.lefts c.loop-id.invariant.rights by_flow refl (λ what d. d.2 (sym d.0 ∙ d.1))
+          (kept id c.loop-id.lefts c.loop-id.rights c.take.new.self c.take-in-Some.new.self first c.take.ensures.rest
+          c.take-in-Some.ensures.rest c.loop-id.invariant.lefts c.loop-id.invariant.rights by_flow refl
+          (λ what d. d.2 (sym d.0 ∙ d.1))
           c.take.result c.take-in-Some.result c.take.ensures.value c.take-in-Some.ensures.value same o h);
     }
 

@@ -7,8 +7,11 @@ use Rattle.dn_instance.proofs.arcs.take_arc.Goals as goal
 pub returns-in-Ok-clause-answer : goal.returns-in-Ok-clause-answer
 returns-in-Ok-clause-answer g c arcs is old are both =
     let arc = c.if-not-is_arc.ensures.0 refl in
-    let sum = sum_passes g.B.Bundle.bundle.kind (g.B.Bundle.bundle.listed One) g.met.B.Bundle.laws c.args.table.now arcs c.args.pair c.args.arc old are arc c.in-Ok.ensures.sum in
-    taken_fault g.B.Bundle.bundle.kind c.args.nodes.now arcs is (c.args.pair, c.args.arc) (sym {b = in_graph c.args.nodes.now c.args.pair.0 && in_graph c.args.nodes.now c.args.pair.1} c.if-not-joins_nodes.ensures) (both.1 arc) (sum.1 (λ e. cc))
+    let sum = sum_passes g.B.Bundle.bundle.kind (g.B.Bundle.bundle.listed One) g.met.B.Bundle.laws c.args.table.now arcs
+    c.args.pair c.args.arc old are arc c.in-Ok.ensures.sum in
+    taken_fault g.B.Bundle.bundle.kind c.args.nodes.now arcs is (c.args.pair, c.args.arc)
+    (sym {b = in_graph c.args.nodes.now c.args.pair.0 && in_graph c.args.nodes.now c.args.pair.1}
+    c.if-not-joins_nodes.ensures) (both.1 arc) (sum.1 (λ e. cc))
 
 pub returns-in-Ok-clause-stands : goal.returns-in-Ok-clause-stands
 returns-in-Ok-clause-stands g c arcs stays old are =
@@ -19,11 +22,17 @@ returns-in-Ok-clause-stands g c arcs stays old are =
 pub returns-in-Err-Sum-clause-answer : goal.returns-in-Err-Sum-clause-answer
 returns-in-Err-Sum-clause-answer g c arcs is old are both =
     let arc = c.if-not-is_arc.ensures.0 refl in
-    let sum = sum_passes g.B.Bundle.bundle.kind (g.B.Bundle.bundle.listed One) g.met.B.Bundle.laws c.args.table.now arcs c.args.pair c.args.arc old are arc c.in-Err-Sum.ensures.sum in
-    sum_fault g.B.Bundle.bundle.kind c.args.nodes.now arcs is (c.args.pair, c.args.arc) (sym {b = in_graph c.args.nodes.now c.args.pair.0 && in_graph c.args.nodes.now c.args.pair.1} c.if-not-joins_nodes.ensures) (both.1 arc) (sum.0 (let sum_is = c.in-Err-Sum.field-0-is in cc))
+    let sum = sum_passes g.B.Bundle.bundle.kind (g.B.Bundle.bundle.listed One) g.met.B.Bundle.laws c.args.table.now arcs
+    c.args.pair c.args.arc old are arc c.in-Err-Sum.ensures.sum in
+    sum_fault g.B.Bundle.bundle.kind c.args.nodes.now arcs is (c.args.pair, c.args.arc)
+    (sym {b = in_graph c.args.nodes.now c.args.pair.0 && in_graph c.args.nodes.now c.args.pair.1}
+    c.if-not-joins_nodes.ensures) (both.1 arc) (sum.0 (let sum_is = c.in-Err-Sum.field-0-is in cc))
 
 pub returns-in-Err-Memory-clause-answer : goal.returns-in-Err-Memory-clause-answer
 returns-in-Err-Memory-clause-answer g c arcs is old are both =
     let arc = c.if-not-is_arc.ensures.0 refl in
-    let sum = sum_passes g.B.Bundle.bundle.kind (g.B.Bundle.bundle.listed One) g.met.B.Bundle.laws c.args.table.now arcs c.args.pair c.args.arc old are arc c.in-Err-Memory.ensures.sum in
-    taken_fault g.B.Bundle.bundle.kind c.args.nodes.now arcs is (c.args.pair, c.args.arc) (sym {b = in_graph c.args.nodes.now c.args.pair.0 && in_graph c.args.nodes.now c.args.pair.1} c.if-not-joins_nodes.ensures) (both.1 arc) (sum.1 (λ e. (let memory_is = c.in-Err-Memory.field-0-is in cc)))
+    let sum = sum_passes g.B.Bundle.bundle.kind (g.B.Bundle.bundle.listed One) g.met.B.Bundle.laws c.args.table.now arcs
+    c.args.pair c.args.arc old are arc c.in-Err-Memory.ensures.sum in
+    taken_fault g.B.Bundle.bundle.kind c.args.nodes.now arcs is (c.args.pair, c.args.arc)
+    (sym {b = in_graph c.args.nodes.now c.args.pair.0 && in_graph c.args.nodes.now c.args.pair.1}
+    c.if-not-joins_nodes.ensures) (both.1 arc) (sum.1 (λ e. (let memory_is = c.in-Err-Memory.field-0-is in cc)))

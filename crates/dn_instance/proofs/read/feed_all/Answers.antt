@@ -23,7 +23,9 @@ returns-in_err-feed-clause-err g c =
     let piece = c.in_ok-piece.piece.now in
     let room : length c.loop.room ≡ 4096 = search rules in
     handed_on _ _ _ c.from_residual-in_err-feed.ensures
-    (refused_given _ _ _ t piece c.loop.reader c.in_err-feed.field-0.0 c.loop.invariant.given.1 c.in_ok-piece.ensures.bytes (subst (λ n. length piece ≤ n) room c.in_ok-piece.ensures.bound) c.loop.invariant.given.2 c.loop.invariant.fine (c.in_err-feed.ensures.fed t c.loop.invariant.given.2)
+    (refused_given _ _ _ t piece c.loop.reader c.in_err-feed.field-0.0 c.loop.invariant.given.1
+    c.in_ok-piece.ensures.bytes (subst (λ n. length piece ≤ n) room c.in_ok-piece.ensures.bound)
+    c.loop.invariant.given.2 c.loop.invariant.fine (c.in_err-feed.ensures.fed t c.loop.invariant.given.2)
     (λ memory.
     (c.in_err-feed.ensures.memory t c.loop.invariant.given.2 c.loop.invariant.fine (ap (λ x. Err x) memory)).0))
 
@@ -44,26 +46,31 @@ loop-preserved g c =
             ),
       );
       fine = not_refused _ c.in_ok-feed.ensures.answer;
-      pulls = pulled c.loop.source c.next_piece.new.source piece c.loop.invariant.pulls c.next_piece.ensures.pulls c.in_ok-piece.ensures.bytes (has_some piece _ c.is_empty.ensures c.if-is_empty.false);
+      pulls = pulled c.loop.source c.next_piece.new.source piece c.loop.invariant.pulls c.next_piece.ensures.pulls
+          c.in_ok-piece.ensures.bytes (has_some piece _ c.is_empty.ensures c.if-is_empty.false);
       stays = λ failed. c.next_piece.ensures.stays (c.loop.invariant.stays failed);
     }
 
 pub returns-clause-err : goal.returns-clause-err
 returns-clause-err g c =
-    endless_given _ _ c.loop.invariant.given.0 c.loop.reader c.loop.counter c.loop.invariant.given.1 c.loop.invariant.given.2 c.loop.invariant.fine c.loop.invariant.given.3 (let over = c.loop-test.false in omega arith)
+    endless_given _ _ c.loop.invariant.given.0 c.loop.reader c.loop.counter c.loop.invariant.given.1
+    c.loop.invariant.given.2 c.loop.invariant.fine c.loop.invariant.given.3
+    (let over = c.loop-test.false in omega arith)
 
 pub returns-in_err-piece-clause-left : goal.returns-in_err-piece-clause-left
 returns-in_err-piece-clause-left g c = record {
   read = λ read. c.in_err-piece.ensures.err;
   stays = λ failed. c.next_piece.ensures.stays (c.loop.invariant.stays failed);
-  pulls = pulled_on c.loop.invariant.given.0 c.loop.reader c.loop.invariant.pulls c.loop.invariant.given.1 c.loop.invariant.given.2 c.loop.invariant.fine c.next_piece.ensures.pulls;
+  pulls = pulled_on c.loop.invariant.given.0 c.loop.reader c.loop.invariant.pulls c.loop.invariant.given.1
+      c.loop.invariant.given.2 c.loop.invariant.fine c.next_piece.ensures.pulls;
 }
 
 pub returns-then-is_empty-clause-left : goal.returns-then-is_empty-clause-left
 returns-then-is_empty-clause-left g c = record {
   read = λ is. cc;
   stays = λ failed. c.next_piece.ensures.stays (c.loop.invariant.stays failed);
-  pulls = pulled_on c.loop.invariant.given.0 c.loop.reader c.loop.invariant.pulls c.loop.invariant.given.1 c.loop.invariant.given.2 c.loop.invariant.fine c.next_piece.ensures.pulls;
+  pulls = pulled_on c.loop.invariant.given.0 c.loop.reader c.loop.invariant.pulls c.loop.invariant.given.1
+      c.loop.invariant.given.2 c.loop.invariant.fine c.next_piece.ensures.pulls;
 }
 
 pub returns-in_err-feed-clause-left : goal.returns-in_err-feed-clause-left
@@ -72,7 +79,8 @@ returns-in_err-feed-clause-left g c = record {
       handed_other _ _ c.from_residual-in_err-feed.ensures
       (refused_unread _ _ _ (c.in_err-feed.ensures.fed c.loop.invariant.given.0 c.loop.invariant.given.2));
   stays = λ failed. c.next_piece.ensures.stays (c.loop.invariant.stays failed);
-  pulls = pulled_on c.loop.invariant.given.0 c.loop.reader c.loop.invariant.pulls c.loop.invariant.given.1 c.loop.invariant.given.2 c.loop.invariant.fine c.next_piece.ensures.pulls;
+  pulls = pulled_on c.loop.invariant.given.0 c.loop.reader c.loop.invariant.pulls c.loop.invariant.given.1
+      c.loop.invariant.given.2 c.loop.invariant.fine c.next_piece.ensures.pulls;
 }
 
 pub loop-init : goal.loop-init
@@ -89,7 +97,8 @@ pub returns-clause-left : goal.returns-clause-left
 returns-clause-left g c = record {
   read = λ is. cc;
   stays = c.loop.invariant.stays;
-  pulls = pulled_so_far c.loop.invariant.given.0 c.loop.reader c.loop.invariant.pulls c.loop.invariant.given.1 c.loop.invariant.given.2 c.loop.invariant.fine;
+  pulls = pulled_so_far c.loop.invariant.given.0 c.loop.reader c.loop.invariant.pulls c.loop.invariant.given.1
+      c.loop.invariant.given.2 c.loop.invariant.fine;
 }
 
 pub returns-in_err-feed-clause-refusal : goal.returns-in_err-feed-clause-refusal

@@ -23,7 +23,8 @@ returns-then-is_empty-clause-ok g c =
 pub returns-in_err-keep_piece-clause-err : goal.returns-in_err-keep_piece-clause-err
 returns-in_err-keep_piece-clause-err g c =
     handed_on _ _ _ c.from_residual-in_err-keep_piece.ensures
-    (uncopied _ _ _ c.loop.invariant.given.0 c.in_ok-bytes.bytes.now _ _ c.in_err-keep_piece.field-0.0 c.loop.reader c.loop.invariant.given.1 c.in_ok-bytes.ensures.bytes
+    (uncopied _ _ _ c.loop.invariant.given.0 c.in_ok-bytes.bytes.now _ _ c.in_err-keep_piece.field-0.0 c.loop.reader
+    c.loop.invariant.given.1 c.in_ok-bytes.ensures.bytes
     (has_some c.in_ok-bytes.bytes.now _ c.is_empty.ensures c.if-is_empty.false)
     (c.in_err-keep_piece.ensures.err
     ∙ c.loop.invariant.given.4) c.loop.invariant.given.2 c.loop.invariant.fine c.in_err-keep_piece.ensures.memory)
@@ -37,7 +38,9 @@ returns-in_err-feed-clause-err g c =
     handed_on _ _ _ c.from_residual-in_err-feed.ensures
     (copied _ _ (t ++ piece) _ _ (Err c.in_err-feed.field-0.0) more
     (c.in_ok-keep_piece.ensures.ok ∙ ap (λ l. l ++ piece) c.loop.invariant.given.4 ∙ append_assoc _ t piece)
-    (refused_given _ _ _ t piece c.loop.reader c.in_err-feed.field-0.0 c.loop.invariant.given.1 c.in_ok-bytes.ensures.bytes (subst (λ n. length piece ≤ n) room c.in_ok-bytes.ensures.bound) c.loop.invariant.given.2 c.loop.invariant.fine (c.in_err-feed.ensures.fed t c.loop.invariant.given.2)
+    (refused_given _ _ _ t piece c.loop.reader c.in_err-feed.field-0.0 c.loop.invariant.given.1
+    c.in_ok-bytes.ensures.bytes (subst (λ n. length piece ≤ n) room c.in_ok-bytes.ensures.bound)
+    c.loop.invariant.given.2 c.loop.invariant.fine (c.in_err-feed.ensures.fed t c.loop.invariant.given.2)
     (λ memory.
     (c.in_err-feed.ensures.memory t c.loop.invariant.given.2 c.loop.invariant.fine (ap (λ x. Err x) memory)).0)))
 
@@ -59,7 +62,8 @@ loop-preserved g c =
         c.in_ok-keep_piece.ensures.ok ∙ ap (λ l. l ++ piece) c.loop.invariant.given.4 ∙ append_assoc _ t piece,
       );
       fine = not_refused _ c.in_ok-feed.ensures.answer;
-      pulls = pulled c.loop.source c.next_piece.new.source piece c.loop.invariant.pulls c.next_piece.ensures.pulls c.in_ok-bytes.ensures.bytes (has_some piece _ c.is_empty.ensures c.if-is_empty.false);
+      pulls = pulled c.loop.source c.next_piece.new.source piece c.loop.invariant.pulls c.next_piece.ensures.pulls
+          c.in_ok-bytes.ensures.bytes (has_some piece _ c.is_empty.ensures c.if-is_empty.false);
       stays = λ failed. c.next_piece.ensures.stays (c.loop.invariant.stays failed);
     }
 
@@ -67,26 +71,30 @@ pub returns-clause-err : goal.returns-clause-err
 returns-clause-err g c =
     let t = c.loop.invariant.given.0 in
     copied _ _ t _ _ (Err Endless) c.loop.invariant.given.1 c.loop.invariant.given.4
-    (endless_given _ _ t c.loop.reader c.loop.counter c.loop.invariant.given.1 c.loop.invariant.given.2 c.loop.invariant.fine c.loop.invariant.given.3 (let over = c.loop-test.false in omega arith))
+    (endless_given _ _ t c.loop.reader c.loop.counter c.loop.invariant.given.1 c.loop.invariant.given.2
+    c.loop.invariant.fine c.loop.invariant.given.3 (let over = c.loop-test.false in omega arith))
 
 pub returns-in_err-bytes-clause-err : goal.returns-in_err-bytes-clause-err
 returns-in_err-bytes-clause-err g c =
     handed_on _ _ _ c.from_residual.ensures
-    (failed_copy _ _ _ c.loop.invariant.given.0 _ _ c.in_err-bytes.field-0.0 c.loop.reader c.loop.invariant.given.1 c.in_err-bytes.ensures.unread
+    (failed_copy _ _ _ c.loop.invariant.given.0 _ _ c.in_err-bytes.field-0.0 c.loop.reader c.loop.invariant.given.1
+    c.in_err-bytes.ensures.unread
     c.loop.invariant.given.4 c.loop.invariant.given.2 c.loop.invariant.fine c.in_err-bytes.ensures.refusal)
 
 pub returns-in_err-bytes-clause-left : goal.returns-in_err-bytes-clause-left
 returns-in_err-bytes-clause-left g c = record {
   read = λ read. c.in_err-bytes.ensures.err;
   stays = λ failed. c.next_piece.ensures.stays (c.loop.invariant.stays failed);
-  pulls = pulled_on c.loop.invariant.given.0 c.loop.reader c.loop.invariant.pulls c.loop.invariant.given.1 c.loop.invariant.given.2 c.loop.invariant.fine c.next_piece.ensures.pulls;
+  pulls = pulled_on c.loop.invariant.given.0 c.loop.reader c.loop.invariant.pulls c.loop.invariant.given.1
+      c.loop.invariant.given.2 c.loop.invariant.fine c.next_piece.ensures.pulls;
 }
 
 pub returns-then-is_empty-clause-left : goal.returns-then-is_empty-clause-left
 returns-then-is_empty-clause-left g c = record {
   read = λ is. cc;
   stays = λ failed. c.next_piece.ensures.stays (c.loop.invariant.stays failed);
-  pulls = pulled_on c.loop.invariant.given.0 c.loop.reader c.loop.invariant.pulls c.loop.invariant.given.1 c.loop.invariant.given.2 c.loop.invariant.fine c.next_piece.ensures.pulls;
+  pulls = pulled_on c.loop.invariant.given.0 c.loop.reader c.loop.invariant.pulls c.loop.invariant.given.1
+      c.loop.invariant.given.2 c.loop.invariant.fine c.next_piece.ensures.pulls;
 }
 
 pub returns-in_err-keep_piece-clause-left : goal.returns-in_err-keep_piece-clause-left
@@ -95,7 +103,8 @@ returns-in_err-keep_piece-clause-left g c = record {
       handed_other _ _ c.from_residual-in_err-keep_piece.ensures
       (λ read. (let memory = c.in_err-keep_piece.ensures.memory in cc));
   stays = λ failed. c.next_piece.ensures.stays (c.loop.invariant.stays failed);
-  pulls = pulled_on c.loop.invariant.given.0 c.loop.reader c.loop.invariant.pulls c.loop.invariant.given.1 c.loop.invariant.given.2 c.loop.invariant.fine c.next_piece.ensures.pulls;
+  pulls = pulled_on c.loop.invariant.given.0 c.loop.reader c.loop.invariant.pulls c.loop.invariant.given.1
+      c.loop.invariant.given.2 c.loop.invariant.fine c.next_piece.ensures.pulls;
 }
 
 pub returns-in_err-feed-clause-left : goal.returns-in_err-feed-clause-left
@@ -104,7 +113,8 @@ returns-in_err-feed-clause-left g c = record {
       handed_other _ _ c.from_residual-in_err-feed.ensures
       (refused_unread _ _ _ (c.in_err-feed.ensures.fed c.loop.invariant.given.0 c.loop.invariant.given.2));
   stays = λ failed. c.next_piece.ensures.stays (c.loop.invariant.stays failed);
-  pulls = pulled_on c.loop.invariant.given.0 c.loop.reader c.loop.invariant.pulls c.loop.invariant.given.1 c.loop.invariant.given.2 c.loop.invariant.fine c.next_piece.ensures.pulls;
+  pulls = pulled_on c.loop.invariant.given.0 c.loop.reader c.loop.invariant.pulls c.loop.invariant.given.1
+      c.loop.invariant.given.2 c.loop.invariant.fine c.next_piece.ensures.pulls;
 }
 
 pub loop-init : goal.loop-init
@@ -127,7 +137,8 @@ pub returns-clause-left : goal.returns-clause-left
 returns-clause-left g c = record {
   read = λ is. cc;
   stays = c.loop.invariant.stays;
-  pulls = pulled_so_far c.loop.invariant.given.0 c.loop.reader c.loop.invariant.pulls c.loop.invariant.given.1 c.loop.invariant.given.2 c.loop.invariant.fine;
+  pulls = pulled_so_far c.loop.invariant.given.0 c.loop.reader c.loop.invariant.pulls c.loop.invariant.given.1
+      c.loop.invariant.given.2 c.loop.invariant.fine;
 }
 
 pub returns-in_err-keep_piece-clause-prefix : goal.returns-in_err-keep_piece-clause-prefix

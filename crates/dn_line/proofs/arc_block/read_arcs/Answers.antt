@@ -32,5 +32,6 @@ returns-clause-arcs c =
     let i : c.loop-i.i ≡ 16 = (let most = c.loop-i.auto.i-end in let over = c.loop-i-test.false in omega arith) in (
       c.loop-i.rest.now,
       subst
-          (λ n. ReadUpTo c.args.kind c.args.bytes.now (take n c.loop-i.arcs) c.loop-i.rest.now) i c.loop-i.invariant.arcs,
+          (λ n. ReadUpTo c.args.kind c.args.bytes.now (take n c.loop-i.arcs) c.loop-i.rest.now) i
+          c.loop-i.invariant.arcs,
     )

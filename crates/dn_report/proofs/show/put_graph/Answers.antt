@@ -16,9 +16,11 @@ returns-in_err-put_lines g c =
 
 pub returns-in_err-put : goal.returns-in_err-put
 returns-in_err-put g c =
-    let start = ap (λ l. concat c.args.head.now ++ l) (table_text g.B.PairLine.words (g.B.Bundle.bundle.listed One) c.args.table.now c.len.result c.count_line.result c.count_line.ensures c.len.ensures) in
+    let start = ap (λ l. concat c.args.head.now ++ l) (table_text g.B.PairLine.words (g.B.Bundle.bundle.listed One)
+    c.args.table.now c.len.result c.count_line.result c.count_line.ensures c.len.ensures) in
     stopped c.from_residual-in_err-put.result c.from_residual-in_err-put.ensures.0
-    (put_stop c.count_line.result (text_of (listed_rows g.B.PairLine.words (g.B.Bundle.bundle.listed One) c.args.table.now))
+    (put_stop c.count_line.result (text_of (listed_rows g.B.PairLine.words (g.B.Bundle.bundle.listed One)
+    c.args.table.now))
     (put_more (put_from start) c.in_ok-put_lines.ensures) c.in_err-put.ensures)
 
 pub returns : goal.returns
@@ -27,6 +29,7 @@ returns g c =
     let all =
     concat c.args.head.now ++ text_of
     (table_rows g.B.PairLine.words (g.B.Bundle.bundle.listed One) c.args.table.now) in
-    let start = ap (λ l. concat c.args.head.now ++ l) (table_text g.B.PairLine.words (g.B.Bundle.bundle.listed One) c.args.table.now c.len.result c.count_line.result c.count_line.ensures c.len.ensures) in
+    let start = ap (λ l. concat c.args.head.now ++ l) (table_text g.B.PairLine.words (g.B.Bundle.bundle.listed One)
+    c.args.table.now c.len.result c.count_line.result c.count_line.ensures c.len.ensures) in
     put_last g.K.Sink.sink c.args.sink.now c.put.new.sink c.put_pairs.new.sink rows all c.put_pairs.result
     (put_more (put_more (put_from start) c.in_ok-put_lines.ensures) c.in_ok-put.ensures) c.put_pairs.ensures

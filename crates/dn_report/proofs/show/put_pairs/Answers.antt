@@ -18,7 +18,9 @@ loop-pair-preserved g c =
     let all = text_of (listed_rows g.B.PairLine.words (g.B.Bundle.bundle.listed One) c.args.table.now) in
     put_more
     (subst (λ l. HasPut g.K.Sink.sink c.args.sink.now c.loop-pair.sink l all)
-    (pair_next g.B.PairLine.words (g.B.Bundle.bundle.listed One) c.loop-pair.pair-iterator c.next.new.self (c.in-Some.pair, c.in-Some.bundle.now) c.make_line.new.line c.in-Some.ensures.steps c.make_line.ensures) c.loop-pair.invariant)
+    (pair_next g.B.PairLine.words (g.B.Bundle.bundle.listed One) c.loop-pair.pair-iterator c.next.new.self
+    (c.in-Some.pair, c.in-Some.bundle.now) c.make_line.new.line c.in-Some.ensures.steps c.make_line.ensures)
+    c.loop-pair.invariant)
     c.in_ok-put.ensures
 
 pub returns-in_err-put : goal.returns-in_err-put
@@ -27,5 +29,7 @@ returns-in_err-put g c =
     stopped c.from_residual.result c.from_residual.ensures.0
     (put_stop _ _
     (subst (λ l. HasPut g.K.Sink.sink c.args.sink.now c.loop-pair.sink l all)
-    (pair_next g.B.PairLine.words (g.B.Bundle.bundle.listed One) c.loop-pair.pair-iterator c.next.new.self (c.in-Some.pair, c.in-Some.bundle.now) c.make_line.new.line c.in-Some.ensures.steps c.make_line.ensures) c.loop-pair.invariant)
+    (pair_next g.B.PairLine.words (g.B.Bundle.bundle.listed One) c.loop-pair.pair-iterator c.next.new.self
+    (c.in-Some.pair, c.in-Some.bundle.now) c.make_line.new.line c.in-Some.ensures.steps c.make_line.ensures)
+    c.loop-pair.invariant)
     c.in_err-put.ensures)

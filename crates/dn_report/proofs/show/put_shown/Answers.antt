@@ -18,5 +18,9 @@ returns-in_err-put_held-clause-text g c =
 pub returns-clause-text : goal.returns-clause-text
 returns-clause-text g c =
     let h = parsed c.args.held.now in
-    let all = text_of (held_rows h) in
-    (all, put_last g.K.Sink.sink c.args.sink.now c.put_held.new.sink c.put_and_flush.new.sink [] all c.put_and_flush.result c.in_ok-put_held.ensures c.put_and_flush.ensures.puts, held_shown h)
+    let all = text_of (held_rows h) in (
+      all,
+      put_last g.K.Sink.sink c.args.sink.now c.put_held.new.sink c.put_and_flush.new.sink [] all
+          c.put_and_flush.result c.in_ok-put_held.ensures c.put_and_flush.ensures.puts,
+      held_shown h,
+    )

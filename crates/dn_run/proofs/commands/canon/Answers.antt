@@ -35,10 +35,12 @@ returns-in-Err-written g c =
         means =
             subst (λ a. OnText (PutsCanon c.args.form) (λ _. Never) (IsRefusedCanon c.args.form text) text out a)
             (sym c.unwritten.ensures)
-            (canon_unwritten text out c.in-Ok.held c.args.form c.in-Ok.ensures.read refusal c.in-Err-written.ensures.refusal c.in-Err-written.ensures.canon);
+            (canon_unwritten text out c.in-Ok.held c.args.form c.in-Ok.ensures.read refusal
+            c.in-Err-written.ensures.refusal c.in-Err-written.ensures.canon);
       };
       out_after = subst (OutAfter out) (sym c.unwritten.ensures)
-          (canon_after g.O.Sink.sink c.args.out.now c.write_canon-written.new.sink c.args.name.now refusal c.in-Err-written.ensures.after);
+          (canon_after g.O.Sink.sink c.args.out.now c.write_canon-written.new.sink c.args.name.now refusal
+          c.in-Err-written.ensures.after);
       answers = subst (IsAnswerTo (Canon c.args.name.now c.args.form)) (sym c.unwritten.ensures)
           (unwritten_answers c.args.form c.args.name.now refusal c.in-Err-written.ensures.refusal);
       flushed = tt;

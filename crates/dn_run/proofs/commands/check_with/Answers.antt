@@ -15,7 +15,8 @@ returns-in-Ok-fits g c = record {
         inr (let first = held_read _ _ c.in-Ok.graph c.in-Ok.ensures.read in
         record { handed = first.0; read = first.1; asks = c.in-Ok-read_named.ensures.asks });
     means = fits _ _ _ c.in-Ok.graph c.in-Ok.ensures.read c.in-Ok-read_named.held
-        (before_first (files_run g.F.Files.files g.F.Text.Source.source (c.args.files.now, c.read_named.new.files)) c.copy_named.new.files c.args.name.now c.args.companion.now c.in-Ok.ensures.asks.keeps c.requires
+        (before_first (files_run g.F.Files.files g.F.Text.Source.source (c.args.files.now, c.read_named.new.files))
+        c.copy_named.new.files c.args.name.now c.args.companion.now c.in-Ok.ensures.asks.keeps c.requires
         (Ok c.in-Ok-read_named.held) c.in-Ok-read_named.ensures.read)
         c.copy_named.new.copy.items c.deref.result.now c.deref.ensures.value c.in-Ok.ensures.copy c.in-Ok.ensures.copied
         (sym c.in-Ok-fits.ensures) c.kind-with.result c.kind-with.ensures
@@ -35,7 +36,8 @@ returns-in-Ok g c = record {
         inr (let first = held_read _ _ c.in-Ok.graph c.in-Ok.ensures.read in
         record { handed = first.0; read = first.1; asks = c.in-Err-read_named.ensures.asks });
     means = fit_refused _ _ _ c.in-Ok.graph c.in-Ok.ensures.read c.in-Err-read_named.refusal
-        (before_first (files_run g.F.Files.files g.F.Text.Source.source (c.args.files.now, c.read_named.new.files)) c.copy_named.new.files c.args.name.now c.args.companion.now c.in-Ok.ensures.asks.keeps c.requires
+        (before_first (files_run g.F.Files.files g.F.Text.Source.source (c.args.files.now, c.read_named.new.files))
+        c.copy_named.new.files c.args.name.now c.args.companion.now c.in-Ok.ensures.asks.keeps c.requires
         (Err c.in-Err-read_named.refusal) c.in-Err-read_named.ensures.read);
   };
   out_after = refl;
@@ -65,7 +67,8 @@ returns-in-Ok-read_named g c = record {
         inr (let first = held_read _ _ c.in-Ok.graph c.in-Ok.ensures.read in
         record { handed = first.0; read = first.1; asks = c.in-Ok-read_named.ensures.asks });
     means = unfit _ _ _ c.in-Ok.graph c.in-Ok.ensures.read c.in-Ok-read_named.held
-        (before_first (files_run g.F.Files.files g.F.Text.Source.source (c.args.files.now, c.read_named.new.files)) c.copy_named.new.files c.args.name.now c.args.companion.now c.in-Ok.ensures.asks.keeps c.requires
+        (before_first (files_run g.F.Files.files g.F.Text.Source.source (c.args.files.now, c.read_named.new.files))
+        c.copy_named.new.files c.args.name.now c.args.companion.now c.in-Ok.ensures.asks.keeps c.requires
         (Ok c.in-Ok-read_named.held) c.in-Ok-read_named.ensures.read)
         c.in-Err-fits.fault (sym c.in-Err-fits.ensures);
   };

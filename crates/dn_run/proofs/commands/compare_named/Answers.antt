@@ -15,7 +15,9 @@ returns-in-Ok-read_named g c = record {
         inr (let first = held_read _ _ c.in-Ok.one c.in-Ok.ensures.read in
         record { handed = first.0; read = first.1; asks = c.in-Ok-read_named.ensures.asks });
     means = compared _ _ _ c.in-Ok.one c.in-Ok.ensures.read c.in-Ok-read_named.other
-        (before_first (files_run g.F.Files.files g.F.Text.Source.source (c.args.files.now, c.read_named-in-Ok.new.files)) c.read_named.new.files c.args.left.now c.args.right.now c.in-Ok.ensures.asks.keeps c.requires
+        (before_first (files_run g.F.Files.files g.F.Text.Source.source
+        (c.args.files.now, c.read_named-in-Ok.new.files)) c.read_named.new.files c.args.left.now c.args.right.now
+        c.in-Ok.ensures.asks.keeps c.requires
         (Ok c.in-Ok-read_named.other) c.in-Ok-read_named.ensures.read)
         _ c.put_compared-found.ensures.found c.put_compared-found.ensures.puts;
   };
@@ -33,7 +35,9 @@ returns-in-Err-read_named g c = record {
         inr (let first = held_read _ _ c.in-Ok.one c.in-Ok.ensures.read in
         record { handed = first.0; read = first.1; asks = c.in-Err-read_named.ensures.asks });
     means = compare_refused _ _ _ c.in-Ok.one c.in-Ok.ensures.read c.in-Err-read_named.refusal
-        (before_first (files_run g.F.Files.files g.F.Text.Source.source (c.args.files.now, c.read_named-in-Ok.new.files)) c.read_named.new.files c.args.left.now c.args.right.now c.in-Ok.ensures.asks.keeps c.requires
+        (before_first (files_run g.F.Files.files g.F.Text.Source.source
+        (c.args.files.now, c.read_named-in-Ok.new.files)) c.read_named.new.files c.args.left.now c.args.right.now
+        c.in-Ok.ensures.asks.keeps c.requires
         (Err c.in-Err-read_named.refusal) c.in-Err-read_named.ensures.read);
   };
   out_after = refl;

@@ -6,11 +6,11 @@ use Rattle.dn_run.proofs.commands.show.Goals as goal
 pub returns-in-Ok-put : goal.returns-in-Ok-put
 returns-in-Ok-put g c = record {
   performs = (
-      let viewed = c.in-Ok-put.ensures.text in
+      let text = c.in-Ok-put.ensures.text in
       record {
         asks = c.in-Ok.ensures.asks;
         means =
-            shown_done _ _ c.in-Ok.held c.in-Ok.ensures.read viewed.0 viewed.2 viewed.1;
+            shown_done _ _ c.in-Ok.held c.in-Ok.ensures.read text.0 text.2 text.1;
       }
       );
   out_after = c.in-Ok-put.ensures.text.1.fine;
@@ -21,11 +21,11 @@ returns-in-Ok-put g c = record {
 pub returns-in-Err-put : goal.returns-in-Err-put
 returns-in-Err-put g c = record {
   performs = (
-      let viewed = c.in-Err-put.ensures.text in
+      let text = c.in-Err-put.ensures.text in
       record {
         asks = c.in-Ok.ensures.asks;
         means =
-            shown_cut _ _ c.in-Ok.held c.in-Ok.ensures.read viewed.0 viewed.2 viewed.1;
+            shown_cut _ _ c.in-Ok.held c.in-Ok.ensures.read text.0 text.2 text.1;
       }
       );
   out_after = c.in-Err-put.ensures.text.1.failed;

@@ -5,7 +5,8 @@ pub returns-in-Ok-clause-read : goal.returns-in-Ok-clause-read
 returns-in-Ok-clause-read g c =
     handed_copies _ c.read_keep.new.source
     (record { first = c.in-Ok.text; handed = c.in-Ok.ensures.hands; pulled = c.read_keep.ensures.left.pulls })
-    c.in-Ok.ensures.ok _ _ _ c.read_keep.result c.requires c.in-Ok.ensures.text c.read_keep.ensures.outcome c.read_keep.ensures.left.read c.read_keep.ensures.held
+    c.in-Ok.ensures.ok _ _ _ c.read_keep.result c.requires c.in-Ok.ensures.text c.read_keep.ensures.outcome
+    c.read_keep.ensures.left.read c.read_keep.ensures.held
 
 pub returns-in-Ok-clause-copy : goal.returns-in-Ok-clause-copy
 returns-in-Ok-clause-copy g c fine =

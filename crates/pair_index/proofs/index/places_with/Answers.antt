@@ -8,7 +8,8 @@ use Rattle.pair_index.proofs.index.places_with.Goals as goal
 
 pub loop-i-preserved : goal.loop-i-preserved
 loop-i-preserved g c =
-    places_on c.args.entries.now c.loop-i.i c.index-entries-i.result c.loop-i.places c.insert.new.self c.loop-i-test.true c.loop-i.invariant
+    places_on c.args.entries.now c.loop-i.i c.index-entries-i.result c.loop-i.places c.insert.new.self
+    c.loop-i-test.true c.loop-i.invariant
     (λ q. c.in_ok-insert.ensures.updates.0 q)
 
 pub returns : goal.returns

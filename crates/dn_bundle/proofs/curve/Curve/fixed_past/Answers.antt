@@ -26,7 +26,9 @@ pub overflow_add-cost : goal.overflow_add-cost
 overflow_add-cost c = next_fits c.in-Two.cost (search rules) c.in-Two.ensures.next
 
 pub returns-then-past-cost-3 : goal.returns-then-past-cost-3
-returns-then-past-cost-3 c = ap Some c.fixed_at-then-past-cost-3.ensures ∙ past_second c.args.past.now c.in-Two.cost (search rules) (search rules) c.in-Two.units c.in-Two.above _ c.in-Two.ensures.value c.if-past-cost-2.false c.if-past-cost-3.true c.in-Two.ensures.next (search rules)
+returns-then-past-cost-3 c = ap Some c.fixed_at-then-past-cost-3.ensures ∙ past_second c.args.past.now c.in-Two.cost
+    (search rules) (search rules) c.in-Two.units c.in-Two.above _ c.in-Two.ensures.value c.if-past-cost-2.false
+    c.if-past-cost-3.true c.in-Two.ensures.next (search rules)
 
 pub returns-else-past-cost-3 : goal.returns-else-past-cost-3
 returns-else-past-cost-3 c =

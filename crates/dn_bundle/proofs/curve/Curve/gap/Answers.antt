@@ -22,7 +22,14 @@ returns-then-left-right c =
     let k : FitsSigned w128 rc = search rules in
     let s : IsSound l lc self.total self.steps = rw (c.units-left.ensures, c.cost-left_cost.ensures) self.sound in
     let o : IsSound r rc other.total other.steps = rw (c.units-right.ensures, c.cost-right_cost.ensures) other.sound in
-    rw (to_z-of_z w64 l f, to_z-of_z w128 lc h, ← c.units-left.ensures, ← c.cost-left_cost.ensures, ← c.units-right.ensures, ← c.cost-right_cost.ensures)
+    rw (
+      to_z-of_z w64 l f,
+      to_z-of_z w128 lc h,
+      ← c.units-left.ensures,
+      ← c.cost-left_cost.ensures,
+      ← c.units-right.ensures,
+      ← c.cost-right_cost.ensures,
+    )
     (left_gap l lc self.total self.steps s r rc other.total other.steps o (less l r f g c.if-left-right.true))
 
 pub returns-then-right-left : goal.returns-then-right-left
@@ -39,7 +46,14 @@ returns-then-right-left c =
     let k : FitsSigned w128 rc = search rules in
     let s : IsSound l lc self.total self.steps = rw (c.units-left.ensures, c.cost-left_cost.ensures) self.sound in
     let o : IsSound r rc other.total other.steps = rw (c.units-right.ensures, c.cost-right_cost.ensures) other.sound in
-    rw (to_z-of_z w64 r g, to_z-of_z w128 rc k, ← c.units-left.ensures, ← c.cost-left_cost.ensures, ← c.units-right.ensures, ← c.cost-right_cost.ensures)
+    rw (
+      to_z-of_z w64 r g,
+      to_z-of_z w128 rc k,
+      ← c.units-left.ensures,
+      ← c.cost-left_cost.ensures,
+      ← c.units-right.ensures,
+      ← c.cost-right_cost.ensures,
+    )
     (right_gap l lc self.total self.steps s r rc other.total other.steps o (less r l g f c.if-right-left.true))
 
 pub returns-then-left_cost-right_cost : goal.returns-then-left_cost-right_cost
@@ -56,7 +70,15 @@ returns-then-left_cost-right_cost c =
     let k : FitsSigned w128 rc = search rules in
     let s : IsSound l lc self.total self.steps = rw (c.units-left.ensures, c.cost-left_cost.ensures) self.sound in
     let o : IsSound r rc other.total other.steps = rw (c.units-right.ensures, c.cost-right_cost.ensures) other.sound in
-    rw (to_z-of_z w64 l f, to_z-of_z w128 lc h, to_z-of_z w128 rc k, ← c.units-left.ensures, ← c.cost-left_cost.ensures, ← c.units-right.ensures, ← c.cost-right_cost.ensures)
+    rw (
+      to_z-of_z w64 l f,
+      to_z-of_z w128 lc h,
+      to_z-of_z w128 rc k,
+      ← c.units-left.ensures,
+      ← c.cost-left_cost.ensures,
+      ← c.units-right.ensures,
+      ← c.cost-right_cost.ensures,
+    )
     (cost_gap l lc self.total self.steps s r rc other.total other.steps o
     (not_apart l r f g c.if-left-right.false c.if-right-left.false)
     (λ e. c.if-left_cost-right_cost.true (ap (of_z w128) e)))

@@ -77,6 +77,9 @@ returns-else-rest-eq0 c =
     let fe : FitsSigned w64 c.floor-each.result.0 = search rules in
     let fr : FitsSigned w64 c.floor-each.result.1 = search rules in
     record {
-      value = rw (← c.units-units.ensures, ← c.cost-cost.ensures) (two_fixed units cost c.floor-each.result.0 c.floor-each.result.1 fu fe fr some c.if-units-eq0.false floor c.if-rest-eq0.false);
-      next = each_below units cost c.floor-each.result.0 c.floor-each.result.1 fu fe fr some c.if-units-eq0.false floor mean c.if-rest-eq0.false;
+      value = rw (← c.units-units.ensures, ← c.cost-cost.ensures)
+          (two_fixed units cost c.floor-each.result.0 c.floor-each.result.1 fu fe fr some c.if-units-eq0.false floor
+          c.if-rest-eq0.false);
+      next = each_below units cost c.floor-each.result.0 c.floor-each.result.1 fu fe fr some c.if-units-eq0.false floor
+          mean c.if-rest-eq0.false;
     }

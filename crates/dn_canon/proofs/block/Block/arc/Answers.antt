@@ -9,5 +9,6 @@ returns g c =
     let first = take_more_set c.self.inside.bytes c.self.inside.used 97 (omega arith) in
     line_added c.args.self.now _ _ _ 97 (c.args.pair.now.0 ∷ c.args.pair.now.1 ∷ g.P.Parts.numbers c.args.arc.now)
     (first ∙ ap (λ l. l ++ 97 ∷ []) c.self.view_is)
-    (pair_then _ _ _ _ c.args.pair.now.0 c.args.pair.now.1 (g.P.Parts.numbers c.args.arc.now) c.put_spaced-tail_end.ensures.text c.put_spaced-head_end.ensures.text c.put_parts-end.ensures.text)
+    (pair_then _ _ _ _ c.args.pair.now.0 c.args.pair.now.1 (g.P.Parts.numbers c.args.arc.now)
+    c.put_spaced-tail_end.ensures.text c.put_spaced-head_end.ensures.text c.put_parts-end.ensures.text)
     (take_more_set c.put_parts-end.new.bytes c.put_parts-end.result 10 (omega arith))

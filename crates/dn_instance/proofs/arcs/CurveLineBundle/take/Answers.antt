@@ -57,10 +57,14 @@ returns-clause-stands c signs before t =
         → OnOk r
         (TableLists costs (λ b. listed One b.units b.cost b.steps) c.take_arc.new.table
         (arcs_of cost_arc_in before ++ placed ∷ []))
-        → OnOk r (TableHolds costs cost_arc_in (λ b. listed One b.units b.cost b.steps) c.take_arc.new.table (before ++ MinArc c.args.arc.now.src c.args.arc.now.dst c.args.arc.now.low c.args.arc.now.cap c.args.arc.now.cost ∷ []))
+        → OnOk r (TableHolds costs cost_arc_in (λ b. listed One b.units b.cost b.steps) c.take_arc.new.table
+        (before ++ MinArc c.args.arc.now.src c.args.arc.now.dst c.args.arc.now.low c.args.arc.now.cap
+        c.args.arc.now.cost ∷ []))
     by_result (Err e) ans ok = tt
     by_result (Ok x) ans ok =
-        table_grown costs cost_arc_in _ c.take_arc.new.table before _ placed (cost_grown before c.args.arc.now.src c.args.arc.now.dst c.args.arc.now.low c.args.arc.now.cap c.args.arc.now.cost) t.are_arcs
+        table_grown costs cost_arc_in _ c.take_arc.new.table before _ placed
+        (cost_grown before c.args.arc.now.src c.args.arc.now.dst c.args.arc.now.low c.args.arc.now.cap
+        c.args.arc.now.cost) t.are_arcs
         ((is_cost_arc c.args.arc.now.low c.args.arc.now.cap c.args.arc.now.cost signs.0).0
         (taken_arc c.args.nodes.now before _ placed ans))
         ok

@@ -36,7 +36,9 @@ pub returns-in-Some-Some : goal.returns-in-Some-Some
 returns-in-Some-Some c nodes items h =
     let source : FitsSigned w64 c.in-Some-Some.source = search rules in
     let sink : FitsSigned w64 c.in-Some-Some.sink = search rules in
-    both_named c.args.self c.in-Max.source c.in-Max.sink c.in-Max.table c.end-in-Some-Some.result c.end-in-Some-Some.ensures.rising c.end-in-Some-Some.ensures.kept c.in-Some-Some.source c.in-Some-Some.sink _ _ nodes items c.in-Max.is c.in-Some-Some.is-0 c.in-Some-Some.is-1 (to_z-of_z source) (to_z-of_z sink) h
+    both_named c.args.self c.in-Max.source c.in-Max.sink c.in-Max.table c.end-in-Some-Some.result
+    c.end-in-Some-Some.ensures.rising c.end-in-Some-Some.ensures.kept c.in-Some-Some.source c.in-Some-Some.sink _ _
+    nodes items c.in-Max.is c.in-Some-Some.is-0 c.in-Some-Some.is-1 (to_z-of_z source) (to_z-of_z sink) h
 
 pub returns-in-Sp : goal.returns-in-Sp
 returns-in-Sp c nodes items h =

@@ -25,8 +25,10 @@ returns-clause-answer c before next =
           (let fi : FitsSigned w64 w.in-Min-Supply.id = search rules in
           let ff : FitsSigned w64 w.in-Min-Supply.flow = search rules in
           let ans = simp to_z-of_z at w.take_supply.ensures.answer in
-          to_answer c.args.nodes.now c.args.self.now _ c.args.line _ c.match-self.result _ w.in-Min-Supply.is-0 w.in-Min-Supply.is-1 w.result-is
-          (supply_answer c.args.nodes.now w.in-Min-Supply.id w.in-Min-Supply.flow w.in-Min-Supply.supplies w.in-Min-Supply.idle _ w.take_supply.result ans))
+          to_answer c.args.nodes.now c.args.self.now _ c.args.line _ c.match-self.result _ w.in-Min-Supply.is-0
+          w.in-Min-Supply.is-1 w.result-is
+          (supply_answer c.args.nodes.now w.in-Min-Supply.id w.in-Min-Supply.flow w.in-Min-Supply.supplies
+          w.in-Min-Supply.idle _ w.take_supply.result ans))
       | in-Max-MaxArc w ↦
           (let e = c.numbers_of-arc.ensures.max _ _ _ w.in-Max-MaxArc.is-1 in
           to_answer c.args.nodes.now c.args.self.now _ c.args.line _ c.match-self.result _ w.in-Max-MaxArc.is-0
@@ -54,20 +56,24 @@ returns-clause-answer c before next =
       | in-Ss-Source w ↦
           (let fi : FitsSigned w64 w.in-Ss-Source.id = search rules in
           let ans = simp to_z-of_z at w.take_source.ensures.answer in
-          to_answer c.args.nodes.now c.args.self.now _ c.args.line _ c.match-self.result _ w.in-Ss-Source.is-0 w.in-Ss-Source.is-1 w.result-is
+          to_answer c.args.nodes.now c.args.self.now _ c.args.line _ c.match-self.result _ w.in-Ss-Source.is-0
+          w.in-Ss-Source.is-1 w.result-is
           (id_answer c.args.nodes.now w.in-Ss-Source.id w.in-Ss-Source.ids w.take_source.result ans))
       | in-P2p-Query w ↦
           (let fa : FitsSigned w64 w.in-P2p-Query.first = search rules in
           let fb : FitsSigned w64 w.in-P2p-Query.second = search rules in
           let ans = simp to_z-of_z at w.take_query.ensures.answer in
-          to_answer c.args.nodes.now c.args.self.now _ c.args.line _ c.match-self.result _ w.in-P2p-Query.is-0 w.in-P2p-Query.is-1 w.result-is
+          to_answer c.args.nodes.now c.args.self.now _ c.args.line _ c.match-self.result _ w.in-P2p-Query.is-0
+          w.in-P2p-Query.is-1 w.result-is
           (pair_answer c.args.nodes.now
           (w.in-P2p-Query.first, w.in-P2p-Query.second) w.in-P2p-Query.pairs w.take_query.result ans))
       | in-Co-Point w ↦
           (let fi : FitsSigned w64 w.in-Co-Point.id = search rules in
           let ans = simp to_z-of_z at w.take_point.ensures.answer in
-          to_answer c.args.nodes.now c.args.self.now _ c.args.line _ c.match-self.result _ w.in-Co-Point.is-0 w.in-Co-Point.is-1 w.result-is
-          (point_answer c.args.nodes.now w.in-Co-Point.id w.in-Co-Point.x w.in-Co-Point.y w.in-Co-Point.points w.take_point.result ans))
+          to_answer c.args.nodes.now c.args.self.now _ c.args.line _ c.match-self.result _ w.in-Co-Point.is-0
+          w.in-Co-Point.is-1 w.result-is
+          (point_answer c.args.nodes.now w.in-Co-Point.id w.in-Co-Point.x w.in-Co-Point.y w.in-Co-Point.points
+          w.take_point.result ans))
       | in_default-2 w ↦ absurd
           (no_max c.args.line
           (ap draft_kind (sym w.in_default.is-0) ∙ kind) w.in_default.not-Terminal-1 w.in_default.not-MaxArc-1)
@@ -103,8 +109,10 @@ returns-clause-holds c before next =
           let ff : FitsSigned w64 w.in-Min-Supply.flow = search rules in
           let put = simp to_z-of_z at w.take_supply.ensures.supplies in
           let kept = simp to_z-of_z at w.take_supply.ensures.idle in
-          to_stand c.args.self.now _ c.args.line _ c.match-self.self _ c.match-self.result _ w.in-Min-Supply.is-0 w.in-Min-Supply.is-1 w.self-is w.result-is
-          (supply_stand w.in-Min-Supply.id w.in-Min-Supply.flow w.in-Min-Supply.supplies w.take_supply.new.supplies w.in-Min-Supply.idle w.take_supply.new.idle _ w.take_supply.result put kept))
+          to_stand c.args.self.now _ c.args.line _ c.match-self.self _ c.match-self.result _ w.in-Min-Supply.is-0
+          w.in-Min-Supply.is-1 w.self-is w.result-is
+          (supply_stand w.in-Min-Supply.id w.in-Min-Supply.flow w.in-Min-Supply.supplies w.take_supply.new.supplies
+          w.in-Min-Supply.idle w.take_supply.new.idle _ w.take_supply.result put kept))
       | in-Max-MaxArc w ↦
           (let r = c.numbers_of-arc.result in
           let e = c.numbers_of-arc.ensures.max _ _ _ w.in-Max-MaxArc.is-1 in
@@ -133,21 +141,26 @@ returns-clause-holds c before next =
       | in-Ss-Source w ↦
           (let fi : FitsSigned w64 w.in-Ss-Source.id = search rules in
           let ok = simp to_z-of_z at w.take_source.ensures.ok in
-          to_stand c.args.self.now _ c.args.line _ c.match-self.self _ c.match-self.result _ w.in-Ss-Source.is-0 w.in-Ss-Source.is-1 w.self-is w.result-is
+          to_stand c.args.self.now _ c.args.line _ c.match-self.self _ c.match-self.result _ w.in-Ss-Source.is-0
+          w.in-Ss-Source.is-1 w.self-is w.result-is
           (id_stand w.in-Ss-Source.id w.in-Ss-Source.ids w.take_source.new.ids w.take_source.result ok))
       | in-P2p-Query w ↦
           (let fa : FitsSigned w64 w.in-P2p-Query.first = search rules in
           let fb : FitsSigned w64 w.in-P2p-Query.second = search rules in
           let ok = simp to_z-of_z at w.take_query.ensures.ok in
-          to_stand c.args.self.now _ c.args.line _ c.match-self.self _ c.match-self.result _ w.in-P2p-Query.is-0 w.in-P2p-Query.is-1 w.self-is w.result-is
-          (pair_stand (w.in-P2p-Query.first, w.in-P2p-Query.second) w.in-P2p-Query.pairs w.take_query.new.pairs w.take_query.result ok))
+          to_stand c.args.self.now _ c.args.line _ c.match-self.self _ c.match-self.result _ w.in-P2p-Query.is-0
+          w.in-P2p-Query.is-1 w.self-is w.result-is
+          (pair_stand (w.in-P2p-Query.first, w.in-P2p-Query.second) w.in-P2p-Query.pairs w.take_query.new.pairs
+          w.take_query.result ok))
       | in-Co-Point w ↦
           (let fi : FitsSigned w64 w.in-Co-Point.id = search rules in
           let fx : FitsSigned w64 w.in-Co-Point.x = search rules in
           let fy : FitsSigned w64 w.in-Co-Point.y = search rules in
           let ok = simp to_z-of_z at w.take_point.ensures.ok in
-          to_stand c.args.self.now _ c.args.line _ c.match-self.self _ c.match-self.result _ w.in-Co-Point.is-0 w.in-Co-Point.is-1 w.self-is w.result-is
-          (point_stand w.in-Co-Point.id w.in-Co-Point.x w.in-Co-Point.y w.in-Co-Point.points w.take_point.new.points w.take_point.result ok))
+          to_stand c.args.self.now _ c.args.line _ c.match-self.self _ c.match-self.result _ w.in-Co-Point.is-0
+          w.in-Co-Point.is-1 w.self-is w.result-is
+          (point_stand w.in-Co-Point.id w.in-Co-Point.x w.in-Co-Point.y w.in-Co-Point.points w.take_point.new.points
+          w.take_point.result ok))
       | in_default-2 w ↦ refused c.args.self.now c.args.line c.match-self.self c.match-self.result _ w.result-is
       | in_default-3 w ↦ refused c.args.self.now c.args.line c.match-self.self c.match-self.result _ w.result-is
       | in_default-4 w ↦ refused c.args.self.now c.args.line c.match-self.self c.match-self.result _ w.result-is
@@ -162,23 +175,46 @@ returns-clause-holds c before next =
 pub returns-clause-unchanged : goal.returns-clause-unchanged
 returns-clause-unchanged c =
     elim c.match-self.branch [
-      | in-Min-MinArc w ↦ to_keep c.args.self.now _ c.match-self.self _ c.match-self.result _ w.in-Min-MinArc.is-0 w.self-is w.result-is (keep_same _ _ w.take.result (on_err_weaker w.take.result (λ e. ap (λ t. Drafts.Min w.in-Min-MinArc.supplies-0 w.in-Min-MinArc.idle-0 t) e) w.take.ensures.err))
-      | in-Min-Supply w ↦ to_keep c.args.self.now _ c.match-self.self _ c.match-self.result _ w.in-Min-Supply.is-0 w.self-is w.result-is (supply_keep w.in-Min-Supply.supplies w.take_supply.new.supplies w.in-Min-Supply.idle w.take_supply.new.idle _ w.take_supply.result w.take_supply.ensures.err)
-      | in-Max-MaxArc w ↦ to_keep c.args.self.now _ c.match-self.self _ c.match-self.result _ w.in-Max-MaxArc.is-0 w.self-is w.result-is (cap_keep _ _ _ _ w.take-in-Max-MaxArc.result w.take-in-Max-MaxArc.ensures.err)
-      | in-Max-Terminal+in-S w ↦ to_keep c.args.self.now _ c.match-self.self _ c.match-self.result _ w.in-Max-Terminal.is-0 w.self-is w.result-is (source_keep _ _ _ _ w.take_terminal.result w.take_terminal.ensures.err)
-      | in-Max-Terminal+in-T w ↦ to_keep c.args.self.now _ c.match-self.self _ c.match-self.result _ w.in-Max-Terminal.is-0 w.self-is w.result-is (sink_keep _ _ _ _ w.take_terminal-in-T.result w.take_terminal-in-T.ensures.err)
-      | in-Sp-SpArc w ↦ to_keep c.args.self.now _ c.match-self.self _ c.match-self.result _ w.in-Sp-SpArc.is-0 w.self-is w.result-is (keep_same _ _ w.take-in-Sp-SpArc.result (on_err_weaker w.take-in-Sp-SpArc.result (λ e. ap (λ t. Drafts.Sp t) e) w.take-in-Sp-SpArc.ensures.err))
-      | in-Ss-Source w ↦ to_keep c.args.self.now _ c.match-self.self _ c.match-self.result _ w.in-Ss-Source.is-0 w.self-is w.result-is (λ before holds. on_err_weaker w.take_source.result (λ e. e ∙ holds) w.take_source.ensures.err)
-      | in-P2p-Query w ↦ to_keep c.args.self.now _ c.match-self.self _ c.match-self.result _ w.in-P2p-Query.is-0 w.self-is w.result-is (λ before holds. on_err_weaker w.take_query.result (λ e. e ∙ holds) w.take_query.ensures.err)
-      | in-Co-Point w ↦ to_keep c.args.self.now _ c.match-self.self _ c.match-self.result _ w.in-Co-Point.is-0 w.self-is w.result-is (λ before holds. on_err_weaker w.take_point.result (λ e. e ∙ holds) w.take_point.ensures.err)
-      | in_default-2 w ↦ to_keep c.args.self.now _ c.match-self.self _ c.match-self.result _ w.in_default.is-0 w.self-is w.result-is (λ before holds. holds)
-      | in_default-3 w ↦ to_keep c.args.self.now _ c.match-self.self _ c.match-self.result _ w.in_default.is-0 w.self-is w.result-is (λ before holds. holds)
-      | in_default-4 w ↦ to_keep c.args.self.now _ c.match-self.self _ c.match-self.result _ w.in_default.is-0 w.self-is w.result-is (λ before holds. holds)
-      | in_default-5 w ↦ to_keep c.args.self.now _ c.match-self.self _ c.match-self.result _ w.in_default.is-0 w.self-is w.result-is (λ before holds. holds)
+      | in-Min-MinArc w ↦ to_keep c.args.self.now _ c.match-self.self _ c.match-self.result _ w.in-Min-MinArc.is-0
+          w.self-is w.result-is (keep_same _ _ w.take.result
+          (on_err_weaker w.take.result (λ e. ap (λ t. Drafts.Min w.in-Min-MinArc.supplies-0 w.in-Min-MinArc.idle-0 t) e)
+          w.take.ensures.err))
+      | in-Min-Supply w ↦ to_keep c.args.self.now _ c.match-self.self _ c.match-self.result _ w.in-Min-Supply.is-0
+          w.self-is w.result-is (supply_keep w.in-Min-Supply.supplies w.take_supply.new.supplies w.in-Min-Supply.idle
+          w.take_supply.new.idle _ w.take_supply.result w.take_supply.ensures.err)
+      | in-Max-MaxArc w ↦ to_keep c.args.self.now _ c.match-self.self _ c.match-self.result _ w.in-Max-MaxArc.is-0
+          w.self-is w.result-is (cap_keep _ _ _ _ w.take-in-Max-MaxArc.result w.take-in-Max-MaxArc.ensures.err)
+      | in-Max-Terminal+in-S w ↦ to_keep c.args.self.now _ c.match-self.self _ c.match-self.result _
+          w.in-Max-Terminal.is-0 w.self-is w.result-is (source_keep _ _ _ _ w.take_terminal.result
+          w.take_terminal.ensures.err)
+      | in-Max-Terminal+in-T w ↦ to_keep c.args.self.now _ c.match-self.self _ c.match-self.result _
+          w.in-Max-Terminal.is-0 w.self-is w.result-is (sink_keep _ _ _ _ w.take_terminal-in-T.result
+          w.take_terminal-in-T.ensures.err)
+      | in-Sp-SpArc w ↦ to_keep c.args.self.now _ c.match-self.self _ c.match-self.result _ w.in-Sp-SpArc.is-0 w.self-is
+          w.result-is (keep_same _ _ w.take-in-Sp-SpArc.result
+          (on_err_weaker w.take-in-Sp-SpArc.result (λ e. ap (λ t. Drafts.Sp t) e) w.take-in-Sp-SpArc.ensures.err))
+      | in-Ss-Source w ↦ to_keep c.args.self.now _ c.match-self.self _ c.match-self.result _ w.in-Ss-Source.is-0
+          w.self-is w.result-is (λ before holds. on_err_weaker w.take_source.result (λ e. e ∙ holds)
+          w.take_source.ensures.err)
+      | in-P2p-Query w ↦ to_keep c.args.self.now _ c.match-self.self _ c.match-self.result _ w.in-P2p-Query.is-0
+          w.self-is w.result-is (λ before holds. on_err_weaker w.take_query.result (λ e. e ∙ holds)
+          w.take_query.ensures.err)
+      | in-Co-Point w ↦ to_keep c.args.self.now _ c.match-self.self _ c.match-self.result _ w.in-Co-Point.is-0 w.self-is
+          w.result-is (λ before holds. on_err_weaker w.take_point.result (λ e. e ∙ holds) w.take_point.ensures.err)
+      | in_default-2 w ↦ to_keep c.args.self.now _ c.match-self.self _ c.match-self.result _ w.in_default.is-0 w.self-is
+          w.result-is (λ before holds. holds)
+      | in_default-3 w ↦ to_keep c.args.self.now _ c.match-self.self _ c.match-self.result _ w.in_default.is-0 w.self-is
+          w.result-is (λ before holds. holds)
+      | in_default-4 w ↦ to_keep c.args.self.now _ c.match-self.self _ c.match-self.result _ w.in_default.is-0 w.self-is
+          w.result-is (λ before holds. holds)
+      | in_default-5 w ↦ to_keep c.args.self.now _ c.match-self.self _ c.match-self.result _ w.in_default.is-0 w.self-is
+          w.result-is (λ before holds. holds)
       | in_default-7 w ↦ to_keep c.args.self.now _ c.match-self.self _ c.match-self.result _ refl w.self-is w.result-is
           (λ before holds. holds)
-      | in_default-6 w ↦ to_keep c.args.self.now _ c.match-self.self _ c.match-self.result _ w.in_default.is-0 w.self-is w.result-is (λ before holds. holds)
-      | in_default w ↦ to_keep c.args.self.now _ c.match-self.self _ c.match-self.result _ w.in_default.is-0 w.self-is w.result-is (λ before holds. holds)
+      | in_default-6 w ↦ to_keep c.args.self.now _ c.match-self.self _ c.match-self.result _ w.in_default.is-0 w.self-is
+          w.result-is (λ before holds. holds)
+      | in_default w ↦ to_keep c.args.self.now _ c.match-self.self _ c.match-self.result _ w.in_default.is-0 w.self-is
+          w.result-is (λ before holds. holds)
     ]
 
 pub returns-clause-kept : goal.returns-clause-kept

@@ -11,7 +11,8 @@ loop-rest-init c s h = none_fed c.args.self.now s c.args.piece.now h
 pub loop-rest-preserved : goal.loop-rest-preserved
 loop-rest-preserved c s h =
     let u = c.loop-rest.invariant s h in
-    more_fed c.loop-rest.self c.take_word-rest.new.self s c.args.piece.now c.loop-rest.rest.now c.take_word-rest.result.now u (c.take_word-rest.ensures.stands (s ++ u.used) u.stands)
+    more_fed c.loop-rest.self c.take_word-rest.new.self s c.args.piece.now c.loop-rest.rest.now
+    c.take_word-rest.result.now u (c.take_word-rest.ensures.stands (s ++ u.used) u.stands)
 
 pub returns : goal.returns
 returns c l h =

@@ -13,7 +13,8 @@ use Rattle.dn_table.proofs.table_so_far.TableSoFar.add.Goals as goal
 pub invariant_of-self : goal.invariant_of-self
 invariant_of-self g c =
     indexes_kept c.self.inside.entries.items c.in-Some.i c.index_mut.result.now c.add.new.self
-    (subst (λ es. c.in-Some.i < length (keys_of es)) (sym (c.self.view_is ∙ c.place.ensures.same)) c.in-Some.ensures.place.0) c.index_mut.ensures.value c.self.inside.index c.self.invariant
+    (subst (λ es. c.in-Some.i < length (keys_of es)) (sym (c.self.view_is ∙ c.place.ensures.same))
+    c.in-Some.ensures.place.0) c.index_mut.ensures.value c.self.inside.index c.self.invariant
 
 pub add_fresh-requires-clause-none : goal.add_fresh-requires-clause-none
 add_fresh-requires-clause-none g c =
@@ -30,7 +31,8 @@ returns-in-Some-clause-ok g c =
     (λ same. subst
     (λ m. Grows g.B.Bundle.bundle.kind (g.B.Bundle.bundle.listed One) m
     (set es c.in-Some.i (c.index_mut.result.now.0, c.add.new.self)) c.args.pair c.args.arc) old
-    (grows_here c.args.pair es c.self.invariant.apart c.in-Some.i c.index_mut.result.now lt at c.index_mut.ensures.value g.B.Bundle.bundle.kind (g.B.Bundle.bundle.listed One) c.args.arc c.add.new.self same))
+    (grows_here c.args.pair es c.self.invariant.apart c.in-Some.i c.index_mut.result.now lt at c.index_mut.ensures.value
+    g.B.Bundle.bundle.kind (g.B.Bundle.bundle.listed One) c.args.arc c.add.new.self same))
     c.add.ensures.ok
 
 pub returns-in-Some-clause-err : goal.returns-in-Some-clause-err
@@ -40,7 +42,8 @@ returns-in-Some-clause-err g c =
     let lt = subst (λ xs. c.in-Some.i < length (keys_of xs)) (sym old) c.in-Some.ensures.place.0 in
     let at = subst (λ xs. key_at (keys_of xs) c.in-Some.i ≡ c.args.pair) (sym old) c.in-Some.ensures.place.1 in
     on_err_weaker c.add.result
-    (λ same. same_then c.args.pair es c.self.invariant.apart c.in-Some.i c.index_mut.result.now lt at c.index_mut.ensures.value c.add.new.self same ∙ old)
+    (λ same. same_then c.args.pair es c.self.invariant.apart c.in-Some.i c.index_mut.result.now lt at
+    c.index_mut.ensures.value c.add.new.self same ∙ old)
     c.add.ensures.err
 
 pub returns-in-Some-clause-sum : goal.returns-in-Some-clause-sum

@@ -23,7 +23,8 @@ returns-in_err-add-clause-sum g c =
 
 pub returns-then-is_nothing-clause-ok : goal.returns-then-is_nothing-clause-ok
 returns-then-is_nothing-clause-ok g c =
-    grows_none g.B.Bundle.bundle.kind (g.B.Bundle.bundle.listed One) c.args.self.now c.args.pair c.args.arc g.met.B.Bundle.laws.meaning c.empty-bundle.result c.add.new.self c.requires.none
+    grows_none g.B.Bundle.bundle.kind (g.B.Bundle.bundle.listed One) c.args.self.now c.args.pair c.args.arc
+    g.met.B.Bundle.laws.meaning c.empty-bundle.result c.add.new.self c.requires.none
     (c.empty-bundle.ensures One)
     c.in_ok-add.ensures.ok
     (c.if-is_nothing.ensures.0 refl)
@@ -42,7 +43,8 @@ pub returns-clause-ok : goal.returns-clause-ok
 returns-clause-ok g c =
     on_ok_both c.insert.result
     (λ there others.
-    grows_fresh g.B.Bundle.bundle.kind (g.B.Bundle.bundle.listed One) c.args.self.now c.insert.new.self c.args.pair c.args.arc c.empty-bundle.result c.add.new.self c.requires.none there others
+    grows_fresh g.B.Bundle.bundle.kind (g.B.Bundle.bundle.listed One) c.args.self.now c.insert.new.self c.args.pair
+    c.args.arc c.empty-bundle.result c.add.new.self c.requires.none there others
     (c.empty-bundle.ensures One)
     c.in_ok-add.ensures.ok
     (λ s. (let never : false ≡ true = c.if-is_nothing.ensures.1 s in cc)))

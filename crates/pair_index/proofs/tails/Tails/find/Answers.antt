@@ -35,7 +35,8 @@ returns-else-is_pair g c =
     let spot = c.spot-link.result in
     let in_keys =
     (sought_inside c.args.pair.now spot.before spot.after c.if-link-eq0.false c.spot-link.ensures.sought).0 in
-    nowhere_else (keys_of c.args.entries.now) c.args.pair.now spot.before spot.after c.spot-link.ensures.stops c.spot-link.ensures.sought c.if-link-eq0.false
+    nowhere_else (keys_of c.args.entries.now) c.args.pair.now spot.before spot.after c.spot-link.ensures.stops
+    c.spot-link.ensures.sought c.if-link-eq0.false
     (λ e. false≢true
     (c.if-is_pair.ensures.1
     (sym (key_of_place c.args.entries.now (spot.after - 1) c.index-entries-at.result in_keys) ∙ e)))
@@ -43,4 +44,5 @@ returns-else-is_pair g c =
 pub returns-then-link-eq0 : goal.returns-then-link-eq0
 returns-then-link-eq0 g c =
     let spot = c.spot-link.result in
-    nowhere_past (keys_of c.args.entries.now) c.args.pair.now spot.before spot.after c.spot-link.ensures.stops c.spot-link.ensures.sought c.if-link-eq0.true
+    nowhere_past (keys_of c.args.entries.now) c.args.pair.now spot.before spot.after c.spot-link.ensures.stops
+    c.spot-link.ensures.sought c.if-link-eq0.true

@@ -7,7 +7,8 @@ pub returns-then-tail-len : goal.returns-then-tail-len
 returns-then-tail-len c keys links =
     let self = c.args.self.now in
     let inside = subst (λ n. c.in-Some.tail < n) (c.len.ensures ∙ self.heads.ok.0) c.if-tail-len.true in
-    first_there self.heads.items self.next.items keys links c.in-Some.tail c.args.pair.now c.index.result.now c.in-Some.ensures inside
+    first_there self.heads.items self.next.items keys links c.in-Some.tail c.args.pair.now c.index.result.now
+    c.in-Some.ensures inside
     (get_or_read self.heads.items c.in-Some.tail c.index.result.now inside c.index.ensures 0)
 
 pub returns-else-tail-len : goal.returns-else-tail-len

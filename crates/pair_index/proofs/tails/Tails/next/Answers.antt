@@ -60,8 +60,10 @@ returns-in-Some g c =
     ∙ c.in-Some.ensures in
     least_from_tail self.heads.items self.next.items keys c.requires.linked (c.in-Some.tail + 1)
     (λ p. pair_cmp (key_at keys c.args.at) p ≡ Less) c.first_from.result
-    (λ i lt past. chain_end self.heads.items self.next.items keys c.requires.linked c.args.at c.in-Some.tail i inside none tail lt past)
-    (λ i lt from. past_tail self.heads.items self.next.items keys c.requires.linked c.args.at c.in-Some.tail i tail from)
+    (λ i lt past. chain_end self.heads.items self.next.items keys c.requires.linked c.args.at c.in-Some.tail i inside
+    none tail lt past)
+    (λ i lt from. past_tail self.heads.items self.next.items keys c.requires.linked c.args.at c.in-Some.tail i tail
+    from)
     c.first_from.ensures
 
 pub returns-in-None : goal.returns-in-None

@@ -8,19 +8,25 @@ use Rattle.dn_bundle.proofs.curve.shape.Numbers.add.Goals as goal
 pub more_cost-self-requires : goal.more_cost-self-requires
 more_cost-self-requires c =
     let old = c.args.self.now in
-    cost_fits old.units old.cost old.total old.steps c.args.arc c.args.total c.requires.sound c.requires.arc c.requires.total c.ranges.total (search rules)
+    cost_fits old.units old.cost old.total old.steps c.args.arc c.args.total c.requires.sound c.requires.arc
+    c.requires.total c.ranges.total (search rules)
 
 pub overflow_add-self : goal.overflow_add-self
 overflow_add-self c =
     let old = c.args.self.now in
-    rw (to_z-of_z w64 old.units (search rules), to_z-of_z w64 c.args.arc.low (search rules)) (units_fit old.units old.cost old.total old.steps c.args.arc c.args.total c.requires.sound c.requires.arc c.requires.total c.ranges.total)
+    rw (to_z-of_z w64 old.units (search rules), to_z-of_z w64 c.args.arc.low (search rules))
+    (units_fit old.units old.cost old.total old.steps c.args.arc c.args.total c.requires.sound c.requires.arc
+    c.requires.total c.ranges.total)
 
 pub returns-clause-ok : goal.returns-clause-ok
 returns-clause-ok c =
     let old = c.args.self.now in
     record {
-      units = units_are old.units old.cost old.total old.steps c.args.arc c.args.total c.requires.sound c.requires.arc c.requires.total c.ranges.total (search rules) (search rules);
+      units = units_are old.units old.cost old.total old.steps c.args.arc c.args.total c.requires.sound c.requires.arc
+          c.requires.total c.ranges.total (search rules) (search rules);
       cost = to_z-of_z w128 c.more_cost-self.result (search rules) ∙ c.more_cost-self.ensures;
       total = to_z-of_z w64 c.args.total c.ranges.total ∙ c.requires.total;
-      steps = c.in_ok-add.ensures.ok ∙ ap (add_step old.steps) (step_is old.units old.cost old.total old.steps c.args.arc c.args.total c.requires.sound c.requires.arc c.requires.total c.ranges.total (search rules) (search rules) (search rules));
+      steps = c.in_ok-add.ensures.ok ∙ ap (add_step old.steps)
+          (step_is old.units old.cost old.total old.steps c.args.arc c.args.total c.requires.sound c.requires.arc
+          c.requires.total c.ranges.total (search rules) (search rules) (search rules));
     }
