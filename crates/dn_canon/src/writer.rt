@@ -132,7 +132,8 @@ fn put_bundle<B: Bundle, K: Sink>(
 ) -> Result<(), SinkFault>
     requires { AreShort B.bundle.kind }
     ensures { Passes K.sink sink.old sink.new block.new
-        (block.old ++ text_of (map (arc_row B.bundle.kind) (placed pair.now (B.bundle.listed form bundle.now)))) result }
+        (block.old ++ text_of (map (arc_row B.bundle.kind)
+        (placed pair.now (B.bundle.listed form bundle.now)))) result }
 {
     let mut next = bundle.canon_arc(0, form);
     for _ in 0..bundle.canon_len(form) {

@@ -28,11 +28,11 @@ pub fn compare(left: &Held, right: &Held) -> Verdict
             right: right.nodes(),
         };
     }
-    shown_verdict(left.view(), right.view())
+    view_verdict(left.view(), right.view())
 }
 
 // Returns the verdict on two instances of the same kind and NODES.
-fn shown_verdict(left: View<'_>, right: View<'_>) -> Verdict
+fn view_verdict(left: View<'_>, right: View<'_>) -> Verdict
     requires { contents_kind (viewed left) ≡ contents_kind (viewed right) }
     ensures { IsVerdictOn (viewed left.entry) (viewed right.entry) result }
 {

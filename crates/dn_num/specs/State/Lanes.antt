@@ -1,4 +1,4 @@
--- The number that a list of digit values represents.
+-- The number that a list of digit values represents, and the short number at a position.
 use Rattle.std.specs.Prelude.{◌≡◌, ℕ, ◌+◌, ◌*◌, ◌^◌, pos, List, [], ◌∷◌, length, drop, take, Ok}
 use Rattle.dn_num.specs.Number.{number_read}
 use Rattle.dn_num.specs.declared.short.Short.{Short}

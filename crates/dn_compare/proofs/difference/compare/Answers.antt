@@ -30,4 +30,4 @@ pub returns : goal.returns
 returns c I J x y p q =
     let nodes : (parsed c.args.left.now).nodes ≡ (parsed c.args.right.now).nodes = search rules in
     held_on (parsed c.args.left.now) (parsed c.args.right.now) I J p q (viewed c.view.result)
-    (viewed c.view-2.result) c.shown_verdict.result c.shown_verdict.ensures c.view.ensures c.view-2.ensures nodes x y
+    (viewed c.view-2.result) c.view_verdict.result c.view_verdict.ensures c.view.ensures c.view-2.ensures nodes x y

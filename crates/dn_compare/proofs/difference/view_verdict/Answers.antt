@@ -3,7 +3,7 @@ use Rattle.std.specs.Int.RustNames.{FitsSigned}
 use Rattle.std.proofs.lemmas.Int.{to_z-of_z}
 use Rattle.dn_instance.specs.State.Helds.{Contents, OfMin, OfMax, OfSp, OfSs, OfP2p, OfCo, viewed}
 use Rattle.dn_compare.proofs.HeldVerdicts.{shown_on, sp_on, ss_on, p2p_on}
-use Rattle.dn_compare.proofs.difference.shown_verdict.Goals as goal
+use Rattle.dn_compare.proofs.difference.view_verdict.Goals as goal
 
 pub returns-in-Min-Min : goal.returns-in-Min-Min
 returns-in-Min-Min c =
