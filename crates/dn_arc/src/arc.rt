@@ -17,7 +17,7 @@ pub trait Parts: Copy {
 }
 
 /// An arc with a length (Ninth DIMACS Challenge: `a U V W`).
-#[derive(Clone, Copy, Debug, PartialEq, Eq)]
+#[derive(Clone, Copy, PartialEq, Eq)]
 pub struct LengthArc {
     pub length: i64,
 }
@@ -35,7 +35,7 @@ impl Parts for LengthArc {
 }
 
 /// An arc with a capacity (First DIMACS Challenge, `max`: `a SRC DST CAP`).
-#[derive(Clone, Copy, Debug, PartialEq, Eq)]
+#[derive(Clone, Copy, PartialEq, Eq)]
 pub struct CapArc {
     pub cap: i64,
 }
@@ -53,7 +53,7 @@ impl Parts for CapArc {
 }
 
 /// An arc with a lower bound, a capacity and a cost per unit (First DIMACS Challenge, `min`: `a SRC DST LOW CAP COST`).
-#[derive(Clone, Copy, Debug, PartialEq, Eq)]
+#[derive(Clone, Copy, PartialEq, Eq)]
 pub struct CostArc {
     pub low: i64,
     pub cap: i64,
@@ -77,7 +77,7 @@ impl Parts for CostArc {
 }
 
 /// The two canonical forms, which differ only for `min` (this project's profile).
-#[derive(Clone, Copy, Debug, PartialEq, Eq)]
+#[derive(Clone, Copy, PartialEq, Eq)]
 pub enum Form {
     /// Fixed arcs come first, and then free arcs by ascending cost.
     One,

@@ -2,7 +2,7 @@
 
 /// The least amount at which two cost curves differ, and the least cost of this amount on each side. A cost is `None`
 /// if the amount cannot be split.
-#[derive(Clone, Copy, Debug, PartialEq, Eq)]
+#[derive(Clone, Copy, PartialEq, Eq)]
 pub struct Gap {
     pub amount: i64,
     pub left: Option<i128>,
@@ -10,7 +10,7 @@ pub struct Gap {
 }
 
 /// How the arcs of one ordered pair differ in meaning.
-#[derive(Clone, Copy, Debug, PartialEq, Eq)]
+#[derive(Clone, Copy, PartialEq, Eq)]
 pub enum How {
     /// The least lengths. A length is `None` if there is no arc.
     Lengths {

@@ -28,12 +28,13 @@ pub(crate) struct Block {
 
 impl Model for Block {
     ghost use Rattle.std.specs.Prelude.{ℕ, ◌≤◌, List, take};
+    ghost use Rattle.dn_canon.specs.declared.block.TheConstants.{SIZE};
 
     ghost Value = { List ℕ };
 
     ghost view = { λ b. take b.used b.bytes };
 
-    ghost invariant = { λ b. b.used ≤ 8192 };
+    ghost invariant = { λ b. b.used ≤ SIZE };
 }
 
 impl Block {
@@ -49,7 +50,7 @@ impl Block {
 
     // Appends a byte.
     pub(crate) fn byte(&mut self, byte: u8)
-        requires { length self.old < 8192 }
+        requires { length self.old < SIZE }
         ensures { self.new ≡ self.old ++ byte ∷ [] }
     {
         self.bytes[self.used] = byte;
@@ -58,7 +59,7 @@ impl Block {
 
     // Appends bytes.
     pub(crate) fn push(&mut self, bytes: &[u8])
-        requires { length self.old + length bytes.now ≤ 8192 }
+        requires { length self.old + length bytes.now ≤ SIZE }
         ensures { self.new ≡ self.old ++ bytes.now }
     {
         self.bytes[self.used..self.used + bytes.len()].copy_from_slice(bytes);
@@ -67,7 +68,7 @@ impl Block {
 
     // Appends a space and a number.
     pub(crate) fn number(&mut self, number: &i64)
-        requires { length self.old + 26 ≤ 8192 }
+        requires { length self.old + 26 ≤ SIZE }
         ensures text { self.new ≡ self.old ++ 32 ∷ signed_decimal number.now }
         ensures within { length self.new ≤ length self.old + 21 }
     {
@@ -126,7 +127,7 @@ impl Block {
 // Writes a space and a number at this position, and returns the position after them.
 #[inline(always)]
 fn put_spaced(bytes: &mut [u8; SIZE], at: usize, number: &i64) -> usize
-    requires { at + 26 ≤ 8192 }
+    requires { at + 26 ≤ SIZE }
     ensures text { take result bytes.new ≡ take at bytes.old ++ 32 ∷ signed_decimal number.now }
     ensures within { result ≤ at + 21 }
 {
@@ -137,7 +138,7 @@ fn put_spaced(bytes: &mut [u8; SIZE], at: usize, number: &i64) -> usize
 // Writes numbers at this position, each after a space, and returns the position after them.
 #[inline(always)]
 fn put_numbers(bytes: &mut [u8; SIZE], at: usize, numbers: &[i64]) -> usize
-    requires { at + 21 * length numbers.now + 5 ≤ 8192 }
+    requires { at + 21 * length numbers.now + 5 ≤ SIZE }
     ensures text { take result bytes.new ≡ take at bytes.old ++ spaced (map signed_decimal numbers.now) }
     ensures within { result ≤ at + 21 * length numbers.now }
 {
@@ -151,7 +152,7 @@ fn put_numbers(bytes: &mut [u8; SIZE], at: usize, numbers: &[i64]) -> usize
 // Writes the numbers of an arc at this position, each after a space, and returns the position after them.
 #[inline(always)]
 fn put_parts<P: Parts>(bytes: &mut [u8; SIZE], at: usize, arc: &P) -> usize
-    requires { at + 21 * length (P.numbers arc.now) + 5 ≤ 8192 }
+    requires { at + 21 * length (P.numbers arc.now) + 5 ≤ SIZE }
     ensures text { take result bytes.new ≡ take at bytes.old ++ spaced (map signed_decimal (P.numbers arc.now)) }
     ensures within { result ≤ at + 21 * length (P.numbers arc.now) }
 {

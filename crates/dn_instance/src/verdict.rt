@@ -7,7 +7,7 @@ use dn_line::Kind;
 
 /// The first difference between two instances, in the order of the variants. `left` and `right` are the values of the
 /// left and the right instance; they differ.
-#[derive(Clone, Copy, Debug, PartialEq, Eq)]
+#[derive(Clone, Copy)]
 pub enum Verdict {
     /// The instances are the same problem.
     Same,

@@ -40,12 +40,13 @@ pub struct ArcBlock {
 impl Model for ArcBlock {
     ghost use Rattle.std.specs.Prelude.{◌≤◌, List, take};
     ghost use Rattle.dn_line.specs.declared.arc_block.ArcLine.{ArcLine};
+    ghost use Rattle.dn_line.specs.declared.arc_block.TheConstants.{BLOCK};
 
     ghost Value = { List ArcLine };
 
     ghost view = { λ b. take b.len b.arcs };
 
-    ghost invariant = { λ b. b.len ≤ 16 };
+    ghost invariant = { λ b. b.len ≤ BLOCK };
 }
 
 impl ArcBlock {
@@ -67,10 +68,10 @@ impl ArcBlock {
         self.len = read_arcs(kind, bytes, &mut self.arcs);
     }
 
-    /// Returns the arcs of the block, at most 16.
+    /// Returns the arcs of the block, at most `BLOCK`.
     pub fn arcs(&self) -> &[ArcLine]
         ensures arcs { result.now ≡ self.now }
-        ensures few { length result.now ≤ 16 }
+        ensures few { length result.now ≤ BLOCK }
     {
         &self.arcs[..self.len]
     }
@@ -79,7 +80,7 @@ impl ArcBlock {
 // Reads the arcs at the beginning of these bytes, and returns their count.
 fn read_arcs(kind: Kind, bytes: &[u8], arcs: &mut [ArcLine; BLOCK]) -> usize
     ensures arcs { BeginWithArcs kind bytes.now (take result arcs.new) }
-    ensures within { result ≤ 16 }
+    ensures within { result ≤ BLOCK }
 {
     let mut rest = bytes;
     for i in 0..BLOCK {

@@ -7,7 +7,7 @@ use crate::piece::{after, is_blank};
 use dn_num::{number_front, short_number};
 
 /// The numbers of an arc's line. A number that lines of its kind do not have is 0.
-#[derive(Clone, Copy, Debug, PartialEq, Eq)]
+#[derive(Clone, Copy, PartialEq, Eq)]
 pub struct PlainArc {
     /// The tail.
     pub src: i64,

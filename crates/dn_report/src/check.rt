@@ -9,7 +9,7 @@ use dn_line::Kind;
 use dn_sink::{LineBuffer, Sink, SinkFault, put_and_flush};
 
 /// The forms in which a text is the canonical text of what it reads as.
-#[derive(Clone, Copy, Debug, PartialEq, Eq)]
+#[derive(Clone, Copy)]
 pub struct Forms {
     /// Whether it is in form 1.
     pub one: bool,

@@ -61,7 +61,8 @@ pub fn put_unfit_line<K: Sink>(
     }
 }
 
-// Puts the name of a text, a colon, the number and the name of a fault, a node, and an LF.
+// Puts the name of a text, a colon, the number and the name of a fault, a node, and an LF. The pieces are parameters
+// here and below, since the borrow checker asks for one lifetime of all references in an array.
 fn put_node_fault<K: Sink>(
     sink: &mut K,
     name: &[u8],

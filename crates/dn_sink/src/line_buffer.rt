@@ -19,18 +19,19 @@ pub struct LineBuffer {
 
 impl Model for LineBuffer {
     ghost use Rattle.std.specs.Prelude.{ℕ, ◌≤◌, List, take};
+    ghost use Rattle.dn_sink.specs.declared.line_buffer.TheConstants.{ROOM};
 
     ghost Value = { List ℕ };
 
     ghost view = { λ l. take l.used l.bytes };
 
-    ghost invariant = { λ l. l.used ≤ 192 };
+    ghost invariant = { λ l. l.used ≤ ROOM };
 }
 
 impl LineBuffer {
     /// Returns a line that begins with this word.
     pub fn new(word: &[u8]) -> LineBuffer
-        requires { length word.now ≤ 192 }
+        requires { length word.now ≤ ROOM }
         ensures { result ≡ word.now }
     {
         let mut line = LineBuffer {
@@ -43,7 +44,7 @@ impl LineBuffer {
 
     /// Clears the line, and begins another with this word.
     pub fn begin(&mut self, word: &[u8])
-        requires { length word.now ≤ 192 }
+        requires { length word.now ≤ ROOM }
         ensures { self.new ≡ word.now }
     {
         self.used = 0;
@@ -52,7 +53,7 @@ impl LineBuffer {
 
     /// Appends a space and a word.
     pub fn word(&mut self, word: &[u8])
-        requires { length self.old + length word.now < 192 }
+        requires { length self.old + length word.now < ROOM }
         ensures { self.new ≡ self.old ++ 32 ∷ word.now }
     {
         self.byte(b' ');
@@ -61,7 +62,7 @@ impl LineBuffer {
 
     /// Appends a space and a number: 2 to 21 bytes.
     pub fn number(&mut self, number: &i64)
-        requires { length self.old + 21 ≤ 192 }
+        requires { length self.old + 21 ≤ ROOM }
         ensures text { self.new ≡ self.old ++ 32 ∷ signed_decimal number.now }
         ensures within { length self.new ≤ length self.old + 21 }
     {
@@ -71,7 +72,7 @@ impl LineBuffer {
 
     /// Appends a space and a count: 2 to 21 bytes.
     pub fn count(&mut self, count: u64)
-        requires { length self.old + 21 ≤ 192 }
+        requires { length self.old + 21 ≤ ROOM }
         ensures text { self.new ≡ self.old ++ 32 ∷ signed_decimal (pos count) }
         ensures within { length self.new ≤ length self.old + 21 }
     {
@@ -81,7 +82,7 @@ impl LineBuffer {
 
     /// Appends a space and a number of 128 bits: 2 to 41 bytes.
     pub fn wide_number(&mut self, number: &i128)
-        requires { length self.old + 41 ≤ 192 }
+        requires { length self.old + 41 ≤ ROOM }
         ensures text { self.new ≡ self.old ++ 32 ∷ signed_decimal number.now }
         ensures within { length self.new ≤ length self.old + 41 }
     {
@@ -91,7 +92,7 @@ impl LineBuffer {
 
     /// Appends an LF, which ends the line.
     pub fn newline(&mut self)
-        requires { length self.old < 192 }
+        requires { length self.old < ROOM }
         ensures { self.new ≡ self.old ++ 10 ∷ [] }
     {
         self.byte(b'\n');
@@ -110,7 +111,7 @@ impl LineBuffer {
 
     // Appends a byte.
     fn byte(&mut self, byte: u8)
-        requires { length self.old < 192 }
+        requires { length self.old < ROOM }
         ensures { self.new ≡ self.old ++ byte ∷ [] }
     {
         self.bytes[self.used] = byte;
@@ -119,7 +120,7 @@ impl LineBuffer {
 
     // Appends bytes.
     fn push(&mut self, bytes: &[u8])
-        requires { length self.old + length bytes.now ≤ 192 }
+        requires { length self.old + length bytes.now ≤ ROOM }
         ensures { self.new ≡ self.old ++ bytes.now }
     {
         self.bytes[self.used..self.used + bytes.len()].copy_from_slice(bytes);

@@ -1,14 +1,15 @@
 -- A block, which gathers the lines of a text before a sink takes them.
 use Rattle.std.specs.Prelude.{ℕ, ◌+◌, ◌≤◌, List, length, MatchResult}
 use Rattle.std.specs.declared.result.Result.{Result}
+use Rattle.dn_canon.specs.declared.block.TheConstants.{LINE, SIZE}
 use Rattle.dn_sink.specs.declared.sink.SinkFault.{SinkFault}
 use Rattle.dn_sink.specs.Sinks.{SinkWords}
 use Rattle.dn_sink.specs.Puts.{HasPut, PutsPrefix}
 
--- another line fits into the block: it takes at most 128 bytes, including those that writing its last number may
+-- another line fits into the block: it takes at most LINE bytes, including those that writing its last number may
 -- overwrite
 abbrev pub HasRoom : List ℕ → Type 0
-HasRoom block = length block + 128 ≤ 8192
+HasRoom block = length block + LINE ≤ SIZE
 
 -- on `Ok` the sink took the whole text except what the block now holds; on a fault it took a prefix of the text, and
 -- has failed
