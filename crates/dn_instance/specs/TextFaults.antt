@@ -78,12 +78,12 @@ ids_in (Item.Query first second) = first ∷ second ∷ []
 ids_in (Item.Point id x y) = id ∷ []
 ids_in _ = []
 
--- texts of this kind are companions
+-- texts of this kind are companions: all but `min`, `max` and `sp`
 abbrev pub is_companion : Kind → Bool
-is_companion Kinds.Ss = true
-is_companion Kinds.P2p = true
-is_companion Kinds.Co = true
-is_companion _ = false
+is_companion Kinds.Min = false
+is_companion Kinds.Max = false
+is_companion Kinds.Sp = false
+is_companion _ = true
 
 -- an ID is in range if it is from 1 to NODES, or in a companion if it is at least 1; without a problem line, no ID is
 -- in range

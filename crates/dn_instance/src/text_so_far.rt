@@ -273,7 +273,7 @@ fn first_arcs<'a>(arcs: &'a [ArcLine], most: &i64) -> &'a [ArcLine]
 fn is_companion(kind: &Kind) -> bool
     ensures { result ≡ is_companion kind.now }
 {
-    matches!(kind, Kind::Ss | Kind::P2p | Kind::Co)
+    !matches!(kind, Kind::Min | Kind::Max | Kind::Sp)
 }
 
 // Whether ARCS or K counts the line.

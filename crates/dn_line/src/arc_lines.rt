@@ -284,6 +284,6 @@ fn arc_before(kind: Kind, bytes: &[u8]) -> Option<ArcBefore<'_>>
         Kind::Min => cost_arc(bytes),
         Kind::Max => cap_arc(bytes),
         Kind::Sp => length_arc(bytes),
-        Kind::Ss | Kind::P2p | Kind::Co => None,
+        _ => None,
     }
 }

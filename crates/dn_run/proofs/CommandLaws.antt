@@ -1,5 +1,5 @@
 -- Lemmas on how each command ends.
-use Rattle.std.proofs.Common.{◌≡◌, ◌≢◌, ◌⊎◌, codes, ℕ, List, [], Option, Some, None, Result, Ok, Err, IfSome, refl, sym, ◌∙◌, subst, inr}
+use Rattle.std.proofs.Common.{◌≡◌, ◌≢◌, codes, ℕ, List, [], Option, Some, None, Result, Ok, Err, IfSome, refl, sym, ◌∙◌, subst, inr}
 use Rattle.dn_line.specs.declared.kind.Kind.{Kind}
 use Rattle.dn_arc.specs.declared.arc.Form.{Form}
 use Rattle.dn_instance.specs.State.Companions.{judged}
@@ -23,7 +23,7 @@ use Rattle.dn_run.specs.Answers.{Answer, Done, Refused, Unfit, Cut, IsAnswerTo, 
 use Rattle.dn_run.specs.State.Answers.{unwritten}
 use Rattle.dn_run.specs.FilesRuns.{FilesRun, text_asked}
 use Rattle.dn_run.specs.State.Findings.{IsFound, PutsFinding}
-use Rattle.dn_run.specs.Outcomes.{IsRefusedAs, OnText, OnTwoTexts, RanOn}
+use Rattle.dn_run.specs.Outcomes.{OnText, OnTwoTexts, RanOn}
 use Rattle.dn_run.specs.Runs.{Never, PutsCanon, PutsChecked, PutsCompared, PutsFit, PutsShown, Unfits}
 use Rattle.dn_run.specs.Streams.{SinkRun, sink_run}
 use Rattle.dn_run.specs.Takings.{KeepsOthers}

@@ -7,7 +7,6 @@ use Rattle.dn_instance.specs.declared.refusal.Refusal.TheVariants.{Text, Write, 
 use Rattle.dn_command.specs.Commands.{Asked, Show, Check, Canon, Compare}
 use Rattle.dn_report.specs.FaultLines.{fault_line, unfit_line}
 use Rattle.dn_run.specs.Streams.{SinkRun, TakesLine}
-use Rattle.dn_run.specs.declared.stop.Stop.TheVariants as Stops
 
 -- how a command has ended
 pub data Answer : Type 0 where

@@ -78,7 +78,7 @@ fn forms_of(held: &Held, text: &[u8]) -> Forms
     let one = is_canon_of(held, text, Form::One);
     let two = match held.kind() {
         Kind::Min => is_canon_of(held, text, Form::Two),
-        Kind::Max | Kind::Sp | Kind::Ss | Kind::P2p | Kind::Co => one,
+        _ => one,
     };
     Forms { one, two }
 }

@@ -1,7 +1,7 @@
 -- Number texts as relations. Both Challenges write whole numbers in decimal (First DIMACS Challenge, network flow
 -- format; Ninth DIMACS Challenge, shortest-path formats). The optional sign, leading zeros and the range are this
 -- project's profile.
-use Rattle.std.specs.Prelude.{◌≡◌, ◌≢◌, ℕ, ◌+◌, ◌-◌, List, [], ◌∷◌, ◌++◌, length, Bool, false, nat_eq, codes, ℤ, pos, ◌<ℤ◌, IsTrue}
+use Rattle.std.specs.Prelude.{◌≡◌, ◌≢◌, ℕ, List, [], ◌∷◌, ◌++◌, length, Bool, false, nat_eq, codes, ℤ, pos, ◌<ℤ◌, IsTrue}
 use Rattle.std.proofs.Common.{neg_ℤ}
 use Rattle.dn_num.specs.Number.{digits_number, is_digits}
 

@@ -7,7 +7,6 @@ use Rattle.dn_instance.specs.Texts.{Reads}
 use Rattle.dn_instance.specs.declared.held.Held.{Held}
 use Rattle.dn_instance.specs.declared.refusal.Refusal.{Refusal}
 use Rattle.dn_instance.specs.declared.refusal.Refusal.TheVariants.{Read}
-use Rattle.dn_run.specs.declared.files.FilesFault.TheVariants as Files
 use Rattle.dn_run.specs.Texts.{AskedText, HasFailed, unopened}
 
 -- what reading the text b returns: a parsed instance that represents the instance that b reads as, or a reason to
