@@ -34,7 +34,6 @@ front_lines given rest =
 -- if a text was refused because memory ran out, memory ran out at a line of the last piece, or at the last line
 pub ran_out : (t : List ℕ) (new : Option (List ℕ)) → StopsAt t new Memory → RanOut t new
 ran_out t new (inl s) =
-    let all = s.before ++ s.piece in
     record {
       before = s.before;
       piece = s.piece;
@@ -42,9 +41,7 @@ ran_out t new (inl s) =
       whole = s.whole;
       rest_is = subst (λ o. IfSome o (λ left. left ≡ s.rest)) (sym s.rest_is) refl;
       short = s.short;
-      wants =
-          refused_on (length (ended s.before)) (length (ended s.before)) (ended all) (lines all) Memory (omega arith)
-          (lines_more all) s.refused;
+      wants = inl s.refused;
     }
 ran_out t new (inr s) = record {
   before = t;
@@ -53,7 +50,7 @@ ran_out t new (inr s) = record {
   whole = sym (append-nil t);
   rest_is = nothing_left new s.at_end;
   short = omega arith;
-  wants = subst (λ x. WantsMemory (length (ended t)) (lines x)) (sym (append-nil t)) s.refused;
+  wants = inr (refl, subst (λ x. WantsMemory (length (ended t)) (lines x)) (sym (append-nil t)) s.refused);
 }
   where
     nothing_left : (o : Option (List ℕ)) → IsAtEnd o → IfSome o (λ left. left ≡ [])
@@ -255,13 +252,13 @@ copied (Some t) (Some rest) given old_copy new_copy r c k h =
 
 -- the outcome if memory runs out for the copy of a piece
 pub uncopied : (old mid new : Option (List ℕ)) (given piece old_copy new_copy : List ℕ) (e : Refusal) (r : Reader)
-    → Consumes old mid given → Consumes mid new piece → 0 < length piece → new_copy ≡ old_copy ++ given
-    → ReaderAt r given → r.refusal ≡ None → e ≡ Memory
+    → Consumes old mid given → Consumes mid new piece → 0 < length piece → length piece ≤ 2 ^ 12
+    → new_copy ≡ old_copy ++ given → ReaderAt r given → r.refusal ≡ None → e ≡ Memory
     → IfSome old (λ t. CopyOutcome t new old_copy new_copy (Err e))
-uncopied None mid new given piece old_copy new_copy e r c d l k s none memory = tt
-uncopied (Some t) None new given piece old_copy new_copy e r c d l k s none memory = absurd c
-uncopied (Some t) (Some both) None given piece old_copy new_copy e r c d l k s none memory = absurd d
-uncopied (Some t) (Some both) (Some rest) given piece old_copy new_copy e r c d l k s none memory =
+uncopied None mid new given piece old_copy new_copy e r c d l b k s none memory = tt
+uncopied (Some t) None new given piece old_copy new_copy e r c d l b k s none memory = absurd c
+uncopied (Some t) (Some both) None given piece old_copy new_copy e r c d l b k s none memory = absurd d
+uncopied (Some t) (Some both) (Some rest) given piece old_copy new_copy e r c d l b k s none memory =
     subst (λ x. CopyOutcome t (Some rest) old_copy new_copy (Err x)) (sym memory) (inr (record {
       given = given;
       piece = piece;
@@ -269,6 +266,7 @@ uncopied (Some t) (Some both) (Some rest) given piece old_copy new_copy e r c d 
       whole = c ∙ ap (λ l. given ++ l) d;
       rest_is = refl;
       some = l;
+      short = b;
       copy = k;
       clean = (reading r given none s).read.clean;
     }))

@@ -1,5 +1,5 @@
 -- How far reading goes through a source, and which refusals it returns (this project's profile).
-use Rattle.std.specs.Prelude.{◌≡◌, ◌⊎◌, ℕ, ◌<◌, ◌≤◌, ◌^◌, List, ◌++◌, length, Option, Some, IfSome}
+use Rattle.std.specs.Prelude.{◌≡◌, ◌⊎◌, ℕ, ◌<◌, ◌≤◌, ◌^◌, List, [], ◌++◌, length, Option, Some, IfSome}
 use Rattle.std.specs.Io.KnownBytes.{Consumes}
 use Rattle.dn_line.specs.Pieces.{lines}
 use Rattle.dn_line.specs.Sources.{SourceWords}
@@ -19,7 +19,7 @@ pub record CleanSoFar (t : List ℕ) (new : Option (List ℕ)) : Type 0 where
 
 -- of the text t, the source has given `before`, and then a piece of at most 2^12 bytes; if its bytes are known, it
 -- still gives the rest. Memory ran out at a line that was not complete before this piece and is not skipped; neither it
--- nor an earlier line has a fault
+-- nor an earlier line has a fault. The line is complete now, or it is the last one, and nothing is left of the text
 pub record RanOut (t : List ℕ) (new : Option (List ℕ)) : Type 0 where
   pub before : List ℕ
   pub piece : List ℕ
@@ -27,7 +27,8 @@ pub record RanOut (t : List ℕ) (new : Option (List ℕ)) : Type 0 where
   pub whole : t ≡ before ++ (piece ++ rest)
   pub rest_is : IfSome new (λ left. left ≡ rest)
   pub short : length piece ≤ 2 ^ 12
-  pub wants : WantsMemory (length (ended before)) (lines (before ++ piece))
+  pub wants : WantsMemory (length (ended before)) (ended (before ++ piece))
+      ⊎ ((rest ≡ []) × WantsMemory (length (ended before)) (lines (before ++ piece)))
 
 -- pulls changed the source from `old` to this state, and each of them gave at least one byte, if the bytes of the
 -- source are known

@@ -46,8 +46,18 @@ module _ {T : Type 0} (text : AskedText T) where
     copies_as b copy (Err Memory) (inl h) read =
         inl (record { source = source; comes = comes; ran_out = ran_out b (text.source.gives source) h.0 })
     copies_as b copy (Err Memory) (inr l) read =
-        inr (record
-        { given = l.given; piece = l.piece; rest = l.rest; whole = l.whole; some = l.some; clean = l.clean })
+        inr (record {
+          source = source;
+          comes = comes;
+          given = l.given;
+          piece = l.piece;
+          rest = l.rest;
+          whole = l.whole;
+          rest_is = l.rest_is;
+          some = l.some;
+          short = l.short;
+          clean = l.clean;
+        })
     copies_as b copy (Err Read) h read = (record { source = source; comes = comes; failed = read refl }, h.0)
     copies_as b copy (Err Endless) ((c, many), copied) read =
         record { source = source; comes = comes; clean = c; many = many }

@@ -1,5 +1,5 @@
 -- A text that a run asks for, and why it is refused (this project's profile).
-use Rattle.std.specs.Prelude.{◌≡◌, ◌⊎◌, ℕ, ◌<◌, ◌≤◌, ◌^◌, List, ◌++◌, length, Option, IsTrue}
+use Rattle.std.specs.Prelude.{◌≡◌, ◌⊎◌, ℕ, ◌<◌, ◌≤◌, ◌^◌, List, ◌++◌, length, Option, Some, IsTrue}
 use Rattle.dn_line.specs.Sources.{SourceWords}
 use Rattle.dn_arc.specs.declared.arc.Form.{Form}
 use Rattle.dn_instance.specs.Instances.{Instance}
@@ -47,8 +47,8 @@ pub record IsEndless {T : Type 0} (text : AskedText T) (b : List ℕ) : Type 0 w
   pub clean : CleanSoFar b (text.source.gives source)
   pub many : 2 ^ 40 ≤ length clean.given
 
--- memory ran out at a line of the text b that is not skipped and had not ended before the last piece that the source
--- gave. Neither this line nor an earlier one has a fault
+-- memory ran out at a line of the text b that is not skipped and had not ended before some piece that the source gave.
+-- Neither this line nor an earlier one has a fault
 pub record IsOutOfMemory {T : Type 0} (text : AskedText T) (b : List ℕ) : Type 0 where
   pub source : T
   pub comes : ComesOf text source
@@ -70,20 +70,24 @@ abbrev pub IsRefusedCanon : {T : Type 0} → Form → AskedText T → List ℕ �
 IsRefusedCanon form text b CountTooLarge = (I : Instance) × Reads b I × IsTooLarge form I
 IsRefusedCanon form text b refusal = IsRefusedText text b refusal
 
--- memory ran out for the copy of a non-empty piece of the text b, and no line that ends with an LF before that piece
--- has a fault
-pub record LacksCopy (b : List ℕ) : Type 0 where
+-- memory ran out for the copy of a piece of the text b, of 1 to 2^12 bytes, after which the source still gives the rest.
+-- No line that ends with an LF before that piece has a fault
+pub record LacksCopy {T : Type 0} (text : AskedText T) (b : List ℕ) : Type 0 where
+  pub source : T
+  pub comes : ComesOf text source
   pub given : List ℕ
   pub piece : List ℕ
   pub rest : List ℕ
   pub whole : b ≡ given ++ (piece ++ rest)
+  pub rest_is : text.source.gives source ≡ Some rest
   pub some : 0 < length piece
+  pub short : length piece ≤ 2 ^ 12
   pub clean : IsClean (ended given)
 
 -- this is a reason to refuse the text b when it is read and copied: a reason of reading, or that memory ran out for the
 -- copy
 abbrev pub IsRefusedCopy : {T : Type 0} → AskedText T → List ℕ → Refusal → Type 0
-IsRefusedCopy text b Memory = IsOutOfMemory text b ⊎ LacksCopy b
+IsRefusedCopy text b Memory = IsOutOfMemory text b ⊎ LacksCopy text b
 IsRefusedCopy text b refusal = IsRefusedText text b refusal
 
 -- the reason to refuse a text that the files do not hand out: `Read` if it could not be opened, and `Memory` if memory

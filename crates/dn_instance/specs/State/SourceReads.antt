@@ -73,8 +73,8 @@ pub record Copied (t : List ℕ) (new : Option (List ℕ)) (old_copy new_copy : 
   pub rest_is : new ≡ Some rest
   pub copy : new_copy ≡ old_copy ++ given
 
--- of the text t, the source has given bytes that the copy has gained, and then a piece of at least one byte that the
--- copy has not gained; it still gives the rest. No complete line of the bytes before this piece has a fault
+-- of the text t, the source has given bytes that the copy has gained, and then a piece of 1 to 2^12 bytes that the copy
+-- has not gained; it still gives the rest. No complete line of the bytes before this piece has a fault
 pub record LacksRoom (t : List ℕ) (new : Option (List ℕ)) (old_copy new_copy : List ℕ) : Type 0 where
   pub given : List ℕ
   pub piece : List ℕ
@@ -82,6 +82,7 @@ pub record LacksRoom (t : List ℕ) (new : Option (List ℕ)) (old_copy new_copy
   pub whole : t ≡ given ++ (piece ++ rest)
   pub rest_is : new ≡ Some rest
   pub some : 0 < length piece
+  pub short : length piece ≤ 2 ^ 12
   pub copy : new_copy ≡ old_copy ++ given
   pub clean : IsClean (ended given)
 

@@ -22,11 +22,12 @@ returns-then-is_empty-clause-ok g c =
 
 pub returns-in_err-keep_piece-clause-err : goal.returns-in_err-keep_piece-clause-err
 returns-in_err-keep_piece-clause-err g c =
+    let room : length c.loop.room ≡ 4096 = search rules in
     handed_on _ _ _ c.from_residual-in_err-keep_piece.ensures
     (uncopied _ _ _ c.loop.invariant.given.0 c.in_ok-bytes.bytes.now _ _ c.in_err-keep_piece.field-0.0 c.loop.reader
     c.loop.invariant.given.1 c.in_ok-bytes.ensures.bytes
     (has_some c.in_ok-bytes.bytes.now _ c.is_empty.ensures c.if-is_empty.false)
-    (c.in_err-keep_piece.ensures.err
+    (subst (λ n. length c.in_ok-bytes.bytes.now ≤ n) room c.in_ok-bytes.ensures.bound) (c.in_err-keep_piece.ensures.err
     ∙ c.loop.invariant.given.4) c.loop.invariant.given.2 c.loop.invariant.fine c.in_err-keep_piece.ensures.memory)
 
 pub returns-in_err-feed-clause-err : goal.returns-in_err-feed-clause-err
