@@ -70,28 +70,41 @@ fn streams_that_fail_once(rt: HostRuntime) {
     );
 }
 
-// Texts of one problem: one that is not canonical, the canonical one, the canonical one without its last LF, and the
-// canonical one with a comment.
-const TEXTS: [&str; 4] = [
-    ROADS,
-    ROADS_CANON,
-    "p sp 3 5\na 1 2 3\na 2 1 4\na 2 2 0\na 2 3 9\na 3 1 -5",
-    "p sp 3 5\na 1 2 3\na 2 1 4\na 2 2 0\na 2 3 9\na 3 1 -5\nc\n",
+// A text of a problem, another text, a form, and whether the other text is the canonical one of the problem in this
+// form.
+const JUDGED: [(&str, &str, Form, bool); 6] = [
+    (ROADS, ROADS, Form::One, false),
+    (ROADS, ROADS_CANON, Form::One, true),
+    // Without its last LF.
+    (
+        ROADS,
+        "p sp 3 5\na 1 2 3\na 2 1 4\na 2 2 0\na 2 3 9\na 3 1 -5",
+        Form::One,
+        false,
+    ),
+    // With a comment.
+    (
+        ROADS,
+        "p sp 3 5\na 1 2 3\na 2 1 4\na 2 2 0\na 2 3 9\na 3 1 -5\nc\n",
+        Form::One,
+        false,
+    ),
+    (COSTS, COSTS_ONE, Form::One, true),
+    (COSTS, COSTS_ONE, Form::Two, false),
 ];
 
-// Judges these texts, and, in each form, a `min` text that is canonical in form 1.
-fn judged(alloc: Global) -> Result<([bool; 4], [bool; 2]), Refusal> {
-    let roads = read_text(alloc, ROADS.as_bytes())?;
-    let texts = TEXTS.map(|it| is_canon_of(&roads, it.as_bytes(), Form::One));
-    drop(roads);
-    let costs = read_text(alloc, COSTS.as_bytes())?;
-    let forms = [Form::One, Form::Two].map(|form| is_canon_of(&costs, COSTS_ONE.as_bytes(), form));
-    drop(costs);
-    Ok((texts, forms))
+// Whether a text is the canonical one, in this form, of the problem in another.
+fn is_canonical(alloc: Global, problem: &str, text: &str, form: Form) -> Result<bool, Refusal> {
+    let held = read_text(alloc, problem.as_bytes())?;
+    let is_canonical = is_canon_of(&held, text.as_bytes(), form);
+    drop(held);
+    Ok(is_canonical)
 }
 
 #[test]
 fn judging(rt: HostRuntime) {
-    let right = ([false, true, false, false], [true, false]);
-    assert!(rt; judged(rt.alloc()) == Ok(right));
+    for (problem, text, form, answer) in &JUDGED {
+        let is_judged = is_canonical(rt.alloc(), problem, text, *form) == Ok(*answer);
+        assert!(rt; is_judged, "{text}");
+    }
 }

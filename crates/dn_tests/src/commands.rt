@@ -25,22 +25,22 @@ pub(crate) fn owned(alloc: Global, line: &str) -> Result<Vec<String>, AllocError
 
 // Returns a command in the notation of the tables.
 fn command_text(alloc: Global, command: &Command<'_>) -> Result<String, AllocError> {
-    match command {
-        Command::Show { name } => format!(in alloc; "show [{name}]"),
-        Command::Check { name, with: None } => format!(in alloc; "check [{name}]"),
-        Command::Check {
-            name,
-            with: Some(with),
-        } => format!(in alloc; "check [{name}] with [{with}]"),
+    let (word, first, second) = match *command {
+        Command::Show { name } => ("show", name, None),
+        Command::Check { name, with } => ("check", name, with),
         Command::Canon {
             name,
             form: Form::One,
-        } => format!(in alloc; "canon 1 [{name}]"),
+        } => ("canon 1", name, None),
         Command::Canon {
             name,
             form: Form::Two,
-        } => format!(in alloc; "canon 2 [{name}]"),
-        Command::Compare { left, right } => format!(in alloc; "compare [{left}] [{right}]"),
+        } => ("canon 2", name, None),
+        Command::Compare { left, right } => ("compare", left, Some(right)),
+    };
+    match second {
+        None => format!(in alloc; "{word} [{first}]"),
+        Some(second) => format!(in alloc; "{word} [{first}] [{second}]"),
     }
 }
 
@@ -63,6 +63,9 @@ fn is_read(alloc: Global, line: &str, wanted: &str) -> Result<bool, AllocError> 
     Ok(text.as_str() == wanted)
 }
 
+// Command lines, by subject.
+const LINES: [&[(&str, &str)]; 4] = [&FILES, &OPTIONS, &HELP, &OTHERS];
+
 // Returns the first line that asks for something else.
 fn first_other(alloc: Global, lines: &[(&'static str, &str)]) -> Option<&'static str> {
     for (line, wanted) in lines {
@@ -74,23 +77,10 @@ fn first_other(alloc: Global, lines: &[(&'static str, &str)]) -> Option<&'static
 }
 
 #[test]
-fn names_of_files(rt: HostRuntime) {
-    assert_eq!(rt; first_other(rt.alloc(), &FILES), None);
-}
-
-#[test]
-fn options(rt: HostRuntime) {
-    assert_eq!(rt; first_other(rt.alloc(), &OPTIONS), None);
-}
-
-#[test]
-fn calls_for_help(rt: HostRuntime) {
-    assert_eq!(rt; first_other(rt.alloc(), &HELP), None);
-}
-
-#[test]
-fn other_words(rt: HostRuntime) {
-    assert_eq!(rt; first_other(rt.alloc(), &OTHERS), None);
+fn command_lines(rt: HostRuntime) {
+    for lines in &LINES {
+        assert_eq!(rt; first_other(rt.alloc(), lines), None);
+    }
 }
 
 #[test]

@@ -162,21 +162,20 @@ const COLLIDING: [(i64, i64); 28] = [
     (6, 616),
 ];
 
-// Pairs that rise, pairs that fall among near nodes, pairs with the same number `4 * tail + head`, and pairs that lie
-// far apart.
+// Multiples that rise, that fall among near nodes, that have the same number `4 * tail + head`, and that lie far apart,
+// and how their pairs are found at the end.
+const MULTIPLES: [(i64, i64, &str); 4] = [
+    (1, 5, "in order"),
+    (-1, 0, "scattered"),
+    (-1, 4, "scattered"),
+    (i64::MIN + 1, i64::MAX - 3, "scattered"),
+];
+
 #[test]
 fn finds_multiples(rt: HostRuntime) {
-    for (tail, head, way) in [
-        (1, 5, "in order"),
-        (-1, 0, "scattered"),
-        (-1, 4, "scattered"),
-        (i64::MIN + 1, i64::MAX - 3, "scattered"),
-    ] {
-        assert_eq!(rt;
-            way_to_find_multiples(rt.alloc(), tail, head),
-            Ok(way),
-            "multiples of {tail} and {head}"
-        );
+    for (tail, head, way) in &MULTIPLES {
+        let found = way_to_find_multiples(rt.alloc(), *tail, *head);
+        assert!(rt; found == Ok(*way), "multiples of {tail} and {head}");
     }
 }
 

@@ -305,7 +305,7 @@ fn tells_entries(reader: &mut Reader, lines: &[(&str, u64)]) -> bool {
 
 #[test]
 fn entries_line_by_line(rt: HostRuntime) {
-    for lines in ENTRIES {
+    for lines in &ENTRIES {
         let mut reader = Reader::new(rt.alloc());
         let told = tells_entries(&mut reader, lines);
         drop(reader);

@@ -464,20 +464,20 @@ const NOT_PLAIN: [(Kind, &str); 9] = [
 
 #[test]
 fn plain_arcs(rt: HostRuntime) {
-    for (kind, text, arc, left, count) in PLAIN {
+    for (kind, text, arc, left, count) in &PLAIN {
         let mut block = ArcBlock::new();
-        block.read(kind, text.as_bytes());
+        block.read(*kind, text.as_bytes());
         let arcs = block.arcs();
         let is_found = match arcs.first() {
-            Some(first) => first.arc == arc && first.left == left,
+            Some(first) => first.arc == *arc && first.left == *left,
             None => false,
         };
         assert!(rt; is_found, "{text}");
-        assert_eq!(rt; arcs.len(), count, "{text}");
+        assert!(rt; arcs.len() == *count, "{text}");
     }
-    for (kind, text) in NOT_PLAIN {
+    for (kind, text) in &NOT_PLAIN {
         let mut block = ArcBlock::new();
-        block.read(kind, text.as_bytes());
+        block.read(*kind, text.as_bytes());
         assert!(rt; block.arcs().is_empty(), "{text}");
     }
 }
@@ -492,10 +492,14 @@ const STEPS: [(&str, usize, bool, bool, Result<Head, Code>); 3] = [
 #[test]
 fn steps(rt: HostRuntime) {
     let mut reader = LineReader::new();
-    for (bytes, used, ended, pending, head) in STEPS {
-        let is_so = reader.step(bytes.as_bytes()) == Ok(Step { used, ended });
+    for (bytes, used, ended, pending, head) in &STEPS {
+        let step = Step {
+            used: *used,
+            ended: *ended,
+        };
+        let is_so = reader.step(bytes.as_bytes()) == Ok(step);
         assert!(rt;
-            is_so && reader.pending() == pending && reader.head(None) == head,
+            is_so && reader.pending() == *pending && reader.head(None) == *head,
             "{bytes}"
         );
     }

@@ -32,10 +32,10 @@ const VERDICTS: [(Verdict, &str); 2] = [
 
 #[test]
 fn verdicts(rt: HostRuntime) {
-    for (verdict, told) in VERDICTS {
+    for (verdict, told) in &VERDICTS {
         let mut room = [0; 256];
         let mut sink = Room::new(&mut room);
-        let is_put = put_verdict(&mut sink, &verdict).is_ok();
+        let is_put = put_verdict(&mut sink, verdict).is_ok();
         assert!(rt; is_put && sink.taken() == told.as_bytes(), "{told}");
     }
 }
@@ -45,7 +45,8 @@ fn full_sink(rt: HostRuntime) -> Result<(), Fail> {
     let held = read_text(rt.alloc(), b"p sp 2 1\na 1 2 5\n")?;
     let mut bytes = [0; 30];
     let mut sink = Room::new(&mut bytes);
-    assert!(rt; put_shown(&mut sink, &held).is_err());
-    assert!(rt; sink.taken() == b"kind sp\nnodes 2\nlines 1\npairs ".as_slice());
+    let is_cut = put_shown(&mut sink, &held).is_err();
+    drop(held);
+    assert!(rt; is_cut && sink.taken() == b"kind sp\nnodes 2\nlines 1\npairs ".as_slice());
     Ok(())
 }

@@ -107,19 +107,21 @@ fn a_file_without_memory(rt: HostRuntime) {
     assert!(rt; fails(rt.alloc(), files, "t: 30 Memory\n", 4));
 }
 
-// Sources that fail at the second pull, after whole lines, and sources that give one byte a pull and fail at any pull.
+// Texts whose source fails after whole lines, the line on `err`, and the exit status.
+const CUT: [(&str, &str, u8); 3] = [
+    ("p sp 1 1\n", "t: 31 Read\n", 4),
+    ("x\n", "t:1: 1 BadLine\n", 2),
+    ("p sp 1 1\nx\n", "t:2: 1 BadLine\n", 2),
+];
+
+// Sources that fail at the second pull, and sources that give one byte a pull and fail at any pull.
 #[test]
 fn failing_sources(rt: HostRuntime) {
-    let texts = [
-        ("p sp 1 1\n", "t: 31 Read\n", 4),
-        ("x\n", "t:1: 1 BadLine\n", 2),
-        ("p sp 1 1\nx\n", "t:2: 1 BadLine\n", 2),
-    ];
-    for (text, err, status) in texts {
-        let named = [("t", text)];
+    for (text, err, status) in &CUT {
+        let named = [("t", *text)];
         let mut files = Texts::new(&named, usize::MAX);
         files.pulls = 1;
-        assert!(rt; fails(rt.alloc(), files, err, status), "{text}");
+        assert!(rt; fails(rt.alloc(), files, err, *status), "{text}");
     }
     for pulls in 0..=ROADS.len() {
         let mut files = Texts::new(&[("t", ROADS)], 1);

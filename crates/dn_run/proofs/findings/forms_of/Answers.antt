@@ -1,4 +1,4 @@
-use Rattle.std.proofs.Common.{◌≢◌, ◌∙◌}
+use Rattle.std.proofs.Common.{rules, ◌≢◌, ◌∙◌}
 use Rattle.dn_line.specs.declared.kind.Kind.TheVariants as Kinds
 use Rattle.dn_arc.specs.declared.arc.Form.TheVariants.{One, Two}
 use Rattle.dn_instance.specs.State.Helds.{parsed}
@@ -20,3 +20,6 @@ returns-in_default c I reads is =
             (canon_in Two One c.args.text.now I other h),
       );
     }
+
+pub returns-in-Min : goal.returns-in-Min
+returns-in-Min c = search rules
