@@ -1,12 +1,22 @@
 use Rattle.std.proofs.Common.{◌≡◌, ◌<◌, ℤ, length, subst, sym, ◌∙◌, ap, false}
+use Rattle.std.proofs.lemmas.Map.Entries.{length-keys_of}
 use Rattle.std.specs.List.{list_any}
 use Rattle.std.specs.Map.{keys_of, lookup}
 use Rattle.dn_arc.specs.Pairs.{same_pair}
 use Rattle.pair_index.proofs.InOrderLaws.{found_in_order}
 use Rattle.dn_table.proofs.PairLaws.{key_is}
 use Rattle.dn_table.proofs.GrownLaws.{lookup_none, found_at}
+use Rattle.pair_index.specs.State.Ordered.{Orders}
 use Rattle.pair_index.specs.State.Places.{key_at}
 use Rattle.dn_table.proofs.table.Table.get.Goals as goal
+
+pub find-requires : goal.find-requires
+find-requires g c =
+    subst (λ es. Orders c.self.inside.order (keys_of es)) (sym c.deref.ensures.value) c.self.invariant
+
+pub index-requires : goal.index-requires
+index-requires g c =
+    subst (λ n. c.in-Some.place < n) (length-keys_of c.deref.result.now ∙ c.deref.ensures.len) c.in-Some.ensures.0
 
 pub returns-in-Some : goal.returns-in-Some
 returns-in-Some g c =

@@ -17,3 +17,21 @@ returns-in_ok-resize-clause-kept c keys links =
     subst (λ h. Links h c.reserve.new.self.items keys) (sym (c.in_ok-resize.ensures.items ∙ whole))
     (subst (λ n. Links (self.heads.items ++ zeros) n keys) (sym c.reserve.ensures.items)
     (links_wider self.heads.items self.next.items keys more links))
+
+pub returns-in_default-clause-kept : goal.returns-in_default-clause-kept
+returns-in_default-clause-kept c keys links = links
+
+pub returns-then-len-ge-MOST_LINKED-clause-kept : goal.returns-then-len-ge-MOST_LINKED-clause-kept
+returns-then-len-ge-MOST_LINKED-clause-kept c keys links = links
+
+pub returns-in_err-reserve-clause-kept : goal.returns-in_err-reserve-clause-kept
+returns-in_err-reserve-clause-kept c keys links =
+    subst (λ n. Links c.args.self.now.heads.items n keys) (sym c.reserve.ensures.items) links
+
+pub returns-then-saturating_mul-tail-clause-kept : goal.returns-then-saturating_mul-tail-clause-kept
+returns-then-saturating_mul-tail-clause-kept c keys links =
+    subst (λ n. Links c.args.self.now.heads.items n keys) (sym c.reserve.ensures.items) links
+
+pub returns-else-len-tail-clause-kept : goal.returns-else-len-tail-clause-kept
+returns-else-len-tail-clause-kept c keys links =
+    subst (λ n. Links c.args.self.now.heads.items n keys) (sym c.reserve.ensures.items) links

@@ -1,0 +1,17 @@
+use Rattle.std.proofs.Common.{subst, sym, ◌∙◌}
+use Rattle.std.specs.Map.{keys_of}
+use Rattle.pair_index.specs.State.Indexed.{Indexes}
+use Rattle.pair_index.specs.State.Places.{IsPlace}
+use Rattle.dn_table.proofs.table_so_far.TableSoFar.place_from.Goals as goal
+
+pub find-requires : goal.find-requires
+find-requires g c =
+    subst (λ es. Indexes c.self.inside.index (keys_of es)) (sym c.deref.ensures.value) c.self.invariant
+
+pub returns-in-Some : goal.returns-in-Some
+returns-in-Some g c = c.stands_at.ensures c.if-stands_at.true
+
+pub returns-in_default : goal.returns-in_default
+returns-in_default g c =
+    subst (λ es. IsPlace (keys_of es) c.args.pair.now c.find.result) (c.deref.ensures.value ∙ c.self.view_is)
+    c.find.ensures
