@@ -180,33 +180,26 @@ fn finds_multiples(rt: HostRuntime) {
 }
 
 // Pairs that come nearly in order: each is followed by its reverse.
-#[test]
-fn finds_reversed(rt: HostRuntime) {
-    let mut pairs = match Vec::with_capacity(rt.alloc(), 1200) {
+fn way_to_find_reversed(alloc: Global) -> Result<&'static str, AllocError> {
+    let mut pairs = match Vec::with_capacity(alloc, 1200) {
         Ok(pairs) => pairs,
-        Err(_) => Vec::with_capacity(rt.alloc(), 1200).expect(&rt, "there is memory once more"),
+        Err(_) => Vec::with_capacity(alloc, 1200)?,
     };
     for i in 1..600i64 {
-        pairs.push((i, i + 30)).expect(&rt, "there is room");
-        pairs.push((i + 30, i)).expect(&rt, "there is room");
+        pairs.push((i, i + 30))?;
+        pairs.push((i + 30, i))?;
     }
-    assert_eq!(rt;
-        way_to_find(rt.alloc(), &pairs),
-        Ok("scattered"),
-        "reversed"
-    );
+    way_to_find(alloc, &pairs)
+}
+
+#[test]
+fn finds_reversed(rt: HostRuntime) {
+    assert!(rt; way_to_find_reversed(rt.alloc()) == Ok("scattered"));
 }
 
 #[test]
 fn finds_colliding(rt: HostRuntime) {
-    assert_eq!(rt;
-        way_to_find(rt.alloc(), &COLLIDING[..24]),
-        Ok("scattered"),
-        "24 pairs"
-    );
-    assert_eq!(rt;
-        way_to_find(rt.alloc(), &COLLIDING),
-        Ok("in order"),
-        "28 pairs"
-    );
+    let few = way_to_find(rt.alloc(), &COLLIDING[..24]);
+    let all = way_to_find(rt.alloc(), &COLLIDING);
+    assert!(rt; (few, all) == (Ok("scattered"), Ok("in order")));
 }

@@ -249,8 +249,9 @@ fn a_copy_is_added(rt: HostRuntime) -> Result<(), Fail> {
     let mut copy = Vec::new(rt.alloc());
     copy.extend_from_slice(b"before")?;
     let held = read_keep(rt.alloc(), &mut Slice::new(b"p sp 1 0"), &mut copy)?;
-    assert!(rt; held.nodes() == 1);
-    assert!(rt; copy.as_slice() == b"beforep sp 1 0".as_slice());
+    let nodes = held.nodes();
+    drop(held);
+    assert!(rt; nodes == 1 && copy.as_slice() == b"beforep sp 1 0".as_slice());
     Ok(())
 }
 

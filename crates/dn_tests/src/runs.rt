@@ -242,19 +242,35 @@ fn rooms_of_no_bytes(rt: HostRuntime) {
     assert!(rt; untold == 2);
 }
 
-// A sink that takes one byte a put, and a sink whose flush fails.
+// Whether a sink that takes one byte a put takes the canonical text.
+fn takes_all_slowly(alloc: Global, words: &[String]) -> bool {
+    let mut files = Texts::new(&[("t", ROADS)], usize::MAX);
+    let mut slow = OneByte::new(alloc);
+    let mut err = Bytes::new(alloc);
+    let status = run(alloc, words, &mut files, &mut slow, &mut err);
+    status == 0 && slow.bytes.taken() == ROADS_CANON.as_bytes() && err.taken().is_empty()
+}
+
+// Whether a sink whose flush fails takes the canonical text, and the run reports the failed write.
+fn is_cut_by_flush(alloc: Global, words: &[String]) -> bool {
+    let mut files = Texts::new(&[("t", ROADS)], usize::MAX);
+    let mut late = NoFlush::new(alloc);
+    let mut err = Bytes::new(alloc);
+    let status = run(alloc, words, &mut files, &mut late, &mut err);
+    status == 4
+        && late.bytes.taken() == ROADS_CANON.as_bytes()
+        && err.taken() == b"out: 33 Write\n".as_slice()
+}
+
 #[test]
 fn slow_and_late_sinks(rt: HostRuntime) {
     let Ok(words) = owned(rt.alloc(), "canon|t") else {
         panic!(rt; "out of memory");
     };
-    let mut files = Texts::new(&[("t", ROADS)], usize::MAX);
-    let mut slow = OneByte::new(rt.alloc());
-    let mut err = Bytes::new(rt.alloc());
-    let status = run(rt.alloc(), &words, &mut files, &mut slow, &mut err);
-    assert!(rt; status == 0 && slow.bytes.taken() == ROADS_CANON.as_bytes());
-    let mut late = NoFlush::new(rt.alloc());
-    let status = run(rt.alloc(), &words, &mut files, &mut late, &mut err);
-    assert!(rt; status == 4 && late.bytes.taken() == ROADS_CANON.as_bytes());
-    assert!(rt; err.taken() == b"out: 33 Write\n".as_slice());
+    let is_right = [
+        takes_all_slowly(rt.alloc(), &words),
+        is_cut_by_flush(rt.alloc(), &words),
+    ];
+    drop(words);
+    assert!(rt; is_right == [true, true]);
 }
