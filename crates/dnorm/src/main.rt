@@ -1,13 +1,9 @@
 //! The program `dnorm`. It prints what DIMACS network instances contain, their first faults and differences, and their
-//! canonical texts. `main` passes the host to `host`, which does what the words of the command line ask for with the
-//! host's files and streams.
+//! canonical texts. `main` passes the host and its standard error to `run_on`, which does what the words of the command
+//! line ask for.
 #![tactic(auto)]
 
-pub mod host;
-pub mod retried;
-
-use crate::host::run_on;
-use crate::retried::Retried;
+use dn_host::{Retried, run_on};
 use dn_sink::ToWrite;
 use std::process::ExitCode;
 

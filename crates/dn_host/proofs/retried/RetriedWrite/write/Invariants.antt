@@ -1,5 +1,5 @@
 use Rattle.std.specs.Io.KnownBytes.{Keeps}
-use Rattle.dnorm.proofs.retried.RetriedWrite.write.Given as goal
+use Rattle.dn_host.proofs.retried.RetriedWrite.write.Given as goal
 
 -- an interrupted write writes nothing
 abbrev pub invariant-loop : goal.invariant-loop

@@ -1,5 +1,5 @@
 use Rattle.std.specs.Io.KnownBytes.{Keeps}
-use Rattle.dnorm.proofs.retried.RetriedRead.read.Given as goal
+use Rattle.dn_host.proofs.retried.RetriedRead.read.Given as goal
 
 -- an interrupted read loses no byte
 abbrev pub invariant-loop : goal.invariant-loop

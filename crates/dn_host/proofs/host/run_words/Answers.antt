@@ -1,5 +1,5 @@
 use Rattle.std.proofs.Common.{rules}
-use Rattle.dnorm.proofs.host.run_words.Goals as goal
+use Rattle.dn_host.proofs.host.run_words.Goals as goal
 
 pub returns-clause-ran : goal.returns-clause-ran
 returns-clause-ran g c = search rules

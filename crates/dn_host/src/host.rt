@@ -1,7 +1,7 @@
 // A run of the program on the host.
 ghost use Rattle.std.specs.Prelude.{◌≡◌, ◌≤◌, false, ℕ, List, None, map, string_bytes, IfOk, OnErr};
 ghost use Rattle.dn_run.specs.Streams.{sink_run};
-ghost use Rattle.dnorm.specs.HostRuns.{HostRun, RanOnHost};
+ghost use Rattle.dn_host.specs.HostRuns.{HostRun, RanOnHost};
 
 use crate::retried::Retried;
 use dn_instance::Refusal;

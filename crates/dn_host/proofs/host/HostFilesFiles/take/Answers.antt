@@ -1,5 +1,5 @@
 use Rattle.std.proofs.Common.{rules}
-use Rattle.dnorm.proofs.host.HostFilesFiles.take.Goals as goal
+use Rattle.dn_host.proofs.host.HostFilesFiles.take.Goals as goal
 
 pub returns-in-Ok : goal.returns-in-Ok
 returns-in-Ok g c = search rules

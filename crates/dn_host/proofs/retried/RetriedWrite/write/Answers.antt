@@ -1,5 +1,5 @@
 use Rattle.std.proofs.Common.{rules}
-use Rattle.dnorm.proofs.retried.RetriedRead.read.Goals as goal
+use Rattle.dn_host.proofs.retried.RetriedWrite.write.Goals as goal
 
 pub returns-in_default-clause-bytes : goal.returns-in_default-clause-bytes
 returns-in_default-clause-bytes g c = search rules

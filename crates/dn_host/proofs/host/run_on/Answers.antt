@@ -4,8 +4,8 @@ use Rattle.dn_report.specs.FaultLines.{fault_line}
 use Rattle.dn_run.specs.Streams.{TakesLine, sink_run}
 use Rattle.dn_run.specs.Words.{bad_command_line}
 use Rattle.dn_sink.specs.Puts.{Puts}
-use Rattle.dnorm.specs.HostRuns.{ran, refused, out_of_memory}
-use Rattle.dnorm.proofs.host.run_on.Goals as goal
+use Rattle.dn_host.specs.HostRuns.{ran, refused, out_of_memory}
+use Rattle.dn_host.proofs.host.run_on.Goals as goal
 
 pub returns-in-Ok-clause-ran : goal.returns-in-Ok-clause-ran
 returns-in-Ok-clause-ran g c = let r = c.in-Ok.ensures.ran in ran r.0 r.1
