@@ -1,5 +1,5 @@
 // A sink in memory.
-ghost use Rattle.std.specs.Prelude.{◌≡◌, ◌↔◌, ◌<◌, ◌+◌, [], length, false, true, Some, IsTrue, IsErr, IfOk, OnOk, OnErr};
+ghost use Rattle.std.specs.Prelude.{◌≡◌, ◌↔◌, ◌<◌, [], ◌++◌, length, false, true, Some, IsTrue, IsErr, IfOk, OnOk, OnErr};
 ghost use Rattle.dn_sink.specs.State.Turns.{Turn, Flush};
 
 use crate::sink::{Sink, SinkFault};
@@ -60,7 +60,7 @@ impl Sink for Bytes {
         ensures whole { IfOk result (λ n. (n ≡ length piece.now) × (self.new.failed ≡ false)) }
         ensures again { IsTrue self.old.failed → IsErr result }
         ensures memory { OnErr result (self.old.failed ≡ false
-            → self.old.capacity < length self.old.bytes + length piece.now) }
+            → self.old.capacity < length (self.old.bytes ++ piece.now)) }
     {
         if self.failed {
             return Err(SinkFault);
