@@ -1,5 +1,5 @@
 // A run of the program on the host.
-ghost use Rattle.std.specs.Prelude.{◌≡◌, ◌≤◌, false, ℕ, List, None, map, string_bytes, IfOk, OnErr};
+ghost use Rattle.std.specs.Prelude.{◌≡◌, ◌≤◌, false, ℕ, List, None, IfOk, OnErr};
 ghost use Rattle.dn_run.specs.Streams.{sink_run};
 ghost use Rattle.dn_host.specs.HostRuns.{HostRun, RanOnHost};
 
@@ -143,30 +143,11 @@ fn run_with_arguments<'a, R: Runtime + AllocGlobal, E: Sink>(
     ensures err { OnErr result (err.new ≡ err.old) }
 {
     let words: Vec<String> = env::args(host)?.collect(host.alloc())?;
-    let status = run_words(host, &words, err);
-    drop(words);
-    status
-}
-
-// Runs the program with these words. Fails if there is no memory for the output buffer.
-fn run_words<'a, R: Runtime + AllocGlobal, E: Sink>(
-    host: &'a R,
-    words: &[String],
-    err: &mut E,
-) -> io::Result<u8>
-    ensures status { IfOk result (λ status. status ≤ 4) }
-    ensures ran { IfOk result (RanOnHost
-        (record {
-          files = ⟦<HostFiles<'a, R> as Files>⟧.files;
-          source = ⟦<HostSource<R> as Source>⟧.source;
-          out = ⟦<HostOut<'a, R> as Sink>⟧.sink;
-        })
-        (sink_run E.sink (err.old, err.new)) (map string_bytes words.now)) }
-    ensures err { OnErr result (err.new ≡ err.old) }
-{
-    let mut out = ToWrite::new(BufWriter::with_capacity(host.alloc(), BUFFER, io::writer(host))?);
+    let buffer = BufWriter::with_capacity(host.alloc(), BUFFER, io::writer(host))?;
+    let mut out = ToWrite::new(buffer);
     let mut files = HostFiles::new(host);
-    let status = run(host.alloc(), words, &mut files, &mut out, err);
+    let status = run(host.alloc(), &words, &mut files, &mut out, err);
     drop(out);
+    drop(words);
     Ok(status)
 }

@@ -86,13 +86,6 @@ sign_at kind [] i d h s = absurd (omega arith)
 sign_at kind (a ∷ arcs) zero d h s = s.0
 sign_at kind (a ∷ arcs) (suc i) d h s = sign_at kind arcs i d (omega arith) s.1
 
-pub signs_front : (kind : Kind) (arcs : List ArcLine) (n : ℕ) → AllByRecursion HasSigns (arc_items kind arcs)
-    → AllByRecursion HasSigns (arc_items kind (take n arcs))
-signs_front kind [] zero s = tt
-signs_front kind [] (suc n) s = tt
-signs_front kind (a ∷ arcs) zero s = tt
-signs_front kind (a ∷ arcs) (suc n) s = (s.0, signs_front kind arcs n s.1)
-
 -- arcs are counted
 pub one_counted : (kind : Kind) (a : ArcLine) → is_companion kind ≡ false → is_counted (arc_of kind a.arc) ≡ true
 one_counted Min a c = refl

@@ -16,6 +16,7 @@ ghost use Rattle.dn_instance.specs.State.Drafts.{HasSigns, TableHolds};
 ghost use Rattle.dn_instance.specs.State.ItemFaults.{AnswersFault, in_graph, arc_fault};
 ghost use Rattle.dn_table.specs.State.Tables.{AreArcs, Stays, Lists};
 
+use crate::ahead::look_ahead;
 use crate::refusal::ItemFault;
 use dn_bundle::{Bundle, BundleFault, CapArc, CostArc, Curve, Form, Least, LengthArc, Total};
 use dn_line::{ArcLine, Code, Kind, Line, PlainArc};
@@ -150,7 +151,7 @@ impl LineBundle for Curve {
 }
 
 // Takes arcs one after another, up to the first that has a fault or for which an allocation fails. Returns how many it
-// takes.
+// takes. `look_ahead` affects only the speed.
 pub(crate) fn take_arcs<B: LineBundle>(
     table: &mut TableSoFar<B>,
     alloc: Global,
@@ -162,6 +163,7 @@ pub(crate) fn take_arcs<B: LineBundle>(
         → Joins B.holds before table.new (arc_items B.text (take result arcs.now)) }
     ensures within { result ≤ length arcs.now }
 {
+    look_ahead(table, arcs);
     for i in 0..arcs.len() {
         if B::take(table, alloc, nodes, &arcs[i].arc).is_err() {
             return i;

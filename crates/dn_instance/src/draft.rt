@@ -13,7 +13,6 @@ ghost use Rattle.dn_instance.specs.State.Drafts.{draft_kind, ComesNext, DraftHol
 ghost use Rattle.dn_instance.specs.State.Ends.{Makes};
 ghost use Rattle.dn_instance.specs.State.EntryCount.{entries_by};
 
-use crate::ahead::look_ahead;
 use crate::arcs::{LineBundle, take_arcs};
 use crate::content::Content;
 use crate::items::{take_point, take_query, take_source, take_supply, take_terminal};
@@ -83,18 +82,6 @@ impl Draft {
             Draft::Ss(_) => Some(Kind::Ss),
             Draft::P2p(_) => Some(Kind::P2p),
             Draft::Co(_) => Some(Kind::Co),
-        }
-    }
-
-    // Looks up the places of the pairs of these arcs together, before the arcs are taken. This affects only the speed.
-    pub(crate) fn look_ahead(&mut self, arcs: &[ArcLine])
-        ensures { self.new ≡ self.old }
-    {
-        match self {
-            Draft::Min { table, .. } => look_ahead(table, arcs),
-            Draft::Max { table, .. } => look_ahead(table, arcs),
-            Draft::Sp(table) => look_ahead(table, arcs),
-            Draft::Empty | Draft::Ss(_) | Draft::P2p(_) | Draft::Co(_) => {}
         }
     }
 

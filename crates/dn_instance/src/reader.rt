@@ -2,9 +2,8 @@
 ghost use Rattle.std.specs.Prelude.{◌≡◌, ◌≤◌, ℕ, List, [], ◌++◌, length, take, drop, Some, None, Err, ◌<◌, IfOk, MatchResult};
 ghost use Rattle.dn_line.specs.State.LineStates.{LineSoFar, LineReaderAt, used_of};
 ghost use Rattle.dn_line.specs.Pieces.{lines};
-ghost use Rattle.dn_instance.specs.Readers.{ended};
 ghost use Rattle.dn_instance.specs.State.Readers.{Fed, Outcome, refusal_of, answer_of};
-ghost use Rattle.dn_instance.specs.State.ReaderStates.{ReaderAt, IsReading, Takes, TakesAll, Advances, CountsBefore, CountsRead, Finishes, Steps, WantsAtEnd, WantsInPiece};
+ghost use Rattle.dn_instance.specs.State.ReaderStates.{ReaderAt, IsReading, Takes, Advances, CountsBefore, CountsRead, Finishes, Steps, WantsAtEnd, WantsInPiece};
 ghost use Rattle.dn_instance.specs.State.Refusals.{refused_at};
 ghost use Rattle.dn_instance.specs.State.TextsSoFar.{TextAt};
 
@@ -56,18 +55,6 @@ impl Reader {
         }
     }
 
-    // Takes plain arc lines at the beginning of a piece, if no line is open. Returns how many bytes it takes.
-    fn take_arcs(&mut self, block: &mut ArcBlock, piece: &[u8]) -> usize
-        ensures taken { (t : List ℕ) → IsReading self.old t → IsReading self.new (t ++ take result piece.now) }
-        ensures within { result ≤ length piece.now }
-        ensures refusal { refusal_of self.new ≡ refusal_of self.old }
-    {
-        match piece {
-            [b'a', ..] if !self.line.pending() => self.text.take_arcs(self.alloc, block, piece),
-            _ => 0,
-        }
-    }
-
     // Takes a piece up to and including its first LF, or all of it if there is no LF. Returns how many bytes it takes.
     fn step(&mut self, piece: &[u8]) -> Result<usize, Refusal>
         requires { 0 < length piece.now }
@@ -89,8 +76,8 @@ impl Reader {
         }
     }
 
-    // Takes plain arc lines at the beginning of a piece, or, if there are none, what `step` takes. Returns how many
-    // bytes it takes.
+    // Takes plain arc lines at the beginning of a piece, if no line is open, or, if it takes none, what `step` takes.
+    // Returns how many bytes it takes.
     fn advance(&mut self, block: &mut ArcBlock, piece: &[u8]) -> Result<usize, Refusal>
         requires { 0 < length piece.now }
         ensures some { IfOk result (λ n. 0 < n) }
@@ -100,19 +87,13 @@ impl Reader {
         ensures refusal { MatchResult result (λ n. refusal_of self.new ≡ refusal_of self.old)
             (λ e. refusal_of self.new ≡ Some e) }
     {
-        let used = self.take_arcs(block, piece);
-        if 0 < used { Ok(used) } else { self.step(piece) }
-    }
-
-    // Takes a last line without an LF, if there is one.
-    fn close_last(&mut self) -> Result<(), Refusal>
-        ensures { (t : List ℕ) → IsReading self.old t → TakesAll self.new t result }
-    {
-        if self.line.pending() {
-            self.close()
-        } else {
-            Ok(())
+        if piece[0] == b'a' && !self.line.pending() {
+            let used = self.text.take_arcs(self.alloc, block, piece);
+            if 0 < used {
+                return Ok(used);
+            }
         }
+        self.step(piece)
     }
 
     /// Takes the next piece of the text.
@@ -167,18 +148,21 @@ impl Reader {
             drop(self);
             return Err(refusal);
         }
-        match self.close_last() {
-            Ok(()) => match self.into_text().end() {
-                Ok(held) => Ok(held),
-                Err(code) => Err(Refusal::Text {
-                    place: Place::End,
-                    code,
-                }),
-            },
-            Err(refusal) => {
-                drop(self);
-                Err(refusal)
+        if self.line.pending() {
+            match self.close() {
+                Ok(()) => {}
+                Err(refusal) => {
+                    drop(self);
+                    return Err(refusal);
+                }
             }
+        }
+        match self.into_text().end() {
+            Ok(held) => Ok(held),
+            Err(code) => Err(Refusal::Text {
+                place: Place::End,
+                code,
+            }),
         }
     }
 

@@ -1,5 +1,5 @@
 // The complete lines of a text: how many they are, and what their items make.
-ghost use Rattle.std.specs.Prelude.{◌≡◌, ◌≢◌, ◌<◌, ◌≤◌, ◌≤ℤ◌, ℕ, ◌+◌, pos, length, take, List, ◌∷◌, ◌++◌, [], OnOk, OnErr, Err, Some, None, true, false};
+ghost use Rattle.std.specs.Prelude.{◌≡◌, ◌<◌, ◌≤◌, ◌≤ℤ◌, ℕ, ◌+◌, pos, length, take, List, ◌∷◌, ◌++◌, [], OnOk, OnErr, Err, Some, None, false};
 ghost use Rattle.dn_line.specs.declared.line.Line.{Line};
 ghost use Rattle.dn_line.specs.declared.word.Word.{Word};
 ghost use Rattle.dn_line.specs.LineTable.{kind_named};
@@ -9,13 +9,12 @@ ghost use Rattle.dn_line.specs.State.Reading.{head_of};
 ghost use Rattle.dn_line.specs.State.LineStates.{LineSoFar, LineReaderAt};
 ghost use Rattle.dn_instance.specs.Items.{problem_in, is_counted};
 ghost use Rattle.dn_instance.specs.TextFaults.{is_companion, order_tests, item_tests, line_fault};
-ghost use Rattle.dn_instance.specs.State.ArcRuns.{AreInTime, Joins, arc_items};
 ghost use Rattle.dn_instance.specs.State.Drafts.{draft_kind};
 ghost use Rattle.dn_instance.specs.State.Ends.{EndsWith};
 ghost use Rattle.dn_instance.specs.State.EntryCount.{entries_so_far};
 ghost use Rattle.dn_instance.specs.State.ItemFaults.{AnswersFault};
 ghost use Rattle.dn_instance.specs.Texts.{items_of, with_next};
-ghost use Rattle.dn_instance.specs.State.TextsSoFar.{Awaits, AwaitsArcs, HasRead, next_read, fault_next, TextAt, ReadsFront};
+ghost use Rattle.dn_instance.specs.State.TextsSoFar.{Awaits, HasRead, next_read, fault_next, TextAt, ReadsFront};
 
 use crate::draft::Draft;
 use crate::held::Held;
@@ -188,28 +187,9 @@ impl TextSoFar {
         }
     }
 
-    // Takes arcs one after another, up to the first that is one too many, that has a fault, or for which an allocation
-    // fails. Returns how many it takes. `look_ahead` affects only the speed.
-    fn take_run(&mut self, alloc: Global, arcs: &[ArcLine]) -> usize
-        ensures taken { (kind : Kind) (before : List Line)
-            → AwaitsArcs self.old kind before arcs.now
-            → let items = arc_items kind (take result arcs.now) in
-            Joins HasRead before self.new items × AreInTime before items }
-        ensures within { result ≤ length arcs.now }
-        ensures kept { self.new.closed ≡ self.old.closed }
-    {
-        self.draft.look_ahead(arcs);
-        // The reader takes at most as many counted lines as are declared, so nothing saturates, here and below.
-        let most = self.count.saturating_sub(self.counted);
-        let few = first_arcs(arcs, &most);
-        let taken = self.draft.take_arcs(alloc, &self.nodes, few);
-        self.counted = self.counted.saturating_add(taken as i64);
-        taken
-    }
-
     // Takes the arcs of plain lines at the beginning of these bytes, at most as many as one block has, up to the first
-    // that has a fault or for which an allocation fails. Returns how many bytes their lines have, with the LFs that end
-    // them. The block is memory to read into.
+    // that is one too many, that has a fault, or for which an allocation fails. Returns how many bytes their lines have,
+    // with the LFs that end them. The block is memory to read into.
     pub(crate) fn take_arcs(&mut self, alloc: Global, block: &mut ArcBlock, bytes: &[u8]) -> usize
         ensures taken { (ls : List (List ℕ)) → TextAt self.old ls
             → ReadsFront self.new ls (take result bytes.now) }
@@ -222,8 +202,11 @@ impl TextSoFar {
             return 0;
         }
         block.read(kind, bytes);
-        let arcs = block.arcs();
-        let taken = self.take_run(alloc, arcs);
+        // The reader takes at most as many counted lines as are declared, so nothing saturates, here and below.
+        let most = self.count.saturating_sub(self.counted);
+        let arcs = first_arcs(block.arcs(), &most);
+        let taken = self.draft.take_arcs(alloc, &self.nodes, arcs);
+        self.counted = self.counted.saturating_add(taken as i64);
         self.closed += taken as u64;
         let left = left_behind(&arcs[..taken], bytes.len());
         // No more bytes are left than there were, so nothing saturates.

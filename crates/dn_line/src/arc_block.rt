@@ -1,6 +1,6 @@
 // Reads the lines of several arcs at once, if they are in plain spelling.
-ghost use Rattle.std.specs.Prelude.{◌≡◌, ◌≤◌, ℕ, List, [], length, take};
-ghost use Rattle.dn_line.specs.State.ArcBlocks.{BeginWithArcs, ReadUpTo, last_left};
+ghost use Rattle.std.specs.Prelude.{◌≡◌, ◌≤◌, List, [], length, take};
+ghost use Rattle.dn_line.specs.State.ArcBlocks.{BeginWithArcs, last_left};
 
 use crate::arc_lines::{PlainArc, read_arc_line};
 use crate::kind::Kind;
@@ -65,7 +65,19 @@ impl ArcBlock {
     pub fn read(&mut self, kind: Kind, bytes: &[u8])
         ensures { BeginWithArcs kind bytes.now self.new }
     {
-        self.len = read_arcs(kind, bytes, &mut self.arcs);
+        self.len = 0;
+        let mut rest = bytes;
+        for i in 0..BLOCK {
+            let Some(next) = read_arc_line(kind, rest) else {
+                return;
+            };
+            rest = next.rest;
+            self.arcs[i] = ArcLine {
+                arc: next.arc,
+                left: rest.len(),
+            };
+            self.len = i + 1;
+        }
     }
 
     /// Returns the arcs of the block, at most `BLOCK`.
@@ -75,25 +87,6 @@ impl ArcBlock {
     {
         &self.arcs[..self.len]
     }
-}
-
-// Reads the arcs at the beginning of these bytes, and returns their count.
-fn read_arcs(kind: Kind, bytes: &[u8], arcs: &mut [ArcLine; BLOCK]) -> usize
-    ensures arcs { BeginWithArcs kind bytes.now (take result arcs.new) }
-    ensures within { result ≤ BLOCK }
-{
-    let mut rest = bytes;
-    for i in 0..BLOCK {
-        let Some(next) = read_arc_line(kind, rest) else {
-            return i;
-        };
-        rest = next.rest;
-        arcs[i] = ArcLine {
-            arc: next.arc,
-            left: rest.len(),
-        };
-    }
-    BLOCK
 }
 
 /// Returns how many bytes follow the last of these lines, which begin a piece of `all` bytes. If there are no lines,

@@ -1,5 +1,5 @@
 // Reads lines of arcs in plain spelling in one pass.
-ghost use Rattle.std.specs.Prelude.{◌≡◌, ◌+◌, ◌<◌, ◌≤◌, ◌∷◌, [], IfSome, drop, length};
+ghost use Rattle.std.specs.Prelude.{◌+◌, ◌<◌, ◌≤◌, ◌∷◌, [], IfSome, length};
 ghost use Rattle.dn_line.specs.State.ArcLines.{AreBlanks, AreNumbers, BeginsWithArc, IsArcOf, IsGap, IsLineEnd, IsNumberBefore, IsNumberFront, arc_of};
 
 use crate::kind::Kind;
@@ -34,10 +34,16 @@ pub(crate) struct ArcBefore<'a> {
 pub(crate) fn read_arc_line(kind: Kind, bytes: &[u8]) -> Option<ArcBefore<'_>>
     ensures { IfSome result (λ a. BeginsWithArc kind bytes.now (arc_of kind a.arc) a.rest.now) }
 {
-    if let [b'a', rest @ ..] = bytes {
-        return arc_before(kind, after_blanks(rest)?);
+    let [b'a', after_letter @ ..] = bytes else {
+        return None;
+    };
+    let numbers = after_blanks(after_letter)?;
+    match kind {
+        Kind::Min => cost_arc(numbers),
+        Kind::Max => cap_arc(numbers),
+        Kind::Sp => length_arc(numbers),
+        _ => None,
     }
-    None
 }
 
 // A number, and the bytes after it.
@@ -274,16 +280,4 @@ fn cost_arc(bytes: &[u8]) -> Option<ArcBefore<'_>>
         },
         rest: numbers.rest,
     })
-}
-
-// Reads the arc of a text of this kind from the bytes after its letter and blanks.
-fn arc_before(kind: Kind, bytes: &[u8]) -> Option<ArcBefore<'_>>
-    ensures { IfSome result (λ a. IsArcOf kind bytes.now (arc_of kind a.arc) a.rest.now) }
-{
-    match kind {
-        Kind::Min => cost_arc(bytes),
-        Kind::Max => cap_arc(bytes),
-        Kind::Sp => length_arc(bytes),
-        _ => None,
-    }
 }

@@ -4,7 +4,7 @@ ghost use Rattle.dn_command.specs.Commands.{asks};
 ghost use Rattle.dn_run.specs.Answers.{OutByStatus};
 ghost use Rattle.dn_run.specs.FilesRuns.{files_run};
 ghost use Rattle.dn_run.specs.Streams.{TakesLine, sink_run};
-ghost use Rattle.dn_run.specs.Words.{AskedRun, PrintsText, Ran, RequestRun, bad_command_line};
+ghost use Rattle.dn_run.specs.Words.{AskedRun, PrintsText, Ran, bad_command_line};
 
 use crate::commands::perform;
 use crate::files::Files;
@@ -30,8 +30,15 @@ pub fn run<F: Files, O: Sink, E: Sink>(
     ensures ran { Ran (map string_bytes words.now) (files_run F.files F.Text.source (files.old, files.new))
         (sink_run O.sink (out.old, out.new)) (sink_run E.sink (err.old, err.new)) result }
 {
-    let request = request_of(alloc, words);
-    run_request(alloc, &request, files, out, err)
+    match request_of(alloc, words) {
+        Request::Command(command) => run_command(alloc, &command, files, out, err),
+        Request::Print(text) => print(&text, out, err),
+        Request::Bad => refuse_words(err),
+        Request::Memory => {
+            let _ = put_fault_line(err, "dnorm", &Refusal::Memory);
+            4
+        }
+    }
 }
 
 /// Puts the line for words that are no command on `err`, and returns the exit status, 3. Ignores a fault of `err`.
@@ -41,32 +48,6 @@ pub fn refuse_words<E: Sink>(err: &mut E) -> u8
 {
     let _ = put_all(err, b"dnorm: bad command line\n");
     3
-}
-
-// Does what the request asks for, and returns the exit status.
-fn run_request<F: Files, O: Sink, E: Sink>(
-    alloc: Global,
-    request: &Request<'_>,
-    files: &mut F,
-    out: &mut O,
-    err: &mut E,
-) -> u8
-    ensures status { result ≤ 4 }
-    ensures does { RequestRun
-        (files_run F.files F.Text.source (files.old, files.new))
-        (sink_run O.sink (out.old, out.new)) (sink_run E.sink (err.old, err.new))
-        request.now result }
-    ensures out { OutByStatus (sink_run O.sink (out.old, out.new)) result }
-{
-    match request {
-        Request::Command(command) => run_command(alloc, command, files, out, err),
-        Request::Print(text) => print(text, out, err),
-        Request::Bad => refuse_words(err),
-        Request::Memory => {
-            let _ = put_fault_line(err, "dnorm", &Refusal::Memory);
-            4
-        }
-    }
 }
 
 // Runs a command, and returns the exit status.

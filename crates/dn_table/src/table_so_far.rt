@@ -109,17 +109,6 @@ impl<B: Bundle> TableSoFar<B> {
         }
     }
 
-    // Appends an entry.
-    fn push(&mut self, alloc: Global, pair: (i64, i64), bundle: B) -> Result<(), AllocError>
-        requires { list_any (same_pair pair) (keys_of self.old) ≡ false }
-        ensures ok { OnOk result (self.new ≡ self.old ++ (pair, bundle) ∷ []) }
-        ensures err { OnErr result (self.new ≡ self.old) }
-    {
-        note_next(alloc, &mut self.entries, &mut self.index, &pair)?;
-        self.entries.push_reserved((pair, bundle));
-        Ok(())
-    }
-
     // Adds a bundle for a pair that has none. If an allocation fails, nothing changes.
     fn insert(&mut self, alloc: Global, pair: (i64, i64), bundle: B) -> Result<(), BundleFault>
         requires { lookup (same_pair pair) self.old ≡ None }
@@ -129,8 +118,11 @@ impl<B: Bundle> TableSoFar<B> {
         ensures err { OnErr result (self.new ≡ self.old) }
         ensures memory { OnErr result (result ≡ Err BundleFault.Memory) }
     {
-        match self.push(alloc, pair, bundle) {
-            Ok(()) => Ok(()),
+        match note_next(alloc, &mut self.entries, &mut self.index, &pair) {
+            Ok(()) => {
+                self.entries.push_reserved((pair, bundle));
+                Ok(())
+            }
             Err(_) => Err(BundleFault::Memory),
         }
     }

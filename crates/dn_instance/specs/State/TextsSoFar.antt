@@ -1,8 +1,7 @@
 -- What the complete lines so far make, and what the next line reads as after them.
-use Rattle.std.specs.Prelude.{◌≡◌, ℕ, ◌-◌, ◌^◌, ◌<◌, pos, ◌<ℤ◌, List, [], ◌∷◌, ◌++◌, length, cond, true, false, flat_map, Option, Some, None, Result, Ok, IsSome, int_lt}
+use Rattle.std.specs.Prelude.{◌≡◌, ℕ, ◌-◌, ◌^◌, ◌<◌, pos, ◌<ℤ◌, List, [], ◌∷◌, ◌++◌, length, cond, true, flat_map, Option, None, Result, Ok, IsSome, int_lt}
 use Rattle.std.specs.List.{list_all, list_any, AllByRecursion}
 use Rattle.std.specs.Option.{option_map}
-use Rattle.dn_line.specs.declared.arc_block.ArcLine.{ArcLine}
 use Rattle.dn_line.specs.declared.kind.Kind.{Kind}
 use Rattle.dn_line.specs.declared.line.Line.{Line}
 use Rattle.dn_line.specs.declared.line.Line.TheVariants.{Skip}
@@ -14,9 +13,8 @@ use Rattle.dn_line.specs.Faults.{first_fault, head_tests, field_tests, fields}
 use Rattle.dn_line.specs.State.Spelling.{slots_of, kind_before}
 use Rattle.dn_line.specs.Reading.{unless, spelled}
 use Rattle.dn_instance.specs.Items.{Problem, problem_of, kind_known, counted}
-use Rattle.dn_instance.specs.TextFaults.{is_arc, is_companion, order_tests, line_tests}
+use Rattle.dn_instance.specs.TextFaults.{is_arc, order_tests, line_tests}
 use Rattle.dn_instance.specs.Texts.{items_of, IsClean}
-use Rattle.dn_instance.specs.State.ArcRuns.{arc_items}
 use Rattle.dn_instance.specs.State.Drafts.{draft_kind, is_graph, DraftHolds, HasRoom, HasSigns}
 use Rattle.dn_instance.specs.declared.text_so_far.TextSoFar.{TextSoFar}
 
@@ -52,13 +50,6 @@ pub record MayFollow (before : List Line) (i : Line) : Type 0 where
 pub record Awaits (t : TextSoFar) (before : List Line) (i : Line) : Type 0 where
   pub read : HasRead t before
   pub may : MayFollow before i
-
--- the text so far has read these items of a graph problem of this kind, and LOW and CAP of these arcs are at least 0
-pub record AwaitsArcs (t : TextSoFar) (kind : Kind) (before : List Line) (arcs : List ArcLine) : Type 0 where
-  pub read : HasRead t before
-  pub kind_is : draft_kind t.draft ≡ Some kind
-  pub graph : is_companion kind ≡ false
-  pub signs : AllByRecursion HasSigns (arc_items kind arcs)
 
 -- the first fault of a line after these items, except `TooLong`
 abbrev pub fault_next : List Line → List Word → Option Code

@@ -1,12 +1,17 @@
-use Rattle.std.proofs.Common.{◌≡◌, ◌<◌, ◌+◌, ◌-◌, ◌^◌, List, Some, false, length, take, refl, sym, ap, ◌∙◌, subst, arith}
+use Rattle.std.proofs.Common.{rules, ◌≡◌, ◌<◌, ◌+◌, ◌-◌, ◌^◌, ◌≤ℤ◌, ◌+ℤ◌, ◌-ℤ◌, pos, List, Some, false, length, take, w64, FitsSigned, to_z, of_z, to_z-of_z, refl, sym, ap, ◌∙◌, subst, arith}
+use Rattle.std.specs.Int.{saturate_signed}
+use Rattle.std.proofs.lemmas.Int.{ints, to_z_pos}
 use Rattle.std.proofs.lemmas.List.{length-take-le}
 use Rattle.dn_line.specs.State.ArcBlocks.{ReadUpTo}
 use Rattle.dn_line.specs.declared.arc_block.ArcLine.{ArcLine}
-use Rattle.dn_instance.specs.State.Drafts.{draft_kind}
+use Rattle.dn_instance.specs.Items.{Problem, counted}
+use Rattle.dn_instance.specs.State.Drafts.{IsDraftOf, draft_kind}
+use Rattle.dn_instance.specs.State.TextsSoFar.{HasRead, problem_as}
 use Rattle.dn_instance.specs.TextFaults.{is_companion}
 use Rattle.dn_instance.specs.Texts.{items_of}
-use Rattle.dn_instance.specs.State.TextsSoFar.{HasRead}
+use Rattle.dn_instance.specs.declared.text_so_far.TextSoFar.{TextSoFar}
 use Rattle.dn_instance.proofs.ArcLinesLaws.{front_of, run_front, run_on, run_signs}
+use Rattle.dn_instance.proofs.ArcRunLaws.{arcs_read, come_in_time, still_declared, still_few, sum_fits, sum_taken}
 use Rattle.dn_instance.proofs.ItemSteps.{problem_agrees, with_lines}
 use Rattle.dn_instance.proofs.text_so_far.TextSoFar.take_arcs.Goals as goal
 
@@ -16,24 +21,56 @@ returns-clause-taken c ls at =
     let kind = c.in-Some.kind in
     let bytes = c.args.bytes.now in
     let items = items_of ls in
-    let arcs = c.arcs-arcs.result.now in
-    let m = c.take_run-taken.result in
+    let arcs = c.first_arcs-arcs.result.now in
+    let n = length arcs in
+    let m = c.take_arcs-taken.result in
+    let k = counted items in
     let taken : List ArcLine = take m arcs in
     let is : draft_kind self.draft ≡ Some kind = sym c.kind.ensures ∙ c.in-Some.is in
-    let read = c.read.ensures in
-    let run = subst (λ l. ReadUpTo kind bytes l read.0) (sym c.arcs-arcs.ensures.arcs) read.1 in
     let graph : is_companion kind ≡ false = sym c.is_companion.ensures ∙ c.if-is_companion.false in
-    let j =
-    c.take_run-taken.ensures.taken kind items
-    (record { read = at.items_are; kind_is = is; graph = graph; signs = run_signs kind arcs bytes read.0 run }) in
-    let front = run_front kind arcs m bytes read.0 run in
-    let long : length taken ≡ m = length-take-le m arcs c.take_run-taken.ensures.within in
+    let problem = problem_agrees self items kind at.items_are is in
+    let p : Problem = problem_as self kind in
+    let read = c.read.ensures in
+    let all = subst (λ l. ReadUpTo kind bytes l read.0) (sym c.arcs.ensures.arcs) read.1 in
+    let some = run_front kind c.arcs.result.now n bytes read.0 all in
+    let run = subst (λ l. ReadUpTo kind bytes l some.0) (sym c.first_arcs-arcs.ensures.front) some.1 in
+    let drafted : IsDraftOf self.draft self.nodes p items =
+    record { problem_is = problem; kind_is = is; nodes_are = refl; holds = at.items_are.holds } in
+    let joins = c.take_arcs-taken.ensures.taken items p drafted (run_signs kind arcs bytes some.0 run) in
+    let long : length taken ≡ m = length-take-le m arcs c.take_arcs-taken.ensures.within in
+    let fits : FitsSigned w64 self.counted = search rules in
+    let fits_count : FitsSigned w64 self.count = search rules in
+    let left : c.saturating_sub-most.result ≡ saturate_signed w64 (self.count -ℤ pos k) =
+    c.saturating_sub-most.ensures
+    ∙ ap (λ z. saturate_signed w64 (z -ℤ to_z w64 (of_z w64 self.counted))) (to_z-of_z fits_count)
+    ∙ ap (λ z. saturate_signed w64 (self.count -ℤ z)) (to_z-of_z fits ∙ at.items_are.counted_is)
+    in
+    let round : to_z w64 (of_z w64 c.saturating_sub-most.result) ≡ c.saturating_sub-most.result = omega (arith, ints) in
+    let most = subst (λ z. 0 < n → pos n ≤ℤ z) round c.first_arcs-arcs.ensures.most in
+    let declared =
+    still_declared k m n self.count c.saturating_sub-most.result left most c.take_arcs-taken.ensures.within in
+    let small : k + m < 2 ^ 63 = still_few k m self.count at.items_are.count_fits at.items_are.counted_few declared in
+    let sum : c.saturating_add-self.result ≡ pos (k + m) =
+    c.saturating_add-self.ensures
+    ∙ ap (λ z. saturate_signed w64 (z +ℤ to_z w64 m)) (to_z-of_z fits ∙ at.items_are.counted_is)
+    ∙ ap (λ z. saturate_signed w64 (pos k +ℤ z)) (to_z_pos w64 m (let s : m < 2 ^ 63 = omega arith in s))
+    ∙ sum_taken k m small
+    in
+    let next = to_z w64 (of_z w64 c.saturating_add-self.result) in
+    let counted_is : next ≡ pos (k + m) =
+    ap (λ z. to_z w64 (of_z w64 z)) sum ∙ to_z-of_z (sum_fits (k + m) small) in
+    let held =
+    arcs_read self c.take_arcs-taken.new.self kind items at.items_are is c.take_arcs-taken.ensures.kept graph taken next
+    (counted_is ∙ ap (λ l. pos (k + l)) (sym long)) (subst (λ l. k + l < 2 ^ 63) (sym long) small) joins.holds in
+    let after : TextSoFar = record self { counted = next; draft = c.take_arcs-taken.new.self } in
+    let in_time =
+    come_in_time kind taken items p graph problem
+    (subst (λ l. 0 < l → pos (k + l) ≤ℤ self.count) (sym long) declared) in
+    let front = run_front kind arcs m bytes some.0 run in
     let few : length ls + length taken < 2 ^ 63 - 2 =
-    (let a = c.arcs-arcs.ensures.few in let b = c.take_run-taken.ensures.within in let n = at.number_is in
-    let k = c.if-self.false in omega arith) in
-    let on =
-    run_on kind taken bytes front.0 ls _ graph front.1 at.clean
-    (problem_agrees self items kind at.items_are is) refl j.0.faultless j.1 (omega arith) in
+    (let a = c.arcs.ensures.few in let b = c.first_arcs-arcs.ensures.within in
+    let d = c.take_arcs-taken.ensures.within in let e = at.number_is in let f = c.if-self.false in omega arith) in
+    let on = run_on kind taken bytes front.0 ls p graph front.1 at.clean problem refl joins.faultless in_time (omega arith) in
     record {
       more = on.more;
       whole =
@@ -44,11 +81,7 @@ returns-clause-taken c ls at =
       read = record {
         clean = on.clean;
         few = (let n = on.number in omega arith);
-        number_is =
-            ap (λ n. n + m) (c.take_run-taken.ensures.kept ∙ at.number_is) ∙ ap (λ n. length ls + n) (sym long)
-            ∙ sym on.number;
-        items_are =
-            with_lines c.take_run-taken.new.self _ _
-            (subst (HasRead c.take_run-taken.new.self) (sym on.items) j.0.holds);
+        number_is = ap (λ n. n + m) at.number_is ∙ ap (λ n. length ls + n) (sym long) ∙ sym on.number;
+        items_are = with_lines after _ _ (subst (HasRead after) (sym on.items) held);
       };
     }

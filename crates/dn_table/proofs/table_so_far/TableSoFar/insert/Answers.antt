@@ -1,20 +1,42 @@
-use Rattle.std.proofs.Common.{◌∙◌, ap}
-use Rattle.std.specs.Map.{lookup}
+use Rattle.std.proofs.Common.{◌≡◌, ℤ, List, subst, sym, ◌∙◌, ap, ◌++◌, ◌∷◌, []}
+use Rattle.std.proofs.lemmas.List.{map-append}
+use Rattle.std.specs.List.{list_any}
+use Rattle.std.specs.Map.{keys_of, lookup}
 use Rattle.dn_arc.specs.Pairs.{same_pair}
 use Rattle.dn_arc.proofs.PairLaws.{pair_self}
+use Rattle.pair_index.specs.State.Indexed.{Indexes}
 use Rattle.dn_table.proofs.PairLaws.{other_pair}
 use Rattle.dn_table.proofs.GrownLaws.{push_found, push_other, any_none}
 use Rattle.dn_table.proofs.table_so_far.TableSoFar.insert.Goals as goal
 
-pub push-requires : goal.push-requires
-push-requires g c = any_none c.args.pair c.args.self.now c.requires
+pub note_next-requires-clause-indexed : goal.note_next-requires-clause-indexed
+note_next-requires-clause-indexed g c = c.self.invariant
+
+pub note_next-requires-clause-fresh : goal.note_next-requires-clause-fresh
+note_next-requires-clause-fresh g c =
+    ap (λ es. list_any (same_pair c.args.pair) (keys_of es)) c.self.view_is ∙ any_none c.args.pair c.args.self.now c.requires
+
+pub invariant_of-self : goal.invariant_of-self
+invariant_of-self g c =
+    let e : (ℤ × ℤ) × g.row.B.Denot = (c.args.pair, c.args.bundle) in
+    let grown = c.push_reserved.ensures.items ∙ ap (λ es. es ++ e ∷ []) c.note_next.ensures.same in
+    subst (λ ks. Indexes c.note_next.new.index ks)
+    (sym (ap keys_of grown ∙ map-append (λ (x : (ℤ × ℤ) × g.row.B.Denot). x.0) c.self.inside.entries.items (e ∷ [])))
+    c.in-Ok.ensures.ok
+
+pub push_reserved-requires : goal.push_reserved-requires
+push_reserved-requires g c = c.in-Ok.ensures.room
 
 pub returns-in-Ok-clause-there : goal.returns-in-Ok-clause-there
 returns-in-Ok-clause-there g c =
-    ap (lookup (same_pair c.args.pair)) c.in-Ok.ensures.ok
+    ap (lookup (same_pair c.args.pair))
+    (c.push_reserved.ensures.items
+    ∙ ap (λ es. es ++ (c.args.pair, c.args.bundle) ∷ []) (c.note_next.ensures.same ∙ c.self.view_is))
     ∙ push_found (same_pair c.args.pair) (c.args.pair, c.args.bundle) c.args.self.now c.requires (pair_self c.args.pair)
 
 pub returns-in-Ok-clause-others : goal.returns-in-Ok-clause-others
 returns-in-Ok-clause-others g c q other =
-    ap (lookup (same_pair q)) c.in-Ok.ensures.ok
+    ap (lookup (same_pair q))
+    (c.push_reserved.ensures.items
+    ∙ ap (λ es. es ++ (c.args.pair, c.args.bundle) ∷ []) (c.note_next.ensures.same ∙ c.self.view_is))
     ∙ push_other (same_pair q) (c.args.pair, c.args.bundle) c.args.self.now (other_pair c.args.pair q other)
