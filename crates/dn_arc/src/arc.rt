@@ -1,5 +1,5 @@
 // Arcs without their nodes.
-ghost use Rattle.std.specs.Prelude.{◌≡◌, ℕ, ◌<◌, ℤ, List, [], ◌∷◌, length, slice_get};
+ghost use Rattle.std.specs.Prelude.{◌≡◌, ◌<◌, ℤ, List, [], ◌∷◌, length, slice_get};
 
 /// An arc's numbers in the order of its line, after SRC and DST.
 pub trait Parts: Copy {

@@ -1,5 +1,5 @@
 // Splits a number below 10^8 into its eight digits, one in each byte of a word, the first digit in the lowest byte.
-ghost use Rattle.std.specs.Prelude.{◌≡◌, ℕ, List, [], ◌∷◌, ◌/◌, ◌%◌, ◌<◌, ◌≤◌, length};
+ghost use Rattle.std.specs.Prelude.{◌≡◌, ℕ, [], ◌∷◌, ◌/◌, ◌%◌, ◌<◌};
 ghost use Rattle.std.specs.Simd.Lanes.{Each1, number_l};
 ghost use Rattle.dn_num.specs.State.Digits.{eight_digits, zeros_before, codes_of};
 

@@ -1,5 +1,5 @@
 // Short numbers at a place in longer bytes.
-ghost use Rattle.std.specs.Prelude.{◌≡◌, ◌+◌, ◌-◌, ◌*◌, ◌^◌, ◌%◌, ◌<◌, ◌≤◌, ◌++◌, length, take, IfSome, replicate, slice_index};
+ghost use Rattle.std.specs.Prelude.{◌≡◌, ◌+◌, ◌-◌, ◌*◌, ◌<◌, ◌≤◌, ◌++◌, length, take, IfSome, replicate};
 ghost use Rattle.std.specs.Simd.Lanes.{chunk, number_l};
 ghost use Rattle.dn_num.specs.State.Lanes.{IsShortAt};
 

@@ -1,5 +1,5 @@
 // Computes the number that eight digits in one word spell, the first digit in the lowest byte.
-ghost use Rattle.std.specs.Prelude.{◌≡◌, ℕ, List, [], ◌∷◌, ◌+◌, ◌*◌, ◌%◌, ◌^◌, ◌<◌, length, map};
+ghost use Rattle.std.specs.Prelude.{◌≡◌, ℕ, List, [], ◌∷◌, ◌+◌, ◌*◌, ◌%◌, ◌<◌, length, map};
 ghost use Rattle.std.specs.Simd.Lanes.{Each1, number_l};
 ghost use Rattle.dn_num.specs.State.Lanes.{places};
 

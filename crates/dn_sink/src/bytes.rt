@@ -1,5 +1,5 @@
 // A sink in memory.
-ghost use Rattle.std.specs.Prelude.{◌≡◌, ◌↔◌, ◌<◌, [], ◌++◌, length, false, true, Some, IsTrue, IsErr, IfOk, OnOk, OnErr};
+ghost use Rattle.std.specs.Prelude.{◌≡◌, ◌↔◌, ◌<◌, [], ◌++◌, length, false, true, Some, IsTrue, IsErr, IfOk, OnErr};
 ghost use Rattle.dn_sink.specs.State.Turns.{Turn, Flush};
 
 use crate::sink::{Sink, SinkFault};

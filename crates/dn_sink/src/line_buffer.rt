@@ -1,6 +1,6 @@
 // A line of words, built on the stack.
 ghost use Rattle.std.specs.Prelude.{◌≡◌, ◌+◌, ◌<◌, ◌≤◌, pos, ◌∷◌, [], ◌++◌, length};
-ghost use Rattle.std.specs.Fmt.{decimal, signed_decimal};
+ghost use Rattle.std.specs.Fmt.{signed_decimal};
 ghost use Rattle.dn_sink.specs.Puts.{Puts};
 
 use crate::sink::{Sink, SinkFault, put_all};

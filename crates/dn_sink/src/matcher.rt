@@ -1,5 +1,5 @@
 // A sink that compares its bytes with a text.
-ghost use Rattle.std.specs.Prelude.{◌≡◌, ◌↔◌, [], ◌++◌, length, take, false, true, Some, IsTrue, IsErr, IfOk, OnOk, OnErr};
+ghost use Rattle.std.specs.Prelude.{◌≡◌, ◌↔◌, [], ◌++◌, length, take, false, true, Some, IsTrue, IsErr, IfOk};
 ghost use Rattle.dn_sink.specs.State.Matches.{IsNoPrefix, IsSamePrefix, taken_of};
 ghost use Rattle.dn_sink.specs.State.Turns.{Turn, Flush};
 

@@ -1,5 +1,5 @@
 // A sink that fills a slice.
-ghost use Rattle.std.specs.Prelude.{◌≡◌, [], length, false, true, Some, Ok, IsTrue, IsOk, IfOk, OnOk, OnErr};
+ghost use Rattle.std.specs.Prelude.{◌≡◌, [], length, false, true, Some, Ok, IsOk};
 ghost use Rattle.dn_sink.specs.State.Held.{room_for, filled};
 ghost use Rattle.dn_sink.specs.State.Turns.{Turn, Flush};
 
@@ -15,7 +15,7 @@ pub struct Room<'a> {
 }
 
 impl<'a> Model for Room<'a> {
-    ghost use Rattle.std.specs.Prelude.{◌≡◌, ◌≤◌, length, take, IsTrue};
+    ghost use Rattle.std.specs.Prelude.{◌≡◌, ◌≤◌, length, take};
     ghost use Rattle.dn_sink.specs.State.Held.{Filled};
 
     ghost Value = { Filled };

@@ -1,11 +1,10 @@
 // Finds the entries of a list by their ordered pairs.
 ghost use Rattle.std.specs.Prelude.{◌≡◌, [], ◌∷◌, ◌++◌, OnOk, OnErr, IfOk, false};
 ghost use Rattle.std.specs.List.{list_any, IsDistinct};
-ghost use Rattle.std.specs.List.Sorted.{IsStrictlySortedBy};
 ghost use Rattle.std.specs.Map.{keys_of};
 ghost use Rattle.pair_index.specs.State.Indexed.{Indexes};
 ghost use Rattle.pair_index.specs.State.Ordered.{Orders};
-ghost use Rattle.dn_arc.specs.Pairs.{pair_cmp, same_pair};
+ghost use Rattle.dn_arc.specs.Pairs.{same_pair};
 ghost use Rattle.pair_index.specs.State.Places.{IsPlace, SameEntries};
 ghost use Rattle.pair_index.specs.State.Shown.{HasPlaces};
 

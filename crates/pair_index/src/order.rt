@@ -1,10 +1,9 @@
 // The entries of a list by ascending pair, in whatever order the list has them.
-ghost use Rattle.std.specs.Prelude.{◌≡◌, ◌<◌, length};
-ghost use Rattle.std.specs.List.{IsDistinct};
+ghost use Rattle.std.specs.Prelude.{◌<◌, length};
 ghost use Rattle.std.specs.List.Sorted.{IsStrictlySortedBy};
 ghost use Rattle.std.specs.Map.{keys_of};
 ghost use Rattle.pair_index.specs.State.Ordered.{Orders};
-ghost use Rattle.dn_arc.specs.Pairs.{pair_cmp, same_pair};
+ghost use Rattle.dn_arc.specs.Pairs.{pair_cmp};
 ghost use Rattle.pair_index.specs.State.Places.{IsKeyAfter, IsLeast, IsPlace};
 
 use crate::rising::place_by_search;

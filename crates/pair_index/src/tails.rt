@@ -1,5 +1,5 @@
 // Positions linked in chains, by tail and then by ascending head.
-ghost use Rattle.std.specs.Prelude.{◌≡◌, ◌<◌, ◌≤◌, ℕ, ℤ, false, IsTrue, slice_set, pos, ◌<ℤ◌, List, [], ◌∷◌, ◌++◌, MatchOption, length, Ok, true, ◌≢◌, IfOk, IfSome};
+ghost use Rattle.std.specs.Prelude.{◌≡◌, ◌<◌, ℕ, ℤ, false, IsTrue, slice_set, pos, ◌<ℤ◌, List, [], ◌∷◌, ◌++◌, MatchOption, length, Ok, true, ◌≢◌, IfOk, IfSome};
 ghost use Rattle.std.specs.List.{list_any, IsDistinct};
 ghost use Rattle.std.specs.Map.{keys_of};
 ghost use Rattle.std.specs.declared.cmp.Ordering.TheVariants.{Less};

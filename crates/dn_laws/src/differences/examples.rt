@@ -1,5 +1,5 @@
 // Worked first differences. Each verdict names its fields, so that left and right cannot be confused.
-ghost use Rattle.std.specs.Prelude.{pos, negsuc, List, [], ◌∷◌};
+ghost use Rattle.std.specs.Prelude.{pos, negsuc, [], ◌∷◌};
 ghost use Rattle.dn_instance.specs.Instances.{ShortestPaths, Sources, Queries, Coordinates};
 ghost use Rattle.dn_compare.specs.FirstDifference.{IsFirstDifference};
 ghost use Rattle.dn_laws.specs.State.DifferenceExamples.{with_lengths, flow_from, supplied, with_costs, length_arc_at, cap_arc_at, cost_arc_at};

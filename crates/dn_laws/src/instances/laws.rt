@@ -8,7 +8,7 @@ ghost use Rattle.dn_arc.specs.declared.arc.CostArc.{CostArc};
 ghost use Rattle.dn_arc.specs.Kinds.{lengths, capacities, costs};
 ghost use Rattle.dn_instance.specs.declared.refusal.Place.{Place};
 ghost use Rattle.dn_instance.specs.State.Helds.{Parsed, IsHeld};
-ghost use Rattle.dn_instance.specs.Instances.{Graph, Instance};
+ghost use Rattle.dn_instance.specs.Instances.{Instance};
 ghost use Rattle.dn_instance.specs.State.Parts.{AreParts, AreSame};
 ghost use Rattle.dn_instance.specs.Sameness.{IsSame, SameGraph};
 ghost use Rattle.dn_instance.specs.Texts.{Reads, IsFirstFault};

@@ -1,7 +1,6 @@
 // Worked reports.
 ghost use Rattle.std.specs.Prelude.{◌≡◌, true, false, None, Some, pos, negsuc, [], ◌∷◌, codes};
 ghost use Rattle.dn_line.specs.declared.kind.Kind.{Kind};
-ghost use Rattle.dn_arc.specs.declared.difference.Gap.{Gap};
 ghost use Rattle.dn_arc.specs.declared.difference.How.{How};
 ghost use Rattle.dn_instance.specs.Instances.{Sources, Queries, Coordinates};
 ghost use Rattle.dn_instance.specs.declared.refusal.Place.TheVariants as Places;
@@ -12,7 +11,6 @@ ghost use Rattle.dn_report.specs.Shows.{IsShown};
 ghost use Rattle.dn_report.specs.Checks.{checked_rows};
 ghost use Rattle.dn_report.specs.FaultLines.{fault_line, unfit_line};
 ghost use Rattle.dn_report.specs.Verdicts.{verdict_row};
-ghost use Rattle.dn_report.specs.declared.check.Forms.{Forms};
 
 use dn_instance::{CompanionFault, Place, Refusal};
 use dn_line::Code;

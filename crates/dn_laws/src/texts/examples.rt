@@ -1,5 +1,5 @@
 // Worked examples of canonical texts.
-ghost use Rattle.std.specs.Prelude.{◌≡◌, codes, pos, negsuc, List, [], ◌∷◌};
+ghost use Rattle.std.specs.Prelude.{◌≡◌, codes, pos, negsuc, [], ◌∷◌};
 ghost use Rattle.dn_laws.specs.State.BundleExamples.{worked, worked_one, canon_in_two_alone};
 ghost use Rattle.dn_instance.specs.Instances.{MaxFlow, ShortestPaths, Sources, Queries, Coordinates};
 ghost use Rattle.dn_canon.specs.CanonInstances.{IsCanonInstance};
