@@ -43,6 +43,12 @@ pub record Reached (s : LineState) (l : List ℕ) : Type 0 where
   pub stands : LineStateAt s (parts is_blank used)
   pub enough : begins_comment (words used) ≡ false → rest ≡ []
 
+-- after the bytes l, the state has taken the piece to the rest, or is in a comment
+pub record FedUpTo (s : LineState) (l piece rest : List ℕ) : Type 0 where
+  pub fed : List ℕ
+  pub whole : fed ++ rest ≡ piece
+  pub reached : Reached s (l ++ fed)
+
 -- the state has all words of the line, or the line is a comment and the state has its first words
 pub record HasWordsOf (s : LineState) (l : List ℕ) : Type 0 where
   pub used : List ℕ
