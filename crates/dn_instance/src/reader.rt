@@ -76,7 +76,7 @@ impl Reader {
         }
     }
 
-    // Takes plain arc lines at the beginning of a piece, if no line is open, or, if it takes none, what `step` takes.
+    // If no line is open, takes plain arc lines at the beginning of a piece. If it takes none, takes what `step` takes.
     // Returns how many bytes it takes.
     fn advance(&mut self, block: &mut ArcBlock, piece: &[u8]) -> Result<usize, Refusal>
         requires { 0 < length piece.now }
