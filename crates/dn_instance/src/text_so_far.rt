@@ -188,8 +188,8 @@ impl TextSoFar {
     }
 
     // Takes the arcs of plain lines at the beginning of these bytes, at most as many as one block has, up to the first
-    // that is one too many, that has a fault, or for which an allocation fails. Returns how many bytes their lines have,
-    // with the LFs that end them. The block is memory to read into.
+    // that is one too many, that has a fault, or for which an allocation fails. Returns how many bytes their lines
+    // have, with the LFs that end them. The block is memory to read into.
     pub(crate) fn take_arcs(&mut self, alloc: Global, block: &mut ArcBlock, bytes: &[u8]) -> usize
         ensures taken { (ls : List (List ℕ)) → TextAt self.old ls
             → ReadsFront self.new ls (take result bytes.now) }

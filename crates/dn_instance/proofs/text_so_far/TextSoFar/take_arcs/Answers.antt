@@ -70,7 +70,8 @@ returns-clause-taken c ls at =
     let few : length ls + length taken < 2 ^ 63 - 2 =
     (let a = c.arcs.ensures.few in let b = c.first_arcs-arcs.ensures.within in
     let d = c.take_arcs-taken.ensures.within in let e = at.number_is in let f = c.if-self.false in omega arith) in
-    let on = run_on kind taken bytes front.0 ls p graph front.1 at.clean problem refl joins.faultless in_time (omega arith) in
+    let on =
+    run_on kind taken bytes front.0 ls p graph front.1 at.clean problem refl joins.faultless in_time (omega arith) in
     record {
       more = on.more;
       whole =

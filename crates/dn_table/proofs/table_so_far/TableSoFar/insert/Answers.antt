@@ -14,7 +14,8 @@ note_next-requires-clause-indexed g c = c.self.invariant
 
 pub note_next-requires-clause-fresh : goal.note_next-requires-clause-fresh
 note_next-requires-clause-fresh g c =
-    ap (λ es. list_any (same_pair c.args.pair) (keys_of es)) c.self.view_is ∙ any_none c.args.pair c.args.self.now c.requires
+    ap (λ es. list_any (same_pair c.args.pair) (keys_of es)) c.self.view_is
+    ∙ any_none c.args.pair c.args.self.now c.requires
 
 pub invariant_of-self : goal.invariant_of-self
 invariant_of-self g c =
