@@ -1,18 +1,17 @@
 -- Linking one more position into the chain of its tail.
-use Rattle.std.proofs.Common.{◌≡◌, ℕ, suc, ◌+◌, ◌-◌, ◌<◌, ◌≤◌, ℤ, pos, ◌<ℤ◌, ◌≤ℤ◌, List, [], ◌∷◌, ◌++◌, length, get_or, set, take, true, false, Some, ◌⊎◌, inl, inr, refl, sym, ap, ◌∙◌, subst, arith}
+use Rattle.std.proofs.Common.{◌≡◌, ℕ, suc, ◌+◌, ◌-◌, ◌<◌, ◌≤◌, ℤ, pos, ◌<ℤ◌, ◌≤ℤ◌, List, [], ◌∷◌, ◌++◌, length, get_or, set, take, false, ◌⊎◌, inl, inr, refl, sym, ap, ◌∙◌, subst, arith}
 use Rattle.std.specs.List.{list_any, IsDistinct}
 use Rattle.std.specs.Map.{keys_of}
 use Rattle.std.proofs.lemmas.Map.Entries.{length-keys_of}
 use Rattle.std.proofs.lemmas.Bool.{cases_lt, cases_eq, false≢true}
 use Rattle.std.proofs.lemmas.Int.{ints, by_lt_z}
 use Rattle.std.proofs.lemmas.List.{length_push, length-set, get_or_append_left, get_or_at, get_or-set_same, get_or-set_other, get_or-take, length-take-le, take-map}
-use Rattle.std.proofs.lemmas.Map.Keys.{apart_from_distinct, any_passes_from_place}
-use Rattle.std.proofs.lemmas.Option.{slice_get-get_or}
+use Rattle.std.proofs.lemmas.Map.Keys.{apart_from_distinct}
 use Rattle.dn_arc.specs.Pairs.{same_pair}
 use Rattle.pair_index.specs.State.Places.{key_at}
 use Rattle.pair_index.specs.State.Tailed.{IsAfter, LeadsTo, Links, Sought}
 use Rattle.dn_arc.proofs.PairLaws.{pair_self}
-use Rattle.pair_index.proofs.PlaceLaws.{none_from_places}
+use Rattle.pair_index.proofs.PlaceLaws.{none_from_places, fresh_at}
 use Rattle.pair_index.proofs.ChainLaws.{key_of_place, key_kept, key_new}
 use Rattle.pair_index.proofs.TailLaws.{least_from, greatest_before, pair_from}
 
@@ -62,15 +61,6 @@ spliced_after heads next t before after link some inside = record {
       subst (λ m. get_or (set (next ++ after ∷ []) (before - 1) link) m 0 ≡ link) at
       (get_or-set_same (next ++ after ∷ []) (before - 1) link 0 (omega arith)));
 }
-
--- a pair that is not among the keys is at no position
-pub fresh_at : (k : ℤ × ℤ) (keys : List (ℤ × ℤ)) (i : ℕ) → list_any (same_pair k) keys ≡ false → i < length keys
-    → key_at keys i ≡ k → ⊥
-fresh_at k keys i fresh lt e =
-    let there : list_any (same_pair k) keys ≡ true =
-    any_passes_from_place (same_pair k) keys i k (slice_get-get_or keys i (pos 0, pos 0) lt ∙ ap (λ x. Some x) e)
-    (pair_self k) in
-    false≢true (sym fresh ∙ there)
 
 module _ (keys : List (ℤ × ℤ)) (k : ℤ × ℤ) where
   abbrev now : List (ℤ × ℤ)

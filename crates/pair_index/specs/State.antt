@@ -1,8 +1,8 @@
 pub mod Buckets
 pub mod Chained
 pub mod Indexed
-pub mod InOrder
-pub mod Ordered
 pub mod Places
+pub mod Runs
 pub mod Shown
+pub mod Sorted
 pub mod Tailed

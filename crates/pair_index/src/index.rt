@@ -1,17 +1,15 @@
 // Finds the entries of a list by their ordered pairs.
-ghost use Rattle.std.specs.Prelude.{◌≡◌, [], ◌∷◌, ◌++◌, OnOk, OnErr, IfOk, false};
+ghost use Rattle.std.specs.Prelude.{◌≡◌, ◌≢◌, [], ◌∷◌, ◌++◌, OnOk, OnErr, IfOk, IfSome, IsTrue, Ok, false, true};
 ghost use Rattle.std.specs.List.{list_any, IsDistinct};
+ghost use Rattle.std.specs.List.Sorted.{IsPermutation, IsStrictlySortedBy};
 ghost use Rattle.std.specs.Map.{keys_of};
 ghost use Rattle.pair_index.specs.State.Indexed.{Indexes};
-ghost use Rattle.pair_index.specs.State.Ordered.{Orders};
-ghost use Rattle.dn_arc.specs.Pairs.{same_pair};
-ghost use Rattle.pair_index.specs.State.Places.{IsPlace, SameEntries};
-ghost use Rattle.pair_index.specs.State.Shown.{HasPlaces};
+ghost use Rattle.dn_arc.specs.Pairs.{pair_cmp, same_pair};
+ghost use Rattle.pair_index.specs.State.Places.{IsPlace};
+ghost use Rattle.pair_index.specs.State.Shown.{HasPlaces, ShowsIndex};
 
-use crate::bucket::Spread;
 use crate::chains::Chains;
-use crate::order::PairOrder;
-use crate::rising::{is_past, place_by_search};
+use crate::runs::Runs;
 use crate::sort::sort_by_pair;
 use crate::tails::{Tails, are_near_pairs};
 use std::alloc::{AllocError, Global};
@@ -21,28 +19,22 @@ use std::collections::BTreeMap;
 pub const AHEAD: usize = 16;
 
 // How entries are found. An index changes from a way only to a later one, or to `Tails` when its chains are rebuilt.
-#[derive(Clone, Copy)]
+#[derive(Drop)]
 enum Way {
-    // By binary search, since the pairs are sorted.
-    Rising,
+    // By binary search, since tails never fall, or never rise. The entries of the last tail may come in any order.
+    Runs(Runs),
     // By chains of tails, for pairs that come nearly in order.
-    Tails,
+    Tails(Tails),
     // By chains of buckets.
-    Chained,
-    // By an ordered map, if a chain would be long with every spread.
-    Ordered,
+    Chained(Chains),
+    // By an ordered map, if a chain would be long.
+    Ordered(BTreeMap<(i64, i64), usize>),
 }
 
 /// Finds the entries of a list by their ordered pairs. The index does not own the entries; each call takes the list.
 #[derive(Drop)]
 pub struct PairIndex {
     way: Way,
-    // Empty unless `way` is `Tails`.
-    tails: Tails,
-    // Without buckets unless `way` is `Chained`.
-    chains: Chains,
-    // Empty unless `way` is `Ordered`.
-    places: BTreeMap<(i64, i64), usize>,
 }
 
 // Returns the position of each entry and of a pair that comes next.
@@ -62,158 +54,188 @@ fn places_with<X>(
     Ok(places)
 }
 
+// Returns a way to find the entries by links, or `None` if chains would be long or the links do not suffice. Whether it
+// returns a way affects only the speed.
+fn linked<X>(alloc: Global, entries: &[((i64, i64), X)]) -> Result<Option<Way>, AllocError>
+    requires { IsDistinct same_pair (keys_of entries.now) }
+    ensures { IfOk result (λ o. IfSome o (λ way. ShowsIndex way (keys_of entries.now))) }
+{
+    if let Some(tails) = Tails::of(alloc, entries)? {
+        return Ok(Some(Way::Tails(tails)));
+    }
+    match Chains::of(alloc, entries, false)? {
+        Some(chains) => Ok(Some(Way::Chained(chains))),
+        None => Ok(None),
+    }
+}
+
+// Returns a way to find the entries and a pair that comes next: by tails, or by buckets, or by the ordered map. If
+// `short`, no chain of the entries over buckets is long. Which way it returns affects only the speed.
+fn way_with<X>(
+    alloc: Global,
+    entries: &[((i64, i64), X)],
+    short: bool,
+    pair: &(i64, i64),
+) -> Result<Way, AllocError>
+    requires apart { IsDistinct same_pair (keys_of entries.now) }
+    requires fresh { list_any (same_pair pair.now) (keys_of entries.now) ≡ false }
+    ensures { IfOk result (λ way. ShowsIndex way (keys_of entries.now ++ pair.now ∷ [])) }
+{
+    if let Some(mut tails) = Tails::of(alloc, entries)? {
+        if tails.take(entries, pair)? {
+            return Ok(Way::Tails(tails));
+        }
+        drop(tails);
+    }
+    if let Some(mut chains) = Chains::of(alloc, entries, short)? {
+        if chains.take(pair) {
+            return Ok(Way::Chained(chains));
+        }
+        drop(chains);
+    }
+    Ok(Way::Ordered(places_with(alloc, entries, pair)?))
+}
+
 impl PairIndex {
-    /// Returns the index of no entries. This does not allocate.
-    pub fn new(alloc: Global) -> PairIndex
+    /// Returns the index of no entries.
+    pub fn new() -> PairIndex
         ensures { Indexes result [] }
     {
         PairIndex {
-            way: Way::Rising,
-            tails: Tails::none(alloc),
-            chains: Chains::none(alloc),
-            places: BTreeMap::new(alloc),
+            way: Way::Runs(Runs::new()),
         }
     }
 
-    /// Returns the position of a pair's entry, if there is one. This does not allocate.
-    #[tactic(auto, unfolding(crate::specs::State::Shown::ShowsIndex))]
-    pub fn find<X>(&self, entries: &[((i64, i64), X)], pair: &(i64, i64)) -> Option<usize>
-        requires { Indexes self.now (keys_of entries.now) }
-        ensures { IsPlace (keys_of entries.now) pair.now result }
+    /// Returns the position of a pair's entry, if there is one. This does not allocate. What it counts affects only the
+    /// speed.
+    pub fn find<X>(&mut self, entries: &[((i64, i64), X)], pair: &(i64, i64)) -> Option<usize>
+        requires { Indexes self.old (keys_of entries.now) }
+        ensures place { IsPlace (keys_of entries.now) pair.now result }
+        ensures stays { Indexes self.new (keys_of entries.now) }
     {
-        match self.way {
-            Way::Rising => {
-                if is_past(entries, pair) {
-                    return None;
-                }
-                place_by_search(entries, pair)
-            }
-            Way::Tails => self.tails.find(entries, pair),
-            Way::Chained => self.chains.find(entries, pair),
-            Way::Ordered => self.places.get(pair).copied(),
+        match &mut self.way {
+            Way::Runs(runs) => runs.find(entries, pair),
+            Way::Tails(tails) => tails.find(entries, pair),
+            Way::Chained(chains) => chains.find(entries, pair),
+            Way::Ordered(places) => places.get(pair).copied(),
         }
     }
 
-    /// Whether looking up pairs together may save time, because each look-up waits for memory of its own. This has no
-    /// contract, because it affects only the speed.
-    pub fn is_scattered(&self) -> bool {
-        matches!(self.way, Way::Tails | Way::Chained)
+    /// Whether the entries are sorted by pair, and the index needs no change if an entry of this pair is appended. If
+    /// so, no entry has the pair.
+    #[inline(always)]
+    pub fn is_next<X>(&self, entries: &[((i64, i64), X)], pair: &(i64, i64)) -> bool
+        requires { Indexes self.now (keys_of entries.now) }
+        ensures fresh { IsTrue result → list_any (same_pair pair.now) (keys_of entries.now) ≡ false }
+        ensures stays { IsTrue result → Indexes self.now (keys_of entries.now ++ pair.now ∷ []) }
+    {
+        match &self.way {
+            Way::Runs(runs) => runs.is_next(entries, pair),
+            _ => false,
+        }
+    }
+
+    /// Whether looking up pairs together may save time, because each look-up waits for memory of its own, or because
+    /// another way to find them would save time. This has no contract, because it affects only the speed.
+    pub fn is_scattered(&self, entries: usize) -> bool {
+        match &self.way {
+            Way::Runs(runs) => runs.are_slow(entries),
+            Way::Tails(_) | Way::Chained(_) => true,
+            Way::Ordered(_) => false,
+        }
     }
 
     /// Returns a hint of the position of each of these pairs, or `None` if looking them up together would save no time.
-    /// This has no contract: the caller checks whether the entry at a hint is the pair's. It does not allocate.
-    #[tactic(auto, unfolding(crate::specs::State::Shown::ShowsIndex))]
+    /// The caller checks whether the entry at a hint is the pair's. First changes the way of finding, if another one
+    /// saves time and no allocation fails.
     pub fn likely_places<X>(
-        &self,
+        &mut self,
+        alloc: Global,
         entries: &[((i64, i64), X)],
         pairs: &[(i64, i64); AHEAD],
     ) -> Option<[u32; AHEAD]>
-        requires { Indexes self.now (keys_of entries.now) }
+        requires { Indexes self.old (keys_of entries.now) }
+        ensures { Indexes self.new (keys_of entries.now) }
+    {
+        if let Way::Runs(runs) = &mut self.way {
+            runs.count_anew();
+            if let Ok(Some(way)) = linked(alloc, entries) {
+                self.way = way;
+            }
+        }
+        match &self.way {
+            Way::Tails(tails) if !are_near_pairs(pairs, entries.len()) => {
+                Some(tails.likely_places(entries, pairs))
+            }
+            Way::Chained(chains) => Some(chains.likely_places(entries, pairs)),
+            Way::Runs(_) | Way::Tails(_) | Way::Ordered(_) => None,
+        }
+    }
+
+    /// Sorts the entries by ascending pair, in place. This does not allocate.
+    pub fn sort<X>(self, entries: &mut [((i64, i64), X)])
+        requires { Indexes self (keys_of entries.old) }
+        ensures sorted { IsStrictlySortedBy pair_cmp (keys_of entries.new) }
+        ensures moved { IsPermutation entries.old entries.new }
     {
         match self.way {
-            Way::Tails if !are_near_pairs(pairs, entries.len()) => {
-                Some(self.tails.likely_places(entries, pairs))
-            }
-            Way::Chained => Some(self.chains.likely_places(entries, pairs)),
-            Way::Rising | Way::Tails | Way::Ordered => None,
+            Way::Runs(runs) => runs.end(entries),
+            Way::Tails(_) | Way::Chained(_) | Way::Ordered(_) => sort_by_pair(false, entries),
         }
     }
 
-    /// Returns the order of the entries by ascending pair. Sorts the entries in place unless they are sorted or linked
-    /// by tail. This does not allocate.
-    #[tactic(auto, unfolding(crate::specs::State::Shown::ShowsIndex))]
-    pub fn order<X>(self, entries: &mut [((i64, i64), X)]) -> PairOrder
-        requires { Indexes self (keys_of entries.old) }
-        ensures ordered { Orders result (keys_of entries.new) }
-        ensures same { SameEntries entries.new entries.old }
-    {
-        let PairIndex { way, tails, .. } = self;
-        match way {
-            Way::Rising => PairOrder { tails: None },
-            Way::Tails => PairOrder { tails: Some(tails) },
-            Way::Chained | Way::Ordered => {
-                sort_by_pair(entries);
-                PairOrder { tails: None }
-            }
-        }
-    }
-
-    // Adds `pair` by rebuilding the index: by tails, or else by chains of this spread. If neither serves or `spread` is
-    // `None`, it falls back to the ordered map. If an allocation fails, nothing changes. Which way it takes affects
-    // only the speed.
-    #[tactic(auto, unfolding(crate::specs::State::Shown::ShowsIndex))]
-    fn rebuild<X>(
+    // Adds a pair in the present way. Returns false and changes nothing if this way does not serve. Which it returns
+    // affects only the speed. If an allocation fails, nothing changes.
+    fn take<X>(
         &mut self,
         alloc: Global,
-        entries: &[((i64, i64), X)],
+        entries: &mut [((i64, i64), X)],
         pair: &(i64, i64),
-        spread: Option<Spread>,
-    ) -> Result<(), AllocError>
-        requires indexed { Indexes self.old (keys_of entries.now) }
-        requires fresh { list_any (same_pair pair.now) (keys_of entries.now) ≡ false }
-        ensures ok { OnOk result (Indexes self.new (keys_of entries.now ++ pair.now ∷ [])) }
-        ensures err { OnErr result (self.new ≡ self.old) }
+    ) -> Result<bool, AllocError>
+        requires indexed { Indexes self.old (keys_of entries.old) }
+        requires fresh { list_any (same_pair pair.now) (keys_of entries.old) ≡ false }
+        ensures taken { result ≡ Ok true → Indexes self.new (keys_of entries.new ++ pair.now ∷ []) }
+        ensures moved { IsPermutation entries.old entries.new }
+        ensures same { result ≢ Ok true → entries.new ≡ entries.old }
+        ensures not { result ≢ Ok true → Indexes self.new (keys_of entries.old) }
     {
-        if let Some(spread) = spread {
-            if let Some(tails) = Tails::of(alloc, entries, pair)? {
-                self.tails = tails;
-                self.chains = Chains::none(alloc);
-                self.way = Way::Tails;
-                return Ok(());
+        match &mut self.way {
+            Way::Runs(runs) => runs.take(alloc, entries, pair),
+            Way::Tails(tails) => {
+                if !tails.stays(entries) {
+                    return Ok(false);
+                }
+                tails.take(entries, pair)
             }
-            if let Some(chains) = Chains::of(alloc, spread, entries, pair)? {
-                self.chains = chains;
-                self.tails = Tails::none(alloc);
-                self.way = Way::Chained;
-                return Ok(());
+            Way::Chained(chains) => Ok(chains.take(pair)),
+            Way::Ordered(places) => {
+                places.insert(*pair, entries.len())?;
+                Ok(true)
             }
         }
-        self.places = places_with(alloc, entries, pair)?;
-        self.tails = Tails::none(alloc);
-        self.chains = Chains::none(alloc);
-        self.way = Way::Ordered;
-        Ok(())
     }
 
-    /// Adds a pair that has no entry, and whose entry comes next in the list. The only error is that an allocation
-    /// fails. Then the index still finds the entries without the pair.
-    #[tactic(auto, unfolding(crate::specs::State::Shown::ShowsIndex))]
+    /// Adds a pair that has no entry, and whose entry comes next in the list. May change the order of the entries. The
+    /// only error is that an allocation fails. Then the index still finds the entries without the pair, and their order
+    /// is the same.
     pub fn note<X>(
         &mut self,
         alloc: Global,
-        entries: &[((i64, i64), X)],
+        entries: &mut [((i64, i64), X)],
         pair: &(i64, i64),
     ) -> Result<(), AllocError>
-        requires indexed { Indexes self.old (keys_of entries.now) }
-        requires fresh { list_any (same_pair pair.now) (keys_of entries.now) ≡ false }
-        ensures ok { OnOk result (Indexes self.new (keys_of entries.now ++ pair.now ∷ [])) }
-        ensures err { OnErr result (Indexes self.new (keys_of entries.now)) }
+        requires indexed { Indexes self.old (keys_of entries.old) }
+        requires fresh { list_any (same_pair pair.now) (keys_of entries.old) ≡ false }
+        ensures ok { OnOk result (Indexes self.new (keys_of entries.new ++ pair.now ∷ [])) }
+        ensures moved { IsPermutation entries.old entries.new }
+        ensures err { OnErr result (Indexes self.new (keys_of entries.new)) }
+        ensures same { OnErr result (entries.new ≡ entries.old) }
     {
-        let spread = match self.way {
-            Way::Rising => {
-                if is_past(entries, pair) {
-                    return Ok(());
-                }
-                Some(Spread::Near)
-            }
-            Way::Tails => {
-                if self.tails.stays(entries) && self.tails.take(entries, pair)? {
-                    return Ok(());
-                }
-                Some(Spread::Near)
-            }
-            Way::Chained => {
-                if self.chains.has_room(pair) {
-                    self.chains.link(pair);
-                    return Ok(());
-                }
-                self.chains.spread_next(pair)
-            }
-            Way::Ordered => {
-                self.places.insert(*pair, entries.len())?;
-                return Ok(());
-            }
-        };
-        self.rebuild(alloc, entries, pair, spread)
+        if self.take(alloc, entries, pair)? {
+            return Ok(());
+        }
+        let short = matches!(self.way, Way::Chained(_));
+        self.way = way_with(alloc, entries, short, pair)?;
+        Ok(())
     }
 }

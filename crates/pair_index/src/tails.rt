@@ -2,10 +2,9 @@
 ghost use Rattle.std.specs.Prelude.{◌≡◌, ◌<◌, ℕ, ℤ, false, IsTrue, slice_set, pos, ◌<ℤ◌, List, [], ◌∷◌, ◌++◌, MatchOption, length, Ok, true, ◌≢◌, IfOk, IfSome};
 ghost use Rattle.std.specs.List.{list_any, IsDistinct};
 ghost use Rattle.std.specs.Map.{keys_of};
-ghost use Rattle.std.specs.declared.cmp.Ordering.TheVariants.{Less};
-ghost use Rattle.pair_index.specs.State.Tailed.{HasRoomFor, IsBare, IsFirstFrom, IsTailed, LeadsTo, IsSpot};
-ghost use Rattle.pair_index.specs.State.Places.{key_at, IsLeast, IsPlace};
-ghost use Rattle.dn_arc.specs.Pairs.{pair_cmp, same_pair};
+ghost use Rattle.pair_index.specs.State.Tailed.{HasRoomFor, IsTailed, LeadsTo, IsSpot};
+ghost use Rattle.pair_index.specs.State.Places.{IsPlace};
+ghost use Rattle.dn_arc.specs.Pairs.{same_pair};
 
 use crate::index::AHEAD;
 use crate::pair::{is_head_upto, is_pair};
@@ -15,7 +14,7 @@ use std::alloc::{AllocError, Global};
 const MOST_LINKED: usize = u32::MAX as usize;
 
 // The length at which a chain is long.
-const LONG: u32 = 12;
+const LONG: u32 = 24;
 
 // The greatest count of tails for each entry that there is capacity for.
 const DENSE: usize = 4;
@@ -127,17 +126,14 @@ impl Tails {
         Spot { before, after }
     }
 
-    // Returns the chains of the entries and of a pair that comes next. Returns `None` if pairs do not come nearly in
-    // order, if a chain would be long, or if a tail is below 0 or too great. Whether it returns chains affects only the
-    // speed.
+    // Returns the chains of the entries. Returns `None` if pairs do not come nearly in order, if a chain would be long,
+    // or if a tail is below 0 or too great. Whether it returns chains affects only the speed.
     pub(crate) fn of<X>(
         alloc: Global,
         entries: &[((i64, i64), X)],
-        pair: &(i64, i64),
     ) -> Result<Option<Tails>, AllocError>
-        requires apart { IsDistinct same_pair (keys_of entries.now) }
-        requires fresh { list_any (same_pair pair.now) (keys_of entries.now) ≡ false }
-        ensures { IfOk result (λ o. IfSome o (λ tails. IsTailed tails (keys_of entries.now ++ pair.now ∷ []))) }
+        requires { IsDistinct same_pair (keys_of entries.now) }
+        ensures { IfOk result (λ o. IfSome o (λ tails. IsTailed tails (keys_of entries.now))) }
     {
         if !are_near(entries) {
             return Ok(None);
@@ -145,7 +141,7 @@ impl Tails {
         let mut tails = Tails::none(alloc);
         // A slice has fewer entries than a `usize` counts, so the sum does not saturate.
         tails.next.reserve(entries.len().saturating_add(1))?;
-        if tails.take_all(entries, pair)? {
+        if tails.take_all(entries)? {
             Ok(Some(tails))
         } else {
             drop(tails);
@@ -153,23 +149,18 @@ impl Tails {
         }
     }
 
-    // Adds the entries and then a pair. Stops and returns false at the first one that cannot be added.
-    fn take_all<X>(
-        &mut self,
-        entries: &[((i64, i64), X)],
-        pair: &(i64, i64),
-    ) -> Result<bool, AllocError>
+    // Adds the entries. Stops and returns false at the first one that cannot be added.
+    fn take_all<X>(&mut self, entries: &[((i64, i64), X)]) -> Result<bool, AllocError>
         requires linked { IsTailed self.old [] }
         requires apart { IsDistinct same_pair (keys_of entries.now) }
-        requires fresh { list_any (same_pair pair.now) (keys_of entries.now) ≡ false }
-        ensures { IfOk result (λ is. IsTrue is → IsTailed self.new (keys_of entries.now ++ pair.now ∷ [])) }
+        ensures { IfOk result (λ is. IsTrue is → IsTailed self.new (keys_of entries.now)) }
     {
         for i in 0..entries.len() {
             if !self.take(&entries[..i], &entries[i].0)? {
                 return Ok(false);
             }
         }
-        self.take(entries, pair)
+        Ok(true)
     }
 
     // Whether the chains of tails remain the way. This is checked only when the links have no spare capacity, and then
@@ -180,6 +171,7 @@ impl Tails {
 
     // Adds a pair that comes next. Returns false if its chain is long, or if its tail is below 0 or too great. A false
     // result affects only the speed.
+    #[inline(always)]
     pub(crate) fn take<X>(
         &mut self,
         entries: &[((i64, i64), X)],
@@ -320,44 +312,6 @@ impl Tails {
             Some(at)
         } else {
             None
-        }
-    }
-
-    // Returns the first position of the least tail, from `tail` on, that has a position.
-    fn first_from(&self, tail: usize) -> Option<usize>
-        ensures { MatchOption result (IsBare self.now.heads.items tail (length self.now.heads.items))
-            (λ at. IsFirstFrom self.now.heads.items tail at) }
-    {
-        for i in tail..self.heads.len() {
-            let link = self.heads[i];
-            if link != 0 {
-                return Some((link - 1) as usize);
-            }
-        }
-        None
-    }
-
-    // Returns the position of the least pair.
-    pub(crate) fn first(&self) -> Option<usize>
-        ensures { (keys : List (ℤ × ℤ)) → IsTailed self.now keys → IsLeast keys (λ p. Unit {0}) result }
-    {
-        self.first_from(0)
-    }
-
-    // Returns the position of the least pair above the one at a position.
-    pub(crate) fn next<X>(&self, entries: &[((i64, i64), X)], at: usize) -> Option<usize>
-        requires linked { IsTailed self.now (keys_of entries.now) }
-        requires inside { at < length entries.now }
-        ensures { IsLeast (keys_of entries.now)
-            (λ p. pair_cmp (key_at (keys_of entries.now) at) p ≡ Less) result }
-    {
-        let link = self.next[at];
-        if link != 0 {
-            return Some((link - 1) as usize);
-        }
-        match tail_of(&entries[at].0) {
-            Some(tail) => self.first_from(tail + 1),
-            None => None,
         }
     }
 }

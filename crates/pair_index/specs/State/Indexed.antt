@@ -8,4 +8,4 @@ use Rattle.pair_index.specs.declared.index.PairIndex.{PairIndex}
 -- the keys are different pairs, and the index finds the position of each
 pub record Indexes (index : PairIndex) (keys : List (ℤ × ℤ)) : Type 0 where
   pub apart : IsDistinct same_pair keys
-  pub shows : ShowsIndex index.way index.tails index.chains index.places keys
+  pub shows : ShowsIndex index.way keys

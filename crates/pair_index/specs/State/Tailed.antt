@@ -1,5 +1,5 @@
 -- Positions linked in chains, by tail and then by ascending head. Only the proofs of this crate use these definitions.
-use Rattle.std.specs.Prelude.{◌≡◌, ℕ, suc, ◌<◌, ◌≤◌, ◌-◌, ◌^◌, ℤ, pos, ◌<ℤ◌, ◌≤ℤ◌, ◌⊎◌, List, length, get_or, vec_capacity}
+use Rattle.std.specs.Prelude.{◌≡◌, ℕ, suc, ◌<◌, ◌-◌, ◌^◌, ℤ, pos, ◌<ℤ◌, ◌≤ℤ◌, ◌⊎◌, List, length, get_or, vec_capacity}
 use Rattle.pair_index.specs.State.Places.{key_at}
 use Rattle.pair_index.specs.declared.tails.Tails.{Tails}
 use Rattle.pair_index.specs.declared.tails.Spot.{Spot}
@@ -56,15 +56,3 @@ pub record HasRoomFor (tails : Tails) (pair : ℤ × ℤ) : Type 0 where
   pub known : tail < length tails.heads.items
   pub spare : length tails.next.items < vec_capacity tails.next
   pub named : length tails.next.items < 2 ^ 32 - 1
-
--- no tail from `low` to below `high` has a position
-abbrev pub IsBare : List ℕ → ℕ → ℕ → Type 0
-IsBare heads low high = (u : ℕ) → low ≤ u → u < high → get_or heads u 0 ≡ 0
-
--- the position is the first one of the least tail, from `low` on, that has a position
-pub record IsFirstFrom (heads : List ℕ) (low at : ℕ) : Type 0 where
-  pub tail : ℕ
-  pub from : low ≤ tail
-  pub inside : tail < length heads
-  pub is : get_or heads tail 0 ≡ suc at
-  pub bare : IsBare heads low tail

@@ -18,7 +18,5 @@ loop-entry-preserved g c =
 
 pub returns : goal.returns
 returns g c linked =
-    let es = c.args.entries.now in
-    c.link-2.ensures (keys_of es)
-    (subst (λ some. IsChained c.loop-entry.self (keys_of some))
-    (take_all c.loop-entry.entry-index es c.loop-entry-test.false) c.loop-entry.invariant)
+    subst (λ some. IsChained c.loop-entry.self (keys_of some))
+    (take_all c.loop-entry.entry-index c.args.entries.now c.loop-entry-test.false) c.loop-entry.invariant

@@ -10,9 +10,3 @@ loop-i-init g c = c.requires.linked
 
 pub take-requires-clause-linked : goal.take-requires-clause-linked
 take-requires-clause-linked g c = c.loop-i.invariant
-
-pub take-requires-2-clause-fresh : goal.take-requires-2-clause-fresh
-take-requires-2-clause-fresh g c = c.requires.fresh
-
-pub returns : goal.returns
-returns g c = c.take-2.ensures.taken

@@ -1,0 +1,58 @@
+use Rattle.std.proofs.Common.{◌≡◌, ◌++◌, ◌∷◌, [], true, length, refl, sym, subst}
+use Rattle.std.specs.Bool.{IsTrue}
+use Rattle.std.specs.Map.{keys_of}
+use Rattle.std.specs.Result.{IfOk}
+use Rattle.std.proofs.lemmas.Map.Entries.{length-keys_of}
+use Rattle.pair_index.specs.State.Shown.{ShowsIndex}
+use Rattle.pair_index.specs.State.Tailed.{IsTailed}
+use Rattle.pair_index.proofs.IndexLaws.{apart_more, places_more}
+use Rattle.pair_index.proofs.SortLaws.{apart_still, fresh_still}
+use Rattle.pair_index.proofs.index.PairIndex.take.Goals as goal
+
+pub returns-in-Runs-clause-taken : goal.returns-in-Runs-clause-taken
+returns-in-Runs-clause-taken g c is =
+    let es = c.args.entries.now in
+    let fs = c.take.new.entries in
+    let p = c.args.pair.now in
+    record {
+      apart =
+          apart_more (keys_of fs) p (apart_still es fs c.take.ensures.moved c.requires.indexed.apart)
+          (fresh_still p es fs c.take.ensures.moved c.requires.fresh);
+      shows = c.take.ensures.taken is;
+    }
+
+pub returns-else-not-stays-clause-taken : goal.returns-else-not-stays-clause-taken
+returns-else-not-stays-clause-taken g c is =
+    let keys = keys_of c.args.entries.now in
+    let p = c.args.pair.now in
+    record {
+      apart = apart_more keys p c.requires.indexed.apart c.requires.fresh;
+      shows =
+          subst (λ r. IfOk r (λ taken. IsTrue taken → IsTailed c.take-in-Tails.new.self (keys ++ p ∷ []))) is
+          c.take-in-Tails.ensures.taken refl;
+    }
+
+pub returns-in-Chained-clause-taken : goal.returns-in-Chained-clause-taken
+returns-in-Chained-clause-taken g c is =
+    let keys = keys_of c.args.entries.now in
+    let p = c.args.pair.now in
+    let taken : c.take-in-Chained.result ≡ true = cc in
+    record {
+      apart = apart_more keys p c.requires.indexed.apart c.requires.fresh;
+      shows =
+          c.take-in-Chained.ensures.taken taken keys
+          (subst (λ way. ShowsIndex way keys) c.in-Chained.is c.requires.indexed.shows);
+    }
+
+pub returns-in_ok-insert-in-Ordered-clause-taken : goal.returns-in_ok-insert-in-Ordered-clause-taken
+returns-in_ok-insert-in-Ordered-clause-taken g c is =
+    let keys = keys_of c.args.entries.now in
+    let p = c.args.pair.now in
+    record {
+      apart = apart_more keys p c.requires.indexed.apart c.requires.fresh;
+      shows =
+          places_more keys p (length c.args.entries.now) (sym (length-keys_of c.args.entries.now))
+          c.in-Ordered.places c.insert.new.self
+          (subst (λ way. ShowsIndex way keys) c.in-Ordered.is c.requires.indexed.shows)
+          (λ q. c.in_ok-insert-in-Ordered.ensures.updates.0 q);
+    }

@@ -1,0 +1,34 @@
+use Rattle.std.proofs.Common.{sym, refl, ◌∙◌}
+use Rattle.std.specs.Map.{keys_of}
+use Rattle.pair_index.proofs.SortedLaws.{none_past, sorted_more, last_below, sorted_first, last_from_sorted}
+use Rattle.pair_index.proofs.sorted.is_past.Goals as goal
+
+pub returns-in-Less : goal.returns-in-Less
+returns-in-Less g c =
+    let below =
+    last_below c.args.falls c.args.entries.now c.in-Some.field-0.now c.args.pair.now c.in-Some.ensures.value
+    (sym c.in-Less.ensures) in
+    record {
+      none = λ e. none_past c.args.falls (keys_of c.args.entries.now) c.args.pair.now c.requires below;
+      sorted =
+          (λ e. sorted_more c.args.falls (keys_of c.args.entries.now) c.args.pair.now c.requires below, λ up. refl);
+    }
+
+pub returns-in_default-clause-sorted : goal.returns-in_default-clause-sorted
+returns-in_default-clause-sorted g c = (
+  λ e. sorted_first c.args.falls c.args.entries.now c.args.pair.now c.in_default.ensures.value c.requires,
+  λ up. refl,
+)
+
+pub returns-in_default-order_of : goal.returns-in_default-order_of
+returns-in_default-order_of g c = record {
+  none = λ e. cc;
+  sorted = (
+    λ e. cc,
+    λ up. absurd
+        (c.in_default-order_of.not-Less
+        (c.order_of.ensures
+        ∙ last_from_sorted c.args.falls c.args.entries.now c.in-Some.field-0.now c.args.pair.now
+        c.in-Some.ensures.value up)),
+  );
+}
