@@ -2,7 +2,6 @@
 -- canonical and fit 64 bits if the length does.
 use Rattle.std.specs.Prelude.{◌≡◌, ℤ, List, [], ◌∷◌, Option, Some, None, refl, FitsSigned}
 use Rattle.std.specs.Int.{w64}
-use Rattle.std.specs.Option.{ForSome}
 use Rattle.std.proofs.Common.{ap, arith, sym, ◌∙◌}
 use Rattle.std.proofs.lemmas.Int.{ints}
 use Rattle.std.specs.List.{AllByRecursion}
@@ -73,10 +72,8 @@ length_kind = record {
 pub length_determined : IsDetermined lengths
 length_determined form xs ys p q s = lengths_determined xs ys p q s
 
-pub length_canonical : (o : Option ℤ) → AreCanonLengths (length_listed o)
-length_canonical None = tt
-length_canonical (Some w) = tt
+pub length_canonical : (w : ℤ) → AreCanonLengths (length_listed w)
+length_canonical w = tt
 
-pub length_fit : (o : Option ℤ) → ForSome o (λ w. FitsSigned w64 w) → NumbersFit lengths (length_listed o)
-length_fit None h = tt
-length_fit (Some w) h = ((h w refl, tt), tt)
+pub length_fit : (w : ℤ) → FitsSigned w64 w → NumbersFit lengths (length_listed w)
+length_fit w h = ((h, tt), tt)

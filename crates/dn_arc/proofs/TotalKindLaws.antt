@@ -1,6 +1,6 @@
 -- The laws of `max` arcs as a kind. Their meaning determines canonical arcs, and the arcs listed for a total capacity
 -- are canonical and fit 64 bits if the total does.
-use Rattle.std.specs.Prelude.{◌≡◌, ◌-◌, ◌^◌, ℤ, pos, ◌+ℤ◌, ◌≤ℤ◌, List, [], ◌∷◌, ◌++◌, Option, Some, None, cond, int_lt, refl}
+use Rattle.std.specs.Prelude.{◌≡◌, ◌-◌, ◌^◌, ℤ, pos, ◌+ℤ◌, ◌≤ℤ◌, ◌<ℤ◌, List, [], ◌∷◌, ◌++◌, Option, Some, None, cond, int_lt, refl}
 use Rattle.std.proofs.Common.{ap, arith, sym, ◌∙◌}
 use Rattle.std.proofs.lemmas.Int.{ints}
 use Rattle.std.specs.List.{AllByRecursion}
@@ -16,7 +16,6 @@ use Rattle.dn_arc.specs.Meanings.{SameTotal}
 use Rattle.dn_arc.specs.Canonical.{IsCapArc, AreCanonCaps}
 use Rattle.dn_arc.specs.Differences.{TotalsDiffer}
 use Rattle.dn_arc.proofs.TotalsLaws.{total_meaning, totals_determined, totals_differ}
-use Rattle.dn_arc.proofs.PartsLaws.{by_test}
 use Rattle.dn_arc.proofs.MeansLaws.{fits_some}
 
 abbrev all_numbers : Option CapArc → List ℤ
@@ -75,10 +74,8 @@ total_kind = record {
 pub total_determined : IsDetermined capacities
 total_determined form xs ys p q s = totals_determined xs ys p q s
 
-pub total_canonical : (z : ℤ) → AreCanonCaps (cap_listed z)
-total_canonical z = by_test AreCanonCaps (pos 0) z (record { cap = z } ∷ []) [] (λ lt. omega (arith, ints)) (λ le. tt)
+pub total_canonical : (z : ℤ) → pos 0 <ℤ z → AreCanonCaps (cap_listed z)
+total_canonical z some = omega (arith, ints)
 
-pub total_fit : (z : ℤ) → pos 0 ≤ℤ z → z ≤ℤ pos (2 ^ 63 - 1) → NumbersFit capacities (cap_listed z)
-total_fit z h g =
-    by_test (NumbersFit capacities) (pos 0) z (record { cap = z } ∷ []) [] (λ lt. ((fits_some z h g, tt), tt))
-    (λ le. tt)
+pub total_fit : (z : ℤ) → pos 0 <ℤ z → z ≤ℤ pos (2 ^ 63 - 1) → NumbersFit capacities (cap_listed z)
+total_fit z some most = ((fits_some z (omega (arith, ints)) most, tt), tt)

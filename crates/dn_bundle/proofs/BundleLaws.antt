@@ -1,12 +1,14 @@
 -- Adding the next arc of a list to a bundle of the arcs before it: the bundle represents one more arc, and either the
 -- capacities so far sum to at most 2^63-1, or the capacities of all arcs sum to more.
-use Rattle.std.proofs.Common.{◌≡◌, ℕ, ◌+◌, ◌<◌, ◌-◌, ◌^◌, pos, ◌≤ℤ◌, ◌<ℤ◌, List, [], ◌∷◌, ◌++◌, length, take, drop, get_or, sym, ap, ◌∙◌, subst, arith, suc, zero}
+use Rattle.std.proofs.Common.{◌≡◌, ℕ, ◌+◌, ◌<◌, ◌-◌, ◌^◌, pos, ◌≤ℤ◌, ◌<ℤ◌, List, [], ◌∷◌, ◌++◌, length, take, drop, get_or, Option, Some, None, sym, ap, ◌∙◌, subst, arith, suc, zero}
 use Rattle.std.proofs.Math.Seq.{take-suc}
 use Rattle.std.proofs.lemmas.List.{take-append-drop}
 use Rattle.std.proofs.lemmas.Int.{ints, by_lt_z}
 use Rattle.std.specs.List.{AllByRecursion}
 use Rattle.dn_arc.specs.Kinds.{ArcKind}
-use Rattle.dn_arc.specs.State.Bundles.{IsKind}
+use Rattle.dn_arc.specs.declared.arc.Form.{Form}
+use Rattle.dn_arc.specs.declared.arc.Form.TheVariants.{One}
+use Rattle.dn_arc.specs.State.Bundles.{BundleWords, IsKind, listed_of, meant}
 use Rattle.dn_arc.proofs.OrdersLaws.{same_push}
 
 -- what holds of each element of a list holds of each element of a prefix
@@ -79,3 +81,19 @@ module _ {Arc : Type 0} (kind : ArcKind Arc) (laws : IsKind kind) where
 
     pub too_much : pos (2 ^ 63 - 1) <ℤ kind.capacity (listed ++ arc ∷ []) → pos (2 ^ 63 - 1) <ℤ kind.capacity arcs
     too_much m = let e = next_cap in let t = taken_cap arcs (i + 1) a in omega (arith, ints)
+
+-- where there is no bundle, the capacities with one arc do not sum to more than 2^63-1 if that of the arc is not more
+pub fits_alone : {B Arc : Type 0} (bundle : BundleWords B Arc) (o : Option B) (arc : Arc) → o ≡ None
+    → bundle.kind.capacity (arc ∷ []) ≤ℤ pos (2 ^ 63 - 1)
+    → pos (2 ^ 63 - 1) <ℤ bundle.kind.capacity (listed_of (meant bundle) o ++ arc ∷ []) → ⊥
+fits_alone bundle o arc none fits more =
+    let alone : pos (2 ^ 63 - 1) <ℤ bundle.kind.capacity (arc ∷ []) =
+    subst (λ p. pos (2 ^ 63 - 1) <ℤ bundle.kind.capacity (listed_of (meant bundle) p ++ arc ∷ [])) none more in
+    omega (arith, ints)
+
+-- the arcs that a bundle lists may occur in a problem, and so may those of no bundle
+pub listed_arcs : {B Arc : Type 0} (bundle : BundleWords B Arc) → IsKind bundle.kind
+    → ((form : Form) (b : B) → bundle.kind.IsCanon form (bundle.listed form b)) → (o : Option B)
+    → AllByRecursion bundle.kind.IsArc (listed_of (meant bundle) o)
+listed_arcs bundle laws canonical None = tt
+listed_arcs bundle laws canonical (Some b) = laws.canon_arcs One (meant bundle b) (canonical One b)

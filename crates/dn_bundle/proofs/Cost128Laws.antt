@@ -82,6 +82,19 @@ module _ (cost unit : ℤ) (h : negsuc (2 ^ 126 - 1) ≤ℤ cost) (k : cost ≤�
       (of_z w128 (to_z w128 (of_z w128 cost) +ℤ to_z w128 (of_z w128 (to_z w64 (of_z w64 unit))))) ≡ cost +ℤ unit
   unit_is = ap (λ z. to_z w128 (of_z w128 z)) sum_same ∙ to_z-of_z w128 (cost +ℤ unit) (with_unit_fits cost unit h k f)
 
+-- the product that the code computes
+module _ (units cost : ℤ) (fu : FitsSigned w64 units) (fc : FitsSigned w64 cost) where
+  pub product_fit : FitsSigned w128
+      (to_z w128 (of_z w128 (to_z w64 (of_z w64 units))) *ℤ to_z w128 (of_z w128 (to_z w64 (of_z w64 cost))))
+  product_fit = rw (widened units fu, widened cost fc) (product_fits units cost fu fc)
+
+  pub product_is : to_z w128
+      (of_z w128
+      (to_z w128 (of_z w128 (to_z w64 (of_z w64 units))) *ℤ to_z w128
+      (of_z w128 (to_z w64 (of_z w64 cost))))) ≡ units *ℤ cost
+  product_is =
+      rw (widened units fu, widened cost fc, to_z-of_z w128 (units *ℤ cost) (product_fits units cost fu fc)) refl
+
 -- the sum with a product that the code computes
 module _ (all units cost : ℤ) (fa : FitsSigned w128 all) (fu : FitsSigned w64 units) (fc : FitsSigned w64 cost)
     (fs : FitsSigned w128 (all +ℤ (units *ℤ cost))) where
@@ -148,3 +161,31 @@ module _ (cost units each : ℤ) (fa : FitsSigned w128 cost) (fu : FitsSigned w6
     floor_is =
         subst (λ d. IsFloor cost units d (to_z w64 (of_z w64 (to_z w128 (of_z w128 rest)))))
         (sym (narrowed each each_fit)) (subst (λ r. IsFloor cost units each r) (sym (narrowed rest rest_fit)) floor)
+
+-- the quotient and the remainder that the code computes in 64 bits
+module _ (cost units small each rest : ℤ) (fa : FitsSigned w128 cost) (fu : FitsSigned w64 units) (h : pos 0 <ℤ units)
+    (m : IsMean cost units) (fits : FitsSigned w64 (to_z w128 (of_z w128 cost)))
+    (is : small ≡ to_z w128 (of_z w128 cost))
+    (e : each ≡ int_div_euclid (to_z w64 (of_z w64 small)) (to_z w64 (of_z w64 units)))
+    (r : rest ≡ int_rem_euclid (to_z w64 (of_z w64 small)) (to_z w64 (of_z w64 units))) where
+  small_is : to_z w64 (of_z w64 small) ≡ cost
+  small_is =
+      ap (λ z. to_z w64 (of_z w64 z)) is ∙ to_z-of_z w64 (to_z w128 (of_z w128 cost)) fits ∙ to_z-of_z w128 cost fa
+
+  small_each : each ≡ int_div_euclid cost units
+  small_each =
+      e ∙ ap (λ a. int_div_euclid a (to_z w64 (of_z w64 units))) small_is
+      ∙ ap (int_div_euclid cost) (to_z-of_z w64 units fu)
+
+  small_floor : IsFloor cost units each rest
+  small_floor =
+      floor_of cost units each rest h small_each
+      (r ∙ ap (λ a. int_rem_euclid a (to_z w64 (of_z w64 units))) small_is
+      ∙ ap (int_rem_euclid cost) (to_z-of_z w64 units fu))
+
+  pub small_floor_is : IsFloor cost units (to_z w64 (of_z w64 each)) (to_z w64 (of_z w64 rest))
+  small_floor_is =
+      subst (λ d. IsFloor cost units d (to_z w64 (of_z w64 rest)))
+      (sym (to_z-of_z w64 each (each_fits cost units each h m small_each)))
+      (subst (λ r. IsFloor cost units each r)
+      (sym (to_z-of_z w64 rest (rest_fits cost units each rest fu small_floor))) small_floor)

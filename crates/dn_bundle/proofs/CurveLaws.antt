@@ -1,12 +1,10 @@
 -- The arcs that a curve lists in form 1 are its fixed arcs, whose LOW is above 0, and then the arcs of its breakpoints.
 -- They determine how many entries the curve makes. The curve means the same as no arcs exactly if its capacity is 0.
-use Rattle.std.proofs.Common.{◌≡◌, ℕ, ◌+◌, ℤ, pos, ◌+ℤ◌, ◌<ℤ◌, List, [], ◌∷◌, ◌++◌, map, filter, length, refl, sym, ap, ◌∙◌, subst, arith, w64, of_z, cond, not, nat_eq}
-use Rattle.std.specs.Bool.{IsTrue}
+use Rattle.std.proofs.Common.{◌≡◌, ℕ, ◌+◌, ℤ, pos, ◌+ℤ◌, ◌<ℤ◌, List, [], ◌∷◌, ◌++◌, map, filter, length, refl, sym, ap, ◌∙◌, subst, arith, w64, of_z, cond, not}
 use Rattle.std.specs.Int.RustNames.{FitsSigned, int_lt}
 use Rattle.std.specs.Int.{int_div_euclid, int_rem_euclid}
 use Rattle.std.specs.List.{AllByRecursion}
 use Rattle.std.proofs.lemmas.Int.{ints}
-use Rattle.std.proofs.lemmas.Bool.Decides.{nat_tests}
 use Rattle.dn_arc.specs.declared.arc.CostArc.{CostArc}
 use Rattle.dn_arc.specs.declared.arc.Form.TheVariants.{One}
 use Rattle.dn_arc.specs.Meanings.{SameCurve}
@@ -128,16 +126,9 @@ module _ (units cost total : ℤ) (steps : List (ℤ × ℤ)) (s : IsSound units
 
   -- a curve means the same as no arcs exactly if its capacity is 0
   pub nothing_is : FitsSigned w64 total
-      → (IsTrue (nat_eq (of_z w64 total) 0) → SameCurve (listed One units cost steps) [])
-      × (SameCurve (listed One units cost steps) [] → IsTrue (nat_eq (of_z w64 total) 0))
-  nothing_is f =
-      ((λ t. nothing_there (is_zero total f (test_zero _ t))), (λ m. zero_test _ (ap (of_z w64) (nothing_back m))))
-    where
-      test_zero : (n : ℕ) → IsTrue (nat_eq n 0) → n ≡ 0
-      test_zero n h = grind (arith, nat_tests)
-
-      zero_test : (n : ℕ) → n ≡ 0 → IsTrue (nat_eq n 0)
-      zero_test n h = grind (arith, nat_tests)
+      → (of_z w64 total ≡ 0 → SameCurve (listed One units cost steps) [])
+      × (SameCurve (listed One units cost steps) [] → of_z w64 total ≡ 0)
+  nothing_is f = ((λ t. nothing_there (is_zero total f t)), (λ m. ap (of_z w64) (nothing_back m)))
 
   pub entries_code : (n len : ℕ) → n ≡ cond (int_lt (pos 0) units) 1 0 → len ≡ length steps
       → n + len ≡ cost_entries (listed One units cost steps)

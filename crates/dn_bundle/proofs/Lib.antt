@@ -1,4 +1,3 @@
-pub mod LeastLaws
 pub mod StepLaws
 pub mod Cost128Laws
 pub mod GrowLaws
@@ -11,3 +10,4 @@ pub mod LenLaws
 pub mod GapLaws
 pub mod PartLaws
 pub mod BundleLaws
+pub mod SpotLaws

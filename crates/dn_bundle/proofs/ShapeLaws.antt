@@ -1,7 +1,14 @@
--- Adding an arc of LOW 0 to a shape with free capacity at one cost: the shape remains plain.
+-- Adding an arc to a shape with forced units and free capacity at one cost: the shape remains plain.
 use Rattle.std.proofs.Common.{◌≡◌, ◌⊎◌, ℤ, pos, negsuc, ◌+ℤ◌, ◌-ℤ◌, ◌*ℤ◌, ◌≤ℤ◌, ◌<ℤ◌, List, [], ◌∷◌, Some, None, sym, ap, ◌∙◌, subst, arith, w64, to_z, of_z, cond}
 use mathlib.Core.Logic.{inl, inr}
-use Rattle.std.proofs.Math.IntN.{*ℤ_comm}
+use Rattle.std.proofs.Math.IntN.{*ℤ_comm, zero-*ℤ}
+use Rattle.dn_arc.proofs.ProductsLaws.{mul_add}
+use Rattle.std.proofs.Common.{ℕ, ◌+◌, refl}
+use Rattle.std.proofs.Math.IntN.{nat_abs}
+use Rattle.std.specs.Int.{w128}
+use Rattle.dn_bundle.specs.declared.curve.shape.Numbers.{Numbers}
+use Rattle.dn_arc.specs.State.CurveListed.{IsSound}
+use Rattle.dn_bundle.proofs.GrowLaws.{most}
 use Rattle.std.proofs.lemmas.Int.{ints, to_z-of_z, by_lt_z}
 use Rattle.std.specs.Int.RustNames.{FitsSigned}
 use Rattle.dn_arc.specs.declared.arc.CostArc.{CostArc}
@@ -9,13 +16,11 @@ use Rattle.dn_bundle.specs.declared.curve.shape.Shape.{Shape}
 use Rattle.dn_bundle.specs.declared.curve.shape.Shape.TheVariants.{Plain}
 use Rattle.dn_arc.specs.Canonical.{IsCostArc}
 use Rattle.dn_arc.specs.State.Steps.{steps_of, put_step, add_step}
-use Rattle.dn_bundle.specs.State.Shapes.{plain_step, numbers_of, AreSound, IsGrown}
+use Rattle.dn_bundle.specs.State.Shapes.{plain_step, numbers_of, AreSound, IsGrown, StaysPlain}
 use Rattle.dn_arc.proofs.PartsLaws.{test_yes, test_no}
 use Rattle.dn_arc.proofs.StepArcsLaws.{steps_some}
 use Rattle.dn_arc.proofs.MeansLaws.{fits_some}
-use Rattle.dn_bundle.proofs.FixedLaws.{is_zero}
 use Rattle.dn_bundle.proofs.StepLaws.{put_at}
-use Rattle.dn_bundle.proofs.GrowLaws.{CostsFit}
 
 -- capacity above 0 at a cost is a breakpoint
 some_step : (step : ℤ × ℤ) → pos 0 <ℤ step.1 → steps_of (plain_step step) [] ≡ step ∷ []
@@ -24,71 +29,184 @@ some_step step h = ap (λ b. steps_of (cond b (Some step) None) []) (test_yes (p
 no_step : (step : ℤ × ℤ) → step.1 ≡ pos 0 → steps_of (plain_step step) [] ≡ []
 no_step step e = ap (λ b. steps_of (cond b (Some step) None) []) (test_no (pos 0) step.1 (omega (arith, ints)))
 
-module _ (step : ℤ × ℤ) (a : CostArc) (total : ℤ) (s : AreSound (numbers_of (Plain step))) (h : IsCostArc a)
-    (e : total ≡ step.1 +ℤ a.cap) (free : a.low ≡ pos 0) (some : pos 0 <ℤ a.cap) (f : FitsSigned w64 a.cost)
-    (one : (of_z w64 step.1 ≡ 0) ⊎ (of_z w64 a.cost ≡ of_z w64 step.0)) where
-  -- the whole capacity of the arc is added to the breakpoints
-  put : (steps : List (ℤ × ℤ)) → put_step steps (a.cost, a.cap) ≡ add_step steps (a.cost, a.cap -ℤ a.low)
-  put steps =
-      let all : a.cap -ℤ a.low ≡ a.cap = omega (arith, ints) in
-      sym (ap (λ b. cond b (put_step steps (a.cost, a.cap -ℤ a.low)) steps)
-      (test_yes (pos 0) (a.cap -ℤ a.low) (omega (arith, ints))) ∙ ap (λ z. put_step steps (a.cost, z)) all)
-
-  -- adding the arc where there is no capacity
-  alone : step.1 ≡ pos 0 → (a.cost, total) ∷ [] ≡ put_step (steps_of (plain_step step) []) (a.cost, a.cap)
-  alone none =
-      ap (λ z. (a.cost, z) ∷ []) (let same : total ≡ a.cap = omega (arith, ints) in same)
-      ∙ sym (ap (λ l. put_step l (a.cost, a.cap)) (no_step step none))
-
-  -- adding the arc where there is capacity at its cost
-  joined : pos 0 <ℤ step.1 → a.cost ≡ step.0
-      → (a.cost, total) ∷ [] ≡ put_step (steps_of (plain_step step) []) (a.cost, a.cap)
-  joined lt at =
-      ap (λ z. (z, total) ∷ []) at ∙ ap (λ z. (step.0, z) ∷ []) e
-      ∙ sym (ap (λ l. put_step l (a.cost, a.cap)) (some_step step lt) ∙ put_at step (a.cost, a.cap) [] at)
-
-  step_is : (a.cost, total) ∷ [] ≡ put_step (steps_of (plain_step step) []) (a.cost, a.cap)
-  step_is =
+module _ (low low' : ℕ) (step : ℤ × ℤ) (a : CostArc) (total : ℤ) (s : AreSound (numbers_of (Plain low step)))
+    (h : IsCostArc a) (e : total ≡ (pos low +ℤ step.1) +ℤ a.cap) (is : StaysPlain low step a)
+    (l : pos low' ≡ pos low +ℤ a.low) where
+  free : pos 0 ≤ℤ step.1
+  free =
       let whole = s.whole in
       let left = steps_some (steps_of (plain_step step) []) s.rising in
-      by_lt_z (pos 0) step.1 (λ lt. by one lt) (λ le. alone (omega (arith, ints)))
-    where
-      by : (of_z w64 step.1 ≡ 0) ⊎ (of_z w64 a.cost ≡ of_z w64 step.0) → pos 0 <ℤ step.1
-          → (a.cost, total) ∷ [] ≡ put_step (steps_of (plain_step step) []) (a.cost, a.cap)
-      by (inl none) lt = let zero = is_zero step.1 (fits_some step.1 (omega (arith, ints)) s.most) none in
-          absurd (omega (arith, ints))
-      by (inr at) lt = let fits = subst CostsFit (some_step step lt) s.fit in
-          joined lt (sym (to_z-of_z w64 a.cost f) ∙ ap (to_z w64) at ∙ to_z-of_z w64 step.0 fits.0)
+      omega (arith, ints)
 
-  grown : IsGrown (numbers_of (Plain step)) a (numbers_of (Plain (a.cost, total)))
-  grown =
+  -- the free capacity of the arc is added to the breakpoints
+  some_put : (room : ℤ) → pos 0 <ℤ room
+      → steps_of (plain_step (a.cost, step.1 +ℤ room)) [] ≡ put_step (steps_of (plain_step step) []) (a.cost, room)
+  some_put room r =
+      let f = free in
+      by_lt_z (pos 0) step.1 (λ lt. by is.one lt)
+      (λ le. let none : step.1 ≡ pos 0 = omega (arith, ints) in
+      some_step (a.cost, step.1 +ℤ room) (omega (arith, ints))
+      ∙ ap (λ z. (a.cost, z) ∷ []) (let same : step.1 +ℤ room ≡ room = omega (arith, ints) in same)
+      ∙ sym (ap (λ l. put_step l (a.cost, room)) (no_step step none)))
+    where
+      by : (a.cost ≡ step.0) ⊎ ((low ≡ 0) × (step.1 ≡ pos 0)) → pos 0 <ℤ step.1
+          → steps_of (plain_step (a.cost, step.1 +ℤ room)) [] ≡ put_step (steps_of (plain_step step) []) (a.cost, room)
+      by (inl at) lt =
+          some_step (a.cost, step.1 +ℤ room) (omega (arith, ints)) ∙ ap (λ z. (z, step.1 +ℤ room) ∷ []) at
+          ∙ sym (ap (λ l. put_step l (a.cost, room)) (some_step step lt) ∙ put_at step (a.cost, room) [] at)
+      by (inr none) lt = let zero = none.1 in absurd (omega (arith, ints))
+
+  none_put : steps_of (plain_step (a.cost, step.1)) [] ≡ steps_of (plain_step step) []
+  none_put =
+      let f = free in
+      by_lt_z (pos 0) step.1 (λ lt. by is.one lt)
+      (λ le. no_step (a.cost, step.1) (omega (arith, ints)) ∙ sym (no_step step (omega (arith, ints))))
+    where
+      by : (a.cost ≡ step.0) ⊎ ((low ≡ 0) × (step.1 ≡ pos 0)) → pos 0 <ℤ step.1
+          → steps_of (plain_step (a.cost, step.1)) [] ≡ steps_of (plain_step step) []
+      by (inl at) lt =
+          some_step (a.cost, step.1) lt ∙ ap (λ z. (z, step.1) ∷ []) at ∙ sym (some_step step lt)
+      by (inr none) lt = let zero = none.1 in absurd (omega (arith, ints))
+
+  steps_grown : steps_of (plain_step (a.cost, step.1 +ℤ (a.cap -ℤ a.low))) []
+      ≡ add_step (steps_of (plain_step step) []) (a.cost, a.cap -ℤ a.low)
+  steps_grown =
+      let room = h.room in
+      by_lt_z (pos 0) (a.cap -ℤ a.low)
+      (λ lt. some_put (a.cap -ℤ a.low) lt
+      ∙ sym (ap (λ b. cond b (put_step (steps_of (plain_step step) []) (a.cost, a.cap -ℤ a.low))
+      (steps_of (plain_step step) [])) (test_yes (pos 0) (a.cap -ℤ a.low) lt)))
+      (λ le. ap (λ z. steps_of (plain_step (a.cost, z)) [])
+      (let same : step.1 +ℤ (a.cap -ℤ a.low) ≡ step.1 = omega (arith, ints) in same)
+      ∙ none_put
+      ∙ sym (ap (λ b. cond b (put_step (steps_of (plain_step step) []) (a.cost, a.cap -ℤ a.low))
+      (steps_of (plain_step step) [])) (test_no (pos 0) (a.cap -ℤ a.low) le)))
+
+  cost_grown : pos low' *ℤ a.cost ≡ (pos low *ℤ step.0) +ℤ (a.low *ℤ a.cost)
+  cost_grown =
+      ap (λ z. z *ℤ a.cost) l ∙ *ℤ_comm (pos low +ℤ a.low) a.cost ∙ mul_add a.cost (pos low) a.low
+      ∙ ap (λ z. z +ℤ (a.cost *ℤ a.low)) (*ℤ_comm a.cost (pos low) ∙ same is.one)
+      ∙ ap (λ z. (pos low *ℤ step.0) +ℤ z) (*ℤ_comm a.cost a.low)
+    where
+      same : (a.cost ≡ step.0) ⊎ ((low ≡ 0) × (step.1 ≡ pos 0)) → pos low *ℤ a.cost ≡ pos low *ℤ step.0
+      same (inl at) = ap (λ z. pos low *ℤ z) at
+      same (inr none) =
+          ap (λ (n : ℕ). pos n *ℤ a.cost) none.0 ∙ zero-*ℤ a.cost
+          ∙ sym (ap (λ (n : ℕ). pos n *ℤ step.0) none.0 ∙ zero-*ℤ step.0)
+
+  pub plain_grown : IsGrown (numbers_of (Plain low step)) a
+      (numbers_of (Plain low' (a.cost, step.1 +ℤ (a.cap -ℤ a.low))))
+  plain_grown = record { units = l; cost = cost_grown; total = omega (arith, ints); steps = steps_grown }
+
+  pub room_fits_plain : FitsSigned w64 total → FitsSigned w64 (step.1 +ℤ (a.cap -ℤ a.low))
+  room_fits_plain f =
+      let fr = free in
+      let low = h.some in
+      let room = h.room in
+      let m = most total f in
+      fits_some (step.1 +ℤ (a.cap -ℤ a.low)) (omega (arith, ints)) (omega (arith, ints))
+
+-- numbers that the code makes are those of a shape
+pub same_sound : (n : Numbers) (u c t : ℤ) (l : List (ℤ × ℤ)) → u ≡ n.units → c ≡ n.cost → t ≡ n.total → l ≡ n.steps
+    → AreSound n → IsSound u c t l
+same_sound n u c t l eu ec et el s =
+    subst (λ z. IsSound z c t l) (sym eu) (subst (λ z. IsSound n.units z t l) (sym ec)
+    (subst (λ z. IsSound n.units n.cost z l) (sym et) (subst (λ z. IsSound n.units n.cost n.total z) (sym el) s)))
+
+pub same_grown : (n old new : Numbers) (a : CostArc) → old.units ≡ n.units → old.cost ≡ n.cost → old.total ≡ n.total
+    → old.steps ≡ n.steps → IsGrown old a new → IsGrown n a new
+same_grown n old new a eu ec et el g = record {
+  units = g.units ∙ ap (λ z. z +ℤ a.low) eu;
+  cost = g.cost ∙ ap (λ z. z +ℤ (a.low *ℤ a.cost)) ec;
+  total = g.total ∙ ap (λ z. z +ℤ a.cap) et;
+  steps = g.steps ∙ ap (λ l. add_step l (a.cost, a.cap -ℤ a.low)) el;
+}
+
+-- the numbers that the code makes of a plain shape
+module _ (low : ℕ) (step : ℤ × ℤ) (units cost : ℤ) (s : AreSound (numbers_of (Plain low step))) (eu : units ≡ pos low)
+    (ec : cost ≡ to_z w64 (of_z w64 units) *ℤ step.0) (fu : FitsSigned w64 units) (fc : FitsSigned w128 cost)
+    (fs : FitsSigned w64 step.1) where
+  pub made_units : to_z w64 (of_z w64 units) ≡ pos low
+  made_units = to_z-of_z w64 units fu ∙ eu
+
+  pub made_cost : to_z w128 (of_z w128 cost) ≡ pos low *ℤ step.0
+  made_cost = to_z-of_z w128 cost fc ∙ ec ∙ ap (λ z. z *ℤ step.0) made_units
+
+  total_fits : FitsSigned w64 (pos low +ℤ step.1)
+  total_fits =
       let whole = s.whole in
+      let some = s.some in
       let left = steps_some (steps_of (plain_step step) []) s.rising in
-      let none : a.low *ℤ a.cost ≡ pos 0 = ap (λ z. z *ℤ a.cost) free ∙ *ℤ_comm (pos 0) a.cost ∙ zero in
-      record {
-        units = omega (arith, ints);
-        cost = omega (arith, ints);
-        total = e;
-        steps =
-            some_step (a.cost, total) (omega (arith, ints)) ∙ step_is ∙ put (steps_of (plain_step step) []);
-      }
-    where
-      zero : a.cost *ℤ pos 0 ≡ pos 0
-      zero = omega (arith, ints)
+      fits_some (pos low +ℤ step.1) (omega (arith, ints)) s.most
 
-some_cap : (z : ℤ) → pos 0 ≤ℤ z → (of_z w64 z ≡ 0 → ⊥) → pos 0 <ℤ z
-some_cap (pos n) h f = omega (arith, ints)
-some_cap (negsuc n) h f = absurd (omega (arith, ints))
+  pub made_total : to_z w64 (of_z w64 (to_z w64 (of_z w64 units) +ℤ to_z w64 (of_z w64 step.1))) ≡ pos low +ℤ step.1
+  made_total =
+      ap (λ z. to_z w64 (of_z w64 (z +ℤ to_z w64 (of_z w64 step.1)))) made_units
+      ∙ ap (λ z. to_z w64 (of_z w64 (pos low +ℤ z))) (to_z-of_z w64 step.1 fs)
+      ∙ to_z-of_z w64 (pos low +ℤ step.1) total_fits
 
--- a plain shape takes an arc of LOW 0 if the arc has its cost, or if the shape has no capacity
-pub plain_grown : (shape : Shape) (step : ℤ × ℤ) (a : CostArc) (total : ℤ) → shape ≡ Plain step
-    → AreSound (numbers_of shape) → IsCostArc a → total ≡ (numbers_of shape).total +ℤ a.cap
-    → a.low ≡ pos 0 → (of_z w64 a.cap ≡ 0 → ⊥) → FitsSigned w64 a.cost
-    → (of_z w64 step.1 ≡ 0) ⊎ (of_z w64 a.cost ≡ of_z w64 step.0)
-    → IsGrown (numbers_of shape) a (numbers_of (Plain (a.cost, total)))
-plain_grown shape step a total is s h e free some f one =
-    let low = h.some in
-    let room = h.room in
-    subst (λ z. IsGrown (numbers_of z) a (numbers_of (Plain (a.cost, total)))) (sym is)
-    (grown step a total (subst (λ z. AreSound (numbers_of z)) is s) h
-    (e ∙ ap (λ z. (numbers_of z).total +ℤ a.cap) is) free (some_cap a.cap (omega (arith, ints)) some) f one)
+-- LOW as the code adds it
+abs_is : (z : ℤ) → pos 0 ≤ℤ z → pos (nat_abs z) ≡ z
+abs_is (pos n) h = refl
+abs_is (negsuc n) h = absurd (omega (arith, ints))
+
+-- a plain shape to which the code adds an arc
+module _ (shape : Shape) (low : ℕ) (step : ℤ × ℤ) (a : CostArc) (total : ℤ) (is : shape ≡ Plain low step)
+    (s : AreSound (numbers_of shape)) (h : IsCostArc a) (e : total ≡ (numbers_of shape).total +ℤ a.cap)
+    (w : StaysPlain low step a) (f : FitsSigned w64 total) (fk : FitsSigned w64 a.cost) (fl : FitsSigned w64 a.low)
+    (fc : FitsSigned w64 a.cap) (fs : FitsSigned w64 step.1) where
+  sound_plain : AreSound (numbers_of (Plain low step))
+  sound_plain = subst (λ z. AreSound (numbers_of z)) is s
+
+  total_plain : total ≡ (pos low +ℤ step.1) +ℤ a.cap
+  total_plain = e ∙ ap (λ z. (numbers_of z).total +ℤ a.cap) is
+
+  low_is : pos (low + nat_abs (to_z w64 (of_z w64 a.low))) ≡ pos low +ℤ a.low
+  low_is =
+      let some = h.some in
+      ap (λ z. pos (low + nat_abs z)) (to_z-of_z w64 a.low fl) ∙ ap (λ z. pos low +ℤ z) (abs_is a.low some)
+
+  room_is : to_z w64 (of_z w64 (to_z w64 (of_z w64 a.cap) -ℤ to_z w64 (of_z w64 a.low))) ≡ a.cap -ℤ a.low
+  room_is =
+      let low = h.some in
+      let room = h.room in
+      let m = most a.cap fc in
+      (rw (to_z-of_z w64 a.cap fc, to_z-of_z w64 a.low fl) refl)
+      ∙ to_z-of_z w64 (a.cap -ℤ a.low) (fits_some (a.cap -ℤ a.low) (omega (arith, ints)) (omega (arith, ints)))
+
+  sum_fits : FitsSigned w64 (step.1 +ℤ (a.cap -ℤ a.low))
+  sum_fits = room_fits_plain low _ step a total sound_plain h total_plain w low_is f
+
+  sum_same : to_z w64 (of_z w64 step.1)
+      +ℤ to_z w64 (of_z w64 (to_z w64 (of_z w64 a.cap) -ℤ to_z w64 (of_z w64 a.low)))
+      ≡ step.1 +ℤ (a.cap -ℤ a.low)
+  sum_same =
+      ap (λ z. z +ℤ to_z w64 (of_z w64 (to_z w64 (of_z w64 a.cap) -ℤ to_z w64 (of_z w64 a.low))))
+      (to_z-of_z w64 step.1 fs) ∙ ap (λ z. step.1 +ℤ z) room_is
+
+  pub plain_sum_fits : FitsSigned w64 (to_z w64 (of_z w64 step.1)
+      +ℤ to_z w64 (of_z w64 (to_z w64 (of_z w64 a.cap) -ℤ to_z w64 (of_z w64 a.low))))
+  plain_sum_fits = subst (FitsSigned w64) (sym sum_same) sum_fits
+
+  abbrev made : ℤ × ℤ
+  made = (
+    to_z w64 (of_z w64 a.cost),
+    to_z w64
+        (of_z w64 (to_z w64 (of_z w64 step.1) +ℤ to_z w64
+        (of_z w64 (to_z w64 (of_z w64 a.cap) -ℤ to_z w64 (of_z w64 a.low))))),
+  )
+
+  made_step : ◌≡◌ {A = ℤ × ℤ} (a.cost, step.1 +ℤ (a.cap -ℤ a.low)) made
+  made_step =
+      ap (λ z. (z, step.1 +ℤ (a.cap -ℤ a.low))) (sym (to_z-of_z w64 a.cost fk))
+      ∙ ap (λ z. (to_z w64 (of_z w64 a.cost), z))
+      (sym (ap (λ z. to_z w64 (of_z w64 z)) sum_same ∙ to_z-of_z w64 (step.1 +ℤ (a.cap -ℤ a.low)) sum_fits))
+
+  pub plain_taken : IsGrown (numbers_of shape) a
+      (numbers_of (Plain (low + nat_abs (to_z w64 (of_z w64 a.low))) made))
+  plain_taken =
+      subst (λ z. IsGrown (numbers_of z) a (numbers_of (Plain (low + nat_abs (to_z w64 (of_z w64 a.low))) made)))
+      (sym is)
+      (subst
+      (λ p. IsGrown (numbers_of (Plain low step)) a (numbers_of (Plain (low + nat_abs (to_z w64 (of_z w64 a.low))) p)))
+      made_step (plain_grown low _ step a total sound_plain h total_plain w low_is))

@@ -1,6 +1,6 @@
 -- Breakpoints in a map, with the first one outside it: insertions, ranges and look-ups of the map are those of
 -- breakpoints, and capacities that the code adds fit.
-use Rattle.std.proofs.Common.{◌≡◌, ◌-◌, ◌^◌, ℤ, pos, ◌+ℤ◌, ◌≤ℤ◌, ◌<ℤ◌, Bool, true, false, ◌&&◌, ◌||◌, not, List, [], ◌∷◌, Option, Some, None, refl, sym, ap, ◌∙◌, subst, arith, cond, to_z, of_z}
+use Rattle.std.proofs.Common.{◌≡◌, ◌-◌, ◌^◌, ℤ, pos, ◌+ℤ◌, ◌≤ℤ◌, ◌<ℤ◌, Bool, true, false, ◌&&◌, ◌||◌, not, List, [], ◌∷◌, Some, None, refl, sym, ap, ◌∙◌, subst, arith, cond, to_z, of_z}
 use Rattle.std.specs.Int.{w64}
 use Rattle.std.specs.Int.RustNames.{FitsSigned, int_lt}
 use Rattle.std.specs.List.{AllByRecursion, filter, slice_get}
@@ -16,10 +16,10 @@ use Rattle.std.proofs.lemmas.Int.{ints, to_z-of_z}
 use Rattle.std.proofs.lemmas.Map.{lookup-none}
 use Rattle.std.proofs.lemmas.Map.Entries.{none_below_head}
 use Rattle.std.proofs.lemmas.Map.Keys.{sorted_tail}
-use Rattle.dn_arc.proofs.StepArcsLaws.{above_put, steps_some}
+use Rattle.dn_arc.proofs.StepArcsLaws.{steps_some}
 use Rattle.dn_arc.proofs.MeansLaws.{fits_some, fits_next}
 use Rattle.dn_arc.proofs.CanonsLaws.{by_cmp}
-use Rattle.dn_arc.specs.State.Steps.{steps_of, IsFirst, put_step, step_past, has_step, AreSteps, steps_room}
+use Rattle.dn_arc.specs.State.Steps.{put_step, step_past, has_step, AreSteps, steps_room}
 
 -- adding a breakpoint, by the result of a comparison
 module _ (step more : ℤ × ℤ) (rest : List (ℤ × ℤ)) where
@@ -216,75 +216,3 @@ pub not_apart : (x y : ℤ) → FitsSigned w64 x → FitsSigned w64 y
     → int_lt (to_z w64 (of_z w64 x)) (to_z w64 (of_z w64 y)) ≡ false
     → int_lt (to_z w64 (of_z w64 y)) (to_z w64 (of_z w64 x)) ≡ false → x ≡ y
 not_apart x y f g h k = let ge = not_less x y f g h in let le = not_less y x g f k in omega (arith, ints)
-
-module _ (first : Option (ℤ × ℤ)) (rest now : List (ℤ × ℤ)) (least step : ℤ × ℤ) (is : first ≡ Some least)
-    (is_first : IsFirst first rest) (view : steps_of first rest ≡ now) (l0 : FitsSigned w64 least.0)
-    (l1 : FitsSigned w64 least.1) (s0 : FitsSigned w64 step.0) (s1 : FitsSigned w64 step.1) where
-  above : AllByRecursion (λ (other : ℤ × ℤ). least.0 <ℤ other.0) rest
-  above = subst (λ o. IsFirst o rest) is is_first
-
-  now_is : now ≡ least ∷ rest
-  now_is = sym view ∙ ap (λ o. steps_of o rest) is
-
-  pub lower_above : (new : List (ℤ × ℤ)) → int_lt (to_z w64 (of_z w64 step.0)) (to_z w64 (of_z w64 least.0)) ≡ true
-      → new ≡ insert_entry int_cmp rest (to_z w64 (of_z w64 least.0)) (to_z w64 (of_z w64 least.1)) → new ≡ least ∷ rest
-  lower_above new h e =
-      e ∙ ap (λ z. insert_entry int_cmp rest z (to_z w64 (of_z w64 least.1))) (to_z-of_z w64 least.0 l0)
-      ∙ ap (insert_entry int_cmp rest least.0) (to_z-of_z w64 least.1 l1) ∙ insert_front rest least.0 least.1 above
-
-  pub lower_first : (new : List (ℤ × ℤ)) → int_lt (to_z w64 (of_z w64 step.0)) (to_z w64 (of_z w64 least.0)) ≡ true
-      → new ≡ insert_entry int_cmp rest (to_z w64 (of_z w64 least.0)) (to_z w64 (of_z w64 least.1))
-      → AllByRecursion (λ (other : ℤ × ℤ). step.0 <ℤ other.0) new
-  lower_first new h e =
-      let lt = less step.0 least.0 s0 l0 h in
-      subst (AllByRecursion (λ (other : ℤ × ℤ). step.0 <ℤ other.0)) (sym (lower_above new h e)) (lt, lower rest above)
-    where
-      lower : (es : List (ℤ × ℤ)) → AllByRecursion (λ (other : ℤ × ℤ). least.0 <ℤ other.0) es
-          → AllByRecursion (λ (other : ℤ × ℤ). step.0 <ℤ other.0) es
-      lower [] a = tt
-      lower (e ∷ es) a = let lt = less step.0 least.0 s0 l0 h in let up = a.0 in (omega (arith, ints), lower es a.1)
-
-  pub lower_put : (new : List (ℤ × ℤ)) → int_lt (to_z w64 (of_z w64 step.0)) (to_z w64 (of_z w64 least.0)) ≡ true
-      → new ≡ insert_entry int_cmp rest (to_z w64 (of_z w64 least.0)) (to_z w64 (of_z w64 least.1))
-      → step ∷ new ≡ put_step now step
-  lower_put new h e =
-      ap (λ l. step ∷ l) (lower_above new h e)
-      ∙ sym (ap (λ l. put_step l step) now_is ∙ put_before least step rest (less step.0 least.0 s0 l0 h))
-
-  pub higher_first : (new : List (ℤ × ℤ)) → int_lt (to_z w64 (of_z w64 least.0)) (to_z w64 (of_z w64 step.0)) ≡ true
-      → new ≡ put_step rest step → IsFirst first new
-  higher_first new h e =
-      subst (λ o. IsFirst o new) (sym is)
-      (subst (AllByRecursion (λ (other : ℤ × ℤ). least.0 <ℤ other.0)) (sym e)
-      (above_put least.0 rest step (less least.0 step.0 l0 s0 h) above))
-
-  pub same_first : AllByRecursion (λ (other : ℤ × ℤ). to_z w64 (of_z w64 least.0) <ℤ other.0) rest
-  same_first = subst (λ z. AllByRecursion (λ (other : ℤ × ℤ). z <ℤ other.0) rest) (sym (to_z-of_z w64 least.0 l0)) above
-
-  module _ (some : pos 1 ≤ℤ step.1) (steps : AreSteps now) (fits : (steps_room now +ℤ step.1) ≤ℤ pos (2 ^ 63 - 1)) where
-    sum_fit : FitsSigned w64 (least.1 +ℤ step.1)
-    sum_fit =
-        let s = subst AreSteps now_is steps in
-        let f = subst (λ l. (steps_room l +ℤ step.1) ≤ℤ pos (2 ^ 63 - 1)) now_is fits in
-        let low = s.0 in
-        let left = steps_some rest s.2 in
-        fits_some (least.1 +ℤ step.1) (omega (arith, ints)) (omega (arith, ints))
-
-    pub same_fits : FitsSigned w64 (to_z w64 (of_z w64 least.1) +ℤ to_z w64 (of_z w64 step.1))
-    same_fits = rw (to_z-of_z w64 least.1 l1, to_z-of_z w64 step.1 s1) sum_fit
-
-    pub same_put : int_lt (to_z w64 (of_z w64 step.0)) (to_z w64 (of_z w64 least.0)) ≡ false
-        → int_lt (to_z w64 (of_z w64 least.0)) (to_z w64 (of_z w64 step.0)) ≡ false
-        → (
-          to_z w64 (of_z w64 least.0),
-          to_z w64
-              (of_z w64 (to_z w64 (of_z w64 least.1) +ℤ to_z w64 (of_z w64 step.1))),
-        ) ∷ rest ≡ put_step now step
-    same_put h g =
-        let low = not_less step.0 least.0 s0 l0 h in
-        let high = not_less least.0 step.0 l0 s0 g in
-        ap (λ z. (z, to_z w64 (of_z w64 (to_z w64 (of_z w64 least.1) +ℤ to_z w64 (of_z w64 step.1)))) ∷ rest)
-        (to_z-of_z w64 least.0 l0)
-        ∙ ap (λ z. (least.0, z) ∷ rest)
-        ((rw (to_z-of_z w64 least.1 l1, to_z-of_z w64 step.1 s1) refl) ∙ to_z-of_z w64 (least.1 +ℤ step.1) sum_fit)
-        ∙ sym (ap (λ l. put_step l step) now_is ∙ put_at least step rest (omega (arith, ints)))

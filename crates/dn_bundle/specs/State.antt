@@ -1,3 +1,4 @@
 pub mod Shapes
 pub mod Listings
 pub mod Gaps
+pub mod Spots

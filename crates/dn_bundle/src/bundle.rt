@@ -1,12 +1,12 @@
 // The trait of bundles, which represent what the parallel arcs of one ordered pair mean.
-ghost use Rattle.std.specs.Prelude.{◌≡◌, ◌-◌, ◌^◌, pos, ◌≤ℤ◌, ◌<ℤ◌, ◌↔◌, [], length, IsTrue, IfOk, OnOk, OnErr, slice_get};
+ghost use Rattle.std.specs.Prelude.{◌≡◌, ◌-◌, ◌^◌, pos, ◌≤ℤ◌, ◌<ℤ◌, ◌↔◌, [], ◌∷◌, ◌++◌, length, IsTrue, IfOk, OnOk, OnErr, slice_get};
 ghost use Rattle.std.specs.List.{AllByRecursion};
 ghost use Rattle.std.specs.Option.{option_copied};
-ghost use Rattle.dn_arc.specs.State.Bundles.{BundleWords, Gains, IsAfter, IsHow, IsKind, NumbersFit, PassesSum, meant};
+ghost use Rattle.dn_arc.specs.State.Bundles.{BundleWords, Gains, IsAfter, IsBundleOf, IsHow, IsKind, NumbersFit, PassesSum, listed_of, meant};
 ghost use Rattle.dn_arc.specs.declared.arc.Form.{Form};
 
 use dn_arc::{Form, How, Parts};
-use std::alloc::Global;
+use std::alloc::{AllocError, Global};
 use thiserror::Error;
 
 /// Why a bundle does not take an arc.
@@ -28,9 +28,16 @@ pub trait Bundle: Sized + Drop {
     /// out of memory.
     ghost bundle: { BundleWords Self Self.Arc };
 
-    /// Returns the bundle of no arcs.
-    fn empty(alloc: Global) -> Self
-        ensures { (form : Form) → bundle.listed form result ≡ [] };
+    /// Returns the bundle of one arc, or `None` if the arc means the same as no arcs.
+    ///
+    /// # Errors
+    ///
+    /// The only error is that an allocation fails.
+    fn of(alloc: Global, arc: Self::Arc) -> Result<Option<Self>, AllocError>
+        requires { bundle.kind.IsArc arc }
+        ensures ok { IfOk result (IsBundleOf bundle arc) }
+        ensures fits { bundle.kind.capacity (arc ∷ []) ≤ℤ pos (2 ^ 63 - 1) }
+        ensures memory { OnErr result (IsTrue bundle.wants_memory) };
 
     /// Whether a problem may have this arc.
     fn is_arc(arc: &Self::Arc) -> bool
@@ -44,10 +51,6 @@ pub trait Bundle: Sized + Drop {
         ensures err { OnErr result (self.new ≡ self.old) }
         ensures sum { (result ≡ Err BundleFault.Sum) ↔ PassesSum bundle self.old arc }
         ensures memory { (result ≡ Err BundleFault.Memory) → IsTrue bundle.wants_memory };
-
-    /// Whether the arcs of the bundle mean the same as no arcs.
-    fn is_nothing(&self) -> bool
-        ensures { IsTrue result ↔ bundle.kind.Same (meant bundle self.now) [] };
 
     /// Whether both bundles mean the same.
     fn same(&self, other: &Self) -> bool
@@ -93,20 +96,44 @@ pub trait Bundle: Sized + Drop {
     ghost same_numbers: { (a : Self.Arc) → bundle.kind.numbers a ≡ Self.Arc.numbers a };
 }
 
-/// Merges these arcs into a bundle. Returns `Sum` if their capacities sum to more than 2^63-1, and `Memory` if an
-/// allocation fails.
-pub fn bundle_of<B: Bundle>(alloc: Global, arcs: &[B::Arc]) -> Result<B, BundleFault>
+/// Merges these arcs into a bundle. Returns `None` if they mean the same as no arcs.
+///
+/// # Errors
+///
+/// Returns `Sum` if the capacities sum to more than 2^63-1, and `Memory` if an allocation fails.
+pub fn bundle_of<B: Bundle>(alloc: Global, arcs: &[B::Arc]) -> Result<Option<B>, BundleFault>
     requires { AllByRecursion B.bundle.kind.IsArc arcs.now }
-    ensures ok { IfOk result (λ b. B.bundle.kind.Same (meant B.bundle b) arcs.now) }
+    ensures ok { IfOk result (λ b. B.bundle.kind.Same (listed_of (meant B.bundle) b) arcs.now) }
     ensures fits { IfOk result (λ b. B.bundle.kind.capacity arcs.now ≤ℤ pos (2 ^ 63 - 1)) }
     ensures sum { (result ≡ Err BundleFault.Sum) → pos (2 ^ 63 - 1) <ℤ B.bundle.kind.capacity arcs.now }
     ensures memory { (result ≡ Err BundleFault.Memory) → IsTrue B.bundle.wants_memory }
 {
-    let mut bundle = B::empty(alloc);
+    let mut bundle = None;
     for arc in arcs {
-        if let Err(fault) = bundle.add(*arc) {
+        if let Err(fault) = add_to(alloc, &mut bundle, *arc) {
             return Err(fault);
         }
     }
     Ok(bundle)
+}
+
+// Adds an arc to a bundle, or makes the bundle of the arc if there is none. After an error, the bundle is unchanged.
+fn add_to<B: Bundle>(alloc: Global, bundle: &mut Option<B>, arc: B::Arc) -> Result<(), BundleFault>
+    requires { B.bundle.kind.IsArc arc }
+    ensures ok { OnOk result (B.bundle.kind.Same (listed_of (meant B.bundle) bundle.new)
+        (listed_of (meant B.bundle) bundle.old ++ arc ∷ [])) }
+    ensures sum { (result ≡ Err BundleFault.Sum)
+        ↔ (pos (2 ^ 63 - 1) <ℤ B.bundle.kind.capacity (listed_of (meant B.bundle) bundle.old ++ arc ∷ [])) }
+    ensures memory { (result ≡ Err BundleFault.Memory) → IsTrue B.bundle.wants_memory }
+{
+    match bundle {
+        Some(bundle) => bundle.add(arc),
+        None => match B::of(alloc, arc) {
+            Ok(one) => {
+                *bundle = one;
+                Ok(())
+            }
+            Err(_) => Err(BundleFault::Memory),
+        },
+    }
 }

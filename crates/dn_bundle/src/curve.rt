@@ -1,5 +1,5 @@
 // Cost curves: the least cost of each amount.
-ghost use Rattle.std.specs.Prelude.{◌≡◌, ◌+ℤ◌, [], ◌∷◌, ◌++◌, length, filter, slice_get, OnOk, OnErr, IfErr, refl, true};
+ghost use Rattle.std.specs.Prelude.{◌≡◌, ◌+ℤ◌, [], ◌∷◌, ◌++◌, length, filter, slice_get, OnOk, OnErr, refl, true};
 ghost use Rattle.std.specs.Option.{option_map};
 ghost use Rattle.dn_arc.specs.Kinds.{costs};
 ghost use Rattle.dn_arc.specs.Meanings.{SameCurve};
@@ -21,7 +21,7 @@ use crate::cost128::{floor, more_cost};
 use crate::curve::shape::Shape;
 use crate::difference::first_gap;
 use dn_arc::{CostArc, Fixed, Form, Gap, How};
-use std::alloc::Global;
+use std::alloc::{AllocError, Global};
 use std::marker::Model;
 
 mod canon_arcs;
@@ -189,16 +189,15 @@ impl Curve {
     }
 
     // Adds an arc, with which the total capacity is `total`.
-    fn grow(&mut self, arc: CostArc, total: i64) -> Result<(), BundleFault>
+    fn grow(&mut self, arc: CostArc, total: i64) -> Result<(), AllocError>
         requires arc { IsCostArc arc }
         requires total { total ≡ self.old.total +ℤ arc.cap }
         ensures ok { OnOk result (SameCurve (listed Form.One self.new.units self.new.cost self.new.steps)
             (listed Form.One self.old.units self.old.cost self.old.steps ++ arc ∷ [])) }
         ensures err { OnErr result (self.new ≡ self.old) }
-        ensures memory { IfErr result (λ e. e ≡ BundleFault.Memory) }
     {
-        if let Err(_) = self.shape.add(self.alloc, arc, total) {
-            return Err(BundleFault::Memory);
+        if let Err(fault) = self.shape.add(self.alloc, arc, total) {
+            return Err(fault);
         }
         Ok(())
     }
@@ -229,26 +228,31 @@ impl Bundle for Curve {
 
     ghost same_numbers = { λ a. refl };
 
-    fn empty(alloc: Global) -> Curve {
-        Curve {
+    fn of(alloc: Global, arc: CostArc) -> Result<Option<Curve>, AllocError> {
+        let mut curve = Curve {
             alloc,
-            shape: Shape::Plain((0, 0)),
+            shape: Shape::Plain(0, (0, 0)),
+        };
+        curve.grow(arc, arc.cap)?;
+        if curve.total() == 0 {
+            return Ok(None);
         }
+        Ok(Some(curve))
     }
 
     fn is_arc(arc: &CostArc) -> bool {
         0 <= arc.low && arc.low <= arc.cap
     }
 
+    #[inline(always)]
     fn add(&mut self, arc: CostArc) -> Result<(), BundleFault> {
-        match self.total().checked_add(arc.cap) {
-            Some(total) => self.grow(arc, total),
-            None => Err(BundleFault::Sum),
+        let Some(total) = self.total().checked_add(arc.cap) else {
+            return Err(BundleFault::Sum);
+        };
+        match self.grow(arc, total) {
+            Ok(()) => Ok(()),
+            Err(_) => Err(BundleFault::Memory),
         }
-    }
-
-    fn is_nothing(&self) -> bool {
-        self.total() == 0
     }
 
     fn how(left: Option<&Curve>, right: Option<&Curve>) -> Option<How> {
@@ -265,6 +269,7 @@ impl Bundle for Curve {
         forced + self.steps_len()
     }
 
+    #[inline(always)]
     fn canon_len(&self, form: Form) -> u64 {
         match form {
             Form::One => self.len_one(),
@@ -280,6 +285,7 @@ impl Bundle for Curve {
         Some(arc)
     }
 
+    #[inline(always)]
     fn canon_after(&self, arc: &CostArc, form: Form) -> Option<CostArc> {
         match form {
             Form::One => self.after_one(arc),

@@ -1,28 +1,27 @@
 // The least length of the arcs of a pair.
 ghost use Rattle.std.specs.Prelude.{◌≡◌, FitsSigned, refl, false};
 ghost use Rattle.std.specs.Int.{w64};
-ghost use Rattle.std.specs.Option.{ForSome, option_copied, option_and_then};
-ghost use Rattle.std.proofs.Props.{props};
+ghost use Rattle.std.specs.Option.{option_copied, option_map};
 ghost use Rattle.dn_arc.specs.Kinds.{lengths};
-ghost use Rattle.dn_arc.specs.Differences.{IsLengthOf};
+ghost use Rattle.dn_arc.specs.Lengths.{LeastLength};
 ghost use Rattle.dn_arc.specs.State.Lengths.{length_listed};
 ghost use Rattle.dn_arc.proofs.LengthKindLaws.{length_kind, length_canonical, length_fit};
 
 use crate::bundle::{Bundle, BundleFault};
 use dn_arc::{Form, How, LengthArc};
-use std::alloc::Global;
+use std::alloc::{AllocError, Global};
 
-/// The least length of the arcs of an `sp` pair, if there is an arc.
+/// The least length of the arcs of an `sp` pair.
 #[derive(Drop)]
 pub struct Least {
-    length: Option<i64>,
-    ghost fits: { ForSome length (λ w. FitsSigned w64 w) } by { Prim.hlevel props },
+    length: i64,
+    ghost fits: { FitsSigned w64 length },
 }
 
 impl Least {
-    /// Returns the least length, or `None` if there is no arc.
-    pub fn get(&self) -> Option<i64>
-        ensures { IsLengthOf (length_listed self.now.length) result }
+    /// Returns the least length.
+    pub fn get(&self) -> i64
+        ensures { LeastLength (length_listed self.now.length) result }
     {
         self.length
     }
@@ -30,10 +29,10 @@ impl Least {
 
 // Returns the least length of a bundle, or `None` if there is no bundle.
 fn length_of(bundle: Option<&Least>) -> Option<i64>
-    ensures { result ≡ option_and_then (λ b. b.length) (option_copied bundle.entry) }
+    ensures { result ≡ option_map (λ b. b.length) (option_copied bundle.entry) }
 {
     match bundle {
-        Some(bundle) => bundle.length,
+        Some(bundle) => Some(bundle.length),
         None => None,
     }
 }
@@ -53,8 +52,8 @@ impl Bundle for Least {
 
     ghost same_numbers = { λ a. refl };
 
-    fn empty(_alloc: Global) -> Least {
-        Least { length: None }
+    fn of(_alloc: Global, arc: LengthArc) -> Result<Option<Least>, AllocError> {
+        Ok(Some(Least { length: arc.length }))
     }
 
     fn is_arc(_arc: &LengthArc) -> bool {
@@ -62,15 +61,10 @@ impl Bundle for Least {
     }
 
     fn add(&mut self, arc: LengthArc) -> Result<(), BundleFault> {
-        match self.length {
-            Some(least) if least <= arc.length => {}
-            _ => self.length = Some(arc.length),
+        if arc.length < self.length {
+            *self = Least { length: arc.length };
         }
         Ok(())
-    }
-
-    fn is_nothing(&self) -> bool {
-        self.get().is_none()
     }
 
     fn how(left: Option<&Least>, right: Option<&Least>) -> Option<How> {
@@ -83,18 +77,20 @@ impl Bundle for Least {
     }
 
     fn entries(&self) -> u64 {
-        if self.length.is_some() { 1 } else { 0 }
+        1
     }
 
     fn canon_len(&self, _form: Form) -> u64 {
-        self.entries()
+        1
     }
 
     fn canon_arc(&self, i: u64, _form: Form) -> Option<LengthArc> {
-        match self.length {
-            Some(length) if i == 0 => Some(LengthArc { length }),
-            _ => None,
+        if i != 0 {
+            return None;
         }
+        Some(LengthArc {
+            length: self.length,
+        })
     }
 
     fn canon_after(&self, _arc: &LengthArc, _form: Form) -> Option<LengthArc> {

@@ -1,33 +1,39 @@
 // The breakpoints of a cost curve: its free capacity by ascending cost.
-ghost use Rattle.std.specs.Prelude.{◌≡◌, ◌-◌, ◌^◌, ℤ, pos, ◌+ℤ◌, ◌≤ℤ◌, List, [], length, slice_get, OnOk, OnErr, ◌≤◌};
+ghost use Rattle.std.specs.Prelude.{◌≡◌, ◌-◌, ◌^◌, ℤ, pos, ◌+ℤ◌, ◌≤ℤ◌, ◌+◌, List, length, slice_get, OnOk, OnErr, ◌<◌, ◌≤◌};
+ghost use Rattle.std.specs.List.{insert};
 ghost use Rattle.std.specs.Iterator.{YieldsFirst, item_count};
 ghost use Rattle.std.specs.Option.{option_to_list};
-ghost use Rattle.dn_arc.specs.State.Steps.{steps_of, put_step, add_step, step_past, has_step, AreSteps, steps_room};
+ghost use Rattle.dn_arc.specs.State.Steps.{put_step, add_step, step_past, has_step, AreSteps, steps_room};
+ghost use Rattle.dn_bundle.specs.State.Spots.{spot};
 
+use arrayvec::ArrayVec;
 use std::alloc::{AllocError, Global};
 use std::collections::BTreeMap;
 use std::collections::btree_map::Iter;
 use std::marker::Model;
 use std::ops::Bound;
 
-/// Free capacity by ascending cost. The breakpoint of the least cost is stored outside the map, so that a single
-/// breakpoint needs no allocation.
+// How many breakpoints are stored without an allocation.
+const FEW: usize = 4;
+
+/// Free capacity by ascending cost. The breakpoints of the least costs are stored outside the map, so that a few
+/// breakpoints need no allocation. The map is empty unless there are more.
 #[derive(Drop)]
 pub(crate) struct Steps {
-    first: Option<(i64, i64)>,
+    few: ArrayVec<(i64, i64), FEW>,
     rest: BTreeMap<i64, i64>,
 }
 
 impl Model for Steps {
-    ghost use Rattle.std.specs.Prelude.{ℤ, List};
+    ghost use Rattle.std.specs.Prelude.{ℤ, List, ◌++◌};
 
     ghost Value = { List (ℤ × ℤ) };
 
-    ghost use Rattle.dn_arc.specs.State.Steps.{steps_of, IsFirst};
+    ghost use Rattle.dn_bundle.specs.State.Spots.{HoldsFew};
 
-    ghost view = { λ a. steps_of a.first a.rest.entries };
+    ghost view = { λ a. a.few.items ++ a.rest.entries };
 
-    ghost invariant = { λ a. IsFirst a.first a.rest.entries };
+    ghost invariant = { λ a. HoldsFew a.few.items a.rest.entries };
 }
 
 // Adds capacity at a cost to a map.
@@ -59,13 +65,69 @@ fn has_in(map: &BTreeMap<i64, i64>, cost: &i64) -> bool
     map.contains_key(cost)
 }
 
+// Returns the position of the first of a few breakpoints whose cost is not below `cost`, or how many there are.
+fn place_in(few: &[(i64, i64)], cost: &i64) -> usize
+    ensures place { result ≡ spot few.now cost.now }
+    ensures within { result ≤ length few.now }
+{
+    let mut left = few;
+    let mut place = 0;
+    while let [step, more @ ..] = left {
+        if *cost <= step.0 {
+            break;
+        }
+        left = more;
+        place += 1;
+    }
+    place
+}
+
+// Returns the breakpoint at a place among a few, if there is one.
+fn held_in(few: &[(i64, i64)], place: usize) -> Option<(i64, i64)>
+    ensures { result ≡ slice_get few.now place }
+{
+    few.get(place).copied()
+}
+
+// Returns the first of a few breakpoints whose cost is above `cost`.
+fn past_few(few: &[(i64, i64)], cost: &i64) -> Option<(i64, i64)>
+    ensures { result ≡ step_past few.now cost.now }
+{
+    let mut left = few;
+    while let [step, more @ ..] = left {
+        if *cost < step.0 {
+            return Some(*step);
+        }
+        left = more;
+    }
+    None
+}
+
+// Whether a few breakpoints have capacity at this cost.
+fn has_few(few: &[(i64, i64)], cost: &i64) -> bool
+    ensures { result ≡ has_step few.now cost.now }
+{
+    let mut left = few;
+    while let [step, more @ ..] = left {
+        if *cost == step.0 {
+            return true;
+        }
+        left = more;
+    }
+    false
+}
+
 impl Steps {
     /// Makes a list of at most one breakpoint.
     pub(crate) fn of(alloc: Global, first: Option<(i64, i64)>) -> Steps
-        ensures { result ≡ steps_of first [] }
+        ensures { result ≡ option_to_list first }
     {
+        let mut few = ArrayVec::new();
+        if let Some(step) = first {
+            few.push(step);
+        }
         Steps {
-            first,
+            few,
             rest: BTreeMap::new(alloc),
         }
     }
@@ -73,20 +135,17 @@ impl Steps {
     /// Returns how many costs have free capacity.
     pub(crate) fn len(&self) -> u64
         ensures len { result ≡ length self.now }
-        ensures small { result ≤ 2 ^ 63 }
+        ensures small { result ≤ 2 ^ 63 + 3 }
     {
-        match self.first {
-            // A map has fewer than 2^63 entries, so the sum does not saturate.
-            Some(_) => (self.rest.len() as u64).saturating_add(1),
-            None => 0,
-        }
+        // A map has fewer than 2^63 entries, so the sum does not saturate.
+        (self.rest.len() as u64).saturating_add(self.few.len() as u64)
     }
 
     /// Returns the least cost, and the capacity at it.
     pub(crate) fn first(&self) -> Option<(i64, i64)>
         ensures { result ≡ slice_get self.now 0 }
     {
-        self.first
+        self.few.first().copied()
     }
 
     /// Returns the breakpoint at `i`, counted from 0 by ascending cost.
@@ -107,9 +166,9 @@ impl Steps {
     pub(crate) fn past(&self, cost: &i64) -> Option<(i64, i64)>
         ensures { result ≡ step_past self.now cost.now }
     {
-        match &self.first {
-            Some(first) if first.0 <= *cost => past_in(&self.rest, cost),
-            first => *first,
+        match past_few(&self.few, cost) {
+            Some(step) => Some(step),
+            None => past_in(&self.rest, cost),
         }
     }
 
@@ -117,10 +176,25 @@ impl Steps {
     pub(crate) fn has(&self, cost: &i64) -> bool
         ensures { result ≡ has_step self.now cost.now }
     {
-        match &self.first {
-            Some(first) => *cost == first.0 || has_in(&self.rest, cost),
-            None => false,
+        has_few(&self.few, cost) || has_in(&self.rest, cost)
+    }
+
+    // Inserts a breakpoint among the few ones at this position. If they are full, the last one moves to the map. After
+    // an error, nothing has changed.
+    fn insert_few(&mut self, at: usize, step: (i64, i64)) -> Result<(), AllocError>
+        requires within { at < length self.old }
+        requires few { at < FEW }
+        requires steps { AreSteps self.old }
+        ensures ok { OnOk result (self.new ≡ insert self.old at step) }
+        ensures err { OnErr result (self.new ≡ self.old) }
+    {
+        if self.few.is_full() {
+            let last = self.few[FEW - 1];
+            self.rest.insert(last.0, last.1)?;
+            self.few.pop();
         }
+        self.few.insert(at, step);
+        Ok(())
     }
 
     // Adds capacity at a cost. After an error, nothing has changed.
@@ -131,16 +205,20 @@ impl Steps {
         ensures ok { OnOk result (self.new ≡ put_step self.old step) }
         ensures err { OnErr result (self.new ≡ self.old) }
     {
-        match self.first {
-            None => self.first = Some(step),
-            Some(least) => {
-                if step.0 < least.0 {
-                    self.rest.insert(least.0, least.1)?;
-                    self.first = Some(step);
-                } else if least.0 < step.0 {
+        let at = place_in(&self.few, &step.0);
+        match held_in(&self.few, at) {
+            Some(held) => {
+                if step.0 < held.0 {
+                    self.insert_few(at, step)?;
+                } else {
+                    self.few[at] = (held.0, held.1 + step.1);
+                }
+            }
+            None => {
+                if self.few.is_full() {
                     put_in(&mut self.rest, step)?;
                 } else {
-                    self.first = Some((least.0, least.1 + step.1));
+                    self.few.push(step);
                 }
             }
         }
@@ -167,7 +245,8 @@ impl Steps {
         ensures { result ≡ self.now }
     {
         StepsIter {
-            first: self.first,
+            first: None,
+            few: &self.few,
             rest: Some(self.rest.iter()),
         }
     }
@@ -177,6 +256,7 @@ impl Steps {
 #[derive(Drop)]
 pub(crate) struct StepsIter<'a> {
     first: Option<(i64, i64)>,
+    few: &'a [(i64, i64)],
     rest: Option<Iter<'a, i64, i64>>,
 }
 
@@ -186,7 +266,7 @@ impl<'a> Model for StepsIter<'a> {
 
     ghost Value = { List (ℤ × ℤ) };
 
-    ghost view = { λ a. option_to_list a.first ++ unwrap_or a.rest [] };
+    ghost view = { λ a. option_to_list a.first ++ a.few.now ++ unwrap_or a.rest [] };
 }
 
 impl<'a> StepsIter<'a> {
@@ -194,7 +274,11 @@ impl<'a> StepsIter<'a> {
     pub(crate) fn of(first: Option<(i64, i64)>) -> StepsIter<'a>
         ensures { result ≡ option_to_list first }
     {
-        StepsIter { first, rest: None }
+        StepsIter {
+            first,
+            few: &[],
+            rest: None,
+        }
     }
 }
 
@@ -206,16 +290,16 @@ impl<'a> Iterator for StepsIter<'a> {
     ghost remaining = { item_count (λ s. s) };
 
     fn next(&mut self) -> Option<(i64, i64)> {
-        match self.first {
-            Some(step) => {
-                self.first = None;
-                Some(step)
-            }
-            None => {
-                let rest = self.rest.as_mut()?;
-                let (cost, room) = rest.next()?;
-                Some((*cost, *room))
-            }
+        if let Some(step) = self.first {
+            self.first = None;
+            return Some(step);
         }
+        if let [step, few @ ..] = self.few {
+            self.few = few;
+            return Some(*step);
+        }
+        let rest = self.rest.as_mut()?;
+        let (cost, room) = rest.next()?;
+        Some((*cost, *room))
     }
 }

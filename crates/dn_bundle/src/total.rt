@@ -1,5 +1,5 @@
 // The total capacity of the arcs of a pair.
-ghost use Rattle.std.specs.Prelude.{◌≡◌, ◌-◌, ◌^◌, pos, ◌≤ℤ◌, refl, false};
+ghost use Rattle.std.specs.Prelude.{◌≡◌, ◌-◌, ◌^◌, pos, ◌≤ℤ◌, ◌<ℤ◌, refl, false};
 ghost use Rattle.std.specs.Option.{option_copied, option_map, unwrap_or};
 ghost use Rattle.dn_arc.specs.Kinds.{capacities};
 ghost use Rattle.dn_arc.specs.Capacities.{total_cap};
@@ -8,13 +8,13 @@ ghost use Rattle.dn_arc.proofs.TotalKindLaws.{total_kind, total_canonical, total
 
 use crate::bundle::{Bundle, BundleFault};
 use dn_arc::{CapArc, Form, How};
-use std::alloc::Global;
+use std::alloc::{AllocError, Global};
 
-/// The total capacity of the arcs of a `max` pair, or 0 if there is no arc.
+/// The total capacity of the arcs of a `max` pair, which is above 0.
 #[derive(Drop)]
 pub struct Total {
     total: i64,
-    ghost some: { pos 0 ≤ℤ total },
+    ghost some: { pos 0 <ℤ total },
     ghost most: { total ≤ℤ pos (2 ^ 63 - 1) },
 }
 
@@ -44,7 +44,7 @@ impl Bundle for Total {
 
     ghost laws = { total_kind };
 
-    ghost canonical = { λ form b. total_canonical b.total };
+    ghost canonical = { λ form b. total_canonical b.total b.some };
 
     ghost same_forms = { λ b. total_kind.meaning.same_refl (cap_listed b.total) };
 
@@ -52,8 +52,11 @@ impl Bundle for Total {
 
     ghost same_numbers = { λ a. refl };
 
-    fn empty(_alloc: Global) -> Total {
-        Total { total: 0 }
+    fn of(_alloc: Global, arc: CapArc) -> Result<Option<Total>, AllocError> {
+        if arc.cap == 0 {
+            return Ok(None);
+        }
+        Ok(Some(Total { total: arc.cap }))
     }
 
     fn is_arc(arc: &CapArc) -> bool {
@@ -68,10 +71,6 @@ impl Bundle for Total {
         Ok(())
     }
 
-    fn is_nothing(&self) -> bool {
-        self.get() == 0
-    }
-
     fn how(left: Option<&Total>, right: Option<&Total>) -> Option<How> {
         let left = total_of(left);
         let right = total_of(right);
@@ -82,15 +81,15 @@ impl Bundle for Total {
     }
 
     fn entries(&self) -> u64 {
-        if self.is_nothing() { 0 } else { 1 }
+        1
     }
 
     fn canon_len(&self, _form: Form) -> u64 {
-        self.entries()
+        1
     }
 
     fn canon_arc(&self, i: u64, _form: Form) -> Option<CapArc> {
-        if i != 0 || self.is_nothing() {
+        if i != 0 {
             return None;
         }
         Some(CapArc { cap: self.total })

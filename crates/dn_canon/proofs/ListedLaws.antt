@@ -1,6 +1,8 @@
 -- Lemmas that the arcs that the bundles of a table list make the canonical graph of what the table represents.
-use Rattle.std.proofs.Common.{◌≡◌, ℤ, pos, negsuc, ◌-◌, ◌^◌, ◌≤ℤ◌, List, [], ◌∷◌, ◌++◌, Bool, true, false, cond, Option, Some, None, w64, refl, sym, ap, ◌∙◌, subst, arith, append-nil}
+use Rattle.std.proofs.Common.{◌≡◌, ℤ, pos, negsuc, ◌-◌, ◌^◌, ◌≤ℤ◌, List, [], ◌∷◌, ◌++◌, Bool, true, false, cond, Option, Some, None, w64, refl, sym, ap, ◌∙◌, subst, arith, append-nil, length}
 use Rattle.std.proofs.lemmas.Bool.Decides.{nat_tests}
+use Rattle.std.proofs.lemmas.List.{length-append, length-map}
+use Rattle.std.proofs.lemmas.List.Sums.{sum_by-cons}
 use Rattle.std.proofs.lemmas.Map.Keys.{sorted_head, sorted_tail}
 use Rattle.std.specs.Int.RustNames.{FitsSigned}
 use Rattle.std.specs.List.{AllByRecursion}
@@ -20,6 +22,7 @@ use Rattle.dn_arc.specs.declared.arc.CostArc.{CostArc}
 use Rattle.dn_arc.specs.State.Bundles.{IsKind, NumbersFit, listed_of}
 use Rattle.dn_instance.specs.Instances.{Graph, Instance, MinCostFlow, MaxFlow, ShortestPaths, Sources, Queries, Coordinates}
 use Rattle.dn_arc.specs.Pairs.{bundle, pair_cmp, same_pair}
+use Rattle.dn_table.specs.State.GraphEntries.{entries_listed}
 use Rattle.dn_table.specs.State.Tables.{listed_at}
 use Rattle.dn_instance.specs.Validity.{Fits, IsNode, IsPlaced, IsValidGraph, IsValid, AreSupplies, AreTerminals}
 use Rattle.dn_arc.proofs.PairLaws.{pair_is, pair_self}
@@ -268,3 +271,14 @@ companion_canon form (Sources ids) c v = record { valid = v; canonical = tt; sam
 companion_canon form (Queries pairs) c v = record { valid = v; canonical = tt; same = refl }
 companion_canon form (Coordinates points) c v = record { valid = v; canonical = tt; same = refl }
 companion_canon form _ c v = absurd c
+
+-- the listed arcs are as many as those of all bundles
+pub count_listed : {B Arc : Type 0} (lists : B → List Arc) (es : List ((ℤ × ℤ) × B))
+    → entries_listed (λ b. length (lists b)) es ≡ length (listed_arcs lists es)
+count_listed lists [] = refl
+count_listed {B} {Arc} lists (e ∷ es) =
+    let whole = sum_by-cons (λ (x : (ℤ × ℤ) × B). length (lists x.1)) e es in
+    let both = length-append (placed e.0 (lists e.1)) (listed_arcs lists es) in
+    let one : length (placed e.0 (lists e.1)) ≡ length (lists e.1) = length-map (lists e.1) (λ (a : Arc). (e.0, a)) in
+    let more = count_listed lists es in
+    omega arith

@@ -37,7 +37,7 @@ pub(crate) enum NodeLines<'a> {
     NoNodes,
 }
 
-// Writes a graph, in two walks over the table: the first counts the arcs, the second writes the lines.
+// Writes a graph, after the arcs are counted.
 pub(crate) fn write_graph<B: Bundle, K: Sink>(
     sink: &mut K,
     kind: Kind,
@@ -115,11 +115,10 @@ fn arc_count<B: Bundle>(table: &Table<B>, form: Form) -> Option<u64>
         MatchOption result (2 ^ 63 ≤ all) (λ n. (n ≡ all) × n < 2 ^ 63) }
     ensures rising { IsStrictlySortedBy pair_cmp (keys_of table.now) }
 {
-    let mut all = 0u64;
-    for (_, bundle) in table.pairs() {
-        all = all.checked_add(bundle.canon_len(form))?;
+    match table.arc_count(form) {
+        Some(all) => { if all < 1 << 63 { Some(all) } else { None } }
+        None => None,
     }
-    if all < 1 << 63 { Some(all) } else { None }
 }
 
 // Appends the arcs of one pair.

@@ -210,4 +210,15 @@ Other refusals:
   33 Write            Writing to standard output failed.
   34 CountTooLarge    The canonical text has more than 2^63-1 counted lines.
   35 NotInGraph       The companion names a node above NODES of the graph.
-  36 NotKinds         FILE is not an sp graph, or COMPANION is no companion.";
+  36 NotKinds         FILE is not an sp graph, or COMPANION is no companion.
+
+Usual causes that the line itself does not show:
+  BadLine                    FILE is compressed, is in UTF-16, or begins with a
+                             byte order mark.
+  NoProblem                  FILE is empty, or its lines end in CR alone.
+  TooManyLines, TooFewLines  Only a, s, q and v lines count.
+  bad command line           Several files: a command takes one, compare two.
+                             The manual has a recipe for folders.
+
+dnorm-explain prints the line that a refusal names, and such causes:
+  dnorm check FILE 2>&1 | dnorm-explain";

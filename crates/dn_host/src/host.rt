@@ -4,12 +4,13 @@ ghost use Rattle.dn_run.specs.Streams.{sink_run};
 ghost use Rattle.dn_host.specs.HostRuns.{HostRun, RanOnHost};
 
 use crate::retried::Retried;
-use dn_instance::Refusal;
+use dn_instance::{Held, Refusal};
 use dn_line::{FromRead, Source};
 use dn_report::put_fault_line;
 use dn_run::{Files, FilesFault, refuse_words, run};
 use dn_sink::{Sink, ToWrite};
 use std::io::{BufReader, BufWriter, ErrorKind, Printer, Read};
+use std::mem::forget;
 use std::rt::Runtime;
 use std::{env, fs, io};
 
@@ -78,6 +79,11 @@ impl<'a, R: fs::Files + Input + AllocGlobal> Files for HostFiles<'a, R> {
                 Err(fault)
             }
         }
+    }
+
+    // The program ends soon.
+    fn release(&mut self, held: Held) {
+        forget(held);
     }
 }
 

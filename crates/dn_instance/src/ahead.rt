@@ -5,13 +5,14 @@ use dn_bundle::Bundle;
 use dn_line::ArcLine;
 use dn_table::TableSoFar;
 use pair_index::AHEAD;
+use std::alloc::Global;
 
 // Looks up the pairs of these arcs together in a table, if that may save time. This affects only the speed.
-pub(crate) fn look_ahead<B: Bundle>(table: &mut TableSoFar<B>, arcs: &[ArcLine])
+pub(crate) fn look_ahead<B: Bundle>(table: &mut TableSoFar<B>, alloc: Global, arcs: &[ArcLine])
     ensures { table.new ≡ table.old }
 {
     if table.wants_guesses() {
-        table.guess(&pairs_of(arcs));
+        table.guess(alloc, &pairs_of(arcs));
     }
 }
 

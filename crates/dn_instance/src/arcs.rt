@@ -163,7 +163,7 @@ pub(crate) fn take_arcs<B: LineBundle>(
         → Joins B.holds before table.new (arc_items B.text (take result arcs.now)) }
     ensures within { result ≤ length arcs.now }
 {
-    look_ahead(table, arcs);
+    look_ahead(table, alloc, arcs);
     for i in 0..arcs.len() {
         if B::take(table, alloc, nodes, &arcs[i].arc).is_err() {
             return i;

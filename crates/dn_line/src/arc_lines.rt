@@ -1,5 +1,5 @@
 // Reads lines of arcs in plain spelling in one pass.
-ghost use Rattle.std.specs.Prelude.{◌+◌, ◌<◌, ◌≤◌, ◌∷◌, [], IfSome, length};
+ghost use Rattle.std.specs.Prelude.{◌+◌, ◌<◌, ◌≤◌, pos, ◌≤ℤ◌, ◌∷◌, [], IfSome, length};
 ghost use Rattle.dn_line.specs.State.ArcLines.{AreBlanks, AreNumbers, BeginsWithArc, IsArcOf, IsGap, IsLineEnd, IsNumberBefore, IsNumberFront, arc_of};
 
 use crate::kind::Kind;
@@ -135,6 +135,7 @@ fn after_plain_end(bytes: &[u8]) -> Option<&[u8]>
 fn short_front(bytes: &[u8]) -> Option<NumberFront<'_>>
     requires { 8 ≤ length bytes.now }
     ensures number { IfSome result (λ n. IsNumberFront bytes.now n.number n.rest.now) }
+    ensures some { IfSome result (λ n. pos 0 ≤ℤ n.number) }
     ensures within { IfSome result (λ n. length bytes.now ≤ length n.rest.now + 8) }
 {
     let short = short_number(bytes, 0)?;
@@ -176,6 +177,7 @@ fn any_front(bytes: &[u8]) -> Option<NumberFront<'_>>
 }
 
 // Reads the number at the beginning, and the blanks after it, at least one.
+#[inline(always)]
 fn number_before(bytes: &[u8]) -> Option<NumberFront<'_>>
     ensures { IfSome result (λ n. IsNumberBefore bytes.now n.number n.rest.now) }
 {
@@ -260,8 +262,61 @@ fn cap_arc(bytes: &[u8]) -> Option<ArcBefore<'_>>
     })
 }
 
-// Reads the arc of a `min` text from the bytes after its letter and blanks.
+// The greatest length of a line of four numbers of one to eight digits and one more number, with one byte for the blank
+// after each of the first four and eight bytes to read at the last.
+const SHORT_COST_LINE: usize = 44;
+
+// Reads the number at the beginning. It tries a short number first.
+#[inline(always)]
+fn last_front(bytes: &[u8]) -> Option<NumberFront<'_>>
+    requires { 8 ≤ length bytes.now }
+    ensures { IfSome result (λ n. IsNumberFront bytes.now n.number n.rest.now) }
+{
+    match short_front(bytes) {
+        Some(front) => Some(front),
+        None => any_front(bytes),
+    }
+}
+
+// Reads the arc of a `min` text from the bytes after its letter and blanks, if four numbers of one to eight digits and
+// one more number follow, with one space between them. Returns none for any other bytes, and for fewer bytes than
+// `SHORT_COST_LINE`.
+#[inline(always)]
+fn short_cost_arc(bytes: &[u8]) -> Option<ArcBefore<'_>>
+    ensures { IfSome result (λ a. IsArcOf Kind.Min bytes.now (arc_of Kind.Min a.arc) a.rest.now) }
+{
+    if bytes.len() < SHORT_COST_LINE {
+        return None;
+    }
+    let src = short_front(bytes)?;
+    let dst = short_front(after_space(src.rest)?)?;
+    let low = short_front(after_space(dst.rest)?)?;
+    let cap = short_front(after_space(low.rest)?)?;
+    let cost = last_front(after_space(cap.rest)?)?;
+    Some(ArcBefore {
+        arc: PlainArc {
+            src: src.number,
+            dst: dst.number,
+            low: low.number,
+            cap: cap.number,
+            cost: cost.number,
+        },
+        rest: after_line_end(cost.rest)?,
+    })
+}
+
+// Reads the arc of a `min` text from the bytes after its letter and blanks. It tries short numbers first.
 fn cost_arc(bytes: &[u8]) -> Option<ArcBefore<'_>>
+    ensures { IfSome result (λ a. IsArcOf Kind.Min bytes.now (arc_of Kind.Min a.arc) a.rest.now) }
+{
+    match short_cost_arc(bytes) {
+        Some(arc) => Some(arc),
+        None => any_cost_arc(bytes),
+    }
+}
+
+// Reads the arc of a `min` text from the bytes after its letter and blanks, with numbers of any length.
+fn any_cost_arc(bytes: &[u8]) -> Option<ArcBefore<'_>>
     ensures { IfSome result (λ a. IsArcOf Kind.Min bytes.now (arc_of Kind.Min a.arc) a.rest.now) }
 {
     let src = number_before(bytes)?;

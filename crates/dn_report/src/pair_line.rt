@@ -24,10 +24,8 @@ impl PairLine for Least {
 
     fn make_line(&self, line: &mut LineBuffer, pair: &(i64, i64)) {
         begin_line(line, pair);
-        if let Some(length) = self.get() {
-            line.word(b"length");
-            line.number(&length);
-        }
+        line.word(b"length");
+        line.number(&self.get());
         line.newline();
     }
 }

@@ -75,7 +75,7 @@ fn canon<'a, F: Files, O: Sink>(
     match read_named(alloc, name, files) {
         Ok(held) => {
             let written = write_canon(&held, out, form);
-            drop(held);
+            files.release(held);
             match written {
                 Ok(()) => Ok(0),
                 Err(refusal) => Err(unwritten(name, refusal)),

@@ -15,7 +15,7 @@ use Rattle.dn_table.specs.State.Tables.{Grows, TableStandsFor, TableLists}
 use Rattle.dn_table.proofs.PairLaws.{other_pair}
 use Rattle.dn_table.proofs.TableLaws.{grows_there}
 use Rattle.dn_arc.proofs.PairLaws.{pair_equiv}
-use Rattle.pair_index.proofs.IndexLaws.{key_of_entry}
+use Rattle.pair_index.proofs.SortedLaws.{key_of_entry}
 use Rattle.pair_index.proofs.EntryLaws.{keys_kept}
 use Rattle.pair_index.specs.State.Places.{key_at}
 
@@ -52,6 +52,11 @@ module _ {X : Type 0} (p : ℤ × ℤ) (es : List ((ℤ × ℤ) × X)) where
   pub lookup_none : list_any (same_pair p) (keys_of es) ≡ false → lookup (same_pair p) es ≡ None
   lookup_none h = none_is (lookup (same_pair p) es) (is_some-lookup (same_pair p) es ∙ h)
 
+  -- a pair that is not among the keys of a list has no entry in an equal list
+  pub none_as : (now : List ((ℤ × ℤ) × X)) → es ≡ now → list_any (same_pair p) (keys_of es) ≡ false
+      → lookup (same_pair p) now ≡ None
+  none_as now same fresh = ap (lookup (same_pair p)) (sym same) ∙ lookup_none fresh
+
   pub any_none : lookup (same_pair p) es ≡ None → list_any (same_pair p) (keys_of es) ≡ false
   any_none h = sym (is_some-lookup (same_pair p) es) ∙ ap is_some h
 
@@ -64,7 +69,7 @@ module _ {X : Type 0} (p : ℤ × ℤ) (es : List ((ℤ × ℤ) × X)) where
     placed = slice_get-get_or es i e inside ∙ ap (λ (x : (ℤ × ℤ) × X). Some x) (sym is)
 
     pub key_here : e.0 ≡ p
-    key_here = sym (key_of_entry es i e placed) ∙ at
+    key_here = sym (key_of_entry false es i e placed) ∙ at
 
     -- the look-up of the entry at a position
     pub found_at : lookup (same_pair p) es ≡ Some e.1

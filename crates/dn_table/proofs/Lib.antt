@@ -2,4 +2,3 @@ pub mod PairLaws
 pub mod TableLaws
 pub mod GrownLaws
 pub mod EntryLaws
-pub mod WalkLaws

@@ -1,7 +1,8 @@
 -- How an arc changes a table.
-use Rattle.std.proofs.Common.{◌≡◌, ◌↔◌, ℤ, ◌<ℤ◌, List, [], ◌∷◌, ◌++◌, Option, Some, None, Result, Ok, Err, OnOk, OnErr, false, refl, sym, ap, ◌∙◌, subst}
+use Rattle.std.proofs.Common.{◌≡◌, ◌↔◌, ℤ, ◌≤ℤ◌, ◌<ℤ◌, List, [], ◌∷◌, ◌++◌, Option, Some, None, Result, Ok, Err, OnOk, OnErr, false, refl, sym, ap, ◌∙◌, subst, arith}
 use Rattle.std.specs.Option.{IsSome}
 use Rattle.std.specs.Map.{lookup}
+use Rattle.std.proofs.lemmas.Int.{ints}
 use Rattle.dn_arc.specs.Kinds.{ArcKind}
 use Rattle.dn_arc.specs.State.Meanings.{IsMeaning}
 use Rattle.dn_bundle.specs.declared.bundle.BundleFault.{BundleFault}
@@ -25,16 +26,14 @@ module _ {B Arc : Type 0} (kind : ArcKind Arc) (lists : B → List Arc) (m n : L
     others = others;
   }
 
-  -- a pair without a bundle gets one if the arc means something
-  pub grows_fresh : (e w : B) → lookup (same_pair pair) m ≡ None → lookup (same_pair pair) n ≡ Some w
+  -- a pair without a bundle gets that of the arc
+  pub grows_fresh : (w : B) → lookup (same_pair pair) m ≡ None → lookup (same_pair pair) n ≡ Some w
       → ((p : ℤ × ℤ) → same_pair pair p ≡ false → lookup (same_pair p) n ≡ lookup (same_pair p) m)
-      → lists e ≡ [] → kind.Same (lists w) (lists e ++ arc ∷ []) → (kind.Same (lists w) [] → ⊥)
-      → Grows kind lists m n pair arc
-  grows_fresh e w h f others none same some = record {
+      → kind.Same (lists w) (arc ∷ []) → (kind.Same (lists w) [] → ⊥) → Grows kind lists m n pair arc
+  grows_fresh w h f others same some = record {
     here =
         subst (λ o. kind.Same (listed_of lists o) (listed_at lists m pair ++ arc ∷ [])) (sym f)
-        (subst (λ o. kind.Same (lists w) (listed_of lists o ++ arc ∷ [])) (sym h)
-        (subst (λ l. kind.Same (lists w) (l ++ arc ∷ [])) none same));
+        (subst (λ o. kind.Same (lists w) (listed_of lists o ++ arc ∷ [])) (sym h) same);
     kept = λ s. subst IsSome (sym f) refl;
     fresh =
         λ g. (
@@ -45,15 +44,20 @@ module _ {B Arc : Type 0} (kind : ArcKind Arc) (lists : B → List Arc) (m n : L
     others = others;
   }
 
+-- the arcs of a pair without a bundle do not pass the greatest sum with an arc that does not pass it alone
+pub fits_alone : {B Arc : Type 0} (kind : ArcKind Arc) (lists : B → List Arc) (m : List ((ℤ × ℤ) × B)) (pair : ℤ × ℤ)
+    (arc : Arc) (most : ℤ) → lookup (same_pair pair) m ≡ None → kind.capacity (arc ∷ []) ≤ℤ most
+    → most <ℤ kind.capacity (listed_at lists m pair ++ arc ∷ []) → ⊥
+fits_alone kind lists m pair arc most h fits more =
+    let alone : most <ℤ kind.capacity (arc ∷ []) =
+    subst (λ o. most <ℤ kind.capacity (listed_of lists o ++ arc ∷ [])) h more in
+    omega (arith, ints)
+
 module _ {B Arc : Type 0} (kind : ArcKind Arc) (lists : B → List Arc) (m : List ((ℤ × ℤ) × B)) (pair : ℤ × ℤ)
     (arc : Arc) (meaning : IsMeaning kind.Same) where
   -- a pair without a bundle gets none if the arc means nothing
-  pub grows_none : (e w : B) → lookup (same_pair pair) m ≡ None → lists e ≡ []
-      → kind.Same (lists w) (lists e ++ arc ∷ []) → kind.Same (lists w) [] → Grows kind lists m m pair arc
-  grows_none e w h none same nothing =
-      let alone : kind.Same [] (arc ∷ []) =
-      meaning.same_trans [] (lists w) (arc ∷ []) (meaning.same_sym (lists w) [] nothing)
-      (subst (λ l. kind.Same (lists w) (l ++ arc ∷ [])) none same) in
+  pub grows_none : lookup (same_pair pair) m ≡ None → kind.Same [] (arc ∷ []) → Grows kind lists m m pair arc
+  grows_none h alone =
       record {
         here = subst (λ o. kind.Same (listed_of lists o) (listed_of lists o ++ arc ∷ [])) (sym h) alone;
         kept = λ s. s;
@@ -83,10 +87,6 @@ pub sum_listed : {B Arc F : Type 0} (kind : ArcKind Arc) (lists : B → List Arc
 sum_listed {B} {Arc} {F} kind lists arc most m now pair listed e f h =
     subst (λ x. F ↔ (most <ℤ kind.capacity (listed_at lists x pair ++ arc ∷ []))) e
     (subst (λ l. F ↔ (most <ℤ kind.capacity (l ++ arc ∷ []))) (sym f) h)
-
--- if neither of two faults can occur, a statement about one holds of the other
-pub neither : {F G X : Type 0} → (F → ⊥) → (G → ⊥) → F ↔ X → G ↔ X
-neither f g h = (λ y. absurd (g y), λ x. absurd (f (h.1 x)))
 
 -- two facts about a success make a third
 pub on_ok_both : {T E P Q S : Type 0} (r : Result T E) → (P → Q → S) → OnOk r P → OnOk r Q → OnOk r S

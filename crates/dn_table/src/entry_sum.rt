@@ -1,5 +1,5 @@
 // Counts the entries that bundles make.
-ghost use Rattle.std.specs.Prelude.{◌≡◌, ◌<◌, ◌≤◌, ◌^◌, MatchOption};
+ghost use Rattle.std.specs.Prelude.{◌≡◌, ◌<◌, ◌≤◌, ◌^◌, length, MatchOption};
 ghost use Rattle.std.specs.List.{IsDistinct};
 ghost use Rattle.std.specs.Map.{keys_of};
 ghost use Rattle.dn_arc.specs.declared.arc.Form.{Form};
@@ -28,6 +28,18 @@ fn count_entries<B: Bundle>(entries: &[((i64, i64), B)]) -> Option<u64>
     let mut all = 0u64;
     for (_, bundle) in entries {
         all = all.checked_add(bundle.entries())?;
+    }
+    Some(all)
+}
+
+// Returns how many arcs the bundles list in a form, if this fits 64 bits.
+pub(crate) fn count_arcs<B: Bundle>(entries: &[((i64, i64), B)], form: Form) -> Option<u64>
+    ensures { let all = entries_listed (λ b. length (B.bundle.listed form b)) entries.now in
+        MatchOption result (2 ^ 64 ≤ all) (λ n. n ≡ all) }
+{
+    let mut all = 0u64;
+    for (_, bundle) in entries {
+        all = all.checked_add(bundle.canon_len(form))?;
     }
     Some(all)
 }

@@ -1,7 +1,7 @@
 // Bundles by their ordered pairs, while arcs arrive.
 ghost use Rattle.std.specs.Prelude.{◌≡◌, ◌<◌, ℤ, List, [], None, OnOk, OnErr, Some, Err, ◌↔◌, ◌-◌, ◌^◌, ◌++◌, ◌∷◌, false, true, vec_capacity, vec_len};
 ghost use Rattle.std.specs.List.{list_any};
-ghost use Rattle.std.specs.List.Sorted.{IsStrictlySortedBy};
+ghost use Rattle.std.specs.List.Sorted.{IsPermutation, IsStrictlySortedBy};
 ghost use Rattle.std.specs.Map.{keys_of, lookup};
 ghost use Rattle.pair_index.specs.State.Indexed.{Indexes};
 ghost use Rattle.pair_index.specs.State.Places.{IsPlace};
@@ -16,12 +16,16 @@ use pair_index::{AHEAD, PairIndex, is_pair};
 use std::alloc::{AllocError, Global};
 use std::marker::Model;
 
-/// The bundles of the arcs so far, one for each pair, in the order in which their pairs arrived.
+// How many calls of `wants_guesses` pass before it asks again, after a look-up that saved no time.
+const REST: usize = 7;
+
+/// The bundles of the arcs so far, one for each pair, in any order.
 #[derive(Drop)]
 pub struct TableSoFar<B: Bundle> {
     entries: Vec<((i64, i64), B)>,
     index: PairIndex,
-    // Hints of the positions of the next pairs, and how many of the hints are used.
+    // Hints of the positions of the next pairs, and how many of the hints are used; above `AHEAD`, also how many calls
+    // of `wants_guesses` pass before it asks again.
     likely: [u32; AHEAD],
     asked: usize,
 }
@@ -45,26 +49,35 @@ impl<B: Bundle> TableSoFar<B> {
     {
         TableSoFar {
             entries: Vec::new(alloc),
-            index: PairIndex::new(alloc),
+            index: PairIndex::new(),
             likely: [0; AHEAD],
             asked: AHEAD,
         }
     }
 
-    /// Whether hints of the positions of the next pairs may save time, and all earlier hints are used. This affects
-    /// only the speed.
-    pub fn wants_guesses(&self) -> bool {
-        AHEAD <= self.asked && self.index.is_scattered()
+    /// Whether hints of the positions of the next pairs may save time, and all earlier hints are used. If the last
+    /// look-up saved no time, not before `REST` more calls. This affects only the speed.
+    pub fn wants_guesses(&mut self) -> bool
+        ensures { self.new ≡ self.old }
+    {
+        if AHEAD < self.asked {
+            self.asked -= 1;
+            return false;
+        }
+        AHEAD <= self.asked && self.index.is_scattered(self.entries.len())
     }
 
     /// Looks up these pairs together, if that saves time. They are likely the pairs of the next arcs, and the positions
     /// found become hints. This affects only the speed.
-    pub fn guess(&mut self, pairs: &[(i64, i64); AHEAD])
+    pub fn guess(&mut self, alloc: Global, pairs: &[(i64, i64); AHEAD])
         ensures { self.new ≡ self.old }
     {
-        if let Some(likely) = self.index.likely_places(&self.entries, pairs) {
-            self.likely = likely;
-            self.asked = 0;
+        match self.index.likely_places(alloc, &self.entries, pairs) {
+            Some(likely) => {
+                self.likely = likely;
+                self.asked = 0;
+            }
+            None => self.asked = AHEAD + REST,
         }
     }
 
@@ -89,8 +102,9 @@ impl<B: Bundle> TableSoFar<B> {
 
     // Returns the position of a pair, if it has an entry. Tries the hint first.
     #[inline]
-    fn place_from(&self, guess: Option<usize>, pair: &(i64, i64)) -> Option<usize>
-        ensures { IsPlace (keys_of self.now) pair.now result }
+    fn place_from(&mut self, guess: Option<usize>, pair: &(i64, i64)) -> Option<usize>
+        ensures place { IsPlace (keys_of self.old) pair.now result }
+        ensures same { self.new ≡ self.old }
     {
         match guess {
             Some(at) if self.stands_at(at, pair) => Some(at),
@@ -133,7 +147,40 @@ impl<B: Bundle> TableSoFar<B> {
     ///
     /// Returns `Sum` exactly if the capacities of the pair's arcs sum to more than 2^63 - 1, and otherwise `Memory` if
     /// an allocation fails. After an error, nothing has changed.
+    #[inline(always)]
     pub fn add(&mut self, alloc: Global, pair: (i64, i64), arc: B::Arc) -> Result<(), BundleFault>
+        requires { B.bundle.kind.IsArc arc }
+        ensures ok { OnOk result (Adds B.bundle self.old self.new pair arc) }
+        ensures err { OnErr result (self.new ≡ self.old) }
+        ensures sum { (result ≡ Err BundleFault.Sum)
+            ↔ IsTooMuch B.bundle self.old pair arc }
+    {
+        if !self.index.is_next(&self.entries, &pair) {
+            return self.add_anywhere(alloc, pair, arc);
+        }
+        let Ok(one) = B::of(alloc, arc) else {
+            return Err(BundleFault::Memory);
+        };
+        let Some(bundle) = one else {
+            return Ok(());
+        };
+        match self.entries.reserve(1) {
+            Ok(()) => {
+                self.entries.push_reserved((pair, bundle));
+                Ok(())
+            }
+            Err(_) => Err(BundleFault::Memory),
+        }
+    }
+
+    // Adds an arc to the bundle of a pair, wherever the pair belongs.
+    #[inline(never)]
+    fn add_anywhere(
+        &mut self,
+        alloc: Global,
+        pair: (i64, i64),
+        arc: B::Arc,
+    ) -> Result<(), BundleFault>
         requires { B.bundle.kind.IsArc arc }
         ensures ok { OnOk result (Adds B.bundle self.old self.new pair arc) }
         ensures err { OnErr result (self.new ≡ self.old) }
@@ -155,12 +202,13 @@ impl<B: Bundle> TableSoFar<B> {
         ensures sum { (result ≡ Err BundleFault.Sum)
             ↔ IsTooMuch B.bundle self.old pair arc }
     {
-        let mut bundle = B::empty(alloc);
-        bundle.add(arc)?;
-        if bundle.is_nothing() {
-            return Ok(());
+        let Ok(one) = B::of(alloc, arc) else {
+            return Err(BundleFault::Memory);
+        };
+        match one {
+            Some(bundle) => self.insert(alloc, pair, bundle),
+            None => Ok(()),
         }
-        self.insert(alloc, pair, bundle)
     }
 
     /// Returns how many entries the bundles make, if this is below 2^64.
@@ -180,8 +228,8 @@ impl<B: Bundle> TableSoFar<B> {
             index,
             ..
         } = self;
-        let order = index.order(&mut entries);
-        Table::of(entries, order)
+        index.sort(&mut entries);
+        Table::of(entries)
     }
 }
 
@@ -194,10 +242,11 @@ fn note_next<X>(
 ) -> Result<(), AllocError>
     requires indexed { Indexes index.old (keys_of entries.old.items) }
     requires fresh { list_any (same_pair pair.now) (keys_of entries.old.items) ≡ false }
-    ensures same { entries.new.items ≡ entries.old.items }
+    ensures moved { IsPermutation entries.old.items entries.new.items }
     ensures room { OnOk result (vec_len entries.new < vec_capacity entries.new) }
-    ensures ok { OnOk result (Indexes index.new (keys_of entries.old.items ++ pair.now ∷ [])) }
+    ensures ok { OnOk result (Indexes index.new (keys_of entries.new.items ++ pair.now ∷ [])) }
     ensures err { OnErr result (Indexes index.new (keys_of entries.old.items)) }
+    ensures same { OnErr result (entries.new.items ≡ entries.old.items) }
 {
     entries.reserve(1)?;
     index.note(alloc, entries, pair)

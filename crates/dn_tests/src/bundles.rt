@@ -35,23 +35,7 @@ const OTHER: &[Numbers] = &[
     (0, 1, 0),
 ];
 
-const ROWS: [Row; 12] = [
-    Row {
-        arcs: &[],
-        forced: (0, 0),
-        fixed: Fixed::Zero,
-        free: &[],
-        entries: 0,
-        least: &[(-1, None), (0, Some(0)), (1, None)],
-    },
-    Row {
-        arcs: &[(0, 0, 5)],
-        forced: (0, 0),
-        fixed: Fixed::Zero,
-        free: &[],
-        entries: 0,
-        least: &[(-1, None), (0, Some(0)), (1, None)],
-    },
+const ROWS: [Row; 10] = [
     Row {
         arcs: WORKED,
         forced: (2, 3),
@@ -201,22 +185,30 @@ const ROWS: [Row; 12] = [
     },
 ];
 
-// Adds an arc to a curve, if a problem may have this arc.
-fn put(curve: &mut Curve, numbers: Numbers) -> Result<(), BundleFault> {
+// Adds an arc to a bundle of costs, if a problem may have this arc.
+fn put(alloc: Global, curve: &mut Option<Curve>, numbers: Numbers) -> Result<(), BundleFault> {
     let (low, cap, cost) = numbers;
     let arc = CostArc { low, cap, cost };
-    if Curve::is_arc(&arc) {
-        curve.add(arc)
-    } else {
-        Ok(())
+    if !Curve::is_arc(&arc) {
+        return Ok(());
+    }
+    match curve {
+        Some(curve) => curve.add(arc),
+        None => match Curve::of(alloc, arc) {
+            Ok(one) => {
+                *curve = one;
+                Ok(())
+            }
+            Err(_) => Err(BundleFault::Memory),
+        },
     }
 }
 
-// Returns the curve of these arcs.
-fn curve_of(alloc: Global, arcs: &[Numbers]) -> Result<Curve, BundleFault> {
-    let mut curve = Curve::empty(alloc);
+// Returns the curve of these arcs, or `None` if they mean the same as no arcs.
+fn curve_of(alloc: Global, arcs: &[Numbers]) -> Result<Option<Curve>, BundleFault> {
+    let mut curve = None;
     for numbers in arcs {
-        put(&mut curve, *numbers)?;
+        put(alloc, &mut curve, *numbers)?;
     }
     Ok(curve)
 }
@@ -236,11 +228,6 @@ fn has_forced(curve: &Curve, row: &Row) -> bool {
     curve.forced() == row.forced && curve.fixed() == row.fixed
 }
 
-// Whether the curve has this number of entries, and means nothing if and only if it has none.
-fn has_entries(curve: &Curve, entries: u64) -> bool {
-    curve.entries() == entries && curve.is_nothing() == (entries == 0)
-}
-
 // Whether these amounts have these least costs.
 fn has_least(curve: &Curve, costs: &[(i64, Option<i128>)]) -> bool {
     for (amount, cost) in costs {
@@ -255,7 +242,7 @@ fn has_least(curve: &Curve, costs: &[(i64, Option<i128>)]) -> bool {
 fn is_told(curve: &Curve, row: &Row) -> bool {
     has_forced(curve, row)
         && has_free(curve, row.free)
-        && has_entries(curve, row.entries)
+        && curve.entries() == row.entries
         && has_least(curve, row.least)
 }
 
@@ -263,18 +250,30 @@ fn is_told(curve: &Curve, row: &Row) -> bool {
 fn curves(rt: HostRuntime) -> Result<(), Fail> {
     for row in &ROWS {
         let curve = curve_of(rt.alloc(), row.arcs)?;
-        assert!(rt; is_told(&curve, row), "{:?}", row.arcs);
+        assert!(rt;
+            curve.is_some_and(|curve| is_told(&curve, row)),
+            "{:?}",
+            row.arcs
+        );
     }
+    Ok(())
+}
+
+#[test]
+fn arcs_without_capacity(rt: HostRuntime) -> Result<(), Fail> {
+    let curve = curve_of(rt.alloc(), &[(0, 0, 5), (0, 0, -5)])?;
+    assert!(rt; curve.is_none());
+    let total = bundle_of::<Total>(rt.alloc(), &[CapArc { cap: 0 }])?;
+    assert!(rt; total.is_none());
     Ok(())
 }
 
 // Whether the second of two arcs makes the capacities sum past the limit, and the curve stays that of the first arc.
 fn stays_past_the_limit(alloc: Global, first: Numbers, second: Numbers) -> bool {
-    let mut curve = Curve::empty(alloc);
-    put(&mut curve, first).is_ok()
-        && put(&mut curve, second) == Err(BundleFault::Sum)
-        && curve.free(0) == Some((first.2, first.1))
-        && curve.free_len() == 1
+    let mut curve = None;
+    put(alloc, &mut curve, first).is_ok()
+        && put(alloc, &mut curve, second) == Err(BundleFault::Sum)
+        && curve.is_some_and(|curve| has_free(&curve, &[(first.2, first.1)]))
 }
 
 #[test]
@@ -293,8 +292,7 @@ fn sums_past_the_limit(rt: HostRuntime) {
 // Whether the methods of a bundle of lengths agree that this is the least length.
 fn is_least(least: &Least, answer: i64) -> bool {
     let arc = LengthArc { length: answer };
-    least.get() == Some(answer)
-        && !least.is_nothing()
+    least.get() == answer
         && least.entries() == 1
         && least.canon_len(Form::Two) == 1
         && least.canon_arc(0, Form::Two) == Some(arc)
@@ -304,12 +302,12 @@ fn is_least(least: &Least, answer: i64) -> bool {
 fn lists_of_lengths(rt: HostRuntime) -> Result<(), Fail> {
     let lengths = [LengthArc { length: 7 }, LengthArc { length: 3 }];
     let least = bundle_of::<Least>(rt.alloc(), &lengths)?;
-    assert!(rt; is_least(&least, 3));
+    assert!(rt; least.as_ref().is_some_and(|least| is_least(least, 3)));
     let how = How::Lengths {
         left: None,
         right: Some(3),
     };
-    assert!(rt; Least::how(None, Some(&least)) == Some(how));
+    assert!(rt; Least::how(None, least.as_ref()) == Some(how));
     Ok(())
 }
 
@@ -317,7 +315,6 @@ fn lists_of_lengths(rt: HostRuntime) -> Result<(), Fail> {
 fn is_total(total: &Total, answer: i64) -> bool {
     let arc = CapArc { cap: answer };
     total.get() == answer
-        && !total.is_nothing()
         && total.entries() == 1
         && total.canon_len(Form::One) == 1
         && total.canon_arc(0, Form::One) == Some(arc)
@@ -326,9 +323,9 @@ fn is_total(total: &Total, answer: i64) -> bool {
 #[test]
 fn lists_of_capacities(rt: HostRuntime) -> Result<(), Fail> {
     let total = bundle_of::<Total>(rt.alloc(), &[CapArc { cap: 4 }, CapArc { cap: 5 }])?;
-    assert!(rt; is_total(&total, 9));
+    assert!(rt; total.as_ref().is_some_and(|total| is_total(total, 9)));
     let how = How::Totals { left: 9, right: 0 };
-    assert!(rt; Total::how(Some(&total), None) == Some(how));
+    assert!(rt; Total::how(total.as_ref(), None) == Some(how));
     Ok(())
 }
 
@@ -357,8 +354,12 @@ fn lists_of_costs(rt: HostRuntime) -> Result<(), Fail> {
         left: Some(4),
         right: None,
     };
-    assert!(rt; curve.least(2) == Some(8));
-    assert!(rt; Curve::how(Some(&curve), None) == Some(How::Costs(gap)));
+    assert!(rt;
+        curve
+            .as_ref()
+            .is_some_and(|curve| curve.least(2) == Some(8))
+    );
+    assert!(rt; Curve::how(curve.as_ref(), None) == Some(How::Costs(gap)));
     Ok(())
 }
 

@@ -1,10 +1,11 @@
 // Each way of finding pairs, compared with a scan of the list. Allocations may fail.
 
-use pair_index::PairIndex;
+use pair_index::{AHEAD, PairIndex, place_among};
 use std::alloc::{AllocError, Global};
 use std::marker::Model;
+use std::test::Fail;
 
-// Numbered entries in the order in which their pairs came, and their index.
+// Entries, numbered in the order in which their pairs came, and their index.
 #[derive(Drop)]
 struct Listed {
     entries: Vec<((i64, i64), usize)>,
@@ -27,7 +28,7 @@ impl Listed {
     fn new(alloc: Global) -> Listed {
         Listed {
             entries: Vec::new(alloc),
-            index: PairIndex::new(alloc),
+            index: PairIndex::new(),
         }
     }
 
@@ -37,13 +38,13 @@ impl Listed {
             return Ok(());
         }
         self.entries.reserve(1)?;
-        self.index.note(alloc, &self.entries, &pair)?;
+        self.index.note(alloc, &mut self.entries, &pair)?;
         let number = self.entries.len();
         Ok(self.entries.push((pair, number))?)
     }
 
     // Whether each of these pairs, and each pair with its nodes exchanged, is found where a scan finds it.
-    fn finds(&self, pairs: &[(i64, i64)]) -> bool {
+    fn finds(&mut self, pairs: &[(i64, i64)]) -> bool {
         for pair in pairs {
             for asked in [*pair, (pair.1, pair.0)] {
                 let scanned = self.entries.iter().position(|entry| entry.0 == asked);
@@ -55,129 +56,227 @@ impl Listed {
         true
     }
 
-    // Whether the finished order finds each pair, and its walk visits all pairs by rising pair.
-    fn finds_in_order(self, pairs: &[(i64, i64)]) -> bool {
+    // Returns whether the pairs are found by links ("scattered") or not ("in order").
+    fn way(&self) -> &'static str {
+        if self.index.is_scattered(self.entries.len()) {
+            "scattered"
+        } else {
+            "in order"
+        }
+    }
+
+    // Whether the sorted entries rise, and each pair has its entry among them.
+    fn sorts(self, pairs: &[(i64, i64)]) -> bool {
         let Listed { mut entries, index } = self;
-        let order = index.order(&mut entries);
+        index.sort(&mut entries);
+        for i in 1..entries.len() {
+            if entries[i].0 <= entries[i - 1].0 {
+                return false;
+            }
+        }
         for i in 0..pairs.len() {
-            match order.find(&entries, &pairs[i]) {
+            match place_among(&entries, &pairs[i]) {
                 Some(place) if entries[place].1 == i => {}
                 _ => return false,
             }
         }
-        let mut at = order.first(&entries);
-        for _ in 0..entries.len() {
-            let Some(place) = at else {
-                return false;
-            };
-            if entries.len() <= place {
-                return false;
-            }
-            let next = order.next(&entries, place);
-            if let Some(next) = next {
-                if entries.len() <= next || entries[next].0 <= entries[place].0 {
-                    return false;
-                }
-            }
-            at = next;
-        }
-        at.is_none()
+        entries.len() == pairs.len()
     }
 }
 
-// Returns whether these pairs are looked up by chains at the end ("scattered") or not ("in order"), or what went wrong.
-// After an allocation failure the pairs so far must still be found, and the second attempt must succeed.
-fn way_to_find(alloc: Global, pairs: &[(i64, i64)]) -> Result<&'static str, AllocError> {
+// Returns the index of these pairs, or `None` if a pair is found at a wrong position. After an allocation failure the
+// first pairs must still be found, and the second attempt must succeed.
+fn index_of(alloc: Global, pairs: &[(i64, i64)]) -> Result<Option<Listed>, AllocError> {
     let mut listed = Listed::new(alloc);
     for pair in pairs {
         if listed.take(alloc, *pair).is_err() {
-            if !listed.finds(pairs) {
-                return Ok("a wrong place after an allocation failure");
+            if !listed.finds(&pairs[..pairs.len().min(8)]) {
+                return Ok(None);
             }
             listed.take(alloc, *pair)?;
         }
     }
-    if !listed.finds(pairs) {
-        return Ok("a wrong place");
-    }
-    let way = if listed.index.is_scattered() {
-        "scattered"
-    } else {
-        "in order"
-    };
-    if !listed.finds_in_order(pairs) {
-        return Ok("a wrong place in order");
-    }
-    Ok(way)
+    Ok(Some(listed))
 }
 
-// Returns pairs whose nodes are multiples of these numbers. Retries the allocation once if it fails.
-fn multiples(alloc: Global, tail: i64, head: i64) -> Result<Vec<(i64, i64)>, AllocError> {
+// Returns how these pairs are found at the end, or what went wrong.
+fn way_to_find(alloc: Global, pairs: &[(i64, i64)]) -> Result<&'static str, AllocError> {
+    let Some(mut listed) = index_of(alloc, pairs)? else {
+        return Ok("a wrong place after an allocation failure");
+    };
+    let way = listed.way();
+    if listed.finds(pairs) && listed.sorts(pairs) {
+        Ok(way)
+    } else {
+        Ok("a wrong place")
+    }
+}
+
+// Pairs in groups of one tail: the tails are multiples of one number, and the heads of another.
+#[derive(Clone, Copy)]
+struct Groups {
+    size: i64,
+    tail: i64,
+    head: i64,
+    way: &'static str,
+}
+
+// Returns the pairs of these groups. Retries the allocation once if it fails.
+fn pairs_of(alloc: Global, groups: &Groups) -> Result<Vec<(i64, i64)>, AllocError> {
     let mut pairs = match Vec::with_capacity(alloc, 150) {
         Ok(pairs) => pairs,
         Err(_) => Vec::with_capacity(alloc, 150)?,
     };
-    for i in 0..150 {
-        pairs.push((tail.wrapping_mul(i), head.wrapping_mul(i)))?;
+    for i in 0..150i64 {
+        let group = i.checked_div(groups.size).unwrap_or(0);
+        let tail = groups.tail.wrapping_mul(group);
+        pairs.push((tail, groups.head.wrapping_mul(i)))?;
     }
     Ok(pairs)
 }
 
-// Returns `way_to_find` of these multiples.
-fn way_to_find_multiples(alloc: Global, tail: i64, head: i64) -> Result<&'static str, AllocError> {
-    let pairs = multiples(alloc, tail, head)?;
+// Returns `way_to_find` of the pairs of these groups.
+fn way_to_find_groups(alloc: Global, groups: &Groups) -> Result<&'static str, AllocError> {
+    let pairs = pairs_of(alloc, groups)?;
     way_to_find(alloc, &pairs)
 }
 
-// Pairs that fall into one of 64 buckets, both by the last 6 bits of `4 * tail + head` and by those of the mixed
-// number.
-const COLLIDING: [(i64, i64); 28] = [
-    (70, 1000),
-    (64, 2048),
-    (61, 1484),
-    (59, 20),
-    (58, 1304),
-    (54, 1768),
-    (53, 236),
-    (45, 268),
-    (42, 2008),
-    (41, 1180),
-    (39, 932),
-    (38, 104),
-    (35, 1844),
-    (33, 1980),
-    (29, 652),
-    (28, 208),
-    (25, 2204),
-    (24, 2464),
-    (23, 292),
-    (21, 1452),
-    (18, 2168),
-    (16, 448),
-    (15, 1604),
-    (14, 392),
-    (12, 1232),
-    (11, 1044),
-    (7, 1380),
-    (6, 616),
-];
+// A number whose multiples are scattered.
+const SCATTERING: i64 = 0x1E37_79B9_7F4A_7C15;
 
-// Multiples that rise, that fall among near nodes, that have the same number `4 * tail + head`, and that lie far apart,
-// and how their pairs are found at the end.
-const MULTIPLES: [(i64, i64, &str); 4] = [
-    (1, 5, "in order"),
-    (-1, 0, "scattered"),
-    (-1, 4, "scattered"),
-    (i64::MIN + 1, i64::MAX - 3, "scattered"),
+// How the pairs of groups are found at the end. Groups of more than 24 entries are linked, unless their heads rise.
+const GROUPS: [Groups; 9] = [
+    // Tails that rise, and that fall.
+    Groups {
+        size: 1,
+        tail: 1,
+        head: 5,
+        way: "in order",
+    },
+    Groups {
+        size: 1,
+        tail: -1,
+        head: 4,
+        way: "in order",
+    },
+    // One tail, and groups of few and of many heads, whose tails rise or fall.
+    Groups {
+        size: 150,
+        tail: 1,
+        head: -1,
+        way: "in order",
+    },
+    Groups {
+        size: 150,
+        tail: 1,
+        head: SCATTERING,
+        way: "in order",
+    },
+    Groups {
+        size: 10,
+        tail: 1,
+        head: SCATTERING,
+        way: "in order",
+    },
+    Groups {
+        size: 40,
+        tail: 1,
+        head: SCATTERING,
+        way: "in order",
+    },
+    Groups {
+        size: 40,
+        tail: -1,
+        head: SCATTERING,
+        way: "in order",
+    },
+    // Tails that rise and fall, near to each other and far apart.
+    Groups {
+        size: 1,
+        tail: SCATTERING,
+        head: 1,
+        way: "scattered",
+    },
+    Groups {
+        size: 1,
+        tail: i64::MIN + 1,
+        head: i64::MAX - 3,
+        way: "scattered",
+    },
 ];
 
 #[test]
-fn finds_multiples(rt: HostRuntime) {
-    for (tail, head, way) in &MULTIPLES {
-        let found = way_to_find_multiples(rt.alloc(), *tail, *head);
-        assert!(rt; found == Ok(*way), "multiples of {tail} and {head}");
+fn finds_groups(rt: HostRuntime) {
+    for groups in &GROUPS {
+        let way = way_to_find_groups(rt.alloc(), groups);
+        assert!(rt;
+            way == Ok(groups.way),
+            "{} of {} and {}",
+            groups.size,
+            groups.tail,
+            groups.head
+        );
     }
 }
+
+// Returns how these pairs are found once each of them came again, or what went wrong. Looking up pairs together changes
+// the way of finding.
+fn way_to_find_again(alloc: Global, pairs: &[(i64, i64)]) -> Result<&'static str, AllocError> {
+    let Some(mut listed) = index_of(alloc, pairs)? else {
+        return Ok("a wrong place after an allocation failure");
+    };
+    if !listed.finds(pairs) {
+        return Ok("a wrong place");
+    }
+    let way = listed.way();
+    listed
+        .index
+        .likely_places(alloc, &listed.entries, &[(1, 5); AHEAD]);
+    if listed.finds(pairs) && listed.sorts(pairs) {
+        Ok(way)
+    } else {
+        Ok("a wrong place after the way has changed")
+    }
+}
+
+#[test]
+fn finds_again(rt: HostRuntime) -> Result<(), Fail> {
+    let rising = pairs_of(rt.alloc(), &GROUPS[0])?;
+    assert!(rt; way_to_find_again(rt.alloc(), &rising) == Ok("scattered"));
+    Ok(())
+}
+
+// Pairs whose tails rise and fall, and that fall into one of 64 buckets.
+const COLLIDING: [(i64, i64); 28] = [
+    (70, 1000),
+    (6, 616),
+    (64, 2048),
+    (7, 1380),
+    (61, 1484),
+    (11, 1044),
+    (59, 20),
+    (12, 1232),
+    (58, 1304),
+    (14, 392),
+    (54, 1768),
+    (15, 1604),
+    (53, 236),
+    (16, 448),
+    (45, 268),
+    (18, 2168),
+    (42, 2008),
+    (21, 1452),
+    (41, 1180),
+    (23, 292),
+    (39, 932),
+    (24, 2464),
+    (38, 104),
+    (25, 2204),
+    (35, 1844),
+    (28, 208),
+    (33, 1980),
+    (29, 652),
+];
 
 // Pairs that come nearly in order: each is followed by its reverse.
 fn way_to_find_reversed(alloc: Global) -> Result<&'static str, AllocError> {

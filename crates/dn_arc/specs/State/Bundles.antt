@@ -73,6 +73,12 @@ module _ {B Arc : Type 0} (bundle : BundleWords B Arc) where
   abbrev pub meant : B → List Arc
   meant b = bundle.listed One b
 
+  -- the bundle means what the arc does, or there is none and the arc means the same as no arcs
+  abbrev pub IsBundleOf : Arc → Option B → Type 0
+  IsBundleOf arc o =
+      bundle.kind.Same (listed_of meant o) (arc ∷ [])
+      × MatchOption o (Unit {0}) (λ b. bundle.kind.Same (meant b) [] → ⊥)
+
   -- the second bundle means what the first one does with one more arc
   abbrev pub Gains : B → B → Arc → Type 0
   Gains old new arc = bundle.kind.Same (meant new) (meant old ++ arc ∷ [])

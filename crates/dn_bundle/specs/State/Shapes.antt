@@ -1,5 +1,5 @@
--- How a curve stores its numbers: in a box, or as one cost and the capacity at it.
-use Rattle.std.specs.Prelude.{◌≡◌, ℤ, pos, ◌+ℤ◌, ◌-ℤ◌, ◌*ℤ◌, [], Option, Some, None, cond, int_lt}
+-- How a curve stores its numbers: in a box, or as one cost with the forced units and the free capacity at it.
+use Rattle.std.specs.Prelude.{◌≡◌, ◌⊎◌, ◌-◌, ◌^◌, ℕ, ℤ, pos, ◌+ℤ◌, ◌-ℤ◌, ◌*ℤ◌, ◌≤ℤ◌, [], Option, Some, None, cond, int_lt}
 use Rattle.dn_arc.specs.declared.arc.CostArc.{CostArc}
 use Rattle.dn_bundle.specs.declared.curve.shape.Numbers.{Numbers}
 use Rattle.dn_bundle.specs.declared.curve.shape.Shape.{Shape}
@@ -12,9 +12,14 @@ use Rattle.dn_arc.specs.State.Steps.{steps_of, add_step}
 abbrev pub plain_step : ℤ × ℤ → Option (ℤ × ℤ)
 plain_step step = cond (int_lt (pos 0) step.1) (Some step) None
 
--- the numbers that a shape represents; a plain shape has no forced units
+-- the numbers that a shape represents
 abbrev pub numbers_of : Shape → Numbers
-numbers_of (Plain step) = record { units = pos 0; cost = pos 0; total = step.1; steps = steps_of (plain_step step) [] }
+numbers_of (Plain low step) = record {
+  units = pos low;
+  cost = pos low *ℤ step.0;
+  total = pos low +ℤ step.1;
+  steps = steps_of (plain_step step) [];
+}
 numbers_of (Full numbers) = numbers.value
 
 -- the numbers are those of a valid curve
@@ -33,3 +38,8 @@ pub record IsGrown (old : Numbers) (a : CostArc) (new : Numbers) : Type 0 where
   pub cost : new.cost ≡ old.cost +ℤ (a.low *ℤ a.cost)
   pub total : new.total ≡ old.total +ℤ a.cap
   pub steps : new.steps ≡ add_step old.steps (a.cost, a.cap -ℤ a.low)
+
+-- a plain shape can take the arc: it has the cost of the arc, or no capacity, and its forced units fit 32 bits with LOW
+pub record StaysPlain (low : ℕ) (step : ℤ × ℤ) (a : CostArc) : Type 0 where
+  pub few : (pos low +ℤ a.low) ≤ℤ pos (2 ^ 32 - 1)
+  pub one : (a.cost ≡ step.0) ⊎ ((low ≡ 0) × (step.1 ≡ pos 0))

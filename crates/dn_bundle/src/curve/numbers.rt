@@ -1,7 +1,8 @@
 // Reads the numbers of a curve from its shape.
-ghost use Rattle.std.specs.Prelude.{◌≡◌, ◌≤◌, ◌^◌, length, slice_get};
+ghost use Rattle.std.specs.Prelude.{◌≡◌, ◌≤◌, ◌+◌, ◌^◌, length, slice_get};
 ghost use Rattle.dn_arc.specs.State.Steps.{step_past, has_step};
 
+use crate::cost128::cost_of;
 use crate::curve::Curve;
 use crate::curve::shape::{Shape, plain_step};
 use crate::steps::StepsIter;
@@ -12,7 +13,7 @@ impl Curve {
         ensures { result ≡ self.now.units }
     {
         match &self.shape {
-            Shape::Plain(_) => 0,
+            Shape::Plain(low, _) => i64::from(*low),
             Shape::Full(numbers) => numbers.units,
         }
     }
@@ -22,7 +23,7 @@ impl Curve {
         ensures { result ≡ self.now.cost }
     {
         match &self.shape {
-            Shape::Plain(_) => 0,
+            Shape::Plain(low, step) => cost_of(&i64::from(*low), &step.0),
             Shape::Full(numbers) => numbers.cost,
         }
     }
@@ -32,7 +33,7 @@ impl Curve {
         ensures { result ≡ self.now.total }
     {
         match &self.shape {
-            Shape::Plain(step) => step.1,
+            Shape::Plain(low, step) => i64::from(*low) + step.1,
             Shape::Full(numbers) => numbers.total,
         }
     }
@@ -40,10 +41,10 @@ impl Curve {
     // Returns how many different costs have free capacity.
     pub(super) fn steps_len(&self) -> u64
         ensures len { result ≡ length self.now.steps }
-        ensures small { result ≤ 2 ^ 63 }
+        ensures small { result ≤ 2 ^ 63 + 3 }
     {
         match &self.shape {
-            Shape::Plain(step) => { if 0 < step.1 { 1 } else { 0 } }
+            Shape::Plain(_, step) => { if 0 < step.1 { 1 } else { 0 } }
             Shape::Full(numbers) => numbers.steps.len(),
         }
     }
@@ -53,7 +54,7 @@ impl Curve {
         ensures { result ≡ slice_get self.now.steps 0 }
     {
         match &self.shape {
-            Shape::Plain(step) => plain_step(*step),
+            Shape::Plain(_, step) => plain_step(*step),
             Shape::Full(numbers) => numbers.steps.first(),
         }
     }
@@ -63,17 +64,18 @@ impl Curve {
         ensures { result ≡ slice_get self.now.steps i }
     {
         match &self.shape {
-            Shape::Plain(step) => { if i == 0 { plain_step(*step) } else { None } }
+            Shape::Plain(_, step) => { if i == 0 { plain_step(*step) } else { None } }
             Shape::Full(numbers) => numbers.steps.get(i),
         }
     }
 
     // Returns the first breakpoint whose cost is above `past`.
+    #[inline(always)]
     pub(super) fn step_past(&self, past: &i64) -> Option<(i64, i64)>
         ensures { result ≡ step_past self.now.steps past.now }
     {
         match &self.shape {
-            Shape::Plain(step) => {
+            Shape::Plain(_, step) => {
                 if *past < step.0 {
                     plain_step(*step)
                 } else {
@@ -89,7 +91,7 @@ impl Curve {
         ensures { result ≡ has_step self.now.steps at.now }
     {
         match &self.shape {
-            Shape::Plain(step) => *at == step.0 && 0 < step.1,
+            Shape::Plain(_, step) => *at == step.0 && 0 < step.1,
             Shape::Full(numbers) => numbers.steps.has(at),
         }
     }
@@ -99,7 +101,7 @@ impl Curve {
         ensures { result ≡ self.now.steps }
     {
         match &self.shape {
-            Shape::Plain(step) => StepsIter::of(plain_step(*step)),
+            Shape::Plain(_, step) => StepsIter::of(plain_step(*step)),
             Shape::Full(numbers) => numbers.steps.iter(),
         }
     }

@@ -1,9 +1,9 @@
 // How a curve stores its numbers, and how it adds an arc to them.
-ghost use Rattle.std.specs.Prelude.{◌≡◌, ◌+ℤ◌, OnOk, OnErr, IfOk};
+ghost use Rattle.std.specs.Prelude.{◌≡◌, ◌+ℤ◌, OnOk, OnErr, IfOk, IsTrue};
 ghost use Rattle.dn_arc.specs.Canonical.{IsCostArc};
-ghost use Rattle.dn_bundle.specs.State.Shapes.{plain_step, numbers_of, AreSound, IsGrown};
+ghost use Rattle.dn_bundle.specs.State.Shapes.{plain_step, numbers_of, AreSound, IsGrown, StaysPlain};
 
-use crate::cost128::more_cost;
+use crate::cost128::{cost_of, more_cost};
 use crate::steps::Steps;
 use dn_arc::CostArc;
 use std::alloc::{AllocError, Global};
@@ -21,11 +21,11 @@ pub(crate) struct Numbers {
     pub(crate) steps: Steps,
 }
 
-/// How a curve stores its numbers. A curve with one cost and no forced units, as most pairs have, needs no allocation.
+/// How a curve stores its numbers. A curve with one cost and few forced units, as most pairs have, needs no allocation.
 #[derive(Drop)]
 pub(crate) enum Shape {
-    /// A cost and the capacity at it.
-    Plain((i64, i64)),
+    /// The forced units, their cost, and the free capacity at it.
+    Plain(u32, (i64, i64)),
     Full(Box<Numbers>),
 }
 
@@ -53,26 +53,48 @@ impl Numbers {
     }
 }
 
-// Makes the numbers of one breakpoint and adds an arc, with which the total capacity is `total`.
+// Makes the numbers of forced units and free capacity at one cost, and adds an arc, with which the total capacity is
+// `total`.
 fn full_with(
     alloc: Global,
+    low: u32,
     step: (i64, i64),
     arc: CostArc,
     total: i64,
 ) -> Result<Box<Numbers>, AllocError>
-    requires sound { AreSound (numbers_of (Shape.Plain step)) }
+    requires sound { AreSound (numbers_of (Shape.Plain low step)) }
     requires arc { IsCostArc arc }
-    requires total { total ≡ step.1 +ℤ arc.cap }
-    ensures { IfOk result (λ numbers. IsGrown (numbers_of (Shape.Plain step)) arc numbers.value) }
+    requires total { total ≡ (numbers_of (Shape.Plain low step)).total +ℤ arc.cap }
+    ensures { IfOk result (λ numbers. IsGrown (numbers_of (Shape.Plain low step)) arc numbers.value) }
 {
+    let units = i64::from(low);
     let mut numbers = Numbers {
-        units: 0,
-        cost: 0,
-        total: step.1,
+        units,
+        cost: cost_of(&units, &step.0),
+        total: units + step.1,
         steps: Steps::of(alloc, plain_step(step)),
     };
     numbers.add(arc, total)?;
     Ok(Box::new(alloc, numbers)?)
+}
+
+// Whether a plain shape can take an arc. A false result affects only the speed and the memory.
+fn stays_plain(low: u32, step: (i64, i64), arc: &CostArc) -> bool
+    ensures { IsTrue result → StaysPlain low step arc.now }
+{
+    if i64::from(u32::MAX - low) < arc.low {
+        return false;
+    }
+    if arc.cost == step.0 {
+        return true;
+    }
+    if low != 0 {
+        return false;
+    }
+    if step.1 != 0 {
+        return false;
+    }
+    true
 }
 
 impl Shape {
@@ -86,15 +108,16 @@ impl Shape {
     {
         match self {
             Shape::Full(numbers) => numbers.add(arc, total),
-            Shape::Plain(step) => {
+            Shape::Plain(low, step) => {
                 if arc.cap == 0 {
                     return Ok(());
                 }
-                if arc.low == 0 && (step.1 == 0 || arc.cost == step.0) {
-                    *step = (arc.cost, total);
+                if stays_plain(*low, *step, &arc) {
+                    *low += arc.low as u32;
+                    *step = (arc.cost, step.1 + (arc.cap - arc.low));
                     return Ok(());
                 }
-                *self = Shape::Full(full_with(alloc, *step, arc, total)?);
+                *self = Shape::Full(full_with(alloc, *low, *step, arc, total)?);
                 Ok(())
             }
         }

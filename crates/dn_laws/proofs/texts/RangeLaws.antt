@@ -2,12 +2,15 @@
 use Rattle.std.proofs.Common.{◌≡◌, ◌↔◌, ◌-◌, ◌^◌, ℤ, pos, ◌≤ℤ◌, ◌<ℤ◌, List, [], ◌∷◌, ◌++◌, cond, map, refl, sym, ap, ◌∙◌, subst, arith, append-nil, IsTrue}
 use Rattle.std.proofs.lemmas.Int.{ints}
 use Rattle.std.specs.List.{AllByRecursion, flat_map}
-use Rattle.std.specs.Ordering.{is_eq, is_le}
+use Rattle.std.specs.Ordering.{is_eq, is_le, int_cmp, ordering_then}
+use Rattle.std.specs.declared.cmp.Ordering.{Ordering}
+use Rattle.std.specs.declared.cmp.Ordering.TheVariants.{Less, Equal, Greater}
+use Rattle.std.proofs.lemmas.Cmp.{int_ranked}
 use Rattle.dn_arc.specs.declared.arc.Form.{Form}
 use Rattle.dn_arc.specs.State.Bundles.{IsKind}
 use Rattle.dn_arc.specs.Kinds.{ArcKind}
 use Rattle.dn_arc.proofs.OrdersLaws.{same_joined}
-use Rattle.dn_arc.specs.Pairs.{bundle, pair_le}
+use Rattle.dn_arc.specs.Pairs.{bundle, pair_cmp, pair_le}
 use Rattle.dn_instance.specs.Instances.{Graph, Instance}
 use Rattle.dn_instance.specs.State.Parts.{AreParts, SameHead, arc_lines}
 use Rattle.dn_instance.specs.Sameness.{IsSame}
@@ -22,7 +25,15 @@ use Rattle.dn_laws.proofs.texts.ChunkLaws.{IsCanonMaking, by_kind, canons_valid,
 use Rattle.dn_canon.proofs.PartLaws.{all_append}
 use Rattle.dn_canon.proofs.TextLaws.{canon_one}
 use Rattle.dn_canon.proofs.ListedLaws.{all_from, at_some}
-use Rattle.pair_index.proofs.WalkLaws.{less_by_tail}
+
+-- a pair with a lesser tail is less
+less_by_tail : (p q : ℤ × ℤ) → p.0 <ℤ q.0 → pair_cmp p q ≡ Less
+less_by_tail p q h = by_order (int_cmp p.0 q.0) refl
+  where
+    by_order : (o : Ordering) → o ≡ int_cmp p.0 q.0 → ordering_then (int_cmp p.0 q.0) (int_cmp p.1 q.1) ≡ Less
+    by_order Less e = ap (λ o. ordering_then o (int_cmp p.1 q.1)) (sym e)
+    by_order Equal e = (let same = int_ranked p.0 q.0 Equal e in absurd (omega (arith, ints, h, same)))
+    by_order Greater e = (let back = int_ranked p.0 q.0 Greater e in absurd (omega (arith, ints, h, back)))
 
 -- a fact holds of each element
 each_of : {X : Type 0} (P : Type 0) → P → (xs : List X) → AllByRecursion (λ (x : X). P) xs

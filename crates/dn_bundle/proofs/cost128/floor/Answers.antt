@@ -1,5 +1,5 @@
 use Rattle.std.proofs.Common.{rules}
-use Rattle.dn_bundle.proofs.Cost128Laws.{widens, divides, each_narrows, rest_narrows, floor_is}
+use Rattle.dn_bundle.proofs.Cost128Laws.{widens, divides, each_narrows, rest_narrows, floor_is, small_floor_is}
 use Rattle.dn_bundle.proofs.cost128.floor.Goals as goal
 
 pub overflow_cast-units : goal.overflow_cast-units
@@ -29,3 +29,9 @@ overflow_cast-rest c = rest_narrows c.args.cost.now c.args.units.now c.div_eucli
 pub returns : goal.returns
 returns c = floor_is c.args.cost.now c.args.units.now c.div_euclid-each.result (search rules) (search rules)
     c.requires.unit c.requires.mean c.div_euclid-each.ensures c.rem_euclid-rest.result c.rem_euclid-rest.ensures.value
+
+pub returns-in-Ok : goal.returns-in-Ok
+returns-in-Ok c =
+    small_floor_is c.args.cost.now c.args.units.now c.in-Ok.cost c.div_euclid.result c.rem_euclid.result (search rules)
+    (search rules) c.requires.unit c.requires.mean c.in-Ok.ensures.0 c.in-Ok.ensures.1 c.div_euclid.ensures
+    c.rem_euclid.ensures.value

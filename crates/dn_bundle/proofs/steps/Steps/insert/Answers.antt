@@ -1,34 +1,108 @@
-use Rattle.std.proofs.Common.{rules}
-use Rattle.dn_bundle.proofs.StepLaws.{lower_first, lower_put, higher_first, same_first, same_fits, same_put}
+use Rattle.std.proofs.Common.{◌≡◌, ◌<◌, Some, None, length, sym, ap, subst, ◌∙◌, rules, arith, slice_get}
+use Rattle.std.proofs.lemmas.Grind.{common_steps}
+use Rattle.dn_bundle.specs.State.Spots.{spot}
+use Rattle.dn_bundle.proofs.StepLaws.{less, not_less}
+use Rattle.dn_bundle.proofs.SpotLaws.{get_below, rest_put, push_put, other_put, merged_put, sum_fits_held, rest_steps, rest_fits, sum_held, sum_held_fits}
 use Rattle.dn_bundle.proofs.steps.Steps.insert.Goals as goal
 
-pub invariant_of-self-then-step-least : goal.invariant_of-self-then-step-least
-invariant_of-self-then-step-least c = lower_first c.self.inside.first c.self.inside.rest.entries c.args.self.now
-    c.in-Some.least c.args.step c.in-Some.is c.self.invariant c.self.view_is (search rules) (search rules)
-    (search rules) (search rules) c.insert.new.self.entries c.if-step-least.true c.in_ok-insert-in-Some.ensures.entries
+pub overflow_add-held : goal.overflow_add-held
+overflow_add-held c =
+    let xs = c.self.inside.few.items in
+    let ys = c.self.inside.rest.entries in
+    let now = c.args.self.now in
+    let step = c.args.step in
+    let at = c.place_in-at.result in
+    let is : at ≡ spot xs step.0 = c.place_in-at.ensures.place ∙ ap (λ l. spot l step.0) c.deref.ensures.0 in
+    let here : slice_get xs at ≡ Some c.in-Some.held =
+    sym (c.held_in.ensures ∙ ap (λ l. slice_get l at) c.deref-2.ensures.0) ∙ c.in-Some.is in
+    sum_held_fits c.in-Some.held step (search rules) (search rules)
+    (sum_fits_held xs ys now step at is c.self.view_is c.in-Some.held here c.requires.some c.requires.steps
+    c.requires.fits)
 
-pub returns-in_ok-insert-in-Some-clause-ok : goal.returns-in_ok-insert-in-Some-clause-ok
-returns-in_ok-insert-in-Some-clause-ok c = lower_put c.self.inside.first c.self.inside.rest.entries c.args.self.now
-    c.in-Some.least c.args.step c.in-Some.is c.self.invariant c.self.view_is (search rules) (search rules)
-    (search rules) (search rules) c.insert.new.self.entries c.if-step-least.true c.in_ok-insert-in-Some.ensures.entries
+pub bounds-deref_mut-at : goal.bounds-deref_mut-at
+bounds-deref_mut-at c =
+    let xs = c.self.inside.few.items in
+    let ys = c.self.inside.rest.entries in
+    let now = c.args.self.now in
+    let step = c.args.step in
+    let at = c.place_in-at.result in
+    let is : at ≡ spot xs step.0 = c.place_in-at.ensures.place ∙ ap (λ l. spot l step.0) c.deref.ensures.0 in
+    let here : slice_get xs at ≡ Some c.in-Some.held =
+    sym (c.held_in.ensures ∙ ap (λ l. slice_get l at) c.deref-2.ensures.0) ∙ c.in-Some.is in
+    subst (λ l. at < length l) (sym c.deref_mut.ensures.value) (get_below xs at c.in-Some.held here)
 
-pub invariant_of-self-in-Continue-branch-2 : goal.invariant_of-self-in-Continue-branch-2
-invariant_of-self-in-Continue-branch-2 c = higher_first c.self.inside.first c.self.inside.rest.entries c.args.self.now
-    c.in-Some.least c.args.step c.in-Some.is c.self.invariant c.self.view_is (search rules) (search rules)
-    (search rules) (search rules) c.put_in.new.map.entries c.if-least-step.true c.in_ok-put_in-in-Some.ensures.ok
+pub put_in-requires-clause-steps : goal.put_in-requires-clause-steps
+put_in-requires-clause-steps c =
+    let xs = c.self.inside.few.items in
+    let ys = c.self.inside.rest.entries in
+    let now = c.args.self.now in
+    let step = c.args.step in
+    let at = c.place_in-at.result in
+    let is : at ≡ spot xs step.0 = c.place_in-at.ensures.place ∙ ap (λ l. spot l step.0) c.deref.ensures.0 in
+    rest_steps xs ys now step at is c.self.view_is c.requires.steps
 
-pub overflow_add-self : goal.overflow_add-self
-overflow_add-self c = same_fits c.self.inside.first c.self.inside.rest.entries c.args.self.now c.in-Some.least
-    c.args.step c.in-Some.is c.self.invariant c.self.view_is (search rules) (search rules) (search rules) (search rules)
-    c.requires.some c.requires.steps c.requires.fits
+pub put_in-requires-clause-fits : goal.put_in-requires-clause-fits
+put_in-requires-clause-fits c =
+    let xs = c.self.inside.few.items in
+    let ys = c.self.inside.rest.entries in
+    let now = c.args.self.now in
+    let step = c.args.step in
+    let at = c.place_in-at.result in
+    let is : at ≡ spot xs step.0 = c.place_in-at.ensures.place ∙ ap (λ l. spot l step.0) c.deref.ensures.0 in
+    rest_fits xs ys now step at is c.self.view_is c.requires.steps c.requires.fits
 
-pub invariant_of-self-else-least-step : goal.invariant_of-self-else-least-step
-invariant_of-self-else-least-step c = same_first c.self.inside.first c.self.inside.rest.entries c.args.self.now
-    c.in-Some.least c.args.step c.in-Some.is c.self.invariant c.self.view_is (search rules) (search rules)
-    (search rules) (search rules)
+pub returns-in_ok-insert_few-in-Some-clause-ok : goal.returns-in_ok-insert_few-in-Some-clause-ok
+returns-in_ok-insert_few-in-Some-clause-ok c =
+    let xs = c.self.inside.few.items in
+    let ys = c.self.inside.rest.entries in
+    let now = c.args.self.now in
+    let step = c.args.step in
+    let at = c.place_in-at.result in
+    let is : at ≡ spot xs step.0 = c.place_in-at.ensures.place ∙ ap (λ l. spot l step.0) c.deref.ensures.0 in
+    let here : slice_get xs at ≡ Some c.in-Some.held =
+    sym (c.held_in.ensures ∙ ap (λ l. slice_get l at) c.deref-2.ensures.0) ∙ c.in-Some.is in
+    other_put xs ys now step at is c.self.view_is c.in-Some.held here c.insert_few.new.self
+    (less step.0 c.in-Some.held.0 (search rules) (search rules) c.if-step-held.true)
+    c.in_ok-insert_few-in-Some.ensures.ok
 
-pub returns-else-least-step-clause-ok : goal.returns-else-least-step-clause-ok
-returns-else-least-step-clause-ok c = same_put c.self.inside.first c.self.inside.rest.entries c.args.self.now
-    c.in-Some.least c.args.step c.in-Some.is c.self.invariant c.self.view_is (search rules) (search rules)
-    (search rules) (search rules) c.requires.some c.requires.steps c.requires.fits c.if-step-least.false
-    c.if-least-step.false
+pub returns-else-step-held-clause-ok : goal.returns-else-step-held-clause-ok
+returns-else-step-held-clause-ok c =
+    let xs = c.self.inside.few.items in
+    let ys = c.self.inside.rest.entries in
+    let now = c.args.self.now in
+    let step = c.args.step in
+    let at = c.place_in-at.result in
+    let is : at ≡ spot xs step.0 = c.place_in-at.ensures.place ∙ ap (λ l. spot l step.0) c.deref.ensures.0 in
+    let here : slice_get xs at ≡ Some c.in-Some.held =
+    sym (c.held_in.ensures ∙ ap (λ l. slice_get l at) c.deref-2.ensures.0) ∙ c.in-Some.is in
+    merged_put xs ys now step at is c.self.view_is c.in-Some.held here c.deref_mut.result.now _
+    (not_less step.0 c.in-Some.held.0 (search rules) (search rules) c.if-step-held.false) c.deref_mut.ensures.value
+    (sum_held c.in-Some.held step (search rules) (search rules) (search rules)
+    (sum_fits_held xs ys now step at is c.self.view_is c.in-Some.held here c.requires.some c.requires.steps
+    c.requires.fits))
+
+pub returns-in_ok-put_in-in-None-clause-ok : goal.returns-in_ok-put_in-in-None-clause-ok
+returns-in_ok-put_in-in-None-clause-ok c =
+    let xs = c.self.inside.few.items in
+    let ys = c.self.inside.rest.entries in
+    let now = c.args.self.now in
+    let step = c.args.step in
+    let at = c.place_in-at.result in
+    let is : at ≡ spot xs step.0 = c.place_in-at.ensures.place ∙ ap (λ l. spot l step.0) c.deref.ensures.0 in
+    let here : slice_get xs at ≡ None =
+    sym (c.held_in.ensures ∙ ap (λ l. slice_get l at) c.deref-2.ensures.0) ∙ c.in-None.is in
+    rest_put xs ys now step at is c.self.view_is c.put_in.new.map.entries here
+    c.in_ok-put_in-in-None.ensures.ok
+
+pub returns-else-is_full-clause-ok : goal.returns-else-is_full-clause-ok
+returns-else-is_full-clause-ok c =
+    let xs = c.self.inside.few.items in
+    let ys = c.self.inside.rest.entries in
+    let now = c.args.self.now in
+    let step = c.args.step in
+    let at = c.place_in-at.result in
+    let is : at ≡ spot xs step.0 = c.place_in-at.ensures.place ∙ ap (λ l. spot l step.0) c.deref.ensures.0 in
+    let here : slice_get xs at ≡ None =
+    sym (c.held_in.ensures ∙ ap (λ l. slice_get l at) c.deref-2.ensures.0) ∙ c.in-None.is in
+    let l : length xs < 4 = grind (arith, common_steps, c.if-is_full.ensures.value, c.is_full.ensures.fits) in
+    push_put xs ys now step at is c.self.view_is c.push.new.self.items here c.self.invariant l c.push.ensures.items

@@ -1,22 +1,12 @@
 use Rattle.std.proofs.Common.{◌≡◌, ◌<◌, ℤ, length, subst, sym, ◌∙◌, ap, false}
-use Rattle.std.proofs.lemmas.Map.Entries.{length-keys_of}
 use Rattle.std.specs.List.{list_any}
 use Rattle.std.specs.Map.{keys_of, lookup}
-use Rattle.dn_arc.specs.Pairs.{same_pair}
-use Rattle.pair_index.proofs.InOrderLaws.{found_in_order}
+use Rattle.std.proofs.lemmas.Map.Keys.{IsDistinct-from_sorted}
+use Rattle.dn_arc.specs.Pairs.{pair_cmp, same_pair}
+use Rattle.pair_index.specs.State.Places.{key_at}
 use Rattle.dn_table.proofs.PairLaws.{key_is}
 use Rattle.dn_table.proofs.GrownLaws.{lookup_none, found_at}
-use Rattle.pair_index.specs.State.Ordered.{Orders}
-use Rattle.pair_index.specs.State.Places.{key_at}
 use Rattle.dn_table.proofs.table.Table.get.Goals as goal
-
-pub find-requires : goal.find-requires
-find-requires g c =
-    subst (λ es. Orders c.self.inside.order (keys_of es)) (sym c.deref.ensures.value) c.self.invariant
-
-pub index-requires : goal.index-requires
-index-requires g c =
-    subst (λ n. c.in-Some.place < n) (length-keys_of c.deref.result.now ∙ c.deref.ensures.len) c.in-Some.ensures.0
 
 pub returns-in-Some : goal.returns-in-Some
 returns-in-Some g c =
@@ -26,19 +16,15 @@ returns-in-Some g c =
     key_is c.args.src c.args.dst c.ranges.src c.ranges.dst
     (λ (k : ℤ × ℤ). key_at (keys_of c.deref.result.now) c.in-Some.place ≡ k) c.in-Some.ensures.1 in
     let at = subst (λ xs. key_at (keys_of xs) c.in-Some.place ≡ (c.args.src, c.args.dst)) c.deref.ensures.value there in
-    sym (found_at
-    (c.args.src, c.args.dst) es c.self.invariant.apart c.in-Some.place c.index.result.now lt at c.index.ensures)
-    ∙ sym (found_in_order es c.self.invariant.apart (c.args.src, c.args.dst))
+    sym
+    (found_at (c.args.src, c.args.dst) es (IsDistinct-from_sorted pair_cmp (keys_of es) c.self.invariant)
+    c.in-Some.place c.index.result.now lt at c.index.ensures)
     ∙ ap (lookup (same_pair (c.args.src, c.args.dst))) c.self.view_is
 
 pub returns-in-None : goal.returns-in-None
 returns-in-None g c =
-    let es = c.self.inside.entries.items in
     let there =
     key_is c.args.src c.args.dst c.ranges.src c.ranges.dst
     (λ (k : ℤ × ℤ). list_any (same_pair k) (keys_of c.deref.result.now) ≡ false) c.in-None.ensures in
-    let none =
-    subst (λ xs. list_any (same_pair (c.args.src, c.args.dst)) (keys_of xs) ≡ false) c.deref.ensures.value there in
-    sym (lookup_none (c.args.src, c.args.dst) es none)
-    ∙ sym (found_in_order es c.self.invariant.apart (c.args.src, c.args.dst))
-    ∙ ap (lookup (same_pair (c.args.src, c.args.dst))) c.self.view_is
+    sym (lookup_none (c.args.src, c.args.dst) c.deref.result.now there)
+    ∙ ap (lookup (same_pair (c.args.src, c.args.dst))) (c.deref.ensures.value ∙ c.self.view_is)

@@ -1,59 +1,87 @@
-use Rattle.std.proofs.Common.{◌≡◌, ◌<◌, length, subst, sym, ◌∙◌, ap, set}
+use Rattle.std.proofs.Common.{ℤ, ◌-◌, ◌^◌, pos, [], ◌∷◌, ◌++◌, sym, ap, ◌∙◌, subst}
 use Rattle.std.specs.Map.{keys_of, lookup}
-use Rattle.std.proofs.lemmas.Result.{on_ok_weaker, on_err_weaker}
-use Rattle.dn_arc.specs.declared.arc.Form.TheVariants.{One}
+use Rattle.std.proofs.lemmas.List.{map-append}
 use Rattle.dn_arc.specs.Pairs.{same_pair}
-use Rattle.dn_table.specs.State.Tables.{Grows}
-use Rattle.dn_table.proofs.TableLaws.{listed_there, sum_listed}
-use Rattle.dn_table.proofs.GrownLaws.{lookup_none, found_at, same_then, grows_here}
-use Rattle.pair_index.specs.State.Places.{key_at}
-use Rattle.pair_index.proofs.EntryLaws.{indexes_kept}
+use Rattle.dn_arc.specs.State.Bundles.{IsBundleOf, meant}
+use Rattle.dn_arc.proofs.PairLaws.{pair_self}
+use Rattle.pair_index.specs.State.Indexed.{Indexes}
+use Rattle.dn_table.proofs.PairLaws.{other_pair}
+use Rattle.dn_table.proofs.GrownLaws.{none_as, push_found, push_other}
+use Rattle.dn_table.proofs.TableLaws.{fits_alone, grows_fresh, grows_none}
 use Rattle.dn_table.proofs.table_so_far.TableSoFar.add.Goals as goal
+
+pub returns-in_default-clause-sum : goal.returns-in_default-clause-sum
+returns-in_default-clause-sum g c = (
+  λ e. cc,
+  λ m. absurd
+      (fits_alone g.B.Bundle.bundle.kind (meant g.B.Bundle.bundle) c.args.self.now c.args.pair c.args.arc
+      (pos (2 ^ 63 - 1))
+      (none_as c.args.pair c.deref.result.now c.args.self.now (c.deref.ensures.value ∙ c.self.view_is)
+      (c.is_next.ensures.fresh c.if-not-is_next.false)) c.of.ensures.fits m),
+)
+
+pub returns-in_default-one-clause-sum : goal.returns-in_default-one-clause-sum
+returns-in_default-one-clause-sum g c = (
+  λ e. cc,
+  λ m. absurd
+      (fits_alone g.B.Bundle.bundle.kind (meant g.B.Bundle.bundle) c.args.self.now c.args.pair c.args.arc
+      (pos (2 ^ 63 - 1))
+      (none_as c.args.pair c.deref.result.now c.args.self.now (c.deref.ensures.value ∙ c.self.view_is)
+      (c.is_next.ensures.fresh c.if-not-is_next.false)) c.of.ensures.fits m),
+)
+
+pub returns-in-Ok-reserve-clause-sum : goal.returns-in-Ok-reserve-clause-sum
+returns-in-Ok-reserve-clause-sum g c = (
+  λ e. cc,
+  λ m. absurd
+      (fits_alone g.B.Bundle.bundle.kind (meant g.B.Bundle.bundle) c.args.self.now c.args.pair c.args.arc
+      (pos (2 ^ 63 - 1))
+      (none_as c.args.pair c.deref.result.now c.args.self.now (c.deref.ensures.value ∙ c.self.view_is)
+      (c.is_next.ensures.fresh c.if-not-is_next.false)) c.of.ensures.fits m),
+)
+
+pub returns-in-Err-clause-sum : goal.returns-in-Err-clause-sum
+returns-in-Err-clause-sum g c = (
+  λ e. cc,
+  λ m. absurd
+      (fits_alone g.B.Bundle.bundle.kind (meant g.B.Bundle.bundle) c.args.self.now c.args.pair c.args.arc
+      (pos (2 ^ 63 - 1))
+      (none_as c.args.pair c.deref.result.now c.args.self.now (c.deref.ensures.value ∙ c.self.view_is)
+      (c.is_next.ensures.fresh c.if-not-is_next.false)) c.of.ensures.fits m),
+)
+
+pub returns-in_default-one-clause-ok : goal.returns-in_default-one-clause-ok
+returns-in_default-one-clause-ok g c =
+    let bundle = g.B.Bundle.bundle in
+    let made = subst (IsBundleOf bundle c.args.arc) c.in_default-one.is c.in-Ok.ensures.ok in
+    grows_none bundle.kind (meant bundle) c.args.self.now c.args.pair c.args.arc g.met.B.Bundle.laws.meaning
+    (none_as c.args.pair c.deref.result.now c.args.self.now (c.deref.ensures.value ∙ c.self.view_is)
+    (c.is_next.ensures.fresh c.if-not-is_next.false)) made.0
 
 pub invariant_of-self : goal.invariant_of-self
 invariant_of-self g c =
-    indexes_kept c.self.inside.entries.items c.in-Some.i c.index_mut.result.now c.add.new.self
-    (subst (λ es. c.in-Some.i < length (keys_of es)) (sym (c.self.view_is ∙ c.place.ensures.same))
-    c.in-Some.ensures.place.0) c.index_mut.ensures.value c.self.inside.index c.self.invariant
-
-pub add_fresh-requires-clause-none : goal.add_fresh-requires-clause-none
-add_fresh-requires-clause-none g c =
-    ap (lookup (same_pair c.args.pair)) c.place.ensures.same
-    ∙ lookup_none c.args.pair c.args.self.now c.in-None.ensures.place
-
-pub returns-in-Some-clause-ok : goal.returns-in-Some-clause-ok
-returns-in-Some-clause-ok g c =
+    let e : (ℤ × ℤ) × g.row.B.Denot = (c.args.pair, c.in-Some.bundle) in
     let es = c.self.inside.entries.items in
-    let old = c.self.view_is ∙ c.place.ensures.same in
-    let lt = subst (λ xs. c.in-Some.i < length (keys_of xs)) (sym old) c.in-Some.ensures.place.0 in
-    let at = subst (λ xs. key_at (keys_of xs) c.in-Some.i ≡ c.args.pair) (sym old) c.in-Some.ensures.place.1 in
-    on_ok_weaker c.add.result
-    (λ same. subst
-    (λ m. Grows g.B.Bundle.bundle.kind (g.B.Bundle.bundle.listed One) m
-    (set es c.in-Some.i (c.index_mut.result.now.0, c.add.new.self)) c.args.pair c.args.arc) old
-    (grows_here c.args.pair es c.self.invariant.apart c.in-Some.i c.index_mut.result.now lt at c.index_mut.ensures.value
-    g.B.Bundle.bundle.kind (g.B.Bundle.bundle.listed One) c.args.arc c.add.new.self same))
-    c.add.ensures.ok
+    let grown = c.push_reserved.ensures.items ∙ ap (λ xs. xs ++ e ∷ []) c.reserve.ensures.items in
+    subst (Indexes c.self.inside.index)
+    (sym (ap keys_of grown ∙ map-append (λ (x : (ℤ × ℤ) × g.row.B.Denot). x.0) es (e ∷ [])))
+    (subst (λ xs. Indexes c.self.inside.index (keys_of xs ++ c.args.pair ∷ [])) c.deref.ensures.value
+    (c.is_next.ensures.stays c.if-not-is_next.false))
 
-pub returns-in-Some-clause-err : goal.returns-in-Some-clause-err
-returns-in-Some-clause-err g c =
-    let es = c.self.inside.entries.items in
-    let old = c.self.view_is ∙ c.place.ensures.same in
-    let lt = subst (λ xs. c.in-Some.i < length (keys_of xs)) (sym old) c.in-Some.ensures.place.0 in
-    let at = subst (λ xs. key_at (keys_of xs) c.in-Some.i ≡ c.args.pair) (sym old) c.in-Some.ensures.place.1 in
-    on_err_weaker c.add.result
-    (λ same. same_then c.args.pair es c.self.invariant.apart c.in-Some.i c.index_mut.result.now lt at
-    c.index_mut.ensures.value c.add.new.self same ∙ old)
-    c.add.ensures.err
-
-pub returns-in-Some-clause-sum : goal.returns-in-Some-clause-sum
-returns-in-Some-clause-sum g c =
-    let es = c.self.inside.entries.items in
-    let old = c.self.view_is ∙ c.place.ensures.same in
-    let lt = subst (λ xs. c.in-Some.i < length (keys_of xs)) (sym old) c.in-Some.ensures.place.0 in
-    let at = subst (λ xs. key_at (keys_of xs) c.in-Some.i ≡ c.args.pair) (sym old) c.in-Some.ensures.place.1 in
-    sum_listed g.B.Bundle.bundle.kind (g.B.Bundle.bundle.listed One) c.args.arc _ es c.args.self.now c.args.pair
-    (g.B.Bundle.bundle.listed One c.index_mut.result.now.1) old
-    (listed_there (g.B.Bundle.bundle.listed One) es c.args.pair c.index_mut.result.now.1
-    (found_at c.args.pair es c.self.invariant.apart c.in-Some.i c.index_mut.result.now lt at c.index_mut.ensures.value))
-    c.add.ensures.sum
+pub returns-in-Ok-reserve-clause-ok : goal.returns-in-Ok-reserve-clause-ok
+returns-in-Ok-reserve-clause-ok g c =
+    let bundle = g.B.Bundle.bundle in
+    let made = subst (IsBundleOf bundle c.args.arc) c.in-Some.is c.in-Ok.ensures.ok in
+    let e : (ℤ × ℤ) × g.row.B.Denot = (c.args.pair, c.in-Some.bundle) in
+    let none =
+    none_as c.args.pair c.deref.result.now c.args.self.now (c.deref.ensures.value ∙ c.self.view_is)
+    (c.is_next.ensures.fresh c.if-not-is_next.false) in
+    let grown =
+    c.push_reserved.ensures.items ∙ ap (λ xs. xs ++ e ∷ []) (c.reserve.ensures.items ∙ c.self.view_is) in
+    grows_fresh bundle.kind (meant bundle) c.args.self.now c.push_reserved.new.self.items c.args.pair c.args.arc
+    c.in-Some.bundle none
+    (ap (lookup (same_pair c.args.pair)) grown
+    ∙ push_found (same_pair c.args.pair) e c.args.self.now none (pair_self c.args.pair))
+    (λ q other. ap (lookup (same_pair q)) grown
+    ∙ push_other (same_pair q) e c.args.self.now (other_pair c.args.pair q other))
+    made.0 made.1

@@ -1,10 +1,11 @@
-use Rattle.std.proofs.Common.{◌≡◌, ℤ, List, subst, sym, ◌∙◌, ap, ◌++◌, ◌∷◌, []}
+use Rattle.std.proofs.Common.{ℤ, subst, sym, ◌∙◌, ap, ◌∷◌, []}
 use Rattle.std.proofs.lemmas.List.{map-append}
 use Rattle.std.specs.List.{list_any}
 use Rattle.std.specs.Map.{keys_of, lookup}
 use Rattle.dn_arc.specs.Pairs.{same_pair}
 use Rattle.dn_arc.proofs.PairLaws.{pair_self}
 use Rattle.pair_index.specs.State.Indexed.{Indexes}
+use Rattle.pair_index.proofs.SortLaws.{lookups_still}
 use Rattle.dn_table.proofs.PairLaws.{other_pair}
 use Rattle.dn_table.proofs.GrownLaws.{push_found, push_other, any_none}
 use Rattle.dn_table.proofs.table_so_far.TableSoFar.insert.Goals as goal
@@ -20,9 +21,9 @@ note_next-requires-clause-fresh g c =
 pub invariant_of-self : goal.invariant_of-self
 invariant_of-self g c =
     let e : (ℤ × ℤ) × g.row.B.Denot = (c.args.pair, c.args.bundle) in
-    let grown = c.push_reserved.ensures.items ∙ ap (λ es. es ++ e ∷ []) c.note_next.ensures.same in
+    let fs = c.note_next.new.entries.items in
     subst (λ ks. Indexes c.note_next.new.index ks)
-    (sym (ap keys_of grown ∙ map-append (λ (x : (ℤ × ℤ) × g.row.B.Denot). x.0) c.self.inside.entries.items (e ∷ [])))
+    (sym (ap keys_of c.push_reserved.ensures.items ∙ map-append (λ (x : (ℤ × ℤ) × g.row.B.Denot). x.0) fs (e ∷ [])))
     c.in-Ok.ensures.ok
 
 pub push_reserved-requires : goal.push_reserved-requires
@@ -30,14 +31,18 @@ push_reserved-requires g c = c.in-Ok.ensures.room
 
 pub returns-in-Ok-clause-there : goal.returns-in-Ok-clause-there
 returns-in-Ok-clause-there g c =
-    ap (lookup (same_pair c.args.pair))
-    (c.push_reserved.ensures.items
-    ∙ ap (λ es. es ++ (c.args.pair, c.args.bundle) ∷ []) (c.note_next.ensures.same ∙ c.self.view_is))
-    ∙ push_found (same_pair c.args.pair) (c.args.pair, c.args.bundle) c.args.self.now c.requires (pair_self c.args.pair)
+    let es = c.self.inside.entries.items in
+    let fs = c.note_next.new.entries.items in
+    ap (lookup (same_pair c.args.pair)) c.push_reserved.ensures.items
+    ∙ push_found (same_pair c.args.pair) (c.args.pair, c.args.bundle) fs
+    (lookups_still es fs c.note_next.ensures.moved c.self.invariant.apart c.args.pair
+    ∙ ap (lookup (same_pair c.args.pair)) c.self.view_is ∙ c.requires) (pair_self c.args.pair)
 
 pub returns-in-Ok-clause-others : goal.returns-in-Ok-clause-others
 returns-in-Ok-clause-others g c q other =
-    ap (lookup (same_pair q))
-    (c.push_reserved.ensures.items
-    ∙ ap (λ es. es ++ (c.args.pair, c.args.bundle) ∷ []) (c.note_next.ensures.same ∙ c.self.view_is))
-    ∙ push_other (same_pair q) (c.args.pair, c.args.bundle) c.args.self.now (other_pair c.args.pair q other)
+    let es = c.self.inside.entries.items in
+    let fs = c.note_next.new.entries.items in
+    ap (lookup (same_pair q)) c.push_reserved.ensures.items
+    ∙ push_other (same_pair q) (c.args.pair, c.args.bundle) fs (other_pair c.args.pair q other)
+    ∙ lookups_still es fs c.note_next.ensures.moved c.self.invariant.apart q
+    ∙ ap (lookup (same_pair q)) c.self.view_is

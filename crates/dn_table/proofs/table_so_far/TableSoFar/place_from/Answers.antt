@@ -8,10 +8,10 @@ pub find-requires : goal.find-requires
 find-requires g c =
     subst (λ es. Indexes c.self.inside.index (keys_of es)) (sym c.deref.ensures.value) c.self.invariant
 
-pub returns-in-Some : goal.returns-in-Some
-returns-in-Some g c = c.stands_at.ensures c.if-stands_at.true
+pub returns-in-Some-clause-place : goal.returns-in-Some-clause-place
+returns-in-Some-clause-place g c = c.stands_at.ensures c.if-stands_at.true
 
-pub returns-in_default : goal.returns-in_default
-returns-in_default g c =
+pub returns-in_default-clause-place : goal.returns-in_default-clause-place
+returns-in_default-clause-place g c =
     subst (λ es. IsPlace (keys_of es) c.args.pair.now c.find.result) (c.deref.ensures.value ∙ c.self.view_is)
-    c.find.ensures
+    c.find.ensures.place

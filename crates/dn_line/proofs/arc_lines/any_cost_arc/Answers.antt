@@ -1,7 +1,7 @@
 use Rattle.std.proofs.Common.{◌≡◌, ◌≤ℤ◌, pos, arith, to_z, of_z, w64}
 use Rattle.std.proofs.lemmas.Int.{ints}
 use Rattle.dn_line.proofs.ArcLineLaws.{more_numbers, cost_numbers}
-use Rattle.dn_line.proofs.arc_lines.cost_arc.Goals as goal
+use Rattle.dn_line.proofs.arc_lines.any_cost_arc.Goals as goal
 
 pub returns : goal.returns
 returns c =
