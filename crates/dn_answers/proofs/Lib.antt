@@ -1,0 +1,12 @@
+pub mod SumLaws
+pub mod AssemblyLaws
+pub mod CarryLaws
+pub mod WalkLaws
+pub mod FlowLaws
+pub mod AnswerLaws
+pub mod ParallelLaws
+pub mod LoopLaws
+pub mod LoopCostLaws
+pub mod ChoiceLaws
+pub mod ReportLaws
+pub mod ExampleLaws

@@ -1,0 +1,9 @@
+pub mod Walks
+pub mod Flows
+pub mod MaxFlows
+pub mod MinCostFlows
+pub mod Answers
+pub mod Parallel
+pub mod Choices
+pub mod Loops
+pub mod Examples
