@@ -1,0 +1,70 @@
+"""Checks, compares and canonicalises DIMACS network instances by the program dnorm.
+
+    >>> import dnorm
+    >>> dnorm.check("roads.gr")
+    Checked(kind='sp', fits=None, forms=())
+    >>> dnorm.compare("flow.min", "flow-cheaper.min")
+    Difference(what='cost', left=4, right=3, node=None, pair=(1, 2), amount=5, place=None)
+
+`check`, `canon`, `canon_to`, `checksum`, `compare`, `show` and `read` each run the program once. They take a file as a
+path, as bytes, or as a binary stream, which they read from where it is to its end, and do not close. A path that ends
+in `.gz`, `.bz2` or `.xz` is decompressed while the program reads it. The keyword `program` says where the program is:
+by default `$DNORM` or, if that is not set, the first `dnorm` on `PATH`.
+
+A text that the program refuses raises `Refused`, and any other failure another `DnormError`. If reading a text fails,
+or a compressed file is corrupt, no call returns an answer for it.
+
+`python3 -m dnorm` checks folders, and makes and verifies checksums of their files."""
+
+from .answers import CapacityPair, Checked, CostPair, Difference, LengthPair, Same, Shown
+from .calls import canon, canon_to, check, checksum, compare, show
+from .errors import DnormError, Endless, Killed, Memory, NoProgram, Read, Refused, Unexpected, Write
+from .files import File, Readable, Target, Writable
+from .instances import Column, Co, Graph, Instance, Max, Min, P2p, Sp, Ss, read
+from .program import find_program, version
+from .refusals import REFUSALS
+
+# The version of the program that this package belongs to, as Python packages spell it.
+__version__ = "1.1.0.dev0"
+
+__all__ = [
+    "REFUSALS",
+    "CapacityPair",
+    "Checked",
+    "Co",
+    "Column",
+    "CostPair",
+    "Difference",
+    "DnormError",
+    "Endless",
+    "File",
+    "Graph",
+    "Instance",
+    "Killed",
+    "LengthPair",
+    "Max",
+    "Memory",
+    "Min",
+    "NoProgram",
+    "P2p",
+    "Read",
+    "Readable",
+    "Refused",
+    "Same",
+    "Shown",
+    "Sp",
+    "Ss",
+    "Target",
+    "Unexpected",
+    "Writable",
+    "Write",
+    "canon",
+    "canon_to",
+    "check",
+    "checksum",
+    "compare",
+    "find_program",
+    "read",
+    "show",
+    "version",
+]

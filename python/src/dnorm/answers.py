@@ -1,0 +1,220 @@
+"""What the calls return, and how it is read from the lines of the program."""
+
+from __future__ import annotations
+
+import re
+from dataclasses import dataclass
+from typing import NamedTuple, Union
+
+KIND, NUMBER = "min|max|sp|ss|p2p|co", "-?[0-9]+"
+CHECKED = re.compile(rf"accepted ({KIND})\n(?:fits (ss|p2p|co)\n)?forms (1 2|1|2|none)\n")
+# The lines of `show` for a text of each kind, up to those of the pairs, and the line of a pair. N stands for a number.
+SHOWN = {
+    "min": "kind min\nnodes N\nlines N\nsupplies N\npairs N\n",
+    "max": "kind max\nnodes N\nlines N\nsource N\nsink N\npairs N\n",
+    "sp": "kind sp\nnodes N\nlines N\npairs N\n",
+    "ss": "kind ss\nlines N\n",
+    "p2p": "kind p2p\nlines N\n",
+    "co": "kind co\nlines N\n",
+}
+PAIRS = {
+    "min": "pair N N forced N cost N steps N\n",
+    "max": "pair N N total N\n",
+    "sp": "pair N N length N\n",
+}
+# The line of `compare` for each difference. Words in capitals stand for values.
+DIFFERENCES = {
+    "kind": "differ kind LEFT RIGHT",
+    "nodes": "differ nodes LEFT RIGHT",
+    "supply": "differ supply NODE LEFT RIGHT",
+    "source": "differ source LEFT RIGHT",
+    "sink": "differ sink LEFT RIGHT",
+    "length": "differ pair TAIL HEAD length LEFT RIGHT",
+    "capacity": "differ pair TAIL HEAD capacity LEFT RIGHT",
+    "cost": "differ pair TAIL HEAD amount AMOUNT cost LEFT RIGHT",
+    "items": "differ length LEFT RIGHT",
+    "item": "differ item PLACE",
+    "point": "differ point NODE",
+}
+
+
+@dataclass(frozen=True)
+class Checked:
+    """What `check` found in an accepted text.
+
+    `kind` is `min`, `max`, `sp`, `ss`, `p2p` or `co`. `fits` is the kind of the companion, or None if there is none.
+    `forms` has the forms in which the text is canonical: 1, 2, both or none."""
+
+    kind: str
+    fits: str | None
+    forms: tuple[int, ...]
+
+
+class LengthPair(NamedTuple):
+    """The least length of the arcs from `tail` to `head`, in an `sp` text."""
+
+    tail: int
+    head: int
+    length: int
+
+
+class CapacityPair(NamedTuple):
+    """The total capacity of the arcs from `tail` to `head`, in a `max` text."""
+
+    tail: int
+    head: int
+    total: int
+
+
+class CostPair(NamedTuple):
+    """The arcs from `tail` to `head` in a `min` text: `forced` units, which cost `cost` together, and free capacity at
+    `steps` different costs."""
+
+    tail: int
+    head: int
+    forced: int
+    cost: int
+    steps: int
+
+
+Pair = Union[LengthPair, CapacityPair, CostPair]
+PAIR_TYPES: dict[str, type[Pair]] = {"min": CostPair, "max": CapacityPair, "sp": LengthPair}
+
+
+@dataclass(frozen=True)
+class Shown:
+    """What a text contains.
+
+    `lines` is the number of its counted lines. Graphs have `nodes`, and `pairs` has the ordered pairs whose arcs mean
+    something, by rising tail and head. A `min` text has `supplies`, the number of nodes whose flow is not 0. A `max`
+    text has `source` and `sink`. What the kind does not have is None, and a companion has no pairs."""
+
+    kind: str
+    lines: int
+    nodes: int | None = None
+    supplies: int | None = None
+    source: int | None = None
+    sink: int | None = None
+    pairs: tuple[Pair, ...] = ()
+
+
+@dataclass(frozen=True)
+class Same:
+    """Two texts pose the same problem. As a condition it is true."""
+
+    def __bool__(self) -> bool:
+        return True
+
+    def __str__(self) -> str:
+        return "same"
+
+
+@dataclass(frozen=True)
+class Difference:
+    """The first difference between two texts. As a condition it is false. It prints as the line of the program.
+
+    `left` and `right` are the values in both texts, and `what` says of what:
+
+    - `kind`: the kinds
+    - `nodes`: the numbers of nodes
+    - `supply`: the flows of `node`
+    - `source`, `sink`: the nodes
+    - `length`: the least lengths of `pair`; None where it has no arc
+    - `capacity`: the total capacities of `pair`
+    - `cost`: the least costs of `amount` units of `pair`; None where it cannot carry exactly so many
+    - `items`: the numbers of items of two lists
+    - `item`: the items at `place`, counted from 1, without values
+    - `point`: the points of `node`, without values
+
+    `pair` is a tail and a head. What a difference does not have is None."""
+
+    what: str
+    left: int | str | None = None
+    right: int | str | None = None
+    node: int | None = None
+    pair: tuple[int, int] | None = None
+    amount: int | None = None
+    place: int | None = None
+
+    def __bool__(self) -> bool:
+        return False
+
+    def __str__(self) -> str:
+        tail, head = self.pair or (None, None)
+        values = {"LEFT": self.left, "RIGHT": self.right, "NODE": self.node, "TAIL": tail, "HEAD": head}
+        values |= {"AMOUNT": self.amount, "PLACE": self.place}
+        words = [values.get(it, it) for it in DIFFERENCES[self.what].split()]
+        return " ".join("none" if it is None else str(it) for it in words)
+
+
+def pattern_of(line: str) -> re.Pattern[str]:
+    """Returns the pattern of lines in which N stands for a number."""
+    return re.compile(line.replace("N", f"({NUMBER})"))
+
+
+def difference_pattern(what: str) -> re.Pattern[str]:
+    """Returns the pattern of the line of a difference, with a group for each value."""
+    side = {"kind": KIND, "length": f"{NUMBER}|none", "cost": f"{NUMBER}|none"}.get(what, NUMBER)
+    words = DIFFERENCES[what].split()
+    groups = [f"(?P<{it}>{side if it in ('LEFT', 'RIGHT') else NUMBER})" if it.isupper() else it for it in words]
+    return re.compile(" ".join(groups) + "\n")
+
+
+SHOWN_PATTERNS = {kind: pattern_of(lines) for kind, lines in SHOWN.items()}
+PAIR_PATTERNS = {kind: pattern_of(line) for kind, line in PAIRS.items()}
+DIFFERENCE_PATTERNS = {what: difference_pattern(what) for what in DIFFERENCES}
+
+
+def checked(out: str) -> Checked:
+    """Returns what the lines of `check` say. Raises ValueError for other lines, as the next functions do."""
+    found = CHECKED.fullmatch(out)
+    if not found:
+        raise ValueError(out)
+    kind, fits, forms = found.groups()
+    return Checked(kind, fits, () if forms == "none" else tuple(map(int, forms.split())))
+
+
+def shown(out: str) -> Shown:
+    """Returns what the lines of `show` say."""
+    for kind, pattern in SHOWN_PATTERNS.items():
+        head = pattern.match(out)
+        if head:
+            values = dict(zip((it.split()[0] for it in SHOWN[kind].splitlines()[1:]), map(int, head.groups())))
+            pairs = tuple(pair_on(kind, it) for it in out[head.end() :].splitlines(keepends=True))
+            if len(pairs) == values.get("pairs", 0):
+                nodes, supplies, source, sink = map(values.get, ("nodes", "supplies", "source", "sink"))
+                return Shown(kind, values["lines"], nodes, supplies, source, sink, pairs)
+    raise ValueError(out)
+
+
+def pair_on(kind: str, line: str) -> Pair:
+    """Returns the pair on a line of `show`."""
+    found = PAIR_PATTERNS[kind].fullmatch(line) if kind in PAIR_PATTERNS else None
+    if not found:
+        raise ValueError(line)
+    return PAIR_TYPES[kind]._make(map(int, found.groups()))
+
+
+def compared(out: str) -> Same | Difference:
+    """Returns what the line of `compare` says."""
+    if out == "same\n":
+        return Same()
+    for what, pattern in DIFFERENCE_PATTERNS.items():
+        found = pattern.fullmatch(out)
+        if found:
+            return difference(what, found.groupdict())
+    raise ValueError(out)
+
+
+def difference(what: str, words: dict[str, str]) -> Difference:
+    """Returns the difference that these words tell."""
+
+    def side(name: str) -> int | str | None:
+        word = words.get(name, "none")
+        return word if what == "kind" else None if word == "none" else int(word)
+
+    def number(name: str) -> int | None:
+        return int(words[name]) if name in words else None
+
+    pair = (int(words["TAIL"]), int(words["HEAD"])) if "TAIL" in words else None
+    return Difference(what, side("LEFT"), side("RIGHT"), number("NODE"), pair, number("AMOUNT"), number("PLACE"))

@@ -1,0 +1,90 @@
+"""The calls that check, canonicalise, compare and show texts. Each runs the program once."""
+
+from __future__ import annotations
+
+import hashlib
+from collections.abc import Callable, Sequence
+from typing import TypeVar
+
+from .answers import Checked, Difference, Same, Shown, checked, compared, shown
+from .files import File, Sink, Target, name_of, sink_of
+from .program import Program, run, unexpected
+
+Answer = TypeVar("Answer")
+
+
+def check(file: File, companion: File | None = None, *, program: Program = None) -> Checked:
+    """Checks a text, and with a companion that the companion fits.
+
+    Returns the kind of the text, the kind of the companion, and the forms in which the text is canonical. Raises
+    `Refused` if the text or the companion has a fault, or if the companion does not fit."""
+
+    def words(name: str, *others: str) -> Sequence[str]:
+        return ["check", name, *(["--with", *others] if others else [])]
+
+    found = answer(checked, words, [file] if companion is None else [file, companion], program)
+    if bool(found.fits) != (companion is not None):
+        raise unexpected(name_of(file), 0, str(found))
+    return found
+
+
+def canon(file: File, form: int = 1, *, program: Program = None) -> bytes:
+    """Returns the canonical text of a text. `form` is 1 or 2, and matters only for `min`."""
+    parts: list[bytes] = []
+    canon_into(Sink("out", parts.append), file, form, program)
+    return b"".join(parts)
+
+
+def canon_to(file: File, target: Target, form: int = 1, *, program: Program = None) -> None:
+    """Writes the canonical text of a text to a path or a binary stream, without keeping it in memory.
+
+    A path gets a new file once all of it is written, and keeps what it had if anything is raised; it may be the path of
+    `file`. A path that ends in `.gz`, `.bz2` or `.xz` gets a compressed file. A stream, a device or a pipe has got a
+    prefix of the text if writing fails. Raises `Write` then."""
+    with sink_of(target) as sink:
+        canon_into(sink, file, form, program)
+
+
+def checksum(file: File, form: int = 1, *, program: Program = None) -> str:
+    """Returns the SHA-256 checksum of the canonical text, in hexadecimal digits. Texts that pose the same problem have
+    the same checksum."""
+    found = hashlib.sha256()
+    canon_into(Sink("out", found.update), file, form, program)
+    return found.hexdigest()
+
+
+def canon_into(sink: Sink, file: File, form: int, program: Program) -> None:
+    """Writes the canonical text of a text into a sink."""
+    if form not in (1, 2):
+        raise ValueError(f"form is 1 or 2, and not {form!r}")
+    status = run(lambda name: ["canon", "--form", str(int(form)), name], [file], sink, program)
+    if status:
+        raise unexpected(name_of(file), status, "")
+
+
+def compare(left: File, right: File, *, program: Program = None) -> Same | Difference:
+    """Returns `Same` if both texts pose the same problem, or else their first `Difference`. As a condition, `Same` is
+    true and a `Difference` is false."""
+    return answer(compared, lambda *names: ["compare", *names], [left, right], program)
+
+
+def show(file: File, *, program: Program = None) -> Shown:
+    """Returns what a text contains. `read` returns its arcs, too."""
+    return answer(shown, lambda name: ["show", name], [file], program)
+
+
+def answer(
+    read: Callable[[str], Answer], words: Callable[..., Sequence[str]], files: Sequence[File], program: Program
+) -> Answer:
+    """Returns what the lines say that the program prints for these files."""
+    parts: list[bytes] = []
+    status = run(words, files, Sink("out", parts.append), program)
+    out = b"".join(parts).decode("ascii", "backslashreplace")
+    try:
+        found = read(out)
+    except ValueError as error:
+        raise unexpected(name_of(files[0]), status, str(error)) from None
+    # The status is 0 but for a difference, which is false.
+    if bool(found) != (status == 0):
+        raise unexpected(name_of(files[0]), status, out)
+    return found

@@ -1,0 +1,110 @@
+"""Compressed files, by the endings of their names."""
+
+from __future__ import annotations
+
+from collections.abc import Callable, Iterator
+from typing import Any, BinaryIO, Protocol
+
+# The number of bytes that are read and written at a time.
+SIZE = 1 << 16
+
+
+class Stream:
+    """Decompresses one stream of a format. `it` is the decompressor of the standard library, and `error` is what it
+    raises for corrupt data."""
+
+    def __init__(self, it: Any, error: type[Exception]) -> None:
+        self._it, self._error = it, error
+
+    def is_at_end(self) -> bool:
+        return bool(self._it.eof)
+
+    def after_end(self) -> bytes:
+        """Returns the bytes that were given and do not belong to the stream."""
+        return bytes(self._it.unused_data)
+
+    def decompressed(self, data: bytes) -> bytes:
+        """Returns what the data given so far decompress to: the next SIZE bytes, or else all that is left."""
+        try:
+            # zlib hands back what it has not used yet, and the others keep it.
+            return bytes(self._it.decompress(getattr(self._it, "unconsumed_tail", b"") + data, SIZE))
+        except self._error as error:
+            raise OSError(str(error)) from error
+
+
+class Compressed(Protocol):
+    """A compressed file that is written."""
+
+    def write(self, data: bytes, /) -> int:
+        """Writes all of these bytes."""
+
+    def close(self) -> None:
+        """Ends the compressed data, and leaves the file below open."""
+
+
+# The modules of the standard library are imported where they are used, since some builds of Python lack one.
+
+
+def gunzip() -> Stream:
+    import zlib
+
+    # 15 is the greatest window, and 16 asks for the header and the checksum of gzip.
+    return Stream(zlib.decompressobj(15 + 16), zlib.error)
+
+
+def bunzip2() -> Stream:
+    import bz2
+
+    return Stream(bz2.BZ2Decompressor(), OSError)
+
+
+def unxz() -> Stream:
+    import lzma
+
+    return Stream(lzma.LZMADecompressor(lzma.FORMAT_XZ), lzma.LZMAError)
+
+
+def gzip_into(file: BinaryIO) -> Compressed:
+    import gzip
+
+    # Without a name and a time, equal texts make equal files.
+    return gzip.GzipFile(filename="", mode="wb", fileobj=file, mtime=0)
+
+
+def bzip2_into(file: BinaryIO) -> Compressed:
+    import bz2
+
+    return bz2.BZ2File(file, "wb")
+
+
+def xz_into(file: BinaryIO) -> Compressed:
+    import lzma
+
+    return lzma.LZMAFile(file, "wb")
+
+
+# How the files of each ending are read and written.
+DECOMPRESSORS: dict[str, Callable[[], Stream]] = {".gz": gunzip, ".bz2": bunzip2, ".xz": unxz}
+COMPRESSORS: dict[str, Callable[[BinaryIO], Compressed]] = {".gz": gzip_into, ".bz2": bzip2_into, ".xz": xz_into}
+
+
+def pieces(file: BinaryIO, start: Callable[[], Stream]) -> Iterator[bytes]:
+    """Yields what a compressed file decompresses to, piece by piece. The file has one stream or several, one after
+    another. Raises EOFError if the last one is cut, and OSError if one is corrupt, or if other bytes than zeros follow
+    it. The functions of the standard library ignore what follows a stream of bzip2 and xz, even a corrupt stream."""
+    data = file.read(SIZE)
+    while True:
+        stream, size = start(), 0
+        while not stream.is_at_end():
+            if not data and size < SIZE:
+                raise EOFError("the compressed data end too early")
+            piece = stream.decompressed(data)
+            size = len(piece)
+            yield piece
+            data = file.read(SIZE) if size < SIZE and not stream.is_at_end() else b""
+        data = stream.after_end()
+        while not data.strip(b"\0"):
+            data = file.read(SIZE)
+            if not data:
+                return
+        data = data.lstrip(b"\0")

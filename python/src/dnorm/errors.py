@@ -1,0 +1,111 @@
+"""The errors that the calls raise."""
+
+from __future__ import annotations
+
+import signal
+
+from .refusals import REFUSALS
+
+
+class DnormError(Exception):
+    """The base of all errors of this package. `name` is the file that the error is about: its path; or the name of a
+    stream, if it has one; or `-`. Each error can be pickled, and prints as a line that begins with the name."""
+
+    # What follows the name in the line of the error, before the reason.
+    what = ""
+
+    def __init__(self, name: str, *others: object) -> None:
+        # Pickle makes an error from these arguments, so they are those of its class.
+        super().__init__(name, *others)
+        self.name = name
+
+    @property
+    def rest(self) -> str:
+        """What follows the name in the line of the error."""
+        return self.what
+
+    def __str__(self) -> str:
+        return self.name + self.rest
+
+
+class Refused(DnormError):
+    """A text has a fault, or a companion does not fit.
+
+    `line` counts from 1. It is None for a fault at the end of a text, and for the refusals 34 to 36. `number` and
+    `word` are those of the refusal. For 35, `node` is the node that the companion names and the graph does not have.
+    The error prints as the line of the program, as `roads.gr:3: 13 NodeOutOfRange`."""
+
+    def __init__(self, name: str, line: int | None, number: int, word: str, node: int | None = None) -> None:
+        super().__init__(name, line, number, word, node)
+        self.line, self.number, self.word, self.node = line, number, word, node
+
+    @property
+    def sentence(self) -> str:
+        """What is refused, in a sentence of `dnorm help`."""
+        return REFUSALS[self.number][1]
+
+    @property
+    def rest(self) -> str:
+        place = "" if self.number >= 30 else ":end" if self.line is None else f":{self.line}"
+        return f"{place}: {self.number} {self.word}" + ("" if self.node is None else f" {self.node}")
+
+
+class Memory(DnormError):
+    """The program is out of memory."""
+
+    what = ": 30 Memory"
+
+
+class Endless(DnormError):
+    """A text has no end."""
+
+    what = ": 32 Endless"
+
+
+class Killed(DnormError):
+    """A signal ended the program. Some systems send SIGKILL where memory runs out."""
+
+    def __init__(self, name: str, number: int) -> None:
+        super().__init__(name, number)
+        self.signal = number
+
+    @property
+    def rest(self) -> str:
+        names = {it.value: f" ({it.name})" for it in signal.Signals}
+        return f": dnorm was ended by signal {self.signal}{names.get(self.signal, '')}"
+
+
+class Failed(DnormError):
+    """The base of the errors that have a `reason`."""
+
+    def __init__(self, name: str, reason: str = "") -> None:
+        super().__init__(name, reason)
+        self.reason = reason
+
+    @property
+    def rest(self) -> str:
+        return self.what + (f" ({self.reason})" if self.reason else "")
+
+
+class Read(Failed):
+    """A file cannot be opened, reading it failed, or a compressed file is cut or corrupt."""
+
+    what = ": 31 Read"
+
+
+class Write(Failed):
+    """Writing to a target failed."""
+
+    what = ": 33 Write"
+
+
+class NoProgram(Failed):
+    """The program cannot be found or started, or is another program. `name` is the name of the program."""
+
+    what = ": cannot be run"
+
+
+class Unexpected(Failed):
+    """The program did something that this package does not know, as a line of another shape."""
+
+    what = ": dnorm did not answer as it should"

@@ -1,0 +1,278 @@
+"""The files that the program reads, and the targets that canonical texts are written to."""
+
+from __future__ import annotations
+
+import contextlib
+import fcntl
+import io
+import os
+import secrets
+import stat
+from collections.abc import Callable, Iterator
+from typing import BinaryIO, Protocol, Union
+
+from .compressed import COMPRESSORS, DECOMPRESSORS, SIZE, Compressed, pieces
+from .errors import DnormError, Read, Write
+
+# A line that no text has. It ends a text whose reading failed, so that the program refuses the text.
+BAD_LINE = b"\n?\n"
+
+
+class Readable(Protocol):
+    """A binary stream that is read."""
+
+    def read(self, size: int, /) -> bytes | None:
+        """Returns at most so many bytes, and none at the end."""
+
+
+class Writable(Protocol):
+    """A binary stream that is written."""
+
+    def write(self, data: bytes, /) -> int | None:
+        """Writes bytes, and returns how many. None means all of them, except for an `io.RawIOBase`."""
+
+
+# A path, whose bytes need not be UTF-8; the bytes of a text; or a binary stream.
+File = Union[str, "os.PathLike[str]", "os.PathLike[bytes]", bytes, bytearray, memoryview, Readable]
+Target = Union[str, "os.PathLike[str]", "os.PathLike[bytes]", Writable]
+
+
+def name_of(file: File | Target) -> str:
+    """Returns the name by which errors call a file: its path, the name of a stream, or `-`."""
+    if isinstance(file, (str, os.PathLike)):
+        return os.fsdecode(file)
+    name = getattr(file, "name", None)
+    return os.fsdecode(name) if isinstance(name, (str, bytes)) and name else "-"
+
+
+def reason_of(error: Exception) -> str:
+    """Returns why a call failed."""
+    return (isinstance(error, OSError) and error.strerror) or str(error) or type(error).__name__
+
+
+@contextlib.contextmanager
+def failing(kind: type[Read] | type[Write], name: str) -> Iterator[None]:
+    """Raises an error of this kind if anything fails, with the reason. Errors of this package, wrong types and lack of
+    memory stay what they are."""
+    try:
+        yield
+    except (DnormError, TypeError, MemoryError):
+        raise
+    except Exception as error:
+        raise kind(name, reason_of(error)) from error
+
+
+def write_all(file: BinaryIO, data: bytes) -> None:
+    """Writes all of these bytes to a file without a buffer, whose writes can take less."""
+    rest = memoryview(data)
+    while rest:
+        rest = rest[file.write(rest) :]
+
+
+def takes(pipe: BinaryIO, data: bytes) -> bool:
+    """Writes all of these bytes to a pipe. Returns False if nothing reads them."""
+    try:
+        write_all(pipe, data)
+    except BrokenPipeError:
+        return False
+    return True
+
+
+def of_bytes(data: memoryview) -> Iterator[bytes]:
+    """Yields bytes in pieces."""
+    for at in range(0, len(data), SIZE):
+        yield bytes(data[at : at + SIZE])
+
+
+def of_stream(stream: Readable) -> Iterator[bytes]:
+    """Yields what a stream has from where it is to its end, in pieces."""
+    while True:
+        piece = stream.read(SIZE)
+        if piece is None:
+            raise BlockingIOError("the stream has no data yet, and does not wait for them")
+        if not isinstance(piece, (bytes, bytearray, memoryview)):
+            raise TypeError(f"the stream is not binary: its read() returned {type(piece).__name__}")
+        if not piece:
+            return
+        yield bytes(piece)
+
+
+def beyond_standard(file: BinaryIO) -> BinaryIO:
+    """Moves an open file away from the descriptors of the standard streams, which it has if these were closed. A child
+    would have its own standard streams in its place."""
+    with file:
+        return open(fcntl.fcntl(file.fileno(), fcntl.F_DUPFD_CLOEXEC, 3), "rb", buffering=0)
+
+
+def failed(error: Read) -> Iterator[bytes]:
+    """Raises this error as the first piece is asked for."""
+    raise error
+    yield
+
+
+def text_of(file: File, name: str, stack: contextlib.ExitStack) -> io.FileIO | Iterator[bytes]:
+    """Returns the file whose bytes are a text, or the pieces of the text."""
+    if isinstance(file, (bytes, bytearray, memoryview)):
+        return of_bytes(memoryview(file).cast("B"))
+    if not isinstance(file, (str, os.PathLike)):
+        if not hasattr(file, "read"):
+            raise TypeError(f"a file is a path, bytes or a binary stream, and not {type(file).__name__}")
+        return of_stream(file)
+    try:
+        with failing(Read, name):
+            opened = stack.enter_context(open(file, "rb", buffering=0))
+    except Read as error:
+        # The program has to judge an earlier text first.
+        return failed(error)
+    start = DECOMPRESSORS.get(os.path.splitext(name)[1])
+    return pieces(opened, start) if start else opened
+
+
+class Source:
+    """A text that the program reads from `end`, whose descriptor is `fd`. That is the file itself, if its bytes are the
+    text, or else the end of a pipe that `feed` writes to. `failure` is why reading the text failed, and `sure` is the
+    number of its lines that were read whole before. The stack closes what is opened."""
+
+    def __init__(self, file: File, stack: contextlib.ExitStack) -> None:
+        self.name, self.sure = name_of(file), 0
+        self.failure: Read | None = None
+        self._is_compressed = isinstance(file, (str, os.PathLike))
+        self._into: BinaryIO | None = None
+        self._pieces: Iterator[bytes] = iter(())
+        text = text_of(file, self.name, stack)
+        if isinstance(text, io.FileIO):
+            end: BinaryIO = text
+        else:
+            self._pieces = text
+            reads, writes = os.pipe()
+            end = stack.enter_context(open(reads, "rb", buffering=0))
+            self._into = stack.enter_context(open(writes, "wb", buffering=0))
+        self.end = stack.enter_context(beyond_standard(end))
+        self.fd = self.end.fileno()
+
+    def feed(self) -> None:
+        """Writes the text into the pipe, until the program reads no more of it. If reading the text fails, ends it with
+        a line that the program refuses."""
+        if not self._into:
+            return
+        try:
+            while (piece := self._next()) is not None:
+                is_taken = takes(self._into, piece)
+                # Only the end of a compressed file tells whether its lines are right, so it is read to its end.
+                if not self._is_compressed:
+                    if not is_taken:
+                        break
+                    self.sure += piece.count(b"\n")
+        except Read as error:
+            self.failure = error
+            takes(self._into, BAD_LINE)
+        self._into.close()
+
+    def _next(self) -> bytes | None:
+        """Returns the next piece, if there is one."""
+        with failing(Read, self.name):
+            return next(self._pieces, None)
+
+
+class Sink:
+    """Where the output of the program goes: into `file`, which the program itself writes, or else piece by piece to
+    `take`."""
+
+    def __init__(self, name: str, take: Callable[[bytes], object], file: BinaryIO | None = None) -> None:
+        self.name, self.take, self.file = name, take, file
+
+
+@contextlib.contextmanager
+def sink_of(target: Target) -> Iterator[Sink]:
+    """Opens a target. A path has the file only if nothing is raised before the end, and then all of it."""
+    name = name_of(target)
+    if not isinstance(target, (str, os.PathLike)):
+        with stream_sink(target, name) as sink:
+            yield sink
+        return
+    # A device or a pipe cannot be replaced, so it is written itself.
+    is_replaced = os.path.isfile(name) or not os.path.exists(name)
+    start = COMPRESSORS.get(os.path.splitext(name)[1])
+    with whole_file(name) if is_replaced else written_file(name, name) as file:
+        if start:
+            with failing(Write, name):
+                compressed = start(file)
+            with compressed_sink(compressed, name) as sink:
+                yield sink
+        else:
+            with stream_sink(file, name) as sink:
+                yield Sink(name, sink.take, file)
+
+
+@contextlib.contextmanager
+def stream_sink(stream: Writable, name: str) -> Iterator[Sink]:
+    """Writes to a stream, and flushes it at the end, if it has a flush()."""
+
+    def take(piece: bytes) -> None:
+        with failing(Write, name):
+            while piece:
+                count = stream.write(piece)
+                if count is None and isinstance(stream, io.RawIOBase):
+                    raise BlockingIOError("the stream takes no data now, and does not wait")
+                piece = piece[len(piece) if count is None else count :]
+
+    yield Sink(name, take)
+    with failing(Write, name):
+        getattr(stream, "flush", lambda: None)()
+
+
+@contextlib.contextmanager
+def compressed_sink(file: Compressed, name: str) -> Iterator[Sink]:
+    """Writes a compressed file."""
+
+    def take(piece: bytes) -> None:
+        with failing(Write, name):
+            file.write(piece)
+
+    with closed(file, name):
+        yield Sink(name, take)
+
+
+@contextlib.contextmanager
+def written_file(path: str, name: str, is_new: bool = False) -> Iterator[BinaryIO]:
+    """Opens a file to be written. Errors call it by this name."""
+    with failing(Write, name):
+        file = open(path, "xb") if is_new else open(path, "wb")
+    with closed(file, name):
+        yield file
+
+
+@contextlib.contextmanager
+def closed(file: Compressed | BinaryIO, name: str) -> Iterator[None]:
+    """Closes a file that was written. Raises Write if that fails, unless something else was raised before."""
+    try:
+        yield
+    except BaseException:
+        with contextlib.suppress(Exception):
+            file.close()
+        raise
+    with failing(Write, name):
+        file.close()
+
+
+@contextlib.contextmanager
+def whole_file(name: str) -> Iterator[BinaryIO]:
+    """Opens a new file in the folder of the file of this name. At the end the new file takes the place and the mode of
+    the old one. If anything is raised before, the new file is removed, and the old one stays as it is."""
+    path = os.path.realpath(name)
+    new = os.path.join(os.path.dirname(path), f".dnorm-{secrets.token_hex(8)}")
+    try:
+        with written_file(new, name, is_new=True) as file:
+            with failing(Write, name):
+                if os.path.exists(path):
+                    os.fchmod(file.fileno(), stat.S_IMODE(os.stat(path).st_mode))
+            yield file
+            with failing(Write, name):
+                file.flush()
+                os.fsync(file.fileno())
+        with failing(Write, name):
+            os.replace(new, path)
+    except BaseException:
+        with contextlib.suppress(OSError):
+            os.unlink(new)
+        raise

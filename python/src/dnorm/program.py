@@ -1,0 +1,219 @@
+"""Where the program is, and how it runs."""
+
+from __future__ import annotations
+
+import contextlib
+import os
+import re
+import shutil
+import subprocess
+import threading
+from collections.abc import Callable, Iterator, Sequence
+from typing import Any, Union
+
+from .compressed import SIZE
+from .errors import DnormError, Endless, Killed, Memory, NoProgram, Read, Refused, Unexpected, Write
+from .files import File, Sink, Source, reason_of
+from .refusals import REFUSALS
+
+# The name or the path of the program, or None for $DNORM and PATH.
+Program = Union[str, "os.PathLike[str]", None]
+
+VERSION = re.compile(rb"dnorm (\S+)\n")
+# The line on standard error of a run that failed, by docs/MANUAL.md. Texts have the names that `run` gives them.
+LINE = re.compile(
+    r"(?P<name>-|/dev/fd/\d+|out|dnorm)(?::(?P<place>\d+|end))?: (?P<number>\d+) (?P<word>\w+)(?: (?P<node>\d+))?\n",
+    re.ASCII,
+)
+# Whether the line of a refusal has a place and a node. The refusals below 30 have a place.
+PARTS = {34: (False, False), 35: (False, True), 36: (False, False)}
+# The version that each program has printed, by the program's path.
+versions: dict[str, str] = {}
+
+
+class Children:
+    """The processes that run, in all threads."""
+
+    def __init__(self) -> None:
+        self._begin()
+        # A process that is forked has none of them, and no thread that could release a lock.
+        os.register_at_fork(after_in_child=self._begin)
+
+    def _begin(self) -> None:
+        self._lock = threading.Lock()
+        self._running: set[subprocess.Popen[bytes]] = set()
+        self._is_stopped = False
+
+    @contextlib.contextmanager
+    def running(self, words: Sequence[str], **streams: Any) -> Iterator[subprocess.Popen[bytes]]:
+        """Starts a process, and waits for its end. Kills it if anything is raised."""
+        process = self._started(words, streams)
+        try:
+            yield process
+        except BaseException:
+            process.kill()
+            raise
+        finally:
+            process.wait()
+            for it in (process.stdout, process.stderr):
+                if it:
+                    it.close()
+            with self._lock:
+                self._running.discard(process)
+
+    def _started(self, words: Sequence[str], streams: dict[str, Any]) -> subprocess.Popen[bytes]:
+        # `stop` waits for a process that is being started.
+        with self._lock:
+            if self._is_stopped:
+                raise NoProgram(words[0], "all runs were stopped")
+            try:
+                process = subprocess.Popen(words, bufsize=0, **streams)
+            except (OSError, ValueError) as error:
+                raise NoProgram(words[0], reason_of(error)) from error
+            self._running.add(process)
+            return process
+
+    def stop(self) -> None:
+        """Kills all processes that run, and lets no other start."""
+        with self._lock:
+            self._is_stopped = True
+            for it in self._running:
+                it.kill()
+
+
+children = Children()
+
+
+def find_program(program: Program = None) -> str:
+    """Returns the path of the program: the one given, by its name or its path; or else `$DNORM`; or else the first
+    `dnorm` on `PATH`. Raises `NoProgram` if it is not there."""
+    named = os.environ.get("DNORM")
+    wanted = os.fspath(program) if program is not None else named or "dnorm"
+    found = shutil.which(wanted)
+    if found:
+        return found
+    if program is not None:
+        raise NoProgram(wanted, "there is no such program")
+    if named:
+        raise NoProgram(wanted, "there is no such program, and $DNORM names it")
+    raise NoProgram(wanted, "there is no such program on PATH, and $DNORM names none")
+
+
+def version(program: Program = None) -> str:
+    """Returns the version that the program prints, as `1.0.0`. Raises `NoProgram` if it is another program."""
+    return versions[verified(program)]
+
+
+def verified(program: Program) -> str:
+    """Returns the path of the program, once it has printed its version."""
+    path = find_program(program)
+    if path not in versions:
+        streams = {"stdin": subprocess.DEVNULL, "stdout": subprocess.PIPE, "stderr": subprocess.PIPE}
+        with children.running([path, "--version"], **streams) as process:
+            out, err = process.communicate()
+        error, _ = failure_of(process.returncode, err, {}, "out")
+        if isinstance(error, (Killed, Memory)):
+            raise error
+        found = VERSION.fullmatch(out)
+        if error or not found:
+            first = os.fsdecode(out or err).partition("\n")[0]
+            raise NoProgram(path, f"for --version it printed {first!r}, and dnorm prints its name and version")
+        versions[path] = os.fsdecode(found[1])
+    return path
+
+
+def run(words: Callable[..., Sequence[str]], files: Sequence[File], sink: Sink, program: Program) -> int:
+    """Runs the program on files, hands its standard output to the sink, and returns the status 0 or 1. `words` returns
+    the arguments, given the names of the files. Any other status, and a file whose reading fails, raise their error."""
+    path = verified(program)
+    with contextlib.ExitStack() as stack:
+        sources = [Source(it, stack) for it in files]
+        # The program reads the first text from its standard input, and the others from further descriptors.
+        names = ["-", *(f"/dev/fd/{it.fd}" for it in sources[1:])]
+        streams = {"stdin": sources[0].end, "stdout": sink.file or subprocess.PIPE, "stderr": subprocess.PIPE}
+        others = [it.fd for it in sources[1:]]
+        process = stack.enter_context(children.running([path, *words(*names)], pass_fds=others, **streams))
+        err = talk(process, sources, sink)
+        status = status_of(process, sources[0].name)
+    error, source = failure_of(status, err, dict(zip(names, sources)), sink.name)
+    failed = next((it for it in sources if it.failure), None)
+    if failed and not is_earlier(error, source, failed):
+        error = failed.failure
+    if error:
+        raise error
+    return status
+
+
+def talk(process: subprocess.Popen[bytes], sources: Sequence[Source], sink: Sink) -> bytes:
+    """Gives a process its texts, one after another, takes its standard output, and returns its standard error. The
+    program prints nothing before it has read everything, so neither side waits for the other."""
+    for it in sources:
+        # The process has its own copy.
+        it.end.close()
+    for it in sources:
+        it.feed()
+        if it.failure:
+            break
+    out, err = process.stdout, process.stderr
+    while out and (piece := out.read(SIZE)):
+        sink.take(piece)
+    return err.read() if err else b""
+
+
+def status_of(process: subprocess.Popen[bytes], name: str) -> int:
+    """Waits for the end of a process, and returns its status."""
+    try:
+        os.waitid(os.P_PID, process.pid, os.WEXITED | os.WNOWAIT)
+    except ChildProcessError as error:
+        # Popen takes a status that is lost for 0.
+        reason = "its status is lost, since SIGCHLD is ignored or something else waits for all processes"
+        raise Unexpected(name, reason) from error
+    return process.wait()
+
+
+def is_earlier(error: DnormError | None, source: Source | None, failed: Source) -> bool:
+    """Whether an error is a fault of an earlier text than the one whose reading failed, or of a sure line of that."""
+    if not isinstance(error, Refused):
+        return False
+    return source is not failed or error.line is not None and error.line <= failed.sure
+
+
+def failure_of(
+    status: int, err: bytes, sources: dict[str, Source], out: str
+) -> tuple[DnormError | None, Source | None]:
+    """Returns the error that a run has ended with, if any, and the text that it is about. `err` is the standard error
+    of the run, `sources` has the texts by the names that the program knows, and `out` is the name of the output."""
+    first = next((it.name for it in sources.values()), "dnorm")
+    if status < 0:
+        return Killed(first, -status), None
+    if status in (0, 1):
+        return None, None
+    line = err.decode("ascii", "backslashreplace")
+    found = LINE.fullmatch(line)
+    source = sources.get(found["name"]) if found else None
+    error = error_of(status, found, source, out) if found else None
+    return error or unexpected(first, status, line), source
+
+
+def unexpected(name: str, status: int, line: str) -> Unexpected:
+    return Unexpected(name, f"its status was {status}, and it printed {line!r}")
+
+
+def error_of(status: int, line: re.Match[str], source: Source | None, out: str) -> DnormError | None:
+    """Returns the error of a line on standard error, or None if the parts of the line do not belong together."""
+    place, number, word, node = line["place"], int(line["number"]), line["word"], line["node"]
+    if REFUSALS.get(number, ("", ""))[0] != word:
+        return None
+    if status == 2 and source and not 30 <= number <= 33:
+        if (bool(place), bool(node)) != PARTS.get(number, (True, False)):
+            return None
+        at = int(place) if place and place != "end" else None
+        return Refused(source.name, at, number, word, int(node) if node else None)
+    if status != 4 or place or node:
+        return None
+    if number == 33:
+        return Write(out) if line["name"] == "out" else None
+    if not source:
+        return Memory("dnorm") if number == 30 and line["name"] == "dnorm" else None
+    kinds = {30: Memory, 31: Read, 32: Endless}
+    return kinds[number](source.name) if number in kinds else None

@@ -1,0 +1,143 @@
+"""What `python3 -m dnorm` prints: a line for each file, a progress bar, and a report for CI services."""
+
+from __future__ import annotations
+
+import contextlib
+import os
+import re
+import threading
+import time
+from collections.abc import Sequence
+from typing import Union
+from xml.etree import ElementTree
+
+from .answers import Checked
+from .errors import DnormError, Refused, Write
+from .files import reason_of, write_all
+
+# What a check of a file leads to, with the name of the file.
+Result = Union[Checked, DnormError]
+Results = Sequence["tuple[str, Result]"]
+
+# The columns of a full progress bar, and the time between two drawings in seconds.
+BAR, PAUSE = 30, 0.1
+# Characters that XML cannot contain, and half characters, by which Python represents the bytes of names that are not
+# UTF-8.
+NO_XML = re.compile("[^\t\n\r\x20-\ud7ff\ue000-\ufffd\U00010000-\U0010ffff]")
+
+
+class Console:
+    """Standard output and standard error. A progress bar is drawn on standard error while it is a terminal and tasks
+    run; their threads call `step`."""
+
+    def __init__(self) -> None:
+        self._out = open(1, "wb", buffering=0, closefd=False)
+        self._lock = threading.Lock()
+        self._is_terminal = os.isatty(2)
+        self._done = self._total = 0
+        self._drawn, self._at = "", 0.0
+
+    def expect(self, total: int) -> None:
+        """Starts the progress bar for so many tasks."""
+        self._done, self._total = 0, total
+
+    def step(self) -> None:
+        """Counts a task that has ended."""
+        with self._lock:
+            self._done += 1
+            now = time.monotonic()
+            if self._is_terminal and now >= self._at + PAUSE:
+                self._at = now
+                filled = BAR * self._done // self._total
+                self._drawn = f"[{'#' * filled}{'.' * (BAR - filled)}] {self._done} of {self._total}"
+                self._complain(f"\r{self._drawn}")
+
+    def print(self, text: str) -> None:
+        """Writes text to standard output. Raises Write if that fails."""
+        self.hide()
+        try:
+            write_all(self._out, os.fsencode(text))
+        except OSError as error:
+            raise Write("out", reason_of(error)) from error
+
+    def complain(self, text: str) -> None:
+        """Writes text to standard error. It does not matter if that fails."""
+        self.hide()
+        self._complain(text)
+
+    def hide(self) -> None:
+        """Removes the progress bar until it is drawn again."""
+        with self._lock:
+            if self._drawn:
+                self._complain("\r" + " " * len(self._drawn) + "\r")
+            self._drawn = ""
+
+    def _complain(self, text: str) -> None:
+        with contextlib.suppress(OSError):
+            os.write(2, os.fsencode(text))
+
+
+def line_with(name: str, before: str = "", after: str = "") -> str:
+    """Returns a line with the name of a file. As in a line of sha256sum, a backslash, LF or CR in the name is written
+    as two characters, and a backslash begins the line then."""
+    plain = name.replace("\\", r"\\").replace("\n", r"\n").replace("\r", r"\r")
+    return ("\\" if plain != name else "") + before + plain + after + "\n"
+
+
+def name_in(mark: str, plain: str) -> str | None:
+    """Returns the name that `line_with` has written into a line, or None if it writes no name so. `mark` is the
+    backslash that begins the line, if one does."""
+    if not mark:
+        return plain
+    if not re.fullmatch(r"(?:[^\\]|\\[\\nr])*", plain):
+        return None
+    return re.sub(r"\\(.)", lambda it: {"n": "\n", "r": "\r"}.get(it[1], "\\"), plain)
+
+
+def told(name: str, error: DnormError) -> str:
+    """Returns what follows the name of a file in the line of an error."""
+    rest = error.rest if error.name == name else f": {error}"
+    return " ".join(rest.splitlines())
+
+
+def line_of(name: str, result: Result) -> str:
+    """Returns the line of a file."""
+    return line_with(name, after=told(name, result) if isinstance(result, DnormError) else f": accepted {result.kind}")
+
+
+def record_of(name: str, result: Result) -> dict[str, object]:
+    """Returns the JSON object of a file."""
+    if isinstance(result, Checked):
+        return {"name": name, "status": "accepted", "kind": result.kind, "forms": result.forms}
+    found: dict[str, object] = {"name": name, "status": "failed", "error": f"{name}{told(name, result)}"}
+    if isinstance(result, Refused):
+        found["status"] = "refused"
+        found.update(line=result.line, number=result.number, word=result.word, sentence=result.sentence)
+    return found
+
+
+def junit(results: Results) -> bytes:
+    """Returns a report in the XML of JUnit, with a test case for each file."""
+    counts = {"tests": len(results), "failures": 0, "errors": 0}
+    suite = ElementTree.Element("testsuite", name="dnorm")
+    for name, result in results:
+        case = ElementTree.SubElement(suite, "testcase", classname="dnorm", name=for_xml(name))
+        if isinstance(result, Refused):
+            counts["failures"] += 1
+            failure = ElementTree.SubElement(case, "failure", type=result.word, message=for_xml(str(result)))
+            failure.text = result.sentence
+        elif isinstance(result, DnormError):
+            counts["errors"] += 1
+            message = for_xml(f"{name}{told(name, result)}")
+            ElementTree.SubElement(case, "error", type=type(result).__name__, message=message)
+    suite.attrib.update((it, str(count)) for it, count in counts.items())
+    suites = ElementTree.Element("testsuites")
+    suites.append(suite)
+    text: bytes = ElementTree.tostring(suites, encoding="utf-8", xml_declaration=True)
+    return text + b"\n"
+
+
+def for_xml(text: str) -> str:
+    """Returns a text in which every character that XML cannot contain is written as \\xNN, as a byte of it."""
+    text = os.fsencode(text).decode("utf-8", "backslashreplace")
+    return NO_XML.sub(lambda it: "".join(f"\\x{byte:02x}" for byte in it[0].encode()), text)

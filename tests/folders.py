@@ -1,0 +1,459 @@
+"""Tests `python3 -m dnorm`: its lines, reports and exit statuses, manifests, groups of files of one problem, odd names,
+2,000 files in one call, the progress bar, signals, and streams that fail. `tests/python` runs these tests, each in a
+folder of its own."""
+
+import contextlib
+import ctypes
+import hashlib
+import json
+import os
+import pty
+import re
+import signal
+import subprocess
+import sys
+import time
+from typing import Any
+from xml.etree import ElementTree
+
+# This puts the folder of the package on the path.
+from calls import COMPRESS, PACKAGE, bytes_of, fake
+from known import COSTS, COSTS_TWO, FLOWS, ROADS, ROADS_CANON
+from shared import LIMIT, Answer, Tally, run, write
+
+ENVIRONMENT = {"PYTHONPATH": PACKAGE, "PYTHONDONTWRITEBYTECODE": "1"}
+MODULE = [sys.executable, "-m", "dnorm"]
+
+
+def module(*words: str | bytes, **more: Any) -> Answer:
+    """Runs `python3 -m dnorm` with these arguments."""
+    return run([*MODULE, *words], env={**os.environ, **ENVIRONMENT}, **more)
+
+
+def started(*words: str, **more: Any) -> "subprocess.Popen[bytes]":
+    """Starts `python3 -m dnorm` with these arguments."""
+    return subprocess.Popen([*MODULE, *words], env={**os.environ, **ENVIRONMENT}, **more)
+
+
+def make(texts: dict[str, bytes]) -> None:
+    """Makes files with these names and texts, and their folders."""
+    for name, text in texts.items():
+        os.makedirs(os.path.dirname(name) or ".", exist_ok=True)
+        write(name, text)
+
+
+# The files of a folder with what a check says of them, in the order of their names; and other files in it.
+SET: dict[str, tuple[bytes, str]] = {
+    "set/a-b.gr": (ROADS_CANON, ": accepted sp"),
+    "set/a/b/roads.sp": (ROADS, ": accepted sp"),
+    "set/a/flow.min": (COSTS_TWO, ": accepted min"),
+    "set/bad.max": (b"p max 2 1\nn 1 s\na 1 2 5\n", ":end: 19 MissingTerminal"),
+    "set/flow.min": (COSTS, ": accepted min"),
+    "set/p.p2p": (b"p aux sp p2p 0\n", ": accepted p2p"),
+    "set/roads.gr": (ROADS, ": accepted sp"),
+    "set/roads.gr.bz2": (ROADS, ": accepted sp"),
+    "set/roads.gr.gz": (ROADS, ": accepted sp"),
+    "set/roads.gr.xz": (ROADS, ": accepted sp"),
+    "set/s.ss": (b"p aux sp ss 1\ns 1\n", ": accepted ss"),
+    "set/v.co": (b"p aux sp co 1\ns 1\n", ":2: 5 WrongLine"),
+}
+OTHERS = ["set/notes.txt", "set/gr", "set/x.gr.zip", "set/a/x.GR", "none/below/notes.txt"]
+LINES = "".join(f"{name}{what}\n" for name, (_, what) in SET.items())
+MISSING = "missing: 31 Read (No such file or directory)\n"
+NONE = "none: 31 Read (no file in it ends in .gr .sp .min .max .ss .p2p .co)\n"
+# Arguments of `check`, the lines and the count that it prints, and the status.
+CHECKS = [
+    ("set", LINES, "10 accepted, 2 refused, 0 failed", 2),
+    ("set set/roads.gr set", LINES, "10 accepted, 2 refused, 0 failed", 2),
+    ("--jobs 1 set", LINES, "10 accepted, 2 refused, 0 failed", 2),
+    ("--jobs 50 set", LINES, "10 accepted, 2 refused, 0 failed", 2),
+    ("set/a", "set/a/b/roads.sp: accepted sp\nset/a/flow.min: accepted min\n", "2 accepted, 0 refused, 0 failed", 0),
+    ("set/a/", "set/a/b/roads.sp: accepted sp\nset/a/flow.min: accepted min\n", "2 accepted, 0 refused, 0 failed", 0),
+    ("set/s.ss set/gr", "set/gr:1: 1 BadLine\nset/s.ss: accepted ss\n", "1 accepted, 1 refused, 0 failed", 2),
+    ("missing set/s.ss", f"{MISSING}set/s.ss: accepted ss\n", "1 accepted, 0 refused, 1 failed", 4),
+    ("missing", MISSING, "0 accepted, 0 refused, 1 failed", 4),
+    ("none", NONE, "0 accepted, 0 refused, 1 failed", 4),
+    ("none set", NONE + LINES, "10 accepted, 2 refused, 1 failed", 4),
+    ("--ending .txt --ending=.zip set", "set/notes.txt:1: 1 BadLine\nset/x.gr.zip:1: 1 BadLine\n",
+     "0 accepted, 2 refused, 0 failed", 2),
+    ("--ending .x none", "none: 31 Read (no file in it ends in .x)\n", "0 accepted, 0 refused, 1 failed", 4),
+    ("-- set/s.ss", "set/s.ss: accepted ss\n", "1 accepted, 0 refused, 0 failed", 0),
+]  # fmt: skip
+# Numbers of Linux.
+PR_CAPBSET_DROP, CAP_DAC_OVERRIDE, CAP_DAC_READ_SEARCH = 24, 1, 2
+# Arguments that are refused.
+WRONG = [
+    "",
+    "x",
+    "check",
+    "check --jobs 0 set",
+    "check --jobs x set",
+    "check --jobs",
+    "check --js set",
+    "check --form 2 set",
+]
+WRONG += [
+    "manifest",
+    "manifest --form 3 set",
+    "manifest --verify x set",
+    "manifest --verify x --form 2",
+    "same",
+    "same --json x",
+]
+WRONG += ["manifest --verify x --output y", "check --junit"]
+
+
+def make_set() -> None:
+    """Makes the files of the folder, and others that a check of the folder leaves out."""
+    for name, text in {**{it: text for it, (text, _) in SET.items()}, **dict.fromkeys(OTHERS, b"x\n")}.items():
+        os.makedirs(os.path.dirname(name), exist_ok=True)
+        end = os.path.splitext(name)[1]
+        write(name, COMPRESS[end](text) if end in COMPRESS else text)
+    os.symlink("..", "set/a/loop.gr")
+    os.mkfifo("set/pipe.gr")
+
+
+def wants(tally: Tally, what: str, found: Answer, out: str, err: str, status: int) -> None:
+    """Compares a run with what it prints and its status."""
+    tally.same(what, found, Answer(os.fsencode(out), os.fsencode(err), status))
+
+
+def checks(tally: Tally, _: str) -> None:
+    """Tests which files are checked, in which order, and the statuses."""
+    make_set()
+    for words, out, count, status in CHECKS:
+        wants(tally, f"check {words}", module("check", *words.split()), out, f"{count}\n", status)
+    found = module("check", ".", cwd="set")
+    wants(tally, "check .", found, LINES.replace("set/", "./"), "10 accepted, 2 refused, 0 failed\n", 2)
+    for words in WRONG:
+        found = module(*words.split())
+        tally.same(words, (found.out, found.status, found.err[:24]), (b"", 3, b"usage: python3 -m dnorm "))
+    for words in ["-h", "--help", "check -h", "manifest --help", "same --help"]:
+        found = module(*words.split())
+        tally.same(words, (found.err, found.status, b"exit statuses:" in found.out), (b"", 0, True))
+    closed(tally)
+
+
+def give_up_rights() -> None:
+    """Gives up the rights by which root reads all files, from the next program on."""
+    if os.geteuid() == 0:
+        for right in [CAP_DAC_OVERRIDE, CAP_DAC_READ_SEARCH]:
+            ctypes.CDLL(None).prctl(PR_CAPBSET_DROP, right, 0, 0, 0)
+
+
+def closed(tally: Tally) -> None:
+    """Tests files and folders that may not be read."""
+    os.chmod("set/a/b", 0)
+    os.chmod("set/s.ss", 0)
+    no = ": 31 Read (Permission denied)\n"
+    lines = f"set/a/b{no}set/a/flow.min: accepted min\nset/s.ss{no}"
+    found = module("check", "set/a", "set/s.ss", preexec_fn=give_up_rights)
+    wants(tally, "without permission", found, lines, "1 accepted, 0 refused, 2 failed\n", 4)
+    os.chmod("set/a/b", 0o755)
+
+
+# Names of files, and how lines begin with them.
+ODD = {
+    os.fsdecode(b"\xff\xfe.gr"): os.fsdecode(b"\xff\xfe.gr"),
+    " .gr": " .gr",
+    "-x.gr": "-x.gr",
+    "a b.gr": "a b.gr",
+    "a:7: 9 NotANumber.gr": "a:7: 9 NotANumber.gr",
+    "x\ny.gr": r"\x\ny.gr",
+    "x\r.gr": r"\x\r.gr",
+    r"x\ny.gr": r"\x\\ny.gr",
+    'é<&\x01">.gr': 'é<&\x01">.gr',
+}
+
+
+def odd_names(tally: Tally, _: str) -> None:
+    """Tests odd names in lines, in JSON, in the XML of JUnit, in manifests and in groups."""
+    names = sorted(ODD, key=os.fsencode)
+    for at, name in enumerate(names):
+        write(name, f"p sp {at // 2} 0\n")
+    count = f"{len(ODD)} accepted, 0 refused, 0 failed\n"
+    wants(
+        tally,
+        "odd names",
+        module("check", "--", *names),
+        "".join(f"{ODD[it]}: accepted sp\n" for it in names),
+        count,
+        0,
+    )
+    found = module("check", "--json", "--", *names)
+    told = [json.loads(it)["name"] for it in found.out.splitlines()]
+    tally.same("odd names in JSON", told, names)
+    module("check", "--junit", "report", "--", *names)
+    cases = [str(it.get("name")) for it in ElementTree.parse("report").iter("testcase")]
+    wanted = [
+        it.encode("utf-8", "surrogateescape").decode("utf-8", "backslashreplace").replace("\x01", r"\x01")
+        for it in names
+    ]
+    tally.same("odd names in XML", cases, wanted)
+    found = module("manifest", "--output", "list", "--", *names)
+    wants(tally, "a manifest of odd names", found, "", f"{len(ODD)} listed, 0 refused, 0 failed\n", 0)
+    found = module("manifest", "--verify", "list")
+    same = "".join(f"{ODD[it]}: same\n" for it in names)
+    wants(tally, "odd names verified", found, same, f"{len(ODD)} the same, 0 different, 0 refused, 0 failed\n", 0)
+    pairs = ["".join(f"{ODD[it]}\n" for it in names[at : at + 2]) for at in range(0, len(names) - 1, 2)]
+    found = module("same", "--", *names)
+    wants(
+        tally,
+        "odd names in groups",
+        found,
+        "\n".join(pairs),
+        count,
+        0,
+    )
+
+
+def reports(tally: Tally, _: str) -> None:
+    """Tests the lines of JSON, and the report in the XML of JUnit."""
+    make_set()
+    found = module("check", "--json", "--junit", "report", "set", "missing")
+    tally.same("--json", (found.err, found.status), (b"10 accepted, 2 refused, 1 failed\n", 4))
+    records = [json.loads(it) for it in found.out.splitlines()]
+    names = sorted(["missing", *SET])
+    tally.same("names in JSON", [it["name"] for it in records], names)
+    of = {it["name"]: it for it in records}
+    wanted: dict[str, object] = {"name": "set/a-b.gr", "status": "accepted", "kind": "sp", "forms": [1, 2]}
+    tally.same("an accepted file in JSON", of["set/a-b.gr"], wanted)
+    wanted = {"name": "set/bad.max", "status": "refused", "error": "set/bad.max:end: 19 MissingTerminal", "line": None}
+    wanted |= {"number": 19, "word": "MissingTerminal", "sentence": "A max file has no source or no sink."}
+    tally.same("a refused file in JSON", of["set/bad.max"], wanted)
+    tally.same("the line of a fault in JSON", of["set/v.co"]["line"], 2)
+    wanted = {"name": "missing", "status": "failed", "error": MISSING[:-1]}
+    tally.same("a missing file in JSON", of["missing"], wanted)
+    suite = ElementTree.parse("report").find("testsuite")
+    assert suite is not None
+    tally.same("JUnit", suite.attrib, {"name": "dnorm", "tests": "13", "failures": "2", "errors": "1"})
+    cases = {it.get("name"): [(one.tag, one.attrib, one.text) for one in it] for it in suite}
+    bad = {"type": "MissingTerminal", "message": "set/bad.max:end: 19 MissingTerminal"}
+    tally.same(
+        "a refused file in XML", cases["set/bad.max"], [("failure", bad, "A max file has no source or no sink.")]
+    )
+    lost = {"type": "Read", "message": MISSING[:-1]}
+    tally.same("other files in XML", (cases["missing"], cases["set/a-b.gr"]), ([("error", lost, None)], []))
+    for name, reason in {"/dev/full": "No space left on device", "no/x": "No such file or directory"}.items():
+        found = module("check", "--junit", name, "set/a")
+        tally.same(f"a report in {name}", (found.err, found.status), (f"{name}: 33 Write ({reason})\n".encode(), 4))
+
+
+# Texts that are no manifests, and why. H stands for a checksum.
+NO_MANIFESTS = {
+    "": "it lists no file",
+    "# form 2\n": "it lists no file",
+    "H  a\n\n": "no manifest has the line ''",
+    "H a\n": "no manifest has the line 'H a'",
+    "H  \n": "no manifest has the line 'H  '",
+    "# form 3\nH  a\n": "no manifest has the line '# form 3'",
+    "HH  a\n": "no manifest has the line 'HH  a'",
+    "\\H  a\\x\n": r"no manifest has the line '\\H  a\\x'",
+    "x  a\n": "no manifest has the line 'x  a'",
+}
+
+
+def sum_of(tested: str, text: bytes, form: str) -> str:
+    """Returns the canonical checksum of a text."""
+    return hashlib.sha256(run([tested, "canon", "--form", form, "-"], text).out).hexdigest()
+
+
+def manifests(tally: Tally, tested: str) -> None:
+    """Tests manifests: what they list, and what verifying them says."""
+    make_set()
+    accepted = {name: text for name, (text, what) in SET.items() if "accepted" in what}
+    refused = "set/bad.max:end: 19 MissingTerminal\nset/v.co:2: 5 WrongLine\n"
+    for form, head in [("1", ""), ("2", "# form 2\n")]:
+        lines = head + "".join(f"{sum_of(tested, text, form)}  {name}\n" for name, text in accepted.items())
+        found = module("manifest", "--form", form, "set")
+        wants(tally, f"a manifest of form {form}", found, lines, f"{refused}10 listed, 2 refused, 0 failed\n", 2)
+        write("list", lines)
+        same = "".join(f"{name}: same\n" for name in accepted)
+        found = module("manifest", "--verify", "list")
+        wants(tally, f"form {form} verified", found, same, "10 the same, 0 different, 0 refused, 0 failed\n", 0)
+    changes = [("set/flow.min", FLOWS, ": differs", 1), ("set/s.ss", b"p\n", ":1: 4 UnknownProblem", 2)]
+    changes.append(("set/roads.gr.gz", b"", ": 31 Read (the compressed data end too early)", 4))
+    for name, text, what, status in changes:
+        write(name, text)
+        same = same.replace(f"{name}: same\n", f"{name}{what}\n")
+        found = module("manifest", "--verify", "list")
+        tally.same(f"a manifest with another {name}", (found.out.decode(), found.status), (same, status))
+    tally.same("its counts", found.err, b"7 the same, 1 different, 1 refused, 1 failed\n")
+    for other, reason in NO_MANIFESTS.items():
+        write("other", other.replace("H", "0" * 64))
+        wanted = f"other: 31 Read ({reason.replace('H', '0' * 64)})\n"
+        wants(tally, f"{other!r} as a manifest", module("manifest", "--verify", "other"), "", wanted, 4)
+    wants(tally, "no manifest", module("manifest", "--verify", "missing"), "", MISSING, 4)
+    for name, reason in {"/dev/full": "No space left on device", "no/x": "No such file or directory"}.items():
+        found = module("manifest", "--output", name, "set/a")
+        tally.same(f"a manifest in {name}", (found.err, found.status), (f"{name}: 33 Write ({reason})\n".encode(), 4))
+
+
+def groups(tally: Tally, _: str) -> None:
+    """Tests groups of files of one problem."""
+    make_set()
+    write("set/again.max", b"p max 2 0\nn 2 t\nn 1 s\n")
+    write("set/max.max", b"c\np max 2 1\nn 1 s\nn 2 t\na 1 2 0\n")
+    roads = ["set/a-b.gr", "set/a/b/roads.sp", "set/roads.gr", "set/roads.gr.bz2", "set/roads.gr.gz", "set/roads.gr.xz"]
+    wanted = [roads, ["set/a/flow.min", "set/flow.min"], ["set/again.max", "set/max.max"]]
+    lines = "\n".join("".join(f"{it}\n" for it in group) for group in wanted)
+    refused = "set/bad.max:end: 19 MissingTerminal\nset/v.co:2: 5 WrongLine\n"
+    wants(tally, "same", module("same", "set"), lines, f"{refused}12 accepted, 2 refused, 0 failed\n", 2)
+    wants(tally, "no groups", module("same", "set/s.ss"), "", "1 accepted, 0 refused, 0 failed\n", 0)
+    wants(tally, "no file", module("same", "missing"), "", f"{MISSING}0 accepted, 0 refused, 1 failed\n", 4)
+
+
+def many(tally: Tally, _: str) -> None:
+    """Tests 2,000 files in one call, of which each hundredth is refused."""
+    os.mkdir("many")
+    names = sorted(f"many/{it}.gr" for it in range(2000))
+    bad = set(names[::100])
+    for at, name in enumerate(names):
+        write(name, f"p sp 9 2\na 1 {at % 9 + 1} {at}\na 1 2 {'x' if name in bad else 3}\n")
+    lines = "".join(f"{it}:3: 9 NotANumber\n" if it in bad else f"{it}: accepted sp\n" for it in names)
+    wants(tally, "2,000 files", module("check", "many"), lines, "1980 accepted, 20 refused, 0 failed\n", 2)
+
+
+def progress(tally: Tally, _: str) -> None:
+    """Tests the progress bar, which is drawn on a terminal only, and its removal before each line."""
+    slow = fake("slow", "sleep 0.3; cat > /dev/null; echo accepted sp; echo forms 1")
+    names = [f"{it}.gr" for it in range(4)]
+    for name in names:
+        write(name, ROADS)
+    upper, lower = pty.openpty()
+    process = started("check", "--jobs", "1", "--program", slow, *names, stderr=lower, stdout=lower)
+    os.close(lower)
+    said = b""
+    with contextlib.suppress(OSError):
+        while piece := os.read(upper, 4096):
+            said += piece
+    os.close(upper)
+    tally.same("the status on a terminal", process.wait(LIMIT), 0)
+    bars = re.findall(rb"\r\[(#*)\.*\] (\d) of 4", said)
+    tally.same("bars on a terminal", {len(it) for it, _ in bars}, {30 * int(at) // 4 for _, at in bars})
+    tally.holds("there are bars on a terminal", bars)
+    shown = said.decode().replace("\r\n", "\n").split("\n")
+    wanted = [*(f"{it}: accepted sp" for it in names), "4 accepted, 0 refused, 0 failed", ""]
+    tally.same("lines on a terminal", [it.rpartition("\r")[2] for it in shown], wanted)
+
+
+def together(tally: Tally, _: str) -> None:
+    """Tests that as many programs run at once as were asked for."""
+    program = fake("counts", "echo + >> log; sleep 0.3; echo - >> log; cat > /dev/null; echo accepted sp; echo forms 1")
+    names = [f"{it}.gr" for it in range(9)]
+    for name in names:
+        write(name, ROADS)
+    for jobs in [1, 3]:
+        write("log", "")
+        module("check", "--jobs", str(jobs), "--program", program, *names)
+        steps = [1 if it == b"+" else -1 for it in bytes_of("log").split()]
+        most = max(sum(steps[:at]) for at in range(len(steps) + 1))
+        tally.same(f"programs at once with --jobs {jobs}", (most, len(steps)), (jobs, 18))
+
+
+RUNS = ["check", "check --junit kept", "manifest --output kept", "manifest", "same", "manifest --verify list"]
+
+
+def signals(tally: Tally, _: str) -> None:
+    """Tests that a signal ends the programs, and leaves nothing half-written."""
+    slow = fake("slow", "echo $$ >> started; exec sleep 60")
+    names = [f"{it}.gr" for it in range(9)]
+    for name in names:
+        write(name, ROADS)
+    write("list", "".join(f"{'0' * 64}  {it}\n" for it in names))
+    for words in RUNS:
+        for number in [signal.SIGINT, signal.SIGTERM, signal.SIGHUP]:
+            write("started", b"")
+            write("kept", b"old")
+            paths = names if "--verify" not in words else []
+            process = started(*words.split(), "--jobs", "2", "--program", slow, *paths, stdout=-1, stderr=-1)
+            while len(bytes_of("started").split()) < 2 and process.poll() is None:
+                time.sleep(0.01)
+            process.send_signal(number)
+            out, err = process.communicate(timeout=LIMIT)
+            tally.same(f"{words} after {number.name}", (out, err, process.returncode), (b"", b"", -number))
+            tally.same(f"{words} leaves", (bytes_of("kept"), hidden(), still_running()), (b"old", [], []))
+    program = fake("one", "sleep 0.5; cat > /dev/null; echo accepted sp; echo forms 1")
+    ignoring = started(
+        *["check", "--program", program, names[0]],
+        stdout=-1,
+        stderr=-1,
+        preexec_fn=lambda: signal.signal(signal.SIGHUP, signal.SIG_IGN),
+    )
+    time.sleep(0.2)
+    ignoring.send_signal(signal.SIGHUP)
+    ignoring.communicate(timeout=LIMIT)
+    tally.same("a signal that is ignored, as by nohup", ignoring.returncode, 0)
+
+
+def hidden() -> list[str]:
+    """Returns the hidden files of this folder."""
+    return [it for it in os.listdir(".") if it.startswith(".")]
+
+
+def still_running() -> list[int]:
+    """Returns which of the processes in the file `started` run a second later."""
+    for _ in range(100):
+        left = [int(it) for it in bytes_of("started").split() if os.path.exists(f"/proc/{int(it)}/exe")]
+        if not left:
+            break
+        time.sleep(0.01)
+    return left
+
+
+def by_shell(text: str) -> Answer:
+    """Runs a command of a shell, in which `dnorm` is `python3 -m dnorm`."""
+    environment = {**os.environ, **ENVIRONMENT, "PYTHON": sys.executable}
+    return run(["bash", "-c", f'dnorm() {{ "$PYTHON" -m dnorm "$@"; }}; {text}'], env=environment)
+
+
+def outputs(tally: Tally, tested: str) -> None:
+    """Tests streams that are closed, full or broken."""
+    make_set()
+    write("list", f"{sum_of(tested, SET['set/s.ss'][0], '1')}  set/s.ss\n")
+    printing = ["check set/a", "check --json set/a", "manifest set/a", "manifest --verify list"]
+    for words in [*printing, "same set/roads.gr set/a-b.gr"]:
+        for to, reason in [("> /dev/full", " (No space left on device)"), (">&-", "")]:
+            wants(tally, f"{words} {to}", by_shell(f"dnorm {words} {to}"), "", f"out: 33 Write{reason}\n", 4)
+        reading, writing = os.pipe()
+        os.close(reading)
+        process = started(*words.split(), stdout=writing, stderr=subprocess.PIPE)
+        os.close(writing)
+        err = process.communicate(timeout=LIMIT)[1]
+        tally.same(f"{words}, unread", (err, process.returncode), (b"out: 33 Write (Broken pipe)\n", 4))
+        right = module(*words.split())
+        for to in ["2>&-", "2> /dev/full", "<&-", "<&- 2>&-"]:
+            found = by_shell(f"dnorm {words} {to}")
+            tally.same(f"{words} {to}", (found.out, found.status), (right.out, right.status))
+    wants(tally, "nothing open", by_shell("dnorm check set/a <&- >&- 2>&-"), "", "", 4)
+    warned = run(
+        [sys.executable, "-X", "dev", "-W", "error", *MODULE[1:], "check", "set/a"], env={**os.environ, **ENVIRONMENT}
+    )
+    tally.same("with all warnings", (warned.err, warned.status), (b"2 accepted, 0 refused, 0 failed\n", 0))
+
+
+def programs(tally: Tally, _: str) -> None:
+    """Tests programs that are missing, other programs, killed or out of memory for a file, or print other lines."""
+    make_set()
+    for words in [["check", "set"], ["manifest", "set"], ["same", "set"]]:
+        found = module(*words, "--program", "/none")
+        wants(tally, f"{words} by no program", found, "", "/none: cannot be run (there is no such program)\n", 4)
+    found = module("check", "set", "--program", "/bin/cat")
+    tally.same("check by cat", (found.out, found.err[:23], found.status), (b"", b"/bin/cat: cannot be run", 4))
+    texts = {"1.gr": "p sp 0 0\n", "2.gr": "die\n", "3.gr": "want\n", "4.gr": "odd\n"}
+    for name, text in texts.items():
+        write(name, text)
+    program = fake("some", """
+        case $(cat) in
+            die) kill -9 $$ ;;
+            want) echo '-: 30 Memory' >&2; exit 4 ;;
+            odd) echo 'Odd' ;;
+            *) echo accepted sp; echo forms 1 ;;
+        esac""")  # fmt: skip
+    lines = "1.gr: accepted sp\n2.gr: dnorm was ended by signal 9 (SIGKILL)\n3.gr: 30 Memory\n"
+    lines += "4.gr: dnorm did not answer as it should (its status was 0, and it printed 'Odd\\n')\n"
+    found = module("check", "--program", program, *texts)
+    wants(tally, "programs that fail", found, lines, "1 accepted, 0 refused, 3 failed\n", 4)
+
+
+TESTS = [checks, odd_names, reports, manifests, groups, many, progress, together, signals, outputs, programs]
