@@ -11,6 +11,12 @@
 // road               sp, sparse grid, both directions, arcs by rising (tail, head)
 // road-pairs         the arcs of road, each followed by its reverse, in blocks out of order
 // road-shuffled      the arcs of road in random order
+// road-descending    the arcs of road by descending (tail, head)
+// road-twice         N/2 arcs as of road, and then the same pairs again in random order
+// hubs               sp, a power law: few nodes with most arcs, by rising tail, heads of one tail in
+//                    random order
+// hubs-shuffled      the arcs of hubs in random order
+// hubs-pairs         each arc of hubs followed by its reverse
 // multi              sp, N/10 ordered pairs with 10 arcs each, random order
 // max                frames of grids joined by permutations, 1 arc in 20 between frames doubled
 // min                feasible, with LOW > 0, parallel arcs, some negative costs
@@ -29,12 +35,9 @@
 // sp-far             random nodes beyond 2^40
 // sp-far-multiples   random multiples of 2^40 as nodes
 // sp-sparse          random nodes of all 63 bits
-// sp-collide-first   pairs of one bucket in the index's first spread
-// sp-collide         pairs of one bucket in both spreads of the index
+// sp-collide-first   pairs with the same 4 * tail + head
+// sp-collide         pairs of one bucket of the index
 // sp-collide-late    pairs as of sp-collide, after as many random pairs
-// sp-hubs            a power law: few nodes with most arcs, each arc followed by its reverse
-// sp-hubs-shuffled   the arcs of sp-hubs in random order
-// sp-hubs-adjacency  the arcs of sp-hubs by rising tail, heads of one tail in random order
 // sp-ring4           a ring, each node joined to the nearest 4, each arc followed by its reverse, in
 //                    blocks out of order
 // sp-ring10, sp-ring16
@@ -206,9 +209,22 @@ fn road(text: &mut Text, random: &mut Random, n: u64, order: &str) {
             arcs = both_ways(&edges);
             random.shuffle(&mut arcs);
         }
+        "twice" => {
+            arcs = both_ways(&edges);
+            arcs.sort_unstable();
+            let mut again: Vec<Edge> = arcs
+                .iter()
+                .map(|&(u, v, _)| (u, v, road_length(random)))
+                .collect();
+            random.shuffle(&mut again);
+            arcs.extend(again);
+        }
         _ => {
             arcs = both_ways(&edges);
             arcs.sort_unstable();
+            if order == "descending" {
+                arcs.reverse();
+            }
         }
     }
     text.comment("generated: road-like grid");
@@ -459,7 +475,7 @@ fn inverse(odd: u64) -> u64 {
 }
 
 /// Returns different pairs that agree in 4 * tail + head modulo 2^40 and in the upper 32 bits of
-/// `mixed`, so that both spreads put them into one bucket, for any number of buckets up to 2^32.
+/// `mixed`, so that the index puts them into one bucket, for any number of buckets up to 2^32.
 fn colliding(random: &mut Random, n: u64) -> Vec<Pair> {
     const HALF: u64 = (1 << 32) - 1;
     const SUM: u64 = 12_345;
@@ -526,7 +542,7 @@ fn hubs(random: &mut Random, n: u64, kind: &str) -> Vec<Pair> {
     let mut pairs = reversed_too(&edges);
     match kind {
         "shuffled" => random.shuffle(&mut pairs),
-        "adjacency" => {
+        "rising" => {
             random.shuffle(&mut pairs);
             pairs.sort_by_key(|pair| pair.0);
         }
@@ -567,9 +583,6 @@ fn hostile_sp(text: &mut Text, random: &mut Random, kind: &str, n: u64) {
             random.shuffle(&mut pairs);
             pairs
         }
-        "hubs" => hubs(random, n, "pairs"),
-        "hubs-shuffled" => hubs(random, n, "shuffled"),
-        "hubs-adjacency" => hubs(random, n, "adjacency"),
         "ring4" => ring(random, n, 4),
         "ring10" => ring(random, n, 10),
         "ring16" => ring(random, n, 16),
@@ -600,8 +613,13 @@ fn hostile_sp(text: &mut Text, random: &mut Random, kind: &str, n: u64) {
             .max()
             .unwrap_or(1),
     };
+    write_pairs(text, random, nodes, &pairs);
+}
+
+/// Writes arcs of these pairs, with random lengths.
+fn write_pairs(text: &mut Text, random: &mut Random, nodes: i64, pairs: &[Pair]) {
     text.row("p sp", &[nodes, pairs.len() as i64], "");
-    for (tail, head) in pairs {
+    for &(tail, head) in pairs {
         text.row("a", &[tail, head, random.range(0, 999_999)], "");
     }
 }
@@ -692,6 +710,14 @@ fn main() {
         "road" => road(text, random, n, "rising"),
         "road-pairs" => road(text, random, n, "pairs"),
         "road-shuffled" => road(text, random, n, "shuffled"),
+        "road-descending" => road(text, random, n, "descending"),
+        "road-twice" => road(text, random, n / 2, "twice"),
+        "hubs" | "hubs-shuffled" | "hubs-pairs" => {
+            let order = words[0].strip_prefix("hubs-").unwrap_or("rising");
+            let pairs = hubs(random, n, order);
+            let nodes = pairs.iter().map(|pair| pair.0).max().unwrap_or(1);
+            write_pairs(text, random, nodes, &pairs);
+        }
         "multi" => multi(text, random, n),
         "max" => max(text, random, n),
         "min" => min(text, random, n),

@@ -38,6 +38,8 @@ table() {
     cat << TABLE
 road-shuffled arc $n
 road-pairs arc $n
+road-descending arc $n
+road-twice arc $n
 sp-falling arc $n
 sp-alternating arc $n
 sp-onepair arc $n
@@ -50,9 +52,9 @@ sp-sparse arc $n
 sp-collide-first arc $n
 sp-collide arc $n
 sp-collide-late arc $n
-sp-hubs arc $n
-sp-hubs-shuffled arc $n
-sp-hubs-adjacency arc $n
+hubs arc $n
+hubs-shuffled arc $n
+hubs-pairs arc $n
 sp-ring4 arc $n
 sp-ring10 arc $n
 sp-ring16 arc $n

@@ -9,7 +9,7 @@
 #
 # Environment:
 #     REPS=3            rounds
-#     KINDS="road .."   the sp texts, of the kinds in generate.rs: road road-pairs road-shuffled multi
+#     KINDS="road .."   the sp texts, of the kinds in generate.rs; by default all nine below
 #     SLOW=0            leaves out the shell pipeline and Python
 #     OTHERS=0          leaves out min, max and co, for a program that knows sp alone
 #     IR=1              counts instructions of each arc too, on 100,000 arcs, with valgrind
@@ -26,13 +26,15 @@ case ${1-} in
 esac
 reps=${REPS:-3}
 limit=${LIMIT:-600}
-read -r -a kinds <<< "${KINDS-road road-pairs road-shuffled multi}"
-compile generate.rs measure.rs baselines/btree.rs baselines/tuned.rs
+all='road road-pairs road-shuffled multi road-descending road-twice hubs hubs-shuffled hubs-pairs'
+read -r -a kinds <<< "${KINDS-$all}"
+compile generate.rs measure.rs baselines/btree.rs baselines/tuned.rs baselines/tuned_flow.rs
 
 pipeline="pipeline=sh '$here/baselines/pipeline.sh'"
 dict="dict=python3 '$here/baselines/dict.py'"
 btree="btree='$work/btree'"
 tuned="tuned='$work/tuned'"
+tuned_flow="tuned='$work/tuned_flow'"
 floor=('cat=cat' 'wc -l=wc -l')
 mine=()
 subject=btree
@@ -45,18 +47,27 @@ slow=("$pipeline" "$dict")
 others=(min min-netgen max co-shuffled)
 [[ ${OTHERS:-1} == 1 ]] || others=()
 
+# Sets `beside` to the baseline tuned by hand, if there is one for this kind.
+beside() { # KIND
+    beside=()
+    case $1 in
+        min* | max*) beside=("$tuned_flow") ;;
+    esac
+}
+
 # Compares all outputs on small texts (clean, noisy and with unusual spelling) and on the measured texts.
 agreement() {
     local kind
-    for kind in road road-pairs road-shuffled multi; do
+    for kind in $all; do
         agree "$(text "$kind" 20000 7)" "$btree" "$tuned" "$pipeline" "$dict" "${mine[@]}"
         agree "$(text "$kind" 20000 7 --noise)" "$btree" "$tuned" "$pipeline" "$dict" "${mine[@]}"
         agree "$(text "$kind" 20000 7 --noise --odd)" "$btree" "$tuned" "$dict" "${mine[@]}"
     done
     if [[ $binary ]] && ((${#others[@]})); then
         for kind in "${others[@]}" co ss p2p; do
-            agree "$(text "$kind" 20000 7)" "$btree" "${mine[@]}"
-            agree "$(text "$kind" 20000 7 --noise --odd)" "$btree" "${mine[@]}"
+            beside "$kind"
+            agree "$(text "$kind" 20000 7)" "$btree" "${beside[@]}" "${mine[@]}"
+            agree "$(text "$kind" 20000 7 --noise --odd)" "$btree" "${beside[@]}" "${mine[@]}"
         done
     fi
     for kind in "${kinds[@]}"; do
@@ -93,6 +104,11 @@ counts() {
     done
 }
 
+if [[ $binary ]]; then
+    echo "The program calls itself $("$binary" --version | cut -d ' ' -f 2), and its sha256 begins with" \
+        "$(sha256sum "$binary" | cut -c 1-12). The load was $(cut -d ' ' -f 1 /proc/loadavg) on $(nproc) processors."
+    echo
+fi
 echo '== agreement'
 agreement
 echo 'all outputs agree byte for byte'
@@ -102,8 +118,9 @@ for kind in "${kinds[@]}"; do
     times "$kind" "${mine[@]}" "${floor[@]}" "$tuned" "$btree" "${slow[@]}"
 done
 for kind in "${others[@]}"; do
-    agree "$(text "$kind" "$n" 1)" "$btree" "${mine[@]}"
-    times "$kind" "${mine[@]}" "${floor[@]}" "$btree"
+    beside "$kind"
+    agree "$(text "$kind" "$n" 1)" "$btree" "${beside[@]}" "${mine[@]}"
+    times "$kind" "${mine[@]}" "${floor[@]}" "${beside[@]}" "$btree"
 done
 if [[ ${IR:-0} == 1 ]]; then
     echo

@@ -126,10 +126,19 @@ def pipe(stream: IO[bytes] | None) -> IO[bytes]:
     return stream
 
 
-def write(path: str, text: str | bytes) -> None:
+def write(path: str | bytes, text: str | bytes) -> None:
     """Makes a file."""
     with open(path, "wb") as file:
         file.write(text if isinstance(text, bytes) else text.encode())
+
+
+def python_with(*modules: str) -> str | None:
+    """Returns a Python that has these modules: this one, or /usr/bin/python3, which has what Debian packages install.
+    Returns None if neither has them."""
+    for it in [sys.executable, "/usr/bin/python3"]:
+        if os.path.exists(it) and not run([it, "-c", f"import {', '.join(modules)}"]).status:
+            return it
+    return None
 
 
 def loaded_first(tally: Tally, folder: str, what: str, source: str) -> str | None:

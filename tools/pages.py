@@ -14,7 +14,7 @@ PLACING = ["README.md", "CONTRIBUTING.md", *DOCS]
 LINKING = [*PLACING, "CHANGELOG.md", "bench/README.md"]
 # The page whose blocks of code are all quoted from a source, and the pages whose names must all be in sources.
 QUOTING = "docs/PROVED.md"
-NAMING = ["docs/PROVED.md", "docs/ARCHITECTURE.md"]
+NAMING = ["docs/PROVED.md", "docs/ARCHITECTURE.md", "docs/DECISIONS.md", "CONTRIBUTING.md"]
 
 FENCE = re.compile(r"^```[^\n]*\n(.*?)^```$\n?", re.M | re.S)
 QUOTE = re.compile(r"^<!-- from (\S+) -->\n```[^\n]*\n(.*?)^```$", re.M | re.S)
@@ -23,6 +23,9 @@ LINK = re.compile(r"\]\(([^)\s]+)\)")
 SPAN = re.compile(r"`([^`\n]+)`")
 WORD = re.compile(r"[^\W\d]\w*")
 COMMENT = re.compile(r"^\s*(?:--|//).*$", re.M)
+IMPORTS = re.compile(r"^(?:pub )?use .*$", re.M)
+# The files that list the others of a folder.
+LISTS = {"Lib.antt", "State.antt"}
 # What a source defines: an item of Rattle, or a definition that begins a line.
 DEFINED = re.compile(
     r"\b(?:fn|struct|enum|trait|type|const) (\w+)"
@@ -38,6 +41,8 @@ ELSEWHERE = {"out", "dist", "PREFIX", "DESTDIR"}
 PLACED = re.compile(rf"((?:`{NAME}` and )*`{NAME}`),?(?: \(| in | )(\w+), `([\w/]+)`(?: and `([\w/]+)`)?")
 # Names and their crate: `a` and `b` (dn_run).
 IN_CRATE = re.compile(rf"((?:`{NAME}`(?:, | and ))*`{NAME}`) \((dn\w+|pair_index)\)")
+# The crate of the laws in the tables below: in `dn_laws`, by module.
+BY_MODULE = re.compile(r"in `(\w+)`, by module")
 # A name and a module of a crate that the text named before: `a` (`runs`). Bundles have their kinds in the same
 # notation.
 IN_FILE = re.compile(rf"`({NAME})` \(`(?!(?:sp|max|min)`)([a-z_0-9]+)`\)")
@@ -48,31 +53,31 @@ def text_of(path: str) -> str:
         return file.read()
 
 
-def page_text(page: str) -> str:
-    return text_of(f"{ROOT}/{page}")
+def page_text(page: str, top: str = ROOT) -> str:
+    return text_of(f"{top}/{page}")
 
 
-def prose(page: str) -> str:
+def prose(page: str, top: str = ROOT) -> str:
     """Returns a page without its blocks of code."""
-    return FENCE.sub("", page_text(page))
+    return FENCE.sub("", page_text(page, top))
 
 
-def anchors(page: str) -> set[str]:
+def anchors(page: str, top: str) -> set[str]:
     """Returns what a link to a page can name: its headings, as GitHub spells them."""
-    heads = [re.sub(r"\]\([^)]*\)", "]", it) for it in HEADING.findall(prose(page))]
+    heads = [re.sub(r"\]\([^)]*\)", "]", it) for it in HEADING.findall(prose(page, top))]
     return {re.sub(r"[^\w\- ]", "", it.lower()).strip().replace(" ", "-") for it in heads}
 
 
-def bad_links(page: str) -> Iterator[str]:
-    """Yields links to files or anchors that do not exist."""
-    for link in LINK.findall(SPAN.sub("", prose(page))):
+def bad_links(page: str, top: str = ROOT) -> Iterator[str]:
+    """Yields links of a page below a folder to files or anchors that do not exist there."""
+    for link in LINK.findall(SPAN.sub("", prose(page, top))):
         path, _, anchor = link.partition("#")
         if "://" in link or link.startswith("mailto:"):
             continue
         target = os.path.normpath(os.path.join(os.path.dirname(page), path)) if path else page
-        if not os.path.exists(f"{ROOT}/{target}"):
+        if not os.path.exists(f"{top}/{target}"):
             yield f"{page}: links to {link}, and there is no {target}"
-        elif anchor and anchor not in anchors(target):
+        elif anchor and anchor not in anchors(target, top):
             yield f"{page}: links to {link}, and {target} has no such heading"
 
 
@@ -164,13 +169,12 @@ def cells(line: str) -> list[str]:
 
 
 def bad_rows(page: str) -> Iterator[str]:
-    """Yields wrong names in the first column of a table below a heading '### CRATE: ..': names that the crate does not
-    have; in a table of places, names that none of the files has; in a table of laws, names that the module does not
-    have."""
-    known, crate, head, module = crates(), "", [""], ""
+    """Yields wrong names in tables: in a table of places, names that none of the files has; in a table of laws, names
+    that the module does not have."""
+    head, module, of_laws = [""], "", ""
     for line in prose(page).split("\n"):
-        if line.startswith("#"):
-            crate = line.lstrip("# ").partition(":")[0]
+        named = BY_MODULE.search(line)
+        of_laws = named[1] if named else of_laws
         row = cells(line)
         if not line:
             head = [""]
@@ -178,9 +182,6 @@ def bad_rows(page: str) -> Iterator[str]:
             continue
         if head == [""]:
             head = row
-        elif crate in known:
-            for name in lacks(words_of(sources(crate)), [it for it in SPAN.findall(row[0]) if re.fullmatch(NAME, it)]):
-                yield f"{page}: there is no `{name}` in {crate}"
         elif head[:3] == ["Step", "Name", "Where"]:
             names = [it for it in SPAN.findall(row[1]) if re.fullmatch(NAME, it)]
             found = []
@@ -194,7 +195,7 @@ def bad_rows(page: str) -> Iterator[str]:
         elif head[0] == "Module":
             module = (SPAN.findall(row[0]) or [module])[0]
             laws = SPAN.findall(row[1]) if head[1] == "Law" else []
-            yield from misplaced(page, "dn_laws", [module], laws)
+            yield from misplaced(page, of_laws, [module], laws)
 
 
 def bad_names(page: str) -> Iterator[str]:
@@ -203,13 +204,33 @@ def bad_names(page: str) -> Iterator[str]:
     for span in dict.fromkeys(SPAN.findall(prose(page))):
         if re.fullmatch(NAME, span) and set(span.split("::")) - words:
             # Files and modules have names, too.
-            if not sources("*", span) and not os.path.exists(f"{ROOT}/{span}"):
+            proofs = glob.glob(f"{ROOT}/crates/*/proofs/{span}.antt")
+            if not sources("*", span) and not proofs and not os.path.exists(f"{ROOT}/{span}"):
                 yield f"{page}: no source has `{span}`"
+
+
+def unexplained(page: str) -> Iterator[str]:
+    """Yields the signs of the definitions in specs/ that this page does not have."""
+    files = [it for it in glob.glob(f"{ROOT}/crates/*/specs/*.antt") if os.path.basename(it) not in LISTS]
+    signs = {it for path in files for it in COMMENT.sub("", IMPORTS.sub("", text_of(path))) if not it.isascii()}
+    for it in sorted(signs - set(page_text(page))):
+        yield f"{page}: does not explain {it}"
+
+
+def bad_dependencies() -> Iterator[str]:
+    """Yields crates that crates.txt lists for a crate whose files do not cite them."""
+    lines = [line.partition(":") for line in page_text("crates.txt").split("\n") if not line.startswith("#")]
+    for crate, names in ((crate, names.split()) for crate, colon, names in lines if colon):
+        paths = glob.glob(f"{ROOT}/crates/{crate}/[sp]*/**/*.*", recursive=True)
+        for name in lacks({word for path in paths for word in WORD.findall(text_of(path))}, names):
+            yield f"crates.txt: {crate} cites nothing of {name}"
 
 
 def complaints() -> Iterator[str]:
     """Yields all wrong statements of the pages."""
     yield from bad_quotes(QUOTING)
+    yield from bad_dependencies()
+    yield from unexplained(QUOTING)
     for page in LINKING:
         yield from bad_links(page)
     for page in PLACING:

@@ -1,0 +1,128 @@
+"""Tests the files for CI services: the steps of share/ci/github.yml run on a repository with texts, with the files of a
+release that is made of the tested program and the package; and the hook in .pre-commit-hooks.yaml checks files as
+pre-commit calls it. `tests/python` runs these tests, each in a folder of its own."""
+
+import os
+import re
+import shutil
+import tarfile
+import textwrap
+import zipfile
+from xml.etree import ElementTree
+
+from calls import PACKAGE
+from known import ROADS
+from shared import ROOT, Answer, Tally, run, write
+
+WORKFLOW = f"{ROOT}/share/ci/github.yml"
+HOOKS = f"{ROOT}/.pre-commit-hooks.yaml"
+VERSION = "1.2.3"
+# A step that runs commands, and a value of the job's environment.
+STEP = re.compile(r"^ +run: \|\n((?: {10}.*\n)+)", re.M)
+VALUE = re.compile(r"^ {6}(\w+): (\S+)$", re.M)
+FIELD = re.compile(r"^[- ] (\w+): (.*)$", re.M)
+
+
+def text_of(path: str) -> str:
+    with open(path, encoding="utf-8") as file:
+        return file.read()
+
+
+def make_release(tested: str) -> None:
+    """Makes the files of a release in the folder `release`."""
+    os.mkdir("release")
+    name = f"dnorm-{VERSION}-x86_64-linux"
+    with tarfile.open(f"release/{name}.tar.gz", "w:gz") as archive:
+        archive.add(os.path.realpath(tested), f"{name}/dnorm")
+    with zipfile.ZipFile(f"release/dnorm-{VERSION}-py3-none-any.whl", "w") as wheel:
+        for it in os.listdir(f"{PACKAGE}/dnorm"):
+            if it.endswith(".py"):
+                wheel.write(f"{PACKAGE}/dnorm/{it}", f"dnorm/{it}")
+    sums = run(["bash", "-c", "cd release && sha256sum dnorm-*"]).out
+    write("release/SHA256SUMS", sums)
+
+
+class Runner:
+    """Runs the steps of the workflow as the service does, in the folder `texts`."""
+
+    def __init__(self) -> None:
+        text = text_of(WORKFLOW)
+        self.steps = [textwrap.dedent(it) for it in STEP.findall(text)]
+        here = os.getcwd()
+        self.environment = {it: value for it, value in os.environ.items() if it not in ("DNORM", "PYTHONPATH")}
+        self.environment |= dict(VALUE.findall(text))
+        self.environment |= {"RELEASE": f"file://{here}/release", "VERSION": VERSION, "PYTHONDONTWRITEBYTECODE": "1"}
+        self.environment |= {"RUNNER_TEMP": f"{here}/temp", "GITHUB_PATH": f"{here}/path", "GITHUB_ENV": f"{here}/env"}
+
+    def run(self) -> list[Answer]:
+        """Returns what the steps print, up to the first that fails."""
+        shutil.rmtree("temp", ignore_errors=True)
+        os.mkdir("temp")
+        found: list[Answer] = []
+        for name in ["path", "env"]:
+            write(name, "")
+        for step in self.steps:
+            added = dict(it.split("=", 1) for it in text_of("env").splitlines())
+            path = ":".join([*text_of("path").splitlines(), os.environ["PATH"]])
+            environment = {**self.environment, **added, "PATH": path}
+            found.append(run(["bash", "-e", "-c", step], cwd="texts", env=environment))
+            if found[-1].status:
+                break
+        return found
+
+
+def workflow(tally: Tally, tested: str) -> None:
+    """Tests the steps of the workflow."""
+    if not shutil.which("curl"):
+        tally.leave_out("the steps of share/ci/github.yml", "curl")
+        return
+    make_release(tested)
+    os.makedirs("texts/below")
+    write("texts/below/roads.gr", ROADS)
+    runner = Runner()
+    tally.same("the steps", len(runner.steps), 2)
+    found = runner.run()
+    wanted = Answer(b"./below/roads.gr: accepted sp\n", b"1 accepted, 0 refused, 0 failed\n", 0)
+    tally.same("a repository of accepted texts", (found[-1], len(found)), (wanted, 2))
+    write("texts/bad.gr", b"p sp 1 1\n")
+    lines = b"./bad.gr:end: 20 TooFewLines\n./below/roads.gr: accepted sp\n"
+    wanted = Answer(lines, b"1 accepted, 1 refused, 0 failed\n", 2)
+    tally.same("a repository with a refused text", runner.run()[-1], wanted)
+    suite = ElementTree.parse("temp/dnorm.xml").find("testsuite")
+    tally.same("its report", suite is not None and suite.get("failures"), "1")
+    shutil.rmtree("texts/below")
+    os.remove("texts/bad.gr")
+    tally.same("a repository without texts", runner.run()[-1].status, 4)
+    write(f"release/dnorm-{VERSION}-py3-none-any.whl", b"other")
+    found = runner.run()
+    tally.same("a release with another checksum", (len(found), found[0].status), (1, 1))
+
+
+def pre_commit(tally: Tally, _: str) -> None:
+    """Tests the hook for pre-commit: which files it names, and how it is called."""
+    fields = {name: value.strip("'") for name, value in FIELD.findall(text_of(HOOKS))}
+    wanted = {"id": "dnorm", "language": "script", "require_serial": "true"}
+    tally.same("the hook", {it: fields.get(it) for it in wanted}, wanted)
+    names = {
+        "a.gr": True,
+        "a/b.min.gz": True,
+        "a.co.xz": True,
+        "a.gr.zip": False,
+        "agr": False,
+        "a.grx": False,
+        "a.gz": False,
+    }
+    tally.same("its files", {it: bool(re.search(fields["files"], it)) for it in names}, names)
+    script = f"{ROOT}/{fields['entry']}"
+    environment = {it: value for it, value in os.environ.items() if it != "PYTHONPATH"}
+    environment["PYTHONDONTWRITEBYTECODE"] = "1"
+    write("a.gr", ROADS)
+    write("-b.gr", b"x\n")
+    found = run([script, "a.gr"], env=environment)
+    tally.same("an accepted file", found, Answer(b"a.gr: accepted sp\n", b"1 accepted, 0 refused, 0 failed\n", 0))
+    found = run([script, "a.gr", "-b.gr"], env=environment)
+    lines = b"-b.gr:1: 1 BadLine\na.gr: accepted sp\n"
+    tally.same("a refused file", found, Answer(lines, b"1 accepted, 1 refused, 0 failed\n", 2))
+
+
+TESTS = [workflow, pre_commit]

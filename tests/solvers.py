@@ -1,0 +1,215 @@
+#!/usr/bin/env python3
+"""Solves random instances with parallel arcs before and after they are canonicalised: by networkx and scipy through the
+Python package, and by GLPK from files. The optimum must be the same. Columns must be numpy's here. tests/python runs
+this script by a Python that has networkx and scipy.
+
+    tests/solvers.py [PROGRAM]"""
+
+import importlib
+import bz2
+import os
+import pickle
+import random
+import re
+import shutil
+import sys
+import tempfile
+from typing import Any
+
+# This puts the folder of the package on the path.
+from calls import columns
+from reading import Text
+from shared import Tally, program, run, write
+from texts import lines_of
+
+import dnorm
+
+SEED, ROUNDS = 56, 12
+# The optimum in the report of glpsol.
+OPTIMUM = re.compile(rb"^Objective: .*?(\S+) \(M", re.M)
+networkx: Any = importlib.import_module("networkx")
+csgraph: Any = importlib.import_module("scipy.sparse.csgraph")
+
+
+def grid(chance: random.Random, side: int) -> list[tuple[int, int]]:
+    """Returns the pairs of the arcs of a grid of nodes, in any order. Some arcs are parallel, and some are loops."""
+    pairs = []
+    for at in range(1, side * side + 1):
+        near = [at + 1] * (at % side > 0) + [at + side] * (at + side <= side * side)
+        pairs += [it for other in near for it in [(at, other), (other, at)] * chance.choice([1, 1, 2, 3])]
+        pairs += [(at, at)] * chance.choice([0, 0, 1])
+    chance.shuffle(pairs)
+    return pairs
+
+
+def bytes_of(chance: random.Random, text: Text) -> bytes:
+    """Returns the bytes of a text, spelled as any solver reads it."""
+    return "".join(f"{' '.join(line)}\n" for line in lines_of(chance, text)).encode()
+
+
+def shortest(tally: Tally, chance: random.Random) -> None:
+    """Compares the distances in an `sp` graph, whose lengths may be below 0 but have no negative cycle."""
+    side = chance.randint(3, 9)
+    height = [chance.randint(-50, 50) for _ in range(side * side + 1)]
+    text = Text("sp", side * side)
+    text.items = [(u, v, chance.randint(0, 20) + (height[u] - height[v])) for u, v in grid(chance, side)]
+    before = networkx.MultiDiGraph()
+    before.add_weighted_edges_from(text.items)
+    found = dnorm.read(bytes_of(chance, text))
+    assert isinstance(found, dnorm.Sp)
+    after, matrix = found.to_networkx(), found.to_scipy()
+    tally.same("nodes", sorted(after), [*range(1, text.nodes + 1)])
+    for source in chance.sample(range(1, text.nodes + 1), 3):
+        wanted = dict(networkx.single_source_bellman_ford_path_length(before, source))
+        tally.same("distances", dict(networkx.single_source_bellman_ford_path_length(after, source)), wanted)
+        distances = csgraph.bellman_ford(matrix, indices=source - 1).tolist()
+        tally.same("distances by scipy", {at + 1: it for at, it in enumerate(distances)}, wanted)
+
+
+def by_networkx(found: dnorm.Instance) -> int:
+    """Returns the optimum of a `max` or `min` problem."""
+    assert isinstance(found, (dnorm.Max, dnorm.Min))
+    graph = found.to_networkx()
+    if isinstance(found, dnorm.Max):
+        return int(networkx.maximum_flow_value(graph, graph.graph["source"], graph.graph["sink"]))
+    return int(networkx.network_simplex(graph)[0] + graph.graph["cost"])
+
+
+def by_scipy(found: dnorm.Instance) -> int:
+    """Returns the greatest flow of a `max` problem with small numbers."""
+    assert isinstance(found, dnorm.Max)
+    matrix = found.to_scipy().astype("int32")
+    return int(csgraph.maximum_flow(matrix, found.source - 1, found.sink - 1).flow_value)
+
+
+def greatest(tally: Tally, chance: random.Random) -> None:
+    """Compares the greatest flow of a `max` problem. Before, each arc has a node of its own in its middle, since
+    networkx takes no parallel arcs there."""
+    side = chance.randint(3, 7)
+    text = Text("max", side * side, terminals={"t": side * side, "s": 1})
+    # glpsol counts a loop at the source as a flow from it.
+    pairs = [it for it in grid(chance, side) if it != (1, 1)]
+    text.items = [(u, v, chance.choice([0, chance.randint(1, 20)])) for u, v in pairs]
+    before = networkx.DiGraph()
+    before.add_nodes_from([1, side * side])
+    for at, (u, v, cap) in enumerate(text.items):
+        before.add_edges_from([(u, -1 - at), (-1 - at, v)], capacity=cap)
+    given = bytes_of(chance, text)
+    after, wanted = dnorm.read(given), networkx.maximum_flow_value(before, 1, side * side)
+    found = [by_networkx(after), by_scipy(after), *optima("--maxflow", given)]
+    tally.same("greatest flows", found, [wanted] * len(found))
+
+
+def cheapest(tally: Tally, chance: random.Random) -> None:
+    """Compares the least cost of a `min` problem with lower bounds. A flow within the bounds gives the supplies."""
+    side = chance.randint(2, 6)
+    text = Text("min", side * side)
+    balance = dict.fromkeys(range(1, side * side + 1), 0)
+    for u, v in grid(chance, side):
+        low = chance.choice([0, 0, chance.randint(1, 5)])
+        cap = low + chance.randint(0, 9)
+        text.items.append((u, v, low, cap, chance.randint(-3, 9)))
+        flow = chance.randint(low, cap)
+        balance[u] += flow
+        balance[v] -= flow
+    text.flows = {node: flow for node, flow in balance.items() if flow or chance.random() < 0.3}
+    given = bytes_of(chance, text)
+    wanted = least_cost(text)
+    found = [*(by_networkx(dnorm.read(given, form)) for form in [1, 2]), *optima("--mincost", given)]
+    tally.same("least costs", found, [wanted] * len(found))
+
+
+def least_cost(text: Text) -> int:
+    """Returns the least cost of a `min` problem as it stands. The units of a lower bound are an edge of their own,
+    which is so cheap that it is always full."""
+    cheap = 1 + sum(abs(cost) * cap for _, _, _, cap, cost in text.items)
+    graph = networkx.MultiDiGraph()
+    graph.add_nodes_from((node, {"demand": -text.flows.get(node, 0)}) for node in range(1, text.nodes + 1))
+    for u, v, low, cap, cost in text.items:
+        graph.add_edge(u, v, weight=cost - cheap, capacity=low)
+        graph.add_edge(u, v, weight=cost, capacity=cap - low)
+    return int(networkx.network_simplex(graph)[0]) + cheap * sum(it[2] for it in text.items)
+
+
+# Instances of the generators of the First DIMACS Challenge, on which networkx tests itself, with their optima; and the
+# sample problems of GLPK with theirs.
+NETWORKX = {"gl1": 156545, "gw1": 1202018, "wlm3": 11875108, "netgen-2": 6749969302}
+GLPK = {"sample.max": 29, "sample.min": 213}
+
+
+def published(tally: Tally, chance: random.Random) -> None:
+    """Compares the optima of instances that others made. Here each arc of those of networkx is two parallel ones."""
+    texts: dict[str, tuple[bytes, int]] = {}
+    for name, optimum in NETWORKX.items():
+        path = f"{os.path.dirname(networkx.__file__)}/algorithms/flow/tests/{name}.gpickle.bz2"
+        if os.path.exists(path):
+            with bz2.open(path) as file:
+                texts[path] = bytes_of(chance, split(chance, pickle.load(file))), optimum
+        else:
+            tally.pass_over(f"the instance {name} of networkx", path)
+    for name, optimum in GLPK.items():
+        path = f"/usr/share/doc/glpk-utils/examples/{name}"
+        if os.path.exists(path):
+            with open(path, "rb") as file:
+                texts[path] = file.read(), optimum
+        else:
+            tally.pass_over(f"the problem {name} of GLPK", path)
+    for path, (text, optimum) in texts.items():
+        found = dnorm.read(text)
+        optimums = [by_networkx(found), *optima("--mincost" if found.kind == "min" else "--maxflow", text)]
+        if found.kind == "max":
+            optimums.append(by_scipy(found))
+        tally.same(f"the optimum of {path}", optimums, [optimum] * len(optimums))
+
+
+def split(chance: random.Random, graph: Any) -> Text:
+    """Returns the problem of a graph of networkx, with two parallel arcs for each of its edges."""
+    text = Text("max", len(graph), terminals={"s": 1, "t": len(graph)})
+    flows = {node: -demand for node, demand in graph.nodes(data="demand") if demand is not None}
+    if flows:
+        text = Text("min", len(graph), flows=flows)
+    for tail, head, it in graph.edges(data=True):
+        part = chance.randint(0, it["capacity"])
+        for cap in [part, it["capacity"] - part]:
+            text.items.append((tail, head, 0, cap, it["weight"]) if flows else (tail, head, cap))
+    chance.shuffle(text.items)
+    return text
+
+
+def optima(option: str, given: bytes) -> list[int]:
+    """Returns what glpsol, if it is there, finds for a text and for both of its canonical texts."""
+    if not shutil.which("glpsol"):
+        return []
+    found = []
+    for name, text in {"given": given, "one": dnorm.canon(given), "two": dnorm.canon(given, 2)}.items():
+        write(name, text)
+        run(["glpsol", option, name, "--output", f"{name}.out"])
+        with open(f"{name}.out", "rb") as file:
+            optimum = OPTIMUM.search(file.read())
+        assert optimum
+        found.append(round(float(optimum[1])))
+    return found
+
+
+def main() -> int:
+    tally, chance = Tally(), random.Random(SEED)
+    os.environ["DNORM"] = program()
+    if not shutil.which("glpsol"):
+        tally.leave_out("what glpsol finds for min and max", "glpsol")
+    with tempfile.TemporaryDirectory(prefix="dnorm-solvers-") as folder:
+        os.chdir(folder)
+        for _ in range(ROUNDS):
+            for test in [shortest, greatest, cheapest]:
+                test(tally, chance)
+        published(tally, chance)
+        columns(tally, os.environ["DNORM"])
+        numbers = dnorm.read(b"p sp 1 1\na 1 1 7\n")
+        assert isinstance(numbers, dnorm.Sp)
+        column: Any = numbers.lengths
+        tally.same("a column of numpy", (type(column).__name__, column.dtype.name), ("ndarray", "int64"))
+        os.chdir("/")
+    return tally.end()
+
+
+if __name__ == "__main__":
+    sys.exit(main())
