@@ -179,12 +179,13 @@ has_put (step ∷ rest) more c =
     let same : step.0 ≡ more.0 = omega (arith, ints) in
     or_same (int_eq c step.0) (has_step rest c) ∙ ap (λ z. int_eq c z || (int_eq c step.0 || has_step rest c)) same))
 
-none_has : (c : ℤ) (steps : List (ℤ × ℤ)) → CostsAbove c steps → has_step steps c ≡ false
+-- breakpoints above a cost have no capacity at it
+pub none_has : (c : ℤ) (steps : List (ℤ × ℤ)) → CostsAbove c steps → has_step steps c ≡ false
 none_has c [] h = refl
 none_has c (step ∷ rest) h = ap (λ b. b || has_step rest c) (eq_below c step.0 h.0) ∙ none_has c rest h.1
 
 -- an insertion adds one breakpoint, unless there was one at this cost
-length_put : (steps : List (ℤ × ℤ)) (more : ℤ × ℤ) → AreSteps steps
+pub length_put : (steps : List (ℤ × ℤ)) (more : ℤ × ℤ) → AreSteps steps
     → length (put_step steps more) ≡ cond (has_step steps more.0) (length steps) (suc (length steps))
 length_put [] more s = refl
 length_put (step ∷ rest) more s =

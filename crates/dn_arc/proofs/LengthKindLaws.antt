@@ -63,6 +63,7 @@ length_kind = record {
   nothing_listed = λ form xs c s. lengths_determined xs [] c tt s;
   same_capacity = λ xs ys h g s. refl;
   same_entries = λ xs ys h g s. same_entries xs ys s;
+  same_spreads = λ xs ys a h g s m. m;
   none_entries = refl;
   none_differ = lengths_differ;
   one_differ = one_differ;

@@ -65,6 +65,7 @@ total_kind = record {
   nothing_listed = λ form xs c s. totals_determined xs [] c tt s;
   same_capacity = λ xs ys h g s. s.is;
   same_entries = λ xs ys h g s. ap (λ z. cond (int_lt (pos 0) z) 1 0) s.is;
+  same_spreads = λ xs ys a h g s m. m;
   none_entries = refl;
   none_differ = totals_differ;
   one_differ = one_differ;
