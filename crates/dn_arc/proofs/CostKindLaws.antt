@@ -21,7 +21,7 @@ use Rattle.dn_arc.proofs.CurvesLaws.{curve_meaning, cost_cap_same}
 use Rattle.dn_arc.proofs.FormsLaws.{form_one_arcs, form_two_arcs}
 use Rattle.dn_arc.proofs.FormTwoLaws.{determination_of_forms}
 use Rattle.dn_arc.proofs.DifferencesLaws.{cost_of_one, cost_of_same, curves_differ}
-use Rattle.dn_arc.proofs.CanonsLaws.{same_canon, entries_same}
+use Rattle.dn_arc.proofs.CanonsLaws.{same_canon, entries_same, no_curve}
 use Rattle.dn_arc.proofs.SoundLaws.{caps_some}
 
 abbrev all_numbers : Option CostArc → List ℤ
@@ -128,6 +128,7 @@ cost_kind = record {
   same_entries = entries_same;
   same_spreads = same_spreads;
   none_entries = refl;
+  no_entries = no_curve;
   none_differ = curves_differ;
   one_differ = one_differ;
   same_differ = same_differ;

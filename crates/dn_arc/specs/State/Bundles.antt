@@ -43,8 +43,9 @@ pub record IsKind {Arc : Type 0} (kind : ArcKind Arc) : Type 0 where
   -- which arc spreads the forced units depends only on what the arcs mean
   pub same_spreads : (xs ys : List Arc) (a : Arc) → AllByRecursion kind.IsArc xs → AllByRecursion kind.IsArc ys
       → kind.Same xs ys → kind.Spreads xs a → kind.Spreads ys a
-  -- no arcs make no entries
+  -- no arcs make no entries, and arcs that make none mean the same as no arcs
   pub none_entries : kind.entries [] ≡ 0
+  pub no_entries : (xs : List Arc) → AllByRecursion kind.IsArc xs → kind.entries xs ≡ 0 → kind.Same xs []
   -- arcs that mean the same have no difference
   pub none_differ : (xs ys : List Arc) (how : How) → kind.Differ xs ys how → kind.Same xs ys → ⊥
   -- two lists of arcs have at most one first difference
