@@ -1,5 +1,4 @@
 pub mod Parts
-pub mod EntryCount
 pub mod ItemFaults
 pub mod Drafts
 pub mod ArcRuns
