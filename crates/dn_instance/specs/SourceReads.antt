@@ -18,8 +18,9 @@ pub record CleanSoFar (t : List ℕ) (new : Option (List ℕ)) : Type 0 where
   pub clean : IsClean (ended given)
 
 -- of the text t, the source has given `before`, and then a piece of at most 2^12 bytes; if its bytes are known, it
--- still gives the rest. Memory ran out at a line that was not complete before this piece and is not skipped; neither it
--- nor an earlier line has a fault. The line is complete now, or it is the last one, and nothing is left of the text
+-- still gives the rest. Memory ran out at a line that was not complete before this piece and spells an item that needs
+-- memory; neither it nor an earlier line has a fault. The line is complete now, or it is the last one, and nothing is
+-- left of the text
 pub record RanOut (t : List ℕ) (new : Option (List ℕ)) : Type 0 where
   pub before : List ℕ
   pub piece : List ℕ

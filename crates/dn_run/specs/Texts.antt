@@ -47,8 +47,8 @@ pub record IsEndless {T : Type 0} (text : AskedText T) (b : List ℕ) : Type 0 w
   pub clean : CleanSoFar b (text.source.gives source)
   pub many : 2 ^ 40 ≤ length clean.given
 
--- memory ran out at a line of the text b that is not skipped and had not ended before some piece that the source gave.
--- Neither this line nor an earlier one has a fault
+-- memory ran out at a line of the text b that spells an item that needs memory and had not ended before some piece that
+-- the source gave. Neither this line nor an earlier one has a fault
 pub record IsOutOfMemory {T : Type 0} (text : AskedText T) (b : List ℕ) : Type 0 where
   pub source : T
   pub comes : ComesOf text source
