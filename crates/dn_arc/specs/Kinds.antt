@@ -1,6 +1,6 @@
 -- What the three kinds of graphs have in common: an arc is a list of numbers, and parallel arcs have a meaning together
 -- (this project's profile).
-use Rattle.std.specs.Prelude.{◌⊎◌, ℕ, ◌<◌, ℤ, pos, List, [], ◌∷◌, ◌++◌, Option, Some, None}
+use Rattle.std.specs.Prelude.{ℕ, ℤ, pos, List, [], ◌∷◌, Option, Some, None}
 use Rattle.dn_arc.specs.Capacities.{total_cap}
 use Rattle.dn_arc.specs.Splits.{cost_cap}
 use Rattle.dn_arc.specs.Meanings.{SameLength, SameTotal, SameCurve}
@@ -33,10 +33,6 @@ pub record ArcKind (Arc : Type 0) : Type 1 where
   pub Spreads : List Arc → Arc → Type 0
   -- the first difference in meaning between two lists of arcs of one pair
   pub Differ : List Arc → List Arc → How → Type 0
-
--- one more arc of the pair needs memory: it makes another entry, or spreads the forced units
-abbrev pub NeedsMore : {Arc : Type 0} → ArcKind Arc → List Arc → Arc → Type 0
-NeedsMore kind arcs a = (kind.entries arcs < kind.entries (arcs ++ a ∷ [])) ⊎ kind.Spreads arcs a
 
 -- an `sp` arc has one number, LENGTH
 abbrev pub length_arc : List ℤ → Option LengthArc

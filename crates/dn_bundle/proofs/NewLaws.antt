@@ -10,7 +10,8 @@ use Rattle.dn_arc.specs.declared.arc.CostArc.{CostArc}
 use Rattle.dn_arc.specs.declared.arc.Form.TheVariants.{One}
 use Rattle.dn_arc.specs.Canonical.{IsCostArc}
 use Rattle.dn_arc.specs.Entries.{cost_entries}
-use Rattle.dn_arc.specs.Kinds.{costs, NeedsMore}
+use Rattle.dn_arc.specs.Kinds.{costs}
+use Rattle.dn_arc.specs.State.Kinds.{NeedsMore}
 use Rattle.dn_arc.specs.Fillings.{forced_units}
 use Rattle.dn_arc.specs.State.Steps.{steps_of, put_step, add_step, has_step}
 use Rattle.dn_arc.specs.State.CurveListed.{listed, IsSound}

@@ -3,7 +3,7 @@ ghost use Rattle.std.specs.Prelude.{◌≡◌, ◌-◌, ◌^◌, pos, ◌≤ℤ�
 ghost use Rattle.std.specs.List.{AllByRecursion};
 ghost use Rattle.std.specs.Option.{option_copied};
 ghost use Rattle.dn_arc.specs.State.Bundles.{BundleWords, Gains, IsAfter, IsBundleOf, IsHow, IsKind, NumbersFit, PassesSum, Widens, listed_of, meant};
-ghost use Rattle.dn_arc.specs.Kinds.{NeedsMore};
+ghost use Rattle.dn_arc.specs.State.Kinds.{NeedsMore};
 ghost use Rattle.dn_arc.specs.declared.arc.Form.{Form};
 
 use dn_arc::{Form, How, Parts};

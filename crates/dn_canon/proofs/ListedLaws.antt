@@ -22,7 +22,7 @@ use Rattle.dn_arc.specs.declared.arc.CostArc.{CostArc}
 use Rattle.dn_arc.specs.State.Bundles.{IsKind, NumbersFit, listed_of}
 use Rattle.dn_instance.specs.Instances.{Graph, Instance, MinCostFlow, MaxFlow, ShortestPaths, Sources, Queries, Coordinates}
 use Rattle.dn_arc.specs.Pairs.{bundle, pair_cmp, same_pair}
-use Rattle.dn_table.specs.GraphEntries.{entries_listed}
+use Rattle.dn_table.specs.State.GraphEntries.{entries_listed}
 use Rattle.dn_table.specs.State.Tables.{listed_at}
 use Rattle.dn_instance.specs.Validity.{Fits, IsNode, IsPlaced, IsValidGraph, IsValid, AreSupplies, AreTerminals}
 use Rattle.dn_arc.proofs.PairLaws.{pair_is, pair_self}

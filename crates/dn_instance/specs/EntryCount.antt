@@ -1,4 +1,4 @@
--- How many entries an instance makes. The entries are what has to be kept of it (this project's profile).
+-- How many entries the items of a text make. The entries are what has to be kept of them (this project's profile).
 use Rattle.std.specs.Prelude.{ℕ, List, length, filter_map, Option, Some, None}
 use Rattle.dn_line.specs.declared.kind.Kind.{Kind}
 use Rattle.dn_line.specs.declared.kind.Kind.TheVariants as Kinds
@@ -6,16 +6,6 @@ use Rattle.dn_line.specs.declared.line.Line.{Line}
 use Rattle.dn_arc.specs.Kinds.{costs, capacities, lengths}
 use Rattle.dn_table.specs.GraphEntries.{graph_entries}
 use Rattle.dn_instance.specs.Items.{kind_known, arcs_of, length_arc_in, cap_arc_in, cost_arc_in, source_in, query_in, point_in, by_key}
-use Rattle.dn_instance.specs.Instances.{Instance, MinCostFlow, MaxFlow, ShortestPaths, Sources, Queries, Coordinates}
-
--- a graph makes the entries of its arcs; a companion makes one entry for each item or point
-abbrev pub entries_of : Instance → ℕ
-entries_of (MinCostFlow supplies graph) = graph_entries costs graph.arcs
-entries_of (MaxFlow source sink graph) = graph_entries capacities graph.arcs
-entries_of (ShortestPaths graph) = graph_entries lengths graph.arcs
-entries_of (Sources ids) = length ids
-entries_of (Queries pairs) = length pairs
-entries_of (Coordinates points) = length points
 
 -- the number of entries that these items make in a problem of this kind
 abbrev pub entries_as : Kind → List Line → ℕ

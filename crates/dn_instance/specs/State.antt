@@ -1,4 +1,5 @@
 pub mod Parts
+pub mod EntryCount
 pub mod ItemFaults
 pub mod Drafts
 pub mod ArcRuns

@@ -7,7 +7,3 @@ use Rattle.dn_arc.specs.Pairs.{bundle, same_pair}
 -- the sum of the entries over all ordered pairs that have arcs
 abbrev pub graph_entries : {Arc : Type 0} → ArcKind Arc → List ((ℤ × ℤ) × Arc) → ℕ
 graph_entries kind arcs = sum_by (λ p. kind.entries (bundle p arcs)) (distinct same_pair (map (λ a. a.0) arcs))
-
--- the sum of this number over the bundles of a table
-abbrev pub entries_listed : {B : Type 0} → (B → ℕ) → List ((ℤ × ℤ) × B) → ℕ
-entries_listed each table = sum_by (λ e. each e.1) table

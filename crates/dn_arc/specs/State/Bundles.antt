@@ -2,7 +2,8 @@
 use Rattle.std.specs.Prelude.{◌≡◌, ℕ, ◌+◌, ◌-◌, ◌^◌, ℤ, pos, ◌+ℤ◌, ◌≤ℤ◌, ◌<ℤ◌, List, [], ◌∷◌, ◌++◌, slice_get, Bool, Option, Some, None, MatchOption, FitsSigned}
 use Rattle.std.specs.Int.{w64}
 use Rattle.std.specs.List.{AllByRecursion}
-use Rattle.dn_arc.specs.Kinds.{ArcKind, NeedsMore}
+use Rattle.dn_arc.specs.Kinds.{ArcKind}
+use Rattle.dn_arc.specs.State.Kinds.{NeedsMore}
 use Rattle.dn_arc.specs.State.Meanings.{IsMeaning}
 use Rattle.dn_arc.specs.declared.arc.Form.{Form}
 use Rattle.dn_arc.specs.declared.arc.Form.TheVariants.{One}

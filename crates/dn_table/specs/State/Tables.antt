@@ -6,8 +6,8 @@ use Rattle.std.specs.List.{AllByRecursion}
 use Rattle.std.specs.List.Sorted.{IsStrictlySortedBy}
 use Rattle.std.specs.Map.{keys_of, lookup}
 use Rattle.dn_arc.specs.State.Bundles.{BundleWords, meant, listed_of}
-use Rattle.dn_arc.specs.Kinds.{ArcKind, NeedsMore}
-use Rattle.dn_arc.specs.State.Kinds.{AreCanonArcsOf}
+use Rattle.dn_arc.specs.Kinds.{ArcKind}
+use Rattle.dn_arc.specs.State.Kinds.{AreCanonArcsOf, NeedsMore}
 use Rattle.dn_table.specs.GraphEntries.{graph_entries}
 use Rattle.dn_arc.specs.Pairs.{bundle, pair_cmp, same_pair}
 
