@@ -14,7 +14,7 @@ use Rattle.dn_instance.specs.declared.refusal.Refusal.TheVariants.{Text, Memory,
 use Rattle.dn_instance.specs.Readers.{ended, WantsMemory}
 use Rattle.dn_instance.specs.State.Readers.{IsRefused, Outcome, answer_of}
 use Rattle.dn_instance.specs.State.ReaderStates.{Finishes, IsFed, ReaderAt}
-use Rattle.dn_instance.specs.SourceReads.{AfterPulls, CleanSoFar, GaveLast, PulledBytes, PulledWhileClean, RanOut, IsOfReading, after_pulls}
+use Rattle.dn_instance.specs.SourceReads.{AfterPulls, CleanSoFar, GaveLast, PulledBytes, PulledWhileClean, RanOut, IsOfReading}
 use Rattle.dn_instance.specs.State.SourceReads.{StopsInPiece, StopsAt, SourceOutcome, Copied, CopyOutcome, HoldsCopied, HoldsSome}
 use Rattle.dn_instance.specs.Texts.{IsClean}
 use Rattle.dn_instance.proofs.PieceSteps.{More, ended_more, lines_more}

@@ -78,8 +78,8 @@ loop-preserved g c =
 pub returns-clause-err : goal.returns-clause-err
 returns-clause-err g c =
     let t = c.loop.invariant.given.0 in
-    copied _ _ _ t _ _ (Err Endless) c.loop.invariant.given.1 c.loop.invariant.given.4
-    (endless_given _ _ _ t c.loop.reader c.loop.counter c.loop.invariant.given.1 c.loop.invariant.given.2
+    copied _ _ (GaveLast g.S.Source.source c.args.source.now c.loop.source) t _ _ (Err Endless) c.loop.invariant.given.1 c.loop.invariant.given.4
+    (endless_given _ _ (GaveLast g.S.Source.source c.args.source.now c.loop.source) t c.loop.reader c.loop.counter c.loop.invariant.given.1 c.loop.invariant.given.2
     c.loop.invariant.fine c.loop.invariant.given.3 (let over = c.loop-test.false in omega arith))
 
 pub returns-in_err-bytes-clause-err : goal.returns-in_err-bytes-clause-err
