@@ -41,7 +41,8 @@ no_total : (xs : List CapArc) → AllByRecursion IsCapArc xs → cap_entries xs 
 no_total xs h e =
     let some = total_some xs h in
     by_lt_z (pos 0) (total_cap xs)
-    (λ lt. let one = ap {B = ℕ} (λ b. cond b 1 0) (test_yes (pos 0) (total_cap xs) lt) in absurd (omega (arith, one, e)))
+    (λ lt. let one = ap {B = ℕ} (λ b. cond b 1 0) (test_yes (pos 0) (total_cap xs) lt) in
+    absurd (omega (arith, one, e)))
     (λ le. omega (arith, ints))
 
 canon_arcs : (xs : List CapArc) → AreCanonCaps xs → AllByRecursion IsCapArc xs

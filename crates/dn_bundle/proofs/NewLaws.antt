@@ -38,7 +38,8 @@ one_if z = cond (int_lt (pos 0) z) 1 0
 forced_grows : (units low : ℤ) → pos 0 ≤ℤ low → one_if units ≤ one_if (units +ℤ low)
 forced_grows units low h =
     by_test (λ (n : ℕ). n ≤ one_if (units +ℤ low)) (pos 0) units 1 0
-    (λ lt. let e = ap {B = ℕ} (λ b. cond b 1 0) (test_yes (pos 0) (units +ℤ low) (omega (arith, ints))) in omega (arith, e))
+    (λ lt. let e = ap {B = ℕ} (λ b. cond b 1 0) (test_yes (pos 0) (units +ℤ low) (omega (arith, ints))) in
+    omega (arith, e))
     (λ le. omega arith)
 
 forced_new : (units low : ℤ) → units ≡ pos 0 → pos 0 <ℤ low → one_if units < one_if (units +ℤ low)
@@ -66,14 +67,16 @@ module _ (units cost total : ℤ) (steps : List (ℤ × ℤ)) (a : CostArc) (s :
   c = cost +ℤ (a.low *ℤ a.cost)
 
   sound : IsSound u c (total +ℤ a.cap) next
-  sound = grown_sound units cost total steps a (total +ℤ a.cap) s h refl ft fk u c (total +ℤ a.cap) next refl refl refl refl
+  sound =
+      grown_sound units cost total steps a (total +ℤ a.cap) s h refl ft fk u c (total +ℤ a.cap) next refl refl refl refl
 
   entries_next : cost_entries (listed One units cost steps ++ a ∷ []) ≡ one_if u + length next
   entries_next =
       sym (cost_kind.same_entries (listed One u c next) (listed One units cost steps ++ a ∷ [])
       (sound_arcs u c (total +ℤ a.cap) next sound One)
       (arcs_push (listed One units cost steps) a (sound_arcs units cost total steps s One) h)
-      (grown_same units cost total steps a (total +ℤ a.cap) s h refl ft fk u c (total +ℤ a.cap) next refl refl refl refl))
+      (grown_same units cost total steps a (total +ℤ a.cap) s h refl ft fk u c (total +ℤ a.cap) next refl refl refl
+      refl))
       ∙ entries_listed u c (total +ℤ a.cap) next sound
 
   length_grows : length steps ≤ length next

@@ -15,8 +15,9 @@ use Rattle.dn_canon.specs.State.Writes.{WritesCanon}
 use Rattle.dn_sink.specs.Sinks.{SinkWords}
 
 -- after a text was read, the outcome of the run is that of writing
-pub run_written : {S : Type 0} (sink : SinkWords S) (old new : S) (form : Form) (given : Option (List ℕ)) (left : AfterPulls)
-    (held : Held) (result : Result (Unit {0}) Refusal) → IfSome given (λ t. SourceOutcome t left (Ok held))
+pub run_written : {S : Type 0} (sink : SinkWords S) (old new : S) (form : Form) (given : Option (List ℕ))
+    (left : AfterPulls) (held : Held) (result : Result (Unit {0}) Refusal)
+    → IfSome given (λ t. SourceOutcome t left (Ok held))
     → ((I : Instance) → IsValid I → IsHeld (parsed held) I → WritesCanon sink old new form I result)
     → IfSome given (λ t. RunOutcome sink old new form t left result)
 run_written sink old new form None left held result o w = tt
@@ -31,8 +32,8 @@ run_written sink old new form (Some t) left held result o w =
     by_result (Err _) h = absurd h.2
 
 -- a refusal of reading is the outcome of the run
-pub run_refused : {S : Type 0} (sink : SinkWords S) (old new : S) (form : Form) (given : Option (List ℕ)) (left : AfterPulls)
-    (e : Refusal) → IfSome given (λ t. SourceOutcome t left (Err e))
+pub run_refused : {S : Type 0} (sink : SinkWords S) (old new : S) (form : Form) (given : Option (List ℕ))
+    (left : AfterPulls) (e : Refusal) → IfSome given (λ t. SourceOutcome t left (Err e))
     → IfSome given (λ t. RunOutcome sink old new form t left (Err e))
 run_refused sink old new form None left e o = tt
 run_refused sink old new form (Some t) left e o = by_refusal e o

@@ -318,8 +318,8 @@ module _ (old new : Option (List ℕ)) (r : Reader) (a : Result Held Refusal) wh
   finished_given : (Gave : List ℕ → List ℕ → Type 0) (fed : IsFed old new r) → Finishes r a
       → IfSome old (λ t. SourceOutcome t (after new Gave) a)
   finished_given Gave fed h =
-      ended_given old new Gave fed.given r a fed.gave fed.at_end fed.read fed.fine (h.memory fed.given fed.read fed.fine)
-      (h.outcome fed.given fed.read)
+      ended_given old new Gave fed.given r a fed.gave fed.at_end fed.read fed.fine
+      (h.memory fed.given fed.read fed.fine) (h.outcome fed.given fed.read)
 
   pub finished : (Gave : List ℕ → List ℕ → Type 0) (fed : Result (Unit {0}) Refusal) → OnOk fed (IsFed old new r)
       → IfErr fed (λ e. IfSome old (λ t. SourceOutcome t (after new Gave) (Err e)))

@@ -15,8 +15,8 @@ use Rattle.dn_instance.specs.Texts.{items_of, with_next, IsClean}
 abbrev pub ended : List ℕ → List (List ℕ)
 ended t = (parts is_line_feed t).0
 
--- an item that needs memory even if it makes no entry: a `min` node line, or an arc that spreads the forced units of its
--- pair
+-- an item that needs memory even if it makes no entry: a `min` node line, or an arc that spreads the forced units of
+-- its pair
 abbrev pub NeedsBesides : List Line → Line → Type 0
 NeedsBesides before (Item.Supply id flow) = Unit {0}
 NeedsBesides before (Item.MinArc src dst low cap cost) =

@@ -25,8 +25,7 @@ pub data PulledBytes {S : Type 0} (source : SourceWords S) (old : S) : S → Typ
       → Consumes (source.gives mid) (source.gives new) bytes → 0 < length bytes → PulledBytes source old new
 
 -- pulls changed the source from `old` to `before`, and each of them gave at least one byte; one more pull changed
--- `before` to `new`. All of these but the last gave the bytes `given`, and the last gave this piece, if the bytes of the
--- source are known
+-- `before` to `new`. If the bytes of the source are known, the last pull gave this piece, and all others gave `given`
 pub record GaveLast {S : Type 0} (source : SourceWords S) (old new : S) (given piece : List ℕ) : Type 0 where
   pub before : S
   pub pulls : PulledBytes source old before
@@ -58,8 +57,8 @@ pub record RanOutInPiece (t : List ℕ) (left : AfterPulls) : Type 0 where
   pub short : length piece ≤ 2 ^ 12
   pub wants : WantsMemory (length (ended given)) (ended (given ++ piece))
 
--- memory ran out at a line of the text t: at a line whose LF is in the last piece, or at a last line without an LF, with
--- the source at its end. The line spells an item that needs memory, and neither it nor an earlier line has a fault
+-- memory ran out at a line of the text t: at a line whose LF is in the last piece, or at a last line without an LF,
+-- with the source at its end. The line spells an item that needs memory, and neither it nor an earlier line has a fault
 abbrev pub RanOut : List ℕ → AfterPulls → Type 0
 RanOut t left = RanOutInPiece t left ⊎ (IsAtEnd left.gives × WantsMemory (length (ended t)) (lines t))
 

@@ -70,8 +70,8 @@ abbrev pub IsRefusedCanon : {T : Type 0} → Form → AskedText T → List ℕ �
 IsRefusedCanon form text b CountTooLarge = (I : Instance) × Reads b I × IsTooLarge form I
 IsRefusedCanon form text b refusal = IsRefusedText text b refusal
 
--- memory ran out for the copy of the last piece that the source gave of the text b, of 1 to 2^12 bytes; the source still
--- gives the rest. No line that ends with an LF before that piece has a fault
+-- memory ran out for the copy of the last piece that the source gave of the text b, of 1 to 2^12 bytes; the source
+-- still gives the rest. No line that ends with an LF before that piece has a fault
 pub record LacksCopy {T : Type 0} (text : AskedText T) (b : List ℕ) : Type 0 where
   pub source : T
   pub comes : ComesOf text source

@@ -76,8 +76,8 @@ pub record Copied (t : List ℕ) (new : Option (List ℕ)) (old_copy new_copy : 
   pub copy : new_copy ≡ old_copy ++ given
 
 -- of the text t, all pulls but the last gave bytes that the copy has gained, the last gave a piece of 1 to 2^12 bytes
--- that the copy has not gained, and the source still gives the rest. No complete line of the bytes before this piece has
--- a fault
+-- that the copy has not gained, and the source still gives the rest. No complete line of the bytes before this piece
+-- has a fault
 pub record LacksRoom (t : List ℕ) (left : AfterPulls) (old_copy new_copy : List ℕ) : Type 0 where
   pub given : List ℕ
   pub piece : List ℕ

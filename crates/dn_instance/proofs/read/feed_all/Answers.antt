@@ -56,7 +56,8 @@ loop-preserved g c =
 
 pub returns-clause-err : goal.returns-clause-err
 returns-clause-err g c =
-    endless_given _ _ (GaveLast g.S.Source.source c.args.source.now c.loop.source) c.loop.invariant.given.0 c.loop.reader c.loop.counter c.loop.invariant.given.1
+    endless_given _ _ (GaveLast g.S.Source.source c.args.source.now c.loop.source) c.loop.invariant.given.0
+    c.loop.reader c.loop.counter c.loop.invariant.given.1
     c.loop.invariant.given.2 c.loop.invariant.fine c.loop.invariant.given.3
     (let over = c.loop-test.false in omega arith)
 

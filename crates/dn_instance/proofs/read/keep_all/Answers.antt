@@ -41,7 +41,8 @@ returns-in_err-feed-clause-err g c =
     let more = Consumes-trans _ _ _ t piece c.loop.invariant.given.1 c.in_ok-bytes.ensures.bytes in
     let room : length c.loop.room ≡ 4096 = search rules in
     handed_on _ _ _ c.from_residual-in_err-feed.ensures
-    (copied _ _ (GaveLast g.S.Source.source c.args.source.now c.next_piece.new.source) (t ++ piece) _ _ (Err c.in_err-feed.field-0.0) more
+    (copied _ _ (GaveLast g.S.Source.source c.args.source.now c.next_piece.new.source) (t ++ piece) _ _
+    (Err c.in_err-feed.field-0.0) more
     (c.in_ok-keep_piece.ensures.ok ∙ ap (λ l. l ++ piece) c.loop.invariant.given.4 ∙ append_assoc _ t piece)
     (refused_given _ _ _ (GaveLast g.S.Source.source c.args.source.now c.next_piece.new.source) t piece c.loop.reader
     c.in_err-feed.field-0.0 c.loop.invariant.given.1 c.in_ok-bytes.ensures.bytes
@@ -78,8 +79,10 @@ loop-preserved g c =
 pub returns-clause-err : goal.returns-clause-err
 returns-clause-err g c =
     let t = c.loop.invariant.given.0 in
-    copied _ _ (GaveLast g.S.Source.source c.args.source.now c.loop.source) t _ _ (Err Endless) c.loop.invariant.given.1 c.loop.invariant.given.4
-    (endless_given _ _ (GaveLast g.S.Source.source c.args.source.now c.loop.source) t c.loop.reader c.loop.counter c.loop.invariant.given.1 c.loop.invariant.given.2
+    copied _ _ (GaveLast g.S.Source.source c.args.source.now c.loop.source) t _ _ (Err Endless)
+    c.loop.invariant.given.1 c.loop.invariant.given.4
+    (endless_given _ _ (GaveLast g.S.Source.source c.args.source.now c.loop.source) t c.loop.reader
+    c.loop.counter c.loop.invariant.given.1 c.loop.invariant.given.2
     c.loop.invariant.fine c.loop.invariant.given.3 (let over = c.loop-test.false in omega arith))
 
 pub returns-in_err-bytes-clause-err : goal.returns-in_err-bytes-clause-err
