@@ -179,12 +179,13 @@ has_put (step ∷ rest) more c =
     let same : step.0 ≡ more.0 = omega (arith, ints) in
     or_same (int_eq c step.0) (has_step rest c) ∙ ap (λ z. int_eq c z || (int_eq c step.0 || has_step rest c)) same))
 
-none_has : (c : ℤ) (steps : List (ℤ × ℤ)) → CostsAbove c steps → has_step steps c ≡ false
+-- breakpoints above a cost have no capacity at it
+pub none_has : (c : ℤ) (steps : List (ℤ × ℤ)) → CostsAbove c steps → has_step steps c ≡ false
 none_has c [] h = refl
 none_has c (step ∷ rest) h = ap (λ b. b || has_step rest c) (eq_below c step.0 h.0) ∙ none_has c rest h.1
 
 -- an insertion adds one breakpoint, unless there was one at this cost
-length_put : (steps : List (ℤ × ℤ)) (more : ℤ × ℤ) → AreSteps steps
+pub length_put : (steps : List (ℤ × ℤ)) (more : ℤ × ℤ) → AreSteps steps
     → length (put_step steps more) ≡ cond (has_step steps more.0) (length steps) (suc (length steps))
 length_put [] more s = refl
 length_put (step ∷ rest) more s =
@@ -272,3 +273,22 @@ entries_same xs ys h g s =
     let c = same_canon xs ys h g s in
     entries_are xs h ∙ ap (λ z. cond (int_lt (pos 0) z) 1 0 + length (arc_steps xs)) c.units
     ∙ ap (λ l. cond (int_lt (pos 0) (forced_units ys)) 1 0 + length l) c.steps ∙ sym (entries_are ys g)
+
+-- arcs that make no entries mean the same as no arcs
+pub no_curve : (arcs : List CostArc) → AllByRecursion IsCostArc arcs → cost_entries arcs ≡ 0 → SameCurve arcs []
+no_curve arcs h e =
+    let some = units_some arcs h in
+    let all = sym (entries_are arcs h) ∙ e in
+    let none : forced_units arcs ≡ pos 0 =
+    by_lt_z (pos 0) (forced_units arcs)
+    (λ lt. let one = ap {B = ℕ} (λ b. cond b 1 0) (test_yes (pos 0) (forced_units arcs) lt) in
+    absurd (omega (arith, one, all))) (λ le. omega (arith, ints)) in
+    let steps : arc_steps arcs ≡ [] = no_steps (arc_steps arcs) (omega (arith, all)) in
+    let is : canon arcs ≡ [] =
+    ap (λ u. listed One u (forced_cost arcs) (arc_steps arcs)) none
+    ∙ ap (λ l. listed One (pos 0) (forced_cost arcs) l) steps in
+    subst (λ l. SameCurve arcs l) is (curve_meaning.same_sym _ _ (canon_same arcs h))
+  where
+    no_steps : (l : List (ℤ × ℤ)) → length l ≡ 0 → l ≡ []
+    no_steps [] z = refl
+    no_steps (x ∷ l) z = cc

@@ -1,5 +1,5 @@
 -- The laws of `min` arcs as a kind. Their meaning determines their canonical arcs in each form.
-use Rattle.std.specs.Prelude.{◌≡◌, ℤ, ◌+ℤ◌, ◌<ℤ◌, List, [], ◌∷◌, ◌++◌, Option, Some, None, refl}
+use Rattle.std.specs.Prelude.{◌≡◌, ◌⊎◌, ◌-◌, ◌^◌, ℤ, pos, ◌+ℤ◌, ◌*ℤ◌, ◌<ℤ◌, List, [], ◌∷◌, ◌++◌, Option, Some, None, refl}
 use Rattle.std.proofs.Common.{sym, ap, subst, arith, ◌∙◌}
 use Rattle.std.proofs.lemmas.Int.{ints, by_lt_z}
 use Rattle.std.specs.List.{AllByRecursion}
@@ -9,6 +9,8 @@ use Rattle.dn_arc.specs.declared.arc.Form.TheVariants.{One, Two}
 use Rattle.dn_arc.specs.declared.difference.Gap.{Gap}
 use Rattle.dn_arc.specs.declared.difference.How.{How}
 use Rattle.dn_arc.specs.declared.difference.How.TheVariants.{Lengths, Totals, Costs}
+use Rattle.dn_arc.specs.Entries.{SpreadsForced}
+use Rattle.dn_arc.specs.Fillings.{forced_units, forced_cost}
 use Rattle.dn_arc.specs.Kinds.{costs}
 use Rattle.dn_arc.specs.State.Bundles.{IsKind, IsDetermined}
 use Rattle.dn_arc.specs.Splits.{LeastCost, cost_cap}
@@ -19,7 +21,7 @@ use Rattle.dn_arc.proofs.CurvesLaws.{curve_meaning, cost_cap_same}
 use Rattle.dn_arc.proofs.FormsLaws.{form_one_arcs, form_two_arcs}
 use Rattle.dn_arc.proofs.FormTwoLaws.{determination_of_forms}
 use Rattle.dn_arc.proofs.DifferencesLaws.{cost_of_one, cost_of_same, curves_differ}
-use Rattle.dn_arc.proofs.CanonsLaws.{entries_same}
+use Rattle.dn_arc.proofs.CanonsLaws.{same_canon, entries_same, no_curve}
 use Rattle.dn_arc.proofs.SoundLaws.{caps_some}
 
 abbrev all_numbers : Option CostArc → List ℤ
@@ -98,6 +100,20 @@ same_differ xs xs' ys ys' (Costs g) s t d = same_gap xs xs' ys ys' g s t d
 same_differ xs xs' ys ys' (Lengths l r) s t d = d
 same_differ xs xs' ys ys' (Totals l r) s t d = d
 
+same_spreads : (xs ys : List CostArc) (a : CostArc) → AllByRecursion IsCostArc xs → AllByRecursion IsCostArc ys
+    → SameCurve xs ys → SpreadsForced xs a → SpreadsForced ys a
+same_spreads xs ys a h g s m =
+    let c = same_canon xs ys h g s in
+    record {
+      there = subst (λ z. pos 0 <ℤ z) c.units m.there;
+      adds = m.adds;
+      other =
+          subst (λ z. (forced_cost ys ≡ z *ℤ a.cost → ⊥) ⊎ (pos (2 ^ 32 - 1) <ℤ (z +ℤ a.low))) c.units
+          (subst
+          (λ z. (z ≡ forced_units xs *ℤ a.cost → ⊥) ⊎ (pos (2 ^ 32 - 1) <ℤ (forced_units xs +ℤ a.low))) c.cost
+          m.other);
+    }
+
 pub cost_kind : IsKind costs
 cost_kind = record {
   meaning = curve_meaning;
@@ -110,7 +126,9 @@ cost_kind = record {
   nothing_listed = λ form xs c s. determination_of_forms form xs [] c (none_canon form) s;
   same_capacity = cost_cap_same;
   same_entries = entries_same;
+  same_spreads = same_spreads;
   none_entries = refl;
+  no_entries = no_curve;
   none_differ = curves_differ;
   one_differ = one_differ;
   same_differ = same_differ;

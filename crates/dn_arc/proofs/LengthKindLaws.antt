@@ -36,6 +36,11 @@ same_entries [] (b ∷ ys) s = absurd (first_length b ys (length_meaning.same_sy
 same_entries (a ∷ xs) [] s = absurd (first_length a xs s)
 same_entries (a ∷ xs) (b ∷ ys) s = refl
 
+no_entries : (xs : List LengthArc) → AllByRecursion (λ (a : LengthArc). Unit {0}) xs → length_entries xs ≡ 0
+    → SameLength xs []
+no_entries [] h e = length_meaning.same_refl []
+no_entries (a ∷ xs) h e = cc
+
 one_differ : (xs ys : List LengthArc) (how other : How) → LengthsDiffer xs ys how → LengthsDiffer xs ys other
     → how ≡ other
 one_differ xs ys (Lengths l r) (Lengths l' r') d e =
@@ -63,7 +68,9 @@ length_kind = record {
   nothing_listed = λ form xs c s. lengths_determined xs [] c tt s;
   same_capacity = λ xs ys h g s. refl;
   same_entries = λ xs ys h g s. same_entries xs ys s;
+  same_spreads = λ xs ys a h g s m. m;
   none_entries = refl;
+  no_entries = no_entries;
   none_differ = lengths_differ;
   one_differ = one_differ;
   same_differ = same_differ;

@@ -1,12 +1,12 @@
--- Ordered pairs as keys.
-use Rattle.std.proofs.Common.{◌≡◌, ℤ, true, refl}
+-- Ordered pairs as keys, and their arcs.
+use Rattle.std.proofs.Common.{◌≡◌, ℤ, List, [], ◌∷◌, ◌++◌, Bool, true, false, cond, refl, ap}
 use Rattle.std.specs.Ordering.{int_cmp, is_eq, ordering_reverse}
 use Rattle.std.specs.declared.cmp.Ordering.{Ordering}
 use Rattle.std.specs.declared.cmp.Ordering.TheVariants.{Less, Equal, Greater}
 use Rattle.std.specs.Cmp.{IsTotalOrder, IsEquivalence}
 use Rattle.std.proofs.lemmas.Cmp.{int_cmp_total, then_total, on_total, eq_by_cmp_equiv}
 use Rattle.std.proofs.lemmas.Map.Lookups.{exact_pairs, exact_signed}
-use Rattle.dn_arc.specs.Pairs.{pair_cmp, same_pair}
+use Rattle.dn_arc.specs.Pairs.{bundle, pair_cmp, same_pair}
 
 -- an ordering that tests as equal is `Equal`
 pub equal_is : (o : Ordering) → is_eq o ≡ true → o ≡ Equal
@@ -45,3 +45,16 @@ pair_total = then_total (on_total (λ (p : ℤ × ℤ). p.0) int_cmp_total) (on_
 -- `same_pair` is an equivalence
 pub pair_equiv : IsEquivalence same_pair
 pair_equiv = eq_by_cmp_equiv pair_total
+
+module _ {Arc : Type 0} where
+  -- the bundle of a pair with one more arc
+  pub bundle_push : (p : ℤ × ℤ) (xs : List ((ℤ × ℤ) × Arc)) (a : (ℤ × ℤ) × Arc)
+      → bundle p (xs ++ a ∷ []) ≡ bundle p xs ++ cond (same_pair p a.0) (a.1 ∷ []) []
+  bundle_push p [] a = refl
+  bundle_push p (x ∷ xs) a =
+      by_test (same_pair p x.0) (bundle p xs) (cond (same_pair p a.0) (a.1 ∷ []) []) (bundle p (xs ++ a ∷ []))
+      (bundle_push p xs a)
+    where
+      by_test : (t : Bool) (us vs ws : List Arc) → ws ≡ us ++ vs → cond t (x.1 ∷ ws) ws ≡ cond t (x.1 ∷ us) us ++ vs
+      by_test true us vs ws e = ap (λ l. x.1 ∷ l) e
+      by_test false us vs ws e = e

@@ -1,8 +1,9 @@
 -- The laws of `max` arcs as a kind. Their meaning determines canonical arcs, and the arcs listed for a total capacity
 -- are canonical and fit 64 bits if the total does.
-use Rattle.std.specs.Prelude.{◌≡◌, ◌-◌, ◌^◌, ℤ, pos, ◌+ℤ◌, ◌≤ℤ◌, ◌<ℤ◌, List, [], ◌∷◌, ◌++◌, Option, Some, None, cond, int_lt, refl}
+use Rattle.std.specs.Prelude.{◌≡◌, ◌-◌, ◌^◌, ℕ, ℤ, pos, ◌+ℤ◌, ◌≤ℤ◌, ◌<ℤ◌, List, [], ◌∷◌, ◌++◌, Option, Some, None, cond, int_lt, refl}
 use Rattle.std.proofs.Common.{ap, arith, sym, ◌∙◌}
-use Rattle.std.proofs.lemmas.Int.{ints}
+use Rattle.std.proofs.lemmas.Int.{ints, by_lt_z}
+use Rattle.dn_arc.proofs.PartsLaws.{test_yes}
 use Rattle.std.specs.List.{AllByRecursion}
 use Rattle.std.specs.Int.Signed.{≤ℤ_refl}
 use Rattle.dn_arc.specs.declared.arc.CapArc.{CapArc}
@@ -11,6 +12,7 @@ use Rattle.dn_arc.specs.declared.difference.How.TheVariants.{Lengths, Totals, Co
 use Rattle.dn_arc.specs.Kinds.{capacities}
 use Rattle.dn_arc.specs.State.Bundles.{IsKind, IsDetermined, NumbersFit}
 use Rattle.dn_arc.specs.Capacities.{total_cap}
+use Rattle.dn_arc.specs.Entries.{cap_entries}
 use Rattle.dn_arc.specs.State.Capacities.{cap_listed}
 use Rattle.dn_arc.specs.Meanings.{SameTotal}
 use Rattle.dn_arc.specs.Canonical.{IsCapArc, AreCanonCaps}
@@ -34,6 +36,14 @@ total-append (a ∷ xs) ys = let i = total-append xs ys in omega (arith, ints)
 pub total_some : (xs : List CapArc) → AllByRecursion IsCapArc xs → pos 0 ≤ℤ total_cap xs
 total_some [] h = ≤ℤ_refl _
 total_some (a ∷ xs) h = let some = h.0.some in let i = total_some xs h.1 in omega (arith, ints)
+
+no_total : (xs : List CapArc) → AllByRecursion IsCapArc xs → cap_entries xs ≡ 0 → total_cap xs ≡ pos 0
+no_total xs h e =
+    let some = total_some xs h in
+    by_lt_z (pos 0) (total_cap xs)
+    (λ lt. let one = ap {B = ℕ} (λ b. cond b 1 0) (test_yes (pos 0) (total_cap xs) lt) in
+    absurd (omega (arith, one, e)))
+    (λ le. omega (arith, ints))
 
 canon_arcs : (xs : List CapArc) → AreCanonCaps xs → AllByRecursion IsCapArc xs
 canon_arcs [] c = tt
@@ -65,7 +75,9 @@ total_kind = record {
   nothing_listed = λ form xs c s. totals_determined xs [] c tt s;
   same_capacity = λ xs ys h g s. s.is;
   same_entries = λ xs ys h g s. ap (λ z. cond (int_lt (pos 0) z) 1 0) s.is;
+  same_spreads = λ xs ys a h g s m. m;
   none_entries = refl;
+  no_entries = λ xs h e. record { is = no_total xs h e };
   none_differ = totals_differ;
   one_differ = one_differ;
   same_differ = same_differ;

@@ -1,9 +1,11 @@
--- How many entries the arcs of one ordered pair make, which is what must be kept of them (this project's profile).
-use Rattle.std.specs.Prelude.{ℕ, ◌+◌, ℤ, pos, List, [], ◌∷◌, length, Bool, cond, filter, map, int_lt}
+-- How many entries the arcs of one ordered pair make, which is what must be kept of them, and which arc of a `min` pair
+-- needs memory besides (this project's profile).
+use Rattle.std.specs.Prelude.{◌≡◌, ◌⊎◌, ◌-◌, ◌^◌, ℕ, ◌+◌, ℤ, pos, ◌+ℤ◌, ◌*ℤ◌, ◌<ℤ◌, List, [], ◌∷◌, length, Bool, cond, filter, map, int_lt}
 use Rattle.std.specs.List.{list_any}
 use Rattle.std.specs.Ordering.{int_eq}
 use Rattle.dn_arc.specs.Capacities.{total_cap}
 use Rattle.dn_arc.specs.Canonical.{has_low}
+use Rattle.dn_arc.specs.Fillings.{forced_units, forced_cost}
 use Rattle.dn_arc.specs.declared.arc.LengthArc.{LengthArc}
 use Rattle.dn_arc.specs.declared.arc.CapArc.{CapArc}
 use Rattle.dn_arc.specs.declared.arc.CostArc.{CostArc}
@@ -33,3 +35,10 @@ free_costs arcs = distinct int_eq (map (λ (a : CostArc). a.cost) (filter has_ro
 -- `min`: one entry if a LOW is above 0, and one for each different cost of free capacity
 abbrev pub cost_entries : List CostArc → ℕ
 cost_entries arcs = cond (list_any has_low arcs) 1 0 + length (free_costs arcs)
+
+-- `min`: the arc adds to forced units that are there, at another cost per unit than theirs, or to more than 2^32 - 1
+pub record SpreadsForced (arcs : List CostArc) (a : CostArc) : Type 0 where
+  pub there : pos 0 <ℤ forced_units arcs
+  pub adds : pos 0 <ℤ a.low
+  pub other : (forced_cost arcs ≡ forced_units arcs *ℤ a.cost → ⊥)
+      ⊎ (pos (2 ^ 32 - 1) <ℤ (forced_units arcs +ℤ a.low))

@@ -6,7 +6,7 @@ use Rattle.dn_arc.specs.Splits.{cost_cap}
 use Rattle.dn_arc.specs.Meanings.{SameLength, SameTotal, SameCurve}
 use Rattle.dn_arc.specs.Canonical.{IsCapArc, IsCostArc, AreCanonLengths, AreCanonCaps, AreCanonCosts}
 use Rattle.dn_arc.specs.Differences.{LengthsDiffer, TotalsDiffer, CurvesDiffer}
-use Rattle.dn_arc.specs.Entries.{length_entries, cap_entries, cost_entries}
+use Rattle.dn_arc.specs.Entries.{length_entries, cap_entries, cost_entries, SpreadsForced}
 use Rattle.dn_arc.specs.declared.arc.LengthArc.{LengthArc}
 use Rattle.dn_arc.specs.declared.arc.CapArc.{CapArc}
 use Rattle.dn_arc.specs.declared.arc.CostArc.{CostArc}
@@ -29,6 +29,8 @@ pub record ArcKind (Arc : Type 0) : Type 1 where
   pub IsCanon : Form → List Arc → Type 0
   -- how many entries the arcs of one pair make
   pub entries : List Arc → ℕ
+  -- one more arc of the pair needs memory, even if it makes no entry
+  pub Spreads : List Arc → Arc → Type 0
   -- the first difference in meaning between two lists of arcs of one pair
   pub Differ : List Arc → List Arc → How → Type 0
 
@@ -57,6 +59,7 @@ lengths = record {
   Same = SameLength;
   IsCanon = λ form. AreCanonLengths;
   entries = length_entries;
+  Spreads = λ arcs a. ⊥;
   Differ = LengthsDiffer;
 }
 
@@ -70,6 +73,7 @@ capacities = record {
   Same = SameTotal;
   IsCanon = λ form. AreCanonCaps;
   entries = cap_entries;
+  Spreads = λ arcs a. ⊥;
   Differ = TotalsDiffer;
 }
 
@@ -83,5 +87,6 @@ costs = record {
   Same = SameCurve;
   IsCanon = AreCanonCosts;
   entries = cost_entries;
+  Spreads = SpreadsForced;
   Differ = CurvesDiffer;
 }

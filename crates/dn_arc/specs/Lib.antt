@@ -5,7 +5,7 @@ pub mod Splits
 pub mod Meanings
 pub mod Canonical
 pub mod Differences
+pub mod Fillings
 pub mod Entries
 pub mod Kinds
-pub mod Fillings
 pub mod State

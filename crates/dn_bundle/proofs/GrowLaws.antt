@@ -176,7 +176,7 @@ pushed units cost total steps a s =
     let f = sound_cap units cost total steps s One in
     omega (arith, ints)
 
-two_are : (a b : ℤ) → FitsSigned w64 a → FitsSigned w64 b → to_z w64 (of_z w64 a) +ℤ to_z w64 (of_z w64 b) ≡ a +ℤ b
+pub two_are : (a b : ℤ) → FitsSigned w64 a → FitsSigned w64 b → to_z w64 (of_z w64 a) +ℤ to_z w64 (of_z w64 b) ≡ a +ℤ b
 two_are a b f g = rw (to_z-of_z w64 a f, to_z-of_z w64 b g) refl
 
 -- if the sum does not fit, the capacities sum to more than 2^63-1

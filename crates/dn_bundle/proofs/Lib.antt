@@ -6,6 +6,7 @@ pub mod FixedLaws
 pub mod CurveLaws
 pub mod WalkLaws
 pub mod FormLaws
+pub mod NewLaws
 pub mod LenLaws
 pub mod GapLaws
 pub mod PartLaws

@@ -1,5 +1,5 @@
 -- A breakpoint put among a few ones, and a few ones before those of a map.
-use Rattle.std.proofs.Common.{◌≡◌, ℕ, zero, suc, ◌+◌, ◌<◌, ◌≤◌, ℤ, pos, ◌+ℤ◌, ◌≤ℤ◌, ◌<ℤ◌, Bool, true, false, List, [], ◌∷◌, ◌++◌, Option, Some, None, length, slice_get, slice_set, refl, sym, ap, ◌∙◌, subst, arith, cond, append_assoc}
+use Rattle.std.proofs.Common.{◌≡◌, ℕ, zero, suc, ◌+◌, ◌<◌, ◌≤◌, ℤ, pos, ◌+ℤ◌, ◌≤ℤ◌, ◌<ℤ◌, Bool, true, false, ◌||◌, List, [], ◌∷◌, ◌++◌, Option, Some, None, length, slice_get, slice_set, refl, sym, ap, ◌∙◌, subst, arith, cond, append_assoc}
 use Rattle.std.specs.Int.RustNames.{int_lt}
 use Rattle.std.specs.List.{AllByRecursion, insert}
 use Rattle.std.specs.Ordering.{int_cmp}
@@ -14,10 +14,11 @@ use Rattle.std.specs.Int.{w64}
 use Rattle.std.specs.Int.RustNames.{FitsSigned}
 use Rattle.std.proofs.Common.{to_z, of_z, ◌-◌, ◌^◌}
 use Rattle.std.proofs.lemmas.Int.{to_z-of_z}
-use Rattle.dn_arc.proofs.StepArcsLaws.{steps_some}
+use Rattle.dn_arc.proofs.StepArcsLaws.{costs_lower, steps_some}
 use Rattle.dn_arc.proofs.MeansLaws.{fits_some}
 use Rattle.dn_arc.specs.State.Steps.{steps_room}
-use Rattle.dn_arc.specs.State.Steps.{put_step, step_past, AreSteps}
+use Rattle.dn_arc.specs.State.Steps.{put_step, step_past, has_step, AreSteps}
+use Rattle.dn_arc.proofs.CanonsLaws.{eq_past, none_has}
 use Rattle.dn_bundle.specs.State.Spots.{spot, HoldsFew}
 use Rattle.dn_bundle.proofs.StepLaws.{put_before, put_past, put_at, insert_front}
 
@@ -109,6 +110,31 @@ put_other (x ∷ xs) ys step held h s =
     (λ e g. let is : x ≡ held = cc in
     sym (put_before x step (xs ++ ys) (subst (λ (p : ℤ × ℤ). step.0 <ℤ p.0) (sym is) s))) h
 
+-- where a breakpoint is inserted before one of the few, there was no capacity at its cost
+pub other_new : (xs ys : List (ℤ × ℤ)) (step held : ℤ × ℤ) → slice_get xs (spot xs step.0) ≡ Some held
+    → step.0 <ℤ held.0 → AreSteps (xs ++ ys) → has_step (xs ++ ys) step.0 ≡ false
+other_new [] ys step held h lt s = cc
+other_new (x ∷ xs) ys step held h lt s =
+    by_bool
+    (λ b. slice_get (x ∷ xs) (cond b (suc (spot xs step.0)) zero) ≡ Some held
+    → has_step (x ∷ xs ++ ys) step.0 ≡ false) (int_lt x.0 step.0)
+    (λ e g. ap (λ v. v || has_step (xs ++ ys) step.0) (eq_past step.0 x.0 (less_is x.0 step.0 e))
+    ∙ other_new xs ys step held g lt s.2)
+    (λ e g. let is : x ≡ held = cc in
+    let below = subst (λ (p : ℤ × ℤ). step.0 <ℤ p.0) (sym is) lt in
+    none_has step.0 (x ∷ xs ++ ys) (below, costs_lower step.0 x.0 (xs ++ ys) below s.1)) h
+
+-- where a breakpoint is above all the few ones, there is capacity at its cost only in the map
+pub rest_new : (xs ys : List (ℤ × ℤ)) (step : ℤ × ℤ) → slice_get xs (spot xs step.0) ≡ None
+    → has_step ys step.0 ≡ false → has_step (xs ++ ys) step.0 ≡ false
+rest_new [] ys step h new = new
+rest_new (x ∷ xs) ys step h new =
+    by_bool
+    (λ b. slice_get (x ∷ xs) (cond b (suc (spot xs step.0)) zero) ≡ None → has_step (x ∷ xs ++ ys) step.0 ≡ false)
+    (int_lt x.0 step.0)
+    (λ e g. ap (λ v. v || has_step (xs ++ ys) step.0) (eq_past step.0 x.0 (less_is x.0 step.0 e))
+    ∙ rest_new xs ys step g new) (λ e g. cc) h
+
 -- the capacity at one of the few costs is at most the total
 pub held_room : (xs ys : List (ℤ × ℤ)) (held : ℤ × ℤ) (i : ℕ) → slice_get xs i ≡ Some held → AreSteps (xs ++ ys)
     → (pos 1 ≤ℤ held.1) × (held.1 ≤ℤ steps_room (xs ++ ys))
@@ -170,6 +196,10 @@ module _ (xs ys now : List (ℤ × ℤ)) (step : ℤ × ℤ) (at : ℕ) (is : at
   pub rest_put : (new : List (ℤ × ℤ)) → slice_get xs at ≡ None → new ≡ put_step ys step → xs ++ new ≡ put_step now step
   rest_put new h e = ap (λ l. xs ++ l) e ∙ sym (put_rest xs ys step (ap (slice_get xs) (sym is) ∙ h)) ∙ put_view
 
+  pub rest_lacks : slice_get xs at ≡ None → has_step ys step.0 ≡ false → has_step now step.0 ≡ false
+  rest_lacks h new =
+      ap (λ l. has_step l step.0) (sym view) ∙ rest_new xs ys step (ap (slice_get xs) (sym is) ∙ h) new
+
   pub push_put : (few : List (ℤ × ℤ)) → slice_get xs at ≡ None → HoldsFew xs ys → length xs < 4
       → few ≡ xs ++ step ∷ [] → few ++ ys ≡ put_step now step
   push_put few h holds l e =
@@ -185,6 +215,10 @@ module _ (xs ys now : List (ℤ × ℤ)) (step : ℤ × ℤ) (at : ℕ) (is : at
     other_put new lt e =
         e ∙ ap (λ l. insert l at step) (sym view) ∙ ap (λ i. insert (xs ++ ys) i step) is
         ∙ put_other xs ys step held there lt ∙ put_view
+
+    pub other_lacks : step.0 <ℤ held.0 → AreSteps now → has_step now step.0 ≡ false
+    other_lacks lt s =
+        ap (λ l. has_step l step.0) (sym view) ∙ other_new xs ys step held there lt (subst AreSteps (sym view) s)
 
     pub merged_put : (few : List (ℤ × ℤ)) (sum : ℤ × ℤ) → held.0 ≤ℤ step.0 → few ≡ xs
         → sum ≡ (held.0, held.1 +ℤ step.1) → refill (length xs) xs (slice_set few at sum) ++ ys ≡ put_step now step

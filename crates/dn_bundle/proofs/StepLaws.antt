@@ -1,6 +1,6 @@
 -- Breakpoints in a map, with the first one outside it: insertions, ranges and look-ups of the map are those of
 -- breakpoints, and capacities that the code adds fit.
-use Rattle.std.proofs.Common.{◌≡◌, ◌-◌, ◌^◌, ℤ, pos, ◌+ℤ◌, ◌≤ℤ◌, ◌<ℤ◌, Bool, true, false, ◌&&◌, ◌||◌, not, List, [], ◌∷◌, Some, None, refl, sym, ap, ◌∙◌, subst, arith, cond, to_z, of_z}
+use Rattle.std.proofs.Common.{◌≡◌, ◌-◌, ◌^◌, ℤ, pos, ◌+ℤ◌, ◌≤ℤ◌, ◌<ℤ◌, Bool, true, false, ◌&&◌, ◌||◌, not, List, [], ◌∷◌, Some, None, refl, sym, ap, ◌∙◌, subst, arith, cond, to_z, of_z, Result, Ok, Err, OnErr}
 use Rattle.std.specs.Int.{w64}
 use Rattle.std.specs.Int.RustNames.{FitsSigned, int_lt}
 use Rattle.std.specs.List.{AllByRecursion, filter, slice_get}
@@ -141,6 +141,16 @@ has_is [] cost = refl
 has_is (step ∷ rest) cost =
     by_bool (λ b. is_some (cond b (Some step.1) (lookup (is_at (int_cmp cost)) rest)) ≡ (b || has_step rest cost))
     (is_at (int_cmp cost) step.0) refl (has_is rest cost)
+
+-- a map without this key has no capacity at this cost
+pub lacks : (es : List (ℤ × ℤ)) (cost : ℤ) → FitsSigned w64 cost
+    → lookup (is_at (int_cmp (to_z w64 (of_z w64 cost)))) es ≡ None → has_step es cost ≡ false
+lacks es cost f e =
+    sym (has_is es cost) ∙ ap is_some (subst (λ z. lookup (is_at (int_cmp z)) es ≡ None) (to_z-of_z w64 cost f) e)
+
+pub on_err : {A E P : Type 0} (r : Result A E) → P → OnErr r P
+on_err (Ok x) h = tt
+on_err (Err e) h = h
 
 -- the capacity at a cost is at most the total
 pub held_most : (es : List (ℤ × ℤ)) (cost : ℤ) → AreSteps es → (pos 0 ≤ℤ held es cost) × (held es cost ≤ℤ steps_room es)

@@ -2,7 +2,8 @@
 ghost use Rattle.std.specs.Prelude.{◌≡◌, ◌-◌, ◌^◌, pos, ◌≤ℤ◌, ◌<ℤ◌, ◌↔◌, [], ◌∷◌, ◌++◌, length, IsTrue, IfOk, OnOk, OnErr, slice_get};
 ghost use Rattle.std.specs.List.{AllByRecursion};
 ghost use Rattle.std.specs.Option.{option_copied};
-ghost use Rattle.dn_arc.specs.State.Bundles.{BundleWords, Gains, IsAfter, IsBundleOf, IsHow, IsKind, NumbersFit, PassesSum, listed_of, meant};
+ghost use Rattle.dn_arc.specs.State.Bundles.{BundleWords, Gains, IsAfter, IsBundleOf, IsHow, IsKind, NumbersFit, PassesSum, Widens, listed_of, meant};
+ghost use Rattle.dn_arc.specs.State.Kinds.{NeedsMore};
 ghost use Rattle.dn_arc.specs.declared.arc.Form.{Form};
 
 use dn_arc::{Form, How, Parts};
@@ -37,20 +38,23 @@ pub trait Bundle: Sized + Drop {
         requires { bundle.kind.IsArc arc }
         ensures ok { IfOk result (IsBundleOf bundle arc) }
         ensures fits { bundle.kind.capacity (arc ∷ []) ≤ℤ pos (2 ^ 63 - 1) }
-        ensures memory { OnErr result (IsTrue bundle.wants_memory) };
+        ensures memory { OnErr result (IsTrue bundle.wants_memory) }
+        ensures widens { OnErr result (NeedsMore bundle.kind [] arc) };
 
     /// Whether a problem may have this arc.
     fn is_arc(arc: &Self::Arc) -> bool
         ensures { IsTrue result ↔ bundle.kind.IsArc arc.now };
 
     /// Adds an arc. Returns `Sum` if the capacities would sum to more than 2^63-1, which is checked before any
-    /// allocation, and `Memory` if an allocation fails. After an error, the bundle is unchanged.
+    /// allocation, and `Memory` if an allocation fails. Allocates only for an arc that makes another entry, or spreads
+    /// the forced units. After an error, the bundle is unchanged.
     fn add(&mut self, arc: Self::Arc) -> Result<(), BundleFault>
         requires { bundle.kind.IsArc arc }
         ensures ok { OnOk result (Gains bundle self.old self.new arc) }
         ensures err { OnErr result (self.new ≡ self.old) }
         ensures sum { (result ≡ Err BundleFault.Sum) ↔ PassesSum bundle self.old arc }
-        ensures memory { (result ≡ Err BundleFault.Memory) → IsTrue bundle.wants_memory };
+        ensures memory { (result ≡ Err BundleFault.Memory) → IsTrue bundle.wants_memory }
+        ensures widens { (result ≡ Err BundleFault.Memory) → Widens bundle self.old arc };
 
     /// Whether both bundles mean the same.
     fn same(&self, other: &Self) -> bool

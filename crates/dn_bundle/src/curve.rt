@@ -9,7 +9,7 @@ ghost use Rattle.dn_arc.specs.Entries.{free_costs};
 ghost use Rattle.dn_arc.specs.Differences.{IsCostOf};
 ghost use Rattle.dn_arc.specs.State.CurveListed.{listed, fixed_arcs, step_arc, fixed_list, HasNext, is_free};
 ghost use Rattle.dn_bundle.specs.State.Gaps.{IsGapOf};
-ghost use Rattle.dn_bundle.specs.State.Shapes.{numbers_of, AreSound};
+ghost use Rattle.dn_bundle.specs.State.Shapes.{numbers_of, AreSound, NeedsRoom};
 ghost use Rattle.dn_arc.proofs.SoundLaws.{IsSound-prop, sound_canonical, sound_same, sound_fit};
 ghost use Rattle.dn_arc.proofs.CostKindLaws.{cost_kind};
 ghost use Rattle.dn_arc.specs.declared.arc.Form.{Form};
@@ -195,6 +195,7 @@ impl Curve {
         ensures ok { OnOk result (SameCurve (listed Form.One self.new.units self.new.cost self.new.steps)
             (listed Form.One self.old.units self.old.cost self.old.steps ++ arc ∷ [])) }
         ensures err { OnErr result (self.new ≡ self.old) }
+        ensures memory { OnErr result (NeedsRoom self.old.units self.old.cost self.old.steps arc) }
     {
         if let Err(fault) = self.shape.add(self.alloc, arc, total) {
             return Err(fault);

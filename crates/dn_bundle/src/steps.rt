@@ -1,5 +1,5 @@
 // The breakpoints of a cost curve: its free capacity by ascending cost.
-ghost use Rattle.std.specs.Prelude.{◌≡◌, ◌-◌, ◌^◌, ℤ, pos, ◌+ℤ◌, ◌≤ℤ◌, ◌+◌, List, length, slice_get, OnOk, OnErr, ◌<◌, ◌≤◌};
+ghost use Rattle.std.specs.Prelude.{◌≡◌, ◌-◌, ◌^◌, ℤ, pos, ◌+ℤ◌, ◌≤ℤ◌, ◌<ℤ◌, ◌+◌, List, length, slice_get, false, OnOk, OnErr, ◌<◌, ◌≤◌};
 ghost use Rattle.std.specs.List.{insert};
 ghost use Rattle.std.specs.Iterator.{YieldsFirst, item_count};
 ghost use Rattle.std.specs.Option.{option_to_list};
@@ -43,6 +43,7 @@ fn put_in(map: &mut BTreeMap<i64, i64>, step: (i64, i64)) -> Result<(), AllocErr
     requires fits { (steps_room map.old.entries +ℤ step.1) ≤ℤ pos (2 ^ 63 - 1) }
     ensures ok { OnOk result (map.new.entries ≡ put_step map.old.entries step) }
     ensures err { OnErr result (map.new.entries ≡ map.old.entries) }
+    ensures memory { OnErr result (has_step map.old.entries step.0 ≡ false) }
 {
     let held = map.get(&step.0).copied().unwrap_or(0);
     map.insert(step.0, held + step.1)?;
@@ -204,6 +205,7 @@ impl Steps {
         requires fits { (steps_room self.old +ℤ step.1) ≤ℤ pos (2 ^ 63 - 1) }
         ensures ok { OnOk result (self.new ≡ put_step self.old step) }
         ensures err { OnErr result (self.new ≡ self.old) }
+        ensures memory { OnErr result (has_step self.old step.0 ≡ false) }
     {
         let at = place_in(&self.few, &step.0);
         match held_in(&self.few, at) {
@@ -232,6 +234,7 @@ impl Steps {
         requires fits { (steps_room self.old +ℤ step.1) ≤ℤ pos (2 ^ 63 - 1) }
         ensures ok { OnOk result (self.new ≡ add_step self.old step) }
         ensures err { OnErr result (self.new ≡ self.old) }
+        ensures memory { OnErr result ((pos 0 <ℤ step.1) × (has_step self.old step.0 ≡ false)) }
     {
         if 0 < step.1 {
             self.insert(step)

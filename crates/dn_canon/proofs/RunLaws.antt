@@ -3,6 +3,7 @@ use Rattle.std.proofs.Common.{ℕ, List, Option, Some, None, Result, Ok, Err, If
 use Rattle.dn_arc.specs.declared.arc.Form.{Form}
 use Rattle.dn_instance.specs.State.Helds.{IsHeld, parsed}
 use Rattle.dn_instance.specs.Instances.{Instance}
+use Rattle.dn_instance.specs.SourceReads.{AfterPulls}
 use Rattle.dn_instance.specs.State.SourceReads.{SourceOutcome}
 use Rattle.dn_instance.specs.Validity.{IsValid}
 use Rattle.dn_instance.specs.declared.held.Held.{Held}
@@ -14,29 +15,30 @@ use Rattle.dn_canon.specs.State.Writes.{WritesCanon}
 use Rattle.dn_sink.specs.Sinks.{SinkWords}
 
 -- after a text was read, the outcome of the run is that of writing
-pub run_written : {S : Type 0} (sink : SinkWords S) (old new : S) (form : Form) (given rest : Option (List ℕ))
-    (held : Held) (result : Result (Unit {0}) Refusal) → IfSome given (λ t. SourceOutcome t rest (Ok held))
+pub run_written : {S : Type 0} (sink : SinkWords S) (old new : S) (form : Form) (given : Option (List ℕ))
+    (left : AfterPulls) (held : Held) (result : Result (Unit {0}) Refusal)
+    → IfSome given (λ t. SourceOutcome t left (Ok held))
     → ((I : Instance) → IsValid I → IsHeld (parsed held) I → WritesCanon sink old new form I result)
-    → IfSome given (λ t. RunOutcome sink old new form t rest result)
-run_written sink old new form None rest held result o w = tt
-run_written sink old new form (Some t) rest held result o w =
+    → IfSome given (λ t. RunOutcome sink old new form t left result)
+run_written sink old new form None left held result o w = tt
+run_written sink old new form (Some t) left held result o w =
     by_result result (w o.0.0 (reads_valid t o.0.0 o.0.1) o.0.2)
   where
     by_result : (r : Result (Unit {0}) Refusal) → WritesCanon sink old new form o.0.0 r
-        → RunOutcome sink old new form t rest r
+        → RunOutcome sink old new form t left r
     by_result (Ok x) h = (o.0.0, o.0.1, o.1, h)
     by_result (Err Write) h = (o.0.0, o.0.1, o.1, h)
     by_result (Err CountTooLarge) h = (o.0.0, o.0.1, o.1, h)
     by_result (Err _) h = absurd h.2
 
 -- a refusal of reading is the outcome of the run
-pub run_refused : {S : Type 0} (sink : SinkWords S) (old new : S) (form : Form) (given rest : Option (List ℕ))
-    (e : Refusal) → IfSome given (λ t. SourceOutcome t rest (Err e))
-    → IfSome given (λ t. RunOutcome sink old new form t rest (Err e))
-run_refused sink old new form None rest e o = tt
-run_refused sink old new form (Some t) rest e o = by_refusal e o
+pub run_refused : {S : Type 0} (sink : SinkWords S) (old new : S) (form : Form) (given : Option (List ℕ))
+    (left : AfterPulls) (e : Refusal) → IfSome given (λ t. SourceOutcome t left (Err e))
+    → IfSome given (λ t. RunOutcome sink old new form t left (Err e))
+run_refused sink old new form None left e o = tt
+run_refused sink old new form (Some t) left e o = by_refusal e o
   where
-    by_refusal : (x : Refusal) → SourceOutcome t rest (Err x) → RunOutcome sink old new form t rest (Err x)
+    by_refusal : (x : Refusal) → SourceOutcome t left (Err x) → RunOutcome sink old new form t left (Err x)
     by_refusal (Text place code) h = h
     by_refusal Memory h = h
     by_refusal Read h = h

@@ -15,6 +15,7 @@ pub mod HeldLaws
 pub mod LineSteps
 pub mod CostItems
 pub mod SupplyItems
+pub mod NeedItems
 pub mod EndLaws
 pub mod PieceSteps
 pub mod ReaderLaws

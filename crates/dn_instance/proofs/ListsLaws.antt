@@ -9,13 +9,12 @@ use Rattle.dn_arc.specs.State.Bundles.{IsKind, listed_of}
 use Rattle.dn_arc.proofs.OrdersLaws.{same_push}
 use Rattle.dn_arc.specs.Pairs.{bundle, same_pair}
 use Rattle.dn_table.specs.State.Tables.{listed_at, Grows, TableLists, AreArcs, Stays}
-use Rattle.dn_arc.proofs.PairLaws.{pair_is, pair_self}
+use Rattle.dn_arc.proofs.PairLaws.{pair_is, pair_self, bundle_push}
 use Rattle.dn_table.proofs.PairLaws.{other_pair}
 use Rattle.dn_instance.proofs.SumLaws.{passes}
 use Rattle.dn_instance.specs.State.ItemFaults.{in_graph, arc_fault}
 use Rattle.dn_line.specs.declared.code.Code.TheVariants.{SumTooLarge}
 use Rattle.std.proofs.lemmas.Int.{ints, by_lt_z}
-use Rattle.dn_instance.proofs.ValidLaws.{bundle_push}
 use Rattle.dn_bundle.proofs.BundleLaws.{all_end}
 
 module _ {B Arc : Type 0} (kind : ArcKind Arc) (lists : B → List Arc) (laws : IsKind kind)

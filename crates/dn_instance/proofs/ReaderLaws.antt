@@ -1,9 +1,9 @@
 -- Lemmas on what a reader has read.
-use Rattle.std.proofs.Common.{◌≡◌, ℕ, ◌+◌, ◌≤◌, false, List, [], ◌∷◌, ◌++◌, length, take, drop, Option, Some, None, Ok, Err, Result, MatchOption, MatchResult, ◌⊎◌, inl, inr, refl, sym, ap, ◌∙◌, subst, arith, length-append, append-nil, append_assoc, pos, option_and_then}
+use Rattle.std.proofs.Common.{◌≡◌, ℕ, ◌+◌, ◌≤◌, List, [], ◌∷◌, ◌++◌, length, take, drop, Option, Some, None, Ok, Err, Result, MatchOption, MatchResult, ◌⊎◌, inl, inr, refl, sym, ap, ◌∙◌, subst, arith, length-append, append-nil, append_assoc, pos, option_and_then}
 use Rattle.std.proofs.Math.Seq.{take-append_seam}
 use Rattle.std.proofs.lemmas.List.{take_all, take-append-le}
 use Rattle.dn_line.specs.declared.code.Code.{Code}
-use Rattle.dn_line.specs.Words.{is_skip, said_words}
+use Rattle.dn_line.specs.Words.{said_words}
 use Rattle.dn_line.specs.Pieces.{lines}
 use Rattle.dn_instance.specs.declared.refusal.ItemFault.{ItemFault}
 use Rattle.dn_instance.specs.declared.refusal.ItemFault.TheVariants as Faults
@@ -12,7 +12,7 @@ use Rattle.dn_instance.specs.declared.reader.Reader.{Reader}
 use Rattle.dn_instance.specs.declared.refusal.Refusal.{Refusal}
 use Rattle.dn_instance.specs.declared.refusal.Refusal.TheVariants.{Text, Memory, Read, Endless, Write, CountTooLarge}
 use Rattle.dn_instance.specs.State.ItemFaults.{AnswersFault}
-use Rattle.dn_instance.specs.Readers.{ended}
+use Rattle.dn_instance.specs.Readers.{SpellsNeed, ended}
 use Rattle.dn_instance.specs.State.Readers.{lines_taken, IsNext, EntriesBefore, IsRefused, Fed, Outcome, answer_of}
 use Rattle.dn_instance.specs.State.ReaderStates.{Finishes, StopsIn, Takes, TakesAll, IsReading, ReaderAt}
 use Rattle.dn_instance.specs.State.Refusals.{refused_at}
@@ -24,7 +24,7 @@ use Rattle.dn_instance.proofs.LineSteps.{split, clean_more}
 use Rattle.dn_instance.proofs.PieceSteps.{More, ended_more, lines_more, rest_of, step_on, whole_of}
 use Rattle.dn_instance.proofs.SizeLaws.{problem_sized}
 use Rattle.dn_instance.specs.State.Ends.{EndsWith}
-use Rattle.dn_instance.specs.State.EntryCount.{entries_so_far}
+use Rattle.dn_instance.specs.EntryCount.{entries_so_far}
 use Rattle.dn_instance.specs.Items.{Problem, instance_as}
 use Rattle.dn_instance.specs.declared.held.Held.{Held}
 use Rattle.dn_instance.specs.declared.text_so_far.TextSoFar.{TextSoFar}
@@ -60,7 +60,7 @@ all_of ls l = take_all (length ls + 1) (ls ++ l ∷ []) (let n = length-append l
 -- the next line is refused
 pub refused_next : (ls : List (List ℕ)) (l : List ℕ) (number : ℕ) (fault : ItemFault) → IsClean ls
     → number ≡ length ls + 1 → AnswersFault (Err fault) (line_fault (length ls + 1) (items_of ls) (said_words l))
-    → (fault ≡ Faults.Memory → is_skip (said_words l) ≡ false)
+    → (fault ≡ Faults.Memory → SpellsNeed (items_of ls) (said_words l))
     → IsRefused (length ls) (ls ++ l ∷ []) (refused_at number fault)
 refused_next ls l number (Faults.Text code) clean n h item = fault_first ls l number code clean n h
 refused_next ls l number Faults.Memory clean n h item = record {

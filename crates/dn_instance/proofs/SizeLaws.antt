@@ -8,7 +8,7 @@ use Rattle.dn_line.specs.declared.line.Line.TheVariants as Item
 use Rattle.dn_line.specs.State.Spelling.{slots_of, kind_before}
 use Rattle.dn_arc.specs.Kinds.{costs, capacities, lengths}
 use Rattle.dn_instance.specs.Instances.{Instance, nodes_of, size_of}
-use Rattle.dn_instance.specs.State.EntryCount.{entries_as, entries_by, entries_so_far}
+use Rattle.dn_instance.specs.EntryCount.{entries_as, entries_by, entries_so_far}
 use Rattle.dn_table.proofs.EntryLaws.{graph_few, costs_few, capacities_few, lengths_few}
 use Rattle.dn_instance.specs.Items.{Problem, problem_in, problem_of, arcs_of, length_arc_in, cap_arc_in, cost_arc_in, by_key, source_in, query_in, point_in, counted, is_counted, instance_as, max_flow, graph_of, terminal_of}
 use Rattle.dn_line.specs.declared.kind.Letter.TheVariants.{S, T}

@@ -14,7 +14,7 @@ use Rattle.dn_instance.specs.declared.refusal.Refusal.TheVariants.{Text, Memory,
 use Rattle.dn_instance.specs.Readers.{ended, WantsMemory}
 use Rattle.dn_instance.specs.State.Readers.{IsRefused, Outcome, answer_of}
 use Rattle.dn_instance.specs.State.ReaderStates.{Finishes, IsFed, ReaderAt}
-use Rattle.dn_instance.specs.SourceReads.{CleanSoFar, PulledBytes, PulledWhileClean, RanOut, IsOfReading}
+use Rattle.dn_instance.specs.SourceReads.{AfterPulls, CleanSoFar, GaveLast, PulledBytes, PulledWhileClean, RanOut, IsOfReading}
 use Rattle.dn_instance.specs.State.SourceReads.{StopsInPiece, StopsAt, SourceOutcome, Copied, CopyOutcome, HoldsCopied, HoldsSome}
 use Rattle.dn_instance.specs.Texts.{IsClean}
 use Rattle.dn_instance.proofs.PieceSteps.{More, ended_more, lines_more}
@@ -32,30 +32,19 @@ front_lines given rest =
     }
 
 -- if a text was refused because memory ran out, memory ran out at a line of the last piece, or at the last line
-pub ran_out : (t : List ℕ) (new : Option (List ℕ)) → StopsAt t new Memory → RanOut t new
-ran_out t new (inl s) =
-    record {
-      before = s.before;
+pub ran_out : (t : List ℕ) (left : AfterPulls) → StopsAt t left Memory → RanOut t left
+ran_out t left (inl s) =
+    inl (record {
+      given = s.given;
       piece = s.piece;
       rest = s.rest;
       whole = s.whole;
-      rest_is = subst (λ o. IfSome o (λ left. left ≡ s.rest)) (sym s.rest_is) refl;
+      rest_is = s.rest_is;
+      pulled = s.pulled;
       short = s.short;
-      wants = inl s.refused;
-    }
-ran_out t new (inr s) = record {
-  before = t;
-  piece = [];
-  rest = [];
-  whole = sym (append-nil t);
-  rest_is = nothing_left new s.at_end;
-  short = omega arith;
-  wants = inr (refl, subst (λ x. WantsMemory (length (ended t)) (lines x)) (sym (append-nil t)) s.refused);
-}
-  where
-    nothing_left : (o : Option (List ℕ)) → IsAtEnd o → IfSome o (λ left. left ≡ [])
-    nothing_left None h = tt
-    nothing_left (Some left) h = h
+      wants = s.refused;
+    })
+ran_out t left (inr s) = inr (s.at_end, s.refused)
 
 -- a refusal is one after the first `before` lines, if memory ran out only after these
 refused_past : (before : ℕ) (ls : List (List ℕ)) (e : Refusal) → IsRefused 0 ls e → (e ≡ Memory → WantsMemory before ls)
@@ -68,37 +57,50 @@ refused_past before ls Endless h m = h
 refused_past before ls Write h m = h
 refused_past before ls CountTooLarge h m = h
 
-piece_outcome : (t : List ℕ) (new : Option (List ℕ)) (e : Refusal) → IsRefused 0 (lines t) e → StopsInPiece t new e
-    → SourceOutcome t new (Err e)
-piece_outcome t new (Text (Places.Line number) code) h s = (h, inl s)
-piece_outcome t new (Text Places.End code) h s = absurd h
-piece_outcome t new Memory h s = inl s
-piece_outcome t new Read h s = absurd h
-piece_outcome t new Endless h s = absurd h
-piece_outcome t new Write h s = absurd h
-piece_outcome t new CountTooLarge h s = absurd h
+piece_outcome : (t : List ℕ) (left : AfterPulls) (e : Refusal) → IsRefused 0 (lines t) e → StopsInPiece t left e
+    → SourceOutcome t left (Err e)
+piece_outcome t left (Text (Places.Line number) code) h s = (h, inl s)
+piece_outcome t left (Text Places.End code) h s = absurd h
+piece_outcome t left Memory h s = inl s
+piece_outcome t left Read h s = absurd h
+piece_outcome t left Endless h s = absurd h
+piece_outcome t left Write h s = absurd h
+piece_outcome t left CountTooLarge h s = absurd h
+
+-- a source after pulls
+abbrev pub after : Option (List ℕ) → (List ℕ → List ℕ → Type 0) → AfterPulls
+after gives Gave = record { gives = gives; Gave = Gave }
+
+-- the last of some pulls
+pub gave_last : {S : Type 0} (source : SourceWords S) (old before new : S) (given piece : List ℕ)
+    → PulledBytes source old before → Consumes (source.gives old) (source.gives before) given → source.Pulls before new
+    → Consumes (source.gives before) (source.gives new) piece → GaveLast source old new given piece
+gave_last source old before new given piece p c l d =
+    record { before = before; pulls = p; gave = c; last = l; gave_last = d }
 
 -- the outcome of a text that is refused at a piece
-pub refused_given : (old mid new : Option (List ℕ)) (given piece : List ℕ) (r : Reader) (e : Refusal)
-    → Consumes old mid given → Consumes mid new piece → length piece ≤ 2 ^ 12 → ReaderAt r given → r.refusal ≡ None
-    → IsRefused 0 (ended (given ++ piece)) e
+pub refused_given : (old mid new : Option (List ℕ)) (Gave : List ℕ → List ℕ → Type 0) (given piece : List ℕ)
+    (r : Reader) (e : Refusal)
+    → Consumes old mid given → Consumes mid new piece → Gave given piece → length piece ≤ 2 ^ 12 → ReaderAt r given
+    → r.refusal ≡ None → IsRefused 0 (ended (given ++ piece)) e
     → (e ≡ Memory → WantsMemory (length (ended given)) (ended (given ++ piece)))
-    → IfSome old (λ t. SourceOutcome t new (Err e))
-refused_given None mid new given piece r e c d short s none h m = tt
-refused_given (Some t) None new given piece r e c d short s none h m = absurd c
-refused_given (Some t) (Some both) None given piece r e c d short s none h m = absurd d
-refused_given (Some t) (Some both) (Some rest) given piece r e c d short s none h m =
+    → IfSome old (λ t. SourceOutcome t (after new Gave) (Err e))
+refused_given None mid new Gave given piece r e c d l short s none h m = tt
+refused_given (Some t) None new Gave given piece r e c d l short s none h m = absurd c
+refused_given (Some t) (Some both) None Gave given piece r e c d l short s none h m = absurd d
+refused_given (Some t) (Some both) (Some rest) Gave given piece r e c d l short s none h m =
     let all = given ++ piece in
     let whole : t ≡ given ++ (piece ++ rest) = c ∙ ap (λ l. given ++ l) d in
-    piece_outcome t (Some rest) e
+    piece_outcome t (after (Some rest) Gave) e
     (refused_on 0 0 (ended all) (lines t) e (omega arith)
     (subst (λ x. More (ended all) (lines x)) (append_assoc given piece rest ∙ sym whole) (front_lines all rest)) h)
     (record {
-      before = given;
+      given = given;
       piece = piece;
       rest = rest;
       whole = whole;
       rest_is = refl;
+      pulled = l;
       short =
           short;
       clean = (reading r given none s).read.clean;
@@ -137,12 +139,13 @@ pub refused_unread : (n : ℕ) (ls : List (List ℕ)) (e : Refusal) → IsRefuse
 refused_unread n ls e h is = subst (IsRefused n ls) is h
 
 -- the outcome of a source that does not end
-pub endless_given : (old new : Option (List ℕ)) (given : List ℕ) (r : Reader) (count : ℕ) → Consumes old new given
+pub endless_given : (old new : Option (List ℕ)) (Gave : List ℕ → List ℕ → Type 0) (given : List ℕ) (r : Reader)
+    (count : ℕ) → Consumes old new given
     → ReaderAt r given → r.refusal ≡ None → count ≤ length given → 2 ^ 40 ≤ count
-    → IfSome old (λ t. SourceOutcome t new (Err Endless))
-endless_given None new given r count c s none h k = tt
-endless_given (Some t) None given r count c s none h k = absurd c
-endless_given (Some t) (Some rest) given r count c s none h k = (
+    → IfSome old (λ t. SourceOutcome t (after new Gave) (Err Endless))
+endless_given None new Gave given r count c s none h k = tt
+endless_given (Some t) None Gave given r count c s none h k = absurd c
+endless_given (Some t) (Some rest) Gave given r count c s none h k = (
   record {
     given = given;
     rest = rest;
@@ -205,66 +208,71 @@ given_at_end old mid new given piece none c d =
     subst (λ l. Consumes old new l) (ap (λ l. given ++ l) none ∙ append-nil given)
     (Consumes-trans old mid new given piece c d)
 
-end_outcome : (t : List ℕ) (new : Option (List ℕ)) (r : Result Held Refusal) → IsAtEnd new → IsClean (ended t)
-    → (r ≡ Err Memory → WantsMemory (length (ended t)) (lines t)) → Outcome t r → SourceOutcome t new r
-end_outcome t new (Ok held) e clean m h = (h, e)
-end_outcome t new (Err (Text (Places.Line number) code)) e clean m h =
+end_outcome : (t : List ℕ) (left : AfterPulls) (r : Result Held Refusal) → IsAtEnd left.gives → IsClean (ended t)
+    → (r ≡ Err Memory → WantsMemory (length (ended t)) (lines t)) → Outcome t r → SourceOutcome t left r
+end_outcome t left (Ok held) e clean m h = (h, e)
+end_outcome t left (Err (Text (Places.Line number) code)) e clean m h =
     (h, inr (record { at_end = e; clean = clean; refused = h }))
-end_outcome t new (Err (Text Places.End code)) e clean m h =
+end_outcome t left (Err (Text Places.End code)) e clean m h =
     (h, inr (record { at_end = e; clean = clean; refused = h }))
-end_outcome t new (Err Memory) e clean m h = inr (record { at_end = e; clean = clean; refused = m refl })
-end_outcome t new (Err Read) e clean m h = absurd h
-end_outcome t new (Err Endless) e clean m h = absurd h
-end_outcome t new (Err Write) e clean m h = absurd h
-end_outcome t new (Err CountTooLarge) e clean m h = absurd h
+end_outcome t left (Err Memory) e clean m h = inr (record { at_end = e; clean = clean; refused = m refl })
+end_outcome t left (Err Read) e clean m h = absurd h
+end_outcome t left (Err Endless) e clean m h = absurd h
+end_outcome t left (Err Write) e clean m h = absurd h
+end_outcome t left (Err CountTooLarge) e clean m h = absurd h
 
 -- the outcome of a source that is at its end, and all of whose bytes the reader has read
-pub ended_given : (old new : Option (List ℕ)) (given : List ℕ) (r : Reader) (a : Result Held Refusal)
+pub ended_given : (old new : Option (List ℕ)) (Gave : List ℕ → List ℕ → Type 0) (given : List ℕ) (r : Reader)
+    (a : Result Held Refusal)
     → Consumes old new given → IsAtEnd new → ReaderAt r given → r.refusal ≡ None
     → (a ≡ Err Memory → WantsMemory (length (ended given)) (lines given)) → Outcome given a
-    → IfSome old (λ t. SourceOutcome t new a)
-ended_given None new given r a c e s none m h = tt
-ended_given (Some t) None given r a c e s none m h = absurd c
-ended_given (Some t) (Some rest) given r a c e s none m h =
+    → IfSome old (λ t. SourceOutcome t (after new Gave) a)
+ended_given None new Gave given r a c e s none m h = tt
+ended_given (Some t) None Gave given r a c e s none m h = absurd c
+ended_given (Some t) (Some rest) Gave given r a c e s none m h =
     let all : t ≡ given = c ∙ ap (λ l. given ++ l) e ∙ append-nil given in
-    subst (λ l. SourceOutcome l (Some rest) a) (sym all)
-    (end_outcome given (Some rest) a e (reading r given none s).read.clean m h)
+    subst (λ l. SourceOutcome l (after (Some rest) Gave) a) (sym all)
+    (end_outcome given (after (Some rest) Gave) a e (reading r given none s).read.clean m h)
 
-copy_outcome : (t : List ℕ) (new : Option (List ℕ)) (old_copy new_copy : List ℕ) (r : Result Held Refusal)
-    → SourceOutcome t new r → Copied t new old_copy new_copy → CopyOutcome t new old_copy new_copy r
-copy_outcome t new old_copy new_copy (Ok held) h k = (h, k)
-copy_outcome t new old_copy new_copy (Err (Text place code)) h k = (h, k)
-copy_outcome t new old_copy new_copy (Err Memory) h k = inl (h, k)
-copy_outcome t new old_copy new_copy (Err Read) h k = (h, k)
-copy_outcome t new old_copy new_copy (Err Endless) h k = (h, k)
-copy_outcome t new old_copy new_copy (Err Write) h k = absurd h
-copy_outcome t new old_copy new_copy (Err CountTooLarge) h k = absurd h
+copy_outcome : (t : List ℕ) (left : AfterPulls) (old_copy new_copy : List ℕ) (r : Result Held Refusal)
+    → SourceOutcome t left r → Copied t left.gives old_copy new_copy → CopyOutcome t left old_copy new_copy r
+copy_outcome t left old_copy new_copy (Ok held) h k = (h, k)
+copy_outcome t left old_copy new_copy (Err (Text place code)) h k = (h, k)
+copy_outcome t left old_copy new_copy (Err Memory) h k = inl (h, k)
+copy_outcome t left old_copy new_copy (Err Read) h k = (h, k)
+copy_outcome t left old_copy new_copy (Err Endless) h k = (h, k)
+copy_outcome t left old_copy new_copy (Err Write) h k = absurd h
+copy_outcome t left old_copy new_copy (Err CountTooLarge) h k = absurd h
 
 -- the outcome if the copy has gained all bytes that the source gave
-pub copied : (old new : Option (List ℕ)) (given old_copy new_copy : List ℕ) (r : Result Held Refusal)
+pub copied : (old new : Option (List ℕ)) (Gave : List ℕ → List ℕ → Type 0) (given old_copy new_copy : List ℕ)
+    (r : Result Held Refusal)
     → Consumes old new given → new_copy ≡ old_copy ++ given
-    → IfSome old (λ t. SourceOutcome t new r) → IfSome old (λ t. CopyOutcome t new old_copy new_copy r)
-copied None new given old_copy new_copy r c k h = tt
-copied (Some t) None given old_copy new_copy r c k h = absurd c
-copied (Some t) (Some rest) given old_copy new_copy r c k h =
-    copy_outcome t (Some rest) old_copy new_copy r h
+    → IfSome old (λ t. SourceOutcome t (after new Gave) r)
+    → IfSome old (λ t. CopyOutcome t (after new Gave) old_copy new_copy r)
+copied None new Gave given old_copy new_copy r c k h = tt
+copied (Some t) None Gave given old_copy new_copy r c k h = absurd c
+copied (Some t) (Some rest) Gave given old_copy new_copy r c k h =
+    copy_outcome t (after (Some rest) Gave) old_copy new_copy r h
     (record { given = given; rest = rest; whole = c; rest_is = refl; copy = k })
 
 -- the outcome if memory runs out for the copy of a piece
-pub uncopied : (old mid new : Option (List ℕ)) (given piece old_copy new_copy : List ℕ) (e : Refusal) (r : Reader)
-    → Consumes old mid given → Consumes mid new piece → 0 < length piece → length piece ≤ 2 ^ 12
+pub uncopied : (old mid new : Option (List ℕ)) (Gave : List ℕ → List ℕ → Type 0)
+    (given piece old_copy new_copy : List ℕ) (e : Refusal) (r : Reader)
+    → Consumes old mid given → Consumes mid new piece → Gave given piece → 0 < length piece → length piece ≤ 2 ^ 12
     → new_copy ≡ old_copy ++ given → ReaderAt r given → r.refusal ≡ None → e ≡ Memory
-    → IfSome old (λ t. CopyOutcome t new old_copy new_copy (Err e))
-uncopied None mid new given piece old_copy new_copy e r c d l b k s none memory = tt
-uncopied (Some t) None new given piece old_copy new_copy e r c d l b k s none memory = absurd c
-uncopied (Some t) (Some both) None given piece old_copy new_copy e r c d l b k s none memory = absurd d
-uncopied (Some t) (Some both) (Some rest) given piece old_copy new_copy e r c d l b k s none memory =
-    subst (λ x. CopyOutcome t (Some rest) old_copy new_copy (Err x)) (sym memory) (inr (record {
+    → IfSome old (λ t. CopyOutcome t (after new Gave) old_copy new_copy (Err e))
+uncopied None mid new Gave given piece old_copy new_copy e r c d p l b k s none memory = tt
+uncopied (Some t) None new Gave given piece old_copy new_copy e r c d p l b k s none memory = absurd c
+uncopied (Some t) (Some both) None Gave given piece old_copy new_copy e r c d p l b k s none memory = absurd d
+uncopied (Some t) (Some both) (Some rest) Gave given piece old_copy new_copy e r c d p l b k s none memory =
+    subst (λ x. CopyOutcome t (after (Some rest) Gave) old_copy new_copy (Err x)) (sym memory) (inr (record {
       given = given;
       piece = piece;
       rest = rest;
       whole = c ∙ ap (λ l. given ++ l) d;
       rest_is = refl;
+      pulled = p;
       some = l;
       short = b;
       copy = k;
@@ -272,15 +280,16 @@ uncopied (Some t) (Some both) (Some rest) given piece old_copy new_copy e r c d 
     }))
 
 -- the outcome if the source fails, and the copy has gained all bytes that it gave
-pub failed_copy : (old mid new : Option (List ℕ)) (given old_copy new_copy : List ℕ) (e : Refusal) (r : Reader)
+pub failed_copy : (old mid new : Option (List ℕ)) (Gave : List ℕ → List ℕ → Type 0) (given old_copy new_copy : List ℕ)
+    (e : Refusal) (r : Reader)
     → Consumes old mid given → Keeps mid new → new_copy ≡ old_copy ++ given → ReaderAt r given → r.refusal ≡ None
     → e ≡ Read
-    → IfSome old (λ t. CopyOutcome t new old_copy new_copy (Err e))
-failed_copy None mid new given old_copy new_copy e r c d k s none read = tt
-failed_copy (Some t) None new given old_copy new_copy e r c d k s none read = absurd c
-failed_copy (Some t) (Some rest) None given old_copy new_copy e r c d k s none read = absurd d
-failed_copy (Some t) (Some rest) (Some left) given old_copy new_copy e r c d k s none read =
-    subst (λ x. CopyOutcome t (Some left) old_copy new_copy (Err x)) (sym read) (
+    → IfSome old (λ t. CopyOutcome t (after new Gave) old_copy new_copy (Err e))
+failed_copy None mid new Gave given old_copy new_copy e r c d k s none read = tt
+failed_copy (Some t) None new Gave given old_copy new_copy e r c d k s none read = absurd c
+failed_copy (Some t) (Some rest) None Gave given old_copy new_copy e r c d k s none read = absurd d
+failed_copy (Some t) (Some rest) (Some left) Gave given old_copy new_copy e r c d k s none read =
+    subst (λ x. CopyOutcome t (after (Some left) Gave) old_copy new_copy (Err x)) (sym read) (
       record {
         given = given;
         rest = left;
@@ -306,26 +315,28 @@ same_refusal a e f h k = cc
 
 -- the outcome after all bytes of a source were fed, or after feeding returned a refusal
 module _ (old new : Option (List ℕ)) (r : Reader) (a : Result Held Refusal) where
-  finished_given : (fed : IsFed old new r) → Finishes r a → IfSome old (λ t. SourceOutcome t new a)
-  finished_given fed h =
-      ended_given old new fed.given r a fed.gave fed.at_end fed.read fed.fine (h.memory fed.given fed.read fed.fine)
-      (h.outcome fed.given fed.read)
+  finished_given : (Gave : List ℕ → List ℕ → Type 0) (fed : IsFed old new r) → Finishes r a
+      → IfSome old (λ t. SourceOutcome t (after new Gave) a)
+  finished_given Gave fed h =
+      ended_given old new Gave fed.given r a fed.gave fed.at_end fed.read fed.fine
+      (h.memory fed.given fed.read fed.fine) (h.outcome fed.given fed.read)
 
-  pub finished : (fed : Result (Unit {0}) Refusal) → OnOk fed (IsFed old new r)
-      → IfErr fed (λ e. IfSome old (λ t. SourceOutcome t new (Err e)))
+  pub finished : (Gave : List ℕ → List ℕ → Type 0) (fed : Result (Unit {0}) Refusal) → OnOk fed (IsFed old new r)
+      → IfErr fed (λ e. IfSome old (λ t. SourceOutcome t (after new Gave) (Err e)))
       → MatchResult fed (λ x. Finishes r a) (λ e. a ≡ Err e)
-      → IfSome old (λ t. SourceOutcome t new a)
-  finished (Ok x) ok err h = finished_given ok h
-  finished (Err e) ok err h = subst (λ x. IfSome old (λ t. SourceOutcome t new x)) (sym h) err
+      → IfSome old (λ t. SourceOutcome t (after new Gave) a)
+  finished Gave (Ok x) ok err h = finished_given Gave ok h
+  finished Gave (Err e) ok err h = subst (λ x. IfSome old (λ t. SourceOutcome t (after new Gave) x)) (sym h) err
 
-  pub finished_copy : (old_copy new_copy : List ℕ) (fed : Result (Unit {0}) Refusal)
-      → OnOk fed ((all : IsFed old new r) × (new_copy ≡ old_copy ++ all.given))
-      → IfErr fed (λ e. IfSome old (λ t. CopyOutcome t new old_copy new_copy (Err e)))
-      → MatchResult fed (λ x. Finishes r a) (λ e. a ≡ Err e) → IfSome old (λ t. CopyOutcome t new old_copy new_copy a)
-  finished_copy old_copy new_copy (Ok x) ok err h =
-      copied old new ok.0.given old_copy new_copy a ok.0.gave ok.1 (finished_given ok.0 h)
-  finished_copy old_copy new_copy (Err e) ok err h =
-      subst (λ x. IfSome old (λ t. CopyOutcome t new old_copy new_copy x)) (sym h) err
+  pub finished_copy : (Gave : List ℕ → List ℕ → Type 0) (old_copy new_copy : List ℕ)
+      (fed : Result (Unit {0}) Refusal) → OnOk fed ((all : IsFed old new r) × (new_copy ≡ old_copy ++ all.given))
+      → IfErr fed (λ e. IfSome old (λ t. CopyOutcome t (after new Gave) old_copy new_copy (Err e)))
+      → MatchResult fed (λ x. Finishes r a) (λ e. a ≡ Err e)
+      → IfSome old (λ t. CopyOutcome t (after new Gave) old_copy new_copy a)
+  finished_copy Gave old_copy new_copy (Ok x) ok err h =
+      copied old new Gave ok.0.given old_copy new_copy a ok.0.gave ok.1 (finished_given Gave ok.0 h)
+  finished_copy Gave old_copy new_copy (Err e) ok err h =
+      subst (λ x. IfSome old (λ t. CopyOutcome t (after new Gave) old_copy new_copy x)) (sym h) err
 
   pub finished_by_reading : (fed : Result (Unit {0}) Refusal) → OnOk fed (IsFed old new r) → IfErr fed IsOfReading
       → MatchResult fed (λ x. Finishes r a) (λ e. a ≡ Err e) → IfErr a IsOfReading

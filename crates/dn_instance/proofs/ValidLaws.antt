@@ -24,7 +24,7 @@ use Rattle.dn_instance.specs.Validity.{Fits, IsNode, IsId, IsPlaced, IsValidGrap
 use Rattle.dn_instance.specs.Items.{Problem, problem_in, problem_of, kind_known, arcs_of, length_arc_in, cap_arc_in, cost_arc_in, by_key, supply_in, supplies_of, terminal_in, terminal_of, source_in, query_in, point_in, graph_of, max_flow, instance_as}
 use Rattle.dn_instance.specs.TextFaults.{is_in_range, ids_in, is_companion, is_id, other_letter}
 use Rattle.dn_instance.specs.Texts.{items_of, IsClean, Reads}
-use Rattle.dn_arc.proofs.PairLaws.{pair_is}
+use Rattle.dn_arc.proofs.PairLaws.{pair_is, bundle_push}
 use Rattle.dn_instance.proofs.SumLaws.{passes, total_passes, cost_passes}
 use Rattle.dn_instance.proofs.CleanItems.{IsNext, by_items, problem_push, or_none, or_assoc}
 use Rattle.dn_instance.proofs.MapLaws.{each_put, map_put, by_key_push, no_keys}
@@ -98,19 +98,6 @@ ids_in_range : (before : List Line) (i : Line) (p : Problem) → problem_of befo
 ids_in_range before i p h n =
     ap (λ o. list_all (is_in_range o) (ids_in i)) (sym h)
     ∙ not_false (list_all (is_in_range (problem_of before)) (ids_in i)) n.in_range
-
-module _ {Arc : Type 0} where
-  -- the bundle of a pair with one more arc
-  pub bundle_push : (p : ℤ × ℤ) (xs : List ((ℤ × ℤ) × Arc)) (a : (ℤ × ℤ) × Arc)
-      → bundle p (xs ++ a ∷ []) ≡ bundle p xs ++ cond (same_pair p a.0) (a.1 ∷ []) []
-  bundle_push p [] a = refl
-  bundle_push p (x ∷ xs) a =
-      by_test (same_pair p x.0) (bundle p xs) (cond (same_pair p a.0) (a.1 ∷ []) []) (bundle p (xs ++ a ∷ []))
-      (bundle_push p xs a)
-    where
-      by_test : (t : Bool) (us vs ws : List Arc) → ws ≡ us ++ vs → cond t (x.1 ∷ ws) ws ≡ cond t (x.1 ∷ us) us ++ vs
-      by_test true us vs ws e = ap (λ l. x.1 ∷ l) e
-      by_test false us vs ws e = e
 
 module _ {Arc : Type 0} (kind : ArcKind Arc) where
   -- a valid graph is valid with one more arc, if the CAPs of its pair do not sum to too much

@@ -5,6 +5,7 @@ pub mod Items
 pub mod TextFaults
 pub mod Texts
 pub mod Refusals
+pub mod EntryCount
 pub mod Readers
 pub mod SourceReads
 pub mod Companions

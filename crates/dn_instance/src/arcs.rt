@@ -1,5 +1,5 @@
 // Merges arcs into the bundles of their pairs as they arrive.
-ghost use Rattle.std.specs.Prelude.{◌≡◌, ◌↔◌, ℤ, List, [], ◌∷◌, ◌++◌, Bool, IsTrue, OnOk, OnErr, ◌&&◌};
+ghost use Rattle.std.specs.Prelude.{Err, ◌≡◌, ◌↔◌, ℤ, List, [], ◌∷◌, ◌++◌, Bool, IsTrue, OnOk, OnErr, ◌&&◌};
 ghost use Rattle.dn_arc.specs.declared.arc.Form.{Form};
 ghost use Rattle.std.specs.Prelude.{Some, ◌≤◌, length, take};
 ghost use Rattle.std.specs.List.{AllByRecursion};
@@ -14,7 +14,8 @@ ghost use Rattle.dn_instance.specs.TextFaults.{item_tests};
 ghost use Rattle.dn_instance.specs.State.ArcRuns.{Joins, arc_items};
 ghost use Rattle.dn_instance.specs.State.Drafts.{HasSigns, TableHolds};
 ghost use Rattle.dn_instance.specs.State.ItemFaults.{AnswersFault, in_graph, arc_fault};
-ghost use Rattle.dn_table.specs.State.Tables.{AreArcs, Stays, Lists};
+ghost use Rattle.dn_table.specs.State.Tables.{AreArcs, GraphNeedsMore, Stays, Lists};
+ghost use Rattle.dn_instance.specs.Readers.{NeedsMemory};
 
 use crate::ahead::look_ahead;
 use crate::refusal::ItemFault;
@@ -46,6 +47,8 @@ fn take_arc<B: Bundle>(
         → Lists B.bundle table.old arcs → AreArcs B.bundle.kind arcs
         → OnOk result (Lists B.bundle table.new (arcs ++ (pair, arc) ∷ [])) }
     ensures err { OnErr result (table.new ≡ table.old) }
+    ensures memory { (arcs : List ((ℤ × ℤ) × B.Arc)) → Lists B.bundle table.old arcs → AreArcs B.bundle.kind arcs
+        → result ≡ Err ItemFault.Memory → GraphNeedsMore B.bundle.kind arcs (pair, arc) }
 {
     if !joins_nodes(nodes, &pair) {
         return Err(ItemFault::Text(Code::NodeOutOfRange));
@@ -80,7 +83,9 @@ pub(crate) trait LineBundle: Bundle {
             → AnswersFault result (first_fault (item_tests before (Some (arc_of text arc.now)))) }
         ensures stands { HasSigns (arc_of text arc.now) → (before : List Line) → holds table.old before
             → OnOk result (holds table.new (before ++ arc_of text arc.now ∷ [])) }
-        ensures err { OnErr result (table.new ≡ table.old) };
+        ensures err { OnErr result (table.new ≡ table.old) }
+        ensures memory { (before : List Line) (p : Problem) → problem_of before ≡ Some p → p.kind ≡ text
+            → holds table.old before → result ≡ Err ItemFault.Memory → NeedsMemory before (arc_of text arc.now) };
 }
 
 impl LineBundle for Least {

@@ -1,5 +1,5 @@
 // What the items so far make.
-ghost use Rattle.std.specs.Prelude.{◌≡◌, ◌<◌, ◌≤◌, ◌^◌, ℤ, List, ◌∷◌, ◌++◌, [], OnOk, OnErr, Some, length, take};
+ghost use Rattle.std.specs.Prelude.{◌≡◌, ◌<◌, ◌≤◌, ◌^◌, ℤ, List, ◌∷◌, ◌++◌, [], OnOk, OnErr, Err, Some, length, take};
 ghost use Rattle.std.specs.List.{AllByRecursion};
 ghost use Rattle.dn_line.specs.State.ArcLines.{arc_of};
 ghost use Rattle.dn_line.specs.declared.line.Line.{Line};
@@ -11,7 +11,8 @@ ghost use Rattle.dn_instance.specs.State.ItemFaults.{AnswersFault};
 ghost use Rattle.dn_instance.specs.State.ArcRuns.{Joins, arc_items};
 ghost use Rattle.dn_instance.specs.State.Drafts.{draft_kind, ComesNext, DraftHolds, HasSigns, IsDraftOf};
 ghost use Rattle.dn_instance.specs.State.Ends.{Makes};
-ghost use Rattle.dn_instance.specs.State.EntryCount.{entries_by};
+ghost use Rattle.dn_instance.specs.EntryCount.{entries_by};
+ghost use Rattle.dn_instance.specs.Readers.{NeedsMemory};
 
 use crate::arcs::{LineBundle, take_arcs};
 use crate::content::Content;
@@ -94,6 +95,8 @@ impl Draft {
         ensures unchanged { (before : List Line) → DraftHolds self.old before
             → OnErr result (DraftHolds self.new before) }
         ensures kept { draft_kind self.new ≡ draft_kind self.old }
+        ensures memory { (before : List Line) → ComesNext self.old nodes.now before line
+            → result ≡ Err ItemFault.Memory → NeedsMemory before line }
     {
         let arc = numbers_of(&line);
         match (self, line) {

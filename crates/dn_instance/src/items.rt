@@ -21,6 +21,7 @@ pub(crate) fn take_terminal(
     ensures answer { AnswersFault result (terminal_fault nodes.now own.old other.now id.now) }
     ensures ok { OnOk result (own.new ≡ Some id.now) }
     ensures err { OnErr result (own.new ≡ own.old) }
+    ensures memory { result ≡ Err ItemFault.Memory → ⊥ }
 {
     if !in_graph(nodes, id) {
         return Err(ItemFault::Text(Code::NodeOutOfRange));

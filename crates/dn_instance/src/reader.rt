@@ -101,8 +101,8 @@ impl Reader {
     /// # Errors
     ///
     /// `Text` with the first fault of the text, as soon as the LF of its line has arrived, and not before. `Memory`
-    /// only at a line that spells an item and has no fault. Once a call has returned a refusal, every later call
-    /// returns it.
+    /// only at a line that spells an item that needs memory and has no fault. Once a call has returned a refusal, every
+    /// later call returns it.
     pub fn feed(&mut self, piece: &[u8]) -> Result<(), Refusal>
         ensures stands { (t : List ℕ) → ReaderAt self.old t → ReaderAt self.new (t ++ piece.now) }
         ensures fed { (t : List ℕ) → ReaderAt self.old t → Fed (t ++ piece.now) result }

@@ -1,9 +1,9 @@
 // The complete lines of a text: how many they are, and what their items make.
-ghost use Rattle.std.specs.Prelude.{◌≡◌, ◌<◌, ◌≤◌, ◌≤ℤ◌, ℕ, ◌+◌, pos, length, take, List, ◌∷◌, ◌++◌, [], OnOk, OnErr, Err, Some, None, false};
+ghost use Rattle.std.specs.Prelude.{◌≡◌, ◌<◌, ◌≤◌, ◌≤ℤ◌, ℕ, ◌+◌, pos, length, take, List, ◌∷◌, ◌++◌, [], OnOk, OnErr, Err, Some, None};
 ghost use Rattle.dn_line.specs.declared.line.Line.{Line};
 ghost use Rattle.dn_line.specs.declared.word.Word.{Word};
 ghost use Rattle.dn_line.specs.LineTable.{kind_named};
-ghost use Rattle.dn_line.specs.Words.{first, is_skip, said_words};
+ghost use Rattle.dn_line.specs.Words.{first, said_words};
 ghost use Rattle.dn_line.specs.Faults.{first_fault, head_tests};
 ghost use Rattle.dn_line.specs.State.Reading.{head_of};
 ghost use Rattle.dn_line.specs.State.LineStates.{LineSoFar, LineReaderAt};
@@ -11,7 +11,8 @@ ghost use Rattle.dn_instance.specs.Items.{problem_in, is_counted};
 ghost use Rattle.dn_instance.specs.TextFaults.{is_companion, order_tests, item_tests, line_fault};
 ghost use Rattle.dn_instance.specs.State.Drafts.{draft_kind};
 ghost use Rattle.dn_instance.specs.State.Ends.{EndsWith};
-ghost use Rattle.dn_instance.specs.State.EntryCount.{entries_so_far};
+ghost use Rattle.dn_instance.specs.EntryCount.{entries_so_far};
+ghost use Rattle.dn_instance.specs.Readers.{NeedsMemory, SpellsNeed};
 ghost use Rattle.dn_instance.specs.State.ItemFaults.{AnswersFault};
 ghost use Rattle.dn_instance.specs.Texts.{items_of, with_next};
 ghost use Rattle.dn_instance.specs.State.TextsSoFar.{Awaits, HasRead, next_read, fault_next, TextAt, ReadsFront};
@@ -116,6 +117,8 @@ impl TextSoFar {
         ensures unchanged { (before : List Line) → HasRead self.old before
             → OnErr result (HasRead self.new before) }
         ensures kept { self.new.closed ≡ self.old.closed }
+        ensures memory { (before : List Line) → Awaits self.old before item → problem_in item ≡ None
+            → result ≡ Err ItemFault.Memory → NeedsMemory before item }
     {
         match self.draft.take(alloc, &self.nodes, item) {
             Ok(()) => {
@@ -142,7 +145,7 @@ impl TextSoFar {
         ensures kept { self.new.closed ≡ self.old.closed }
         ensures item { (items : List Line) (l : LineSoFar) → HasRead self.old items
             → LineReaderAt line.now l
-            → result ≡ Err ItemFault.Memory → is_skip (said_words l.bytes) ≡ false }
+            → result ≡ Err ItemFault.Memory → SpellsNeed items (said_words l.bytes) }
     {
         match self.read(line) {
             Ok(item) => match item {
@@ -171,7 +174,7 @@ impl TextSoFar {
             → OnOk result (TextAt self.new (ls ++ l.bytes ∷ [])) }
         ensures item { (ls : List (List ℕ)) (l : LineSoFar) → TextAt self.old ls
             → LineReaderAt line.now l
-            → result ≡ Err ItemFault.Memory → is_skip (said_words l.bytes) ≡ false }
+            → result ≡ Err ItemFault.Memory → SpellsNeed (items_of ls) (said_words l.bytes) }
         ensures unchanged { (ls : List (List ℕ)) → TextAt self.old ls
             → OnErr result (TextAt self.new ls) }
     {

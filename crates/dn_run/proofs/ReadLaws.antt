@@ -1,6 +1,7 @@
 -- Lemmas on what reading a text that a run asks for returns.
 use Rattle.std.proofs.Common.{◌≡◌, ℕ, List, [], ◌++◌, Option, Some, None, Result, Ok, Err, IsTrue, OnOk, IfOk, IfSome, IsErrOf, refl, sym, ap, ◌∙◌, subst, inl, inr, append-nil}
 use Rattle.std.specs.Io.KnownBytes.{IsAtEnd}
+use Rattle.dn_instance.specs.SourceReads.{AfterPulls, after_pulls}
 use Rattle.dn_instance.specs.State.SourceReads.{CopyOutcome, Copied, SourceOutcome, HoldsCopied, HoldsSome}
 use Rattle.dn_instance.specs.declared.held.Held.{Held}
 use Rattle.dn_instance.specs.declared.refusal.Refusal.{Refusal}
@@ -11,12 +12,15 @@ use Rattle.dn_run.specs.State.Texts.{IsRead, ReadsAs}
 
 module _ {T : Type 0} (text : AskedText T) where
   module _ (source : T) (comes : ComesOf text source) (fine : text.fault ≡ None) where
-    reads_as : (b : List ℕ) (r : Result Held Refusal) → SourceOutcome b (text.source.gives source) r
+    abbrev pub left : AfterPulls
+    left = after_pulls text.source comes.first source
+
+    reads_as : (b : List ℕ) (r : Result Held Refusal) → SourceOutcome b left r
         → (IsErrOf r Read → IsTrue (text.source.has_failed source)) → ReadsAs (IsRefusedText text) b r
     reads_as b (Ok held) h read = h.0
     reads_as b (Err (Text place code)) h read = h.0
     reads_as b (Err Memory) h read =
-        record { source = source; comes = comes; ran_out = ran_out b (text.source.gives source) h }
+        record { source = source; comes = comes; ran_out = ran_out b left h }
     reads_as b (Err Read) h read = (record { source = source; comes = comes; failed = read refl }, h)
     reads_as b (Err Endless) (c, many) read = record { source = source; comes = comes; clean = c; many = many }
     reads_as b (Err Write) h read = h
@@ -24,7 +28,7 @@ module _ {T : Type 0} (text : AskedText T) where
 
     -- reading the source that was handed out returns what `IsRead` says
     pub handed_reads : (given : Option (List ℕ)) (r : Result Held Refusal) → given ≡ text.behind
-        → IfSome given (λ b. SourceOutcome b (text.source.gives source) r)
+        → IfSome given (λ b. SourceOutcome b left r)
         → (IsErrOf r Read → IsTrue (text.source.has_failed source)) → IfOk r HoldsSome
         → IsRead (IsRefusedText text) text r
     handed_reads given r e h read held = record {
@@ -34,17 +38,17 @@ module _ {T : Type 0} (text : AskedText T) where
       held = held;
     }
       where
-        by_given : (o : Option (List ℕ)) → IfSome o (λ b. SourceOutcome b (text.source.gives source) r)
+        by_given : (o : Option (List ℕ)) → IfSome o (λ b. SourceOutcome b left r)
             → IfSome o (λ b. ReadsAs (IsRefusedText text) b r)
         by_given None h = tt
         by_given (Some b) h = reads_as b r h read
 
-    copies_as : (b copy : List ℕ) (r : Result Held Refusal) → CopyOutcome b (text.source.gives source) [] copy r
+    copies_as : (b copy : List ℕ) (r : Result Held Refusal) → CopyOutcome b left [] copy r
         → (IsErrOf r Read → IsTrue (text.source.has_failed source)) → ReadsAs (IsRefusedCopy text) b r
     copies_as b copy (Ok held) h read = h.0.0
     copies_as b copy (Err (Text place code)) h read = h.0.0
     copies_as b copy (Err Memory) (inl h) read =
-        inl (record { source = source; comes = comes; ran_out = ran_out b (text.source.gives source) h.0 })
+        inl (record { source = source; comes = comes; ran_out = ran_out b left h.0 })
     copies_as b copy (Err Memory) (inr l) read =
         inr (record {
           source = source;
@@ -54,6 +58,7 @@ module _ {T : Type 0} (text : AskedText T) where
           rest = l.rest;
           whole = l.whole;
           rest_is = l.rest_is;
+          pulled = l.pulled;
           some = l.some;
           short = l.short;
           clean = l.clean;
@@ -65,7 +70,7 @@ module _ {T : Type 0} (text : AskedText T) where
     copies_as b copy (Err CountTooLarge) h read = h.0
 
     pub handed_copies : (given : Option (List ℕ)) (old copy : List ℕ) (r : Result Held Refusal) → old ≡ []
-        → given ≡ text.behind → IfSome given (λ b. CopyOutcome b (text.source.gives source) old copy r)
+        → given ≡ text.behind → IfSome given (λ b. CopyOutcome b left old copy r)
         → (IsErrOf r Read → IsTrue (text.source.has_failed source)) → IfOk r (HoldsCopied old copy)
         → IsRead (IsRefusedCopy text) text r
     handed_copies given old copy r empty e h read held = record {
@@ -73,11 +78,11 @@ module _ {T : Type 0} (text : AskedText T) where
       failed = λ _ is. record { source = source; comes = comes; failed = read is };
       handed =
           λ _. subst (λ o. IfSome o (λ b. ReadsAs (IsRefusedCopy text) b r)) e
-          (by_given given (subst (λ l. IfSome given (λ b. CopyOutcome b (text.source.gives source) l copy r)) empty h));
+          (by_given given (subst (λ l. IfSome given (λ b. CopyOutcome b left l copy r)) empty h));
       held = held_of r held;
     }
       where
-        by_given : (o : Option (List ℕ)) → IfSome o (λ b. CopyOutcome b (text.source.gives source) [] copy r)
+        by_given : (o : Option (List ℕ)) → IfSome o (λ b. CopyOutcome b left [] copy r)
             → IfSome o (λ b. ReadsAs (IsRefusedCopy text) b r)
         by_given None h = tt
         by_given (Some b) h = copies_as b copy r h read
@@ -99,14 +104,15 @@ whole_copy b copy None end c = absurd (none c.rest c.rest_is)
     none rest' e = cc
 
 -- if a source that gave what is behind a name was read and copied, the copy is what is behind the name
-pub handed_copy : (new given behind : Option (List ℕ)) (old copy : List ℕ) (r : Result Held Refusal) → old ≡ []
-    → given ≡ behind → IfSome given (λ b. CopyOutcome b new old copy r) → IfSome behind (λ b. OnOk r (copy ≡ b))
+pub handed_copy : (new : AfterPulls) (given behind : Option (List ℕ)) (old copy : List ℕ) (r : Result Held Refusal)
+    → old ≡ [] → given ≡ behind → IfSome given (λ b. CopyOutcome b new old copy r)
+    → IfSome behind (λ b. OnOk r (copy ≡ b))
 handed_copy new given behind old copy r empty e h =
     subst (λ o. IfSome o (λ b. OnOk r (copy ≡ b))) e
     (by_given given (subst (λ l. IfSome given (λ b. CopyOutcome b new l copy r)) empty h))
   where
     by_result : (b : List ℕ) (r : Result Held Refusal) → CopyOutcome b new [] copy r → OnOk r (copy ≡ b)
-    by_result b (Ok held) h = whole_copy b copy new h.0.1 h.1
+    by_result b (Ok held) h = whole_copy b copy new.gives h.0.1 h.1
     by_result b (Err e) h = tt
 
     by_given : (o : Option (List ℕ)) → IfSome o (λ b. CopyOutcome b new [] copy r) → IfSome o (λ b. OnOk r (copy ≡ b))

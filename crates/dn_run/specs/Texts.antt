@@ -4,7 +4,7 @@ use Rattle.dn_line.specs.Sources.{SourceWords}
 use Rattle.dn_arc.specs.declared.arc.Form.{Form}
 use Rattle.dn_instance.specs.Instances.{Instance}
 use Rattle.dn_instance.specs.Readers.{ended}
-use Rattle.dn_instance.specs.SourceReads.{CleanSoFar, PulledWhileClean, RanOut}
+use Rattle.dn_instance.specs.SourceReads.{CleanSoFar, GaveLast, PulledWhileClean, RanOut, after_pulls}
 use Rattle.dn_instance.specs.Texts.{IsClean, IsFirstFault, Reads}
 use Rattle.dn_instance.specs.declared.refusal.Refusal.{Refusal}
 use Rattle.dn_instance.specs.declared.refusal.Refusal.TheVariants.{Text, Memory, Read, Endless, Write, CountTooLarge}
@@ -47,12 +47,12 @@ pub record IsEndless {T : Type 0} (text : AskedText T) (b : List ℕ) : Type 0 w
   pub clean : CleanSoFar b (text.source.gives source)
   pub many : 2 ^ 40 ≤ length clean.given
 
--- memory ran out at a line of the text b that is not skipped and had not ended before some piece that the source gave.
--- Neither this line nor an earlier one has a fault
+-- memory ran out at a line of the text b that ends in the last piece that the source gave, or at a last line without an
+-- LF. The line spells an item that needs memory, and neither it nor an earlier one has a fault
 pub record IsOutOfMemory {T : Type 0} (text : AskedText T) (b : List ℕ) : Type 0 where
   pub source : T
   pub comes : ComesOf text source
-  pub ran_out : RanOut b (text.source.gives source)
+  pub ran_out : RanOut b (after_pulls text.source comes.first source)
 
 -- this is a reason to refuse the text b when it is read: its first fault; memory ran out at a line, and neither this
 -- line nor an earlier one has a fault; its source has failed; or its source gave 2 ^ 40 bytes or more
@@ -70,8 +70,8 @@ abbrev pub IsRefusedCanon : {T : Type 0} → Form → AskedText T → List ℕ �
 IsRefusedCanon form text b CountTooLarge = (I : Instance) × Reads b I × IsTooLarge form I
 IsRefusedCanon form text b refusal = IsRefusedText text b refusal
 
--- memory ran out for the copy of a piece of the text b, of 1 to 2^12 bytes, after which the source still gives the
--- rest. No line that ends with an LF before that piece has a fault
+-- memory ran out for the copy of the last piece that the source gave of the text b, of 1 to 2^12 bytes; the source
+-- still gives the rest. No line that ends with an LF before that piece has a fault
 pub record LacksCopy {T : Type 0} (text : AskedText T) (b : List ℕ) : Type 0 where
   pub source : T
   pub comes : ComesOf text source
@@ -80,6 +80,7 @@ pub record LacksCopy {T : Type 0} (text : AskedText T) (b : List ℕ) : Type 0 w
   pub rest : List ℕ
   pub whole : b ≡ given ++ (piece ++ rest)
   pub rest_is : text.source.gives source ≡ Some rest
+  pub pulled : GaveLast text.source comes.first source given piece
   pub some : 0 < length piece
   pub short : length piece ≤ 2 ^ 12
   pub clean : IsClean (ended given)

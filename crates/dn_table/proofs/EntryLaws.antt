@@ -1,5 +1,5 @@
 -- A table keeps as many entries as the arcs of a graph make.
-use Rattle.std.proofs.Common.{◌≡◌, ℕ, suc, ◌+◌, ◌*◌, ◌≤◌, ℤ, pos, int_lt, filter, List, [], ◌∷◌, length, map, Bool, true, false, cond, ◌||◌, Some, None, refl, sym, ap, ◌∙◌, arith, sum_by}
+use Rattle.std.proofs.Common.{◌≡◌, ℕ, suc, ◌+◌, ◌*◌, ◌<◌, ◌≤◌, ℤ, pos, int_lt, filter, List, [], ◌∷◌, ◌++◌, length, append-nil, map, Bool, true, false, cond, ◌||◌, Some, None, refl, sym, ap, ◌∙◌, subst, arith, sum_by}
 use Rattle.std.proofs.lemmas.List.Sums.{sum_by-cons}
 use Rattle.std.proofs.Math.Bool.{or-true}
 use Rattle.std.proofs.lemmas.Map.Keys.{IsDistinct-head, IsDistinct-tail}
@@ -15,10 +15,11 @@ use Rattle.dn_arc.specs.declared.arc.CapArc.{CapArc}
 use Rattle.dn_arc.specs.declared.arc.CostArc.{CostArc}
 use Rattle.dn_arc.specs.Kinds.{ArcKind}
 use Rattle.dn_arc.specs.declared.arc.Form.TheVariants.{One}
-use Rattle.dn_table.specs.State.GraphEntries.{graph_entries}
+use Rattle.dn_table.specs.GraphEntries.{graph_entries}
 use Rattle.dn_arc.specs.Pairs.{bundle, same_pair}
 use Rattle.dn_table.specs.State.Tables.{listed_at, TableLists, AreArcs}
-use Rattle.dn_arc.proofs.PairLaws.{pair_is, pair_self}
+use Rattle.std.proofs.lemmas.List.{map-append}
+use Rattle.dn_arc.proofs.PairLaws.{pair_is, pair_self, bundle_push}
 use Rattle.dn_table.proofs.PairLaws.{other_pair}
 
 abbrev pub Pair : Type 0
@@ -168,7 +169,7 @@ module _ {Arc : Type 0} where
       by_test true g i = cc
       by_test false g i = i g
 
-  bundle_arcs : (P : Arc → Type 0) (r : Pair) (arcs : List (Pair × Arc)) → AllByRecursion (λ a. P a.1) arcs
+  pub bundle_arcs : (P : Arc → Type 0) (r : Pair) (arcs : List (Pair × Arc)) → AllByRecursion (λ a. P a.1) arcs
       → AllByRecursion P (bundle r arcs)
   bundle_arcs P r [] h = tt
   bundle_arcs P r (a ∷ rest) h = by_test (same_pair r a.0) (bundle_arcs P r rest h.1)
@@ -249,6 +250,111 @@ module _ {B Arc : Type 0} (kind : ArcKind Arc) (laws : IsKind kind) (lists : B �
           → f r ≡ 0
       back r e g =
           ap kind.entries (no_bundle r arcs (sym (among_distinct r (map (λ a. a.0) arcs)) ∙ g)) ∙ laws.none_entries
+
+among_push : (r q : Pair) (ps : List Pair) → among r (ps ++ q ∷ []) ≡ (among r ps || same_pair r q)
+among_push r q [] = by_test (same_pair r q)
+  where
+    by_test : (t : Bool) → (t || false) ≡ t
+    by_test true = refl
+    by_test false = refl
+among_push r q (p ∷ ps) = by_test (same_pair r p) (among_push r q ps)
+  where
+    by_test : (t : Bool) → among r (ps ++ q ∷ []) ≡ (among r ps || same_pair r q)
+        → (t || among r (ps ++ q ∷ [])) ≡ ((t || among r ps) || same_pair r q)
+    by_test true i = refl
+    by_test false i = i
+
+module _ (f g : Pair → ℕ) (each : (p : Pair) → f p ≤ g p) where
+  sum_grows : (ps : List Pair) → sum_by f ps ≤ sum_by g ps
+  sum_grows [] = omega arith
+  sum_grows (p ∷ ps) =
+      let one = sum_by-cons f p ps in
+      let two = sum_by-cons g p ps in
+      let head = each p in
+      let more = sum_grows ps in
+      omega arith
+
+  -- a sum is greater if a number of one of its pairs is
+  sum_more : (q : Pair) (ps : List Pair) → among q ps ≡ true → f q < g q → sum_by f ps < sum_by g ps
+  sum_more q [] m h = cc
+  sum_more q (p ∷ ps) m h = by_test (same_pair q p) refl m (λ m. sum_more q ps m h)
+    where
+      by_test : (t : Bool) → same_pair q p ≡ t → (t || among q ps) ≡ true
+          → (among q ps ≡ true → sum_by f ps < sum_by g ps) → sum_by f (p ∷ ps) < sum_by g (p ∷ ps)
+      by_test true e m i =
+          let one = sum_by-cons f p ps in
+          let two = sum_by-cons g p ps in
+          let same : q ≡ p = pair_is q p e in
+          let head : f p < g p = subst (λ x. f x < g x) same h in
+          let more = sum_grows ps in
+          omega arith
+      by_test false e m i =
+          let one = sum_by-cons f p ps in
+          let two = sum_by-cons g p ps in
+          let head = each p in
+          let more = i m in
+          omega arith
+
+module _ {Arc : Type 0} (kind : ArcKind Arc) (laws : IsKind kind) (arcs : List (Pair × Arc)) (a : Pair × Arc) where
+  abbrev more : List (Pair × Arc)
+  more = arcs ++ a ∷ []
+
+  abbrev keys : List (Pair × Arc) → List Pair
+  keys xs = map (λ (x : Pair × Arc). x.0) xs
+
+  here : bundle a.0 more ≡ bundle a.0 arcs ++ a.1 ∷ []
+  here = bundle_push a.0 arcs a ∙ ap (λ t. bundle a.0 arcs ++ cond t (a.1 ∷ []) []) (pair_self a.0)
+
+  there : (p : Pair) → same_pair p a.0 ≡ false → bundle p more ≡ bundle p arcs
+  there p e = bundle_push p arcs a ∙ ap (λ t. bundle p arcs ++ cond t (a.1 ∷ []) []) e ∙ append-nil (bundle p arcs)
+
+  among_more : (r : Pair) → among r (keys more) ≡ (among r (keys arcs) || same_pair r a.0)
+  among_more r = ap (among r) (map-append (λ (x : Pair × Arc). x.0) arcs (a ∷ [])) ∙ among_push r a.0 (keys arcs)
+
+  among_these : among a.0 (distinct same_pair (keys more)) ≡ true
+  among_these =
+      among_distinct a.0 (keys more) ∙ among_more a.0 ∙ ap (λ b. among a.0 (keys arcs) || b) (pair_self a.0)
+      ∙ or-true (among a.0 (keys arcs))
+
+  -- with one more arc that makes more entries of its pair, a graph makes more entries
+  pub graph_grows : kind.entries (bundle a.0 arcs) < kind.entries (bundle a.0 arcs ++ a.1 ∷ [])
+      → graph_entries kind arcs < graph_entries kind more
+  graph_grows h =
+      let same =
+      same_sum f (distinct same_pair (keys more)) (distinct same_pair (keys arcs)) (once_distinct (keys more))
+      (once_distinct (keys arcs)) out back in
+      let grows = sum_more f g each a.0 (distinct same_pair (keys more)) among_these (each_here h) in
+      omega (arith, same, grows)
+    where
+      f : Pair → ℕ
+      f p = kind.entries (bundle p arcs)
+
+      g : Pair → ℕ
+      g p = kind.entries (bundle p more)
+
+      each_here : kind.entries (bundle a.0 arcs) < kind.entries (bundle a.0 arcs ++ a.1 ∷ []) → f a.0 < g a.0
+      each_here h = subst (λ l. kind.entries (bundle a.0 arcs) < kind.entries l) (sym here) h
+
+      each : (p : Pair) → f p ≤ g p
+      each p = by_test (same_pair p a.0) refl
+        where
+          by_test : (t : Bool) → same_pair p a.0 ≡ t → f p ≤ g p
+          by_test true e =
+              subst (λ q. f q ≤ g q) (sym (pair_is p a.0 e)) (let lt = each_here h in omega (arith, lt))
+          by_test false e = let same = ap kind.entries (there p e) in omega (arith, same)
+
+      out : (r : Pair) → among r (distinct same_pair (keys more)) ≡ false
+          → among r (distinct same_pair (keys arcs)) ≡ true → f r ≡ 0
+      out r e m =
+          let no = sym (among_distinct r (keys more) ∙ among_more r) ∙ e in
+          let yes = sym (among_distinct r (keys arcs)) ∙ m in
+          let never : true ≡ false = sym (ap (λ b. b || same_pair r a.0) yes) ∙ no in
+          cc
+
+      back : (r : Pair) → among r (distinct same_pair (keys more)) ≡ true
+          → among r (distinct same_pair (keys arcs)) ≡ false → f r ≡ 0
+      back r e m =
+          ap kind.entries (no_bundle r arcs (sym (among_distinct r (keys arcs)) ∙ m)) ∙ laws.none_entries
 
 -- 1 if both are the same pair, and 0 otherwise
 abbrev one_if : Pair → Pair → ℕ

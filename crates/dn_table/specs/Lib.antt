@@ -1,1 +1,2 @@
+pub mod GraphEntries
 pub mod State

@@ -7,7 +7,7 @@ ghost use Rattle.pair_index.specs.State.Indexed.{Indexes};
 ghost use Rattle.pair_index.specs.State.Places.{IsPlace};
 ghost use Rattle.dn_arc.specs.declared.arc.Form.{Form};
 ghost use Rattle.dn_arc.specs.Pairs.{pair_cmp, same_pair};
-ghost use Rattle.dn_table.specs.State.Tables.{Adds, IsTooMuch, CountsEntries};
+ghost use Rattle.dn_table.specs.State.Tables.{Adds, IsTooMuch, CountsEntries, WidensAt};
 
 use crate::entry_sum::bundle_entries;
 use crate::table::Table;
@@ -146,7 +146,8 @@ impl<B: Bundle> TableSoFar<B> {
     /// # Errors
     ///
     /// Returns `Sum` exactly if the capacities of the pair's arcs sum to more than 2^63 - 1, and otherwise `Memory` if
-    /// an allocation fails. After an error, nothing has changed.
+    /// an allocation fails, which only an arc needs that makes another entry of its pair, or spreads the forced units.
+    /// After an error, nothing has changed.
     #[inline(always)]
     pub fn add(&mut self, alloc: Global, pair: (i64, i64), arc: B::Arc) -> Result<(), BundleFault>
         requires { B.bundle.kind.IsArc arc }
@@ -154,6 +155,7 @@ impl<B: Bundle> TableSoFar<B> {
         ensures err { OnErr result (self.new ≡ self.old) }
         ensures sum { (result ≡ Err BundleFault.Sum)
             ↔ IsTooMuch B.bundle self.old pair arc }
+        ensures memory { (result ≡ Err BundleFault.Memory) → WidensAt B.bundle self.old pair arc }
     {
         if !self.index.is_next(&self.entries, &pair) {
             return self.add_anywhere(alloc, pair, arc);
@@ -186,6 +188,7 @@ impl<B: Bundle> TableSoFar<B> {
         ensures err { OnErr result (self.new ≡ self.old) }
         ensures sum { (result ≡ Err BundleFault.Sum)
             ↔ IsTooMuch B.bundle self.old pair arc }
+        ensures memory { (result ≡ Err BundleFault.Memory) → WidensAt B.bundle self.old pair arc }
     {
         match self.place(&pair) {
             Some(i) => self.entries[i].1.add(arc),
@@ -201,6 +204,7 @@ impl<B: Bundle> TableSoFar<B> {
         ensures err { OnErr result (self.new ≡ self.old) }
         ensures sum { (result ≡ Err BundleFault.Sum)
             ↔ IsTooMuch B.bundle self.old pair arc }
+        ensures memory { (result ≡ Err BundleFault.Memory) → WidensAt B.bundle self.old pair arc }
     {
         let Ok(one) = B::of(alloc, arc) else {
             return Err(BundleFault::Memory);

@@ -3,6 +3,7 @@ use Rattle.std.specs.Prelude.{◌≡◌, ℕ, ◌+◌, ◌-◌, ◌^◌, ℤ, po
 use Rattle.std.specs.Int.{w64}
 use Rattle.std.specs.List.{AllByRecursion}
 use Rattle.dn_arc.specs.Kinds.{ArcKind}
+use Rattle.dn_arc.specs.State.Kinds.{NeedsMore}
 use Rattle.dn_arc.specs.State.Meanings.{IsMeaning}
 use Rattle.dn_arc.specs.declared.arc.Form.{Form}
 use Rattle.dn_arc.specs.declared.arc.Form.TheVariants.{One}
@@ -40,8 +41,12 @@ pub record IsKind {Arc : Type 0} (kind : ArcKind Arc) : Type 0 where
   -- arcs that mean the same make the same number of entries
   pub same_entries : (xs ys : List Arc) → AllByRecursion kind.IsArc xs → AllByRecursion kind.IsArc ys → kind.Same xs ys
       → kind.entries xs ≡ kind.entries ys
-  -- no arcs make no entries
+  -- which arc spreads the forced units depends only on what the arcs mean
+  pub same_spreads : (xs ys : List Arc) (a : Arc) → AllByRecursion kind.IsArc xs → AllByRecursion kind.IsArc ys
+      → kind.Same xs ys → kind.Spreads xs a → kind.Spreads ys a
+  -- no arcs make no entries, and arcs that make none mean the same as no arcs
   pub none_entries : kind.entries [] ≡ 0
+  pub no_entries : (xs : List Arc) → AllByRecursion kind.IsArc xs → kind.entries xs ≡ 0 → kind.Same xs []
   -- arcs that mean the same have no difference
   pub none_differ : (xs ys : List Arc) (how : How) → kind.Differ xs ys how → kind.Same xs ys → ⊥
   -- two lists of arcs have at most one first difference
@@ -82,6 +87,10 @@ module _ {B Arc : Type 0} (bundle : BundleWords B Arc) where
   -- the second bundle means what the first one does with one more arc
   abbrev pub Gains : B → B → Arc → Type 0
   Gains old new arc = bundle.kind.Same (meant new) (meant old ++ arc ∷ [])
+
+  -- one more arc of a bundle needs memory
+  abbrev pub Widens : B → Arc → Type 0
+  Widens b arc = NeedsMore bundle.kind (meant b) arc
 
   -- with one more arc, the capacities of a bundle sum to more than 2 ^ 63 - 1
   abbrev pub PassesSum : B → Arc → Type 0

@@ -1,5 +1,5 @@
--- Canonical arcs that represent the arcs of one ordered pair.
-use Rattle.std.specs.Prelude.{List}
+-- Canonical arcs that represent the arcs of one ordered pair, and which arc of a pair needs memory.
+use Rattle.std.specs.Prelude.{◌⊎◌, ◌<◌, List, [], ◌∷◌, ◌++◌}
 use Rattle.dn_arc.specs.declared.arc.Form.TheVariants.{One}
 use Rattle.dn_arc.specs.Kinds.{ArcKind}
 
@@ -7,3 +7,7 @@ use Rattle.dn_arc.specs.Kinds.{ArcKind}
 pub record AreCanonArcsOf {Arc : Type 0} (kind : ArcKind Arc) (listed arcs : List Arc) : Type 0 where
   pub canonical : kind.IsCanon One listed
   pub same : kind.Same listed arcs
+
+-- one more arc of the pair needs memory: it makes another entry, or spreads the forced units
+abbrev pub NeedsMore : {Arc : Type 0} → ArcKind Arc → List Arc → Arc → Type 0
+NeedsMore kind arcs a = (kind.entries arcs < kind.entries (arcs ++ a ∷ [])) ⊎ kind.Spreads arcs a

@@ -1,12 +1,12 @@
 -- How a curve stores its numbers: in a box, or as one cost with the forced units and the free capacity at it.
-use Rattle.std.specs.Prelude.{◌≡◌, ◌⊎◌, ◌-◌, ◌^◌, ℕ, ℤ, pos, ◌+ℤ◌, ◌-ℤ◌, ◌*ℤ◌, ◌≤ℤ◌, [], Option, Some, None, cond, int_lt}
+use Rattle.std.specs.Prelude.{◌≡◌, ◌⊎◌, ◌-◌, ◌^◌, ℕ, ℤ, pos, ◌+ℤ◌, ◌-ℤ◌, ◌*ℤ◌, ◌≤ℤ◌, ◌<ℤ◌, List, [], Option, Some, None, cond, int_lt, false}
 use Rattle.dn_arc.specs.declared.arc.CostArc.{CostArc}
 use Rattle.dn_bundle.specs.declared.curve.shape.Numbers.{Numbers}
 use Rattle.dn_bundle.specs.declared.curve.shape.Shape.{Shape}
 use Rattle.dn_bundle.specs.declared.curve.shape.Shape.TheVariants.{Plain, Full}
 use Rattle.dn_arc.specs.State.CurveListed.{IsSound}
 use Rattle.dn_arc.specs.State.Curves.{CurveNumbers}
-use Rattle.dn_arc.specs.State.Steps.{steps_of, add_step}
+use Rattle.dn_arc.specs.State.Steps.{steps_of, add_step, has_step}
 
 -- the breakpoint, if it has capacity
 abbrev pub plain_step : ℤ × ℤ → Option (ℤ × ℤ)
@@ -43,3 +43,19 @@ pub record IsGrown (old : Numbers) (a : CostArc) (new : Numbers) : Type 0 where
 pub record StaysPlain (low : ℕ) (step : ℤ × ℤ) (a : CostArc) : Type 0 where
   pub few : (pos low +ℤ a.low) ≤ℤ pos (2 ^ 32 - 1)
   pub one : (a.cost ≡ step.0) ⊎ ((low ≡ 0) × (step.1 ≡ pos 0))
+
+-- a plain shape may not be able to take the arc: its forced units do not fit 32 bits with LOW, or the costs differ
+abbrev pub LeavesPlain : ℕ → ℤ × ℤ → CostArc → Type 0
+LeavesPlain low step a = (pos (2 ^ 32 - 1) <ℤ (pos low +ℤ a.low)) ⊎ (a.cost ≡ step.0 → ⊥)
+
+-- the numbers of a curve need memory for the arc: it is the first with LOW above 0 or the first with free capacity at
+-- its COST, or it adds to forced units, at another cost per unit or to more than 2^32 - 1
+pub data NeedsRoom (units cost : ℤ) (steps : List (ℤ × ℤ)) (a : CostArc) : Type 0 where
+  forced : units ≡ pos 0 → pos 0 <ℤ a.low → NeedsRoom units cost steps a
+  free : pos 0 <ℤ (a.cap -ℤ a.low) → has_step steps a.cost ≡ false → NeedsRoom units cost steps a
+  more : pos 0 <ℤ units → pos 0 <ℤ a.low
+      → (cost ≡ units *ℤ a.cost → ⊥) ⊎ (pos (2 ^ 32 - 1) <ℤ (units +ℤ a.low)) → NeedsRoom units cost steps a
+
+-- these numbers need memory for the arc
+abbrev pub NeedRoom : Numbers → CostArc → Type 0
+NeedRoom n = NeedsRoom n.units n.cost n.steps

@@ -1,7 +1,7 @@
 // How a curve stores its numbers, and how it adds an arc to them.
-ghost use Rattle.std.specs.Prelude.{◌≡◌, ◌+ℤ◌, OnOk, OnErr, IfOk, IsTrue};
+ghost use Rattle.std.specs.Prelude.{◌≡◌, ◌+ℤ◌, OnOk, OnErr, IfOk, IsTrue, false};
 ghost use Rattle.dn_arc.specs.Canonical.{IsCostArc};
-ghost use Rattle.dn_bundle.specs.State.Shapes.{plain_step, numbers_of, AreSound, IsGrown, StaysPlain};
+ghost use Rattle.dn_bundle.specs.State.Shapes.{plain_step, numbers_of, AreSound, IsGrown, LeavesPlain, NeedRoom, StaysPlain};
 
 use crate::cost128::{cost_of, more_cost};
 use crate::steps::Steps;
@@ -44,6 +44,7 @@ impl Numbers {
         requires total { total ≡ self.old.total +ℤ arc.cap }
         ensures ok { OnOk result (IsGrown self.old arc self.new) }
         ensures err { OnErr result (self.new ≡ self.old) }
+        ensures memory { OnErr result (NeedRoom self.old arc) }
     {
         self.steps.add((arc.cost, arc.cap - arc.low))?;
         self.cost = more_cost(&self.cost, &arc.low, &arc.cost);
@@ -80,7 +81,8 @@ fn full_with(
 
 // Whether a plain shape can take an arc. A false result affects only the speed and the memory.
 fn stays_plain(low: u32, step: (i64, i64), arc: &CostArc) -> bool
-    ensures { IsTrue result → StaysPlain low step arc.now }
+    ensures stays { IsTrue result → StaysPlain low step arc.now }
+    ensures leaves { result ≡ false → LeavesPlain low step arc.now }
 {
     if i64::from(u32::MAX - low) < arc.low {
         return false;
@@ -105,6 +107,7 @@ impl Shape {
         requires total { total ≡ (numbers_of self.old).total +ℤ arc.cap }
         ensures ok { OnOk result (IsGrown (numbers_of self.old) arc (numbers_of self.new)) }
         ensures err { OnErr result (numbers_of self.new ≡ numbers_of self.old) }
+        ensures memory { OnErr result (NeedRoom (numbers_of self.old) arc) }
     {
         match self {
             Shape::Full(numbers) => numbers.add(arc, total),

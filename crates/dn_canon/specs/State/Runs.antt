@@ -1,5 +1,5 @@
 -- What producing the canonical text of a text does.
-use Rattle.std.specs.Prelude.{◌≡◌, ◌↔◌, true, ◌<◌, ◌^◌, ℕ, List, Bool, Option, Ok, Err, IfSome}
+use Rattle.std.specs.Prelude.{◌≡◌, ◌↔◌, true, ◌<◌, ◌^◌, ℕ, List, Bool, Ok, Err, IfSome}
 use Rattle.std.specs.Io.KnownBytes.{IsAtEnd}
 use Rattle.std.specs.declared.result.Result.{Result}
 use Rattle.dn_line.specs.Pieces.{lines}
@@ -7,6 +7,7 @@ use Rattle.dn_line.specs.Sources.{SourceWords}
 use Rattle.dn_arc.specs.declared.arc.Form.{Form}
 use Rattle.dn_instance.specs.Instances.{Instance, size_of}
 use Rattle.dn_instance.specs.Readers.{WantsMemory}
+use Rattle.dn_instance.specs.SourceReads.{AfterPulls, after_pulls}
 use Rattle.dn_instance.specs.State.SourceReads.{SourceOutcome}
 use Rattle.dn_instance.specs.Texts.{Reads, IsFirstFault}
 use Rattle.dn_instance.specs.declared.refusal.Refusal.{Refusal}
@@ -36,20 +37,20 @@ JudgesCanon form t (Err (Text place code)) = IsFirstFault t place code
 JudgesCanon form t (Err Memory) = WantsMemory 0 (lines t)
 JudgesCanon form t (Err _) = ⊥
 
--- the source gave the text t from here on, and now gives `rest`. At its end t reads as an instance, and either its
+-- the source gave the text t from here on, and its pulls left it so. At its end t reads as an instance, and either its
 -- canonical text is written or writing is refused. A refusal of reading leaves the source as `read_from` does
-abbrev pub RunOutcome : {S : Type 0} → SinkWords S → S → S → Form → List ℕ → Option (List ℕ)
-    → Result (Unit {0}) Refusal → Type 0
-RunOutcome sink old new form t rest (Ok x) =
-    (I : Instance) × Reads t I × IsAtEnd rest × WritesCanon sink old new form I (Ok x)
-RunOutcome sink old new form t rest (Err Write) =
-    (I : Instance) × Reads t I × IsAtEnd rest × WritesCanon sink old new form I (Err Write)
-RunOutcome sink old new form t rest (Err CountTooLarge) =
-    (I : Instance) × Reads t I × IsAtEnd rest × WritesCanon sink old new form I (Err CountTooLarge)
-RunOutcome sink old new form t rest (Err refusal) = SourceOutcome t rest (Err refusal)
+abbrev pub RunOutcome : {S : Type 0} → SinkWords S → S → S → Form → List ℕ → AfterPulls → Result (Unit {0}) Refusal
+    → Type 0
+RunOutcome sink old new form t left (Ok x) =
+    (I : Instance) × Reads t I × IsAtEnd left.gives × WritesCanon sink old new form I (Ok x)
+RunOutcome sink old new form t left (Err Write) =
+    (I : Instance) × Reads t I × IsAtEnd left.gives × WritesCanon sink old new form I (Err Write)
+RunOutcome sink old new form t left (Err CountTooLarge) =
+    (I : Instance) × Reads t I × IsAtEnd left.gives × WritesCanon sink old new form I (Err CountTooLarge)
+RunOutcome sink old new form t left (Err refusal) = SourceOutcome t left (Err refusal)
 
 -- what canonicalising the text of a source returns, if its bytes are known
 abbrev pub RunsSource : {T S : Type 0} → SourceWords T → T → T → SinkWords S → S → S → Form → Result (Unit {0}) Refusal
     → Type 0
 RunsSource source before after sink old new form result =
-    IfSome (source.gives before) (λ t. RunOutcome sink old new form t (source.gives after) result)
+    IfSome (source.gives before) (λ t. RunOutcome sink old new form t (after_pulls source before after) result)

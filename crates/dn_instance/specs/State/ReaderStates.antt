@@ -9,7 +9,7 @@ use Rattle.dn_instance.specs.declared.held.Held.{Held}
 use Rattle.dn_instance.specs.declared.refusal.Refusal.{Refusal}
 use Rattle.dn_instance.specs.declared.refusal.Refusal.TheVariants.{Memory}
 use Rattle.dn_instance.specs.Readers.{WantsMemory, ended}
-use Rattle.dn_instance.specs.State.EntryCount.{entries_so_far}
+use Rattle.dn_instance.specs.EntryCount.{entries_so_far}
 use Rattle.dn_instance.specs.State.Readers.{EntriesBefore, Outcome, IsRefused, IsNext, lines_taken, refusal_of}
 use Rattle.dn_instance.specs.Texts.{items_of}
 use Rattle.dn_instance.specs.State.TextsSoFar.{TextAt}

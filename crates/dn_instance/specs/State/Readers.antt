@@ -6,7 +6,7 @@ use Rattle.dn_instance.specs.declared.refusal.Refusal.{Refusal}
 use Rattle.dn_instance.specs.declared.refusal.Refusal.TheVariants.{Text, Memory, Read, Endless, Write, CountTooLarge}
 use Rattle.dn_instance.specs.declared.held.Held.{Held}
 use Rattle.dn_instance.specs.declared.reader.Reader.{Reader}
-use Rattle.dn_instance.specs.State.EntryCount.{entries_so_far}
+use Rattle.dn_instance.specs.EntryCount.{entries_so_far}
 use Rattle.dn_instance.specs.Instances.{Instance}
 use Rattle.dn_instance.specs.State.Helds.{IsHeld, parsed}
 use Rattle.dn_instance.specs.Texts.{items_of, IsClean, IsFirstFaultAt, IsFirstFault, Reads}

@@ -10,19 +10,20 @@ use Rattle.dn_instance.specs.declared.refusal.Refusal.TheVariants.{Text, Memory,
 use Rattle.dn_instance.specs.Readers.{ended}
 use Rattle.dn_instance.specs.State.Readers.{IsRefused, Outcome}
 use Rattle.dn_instance.specs.Texts.{IsClean, IsFirstFault}
-use Rattle.dn_instance.specs.SourceReads.{CleanSoFar, PulledWhileClean}
+use Rattle.dn_instance.specs.SourceReads.{AfterPulls, CleanSoFar, PulledWhileClean, after_pulls}
 
--- of the text t, the source has given `before`, of which no complete line has a fault, and then a piece of at most 2^12
--- bytes; it still gives the rest. The LF of the refused line is in this piece
-pub record StopsInPiece (t : List ℕ) (new : Option (List ℕ)) (e : Refusal) : Type 0 where
-  pub before : List ℕ
+-- of the text t, all pulls but the last gave `given`, of which no complete line has a fault, the last gave a piece of
+-- at most 2^12 bytes, and the source still gives the rest. The LF of the refused line is in this piece
+pub record StopsInPiece (t : List ℕ) (left : AfterPulls) (e : Refusal) : Type 0 where
+  pub given : List ℕ
   pub piece : List ℕ
   pub rest : List ℕ
-  pub whole : t ≡ before ++ (piece ++ rest)
-  pub rest_is : new ≡ Some rest
+  pub whole : t ≡ given ++ (piece ++ rest)
+  pub rest_is : left.gives ≡ Some rest
+  pub pulled : left.Gave given piece
   pub short : length piece ≤ 2 ^ 12
-  pub clean : IsClean (ended before)
-  pub refused : IsRefused (length (ended before)) (ended (before ++ piece)) e
+  pub clean : IsClean (ended given)
+  pub refused : IsRefused (length (ended given)) (ended (given ++ piece)) e
 
 -- why a text is refused after all its complete lines: for a fault at its end, or at a last line without an LF
 abbrev pub IsRefusedLast : List ℕ → Refusal → Type 0
@@ -38,25 +39,26 @@ pub record StopsAtEnd (t : List ℕ) (new : Option (List ℕ)) (e : Refusal) : T
 
 -- in which state the source of the text t is when the text is refused: after a piece with the LF of the refused line,
 -- or at its end
-abbrev pub StopsAt : List ℕ → Option (List ℕ) → Refusal → Type 0
-StopsAt t new e = StopsInPiece t new e ⊎ StopsAtEnd t new e
+abbrev pub StopsAt : List ℕ → AfterPulls → Refusal → Type 0
+StopsAt t left e = StopsInPiece t left e ⊎ StopsAtEnd t left.gives e
 
--- what reading a source of the text t returns, where `new` is what the source gives afterwards. It returns a parsed
--- instance that represents what t reads as, with the source at its end; the first fault of t, or `Memory`, with the
--- source as `StopsAt` says; or `Read`, or `Endless` after at least 2^40 bytes, where no complete line of the bytes
--- given has a fault
-abbrev pub SourceOutcome : List ℕ → Option (List ℕ) → Result Held Refusal → Type 0
-SourceOutcome t new (Ok held) = Outcome t (Ok held) × IsAtEnd new
-SourceOutcome t new (Err (Text place code)) = IsFirstFault t place code × StopsAt t new (Text place code)
-SourceOutcome t new (Err Memory) = StopsAt t new Memory
-SourceOutcome t new (Err Read) = CleanSoFar t new
-SourceOutcome t new (Err Endless) = (c : CleanSoFar t new) × (2 ^ 40 ≤ length c.given)
-SourceOutcome t new (Err Write) = ⊥
-SourceOutcome t new (Err CountTooLarge) = ⊥
+-- what reading a source of the text t returns, and how its pulls leave the source. It returns a parsed instance that
+-- represents what t reads as, with the source at its end; the first fault of t, or `Memory`, with the source as
+-- `StopsAt` says; or `Read`, or `Endless` after at least 2^40 bytes, where no complete line of the bytes given has a
+-- fault
+abbrev pub SourceOutcome : List ℕ → AfterPulls → Result Held Refusal → Type 0
+SourceOutcome t left (Ok held) = Outcome t (Ok held) × IsAtEnd left.gives
+SourceOutcome t left (Err (Text place code)) = IsFirstFault t place code × StopsAt t left (Text place code)
+SourceOutcome t left (Err Memory) = StopsAt t left Memory
+SourceOutcome t left (Err Read) = CleanSoFar t left.gives
+SourceOutcome t left (Err Endless) = (c : CleanSoFar t left.gives) × (2 ^ 40 ≤ length c.given)
+SourceOutcome t left (Err Write) = ⊥
+SourceOutcome t left (Err CountTooLarge) = ⊥
 
 -- what reading a source returns, if the bytes of the source are known
 abbrev pub ReadsSource : {S : Type 0} → SourceWords S → S → S → Result Held Refusal → Type 0
-ReadsSource source old new result = IfSome (source.gives old) (λ t. SourceOutcome t (source.gives new) result)
+ReadsSource source old new result =
+    IfSome (source.gives old) (λ t. SourceOutcome t (after_pulls source old new) result)
 
 -- how reading leaves a source: the source has failed if the result is `Read`, it has failed if it had failed before,
 -- and it was pulled only while no complete line of the bytes given had a fault
@@ -73,14 +75,16 @@ pub record Copied (t : List ℕ) (new : Option (List ℕ)) (old_copy new_copy : 
   pub rest_is : new ≡ Some rest
   pub copy : new_copy ≡ old_copy ++ given
 
--- of the text t, the source has given bytes that the copy has gained, and then a piece of 1 to 2^12 bytes that the copy
--- has not gained; it still gives the rest. No complete line of the bytes before this piece has a fault
-pub record LacksRoom (t : List ℕ) (new : Option (List ℕ)) (old_copy new_copy : List ℕ) : Type 0 where
+-- of the text t, all pulls but the last gave bytes that the copy has gained, the last gave a piece of 1 to 2^12 bytes
+-- that the copy has not gained, and the source still gives the rest. No complete line of the bytes before this piece
+-- has a fault
+pub record LacksRoom (t : List ℕ) (left : AfterPulls) (old_copy new_copy : List ℕ) : Type 0 where
   pub given : List ℕ
   pub piece : List ℕ
   pub rest : List ℕ
   pub whole : t ≡ given ++ (piece ++ rest)
-  pub rest_is : new ≡ Some rest
+  pub rest_is : left.gives ≡ Some rest
+  pub pulled : left.Gave given piece
   pub some : 0 < length piece
   pub short : length piece ≤ 2 ^ 12
   pub copy : new_copy ≡ old_copy ++ given
@@ -88,15 +92,15 @@ pub record LacksRoom (t : List ℕ) (new : Option (List ℕ)) (old_copy new_copy
 
 -- what reading a source with a copy returns: the outcome of reading the source, where the copy has gained all bytes
 -- given; or `Memory`, where the copy has gained all bytes given but the last piece
-abbrev pub CopyOutcome : List ℕ → Option (List ℕ) → List ℕ → List ℕ → Result Held Refusal → Type 0
-CopyOutcome t new old_copy new_copy (Err Memory) =
-    (SourceOutcome t new (Err Memory) × Copied t new old_copy new_copy) ⊎ LacksRoom t new old_copy new_copy
-CopyOutcome t new old_copy new_copy result = SourceOutcome t new result × Copied t new old_copy new_copy
+abbrev pub CopyOutcome : List ℕ → AfterPulls → List ℕ → List ℕ → Result Held Refusal → Type 0
+CopyOutcome t left old_copy new_copy (Err Memory) =
+    (SourceOutcome t left (Err Memory) × Copied t left.gives old_copy new_copy) ⊎ LacksRoom t left old_copy new_copy
+CopyOutcome t left old_copy new_copy result = SourceOutcome t left result × Copied t left.gives old_copy new_copy
 
 -- what reading a source with a copy returns, if the bytes of the source are known
 abbrev pub CopiesSource : {S : Type 0} → SourceWords S → S → S → List ℕ → List ℕ → Result Held Refusal → Type 0
 CopiesSource source old new old_copy new_copy result =
-    IfSome (source.gives old) (λ t. CopyOutcome t (source.gives new) old_copy new_copy result)
+    IfSome (source.gives old) (λ t. CopyOutcome t (after_pulls source old new) old_copy new_copy result)
 
 -- the parsed instance represents what some text reads as, whether or not the bytes of the source are known
 abbrev pub HoldsSome : Held → Type 0

@@ -1,12 +1,5 @@
--- How many entries the arcs of a graph make, which is what must be kept of them (this project's profile).
-use Rattle.std.specs.Prelude.{ℕ, ℤ, List, map, sum_by}
-use Rattle.dn_arc.specs.Entries.{distinct}
-use Rattle.dn_arc.specs.Kinds.{ArcKind}
-use Rattle.dn_arc.specs.Pairs.{bundle, same_pair}
-
--- the sum of the entries over all ordered pairs that have arcs
-abbrev pub graph_entries : {Arc : Type 0} → ArcKind Arc → List ((ℤ × ℤ) × Arc) → ℕ
-graph_entries kind arcs = sum_by (λ p. kind.entries (bundle p arcs)) (distinct same_pair (map (λ a. a.0) arcs))
+-- How many entries the bundles of a table make.
+use Rattle.std.specs.Prelude.{ℕ, ℤ, List, sum_by}
 
 -- the sum of this number over the bundles of a table
 abbrev pub entries_listed : {B : Type 0} → (B → ℕ) → List ((ℤ × ℤ) × B) → ℕ

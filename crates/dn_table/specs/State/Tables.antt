@@ -1,14 +1,14 @@
 -- The arcs that a list of bundles by ordered pair represents, how an arc changes the list, and what an iterator over it
 -- returns.
-use Rattle.std.specs.Prelude.{◌≡◌, ◌↔◌, ◌<◌, ◌-◌, ◌^◌, ℕ, ℤ, pos, ◌<ℤ◌, List, [], ◌∷◌, ◌++◌, None, false, IsSome}
+use Rattle.std.specs.Prelude.{◌≡◌, ◌⊎◌, ◌↔◌, ◌<◌, ◌-◌, ◌^◌, ℕ, ℤ, pos, ◌<ℤ◌, List, [], ◌∷◌, ◌++◌, None, false, IsSome}
 use Rattle.std.specs.Borrow.{Bor}
 use Rattle.std.specs.List.{AllByRecursion}
 use Rattle.std.specs.List.Sorted.{IsStrictlySortedBy}
 use Rattle.std.specs.Map.{keys_of, lookup}
 use Rattle.dn_arc.specs.State.Bundles.{BundleWords, meant, listed_of}
 use Rattle.dn_arc.specs.Kinds.{ArcKind}
-use Rattle.dn_arc.specs.State.Kinds.{AreCanonArcsOf}
-use Rattle.dn_table.specs.State.GraphEntries.{graph_entries}
+use Rattle.dn_arc.specs.State.Kinds.{AreCanonArcsOf, NeedsMore}
+use Rattle.dn_table.specs.GraphEntries.{graph_entries}
 use Rattle.dn_arc.specs.Pairs.{bundle, pair_cmp, same_pair}
 
 -- the arcs that the table lists for an ordered pair
@@ -46,6 +46,11 @@ pub record Grows {B Arc : Type 0} (kind : ArcKind Arc) (lists : B → List Arc) 
 abbrev pub AreArcs : {Arc : Type 0} → ArcKind Arc → List ((ℤ × ℤ) × Arc) → Type 0
 AreArcs kind arcs = AllByRecursion (λ a. kind.IsArc a.1) arcs
 
+-- one more arc of a graph needs memory: the arcs make more entries with it, or it spreads the forced units of its pair
+abbrev pub GraphNeedsMore : {Arc : Type 0} → ArcKind Arc → List ((ℤ × ℤ) × Arc) → (ℤ × ℤ) × Arc → Type 0
+GraphNeedsMore kind arcs a =
+    (graph_entries kind arcs < graph_entries kind (arcs ++ a ∷ [])) ⊎ kind.Spreads (bundle a.0 arcs) a.1
+
 -- arcs that mean something also mean something with one more arc
 abbrev pub Stays : {Arc : Type 0} → ArcKind Arc → Type 0
 Stays {Arc} kind =
@@ -64,6 +69,10 @@ module _ {B Arc : Type 0} (bundle : BundleWords B Arc) where
   -- with this arc, the capacities of its pair sum to more than 2^63 - 1
   abbrev pub IsTooMuch : List ((ℤ × ℤ) × B) → ℤ × ℤ → Arc → Type 0
   IsTooMuch table pair arc = pos (2 ^ 63 - 1) <ℤ bundle.kind.capacity (listed_at (meant bundle) table pair ++ arc ∷ [])
+
+  -- one more arc at this pair needs memory
+  abbrev pub WidensAt : List ((ℤ × ℤ) × B) → ℤ × ℤ → Arc → Type 0
+  WidensAt table pair arc = NeedsMore bundle.kind (listed_at (meant bundle) table pair) arc
 
   -- n is how many entries the arcs of the table make, if that is below 2^64
   abbrev pub CountsEntries : List ((ℤ × ℤ) × B) → ℕ → Type 0

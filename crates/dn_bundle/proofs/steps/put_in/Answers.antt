@@ -1,7 +1,7 @@
 use Rattle.std.proofs.Common.{ap, ◌∙◌, rules}
 use Rattle.std.specs.Option.{unwrap_or}
 use Rattle.std.proofs.Common.{pos}
-use Rattle.dn_bundle.proofs.StepLaws.{sum_fits, sum_is}
+use Rattle.dn_bundle.proofs.StepLaws.{sum_fits, sum_is, lacks, on_err}
 use Rattle.dn_bundle.proofs.steps.put_in.Goals as goal
 
 pub overflow_add-held : goal.overflow_add-held
@@ -16,3 +16,8 @@ returns-clause-ok c =
     sum_is c.args.map.now.entries c.args.step c.unwrap_or-held.result c.insert.new.self.entries c.requires.some
     c.requires.steps c.requires.fits e (search rules) (search rules) c.insert.ensures.was_ordered
     c.in_ok-insert.ensures.entries
+
+pub returns-in_err-insert-clause-memory : goal.returns-in_err-insert-clause-memory
+returns-in_err-insert-clause-memory c =
+    on_err c.from_residual.result
+    (lacks c.args.map.now.entries c.args.step.0 (search rules) c.in_err-insert.ensures.absent)

@@ -1,7 +1,8 @@
-use Rattle.std.proofs.Common.{refl, sym, ◌&&◌}
+use Rattle.std.proofs.Common.{Err, ap, refl, sym, ◌&&◌}
 use Rattle.dn_arc.specs.declared.arc.Form.TheVariants.{One}
 use Rattle.dn_instance.specs.State.ItemFaults.{in_graph}
 use Rattle.dn_instance.proofs.ListsLaws.{lists_more, sum_passes, taken_fault, sum_fault}
+use Rattle.dn_table.proofs.NeedLaws.{needs_graph}
 use Rattle.dn_instance.proofs.arcs.take_arc.Goals as goal
 
 pub returns-in-Ok-clause-answer : goal.returns-in-Ok-clause-answer
@@ -36,3 +37,9 @@ returns-in-Err-Memory-clause-answer g c arcs is old are both =
     taken_fault g.B.Bundle.bundle.kind c.args.nodes.now arcs is (c.args.pair, c.args.arc)
     (sym {b = in_graph c.args.nodes.now c.args.pair.0 && in_graph c.args.nodes.now c.args.pair.1}
     c.if-not-joins_nodes.ensures) (both.1 arc) (sum.1 (λ e. (let memory_is = c.in-Err-Memory.field-0-is in cc)))
+
+pub returns-in-Err-Memory-clause-memory : goal.returns-in-Err-Memory-clause-memory
+returns-in-Err-Memory-clause-memory g c arcs old are e =
+    needs_graph g.B.Bundle.bundle.kind g.met.B.Bundle.laws (g.B.Bundle.bundle.listed One) c.args.table.now arcs
+    c.args.pair c.args.arc old are (c.if-not-is_arc.ensures.0 refl)
+    (c.in-Err-Memory.ensures.memory (ap Err c.in-Err-Memory.field-0-is))

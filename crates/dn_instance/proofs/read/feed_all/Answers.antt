@@ -1,7 +1,7 @@
 use Rattle.std.proofs.Common.{◌≡◌, ◌≤◌, [], ◌++◌, length, Err, sym, ap, subst, length-append, arith, rules}
 use Rattle.std.proofs.KnownBytes.{Consumes-nil, Consumes-trans}
-use Rattle.dn_instance.proofs.SourceLaws.{given_at_end, refused_given, refused_reading, refused_unread, handed_on, handed_none, handed_other, endless_given, has_none, has_some, not_refused, pulled_so_far, pulled_on}
-use Rattle.dn_instance.specs.SourceReads.{IsOfReading, unpulled, pulled}
+use Rattle.dn_instance.proofs.SourceLaws.{gave_last, given_at_end, refused_given, refused_reading, refused_unread, handed_on, handed_none, handed_other, endless_given, has_none, has_some, not_refused, pulled_so_far, pulled_on}
+use Rattle.dn_instance.specs.SourceReads.{GaveLast, IsOfReading, unpulled, pulled}
 use Rattle.dn_instance.proofs.read.feed_all.Goals as goal
 
 pub returns-then-is_empty-clause-ok : goal.returns-then-is_empty-clause-ok
@@ -23,8 +23,11 @@ returns-in_err-feed-clause-err g c =
     let piece = c.in_ok-piece.piece.now in
     let room : length c.loop.room ≡ 4096 = search rules in
     handed_on _ _ _ c.from_residual-in_err-feed.ensures
-    (refused_given _ _ _ t piece c.loop.reader c.in_err-feed.field-0.0 c.loop.invariant.given.1
-    c.in_ok-piece.ensures.bytes (subst (λ n. length piece ≤ n) room c.in_ok-piece.ensures.bound)
+    (refused_given _ _ _ (GaveLast g.S.Source.source c.args.source.now c.next_piece.new.source) t piece c.loop.reader
+    c.in_err-feed.field-0.0 c.loop.invariant.given.1 c.in_ok-piece.ensures.bytes
+    (gave_last g.S.Source.source c.args.source.now c.loop.source c.next_piece.new.source t piece c.loop.invariant.pulls
+    c.loop.invariant.given.1 c.next_piece.ensures.pulls c.in_ok-piece.ensures.bytes)
+    (subst (λ n. length piece ≤ n) room c.in_ok-piece.ensures.bound)
     c.loop.invariant.given.2 c.loop.invariant.fine (c.in_err-feed.ensures.fed t c.loop.invariant.given.2)
     (λ memory.
     (c.in_err-feed.ensures.memory t c.loop.invariant.given.2 c.loop.invariant.fine (ap (λ x. Err x) memory)).0))
@@ -53,7 +56,8 @@ loop-preserved g c =
 
 pub returns-clause-err : goal.returns-clause-err
 returns-clause-err g c =
-    endless_given _ _ c.loop.invariant.given.0 c.loop.reader c.loop.counter c.loop.invariant.given.1
+    endless_given _ _ (GaveLast g.S.Source.source c.args.source.now c.loop.source) c.loop.invariant.given.0
+    c.loop.reader c.loop.counter c.loop.invariant.given.1
     c.loop.invariant.given.2 c.loop.invariant.fine c.loop.invariant.given.3
     (let over = c.loop-test.false in omega arith)
 

@@ -1,8 +1,8 @@
 use Rattle.std.proofs.Common.{◌≡◌, ◌≤◌, ℕ, List, [], ◌++◌, length, ◌∙◌, Err, ap, subst, rules, append_assoc, length-append, sym, append-nil, arith}
 use Rattle.std.proofs.KnownBytes.{Consumes-nil, Consumes-trans}
 use Rattle.dn_instance.specs.declared.refusal.Refusal.TheVariants.{Endless}
-use Rattle.dn_instance.proofs.SourceLaws.{given_at_end, refused_given, refused_reading, refused_unread, handed_on, handed_none, handed_other, endless_given, has_none, has_some, not_refused, pulled_so_far, pulled_on, copied, uncopied, failed_copy}
-use Rattle.dn_instance.specs.SourceReads.{IsOfReading, unpulled, pulled}
+use Rattle.dn_instance.proofs.SourceLaws.{gave_last, given_at_end, refused_given, refused_reading, refused_unread, handed_on, handed_none, handed_other, endless_given, has_none, has_some, not_refused, pulled_so_far, pulled_on, copied, uncopied, failed_copy}
+use Rattle.dn_instance.specs.SourceReads.{GaveLast, IsOfReading, unpulled, pulled}
 use Rattle.dn_instance.proofs.read.keep_all.Goals as goal
 
 pub returns-then-is_empty-clause-ok : goal.returns-then-is_empty-clause-ok
@@ -24,8 +24,12 @@ pub returns-in_err-keep_piece-clause-err : goal.returns-in_err-keep_piece-clause
 returns-in_err-keep_piece-clause-err g c =
     let room : length c.loop.room ≡ 4096 = search rules in
     handed_on _ _ _ c.from_residual-in_err-keep_piece.ensures
-    (uncopied _ _ _ c.loop.invariant.given.0 c.in_ok-bytes.bytes.now _ _ c.in_err-keep_piece.field-0.0 c.loop.reader
+    (uncopied _ _ _ (GaveLast g.S.Source.source c.args.source.now c.next_piece.new.source) c.loop.invariant.given.0
+    c.in_ok-bytes.bytes.now _ _ c.in_err-keep_piece.field-0.0 c.loop.reader
     c.loop.invariant.given.1 c.in_ok-bytes.ensures.bytes
+    (gave_last g.S.Source.source c.args.source.now c.loop.source c.next_piece.new.source c.loop.invariant.given.0
+    c.in_ok-bytes.bytes.now c.loop.invariant.pulls c.loop.invariant.given.1 c.next_piece.ensures.pulls
+    c.in_ok-bytes.ensures.bytes)
     (has_some c.in_ok-bytes.bytes.now _ c.is_empty.ensures c.if-is_empty.false)
     (subst (λ n. length c.in_ok-bytes.bytes.now ≤ n) room c.in_ok-bytes.ensures.bound) (c.in_err-keep_piece.ensures.err
     ∙ c.loop.invariant.given.4) c.loop.invariant.given.2 c.loop.invariant.fine c.in_err-keep_piece.ensures.memory)
@@ -37,10 +41,14 @@ returns-in_err-feed-clause-err g c =
     let more = Consumes-trans _ _ _ t piece c.loop.invariant.given.1 c.in_ok-bytes.ensures.bytes in
     let room : length c.loop.room ≡ 4096 = search rules in
     handed_on _ _ _ c.from_residual-in_err-feed.ensures
-    (copied _ _ (t ++ piece) _ _ (Err c.in_err-feed.field-0.0) more
+    (copied _ _ (GaveLast g.S.Source.source c.args.source.now c.next_piece.new.source) (t ++ piece) _ _
+    (Err c.in_err-feed.field-0.0) more
     (c.in_ok-keep_piece.ensures.ok ∙ ap (λ l. l ++ piece) c.loop.invariant.given.4 ∙ append_assoc _ t piece)
-    (refused_given _ _ _ t piece c.loop.reader c.in_err-feed.field-0.0 c.loop.invariant.given.1
-    c.in_ok-bytes.ensures.bytes (subst (λ n. length piece ≤ n) room c.in_ok-bytes.ensures.bound)
+    (refused_given _ _ _ (GaveLast g.S.Source.source c.args.source.now c.next_piece.new.source) t piece c.loop.reader
+    c.in_err-feed.field-0.0 c.loop.invariant.given.1 c.in_ok-bytes.ensures.bytes
+    (gave_last g.S.Source.source c.args.source.now c.loop.source c.next_piece.new.source t piece c.loop.invariant.pulls
+    c.loop.invariant.given.1 c.next_piece.ensures.pulls c.in_ok-bytes.ensures.bytes)
+    (subst (λ n. length piece ≤ n) room c.in_ok-bytes.ensures.bound)
     c.loop.invariant.given.2 c.loop.invariant.fine (c.in_err-feed.ensures.fed t c.loop.invariant.given.2)
     (λ memory.
     (c.in_err-feed.ensures.memory t c.loop.invariant.given.2 c.loop.invariant.fine (ap (λ x. Err x) memory)).0)))
@@ -71,14 +79,16 @@ loop-preserved g c =
 pub returns-clause-err : goal.returns-clause-err
 returns-clause-err g c =
     let t = c.loop.invariant.given.0 in
-    copied _ _ t _ _ (Err Endless) c.loop.invariant.given.1 c.loop.invariant.given.4
-    (endless_given _ _ t c.loop.reader c.loop.counter c.loop.invariant.given.1 c.loop.invariant.given.2
+    copied _ _ (GaveLast g.S.Source.source c.args.source.now c.loop.source) t _ _ (Err Endless)
+    c.loop.invariant.given.1 c.loop.invariant.given.4
+    (endless_given _ _ (GaveLast g.S.Source.source c.args.source.now c.loop.source) t c.loop.reader
+    c.loop.counter c.loop.invariant.given.1 c.loop.invariant.given.2
     c.loop.invariant.fine c.loop.invariant.given.3 (let over = c.loop-test.false in omega arith))
 
 pub returns-in_err-bytes-clause-err : goal.returns-in_err-bytes-clause-err
 returns-in_err-bytes-clause-err g c =
     handed_on _ _ _ c.from_residual.ensures
-    (failed_copy _ _ _ c.loop.invariant.given.0 _ _ c.in_err-bytes.field-0.0 c.loop.reader c.loop.invariant.given.1
+    (failed_copy _ _ _ _ c.loop.invariant.given.0 _ _ c.in_err-bytes.field-0.0 c.loop.reader c.loop.invariant.given.1
     c.in_err-bytes.ensures.unread
     c.loop.invariant.given.4 c.loop.invariant.given.2 c.loop.invariant.fine c.in_err-bytes.ensures.refusal)
 

@@ -3,7 +3,8 @@ use Rattle.dn_instance.proofs.read.read_keep.Goals as goal
 
 pub returns-clause-outcome : goal.returns-clause-outcome
 returns-clause-outcome g c =
-    finished_copy _ _ c.keep_all-fed.new.reader c.finish_fed.result c.args.text.now.items c.keep_all-fed.new.text.items
+    finished_copy _ _ c.keep_all-fed.new.reader c.finish_fed.result _ c.args.text.now.items
+    c.keep_all-fed.new.text.items
     c.keep_all-fed.result c.keep_all-fed.ensures.ok c.keep_all-fed.ensures.err c.finish_fed.ensures
 
 pub returns-clause-refusal : goal.returns-clause-refusal

@@ -1,7 +1,7 @@
 use Rattle.std.proofs.Common.{◌≤◌, ◌^◌, ◌∙◌, subst, arith}
 use Rattle.dn_arc.specs.declared.arc.Form.TheVariants.{One}
 use Rattle.std.specs.Map.{keys_of}
-use Rattle.dn_table.specs.State.GraphEntries.{graph_entries}
+use Rattle.dn_table.specs.GraphEntries.{graph_entries}
 use Rattle.dn_table.proofs.EntryLaws.{table_entries, once_apart}
 use Rattle.dn_table.proofs.entry_sum.bundle_entries.Goals as goal
 

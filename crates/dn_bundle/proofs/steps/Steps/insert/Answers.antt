@@ -1,8 +1,8 @@
 use Rattle.std.proofs.Common.{◌≡◌, ◌<◌, Some, None, length, sym, ap, subst, ◌∙◌, rules, arith, slice_get}
 use Rattle.std.proofs.lemmas.Grind.{common_steps}
 use Rattle.dn_bundle.specs.State.Spots.{spot}
-use Rattle.dn_bundle.proofs.StepLaws.{less, not_less}
-use Rattle.dn_bundle.proofs.SpotLaws.{get_below, rest_put, push_put, other_put, merged_put, sum_fits_held, rest_steps, rest_fits, sum_held, sum_held_fits}
+use Rattle.dn_bundle.proofs.StepLaws.{less, not_less, on_err}
+use Rattle.dn_bundle.proofs.SpotLaws.{get_below, rest_put, rest_lacks, push_put, other_put, other_lacks, merged_put, sum_fits_held, rest_steps, rest_fits, sum_held, sum_held_fits}
 use Rattle.dn_bundle.proofs.steps.Steps.insert.Goals as goal
 
 pub overflow_add-held : goal.overflow_add-held
@@ -106,3 +106,30 @@ returns-else-is_full-clause-ok c =
     sym (c.held_in.ensures ∙ ap (λ l. slice_get l at) c.deref-2.ensures.0) ∙ c.in-None.is in
     let l : length xs < 4 = grind (arith, common_steps, c.if-is_full.ensures.value, c.is_full.ensures.fits) in
     push_put xs ys now step at is c.self.view_is c.push.new.self.items here c.self.invariant l c.push.ensures.items
+
+pub returns-in_err-insert_few-in-Some-clause-memory : goal.returns-in_err-insert_few-in-Some-clause-memory
+returns-in_err-insert_few-in-Some-clause-memory c =
+    let xs = c.self.inside.few.items in
+    let ys = c.self.inside.rest.entries in
+    let now = c.args.self.now in
+    let step = c.args.step in
+    let at = c.place_in-at.result in
+    let is : at ≡ spot xs step.0 = c.place_in-at.ensures.place ∙ ap (λ l. spot l step.0) c.deref.ensures.0 in
+    let here : slice_get xs at ≡ Some c.in-Some.held =
+    sym (c.held_in.ensures ∙ ap (λ l. slice_get l at) c.deref-2.ensures.0) ∙ c.in-Some.is in
+    on_err c.from_residual.result
+    (other_lacks xs ys now step at is c.self.view_is c.in-Some.held here
+    (less step.0 c.in-Some.held.0 (search rules) (search rules) c.if-step-held.true) c.requires.steps)
+
+pub returns-in_err-put_in-in-None-clause-memory : goal.returns-in_err-put_in-in-None-clause-memory
+returns-in_err-put_in-in-None-clause-memory c =
+    let xs = c.self.inside.few.items in
+    let ys = c.self.inside.rest.entries in
+    let now = c.args.self.now in
+    let step = c.args.step in
+    let at = c.place_in-at.result in
+    let is : at ≡ spot xs step.0 = c.place_in-at.ensures.place ∙ ap (λ l. spot l step.0) c.deref.ensures.0 in
+    let here : slice_get xs at ≡ None =
+    sym (c.held_in.ensures ∙ ap (λ l. slice_get l at) c.deref-2.ensures.0) ∙ c.in-None.is in
+    on_err c.from_residual-in_err-put_in-in-None.result
+    (rest_lacks xs ys now step at is c.self.view_is here c.in_err-put_in-in-None.ensures.memory)

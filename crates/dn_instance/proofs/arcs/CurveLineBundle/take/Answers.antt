@@ -13,6 +13,7 @@ use Rattle.dn_instance.specs.Items.{arcs_of, cost_arc_in}
 use Rattle.dn_instance.specs.State.ItemFaults.{AnswersFault, arc_fault}
 use Rattle.dn_instance.proofs.ArcItems.{table_grown}
 use Rattle.dn_instance.proofs.CostItems.{cost_item, cost_grown, cost_stays, is_cost_arc, taken_arc}
+use Rattle.dn_instance.proofs.NeedItems.{cost_need}
 use Rattle.dn_instance.proofs.arcs.CurveLineBundle.take.Goals as goal
 
 pub returns-clause-answer : goal.returns-clause-answer
@@ -68,3 +69,15 @@ returns-clause-stands c signs before t =
         ((is_cost_arc c.args.arc.now.low c.args.arc.now.cap c.args.arc.now.cost signs.0).0
         (taken_arc c.args.nodes.now before _ placed ans))
         ok
+
+pub returns-clause-memory : goal.returns-clause-memory
+returns-clause-memory c before p h k t e =
+    let a = c.args.arc.now in
+    let fs : FitsSigned w64 c.args.arc.now.src = search rules in
+    let fd : FitsSigned w64 c.args.arc.now.dst = search rules in
+    let fl : FitsSigned w64 c.args.arc.now.low = search rules in
+    let fc : FitsSigned w64 c.args.arc.now.cap = search rules in
+    let fk : FitsSigned w64 c.args.arc.now.cost = search rules in
+    let memory = simp to_z-of_z at c.take_arc.ensures.memory in
+    cost_need before p h a.src a.dst a.low a.cap a.cost k
+    (memory (arcs_of cost_arc_in before) t.lists_them t.are_arcs e)

@@ -7,6 +7,7 @@ use Rattle.dn_arc.specs.declared.arc.LengthArc.{LengthArc}
 use Rattle.dn_instance.specs.Items.{arcs_of, length_arc_in}
 use Rattle.dn_instance.specs.State.ItemFaults.{AnswersFault, arc_fault}
 use Rattle.dn_instance.proofs.ArcItems.{length_item, length_grown, length_stays, table_grown}
+use Rattle.dn_instance.proofs.NeedItems.{length_need}
 use Rattle.dn_instance.proofs.arcs.LeastLineBundle.take.Goals as goal
 
 pub returns-clause-answer : goal.returns-clause-answer
@@ -34,3 +35,12 @@ returns-clause-stands c signs before t =
     (table_grown lengths length_arc_in _ c.take_arc.new.table before _ ((a.src, a.dst), arc)
     (length_grown before a.src a.dst a.cost) t.are_arcs tt)
     (stands (arcs_of length_arc_in before) length_stays t.lists_them t.are_arcs)
+
+pub returns-clause-memory : goal.returns-clause-memory
+returns-clause-memory c before p h k t e =
+    let a = c.args.arc.now in
+    let fs : FitsSigned w64 a.src = search rules in
+    let fd : FitsSigned w64 a.dst = search rules in
+    let fl : FitsSigned w64 a.cost = search rules in
+    let memory = simp to_z-of_z at c.take_arc.ensures.memory in
+    length_need before p h a.src a.dst a.cost k (memory (arcs_of length_arc_in before) t.lists_them t.are_arcs e)

@@ -7,6 +7,7 @@ use Rattle.dn_arc.specs.declared.arc.CapArc.{CapArc}
 use Rattle.dn_instance.specs.Items.{arcs_of, cap_arc_in}
 use Rattle.dn_instance.specs.State.ItemFaults.{AnswersFault, arc_fault}
 use Rattle.dn_instance.proofs.ArcItems.{cap_item, cap_grown, cap_stays, table_grown}
+use Rattle.dn_instance.proofs.NeedItems.{cap_need}
 use Rattle.dn_instance.proofs.arcs.TotalLineBundle.take.Goals as goal
 
 pub returns-clause-answer : goal.returns-clause-answer
@@ -34,3 +35,12 @@ returns-clause-stands c some before t =
     (table_grown capacities cap_arc_in _ c.take_arc.new.table before _ ((a.src, a.dst), arc)
     (cap_grown before a.src a.dst a.cap) t.are_arcs (record { some = some }))
     (stands (arcs_of cap_arc_in before) cap_stays t.lists_them t.are_arcs)
+
+pub returns-clause-memory : goal.returns-clause-memory
+returns-clause-memory c before p h k t e =
+    let a = c.args.arc.now in
+    let fs : FitsSigned w64 a.src = search rules in
+    let fd : FitsSigned w64 a.dst = search rules in
+    let fc : FitsSigned w64 a.cap = search rules in
+    let memory = simp to_z-of_z at c.take_arc.ensures.memory in
+    cap_need before p h a.src a.dst a.cap k (memory (arcs_of cap_arc_in before) t.lists_them t.are_arcs e)

@@ -1,7 +1,7 @@
 use Rattle.std.proofs.Common.{◌≡◌, ◌<◌, ◌^◌, Some, length, sym, ap, ◌∙◌, subst}
 use Rattle.dn_line.specs.declared.kind.Kind.TheVariants as Kinds
 use Rattle.dn_instance.specs.State.Drafts.{draft_kind, DraftHolds}
-use Rattle.dn_instance.specs.State.EntryCount.{entries_by}
+use Rattle.dn_instance.specs.EntryCount.{entries_by}
 use Rattle.dn_instance.proofs.draft.Draft.entries.Goals as goal
 
 pub returns-in-Min : goal.returns-in-Min

@@ -7,6 +7,7 @@ use Rattle.dn_instance.specs.declared.draft.Draft.TheVariants as Drafts
 use Rattle.dn_instance.specs.State.Drafts.{HasSigns, draft_kind}
 use Rattle.dn_instance.proofs.DraftLaws.{Answering, Standing, no_empty, own_kind, to_answer, to_stand, to_keep, keep_same, source_keep, sink_keep, cap_keep, source_answer, sink_answer, id_answer, pair_answer, point_answer, source_stand, sink_stand, cap_stand, id_stand, pair_stand, point_stand, no_min, no_max, no_sp, no_ss, no_p2p, no_co, refused}
 use Rattle.dn_instance.proofs.SupplyItems.{supply_answer, supply_stand, supply_keep, cost_stand}
+use Rattle.dn_instance.proofs.NeedItems.{Needing, to_need, refused_need, never_need, supply_needs, id_needs, pair_needs, point_needs}
 use Rattle.dn_instance.proofs.draft.Draft.take.Goals as goal
 use Rattle.dn_instance.proofs.draft.Draft.take.Goals.{in-Min-MinArc, in-Min-Supply, in-Max-MaxArc, in-Max-Terminal+in-S, in-Max-Terminal+in-T, in-Sp-SpArc, in-Ss-Source, in-P2p-Query, in-Co-Point, in_default, in_default-2, in_default-3, in_default-4, in_default-5, in_default-6, in_default-7}
 
@@ -237,3 +238,56 @@ returns-clause-kept c =
       | in_default-6 w ↦ ap draft_kind w.self-is ∙ sym (ap draft_kind w.in_default.is-0)
       | in_default w ↦ ap draft_kind w.self-is ∙ sym (ap draft_kind w.in_default.is-0)
     ]
+
+pub returns-clause-memory : goal.returns-clause-memory
+returns-clause-memory c before next =
+    let needing : Needing c.args.nodes.now c.args.self.now c.args.line c.match-self.result =
+    elim c.match-self.branch [
+      | in-Min-MinArc w ↦
+          (let e = c.numbers_of-arc.ensures.min _ _ _ _ _ w.in-Min-MinArc.is-1 in
+          to_need c.args.nodes.now c.args.self.now _ c.args.line _ c.match-self.result _ w.in-Min-MinArc.is-0
+          (sym e) w.result-is
+          (λ items p d. w.take.ensures.memory items p d.problem_is (own_kind d.kind_is) d.holds.2))
+      | in-Min-Supply w ↦ to_need c.args.nodes.now c.args.self.now _ c.args.line _ c.match-self.result _
+          w.in-Min-Supply.is-0 w.in-Min-Supply.is-1 w.result-is
+          (supply_needs c.args.nodes.now w.in-Min-Supply.id w.in-Min-Supply.flow _ w.take_supply.result)
+      | in-Max-MaxArc w ↦
+          (let e = c.numbers_of-arc.ensures.max _ _ _ w.in-Max-MaxArc.is-1 in
+          to_need c.args.nodes.now c.args.self.now _ c.args.line _ c.match-self.result _ w.in-Max-MaxArc.is-0
+          (sym e) w.result-is
+          (λ items p d. w.take-in-Max-MaxArc.ensures.memory items p d.problem_is (own_kind d.kind_is) d.holds.2))
+      | in-Max-Terminal+in-S w ↦ to_need c.args.nodes.now c.args.self.now _ c.args.line _ c.match-self.result _
+          w.in-Max-Terminal.is-0 (w.in-Max-Terminal.is-1 ∙ ap (Terminal w.in-Max-Terminal.id) w.in-S.is) w.result-is
+          (never_need c.args.nodes.now _ _ w.take_terminal.result w.take_terminal.ensures.memory)
+      | in-Max-Terminal+in-T w ↦ to_need c.args.nodes.now c.args.self.now _ c.args.line _ c.match-self.result _
+          w.in-Max-Terminal.is-0 (w.in-Max-Terminal.is-1 ∙ ap (Terminal w.in-Max-Terminal.id) w.in-T.is) w.result-is
+          (never_need c.args.nodes.now _ _ w.take_terminal-in-T.result w.take_terminal-in-T.ensures.memory)
+      | in-Sp-SpArc w ↦
+          (let e = c.numbers_of-arc.ensures.sp _ _ _ w.in-Sp-SpArc.is-1 in
+          to_need c.args.nodes.now c.args.self.now _ c.args.line _ c.match-self.result _ w.in-Sp-SpArc.is-0
+          (sym e) w.result-is
+          (λ items p d. w.take-in-Sp-SpArc.ensures.memory items p d.problem_is (own_kind d.kind_is) d.holds))
+      | in-Ss-Source w ↦ to_need c.args.nodes.now c.args.self.now _ c.args.line _ c.match-self.result _
+          w.in-Ss-Source.is-0 w.in-Ss-Source.is-1 w.result-is
+          (id_needs c.args.nodes.now w.in-Ss-Source.id w.in-Ss-Source.ids w.take_source.result)
+      | in-P2p-Query w ↦ to_need c.args.nodes.now c.args.self.now _ c.args.line _ c.match-self.result _
+          w.in-P2p-Query.is-0 w.in-P2p-Query.is-1 w.result-is
+          (pair_needs c.args.nodes.now (w.in-P2p-Query.first, w.in-P2p-Query.second) w.in-P2p-Query.pairs
+          w.take_query.result)
+      | in-Co-Point w ↦
+          (let fi : FitsSigned w64 w.in-Co-Point.id = search rules in
+          let ans = simp to_z-of_z at w.take_point.ensures.answer in
+          to_need c.args.nodes.now c.args.self.now _ c.args.line _ c.match-self.result _ w.in-Co-Point.is-0
+          w.in-Co-Point.is-1 w.result-is
+          (point_needs c.args.nodes.now w.in-Co-Point.id w.in-Co-Point.x w.in-Co-Point.y w.in-Co-Point.points
+          w.take_point.result ans))
+      | in_default-2 w ↦ refused_need c.args.nodes.now c.args.self.now c.args.line c.match-self.result _ w.result-is
+      | in_default-3 w ↦ refused_need c.args.nodes.now c.args.self.now c.args.line c.match-self.result _ w.result-is
+      | in_default-4 w ↦ refused_need c.args.nodes.now c.args.self.now c.args.line c.match-self.result _ w.result-is
+      | in_default-5 w ↦ refused_need c.args.nodes.now c.args.self.now c.args.line c.match-self.result _ w.result-is
+      | in_default-7 w ↦ refused_need c.args.nodes.now c.args.self.now c.args.line c.match-self.result _ w.result-is
+      | in_default-6 w ↦ refused_need c.args.nodes.now c.args.self.now c.args.line c.match-self.result _ w.result-is
+      | in_default w ↦ refused_need c.args.nodes.now c.args.self.now c.args.line c.match-self.result _ w.result-is
+    ]
+    in
+    needing before next.problem next.drafted

@@ -1,5 +1,5 @@
 use Rattle.std.proofs.Common.{◌<◌, ◌^◌, sym, ap, ◌∙◌, subst}
-use Rattle.dn_instance.specs.State.EntryCount.{entries_by}
+use Rattle.dn_instance.specs.EntryCount.{entries_by}
 use Rattle.dn_instance.specs.Texts.{items_of}
 use Rattle.dn_instance.proofs.ItemSteps.{kind_agrees}
 use Rattle.dn_instance.proofs.SizeLaws.{so_far_fits}

@@ -6,7 +6,7 @@ use Rattle.dn_instance.specs.State.ItemFaults.{AnswersFault}
 use Rattle.dn_instance.specs.State.TextsSoFar.{HasRead}
 use Rattle.dn_instance.specs.TextFaults.{item_tests}
 use Rattle.dn_instance.proofs.CleanItems.{skip_adds_none}
-use Rattle.dn_instance.proofs.FollowLaws.{skip_only, skip_faultless, not_skipped, next_item, line_refused}
+use Rattle.dn_instance.proofs.FollowLaws.{skip_only, skip_faultless, next_item, line_refused}
 use Rattle.dn_instance.proofs.ItemSteps.{no_problem}
 use Rattle.dn_instance.proofs.text_so_far.TextSoFar.judge.Goals as goal
 
@@ -77,9 +77,17 @@ returns-in_default-clause-read c items l at stands =
     (no_problem c.in-Ok.item c.in_default.not-Graph c.in_default.not-Aux))
 
 pub returns-in_default-clause-item : goal.returns-in_default-clause-item
-returns-in_default-clause-item c items l at stands _ =
-    not_skipped items (said_words l.bytes) c.in-Ok.item
-    (sym (c.read.ensures items l at stands) ∙ c.in-Ok.is) c.in_default.not-Skip
+returns-in_default-clause-item c items l at stands e =
+    let next =
+    next_item items (said_words l.bytes) c.in-Ok.item
+    (sym (c.read.ensures items l at stands) ∙ c.in-Ok.is) c.in_default.not-Skip in
+    record {
+      item = c.in-Ok.item;
+      spelled = next.adds;
+      needs =
+          c.take.ensures.memory items (record { read = at; may = next.may })
+          (no_problem c.in-Ok.item c.in_default.not-Graph c.in_default.not-Aux) e;
+    }
 
 pub returns-in-Err-clause-answer : goal.returns-in-Err-clause-answer
 returns-in-Err-clause-answer c items l at stands =

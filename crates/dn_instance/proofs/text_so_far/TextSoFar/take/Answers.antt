@@ -64,3 +64,7 @@ returns-in-Err-clause-unchanged c before at = record {
   holds =
       subst (λ r. OnErr r (DraftHolds c.take.new.self before)) c.in-Err.is (c.take.ensures.unchanged before at.holds);
 }
+
+pub returns-in-Err-clause-memory : goal.returns-in-Err-clause-memory
+returns-in-Err-clause-memory c before a none e =
+    c.take.ensures.memory before (comes_next c.args.self.now before c.args.item a none) (c.in-Err.is ∙ e)

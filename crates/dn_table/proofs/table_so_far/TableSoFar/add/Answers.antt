@@ -8,6 +8,7 @@ use Rattle.pair_index.specs.State.Indexed.{Indexes}
 use Rattle.dn_table.proofs.PairLaws.{other_pair}
 use Rattle.dn_table.proofs.GrownLaws.{none_as, push_found, push_other}
 use Rattle.dn_table.proofs.TableLaws.{fits_alone, grows_fresh, grows_none}
+use Rattle.dn_table.proofs.NeedLaws.{needs_first, needs_fresh}
 use Rattle.dn_table.proofs.table_so_far.TableSoFar.add.Goals as goal
 
 pub returns-in_default-clause-sum : goal.returns-in_default-clause-sum
@@ -85,3 +86,18 @@ returns-in-Ok-reserve-clause-ok g c =
     (λ q other. ap (lookup (same_pair q)) grown
     ∙ push_other (same_pair q) e c.args.self.now (other_pair c.args.pair q other))
     made.0 made.1
+
+pub returns-in_default-clause-memory : goal.returns-in_default-clause-memory
+returns-in_default-clause-memory g c e =
+    needs_fresh g.B.Bundle.bundle.kind (meant g.B.Bundle.bundle) c.args.self.now c.args.pair c.args.arc
+    (none_as c.args.pair c.deref.result.now c.args.self.now (c.deref.ensures.value ∙ c.self.view_is)
+    (c.is_next.ensures.fresh c.if-not-is_next.false)) c.in_default.ensures.widens
+
+pub returns-in-Err-clause-memory : goal.returns-in-Err-clause-memory
+returns-in-Err-clause-memory g c e =
+    let is = subst (IsBundleOf g.B.Bundle.bundle c.args.arc) c.in-Some.is c.in-Ok.ensures.ok in
+    needs_fresh g.B.Bundle.bundle.kind (meant g.B.Bundle.bundle) c.args.self.now c.args.pair c.args.arc
+    (none_as c.args.pair c.deref.result.now c.args.self.now (c.deref.ensures.value ∙ c.self.view_is)
+    (c.is_next.ensures.fresh c.if-not-is_next.false))
+    (needs_first g.B.Bundle.bundle.kind g.met.B.Bundle.laws c.args.arc (meant g.B.Bundle.bundle c.in-Some.bundle)
+    c.requires is.0 is.1)

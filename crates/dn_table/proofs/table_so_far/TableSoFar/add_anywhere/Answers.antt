@@ -5,6 +5,7 @@ use Rattle.dn_arc.specs.declared.arc.Form.TheVariants.{One}
 use Rattle.dn_arc.specs.Pairs.{same_pair}
 use Rattle.dn_table.specs.State.Tables.{Grows}
 use Rattle.dn_table.proofs.TableLaws.{listed_there, sum_listed}
+use Rattle.dn_table.proofs.NeedLaws.{needs_listed}
 use Rattle.dn_table.proofs.GrownLaws.{lookup_none, found_at, same_then, grows_here}
 use Rattle.pair_index.specs.State.Places.{key_at}
 use Rattle.pair_index.proofs.EntryLaws.{indexes_kept}
@@ -57,3 +58,15 @@ returns-in-Some-clause-sum g c =
     (listed_there (g.B.Bundle.bundle.listed One) es c.args.pair c.index_mut.result.now.1
     (found_at c.args.pair es c.self.invariant.apart c.in-Some.i c.index_mut.result.now lt at c.index_mut.ensures.value))
     c.add.ensures.sum
+
+pub returns-in-Some-clause-memory : goal.returns-in-Some-clause-memory
+returns-in-Some-clause-memory g c e =
+    let es = c.self.inside.entries.items in
+    let old = c.self.view_is ∙ c.place.ensures.same in
+    let lt = subst (λ xs. c.in-Some.i < length (keys_of xs)) (sym old) c.in-Some.ensures.place.0 in
+    let at = subst (λ xs. key_at (keys_of xs) c.in-Some.i ≡ c.args.pair) (sym old) c.in-Some.ensures.place.1 in
+    needs_listed g.B.Bundle.bundle.kind (g.B.Bundle.bundle.listed One) c.args.arc es c.args.self.now c.args.pair
+    (g.B.Bundle.bundle.listed One c.index_mut.result.now.1) old
+    (listed_there (g.B.Bundle.bundle.listed One) es c.args.pair c.index_mut.result.now.1
+    (found_at c.args.pair es c.self.invariant.apart c.in-Some.i c.index_mut.result.now lt at c.index_mut.ensures.value))
+    (c.add.ensures.widens e)

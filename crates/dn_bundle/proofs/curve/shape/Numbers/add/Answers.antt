@@ -1,7 +1,9 @@
-use Rattle.std.proofs.Common.{ap, ◌∙◌, rules, w64}
+use Rattle.std.proofs.Common.{◌≡◌, ℤ, pos, ◌<ℤ◌, false, ap, ◌∙◌, subst, rules, w64}
 use Rattle.std.specs.Int.{w128}
 use Rattle.std.proofs.lemmas.Int.{to_z-of_z}
-use Rattle.dn_arc.specs.State.Steps.{add_step}
+use Rattle.dn_arc.specs.State.Steps.{add_step, has_step}
+use Rattle.dn_bundle.specs.State.Shapes.{free}
+use Rattle.dn_bundle.proofs.StepLaws.{on_err}
 use Rattle.dn_bundle.proofs.GrowLaws.{cost_fits, units_fit, step_is, units_are}
 use Rattle.dn_bundle.proofs.curve.shape.Numbers.add.Goals as goal
 
@@ -30,3 +32,12 @@ returns-clause-ok c =
           (step_is old.units old.cost old.total old.steps c.args.arc c.args.total c.requires.sound c.requires.arc
           c.requires.total c.ranges.total (search rules) (search rules) (search rules));
     }
+
+pub returns-in_err-add-clause-memory : goal.returns-in_err-add-clause-memory
+returns-in_err-add-clause-memory c =
+    let old = c.args.self.now in
+    let m =
+    subst (λ (m : ℤ × ℤ). (pos 0 <ℤ m.1) × (has_step old.steps m.0 ≡ false))
+    (step_is old.units old.cost old.total old.steps c.args.arc c.args.total c.requires.sound c.requires.arc
+    c.requires.total c.ranges.total (search rules) (search rules) (search rules)) c.in_err-add.ensures.memory in
+    on_err c.from_residual.result (free m.0 m.1)
