@@ -1,1 +1,4 @@
+pub mod Openers
+pub mod HostTexts
 pub mod HostRuns
+pub mod State

@@ -23,21 +23,22 @@ module _ {T : Type 0} (text : AskedText T) where
     reads_as b (Err CountTooLarge) h read = h
 
     -- reading the source that was handed out returns what `IsRead` says
-    pub handed_reads : (given : Option (List ℕ)) (r : Result Held Refusal) → given ≡ text.behind
+    pub handed_reads : (given : Option (List ℕ)) (r : Result Held Refusal) → IfSome text.behind (λ b. given ≡ Some b)
         → IfSome given (λ b. SourceOutcome b (text.source.gives source) r)
         → (IsErrOf r Read → IsTrue (text.source.has_failed source)) → IfOk r HoldsSome
         → IsRead (IsRefusedText text) text r
     handed_reads given r e h read held = record {
       not_handed = subst (λ o. IfSome o (λ f. r ≡ Err (unopened f))) (sym fine) tt;
       failed = λ _ is. record { source = source; comes = comes; failed = read is };
-      handed = λ _. subst (λ o. IfSome o (λ b. ReadsAs (IsRefusedText text) b r)) e (by_given given h);
+      handed = λ _. known text.behind e;
       held = held;
     }
       where
-        by_given : (o : Option (List ℕ)) → IfSome o (λ b. SourceOutcome b (text.source.gives source) r)
+        known : (o : Option (List ℕ)) → IfSome o (λ b. given ≡ Some b)
             → IfSome o (λ b. ReadsAs (IsRefusedText text) b r)
-        by_given None h = tt
-        by_given (Some b) h = reads_as b r h read
+        known None e = tt
+        known (Some b) e =
+            reads_as b r (subst (λ o. IfSome o (λ b. SourceOutcome b (text.source.gives source) r)) e h) read
 
     copies_as : (b copy : List ℕ) (r : Result Held Refusal) → CopyOutcome b (text.source.gives source) [] copy r
         → (IsErrOf r Read → IsTrue (text.source.has_failed source)) → ReadsAs (IsRefusedCopy text) b r
@@ -65,22 +66,26 @@ module _ {T : Type 0} (text : AskedText T) where
     copies_as b copy (Err CountTooLarge) h read = h.0
 
     pub handed_copies : (given : Option (List ℕ)) (old copy : List ℕ) (r : Result Held Refusal) → old ≡ []
-        → given ≡ text.behind → IfSome given (λ b. CopyOutcome b (text.source.gives source) old copy r)
+        → IfSome text.behind (λ b. given ≡ Some b)
+        → IfSome given (λ b. CopyOutcome b (text.source.gives source) old copy r)
         → (IsErrOf r Read → IsTrue (text.source.has_failed source)) → IfOk r (HoldsCopied old copy)
         → IsRead (IsRefusedCopy text) text r
     handed_copies given old copy r empty e h read held = record {
       not_handed = subst (λ o. IfSome o (λ f. r ≡ Err (unopened f))) (sym fine) tt;
       failed = λ _ is. record { source = source; comes = comes; failed = read is };
       handed =
-          λ _. subst (λ o. IfSome o (λ b. ReadsAs (IsRefusedCopy text) b r)) e
-          (by_given given (subst (λ l. IfSome given (λ b. CopyOutcome b (text.source.gives source) l copy r)) empty h));
+          λ _. known text.behind e
+          (subst (λ l. IfSome given (λ b. CopyOutcome b (text.source.gives source) l copy r)) empty h);
       held = held_of r held;
     }
       where
-        by_given : (o : Option (List ℕ)) → IfSome o (λ b. CopyOutcome b (text.source.gives source) [] copy r)
+        known : (o : Option (List ℕ)) → IfSome o (λ b. given ≡ Some b)
+            → IfSome given (λ b. CopyOutcome b (text.source.gives source) [] copy r)
             → IfSome o (λ b. ReadsAs (IsRefusedCopy text) b r)
-        by_given None h = tt
-        by_given (Some b) h = copies_as b copy r h read
+        known None e h = tt
+        known (Some b) e h =
+            copies_as b copy r
+            (subst (λ o. IfSome o (λ b. CopyOutcome b (text.source.gives source) [] copy r)) e h) read
 
         held_of : (r : Result Held Refusal) → IfOk r (HoldsCopied old copy) → IfOk r HoldsSome
         held_of (Ok held) (t, o, same) = (t, o)
@@ -100,18 +105,19 @@ whole_copy b copy None end c = absurd (none c.rest c.rest_is)
 
 -- if a source that gave what is behind a name was read and copied, the copy is what is behind the name
 pub handed_copy : (new given behind : Option (List ℕ)) (old copy : List ℕ) (r : Result Held Refusal) → old ≡ []
-    → given ≡ behind → IfSome given (λ b. CopyOutcome b new old copy r) → IfSome behind (λ b. OnOk r (copy ≡ b))
+    → IfSome behind (λ b. given ≡ Some b) → IfSome given (λ b. CopyOutcome b new old copy r)
+    → IfSome behind (λ b. OnOk r (copy ≡ b))
 handed_copy new given behind old copy r empty e h =
-    subst (λ o. IfSome o (λ b. OnOk r (copy ≡ b))) e
-    (by_given given (subst (λ l. IfSome given (λ b. CopyOutcome b new l copy r)) empty h))
+    known behind e (subst (λ l. IfSome given (λ b. CopyOutcome b new l copy r)) empty h)
   where
     by_result : (b : List ℕ) (r : Result Held Refusal) → CopyOutcome b new [] copy r → OnOk r (copy ≡ b)
     by_result b (Ok held) h = whole_copy b copy new h.0.1 h.1
     by_result b (Err e) h = tt
 
-    by_given : (o : Option (List ℕ)) → IfSome o (λ b. CopyOutcome b new [] copy r) → IfSome o (λ b. OnOk r (copy ≡ b))
-    by_given None h = tt
-    by_given (Some b) h = by_result b r h
+    known : (o : Option (List ℕ)) → IfSome o (λ b. given ≡ Some b)
+        → IfSome given (λ b. CopyOutcome b new [] copy r) → IfSome o (λ b. OnOk r (copy ≡ b))
+    known None e h = tt
+    known (Some b) e h = by_result b r (subst (λ o. IfSome o (λ b. CopyOutcome b new [] copy r)) e h)
 
 -- a copy that was empty before is the text that was read
 pub handed_copied : (old copy : List ℕ) (r : Result Held Refusal) → old ≡ [] → IfOk r (HoldsCopied old copy)

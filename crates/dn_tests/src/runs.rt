@@ -37,6 +37,7 @@ impl<'a> Files for Texts<'a> {
     ghost files = { record {
       behind = λ _ _. None;
       fault = λ s _. s.fault;
+      Faults = λ _ _ _. Unit {0};
       Asks = λ _ _ _. Unit {0};
       Hands = λ _ _ _. Unit {0};
     } };
