@@ -1,3 +1,4 @@
+pub mod Streams
 pub mod Openers
 pub mod HostTexts
 pub mod HostRuns

@@ -4,18 +4,16 @@ ghost use Rattle.std.specs.IoError.{error_kind};
 ghost use Rattle.dn_host.specs.Openers.{MayFault, Remains, behind_of};
 ghost use Rattle.dn_host.specs.State.Openings.{MayFail};
 
+use crate::buffered::Buffered;
 use crate::opener::Opener;
-use crate::retried::Retried;
+use crate::stream::Stream;
 use dn_instance::Held;
-use dn_line::{FromRead, Source};
+use dn_line::Source;
 use dn_run::{Files, FilesFault};
 use std::alloc::Global;
 use std::io;
-use std::io::{BufReader, ErrorKind};
+use std::io::ErrorKind;
 use std::mem::forget;
-
-// The size in bytes of the buffer of a text.
-const BUFFER: usize = 65536;
 
 /// The texts of an opener, by name. The name `-` is standard input.
 #[derive(Drop)]
@@ -39,8 +37,8 @@ impl<'a, P> OpenedFiles<'a, P> {
     }
 }
 
-/// The source of a text of an opener, buffered.
-pub type OpenedSource<P> = FromRead<BufReader<Retried<<P as Opener>::Stream>>>;
+/// The source of a text of an opener.
+pub type OpenedSource<P> = Buffered<<P as Opener>::Stream>;
 
 impl<'a, P: Opener> Files for OpenedFiles<'a, P> {
     type Text = OpenedSource<P>;
@@ -50,7 +48,8 @@ impl<'a, P: Opener> Files for OpenedFiles<'a, P> {
       fault = λ s _. s.fault;
       Faults = λ s. MayFault P.opener s.opener.now;
       Asks = λ old _ new. new.opener ≡ old.opener;
-      Hands = λ _ _ _. Unit {0};
+      Hands = λ _ _ t. t.failed ≡ false;
+      Backs = λ old _ _ new. new ≡ old;
     } };
 
     fn take(&mut self, name: &str) -> Result<Self::Text, FilesFault> {
@@ -65,6 +64,10 @@ impl<'a, P: Opener> Files for OpenedFiles<'a, P> {
         }
     }
 
+    fn give_back(&mut self, _name: &str, text: Self::Text) {
+        drop(text);
+    }
+
     // The program ends soon.
     fn release(&mut self, held: Held) {
         forget(held);
@@ -73,7 +76,7 @@ impl<'a, P: Opener> Files for OpenedFiles<'a, P> {
 
 // Opens the stream of a text.
 fn stream_of<P: Opener>(opener: &P, name: &str) -> io::Result<P::Stream>
-    ensures bytes { IfOk result (λ s. Remains (behind_of P.opener opener.now name.now) (P.Stream.remaining s)) }
+    ensures bytes { IfOk result (λ s. Remains (behind_of P.opener opener.now name.now) (P.Stream.stream.gives s)) }
     ensures fails { IfErr result (λ e. MayFail P.opener opener.now name.now (error_kind e)) }
 {
     if name == "-" {
@@ -83,7 +86,7 @@ fn stream_of<P: Opener>(opener: &P, name: &str) -> io::Result<P::Stream>
     }
 }
 
-// Opens a text. The buffer keeps the number of reads small, however few bytes a pull asks for.
+// Opens a text.
 fn opened<P: Opener>(alloc: Global, opener: &P, name: &str) -> io::Result<OpenedSource<P>>
     ensures gives { IfOk result (λ t. Remains (behind_of P.opener opener.now name.now)
         (⟦<OpenedSource<P> as Source>⟧.source.gives t)) }
@@ -91,8 +94,7 @@ fn opened<P: Opener>(alloc: Global, opener: &P, name: &str) -> io::Result<Opened
     ensures fails { IfErr result (λ e. MayFail P.opener opener.now name.now (error_kind e)) }
 {
     let stream = stream_of(opener, name)?;
-    let reader = BufReader::with_capacity(alloc, BUFFER, Retried { stream })?;
-    Ok(FromRead::new(reader))
+    Ok(Buffered::new(alloc, stream)?)
 }
 
 // Maps an error of opening to a `FilesFault`.

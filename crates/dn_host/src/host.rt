@@ -4,6 +4,7 @@ ghost use Rattle.dn_host.specs.HostTexts.{text_remains};
 
 use crate::opener::Opener;
 use crate::retried::Retried;
+use crate::stream::Stream;
 use dn_sink::{Sink, ToWrite};
 use std::io::{BufWriter, Printer, Read};
 use std::rt::Runtime;
@@ -21,8 +22,8 @@ pub enum HostText<I, F> {
     File(F),
 }
 
-impl<I: Read, F: Read> Read for HostText<I, F> {
-    ghost remaining = { text_remains I.remaining F.remaining };
+impl<I: Read, F: Read> Stream for HostText<I, F> {
+    ghost stream = { record { gives = text_remains I.remaining F.remaining; Fails = λ _ _ _. Unit {0} } };
 
     fn read(&mut self, into: &mut [u8]) -> io::Result<usize> {
         match self {

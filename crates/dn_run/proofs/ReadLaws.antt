@@ -1,11 +1,12 @@
 -- Lemmas on what reading a text that a run asks for returns.
-use Rattle.std.proofs.Common.{◌≡◌, ℕ, List, [], ◌++◌, Option, Some, None, Result, Ok, Err, IsTrue, OnOk, IfOk, IfSome, IsErrOf, refl, sym, ap, ◌∙◌, subst, inl, inr, append-nil}
+use Rattle.std.proofs.Common.{◌≡◌, ◌≢◌, ℕ, List, [], ◌++◌, Option, Some, None, Result, Ok, Err, IsTrue, OnOk, IfOk, IfSome, IsErrOf, refl, sym, ap, ◌∙◌, subst, inl, inr, append-nil}
 use Rattle.std.specs.Io.KnownBytes.{IsAtEnd}
 use Rattle.dn_instance.specs.State.SourceReads.{CopyOutcome, Copied, SourceOutcome, HoldsCopied, HoldsSome}
 use Rattle.dn_instance.specs.declared.held.Held.{Held}
 use Rattle.dn_instance.specs.declared.refusal.Refusal.{Refusal}
 use Rattle.dn_instance.specs.declared.refusal.Refusal.TheVariants.{Text, Memory, Read, Endless, Write, CountTooLarge}
 use Rattle.dn_instance.proofs.SourceLaws.{ran_out}
+use Rattle.dn_run.specs.declared.files.FilesFault.{FilesFault}
 use Rattle.dn_run.specs.Texts.{AskedText, ComesOf, IsRefusedCopy, IsRefusedText, unopened}
 use Rattle.dn_run.specs.State.Texts.{IsRead, ReadsAs}
 
@@ -123,3 +124,7 @@ handed_copy new given behind old copy r empty e h =
 pub handed_copied : (old copy : List ℕ) (r : Result Held Refusal) → old ≡ [] → IfOk r (HoldsCopied old copy)
     → IfOk r (HoldsCopied [] copy)
 handed_copied old copy r empty h = subst (λ l. IfOk r (HoldsCopied l copy)) empty h
+
+-- a fault is not no fault
+pub some_is_not_none : (f : FilesFault) → Some f ≢ None
+some_is_not_none f e = cc

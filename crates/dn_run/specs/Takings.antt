@@ -16,6 +16,8 @@ pub record FilesWords (F T : Type 0) : Type 1 where
   pub Asks : F → List ℕ → F → Type 0
   -- whether asking for the text of this name can hand out this source
   pub Hands : F → List ℕ → T → Type 0
+  -- whether taking back this source of the text of this name can change the first state of the files to the second
+  pub Backs : F → List ℕ → T → F → Type 0
 
 -- taking the text of `name` did not change what is behind any name, except what is behind `-` if `name` is `-`
 abbrev pub KeepsOthers : (List ℕ → Option (List ℕ)) → (List ℕ → Option (List ℕ)) → List ℕ → Type 0
@@ -39,3 +41,10 @@ module _ {F T : Type 0} (files : FilesWords F T) (old new : F) (name : List ℕ)
     pub ok : OnOk result (files.fault new name ≡ None)
     pub err : IfErr result (λ fault. files.fault new name ≡ Some fault)
     pub asked : AsksOne
+
+  -- what taking back this source of the text of `name` does. It changes neither what is behind any name nor the fault
+  -- for any name
+  pub record TakesBack (t : T) : Type 0 where
+    pub backs : files.Backs old name t new
+    pub behind : (other : List ℕ) → files.behind new other ≡ files.behind old other
+    pub faults : (other : List ℕ) → files.fault new other ≡ files.fault old other

@@ -40,6 +40,7 @@ impl<'a> Files for Texts<'a> {
       Faults = λ _ _ _. Unit {0};
       Asks = λ _ _ _. Unit {0};
       Hands = λ _ _ _. Unit {0};
+      Backs = λ _ _ _ _. Unit {0};
     } };
 
     fn take(&mut self, name: &str) -> Result<Pieces<'static>, FilesFault> {
@@ -52,6 +53,8 @@ impl<'a> Files for Texts<'a> {
         self.fault = Some(self.other);
         Err(self.other)
     }
+
+    fn give_back(&mut self, _name: &str, _text: Pieces<'static>) {}
 }
 
 // The bytes that `out` and `err` take in a run, and its exit status.
