@@ -1,1 +1,5 @@
+pub mod Streams
+pub mod Openers
+pub mod HostTexts
 pub mod HostRuns
+pub mod State

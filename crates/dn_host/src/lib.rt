@@ -1,9 +1,19 @@
-//! A run of the program on the host. In the order of the data: `retried` has streams that retry interrupted reads and
-//! writes, and `host` runs what the words of the command line ask for over the host's files and streams.
+//! A run of the program on the host. In the order of the data: `stream` has streams of bytes, and `buffered` sources
+//! over them; `opener` opens streams, `files` hands out their sources by name, `runs` runs what the words of the command
+//! line ask for over them. `retried` retries interrupted writes, and `host` has what the host opens, its words and its
+//! standard output.
 #![tactic(auto)]
 
+pub mod buffered;
+pub mod files;
 pub mod host;
+pub mod opener;
 pub mod retried;
+pub mod runs;
+pub mod stream;
 
-pub use host::run_on;
+pub use host::{HostOpener, out_of, words_of};
+pub use opener::Opener;
 pub use retried::Retried;
+pub use runs::run_on;
+pub use stream::Stream;

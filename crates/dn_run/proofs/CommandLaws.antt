@@ -185,13 +185,7 @@ before_first {F} {T} files mid left right keeps apart r h =
     subst (λ o. IsRead (IsRefusedText (with_behind o)) (with_behind o) r) (keeps right apart) h
   where
     with_behind : Option (List ℕ) → AskedText T
-    with_behind o = record {
-      name = right;
-      behind = o;
-      fault = files.words.fault files.new right;
-      Hands = files.words.Hands mid right;
-      source = files.source;
-    }
+    with_behind o = record (text_asked files mid files.new right) { behind = o }
 
 module _ {T S : Type 0} (left right : AskedText T) (out : SinkRun S) (graph : Held)
     (h : IsRead (IsRefusedCopy left) left (Ok graph)) where

@@ -1,5 +1,5 @@
 -- Lemmas on what reading a text that a run asks for returns.
-use Rattle.std.proofs.Common.{◌≡◌, ℕ, List, [], ◌++◌, Option, Some, None, Result, Ok, Err, IsTrue, OnOk, IfOk, IfSome, IsErrOf, refl, sym, ap, ◌∙◌, subst, inl, inr, append-nil}
+use Rattle.std.proofs.Common.{◌≡◌, ◌≢◌, ℕ, List, [], ◌++◌, Option, Some, None, Result, Ok, Err, IsTrue, OnOk, IfOk, IfSome, IsErrOf, refl, sym, ap, ◌∙◌, subst, inl, inr, append-nil}
 use Rattle.std.specs.Io.KnownBytes.{IsAtEnd}
 use Rattle.dn_instance.specs.SourceReads.{AfterPulls, after_pulls}
 use Rattle.dn_instance.specs.State.SourceReads.{CopyOutcome, Copied, SourceOutcome, HoldsCopied, HoldsSome}
@@ -7,6 +7,7 @@ use Rattle.dn_instance.specs.declared.held.Held.{Held}
 use Rattle.dn_instance.specs.declared.refusal.Refusal.{Refusal}
 use Rattle.dn_instance.specs.declared.refusal.Refusal.TheVariants.{Text, Memory, Read, Endless, Write, CountTooLarge}
 use Rattle.dn_instance.proofs.SourceLaws.{ran_out}
+use Rattle.dn_run.specs.declared.files.FilesFault.{FilesFault}
 use Rattle.dn_run.specs.Texts.{AskedText, ComesOf, IsRefusedCopy, IsRefusedText, unopened}
 use Rattle.dn_run.specs.State.Texts.{IsRead, ReadsAs}
 
@@ -27,21 +28,22 @@ module _ {T : Type 0} (text : AskedText T) where
     reads_as b (Err CountTooLarge) h read = h
 
     -- reading the source that was handed out returns what `IsRead` says
-    pub handed_reads : (given : Option (List ℕ)) (r : Result Held Refusal) → given ≡ text.behind
+    pub handed_reads : (given : Option (List ℕ)) (r : Result Held Refusal) → IfSome text.behind (λ b. given ≡ Some b)
         → IfSome given (λ b. SourceOutcome b left r)
         → (IsErrOf r Read → IsTrue (text.source.has_failed source)) → IfOk r HoldsSome
         → IsRead (IsRefusedText text) text r
     handed_reads given r e h read held = record {
       not_handed = subst (λ o. IfSome o (λ f. r ≡ Err (unopened f))) (sym fine) tt;
       failed = λ _ is. record { source = source; comes = comes; failed = read is };
-      handed = λ _. subst (λ o. IfSome o (λ b. ReadsAs (IsRefusedText text) b r)) e (by_given given h);
+      handed = λ _. known text.behind e;
       held = held;
     }
       where
-        by_given : (o : Option (List ℕ)) → IfSome o (λ b. SourceOutcome b left r)
+        known : (o : Option (List ℕ)) → IfSome o (λ b. given ≡ Some b)
             → IfSome o (λ b. ReadsAs (IsRefusedText text) b r)
-        by_given None h = tt
-        by_given (Some b) h = reads_as b r h read
+        known None e = tt
+        known (Some b) e =
+            reads_as b r (subst (λ o. IfSome o (λ b. SourceOutcome b left r)) e h) read
 
     copies_as : (b copy : List ℕ) (r : Result Held Refusal) → CopyOutcome b left [] copy r
         → (IsErrOf r Read → IsTrue (text.source.has_failed source)) → ReadsAs (IsRefusedCopy text) b r
@@ -70,22 +72,26 @@ module _ {T : Type 0} (text : AskedText T) where
     copies_as b copy (Err CountTooLarge) h read = h.0
 
     pub handed_copies : (given : Option (List ℕ)) (old copy : List ℕ) (r : Result Held Refusal) → old ≡ []
-        → given ≡ text.behind → IfSome given (λ b. CopyOutcome b left old copy r)
+        → IfSome text.behind (λ b. given ≡ Some b)
+        → IfSome given (λ b. CopyOutcome b left old copy r)
         → (IsErrOf r Read → IsTrue (text.source.has_failed source)) → IfOk r (HoldsCopied old copy)
         → IsRead (IsRefusedCopy text) text r
     handed_copies given old copy r empty e h read held = record {
       not_handed = subst (λ o. IfSome o (λ f. r ≡ Err (unopened f))) (sym fine) tt;
       failed = λ _ is. record { source = source; comes = comes; failed = read is };
       handed =
-          λ _. subst (λ o. IfSome o (λ b. ReadsAs (IsRefusedCopy text) b r)) e
-          (by_given given (subst (λ l. IfSome given (λ b. CopyOutcome b left l copy r)) empty h));
+          λ _. known text.behind e
+          (subst (λ l. IfSome given (λ b. CopyOutcome b left l copy r)) empty h);
       held = held_of r held;
     }
       where
-        by_given : (o : Option (List ℕ)) → IfSome o (λ b. CopyOutcome b left [] copy r)
+        known : (o : Option (List ℕ)) → IfSome o (λ b. given ≡ Some b)
+            → IfSome given (λ b. CopyOutcome b left [] copy r)
             → IfSome o (λ b. ReadsAs (IsRefusedCopy text) b r)
-        by_given None h = tt
-        by_given (Some b) h = copies_as b copy r h read
+        known None e h = tt
+        known (Some b) e h =
+            copies_as b copy r
+            (subst (λ o. IfSome o (λ b. CopyOutcome b left [] copy r)) e h) read
 
         held_of : (r : Result Held Refusal) → IfOk r (HoldsCopied old copy) → IfOk r HoldsSome
         held_of (Ok held) (t, o, same) = (t, o)
@@ -104,22 +110,26 @@ whole_copy b copy None end c = absurd (none c.rest c.rest_is)
     none rest' e = cc
 
 -- if a source that gave what is behind a name was read and copied, the copy is what is behind the name
-pub handed_copy : (new : AfterPulls) (given behind : Option (List ℕ)) (old copy : List ℕ) (r : Result Held Refusal)
-    → old ≡ [] → given ≡ behind → IfSome given (λ b. CopyOutcome b new old copy r)
+pub handed_copy : (new : AfterPulls) (given behind : Option (List ℕ)) (old copy : List ℕ) (r : Result Held Refusal) → old ≡ []
+    → IfSome behind (λ b. given ≡ Some b) → IfSome given (λ b. CopyOutcome b new old copy r)
     → IfSome behind (λ b. OnOk r (copy ≡ b))
 handed_copy new given behind old copy r empty e h =
-    subst (λ o. IfSome o (λ b. OnOk r (copy ≡ b))) e
-    (by_given given (subst (λ l. IfSome given (λ b. CopyOutcome b new l copy r)) empty h))
+    known behind e (subst (λ l. IfSome given (λ b. CopyOutcome b new l copy r)) empty h)
   where
     by_result : (b : List ℕ) (r : Result Held Refusal) → CopyOutcome b new [] copy r → OnOk r (copy ≡ b)
     by_result b (Ok held) h = whole_copy b copy new.gives h.0.1 h.1
     by_result b (Err e) h = tt
 
-    by_given : (o : Option (List ℕ)) → IfSome o (λ b. CopyOutcome b new [] copy r) → IfSome o (λ b. OnOk r (copy ≡ b))
-    by_given None h = tt
-    by_given (Some b) h = by_result b r h
+    known : (o : Option (List ℕ)) → IfSome o (λ b. given ≡ Some b)
+        → IfSome given (λ b. CopyOutcome b new [] copy r) → IfSome o (λ b. OnOk r (copy ≡ b))
+    known None e h = tt
+    known (Some b) e h = by_result b r (subst (λ o. IfSome o (λ b. CopyOutcome b new [] copy r)) e h)
 
 -- a copy that was empty before is the text that was read
 pub handed_copied : (old copy : List ℕ) (r : Result Held Refusal) → old ≡ [] → IfOk r (HoldsCopied old copy)
     → IfOk r (HoldsCopied [] copy)
 handed_copied old copy r empty h = subst (λ l. IfOk r (HoldsCopied l copy)) empty h
+
+-- a fault is not no fault
+pub some_is_not_none : (f : FilesFault) → Some f ≢ None
+some_is_not_none f e = cc

@@ -13,20 +13,22 @@ use Rattle.dn_run.specs.declared.files.FilesFault.{FilesFault}
 use Rattle.dn_run.specs.declared.files.FilesFault.TheVariants as Files
 
 -- a text that a run asked for: its name; the bytes behind the name before the run, if they are known; why the files did
--- not hand it out, or `None` if they did; which sources they can hand out for it; and how these sources describe
--- themselves
+-- not hand it out, or `None` if they did; which sources they can hand out for it, and which they can have taken back;
+-- and how these sources describe themselves
 pub record AskedText (T : Type 0) : Type 1 where
   pub name : List ℕ
   pub behind : Option (List ℕ)
   pub fault : Option FilesFault
   pub Hands : T → Type 0
+  pub Backs : T → Type 0
   pub source : SourceWords T
 
--- this is a source that was handed out for the text, as the pulls of reading left it
+-- this is a source that was handed out for the text, as the pulls of reading left it, and that was then taken back
 pub record ComesOf {T : Type 0} (text : AskedText T) (source : T) : Type 0 where
   pub first : T
   pub handed : text.Hands first
   pub pulled : PulledWhileClean text.source first source
+  pub backs : text.Backs source
 
 -- a source that was handed out for this text has failed, as the pulls of reading left it
 pub record HasFailed {T : Type 0} (text : AskedText T) : Type 0 where

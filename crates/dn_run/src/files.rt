@@ -1,6 +1,6 @@
 // Files, which hand out texts by name.
 ghost use Rattle.std.specs.Prelude.{◌≡◌};
-ghost use Rattle.dn_run.specs.Takings.{FilesWords, Takes};
+ghost use Rattle.dn_run.specs.Takings.{FilesWords, Takes, TakesBack};
 
 use dn_instance::Held;
 use dn_line::Source;
@@ -33,6 +33,10 @@ pub trait Files {
     /// `Device` if the text could not be opened. `Memory` if an allocation failed.
     fn take(&mut self, name: &str) -> Result<Self::Text, FilesFault>
         ensures { Takes files self.old self.new name.now Self.Text.source result };
+
+    /// Takes back the source of the text of this name, which a run has read as far as it needs.
+    fn give_back(&mut self, name: &str, text: Self::Text)
+        ensures { TakesBack files self.old self.new name.now text };
 
     /// Takes an instance that the run no longer needs, and frees it. Does not change the files.
     ///

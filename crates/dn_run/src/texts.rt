@@ -3,7 +3,7 @@ ghost use Rattle.std.specs.Prelude.{◌≡◌, [], IfErr, IfOk};
 ghost use Rattle.dn_instance.specs.SourceReads.{IsOfReading};
 ghost use Rattle.dn_instance.specs.State.SourceReads.{HoldsCopied};
 ghost use Rattle.dn_run.specs.State.FilesRuns.{taken_text};
-ghost use Rattle.dn_run.specs.Takings.{AsksOne};
+ghost use Rattle.dn_run.specs.FilesRuns.{ReadsOne};
 ghost use Rattle.dn_run.specs.Texts.{IsRefusedCopy, IsRefusedText, unopened};
 ghost use Rattle.dn_run.specs.State.Texts.{IsCopy, IsRead};
 
@@ -20,12 +20,14 @@ pub(crate) fn read_named<F: Files>(
     ensures read { let text = taken_text F.files F.Text.source (files.old, files.new) name.now in
         IsRead (IsRefusedText text) text result }
     ensures refusal { IfErr result IsOfReading }
-    ensures asks { AsksOne F.files files.old files.new name.now }
+    ensures asks { ReadsOne F.files F.Text.source files.old files.new name.now }
 {
     match files.take(name) {
         Ok(text) => {
             let mut source = text;
-            read_from(alloc, &mut source)
+            let read = read_from(alloc, &mut source);
+            files.give_back(name, source);
+            read
         }
         Err(fault) => Err(unopened(fault)),
     }
@@ -45,12 +47,14 @@ pub(crate) fn copy_named<F: Files>(
     ensures copy { let text = taken_text F.files F.Text.source (files.old, files.new) name.now in
         IsCopy text copy.new.items result }
     ensures refusal { IfErr result IsOfReading }
-    ensures asks { AsksOne F.files files.old files.new name.now }
+    ensures asks { ReadsOne F.files F.Text.source files.old files.new name.now }
 {
     match files.take(name) {
         Ok(text) => {
             let mut source = text;
-            read_keep(alloc, &mut source, copy)
+            let read = read_keep(alloc, &mut source, copy);
+            files.give_back(name, source);
+            read
         }
         Err(fault) => Err(unopened(fault)),
     }

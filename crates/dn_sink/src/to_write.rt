@@ -15,10 +15,11 @@ pub struct ToWrite<W: Write> {
 }
 
 impl<W: Write> ToWrite<W> {
-    /// Returns a sink that counts the writer's present contents as taken.
+    /// Returns a sink that counts the writer's present contents as taken, and not as flushed.
     pub fn new(writer: W) -> ToWrite<W>
         ensures taken { ⟦<ToWrite<W> as Sink>⟧.sink.taken result ≡ W.contents writer }
         ensures fine { ⟦<ToWrite<W> as Sink>⟧.sink.has_failed result ≡ false }
+        ensures unflushed { ⟦<ToWrite<W> as Sink>⟧.sink.is_flushed result ≡ false }
     {
         ToWrite {
             writer,

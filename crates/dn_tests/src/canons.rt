@@ -3,10 +3,10 @@
 use crate::stand_ins::{FailsOnce, LateWriter, NoFlush};
 use crate::texts::{COSTS, COSTS_ONE, ROADS, ROADS_CANON};
 use dn_bundle::Form;
-use dn_canon::{is_canon_of, write_canon};
+use dn_canon::{canon_run, is_canon, is_canon_of, write_canon};
 use dn_instance::{Refusal, read_text};
-use dn_line::{FromRead, Source, SourceFault};
-use dn_sink::{Sink, SinkFault, ToWrite};
+use dn_line::{FromRead, Slice, Source, SourceFault};
+use dn_sink::{Bytes, Sink, SinkFault, ToWrite};
 use std::alloc::Global;
 
 // Whether a sink whose flush fails takes the canonical text, and `write_canon` returns the failure.
@@ -106,5 +106,29 @@ fn judging(rt: HostRuntime) {
     for (problem, text, form, answer) in &JUDGED {
         let is_judged = is_canonical(rt.alloc(), problem, text, *form) == Ok(*answer);
         assert!(rt; is_judged, "{text}");
+    }
+}
+
+// Whether `canon_run` puts the canonical text.
+fn is_put(alloc: Global) -> Result<bool, Refusal> {
+    let mut out = Bytes::new(alloc);
+    canon_run(
+        alloc,
+        &mut Slice::new(ROADS.as_bytes()),
+        &mut out,
+        Form::One,
+    )?;
+    Ok(out.taken() == ROADS_CANON.as_bytes())
+}
+
+#[test]
+fn a_run_with_enough_memory(rt: HostRuntime) {
+    assert!(rt; is_put(rt.alloc()) == Ok(true));
+}
+
+#[test]
+fn judgements_with_enough_memory(rt: HostRuntime) {
+    for (text, answer) in [(ROADS_CANON, true), (ROADS, false)] {
+        assert!(rt; is_canon(rt.alloc(), text.as_bytes(), Form::One) == Ok(answer));
     }
 }

@@ -23,6 +23,8 @@ mod reports;
 #[cfg(test)]
 mod runs;
 #[cfg(test)]
+mod shelves;
+#[cfg(test)]
 mod stand_ins;
 #[cfg(test)]
 mod texts;

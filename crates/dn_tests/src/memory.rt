@@ -7,7 +7,7 @@ use dn_instance::{Held, Reader, Refusal, read_from, read_keep, read_text};
 use dn_line::Slice;
 use dn_sink::Bytes;
 use std::alloc::Global;
-use std::io::{Input, Read};
+use std::io::{ErrorKind, Input, Read};
 
 // Whether this is the canonical text, in form 2, of the parsed instance.
 fn has_canon(alloc: Global, held: &Held, canon: &[u8]) -> Result<bool, Refusal> {
@@ -76,7 +76,8 @@ fn are_right(alloc: Global, text: &[u8], canon: &[u8]) -> bool {
 #[test]
 fn a_refused_growth(rt: HostRuntime) {
     let mut given = Vec::new(rt.alloc());
-    if rt.reader().read_to_end(&mut given).is_err() {
+    if let Err(error) = rt.reader().read_to_end(&mut given) {
+        assert!(rt; error.kind() == ErrorKind::OutOfMemory, "standard input");
         return;
     }
     let (text, canon) = match given.iter().position(|it| *it == 0) {

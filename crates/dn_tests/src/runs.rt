@@ -37,8 +37,10 @@ impl<'a> Files for Texts<'a> {
     ghost files = { record {
       behind = λ _ _. None;
       fault = λ s _. s.fault;
+      Faults = λ _ _ _. Unit {0};
       Asks = λ _ _ _. Unit {0};
       Hands = λ _ _ _. Unit {0};
+      Backs = λ _ _ _ _. Unit {0};
     } };
 
     fn take(&mut self, name: &str) -> Result<Pieces<'static>, FilesFault> {
@@ -51,6 +53,8 @@ impl<'a> Files for Texts<'a> {
         self.fault = Some(self.other);
         Err(self.other)
     }
+
+    fn give_back(&mut self, _name: &str, _text: Pieces<'static>) {}
 }
 
 // The bytes that `out` and `err` take in a run, and its exit status.

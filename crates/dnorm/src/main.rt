@@ -1,9 +1,9 @@
 //! The program `dnorm`. It prints what DIMACS network instances contain, their first faults and differences, and their
-//! canonical texts. `main` passes the host and its standard error to `run_on`, which does what the words of the command
-//! line ask for.
+//! canonical texts. `main` passes the words of the command line, what the host opens, and its standard output and error
+//! to `run_on`.
 #![tactic(auto)]
 
-use dn_host::{Retried, run_on};
+use dn_host::{HostOpener, Retried, out_of, run_on, words_of};
 use dn_sink::ToWrite;
 use std::process::ExitCode;
 
@@ -11,5 +11,8 @@ fn main(rt: HostRuntime) -> ExitCode {
     let mut err = ToWrite::new(Retried {
         stream: rt.stderr(),
     });
-    ExitCode::from(run_on(&rt, &mut err))
+    let words = words_of(&rt);
+    let opener = HostOpener { host: &rt };
+    let mut out = out_of(&rt);
+    ExitCode::from(run_on(rt.alloc(), &words, &opener, &mut out, &mut err))
 }

@@ -1,0 +1,51 @@
+-- How a stream of bytes describes itself, and what a read does (this project's profile).
+use Rattle.std.specs.Prelude.{◌≡◌, ◌≢◌, ◌⊎◌, ℕ, ◌+◌, ◌-◌, ◌^◌, List, Bool, true, false, Option, Result, IfErr}
+use Rattle.std.specs.Io.{ReadsAtMost}
+use Rattle.std.specs.Io.KnownBytes.{ReadConsumes}
+use Rattle.std.specs.IoError.{error_kind}
+use Rattle.std.specs.declared.io.Error.{Error}
+use Rattle.std.specs.declared.io.ErrorKind.{ErrorKind}
+use Rattle.std.specs.declared.io.ErrorKind.TheVariants.{Interrupted}
+
+-- the description of a stream of type S
+pub record StreamWords (S : Type 0) : Type 1 where
+  -- the bytes that it still gives, if they are known
+  pub gives : S → Option (List ℕ)
+  -- whether a read can fail with an error of this kind and change the first state of the stream to the second
+  pub Fails : S → ErrorKind → S → Type 0
+
+-- what a read does: it gives the next bytes, and none only at the end or if there is no room; or it fails, where it
+-- can, and gives none
+pub record Reads {S : Type 0} (words : StreamWords S) (old new : S) (into : List ℕ) (result : Result ℕ Error)
+    : Type 0 where
+  pub bound : ReadsAtMost result into
+  pub bytes : ReadConsumes (words.gives old) (words.gives new) result into
+  pub fails : IfErr result (λ e. words.Fails old (error_kind e) new)
+
+-- n interrupted reads changed the first state of the stream to the second
+pub data Interrupts {S : Type 0} (words : StreamWords S) (old : S) : ℕ → S → Type 0 where
+  none : Interrupts words old 0 old
+  more : (n : ℕ) (mid new : S) → Interrupts words old n mid → words.Fails mid Interrupted new
+      → Interrupts words old (n + 1) new
+
+-- after n interrupted reads, one failed that was not interrupted; or 2^64-1 reads were interrupted
+pub record FailsAtLast {S : Type 0} (words : StreamWords S) (old : S) (kind : ErrorKind) (new : S) : Type 0 where
+  pub n : ℕ
+  pub mid : S
+  pub interrupts : Interrupts words old n mid
+  pub last : ((kind ≢ Interrupted) × words.Fails mid kind new) ⊎ ((n ≡ 2 ^ 64 - 1) × (new ≡ mid) × (kind ≡ Interrupted))
+
+-- the description of a stream whose interrupted reads are retried
+abbrev pub retrying : {S : Type 0} → StreamWords S → StreamWords S
+retrying words = record { gives = words.gives; Fails = FailsAtLast words }
+
+-- a stream, and whether a read of it has failed
+pub record ReadStream (S : Type 0) : Type 0 where
+  pub stream : S
+  pub failed : Bool
+
+-- what a pull does to a source over a stream: if a read has failed, it does not read; and a read has failed afterwards
+-- only where it can, after all retries
+pub record PullsStream {S : Type 0} (words : StreamWords S) (old new : ReadStream S) : Type 0 where
+  pub stays : old.failed ≡ true → new ≡ old
+  pub fails : old.failed ≡ false → new.failed ≡ true → (kind : ErrorKind) × FailsAtLast words old.stream kind new.stream

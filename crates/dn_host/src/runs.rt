@@ -1,0 +1,51 @@
+// A run of the program over the texts of an opener.
+ghost use Rattle.std.specs.Prelude.{◌≡◌, ◌≤◌, None, MatchResult, map, string_bytes};
+ghost use Rattle.dn_run.specs.Streams.{sink_run};
+ghost use Rattle.dn_host.specs.HostRuns.{HostFilesWords, NoWords, RanOnHost};
+
+use crate::files::{OpenedFiles, OpenedSource};
+use crate::opener::Opener;
+use dn_instance::Refusal;
+use dn_line::Source;
+use dn_report::put_fault_line;
+use dn_run::{Files, refuse_words, run};
+use dn_sink::Sink;
+use std::alloc::Global;
+use std::io;
+use std::io::ErrorKind;
+
+/// Runs the program with the words of the command line, the program's name first, over the texts of an opener, and
+/// returns the exit status. If the words could not be collected, it says why: words that are not UTF-8 are no command,
+/// and any other error is a lack of memory.
+pub fn run_on<'a, P: Opener, O: Sink, E: Sink>(
+    alloc: Global,
+    words: &io::Result<Vec<String>>,
+    opener: &'a P,
+    out: &mut O,
+    err: &mut E,
+) -> u8
+    ensures status { result ≤ 4 }
+    ensures ran { let o = sink_run O.sink (out.old, out.new) in
+        let e = sink_run E.sink (err.old, err.new) in
+        MatchResult words.now
+        (λ ws. RanOnHost (record {
+          files = ⟦<OpenedFiles<'a, P> as Files>⟧.files;
+          source = ⟦<OpenedSource<P> as Source>⟧.source;
+          Begins = λ f. (f.opener.now ≡ opener.now) × (f.fault ≡ None);
+        }) o e (map string_bytes ws.items) result)
+        (λ error. NoWords o e error result) }
+{
+    match words {
+        Ok(words) => {
+            let mut files = OpenedFiles::new(alloc, opener);
+            run(alloc, words, &mut files, out, err)
+        }
+        Err(error) => match error.kind() {
+            ErrorKind::InvalidData => refuse_words(err),
+            _ => {
+                let _ = put_fault_line(err, "dnorm", &Refusal::Memory);
+                4
+            }
+        },
+    }
+}
