@@ -35,10 +35,6 @@ pub record FailsAtLast {S : Type 0} (words : StreamWords S) (old : S) (kind : Er
   pub interrupts : Interrupts words old n mid
   pub last : ((kind ≢ Interrupted) × words.Fails mid kind new) ⊎ ((n ≡ 2 ^ 64 - 1) × (new ≡ mid) × (kind ≡ Interrupted))
 
--- the description of a stream whose interrupted reads are retried
-abbrev pub retrying : {S : Type 0} → StreamWords S → StreamWords S
-retrying words = record { gives = words.gives; Fails = FailsAtLast words }
-
 -- a stream, and whether a read of it has failed
 pub record ReadStream (S : Type 0) : Type 0 where
   pub stream : S

@@ -50,7 +50,8 @@ impl<S: Stream> Buffered<S> {
         requires given { self.old.start ≡ self.old.end }
         requires fine { self.old.failed ≡ false }
         ensures bytes { Keeps (S.stream.gives self.old.stream)
-            (prepend_known (slice_range self.new.bytes.items self.new.start self.new.end) (S.stream.gives self.new.stream)) }
+            (prepend_known (slice_range self.new.bytes.items self.new.start self.new.end)
+            (S.stream.gives self.new.stream)) }
         ensures end { OnOk result (self.new.end ≤ self.new.start → IsAtEnd (S.stream.gives self.new.stream)) }
         ensures fine { OnOk result (self.new.failed ≡ false) }
         ensures failed { OnErr result (IsTrue self.new.failed) }

@@ -1,7 +1,7 @@
 //! A run of the program on the host. In the order of the data: `stream` has streams of bytes, and `buffered` sources
-//! over them; `opener` opens streams, `files` hands out their sources by name, `runs` runs what the words of the command
-//! line ask for over them. `retried` retries interrupted writes, and `host` has what the host opens, its words and its
-//! standard output.
+//! over them; `opener` opens streams, `files` hands out their sources by name, and `runs` runs what the words of the
+//! command line ask for over them. `retried` retries interrupted writes, and `host` has what the host opens, its words
+//! and its standard output.
 #![tactic(auto)]
 
 pub mod buffered;

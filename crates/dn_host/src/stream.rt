@@ -1,5 +1,6 @@
 // Streams of bytes.
-ghost use Rattle.dn_host.specs.Streams.{StreamWords, Reads, retrying};
+ghost use Rattle.dn_host.specs.Streams.{StreamWords, Reads};
+ghost use Rattle.dn_host.specs.State.Streams.{retrying};
 
 use std::io;
 use std::io::ErrorKind;

@@ -39,8 +39,8 @@ pub data GivesBack {F T : Type 0} (words : FilesWords F T) (mid new : F) (name :
   unopened : words.fault mid name ≢ None → new ≡ mid → GivesBack words mid new name text
   read : (source : T) → ComesOf text source → TakesBack words mid new name source → GivesBack words mid new name text
 
--- the run asked once for the text of this name, which changed the files from `old` to `mid`, and handed back what it was
--- handed out. This did not change what is behind any name, except what is behind `-` if this name is `-`
+-- the run asked once for the text of this name, which changed the files from `old` to `mid`, and handed back what it
+-- was handed out. This did not change what is behind any name, except what is behind `-` if this name is `-`
 pub record ReadsOne {F T : Type 0} (words : FilesWords F T) (source : SourceWords T) (old new : F) (name : List ℕ)
     : Type 0 where
   pub mid : F
