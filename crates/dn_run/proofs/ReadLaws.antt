@@ -110,8 +110,8 @@ whole_copy b copy None end c = absurd (none c.rest c.rest_is)
     none rest' e = cc
 
 -- if a source that gave what is behind a name was read and copied, the copy is what is behind the name
-pub handed_copy : (new : AfterPulls) (given behind : Option (List ℕ)) (old copy : List ℕ) (r : Result Held Refusal) → old ≡ []
-    → IfSome behind (λ b. given ≡ Some b) → IfSome given (λ b. CopyOutcome b new old copy r)
+pub handed_copy : (new : AfterPulls) (given behind : Option (List ℕ)) (old copy : List ℕ) (r : Result Held Refusal)
+    → old ≡ [] → IfSome behind (λ b. given ≡ Some b) → IfSome given (λ b. CopyOutcome b new old copy r)
     → IfSome behind (λ b. OnOk r (copy ≡ b))
 handed_copy new given behind old copy r empty e h =
     known behind e (subst (λ l. IfSome given (λ b. CopyOutcome b new l copy r)) empty h)
