@@ -1,6 +1,7 @@
 // Runs over texts in memory, opened as the host opens files.
 ghost use Rattle.std.specs.Prelude.{◌≡◌, ◌<◌, ◌⊎◌, [], false, true, Some, None, if◌then◌else◌};
 ghost use Rattle.std.specs.Str.{bytes_eq};
+ghost use Rattle.std.specs.declared.io.ErrorKind.TheVariants.{Interrupted, NotFound, Other};
 
 use crate::commands::owned;
 use crate::texts::{CAPACITIES, COSTS, COSTS_ONE, ROADS, ROADS_CANON};
@@ -38,8 +39,8 @@ impl Sheet {
 impl Stream for Sheet {
     ghost stream = { record {
       gives = λ s. Some s.rest.now;
-      Fails = λ old kind _. ((kind ≡ ErrorKind.Interrupted) × (0 < old.interruptions))
-          ⊎ ((kind ≡ ErrorKind.Other) × (old.torn ≡ true) × (old.rest.now ≡ []));
+      Fails = λ old kind _. ((kind ≡ Interrupted) × (0 < old.interruptions))
+          ⊎ ((kind ≡ Other) × (old.torn ≡ true) × (old.rest.now ≡ []));
     } };
 
     fn read(&mut self, into: &mut [u8]) -> io::Result<usize> {
@@ -84,7 +85,7 @@ impl Opener for Shelf {
           else if bytes_eq s.third.name.now name then Some s.third.sheet.rest.now else None;
       input = λ s. Some s.input.rest.now;
       Fails = λ s name kind. (bytes_eq s.first.name.now name ≡ false) × (bytes_eq s.second.name.now name ≡ false)
-          × (bytes_eq s.third.name.now name ≡ false) × (kind ≡ ErrorKind.NotFound);
+          × (bytes_eq s.third.name.now name ≡ false) × (kind ≡ NotFound);
     } };
 
     fn open(&self, name: &str) -> io::Result<Sheet> {
