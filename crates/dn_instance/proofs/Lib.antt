@@ -23,6 +23,6 @@ pub mod SizeLaws
 pub mod SourceLaws
 pub mod EntryLaws
 pub mod ContentEntries
-pub mod ArcRunLaws
-pub mod ArcLinesLaws
+pub mod RowRunLaws
+pub mod RowLinesLaws
 pub mod DraftRunLaws

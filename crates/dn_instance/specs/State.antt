@@ -2,7 +2,7 @@ pub mod Parts
 pub mod EntryCount
 pub mod ItemFaults
 pub mod Drafts
-pub mod ArcRuns
+pub mod RowRuns
 pub mod TextsSoFar
 pub mod Helds
 pub mod Ends

@@ -1,27 +1,27 @@
-// Looks up the pairs of the next arcs before the arcs are taken.
+// Looks up the pairs of the arcs of the next rows before the rows are taken.
 ghost use Rattle.std.specs.Prelude.{◌≡◌};
 
 use dn_bundle::Bundle;
-use dn_line::ArcLine;
+use dn_line::RowLine;
 use dn_table::TableSoFar;
 use pair_index::AHEAD;
 use std::alloc::Global;
 
-// Looks up the pairs of these arcs together in a table, if that may save time. This affects only the speed.
-pub(crate) fn look_ahead<B: Bundle>(table: &mut TableSoFar<B>, alloc: Global, arcs: &[ArcLine])
+// Looks up the pairs of the arcs of these rows together in a table, if that may save time. This affects only the speed.
+pub(crate) fn look_ahead<B: Bundle>(table: &mut TableSoFar<B>, alloc: Global, rows: &[RowLine])
     ensures { table.new ≡ table.old }
 {
     if table.wants_guesses() {
-        table.guess(alloc, &pairs_of(arcs));
+        table.guess(alloc, &pairs_of(rows));
     }
 }
 
-// Returns the ordered pairs of the first `AHEAD` arcs. If there are fewer arcs, the other elements are (0, 0), which is
+// Returns the ordered pairs of the first `AHEAD` rows. If there are fewer rows, the other elements are (0, 0), which is
 // the pair of no valid arc. The pairs are used only for hints, so there is no contract.
-fn pairs_of(arcs: &[ArcLine]) -> [(i64, i64); AHEAD] {
+fn pairs_of(rows: &[RowLine]) -> [(i64, i64); AHEAD] {
     let mut pairs = [(0, 0); AHEAD];
-    for (pair, next) in pairs.iter_mut().zip(arcs) {
-        *pair = (next.arc.src, next.arc.dst);
+    for (pair, next) in pairs.iter_mut().zip(rows) {
+        *pair = (next.row.first, next.row.second);
     }
     pairs
 }

@@ -3,7 +3,6 @@ ghost use Rattle.std.specs.Prelude.{Err, ◌≡◌, ◌↔◌, ℤ, List, [], �
 ghost use Rattle.dn_arc.specs.declared.arc.Form.{Form};
 ghost use Rattle.std.specs.Prelude.{Some, ◌≤◌, length, take};
 ghost use Rattle.std.specs.List.{AllByRecursion};
-ghost use Rattle.dn_line.specs.State.ArcLines.{arc_of};
 ghost use Rattle.dn_line.specs.Faults.{first_fault};
 ghost use Rattle.dn_line.specs.declared.kind.Kind.{Kind};
 ghost use Rattle.dn_line.specs.declared.line.Line.{Line};
@@ -11,7 +10,7 @@ ghost use Rattle.dn_arc.specs.Kinds.{lengths, capacities, costs};
 ghost use Rattle.dn_bundle.specs.State.Listings.{least_arcs, total_arcs, curve_arcs};
 ghost use Rattle.dn_instance.specs.Items.{Problem, problem_of, length_arc_in, cap_arc_in, cost_arc_in};
 ghost use Rattle.dn_instance.specs.TextFaults.{item_tests};
-ghost use Rattle.dn_instance.specs.State.ArcRuns.{Joins, arc_items};
+ghost use Rattle.dn_instance.specs.State.RowRuns.{Joins, line_of, row_items};
 ghost use Rattle.dn_instance.specs.State.Drafts.{HasSigns, TableHolds};
 ghost use Rattle.dn_instance.specs.State.ItemFaults.{AnswersFault, in_graph, arc_fault};
 ghost use Rattle.dn_table.specs.State.Tables.{AreArcs, GraphNeedsMore, Stays, Lists};
@@ -20,7 +19,7 @@ ghost use Rattle.dn_instance.specs.Readers.{NeedsMemory};
 use crate::ahead::look_ahead;
 use crate::refusal::ItemFault;
 use dn_bundle::{Bundle, BundleFault, CapArc, CostArc, Curve, Form, Least, LengthArc, Total};
-use dn_line::{ArcLine, Code, Kind, Line, PlainArc};
+use dn_line::{Code, Kind, Line, Row, RowLine};
 use dn_table::TableSoFar;
 use std::alloc::Global;
 
@@ -63,7 +62,7 @@ fn take_arc<B: Bundle>(
     }
 }
 
-// A bundle of the arcs of one kind of text, which takes each arc from the numbers of its line.
+// A bundle of the arcs of one kind of text, which takes each arc from its row.
 pub(crate) trait LineBundle: Bundle {
     // The kind of text.
     ghost text: { Kind };
@@ -71,21 +70,21 @@ pub(crate) trait LineBundle: Bundle {
     // Whether a table represents the arcs among these items.
     ghost holds: { List ((ℤ × ℤ) × Self) → List Line → Type 0 };
 
-    // Takes the arc of a line. On a fault, nothing changes.
+    // Takes the arc of a row. On a fault, nothing changes.
     fn take(
         table: &mut TableSoFar<Self>,
         alloc: Global,
         nodes: &i64,
-        arc: &PlainArc,
+        row: &Row,
     ) -> Result<(), ItemFault>
-        ensures answer { HasSigns (arc_of text arc.now) → (before : List Line) (p : Problem)
+        ensures answer { HasSigns (line_of text row.now) → (before : List Line) (p : Problem)
             → problem_of before ≡ Some p → p.kind ≡ text → p.nodes ≡ nodes.now → holds table.old before
-            → AnswersFault result (first_fault (item_tests before (Some (arc_of text arc.now)))) }
-        ensures stands { HasSigns (arc_of text arc.now) → (before : List Line) → holds table.old before
-            → OnOk result (holds table.new (before ++ arc_of text arc.now ∷ [])) }
+            → AnswersFault result (first_fault (item_tests before (Some (line_of text row.now)))) }
+        ensures stands { HasSigns (line_of text row.now) → (before : List Line) → holds table.old before
+            → OnOk result (holds table.new (before ++ line_of text row.now ∷ [])) }
         ensures err { OnErr result (table.new ≡ table.old) }
         ensures memory { (before : List Line) (p : Problem) → problem_of before ≡ Some p → p.kind ≡ text
-            → holds table.old before → result ≡ Err ItemFault.Memory → NeedsMemory before (arc_of text arc.now) };
+            → holds table.old before → result ≡ Err ItemFault.Memory → NeedsMemory before (line_of text row.now) };
 }
 
 impl LineBundle for Least {
@@ -98,14 +97,14 @@ impl LineBundle for Least {
         table: &mut TableSoFar<Least>,
         alloc: Global,
         nodes: &i64,
-        arc: &PlainArc,
+        row: &Row,
     ) -> Result<(), ItemFault> {
         take_arc(
             table,
             alloc,
             nodes,
-            (arc.src, arc.dst),
-            LengthArc { length: arc.cost },
+            (row.first, row.second),
+            LengthArc { length: row.third },
         )
     }
 }
@@ -120,14 +119,14 @@ impl LineBundle for Total {
         table: &mut TableSoFar<Total>,
         alloc: Global,
         nodes: &i64,
-        arc: &PlainArc,
+        row: &Row,
     ) -> Result<(), ItemFault> {
         take_arc(
             table,
             alloc,
             nodes,
-            (arc.src, arc.dst),
-            CapArc { cap: arc.cap },
+            (row.first, row.second),
+            CapArc { cap: row.third },
         )
     }
 }
@@ -142,39 +141,37 @@ impl LineBundle for Curve {
         table: &mut TableSoFar<Curve>,
         alloc: Global,
         nodes: &i64,
-        arc: &PlainArc,
+        row: &Row,
     ) -> Result<(), ItemFault> {
-        let PlainArc {
-            src,
-            dst,
-            low,
-            cap,
-            cost,
-        } = *arc;
-        take_arc(table, alloc, nodes, (src, dst), CostArc { low, cap, cost })
+        let arc = CostArc {
+            low: row.third,
+            cap: row.fourth,
+            cost: row.fifth,
+        };
+        take_arc(table, alloc, nodes, (row.first, row.second), arc)
     }
 }
 
-// Takes arcs one after another, up to the first that has a fault or for which an allocation fails. Returns how many it
-// takes. `look_ahead` affects only the speed.
-pub(crate) fn take_arcs<B: LineBundle>(
+// Takes the arcs of rows one after another, up to the first that has a fault or for which an allocation fails. Returns
+// how many it takes. `look_ahead` affects only the speed.
+pub(crate) fn take_rows<B: LineBundle>(
     table: &mut TableSoFar<B>,
     alloc: Global,
     nodes: &i64,
-    arcs: &[ArcLine],
+    rows: &[RowLine],
 ) -> usize
-    ensures taken { AllByRecursion HasSigns (arc_items B.text arcs.now) → (before : List Line) (p : Problem)
+    ensures taken { AllByRecursion HasSigns (row_items B.text rows.now) → (before : List Line) (p : Problem)
         → problem_of before ≡ Some p → p.kind ≡ B.text → p.nodes ≡ nodes.now → B.holds table.old before
-        → Joins B.holds before table.new (arc_items B.text (take result arcs.now)) }
-    ensures within { result ≤ length arcs.now }
+        → Joins B.holds before table.new (row_items B.text (take result rows.now)) }
+    ensures within { result ≤ length rows.now }
 {
-    look_ahead(table, alloc, arcs);
-    for i in 0..arcs.len() {
-        if B::take(table, alloc, nodes, &arcs[i].arc).is_err() {
+    look_ahead(table, alloc, rows);
+    for i in 0..rows.len() {
+        if B::take(table, alloc, nodes, &rows[i].row).is_err() {
             return i;
         }
     }
-    arcs.len()
+    rows.len()
 }
 
 // Whether a graph with this many nodes has both nodes of a pair.

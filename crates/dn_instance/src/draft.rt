@@ -1,25 +1,24 @@
 // What the items so far make.
 ghost use Rattle.std.specs.Prelude.{◌≡◌, ◌<◌, ◌≤◌, ◌^◌, ℤ, List, ◌∷◌, ◌++◌, [], OnOk, OnErr, Err, Some, length, take};
 ghost use Rattle.std.specs.List.{AllByRecursion};
-ghost use Rattle.dn_line.specs.State.ArcLines.{arc_of};
 ghost use Rattle.dn_line.specs.declared.line.Line.{Line};
 ghost use Rattle.dn_line.specs.declared.line.Line.TheVariants.{MinArc, MaxArc, SpArc};
 ghost use Rattle.dn_line.specs.Faults.{first_fault};
 ghost use Rattle.dn_instance.specs.Items.{Problem};
 ghost use Rattle.dn_instance.specs.TextFaults.{item_tests};
 ghost use Rattle.dn_instance.specs.State.ItemFaults.{AnswersFault};
-ghost use Rattle.dn_instance.specs.State.ArcRuns.{Joins, arc_items};
+ghost use Rattle.dn_instance.specs.State.RowRuns.{Joins, line_of, row_items};
 ghost use Rattle.dn_instance.specs.State.Drafts.{draft_kind, ComesNext, DraftHolds, HasSigns, IsDraftOf};
 ghost use Rattle.dn_instance.specs.State.Ends.{Makes};
 ghost use Rattle.dn_instance.specs.EntryCount.{entries_by};
 ghost use Rattle.dn_instance.specs.Readers.{NeedsMemory};
 
-use crate::arcs::{LineBundle, take_arcs};
+use crate::arcs::{LineBundle, take_rows};
 use crate::content::Content;
 use crate::items::{take_point, take_query, take_source, take_supply, take_terminal};
 use crate::refusal::ItemFault;
 use dn_bundle::{Curve, Least, Total};
-use dn_line::{ArcLine, Code, Kind, Letter, Line, PlainArc};
+use dn_line::{Code, Kind, Letter, Line, Row, RowLine};
 use dn_table::TableSoFar;
 use std::alloc::Global;
 use std::collections::{BTreeMap, BTreeSet};
@@ -98,22 +97,22 @@ impl Draft {
         ensures memory { (before : List Line) → ComesNext self.old nodes.now before line
             → result ≡ Err ItemFault.Memory → NeedsMemory before line }
     {
-        let arc = numbers_of(&line);
+        let row = row_of(&line);
         match (self, line) {
             (Draft::Min { table, .. }, Line::MinArc { .. }) => {
-                Curve::take(table, alloc, nodes, &arc)
+                Curve::take(table, alloc, nodes, &row)
             }
             (Draft::Min { supplies, idle, .. }, Line::Supply { id, flow }) => {
                 take_supply(supplies, idle, nodes, &id, &flow)
             }
             (Draft::Max { table, .. }, Line::MaxArc { .. }) => {
-                Total::take(table, alloc, nodes, &arc)
+                Total::take(table, alloc, nodes, &row)
             }
             (Draft::Max { source, sink, .. }, Line::Terminal { id, letter }) => match letter {
                 Letter::S => take_terminal(source, sink, nodes, &id),
                 Letter::T => take_terminal(sink, source, nodes, &id),
             },
-            (Draft::Sp(table), Line::SpArc { .. }) => Least::take(table, alloc, nodes, &arc),
+            (Draft::Sp(table), Line::SpArc { .. }) => Least::take(table, alloc, nodes, &row),
             (Draft::Ss(ids), Line::Source { id }) => take_source(ids, &id),
             (Draft::P2p(pairs), Line::Query { first, second }) => take_query(
                 pairs,
@@ -125,19 +124,19 @@ impl Draft {
         }
     }
 
-    // Takes arcs one after another, up to the first that has a fault or for which an allocation fails. Returns how many
+    // Takes rows one after another, up to the first that has a fault or for which an allocation fails. Returns how many
     // it takes.
-    pub(crate) fn take_arcs(&mut self, alloc: Global, nodes: &i64, arcs: &[ArcLine]) -> usize
+    pub(crate) fn take_rows(&mut self, alloc: Global, nodes: &i64, rows: &[RowLine]) -> usize
         ensures taken { (before : List Line) (p : Problem) → IsDraftOf self.old nodes.now p before
-            → AllByRecursion HasSigns (arc_items p.kind arcs.now)
-            → Joins DraftHolds before self.new (arc_items p.kind (take result arcs.now)) }
-        ensures within { result ≤ length arcs.now }
+            → AllByRecursion HasSigns (row_items p.kind rows.now)
+            → Joins DraftHolds before self.new (row_items p.kind (take result rows.now)) }
+        ensures within { result ≤ length rows.now }
         ensures kept { draft_kind self.new ≡ draft_kind self.old }
     {
         match self {
-            Draft::Min { table, .. } => take_arcs(table, alloc, nodes, arcs),
-            Draft::Max { table, .. } => take_arcs(table, alloc, nodes, arcs),
-            Draft::Sp(table) => take_arcs(table, alloc, nodes, arcs),
+            Draft::Min { table, .. } => take_rows(table, alloc, nodes, rows),
+            Draft::Max { table, .. } => take_rows(table, alloc, nodes, rows),
+            Draft::Sp(table) => take_rows(table, alloc, nodes, rows),
             Draft::Empty | Draft::Ss(_) | Draft::P2p(_) | Draft::Co(_) => 0,
         }
     }
@@ -200,13 +199,13 @@ impl Draft {
     }
 }
 
-// Returns the numbers of an arc line. The numbers returned for any other line are not used.
-fn numbers_of(line: &Line) -> PlainArc
-    ensures min { (u v l c p : ℤ) → line.now ≡ MinArc u v l c p → arc_of Kind.Min result ≡ line.now }
-    ensures max { (u v c : ℤ) → line.now ≡ MaxArc u v c → arc_of Kind.Max result ≡ line.now }
-    ensures sp { (u v w : ℤ) → line.now ≡ SpArc u v w → arc_of Kind.Sp result ≡ line.now }
+// Returns the row of an arc line. The row returned for any other line is not used.
+fn row_of(line: &Line) -> Row
+    ensures min { (u v l c p : ℤ) → line.now ≡ MinArc u v l c p → line_of Kind.Min result ≡ line.now }
+    ensures max { (u v c : ℤ) → line.now ≡ MaxArc u v c → line_of Kind.Max result ≡ line.now }
+    ensures sp { (u v w : ℤ) → line.now ≡ SpArc u v w → line_of Kind.Sp result ≡ line.now }
 {
-    let (src, dst, low, cap, cost) = match *line {
+    let (first, second, third, fourth, fifth) = match *line {
         Line::MinArc {
             src,
             dst,
@@ -214,15 +213,15 @@ fn numbers_of(line: &Line) -> PlainArc
             cap,
             cost,
         } => (src, dst, low, cap, cost),
-        Line::MaxArc { src, dst, cap } => (src, dst, 0, cap, 0),
-        Line::SpArc { src, dst, length } => (src, dst, 0, 0, length),
+        Line::MaxArc { src, dst, cap } => (src, dst, cap, 0, 0),
+        Line::SpArc { src, dst, length } => (src, dst, length, 0, 0),
         _ => (0, 0, 0, 0, 0),
     };
-    PlainArc {
-        src,
-        dst,
-        low,
-        cap,
-        cost,
+    Row {
+        first,
+        second,
+        third,
+        fourth,
+        fifth,
     }
 }

@@ -10,7 +10,7 @@ ghost use Rattle.dn_instance.specs.State.TextsSoFar.{TextAt};
 use crate::held::Held;
 use crate::refusal::{ItemFault, Place, Refusal};
 use crate::text_so_far::TextSoFar;
-use dn_line::{ArcBlock, LineReader};
+use dn_line::{LineReader, RowBlock};
 use std::alloc::Global;
 
 /// Reads a text that arrives in any pieces. Represents the bytes that it was fed.
@@ -76,9 +76,10 @@ impl Reader {
         }
     }
 
-    // If no line is open, takes plain arc lines at the beginning of a piece. If it takes none, takes what `step` takes.
+    // If no line is open, takes rows of plain lines at the beginning of a piece. If it takes none, takes what `step`
+    // takes.
     // Returns how many bytes it takes.
-    fn advance(&mut self, block: &mut ArcBlock, piece: &[u8]) -> Result<usize, Refusal>
+    fn advance(&mut self, block: &mut RowBlock, piece: &[u8]) -> Result<usize, Refusal>
         requires { 0 < length piece.now }
         ensures some { IfOk result (λ n. 0 < n) }
         ensures bound { IfOk result (λ n. n ≤ length piece.now) }
@@ -87,8 +88,8 @@ impl Reader {
         ensures refusal { MatchResult result (λ n. refusal_of self.new ≡ refusal_of self.old)
             (λ e. refusal_of self.new ≡ Some e) }
     {
-        if piece[0] == b'a' && !self.line.pending() {
-            let used = self.text.take_arcs(self.alloc, block, piece);
+        if !self.line.pending() {
+            let used = self.text.take_rows(self.alloc, block, piece);
             if 0 < used {
                 return Ok(used);
             }
@@ -113,7 +114,7 @@ impl Reader {
         if let Some(refusal) = self.refusal {
             return Err(refusal);
         }
-        let mut block = ArcBlock::new();
+        let mut block = RowBlock::new();
         let mut at = 0;
         while at < piece.len() {
             match self.advance(&mut block, &piece[at..]) {

@@ -1,5 +1,5 @@
 // The complete lines of a text: how many they are, and what their items make.
-ghost use Rattle.std.specs.Prelude.{◌≡◌, ◌<◌, ◌≤◌, ◌≤ℤ◌, ℕ, ◌+◌, pos, length, take, List, ◌∷◌, ◌++◌, [], OnOk, OnErr, Err, Some, None};
+ghost use Rattle.std.specs.Prelude.{◌≡◌, ◌<◌, ◌≤◌, ◌≤ℤ◌, ℕ, ◌+◌, pos, length, take, List, ◌∷◌, ◌++◌, [], OnOk, OnErr, Err, Some, None, false, get_or};
 ghost use Rattle.dn_line.specs.declared.line.Line.{Line};
 ghost use Rattle.dn_line.specs.declared.word.Word.{Word};
 ghost use Rattle.dn_line.specs.LineTable.{kind_named};
@@ -20,7 +20,7 @@ ghost use Rattle.dn_instance.specs.State.TextsSoFar.{Awaits, HasRead, next_read,
 use crate::draft::Draft;
 use crate::held::Held;
 use crate::refusal::ItemFault;
-use dn_line::{ArcBlock, ArcLine, BLOCK, Code, Head, Kind, Line, LineReader, left_behind};
+use dn_line::{BLOCK, Code, Head, Kind, Line, LineReader, RowBlock, left_behind};
 use std::alloc::Global;
 
 // The greatest number of lines that a text may have.
@@ -193,7 +193,7 @@ impl TextSoFar {
     // Takes the arcs of plain lines at the beginning of these bytes, at most as many as one block has, up to the first
     // that is one too many, that has a fault, or for which an allocation fails. Returns how many bytes their lines
     // have, with the LFs that end them. The block is memory to read into.
-    pub(crate) fn take_arcs(&mut self, alloc: Global, block: &mut ArcBlock, bytes: &[u8]) -> usize
+    pub(crate) fn take_rows(&mut self, alloc: Global, block: &mut RowBlock, bytes: &[u8]) -> usize
         ensures taken { (ls : List (List ℕ)) → TextAt self.old ls
             → ReadsFront self.new ls (take result bytes.now) }
         ensures within { result ≤ length bytes.now }
@@ -201,17 +201,17 @@ impl TextSoFar {
         let Some(kind) = self.draft.kind() else {
             return 0;
         };
-        if is_companion(&kind) || LAST - BLOCK as u64 <= self.closed {
+        if is_companion(&kind) || LAST - BLOCK as u64 <= self.closed || begins_with_node(bytes) {
             return 0;
         }
-        block.read(kind, bytes);
         // The reader takes at most as many counted lines as are declared, so nothing saturates, here and below.
         let most = self.count.saturating_sub(self.counted);
-        let arcs = first_arcs(block.arcs(), &most);
-        let taken = self.draft.take_arcs(alloc, &self.nodes, arcs);
+        block.read(kind, as_many(&most), bytes);
+        let rows = block.rows();
+        let taken = self.draft.take_rows(alloc, &self.nodes, rows);
         self.counted = self.counted.saturating_add(taken as i64);
         self.closed += taken as u64;
-        let left = left_behind(&arcs[..taken], bytes.len());
+        let left = left_behind(&rows[..taken], bytes.len());
         // No more bytes are left than there were, so nothing saturates.
         bytes.len().saturating_sub(left)
     }
@@ -242,16 +242,23 @@ impl TextSoFar {
     }
 }
 
-// Returns the first `most` arcs, or all if there are fewer, or none if `most` is below 0.
-fn first_arcs<'a>(arcs: &'a [ArcLine], most: &i64) -> &'a [ArcLine]
-    ensures front { result.now ≡ take (length result.now) arcs.now }
-    ensures most { 0 < length result.now → pos (length result.now) ≤ℤ most.now }
-    ensures within { length result.now ≤ length arcs.now }
+// Returns this number as a count, or 0 if it is below 0 or not a count.
+fn as_many(most: &i64) -> usize
+    ensures { 0 < result → pos result ≤ℤ most.now }
 {
     match usize::try_from(*most) {
-        Ok(most) if most < arcs.len() => &arcs[..most],
-        Ok(_) => arcs,
-        Err(_) => &[],
+        Ok(count) => count,
+        Err(_) => 0,
+    }
+}
+
+// Whether these bytes begin with the letter of a node line.
+fn begins_with_node(bytes: &[u8]) -> bool
+    ensures { result ≡ false → get_or bytes.now 0 0 ≡ 110 → ⊥ }
+{
+    match bytes {
+        [first, ..] => *first == b'n',
+        [] => false,
     }
 }
 

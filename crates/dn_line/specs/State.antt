@@ -5,6 +5,7 @@ pub mod Fields
 pub mod Reading
 pub mod OpenWords
 pub mod LineStates
-pub mod ArcLines
-pub mod ArcBlocks
+pub mod Numbers
+pub mod Rows
+pub mod RowBlocks
 pub mod Pulls

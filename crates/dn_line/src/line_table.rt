@@ -1,6 +1,8 @@
 // The table of lines: the fields of each line, and where they begin.
-ghost use Rattle.std.specs.Prelude.{◌≡◌, ◌∷◌, map, MatchOption};
+ghost use Rattle.std.specs.Prelude.{◌≡◌, ◌∷◌, map, MatchOption, IfSome, Some, true};
 ghost use Rattle.dn_line.specs.LineTable.{row, named, counts, after_name};
+ghost use Rattle.dn_line.specs.State.LineStates.{is_clear};
+ghost use Rattle.dn_line.specs.State.Rows.{AreNumeric, HasRow, letter_byte};
 
 use crate::kind::Kind;
 use crate::word::{Field, Keyword, Word};
@@ -42,6 +44,46 @@ pub(crate) fn row(kind: Kind, letter: Keyword) -> Option<&'static [Field]>
         (Kind::Co, Keyword::V) => Some(&[Field::Number, Field::Number, Field::Number]),
         _ => None,
     }
+}
+
+// Returns the fields of the line that this kind has for this letter, if all of them are numbers.
+pub(crate) fn number_row(kind: Kind, letter: u8) -> Option<&'static [Field]>
+    ensures row { IfSome result (λ fields. HasRow kind letter fields.now) }
+    ensures clear { IfSome result (λ fields. is_clear letter ≡ true) }
+    ensures numeric { IfSome result (λ fields. AreNumeric fields.now) }
+{
+    let fields = row(kind, letter_keyword(letter)?)?;
+    if are_numeric(fields) {
+        Some(fields)
+    } else {
+        None
+    }
+}
+
+// Returns the keyword that this letter of a line after the problem line is.
+fn letter_keyword(letter: u8) -> Option<Keyword>
+    ensures { IfSome result (λ key. letter_byte key ≡ Some letter) }
+{
+    match letter {
+        b'a' => Some(Keyword::A),
+        b'n' => Some(Keyword::N),
+        b's' => Some(Keyword::S),
+        b'q' => Some(Keyword::Q),
+        b'v' => Some(Keyword::V),
+        _ => None,
+    }
+}
+
+// Whether each of these fields is of a number.
+fn are_numeric(fields: &[Field]) -> bool
+    ensures { result ≡ true → AreNumeric fields.now }
+{
+    for field in fields {
+        if let Field::Terminal = field {
+            return false;
+        }
+    }
+    true
 }
 
 // Returns the fields of a problem line, which follow the name of its kind.

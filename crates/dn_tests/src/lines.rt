@@ -1,7 +1,7 @@
 // Lines with known meanings.
 
 use dn_line::{
-    ArcBlock, Code, FromRead, Head, Kind, Letter, Line, LineReader, PlainArc, Slice, Source,
+    Code, FromRead, Head, Kind, Letter, Line, LineReader, Row, RowBlock, Slice, Source,
     SourceFault, Step, read_line,
 };
 use std::io;
@@ -366,18 +366,18 @@ fn lines(rt: HostRuntime) {
     assert_eq!(rt; first_other(&LINES), None);
 }
 
-// Bytes that begin with plain arc lines, the arc of the first line, the number of bytes after that line, and the number
-// of plain arc lines.
-const PLAIN: [(Kind, &str, PlainArc, usize, usize); 6] = [
+// Bytes that begin with plain lines of a letter and numbers, the row of the first line, the number of bytes after that
+// line, and the number of rows.
+const PLAIN: [(Kind, &str, Row, usize, usize); 11] = [
     (
         Kind::Sp,
         "a\t1  2 \t\r 3 \r\na 1 2 3\r\n",
-        PlainArc {
-            src: 1,
-            dst: 2,
-            low: 0,
-            cap: 0,
-            cost: 3,
+        Row {
+            first: 1,
+            second: 2,
+            third: 3,
+            fourth: 0,
+            fifth: 0,
         },
         9,
         2,
@@ -385,12 +385,12 @@ const PLAIN: [(Kind, &str, PlainArc, usize, usize); 6] = [
     (
         Kind::Sp,
         "a 1 2 -3\nz",
-        PlainArc {
-            src: 1,
-            dst: 2,
-            low: 0,
-            cap: 0,
-            cost: -3,
+        Row {
+            first: 1,
+            second: 2,
+            third: -3,
+            fourth: 0,
+            fifth: 0,
         },
         1,
         1,
@@ -398,12 +398,12 @@ const PLAIN: [(Kind, &str, PlainArc, usize, usize); 6] = [
     (
         Kind::Sp,
         "a 12345678 123456789 99999999\na 1 2 3\n",
-        PlainArc {
-            src: 12345678,
-            dst: 123456789,
-            low: 0,
-            cap: 0,
-            cost: 99999999,
+        Row {
+            first: 12345678,
+            second: 123456789,
+            third: 99999999,
+            fourth: 0,
+            fifth: 0,
         },
         8,
         2,
@@ -411,12 +411,12 @@ const PLAIN: [(Kind, &str, PlainArc, usize, usize); 6] = [
     (
         Kind::Sp,
         "a 00000012 9223372036854775807 -9223372036854775808\na 1 2 3",
-        PlainArc {
-            src: 12,
-            dst: i64::MAX,
-            low: 0,
-            cap: 0,
-            cost: i64::MIN,
+        Row {
+            first: 12,
+            second: i64::MAX,
+            third: i64::MIN,
+            fourth: 0,
+            fifth: 0,
         },
         7,
         1,
@@ -424,12 +424,12 @@ const PLAIN: [(Kind, &str, PlainArc, usize, usize); 6] = [
     (
         Kind::Max,
         "a 10 2 0\n",
-        PlainArc {
-            src: 10,
-            dst: 2,
-            low: 0,
-            cap: 0,
-            cost: 0,
+        Row {
+            first: 10,
+            second: 2,
+            third: 0,
+            fourth: 0,
+            fifth: 0,
         },
         0,
         1,
@@ -437,20 +437,86 @@ const PLAIN: [(Kind, &str, PlainArc, usize, usize); 6] = [
     (
         Kind::Min,
         "a 1 2 0 4 -1\na 1 2 0 4 1\n",
-        PlainArc {
-            src: 1,
-            dst: 2,
-            low: 0,
-            cap: 4,
-            cost: -1,
+        Row {
+            first: 1,
+            second: 2,
+            third: 0,
+            fourth: 4,
+            fifth: -1,
         },
         12,
         2,
     ),
+    (
+        Kind::Min,
+        "a 1 2 3 45678 123456789\r\na 1 2 -1 4 1\nn 1 2\n",
+        Row {
+            first: 1,
+            second: 2,
+            third: 3,
+            fourth: 45678,
+            fifth: 123456789,
+        },
+        19,
+        1,
+    ),
+    (
+        Kind::Min,
+        "n 3 -4\nn 1  2\na 1 2 0 4 1\n",
+        Row {
+            first: 3,
+            second: -4,
+            third: 0,
+            fourth: 0,
+            fifth: 0,
+        },
+        19,
+        2,
+    ),
+    (
+        Kind::Ss,
+        "s 7\ns -8 \ns 9",
+        Row {
+            first: 7,
+            second: 0,
+            third: 0,
+            fourth: 0,
+            fifth: 0,
+        },
+        9,
+        2,
+    ),
+    (
+        Kind::P2p,
+        "q 1 2\nq\t3 4\r\n",
+        Row {
+            first: 1,
+            second: 2,
+            third: 0,
+            fourth: 0,
+            fifth: 0,
+        },
+        7,
+        2,
+    ),
+    (
+        Kind::Co,
+        "v 1 -2 3\nv 4 5 6\nc\nv 1 2 3\n",
+        Row {
+            first: 1,
+            second: -2,
+            third: 3,
+            fourth: 0,
+            fifth: 0,
+        },
+        18,
+        2,
+    ),
 ];
 
-// Bytes that do not begin with a plain arc line.
-const NOT_PLAIN: [(Kind, &str); 9] = [
+// Bytes that do not begin with such a line.
+const NOT_PLAIN: [(Kind, &str); 14] = [
+    (Kind::Sp, ""),
     (Kind::Sp, "a 1 2 +3\n"),
     (Kind::Sp, " a 1 2 3\n"),
     (Kind::Sp, "a1 2 3\n"),
@@ -458,27 +524,33 @@ const NOT_PLAIN: [(Kind, &str); 9] = [
     (Kind::Sp, "a 1 2 3"),
     (Kind::Sp, "a 1 2 3 4\n"),
     (Kind::Max, "a 1 2 -1\n"),
+    (Kind::Max, "n 1 s\n"),
     (Kind::Min, "a 1 2 3\n"),
+    (Kind::Min, "a 1 2 0 -1 3\n"),
     (Kind::Ss, "a 1 2 3\n"),
+    (Kind::P2p, "q 1 2 3\n"),
+    (Kind::Co, "c 1 2 3\n"),
 ];
 
 #[test]
-fn plain_arcs(rt: HostRuntime) {
-    for (kind, text, arc, left, count) in &PLAIN {
-        let mut block = ArcBlock::new();
-        block.read(*kind, text.as_bytes());
-        let arcs = block.arcs();
-        let is_found = match arcs.first() {
-            Some(first) => first.arc == *arc && first.left == *left,
+fn plain_rows(rt: HostRuntime) {
+    for (kind, text, row, left, count) in &PLAIN {
+        let mut block = RowBlock::new();
+        block.read(*kind, 16, text.as_bytes());
+        let rows = block.rows();
+        let is_found = match rows.first() {
+            Some(first) => first.row == *row && first.left == *left,
             None => false,
         };
         assert!(rt; is_found, "{text}");
-        assert!(rt; arcs.len() == *count, "{text}");
+        assert!(rt; rows.len() == *count, "{text}");
+        block.read(*kind, 1, text.as_bytes());
+        assert!(rt; block.rows().len() == 1, "{text}");
     }
     for (kind, text) in &NOT_PLAIN {
-        let mut block = ArcBlock::new();
-        block.read(*kind, text.as_bytes());
-        assert!(rt; block.arcs().is_empty(), "{text}");
+        let mut block = RowBlock::new();
+        block.read(*kind, 16, text.as_bytes());
+        assert!(rt; block.rows().is_empty(), "{text}");
     }
 }
 

@@ -12,35 +12,35 @@ use Rattle.dn_instance.proofs.arcs.TotalLineBundle.take.Goals as goal
 
 pub returns-clause-answer : goal.returns-clause-answer
 returns-clause-answer c some before p h k n t =
-    let a = c.args.arc.now in
-    let arc : CapArc = record { cap = a.cap } in
-    let fs : FitsSigned w64 a.src = search rules in
-    let fd : FitsSigned w64 a.dst = search rules in
-    let fc : FitsSigned w64 a.cap = search rules in
+    let r = c.args.row.now in
+    let arc : CapArc = record { cap = r.third } in
+    let fs : FitsSigned w64 r.first = search rules in
+    let fd : FitsSigned w64 r.second = search rules in
+    let fc : FitsSigned w64 r.third = search rules in
     let answer = simp to_z-of_z at c.take_arc.ensures.answer in
     subst (AnswersFault c.take_arc.result)
-    (sym (cap_item before p a.src a.dst a.cap h k
-    ∙ ap (λ m. arc_fault capacities m (arcs_of cap_arc_in before) true ((a.src, a.dst), arc)) n))
+    (sym (cap_item before p r.first r.second r.third h k
+    ∙ ap (λ m. arc_fault capacities m (arcs_of cap_arc_in before) true ((r.first, r.second), arc)) n))
     (answer (arcs_of cap_arc_in before) true t.lists_them t.are_arcs (λ x. record { some = some }, λ x. refl))
 
 pub returns-clause-stands : goal.returns-clause-stands
 returns-clause-stands c some before t =
-    let a = c.args.arc.now in
-    let arc : CapArc = record { cap = a.cap } in
-    let fs : FitsSigned w64 a.src = search rules in
-    let fd : FitsSigned w64 a.dst = search rules in
-    let fc : FitsSigned w64 a.cap = search rules in
+    let r = c.args.row.now in
+    let arc : CapArc = record { cap = r.third } in
+    let fs : FitsSigned w64 r.first = search rules in
+    let fd : FitsSigned w64 r.second = search rules in
+    let fc : FitsSigned w64 r.third = search rules in
     let stands = simp to_z-of_z at c.take_arc.ensures.stands in
     on_ok_weaker c.take_arc.result
-    (table_grown capacities cap_arc_in _ c.take_arc.new.table before _ ((a.src, a.dst), arc)
-    (cap_grown before a.src a.dst a.cap) t.are_arcs (record { some = some }))
+    (table_grown capacities cap_arc_in _ c.take_arc.new.table before _ ((r.first, r.second), arc)
+    (cap_grown before r.first r.second r.third) t.are_arcs (record { some = some }))
     (stands (arcs_of cap_arc_in before) cap_stays t.lists_them t.are_arcs)
 
 pub returns-clause-memory : goal.returns-clause-memory
 returns-clause-memory c before p h k t e =
-    let a = c.args.arc.now in
-    let fs : FitsSigned w64 a.src = search rules in
-    let fd : FitsSigned w64 a.dst = search rules in
-    let fc : FitsSigned w64 a.cap = search rules in
+    let a = c.args.row.now in
+    let fs : FitsSigned w64 a.first = search rules in
+    let fd : FitsSigned w64 a.second = search rules in
+    let fc : FitsSigned w64 a.third = search rules in
     let memory = simp to_z-of_z at c.take_arc.ensures.memory in
-    cap_need before p h a.src a.dst a.cap k (memory (arcs_of cap_arc_in before) t.lists_them t.are_arcs e)
+    cap_need before p h a.first a.second a.third k (memory (arcs_of cap_arc_in before) t.lists_them t.are_arcs e)

@@ -17,7 +17,7 @@ returns-clause-answer c before next =
     let answering : Answering c.args.nodes.now c.args.self.now c.args.line c.match-self.result =
     elim c.match-self.branch [
       | in-Min-MinArc w ↦
-          (let e = c.numbers_of-arc.ensures.min _ _ _ _ _ w.in-Min-MinArc.is-1 in
+          (let e = c.row_of-row.ensures.min _ _ _ _ _ w.in-Min-MinArc.is-1 in
           to_answer c.args.nodes.now c.args.self.now _ c.args.line _ c.match-self.result _ w.in-Min-MinArc.is-0
           (sym e) w.result-is
           (λ items p d. w.take.ensures.answer (subst HasSigns (sym e) next.signs) items p d.problem_is
@@ -31,7 +31,7 @@ returns-clause-answer c before next =
           (supply_answer c.args.nodes.now w.in-Min-Supply.id w.in-Min-Supply.flow w.in-Min-Supply.supplies
           w.in-Min-Supply.idle _ w.take_supply.result ans))
       | in-Max-MaxArc w ↦
-          (let e = c.numbers_of-arc.ensures.max _ _ _ w.in-Max-MaxArc.is-1 in
+          (let e = c.row_of-row.ensures.max _ _ _ w.in-Max-MaxArc.is-1 in
           to_answer c.args.nodes.now c.args.self.now _ c.args.line _ c.match-self.result _ w.in-Max-MaxArc.is-0
           (sym e) w.result-is
           (λ items p d. w.take-in-Max-MaxArc.ensures.answer (subst HasSigns (sym e) next.signs) items p d.problem_is
@@ -49,7 +49,7 @@ returns-clause-answer c before next =
           (w.in-Max-Terminal.is-1 ∙ ap (Terminal w.in-Max-Terminal.id) w.in-T.is) w.result-is
           (sink_answer c.args.nodes.now w.in-Max-Terminal.id _ _ _ w.take_terminal-in-T.result ans))
       | in-Sp-SpArc w ↦
-          (let e = c.numbers_of-arc.ensures.sp _ _ _ w.in-Sp-SpArc.is-1 in
+          (let e = c.row_of-row.ensures.sp _ _ _ w.in-Sp-SpArc.is-1 in
           to_answer c.args.nodes.now c.args.self.now _ c.args.line _ c.match-self.result _ w.in-Sp-SpArc.is-0
           (sym e) w.result-is
           (λ items p d. w.take-in-Sp-SpArc.ensures.answer (subst HasSigns (sym e) next.signs) items p d.problem_is
@@ -99,11 +99,12 @@ returns-clause-holds c before next =
     let standing : Standing c.args.self.now c.args.line c.match-self.self c.match-self.result =
     elim c.match-self.branch [
       | in-Min-MinArc w ↦
-          (let r = c.numbers_of-arc.result in
-          let e = c.numbers_of-arc.ensures.min _ _ _ _ _ w.in-Min-MinArc.is-1 in
+          (let r = c.row_of-row.result in
+          let e = c.row_of-row.ensures.min _ _ _ _ _ w.in-Min-MinArc.is-1 in
           to_stand c.args.self.now _ c.args.line _ c.match-self.self _ c.match-self.result _ w.in-Min-MinArc.is-0
           (sym e) w.self-is w.result-is
-          (cost_stand w.in-Min-MinArc.supplies-0 w.in-Min-MinArc.idle-0 _ _ r.src r.dst r.low r.cap r.cost w.take.result
+          (cost_stand w.in-Min-MinArc.supplies-0 w.in-Min-MinArc.idle-0 _ _ r.first r.second r.third r.fourth r.fifth
+          w.take.result
           (w.take.ensures.stands (subst HasSigns (sym e) next.signs))))
       | in-Min-Supply w ↦
           (let fi : FitsSigned w64 w.in-Min-Supply.id = search rules in
@@ -115,11 +116,11 @@ returns-clause-holds c before next =
           (supply_stand w.in-Min-Supply.id w.in-Min-Supply.flow w.in-Min-Supply.supplies w.take_supply.new.supplies
           w.in-Min-Supply.idle w.take_supply.new.idle _ w.take_supply.result put kept))
       | in-Max-MaxArc w ↦
-          (let r = c.numbers_of-arc.result in
-          let e = c.numbers_of-arc.ensures.max _ _ _ w.in-Max-MaxArc.is-1 in
+          (let r = c.row_of-row.result in
+          let e = c.row_of-row.ensures.max _ _ _ w.in-Max-MaxArc.is-1 in
           to_stand c.args.self.now _ c.args.line _ c.match-self.self _ c.match-self.result _ w.in-Max-MaxArc.is-0
           (sym e) w.self-is w.result-is
-          (cap_stand _ _ _ _ r.src r.dst r.cap w.take-in-Max-MaxArc.result
+          (cap_stand _ _ _ _ r.first r.second r.third w.take-in-Max-MaxArc.result
           (w.take-in-Max-MaxArc.ensures.stands (subst HasSigns (sym e) next.signs))))
       | in-Max-Terminal+in-S w ↦
           (let fi : FitsSigned w64 w.in-Max-Terminal.id = search rules in
@@ -136,7 +137,7 @@ returns-clause-holds c before next =
           (w.in-Max-Terminal.is-1 ∙ ap (Terminal w.in-Max-Terminal.id) w.in-T.is) w.self-is w.result-is
           (sink_stand c.args.nodes.now w.in-Max-Terminal.id _ _ _ _ w.take_terminal-in-T.result ans ok))
       | in-Sp-SpArc w ↦
-          (let e = c.numbers_of-arc.ensures.sp _ _ _ w.in-Sp-SpArc.is-1 in
+          (let e = c.row_of-row.ensures.sp _ _ _ w.in-Sp-SpArc.is-1 in
           to_stand c.args.self.now _ c.args.line _ c.match-self.self _ c.match-self.result _ w.in-Sp-SpArc.is-0
           (sym e) w.self-is w.result-is (w.take-in-Sp-SpArc.ensures.stands (subst HasSigns (sym e) next.signs)))
       | in-Ss-Source w ↦
@@ -244,7 +245,7 @@ returns-clause-memory c before next =
     let needing : Needing c.args.nodes.now c.args.self.now c.args.line c.match-self.result =
     elim c.match-self.branch [
       | in-Min-MinArc w ↦
-          (let e = c.numbers_of-arc.ensures.min _ _ _ _ _ w.in-Min-MinArc.is-1 in
+          (let e = c.row_of-row.ensures.min _ _ _ _ _ w.in-Min-MinArc.is-1 in
           to_need c.args.nodes.now c.args.self.now _ c.args.line _ c.match-self.result _ w.in-Min-MinArc.is-0
           (sym e) w.result-is
           (λ items p d. w.take.ensures.memory items p d.problem_is (own_kind d.kind_is) d.holds.2))
@@ -252,7 +253,7 @@ returns-clause-memory c before next =
           w.in-Min-Supply.is-0 w.in-Min-Supply.is-1 w.result-is
           (supply_needs c.args.nodes.now w.in-Min-Supply.id w.in-Min-Supply.flow _ w.take_supply.result)
       | in-Max-MaxArc w ↦
-          (let e = c.numbers_of-arc.ensures.max _ _ _ w.in-Max-MaxArc.is-1 in
+          (let e = c.row_of-row.ensures.max _ _ _ w.in-Max-MaxArc.is-1 in
           to_need c.args.nodes.now c.args.self.now _ c.args.line _ c.match-self.result _ w.in-Max-MaxArc.is-0
           (sym e) w.result-is
           (λ items p d. w.take-in-Max-MaxArc.ensures.memory items p d.problem_is (own_kind d.kind_is) d.holds.2))
@@ -263,7 +264,7 @@ returns-clause-memory c before next =
           w.in-Max-Terminal.is-0 (w.in-Max-Terminal.is-1 ∙ ap (Terminal w.in-Max-Terminal.id) w.in-T.is) w.result-is
           (never_need c.args.nodes.now _ _ w.take_terminal-in-T.result w.take_terminal-in-T.ensures.memory)
       | in-Sp-SpArc w ↦
-          (let e = c.numbers_of-arc.ensures.sp _ _ _ w.in-Sp-SpArc.is-1 in
+          (let e = c.row_of-row.ensures.sp _ _ _ w.in-Sp-SpArc.is-1 in
           to_need c.args.nodes.now c.args.self.now _ c.args.line _ c.match-self.result _ w.in-Sp-SpArc.is-0
           (sym e) w.result-is
           (λ items p d. w.take-in-Sp-SpArc.ensures.memory items p d.problem_is (own_kind d.kind_is) d.holds))

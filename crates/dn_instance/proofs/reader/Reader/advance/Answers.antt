@@ -8,13 +8,13 @@ use Rattle.dn_instance.specs.State.TextsSoFar.{TextAt, ReadsFront}
 use Rattle.dn_instance.specs.declared.reader.Reader.{Reader}
 use Rattle.dn_instance.specs.declared.refusal.Refusal.{Refusal}
 use Rattle.dn_instance.proofs.PieceSteps.{none_open, closed_more}
-use Rattle.dn_instance.proofs.reader.Reader.advance.Goals.{then-piece-eq97+then-not-pending+else-used-gt0, else-piece-eq97}
+use Rattle.dn_instance.proofs.reader.Reader.advance.Goals.{then-not-pending+else-used-gt0, else-not-pending}
 use Rattle.dn_instance.proofs.reader.Reader.advance.Goals as goal
 
--- arc lines have been read after a text without an open line
-with_arcs : (r : Reader) (t front : List ℕ) → HasOpen r.line (open_of t) → open_of t ≡ []
+-- rows have been read after a text without an open line
+with_rows : (r : Reader) (t front : List ℕ) → HasOpen r.line (open_of t) → open_of t ≡ []
     → ReadsFront r.text (ended t) front → IsReading r (t ++ front)
-with_arcs r t front line none f =
+with_rows r t front line none f =
     let all = ap (λ x. parts is_line_feed (t ++ x)) (sym f.whole) ∙ closed_more t f.more none f.inner in
     record {
       read = subst (TextAt r.text) (sym (ap (λ (p : Parts). p.0) all)) f.read;
@@ -28,24 +28,24 @@ to_steps r t piece (Err e) u a = a
 
 pub returns-then-used-gt0-clause-advances : goal.returns-then-used-gt0-clause-advances
 returns-then-used-gt0-clause-advances c t h =
-    with_arcs (record c.args.self.now { text = c.take_arcs-used.new.self }) t
-    (take c.take_arcs-used.result c.args.piece.now) h.line
+    with_rows (record c.args.self.now { text = c.take_rows-used.new.self }) t
+    (take c.take_rows-used.result c.args.piece.now) h.line
     (none_open t h.line.line h.line.open_is (sym c.if-not-pending.true ∙ c.pending.ensures h.line.line h.line.stands))
-    (c.take_arcs-used.ensures.taken (ended t) h.read)
+    (c.take_rows-used.ensures.taken (ended t) h.read)
 
 pub returns-clause-advances : goal.returns-clause-advances
 returns-clause-advances c t h =
     let p = c.args.piece.now in
     to_steps c.step.new.self t p c.step.result c.step.ensures.used (c.step.ensures.advances t
-    (elim c.if-piece-eq97.branch [
-      | then-piece-eq97+then-not-pending+else-used-gt0 w ↦
-          let after : Reader = record c.args.self.now { text = w.take_arcs-used.new.self } in
-          let none : w.take_arcs-used.result ≡ 0 = (let no = w.if-used-gt0.false in omega arith) in
+    (elim c.if-not-pending.branch [
+      | then-not-pending+else-used-gt0 w ↦
+          let after : Reader = record c.args.self.now { text = w.take_rows-used.new.self } in
+          let none : w.take_rows-used.result ≡ 0 = (let no = w.if-used-gt0.false in omega arith) in
           subst (λ r. IsReading r t) (sym w.self-is)
           (subst (IsReading after) (ap (λ n. t ++ take n p) none ∙ append-nil t)
-          (with_arcs after t (take w.take_arcs-used.result p) h.line
+          (with_rows after t (take w.take_rows-used.result p) h.line
           (none_open t h.line.line h.line.open_is
-          (sym w.if-not-pending.true ∙ w.pending.ensures h.line.line h.line.stands))
-          (w.take_arcs-used.ensures.taken (ended t) h.read)))
-      | else-piece-eq97 w ↦ subst (λ r. IsReading r t) (sym w.self-is) h
+          (sym w.if-not-pending.true ∙ c.pending.ensures h.line.line h.line.stands))
+          (w.take_rows-used.ensures.taken (ended t) h.read)))
+      | else-not-pending w ↦ subst (λ r. IsReading r t) (sym w.self-is) h
     ]))

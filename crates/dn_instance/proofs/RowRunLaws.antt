@@ -1,0 +1,194 @@
+-- Lemmas on rows that are taken one after another.
+use Rattle.std.proofs.Common.{◌≡◌, ◌<◌, ◌≤◌, ◌+◌, ◌-◌, ◌^◌, ◌+ℤ◌, ◌-ℤ◌, negsuc, FitsSigned, w64, ℕ, zero, suc, ℤ, pos, ◌≤ℤ◌, ◌<ℤ◌, List, [], ◌∷◌, ◌++◌, length, take, get_or, filter, true, false, cond, not, ◌||◌, int_lt, Option, Some, None, Result, Ok, Err, OnOk, refl, sym, subst, ap, ◌∙◌, arith, append-nil, append_assoc, length-append}
+use Rattle.std.specs.List.{AllByRecursion, list_any}
+use Rattle.std.specs.Option.{option_map, option_or}
+use Rattle.std.specs.Result.{is_err}
+use Rattle.std.proofs.Math.Bool.{or-true}
+use Rattle.std.specs.Int.{saturate_signed}
+use Rattle.std.proofs.Math.Nat.{min-eq_left}
+use Rattle.std.proofs.Math.Seq.{take-suc}
+use Rattle.std.proofs.lemmas.Bool.{not-true}
+use Rattle.std.proofs.lemmas.Bool.Decides.{nat_tests}
+use Rattle.std.proofs.lemmas.Int.{ints, fits_signed_from_abs}
+use Rattle.std.proofs.lemmas.List.{map-append}
+use Rattle.std.proofs.lemmas.List.Elements.{filter-append}
+use Rattle.std.proofs.lemmas.List.Folds.{list_any-append}
+use Rattle.dn_line.specs.Faults.{first_fault}
+use Rattle.dn_line.specs.declared.code.Code.{Code}
+use Rattle.dn_line.specs.declared.kind.Kind.{Kind}
+use Rattle.dn_line.specs.declared.kind.Kind.TheVariants.{Min, Max, Sp, Ss, P2p, Co}
+use Rattle.dn_line.specs.declared.line.Line.{Line}
+use Rattle.dn_line.specs.declared.row_block.RowLine.{RowLine}
+use Rattle.dn_instance.specs.State.RowRuns.{AreFaultless, AreInTime, Joins, line_of, row_items}
+use Rattle.dn_instance.specs.State.Drafts.{DraftHolds, HasSigns, draft_kind, is_graph}
+use Rattle.dn_instance.specs.State.ItemFaults.{AnswersFault}
+use Rattle.dn_instance.specs.Items.{Problem, counted, is_counted, problem_in, problem_of}
+use Rattle.dn_instance.specs.State.TextsSoFar.{HasRead, problem_as}
+use Rattle.dn_instance.specs.TextFaults.{is_arc, is_companion, is_full, item_tests}
+use Rattle.dn_instance.specs.declared.draft.Draft.{Draft}
+use Rattle.dn_instance.specs.declared.refusal.ItemFault.{ItemFault}
+use Rattle.dn_instance.specs.declared.text_so_far.TextSoFar.{TextSoFar}
+use Rattle.dn_instance.proofs.ItemSteps.{counted_yes, problem_kept, problem_agrees}
+
+-- items without a fault, followed by one more, have no fault
+faultless_more : (before items : List Line) (i : Line) → AreFaultless before items
+    → first_fault (item_tests (before ++ items) (Some i)) ≡ None → AreFaultless before (items ++ i ∷ [])
+faultless_more before [] i h f = (subst (λ b. first_fault (item_tests b (Some i)) ≡ None) (append-nil before) f, tt)
+faultless_more before (x ∷ items) i h f = (
+  h.0,
+  faultless_more (before ++ x ∷ []) items i h.1
+      (subst (λ b. first_fault (item_tests b (Some i)) ≡ None) (sym (append_assoc before (x ∷ []) items)) f),
+)
+
+pub joins_more : {H : Type 0} (Holds : H → List Line → Type 0) (before : List Line) (held more : H) (items : List Line)
+    (i : Line) → Joins Holds before held items
+    → first_fault (item_tests (before ++ items) (Some i)) ≡ None → Holds more ((before ++ items) ++ i ∷ [])
+    → Joins Holds before more (items ++ i ∷ [])
+joins_more Holds before held more items i j f h = record {
+  faultless = faultless_more before items i j.faultless f;
+  holds = subst (Holds more) (append_assoc before items (i ∷ [])) h;
+}
+
+-- what holds if a result is not an error
+pub no_fault : (r : Result (Unit {0}) ItemFault) (f : Option Code) → is_err r ≡ false → AnswersFault r f → f ≡ None
+no_fault (Ok x) f e h = h
+no_fault (Err c) f e h = cc
+
+pub no_error : {P : Type 0} (r : Result (Unit {0}) ItemFault) → is_err r ≡ false → OnOk r P → P
+no_error (Ok x) e h = h
+no_error (Err c) e h = cc
+
+or_kept : (a b c : Option Problem) (p : Problem) → option_or a b ≡ Some p → (b ≡ Some p → c ≡ Some p)
+    → option_or a c ≡ Some p
+or_kept None b c p h k = k h
+or_kept (Some x) b c p h k = h
+
+-- the first problem line stays the first with more items
+pub problem_all : (before items : List Line) (p : Problem) → problem_of before ≡ Some p
+    → problem_of (before ++ items) ≡ Some p
+problem_all [] items p h = cc
+problem_all (x ∷ before) items p h =
+    or_kept (problem_in x) (problem_of before) (problem_of (before ++ items)) p h (problem_all before items p)
+
+-- the items of the first rows and of the next row
+pub items_next : (kind : Kind) (rows : List RowLine) (i : ℕ) (d : RowLine) → i < length rows
+    → row_items kind (take (i + 1) rows) ≡ row_items kind (take i rows) ++ line_of kind (get_or rows i d).row ∷ []
+items_next kind rows i d h =
+    ap (λ n. row_items kind (take n rows)) (one i) ∙ ap (row_items kind) (take-suc rows i d h)
+    ∙ map-append (λ (r : RowLine). line_of kind r.row) (take i rows) (get_or rows i d ∷ [])
+  where
+    one : (i : ℕ) → i + 1 ≡ suc i
+    one i = omega arith
+
+pub sign_at : (kind : Kind) (rows : List RowLine) (i : ℕ) (d : RowLine) → i < length rows
+    → AllByRecursion HasSigns (row_items kind rows) → HasSigns (line_of kind (get_or rows i d).row)
+sign_at kind [] i d h s = absurd (omega arith)
+sign_at kind (r ∷ rows) zero d h s = s.0
+sign_at kind (r ∷ rows) (suc i) d h s = sign_at kind rows i d (omega arith) s.1
+
+-- the item of a row is counted
+pub one_counted : (kind : Kind) (r : RowLine) → is_counted (line_of kind r.row) ≡ true
+one_counted Min r = refl
+one_counted Max r = refl
+one_counted Sp r = refl
+one_counted Ss r = refl
+one_counted P2p r = refl
+one_counted Co r = refl
+
+one_arc : (kind : Kind) (r : RowLine) → is_companion kind ≡ false → is_arc (line_of kind r.row) ≡ true
+one_arc Min r c = refl
+one_arc Max r c = refl
+one_arc Sp r c = refl
+one_arc _ r c = cc
+
+all_counted : (kind : Kind) (rows : List RowLine) → counted (row_items kind rows) ≡ length rows
+all_counted kind [] = refl
+all_counted kind (r ∷ rows) =
+    let rest = filter is_counted (row_items kind rows) in
+    ap (λ b. length (cond b (line_of kind r.row ∷ rest) rest)) (one_counted kind r) ∙ ap suc (all_counted kind rows)
+
+counted_all : (kind : Kind) (before : List Line) (rows : List RowLine)
+    → counted (before ++ row_items kind rows) ≡ counted before + length rows
+counted_all kind before rows =
+    ap length (filter-append is_counted before (row_items kind rows))
+    ∙ length-append (filter is_counted before) (filter is_counted (row_items kind rows))
+    ∙ ap (λ n. counted before + n) (all_counted kind rows)
+
+-- rows do not follow as many counted lines as declared, if they are at most as many as are still declared
+pub come_in_time : (kind : Kind) (rows : List RowLine) (before : List Line) (p : Problem) → problem_of before ≡ Some p
+    → (0 < length rows → pos (counted before + length rows) ≤ℤ p.count) → AreInTime before (row_items kind rows)
+come_in_time kind [] before p h m = tt
+come_in_time kind (r ∷ rows) before p h m =
+    let i = line_of kind r.row in (
+      (λ _. ap (λ o. is_full o (counted before)) h ∙ below (counted before) (length rows) p.count (m (omega arith))),
+      come_in_time kind rows (before ++ i ∷ []) p (problem_kept before i p h)
+          (λ _. subst (λ n. pos (n + length rows) ≤ℤ p.count) (sym (counted_yes before i (one_counted kind r)))
+          (subst (λ n. pos n ≤ℤ p.count) (shift (counted before) (length rows)) (m (omega arith)))),
+    )
+  where
+    below : (k n : ℕ) (m : ℤ) → pos (k + suc n) ≤ℤ m → not (int_lt (pos k) m) ≡ false
+    below k n m r = let lt : int_lt (pos k) m ≡ true = grind (arith, ints, nat_tests) in ap not lt
+
+    shift : (k n : ℕ) → k + suc n ≡ suc k + n
+    shift k n = omega arith
+
+-- more rows have been read
+module _ (t : TextSoFar) (d : Draft) (kind : Kind) (before : List Line) (at : HasRead t before)
+    (is : draft_kind t.draft ≡ Some kind) (kept : draft_kind d ≡ draft_kind t.draft) where
+  arcs_then : is_graph (draft_kind t.draft) ≡ true → (rows : List RowLine) (n : ℤ)
+      → n ≡ pos (counted before + length rows) → list_any is_arc (before ++ row_items kind rows) ≡ int_lt (pos 0) n
+  arcs_then graph [] n e =
+      ap (list_any is_arc) (append-nil before) ∙ at.arcs_are graph
+      ∙ ap (int_lt (pos 0)) (at.counted_is ∙ sym (e ∙ ap pos (none (counted before))))
+    where
+      none : (k : ℕ) → k + 0 ≡ k
+      none k = omega arith
+  arcs_then graph (r ∷ rows) n e =
+      list_any-append is_arc before (row_items kind (r ∷ rows))
+      ∙ ap (λ b. list_any is_arc before || (b || list_any is_arc (row_items kind rows)))
+      (one_arc kind r (not-true (is_companion kind) (sym (ap is_graph is) ∙ graph)))
+      ∙ or-true (list_any is_arc before)
+      ∙ sym (ap (int_lt (pos 0)) e ∙ above (counted before) (length rows))
+    where
+      above : (k m : ℕ) → int_lt (pos 0) (pos (k + suc m)) ≡ true
+      above k m = grind (arith, ints, nat_tests)
+
+  pub rows_read : (rows : List RowLine) (n : ℤ) → n ≡ pos (counted before + length rows)
+      → counted before + length rows < 2 ^ 63 → DraftHolds d (before ++ row_items kind rows)
+      → HasRead (record t { counted = n; draft = d }) (before ++ row_items kind rows)
+  rows_read rows n e few h =
+      let all = counted_all kind before rows in
+      record {
+        problem_is =
+            problem_all before (row_items kind rows) _ (problem_agrees t before kind at is)
+            ∙ sym (ap (option_map (problem_as t)) (kept ∙ is));
+        count_fits = at.count_fits;
+        counted_is = e ∙ ap pos (sym all);
+        counted_few = subst (λ k. k < 2 ^ 63) (sym all) few;
+        arcs_are = λ graph. arcs_then (sym (ap is_graph kept) ∙ graph) rows n e;
+        holds = h;
+      }
+
+-- a number above 0 that is at most a saturated difference is at most the difference
+within : (n : ℕ) (z : ℤ) → 0 < n → pos n ≤ℤ saturate_signed w64 z → pos n ≤ℤ z
+within n (pos m) some h = omega (arith, ints)
+within n (negsuc m) some h = absurd (omega (arith, ints))
+
+-- the rows that are taken are at most as many as are still declared
+pub still_declared : (k m n : ℕ) (count s : ℤ) → s ≡ saturate_signed w64 (count -ℤ pos k) → (0 < n → pos n ≤ℤ s) → m ≤ n
+    → 0 < m → pos (k + m) ≤ℤ count
+still_declared k m n count s e most h some =
+    let some_n : 0 < n = omega arith in
+    let all : pos n ≤ℤ (count -ℤ pos k) = within n (count -ℤ pos k) some_n (subst (λ x. pos n ≤ℤ x) e (most some_n)) in
+    omega (arith, ints)
+
+pub still_few : (k m : ℕ) (count : ℤ) → count <ℤ pos (2 ^ 63) → k < 2 ^ 63 → (0 < m → pos (k + m) ≤ℤ count)
+    → k + m < 2 ^ 63
+still_few k zero count f h declared = omega arith
+still_few k (suc m) count f h declared = let d = declared (omega arith) in omega (arith, ints)
+
+pub sum_taken : (k m : ℕ) → k + m < 2 ^ 63 → saturate_signed w64 (pos k +ℤ pos m) ≡ pos (k + m)
+sum_taken k m h = let small : k + m ≤ 2 ^ 63 - 1 = omega arith in ap pos (min-eq_left small)
+
+pub sum_fits : (n : ℕ) → n < 2 ^ 63 → FitsSigned w64 (pos n)
+sum_fits n h = fits_signed_from_abs w64 (pos n) (grind (arith, ints, nat_tests))

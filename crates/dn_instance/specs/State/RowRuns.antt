@@ -1,0 +1,41 @@
+-- Rows that are taken one after another.
+use Rattle.std.specs.Prelude.{◌≡◌, List, [], ◌∷◌, ◌++◌, map, None, Some}
+use Rattle.dn_line.specs.Faults.{first_fault}
+use Rattle.dn_line.specs.declared.kind.Kind.{Kind}
+use Rattle.dn_line.specs.declared.kind.Kind.TheVariants.{Min, Max, Sp, Ss, P2p, Co}
+use Rattle.dn_line.specs.declared.line.Line.{Line}
+use Rattle.dn_line.specs.declared.line.Line.TheVariants as Item
+use Rattle.dn_line.specs.declared.row.Row.{Row}
+use Rattle.dn_line.specs.declared.row_block.RowLine.{RowLine}
+use Rattle.dn_instance.specs.TextFaults.{item_tests}
+use Rattle.dn_instance.specs.State.Drafts.{HasRoom}
+
+-- the counted item of these numbers, in a text of this kind
+abbrev pub line_of : Kind → Row → Line
+line_of Min r = Item.MinArc r.first r.second r.third r.fourth r.fifth
+line_of Max r = Item.MaxArc r.first r.second r.third
+line_of Sp r = Item.SpArc r.first r.second r.third
+line_of Ss r = Item.Source r.first
+line_of P2p r = Item.Query r.first r.second
+line_of Co r = Item.Point r.first r.second r.third
+
+-- the items of these rows in a text of this kind
+abbrev pub row_items : Kind → List RowLine → List Line
+row_items kind rows = map (λ (r : RowLine). line_of kind r.row) rows
+
+-- no item of the second list has a fault after the items before it
+abbrev pub AreFaultless : List Line → List Line → Type 0
+AreFaultless before [] = Unit {0}
+AreFaultless before (i ∷ items) =
+    (first_fault (item_tests before (Some i)) ≡ None) × AreFaultless (before ++ i ∷ []) items
+
+-- no counted item of the second list follows as many counted lines as declared
+abbrev pub AreInTime : List Line → List Line → Type 0
+AreInTime before [] = Unit {0}
+AreInTime before (i ∷ items) = HasRoom before i × AreInTime (before ++ i ∷ []) items
+
+-- no item of `items` has a fault after the items before it, and `held` holds the earlier items and these
+pub record Joins {H : Type 0} (Holds : H → List Line → Type 0) (before : List Line) (held : H) (items : List Line)
+    : Type 0 where
+  pub faultless : AreFaultless before items
+  pub holds : Holds held (before ++ items)

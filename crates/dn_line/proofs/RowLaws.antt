@@ -1,0 +1,143 @@
+-- Lines of a letter and numbers.
+use Rattle.std.proofs.Common.{◌≡◌, ◌≤◌, ◌-◌, ◌<◌, ℕ, ℤ, suc, pos, ◌≤ℤ◌, int_lt, List, [], ◌∷◌, ◌++◌, length, take, drop, get_or, map, true, false, slice_get, is_none, None, Some, Ok, refl, sym, ap, ◌∙◌, subst, arith, append_assoc}
+use Rattle.std.proofs.lemmas.Bool.{not-true}
+use Rattle.std.proofs.lemmas.Int.{ints}
+use Rattle.std.proofs.lemmas.List.{take_all}
+use Rattle.std.specs.List.{list_all}
+use Rattle.dn_line.specs.Faults.{field_tests, first_fault, row_fields}
+use Rattle.dn_line.specs.LineTable.{row}
+use Rattle.dn_line.specs.Reading.{item, unless}
+use Rattle.dn_line.specs.Words.{first, said, said_words}
+use Rattle.dn_line.specs.State.LineStates.{is_clear, is_inner}
+use Rattle.dn_line.specs.State.Numbers.{IsGap, number_word}
+use Rattle.dn_line.specs.State.Reading.{checked_item, fields_read, head_of, head_read}
+use Rattle.dn_line.specs.State.Rows.{BeginsWithRow, FieldsFit, HasNumbers, HasRow, field_fits, letter_byte, numbers_of}
+use Rattle.dn_line.specs.declared.kind.Kind.{Kind}
+use Rattle.dn_line.specs.declared.code.Code.TheVariants.{WrongLine}
+use Rattle.dn_line.specs.declared.line.Line.{Line}
+use Rattle.dn_line.specs.declared.row.Row.{Row}
+use Rattle.dn_line.specs.declared.word.Field.{Field}
+use Rattle.dn_line.specs.declared.word.Field.TheVariants.{Number, Natural, Terminal}
+use Rattle.dn_line.specs.declared.word.Keyword.{Keyword}
+use Rattle.dn_line.specs.declared.word.Keyword.TheVariants as Key
+use Rattle.dn_line.specs.declared.word.Word.{Word}
+use Rattle.dn_line.proofs.FieldLaws.{AllStand, Stands, stand_none}
+use Rattle.dn_line.proofs.FieldLaws as Fields
+use Rattle.dn_line.proofs.NumbersLaws.{blank_inner, blanks_inner, blanks_words, run_words}
+use Rattle.dn_line.proofs.PlainLaws.{both_true, clear_inner, inner_append}
+
+-- each number fits the field at its place, counted from `k`, or there is no such field
+abbrev pub FitFrom : List Field → ℕ → List ℤ → Type 0
+FitFrom fs k [] = Unit {0}
+FitFrom fs k (n ∷ ns) = (field_fits (slice_get fs k) n ≡ true) × FitFrom fs (suc k) ns
+
+fit_later : (f : Field) (fs : List Field) (k : ℕ) (ns : List ℤ) → FitFrom (f ∷ fs) (suc k) ns → FitFrom fs k ns
+fit_later f fs k [] h = tt
+fit_later f fs k (n ∷ ns) h = (h.0, fit_later f fs (suc k) ns h.1)
+
+-- as many numbers as fields fit the fields
+pub fit_first : (fs : List Field) (ns : List ℤ) → length fs ≤ length ns → FitFrom fs 0 ns
+    → FieldsFit fs (take (length fs) ns)
+fit_first [] ns l h = tt
+fit_first (f ∷ fs) [] l h = absurd (omega arith)
+fit_first (f ∷ fs) (n ∷ ns) l h = (h.0, fit_first fs ns (omega arith) (fit_later f fs 0 ns h.1))
+
+-- a letter, blanks and numbers that fit the fields are the line of the row
+row_line : (letter : ℕ) (fields : List Field) (bytes more rest : List ℕ) (r : Row) → is_clear letter ≡ true
+    → IsGap bytes more → HasNumbers (length fields) more r rest → FieldsFit fields (numbers_of (length fields) r)
+    → BeginsWithRow letter fields (letter ∷ bytes) r rest
+row_line letter fields bytes more rest r clear g a fit =
+    let bs = g.then.blanks in
+    let run : list_all is_clear (letter ∷ []) ≡ true = both_true (is_clear letter) true clear refl in
+    record {
+      line = letter ∷ g.blank ∷ bs ++ a.line;
+      whole =
+          ap (λ l. letter ∷ g.blank ∷ l) (append_assoc bs a.line (10 ∷ rest) ∙ ap (λ l. bs ++ l) a.whole ∙ g.then.whole)
+          ∙ ap (λ l. letter ∷ l) g.whole;
+      inner =
+          inner_append (letter ∷ []) (g.blank ∷ bs ++ a.line) (clear_inner (letter ∷ []) run)
+          (both_true (is_inner g.blank) (list_all is_inner (bs ++ a.line)) (blank_inner g.blank g.is)
+          (inner_append bs a.line (blanks_inner bs g.then.all) a.inner));
+      says =
+          ap (map said)
+          (run_words (letter ∷ []) g.blank (bs ++ a.line) run refl g.is
+          ∙ ap (λ ws. (letter ∷ []) ∷ ws) (blanks_words bs a.line g.then.all))
+          ∙ ap (λ (ws : List Word). said (letter ∷ []) ∷ ws) a.says;
+      fit = fit;
+    }
+
+-- the same for bytes whose first is the letter
+pub row_front : (letter : ℕ) (fields : List Field) (bytes more rest : List ℕ) (r : Row) → is_clear letter ≡ true
+    → 0 < length bytes → get_or bytes 0 0 ≡ letter → IsGap (take (length bytes - 1) (drop 1 bytes)) more
+    → HasNumbers (length fields) more r rest → FieldsFit fields (numbers_of (length fields) r)
+    → BeginsWithRow letter fields bytes r rest
+row_front letter fields [] more rest r clear some is g a fit = absurd (omega arith)
+row_front letter fields (b ∷ bytes) more rest r clear some is g a fit =
+    subst (λ x. BeginsWithRow letter fields (x ∷ bytes) r rest) (sym is)
+    (row_line letter fields bytes more rest r clear
+    (subst (λ l. IsGap l more) (take_all (length (b ∷ bytes) - 1) bytes (omega arith)) g) a fit)
+
+stand_all : (fs : List Field) (ns : List ℤ) → FieldsFit fs ns → AllStand fs (map number_word ns)
+stand_all [] [] h = Fields.none
+stand_all [] (n ∷ ns) h = absurd h
+stand_all (f ∷ fs) [] h = absurd h
+stand_all (f ∷ fs) (n ∷ ns) h = Fields.more (by_field f h.0) (stand_all fs ns h.1)
+  where
+    at_least : (n : ℤ) → int_lt n (pos 0) ≡ false → pos 0 ≤ℤ n
+    at_least n h = grind (arith, ints)
+
+    by_field : (f : Field) → field_fits (Some f) n ≡ true → Stands f (number_word n)
+    by_field Number e = refl
+    by_field Natural e = (refl, at_least n (not-true (int_lt n (pos 0)) e))
+    by_field Terminal e = cc
+
+-- numbers that fit the fields of a line read as the item of the line
+row_reads : (kind : Kind) (key : Keyword) (fs : List Field) (ns : List ℤ) → row kind key ≡ Some fs → FieldsFit fs ns
+    → checked_item kind key (map number_word ns) ≡ Ok (item kind key (map number_word ns))
+row_reads kind key fs ns e h =
+    let ws = map number_word ns in
+    ap (λ o. unless (first_fault (field_tests (row_fields o ws))) (item kind key ws)) e
+    ∙ ap (λ f. unless f (item kind key ws)) (stand_none fs ws (stand_all fs ns h))
+
+same : {a b : ℕ} → Some a ≡ Some b → a ≡ b
+same e = cc
+
+-- what the head and the fields of a line that begins with this byte read as, given the words after the letter
+abbrev ReadAs : Kind → Keyword → List Word → ℕ → Type 0
+ReadAs kind key ws b =
+    (head_read (Some kind) (said (b ∷ []) ∷ ws)
+    ≡ unless (first_fault ((WrongLine, is_none (row kind key)) ∷ [])) (head_of (Some key) None))
+    × (fields_read (Some kind) (said (b ∷ []) ∷ ws) ≡ checked_item kind key ws)
+    × (first (said (b ∷ []) ∷ ws) ≡ Some key)
+
+by_letter : (kind : Kind) (key : Keyword) (letter : ℕ) (ws : List Word) → letter_byte key ≡ Some letter
+    → ReadAs kind key ws letter
+by_letter kind Key.N letter ws e = subst (ReadAs kind Key.N ws) (same e) (refl, refl, refl)
+by_letter kind Key.A letter ws e = subst (ReadAs kind Key.A ws) (same e) (refl, refl, refl)
+by_letter kind Key.S letter ws e = subst (ReadAs kind Key.S ws) (same e) (refl, refl, refl)
+by_letter kind Key.Q letter ws e = subst (ReadAs kind Key.Q ws) (same e) (refl, refl, refl)
+by_letter kind Key.V letter ws e = subst (ReadAs kind Key.V ws) (same e) (refl, refl, refl)
+by_letter kind _ letter ws e = cc
+
+-- the line of these words begins with a letter, and after a problem line of this kind it reads as this item
+pub record ReadsAs (kind : Kind) (key : Keyword) (ws : List Word) (i : Line) : Type 0 where
+  pub head : head_read (Some kind) ws ≡ Ok (head_of (Some key) None)
+  pub fields : fields_read (Some kind) ws ≡ Ok i
+  pub letter : first ws ≡ Some key
+
+-- the line of a row reads as the item of its numbers
+pub row_item : (kind : Kind) (letter : ℕ) (fields : List Field) (bytes rest : List ℕ) (r : Row)
+    → (has : HasRow kind letter fields) → (b : BeginsWithRow letter fields bytes r rest)
+    → ReadsAs kind has.key (said_words b.line) (item kind has.key (map number_word (numbers_of (length fields) r)))
+row_item kind letter fields bytes rest r has b =
+    let ws = map number_word (numbers_of (length fields) r) in
+    let reads = by_letter kind has.key letter ws has.byte_is in
+    record {
+      head =
+          ap (head_read (Some kind)) b.says ∙ reads.0
+          ∙ ap (λ o. unless (first_fault ((WrongLine, is_none o) ∷ [])) (head_of (Some has.key) None)) has.row_is;
+      fields =
+          ap (fields_read (Some kind)) b.says ∙ reads.1
+          ∙ row_reads kind has.key fields (numbers_of (length fields) r) has.row_is b.fit;
+      letter = ap first b.says ∙ reads.2;
+    }

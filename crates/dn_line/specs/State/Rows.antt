@@ -1,0 +1,62 @@
+-- Lines of a letter and numbers in plain spelling at the beginning of longer bytes.
+use Rattle.std.specs.Prelude.{◌≡◌, ℕ, ℤ, pos, List, [], ◌∷◌, ◌++◌, length, slice_get, map, take, Bool, true, false, not, int_lt, Option, Some, None}
+use Rattle.std.specs.List.{list_all}
+use Rattle.dn_line.specs.LineTable.{row}
+use Rattle.dn_line.specs.Words.{said, said_words}
+use Rattle.dn_line.specs.State.Numbers.{AreNumbers, number_word}
+use Rattle.dn_line.specs.State.LineStates.{is_inner}
+use Rattle.dn_line.specs.declared.kind.Kind.{Kind}
+use Rattle.dn_line.specs.declared.row.Row.{Row}
+use Rattle.dn_line.specs.declared.word.Field.{Field}
+use Rattle.dn_line.specs.declared.word.Field.TheVariants.{Number, Natural, Terminal}
+use Rattle.dn_line.specs.declared.word.Keyword.{Keyword}
+use Rattle.dn_line.specs.declared.word.Keyword.TheVariants.{N, A, S, Q, V}
+
+-- the letters of the lines after the problem line, as bytes
+abbrev pub letter_byte : Keyword → Option ℕ
+letter_byte N = Some 110
+letter_byte A = Some 97
+letter_byte S = Some 115
+letter_byte Q = Some 113
+letter_byte V = Some 118
+letter_byte _ = None
+
+-- lines that begin with this letter have these fields in a text of this kind
+pub record HasRow (kind : Kind) (letter : ℕ) (fields : List Field) : Type 0 where
+  pub key : Keyword
+  pub byte_is : letter_byte key ≡ Some letter
+  pub row_is : row kind key ≡ Some fields
+
+-- the first numbers of a row, this many
+abbrev pub numbers_of : ℕ → Row → List ℤ
+numbers_of count r = take count (r.first ∷ r.second ∷ r.third ∷ r.fourth ∷ r.fifth ∷ [])
+
+-- the bytes are a line of this many numbers, which the row has, and LF, followed by the rest
+abbrev pub HasNumbers : ℕ → List ℕ → Row → List ℕ → Type 0
+HasNumbers count bytes r rest = AreNumbers bytes (numbers_of count r) rest
+
+-- the number fits this field, or there is no field
+abbrev pub field_fits : Option Field → ℤ → Bool
+field_fits None n = true
+field_fits (Some Number) n = true
+field_fits (Some Natural) n = not (int_lt n (pos 0))
+field_fits (Some Terminal) n = false
+
+-- each field is of a number
+abbrev pub AreNumeric : List Field → Type 0
+AreNumeric fs = (i : ℕ) → slice_get fs i ≡ Some Terminal → ⊥
+
+-- there are as many numbers as fields, and each number fits its field
+abbrev pub FieldsFit : List Field → List ℤ → Type 0
+FieldsFit [] [] = Unit {0}
+FieldsFit [] (n ∷ ns) = ⊥
+FieldsFit (f ∷ fs) [] = ⊥
+FieldsFit (f ∷ fs) (n ∷ ns) = (field_fits (Some f) n ≡ true) × FieldsFit fs ns
+
+-- the bytes are a line of this letter and of the row's numbers, which fit the fields, and LF, followed by the rest
+pub record BeginsWithRow (letter : ℕ) (fields : List Field) (bytes : List ℕ) (r : Row) (rest : List ℕ) : Type 0 where
+  pub line : List ℕ
+  pub whole : line ++ 10 ∷ rest ≡ bytes
+  pub inner : list_all is_inner line ≡ true
+  pub says : said_words line ≡ said (letter ∷ []) ∷ map number_word (numbers_of (length fields) r)
+  pub fit : FieldsFit fields (numbers_of (length fields) r)

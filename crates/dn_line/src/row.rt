@@ -1,0 +1,256 @@
+// Reads a line of a letter and numbers in plain spelling in one pass.
+ghost use Rattle.std.specs.Prelude.{◌≡◌, ◌≤◌, IfSome, true, length, slice_get};
+ghost use Rattle.dn_line.specs.State.LineStates.{is_clear};
+ghost use Rattle.dn_line.specs.State.Rows.{AreNumeric, BeginsWithRow, FieldsFit, HasNumbers, field_fits, numbers_of};
+
+use crate::numbers::{
+    after_blanks, after_line_end, after_plain_end, after_space, any_front, last_front,
+    number_before, short_front,
+};
+use crate::word::Field;
+
+/// The numbers of a line, in their order. A number that the line does not have is 0.
+#[derive(Clone, Copy, PartialEq, Eq)]
+pub struct Row {
+    /// The first number.
+    pub first: i64,
+    /// The second number.
+    pub second: i64,
+    /// The third number.
+    pub third: i64,
+    /// The fourth number.
+    pub fourth: i64,
+    /// The fifth number.
+    pub fifth: i64,
+}
+
+// The row of a line without numbers.
+pub(crate) const NO_ROW: Row = Row {
+    first: 0,
+    second: 0,
+    third: 0,
+    fourth: 0,
+    fifth: 0,
+};
+
+// A row, and the bytes after its line.
+#[derive(Clone, Copy)]
+pub(crate) struct RowBefore<'a> {
+    pub(crate) row: Row,
+    pub(crate) rest: &'a [u8],
+}
+
+// Reads the line that begins these bytes, if it is plain: this letter and numbers that fit these fields, with blanks
+// between them, no number with a `+`, and an LF at its end. Returns none for any other line, whether or not that line
+// has a fault.
+#[inline(always)]
+pub(crate) fn read_row<'a>(letter: u8, fields: &[Field], bytes: &'a [u8]) -> Option<RowBefore<'a>>
+    requires clear { is_clear letter ≡ true }
+    requires numeric { AreNumeric fields.now }
+    ensures { IfSome result (λ r. BeginsWithRow letter fields.now bytes.now r.row r.rest.now) }
+{
+    let [first, after_letter @ ..] = bytes else {
+        return None;
+    };
+    if *first != letter {
+        return None;
+    }
+    let found = numbers(fields.len(), after_blanks(after_letter)?)?;
+    if fit(fields, &found.row) {
+        Some(found)
+    } else {
+        None
+    }
+}
+
+// Reads this many numbers, with blanks between them, and the LF after them.
+#[inline(always)]
+fn numbers(count: usize, bytes: &[u8]) -> Option<RowBefore<'_>>
+    ensures numbers { IfSome result (λ r. HasNumbers count bytes.now r.row r.rest.now) }
+    ensures few { IfSome result (λ r. count ≤ 5) }
+{
+    match count {
+        1 => one(bytes),
+        2 => two(bytes),
+        3 => three(bytes),
+        5 => five(bytes),
+        _ => None,
+    }
+}
+
+// Reads one number.
+fn one(bytes: &[u8]) -> Option<RowBefore<'_>>
+    ensures { IfSome result (λ r. HasNumbers 1 bytes.now r.row r.rest.now) }
+{
+    let first = any_front(bytes)?;
+    Some(RowBefore {
+        row: Row {
+            first: first.number,
+            ..NO_ROW
+        },
+        rest: after_line_end(first.rest)?,
+    })
+}
+
+// Reads two numbers.
+fn two(bytes: &[u8]) -> Option<RowBefore<'_>>
+    ensures { IfSome result (λ r. HasNumbers 2 bytes.now r.row r.rest.now) }
+{
+    let first = number_before(bytes)?;
+    let second = any_front(first.rest)?;
+    Some(RowBefore {
+        row: Row {
+            first: first.number,
+            second: second.number,
+            ..NO_ROW
+        },
+        rest: after_line_end(second.rest)?,
+    })
+}
+
+// Reads three numbers. It tries short numbers first.
+#[inline(always)]
+fn three(bytes: &[u8]) -> Option<RowBefore<'_>>
+    ensures { IfSome result (λ r. HasNumbers 3 bytes.now r.row r.rest.now) }
+{
+    match short_three(bytes) {
+        Some(found) => Some(found),
+        None => any_three(bytes),
+    }
+}
+
+// The greatest length of a line of three numbers of one to eight digits, with one byte for the blank after each of the
+// first two and two bytes for the line end. It is long enough to read eight bytes at each number.
+const SHORT_THREE: usize = 28;
+
+// Reads three numbers of one to eight digits each, with one space between them and LF or CR LF after them. Returns none
+// for any other bytes, and for fewer bytes than `SHORT_THREE`.
+#[inline(always)]
+fn short_three(bytes: &[u8]) -> Option<RowBefore<'_>>
+    ensures { IfSome result (λ r. HasNumbers 3 bytes.now r.row r.rest.now) }
+{
+    if bytes.len() < SHORT_THREE {
+        return None;
+    }
+    let first = short_front(bytes)?;
+    let second = short_front(after_space(first.rest)?)?;
+    let third = short_front(after_space(second.rest)?)?;
+    Some(RowBefore {
+        row: Row {
+            first: first.number,
+            second: second.number,
+            third: third.number,
+            ..NO_ROW
+        },
+        rest: after_plain_end(third.rest)?,
+    })
+}
+
+// Reads three numbers of any length.
+fn any_three(bytes: &[u8]) -> Option<RowBefore<'_>>
+    ensures { IfSome result (λ r. HasNumbers 3 bytes.now r.row r.rest.now) }
+{
+    let first = number_before(bytes)?;
+    let second = number_before(first.rest)?;
+    let third = any_front(second.rest)?;
+    Some(RowBefore {
+        row: Row {
+            first: first.number,
+            second: second.number,
+            third: third.number,
+            ..NO_ROW
+        },
+        rest: after_line_end(third.rest)?,
+    })
+}
+
+// Reads five numbers. It tries short numbers first.
+fn five(bytes: &[u8]) -> Option<RowBefore<'_>>
+    ensures { IfSome result (λ r. HasNumbers 5 bytes.now r.row r.rest.now) }
+{
+    match short_five(bytes) {
+        Some(found) => Some(found),
+        None => any_five(bytes),
+    }
+}
+
+// The greatest length of a line of four numbers of one to eight digits and one more number, with one byte for the blank
+// after each of the first four and eight bytes to read at the last.
+const SHORT_FIVE: usize = 44;
+
+// Reads four numbers of one to eight digits and one more number, with one space between them. Returns none for any
+// other bytes, and for fewer bytes than `SHORT_FIVE`.
+#[inline(always)]
+fn short_five(bytes: &[u8]) -> Option<RowBefore<'_>>
+    ensures { IfSome result (λ r. HasNumbers 5 bytes.now r.row r.rest.now) }
+{
+    if bytes.len() < SHORT_FIVE {
+        return None;
+    }
+    let first = short_front(bytes)?;
+    let second = short_front(after_space(first.rest)?)?;
+    let third = short_front(after_space(second.rest)?)?;
+    let fourth = short_front(after_space(third.rest)?)?;
+    let fifth = last_front(after_space(fourth.rest)?)?;
+    Some(RowBefore {
+        row: Row {
+            first: first.number,
+            second: second.number,
+            third: third.number,
+            fourth: fourth.number,
+            fifth: fifth.number,
+        },
+        rest: after_line_end(fifth.rest)?,
+    })
+}
+
+// Reads five numbers of any length.
+fn any_five(bytes: &[u8]) -> Option<RowBefore<'_>>
+    ensures { IfSome result (λ r. HasNumbers 5 bytes.now r.row r.rest.now) }
+{
+    let first = number_before(bytes)?;
+    let second = number_before(first.rest)?;
+    let third = number_before(second.rest)?;
+    let fourth = number_before(third.rest)?;
+    let fifth = any_front(fourth.rest)?;
+    Some(RowBefore {
+        row: Row {
+            first: first.number,
+            second: second.number,
+            third: third.number,
+            fourth: fourth.number,
+            fifth: fifth.number,
+        },
+        rest: after_line_end(fifth.rest)?,
+    })
+}
+
+// Whether each number fits its field, in a row of as many numbers as fields.
+#[inline(always)]
+fn fit(fields: &[Field], row: &Row) -> bool
+    requires few { length fields.now ≤ 5 }
+    requires numeric { AreNumeric fields.now }
+    ensures { result ≡ true → FieldsFit fields.now (numbers_of (length fields.now) row.now) }
+{
+    let first = fits(fields, 0, &row.first);
+    let second = fits(fields, 1, &row.second);
+    let third = fits(fields, 2, &row.third);
+    let fourth = fits(fields, 3, &row.fourth);
+    let fifth = fits(fields, 4, &row.fifth);
+    first && second && third && fourth && fifth
+}
+
+// Whether the number fits the field at `i`, or there is no such field. A number that is at least 0 fits any field.
+#[inline(always)]
+fn fits(fields: &[Field], i: usize, number: &i64) -> bool
+    requires { AreNumeric fields.now }
+    ensures { result ≡ field_fits (slice_get fields.now i) number.now }
+{
+    if 0 <= *number {
+        return true;
+    }
+    match fields.get(i) {
+        Some(Field::Natural) => false,
+        _ => true,
+    }
+}

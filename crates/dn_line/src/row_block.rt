@@ -1,0 +1,105 @@
+// Reads several lines of a letter and numbers at once, if they are in plain spelling.
+ghost use Rattle.std.specs.Prelude.{◌≡◌, ◌≤◌, [], length};
+ghost use Rattle.dn_line.specs.State.RowBlocks.{BeginWithRows, last_left};
+
+use crate::kind::Kind;
+use crate::line_table::number_row;
+use crate::row::{NO_ROW, Row, read_row};
+use std::marker::Model;
+
+/// The greatest count of rows that one block reads.
+pub const BLOCK: usize = 16;
+
+/// A row of a block.
+#[derive(Clone, Copy)]
+pub struct RowLine {
+    /// The row.
+    pub row: Row,
+    /// The count of bytes that follow the LF of its line.
+    pub left: usize,
+}
+
+// Fills the unused places of a block.
+const NO_LINE: RowLine = RowLine {
+    row: NO_ROW,
+    left: 0,
+};
+
+/// The rows of consecutive plain lines at the beginning of some bytes.
+#[derive(Drop)]
+pub struct RowBlock {
+    rows: [RowLine; BLOCK],
+    len: usize,
+}
+
+impl Model for RowBlock {
+    ghost use Rattle.std.specs.Prelude.{◌≤◌, List, take};
+    ghost use Rattle.dn_line.specs.declared.row_block.RowLine.{RowLine};
+    ghost use Rattle.dn_line.specs.declared.row_block.TheConstants.{BLOCK};
+
+    ghost Value = { List RowLine };
+
+    ghost view = { λ b. take b.len b.rows };
+
+    ghost invariant = { λ b. b.len ≤ BLOCK };
+}
+
+impl RowBlock {
+    /// Returns a block without rows.
+    pub fn new() -> RowBlock
+        ensures { result ≡ [] }
+    {
+        RowBlock {
+            rows: [NO_LINE; BLOCK],
+            len: 0,
+        }
+    }
+
+    /// Replaces the block by the rows of the lines at the beginning of these bytes, in a text of this kind. All of
+    /// these lines begin with the same letter. It stops before the first line that is not such a line in plain
+    /// spelling, after `most` rows, and when the block is full.
+    pub fn read(&mut self, kind: Kind, most: usize, bytes: &[u8])
+        ensures rows { BeginWithRows kind bytes.now self.new }
+        ensures few { length self.new ≤ most }
+    {
+        self.len = 0;
+        let [letter, ..] = bytes else {
+            return;
+        };
+        let Some(fields) = number_row(kind, *letter) else {
+            return;
+        };
+        let mut rest = bytes;
+        for i in 0..most.min(BLOCK) {
+            let Some(next) = read_row(*letter, fields, rest) else {
+                return;
+            };
+            rest = next.rest;
+            self.rows[i] = RowLine {
+                row: next.row,
+                left: rest.len(),
+            };
+            self.len = i + 1;
+        }
+    }
+
+    /// Returns the rows of the block, at most `BLOCK`.
+    pub fn rows(&self) -> &[RowLine]
+        ensures rows { result.now ≡ self.now }
+        ensures few { length result.now ≤ BLOCK }
+    {
+        &self.rows[..self.len]
+    }
+}
+
+/// Returns how many bytes follow the last of these lines, which begin a piece of `all` bytes. If there are no lines,
+/// this is `all`.
+pub fn left_behind(rows: &[RowLine], all: usize) -> usize
+    ensures { result ≡ last_left all rows.now }
+{
+    if rows.is_empty() {
+        all
+    } else {
+        rows[rows.len() - 1].left
+    }
+}
