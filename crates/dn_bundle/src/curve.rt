@@ -278,6 +278,7 @@ impl Bundle for Curve {
         }
     }
 
+    #[inline(always)]
     fn canon_arc(&self, i: u64, form: Form) -> Option<CostArc> {
         let mut arc = self.first_arc(form)?;
         for _k in 0..i {

@@ -65,6 +65,7 @@ fn join(fixed: CostArc, step: Option<(i64, i64)>) -> CostArc
 
 impl Curve {
     // Returns the first canonical arc.
+    #[inline(always)]
     pub(super) fn first_arc(&self, form: Form) -> Option<CostArc>
         ensures { result ≡ slice_get (curve_arcs form self.now) 0 }
     {
@@ -115,6 +116,7 @@ impl Curve {
     }
 
     // Returns how many canonical arcs form 1 has.
+    #[inline(always)]
     pub(super) fn len_one(&self) -> u64
         ensures { result ≡ length (form_one_arcs self.now) }
     {
@@ -146,6 +148,7 @@ impl Curve {
     }
 
     // Returns the canonical arc of form 1 after this arc.
+    #[inline(always)]
     pub(super) fn after_one(&self, arc: &CostArc) -> Option<CostArc>
         ensures { IsAfter (form_one_arcs self.now) arc.now result }
     {
