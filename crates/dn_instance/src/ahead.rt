@@ -11,8 +11,8 @@ use std::alloc::Global;
 pub(crate) fn look_ahead<B: Bundle>(table: &mut TableSoFar<B>, alloc: Global, rows: &[RowLine])
     ensures { table.new ≡ table.old }
 {
-    if table.wants_guesses() {
-        table.guess(alloc, &pairs_of(rows));
+    if table.wants_hints() {
+        table.find_hints(alloc, &pairs_of(rows));
     }
 }
 

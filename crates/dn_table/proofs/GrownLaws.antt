@@ -17,7 +17,7 @@ use Rattle.dn_table.proofs.TableLaws.{grows_there}
 use Rattle.dn_arc.proofs.PairLaws.{pair_equiv}
 use Rattle.pair_index.proofs.SortedLaws.{key_of_entry}
 use Rattle.pair_index.proofs.EntryLaws.{keys_kept}
-use Rattle.pair_index.specs.State.Places.{key_at}
+use Rattle.pair_index.specs.State.Positions.{key_at}
 
 module _ {X : Type 0} (t : ℤ × ℤ → Bool) (e : (ℤ × ℤ) × X) where
   -- the look-up of an appended entry

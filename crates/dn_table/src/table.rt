@@ -11,7 +11,7 @@ ghost use Rattle.dn_table.specs.State.Tables.{entry_of, CountsEntries};
 
 use crate::entry_sum::{bundle_entries, count_arcs};
 use dn_bundle::{Bundle, Form};
-use pair_index::place_among;
+use pair_index::position_among;
 use std::marker::Model;
 
 /// The bundles of a graph by ordered pair. A pair whose arcs mean the same as no arcs has no bundle.
@@ -46,8 +46,8 @@ impl<B: Bundle> Table<B> {
     pub fn get(&self, src: i64, dst: i64) -> Option<&B>
         ensures { option_copied result ≡ lookup (same_pair (src, dst)) self.now }
     {
-        match place_among(&self.entries, &(src, dst)) {
-            Some(place) => Some(&self.entries[place].1),
+        match position_among(&self.entries, &(src, dst)) {
+            Some(position) => Some(&self.entries[position].1),
             None => None,
         }
     }

@@ -4,7 +4,7 @@ ghost use Rattle.std.specs.List.{list_any};
 ghost use Rattle.std.specs.List.Sorted.{IsPermutation, IsStrictlySortedBy};
 ghost use Rattle.std.specs.Map.{keys_of, lookup};
 ghost use Rattle.pair_index.specs.State.Indexed.{Indexes};
-ghost use Rattle.pair_index.specs.State.Places.{IsPlace};
+ghost use Rattle.pair_index.specs.State.Positions.{IsPosition};
 ghost use Rattle.dn_arc.specs.declared.arc.Form.{Form};
 ghost use Rattle.dn_arc.specs.Pairs.{pair_cmp, same_pair};
 ghost use Rattle.dn_table.specs.State.Tables.{Adds, IsTooMuch, CountsEntries, WidensAt};
@@ -16,7 +16,7 @@ use pair_index::{AHEAD, PairIndex, is_pair};
 use std::alloc::{AllocError, Global};
 use std::marker::Model;
 
-// How many calls of `wants_guesses` pass before it asks again, after a look-up that saved no time.
+// How many calls of `wants_hints` pass before it asks again, after a look-up that saved no time.
 const REST: usize = 7;
 
 /// The bundles of the arcs so far, one for each pair, in any order.
@@ -25,8 +25,8 @@ pub struct TableSoFar<B: Bundle> {
     entries: Vec<((i64, i64), B)>,
     index: PairIndex,
     // Hints of the positions of the next pairs, and how many of the hints are used; above `AHEAD`, also how many calls
-    // of `wants_guesses` pass before it asks again.
-    likely: [u32; AHEAD],
+    // of `wants_hints` pass before it asks again.
+    hints: [u32; AHEAD],
     asked: usize,
 }
 
@@ -50,14 +50,14 @@ impl<B: Bundle> TableSoFar<B> {
         TableSoFar {
             entries: Vec::new(alloc),
             index: PairIndex::new(),
-            likely: [0; AHEAD],
+            hints: [0; AHEAD],
             asked: AHEAD,
         }
     }
 
     /// Whether hints of the positions of the next pairs may save time, and all earlier hints are used. If the last
     /// look-up saved no time, not before `REST` more calls. This affects only the speed.
-    pub fn wants_guesses(&mut self) -> bool
+    pub fn wants_hints(&mut self) -> bool
         ensures { self.new ≡ self.old }
     {
         if AHEAD < self.asked {
@@ -69,12 +69,12 @@ impl<B: Bundle> TableSoFar<B> {
 
     /// Looks up these pairs together, if that saves time. They are likely the pairs of the next arcs, and the positions
     /// found become hints. This affects only the speed.
-    pub fn guess(&mut self, alloc: Global, pairs: &[(i64, i64); AHEAD])
+    pub fn find_hints(&mut self, alloc: Global, pairs: &[(i64, i64); AHEAD])
         ensures { self.new ≡ self.old }
     {
-        match self.index.likely_places(alloc, &self.entries, pairs) {
-            Some(likely) => {
-                self.likely = likely;
+        match self.index.hints(alloc, &self.entries, pairs) {
+            Some(hints) => {
+                self.hints = hints;
                 self.asked = 0;
             }
             None => self.asked = AHEAD + REST,
@@ -82,31 +82,31 @@ impl<B: Bundle> TableSoFar<B> {
     }
 
     // Returns the position of the next pair, if it has an entry. Tries the next hint first.
-    fn place(&mut self, pair: &(i64, i64)) -> Option<usize>
-        ensures place { IsPlace (keys_of self.old) pair.now result }
+    fn position(&mut self, pair: &(i64, i64)) -> Option<usize>
+        ensures position { IsPosition (keys_of self.old) pair.now result }
         ensures same { self.new ≡ self.old }
     {
-        let guess = self.next_guess();
-        self.place_from(guess, pair)
+        let hint = self.next_hint();
+        self.position_from(hint, pair)
     }
 
     // Returns the next hint, and marks it as used.
     #[inline]
-    fn next_guess(&mut self) -> Option<usize>
+    fn next_hint(&mut self) -> Option<usize>
         ensures { self.new ≡ self.old }
     {
-        let guess = *self.likely.get(self.asked)? as usize;
+        let hint = *self.hints.get(self.asked)? as usize;
         self.asked += 1;
-        Some(guess)
+        Some(hint)
     }
 
     // Returns the position of a pair, if it has an entry. Tries the hint first.
     #[inline]
-    fn place_from(&mut self, guess: Option<usize>, pair: &(i64, i64)) -> Option<usize>
-        ensures place { IsPlace (keys_of self.old) pair.now result }
+    fn position_from(&mut self, hint: Option<usize>, pair: &(i64, i64)) -> Option<usize>
+        ensures position { IsPosition (keys_of self.old) pair.now result }
         ensures same { self.new ≡ self.old }
     {
-        match guess {
+        match hint {
             Some(at) if self.stands_at(at, pair) => Some(at),
             _ => self.index.find(&self.entries, pair),
         }
@@ -115,7 +115,7 @@ impl<B: Bundle> TableSoFar<B> {
     // Whether the entry at this position is that of the pair.
     #[inline]
     fn stands_at(&self, at: usize, pair: &(i64, i64)) -> bool
-        ensures { result ≡ true → IsPlace (keys_of self.now) pair.now (Some at) }
+        ensures { result ≡ true → IsPosition (keys_of self.now) pair.now (Some at) }
     {
         match self.entries.get(at) {
             Some(entry) => is_pair(&entry.0, pair),
@@ -190,7 +190,7 @@ impl<B: Bundle> TableSoFar<B> {
             ↔ IsTooMuch B.bundle self.old pair arc }
         ensures memory { (result ≡ Err BundleFault.Memory) → WidensAt B.bundle self.old pair arc }
     {
-        match self.place(&pair) {
+        match self.position(&pair) {
             Some(i) => self.entries[i].1.add(arc),
             None => self.add_fresh(alloc, pair, arc),
         }

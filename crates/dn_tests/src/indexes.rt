@@ -1,6 +1,6 @@
 // Each way of finding pairs, compared with a scan of the list. Allocations may fail.
 
-use pair_index::{AHEAD, PairIndex, place_among};
+use pair_index::{AHEAD, PairIndex, position_among};
 use std::alloc::{AllocError, Global};
 use std::marker::Model;
 use std::test::Fail;
@@ -75,7 +75,7 @@ impl Listed {
             }
         }
         for i in 0..pairs.len() {
-            match place_among(&entries, &pairs[i]) {
+            match position_among(&entries, &pairs[i]) {
                 Some(place) if entries[place].1 == i => {}
                 _ => return false,
             }
@@ -231,7 +231,7 @@ fn way_to_find_again(alloc: Global, pairs: &[(i64, i64)]) -> Result<&'static str
     let way = listed.way();
     listed
         .index
-        .likely_places(alloc, &listed.entries, &[(1, 5); AHEAD]);
+        .hints(alloc, &listed.entries, &[(1, 5); AHEAD]);
     if listed.finds(pairs) && listed.sorts(pairs) {
         Ok(way)
     } else {

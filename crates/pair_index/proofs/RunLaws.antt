@@ -16,14 +16,14 @@ use Rattle.std.proofs.lemmas.Option.{slice_get_within}
 use Rattle.dn_arc.specs.Pairs.{pair_cmp, same_pair}
 use Rattle.dn_arc.proofs.PairLaws.{pair_total}
 use Rattle.pair_index.specs.State.Chained.{IsChained}
-use Rattle.pair_index.specs.State.Places.{key_at, IsPlace, IsPlaceFrom}
+use Rattle.pair_index.specs.State.Positions.{key_at, IsPosition, IsPositionFrom}
 use Rattle.pair_index.specs.State.Runs.{IsGroup, ShowsGroup}
 use Rattle.pair_index.specs.State.Sorted.{AreSorted, order_of}
 use Rattle.pair_index.specs.declared.chains.Chains.{Chains}
 use Rattle.pair_index.specs.declared.runs.Group.{Group}
 use Rattle.pair_index.specs.declared.runs.Group.TheVariants.{Sorted, Few, Linked}
 use Rattle.pair_index.proofs.ChainLaws.{key_kept, key_new}
-use Rattle.pair_index.proofs.PlaceLaws.{none_from_places, fresh_at}
+use Rattle.pair_index.proofs.PositionLaws.{none_from_positions, fresh_at}
 use Rattle.pair_index.proofs.SortedLaws.{all_keys, key_of_entry, order_is, order_total, less_apart, sorted_append, sorted_more}
 
 -- an ordering by tails that decides
@@ -70,8 +70,8 @@ group_unless_sorted falls keys begin (Linked chains) not shows = shows.0
 
 module _ (falls : Bool) (keys : List (ℤ × ℤ)) (begin : ℕ) (group : IsGroup falls keys begin) (p : ℤ × ℤ) where
   -- a pair of the group's tail is in the group or nowhere
-  pub among_group : p.0 ≡ group.tail → (o : Option ℕ) → IsPlaceFrom keys begin p o → IsPlace keys p o
-  among_group e None none = none_from_places p keys (λ i lt f. by_side i lt f (cases_lt i begin))
+  pub among_group : p.0 ≡ group.tail → (o : Option ℕ) → IsPositionFrom keys begin p o → IsPosition keys p o
+  among_group e None none = none_from_positions p keys (λ i lt f. by_side i lt f (cases_lt i begin))
     where
       by_side : (i : ℕ) → i < length keys → key_at keys i ≡ p → (i < begin) ⊎ (begin ≤ i) → ⊥
       by_side i lt f (inl l) = less_apart falls (key_at keys i) p (group.before i p l e) f
@@ -79,8 +79,8 @@ module _ (falls : Bool) (keys : List (ℤ × ℤ)) (begin : ℕ) (group : IsGrou
   among_group e (Some i) is = is
 
   -- a pair of another tail is before the group or nowhere
-  pub among_sorted : (p.0 ≡ group.tail → ⊥) → (o : Option ℕ) → IsPlace (take begin keys) p o → IsPlace keys p o
-  among_sorted other None none = none_from_places p keys (λ i lt f. by_side i lt f (cases_lt i begin))
+  pub among_sorted : (p.0 ≡ group.tail → ⊥) → (o : Option ℕ) → IsPosition (take begin keys) p o → IsPosition keys p o
+  among_sorted other None none = none_from_positions p keys (λ i lt f. by_side i lt f (cases_lt i begin))
     where
       by_side : (i : ℕ) → i < length keys → key_at keys i ≡ p → (i < begin) ⊎ (begin ≤ i) → ⊥
       by_side i lt f (inl l) =
@@ -112,7 +112,7 @@ module _ (falls : Bool) (keys : List (ℤ × ℤ)) (begin : ℕ) (group : IsGrou
     tail = group.tail;
     inside = (let inside = group.inside in let n : length (keys ++ p ∷ []) ≡ length keys + 1 = length_push keys p in
         omega arith);
-    one_tail = λ i from lt. by_place i from lt (cases_lt i (length keys));
+    one_tail = λ i from lt. by_position i from lt (cases_lt i (length keys));
     sorted =
         subst (AreSorted falls)
         (sym (take-append-le begin keys (p ∷ []) (let inside = group.inside in omega arith))) group.sorted;
@@ -121,10 +121,10 @@ module _ (falls : Bool) (keys : List (ℤ × ℤ)) (begin : ℕ) (group : IsGrou
         ∙ group.before i q l f;
   }
     where
-      by_place : (i : ℕ) → begin ≤ i → i < length (keys ++ p ∷ []) → (i < length keys) ⊎ (length keys ≤ i)
+      by_position : (i : ℕ) → begin ≤ i → i < length (keys ++ p ∷ []) → (i < length keys) ⊎ (length keys ≤ i)
           → (key_at (keys ++ p ∷ []) i).0 ≡ group.tail
-      by_place i from lt (inl l) = ap (λ (k : ℤ × ℤ). k.0) (key_kept keys p i l) ∙ group.one_tail i from l
-      by_place i from lt (inr l) =
+      by_position i from lt (inl l) = ap (λ (k : ℤ × ℤ). k.0) (key_kept keys p i l) ∙ group.one_tail i from l
+      by_position i from lt (inr l) =
           let n : length (keys ++ p ∷ []) ≡ length keys + 1 = length_push keys p in
           ap (λ (k : ℤ × ℤ). k.0) (key_new keys p i (omega arith)) ∙ e
 
@@ -136,14 +136,14 @@ module _ (falls : Bool) (keys : List (ℤ × ℤ)) (begin : ℕ) (group : IsGrou
       linked
 
 -- the position in the list of a pair's position in the group
-pub place_on : (keys : List (ℤ × ℤ)) (begin : ℕ) (p : ℤ × ℤ) (o : Option ℕ) → begin ≤ length keys
-    → IsPlace (drop begin keys) p o → IsPlaceFrom keys begin p (option_map (λ i. begin + i) o)
-place_on keys begin p None within none =
+pub position_on : (keys : List (ℤ × ℤ)) (begin : ℕ) (p : ℤ × ℤ) (o : Option ℕ) → begin ≤ length keys
+    → IsPosition (drop begin keys) p o → IsPositionFrom keys begin p (option_map (λ i. begin + i) o)
+position_on keys begin p None within none =
     λ i from lt f. (let all : length (drop begin keys) ≡ length keys - begin = length-drop begin keys in
     let at : begin + (i - begin) ≡ i = omega arith in
     fresh_at p (drop begin keys) (i - begin) none (omega arith)
     (get_or-drop begin keys (i - begin) (pos 0, pos 0) ∙ ap (key_at keys) at ∙ f))
-place_on keys begin p (Some i) within is =
+position_on keys begin p (Some i) within is =
     let all : length (drop begin keys) ≡ length keys - begin = length-drop begin keys in
     let lt : i < length (drop begin keys) = is.0 in
     (omega arith, sym (get_or-drop begin keys i (pos 0, pos 0)) ∙ is.1)
@@ -163,7 +163,7 @@ module _ (falls : Bool) (keys : List (ℤ × ℤ)) where
     sorted =
         sorted_left falls (take begin keys) (drop begin keys)
         (subst (AreSorted falls) (sym (take-append-drop begin keys)) up);
-    before = λ i q l f. by_place i q l f (cases_lt (i + 1) begin);
+    before = λ i q l f. by_position i q l f (cases_lt (i + 1) begin);
   }
     where
       inside : begin < length keys
@@ -182,26 +182,26 @@ module _ (falls : Bool) (keys : List (ℤ × ℤ)) where
           (let i = inside in omega arith) (omega arith))
           (λ g. past l (g ∙ e)) refl (f ∙ sym e)
 
-      by_place : (i : ℕ) (q : ℤ × ℤ) → i < begin → q.0 ≡ t → (i + 1 < begin) ⊎ (begin ≤ i + 1)
+      by_position : (i : ℕ) (q : ℤ × ℤ) → i < begin → q.0 ≡ t → (i + 1 < begin) ⊎ (begin ≤ i + 1)
           → order_of falls (key_at keys i) q ≡ Less
-      by_place i q l f (inl m) =
+      by_position i q l f (inl m) =
           (order_total falls).trans (key_at keys i) (key_at keys (begin - 1)) q
           (Less-from_sorted (order_of falls) keys i (begin - 1) (pos 0, pos 0) up (omega arith) (omega arith))
           (at_end q (omega arith) f)
-      by_place i q l f (inr m) =
+      by_position i q l f (inr m) =
           let at : i ≡ begin - 1 = omega arith in
           ap (λ j. order_of falls (key_at keys j) q) at ∙ at_end q (omega arith) f
 
   -- each key is at the end or before the last one
   up_to_last : AreSorted falls keys → (i : ℕ) → i < length keys
       → (key_at keys i ≡ last) ⊎ (order_of falls (key_at keys i) last ≡ Less)
-  up_to_last up i lt = by_place (cases_lt i (length keys - 1))
+  up_to_last up i lt = by_position (cases_lt i (length keys - 1))
     where
-      by_place : (i < length keys - 1) ⊎ (length keys - 1 ≤ i)
+      by_position : (i < length keys - 1) ⊎ (length keys - 1 ≤ i)
           → (key_at keys i ≡ last) ⊎ (order_of falls (key_at keys i) last ≡ Less)
-      by_place (inl l) =
+      by_position (inl l) =
           inr (Less-from_sorted (order_of falls) keys i (length keys - 1) (pos 0, pos 0) up l (omega arith))
-      by_place (inr l) = inl (ap (key_at keys) (let at : i ≡ length keys - 1 = omega arith in at))
+      by_position (inr l) = inl (ap (key_at keys) (let at : i ≡ length keys - 1 = omega arith in at))
 
   module _ (p : ℤ × ℤ) (apart : last.0 ≡ p.0 → ⊥) (below : order_of falls last p ≡ Less) where
     grouped_below : (begin : ℕ) → IsGroup falls keys begin → (i : ℕ) → i < length keys
@@ -218,12 +218,12 @@ module _ (falls : Bool) (keys : List (ℤ × ℤ)) where
     -- if a pair of another tail is after the last key, it is after each key
     pub all_below : (begin : ℕ) (group : Group) → ShowsGroup falls begin group keys → (i : ℕ) → i < length keys
         → order_of falls (key_at keys i) p ≡ Less
-    all_below begin Sorted up i lt = by_place (up_to_last up i lt)
+    all_below begin Sorted up i lt = by_position (up_to_last up i lt)
       where
-        by_place : (key_at keys i ≡ last) ⊎ (order_of falls (key_at keys i) last ≡ Less)
+        by_position : (key_at keys i ≡ last) ⊎ (order_of falls (key_at keys i) last ≡ Less)
             → order_of falls (key_at keys i) p ≡ Less
-        by_place (inl e) = ap (λ k. order_of falls k p) e ∙ below
-        by_place (inr l) = (order_total falls).trans (key_at keys i) last p l below
+        by_position (inl e) = ap (λ k. order_of falls k p) e ∙ below
+        by_position (inr l) = (order_total falls).trans (key_at keys i) last p l below
     all_below begin Few group i lt = grouped_below begin group i lt
     all_below begin (Linked chains) group i lt = grouped_below begin group.0 i lt
 
@@ -244,7 +244,7 @@ module _ (keys : List (ℤ × ℤ)) (some : 0 < length keys) (same : (key_at key
   between : AreSorted false keys → (i : ℕ) → i < length keys → (0 < i) ⊎ (i ≤ 0)
       → (key_at keys i).0 ≡ (last false keys).0
   between up i lt (inr l) = ap (λ j. (key_at keys j).0) (let at : i ≡ 0 = omega arith in at) ∙ same
-  between up i lt (inl l) = by_place (up_to_last false keys up i lt)
+  between up i lt (inl l) = by_position (up_to_last false keys up i lt)
     where
       first : pair_cmp (key_at keys 0) (key_at keys i) ≡ Less
       first = Less-from_sorted (order_of false) keys 0 i (pos 0, pos 0) up l lt
@@ -263,10 +263,10 @@ module _ (keys : List (ℤ × ℤ)) (some : 0 < length keys) (same : (key_at key
           absurd (less_apart false (key_at keys 0) (key_at keys 0)
           (pair_total.trans (key_at keys 0) (key_at keys i) (key_at keys 0) first down) refl)
 
-      by_place : (key_at keys i ≡ last false keys) ⊎ (order_of false (key_at keys i) (last false keys) ≡ Less)
+      by_position : (key_at keys i ≡ last false keys) ⊎ (order_of false (key_at keys i) (last false keys) ≡ Less)
           → (key_at keys i).0 ≡ (last false keys).0
-      by_place (inl e) = ap (λ (k : ℤ × ℤ). k.0) e
-      by_place (inr m) = by_tail (int_cmp (key_at keys i).0 (last false keys).0) refl m
+      by_position (inl e) = ap (λ (k : ℤ × ℤ). k.0) e
+      by_position (inr m) = by_tail (int_cmp (key_at keys i).0 (last false keys).0) refl m
 
   one_tail : (begin : ℕ) (group : Group) → ShowsGroup false begin group keys → (i : ℕ) → i < length keys
       → (key_at keys i).0 ≡ (last false keys).0
@@ -373,13 +373,13 @@ module _ {X : Type 0} (falls : Bool) (begin : ℕ) (es : List ((ℤ × ℤ) × X
     pub front_sorted : AreSorted falls (keys_of (take begin es))
     front_sorted = subst (AreSorted falls) (take-map (λ (x : (ℤ × ℤ) × X). x.0) begin es) group.sorted
 
-    pub found_before : (e.0.0 ≡ p.0 → ⊥) → (o : Option ℕ) → IsPlace (keys_of (take begin es)) p o
-        → IsPlace (keys_of es) p o
+    pub found_before : (e.0.0 ≡ p.0 → ⊥) → (o : Option ℕ) → IsPosition (keys_of (take begin es)) p o
+        → IsPosition (keys_of es) p o
     found_before other o is =
         among_sorted falls (keys_of es) begin group p (λ f. other (last_tail ∙ sym f)) o
-        (subst (λ ks. IsPlace ks p o) (sym (take-map (λ (x : (ℤ × ℤ) × X). x.0) begin es)) is)
+        (subst (λ ks. IsPosition ks p o) (sym (take-map (λ (x : (ℤ × ℤ) × X). x.0) begin es)) is)
 
-    pub found_among : e.0.0 ≡ p.0 → (o : Option ℕ) → IsPlaceFrom (keys_of es) begin p o → IsPlace (keys_of es) p o
+    pub found_among : e.0.0 ≡ p.0 → (o : Option ℕ) → IsPositionFrom (keys_of es) begin p o → IsPosition (keys_of es) p o
     found_among same o is = among_group falls (keys_of es) begin group p (sym same ∙ last_tail) o is
 
 -- the group, linked by chains
@@ -389,10 +389,10 @@ module _ {X : Type 0} (begin : ℕ) (es : List ((ℤ × ℤ) × X)) where
   group_linked chains linked = subst (IsChained chains) (sym (keys_from begin es)) linked
 
   pub found_linked : (falls : Bool) (p : ℤ × ℤ) (o : Option ℕ) → IsGroup falls (keys_of es) begin
-      → IsPlace (keys_of (group_of begin es)) p o → IsPlaceFrom (keys_of es) begin p (option_map (λ i. begin + i) o)
+      → IsPosition (keys_of (group_of begin es)) p o → IsPositionFrom (keys_of es) begin p (option_map (λ i. begin + i) o)
   found_linked falls p o group is =
-      place_on (keys_of es) begin p o (let inside = group.inside in omega arith)
-      (subst (λ ks. IsPlace ks p o) (keys_from begin es) is)
+      position_on (keys_of es) begin p o (let inside = group.inside in omega arith)
+      (subst (λ ks. IsPosition ks p o) (keys_from begin es) is)
 
   pub linked_more : (falls : Bool) (p : ℤ × ℤ) (chains : Chains) → IsGroup falls (keys_of es) begin
       → IsChained chains (keys_of (group_of begin es) ++ p ∷ [])

@@ -8,11 +8,11 @@ use Rattle.std.proofs.lemmas.Int.{ints, by_lt_z}
 use Rattle.std.proofs.lemmas.List.{length_push, length-set, get_or_append_left, get_or_at, get_or-set_same, get_or-set_other, get_or-take, length-take-le, take-map}
 use Rattle.std.proofs.lemmas.Map.Keys.{apart_from_distinct}
 use Rattle.dn_arc.specs.Pairs.{same_pair}
-use Rattle.pair_index.specs.State.Places.{key_at}
+use Rattle.pair_index.specs.State.Positions.{key_at}
 use Rattle.pair_index.specs.State.Tailed.{IsAfter, LeadsTo, Links, Sought}
 use Rattle.dn_arc.proofs.PairLaws.{pair_self}
-use Rattle.pair_index.proofs.PlaceLaws.{none_from_places, fresh_at}
-use Rattle.pair_index.proofs.ChainLaws.{key_of_place, key_kept, key_new}
+use Rattle.pair_index.proofs.PositionLaws.{none_from_positions, fresh_at}
+use Rattle.pair_index.proofs.ChainLaws.{key_of_position, key_kept, key_new}
 use Rattle.pair_index.proofs.TailLaws.{least_from, greatest_before, pair_from}
 
 -- the effect of a splice: the chain of the tail `t` has one more link, at its beginning or after the position of
@@ -73,12 +73,12 @@ module _ (keys : List (ℤ × ℤ)) (k : ℤ × ℤ) where
   still : (Asked : ℤ × ℤ → Type 0) (link : ℕ) → LeadsTo keys Asked link → (Asked k → ⊥) → LeadsTo now Asked link
   still Asked link old not = record {
     there = λ i e. (let at = old.there i e in (longer i at.0, subst Asked (sym (key_kept keys k i at.0)) at.1));
-    least = λ i lt asked. by_place i lt asked (cases_lt i (length keys));
+    least = λ i lt asked. by_position i lt asked (cases_lt i (length keys));
   }
     where
-      by_place : (i : ℕ) → i < length now → Asked (key_at now i) → (i < length keys) ⊎ (length keys ≤ i) → (j : ℕ)
+      by_position : (i : ℕ) → i < length now → Asked (key_at now i) → (i < length keys) ⊎ (length keys ≤ i) → (j : ℕ)
           × (link ≡ suc j) × ((key_at now j).1 ≤ℤ (key_at now i).1)
-      by_place i lt asked (inl l) =
+      by_position i lt asked (inl l) =
           let at = old.least i l (subst Asked (key_kept keys k i l) asked) in
           let inside : at.0 < length keys = (old.there at.0 at.1).0 in (
             at.0,
@@ -86,7 +86,7 @@ module _ (keys : List (ℤ × ℤ)) (k : ℤ × ℤ) where
             subst (λ (p : ℤ × ℤ). p.1 ≤ℤ (key_at now i).1) (sym (key_kept keys k at.0 inside))
                 (subst (λ (p : ℤ × ℤ). (key_at keys at.0).1 ≤ℤ p.1) (sym (key_kept keys k i l)) at.2),
           )
-      by_place i lt asked (inr l) =
+      by_position i lt asked (inr l) =
           let n : length now ≡ length keys + 1 = length_push keys k in
           absurd (not (subst Asked (key_new keys k i (omega arith)) asked))
 
@@ -95,12 +95,12 @@ module _ (keys : List (ℤ × ℤ)) (k : ℤ × ℤ) where
       → LeadsTo now Asked link
   behind Asked link j old is low = record {
     there = λ i e. (let at = old.there i e in (longer i at.0, subst Asked (sym (key_kept keys k i at.0)) at.1));
-    least = λ i lt asked. by_place i lt asked (cases_lt i (length keys));
+    least = λ i lt asked. by_position i lt asked (cases_lt i (length keys));
   }
     where
-      by_place : (i : ℕ) → i < length now → Asked (key_at now i) → (i < length keys) ⊎ (length keys ≤ i) → (m : ℕ)
+      by_position : (i : ℕ) → i < length now → Asked (key_at now i) → (i < length keys) ⊎ (length keys ≤ i) → (m : ℕ)
           × (link ≡ suc m) × ((key_at now m).1 ≤ℤ (key_at now i).1)
-      by_place i lt asked (inl l) =
+      by_position i lt asked (inl l) =
           let at = old.least i l (subst Asked (key_kept keys k i l) asked) in
           let inside : at.0 < length keys = (old.there at.0 at.1).0 in (
             at.0,
@@ -108,7 +108,7 @@ module _ (keys : List (ℤ × ℤ)) (k : ℤ × ℤ) where
             subst (λ (p : ℤ × ℤ). p.1 ≤ℤ (key_at now i).1) (sym (key_kept keys k at.0 inside))
                 (subst (λ (p : ℤ × ℤ). (key_at keys at.0).1 ≤ℤ p.1) (sym (key_kept keys k i l)) at.2),
           )
-      by_place i lt asked (inr l) =
+      by_position i lt asked (inr l) =
           let n : length now ≡ length keys + 1 = length_push keys k in
           let new : key_at now i ≡ k = key_new keys k i (omega arith) in
           let inside : j < length keys = (old.there j is).0 in (
@@ -132,16 +132,16 @@ module _ (keys : List (ℤ × ℤ)) (k : ℤ × ℤ) where
           length keys,
           refl,
           subst (λ (p : ℤ × ℤ). p.1 ≤ℤ (key_at now i).1) (sym (key_new keys k (length keys) refl))
-              (by_place i lt asked (cases_lt i (length keys))),
+              (by_position i lt asked (cases_lt i (length keys))),
         );
   }
     where
-      by_place : (i : ℕ) → i < length now → Asked (key_at now i) → (i < length keys) ⊎ (length keys ≤ i)
+      by_position : (i : ℕ) → i < length now → Asked (key_at now i) → (i < length keys) ⊎ (length keys ≤ i)
           → k.1 ≤ℤ (key_at now i).1
-      by_place i lt asked (inl l) =
+      by_position i lt asked (inl l) =
           subst (λ (p : ℤ × ℤ). k.1 ≤ℤ p.1) (sym (key_kept keys k i l))
           (low i l (subst Asked (key_kept keys k i l) asked))
-      by_place i lt asked (inr l) =
+      by_position i lt asked (inr l) =
           let n : length now ≡ length keys + 1 = length_push keys k in
           subst (λ (p : ℤ × ℤ). k.1 ≤ℤ p.1) (sym (key_new keys k i (omega arith)))
           (let same : k.1 ≤ℤ k.1 = omega (arith, ints) in same)
@@ -230,16 +230,16 @@ module _ (heads tops next links : List ℕ) (keys : List (ℤ × ℤ)) (k : ℤ 
       → LeadsTo (now keys k) (IsAfter (key_at keys i)) (get_or links i 0)
   link_low i lt tail low =
       (let g = greatest_before keys k before after stops sought i lt tail low in
-      by_place g.0 g.1 g.2 g.3 g.4 g.5 (cases_eq i g.0))
+      by_position g.0 g.1 g.2 g.3 g.4 g.5 (cases_eq i g.0))
     where
-      by_place : (b : ℕ) → before ≡ suc b → b < length keys → (key_at keys b).0 ≡ k.0 → (key_at keys b).1 <ℤ k.1
+      by_position : (b : ℕ) → before ≡ suc b → b < length keys → (key_at keys b).0 ≡ k.0 → (key_at keys b).1 <ℤ k.1
           → (key_at keys i).1 ≤ℤ (key_at keys b).1 → (i ≡ b) ⊎ (i ≡ b → ⊥)
           → LeadsTo (now keys k) (IsAfter (key_at keys i)) (get_or links i 0)
-      by_place b is_b inside same_tail below upto (inl e) =
+      by_position b is_b inside same_tail below upto (inl e) =
           subst (λ m. LeadsTo (now keys k) (IsAfter (key_at keys m)) (get_or links m 0)) (sym e)
           (subst (LeadsTo (now keys k) (IsAfter (key_at keys b))) (sym (done.follows b is_b))
           (link_before b is_b inside same_tail below))
-      by_place b is_b inside same_tail below upto (inr apart) =
+      by_position b is_b inside same_tail below upto (inr apart) =
           let on = old.at_next i lt in
           let less : (key_at keys i).1 <ℤ (key_at keys b).1 =
           by_lt_z (key_at keys i).1 (key_at keys b).1 (λ l. l)
@@ -320,7 +320,7 @@ module _ (heads tops next links : List ℕ) (keys : List (ℤ × ℤ)) (k : ℤ 
     at_next = λ i lt. link_now i lt (cases_lt i (length keys));
   }
 
--- the position before the pair's place is one of a key
+-- the position before the pair's position is one of a key
 pub before_inside : (keys : List (ℤ × ℤ)) (pair : ℤ × ℤ) (before after : ℕ) → (before ≡ 0 → ⊥)
     → Sought keys pair before after → before - 1 < length keys
 before_inside keys pair before after some (inl s) = absurd (some s.is)
@@ -330,13 +330,13 @@ before_inside keys pair before after some (inr s) =
 -- no entry has the pair of an earlier one
 pub prefix_fresh : {X : Type 0} (es : List ((ℤ × ℤ) × X)) (i : ℕ) (d : (ℤ × ℤ) × X) → IsDistinct same_pair (keys_of es)
     → i < length es → list_any (same_pair (get_or es i d).0) (keys_of (take i es)) ≡ false
-prefix_fresh {X} es i d apart inside = none_from_places (get_or es i d).0 (keys_of (take i es)) (λ j lt e.
+prefix_fresh {X} es i d apart inside = none_from_positions (get_or es i d).0 (keys_of (take i es)) (λ j lt e.
     (let short : j < i = subst (λ n. j < n) (length-keys_of (take i es) ∙ length-take-le i es (omega arith)) lt in
     let all : i < length (keys_of es) = subst (λ n. i < n) (sym (length-keys_of es)) inside in
     let same : key_at (keys_of es) j ≡ key_at (keys_of es) i =
     sym (get_or-take i (keys_of es) j (pos 0, pos 0) short)
     ∙ ap (λ (ks : List (ℤ × ℤ)). key_at ks j) (take-map (λ (x : (ℤ × ℤ) × X). x.0) i es)
-    ∙ e ∙ sym (key_of_place es i d all) in
+    ∙ e ∙ sym (key_of_position es i d all) in
     let other = apart_from_distinct same_pair (keys_of es) j i (pos 0, pos 0) apart short all in
     false≢true
     (sym other ∙ ap (λ (p : ℤ × ℤ). same_pair (key_at (keys_of es) j) p) (sym same)

@@ -1,4 +1,4 @@
--- Chains by tail: a step along a chain, and the place of a pair in a chain.
+-- Chains by tail: a step along a chain, and the position of a pair in a chain.
 use Rattle.std.proofs.Common.{◌≡◌, ℕ, zero, suc, ◌+◌, ◌-◌, ◌<◌, ◌≤◌, ℤ, pos, ◌<ℤ◌, ◌≤ℤ◌, List, [], ◌∷◌, ◌++◌, length, get_or, replicate, Bool, true, false, cond, ◌⊎◌, inl, inr, refl, sym, ap, ◌∙◌, subst, arith}
 use Rattle.std.specs.List.{list_any, count_by}
 use lib.Signed.{lt_z}
@@ -7,9 +7,9 @@ use Rattle.std.proofs.lemmas.Bool.{cases_lt}
 use Rattle.std.proofs.lemmas.List.{length-append, length-replicate, get_or_append_left, get_or-append_right, get_or-replicate}
 use Rattle.std.proofs.lemmas.List.Sums.{sum_by-cons, sum_by-le-sum_by}
 use Rattle.dn_arc.specs.Pairs.{same_pair}
-use Rattle.pair_index.specs.State.Places.{key_at}
+use Rattle.pair_index.specs.State.Positions.{key_at}
 use Rattle.pair_index.specs.State.Tailed.{IsAfter, LeadsTo, Links, Sought}
-use Rattle.pair_index.proofs.PlaceLaws.{none_from_places}
+use Rattle.pair_index.proofs.PositionLaws.{none_from_positions}
 
 -- if one test implies another, it counts at most as much
 test_le : (a b : Bool) → (a ≡ true → b ≡ true) → cond a 1 0 ≤ cond b 1 0
@@ -164,13 +164,13 @@ module _ (keys : List (ℤ × ℤ)) (pair : ℤ × ℤ) (before after : ℕ)
   -- if `after` is 0, the pair is not among the keys
   pub nowhere_past : Sought keys pair before after → after ≡ 0 → list_any (same_pair pair) keys ≡ false
   nowhere_past sought e =
-      none_from_places pair keys
+      none_from_positions pair keys
       (λ i lt is. (let at = found i sought lt is in let one : after ≡ suc at.0 = at.1 in omega (arith, one)))
 
   -- if another pair is at `after`, the pair is not among the keys
   pub nowhere_else : Sought keys pair before after → (after ≡ 0 → ⊥) → (key_at keys (after - 1) ≡ pair → ⊥)
       → list_any (same_pair pair) keys ≡ false
-  nowhere_else sought some other = none_from_places pair keys (λ i lt is.
+  nowhere_else sought some other = none_from_positions pair keys (λ i lt is.
       (let at = found i sought lt is in
       let one : after ≡ suc at.0 = at.1 in
       let back : after - 1 ≡ at.0 = omega (arith, one) in
@@ -197,16 +197,16 @@ links_wider heads next keys m links = record {
       λ i lt.
       (let t = links.tails i lt in
       let inside : t.0 < length heads = t.1 in (t.0, omega (arith, length-append heads (replicate m 0)), t.2));
-  at_head = λ t lt. by_place t lt (cases_lt t (length heads));
+  at_head = λ t lt. by_position t lt (cases_lt t (length heads));
   at_next = links.at_next;
 }
   where
-    by_place : (t : ℕ) → t < length (heads ++ replicate m 0) → (t < length heads) ⊎ (length heads ≤ t)
+    by_position : (t : ℕ) → t < length (heads ++ replicate m 0) → (t < length heads) ⊎ (length heads ≤ t)
         → LeadsTo keys (λ p. p.0 ≡ pos t) (get_or (heads ++ replicate m 0) t 0)
-    by_place t lt (inl l) =
+    by_position t lt (inl l) =
         subst (LeadsTo keys (λ p. p.0 ≡ pos t)) (sym (get_or_append_left heads (replicate m 0) 0 t l))
         (links.at_head t l)
-    by_place t lt (inr l) =
+    by_position t lt (inr l) =
         let past : t < length heads + m =
         subst (λ n. t < n)
         (length-append heads (replicate m 0) ∙ ap (λ n. length heads + n) (length-replicate m 0)) lt in

@@ -1,7 +1,7 @@
 pub mod Buckets
 pub mod Chained
 pub mod Indexed
-pub mod Places
+pub mod Positions
 pub mod Runs
 pub mod Shown
 pub mod Sorted

@@ -5,8 +5,8 @@ ghost use Rattle.std.specs.List.Sorted.{IsPermutation, IsStrictlySortedBy};
 ghost use Rattle.std.specs.Map.{keys_of};
 ghost use Rattle.pair_index.specs.State.Indexed.{Indexes};
 ghost use Rattle.dn_arc.specs.Pairs.{pair_cmp, same_pair};
-ghost use Rattle.pair_index.specs.State.Places.{IsPlace};
-ghost use Rattle.pair_index.specs.State.Shown.{HasPlaces, ShowsIndex};
+ghost use Rattle.pair_index.specs.State.Positions.{IsPosition};
+ghost use Rattle.pair_index.specs.State.Shown.{HasPositions, ShowsIndex};
 
 use crate::chains::Chains;
 use crate::runs::Runs;
@@ -38,20 +38,20 @@ pub struct PairIndex {
 }
 
 // Returns the position of each entry and of a pair that comes next.
-fn places_with<X>(
+fn positions_with<X>(
     alloc: Global,
     entries: &[((i64, i64), X)],
     pair: &(i64, i64),
 ) -> Result<BTreeMap<(i64, i64), usize>, AllocError>
     requires { IsDistinct same_pair (keys_of entries.now) }
-    ensures { IfOk result (λ places. HasPlaces places (keys_of entries.now ++ pair.now ∷ [])) }
+    ensures { IfOk result (λ positions. HasPositions positions (keys_of entries.now ++ pair.now ∷ [])) }
 {
-    let mut places = BTreeMap::new(alloc);
+    let mut positions = BTreeMap::new(alloc);
     for i in 0..entries.len() {
-        places.insert(entries[i].0, i)?;
+        positions.insert(entries[i].0, i)?;
     }
-    places.insert(*pair, entries.len())?;
-    Ok(places)
+    positions.insert(*pair, entries.len())?;
+    Ok(positions)
 }
 
 // Returns a way to find the entries by links, or `None` if chains would be long or the links do not suffice. Whether it
@@ -93,7 +93,7 @@ fn way_with<X>(
         }
         drop(chains);
     }
-    Ok(Way::Ordered(places_with(alloc, entries, pair)?))
+    Ok(Way::Ordered(positions_with(alloc, entries, pair)?))
 }
 
 impl PairIndex {
@@ -110,14 +110,14 @@ impl PairIndex {
     /// speed.
     pub fn find<X>(&mut self, entries: &[((i64, i64), X)], pair: &(i64, i64)) -> Option<usize>
         requires { Indexes self.old (keys_of entries.now) }
-        ensures place { IsPlace (keys_of entries.now) pair.now result }
+        ensures position { IsPosition (keys_of entries.now) pair.now result }
         ensures stays { Indexes self.new (keys_of entries.now) }
     {
         match &mut self.way {
             Way::Runs(runs) => runs.find(entries, pair),
             Way::Tails(tails) => tails.find(entries, pair),
             Way::Chained(chains) => chains.find(entries, pair),
-            Way::Ordered(places) => places.get(pair).copied(),
+            Way::Ordered(positions) => positions.get(pair).copied(),
         }
     }
 
@@ -148,7 +148,7 @@ impl PairIndex {
     /// Returns a hint of the position of each of these pairs, or `None` if looking them up together would save no time.
     /// The caller checks whether the entry at a hint is the pair's. First changes the way of finding, if another one
     /// saves time and no allocation fails.
-    pub fn likely_places<X>(
+    pub fn hints<X>(
         &mut self,
         alloc: Global,
         entries: &[((i64, i64), X)],
@@ -165,9 +165,9 @@ impl PairIndex {
         }
         match &self.way {
             Way::Tails(tails) if !are_near_pairs(pairs, entries.len()) => {
-                Some(tails.likely_places(entries, pairs))
+                Some(tails.hints(entries, pairs))
             }
-            Way::Chained(chains) => Some(chains.likely_places(entries, pairs)),
+            Way::Chained(chains) => Some(chains.hints(entries, pairs)),
             Way::Runs(_) | Way::Tails(_) | Way::Ordered(_) => None,
         }
     }
@@ -208,8 +208,8 @@ impl PairIndex {
                 tails.take(entries, pair)
             }
             Way::Chained(chains) => Ok(chains.take(pair)),
-            Way::Ordered(places) => {
-                places.insert(*pair, entries.len())?;
+            Way::Ordered(positions) => {
+                positions.insert(*pair, entries.len())?;
                 Ok(true)
             }
         }

@@ -4,14 +4,14 @@ ghost use Rattle.std.specs.List.{list_any, IsDistinct};
 ghost use Rattle.std.specs.List.Sorted.{IsPermutation};
 ghost use Rattle.std.specs.Map.{keys_of};
 ghost use Rattle.dn_arc.specs.Pairs.{same_pair};
-ghost use Rattle.pair_index.specs.State.Places.{key_at, IsPlace, IsPlaceFrom};
+ghost use Rattle.pair_index.specs.State.Positions.{key_at, IsPosition, IsPositionFrom};
 ghost use Rattle.pair_index.specs.State.Runs.{IsGroup, ShowsRuns};
 ghost use Rattle.pair_index.specs.State.Sorted.{AreSorted};
 
 use crate::chains::Chains;
 use crate::pair::{is_pair, is_tail};
 use crate::sort::sort_by_pair;
-use crate::sorted::{is_past, order_of, place_by_search};
+use crate::sorted::{is_past, order_of, position_by_search};
 use std::alloc::{AllocError, Global};
 use std::cmp::Ordering;
 
@@ -59,8 +59,12 @@ fn begin_of<X>(entries: &[((i64, i64), X)], pair: &(i64, i64)) -> usize
 }
 
 // Returns the position of a pair from this position on.
-fn place_by_scan<X>(entries: &[((i64, i64), X)], begin: usize, pair: &(i64, i64)) -> Option<usize>
-    ensures { IsPlaceFrom (keys_of entries.now) begin pair.now result }
+fn position_by_scan<X>(
+    entries: &[((i64, i64), X)],
+    begin: usize,
+    pair: &(i64, i64),
+) -> Option<usize>
+    ensures { IsPositionFrom (keys_of entries.now) begin pair.now result }
 {
     for i in begin..entries.len() {
         if is_pair(&entries[i].0, pair) {
@@ -116,7 +120,7 @@ impl Runs {
         pair: &(i64, i64),
     ) -> Option<usize>
         requires { ShowsRuns self.old (keys_of entries.now) }
-        ensures place { IsPlace (keys_of entries.now) pair.now result }
+        ensures position { IsPosition (keys_of entries.now) pair.now result }
         ensures shows { ShowsRuns self.new (keys_of entries.now) }
     {
         let (last, _) = entries.last()?;
@@ -136,31 +140,31 @@ impl Runs {
     fn find_in_group<X>(&self, entries: &[((i64, i64), X)], pair: &(i64, i64)) -> Option<usize>
         requires shows { ShowsRuns self.now (keys_of entries.now) }
         requires group { IsGroup self.now.falls (keys_of entries.now) self.now.begin }
-        ensures { IsPlaceFrom (keys_of entries.now) self.now.begin pair.now result }
+        ensures { IsPositionFrom (keys_of entries.now) self.now.begin pair.now result }
     {
         match &self.group {
             Group::Linked(chains) => {
-                let place = chains.find(&entries[self.begin..], pair)?;
-                Some(self.begin + place)
+                let position = chains.find(&entries[self.begin..], pair)?;
+                Some(self.begin + position)
             }
-            _ => place_by_scan(entries, self.begin, pair),
+            _ => position_by_scan(entries, self.begin, pair),
         }
     }
 
     // Returns the position of a pair among sorted entries. Counts the pair if it is there and not the last one.
     fn search<X>(&mut self, entries: &[((i64, i64), X)], pair: &(i64, i64)) -> Option<usize>
         requires { AreSorted self.old.falls (keys_of entries.now) }
-        ensures place { IsPlace (keys_of entries.now) pair.now result }
+        ensures position { IsPosition (keys_of entries.now) pair.now result }
         ensures stays { (keys : List (ℤ × ℤ)) → ShowsRuns self.old keys → ShowsRuns self.new keys }
     {
         if is_past(self.falls, entries, pair) {
             return None;
         }
-        let place = place_by_search(self.falls, entries, pair)?;
-        if place + 1 < entries.len() {
+        let position = position_by_search(self.falls, entries, pair)?;
+        if position + 1 < entries.len() {
             self.repeats = self.repeats.saturating_add(1);
         }
-        Some(place)
+        Some(position)
     }
 
     // Sorts the group.

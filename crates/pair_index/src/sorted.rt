@@ -4,7 +4,7 @@ ghost use Rattle.std.specs.List.{list_any};
 ghost use Rattle.std.specs.List.Sorted.{IsStrictlySortedBy};
 ghost use Rattle.std.specs.Map.{keys_of};
 ghost use Rattle.dn_arc.specs.Pairs.{pair_cmp, same_pair};
-ghost use Rattle.pair_index.specs.State.Places.{IsPlace};
+ghost use Rattle.pair_index.specs.State.Positions.{IsPosition};
 ghost use Rattle.pair_index.specs.State.Sorted.{AreSorted, order_of};
 
 use std::cmp::Ordering;
@@ -38,13 +38,13 @@ pub(crate) fn is_past<X>(falls: bool, entries: &[((i64, i64), X)], pair: &(i64, 
 }
 
 // Returns the position of a pair among entries that are sorted by pair.
-pub(crate) fn place_by_search<X>(
+pub(crate) fn position_by_search<X>(
     falls: bool,
     entries: &[((i64, i64), X)],
     pair: &(i64, i64),
 ) -> Option<usize>
     requires { AreSorted falls (keys_of entries.now) }
-    ensures { IsPlace (keys_of entries.now) pair.now result }
+    ensures { IsPosition (keys_of entries.now) pair.now result }
 {
     match entries.binary_search_by(|entry| order_of(falls, &entry.0, pair)) {
         Ok(i) => Some(i),
@@ -54,9 +54,9 @@ pub(crate) fn place_by_search<X>(
 
 /// Returns the position of a pair among entries that are sorted by ascending pair, if it is there. This does not
 /// allocate.
-pub fn place_among<X>(entries: &[((i64, i64), X)], pair: &(i64, i64)) -> Option<usize>
+pub fn position_among<X>(entries: &[((i64, i64), X)], pair: &(i64, i64)) -> Option<usize>
     requires { IsStrictlySortedBy pair_cmp (keys_of entries.now) }
-    ensures { IsPlace (keys_of entries.now) pair.now result }
+    ensures { IsPosition (keys_of entries.now) pair.now result }
 {
-    place_by_search(false, entries, pair)
+    position_by_search(false, entries, pair)
 }

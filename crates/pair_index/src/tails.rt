@@ -3,7 +3,7 @@ ghost use Rattle.std.specs.Prelude.{◌≡◌, ◌<◌, ℕ, ℤ, false, IsTrue,
 ghost use Rattle.std.specs.List.{list_any, IsDistinct};
 ghost use Rattle.std.specs.Map.{keys_of};
 ghost use Rattle.pair_index.specs.State.Tailed.{HasRoomFor, IsTailed, LeadsTo, IsSpot};
-ghost use Rattle.pair_index.specs.State.Places.{IsPlace};
+ghost use Rattle.pair_index.specs.State.Positions.{IsPosition};
 ghost use Rattle.dn_arc.specs.Pairs.{same_pair};
 
 use crate::index::AHEAD;
@@ -232,21 +232,21 @@ impl Tails {
 
     // Returns a hint for each of these pairs. The chains are walked in parallel, so that the load for one pair does not
     // wait for the load for another. This has no contract, because it affects only the speed.
-    pub(crate) fn likely_places<X>(
+    pub(crate) fn hints<X>(
         &self,
         entries: &[((i64, i64), X)],
         pairs: &[(i64, i64); AHEAD],
     ) -> [u32; AHEAD] {
-        let mut places = [0; AHEAD];
+        let mut positions = [0; AHEAD];
         for i in 0..AHEAD {
             // A link of 0 means that there is no entry. The hint is then position 0, which affects only the speed.
-            places[i] = self.first_of(&pairs[i]).saturating_sub(1);
+            positions[i] = self.first_of(&pairs[i]).saturating_sub(1);
         }
         for _ in 0..LONG {
             let mut goes_on = false;
             for i in 0..AHEAD {
-                if let Some(next) = self.past(entries, places[i], &pairs[i]) {
-                    places[i] = next;
+                if let Some(next) = self.past(entries, positions[i], &pairs[i]) {
+                    positions[i] = next;
                     goes_on = true;
                 }
             }
@@ -254,17 +254,22 @@ impl Tails {
                 break;
             }
         }
-        places
+        positions
     }
 
-    // Returns the position after `place` in its chain, if the head at `place` is below that of `pair`. This has no
+    // Returns the position after `position` in its chain, if the head at `position` is below that of `pair`. This has no
     // contract, because it affects only the speed.
-    fn past<X>(&self, entries: &[((i64, i64), X)], place: u32, pair: &(i64, i64)) -> Option<u32> {
-        let entry = entries.get(place as usize)?;
+    fn past<X>(
+        &self,
+        entries: &[((i64, i64), X)],
+        position: u32,
+        pair: &(i64, i64),
+    ) -> Option<u32> {
+        let entry = entries.get(position as usize)?;
         if is_head_upto(pair, &entry.0) {
             return None;
         }
-        let link = *self.next.get(place as usize)?;
+        let link = *self.next.get(position as usize)?;
         if link == 0 { None } else { Some(link - 1) }
     }
 
@@ -301,7 +306,7 @@ impl Tails {
     // Returns the position of the pair's entry.
     pub(crate) fn find<X>(&self, entries: &[((i64, i64), X)], pair: &(i64, i64)) -> Option<usize>
         requires { IsTailed self.now (keys_of entries.now) }
-        ensures { IsPlace (keys_of entries.now) pair.now result }
+        ensures { IsPosition (keys_of entries.now) pair.now result }
     {
         let link = self.spot(entries, pair).after;
         if link == 0 {

@@ -1,7 +1,7 @@
 -- Positions linked in chains, by bucket. Only the proofs of this crate use these definitions.
 use Rattle.std.specs.Prelude.{◌≡◌, ℕ, suc, ◌<◌, ◌≤◌, ◌-◌, ◌^◌, ℤ, List, length, get_or, vec_capacity}
 use Rattle.pair_index.specs.State.Buckets.{bucket_of}
-use Rattle.pair_index.specs.State.Places.{key_at}
+use Rattle.pair_index.specs.State.Positions.{key_at}
 use Rattle.pair_index.specs.declared.chains.Chains.{Chains}
 
 -- the link leads to the last position below `below` whose pair is in this bucket, or is 0 if there is none

@@ -2,7 +2,7 @@
 use Rattle.std.specs.Prelude.{◌≡◌, ℕ, ◌<◌, ◌≤◌, ℤ, Bool, List, length, take, drop}
 use Rattle.std.specs.declared.cmp.Ordering.TheVariants.{Less}
 use Rattle.pair_index.specs.State.Chained.{IsChained}
-use Rattle.pair_index.specs.State.Places.{key_at}
+use Rattle.pair_index.specs.State.Positions.{key_at}
 use Rattle.pair_index.specs.State.Sorted.{AreSorted, order_of}
 use Rattle.pair_index.specs.declared.runs.Group.{Group}
 use Rattle.pair_index.specs.declared.runs.Group.TheVariants.{Sorted, Few, Linked}

@@ -1,6 +1,6 @@
 -- Positions linked in chains, by tail and then by ascending head. Only the proofs of this crate use these definitions.
 use Rattle.std.specs.Prelude.{◌≡◌, ℕ, suc, ◌<◌, ◌-◌, ◌^◌, ℤ, pos, ◌<ℤ◌, ◌≤ℤ◌, ◌⊎◌, List, length, get_or, vec_capacity}
-use Rattle.pair_index.specs.State.Places.{key_at}
+use Rattle.pair_index.specs.State.Positions.{key_at}
 use Rattle.pair_index.specs.declared.tails.Tails.{Tails}
 use Rattle.pair_index.specs.declared.tails.Spot.{Spot}
 

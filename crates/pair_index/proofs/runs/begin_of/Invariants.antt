@@ -1,6 +1,6 @@
 use Rattle.std.proofs.Common.{◌≡◌, ℕ, ◌<◌, ◌≤◌, ℤ, List, length}
 use Rattle.std.specs.Map.{keys_of}
-use Rattle.pair_index.specs.State.Places.{key_at}
+use Rattle.pair_index.specs.State.Positions.{key_at}
 use Rattle.pair_index.proofs.runs.begin_of.Given as goal
 
 -- the entries from here on have the tail

@@ -5,7 +5,7 @@ use Rattle.std.specs.Result.{IfOk}
 use Rattle.std.proofs.lemmas.Map.Entries.{length-keys_of}
 use Rattle.pair_index.specs.State.Shown.{ShowsIndex}
 use Rattle.pair_index.specs.State.Tailed.{IsTailed}
-use Rattle.pair_index.proofs.IndexLaws.{apart_more, places_more}
+use Rattle.pair_index.proofs.IndexLaws.{apart_more, positions_more}
 use Rattle.pair_index.proofs.SortLaws.{apart_still, fresh_still}
 use Rattle.pair_index.proofs.index.PairIndex.take.Goals as goal
 
@@ -51,8 +51,8 @@ returns-in_ok-insert-in-Ordered-clause-taken g c is =
     record {
       apart = apart_more keys p c.requires.indexed.apart c.requires.fresh;
       shows =
-          places_more keys p (length c.args.entries.now) (sym (length-keys_of c.args.entries.now))
-          c.in-Ordered.places c.insert.new.self
+          positions_more keys p (length c.args.entries.now) (sym (length-keys_of c.args.entries.now))
+          c.in-Ordered.positions c.insert.new.self
           (subst (λ way. ShowsIndex way keys) c.in-Ordered.is c.requires.indexed.shows)
           (λ q. c.in_ok-insert-in-Ordered.ensures.updates.0 q);
     }

@@ -20,7 +20,7 @@ returns-then-is_tail g c =
     let runs = c.args.self.now in
     let es = c.args.entries.now in
     record {
-      place =
+      position =
           found_among runs.falls runs.begin es c.in_ok-last.field-0.now c.args.pair.now c.in_ok-last.ensures.value
           (group_unless_sorted runs.falls (keys_of es) runs.begin runs.group c.in_default.not-Sorted c.requires)
           (c.is_tail.ensures.0 c.if-is_tail.true) c.find_in_group.result c.find_in_group.ensures;
@@ -32,10 +32,10 @@ returns-else-is_tail g c =
     let runs = c.args.self.now in
     let es = c.args.entries.now in
     record {
-      place =
+      position =
           found_before runs.falls runs.begin es c.in_ok-last.field-0.now c.args.pair.now c.in_ok-last.ensures.value
           (group_unless_sorted runs.falls (keys_of es) runs.begin runs.group c.in_default.not-Sorted c.requires)
           (λ e. true≢false (sym (c.is_tail.ensures.1 e) ∙ c.if-is_tail.false)) c.search-else-is_tail.result
-          c.search-else-is_tail.ensures.place;
+          c.search-else-is_tail.ensures.position;
       shows = c.search-else-is_tail.ensures.stays (keys_of es) c.requires;
     }

@@ -1,6 +1,6 @@
 use Rattle.std.proofs.Common.{Some, None, sym, subst}
 use Rattle.std.specs.Map.{keys_of}
-use Rattle.pair_index.specs.State.Places.{IsPlaceFrom}
+use Rattle.pair_index.specs.State.Positions.{IsPositionFrom}
 use Rattle.pair_index.specs.State.Runs.{ShowsGroup}
 use Rattle.pair_index.proofs.RunLaws.{found_linked, group_linked}
 use Rattle.pair_index.proofs.runs.Runs.find_in_group.Goals as goal
@@ -12,15 +12,15 @@ find-requires g c =
     let linked = subst (λ group. ShowsGroup runs.falls runs.begin group keys) c.in-Linked.is c.requires.shows in
     group_linked runs.begin c.args.entries.now c.in-Linked.chains linked.1
 
-pub returns-in_err-place-in-Linked : goal.returns-in_err-place-in-Linked
-returns-in_err-place-in-Linked g c =
+pub returns-in_err-position-in-Linked : goal.returns-in_err-position-in-Linked
+returns-in_err-position-in-Linked g c =
     let runs = c.args.self.now in
-    subst (IsPlaceFrom (keys_of c.args.entries.now) runs.begin c.args.pair.now) (sym c.from_residual.ensures)
+    subst (IsPositionFrom (keys_of c.args.entries.now) runs.begin c.args.pair.now) (sym c.from_residual.ensures)
     (found_linked runs.begin c.args.entries.now runs.falls c.args.pair.now None c.requires.group
-    c.in_err-place-in-Linked.ensures)
+    c.in_err-position-in-Linked.ensures)
 
-pub returns-in_ok-place-in-Linked : goal.returns-in_ok-place-in-Linked
-returns-in_ok-place-in-Linked g c =
+pub returns-in_ok-position-in-Linked : goal.returns-in_ok-position-in-Linked
+returns-in_ok-position-in-Linked g c =
     let runs = c.args.self.now in
-    found_linked runs.begin c.args.entries.now runs.falls c.args.pair.now (Some c.in_ok-place-in-Linked.place)
-    c.requires.group c.in_ok-place-in-Linked.ensures
+    found_linked runs.begin c.args.entries.now runs.falls c.args.pair.now (Some c.in_ok-position-in-Linked.position)
+    c.requires.group c.in_ok-position-in-Linked.ensures

@@ -3,7 +3,7 @@ use Rattle.std.specs.Map.{keys_of}
 use Rattle.std.proofs.lemmas.List.Sorted.{IsPermutation-trans}
 use Rattle.pair_index.specs.State.Runs.{ShowsGroup}
 use Rattle.pair_index.specs.State.Sorted.{AreSorted, order_of}
-use Rattle.pair_index.proofs.ChainLaws.{key_of_place}
+use Rattle.pair_index.proofs.ChainLaws.{key_of_position}
 use Rattle.pair_index.proofs.RunLaws.{first_run, sorted_after, sorted_falling, some_keys}
 use Rattle.pair_index.proofs.SortedLaws.{no_last, descending, keys_reversed}
 use Rattle.pair_index.proofs.runs.Runs.take.Goals as goal
@@ -42,7 +42,7 @@ returns-clause-taken g c is =
     (λ e. true≢false (sym (c.is_tail.ensures.1 e) ∙ c.if-is_tail.false))
     (IsPermutation-trans es c.close-2.new.entries fs c.close-2.ensures.moved c.reverse.ensures.permutation)
     (get_or es 0 c.index-entries-0.result)
-    (sym (key_of_place es 0 c.index-entries-0.result (some_keys false 0 es e p c.in-Some.ensures.value)))
+    (sym (key_of_position es 0 c.index-entries-0.result (some_keys false 0 es e p c.in-Some.ensures.value)))
     (c.is_tail-else-self.ensures.0 c.if-not-is_tail.false) runs.begin runs.group
     (subst (λ it. ShowsGroup it runs.begin runs.group (keys_of es)) c.if-self.false c.requires.shows)
     (λ l. c.in_default-order_of.not-Less

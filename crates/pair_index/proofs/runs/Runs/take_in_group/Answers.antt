@@ -1,7 +1,7 @@
 use Rattle.std.proofs.Common.{◌≡◌, ◌-◌, ◌<◌, ◌≤◌, [], ◌∷◌, ◌++◌, length, drop, sym, ap, ◌∙◌, subst}
 use Rattle.std.specs.Map.{keys_of}
 use Rattle.std.proofs.lemmas.Map.Entries.{length-keys_of}
-use Rattle.pair_index.specs.State.Places.{key_at}
+use Rattle.pair_index.specs.State.Positions.{key_at}
 use Rattle.pair_index.specs.State.Runs.{ShowsGroup}
 use Rattle.pair_index.proofs.RunLaws.{end_tail, group_more, linked_on, opened}
 use Rattle.pair_index.proofs.runs.Runs.take_in_group.Goals as goal

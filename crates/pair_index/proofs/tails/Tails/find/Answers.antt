@@ -2,7 +2,7 @@ use Rattle.std.proofs.Common.{◌-◌, ◌∙◌, sym, refl, arith}
 use Rattle.std.specs.Map.{keys_of}
 use Rattle.std.proofs.lemmas.Bool.{false≢true}
 use Rattle.std.proofs.lemmas.Map.Entries.{length-keys_of}
-use Rattle.pair_index.proofs.ChainLaws.{key_of_place}
+use Rattle.pair_index.proofs.ChainLaws.{key_of_position}
 use Rattle.pair_index.proofs.TailLaws.{sought_inside, nowhere_past, nowhere_else}
 use Rattle.pair_index.proofs.tails.Tails.find.Goals as goal
 
@@ -26,7 +26,7 @@ returns-then-is_pair g c =
     let in_keys =
     (sought_inside c.args.pair.now spot.before spot.after c.if-link-eq0.false c.spot-link.ensures.sought).0 in (
       in_keys,
-      key_of_place c.args.entries.now (spot.after - 1) c.index-entries-at.result in_keys
+      key_of_position c.args.entries.now (spot.after - 1) c.index-entries-at.result in_keys
           ∙ c.if-is_pair.ensures.0 refl,
     )
 
@@ -39,7 +39,7 @@ returns-else-is_pair g c =
     c.spot-link.ensures.sought c.if-link-eq0.false
     (λ e. false≢true
     (c.if-is_pair.ensures.1
-    (sym (key_of_place c.args.entries.now (spot.after - 1) c.index-entries-at.result in_keys) ∙ e)))
+    (sym (key_of_position c.args.entries.now (spot.after - 1) c.index-entries-at.result in_keys) ∙ e)))
 
 pub returns-then-link-eq0 : goal.returns-then-link-eq0
 returns-then-link-eq0 g c =

@@ -1,10 +1,10 @@
 use Rattle.std.proofs.Common.{◌≡◌, ◌<◌, ◌-◌, ℤ, ◌≤ℤ◌, subst, sym, refl, arith}
 use Rattle.std.specs.Map.{keys_of}
 use Rattle.std.proofs.lemmas.Bool.{false≢true}
-use Rattle.pair_index.specs.State.Places.{key_at}
+use Rattle.pair_index.specs.State.Positions.{key_at}
 use Rattle.std.proofs.lemmas.Map.Entries.{length-keys_of}
 use Rattle.std.proofs.lemmas.List.{get_or_read}
-use Rattle.pair_index.proofs.ChainLaws.{key_of_place}
+use Rattle.pair_index.proofs.ChainLaws.{key_of_position}
 use Rattle.pair_index.proofs.TailLaws.{sought_inside, sought_on, falls, has_next, past_head}
 use Rattle.pair_index.proofs.tails.Tails.spot.Goals as goal
 
@@ -47,7 +47,7 @@ loop-after-preserved g c =
     (past_head c.args.pair.now.1 (key_at (keys_of c.args.entries.now) (c.loop-after.after - 1)).1
     (λ h. false≢true (c.if-is_head_upto.ensures.1
     (subst (λ (k : ℤ × ℤ). c.args.pair.now.1 ≤ℤ k.1)
-    (key_of_place c.args.entries.now (c.loop-after.after - 1) c.index-entries-at.result in_keys) h))))
+    (key_of_position c.args.entries.now (c.loop-after.after - 1) c.index-entries-at.result in_keys) h))))
     (get_or_read self.next.items (c.loop-after.after - 1) c.index-after.result.now
     (has_next c.requires in_keys) c.index-after.ensures 0)
 
@@ -61,6 +61,6 @@ returns-then-is_head_upto g c =
       stops = λ i e. (let at : c.loop-after.after - 1 ≡ i = omega (arith, e) in
           subst (λ j. c.args.pair.now.1 ≤ℤ (key_at (keys_of c.args.entries.now) j).1) at
           (subst (λ (k : ℤ × ℤ). c.args.pair.now.1 ≤ℤ k.1)
-          (sym (key_of_place c.args.entries.now (c.loop-after.after - 1) c.index-entries-at.result in_keys))
+          (sym (key_of_position c.args.entries.now (c.loop-after.after - 1) c.index-entries-at.result in_keys))
           (c.if-is_head_upto.ensures.0 refl)));
     }

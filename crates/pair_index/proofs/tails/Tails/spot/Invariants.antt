@@ -3,7 +3,7 @@ use Rattle.pair_index.specs.State.Tailed.{Sought}
 use Rattle.pair_index.proofs.TailLaws.{left_of}
 use Rattle.pair_index.proofs.tails.Tails.spot.Given as goal
 
--- the pair's place is not before the link
+-- the pair's position is not before the link
 abbrev pub invariant-loop-after : goal.invariant-loop-after
 invariant-loop-after g l = Sought (keys_of l.entries) l.pair l.before l.after
 

@@ -6,14 +6,14 @@ use Rattle.std.proofs.lemmas.Map.Keys.{any_passes_from_place}
 use Rattle.std.proofs.lemmas.Option.{slice_get-get_or}
 use Rattle.dn_arc.specs.Pairs.{same_pair}
 use Rattle.dn_arc.proofs.PairLaws.{pair_is, pair_self}
-use Rattle.pair_index.specs.State.Places.{key_at}
+use Rattle.pair_index.specs.State.Positions.{key_at}
 
 -- a pair that is at no position is not among the keys
-pub none_from_places : (p : ℤ × ℤ) (keys : List (ℤ × ℤ)) → ((i : ℕ) → i < length keys → key_at keys i ≡ p → ⊥)
+pub none_from_positions : (p : ℤ × ℤ) (keys : List (ℤ × ℤ)) → ((i : ℕ) → i < length keys → key_at keys i ≡ p → ⊥)
     → list_any (same_pair p) keys ≡ false
-none_from_places p [] never = refl
-none_from_places p (k ∷ keys) never =
-    by_test (same_pair p k) refl (none_from_places p keys (λ i lt e. never (suc i) (omega arith) e))
+none_from_positions p [] never = refl
+none_from_positions p (k ∷ keys) never =
+    by_test (same_pair p k) refl (none_from_positions p keys (λ i lt e. never (suc i) (omega arith) e))
   where
     by_test : (t : Bool) → same_pair p k ≡ t → list_any (same_pair p) keys ≡ false
         → (same_pair p k || list_any (same_pair p) keys) ≡ false

@@ -8,12 +8,12 @@ abbrev pub key_at : List (ℤ × ℤ) → ℕ → ℤ × ℤ
 key_at keys i = get_or keys i (pos 0, pos 0)
 
 -- the option is the position of the pair among the keys, or none if the pair is not there
-abbrev pub IsPlace : List (ℤ × ℤ) → ℤ × ℤ → Option ℕ → Type 0
-IsPlace keys pair place =
-    MatchOption place (list_any (same_pair pair) keys ≡ false) (λ i. (i < length keys) × (key_at keys i ≡ pair))
+abbrev pub IsPosition : List (ℤ × ℤ) → ℤ × ℤ → Option ℕ → Type 0
+IsPosition keys pair position =
+    MatchOption position (list_any (same_pair pair) keys ≡ false) (λ i. (i < length keys) × (key_at keys i ≡ pair))
 
 -- the option is a position from `begin` on that has the pair, or none if there is no such position
-abbrev pub IsPlaceFrom : List (ℤ × ℤ) → ℕ → ℤ × ℤ → Option ℕ → Type 0
-IsPlaceFrom keys begin pair place =
-    MatchOption place ((i : ℕ) → begin ≤ i → i < length keys → key_at keys i ≡ pair → ⊥)
+abbrev pub IsPositionFrom : List (ℤ × ℤ) → ℕ → ℤ × ℤ → Option ℕ → Type 0
+IsPositionFrom keys begin pair position =
+    MatchOption position ((i : ℕ) → begin ≤ i → i < length keys → key_at keys i ≡ pair → ⊥)
     (λ i. (i < length keys) × (key_at keys i ≡ pair))

@@ -1,8 +1,0 @@
-use Rattle.std.proofs.Common.{take}
-use Rattle.std.specs.Map.{keys_of}
-use Rattle.pair_index.specs.State.Shown.{HasPlaces}
-use Rattle.pair_index.proofs.index.places_with.Given as goal
-
--- the map has the positions of the entries so far
-abbrev pub invariant-loop-i : goal.invariant-loop-i
-invariant-loop-i g l = HasPlaces l.places (keys_of (take l.i l.entries))
