@@ -1,5 +1,5 @@
 -- Lines of a letter and numbers.
-use Rattle.std.proofs.Common.{◌≡◌, ◌≤◌, ◌-◌, ◌<◌, ℕ, ℤ, suc, pos, ◌≤ℤ◌, int_lt, List, [], ◌∷◌, ◌++◌, length, take, drop, get_or, map, true, false, slice_get, is_none, None, Some, Ok, refl, sym, ap, ◌∙◌, subst, arith, append_assoc}
+use Rattle.std.proofs.Common.{◌≡◌, ◌≤◌, ◌-◌, ◌<◌, ℕ, ℤ, suc, pos, ◌≤ℤ◌, int_lt, not, List, [], ◌∷◌, ◌++◌, length, take, drop, get_or, map, true, false, slice_get, is_none, None, Some, Ok, refl, sym, ap, ◌∙◌, subst, arith, append_assoc}
 use Rattle.std.proofs.lemmas.Bool.{not-true}
 use Rattle.std.proofs.lemmas.Int.{ints}
 use Rattle.std.proofs.lemmas.List.{take_all}
@@ -11,7 +11,7 @@ use Rattle.dn_line.specs.Words.{first, said, said_words}
 use Rattle.dn_line.specs.State.LineStates.{is_clear, is_inner}
 use Rattle.dn_line.specs.State.Numbers.{IsGap, number_word}
 use Rattle.dn_line.specs.State.Reading.{checked_item, fields_read, head_of, head_read}
-use Rattle.dn_line.specs.State.Rows.{BeginsWithRow, FieldsFit, HasNumbers, HasRow, field_fits, letter_byte, numbers_of}
+use Rattle.dn_line.specs.State.Rows.{AreNatural, AreNumeric, BeginsWithRow, FieldsFit, HasNumbers, HasRow, field_fits, letter_byte, numbers_of}
 use Rattle.dn_line.specs.declared.kind.Kind.{Kind}
 use Rattle.dn_line.specs.declared.code.Code.TheVariants.{WrongLine}
 use Rattle.dn_line.specs.declared.line.Line.{Line}
@@ -21,7 +21,7 @@ use Rattle.dn_line.specs.declared.word.Field.TheVariants.{Number, Natural, Termi
 use Rattle.dn_line.specs.declared.word.Keyword.{Keyword}
 use Rattle.dn_line.specs.declared.word.Keyword.TheVariants as Key
 use Rattle.dn_line.specs.declared.word.Word.{Word}
-use Rattle.dn_line.proofs.FieldLaws.{AllStand, Stands, stand_none}
+use Rattle.dn_line.proofs.FieldLaws.{AllStand, Stands, below_none, stand_none}
 use Rattle.dn_line.proofs.FieldLaws as Fields
 use Rattle.dn_line.proofs.NumbersLaws.{blank_inner, blanks_inner, blanks_words, run_words}
 use Rattle.dn_line.proofs.PlainLaws.{both_true, clear_inner, inner_append}
@@ -41,6 +41,21 @@ pub fit_first : (fs : List Field) (ns : List ℤ) → length fs ≤ length ns �
 fit_first [] ns l h = tt
 fit_first (f ∷ fs) [] l h = absurd (omega arith)
 fit_first (f ∷ fs) (n ∷ ns) l h = (h.0, fit_first fs ns (omega arith) (fit_later f fs 0 ns h.1))
+
+-- as many numbers as fields, each at least 0, fit fields of numbers
+pub natural_fit : (fs : List Field) (r : Row) → length fs ≡ 3 → AreNumeric fs → AreNatural (length fs) r
+    → FieldsFit fs (numbers_of (length fs) r)
+natural_fit [] r l num h = absurd (omega arith)
+natural_fit (f ∷ []) r l num h = absurd (omega arith)
+natural_fit (f ∷ g ∷ []) r l num h = absurd (omega arith)
+natural_fit (f ∷ g ∷ k ∷ []) r l num h =
+    (by_field f r.first (num 0) h.0, (by_field g r.second (num 1) h.1.0, (by_field k r.third (num 2) h.1.1.0, tt)))
+  where
+    by_field : (f : Field) (n : ℤ) → (Some f ≡ Some Terminal → ⊥) → pos 0 ≤ℤ n → field_fits (Some f) n ≡ true
+    by_field Number n is h = refl
+    by_field Natural n is h = ap not (below_none n h)
+    by_field Terminal n is h = absurd (is refl)
+natural_fit (f ∷ g ∷ k ∷ _ ∷ fs) r l num h = absurd (omega arith)
 
 -- a letter, blanks and numbers that fit the fields are the line of the row
 row_line : (letter : ℕ) (fields : List Field) (bytes more rest : List ℕ) (r : Row) → is_clear letter ≡ true

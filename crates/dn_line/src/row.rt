@@ -1,7 +1,7 @@
 // Reads a line of a letter and numbers in plain spelling in one pass.
 ghost use Rattle.std.specs.Prelude.{◌≡◌, ◌≤◌, IfSome, true, length, slice_get};
 ghost use Rattle.dn_line.specs.State.LineStates.{is_clear};
-ghost use Rattle.dn_line.specs.State.Rows.{AreNumeric, BeginsWithRow, FieldsFit, HasNumbers, field_fits, numbers_of};
+ghost use Rattle.dn_line.specs.State.Rows.{AreNatural, AreNumeric, BeginsWithRow, FieldsFit, HasNumbers, field_fits, numbers_of};
 
 use crate::numbers::{
     after_blanks, after_line_end, after_plain_end, after_space, any_front, last_front,
@@ -55,7 +55,14 @@ pub(crate) fn read_row<'a>(letter: u8, fields: &[Field], bytes: &'a [u8]) -> Opt
     if *first != letter {
         return None;
     }
-    let found = numbers(fields.len(), after_blanks(after_letter)?)?;
+    let text = after_blanks(after_letter)?;
+    if fields.len() == 3
+        && let Some(found) = short_three(text)
+    {
+        // A number of digits alone fits any field of a number.
+        return Some(found);
+    }
+    let found = numbers(fields.len(), text)?;
     if fit(fields, &found.row) {
         Some(found)
     } else {
@@ -64,7 +71,6 @@ pub(crate) fn read_row<'a>(letter: u8, fields: &[Field], bytes: &'a [u8]) -> Opt
 }
 
 // Reads this many numbers, with blanks between them, and the LF after them.
-#[inline(always)]
 fn numbers(count: usize, bytes: &[u8]) -> Option<RowBefore<'_>>
     ensures numbers { IfSome result (λ r. HasNumbers count bytes.now r.row r.rest.now) }
     ensures few { IfSome result (λ r. count ≤ 5) }
@@ -72,7 +78,7 @@ fn numbers(count: usize, bytes: &[u8]) -> Option<RowBefore<'_>>
     match count {
         1 => one(bytes),
         2 => two(bytes),
-        3 => three(bytes),
+        3 => any_three(bytes),
         5 => five(bytes),
         _ => None,
     }
@@ -108,17 +114,6 @@ fn two(bytes: &[u8]) -> Option<RowBefore<'_>>
     })
 }
 
-// Reads three numbers. It tries short numbers first.
-#[inline(always)]
-fn three(bytes: &[u8]) -> Option<RowBefore<'_>>
-    ensures { IfSome result (λ r. HasNumbers 3 bytes.now r.row r.rest.now) }
-{
-    match short_three(bytes) {
-        Some(found) => Some(found),
-        None => any_three(bytes),
-    }
-}
-
 // The greatest length of a line of three numbers of one to eight digits, with one byte for the blank after each of the
 // first two and two bytes for the line end. It is long enough to read eight bytes at each number.
 const SHORT_THREE: usize = 28;
@@ -127,7 +122,8 @@ const SHORT_THREE: usize = 28;
 // for any other bytes, and for fewer bytes than `SHORT_THREE`.
 #[inline(always)]
 fn short_three(bytes: &[u8]) -> Option<RowBefore<'_>>
-    ensures { IfSome result (λ r. HasNumbers 3 bytes.now r.row r.rest.now) }
+    ensures numbers { IfSome result (λ r. HasNumbers 3 bytes.now r.row r.rest.now) }
+    ensures naturals { IfSome result (λ r. AreNatural 3 r.row) }
 {
     if bytes.len() < SHORT_THREE {
         return None;

@@ -389,7 +389,8 @@ module _ {X : Type 0} (begin : ℕ) (es : List ((ℤ × ℤ) × X)) where
   group_linked chains linked = subst (IsChained chains) (sym (keys_from begin es)) linked
 
   pub found_linked : (falls : Bool) (p : ℤ × ℤ) (o : Option ℕ) → IsGroup falls (keys_of es) begin
-      → IsPosition (keys_of (group_of begin es)) p o → IsPositionFrom (keys_of es) begin p (option_map (λ i. begin + i) o)
+      → IsPosition (keys_of (group_of begin es)) p o
+      → IsPositionFrom (keys_of es) begin p (option_map (λ i. begin + i) o)
   found_linked falls p o group is =
       position_on (keys_of es) begin p o (let inside = group.inside in omega arith)
       (subst (λ ks. IsPosition ks p o) (keys_from begin es) is)

@@ -257,8 +257,8 @@ impl Tails {
         positions
     }
 
-    // Returns the position after `position` in its chain, if the head at `position` is below that of `pair`. This has no
-    // contract, because it affects only the speed.
+    // Returns the position after `position` in its chain, if the head at `position` is below that of `pair`. This has
+    // no contract, because it affects only the speed.
     fn past<X>(
         &self,
         entries: &[((i64, i64), X)],

@@ -1,6 +1,6 @@
 -- Lines of a letter and numbers in plain spelling at the beginning of longer bytes.
-use Rattle.std.specs.Prelude.{◌≡◌, ℕ, ℤ, pos, List, [], ◌∷◌, ◌++◌, length, slice_get, map, take, Bool, true, false, not, int_lt, Option, Some, None}
-use Rattle.std.specs.List.{list_all}
+use Rattle.std.specs.Prelude.{◌≡◌, ◌≤ℤ◌, ℕ, ℤ, pos, List, [], ◌∷◌, ◌++◌, length, slice_get, map, take, Bool, true, false, not, int_lt, Option, Some, None}
+use Rattle.std.specs.List.{AllByRecursion, list_all}
 use Rattle.dn_line.specs.LineTable.{row}
 use Rattle.dn_line.specs.Words.{said, said_words}
 use Rattle.dn_line.specs.State.Numbers.{AreNumbers, number_word}
@@ -41,6 +41,10 @@ field_fits None n = true
 field_fits (Some Number) n = true
 field_fits (Some Natural) n = not (int_lt n (pos 0))
 field_fits (Some Terminal) n = false
+
+-- the first numbers of a row, this many, are at least 0
+abbrev pub AreNatural : ℕ → Row → Type 0
+AreNatural count r = AllByRecursion (λ n. pos 0 ≤ℤ n) (numbers_of count r)
 
 -- each field is of a number
 abbrev pub AreNumeric : List Field → Type 0

@@ -3,8 +3,8 @@ use Rattle.std.proofs.lemmas.Int.{ints}
 use Rattle.dn_line.proofs.NumbersLaws.{last_number, more_numbers, number_gap}
 use Rattle.dn_line.proofs.row.short_three.Goals as goal
 
-pub returns : goal.returns
-returns c =
+pub returns-clause-numbers : goal.returns-clause-numbers
+returns-clause-numbers c =
     let first : to_z w64 (of_z w64 c.in_ok-first.first.number) ≡ c.in_ok-first.first.number = omega (arith, ints) in
     let second : to_z w64 (of_z w64 c.in_ok-second.second.number) ≡ c.in_ok-second.second.number =
     omega (arith, ints) in

@@ -13,7 +13,8 @@ loop-i-preserved g c k from lt = by_position (cases_lt k c.loop-i.i)
     here e =
         let inside = subst (λ n. c.loop-i.i < n) (sym (length-keys_of c.args.entries.now)) c.loop-i-test.true in
         false≢true
-        (c.if-is_pair.ensures.1 (sym (key_of_position c.args.entries.now c.loop-i.i c.index-entries-i.result inside) ∙ e))
+        (c.if-is_pair.ensures.1
+        (sym (key_of_position c.args.entries.now c.loop-i.i c.index-entries-i.result inside) ∙ e))
 
     by_position : (k < c.loop-i.i) ⊎ (c.loop-i.i ≤ k) → key_at (keys_of c.args.entries.now) k ≡ c.args.pair.now → ⊥
     by_position (inl l) e = c.loop-i.invariant k from l e

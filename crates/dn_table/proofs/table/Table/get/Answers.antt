@@ -15,7 +15,8 @@ returns-in-Some g c =
     let there =
     key_is c.args.src c.args.dst c.ranges.src c.ranges.dst
     (λ (k : ℤ × ℤ). key_at (keys_of c.deref.result.now) c.in-Some.position ≡ k) c.in-Some.ensures.1 in
-    let at = subst (λ xs. key_at (keys_of xs) c.in-Some.position ≡ (c.args.src, c.args.dst)) c.deref.ensures.value there in
+    let at =
+    subst (λ xs. key_at (keys_of xs) c.in-Some.position ≡ (c.args.src, c.args.dst)) c.deref.ensures.value there in
     sym
     (found_at (c.args.src, c.args.dst) es (IsDistinct-from_sorted pair_cmp (keys_of es) c.self.invariant)
     c.in-Some.position c.index.result.now lt at c.index.ensures)
