@@ -42,9 +42,9 @@ fit_first [] ns l h = tt
 fit_first (f ∷ fs) [] l h = absurd (omega arith)
 fit_first (f ∷ fs) (n ∷ ns) l h = (h.0, fit_first fs ns (omega arith) (fit_later f fs 0 ns h.1))
 
--- as many numbers as fields, each at least 0, fit fields of numbers
-pub natural_fit : (fs : List Field) (r : Row) → length fs ≡ 3 → AreNumeric fs → AreNatural (length fs) r
-    → FieldsFit fs (numbers_of (length fs) r)
+-- three numbers that are at least 0 fit three fields of numbers
+pub natural_fit : (fs : List Field) (r : Row) → length fs ≡ 3 → AreNumeric fs → AreNatural 3 r
+    → FieldsFit fs (numbers_of 3 r)
 natural_fit [] r l num h = absurd (omega arith)
 natural_fit (f ∷ []) r l num h = absurd (omega arith)
 natural_fit (f ∷ g ∷ []) r l num h = absurd (omega arith)

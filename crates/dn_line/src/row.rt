@@ -1,5 +1,5 @@
 // Reads a line of a letter and numbers in plain spelling in one pass.
-ghost use Rattle.std.specs.Prelude.{◌≡◌, ◌≤◌, IfSome, true, length, slice_get};
+ghost use Rattle.std.specs.Prelude.{◌≡◌, ◌≤◌, ℕ, IfSome, true, length, slice_get};
 ghost use Rattle.dn_line.specs.State.LineStates.{is_clear};
 ghost use Rattle.dn_line.specs.State.Rows.{AreNatural, AreNumeric, BeginsWithRow, FieldsFit, HasNumbers, field_fits, numbers_of};
 
@@ -40,12 +40,85 @@ pub(crate) struct RowBefore<'a> {
     pub(crate) rest: &'a [u8],
 }
 
+// A count of numbers that a line can have.
+pub(crate) trait Count {
+    // The count.
+    ghost count: { ℕ };
+
+    // Reads this many numbers that fit these fields, with blanks between them, and the LF after them.
+    fn read<'a>(fields: &[Field], bytes: &'a [u8]) -> Option<RowBefore<'a>>
+        requires count { length fields.now ≡ count }
+        requires numeric { AreNumeric fields.now }
+        ensures numbers { IfSome result (λ r. HasNumbers count bytes.now r.row r.rest.now) }
+        ensures fit { IfSome result (λ r. FieldsFit fields.now (numbers_of count r.row)) };
+}
+
+// One number.
+pub(crate) struct One;
+
+impl Count for One {
+    ghost count = { 1 };
+
+    #[inline(always)]
+    fn read<'a>(fields: &[Field], bytes: &'a [u8]) -> Option<RowBefore<'a>> {
+        fitting(fields, one_number(bytes)?)
+    }
+}
+
+// Two numbers.
+pub(crate) struct Two;
+
+impl Count for Two {
+    ghost count = { 2 };
+
+    #[inline(always)]
+    fn read<'a>(fields: &[Field], bytes: &'a [u8]) -> Option<RowBefore<'a>> {
+        fitting(fields, two_numbers(bytes)?)
+    }
+}
+
+// Three numbers.
+pub(crate) struct Three;
+
+impl Count for Three {
+    ghost count = { 3 };
+
+    #[inline(always)]
+    fn read<'a>(fields: &[Field], bytes: &'a [u8]) -> Option<RowBefore<'a>> {
+        match short_three(bytes) {
+            // A number of digits alone fits any field of a number.
+            Some(found) => Some(found),
+            None => fitting(fields, any_three(bytes)?),
+        }
+    }
+}
+
+// Five numbers.
+pub(crate) struct Five;
+
+impl Count for Five {
+    ghost count = { 5 };
+
+    #[inline(always)]
+    fn read<'a>(fields: &[Field], bytes: &'a [u8]) -> Option<RowBefore<'a>> {
+        match short_five(bytes) {
+            Some(found) => fitting(fields, found),
+            None => fitting(fields, any_five(bytes)?),
+        }
+    }
+}
+
 // Reads the line that begins these bytes, if it is plain: this letter and numbers that fit these fields, with blanks
 // between them, no number with a `+`, and an LF at its end. Returns none for any other line, whether or not that line
 // has a fault.
 #[inline(always)]
-pub(crate) fn read_row<'a>(letter: u8, fields: &[Field], bytes: &'a [u8]) -> Option<RowBefore<'a>>
+pub(crate) fn read_row<'a, N: Count>(
+    letter: u8,
+    fields: &[Field],
+    bytes: &'a [u8],
+) -> Option<RowBefore<'a>>
     requires clear { is_clear letter ≡ true }
+    requires count { length fields.now ≡ N.count }
     requires numeric { AreNumeric fields.now }
     ensures { IfSome result (λ r. BeginsWithRow letter fields.now bytes.now r.row r.rest.now) }
 {
@@ -55,37 +128,12 @@ pub(crate) fn read_row<'a>(letter: u8, fields: &[Field], bytes: &'a [u8]) -> Opt
     if *first != letter {
         return None;
     }
-    let text = after_blanks(after_letter)?;
-    if fields.len() == 3
-        && let Some(found) = short_three(text)
-    {
-        // A number of digits alone fits any field of a number.
-        return Some(found);
-    }
-    let found = numbers(fields.len(), text)?;
-    if fit(fields, &found.row) {
-        Some(found)
-    } else {
-        None
-    }
-}
-
-// Reads this many numbers, with blanks between them, and the LF after them.
-fn numbers(count: usize, bytes: &[u8]) -> Option<RowBefore<'_>>
-    ensures numbers { IfSome result (λ r. HasNumbers count bytes.now r.row r.rest.now) }
-    ensures few { IfSome result (λ r. count ≤ 5) }
-{
-    match count {
-        1 => one(bytes),
-        2 => two(bytes),
-        3 => any_three(bytes),
-        5 => five(bytes),
-        _ => None,
-    }
+    let found = N::read(fields, after_blanks(after_letter)?)?;
+    Some(found)
 }
 
 // Reads one number.
-fn one(bytes: &[u8]) -> Option<RowBefore<'_>>
+fn one_number(bytes: &[u8]) -> Option<RowBefore<'_>>
     ensures { IfSome result (λ r. HasNumbers 1 bytes.now r.row r.rest.now) }
 {
     let first = any_front(bytes)?;
@@ -99,7 +147,7 @@ fn one(bytes: &[u8]) -> Option<RowBefore<'_>>
 }
 
 // Reads two numbers.
-fn two(bytes: &[u8]) -> Option<RowBefore<'_>>
+fn two_numbers(bytes: &[u8]) -> Option<RowBefore<'_>>
     ensures { IfSome result (λ r. HasNumbers 2 bytes.now r.row r.rest.now) }
 {
     let first = number_before(bytes)?;
@@ -160,16 +208,6 @@ fn any_three(bytes: &[u8]) -> Option<RowBefore<'_>>
     })
 }
 
-// Reads five numbers. It tries short numbers first.
-fn five(bytes: &[u8]) -> Option<RowBefore<'_>>
-    ensures { IfSome result (λ r. HasNumbers 5 bytes.now r.row r.rest.now) }
-{
-    match short_five(bytes) {
-        Some(found) => Some(found),
-        None => any_five(bytes),
-    }
-}
-
 // The greatest length of a line of four numbers of one to eight digits and one more number, with one byte for the blank
 // after each of the first four and eight bytes to read at the last.
 const SHORT_FIVE: usize = 44;
@@ -219,6 +257,22 @@ fn any_five(bytes: &[u8]) -> Option<RowBefore<'_>>
         },
         rest: after_line_end(fifth.rest)?,
     })
+}
+
+// Returns these numbers if each fits its field.
+#[inline(always)]
+fn fitting<'a>(fields: &[Field], found: RowBefore<'a>) -> Option<RowBefore<'a>>
+    requires few { length fields.now ≤ 5 }
+    requires numeric { AreNumeric fields.now }
+    ensures row { IfSome result (λ r. r.row ≡ found.entry.row) }
+    ensures rest { IfSome result (λ r. r.rest.now ≡ found.entry.rest.now) }
+    ensures fit { IfSome result (λ r. FieldsFit fields.now (numbers_of (length fields.now) r.row)) }
+{
+    if fit(fields, &found.row) {
+        Some(found)
+    } else {
+        None
+    }
 }
 
 // Whether each number fits its field, in a row of as many numbers as fields.

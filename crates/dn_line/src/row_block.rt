@@ -1,10 +1,13 @@
 // Reads several lines of a letter and numbers at once, if they are in plain spelling.
-ghost use Rattle.std.specs.Prelude.{◌≡◌, ◌≤◌, [], length};
-ghost use Rattle.dn_line.specs.State.RowBlocks.{BeginWithRows, last_left};
+ghost use Rattle.std.specs.Prelude.{◌≡◌, ◌≤◌, ℕ, List, [], length, take, true};
+ghost use Rattle.dn_line.specs.State.LineStates.{is_clear};
+ghost use Rattle.dn_line.specs.State.RowBlocks.{BeginWithRows, ReadUpTo, last_left};
+ghost use Rattle.dn_line.specs.State.Rows.{AreNumeric, HasRow};
 
 use crate::kind::Kind;
 use crate::line_table::number_row;
-use crate::row::{NO_ROW, Row, read_row};
+use crate::row::{Count, Five, NO_ROW, One, Row, Three, Two, read_row};
+use crate::word::Field;
 use std::marker::Model;
 
 /// The greatest count of rows that one block reads.
@@ -69,18 +72,13 @@ impl RowBlock {
         let Some(fields) = number_row(kind, *letter) else {
             return;
         };
-        let mut rest = bytes;
-        for i in 0..most.min(BLOCK) {
-            let Some(next) = read_row(*letter, fields, rest) else {
-                return;
-            };
-            rest = next.rest;
-            self.rows[i] = RowLine {
-                row: next.row,
-                left: rest.len(),
-            };
-            self.len = i + 1;
-        }
+        self.len = match fields.len() {
+            1 => fill::<One>(&mut self.rows, *letter, fields, most, bytes),
+            2 => fill::<Two>(&mut self.rows, *letter, fields, most, bytes),
+            3 => fill::<Three>(&mut self.rows, *letter, fields, most, bytes),
+            5 => fill::<Five>(&mut self.rows, *letter, fields, most, bytes),
+            _ => 0,
+        };
     }
 
     /// Returns the rows of the block, at most `BLOCK`.
@@ -90,6 +88,38 @@ impl RowBlock {
     {
         &self.rows[..self.len]
     }
+}
+
+// Writes the rows of the lines at the beginning of these bytes that have this letter and numbers that fit these fields,
+// at most this many, and returns how many there are.
+fn fill<N: Count>(
+    rows: &mut [RowLine; BLOCK],
+    letter: u8,
+    fields: &[Field],
+    most: usize,
+    bytes: &[u8],
+) -> usize
+    requires clear { is_clear letter ≡ true }
+    requires count { length fields.now ≡ N.count }
+    requires numeric { AreNumeric fields.now }
+    ensures rows { (kind : Kind) → HasRow kind letter fields.now
+        → (rest : List ℕ) × ReadUpTo kind letter bytes.now (take result rows.new) rest }
+    ensures few { result ≤ most }
+    ensures within { result ≤ BLOCK }
+{
+    let mut rest = bytes;
+    let end = most.min(BLOCK);
+    for i in 0..end {
+        let Some(next) = read_row::<N>(letter, fields, rest) else {
+            return i;
+        };
+        rest = next.rest;
+        rows[i] = RowLine {
+            row: next.row,
+            left: rest.len(),
+        };
+    }
+    end
 }
 
 /// Returns how many bytes follow the last of these lines, which begin a piece of `all` bytes. If there are no lines,

@@ -1,7 +1,7 @@
 use Rattle.std.proofs.Common.{◌≡◌, arith, to_z, of_z, w64}
 use Rattle.std.proofs.lemmas.Int.{ints}
 use Rattle.dn_line.proofs.NumbersLaws.{last_number, more_numbers}
-use Rattle.dn_line.proofs.row.two.Goals as goal
+use Rattle.dn_line.proofs.row.two_numbers.Goals as goal
 
 pub returns : goal.returns
 returns c =

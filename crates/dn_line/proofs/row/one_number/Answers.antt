@@ -1,7 +1,7 @@
 use Rattle.std.proofs.Common.{◌≡◌, arith, to_z, of_z, w64}
 use Rattle.std.proofs.lemmas.Int.{ints}
 use Rattle.dn_line.proofs.NumbersLaws.{last_number}
-use Rattle.dn_line.proofs.row.one.Goals as goal
+use Rattle.dn_line.proofs.row.one_number.Goals as goal
 
 pub returns : goal.returns
 returns c =
