@@ -14,7 +14,7 @@ use Rattle.dn_arc.proofs.LengthsLaws.{least_of}
 use Rattle.dn_instance.specs.Items.{Problem, problem_of, arcs_of, length_arc_in, cap_arc_in}
 use Rattle.dn_instance.specs.TextFaults.{is_companion, is_in_range, item_tests}
 use Rattle.dn_instance.specs.State.ItemFaults.{in_graph, arc_fault}
-use Rattle.dn_instance.specs.State.Drafts.{TableHolds}
+use Rattle.dn_instance.specs.State.Bodies.{TableHolds}
 use Rattle.dn_arc.specs.Pairs.{bundle}
 use Rattle.dn_table.specs.State.Tables.{TableLists, AreArcs, Stays}
 use Rattle.dn_instance.proofs.SumLaws.{total_append, total_passes}

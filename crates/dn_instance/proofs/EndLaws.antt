@@ -1,9 +1,10 @@
 -- Lemmas on the end of a text.
-use Rattle.std.proofs.Common.{◌≡◌, ℤ, pos, List, [], ◌∷◌, Bool, true, false, ◌||◌, cond, not, int_lt, Option, Some, None, is_none, Ok, Err, refl, sym, ap, ◌∙◌, subst}
+use Rattle.std.proofs.Common.{◌≡◌, ℤ, pos, List, [], ◌∷◌, Bool, true, false, ◌||◌, cond, not, int_lt, Option, Some, None, is_none, Result, Ok, Err, refl, sym, ap, ◌∙◌, subst}
 use Rattle.std.specs.Option.{option_map}
 use Rattle.dn_line.specs.declared.code.Code.{Code}
 use Rattle.dn_line.specs.declared.code.Code.TheVariants.{NoProblem, MissingTerminal, TooFewLines}
 use Rattle.dn_line.specs.declared.kind.Kind.{Kind}
+use Rattle.dn_line.specs.declared.kind.Kind.TheVariants.{Max}
 use Rattle.dn_line.specs.declared.kind.Letter.TheVariants.{S, T}
 use Rattle.dn_line.specs.declared.line.Line.{Line}
 use Rattle.dn_line.specs.Faults.{first_fault}
@@ -16,14 +17,15 @@ use Rattle.dn_table.proofs.GrownLaws.{stands_as}
 use Rattle.dn_instance.specs.Instances.{Graph, MaxFlow}
 use Rattle.dn_instance.specs.Items.{Problem, counted, terminal_of, graph_of, max_flow, arcs_of, cap_arc_in}
 use Rattle.dn_instance.specs.TextFaults.{end_fault, lacks_terminal, is_full}
-use Rattle.dn_instance.specs.State.Drafts.{draft_kind, DraftHolds}
+use Rattle.dn_instance.specs.State.Drafts.{BodyHolds, body_kind, draft_kind, DraftHolds}
 use Rattle.dn_instance.specs.State.Ends.{Makes, EndsWith}
 use Rattle.dn_instance.specs.State.Helds.{Bundles, Shows, contents_of, parsed}
 use Rattle.dn_instance.specs.State.TextsSoFar.{HasRead, problem_as}
 use Rattle.dn_instance.specs.declared.content.Content.{Content}
 use Rattle.dn_instance.specs.declared.content.Content.TheVariants as Kept
 use Rattle.dn_instance.specs.declared.draft.Draft.{Draft}
-use Rattle.dn_instance.specs.declared.draft.Draft.TheVariants as Drafts
+use Rattle.dn_instance.specs.declared.any_body.AnyBody.{AnyBody}
+use Rattle.dn_instance.specs.declared.any_body.AnyBody.TheVariants as Bodies
 use Rattle.dn_arc.specs.declared.arc.CapArc.{CapArc}
 use Rattle.dn_bundle.specs.declared.total.Total.{Total}
 use Rattle.dn_instance.specs.declared.held.Held.{Held}
@@ -97,16 +99,21 @@ max_made : (a b : ℤ) (x y : Option ℤ) (G : Graph CapArc) → x ≡ Some a �
     → max_flow x y G ≡ Some (MaxFlow a b G)
 max_made a b x y G e f = ap (λ o. max_flow o y G) e ∙ ap (λ o. max_flow (Some a) o G) f
 
+-- the result for the kind of a body
+pub made_by : (b at : AnyBody) (kind : Kind) (nodes : ℤ) (items : List Line) (r : Result Content Code)
+    → b ≡ at → body_kind at ≡ Some kind → Makes (Some kind) nodes items r → Makes (body_kind b) nodes items r
+made_by b at kind nodes items r e k m = subst (λ o. Makes o nodes items r) (sym (ap body_kind e ∙ k)) m
+
 -- a `max` draft with a source and a sink makes content
-pub both_named : (d : Draft) (s t : Option ℤ) (table kept : Bundles Total) → IsStrictlySortedBy pair_cmp (keys_of kept)
+pub both_named : (d : Draft) (table kept : Bundles Total) → IsStrictlySortedBy pair_cmp (keys_of kept)
     → ((p : ℤ × ℤ) → lookup (same_pair p) kept ≡ lookup (same_pair p) table) → (a b u v nodes : ℤ) (items : List Line)
-    → d ≡ Drafts.Max s t table → s ≡ Some a → t ≡ Some b → u ≡ a → v ≡ b → DraftHolds d items
+    → d.body ≡ Bodies.Max table → d.heads.source ≡ Some a → d.heads.sink ≡ Some b → u ≡ a → v ≡ b → DraftHolds d items
     → Makes (draft_kind d) nodes items (Ok (Kept.Max u v kept))
-both_named d s t table kept rising alike a b u v nodes items is source sink same also h =
-    let k : DraftHolds (Drafts.Max s t table) items = subst (λ x. DraftHolds x items) is h in
-    let one : terminal_of S items ≡ Some a = sym k.0 ∙ source in
-    let other : terminal_of T items ≡ Some b = sym k.1 ∙ sink in
-    let out : Makes (draft_kind (Drafts.Max s t table)) nodes items (Ok (Kept.Max a b kept)) = (
+both_named d table kept rising alike a b u v nodes items is source sink same also h =
+    let k = subst (λ x. BodyHolds x items) is h.1 in
+    let one : terminal_of S items ≡ Some a = sym h.0.source_is ∙ source in
+    let other : terminal_of T items ≡ Some b = sym h.0.sink_is ∙ sink in
+    let out : Makes (Some Max) nodes items (Ok (Kept.Max a b kept)) = (
       ap (λ o. is_none o || is_none (terminal_of T items)) one
           ∙ ap is_none other,
       (
@@ -116,10 +123,10 @@ both_named d s t table kept rising alike a b u v nodes items is source sink same
           refl,
           refl,
           stands_as capacities (λ (x : Total). cap_listed x.total) table kept
-              (arcs_of cap_arc_in items) rising alike k.2.lists_them,
+              (arcs_of cap_arc_in items) rising alike k.lists_them,
         ),
       ),
     ) in
-    subst (λ x. Makes (draft_kind x) nodes items (Ok (Kept.Max u v kept))) (sym is)
-    (subst (λ x. Makes (draft_kind (Drafts.Max s t table)) nodes items (Ok (Kept.Max x v kept))) (sym same)
-    (subst (λ y. Makes (draft_kind (Drafts.Max s t table)) nodes items (Ok (Kept.Max a y kept))) (sym also) out))
+    made_by d.body (Bodies.Max table) Max nodes items _ is refl
+    (subst (λ x. Makes (Some Max) nodes items (Ok (Kept.Max x v kept))) (sym same)
+    (subst (λ y. Makes (Some Max) nodes items (Ok (Kept.Max a y kept))) (sym also) out))

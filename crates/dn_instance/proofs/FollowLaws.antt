@@ -15,7 +15,7 @@ use Rattle.dn_line.proofs.FaultLaws.{fault_append}
 use Rattle.dn_line.proofs.SpellingLaws.{faultless_spells}
 use Rattle.dn_instance.specs.Items.{problem_of, kind_known, counted, is_counted}
 use Rattle.dn_instance.specs.TextFaults.{order_tests, line_tests, item_tests, item_spelled, is_counted_letter, is_full, is_late_node, is_surplus}
-use Rattle.dn_instance.specs.State.Drafts.{HasSigns}
+use Rattle.dn_instance.specs.State.RowRuns.{HasSigns}
 use Rattle.dn_instance.specs.Texts.{with_next}
 use Rattle.dn_instance.specs.State.TextsSoFar.{next_read, fault_next, MayFollow}
 use Rattle.dn_instance.proofs.FirstFaults.{none_first}

@@ -15,13 +15,15 @@ use Rattle.dn_line.specs.declared.kind.Kind.TheVariants as Kinds
 use Rattle.dn_line.specs.State.Spelling.{kind_before, slots_of}
 use Rattle.dn_instance.specs.Items.{Problem, problem_of, problem_in, kind_known, counted, is_counted}
 use Rattle.dn_instance.specs.TextFaults.{is_arc, is_full}
-use Rattle.dn_instance.specs.State.Drafts.{draft_kind, is_graph, ComesNext, DraftHolds, HasRoom}
+use Rattle.dn_instance.specs.State.Drafts.{BodyHolds, body_kind, draft_kind, is_graph, ComesNext, DraftHolds}
+use Rattle.dn_instance.specs.State.RowRuns.{HasRoom}
 use Rattle.dn_instance.specs.State.TextsSoFar.{Awaits, HasRead, problem_as}
+use Rattle.dn_instance.specs.declared.any_body.AnyBody.{AnyBody}
+use Rattle.dn_instance.specs.declared.any_body.AnyBody.TheVariants as Bodies
 use Rattle.dn_instance.specs.declared.draft.Draft.{Draft}
-use Rattle.dn_instance.specs.declared.draft.Draft.TheVariants as Drafts
 use Rattle.dn_instance.specs.declared.text_so_far.TextSoFar.{TextSoFar}
 use Rattle.dn_instance.proofs.CleanItems.{problem_push}
-use Rattle.dn_instance.proofs.DraftLaws.{held_problem}
+use Rattle.dn_instance.proofs.HeadsLaws.{held_problem}
 
 -- the draft is of the declared kind
 pub kind_agrees : (t : TextSoFar) (items : List Line) → HasRead t items → kind_known items ≡ draft_kind t.draft
@@ -213,20 +215,20 @@ heads (Item.Query _ _) s = cc
 heads (Item.Point _ _ _) s = cc
 
 -- before the problem line, there are no items
-none_made : (d : Draft) (items : List Line) → draft_kind d ≡ None → DraftHolds d items → items ≡ []
-none_made Drafts.Empty items e h = h
-none_made (Drafts.Min _ _ _) items e h = cc
-none_made (Drafts.Max _ _ _) items e h = cc
-none_made (Drafts.Sp _) items e h = cc
-none_made (Drafts.Ss _) items e h = cc
-none_made (Drafts.P2p _) items e h = cc
-none_made (Drafts.Co _) items e h = cc
+none_made : (b : AnyBody) (items : List Line) → body_kind b ≡ None → BodyHolds b items → items ≡ []
+none_made Bodies.Empty items e h = h
+none_made (Bodies.Min _) items e h = cc
+none_made (Bodies.Max _) items e h = cc
+none_made (Bodies.Sp _) items e h = cc
+none_made (Bodies.Ss _) items e h = cc
+none_made (Bodies.P2p _) items e h = cc
+none_made (Bodies.Co _) items e h = cc
 
 pub none_before : (t : TextSoFar) (before : List Line) (i : Line) (p : Problem) → Awaits t before i
     → problem_in i ≡ Some p → before ≡ []
 none_before t before i p a is =
-    none_made t.draft before
-    (sym (kind_agrees t before a.read) ∙ a.may.kind_is ∙ (heads i (ap is_some is)).0) a.read.holds
+    none_made t.draft.body before
+    (sym (kind_agrees t before a.read) ∙ a.may.kind_is ∙ (heads i (ap is_some is)).0) a.read.holds.1
 
 -- the problem line has been read
 pub begun : (t u : TextSoFar) (before : List Line) (i : Line) (p : Problem) → Awaits t before i → problem_in i ≡ Some p

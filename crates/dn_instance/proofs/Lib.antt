@@ -25,4 +25,7 @@ pub mod EntryLaws
 pub mod ContentEntries
 pub mod RowRunLaws
 pub mod RowLinesLaws
-pub mod DraftRunLaws
+pub mod HeadsLaws
+pub mod BodyLaws
+pub mod BodyRunLaws
+pub mod AnyBodyLaws

@@ -4,7 +4,6 @@ use Rattle.std.specs.Option.{option_map}
 use Rattle.std.specs.Ordering.{int_cmp}
 use Rattle.std.specs.BTreeMap.{BTreeMap, is_at}
 use Rattle.std.specs.Map.{lookup}
-use Rattle.dn_line.specs.declared.code.Code.{Code}
 use Rattle.dn_line.specs.declared.code.Code.TheVariants.{NodeOutOfRange, RepeatedNode}
 use Rattle.dn_line.specs.declared.kind.Kind.{Kind}
 use Rattle.dn_line.specs.declared.kind.Kind.TheVariants as Kinds
@@ -13,20 +12,16 @@ use Rattle.dn_line.specs.declared.line.Line.TheVariants as Item
 use Rattle.dn_arc.specs.Kinds.{lengths, capacities, costs}
 use Rattle.dn_table.specs.GraphEntries.{graph_entries}
 use Rattle.dn_table.specs.State.Tables.{GraphNeedsMore}
-use Rattle.dn_instance.specs.declared.draft.Draft.{Draft}
-use Rattle.dn_instance.specs.declared.draft.Draft.TheVariants as Drafts
 use Rattle.dn_instance.specs.declared.refusal.ItemFault.{ItemFault}
-use Rattle.dn_instance.specs.declared.refusal.ItemFault.TheVariants.{Text, Memory}
+use Rattle.dn_instance.specs.declared.refusal.ItemFault.TheVariants.{Memory}
 use Rattle.dn_instance.specs.Items.{Problem, problem_of, arcs_of, length_arc_in, cap_arc_in, cost_arc_in, source_in, query_in, point_in, by_key}
 use Rattle.dn_instance.specs.EntryCount.{entries_as, entries_by, entries_so_far}
 use Rattle.dn_instance.specs.Readers.{NeedsMemory}
-use Rattle.dn_instance.specs.State.Drafts.{IsDraftOf}
 use Rattle.dn_instance.specs.State.ItemFaults.{AnswersFault, point_fault}
 use Rattle.dn_instance.proofs.FirstFaults.{none_first}
 use Rattle.dn_instance.proofs.ValidLaws.{grown}
 use Rattle.dn_instance.proofs.MapLaws.{by_key_push, one_more_key}
 use Rattle.dn_instance.proofs.ItemSteps.{problem_kept}
-use Rattle.dn_instance.proofs.DraftLaws.{own_kind}
 use Rattle.dn_instance.proofs.ArcItems.{length_grown, cap_grown}
 use Rattle.dn_instance.proofs.CostItems.{cost_grown}
 
@@ -95,44 +90,14 @@ module _ (before : List Line) (p : Problem) (h : problem_of before ≡ Some p) w
       ∙ one_more_key id (x, y) (by_key (filter_map point_in before)) new in
       entries_more (Item.Point id x y) Kinds.Co k (omega (arith, e))
 
--- if memory runs out when the item is taken, the item needs memory
-abbrev pub Needing : ℤ → Draft → Line → Result (Unit {0}) ItemFault → Type 0
-Needing nodes d l r = (before : List Line) (p : Problem) → IsDraftOf d nodes p before → r ≡ Err Memory
-    → NeedsMemory before l
-
-pub to_need : (nodes : ℤ) (d d' : Draft) (l l' : Line) (r r' : Result (Unit {0}) ItemFault) → d ≡ d' → l ≡ l' → r ≡ r'
-    → Needing nodes d' l' r' → Needing nodes d l r
-to_need nodes d d' l l' r r' e f g h =
-    subst (λ x. Needing nodes x l r) (sym e)
-    (subst (λ x. Needing nodes d' x r) (sym f) (subst (Needing nodes d' l') (sym g) h))
-
-pub refused_need : (nodes : ℤ) (d : Draft) (l : Line) (r : Result (Unit {0}) ItemFault) (code : Code)
-    → r ≡ Err (Text code) → Needing nodes d l r
-refused_need nodes d l r code e before p h m = let never : Err (Text code) ≡ Err Memory = sym e ∙ m in cc
-
-pub never_need : (nodes : ℤ) (d : Draft) (l : Line) (r : Result (Unit {0}) ItemFault) → (r ≡ Err Memory → ⊥)
-    → Needing nodes d l r
-never_need nodes d l r n before p h m = absurd (n m)
-
-pub supply_needs : (nodes id flow : ℤ) (d : Draft) (r : Result (Unit {0}) ItemFault)
-    → Needing nodes d (Item.Supply id flow) r
-supply_needs nodes id flow d r before p h m = inr tt
-
-pub id_needs : (nodes id : ℤ) (ids : _) (r : Result (Unit {0}) ItemFault)
-    → Needing nodes (Drafts.Ss ids) (Item.Source id) r
-id_needs nodes id ids r before p d m = id_need before p d.problem_is id (own_kind d.kind_is)
-
-pub pair_needs : (nodes : ℤ) (pair : ℤ × ℤ) (pairs : _) (r : Result (Unit {0}) ItemFault)
-    → Needing nodes (Drafts.P2p pairs) (Item.Query pair.0 pair.1) r
-pair_needs nodes pair pairs r before p d m = pair_need before p d.problem_is pair (own_kind d.kind_is)
-
-pub point_needs : (nodes id x y : ℤ) (points : BTreeMap ℤ (ℤ × ℤ)) (r : Result (Unit {0}) ItemFault)
-    → AnswersFault r (point_fault (is_some (lookup (is_at (int_cmp id)) points.entries)) id)
-    → Needing nodes (Drafts.Co points) (Item.Point id x y) r
-point_needs nodes id x y points r ans before p d m =
-    let named = is_some (lookup (is_at (int_cmp id)) points.entries) in
-    let none = subst (λ s. AnswersFault s (point_fault named id)) m ans in
-    let one = none_first (not (int_lt (pos 0) id)) NodeOutOfRange _ none in
-    let two = none_first named RepeatedNode _ one.1 in
-    point_need before p d.problem_is id x y (own_kind d.kind_is)
-    (ap (λ es. is_some (lookup (is_at (int_cmp id)) es)) (sym d.holds) ∙ two.0)
+  -- memory runs out only at a point of a new ID
+  pub point_out : (id x y : ℤ) (points : BTreeMap ℤ (ℤ × ℤ)) (r : Result (Unit {0}) ItemFault)
+      → AnswersFault r (point_fault (is_some (lookup (is_at (int_cmp id)) points.entries)) id)
+      → p.kind ≡ Kinds.Co → points.entries ≡ by_key (filter_map point_in before)
+      → r ≡ Err Memory → NeedsMemory before (Item.Point id x y)
+  point_out id x y points r ans k held out =
+      let named = is_some (lookup (is_at (int_cmp id)) points.entries) in
+      let none = subst (λ s. AnswersFault s (point_fault named id)) out ans in
+      let one = none_first (not (int_lt (pos 0) id)) NodeOutOfRange _ none in
+      let two = none_first named RepeatedNode _ one.1 in
+      point_need id x y k (ap (λ es. is_some (lookup (is_at (int_cmp id)) es)) (sym held) ∙ two.0)

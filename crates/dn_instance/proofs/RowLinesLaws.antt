@@ -25,8 +25,7 @@ use Rattle.dn_line.specs.declared.word.Keyword.TheVariants as Key
 use Rattle.dn_line.specs.declared.word.Word.{Word}
 use Rattle.dn_line.proofs.RowLaws.{ReadsAs, row_item}
 use Rattle.dn_instance.specs.Items.{Problem, counted, is_counted, kind_known, problem_of}
-use Rattle.dn_instance.specs.State.Drafts.{HasRoom, HasSigns}
-use Rattle.dn_instance.specs.State.RowRuns.{AreFaultless, AreInTime, line_of, row_items}
+use Rattle.dn_instance.specs.State.RowRuns.{AreFaultless, AreInTime, HasRoom, HasSigns, line_of, row_items}
 use Rattle.dn_instance.specs.State.TextsSoFar.{AreInner, closed_lines, next_read}
 use Rattle.dn_instance.specs.TextFaults.{is_arc, is_counted_letter, is_full, is_node_letter, item_tests, order_tests}
 use Rattle.dn_instance.specs.Texts.{IsClean, items_of}

@@ -1,8 +1,8 @@
 -- Lemmas on rows that are taken one after another.
-use Rattle.std.proofs.Common.{◌≡◌, ◌<◌, ◌≤◌, ◌+◌, ◌-◌, ◌^◌, ◌+ℤ◌, ◌-ℤ◌, negsuc, FitsSigned, w64, ℕ, zero, suc, ℤ, pos, ◌≤ℤ◌, ◌<ℤ◌, List, [], ◌∷◌, ◌++◌, length, take, get_or, filter, true, false, cond, not, ◌||◌, int_lt, Option, Some, None, Result, Ok, Err, OnOk, refl, sym, subst, ap, ◌∙◌, arith, append-nil, append_assoc, length-append}
+use Rattle.std.proofs.Common.{◌≡◌, ◌<◌, ◌≤◌, ◌+◌, ◌-◌, ◌^◌, ◌+ℤ◌, ◌-ℤ◌, negsuc, FitsSigned, w64, ℕ, zero, suc, ℤ, pos, ◌≤ℤ◌, ◌<ℤ◌, List, [], ◌∷◌, ◌++◌, length, take, get_or, filter, true, false, cond, not, ◌||◌, int_lt, Option, Some, None, refl, sym, subst, ap, ◌∙◌, arith, append-nil, append_assoc, length-append}
+use Rattle.std.specs.Prelude.{MatchOption}
 use Rattle.std.specs.List.{AllByRecursion, list_any}
 use Rattle.std.specs.Option.{option_map, option_or}
-use Rattle.std.specs.Result.{is_err}
 use Rattle.std.proofs.Math.Bool.{or-true}
 use Rattle.std.specs.Int.{saturate_signed}
 use Rattle.std.proofs.Math.Nat.{min-eq_left}
@@ -14,19 +14,16 @@ use Rattle.std.proofs.lemmas.List.{map-append}
 use Rattle.std.proofs.lemmas.List.Elements.{filter-append}
 use Rattle.std.proofs.lemmas.List.Folds.{list_any-append}
 use Rattle.dn_line.specs.Faults.{first_fault}
-use Rattle.dn_line.specs.declared.code.Code.{Code}
 use Rattle.dn_line.specs.declared.kind.Kind.{Kind}
 use Rattle.dn_line.specs.declared.kind.Kind.TheVariants.{Min, Max, Sp, Ss, P2p, Co}
 use Rattle.dn_line.specs.declared.line.Line.{Line}
 use Rattle.dn_line.specs.declared.row_block.RowLine.{RowLine}
-use Rattle.dn_instance.specs.State.RowRuns.{AreFaultless, AreInTime, Joins, line_of, row_items}
-use Rattle.dn_instance.specs.State.Drafts.{DraftHolds, HasSigns, draft_kind, is_graph}
-use Rattle.dn_instance.specs.State.ItemFaults.{AnswersFault}
+use Rattle.dn_instance.specs.State.RowRuns.{AreFaultless, AreInTime, HasSigns, Joins, line_of, row_items}
+use Rattle.dn_instance.specs.State.Drafts.{DraftHolds, draft_kind, is_graph}
 use Rattle.dn_instance.specs.Items.{Problem, counted, is_counted, problem_in, problem_of}
 use Rattle.dn_instance.specs.State.TextsSoFar.{HasRead, problem_as}
 use Rattle.dn_instance.specs.TextFaults.{is_arc, is_companion, is_full, item_tests}
 use Rattle.dn_instance.specs.declared.draft.Draft.{Draft}
-use Rattle.dn_instance.specs.declared.refusal.ItemFault.{ItemFault}
 use Rattle.dn_instance.specs.declared.text_so_far.TextSoFar.{TextSoFar}
 use Rattle.dn_instance.proofs.ItemSteps.{counted_yes, problem_kept, problem_agrees}
 
@@ -48,15 +45,6 @@ joins_more Holds before held more items i j f h = record {
   faultless = faultless_more before items i j.faultless f;
   holds = subst (Holds more) (append_assoc before items (i ∷ [])) h;
 }
-
--- what holds if a result is not an error
-pub no_fault : (r : Result (Unit {0}) ItemFault) (f : Option Code) → is_err r ≡ false → AnswersFault r f → f ≡ None
-no_fault (Ok x) f e h = h
-no_fault (Err c) f e h = cc
-
-pub no_error : {P : Type 0} (r : Result (Unit {0}) ItemFault) → is_err r ≡ false → OnOk r P → P
-no_error (Ok x) e h = h
-no_error (Err c) e h = cc
 
 or_kept : (a b c : Option Problem) (p : Problem) → option_or a b ≡ Some p → (b ≡ Some p → c ≡ Some p)
     → option_or a c ≡ Some p
@@ -192,3 +180,8 @@ sum_taken k m h = let small : k + m ≤ 2 ^ 63 - 1 = omega arith in ap pos (min-
 
 pub sum_fits : (n : ℕ) → n < 2 ^ 63 → FitsSigned w64 (pos n)
 sum_fits n h = fits_signed_from_abs w64 (pos n) (grind (arith, ints, nat_tests))
+
+-- at most all rows are taken
+pub within_all : {F : Type 0} (fault : Option F) (m n : ℕ) → MatchOption fault (m ≤ n) (λ f. m < n) → m ≤ n
+within_all None m n h = h
+within_all (Some f) m n h = omega arith

@@ -1,11 +1,10 @@
--- Lemmas on node lines of a `min` text after the items before them: the first fault, and what the draft then holds.
+-- Lemmas on node lines of a `min` text after the items before them: the first fault, and what the heads then hold.
 use Rattle.std.proofs.Common.{◌≡◌, ℤ, pos, List, [], ◌∷◌, ◌++◌, Bool, true, false, cond, ◌&&◌, ◌||◌, Some, None, is_some, Result, Ok, Err, OnOk, OnErr, filter_map, refl, sym, ap, ◌∙◌, subst, arith, append-nil}
 use Rattle.std.proofs.Math.Bool.{or-false}
 use Rattle.std.proofs.lemmas.Int.{ints}
 use Rattle.std.proofs.lemmas.Bool.Decides.{nat_tests}
-use Rattle.std.proofs.lemmas.List.Elements.{filter_map-append}
 use Rattle.std.proofs.lemmas.List.Folds.{list_any-append}
-use Rattle.std.proofs.lemmas.Result.{on_ok_weaker}
+use Rattle.std.proofs.lemmas.Result.{on_err_weaker}
 use Rattle.std.specs.List.{list_any}
 use Rattle.std.specs.Ordering.{int_cmp, int_eq}
 use Rattle.std.specs.BTreeMap as Map
@@ -16,30 +15,30 @@ use Rattle.std.specs.Map.{lookup}
 use Rattle.dn_line.specs.declared.code.Code.TheVariants.{NodeOutOfRange, RepeatedNode}
 use Rattle.dn_line.specs.declared.line.Line.{Line}
 use Rattle.dn_line.specs.declared.line.Line.TheVariants as Item
-use Rattle.dn_arc.specs.Kinds.{costs}
-use Rattle.dn_arc.specs.State.CurveListed.{listed}
-use Rattle.dn_arc.specs.declared.arc.Form.TheVariants.{One}
-use Rattle.dn_arc.specs.State.Curves.{CurveNumbers}
-use Rattle.dn_instance.specs.State.Drafts.{TableHolds}
-use Rattle.dn_instance.specs.declared.draft.Draft.TheVariants as Drafts
+use Rattle.dn_line.specs.Faults.{first_fault}
+use Rattle.dn_line.specs.declared.kind.Letter.TheVariants.{S, T}
+use Rattle.dn_instance.specs.State.Drafts.{HeadsHold, TakesHead}
+use Rattle.dn_instance.specs.declared.heads.Heads.{Heads}
 use Rattle.dn_instance.specs.declared.refusal.ItemFault.{ItemFault}
-use Rattle.dn_instance.specs.Items.{cost_arc_in, supply_in, supplies_of, by_key}
+use Rattle.dn_instance.specs.Items.{Problem, problem_of, supply_in, supplies_of, by_key}
 use Rattle.dn_instance.specs.State.ItemFaults.{AnswersFault, supply_fault}
-use Rattle.dn_instance.specs.TextFaults.{is_companion, has_supply}
-use Rattle.dn_instance.proofs.DraftLaws.{Answering, Standing, Keeping, own_kind, stray_one, or_else, sought_eq, table_kept}
+use Rattle.dn_instance.specs.TextFaults.{is_companion, has_supply, item_tests}
+use Rattle.dn_instance.proofs.DraftLaws.{stray_one, or_else, sought_eq}
+use Rattle.dn_instance.proofs.HeadsLaws.{same_terminal}
 use Rattle.dn_instance.proofs.MapLaws.{by_key_push, lookup_put, some_cond}
 use Rattle.dn_instance.proofs.ValidLaws.{supplies_grow}
 
-pub supply_answer : (nodes id flow : ℤ) (supplies : BTreeMap ℤ ℤ) (idle : BTreeSet ℤ) (t : _)
+pub supply_answer : (nodes id : ℤ) (h : Heads) (before : List Line) (p : Problem) → problem_of before ≡ Some p
+    → is_companion p.kind ≡ false → p.nodes ≡ nodes → HeadsHold h before → (flow : ℤ)
     (r : Result (Unit {0}) ItemFault)
-    → AnswersFault r (supply_fault nodes (is_some (Map.get int_cmp supplies id) || Set.contains int_cmp idle id) id)
-    → Answering nodes (Drafts.Min supplies idle t) (Item.Supply id flow) r
-supply_answer nodes id flow supplies idle t r ans before p d =
+    → AnswersFault r (supply_fault nodes (is_some (Map.get int_cmp h.supplies id) || Set.contains int_cmp h.idle id) id)
+    → AnswersFault r (first_fault (item_tests before (Some (Item.Supply id flow))))
+supply_answer nodes id h before p problem graph nodes_are was flow r ans =
     subst (AnswersFault r)
     (sym (ap (λ x. or_else x NodeOutOfRange (or_else (list_any (has_supply id) before) RepeatedNode None))
-    (stray_one before p d.problem_is id (ap is_companion (own_kind d.kind_is)))
-    ∙ ap (λ m. supply_fault m (list_any (has_supply id) before) id) d.nodes_are
-    ∙ ap (λ b. supply_fault nodes b id) (sym (d.holds.1 id))))
+    (stray_one before p problem id graph)
+    ∙ ap (λ m. supply_fault m (list_any (has_supply id) before) id) nodes_are
+    ∙ ap (λ b. supply_fault nodes b id) (sym (was.named_are id))))
     ans
 
 eq_swap : (a b : ℤ) → int_eq a b ≡ int_eq b a
@@ -115,58 +114,54 @@ supplies_push id flow before false e =
     ∙ by_key_push (filter_map supply_in before) (id, flow)
     ∙ sym (ap (λ b. cond b (supplies_of before) (insert_entry int_cmp (supplies_of before) id flow)) e)
 
-pub supply_stand : (id flow : ℤ) (s s' : BTreeMap ℤ ℤ) (z z' : BTreeSet ℤ) (t : _) (r : Result (Unit {0}) ItemFault)
-    → OnOk r (s'.entries ≡ cond (int_eq flow (pos 0)) s.entries (insert_entry int_cmp s.entries id flow))
-    → OnOk r
-    ((q : ℤ)
-    → Set.contains int_cmp z' q ≡ (Set.contains int_cmp z q || (int_eq flow (pos 0) && is_at (int_cmp id) q)))
-    → Standing (Drafts.Min s z t) (Item.Supply id flow) (Drafts.Min s' z' t) r
-supply_stand id flow s s' z z' t (Err e) put kept before holds = tt
-supply_stand id flow s s' z z' t (Ok x) put kept before holds = (
-  put ∙ ap (λ m. cond (int_eq flow (pos 0)) m (insert_entry int_cmp m id flow)) holds.0
-      ∙ sym (supplies_push id flow before (int_eq flow (pos 0)) refl),
-  λ q. named id flow q before s s' z z' (holds.1 q) put (kept q) (int_eq flow (pos 0)) refl,
-  table_kept costs cost_arc_in _ t before (Item.Supply id flow) refl holds.2,
-)
+-- `n` lines of a `min` text
+module _ (nodes id flow : ℤ) (h : Heads) (s : BTreeMap ℤ ℤ) (z : BTreeSet ℤ) (r : Result (Unit {0}) ItemFault) where
+  abbrev with_supply : Heads
+  with_supply = record h { supplies = s; idle = z }
 
--- a node line that is not taken does not change what the draft holds
-pub supply_keep : (s s' : BTreeMap ℤ ℤ) (z z' : BTreeSet ℤ) (t : _) (r : Result (Unit {0}) ItemFault)
-    → OnErr r ((s'.entries ≡ s.entries) × (z'.keys ≡ z.keys)) → Keeping (Drafts.Min s z t) (Drafts.Min s' z' t) r
-supply_keep s s' z z' t (Ok x) same before holds = tt
-supply_keep s s' z z' t (Err e) same before holds = (
-  same.0 ∙ holds.0,
-  λ q. ap (λ m. is_some (lookup (is_at (int_cmp q)) m) || Set.contains int_cmp z' q) same.0
-      ∙ ap (λ ks. is_some (Map.get int_cmp s q) || list_any (is_at (int_cmp q)) ks) same.1 ∙ holds.1 q,
-  holds.2,
-)
+  pub supply_taken :
+      AnswersFault r (supply_fault nodes (is_some (Map.get int_cmp h.supplies id) || Set.contains int_cmp h.idle id) id)
+      → OnOk r
+      (s.entries ≡ cond (int_eq flow (pos 0)) h.supplies.entries (insert_entry int_cmp h.supplies.entries id flow))
+      → OnOk r
+      ((q : ℤ)
+      → Set.contains int_cmp z q
+      ≡ (Set.contains int_cmp h.idle q || (int_eq flow (pos 0) && is_at (int_cmp id) q)))
+      → TakesHead nodes h with_supply (Item.Supply id flow) r
+  supply_taken ans put kept before p problem graph nodes_are was =
+      (supply_answer nodes id h before p problem graph nodes_are was flow r ans, by_result r put kept)
+    where
+      by_result : (r : Result (Unit {0}) ItemFault)
+          → OnOk r
+          (s.entries ≡ cond (int_eq flow (pos 0)) h.supplies.entries (insert_entry int_cmp h.supplies.entries id flow))
+          → OnOk r
+          ((q : ℤ)
+          → Set.contains int_cmp z q
+          ≡ (Set.contains int_cmp h.idle q || (int_eq flow (pos 0) && is_at (int_cmp id) q)))
+          → OnOk r (HeadsHold with_supply (before ++ Item.Supply id flow ∷ []))
+      by_result (Err e) put kept = tt
+      by_result (Ok x) put kept = record {
+        supplies_are =
+            put ∙ ap (λ m. cond (int_eq flow (pos 0)) m (insert_entry int_cmp m id flow)) was.supplies_are
+            ∙ sym (supplies_push id flow before (int_eq flow (pos 0)) refl);
+        named_are =
+            λ q. named id flow q before h.supplies s h.idle z (was.named_are q) put (kept q) (int_eq flow (pos 0)) refl;
+        source_is = was.source_is ∙ sym (same_terminal S before (Item.Supply id flow ∷ []) refl);
+        sink_is = was.sink_is ∙ sym (same_terminal T before (Item.Supply id flow ∷ []) refl);
+      }
 
--- an arc does not change the flows
-pub cost_stand : (s : BTreeMap ℤ ℤ) (z : BTreeSet ℤ) (t t' : _) (src dst low top cost : ℤ)
-    (r : Result (Unit {0}) ItemFault)
-    → ((before : List Line)
-    → TableHolds costs cost_arc_in (λ (x : CurveNumbers). listed One x.units x.cost x.steps) t before
-    → OnOk r
-    (TableHolds costs cost_arc_in (λ (x : CurveNumbers). listed One x.units x.cost x.steps) t'
-    (before ++ Item.MinArc src dst low top cost ∷ [])))
-    → Standing (Drafts.Min s z t) (Item.MinArc src dst low top cost) (Drafts.Min s z t') r
-cost_stand s z t t' src dst low top cost r ok before holds =
-    let i = Item.MinArc src dst low top cost in
-    on_ok_weaker r
-    (λ table. (
-      holds.0 ∙ sym (supplies_kept before i),
-      λ q. holds.1 q
-          ∙ sym (list_any-append (has_supply q) before (i ∷ []) ∙ or_nothing (list_any (has_supply q) before)),
-      table,
-    ))
-    (ok before holds.2)
-  where
-    or_nothing : (b : Bool) → (b || false) ≡ b
-    or_nothing true = refl
-    or_nothing false = refl
-
-    supplies_kept : (items : List Line) (i : Line)
-        → supplies_of (items ++ Item.MinArc src dst low top cost ∷ []) ≡ supplies_of items
-    supplies_kept items i =
-        ap by_key
-        (filter_map-append supply_in items (Item.MinArc src dst low top cost ∷ [])
-        ∙ append-nil (filter_map supply_in items))
+  -- a node line that is not taken does not change what the heads hold
+  pub supply_same : OnErr r ((s.entries ≡ h.supplies.entries) × (z.keys ≡ h.idle.keys))
+      → OnErr r ((items : List Line) → HeadsHold h items → HeadsHold with_supply items)
+  supply_same same =
+      on_err_weaker r
+      (λ e items was. record {
+        supplies_are = e.0 ∙ was.supplies_are;
+        named_are = λ q.
+            ap (λ m. is_some (lookup (is_at (int_cmp q)) m) || Set.contains int_cmp z q) e.0
+            ∙ ap (λ ks. is_some (Map.get int_cmp h.supplies q) || list_any (is_at (int_cmp q)) ks) e.1
+            ∙ was.named_are q;
+        source_is = was.source_is;
+        sink_is = was.sink_is;
+      })
+      same

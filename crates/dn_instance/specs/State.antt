@@ -1,8 +1,9 @@
 pub mod Parts
 pub mod EntryCount
 pub mod ItemFaults
-pub mod Drafts
 pub mod RowRuns
+pub mod Bodies
+pub mod Drafts
 pub mod TextsSoFar
 pub mod Helds
 pub mod Ends

@@ -7,11 +7,12 @@ use dn_table::TableSoFar;
 use pair_index::AHEAD;
 use std::alloc::Global;
 
-// Looks up the pairs of the arcs of these rows together in a table, if that may save time. This affects only the speed.
+// Looks up the pairs of the arcs of these rows together in a table, if there are several rows and that may save time.
+// This affects only the speed.
 pub(crate) fn look_ahead<B: Bundle>(table: &mut TableSoFar<B>, alloc: Global, rows: &[RowLine])
     ensures { table.new ≡ table.old }
 {
-    if table.wants_hints() {
+    if 1 < rows.len() && table.wants_hints() {
         table.find_hints(alloc, &pairs_of(rows));
     }
 }

@@ -31,7 +31,7 @@ impl Reader {
         Reader {
             alloc,
             line: LineReader::new(),
-            text: TextSoFar::new(),
+            text: TextSoFar::new(alloc),
             refusal: None,
         }
     }

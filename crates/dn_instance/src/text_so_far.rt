@@ -8,7 +8,7 @@ ghost use Rattle.dn_line.specs.Faults.{first_fault, head_tests};
 ghost use Rattle.dn_line.specs.State.Reading.{head_of};
 ghost use Rattle.dn_line.specs.State.LineStates.{LineSoFar, LineReaderAt};
 ghost use Rattle.dn_instance.specs.Items.{problem_in, is_counted};
-ghost use Rattle.dn_instance.specs.TextFaults.{is_companion, order_tests, item_tests, line_fault};
+ghost use Rattle.dn_instance.specs.TextFaults.{order_tests, item_tests, line_fault};
 ghost use Rattle.dn_instance.specs.State.Drafts.{draft_kind};
 ghost use Rattle.dn_instance.specs.State.Ends.{EndsWith};
 ghost use Rattle.dn_instance.specs.EntryCount.{entries_so_far};
@@ -43,7 +43,7 @@ pub(crate) struct TextSoFar {
 
 impl TextSoFar {
     // Makes a text that has no lines.
-    pub(crate) fn new() -> TextSoFar
+    pub(crate) fn new(alloc: Global) -> TextSoFar
         ensures { TextAt result [] }
     {
         TextSoFar {
@@ -51,7 +51,7 @@ impl TextSoFar {
             nodes: 0,
             count: 0,
             counted: 0,
-            draft: Draft::Empty,
+            draft: Draft::empty(alloc),
         }
     }
 
@@ -190,9 +190,9 @@ impl TextSoFar {
         }
     }
 
-    // Takes the arcs of plain lines at the beginning of these bytes, at most as many as one block has, up to the first
-    // that is one too many, that has a fault, or for which an allocation fails. Returns how many bytes their lines
-    // have, with the LFs that end them. The block is memory to read into.
+    // Takes the rows of plain counted lines at the beginning of these bytes, at most as many as one block has, up to
+    // the first that is one too many, that has a fault, or for which an allocation fails. Returns how many bytes their
+    // lines have, with the LFs that end them. The block is memory to read into.
     pub(crate) fn take_rows(&mut self, alloc: Global, block: &mut RowBlock, bytes: &[u8]) -> usize
         ensures taken { (ls : List (List ℕ)) → TextAt self.old ls
             → ReadsFront self.new ls (take result bytes.now) }
@@ -201,14 +201,15 @@ impl TextSoFar {
         let Some(kind) = self.draft.kind() else {
             return 0;
         };
-        if is_companion(&kind) || LAST - BLOCK as u64 <= self.closed || begins_with_node(bytes) {
+        if LAST - BLOCK as u64 <= self.closed || begins_with_node(bytes) {
             return 0;
         }
         // The reader takes at most as many counted lines as are declared, so nothing saturates, here and below.
         let most = self.count.saturating_sub(self.counted);
         block.read(kind, as_many(&most), bytes);
         let rows = block.rows();
-        let taken = self.draft.take_rows(alloc, &self.nodes, rows);
+        let stop = self.draft.take_rows(alloc, &self.nodes, rows);
+        let taken = stop.rows;
         self.counted = self.counted.saturating_add(taken as i64);
         self.closed += taken as u64;
         let left = left_behind(&rows[..taken], bytes.len());
@@ -260,13 +261,6 @@ fn begins_with_node(bytes: &[u8]) -> bool
         [first, ..] => *first == b'n',
         [] => false,
     }
-}
-
-// Whether texts of this kind have no arcs.
-fn is_companion(kind: &Kind) -> bool
-    ensures { result ≡ is_companion kind.now }
-{
-    !matches!(kind, Kind::Min | Kind::Max | Kind::Sp)
 }
 
 // Whether ARCS or K counts the line.

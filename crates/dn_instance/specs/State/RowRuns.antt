@@ -1,5 +1,5 @@
 -- Rows that are taken one after another.
-use Rattle.std.specs.Prelude.{◌≡◌, List, [], ◌∷◌, ◌++◌, map, None, Some}
+use Rattle.std.specs.Prelude.{◌≡◌, pos, ◌≤ℤ◌, List, [], ◌∷◌, ◌++◌, map, true, false, None, Some}
 use Rattle.dn_line.specs.Faults.{first_fault}
 use Rattle.dn_line.specs.declared.kind.Kind.{Kind}
 use Rattle.dn_line.specs.declared.kind.Kind.TheVariants.{Min, Max, Sp, Ss, P2p, Co}
@@ -7,8 +7,8 @@ use Rattle.dn_line.specs.declared.line.Line.{Line}
 use Rattle.dn_line.specs.declared.line.Line.TheVariants as Item
 use Rattle.dn_line.specs.declared.row.Row.{Row}
 use Rattle.dn_line.specs.declared.row_block.RowLine.{RowLine}
-use Rattle.dn_instance.specs.TextFaults.{item_tests}
-use Rattle.dn_instance.specs.State.Drafts.{HasRoom}
+use Rattle.dn_instance.specs.Items.{counted, is_counted, problem_of}
+use Rattle.dn_instance.specs.TextFaults.{is_full, item_tests}
 
 -- the counted item of these numbers, in a text of this kind
 abbrev pub line_of : Kind → Row → Line
@@ -22,6 +22,16 @@ line_of Co r = Item.Point r.first r.second r.third
 -- the items of these rows in a text of this kind
 abbrev pub row_items : Kind → List RowLine → List Line
 row_items kind rows = map (λ (r : RowLine). line_of kind r.row) rows
+
+-- LOW and CAP of an arc are at least 0
+abbrev pub HasSigns : Line → Type 0
+HasSigns (Item.MinArc src dst low cap cost) = (pos 0 ≤ℤ low) × (pos 0 ≤ℤ cap)
+HasSigns (Item.MaxArc src dst cap) = pos 0 ≤ℤ cap
+HasSigns _ = Unit {0}
+
+-- if the item is counted, it does not follow as many counted lines as declared
+abbrev pub HasRoom : List Line → Line → Type 0
+HasRoom items i = is_counted i ≡ true → is_full (problem_of items) (counted items) ≡ false
 
 -- no item of the second list has a fault after the items before it
 abbrev pub AreFaultless : List Line → List Line → Type 0

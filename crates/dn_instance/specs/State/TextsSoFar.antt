@@ -15,7 +15,8 @@ use Rattle.dn_line.specs.Reading.{unless, spelled}
 use Rattle.dn_instance.specs.Items.{Problem, problem_of, kind_known, counted}
 use Rattle.dn_instance.specs.TextFaults.{is_arc, order_tests, line_tests}
 use Rattle.dn_instance.specs.Texts.{items_of, IsClean}
-use Rattle.dn_instance.specs.State.Drafts.{draft_kind, is_graph, DraftHolds, HasRoom, HasSigns}
+use Rattle.dn_instance.specs.State.Drafts.{draft_kind, is_graph, DraftHolds}
+use Rattle.dn_instance.specs.State.RowRuns.{HasRoom, HasSigns}
 use Rattle.dn_instance.specs.declared.text_so_far.TextSoFar.{TextSoFar}
 
 -- the problem of this kind with the numbers of the problem line

@@ -25,7 +25,8 @@ loop-i-preserved g c =
             begins = found.ensures;
             left = refl;
           } in
-          subst (λ (l : List RowLine). ReadUpTo kind letter bytes l rest) (sym (take_more_set rows i next (omega arith)))
+          subst (λ (l : List RowLine). ReadUpTo kind letter bytes l rest)
+          (sym (take_more_set rows i next (omega arith)))
           (row_more kind letter bytes c.loop-i.rest.now rest (take i rows) next (before.rows kind has) is));
     }
 

@@ -1,0 +1,24 @@
+use Rattle.std.proofs.Common.{◌<◌, ◌≤◌, subst, arith}
+use Rattle.std.specs.Prelude.{MatchOption}
+use Rattle.dn_instance.specs.State.Drafts.{any_body}
+use Rattle.dn_instance.proofs.BodyRunLaws.{one_refused, one_taken}
+use Rattle.dn_instance.proofs.any_body.AnyBody.take_row.Goals as goal
+
+few : (c : goal.In-Some) → c.take_rows.result.rows < 1
+few c =
+    subst (λ o. MatchOption o (c.take_rows.result.rows ≤ 1) (λ f. c.take_rows.result.rows < 1)) c.in-Some.is
+    c.take_rows.ensures.within
+
+pub returns-in-Some-clause-taken : goal.returns-in-Some-clause-taken
+returns-in-Some-clause-taken c kind before a =
+    one_refused (any_body kind) before _ _ _ (c.take_rows.ensures.taken kind before a) c.in-Some.fault c.in-Some.is
+    (few c)
+
+pub returns-in-Some-clause-unchanged : goal.returns-in-Some-clause-unchanged
+returns-in-Some-clause-unchanged c = c.take_rows.ensures.unchanged (let one = few c in omega arith)
+
+pub returns-in-None-clause-taken : goal.returns-in-None-clause-taken
+returns-in-None-clause-taken c kind before a =
+    one_taken (any_body kind) before _ _ _ (c.take_rows.ensures.taken kind before a) c.in-None.is
+    (subst (λ o. MatchOption o (c.take_rows.result.rows ≤ 1) (λ f. c.take_rows.result.rows < 1)) c.in-None.is
+    c.take_rows.ensures.within)

@@ -1,0 +1,12 @@
+use Rattle.std.proofs.Common.{◌≡◌, arith, to_z, of_z, w64}
+use Rattle.std.proofs.lemmas.Int.{ints}
+use Rattle.dn_instance.proofs.BodyLaws.{cost_row}
+use Rattle.dn_instance.proofs.body.CurveRowBundle.arc.Goals as goal
+
+pub returns : goal.returns
+returns c =
+    let r = c.args.row.now in
+    let third : to_z w64 (of_z w64 r.third) ≡ r.third = omega (arith, ints) in
+    let fourth : to_z w64 (of_z w64 r.fourth) ≡ r.fourth = omega (arith, ints) in
+    let fifth : to_z w64 (of_z w64 r.fifth) ≡ r.fifth = omega (arith, ints) in
+    simp (third, fourth, fifth) (cost_row r)

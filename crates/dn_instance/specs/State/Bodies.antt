@@ -1,0 +1,134 @@
+-- What the counted lines of a text make, and how rows change it.
+use Rattle.std.specs.Prelude.{◌≡◌, ◌<◌, ◌^◌, ℕ, ℤ, List, [], ◌∷◌, ◌++◌, Bool, IsTrue, ◌↔◌, filter_map, take, drop, Option, Some, None, Result, Err, OnOk, Vec}
+use Rattle.std.specs.BTreeMap.{BTreeMap}
+use Rattle.std.specs.Global.{Global}
+use Rattle.std.specs.List.{AllByRecursion}
+use Rattle.dn_line.specs.Faults.{first_fault}
+use Rattle.dn_line.specs.declared.code.Code.{Code}
+use Rattle.dn_line.specs.declared.kind.Kind.{Kind}
+use Rattle.dn_line.specs.declared.kind.Kind.TheVariants.{Ss, P2p, Co}
+use Rattle.dn_line.specs.declared.line.Line.{Line}
+use Rattle.dn_line.specs.declared.row.Row.{Row}
+use Rattle.dn_line.specs.declared.row_block.RowLine.{RowLine}
+use Rattle.dn_arc.specs.Kinds.{ArcKind}
+use Rattle.dn_arc.specs.State.Bundles.{BundleWords, meant}
+use Rattle.dn_table.specs.GraphEntries.{graph_entries}
+use Rattle.dn_table.specs.State.Tables.{AreArcs, GraphNeedsMore, Stays, TableLists}
+use Rattle.dn_instance.specs.Items.{Problem, problem_of, arcs_of, source_in, query_in, point_in, by_key}
+use Rattle.dn_instance.specs.TextFaults.{item_tests}
+use Rattle.dn_instance.specs.EntryCount.{entries_by}
+use Rattle.dn_instance.specs.Readers.{NeedsMemory}
+use Rattle.dn_instance.specs.State.ItemFaults.{AnswersFault, arc_fault}
+use Rattle.dn_instance.specs.State.RowRuns.{HasSigns, Joins, line_of, row_items}
+use Rattle.dn_instance.specs.declared.body.Taken.{Taken}
+use Rattle.dn_instance.specs.declared.refusal.ItemFault.{ItemFault}
+use Rattle.dn_instance.specs.declared.refusal.ItemFault.TheVariants.{Memory}
+
+-- what a body specifies about itself
+pub record BodyFacts (T : Type 0) : Type 1 where
+  -- the kind of text
+  pub kind : Kind
+  -- the body holds what these items make
+  pub Holds : T → List Line → Type 0
+
+-- the result says the first fault of the item after these, and memory runs out only at an item that needs it
+pub record AnswersItem (before : List Line) (i : Line) (result : Result (Unit {0}) ItemFault) : Type 0 where
+  pub fault : AnswersFault result (first_fault (item_tests before (Some i)))
+  pub memory : result ≡ Err Memory → NeedsMemory before i
+
+-- the fault, if there is one, is that of the first row that is left, after these items; without a fault, no row is left
+abbrev pub StopsAt : Kind → List Line → List RowLine → Option ItemFault → Type 0
+StopsAt kind items left None = left ≡ []
+StopsAt kind items [] (Some fault) = ⊥
+StopsAt kind items (r ∷ left) (Some fault) = AnswersItem items (line_of kind r.row) (Err fault)
+
+module _ {T : Type 0} (body : BodyFacts T) where
+  -- the body holds what the items of a problem of its kind make, and LOW and CAP of the next items are at least 0
+  pub record Awaits (nodes : ℤ) (held : T) (before next : List Line) : Type 0 where
+    pub problem : Problem
+    pub problem_is : problem_of before ≡ Some problem
+    pub kind_is : problem.kind ≡ body.kind
+    pub nodes_are : problem.nodes ≡ nodes
+    pub signs : AllByRecursion HasSigns next
+    pub holds : body.Holds held before
+
+  -- the result answers the row's item, and the body holds the item if it has no fault
+  pub record Took (before : List Line) (held : T) (row : Row) (result : Result (Unit {0}) ItemFault) : Type 0 where
+    pub answer : AnswersItem before (line_of body.kind row) result
+    pub holds : OnOk result (body.Holds held (before ++ line_of body.kind row ∷ []))
+
+  -- a row is taken after any items that the body holds
+  abbrev pub TakesRow : ℤ → T → T → Row → Result (Unit {0}) ItemFault → Type 0
+  TakesRow nodes old new row result =
+      (before : List Line) → Awaits nodes old before (line_of body.kind row ∷ []) → Took before new row result
+
+  -- the items of the rows that were taken have no fault, the body holds them, and the next row has the fault, if there
+  -- is one
+  pub record TookRows (before : List Line) (held : T) (rows : List RowLine) (result : Taken) : Type 0 where
+    pub joins : Joins body.Holds before held (row_items body.kind (take result.rows rows))
+    pub stops : StopsAt body.kind (before ++ row_items body.kind (take result.rows rows)) (drop result.rows rows)
+        result.fault
+
+  -- rows are taken one after another after any items that the body holds
+  abbrev pub TakesRows : ℤ → T → T → List RowLine → Taken → Type 0
+  TakesRows nodes old new rows result =
+      (before : List Line) → Awaits nodes old before (row_items body.kind rows) → TookRows before new rows result
+
+  -- the new body holds all that the old one holds
+  abbrev pub Keeps : T → T → Type 0
+  Keeps old new = (items : List Line) → body.Holds old items → body.Holds new items
+
+  -- n is how many entries the items make, if that is below 2^64
+  abbrev pub Counts : T → ℕ → Type 0
+  Counts held n =
+      (items : List Line) → body.Holds held items → entries_by (Some body.kind) items < 2 ^ 64
+      → n ≡ entries_by (Some body.kind) items
+
+-- the IDs of an `ss` text
+abbrev pub ids_body : BodyFacts (Vec ℤ Global)
+ids_body = record { kind = Ss; Holds = λ ids items. ids.items ≡ filter_map source_in items }
+
+-- the pairs of a `p2p` text
+abbrev pub pairs_body : BodyFacts (Vec (ℤ × ℤ) Global)
+pairs_body = record { kind = P2p; Holds = λ pairs items. pairs.items ≡ filter_map query_in items }
+
+-- the points of a `co` text
+abbrev pub points_body : BodyFacts (BTreeMap ℤ (ℤ × ℤ))
+points_body = record { kind = Co; Holds = λ points items. points.entries ≡ by_key (filter_map point_in items) }
+
+-- the table represents the arcs among the items, and a problem may have each of these arcs
+pub record TableHolds {B Arc : Type 0} (kind : ArcKind Arc) (arc_in : Line → Option ((ℤ × ℤ) × Arc))
+    (lists : B → List Arc) (table : List ((ℤ × ℤ) × B)) (items : List Line) : Type 0 where
+  pub lists_them : TableLists kind lists table (arcs_of arc_in items)
+  pub are_arcs : AreArcs kind (arcs_of arc_in items)
+
+-- the arcs of a graph, merged by ordered pair
+abbrev pub table_body : {B Arc : Type 0} → Kind → (Line → Option ((ℤ × ℤ) × Arc)) → BundleWords B Arc
+    → BodyFacts (List ((ℤ × ℤ) × B))
+table_body kind arc_in bundle = record { kind = kind; Holds = TableHolds bundle.kind arc_in (meant bundle) }
+
+-- the first fault of an item is that of its arc, where `is` says whether a problem may have the arc
+pub record SaysFault {Arc : Type 0} (kind : ArcKind Arc) (nodes : ℤ) (arcs : List ((ℤ × ℤ) × Arc)) (a : (ℤ × ℤ) × Arc)
+    (found : Option Code) : Type 0 where
+  pub is : Bool
+  pub decides : IsTrue is ↔ kind.IsArc a.1
+  pub fault : found ≡ arc_fault kind nodes arcs is a
+
+-- the row's item is this arc, between the nodes of the first two numbers, and it has the faults of the arc and needs
+-- memory where the arc does
+pub record IsArcOfRow {Arc : Type 0} (text : Kind) (kind : ArcKind Arc) (arc_in : Line → Option ((ℤ × ℤ) × Arc))
+    (row : Row) (arc : Arc) : Type 0 where
+  pub in_line : arc_in (line_of text row) ≡ Some ((row.first, row.second), arc)
+  pub faults : (before : List Line) (p : Problem) → problem_of before ≡ Some p → p.kind ≡ text
+      → HasSigns (line_of text row)
+      → SaysFault kind p.nodes (arcs_of arc_in before) ((row.first, row.second), arc)
+      (first_fault (item_tests before (Some (line_of text row))))
+  pub needs : (before : List Line) (p : Problem) → problem_of before ≡ Some p → p.kind ≡ text
+      → GraphNeedsMore kind (arcs_of arc_in before) ((row.first, row.second), arc)
+      → NeedsMemory before (line_of text row)
+  pub stays : Stays kind
+
+-- the items of a text of this kind make the entries of their arcs
+abbrev pub CountsArcs : {Arc : Type 0} → Kind → ArcKind Arc → (Line → Option ((ℤ × ℤ) × Arc)) → Type 0
+CountsArcs text kind arc_in =
+    (items : List Line) → entries_by (Some text) items ≡ graph_entries kind (arcs_of arc_in items)

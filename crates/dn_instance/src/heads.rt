@@ -1,0 +1,60 @@
+// Takes `n` lines as they arrive.
+ghost use Rattle.std.specs.Prelude.{◌≡◌, List, [], OnErr, Err};
+ghost use Rattle.dn_line.specs.declared.line.Line.{Line};
+ghost use Rattle.dn_line.specs.declared.line.Line.TheVariants.{Supply, Terminal};
+ghost use Rattle.dn_instance.specs.State.Drafts.{HeadsHold, TakesHead};
+
+use crate::items::{take_supply, take_terminal};
+use crate::refusal::ItemFault;
+use dn_line::Letter;
+use std::alloc::Global;
+use std::collections::{BTreeMap, BTreeSet};
+
+// What the `n` lines so far make. A text of a kind without such lines has none of these.
+#[derive(Drop)]
+pub(crate) struct Heads {
+    pub(crate) supplies: BTreeMap<i64, i64>,
+    // The nodes whose `n` lines have flow 0. A second `n` line of such a node is a fault, too.
+    pub(crate) idle: BTreeSet<i64>,
+    pub(crate) source: Option<i64>,
+    pub(crate) sink: Option<i64>,
+}
+
+impl Heads {
+    // Makes the heads of a text without `n` lines.
+    pub(crate) fn new(alloc: Global) -> Heads
+        ensures { HeadsHold result [] }
+    {
+        Heads {
+            supplies: BTreeMap::new(alloc),
+            idle: BTreeSet::new(alloc),
+            source: None,
+            sink: None,
+        }
+    }
+
+    // Takes a `min` node line, or returns its fault.
+    pub(crate) fn take_supply(&mut self, nodes: &i64, id: &i64, flow: &i64) -> Result<(), ItemFault>
+        ensures taken { TakesHead nodes.now self.old self.new (Supply id.now flow.now) result }
+        ensures unchanged { OnErr result ((items : List Line) → HeadsHold self.old items → HeadsHold self.new items) }
+    {
+        take_supply(&mut self.supplies, &mut self.idle, nodes, id, flow)
+    }
+
+    // Takes a `max` node line, or returns its fault.
+    pub(crate) fn take_terminal(
+        &mut self,
+        nodes: &i64,
+        id: &i64,
+        letter: Letter,
+    ) -> Result<(), ItemFault>
+        ensures taken { TakesHead nodes.now self.old self.new (Terminal id.now letter) result }
+        ensures unchanged { OnErr result ((items : List Line) → HeadsHold self.old items → HeadsHold self.new items) }
+        ensures memory { result ≡ Err ItemFault.Memory → ⊥ }
+    {
+        match letter {
+            Letter::S => take_terminal(&mut self.source, &self.sink, nodes, id),
+            Letter::T => take_terminal(&mut self.sink, &self.source, nodes, id),
+        }
+    }
+}
