@@ -229,9 +229,7 @@ fn way_to_find_again(alloc: Global, pairs: &[(i64, i64)]) -> Result<&'static str
         return Ok("a wrong place");
     }
     let way = listed.way();
-    listed
-        .index
-        .hints(alloc, &listed.entries, &[(1, 5); AHEAD]);
+    listed.index.hints(alloc, &listed.entries, &[(1, 5); AHEAD]);
     if listed.finds(pairs) && listed.sorts(pairs) {
         Ok(way)
     } else {
@@ -246,36 +244,36 @@ fn finds_again(rt: HostRuntime) -> Result<(), Fail> {
     Ok(())
 }
 
-// Pairs whose tails rise and fall, and that fall into one of 64 buckets.
+// Pairs whose tails rise and fall, and that fall into one of 128 buckets.
 const COLLIDING: [(i64, i64); 28] = [
     (70, 1000),
-    (6, 616),
-    (64, 2048),
-    (7, 1380),
+    (6, 940),
+    (64, 148),
+    (7, 44),
     (61, 1484),
     (11, 1044),
-    (59, 20),
-    (12, 1232),
-    (58, 1304),
+    (59, 280),
+    (12, 136),
+    (58, 92),
     (14, 392),
     (54, 1768),
-    (15, 1604),
+    (15, 480),
     (53, 236),
     (16, 448),
-    (45, 268),
+    (45, 244),
     (18, 2168),
     (42, 2008),
-    (21, 1452),
+    (21, 688),
     (41, 1180),
-    (23, 292),
-    (39, 932),
-    (24, 2464),
+    (23, 488),
+    (39, 408),
+    (24, 80),
     (38, 104),
-    (25, 2204),
-    (35, 1844),
+    (25, 960),
+    (35, 1324),
     (28, 208),
-    (33, 1980),
-    (29, 652),
+    (33, 1052),
+    (29, 580),
 ];
 
 // Pairs that come nearly in order: each is followed by its reverse.
