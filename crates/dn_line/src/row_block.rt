@@ -91,7 +91,8 @@ impl RowBlock {
 }
 
 // Writes the rows of the lines at the beginning of these bytes that have this letter and numbers that fit these fields,
-// at most this many, and returns how many there are.
+// at most this many, and returns how many there are. By itself it needs fewer registers than within its caller.
+#[inline(never)]
 fn fill<N: Count>(
     rows: &mut [RowLine; BLOCK],
     letter: u8,
