@@ -99,7 +99,8 @@ fn opened<P: Opener>(alloc: Global, opener: &P, name: &str) -> io::Result<Opened
 
 // Maps an error of opening to a `FilesFault`.
 fn fault_of(error: &io::Error) -> FilesFault
-    ensures { result ≡ FilesFault.Device → error_kind error.now ≢ ErrorKind.OutOfMemory }
+    ensures device { result ≡ FilesFault.Device → error_kind error.now ≢ ErrorKind.OutOfMemory }
+    ensures memory { result ≡ FilesFault.Memory → error_kind error.now ≡ ErrorKind.OutOfMemory }
 {
     match error.kind() {
         ErrorKind::OutOfMemory => FilesFault::Memory,

@@ -77,8 +77,7 @@ impl Reader {
     }
 
     // If no line is open, takes rows of plain lines at the beginning of a piece. If it takes none, takes what `step`
-    // takes.
-    // Returns how many bytes it takes.
+    // takes. Returns how many bytes it takes.
     fn advance(&mut self, block: &mut RowBlock, piece: &[u8]) -> Result<usize, Refusal>
         requires { 0 < length piece.now }
         ensures some { IfOk result (λ n. 0 < n) }

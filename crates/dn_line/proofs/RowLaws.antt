@@ -61,8 +61,9 @@ natural_fit (f ∷ g ∷ k ∷ _ ∷ fs) r l num h = absurd (omega arith)
 row_line : (letter : ℕ) (fields : List Field) (bytes more rest : List ℕ) (r : Row) → is_clear letter ≡ true
     → IsGap bytes more → HasNumbers (length fields) more r rest → FieldsFit fields (numbers_of (length fields) r)
     → BeginsWithRow letter fields (letter ∷ bytes) r rest
-row_line letter fields bytes more rest r clear g a fit =
+row_line letter fields bytes more rest r clear g has fit =
     let bs = g.then.blanks in
+    let a = has.numbers in
     let run : list_all is_clear (letter ∷ []) ≡ true = both_true (is_clear letter) true clear refl in
     record {
       line = letter ∷ g.blank ∷ bs ++ a.line;
@@ -79,6 +80,7 @@ row_line letter fields bytes more rest r clear g a fit =
           ∙ ap (λ ws. (letter ∷ []) ∷ ws) (blanks_words bs a.line g.then.all))
           ∙ ap (λ (ws : List Word). said (letter ∷ []) ∷ ws) a.says;
       fit = fit;
+      others = has.others;
     }
 
 -- the same for bytes whose first is the letter

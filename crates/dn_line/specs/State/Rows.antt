@@ -1,5 +1,5 @@
 -- Lines of a letter and numbers in plain spelling at the beginning of longer bytes.
-use Rattle.std.specs.Prelude.{◌≡◌, ◌≤ℤ◌, ℕ, ℤ, pos, List, [], ◌∷◌, ◌++◌, length, slice_get, map, take, Bool, true, false, not, int_lt, Option, Some, None}
+use Rattle.std.specs.Prelude.{◌≡◌, ◌≤ℤ◌, ℕ, ℤ, pos, List, [], ◌∷◌, ◌++◌, length, slice_get, map, take, drop, Bool, true, false, not, int_lt, Option, Some, None}
 use Rattle.std.specs.List.{AllByRecursion, list_all}
 use Rattle.dn_line.specs.LineTable.{row}
 use Rattle.dn_line.specs.Words.{said, said_words}
@@ -31,9 +31,15 @@ pub record HasRow (kind : Kind) (letter : ℕ) (fields : List Field) : Type 0 wh
 abbrev pub numbers_of : ℕ → Row → List ℤ
 numbers_of count r = take count (r.first ∷ r.second ∷ r.third ∷ r.fourth ∷ r.fifth ∷ [])
 
--- the bytes are a line of this many numbers, which the row has, and LF, followed by the rest
-abbrev pub HasNumbers : ℕ → List ℕ → Row → List ℕ → Type 0
-HasNumbers count bytes r rest = AreNumbers bytes (numbers_of count r) rest
+-- the numbers of a row after the first ones, this many, are 0
+abbrev pub EndsWithZeros : ℕ → Row → Type 0
+EndsWithZeros count r =
+    AllByRecursion (λ n. n ≡ pos 0) (drop count (r.first ∷ r.second ∷ r.third ∷ r.fourth ∷ r.fifth ∷ []))
+
+-- the bytes are a line of this many numbers and LF, followed by the rest, and the row has these numbers and no others
+pub record HasNumbers (count : ℕ) (bytes : List ℕ) (r : Row) (rest : List ℕ) : Type 0 where
+  pub numbers : AreNumbers bytes (numbers_of count r) rest
+  pub others : EndsWithZeros count r
 
 -- the number fits this field, or there is no field
 abbrev pub field_fits : Option Field → ℤ → Bool
@@ -64,3 +70,4 @@ pub record BeginsWithRow (letter : ℕ) (fields : List Field) (bytes : List ℕ)
   pub inner : list_all is_inner line ≡ true
   pub says : said_words line ≡ said (letter ∷ []) ∷ map number_word (numbers_of (length fields) r)
   pub fit : FieldsFit fields (numbers_of (length fields) r)
+  pub others : EndsWithZeros (length fields) r

@@ -12,9 +12,13 @@ returns c =
     let fourth : to_z w64 (of_z w64 c.in_ok-fourth.fourth.number) ≡ c.in_ok-fourth.fourth.number =
     omega (arith, ints) in
     let fifth : to_z w64 (of_z w64 c.in_ok-fifth.fifth.number) ≡ c.in_ok-fifth.fifth.number = omega (arith, ints) in
-    simp (first, second, third, fourth, fifth)
-    (more_numbers _ _ _ _ _ (number_gap _ _ _ _ c.in_ok-first.ensures.number c.in_ok-after_space.ensures.gap)
-    (more_numbers _ _ _ _ _ (number_gap _ _ _ _ c.in_ok-second.ensures.number c.in_ok-after_space-2.ensures.gap)
-    (more_numbers _ _ _ _ _ (number_gap _ _ _ _ c.in_ok-third.ensures.number c.in_ok-after_space-3.ensures.gap)
-    (more_numbers _ _ _ _ _ (number_gap _ _ _ _ c.in_ok-fourth.ensures.number c.in_ok-after_space-4.ensures.gap)
-    (last_number _ _ _ _ c.in_ok-fifth.ensures c.in_ok-after_line_end.ensures)))))
+    record {
+      numbers =
+          simp (first, second, third, fourth, fifth)
+          (more_numbers _ _ _ _ _ (number_gap _ _ _ _ c.in_ok-first.ensures.number c.in_ok-after_space.ensures.gap)
+          (more_numbers _ _ _ _ _ (number_gap _ _ _ _ c.in_ok-second.ensures.number c.in_ok-after_space-2.ensures.gap)
+          (more_numbers _ _ _ _ _ (number_gap _ _ _ _ c.in_ok-third.ensures.number c.in_ok-after_space-3.ensures.gap)
+          (more_numbers _ _ _ _ _ (number_gap _ _ _ _ c.in_ok-fourth.ensures.number c.in_ok-after_space-4.ensures.gap)
+          (last_number _ _ _ _ c.in_ok-fifth.ensures c.in_ok-after_line_end.ensures)))));
+      others = tt;
+    }

@@ -1,4 +1,4 @@
-use Rattle.std.proofs.Common.{◌≡◌, arith, to_z, of_z, w64}
+use Rattle.std.proofs.Common.{◌≡◌, refl, arith, to_z, of_z, w64}
 use Rattle.std.proofs.lemmas.Int.{ints}
 use Rattle.dn_line.proofs.NumbersLaws.{last_number, more_numbers, number_gap}
 use Rattle.dn_line.proofs.row.short_three.Goals as goal
@@ -9,7 +9,11 @@ returns-clause-numbers c =
     let second : to_z w64 (of_z w64 c.in_ok-second.second.number) ≡ c.in_ok-second.second.number =
     omega (arith, ints) in
     let third : to_z w64 (of_z w64 c.in_ok-third.third.number) ≡ c.in_ok-third.third.number = omega (arith, ints) in
-    simp (first, second, third)
-    (more_numbers _ _ _ _ _ (number_gap _ _ _ _ c.in_ok-first.ensures.number c.in_ok-after_space.ensures.gap)
-    (more_numbers _ _ _ _ _ (number_gap _ _ _ _ c.in_ok-second.ensures.number c.in_ok-after_space-2.ensures.gap)
-    (last_number _ _ _ _ c.in_ok-third.ensures.number c.in_ok-after_plain_end.ensures)))
+    record {
+      numbers =
+          simp (first, second, third)
+          (more_numbers _ _ _ _ _ (number_gap _ _ _ _ c.in_ok-first.ensures.number c.in_ok-after_space.ensures.gap)
+          (more_numbers _ _ _ _ _ (number_gap _ _ _ _ c.in_ok-second.ensures.number c.in_ok-after_space-2.ensures.gap)
+          (last_number _ _ _ _ c.in_ok-third.ensures.number c.in_ok-after_plain_end.ensures)));
+      others = (refl, (refl, tt));
+    }
