@@ -28,7 +28,7 @@ use Rattle.dn_instance.proofs.ValidLaws.{grown}
 
 pub ids_took : (nodes : ℤ) (ids ids' : Vec ℤ Global) (row : Row) (r : Result (Unit {0}) ItemFault) (before : List Line)
     → AnswersFault r (id_fault row.first) → OnOk r (ids'.items ≡ ids.items ++ row.first ∷ [])
-    → Awaits ids_body nodes ids before (line_of Kinds.Ss row ∷ []) → Took ids_body before ids' row r
+    → Awaits ids_body nodes ids before (line_of Kinds.Ss row ∷ []) → Took ids_body (line_of Kinds.Ss) before ids' row r
 ids_took nodes ids ids' row r before ans ok a = record {
   answer = record {
     fault = id_answer before a.problem a.problem_is (ap is_companion a.kind_is) r row.first ans;
@@ -40,7 +40,7 @@ ids_took nodes ids ids' row r before ans ok a = record {
 pub pairs_took : (nodes : ℤ) (pairs pairs' : Vec (ℤ × ℤ) Global) (row : Row) (r : Result (Unit {0}) ItemFault)
     (before : List Line) → AnswersFault r (pair_fault (row.first, row.second))
     → OnOk r (pairs'.items ≡ pairs.items ++ (row.first, row.second) ∷ [])
-    → Awaits pairs_body nodes pairs before (line_of Kinds.P2p row ∷ []) → Took pairs_body before pairs' row r
+    → Awaits pairs_body nodes pairs before (line_of Kinds.P2p row ∷ []) → Took pairs_body (line_of Kinds.P2p) before pairs' row r
 pairs_took nodes pairs pairs' row r before ans ok a = record {
   answer = record {
     fault = pair_answer before a.problem a.problem_is (ap is_companion a.kind_is) r (row.first, row.second) ans;
@@ -53,7 +53,7 @@ pub points_took : (nodes : ℤ) (points points' : BTreeMap ℤ (ℤ × ℤ)) (ro
     (before : List Line)
     → AnswersFault r (point_fault (is_some (lookup (is_at (int_cmp row.first)) points.entries)) row.first)
     → OnOk r (points'.entries ≡ insert_entry int_cmp points.entries row.first (row.second, row.third))
-    → Awaits points_body nodes points before (line_of Kinds.Co row ∷ []) → Took points_body before points' row r
+    → Awaits points_body nodes points before (line_of Kinds.Co row ∷ []) → Took points_body (line_of Kinds.Co) before points' row r
 points_took nodes points points' row r before ans ok a = record {
   answer = record {
     fault =
@@ -87,7 +87,7 @@ module _ {B Arc : Type 0} (text : Kind) (arc_in : Line → Option ((ℤ × ℤ) 
       → (AreArcs b.kind (arcs_of arc_in before) → r ≡ Err Memory
       → GraphNeedsMore b.kind (arcs_of arc_in before) ((row.first, row.second), arc))
       → Awaits (table_body text arc_in b) nodes t before (line_of text row ∷ [])
-      → Took (table_body text arc_in b) before t' row r
+      → Took (table_body text arc_in b) (line_of text) before t' row r
   table_took nodes t t' row arc r before w ans ok out a =
       let says = w.faults before a.problem a.problem_is a.kind_is a.signs.0 in
       let placed : (ℤ × ℤ) × Arc = ((row.first, row.second), arc) in

@@ -1,5 +1,5 @@
 -- Lemmas on `n` lines: what the heads hold after them, and that other lines keep what the heads hold.
-use Rattle.std.proofs.Common.{◌≡◌, ℤ, List, [], ◌∷◌, ◌++◌, true, false, ◌||◌, not, Option, Some, None, is_some, IsSome, Result, Ok, Err, OnOk, OnErr, refl, sym, ap, ◌∙◌, subst, append-nil, take}
+use Rattle.std.proofs.Common.{◌≡◌, ℤ, List, [], ◌∷◌, ◌++◌, true, false, ◌||◌, not, Option, Some, None, is_some, IsSome, Result, Ok, Err, OnOk, OnErr, refl, sym, ap, ◌∙◌, subst, append-nil, take, inr}
 use Rattle.std.specs.List.{AllByRecursion, cons_option, filter_map, list_any}
 use Rattle.std.specs.Option.{option_or}
 use Rattle.std.proofs.Math.Bool.{or-false}
@@ -21,9 +21,9 @@ use Rattle.dn_arc.specs.Kinds.{capacities, costs, lengths}
 use Rattle.dn_instance.specs.Items.{arcs_of, by_key, cap_arc_in, cost_arc_in, is_counted, length_arc_in, point_in, problem_in, query_in, source_in, supplies_of, supply_in, terminal_in, terminal_of}
 use Rattle.dn_instance.specs.TextFaults.{has_supply, is_companion, is_id, item_tests}
 use Rattle.dn_instance.specs.State.Bodies.{AnswersItem, TakesRow, TakesRows}
-use Rattle.dn_instance.specs.State.Drafts.{BodyHolds, ComesNext, DraftHolds, HeadsHold, TakesHead, any_body, body_kind, draft_body, draft_kind}
+use Rattle.dn_instance.specs.State.Drafts.{BodyHolds, ComesNext, DraftHolds, HeadsHold, TakesHead, any_body, body_kind, draft_of, draft_kind}
 use Rattle.dn_instance.specs.State.ItemFaults.{AnswersFault, in_graph, terminal_fault}
-use Rattle.dn_instance.specs.State.RowRuns.{HasSigns, line_of, row_items}
+use Rattle.dn_instance.specs.State.RowRuns.{HasSigns, line_of, row_items, supply_of}
 use Rattle.dn_instance.specs.declared.any_body.AnyBody.{AnyBody}
 use Rattle.dn_instance.specs.declared.any_body.AnyBody.TheVariants as Bodies
 use Rattle.dn_instance.specs.declared.body.Taken.{Taken}
@@ -49,7 +49,7 @@ row_no_head Ss r = record { supply = refl; other = λ q. refl; terminal = λ l. 
 row_no_head P2p r = record { supply = refl; other = λ q. refl; terminal = λ l. refl }
 row_no_head Co r = record { supply = refl; other = λ q. refl; terminal = λ l. refl }
 
-rows_no_head : (kind : Kind) (rows : List RowLine) → AllByRecursion IsNoHead (row_items kind rows)
+rows_no_head : (kind : Kind) (rows : List RowLine) → AllByRecursion IsNoHead (row_items (line_of kind) rows)
 rows_no_head kind [] = tt
 rows_no_head kind (r ∷ rows) = (row_no_head kind r.row, rows_no_head kind rows)
 
@@ -266,8 +266,8 @@ held_problem d i is some h =
 
 -- rows that a body takes are taken by the draft
 pub draft_rows : (kind : Kind) (nodes : ℤ) (d : Draft) (b : AnyBody) (rows : List RowLine) (r : Taken)
-    → TakesRows (any_body kind) nodes d.body b rows r
-    → TakesRows (draft_body kind) nodes d (record d { body = b }) rows r
+    → TakesRows (any_body kind) (line_of kind) nodes d.body b rows r
+    → TakesRows (draft_of kind) (line_of kind) nodes d (record d { body = b }) rows r
 draft_rows kind nodes d b rows r h before a =
     let t = h before (record {
       problem = a.problem;
@@ -283,13 +283,30 @@ draft_rows kind nodes d b rows r h before a =
         holds = (
           t.joins.holds.0,
           (
-            heads_kept d.heads before (row_items kind (take r.rows rows)) (rows_no_head kind (take r.rows rows))
+            heads_kept d.heads before (row_items (line_of kind) (take r.rows rows)) (rows_no_head kind (take r.rows rows))
                 a.holds.1.0,
             t.joins.holds.1,
           ),
         );
       };
       stops = t.stops;
+    }
+
+-- a `min` node line that the heads take is taken by the draft
+pub draft_supply : (nodes : ℤ) (d : Draft) (heads : Heads) (row : Row) (r : Result (Unit {0}) ItemFault)
+    → TakesHead nodes d.heads heads (supply_of row) r
+    → TakesRow (draft_of Min) supply_of nodes d (record d { heads = heads }) row r
+draft_supply nodes d heads row r takes before a =
+    let t = takes before a.problem a.problem_is (ap is_companion a.kind_is) a.nodes_are a.holds.1.0 in
+    record {
+      answer = record { fault = t.0; memory = λ out. inr tt };
+      holds =
+          on_ok_weaker r
+          (λ held. (
+            a.holds.0,
+            (held, body_kept d.body before (supply_of row) refl (ap is_some a.holds.0) a.holds.1.1),
+          ))
+          t.1;
     }
 
 -- the next item after what a draft holds
@@ -325,7 +342,7 @@ module _ (d : Draft) (nodes : ℤ) (before : List Line) (i : Line) (r : Result (
       (subst (λ l. TakesHead nodes d.heads heads l r) (sym e) takes)
 
   -- if it is counted, the body takes its row
-  pub draft_row : (b : AnyBody) (row : Row) → ((kind : Kind) → TakesRow (any_body kind) nodes d.body b row r)
+  pub draft_row : (b : AnyBody) (row : Row) → ((kind : Kind) → TakesRow (any_body kind) (line_of kind) nodes d.body b row r)
       → ((kind : Kind) → kind_before i ≡ Some kind → is_counted i ≡ true → line_of kind row ≡ i)
       → is_counted i ≡ true → AnswersItem before i r × OnOk r (DraftHolds (record d { body = b }) (before ++ i ∷ []))
   draft_row b row takes spells counts =

@@ -19,6 +19,7 @@ pub mod NeedItems
 pub mod EndLaws
 pub mod PieceSteps
 pub mod ReaderLaws
+pub mod FrontLaws
 pub mod SizeLaws
 pub mod SourceLaws
 pub mod EntryLaws

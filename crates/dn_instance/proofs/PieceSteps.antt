@@ -8,7 +8,7 @@ use Rattle.dn_line.specs.Pieces.{parts, has_bytes, if_any, lines, is_line_feed}
 use Rattle.dn_line.specs.State.LineStates.{LineSoFar, has_end, used_of, last_of, line_of, is_inner}
 use Rattle.dn_line.proofs.PartsLaws.{Parts, parts_run, parts_end, parts_push}
 use Rattle.dn_line.proofs.LineReaderLaws.{ended_push}
-use Rattle.dn_line.proofs.BeginLaws.{line_ends, line_before, line_used}
+use Rattle.dn_line.proofs.LineEndLaws.{line_ends, line_before, line_used}
 use Rattle.dn_instance.specs.Readers.{ended}
 use Rattle.dn_instance.specs.State.ReaderStates.{open_of}
 use Rattle.dn_instance.specs.State.TextsSoFar.{AreInner, closed_lines}

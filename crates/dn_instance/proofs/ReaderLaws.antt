@@ -172,6 +172,27 @@ next_after ls l number (Faults.Text code) clean n h = n
 next_after ls l number Faults.Memory clean n h =
     ((let m = length-append ls (l ∷ []) in omega arith), subst IsClean (sym (all_of ls l)) (clean_more ls l clean h))
 
+-- the next line is refused, and the reader keeps its refusal
+pub refuses_next : (r : Reader) (ls : List (List ℕ)) (l : List ℕ) (fault : ItemFault) (e : Refusal) → TextAt r.text ls
+    → r.refusal ≡ Some e → e ≡ refused_at (length ls + 1) fault
+    → AnswersFault (Err fault) (line_fault (length ls + 1) (items_of ls) (said_words l))
+    → (fault ≡ Faults.Memory → SpellsNeed (items_of ls) (said_words l)) → Takes r ls l (Err e)
+refuses_next r ls l fault e at is said answer item = (
+  is,
+  subst (IsRefused (length ls) (ls ++ l ∷ [])) (sym said)
+      (refused_next ls l (length ls + 1) fault at.clean refl answer item),
+  record {
+    before = ls;
+    rest = l ∷ [];
+    whole = refl;
+    read = at;
+    next =
+        subst (IsNext (length ls) (ls ++ l ∷ [])) (sym said)
+        (next_after ls l (length ls + 1) fault at.clean refl answer);
+  },
+  at.number_is,
+)
+
 -- the entries of the lines before the refused line
 pub entries_before : (r : Reader) (ls : List (List ℕ)) (e : Refusal) (n : ℕ) → StopsIn r ls e
     → ((before : List (List ℕ)) → TextAt r.text before → n ≡ entries_so_far (items_of before))

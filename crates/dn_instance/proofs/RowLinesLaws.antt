@@ -1,15 +1,16 @@
 -- Lemmas on the lines of rows that are taken one after another.
-use Rattle.std.proofs.Common.{◌≡◌, ◌<◌, ◌+◌, ◌-◌, ◌^◌, ℕ, zero, suc, pos, List, [], ◌∷◌, ◌++◌, length, map, take, Bool, true, false, cond, ◌&&◌, Some, None, Ok, refl, sym, subst, ap, ◌∙◌, arith, append-nil, append_assoc, length-append}
+use Rattle.std.proofs.Common.{◌≡◌, ◌<◌, ◌≤◌, ◌+◌, ◌-◌, ◌^◌, ℕ, zero, suc, pos, List, [], ◌∷◌, ◌++◌, length, map, take, drop, Bool, true, false, cond, ◌&&◌, Option, Some, None, Ok, Err, refl, sym, subst, ap, ◌∙◌, arith, append-nil, append_assoc, length-append}
 use Rattle.std.specs.List.{AllByRecursion, list_any}
 use Rattle.std.specs.Option.{option_map}
-use Rattle.std.proofs.Math.Seq.{take-append_seam}
+use Rattle.std.proofs.Math.Seq.{drop-append_seam, take-append_seam}
+use Rattle.std.proofs.lemmas.List.{length-take-le}
 use Rattle.dn_line.specs.Faults.{first_fault}
 use Rattle.dn_line.specs.LineTable.{row}
 use Rattle.dn_line.specs.Reading.{item}
 use Rattle.dn_line.specs.State.Numbers.{number_word}
 use Rattle.dn_line.specs.State.Reading.{fields_read, head_of, head_read}
 use Rattle.dn_line.specs.State.RowBlocks.{IsRowLine, ReadUpTo, last_left}
-use Rattle.dn_line.specs.State.Rows.{letter_byte, numbers_of}
+use Rattle.dn_line.specs.State.Rows.{FieldsFit, letter_byte, numbers_of}
 use Rattle.dn_line.specs.Words.{first, is_skip, said_words}
 use Rattle.dn_line.specs.declared.code.Code.TheVariants.{LateNode, TooManyLines}
 use Rattle.dn_line.specs.declared.kind.Kind.{Kind}
@@ -24,79 +25,141 @@ use Rattle.dn_line.specs.declared.word.Keyword.{Keyword}
 use Rattle.dn_line.specs.declared.word.Keyword.TheVariants as Key
 use Rattle.dn_line.specs.declared.word.Word.{Word}
 use Rattle.dn_line.proofs.RowLaws.{ReadsAs, row_item}
-use Rattle.dn_instance.specs.Items.{Problem, counted, is_counted, kind_known, problem_of}
-use Rattle.dn_instance.specs.State.RowRuns.{AreFaultless, AreInTime, HasRoom, HasSigns, line_of, row_items}
-use Rattle.dn_instance.specs.State.TextsSoFar.{AreInner, closed_lines, next_read}
+use Rattle.dn_instance.specs.Items.{Problem, counted, kind_known, problem_of}
+use Rattle.dn_instance.specs.State.Bodies.{StopsAt}
+use Rattle.dn_instance.specs.State.ItemFaults.{AnswersFault}
+use Rattle.dn_instance.specs.declared.body.Taken.{Taken}
+use Rattle.dn_instance.specs.declared.refusal.ItemFault.{ItemFault}
+use Rattle.dn_instance.specs.State.RowRuns.{AreFaultless, AreInTime, HasSigns, IsInTime, line_of, row_items, supply_of}
+use Rattle.dn_instance.specs.State.TextsSoFar.{AreInner, ReadsFront, RefusesFront, TextAt, closed_lines, next_read}
 use Rattle.dn_instance.specs.TextFaults.{is_arc, is_counted_letter, is_full, is_node_letter, item_tests, order_tests}
-use Rattle.dn_instance.specs.Texts.{IsClean, items_of}
+use Rattle.dn_instance.specs.Texts.{IsClean, items_of, with_next}
+use Rattle.dn_instance.specs.declared.text_so_far.TextSoFar.{TextSoFar}
 use Rattle.dn_instance.proofs.CleanItems.{items_push}
 use Rattle.dn_instance.proofs.FirstFaults.{fault_after}
 use Rattle.dn_instance.proofs.FollowLaws.{follows_as, same_fault, adds_it}
 use Rattle.dn_instance.proofs.LineSteps.{clean_more, fault_is_next, in_time}
 use Rattle.dn_instance.proofs.NextLaws.{head_skips, then_fields}
-use Rattle.dn_instance.proofs.RowRunLaws.{one_counted, problem_all}
+use Rattle.dn_instance.proofs.RowRunLaws.{in_time_split, problem_all}
 
--- the letter is that of counted lines
-record IsCounted (key : Keyword) : Type 0 where
-  counted : is_counted_letter (Some key) ≡ true
-  other : is_node_letter (Some key) ≡ false
+-- a line of this letter has no fault because of the lines before it
+record IsPlaced (key : Keyword) (before : List Line) : Type 0 where
+  early : (is_node_letter (Some key) && list_any is_arc before) ≡ false
+  room : (is_counted_letter (Some key) && is_full (problem_of before) (counted before)) ≡ false
 
--- the letter is that of counted lines, and the numbers of a row make the item of such a line
-abbrev Counts : Kind → Keyword → Row → List Field → Type 0
-Counts kind key r fields =
-    IsCounted key × (item kind key (map number_word (numbers_of (length fields) r)) ≡ line_of kind r)
+-- lines of this letter are not skipped, and come in time if this item does
+record IsLetterOf (key : Keyword) (i : Line) : Type 0 where
+  some : head_of (Some key) None ≡ Heads.Skip → ⊥
+  placed : (before : List Line) → IsInTime before i → IsPlaced key before
+
+-- the letter is that of the item, and the numbers of a row make the item
+abbrev Makes : Kind → Keyword → Line → Row → List Field → Type 0
+Makes kind key i r fields = IsLetterOf key i × (item kind key (map number_word (numbers_of (length fields) r)) ≡ i)
 
 field_list : {a b : List Field} → Some a ≡ Some b → a ≡ b
 field_list e = cc
 
--- a line of the table is counted, unless its letter is `n`
-by_table : (kind : Kind) (key : Keyword) (r : Row) (fields : List Field) → row kind key ≡ Some fields
-    → (key ≡ Key.N → ⊥) → Counts kind key r fields
-by_table Min Key.N r fields h n = absurd (n refl)
-by_table Max Key.N r fields h n = absurd (n refl)
-by_table Min Key.A r fields h n =
-    subst (Counts Min Key.A r) (field_list h) (record { counted = refl; other = refl }, refl)
-by_table Max Key.A r fields h n =
-    subst (Counts Max Key.A r) (field_list h) (record { counted = refl; other = refl }, refl)
-by_table Sp Key.A r fields h n =
-    subst (Counts Sp Key.A r) (field_list h) (record { counted = refl; other = refl }, refl)
-by_table Ss Key.S r fields h n =
-    subst (Counts Ss Key.S r) (field_list h) (record { counted = refl; other = refl }, refl)
-by_table P2p Key.Q r fields h n =
-    subst (Counts P2p Key.Q r) (field_list h) (record { counted = refl; other = refl }, refl)
-by_table Co Key.V r fields h n =
-    subst (Counts Co Key.V r) (field_list h) (record { counted = refl; other = refl }, refl)
-by_table _ _ r fields h n = cc
+counted_letter : (key : Keyword) (i : Line) → is_counted_letter (Some key) ≡ true
+    → ((before : List Line) → IsInTime before i → is_full (problem_of before) (counted before) ≡ false)
+    → IsLetterOf key i
+counted_letter Key.A i h t =
+    record { some = λ e. cc; placed = λ before e. record { early = refl; room = t before e } }
+counted_letter Key.S i h t =
+    record { some = λ e. cc; placed = λ before e. record { early = refl; room = t before e } }
+counted_letter Key.Q i h t =
+    record { some = λ e. cc; placed = λ before e. record { early = refl; room = t before e } }
+counted_letter Key.V i h t =
+    record { some = λ e. cc; placed = λ before e. record { early = refl; room = t before e } }
+counted_letter _ i h t = cc
 
--- the line of a row of a counted letter, which reads as this item
+-- a line of numbers of the table is counted, unless it is a `min` node line
+by_table : (kind : Kind) (key : Keyword) (r : Row) (fields : List Field) → row kind key ≡ Some fields
+    → FieldsFit fields (numbers_of (length fields) r) → (kind ≡ Min → key ≡ Key.N → ⊥)
+    → Makes kind key (line_of kind r) r fields
+by_table Min Key.N r fields h fit n = absurd (n refl refl)
+by_table Max Key.N r fields h fit n =
+    let f = subst (λ fs. FieldsFit fs (numbers_of (length fs) r)) (sym (field_list h)) fit in
+    let never : false ≡ true = f.1.0 in
+    cc
+by_table Min Key.A r fields h fit n =
+    subst (Makes Min Key.A (line_of Min r) r) (field_list h) (counted_letter Key.A _ refl (λ before t. t), refl)
+by_table Max Key.A r fields h fit n =
+    subst (Makes Max Key.A (line_of Max r) r) (field_list h) (counted_letter Key.A _ refl (λ before t. t), refl)
+by_table Sp Key.A r fields h fit n =
+    subst (Makes Sp Key.A (line_of Sp r) r) (field_list h) (counted_letter Key.A _ refl (λ before t. t), refl)
+by_table Ss Key.S r fields h fit n =
+    subst (Makes Ss Key.S (line_of Ss r) r) (field_list h) (counted_letter Key.S _ refl (λ before t. t), refl)
+by_table P2p Key.Q r fields h fit n =
+    subst (Makes P2p Key.Q (line_of P2p r) r) (field_list h) (counted_letter Key.Q _ refl (λ before t. t), refl)
+by_table Co Key.V r fields h fit n =
+    subst (Makes Co Key.V (line_of Co r) r) (field_list h) (counted_letter Key.V _ refl (λ before t. t), refl)
+by_table _ _ r fields h fit n = cc
+
+-- the line of a row reads as this item, and comes in time if the item does
 record ReadsRow (kind : Kind) (ws : List Word) (i : Line) : Type 0 where
   key : Keyword
-  is : IsCounted key
+  is : IsLetterOf key i
   reads : ReadsAs kind key ws i
 
-reads_row : (kind : Kind) (byte : ℕ) (bytes rest : List ℕ) (r : RowLine) → (byte ≡ 110 → ⊥)
-    → (l : IsRowLine kind byte bytes r rest) → ReadsRow kind (said_words l.begins.line) (line_of kind r.row)
-reads_row kind byte bytes rest r other l =
-    let has = l.in_table in
-    let by = by_table kind has.key r.row l.fields has.row_is (λ n. other (is_n has.key n has.byte_is)) in
-    record {
-      key = has.key;
-      is = by.0;
-      reads =
-          subst (ReadsAs kind has.key (said_words l.begins.line)) by.1
-          (row_item kind byte l.fields bytes rest r.row has l.begins);
-    }
+-- in a text of this kind, lines of rows that begin with this byte read as these items
+pub record SpellsRows (kind : Kind) (byte : ℕ) (line : Row → Line) : Type 0 where
+  reads : (bytes rest : List ℕ) (r : RowLine) → (l : IsRowLine kind byte bytes r rest)
+      → ReadsRow kind (said_words l.begins.line) (line r.row)
+  first : (r : Row) → IsInTime (Graph kind (pos 0) (pos 1) ∷ []) (line r)
+
+made : (kind : Kind) (byte : ℕ) (bytes rest : List ℕ) (r : RowLine) (i : Line) → (l : IsRowLine kind byte bytes r rest)
+    → Makes kind l.in_table.key i r.row l.fields → ReadsRow kind (said_words l.begins.line) i
+made kind byte bytes rest r i l m = record {
+  key = l.in_table.key;
+  is = m.0;
+  reads =
+      subst (ReadsAs kind l.in_table.key (said_words l.begins.line)) m.1
+      (row_item kind byte l.fields bytes rest r.row l.in_table l.begins);
+}
+
+pub counted_rows : (kind : Kind) (byte : ℕ) → (kind ≡ Min → byte ≡ 110 → ⊥) → SpellsRows kind byte (line_of kind)
+counted_rows kind byte other = record {
+  reads = λ bytes rest r l. made kind byte bytes rest r (line_of kind r.row) l
+      (by_table kind l.in_table.key r.row l.fields l.in_table.row_is l.begins.fit
+      (λ min n. other min (is_n l.in_table.key n l.in_table.byte_is)));
+  first = early kind;
+}
   where
     is_n : (key : Keyword) → key ≡ Key.N → letter_byte key ≡ Some byte → byte ≡ 110
     is_n key n e = let same : Some 110 ≡ Some byte = subst (λ k. letter_byte k ≡ Some byte) n e in cc
 
--- a line of a counted letter is not skipped
-no_skip : (key : Keyword) → IsCounted key → head_of (Some key) None ≡ Heads.Skip → ⊥
-no_skip Key.A c h = cc
-no_skip Key.S c h = cc
-no_skip Key.Q c h = cc
-no_skip Key.V c h = cc
-no_skip _ c h = let never = c.counted in cc
+    early : (kind : Kind) (r : Row) → IsInTime (Graph kind (pos 0) (pos 1) ∷ []) (line_of kind r)
+    early Min r = refl
+    early Max r = refl
+    early Sp r = refl
+    early Ss r = refl
+    early P2p r = refl
+    early Co r = refl
+
+pub supply_rows : (byte : ℕ) → byte ≡ 110 → SpellsRows Min byte supply_of
+supply_rows byte e = record {
+  reads = λ bytes rest r l. made Min byte bytes rest r (supply_of r.row) l
+      (of_n l.in_table.key (only_n l.in_table.key (l.in_table.byte_is ∙ ap Some e)) l.fields l.in_table.row_is r.row);
+  first = λ r. refl;
+}
+  where
+    byte_is : {a b : ℕ} → Some a ≡ Some b → a ≡ b
+    byte_is e = cc
+
+    only_n : (key : Keyword) → letter_byte key ≡ Some 110 → key ≡ Key.N
+    only_n Key.N h = refl
+    only_n Key.A h = absurd (let e : 97 ≡ 110 = byte_is h in omega arith)
+    only_n Key.S h = absurd (let e : 115 ≡ 110 = byte_is h in omega arith)
+    only_n Key.Q h = absurd (let e : 113 ≡ 110 = byte_is h in omega arith)
+    only_n Key.V h = absurd (let e : 118 ≡ 110 = byte_is h in omega arith)
+    only_n _ h = cc
+
+    of_n : (key : Keyword) → key ≡ Key.N → (fields : List Field) → row Min key ≡ Some fields → (r : Row)
+        → Makes Min key (supply_of r) r fields
+    of_n key n fields h r =
+        subst (λ k. Makes Min k (supply_of r) r fields) (sym n)
+        (subst (Makes Min Key.N (supply_of r) r) (field_list (subst (λ k. row Min k ≡ Some fields) n h))
+        (record { some = λ e. cc; placed = λ before e. record { early = e; room = refl } }, refl))
 
 module _ (kind : Kind) (before : List Line) (p : Problem) (problem : problem_of before ≡ Some p) (is : p.kind ≡ kind)
     (ws : List Word) (i : Line) (r : ReadsRow kind ws i) where
@@ -107,132 +170,184 @@ module _ (kind : Kind) (before : List Line) (p : Problem) (problem : problem_of 
   counts = by_skip (is_skip ws) refl
     where
       by_skip : (b : Bool) → is_skip ws ≡ b → is_skip ws ≡ false
-      by_skip true e = absurd (no_skip r.key r.is (head_skips (Some kind) ws _ e r.reads.head))
+      by_skip true e = absurd (r.is.some (head_skips (Some kind) ws _ e r.reads.head))
       by_skip false e = e
 
-  -- the line has no fault because of the lines before it, if they are not as many counted lines as declared
-  in_order : is_full (problem_of before) (counted before) ≡ false → first_fault (order_tests before ws) ≡ None
-  in_order room =
-      by_letter (is_node_letter (first ws)) (is_counted_letter (first ws))
-      (is_full (problem_of before) (counted before)) (ap is_node_letter r.reads.letter ∙ r.is.other) room
+  in_order : IsInTime before i → first_fault (order_tests before ws) ≡ None
+  in_order t =
+      let p = r.is.placed before t in
+      neither _ _ (ap (λ o. is_node_letter o && list_any is_arc before) r.reads.letter ∙ p.early)
+      (ap (λ o. is_counted_letter o && is_full (problem_of before) (counted before)) r.reads.letter ∙ p.room)
     where
-      by_letter : (a b c : Bool) → a ≡ false → c ≡ false
-          → cond (a && list_any is_arc before) (Some LateNode) (cond (b && c) (Some TooManyLines) None) ≡ None
-      by_letter false true false e f = refl
-      by_letter false false false e f = refl
-      by_letter true b c e f = cc
-      by_letter false b true e f = cc
+      neither : (a b : Bool) → a ≡ false → b ≡ false → cond a (Some LateNode) (cond b (Some TooManyLines) None) ≡ None
+      neither a b e f = rw (e, f) refl
 
-  reads_item : is_full (problem_of before) (counted before) ≡ false → next_read before ws ≡ Ok i
-  reads_item room =
+  reads_item : IsInTime before i → next_read before ws ≡ Ok i
+  reads_item t =
       sym (then_fields before ws _ (ap (λ k. head_read k ws) known ∙ r.reads.head)
-      (ap (λ b. cond b None (first_fault (order_tests before ws))) counts ∙ in_order room))
+      (ap (λ b. cond b None (first_fault (order_tests before ws))) counts ∙ in_order t))
       ∙ ap (λ k. fields_read k ws) known ∙ r.reads.fields
 
--- LOW and CAP of an item that the line of a row spells are at least 0
-line_signs : (kind : Kind) (ws : List Word) (i : Line) → ReadsRow kind ws i → HasSigns i
-line_signs kind ws i r =
-    let before : List Line = Graph kind (pos 0) (pos 1) ∷ [] in
-    let p : Problem = record { kind = kind; nodes = pos 0; count = pos 1 } in
-    (follows_as before ws (counts kind before p refl refl ws i r) i
-    (reads_item kind before p refl refl ws i r refl)).may.signs
-
-pub run_signs : (kind : Kind) (byte : ℕ) (rows : List RowLine) (bytes rest : List ℕ) → (byte ≡ 110 → ⊥)
-    → ReadUpTo kind byte bytes rows rest → AllByRecursion HasSigns (row_items kind rows)
-run_signs kind byte [] bytes rest other u = tt
-run_signs kind byte (r ∷ rows) bytes rest other u = (
-  line_signs kind _ (line_of kind r.row) (reads_row kind byte bytes u.0 r other u.1),
-  run_signs kind byte rows u.0 rest other u.2,
-)
-
 -- the bytes begin with the lines of these rows, and these lines have no fault after the earlier lines
-pub record RunOn (kind : Kind) (bytes rest : List ℕ) (ls : List (List ℕ)) (rows : List RowLine) : Type 0 where
+pub record RunOn (line : Row → Line) (bytes rest : List ℕ) (ls : List (List ℕ)) (rows : List RowLine) : Type 0 where
   pub more : List (List ℕ)
   pub whole : closed_lines more ++ rest ≡ bytes
   pub inner : AreInner more
   pub clean : IsClean (ls ++ more)
-  pub items : items_of (ls ++ more) ≡ items_of ls ++ row_items kind rows
+  pub items : items_of (ls ++ more) ≡ items_of ls ++ row_items line rows
   pub number : length (ls ++ more) ≡ length ls + length rows
 
--- the line of a row has no fault after the earlier lines, and adds the item
-record OneOn (kind : Kind) (ls : List (List ℕ)) (l : List ℕ) (i : Line) : Type 0 where
-  clean : IsClean (ls ++ l ∷ [])
-  items : items_of (ls ++ l ∷ []) ≡ items_of ls ++ i ∷ []
+module _ (kind : Kind) (byte : ℕ) (line : Row → Line) (rows_spell : SpellsRows kind byte line) where
+  -- LOW and CAP of an item that the line of a row spells are at least 0
+  line_signs : (ws : List Word) (r : Row) → ReadsRow kind ws (line r) → HasSigns (line r)
+  line_signs ws r reads =
+      let before : List Line = Graph kind (pos 0) (pos 1) ∷ [] in
+      let p : Problem = record { kind = kind; nodes = pos 0; count = pos 1 } in
+      (follows_as before ws (counts kind before p refl refl ws (line r) reads) (line r)
+      (reads_item kind before p refl refl ws (line r) reads (rows_spell.first r))).may.signs
 
-one_on : (kind : Kind) (ls : List (List ℕ)) (l : List ℕ) (i : Line) (p : Problem) → IsClean ls
-    → problem_of (items_of ls) ≡ Some p → p.kind ≡ kind → ReadsRow kind (said_words l) i
-    → is_counted i ≡ true → first_fault (item_tests (items_of ls) (Some i)) ≡ None
-    → HasRoom (items_of ls) i → length ls < 2 ^ 63 - 2 → OneOn kind ls l i
-one_on kind ls l i p clean problem is r counted_is none room few =
-    let before = items_of ls in
-    let ws = said_words l in
-    let counts_here = counts kind before p problem is ws i r in
-    let f = follows_as before ws counts_here i (reads_item kind before p problem is ws i r (room counted_is)) in
-    let fault : fault_after ls l ≡ None =
-    fault_is_next (length ls + 1) before ws (in_time (length ls) (length ls) refl few)
-    ∙ (same_fault before ws i counts_here f ∙ none) in
-    record {
-      clean = clean_more ls l clean fault;
-      items = items_push ls l ∙ adds_it before ws i counts_here f;
-    }
+  pub run_signs : (rows : List RowLine) (bytes rest : List ℕ) → ReadUpTo kind byte bytes rows rest
+      → AllByRecursion HasSigns (row_items line rows)
+  run_signs [] bytes rest u = tt
+  run_signs (r ∷ rows) bytes rest u = (
+    line_signs _ r.row (rows_spell.reads bytes u.0 r u.1),
+    run_signs rows u.0 rest u.2,
+  )
 
-pub run_on : (kind : Kind) (byte : ℕ) (rows : List RowLine) (bytes rest : List ℕ) (ls : List (List ℕ)) (p : Problem)
-    → (byte ≡ 110 → ⊥) → ReadUpTo kind byte bytes rows rest → IsClean ls
-    → problem_of (items_of ls) ≡ Some p → p.kind ≡ kind → AreFaultless (items_of ls) (row_items kind rows)
-    → AreInTime (items_of ls) (row_items kind rows) → length ls + length rows < 2 ^ 63 - 1
-    → RunOn kind bytes rest ls rows
-run_on kind byte [] bytes rest ls p other u clean problem is f t few = record {
-  more = [];
-  whole = sym u;
-  inner = tt;
-  clean = subst IsClean (sym (append-nil ls)) clean;
-  items = ap items_of (append-nil ls) ∙ sym (append-nil (items_of ls));
-  number = ap length (append-nil ls) ∙ (omega arith);
-}
-run_on kind byte (r ∷ rows) bytes rest ls p other u clean problem is f t few =
-    let b = u.1.begins in
-    let l = b.line in
-    let i = line_of kind r.row in
-    let one =
-    one_on kind ls l i p clean problem is (reads_row kind byte bytes u.0 r other u.1) (one_counted kind r) f.0 t.0
-    (omega arith) in
-    let long : length (ls ++ l ∷ []) ≡ length ls + 1 = length-append ls (l ∷ []) in
-    let more =
-    run_on kind byte rows u.0 rest (ls ++ l ∷ []) p other u.2 one.clean
-    (ap problem_of one.items ∙ problem_all (items_of ls) (i ∷ []) p problem) is
-    (subst (λ x. AreFaultless x (row_items kind rows)) (sym one.items) f.1)
-    (subst (λ x. AreInTime x (row_items kind rows)) (sym one.items) t.1)
-    (omega arith)
-    in
-    let joined : (ls ++ l ∷ []) ++ more.more ≡ ls ++ l ∷ more.more = append_assoc ls (l ∷ []) more.more in
-    record {
-      more = l ∷ more.more;
-      whole =
-          append_assoc (l ++ 10 ∷ []) (closed_lines more.more) rest
-          ∙ append_assoc l (10 ∷ []) (closed_lines more.more ++ rest) ∙ ap (λ x. l ++ 10 ∷ x) more.whole ∙ b.whole;
-      inner = (b.inner, more.inner);
-      clean = subst IsClean joined more.clean;
-      items =
-          ap items_of (sym joined) ∙ more.items ∙ ap (λ x. x ++ row_items kind rows) one.items
-          ∙ append_assoc (items_of ls) (i ∷ []) (row_items kind rows);
-      number = ap length (sym joined) ∙ more.number ∙ (omega arith);
-    }
+  -- the line of a row has the faults of its item after the earlier lines, and adds the item
+  record OneOn (ls : List (List ℕ)) (l : List ℕ) (i : Line) : Type 0 where
+    faults : fault_after ls l ≡ first_fault (item_tests (items_of ls) (Some i))
+    adds : with_next (items_of ls) (said_words l) ≡ items_of ls ++ i ∷ []
 
--- the first m of these lines
-pub run_front : (kind : Kind) (byte : ℕ) (rows : List RowLine) (m : ℕ) (bytes rest : List ℕ)
-    → ReadUpTo kind byte bytes rows rest
-    → (next : List ℕ) × ReadUpTo kind byte bytes (take m rows) next
-    × (length next ≡ last_left (length bytes) (take m rows))
-run_front kind byte [] zero bytes rest u = (bytes, refl, refl)
-run_front kind byte [] (suc m) bytes rest u = (bytes, refl, refl)
-run_front kind byte (r ∷ rows) zero bytes rest u = (bytes, refl, refl)
-run_front kind byte (r ∷ rows) (suc m) bytes rest u =
-    let q = run_front kind byte rows m u.0 rest u.2 in
-    (q.0, (u.0, u.1, q.1), subst (λ n. length q.0 ≡ last_left n (take m rows)) (sym u.1.left) q.2)
+  one_on : (ls : List (List ℕ)) (l : List ℕ) (i : Line) (p : Problem) → problem_of (items_of ls) ≡ Some p → p.kind ≡ kind
+      → ReadsRow kind (said_words l) i → IsInTime (items_of ls) i → length ls < 2 ^ 63 - 2 → OneOn ls l i
+  one_on ls l i p problem is r t few =
+      let before = items_of ls in
+      let ws = said_words l in
+      let counts_here = counts kind before p problem is ws i r in
+      let f = follows_as before ws counts_here i (reads_item kind before p problem is ws i r t) in
+      record {
+        faults =
+            fault_is_next (length ls + 1) before ws (in_time (length ls) (length ls) refl few)
+            ∙ same_fault before ws i counts_here f;
+        adds = adds_it before ws i counts_here f;
+      }
 
--- the bytes before the rest
-pub front_of : (a b c : List ℕ) → a ++ b ≡ c → take (length c - length b) c ≡ a
-front_of a b c e =
+  pub run_on : (rows : List RowLine) (bytes rest : List ℕ) (ls : List (List ℕ)) (p : Problem)
+      → ReadUpTo kind byte bytes rows rest → IsClean ls → problem_of (items_of ls) ≡ Some p → p.kind ≡ kind
+      → AreFaultless (items_of ls) (row_items line rows) → AreInTime (items_of ls) (row_items line rows)
+      → length ls + length rows < 2 ^ 63 - 1 → RunOn line bytes rest ls rows
+  run_on [] bytes rest ls p u clean problem is f t few = record {
+    more = [];
+    whole = sym u;
+    inner = tt;
+    clean = subst IsClean (sym (append-nil ls)) clean;
+    items = ap items_of (append-nil ls) ∙ sym (append-nil (items_of ls));
+    number = ap length (append-nil ls) ∙ (omega arith);
+  }
+  run_on (r ∷ rows) bytes rest ls p u clean problem is f t few =
+      let b = u.1.begins in
+      let l = b.line in
+      let i = line r.row in
+      let one = one_on ls l i p problem is (rows_spell.reads bytes u.0 r u.1) t.0 (omega arith) in
+      let items = items_push ls l ∙ one.adds in
+      let long : length (ls ++ l ∷ []) ≡ length ls + 1 = length-append ls (l ∷ []) in
+      let more =
+      run_on rows u.0 rest (ls ++ l ∷ []) p u.2 (clean_more ls l clean (one.faults ∙ f.0))
+      (ap problem_of items ∙ problem_all (items_of ls) (i ∷ []) p problem) is
+      (subst (λ x. AreFaultless x (row_items line rows)) (sym items) f.1)
+      (subst (λ x. AreInTime x (row_items line rows)) (sym items) t.1)
+      (omega arith)
+      in
+      let joined : (ls ++ l ∷ []) ++ more.more ≡ ls ++ l ∷ more.more = append_assoc ls (l ∷ []) more.more in
+      record {
+        more = l ∷ more.more;
+        whole =
+            append_assoc (l ++ 10 ∷ []) (closed_lines more.more) rest
+            ∙ append_assoc l (10 ∷ []) (closed_lines more.more ++ rest) ∙ ap (λ x. l ++ 10 ∷ x) more.whole ∙ b.whole;
+        inner = (b.inner, more.inner);
+        clean = subst IsClean joined more.clean;
+        items =
+            ap items_of (sym joined) ∙ more.items ∙ ap (λ x. x ++ row_items line rows) items
+            ∙ append_assoc (items_of ls) (i ∷ []) (row_items line rows);
+        number = ap length (sym joined) ∙ more.number ∙ (omega arith);
+      }
+
+  -- the line of the row at which the rows stop has the fault
+  refuses : (left : List RowLine) (bytes rest : List ℕ) (ls : List (List ℕ)) (p : Problem) (fault : Option ItemFault)
+      → ReadUpTo kind byte bytes left rest → problem_of (items_of ls) ≡ Some p → p.kind ≡ kind
+      → AreInTime (items_of ls) (row_items line left) → StopsAt line (items_of ls) left fault
+      → length ls < 2 ^ 63 - 2 → RefusesFront ls bytes fault
+  refuses left bytes rest ls p None u problem is t s few = tt
+  refuses [] bytes rest ls p (Some fault) u problem is t s few = absurd s
+  refuses (r ∷ left) bytes rest ls p (Some fault) u problem is t s few =
+      let b = u.1.begins in
+      let one = one_on ls b.line (line r.row) p problem is (rows_spell.reads bytes u.0 r u.1) t.0 few in
+      record {
+        line = b.line;
+        rest = u.0;
+        whole = b.whole;
+        inner = b.inner;
+        answer = subst (AnswersFault (Err fault)) (sym one.faults) s.fault;
+        needs = λ e. record { item = line r.row; spelled = one.adds; needs = s.memory (ap Err e) };
+      }
+
+  -- the lines of the rows that were taken, and the fault of the next line
+  pub record FrontOn (bytes : List ℕ) (ls : List (List ℕ)) (rows : List RowLine) (t : Taken) : Type 0 where
+    pub next : List ℕ
+    pub left : length next ≡ last_left (length bytes) (take t.rows rows)
+    pub run : RunOn line bytes next ls (take t.rows rows)
+    pub stops : RefusesFront (ls ++ run.more) next t.fault
+
+  pub front_on : (rows : List RowLine) (t : Taken) (bytes rest : List ℕ) (ls : List (List ℕ)) (p : Problem)
+      → ReadUpTo kind byte bytes rows rest → IsClean ls → problem_of (items_of ls) ≡ Some p → p.kind ≡ kind
+      → AreFaultless (items_of ls) (row_items line (take t.rows rows)) → AreInTime (items_of ls) (row_items line rows)
+      → StopsAt line (items_of ls ++ row_items line (take t.rows rows)) (drop t.rows rows) t.fault
+      → t.rows ≤ length rows → length ls + length rows < 2 ^ 63 - 2 → FrontOn bytes ls rows t
+  front_on rows t bytes rest ls p u clean problem is f early s within few =
+      let taken = take t.rows rows in
+      let front = split_at rows t.rows bytes rest u in
+      let times = in_time_split line rows t.rows (items_of ls) early in
+      let long : length taken ≡ t.rows = length-take-le t.rows rows within in
+      let on = run_on taken bytes front.0 ls p front.1 clean problem is f times.0 (omega arith) in
+      record {
+        next = front.0;
+        left = front.2;
+        run = on;
+        stops =
+            refuses (drop t.rows rows) front.0 rest (ls ++ on.more) p t.fault front.3
+            (ap problem_of on.items ∙ problem_all (items_of ls) (row_items line taken) p problem) is
+            (subst (λ x. AreInTime x (row_items line (drop t.rows rows))) (sym on.items) times.1)
+            (subst (λ x. StopsAt line x (drop t.rows rows) t.fault) (sym on.items) s)
+            (let n = on.number in omega arith);
+      }
+    where
+      -- the first m of these lines, and those after them
+      split_at : (rows : List RowLine) (m : ℕ) (bytes rest : List ℕ) → ReadUpTo kind byte bytes rows rest
+          → (next : List ℕ) × ReadUpTo kind byte bytes (take m rows) next
+          × (length next ≡ last_left (length bytes) (take m rows)) × ReadUpTo kind byte next (drop m rows) rest
+      split_at [] zero bytes rest u = (bytes, refl, refl, u)
+      split_at [] (suc m) bytes rest u = (bytes, refl, refl, u)
+      split_at (r ∷ rows) zero bytes rest u = (bytes, refl, refl, u)
+      split_at (r ∷ rows) (suc m) bytes rest u =
+          let q = split_at rows m u.0 rest u.2 in
+          (q.0, (u.0, u.1, q.1), subst (λ n. length q.0 ≡ last_left n (take m rows)) (sym u.1.left) q.2, q.3)
+
+-- the bytes before the rest, and the rest
+pub before_front : (a b c : List ℕ) → a ++ b ≡ c → take (length c - length b) c ≡ a
+before_front a b c e =
     ap (λ x. take (length x - length b) x) (sym e)
     ∙ ap (λ n. take n (a ++ b)) (let n = length-append a b in omega arith)
     ∙ take-append_seam a b
+
+pub after_front : (a b c : List ℕ) → a ++ b ≡ c → drop (length c - length b) c ≡ b
+after_front a b c e =
+    ap (λ x. drop (length x - length b) x) (sym e)
+    ∙ ap (λ n. drop n (a ++ b)) (let n = length-append a b in omega arith)
+    ∙ drop-append_seam a b
+
+-- no line has been taken
+pub none_read : (t : TextSoFar) (ls : List (List ℕ)) (bytes : List ℕ) → TextAt t ls
+    → ReadsFront t ls bytes (record { used = 0; fault = None })
+none_read t ls bytes at =
+    record { more = []; whole = refl; inner = tt; read = subst (TextAt t) (sym (append-nil ls)) at; stops = tt }

@@ -1,9 +1,9 @@
 -- Lemmas on rows that are taken one after another.
-use Rattle.std.proofs.Common.{◌≡◌, ◌<◌, ◌≤◌, ◌+◌, ◌-◌, ◌^◌, ◌+ℤ◌, ◌-ℤ◌, negsuc, FitsSigned, w64, ℕ, zero, suc, ℤ, pos, ◌≤ℤ◌, ◌<ℤ◌, List, [], ◌∷◌, ◌++◌, length, take, get_or, filter, true, false, cond, not, ◌||◌, int_lt, Option, Some, None, refl, sym, subst, ap, ◌∙◌, arith, append-nil, append_assoc, length-append}
+use Rattle.std.proofs.Common.{◌≡◌, ◌<◌, ◌≤◌, ◌+◌, ◌-◌, ◌^◌, ◌+ℤ◌, ◌-ℤ◌, negsuc, FitsSigned, w64, ℕ, zero, suc, ℤ, pos, ◌≤ℤ◌, ◌<ℤ◌, List, [], ◌∷◌, ◌++◌, length, take, drop, get_or, filter, true, false, cond, not, ◌||◌, int_lt, Option, Some, None, refl, sym, subst, ap, ◌∙◌, arith, append-nil, append_assoc, length-append}
 use Rattle.std.specs.Prelude.{MatchOption}
 use Rattle.std.specs.List.{AllByRecursion, list_any}
 use Rattle.std.specs.Option.{option_map, option_or}
-use Rattle.std.proofs.Math.Bool.{or-true}
+use Rattle.std.proofs.Math.Bool.{or-false, or-true}
 use Rattle.std.specs.Int.{saturate_signed}
 use Rattle.std.proofs.Math.Nat.{min-eq_left}
 use Rattle.std.proofs.Math.Seq.{take-suc}
@@ -17,8 +17,9 @@ use Rattle.dn_line.specs.Faults.{first_fault}
 use Rattle.dn_line.specs.declared.kind.Kind.{Kind}
 use Rattle.dn_line.specs.declared.kind.Kind.TheVariants.{Min, Max, Sp, Ss, P2p, Co}
 use Rattle.dn_line.specs.declared.line.Line.{Line}
+use Rattle.dn_line.specs.declared.row.Row.{Row}
 use Rattle.dn_line.specs.declared.row_block.RowLine.{RowLine}
-use Rattle.dn_instance.specs.State.RowRuns.{AreFaultless, AreInTime, HasSigns, Joins, line_of, row_items}
+use Rattle.dn_instance.specs.State.RowRuns.{AreFaultless, AreInTime, HasSigns, IsInTime, Joins, line_of, row_items, supply_of}
 use Rattle.dn_instance.specs.State.Drafts.{DraftHolds, draft_kind, is_graph}
 use Rattle.dn_instance.specs.Items.{Problem, counted, is_counted, problem_in, problem_of}
 use Rattle.dn_instance.specs.State.TextsSoFar.{HasRead, problem_as}
@@ -59,20 +60,20 @@ problem_all (x ∷ before) items p h =
     or_kept (problem_in x) (problem_of before) (problem_of (before ++ items)) p h (problem_all before items p)
 
 -- the items of the first rows and of the next row
-pub items_next : (kind : Kind) (rows : List RowLine) (i : ℕ) (d : RowLine) → i < length rows
-    → row_items kind (take (i + 1) rows) ≡ row_items kind (take i rows) ++ line_of kind (get_or rows i d).row ∷ []
-items_next kind rows i d h =
-    ap (λ n. row_items kind (take n rows)) (one i) ∙ ap (row_items kind) (take-suc rows i d h)
-    ∙ map-append (λ (r : RowLine). line_of kind r.row) (take i rows) (get_or rows i d ∷ [])
+pub items_next : (line : Row → Line) (rows : List RowLine) (i : ℕ) (d : RowLine) → i < length rows
+    → row_items line (take (i + 1) rows) ≡ row_items line (take i rows) ++ line (get_or rows i d).row ∷ []
+items_next line rows i d h =
+    ap (λ n. row_items line (take n rows)) (one i) ∙ ap (row_items line) (take-suc rows i d h)
+    ∙ map-append (λ (r : RowLine). line r.row) (take i rows) (get_or rows i d ∷ [])
   where
     one : (i : ℕ) → i + 1 ≡ suc i
     one i = omega arith
 
-pub sign_at : (kind : Kind) (rows : List RowLine) (i : ℕ) (d : RowLine) → i < length rows
-    → AllByRecursion HasSigns (row_items kind rows) → HasSigns (line_of kind (get_or rows i d).row)
-sign_at kind [] i d h s = absurd (omega arith)
-sign_at kind (r ∷ rows) zero d h s = s.0
-sign_at kind (r ∷ rows) (suc i) d h s = sign_at kind rows i d (omega arith) s.1
+pub sign_at : (line : Row → Line) (rows : List RowLine) (i : ℕ) (d : RowLine) → i < length rows
+    → AllByRecursion HasSigns (row_items line rows) → HasSigns (line (get_or rows i d).row)
+sign_at line [] i d h s = absurd (omega arith)
+sign_at line (r ∷ rows) zero d h s = s.0
+sign_at line (r ∷ rows) (suc i) d h s = sign_at line rows i d (omega arith) s.1
 
 -- the item of a row is counted
 pub one_counted : (kind : Kind) (r : RowLine) → is_counted (line_of kind r.row) ≡ true
@@ -89,26 +90,37 @@ one_arc Max r c = refl
 one_arc Sp r c = refl
 one_arc _ r c = cc
 
-all_counted : (kind : Kind) (rows : List RowLine) → counted (row_items kind rows) ≡ length rows
+all_counted : (kind : Kind) (rows : List RowLine) → counted (row_items (line_of kind) rows) ≡ length rows
 all_counted kind [] = refl
 all_counted kind (r ∷ rows) =
-    let rest = filter is_counted (row_items kind rows) in
+    let rest = filter is_counted (row_items (line_of kind) rows) in
     ap (λ b. length (cond b (line_of kind r.row ∷ rest) rest)) (one_counted kind r) ∙ ap suc (all_counted kind rows)
 
 counted_all : (kind : Kind) (before : List Line) (rows : List RowLine)
-    → counted (before ++ row_items kind rows) ≡ counted before + length rows
+    → counted (before ++ row_items (line_of kind) rows) ≡ counted before + length rows
 counted_all kind before rows =
-    ap length (filter-append is_counted before (row_items kind rows))
-    ∙ length-append (filter is_counted before) (filter is_counted (row_items kind rows))
+    ap length (filter-append is_counted before (row_items (line_of kind) rows))
+    ∙ length-append (filter is_counted before) (filter is_counted (row_items (line_of kind) rows))
     ∙ ap (λ n. counted before + n) (all_counted kind rows)
 
--- rows do not follow as many counted lines as declared, if they are at most as many as are still declared
+-- a counted item comes in time if there are fewer counted lines than declared
+counted_in_time : (kind : Kind) (before : List Line) (r : RowLine)
+    → is_full (problem_of before) (counted before) ≡ false → IsInTime before (line_of kind r.row)
+counted_in_time Min before r h = h
+counted_in_time Max before r h = h
+counted_in_time Sp before r h = h
+counted_in_time Ss before r h = h
+counted_in_time P2p before r h = h
+counted_in_time Co before r h = h
+
+-- rows come in time if they are at most as many as are still declared
 pub come_in_time : (kind : Kind) (rows : List RowLine) (before : List Line) (p : Problem) → problem_of before ≡ Some p
-    → (0 < length rows → pos (counted before + length rows) ≤ℤ p.count) → AreInTime before (row_items kind rows)
+    → (0 < length rows → pos (counted before + length rows) ≤ℤ p.count) → AreInTime before (row_items (line_of kind) rows)
 come_in_time kind [] before p h m = tt
 come_in_time kind (r ∷ rows) before p h m =
     let i = line_of kind r.row in (
-      (λ _. ap (λ o. is_full o (counted before)) h ∙ below (counted before) (length rows) p.count (m (omega arith))),
+      counted_in_time kind before r
+          (ap (λ o. is_full o (counted before)) h ∙ below (counted before) (length rows) p.count (m (omega arith))),
       come_in_time kind rows (before ++ i ∷ []) p (problem_kept before i p h)
           (λ _. subst (λ n. pos (n + length rows) ≤ℤ p.count) (sym (counted_yes before i (one_counted kind r)))
           (subst (λ n. pos n ≤ℤ p.count) (shift (counted before) (length rows)) (m (omega arith)))),
@@ -120,11 +132,37 @@ come_in_time kind (r ∷ rows) before p h m =
     shift : (k n : ℕ) → k + suc n ≡ suc k + n
     shift k n = omega arith
 
+-- `min` node lines come in time before any arc
+pub supplies_in_time : (rows : List RowLine) (before : List Line) → list_any is_arc before ≡ false
+    → AreInTime before (row_items supply_of rows)
+supplies_in_time [] before h = tt
+supplies_in_time (r ∷ rows) before h = (
+  h,
+  supplies_in_time rows (before ++ supply_of r.row ∷ [])
+      (list_any-append is_arc before (supply_of r.row ∷ []) ∙ ap (λ b. b || false) h),
+)
+
+-- the first m of some items come in time, and those after them after these
+pub in_time_split : (line : Row → Line) (rows : List RowLine) (m : ℕ) (before : List Line)
+    → AreInTime before (row_items line rows)
+    → AreInTime before (row_items line (take m rows))
+    × AreInTime (before ++ row_items line (take m rows)) (row_items line (drop m rows))
+in_time_split line [] zero before h = (tt, tt)
+in_time_split line [] (suc m) before h = (tt, tt)
+in_time_split line (r ∷ rows) zero before h =
+    (tt, subst (λ b. AreInTime b (row_items line (r ∷ rows))) (sym (append-nil before)) h)
+in_time_split line (r ∷ rows) (suc m) before h =
+    let s = in_time_split line rows m (before ++ line r.row ∷ []) h.1 in (
+      (h.0, s.0),
+      subst (λ b. AreInTime b (row_items line (drop m rows)))
+          (append_assoc before (line r.row ∷ []) (row_items line (take m rows))) s.1,
+    )
+
 -- more rows have been read
 module _ (t : TextSoFar) (d : Draft) (kind : Kind) (before : List Line) (at : HasRead t before)
     (is : draft_kind t.draft ≡ Some kind) (kept : draft_kind d ≡ draft_kind t.draft) where
   arcs_then : is_graph (draft_kind t.draft) ≡ true → (rows : List RowLine) (n : ℤ)
-      → n ≡ pos (counted before + length rows) → list_any is_arc (before ++ row_items kind rows) ≡ int_lt (pos 0) n
+      → n ≡ pos (counted before + length rows) → list_any is_arc (before ++ row_items (line_of kind) rows) ≡ int_lt (pos 0) n
   arcs_then graph [] n e =
       ap (list_any is_arc) (append-nil before) ∙ at.arcs_are graph
       ∙ ap (int_lt (pos 0)) (at.counted_is ∙ sym (e ∙ ap pos (none (counted before))))
@@ -132,8 +170,8 @@ module _ (t : TextSoFar) (d : Draft) (kind : Kind) (before : List Line) (at : Ha
       none : (k : ℕ) → k + 0 ≡ k
       none k = omega arith
   arcs_then graph (r ∷ rows) n e =
-      list_any-append is_arc before (row_items kind (r ∷ rows))
-      ∙ ap (λ b. list_any is_arc before || (b || list_any is_arc (row_items kind rows)))
+      list_any-append is_arc before (row_items (line_of kind) (r ∷ rows))
+      ∙ ap (λ b. list_any is_arc before || (b || list_any is_arc (row_items (line_of kind) rows)))
       (one_arc kind r (not-true (is_companion kind) (sym (ap is_graph is) ∙ graph)))
       ∙ or-true (list_any is_arc before)
       ∙ sym (ap (int_lt (pos 0)) e ∙ above (counted before) (length rows))
@@ -142,13 +180,13 @@ module _ (t : TextSoFar) (d : Draft) (kind : Kind) (before : List Line) (at : Ha
       above k m = grind (arith, ints, nat_tests)
 
   pub rows_read : (rows : List RowLine) (n : ℤ) → n ≡ pos (counted before + length rows)
-      → counted before + length rows < 2 ^ 63 → DraftHolds d (before ++ row_items kind rows)
-      → HasRead (record t { counted = n; draft = d }) (before ++ row_items kind rows)
+      → counted before + length rows < 2 ^ 63 → DraftHolds d (before ++ row_items (line_of kind) rows)
+      → HasRead (record t { counted = n; draft = d }) (before ++ row_items (line_of kind) rows)
   rows_read rows n e few h =
       let all = counted_all kind before rows in
       record {
         problem_is =
-            problem_all before (row_items kind rows) _ (problem_agrees t before kind at is)
+            problem_all before (row_items (line_of kind) rows) _ (problem_agrees t before kind at is)
             ∙ sym (ap (option_map (problem_as t)) (kept ∙ is));
         count_fits = at.count_fits;
         counted_is = e ∙ ap pos (sym all);
@@ -156,6 +194,39 @@ module _ (t : TextSoFar) (d : Draft) (kind : Kind) (before : List Line) (at : Ha
         arcs_are = λ graph. arcs_then (sym (ap is_graph kept) ∙ graph) rows n e;
         holds = h;
       }
+
+-- rows of `min` node lines have been read
+module _ (t : TextSoFar) (d : Draft) (before : List Line) (at : HasRead t before) (is : draft_kind t.draft ≡ Some Min)
+    (kept : draft_kind d ≡ draft_kind t.draft) where
+  none_counted : (rows : List RowLine) → filter is_counted (row_items supply_of rows) ≡ []
+  none_counted [] = refl
+  none_counted (r ∷ rows) = none_counted rows
+
+  no_arcs : (rows : List RowLine) → list_any is_arc (row_items supply_of rows) ≡ false
+  no_arcs [] = refl
+  no_arcs (r ∷ rows) = no_arcs rows
+
+  same_count : (rows : List RowLine) → counted (before ++ row_items supply_of rows) ≡ counted before
+  same_count rows =
+      ap length
+      (filter-append is_counted before (row_items supply_of rows)
+      ∙ ap (λ l. filter is_counted before ++ l) (none_counted rows) ∙ append-nil (filter is_counted before))
+
+  pub supplies_read : (rows : List RowLine) → DraftHolds d (before ++ row_items supply_of rows)
+      → HasRead (record t { draft = d }) (before ++ row_items supply_of rows)
+  supplies_read rows h = record {
+    problem_is =
+        problem_all before (row_items supply_of rows) _ (problem_agrees t before Min at is)
+        ∙ sym (ap (option_map (problem_as t)) (kept ∙ is));
+    count_fits = at.count_fits;
+    counted_is = at.counted_is ∙ ap pos (sym (same_count rows));
+    counted_few = subst (λ k. k < 2 ^ 63) (sym (same_count rows)) at.counted_few;
+    arcs_are =
+        λ graph. list_any-append is_arc before (row_items supply_of rows)
+        ∙ ap (λ b. list_any is_arc before || b) (no_arcs rows) ∙ or-false (list_any is_arc before)
+        ∙ at.arcs_are (sym (ap is_graph kept) ∙ graph);
+    holds = h;
+  }
 
 -- a number above 0 that is at most a saturated difference is at most the difference
 within : (n : ℕ) (z : ℤ) → 0 < n → pos n ≤ℤ saturate_signed w64 z → pos n ≤ℤ z

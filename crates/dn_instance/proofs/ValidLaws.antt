@@ -28,7 +28,7 @@ use Rattle.dn_arc.proofs.PairLaws.{pair_is, bundle_push}
 use Rattle.dn_instance.proofs.SumLaws.{passes, total_passes, cost_passes}
 use Rattle.dn_instance.proofs.CleanItems.{IsNext, by_items, problem_push, or_none, or_assoc}
 use Rattle.dn_instance.proofs.MapLaws.{each_put, map_put, by_key_push, no_keys}
-use Rattle.dn_line.proofs.PlainLaws.{and_both}
+use Rattle.dn_line.proofs.ClearLaws.{and_both}
 use Rattle.dn_table.proofs.GrownLaws.{none_is}
 use Rattle.dn_bundle.proofs.BundleLaws.{all_end}
 

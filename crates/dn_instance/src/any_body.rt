@@ -4,9 +4,10 @@ ghost use Rattle.dn_line.specs.declared.kind.Kind.{Kind};
 ghost use Rattle.dn_line.specs.declared.line.Line.{Line};
 ghost use Rattle.dn_instance.specs.State.Bodies.{TakesRow, TakesRows};
 ghost use Rattle.dn_instance.specs.State.Drafts.{BodyHolds, any_body, body_kind};
+ghost use Rattle.dn_instance.specs.State.RowRuns.{line_of};
 ghost use Rattle.dn_instance.specs.EntryCount.{entries_by};
 
-use crate::body::{Body, Taken, take_rows};
+use crate::body::{Taken, take_rows};
 use crate::refusal::ItemFault;
 use dn_bundle::{Curve, Least, Total};
 use dn_line::{Kind, Row, RowLine};
@@ -61,7 +62,8 @@ impl AnyBody {
 
     // Takes rows one after another, up to the first that has a fault or for which an allocation fails.
     pub(crate) fn take_rows(&mut self, alloc: Global, nodes: &i64, rows: &[RowLine]) -> Taken
-        ensures taken { (kind : Kind) → TakesRows (any_body kind) nodes.now self.old self.new rows.now result }
+        ensures taken { (kind : Kind)
+            → TakesRows (any_body kind) (line_of kind) nodes.now self.old self.new rows.now result }
         ensures unchanged { result.rows ≡ 0
             → (items : List Line) → BodyHolds self.old items → BodyHolds self.new items }
         ensures within { MatchOption result.fault (result.rows ≤ length rows.now)
@@ -90,7 +92,8 @@ impl AnyBody {
         nodes: &i64,
         row: &Row,
     ) -> Result<(), ItemFault>
-        ensures taken { (kind : Kind) → TakesRow (any_body kind) nodes.now self.old self.new row.now result }
+        ensures taken { (kind : Kind)
+            → TakesRow (any_body kind) (line_of kind) nodes.now self.old self.new row.now result }
         ensures unchanged { OnErr result ((items : List Line) → BodyHolds self.old items → BodyHolds self.new items) }
         ensures kept { body_kind self.new ≡ body_kind self.old }
     {
@@ -108,12 +111,12 @@ impl AnyBody {
     {
         match self {
             AnyBody::Empty => 0,
-            AnyBody::Min(table) => Body::entries(table),
-            AnyBody::Max(table) => Body::entries(table),
-            AnyBody::Sp(table) => Body::entries(table),
-            AnyBody::Ss(ids) => Body::entries(ids),
-            AnyBody::P2p(pairs) => Body::entries(pairs),
-            AnyBody::Co(points) => Body::entries(points),
+            AnyBody::Min(table) => table.entries(),
+            AnyBody::Max(table) => table.entries(),
+            AnyBody::Sp(table) => table.entries(),
+            AnyBody::Ss(ids) => ids.len() as u64,
+            AnyBody::P2p(pairs) => pairs.len() as u64,
+            AnyBody::Co(points) => points.len() as u64,
         }
     }
 }

@@ -1,9 +1,12 @@
 // Takes the rows of one kind of text as they arrive.
-ghost use Rattle.std.specs.Prelude.{◌≡◌, ◌<◌, ◌≤◌, ℤ, Option, OnErr, MatchOption, length, refl};
+ghost use Rattle.std.specs.Prelude.{◌≡◌, ◌<◌, ◌≤◌, ℤ, Option, OnErr, MatchOption, length};
 ghost use Rattle.dn_line.specs.declared.kind.Kind.{Kind};
+ghost use Rattle.dn_line.specs.declared.kind.Kind.TheVariants.{Co, P2p, Ss};
 ghost use Rattle.dn_line.specs.declared.line.Line.{Line};
+ghost use Rattle.dn_line.specs.declared.row.Row.{Row};
 ghost use Rattle.dn_instance.specs.Items.{length_arc_in, cap_arc_in, cost_arc_in};
-ghost use Rattle.dn_instance.specs.State.Bodies.{BodyFacts, Counts, CountsArcs, IsArcOfRow, Keeps, TakesRow, TakesRows, ids_body, pairs_body, points_body, table_body};
+ghost use Rattle.dn_instance.specs.State.RowRuns.{line_of};
+ghost use Rattle.dn_instance.specs.State.Bodies.{IsArcOfRow, Keeps, TakerFacts, TakesRow, TakesRows, ids_body, pairs_body, points_body, table_body};
 
 use crate::ahead;
 use crate::arcs::take_arc;
@@ -15,24 +18,23 @@ use dn_table::TableSoFar;
 use std::alloc::Global;
 use std::collections::BTreeMap;
 
-// What the counted lines so far make, in a text of one kind.
-pub(crate) trait Body: Sized {
-    // What the body specifies about itself: its kind of text, and what it holds of items.
-    ghost body: { BodyFacts Self };
+// What takes the rows of lines of one letter as they arrive.
+pub(crate) trait RowTaker: Sized {
+    // What the taker specifies about itself: its kind of text, and what it holds of items.
+    ghost taker: { TakerFacts Self };
+
+    // The item of a row.
+    ghost line: { Row → Line };
 
     // Takes the row of the next line, or returns the fault of its item.
     fn take(&mut self, alloc: Global, nodes: &i64, row: &Row) -> Result<(), ItemFault>
-        ensures taken { TakesRow body nodes.now self.old self.new row.now result }
-        ensures unchanged { OnErr result (Keeps body self.old self.new) };
+        ensures taken { TakesRow taker line nodes.now self.old self.new row.now result }
+        ensures unchanged { OnErr result (Keeps taker self.old self.new) };
 
     // Looks ahead at the next rows, if that saves time. This affects only the speed.
     fn look_ahead(&mut self, _alloc: Global, _rows: &[RowLine])
         ensures { self.new ≡ self.old }
     {}
-
-    // Returns how many entries the items so far make, if this is below 2^64.
-    fn entries(&self) -> u64
-        ensures { Counts body self.now result };
 }
 
 // How many rows were taken, and the fault of the row after them, if it was not taken.
@@ -43,19 +45,19 @@ pub(crate) struct Taken {
 }
 
 // Takes rows one after another, up to the first that has a fault or for which an allocation fails.
-pub(crate) fn take_rows<T: Body>(
-    body: &mut T,
+pub(crate) fn take_rows<T: RowTaker>(
+    taker: &mut T,
     alloc: Global,
     nodes: &i64,
     rows: &[RowLine],
 ) -> Taken
-    ensures taken { TakesRows T.body nodes.now body.old body.new rows.now result }
-    ensures unchanged { result.rows ≡ 0 → Keeps T.body body.old body.new }
+    ensures taken { TakesRows T.taker T.line nodes.now taker.old taker.new rows.now result }
+    ensures unchanged { result.rows ≡ 0 → Keeps T.taker taker.old taker.new }
     ensures within { MatchOption result.fault (result.rows ≤ length rows.now) (λ f. result.rows < length rows.now) }
 {
-    body.look_ahead(alloc, rows);
+    taker.look_ahead(alloc, rows);
     for i in 0..rows.len() {
-        if let Err(fault) = body.take(alloc, nodes, &rows[i].row) {
+        if let Err(fault) = taker.take(alloc, nodes, &rows[i].row) {
             return Taken {
                 rows: i,
                 fault: Some(fault),
@@ -68,41 +70,32 @@ pub(crate) fn take_rows<T: Body>(
     }
 }
 
-impl Body for Vec<i64> {
-    ghost body = { ids_body };
+impl RowTaker for Vec<i64> {
+    ghost taker = { ids_body };
+
+    ghost line = { line_of Ss };
 
     fn take(&mut self, _alloc: Global, _nodes: &i64, row: &Row) -> Result<(), ItemFault> {
         take_source(self, &row.first)
-    }
+    }}
 
-    fn entries(&self) -> u64 {
-        self.len() as u64
-    }
-}
+impl RowTaker for Vec<(i64, i64)> {
+    ghost taker = { pairs_body };
 
-impl Body for Vec<(i64, i64)> {
-    ghost body = { pairs_body };
+    ghost line = { line_of P2p };
 
     fn take(&mut self, _alloc: Global, _nodes: &i64, row: &Row) -> Result<(), ItemFault> {
         take_query(self, (row.first, row.second))
-    }
+    }}
 
-    fn entries(&self) -> u64 {
-        self.len() as u64
-    }
-}
+impl RowTaker for BTreeMap<i64, (i64, i64)> {
+    ghost taker = { points_body };
 
-impl Body for BTreeMap<i64, (i64, i64)> {
-    ghost body = { points_body };
+    ghost line = { line_of Co };
 
     fn take(&mut self, _alloc: Global, _nodes: &i64, row: &Row) -> Result<(), ItemFault> {
         take_point(self, &row.first, (row.second, row.third))
-    }
-
-    fn entries(&self) -> u64 {
-        self.len() as u64
-    }
-}
+    }}
 
 // A bundle of the arcs of one kind of text, each of which a row spells.
 pub(crate) trait RowBundle: Bundle {
@@ -115,13 +108,12 @@ pub(crate) trait RowBundle: Bundle {
     // Returns the arc of a row, whose faults are those of the row's item.
     fn arc(row: &Row) -> Self::Arc
         ensures { IsArcOfRow text Self.bundle.kind arc_in row.now result };
-
-    // The entries that the items make are those of their arcs.
-    ghost counts: { CountsArcs text Self.bundle.kind arc_in };
 }
 
-impl<B: RowBundle> Body for TableSoFar<B> {
-    ghost body = { table_body B.text B.arc_in B.bundle };
+impl<B: RowBundle> RowTaker for TableSoFar<B> {
+    ghost taker = { table_body B.text B.arc_in B.bundle };
+
+    ghost line = { line_of B.text };
 
     #[inline(always)]
     fn take(&mut self, alloc: Global, nodes: &i64, row: &Row) -> Result<(), ItemFault> {
@@ -131,19 +123,12 @@ impl<B: RowBundle> Body for TableSoFar<B> {
     #[inline(always)]
     fn look_ahead(&mut self, alloc: Global, rows: &[RowLine]) {
         ahead::look_ahead(self, alloc, rows)
-    }
-
-    fn entries(&self) -> u64 {
-        TableSoFar::entries(self)
-    }
-}
+    }}
 
 impl RowBundle for Least {
     ghost text = { Kind.Sp };
 
     ghost arc_in = { length_arc_in };
-
-    ghost counts = { λ items. refl };
 
     #[inline(always)]
     fn arc(row: &Row) -> LengthArc {
@@ -156,8 +141,6 @@ impl RowBundle for Total {
 
     ghost arc_in = { cap_arc_in };
 
-    ghost counts = { λ items. refl };
-
     #[inline(always)]
     fn arc(row: &Row) -> CapArc {
         CapArc { cap: row.third }
@@ -168,8 +151,6 @@ impl RowBundle for Curve {
     ghost text = { Kind.Min };
 
     ghost arc_in = { cost_arc_in };
-
-    ghost counts = { λ items. refl };
 
     #[inline(always)]
     fn arc(row: &Row) -> CostArc {

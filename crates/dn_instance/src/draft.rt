@@ -7,15 +7,15 @@ ghost use Rattle.dn_line.specs.State.Spelling.{kind_before};
 ghost use Rattle.dn_instance.specs.Items.{is_counted};
 ghost use Rattle.dn_instance.specs.TextFaults.{item_tests};
 ghost use Rattle.dn_instance.specs.State.Bodies.{TakesRows};
-ghost use Rattle.dn_instance.specs.State.Drafts.{ComesNext, DraftHolds, draft_body, draft_kind};
+ghost use Rattle.dn_instance.specs.State.Drafts.{ComesNext, DraftHolds, draft_kind, draft_of};
 ghost use Rattle.dn_instance.specs.State.Ends.{Makes};
 ghost use Rattle.dn_instance.specs.State.ItemFaults.{AnswersFault};
-ghost use Rattle.dn_instance.specs.State.RowRuns.{line_of};
+ghost use Rattle.dn_instance.specs.State.RowRuns.{line_of, supply_of};
 ghost use Rattle.dn_instance.specs.EntryCount.{entries_by};
 ghost use Rattle.dn_instance.specs.Readers.{NeedsMemory};
 
 use crate::any_body::AnyBody;
-use crate::body::Taken;
+use crate::body::{RowTaker, Taken, take_rows};
 use crate::content::Content;
 use crate::heads::Heads;
 use crate::refusal::ItemFault;
@@ -78,13 +78,24 @@ impl Draft {
         }
     }
 
-    // Takes rows one after another, up to the first that has a fault or for which an allocation fails.
+    // Takes rows of counted lines one after another, up to the first that has a fault or for which an allocation fails.
     pub(crate) fn take_rows(&mut self, alloc: Global, nodes: &i64, rows: &[RowLine]) -> Taken
-        ensures taken { (kind : Kind) → TakesRows (draft_body kind) nodes.now self.old self.new rows.now result }
+        ensures taken { (kind : Kind)
+            → TakesRows (draft_of kind) (line_of kind) nodes.now self.old self.new rows.now result }
         ensures within { MatchOption result.fault (result.rows ≤ length rows.now)
             (λ f. result.rows < length rows.now) }
     {
         self.body.take_rows(alloc, nodes, rows)
+    }
+
+    // Takes rows of `min` node lines one after another, up to the first that has a fault or for which an allocation
+    // fails.
+    pub(crate) fn take_supplies(&mut self, alloc: Global, nodes: &i64, rows: &[RowLine]) -> Taken
+        ensures taken { TakesRows (draft_of Kind.Min) supply_of nodes.now self.old self.new rows.now result }
+        ensures within { MatchOption result.fault (result.rows ≤ length rows.now)
+            (λ f. result.rows < length rows.now) }
+    {
+        take_rows(self, alloc, nodes, rows)
     }
 
     // Returns how many entries the items so far make, if this is below 2^64.
@@ -124,6 +135,17 @@ impl Draft {
             AnyBody::P2p(pairs) => Ok(Content::P2p(pairs)),
             AnyBody::Co(points) => Ok(Content::Co(points)),
         }
+    }
+}
+
+// A draft takes the rows of `min` node lines.
+impl RowTaker for Draft {
+    ghost taker = { draft_of Kind.Min };
+
+    ghost line = { supply_of };
+
+    fn take(&mut self, _alloc: Global, nodes: &i64, row: &Row) -> Result<(), ItemFault> {
+        self.heads.take_supply(nodes, &row.first, &row.second)
     }
 }
 

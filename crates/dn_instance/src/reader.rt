@@ -1,5 +1,5 @@
 // Reads a text in any pieces.
-ghost use Rattle.std.specs.Prelude.{◌≡◌, ◌≤◌, ℕ, List, [], ◌++◌, length, take, drop, Some, None, Err, ◌<◌, IfOk, MatchResult};
+ghost use Rattle.std.specs.Prelude.{◌≡◌, ◌≤◌, ℕ, ◌+◌, List, [], ◌++◌, length, take, drop, Some, None, Err, ◌<◌, IfOk, MatchResult};
 ghost use Rattle.dn_line.specs.State.LineStates.{LineSoFar, LineReaderAt, used_of};
 ghost use Rattle.dn_line.specs.Pieces.{lines};
 ghost use Rattle.dn_instance.specs.State.Readers.{Fed, Outcome, refusal_of, answer_of};
@@ -44,15 +44,23 @@ impl Reader {
         ensures refusal { MatchResult result (λ x. refusal_of self.new ≡ refusal_of self.old)
             (λ e. refusal_of self.new ≡ Some e) }
     {
-        let number = self.text.next_number();
         match self.text.take_line(self.alloc, &self.line) {
             Ok(()) => Ok(()),
-            Err(fault) => {
-                let refusal = refused_at(number, fault);
-                self.refusal = Some(refusal);
-                Err(refusal)
-            }
+            Err(fault) => Err(self.refuse(fault)),
         }
+    }
+
+    // Keeps and returns the refusal of the next line, which has this fault.
+    fn refuse(&mut self, fault: ItemFault) -> Refusal
+        ensures said { (ls : List (List ℕ)) → TextAt self.old.text ls
+            → result ≡ refused_at (length ls + 1) fault }
+        ensures refusal { refusal_of self.new ≡ Some result }
+        ensures text { self.new.text ≡ self.old.text }
+        ensures line { self.new.line ≡ self.old.line }
+    {
+        let refusal = refused_at(self.text.next_number(), fault);
+        self.refusal = Some(refusal);
+        refusal
     }
 
     // Takes a piece up to and including its first LF, or all of it if there is no LF. Returns how many bytes it takes.
@@ -76,8 +84,8 @@ impl Reader {
         }
     }
 
-    // If no line is open, takes rows of plain lines at the beginning of a piece. If it takes none, takes what `step`
-    // takes. Returns how many bytes it takes.
+    // If no line is open, takes rows of plain lines at the beginning of a piece, up to the first that has a fault. If
+    // there is none, takes what `step` takes. Returns how many bytes it takes.
     fn advance(&mut self, block: &mut RowBlock, piece: &[u8]) -> Result<usize, Refusal>
         requires { 0 < length piece.now }
         ensures some { IfOk result (λ n. 0 < n) }
@@ -88,9 +96,12 @@ impl Reader {
             (λ e. refusal_of self.new ≡ Some e) }
     {
         if !self.line.pending() {
-            let used = self.text.take_rows(self.alloc, block, piece);
-            if 0 < used {
-                return Ok(used);
+            let front = self.text.take_rows(self.alloc, block, piece);
+            if let Some(fault) = front.fault {
+                return Err(self.refuse(fault));
+            }
+            if 0 < front.used {
+                return Ok(front.used);
             }
         }
         self.step(piece)

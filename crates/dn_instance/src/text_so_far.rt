@@ -1,8 +1,10 @@
 // The complete lines of a text: how many they are, and what their items make.
-ghost use Rattle.std.specs.Prelude.{◌≡◌, ◌<◌, ◌≤◌, ◌≤ℤ◌, ℕ, ◌+◌, pos, length, take, List, ◌∷◌, ◌++◌, [], OnOk, OnErr, Err, Some, None, false, get_or};
+ghost use Rattle.std.specs.Prelude.{◌≡◌, ◌<◌, ◌≤◌, ◌≤ℤ◌, ℕ, ◌+◌, ◌-◌, ◌^◌, pos, length, take, List, ◌∷◌, ◌++◌, [], OnOk, OnErr, Err, Some, None, true, false, get_or};
 ghost use Rattle.dn_line.specs.declared.line.Line.{Line};
+ghost use Rattle.dn_line.specs.declared.row_block.RowLine.{RowLine};
 ghost use Rattle.dn_line.specs.declared.word.Word.{Word};
 ghost use Rattle.dn_line.specs.LineTable.{kind_named};
+ghost use Rattle.dn_line.specs.State.RowBlocks.{last_left};
 ghost use Rattle.dn_line.specs.Words.{first, said_words};
 ghost use Rattle.dn_line.specs.Faults.{first_fault, head_tests};
 ghost use Rattle.dn_line.specs.State.Reading.{head_of};
@@ -17,10 +19,11 @@ ghost use Rattle.dn_instance.specs.State.ItemFaults.{AnswersFault};
 ghost use Rattle.dn_instance.specs.Texts.{items_of, with_next};
 ghost use Rattle.dn_instance.specs.State.TextsSoFar.{Awaits, HasRead, next_read, fault_next, TextAt, ReadsFront};
 
+use crate::body::Taken;
 use crate::draft::Draft;
 use crate::held::Held;
 use crate::refusal::ItemFault;
-use dn_line::{BLOCK, Code, Head, Kind, Line, LineReader, RowBlock, left_behind};
+use dn_line::{BLOCK, Code, Head, Kind, Line, LineReader, RowBlock, RowLine, left_behind};
 use std::alloc::Global;
 
 // The greatest number of lines that a text may have.
@@ -190,31 +193,67 @@ impl TextSoFar {
         }
     }
 
-    // Takes the rows of plain counted lines at the beginning of these bytes, at most as many as one block has, up to
-    // the first that is one too many, that has a fault, or for which an allocation fails. Returns how many bytes their
-    // lines have, with the LFs that end them. The block is memory to read into.
-    pub(crate) fn take_rows(&mut self, alloc: Global, block: &mut RowBlock, bytes: &[u8]) -> usize
-        ensures taken { (ls : List (List ℕ)) → TextAt self.old ls
-            → ReadsFront self.new ls (take result bytes.now) }
-        ensures within { result ≤ length bytes.now }
+    // Takes the rows of plain lines at the beginning of these bytes, at most as many as one block has. All are counted
+    // lines, or all are `min` node lines. Stops before the first that comes too late, that has a fault, or for which an
+    // allocation fails. The block is memory to read into.
+    pub(crate) fn take_rows(&mut self, alloc: Global, block: &mut RowBlock, bytes: &[u8]) -> Front
+        ensures taken { (ls : List (List ℕ)) → TextAt self.old ls → ReadsFront self.new ls bytes.now result }
+        ensures within { result.used ≤ length bytes.now }
     {
         let Some(kind) = self.draft.kind() else {
-            return 0;
+            return NO_FRONT;
         };
-        if LAST - BLOCK as u64 <= self.closed || begins_with_node(bytes) {
-            return 0;
+        if LAST - BLOCK as u64 <= self.closed {
+            return NO_FRONT;
         }
+        if begins_with_supply(kind, bytes) {
+            self.take_supplies(alloc, block, bytes)
+        } else {
+            self.take_counted(alloc, kind, block, bytes)
+        }
+    }
+
+    // Takes the rows of plain counted lines at the beginning of these bytes, at most as many as are still declared.
+    fn take_counted(
+        &mut self,
+        alloc: Global,
+        kind: Kind,
+        block: &mut RowBlock,
+        bytes: &[u8],
+    ) -> Front
+        requires kind { draft_kind self.old.draft ≡ Some kind }
+        requires early { self.old.closed < 2 ^ 63 - 2 - 16 }
+        requires other { kind ≡ Kind.Min → get_or bytes.now 0 0 ≡ 110 → ⊥ }
+        ensures taken { (ls : List (List ℕ)) → TextAt self.old ls → ReadsFront self.new ls bytes.now result }
+        ensures within { result.used ≤ length bytes.now }
+    {
         // The reader takes at most as many counted lines as are declared, so nothing saturates, here and below.
         let most = self.count.saturating_sub(self.counted);
         block.read(kind, as_many(&most), bytes);
         let rows = block.rows();
-        let stop = self.draft.take_rows(alloc, &self.nodes, rows);
-        let taken = stop.rows;
-        self.counted = self.counted.saturating_add(taken as i64);
-        self.closed += taken as u64;
-        let left = left_behind(&rows[..taken], bytes.len());
-        // No more bytes are left than there were, so nothing saturates.
-        bytes.len().saturating_sub(left)
+        let taken = self.draft.take_rows(alloc, &self.nodes, rows);
+        self.counted = self.counted.saturating_add(taken.rows as i64);
+        self.closed += taken.rows as u64;
+        front_of(rows, &taken, bytes)
+    }
+
+    // Takes the rows of plain `min` node lines at the beginning of these bytes. Takes none after an arc, since such a
+    // line is late.
+    fn take_supplies(&mut self, alloc: Global, block: &mut RowBlock, bytes: &[u8]) -> Front
+        requires kind { draft_kind self.old.draft ≡ Some Kind.Min }
+        requires early { self.old.closed < 2 ^ 63 - 2 - 16 }
+        requires letter { get_or bytes.now 0 0 ≡ 110 }
+        ensures taken { (ls : List (List ℕ)) → TextAt self.old ls → ReadsFront self.new ls bytes.now result }
+        ensures within { result.used ≤ length bytes.now }
+    {
+        if 0 < self.counted {
+            return NO_FRONT;
+        }
+        block.read(Kind::Min, BLOCK, bytes);
+        let rows = block.rows();
+        let taken = self.draft.take_supplies(alloc, &self.nodes, rows);
+        self.closed += taken.rows as u64;
+        front_of(rows, &taken, bytes)
     }
 
     // Returns how many entries the lines so far make.
@@ -243,6 +282,35 @@ impl TextSoFar {
     }
 }
 
+// The lines at the beginning of some bytes that were taken as rows.
+#[derive(Clone, Copy)]
+pub(crate) struct Front {
+    // The count of their bytes, with the LFs that end the lines.
+    pub(crate) used: usize,
+    // The fault of the line after them, if its row was not taken for a fault.
+    pub(crate) fault: Option<ItemFault>,
+}
+
+// No lines.
+const NO_FRONT: Front = Front {
+    used: 0,
+    fault: None,
+};
+
+// Returns the lines of those of these rows that were taken, which begin these bytes.
+fn front_of(rows: &[RowLine], taken: &Taken, bytes: &[u8]) -> Front
+    requires { taken.now.rows ≤ length rows.now }
+    ensures used { result.used ≡ length bytes.now - last_left (length bytes.now) (take taken.now.rows rows.now) }
+    ensures fault { result.fault ≡ taken.now.fault }
+{
+    let left = left_behind(&rows[..taken.rows], bytes.len());
+    Front {
+        // No more bytes are left than there were, so nothing saturates.
+        used: bytes.len().saturating_sub(left),
+        fault: taken.fault,
+    }
+}
+
 // Returns this number as a count, or 0 if it is below 0 or not a count.
 fn as_many(most: &i64) -> usize
     ensures { 0 < result → pos result ≤ℤ most.now }
@@ -253,13 +321,15 @@ fn as_many(most: &i64) -> usize
     }
 }
 
-// Whether these bytes begin with the letter of a node line.
-fn begins_with_node(bytes: &[u8]) -> bool
-    ensures { result ≡ false → get_or bytes.now 0 0 ≡ 110 → ⊥ }
+// Whether these bytes begin with the letter of a `min` node line, in a text of this kind.
+fn begins_with_supply(kind: Kind, bytes: &[u8]) -> bool
+    ensures min { result ≡ true → kind ≡ Kind.Min }
+    ensures letter { result ≡ true → get_or bytes.now 0 0 ≡ 110 }
+    ensures other { result ≡ false → kind ≡ Kind.Min → get_or bytes.now 0 0 ≡ 110 → ⊥ }
 {
-    match bytes {
-        [first, ..] => *first == b'n',
-        [] => false,
+    match (kind, bytes) {
+        (Kind::Min, [first, ..]) => *first == b'n',
+        _ => false,
     }
 }
 

@@ -8,7 +8,7 @@ use Rattle.dn_line.specs.State.LineStates.{is_clear, is_inner}
 use Rattle.dn_line.specs.State.Numbers.{IsGap, IsLineEnd, IsNumberBefore, IsNumberFront, AreNumbers, number_word}
 use Rattle.dn_line.specs.declared.word.Word.{Word}
 use Rattle.dn_line.proofs.PartsLaws.{Parts}
-use Rattle.dn_line.proofs.PlainLaws.{both_true, other_byte, clear_first, clear_inner, clear_parts, inner_append, number_clear, number_said}
+use Rattle.dn_line.proofs.ClearLaws.{both_true, other_byte, clear_first, clear_inner, clear_parts, inner_append, number_clear, number_said}
 
 onto_by : (b : ℕ) (p q : Parts) → p ≡ q → onto b p.0 p.1 ≡ onto b q.0 q.1
 onto_by b p q e = ap (λ (x : Parts). let y : Parts = onto b x.0 x.1 in y) e

@@ -24,7 +24,7 @@ use Rattle.dn_line.specs.declared.word.Word.{Word}
 use Rattle.dn_line.proofs.FieldLaws.{AllStand, Stands, below_none, stand_none}
 use Rattle.dn_line.proofs.FieldLaws as Fields
 use Rattle.dn_line.proofs.NumbersLaws.{blank_inner, blanks_inner, blanks_words, run_words}
-use Rattle.dn_line.proofs.PlainLaws.{both_true, clear_inner, inner_append}
+use Rattle.dn_line.proofs.ClearLaws.{both_true, clear_inner, inner_append}
 
 -- each number fits the field at its place, counted from `k`, or there is no such field
 abbrev pub FitFrom : List Field → ℕ → List ℤ → Type 0

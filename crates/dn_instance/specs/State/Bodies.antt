@@ -1,4 +1,4 @@
--- What the counted lines of a text make, and how rows change it.
+-- What the lines of a text make, and how rows change it.
 use Rattle.std.specs.Prelude.{◌≡◌, ◌<◌, ◌^◌, ℕ, ℤ, List, [], ◌∷◌, ◌++◌, Bool, IsTrue, ◌↔◌, filter_map, take, drop, Option, Some, None, Result, Err, OnOk, Vec}
 use Rattle.std.specs.BTreeMap.{BTreeMap}
 use Rattle.std.specs.Global.{Global}
@@ -24,11 +24,11 @@ use Rattle.dn_instance.specs.declared.body.Taken.{Taken}
 use Rattle.dn_instance.specs.declared.refusal.ItemFault.{ItemFault}
 use Rattle.dn_instance.specs.declared.refusal.ItemFault.TheVariants.{Memory}
 
--- what a body specifies about itself
-pub record BodyFacts (T : Type 0) : Type 1 where
+-- what takes rows specifies about itself
+pub record TakerFacts (T : Type 0) : Type 1 where
   -- the kind of text
   pub kind : Kind
-  -- the body holds what these items make
+  -- the taker holds what these items make
   pub Holds : T → List Line → Type 0
 
 -- the result says the first fault of the item after these, and memory runs out only at an item that needs it
@@ -37,63 +37,64 @@ pub record AnswersItem (before : List Line) (i : Line) (result : Result (Unit {0
   pub memory : result ≡ Err Memory → NeedsMemory before i
 
 -- the fault, if there is one, is that of the first row that is left, after these items; without a fault, no row is left
-abbrev pub StopsAt : Kind → List Line → List RowLine → Option ItemFault → Type 0
-StopsAt kind items left None = left ≡ []
-StopsAt kind items [] (Some fault) = ⊥
-StopsAt kind items (r ∷ left) (Some fault) = AnswersItem items (line_of kind r.row) (Err fault)
+abbrev pub StopsAt : (Row → Line) → List Line → List RowLine → Option ItemFault → Type 0
+StopsAt line items left None = left ≡ []
+StopsAt line items [] (Some fault) = ⊥
+StopsAt line items (r ∷ left) (Some fault) = AnswersItem items (line r.row) (Err fault)
 
-module _ {T : Type 0} (body : BodyFacts T) where
-  -- the body holds what the items of a problem of its kind make, and LOW and CAP of the next items are at least 0
+module _ {T : Type 0} (taker : TakerFacts T) where
+  -- the taker holds what the items of a problem of its kind make, and LOW and CAP of the next items are at least 0
   pub record Awaits (nodes : ℤ) (held : T) (before next : List Line) : Type 0 where
     pub problem : Problem
     pub problem_is : problem_of before ≡ Some problem
-    pub kind_is : problem.kind ≡ body.kind
+    pub kind_is : problem.kind ≡ taker.kind
     pub nodes_are : problem.nodes ≡ nodes
     pub signs : AllByRecursion HasSigns next
-    pub holds : body.Holds held before
+    pub holds : taker.Holds held before
 
-  -- the result answers the row's item, and the body holds the item if it has no fault
-  pub record Took (before : List Line) (held : T) (row : Row) (result : Result (Unit {0}) ItemFault) : Type 0 where
-    pub answer : AnswersItem before (line_of body.kind row) result
-    pub holds : OnOk result (body.Holds held (before ++ line_of body.kind row ∷ []))
+  -- the result answers the row's item, and the taker holds the item if it has no fault
+  pub record Took (line : Row → Line) (before : List Line) (held : T) (row : Row) (result : Result (Unit {0}) ItemFault)
+      : Type 0 where
+    pub answer : AnswersItem before (line row) result
+    pub holds : OnOk result (taker.Holds held (before ++ line row ∷ []))
 
-  -- a row is taken after any items that the body holds
-  abbrev pub TakesRow : ℤ → T → T → Row → Result (Unit {0}) ItemFault → Type 0
-  TakesRow nodes old new row result =
-      (before : List Line) → Awaits nodes old before (line_of body.kind row ∷ []) → Took before new row result
+  -- a row is taken after any items that the taker holds
+  abbrev pub TakesRow : (Row → Line) → ℤ → T → T → Row → Result (Unit {0}) ItemFault → Type 0
+  TakesRow line nodes old new row result =
+      (before : List Line) → Awaits nodes old before (line row ∷ []) → Took line before new row result
 
-  -- the items of the rows that were taken have no fault, the body holds them, and the next row has the fault, if there
+  -- the items of the rows that were taken have no fault, the taker holds them, and the next row has the fault, if there
   -- is one
-  pub record TookRows (before : List Line) (held : T) (rows : List RowLine) (result : Taken) : Type 0 where
-    pub joins : Joins body.Holds before held (row_items body.kind (take result.rows rows))
-    pub stops : StopsAt body.kind (before ++ row_items body.kind (take result.rows rows)) (drop result.rows rows)
-        result.fault
+  pub record TookRows (line : Row → Line) (before : List Line) (held : T) (rows : List RowLine) (result : Taken)
+      : Type 0 where
+    pub joins : Joins taker.Holds before held (row_items line (take result.rows rows))
+    pub stops : StopsAt line (before ++ row_items line (take result.rows rows)) (drop result.rows rows) result.fault
 
-  -- rows are taken one after another after any items that the body holds
-  abbrev pub TakesRows : ℤ → T → T → List RowLine → Taken → Type 0
-  TakesRows nodes old new rows result =
-      (before : List Line) → Awaits nodes old before (row_items body.kind rows) → TookRows before new rows result
+  -- rows are taken one after another after any items that the taker holds
+  abbrev pub TakesRows : (Row → Line) → ℤ → T → T → List RowLine → Taken → Type 0
+  TakesRows line nodes old new rows result =
+      (before : List Line) → Awaits nodes old before (row_items line rows) → TookRows line before new rows result
 
-  -- the new body holds all that the old one holds
+  -- the new taker holds all that the old one holds
   abbrev pub Keeps : T → T → Type 0
-  Keeps old new = (items : List Line) → body.Holds old items → body.Holds new items
+  Keeps old new = (items : List Line) → taker.Holds old items → taker.Holds new items
 
   -- n is how many entries the items make, if that is below 2^64
   abbrev pub Counts : T → ℕ → Type 0
   Counts held n =
-      (items : List Line) → body.Holds held items → entries_by (Some body.kind) items < 2 ^ 64
-      → n ≡ entries_by (Some body.kind) items
+      (items : List Line) → taker.Holds held items → entries_by (Some taker.kind) items < 2 ^ 64
+      → n ≡ entries_by (Some taker.kind) items
 
 -- the IDs of an `ss` text
-abbrev pub ids_body : BodyFacts (Vec ℤ Global)
+abbrev pub ids_body : TakerFacts (Vec ℤ Global)
 ids_body = record { kind = Ss; Holds = λ ids items. ids.items ≡ filter_map source_in items }
 
 -- the pairs of a `p2p` text
-abbrev pub pairs_body : BodyFacts (Vec (ℤ × ℤ) Global)
+abbrev pub pairs_body : TakerFacts (Vec (ℤ × ℤ) Global)
 pairs_body = record { kind = P2p; Holds = λ pairs items. pairs.items ≡ filter_map query_in items }
 
 -- the points of a `co` text
-abbrev pub points_body : BodyFacts (BTreeMap ℤ (ℤ × ℤ))
+abbrev pub points_body : TakerFacts (BTreeMap ℤ (ℤ × ℤ))
 points_body = record { kind = Co; Holds = λ points items. points.entries ≡ by_key (filter_map point_in items) }
 
 -- the table represents the arcs among the items, and a problem may have each of these arcs
@@ -104,7 +105,7 @@ pub record TableHolds {B Arc : Type 0} (kind : ArcKind Arc) (arc_in : Line → O
 
 -- the arcs of a graph, merged by ordered pair
 abbrev pub table_body : {B Arc : Type 0} → Kind → (Line → Option ((ℤ × ℤ) × Arc)) → BundleWords B Arc
-    → BodyFacts (List ((ℤ × ℤ) × B))
+    → TakerFacts (List ((ℤ × ℤ) × B))
 table_body kind arc_in bundle = record { kind = kind; Holds = TableHolds bundle.kind arc_in (meant bundle) }
 
 -- the first fault of an item is that of its arc, where `is` says whether a problem may have the arc
@@ -127,8 +128,3 @@ pub record IsArcOfRow {Arc : Type 0} (text : Kind) (kind : ArcKind Arc) (arc_in 
       → GraphNeedsMore kind (arcs_of arc_in before) ((row.first, row.second), arc)
       → NeedsMemory before (line_of text row)
   pub stays : Stays kind
-
--- the items of a text of this kind make the entries of their arcs
-abbrev pub CountsArcs : {Arc : Type 0} → Kind → ArcKind Arc → (Line → Option ((ℤ × ℤ) × Arc)) → Type 0
-CountsArcs text kind arc_in =
-    (items : List Line) → entries_by (Some text) items ≡ graph_entries kind (arcs_of arc_in items)

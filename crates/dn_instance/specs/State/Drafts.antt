@@ -18,7 +18,7 @@ use Rattle.dn_bundle.specs.declared.least.Least.{Least}
 use Rattle.dn_bundle.specs.declared.total.Total.{Total}
 use Rattle.dn_instance.specs.Items.{Problem, problem_of, length_arc_in, cap_arc_in, cost_arc_in, supplies_of, terminal_of}
 use Rattle.dn_instance.specs.TextFaults.{has_supply, is_companion, item_tests}
-use Rattle.dn_instance.specs.State.Bodies.{BodyFacts, TableHolds, ids_body, pairs_body, points_body}
+use Rattle.dn_instance.specs.State.Bodies.{TakerFacts, TableHolds, ids_body, pairs_body, points_body}
 use Rattle.dn_instance.specs.State.ItemFaults.{AnswersFault}
 use Rattle.dn_instance.specs.State.RowRuns.{HasSigns}
 use Rattle.dn_instance.specs.declared.any_body.AnyBody.{AnyBody}
@@ -28,13 +28,13 @@ use Rattle.dn_instance.specs.declared.heads.Heads.{Heads}
 use Rattle.dn_instance.specs.declared.refusal.ItemFault.{ItemFault}
 
 -- the arcs of a `min`, a `max` and an `sp` text
-abbrev pub min_body : BodyFacts (List ((ℤ × ℤ) × CurveNumbers))
+abbrev pub min_body : TakerFacts (List ((ℤ × ℤ) × CurveNumbers))
 min_body = record { kind = Kinds.Min; Holds = TableHolds costs cost_arc_in (curve_arcs One) }
 
-abbrev pub max_body : BodyFacts (List ((ℤ × ℤ) × Total))
+abbrev pub max_body : TakerFacts (List ((ℤ × ℤ) × Total))
 max_body = record { kind = Kinds.Max; Holds = TableHolds capacities cap_arc_in total_arcs }
 
-abbrev pub sp_body : BodyFacts (List ((ℤ × ℤ) × Least))
+abbrev pub sp_body : TakerFacts (List ((ℤ × ℤ) × Least))
 sp_body = record { kind = Kinds.Sp; Holds = TableHolds lengths length_arc_in least_arcs }
 
 -- the kind that the problem line declares; before the problem line, there is none
@@ -58,7 +58,7 @@ BodyHolds (Bodies.P2p pairs) items = pairs_body.Holds pairs items
 BodyHolds (Bodies.Co points) items = points_body.Holds points items
 
 -- the bodies of texts of this kind
-abbrev pub any_body : Kind → BodyFacts AnyBody
+abbrev pub any_body : Kind → TakerFacts AnyBody
 any_body kind = record { kind = kind; Holds = λ b items. (body_kind b ≡ Some kind) × BodyHolds b items }
 
 -- the `n` lines among these items make these heads
@@ -87,8 +87,8 @@ abbrev pub DraftHolds : Draft → List Line → Type 0
 DraftHolds draft items = HeadsHold draft.heads items × BodyHolds draft.body items
 
 -- the drafts of texts of this kind
-abbrev pub draft_body : Kind → BodyFacts Draft
-draft_body kind = record { kind = kind; Holds = λ d items. (draft_kind d ≡ Some kind) × DraftHolds d items }
+abbrev pub draft_of : Kind → TakerFacts Draft
+draft_of kind = record { kind = kind; Holds = λ d items. (draft_kind d ≡ Some kind) × DraftHolds d items }
 
 -- the kind is known, and texts of this kind have arcs
 abbrev pub is_graph : Option Kind → Bool

@@ -2,7 +2,7 @@
 use Rattle.std.specs.Prelude.{◌≡◌, ℕ, ◌≤◌, List, [], ◌∷◌, ◌++◌, length, take, cond, Option, Some, None, MatchOption, Result, Ok, Err}
 use Rattle.std.specs.Io.KnownBytes.{Consumes, IsAtEnd}
 use Rattle.dn_line.specs.Pieces.{parts, lines, is_line_feed}
-use Rattle.dn_line.specs.State.LineStates.{LineSoFar, LineReaderAt, used_of}
+use Rattle.dn_line.specs.State.LineStates.{LineSoFar, LineReaderAt}
 use Rattle.dn_line.specs.declared.line_reader.LineReader.{LineReader}
 use Rattle.dn_instance.specs.declared.reader.Reader.{Reader}
 use Rattle.dn_instance.specs.declared.held.Held.{Held}
@@ -63,11 +63,11 @@ Advances r t u (Err e) =
     (r.refusal ≡ Some e) × IsRefused (length (ended t)) (ended u) e × StopsIn r (ended u) e
     × (length (ended t) ≤ lines_taken r)
 
--- after t, the reader has read the first n bytes of the piece, or it keeps the refusal of a line up to the first LF of
--- the piece
+-- after t, the reader has read the first n bytes of the piece, or it keeps the refusal of a line that is complete in the
+-- first bytes of the piece
 abbrev pub Steps : Reader → List ℕ → List ℕ → Result ℕ Refusal → Type 0
 Steps r t piece (Ok n) = IsReading r (t ++ take n piece)
-Steps r t piece (Err e) = Advances r t (t ++ take (used_of piece) piece) (Err e)
+Steps r t piece (Err e) = (n : ℕ) × Advances r t (t ++ take n piece) (Err e)
 
 -- if memory runs out in a piece, it runs out at a line that was not complete before the piece, and the reader has taken
 -- all lines that were complete before it

@@ -1,5 +1,5 @@
 -- What the complete lines so far make, and what the next line reads as after them.
-use Rattle.std.specs.Prelude.{◌≡◌, ℕ, ◌-◌, ◌^◌, ◌<◌, pos, ◌<ℤ◌, List, [], ◌∷◌, ◌++◌, length, cond, true, flat_map, Option, None, Result, Ok, IsSome, int_lt}
+use Rattle.std.specs.Prelude.{◌≡◌, ℕ, ◌+◌, ◌-◌, ◌^◌, ◌<◌, pos, ◌<ℤ◌, List, [], ◌∷◌, ◌++◌, length, take, drop, cond, true, flat_map, Option, Some, None, Result, Ok, Err, IsSome, int_lt}
 use Rattle.std.specs.List.{list_all, list_any, AllByRecursion}
 use Rattle.std.specs.Option.{option_map}
 use Rattle.dn_line.specs.declared.kind.Kind.{Kind}
@@ -7,16 +7,21 @@ use Rattle.dn_line.specs.declared.line.Line.{Line}
 use Rattle.dn_line.specs.declared.line.Line.TheVariants.{Skip}
 use Rattle.dn_line.specs.declared.word.Word.{Word}
 use Rattle.dn_line.specs.declared.code.Code.{Code}
-use Rattle.dn_line.specs.Words.{is_skip}
+use Rattle.dn_line.specs.Words.{is_skip, said_words}
 use Rattle.dn_line.specs.State.LineStates.{is_inner}
 use Rattle.dn_line.specs.Faults.{first_fault, head_tests, field_tests, fields}
 use Rattle.dn_line.specs.State.Spelling.{slots_of, kind_before}
 use Rattle.dn_line.specs.Reading.{unless, spelled}
 use Rattle.dn_instance.specs.Items.{Problem, problem_of, kind_known, counted}
-use Rattle.dn_instance.specs.TextFaults.{is_arc, order_tests, line_tests}
+use Rattle.dn_instance.specs.Readers.{SpellsNeed}
+use Rattle.dn_instance.specs.TextFaults.{is_arc, line_fault, line_tests, order_tests}
 use Rattle.dn_instance.specs.Texts.{items_of, IsClean}
 use Rattle.dn_instance.specs.State.Drafts.{draft_kind, is_graph, DraftHolds}
+use Rattle.dn_instance.specs.State.ItemFaults.{AnswersFault}
 use Rattle.dn_instance.specs.State.RowRuns.{HasRoom, HasSigns}
+use Rattle.dn_instance.specs.declared.refusal.ItemFault.{ItemFault}
+use Rattle.dn_instance.specs.declared.refusal.ItemFault.TheVariants.{Memory}
+use Rattle.dn_instance.specs.declared.text_so_far.Front.{Front}
 use Rattle.dn_instance.specs.declared.text_so_far.TextSoFar.{TextSoFar}
 
 -- the problem of this kind with the numbers of the problem line
@@ -71,9 +76,26 @@ closed_lines ls = flat_map (λ l. l ++ 10 ∷ []) ls
 abbrev pub AreInner : List (List ℕ) → Type 0
 AreInner ls = AllByRecursion (λ l. list_all is_inner l ≡ true) ls
 
--- the bytes are lines, each followed by its LF, and the text so far has read these lines after `ls`
-pub record ReadsFront (t : TextSoFar) (ls : List (List ℕ)) (bytes : List ℕ) : Type 0 where
+-- the first of these bytes are a line and its LF, and after the lines `ls` this line has the fault, or spells an item
+-- that needs memory
+pub record IsRefusedFront (ls : List (List ℕ)) (bytes : List ℕ) (fault : ItemFault) : Type 0 where
+  pub line : List ℕ
+  pub rest : List ℕ
+  pub whole : line ++ 10 ∷ rest ≡ bytes
+  pub inner : list_all is_inner line ≡ true
+  pub answer : AnswersFault (Err fault) (line_fault (length ls + 1) (items_of ls) (said_words line))
+  pub needs : fault ≡ Memory → SpellsNeed (items_of ls) (said_words line)
+
+-- there is no fault, or it is that of the first line of these bytes
+abbrev pub RefusesFront : List (List ℕ) → List ℕ → Option ItemFault → Type 0
+RefusesFront ls bytes None = Unit {0}
+RefusesFront ls bytes (Some fault) = IsRefusedFront ls bytes fault
+
+-- the first bytes, as many as were used, are lines, each followed by its LF, and the text so far has read these lines
+-- after `ls`; the fault, if there is one, is that of the next line
+pub record ReadsFront (t : TextSoFar) (ls : List (List ℕ)) (bytes : List ℕ) (front : Front) : Type 0 where
   pub more : List (List ℕ)
-  pub whole : closed_lines more ≡ bytes
+  pub whole : closed_lines more ≡ take front.used bytes
   pub inner : AreInner more
   pub read : TextAt t (ls ++ more)
+  pub stops : RefusesFront (ls ++ more) (drop front.used bytes) front.fault

@@ -68,31 +68,6 @@ is_clear b = not (is_blank b) && not (is_line_feed b)
 abbrev pub is_inner : ℕ → Bool
 is_inner b = not (is_line_feed b)
 
--- the line begins with this piece, of which the state has taken whole words, and the rest remains
-pub record Plain (s : LineState) (piece rest : List ℕ) : Type 0 where
-  pub used : List ℕ
-  pub closed : List (List ℕ)
-  pub whole : used ++ rest ≡ piece
-  pub inner : list_all is_inner used ≡ true
-  pub parts_are : parts is_blank used ≡ (closed, [])
-  pub stands : LineStateAt s (closed, [])
-
--- the line begins with this piece, of which the state has taken all words and the LF that ends them, and the rest
--- remains
-pub record Ended (s : LineState) (piece rest : List ℕ) : Type 0 where
-  pub used : List ℕ
-  pub closed : List (List ℕ)
-  pub last : List ℕ
-  pub whole : used ++ 10 ∷ rest ≡ piece
-  pub inner : list_all is_inner used ≡ true
-  pub parts_are : parts is_blank used ≡ (closed, last)
-  pub stands : LineStateAt s (closed ++ last ∷ [], [])
-
--- `Ended` if an LF has ended the line, and `Plain` otherwise
-abbrev pub PlainOrEnded : LineState → List ℕ → List ℕ → Bool → Type 0
-PlainOrEnded s piece rest false = Plain s piece rest
-PlainOrEnded s piece rest true = Ended s piece rest
-
 -- a line without its LF, and whether an LF has ended it
 pub record LineSoFar : Type 0 where
   pub bytes : List ℕ

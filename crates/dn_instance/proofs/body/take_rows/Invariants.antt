@@ -8,7 +8,7 @@ abbrev pub invariant-loop-i : goal.invariant-loop-i
 invariant-loop-i g l =
     record {
       joins : (before : List Line)
-          → Awaits g.T.Body.body l.nodes l.fn.body before (row_items (g.T.Body.body).kind l.rows)
-          → Joins (g.T.Body.body).Holds before l.body (row_items (g.T.Body.body).kind (take l.i l.rows));
-      fresh : l.i ≡ 0 → l.body ≡ l.fn.body;
+          → Awaits g.T.RowTaker.taker l.nodes l.fn.taker before (row_items g.T.RowTaker.line l.rows)
+          → Joins (g.T.RowTaker.taker).Holds before l.taker (row_items g.T.RowTaker.line (take l.i l.rows));
+      fresh : l.i ≡ 0 → l.taker ≡ l.fn.taker;
     }

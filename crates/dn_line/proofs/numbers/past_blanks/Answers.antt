@@ -4,7 +4,7 @@ use Rattle.std.proofs.Math.Seq.{take-suc}
 use Rattle.std.proofs.lemmas.List.{take-append-drop, take_all, length-drop}
 use Rattle.std.proofs.lemmas.List.Folds.{list_all-append}
 use Rattle.dn_line.specs.Words.{is_blank}
-use Rattle.dn_line.proofs.PlainLaws.{both_true}
+use Rattle.dn_line.proofs.ClearLaws.{both_true}
 use Rattle.dn_line.proofs.numbers.past_blanks.Goals as goal
 
 pub returns-then-not-is_blank : goal.returns-then-not-is_blank

@@ -1,6 +1,7 @@
 use Rattle.std.proofs.Common.{◌<◌, ◌≤◌, subst, arith}
 use Rattle.std.specs.Prelude.{MatchOption}
 use Rattle.dn_instance.specs.State.Drafts.{any_body}
+use Rattle.dn_instance.specs.State.RowRuns.{line_of}
 use Rattle.dn_instance.proofs.BodyRunLaws.{one_refused, one_taken}
 use Rattle.dn_instance.proofs.any_body.AnyBody.take_row.Goals as goal
 
@@ -11,7 +12,7 @@ few c =
 
 pub returns-in-Some-clause-taken : goal.returns-in-Some-clause-taken
 returns-in-Some-clause-taken c kind before a =
-    one_refused (any_body kind) before _ _ _ (c.take_rows.ensures.taken kind before a) c.in-Some.fault c.in-Some.is
+    one_refused (any_body kind) (line_of kind) before _ _ _ (c.take_rows.ensures.taken kind before a) c.in-Some.fault c.in-Some.is
     (few c)
 
 pub returns-in-Some-clause-unchanged : goal.returns-in-Some-clause-unchanged
@@ -19,6 +20,6 @@ returns-in-Some-clause-unchanged c = c.take_rows.ensures.unchanged (let one = fe
 
 pub returns-in-None-clause-taken : goal.returns-in-None-clause-taken
 returns-in-None-clause-taken c kind before a =
-    one_taken (any_body kind) before _ _ _ (c.take_rows.ensures.taken kind before a) c.in-None.is
+    one_taken (any_body kind) (line_of kind) before _ _ _ (c.take_rows.ensures.taken kind before a) c.in-None.is
     (subst (λ o. MatchOption o (c.take_rows.result.rows ≤ 1) (λ f. c.take_rows.result.rows < 1)) c.in-None.is
     c.take_rows.ensures.within)

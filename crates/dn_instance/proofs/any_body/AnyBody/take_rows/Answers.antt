@@ -42,7 +42,7 @@ returns-in-Ss-clause-taken c =
 
 pub returns-in-Ss-clause-unchanged : goal.returns-in-Ss-clause-unchanged
 returns-in-Ss-clause-unchanged c none =
-    rows_kept ids_body Bodies.Ss (λ t. refl) (λ t items h. h) (λ t items h. h) c.in-Ss.ids c.take_rows-in-Ss.new.body
+    rows_kept ids_body Bodies.Ss (λ t. refl) (λ t items h. h) (λ t items h. h) c.in-Ss.ids c.take_rows-in-Ss.new.taker
     (c.take_rows-in-Ss.ensures.unchanged none) _ c.in-Ss.is
 
 pub returns-in-P2p-clause-taken : goal.returns-in-P2p-clause-taken
@@ -53,7 +53,7 @@ returns-in-P2p-clause-taken c =
 pub returns-in-P2p-clause-unchanged : goal.returns-in-P2p-clause-unchanged
 returns-in-P2p-clause-unchanged c none =
     rows_kept pairs_body Bodies.P2p (λ t. refl) (λ t items h. h) (λ t items h. h) c.in-P2p.pairs
-    c.take_rows-in-P2p.new.body (c.take_rows-in-P2p.ensures.unchanged none) _ c.in-P2p.is
+    c.take_rows-in-P2p.new.taker (c.take_rows-in-P2p.ensures.unchanged none) _ c.in-P2p.is
 
 pub returns-in-Co-clause-taken : goal.returns-in-Co-clause-taken
 returns-in-Co-clause-taken c =
@@ -63,4 +63,4 @@ returns-in-Co-clause-taken c =
 pub returns-in-Co-clause-unchanged : goal.returns-in-Co-clause-unchanged
 returns-in-Co-clause-unchanged c none =
     rows_kept points_body Bodies.Co (λ t. refl) (λ t items h. h) (λ t items h. h) c.in-Co.points
-    c.take_rows-in-Co.new.body (c.take_rows-in-Co.ensures.unchanged none) _ c.in-Co.is
+    c.take_rows-in-Co.new.taker (c.take_rows-in-Co.ensures.unchanged none) _ c.in-Co.is

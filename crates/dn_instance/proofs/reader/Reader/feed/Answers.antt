@@ -1,6 +1,5 @@
 use Rattle.std.proofs.Common.{◌≡◌, append-nil, [], Some, ℕ, ◌≤◌, List, ◌++◌, length, take, sym, ◌∙◌, subst, arith}
 use Rattle.std.proofs.lemmas.List.{take_all}
-use Rattle.dn_line.specs.State.LineStates.{used_of}
 use Rattle.dn_instance.specs.Readers.{ended}
 use Rattle.dn_instance.specs.State.Readers.{IsRefused, lines_taken}
 use Rattle.dn_instance.specs.State.ReaderStates.{StopsIn, IsReading}
@@ -29,9 +28,10 @@ refused_within : (c : goal.In-Err) (t : List ℕ)
 refused_within c t reads =
     let p = c.args.piece.now in
     let i = c.loop-at.at in
-    let n = used_of (rest_of p i) in
     let u = t ++ take i p in
-    let a = c.in-Err.ensures.advances u reads in
+    let stopped = c.in-Err.ensures.advances u reads in
+    let n = stopped.0 in
+    let a = stopped.1 in
     let e = c.in-Err.refusal in (
       a.0,
       refused_on (length (ended u)) (length (ended t)) (ended (u ++ take n (rest_of p i))) (ended (t ++ p)) e

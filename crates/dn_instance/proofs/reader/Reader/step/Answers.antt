@@ -7,7 +7,7 @@ use Rattle.dn_instance.specs.State.ReaderStates.{StopsIn}
 use Rattle.dn_instance.specs.State.TextsSoFar.{TextAt}
 use Rattle.dn_instance.proofs.PieceSteps.{ended_then, goes_on}
 use Rattle.dn_instance.proofs.reader.Reader.step.Goals as goal
-use Rattle.dn_line.proofs.BeginLaws.{used_within}
+use Rattle.dn_line.proofs.LineEndLaws.{used_within}
 
 pub returns-in-Ok-close-clause-advances : goal.returns-in-Ok-close-clause-advances
 returns-in-Ok-close-clause-advances c t h =

@@ -1,6 +1,6 @@
-use Rattle.std.proofs.Common.{sym, ◌∙◌, subst}
+use Rattle.std.proofs.Common.{[], false, sym, ◌∙◌, subst}
 use Rattle.dn_line.specs.State.LineStates.{LineReaderAt, line_after}
-use Rattle.dn_line.proofs.LineReaderLaws.{anew, unended, none_used, none_after}
+use Rattle.dn_line.proofs.LineReaderLaws.{anew, none_stands, unended, none_used, none_after}
 use Rattle.dn_line.proofs.line_reader.LineReader.step.Goals as goal
 
 pub returns-then-is_empty-clause-ok : goal.returns-then-is_empty-clause-ok
@@ -20,10 +20,12 @@ returns-then-self-clause-stands c l h =
     (c.go.ensures.stands l.bytes (subst (LineReaderAt c.args.self.now) e h))
 
 pub returns-clause-ok : goal.returns-clause-ok
-returns-clause-ok c = (c.begin.ensures.used, c.begin.ensures.ended)
+returns-clause-ok c = (c.go-2.ensures.used, c.go-2.ensures.ended)
 
 pub returns-clause-stands : goal.returns-clause-stands
 returns-clause-stands c l h =
-    subst (LineReaderAt c.begin.new.self)
-    (anew c.args.self.now l c.args.piece.now h c.if-self.false
-    (sym c.is_empty.ensures ∙ c.if-is_empty.false)) c.begin.ensures.stands
+    subst (LineReaderAt c.go-2.new.self)
+    (anew c.args.self.now l c.args.piece.now h c.if-self.false (sym c.is_empty.ensures ∙ c.if-is_empty.false))
+    (c.go-2.ensures.stands []
+    (subst (λ x. LineReaderAt (record { line = c.clear.new.self; pending = x }) (record { bytes = []; ended = false }))
+    (sym c.if-self.false) (none_stands c.clear.new.self c.clear.ensures)))

@@ -1,7 +1,7 @@
 use Rattle.std.proofs.Common.{◌∙◌}
 use Rattle.std.proofs.lemmas.Result.{on_err_weaker}
 use Rattle.dn_instance.proofs.BodyLaws.{ids_took}
-use Rattle.dn_instance.proofs.body.VecI64Body.take.Goals as goal
+use Rattle.dn_instance.proofs.body.VecI64RowTaker.take.Goals as goal
 
 pub returns-clause-taken : goal.returns-clause-taken
 returns-clause-taken c before a =

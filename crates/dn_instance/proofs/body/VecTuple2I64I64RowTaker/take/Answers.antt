@@ -2,7 +2,7 @@ use Rattle.std.proofs.Common.{◌≡◌, ◌∙◌, arith, to_z, of_z, w64}
 use Rattle.std.proofs.lemmas.Int.{ints}
 use Rattle.std.proofs.lemmas.Result.{on_err_weaker}
 use Rattle.dn_instance.proofs.BodyLaws.{pairs_took}
-use Rattle.dn_instance.proofs.body.VecTuple2I64I64Body.take.Goals as goal
+use Rattle.dn_instance.proofs.body.VecTuple2I64I64RowTaker.take.Goals as goal
 
 pub returns-clause-taken : goal.returns-clause-taken
 returns-clause-taken c before a =

@@ -1,7 +1,7 @@
 use Rattle.std.proofs.Common.{◌≡◌, arith, to_z, of_z, w64}
 use Rattle.std.proofs.lemmas.Int.{ints}
 use Rattle.dn_instance.proofs.BodyLaws.{table_same, table_took}
-use Rattle.dn_instance.proofs.body.TableSoFarBody.take.Goals as goal
+use Rattle.dn_instance.proofs.body.TableSoFarRowTaker.take.Goals as goal
 
 pub returns-clause-taken : goal.returns-clause-taken
 returns-clause-taken g c before a =

@@ -1,0 +1,97 @@
+use Rattle.std.proofs.Common.{rules, ◌≡◌, ◌<◌, ◌+◌, ◌-◌, ◌^◌, ◌≤◌, ◌≤ℤ◌, ◌+ℤ◌, ◌-ℤ◌, pos, List, ◌++◌, get_or, length, take, drop, w64, FitsSigned, to_z, of_z, to_z-of_z, refl, sym, ap, ◌∙◌, subst, arith}
+use Rattle.std.specs.Int.{saturate_signed}
+use Rattle.std.proofs.lemmas.Int.{ints, to_z_pos}
+use Rattle.std.proofs.lemmas.List.{length-take-le}
+use Rattle.dn_line.specs.State.RowBlocks.{ReadUpTo}
+use Rattle.dn_line.specs.declared.row_block.RowLine.{RowLine}
+use Rattle.dn_instance.specs.Items.{Problem, counted}
+use Rattle.dn_instance.specs.State.RowRuns.{line_of}
+use Rattle.dn_instance.specs.State.TextsSoFar.{HasRead, RefusesFront, problem_as}
+use Rattle.dn_instance.specs.Texts.{items_of}
+use Rattle.dn_instance.specs.declared.text_so_far.TextSoFar.{TextSoFar}
+use Rattle.dn_instance.proofs.RowLinesLaws.{after_front, before_front, counted_rows, front_on, run_signs}
+use Rattle.dn_instance.proofs.RowRunLaws.{rows_read, come_in_time, still_declared, still_few, sum_fits, sum_taken, within_all}
+use Rattle.dn_instance.proofs.ItemSteps.{problem_agrees, with_lines}
+use Rattle.dn_instance.proofs.text_so_far.TextSoFar.take_counted.Goals as goal
+
+pub returns-clause-taken : goal.returns-clause-taken
+returns-clause-taken c ls at =
+    let self = c.args.self.now in
+    let kind = c.args.kind in
+    let bytes = c.args.bytes.now in
+    let byte = get_or bytes 0 0 in
+    let items = items_of ls in
+    let rows = c.rows-rows.result.now in
+    let t = c.take_rows-taken.result in
+    let n = length rows in
+    let m = t.rows in
+    let k = counted items in
+    let taken : List RowLine = take m rows in
+    let is = c.requires.kind in
+    let spell = counted_rows kind byte c.requires.other in
+    let problem = problem_agrees self items kind at.items_are is in
+    let p : Problem = problem_as self kind in
+    let read = c.read.ensures.rows in
+    let all = subst (λ l. ReadUpTo kind byte bytes l read.0) (sym c.rows-rows.ensures.rows) read.1 in
+    let took =
+    c.take_rows-taken.ensures.taken kind items (record {
+      problem = p;
+      problem_is = problem;
+      kind_is = refl;
+      nodes_are = refl;
+      signs = run_signs kind byte (line_of kind) spell rows bytes read.0 all;
+      holds = (is, at.items_are.holds);
+    }) in
+    let within = within_all t.fault m n c.take_rows-taken.ensures.within in
+    let long : length taken ≡ m = length-take-le m rows within in
+    let fits : FitsSigned w64 self.counted = search rules in
+    let fits_count : FitsSigned w64 self.count = search rules in
+    let left : c.saturating_sub-most.result ≡ saturate_signed w64 (self.count -ℤ pos k) =
+    c.saturating_sub-most.ensures
+    ∙ ap (λ z. saturate_signed w64 (z -ℤ to_z w64 (of_z w64 self.counted))) (to_z-of_z fits_count)
+    ∙ ap (λ z. saturate_signed w64 (self.count -ℤ z)) (to_z-of_z fits ∙ at.items_are.counted_is)
+    in
+    let round : to_z w64 (of_z w64 c.saturating_sub-most.result) ≡ c.saturating_sub-most.result = omega (arith, ints) in
+    let q = c.as_many.result in
+    let most = subst (λ z. 0 < q → pos q ≤ℤ z) round c.as_many.ensures in
+    let few : n ≤ q = subst (λ (l : List RowLine). length l ≤ q) (sym c.rows-rows.ensures.rows) c.read.ensures.few in
+    let declared = still_declared k m q self.count c.saturating_sub-most.result left most (omega arith) in
+    let small : k + m < 2 ^ 63 = still_few k m self.count at.items_are.count_fits at.items_are.counted_few declared in
+    let sum : c.saturating_add-self.result ≡ pos (k + m) =
+    c.saturating_add-self.ensures
+    ∙ ap (λ z. saturate_signed w64 (z +ℤ to_z w64 m)) (to_z-of_z fits ∙ at.items_are.counted_is)
+    ∙ ap (λ z. saturate_signed w64 (pos k +ℤ z)) (to_z_pos w64 m (let s : m < 2 ^ 63 = omega arith in s))
+    ∙ sum_taken k m small
+    in
+    let next = to_z w64 (of_z w64 c.saturating_add-self.result) in
+    let counted_is : next ≡ pos (k + m) =
+    ap (λ z. to_z w64 (of_z w64 z)) sum ∙ to_z-of_z (sum_fits (k + m) small) in
+    let held =
+    rows_read self c.take_rows-taken.new.self kind items at.items_are is (took.joins.holds.0 ∙ sym is) taken next
+    (counted_is ∙ ap (λ l. pos (k + l)) (sym long)) (subst (λ l. k + l < 2 ^ 63) (sym long) small) took.joins.holds.1 in
+    let after : TextSoFar = record self { counted = next; draft = c.take_rows-taken.new.self } in
+    let early =
+    come_in_time kind rows items p problem
+    (still_declared k n q self.count c.saturating_sub-most.result left most few) in
+    let short : length ls + n < 2 ^ 63 - 2 =
+    (let a = c.rows-rows.ensures.few in let e = at.number_is in let f = c.requires.early in omega arith) in
+    let front =
+    front_on kind byte (line_of kind) spell rows t bytes read.0 ls p all at.clean problem refl took.joins.faultless
+    early took.stops within short in
+    let on = front.run in
+    let used = c.front_of.ensures.used ∙ ap (λ k. length bytes - k) (sym front.left) in
+    record {
+      more = on.more;
+      whole = sym (before_front _ front.next bytes on.whole) ∙ ap (λ k. take k bytes) (sym used);
+      inner = on.inner;
+      read = record {
+        clean = on.clean;
+        few = (let k = on.number in omega arith);
+        number_is = ap (λ k. k + m) at.number_is ∙ ap (λ k. length ls + k) (sym long) ∙ sym on.number;
+        items_are = with_lines after _ _ (subst (HasRead after) (sym on.items) held);
+      };
+      stops =
+          subst (RefusesFront (ls ++ on.more) (drop c.front_of.result.used bytes)) (sym c.front_of.ensures.fault)
+          (subst (λ b. RefusesFront (ls ++ on.more) b t.fault)
+          (sym (after_front _ front.next bytes on.whole) ∙ ap (λ k. drop k bytes) (sym used)) front.stops);
+    }
