@@ -11,5 +11,4 @@ pub mod Refusals
 pub mod Readers
 pub mod ReaderStates
 pub mod SourceReads
-pub mod Companions
 pub mod Turned

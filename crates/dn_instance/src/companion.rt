@@ -2,9 +2,8 @@
 ghost use Rattle.std.specs.Prelude.{◌≡◌, ◌∷◌, []};
 ghost use Rattle.std.specs.List.{flat_map};
 ghost use Rattle.std.specs.Map.{keys_of};
-ghost use Rattle.dn_instance.specs.Companions.{both_nodes, fault_name, fault_number, within};
-ghost use Rattle.dn_instance.specs.State.Companions.{judged};
-ghost use Rattle.dn_instance.specs.State.Helds.{parsed};
+ghost use Rattle.dn_instance.specs.Companions.{both_nodes, companion_fit, fault_name, fault_number, within};
+ghost use Rattle.dn_instance.specs.State.Helds.{OfBoth};
 
 use crate::held::Held;
 use crate::view::View;
@@ -54,7 +53,7 @@ impl CompanionFault {
 /// `NotKinds` unless `graph` is `sp` and `companion` is `ss`, `p2p` or `co`. Otherwise `NotInGraph` with the first node
 /// above NODES, if there is one.
 pub fn check_companion(graph: &Held, companion: &Held) -> Result<(), CompanionFault>
-    ensures { result ≡ judged (parsed graph.now) (parsed companion.now) }
+    ensures { OfBoth graph.now companion.now (λ I J. result ≡ companion_fit I J) }
 {
     let View::Sp { .. } = graph.view() else {
         return Err(CompanionFault::NotKinds);

@@ -2,9 +2,9 @@
 use Rattle.std.proofs.Common.{◌≡◌, ◌≢◌, codes, ℕ, List, [], Option, Some, None, Result, Ok, Err, IfSome, refl, sym, ◌∙◌, subst, inr}
 use Rattle.dn_line.specs.declared.kind.Kind.{Kind}
 use Rattle.dn_arc.specs.declared.arc.Form.{Form}
-use Rattle.dn_instance.specs.State.Companions.{judged}
+use Rattle.dn_instance.specs.Companions.{companion_fit}
 use Rattle.dn_instance.specs.State.SourceReads.{HoldsCopied}
-use Rattle.dn_instance.specs.State.Helds.{IsHeld, contents_kind, parsed}
+use Rattle.dn_instance.specs.State.Helds.{IsHeld, OfBoth, contents_kind, parsed}
 use Rattle.dn_instance.specs.Instances.{Instance}
 use Rattle.dn_instance.specs.Texts.{Reads}
 use Rattle.dn_instance.specs.Validity.{IsValid}
@@ -30,7 +30,6 @@ use Rattle.dn_run.specs.Takings.{KeepsOthers}
 use Rattle.dn_run.specs.Texts.{AskedText, IsRefusedCanon, IsRefusedCopy, IsRefusedText, unopened}
 use Rattle.dn_run.specs.State.Texts.{IsCopy, IsRead}
 use Rattle.dn_run.specs.declared.files.FilesFault.{FilesFault}
-use Rattle.dn_run.proofs.FitLaws.{judged_is}
 use Rattle.dn_run.proofs.OutcomeLaws.{added, as_some, as_two, by_behind, cut_unread, done_unread, not_refused, on_held, on_left, on_left_read, on_read, on_refused, unfit_unread}
 use Rattle.dn_sink.specs.Sinks.{SinkWords}
 
@@ -198,17 +197,18 @@ module _ {T S : Type 0} (left right : AskedText T) (out : SinkRun S) (graph : He
 
   module _ (companion : Held) (k : IsRead (IsRefusedText right) right (Ok companion)) where
     -- if the companion does not fit, so `check` ends
-    pub unfit : (fault : CompanionFault) → judged (parsed graph) (parsed companion) ≡ Err fault
+    pub unfit : (fault : CompanionFault) → OfBoth graph companion (λ I J. Err fault ≡ companion_fit I J)
         → OnTwoTexts PutsFit Unfits (IsRefusedCopy left) left right out (Unfit right.name fault)
     unfit fault u = on_left_read PutsFit Unfits (IsRefusedCopy left) left right out graph (Unfit right.name fault) h
         (λ b I reads is. on_read (λ x J. PutsFit b I J) (Unfits I) (IsRefusedText right)
         (IsRefusedText right) right out companion (Unfit right.name fault) k
         (unfit_unread right.name fault right.name)
-        (λ x J reads' is'. (J, reads', refl, sym (judged_is (parsed graph) (parsed companion) I J is is') ∙ u)))
+        (λ x J reads' is'.
+        (J, reads', refl, sym (u I J (reads_valid b I reads) (reads_valid x J reads') is is'))))
 
     -- if the companion fits, `check` puts the lines of both texts
     module _ (kept copy : List ℕ) (s : copy ≡ kept) (c : IsCopy left kept (Ok graph)) (all : HoldsCopied [] kept graph)
-        (fit : judged (parsed graph) (parsed companion) ≡ Ok tt) (with : Kind)
+        (fit : OfBoth graph companion (λ I J. Ok tt ≡ companion_fit I J)) (with : Kind)
         (w : with ≡ contents_kind (parsed companion).contents) where
       pub fits : (answer : Answer)
           → ((I : Instance) → Reads copy I → IsHeld (parsed graph) I
@@ -217,35 +217,35 @@ module _ {T S : Type 0} (left right : AskedText T) (out : SinkRun S) (graph : He
       fits answer puts = on_left PutsFit Unfits (IsRefusedCopy left) left right out graph answer h
           (λ b none e I reads is. inr
           (let same : copy ≡ b = s ∙ copy_at left.fault left.behind (λ x. kept ≡ x) c b none e in
-          by_answer b I is answer
+          by_answer b I (reads_valid b I reads) is answer
           (subst (λ x. PutsFinding (PutsChecked (Some with) x I) out answer) same
           (puts I (subst (λ x. Reads x I) (sym same) reads) is))))
           (let (t, (I, reads, is), same) = all in
           let here : Reads copy I = subst (λ x. Reads x I) (sym (s ∙ same)) reads in
           as_two PutsFit Unfits (IsRefusedCopy left) left right out answer
-          (copy, I, here, (by_answer copy I is answer (puts I here is)).some))
+          (copy, I, here, (by_answer copy I (reads_valid copy I here) is answer (puts I here is)).some))
         where
-          fit_on : (b : List ℕ) (I : Instance) → IsHeld (parsed graph) I → (J : Instance)
+          fit_on : (b : List ℕ) (I J : Instance) → IsValid I → IsValid J → IsHeld (parsed graph) I
               → IsHeld (parsed companion) J → (status : ℕ) (t : List ℕ) → PutsChecked (Some with) b I status t
               → PutsFit b I J status t
-          fit_on b I is J is' status t p = (
-            sym (judged_is (parsed graph) (parsed companion) I J is is') ∙ fit,
+          fit_on b I J v v' is is' status t p = (
+            sym (fit I J v v' is is'),
             subst (λ x. PutsChecked (Some x) b I status t) (w ∙ held_kind (parsed companion) J is') p,
           )
 
-          by_answer : (b : List ℕ) (I : Instance) → IsHeld (parsed graph) I → (answer : Answer)
+          by_answer : (b : List ℕ) (I : Instance) → IsValid I → IsHeld (parsed graph) I → (answer : Answer)
               → PutsFinding (PutsChecked (Some with) b I) out answer
               → OnText (λ x J. PutsFit b I J) (Unfits I) (IsRefusedText right) right out answer
-          by_answer b I is (Done status) (t, p, a) =
+          by_answer b I v is (Done status) (t, p, a) =
               on_read (λ x J. PutsFit b I J) (Unfits I) (IsRefusedText right) (IsRefusedText right) right out companion
               (Done status) k (done_unread status right.name)
-              (λ x J reads' is'. (J, reads', t, fit_on b I is J is' status t p, a))
-          by_answer b I is (Refused of e) p = absurd p
-          by_answer b I is (Unfit of fault) p = absurd p
-          by_answer b I is Cut (status, t, p, f) =
+              (λ x J reads' is'. (J, reads', t, fit_on b I J v (reads_valid x J reads') is is' status t p, a))
+          by_answer b I v is (Refused of e) p = absurd p
+          by_answer b I v is (Unfit of fault) p = absurd p
+          by_answer b I v is Cut (status, t, p, f) =
               on_read (λ x J. PutsFit b I J) (Unfits I) (IsRefusedText right)
               (IsRefusedText right) right out companion Cut k (cut_unread right.name)
-              (λ x J reads' is'. (J, reads', status, t, fit_on b I is J is' status t p, f))
+              (λ x J reads' is'. (J, reads', status, t, fit_on b I J v (reads_valid x J reads') is is' status t p, f))
 
 -- ---- `compare`
 

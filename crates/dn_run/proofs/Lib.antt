@@ -1,6 +1,5 @@
 pub mod ReadLaws
 pub mod OutcomeLaws
-pub mod FitLaws
 pub mod CompareLaws
 pub mod CommandLaws
 pub mod RefusedLaws

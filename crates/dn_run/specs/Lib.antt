@@ -4,7 +4,6 @@ pub mod Takings
 pub mod Texts
 pub mod FilesRuns
 pub mod Outcomes
-pub mod Fits
 pub mod Runs
 pub mod Words
 pub mod State

@@ -3,6 +3,7 @@ use Rattle.std.specs.Prelude.{◌≡◌, ◌↔◌, ℕ, ◌≤◌, List, true, 
 use Rattle.dn_line.specs.declared.kind.Kind.{Kind}
 use Rattle.dn_arc.specs.declared.arc.Form.{Form}
 use Rattle.dn_arc.specs.declared.arc.Form.TheVariants.{One, Two}
+use Rattle.dn_instance.specs.Companions.{companion_fit}
 use Rattle.dn_instance.specs.Instances.{Instance, kind_of}
 use Rattle.dn_instance.specs.Sameness.{IsSame}
 use Rattle.dn_instance.specs.Texts.{Reads}
@@ -18,7 +19,6 @@ use Rattle.dn_report.specs.declared.check.Forms.{Forms}
 use Rattle.dn_command.specs.Commands.{Asked, Show, Check, Canon, Compare}
 use Rattle.dn_run.specs.Answers.{Answer, IsAnswerTo, OutAfter, Tells, status_of}
 use Rattle.dn_run.specs.FilesRuns.{FilesRun, OneAsked, TwoAsked}
-use Rattle.dn_run.specs.Fits.{companion_fit}
 use Rattle.dn_run.specs.Outcomes.{OnText, OnTwoTexts}
 use Rattle.dn_run.specs.Streams.{SinkRun, TakesLine}
 use Rattle.dn_run.specs.Texts.{IsRefusedText, IsRefusedCanon, IsRefusedCopy}

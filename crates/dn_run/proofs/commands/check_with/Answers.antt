@@ -1,4 +1,4 @@
-use Rattle.std.proofs.Common.{refl, inl, inr, sym, Ok, Err}
+use Rattle.std.proofs.Common.{refl, inl, inr, Ok, Err}
 use Rattle.dn_run.specs.FilesRuns.{files_run}
 use Rattle.dn_run.specs.Runs.{PutsFit, Unfits}
 use Rattle.dn_run.specs.Texts.{IsRefusedCopy}
@@ -19,7 +19,7 @@ returns-in-Ok-fits g c = record {
         c.copy_named.new.files c.args.name.now c.args.companion.now c.in-Ok.ensures.asks.keeps c.requires
         (Ok c.in-Ok-read_named.held) c.in-Ok-read_named.ensures.read)
         c.copy_named.new.copy.items c.deref.result.now c.deref.ensures.value c.in-Ok.ensures.copy c.in-Ok.ensures.copied
-        (sym c.in-Ok-fits.ensures) c.kind-with.result c.kind-with.ensures
+        c.in-Ok-fits.ensures c.kind-with.result c.kind-with.ensures
         _ c.put_check-put.ensures.puts;
   };
   out_after = c.put_check-put.ensures.out_after;
@@ -70,7 +70,7 @@ returns-in-Ok-read_named g c = record {
         (before_first (files_run g.F.Files.files g.F.Text.Source.source (c.args.files.now, c.read_named.new.files))
         c.copy_named.new.files c.args.name.now c.args.companion.now c.in-Ok.ensures.asks.keeps c.requires
         (Ok c.in-Ok-read_named.held) c.in-Ok-read_named.ensures.read)
-        c.in-Err-fits.fault (sym c.in-Err-fits.ensures);
+        c.in-Err-fits.fault c.in-Err-fits.ensures;
   };
   out_after = refl;
   answers = refl;
