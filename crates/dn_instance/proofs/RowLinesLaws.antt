@@ -31,9 +31,10 @@ use Rattle.dn_instance.specs.State.ItemFaults.{AnswersFault}
 use Rattle.dn_instance.specs.declared.body.Taken.{Taken}
 use Rattle.dn_instance.specs.declared.refusal.ItemFault.{ItemFault}
 use Rattle.dn_instance.specs.State.RowRuns.{AreFaultless, AreInTime, HasSigns, IsInTime, line_of, row_items, supply_of}
-use Rattle.dn_instance.specs.State.TextsSoFar.{AreInner, ReadsFront, RefusesFront, TextAt, closed_lines, next_read}
+use Rattle.dn_instance.specs.State.TextsSoFar.{AreInner, HasRead, ReadsFront, RefusesFront, TextAt, closed_lines, next_read}
 use Rattle.dn_instance.specs.TextFaults.{is_arc, is_counted_letter, is_full, is_node_letter, item_tests, order_tests}
 use Rattle.dn_instance.specs.Texts.{IsClean, items_of, with_next}
+use Rattle.dn_instance.specs.declared.text_so_far.Front.{Front}
 use Rattle.dn_instance.specs.declared.text_so_far.TextSoFar.{TextSoFar}
 use Rattle.dn_instance.proofs.CleanItems.{items_push}
 use Rattle.dn_instance.proofs.FirstFaults.{fault_after}
@@ -197,6 +198,19 @@ pub record RunOn (line : Row → Line) (bytes rest : List ℕ) (ls : List (List 
   pub items : items_of (ls ++ more) ≡ items_of ls ++ row_items line rows
   pub number : length (ls ++ more) ≡ length ls + length rows
 
+-- the bytes before the rest, and the rest
+pub before_front : (a b c : List ℕ) → a ++ b ≡ c → take (length c - length b) c ≡ a
+before_front a b c e =
+    ap (λ x. take (length x - length b) x) (sym e)
+    ∙ ap (λ n. take n (a ++ b)) (let n = length-append a b in omega arith)
+    ∙ take-append_seam a b
+
+pub after_front : (a b c : List ℕ) → a ++ b ≡ c → drop (length c - length b) c ≡ b
+after_front a b c e =
+    ap (λ x. drop (length x - length b) x) (sym e)
+    ∙ ap (λ n. drop n (a ++ b)) (let n = length-append a b in omega arith)
+    ∙ drop-append_seam a b
+
 module _ (kind : Kind) (byte : ℕ) (line : Row → Line) (rows_spell : SpellsRows kind byte line) where
   -- LOW and CAP of an item that the line of a row spells are at least 0
   line_signs : (ws : List Word) (r : Row) → ReadsRow kind ws (line r) → HasSigns (line r)
@@ -292,34 +306,43 @@ module _ (kind : Kind) (byte : ℕ) (line : Row → Line) (rows_spell : SpellsRo
         needs = λ e. record { item = line r.row; spelled = one.adds; needs = s.memory (ap Err e) };
       }
 
-  -- the lines of the rows that were taken, and the fault of the next line
-  pub record FrontOn (bytes : List ℕ) (ls : List (List ℕ)) (rows : List RowLine) (t : Taken) : Type 0 where
-    pub next : List ℕ
-    pub left : length next ≡ last_left (length bytes) (take t.rows rows)
-    pub run : RunOn line bytes next ls (take t.rows rows)
-    pub stops : RefusesFront (ls ++ run.more) next t.fault
-
-  pub front_on : (rows : List RowLine) (t : Taken) (bytes rest : List ℕ) (ls : List (List ℕ)) (p : Problem)
-      → ReadUpTo kind byte bytes rows rest → IsClean ls → problem_of (items_of ls) ≡ Some p → p.kind ≡ kind
+  -- the lines of the rows that were taken have been read, and the next line has the fault
+  pub front_read : (now : TextSoFar) (rows : List RowLine) (t : Taken) (bytes rest : List ℕ) (ls : List (List ℕ))
+      (p : Problem) (front : Front) → ReadUpTo kind byte bytes rows rest → IsClean ls
+      → problem_of (items_of ls) ≡ Some p → p.kind ≡ kind
       → AreFaultless (items_of ls) (row_items line (take t.rows rows)) → AreInTime (items_of ls) (row_items line rows)
       → StopsAt line (items_of ls ++ row_items line (take t.rows rows)) (drop t.rows rows) t.fault
-      → t.rows ≤ length rows → length ls + length rows < 2 ^ 63 - 2 → FrontOn bytes ls rows t
-  front_on rows t bytes rest ls p u clean problem is f early s within few =
+      → t.rows ≤ length rows → length ls + length rows < 2 ^ 63 - 2
+      → now.closed ≡ length ls + t.rows → HasRead now (items_of ls ++ row_items line (take t.rows rows))
+      → front.used ≡ length bytes - last_left (length bytes) (take t.rows rows) → front.fault ≡ t.fault
+      → ReadsFront now ls bytes front
+  front_read now rows t bytes rest ls p front u clean problem is f early s within few number held used fault =
       let taken = take t.rows rows in
-      let front = split_at rows t.rows bytes rest u in
+      let split = split_at rows t.rows bytes rest u in
       let times = in_time_split line rows t.rows (items_of ls) early in
       let long : length taken ≡ t.rows = length-take-le t.rows rows within in
-      let on = run_on taken bytes front.0 ls p front.1 clean problem is f times.0 (omega arith) in
+      let on = run_on taken bytes split.0 ls p split.1 clean problem is f times.0 (omega arith) in
+      let left : front.used ≡ length bytes - length split.0 = used ∙ ap (λ n. length bytes - n) (sym split.2) in
+      let lines : length (ls ++ on.more) ≡ length ls + t.rows = on.number ∙ ap (λ n. length ls + n) long in
       record {
-        next = front.0;
-        left = front.2;
-        run = on;
+        more = on.more;
+        whole = sym (before_front _ split.0 bytes on.whole) ∙ ap (λ n. take n bytes) (sym left);
+        inner = on.inner;
+        read = record {
+          clean = on.clean;
+          few = omega arith;
+          number_is = number ∙ sym lines;
+          items_are = subst (HasRead now) (sym on.items) held;
+        };
         stops =
-            refuses (drop t.rows rows) front.0 rest (ls ++ on.more) p t.fault front.3
+            subst (RefusesFront (ls ++ on.more) (drop front.used bytes)) (sym fault)
+            (subst (λ b. RefusesFront (ls ++ on.more) b t.fault)
+            (sym (after_front _ split.0 bytes on.whole) ∙ ap (λ n. drop n bytes) (sym left))
+            (refuses (drop t.rows rows) split.0 rest (ls ++ on.more) p t.fault split.3
             (ap problem_of on.items ∙ problem_all (items_of ls) (row_items line taken) p problem) is
             (subst (λ x. AreInTime x (row_items line (drop t.rows rows))) (sym on.items) times.1)
             (subst (λ x. StopsAt line x (drop t.rows rows) t.fault) (sym on.items) s)
-            (let n = on.number in omega arith);
+            (omega arith)));
       }
     where
       -- the first m of these lines, and those after them
@@ -332,19 +355,6 @@ module _ (kind : Kind) (byte : ℕ) (line : Row → Line) (rows_spell : SpellsRo
       split_at (r ∷ rows) (suc m) bytes rest u =
           let q = split_at rows m u.0 rest u.2 in
           (q.0, (u.0, u.1, q.1), subst (λ n. length q.0 ≡ last_left n (take m rows)) (sym u.1.left) q.2, q.3)
-
--- the bytes before the rest, and the rest
-pub before_front : (a b c : List ℕ) → a ++ b ≡ c → take (length c - length b) c ≡ a
-before_front a b c e =
-    ap (λ x. take (length x - length b) x) (sym e)
-    ∙ ap (λ n. take n (a ++ b)) (let n = length-append a b in omega arith)
-    ∙ take-append_seam a b
-
-pub after_front : (a b c : List ℕ) → a ++ b ≡ c → drop (length c - length b) c ≡ b
-after_front a b c e =
-    ap (λ x. drop (length x - length b) x) (sym e)
-    ∙ ap (λ n. drop n (a ++ b)) (let n = length-append a b in omega arith)
-    ∙ drop-append_seam a b
 
 -- no line has been taken
 pub none_read : (t : TextSoFar) (ls : List (List ℕ)) (bytes : List ℕ) → TextAt t ls

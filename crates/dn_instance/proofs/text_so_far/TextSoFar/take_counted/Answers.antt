@@ -1,4 +1,4 @@
-use Rattle.std.proofs.Common.{rules, ◌≡◌, ◌<◌, ◌+◌, ◌-◌, ◌^◌, ◌≤◌, ◌≤ℤ◌, ◌+ℤ◌, ◌-ℤ◌, pos, List, ◌++◌, get_or, length, take, drop, w64, FitsSigned, to_z, of_z, to_z-of_z, refl, sym, ap, ◌∙◌, subst, arith}
+use Rattle.std.proofs.Common.{rules, ◌≡◌, ◌<◌, ◌+◌, ◌-◌, ◌^◌, ◌≤◌, ◌≤ℤ◌, ◌+ℤ◌, ◌-ℤ◌, pos, List, get_or, length, take, w64, FitsSigned, to_z, of_z, to_z-of_z, refl, sym, ap, ◌∙◌, subst, arith}
 use Rattle.std.specs.Int.{saturate_signed}
 use Rattle.std.proofs.lemmas.Int.{ints, to_z_pos}
 use Rattle.std.proofs.lemmas.List.{length-take-le}
@@ -6,10 +6,10 @@ use Rattle.dn_line.specs.State.RowBlocks.{ReadUpTo}
 use Rattle.dn_line.specs.declared.row_block.RowLine.{RowLine}
 use Rattle.dn_instance.specs.Items.{Problem, counted}
 use Rattle.dn_instance.specs.State.RowRuns.{line_of}
-use Rattle.dn_instance.specs.State.TextsSoFar.{HasRead, RefusesFront, problem_as}
+use Rattle.dn_instance.specs.State.TextsSoFar.{problem_as}
 use Rattle.dn_instance.specs.Texts.{items_of}
 use Rattle.dn_instance.specs.declared.text_so_far.TextSoFar.{TextSoFar}
-use Rattle.dn_instance.proofs.RowLinesLaws.{after_front, before_front, counted_rows, front_on, run_signs}
+use Rattle.dn_instance.proofs.RowLinesLaws.{counted_rows, front_read, run_signs}
 use Rattle.dn_instance.proofs.RowRunLaws.{rows_read, come_in_time, still_declared, still_few, sum_fits, sum_taken, within_all}
 use Rattle.dn_instance.proofs.ItemSteps.{problem_agrees, with_lines}
 use Rattle.dn_instance.proofs.text_so_far.TextSoFar.take_counted.Goals as goal
@@ -75,23 +75,7 @@ returns-clause-taken c ls at =
     (still_declared k n q self.count c.saturating_sub-most.result left most few) in
     let short : length ls + n < 2 ^ 63 - 2 =
     (let a = c.rows-rows.ensures.few in let e = at.number_is in let f = c.requires.early in omega arith) in
-    let front =
-    front_on kind byte (line_of kind) spell rows t bytes read.0 ls p all at.clean problem refl took.joins.faultless
-    early took.stops within short in
-    let on = front.run in
-    let used = c.front_of.ensures.used ∙ ap (λ k. length bytes - k) (sym front.left) in
-    record {
-      more = on.more;
-      whole = sym (before_front _ front.next bytes on.whole) ∙ ap (λ k. take k bytes) (sym used);
-      inner = on.inner;
-      read = record {
-        clean = on.clean;
-        few = (let k = on.number in omega arith);
-        number_is = ap (λ k. k + m) at.number_is ∙ ap (λ k. length ls + k) (sym long) ∙ sym on.number;
-        items_are = with_lines after _ _ (subst (HasRead after) (sym on.items) held);
-      };
-      stops =
-          subst (RefusesFront (ls ++ on.more) (drop c.front_of.result.used bytes)) (sym c.front_of.ensures.fault)
-          (subst (λ b. RefusesFront (ls ++ on.more) b t.fault)
-          (sym (after_front _ front.next bytes on.whole) ∙ ap (λ k. drop k bytes) (sym used)) front.stops);
-    }
+    front_read kind byte (line_of kind) spell (record after { closed = self.closed + m }) rows t bytes read.0 ls p
+    c.front_of.result all at.clean problem refl took.joins.faultless early took.stops within short
+    (ap (λ k. k + m) at.number_is) (with_lines after (self.closed + m) _ held) c.front_of.ensures.used
+    c.front_of.ensures.fault

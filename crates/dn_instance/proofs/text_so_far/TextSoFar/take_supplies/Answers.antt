@@ -1,7 +1,6 @@
 use Rattle.std.proofs.Common.{rules, ◌≡◌, ◌<◌, ◌+◌, ◌-◌, ◌^◌, ◌≤◌, pos, int_lt, not, List, ◌++◌, true, false, get_or, length, take, drop, w64, FitsSigned, to_z-of_z, refl, sym, ap, ◌∙◌, subst, arith}
 use Rattle.std.proofs.lemmas.Bool.Decides.{nat_tests}
 use Rattle.std.proofs.lemmas.Int.{ints}
-use Rattle.std.proofs.lemmas.List.{length-take-le}
 use Rattle.std.specs.List.{list_any}
 use Rattle.dn_line.specs.State.RowBlocks.{ReadUpTo}
 use Rattle.dn_line.specs.declared.kind.Kind.TheVariants.{Min}
@@ -9,11 +8,11 @@ use Rattle.dn_line.specs.declared.row_block.RowLine.{RowLine}
 use Rattle.dn_instance.specs.Items.{Problem}
 use Rattle.dn_instance.specs.State.RowRuns.{supply_of}
 use Rattle.dn_instance.specs.State.Drafts.{is_graph}
-use Rattle.dn_instance.specs.State.TextsSoFar.{HasRead, RefusesFront, problem_as}
+use Rattle.dn_instance.specs.State.TextsSoFar.{problem_as}
 use Rattle.dn_instance.specs.TextFaults.{is_arc}
 use Rattle.dn_instance.specs.Texts.{items_of}
 use Rattle.dn_instance.specs.declared.text_so_far.TextSoFar.{TextSoFar}
-use Rattle.dn_instance.proofs.RowLinesLaws.{after_front, before_front, front_on, none_read, run_signs, supply_rows}
+use Rattle.dn_instance.proofs.RowLinesLaws.{front_read, none_read, run_signs, supply_rows}
 use Rattle.dn_instance.proofs.RowRunLaws.{supplies_in_time, supplies_read, within_all}
 use Rattle.dn_instance.proofs.ItemSteps.{problem_agrees, with_lines}
 use Rattle.dn_instance.proofs.text_so_far.TextSoFar.take_supplies.Goals as goal
@@ -48,35 +47,17 @@ returns-clause-taken c ls at =
       holds = (is, at.items_are.holds);
     }) in
     let within = within_all t.fault m n c.take_supplies-taken.ensures.within in
-    let long : length taken ≡ m = length-take-le m rows within in
     let held =
     supplies_read self c.take_supplies-taken.new.self items at.items_are is (took.joins.holds.0 ∙ sym is) taken
     took.joins.holds.1 in
     let after : TextSoFar = record self { draft = c.take_supplies-taken.new.self } in
-    let fits : FitsSigned w64 self.counted = search rules in
-    let no_arc : list_any is_arc items ≡ false = 
+    let no_arc : list_any is_arc items ≡ false =
     at.items_are.arcs_are (ap is_graph is)
     ∙ (let none = c.if-self-gt0.false in grind (arith, ints, nat_tests)) in
     let early = supplies_in_time rows items no_arc in
     let short : length ls + n < 2 ^ 63 - 2 =
     (let a = c.rows-rows.ensures.few in let e = at.number_is in let f = c.requires.early in omega arith) in
-    let front =
-    front_on Min byte supply_of spell rows t bytes read.0 ls p all at.clean problem refl took.joins.faultless early
-    took.stops within short in
-    let on = front.run in
-    let used = c.front_of.ensures.used ∙ ap (λ k. length bytes - k) (sym front.left) in
-    record {
-      more = on.more;
-      whole = sym (before_front _ front.next bytes on.whole) ∙ ap (λ k. take k bytes) (sym used);
-      inner = on.inner;
-      read = record {
-        clean = on.clean;
-        few = (let k = on.number in omega arith);
-        number_is = ap (λ k. k + m) at.number_is ∙ ap (λ k. length ls + k) (sym long) ∙ sym on.number;
-        items_are = with_lines after _ _ (subst (HasRead after) (sym on.items) held);
-      };
-      stops =
-          subst (RefusesFront (ls ++ on.more) (drop c.front_of.result.used bytes)) (sym c.front_of.ensures.fault)
-          (subst (λ b. RefusesFront (ls ++ on.more) b t.fault)
-          (sym (after_front _ front.next bytes on.whole) ∙ ap (λ k. drop k bytes) (sym used)) front.stops);
-    }
+    front_read Min byte supply_of spell (record after { closed = self.closed + m }) rows t bytes read.0 ls p
+    c.front_of.result all at.clean problem refl took.joins.faultless early took.stops within short
+    (ap (λ k. k + m) at.number_is) (with_lines after (self.closed + m) _ held) c.front_of.ensures.used
+    c.front_of.ensures.fault
