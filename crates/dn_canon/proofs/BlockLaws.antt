@@ -3,9 +3,10 @@ use Rattle.std.proofs.Common.{◌≡◌, ℕ, List, [], ◌++◌, Result, Ok, Er
 use Rattle.std.proofs.lemmas.Result.{MatchResult-from_err}
 use Rattle.std.proofs.KnownBytes.{Appends-trans}
 use Rattle.dn_sink.specs.declared.sink.SinkFault.{SinkFault}
-use Rattle.dn_sink.specs.Puts.{HasPut, PutsPrefix}
+use Rattle.dn_sink.specs.Puts.{HasPut, PutsPrefix, Puts}
 use Rattle.dn_canon.specs.State.Blocks.{Passes}
 use Rattle.dn_sink.specs.Sinks.{SinkWords}
+use Rattle.dn_sink.proofs.PutLaws.{put_last}
 
 module _ {K : Type 0} {sink : SinkWords K} {a b : K} where
   -- a prefix of a text is a prefix of each longer text
@@ -63,6 +64,12 @@ longer {K} {sink} {a} {b} {left} {all} rest h =
           h.fine;
     }
 
+-- a line that is appended after room was made passes through the block
+pub line_passes : {K : Type 0} {sink : SinkWords K} {a b : K} {before after all : List ℕ}
+    (line : List ℕ) → after ≡ before ++ line → HasPut sink a b before all → HasPut sink a b after (all ++ line)
+line_passes {K} {sink} {a} {b} {before} {after} {all} line e h =
+    subst (λ l. HasPut sink a b l (all ++ line)) (sym e) (longer line h)
+
 -- a part x of the rest passes through the block
 pub pass_more : {K : Type 0} {sink : SinkWords K} {a b c : K} {after all : List ℕ} (before x rest : List ℕ)
     → HasPut sink a b (before ++ (x ++ rest)) all
@@ -83,3 +90,10 @@ pub all_done : {K : Type 0} {sink : SinkWords K} {a b : K} {all : List ℕ} (blo
     → HasPut sink a b block all
 all_done {K} {sink} {a} {b} {all} block left e has =
     subst (λ l. HasPut sink a b l all) (ap (λ l. block ++ l) e ∙ append-nil block) has
+
+-- putting the bytes of the last block ends a put of the whole text
+pub put_block : {K : Type 0} (sink : SinkWords K) (a b c : K) (bytes block all : List ℕ)
+    (r : Result (Unit {0}) SinkFault) → bytes ≡ block → HasPut sink a b block all → Puts sink b c bytes r
+    → Puts sink a c all r
+put_block sink a b c bytes block all r e h p =
+    put_last sink a b c bytes all r (subst (λ l. HasPut sink a b l all) (sym e) h) p

@@ -1,16 +1,15 @@
 // A buffer on the stack that gathers lines of a text, so that the sink takes many at a time.
-ghost use Rattle.std.specs.Prelude.{◌≡◌, ℕ, List, ◌+◌, ◌*◌, ◌<◌, ◌≤◌, [], ◌∷◌, ◌++◌, length, map, take, IsTrue, OnOk};
+ghost use Rattle.std.specs.Prelude.{◌≡◌, ℕ, List, ◌+◌, ◌*◌, ◌<◌, ◌≤◌, [], ◌∷◌, ◌++◌, length, map, take, OnOk};
 ghost use Rattle.std.specs.Fmt.{signed_decimal};
 ghost use Rattle.dn_line.specs.declared.word.Keyword.TheVariants.{A};
 ghost use Rattle.dn_sink.specs.Rows.{line_text};
 ghost use Rattle.dn_sink.specs.State.Spaced.{spaced};
-ghost use Rattle.dn_sink.specs.Puts.{Puts};
 ghost use Rattle.dn_canon.specs.State.Blocks.{HasRoom, Passes};
 ghost use Rattle.dn_canon.specs.Prints.{word_row};
 
 use dn_bundle::Parts;
 use dn_num::put_number;
-use dn_sink::{Sink, SinkFault, put_all, put_and_flush};
+use dn_sink::{Sink, SinkFault, put_all};
 use std::marker::Model;
 
 // The size of a block in bytes.
@@ -109,18 +108,17 @@ impl Block {
         ensures room { OnOk result (HasRoom self.new) }
     {
         if SIZE - LINE < self.used {
-            put_all(sink, &self.bytes[..self.used])?;
+            put_all(sink, self.bytes())?;
             self.used = 0;
         }
         Ok(())
     }
 
-    // Puts the block into a sink as the last one of a text, and flushes the sink.
-    pub(crate) fn put_last<K: Sink>(&self, sink: &mut K) -> Result<(), SinkFault>
-        ensures text { Puts K.sink sink.old sink.new self.now result }
-        ensures flushed { OnOk result (IsTrue (K.sink.is_flushed sink.new)) }
+    // Returns the bytes.
+    pub(crate) fn bytes(&self) -> &[u8]
+        ensures { result.now ≡ self.now }
     {
-        put_and_flush(sink, &self.bytes[..self.used])
+        &self.bytes[..self.used]
     }
 }
 

@@ -1,14 +1,13 @@
-// The lines of a canonical text, each appended to a block. All but the problem lines first put the block into a sink if
-// the line might not fit.
+// The lines of a canonical text but those of arcs, each appended to a block. All but the problem lines first put the
+// block into a sink if the line might not fit.
 ghost use Rattle.std.specs.Prelude.{◌≡◌, ◌+◌, ◌<◌, ◌≤◌, ◌^◌, [], ◌∷◌, ◌++◌, length, map};
 ghost use Rattle.std.specs.Fmt.{signed_decimal};
-ghost use Rattle.dn_line.specs.declared.word.Keyword.TheVariants.{A, S, T};
+ghost use Rattle.dn_line.specs.declared.word.Keyword.TheVariants.{S, T};
 ghost use Rattle.dn_sink.specs.Rows.{line_text};
 ghost use Rattle.dn_canon.specs.State.Blocks.{HasRoom, Passes};
-ghost use Rattle.dn_canon.specs.Prints.{word_row, graph_row, companion_row, supply_row, terminal_row, source_row, query_row, point_row};
+ghost use Rattle.dn_canon.specs.Prints.{graph_row, companion_row, supply_row, terminal_row, source_row, query_row, point_row};
 
 use crate::block::Block;
-use dn_bundle::Parts;
 use dn_line::Kind;
 use dn_sink::{Sink, SinkFault};
 
@@ -81,22 +80,6 @@ pub(crate) fn max_sink_line<K: Sink>(
     block.byte(b'n');
     block.number(id);
     block.push(b" t\n");
-    Ok(())
-}
-
-// Appends the line of an arc at its ordered pair.
-pub(crate) fn arc_line<P: Parts, K: Sink>(
-    block: &mut Block,
-    sink: &mut K,
-    pair: &(i64, i64),
-    arc: &P,
-) -> Result<(), SinkFault>
-    requires { length (P.numbers arc.now) ≤ 3 }
-    ensures { Passes K.sink sink.old sink.new block.new
-        (block.old ++ line_text (word_row A (pair.now.0 ∷ pair.now.1 ∷ P.numbers arc.now))) result }
-{
-    block.make_room(sink)?;
-    block.arc(pair, arc);
     Ok(())
 }
 

@@ -17,13 +17,13 @@ ghost use Rattle.dn_canon.specs.State.Writes.{node_rows, Writes};
 
 use crate::block::Block;
 use crate::print::{
-    arc_line, companion_line, graph_line, max_sink_line, max_source_line, point_line, query_line,
+    companion_line, graph_line, max_sink_line, max_source_line, point_line, query_line,
     source_line, supply_line,
 };
 use dn_bundle::{Bundle, Form};
 use dn_instance::{Refusal, Table};
 use dn_line::Kind;
-use dn_sink::{Sink, SinkFault};
+use dn_sink::{Sink, SinkFault, put_and_flush};
 use std::collections::BTreeMap;
 
 // The lines between the problem line and the arcs of a graph.
@@ -75,7 +75,7 @@ pub(crate) fn write_sources<K: Sink>(sink: &mut K, ids: &[i64]) -> Result<(), Si
     for id in ids {
         source_line(&mut block, sink, id)?;
     }
-    block.put_last(sink)
+    put_and_flush(sink, block.bytes())
 }
 
 // Writes a `p2p` text.
@@ -89,7 +89,7 @@ pub(crate) fn write_queries<K: Sink>(sink: &mut K, queries: &[(i64, i64)]) -> Re
     for query in queries {
         query_line(&mut block, sink, query)?;
     }
-    block.put_last(sink)
+    put_and_flush(sink, block.bytes())
 }
 
 // Writes a `co` text, by rising ID.
@@ -106,7 +106,7 @@ pub(crate) fn write_points<K: Sink>(
     for (id, place) in points {
         point_line(&mut block, sink, id, place)?;
     }
-    block.put_last(sink)
+    put_and_flush(sink, block.bytes())
 }
 
 // Returns the number of arcs that a table lists, if it is below 2^63.
@@ -137,7 +137,8 @@ fn put_bundle<B: Bundle, K: Sink>(
     let mut next = bundle.canon_arc(0, form);
     for _ in 0..bundle.canon_len(form) {
         if let Some(arc) = next {
-            arc_line(block, sink, pair, &arc)?;
+            block.make_room(sink)?;
+            block.arc(pair, &arc);
             next = bundle.canon_after(&arc, form);
         }
     }
@@ -217,5 +218,5 @@ fn put_graph<B: Bundle, K: Sink>(
     graph_line(&mut block, kind, nodes, count);
     put_nodes(&mut block, sink, lines)?;
     put_table(&mut block, sink, table, form)?;
-    block.put_last(sink)
+    put_and_flush(sink, block.bytes())
 }

@@ -2,9 +2,13 @@
 use Rattle.std.proofs.Common.{◌≡◌, ◌≢◌, ℕ, suc, zero, ◌<◌, ℤ, pos, List, [], ◌∷◌, Bool, true, false, cond, Option, Some, None, refl, sym, ap, ◌∙◌, subst, arith}
 use Rattle.std.specs.BTreeMap.{is_at}
 use Rattle.std.specs.List.{AllByRecursion}
+use Rattle.std.specs.List.Sorted.{IsStrictlySortedBy}
+use Rattle.std.specs.Map.{keys_of}
 use Rattle.std.specs.Ordering.{int_cmp}
 use Rattle.std.specs.declared.cmp.Ordering.TheVariants.{Less}
+use Rattle.std.proofs.lemmas.Cmp.{int_cmp_total}
 use Rattle.std.proofs.lemmas.Int.{ints}
+use Rattle.std.proofs.lemmas.Map.Lookups.{exact_signed}
 use Rattle.dn_line.specs.declared.kind.Kind.{Kind}
 use Rattle.dn_arc.specs.State.Bundles.{IsKind}
 use Rattle.dn_arc.specs.Kinds.{ArcKind, costs, capacities, lengths}
@@ -34,7 +38,7 @@ use Rattle.dn_compare.specs.FirstDifference.{BundlesDiffer, IsFirstDifference}
 use Rattle.dn_compare.specs.State.Partings.{by_flow, by_point, AlikeAt, PartAt, IsPairVerdict, IsListVerdict, IsVerdictOn}
 use Rattle.dn_instance.specs.declared.verdict.Verdict.{Verdict}
 use Rattle.dn_instance.specs.declared.verdict.Verdict.TheVariants as Verdicts
-use Rattle.dn_compare.proofs.MapWalks.{IdsRise, same_entries}
+use Rattle.dn_compare.proofs.WalkLaws.{same_entries}
 use Rattle.dn_compare.proofs.FirstLaws.{kind_first, nodes_first, supply_first, source_first, sink_first, pair_first, length_first, item_first, point_first}
 use Rattle.dn_compare.proofs.VerdictLaws.{same_first}
 
@@ -104,10 +108,11 @@ same_flow (Some z) None f g e = absurd (f z refl e)
 same_flow (Some y) (Some z) f g e = ap Some e
 
 -- valid supplies with the same flow at every ID are equal
-pub supplies_same : (m n : ℤ) (s t : List (ℤ × ℤ)) → IdsRise s → IdsRise t → AllByRecursion (IsSupply m) s
-    → AllByRecursion (IsSupply n) t → ((q : ℤ) → AlikeAt int_cmp by_flow s t q) → s ≡ t
+pub supplies_same : (m n : ℤ) (s t : List (ℤ × ℤ)) → IsStrictlySortedBy int_cmp (keys_of s)
+    → IsStrictlySortedBy int_cmp (keys_of t) → AllByRecursion (IsSupply m) s → AllByRecursion (IsSupply n) t
+    → ((q : ℤ) → AlikeAt int_cmp by_flow s t q) → s ≡ t
 supplies_same m n s t rs rt some_s some_t e =
-    same_entries s t rs rt
+    same_entries int_cmp int_cmp_total exact_signed s t rs rt
     (λ q. same_flow (value_of s q) (value_of t q) (λ z. some_flow m q z s some_s) (λ z. some_flow n q z t some_t) (e q))
 
 pub supply_on : (ls rs : List (ℤ × ℤ)) (lt rt : List ((ℤ × ℤ) × CurveNumbers)) (id l r : ℤ)
@@ -247,7 +252,8 @@ pub points_on : (xs ys : List (ℤ × (ℤ × ℤ))) → ((q : ℤ) → AlikeAt 
     → IsVerdictOn (OfCo xs) (OfCo ys) Verdicts.Same
 points_on xs ys h (Coordinates is) (Coordinates js) p q n x y =
     same_first (Coordinates is) (Coordinates js)
-    (same_entries is js p.map q.map (λ i. ap (λ m. value_of m i) (sym x) ∙ h i ∙ ap (λ m. value_of m i) y))
+    (same_entries int_cmp int_cmp_total exact_signed is js p.map q.map
+    (λ i. ap (λ m. value_of m i) (sym x) ∙ h i ∙ ap (λ m. value_of m i) y))
 points_on xs ys h (Coordinates is) _ p q n x y = absurd y
 points_on xs ys h _ J p q n x y = absurd x
 

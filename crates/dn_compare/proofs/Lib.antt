@@ -3,6 +3,5 @@ pub mod PlaceLaws
 pub mod VerdictLaws
 pub mod FirstLaws
 pub mod WalkLaws
-pub mod PairWalks
-pub mod MapWalks
+pub mod ArcPartings
 pub mod HeldVerdicts

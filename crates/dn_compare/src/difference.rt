@@ -5,7 +5,7 @@ ghost use Rattle.dn_table.specs.State.Tables.{Lists};
 ghost use Rattle.dn_compare.specs.FirstDifference.{IsFirstDifference};
 ghost use Rattle.dn_compare.specs.State.Partings.{IsListVerdict, IsPairVerdict, IsVerdictOn};
 
-use crate::parting::{Item, first_item, first_pair, first_point, first_supply};
+use crate::parting::{Item, first_item, first_parting};
 use dn_bundle::{Bundle, Curve, Total};
 use dn_instance::{Held, Table, Verdict, View};
 use std::collections::BTreeMap;
@@ -76,7 +76,7 @@ fn min_verdict(
 ) -> Verdict
     ensures { IsVerdictOn (OfMin left.now.entries left_table.now) (OfMin right.now.entries right_table.now) result }
 {
-    match first_supply(left, right) {
+    match first_parting(left.iter(), right.iter()) {
         Some((id, (left, right))) => Verdict::Supply { id, left, right },
         None => pair_verdict(left_table, right_table),
     }
@@ -113,7 +113,7 @@ fn pair_verdict<B: Bundle>(left: &Table<B>, right: &Table<B>) -> Verdict
         → Lists B.bundle left.now xs → Lists B.bundle right.now ys
         → IsPairVerdict B.bundle.kind xs ys result }
 {
-    match first_pair(left, right) {
+    match first_parting(left.pairs(), right.pairs()) {
         Some(((src, dst), how)) => Verdict::Pair { src, dst, how },
         None => Verdict::Same,
     }
@@ -139,8 +139,8 @@ fn list_verdict<T: Item>(left: &[T], right: &[T]) -> Verdict
 fn point_verdict(left: &BTreeMap<i64, (i64, i64)>, right: &BTreeMap<i64, (i64, i64)>) -> Verdict
     ensures { IsVerdictOn (OfCo left.now.entries) (OfCo right.now.entries) result }
 {
-    match first_point(left, right) {
-        Some(id) => Verdict::Point { id },
+    match first_parting(left.iter(), right.iter()) {
+        Some((id, ())) => Verdict::Point { id },
         None => Verdict::Same,
     }
 }

@@ -1,66 +1,24 @@
 // Where two graphs, maps or lists first differ.
-ghost use Rattle.std.specs.Prelude.{◌≡◌, ◌↔◌, ℕ, ℤ, List, IsTrue, MatchOption, length};
-ghost use Rattle.std.specs.Option.{option_map};
-ghost use Rattle.std.specs.Ordering.{int_cmp};
-ghost use Rattle.dn_table.specs.State.Tables.{Lists};
+ghost use Rattle.std.specs.Prelude.{◌≡◌, ◌↔◌, ℕ, IsTrue, MatchOption, length};
+ghost use Rattle.std.specs.List.Sorted.{IsStrictlySortedBy};
+ghost use Rattle.std.specs.Map.{keys_of};
 ghost use Rattle.dn_compare.specs.Observed.{item_at};
-ghost use Rattle.dn_compare.specs.State.Partings.{by_flow, by_point, IsArcsParting, IsParting, ItemsPartAt};
+ghost use Rattle.dn_compare.specs.State.Partings.{IsParting, ItemsPartAt};
 
-use crate::walk::{MapWalk, TableWalk, lesser_id, lesser_pair};
-use dn_bundle::{Bundle, How};
-use dn_instance::Table;
-use std::collections::BTreeMap;
+use crate::side::Side;
+use crate::walk::{Walk, lesser};
 
-// Returns the least pair at which the arcs of two graphs differ in meaning, and how they differ. Walks both tables
-// once.
-pub(crate) fn first_pair<B: Bundle>(left: &Table<B>, right: &Table<B>) -> Option<((i64, i64), How)>
-    ensures { (xs ys : List ((ℤ × ℤ) × B.Arc))
-        → Lists B.bundle left.now xs → Lists B.bundle right.now ys
-        → IsArcsParting B.bundle.kind xs ys result }
+// Returns the least key at which two sides differ, and how they differ. Walks both sides once.
+pub(crate) fn first_parting<S: Side>(left: S, right: S) -> Option<(S::Key, S::How)>
+    requires left { IsStrictlySortedBy S.Key.cmp (keys_of (S.entries left)) }
+    requires right { IsStrictlySortedBy S.Key.cmp (keys_of (S.entries right)) }
+    ensures { IsParting S.Key.cmp S.by (S.entries left) (S.entries right) result }
 {
-    let mut lefts = TableWalk::new(left);
-    let mut rights = TableWalk::new(right);
-    while let Some(pair) = lesser_pair(lefts.pair(), rights.pair()) {
-        if let Some(how) = B::how(lefts.take(&pair), rights.take(&pair)) {
-            return Some((pair, how));
-        }
-    }
-    None
-}
-
-// Returns the least ID at which the flows differ, and both flows.
-pub(crate) fn first_supply(
-    left: &BTreeMap<i64, i64>,
-    right: &BTreeMap<i64, i64>,
-) -> Option<(i64, (i64, i64))>
-    ensures { IsParting int_cmp by_flow left.now.entries right.now.entries result }
-{
-    let mut lefts = MapWalk::new(left);
-    let mut rights = MapWalk::new(right);
-    while let Some(id) = lesser_id(lefts.id(), rights.id()) {
-        let left = lefts.take(&id).unwrap_or(0);
-        let right = rights.take(&id).unwrap_or(0);
-        if left != right {
-            return Some((id, (left, right)));
-        }
-    }
-    None
-}
-
-// Returns the least ID at which the points differ, or only one side has a point.
-pub(crate) fn first_point(
-    left: &BTreeMap<i64, (i64, i64)>,
-    right: &BTreeMap<i64, (i64, i64)>,
-) -> Option<i64>
-    ensures { IsParting int_cmp by_point left.now.entries right.now.entries (option_map (λ id. (id, tt)) result) }
-{
-    let mut lefts = MapWalk::new(left);
-    let mut rights = MapWalk::new(right);
-    while let Some(id) = lesser_id(lefts.id(), rights.id()) {
-        let point = lefts.take(&id);
-        let other = rights.take(&id);
-        if point != other {
-            return Some(id);
+    let mut lefts = Walk::new(left);
+    let mut rights = Walk::new(right);
+    while let Some(key) = lesser(lefts.key(), rights.key()) {
+        if let Some(how) = S::how(lefts.take(&key), rights.take(&key)) {
+            return Some((key, how));
         }
     }
     None

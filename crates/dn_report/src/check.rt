@@ -6,7 +6,7 @@ ghost use Rattle.dn_report.specs.Checks.{checked_rows, form_words};
 
 use crate::lines::{put_lines, word_line};
 use dn_line::Kind;
-use dn_sink::{LineBuffer, Sink, SinkFault, put_and_flush};
+use dn_sink::{LineBuffer, Sink, SinkFault};
 
 /// The forms in which a text is the canonical text of what it reads as.
 #[derive(Clone, Copy)]
@@ -33,7 +33,7 @@ pub fn put_checked<K: Sink>(
     ensures flushed { OnOk result (IsTrue (K.sink.is_flushed sink.new)) }
 {
     put_findings(sink, kind, companion, forms)?;
-    put_and_flush(sink, b"")
+    sink.flush()
 }
 
 // Puts the lines of `put_checked`.

@@ -10,7 +10,7 @@ ghost use Rattle.dn_report.specs.State.ListedRows.{ShowsHeld, held_rows, table_r
 use crate::lines::{count_line, number_line, put_lines, word_line};
 use crate::pair_line::PairLine;
 use dn_instance::{Held, Table, View};
-use dn_sink::{LineBuffer, Sink, SinkFault, put_and_flush};
+use dn_sink::{LineBuffer, Sink, SinkFault};
 
 /// Puts the lines of `show`: the kind, the number of nodes and of counted lines, what else the kind has, and, for a
 /// graph, the ordered pairs whose arcs mean something, by rising pair. Each pair has its least length, its total
@@ -25,7 +25,7 @@ pub fn put_shown<K: Sink>(sink: &mut K, held: &Held) -> Result<(), SinkFault>
     ensures flushed { OnOk result (IsTrue (K.sink.is_flushed sink.new)) }
 {
     put_held(sink, held)?;
-    put_and_flush(sink, b"")
+    sink.flush()
 }
 
 // Puts the lines of a parsed instance.

@@ -8,7 +8,7 @@ ghost use Rattle.dn_report.specs.Verdicts.{number_or_none, verdict_row};
 use dn_bundle::{Gap, How};
 use dn_instance::Verdict;
 use dn_line::Kind;
-use dn_sink::{LineBuffer, Sink, SinkFault, put_and_flush};
+use dn_sink::{LineBuffer, Sink, SinkFault};
 
 /// Puts the line of a verdict, and then flushes the sink. The line is `same`, or `differ`, what differs, where, and the
 /// values of the left and the right side. Allocates nothing.
@@ -21,7 +21,7 @@ pub fn put_verdict<K: Sink>(sink: &mut K, verdict: &Verdict) -> Result<(), SinkF
     ensures flushed { OnOk result (IsTrue (K.sink.is_flushed sink.new)) }
 {
     verdict_line(verdict).put(sink)?;
-    put_and_flush(sink, b"")
+    sink.flush()
 }
 
 fn verdict_line(verdict: &Verdict) -> LineBuffer

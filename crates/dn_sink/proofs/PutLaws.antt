@@ -1,12 +1,13 @@
 -- Lemmas on putting a text into a sink piece by piece.
-use Rattle.std.proofs.Common.{◌≡◌, ℕ, ◌+◌, ◌-◌, ◌<◌, List, [], ◌++◌, length, take, drop, Result, Ok, Err, IsErr, ap, sym, ◌∙◌, refl, subst, arith, append_assoc, append-nil, take-append-drop}
+use Rattle.std.proofs.Common.{◌≡◌, ℕ, ◌+◌, ◌-◌, ◌<◌, List, [], ◌++◌, length, take, drop, Option, Some, None, Result, Ok, Err, IsErr, ap, sym, ◌∙◌, refl, subst, arith, append_assoc, append-nil, take-append-drop}
 use Rattle.std.proofs.lemmas.List.{take_all, length-drop, drop-drop}
 use Rattle.std.proofs.lemmas.Result.{MatchResult-from_err}
 use Rattle.std.proofs.KnownBytes.{Appends-trans, Appends-nil}
+use Rattle.std.specs.Io.KnownBytes.{Appends, Keeps}
 use Rattle.dn_sink.specs.declared.sink.SinkFault.{SinkFault}
 use Rattle.dn_sink.specs.Sinks.{SinkWords}
 use Rattle.dn_sink.specs.Puts.{HasPut, PutsPrefix, Puts}
-use Rattle.dn_sink.specs.State.Turns.{Took}
+use Rattle.dn_sink.specs.State.Turns.{Took, Flush}
 
 -- before the first put, the whole text is left
 pub put_from : {K : Type 0} {k : SinkWords K} {a : K} {left all : List ℕ} → left ≡ all → HasPut k a a left all
@@ -53,11 +54,26 @@ module _ {K : Type 0} {k : SinkWords K} {a b c : K} where
     failed = f.failed;
   }
 
+kept : (a b : Option (List ℕ)) → Keeps a b → Appends a b []
+kept None b e = tt
+kept (Some x) None e = absurd e
+kept (Some x) (Some y) e = e ∙ sym (append-nil x)
+
 -- putting the rest ends a put of the whole text
 pub put_last : {K : Type 0} (k : SinkWords K) (a b c : K) (x all : List ℕ) (r : Result (Unit {0}) SinkFault)
     → HasPut k a b x all → Puts k b c x r → Puts k a c all r
 put_last k a b c x all (Ok u) h p = put_more (subst (λ l. HasPut k a b l all) (sym (append-nil x)) h) p
 put_last k a b c x all (Err e) h p = put_stop x [] (subst (λ l. HasPut k a b l all) (sym (append-nil x)) h) p
+
+-- a flush ends a put of the whole text
+pub put_flushed : {K : Type 0} (k : SinkWords K) (a b c : K) (all : List ℕ) (r : Result (Unit {0}) SinkFault)
+    → HasPut k a b [] all → Flush k b c r → Puts k a c all r
+put_flushed k a b c all (Ok u) h f =
+    put_last k a b c [] all (Ok u) h
+    (record { put = []; bytes = kept (k.taken b) (k.taken c) f.bytes; whole = refl; fine = f.fine })
+put_flushed k a b c all (Err e) h f =
+    put_last k a b c [] all (Err e) h
+    (record { put = []; left = []; bytes = kept (k.taken b) (k.taken c) f.bytes; whole = refl; failed = f.err })
 
 -- a fault of a call is the fault of the whole put
 pub stopped : {K : Type 0} {k : SinkWords K} {a b : K} {all : List ℕ} (r : Result (Unit {0}) SinkFault) → IsErr r

@@ -21,6 +21,10 @@ pub record Comparison (V W : Type 0) : Type 1 where
   pub Alike : Option V → Option V → Type 0
   pub Differ : Option V → Option V → W → Type 0
 
+-- the values count as the same, or this is how they differ
+abbrev pub Compares : {V W : Type 0} → Comparison V W → Option V → Option V → Option W → Type 0
+Compares by a b how = MatchOption how (by.Alike a b) (by.Differ a b)
+
 module _ {K V W : Type 0} (cmp : K → K → Ordering) (by : Comparison V W) (left right : List (K × V)) where
   -- both lists have the same value at a key
   abbrev pub AlikeAt : K → Type 0

@@ -42,7 +42,7 @@ use Rattle.dn_compare.specs.State.Partings.{Comparison, by_flow, by_point, Alike
 use Rattle.dn_laws.specs.State.DifferenceExamples.{with_lengths, flow_from, supplied, with_costs, length_arc_at, cap_arc_at, cost_arc_at, worked_lengths, without_loop, worked_capacities, with_nothing, without_nothing}
 use Rattle.dn_instance.specs.declared.verdict.Verdict.TheVariants as Verdicts
 use Rattle.dn_compare.proofs.WalkLaws.{key_is}
-use Rattle.dn_compare.proofs.PairWalks.{exact_pair}
+use Rattle.dn_compare.proofs.ArcPartings.{exact_pair}
 use Rattle.dn_compare.proofs.VerdictLaws.{same_first}
 use Rattle.dn_compare.proofs.FirstLaws.{kind_first, nodes_first, source_first, sink_first}
 use Rattle.dn_compare.proofs.HeldVerdicts.{inner, supply_at, min_pairs, max_pairs, sp_pairs, sources_first, queries_first, points_first}

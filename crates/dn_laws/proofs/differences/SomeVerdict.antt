@@ -25,9 +25,8 @@ use Rattle.dn_compare.specs.FirstDifference.{IsFirstDifference}
 use Rattle.dn_compare.specs.State.Partings.{IsPairVerdict, ItemsPartAt, IsListVerdict}
 use Rattle.dn_instance.specs.declared.verdict.Verdict.{Verdict}
 use Rattle.dn_instance.specs.declared.verdict.Verdict.TheVariants as Verdicts
-use Rattle.dn_compare.proofs.WalkLaws.{key_self, key_is}
-use Rattle.dn_compare.proofs.PairWalks.{exact_pair}
-use Rattle.dn_compare.proofs.MapWalks.{same_entries}
+use Rattle.dn_compare.proofs.WalkLaws.{key_self, key_is, same_entries}
+use Rattle.dn_compare.proofs.ArcPartings.{exact_pair}
 use Rattle.dn_compare.proofs.VerdictLaws.{same_first}
 use Rattle.dn_compare.proofs.FirstLaws.{kind_first, nodes_first, source_first, sink_first}
 use Rattle.dn_compare.proofs.HeldVerdicts.{inner, supply_at, supplies_same, min_pairs, max_pairs, sp_pairs, sources_first, queries_first, points_first}
@@ -325,7 +324,11 @@ some_sp G H g h n =
 some_points : (xs ys : List (ℤ × (ℤ × ℤ))) → IsValid (Coordinates xs) → IsValid (Coordinates ys)
     → AnyVerdict (Coordinates xs) (Coordinates ys)
 some_points xs ys g h = elim (least_id xs ys (λ a b. a ≡ b) (λ a b. a ≢ b) same_point_or_not refl) [
-  | inl all ↦ (Verdicts.Same, same_first (Coordinates xs) (Coordinates ys) (same_entries xs ys g.map h.map all))
+  | inl all ↦ (
+      Verdicts.Same,
+      same_first (Coordinates xs) (Coordinates ys)
+          (same_entries int_cmp int_cmp_total exact_signed xs ys g.map h.map all),
+    )
   | inr l ↦ (Verdicts.Point l.0, points_first xs ys l.0 (record { differ = l.1; same_before = l.2 }))
 ]
 

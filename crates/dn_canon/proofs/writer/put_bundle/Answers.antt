@@ -4,25 +4,25 @@ use Rattle.dn_sink.specs.Rows.{text_of}
 use Rattle.dn_sink.specs.Puts.{HasPut}
 use Rattle.dn_canon.specs.State.ListedArcs.{placed}
 use Rattle.dn_sink.proofs.PutLaws.{put_from}
-use Rattle.dn_canon.proofs.BlockLaws.{pass_stopped}
+use Rattle.dn_canon.proofs.BlockLaws.{line_passes, pass_stopped, prefix_more}
 use Rattle.dn_canon.proofs.LineLaws.{drop_get}
 use Rattle.dn_canon.proofs.PutLaws.{row_more, row_stop, some_below, arc_text}
 use Rattle.dn_canon.proofs.writer.put_bundle.Goals as goal
-use Rattle.dn_canon.proofs.writer.put_bundle.Goals.{in-Some+in_ok-arc_line, in_default}
+use Rattle.dn_canon.proofs.writer.put_bundle.Goals.{in-Some+in_ok-make_room, in_default}
 
 pub loop-init : goal.loop-init
 loop-init g c = record { next = c.canon_arc-next.ensures; has = put_from refl }
 
-pub returns-in_err-arc_line : goal.returns-in_err-arc_line
-returns-in_err-arc_line g c =
+pub returns-in_err-make_room : goal.returns-in_err-make_room
+returns-in_err-make_room g c =
     let listed = g.B.Bundle.bundle.listed c.args.form c.args.bundle.now in
-    pass_stopped c.arc_line.new.block c.from_residual.result c.from_residual.ensures.0
+    pass_stopped c.make_room.new.self c.from_residual.result c.from_residual.ensures.0
     (row_stop (arc_row g.B.Bundle.bundle.kind) c.loop.block (placed c.args.pair.now (drop c.loop.counter listed))
     (placed c.args.pair.now (drop (c.loop.counter + 1) listed)) (c.args.pair.now, c.in-Some.arc)
     (ap (placed c.args.pair.now)
     (drop_get listed c.loop.counter c.in-Some.arc (sym c.loop.invariant.next ∙ c.in-Some.is)))
     (arc_text g.B.Bundle.bundle.kind c.args.pair.now c.in-Some.arc _ _ refl
-    (g.met.B.Bundle.same_numbers c.in-Some.arc)) c.loop.invariant.has c.in_err-arc_line.ensures)
+    (g.met.B.Bundle.same_numbers c.in-Some.arc)) c.loop.invariant.has (prefix_more _ c.in_err-make_room.ensures.put))
 
 pub loop-preserved : goal.loop-preserved
 loop-preserved g c =
@@ -30,7 +30,7 @@ loop-preserved g c =
     let text : ℕ
     → List ℕ = λ i. text_of (map (arc_row g.B.Bundle.bundle.kind) (placed c.args.pair.now (drop i listed))) in
     elim c.match-next.branch [
-      | in-Some+in_ok-arc_line w ↦
+      | in-Some+in_ok-make_room w ↦
           let here = sym c.loop.invariant.next ∙ w.in-Some.is in
           record {
             next = w.next-is ∙ w.canon_after-next.ensures c.loop.counter here;
@@ -39,14 +39,15 @@ loop-preserved g c =
                 (λ s. HasPut g.K.Sink.sink c.args.sink.now s (c.match-next.block ++ text (c.loop.counter + 1))
                 (c.args.block.now ++ text 0)) (sym w.sink-is)
                 (subst
-                (λ b. HasPut g.K.Sink.sink c.args.sink.now w.arc_line.new.sink (b ++ text (c.loop.counter + 1))
+                (λ b. HasPut g.K.Sink.sink c.args.sink.now w.make_room.new.sink (b ++ text (c.loop.counter + 1))
                 (c.args.block.now ++ text 0)) (sym w.block-is)
                 (row_more (arc_row g.B.Bundle.bundle.kind) c.loop.block
                 (placed c.args.pair.now (drop c.loop.counter listed))
                 (placed c.args.pair.now (drop (c.loop.counter + 1) listed)) (c.args.pair.now, w.in-Some.arc)
                 (ap (placed c.args.pair.now) (drop_get listed c.loop.counter w.in-Some.arc here))
                 (arc_text g.B.Bundle.bundle.kind c.args.pair.now w.in-Some.arc _ _ refl
-                (g.met.B.Bundle.same_numbers w.in-Some.arc)) c.loop.invariant.has w.in_ok-arc_line.ensures));
+                (g.met.B.Bundle.same_numbers w.in-Some.arc)) c.loop.invariant.has
+                (line_passes _ w.arc.ensures w.in_ok-make_room.ensures.put)));
           }
       | in_default w ↦ absurd
           (some_below listed c.loop.counter c.loop.next (omega arith) c.loop.invariant.next w.in_default.not-Some)

@@ -3,8 +3,8 @@ use Rattle.dn_canon.specs.Prints.{arc_row, graph_row, graph_rows}
 use Rattle.dn_sink.specs.Rows.{line_text, text_of}
 use Rattle.dn_canon.specs.State.ListedArcs.{listed_graph}
 use Rattle.dn_canon.specs.State.Writes.{node_rows}
-use Rattle.dn_sink.proofs.PutLaws.{put_from, put_last, stopped}
-use Rattle.dn_canon.proofs.BlockLaws.{pass_more, pass_stop, all_done}
+use Rattle.dn_sink.proofs.PutLaws.{put_from, stopped}
+use Rattle.dn_canon.proofs.BlockLaws.{pass_more, pass_stop, all_done, put_block}
 use Rattle.dn_canon.proofs.PutLaws.{graph_text}
 use Rattle.dn_canon.proofs.writer.put_graph.Goals as goal
 
@@ -49,10 +49,12 @@ returns-clause-text g c =
     put_from
     (graph_text g.B.Bundle.bundle.kind c.args.kind graph
     (node_rows c.args.lines.now) c.args.count c.graph_line.new.block head c.requires.count) in
-    put_last g.K.Sink.sink c.args.sink.now c.put_table.new.sink c.put_last.new.sink c.put_table.new.block
-    (text_of (graph_rows g.B.Bundle.bundle.kind c.args.kind graph (node_rows c.args.lines.now))) c.put_last.result
+    put_block g.K.Sink.sink c.args.sink.now c.put_table.new.sink c.put_and_flush.new.sink c.bytes.result.now
+    c.put_table.new.block
+    (text_of (graph_rows g.B.Bundle.bundle.kind c.args.kind graph (node_rows c.args.lines.now))) c.put_and_flush.result
+    c.bytes.ensures
     (all_done c.put_table.new.block [] refl
     (pass_more c.put_nodes.new.block arcs []
     (pass_more c.graph_line.new.block nodes
     (arcs ++ []) start c.in_ok-put_nodes.ensures) c.in_ok-put_table.ensures))
-    c.put_last.ensures.text
+    c.put_and_flush.ensures.puts

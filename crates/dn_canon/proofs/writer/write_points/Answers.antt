@@ -2,8 +2,8 @@ use Rattle.std.proofs.Common.{map, refl, ap}
 use Rattle.dn_canon.specs.Prints.{point_row, print}
 use Rattle.dn_sink.specs.Rows.{text_of}
 use Rattle.dn_instance.specs.Instances.{Coordinates}
-use Rattle.dn_sink.proofs.PutLaws.{put_last, stopped}
-use Rattle.dn_canon.proofs.BlockLaws.{all_done}
+use Rattle.dn_sink.proofs.PutLaws.{stopped}
+use Rattle.dn_canon.proofs.BlockLaws.{all_done, put_block}
 use Rattle.dn_canon.proofs.PutLaws.{row_more, row_stop}
 use Rattle.dn_canon.proofs.writer.write_points.Goals as goal
 
@@ -20,8 +20,8 @@ returns-in_err-point_line-clause-text g c =
 
 pub returns-clause-text : goal.returns-clause-text
 returns-clause-text g c =
-    put_last g.K.Sink.sink c.args.sink.now c.loop-id.sink c.put_last.new.sink c.loop-id.block
-    (print (Coordinates c.args.points.now.entries)) c.put_last.result
+    put_block g.K.Sink.sink c.args.sink.now c.loop-id.sink c.put_and_flush.new.sink c.bytes.result.now
+    c.loop-id.block (print (Coordinates c.args.points.now.entries)) c.put_and_flush.result c.bytes.ensures
     (all_done c.loop-id.block (text_of (map point_row c.loop-id.id-iterator))
     (ap (λ left. text_of (map point_row left)) c.in-None.ensures.steps.0) c.loop-id.invariant)
-    c.put_last.ensures.text
+    c.put_and_flush.ensures.puts

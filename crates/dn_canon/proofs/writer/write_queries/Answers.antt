@@ -2,7 +2,8 @@ use Rattle.std.proofs.Common.{◌+◌, drop, refl, pos}
 use Rattle.std.proofs.lemmas.List.{drop_more}
 use Rattle.dn_canon.specs.Prints.{query_row, print}
 use Rattle.dn_instance.specs.Instances.{Queries}
-use Rattle.dn_sink.proofs.PutLaws.{put_last, stopped}
+use Rattle.dn_sink.proofs.PutLaws.{stopped}
+use Rattle.dn_canon.proofs.BlockLaws.{put_block}
 use Rattle.dn_canon.proofs.PutLaws.{row_more, row_stop, rows_done}
 use Rattle.dn_canon.proofs.writer.write_queries.Goals as goal
 
@@ -23,8 +24,8 @@ loop-query-preserved g c =
 
 pub returns-clause-text : goal.returns-clause-text
 returns-clause-text g c =
-    put_last g.K.Sink.sink c.args.sink.now c.loop-query.sink c.put_last.new.sink c.loop-query.block
-    (print (Queries c.args.queries.now)) c.put_last.result
+    put_block g.K.Sink.sink c.args.sink.now c.loop-query.sink c.put_and_flush.new.sink c.bytes.result.now
+    c.loop-query.block (print (Queries c.args.queries.now)) c.put_and_flush.result c.bytes.ensures
     (rows_done query_row c.loop-query.block c.args.queries.now c.loop-query.query-index c.loop-query-test.false
     c.loop-query.invariant)
-    c.put_last.ensures.text
+    c.put_and_flush.ensures.puts

@@ -2,7 +2,8 @@ use Rattle.std.proofs.Common.{◌+◌, drop, refl, pos}
 use Rattle.std.proofs.lemmas.List.{drop_more}
 use Rattle.dn_canon.specs.Prints.{source_row, print}
 use Rattle.dn_instance.specs.Instances.{Sources}
-use Rattle.dn_sink.proofs.PutLaws.{put_last, stopped}
+use Rattle.dn_sink.proofs.PutLaws.{stopped}
+use Rattle.dn_canon.proofs.BlockLaws.{put_block}
 use Rattle.dn_canon.proofs.PutLaws.{row_more, row_stop, rows_done}
 use Rattle.dn_canon.proofs.writer.write_sources.Goals as goal
 
@@ -23,7 +24,7 @@ loop-id-preserved g c =
 
 pub returns-clause-text : goal.returns-clause-text
 returns-clause-text g c =
-    put_last g.K.Sink.sink c.args.sink.now c.loop-id.sink c.put_last.new.sink c.loop-id.block
-    (print (Sources c.args.ids.now)) c.put_last.result
+    put_block g.K.Sink.sink c.args.sink.now c.loop-id.sink c.put_and_flush.new.sink c.bytes.result.now
+    c.loop-id.block (print (Sources c.args.ids.now)) c.put_and_flush.result c.bytes.ensures
     (rows_done source_row c.loop-id.block c.args.ids.now c.loop-id.id-index c.loop-id-test.false c.loop-id.invariant)
-    c.put_last.ensures.text
+    c.put_and_flush.ensures.puts

@@ -1,7 +1,6 @@
-use Rattle.std.proofs.Common.{[]}
 use Rattle.dn_instance.specs.State.Helds.{parsed}
 use Rattle.dn_sink.specs.Rows.{text_of}
-use Rattle.dn_sink.proofs.PutLaws.{put_last, stopped}
+use Rattle.dn_sink.proofs.PutLaws.{put_flushed, stopped}
 use Rattle.dn_report.specs.State.ListedRows.{held_rows}
 use Rattle.dn_report.proofs.MeantRows.{held_shown}
 use Rattle.dn_report.proofs.show.put_shown.Goals as goal
@@ -20,7 +19,7 @@ returns-clause-text g c =
     let h = parsed c.args.held.now in
     let all = text_of (held_rows h) in (
       all,
-      put_last g.K.Sink.sink c.args.sink.now c.put_held.new.sink c.put_and_flush.new.sink [] all
-          c.put_and_flush.result c.in_ok-put_held.ensures c.put_and_flush.ensures.puts,
+      put_flushed g.K.Sink.sink c.args.sink.now c.put_held.new.sink c.flush.new.self all c.flush.result
+          c.in_ok-put_held.ensures c.flush.ensures,
       held_shown h,
     )
