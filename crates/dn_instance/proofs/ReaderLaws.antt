@@ -1,5 +1,5 @@
 -- Lemmas on what a reader has read.
-use Rattle.std.proofs.Common.{◌≡◌, ℕ, ◌+◌, ◌≤◌, List, [], ◌∷◌, ◌++◌, length, take, drop, Option, Some, None, Ok, Err, Result, MatchOption, MatchResult, ◌⊎◌, inl, inr, refl, sym, ap, ◌∙◌, subst, arith, length-append, append-nil, append_assoc, pos, option_and_then}
+use Rattle.std.proofs.Common.{◌≡◌, ℕ, ◌+◌, ◌≤◌, List, [], ◌∷◌, ◌++◌, length, take, drop, Option, Some, None, Ok, Err, Result, MatchOption, ◌⊎◌, inl, inr, refl, sym, ap, ◌∙◌, subst, arith, length-append, append-nil, append_assoc, pos, option_and_then}
 use Rattle.std.proofs.Math.Seq.{take-append_seam}
 use Rattle.std.proofs.lemmas.List.{take_all, take-append-le}
 use Rattle.dn_line.specs.declared.code.Code.{Code}
@@ -14,7 +14,7 @@ use Rattle.dn_instance.specs.declared.refusal.Refusal.TheVariants.{Text, Memory,
 use Rattle.dn_instance.specs.State.ItemFaults.{AnswersFault}
 use Rattle.dn_instance.specs.Readers.{SpellsNeed, ended}
 use Rattle.dn_instance.specs.State.Readers.{lines_taken, IsNext, EntriesBefore, IsRefused, Fed, Outcome, answer_of}
-use Rattle.dn_instance.specs.State.ReaderStates.{Finishes, StopsIn, Takes, TakesAll, IsReading, ReaderAt}
+use Rattle.dn_instance.specs.State.ReaderStates.{StopsIn, Takes, TakesAll, IsReading, ReaderAt}
 use Rattle.dn_instance.specs.State.Refusals.{refused_at}
 use Rattle.dn_instance.specs.TextFaults.{line_fault}
 use Rattle.dn_instance.specs.Texts.{items_of, FaultAt, IsClean, IsFirstFaultAt}
@@ -217,12 +217,6 @@ refused_last t before e h =
     listed_of t e
     (refused_on before 0 (lines t) (lines t) e (omega arith)
     (record { rest = []; whole = sym (append-nil (lines t)) }) h)
-
--- the outcome of a text that is fed at once
-pub read_whole : (r : Reader) (t : List ℕ) (fed : Result (Unit {0}) Refusal) (a : Result Held Refusal) → Fed t fed
-    → ReaderAt r t → MatchResult fed (λ x. Finishes r a) (λ e. a ≡ Err e) → Outcome t a
-read_whole r t (Ok x) a listed at h = h.outcome t at
-read_whole r t (Err e) a listed at h = subst (Outcome t) (sym h) (refused_early t e listed)
 
 -- the parsed instance of a whole text represents what the text reads as
 pub held_whole : (x : TextSoFar) (t : List ℕ) (held : Held) → TextAt x (lines t)

@@ -1,7 +1,7 @@
 -- Lemmas on the outcome of reading a source.
-use Rattle.std.proofs.Common.{◌≡◌, inl, inr, ℕ, ◌<◌, ◌≤◌, ◌^◌, List, [], ◌++◌, append_assoc, append-nil, length, Bool, true, false, ◌==◌, Option, Some, None, Result, Ok, Err, refl, sym, ap, ◌∙◌, subst, arith, IfSome, IfErr, IfOk, IsErr, IsErrAnd, IsErrOf, MatchResult, OnOk}
+use Rattle.std.proofs.Common.{◌≡◌, ◌⊎◌, inl, inr, ℕ, ◌<◌, ◌≤◌, ◌^◌, List, [], ◌++◌, append_assoc, append-nil, length, Bool, true, false, ◌==◌, Option, Some, None, Result, Ok, Err, refl, sym, ap, ◌∙◌, subst, arith, IfSome, IfErr, IfOk, IsErrOf, IsTrue}
 use Rattle.std.specs.Io.KnownBytes.{Consumes, IsAtEnd, Keeps}
-use Rattle.std.proofs.KnownBytes.{Consumes-trans}
+use Rattle.std.proofs.KnownBytes.{Consumes-kept, Consumes-trans, Consumes-whole, Keeps-refl}
 use Rattle.std.proofs.lemmas.Bool.{eqb-true, eqb-false}
 use Rattle.std.proofs.lemmas.List.{nil_from_length}
 use Rattle.dn_line.specs.Pieces.{lines}
@@ -13,9 +13,8 @@ use Rattle.dn_instance.specs.declared.refusal.Refusal.{Refusal}
 use Rattle.dn_instance.specs.declared.refusal.Refusal.TheVariants.{Text, Memory, Read, Endless, Write, CountTooLarge}
 use Rattle.dn_instance.specs.Readers.{ended, WantsMemory}
 use Rattle.dn_instance.specs.State.Readers.{IsRefused, Outcome, answer_of}
-use Rattle.dn_instance.specs.State.ReaderStates.{Finishes, IsFed, ReaderAt}
-use Rattle.dn_instance.specs.SourceReads.{AfterPulls, CleanSoFar, GaveLast, PulledBytes, PulledWhileClean, RanOut, IsOfReading}
-use Rattle.dn_instance.specs.State.SourceReads.{StopsInPiece, StopsAt, SourceOutcome, Copied, CopyOutcome, HoldsCopied, HoldsSome}
+use Rattle.dn_instance.specs.SourceReads.{AfterPulls, CleanSoFar, GaveLast, PulledWhileClean, RanOut, IsOfReading, after_pulls}
+use Rattle.dn_instance.specs.State.SourceReads.{StopsInPiece, StopsAt, SourceLeft, SourceOutcome, Copied, CopyOutcome, HoldsCopied, HoldsKept, HoldsSome, IsFed, IsKept, KeptOutcome}
 use Rattle.dn_instance.specs.Texts.{IsClean}
 use Rattle.dn_instance.proofs.PieceSteps.{More, ended_more, lines_more}
 use Rattle.dn_instance.proofs.ReaderLaws.{reading, refused_on}
@@ -67,128 +66,16 @@ piece_outcome t left Endless h s = absurd h
 piece_outcome t left Write h s = absurd h
 piece_outcome t left CountTooLarge h s = absurd h
 
--- a source after pulls
-abbrev pub after : Option (List ℕ) → (List ℕ → List ℕ → Type 0) → AfterPulls
-after gives Gave = record { gives = gives; Gave = Gave }
+-- what holds of all bytes that a source gave and still gives holds of its bytes, if they are known
+given_rest : (old new : Option (List ℕ)) (given : List ℕ) (P : List ℕ → Type 0) → Consumes old new given
+    → ((t rest : List ℕ) → t ≡ given ++ rest → new ≡ Some rest → P t) → IfSome old P
+given_rest None new given P c f = tt
+given_rest (Some t) None given P c f = absurd c
+given_rest (Some t) (Some rest) given P c f = f t rest c refl
 
--- the last of some pulls
-pub gave_last : {S : Type 0} (source : SourceWords S) (old before new : S) (given piece : List ℕ)
-    → PulledBytes source old before → Consumes (source.gives old) (source.gives before) given → source.Pulls before new
-    → Consumes (source.gives before) (source.gives new) piece → GaveLast source old new given piece
-gave_last source old before new given piece p c l d =
-    record { before = before; pulls = p; gave = c; last = l; gave_last = d }
-
--- the outcome of a text that is refused at a piece
-pub refused_given : (old mid new : Option (List ℕ)) (Gave : List ℕ → List ℕ → Type 0) (given piece : List ℕ)
-    (r : Reader) (e : Refusal)
-    → Consumes old mid given → Consumes mid new piece → Gave given piece → length piece ≤ 2 ^ 12 → ReaderAt r given
-    → r.refusal ≡ None → IsRefused 0 (ended (given ++ piece)) e
-    → (e ≡ Memory → WantsMemory (length (ended given)) (ended (given ++ piece)))
-    → IfSome old (λ t. SourceOutcome t (after new Gave) (Err e))
-refused_given None mid new Gave given piece r e c d l short s none h m = tt
-refused_given (Some t) None new Gave given piece r e c d l short s none h m = absurd c
-refused_given (Some t) (Some both) None Gave given piece r e c d l short s none h m = absurd d
-refused_given (Some t) (Some both) (Some rest) Gave given piece r e c d l short s none h m =
-    let all = given ++ piece in
-    let whole : t ≡ given ++ (piece ++ rest) = c ∙ ap (λ l. given ++ l) d in
-    piece_outcome t (after (Some rest) Gave) e
-    (refused_on 0 0 (ended all) (lines t) e (omega arith)
-    (subst (λ x. More (ended all) (lines x)) (append_assoc given piece rest ∙ sym whole) (front_lines all rest)) h)
-    (record {
-      given = given;
-      piece = piece;
-      rest = rest;
-      whole = whole;
-      rest_is = refl;
-      pulled = l;
-      short =
-          short;
-      clean = (reading r given none s).read.clean;
-      refused =
-          refused_past (length (ended given)) (ended all) e h m;
-    })
-
--- what holds of a refusal holds of a result that passes it on
-pub handed_on : {A : Type 0} (a : Result A Refusal) (e : Refusal) (P : Refusal → Type 0) → IsErr a
-    × IsErrAnd a (λ x. x ≡ e) → P e → IfErr a P
-handed_on (Ok x) e P is p = tt
-handed_on (Err x) e P is p = subst P (sym is.1) p
-
--- a result that passes on a refusal is not a success
-pub handed_none : {A : Type 0} (a : Result A Refusal) (e : Refusal) (P : Type 0) → IsErr a × IsErrAnd a (λ x. x ≡ e)
-    → OnOk a P
-handed_none (Ok x) e P is = absurd (let never = is.0 in cc)
-handed_none (Err x) e P is = tt
-
--- a result that passes on a refusal other than `Read` is not `Read`
-pub handed_other : {A F : Type 0} (a : Result A Refusal) (e : Refusal) → IsErr a × IsErrAnd a (λ x. x ≡ e)
-    → (e ≡ Read → ⊥) → IsErrOf a Read → F
-handed_other (Ok x) e is other h = absurd (let never = is.0 in cc)
-handed_other (Err x) e is other h = let same : x ≡ Read = cc in absurd (other (sym is.1 ∙ same))
-
--- a refusal at a line is one that reading returns, and is not `Read`
-pub refused_reading : (n : ℕ) (ls : List (List ℕ)) (e : Refusal) → IsRefused n ls e → IsOfReading e
-refused_reading n ls (Text place code) h = tt
-refused_reading n ls Memory h = tt
-refused_reading n ls Read h = tt
-refused_reading n ls Endless h = tt
-refused_reading n ls Write h = absurd h
-refused_reading n ls CountTooLarge h = absurd h
-
+-- a refusal at a line is not `Read`
 pub refused_unread : (n : ℕ) (ls : List (List ℕ)) (e : Refusal) → IsRefused n ls e → e ≡ Read → ⊥
 refused_unread n ls e h is = subst (IsRefused n ls) is h
-
--- the outcome of a source that does not end
-pub endless_given : (old new : Option (List ℕ)) (Gave : List ℕ → List ℕ → Type 0) (given : List ℕ) (r : Reader)
-    (count : ℕ) → Consumes old new given
-    → ReaderAt r given → r.refusal ≡ None → count ≤ length given → 2 ^ 40 ≤ count
-    → IfSome old (λ t. SourceOutcome t (after new Gave) (Err Endless))
-endless_given None new Gave given r count c s none h k = tt
-endless_given (Some t) None Gave given r count c s none h k = absurd c
-endless_given (Some t) (Some rest) Gave given r count c s none h k = (
-  record {
-    given = given;
-    rest = rest;
-    whole = c;
-    rest_is =
-        refl;
-    clean = (reading r given none s).read.clean;
-  },
-  omega arith,
-)
-
--- no complete line that was read so far has a fault
-clean_before : (whole rest : Option (List ℕ)) (given : List ℕ) (r : Reader) → Consumes whole rest given
-    → ReaderAt r given → r.refusal ≡ None → IfSome whole (λ t. CleanSoFar t rest)
-clean_before None rest given r c s none = tt
-clean_before (Some t) None given r c s none = absurd c
-clean_before (Some t) (Some rest) given r c s none =
-    record { given = given; rest = rest; whole = c; rest_is = refl; clean = (reading r given none s).read.clean }
-
-module _ {S : Type 0} {source : SourceWords S} {old before : S} (given : List ℕ) (r : Reader) where
-  -- the source was pulled only while no complete line had a fault
-  pub pulled_so_far : PulledBytes source old before → Consumes (source.gives old) (source.gives before) given
-      → ReaderAt r given → r.refusal ≡ None → PulledWhileClean source old before
-  pulled_so_far p c s none =
-      record {
-        before = before;
-        pulls = p;
-        clean =
-            clean_before (source.gives old) (source.gives before) given r c s none;
-        last = inl refl;
-      }
-
-  -- the source was pulled once more after no complete line had a fault
-  pub pulled_on : {new : S} → PulledBytes source old before → Consumes (source.gives old) (source.gives before) given
-      → ReaderAt r given → r.refusal ≡ None → source.Pulls before new → PulledWhileClean source old new
-  pulled_on p c s none more =
-      record {
-        before = before;
-        pulls = p;
-        clean =
-            clean_before (source.gives old) (source.gives before) given r c s none;
-        last = inr more;
-      }
 
 pub not_refused : (o : Option Refusal) → Ok tt ≡ answer_of o → o ≡ None
 not_refused None e = refl
@@ -200,13 +87,6 @@ has_none piece test is e = nil_from_length piece (eqb-true (length piece) 0 (sym
 
 pub has_some : (piece : List ℕ) (test : Bool) → test ≡ (length piece == 0) → test ≡ false → 0 < length piece
 has_some piece test is e = let some = eqb-false (length piece) 0 (sym is ∙ e) in omega arith
-
--- an empty piece adds no bytes
-pub given_at_end : (old mid new : Option (List ℕ)) (given piece : List ℕ) → piece ≡ [] → Consumes old mid given
-    → Consumes mid new piece → Consumes old new given
-given_at_end old mid new given piece none c d =
-    subst (λ l. Consumes old new l) (ap (λ l. given ++ l) none ∙ append-nil given)
-    (Consumes-trans old mid new given piece c d)
 
 end_outcome : (t : List ℕ) (left : AfterPulls) (r : Result Held Refusal) → IsAtEnd left.gives → IsClean (ended t)
     → (r ≡ Err Memory → WantsMemory (length (ended t)) (lines t)) → Outcome t r → SourceOutcome t left r
@@ -221,18 +101,119 @@ end_outcome t left (Err Endless) e clean m h = absurd h
 end_outcome t left (Err Write) e clean m h = absurd h
 end_outcome t left (Err CountTooLarge) e clean m h = absurd h
 
--- the outcome of a source that is at its end, and all of whose bytes the reader has read
-pub ended_given : (old new : Option (List ℕ)) (Gave : List ℕ → List ℕ → Type 0) (given : List ℕ) (r : Reader)
-    (a : Result Held Refusal)
-    → Consumes old new given → IsAtEnd new → ReaderAt r given → r.refusal ≡ None
-    → (a ≡ Err Memory → WantsMemory (length (ended given)) (lines given)) → Outcome given a
-    → IfSome old (λ t. SourceOutcome t (after new Gave) a)
-ended_given None new Gave given r a c e s none m h = tt
-ended_given (Some t) None Gave given r a c e s none m h = absurd c
-ended_given (Some t) (Some rest) Gave given r a c e s none m h =
-    let all : t ≡ given = c ∙ ap (λ l. given ++ l) e ∙ append-nil given in
-    subst (λ l. SourceOutcome l (after (Some rest) Gave) a) (sym all)
-    (end_outcome given (after (Some rest) Gave) a e (reading r given none s).read.clean m h)
+module _ {S : Type 0} (source : SourceWords S) (old before : S) (r : Reader) (fed : IsFed source old before r) where
+  -- no complete line of the bytes given has a fault
+  clean : IsClean (ended fed.given)
+  clean = (reading r fed.given fed.fine fed.read).read.clean
+
+  clean_so_far : IfSome (source.gives old) (λ t. CleanSoFar t (source.gives before))
+  clean_so_far =
+      given_rest (source.gives old) (source.gives before) fed.given (λ t. CleanSoFar t (source.gives before)) fed.gave
+      (λ t rest whole is. record { given = fed.given; rest = rest; whole = whole; rest_is = is; clean = clean })
+
+  pulled : (new : S) → (new ≡ before) ⊎ source.Pulls before new → PulledWhileClean source old new
+  pulled new last =
+      record { before = before; pulls = fed.pulls; clean = clean_so_far; last = last }
+
+  -- how the source is left, after no more pull or after one more
+  pub left_here : {A : Type 0} (result : Result A Refusal) → (IsErrOf result Read → ⊥)
+      → SourceLeft source old before result
+  left_here result unread =
+      record { read = λ is. absurd (unread is); stays = fed.stays; pulls = pulled before (inl refl) }
+
+  pub left_on : {A : Type 0} (new : S) (result : Result A Refusal) → source.Pulls before new
+      → (IsTrue (source.has_failed before) → IsTrue (source.has_failed new))
+      → (IsErrOf result Read → IsTrue (source.has_failed new)) → SourceLeft source old new result
+  left_on new result more stays read =
+      record { read = read; stays = λ failed. stays (fed.stays failed); pulls = pulled new (inr more) }
+
+  -- the outcome of a source that does not end
+  pub endless : (count : ℕ) → count ≤ length fed.given → 2 ^ 40 ≤ count
+      → IfSome (source.gives old) (λ t. SourceOutcome t (after_pulls source old before) (Err Endless))
+  endless count h k =
+      given_rest (source.gives old) (source.gives before) fed.given
+      (λ t. SourceOutcome t (after_pulls source old before) (Err Endless)) fed.gave
+      (λ t rest whole is. (
+        record { given = fed.given; rest = rest; whole = whole; rest_is = is; clean = clean },
+        omega arith,
+      ))
+
+  pub given_more : (new : S) (piece : List ℕ) → Consumes (source.gives before) (source.gives new) piece
+      → Consumes (source.gives old) (source.gives new) (fed.given ++ piece)
+  given_more new piece c = Consumes-trans _ _ _ fed.given piece fed.gave c
+
+  -- an empty piece adds no bytes
+  pub given_all : (new : S) (piece : List ℕ) → piece ≡ [] → Consumes (source.gives before) (source.gives new) piece
+      → Consumes (source.gives old) (source.gives new) fed.given
+  given_all new piece none c =
+      subst (λ l. Consumes (source.gives old) (source.gives new) l)
+      (ap (λ l. fed.given ++ l) none ∙ append-nil fed.given) (given_more new piece c)
+
+  -- the outcome of a source that is at its end
+  pub finished : (new : S) (a : Result Held Refusal) → Consumes (source.gives old) (source.gives new) fed.given
+      → IsAtEnd (source.gives new) → Outcome fed.given a
+      → (a ≡ Err Memory → WantsMemory (length (ended fed.given)) (lines fed.given))
+      → IfSome (source.gives old) (λ t. SourceOutcome t (after_pulls source old new) a)
+  finished new a c e h m =
+      Consumes-whole (source.gives old) (source.gives new) fed.given
+      (λ t. SourceOutcome t (after_pulls source old new) a) c e
+      (end_outcome fed.given (after_pulls source old new) a e clean m h)
+
+  module _ (new : S) (piece : List ℕ) (more : source.Pulls before new)
+      (c : Consumes (source.gives before) (source.gives new) piece) (short : length piece ≤ 2 ^ 12) where
+    last : GaveLast source old new fed.given piece
+    last = record { before = before; pulls = fed.pulls; gave = fed.gave; last = more; gave_last = c }
+
+    -- the outcome of a text that is refused at a piece
+    pub refused : (e : Refusal) → IsRefused 0 (ended (fed.given ++ piece)) e
+        → (e ≡ Memory → WantsMemory (length (ended fed.given)) (ended (fed.given ++ piece)))
+        → IfSome (source.gives old) (λ t. SourceOutcome t (after_pulls source old new) (Err e))
+    refused e h m =
+        let all = fed.given ++ piece in
+        given_rest (source.gives old) (source.gives new) all
+        (λ t. SourceOutcome t (after_pulls source old new) (Err e)) (given_more new piece c)
+        (λ t rest whole is.
+        piece_outcome t (after_pulls source old new) e
+        (refused_on 0 0 (ended all) (lines t) e (omega arith)
+        (subst (λ x. More (ended all) (lines x)) (sym whole) (front_lines all rest)) h)
+        (record {
+          given = fed.given;
+          piece = piece;
+          rest = rest;
+          whole = whole ∙ append_assoc fed.given piece rest;
+          rest_is = is;
+          pulled = last;
+          short = short;
+          clean = clean;
+          refused = refused_past (length (ended fed.given)) (ended all) e h m;
+        }))
+
+-- what is kept after one more piece
+pub kept_more : (keeps : Bool) (old mid new given piece : List ℕ) → IsKept keeps old mid given
+    → IsKept keeps mid new piece → IsKept keeps old new (given ++ piece)
+kept_more keeps old mid new given piece h k is =
+    k is ∙ ap (λ l. l ++ piece) (h is) ∙ append_assoc old given piece
+
+-- the outcome if all bytes that the source gave are kept, if bytes are kept
+pub kept : (keeps : Bool) (old new : Option (List ℕ)) (left : AfterPulls) (given old_copy new_copy : List ℕ)
+    (r : Result Held Refusal) → left.gives ≡ new → Consumes old new given → IsKept keeps old_copy new_copy given
+    → IfSome old (λ t. SourceOutcome t left r) → IfSome old (λ t. KeptOutcome keeps t left old_copy new_copy r)
+kept keeps None new left given old_copy new_copy r l c k h = tt
+kept keeps (Some t) None left given old_copy new_copy r l c k h = absurd c
+kept keeps (Some t) (Some rest) left given old_copy new_copy r l c k h =
+    inl (h, λ is. record { given = given; rest = rest; whole = c; rest_is = l; copy = k is })
+
+-- the outcome if no bytes are kept
+pub unkept : (old : Option (List ℕ)) (left : AfterPulls) (old_copy new_copy : List ℕ) (r : Result Held Refusal)
+    → IfSome old (λ t. KeptOutcome false t left old_copy new_copy r) → IfSome old (λ t. SourceOutcome t left r)
+unkept None left old_copy new_copy r h = tt
+unkept (Some t) left old_copy new_copy r (inl h) = h.0
+unkept (Some t) left old_copy new_copy r (inr h) = absurd (let never = h.1 in cc)
+
+pub unkept_held : (old_copy new_copy : List ℕ) (a : Result Held Refusal)
+    → IfOk a (HoldsKept false old_copy new_copy) → IfOk a HoldsSome
+unkept_held old_copy new_copy (Ok held) h = (h.0, h.1)
+unkept_held old_copy new_copy (Err e) h = tt
 
 copy_outcome : (t : List ℕ) (left : AfterPulls) (old_copy new_copy : List ℕ) (r : Result Held Refusal)
     → SourceOutcome t left r → Copied t left.gives old_copy new_copy → CopyOutcome t left old_copy new_copy r
@@ -244,133 +225,16 @@ copy_outcome t left old_copy new_copy (Err Endless) h k = (h, k)
 copy_outcome t left old_copy new_copy (Err Write) h k = absurd h
 copy_outcome t left old_copy new_copy (Err CountTooLarge) h k = absurd h
 
--- the outcome if the copy has gained all bytes that the source gave
-pub copied : (old new : Option (List ℕ)) (Gave : List ℕ → List ℕ → Type 0) (given old_copy new_copy : List ℕ)
-    (r : Result Held Refusal)
-    → Consumes old new given → new_copy ≡ old_copy ++ given
-    → IfSome old (λ t. SourceOutcome t (after new Gave) r)
-    → IfSome old (λ t. CopyOutcome t (after new Gave) old_copy new_copy r)
-copied None new Gave given old_copy new_copy r c k h = tt
-copied (Some t) None Gave given old_copy new_copy r c k h = absurd c
-copied (Some t) (Some rest) Gave given old_copy new_copy r c k h =
-    copy_outcome t (after (Some rest) Gave) old_copy new_copy r h
-    (record { given = given; rest = rest; whole = c; rest_is = refl; copy = k })
+-- the outcome if bytes are kept
+pub copied : (old : Option (List ℕ)) (left : AfterPulls) (old_copy new_copy : List ℕ) (r : Result Held Refusal)
+    → IfSome old (λ t. KeptOutcome true t left old_copy new_copy r)
+    → IfSome old (λ t. CopyOutcome t left old_copy new_copy r)
+copied None left old_copy new_copy r h = tt
+copied (Some t) left old_copy new_copy r (inl h) = copy_outcome t left old_copy new_copy r h.0 (h.1 refl)
+copied (Some t) left old_copy new_copy r (inr h) =
+    subst (λ x. CopyOutcome t left old_copy new_copy x) (sym h.0) (inr h.2)
 
--- the outcome if memory runs out for the copy of a piece
-pub uncopied : (old mid new : Option (List ℕ)) (Gave : List ℕ → List ℕ → Type 0)
-    (given piece old_copy new_copy : List ℕ) (e : Refusal) (r : Reader)
-    → Consumes old mid given → Consumes mid new piece → Gave given piece → 0 < length piece → length piece ≤ 2 ^ 12
-    → new_copy ≡ old_copy ++ given → ReaderAt r given → r.refusal ≡ None → e ≡ Memory
-    → IfSome old (λ t. CopyOutcome t (after new Gave) old_copy new_copy (Err e))
-uncopied None mid new Gave given piece old_copy new_copy e r c d p l b k s none memory = tt
-uncopied (Some t) None new Gave given piece old_copy new_copy e r c d p l b k s none memory = absurd c
-uncopied (Some t) (Some both) None Gave given piece old_copy new_copy e r c d p l b k s none memory = absurd d
-uncopied (Some t) (Some both) (Some rest) Gave given piece old_copy new_copy e r c d p l b k s none memory =
-    subst (λ x. CopyOutcome t (after (Some rest) Gave) old_copy new_copy (Err x)) (sym memory) (inr (record {
-      given = given;
-      piece = piece;
-      rest = rest;
-      whole = c ∙ ap (λ l. given ++ l) d;
-      rest_is = refl;
-      pulled = p;
-      some = l;
-      short = b;
-      copy = k;
-      clean = (reading r given none s).read.clean;
-    }))
-
--- the outcome if the source fails, and the copy has gained all bytes that it gave
-pub failed_copy : (old mid new : Option (List ℕ)) (Gave : List ℕ → List ℕ → Type 0) (given old_copy new_copy : List ℕ)
-    (e : Refusal) (r : Reader)
-    → Consumes old mid given → Keeps mid new → new_copy ≡ old_copy ++ given → ReaderAt r given → r.refusal ≡ None
-    → e ≡ Read
-    → IfSome old (λ t. CopyOutcome t (after new Gave) old_copy new_copy (Err e))
-failed_copy None mid new Gave given old_copy new_copy e r c d k s none read = tt
-failed_copy (Some t) None new Gave given old_copy new_copy e r c d k s none read = absurd c
-failed_copy (Some t) (Some rest) None Gave given old_copy new_copy e r c d k s none read = absurd d
-failed_copy (Some t) (Some rest) (Some left) Gave given old_copy new_copy e r c d k s none read =
-    subst (λ x. CopyOutcome t (after (Some left) Gave) old_copy new_copy (Err x)) (sym read) (
-      record {
-        given = given;
-        rest = left;
-        whole = c ∙ ap (λ l. given ++ l) (sym d);
-        rest_is =
-            refl;
-        clean = (reading r given none s).read.clean;
-      },
-      record { given = given; rest = left; whole = c ∙ ap (λ l. given ++ l) (sym d); rest_is = refl; copy = k },
-    )
-
-of_reading : (t : List ℕ) (a : Result Held Refusal) → Outcome t a → IfErr a IsOfReading
-of_reading t (Ok held) h = tt
-of_reading t (Err (Text place code)) h = tt
-of_reading t (Err Memory) h = tt
-of_reading t (Err Read) h = tt
-of_reading t (Err Endless) h = tt
-of_reading t (Err Write) h = absurd h
-of_reading t (Err CountTooLarge) h = absurd h
-
-same_refusal : (a : Result Held Refusal) (e f : Refusal) → a ≡ Err e → a ≡ Err f → e ≡ f
-same_refusal a e f h k = cc
-
--- the outcome after all bytes of a source were fed, or after feeding returned a refusal
-module _ (old new : Option (List ℕ)) (r : Reader) (a : Result Held Refusal) where
-  finished_given : (Gave : List ℕ → List ℕ → Type 0) (fed : IsFed old new r) → Finishes r a
-      → IfSome old (λ t. SourceOutcome t (after new Gave) a)
-  finished_given Gave fed h =
-      ended_given old new Gave fed.given r a fed.gave fed.at_end fed.read fed.fine
-      (h.memory fed.given fed.read fed.fine) (h.outcome fed.given fed.read)
-
-  pub finished : (Gave : List ℕ → List ℕ → Type 0) (fed : Result (Unit {0}) Refusal) → OnOk fed (IsFed old new r)
-      → IfErr fed (λ e. IfSome old (λ t. SourceOutcome t (after new Gave) (Err e)))
-      → MatchResult fed (λ x. Finishes r a) (λ e. a ≡ Err e)
-      → IfSome old (λ t. SourceOutcome t (after new Gave) a)
-  finished Gave (Ok x) ok err h = finished_given Gave ok h
-  finished Gave (Err e) ok err h = subst (λ x. IfSome old (λ t. SourceOutcome t (after new Gave) x)) (sym h) err
-
-  pub finished_copy : (Gave : List ℕ → List ℕ → Type 0) (old_copy new_copy : List ℕ)
-      (fed : Result (Unit {0}) Refusal) → OnOk fed ((all : IsFed old new r) × (new_copy ≡ old_copy ++ all.given))
-      → IfErr fed (λ e. IfSome old (λ t. CopyOutcome t (after new Gave) old_copy new_copy (Err e)))
-      → MatchResult fed (λ x. Finishes r a) (λ e. a ≡ Err e)
-      → IfSome old (λ t. CopyOutcome t (after new Gave) old_copy new_copy a)
-  finished_copy Gave old_copy new_copy (Ok x) ok err h =
-      copied old new Gave ok.0.given old_copy new_copy a ok.0.gave ok.1 (finished_given Gave ok.0 h)
-  finished_copy Gave old_copy new_copy (Err e) ok err h =
-      subst (λ x. IfSome old (λ t. CopyOutcome t (after new Gave) old_copy new_copy x)) (sym h) err
-
-  pub finished_by_reading : (fed : Result (Unit {0}) Refusal) → OnOk fed (IsFed old new r) → IfErr fed IsOfReading
-      → MatchResult fed (λ x. Finishes r a) (λ e. a ≡ Err e) → IfErr a IsOfReading
-  finished_by_reading (Ok x) ok err h = of_reading ok.given a (h.outcome ok.given ok.read)
-  finished_by_reading (Err e) ok err h = subst (λ x. IfErr x IsOfReading) (sym h) err
-
-  -- the parsed instance represents what some text reads as
-  pub finished_held : (fed : Result (Unit {0}) Refusal) → OnOk fed (IsFed old new r)
-      → MatchResult fed (λ x. Finishes r a) (λ e. a ≡ Err e) → IfOk a HoldsSome
-  finished_held (Ok x) ok h = by_answer a (h.outcome ok.given ok.read)
-    where
-      by_answer : (b : Result Held Refusal) → Outcome ok.given b → IfOk b HoldsSome
-      by_answer (Ok held) o = (ok.given, o)
-      by_answer (Err e) o = tt
-  finished_held (Err e) ok h = subst (λ x. IfOk x HoldsSome) (sym h) tt
-
-  pub finished_copied : (old_copy new_copy : List ℕ) (fed : Result (Unit {0}) Refusal)
-      → OnOk fed ((all : IsFed old new r) × (new_copy ≡ old_copy ++ all.given))
-      → MatchResult fed (λ x. Finishes r a) (λ e. a ≡ Err e)
-      → IfOk a (HoldsCopied old_copy new_copy)
-  finished_copied old_copy new_copy (Ok x) ok h = by_answer a (h.outcome ok.0.given ok.0.read)
-    where
-      by_answer : (b : Result Held Refusal) → Outcome ok.0.given b → IfOk b (HoldsCopied old_copy new_copy)
-      by_answer (Ok held) o = (ok.0.given, o, ok.1)
-      by_answer (Err e) o = tt
-  finished_copied old_copy new_copy (Err e) ok h = subst (λ x. IfOk x (HoldsCopied old_copy new_copy)) (sym h) tt
-
-  pub finished_failed : {F : Type 0} (fed : Result (Unit {0}) Refusal) → OnOk fed (IsFed old new r)
-      → (IsErrOf fed Read → F) → MatchResult fed (λ x. Finishes r a) (λ e. a ≡ Err e) → IsErrOf a Read → F
-  finished_failed (Ok x) ok err h is = absurd (subst (Outcome ok.given) is (h.outcome ok.given ok.read))
-  finished_failed (Err e) ok err h is = err (ap (λ x. Err x) (same_refusal a e Read h is))
-
--- a source that was fed with a copy was fed
-pub fed_alone : (old new : Option (List ℕ)) (r : Reader) (P : IsFed old new r → Type 0)
-    (fed : Result (Unit {0}) Refusal) → OnOk fed ((all : IsFed old new r) × P all) → OnOk fed (IsFed old new r)
-fed_alone old new r P (Ok x) h = h.0
-fed_alone old new r P (Err e) h = tt
+pub copied_held : (old_copy new_copy : List ℕ) (a : Result Held Refusal)
+    → IfOk a (HoldsKept true old_copy new_copy) → IfOk a (HoldsCopied old_copy new_copy)
+copied_held old_copy new_copy (Ok held) h = (h.0, h.1, h.2 refl)
+copied_held old_copy new_copy (Err e) h = tt

@@ -1,10 +1,8 @@
 // Reads a whole text from memory or from a source.
-ghost use Rattle.std.specs.Prelude.{◌≡◌, ◌<◌, ◌≤◌, [], ◌++◌, ℕ, List, length, Err, None, IsTrue, IfOk, IfErr, OnOk, OnErr};
-ghost use Rattle.std.specs.Io.KnownBytes.{Consumes, IsAtEnd, Keeps};
-ghost use Rattle.dn_instance.specs.State.Readers.{Outcome, refusal_of};
-ghost use Rattle.dn_instance.specs.State.ReaderStates.{IsFed, ReaderAt};
-ghost use Rattle.dn_instance.specs.SourceReads.{IsOfReading};
-ghost use Rattle.dn_instance.specs.State.SourceReads.{CopiesSource, HoldsCopied, HoldsSome, ReadsSource, SourceLeft};
+ghost use Rattle.std.specs.Prelude.{◌≡◌, ◌++◌, [], ℕ, List, Bool, true, false, IfErr, IfOk, IfSome, IsTrue, OnErr, OnOk};
+ghost use Rattle.dn_instance.specs.State.Readers.{Outcome};
+ghost use Rattle.dn_instance.specs.SourceReads.{IsOfReading, after_pulls};
+ghost use Rattle.dn_instance.specs.State.SourceReads.{CopiesSource, HoldsCopied, HoldsKept, HoldsSome, IsKept, KeptOutcome, ReadsSource, SourceLeft};
 
 use crate::held::Held;
 use crate::reader::Reader;
@@ -27,8 +25,10 @@ pub fn read_text(alloc: Global, text: &[u8]) -> Result<Held, Refusal>
     ensures { Outcome text.now result }
 {
     let mut reader = Reader::new(alloc);
-    let fed = reader.feed(text);
-    reader.finish_fed(fed)
+    match reader.feed(text) {
+        Ok(()) => reader.finish(),
+        Err(refusal) => Err(refusal),
+    }
 }
 
 /// Reads the text of a source to its end, and returns its parsed instance. The parsed instance represents what some
@@ -46,9 +46,7 @@ pub fn read_from<S: Source>(alloc: Global, source: &mut S) -> Result<Held, Refus
     ensures refusal { IfErr result IsOfReading }
     ensures left { SourceLeft S.source source.old source.new result }
 {
-    let mut reader = Reader::new(alloc);
-    let fed = feed_all(source, &mut reader);
-    reader.finish_fed(fed)
+    read_all(alloc, source, &mut Unkept)
 }
 
 /// Reads the text of a source as `read_from` does, and appends each piece to `text` before reading it. `text` gains all
@@ -69,84 +67,81 @@ pub fn read_keep<S: Source>(
     ensures refusal { IfErr result IsOfReading }
     ensures left { SourceLeft S.source source.old source.new result }
 {
-    let mut reader = Reader::new(alloc);
-    let fed = keep_all(source, text, &mut reader);
-    reader.finish_fed(fed)
+    read_all(alloc, source, text)
 }
 
-// Feeds all that a source gives to a reader that has no bytes yet.
-fn feed_all<S: Source>(source: &mut S, reader: &mut Reader) -> Result<(), Refusal>
-    requires { ReaderAt reader.old [] × (refusal_of reader.old ≡ None) }
-    ensures ok { OnOk result (IsFed (S.source.gives source.old) (S.source.gives source.new) reader.new) }
-    ensures err { IfErr result (λ e. ReadsSource S.source source.old source.new (Err e)) }
-    ensures refusal { IfErr result IsOfReading }
-    ensures left { SourceLeft S.source source.old source.new result }
-{
-    let mut room = [0u8; PIECE];
-    for _ in 0..PULLS {
-        let piece = next_piece(source, &mut room)?;
-        if piece.is_empty() {
-            return Ok(());
-        }
-        reader.feed(piece)?;
+// What may keep the bytes that are read.
+trait Keep {
+    // Whether bytes are kept.
+    ghost keeps: { Bool };
+
+    // The bytes kept so far.
+    ghost kept: { Self → List ℕ };
+
+    // Appends a piece, if bytes are kept. If an allocation fails, returns `Memory`, and nothing changes.
+    fn keep(&mut self, piece: &[u8]) -> Result<(), Refusal>
+        ensures ok { OnOk result (IsKept keeps (kept self.old) (kept self.new) piece.now) }
+        ensures err { OnErr result (IsTrue keeps × (kept self.new ≡ kept self.old)) }
+        ensures memory { IfErr result (λ refusal. refusal ≡ Refusal.Memory) };
+}
+
+// Keeps no bytes.
+#[derive(Drop)]
+struct Unkept;
+
+impl Keep for Unkept {
+    ghost keeps = { false };
+
+    ghost kept = { λ _. [] };
+
+    fn keep(&mut self, _piece: &[u8]) -> Result<(), Refusal> {
+        Ok(())
     }
-    Err(Refusal::Endless)
 }
 
-// Feeds all that a source gives to a reader that has no bytes yet, and appends each piece to `text` before feeding it.
-fn keep_all<S: Source>(
+impl Keep for Vec<u8> {
+    ghost keeps = { true };
+
+    ghost kept = { λ text. text.items };
+
+    fn keep(&mut self, piece: &[u8]) -> Result<(), Refusal> {
+        match self.extend_from_slice(piece) {
+            Ok(()) => Ok(()),
+            Err(_) => Err(Refusal::Memory),
+        }
+    }
+}
+
+// Reads the text of a source to its end. Each piece is kept in `text` before it is read, if bytes are kept.
+fn read_all<S: Source, K: Keep>(
+    alloc: Global,
     source: &mut S,
-    text: &mut Vec<u8>,
-    reader: &mut Reader,
-) -> Result<(), Refusal>
-    requires { ReaderAt reader.old [] × (refusal_of reader.old ≡ None) }
-    ensures prefix { (more : List ℕ) × (text.new.items ≡ text.old.items ++ more) }
-    ensures ok { OnOk result ((fed : IsFed (S.source.gives source.old) (S.source.gives source.new) reader.new)
-        × (text.new.items ≡ text.old.items ++ fed.given)) }
-    ensures err { IfErr result
-        (λ e. CopiesSource S.source source.old source.new text.old.items text.new.items (Err e)) }
+    text: &mut K,
+) -> Result<Held, Refusal>
+    ensures prefix { (more : List ℕ) × IsKept K.keeps (K.kept text.old) (K.kept text.new) more }
+    ensures held { IfOk result (HoldsKept K.keeps (K.kept text.old) (K.kept text.new)) }
+    ensures outcome { IfSome (S.source.gives source.old) (λ t. KeptOutcome K.keeps t
+        (after_pulls S.source source.old source.new) (K.kept text.old) (K.kept text.new) result) }
     ensures refusal { IfErr result IsOfReading }
     ensures left { SourceLeft S.source source.old source.new result }
 {
+    let mut reader = Reader::new(alloc);
     let mut room = [0u8; PIECE];
     for _ in 0..PULLS {
-        let bytes = next_piece(source, &mut room)?;
-        if bytes.is_empty() {
-            return Ok(());
+        let used = match source.pull(&mut room) {
+            Ok(used) => used,
+            Err(_) => return Err(Refusal::Read),
+        };
+        let piece = &room[..used];
+        if piece.is_empty() {
+            return reader.finish();
         }
-        keep_piece(text, bytes)?;
-        reader.feed(bytes)?;
+        if let Err(refusal) = text.keep(piece) {
+            return Err(refusal);
+        }
+        if let Err(refusal) = reader.feed(piece) {
+            return Err(refusal);
+        }
     }
     Err(Refusal::Endless)
-}
-
-// Pulls the next bytes of a source into `room`, and returns them. There are none only at the end. Returns `Read` if the
-// source failed.
-fn next_piece<'a, S: Source>(source: &mut S, room: &'a mut [u8]) -> Result<&'a [u8], Refusal>
-    requires { 0 < length room.old }
-    ensures bytes { IfOk result (λ piece. Consumes (S.source.gives source.old) (S.source.gives source.new) piece.now) }
-    ensures end { IfOk result (λ piece. piece.now ≡ [] → IsAtEnd (S.source.gives source.new)) }
-    ensures bound { IfOk result (λ piece. length piece.now ≤ length room.old) }
-    ensures unread { OnErr result (Keeps (S.source.gives source.old) (S.source.gives source.new)) }
-    ensures refusal { IfErr result (λ refusal. refusal ≡ Refusal.Read) }
-    ensures err { OnErr result (IsTrue (S.source.has_failed source.new)) }
-    ensures stays { IsTrue (S.source.has_failed source.old) → IsTrue (S.source.has_failed source.new) }
-    ensures pulls { S.source.Pulls source.old source.new }
-{
-    match source.pull(room) {
-        Ok(n) => Ok(&room[..n]),
-        Err(_) => Err(Refusal::Read),
-    }
-}
-
-// Appends a piece to a copy. If an allocation fails, nothing changes.
-fn keep_piece(text: &mut Vec<u8>, piece: &[u8]) -> Result<(), Refusal>
-    ensures ok { OnOk result (text.new.items ≡ text.old.items ++ piece.now) }
-    ensures err { OnErr result (text.new.items ≡ text.old.items) }
-    ensures memory { IfErr result (λ refusal. refusal ≡ Refusal.Memory) }
-{
-    match text.extend_from_slice(piece) {
-        Ok(()) => Ok(()),
-        Err(_) => Err(Refusal::Memory),
-    }
 }

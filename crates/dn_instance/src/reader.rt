@@ -3,7 +3,7 @@ ghost use Rattle.std.specs.Prelude.{◌≡◌, ◌≤◌, ℕ, List, [], ◌++�
 ghost use Rattle.dn_line.specs.State.LineStates.{LineSoFar, LineReaderAt, used_of};
 ghost use Rattle.dn_line.specs.Pieces.{lines};
 ghost use Rattle.dn_instance.specs.State.Readers.{Fed, Outcome, refusal_of, answer_of};
-ghost use Rattle.dn_instance.specs.State.ReaderStates.{ReaderAt, IsReading, Takes, Advances, CountsBefore, CountsRead, Finishes, Steps, WantsAtEnd, WantsInPiece};
+ghost use Rattle.dn_instance.specs.State.ReaderStates.{ReaderAt, IsReading, Takes, Advances, CountsBefore, CountsRead, Steps, WantsAtEnd, WantsInPiece};
 ghost use Rattle.dn_instance.specs.State.Refusals.{refused_at};
 ghost use Rattle.dn_instance.specs.State.TextsSoFar.{TextAt};
 
@@ -157,32 +157,12 @@ impl Reader {
                 }
             }
         }
-        match self.into_text().end() {
+        match self.text.end() {
             Ok(held) => Ok(held),
             Err(code) => Err(Refusal::Text {
                 place: Place::End,
                 code,
             }),
-        }
-    }
-
-    // Returns what the complete lines make.
-    fn into_text(self) -> TextSoFar
-        ensures { result ≡ self.text }
-    {
-        self.text
-    }
-
-    // Returns what `finish` returns, or the refusal that feeding returned.
-    pub(crate) fn finish_fed(self, fed: Result<(), Refusal>) -> Result<Held, Refusal>
-        ensures { MatchResult fed (λ x. Finishes self result) (λ e. result ≡ Err e) }
-    {
-        match fed {
-            Ok(()) => self.finish(),
-            Err(refusal) => {
-                drop(self);
-                Err(refusal)
-            }
         }
     }
 }

@@ -1,6 +1,5 @@
 -- What the state of a reader represents.
-use Rattle.std.specs.Prelude.{◌≡◌, ℕ, ◌≤◌, List, [], ◌∷◌, ◌++◌, length, take, cond, Option, Some, None, MatchOption, Result, Ok, Err}
-use Rattle.std.specs.Io.KnownBytes.{Consumes, IsAtEnd}
+use Rattle.std.specs.Prelude.{◌≡◌, ℕ, ◌≤◌, List, [], ◌∷◌, ◌++◌, length, take, cond, Some, None, MatchOption, Result, Ok, Err}
 use Rattle.dn_line.specs.Pieces.{parts, lines, is_line_feed}
 use Rattle.dn_line.specs.State.LineStates.{LineSoFar, LineReaderAt, used_of}
 use Rattle.dn_line.specs.declared.line_reader.LineReader.{LineReader}
@@ -10,7 +9,7 @@ use Rattle.dn_instance.specs.declared.refusal.Refusal.{Refusal}
 use Rattle.dn_instance.specs.declared.refusal.Refusal.TheVariants.{Memory}
 use Rattle.dn_instance.specs.Readers.{WantsMemory, ended}
 use Rattle.dn_instance.specs.EntryCount.{entries_so_far}
-use Rattle.dn_instance.specs.State.Readers.{EntriesBefore, Outcome, IsRefused, IsNext, lines_taken, refusal_of}
+use Rattle.dn_instance.specs.State.Readers.{EntriesBefore, IsRefused, IsNext, lines_taken, refusal_of}
 use Rattle.dn_instance.specs.Texts.{items_of}
 use Rattle.dn_instance.specs.State.TextsSoFar.{TextAt}
 
@@ -81,11 +80,6 @@ abbrev pub WantsAtEnd : Reader → Result Held Refusal → Type 0
 WantsAtEnd r result =
     (t : List ℕ) → ReaderAt r t → refusal_of r ≡ None → result ≡ Err Memory → WantsMemory (length (ended t)) (lines t)
 
--- what a reader returns at the end of the bytes that it represents
-pub record Finishes (r : Reader) (result : Result Held Refusal) : Type 0 where
-  pub outcome : (t : List ℕ) → ReaderAt r t → Outcome t result
-  pub memory : WantsAtEnd r result
-
 -- n is the number of entries that the complete lines make, if the reader has no refusal
 abbrev pub CountsRead : Reader → ℕ → Type 0
 CountsRead r n = (t : List ℕ) → ReaderAt r t → refusal_of r ≡ None → n ≡ entries_so_far (items_of (ended t))
@@ -94,11 +88,3 @@ CountsRead r n = (t : List ℕ) → ReaderAt r t → refusal_of r ≡ None → n
 abbrev pub CountsBefore : Reader → ℕ → Type 0
 CountsBefore r n =
     (t : List ℕ) (e : Refusal) → ReaderAt r t → refusal_of r ≡ Some e → EntriesBefore (lines_taken r) (ended t) e n
-
--- the source is at its end, and the reader has read all bytes that the source gave and has no refusal
-pub record IsFed (old new : Option (List ℕ)) (r : Reader) : Type 0 where
-  pub given : List ℕ
-  pub gave : Consumes old new given
-  pub at_end : IsAtEnd new
-  pub read : ReaderAt r given
-  pub fine : refusal_of r ≡ None

@@ -1,16 +1,18 @@
 -- What reading a source returns, and in which state it leaves the source.
-use Rattle.std.specs.Prelude.{◌≡◌, ◌⊎◌, ℕ, ◌<◌, ◌≤◌, ◌^◌, List, ◌++◌, length, Option, Some, Result, Ok, Err, IfSome, IsErrOf, IsTrue}
-use Rattle.std.specs.Io.KnownBytes.{IsAtEnd}
+use Rattle.std.specs.Prelude.{◌≡◌, ◌⊎◌, ℕ, ◌<◌, ◌≤◌, ◌^◌, List, ◌++◌, length, Bool, Option, Some, None, Result, Ok, Err, IfSome, IsErrOf, IsTrue}
+use Rattle.std.specs.Io.KnownBytes.{Consumes, IsAtEnd}
 use Rattle.dn_line.specs.Pieces.{lines}
 use Rattle.dn_line.specs.Sources.{SourceWords}
 use Rattle.dn_instance.specs.declared.held.Held.{Held}
+use Rattle.dn_instance.specs.declared.reader.Reader.{Reader}
 use Rattle.dn_instance.specs.declared.refusal.Place.TheVariants as Places
 use Rattle.dn_instance.specs.declared.refusal.Refusal.{Refusal}
 use Rattle.dn_instance.specs.declared.refusal.Refusal.TheVariants.{Text, Memory, Read, Endless, Write, CountTooLarge}
 use Rattle.dn_instance.specs.Readers.{ended}
-use Rattle.dn_instance.specs.State.Readers.{IsRefused, Outcome}
+use Rattle.dn_instance.specs.State.Readers.{IsRefused, Outcome, refusal_of}
+use Rattle.dn_instance.specs.State.ReaderStates.{ReaderAt}
 use Rattle.dn_instance.specs.Texts.{IsClean, IsFirstFault}
-use Rattle.dn_instance.specs.SourceReads.{AfterPulls, CleanSoFar, PulledWhileClean, after_pulls}
+use Rattle.dn_instance.specs.SourceReads.{AfterPulls, CleanSoFar, PulledBytes, PulledWhileClean, after_pulls}
 
 -- of the text t, all pulls but the last gave `given`, of which no complete line has a fault, the last gave a piece of
 -- at most 2^12 bytes, and the source still gives the rest. The LF of the refused line is in this piece
@@ -109,3 +111,28 @@ HoldsSome held = (t : List ℕ) × Outcome t (Ok held)
 -- the parsed instance represents what some text reads as, and the copy has gained this text
 abbrev pub HoldsCopied : List ℕ → List ℕ → Held → Type 0
 HoldsCopied old_copy new_copy held = (t : List ℕ) × Outcome t (Ok held) × (new_copy ≡ old_copy ++ t)
+
+-- pulls changed the source from `old` to `new`, and each of them gave at least one byte; the reader has read the bytes
+-- that they gave, and has no refusal
+pub record IsFed {S : Type 0} (source : SourceWords S) (old new : S) (r : Reader) : Type 0 where
+  pub given : List ℕ
+  pub gave : Consumes (source.gives old) (source.gives new) given
+  pub pulls : PulledBytes source old new
+  pub stays : IsTrue (source.has_failed old) → IsTrue (source.has_failed new)
+  pub read : ReaderAt r given
+  pub fine : refusal_of r ≡ None
+
+-- if bytes are kept, the kept bytes have gained these
+abbrev pub IsKept : Bool → List ℕ → List ℕ → List ℕ → Type 0
+IsKept keeps old new bytes = IsTrue keeps → new ≡ old ++ bytes
+
+-- the parsed instance represents what some text reads as, and this text is kept, if bytes are kept
+abbrev pub HoldsKept : Bool → List ℕ → List ℕ → Held → Type 0
+HoldsKept keeps old new held = (t : List ℕ) × Outcome t (Ok held) × IsKept keeps old new t
+
+-- what reading a source returns that may keep the bytes given: the outcome of reading the source, where all bytes given
+-- are kept, if bytes are kept; or `Memory`, where bytes are kept, and all bytes given but the last piece are
+abbrev pub KeptOutcome : Bool → List ℕ → AfterPulls → List ℕ → List ℕ → Result Held Refusal → Type 0
+KeptOutcome keeps t left old new result =
+    (SourceOutcome t left result × (IsTrue keeps → Copied t left.gives old new))
+    ⊎ ((result ≡ Err Memory) × IsTrue keeps × LacksRoom t left old new)

@@ -43,7 +43,7 @@ returns-in-Ok-end-clause-outcome c t h =
           (all_closed c.args.self t r (sym w.if-pending.false ∙ has))
     ] in
     held_whole c.if-pending.self.text t c.in-Ok-end.held all
-    (c.in-Ok-end.ensures (lines t) (subst (λ text. TextAt text (lines t)) (sym c.into_text.ensures) all))
+    (c.in-Ok-end.ensures (lines t) all)
 
 pub returns-in-Err-end-clause-outcome : goal.returns-in-Err-end-clause-outcome
 returns-in-Err-end-clause-outcome c t h =
@@ -63,5 +63,5 @@ returns-in-Err-end-clause-outcome c t h =
     record {
       clean = all.clean;
       fault_is =
-          c.in-Err-end.ensures (lines t) (subst (λ text. TextAt text (lines t)) (sym c.into_text.ensures) all);
+          c.in-Err-end.ensures (lines t) all;
     }
