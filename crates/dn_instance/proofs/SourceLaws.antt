@@ -73,15 +73,7 @@ given_rest None new given P c f = tt
 given_rest (Some t) None given P c f = absurd c
 given_rest (Some t) (Some rest) given P c f = f t rest c refl
 
--- a refusal at a line is one that reading returns, and is not `Read`
-pub refused_reading : (n : ℕ) (ls : List (List ℕ)) (e : Refusal) → IsRefused n ls e → IsOfReading e
-refused_reading n ls (Text place code) h = tt
-refused_reading n ls Memory h = tt
-refused_reading n ls Read h = tt
-refused_reading n ls Endless h = tt
-refused_reading n ls Write h = absurd h
-refused_reading n ls CountTooLarge h = absurd h
-
+-- a refusal at a line is not `Read`
 pub refused_unread : (n : ℕ) (ls : List (List ℕ)) (e : Refusal) → IsRefused n ls e → e ≡ Read → ⊥
 refused_unread n ls e h is = subst (IsRefused n ls) is h
 
@@ -109,31 +101,19 @@ end_outcome t left (Err Endless) e clean m h = absurd h
 end_outcome t left (Err Write) e clean m h = absurd h
 end_outcome t left (Err CountTooLarge) e clean m h = absurd h
 
-pub of_reading : (t : List ℕ) (a : Result Held Refusal) → Outcome t a → IfErr a IsOfReading
-of_reading t (Ok held) h = tt
-of_reading t (Err (Text place code)) h = tt
-of_reading t (Err Memory) h = tt
-of_reading t (Err Read) h = tt
-of_reading t (Err Endless) h = tt
-of_reading t (Err Write) h = absurd h
-of_reading t (Err CountTooLarge) h = absurd h
-
 module _ {S : Type 0} (source : SourceWords S) (old before : S) (r : Reader) (fed : IsFed source old before r) where
   -- no complete line of the bytes given has a fault
   clean : IsClean (ended fed.given)
   clean = (reading r fed.given fed.fine fed.read).read.clean
 
-  clean_so_far : (new : S) → Keeps (source.gives before) (source.gives new)
-      → IfSome (source.gives old) (λ t. CleanSoFar t (source.gives new))
-  clean_so_far new k =
-      given_rest (source.gives old) (source.gives new) fed.given (λ t. CleanSoFar t (source.gives new))
-      (Consumes-kept _ _ _ fed.given fed.gave k)
-      (λ t rest whole is.
-      record { given = fed.given; rest = rest; whole = whole; rest_is = is; clean = clean })
+  clean_so_far : IfSome (source.gives old) (λ t. CleanSoFar t (source.gives before))
+  clean_so_far =
+      given_rest (source.gives old) (source.gives before) fed.given (λ t. CleanSoFar t (source.gives before)) fed.gave
+      (λ t rest whole is. record { given = fed.given; rest = rest; whole = whole; rest_is = is; clean = clean })
 
   pulled : (new : S) → (new ≡ before) ⊎ source.Pulls before new → PulledWhileClean source old new
   pulled new last =
-      record { before = before; pulls = fed.pulls; clean = clean_so_far before (Keeps-refl _); last = last }
+      record { before = before; pulls = fed.pulls; clean = clean_so_far; last = last }
 
   -- how the source is left, after no more pull or after one more
   pub left_here : {A : Type 0} (result : Result A Refusal) → (IsErrOf result Read → ⊥)
@@ -222,12 +202,6 @@ kept keeps None new left given old_copy new_copy r l c k h = tt
 kept keeps (Some t) None left given old_copy new_copy r l c k h = absurd c
 kept keeps (Some t) (Some rest) left given old_copy new_copy r l c k h =
     inl (h, λ is. record { given = given; rest = rest; whole = c; rest_is = l; copy = k is })
-
--- what a parsed instance represents, if the bytes of its text are kept, if bytes are kept
-pub holds : (keeps : Bool) (old_copy new_copy t : List ℕ) (a : Result Held Refusal) → IsKept keeps old_copy new_copy t
-    → Outcome t a → IfOk a (HoldsKept keeps old_copy new_copy)
-holds keeps old_copy new_copy t (Ok held) k h = (t, h, k)
-holds keeps old_copy new_copy t (Err e) k h = tt
 
 -- the outcome if no bytes are kept
 pub unkept : (old : Option (List ℕ)) (left : AfterPulls) (old_copy new_copy : List ℕ) (r : Result Held Refusal)
