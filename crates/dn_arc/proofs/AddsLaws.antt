@@ -1,7 +1,6 @@
 -- One more arc adds its LOW to the forced units and its free part to the free arcs. Two free arcs of one cost mean the
 -- same as one, and a free arc without capacity means nothing.
-use Rattle.std.specs.Prelude.{◌≡◌, ℤ, pos, ◌+ℤ◌, ◌-ℤ◌, ◌*ℤ◌, ◌≤ℤ◌, List, [], ◌∷◌, ◌++◌, refl}
-use Rattle.std.proofs.Common.{ap, subst, arith}
+use Rattle.std.proofs.Common.{◌≡◌, ℤ, pos, ◌+ℤ◌, ◌-ℤ◌, ◌*ℤ◌, ◌≤ℤ◌, List, [], ◌∷◌, ◌++◌, refl, ap, arith}
 use Rattle.std.proofs.lemmas.Int.{ints, by_lt_z}
 use Rattle.std.specs.List.{AllByRecursion}
 use Rattle.std.specs.Int.Signed.{≤ℤ_refl}
@@ -20,29 +19,20 @@ use Rattle.dn_arc.proofs.OrdersLaws.{at_end}
 off : (fixed rest : List CostArc) (x k : ℤ) → AllByRecursion IsFixedArc fixed → AtMost (fixed ++ rest) x k
     → AtMost rest (x -ℤ forced_units fixed) (k -ℤ forced_cost fixed)
 off [] rest x k f s =
-    subst (λ y. AtMost rest y (k -ℤ pos 0)) (let e : x ≡ x -ℤ pos 0 = omega (arith, ints) in e)
-    (more rest x k (k -ℤ pos 0) (omega (arith, ints)) s)
+    let e : x -ℤ pos 0 ≡ x = omega (arith, ints) in
+    rw e (more rest x k (k -ℤ pos 0) (omega (arith, ints)) s)
 off (a ∷ fixed) rest x k f s =
-    let l = s.low_is in
-    let u = s.cap_is in
-    let full = f.0.full in
-    let e = s.amount in
-    let w = s.within in
-    let is_low : s.share ≡ a.low = omega (arith, ints) in
-    let p = ap (λ y. a.cost *ℤ y) is_low in
-    subst (λ y. AtMost rest y (k -ℤ forced_cost (a ∷ fixed)))
-    (let e : s.other -ℤ forced_units fixed ≡ x -ℤ (a.low +ℤ forced_units fixed) = omega (arith, ints) in e)
-    (more rest (s.other -ℤ forced_units fixed) (s.spent -ℤ forced_cost fixed) (k -ℤ forced_cost (a ∷ fixed))
-    (omega (arith, ints)) (off fixed rest s.other s.spent f.1 s.rest))
+    let p : a.cost *ℤ s.share ≡ a.cost *ℤ a.low = ap (λ y. a.cost *ℤ y) (omega (arith, ints)) in
+    let e : x -ℤ forced_units (a ∷ fixed) ≡ s.other -ℤ forced_units fixed = omega (arith, ints) in
+    rw e (more rest _ _ _ (omega (arith, ints)) (off fixed rest s.other s.spent f.1 s.rest))
 
 -- adding the fixed arcs adds the forced units and their cost
 on : (fixed rest : List CostArc) (y j : ℤ) → AllByRecursion IsFixedArc fixed → AtMost rest y j
     → AtMost (fixed ++ rest) (forced_units fixed +ℤ y) (forced_cost fixed +ℤ j)
 on [] rest y j f s =
-    subst (λ z. AtMost rest z (pos 0 +ℤ j)) (let e : y ≡ pos 0 +ℤ y = omega (arith, ints) in e)
-    (more rest y j (pos 0 +ℤ j) (omega (arith, ints)) s)
+    let e : pos 0 +ℤ y ≡ y = omega (arith, ints) in
+    rw e (more rest y j (pos 0 +ℤ j) (omega (arith, ints)) s)
 on (a ∷ fixed) rest y j f s =
-    let full = f.0.full in
     record {
       share = a.low;
       other = forced_units fixed +ℤ y;
@@ -58,28 +48,20 @@ on (a ∷ fixed) rest y j f s =
 none_there : (cost room : ℤ) (xs : List CostArc) → room ≡ pos 0 → (x k : ℤ) → Share (pos 0) room cost (AtMost xs) x k
     → AtMost xs x k
 none_there cost room xs e x k s =
-    let l = s.low_is in
-    let u = s.cap_is in
-    let a = s.amount in
-    let w = s.within in
-    let none : s.share ≡ pos 0 = omega (arith, ints) in
-    let p = ap (λ y. cost *ℤ y) none in
-    let z : cost *ℤ pos 0 ≡ pos 0 = omega (arith, ints) in
-    subst (λ y. AtMost xs y k) (let e : s.other ≡ x = omega (arith, ints) in e)
-    (more xs s.other s.spent k (omega (arith, ints)) s.rest)
+    let p : cost *ℤ s.share ≡ cost *ℤ pos 0 = ap (λ y. cost *ℤ y) (omega (arith, ints)) in
+    let e : x ≡ s.other = omega (arith, ints) in
+    rw e (more xs s.other s.spent k (omega (arith, ints)) s.rest)
 
 none_back : (cost room : ℤ) (xs : List CostArc) → room ≡ pos 0 → (x k : ℤ) → AtMost xs x k
     → Share (pos 0) room cost (AtMost xs) x k
 none_back cost room xs e x k s =
-    let z : cost *ℤ pos 0 ≡ pos 0 = omega (arith, ints) in
     record {
       share = pos 0;
       other = x;
       spent = k;
       low_is = ≤ℤ_refl _;
       cap_is = omega (arith, ints);
-      amount =
-          omega (arith, ints);
+      amount = omega (arith, ints);
       within = omega (arith, ints);
       rest = s;
     }
@@ -91,10 +73,17 @@ above_none cost room xs e = record { there = none_there cost room xs e; back = n
 merge_there : (cost u w : ℤ) (R : ℤ → ℤ → Type 0) → pos 0 ≤ℤ u → pos 0 ≤ℤ w → (x k : ℤ)
     → Share (pos 0) (u +ℤ w) cost R x k → Share (pos 0) w cost (Share (pos 0) u cost R) x k
 merge_there cost u w R h g x k s =
-    let l = s.low_is in
-    let c = s.cap_is in
-    let a = s.amount in
-    let i = s.within in
+    let first : (v y : ℤ) → pos 0 ≤ℤ y → y ≤ℤ u → v ≡ y +ℤ s.other → Share (pos 0) u cost R v ((cost *ℤ y) +ℤ s.spent) =
+    λ v y l c e. record {
+      share = y;
+      other = s.other;
+      spent = s.spent;
+      low_is = l;
+      cap_is = c;
+      amount = e;
+      within = ≤ℤ_refl _;
+      rest = s.rest;
+    } in
     by_lt_z w s.share
     (λ past.
     let m = mul_sub cost s.share w in
@@ -106,63 +95,30 @@ merge_there cost u w R h g x k s =
       cap_is = ≤ℤ_refl _;
       amount = omega (arith, ints);
       within = omega (arith, ints);
-      rest =
-          record {
-            share = s.share -ℤ w;
-            other = s.other;
-            spent = s.spent;
-            low_is = omega (arith, ints);
-            cap_is =
-                omega (arith, ints);
-            amount = refl;
-            within = ≤ℤ_refl _;
-            rest = s.rest;
-          };
+      rest = first _ (s.share -ℤ w) (omega (arith, ints)) (omega (arith, ints)) refl;
     })
-    (λ under.
-    let z : cost *ℤ pos 0 ≡ pos 0 = omega (arith, ints) in
-    record {
+    (λ under. record {
       share = s.share;
       other = s.other;
-      spent = s.spent;
-      low_is = l;
+      spent = (cost *ℤ pos 0) +ℤ s.spent;
+      low_is = s.low_is;
       cap_is = under;
-      amount = a;
-      within = i;
-      rest =
-          record {
-            share = pos 0;
-            other = s.other;
-            spent = s.spent;
-            low_is = ≤ℤ_refl _;
-            cap_is = h;
-            amount =
-                omega (arith, ints);
-            within = omega (arith, ints);
-            rest = s.rest;
-          };
+      amount = s.amount;
+      within = omega (arith, ints);
+      rest = first _ (pos 0) (≤ℤ_refl _) h (omega (arith, ints));
     })
 
 merge_back : (cost u w : ℤ) (R : ℤ → ℤ → Type 0) (x k : ℤ) → Share (pos 0) w cost (Share (pos 0) u cost R) x k
     → Share (pos 0) (u +ℤ w) cost R x k
 merge_back cost u w R x k s =
     let t = s.rest in
-    let l = s.low_is in
-    let c = s.cap_is in
-    let a = s.amount in
-    let i = s.within in
-    let m = t.low_is in
-    let d = t.cap_is in
-    let b = t.amount in
-    let j = t.within in
     let p = mul_add cost s.share t.share in
     record {
       share = s.share +ℤ t.share;
       other = t.other;
       spent = t.spent;
       low_is = omega (arith, ints);
-      cap_is =
-          omega (arith, ints);
+      cap_is = omega (arith, ints);
       amount = omega (arith, ints);
       within = omega (arith, ints);
       rest = t.rest;
@@ -177,18 +133,13 @@ above_merge cost u w xs h g =
 part_there : (low cap cost : ℤ) (R : ℤ → ℤ → Type 0) (x k : ℤ) → Share low cap cost R x k
     → Share (pos 0) (cap -ℤ low) cost R (x -ℤ low) (k -ℤ (cost *ℤ low))
 part_there low cap cost R x k s =
-    let l = s.low_is in
-    let c = s.cap_is in
-    let a = s.amount in
-    let i = s.within in
     let m = mul_sub cost s.share low in
     record {
       share = s.share -ℤ low;
       other = s.other;
       spent = s.spent;
       low_is = omega (arith, ints);
-      cap_is =
-          omega (arith, ints);
+      cap_is = omega (arith, ints);
       amount = omega (arith, ints);
       within = omega (arith, ints);
       rest = s.rest;
@@ -197,25 +148,20 @@ part_there low cap cost R x k s =
 part_back : (low cap cost : ℤ) (R : ℤ → ℤ → Type 0) (x k : ℤ) → Share (pos 0) (cap -ℤ low) cost R x k
     → Share low cap cost R (low +ℤ x) ((cost *ℤ low) +ℤ k)
 part_back low cap cost R x k s =
-    let l = s.low_is in
-    let c = s.cap_is in
-    let a = s.amount in
-    let i = s.within in
     let m = mul_add cost low s.share in
     record {
       share = low +ℤ s.share;
       other = s.other;
       spent = s.spent;
       low_is = omega (arith, ints);
-      cap_is =
-          omega (arith, ints);
+      cap_is = omega (arith, ints);
       amount = omega (arith, ints);
       within = omega (arith, ints);
       rest = s.rest;
     }
 
 at_values : (arcs : List CostArc) (x y k j : ℤ) → x ≡ y → k ≡ j → AtMost arcs x k → AtMost arcs y j
-at_values arcs x y k j e f s = subst (λ z. AtMost arcs z j) e (subst (AtMost arcs x) f s)
+at_values arcs x y k j e f s = rw (← e) (rw f at s)
 
 add_above : (fixed fixed' free free' : List CostArc) (a : CostArc) → AllByRecursion IsFixedArc fixed
     → AllByRecursion IsFixedArc fixed'

@@ -1,12 +1,9 @@
 -- The arcs of a problem mean the same as arcs of form 1. Their meaning determines their forced units, the cost of
 -- these, their free capacity by cost, and their number of entries.
-use Rattle.std.specs.Prelude.{◌≡◌, ℕ, suc, ◌+◌, ℤ, pos, ◌+ℤ◌, ◌-ℤ◌, ◌*ℤ◌, ◌≤ℤ◌, ◌<ℤ◌, Bool, true, false, ◌||◌, List, [], ◌∷◌, length, cond, filter, map, int_lt, refl}
-use Rattle.std.proofs.Common.{sym, ap, subst, arith, ◌∙◌}
+use Rattle.std.proofs.Common.{◌≡◌, suc, ◌+◌, ℤ, pos, ◌*ℤ◌, ◌≤ℤ◌, ◌<ℤ◌, Bool, true, false, ◌||◌, List, [], ◌∷◌, length, cond, filter, map, int_lt, refl, sym, ap, arith, ◌∙◌, inl, inr, int_cmp, int_eq, is_eq, Less, Equal, Greater}
 use Rattle.std.proofs.lemmas.Int.{ints, by_lt_z}
 use Rattle.std.proofs.lemmas.Cmp.{int_ranked, by_ranked}
 use Rattle.std.specs.List.{AllByRecursion, list_any}
-use Rattle.std.specs.Ordering.{int_cmp, int_eq, is_eq}
-use Rattle.std.specs.declared.cmp.Ordering.TheVariants.{Less, Equal, Greater}
 use Rattle.std.specs.Int.Signed.{≤ℤ_refl}
 use Rattle.dn_arc.specs.declared.arc.CostArc.{CostArc}
 use Rattle.dn_arc.specs.declared.arc.Form.TheVariants.{One}
@@ -20,11 +17,12 @@ use Rattle.dn_arc.specs.State.CurveListed.{free_arc, step_arc, listed}
 use Rattle.dn_arc.proofs.SplitsLaws.{SameAbove}
 use Rattle.dn_arc.proofs.CurvesLaws.{above_meaning, curve_meaning}
 use Rattle.dn_arc.proofs.OrdersLaws.{at_end}
-use Rattle.dn_arc.proofs.PartsLaws.{by_test, test_yes, test_no}
+use Rattle.dn_arc.proofs.PartsLaws.{test_yes, test_no}
+use Rattle.std.proofs.lemmas.Bool.{cases_Bool}
 use Rattle.dn_arc.proofs.FormsLaws.{form_one_ordered}
-use Rattle.dn_arc.proofs.FormOneLaws.{same_fill, free_same}
+use Rattle.dn_arc.proofs.FormOneLaws.{same_fill, same_free, free_same}
 use Rattle.dn_arc.proofs.AddsLaws.{above_none}
-use Rattle.dn_arc.proofs.StepArcsLaws.{CostsAbove, costs_lower, free_arcs, put_steps, put_above}
+use Rattle.dn_arc.proofs.StepArcsLaws.{by_put, CostsAbove, costs_lower, free_arcs, put_steps, put_above}
 use Rattle.dn_arc.proofs.ListedLaws.{listed_one, listed_apart, listed_units, listed_cost}
 use Rattle.dn_arc.proofs.SoundLaws.{listed_added}
 
@@ -40,44 +38,33 @@ canon arcs = listed One (forced_units arcs) (forced_cost arcs) (arc_steps arcs)
 arc_steps_are : (arcs : List CostArc) → AreSteps (arc_steps arcs)
 arc_steps_are [] = tt
 arc_steps_are (a ∷ rest) =
-    by_test AreSteps a.low a.cap (put_step (arc_steps rest) (a.cost, room a)) (arc_steps rest)
-    (λ lt. put_steps (arc_steps rest) (a.cost, room a) (omega (arith, ints)) (arc_steps_are rest))
-    (λ le. arc_steps_are rest)
+    by_lt_z a.low a.cap (λ lt. simp test_yes (put_steps _ _ (omega (arith, ints)) (arc_steps_are rest)))
+    (λ le. simp test_no (arc_steps_are rest))
 
 units_some : (arcs : List CostArc) → AllByRecursion IsCostArc arcs → pos 0 ≤ℤ forced_units arcs
 units_some [] h = ≤ℤ_refl _
-units_some (a ∷ rest) h = let low = h.0.some in let i = units_some rest h.1 in omega (arith, ints)
+units_some (a ∷ rest) h = omega (arith, ints, units_some rest h.1)
 
 none_forced : (arcs : List CostArc) → AllByRecursion IsCostArc arcs → forced_units arcs ≡ pos 0
     → forced_cost arcs ≡ pos 0
 none_forced [] h e = refl
 none_forced (a ∷ rest) h e =
-    let low = h.0.some in
     let left = units_some rest h.1 in
     let none : a.low ≡ pos 0 = omega (arith, ints) in
-    let i = none_forced rest h.1 (omega (arith, ints)) in
-    let p = ap (λ z. a.cost *ℤ z) none in
-    omega (arith, ints)
+    omega (arith, ints, ap (λ z. a.cost *ℤ z) none, none_forced rest h.1 (omega (arith, ints)))
 
 canon_same : (arcs : List CostArc) → AllByRecursion IsCostArc arcs → SameCurve (canon arcs) arcs
 canon_same [] h = curve_meaning.same_refl []
 canon_same (a ∷ rest) h =
-    let high = h.0.room in
-    let more : SameAbove (map step_arc (arc_steps (a ∷ rest)))
-    (free_arc a.cost (a.cap -ℤ a.low) ∷ map step_arc (arc_steps rest)) =
-    by_test
-    (λ (l : List (ℤ × ℤ)). SameAbove (map step_arc l)
-    (free_arc a.cost (a.cap -ℤ a.low) ∷ map step_arc (arc_steps rest))) a.low a.cap
-    (put_step (arc_steps rest) (a.cost, room a)) (arc_steps rest)
-    (λ lt. put_above (arc_steps rest) (a.cost, room a) (omega (arith, ints)) (arc_steps_are rest))
-    (λ le. above_meaning.same_sym _ _
-    (above_none a.cost (a.cap -ℤ a.low) (map step_arc (arc_steps rest)) (omega (arith, ints)))) in
+    let steps = arc_steps rest in
+    let more : SameAbove (map step_arc (arc_steps (a ∷ rest))) (free_arc a.cost (room a) ∷ map step_arc steps) =
+    by_lt_z a.low a.cap
+    (λ lt. rw test_yes (put_above _ (a.cost, room a) (omega (arith, ints)) (arc_steps_are rest)))
+    (λ le. rw test_no (above_meaning.same_sym _ _ (above_none a.cost (room a) _ (omega (arith, ints))))) in
     let added =
-    listed_added (forced_units rest) (forced_cost rest) (forced_units (a ∷ rest)) (forced_cost (a ∷ rest))
-    (arc_steps rest) (arc_steps (a ∷ rest)) a
-    (units_some rest h.1) (none_forced rest h.1) (arc_steps_are rest)
-    (units_some (a ∷ rest) h) (none_forced (a ∷ rest) h) (arc_steps_are (a ∷ rest))
-    (omega (arith, ints)) (omega (arith, ints)) more in
+    listed_added _ _ (forced_units (a ∷ rest)) (forced_cost (a ∷ rest)) (arc_steps rest) (arc_steps (a ∷ rest)) a
+    (units_some rest h.1) (none_forced rest h.1) (arc_steps_are rest) (units_some (a ∷ rest) h)
+    (none_forced (a ∷ rest) h) (arc_steps_are (a ∷ rest)) (omega (arith, ints)) (omega (arith, ints)) more in
     curve_meaning.same_trans _ _ _ added
     (curve_meaning.same_trans _ _ _ (at_end SameCurve curve_meaning (canon rest) a)
     (curve_meaning.same_more a _ _ (canon_same rest h.1)))
@@ -95,47 +82,24 @@ pub record IsSameCanon (xs ys : List CostArc) : Type 0 where
 pub same_canon : (xs ys : List CostArc) → AllByRecursion IsCostArc xs → AllByRecursion IsCostArc ys → SameCurve xs ys
     → IsSameCanon xs ys
 same_canon xs ys h g s =
-    let p =
-    listed_one (forced_units xs) (forced_cost xs) (arc_steps xs) (units_some xs h) (none_forced xs h)
-    (arc_steps_are xs) in
-    let q =
-    listed_one (forced_units ys) (forced_cost ys) (arc_steps ys) (units_some ys g) (none_forced ys g)
-    (arc_steps_are ys) in
-    let same =
-    curve_meaning.same_trans _ _ _ (canon_same xs h)
-    (curve_meaning.same_trans _ _ _ s (curve_meaning.same_sym _ _ (canon_same ys g))) in
-    let t = same_fill (canon xs) (canon ys) (form_one_ordered (canon xs) p) (form_one_ordered (canon ys) q) same in
-    let u =
-    listed_units (forced_units xs) (forced_cost xs) (arc_steps xs) (units_some xs h) (none_forced xs h)
-    (arc_steps_are xs) in
-    let v =
-    listed_units (forced_units ys) (forced_cost ys) (arc_steps ys) (units_some ys g) (none_forced ys g)
-    (arc_steps_are ys) in
-    let c =
-    listed_cost (forced_units xs) (forced_cost xs) (arc_steps xs) (units_some xs h) (none_forced xs h)
-    (arc_steps_are xs) in
-    let d =
-    listed_cost (forced_units ys) (forced_cost ys) (arc_steps ys) (units_some ys g) (none_forced ys g)
-    (arc_steps_are ys) in
-    let a =
-    listed_apart (forced_units xs) (forced_cost xs) (arc_steps xs) (units_some xs h) (none_forced xs h)
-    (arc_steps_are xs) in
-    let b =
-    listed_apart (forced_units ys) (forced_cost ys) (arc_steps ys) (units_some ys g) (none_forced ys g)
-    (arc_steps_are ys) in
-    let f =
-    free_same (map step_arc (arc_steps xs)) (map step_arc (arc_steps ys))
-    (free_arcs (arc_steps xs) (arc_steps_are xs)) (free_arcs (arc_steps ys) (arc_steps_are ys))
-    (record {
-      whole = sym a.room ∙ t.whole ∙ b.room;
-      each =
-          λ y l w. sym (a.fill y l) ∙ t.each y l (subst (λ z. y ≤ℤ z) (sym a.room) w) ∙ b.fill y l;
-    }) in
+    let p = form_one_ordered (canon xs) (listed_one _ _ _ (units_some xs h) (none_forced xs h) (arc_steps_are xs)) in
+    let q = form_one_ordered (canon ys) (listed_one _ _ _ (units_some ys g) (none_forced ys g) (arc_steps_are ys)) in
+    let same = curve_meaning.same_trans _ _ _ s (curve_meaning.same_sym _ _ (canon_same ys g)) in
+    let t = same_fill (canon xs) (canon ys) p q (curve_meaning.same_trans _ _ _ (canon_same xs h) same) in
+    let a = listed_apart _ _ _ (units_some xs h) (none_forced xs h) (arc_steps_are xs) in
+    let b = listed_apart _ _ _ (units_some ys g) (none_forced ys g) (arc_steps_are ys) in
+    let f = free_same _ _ (free_arcs _ (arc_steps_are xs)) (free_arcs _ (arc_steps_are ys)) (same_free a b t) in
     record {
-      units = sym u ∙ t.units ∙ v;
-      cost = sym c ∙ t.cost ∙ d;
-      steps = sym (back (arc_steps xs)) ∙ ap (λ l. map (λ (a : CostArc). (a.cost, a.cap)) l) f ∙ back (arc_steps ys);
+      units = sym (units_of xs h) ∙ t.units ∙ units_of ys g;
+      cost = sym (cost_of xs h) ∙ t.cost ∙ cost_of ys g;
+      steps = sym (back (arc_steps xs)) ∙ ap (map (λ (a : CostArc). (a.cost, a.cap))) f ∙ back (arc_steps ys);
     }
+  where
+    units_of : (arcs : List CostArc) → AllByRecursion IsCostArc arcs → forced_units (canon arcs) ≡ forced_units arcs
+    units_of arcs h = listed_units _ _ _ (units_some arcs h) (none_forced arcs h) (arc_steps_are arcs)
+
+    cost_of : (arcs : List CostArc) → AllByRecursion IsCostArc arcs → forced_cost (canon arcs) ≡ forced_cost arcs
+    cost_of arcs h = listed_cost _ _ _ (units_some arcs h) (none_forced arcs h) (arc_steps_are arcs)
 
 -- a case distinction by the order of two numbers
 pub by_cmp : {G : Type 0} (a b : ℤ) → (int_cmp a b ≡ Less → a <ℤ b → G) → (int_cmp a b ≡ Equal → a ≡ b → G)
@@ -153,63 +117,33 @@ pub eq_past : (a b : ℤ) → b <ℤ a → int_eq a b ≡ false
 eq_past a b h = by_cmp a b (λ c lt. ap is_eq c) (λ c eq. absurd (omega (arith, ints))) (λ c gt. ap is_eq c)
 
 or_swap : (a b c : Bool) → (a || (b || c)) ≡ (b || (a || c))
-or_swap true true c = refl
-or_swap true false c = refl
-or_swap false true c = refl
-or_swap false false c = refl
-
-or_same : (a c : Bool) → (a || c) ≡ (a || (a || c))
-or_same true c = refl
-or_same false c = refl
+or_swap a b c = grind arith
 
 -- a cost has capacity after an insertion exactly if it had capacity before or is the inserted cost
 has_put : (steps : List (ℤ × ℤ)) (more : ℤ × ℤ) (c : ℤ)
     → has_step (put_step steps more) c ≡ (int_eq c more.0 || has_step steps c)
 has_put [] more c = refl
 has_put (step ∷ rest) more c =
-    by_test (λ (l : List (ℤ × ℤ)). has_step l c ≡ (int_eq c more.0 || has_step (step ∷ rest) c)) more.0 step.0
-    (more ∷ step ∷ rest)
-    (cond (int_lt step.0 more.0) (step ∷ put_step rest more) ((step.0, step.1 +ℤ more.1) ∷ rest))
-    (λ lt. refl)
-    (λ le. by_test (λ (l : List (ℤ × ℤ)). has_step l c ≡ (int_eq c more.0 || has_step (step ∷ rest) c)) step.0 more.0
-    (step ∷ put_step rest more) ((step.0, step.1 +ℤ more.1) ∷ rest)
-    (λ lt. ap (λ b. int_eq c step.0 || b) (has_put rest more c)
-    ∙ or_swap (int_eq c step.0) (int_eq c more.0) (has_step rest c))
-    (λ ge.
-    let same : step.0 ≡ more.0 = omega (arith, ints) in
-    or_same (int_eq c step.0) (has_step rest c) ∙ ap (λ z. int_eq c z || (int_eq c step.0 || has_step rest c)) same))
+    by_put (λ l. has_step l c ≡ (int_eq c more.0 || has_step (step ∷ rest) c)) step rest more (λ lt. refl)
+    (λ gt. rw (has_put rest more c) (or_swap (int_eq c step.0) (int_eq c more.0) (has_step rest c)))
+    (λ eq. rw eq (elim (cases_Bool (int_eq c step.0)) [ inl t ↦ rw t | inr t ↦ rw t ]))
 
 -- breakpoints above a cost have no capacity at it
 pub none_has : (c : ℤ) (steps : List (ℤ × ℤ)) → CostsAbove c steps → has_step steps c ≡ false
 none_has c [] h = refl
-none_has c (step ∷ rest) h = ap (λ b. b || has_step rest c) (eq_below c step.0 h.0) ∙ none_has c rest h.1
+none_has c (step ∷ rest) h = rw (eq_below c step.0 h.0) (none_has c rest h.1)
 
 -- an insertion adds one breakpoint, unless there was one at this cost
 pub length_put : (steps : List (ℤ × ℤ)) (more : ℤ × ℤ) → AreSteps steps
     → length (put_step steps more) ≡ cond (has_step steps more.0) (length steps) (suc (length steps))
 length_put [] more s = refl
 length_put (step ∷ rest) more s =
-    by_test
-    (λ (l : List (ℤ × ℤ)). length l ≡ cond (has_step (step ∷ rest) more.0) (length (step ∷ rest))
-    (suc (length (step ∷ rest)))) more.0 step.0 (more ∷ step ∷ rest)
-    (cond (int_lt step.0 more.0) (step ∷ put_step rest more) ((step.0, step.1 +ℤ more.1) ∷ rest))
-    (λ lt. sym
-    (ap (λ b. cond b (length (step ∷ rest)) (suc (length (step ∷ rest))))
-    (none_has more.0 (step ∷ rest) (lt, costs_lower more.0 step.0 rest lt s.1))))
-    (λ le. by_test
-    (λ (l : List (ℤ × ℤ)). length l ≡ cond (has_step (step ∷ rest) more.0) (length (step ∷ rest))
-    (suc (length (step ∷ rest)))) step.0 more.0 (step ∷ put_step rest more) ((step.0, step.1 +ℤ more.1) ∷ rest)
-    (λ lt. ap suc (length_put rest more s.2) ∙ one_more (has_step rest more.0) (length rest)
-    ∙ sym
-    (ap (λ b. cond (b || has_step rest more.0) (length (step ∷ rest)) (suc (length (step ∷ rest))))
-    (eq_past more.0 step.0 lt)))
-    (λ ge. sym
-    (ap (λ b. cond (b || has_step rest more.0) (length (step ∷ rest)) (suc (length (step ∷ rest))))
-    (eq_yes more.0 step.0 (omega (arith, ints))))))
-  where
-    one_more : (b : Bool) (n : ℕ) → suc (cond b n (suc n)) ≡ cond b (suc n) (suc (suc n))
-    one_more true n = refl
-    one_more false n = refl
+    by_put (λ l. length l ≡ cond (has_step (step ∷ rest) more.0) (length (step ∷ rest)) (suc (length (step ∷ rest))))
+    step rest more
+    (λ lt. rw (none_has more.0 (step ∷ rest) (lt, costs_lower more.0 step.0 rest lt s.1)))
+    (λ gt. rw (eq_past more.0 step.0 gt, length_put rest more s.2)
+    (elim (cases_Bool (has_step rest more.0)) [ inl t ↦ rw t | inr t ↦ rw t ]))
+    (λ eq. rw (eq_yes more.0 step.0 eq))
 
 abbrev pub costs_of : List CostArc → List ℤ
 costs_of arcs = map (λ (a : CostArc). a.cost) (filter has_room arcs)
@@ -218,61 +152,45 @@ costs_of arcs = map (λ (a : CostArc). a.cost) (filter has_room arcs)
 has_cost : (arcs : List CostArc) (c : ℤ) → list_any (int_eq c) (costs_of arcs) ≡ has_step (arc_steps arcs) c
 has_cost [] c = refl
 has_cost (a ∷ rest) c =
-    elim (int_lt a.low a.cap) as
-    (λ v. list_any (int_eq c)
-    (map (λ (a : CostArc). a.cost) (cond v (a ∷ filter has_room rest) (filter has_room rest))) ≡ has_step
-    (cond v (put_step (arc_steps rest) (a.cost, room a)) (arc_steps rest)) c) [
-      | true ↦ ap (λ b. int_eq c a.cost || b) (has_cost rest c) ∙ sym (has_put (arc_steps rest) (a.cost, room a) c)
-      | false ↦ has_cost rest c
+    elim (cases_Bool (int_lt a.low a.cap)) [
+      | inl t ↦ rw (t, has_cost rest c, has_put (arc_steps rest) (a.cost, room a) c)
+      | inr t ↦ rw t (has_cost rest c)
     ]
 
 -- there are as many breakpoints as different costs of arcs with free capacity
 pub count_costs : (arcs : List CostArc) → length (distinct int_eq (costs_of arcs)) ≡ length (arc_steps arcs)
 count_costs [] = refl
 count_costs (a ∷ rest) =
-    let i = count_costs rest in
-    elim (int_lt a.low a.cap) as
-    (λ v. length
-    (distinct int_eq
-    (map (λ (a : CostArc). a.cost) (cond v (a ∷ filter has_room rest) (filter has_room rest)))) ≡ length
-    (cond v (put_step (arc_steps rest) (a.cost, room a)) (arc_steps rest))) [
-      | true ↦ ap (λ b. length (cond b (distinct int_eq (costs_of rest)) (a.cost ∷ distinct int_eq (costs_of rest))))
-          (has_cost rest a.cost) ∙ either (has_step (arc_steps rest) a.cost) i
-          ∙ sym (length_put (arc_steps rest) (a.cost, room a) (arc_steps_are rest))
-      | false ↦ i
+    elim (cases_Bool (int_lt a.low a.cap)) [
+      | inl t ↦ rw (t, has_cost rest a.cost, length_put (arc_steps rest) (a.cost, room a) (arc_steps_are rest))
+          (elim (cases_Bool (has_step (arc_steps rest) a.cost)) [
+            | inl u ↦ rw u (count_costs rest)
+            | inr u ↦ rw u (ap suc (count_costs rest))
+          ])
+      | inr t ↦ rw t (count_costs rest)
     ]
-  where
-    either : (b : Bool) → length (distinct int_eq (costs_of rest)) ≡ length (arc_steps rest)
-        → length (cond b (distinct int_eq (costs_of rest)) (a.cost ∷ distinct int_eq (costs_of rest))) ≡ cond b
-        (length (arc_steps rest)) (suc (length (arc_steps rest)))
-    either true i = i
-    either false i = ap suc i
 
 any_low : (arcs : List CostArc) → AllByRecursion IsCostArc arcs
     → list_any has_low arcs ≡ int_lt (pos 0) (forced_units arcs)
 any_low [] h = refl
 any_low (a ∷ rest) h =
-    let low = h.0.some in
     let left = units_some rest h.1 in
     by_lt_z (pos 0) a.low
-    (λ lt. ap (λ b. b || list_any has_low rest) (test_yes (pos 0) a.low lt)
-    ∙ sym (test_yes (pos 0) (forced_units (a ∷ rest)) (omega (arith, ints))))
-    (λ le. ap (λ b. b || list_any has_low rest) (test_no (pos 0) a.low le) ∙ any_low rest h.1
-    ∙ ap (λ z. int_lt (pos 0) z) (let e : forced_units rest ≡ forced_units (a ∷ rest) = omega (arith, ints) in e))
+    (λ lt. rw (test_yes (pos 0) a.low lt, test_yes (pos 0) (forced_units (a ∷ rest)) (omega (arith, ints))))
+    (λ le.
+    let same : forced_units (a ∷ rest) ≡ forced_units rest = omega (arith, ints) in
+    rw (test_no (pos 0) a.low le, same) (any_low rest h.1))
 
 -- the entries are one for forced units, if there are any, and one for each breakpoint
 pub entries_are : (arcs : List CostArc) → AllByRecursion IsCostArc arcs
     → cost_entries arcs ≡ cond (int_lt (pos 0) (forced_units arcs)) 1 0 + length (arc_steps arcs)
-entries_are arcs h =
-    ap (λ b. cond b 1 0 + length (distinct int_eq (costs_of arcs))) (any_low arcs h)
-    ∙ ap (λ n. cond (int_lt (pos 0) (forced_units arcs)) 1 0 + n) (count_costs arcs)
+entries_are arcs h = rw (any_low arcs h, count_costs arcs)
 
 pub entries_same : (xs ys : List CostArc) → AllByRecursion IsCostArc xs → AllByRecursion IsCostArc ys → SameCurve xs ys
     → cost_entries xs ≡ cost_entries ys
 entries_same xs ys h g s =
     let c = same_canon xs ys h g s in
-    entries_are xs h ∙ ap (λ z. cond (int_lt (pos 0) z) 1 0 + length (arc_steps xs)) c.units
-    ∙ ap (λ l. cond (int_lt (pos 0) (forced_units ys)) 1 0 + length l) c.steps ∙ sym (entries_are ys g)
+    rw (entries_are xs h, entries_are ys g, c.units, c.steps)
 
 -- arcs that make no entries mean the same as no arcs
 pub no_curve : (arcs : List CostArc) → AllByRecursion IsCostArc arcs → cost_entries arcs ≡ 0 → SameCurve arcs []
@@ -281,13 +199,10 @@ no_curve arcs h e =
     let all = sym (entries_are arcs h) ∙ e in
     let none : forced_units arcs ≡ pos 0 =
     by_lt_z (pos 0) (forced_units arcs)
-    (λ lt. let one = ap {B = ℕ} (λ b. cond b 1 0) (test_yes (pos 0) (forced_units arcs) lt) in
-    absurd (omega (arith, one, all))) (λ le. omega (arith, ints)) in
+    (λ lt. absurd (omega (arith, rw (test_yes (pos 0) (forced_units arcs) lt) at all))) (λ le. omega (arith, ints)) in
     let steps : arc_steps arcs ≡ [] = no_steps (arc_steps arcs) (omega (arith, all)) in
-    let is : canon arcs ≡ [] =
-    ap (λ u. listed One u (forced_cost arcs) (arc_steps arcs)) none
-    ∙ ap (λ l. listed One (pos 0) (forced_cost arcs) l) steps in
-    subst (λ l. SameCurve arcs l) is (curve_meaning.same_sym _ _ (canon_same arcs h))
+    let is : canon arcs ≡ [] = rw (none, steps) in
+    rw is at (curve_meaning.same_sym _ _ (canon_same arcs h))
   where
     no_steps : (l : List (ℤ × ℤ)) → length l ≡ 0 → l ≡ []
     no_steps [] z = refl

@@ -1,6 +1,5 @@
 -- The laws of `min` arcs as a kind. Their meaning determines their canonical arcs in each form.
-use Rattle.std.specs.Prelude.{◌≡◌, ◌⊎◌, ◌-◌, ◌^◌, ℤ, pos, ◌+ℤ◌, ◌*ℤ◌, ◌<ℤ◌, List, [], ◌∷◌, ◌++◌, Option, Some, None, refl}
-use Rattle.std.proofs.Common.{sym, ap, subst, arith, ◌∙◌}
+use Rattle.std.proofs.Common.{◌≡◌, ◌⊎◌, ◌-◌, ◌^◌, ℤ, pos, ◌+ℤ◌, ◌*ℤ◌, ◌<ℤ◌, List, [], ◌∷◌, ◌++◌, Option, Some, None, refl, sym, ap, subst, arith, ◌∙◌}
 use Rattle.std.proofs.lemmas.Int.{ints, by_lt_z}
 use Rattle.std.specs.List.{AllByRecursion}
 use Rattle.dn_arc.specs.declared.arc.CostArc.{CostArc}
@@ -8,9 +7,9 @@ use Rattle.dn_arc.specs.declared.arc.Form.{Form}
 use Rattle.dn_arc.specs.declared.arc.Form.TheVariants.{One, Two}
 use Rattle.dn_arc.specs.declared.difference.Gap.{Gap}
 use Rattle.dn_arc.specs.declared.difference.How.{How}
-use Rattle.dn_arc.specs.declared.difference.How.TheVariants.{Lengths, Totals, Costs}
+use Rattle.dn_arc.specs.declared.difference.How.TheVariants.{Costs}
 use Rattle.dn_arc.specs.Entries.{SpreadsForced}
-use Rattle.dn_arc.specs.Fillings.{forced_units, forced_cost}
+use Rattle.dn_arc.specs.Fillings.{forced_units}
 use Rattle.dn_arc.specs.Kinds.{costs}
 use Rattle.dn_arc.specs.State.Bundles.{IsKind, IsDetermined}
 use Rattle.dn_arc.specs.Splits.{LeastCost, cost_cap}
@@ -29,15 +28,12 @@ all_numbers None = []
 all_numbers (Some a) = a.low ∷ a.cap ∷ a.cost ∷ []
 
 numbers_of : (ns : List ℤ) (a : CostArc) → costs.arc_of ns ≡ Some a → costs.numbers a ≡ ns
-numbers_of [] a e = cc
-numbers_of (l ∷ []) a e = cc
-numbers_of (l ∷ c ∷ []) a e = cc
 numbers_of (l ∷ c ∷ k ∷ []) a e = ap all_numbers (sym e)
-numbers_of (l ∷ c ∷ k ∷ n ∷ ns) a e = cc
+numbers_of ns a e = cc
 
 cap-append : (xs ys : List CostArc) → cost_cap (xs ++ ys) ≡ cost_cap xs +ℤ cost_cap ys
 cap-append [] ys = omega (arith, ints)
-cap-append (a ∷ xs) ys = let i = cap-append xs ys in omega (arith, ints)
+cap-append (a ∷ xs) ys = omega (arith, ints, cap-append xs ys)
 
 canon_arcs : (form : Form) (xs : List CostArc) → AreCanonCosts form xs → AllByRecursion IsCostArc xs
 canon_arcs One xs c = form_one_arcs xs c
@@ -71,15 +67,13 @@ one_gap xs ys g h p q =
     by_lt_z g.amount h.amount (λ lt. absurd (not_below xs ys g h p q lt)) (λ le.
     by_lt_z h.amount g.amount (λ lt. absurd (not_below xs ys h g q p lt)) (λ ge. omega (arith, ints))) in
     gap_same g h a
-    (cost_of_one xs h.amount g.left h.left (subst (λ z. IsCostOf xs z g.left) a p.left) q.left)
-    (cost_of_one ys h.amount g.right h.right (subst (λ z. IsCostOf ys z g.right) a p.right) q.right)
+    (cost_of_one xs h.amount g.left h.left (rw a at p.left) q.left)
+    (cost_of_one ys h.amount g.right h.right (rw a at p.right) q.right)
 
 one_differ : (xs ys : List CostArc) (how other : How) → CurvesDiffer xs ys how → CurvesDiffer xs ys other → how ≡ other
 one_differ xs ys (Costs g) (Costs h) d e = ap Costs (one_gap xs ys g h d e)
-one_differ xs ys (Costs g) (Lengths l r) d e = absurd e
-one_differ xs ys (Costs g) (Totals l r) d e = absurd e
-one_differ xs ys (Lengths l r) other d e = absurd d
-one_differ xs ys (Totals l r) other d e = absurd d
+one_differ xs ys (Costs g) other d e = absurd e
+one_differ xs ys how other d e = absurd d
 
 same_gap : (xs xs' ys ys' : List CostArc) (g : Gap) → SameCurve xs xs' → SameCurve ys ys' → IsGap xs ys g
     → IsGap xs' ys' g
@@ -97,19 +91,17 @@ same_gap xs xs' ys ys' g s t p = record {
 same_differ : (xs xs' ys ys' : List CostArc) (how : How) → SameCurve xs xs' → SameCurve ys ys' → CurvesDiffer xs ys how
     → CurvesDiffer xs' ys' how
 same_differ xs xs' ys ys' (Costs g) s t d = same_gap xs xs' ys ys' g s t d
-same_differ xs xs' ys ys' (Lengths l r) s t d = d
-same_differ xs xs' ys ys' (Totals l r) s t d = d
+same_differ xs xs' ys ys' how s t d = d
 
 same_spreads : (xs ys : List CostArc) (a : CostArc) → AllByRecursion IsCostArc xs → AllByRecursion IsCostArc ys
     → SameCurve xs ys → SpreadsForced xs a → SpreadsForced ys a
 same_spreads xs ys a h g s m =
     let c = same_canon xs ys h g s in
     record {
-      there = subst (λ z. pos 0 <ℤ z) c.units m.there;
+      there = rw c.units at m.there;
       adds = m.adds;
       other =
-          subst (λ z. (forced_cost ys ≡ z *ℤ a.cost → ⊥) ⊎ (pos (2 ^ 32 - 1) <ℤ (z +ℤ a.low))) c.units
-          (subst
+          rw (← c.units) (subst
           (λ z. (z ≡ forced_units xs *ℤ a.cost → ⊥) ⊎ (pos (2 ^ 32 - 1) <ℤ (forced_units xs +ℤ a.low))) c.cost
           m.other);
     }

@@ -1,6 +1,5 @@
 -- Having the same cost curve is a meaning, and it determines the total capacity of a problem's arcs.
-use Rattle.std.specs.Prelude.{◌≡◌, ℤ, pos, ◌+ℤ◌, ◌*ℤ◌, ◌≤ℤ◌, List, [], ◌∷◌, refl}
-use Rattle.std.proofs.Common.{arith}
+use Rattle.std.proofs.Common.{◌≡◌, ℤ, pos, ◌+ℤ◌, ◌*ℤ◌, ◌≤ℤ◌, List, [], ◌∷◌, refl, arith}
 use Rattle.std.proofs.lemmas.Int.{ints}
 use Rattle.std.specs.List.{AllByRecursion}
 use Rattle.std.specs.Int.Signed.{≤ℤ_refl}
@@ -49,12 +48,8 @@ curve_meaning = record {
 
 -- no amount above the total capacity has a cost
 pub at_most_cap : (arcs : List CostArc) (x k : ℤ) → AtMost arcs x k → x ≤ℤ cost_cap arcs
-at_most_cap [] x k s = let e = s.amount in omega (arith, ints)
-at_most_cap (a ∷ rest) x k s =
-    let i = at_most_cap rest s.other s.spent s.rest in
-    let e = s.amount in
-    let u = s.cap_is in
-    omega (arith, ints)
+at_most_cap [] x k s = omega (arith, ints)
+at_most_cap (a ∷ rest) x k s = omega (arith, ints, at_most_cap rest s.other s.spent s.rest)
 
 -- the total capacity has a cost
 record Brim (arcs : List CostArc) : Type 0 where
@@ -73,8 +68,7 @@ brim (a ∷ rest) h =
         spent = i.cost;
         low_is = h.0.room;
         cap_is = ≤ℤ_refl _;
-        amount =
-            refl;
+        amount = refl;
         within = ≤ℤ_refl _;
         rest = i.is;
       };

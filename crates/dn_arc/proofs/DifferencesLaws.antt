@@ -1,7 +1,6 @@
 -- An amount has at most one least cost, which the meaning determines. Arcs of the same cost curve have no difference,
 -- and no arcs carry amount 0 at cost 0.
-use Rattle.std.specs.Prelude.{◌≡◌, ℤ, pos, List, [], Option, Some, None, refl}
-use Rattle.std.proofs.Common.{ap}
+use Rattle.std.proofs.Common.{◌≡◌, ℤ, pos, List, [], Option, Some, None, refl, ap}
 use Rattle.std.specs.Int.Signed.{≤ℤ_refl}
 use Rattle.dn_arc.specs.declared.arc.CostArc.{CostArc}
 use Rattle.dn_arc.specs.declared.difference.How.{How}

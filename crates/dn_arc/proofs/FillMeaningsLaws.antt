@@ -1,7 +1,6 @@
 -- Arcs whose free capacity is sorted by ascending cost mean the same if their forced units and forced costs are equal,
 -- and either the costs of filling them or their free parts are equal.
-use Rattle.std.specs.Prelude.{◌≡◌, ℤ, ◌+ℤ◌, ◌-ℤ◌, ◌≤ℤ◌, List}
-use Rattle.std.proofs.Common.{sym, ap, subst, arith, ◌∙◌}
+use Rattle.std.proofs.Common.{◌≡◌, ℤ, ◌+ℤ◌, ◌-ℤ◌, List, sym, ap, arith, ◌∙◌}
 use Rattle.std.proofs.lemmas.Int.{ints}
 use Rattle.dn_arc.specs.declared.arc.CostArc.{CostArc}
 use Rattle.dn_arc.specs.Splits.{LeastCost}
@@ -16,10 +15,8 @@ one_way : (xs ys : List CostArc) → AreOrdered xs → AreOrdered ys → IsSameF
     → LeastCost ys x k
 one_way xs ys o p s x k l =
     let f = filling_of_least xs x k o l in
-    let low = f.low in
     let high = f.high in
     let units = s.units in
-    let whole = s.whole in
     let more = ap (λ z. x -ℤ z) units in
     least_of_filling ys x k p (record {
       low = omega (arith, ints);
@@ -36,8 +33,7 @@ flip xs ys s =
       units = sym s.units;
       cost = sym s.cost;
       whole = sym s.whole;
-      each =
-          λ y l u. sym (s.each y l (subst (λ z. y ≤ℤ z) (sym s.whole) u));
+      each = λ y l u. sym (s.each y l (rw s.whole u));
     }
 
 -- sorted arcs with equal filling costs mean the same

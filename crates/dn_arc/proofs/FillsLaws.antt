@@ -1,7 +1,6 @@
 -- If free capacity is sorted by ascending cost, the least cost of an amount is the cost of filling the arcs in their
 -- order.
-use Rattle.std.specs.Prelude.{◌≡◌, ℤ, pos, ◌+ℤ◌, ◌-ℤ◌, ◌*ℤ◌, ◌≤ℤ◌, ◌<ℤ◌, ◌↔◌, List, [], ◌∷◌, refl}
-use Rattle.std.proofs.Common.{ap, sym, subst, arith}
+use Rattle.std.proofs.Common.{◌≡◌, ℤ, pos, ◌+ℤ◌, ◌-ℤ◌, ◌*ℤ◌, ◌≤ℤ◌, ◌<ℤ◌, ◌↔◌, List, [], ◌∷◌, refl, ap, subst, arith}
 use Rattle.std.proofs.lemmas.Int.{ints, by_lt_z}
 use Rattle.std.specs.List.{AllByRecursion}
 use Rattle.std.specs.Int.Signed.{≤ℤ_refl}
@@ -32,17 +31,11 @@ fill_high a rest y h = grind (arith, ints)
 
 pub fill_zero : (arcs : List CostArc) → AreOrdered arcs → fill_cost arcs (pos 0) ≡ pos 0
 fill_zero [] o = refl
-fill_zero (a ∷ rest) o =
-    let h = o.0.room in
-    let e = fill_low a rest (pos 0) (omega (arith, ints)) in
-    omega (arith, ints)
+fill_zero (a ∷ rest) o = omega (arith, ints, fill_low a rest (pos 0) (omega (arith, ints)))
 
 pub room_some : (arcs : List CostArc) → AreOrdered arcs → pos 0 ≤ℤ free_room arcs
 room_some [] o = ≤ℤ_refl _
-room_some (a ∷ rest) o =
-    let h = o.0.room in
-    let i = room_some rest o.2 in
-    omega (arith, ints)
+room_some (a ∷ rest) o = omega (arith, ints, room_some rest o.2)
 
 -- units of an arc cost at least as much at its cost as at a lower cost
 dearer : (c p u w : ℤ) → pos 0 ≤ℤ w → w ≤ℤ u → (pos 0 <ℤ u → c ≤ℤ p) → (c *ℤ w) ≤ℤ (p *ℤ w)
@@ -51,9 +44,7 @@ dearer c p u w h g f =
     (λ lt. mul_mono c p w (f lt) h)
     (λ le.
     let none : w ≡ pos 0 = omega (arith, ints) in
-    let e = ap (λ z. c *ℤ z) none in
-    let g = ap (λ z. p *ℤ z) none in
-    omega (arith, ints))
+    omega (arith, ints, ap (λ z. p *ℤ z) none, ap (λ z. c *ℤ z) none))
 
 both_over : (fz fzd k f1 f2 f3 cd : ℤ) → fzd ≡ k +ℤ f2 → fz ≡ k +ℤ f1 → (f1 +ℤ cd) ≤ℤ f3 → f3 ≡ f2 → (fz +ℤ cd) ≤ℤ fzd
 both_over fz fzd k f1 f2 f3 cd h1 h2 h3 h4 = omega (arith, ints)
@@ -63,22 +54,18 @@ one_over : (p c u z d fz fzd f0 f2 f3 : ℤ) → fzd ≡ (p *ℤ u) +ℤ f2 → 
 one_over p c u z d fz fzd f0 f2 f3 h1 h2 h3 h4 h5 h6 =
     let g1 = mul_sub c (z +ℤ d) u in
     let g2 = mul_add c z d in
-    let g3 = mul_sub c u z in
-    let g4 = mul_sub p u z in
-    omega (arith, ints)
+    omega (arith, ints, mul_sub p u z, mul_sub c u z)
 
 none_over : (p c z d fz fzd : ℤ) → fzd ≡ p *ℤ (z +ℤ d) → fz ≡ p *ℤ z → (c *ℤ d) ≤ℤ (p *ℤ d) → (fz +ℤ (c *ℤ d)) ≤ℤ fzd
-none_over p c z d fz fzd h1 h2 h3 = let g = mul_add p z d in omega (arith, ints)
+none_over p c z d fz fzd h1 h2 h3 = omega (arith, ints, mul_add p z d)
 
 -- each additional unit costs at least c
 slope : (arcs : List CostArc) (c z d : ℤ) → AreOrdered arcs → NoneCheaper c arcs → pos 0 ≤ℤ z → pos 0 ≤ℤ d
     → (z +ℤ d) ≤ℤ free_room arcs → (fill_cost arcs z +ℤ (c *ℤ d)) ≤ℤ fill_cost arcs (z +ℤ d)
 slope [] c z d o h p q r =
     let e : d ≡ pos 0 = omega (arith, ints) in
-    let g = ap (λ y. c *ℤ y) e in
-    omega (arith, ints)
+    omega (arith, ints, ap (λ y. c *ℤ y) e)
 slope (a ∷ rest) c z d o h p q r =
-    let some = o.0.room in
     by_lt_z (room a) (z +ℤ d)
     (λ past.
     let whole = fill_high a rest (z +ℤ d) past in
@@ -117,16 +104,13 @@ slope_after arcs c u z d o h p q l r =
 
 past_cost : (p low u t f fx f1 f2 f3 spent k : ℤ) → fx ≡ (p *ℤ u) +ℤ f1 → (f1 +ℤ (p *ℤ (u -ℤ t))) ≤ℤ f2 → f2 ≡ f3
     → (f +ℤ f3) ≤ℤ spent → ((p *ℤ (low +ℤ t)) +ℤ spent) ≤ℤ k → (((p *ℤ low) +ℤ f) +ℤ fx) ≤ℤ k
-past_cost p low u t f fx f1 f2 f3 spent k h1 h2 h3 h4 h5 = let g = mul_sub p u t in let e = mul_add p low t in
-    omega (arith, ints)
+past_cost p low u t f fx f1 f2 f3 spent k h1 h2 h3 h4 h5 = omega (arith, ints, mul_add p low t, mul_sub p u t)
 
 within_cost : (p low z t y f fx f0 f2 f3 spent k : ℤ) → fx ≡ p *ℤ z → z ≡ t +ℤ y → (f0 +ℤ (p *ℤ y)) ≤ℤ f2 → f0 ≡ pos 0
     → f2 ≡ f3 → (f +ℤ f3) ≤ℤ spent → ((p *ℤ (low +ℤ t)) +ℤ spent) ≤ℤ k → (((p *ℤ low) +ℤ f) +ℤ fx) ≤ℤ k
 within_cost p low z t y f fx f0 f2 f3 spent k h1 h2 h3 h4 h5 h6 h7 =
     let g = mul_add p t y in
-    let e = mul_add p low t in
-    let m = ap (λ w. p *ℤ w) h2 in
-    omega (arith, ints)
+    omega (arith, ints, ap (λ w. p *ℤ w) h2, mul_add p low t)
 
 -- filling the arcs with the amount x costs at most k
 pub record IsUnder (arcs : List CostArc) (x k : ℤ) : Type 0 where
@@ -136,21 +120,15 @@ pub record IsUnder (arcs : List CostArc) (x k : ℤ) : Type 0 where
 
 -- no split costs less than filling the arcs
 pub filled : (arcs : List CostArc) (x k : ℤ) → AreOrdered arcs → AtMost arcs x k → IsUnder arcs x k
-filled [] x k o s = let e = s.amount in let w = s.within in
+filled [] x k o s = let w = s.within in
     record { low = omega (arith, ints); high = omega (arith, ints); cost = omega (arith, ints) }
 filled (a ∷ rest) x k o s =
     let i = filled rest s.other s.spent o.2 s.rest in
-    let least = i.low in
-    let most = i.high in
-    let e = s.amount in
-    let l = s.low_is in
-    let u = s.cap_is in
     let z = x -ℤ (a.low +ℤ forced_units rest) in
     let t = s.share -ℤ a.low in
     let y = s.other -ℤ forced_units rest in
     let w : ((a.cost *ℤ (a.low +ℤ t)) +ℤ s.spent) ≤ℤ k =
-    subst (λ v. ((a.cost *ℤ v) +ℤ s.spent) ≤ℤ k)
-    (let v : s.share ≡ a.low +ℤ (s.share -ℤ a.low) = omega (arith, ints) in v) s.within in
+    rw (let v : s.share ≡ a.low +ℤ (s.share -ℤ a.low) = omega (arith, ints) in v) at s.within in
     record {
       low = omega (arith, ints);
       high = omega (arith, ints);
@@ -175,11 +153,11 @@ filled (a ∷ rest) x k o s =
 
 past_reach : (p low cap f fx f1 : ℤ) → fx ≡ (p *ℤ (cap -ℤ low)) +ℤ f1
     → ((p *ℤ cap) +ℤ (f +ℤ f1)) ≤ℤ (((p *ℤ low) +ℤ f) +ℤ fx)
-past_reach p low cap f fx f1 h = let g = mul_sub p cap low in omega (arith, ints)
+past_reach p low cap f fx f1 h = omega (arith, ints, mul_sub p cap low)
 
 within_reach : (p low z f fx f0 : ℤ) → fx ≡ p *ℤ z → f0 ≡ pos 0
     → ((p *ℤ (low +ℤ z)) +ℤ (f +ℤ f0)) ≤ℤ (((p *ℤ low) +ℤ f) +ℤ fx)
-within_reach p low z f fx f0 h g = let e = mul_add p low z in omega (arith, ints)
+within_reach p low z f fx f0 h g = omega (arith, ints, mul_add p low z)
 
 -- filling the arcs is a split
 pub reach : (arcs : List CostArc) (z : ℤ) → AreOrdered arcs → pos 0 ≤ℤ z → z ≤ℤ free_room arcs
@@ -227,7 +205,7 @@ filling_of_least arcs x k o l =
 -- the cost of filling the arcs is the least
 pub least_of_filling : (arcs : List CostArc) (x k : ℤ) → AreOrdered arcs → IsFilling arcs x k → LeastCost arcs x k
 least_of_filling arcs x k o f =
-    subst (LeastCost arcs x) (sym f.cost) (bottom_least arcs x _ (record {
+    rw f.cost (bottom_least arcs x _ (record {
       at = reach_at arcs x o f.low f.high;
       least = λ j r. (filled arcs x j o r).cost;
     }))

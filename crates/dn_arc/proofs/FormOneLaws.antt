@@ -1,7 +1,6 @@
 -- The meaning determines canonical arcs of form 1: the forced units and their cost determine the fixed arcs, and the
 -- cost of filling determines the free arcs.
-use Rattle.std.specs.Prelude.{◌≡◌, ℤ, pos, ◌+ℤ◌, ◌-ℤ◌, ◌*ℤ◌, ◌≤ℤ◌, ◌<ℤ◌, List, [], ◌∷◌, ◌++◌, refl}
-use Rattle.std.proofs.Common.{sym, ap, subst, arith, ◌∙◌}
+use Rattle.std.proofs.Common.{◌≡◌, ℤ, pos, ◌+ℤ◌, ◌-ℤ◌, ◌*ℤ◌, ◌≤ℤ◌, ◌<ℤ◌, List, [], ◌∷◌, refl, sym, ap, subst, arith, ◌∙◌}
 use Rattle.std.proofs.lemmas.Int.{ints, by_lt_z}
 use Rattle.std.specs.Int.Signed.{≤ℤ_refl}
 use Rattle.std.proofs.Math.IntN.{*ℤ_comm}
@@ -14,7 +13,7 @@ use Rattle.dn_arc.specs.Fillings.{forced_units, forced_cost}
 use Rattle.dn_arc.specs.State.Fillings.{room, free_room, fill_cost, IsFilling}
 use Rattle.dn_arc.proofs.ProductsLaws.{mul_add, mul_suc, mul_mono}
 use Rattle.dn_arc.proofs.FillsLaws.{AreOrdered, fill_low, fill_high, fill_zero, room_some, filling_of_least, least_of_filling}
-use Rattle.dn_arc.proofs.FormsLaws.{AreFree, AreFixed, rest_free, fixed_of, free_of, free_ordered, form_one_ordered, apart_form}
+use Rattle.dn_arc.proofs.FormsLaws.{AreFree, AreFixed, IsApart, rest_free, fixed_of, free_of, free_ordered, form_one_ordered, apart_form}
 
 pub arc_same : (a b : CostArc) → a.low ≡ b.low → a.cap ≡ b.cap → a.cost ≡ b.cost → a ≡ b
 arc_same a b l u p =
@@ -82,16 +81,21 @@ pub record IsSameFree (f g : List CostArc) : Type 0 where
   pub whole : free_room f ≡ free_room g
   pub each : (y : ℤ) → pos 0 ≤ℤ y → y ≤ℤ free_room f → fill_cost f y ≡ fill_cost g y
 
+-- arcs that are filled as free parts with equal filling costs
+pub same_free : {xs ys fx fy f g : List CostArc} → IsApart xs fx f → IsApart ys fy g → IsSameFill xs ys → IsSameFree f g
+same_free a b t = record {
+  whole = sym a.room ∙ t.whole ∙ b.room;
+  each = λ y l u. sym (a.fill y l) ∙ t.each y l (rw a.room u) ∙ b.fill y l;
+}
+
 flip : (f g : List CostArc) → IsSameFree f g → IsSameFree g f
-flip f g s = record { whole = sym s.whole; each = λ y h k. sym (s.each y h (subst (λ z. y ≤ℤ z) (sym s.whole) k)) }
+flip f g s = record { whole = sym s.whole; each = λ y h k. sym (s.each y h (rw s.whole k)) }
 
 some_free : (f : List CostArc) → AreFree f → pos 0 ≤ℤ free_room f
 some_free f p = room_some f (free_ordered f p)
 
 at_one : (a : CostArc) (rest : List CostArc) → IsFreeArc a → fill_cost (a ∷ rest) (pos 1) ≡ a.cost
 at_one a rest f =
-    let none = f.none in
-    let some = f.room in
     let e = fill_low a rest (pos 1) (omega (arith, ints)) in
     let m : a.cost *ℤ pos 1 ≡ a.cost = omega (arith, ints) in
     e ∙ m
@@ -106,8 +110,6 @@ after a rest y h =
 same_cost : (a b : CostArc) (f g : List CostArc) → AreFree (a ∷ f) → AreFree (b ∷ g) → IsSameFree (a ∷ f) (b ∷ g)
     → a.cost ≡ b.cost
 same_cost a b f g p q s =
-    let none = p.each.0.none in
-    let some = p.each.0.room in
     let rest = some_free f (rest_free a f p) in
     sym (at_one a f p.each.0) ∙ s.each (pos 1) (omega (arith, ints)) (omega (arith, ints)) ∙ at_one b g q.each.0
 
@@ -121,12 +123,7 @@ not_less a b [] g p q s h =
     let k = some_free g (rest_free b g q) in
     absurd (omega (arith, ints))
 not_less a b (e ∷ f) g p q s h =
-    let none = p.each.0.none in
-    let some = p.each.0.room in
-    let none' = p.each.1.0.none in
-    let some' = p.each.1.0.room in
     let cost = same_cost a b (e ∷ f) g p q s in
-    let here = s.whole in
     let k = some_free g (rest_free b g q) in
     let dearer = p.rising.0.0 in
     let left =
@@ -150,25 +147,22 @@ same_rest a f g p q s = record {
       by_lt_z (pos 0) y
       (λ lt.
       let none = p.each.0.none in
-      let some = p.each.0.room in
       cancel (a.cost *ℤ room a) _ _
       (sym (after a f y lt) ∙ s.each (room a +ℤ y) (omega (arith, ints)) (omega (arith, ints)) ∙ after a g y lt))
       (λ le.
       let none : pos 0 ≡ y = omega (arith, ints) in
-      subst (λ z. fill_cost f z ≡ fill_cost g z) none
+      rw (← none)
       (fill_zero f (free_ordered f (rest_free a f p)) ∙ sym (fill_zero g (free_ordered g (rest_free a g q)))));
 }
 
 same_cap : (a b : CostArc) → IsFreeArc a → IsFreeArc b → room a ≡ room b → a.cap ≡ b.cap
-same_cap a b p q e = let l = p.none in let u = q.none in omega (arith, ints)
+same_cap a b p q e = omega (arith, ints)
 
 -- the cost of filling determines free arcs
 pub free_same : (f g : List CostArc) → AreFree f → AreFree g → IsSameFree f g → f ≡ g
 free_same [] [] p q s = refl
-free_same [] (b ∷ g) p q s = let e = s.whole in let none = q.each.0.none in let some = q.each.0.room in
-    let k = some_free g (rest_free b g q) in absurd (omega (arith, ints))
-free_same (a ∷ f) [] p q s = let e = s.whole in let none = p.each.0.none in let some = p.each.0.room in
-    let k = some_free f (rest_free a f p) in absurd (omega (arith, ints))
+free_same [] (b ∷ g) p q s = let e = s.whole in let k = some_free g (rest_free b g q) in absurd (omega (arith, ints))
+free_same (a ∷ f) [] p q s = let e = s.whole in let k = some_free f (rest_free a f p) in absurd (omega (arith, ints))
 free_same (a ∷ f) (b ∷ g) p q s =
     let e =
     arc_same a b (p.each.0.none ∙ sym q.each.0.none) (same_cap a b p.each.0 q.each.0 (same_room a b f g p q s))
@@ -179,11 +173,7 @@ free_same (a ∷ f) (b ∷ g) p q s =
 
 not_cheaper : (all units c r d t : ℤ) → IsFloor all units c r → IsFloor all units d t → c <ℤ d → ⊥
 not_cheaper all units c r d t p q h =
-    let e = p.whole in
-    let f = q.whole in
-    let l = q.low in
     let u = p.high in
-    let pl = p.low in
     let m = mul_mono (c +ℤ pos 1) d units (omega (arith, ints)) (omega (arith, ints)) in
     let g : (c +ℤ pos 1) *ℤ units ≡ (c *ℤ units) +ℤ units = grows c units in
     absurd (omega (arith, ints))
@@ -197,15 +187,10 @@ spread_each all units c r d t p q =
     by_lt_z d c (λ lt. absurd (not_cheaper all units d t c r q p lt)) (λ ge. omega (arith, ints)))
 
 spread_rest : (all units c r d t : ℤ) → IsFloor all units c r → IsFloor all units d t → r ≡ t
-spread_rest all units c r d t p q =
-    let e = ap (λ z. z *ℤ units) (spread_each all units c r d t p q) in
-    let f = p.whole in
-    let g = q.whole in
-    omega (arith, ints)
+spread_rest all units c r d t p q = omega (arith, ints, ap (λ z. z *ℤ units) (spread_each all units c r d t p q))
 
 one_spread : (a : CostArc) → IsFixedArc a → IsFloor (forced_cost (a ∷ [])) (forced_units (a ∷ [])) a.cost (pos 0)
 one_spread a f =
-    let some = f.some in
     let m = mul_add a.cost a.low (pos 0) in
     let z : a.cost *ℤ pos 0 ≡ pos 0 = omega (arith, ints) in
     record { whole = omega (arith, ints); low = ≤ℤ_refl _; high = omega (arith, ints) }
@@ -213,8 +198,6 @@ one_spread a f =
 two_spread : (a b : CostArc) → IsFixedArc a → IsFixedArc b → b.cost ≡ a.cost +ℤ pos 1
     → IsFloor (forced_cost (a ∷ b ∷ [])) (forced_units (a ∷ b ∷ [])) a.cost b.low
 two_spread a b f g e =
-    let some = f.some in
-    let more = g.some in
     record { whole = cost_two a.cost a.low b.low b.cost e; low = omega (arith, ints); high = omega (arith, ints) }
   where
     cost_two : (c u v d : ℤ) → d ≡ c +ℤ pos 1 → (c *ℤ u) +ℤ ((d *ℤ v) +ℤ pos 0) ≡ (c *ℤ (u +ℤ (v +ℤ pos 0))) +ℤ v
@@ -231,12 +214,10 @@ arc_of a b f g l p = arc_same a b l (f.full ∙ l ∙ sym g.full) p
 pub fixed_same : (f g : List CostArc) → AreFixed f → AreFixed g → forced_units f ≡ forced_units g
     → forced_cost f ≡ forced_cost g → f ≡ g
 fixed_same [] [] p q u c = refl
-fixed_same [] (b ∷ []) p q u c = let some = q.each.0.some in absurd (omega (arith, ints))
-fixed_same [] (b ∷ d ∷ []) p q u c = let some = q.each.0.some in let more = q.each.1.0.some in
-    absurd (omega (arith, ints))
-fixed_same (a ∷ []) [] p q u c = let some = p.each.0.some in absurd (omega (arith, ints))
-fixed_same (a ∷ b ∷ []) [] p q u c = let some = p.each.0.some in let more = p.each.1.0.some in
-    absurd (omega (arith, ints))
+fixed_same [] (b ∷ []) p q u c = absurd (omega (arith, ints))
+fixed_same [] (b ∷ d ∷ []) p q u c = absurd (omega (arith, ints))
+fixed_same (a ∷ []) [] p q u c = absurd (omega (arith, ints))
+fixed_same (a ∷ b ∷ []) [] p q u c = absurd (omega (arith, ints))
 fixed_same (a ∷ []) (b ∷ []) p q u c =
     let s = one_spread a p.each.0 in
     let t : IsFloor (forced_cost (a ∷ [])) (forced_units (a ∷ [])) b.cost (pos 0) = rw (u, c) (one_spread b q.each.0) in
@@ -246,14 +227,12 @@ fixed_same (a ∷ []) (b ∷ d ∷ []) p q u c =
     let t : IsFloor (forced_cost (a ∷ [])) (forced_units (a ∷ [])) b.cost d.low =
     rw (u, c) (two_spread b d q.each.0 q.each.1.0 q.near) in
     let e = spread_rest _ _ _ _ _ _ s t in
-    let more = q.each.1.0.some in
     absurd (omega (arith, ints))
 fixed_same (a ∷ b ∷ []) (d ∷ []) p q u c =
     let s = two_spread a b p.each.0 p.each.1.0 p.near in
     let t : IsFloor (forced_cost (a ∷ b ∷ [])) (forced_units (a ∷ b ∷ [])) d.cost (pos 0) =
     rw (u, c) (one_spread d q.each.0) in
     let e = spread_rest _ _ _ _ _ _ s t in
-    let more = p.each.1.0.some in
     absurd (omega (arith, ints))
 fixed_same (a ∷ b ∷ []) (d ∷ e ∷ []) p q u c =
     let s = two_spread a b p.each.0 p.each.1.0 p.near in
@@ -272,14 +251,7 @@ determination_one xs ys p q s =
     let t = same_fill xs ys (form_one_ordered xs p) (form_one_ordered ys q) s in
     let a = apart_form xs p in
     let b = apart_form ys q in
-    let e =
-    fixed_same p.fixed q.fixed (fixed_of xs p) (fixed_of ys q) (sym a.units ∙ t.units ∙ b.units)
-    (sym a.cost ∙ t.cost ∙ b.cost) in
-    let f =
-    free_same p.free q.free (free_of xs p) (free_of ys q)
-    (record {
-      whole = sym a.room ∙ t.whole ∙ b.room;
-      each =
-          λ y l u. sym (a.fill y l) ∙ t.each y l (subst (λ z. y ≤ℤ z) (sym a.room) u) ∙ b.fill y l;
-    }) in
-    p.parts ∙ ap (λ l. l ++ p.free) e ∙ ap (λ l. q.fixed ++ l) f ∙ sym q.parts
+    let u = sym a.units ∙ t.units ∙ b.units in
+    let e = fixed_same p.fixed q.fixed (fixed_of xs p) (fixed_of ys q) u (sym a.cost ∙ t.cost ∙ b.cost) in
+    let f = free_same p.free q.free (free_of xs p) (free_of ys q) (same_free a b t) in
+    rw (p.parts, q.parts, e, f)

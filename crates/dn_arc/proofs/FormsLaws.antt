@@ -1,7 +1,6 @@
 -- Canonical arcs of a `min` pair may occur in a problem, and their free capacity is sorted by ascending cost. Arcs of
 -- form 1 are filled as their fixed and their free arcs.
-use Rattle.std.specs.Prelude.{◌≡◌, ℤ, pos, ◌+ℤ◌, ◌-ℤ◌, ◌*ℤ◌, ◌≤ℤ◌, ◌<ℤ◌, List, [], ◌∷◌, ◌++◌, refl}
-use Rattle.std.proofs.Common.{sym, ap, subst, arith, ◌∙◌}
+use Rattle.std.proofs.Common.{◌≡◌, ℤ, pos, ◌+ℤ◌, ◌-ℤ◌, ◌*ℤ◌, ◌≤ℤ◌, ◌<ℤ◌, List, [], ◌∷◌, ◌++◌, refl, ap, arith, ◌∙◌}
 use Rattle.std.proofs.lemmas.Int.{ints, by_lt_z}
 use Rattle.std.specs.List.{AllByRecursion}
 use Rattle.dn_arc.specs.declared.arc.CostArc.{CostArc}
@@ -35,20 +34,17 @@ free_of arcs f = record { each = f.each_free; rising = f.rising }
 
 pub above_lower : (c d : ℤ) (xs : List CostArc) → c <ℤ d → AreAbove d xs → AreAbove c xs
 above_lower c d [] h a = tt
-above_lower c d (x ∷ xs) h a = let lt = a.0 in (omega (arith, ints), above_lower c d xs h a.1)
+above_lower c d (x ∷ xs) h a = (omega (arith, ints), above_lower c d xs h a.1)
 
 none_cheaper : (c : ℤ) (arcs : List CostArc) → AreAbove c arcs → NoneCheaper c arcs
 none_cheaper c [] h = tt
-none_cheaper c (a ∷ rest) h = let lt =
-    h.0 in ((λ some. let le : c ≤ℤ a.cost = omega (arith, ints) in le), none_cheaper c rest h.1)
+none_cheaper c (a ∷ rest) h = ((λ some. let le : c ≤ℤ a.cost = omega (arith, ints) in le), none_cheaper c rest h.1)
 
 pub free_arc_is : (a : CostArc) → IsFreeArc a → IsCostArc a
-free_arc_is a f = let none = f.none in let some = f.room in
-    record { some = omega (arith, ints); room = omega (arith, ints) }
+free_arc_is a f = record { some = omega (arith, ints); room = omega (arith, ints) }
 
 pub fixed_arc_is : (a : CostArc) → IsFixedArc a → IsCostArc a
-fixed_arc_is a f = let some = f.some in let full = f.full in
-    record { some = omega (arith, ints); room = omega (arith, ints) }
+fixed_arc_is a f = record { some = omega (arith, ints); room = omega (arith, ints) }
 
 pub free_ordered : (arcs : List CostArc) → AreFree arcs → AreOrdered arcs
 free_ordered [] f = tt
@@ -59,12 +55,10 @@ fixed_before : (fixed free : List CostArc) → AllByRecursion IsFixedArc fixed �
     → AreOrdered (fixed ++ free)
 fixed_before [] free f o = o
 fixed_before (a ∷ rest) free f o =
-    let full = f.0.full in
     (fixed_arc_is a f.0, (λ some. absurd (omega (arith, ints))), fixed_before rest free f.1 o)
 
 pub form_one_ordered : (arcs : List CostArc) → IsFormOne arcs → AreOrdered arcs
-form_one_ordered arcs f =
-    subst AreOrdered (sym f.parts) (fixed_before f.fixed f.free f.each_fixed (free_ordered f.free (free_of arcs f)))
+form_one_ordered arcs f = rw f.parts (fixed_before f.fixed f.free f.each_fixed (free_ordered f.free (free_of arcs f)))
 
 pub mixed_ordered : (arcs : List CostArc) → AllByRecursion IsMixedArc arcs → AreRising arcs → AreOrdered arcs
 mixed_ordered [] m r = tt
@@ -94,14 +88,12 @@ free_apart : (free : List CostArc) → AllByRecursion IsFreeArc free → IsApart
 free_apart [] f = record { units = refl; cost = refl; room = refl; fill = λ y h. refl }
 free_apart (a ∷ rest) f =
     let i = free_apart rest f.1 in
-    let units = i.units in
-    let cost = i.cost in
     let none = f.0.none in
     let p = ap (λ z. a.cost *ℤ z) none in
     record { units = omega (arith, ints); cost = omega (arith, ints); room = refl; fill = λ y h. refl }
 
 none_past : (p u fx f1 f2 : ℤ) → u ≡ pos 0 → fx ≡ (p *ℤ u) +ℤ f1 → f1 ≡ f2 → fx ≡ f2
-none_past p u fx f1 f2 h e g = let m = ap (λ z. p *ℤ z) h in omega (arith, ints)
+none_past p u fx f1 f2 h e g = omega (arith, ints, ap (λ z. p *ℤ z) h)
 
 -- filling skips an arc without free capacity
 pub fill_past : (a : CostArc) (rest : List CostArc) (y : ℤ) → AreOrdered rest → room a ≡ pos 0 → pos 0 ≤ℤ y
@@ -114,17 +106,13 @@ fill_past a rest y o none h =
     let nothing : y ≡ pos 0 = omega (arith, ints) in
     let e = fill_low a rest y within in
     let m = ap (λ z. a.cost *ℤ z) nothing in
-    let g = ap (fill_cost rest) nothing in
-    let z = fill_zero rest o in
-    omega (arith, ints))
+    omega (arith, ints, fill_zero rest o, ap (fill_cost rest) nothing))
 
 pub apart : (fixed free : List CostArc) → AllByRecursion IsFixedArc fixed → AreFree free
     → IsApart (fixed ++ free) fixed free
 apart [] free f g = free_apart free g.each
 apart (a ∷ rest) free f g =
     let i = apart rest free f.1 g in
-    let full = f.0.full in
-    let r = i.room in
     record {
       units = ap (λ z. a.low +ℤ z) i.units;
       cost = ap (λ z. (a.cost *ℤ a.low) +ℤ z) i.cost;
@@ -135,5 +123,4 @@ apart (a ∷ rest) free f g =
     }
 
 pub apart_form : (arcs : List CostArc) (f : IsFormOne arcs) → IsApart arcs f.fixed f.free
-apart_form arcs f =
-    subst (λ l. IsApart l f.fixed f.free) (sym f.parts) (apart f.fixed f.free f.each_fixed (free_of arcs f))
+apart_form arcs f = rw f.parts (apart f.fixed f.free f.each_fixed (free_of arcs f))

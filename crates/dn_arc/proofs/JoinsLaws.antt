@@ -1,7 +1,6 @@
 -- Merging fixed arcs by COST into sorted arcs of LOW 0 makes arcs of form 2. Forced units, forced costs and capacities
 -- add up, and the free parts do not change.
-use Rattle.std.specs.Prelude.{◌≡◌, ℤ, pos, ◌+ℤ◌, ◌*ℤ◌, ◌≤ℤ◌, ◌<ℤ◌, List, [], ◌∷◌, cond, filter, map, int_lt, refl, true, false}
-use Rattle.std.proofs.Common.{sym, ap, subst, arith, ◌∙◌}
+use Rattle.std.proofs.Common.{◌≡◌, ℤ, pos, ◌+ℤ◌, ◌*ℤ◌, ◌≤ℤ◌, ◌<ℤ◌, List, [], ◌∷◌, filter, refl, sym, ap, arith, ◌∙◌, inl, inr}
 use Rattle.std.proofs.lemmas.Int.{ints, by_lt_z}
 use Rattle.std.specs.List.{AllByRecursion}
 use Rattle.dn_arc.specs.declared.arc.CostArc.{CostArc}
@@ -13,7 +12,8 @@ use Rattle.dn_arc.specs.State.Fillings.{room}
 use Rattle.dn_arc.specs.State.CurveListed.{join_arc, join_arcs}
 use Rattle.dn_arc.proofs.ProductsLaws.{mul_add}
 use Rattle.dn_arc.proofs.FormsLaws.{AreAbove, AreFixed, above_lower, fixed_arc_is}
-use Rattle.dn_arc.proofs.PartsLaws.{by_test, test_yes, test_no, free_part, free_parts}
+use Rattle.dn_arc.proofs.PartsLaws.{test_yes, test_no, free_parts}
+use Rattle.std.proofs.lemmas.Bool.{cases_Bool}
 
 -- the arc that two arcs of one cost make together
 abbrev pub joined : CostArc → CostArc → CostArc
@@ -24,19 +24,19 @@ by_place : (P : List CostArc → Type 0) (a b : CostArc) (rest : List CostArc) �
     → (b.cost <ℤ a.cost → P (b ∷ join_arc a rest)) → (a.cost ≡ b.cost → P (joined a b ∷ rest))
     → P (join_arc a (b ∷ rest))
 by_place P a b rest f g h =
-    by_test P a.cost b.cost (a ∷ b ∷ rest) (cond (int_lt b.cost a.cost) (b ∷ join_arc a rest) (joined a b ∷ rest)) f
-    (λ le. by_test P b.cost a.cost (b ∷ join_arc a rest) (joined a b ∷ rest) g (λ ge. h (omega (arith, ints))))
+    by_lt_z a.cost b.cost (λ lt. simp test_yes (f lt))
+    (λ le. by_lt_z b.cost a.cost (λ lt. simp (test_no, test_yes) (g lt)) (λ ge. simp test_no (h (omega (arith, ints)))))
 
 pub joined_units : (a : CostArc) (arcs : List CostArc) → forced_units (join_arc a arcs) ≡ a.low +ℤ forced_units arcs
 joined_units a [] = refl
 joined_units a (b ∷ rest) =
     by_place (λ (l : List CostArc). forced_units l ≡ a.low +ℤ forced_units (b ∷ rest)) a b rest
     (λ lt. refl)
-    (λ gt. let i = joined_units a rest in omega (arith, ints))
+    (λ gt. omega (arith, ints, joined_units a rest))
     (λ eq. omega (arith, ints))
 
 cost_of_both : (p q u v f : ℤ) → p ≡ q → (q *ℤ (u +ℤ v)) +ℤ f ≡ (p *ℤ u) +ℤ ((q *ℤ v) +ℤ f)
-cost_of_both p q u v f e = let g = mul_add q u v in let h = ap (λ z. z *ℤ u) e in omega (arith, ints)
+cost_of_both p q u v f e = omega (arith, ints, ap (λ z. z *ℤ u) e, mul_add q u v)
 
 pub joined_cost : (a : CostArc) (arcs : List CostArc)
     → forced_cost (join_arc a arcs) ≡ (a.cost *ℤ a.low) +ℤ forced_cost arcs
@@ -44,7 +44,7 @@ joined_cost a [] = refl
 joined_cost a (b ∷ rest) =
     by_place (λ (l : List CostArc). forced_cost l ≡ (a.cost *ℤ a.low) +ℤ forced_cost (b ∷ rest)) a b rest
     (λ lt. refl)
-    (λ gt. let i = joined_cost a rest in omega (arith, ints))
+    (λ gt. omega (arith, ints, joined_cost a rest))
     (λ eq. cost_of_both a.cost b.cost a.low b.low (forced_cost rest) eq)
 
 pub joined_cap : (a : CostArc) (arcs : List CostArc) → cost_cap (join_arc a arcs) ≡ a.cap +ℤ cost_cap arcs
@@ -52,7 +52,7 @@ joined_cap a [] = refl
 joined_cap a (b ∷ rest) =
     by_place (λ (l : List CostArc). cost_cap l ≡ a.cap +ℤ cost_cap (b ∷ rest)) a b rest
     (λ lt. refl)
-    (λ gt. let i = joined_cap a rest in omega (arith, ints))
+    (λ gt. omega (arith, ints, joined_cap a rest))
     (λ eq. omega (arith, ints))
 
 -- each cost after an insertion is the inserted cost or was there before
@@ -78,64 +78,31 @@ joined_mixed : (a : CostArc) (arcs : List CostArc) → IsFixedArc a → AllByRec
 joined_mixed a [] f m = (fixed_mixed a f, tt)
   where
     fixed_mixed : (a : CostArc) → IsFixedArc a → IsMixedArc a
-    fixed_mixed a f = let some = f.some in let full = f.full in
-        record { is_arc = fixed_arc_is a f; room = omega (arith, ints) }
+    fixed_mixed a f = record { is_arc = fixed_arc_is a f; room = omega (arith, ints) }
 joined_mixed a (b ∷ rest) f m =
-    let some = f.some in
-    let full = f.full in
     by_place (AllByRecursion IsMixedArc) a b rest
     (λ lt. (record { is_arc = fixed_arc_is a f; room = omega (arith, ints) }, m))
     (λ gt. (m.0, joined_mixed a rest f m.1))
-    (λ eq.
-    let low = m.0.is_arc.some in
-    let high = m.0.is_arc.room in
-    let cap = m.0.room in (
-      record {
-        is_arc = record { some = omega (arith, ints); room = omega (arith, ints) };
-        room =
-            omega (arith, ints);
-      },
+    (λ eq. (
+      record { is_arc = record { some = omega (arith, ints); room = omega (arith, ints) }; room = omega (arith, ints) },
       m.1,
     ))
 
 -- inserting an arc without free capacity does not change the free parts
 joined_free : (a : CostArc) (arcs : List CostArc) → a.cap ≡ a.low → free_parts (join_arc a arcs) ≡ free_parts arcs
-joined_free a [] f =
-    by_test (λ (l : List CostArc). map free_part l ≡ []) a.low a.cap (a ∷ []) [] (λ lt. absurd (omega (arith, ints)))
-    (λ le. refl)
+joined_free a [] f = let none : a.cap ≤ℤ a.low = omega (arith, ints) in rw test_no
 joined_free a (b ∷ rest) f =
-    by_place (λ (l : List CostArc). free_parts l ≡ free_parts (b ∷ rest)) a b rest
-    (λ lt. by_test (λ (l : List CostArc). map free_part l ≡ free_parts (b ∷ rest)) a.low a.cap
-    (a ∷ filter has_room (b ∷ rest)) (filter has_room (b ∷ rest)) (λ lt. absurd (omega (arith, ints))) (λ le. refl))
-    (λ gt. both b (join_arc a rest) rest (joined_free a rest f))
+    let none : a.cap ≤ℤ a.low = omega (arith, ints) in
+    by_place (λ l. free_parts l ≡ free_parts (b ∷ rest)) a b rest (λ lt. simp test_no)
+    (λ gt. elim (cases_Bool (has_room b)) [
+      | inl t ↦ rw (t, joined_free a rest f)
+      | inr t ↦ rw (t, joined_free a rest f)
+    ])
     (λ eq.
-    let low : int_lt (a.low +ℤ b.low) (a.cap +ℤ b.cap) ≡ int_lt b.low b.cap = tests in
-    let same_room : room (joined a b) ≡ room b = omega (arith, ints) in
-    ap (λ t. map free_part (cond t (joined a b ∷ filter has_room rest) (filter has_room rest))) low
-    ∙ by_test
-    (λ (l : List CostArc). map free_part
-    (cond (int_lt b.low b.cap) (joined a b ∷ filter has_room rest)
-    (filter has_room rest)) ≡ map free_part l) b.low b.cap (b ∷ filter has_room rest) (filter has_room rest)
-    (λ lt.
-    let t : int_lt b.low b.cap ≡ true = grind (arith, ints) in
-    ap (λ t. map free_part (cond t (joined a b ∷ filter has_room rest) (filter has_room rest))) t
-    ∙ ap (λ (z : ℤ). let x : CostArc = record { low = pos 0; cap = z; cost = b.cost } in
-    x ∷ free_parts rest) same_room)
-    (λ le.
-    let t : int_lt b.low b.cap ≡ false = grind (arith, ints) in
-    ap (λ t. map free_part (cond t (joined a b ∷ filter has_room rest) (filter has_room rest))) t))
-  where
-    both : (b : CostArc) (xs ys : List CostArc) → free_parts xs ≡ free_parts ys
-        → free_parts (b ∷ xs) ≡ free_parts (b ∷ ys)
-    both b xs ys e =
-        elim (has_room b) as
-        (λ v. map free_part (cond v (b ∷ filter has_room xs) (filter has_room xs)) ≡ map free_part
-        (cond v (b ∷ filter has_room ys) (filter has_room ys))) [ true ↦ ap (λ l. free_part b ∷ l) e | false ↦ e ]
-
-    tests : int_lt (a.low +ℤ b.low) (a.cap +ℤ b.cap) ≡ int_lt b.low b.cap
-    tests = by_lt_z b.low b.cap
-        (λ lt. test_yes (a.low +ℤ b.low) (a.cap +ℤ b.cap) (omega (arith, ints)) ∙ sym (test_yes b.low b.cap lt))
-        (λ le. test_no (a.low +ℤ b.low) (a.cap +ℤ b.cap) (omega (arith, ints)) ∙ sym (test_no b.low b.cap le))
+    let same : room (joined a b) ≡ room b = omega (arith, ints) in
+    by_lt_z b.low b.cap
+    (λ lt. let both : (a.low +ℤ b.low) <ℤ (a.cap +ℤ b.cap) = omega (arith, ints) in simp (test_yes, same))
+    (λ le. let both : (a.cap +ℤ b.cap) ≤ℤ (a.low +ℤ b.low) = omega (arith, ints) in simp test_no))
 
 -- after the insertion, one more arc has LOW above 0, at the cost of the inserted arc
 record IsLowFirst (a : CostArc) (arcs lows : List CostArc) : Type 0 where
@@ -144,21 +111,13 @@ record IsLowFirst (a : CostArc) (arcs lows : List CostArc) : Type 0 where
   cost : arc.cost ≡ a.cost
 
 kept_low : (a : CostArc) (rest : List CostArc) → pos 0 <ℤ a.low → filter has_low (a ∷ rest) ≡ a ∷ filter has_low rest
-kept_low a rest h =
-    by_test (λ (l : List CostArc). l ≡ a ∷ filter has_low rest) (pos 0) a.low (a ∷ filter has_low rest)
-    (filter has_low rest) (λ lt. refl) (λ le. absurd (omega (arith, ints)))
+kept_low a rest h = rw test_yes
 
 -- an arc whose cost is not above that of the inserted arc has LOW 0
 no_low : (a b : CostArc) (rest : List CostArc) → b.cost ≤ℤ a.cost → AreAbove a.cost (filter has_low (b ∷ rest))
     → (filter has_low (b ∷ rest) ≡ filter has_low rest) × (b.low ≤ℤ pos 0)
 no_low a b rest h u =
-    by_lt_z (pos 0) b.low
-    (λ lt. let v = subst (AreAbove a.cost) (kept_low b rest lt) u in let w = v.0 in absurd (omega (arith, ints)))
-    (λ le. (
-      by_test (λ (l : List CostArc). l ≡ filter has_low rest) (pos 0) b.low (b ∷ filter has_low rest)
-          (filter has_low rest) (λ lt. absurd (omega (arith, ints))) (λ _. refl),
-      le,
-    ))
+    by_lt_z (pos 0) b.low (λ lt. absurd (omega (arith, ints, (rw test_yes at u).0))) (λ le. (rw test_no, le))
 
 joined_low : (a : CostArc) (arcs : List CostArc) → pos 1 ≤ℤ a.low → AllByRecursion IsMixedArc arcs
     → AreAbove a.cost (filter has_low arcs) → IsLowFirst a (join_arc a arcs) (filter has_low arcs)
@@ -169,26 +128,11 @@ joined_low a (b ∷ rest) f m u =
     (λ gt.
     let n = no_low a b rest (omega (arith, ints)) u in
     let none = n.1 in
-    let i = joined_low a rest f m.1 (subst (AreAbove a.cost) n.0 u) in
-    record {
-      arc = i.arc;
-      is = skip b (join_arc a rest) n.1 ∙ i.is ∙ ap (λ l. i.arc ∷ l) (sym n.0);
-      cost = i.cost;
-    })
+    let i = joined_low a rest f m.1 (rw n.0 at u) in
+    record { arc = i.arc; is = rw (test_no, i.is); cost = i.cost })
     (λ eq.
     let n = no_low a b rest (omega (arith, ints)) u in
-    let low = m.0.is_arc.some in
-    record {
-      arc = joined a b;
-      is =
-          kept_low (joined a b) rest (omega (arith, ints)) ∙ ap (λ l. joined a b ∷ l) (sym n.0);
-      cost = sym eq;
-    })
-  where
-    skip : (b : CostArc) (xs : List CostArc) → b.low ≤ℤ pos 0 → filter has_low (b ∷ xs) ≡ filter has_low xs
-    skip b xs h =
-        by_test (λ (l : List CostArc). l ≡ filter has_low xs) (pos 0) b.low (b ∷ filter has_low xs) (filter has_low xs)
-        (λ lt. absurd (omega (arith, ints))) (λ le. refl)
+    record { arc = joined a b; is = rw n.0 (kept_low (joined a b) rest (omega (arith, ints))); cost = sym eq })
 
 -- what holds of the arcs after fixed arcs have been merged into arcs without LOW
 pub record AreJoined (fixed free arcs : List CostArc) : Type 0 where
@@ -206,10 +150,9 @@ join_none free m r n =
     record {
       each = m;
       rising = r;
-      near = subst AreNear (sym n) tt;
+      near = rw n tt;
       units = omega (arith, ints);
-      cost =
-          omega (arith, ints);
+      cost = omega (arith, ints);
       cap = omega (arith, ints);
       parts = refl;
     }
@@ -217,7 +160,7 @@ join_none free m r n =
 join_one : (a : CostArc) (free : List CostArc) → IsFixedArc a → AllByRecursion IsMixedArc free → AreRising free
     → filter has_low free ≡ [] → AreJoined (a ∷ []) free (join_arc a free)
 join_one a free f m r n =
-    let l = joined_low a free f.some m (subst (AreAbove a.cost) (sym n) tt) in
+    let l = joined_low a free f.some m (rw n tt) in
     let is : filter has_low (join_arc a free) ≡ l.arc ∷ [] = l.is ∙ ap (λ x. l.arc ∷ x) n in
     let u = joined_units a free in
     let c = joined_cost a free in
@@ -225,7 +168,7 @@ join_one a free f m r n =
     record {
       each = joined_mixed a free f m;
       rising = joined_rising a free r;
-      near = subst AreNear (sym is) tt;
+      near = rw is tt;
       units = omega (arith, ints);
       cost = omega (arith, ints);
       cap = omega (arith, ints);
@@ -238,22 +181,17 @@ join_two : (a b : CostArc) (free : List CostArc) → IsFixedArc a → IsFixedArc
 join_two a b free f g e m r n =
     let arcs = join_arc b free in
     let i = join_one b free g m r n in
-    let l = joined_low b free g.some m (subst (AreAbove b.cost) (sym n) tt) in
+    let l = joined_low b free g.some m (rw n tt) in
     let is : filter has_low arcs ≡ l.arc ∷ [] = l.is ∙ ap (λ x. l.arc ∷ x) n in
-    let lc = l.cost in
-    let k = joined_low a arcs f.some i.each (subst (AreAbove a.cost) (sym is) (omega (arith, ints), tt)) in
+    let k = joined_low a arcs f.some i.each (rw is (omega (arith, ints), tt)) in
     let both : filter has_low (join_arc a arcs) ≡ k.arc ∷ l.arc ∷ [] = k.is ∙ ap (λ x. k.arc ∷ x) is in
-    let kc = k.cost in
     let u = joined_units a arcs in
-    let u' = i.units in
     let c = joined_cost a arcs in
-    let c' = i.cost in
     let p = joined_cap a arcs in
-    let p' = i.cap in
     record {
       each = joined_mixed a arcs f i.each;
       rising = joined_rising a arcs i.rising;
-      near = subst AreNear (sym both) (omega (arith, ints));
+      near = rw both (omega (arith, ints));
       units = omega (arith, ints);
       cost = omega (arith, ints);
       cap = omega (arith, ints);

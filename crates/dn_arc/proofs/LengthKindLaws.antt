@@ -1,13 +1,11 @@
 -- The laws of `sp` arcs as a kind. Their meaning determines canonical arcs, and the arcs listed for a least length are
 -- canonical and fit 64 bits if the length does.
-use Rattle.std.specs.Prelude.{◌≡◌, ℤ, List, [], ◌∷◌, Option, Some, None, refl, FitsSigned}
-use Rattle.std.specs.Int.{w64}
-use Rattle.std.proofs.Common.{ap, arith, sym, ◌∙◌}
+use Rattle.std.proofs.Common.{◌≡◌, ℤ, List, [], ◌∷◌, Option, Some, None, refl, FitsSigned, w64, ap, arith, sym, ◌∙◌}
 use Rattle.std.proofs.lemmas.Int.{ints}
 use Rattle.std.specs.List.{AllByRecursion}
 use Rattle.dn_arc.specs.declared.arc.LengthArc.{LengthArc}
 use Rattle.dn_arc.specs.declared.difference.How.{How}
-use Rattle.dn_arc.specs.declared.difference.How.TheVariants.{Lengths, Totals, Costs}
+use Rattle.dn_arc.specs.declared.difference.How.TheVariants.{Lengths}
 use Rattle.dn_arc.specs.Kinds.{lengths}
 use Rattle.dn_arc.specs.State.Bundles.{IsKind, IsDetermined, NumbersFit}
 use Rattle.dn_arc.specs.Meanings.{SameLength}
@@ -26,9 +24,8 @@ all_numbers None = []
 all_numbers (Some a) = a.length ∷ []
 
 numbers_of : (ns : List ℤ) (a : LengthArc) → lengths.arc_of ns ≡ Some a → lengths.numbers a ≡ ns
-numbers_of [] a e = cc
 numbers_of (w ∷ []) a e = ap all_numbers (sym e)
-numbers_of (w ∷ v ∷ ns) a e = cc
+numbers_of ns a e = cc
 
 same_entries : (xs ys : List LengthArc) → SameLength xs ys → length_entries xs ≡ length_entries ys
 same_entries [] [] s = refl
@@ -45,16 +42,13 @@ one_differ : (xs ys : List LengthArc) (how other : How) → LengthsDiffer xs ys 
     → how ≡ other
 one_differ xs ys (Lengths l r) (Lengths l' r') d e =
     ap (λ v. Lengths v r) (length_of_one xs l l' d.0 e.0) ∙ ap (Lengths l') (length_of_one ys r r' d.1 e.1)
-one_differ xs ys (Lengths l r) (Totals l' r') d e = absurd e
-one_differ xs ys (Lengths l r) (Costs g) d e = absurd e
-one_differ xs ys (Totals l r) other d e = absurd d
-one_differ xs ys (Costs g) other d e = absurd d
+one_differ xs ys (Lengths l r) other d e = absurd e
+one_differ xs ys how other d e = absurd d
 
 same_differ : (xs xs' ys ys' : List LengthArc) (how : How) → SameLength xs xs' → SameLength ys ys'
     → LengthsDiffer xs ys how → LengthsDiffer xs' ys' how
 same_differ xs xs' ys ys' (Lengths l r) s t d = (length_of_same xs xs' l s d.0, length_of_same ys ys' r t d.1, d.2)
-same_differ xs xs' ys ys' (Totals l r) s t d = d
-same_differ xs xs' ys ys' (Costs g) s t d = d
+same_differ xs xs' ys ys' how s t d = d
 
 pub length_kind : IsKind lengths
 length_kind = record {

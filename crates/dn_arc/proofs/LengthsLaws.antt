@@ -1,7 +1,6 @@
 -- Arcs have exactly one least length, if there is an arc. Having the same least length is a meaning, determines
 -- canonical arcs, and leaves no difference.
-use Rattle.std.specs.Prelude.{◌≡◌, ℤ, ◌≤ℤ◌, List, [], ◌∷◌, refl, ◌⊎◌, Option, Some, None}
-use Rattle.std.proofs.Common.{inl, inr, sym, ap, subst, arith}
+use Rattle.std.proofs.Common.{◌≡◌, ℤ, ◌≤ℤ◌, List, [], ◌∷◌, refl, ◌⊎◌, Option, Some, None, inl, inr, sym, ap, arith}
 use Rattle.std.proofs.lemmas.Int.{ints, by_lt_z}
 use Rattle.std.specs.List.{AllByRecursion}
 use Rattle.std.specs.Int.Signed.{≤ℤ_refl}
@@ -20,11 +19,11 @@ NoneShorter arcs w = AllByRecursion (λ (a : LengthArc). w ≤ℤ a.length) arcs
 
 none_lower : (xs : List LengthArc) (v w : ℤ) → v ≤ℤ w → NoneShorter xs w → NoneShorter xs v
 none_lower [] v w h n = tt
-none_lower (a ∷ rest) v w h n = let first = n.0 in (omega (arith, ints), none_lower rest v w h n.1)
+none_lower (a ∷ rest) v w h n = (omega (arith, ints), none_lower rest v w h n.1)
 
 none_has : (xs : List LengthArc) (v w : ℤ) → NoneShorter xs w → HasLength xs v → w ≤ℤ v
 none_has [] v w n h = absurd h
-none_has (a ∷ rest) v w n (inl e) = subst (λ x. w ≤ℤ x) e n.0
+none_has (a ∷ rest) v w n (inl e) = rw e at n.0
 none_has (a ∷ rest) v w n (inr h) = none_has rest v w n.1 h
 
 -- there is no arc, or there is a least length
@@ -32,11 +31,7 @@ pub least_of : (xs : List LengthArc) → (xs ≡ []) ⊎ ((w : ℤ) × LeastLeng
 least_of [] = inl refl
 least_of (a ∷ rest) =
     elim (least_of rest) [
-      | inl e ↦ inr (
-        a.length,
-        record
-            { has = inl refl; least = (≤ℤ_refl a.length, subst (λ l. NoneShorter l a.length) (sym e) tt) },
-      )
+      | inl e ↦ inr (a.length, record { has = inl refl; least = (≤ℤ_refl a.length, rw e tt) })
       | inr p ↦ by_lt_z p.0 a.length
           (λ lt. let h : p.0 ≤ℤ a.length = omega (arith, ints) in
           inr (p.0, record { has = inr p.1.has; least = (h, p.1.least) }))
@@ -52,14 +47,11 @@ one_way : (a : LengthArc) (xs ys : List LengthArc) → SameLength xs ys → (w :
 one_way a xs ys s w h =
     let n = h.least in
     record {
-      has = elim h.has [
-        | inl e ↦ inl e
-        | inr k ↦ inr (s.there w (record { has = k; least = n.1 })).has
-      ];
+      has = elim h.has [ inl e ↦ inl e | inr k ↦ inr (s.there w (record { has = k; least = n.1 })).has ];
       least = (
         n.0,
         elim (least_of ys) [
-          | inl e ↦ subst (λ l. NoneShorter l w) (sym e) tt
+          | inl e ↦ rw e tt
           | inr p ↦ none_lower ys w p.0 (none_has xs p.0 w n.1 (s.back p.0 p.1).has) p.1.least
         ],
       );
@@ -104,28 +96,21 @@ lengths_determined xs (b ∷ b' ∷ ys) p q s = absurd q
 
 -- there is at most one least length
 pub least_unique : (xs : List LengthArc) (v w : ℤ) → LeastLength xs v → LeastLength xs w → v ≡ w
-least_unique xs v w g h =
-    let up = none_has xs w v g.least h.has in
-    let down = none_has xs v w h.least g.has in
-    omega (arith, ints)
+least_unique xs v w g h = omega (arith, ints, none_has xs v w h.least g.has, none_has xs w v g.least h.has)
 
 no_length : (w : ℤ) → LeastLength [] w → ⊥
 no_length w h = h.has
 
 pub length_of_one : (xs : List LengthArc) (v w : Option ℤ) → IsLengthOf xs v → IsLengthOf xs w → v ≡ w
 length_of_one xs None None g h = refl
-length_of_one xs None (Some w) g h = absurd (no_length w (subst (λ l. LeastLength l w) g h))
-length_of_one xs (Some v) None g h = absurd (no_length v (subst (λ l. LeastLength l v) h g))
+length_of_one xs None (Some w) g h = absurd (no_length w (rw g at h))
+length_of_one xs (Some v) None g h = absurd (no_length v (rw h at g))
 length_of_one xs (Some v) (Some w) g h = ap Some (least_unique xs v w g h)
 
 -- arcs that mean the same have the same least length, or none
 pub length_of_same : (xs ys : List LengthArc) (v : Option ℤ) → SameLength xs ys → IsLengthOf xs v → IsLengthOf ys v
 length_of_same xs ys None s h =
-    elim (least_of ys) [
-      | inl e ↦ e
-      | inr p ↦ absurd
-          (no_length p.0 (subst (λ l. LeastLength l p.0) h (s.back p.0 p.1)))
-    ]
+    elim (least_of ys) [ inl e ↦ e | inr p ↦ absurd (no_length p.0 (rw (← h) (s.back p.0 p.1))) ]
 length_of_same xs ys (Some v) s h = s.there v h
 
 -- arcs of the same least length have no difference

@@ -1,9 +1,7 @@
 -- The arcs listed for forced units, their cost and breakpoints are canonical in each form, mean the same in both forms,
 -- and have the total capacity. In form 1 they have these forced units at this cost.
-use Rattle.std.specs.Prelude.{◌≡◌, ℤ, pos, ◌+ℤ◌, ◌-ℤ◌, ◌*ℤ◌, ◌≤ℤ◌, ◌<ℤ◌, List, [], ◌∷◌, ◌++◌, filter, map, refl}
-use Rattle.std.specs.Int.{int_div_euclid, int_rem_euclid}
-use Rattle.std.proofs.Common.{sym, ap, arith, ◌∙◌}
-use Rattle.std.proofs.lemmas.Int.{ints}
+use Rattle.std.proofs.Common.{◌≡◌, ℤ, pos, ◌+ℤ◌, ◌-ℤ◌, ◌*ℤ◌, ◌≤ℤ◌, ◌<ℤ◌, List, [], ◌∷◌, ◌++◌, filter, map, refl, sym, ap, arith, ◌∙◌}
+use Rattle.std.proofs.lemmas.Int.{ints, by_lt_z}
 use Rattle.std.proofs.Math.IntN.{*ℤ_comm}
 use Rattle.std.specs.List.{AllByRecursion}
 use Rattle.std.specs.Int.Signed.{≤ℤ_refl}
@@ -13,7 +11,6 @@ use Rattle.dn_arc.specs.declared.arc.Form.TheVariants.{One, Two}
 use Rattle.dn_arc.specs.Splits.{cost_cap}
 use Rattle.dn_arc.specs.Meanings.{SameCurve}
 use Rattle.dn_arc.specs.Canonical.{IsCostArc, IsFixedArc, IsMixedArc, has_low, IsFormOne, IsFormTwo, AreCanonCosts}
-use Rattle.dn_arc.specs.Entries.{has_room}
 use Rattle.dn_arc.specs.Fillings.{forced_units, forced_cost}
 use Rattle.dn_arc.specs.State.Means.{IsFloor}
 use Rattle.dn_arc.specs.State.Steps.{AreSteps, steps_room}
@@ -21,7 +18,7 @@ use Rattle.dn_arc.specs.State.CurveListed.{fixed_arc, step_arc, spread_arcs, fix
 use Rattle.dn_arc.proofs.ProductsLaws.{mul_sub, mul_suc}
 use Rattle.dn_arc.proofs.MeansLaws.{floor_of}
 use Rattle.dn_arc.proofs.FormsLaws.{AreFixed, IsApart, apart, form_one_ordered, form_one_arcs, form_two_ordered, form_two_arcs}
-use Rattle.dn_arc.proofs.PartsLaws.{by_test, free_part, free_parts}
+use Rattle.dn_arc.proofs.PartsLaws.{test_yes, test_no, free_parts}
 use Rattle.dn_arc.proofs.FillMeaningsLaws.{same_by_parts}
 use Rattle.dn_arc.proofs.StepArcsLaws.{free_arcs}
 use Rattle.dn_arc.proofs.JoinsLaws.{AreJoined, join_all}
@@ -36,51 +33,43 @@ two_cost : (units each rest cost : ℤ) → cost ≡ (each *ℤ units) +ℤ rest
     → (each *ℤ (units -ℤ rest)) +ℤ (((each +ℤ pos 1) *ℤ rest) +ℤ pos 0) ≡ cost
 two_cost units each rest cost h =
     let g = *ℤ_comm (each +ℤ pos 1) rest ∙ mul_suc rest each ∙ ap (λ z. z +ℤ rest) (*ℤ_comm rest each) in
-    let m = mul_sub each units rest in
-    omega (arith, ints)
+    omega (arith, ints, mul_sub each units rest)
 
 pub spread_carries : (units each rest cost : ℤ) → pos 0 <ℤ units → IsFloor cost units each rest
     → Carries (spread_arcs units each rest) units cost
 spread_carries units each rest cost h f =
     let e = f.whole in
     let l = f.low in
-    let u = f.high in
-    by_test (λ (l : List CostArc). Carries l units cost) (pos 0) rest
-    (fixed_arc (units -ℤ rest) each ∷ fixed_arc rest (each +ℤ pos 1) ∷ []) (fixed_arc units each ∷ [])
-    (λ lt. record {
-      are =
-          record {
-            each = (
-              record { some = omega (arith, ints); full = refl },
-              (record { some = omega (arith, ints); full = refl }, tt),
-            );
-            near = refl;
-          };
+    by_lt_z (pos 0) rest
+    (λ lt. rw test_yes (record {
+      are = record {
+        each = (two (units -ℤ rest) each (omega (arith, ints)), (two rest _ (omega (arith, ints)), tt));
+        near = refl;
+      };
       units_is = omega (arith, ints);
-      cost_is = two_cost units each rest cost e;
-    })
-    (λ le. record {
-      are = record { each = (record { some = omega (arith, ints); full = refl }, tt); near = tt };
+      cost_is = two_cost units each rest cost f.whole;
+    }))
+    (λ le. rw test_no (record {
+      are = record { each = (two units each (omega (arith, ints)), tt); near = tt };
       units_is = omega (arith, ints);
       cost_is = omega (arith, ints);
-    })
+    }))
+  where
+    two : (z c : ℤ) → pos 1 ≤ℤ z → IsFixedArc (fixed_arc z c)
+    two z c h = record { some = h; full = refl }
 
 pub fixed_carries : (units cost : ℤ) → pos 0 ≤ℤ units → (units ≡ pos 0 → cost ≡ pos 0)
     → Carries (fixed_arcs units cost) units cost
 fixed_carries units cost h n =
-    by_test (λ (l : List CostArc). Carries l units cost) (pos 0) units
-    (spread_arcs units (int_div_euclid cost units) (int_rem_euclid cost units)) []
-    (λ lt. spread_carries units (int_div_euclid cost units) (int_rem_euclid cost units) cost lt
-    (floor_of cost units _ _ lt refl refl))
+    by_lt_z (pos 0) units
+    (λ lt. simp test_yes (spread_carries units _ _ cost lt (floor_of cost units _ _ lt refl refl)))
     (λ le.
     let none : units ≡ pos 0 = omega (arith, ints) in
-    let nothing = n none in
-    record { are = record { each = tt; near = tt }; units_is = omega (arith, ints); cost_is = sym nothing })
+    simp test_no (record { are = record { each = tt; near = tt }; units_is = sym none; cost_is = sym (n none) }))
 
 steps_mixed : (steps : List (ℤ × ℤ)) → AreSteps steps → AllByRecursion IsMixedArc (map step_arc steps)
 steps_mixed [] s = tt
-steps_mixed (step ∷ rest) s = let some =
-    s.0 in
+steps_mixed (step ∷ rest) s =
     (record { is_arc = record { some = ≤ℤ_refl _; room = omega (arith, ints) }; room = s.0 }, steps_mixed rest s.2)
 
 pub steps_low : (steps : List (ℤ × ℤ)) → filter has_low (map step_arc steps) ≡ []
@@ -118,7 +107,7 @@ module _ (units cost : ℤ) (steps : List (ℤ × ℤ)) (some : pos 0 ≤ℤ uni
 
 steps_units : (steps : List (ℤ × ℤ)) → forced_units (map step_arc steps) ≡ pos 0
 steps_units [] = refl
-steps_units (step ∷ rest) = let i = steps_units rest in omega (arith, ints)
+steps_units (step ∷ rest) = omega (arith, ints, steps_units rest)
 
 steps_cost : (steps : List (ℤ × ℤ)) → forced_cost (map step_arc steps) ≡ pos 0
 steps_cost [] = refl
@@ -143,20 +132,14 @@ sums [] free f =
     { units = omega (arith, ints); cost = omega (arith, ints); cap = omega (arith, ints); full = refl; parts = refl }
 sums (a ∷ fixed) free f =
     let i = sums fixed free f.1 in
-    let full = f.0.full in
-    let u = i.units in
-    let c = i.cost in
-    let k = i.cap in
     let l = i.full in
+    let none : a.cap ≤ℤ a.low = omega (arith, ints) in
     record {
       units = omega (arith, ints);
       cost = omega (arith, ints);
       cap = omega (arith, ints);
       full = omega (arith, ints);
-      parts =
-          by_test (λ (l : List CostArc). map free_part l ≡ free_parts free) a.low a.cap
-          (a ∷ filter has_room (fixed ++ free)) (filter has_room (fixed ++ free)) (λ lt. absurd (omega (arith, ints)))
-          (λ le. i.parts);
+      parts = rw test_no i.parts;
     }
 
 module _ (units cost : ℤ) (steps : List (ℤ × ℤ)) (some : pos 0 ≤ℤ units) (none : units ≡ pos 0 → cost ≡ pos 0)
@@ -175,13 +158,13 @@ module _ (units cost : ℤ) (steps : List (ℤ × ℤ)) (some : pos 0 ≤ℤ uni
   listed_apart = apart (fixed_arcs units cost) (map step_arc steps) fixed.are.each (free_arcs steps rising)
 
   pub listed_units : forced_units (listed One units cost steps) ≡ units
-  listed_units = let e = all.units in let f = fixed.units_is in let g = steps_units steps in omega (arith, ints)
+  listed_units = omega (arith, ints, steps_units steps, fixed.units_is, all.units)
 
   pub listed_cost : forced_cost (listed One units cost steps) ≡ cost
-  listed_cost = let e = all.cost in let f = fixed.cost_is in let g = steps_cost steps in omega (arith, ints)
+  listed_cost = omega (arith, ints, steps_cost steps, fixed.cost_is, all.cost)
 
   pub listed_cap : (form : Form) → cost_cap (listed form units cost steps) ≡ units +ℤ steps_room steps
-  listed_cap One = let e = all.cap in let f = fixed.units_is in let g = steps_cap steps in omega (arith, ints)
+  listed_cap One = omega (arith, ints, steps_cap steps, fixed.units_is, all.cap)
   listed_cap Two = let e = join.cap in let f = fixed.units_is in let g = steps_cap steps in let h = all.full in
       omega (arith, ints)
 

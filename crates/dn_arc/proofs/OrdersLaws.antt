@@ -1,11 +1,8 @@
 -- No meaning depends on the order of arcs. Arcs that mean the same still do after the same arc is appended to both, and
 -- parts that mean the same also do when joined.
-use Rattle.std.specs.Prelude.{ℕ, suc, zero, ◌<◌, List, [], ◌∷◌, ◌++◌, length}
-use Rattle.std.proofs.Common.{subst, arith, get_or, set}
+use Rattle.std.proofs.Common.{ℕ, suc, zero, ◌<◌, List, [], ◌∷◌, ◌++◌, length, subst, arith, get_or, set, swap, IsPermutation}
 use Rattle.std.proofs.lemmas.List.Sorted.{IsPermutation-keeps, IsPermutation-append_comm}
 use Rattle.std.proofs.lemmas.List.Edits.{swap_is}
-use Rattle.std.specs.List.{swap}
-use Rattle.std.specs.List.Sorted.{IsPermutation}
 use Rattle.dn_arc.specs.State.Meanings.{IsMeaning}
 
 -- exchanging the arc at a position with the first arc keeps the meaning
@@ -62,7 +59,6 @@ pub same_joined : {Arc : Type 0} (Same : List Arc → List Arc → Type 0) → I
     → Same xs xs' → Same ys ys' → Same (xs ++ ys) (xs' ++ ys')
 same_joined Same m xs xs' ys ys' s t =
     let turned : (us vs : List _)
-    → Same (us ++ vs) (vs ++ us) =
-    λ us vs. any_order Same m (us ++ vs) (vs ++ us) (IsPermutation-append_comm us vs) in
+    → Same (us ++ vs) (vs ++ us) = λ us vs. any_order Same m (us ++ vs) (vs ++ us) (IsPermutation-append_comm us vs) in
     m.same_trans _ _ _ (same_before Same m xs ys ys' t)
     (m.same_trans _ _ _ (turned xs ys') (m.same_trans _ _ _ (same_before Same m ys' xs xs' s) (turned ys' xs')))

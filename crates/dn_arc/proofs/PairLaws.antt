@@ -1,18 +1,16 @@
 -- Ordered pairs as keys, and their arcs.
-use Rattle.std.proofs.Common.{◌≡◌, ℤ, List, [], ◌∷◌, ◌++◌, Bool, true, false, cond, refl, ap}
+use Rattle.std.proofs.Common.{inl, inr, ◌≡◌, ℤ, List, [], ◌∷◌, ◌++◌, true, cond, refl, Ordering, Less, Equal, Greater}
 use Rattle.std.specs.Ordering.{int_cmp, is_eq, ordering_reverse}
-use Rattle.std.specs.declared.cmp.Ordering.{Ordering}
-use Rattle.std.specs.declared.cmp.Ordering.TheVariants.{Less, Equal, Greater}
 use Rattle.std.specs.Cmp.{IsTotalOrder, IsEquivalence}
+use Rattle.std.proofs.lemmas.Bool.{cases_Bool}
 use Rattle.std.proofs.lemmas.Cmp.{int_cmp_total, then_total, on_total, eq_by_cmp_equiv}
 use Rattle.std.proofs.lemmas.Map.Lookups.{exact_pairs, exact_signed}
 use Rattle.dn_arc.specs.Pairs.{bundle, pair_cmp, same_pair}
 
 -- an ordering that tests as equal is `Equal`
 pub equal_is : (o : Ordering) → is_eq o ≡ true → o ≡ Equal
-equal_is Less h = cc
 equal_is Equal h = refl
-equal_is Greater h = cc
+equal_is o h = cc
 
 -- pairs that compare equal are equal
 pub pair_is : (p q : ℤ × ℤ) → same_pair p q ≡ true → p ≡ q
@@ -20,15 +18,13 @@ pair_is p q h = exact_pairs int_cmp int_cmp exact_signed exact_signed p q (equal
 
 -- an ordering that is its own reverse is `Equal`
 pub self_equal : (o : Ordering) → o ≡ ordering_reverse o → o ≡ Equal
-self_equal Less e = cc
 self_equal Equal e = refl
-self_equal Greater e = cc
+self_equal o e = cc
 
 -- an ordering whose reverse is `Greater` is `Less`
 pub reversed : (o : Ordering) → Greater ≡ ordering_reverse o → o ≡ Less
 reversed Less e = refl
-reversed Equal e = cc
-reversed Greater e = cc
+reversed o e = cc
 
 -- a number compares equal to itself
 pub int_self : (z : ℤ) → int_cmp z z ≡ Equal
@@ -51,10 +47,7 @@ module _ {Arc : Type 0} where
   pub bundle_push : (p : ℤ × ℤ) (xs : List ((ℤ × ℤ) × Arc)) (a : (ℤ × ℤ) × Arc)
       → bundle p (xs ++ a ∷ []) ≡ bundle p xs ++ cond (same_pair p a.0) (a.1 ∷ []) []
   bundle_push p [] a = refl
-  bundle_push p (x ∷ xs) a =
-      by_test (same_pair p x.0) (bundle p xs) (cond (same_pair p a.0) (a.1 ∷ []) []) (bundle p (xs ++ a ∷ []))
-      (bundle_push p xs a)
-    where
-      by_test : (t : Bool) (us vs ws : List Arc) → ws ≡ us ++ vs → cond t (x.1 ∷ ws) ws ≡ cond t (x.1 ∷ us) us ++ vs
-      by_test true us vs ws e = ap (λ l. x.1 ∷ l) e
-      by_test false us vs ws e = e
+  bundle_push p (x ∷ xs) a = elim (cases_Bool (same_pair p x.0)) [
+    | inl t ↦ rw (t, bundle_push p xs a)
+    | inr t ↦ rw (t, bundle_push p xs a)
+  ]

@@ -1,6 +1,5 @@
 -- Products of integers distribute over sums and differences, and a factor that is at least 0 keeps the order.
-use Rattle.std.specs.Prelude.{◌≡◌, ℕ, suc, zero, ℤ, pos, negsuc, ◌+ℤ◌, ◌-ℤ◌, ◌*ℤ◌, ◌≤ℤ◌}
-use Rattle.std.proofs.Common.{arith, ap}
+use Rattle.std.proofs.Common.{◌≡◌, ℕ, suc, zero, ℤ, pos, negsuc, ◌+ℤ◌, ◌-ℤ◌, ◌*ℤ◌, ◌≤ℤ◌, arith, ap}
 use Rattle.std.proofs.lemmas.Int.{ints}
 
 pub mul_suc : (c y : ℤ) → c *ℤ (y +ℤ pos 1) ≡ (c *ℤ y) +ℤ c
@@ -31,8 +30,7 @@ mul_add c y (negsuc n) =
 pub mul_sub : (c y z : ℤ) → c *ℤ (y -ℤ z) ≡ (c *ℤ y) -ℤ (c *ℤ z)
 mul_sub c y z =
     let e = ap (λ z. c *ℤ z) (let e : (y -ℤ z) +ℤ z ≡ y = omega (arith, ints) in e) in
-    let f = mul_add c (y -ℤ z) z in
-    omega (arith, ints)
+    omega (arith, ints, mul_add c (y -ℤ z) z)
 
 mul_pos : (c d : ℤ) (n : ℕ) → c ≤ℤ d → (c *ℤ pos n) ≤ℤ (d *ℤ pos n)
 mul_pos c d zero h = omega (arith, ints)

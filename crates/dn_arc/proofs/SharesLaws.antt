@@ -1,6 +1,5 @@
 -- An upper bound on the least cost of an amount, arc by arc: the bound may be raised, and two arcs may be exchanged.
-use Rattle.std.specs.Prelude.{◌≡◌, ℤ, pos, ◌+ℤ◌, ◌*ℤ◌, ◌≤ℤ◌, List, [], ◌∷◌, refl}
-use Rattle.std.proofs.Common.{arith}
+use Rattle.std.proofs.Common.{◌≡◌, ℤ, pos, ◌+ℤ◌, ◌*ℤ◌, ◌≤ℤ◌, List, [], ◌∷◌, refl, arith}
 use Rattle.std.proofs.lemmas.Int.{ints}
 use Rattle.std.specs.Int.Signed.{≤ℤ_refl}
 use Rattle.dn_arc.specs.declared.arc.CostArc.{CostArc}
@@ -25,29 +24,29 @@ abbrev pub AtMost : List CostArc → ℤ → ℤ → Type 0
 AtMost [] = IsNothing
 AtMost (a ∷ rest) = Share a.low a.cap a.cost (AtMost rest)
 
+-- the arc takes the same share under other bounds, for another amount and another cost
+pub same_share : {l c m d p : ℤ} {R S : ℤ → ℤ → Type 0} {x y k j : ℤ} (s : Share l c p R x k) → m ≤ℤ s.share
+    → s.share ≤ℤ d → y ≡ s.share +ℤ s.other → ((p *ℤ s.share) +ℤ s.spent) ≤ℤ j → S s.other s.spent
+    → Share m d p S y j
+same_share s low cap amount within rest = record {
+  share = s.share;
+  other = s.other;
+  spent = s.spent;
+  low_is = low;
+  cap_is = cap;
+  amount = amount;
+  within = within;
+  rest = rest;
+}
+
 pub share_map : (l c p : ℤ) (R S : ℤ → ℤ → Type 0) → ((x k : ℤ) → R x k → S x k) → (x k : ℤ) → Share l c p R x k
     → Share l c p S x k
-share_map l c p R S f x k s =
-    record {
-      share = s.share;
-      other = s.other;
-      spent = s.spent;
-      low_is = s.low_is;
-      cap_is = s.cap_is;
-      amount =
-          s.amount;
-      within = s.within;
-      rest = f s.other s.spent s.rest;
-    }
+share_map l c p R S f x k s = same_share s s.low_is s.cap_is s.amount s.within (f s.other s.spent s.rest)
 
 pub share_swap : (l c p m d q : ℤ) (R : ℤ → ℤ → Type 0) (x k : ℤ) → Share l c p (Share m d q R) x k
     → Share m d q (Share l c p R) x k
 share_swap l c p m d q R x k s =
     let t = s.rest in
-    let e = s.amount in
-    let f = t.amount in
-    let g = s.within in
-    let h = t.within in
     record {
       share = t.share;
       other = s.share +ℤ t.other;
@@ -56,35 +55,21 @@ share_swap l c p m d q R x k s =
       cap_is = t.cap_is;
       amount = omega (arith, ints);
       within = omega (arith, ints);
-      rest =
-          record {
-            share = s.share;
-            other = t.other;
-            spent = t.spent;
-            low_is = s.low_is;
-            cap_is = s.cap_is;
-            amount =
-                refl;
-            within = ≤ℤ_refl _;
-            rest = t.rest;
-          };
+      rest = record {
+        share = s.share;
+        other = t.other;
+        spent = t.spent;
+        low_is = s.low_is;
+        cap_is = s.cap_is;
+        amount = refl;
+        within = ≤ℤ_refl _;
+        rest = t.rest;
+      };
     }
 
 pub share_more : (l c p : ℤ) (R : ℤ → ℤ → Type 0) (x k j : ℤ) → k ≤ℤ j → Share l c p R x k → Share l c p R x j
-share_more l c p R x k j h s =
-    let g = s.within in
-    record {
-      share = s.share;
-      other = s.other;
-      spent = s.spent;
-      low_is = s.low_is;
-      cap_is = s.cap_is;
-      amount =
-          s.amount;
-      within = omega (arith, ints);
-      rest = s.rest;
-    }
+share_more l c p R x k j h s = same_share s s.low_is s.cap_is s.amount (omega (arith, ints)) s.rest
 
 pub more : (arcs : List CostArc) (x k j : ℤ) → k ≤ℤ j → AtMost arcs x k → AtMost arcs x j
-more [] x k j h s = let g = s.within in record { amount = s.amount; within = omega (arith, ints) }
+more [] x k j h s = record { amount = s.amount; within = omega (arith, ints) }
 more (a ∷ rest) x k j h s = share_more a.low a.cap a.cost (AtMost rest) x k j h s

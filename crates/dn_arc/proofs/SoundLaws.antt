@@ -1,10 +1,9 @@
 -- The arcs that a curve lists are canonical, fit 64 bits, have the capacity of the curve, and mean the same in both
 -- forms. Adding the forced and the free part of an arc to the curve means the same as appending the arc.
-use Rattle.std.specs.Prelude.{◌≡◌, ◌-◌, ◌^◌, ℤ, pos, ◌+ℤ◌, ◌-ℤ◌, ◌*ℤ◌, ◌≤ℤ◌, ◌<ℤ◌, List, [], ◌∷◌, ◌++◌, map, refl, FitsSigned}
+use Rattle.std.proofs.Common.{◌≡◌, ◌-◌, ◌^◌, ℤ, pos, ◌+ℤ◌, ◌-ℤ◌, ◌*ℤ◌, ◌≤ℤ◌, ◌<ℤ◌, List, [], ◌∷◌, ◌++◌, map, refl, FitsSigned, sym, ap, arith, ◌∙◌}
 use Rattle.std.specs.Int.{w64, int_div_euclid, int_rem_euclid}
-use Rattle.std.proofs.Common.{sym, ap, subst, arith, ◌∙◌}
 use Rattle.std.proofs.Props.{props}
-use Rattle.std.proofs.lemmas.Int.{ints}
+use Rattle.std.proofs.lemmas.Int.{ints, by_lt_z}
 use Rattle.std.proofs.Math.IntN.{*ℤ_comm}
 use Rattle.std.specs.List.{AllByRecursion, AllByRecursion-prop}
 use Rattle.dn_arc.specs.declared.arc.CostArc.{CostArc}
@@ -17,11 +16,11 @@ use Rattle.dn_arc.specs.Meanings.{SameCurve}
 use Rattle.dn_arc.specs.Canonical.{IsCostArc, AreCanonCosts}
 use Rattle.dn_arc.specs.State.Means.{IsMean}
 use Rattle.dn_arc.specs.State.Steps.{AreSteps}
-use Rattle.dn_arc.specs.State.CurveListed.{fixed_arc, free_arc, step_arc, spread_arcs, fixed_arcs, join_arcs, listed, IsSound}
+use Rattle.dn_arc.specs.State.CurveListed.{free_arc, step_arc, fixed_arcs, join_arcs, listed, IsSound}
 use Rattle.dn_arc.proofs.SplitsLaws.{SameAbove}
 use Rattle.dn_arc.proofs.AddsLaws.{add_end}
 use Rattle.dn_arc.proofs.MeansLaws.{floor_of, each_fits, each_next, none_cost, fits_some, fits_next}
-use Rattle.dn_arc.proofs.PartsLaws.{by_test}
+use Rattle.dn_arc.proofs.PartsLaws.{test_yes, test_no}
 use Rattle.dn_arc.proofs.JoinsLaws.{joined_costs}
 use Rattle.dn_arc.proofs.ListedLaws.{carried, listed_canonical, listed_same, listed_cap, listed_arcs}
 
@@ -48,21 +47,14 @@ fixed_fit : (units cost : ℤ) → IsMean cost units → CostsFit (fixed_arcs un
 fixed_fit units cost m =
     let each = int_div_euclid cost units in
     let rest = int_rem_euclid cost units in
-    by_test CostsFit (pos 0) units (spread_arcs units each rest) []
+    by_lt_z (pos 0) units
     (λ lt.
     let f = each_fits cost units each lt m refl in
-    by_test CostsFit (pos 0) rest (fixed_arc (units -ℤ rest) each ∷ fixed_arc rest (each +ℤ pos 1) ∷ [])
-    (fixed_arc units each ∷ [])
-    (λ some. (
-      f,
-      (
-        fits_next each f
-            (each_next cost units each rest m (floor_of cost units each rest lt refl refl) some),
-        tt,
-      ),
-    ))
-    (λ none. (f, tt)))
-    (λ le. tt)
+    let g = fits_next each f in
+    by_lt_z (pos 0) rest
+    (λ some. simp test_yes (f, (g (each_next cost units each rest m (floor_of cost units _ _ lt refl refl) some), tt)))
+    (λ none. simp (test_yes, test_no) (f, tt)))
+    (λ le. simp test_no tt)
 
 both_fit : (xs ys : List CostArc) → CostsFit xs → CostsFit ys → CostsFit (xs ++ ys)
 both_fit [] ys f g = g
@@ -75,7 +67,7 @@ join_fit (x ∷ xs) ys f g = joined_costs (FitsSigned w64) x (join_arcs xs ys) f
 -- the total capacity of a problem's arcs is at least 0
 pub caps_some : (arcs : List CostArc) → AllByRecursion IsCostArc arcs → pos 0 ≤ℤ cost_cap arcs
 caps_some [] h = omega (arith, ints)
-caps_some (a ∷ rest) h = let low = h.0.some in let high = h.0.room in let i = caps_some rest h.1 in omega (arith, ints)
+caps_some (a ∷ rest) h = omega (arith, ints, caps_some rest h.1)
 
 -- the numbers of arcs fit 64 bits if their total capacity and their costs do
 numbers_fit : (arcs : List CostArc) → AllByRecursion IsCostArc arcs → cost_cap arcs ≤ℤ pos (2 ^ 63 - 1) → CostsFit arcs
@@ -83,7 +75,6 @@ numbers_fit : (arcs : List CostArc) → AllByRecursion IsCostArc arcs → cost_c
 numbers_fit [] h m f = tt
 numbers_fit (a ∷ rest) h m f =
     let low = h.0.some in
-    let high = h.0.room in
     let left = caps_some rest h.1 in (
       (
         fits_some a.low low (omega (arith, ints)),
@@ -117,8 +108,8 @@ module _ (units cost total : ℤ) (steps : List (ℤ × ℤ)) (s : IsSound units
 
   pub sound_fit : (form : Form) → NumbersFit costs (listed form units cost steps)
   sound_fit form =
-      numbers_fit (listed form units cost steps) (sound_arcs form)
-      (subst (λ z. z ≤ℤ pos (2 ^ 63 - 1)) (sym (sound_cap form)) s.most) (costs_fit form)
+      numbers_fit (listed form units cost steps) (sound_arcs form) (omega (arith, ints, sound_cap form))
+      (costs_fit form)
 
 -- adding an arc's forced and free part to the curve means the same as appending the arc
 pub listed_added : (units cost units' cost' : ℤ) (steps steps' : List (ℤ × ℤ)) (a : CostArc)

@@ -1,13 +1,12 @@
 -- An amount that has a split has a least cost. Arcs mean the same exactly if they carry each amount at no more than the
 -- same costs.
-use Rattle.std.specs.Prelude.{◌≡◌, ℕ, suc, zero, ℤ, pos, negsuc, ◌+ℤ◌, ◌-ℤ◌, ◌*ℤ◌, ◌≤ℤ◌, List, [], ◌∷◌, refl, ◌⊎◌}
-use Rattle.std.proofs.Common.{inl, inr, sym, ap, subst, arith}
+use Rattle.std.proofs.Common.{◌≡◌, ℕ, suc, zero, ℤ, pos, negsuc, ◌+ℤ◌, ◌-ℤ◌, ◌*ℤ◌, ◌≤ℤ◌, List, [], ◌∷◌, refl, ◌⊎◌, inl, inr, sym, ap, subst, arith}
 use Rattle.std.proofs.lemmas.Int.{ints, by_lt_z}
 use Rattle.std.specs.Int.Signed.{≤ℤ_refl}
 use Rattle.dn_arc.specs.declared.arc.CostArc.{CostArc}
 use Rattle.dn_arc.specs.Splits.{total, IsSplit, cost_of, LeastCost}
 use Rattle.dn_arc.specs.Meanings.{SameCurve}
-use Rattle.dn_arc.proofs.SharesLaws.{Share, IsNothing, AtMost, more}
+use Rattle.dn_arc.proofs.SharesLaws.{Share, IsNothing, AtMost, more, same_share}
 
 -- a split of the amount that costs at most k
 pub record Within (arcs : List CostArc) (x k : ℤ) : Type 0 where
@@ -34,10 +33,6 @@ pub at_most_split : (arcs : List CostArc) (x k : ℤ) → AtMost arcs x k → Wi
 at_most_split [] x k s = record { split = []; is = record { shares = tt; whole = sym s.amount }; costs = s.within }
 at_most_split (a ∷ rest) x k s =
     let w = at_most_split rest s.other s.spent s.rest in
-    let e = s.amount in
-    let f = w.is.whole in
-    let g = s.within in
-    let h = w.costs in
     record {
       split = s.share ∷ w.split;
       is = record { shares = (s.low_is, s.cap_is, w.is.shares); whole = omega (arith, ints) };
@@ -51,12 +46,10 @@ pub record Bottom (R : ℤ → ℤ → Type 0) (x k : ℤ) : Type 0 where
 
 pub least_bottom : (arcs : List CostArc) (x k : ℤ) → LeastCost arcs x k → Bottom (AtMost arcs) x k
 least_bottom arcs x k l = record {
-  at = subst (AtMost arcs x) l.costs (split_at_most arcs l.split x l.is);
+  at = rw (← l.costs) (split_at_most arcs l.split x l.is);
   least = λ j r.
       let w = at_most_split arcs x j r in
-      let h = l.least w.split w.is in
-      let g = w.costs in
-      omega (arith, ints);
+      omega (arith, ints, l.least w.split w.is);
 }
 
 pub antisym : (a b : ℤ) → a ≤ℤ b → b ≤ℤ a → a ≡ b
@@ -79,11 +72,8 @@ Found R x = ((k : ℤ) → R x k → ⊥) ⊎ ((k : ℤ) × Bottom R x k)
 -- an arc that takes exactly its LOW leaves the least cost of the rest
 one_share : (low cost : ℤ) (R : ℤ → ℤ → Type 0) (x : ℤ) → Found R (x -ℤ low) → Found (Share low low cost R) x
 one_share low cost R x (inl never) = inl (λ k s.
-    let e = s.amount in
-    let f = s.low_is in
-    let g = s.cap_is in
     let same : s.other ≡ x -ℤ low = omega (arith, ints) in
-    never s.spent (subst (λ y. R y s.spent) same s.rest))
+    never s.spent (rw same at s.rest))
 one_share low cost R x (inr b) = inr (
   (cost *ℤ low) +ℤ b.0,
   record {
@@ -93,21 +83,16 @@ one_share low cost R x (inr b) = inr (
       spent = b.0;
       low_is = ≤ℤ_refl _;
       cap_is = ≤ℤ_refl _;
-      amount =
-          omega (arith, ints);
+      amount = omega (arith, ints);
       within = ≤ℤ_refl _;
       rest = b.1.at;
     };
     least = λ j s.
-        let e = s.amount in
-        let f = s.low_is in
-        let g = s.cap_is in
         let w = s.within in
         let is_low : s.share ≡ low = omega (arith, ints) in
         let same : s.other ≡ x -ℤ low = omega (arith, ints) in
-        let h = b.1.least s.spent (subst (λ y. R y s.spent) same s.rest) in
-        let w' = subst (λ y. ((cost *ℤ y) +ℤ s.spent) ≤ℤ j) is_low w in
-        omega (arith, ints);
+        let h = b.1.least s.spent (rw same at s.rest) in
+        omega (arith, ints, rw is_low at w);
   },
 )
 
@@ -133,65 +118,27 @@ best_of P Q R x f g h (inr a) (inr b) =
       a.0,
       record {
         at = f a.0 a.1.at;
-        least =
-            λ j r. elim (h j r) [ inl p ↦ a.1.least j p | inr q ↦ (let d = b.1.least j q in omega (arith, ints)) ];
+        least = λ j r. elim (h j r) [ inl p ↦ a.1.least j p | inr q ↦ (omega (arith, ints, b.1.least j q)) ];
       },
     ))
     (λ le. inr (
       b.0,
       record {
         at = g b.0 b.1.at;
-        least =
-            λ j r. elim (h j r) [ inl p ↦ (let d = a.1.least j p in omega (arith, ints)) | inr q ↦ b.1.least j q ];
+        least = λ j r. elim (h j r) [ inl p ↦ (omega (arith, ints, a.1.least j p)) | inr q ↦ b.1.least j q ];
       },
     ))
 
 wider : (l c m d p : ℤ) (R : ℤ → ℤ → Type 0) → m ≤ℤ l → c ≤ℤ d → (x k : ℤ) → Share l c p R x k → Share m d p R x k
-wider l c m d p R h g x k s =
-    let u = s.low_is in
-    let v = s.cap_is in
-    record {
-      share = s.share;
-      other = s.other;
-      spent = s.spent;
-      low_is = omega (arith, ints);
-      cap_is =
-          omega (arith, ints);
-      amount = s.amount;
-      within = s.within;
-      rest = s.rest;
-    }
+wider l c m d p R h g x k s = same_share s (omega (arith, ints)) (omega (arith, ints)) s.amount s.within s.rest
 
 cut : (low mid cap cost : ℤ) (R : ℤ → ℤ → Type 0) (x k : ℤ) → Share low cap cost R x k
     → Share low mid cost R x k ⊎ Share (mid +ℤ pos 1) cap cost R x k
 cut low mid cap cost R x k s =
     let u = s.low_is in
     let v = s.cap_is in
-    by_lt_z mid s.share
-    (λ lt. inr
-    (record {
-      share = s.share;
-      other = s.other;
-      spent = s.spent;
-      low_is = omega (arith, ints);
-      cap_is = v;
-      amount =
-          s.amount;
-      within = s.within;
-      rest = s.rest;
-    }))
-    (λ le. inl
-    (record {
-      share = s.share;
-      other = s.other;
-      spent = s.spent;
-      low_is = u;
-      cap_is = le;
-      amount = s.amount;
-      within =
-          s.within;
-      rest = s.rest;
-    }))
+    by_lt_z mid s.share (λ lt. inr (same_share s (omega (arith, ints)) s.cap_is s.amount s.within s.rest))
+    (λ le. inl (same_share s s.low_is le s.amount s.within s.rest))
 
 some_share : (n : ℕ) (low cap cost : ℤ) → cap ≡ low +ℤ pos n → (R : ℤ → ℤ → Type 0) → ((y : ℤ) → Found R y) → (x : ℤ)
     → Found (Share low cap cost R) x
@@ -221,17 +168,17 @@ length_is (negsuc n) h = absurd (omega (arith, ints))
 any_share : (low cap cost : ℤ) (R : ℤ → ℤ → Type 0) → ((y : ℤ) → Found R y) → (x : ℤ) → Found (Share low cap cost R) x
 any_share low cap cost R f x =
     by_lt_z cap low
-    (λ lt. inl (λ k s. let u = s.low_is in let v = s.cap_is in absurd (omega (arith, ints))))
+    (λ lt. inl (λ k s. absurd (omega (arith, ints))))
     (λ le.
     let h = length_is (cap -ℤ low) (omega (arith, ints)) in
-    some_share (length_of (cap -ℤ low)) low cap cost (let e = ap (λ z. low +ℤ z) h in omega (arith, ints)) R f x)
+    some_share (length_of (cap -ℤ low)) low cap cost (omega (arith, ints, ap (λ z. low +ℤ z) h)) R f x)
 
 nothing_found : (x : ℤ) → Found IsNothing x
 nothing_found x =
     by_lt_z x (pos 0)
-    (λ lt. inl (λ k s. let e = s.amount in absurd (omega (arith, ints))))
+    (λ lt. inl (λ k s. absurd (omega (arith, ints))))
     (λ le. by_lt_z (pos 0) x
-    (λ gt. inl (λ k s. let e = s.amount in absurd (omega (arith, ints))))
+    (λ gt. inl (λ k s. absurd (omega (arith, ints))))
     (λ ge. inr
     (pos 0, record { at = record { amount = omega (arith, ints); within = ≤ℤ_refl _ }; least = λ j s. s.within })))
 

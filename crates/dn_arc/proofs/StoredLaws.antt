@@ -1,7 +1,6 @@
 -- A curve is stored as its numbers, which distinguish it from every other curve.
-use Rattle.std.specs.Prelude.{◌≡◌, ℤ, List}
+use Rattle.std.proofs.Common.{◌≡◌, ℤ, List, sym, ap, subst}
 use Rattle.std.specs.Coded.{Coded, coded_ℤ, coded×, coded_list}
-use Rattle.std.proofs.Common.{sym, ap, subst}
 use base.Stored.{coded_via}
 use Rattle.dn_arc.specs.State.CurveListed.{IsSound}
 use Rattle.dn_arc.specs.State.Curves.{CurveNumbers}

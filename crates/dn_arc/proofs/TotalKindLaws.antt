@@ -1,14 +1,13 @@
 -- The laws of `max` arcs as a kind. Their meaning determines canonical arcs, and the arcs listed for a total capacity
 -- are canonical and fit 64 bits if the total does.
-use Rattle.std.specs.Prelude.{◌≡◌, ◌-◌, ◌^◌, ℕ, ℤ, pos, ◌+ℤ◌, ◌≤ℤ◌, ◌<ℤ◌, List, [], ◌∷◌, ◌++◌, Option, Some, None, cond, int_lt, refl}
-use Rattle.std.proofs.Common.{ap, arith, sym, ◌∙◌}
+use Rattle.std.proofs.Common.{◌≡◌, ◌-◌, ◌^◌, ℤ, pos, ◌+ℤ◌, ◌≤ℤ◌, ◌<ℤ◌, List, [], ◌∷◌, ◌++◌, Option, Some, None, cond, int_lt, refl, ap, arith, sym, ◌∙◌}
 use Rattle.std.proofs.lemmas.Int.{ints, by_lt_z}
 use Rattle.dn_arc.proofs.PartsLaws.{test_yes}
 use Rattle.std.specs.List.{AllByRecursion}
 use Rattle.std.specs.Int.Signed.{≤ℤ_refl}
 use Rattle.dn_arc.specs.declared.arc.CapArc.{CapArc}
 use Rattle.dn_arc.specs.declared.difference.How.{How}
-use Rattle.dn_arc.specs.declared.difference.How.TheVariants.{Lengths, Totals, Costs}
+use Rattle.dn_arc.specs.declared.difference.How.TheVariants.{Totals}
 use Rattle.dn_arc.specs.Kinds.{capacities}
 use Rattle.dn_arc.specs.State.Bundles.{IsKind, IsDetermined, NumbersFit}
 use Rattle.dn_arc.specs.Capacities.{total_cap}
@@ -25,24 +24,22 @@ all_numbers None = []
 all_numbers (Some a) = a.cap ∷ []
 
 numbers_of : (ns : List ℤ) (a : CapArc) → capacities.arc_of ns ≡ Some a → capacities.numbers a ≡ ns
-numbers_of [] a e = cc
 numbers_of (c ∷ []) a e = ap all_numbers (sym e)
-numbers_of (c ∷ d ∷ ns) a e = cc
+numbers_of ns a e = cc
 
 pub total-append : (xs ys : List CapArc) → total_cap (xs ++ ys) ≡ total_cap xs +ℤ total_cap ys
 total-append [] ys = omega (arith, ints)
-total-append (a ∷ xs) ys = let i = total-append xs ys in omega (arith, ints)
+total-append (a ∷ xs) ys = omega (arith, ints, total-append xs ys)
 
 pub total_some : (xs : List CapArc) → AllByRecursion IsCapArc xs → pos 0 ≤ℤ total_cap xs
 total_some [] h = ≤ℤ_refl _
-total_some (a ∷ xs) h = let some = h.0.some in let i = total_some xs h.1 in omega (arith, ints)
+total_some (a ∷ xs) h = omega (arith, ints, total_some xs h.1)
 
 no_total : (xs : List CapArc) → AllByRecursion IsCapArc xs → cap_entries xs ≡ 0 → total_cap xs ≡ pos 0
 no_total xs h e =
     let some = total_some xs h in
     by_lt_z (pos 0) (total_cap xs)
-    (λ lt. let one = ap {B = ℕ} (λ b. cond b 1 0) (test_yes (pos 0) (total_cap xs) lt) in
-    absurd (omega (arith, one, e)))
+    (λ lt. absurd (omega (arith, rw (test_yes (pos 0) (total_cap xs) lt) at e)))
     (λ le. omega (arith, ints))
 
 canon_arcs : (xs : List CapArc) → AreCanonCaps xs → AllByRecursion IsCapArc xs
@@ -52,16 +49,13 @@ canon_arcs (a ∷ b ∷ xs) c = absurd c
 
 one_differ : (xs ys : List CapArc) (how other : How) → TotalsDiffer xs ys how → TotalsDiffer xs ys other → how ≡ other
 one_differ xs ys (Totals l r) (Totals l' r') d e = ap (λ v. Totals v r) (sym d.0 ∙ e.0) ∙ ap (Totals l') (sym d.1 ∙ e.1)
-one_differ xs ys (Totals l r) (Lengths l' r') d e = absurd e
-one_differ xs ys (Totals l r) (Costs g) d e = absurd e
-one_differ xs ys (Lengths l r) other d e = absurd d
-one_differ xs ys (Costs g) other d e = absurd d
+one_differ xs ys (Totals l r) other d e = absurd e
+one_differ xs ys how other d e = absurd d
 
 same_differ : (xs xs' ys ys' : List CapArc) (how : How) → SameTotal xs xs' → SameTotal ys ys' → TotalsDiffer xs ys how
     → TotalsDiffer xs' ys' how
 same_differ xs xs' ys ys' (Totals l r) s t d = (sym s.is ∙ d.0, sym t.is ∙ d.1, d.2)
-same_differ xs xs' ys ys' (Lengths l r) s t d = d
-same_differ xs xs' ys ys' (Costs g) s t d = d
+same_differ xs xs' ys ys' how s t d = d
 
 pub total_kind : IsKind capacities
 total_kind = record {

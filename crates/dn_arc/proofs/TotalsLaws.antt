@@ -1,6 +1,5 @@
 -- Having the same total capacity is a meaning, determines canonical arcs, and leaves no difference.
-use Rattle.std.specs.Prelude.{◌≡◌, ℤ, ◌+ℤ◌, List, [], ◌∷◌, refl}
-use Rattle.std.proofs.Common.{sym, ap, arith, ◌∙◌}
+use Rattle.std.proofs.Common.{◌≡◌, ℤ, ◌+ℤ◌, List, [], ◌∷◌, refl, sym, ap, arith, ◌∙◌}
 use Rattle.std.proofs.lemmas.Int.{ints}
 use Rattle.dn_arc.specs.declared.arc.CapArc.{CapArc}
 use Rattle.dn_arc.specs.declared.difference.How.{How}
@@ -26,10 +25,9 @@ total_meaning = record {
 -- canonical arcs of the same total capacity are equal
 pub totals_determined : (xs ys : List CapArc) → AreCanonCaps xs → AreCanonCaps ys → SameTotal xs ys → xs ≡ ys
 totals_determined [] [] p q s = refl
-totals_determined [] (b ∷ []) p q s = let e = s.is in absurd (omega (arith, ints))
-totals_determined (a ∷ []) [] p q s = let e = s.is in absurd (omega (arith, ints))
+totals_determined [] (b ∷ []) p q s = absurd (omega (arith, ints))
+totals_determined (a ∷ []) [] p q s = absurd (omega (arith, ints))
 totals_determined (a ∷ []) (b ∷ []) p q s =
-    let e = s.is in
     ap (λ (z : ℤ). let x : CapArc = record { cap = z } in x ∷ []) (let cap : a.cap ≡ b.cap = omega (arith, ints) in cap)
 totals_determined (a ∷ a' ∷ xs) ys p q s = absurd p
 totals_determined xs (b ∷ b' ∷ ys) p q s = absurd q

@@ -1,6 +1,6 @@
 -- Adding the next arc of a list to a bundle of the arcs before it: the bundle represents one more arc, and either the
 -- capacities so far sum to at most 2^63-1, or the capacities of all arcs sum to more.
-use Rattle.std.proofs.Common.{◌≡◌, ℕ, ◌+◌, ◌<◌, ◌-◌, ◌^◌, pos, ◌≤ℤ◌, ◌<ℤ◌, List, [], ◌∷◌, ◌++◌, length, take, drop, get_or, Option, Some, None, sym, ap, ◌∙◌, subst, arith, suc, zero}
+use Rattle.std.proofs.Common.{◌≡◌, ℕ, ◌+◌, ◌<◌, ◌-◌, ◌^◌, pos, ◌≤ℤ◌, ◌<ℤ◌, List, [], ◌∷◌, ◌++◌, length, take, drop, get_or, Option, Some, None, sym, ap, ◌∙◌, arith, suc, zero}
 use Rattle.std.proofs.Math.Seq.{take-suc}
 use Rattle.std.proofs.lemmas.List.{take-append-drop}
 use Rattle.std.proofs.lemmas.Int.{ints, by_lt_z}
@@ -37,19 +37,18 @@ all_get P (x ∷ xs) (suc i) d h a = all_get P xs i d (omega arith) a.1
 
 module _ {Arc : Type 0} (kind : ArcKind Arc) (laws : IsKind kind) where
   pub none_cap : kind.capacity [] ≤ℤ pos (2 ^ 63 - 1)
-  none_cap = let e = laws.capacity_append [] [] in omega (arith, ints)
+  none_cap = omega (arith, ints, laws.capacity_append [] [])
 
   -- a prefix of the arcs has no more capacity than all arcs
   taken_cap : (arcs : List Arc) (n : ℕ) → AllByRecursion kind.IsArc arcs
       → kind.capacity (take n arcs) ≤ℤ kind.capacity arcs
   taken_cap arcs n a =
       let e = sym (laws.capacity_append (take n arcs) (drop n arcs)) ∙ ap kind.capacity (take-append-drop n arcs) in
-      let s = laws.capacity_some (drop n arcs) (all_drop kind.IsArc arcs n a) in
-      omega (arith, ints)
+      omega (arith, ints, laws.capacity_some (drop n arcs) (all_drop kind.IsArc arcs n a))
 
   pub next_arc : (arcs : List Arc) (i : ℕ) (arc : Arc) → AllByRecursion kind.IsArc arcs → i < length arcs
       → arc ≡ get_or arcs i arc → kind.IsArc arc
-  next_arc arcs i arc a h is = subst kind.IsArc (sym is) (all_get kind.IsArc arcs i arc h a)
+  next_arc arcs i arc a h is = rw is (all_get kind.IsArc arcs i arc h a)
 
   -- a bundle that represents the arcs so far, and the next arc
   module _ (arcs listed : List Arc) (i : ℕ) (arc : Arc) (a : AllByRecursion kind.IsArc arcs) (h : i < length arcs)
@@ -61,9 +60,7 @@ module _ {Arc : Type 0} (kind : ArcKind Arc) (laws : IsKind kind) where
         ∙ ap (λ x. take i arcs ++ x ∷ []) (sym is)
 
     both_same : kind.Same (listed ++ arc ∷ []) (take (i + 1) arcs)
-    both_same =
-        subst (kind.Same (listed ++ arc ∷ [])) (sym next_is)
-        (same_push kind.Same laws.meaning listed (take i arcs) arc same)
+    both_same = rw next_is (same_push kind.Same laws.meaning listed (take i arcs) arc same)
 
     pub next_same : (new : List Arc) → kind.Same new (listed ++ arc ∷ []) → kind.Same new (take (i + 1) arcs)
     next_same new s = laws.meaning.same_trans _ _ _ s both_same
@@ -77,18 +74,17 @@ module _ {Arc : Type 0} (kind : ArcKind Arc) (laws : IsKind kind) where
         → kind.capacity (take (i + 1) arcs) ≤ℤ pos (2 ^ 63 - 1)
     next_fits n =
         by_lt_z (pos (2 ^ 63 - 1)) (kind.capacity (take (i + 1) arcs))
-        (λ lt. absurd (n (subst (λ z. pos (2 ^ 63 - 1) <ℤ z) (sym next_cap) lt))) (λ le. le)
+        (λ lt. absurd (n (rw next_cap lt))) (λ le. le)
 
     pub too_much : pos (2 ^ 63 - 1) <ℤ kind.capacity (listed ++ arc ∷ []) → pos (2 ^ 63 - 1) <ℤ kind.capacity arcs
-    too_much m = let e = next_cap in let t = taken_cap arcs (i + 1) a in omega (arith, ints)
+    too_much m = omega (arith, ints, taken_cap arcs (i + 1) a, next_cap)
 
 -- where there is no bundle, the capacities with one arc do not sum to more than 2^63-1 if that of the arc is not more
 pub fits_alone : {B Arc : Type 0} (bundle : BundleWords B Arc) (o : Option B) (arc : Arc) → o ≡ None
     → bundle.kind.capacity (arc ∷ []) ≤ℤ pos (2 ^ 63 - 1)
     → pos (2 ^ 63 - 1) <ℤ bundle.kind.capacity (listed_of (meant bundle) o ++ arc ∷ []) → ⊥
 fits_alone bundle o arc none fits more =
-    let alone : pos (2 ^ 63 - 1) <ℤ bundle.kind.capacity (arc ∷ []) =
-    subst (λ p. pos (2 ^ 63 - 1) <ℤ bundle.kind.capacity (listed_of (meant bundle) p ++ arc ∷ [])) none more in
+    let alone : pos (2 ^ 63 - 1) <ℤ bundle.kind.capacity (arc ∷ []) = rw none at more in
     omega (arith, ints)
 
 -- the arcs that a bundle lists may occur in a problem, and so may those of no bundle

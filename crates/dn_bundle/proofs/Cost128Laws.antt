@@ -1,9 +1,8 @@
 -- The sum, product, quotient and remainder that the code computes in 128 bits are those of integers.
-use Rattle.std.proofs.Common.{refl, ◌≡◌, ◌-◌, ◌^◌, sym, ap, ◌∙◌, arith, lit<, ℤ, pos, negsuc, ◌+ℤ◌, ◌*ℤ◌, ◌≤ℤ◌, ◌<ℤ◌, to_z, of_z, w64, subst}
+use Rattle.std.proofs.Common.{refl, ◌≡◌, ◌-◌, ◌^◌, ap, ◌∙◌, arith, lit<, ℤ, pos, negsuc, ◌+ℤ◌, ◌*ℤ◌, ◌≤ℤ◌, ◌<ℤ◌, to_z, of_z, w64, FitsSigned}
 use borrow.Author.Gap.{read_sfits}
 use Rattle.std.proofs.lemmas.Int.{ints, to_z-of_z, fits_signed_mul}
 use Rattle.std.specs.Int.{w128, int_div_euclid, int_rem_euclid, IsNonZero}
-use Rattle.std.specs.Int.RustNames.{FitsSigned}
 use Rattle.dn_arc.specs.State.Means.{IsMean, IsFloor}
 use Rattle.dn_arc.proofs.MeansLaws.{floor_of, each_fits, more_mean, cost_fits}
 
@@ -12,17 +11,17 @@ wide_fits : (x : ℤ) → FitsSigned w64 x → FitsSigned w128 x
 wide_fits x f = record { sfits = omega (arith, f.sfits) }
 
 pub narrowed : (x : ℤ) → FitsSigned w64 x → to_z w64 (of_z w64 (to_z w128 (of_z w128 x))) ≡ x
-narrowed x f = ap (λ y. to_z w64 (of_z w64 y)) (to_z-of_z w128 x (wide_fits x f)) ∙ to_z-of_z w64 x f
+narrowed x f = simp (to_z-of_z, wide_fits)
 
 pub widened : (x : ℤ) → FitsSigned w64 x → to_z w128 (of_z w128 (to_z w64 (of_z w64 x))) ≡ x
-widened x f = ap (λ y. to_z w128 (of_z w128 y)) (to_z-of_z w64 x f) ∙ to_z-of_z w128 x (wide_fits x f)
+widened x f = simp (to_z-of_z, wide_fits)
 
 -- the conversions of the code lose nothing
 pub widens : (x : ℤ) → FitsSigned w128 (to_z w64 (of_z w64 x))
 widens x = wide_fits _ (read_sfits w64 (of_z w64 x))
 
 pub narrows : (x : ℤ) → FitsSigned w64 x → FitsSigned w64 (to_z w128 (of_z w128 x))
-narrows x f = subst (FitsSigned w64) (sym (to_z-of_z w128 x (wide_fits x f))) f
+narrows x f = simp (to_z-of_z, wide_fits) f
 
 -- a divisor above 0 is neither 0 nor -1
 bits_some : (x : ℤ) → pos 0 <ℤ x → IsNonZero w128 x
@@ -39,9 +38,9 @@ pub divides : (units : ℤ) → FitsSigned w64 units → pos 0 <ℤ units
 divides units f some = rw (widened units f) (bits_some units some, bits_most units f some)
 
 pub rest_fits : (cost units each rest : ℤ) → FitsSigned w64 units → IsFloor cost units each rest → FitsSigned w64 rest
-rest_fits cost (pos u) each (pos r) f h = let high = h.high in record { sfits = omega (arith, ints, f.sfits) }
-rest_fits cost (negsuc u) each (pos r) f h = let high = h.high in absurd (omega (arith, ints))
-rest_fits cost units each (negsuc r) f h = let low = h.low in absurd (omega (arith, ints))
+rest_fits cost (pos u) each (pos r) f h = record { sfits = omega (arith, ints, f.sfits) }
+rest_fits cost (negsuc u) each (pos r) f h = absurd (omega (arith, ints))
+rest_fits cost units each (negsuc r) f h = absurd (omega (arith, ints))
 
 pub product_fits : (units cost : ℤ) → FitsSigned w64 units → FitsSigned w64 cost → FitsSigned w128 (units *ℤ cost)
 product_fits units cost f g =
@@ -57,7 +56,7 @@ more_fits all units cost before h k r f m =
 -- the range of a cost of units, and of this cost with that of one more unit
 pub mean_range : (cost units : ℤ) → pos 0 ≤ℤ units → units <ℤ pos (2 ^ 63 - 1) → IsMean cost units
     → (negsuc (2 ^ 126 - 1) ≤ℤ cost) × (cost ≤ℤ pos (2 ^ 126))
-mean_range cost (pos u) h k m = let low = m.least in let high = m.greatest in (omega (arith, ints), omega (arith, ints))
+mean_range cost (pos u) h k m = (omega (arith, ints), omega (arith, ints))
 mean_range cost (negsuc u) h k m = absurd (omega (arith, ints))
 
 range_fits : (x : ℤ) → negsuc (2 ^ 127 - 1) ≤ℤ x → x ≤ℤ pos (2 ^ 127 - 1) → FitsSigned w128 x
@@ -76,7 +75,7 @@ module _ (cost unit : ℤ) (h : negsuc (2 ^ 126 - 1) ≤ℤ cost) (k : cost ≤�
   sum_same = rw (to_z-of_z w128 cost (range_fits cost (omega (arith, ints)) (omega (arith, ints))), widened unit f) refl
 
   pub unit_fits : FitsSigned w128 (to_z w128 (of_z w128 cost) +ℤ to_z w128 (of_z w128 (to_z w64 (of_z w64 unit))))
-  unit_fits = subst (FitsSigned w128) (sym sum_same) (with_unit_fits cost unit h k f)
+  unit_fits = rw sum_same (with_unit_fits cost unit h k f)
 
   pub unit_is : to_z w128
       (of_z w128 (to_z w128 (of_z w128 cost) +ℤ to_z w128 (of_z w128 (to_z w64 (of_z w64 unit))))) ≡ cost +ℤ unit
@@ -92,8 +91,7 @@ module _ (units cost : ℤ) (fu : FitsSigned w64 units) (fc : FitsSigned w64 cos
       (of_z w128
       (to_z w128 (of_z w128 (to_z w64 (of_z w64 units))) *ℤ to_z w128
       (of_z w128 (to_z w64 (of_z w64 cost))))) ≡ units *ℤ cost
-  product_is =
-      rw (widened units fu, widened cost fc, to_z-of_z w128 (units *ℤ cost) (product_fits units cost fu fc)) refl
+  product_is = simp (to_z-of_z, wide_fits, product_fits)
 
 -- the sum with a product that the code computes
 module _ (all units cost : ℤ) (fa : FitsSigned w128 all) (fu : FitsSigned w64 units) (fc : FitsSigned w64 cost)
@@ -102,14 +100,7 @@ module _ (all units cost : ℤ) (fa : FitsSigned w128 all) (fu : FitsSigned w64 
       (to_z w128 (of_z w128 all) +ℤ to_z w128
       (of_z w128
       (to_z w128 (of_z w128 (to_z w64 (of_z w64 units))) *ℤ to_z w128 (of_z w128 (to_z w64 (of_z w64 cost))))))
-  operands_fit =
-      rw (
-        widened units fu,
-        widened cost fc,
-        to_z-of_z w128 all fa,
-        to_z-of_z w128 (units *ℤ cost)
-            (product_fits units cost fu fc),
-      ) fs
+  operands_fit = simp (to_z-of_z, wide_fits, product_fits) fs
 
   pub sum_is : to_z w128
       (of_z w128
@@ -117,24 +108,14 @@ module _ (all units cost : ℤ) (fa : FitsSigned w128 all) (fu : FitsSigned w64 
       (of_z w128
       (to_z w128 (of_z w128 (to_z w64 (of_z w64 units))) *ℤ to_z w128
       (of_z w128 (to_z w64 (of_z w64 cost))))))) ≡ all +ℤ (units *ℤ cost)
-  sum_is =
-      rw (
-        widened units fu,
-        widened cost fc,
-        to_z-of_z w128 all fa,
-        to_z-of_z w128 (units *ℤ cost)
-            (product_fits units cost fu fc),
-        to_z-of_z w128 (all +ℤ (units *ℤ cost)) fs,
-      ) refl
+  sum_is = simp (to_z-of_z, wide_fits, product_fits)
 
 -- the quotient and the remainder that the code computes
 module _ (cost units each : ℤ) (fa : FitsSigned w128 cost) (fu : FitsSigned w64 units) (h : pos 0 <ℤ units)
     (m : IsMean cost units)
     (e : each ≡ int_div_euclid (to_z w128 (of_z w128 cost)) (to_z w128 (of_z w128 (to_z w64 (of_z w64 units))))) where
   each_is : each ≡ int_div_euclid cost units
-  each_is =
-      e ∙ ap (λ a. int_div_euclid a (to_z w128 (of_z w128 (to_z w64 (of_z w64 units))))) (to_z-of_z w128 cost fa)
-      ∙ ap (int_div_euclid cost) (widened units fu)
+  each_is = simp (to_z-of_z, wide_fits) at e
 
   each_fit : FitsSigned w64 each
   each_fit = each_fits cost units each h m each_is
@@ -145,10 +126,7 @@ module _ (cost units each : ℤ) (fa : FitsSigned w128 cost) (fu : FitsSigned w6
   module _ (rest : ℤ)
       (r : rest ≡ int_rem_euclid (to_z w128 (of_z w128 cost)) (to_z w128 (of_z w128 (to_z w64 (of_z w64 units))))) where
     floor : IsFloor cost units each rest
-    floor =
-        floor_of cost units each rest h each_is
-        (r ∙ ap (λ a. int_rem_euclid a (to_z w128 (of_z w128 (to_z w64 (of_z w64 units))))) (to_z-of_z w128 cost fa)
-        ∙ ap (int_rem_euclid cost) (widened units fu))
+    floor = floor_of cost units each rest h each_is (simp (to_z-of_z, wide_fits) at r)
 
     rest_fit : FitsSigned w64 rest
     rest_fit = rest_fits cost units each rest fu floor
@@ -158,9 +136,7 @@ module _ (cost units each : ℤ) (fa : FitsSigned w128 cost) (fu : FitsSigned w6
 
     pub floor_is : IsFloor cost units (to_z w64 (of_z w64 (to_z w128 (of_z w128 each))))
         (to_z w64 (of_z w64 (to_z w128 (of_z w128 rest))))
-    floor_is =
-        subst (λ d. IsFloor cost units d (to_z w64 (of_z w64 (to_z w128 (of_z w128 rest)))))
-        (sym (narrowed each each_fit)) (subst (λ r. IsFloor cost units each r) (sym (narrowed rest rest_fit)) floor)
+    floor_is = rw (narrowed each each_fit, narrowed rest rest_fit) floor
 
 -- the quotient and the remainder that the code computes in 64 bits
 module _ (cost units small each rest : ℤ) (fa : FitsSigned w128 cost) (fu : FitsSigned w64 units) (h : pos 0 <ℤ units)
@@ -169,23 +145,16 @@ module _ (cost units small each rest : ℤ) (fa : FitsSigned w128 cost) (fu : Fi
     (e : each ≡ int_div_euclid (to_z w64 (of_z w64 small)) (to_z w64 (of_z w64 units)))
     (r : rest ≡ int_rem_euclid (to_z w64 (of_z w64 small)) (to_z w64 (of_z w64 units))) where
   small_is : to_z w64 (of_z w64 small) ≡ cost
-  small_is =
-      ap (λ z. to_z w64 (of_z w64 z)) is ∙ to_z-of_z w64 (to_z w128 (of_z w128 cost)) fits ∙ to_z-of_z w128 cost fa
+  small_is = rw (is, to_z-of_z w64 (to_z w128 (of_z w128 cost)) fits) (to_z-of_z w128 cost fa)
 
   small_each : each ≡ int_div_euclid cost units
-  small_each =
-      e ∙ ap (λ a. int_div_euclid a (to_z w64 (of_z w64 units))) small_is
-      ∙ ap (int_div_euclid cost) (to_z-of_z w64 units fu)
+  small_each = rw (small_is, to_z-of_z w64 units fu) at e
 
   small_floor : IsFloor cost units each rest
-  small_floor =
-      floor_of cost units each rest h small_each
-      (r ∙ ap (λ a. int_rem_euclid a (to_z w64 (of_z w64 units))) small_is
-      ∙ ap (int_rem_euclid cost) (to_z-of_z w64 units fu))
+  small_floor = floor_of cost units each rest h small_each (rw (small_is, to_z-of_z w64 units fu) at r)
 
   pub small_floor_is : IsFloor cost units (to_z w64 (of_z w64 each)) (to_z w64 (of_z w64 rest))
   small_floor_is =
-      subst (λ d. IsFloor cost units d (to_z w64 (of_z w64 rest)))
-      (sym (to_z-of_z w64 each (each_fits cost units each h m small_each)))
-      (subst (λ r. IsFloor cost units each r)
-      (sym (to_z-of_z w64 rest (rest_fits cost units each rest fu small_floor))) small_floor)
+      let fe = each_fits cost units each h m small_each in
+      let fr = rest_fits cost units each rest fu small_floor in
+      simp to_z-of_z small_floor

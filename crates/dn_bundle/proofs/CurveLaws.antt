@@ -1,10 +1,8 @@
 -- The arcs that a curve lists in form 1 are its fixed arcs, whose LOW is above 0, and then the arcs of its breakpoints.
 -- They determine how many entries the curve makes. The curve means the same as no arcs exactly if its capacity is 0.
-use Rattle.std.proofs.Common.{◌≡◌, ℕ, ◌+◌, ℤ, pos, ◌+ℤ◌, ◌<ℤ◌, List, [], ◌∷◌, ◌++◌, map, filter, length, refl, sym, ap, ◌∙◌, subst, arith, w64, of_z, cond, not}
-use Rattle.std.specs.Int.RustNames.{FitsSigned, int_lt}
-use Rattle.std.specs.Int.{int_div_euclid, int_rem_euclid}
+use Rattle.std.proofs.Common.{◌≡◌, ℕ, ◌+◌, ℤ, pos, ◌<ℤ◌, List, [], ◌∷◌, ◌++◌, map, filter, length, refl, sym, ap, ◌∙◌, arith, w64, of_z, cond, FitsSigned, int_lt}
 use Rattle.std.specs.List.{AllByRecursion}
-use Rattle.std.proofs.lemmas.Int.{ints}
+use Rattle.std.proofs.lemmas.Int.{ints, by_lt_z}
 use Rattle.dn_arc.specs.declared.arc.CostArc.{CostArc}
 use Rattle.dn_arc.specs.declared.arc.Form.TheVariants.{One}
 use Rattle.dn_arc.specs.Meanings.{SameCurve}
@@ -12,9 +10,9 @@ use Rattle.dn_arc.specs.Canonical.{IsFixedArc, has_low}
 use Rattle.dn_arc.specs.Entries.{cost_entries, free_costs}
 use Rattle.dn_arc.specs.State.Fillings.{room}
 use Rattle.dn_arc.specs.State.Steps.{put_step, AreSteps, steps_room}
-use Rattle.dn_arc.specs.State.CurveListed.{step_arc, spread_arcs, fixed_arcs, listed, IsSound, is_free}
+use Rattle.dn_arc.specs.State.CurveListed.{step_arc, fixed_arcs, listed, IsSound, is_free}
 use Rattle.dn_arc.proofs.CurvesLaws.{curve_meaning, cost_cap_same}
-use Rattle.dn_arc.proofs.PartsLaws.{by_test, test_yes, test_no}
+use Rattle.dn_arc.proofs.PartsLaws.{test_yes, test_no}
 use Rattle.dn_arc.proofs.StepArcsLaws.{steps_some}
 use Rattle.dn_arc.proofs.CanonsLaws.{arc_steps, count_costs, entries_are}
 use Rattle.dn_arc.proofs.ListedLaws.{carried, listed_units, steps_low}
@@ -23,7 +21,7 @@ use Rattle.dn_bundle.proofs.FixedLaws.{is_zero, not_zero}
 
 steps_free : (steps : List (ℤ × ℤ)) → filter is_free (map step_arc steps) ≡ map step_arc steps
 steps_free [] = refl
-steps_free (step ∷ rest) = ap (λ l. step_arc step ∷ l) (steps_free rest)
+steps_free (step ∷ rest) = rw (steps_free rest)
 
 -- of fixed arcs and the arcs of breakpoints, the fixed arcs are those with LOW above 0
 record AreApart (fixed : List CostArc) (steps : List (ℤ × ℤ)) : Type 0 where
@@ -33,45 +31,26 @@ record AreApart (fixed : List CostArc) (steps : List (ℤ × ℤ)) : Type 0 wher
 fixed_apart : (fixed : List CostArc) (steps : List (ℤ × ℤ)) → AllByRecursion IsFixedArc fixed → AreApart fixed steps
 fixed_apart [] steps f = record { low = steps_low steps; free = steps_free steps }
 fixed_apart (a ∷ fixed) steps f =
-    let some = f.0.some in
     let i = fixed_apart fixed steps f.1 in
     let t = test_yes (pos 0) a.low (omega (arith, ints)) in
-    record {
-      low =
-          ap (λ b. cond b (a ∷ filter has_low (fixed ++ map step_arc steps))
-          (filter has_low (fixed ++ map step_arc steps))) t ∙ ap (λ l. a ∷ l) i.low;
-      free =
-          ap (λ b. cond (not b) (a ∷ filter is_free (fixed ++ map step_arc steps))
-          (filter is_free (fixed ++ map step_arc steps))) t ∙ i.free;
-    }
+    record { low = rw (t, i.low); free = rw t i.free }
 
 put_first : (step : ℤ × ℤ) (rest : List (ℤ × ℤ)) → AllByRecursion (λ (other : ℤ × ℤ). step.0 <ℤ other.0) rest
     → put_step rest step ≡ step ∷ rest
 put_first step [] h = refl
-put_first step (other ∷ rest) h =
-    ap (λ b. cond b (step ∷ other ∷ rest)
-    (cond (int_lt other.0 step.0) (other ∷ put_step rest step) ((other.0, other.1 +ℤ step.1) ∷ rest)))
-    (test_yes step.0 other.0 h.0)
+put_first step (other ∷ rest) h = rw (test_yes step.0 other.0 h.0)
 
 -- the breakpoints of the arcs of breakpoints are the breakpoints themselves
 steps_back : (steps : List (ℤ × ℤ)) → AreSteps steps → arc_steps (map step_arc steps) ≡ steps
 steps_back [] s = refl
 steps_back (step ∷ rest) s =
-    let some = s.0 in
-    ap (λ b. cond b (put_step (arc_steps (map step_arc rest)) (step.0, room (step_arc step)))
-    (arc_steps (map step_arc rest))) (test_yes (pos 0) step.1 (omega (arith, ints)))
-    ∙ ap (λ l. put_step l (step.0, room (step_arc step))) (steps_back rest s.2)
-    ∙ ap (λ z. put_step rest (step.0, z)) (let e : room (step_arc step) ≡ step.1 = omega (arith, ints) in e)
-    ∙ put_first step rest s.1
+    let same : room (step_arc step) ≡ step.1 = omega (arith, ints) in
+    rw (test_yes (pos 0) step.1 (omega (arith, ints)), steps_back rest s.2, same) (put_first step rest s.1)
 
 fixed_back : (fixed : List CostArc) (steps : List (ℤ × ℤ)) → AllByRecursion IsFixedArc fixed
     → arc_steps (fixed ++ map step_arc steps) ≡ arc_steps (map step_arc steps)
 fixed_back [] steps f = refl
-fixed_back (a ∷ fixed) steps f =
-    let full = f.0.full in
-    ap (λ b. cond b (put_step (arc_steps (fixed ++ map step_arc steps)) (a.cost, room a))
-    (arc_steps (fixed ++ map step_arc steps))) (test_no a.low a.cap (omega (arith, ints)))
-    ∙ fixed_back fixed steps f.1
+fixed_back (a ∷ fixed) steps f = rw (test_no a.low a.cap (omega (arith, ints))) (fixed_back fixed steps f.1)
 
 -- the numbers of a curve
 module _ (units cost total : ℤ) (steps : List (ℤ × ℤ)) (s : IsSound units cost total steps) where
@@ -98,26 +77,19 @@ module _ (units cost total : ℤ) (steps : List (ℤ × ℤ)) (s : IsSound units
 
   pub entries_listed : cost_entries (listed One units cost steps) ≡ cond (int_lt (pos 0) units) 1 0 + length steps
   entries_listed =
-      entries_are (listed One units cost steps) (sound_arcs units cost total steps s One)
-      ∙ ap (λ z. cond (int_lt (pos 0) z) 1 0 + length (arc_steps (listed One units cost steps)))
-      (listed_units units cost steps s.some (none_is units cost total steps s) s.rising)
-      ∙ ap (λ l. cond (int_lt (pos 0) units) 1 0 + length l) steps_listed
+      let u = listed_units units cost steps s.some (none_is units cost total steps s) s.rising in
+      rw (entries_are (listed One units cost steps) (sound_arcs units cost total steps s One), u, steps_listed)
 
   nothing_there : total ≡ pos 0 → SameCurve (listed One units cost steps) []
   nothing_there e =
-      let whole = s.whole in
-      let some = s.some in
       let left = steps_some steps s.rising in
       let rooms : steps_room steps ≡ pos 0 = omega (arith, ints) in
-      by_test (λ (l : List CostArc). SameCurve (l ++ map step_arc steps) []) (pos 0) units
-      (spread_arcs units (int_div_euclid cost units) (int_rem_euclid cost units)) []
-      (λ lt. absurd (omega (arith, ints)))
-      (λ le. subst (λ l. SameCurve l []) (sym (ap (map step_arc) (no_steps steps s.rising rooms)))
-      (curve_meaning.same_refl []))
+      by_lt_z (pos 0) units (λ lt. absurd (omega (arith, ints)))
+      (λ le. rw (test_no (pos 0) units le, no_steps steps s.rising rooms) (curve_meaning.same_refl []))
     where
       no_steps : (steps : List (ℤ × ℤ)) → AreSteps steps → steps_room steps ≡ pos 0 → steps ≡ []
       no_steps [] r e = refl
-      no_steps (step ∷ rest) r e = let some = r.0 in let left = steps_some rest r.2 in absurd (omega (arith, ints))
+      no_steps (step ∷ rest) r e = let left = steps_some rest r.2 in absurd (omega (arith, ints))
 
   nothing_back : SameCurve (listed One units cost steps) [] → total ≡ pos 0
   nothing_back m =
@@ -132,12 +104,11 @@ module _ (units cost total : ℤ) (steps : List (ℤ × ℤ)) (s : IsSound units
 
   pub entries_code : (n len : ℕ) → n ≡ cond (int_lt (pos 0) units) 1 0 → len ≡ length steps
       → n + len ≡ cost_entries (listed One units cost steps)
-  entries_code n len e f = ap (λ z. z + len) e ∙ ap (λ z. cond (int_lt (pos 0) units) 1 0 + z) f ∙ sym entries_listed
+  entries_code n len e f = rw (e, f) (sym entries_listed)
 
   pub none_forced : (n : ℕ) → n ≡ 0 → FitsSigned w64 units → of_z w64 units ≡ 0 → n ≡ cond (int_lt (pos 0) units) 1 0
-  none_forced n e f z = let u = is_zero units f z in
-      e ∙ sym (ap (λ b. cond b 1 0) (test_no (pos 0) units (omega (arith, ints))))
+  none_forced n e f z = rw (test_no (pos 0) units (omega (arith, ints, is_zero units f z))) e
 
   pub some_forced : (n : ℕ) → n ≡ 1 → FitsSigned w64 units → (of_z w64 units ≡ 0 → ⊥)
       → n ≡ cond (int_lt (pos 0) units) 1 0
-  some_forced n e f z = e ∙ sym (ap (λ b. cond b 1 0) (test_yes (pos 0) units (not_zero units f z s.some)))
+  some_forced n e f z = rw (test_yes (pos 0) units (not_zero units f z s.some)) e

@@ -1,7 +1,6 @@
 -- The fixed arcs that the code makes from the quotient and the remainder of the forced cost are those of the
 -- definition.
-use Rattle.std.proofs.Common.{◌≡◌, ℤ, pos, negsuc, ◌+ℤ◌, ◌-ℤ◌, ◌≤ℤ◌, ◌<ℤ◌, [], ◌∷◌, ◌-◌, ◌^◌, refl, sym, ap, ◌∙◌, subst, arith, w64, to_z, of_z, cond}
-use Rattle.std.specs.Int.RustNames.{FitsSigned}
+use Rattle.std.proofs.Common.{◌≡◌, ℤ, pos, negsuc, ◌+ℤ◌, ◌-ℤ◌, ◌≤ℤ◌, ◌<ℤ◌, [], ◌∷◌, ◌-◌, ◌^◌, sym, ap, ◌∙◌, arith, w64, to_z, of_z, FitsSigned}
 use Rattle.std.proofs.lemmas.Int.{ints, to_z-of_z}
 use Rattle.dn_arc.specs.State.Means.{IsMean, IsFloor}
 use Rattle.dn_arc.proofs.MeansLaws.{fits_some, each_next}
@@ -32,7 +31,7 @@ fits_less (pos u) (negsuc r) f h g = absurd (omega (arith, ints))
 
 -- without forced units there are no fixed arcs
 pub none_fixed : (units cost : ℤ) → FitsSigned w64 units → of_z w64 units ≡ 0 → [] ≡ fixed_arcs units cost
-none_fixed units cost f h = subst (λ z. [] ≡ fixed_arcs z cost) (sym (is_zero units f h)) refl
+none_fixed units cost f h = rw (is_zero units f h)
 
 -- the fixed arcs that the code makes
 module _ (units cost each rest : ℤ) (fu : FitsSigned w64 units) (fe : FitsSigned w64 each) (fr : FitsSigned w64 rest)
@@ -40,12 +39,9 @@ module _ (units cost each rest : ℤ) (fu : FitsSigned w64 units) (fe : FitsSign
   lower_fits : FitsSigned w64 (units -ℤ rest)
   lower_fits = fits_less units rest fu f.low f.high
 
-  lower_is : to_z w64 (of_z w64 units) -ℤ to_z w64 (of_z w64 rest) ≡ units -ℤ rest
-  lower_is = rw (to_z-of_z w64 units fu, to_z-of_z w64 rest fr) refl
-
   -- the count of units at the lower cost fits 64 bits
   pub less_fits : FitsSigned w64 (to_z w64 (of_z w64 units) -ℤ to_z w64 (of_z w64 rest))
-  less_fits = subst (FitsSigned w64) (sym lower_is) lower_fits
+  less_fits = simp to_z-of_z lower_fits
 
   -- the lower cost plus one fits 64 bits
   pub each_below : IsMean cost units → (of_z w64 rest ≡ 0 → ⊥) → to_z w64 (of_z w64 each) <ℤ pos (2 ^ 63 - 1)
@@ -56,11 +52,7 @@ module _ (units cost each rest : ℤ) (fu : FitsSigned w64 units) (fe : FitsSign
   one_fixed z =
       let lt = not_zero units fu nonzero some in
       let e = is_zero rest fr z in
-      ap (λ u. fixed_arc u (to_z w64 (of_z w64 each)) ∷ []) (to_z-of_z w64 units fu)
-      ∙ ap (λ p. fixed_arc units p ∷ []) (to_z-of_z w64 each fe)
-      ∙ ap (λ b. cond b (fixed_arc (units -ℤ rest) each ∷ fixed_arc rest (each +ℤ pos 1) ∷ [])
-      (fixed_arc units each ∷ [])) (sym (test_no (pos 0) rest (omega (arith, ints))))
-      ∙ floor_arcs units cost each rest lt f
+      simp to_z-of_z (rw (test_no (pos 0) rest (omega (arith, ints))) at (floor_arcs units cost each rest lt f))
 
   pub two_fixed : (of_z w64 rest ≡ 0 → ⊥)
       → fixed_arc (to_z w64 (of_z w64 (to_z w64 (of_z w64 units) -ℤ to_z w64 (of_z w64 rest))))
@@ -69,15 +61,8 @@ module _ (units cost each rest : ℤ) (fu : FitsSigned w64 units) (fe : FitsSign
   two_fixed z =
       let lt = not_zero units fu nonzero some in
       let left = not_zero rest fr z f.low in
-      let e2 = ap (λ z. to_z w64 (of_z w64 z)) lower_is ∙ to_z-of_z w64 (units -ℤ rest) lower_fits in
-      ap (λ u. fixed_arc u (to_z w64 (of_z w64 each)) ∷ fixed_arc (to_z w64 (of_z w64 rest))
-      (to_z w64 (of_z w64 each) +ℤ pos 1) ∷ []) e2
-      ∙ ap (λ p. fixed_arc (units -ℤ rest) p ∷ fixed_arc (to_z w64 (of_z w64 rest)) (p +ℤ pos 1) ∷ [])
-      (to_z-of_z w64 each fe)
-      ∙ ap (λ r. fixed_arc (units -ℤ rest) each ∷ fixed_arc r (each +ℤ pos 1) ∷ []) (to_z-of_z w64 rest fr)
-      ∙ ap (λ b. cond b (fixed_arc (units -ℤ rest) each ∷ fixed_arc rest (each +ℤ pos 1) ∷ [])
-      (fixed_arc units each ∷ [])) (sym (test_yes (pos 0) rest left))
-      ∙ floor_arcs units cost each rest lt f
+      let fits = lower_fits in
+      simp to_z-of_z (rw (test_yes (pos 0) rest left) at (floor_arcs units cost each rest lt f))
 
 pub zero_is : (z : ℤ) → z ≡ pos 0 → of_z w64 z ≡ 0
 zero_is z e = ap (of_z w64) e

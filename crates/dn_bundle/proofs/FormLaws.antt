@@ -1,10 +1,9 @@
 -- The first canonical arc of a curve and the arc after each, in form 1 and in form 2, by its fixed arcs and its
 -- breakpoints. If a fixed arc and a breakpoint make one arc, its capacity fits 64 bits.
-use Rattle.std.proofs.Common.{◌≡◌, ℕ, suc, zero, ◌+◌, ◌-◌, ◌^◌, ◌≤◌, ℤ, pos, ◌+ℤ◌, ◌≤ℤ◌, ◌<ℤ◌, Bool, true, false, List, [], ◌∷◌, ◌++◌, map, find, slice_get, Option, Some, None, refl, sym, ap, ◌∙◌, subst, arith, cond, w64, to_z, of_z}
-use Rattle.std.specs.Int.RustNames.{FitsSigned, int_lt}
+use Rattle.std.proofs.Common.{◌≡◌, ℕ, suc, zero, ◌+◌, ◌-◌, ◌^◌, ◌≤◌, ℤ, pos, ◌+ℤ◌, ◌≤ℤ◌, ◌<ℤ◌, Bool, true, false, List, [], ◌∷◌, ◌++◌, map, find, slice_get, Option, Some, None, refl, sym, ap, ◌∙◌, subst, arith, inl, inr, w64, to_z, of_z, FitsSigned, int_lt, option_map, unwrap_or}
 use Rattle.std.specs.List.{AllByRecursion}
-use Rattle.std.specs.Option.{option_map, unwrap_or}
 use Rattle.std.specs.Int.Signed.{≤ℤ_refl}
+use Rattle.std.proofs.lemmas.Bool.{cases_Bool}
 use Rattle.std.proofs.lemmas.Int.{ints, by_lt_z, to_z-of_z}
 use Rattle.dn_arc.specs.declared.arc.CostArc.{CostArc}
 use Rattle.dn_arc.specs.declared.arc.Form.TheVariants.{One, Two}
@@ -14,31 +13,26 @@ use Rattle.dn_arc.specs.State.Steps.{step_past, AreSteps, steps_room}
 use Rattle.dn_arc.specs.State.CurveListed.{fixed_arc, step_arc, fixed_arcs, join_arc, join_arcs, joined_head, listed, IsSound}
 use Rattle.dn_arc.proofs.FormsLaws.{AreAbove, AreFixed}
 use Rattle.dn_arc.proofs.PartsLaws.{test_yes, test_no}
-use Rattle.dn_arc.proofs.MeansLaws.{fits_some}
+use Rattle.dn_arc.proofs.MeansLaws.{fits_some, fits_next}
 use Rattle.dn_arc.proofs.StepArcsLaws.{free_arcs, steps_some}
 use Rattle.dn_arc.proofs.JoinsLaws.{joined}
 use Rattle.dn_arc.proofs.ListedLaws.{Carries, carried, listed_two}
 use Rattle.dn_arc.proofs.SoundLaws.{none_is}
-use Rattle.dn_bundle.proofs.StepLaws.{less, not_less, next_is}
+use Rattle.dn_bundle.proofs.StepLaws.{less, not_less}
 
 -- the first arc above a cost
 abbrev pub arc_past : ℤ → List CostArc → Option CostArc
 arc_past c arcs = find (λ (b : CostArc). int_lt c b.cost) arcs
 
 past_yes : (c : ℤ) (a : CostArc) (rest : List CostArc) → c <ℤ a.cost → arc_past c (a ∷ rest) ≡ Some a
-past_yes c a rest h = ap (λ t. cond t (Some a) (arc_past c rest)) (test_yes c a.cost h)
+past_yes c a rest h = rw test_yes
 
 past_no : (c : ℤ) (a : CostArc) (rest : List CostArc) → a.cost ≤ℤ c → arc_past c (a ∷ rest) ≡ arc_past c rest
-past_no c a rest h = ap (λ t. cond t (Some a) (arc_past c rest)) (test_no c a.cost h)
+past_no c a rest h = rw test_no
 
 -- the fixed arc that the code makes
 abbrev pub made_arc : ℤ → ℤ → CostArc
 made_arc units cost = fixed_arc (to_z w64 (of_z w64 units)) (to_z w64 (of_z w64 cost))
-
-made_is : (units cost : ℤ) → FitsSigned w64 units → FitsSigned w64 cost → made_arc units cost ≡ fixed_arc units cost
-made_is units cost f g =
-    ap (λ z. fixed_arc z (to_z w64 (of_z w64 cost))) (to_z-of_z w64 units f)
-    ∙ ap (fixed_arc units) (to_z-of_z w64 cost g)
 
 -- the first fixed arc above a cost, by the comparisons of the code
 module _ (c cost : ℤ) (f : FitsSigned w64 c) (fc : FitsSigned w64 cost) where
@@ -46,12 +40,12 @@ module _ (c cost : ℤ) (f : FitsSigned w64 c) (fc : FitsSigned w64 cost) where
       → int_lt (to_z w64 (of_z w64 c)) (to_z w64 (of_z w64 cost)) ≡ true → FitsSigned w64 units
       → Some (made_arc units cost) ≡ arc_past c arcs
   past_first units rest arcs e h fu =
-      ap Some (made_is units cost fu fc) ∙ sym (past_yes c (fixed_arc units cost) rest (less c cost f fc h))
-      ∙ ap (arc_past c) e
+      let lt = less c cost f fc h in
+      simp to_z-of_z (rw (← e, test_yes c cost lt))
 
   pub past_one : (units : ℤ) (arcs : List CostArc) → fixed_arc units cost ∷ [] ≡ arcs
       → int_lt (to_z w64 (of_z w64 c)) (to_z w64 (of_z w64 cost)) ≡ false → None ≡ arc_past c arcs
-  past_one units arcs e h = sym (past_no c (fixed_arc units cost) [] (not_less c cost f fc h)) ∙ ap (arc_past c) e
+  past_one units arcs e h = rw (← e, test_no c cost (not_less c cost f fc h))
 
   module _ (units above : ℤ) (arcs : List CostArc)
       (e : fixed_arc units cost ∷ fixed_arc above (cost +ℤ pos 1) ∷ [] ≡ arcs)
@@ -59,34 +53,27 @@ module _ (c cost : ℤ) (f : FitsSigned w64 c) (fc : FitsSigned w64 cost) where
     le : cost ≤ℤ c
     le = not_less c cost f fc h
 
-    past_lower : arc_past c (fixed_arc above (cost +ℤ pos 1) ∷ []) ≡ arc_past c arcs
-    past_lower = sym (past_no c (fixed_arc units cost) (fixed_arc above (cost +ℤ pos 1) ∷ []) le) ∙ ap (arc_past c) e
-
     pub past_second : of_z w64 c ≡ of_z w64 cost → cost <ℤ pos (2 ^ 63 - 1) → FitsSigned w64 above
         → Some
         (fixed_arc (to_z w64 (of_z w64 above))
         (to_z w64 (of_z w64 (to_z w64 (of_z w64 cost) +ℤ pos 1)))) ≡ arc_past c arcs
     past_second same next fa =
         let at : c ≡ cost = sym (to_z-of_z w64 c f) ∙ ap (to_z w64) same ∙ to_z-of_z w64 cost fc in
-        ap (λ z. Some (fixed_arc (to_z w64 (of_z w64 above)) z)) (next_is cost fc next)
-        ∙ ap (λ z. Some (fixed_arc z (cost +ℤ pos 1))) (to_z-of_z w64 above fa)
-        ∙ sym (past_yes c (fixed_arc above (cost +ℤ pos 1)) [] (omega (arith, ints))) ∙ past_lower
+        let lower = fits_next cost fc next in
+        simp to_z-of_z (rw (← e, test_no c cost le, test_yes c (cost +ℤ pos 1) (omega (arith, ints))))
 
     pub past_both : (of_z w64 c ≡ of_z w64 cost → ⊥) → None ≡ arc_past c arcs
     past_both n =
-        let up : cost <ℤ c =
-        by_lt_z cost c (λ lt. lt)
+        let up : (cost +ℤ pos 1) ≤ℤ c =
+        by_lt_z cost c (λ lt. omega (arith, ints))
         (λ ge. absurd (n (ap (of_z w64) (let at : c ≡ cost = omega (arith, ints) in at)))) in
-        sym (past_no c (fixed_arc above (cost +ℤ pos 1)) [] (omega (arith, ints))) ∙ past_lower
+        rw (← e, test_no c cost le, test_no c (cost +ℤ pos 1) up)
 
 -- the first arc of breakpoints above a cost
 pub past_steps : (steps : List (ℤ × ℤ)) (c : ℤ)
     → arc_past c (map step_arc steps) ≡ option_map step_arc (step_past steps c)
 past_steps [] c = refl
-past_steps (step ∷ rest) c =
-    elim (int_lt c step.0) as
-    (λ v. cond v (Some (step_arc step)) (arc_past c (map step_arc rest)) ≡ option_map step_arc
-    (cond v (Some step) (step_past rest c))) [ true ↦ refl | false ↦ past_steps rest c ]
+past_steps (step ∷ rest) c = elim (cases_Bool (int_lt c step.0)) [ inl t ↦ rw t | inr t ↦ rw t (past_steps rest c) ]
 
 pub first_step : (steps : List (ℤ × ℤ)) → slice_get (map step_arc steps) 0 ≡ option_map step_arc (slice_get steps 0)
 first_step [] = refl
@@ -95,50 +82,40 @@ first_step (step ∷ rest) = refl
 -- joining a free arc adds nothing to LOW
 none_more : (a : CostArc) (step : ℤ × ℤ)
     → joined a (step_arc step) ≡ record { low = a.low; cap = a.cap +ℤ step.1; cost = step.0 }
-none_more a step =
-    let with_low : ℤ → CostArc = λ z. record { low = z; cap = a.cap +ℤ step.1; cost = step.0 } in
-    ap with_low (let e : a.low +ℤ pos 0 ≡ a.low = omega (arith, ints) in e)
+none_more a step = let e : a.low +ℤ pos 0 ≡ a.low = omega (arith, ints) in rw e
 
 -- the place of a fixed arc that is inserted
 module _ (a b : CostArc) (rest : List CostArc) where
-  abbrev tests : Bool → Bool → List CostArc
-  tests s t = cond s (a ∷ b ∷ rest) (cond t (b ∷ join_arc a rest) (joined a b ∷ rest))
-
   pub join_before : a.cost <ℤ b.cost → join_arc a (b ∷ rest) ≡ a ∷ b ∷ rest
-  join_before h = ap (λ s. tests s (int_lt b.cost a.cost)) (test_yes a.cost b.cost h)
+  join_before h = simp test_yes
 
   pub join_past : b.cost <ℤ a.cost → join_arc a (b ∷ rest) ≡ b ∷ join_arc a rest
-  join_past h = let le : b.cost ≤ℤ a.cost = omega (arith, ints) in
-      ap (λ s. tests s (int_lt b.cost a.cost)) (test_no a.cost b.cost le) ∙ ap (tests false) (test_yes b.cost a.cost h)
+  join_past h = let le : b.cost ≤ℤ a.cost = omega (arith, ints) in simp (test_no, test_yes)
 
   pub join_at : a.cost ≡ b.cost → join_arc a (b ∷ rest) ≡ joined a b ∷ rest
   join_at h =
       let le : b.cost ≤ℤ a.cost = omega (arith, ints) in
       let ge : a.cost ≤ℤ b.cost = omega (arith, ints) in
-      ap (λ s. tests s (int_lt b.cost a.cost)) (test_no a.cost b.cost le) ∙ ap (tests false) (test_no b.cost a.cost ge)
+      simp test_no
 
 module _ (a b : CostArc) where
-  abbrev heads : Bool → Bool → CostArc
-  heads s t = cond s b (cond t a (joined a b))
-
   head_past : b.cost <ℤ a.cost → joined_head a (Some b) ≡ b
-  head_past h = ap (λ s. heads s (int_lt a.cost b.cost)) (test_yes b.cost a.cost h)
+  head_past h = simp test_yes
 
   head_before : a.cost <ℤ b.cost → joined_head a (Some b) ≡ a
-  head_before h = let le : a.cost ≤ℤ b.cost = omega (arith, ints) in
-      ap (λ s. heads s (int_lt a.cost b.cost)) (test_no b.cost a.cost le) ∙ ap (heads false) (test_yes a.cost b.cost h)
+  head_before h = let le : a.cost ≤ℤ b.cost = omega (arith, ints) in simp (test_no, test_yes)
 
   head_at : a.cost ≡ b.cost → joined_head a (Some b) ≡ joined a b
   head_at h =
       let le : b.cost ≤ℤ a.cost = omega (arith, ints) in
       let ge : a.cost ≤ℤ b.cost = omega (arith, ints) in
-      ap (λ s. heads s (int_lt a.cost b.cost)) (test_no b.cost a.cost ge) ∙ ap (heads false) (test_no a.cost b.cost le)
+      simp test_no
 
 -- the first of a fixed arc and the free capacity, by the comparisons of the code
 module _ (a : CostArc) (free : Option (ℤ × ℤ)) (step : ℤ × ℤ) (is : free ≡ Some step) (fa : FitsSigned w64 a.cost)
     (fs : FitsSigned w64 step.0) where
   head_is : (b : CostArc) → joined_head a (Some (step_arc step)) ≡ b → b ≡ joined_head a (option_map step_arc free)
-  head_is b e = sym (ap (λ o. joined_head a (option_map step_arc o)) is ∙ e)
+  head_is b e = rw (is, e)
 
   pub free_head : int_lt (to_z w64 (of_z w64 step.0)) (to_z w64 (of_z w64 a.cost)) ≡ true
       → step_arc step ≡ joined_head a (option_map step_arc free)
@@ -151,25 +128,16 @@ module _ (a : CostArc) (free : Option (ℤ × ℤ)) (step : ℤ × ℤ) (is : fr
     same_cost = sym (to_z-of_z w64 a.cost fa) ∙ ap (to_z w64) (sym same) ∙ to_z-of_z w64 step.0 fs
 
     pub both_fit : FitsSigned w64 (to_z w64 (of_z w64 a.cap) +ℤ to_z w64 (of_z w64 step.1))
-    both_fit = rw (to_z-of_z w64 a.cap fr, to_z-of_z w64 step.1 fc) (fits step is same_cost)
+    both_fit = simp to_z-of_z (fits step is same_cost)
 
     pub both_head : record {
       low = to_z w64 (of_z w64 a.low);
-      cap =
-          to_z w64 (of_z w64 (to_z w64 (of_z w64 a.cap) +ℤ to_z w64 (of_z w64 step.1)));
-      cost =
-          to_z w64 (of_z w64 step.0);
+      cap = to_z w64 (of_z w64 (to_z w64 (of_z w64 a.cap) +ℤ to_z w64 (of_z w64 step.1)));
+      cost = to_z w64 (of_z w64 step.0);
     } ≡ joined_head a (option_map step_arc free)
     both_head =
-        head_is _
-        (head_at a (step_arc step) same_cost ∙ rw (
-          to_z-of_z w64 a.low fl,
-          to_z-of_z w64 a.cap fr,
-          to_z-of_z w64 step.1 fc,
-          to_z-of_z w64 (a.cap +ℤ step.1)
-              (fits step is same_cost),
-          to_z-of_z w64 step.0 fs,
-        ) (none_more a step))
+        let sum = fits step is same_cost in
+        head_is _ (head_at a (step_arc step) same_cost ∙ simp to_z-of_z (none_more a step))
 
   pub fixed_head : int_lt (to_z w64 (of_z w64 step.0)) (to_z w64 (of_z w64 a.cost)) ≡ false
       → (of_z w64 step.0 ≡ of_z w64 a.cost → ⊥) → a ≡ joined_head a (option_map step_arc free)
@@ -186,10 +154,9 @@ join_first : (a : CostArc) (arcs : List CostArc)
     → slice_get (join_arc a arcs) 0 ≡ Some (joined_head a (slice_get arcs 0))
 join_first a [] = refl
 join_first a (b ∷ rest) =
-    by_order a.cost b.cost
-    (λ lt. ap (λ l. slice_get l 0) (join_before a b rest lt) ∙ sym (ap Some (head_before a b lt)))
-    (λ eq. ap (λ l. slice_get l 0) (join_at a b rest eq) ∙ sym (ap Some (head_at a b eq)))
-    (λ gt. ap (λ l. slice_get l 0) (join_past a b rest gt) ∙ sym (ap Some (head_past a b gt)))
+    by_order a.cost b.cost (λ lt. rw (join_before a b rest lt, head_before a b lt))
+    (λ eq. rw (join_at a b rest eq, head_at a b eq))
+    (λ gt. rw (join_past a b rest gt, head_past a b gt))
 
 -- the first arc above a cost that is below the inserted arc's
 find_join : (c : ℤ) (a : CostArc) (arcs : List CostArc) → c <ℤ a.cost
@@ -197,35 +164,24 @@ find_join : (c : ℤ) (a : CostArc) (arcs : List CostArc) → c <ℤ a.cost
 find_join c a [] h = past_yes c a [] h
 find_join c a (b ∷ rest) h =
     by_order a.cost b.cost
-    (λ lt.
-    let up : c <ℤ b.cost = omega (arith, ints) in
-    ap (arc_past c) (join_before a b rest lt) ∙ past_yes c a (b ∷ rest) h
-    ∙ sym (ap (λ o. Some (joined_head a o)) (past_yes c b rest up) ∙ ap Some (head_before a b lt)))
-    (λ eq.
-    let up : c <ℤ b.cost = omega (arith, ints) in
-    ap (arc_past c) (join_at a b rest eq) ∙ past_yes c (joined a b) rest up
-    ∙ sym (ap (λ o. Some (joined_head a o)) (past_yes c b rest up) ∙ ap Some (head_at a b eq)))
-    (λ gt.
-    ap (arc_past c) (join_past a b rest gt)
-    ∙ by_lt_z c b.cost
-    (λ up. past_yes c b (join_arc a rest) up ∙ sym
-    (ap (λ o. Some (joined_head a o)) (past_yes c b rest up) ∙ ap Some (head_past a b gt)))
-    (λ le. past_no c b (join_arc a rest) le ∙ find_join c a rest h
-    ∙ sym (ap (λ o. Some (joined_head a o)) (past_no c b rest le))))
+    (λ lt. rw (join_before a b rest lt, past_yes c a (b ∷ rest) h, past_yes c b rest (omega (arith, ints)))
+    (ap Some (sym (head_before a b lt))))
+    (λ eq. let up : c <ℤ b.cost = omega (arith, ints) in
+    rw (join_at a b rest eq, past_yes c (joined a b) rest up, past_yes c b rest up) (ap Some (sym (head_at a b eq))))
+    (λ gt. rw (join_past a b rest gt)
+    (by_lt_z c b.cost
+    (λ up. rw (past_yes c b (join_arc a rest) up, past_yes c b rest up) (ap Some (sym (head_past a b gt))))
+    (λ le. rw (past_no c b (join_arc a rest) le, past_no c b rest le) (find_join c a rest h))))
 
 -- the first arc above a cost that is not below the inserted arc's
 find_past : (c : ℤ) (a : CostArc) (arcs : List CostArc) → a.cost ≤ℤ c → arc_past c (join_arc a arcs) ≡ arc_past c arcs
 find_past c a [] h = past_no c a [] h
 find_past c a (b ∷ rest) h =
-    by_order a.cost b.cost
-    (λ lt. ap (arc_past c) (join_before a b rest lt) ∙ past_no c a (b ∷ rest) h)
-    (λ eq.
-    let le : b.cost ≤ℤ c = omega (arith, ints) in
-    ap (arc_past c) (join_at a b rest eq) ∙ past_no c (joined a b) rest le ∙ sym (past_no c b rest le))
-    (λ gt.
-    let le : b.cost ≤ℤ c = omega (arith, ints) in
-    ap (arc_past c) (join_past a b rest gt) ∙ past_no c b (join_arc a rest) le ∙ find_past c a rest h
-    ∙ sym (past_no c b rest le))
+    by_order a.cost b.cost (λ lt. rw (join_before a b rest lt) (past_no c a (b ∷ rest) h))
+    (λ eq. let le : b.cost ≤ℤ c = omega (arith, ints) in
+    rw (join_at a b rest eq, past_no c (joined a b) rest le, past_no c b rest le))
+    (λ gt. let le : b.cost ≤ℤ c = omega (arith, ints) in
+    rw (join_past a b rest gt, past_no c b (join_arc a rest) le, past_no c b rest le) (find_past c a rest h))
 
 -- inserting an arc of a higher cost does not change the first arc
 two_heads : (a b : CostArc) (o : Option CostArc) → a.cost <ℤ b.cost
@@ -233,11 +189,10 @@ two_heads : (a b : CostArc) (o : Option CostArc) → a.cost <ℤ b.cost
 two_heads a b None h = head_before a b h
 two_heads a b (Some d) h =
     by_order b.cost d.cost
-    (λ lt. let up : a.cost <ℤ d.cost = omega (arith, ints) in
-    ap (λ x. joined_head a (Some x)) (head_before b d lt) ∙ head_before a b h ∙ sym (head_before a d up))
+    (λ lt. rw (head_before b d lt, head_before a b h, head_before a d (omega (arith, ints))))
     (λ eq. let up : a.cost <ℤ d.cost = omega (arith, ints) in
-    ap (λ x. joined_head a (Some x)) (head_at b d eq) ∙ head_before a (joined b d) up ∙ sym (head_before a d up))
-    (λ gt. ap (λ x. joined_head a (Some x)) (head_past b d gt))
+    rw (head_at b d eq, head_before a (joined b d) up, head_before a d up))
+    (λ gt. rw (head_past b d gt))
 
 -- the first of a fixed arc, if there is one, and the free arcs
 abbrev pub first_joined : Option CostArc → Option CostArc → Option CostArc
@@ -250,34 +205,23 @@ joined_first [] free f = refl
 joined_first (a ∷ []) free f = join_first a free
 joined_first (a ∷ b ∷ []) free f =
     let near = f.near in
-    let up : a.cost <ℤ b.cost = omega (arith, ints) in
-    join_first a (join_arc b free) ∙ ap (λ o. Some (joined_head a o)) (join_first b free)
-    ∙ ap Some (two_heads a b (slice_get free 0) up)
+    rw (join_first a (join_arc b free), join_first b free) (ap Some (two_heads a b _ (omega (arith, ints))))
 joined_first (a ∷ b ∷ c ∷ rest) free f = absurd f.near
 
 pub joined_past : (c : ℤ) (fixed free : List CostArc) → AreFixed fixed
     → arc_past c (join_arcs fixed free) ≡ first_joined (arc_past c fixed) (arc_past c free)
 joined_past c [] free f = refl
 joined_past c (a ∷ []) free f =
-    by_lt_z c a.cost
-    (λ lt. find_join c a free lt ∙ sym (ap (λ o. first_joined o (arc_past c free)) (past_yes c a [] lt)))
-    (λ le. find_past c a free le ∙ sym (ap (λ o. first_joined o (arc_past c free)) (past_no c a [] le)))
+    by_lt_z c a.cost (λ lt. rw (find_join c a free lt, past_yes c a [] lt))
+    (λ le. rw (find_past c a free le, past_no c a [] le))
 joined_past c (a ∷ b ∷ []) free f =
     let near = f.near in
     by_lt_z c a.cost
-    (λ lt.
-    let up : a.cost <ℤ b.cost = omega (arith, ints) in
-    let lower : c <ℤ b.cost = omega (arith, ints) in
-    find_join c a (join_arc b free) lt ∙ ap (λ o. Some (joined_head a o)) (find_join c b free lower)
-    ∙ ap Some (two_heads a b (arc_past c free) up)
-    ∙ sym (ap (λ o. first_joined o (arc_past c free)) (past_yes c a (b ∷ []) lt)))
-    (λ le.
-    find_past c a (join_arc b free) le
-    ∙ by_lt_z c b.cost
-    (λ lt. find_join c b free lt ∙ sym
-    (ap (λ o. first_joined o (arc_past c free)) (past_no c a (b ∷ []) le ∙ past_yes c b [] lt)))
-    (λ past. find_past c b free past ∙ sym
-    (ap (λ o. first_joined o (arc_past c free)) (past_no c a (b ∷ []) le ∙ past_no c b [] past))))
+    (λ lt. rw (find_join c a (join_arc b free) lt, find_join c b free (omega (arith, ints)), past_yes c a (b ∷ []) lt)
+    (ap Some (two_heads a b (arc_past c free) (omega (arith, ints)))))
+    (λ le. rw (find_past c a (join_arc b free) le, past_no c a (b ∷ []) le)
+    (by_lt_z c b.cost (λ lt. rw (find_join c b free lt, past_yes c b [] lt))
+    (λ past. rw (find_past c b free past, past_no c b [] past))))
 joined_past c (a ∷ b ∷ d ∷ rest) free f = absurd f.near
 
 -- the first arc above a cost that is below all arcs
@@ -302,8 +246,7 @@ find_holds P test xs x h e = subst (Holds P) e (among xs h)
   where
     among : (xs : List _) → AllByRecursion P xs → Holds P (find test xs)
     among [] h = tt
-    among (y ∷ ys) h =
-        elim (test y) as (λ v. Holds P (cond v (Some y) (find test ys))) [ true ↦ h.0 | false ↦ among ys h.1 ]
+    among (y ∷ ys) h = elim (cases_Bool (test y)) [ inl t ↦ rw t h.0 | inr t ↦ rw t (among ys h.1) ]
 
 some_same : (a b : CostArc) → Some a ≡ Some b → a ≡ b
 some_same a b e = ap (λ (o : Option CostArc). unwrap_or o a) e
@@ -313,8 +256,7 @@ pub after_place : (arcs : List CostArc) (i : ℕ) (a : CostArc) → AreRising ar
     → arc_past a.cost arcs ≡ slice_get arcs (suc i)
 after_place [] i a r e = cc
 after_place (b ∷ rest) zero a r e =
-    let same = some_same b a e in
-    subst (λ x. arc_past x.cost (b ∷ rest) ≡ slice_get rest 0) same
+    subst (λ x. arc_past x.cost (b ∷ rest) ≡ slice_get rest 0) (some_same b a e)
     (past_no b.cost b rest (≤ℤ_refl b.cost) ∙ none_past b.cost rest r.0)
 after_place (b ∷ rest) (suc i) a r e =
     let lt = get_holds (λ (d : CostArc). b.cost <ℤ d.cost) rest i a r.0 e in
@@ -352,14 +294,12 @@ pub after_fixed : (fixed free : List CostArc) (i : ℕ) (a : CostArc) → AreRis
     → or_first (arc_past a.cost fixed) (slice_get free 0) ≡ slice_get (fixed ++ free) (suc i)
 after_fixed [] free i a r n z e = absurd (z (get_holds (λ (b : CostArc). b.low ≡ pos 0) free i a n e))
 after_fixed (b ∷ fixed) free zero a r n z e =
-    let same = some_same b a e in
-    subst (λ x. or_first (arc_past x.cost (b ∷ fixed)) (slice_get free 0) ≡ slice_get (fixed ++ free) 0) same
-    (ap (λ o. or_first o (slice_get free 0)) (past_no b.cost b fixed (≤ℤ_refl b.cost) ∙ none_past b.cost fixed r.0)
-    ∙ first_of_both fixed free)
+    subst (λ x. or_first (arc_past x.cost (b ∷ fixed)) (slice_get free 0) ≡ slice_get (fixed ++ free) 0)
+    (some_same b a e)
+    (rw (past_no b.cost b fixed (≤ℤ_refl b.cost), none_past b.cost fixed r.0) (first_of_both fixed free))
 after_fixed (b ∷ fixed) free (suc i) a r n z e =
     let lt = fixed_place b.cost fixed free i a r.0 n z e in
-    ap (λ o. or_first o (slice_get free 0)) (past_no a.cost b fixed (omega (arith, ints)))
-    ∙ after_fixed fixed free i a r.1 n z e
+    rw (past_no a.cost b fixed (omega (arith, ints))) (after_fixed fixed free i a r.1 n z e)
 
 steps_none : (steps : List (ℤ × ℤ)) → AllByRecursion (λ (b : CostArc). b.low ≡ pos 0) (map step_arc steps)
 steps_none [] = tt
@@ -380,14 +320,12 @@ IsPart whole part = (pos 0 ≤ℤ part) × (part ≤ℤ whole)
 
 units_some : (fixed : List CostArc) → AllByRecursion IsFixedArc fixed → pos 0 ≤ℤ forced_units fixed
 units_some [] f = ≤ℤ_refl _
-units_some (a ∷ rest) f = let some = f.0.some in let i = units_some rest f.1 in omega (arith, ints)
+units_some (a ∷ rest) f = omega (arith, ints, units_some rest f.1)
 
 fixed_parts : (units : ℤ) (fixed : List CostArc) → AllByRecursion IsFixedArc fixed → forced_units fixed ≤ℤ units
     → AllByRecursion (λ (b : CostArc). IsPart units b.cap) fixed
 fixed_parts units [] f h = tt
 fixed_parts units (a ∷ rest) f h =
-    let some = f.0.some in
-    let full = f.0.full in
     let left = units_some rest f.1 in
     ((omega (arith, ints), omega (arith, ints)), fixed_parts units rest f.1 (omega (arith, ints)))
 
@@ -396,7 +334,6 @@ step_parts : (most : ℤ) (steps : List (ℤ × ℤ)) → AreSteps steps → ste
     → AllByRecursion (λ (step : ℤ × ℤ). IsPart most step.1) steps
 step_parts most [] s h = tt
 step_parts most (step ∷ rest) s h =
-    let some = s.0 in
     let left = steps_some rest s.2 in
     ((omega (arith, ints), omega (arith, ints)), step_parts most rest s.2 (omega (arith, ints)))
 
@@ -454,14 +391,7 @@ module _ (units cost total : ℤ) (steps : List (ℤ × ℤ)) (s : IsSound units
 
   sum_fits : (fixed : CostArc) (step : ℤ × ℤ) → IsPart units fixed.cap → IsPart (steps_room steps) step.1
       → FitsSigned w64 (fixed.cap +ℤ step.1)
-  sum_fits fixed step p q =
-      let l = p.0 in
-      let u = p.1 in
-      let k = q.0 in
-      let m = q.1 in
-      let whole = s.whole in
-      let most = s.most in
-      fits_some (fixed.cap +ℤ step.1) (omega (arith, ints)) (omega (arith, ints))
+  sum_fits fixed step p q = fits_some (fixed.cap +ℤ step.1) (omega (arith, ints)) (omega (arith, ints))
 
   -- the sum of the capacities of a fixed arc and a breakpoint fits 64 bits
   pub first_fits : (fixed : CostArc) (step : ℤ × ℤ) → slice_get (fixed_arcs units cost) 0 ≡ Some fixed

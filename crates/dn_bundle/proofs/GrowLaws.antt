@@ -1,14 +1,11 @@
 -- Adding an arc to a curve: the curve remains valid and means one more arc, its numbers fit, and the capacities sum to
 -- more than 2^63-1 exactly if the sum that the code computes does not fit.
-use Rattle.std.proofs.Common.{◌≡◌, ◌-◌, ◌^◌, ℤ, pos, negsuc, ◌+ℤ◌, ◌-ℤ◌, ◌*ℤ◌, ◌≤ℤ◌, ◌<ℤ◌, List, [], ◌∷◌, ◌++◌, map, refl, sym, ap, ◌∙◌, subst, arith, w64, to_z, of_z, cond, Result, Ok, Err, IfErr, OnOk, OnErr}
+use Rattle.std.proofs.Common.{◌≡◌, ◌-◌, ◌^◌, ℤ, pos, negsuc, ◌+ℤ◌, ◌-ℤ◌, ◌*ℤ◌, ◌≤ℤ◌, ◌<ℤ◌, List, [], ◌∷◌, ◌++◌, map, sym, ap, ◌∙◌, arith, w64, to_z, of_z, Result, Ok, Err, OnOk, OnErr, FitsSigned}
 use Rattle.std.specs.Int.{w128}
-use Rattle.std.specs.Int.RustNames.{FitsSigned, int_lt}
 use Rattle.std.specs.List.{AllByRecursion}
 use Rattle.std.proofs.lemmas.Int.{ints, to_z-of_z, by_lt_z}
 use Rattle.dn_arc.specs.declared.arc.CostArc.{CostArc}
 use Rattle.dn_arc.specs.declared.arc.Form.TheVariants.{One}
-use Rattle.dn_bundle.specs.declared.bundle.BundleFault.{BundleFault}
-use Rattle.dn_bundle.specs.declared.bundle.BundleFault.TheVariants.{Sum, Memory}
 use Rattle.dn_bundle.specs.declared.curve.shape.Numbers.{Numbers}
 use Rattle.dn_bundle.specs.declared.curve.shape.Shape.{Shape}
 use Rattle.dn_arc.specs.Splits.{cost_cap}
@@ -19,10 +16,10 @@ use Rattle.dn_arc.specs.State.CurveListed.{free_arc, step_arc, listed, IsSound}
 use Rattle.dn_bundle.specs.State.Shapes.{numbers_of, AreSound, curve_of, IsGrown}
 use Rattle.dn_arc.proofs.SplitsLaws.{SameAbove}
 use Rattle.dn_arc.proofs.CurvesLaws.{above_meaning}
-use Rattle.dn_arc.proofs.PartsLaws.{by_test}
+use Rattle.dn_arc.proofs.PartsLaws.{test_yes, test_no}
 use Rattle.dn_arc.proofs.AddsLaws.{above_none}
 use Rattle.dn_arc.proofs.MeansLaws.{more_mean, fits_some}
-use Rattle.dn_arc.proofs.StepArcsLaws.{steps_some, put_steps, put_room, put_above}
+use Rattle.dn_arc.proofs.StepArcsLaws.{by_put, steps_some, put_steps, put_room, put_above}
 use Rattle.dn_arc.proofs.CostKindLaws.{cost_kind}
 use Rattle.dn_arc.proofs.StoredLaws.{same_numbers}
 use Rattle.dn_arc.proofs.SoundLaws.{none_is, sound_cap, listed_added}
@@ -45,36 +42,25 @@ fit_put : (steps : List (ℤ × ℤ)) (more : ℤ × ℤ) → FitsSigned w64 mor
     → CostsFit (put_step steps more)
 fit_put [] more f g = (f, tt)
 fit_put (step ∷ rest) more f g =
-    by_test CostsFit more.0 step.0 (more ∷ step ∷ rest)
-    (cond (int_lt step.0 more.0) (step ∷ put_step rest more) ((step.0, step.1 +ℤ more.1) ∷ rest))
-    (λ lt. (f, g))
-    (λ le. by_test CostsFit step.0 more.0 (step ∷ put_step rest more) ((step.0, step.1 +ℤ more.1) ∷ rest)
-    (λ lt. (g.0, fit_put rest more f g.1)) (λ ge. g))
+    by_put CostsFit step rest more (λ lt. (f, g)) (λ gt. (g.0, fit_put rest more f g.1)) (λ eq. g)
 
 -- a curve, an arc, and the total capacity with the arc
 module _ (units cost total : ℤ) (steps : List (ℤ × ℤ)) (a : CostArc) (total' : ℤ) (s : IsSound units cost total steps)
     (h : IsCostArc a) (e : total' ≡ total +ℤ a.cap) (ft : FitsSigned w64 total') where
   pub units_most : (units +ℤ a.low) ≤ℤ pos (2 ^ 63 - 1)
   units_most =
-      let whole = s.whole in
       let left = steps_some steps s.rising in
-      let room = h.room in
-      let m = most total' ft in
-      omega (arith, ints)
+      omega (arith, ints, most total' ft)
 
   pub cost_fits : FitsSigned w64 a.cost → FitsSigned w128 (cost +ℤ (a.low *ℤ a.cost))
   cost_fits f = more_fits cost a.low a.cost units s.some h.some units_most f s.mean
 
   pub units_fit : FitsSigned w64 (units +ℤ a.low)
-  units_fit = let some = s.some in let low = h.some in fits_some (units +ℤ a.low) (omega (arith, ints)) units_most
+  units_fit = fits_some (units +ℤ a.low) (omega (arith, ints)) units_most
 
   pub room_fits : FitsSigned w64 (a.cap -ℤ a.low)
   room_fits =
-      let whole = s.whole in
       let left = steps_some steps s.rising in
-      let some = s.some in
-      let low = h.some in
-      let room = h.room in
       let m = most total' ft in
       fits_some (a.cap -ℤ a.low) (omega (arith, ints)) (omega (arith, ints))
 
@@ -83,29 +69,22 @@ module _ (units cost total : ℤ) (steps : List (ℤ × ℤ)) (a : CostArc) (tot
 
   added : SameAbove (map step_arc (add_step steps more)) (free_arc a.cost (a.cap -ℤ a.low) ∷ map step_arc steps)
   added =
-      let room = h.room in
-      by_test (λ (l : List (ℤ × ℤ)). SameAbove (map step_arc l) (free_arc a.cost (a.cap -ℤ a.low) ∷ map step_arc steps))
-      (pos 0) (a.cap -ℤ a.low) (put_step steps more) steps
-      (λ lt. put_above steps more (omega (arith, ints)) s.rising)
-      (λ le. above_meaning.same_sym _ _ (above_none a.cost (a.cap -ℤ a.low) (map step_arc steps) (omega (arith, ints))))
+      by_lt_z (pos 0) (a.cap -ℤ a.low) (λ lt. rw test_yes (put_above steps more (omega (arith, ints)) s.rising))
+      (λ le. rw test_no (above_meaning.same_sym _ _ (above_none a.cost (a.cap -ℤ a.low) _ (omega (arith, ints)))))
 
   rises : AreSteps (add_step steps more)
   rises =
-      by_test AreSteps (pos 0) (a.cap -ℤ a.low) (put_step steps more) steps
-      (λ lt. put_steps steps more (omega (arith, ints)) s.rising) (λ le. s.rising)
+      by_lt_z (pos 0) (a.cap -ℤ a.low) (λ lt. rw test_yes (put_steps steps more (omega (arith, ints)) s.rising))
+      (λ le. rw test_no s.rising)
 
   rooms : steps_room (add_step steps more) ≡ steps_room steps +ℤ (a.cap -ℤ a.low)
   rooms =
-      let room = h.room in
-      by_test (λ (l : List (ℤ × ℤ)). steps_room l ≡ steps_room steps +ℤ (a.cap -ℤ a.low)) (pos 0) (a.cap -ℤ a.low)
-      (put_step steps more) steps (λ lt. put_room steps more) (λ le. omega (arith, ints))
+      by_lt_z (pos 0) (a.cap -ℤ a.low) (λ lt. rw test_yes (put_room steps more))
+      (λ le. rw test_no (omega (arith, ints)))
 
   module _ (fk : FitsSigned w64 a.cost) where
     grown : IsSound (units +ℤ a.low) (cost +ℤ (a.low *ℤ a.cost)) total' (add_step steps more)
     grown =
-        let some = s.some in
-        let low = h.some in
-        let whole = s.whole in
         let r = rooms in
         record {
           some = omega (arith, ints);
@@ -114,8 +93,8 @@ module _ (units cost total : ℤ) (steps : List (ℤ × ℤ)) (a : CostArc) (tot
           most = most total' ft;
           rising = rises;
           fit =
-              by_test CostsFit (pos 0) (a.cap -ℤ a.low) (put_step steps more) steps (λ lt. fit_put steps more fk s.fit)
-              (λ le. s.fit);
+              by_lt_z (pos 0) (a.cap -ℤ a.low) (λ lt. rw test_yes (fit_put steps more fk s.fit))
+              (λ le. rw test_no s.fit);
         }
 
     -- the values as the code stores them
@@ -123,17 +102,13 @@ module _ (units cost total : ℤ) (steps : List (ℤ × ℤ)) (a : CostArc) (tot
         (et : t ≡ total') (el : l ≡ add_step steps more) where
       pub grown_sound : IsSound u c t l
       grown_sound =
-          subst (λ z. IsSound z c t l) (sym eu) (subst (λ z. IsSound (units +ℤ a.low) z t l) (sym ec)
-          (subst (λ z. IsSound (units +ℤ a.low) (cost +ℤ (a.low *ℤ a.cost)) z l) (sym et)
-          (subst (λ z. IsSound (units +ℤ a.low) (cost +ℤ (a.low *ℤ a.cost)) total' z) (sym el) grown)))
+          rw (eu, ec, et, el) grown
 
       pub grown_same : SameCurve (listed One u c l) (listed One units cost steps ++ a ∷ [])
       grown_same =
           let n = grown_sound in
           listed_added units cost u c steps l a s.some (none_is units cost total steps s) s.rising n.some
-          (none_is u c t l n) n.rising eu ec
-          (subst (λ z. SameAbove (map step_arc z) (free_arc a.cost (a.cap -ℤ a.low) ∷ map step_arc steps))
-          (sym el) added)
+          (none_is u c t l n) n.rising eu ec (rw el added)
 
   -- the breakpoint that the code makes of the arc
   pub step_is : FitsSigned w64 a.cost → FitsSigned w64 a.low → FitsSigned w64 a.cap
@@ -143,14 +118,12 @@ module _ (units cost total : ℤ) (steps : List (ℤ × ℤ)) (a : CostArc) (tot
             (of_z w64 (to_z w64 (of_z w64 a.cap) -ℤ to_z w64 (of_z w64 a.low))),
       ) ≡ more
   step_is f g k =
-      ap (λ z. (z, to_z w64 (of_z w64 (to_z w64 (of_z w64 a.cap) -ℤ to_z w64 (of_z w64 a.low)))))
-      (to_z-of_z w64 a.cost f)
-      ∙ ap (λ z. (a.cost, z))
-      ((rw (to_z-of_z w64 a.cap k, to_z-of_z w64 a.low g) refl) ∙ to_z-of_z w64 (a.cap -ℤ a.low) room_fits)
+      let r = room_fits in
+      simp to_z-of_z
 
   pub units_are : FitsSigned w64 units → FitsSigned w64 a.low
       → to_z w64 (of_z w64 (to_z w64 (of_z w64 units) +ℤ to_z w64 (of_z w64 a.low))) ≡ units +ℤ a.low
-  units_are f g = (rw (to_z-of_z w64 units f, to_z-of_z w64 a.low g) refl) ∙ to_z-of_z w64 (units +ℤ a.low) units_fit
+  units_are f g = let u = units_fit in simp to_z-of_z
 
 -- the numbers of a curve, an arc, and the total capacity with the arc
 module _ (old new : Numbers) (a : CostArc) (total : ℤ) (s : AreSound old) (h : IsCostArc a)
@@ -166,18 +139,17 @@ module _ (old new : Numbers) (a : CostArc) (total : ℤ) (s : AreSound old) (h :
       → AreSound new
   taken_sound (Ok x) ok err = grown_sound old.units old.cost old.total old.steps a total s h e f fk new.units new.cost
       new.total new.steps ok.units ok.cost (ok.total ∙ sym e) ok.steps
-  taken_sound (Err x) ok err = subst AreSound (sym err) s
+  taken_sound (Err x) ok err = rw err s
 
 -- the total capacity with one more arc
 pushed : (units cost total : ℤ) (steps : List (ℤ × ℤ)) (a : CostArc) → IsSound units cost total steps
     → cost_cap (listed One units cost steps ++ a ∷ []) ≡ total +ℤ a.cap
 pushed units cost total steps a s =
     let e = cost_kind.capacity_append (listed One units cost steps) (a ∷ []) in
-    let f = sound_cap units cost total steps s One in
-    omega (arith, ints)
+    omega (arith, ints, sound_cap units cost total steps s One)
 
 pub two_are : (a b : ℤ) → FitsSigned w64 a → FitsSigned w64 b → to_z w64 (of_z w64 a) +ℤ to_z w64 (of_z w64 b) ≡ a +ℤ b
-two_are a b f g = rw (to_z-of_z w64 a f, to_z-of_z w64 b g) refl
+two_are a b f g = simp to_z-of_z
 
 -- if the sum does not fit, the capacities sum to more than 2^63-1
 pub too_much : (units cost total : ℤ) (steps : List (ℤ × ℤ)) (a : CostArc) → IsSound units cost total steps
@@ -185,16 +157,10 @@ pub too_much : (units cost total : ℤ) (steps : List (ℤ × ℤ)) (a : CostArc
     → (FitsSigned w64 (to_z w64 (of_z w64 total) +ℤ to_z w64 (of_z w64 a.cap)) → ⊥)
     → pos (2 ^ 63 - 1) <ℤ cost_cap (listed One units cost steps ++ a ∷ [])
 too_much units cost total steps a s h f g n =
-    let whole = s.whole in
     let left = steps_some steps s.rising in
-    let some = s.some in
-    let low = h.some in
-    let room = h.room in
-    subst (λ z. pos (2 ^ 63 - 1) <ℤ z) (sym (pushed units cost total steps a s))
+    rw (pushed units cost total steps a s)
     (by_lt_z (pos (2 ^ 63 - 1)) (total +ℤ a.cap) (λ lt. lt)
-    (λ le. absurd
-    (n (subst (FitsSigned w64) (sym (two_are total a.cap f g))
-    (fits_some (total +ℤ a.cap) (omega (arith, ints)) le)))))
+    (λ le. absurd (n (simp to_z-of_z (fits_some (total +ℤ a.cap) (omega (arith, ints)) le)))))
 
 -- if the sum fits, the capacities do not sum to more than 2^63-1
 pub not_too_much : (units cost total : ℤ) (steps : List (ℤ × ℤ)) (a : CostArc) → IsSound units cost total steps
@@ -203,9 +169,5 @@ pub not_too_much : (units cost total : ℤ) (steps : List (ℤ × ℤ)) (a : Cos
     → pos (2 ^ 63 - 1) <ℤ cost_cap (listed One units cost steps ++ a ∷ []) → ⊥
 not_too_much units cost total steps a s f g fits n =
     let e = pushed units cost total steps a s in
-    let m = most (total +ℤ a.cap) (subst (FitsSigned w64) (two_are total a.cap f g) fits) in
+    let m = most (total +ℤ a.cap) (simp to_z-of_z at fits) in
     absurd (omega (arith, ints))
-
-pub memory_alone : (r : Result (Unit {0}) BundleFault) → IfErr r (λ e. e ≡ Memory) → r ≡ Err Sum → ⊥
-memory_alone (Ok u) h e = cc
-memory_alone (Err f) h e = cc

@@ -1,15 +1,14 @@
 -- How many canonical arcs form 2 has: one for each breakpoint, and one more for each fixed arc without a breakpoint at
 -- its cost.
-use Rattle.std.proofs.Common.{◌≡◌, ℕ, ◌+◌, ℤ, pos, ◌+ℤ◌, ◌<ℤ◌, Bool, false, ◌||◌, List, [], ◌∷◌, map, length, refl, ap, ◌∙◌, arith, cond}
+use Rattle.std.proofs.Common.{◌≡◌, ℕ, ◌+◌, ℤ, pos, ◌+ℤ◌, ◌<ℤ◌, Bool, false, List, [], ◌∷◌, map, length, refl, ap, ◌∙◌, arith, cond, int_eq}
 use Rattle.std.specs.List.{list_any}
-use Rattle.std.specs.Ordering.{int_eq}
 use Rattle.std.proofs.lemmas.Int.{ints}
 use Rattle.std.proofs.lemmas.List.{length-map}
 use Rattle.dn_arc.specs.declared.arc.CostArc.{CostArc}
 use Rattle.dn_arc.specs.declared.arc.Form.TheVariants.{Two}
 use Rattle.dn_arc.specs.Canonical.{AreRising}
 use Rattle.dn_arc.specs.State.Steps.{has_step}
-use Rattle.dn_arc.specs.State.CurveListed.{fixed_arc, step_arc, fixed_arcs, join_arc, join_arcs, listed, IsSound}
+use Rattle.dn_arc.specs.State.CurveListed.{fixed_arc, step_arc, fixed_arcs, join_arc, listed, IsSound}
 use Rattle.dn_arc.proofs.FormsLaws.{AreAbove, above_lower}
 use Rattle.dn_arc.proofs.StepArcsLaws.{free_arcs}
 use Rattle.dn_arc.proofs.JoinsLaws.{joined_rising}
@@ -26,20 +25,18 @@ has_arc arcs c = list_any (λ (b : CostArc). int_eq c b.cost) arcs
 
 has_steps : (steps : List (ℤ × ℤ)) (c : ℤ) → has_arc (map step_arc steps) c ≡ has_step steps c
 has_steps [] c = refl
-has_steps (step ∷ rest) c = ap (λ b. int_eq c step.0 || b) (has_steps rest c)
+has_steps (step ∷ rest) c = rw (has_steps rest c)
 
 none_has : (c : ℤ) (arcs : List CostArc) → AreAbove c arcs → has_arc arcs c ≡ false
 none_has c [] h = refl
-none_has c (b ∷ rest) h = ap (λ v. v || has_arc rest c) (eq_below c b.cost h.0) ∙ none_has c rest h.1
+none_has c (b ∷ rest) h = rw (eq_below c b.cost h.0) (none_has c rest h.1)
 
 -- inserting an arc of another cost does not change whether an arc has this cost
 has_other : (c : ℤ) (a : CostArc) (arcs : List CostArc) → c <ℤ a.cost → has_arc (join_arc a arcs) c ≡ has_arc arcs c
-has_other c a [] h = ap (λ v. v || false) (eq_below c a.cost h)
+has_other c a [] h = rw (eq_below c a.cost h)
 has_other c a (b ∷ rest) h =
-    by_order a.cost b.cost
-    (λ lt. ap (λ l. has_arc l c) (join_before a b rest lt) ∙ ap (λ v. v || has_arc (b ∷ rest) c) (eq_below c a.cost h))
-    (λ eq. ap (λ l. has_arc l c) (join_at a b rest eq))
-    (λ gt. ap (λ l. has_arc l c) (join_past a b rest gt) ∙ ap (λ v. int_eq c b.cost || v) (has_other c a rest h))
+    by_order a.cost b.cost (λ lt. rw (join_before a b rest lt, eq_below c a.cost h)) (λ eq. rw (join_at a b rest eq))
+    (λ gt. rw (join_past a b rest gt, has_other c a rest h))
 
 -- inserting an arc adds one arc, unless there is one of its cost
 count_join : (a : CostArc) (arcs : List CostArc) → AreRising arcs
@@ -48,21 +45,10 @@ count_join a [] r = refl
 count_join a (b ∷ rest) r =
     by_order a.cost b.cost
     (λ lt.
-    let none : one_unless (has_arc (b ∷ rest) a.cost) ≡ 1 =
-    ap one_unless (none_has a.cost (b ∷ rest) (lt, above_lower a.cost b.cost rest lt r.0)) in
-    let e = ap length (join_before a b rest lt) in
-    omega (arith, e, none))
-    (λ eq.
-    let there : one_unless (has_arc (b ∷ rest) a.cost) ≡ 0 =
-    ap (λ v. one_unless (v || has_arc rest a.cost)) (eq_yes a.cost b.cost eq) in
-    let e = ap length (join_at a b rest eq) in
-    omega (arith, e, there))
-    (λ gt.
-    let same : one_unless (has_arc (b ∷ rest) a.cost) ≡ one_unless (has_arc rest a.cost) =
-    ap (λ v. one_unless (v || has_arc rest a.cost)) (eq_past a.cost b.cost gt) in
-    let e = ap length (join_past a b rest gt) in
-    let i = count_join a rest r.1 in
-    omega (arith, e, i, same))
+    let none = none_has a.cost (b ∷ rest) (lt, above_lower a.cost b.cost rest lt r.0) in
+    rw (join_before a b rest lt, none) (omega arith))
+    (λ eq. rw (join_at a b rest eq, eq_yes a.cost b.cost eq) (omega arith))
+    (λ gt. rw (join_past a b rest gt, eq_past a.cost b.cost gt) (omega (arith, count_join a rest r.1)))
 
 -- how many arcs form 2 has, by its fixed arcs
 module _ (units cost total : ℤ) (steps : List (ℤ × ℤ)) (s : IsSound units cost total steps) (len : ℕ)
@@ -74,11 +60,7 @@ module _ (units cost total : ℤ) (steps : List (ℤ × ℤ)) (s : IsSound units
       → more ≡ one_unless (has_step steps c) → len + more ≡ length (listed Two units cost steps)
   len_with_one u c more e m =
       let n = count_join (fixed_arc u c) (map step_arc steps) (free_arcs steps s.rising).rising in
-      let h : one_unless (has_arc (map step_arc steps) c) ≡ one_unless (has_step steps c) =
-      ap one_unless (has_steps steps c) in
-      let k = steps_len in
-      (let sum : len + more ≡ length (join_arc (fixed_arc u c) (map step_arc steps)) =
-      omega (arith, n, h, k, m, len_is) in sum) ∙ ap (λ l. length (join_arcs l (map step_arc steps))) e
+      rw (← e) (omega (arith, n, ap one_unless (has_steps steps c), steps_len, m, len_is))
 
   pub len_with_two : (u c v : ℤ) (more next : ℕ) → fixed_arc u c ∷ fixed_arc v (c +ℤ pos 1) ∷ [] ≡ fixed_arcs units cost
       → more ≡ one_unless (has_step steps c) → next ≡ one_unless (has_step steps (c +ℤ pos 1))
@@ -90,11 +72,7 @@ module _ (units cost total : ℤ) (steps : List (ℤ × ℤ)) (s : IsSound units
       let rising = (free_arcs steps s.rising).rising in
       let inner = count_join b free rising in
       let outer = count_join a (join_arc b free) (joined_rising b free rising) in
-      let h : one_unless (has_arc free (c +ℤ pos 1)) ≡ one_unless (has_step steps (c +ℤ pos 1)) =
-      ap one_unless (has_steps steps (c +ℤ pos 1)) in
+      let h = ap one_unless (has_steps steps (c +ℤ pos 1)) in
       let up : c <ℤ (c +ℤ pos 1) = omega (arith, ints) in
-      let g : one_unless (has_arc (join_arc b free) c) ≡ one_unless (has_step steps c) =
-      ap one_unless (has_other c b free up ∙ has_steps steps c) in
-      let k = steps_len in
-      (let sum : (len + more) + next ≡ length (join_arc a (join_arc b free)) =
-      omega (arith, inner, outer, h, g, k, m, w, len_is) in sum) ∙ ap (λ l. length (join_arcs l free)) e
+      let g = ap one_unless (has_other c b free up ∙ has_steps steps c) in
+      rw (← e) (omega (arith, inner, outer, h, g, steps_len, m, w, len_is))

@@ -1,10 +1,6 @@
 -- An arc for which a curve needs memory makes another entry, or adds to forced units as the definitions say.
-use Rattle.std.proofs.Common.{◌≡◌, ◌⊎◌, ◌||◌, Option, Some, None, ℕ, suc, ◌+◌, ◌-◌, ◌^◌, ◌<◌, ◌≤◌, ℤ, pos, ◌+ℤ◌, ◌-ℤ◌, ◌*ℤ◌, ◌<ℤ◌, ◌≤ℤ◌, Bool, true, false, List, [], ◌∷◌, ◌++◌, length, refl, sym, ap, ◌∙◌, subst, arith, w64, cond}
-use mathlib.Core.Logic.{inl, inr}
+use Rattle.std.proofs.Common.{◌≡◌, ℕ, suc, ◌+◌, ◌^◌, ◌<◌, ◌≤◌, ℤ, pos, ◌+ℤ◌, ◌-ℤ◌, ◌*ℤ◌, ◌<ℤ◌, ◌≤ℤ◌, Bool, true, false, List, [], ◌∷◌, ◌++◌, length, refl, sym, ◌∙◌, arith, w64, cond, inl, inr, FitsSigned, int_lt}
 use Rattle.std.proofs.Math.IntN.{*ℤ_comm}
-use Rattle.std.specs.Ordering.{int_eq}
-use Rattle.std.specs.Int.RustNames.{FitsSigned, int_lt}
-use Rattle.std.specs.List.{AllByRecursion}
 use Rattle.std.proofs.lemmas.Int.{ints, by_lt_z}
 use Rattle.dn_arc.specs.declared.arc.CostArc.{CostArc}
 use Rattle.dn_arc.specs.declared.arc.Form.TheVariants.{One}
@@ -12,11 +8,10 @@ use Rattle.dn_arc.specs.Canonical.{IsCostArc}
 use Rattle.dn_arc.specs.Entries.{cost_entries}
 use Rattle.dn_arc.specs.Kinds.{costs}
 use Rattle.dn_arc.specs.State.Kinds.{NeedsMore}
-use Rattle.dn_arc.specs.Fillings.{forced_units}
-use Rattle.dn_arc.specs.State.Steps.{steps_of, put_step, add_step, has_step}
+use Rattle.dn_arc.specs.State.Steps.{steps_of, add_step, has_step}
 use Rattle.dn_arc.specs.State.CurveListed.{listed, IsSound}
-use Rattle.dn_arc.proofs.CanonsLaws.{eq_below, eq_past, length_put}
-use Rattle.dn_arc.proofs.PartsLaws.{by_test, test_yes, test_no}
+use Rattle.dn_arc.proofs.CanonsLaws.{length_put}
+use Rattle.dn_arc.proofs.PartsLaws.{test_yes, test_no}
 use Rattle.dn_arc.proofs.CostKindLaws.{cost_kind}
 use Rattle.dn_arc.proofs.ListedLaws.{listed_units, listed_cost}
 use Rattle.dn_arc.proofs.ProductsLaws.{mul_suc, mul_mono}
@@ -24,12 +19,9 @@ use Rattle.dn_arc.proofs.SoundLaws.{none_is, sound_arcs}
 use Rattle.dn_bundle.specs.declared.curve.shape.Shape.TheVariants.{Plain}
 use Rattle.dn_bundle.specs.State.Shapes.{plain_step, numbers_of, LeavesPlain, NeedsRoom, forced, free, more, NeedRoom}
 use Rattle.dn_bundle.proofs.GrowLaws.{grown_sound, grown_same}
+use Rattle.dn_bundle.proofs.BundleLaws.{all_end}
 use Rattle.dn_bundle.proofs.CurveLaws.{entries_listed}
-
-arcs_push : (xs : List CostArc) (a : CostArc) → AllByRecursion IsCostArc xs → IsCostArc a
-    → AllByRecursion IsCostArc (xs ++ a ∷ [])
-arcs_push [] a s h = (h, tt)
-arcs_push (b ∷ xs) a s h = (s.0, arcs_push xs a s.1 h)
+use Rattle.dn_bundle.proofs.GapLaws.{eq_no}
 
 -- 1 if there are forced units
 abbrev one_if : ℤ → ℕ
@@ -37,16 +29,14 @@ one_if z = cond (int_lt (pos 0) z) 1 0
 
 forced_grows : (units low : ℤ) → pos 0 ≤ℤ low → one_if units ≤ one_if (units +ℤ low)
 forced_grows units low h =
-    by_test (λ (n : ℕ). n ≤ one_if (units +ℤ low)) (pos 0) units 1 0
-    (λ lt. let e = ap {B = ℕ} (λ b. cond b 1 0) (test_yes (pos 0) (units +ℤ low) (omega (arith, ints))) in
-    omega (arith, e))
-    (λ le. omega arith)
+    by_lt_z (pos 0) units
+    (λ lt. rw (test_yes (pos 0) units lt, test_yes (pos 0) (units +ℤ low) (omega (arith, ints))) (omega arith))
+    (λ le. rw (test_no (pos 0) units le) (omega arith))
 
 forced_new : (units low : ℤ) → units ≡ pos 0 → pos 0 <ℤ low → one_if units < one_if (units +ℤ low)
 forced_new units low u h =
-    let e = ap {B = ℕ} (λ b. cond b 1 0) (test_no (pos 0) units (omega (arith, ints))) in
-    let f = ap {B = ℕ} (λ b. cond b 1 0) (test_yes (pos 0) (units +ℤ low) (omega (arith, ints))) in
-    omega (arith, e, f)
+    rw (test_no (pos 0) units (omega (arith, ints)), test_yes (pos 0) (units +ℤ low) (omega (arith, ints)))
+    (omega arith)
 
 at_least : (b : Bool) (n : ℕ) → n ≤ cond b n (suc n)
 at_least true n = omega arith
@@ -74,17 +64,16 @@ module _ (units cost total : ℤ) (steps : List (ℤ × ℤ)) (a : CostArc) (s :
   entries_next =
       sym (cost_kind.same_entries (listed One u c next) (listed One units cost steps ++ a ∷ [])
       (sound_arcs u c (total +ℤ a.cap) next sound One)
-      (arcs_push (listed One units cost steps) a (sound_arcs units cost total steps s One) h)
+      (all_end IsCostArc (listed One units cost steps) a (sound_arcs units cost total steps s One) h)
       (grown_same units cost total steps a (total +ℤ a.cap) s h refl ft fk u c (total +ℤ a.cap) next refl refl refl
       refl))
       ∙ entries_listed u c (total +ℤ a.cap) next sound
 
   length_grows : length steps ≤ length next
   length_grows =
-      by_test (λ (l : List (ℤ × ℤ)). length steps ≤ length l) (pos 0) (a.cap -ℤ a.low) (put_step steps rest) steps
-      (λ lt. let e = length_put steps rest s.rising in
-      let i = at_least (has_step steps a.cost) (length steps) in omega (arith, e, i))
-      (λ le. omega arith)
+      by_lt_z (pos 0) (a.cap -ℤ a.low)
+      (λ lt. rw (test_yes (pos 0) (a.cap -ℤ a.low) lt, length_put steps rest s.rising) (at_least _ (length steps)))
+      (λ le. rw (test_no (pos 0) (a.cap -ℤ a.low) le) (omega arith))
 
   -- if the curve needs memory for the arc, so do the arcs that it lists
   pub needs_more : NeedsRoom units cost steps a → NeedsMore costs (listed One units cost steps) a
@@ -99,20 +88,13 @@ module _ (units cost total : ℤ) (steps : List (ℤ × ℤ)) (a : CostArc) (s :
       let q = entries_next in
       let i = forced_grows units a.low h.some in
       let j : length next ≡ suc (length steps) =
-      ap (λ b. length (cond b (put_step steps rest) steps)) (test_yes (pos 0) (a.cap -ℤ a.low) room)
-      ∙ length_put steps rest s.rising ∙ ap (λ b. cond b (length steps) (suc (length steps))) new in
+      rw (test_yes (pos 0) (a.cap -ℤ a.low) room, length_put steps rest s.rising, new) in
       inl (omega (arith, p, q, i, j))
   needs_more (more some low other) =
       let n = none_is units cost total steps s in
       let l = listed_units units cost steps s.some n s.rising in
       let f = listed_cost units cost steps s.some n s.rising in
-      inr (record {
-        there = subst (λ z. pos 0 <ℤ z) (sym l) some;
-        adds = low;
-        other = subst (λ z. (z ≡ forced_units (listed One units cost steps) *ℤ a.cost → ⊥)
-            ⊎ (pos (2 ^ 32 - 1) <ℤ (forced_units (listed One units cost steps) +ℤ a.low))) (sym f)
-            (subst (λ z. (cost ≡ z *ℤ a.cost → ⊥) ⊎ (pos (2 ^ 32 - 1) <ℤ (z +ℤ a.low))) (sym l) other);
-      })
+      inr (record { there = rw l some; adds = low; other = rw (f, l) other })
 
 -- units cost more at a higher cost
 less_mul : (u x y : ℤ) → pos 0 <ℤ u → x <ℤ y → (u *ℤ x) <ℤ (u *ℤ y)
@@ -120,8 +102,7 @@ less_mul u x y some lt =
     let m = mul_mono (x +ℤ pos 1) y u (omega (arith, ints)) (omega (arith, ints)) in
     let e = *ℤ_comm u (x +ℤ pos 1) in
     let f = mul_suc u x in
-    let g = *ℤ_comm u y in
-    omega (arith, ints)
+    omega (arith, ints, *ℤ_comm u y)
 
 same_each : (u x y : ℤ) → pos 0 <ℤ u → u *ℤ x ≡ u *ℤ y → x ≡ y
 same_each u x y some e =
@@ -129,16 +110,11 @@ same_each u x y some e =
     (λ le. by_lt_z y x (λ lt. let l = less_mul u y x some lt in absurd (omega (arith, ints)))
     (λ ge. omega (arith, ints)))
 
-eq_no : (a b : ℤ) → (a ≡ b → ⊥) → int_eq a b ≡ false
-eq_no a b n =
-    by_lt_z a b (λ lt. eq_below a b lt)
-    (λ le. by_lt_z b a (λ lt. eq_past a b lt) (λ ge. absurd (n (omega (arith, ints)))))
-
 -- the free capacity of a plain shape has one cost
 plain_lacks : (step : ℤ × ℤ) (cost : ℤ) → (cost ≡ step.0 → ⊥) → has_step (steps_of (plain_step step) []) cost ≡ false
 plain_lacks step cost n =
-    by_test (λ (o : Option (ℤ × ℤ)). has_step (steps_of o []) cost ≡ false) (pos 0) step.1 (Some step) None
-    (λ lt. ap (λ v. v || false) (eq_no cost step.0 n)) (λ le. refl)
+    by_lt_z (pos 0) step.1 (λ lt. rw (test_yes (pos 0) step.1 lt, eq_no cost step.0 n))
+    (λ le. rw (test_no (pos 0) step.1 le))
 
 -- a plain shape that cannot take an arc needs memory for it
 pub leaves_room : (low : ℕ) (step : ℤ × ℤ) (a : CostArc) → IsCostArc a → low < 2 ^ 32 → (a.cap ≡ pos 0 → ⊥)
@@ -151,6 +127,5 @@ leaves_room low step a h few some (inr other) =
     (λ adds. by_lt_z (pos 0) (pos low)
     (λ lt. more lt adds (inl (λ e. other (sym (same_each (pos low) step.0 a.cost lt e)))))
     (λ le. forced (omega (arith, ints)) adds))
-    (λ none. let s = h.some in let r = h.room in
-    by_lt_z (pos 0) a.cap (λ lt. free (omega (arith, ints)) (plain_lacks step a.cost other))
+    (λ none. by_lt_z (pos 0) a.cap (λ lt. free (omega (arith, ints)) (plain_lacks step a.cost other))
     (λ le. absurd (some (omega (arith, ints)))))

@@ -1,8 +1,6 @@
 -- Two curves first differ in their forced units, in the cost of these, or else at the first breakpoints that differ. If
 -- no gap is found, they mean the same. The lemmas on a curve and the curve of no arcs follow at the end.
-use Rattle.std.proofs.Common.{◌≡◌, ◌≢◌, ◌↔◌, ℤ, pos, ◌+ℤ◌, ◌-ℤ◌, ◌*ℤ◌, ◌≤ℤ◌, ◌<ℤ◌, Bool, true, false, ◌&&◌, cond, List, [], ◌∷◌, slice_get, Option, Some, None, refl, sym, ap, ◌∙◌, subst, arith, int_lt}
-use Rattle.std.specs.Option.{MatchOption, unwrap_or}
-use Rattle.std.specs.Ordering.{int_eq}
+use Rattle.std.proofs.Common.{◌≡◌, ◌≢◌, ◌↔◌, ℤ, pos, ◌+ℤ◌, ◌-ℤ◌, ◌*ℤ◌, ◌≤ℤ◌, ◌<ℤ◌, List, [], ◌∷◌, slice_get, Option, Some, None, refl, sym, ap, ◌∙◌, arith, MatchOption, unwrap_or}
 use Rattle.std.proofs.lemmas.Int.{ints, by_lt_z}
 use Rattle.std.proofs.Math.IntN.{*ℤ_comm}
 use Rattle.dn_arc.specs.declared.arc.Form.TheVariants.{One}
@@ -41,25 +39,19 @@ record IsFirstGap (amount cost : ℤ) (left right : List (ℤ × ℤ)) (g : Gap)
 -- the cost of the next amount
 next_cost : (amount cost : ℤ) (steps : List (ℤ × ℤ)) → AreSteps steps
     → IsCostAt amount cost steps (amount +ℤ pos 1) (unit_cost cost (slice_get steps 0))
-next_cost amount cost [] s = λ k p. let high = p.high in omega (arith, ints)
+next_cost amount cost [] s = λ k p. omega (arith, ints)
 next_cost amount cost (step ∷ rest) s =
-    let some = s.0 in
-    subst (IsAt amount cost (step ∷ rest) (amount +ℤ pos 1))
-    (let one : (amount +ℤ pos 1) -ℤ amount ≡ pos 1 = omega (arith, ints) in
-    ap (λ z. cost +ℤ (z *ℤ step.0)) one ∙ ap (λ z. cost +ℤ z)
-    (let e : pos 1 *ℤ step.0 ≡ step.0 = omega (arith, ints) in e))
-    (at_here amount cost step rest (amount +ℤ pos 1) s.2 (omega (arith, ints)) (omega (arith, ints)))
+    let one : (amount +ℤ pos 1) -ℤ amount ≡ pos 1 = omega (arith, ints) in
+    let unit : pos 1 *ℤ step.0 ≡ step.0 = omega (arith, ints) in
+    rw (one, unit) at (at_here amount cost step rest (amount +ℤ pos 1) s.2 (omega (arith, ints)) (omega (arith, ints)))
 
 -- the costs up to this amount are the same on both sides
 start_same : (amount cost : ℤ) (left right : List (ℤ × ℤ)) → AreSteps left → AreSteps right → (x k : ℤ)
     → x <ℤ (amount +ℤ pos 1) → IsAt amount cost left x k → IsAt amount cost right x k
 start_same amount cost left right sl sr x k h p =
-    let low = p.low in
     let e : x ≡ amount = omega (arith, ints) in
-    let q = subst (λ z. IsAt amount cost left z k) e p in
-    let is = at_one amount cost left amount cost k (at_start amount cost left sl) q in
-    subst (λ z. IsAt amount cost right z k) (sym e)
-    (subst (IsAt amount cost right amount) is (at_start amount cost right sr))
+    let is = at_one amount cost left amount cost k (at_start amount cost left sl) (rw e at p) in
+    rw (e, ← is) (at_start amount cost right sr)
 
 gap_now : (amount cost : ℤ) (left right : List (ℤ × ℤ)) → AreSteps left → AreSteps right
     → unit_cost cost (slice_get left 0) ≢ unit_cost cost (slice_get right 0)
@@ -110,8 +102,7 @@ split d s c =
     let m = mul_sub c s d in
     let e = *ℤ_comm d c in
     let f = *ℤ_comm (s -ℤ d) c in
-    let g = *ℤ_comm s c in
-    omega (arith, ints)
+    omega (arith, ints, *ℤ_comm s c)
 
 module _ (amount cost : ℤ) (step : ℤ × ℤ) (rest : List (ℤ × ℤ)) (s : AreSteps rest) where
   -- the cost of an amount within the first breakpoint
@@ -127,33 +118,25 @@ module _ (amount cost : ℤ) (step : ℤ × ℤ) (rest : List (ℤ × ℤ)) (s :
       (λ lt.
       let over : (amount +ℤ step.1) <ℤ x = omega (arith, ints) in
       let end : (amount +ℤ d) +ℤ (step.1 -ℤ d) ≡ amount +ℤ step.1 = omega (arith, ints) in
-      let all : (cost +ℤ (d *ℤ step.0)) +ℤ ((step.1 -ℤ d) *ℤ step.0) ≡ cost +ℤ (step.1 *ℤ step.0) = let e =
-      split d step.1 step.0 in omega (arith, ints) in
+      let all : (cost +ℤ (d *ℤ step.0)) +ℤ ((step.1 -ℤ d) *ℤ step.0) ≡ cost +ℤ (step.1 *ℤ step.0) =
+      omega (arith, ints, split d step.1 step.0) in
       let some : pos 1 ≤ℤ (step.1 -ℤ d) = omega (arith, ints) in
-      let past : ((amount +ℤ d) +ℤ (step.1 -ℤ d)) <ℤ x = omega (arith, ints) in (
-        (λ p. more_at (amount +ℤ d) (cost +ℤ (d *ℤ step.0)) (cut d step) rest x some past k
-            (subst (λ z. IsAt z ((cost +ℤ (d *ℤ step.0)) +ℤ ((step.1 -ℤ d) *ℤ step.0)) rest x k) (sym end)
-            (subst (λ z. IsAt (amount +ℤ step.1) z rest x k) (sym all)
-            (at_more amount cost step rest x (omega (arith, ints)) over k p)))),
-        (λ p. more_at amount cost step rest x (omega (arith, ints)) over k
-            (subst (λ z. IsAt z (cost +ℤ (step.1 *ℤ step.0)) rest x k) end
-            (subst (λ z. IsAt ((amount +ℤ d) +ℤ (step.1 -ℤ d)) z rest x k) all
-            (at_more (amount +ℤ d) (cost +ℤ (d *ℤ step.0)) (cut d step) rest x some past k p)))),
+      let past : ((amount +ℤ d) +ℤ (step.1 -ℤ d)) <ℤ x = omega (arith, ints) in
+      let first : pos 1 ≤ℤ step.1 = omega (arith, ints) in (
+        (λ p. more_at _ _ (cut d step) rest x some past k
+            (rw (end, all) (at_more amount cost step rest x first over k p))),
+        (λ p. more_at amount cost step rest x first over k
+            (rw (end, all) at (at_more _ _ (cut d step) rest x some past k p))),
       ))
       (λ le.
+      let same : (x -ℤ amount) -ℤ d ≡ x -ℤ (amount +ℤ d) = omega (arith, ints) in
       let all : (cost +ℤ (d *ℤ step.0)) +ℤ ((x -ℤ (amount +ℤ d)) *ℤ step.0) ≡ cost +ℤ ((x -ℤ amount) *ℤ step.0) =
-      let e = split d (x -ℤ amount) step.0 in
-      let f : (x -ℤ amount) -ℤ d ≡ x -ℤ (amount +ℤ d) = omega (arith, ints) in
-      let g = ap (λ z. z *ℤ step.0) f in
-      omega (arith, ints) in (
-        (λ p. subst (IsAt (amount +ℤ d) (cost +ℤ (d *ℤ step.0)) (cut d step ∷ rest) x) (all ∙ sym (here_is x k le p))
-            (at_here (amount +ℤ d) (cost +ℤ (d *ℤ step.0)) (cut d step) rest x s (omega (arith, ints))
-            (omega (arith, ints)))),
-        (λ p. subst (IsAt amount cost (step ∷ rest) x)
-            (sym all ∙ sym
-            (at_one (amount +ℤ d) (cost +ℤ (d *ℤ step.0)) (cut d step ∷ rest) x k _ p
-            (at_here (amount +ℤ d) (cost +ℤ (d *ℤ step.0)) (cut d step) rest x s (omega (arith, ints))
-            (omega (arith, ints))))) (at_here amount cost step rest x s (omega (arith, ints)) le)),
+      omega (arith, ints, split d (x -ℤ amount) step.0, ap (λ z. z *ℤ step.0) same) in
+      let there = at_here (amount +ℤ d) (cost +ℤ (d *ℤ step.0)) (cut d step) rest x s (omega (arith, ints))
+      (omega (arith, ints)) in (
+        (λ p. rw (here_is x k le p, ← all) there),
+        (λ p. rw (at_one _ _ (cut d step ∷ rest) x k _ p there, all)
+            (at_here amount cost step rest x s (omega (arith, ints)) le)),
       ))
 
 -- the costs beyond the first breakpoint
@@ -167,16 +150,13 @@ here_same : (amount cost : ℤ) (l r : ℤ × ℤ) (left right : List (ℤ × �
     → (x k : ℤ) → (x -ℤ amount) ≤ℤ l.1 → (x -ℤ amount) ≤ℤ r.1 → IsAt amount cost (l ∷ left) x k
     → IsAt amount cost (r ∷ right) x k
 here_same amount cost l r left right sl sr e x k h g p =
-    subst (IsAt amount cost (r ∷ right) x)
-    (ap (λ z. cost +ℤ ((x -ℤ amount) *ℤ z)) (sym e) ∙ sym (here_is amount cost l left sl x k h p))
-    (at_here amount cost r right x sr p.low g)
+    rw (here_is amount cost l left sl x k h p, e) (at_here amount cost r right x sr p.low g)
 
 -- the breakpoint after one has a higher cost
 next_differs : (cost : ℤ) (step other : ℤ × ℤ) (rest : List (ℤ × ℤ)) → AreSteps (step ∷ rest) → step.0 ≡ other.0
     → unit_cost cost (slice_get rest 0) ≢ unit_cost cost (Some other)
 next_differs cost step other [] s e = λ h. cc
-next_differs cost step other (next ∷ rest) s e = λ h. let up = s.1.0 in let f = ap (λ o. unwrap_or o (pos 0)) h in
-    omega (arith, ints)
+next_differs cost step other (next ∷ rest) s e = λ h. omega (arith, ints, ap (λ o. unwrap_or o (pos 0)) h)
 
 module _ (amount cost : ℤ) (l r : ℤ × ℤ) (left right : List (ℤ × ℤ)) (sl : AreSteps (l ∷ left))
     (sr : AreSteps (r ∷ right)) where
@@ -188,10 +168,6 @@ module _ (amount cost : ℤ) (l r : ℤ × ℤ) (left right : List (ℤ × ℤ))
 
   abbrev right_ends : Gap
   right_ends = gap_next (amount +ℤ r.1) (cost +ℤ (r.1 *ℤ r.0)) (Some l) (slice_get right 0)
-
-  abbrev tests : Bool → Bool → Bool → Option Gap
-  tests s t u =
-      cond (s && t) after (Some (cond s (cond u left_ends right_ends) (gap_next amount cost (Some l) (Some r))))
 
   abbrev Found : Option Gap → Type 0
   Found o = MatchOption o ((l ∷ left) ≡ (r ∷ right)) (IsFirstGap amount cost (l ∷ left) (r ∷ right))
@@ -208,13 +184,10 @@ module _ (amount cost : ℤ) (l r : ℤ × ℤ) (left right : List (ℤ × ℤ))
       later amount cost (l ∷ left) (r ∷ right) (amount +ℤ l.1) (cost +ℤ (l.1 *ℤ l.0)) left (cut l.1 r ∷ right)
       (omega (arith, ints))
       (past_same amount cost l left some)
-      (λ x u. subst (λ z. SameAt amount cost (r ∷ right) (amount +ℤ l.1) (cost +ℤ (l.1 *ℤ z)) (cut l.1 r ∷ right) x)
-      (sym e) (cut_same amount cost r right sr.2 l.1 (omega (arith, ints)) h x u))
+      (λ x u. rw e (cut_same amount cost r right sr.2 l.1 (omega (arith, ints)) h x u))
       (λ x u k. (
-        here_same amount cost l r left right sl.2 sr.2 e x k (omega (arith, ints))
-            (omega (arith, ints)),
-        here_same amount cost r l right left sr.2 sl.2 (sym e) x k (omega (arith, ints))
-            (omega (arith, ints)),
+        here_same amount cost l r left right sl.2 sr.2 e x k (omega (arith, ints)) (omega (arith, ints)),
+        here_same amount cost r l right left sr.2 sl.2 (sym e) x k (omega (arith, ints)) (omega (arith, ints)),
       ))
       left_ends
       (gap_now (amount +ℤ l.1) (cost +ℤ (l.1 *ℤ l.0)) left (cut l.1 r ∷ right) sl.2 rest
@@ -226,14 +199,11 @@ module _ (amount cost : ℤ) (l r : ℤ × ℤ) (left right : List (ℤ × ℤ))
       let rest : AreSteps (cut r.1 l ∷ left) = (omega (arith, ints), sl.1, sl.2) in
       later amount cost (l ∷ left) (r ∷ right) (amount +ℤ r.1) (cost +ℤ (r.1 *ℤ r.0)) (cut r.1 l ∷ left) right
       (omega (arith, ints))
-      (λ x u. subst (λ z. SameAt amount cost (l ∷ left) (amount +ℤ r.1) (cost +ℤ (r.1 *ℤ z)) (cut r.1 l ∷ left) x) e
-      (cut_same amount cost l left sl.2 r.1 (omega (arith, ints)) h x u))
+      (λ x u. rw (← e) (cut_same amount cost l left sl.2 r.1 (omega (arith, ints)) h x u))
       (past_same amount cost r right some)
       (λ x u k. (
-        here_same amount cost l r left right sl.2 sr.2 e x k (omega (arith, ints))
-            (omega (arith, ints)),
-        here_same amount cost r l right left sr.2 sl.2 (sym e) x k (omega (arith, ints))
-            (omega (arith, ints)),
+        here_same amount cost l r left right sl.2 sr.2 e x k (omega (arith, ints)) (omega (arith, ints)),
+        here_same amount cost r l right left sr.2 sl.2 (sym e) x k (omega (arith, ints)) (omega (arith, ints)),
       ))
       right_ends
       (gap_now (amount +ℤ r.1) (cost +ℤ (r.1 *ℤ r.0)) (cut r.1 l ∷ left) right rest sr.2
@@ -242,39 +212,27 @@ module _ (amount cost : ℤ) (l r : ℤ × ℤ) (left right : List (ℤ × ℤ))
   both_end : l.0 ≡ r.0 → l.1 ≡ r.1 → (o : Option Gap)
       → MatchOption o (left ≡ right) (IsFirstGap (amount +ℤ l.1) (cost +ℤ (l.1 *ℤ l.0)) left right) → Found o
   both_end e f None s = let same : l ≡ r = ap (λ z. (z, l.1)) e ∙ ap (λ z. (r.0, z)) f in
-      ap (λ z. z ∷ left) same ∙ ap (λ z. r ∷ z) s
+      rw (same, s)
   both_end e f (Some g) i =
       let some = sl.0 in
       later amount cost (l ∷ left) (r ∷ right) (amount +ℤ l.1) (cost +ℤ (l.1 *ℤ l.0)) left right (omega (arith, ints))
       (past_same amount cost l left some)
-      (subst
-      (λ (z : ℤ × ℤ). (x : ℤ) → (amount +ℤ z.1) <ℤ x
-      → SameAt amount cost (r ∷ right) (amount +ℤ z.1) (cost +ℤ (z.1 *ℤ z.0)) right x)
-      (ap (λ z. (r.0, z)) (sym f) ∙ ap (λ z. (z, l.1)) (sym e)) (past_same amount cost r right sr.0))
+      (rw (e, f) (past_same amount cost r right sr.0))
       (λ x u k. (
-        here_same amount cost l r left right sl.2 sr.2 e x k (omega (arith, ints))
-            (omega (arith, ints)),
-        here_same amount cost r l right left sr.2 sl.2 (sym e) x k (omega (arith, ints))
-            (omega (arith, ints)),
+        here_same amount cost l r left right sl.2 sr.2 e x k (omega (arith, ints)) (omega (arith, ints)),
+        here_same amount cost r l right left sr.2 sl.2 (sym e) x k (omega (arith, ints)) (omega (arith, ints)),
       ))
       g i
 
   found_next : MatchOption after (left ≡ right) (IsFirstGap (amount +ℤ l.1) (cost +ℤ (l.1 *ℤ l.0)) left right)
       → Found (first_gap amount cost (l ∷ left) (r ∷ right))
   found_next i =
-      by_order l.0 r.0
-      (λ lt. subst (λ s. Found (tests s (int_eq l.1 r.1) (int_lt l.1 r.1))) (sym (eq_below l.0 r.0 lt))
-      (apart_costs (λ e. omega (arith, ints))))
-      (λ e.
-      subst (λ s. Found (tests s (int_eq l.1 r.1) (int_lt l.1 r.1))) (sym (eq_yes l.0 r.0 e))
-      (by_order l.1 r.1
-      (λ lt. subst (λ t. Found (tests true t (int_lt l.1 r.1))) (sym (eq_below l.1 r.1 lt))
-      (subst (λ u. Found (tests true false u)) (sym (test_yes l.1 r.1 lt)) (left_first e lt)))
-      (λ f. subst (λ t. Found (tests true t (int_lt l.1 r.1))) (sym (eq_yes l.1 r.1 f)) (both_end e f after i))
-      (λ gt. subst (λ t. Found (tests true t (int_lt l.1 r.1))) (sym (eq_past l.1 r.1 gt))
-      (subst (λ u. Found (tests true false u)) (sym (test_no l.1 r.1 (omega (arith, ints)))) (right_first e gt)))))
-      (λ gt. subst (λ s. Found (tests s (int_eq l.1 r.1) (int_lt l.1 r.1))) (sym (eq_past l.0 r.0 gt))
-      (apart_costs (λ e. omega (arith, ints))))
+      by_order l.0 r.0 (λ lt. rw (eq_below l.0 r.0 lt) (apart_costs (λ e. omega (arith, ints))))
+      (λ e. rw (eq_yes l.0 r.0 e)
+      (by_order l.1 r.1 (λ lt. rw (eq_below l.1 r.1 lt, test_yes l.1 r.1 lt) (left_first e lt))
+      (λ f. rw (eq_yes l.1 r.1 f) (both_end e f after i))
+      (λ gt. rw (eq_past l.1 r.1 gt, test_no l.1 r.1 (omega (arith, ints))) (right_first e gt))))
+      (λ gt. rw (eq_past l.0 r.0 gt) (apart_costs (λ e. omega (arith, ints))))
 
 -- the gap that the search finds is the first gap, and if it finds none, the breakpoints are the same
 found : (amount cost : ℤ) (left right : List (ℤ × ℤ)) → AreSteps left → AreSteps right
@@ -331,10 +289,6 @@ module _ (units cost total : ℤ) (steps : List (ℤ × ℤ)) (s : IsSound units
 
   pub from_units : units ≡ units' → AreWalks units cost steps steps'
   from_units e =
-      let left_whole = s.whole in
-      let left_most = s.most in
-      let right_whole = s'.whole in
-      let right_most = s'.most in
       record {
         some = s.some;
         mean = s.mean;
@@ -349,9 +303,7 @@ module _ (units cost total : ℤ) (steps : List (ℤ × ℤ)) (s : IsSound units
       (record { amount = units; left = Some cost; right = Some cost' })
   cost_gap e n = record {
     left = at_units units cost total steps s;
-    right =
-        subst (λ z. LeastCost (listed One units' cost' steps') z cost') (sym e)
-        (at_units units' cost' total' steps' s');
+    right = rw e (at_units units' cost' total' steps' s');
     differ = λ f. let g = ap (λ o. unwrap_or o (pos 0)) f in n g;
     same_below =
         λ x k lt. (
@@ -369,8 +321,7 @@ module _ (units cost total total' : ℤ) (steps steps' : List (ℤ × ℤ)) (s :
     (s' : IsSound units cost total' steps') where
   parts_by : (o : Option Gap) → MatchOption o (steps ≡ steps') (IsFirstGap units cost steps steps')
       → Parts units cost steps units cost steps' o
-  parts_by None e =
-      subst (λ z. SameCurve (listed One units cost steps) (listed One units cost z)) e (curve_meaning.same_refl _)
+  parts_by None e = rw (← e) (curve_meaning.same_refl _)
   parts_by (Some g) f = record {
     left = cost_of_at units cost total steps s g.amount g.left f.left_is;
     right = cost_of_at units cost total' steps' s' g.amount g.right f.right_is;
@@ -386,13 +337,9 @@ pub step_gap : (units cost total : ℤ) (steps : List (ℤ × ℤ)) → IsSound 
     → (units' cost' total' : ℤ) (steps' : List (ℤ × ℤ)) → IsSound units' cost' total' steps' → units ≡ units'
     → cost ≡ cost' → Parts units cost steps units' cost' steps' (first_gap units cost steps steps')
 step_gap units cost total steps s units' cost' total' steps' s' e f =
-    let t =
-    subst (λ z. IsSound z cost total' steps') (sym e) (subst (λ z. IsSound units' z total' steps') (sym f) s') in
-    let p =
-    parts_by units cost total total' steps steps' s t (first_gap units cost steps steps')
-    (found units cost steps steps' s.rising t.rising) in
-    subst (λ z. Parts units cost steps z cost' steps' (first_gap units cost steps steps')) e
-    (subst (λ z. Parts units cost steps units z steps' (first_gap units cost steps steps')) f p)
+    let t : IsSound units cost total' steps' = rw (e, f) s' in
+    rw (← e, ← f)
+    (parts_by units cost total total' steps steps' s t _ (found units cost steps steps' s.rising t.rising))
 
 none_sound : IsSound (pos 0) (pos 0) (pos 0) []
 none_sound = record {
@@ -408,8 +355,7 @@ none_sound = record {
 module _ (units cost total : ℤ) (steps : List (ℤ × ℤ)) (s : IsSound units cost total steps) where
   pub forced_gap : (units ≡ pos 0 → ⊥)
       → IsGap (listed One units cost steps) [] (record { amount = pos 0; left = None; right = Some (pos 0) })
-  forced_gap n = let some = s.some in
-      right_gap units cost total steps s (pos 0) (pos 0) (pos 0) [] none_sound
+  forced_gap n = right_gap units cost total steps s (pos 0) (pos 0) (pos 0) [] none_sound
       (by_lt_z (pos 0) units (λ lt. lt) (λ le. absurd (n (omega (arith, ints)))))
 
   free_parts : units ≡ pos 0 → Parts units cost steps (pos 0) (pos 0) [] (first_gap units cost steps [])
@@ -427,14 +373,8 @@ pub free_gap : (units cost total : ℤ) (steps : List (ℤ × ℤ)) → IsSound 
     → IsGap (listed One units cost steps) [] (record { amount = pos 1; left = Some step.0; right = None })
 free_gap units cost total [] s e step h = cc
 free_gap units cost total (first ∷ rest) s e step h =
-    let same = ap (λ o. unwrap_or o (pos 0, pos 0)) h in
+    let same : step ≡ first = ap (λ o. unwrap_or o (pos 0, pos 0)) h in
     let one : units +ℤ pos 1 ≡ pos 1 = omega (arith, ints) in
     let z = none_is units cost total (first ∷ rest) s e in
     let c : cost +ℤ first.0 ≡ first.0 = omega (arith, ints) in
-    subst (λ z. IsGap (listed One units cost (first ∷ rest)) []
-    (record { amount = pos 1; left = Some z; right = None }))
-    (c ∙ ap (λ p. p.0) (sym same))
-    (subst
-    (λ z. IsGap (listed One units cost (first ∷ rest)) []
-    (record { amount = z; left = Some (cost +ℤ first.0); right = None })) one
-    (free_parts units cost total (first ∷ rest) s e))
+    rw same (rw (one, c) at (free_parts units cost total (first ∷ rest) s e))

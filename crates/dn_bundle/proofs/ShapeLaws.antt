@@ -1,16 +1,13 @@
 -- Adding an arc to a shape with forced units and free capacity at one cost: the shape remains plain.
-use Rattle.std.proofs.Common.{◌≡◌, ◌⊎◌, ℤ, pos, negsuc, ◌+ℤ◌, ◌-ℤ◌, ◌*ℤ◌, ◌≤ℤ◌, ◌<ℤ◌, List, [], ◌∷◌, Some, None, sym, ap, ◌∙◌, subst, arith, w64, to_z, of_z, cond}
-use mathlib.Core.Logic.{inl, inr}
+use Rattle.std.proofs.Common.{◌≡◌, ◌⊎◌, ℤ, pos, negsuc, ◌+ℤ◌, ◌-ℤ◌, ◌*ℤ◌, ◌≤ℤ◌, ◌<ℤ◌, List, [], ◌∷◌, sym, ap, ◌∙◌, subst, arith, w64, to_z, of_z, inl, inr, ℕ, ◌+◌, refl, FitsSigned}
 use Rattle.std.proofs.Math.IntN.{*ℤ_comm, zero-*ℤ}
 use Rattle.dn_arc.proofs.ProductsLaws.{mul_add}
-use Rattle.std.proofs.Common.{ℕ, ◌+◌, refl}
 use Rattle.std.proofs.Math.IntN.{nat_abs}
 use Rattle.std.specs.Int.{w128}
 use Rattle.dn_bundle.specs.declared.curve.shape.Numbers.{Numbers}
 use Rattle.dn_arc.specs.State.CurveListed.{IsSound}
 use Rattle.dn_bundle.proofs.GrowLaws.{most}
 use Rattle.std.proofs.lemmas.Int.{ints, to_z-of_z, by_lt_z}
-use Rattle.std.specs.Int.RustNames.{FitsSigned}
 use Rattle.dn_arc.specs.declared.arc.CostArc.{CostArc}
 use Rattle.dn_bundle.specs.declared.curve.shape.Shape.{Shape}
 use Rattle.dn_bundle.specs.declared.curve.shape.Shape.TheVariants.{Plain}
@@ -24,19 +21,16 @@ use Rattle.dn_bundle.proofs.StepLaws.{put_at}
 
 -- capacity above 0 at a cost is a breakpoint
 some_step : (step : ℤ × ℤ) → pos 0 <ℤ step.1 → steps_of (plain_step step) [] ≡ step ∷ []
-some_step step h = ap (λ b. steps_of (cond b (Some step) None) []) (test_yes (pos 0) step.1 h)
+some_step step h = rw test_yes
 
 no_step : (step : ℤ × ℤ) → step.1 ≡ pos 0 → steps_of (plain_step step) [] ≡ []
-no_step step e = ap (λ b. steps_of (cond b (Some step) None) []) (test_no (pos 0) step.1 (omega (arith, ints)))
+no_step step e = rw (test_no (pos 0) step.1 (omega (arith, ints)))
 
 module _ (low low' : ℕ) (step : ℤ × ℤ) (a : CostArc) (total : ℤ) (s : AreSound (numbers_of (Plain low step)))
     (h : IsCostArc a) (e : total ≡ (pos low +ℤ step.1) +ℤ a.cap) (is : StaysPlain low step a)
     (l : pos low' ≡ pos low +ℤ a.low) where
   free : pos 0 ≤ℤ step.1
-  free =
-      let whole = s.whole in
-      let left = steps_some (steps_of (plain_step step) []) s.rising in
-      omega (arith, ints)
+  free = omega (arith, ints, steps_some (steps_of (plain_step step) []) s.rising)
 
   -- the free capacity of the arc is added to the breakpoints
   some_put : (room : ℤ) → pos 0 <ℤ room
@@ -44,43 +38,37 @@ module _ (low low' : ℕ) (step : ℤ × ℤ) (a : CostArc) (total : ℤ) (s : A
   some_put room r =
       let f = free in
       by_lt_z (pos 0) step.1 (λ lt. by is.one lt)
-      (λ le. let none : step.1 ≡ pos 0 = omega (arith, ints) in
-      some_step (a.cost, step.1 +ℤ room) (omega (arith, ints))
-      ∙ ap (λ z. (a.cost, z) ∷ []) (let same : step.1 +ℤ room ≡ room = omega (arith, ints) in same)
-      ∙ sym (ap (λ l. put_step l (a.cost, room)) (no_step step none)))
+      (λ le.
+      let none : step.1 ≡ pos 0 = omega (arith, ints) in
+      let same : step.1 +ℤ room ≡ room = omega (arith, ints) in
+      rw (some_step (a.cost, step.1 +ℤ room) (omega (arith, ints)), no_step step none, same))
     where
       by : (a.cost ≡ step.0) ⊎ ((low ≡ 0) × (step.1 ≡ pos 0)) → pos 0 <ℤ step.1
           → steps_of (plain_step (a.cost, step.1 +ℤ room)) [] ≡ put_step (steps_of (plain_step step) []) (a.cost, room)
       by (inl at) lt =
-          some_step (a.cost, step.1 +ℤ room) (omega (arith, ints)) ∙ ap (λ z. (z, step.1 +ℤ room) ∷ []) at
-          ∙ sym (ap (λ l. put_step l (a.cost, room)) (some_step step lt) ∙ put_at step (a.cost, room) [] at)
-      by (inr none) lt = let zero = none.1 in absurd (omega (arith, ints))
+          let more = some_step (a.cost, step.1 +ℤ room) (omega (arith, ints)) in
+          rw (more, some_step step lt, put_at step (a.cost, room) [] at, at)
+      by (inr none) lt = absurd (omega (arith, ints))
 
   none_put : steps_of (plain_step (a.cost, step.1)) [] ≡ steps_of (plain_step step) []
   none_put =
       let f = free in
       by_lt_z (pos 0) step.1 (λ lt. by is.one lt)
-      (λ le. no_step (a.cost, step.1) (omega (arith, ints)) ∙ sym (no_step step (omega (arith, ints))))
+      (λ le. rw (no_step (a.cost, step.1) (omega (arith, ints)), no_step step (omega (arith, ints))))
     where
       by : (a.cost ≡ step.0) ⊎ ((low ≡ 0) × (step.1 ≡ pos 0)) → pos 0 <ℤ step.1
           → steps_of (plain_step (a.cost, step.1)) [] ≡ steps_of (plain_step step) []
-      by (inl at) lt =
-          some_step (a.cost, step.1) lt ∙ ap (λ z. (z, step.1) ∷ []) at ∙ sym (some_step step lt)
-      by (inr none) lt = let zero = none.1 in absurd (omega (arith, ints))
+      by (inl at) lt = rw (some_step (a.cost, step.1) lt, some_step step lt, at)
+      by (inr none) lt = absurd (omega (arith, ints))
 
   steps_grown : steps_of (plain_step (a.cost, step.1 +ℤ (a.cap -ℤ a.low))) []
       ≡ add_step (steps_of (plain_step step) []) (a.cost, a.cap -ℤ a.low)
   steps_grown =
-      let room = h.room in
       by_lt_z (pos 0) (a.cap -ℤ a.low)
-      (λ lt. some_put (a.cap -ℤ a.low) lt
-      ∙ sym (ap (λ b. cond b (put_step (steps_of (plain_step step) []) (a.cost, a.cap -ℤ a.low))
-      (steps_of (plain_step step) [])) (test_yes (pos 0) (a.cap -ℤ a.low) lt)))
-      (λ le. ap (λ z. steps_of (plain_step (a.cost, z)) [])
-      (let same : step.1 +ℤ (a.cap -ℤ a.low) ≡ step.1 = omega (arith, ints) in same)
-      ∙ none_put
-      ∙ sym (ap (λ b. cond b (put_step (steps_of (plain_step step) []) (a.cost, a.cap -ℤ a.low))
-      (steps_of (plain_step step) [])) (test_no (pos 0) (a.cap -ℤ a.low) le)))
+      (λ lt. rw (test_yes (pos 0) (a.cap -ℤ a.low) lt) (some_put (a.cap -ℤ a.low) lt))
+      (λ le.
+      let same : step.1 +ℤ (a.cap -ℤ a.low) ≡ step.1 = omega (arith, ints) in
+      rw (test_no (pos 0) (a.cap -ℤ a.low) le, same) none_put)
 
   cost_grown : pos low' *ℤ a.cost ≡ (pos low *ℤ step.0) +ℤ (a.low *ℤ a.cost)
   cost_grown =
@@ -90,9 +78,7 @@ module _ (low low' : ℕ) (step : ℤ × ℤ) (a : CostArc) (total : ℤ) (s : A
     where
       same : (a.cost ≡ step.0) ⊎ ((low ≡ 0) × (step.1 ≡ pos 0)) → pos low *ℤ a.cost ≡ pos low *ℤ step.0
       same (inl at) = ap (λ z. pos low *ℤ z) at
-      same (inr none) =
-          ap (λ (n : ℕ). pos n *ℤ a.cost) none.0 ∙ zero-*ℤ a.cost
-          ∙ sym (ap (λ (n : ℕ). pos n *ℤ step.0) none.0 ∙ zero-*ℤ step.0)
+      same (inr none) = rw none.0 (zero-*ℤ a.cost ∙ sym (zero-*ℤ step.0))
 
   pub plain_grown : IsGrown (numbers_of (Plain low step)) a
       (numbers_of (Plain low' (a.cost, step.1 +ℤ (a.cap -ℤ a.low))))
@@ -101,25 +87,21 @@ module _ (low low' : ℕ) (step : ℤ × ℤ) (a : CostArc) (total : ℤ) (s : A
   pub room_fits_plain : FitsSigned w64 total → FitsSigned w64 (step.1 +ℤ (a.cap -ℤ a.low))
   room_fits_plain f =
       let fr = free in
-      let low = h.some in
-      let room = h.room in
       let m = most total f in
       fits_some (step.1 +ℤ (a.cap -ℤ a.low)) (omega (arith, ints)) (omega (arith, ints))
 
 -- numbers that the code makes are those of a shape
 pub same_sound : (n : Numbers) (u c t : ℤ) (l : List (ℤ × ℤ)) → u ≡ n.units → c ≡ n.cost → t ≡ n.total → l ≡ n.steps
     → AreSound n → IsSound u c t l
-same_sound n u c t l eu ec et el s =
-    subst (λ z. IsSound z c t l) (sym eu) (subst (λ z. IsSound n.units z t l) (sym ec)
-    (subst (λ z. IsSound n.units n.cost z l) (sym et) (subst (λ z. IsSound n.units n.cost n.total z) (sym el) s)))
+same_sound n u c t l eu ec et el s = rw (eu, ec, et, el) s
 
 pub same_grown : (n old new : Numbers) (a : CostArc) → old.units ≡ n.units → old.cost ≡ n.cost → old.total ≡ n.total
     → old.steps ≡ n.steps → IsGrown old a new → IsGrown n a new
 same_grown n old new a eu ec et el g = record {
-  units = g.units ∙ ap (λ z. z +ℤ a.low) eu;
-  cost = g.cost ∙ ap (λ z. z +ℤ (a.low *ℤ a.cost)) ec;
-  total = g.total ∙ ap (λ z. z +ℤ a.cap) et;
-  steps = g.steps ∙ ap (λ l. add_step l (a.cost, a.cap -ℤ a.low)) el;
+  units = rw eu at g.units;
+  cost = rw ec at g.cost;
+  total = rw et at g.total;
+  steps = rw el at g.steps;
 }
 
 -- the numbers that the code makes of a plain shape
@@ -130,20 +112,15 @@ module _ (low : ℕ) (step : ℤ × ℤ) (units cost : ℤ) (s : AreSound (numbe
   made_units = to_z-of_z w64 units fu ∙ eu
 
   pub made_cost : to_z w128 (of_z w128 cost) ≡ pos low *ℤ step.0
-  made_cost = to_z-of_z w128 cost fc ∙ ec ∙ ap (λ z. z *ℤ step.0) made_units
+  made_cost = to_z-of_z w128 cost fc ∙ rw made_units at ec
 
   total_fits : FitsSigned w64 (pos low +ℤ step.1)
   total_fits =
-      let whole = s.whole in
-      let some = s.some in
       let left = steps_some (steps_of (plain_step step) []) s.rising in
       fits_some (pos low +ℤ step.1) (omega (arith, ints)) s.most
 
   pub made_total : to_z w64 (of_z w64 (to_z w64 (of_z w64 units) +ℤ to_z w64 (of_z w64 step.1))) ≡ pos low +ℤ step.1
-  made_total =
-      ap (λ z. to_z w64 (of_z w64 (z +ℤ to_z w64 (of_z w64 step.1)))) made_units
-      ∙ ap (λ z. to_z w64 (of_z w64 (pos low +ℤ z))) (to_z-of_z w64 step.1 fs)
-      ∙ to_z-of_z w64 (pos low +ℤ step.1) total_fits
+  made_total = rw (made_units, to_z-of_z w64 step.1 fs) (to_z-of_z w64 (pos low +ℤ step.1) total_fits)
 
 -- LOW as the code adds it
 abs_is : (z : ℤ) → pos 0 ≤ℤ z → pos (nat_abs z) ≡ z
@@ -156,23 +133,19 @@ module _ (shape : Shape) (low : ℕ) (step : ℤ × ℤ) (a : CostArc) (total : 
     (w : StaysPlain low step a) (f : FitsSigned w64 total) (fk : FitsSigned w64 a.cost) (fl : FitsSigned w64 a.low)
     (fc : FitsSigned w64 a.cap) (fs : FitsSigned w64 step.1) where
   sound_plain : AreSound (numbers_of (Plain low step))
-  sound_plain = subst (λ z. AreSound (numbers_of z)) is s
+  sound_plain = rw is at s
 
   total_plain : total ≡ (pos low +ℤ step.1) +ℤ a.cap
-  total_plain = e ∙ ap (λ z. (numbers_of z).total +ℤ a.cap) is
+  total_plain = rw is at e
 
   low_is : pos (low + nat_abs (to_z w64 (of_z w64 a.low))) ≡ pos low +ℤ a.low
-  low_is =
-      let some = h.some in
-      ap (λ z. pos (low + nat_abs z)) (to_z-of_z w64 a.low fl) ∙ ap (λ z. pos low +ℤ z) (abs_is a.low some)
+  low_is = rw (to_z-of_z w64 a.low fl) (ap (λ z. pos low +ℤ z) (abs_is a.low h.some))
 
   room_is : to_z w64 (of_z w64 (to_z w64 (of_z w64 a.cap) -ℤ to_z w64 (of_z w64 a.low))) ≡ a.cap -ℤ a.low
   room_is =
-      let low = h.some in
-      let room = h.room in
       let m = most a.cap fc in
-      (rw (to_z-of_z w64 a.cap fc, to_z-of_z w64 a.low fl) refl)
-      ∙ to_z-of_z w64 (a.cap -ℤ a.low) (fits_some (a.cap -ℤ a.low) (omega (arith, ints)) (omega (arith, ints)))
+      let f = fits_some (a.cap -ℤ a.low) (omega (arith, ints)) (omega (arith, ints)) in
+      simp to_z-of_z
 
   sum_fits : FitsSigned w64 (step.1 +ℤ (a.cap -ℤ a.low))
   sum_fits = room_fits_plain low _ step a total sound_plain h total_plain w low_is f
@@ -180,13 +153,11 @@ module _ (shape : Shape) (low : ℕ) (step : ℤ × ℤ) (a : CostArc) (total : 
   sum_same : to_z w64 (of_z w64 step.1)
       +ℤ to_z w64 (of_z w64 (to_z w64 (of_z w64 a.cap) -ℤ to_z w64 (of_z w64 a.low)))
       ≡ step.1 +ℤ (a.cap -ℤ a.low)
-  sum_same =
-      ap (λ z. z +ℤ to_z w64 (of_z w64 (to_z w64 (of_z w64 a.cap) -ℤ to_z w64 (of_z w64 a.low))))
-      (to_z-of_z w64 step.1 fs) ∙ ap (λ z. step.1 +ℤ z) room_is
+  sum_same = rw (to_z-of_z w64 step.1 fs, room_is)
 
   pub plain_sum_fits : FitsSigned w64 (to_z w64 (of_z w64 step.1)
       +ℤ to_z w64 (of_z w64 (to_z w64 (of_z w64 a.cap) -ℤ to_z w64 (of_z w64 a.low))))
-  plain_sum_fits = subst (FitsSigned w64) (sym sum_same) sum_fits
+  plain_sum_fits = rw sum_same sum_fits
 
   abbrev made : ℤ × ℤ
   made = (
@@ -197,16 +168,11 @@ module _ (shape : Shape) (low : ℕ) (step : ℤ × ℤ) (a : CostArc) (total : 
   )
 
   made_step : ◌≡◌ {A = ℤ × ℤ} (a.cost, step.1 +ℤ (a.cap -ℤ a.low)) made
-  made_step =
-      ap (λ z. (z, step.1 +ℤ (a.cap -ℤ a.low))) (sym (to_z-of_z w64 a.cost fk))
-      ∙ ap (λ z. (to_z w64 (of_z w64 a.cost), z))
-      (sym (ap (λ z. to_z w64 (of_z w64 z)) sum_same ∙ to_z-of_z w64 (step.1 +ℤ (a.cap -ℤ a.low)) sum_fits))
+  made_step = rw (sum_same, to_z-of_z w64 a.cost fk, to_z-of_z w64 (step.1 +ℤ (a.cap -ℤ a.low)) sum_fits)
 
   pub plain_taken : IsGrown (numbers_of shape) a
       (numbers_of (Plain (low + nat_abs (to_z w64 (of_z w64 a.low))) made))
   plain_taken =
-      subst (λ z. IsGrown (numbers_of z) a (numbers_of (Plain (low + nat_abs (to_z w64 (of_z w64 a.low))) made)))
-      (sym is)
-      (subst
+      rw is (subst
       (λ p. IsGrown (numbers_of (Plain low step)) a (numbers_of (Plain (low + nat_abs (to_z w64 (of_z w64 a.low))) p)))
       made_step (plain_grown low _ step a total sound_plain h total_plain w low_is))

@@ -1,9 +1,8 @@
 -- The least costs of a curve by its breakpoints, and the loop over the breakpoints that finds the least cost of one
 -- amount.
-use Rattle.std.proofs.Common.{◌≡◌, ◌-◌, ◌^◌, ℤ, pos, ◌+ℤ◌, ◌-ℤ◌, ◌*ℤ◌, ◌≤ℤ◌, ◌<ℤ◌, List, [], ◌∷◌, map, sym, ap, ◌∙◌, subst, arith, to_z, of_z, w64, true, false}
+use Rattle.std.proofs.Common.{◌≡◌, ◌-◌, ◌^◌, ℤ, pos, ◌+ℤ◌, ◌-ℤ◌, ◌*ℤ◌, ◌≤ℤ◌, ◌<ℤ◌, List, [], ◌∷◌, map, sym, ap, ◌∙◌, arith, to_z, of_z, w64, true, false, FitsSigned}
 use Rattle.std.proofs.lemmas.Int.{ints, to_z-of_z}
 use Rattle.std.specs.Int.{w128}
-use Rattle.std.specs.Int.RustNames.{FitsSigned}
 use Rattle.std.specs.Int.Signed.{le_z}
 use Rattle.std.proofs.Math.IntN.{*ℤ_comm}
 use Rattle.dn_arc.specs.declared.arc.Form.TheVariants.{One}
@@ -42,11 +41,8 @@ module _ (units cost total : ℤ) (steps : List (ℤ × ℤ)) (s : IsSound units
   same_cost x h =
       let n = none_is units cost total steps s in
       let a = listed_apart units cost steps s.some n s.rising in
-      ap (λ z. z +ℤ fill_cost (listed One units cost steps) (x -ℤ forced_units (listed One units cost steps)))
-      (listed_cost units cost steps s.some n s.rising)
-      ∙ ap (λ z. cost +ℤ fill_cost (listed One units cost steps) (x -ℤ z))
-      (listed_units units cost steps s.some n s.rising)
-      ∙ ap (λ z. cost +ℤ z) (a.fill (x -ℤ units) (omega (arith, ints)))
+      rw (listed_cost units cost steps s.some n s.rising, listed_units units cost steps s.some n s.rising)
+      (ap (λ z. cost +ℤ z) (a.fill (x -ℤ units) (omega (arith, ints))))
 
   same_room : free_room (listed One units cost steps) ≡ steps_room steps
   same_room = (listed_apart units cost steps s.some (none_is units cost total steps s) s.rising).room
@@ -61,8 +57,6 @@ module _ (units cost total : ℤ) (steps : List (ℤ × ℤ)) (s : IsSound units
       (form_one_ordered _ (listed_one units cost steps s.some n s.rising)) l in
       let u = listed_units units cost steps s.some n s.rising in
       let r = same_room in
-      let low = f.low in
-      let high = f.high in
       let under : units ≤ℤ x = omega (arith, ints) in
       record { low = under; high = omega (arith, ints); is = f.cost ∙ same_cost x under }
 
@@ -71,8 +65,6 @@ module _ (units cost total : ℤ) (steps : List (ℤ × ℤ)) (s : IsSound units
       let n = none_is units cost total steps s in
       let u = listed_units units cost steps s.some n s.rising in
       let r = same_room in
-      let low = p.low in
-      let high = p.high in
       least_of_filling (listed One units cost steps) x k
       (form_one_ordered _ (listed_one units cost steps s.some n s.rising))
       (record { low = omega (arith, ints); high = omega (arith, ints); cost = p.is ∙ sym (same_cost x p.low) })
@@ -82,21 +74,19 @@ module _ (amount cost : ℤ) (step : ℤ × ℤ) (rest : List (ℤ × ℤ)) (x :
     (past : (amount +ℤ step.1) <ℤ x) where
   more_cost : steps_cost (step ∷ rest) (x -ℤ amount) ≡ (step.1 *ℤ step.0) +ℤ steps_cost rest (x -ℤ (amount +ℤ step.1))
   more_cost =
-      fill_high (step_arc step) (map step_arc rest) (x -ℤ amount) (omega (arith, ints))
-      ∙ ap (λ z. (step.0 *ℤ z) +ℤ fill_cost (map step_arc rest) ((x -ℤ amount) -ℤ z))
-      (let e : room (step_arc step) ≡ step.1 = omega (arith, ints) in e)
-      ∙ ap (λ z. z +ℤ fill_cost (map step_arc rest) ((x -ℤ amount) -ℤ step.1)) (*ℤ_comm step.0 step.1)
-      ∙ ap (λ z. (step.1 *ℤ step.0) +ℤ fill_cost (map step_arc rest) z)
-      (let e : (x -ℤ amount) -ℤ step.1 ≡ x -ℤ (amount +ℤ step.1) = omega (arith, ints) in e)
+      let whole : room (step_arc step) ≡ step.1 = omega (arith, ints) in
+      let left : (x -ℤ amount) -ℤ step.1 ≡ x -ℤ (amount +ℤ step.1) = omega (arith, ints) in
+      let past = fill_high (step_arc step) (map step_arc rest) (x -ℤ amount) (omega (arith, ints)) in
+      rw (past, whole, *ℤ_comm step.0 step.1, left)
 
   pub at_more : (k : ℤ) → IsAt amount cost (step ∷ rest) x k
       → IsAt (amount +ℤ step.1) (cost +ℤ (step.1 *ℤ step.0)) rest x k
-  at_more k p = let high = p.high in let e = p.is in let m = more_cost in
+  at_more k p = let m = more_cost in
       record { low = omega (arith, ints); high = omega (arith, ints); is = omega (arith, ints) }
 
   pub more_at : (k : ℤ) → IsAt (amount +ℤ step.1) (cost +ℤ (step.1 *ℤ step.0)) rest x k
       → IsAt amount cost (step ∷ rest) x k
-  more_at k p = let high = p.high in let e = p.is in let m = more_cost in
+  more_at k p = let m = more_cost in
       record { low = omega (arith, ints); high = omega (arith, ints); is = omega (arith, ints) }
 
 -- the cost of an amount within the first breakpoint
@@ -131,11 +121,11 @@ pub record IsTaken (units cost : ℤ) (steps : List (ℤ × ℤ)) (x taken spent
   pub most : (taken +ℤ steps_room rest) ≤ℤ pos (2 ^ 63 - 1)
 
 within : (left room : ℤ) → FitsSigned w64 room → le_z left (to_z w64 (of_z w64 room)) ≡ true → left ≤ℤ room
-within left room f h = let e : le_z left room ≡ true = sym (ap (le_z left) (to_z-of_z w64 room f)) ∙ h in
+within left room f h = let e : le_z left room ≡ true = simp to_z-of_z at h in
     grind (arith, ints)
 
 past : (left room : ℤ) → FitsSigned w64 room → le_z left (to_z w64 (of_z w64 room)) ≡ false → room <ℤ left
-past left room f h = let e : le_z left room ≡ false = sym (ap (le_z left) (to_z-of_z w64 room f)) ∙ h in
+past left room f h = let e : le_z left room ≡ false = simp to_z-of_z at h in
     grind (arith, ints)
 
 -- one turn of the loop in the code
@@ -143,31 +133,26 @@ module _ (units cost : ℤ) (steps : List (ℤ × ℤ)) (x taken spent : ℤ) (l
     (fx : FitsSigned w64 x) (f0 : FitsSigned w64 step.0) (f1 : FitsSigned w64 step.1)
     (t : IsTaken units cost steps x taken spent list) (e : list ≡ step ∷ rest) where
   here : IsTaken units cost steps x taken spent (step ∷ rest)
-  here = subst (IsTaken units cost steps x taken spent) e t
+  here = rw e at t
 
   left_is : to_z w64 (of_z w64 (x -ℤ taken)) ≡ x -ℤ taken
-  left_is = let some = t.some in let low = t.low in let m = most x fx in
+  left_is = let m = most x fx in
       to_z-of_z w64 (x -ℤ taken) (fits_some (x -ℤ taken) (omega (arith, ints)) (omega (arith, ints)))
 
   last : le_z (to_z w64 (of_z w64 (x -ℤ taken))) (to_z w64 (of_z w64 step.1)) ≡ true → (x -ℤ taken) ≤ℤ step.1
-  last h = within (x -ℤ taken) step.1 f1 (sym (ap (λ z. le_z z (to_z w64 (of_z w64 step.1))) left_is) ∙ h)
+  last h = within (x -ℤ taken) step.1 f1 (rw left_is at h)
 
   pub last_fits : le_z (to_z w64 (of_z w64 (x -ℤ taken))) (to_z w64 (of_z w64 step.1)) ≡ true
       → FitsSigned w128 (spent +ℤ (to_z w64 (of_z w64 (x -ℤ taken)) *ℤ step.0))
   last_fits h =
-      let low = t.low in
       let u = last h in
-      let m = here.most in
       let left = steps_some rest here.rising.2 in
-      subst (λ z. FitsSigned w128 (spent +ℤ (z *ℤ step.0))) (sym left_is)
+      rw left_is
       (more_fits spent (x -ℤ taken) step.0 taken t.some (omega (arith, ints)) (omega (arith, ints)) f0 t.mean)
 
   pub last_is : (r : ℤ) → le_z (to_z w64 (of_z w64 (x -ℤ taken))) (to_z w64 (of_z w64 step.1)) ≡ true
       → r ≡ spent +ℤ (to_z w64 (of_z w64 (x -ℤ taken)) *ℤ step.0) → IsAt units cost steps x r
-  last_is r h v =
-      here.back r
-      (subst (IsAt taken spent (step ∷ rest) x) (sym (v ∙ ap (λ z. spent +ℤ (z *ℤ step.0)) left_is))
-      (at_here taken spent step rest x here.rising.2 t.low (last h)))
+  last_is r h v = here.back r (rw (v, left_is) (at_here taken spent step rest x here.rising.2 t.low (last h)))
 
   pub next_fits : FitsSigned w128 (spent +ℤ (step.1 *ℤ step.0))
   next_fits =
@@ -181,7 +166,7 @@ module _ (units cost : ℤ) (steps : List (ℤ × ℤ)) (x taken spent : ℤ) (l
       → IsTaken units cost steps x (to_z w64 (of_z w64 (taken +ℤ to_z w64 (of_z w64 step.1))))
       (to_z w128 (of_z w128 r)) rest
   next r fr h v =
-      let p = past (x -ℤ taken) step.1 f1 (sym (ap (λ z. le_z z (to_z w64 (of_z w64 step.1))) left_is) ∙ h) in
+      let p = past (x -ℤ taken) step.1 f1 (rw left_is at h) in
       let some = here.rising.0 in
       let low = t.some in
       let m = here.most in
@@ -197,24 +182,21 @@ module _ (units cost : ℤ) (steps : List (ℤ × ℤ)) (x taken spent : ℤ) (l
         rising = here.rising.2;
         most = omega (arith, ints);
       } in
-      let taken_is : to_z w64 (of_z w64 (taken +ℤ to_z w64 (of_z w64 step.1))) ≡ taken +ℤ step.1 =
-      ap (λ z. to_z w64 (of_z w64 (taken +ℤ z))) (to_z-of_z w64 step.1 f1)
-      ∙ to_z-of_z w64 (taken +ℤ step.1) (fits_some (taken +ℤ step.1) (omega (arith, ints)) (omega (arith, ints))) in
-      subst (λ z. IsTaken units cost steps x z (to_z w128 (of_z w128 r)) rest) (sym taken_is)
-      (subst (λ z. IsTaken units cost steps x (taken +ℤ step.1) z rest) (sym (to_z-of_z w128 r fr ∙ v)) new)
+      let sum = fits_some (taken +ℤ step.1) (omega (arith, ints)) (omega (arith, ints)) in
+      simp to_z-of_z (rw v new)
 
 -- the end of the loop
 module _ (units cost : ℤ) (steps : List (ℤ × ℤ)) (x taken spent : ℤ) (list : List (ℤ × ℤ))
     (t : IsTaken units cost steps x taken spent list) (e : list ≡ []) where
   done : IsTaken units cost steps x taken spent []
-  done = subst (IsTaken units cost steps x taken spent) e t
+  done = rw e at t
 
   pub done_is : x ≡ taken → IsAt units cost steps x spent
-  done_is h = done.back spent (subst (λ z. IsAt taken spent [] z spent) (sym h) (at_start taken spent [] tt))
+  done_is h = done.back spent (rw h (at_start taken spent [] tt))
 
   pub done_not : (x ≡ taken → ⊥) → (k : ℤ) → IsAt units cost steps x k → ⊥
-  done_not h k p = let q = done.there k p in let low = q.low in let high = q.high in h (omega (arith, ints))
+  done_not h k p = let q = done.there k p in h (omega (arith, ints))
 
 -- an amount below the forced units has no cost
 pub too_little : (amount cost : ℤ) (steps : List (ℤ × ℤ)) (x k : ℤ) → x <ℤ amount → IsAt amount cost steps x k → ⊥
-too_little amount cost steps x k h p = let low = p.low in absurd (omega (arith, ints))
+too_little amount cost steps x k h p = absurd (omega (arith, ints))

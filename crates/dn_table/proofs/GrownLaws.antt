@@ -1,16 +1,15 @@
 -- Look-ups among entries of different pairs after a change.
-use Rattle.std.proofs.Common.{◌≡◌, ◌↔◌, ℕ, zero, suc, ◌<◌, ℤ, List, [], ◌∷◌, ◌++◌, length, get_or, set, Bool, true, false, cond, Option, Some, None, is_some, refl, sym, ap, ◌∙◌, subst, arith}
+use Rattle.std.proofs.Common.{inl, inr, ◌≡◌, ℕ, zero, suc, ◌<◌, ℤ, List, [], ◌∷◌, ◌++◌, length, get_or, set, Bool, true, false, Option, Some, None, is_some, refl, sym, ap, ◌∙◌, arith}
 use Rattle.std.specs.List.{IsDistinct, list_any, slice_get}
 use Rattle.std.specs.List.Sorted.{IsStrictlySortedBy}
 use Rattle.std.specs.Map.{keys_of, lookup}
+use Rattle.std.proofs.lemmas.Bool.{cases_Bool}
 use Rattle.std.proofs.lemmas.List.{set-get_or}
 use Rattle.std.proofs.lemmas.Map.Entries.{lookup_from_place, length-keys_of}
 use Rattle.std.proofs.lemmas.Map.Made.{is_some-lookup}
 use Rattle.std.proofs.lemmas.Option.{slice_get-get_or}
-use Rattle.dn_arc.specs.State.Bundles.{listed_of}
 use Rattle.dn_arc.specs.Kinds.{ArcKind}
-use Rattle.dn_arc.specs.State.Kinds.{AreCanonArcsOf}
-use Rattle.dn_arc.specs.Pairs.{bundle, pair_cmp, same_pair}
+use Rattle.dn_arc.specs.Pairs.{pair_cmp, same_pair}
 use Rattle.dn_table.specs.State.Tables.{Grows, TableStandsFor, TableLists}
 use Rattle.dn_table.proofs.PairLaws.{other_pair}
 use Rattle.dn_table.proofs.TableLaws.{grows_there}
@@ -22,27 +21,22 @@ use Rattle.pair_index.specs.State.Positions.{key_at}
 module _ {X : Type 0} (t : ℤ × ℤ → Bool) (e : (ℤ × ℤ) × X) where
   -- the look-up of an appended entry
   pub push_found : (es : List ((ℤ × ℤ) × X)) → lookup t es ≡ None → t e.0 ≡ true → lookup t (es ++ e ∷ []) ≡ Some e.1
-  push_found [] h is = ap (λ b. cond b (Some e.1) None) is
-  push_found (x ∷ xs) h is = by_test (t x.0) h (push_found xs)
-    where
-      by_test : (b : Bool) → cond b (Some x.1) (lookup t xs) ≡ None
-          → (lookup t xs ≡ None → t e.0 ≡ true → lookup t (xs ++ e ∷ []) ≡ Some e.1)
-          → cond b (Some x.1) (lookup t (xs ++ e ∷ [])) ≡ Some e.1
-      by_test true g i = cc
-      by_test false g i = i g is
+  push_found [] h is = rw is
+  push_found (x ∷ xs) h is = elim (cases_Bool (t x.0)) [
+    | inl b ↦ cc (rw b at h)
+    | inr b ↦ rw b (push_found xs (rw b at h) is)
+  ]
 
   pub push_other : (es : List ((ℤ × ℤ) × X)) → t e.0 ≡ false → lookup t (es ++ e ∷ []) ≡ lookup t es
-  push_other [] is = ap (λ b. cond b (Some e.1) None) is
-  push_other (x ∷ xs) is = ap (cond (t x.0) (Some x.1)) (push_other xs is)
+  push_other [] is = rw is
+  push_other (x ∷ xs) is = rw (push_other xs is)
 
   -- changing the value of one entry does not change the look-up of others
   pub set_other : (es : List ((ℤ × ℤ) × X)) (i : ℕ) (w : X) → i < length es → e ≡ get_or es i e → t e.0 ≡ false
       → lookup t (set es i (e.0, w)) ≡ lookup t es
   set_other [] i w lt is no_test = refl
-  set_other (x ∷ xs) zero w lt is no_test =
-      ap (λ b. cond b (Some w) (lookup t xs)) no_test
-      ∙ sym (ap (λ b. cond b (Some x.1) (lookup t xs)) (ap (λ (y : (ℤ × ℤ) × X). t y.0) (sym is) ∙ no_test))
-  set_other (x ∷ xs) (suc i) w lt is no_test = ap (cond (t x.0) (Some x.1)) (set_other xs i w (omega arith) is no_test)
+  set_other (x ∷ xs) zero w lt is no_test = let f : t x.0 ≡ false = rw (← is) no_test in rw (no_test, f)
+  set_other (x ∷ xs) (suc i) w lt is no_test = rw (set_other xs i w (omega arith) is no_test)
 
 pub none_is : {X : Type 0} (o : Option X) → is_some o ≡ false → o ≡ None
 none_is None h = refl
@@ -55,7 +49,7 @@ module _ {X : Type 0} (p : ℤ × ℤ) (es : List ((ℤ × ℤ) × X)) where
   -- a pair that is not among the keys of a list has no entry in an equal list
   pub none_as : (now : List ((ℤ × ℤ) × X)) → es ≡ now → list_any (same_pair p) (keys_of es) ≡ false
       → lookup (same_pair p) now ≡ None
-  none_as now same fresh = ap (lookup (same_pair p)) (sym same) ∙ lookup_none fresh
+  none_as now same fresh = rw (← same) (lookup_none fresh)
 
   pub any_none : lookup (same_pair p) es ≡ None → list_any (same_pair p) (keys_of es) ≡ false
   any_none h = sym (is_some-lookup (same_pair p) es) ∙ ap is_some h
@@ -63,27 +57,24 @@ module _ {X : Type 0} (p : ℤ × ℤ) (es : List ((ℤ × ℤ) × X)) where
   module _ (apart : IsDistinct same_pair (keys_of es)) (i : ℕ) (e : (ℤ × ℤ) × X) (lt : i < length (keys_of es))
       (at : key_at (keys_of es) i ≡ p) (is : e ≡ get_or es i e) where
     inside : i < length es
-    inside = subst (λ n. i < n) (length-keys_of es) lt
+    inside = rw length-keys_of at lt
 
     placed : slice_get es i ≡ Some e
-    placed = slice_get-get_or es i e inside ∙ ap (λ (x : (ℤ × ℤ) × X). Some x) (sym is)
+    placed = rw (← is) at (slice_get-get_or es i e inside)
 
     pub key_here : e.0 ≡ p
     key_here = sym (key_of_entry false es i e placed) ∙ at
 
     -- the look-up of the entry at a position
     pub found_at : lookup (same_pair p) es ≡ Some e.1
-    found_at =
-        subst (λ k. lookup (same_pair k) es ≡ Some e.1) key_here
-        (lookup_from_place pair_equiv es i e.0 e.1 apart placed)
+    found_at = rw (← key_here) (lookup_from_place pair_equiv es i e.0 e.1 apart placed)
 
     -- the look-up of an entry whose value has changed
     pub found_then : (w : X) → lookup (same_pair p) (set es i (e.0, w)) ≡ Some w
     found_then w =
         let here : slice_get (set es i (e.0, w)) i ≡ Some (e.0, w) = slice_get_set es i (e.0, w) inside in
-        subst (λ k. lookup (same_pair k) (set es i (e.0, w)) ≡ Some w) key_here
-        (lookup_from_place pair_equiv (set es i (e.0, w)) i e.0 w
-        (subst (IsDistinct same_pair) (sym (keys_kept es i e w lt is)) apart) here)
+        rw (← key_here)
+        (lookup_from_place pair_equiv (set es i (e.0, w)) i e.0 w (rw (keys_kept es i e w lt is) apart) here)
       where
         slice_get_set : (xs : List ((ℤ × ℤ) × X)) (j : ℕ) (y : (ℤ × ℤ) × X) → j < length xs
             → slice_get (set xs j y) j ≡ Some y
@@ -111,8 +102,8 @@ pub lists_as : {B Arc : Type 0} (kind : ArcKind Arc) (lists : B → List Arc) (t
     (arcs : List ((ℤ × ℤ) × Arc)) → ((p : ℤ × ℤ) → lookup (same_pair p) other ≡ lookup (same_pair p) table)
     → TableLists kind lists table arcs → TableLists kind lists other arcs
 lists_as kind lists table other arcs same t = record {
-  stands = λ p. subst (λ o. AreCanonArcsOf kind (listed_of lists o) (bundle p arcs)) (sym (same p)) (t.stands p);
-  absent = λ p. subst (λ o. (o ≡ None) ↔ kind.Same (bundle p arcs) []) (sym (same p)) (t.absent p);
+  stands = λ p. rw (same p) (t.stands p);
+  absent = λ p. rw (same p) (t.absent p);
 }
 
 -- a sorted table with the same look-ups represents the same arcs

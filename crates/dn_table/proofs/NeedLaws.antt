@@ -1,12 +1,11 @@
 -- An arc for which a table needs memory is one for which the graph does.
-use Rattle.std.proofs.Common.{◌≡◌, ℕ, zero, suc, ℤ, List, [], ◌∷◌, ◌++◌, None, refl, sym, subst, arith}
-use mathlib.Core.Logic.{inl, inr}
+use Rattle.std.proofs.Common.{◌≡◌, ℕ, zero, suc, ℤ, List, [], ◌∷◌, ◌++◌, None, refl, arith, inl, inr}
 use Rattle.std.specs.List.{AllByRecursion}
 use Rattle.std.specs.Map.{lookup}
 use Rattle.dn_arc.specs.Kinds.{ArcKind}
 use Rattle.dn_arc.specs.State.Kinds.{NeedsMore}
 use Rattle.dn_arc.specs.declared.arc.Form.TheVariants.{One}
-use Rattle.dn_arc.specs.State.Bundles.{IsKind, listed_of}
+use Rattle.dn_arc.specs.State.Bundles.{IsKind}
 use Rattle.dn_arc.specs.Pairs.{bundle, same_pair}
 use Rattle.dn_arc.proofs.OrdersLaws.{same_push}
 use Rattle.dn_bundle.proofs.BundleLaws.{all_end}
@@ -39,14 +38,13 @@ module _ {Arc : Type 0} (kind : ArcKind Arc) (laws : IsKind kind) where
 pub needs_fresh : {B Arc : Type 0} (kind : ArcKind Arc) (lists : B → List Arc) (m : List ((ℤ × ℤ) × B)) (pair : ℤ × ℤ)
     (arc : Arc) → lookup (same_pair pair) m ≡ None → NeedsMore kind [] arc
     → NeedsMore kind (listed_at lists m pair) arc
-needs_fresh kind lists m pair arc e h = subst (λ o. NeedsMore kind (listed_of lists o) arc) (sym e) h
+needs_fresh kind lists m pair arc e h = rw e h
 
 -- at a pair with a bundle, an arc needs memory if the bundle does
 pub needs_listed : {B Arc : Type 0} (kind : ArcKind Arc) (lists : B → List Arc) (arc : Arc)
     (m now : List ((ℤ × ℤ) × B)) (pair : ℤ × ℤ) (listed : List Arc) → m ≡ now → listed_at lists m pair ≡ listed
     → NeedsMore kind listed arc → NeedsMore kind (listed_at lists now pair) arc
-needs_listed kind lists arc m now pair listed e f h =
-    subst (λ x. NeedsMore kind (listed_at lists x pair) arc) e (subst (λ l. NeedsMore kind l arc) (sym f) h)
+needs_listed kind lists arc m now pair listed e f h = rw (← e) (rw f h)
 
 -- an arc for which the table needs memory at its pair is one for which the graph of its arcs does
 pub needs_graph : {B Arc : Type 0} (kind : ArcKind Arc) → IsKind kind → (lists : B → List Arc)

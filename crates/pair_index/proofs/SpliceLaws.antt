@@ -1,5 +1,5 @@
 -- Linking one more position into the chain of its tail.
-use Rattle.std.proofs.Common.{◌≡◌, ℕ, suc, ◌+◌, ◌-◌, ◌<◌, ◌≤◌, ℤ, pos, ◌<ℤ◌, ◌≤ℤ◌, List, [], ◌∷◌, ◌++◌, length, get_or, set, take, false, ◌⊎◌, inl, inr, refl, sym, ap, ◌∙◌, subst, arith}
+use Rattle.std.proofs.Common.{◌≡◌, ℕ, suc, ◌+◌, ◌-◌, ◌<◌, ◌≤◌, ℤ, pos, ◌<ℤ◌, ◌≤ℤ◌, List, [], ◌∷◌, ◌++◌, length, get_or, set, take, false, ◌⊎◌, inl, inr, refl, sym, ap, ◌∙◌, arith}
 use Rattle.std.specs.List.{list_any, IsDistinct}
 use Rattle.std.specs.Map.{keys_of}
 use Rattle.std.proofs.lemmas.Map.Entries.{length-keys_of}
@@ -56,10 +56,9 @@ spliced_after heads next t before after link some inside = record {
       ∙ get_or_append_left next (after ∷ []) 0 i lt;
   first = λ e. absurd (some e);
   not_first = λ e. refl;
-  follows = λ b e. (let all : length (next ++ after ∷ []) ≡ length next + 1 = length_push next after in
+  follows = λ b e.
       let at : before - 1 ≡ b = omega (arith, e) in
-      subst (λ m. get_or (set (next ++ after ∷ []) (before - 1) link) m 0 ≡ link) at
-      (get_or-set_same (next ++ after ∷ []) (before - 1) link 0 (omega arith)));
+      rw (← at) (get_or-set_same (next ++ after ∷ []) (before - 1) link 0 (omega (arith, length_push next after)));
 }
 
 module _ (keys : List (ℤ × ℤ)) (k : ℤ × ℤ) where
@@ -67,84 +66,53 @@ module _ (keys : List (ℤ × ℤ)) (k : ℤ × ℤ) where
   now = keys ++ k ∷ []
 
   longer : (i : ℕ) → i < length keys → i < length now
-  longer i lt = (let n : length now ≡ length keys + 1 = length_push keys k in omega arith)
+  longer i lt = omega (arith, length_push keys k)
+
+  -- the link leads to a key that is not greater than an earlier one
+  kept : (Asked : ℤ × ℤ → Type 0) (link : ℕ) → LeadsTo keys Asked link → (i : ℕ) → i < length keys
+      → Asked (key_at now i) → (j : ℕ) × (link ≡ suc j) × ((key_at now j).1 ≤ℤ (key_at now i).1)
+  kept Asked link old i l asked =
+      let at = old.least i l (rw (key_kept keys k i l) at asked) in
+      (at.0, at.1, rw (key_kept keys k at.0 (old.there at.0 at.1).0, key_kept keys k i l) at.2)
 
   -- the new pair does not satisfy `Asked`, so the link remains right
   still : (Asked : ℤ × ℤ → Type 0) (link : ℕ) → LeadsTo keys Asked link → (Asked k → ⊥) → LeadsTo now Asked link
   still Asked link old not = record {
-    there = λ i e. (let at = old.there i e in (longer i at.0, subst Asked (sym (key_kept keys k i at.0)) at.1));
-    least = λ i lt asked. by_position i lt asked (cases_lt i (length keys));
+    there = λ i e. (let at = old.there i e in (longer i at.0, rw (key_kept keys k i at.0) at.1));
+    least = λ i lt asked. elim (cases_lt i (length keys)) [
+      | inl l ↦ kept Asked link old i l asked
+      | inr l ↦ absurd (not (rw (key_new keys k i (omega (arith, length_push keys k))) at asked))
+    ];
   }
-    where
-      by_position : (i : ℕ) → i < length now → Asked (key_at now i) → (i < length keys) ⊎ (length keys ≤ i) → (j : ℕ)
-          × (link ≡ suc j) × ((key_at now j).1 ≤ℤ (key_at now i).1)
-      by_position i lt asked (inl l) =
-          let at = old.least i l (subst Asked (key_kept keys k i l) asked) in
-          let inside : at.0 < length keys = (old.there at.0 at.1).0 in (
-            at.0,
-            at.1,
-            subst (λ (p : ℤ × ℤ). p.1 ≤ℤ (key_at now i).1) (sym (key_kept keys k at.0 inside))
-                (subst (λ (p : ℤ × ℤ). (key_at keys at.0).1 ≤ℤ p.1) (sym (key_kept keys k i l)) at.2),
-          )
-      by_position i lt asked (inr l) =
-          let n : length now ≡ length keys + 1 = length_push keys k in
-          absurd (not (subst Asked (key_new keys k i (omega arith)) asked))
 
   -- the new pair satisfies `Asked` but is not the least, so the link remains right
   behind : (Asked : ℤ × ℤ → Type 0) (link j : ℕ) → LeadsTo keys Asked link → link ≡ suc j → (key_at keys j).1 ≤ℤ k.1
       → LeadsTo now Asked link
   behind Asked link j old is low = record {
-    there = λ i e. (let at = old.there i e in (longer i at.0, subst Asked (sym (key_kept keys k i at.0)) at.1));
-    least = λ i lt asked. by_position i lt asked (cases_lt i (length keys));
+    there = λ i e. (let at = old.there i e in (longer i at.0, rw (key_kept keys k i at.0) at.1));
+    least = λ i lt asked. elim (cases_lt i (length keys)) [
+      | inl l ↦ kept Asked link old i l asked
+      | inr l ↦
+          let new = key_new keys k i (omega (arith, length_push keys k)) in
+          (j, is, rw (key_kept keys k j (old.there j is).0, new) low)
+    ];
   }
-    where
-      by_position : (i : ℕ) → i < length now → Asked (key_at now i) → (i < length keys) ⊎ (length keys ≤ i) → (m : ℕ)
-          × (link ≡ suc m) × ((key_at now m).1 ≤ℤ (key_at now i).1)
-      by_position i lt asked (inl l) =
-          let at = old.least i l (subst Asked (key_kept keys k i l) asked) in
-          let inside : at.0 < length keys = (old.there at.0 at.1).0 in (
-            at.0,
-            at.1,
-            subst (λ (p : ℤ × ℤ). p.1 ≤ℤ (key_at now i).1) (sym (key_kept keys k at.0 inside))
-                (subst (λ (p : ℤ × ℤ). (key_at keys at.0).1 ≤ℤ p.1) (sym (key_kept keys k i l)) at.2),
-          )
-      by_position i lt asked (inr l) =
-          let n : length now ≡ length keys + 1 = length_push keys k in
-          let new : key_at now i ≡ k = key_new keys k i (omega arith) in
-          let inside : j < length keys = (old.there j is).0 in (
-            j,
-            is,
-            subst (λ (p : ℤ × ℤ). p.1 ≤ℤ (key_at now i).1) (sym (key_kept keys k j inside))
-                (subst (λ (p : ℤ × ℤ). (key_at keys j).1 ≤ℤ p.1) (sym new) low),
-          )
 
   -- the new pair satisfies `Asked` and is the least, so the link to it is right
   ahead : (Asked : ℤ × ℤ → Type 0) → Asked k
       → ((i : ℕ) → i < length keys → Asked (key_at keys i) → k.1 ≤ℤ (key_at keys i).1)
       → LeadsTo now Asked (suc (length keys))
   ahead Asked here low = record {
-    there =
-        λ i e.
-        (let n : length now ≡ length keys + 1 =
-        length_push keys k in (omega (arith, e), subst Asked (sym (key_new keys k i (omega (arith, e)))) here));
-    least =
-        λ i lt asked. (
-          length keys,
-          refl,
-          subst (λ (p : ℤ × ℤ). p.1 ≤ℤ (key_at now i).1) (sym (key_new keys k (length keys) refl))
-              (by_position i lt asked (cases_lt i (length keys))),
-        );
+    there = λ i e.
+        (omega (arith, e, length_push keys k), rw (key_new keys k i (omega (arith, e))) here);
+    least = λ i lt asked. (length keys, refl, rw (key_new keys k (length keys) refl) (low_now i lt asked));
   }
     where
-      by_position : (i : ℕ) → i < length now → Asked (key_at now i) → (i < length keys) ⊎ (length keys ≤ i)
-          → k.1 ≤ℤ (key_at now i).1
-      by_position i lt asked (inl l) =
-          subst (λ (p : ℤ × ℤ). k.1 ≤ℤ p.1) (sym (key_kept keys k i l))
-          (low i l (subst Asked (key_kept keys k i l) asked))
-      by_position i lt asked (inr l) =
-          let n : length now ≡ length keys + 1 = length_push keys k in
-          subst (λ (p : ℤ × ℤ). k.1 ≤ℤ p.1) (sym (key_new keys k i (omega arith)))
-          (let same : k.1 ≤ℤ k.1 = omega (arith, ints) in same)
+      low_now : (i : ℕ) → i < length now → Asked (key_at now i) → k.1 ≤ℤ (key_at now i).1
+      low_now i lt asked = elim (cases_lt i (length keys)) [
+        | inl l ↦ rw (key_kept keys k i l) (low i l (rw (key_kept keys k i l) at asked))
+        | inr l ↦ rw (key_new keys k i (omega (arith, length_push keys k))) (omega (arith, ints))
+      ]
 
 -- the links with one more position
 module _ (heads tops next links : List ℕ) (keys : List (ℤ × ℤ)) (k : ℤ × ℤ) (t before after link : ℕ)
@@ -155,74 +123,53 @@ module _ (heads tops next links : List ℕ) (keys : List (ℤ × ℤ)) (k : ℤ 
   -- if the splice is at the beginning, all heads of the tail are at least the new one
   all_past : before ≡ 0 → (i : ℕ) → i < length keys → (key_at keys i).0 ≡ k.0 → k.1 ≤ℤ (key_at keys i).1
   all_past none i lt tail = by_lt_z (key_at keys i).1 k.1
-      (λ low.
-      (let b = greatest_before keys k before after stops sought i lt tail low in
-      let some : before ≡ suc b.0 = b.1 in absurd (omega (arith, some))))
+      (λ low. absurd (omega (arith, none, (greatest_before keys k before after stops sought i lt tail low).1)))
       (λ up. up)
 
   top_here : (before ≡ 0) ⊎ (before ≡ 0 → ⊥) → LeadsTo (now keys k) (λ p. p.0 ≡ pos t) (get_or tops t 0)
   top_here (inl none) =
-      subst (LeadsTo (now keys k) (λ p. p.0 ≡ pos t)) (sym (done.first none ∙ one))
+      rw (done.first none, one)
       (ahead keys k (λ p. p.0 ≡ pos t) is (λ i lt tail. all_past none i lt (tail ∙ sym is)))
-  top_here (inr some) = by_sought sought
-    where
-      by_sought : Sought keys k before after → LeadsTo (now keys k) (λ p. p.0 ≡ pos t) (get_or tops t 0)
-      by_sought (inl s) = absurd (some s.is)
-      by_sought (inr s) =
-          let first = old.at_head t known in
-          let at = first.least s.at s.inside (s.tail ∙ is) in
-          let down : (key_at keys at.0).1 ≤ℤ (key_at keys s.at).1 = at.2 in
-          let below = s.below in
-          subst (LeadsTo (now keys k) (λ p. p.0 ≡ pos t)) (sym (done.not_first some))
-          (behind keys k (λ p. p.0 ≡ pos t) (get_or heads t 0) at.0 first at.1 (omega (arith, ints, down, below)))
+  top_here (inr some) = elim sought [
+    | inl s ↦ absurd (some s.is)
+    | inr s ↦
+        let first = old.at_head t known in
+        let at = first.least s.at s.inside (s.tail ∙ is) in
+        rw (done.not_first some)
+        (behind keys k (λ p. p.0 ≡ pos t) (get_or heads t 0) at.0 first at.1 (omega (arith, ints, at.2, s.below)))
+  ]
 
   top_now : (u : ℕ) → u < length tops → (u ≡ t) ⊎ (u ≡ t → ⊥)
       → LeadsTo (now keys k) (λ p. p.0 ≡ pos u) (get_or tops u 0)
-  top_now u lt (inl e) =
-      subst (λ v. LeadsTo (now keys k) (λ p. p.0 ≡ pos v) (get_or tops v 0)) (sym e) (top_here (cases_eq before 0))
+  top_now u lt (inl e) = rw e (top_here (cases_eq before 0))
   top_now u lt (inr apart) =
-      let inside : u < length heads = subst (λ n. u < n) done.all_tops lt in
-      subst (LeadsTo (now keys k) (λ p. p.0 ≡ pos u)) (sym (done.other_tops u apart))
-      (still keys k (λ p. p.0 ≡ pos u) (get_or heads u 0) (old.at_head u inside)
-      (λ e. (let same : pos u ≡ pos t = sym e ∙ is in apart (omega (arith, ints, same)))))
+      rw (done.other_tops u apart) (still keys k (λ p. p.0 ≡ pos u) (get_or heads u 0)
+      (old.at_head u (rw done.all_tops at lt))
+      (λ e. apart (omega (arith, ints, sym e ∙ is))))
 
   -- the link of the new position is right
   last_leads : LeadsTo keys (IsAfter k) after
   last_leads = record {
-    there = λ i e. (let at = inside i e in (
-      at.0,
-      (
-        at.1,
-        by_lt_z k.1 (key_at keys i).1 (λ l. l) (λ l.
-            (let up = stops i e in
-            absurd (fresh_at k keys i fresh at.0 (pair_from (key_at keys i) k at.1 (omega (arith, ints, l, up)))))),
-      ),
-    ));
-    least =
-        λ i lt asked.
-        (let past = asked.1 in least_from keys k before after stops sought i lt asked.0 (omega (arith, ints, past)));
+    there = λ i e.
+        let at = inside i e in
+        let up = by_lt_z k.1 (key_at keys i).1 (λ l. l) (λ l. absurd (fresh_at k keys i fresh at.0
+        (pair_from (key_at keys i) k at.1 (omega (arith, ints, l, stops i e))))) in
+        (at.0, (at.1, up));
+    least = λ i lt asked. least_from keys k before after stops sought i lt asked.0 (omega (arith, ints, asked.1));
   }
     where
       inside : (i : ℕ) → after ≡ suc i → (i < length keys) × ((key_at keys i).0 ≡ k.0)
-      inside i e = by_sought sought
-        where
-          by_sought : Sought keys k before after → (i < length keys) × ((key_at keys i).0 ≡ k.0)
-          by_sought (inl s) = s.on.there i e
-          by_sought (inr s) = (let at = s.on.there i e in (at.0, at.1.0 ∙ s.tail))
+      inside i e = elim sought [ inl s ↦ s.on.there i e | inr s ↦ (let at = s.on.there i e in (at.0, at.1.0 ∙ s.tail)) ]
 
   -- the link of the position before the new one is right
   link_before : (b : ℕ) → before ≡ suc b → b < length keys → (key_at keys b).0 ≡ k.0 → (key_at keys b).1 <ℤ k.1
       → LeadsTo (now keys k) (IsAfter (key_at keys b)) link
   link_before b is_b lt tail low =
-      subst (LeadsTo (now keys k) (IsAfter (key_at keys b))) (sym one)
-      (ahead keys k (IsAfter (key_at keys b)) (sym tail, low) (λ i l asked. by_lt_z (key_at keys i).1 k.1
+      rw one (ahead keys k (IsAfter (key_at keys b)) (sym tail, low) (λ i l asked. by_lt_z (key_at keys i).1 k.1
       (λ less.
-      (let g = greatest_before keys k before after stops sought i l (asked.0 ∙ tail) less in
-      let same : b ≡ g.0 = (let two : before ≡ suc g.0 = g.1 in omega (arith, is_b, two)) in
-      let upto : (key_at keys i).1 ≤ℤ (key_at keys b).1 =
-      subst (λ m. (key_at keys i).1 ≤ℤ (key_at keys m).1) (sym same) g.5 in
-      let past = asked.1 in
-      absurd (omega (arith, ints, upto, past))))
+      let g = greatest_before keys k before after stops sought i l (asked.0 ∙ tail) less in
+      let same : b ≡ g.0 = omega (arith, is_b, g.1) in
+      absurd (omega (arith, ints, rw (← same) at g.5, asked.1)))
       (λ up. up)))
 
   -- the link of a position with a lesser head is right, whether it has changed or not
@@ -236,80 +183,66 @@ module _ (heads tops next links : List ℕ) (keys : List (ℤ × ℤ)) (k : ℤ 
           → (key_at keys i).1 ≤ℤ (key_at keys b).1 → (i ≡ b) ⊎ (i ≡ b → ⊥)
           → LeadsTo (now keys k) (IsAfter (key_at keys i)) (get_or links i 0)
       by_position b is_b inside same_tail below upto (inl e) =
-          subst (λ m. LeadsTo (now keys k) (IsAfter (key_at keys m)) (get_or links m 0)) (sym e)
-          (subst (LeadsTo (now keys k) (IsAfter (key_at keys b))) (sym (done.follows b is_b))
-          (link_before b is_b inside same_tail below))
+          rw (e, done.follows b is_b) (link_before b is_b inside same_tail below)
       by_position b is_b inside same_tail below upto (inr apart) =
           let on = old.at_next i lt in
           let less : (key_at keys i).1 <ℤ (key_at keys b).1 =
           by_lt_z (key_at keys i).1 (key_at keys b).1 (λ l. l)
-          (λ l. absurd
-          (apart
-          (old.apart i b lt inside
+          (λ l. absurd (apart (old.apart i b lt inside
           (pair_from (key_at keys i) (key_at keys b) (tail ∙ sym same_tail) (omega (arith, ints, l, upto)))))) in
           let at = on.least b inside (same_tail ∙ sym tail, less) in
-          let down : (key_at keys at.0).1 ≤ℤ (key_at keys b).1 = at.2 in
-          subst (LeadsTo (now keys k) (IsAfter (key_at keys i)))
-          (sym (done.other_links i (subst (λ n. i < n) (sym old.same) lt) (λ e. apart (omega (arith, e, is_b)))))
-          (behind keys k (IsAfter (key_at keys i)) (get_or next i 0) at.0 on at.1 (omega (arith, ints, down, below)))
+          rw (done.other_links i (rw old.same lt) (λ e. apart (omega (arith, e, is_b))))
+          (behind keys k (IsAfter (key_at keys i)) (get_or next i 0) at.0 on at.1 (omega (arith, ints, at.2, below)))
 
   -- the link of any other position is right
   link_other : (i : ℕ) → i < length keys → (IsAfter (key_at keys i) k → ⊥)
       → LeadsTo (now keys k) (IsAfter (key_at keys i)) (get_or links i 0)
   link_other i lt not =
-      subst (LeadsTo (now keys k) (IsAfter (key_at keys i)))
-      (sym (done.other_links i (subst (λ n. i < n) (sym old.same) lt) (λ e. by_sought e sought)))
-      (still keys k (IsAfter (key_at keys i)) (get_or next i 0) (old.at_next i lt) not)
+      rw (done.other_links i (rw old.same lt) unless) (still keys k (IsAfter (key_at keys i)) (get_or next i 0)
+      (old.at_next i lt) not)
     where
-      by_sought : before ≡ suc i → Sought keys k before after → ⊥
-      by_sought e (inl s) = (let none = s.is in omega (arith, e, none))
-      by_sought e (inr s) =
-          let at = s.is in
-          let same : s.at ≡ i = omega (arith, e, at) in
-          not (subst (λ m. IsAfter (key_at keys m) k) same (sym s.tail, s.below))
+      unless : before ≡ suc i → ⊥
+      unless e = elim sought [
+        | inl s ↦ omega (arith, e, s.is)
+        | inr s ↦
+            let same : i ≡ s.at = omega (arith, e, s.is) in
+            not (rw same (sym s.tail, s.below))
+      ]
 
   link_old : (i : ℕ) → i < length keys → LeadsTo (now keys k) (IsAfter (key_at keys i)) (get_or links i 0)
   link_old i lt =
       by_lt_z (key_at keys i).0 k.0
-      (λ l. link_other i lt (λ after_it. (let e = after_it.0 in omega (arith, ints, e, l))))
+      (λ l. link_other i lt (λ after_it. omega (arith, ints, after_it.0, l)))
       (λ up. by_lt_z k.0 (key_at keys i).0
-      (λ l. link_other i lt (λ after_it. (let e = after_it.0 in omega (arith, ints, e, l))))
+      (λ l. link_other i lt (λ after_it. omega (arith, ints, after_it.0, l)))
       (λ down. by_lt_z (key_at keys i).1 k.1 (λ low. link_low i lt (omega (arith, ints, up, down)) low)
-      (λ high. link_other i lt (λ after_it. (let past = after_it.1 in omega (arith, ints, past, high))))))
+      (λ high. link_other i lt (λ after_it. omega (arith, ints, after_it.1, high)))))
 
   link_now : (i : ℕ) → i < length (now keys k) → (i < length keys) ⊎ (length keys ≤ i)
       → LeadsTo (now keys k) (IsAfter (key_at (now keys k) i)) (get_or links i 0)
-  link_now i lt (inl l) =
-      subst (λ p. LeadsTo (now keys k) (IsAfter p) (get_or links i 0)) (sym (key_kept keys k i l)) (link_old i l)
+  link_now i lt (inl l) = rw (key_kept keys k i l) (link_old i l)
   link_now i lt (inr l) =
-      let n : length (now keys k) ≡ length keys + 1 = length_push keys k in
-      let at : i ≡ length keys = omega arith in
-      let value : get_or links i 0 ≡ after = ap (λ m. get_or links m 0) (at ∙ sym old.same) ∙ done.last in
-      subst (λ p. LeadsTo (now keys k) (IsAfter p) (get_or links i 0)) (sym (key_new keys k i at))
-      (subst (LeadsTo (now keys k) (IsAfter k)) (sym value)
-      (still keys k (IsAfter k) after last_leads (λ self. (let past = self.1 in omega (arith, ints, past)))))
+      let at : i ≡ length keys = omega (arith, length_push keys k) in
+      let value : get_or links i 0 ≡ after = rw (at, ← old.same) done.last in
+      rw (key_new keys k i at, value)
+      (still keys k (IsAfter k) after last_leads (λ self. omega (arith, ints, self.1)))
 
   tails_now : (i : ℕ) → i < length (now keys k) → (i < length keys) ⊎ (length keys ≤ i) → (u : ℕ) × (u < length tops)
       × ((key_at (now keys k) i).0 ≡ pos u)
   tails_now i lt (inl l) =
       let u = old.tails i l in
-      (u.0, subst (λ n. u.0 < n) (sym done.all_tops) u.1, ap (λ (p : ℤ × ℤ). p.0) (key_kept keys k i l) ∙ u.2)
-  tails_now i lt (inr l) =
-      let n : length (now keys k) ≡ length keys + 1 = length_push keys k in
-      (t, subst (λ m. t < m) (sym done.all_tops) known, ap (λ (p : ℤ × ℤ). p.0) (key_new keys k i (omega arith)) ∙ is)
+      (u.0, rw done.all_tops u.1, rw (key_kept keys k i l) u.2)
+  tails_now i lt (inr l) = (t, rw done.all_tops known, rw (key_new keys k i (omega (arith, length_push keys k))) is)
 
   apart_now : (i j : ℕ) → i < length (now keys k) → j < length (now keys k)
       → key_at (now keys k) i ≡ key_at (now keys k) j → (i < length keys) ⊎ (length keys ≤ i)
       → (j < length keys) ⊎ (length keys ≤ j) → i ≡ j
   apart_now i j li lj e (inl a) (inl b) = old.apart i j a b (sym (key_kept keys k i a) ∙ e ∙ key_kept keys k j b)
-  apart_now i j li lj e (inl a) (inr b) =
-      let n : length (now keys k) ≡ length keys + 1 = length_push keys k in
-      absurd (fresh_at k keys i fresh a (sym (key_kept keys k i a) ∙ e ∙ key_new keys k j (omega arith)))
-  apart_now i j li lj e (inr a) (inl b) =
-      let n : length (now keys k) ≡ length keys + 1 = length_push keys k in
-      absurd (fresh_at k keys j fresh b (sym (key_kept keys k j b) ∙ sym e ∙ key_new keys k i (omega arith)))
-  apart_now i j li lj e (inr a) (inr b) =
-      (let n : length (now keys k) ≡ length keys + 1 = length_push keys k in omega arith)
+  apart_now i j li lj e (inl a) (inr b) = absurd (fresh_at k keys i fresh a
+      (sym (key_kept keys k i a) ∙ e ∙ key_new keys k j (omega (arith, length_push keys k))))
+  apart_now i j li lj e (inr a) (inl b) = absurd (fresh_at k keys j fresh b
+      (sym (key_kept keys k j b) ∙ sym e ∙ key_new keys k i (omega (arith, length_push keys k))))
+  apart_now i j li lj e (inr a) (inr b) = omega (arith, length_push keys k)
 
   pub links_more : Links tops links (keys ++ k ∷ [])
   links_more = record {
@@ -324,20 +257,16 @@ module _ (heads tops next links : List ℕ) (keys : List (ℤ × ℤ)) (k : ℤ 
 pub before_inside : (keys : List (ℤ × ℤ)) (pair : ℤ × ℤ) (before after : ℕ) → (before ≡ 0 → ⊥)
     → Sought keys pair before after → before - 1 < length keys
 before_inside keys pair before after some (inl s) = absurd (some s.is)
-before_inside keys pair before after some (inr s) =
-    (let at = s.is in let inside : s.at < length keys = s.inside in omega (arith, at))
+before_inside keys pair before after some (inr s) = omega (arith, s.is, s.inside)
 
 -- no entry has the pair of an earlier one
 pub prefix_fresh : {X : Type 0} (es : List ((ℤ × ℤ) × X)) (i : ℕ) (d : (ℤ × ℤ) × X) → IsDistinct same_pair (keys_of es)
     → i < length es → list_any (same_pair (get_or es i d).0) (keys_of (take i es)) ≡ false
 prefix_fresh {X} es i d apart inside = none_from_positions (get_or es i d).0 (keys_of (take i es)) (λ j lt e.
-    (let short : j < i = subst (λ n. j < n) (length-keys_of (take i es) ∙ length-take-le i es (omega arith)) lt in
-    let all : i < length (keys_of es) = subst (λ n. i < n) (sym (length-keys_of es)) inside in
+    let short : j < i = omega (arith, length-keys_of (take i es), length-take-le i es (omega arith)) in
+    let all : i < length (keys_of es) = rw (length-keys_of es) inside in
     let same : key_at (keys_of es) j ≡ key_at (keys_of es) i =
     sym (get_or-take i (keys_of es) j (pos 0, pos 0) short)
-    ∙ ap (λ (ks : List (ℤ × ℤ)). key_at ks j) (take-map (λ (x : (ℤ × ℤ) × X). x.0) i es)
-    ∙ e ∙ sym (key_of_position es i d all) in
+    ∙ rw (take-map (λ (x : (ℤ × ℤ) × X). x.0) i es, key_of_position es i d all) e in
     let other = apart_from_distinct same_pair (keys_of es) j i (pos 0, pos 0) apart short all in
-    false≢true
-    (sym other ∙ ap (λ (p : ℤ × ℤ). same_pair (key_at (keys_of es) j) p) (sym same)
-    ∙ pair_self (key_at (keys_of es) j))))
+    false≢true (sym other ∙ rw (← same) (pair_self (key_at (keys_of es) j))))

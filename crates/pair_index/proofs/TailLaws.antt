@@ -1,5 +1,5 @@
 -- Chains by tail: a step along a chain, and the position of a pair in a chain.
-use Rattle.std.proofs.Common.{◌≡◌, ℕ, zero, suc, ◌+◌, ◌-◌, ◌<◌, ◌≤◌, ℤ, pos, ◌<ℤ◌, ◌≤ℤ◌, List, [], ◌∷◌, ◌++◌, length, get_or, replicate, Bool, true, false, cond, ◌⊎◌, inl, inr, refl, sym, ap, ◌∙◌, subst, arith}
+use Rattle.std.proofs.Common.{◌≡◌, ℕ, zero, suc, ◌+◌, ◌-◌, ◌<◌, ◌≤◌, ℤ, pos, ◌<ℤ◌, ◌≤ℤ◌, List, [], ◌∷◌, ◌++◌, length, get_or, replicate, Bool, true, false, cond, inl, inr, refl, sym, ap, ◌∙◌, arith}
 use Rattle.std.specs.List.{list_any, count_by}
 use lib.Signed.{lt_z}
 use Rattle.std.proofs.lemmas.Int.{ints, by_lt_z}
@@ -8,7 +8,7 @@ use Rattle.std.proofs.lemmas.List.{length-append, length-replicate, get_or_appen
 use Rattle.std.proofs.lemmas.List.Sums.{sum_by-cons, sum_by-le-sum_by}
 use Rattle.dn_arc.specs.Pairs.{same_pair}
 use Rattle.pair_index.specs.State.Positions.{key_at}
-use Rattle.pair_index.specs.State.Tailed.{IsAfter, LeadsTo, Links, Sought}
+use Rattle.pair_index.specs.State.Tailed.{LeadsTo, Links, Sought}
 use Rattle.pair_index.proofs.PositionLaws.{none_from_positions}
 
 -- if one test implies another, it counts at most as much
@@ -26,16 +26,15 @@ module _ {X : Type 0} (p q : X → Bool) (less : (x : X) → q x ≡ true → p 
   count_fewer (x ∷ xs) zero d lt passes fails =
       let one = sum_by-cons (λ (y : X). cond (q y) 1 0) x xs in
       let two = sum_by-cons (λ (y : X). cond (p y) 1 0) x xs in
-      let none : cond {A = ℕ} (q x) 1 0 ≡ 0 = ap (λ t. cond {A = ℕ} t 1 0) fails in
-      let some : cond {A = ℕ} (p x) 1 0 ≡ 1 = ap (λ t. cond {A = ℕ} t 1 0) passes in
+      let none : cond {A = ℕ} (q x) 1 0 ≡ 0 = rw fails in
+      let some : cond {A = ℕ} (p x) 1 0 ≡ 1 = rw passes in
       let rest : count_by q xs ≤ count_by p xs = count_le xs in
       omega (arith, one, two)
   count_fewer (x ∷ xs) (suc i) d lt passes fails =
       let one = sum_by-cons (λ (y : X). cond (q y) 1 0) x xs in
       let two = sum_by-cons (λ (y : X). cond (p y) 1 0) x xs in
       let rest : count_by q xs < count_by p xs = count_fewer xs i d (omega arith) passes fails in
-      let here : cond {A = ℕ} (q x) 1 0 ≤ cond {A = ℕ} (p x) 1 0 = test_le (q x) (p x) (less x) in
-      omega (arith, one, two)
+      omega (arith, one, two, test_le (q x) (p x) (less x))
 
 -- how many positions a chain can reach from a link on, which decreases along a chain
 abbrev pub left_of : List (ℤ × ℤ) → ℕ → ℕ
@@ -76,35 +75,29 @@ module _ (heads next : List ℕ) (keys : List (ℤ × ℤ)) (links : Links heads
   pub falls : (link then : ℕ) → (link ≡ 0 → ⊥) → link - 1 < length keys → then ≡ get_or next (link - 1) 0
       → left_of keys then < left_of keys link
   falls link then some inside e =
-      subst (λ l. left_of keys then < left_of keys l) (let back : suc (link - 1) ≡ link = omega (arith, some) in back)
-      (falls_at (link - 1) then inside e then refl)
+      let back : link ≡ suc (link - 1) = omega (arith, some) in
+      rw back (falls_at (link - 1) then inside e then refl)
 
   -- a tail beyond the chains has no position
   pub none_there : (tail : ℕ) (pair : ℤ × ℤ) → pair.0 ≡ pos tail → length heads ≤ tail
       → LeadsTo keys (λ p. p.0 ≡ pair.0) 0
   none_there tail pair is past = record {
     there = λ i e. absurd (omega arith);
-    least =
-        λ i inside e.
-        (let t = links.tails i inside in let lt : t.0 < length heads = t.1 in
-        let same : pos t.0 ≡ pos tail = sym t.2 ∙ e ∙ is in absurd (omega (arith, ints, same)));
+    least = λ i inside e.
+        let t = links.tails i inside in
+        absurd (omega (arith, ints, t.1, sym t.2 ∙ e ∙ is));
   }
 
   -- a tail below 0 has no position
   pub none_below : (pair : ℤ × ℤ) → pair.0 <ℤ pos 0 → LeadsTo keys (λ p. p.0 ≡ pair.0) 0
   none_below pair below = record {
     there = λ i e. absurd (omega arith);
-    least =
-        λ i inside e.
-        (let t = links.tails i inside in let same : pos t.0 ≡ pair.0 = sym t.2 ∙ e in
-        absurd (omega (arith, ints, same, below)));
+    least = λ i inside e. absurd (omega (arith, ints, sym (links.tails i inside).2 ∙ e, below));
   }
 
   pub first_there : (tail : ℕ) (pair : ℤ × ℤ) (link : ℕ) → pair.0 ≡ pos tail → tail < length heads
       → link ≡ get_or heads tail 0 → LeadsTo keys (λ p. p.0 ≡ pair.0) link
-  first_there tail pair link is inside e =
-      subst (LeadsTo keys (λ p. p.0 ≡ pair.0)) (sym e)
-      (subst (λ z. LeadsTo keys (λ p. p.0 ≡ z) (get_or heads tail 0)) (sym is) (links.at_head tail inside))
+  first_there tail pair link is inside e = rw (e, is) (links.at_head tail inside)
 
   -- after a lesser head, the search for a pair continues at the next link
   pub sought_on : (pair : ℤ × ℤ) (before link then : ℕ) → (link ≡ 0 → ⊥) → Sought keys pair before link
@@ -117,7 +110,7 @@ module _ (heads next : List ℕ) (keys : List (ℤ × ℤ)) (links : Links heads
         inside = at.0;
         tail = at.1;
         below = less;
-        on = subst (LeadsTo keys (IsAfter (key_at keys (link - 1)))) (sym e) (links.at_next (link - 1) at.0);
+        on = rw e (links.at_next (link - 1) at.0);
       })
 
 -- a pair is determined by its tail and its head
@@ -131,8 +124,7 @@ module _ (keys : List (ℤ × ℤ)) (pair : ℤ × ℤ) (before after : ℕ)
   pub least_from : Sought keys pair before after → (i : ℕ) → i < length keys → (key_at keys i).0 ≡ pair.0
       → pair.1 ≤ℤ (key_at keys i).1 → (j : ℕ) × (after ≡ suc j) × ((key_at keys j).1 ≤ℤ (key_at keys i).1)
   least_from (inl s) i inside tail up = s.on.least i inside tail
-  least_from (inr s) i inside tail up =
-      s.on.least i inside (tail ∙ sym s.tail, (let below = s.below in omega (arith, ints, below, up)))
+  least_from (inr s) i inside tail up = s.on.least i inside (tail ∙ sym s.tail, omega (arith, ints, s.below, up))
 
   -- if the pair is among the keys, `after` leads to its head
   pub found : (i : ℕ) → Sought keys pair before after → i < length keys → key_at keys i ≡ pair → (j : ℕ)
@@ -140,9 +132,7 @@ module _ (keys : List (ℤ × ℤ)) (pair : ℤ × ℤ) (before after : ℕ)
   found i sought inside e =
       let head : (key_at keys i).1 ≡ pair.1 = ap (λ (p : ℤ × ℤ). p.1) e in
       let l = least_from sought i inside (ap (λ (p : ℤ × ℤ). p.0) e) (omega (arith, ints, head)) in
-      let up = stops l.0 l.1 in
-      let down : (key_at keys l.0).1 ≤ℤ (key_at keys i).1 = l.2 in
-      (l.0, l.1, omega (arith, ints, up, down, head))
+      (l.0, l.1, omega (arith, ints, stops l.0 l.1, l.2, head))
 
   -- `before` leads to the greatest head below the pair's
   pub greatest_before : Sought keys pair before after → (i : ℕ) → i < length keys → (key_at keys i).0 ≡ pair.0
@@ -150,38 +140,30 @@ module _ (keys : List (ℤ × ℤ)) (pair : ℤ × ℤ) (before after : ℕ)
       × ((key_at keys b).1 <ℤ pair.1) × ((key_at keys i).1 ≤ℤ (key_at keys b).1)
   greatest_before (inl s) i inside tail low =
       let l = s.on.least i inside tail in
-      let up = stops l.0 l.1 in
-      let down : (key_at keys l.0).1 ≤ℤ (key_at keys i).1 = l.2 in
-      absurd (omega (arith, ints, up, down, low))
+      absurd (omega (arith, ints, stops l.0 l.1, l.2, low))
   greatest_before (inr s) i inside tail low =
       by_lt_z (key_at keys s.at).1 (key_at keys i).1
-      (λ past. (let l = s.on.least i inside (tail ∙ sym s.tail, past) in
-      let up = stops l.0 l.1 in
-      let down : (key_at keys l.0).1 ≤ℤ (key_at keys i).1 = l.2 in
-      absurd (omega (arith, ints, up, down, low))))
+      (λ past.
+      let l = s.on.least i inside (tail ∙ sym s.tail, past) in
+      absurd (omega (arith, ints, stops l.0 l.1, l.2, low)))
       (λ upto. (s.at, s.is, s.inside, s.tail, s.below, upto))
 
   -- if `after` is 0, the pair is not among the keys
   pub nowhere_past : Sought keys pair before after → after ≡ 0 → list_any (same_pair pair) keys ≡ false
-  nowhere_past sought e =
-      none_from_positions pair keys
-      (λ i lt is. (let at = found i sought lt is in let one : after ≡ suc at.0 = at.1 in omega (arith, one)))
+  nowhere_past sought e = none_from_positions pair keys (λ i lt is. omega (arith, (found i sought lt is).1))
 
   -- if another pair is at `after`, the pair is not among the keys
   pub nowhere_else : Sought keys pair before after → (after ≡ 0 → ⊥) → (key_at keys (after - 1) ≡ pair → ⊥)
       → list_any (same_pair pair) keys ≡ false
   nowhere_else sought some other = none_from_positions pair keys (λ i lt is.
-      (let at = found i sought lt is in
-      let one : after ≡ suc at.0 = at.1 in
-      let back : after - 1 ≡ at.0 = omega (arith, one) in
-      other
-      (pair_from (key_at keys (after - 1)) pair (sought_inside pair before after some sought).1
-      (ap (λ j. (key_at keys j).1) back ∙ at.2))))
+      let at = found i sought lt is in
+      let back : after - 1 ≡ at.0 = omega (arith, at.1) in
+      other (pair_from (key_at keys (after - 1)) pair (sought_inside pair before after some sought).1 (rw back at.2)))
 
 -- each position of a key has a link
 pub has_next : {heads next : List ℕ} {keys : List (ℤ × ℤ)} {i : ℕ} → Links heads next keys → i < length keys
     → i < length next
-has_next {i = i} links inside = subst (λ n. i < n) (sym links.same) inside
+has_next links inside = rw links.same inside
 
 -- a number that is not at most another is above it
 pub past_head : (a b : ℤ) → (a ≤ℤ b → ⊥) → b <ℤ a
@@ -193,24 +175,16 @@ pub links_wider : (heads next : List ℕ) (keys : List (ℤ × ℤ)) (m : ℕ) �
 links_wider heads next keys m links = record {
   same = links.same;
   apart = links.apart;
-  tails =
-      λ i lt.
-      (let t = links.tails i lt in
-      let inside : t.0 < length heads = t.1 in (t.0, omega (arith, length-append heads (replicate m 0)), t.2));
-  at_head = λ t lt. by_position t lt (cases_lt t (length heads));
+  tails = λ i lt.
+      let t = links.tails i lt in
+      (t.0, omega (arith, t.1, length-append heads (replicate m 0)), t.2);
+  at_head = λ t lt. elim (cases_lt t (length heads)) [
+    | inl l ↦ rw (get_or_append_left heads (replicate m 0) 0 t l) (links.at_head t l)
+    | inr l ↦
+        let past : t < length heads + m = rw (length-append, length-replicate) at lt in
+        rw (get_or-append_right heads (replicate m 0) (length heads) t 0 refl l)
+        (rw (get_or-replicate {A = ℕ} m (t - length heads) 0 0 (omega arith))
+        (none_there heads next keys links t (pos t, pos 0) refl l))
+  ];
   at_next = links.at_next;
 }
-  where
-    by_position : (t : ℕ) → t < length (heads ++ replicate m 0) → (t < length heads) ⊎ (length heads ≤ t)
-        → LeadsTo keys (λ p. p.0 ≡ pos t) (get_or (heads ++ replicate m 0) t 0)
-    by_position t lt (inl l) =
-        subst (LeadsTo keys (λ p. p.0 ≡ pos t)) (sym (get_or_append_left heads (replicate m 0) 0 t l))
-        (links.at_head t l)
-    by_position t lt (inr l) =
-        let past : t < length heads + m =
-        subst (λ n. t < n)
-        (length-append heads (replicate m 0) ∙ ap (λ n. length heads + n) (length-replicate m 0)) lt in
-        let value : get_or (heads ++ replicate m 0) t 0 ≡ 0 =
-        get_or-append_right heads (replicate m 0) (length heads) t 0 refl l
-        ∙ get_or-replicate m (t - length heads) 0 0 (omega arith) in
-        subst (LeadsTo keys (λ p. p.0 ≡ pos t)) (sym value) (none_there heads next keys links t (pos t, pos 0) refl l)

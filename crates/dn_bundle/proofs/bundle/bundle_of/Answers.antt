@@ -1,12 +1,11 @@
-use Rattle.std.proofs.Common.{[], subst, arith, ◌-◌, ◌^◌, pos, ◌≤ℤ◌}
+use Rattle.std.proofs.Common.{[], arith}
 use Rattle.std.proofs.lemmas.List.{take_all}
 use Rattle.dn_arc.specs.State.Bundles.{listed_of, meant}
 use Rattle.dn_bundle.proofs.BundleLaws.{none_cap, next_arc, next_same, next_fits, too_much, listed_arcs}
 use Rattle.dn_bundle.proofs.bundle.bundle_of.Goals as goal
 
 pub loop-arc-init : goal.loop-arc-init
-loop-arc-init g c =
-    (g.met.B.Bundle.laws.meaning.same_refl [], none_cap g.B.Bundle.bundle.kind g.met.B.Bundle.laws)
+loop-arc-init g c = (g.met.B.Bundle.laws.meaning.same_refl [], none_cap g.B.Bundle.bundle.kind g.met.B.Bundle.laws)
 
 pub add_to-requires : goal.add_to-requires
 add_to-requires g c = next_arc g.B.Bundle.bundle.kind g.met.B.Bundle.laws c.args.arcs.now c.loop-arc.arc-index
@@ -35,14 +34,12 @@ loop-arc-preserved g c =
     )
 
 pub loop-arc-smaller : goal.loop-arc-smaller
-loop-arc-smaller g c = let more = c.loop-arc-test.true in omega arith
+loop-arc-smaller g c = omega (arith, c.loop-arc-test.true)
 
 pub returns-clause-ok : goal.returns-clause-ok
 returns-clause-ok g c =
-    subst (g.B.Bundle.bundle.kind.Same (listed_of (meant g.B.Bundle.bundle) c.loop-arc.bundle))
-    (take_all c.loop-arc.arc-index c.args.arcs.now c.loop-arc-test.false) c.loop-arc.invariant.0
+    rw (take_all c.loop-arc.arc-index c.args.arcs.now c.loop-arc-test.false) at c.loop-arc.invariant.0
 
 pub returns-clause-fits : goal.returns-clause-fits
 returns-clause-fits g c =
-    subst (λ l. g.B.Bundle.bundle.kind.capacity l ≤ℤ pos (2 ^ 63 - 1))
-    (take_all c.loop-arc.arc-index c.args.arcs.now c.loop-arc-test.false) c.loop-arc.invariant.1
+    rw (take_all c.loop-arc.arc-index c.args.arcs.now c.loop-arc-test.false) at c.loop-arc.invariant.1

@@ -7,8 +7,7 @@ further-requires c =
     record {
       some = c.requires.some;
       most = part_now c.args.amount.now c.args.cost.now c.args.l c.args.r c.requires;
-      mean =
-          c.requires.mean;
+      mean = c.requires.mean;
     }
 
 pub past_step-requires : goal.past_step-requires

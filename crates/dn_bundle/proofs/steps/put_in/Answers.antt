@@ -1,6 +1,4 @@
-use Rattle.std.proofs.Common.{ap, ◌∙◌, rules}
-use Rattle.std.specs.Option.{unwrap_or}
-use Rattle.std.proofs.Common.{pos}
+use Rattle.std.proofs.Common.{ap, ◌∙◌, rules, unwrap_or, pos}
 use Rattle.dn_bundle.proofs.StepLaws.{sum_fits, sum_is, lacks, on_err}
 use Rattle.dn_bundle.proofs.steps.put_in.Goals as goal
 

@@ -1,4 +1,4 @@
-use Rattle.std.proofs.Common.{◌≤◌, ◌^◌, ◌∙◌, subst, arith}
+use Rattle.std.proofs.Common.{◌≤◌, ◌^◌, ◌∙◌, arith}
 use Rattle.dn_arc.specs.declared.arc.Form.TheVariants.{One}
 use Rattle.std.specs.Map.{keys_of}
 use Rattle.dn_table.specs.GraphEntries.{graph_entries}
@@ -15,5 +15,5 @@ returns-in-None g c apart arcs lists are few =
     let all =
     table_entries g.B.Bundle.bundle.kind g.met.B.Bundle.laws (g.B.Bundle.bundle.listed One) c.args.entries.now arcs
     (once_apart (keys_of c.args.entries.now) apart) lists are in
-    let over : 2 ^ 64 ≤ graph_entries g.B.Bundle.bundle.kind arcs = subst (λ n. 2 ^ 64 ≤ n) all c.in-None.ensures in
+    let over : 2 ^ 64 ≤ graph_entries g.B.Bundle.bundle.kind arcs = rw all at c.in-None.ensures in
     absurd (omega arith)

@@ -1,5 +1,4 @@
-use Rattle.std.proofs.Common.{length, sym, subst, arith}
-use Rattle.pair_index.specs.State.Shown.{HasPositions}
+use Rattle.std.proofs.Common.{length, sym, arith}
 use Rattle.std.specs.Map.{keys_of}
 use Rattle.std.proofs.lemmas.List.{take_all}
 use Rattle.std.proofs.lemmas.Map.Entries.{length-keys_of}
@@ -16,6 +15,5 @@ pub returns : goal.returns
 returns g c =
     positions_more (keys_of c.args.entries.now) c.args.pair.now (length c.args.entries.now)
     (sym (length-keys_of c.args.entries.now)) c.loop-i.positions c.insert-2.new.self
-    (subst (λ es. HasPositions c.loop-i.positions (keys_of es))
-    (take_all c.loop-i.i c.args.entries.now (omega arith)) c.loop-i.invariant)
+    (rw (take_all c.loop-i.i c.args.entries.now (omega arith)) at c.loop-i.invariant)
     (λ q. c.in_ok-insert-2.ensures.updates.0 q)

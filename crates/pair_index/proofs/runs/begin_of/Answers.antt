@@ -7,14 +7,10 @@ use Rattle.pair_index.proofs.runs.begin_of.Goals as goal
 
 pub loop-begin-preserved : goal.loop-begin-preserved
 loop-begin-preserved g c =
-    let es = c.args.entries.now in
     let begin = c.loop-begin.begin in
     let within = c.loop-begin.invariant.within in
     let some = c.loop-begin-test.true in
-    record {
-      within = omega arith;
-      from = λ i from lt. by_position i from lt (cases_lt i begin);
-    }
+    record { within = omega arith; from = λ i from lt. by_position i from lt (cases_lt i begin) }
   where
     by_position : (i : ℕ) → c.loop-begin.begin - 1 ≤ i → i < length (keys_of c.args.entries.now)
         → (i < c.loop-begin.begin) ⊎ (c.loop-begin.begin ≤ i)
@@ -25,5 +21,5 @@ loop-begin-preserved g c =
         ap (λ j. (key_at (keys_of c.args.entries.now) j).0) at
         ∙ ap (λ (k : ℤ × ℤ). k.0)
         (key_of_position c.args.entries.now (c.loop-begin.begin - 1) c.index-entries-begin.result
-        (let some = c.loop-begin-test.true in let within = c.loop-begin.invariant.within in omega arith))
+        (omega (arith, c.loop-begin.invariant.within, c.loop-begin-test.true)))
         ∙ c.is_tail.ensures.0 c.if-not-is_tail.false

@@ -1,5 +1,4 @@
-use Rattle.std.proofs.Common.{◌≡◌, Some, None, ap, ◌∙◌, rules, slice_get}
-use Rattle.std.specs.Option.{option_map}
+use Rattle.std.proofs.Common.{◌≡◌, Some, None, ap, ◌∙◌, rules, slice_get, option_map}
 use Rattle.dn_arc.specs.State.CurveListed.{step_arc, fixed_arcs}
 use Rattle.dn_bundle.proofs.FormLaws.{arc_past, next_free, next_fixed, or_first}
 use Rattle.dn_bundle.proofs.FixedLaws.{is_zero, zero_is}

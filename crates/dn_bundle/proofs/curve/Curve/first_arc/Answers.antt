@@ -1,6 +1,5 @@
-use Rattle.std.proofs.Common.{◌≡◌, Some, ap, sym, subst, ◌∙◌, slice_get}
-use Rattle.std.specs.Option.{option_map}
-use Rattle.dn_arc.specs.State.CurveListed.{step_arc, joined_head, listed}
+use Rattle.std.proofs.Common.{Some, ap, sym, ◌∙◌, slice_get, option_map}
+use Rattle.dn_arc.specs.State.CurveListed.{step_arc, joined_head}
 use Rattle.dn_bundle.proofs.FormLaws.{first_fits, first_of_one, first_of_two, or_first, first_joined}
 use Rattle.dn_bundle.proofs.curve.Curve.first_arc.Goals as goal
 
@@ -13,8 +12,7 @@ join-requires c = λ x e f.
 pub returns-in-Two : goal.returns-in-Two
 returns-in-Two c =
     let self = c.args.self.now in
-    subst (λ form. Some c.join.result ≡ slice_get (listed form self.units self.cost self.steps) 0) (sym c.in-Two.is)
-    (ap Some c.join.ensures ∙ ap
+    rw c.in-Two.is (ap Some c.join.ensures ∙ ap
     (λ o. Some (joined_head c.in-Some.fixed (option_map step_arc o))) c.first_step-step.ensures
     ∙ ap (λ o. first_joined o (option_map step_arc (slice_get self.steps 0))) c.in-Some.ensures
     ∙ first_of_two self.units self.cost self.total self.steps self.sound)
@@ -22,6 +20,5 @@ returns-in-Two c =
 pub returns-in-One : goal.returns-in-One
 returns-in-One c =
     let self = c.args.self.now in
-    subst (λ form. Some c.in-Some.fixed ≡ slice_get (listed form self.units self.cost self.steps) 0) (sym c.in-One.is)
-    (ap (λ o. or_first o (option_map step_arc (slice_get self.steps 0))) c.in-Some.ensures
+    rw c.in-One.is (ap (λ o. or_first o (option_map step_arc (slice_get self.steps 0))) c.in-Some.ensures
     ∙ first_of_one self.units self.cost self.total self.steps self.sound)

@@ -1,8 +1,7 @@
-use Rattle.std.proofs.Common.{rules, [], pos, sym, ap, ◌∙◌, subst, to_z, of_z, w64}
+use Rattle.std.proofs.Common.{rules, sym, ap, ◌∙◌, to_z, of_z, w64, FitsSigned}
 use Rattle.std.proofs.lemmas.Int.{to_z-of_z}
-use Rattle.std.specs.Int.RustNames.{FitsSigned}
 use Rattle.dn_bundle.proofs.Cost128Laws.{widened}
-use Rattle.dn_bundle.proofs.PartLaws.{forced_gap, no_gap, free_gap, Parts}
+use Rattle.dn_bundle.proofs.PartLaws.{forced_gap, no_gap, free_gap}
 use Rattle.dn_bundle.proofs.curve.Curve.gap_to_none.Goals as goal
 
 pub returns-then-units-ne0 : goal.returns-then-units-ne0
@@ -14,8 +13,7 @@ pub returns-in_err-step : goal.returns-in_err-step
 returns-in_err-step c =
     let self = c.args.self.now in
     let f : FitsSigned w64 c.units.result = search rules in
-    subst (Parts self.units self.cost self.steps (pos 0) (pos 0) []) (sym c.from_residual.ensures)
-    (no_gap self.units self.cost self.total self.steps self.sound
+    rw c.from_residual.ensures (no_gap self.units self.cost self.total self.steps self.sound
     (sym c.units.ensures ∙ sym (to_z-of_z w64 c.units.result f)
     ∙ ap (to_z w64) c.if-units-ne0.false) c.in_err-step.ensures)
 

@@ -1,4 +1,4 @@
-use Rattle.std.proofs.Common.{◌<ℤ◌, sym, ap, ◌∙◌, subst, rules, to_z, of_z, w64}
+use Rattle.std.proofs.Common.{sym, ap, ◌∙◌, subst, rules, to_z, of_z, w64}
 use Rattle.std.specs.Int.{w128}
 use Rattle.std.proofs.lemmas.Int.{to_z-of_z, of_z-to_z}
 use Rattle.dn_bundle.proofs.StepLaws.{less}
@@ -10,8 +10,7 @@ returns-then-x-units c = λ k l.
     let self = c.args.self.now in
     let is = c.units-units.ensures in
     too_little self.units self.cost self.steps c.args.x k
-    (subst (λ z. c.args.x <ℤ z) is
-    (less c.args.x c.units-units.result (search rules) (search rules) c.if-x-units.true))
+    (rw (← is) (less c.args.x c.units-units.result (search rules) (search rules) c.if-x-units.true))
     (least_at self.units self.cost self.total self.steps self.sound c.args.x k l)
 
 pub more_cost-requires : goal.more_cost-requires
@@ -65,5 +64,4 @@ returns-else-x-taken c = λ k l.
     done_not self.units self.cost self.steps (to_z w64 (of_z w64 c.args.x)) (to_z w64 c.loop-step.taken-bits)
     (to_z w128 c.loop-step.cost-bits) c.loop-step.step-iterator c.loop-step.invariant c.in-None.ensures.steps.0
     (λ e. c.if-x-taken.false (ap (of_z w64) (sym x_is ∙ e) ∙ of_z-to_z w64 c.loop-step.taken-bits (search rules)))
-    k (subst (λ z. IsAt self.units self.cost self.steps z k) (sym x_is)
-    (least_at self.units self.cost self.total self.steps self.sound c.args.x k l))
+    k (rw x_is (least_at self.units self.cost self.total self.steps self.sound c.args.x k l))

@@ -1,5 +1,4 @@
-use Rattle.std.proofs.Common.{refl, rules, subst, w64}
-use Rattle.std.specs.Int.RustNames.{FitsSigned}
+use Rattle.std.proofs.Common.{refl, rules}
 use Rattle.dn_arc.specs.State.CurveListed.{IsSound}
 use Rattle.dn_bundle.proofs.GrowLaws.{too_much, not_too_much, two_are}
 use Rattle.dn_bundle.proofs.NewLaws.{needs_more}
@@ -39,5 +38,5 @@ returns-in-Err-clause-widens c e =
     let old = c.args.self.now in
     let sound : IsSound old.units old.cost c.total.result old.steps = rw c.total.ensures old.sound in
     needs_more old.units old.cost c.total.result old.steps c.args.arc sound c.requires
-    (subst (FitsSigned w64) (two_are c.total.result c.args.arc.cap (search rules) (search rules)) c.in-Some.ensures.0)
+    (rw (two_are c.total.result c.args.arc.cap (search rules) (search rules)) at c.in-Some.ensures.0)
     (search rules) c.in-Err.ensures.memory

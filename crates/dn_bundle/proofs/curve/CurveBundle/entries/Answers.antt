@@ -1,5 +1,4 @@
-use Rattle.std.proofs.Common.{rules, sym, ap, ◌∙◌, subst, of_z, w64}
-use Rattle.std.specs.Int.RustNames.{FitsSigned}
+use Rattle.std.proofs.Common.{rules, sym, ap, ◌∙◌, subst, of_z, w64, FitsSigned}
 use Rattle.dn_bundle.proofs.CurveLaws.{entries_code, none_forced, some_forced}
 use Rattle.dn_bundle.proofs.curve.CurveBundle.entries.Goals as goal
 use Rattle.dn_bundle.proofs.curve.CurveBundle.entries.Goals.{then-units-eq0, else-units-eq0}

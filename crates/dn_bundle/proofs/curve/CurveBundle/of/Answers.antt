@@ -1,5 +1,4 @@
-use Rattle.std.proofs.Common.{[], ◌∷◌, ap, ◌∙◌, sym, subst, rules, of_z, w64}
-use Rattle.std.specs.Int.RustNames.{FitsSigned}
+use Rattle.std.proofs.Common.{[], ◌∷◌, ap, ◌∙◌, sym, subst, rules, of_z, w64, FitsSigned}
 use Rattle.dn_arc.specs.declared.arc.Form.TheVariants.{One}
 use Rattle.dn_arc.specs.State.CurveListed.{listed}
 use Rattle.dn_arc.proofs.CostKindLaws.{cost_kind}

@@ -1,6 +1,6 @@
-use Rattle.std.proofs.Common.{rules, sym, ap, ◌∙◌, subst, w64, ◌+ℤ◌}
+use Rattle.std.proofs.Common.{rules, sym, ap, ◌∙◌, w64, ◌+ℤ◌}
 use Rattle.std.proofs.lemmas.Int.{to_z-of_z}
-use Rattle.dn_bundle.specs.State.Shapes.{numbers_of, IsGrown}
+use Rattle.dn_bundle.specs.State.Shapes.{numbers_of}
 use Rattle.dn_bundle.specs.declared.curve.shape.Shape.TheVariants.{Plain}
 use Rattle.dn_bundle.proofs.ShapeLaws.{same_sound, same_grown, made_units, made_cost, made_total}
 use Rattle.dn_bundle.proofs.curve.shape.full_with.Goals as goal
@@ -37,8 +37,7 @@ returns c =
     let units = c.from-units.result in
     let cost = c.cost_of.result in
     let old = numbers_of (Plain low step) in
-    subst (IsGrown old c.args.arc) (sym c.in_ok-new.ensures.ok)
-    (same_grown old _ c.add.new.self c.args.arc
+    rw c.in_ok-new.ensures.ok (same_grown old _ c.add.new.self c.args.arc
     (made_units low step units cost c.requires.sound c.from-units.ensures c.cost_of.ensures (search rules)
     (search rules) (search rules))
     (made_cost low step units cost c.requires.sound c.from-units.ensures c.cost_of.ensures (search rules)

@@ -1,5 +1,4 @@
-use Rattle.std.proofs.Common.{◌≡◌, ◌<◌, length, rules, arith, ap, sym, ◌∙◌, slice_get, get_or, pos, ◌++◌}
-use Rattle.std.specs.List.{insert}
+use Rattle.std.proofs.Common.{◌≡◌, ◌<◌, length, rules, arith, ap, sym, ◌∙◌, slice_get, get_or, pos, ◌++◌, insert}
 use Rattle.std.proofs.lemmas.Grind.{common_steps}
 use Rattle.std.proofs.lemmas.Option.{slice_get-get_or}
 use Rattle.dn_bundle.specs.declared.steps.Steps.TheInside.{Inside}
@@ -28,8 +27,7 @@ returns-clause-ok c =
           c.requires.few c.self.view_is c.requires.steps
           (last_entry rest w.insert.new.self.entries last (search rules) (search rules) w.in_ok-insert.ensures.entries)
       | else-is_full w ↦
-          let l : length few < 4 =
-          grind (arith, common_steps, w.if-is_full.ensures.value, c.is_full.ensures.fits) in
+          let l : length few < 4 = grind (arith, common_steps, w.if-is_full.ensures.value, c.is_full.ensures.fits) in
           ap (λ (s : Inside). insert s.few.items at step ++ s.rest.entries) w.self-inside-is
           ∙ stays_few few rest now step at c.self.invariant l c.self.view_is
     ]

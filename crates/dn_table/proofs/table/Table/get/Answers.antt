@@ -1,4 +1,4 @@
-use Rattle.std.proofs.Common.{◌≡◌, ◌<◌, ℤ, length, subst, sym, ◌∙◌, ap, false}
+use Rattle.std.proofs.Common.{◌≡◌, ℤ, sym, ◌∙◌, ap, false}
 use Rattle.std.specs.List.{list_any}
 use Rattle.std.specs.Map.{keys_of, lookup}
 use Rattle.std.proofs.lemmas.Map.Keys.{IsDistinct-from_sorted}
@@ -11,12 +11,11 @@ use Rattle.dn_table.proofs.table.Table.get.Goals as goal
 pub returns-in-Some : goal.returns-in-Some
 returns-in-Some g c =
     let es = c.self.inside.entries.items in
-    let lt = subst (λ xs. c.in-Some.position < length (keys_of xs)) c.deref.ensures.value c.in-Some.ensures.0 in
+    let lt = rw c.deref.ensures.value at c.in-Some.ensures.0 in
     let there =
     key_is c.args.src c.args.dst c.ranges.src c.ranges.dst
     (λ (k : ℤ × ℤ). key_at (keys_of c.deref.result.now) c.in-Some.position ≡ k) c.in-Some.ensures.1 in
-    let at =
-    subst (λ xs. key_at (keys_of xs) c.in-Some.position ≡ (c.args.src, c.args.dst)) c.deref.ensures.value there in
+    let at = rw c.deref.ensures.value at there in
     sym
     (found_at (c.args.src, c.args.dst) es (IsDistinct-from_sorted pair_cmp (keys_of es) c.self.invariant)
     c.in-Some.position c.index.result.now lt at c.index.ensures)

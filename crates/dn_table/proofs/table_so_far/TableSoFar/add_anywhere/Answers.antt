@@ -1,5 +1,5 @@
-use Rattle.std.proofs.Common.{◌≡◌, ◌<◌, length, subst, sym, ◌∙◌, ap, set}
-use Rattle.std.specs.Map.{keys_of, lookup}
+use Rattle.std.proofs.Common.{subst, ◌∙◌, ap, set}
+use Rattle.std.specs.Map.{lookup}
 use Rattle.std.proofs.lemmas.Result.{on_ok_weaker, on_err_weaker}
 use Rattle.dn_arc.specs.declared.arc.Form.TheVariants.{One}
 use Rattle.dn_arc.specs.Pairs.{same_pair}
@@ -7,14 +7,13 @@ use Rattle.dn_table.specs.State.Tables.{Grows}
 use Rattle.dn_table.proofs.TableLaws.{listed_there, sum_listed}
 use Rattle.dn_table.proofs.NeedLaws.{needs_listed}
 use Rattle.dn_table.proofs.GrownLaws.{lookup_none, found_at, same_then, grows_here}
-use Rattle.pair_index.specs.State.Positions.{key_at}
 use Rattle.pair_index.proofs.EntryLaws.{indexes_kept}
 use Rattle.dn_table.proofs.table_so_far.TableSoFar.add_anywhere.Goals as goal
 
 pub invariant_of-self : goal.invariant_of-self
 invariant_of-self g c =
     indexes_kept c.self.inside.entries.items c.in-Some.i c.index_mut.result.now c.add.new.self
-    (subst (λ es. c.in-Some.i < length (keys_of es)) (sym (c.self.view_is ∙ c.position.ensures.same))
+    (rw (c.self.view_is ∙ c.position.ensures.same)
     c.in-Some.ensures.position.0) c.index_mut.ensures.value c.self.inside.index c.self.invariant
 
 pub add_fresh-requires-clause-none : goal.add_fresh-requires-clause-none
@@ -26,8 +25,8 @@ pub returns-in-Some-clause-ok : goal.returns-in-Some-clause-ok
 returns-in-Some-clause-ok g c =
     let es = c.self.inside.entries.items in
     let old = c.self.view_is ∙ c.position.ensures.same in
-    let lt = subst (λ xs. c.in-Some.i < length (keys_of xs)) (sym old) c.in-Some.ensures.position.0 in
-    let at = subst (λ xs. key_at (keys_of xs) c.in-Some.i ≡ c.args.pair) (sym old) c.in-Some.ensures.position.1 in
+    let lt = rw (← old) at c.in-Some.ensures.position.0 in
+    let at = rw (← old) at c.in-Some.ensures.position.1 in
     on_ok_weaker c.add.result
     (λ same. subst
     (λ m. Grows g.B.Bundle.bundle.kind (g.B.Bundle.bundle.listed One) m
@@ -40,8 +39,8 @@ pub returns-in-Some-clause-err : goal.returns-in-Some-clause-err
 returns-in-Some-clause-err g c =
     let es = c.self.inside.entries.items in
     let old = c.self.view_is ∙ c.position.ensures.same in
-    let lt = subst (λ xs. c.in-Some.i < length (keys_of xs)) (sym old) c.in-Some.ensures.position.0 in
-    let at = subst (λ xs. key_at (keys_of xs) c.in-Some.i ≡ c.args.pair) (sym old) c.in-Some.ensures.position.1 in
+    let lt = rw (← old) at c.in-Some.ensures.position.0 in
+    let at = rw (← old) at c.in-Some.ensures.position.1 in
     on_err_weaker c.add.result
     (λ same. same_then c.args.pair es c.self.invariant.apart c.in-Some.i c.index_mut.result.now lt at
     c.index_mut.ensures.value c.add.new.self same ∙ old)
@@ -51,8 +50,8 @@ pub returns-in-Some-clause-sum : goal.returns-in-Some-clause-sum
 returns-in-Some-clause-sum g c =
     let es = c.self.inside.entries.items in
     let old = c.self.view_is ∙ c.position.ensures.same in
-    let lt = subst (λ xs. c.in-Some.i < length (keys_of xs)) (sym old) c.in-Some.ensures.position.0 in
-    let at = subst (λ xs. key_at (keys_of xs) c.in-Some.i ≡ c.args.pair) (sym old) c.in-Some.ensures.position.1 in
+    let lt = rw (← old) at c.in-Some.ensures.position.0 in
+    let at = rw (← old) at c.in-Some.ensures.position.1 in
     sum_listed g.B.Bundle.bundle.kind (g.B.Bundle.bundle.listed One) c.args.arc _ es c.args.self.now c.args.pair
     (g.B.Bundle.bundle.listed One c.index_mut.result.now.1) old
     (listed_there (g.B.Bundle.bundle.listed One) es c.args.pair c.index_mut.result.now.1
@@ -63,8 +62,8 @@ pub returns-in-Some-clause-memory : goal.returns-in-Some-clause-memory
 returns-in-Some-clause-memory g c e =
     let es = c.self.inside.entries.items in
     let old = c.self.view_is ∙ c.position.ensures.same in
-    let lt = subst (λ xs. c.in-Some.i < length (keys_of xs)) (sym old) c.in-Some.ensures.position.0 in
-    let at = subst (λ xs. key_at (keys_of xs) c.in-Some.i ≡ c.args.pair) (sym old) c.in-Some.ensures.position.1 in
+    let lt = rw (← old) at c.in-Some.ensures.position.0 in
+    let at = rw (← old) at c.in-Some.ensures.position.1 in
     needs_listed g.B.Bundle.bundle.kind (g.B.Bundle.bundle.listed One) c.args.arc es c.args.self.now c.args.pair
     (g.B.Bundle.bundle.listed One c.index_mut.result.now.1) old
     (listed_there (g.B.Bundle.bundle.listed One) es c.args.pair c.index_mut.result.now.1

@@ -1,5 +1,4 @@
-use Rattle.std.proofs.Common.{ap, ◌∙◌, subst}
-use Rattle.std.specs.List.Sorted.{IsPermutation}
+use Rattle.std.proofs.Common.{ap, ◌∙◌}
 use Rattle.std.specs.Map.{lookup}
 use Rattle.std.proofs.lemmas.List.{with_items_is}
 use Rattle.pair_index.proofs.SortLaws.{lookups_still}
@@ -12,6 +11,6 @@ returns-clause-kept g c pair =
     let fs = c.sort.new.entries in
     let now = with_items_is c.self.inside.entries fs (c.sort.auto.entries ∙ c.deref_mut.ensures.len) in
     ap (lookup (same_pair pair)) (c.of.ensures ∙ now)
-    ∙ lookups_still es fs (subst (λ xs. IsPermutation xs fs) c.deref_mut.ensures.value c.sort.ensures.moved)
+    ∙ lookups_still es fs (rw c.deref_mut.ensures.value at c.sort.ensures.moved)
     c.self.invariant.apart pair
     ∙ ap (lookup (same_pair pair)) c.self.view_is

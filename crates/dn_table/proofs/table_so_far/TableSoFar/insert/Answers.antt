@@ -1,10 +1,9 @@
-use Rattle.std.proofs.Common.{ℤ, subst, sym, ◌∙◌, ap, ◌∷◌, []}
+use Rattle.std.proofs.Common.{ℤ, ◌∙◌, ap, ◌∷◌, []}
 use Rattle.std.proofs.lemmas.List.{map-append}
 use Rattle.std.specs.List.{list_any}
 use Rattle.std.specs.Map.{keys_of, lookup}
 use Rattle.dn_arc.specs.Pairs.{same_pair}
 use Rattle.dn_arc.proofs.PairLaws.{pair_self}
-use Rattle.pair_index.specs.State.Indexed.{Indexes}
 use Rattle.pair_index.proofs.SortLaws.{lookups_still}
 use Rattle.dn_table.proofs.PairLaws.{other_pair}
 use Rattle.dn_table.proofs.GrownLaws.{push_found, push_other, any_none}
@@ -22,8 +21,7 @@ pub invariant_of-self : goal.invariant_of-self
 invariant_of-self g c =
     let e : (ℤ × ℤ) × g.row.B.Denot = (c.args.pair, c.args.bundle) in
     let fs = c.note_next.new.entries.items in
-    subst (λ ks. Indexes c.note_next.new.index ks)
-    (sym (ap keys_of c.push_reserved.ensures.items ∙ map-append (λ (x : (ℤ × ℤ) × g.row.B.Denot). x.0) fs (e ∷ [])))
+    rw (ap keys_of c.push_reserved.ensures.items ∙ map-append (λ (x : (ℤ × ℤ) × g.row.B.Denot). x.0) fs (e ∷ []))
     c.in-Ok.ensures.ok
 
 pub push_reserved-requires : goal.push_reserved-requires

@@ -1,6 +1,4 @@
-use Rattle.std.proofs.Common.{◌++◌, ◌∷◌, [], sym, subst}
 use Rattle.std.specs.Map.{keys_of}
-use Rattle.pair_index.specs.State.Shown.{ShowsIndex}
 use Rattle.pair_index.proofs.IndexLaws.{apart_more}
 use Rattle.pair_index.proofs.index.PairIndex.is_next.Goals as goal
 
@@ -10,5 +8,5 @@ returns-in-Runs-clause-stays g c is =
     let p = c.args.pair.now in
     record {
       apart = apart_more keys p c.requires.apart (c.is_next.ensures.fresh is);
-      shows = subst (λ way. ShowsIndex way (keys ++ p ∷ [])) (sym c.in-Runs.is) (c.is_next.ensures.stays is);
+      shows = rw c.in-Runs.is (c.is_next.ensures.stays is);
     }

@@ -1,10 +1,6 @@
-use Rattle.std.proofs.Common.{◌≡◌, ◌++◌, ◌∷◌, [], true, length, refl, sym, subst}
-use Rattle.std.specs.Bool.{IsTrue}
+use Rattle.std.proofs.Common.{◌≡◌, true, length, refl, sym}
 use Rattle.std.specs.Map.{keys_of}
-use Rattle.std.specs.Result.{IfOk}
 use Rattle.std.proofs.lemmas.Map.Entries.{length-keys_of}
-use Rattle.pair_index.specs.State.Shown.{ShowsIndex}
-use Rattle.pair_index.specs.State.Tailed.{IsTailed}
 use Rattle.pair_index.proofs.IndexLaws.{apart_more, positions_more}
 use Rattle.pair_index.proofs.SortLaws.{apart_still, fresh_still}
 use Rattle.pair_index.proofs.index.PairIndex.take.Goals as goal
@@ -27,9 +23,7 @@ returns-else-not-stays-clause-taken g c is =
     let p = c.args.pair.now in
     record {
       apart = apart_more keys p c.requires.indexed.apart c.requires.fresh;
-      shows =
-          subst (λ r. IfOk r (λ taken. IsTrue taken → IsTailed c.take-in-Tails.new.self (keys ++ p ∷ []))) is
-          c.take-in-Tails.ensures.taken refl;
+      shows = rw is at c.take-in-Tails.ensures.taken refl;
     }
 
 pub returns-in-Chained-clause-taken : goal.returns-in-Chained-clause-taken
@@ -41,7 +35,7 @@ returns-in-Chained-clause-taken g c is =
       apart = apart_more keys p c.requires.indexed.apart c.requires.fresh;
       shows =
           c.take-in-Chained.ensures.taken taken keys
-          (subst (λ way. ShowsIndex way keys) c.in-Chained.is c.requires.indexed.shows);
+          (rw c.in-Chained.is at c.requires.indexed.shows);
     }
 
 pub returns-in_ok-insert-in-Ordered-clause-taken : goal.returns-in_ok-insert-in-Ordered-clause-taken
@@ -53,6 +47,6 @@ returns-in_ok-insert-in-Ordered-clause-taken g c is =
       shows =
           positions_more keys p (length c.args.entries.now) (sym (length-keys_of c.args.entries.now))
           c.in-Ordered.positions c.insert.new.self
-          (subst (λ way. ShowsIndex way keys) c.in-Ordered.is c.requires.indexed.shows)
+          (rw c.in-Ordered.is at c.requires.indexed.shows)
           (λ q. c.in_ok-insert-in-Ordered.ensures.updates.0 q);
     }

@@ -1,7 +1,5 @@
-use Rattle.std.proofs.Common.{Some, None, sym, subst}
+use Rattle.std.proofs.Common.{Some, None}
 use Rattle.std.specs.Map.{keys_of}
-use Rattle.pair_index.specs.State.Positions.{IsPositionFrom}
-use Rattle.pair_index.specs.State.Runs.{ShowsGroup}
 use Rattle.pair_index.proofs.RunLaws.{found_linked, group_linked}
 use Rattle.pair_index.proofs.runs.Runs.find_in_group.Goals as goal
 
@@ -9,13 +7,13 @@ pub find-requires : goal.find-requires
 find-requires g c =
     let runs = c.args.self.now in
     let keys = keys_of c.args.entries.now in
-    let linked = subst (λ group. ShowsGroup runs.falls runs.begin group keys) c.in-Linked.is c.requires.shows in
+    let linked = rw c.in-Linked.is at c.requires.shows in
     group_linked runs.begin c.args.entries.now c.in-Linked.chains linked.1
 
 pub returns-in_err-position-in-Linked : goal.returns-in_err-position-in-Linked
 returns-in_err-position-in-Linked g c =
     let runs = c.args.self.now in
-    subst (IsPositionFrom (keys_of c.args.entries.now) runs.begin c.args.pair.now) (sym c.from_residual.ensures)
+    rw c.from_residual.ensures
     (found_linked runs.begin c.args.entries.now runs.falls c.args.pair.now None c.requires.group
     c.in_err-position-in-Linked.ensures)
 

@@ -1,7 +1,5 @@
-use Rattle.std.proofs.Common.{sym, ◌∙◌, subst}
+use Rattle.std.proofs.Common.{sym, ◌∙◌}
 use Rattle.std.specs.Map.{keys_of}
-use Rattle.std.specs.Option.{IfSome}
-use Rattle.pair_index.specs.State.Chained.{IsChained}
 use Rattle.pair_index.proofs.RunLaws.{group_of, group_more, first_tail, linked_more}
 use Rattle.pair_index.proofs.runs.Runs.link_group.Goals as goal
 
@@ -12,8 +10,7 @@ returns-else-not-take-clause-taken g c is =
     let p = c.args.pair.now in
     let group = c.requires.group in
     let linked =
-    subst (λ o. IfSome o (λ chains. IsChained chains (keys_of (group_of runs.begin es)))) c.in-Some.is
-    c.in_ok-chains.ensures in (
+    rw c.in-Some.is at c.in_ok-chains.ensures in (
       group_more runs.falls (keys_of es) runs.begin group p
           (sym c.requires.tail ∙ first_tail runs.falls (keys_of es) runs.begin group p),
       linked_more runs.begin es runs.falls p c.take.new.self group

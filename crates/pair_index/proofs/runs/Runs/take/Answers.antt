@@ -1,8 +1,7 @@
-use Rattle.std.proofs.Common.{true, false, [], ◌∷◌, ◌++◌, get_or, sym, ap, ◌∙◌, subst, true≢false}
+use Rattle.std.proofs.Common.{false, get_or, sym, ap, ◌∙◌, true≢false}
 use Rattle.std.specs.Map.{keys_of}
 use Rattle.std.proofs.lemmas.List.Sorted.{IsPermutation-trans}
-use Rattle.pair_index.specs.State.Runs.{ShowsGroup}
-use Rattle.pair_index.specs.State.Sorted.{AreSorted, order_of}
+use Rattle.pair_index.specs.State.Sorted.{order_of}
 use Rattle.pair_index.proofs.ChainLaws.{key_of_position}
 use Rattle.pair_index.proofs.RunLaws.{first_run, sorted_after, sorted_falling, some_keys}
 use Rattle.pair_index.proofs.SortedLaws.{no_last, descending, keys_reversed}
@@ -22,12 +21,10 @@ returns-in-Less-clause-taken g c is =
     let fs = c.close.new.entries in
     let p = c.args.pair.now in
     let falls = c.close.ensures.falls in
-    subst (λ it. ShowsGroup closed.falls closed.begin it (keys_of fs ++ p ∷ [])) (sym c.close.ensures.group)
-    (subst (λ it. AreSorted it (keys_of fs ++ p ∷ [])) (sym falls)
-    (sorted_after es fs c.in-Some.field-0.now p c.in-Some.ensures.value
+    rw c.close.ensures.group (rw falls (sorted_after es fs c.in-Some.field-0.now p c.in-Some.ensures.value
     (λ e. true≢false (sym (c.is_tail.ensures.1 e) ∙ c.if-is_tail.false)) c.close.ensures.moved runs.falls runs.begin
     runs.group c.requires.shows (sym c.in-Less.ensures)
-    (subst (λ it. AreSorted it (keys_of fs)) falls c.close.ensures.sorted)))
+    (rw falls at c.close.ensures.sorted)))
 
 pub returns-clause-taken : goal.returns-clause-taken
 returns-clause-taken g c is =
@@ -37,21 +34,17 @@ returns-clause-taken g c is =
     let fs = c.reverse.new.self in
     let p = c.args.pair.now in
     let e = c.in-Some.field-0.now in
-    subst (λ it. ShowsGroup true closed.begin it (keys_of fs ++ p ∷ [])) (sym c.close-2.ensures.group)
-    (sorted_falling es fs e p c.in-Some.ensures.value
+    rw c.close-2.ensures.group (sorted_falling es fs e p c.in-Some.ensures.value
     (λ e. true≢false (sym (c.is_tail.ensures.1 e) ∙ c.if-is_tail.false))
     (IsPermutation-trans es c.close-2.new.entries fs c.close-2.ensures.moved c.reverse.ensures.permutation)
     (get_or es 0 c.index-entries-0.result)
     (sym (key_of_position es 0 c.index-entries-0.result (some_keys false 0 es e p c.in-Some.ensures.value)))
     (c.is_tail-else-self.ensures.0 c.if-not-is_tail.false) runs.begin runs.group
-    (subst (λ it. ShowsGroup it runs.begin runs.group (keys_of es)) c.if-self.false c.requires.shows)
+    (rw c.if-self.false at c.requires.shows)
     (λ l. c.in_default-order_of.not-Less
     (c.order_of.ensures ∙ ap (λ it. order_of it e.0 p) c.if-self.false ∙ l))
-    (subst (λ xs. AreSorted true (keys_of xs)) (sym c.reverse.ensures.after)
-    (subst (AreSorted true) (sym (keys_reversed c.close-2.new.entries))
-    (descending (keys_of c.close-2.new.entries)
-    (subst (λ it. AreSorted it (keys_of c.close-2.new.entries)) (c.close-2.ensures.falls ∙ c.if-self.false)
-    c.close-2.ensures.sorted)))))
+    (rw c.reverse.ensures.after (rw (keys_reversed c.close-2.new.entries) (descending (keys_of c.close-2.new.entries)
+    (rw (c.close-2.ensures.falls ∙ c.if-self.false) at c.close-2.ensures.sorted)))))
 
 pub returns-clause-moved : goal.returns-clause-moved
 returns-clause-moved g c =

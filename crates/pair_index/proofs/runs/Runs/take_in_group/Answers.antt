@@ -1,8 +1,7 @@
-use Rattle.std.proofs.Common.{◌≡◌, ◌-◌, ◌<◌, ◌≤◌, [], ◌∷◌, ◌++◌, length, drop, sym, ap, ◌∙◌, subst}
+use Rattle.std.proofs.Common.{◌≡◌, ◌-◌, ◌<◌, ◌≤◌, length, drop, sym, ap, ◌∙◌}
 use Rattle.std.specs.Map.{keys_of}
 use Rattle.std.proofs.lemmas.Map.Entries.{length-keys_of}
 use Rattle.pair_index.specs.State.Positions.{key_at}
-use Rattle.pair_index.specs.State.Runs.{ShowsGroup}
 use Rattle.pair_index.proofs.RunLaws.{end_tail, group_more, linked_on, opened}
 use Rattle.pair_index.proofs.runs.Runs.take_in_group.Goals as goal
 
@@ -11,19 +10,18 @@ returns-then-entries-self-lt-FEW-clause-taken g c is =
     let runs = c.args.self.now in
     let keys = keys_of c.args.entries.now in
     let p = c.args.pair.now in
-    let group = subst (λ group. ShowsGroup runs.falls runs.begin group keys) c.in-Few.is c.requires.shows in
+    let group = rw c.in-Few.is at c.requires.shows in
     let tail : p.0 ≡ group.tail =
     sym c.requires.tail ∙ ap (λ n. (key_at keys (n - 1)).0) (sym (length-keys_of c.args.entries.now))
     ∙ end_tail runs.falls keys runs.begin group p in
-    subst (λ it. ShowsGroup runs.falls runs.begin it (keys ++ p ∷ [])) (sym c.in-Few.is)
-    (group_more runs.falls keys runs.begin group p tail)
+    rw c.in-Few.is (group_more runs.falls keys runs.begin group p tail)
 
 pub returns-then-take-clause-taken : goal.returns-then-take-clause-taken
 returns-then-take-clause-taken g c is =
     let runs = c.args.self.now in
     let keys = keys_of c.args.entries.now in
     let p = c.args.pair.now in
-    let shown = subst (λ group. ShowsGroup runs.falls runs.begin group keys) c.in-Linked.is c.requires.shows in
+    let shown = rw c.in-Linked.is at c.requires.shows in
     let tail : p.0 ≡ shown.0.tail =
     sym c.requires.tail ∙ ap (λ n. (key_at keys (n - 1)).0) (sym (length-keys_of c.args.entries.now))
     ∙ end_tail runs.falls keys runs.begin shown.0 p in (
@@ -40,12 +38,12 @@ returns-else-is_past-clause-taken g c is =
     let p = c.args.pair.now in
     let begin = c.begin_of-self.result in
     let all : length keys ≡ length es = length-keys_of es in
-    let up = subst (λ group. ShowsGroup runs.falls runs.begin group keys) c.in-Sorted.is c.requires.shows in
-    let some : 0 < length keys = subst (λ n. 0 < n) (sym all) c.requires.some in
-    let within : begin ≤ length keys = subst (λ n. begin ≤ n) (sym all) c.begin_of-self.ensures.within in
+    let up = rw c.in-Sorted.is at c.requires.shows in
+    let some : 0 < length keys = rw all c.requires.some in
+    let within : begin ≤ length keys = rw all c.begin_of-self.ensures.within in
     let tail : (key_at keys (length keys - 1)).0 ≡ p.0 = ap (λ n. (key_at keys (n - 1)).0) all ∙ c.requires.tail in
     let group =
     opened runs.falls keys begin p.0 up some within
-    (λ i from lt. c.begin_of-self.ensures.from i from (subst (λ n. i < n) all lt))
+    (λ i from lt. c.begin_of-self.ensures.from i from (rw all at lt))
     c.begin_of-self.ensures.before tail in
     group_more runs.falls keys begin group p (sym tail ∙ end_tail runs.falls keys begin group p)

@@ -1,6 +1,5 @@
-use Rattle.std.proofs.Common.{◌≡◌, suc, ◌+◌, ◌-◌, ◌<◌, ◌∷◌, ◌++◌, [], length, set, sym, ap, ◌∙◌, subst, arith}
+use Rattle.std.proofs.Common.{◌≡◌, suc, ◌+◌, ◌-◌, ◌<◌, length, ap, ◌∙◌, arith}
 use Rattle.std.specs.Map.{keys_of}
-use Rattle.pair_index.specs.State.Tailed.{Links}
 use Rattle.pair_index.proofs.SpliceLaws.{links_more, spliced_first, spliced_after, before_inside}
 use Rattle.pair_index.proofs.tails.Tails.link.Goals as goal
 
@@ -14,9 +13,8 @@ returns-then-spot-eq0 g c =
     omega (arith, c.len.ensures ∙ self.next.ok.0 ∙ c.requires.linked.same) in
     let tops = c.set_first.ensures.heads room.tail room.is room.known in
     let nexts = ap (λ v. v.items) c.set_first.ensures.next ∙ c.push_reserved.ensures.items in
-    subst (λ h. Links h c.set_first.new.self.next.items (keys ++ c.args.pair.now ∷ [])) (sym tops)
-    (subst (λ n. Links (set self.heads.items room.tail (c.len.result + 1)) n (keys ++ c.args.pair.now ∷ [])) (sym nexts)
-    (links_more self.heads.items _ self.next.items _ keys c.args.pair.now room.tail spot.before spot.after
+    rw tops
+    (rw nexts (links_more self.heads.items _ self.next.items _ keys c.args.pair.now room.tail spot.before spot.after
     (c.len.result + 1) c.requires.linked c.requires.fresh
     c.spot-spot.ensures.sought c.spot-spot.ensures.stops room.is room.known one
     (spliced_first self.heads.items self.next.items room.tail spot.before spot.after
@@ -31,10 +29,9 @@ returns-else-spot-eq0 g c =
     let one : c.len.result + 1 ≡ suc (length keys) =
     omega (arith, c.len.ensures ∙ self.next.ok.0 ∙ c.requires.linked.same) in
     let inside : spot.before - 1 < length self.next.items =
-    subst (λ n. spot.before - 1 < n) (sym c.requires.linked.same)
+    rw c.requires.linked.same
     (before_inside keys c.args.pair.now spot.before spot.after c.if-spot-eq0.false c.spot-spot.ensures.sought) in
-    subst (λ n. Links self.heads.items (set n (spot.before - 1) (c.len.result + 1)) (keys ++ c.args.pair.now ∷ []))
-    (sym c.push_reserved.ensures.items)
+    rw c.push_reserved.ensures.items
     (links_more self.heads.items _ self.next.items _ keys c.args.pair.now room.tail spot.before spot.after
     (c.len.result + 1) c.requires.linked c.requires.fresh
     c.spot-spot.ensures.sought c.spot-spot.ensures.stops room.is room.known one

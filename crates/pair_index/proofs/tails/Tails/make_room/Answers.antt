@@ -25,13 +25,10 @@ pub returns-then-len-ge-MOST_LINKED-clause-kept : goal.returns-then-len-ge-MOST_
 returns-then-len-ge-MOST_LINKED-clause-kept c keys links = links
 
 pub returns-in_err-reserve-clause-kept : goal.returns-in_err-reserve-clause-kept
-returns-in_err-reserve-clause-kept c keys links =
-    subst (λ n. Links c.args.self.now.heads.items n keys) (sym c.reserve.ensures.items) links
+returns-in_err-reserve-clause-kept c keys links = rw c.reserve.ensures.items links
 
 pub returns-then-saturating_mul-tail-clause-kept : goal.returns-then-saturating_mul-tail-clause-kept
-returns-then-saturating_mul-tail-clause-kept c keys links =
-    subst (λ n. Links c.args.self.now.heads.items n keys) (sym c.reserve.ensures.items) links
+returns-then-saturating_mul-tail-clause-kept c keys links = rw c.reserve.ensures.items links
 
 pub returns-else-len-tail-clause-kept : goal.returns-else-len-tail-clause-kept
-returns-else-len-tail-clause-kept c keys links =
-    subst (λ n. Links c.args.self.now.heads.items n keys) (sym c.reserve.ensures.items) links
+returns-else-len-tail-clause-kept c keys links = rw c.reserve.ensures.items links

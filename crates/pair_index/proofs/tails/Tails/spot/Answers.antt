@@ -1,4 +1,4 @@
-use Rattle.std.proofs.Common.{◌≡◌, ◌<◌, ◌-◌, ℤ, ◌≤ℤ◌, subst, sym, refl, arith}
+use Rattle.std.proofs.Common.{◌≡◌, ◌-◌, refl, arith}
 use Rattle.std.specs.Map.{keys_of}
 use Rattle.std.proofs.lemmas.Bool.{false≢true}
 use Rattle.pair_index.specs.State.Positions.{key_at}
@@ -25,7 +25,7 @@ index-after-requires g c =
     let self = c.args.self.now in
     let in_keys = (sought_inside c.args.pair.now c.loop-after.before c.loop-after.after c.loop-after-test.true
     c.loop-after.invariant).0 in
-    subst (λ n. c.loop-after.after - 1 < n) (sym self.next.ok.0) (has_next c.requires in_keys)
+    rw self.next.ok.0 (has_next c.requires in_keys)
 
 pub loop-after-smaller : goal.loop-after-smaller
 loop-after-smaller g c =
@@ -46,21 +46,17 @@ loop-after-preserved g c =
     c.loop-after.before c.loop-after.after c.index-after.result.now c.loop-after-test.true c.loop-after.invariant
     (past_head c.args.pair.now.1 (key_at (keys_of c.args.entries.now) (c.loop-after.after - 1)).1
     (λ h. false≢true (c.if-is_head_upto.ensures.1
-    (subst (λ (k : ℤ × ℤ). c.args.pair.now.1 ≤ℤ k.1)
-    (key_of_position c.args.entries.now (c.loop-after.after - 1) c.index-entries-at.result in_keys) h))))
+    (rw (key_of_position c.args.entries.now (c.loop-after.after - 1) c.index-entries-at.result in_keys) at h))))
     (get_or_read self.next.items (c.loop-after.after - 1) c.index-after.result.now
     (has_next c.requires in_keys) c.index-after.ensures 0)
 
 pub returns-then-is_head_upto : goal.returns-then-is_head_upto
 returns-then-is_head_upto g c =
-    let self = c.args.self.now in
     let in_keys = (sought_inside c.args.pair.now c.loop-after.before c.loop-after.after c.loop-after-test.true
     c.loop-after.invariant).0 in
     record {
       sought = c.loop-after.invariant;
       stops = λ i e. (let at : c.loop-after.after - 1 ≡ i = omega (arith, e) in
-          subst (λ j. c.args.pair.now.1 ≤ℤ (key_at (keys_of c.args.entries.now) j).1) at
-          (subst (λ (k : ℤ × ℤ). c.args.pair.now.1 ≤ℤ k.1)
-          (sym (key_of_position c.args.entries.now (c.loop-after.after - 1) c.index-entries-at.result in_keys))
+          rw (← at) (rw (key_of_position c.args.entries.now (c.loop-after.after - 1) c.index-entries-at.result in_keys)
           (c.if-is_head_upto.ensures.0 refl)));
     }

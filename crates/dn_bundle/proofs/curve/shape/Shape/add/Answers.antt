@@ -1,6 +1,5 @@
-use Rattle.std.proofs.Common.{rules, refl, sym, ap, subst, of_z, w64}
+use Rattle.std.proofs.Common.{rules, refl, ap, of_z, w64}
 use Rattle.dn_bundle.proofs.ShapeLaws.{plain_sum_fits, plain_taken}
-use Rattle.dn_bundle.specs.State.Shapes.{numbers_of, NeedRoom}
 use Rattle.dn_bundle.proofs.StepLaws.{on_err}
 use Rattle.dn_bundle.proofs.NewLaws.{leaves_room}
 use Rattle.dn_bundle.proofs.curve.shape.Shape.add.Goals as goal
@@ -20,6 +19,5 @@ returns-then-stays_plain-clause-ok c =
 pub returns-in_err-full_with-in-Plain-clause-memory : goal.returns-in_err-full_with-in-Plain-clause-memory
 returns-in_err-full_with-in-Plain-clause-memory c =
     on_err c.from_residual.result
-    (subst (λ s. NeedRoom (numbers_of s) c.args.arc) (sym c.in-Plain.is)
-    (leaves_room c.in-Plain.low c.in-Plain.step c.args.arc c.requires.arc (search rules)
+    (rw c.in-Plain.is (leaves_room c.in-Plain.low c.in-Plain.step c.args.arc c.requires.arc (search rules)
     (λ e. c.if-arc-eq0.false (ap (of_z w64) e)) (c.if-stays_plain.ensures.leaves refl)))
