@@ -7,7 +7,7 @@ use Rattle.std.proofs.lemmas.Bool.Decides.{Decides-int_eq}
 use Rattle.dn_arc.specs.declared.arc.LengthArc.{LengthArc}
 use Rattle.dn_arc.specs.declared.arc.CapArc.{CapArc}
 use Rattle.dn_arc.specs.declared.arc.CostArc.{CostArc}
-use Rattle.dn_arc.specs.State.Meanings.{IsMeaning}
+use Rattle.dn_arc.specs.State.Equivalences.{IsMeaning}
 use Rattle.dn_arc.specs.Meanings.{SameLength}
 use Rattle.dn_arc.specs.Canonical.{IsCapArc}
 use Rattle.dn_arc.specs.Kinds.{ArcKind, lengths, capacities, costs}

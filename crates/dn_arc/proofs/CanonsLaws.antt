@@ -11,7 +11,7 @@ use Rattle.dn_arc.specs.Meanings.{SameCurve}
 use Rattle.dn_arc.specs.Canonical.{IsCostArc, has_low}
 use Rattle.dn_arc.specs.Entries.{distinct, has_room, cost_entries}
 use Rattle.dn_arc.specs.Fillings.{forced_units, forced_cost}
-use Rattle.dn_arc.specs.State.Fillings.{room}
+use Rattle.dn_arc.specs.State.FillCosts.{room}
 use Rattle.dn_arc.specs.State.Steps.{put_step, has_step, AreSteps}
 use Rattle.dn_arc.specs.State.CurveListed.{free_arc, step_arc, listed}
 use Rattle.dn_arc.proofs.SplitsLaws.{SameAbove}

@@ -6,7 +6,7 @@ use Rattle.std.specs.Int.Signed.{≤ℤ_refl}
 use Rattle.dn_arc.specs.declared.arc.CostArc.{CostArc}
 use Rattle.dn_arc.specs.Splits.{cost_cap}
 use Rattle.dn_arc.specs.Meanings.{SameCurve}
-use Rattle.dn_arc.specs.State.Meanings.{IsMeaning}
+use Rattle.dn_arc.specs.State.Equivalences.{IsMeaning}
 use Rattle.dn_arc.specs.Canonical.{IsCostArc}
 use Rattle.dn_arc.proofs.SharesLaws.{AtMost, share_map, share_swap}
 use Rattle.dn_arc.proofs.SplitsLaws.{SameAbove, above, same, antisym}

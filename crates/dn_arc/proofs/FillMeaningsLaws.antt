@@ -6,7 +6,7 @@ use Rattle.dn_arc.specs.declared.arc.CostArc.{CostArc}
 use Rattle.dn_arc.specs.Splits.{LeastCost}
 use Rattle.dn_arc.specs.Meanings.{SameCurve}
 use Rattle.dn_arc.specs.Fillings.{forced_units, forced_cost}
-use Rattle.dn_arc.specs.State.Fillings.{free_room, fill_cost}
+use Rattle.dn_arc.specs.State.FillCosts.{free_room, fill_cost}
 use Rattle.dn_arc.proofs.FillsLaws.{AreOrdered, filling_of_least, least_of_filling}
 use Rattle.dn_arc.proofs.FormOneLaws.{IsSameFill}
 use Rattle.dn_arc.proofs.PartsLaws.{free_parts, room_parts, fill_parts}

@@ -8,7 +8,7 @@ use Rattle.dn_arc.specs.declared.arc.CostArc.{CostArc}
 use Rattle.dn_arc.specs.Splits.{LeastCost}
 use Rattle.dn_arc.specs.Canonical.{IsCostArc}
 use Rattle.dn_arc.specs.Fillings.{forced_units, forced_cost}
-use Rattle.dn_arc.specs.State.Fillings.{room, free_room, fill_cost, IsFilling}
+use Rattle.dn_arc.specs.State.FillCosts.{room, free_room, fill_cost, IsFilling}
 use Rattle.dn_arc.proofs.ProductsLaws.{mul_add, mul_sub, mul_mono}
 use Rattle.dn_arc.proofs.SharesLaws.{AtMost}
 use Rattle.dn_arc.proofs.SplitsLaws.{least_bottom, bottom_least, antisym}

@@ -10,7 +10,7 @@ use Rattle.dn_arc.specs.Meanings.{SameCurve}
 use Rattle.dn_arc.specs.State.Means.{IsFloor}
 use Rattle.dn_arc.specs.Canonical.{IsFixedArc, IsFreeArc, IsFormOne}
 use Rattle.dn_arc.specs.Fillings.{forced_units, forced_cost}
-use Rattle.dn_arc.specs.State.Fillings.{room, free_room, fill_cost, IsFilling}
+use Rattle.dn_arc.specs.State.FillCosts.{room, free_room, fill_cost, IsFilling}
 use Rattle.dn_arc.proofs.ProductsLaws.{mul_add, mul_suc, mul_mono}
 use Rattle.dn_arc.proofs.FillsLaws.{AreOrdered, fill_low, fill_high, fill_zero, room_some, filling_of_least, least_of_filling}
 use Rattle.dn_arc.proofs.FormsLaws.{AreFree, AreFixed, IsApart, rest_free, fixed_of, free_of, free_ordered, form_one_ordered, apart_form}

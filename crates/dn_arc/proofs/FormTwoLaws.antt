@@ -11,7 +11,7 @@ use Rattle.dn_arc.specs.declared.arc.Form.TheVariants.{One, Two}
 use Rattle.dn_arc.specs.Splits.{LeastCost}
 use Rattle.dn_arc.specs.Meanings.{SameCurve}
 use Rattle.dn_arc.specs.Canonical.{IsMixedArc, AreRising, IsFormTwo, AreCanonCosts}
-use Rattle.dn_arc.specs.State.Fillings.{room, IsFilling}
+use Rattle.dn_arc.specs.State.FillCosts.{room, IsFilling}
 use Rattle.dn_arc.proofs.FillsLaws.{AreOrdered, exchange}
 use Rattle.dn_arc.proofs.FormsLaws.{AreAbove, above_lower, form_one_ordered, form_two_ordered}
 use Rattle.dn_arc.proofs.FormOneLaws.{arc_same, cancel, same_fill, same_free, fixed_same, free_same, determination_one}

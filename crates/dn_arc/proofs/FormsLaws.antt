@@ -6,7 +6,7 @@ use Rattle.std.specs.List.{AllByRecursion}
 use Rattle.dn_arc.specs.declared.arc.CostArc.{CostArc}
 use Rattle.dn_arc.specs.Canonical.{IsCostArc, IsFixedArc, IsFreeArc, IsMixedArc, AreNear, AreRising, IsFormOne, IsFormTwo}
 use Rattle.dn_arc.specs.Fillings.{forced_units, forced_cost}
-use Rattle.dn_arc.specs.State.Fillings.{room, free_room, fill_cost}
+use Rattle.dn_arc.specs.State.FillCosts.{room, free_room, fill_cost}
 use Rattle.dn_arc.proofs.FillsLaws.{NoneCheaper, AreOrdered, fill_low, fill_high, fill_zero}
 
 -- each cost is above c

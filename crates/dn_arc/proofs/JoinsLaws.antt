@@ -8,7 +8,7 @@ use Rattle.dn_arc.specs.Splits.{cost_cap}
 use Rattle.dn_arc.specs.Canonical.{IsFixedArc, IsMixedArc, AreNear, AreRising, has_low}
 use Rattle.dn_arc.specs.Entries.{has_room}
 use Rattle.dn_arc.specs.Fillings.{forced_units, forced_cost}
-use Rattle.dn_arc.specs.State.Fillings.{room}
+use Rattle.dn_arc.specs.State.FillCosts.{room}
 use Rattle.dn_arc.specs.State.CurveListed.{join_arc, join_arcs}
 use Rattle.dn_arc.proofs.ProductsLaws.{mul_add}
 use Rattle.dn_arc.proofs.FormsLaws.{AreAbove, AreFixed, above_lower, fixed_arc_is}

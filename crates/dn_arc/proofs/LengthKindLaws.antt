@@ -12,7 +12,7 @@ use Rattle.dn_arc.specs.Meanings.{SameLength}
 use Rattle.dn_arc.specs.Canonical.{AreCanonLengths}
 use Rattle.dn_arc.specs.Differences.{LengthsDiffer}
 use Rattle.dn_arc.specs.Entries.{length_entries}
-use Rattle.dn_arc.specs.State.Lengths.{length_listed}
+use Rattle.dn_arc.specs.State.SingleArcs.{length_listed}
 use Rattle.dn_arc.proofs.LengthsLaws.{length_meaning, lengths_determined, lengths_differ, length_of_one, length_of_same, first_length}
 
 any_arcs : (xs : List LengthArc) → AllByRecursion (λ (a : LengthArc). Unit {0}) xs

@@ -9,7 +9,7 @@ use Rattle.dn_arc.specs.declared.difference.How.{How}
 use Rattle.dn_arc.specs.declared.difference.How.TheVariants.{Lengths, Totals, Costs}
 use Rattle.dn_arc.specs.Lengths.{HasLength, LeastLength}
 use Rattle.dn_arc.specs.Meanings.{SameLength}
-use Rattle.dn_arc.specs.State.Meanings.{IsMeaning}
+use Rattle.dn_arc.specs.State.Equivalences.{IsMeaning}
 use Rattle.dn_arc.specs.Canonical.{AreCanonLengths}
 use Rattle.dn_arc.specs.Differences.{IsLengthOf, LengthsDiffer}
 

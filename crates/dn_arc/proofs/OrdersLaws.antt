@@ -3,7 +3,7 @@
 use Rattle.std.proofs.Common.{ℕ, suc, zero, ◌<◌, List, [], ◌∷◌, ◌++◌, length, subst, arith, get_or, set, swap, IsPermutation}
 use Rattle.std.proofs.lemmas.List.Sorted.{IsPermutation-keeps, IsPermutation-append_comm}
 use Rattle.std.proofs.lemmas.List.Edits.{swap_is}
-use Rattle.dn_arc.specs.State.Meanings.{IsMeaning}
+use Rattle.dn_arc.specs.State.Equivalences.{IsMeaning}
 
 -- exchanging the arc at a position with the first arc keeps the meaning
 to_front : {Arc : Type 0} (Same : List Arc → List Arc → Type 0) → IsMeaning Same → (l : List Arc) (j : ℕ) (a d : Arc)

@@ -7,7 +7,7 @@ use Rattle.dn_arc.specs.declared.arc.CostArc.{CostArc}
 use Rattle.dn_arc.specs.Canonical.{IsFixedArc, IsFreeArc, AreNear, AreRising, has_low}
 use Rattle.dn_arc.specs.Entries.{has_room}
 use Rattle.dn_arc.specs.Fillings.{forced_units, forced_cost}
-use Rattle.dn_arc.specs.State.Fillings.{room, free_room, fill_cost}
+use Rattle.dn_arc.specs.State.FillCosts.{room, free_room, fill_cost}
 use Rattle.dn_arc.proofs.FillsLaws.{AreOrdered}
 use Rattle.dn_arc.proofs.FormsLaws.{AreAbove, AreFree, AreFixed, IsApart, fill_past}
 

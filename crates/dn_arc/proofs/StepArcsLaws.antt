@@ -3,7 +3,7 @@
 use Rattle.std.proofs.Common.{◌≡◌, ℤ, pos, ◌+ℤ◌, ◌≤ℤ◌, ◌<ℤ◌, List, [], ◌∷◌, map, refl, arith}
 use Rattle.std.proofs.lemmas.Int.{ints, by_lt_z}
 use Rattle.std.specs.List.{AllByRecursion}
-use Rattle.dn_arc.specs.State.Fillings.{free_room}
+use Rattle.dn_arc.specs.State.FillCosts.{free_room}
 use Rattle.dn_arc.specs.State.CurveListed.{step_arc}
 use Rattle.dn_arc.specs.State.Steps.{put_step, AreSteps, steps_room}
 use Rattle.dn_arc.proofs.SplitsLaws.{SameAbove}

@@ -12,7 +12,7 @@ use Rattle.dn_arc.specs.Kinds.{capacities}
 use Rattle.dn_arc.specs.State.Bundles.{IsKind, IsDetermined, NumbersFit}
 use Rattle.dn_arc.specs.Capacities.{total_cap}
 use Rattle.dn_arc.specs.Entries.{cap_entries}
-use Rattle.dn_arc.specs.State.Capacities.{cap_listed}
+use Rattle.dn_arc.specs.State.SingleArcs.{cap_listed}
 use Rattle.dn_arc.specs.Meanings.{SameTotal}
 use Rattle.dn_arc.specs.Canonical.{IsCapArc, AreCanonCaps}
 use Rattle.dn_arc.specs.Differences.{TotalsDiffer}

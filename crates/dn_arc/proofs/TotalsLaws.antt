@@ -6,7 +6,7 @@ use Rattle.dn_arc.specs.declared.difference.How.{How}
 use Rattle.dn_arc.specs.declared.difference.How.TheVariants.{Lengths, Totals, Costs}
 use Rattle.dn_arc.specs.Capacities.{total_cap}
 use Rattle.dn_arc.specs.Meanings.{SameTotal}
-use Rattle.dn_arc.specs.State.Meanings.{IsMeaning}
+use Rattle.dn_arc.specs.State.Equivalences.{IsMeaning}
 use Rattle.dn_arc.specs.Canonical.{AreCanonCaps}
 use Rattle.dn_arc.specs.Differences.{TotalsDiffer}
 

@@ -1,8 +1,7 @@
-pub mod Lengths
-pub mod Capacities
-pub mod Meanings
-pub mod Kinds
-pub mod Fillings
+pub mod SingleArcs
+pub mod Equivalences
+pub mod CanonArcs
+pub mod FillCosts
 pub mod Bundles
 pub mod Steps
 pub mod Means

@@ -8,7 +8,7 @@ use Rattle.std.specs.List.{AllByRecursion}
 use Rattle.dn_arc.specs.Kinds.{ArcKind}
 use Rattle.dn_arc.specs.declared.arc.Form.{Form}
 use Rattle.dn_arc.specs.declared.arc.Form.TheVariants.{One}
-use Rattle.dn_arc.specs.State.Bundles.{BundleWords, IsKind, listed_of, meant}
+use Rattle.dn_arc.specs.State.Bundles.{BundleFacts, IsKind, listed_of, meant}
 use Rattle.dn_arc.proofs.OrdersLaws.{same_push}
 
 -- what holds of each element of a list holds of each element of a prefix
@@ -80,7 +80,7 @@ module _ {Arc : Type 0} (kind : ArcKind Arc) (laws : IsKind kind) where
     too_much m = omega (arith, ints, taken_cap arcs (i + 1) a, next_cap)
 
 -- where there is no bundle, the capacities with one arc do not sum to more than 2^63-1 if that of the arc is not more
-pub fits_alone : {B Arc : Type 0} (bundle : BundleWords B Arc) (o : Option B) (arc : Arc) → o ≡ None
+pub fits_alone : {B Arc : Type 0} (bundle : BundleFacts B Arc) (o : Option B) (arc : Arc) → o ≡ None
     → bundle.kind.capacity (arc ∷ []) ≤ℤ pos (2 ^ 63 - 1)
     → pos (2 ^ 63 - 1) <ℤ bundle.kind.capacity (listed_of (meant bundle) o ++ arc ∷ []) → ⊥
 fits_alone bundle o arc none fits more =
@@ -88,7 +88,7 @@ fits_alone bundle o arc none fits more =
     omega (arith, ints)
 
 -- the arcs that a bundle lists may occur in a problem, and so may those of no bundle
-pub listed_arcs : {B Arc : Type 0} (bundle : BundleWords B Arc) → IsKind bundle.kind
+pub listed_arcs : {B Arc : Type 0} (bundle : BundleFacts B Arc) → IsKind bundle.kind
     → ((form : Form) (b : B) → bundle.kind.IsCanon form (bundle.listed form b)) → (o : Option B)
     → AllByRecursion bundle.kind.IsArc (listed_of (meant bundle) o)
 listed_arcs bundle laws canonical None = tt

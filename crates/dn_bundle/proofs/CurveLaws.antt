@@ -8,7 +8,7 @@ use Rattle.dn_arc.specs.declared.arc.Form.TheVariants.{One}
 use Rattle.dn_arc.specs.Meanings.{SameCurve}
 use Rattle.dn_arc.specs.Canonical.{IsFixedArc, has_low}
 use Rattle.dn_arc.specs.Entries.{cost_entries, free_costs}
-use Rattle.dn_arc.specs.State.Fillings.{room}
+use Rattle.dn_arc.specs.State.FillCosts.{room}
 use Rattle.dn_arc.specs.State.Steps.{put_step, AreSteps, steps_room}
 use Rattle.dn_arc.specs.State.CurveListed.{step_arc, fixed_arcs, listed, IsSound, is_free}
 use Rattle.dn_arc.proofs.CurvesLaws.{curve_meaning, cost_cap_same}

@@ -7,7 +7,7 @@ use Rattle.dn_arc.specs.declared.arc.Form.TheVariants.{One}
 use Rattle.dn_arc.specs.Canonical.{IsCostArc}
 use Rattle.dn_arc.specs.Entries.{cost_entries}
 use Rattle.dn_arc.specs.Kinds.{costs}
-use Rattle.dn_arc.specs.State.Kinds.{NeedsMore}
+use Rattle.dn_arc.specs.State.CanonArcs.{NeedsMore}
 use Rattle.dn_arc.specs.State.Steps.{steps_of, add_step, has_step}
 use Rattle.dn_arc.specs.State.CurveListed.{listed, IsSound}
 use Rattle.dn_arc.proofs.CanonsLaws.{length_put}

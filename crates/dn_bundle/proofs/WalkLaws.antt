@@ -8,7 +8,7 @@ use Rattle.std.proofs.Math.IntN.{*ℤ_comm}
 use Rattle.dn_arc.specs.declared.arc.Form.TheVariants.{One}
 use Rattle.dn_arc.specs.Splits.{LeastCost}
 use Rattle.dn_arc.specs.Fillings.{forced_units, forced_cost}
-use Rattle.dn_arc.specs.State.Fillings.{room, free_room, fill_cost}
+use Rattle.dn_arc.specs.State.FillCosts.{room, free_room, fill_cost}
 use Rattle.dn_arc.specs.State.Means.{IsMean}
 use Rattle.dn_arc.specs.State.Steps.{AreSteps, steps_room}
 use Rattle.dn_arc.specs.State.CurveListed.{step_arc, listed, IsSound}

@@ -2,8 +2,8 @@
 ghost use Rattle.std.specs.Prelude.{◌≡◌, ◌-◌, ◌^◌, pos, ◌≤ℤ◌, ◌<ℤ◌, ◌↔◌, [], ◌∷◌, ◌++◌, length, IsTrue, IfOk, OnOk, OnErr, slice_get};
 ghost use Rattle.std.specs.List.{AllByRecursion};
 ghost use Rattle.std.specs.Option.{option_copied};
-ghost use Rattle.dn_arc.specs.State.Bundles.{BundleWords, Gains, IsAfter, IsBundleOf, IsHow, IsKind, NumbersFit, PassesSum, Widens, listed_of, meant};
-ghost use Rattle.dn_arc.specs.State.Kinds.{NeedsMore};
+ghost use Rattle.dn_arc.specs.State.Bundles.{BundleFacts, Gains, IsAfter, IsBundleOf, IsHow, IsKind, NumbersFit, PassesSum, Widens, listed_of, meant};
+ghost use Rattle.dn_arc.specs.State.CanonArcs.{NeedsMore};
 ghost use Rattle.dn_arc.specs.declared.arc.Form.{Form};
 
 use dn_arc::{Form, How, Parts};
@@ -27,7 +27,7 @@ pub trait Bundle: Sized + Drop {
 
     /// Specifies the bundle: the kind of its arcs, the canonical arcs that it lists, and whether adding an arc may run
     /// out of memory.
-    ghost bundle: { BundleWords Self Self.Arc };
+    ghost bundle: { BundleFacts Self Self.Arc };
 
     /// Returns the bundle of one arc, or `None` if the arc means the same as no arcs.
     ///

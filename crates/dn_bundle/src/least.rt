@@ -4,7 +4,7 @@ ghost use Rattle.std.specs.Int.{w64};
 ghost use Rattle.std.specs.Option.{option_copied, option_map};
 ghost use Rattle.dn_arc.specs.Kinds.{lengths};
 ghost use Rattle.dn_arc.specs.Lengths.{LeastLength};
-ghost use Rattle.dn_arc.specs.State.Lengths.{length_listed};
+ghost use Rattle.dn_arc.specs.State.SingleArcs.{length_listed};
 ghost use Rattle.dn_arc.proofs.LengthKindLaws.{length_kind, length_canonical, length_fit};
 
 use crate::bundle::{Bundle, BundleFault};

@@ -3,7 +3,7 @@ ghost use Rattle.std.specs.Prelude.{◌≡◌, ◌-◌, ◌^◌, pos, ◌≤ℤ�
 ghost use Rattle.std.specs.Option.{option_copied, option_map, unwrap_or};
 ghost use Rattle.dn_arc.specs.Kinds.{capacities};
 ghost use Rattle.dn_arc.specs.Capacities.{total_cap};
-ghost use Rattle.dn_arc.specs.State.Capacities.{cap_listed};
+ghost use Rattle.dn_arc.specs.State.SingleArcs.{cap_listed};
 ghost use Rattle.dn_arc.proofs.TotalKindLaws.{total_kind, total_canonical, total_fit};
 
 use crate::bundle::{Bundle, BundleFault};

@@ -5,10 +5,10 @@ use Rattle.std.proofs.KnownBytes.{Appends-trans}
 use Rattle.dn_sink.specs.declared.sink.SinkFault.{SinkFault}
 use Rattle.dn_sink.specs.Puts.{HasPut, PutsPrefix, Puts}
 use Rattle.dn_canon.specs.State.Blocks.{Passes}
-use Rattle.dn_sink.specs.Sinks.{SinkWords}
+use Rattle.dn_sink.specs.Sinks.{SinkFacts}
 use Rattle.dn_sink.proofs.PutLaws.{put_last}
 
-module _ {K : Type 0} {sink : SinkWords K} {a b : K} where
+module _ {K : Type 0} {sink : SinkFacts K} {a b : K} where
   -- a prefix of a text is a prefix of each longer text
   pub prefix_more : {x : List ℕ} (y : List ℕ) → PutsPrefix sink a b x → PutsPrefix sink a b (x ++ y)
   prefix_more {x} y f = record {
@@ -25,7 +25,7 @@ module _ {K : Type 0} {sink : SinkWords K} {a b : K} where
   pass_stopped block {all} r is f = MatchResult-from_err r _ _ is (λ e. f)
 
 -- if x is the rest of a text, and y the rest of x, then y is the rest of the text
-pub pass_on : {K : Type 0} {sink : SinkWords K} {a b c : K} {x y all : List ℕ} → HasPut sink a b x all
+pub pass_on : {K : Type 0} {sink : SinkFacts K} {a b c : K} {x y all : List ℕ} → HasPut sink a b x all
     → HasPut sink b c y x → HasPut sink a c y all
 pass_on {K} {sink} {a} {b} {c} {x} {y} {all} h p = record {
   put = h.put ++ p.put;
@@ -35,7 +35,7 @@ pass_on {K} {sink} {a} {b} {c} {x} {y} {all} h p = record {
 }
 
 -- if x is the rest of a text, and a prefix of x is put, a prefix of the text is put
-prefix_on : {K : Type 0} {sink : SinkWords K} {a b c : K} {x all : List ℕ} → HasPut sink a b x all
+prefix_on : {K : Type 0} {sink : SinkFacts K} {a b c : K} {x all : List ℕ} → HasPut sink a b x all
     → PutsPrefix sink b c x → PutsPrefix sink a c all
 prefix_on {K} {sink} {a} {b} {c} {x} {all} h f = record {
   put = h.put ++ f.put;
@@ -46,14 +46,14 @@ prefix_on {K} {sink} {a} {b} {c} {x} {all} h f = record {
 }
 
 -- if x is the rest of a text, what a call does with x it does with the text
-pub pass_last : {K : Type 0} (sink : SinkWords K) (a b c : K) (x block all : List ℕ) (r : Result (Unit {0}) SinkFault)
+pub pass_last : {K : Type 0} (sink : SinkFacts K) (a b c : K) (x block all : List ℕ) (r : Result (Unit {0}) SinkFault)
     → HasPut sink a b x all
     → Passes sink b c block x r → Passes sink a c block all r
 pass_last sink a b c x block all (Ok u) h p = pass_on h p
 pass_last sink a b c x block all (Err e) h p = prefix_on h p
 
 -- appending a text to the whole text appends it to the rest
-longer : {K : Type 0} {sink : SinkWords K} {a b : K} {left all : List ℕ} (rest : List ℕ) → HasPut sink a b left all
+longer : {K : Type 0} {sink : SinkFacts K} {a b : K} {left all : List ℕ} (rest : List ℕ) → HasPut sink a b left all
     → HasPut sink a b (left ++ rest) (all ++ rest)
 longer {K} {sink} {a} {b} {left} {all} rest h =
     record {
@@ -65,34 +65,34 @@ longer {K} {sink} {a} {b} {left} {all} rest h =
     }
 
 -- a line that is appended after room was made passes through the block
-pub line_passes : {K : Type 0} {sink : SinkWords K} {a b : K} {before after all : List ℕ}
+pub line_passes : {K : Type 0} {sink : SinkFacts K} {a b : K} {before after all : List ℕ}
     (line : List ℕ) → after ≡ before ++ line → HasPut sink a b before all → HasPut sink a b after (all ++ line)
 line_passes {K} {sink} {a} {b} {before} {after} {all} line e h =
     subst (λ l. HasPut sink a b l (all ++ line)) (sym e) (longer line h)
 
 -- a part x of the rest passes through the block
-pub pass_more : {K : Type 0} {sink : SinkWords K} {a b c : K} {after all : List ℕ} (before x rest : List ℕ)
+pub pass_more : {K : Type 0} {sink : SinkFacts K} {a b c : K} {after all : List ℕ} (before x rest : List ℕ)
     → HasPut sink a b (before ++ (x ++ rest)) all
     → HasPut sink b c after (before ++ x) → HasPut sink a c (after ++ rest) all
 pass_more {K} {sink} {a} {b} {c} {after} {all} before x rest h p =
     pass_on (subst (λ l. HasPut sink a b l all) (sym (append_assoc before x rest)) h) (longer rest p)
 
 -- if a prefix of the block and the part x is put, a prefix of the text is put
-pub pass_stop : {K : Type 0} {sink : SinkWords K} {a b c : K} {all : List ℕ} (before x rest : List ℕ)
+pub pass_stop : {K : Type 0} {sink : SinkFacts K} {a b c : K} {all : List ℕ} (before x rest : List ℕ)
     → HasPut sink a b (before ++ (x ++ rest)) all
     → PutsPrefix sink b c (before ++ x) → PutsPrefix sink a c all
 pass_stop {K} {sink} {a} {b} {c} {all} before x rest h f =
     prefix_on (subst (λ l. HasPut sink a b l all) (sym (append_assoc before x rest)) h) (prefix_more rest f)
 
 -- if no text follows the block, the block is the rest
-pub all_done : {K : Type 0} {sink : SinkWords K} {a b : K} {all : List ℕ} (block left : List ℕ) → left ≡ []
+pub all_done : {K : Type 0} {sink : SinkFacts K} {a b : K} {all : List ℕ} (block left : List ℕ) → left ≡ []
     → HasPut sink a b (block ++ left) all
     → HasPut sink a b block all
 all_done {K} {sink} {a} {b} {all} block left e has =
     subst (λ l. HasPut sink a b l all) (ap (λ l. block ++ l) e ∙ append-nil block) has
 
 -- putting the bytes of the last block ends a put of the whole text
-pub put_block : {K : Type 0} (sink : SinkWords K) (a b c : K) (bytes block all : List ℕ)
+pub put_block : {K : Type 0} (sink : SinkFacts K) (a b c : K) (bytes block all : List ℕ)
     (r : Result (Unit {0}) SinkFault) → bytes ≡ block → HasPut sink a b block all → Puts sink b c bytes r
     → Puts sink a c all r
 put_block sink a b c bytes block all r e h p =

@@ -9,8 +9,7 @@ use Rattle.dn_arc.specs.declared.arc.CostArc.{CostArc}
 use Rattle.dn_arc.specs.State.Curves.{CurveNumbers}
 use Rattle.dn_bundle.specs.declared.least.Least.{Least}
 use Rattle.dn_bundle.specs.declared.total.Total.{Total}
-use Rattle.dn_arc.specs.State.Lengths.{length_listed}
-use Rattle.dn_arc.specs.State.Capacities.{cap_listed}
+use Rattle.dn_arc.specs.State.SingleArcs.{length_listed, cap_listed}
 use Rattle.dn_arc.specs.State.CurveListed.{listed}
 use Rattle.dn_instance.specs.State.Helds.{Bundles, Contents, Parsed, IsHeld, Shows, OfMin, OfMax, OfSp, OfSs, OfP2p, OfCo}
 use Rattle.dn_instance.specs.Instances.{Graph, Instance, MinCostFlow, MaxFlow, ShortestPaths, Sources, Queries, Coordinates, nodes_of, size_of}
@@ -20,18 +19,18 @@ use Rattle.dn_instance.specs.declared.refusal.Refusal.{Refusal}
 use Rattle.dn_sink.specs.declared.sink.SinkFault.{SinkFault}
 use Rattle.dn_canon.specs.Prints.{print}
 use Rattle.dn_sink.specs.Puts.{Puts}
-use Rattle.dn_canon.specs.State.CanonInstances.{IsCanonGraphOf}
+use Rattle.dn_canon.specs.State.CanonGraphs.{IsCanonGraphOf}
 use Rattle.dn_canon.specs.State.ListedArcs.{listed_arcs, listed_graph}
 use Rattle.dn_canon.specs.State.Writes.{Writes, WritesCanon, written_as}
 use Rattle.dn_canon.proofs.ListedLaws.{min_canon, max_canon, sp_canon, companion_canon}
-use Rattle.dn_sink.specs.Sinks.{SinkWords}
+use Rattle.dn_sink.specs.Sinks.{SinkFacts}
 
 -- the arcs that a table lists make the canonical graph of each graph that the table represents
 abbrev Makes : {B Arc : Type 0} → Form → ArcKind Arc → (Form → B → List Arc) → (B → List Arc) → ℤ → Bundles B → Type 0
 Makes {B} {Arc} form kind lists one nodes table = (G : Graph Arc) → G.nodes ≡ nodes → TableLists kind one table G.arcs
     → IsValidGraph kind G → IsCanonGraphOf kind form (listed_graph (lists form) nodes table) G
 
-module _ {S : Type 0} (sink : SinkWords S) (old new : S) (form : Form) where
+module _ {S : Type 0} (sink : SinkFacts S) (old new : S) (form : Form) where
   -- the outcome of putting a list is the outcome of writing its text
   put_list : (K : Instance) (result : Result (Unit {0}) SinkFault) → size_of K < 2 ^ 63
       → Puts sink old new (print K) result → Writes sink old new (print K) (size_of K) (written_as result)

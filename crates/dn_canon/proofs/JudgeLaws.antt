@@ -4,7 +4,7 @@ use Rattle.std.proofs.lemmas.List.{drop_at, take_at}
 use Rattle.std.specs.List.{join_with_byte}
 use Rattle.dn_arc.specs.declared.arc.Form.{Form}
 use Rattle.dn_instance.specs.Instances.{Instance, size_of}
-use Rattle.dn_instance.specs.State.Readers.{Outcome}
+use Rattle.dn_instance.specs.State.ReaderResults.{Outcome}
 use Rattle.dn_instance.specs.declared.refusal.Refusal.{Refusal}
 use Rattle.dn_instance.specs.declared.refusal.Refusal.TheVariants.{Text, Memory, Read, Endless, Write, CountTooLarge}
 use Rattle.dn_instance.proofs.SameLaws.{refl_of}
@@ -13,7 +13,7 @@ use Rattle.dn_canon.specs.Prints.{rows, print}
 use Rattle.dn_sink.specs.Rows.{Row, line_text, text_of}
 use Rattle.dn_canon.specs.State.Runs.{JudgesCanon}
 use Rattle.dn_canon.specs.State.Writes.{WritesCanon}
-use Rattle.dn_sink.specs.Sinks.{SinkWords}
+use Rattle.dn_sink.specs.Sinks.{SinkFacts}
 use Rattle.dn_sink.specs.State.Matches.{IsNoPrefix, Matched, taken_of}
 use Rattle.dn_canon.proofs.FollowLaws.{count_rows}
 use Rattle.dn_canon.proofs.InstanceItems.{rows_are}
@@ -49,7 +49,7 @@ not_so_large form t I (K, canon, large) small = (
 )
 
 -- the description of a sink that compares
-abbrev matcher_words : SinkWords Matched
+abbrev matcher_words : SinkFacts Matched
 matcher_words =
     record {
       taken = λ (m : Matched). Some (taken_of m);

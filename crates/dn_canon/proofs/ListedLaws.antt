@@ -15,19 +15,19 @@ use Rattle.dn_line.specs.Number.{fits}
 use Rattle.dn_arc.specs.declared.arc.Form.{Form}
 use Rattle.dn_arc.specs.declared.arc.Form.TheVariants.{One, Two}
 use Rattle.dn_arc.specs.Kinds.{ArcKind, costs, capacities, lengths}
-use Rattle.dn_arc.specs.State.Kinds.{AreCanonArcsOf}
+use Rattle.dn_arc.specs.State.CanonArcs.{AreCanonArcsOf}
 use Rattle.dn_arc.specs.declared.arc.LengthArc.{LengthArc}
 use Rattle.dn_arc.specs.declared.arc.CapArc.{CapArc}
 use Rattle.dn_arc.specs.declared.arc.CostArc.{CostArc}
 use Rattle.dn_arc.specs.State.Bundles.{IsKind, NumbersFit, listed_of}
 use Rattle.dn_instance.specs.Instances.{Graph, Instance, MinCostFlow, MaxFlow, ShortestPaths, Sources, Queries, Coordinates}
 use Rattle.dn_arc.specs.Pairs.{bundle, pair_cmp, same_pair}
-use Rattle.dn_table.specs.State.GraphEntries.{entries_listed}
+use Rattle.dn_table.specs.State.ListedEntries.{entries_listed}
 use Rattle.dn_table.specs.State.Tables.{listed_at}
 use Rattle.dn_instance.specs.Validity.{Fits, IsNode, IsPlaced, IsValidGraph, IsValid, AreSupplies, AreTerminals}
 use Rattle.dn_arc.proofs.PairLaws.{pair_is, pair_self}
 use Rattle.dn_canon.specs.CanonInstances.{AreInOrder, IsCanonInstanceOf}
-use Rattle.dn_canon.specs.State.CanonInstances.{IsCanonGraphOf}
+use Rattle.dn_canon.specs.State.CanonGraphs.{IsCanonGraphOf}
 use Rattle.dn_canon.specs.State.ListedArcs.{placed, listed_arcs, listed_graph}
 use Rattle.dn_canon.proofs.OrderLaws.{NoneBefore, all_at_pair, at_head}
 

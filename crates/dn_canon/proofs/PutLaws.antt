@@ -15,11 +15,11 @@ use Rattle.dn_canon.specs.State.ListedArcs.{placed, listed_arcs}
 use Rattle.dn_canon.specs.State.Writes.{node_rows}
 use Rattle.dn_canon.specs.declared.writer.NodeLines.{NodeLines}
 use Rattle.dn_canon.specs.declared.writer.NodeLines.TheVariants.{Terminals}
-use Rattle.dn_sink.specs.Sinks.{SinkWords}
+use Rattle.dn_sink.specs.Sinks.{SinkFacts}
 use Rattle.dn_sink.proofs.RowLaws.{text-append}
 
 -- the line of the next row passes through the block
-pub row_more : {K : Type 0} {sink : SinkWords K} {a b c : K} {X : Type 0} {all line after : List ℕ} (row : X → Row)
+pub row_more : {K : Type 0} {sink : SinkFacts K} {a b c : K} {X : Type 0} {all line after : List ℕ} (row : X → Row)
     (before : List ℕ) (left rest : List X) (x : X) → left ≡ x ∷ rest
     → line ≡ line_text (row x) → HasPut sink a b (before ++ text_of (map row left)) all
     → HasPut sink b c after (before ++ line)
@@ -30,7 +30,7 @@ row_more {K} {sink} {a} {b} {c} {X} {all} {line} {after} row before left rest x 
     (subst (λ l. HasPut sink b c after (before ++ l)) f p)
 
 -- if a prefix of the block and the next line is put, a prefix of the text is put
-pub row_stop : {K : Type 0} {sink : SinkWords K} {a b c : K} {X : Type 0} {all line : List ℕ} (row : X → Row)
+pub row_stop : {K : Type 0} {sink : SinkFacts K} {a b c : K} {X : Type 0} {all line : List ℕ} (row : X → Row)
     (before : List ℕ) (left rest : List X) (x : X) → left ≡ x ∷ rest
     → line ≡ line_text (row x) → HasPut sink a b (before ++ text_of (map row left)) all
     → PutsPrefix sink b c (before ++ line) → PutsPrefix sink a c all
@@ -60,7 +60,7 @@ some_below {X} xs i o h e n = by_case (slice_get_cases xs i).1
     by_case (inr (past, none)) = absurd (omega arith)
 
 -- past the last row, only the block is left
-pub rows_done : {K : Type 0} {sink : SinkWords K} {a b : K} {all : List ℕ} {X : Type 0} (row : X → Row) (block : List ℕ)
+pub rows_done : {K : Type 0} {sink : SinkFacts K} {a b : K} {all : List ℕ} {X : Type 0} (row : X → Row) (block : List ℕ)
     (xs : List X) (i : ℕ) → length xs ≤ i
     → HasPut sink a b (block ++ text_of (map row (drop i xs))) all → HasPut sink a b block all
 rows_done {K} {sink} {a} {b} {all} {X} row block xs i h has =

@@ -4,7 +4,7 @@ use Rattle.dn_arc.specs.declared.arc.Form.{Form}
 use Rattle.dn_instance.specs.State.Helds.{IsHeld, parsed}
 use Rattle.dn_instance.specs.Instances.{Instance}
 use Rattle.dn_instance.specs.SourceReads.{AfterPulls}
-use Rattle.dn_instance.specs.State.SourceReads.{SourceOutcome}
+use Rattle.dn_instance.specs.State.SourceResults.{SourceOutcome}
 use Rattle.dn_instance.specs.Validity.{IsValid}
 use Rattle.dn_instance.specs.declared.held.Held.{Held}
 use Rattle.dn_instance.specs.declared.refusal.Refusal.{Refusal}
@@ -12,10 +12,10 @@ use Rattle.dn_instance.specs.declared.refusal.Refusal.TheVariants.{Text, Memory,
 use Rattle.dn_instance.proofs.ValidLaws.{reads_valid}
 use Rattle.dn_canon.specs.State.Runs.{RunOutcome}
 use Rattle.dn_canon.specs.State.Writes.{WritesCanon}
-use Rattle.dn_sink.specs.Sinks.{SinkWords}
+use Rattle.dn_sink.specs.Sinks.{SinkFacts}
 
 -- after a text was read, the outcome of the run is that of writing
-pub run_written : {S : Type 0} (sink : SinkWords S) (old new : S) (form : Form) (given : Option (List ℕ))
+pub run_written : {S : Type 0} (sink : SinkFacts S) (old new : S) (form : Form) (given : Option (List ℕ))
     (left : AfterPulls) (held : Held) (result : Result (Unit {0}) Refusal)
     → IfSome given (λ t. SourceOutcome t left (Ok held))
     → ((I : Instance) → IsValid I → IsHeld (parsed held) I → WritesCanon sink old new form I result)
@@ -32,7 +32,7 @@ run_written sink old new form (Some t) left held result o w =
     by_result (Err _) h = absurd h.2
 
 -- a refusal of reading is the outcome of the run
-pub run_refused : {S : Type 0} (sink : SinkWords S) (old new : S) (form : Form) (given : Option (List ℕ))
+pub run_refused : {S : Type 0} (sink : SinkFacts S) (old new : S) (form : Form) (given : Option (List ℕ))
     (left : AfterPulls) (e : Refusal) → IfSome given (λ t. SourceOutcome t left (Err e))
     → IfSome given (λ t. RunOutcome sink old new form t left (Err e))
 run_refused sink old new form None left e o = tt

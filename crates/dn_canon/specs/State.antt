@@ -1,4 +1,4 @@
-pub mod CanonInstances
+pub mod CanonGraphs
 pub mod CanonReadings
 pub mod PartCanons
 pub mod Lines

@@ -1,8 +1,8 @@
 // Writes the canonical text of a parsed instance or of a source into a sink or memory, and judges texts.
 ghost use Rattle.std.specs.Prelude.{◌≡◌, ◌↔◌, IfErr, IsTrue, OnOk};
 ghost use Rattle.dn_instance.specs.State.Helds.{OfHeld};
-ghost use Rattle.dn_instance.specs.State.Readers.{OfText};
-ghost use Rattle.dn_instance.specs.State.SourceReads.{SourceLeft};
+ghost use Rattle.dn_instance.specs.State.ReaderResults.{OfText};
+ghost use Rattle.dn_instance.specs.State.SourceResults.{SourceLeft};
 ghost use Rattle.dn_canon.specs.CanonTexts.{IsCanonOf};
 ghost use Rattle.dn_canon.specs.State.Writes.{IsOfWriting, SinkAfter, WritesCanon, written_as};
 ghost use Rattle.dn_canon.specs.State.Runs.{JudgesCanon, RunsSource, TextOutcome};

@@ -11,7 +11,7 @@ ghost use Rattle.dn_canon.specs.State.Lines.{AreShort};
 ghost use Rattle.dn_canon.specs.Prints.{arc_row, supply_row, graph_rows, print};
 ghost use Rattle.dn_sink.specs.Rows.{text_of};
 ghost use Rattle.dn_sink.specs.Puts.{Puts};
-ghost use Rattle.dn_canon.specs.State.CanonInstances.{IsCanonGraphOf};
+ghost use Rattle.dn_canon.specs.State.CanonGraphs.{IsCanonGraphOf};
 ghost use Rattle.dn_canon.specs.State.ListedArcs.{placed, listed_arcs, listed_graph};
 ghost use Rattle.dn_canon.specs.State.Writes.{node_rows, Writes};
 

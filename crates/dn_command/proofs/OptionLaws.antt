@@ -12,7 +12,7 @@ use Rattle.clap.specs.Simple.{is_simple}
 use Rattle.clap.specs.declared.error.Error.{Error}
 use Rattle.clap.specs.declared.parser.matches.ArgMatches.{ArgMatches}
 use Rattle.dn_command.specs.Options.{dnorm_app, form_words}
-use Rattle.dn_command.specs.State.Options.{IsParseOf}
+use Rattle.dn_command.specs.State.Parses.{IsParseOf}
 
 free : (forms : Bor (List (Bor Text))) → is_simple_and_free (dnorm_app forms) ≡ true
 free forms = refl

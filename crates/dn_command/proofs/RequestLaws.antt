@@ -8,7 +8,7 @@ use Rattle.clap.specs.declared.parser.matches.Found.{Found}
 use Rattle.clap.proofs.WalkLemmas.{first_value-rows}
 use Rattle.dn_command.specs.Commands.{Asked}
 use Rattle.dn_command.specs.Requests.{Answers, subcommand_asked}
-use Rattle.dn_command.specs.State.Requests.{AnswersKind}
+use Rattle.dn_command.specs.State.RequestKinds.{AnswersKind}
 use Rattle.dn_command.specs.declared.request.Request.{Request}
 use Rattle.dn_command.specs.declared.request.Request.TheVariants as requests
 

@@ -1,2 +1,2 @@
-pub mod Options
-pub mod Requests
+pub mod Parses
+pub mod RequestKinds

@@ -3,7 +3,7 @@ ghost use Rattle.std.specs.Prelude.{◌≡◌, false, IfOk, map, string_bytes};
 ghost use Rattle.clap.specs.Words.{App, app_of, new_app, rule_of, with_rule, with_subcommand};
 ghost use Rattle.clap.specs.declared.builder.command.Command.TheViews.{out-Command as fields_of};
 ghost use Rattle.dn_command.specs.Options.{bare_app, canon_app, check_app, compare_app, dnorm_app};
-ghost use Rattle.dn_command.specs.State.Options.{IsParseOf};
+ghost use Rattle.dn_command.specs.State.Parses.{IsParseOf};
 ghost use Rattle.dn_command.specs.Options.{form_option, form_words, option_rule, show_app, text_rule};
 ghost use Rattle.dn_command.specs.Options.{with_option};
 

@@ -3,7 +3,7 @@ ghost use Rattle.std.specs.Prelude.{◌≡◌, [], IfOk, MatchResult, map, optio
 ghost use Rattle.clap.specs.Words.{first_of, found_of, kind_of, rows_of, subcommand_rows_of};
 ghost use Rattle.dn_command.specs.Commands.{asks};
 ghost use Rattle.dn_command.specs.Requests.{Answers, IsReadByClap, canon_asked};
-ghost use Rattle.dn_command.specs.State.Requests.{AnswersKind, IsOtherRequest, IsPlainRequest};
+ghost use Rattle.dn_command.specs.State.RequestKinds.{AnswersKind, IsOtherRequest, IsPlainRequest};
 ghost use Rattle.dn_command.specs.Requests.{check_asked, command_asked, compare_asked, form_of, version_line};
 ghost use Rattle.dn_command.specs.Requests.{show_asked, subcommand_asked};
 

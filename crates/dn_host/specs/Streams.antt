@@ -8,7 +8,7 @@ use Rattle.std.specs.declared.io.ErrorKind.{ErrorKind}
 use Rattle.std.specs.declared.io.ErrorKind.TheVariants.{Interrupted}
 
 -- the description of a stream of type S
-pub record StreamWords (S : Type 0) : Type 1 where
+pub record StreamFacts (S : Type 0) : Type 1 where
   -- the bytes that it still gives, if they are known
   pub gives : S → Option (List ℕ)
   -- whether a read can fail with an error of this kind and change the first state of the stream to the second
@@ -16,24 +16,24 @@ pub record StreamWords (S : Type 0) : Type 1 where
 
 -- what a read does: it gives the next bytes, and none only at the end or if there is no room; or it fails, where it
 -- can, and gives none
-pub record Reads {S : Type 0} (words : StreamWords S) (old new : S) (into : List ℕ) (result : Result ℕ Error)
+pub record Reads {S : Type 0} (facts : StreamFacts S) (old new : S) (into : List ℕ) (result : Result ℕ Error)
     : Type 0 where
   pub bound : ReadsAtMost result into
-  pub bytes : ReadConsumes (words.gives old) (words.gives new) result into
-  pub fails : IfErr result (λ e. words.Fails old (error_kind e) new)
+  pub bytes : ReadConsumes (facts.gives old) (facts.gives new) result into
+  pub fails : IfErr result (λ e. facts.Fails old (error_kind e) new)
 
 -- n interrupted reads changed the first state of the stream to the second
-pub data Interrupts {S : Type 0} (words : StreamWords S) (old : S) : ℕ → S → Type 0 where
-  none : Interrupts words old 0 old
-  more : (n : ℕ) (mid new : S) → Interrupts words old n mid → words.Fails mid Interrupted new
-      → Interrupts words old (n + 1) new
+pub data Interrupts {S : Type 0} (facts : StreamFacts S) (old : S) : ℕ → S → Type 0 where
+  none : Interrupts facts old 0 old
+  more : (n : ℕ) (mid new : S) → Interrupts facts old n mid → facts.Fails mid Interrupted new
+      → Interrupts facts old (n + 1) new
 
 -- after n interrupted reads, one failed that was not interrupted; or 2^64-1 reads were interrupted
-pub record FailsAtLast {S : Type 0} (words : StreamWords S) (old : S) (kind : ErrorKind) (new : S) : Type 0 where
+pub record FailsAtLast {S : Type 0} (facts : StreamFacts S) (old : S) (kind : ErrorKind) (new : S) : Type 0 where
   pub n : ℕ
   pub mid : S
-  pub interrupts : Interrupts words old n mid
-  pub last : ((kind ≢ Interrupted) × words.Fails mid kind new) ⊎ ((n ≡ 2 ^ 64 - 1) × (new ≡ mid) × (kind ≡ Interrupted))
+  pub interrupts : Interrupts facts old n mid
+  pub last : ((kind ≢ Interrupted) × facts.Fails mid kind new) ⊎ ((n ≡ 2 ^ 64 - 1) × (new ≡ mid) × (kind ≡ Interrupted))
 
 -- a stream, and whether a read of it has failed
 pub record ReadStream (S : Type 0) : Type 0 where
@@ -42,6 +42,6 @@ pub record ReadStream (S : Type 0) : Type 0 where
 
 -- what a pull does to a source over a stream: if a read has failed, it does not read; and a read has failed afterwards
 -- only where it can, after all retries
-pub record PullsStream {S : Type 0} (words : StreamWords S) (old new : ReadStream S) : Type 0 where
+pub record PullsStream {S : Type 0} (facts : StreamFacts S) (old new : ReadStream S) : Type 0 where
   pub stays : old.failed ≡ true → new ≡ old
-  pub fails : old.failed ≡ false → new.failed ≡ true → (kind : ErrorKind) × FailsAtLast words old.stream kind new.stream
+  pub fails : old.failed ≡ false → new.failed ≡ true → (kind : ErrorKind) × FailsAtLast facts old.stream kind new.stream

@@ -2,7 +2,7 @@
 ghost use Rattle.std.specs.Prelude.{◌≡◌, false, ◌≢◌, None, IfErr, IfOk};
 ghost use Rattle.std.specs.IoError.{error_kind};
 ghost use Rattle.dn_host.specs.Openers.{MayFault, Remains, behind_of};
-ghost use Rattle.dn_host.specs.State.Openings.{MayFail};
+ghost use Rattle.dn_host.specs.State.Failures.{MayFail};
 
 use crate::buffered::Buffered;
 use crate::opener::Opener;

@@ -1,7 +1,7 @@
 // Opens texts.
 ghost use Rattle.std.specs.Prelude.{IfErr, IfOk};
 ghost use Rattle.std.specs.IoError.{error_kind};
-ghost use Rattle.dn_host.specs.Openers.{OpenerWords, Remains};
+ghost use Rattle.dn_host.specs.Openers.{OpenerFacts, Remains};
 
 use crate::stream::Stream;
 use std::io;
@@ -12,7 +12,7 @@ pub trait Opener {
     type Stream: Stream + Drop;
 
     /// How the opener describes itself.
-    ghost opener: { OpenerWords Self };
+    ghost opener: { OpenerFacts Self };
 
     /// Opens the file of this name.
     fn open(&self, name: &str) -> io::Result<Self::Stream>

@@ -1,7 +1,7 @@
 // A run of the program over the texts of an opener.
 ghost use Rattle.std.specs.Prelude.{◌≡◌, ◌≤◌, None, MatchResult, map, string_bytes};
 ghost use Rattle.dn_run.specs.Streams.{sink_run};
-ghost use Rattle.dn_host.specs.HostRuns.{HostFilesWords, NoWords, RanOnHost};
+ghost use Rattle.dn_host.specs.HostRuns.{HostFilesFacts, NoWords, RanOnHost};
 
 use crate::files::{OpenedFiles, OpenedSource};
 use crate::opener::Opener;

@@ -1,6 +1,6 @@
 // Streams of bytes.
-ghost use Rattle.dn_host.specs.Streams.{StreamWords, Reads};
-ghost use Rattle.dn_host.specs.State.Streams.{retrying};
+ghost use Rattle.dn_host.specs.Streams.{StreamFacts, Reads};
+ghost use Rattle.dn_host.specs.State.Failures.{retrying};
 
 use std::io;
 use std::io::ErrorKind;
@@ -8,7 +8,7 @@ use std::io::ErrorKind;
 /// Gives bytes, or fails.
 pub trait Stream {
     /// How the stream describes itself.
-    ghost stream: { StreamWords Self };
+    ghost stream: { StreamFacts Self };
 
     /// Writes the next bytes to the beginning of `into`, and returns their count. It is 0 only at the end, or if `into`
     /// is empty.

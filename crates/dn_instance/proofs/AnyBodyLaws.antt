@@ -19,7 +19,8 @@ module _ {T : Type 0} (facts : TakerFacts T) (put : T → AnyBody) (is : (t : T)
     (to : (t : T) (items : List Line) → BodyHolds (put t) items → facts.Holds t items)
     (back : (t : T) (items : List Line) → facts.Holds t items → BodyHolds (put t) items) where
   -- at its own kind
-  own_rows : (nodes : ℤ) (old new : T) (rows : List RowLine) (r : Taken) → TakesRows facts (line_of facts.kind) nodes old new rows r
+  own_rows : (nodes : ℤ) (old new : T) (rows : List RowLine) (r : Taken)
+      → TakesRows facts (line_of facts.kind) nodes old new rows r
       → TakesRows (any_body facts.kind) (line_of facts.kind) nodes (put old) (put new) rows r
   own_rows nodes old new rows r h before a =
       let t = h before (record {
@@ -38,7 +39,8 @@ module _ {T : Type 0} (facts : TakerFacts T) (put : T → AnyBody) (is : (t : T)
   same_kind : (t : T) (kind : Kind) → body_kind (put t) ≡ Some kind → facts.kind ≡ kind
   same_kind t kind h = let same : Some facts.kind ≡ Some kind = sym (is t) ∙ h in cc
 
-  pub rows_taken : (nodes : ℤ) (old new : T) (rows : List RowLine) (r : Taken) → TakesRows facts (line_of facts.kind) nodes old new rows r
+  pub rows_taken : (nodes : ℤ) (old new : T) (rows : List RowLine) (r : Taken)
+      → TakesRows facts (line_of facts.kind) nodes old new rows r
       → (b : AnyBody) → b ≡ put old → (kind : Kind) → TakesRows (any_body kind) (line_of kind) nodes b (put new) rows r
   rows_taken nodes old new rows r h b e kind =
       rw e

@@ -11,7 +11,7 @@ use Rattle.dn_line.specs.declared.kind.Kind.TheVariants as Kinds
 use Rattle.dn_line.specs.declared.line.Line.{Line}
 use Rattle.dn_line.specs.declared.row.Row.{Row}
 use Rattle.dn_arc.specs.Kinds.{lengths, capacities, costs}
-use Rattle.dn_arc.specs.State.Bundles.{BundleWords, meant}
+use Rattle.dn_arc.specs.State.Bundles.{BundleFacts, meant}
 use Rattle.dn_table.specs.State.Tables.{AreArcs, GraphNeedsMore, TableLists}
 use Rattle.dn_instance.specs.Items.{arcs_of, length_arc_in, cap_arc_in, cost_arc_in}
 use Rattle.dn_instance.specs.TextFaults.{is_companion}
@@ -40,7 +40,8 @@ ids_took nodes ids ids' row r before ans ok a = record {
 pub pairs_took : (nodes : ℤ) (pairs pairs' : Vec (ℤ × ℤ) Global) (row : Row) (r : Result (Unit {0}) ItemFault)
     (before : List Line) → AnswersFault r (pair_fault (row.first, row.second))
     → OnOk r (pairs'.items ≡ pairs.items ++ (row.first, row.second) ∷ [])
-    → Awaits pairs_body nodes pairs before (line_of Kinds.P2p row ∷ []) → Took pairs_body (line_of Kinds.P2p) before pairs' row r
+    → Awaits pairs_body nodes pairs before (line_of Kinds.P2p row ∷ [])
+    → Took pairs_body (line_of Kinds.P2p) before pairs' row r
 pairs_took nodes pairs pairs' row r before ans ok a = record {
   answer = record {
     fault = pair_answer before a.problem a.problem_is (ap is_companion a.kind_is) r (row.first, row.second) ans;
@@ -53,7 +54,8 @@ pub points_took : (nodes : ℤ) (points points' : BTreeMap ℤ (ℤ × ℤ)) (ro
     (before : List Line)
     → AnswersFault r (point_fault (is_some (lookup (is_at (int_cmp row.first)) points.entries)) row.first)
     → OnOk r (points'.entries ≡ insert_entry int_cmp points.entries row.first (row.second, row.third))
-    → Awaits points_body nodes points before (line_of Kinds.Co row ∷ []) → Took points_body (line_of Kinds.Co) before points' row r
+    → Awaits points_body nodes points before (line_of Kinds.Co row ∷ [])
+    → Took points_body (line_of Kinds.Co) before points' row r
 points_took nodes points points' row r before ans ok a = record {
   answer = record {
     fault =
@@ -65,7 +67,7 @@ points_took nodes points points' row r before ans ok a = record {
   holds = point_stand before r row.first row.second row.third points points' ok a.holds;
 }
 
-module _ {B Arc : Type 0} (text : Kind) (arc_in : Line → Option ((ℤ × ℤ) × Arc)) (b : BundleWords B Arc) where
+module _ {B Arc : Type 0} (text : Kind) (arc_in : Line → Option ((ℤ × ℤ) × Arc)) (b : BundleFacts B Arc) where
   -- a problem may have an arc that has no fault
   may_be : (nodes : ℤ) (arcs : List ((ℤ × ℤ) × Arc)) (is : Bool) (a : (ℤ × ℤ) × Arc)
       → arc_fault b.kind nodes arcs is a ≡ None → is ≡ true

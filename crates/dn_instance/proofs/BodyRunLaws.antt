@@ -14,7 +14,8 @@ pub joins_nothing : {H : Type 0} (Holds : H → List Line → Type 0) (held : H)
     → Joins Holds before held []
 joins_nothing Holds held before h = record { faultless = tt; holds = subst (Holds held) (sym (append-nil before)) h }
 
-module _ {T : Type 0} (taker : TakerFacts T) (line : Row → Line) (nodes : ℤ) (before : List Line) (rows : List RowLine) where
+module _ {T : Type 0} (taker : TakerFacts T) (line : Row → Line) (nodes : ℤ) (before : List Line)
+    (rows : List RowLine) where
   -- the next row comes after the items of the rows that were taken
   pub awaits_next : (old now : T) (i : ℕ) (d : RowLine) → i < length rows
       → Awaits taker nodes old before (row_items line rows)

@@ -2,14 +2,13 @@
 use Rattle.std.proofs.Common.{◌≡◌, ◌<◌, ◌^◌, ℕ, ℤ, List, length, ap}
 use Rattle.dn_arc.specs.Kinds.{ArcKind, costs, capacities, lengths}
 use Rattle.dn_arc.specs.State.CurveListed.{listed}
-use Rattle.dn_arc.specs.State.Lengths.{length_listed}
-use Rattle.dn_arc.specs.State.Capacities.{cap_listed}
+use Rattle.dn_arc.specs.State.SingleArcs.{length_listed, cap_listed}
 use Rattle.dn_arc.specs.declared.arc.Form.TheVariants.{One}
 use Rattle.dn_arc.specs.State.Curves.{CurveNumbers}
 use Rattle.dn_bundle.specs.declared.least.Least.{Least}
 use Rattle.dn_bundle.specs.declared.total.Total.{Total}
 use Rattle.dn_table.specs.GraphEntries.{graph_entries}
-use Rattle.dn_instance.specs.State.EntryCount.{entries_of}
+use Rattle.dn_instance.specs.State.InstanceEntries.{entries_of}
 use Rattle.dn_instance.specs.State.Helds.{Bundles, Shows, OfMin, OfMax, OfSp, OfSs, OfP2p, OfCo}
 use Rattle.dn_instance.specs.Instances.{Instance, MinCostFlow, MaxFlow, ShortestPaths, Sources, Queries, Coordinates}
 use Rattle.dn_table.specs.State.Tables.{TableLists, AreArcs}

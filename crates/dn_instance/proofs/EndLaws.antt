@@ -9,7 +9,7 @@ use Rattle.dn_line.specs.declared.kind.Letter.TheVariants.{S, T}
 use Rattle.dn_line.specs.declared.line.Line.{Line}
 use Rattle.dn_line.specs.Faults.{first_fault}
 use Rattle.dn_arc.specs.Kinds.{capacities}
-use Rattle.dn_arc.specs.State.Capacities.{cap_listed}
+use Rattle.dn_arc.specs.State.SingleArcs.{cap_listed}
 use Rattle.std.specs.List.Sorted.{IsStrictlySortedBy}
 use Rattle.std.specs.Map.{keys_of, lookup}
 use Rattle.dn_arc.specs.Pairs.{pair_cmp, same_pair}

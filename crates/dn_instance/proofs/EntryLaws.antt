@@ -4,7 +4,7 @@ use Rattle.std.specs.List.{AllByRecursion}
 use Rattle.dn_arc.specs.Kinds.{ArcKind, costs, capacities, lengths}
 use Rattle.dn_table.specs.State.Tables.{AreArcs}
 use Rattle.dn_table.proofs.EntryLaws.{Pair, graph_few, costs_few, capacities_few, lengths_few}
-use Rattle.dn_instance.specs.State.EntryCount.{entries_of}
+use Rattle.dn_instance.specs.State.InstanceEntries.{entries_of}
 use Rattle.dn_instance.specs.Instances.{Instance, MinCostFlow, MaxFlow, ShortestPaths, Sources, Queries, Coordinates, size_of}
 use Rattle.dn_instance.specs.Validity.{IsPlaced}
 

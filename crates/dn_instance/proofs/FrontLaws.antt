@@ -7,8 +7,8 @@ use Rattle.dn_line.specs.State.LineStates.{is_inner, used_of}
 use Rattle.dn_line.proofs.PartsLaws.{Parts}
 use Rattle.dn_instance.specs.Readers.{ended}
 use Rattle.dn_instance.specs.State.ReaderStates.{Advances, HasOpen, IsReading, Steps, StopsIn, open_of}
-use Rattle.dn_instance.specs.State.Readers.{IsRefused}
-use Rattle.dn_instance.specs.State.Refusals.{refused_at}
+use Rattle.dn_instance.specs.State.ReaderResults.{IsRefused}
+use Rattle.dn_instance.specs.State.LineRefusals.{refused_at}
 use Rattle.dn_instance.specs.State.TextsSoFar.{AreInner, IsRefusedFront, ReadsFront, RefusesFront, TextAt, closed_lines}
 use Rattle.dn_instance.specs.declared.reader.Reader.{Reader}
 use Rattle.dn_instance.specs.declared.refusal.ItemFault.{ItemFault}

@@ -283,7 +283,8 @@ draft_rows kind nodes d b rows r h before a =
         holds = (
           t.joins.holds.0,
           (
-            heads_kept d.heads before (row_items (line_of kind) (take r.rows rows)) (rows_no_head kind (take r.rows rows))
+            heads_kept d.heads before (row_items (line_of kind) (take r.rows rows))
+                (rows_no_head kind (take r.rows rows))
                 a.holds.1.0,
             t.joins.holds.1,
           ),
@@ -342,7 +343,8 @@ module _ (d : Draft) (nodes : ℤ) (before : List Line) (i : Line) (r : Result (
       (subst (λ l. TakesHead nodes d.heads heads l r) (sym e) takes)
 
   -- if it is counted, the body takes its row
-  pub draft_row : (b : AnyBody) (row : Row) → ((kind : Kind) → TakesRow (any_body kind) (line_of kind) nodes d.body b row r)
+  pub draft_row : (b : AnyBody) (row : Row)
+      → ((kind : Kind) → TakesRow (any_body kind) (line_of kind) nodes d.body b row r)
       → ((kind : Kind) → kind_before i ≡ Some kind → is_counted i ≡ true → line_of kind row ≡ i)
       → is_counted i ≡ true → AnswersItem before i r × OnOk r (DraftHolds (record d { body = b }) (before ++ i ∷ []))
   draft_row b row takes spells counts =

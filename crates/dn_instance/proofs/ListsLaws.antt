@@ -4,7 +4,7 @@ use Rattle.std.specs.List.{AllByRecursion}
 use Rattle.std.specs.Map.{lookup}
 use Rattle.dn_arc.specs.declared.arc.Form.TheVariants.{One}
 use Rattle.dn_arc.specs.Kinds.{ArcKind}
-use Rattle.dn_arc.specs.State.Kinds.{AreCanonArcsOf}
+use Rattle.dn_arc.specs.State.CanonArcs.{AreCanonArcsOf}
 use Rattle.dn_arc.specs.State.Bundles.{IsKind, listed_of}
 use Rattle.dn_arc.proofs.OrdersLaws.{same_push}
 use Rattle.dn_arc.specs.Pairs.{bundle, same_pair}

@@ -12,7 +12,7 @@ use Rattle.dn_line.specs.Words.{is_skip, first}
 use Rattle.dn_line.specs.LineTable.{kind_named}
 use Rattle.dn_line.specs.Faults.{Test, first_fault, head_tests, field_tests, fields}
 use Rattle.dn_line.specs.Reading.{unless, spelled}
-use Rattle.dn_line.specs.State.Reading.{head_of, head_read, fields_read}
+use Rattle.dn_line.specs.State.LineReads.{head_of, head_read, fields_read}
 use Rattle.dn_line.proofs.FaultLaws.{fault_append}
 use Rattle.dn_instance.specs.Items.{kind_known}
 use Rattle.dn_instance.specs.TextFaults.{order_tests}

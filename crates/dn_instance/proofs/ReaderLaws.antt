@@ -13,9 +13,9 @@ use Rattle.dn_instance.specs.declared.refusal.Refusal.{Refusal}
 use Rattle.dn_instance.specs.declared.refusal.Refusal.TheVariants.{Text, Memory, Read, Endless, Write, CountTooLarge}
 use Rattle.dn_instance.specs.State.ItemFaults.{AnswersFault}
 use Rattle.dn_instance.specs.Readers.{SpellsNeed, ended}
-use Rattle.dn_instance.specs.State.Readers.{lines_taken, IsNext, EntriesBefore, IsRefused, Fed, Outcome, answer_of}
+use Rattle.dn_instance.specs.State.ReaderResults.{lines_taken, IsNext, EntriesBefore, IsRefused, Fed, Outcome, answer_of}
 use Rattle.dn_instance.specs.State.ReaderStates.{StopsIn, Takes, TakesAll, IsReading, ReaderAt}
-use Rattle.dn_instance.specs.State.Refusals.{refused_at}
+use Rattle.dn_instance.specs.State.LineRefusals.{refused_at}
 use Rattle.dn_instance.specs.TextFaults.{line_fault}
 use Rattle.dn_instance.specs.Texts.{items_of, FaultAt, IsClean, IsFirstFaultAt}
 use Rattle.dn_instance.specs.State.TextsSoFar.{TextAt}

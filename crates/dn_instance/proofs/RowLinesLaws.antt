@@ -8,7 +8,7 @@ use Rattle.dn_line.specs.Faults.{first_fault}
 use Rattle.dn_line.specs.LineTable.{row}
 use Rattle.dn_line.specs.Reading.{item}
 use Rattle.dn_line.specs.State.Numbers.{number_word}
-use Rattle.dn_line.specs.State.Reading.{fields_read, head_of, head_read}
+use Rattle.dn_line.specs.State.LineReads.{fields_read, head_of, head_read}
 use Rattle.dn_line.specs.State.RowBlocks.{IsRowLine, ReadUpTo, last_left}
 use Rattle.dn_line.specs.State.Rows.{FieldsFit, letter_byte, numbers_of}
 use Rattle.dn_line.specs.Words.{first, is_skip, said_words}
@@ -233,7 +233,8 @@ module _ (kind : Kind) (byte : ℕ) (line : Row → Line) (rows_spell : SpellsRo
     faults : fault_after ls l ≡ first_fault (item_tests (items_of ls) (Some i))
     adds : with_next (items_of ls) (said_words l) ≡ items_of ls ++ i ∷ []
 
-  one_on : (ls : List (List ℕ)) (l : List ℕ) (i : Line) (p : Problem) → problem_of (items_of ls) ≡ Some p → p.kind ≡ kind
+  one_on : (ls : List (List ℕ)) (l : List ℕ) (i : Line) (p : Problem) → problem_of (items_of ls) ≡ Some p
+      → p.kind ≡ kind
       → ReadsRow kind (said_words l) i → IsInTime (items_of ls) i → length ls < 2 ^ 63 - 2 → OneOn ls l i
   one_on ls l i p problem is r t few =
       let before = items_of ls in

@@ -115,7 +115,8 @@ counted_in_time Co before r h = h
 
 -- rows come in time if they are at most as many as are still declared
 pub come_in_time : (kind : Kind) (rows : List RowLine) (before : List Line) (p : Problem) → problem_of before ≡ Some p
-    → (0 < length rows → pos (counted before + length rows) ≤ℤ p.count) → AreInTime before (row_items (line_of kind) rows)
+    → (0 < length rows → pos (counted before + length rows) ≤ℤ p.count)
+    → AreInTime before (row_items (line_of kind) rows)
 come_in_time kind [] before p h m = tt
 come_in_time kind (r ∷ rows) before p h m =
     let i = line_of kind r.row in (
@@ -162,7 +163,8 @@ in_time_split line (r ∷ rows) (suc m) before h =
 module _ (t : TextSoFar) (d : Draft) (kind : Kind) (before : List Line) (at : HasRead t before)
     (is : draft_kind t.draft ≡ Some kind) (kept : draft_kind d ≡ draft_kind t.draft) where
   arcs_then : is_graph (draft_kind t.draft) ≡ true → (rows : List RowLine) (n : ℤ)
-      → n ≡ pos (counted before + length rows) → list_any is_arc (before ++ row_items (line_of kind) rows) ≡ int_lt (pos 0) n
+      → n ≡ pos (counted before + length rows)
+      → list_any is_arc (before ++ row_items (line_of kind) rows) ≡ int_lt (pos 0) n
   arcs_then graph [] n e =
       ap (list_any is_arc) (append-nil before) ∙ at.arcs_are graph
       ∙ ap (int_lt (pos 0)) (at.counted_is ∙ sym (e ∙ ap pos (none (counted before))))

@@ -2,15 +2,14 @@
 -- represents one problem.
 use Rattle.std.proofs.Common.{◌≡◌, ℤ, List, ◌∷◌, Bool, true, false, cond, refl, sym, ◌∙◌}
 use Rattle.std.specs.List.Sorted.{IsPermutation}
-use Rattle.dn_arc.specs.State.Meanings.{IsMeaning}
+use Rattle.dn_arc.specs.State.Equivalences.{IsMeaning}
 use Rattle.dn_arc.specs.Kinds.{ArcKind, lengths, capacities, costs}
 use Rattle.dn_arc.proofs.OrdersLaws.{any_order}
 use Rattle.dn_arc.proofs.LengthsLaws.{length_meaning}
 use Rattle.dn_arc.proofs.TotalsLaws.{total_meaning}
 use Rattle.dn_arc.proofs.CurvesLaws.{curve_meaning}
 use Rattle.dn_arc.specs.Pairs.{bundle, same_pair}
-use Rattle.dn_arc.specs.State.Lengths.{length_listed}
-use Rattle.dn_arc.specs.State.Capacities.{cap_listed}
+use Rattle.dn_arc.specs.State.SingleArcs.{length_listed, cap_listed}
 use Rattle.dn_arc.specs.State.CurveListed.{listed}
 use Rattle.dn_arc.specs.declared.arc.Form.TheVariants.{One}
 use Rattle.dn_arc.specs.State.Curves.{CurveNumbers}

@@ -5,16 +5,16 @@ use Rattle.std.proofs.KnownBytes.{Consumes-kept, Consumes-trans, Consumes-whole,
 use Rattle.std.proofs.lemmas.Bool.{eqb-true, eqb-false}
 use Rattle.std.proofs.lemmas.List.{nil_from_length}
 use Rattle.dn_line.specs.Pieces.{lines}
-use Rattle.dn_line.specs.Sources.{SourceWords}
+use Rattle.dn_line.specs.Sources.{SourceFacts}
 use Rattle.dn_instance.specs.declared.refusal.Place.TheVariants as Places
 use Rattle.dn_instance.specs.declared.held.Held.{Held}
 use Rattle.dn_instance.specs.declared.reader.Reader.{Reader}
 use Rattle.dn_instance.specs.declared.refusal.Refusal.{Refusal}
 use Rattle.dn_instance.specs.declared.refusal.Refusal.TheVariants.{Text, Memory, Read, Endless, Write, CountTooLarge}
 use Rattle.dn_instance.specs.Readers.{ended, WantsMemory}
-use Rattle.dn_instance.specs.State.Readers.{IsRefused, Outcome, answer_of}
+use Rattle.dn_instance.specs.State.ReaderResults.{IsRefused, Outcome, answer_of}
 use Rattle.dn_instance.specs.SourceReads.{AfterPulls, CleanSoFar, GaveLast, PulledWhileClean, RanOut, IsOfReading, after_pulls}
-use Rattle.dn_instance.specs.State.SourceReads.{StopsInPiece, StopsAt, SourceLeft, SourceOutcome, Copied, CopyOutcome, HoldsCopied, HoldsKept, HoldsSome, IsFed, IsKept, KeptOutcome}
+use Rattle.dn_instance.specs.State.SourceResults.{StopsInPiece, StopsAt, SourceLeft, SourceOutcome, Copied, CopyOutcome, HoldsCopied, HoldsKept, HoldsSome, IsFed, IsKept, KeptOutcome}
 use Rattle.dn_instance.specs.Texts.{IsClean}
 use Rattle.dn_instance.proofs.PieceSteps.{More, ended_more, lines_more}
 use Rattle.dn_instance.proofs.ReaderLaws.{reading, refused_on}
@@ -101,7 +101,7 @@ end_outcome t left (Err Endless) e clean m h = absurd h
 end_outcome t left (Err Write) e clean m h = absurd h
 end_outcome t left (Err CountTooLarge) e clean m h = absurd h
 
-module _ {S : Type 0} (source : SourceWords S) (old before : S) (r : Reader) (fed : IsFed source old before r) where
+module _ {S : Type 0} (source : SourceFacts S) (old before : S) (r : Reader) (fed : IsFed source old before r) where
   -- no complete line of the bytes given has a fault
   clean : IsClean (ended fed.given)
   clean = (reading r fed.given fed.fine fed.read).read.clean

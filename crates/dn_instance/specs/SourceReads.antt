@@ -2,7 +2,7 @@
 use Rattle.std.specs.Prelude.{◌≡◌, ◌⊎◌, ℕ, ◌<◌, ◌≤◌, ◌^◌, List, ◌++◌, length, Option, Some, IfSome}
 use Rattle.std.specs.Io.KnownBytes.{Consumes, IsAtEnd}
 use Rattle.dn_line.specs.Pieces.{lines}
-use Rattle.dn_line.specs.Sources.{SourceWords}
+use Rattle.dn_line.specs.Sources.{SourceFacts}
 use Rattle.dn_instance.specs.declared.refusal.Refusal.{Refusal}
 use Rattle.dn_instance.specs.declared.refusal.Refusal.TheVariants.{Write, CountTooLarge}
 use Rattle.dn_instance.specs.Readers.{WantsMemory, ended}
@@ -19,14 +19,14 @@ pub record CleanSoFar (t : List ℕ) (new : Option (List ℕ)) : Type 0 where
 
 -- pulls changed the source from `old` to this state, and each of them gave at least one byte, if the bytes of the
 -- source are known
-pub data PulledBytes {S : Type 0} (source : SourceWords S) (old : S) : S → Type 0 where
+pub data PulledBytes {S : Type 0} (source : SourceFacts S) (old : S) : S → Type 0 where
   unpulled : PulledBytes source old old
   pulled : (mid new : S) (bytes : List ℕ) → PulledBytes source old mid → source.Pulls mid new
       → Consumes (source.gives mid) (source.gives new) bytes → 0 < length bytes → PulledBytes source old new
 
 -- pulls changed the source from `old` to `before`, and each of them gave at least one byte; one more pull changed
 -- `before` to `new`. If the bytes of the source are known, the last pull gave this piece, and all others gave `given`
-pub record GaveLast {S : Type 0} (source : SourceWords S) (old new : S) (given piece : List ℕ) : Type 0 where
+pub record GaveLast {S : Type 0} (source : SourceFacts S) (old new : S) (given piece : List ℕ) : Type 0 where
   pub before : S
   pub pulls : PulledBytes source old before
   pub gave : Consumes (source.gives old) (source.gives before) given
@@ -41,7 +41,7 @@ pub record AfterPulls : Type 1 where
   pub Gave : List ℕ → List ℕ → Type 0
 
 -- what pulls from `old` to `new` left
-abbrev pub after_pulls : {S : Type 0} → SourceWords S → S → S → AfterPulls
+abbrev pub after_pulls : {S : Type 0} → SourceFacts S → S → S → AfterPulls
 after_pulls source old new = record { gives = source.gives new; Gave = GaveLast source old new }
 
 -- of the text t, all pulls but the last gave `given`, the last gave a piece of at most 2^12 bytes, and the source still
@@ -65,7 +65,7 @@ RanOut t left = RanOutInPiece t left ⊎ (IsAtEnd left.gives × WantsMemory (len
 -- pulls changed the source from `old` to `before`, and each of them gave at least one byte; no complete line of the
 -- bytes given has a fault, if the bytes of the source are known. The state `new` is `before`, or one more pull changed
 -- `before` to it
-pub record PulledWhileClean {S : Type 0} (source : SourceWords S) (old new : S) : Type 0 where
+pub record PulledWhileClean {S : Type 0} (source : SourceFacts S) (old new : S) : Type 0 where
   pub before : S
   pub pulls : PulledBytes source old before
   pub clean : IfSome (source.gives old) (λ t. CleanSoFar t (source.gives before))

@@ -1,5 +1,5 @@
 pub mod Parts
-pub mod EntryCount
+pub mod InstanceEntries
 pub mod ItemFaults
 pub mod RowRuns
 pub mod Bodies
@@ -7,8 +7,8 @@ pub mod Drafts
 pub mod TextsSoFar
 pub mod Helds
 pub mod Ends
-pub mod Refusals
-pub mod Readers
+pub mod LineRefusals
+pub mod ReaderResults
 pub mod ReaderStates
-pub mod SourceReads
+pub mod SourceResults
 pub mod Turned

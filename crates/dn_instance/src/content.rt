@@ -1,6 +1,6 @@
 // What a parsed instance holds, by kind.
 ghost use Rattle.std.specs.Prelude.{◌≡◌, ◌<◌, ◌^◌};
-ghost use Rattle.dn_instance.specs.State.EntryCount.{entries_of};
+ghost use Rattle.dn_instance.specs.State.InstanceEntries.{entries_of};
 ghost use Rattle.dn_instance.specs.State.Helds.{contents_kind, pair_count, Shows, contents_of, viewed};
 ghost use Rattle.dn_instance.specs.Instances.{Instance};
 ghost use Rattle.dn_instance.specs.Validity.{IsValid};

@@ -1,6 +1,6 @@
 // The parsed instance of a text.
 ghost use Rattle.std.specs.Prelude.{◌≡◌};
-ghost use Rattle.dn_instance.specs.State.EntryCount.{entries_of};
+ghost use Rattle.dn_instance.specs.State.InstanceEntries.{entries_of};
 ghost use Rattle.dn_instance.specs.State.Helds.{contents_kind, pair_count, IsHeld, contents_of, parsed, viewed};
 ghost use Rattle.dn_instance.specs.Instances.{Instance};
 ghost use Rattle.dn_instance.specs.Validity.{IsValid};

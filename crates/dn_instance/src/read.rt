@@ -1,8 +1,8 @@
 // Reads a whole text from memory or from a source.
 ghost use Rattle.std.specs.Prelude.{◌≡◌, ◌++◌, [], ℕ, List, Bool, true, false, IfErr, IfOk, IfSome, IsTrue, OnErr, OnOk};
-ghost use Rattle.dn_instance.specs.State.Readers.{Outcome};
+ghost use Rattle.dn_instance.specs.State.ReaderResults.{Outcome};
 ghost use Rattle.dn_instance.specs.SourceReads.{IsOfReading, after_pulls};
-ghost use Rattle.dn_instance.specs.State.SourceReads.{CopiesSource, HoldsCopied, HoldsKept, HoldsSome, IsKept, KeptOutcome, ReadsSource, SourceLeft};
+ghost use Rattle.dn_instance.specs.State.SourceResults.{CopiesSource, HoldsCopied, HoldsKept, HoldsSome, IsKept, KeptOutcome, ReadsSource, SourceLeft};
 
 use crate::held::Held;
 use crate::reader::Reader;

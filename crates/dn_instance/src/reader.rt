@@ -2,9 +2,9 @@
 ghost use Rattle.std.specs.Prelude.{◌≡◌, ◌≤◌, ℕ, ◌+◌, List, [], ◌++◌, length, take, drop, Some, None, Err, ◌<◌, IfOk, MatchResult};
 ghost use Rattle.dn_line.specs.State.LineStates.{LineSoFar, LineReaderAt, used_of};
 ghost use Rattle.dn_line.specs.Pieces.{lines};
-ghost use Rattle.dn_instance.specs.State.Readers.{Fed, Outcome, refusal_of, answer_of};
+ghost use Rattle.dn_instance.specs.State.ReaderResults.{Fed, Outcome, refusal_of, answer_of};
 ghost use Rattle.dn_instance.specs.State.ReaderStates.{ReaderAt, IsReading, Takes, Advances, CountsBefore, CountsRead, Steps, WantsAtEnd, WantsInPiece};
-ghost use Rattle.dn_instance.specs.State.Refusals.{refused_at};
+ghost use Rattle.dn_instance.specs.State.LineRefusals.{refused_at};
 ghost use Rattle.dn_instance.specs.State.TextsSoFar.{TextAt};
 
 use crate::held::Held;

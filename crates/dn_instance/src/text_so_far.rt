@@ -7,7 +7,7 @@ ghost use Rattle.dn_line.specs.LineTable.{kind_named};
 ghost use Rattle.dn_line.specs.State.RowBlocks.{last_left};
 ghost use Rattle.dn_line.specs.Words.{first, said_words};
 ghost use Rattle.dn_line.specs.Faults.{first_fault, head_tests};
-ghost use Rattle.dn_line.specs.State.Reading.{head_of};
+ghost use Rattle.dn_line.specs.State.LineReads.{head_of};
 ghost use Rattle.dn_line.specs.State.LineStates.{LineSoFar, LineReaderAt};
 ghost use Rattle.dn_instance.specs.Items.{problem_in, is_counted};
 ghost use Rattle.dn_instance.specs.TextFaults.{order_tests, item_tests, line_fault};

@@ -10,7 +10,7 @@ use Rattle.dn_line.specs.Reading.{item, unless}
 use Rattle.dn_line.specs.Words.{first, said, said_words}
 use Rattle.dn_line.specs.State.LineStates.{is_clear, is_inner}
 use Rattle.dn_line.specs.State.Numbers.{IsGap, number_word}
-use Rattle.dn_line.specs.State.Reading.{checked_item, fields_read, head_of, head_read}
+use Rattle.dn_line.specs.State.LineReads.{checked_item, fields_read, head_of, head_read}
 use Rattle.dn_line.specs.State.Rows.{AreNatural, AreNumeric, BeginsWithRow, FieldsFit, HasNumbers, HasRow, field_fits, letter_byte, numbers_of}
 use Rattle.dn_line.specs.declared.kind.Kind.{Kind}
 use Rattle.dn_line.specs.declared.code.Code.TheVariants.{WrongLine}

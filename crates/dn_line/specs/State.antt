@@ -1,8 +1,8 @@
 pub mod Runs
 pub mod Spelling
-pub mod Faults
+pub mod FirstFaults
 pub mod Fields
-pub mod Reading
+pub mod LineReads
 pub mod OpenWords
 pub mod LineStates
 pub mod Numbers

@@ -10,7 +10,7 @@ use Rattle.std.specs.Simd.Lanes.{Each1, number_l}
 use Rattle.dn_num.specs.State.Digits.{eight_digits, zeros_before, codes_of}
 use Rattle.dn_num.specs.State.Lanes.{places}
 use Rattle.dn_num.specs.Number.{is_digit, is_digits, digits_number}
-use Rattle.dn_num.specs.State.Number.{begins_with_zero}
+use Rattle.dn_num.specs.State.NumberTexts.{begins_with_zero}
 use Rattle.dn_num.proofs.LaneLaws.{high}
 use Rattle.dn_num.proofs.ShortestLaws.{numerals, digits_are}
 

@@ -1,4 +1,4 @@
-pub mod Number
+pub mod NumberTexts
 pub mod NumberReader
 pub mod Lanes
 pub mod Digits

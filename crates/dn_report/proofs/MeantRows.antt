@@ -12,7 +12,7 @@ use Rattle.dn_arc.specs.State.Bundles.{listed_of}
 use Rattle.dn_arc.specs.Entries.{free_costs}
 use Rattle.dn_arc.specs.Fillings.{forced_units, forced_cost}
 use Rattle.dn_arc.specs.Kinds.{ArcKind, lengths, capacities, costs}
-use Rattle.dn_arc.specs.State.Kinds.{AreCanonArcsOf}
+use Rattle.dn_arc.specs.State.CanonArcs.{AreCanonArcsOf}
 use Rattle.dn_arc.proofs.CostKindLaws.{cost_kind}
 use Rattle.dn_arc.proofs.CanonsLaws.{count_costs, same_canon}
 use Rattle.dn_bundle.specs.State.Listings.{least_arcs, total_arcs, curve_arcs}

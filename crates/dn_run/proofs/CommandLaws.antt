@@ -3,7 +3,7 @@ use Rattle.std.proofs.Common.{◌≡◌, ◌≢◌, codes, ℕ, List, [], Option
 use Rattle.dn_line.specs.declared.kind.Kind.{Kind}
 use Rattle.dn_arc.specs.declared.arc.Form.{Form}
 use Rattle.dn_instance.specs.Companions.{companion_fit}
-use Rattle.dn_instance.specs.State.SourceReads.{HoldsCopied}
+use Rattle.dn_instance.specs.State.SourceResults.{HoldsCopied}
 use Rattle.dn_instance.specs.State.Helds.{IsHeld, OfBoth, contents_kind, parsed}
 use Rattle.dn_instance.specs.Instances.{Instance}
 use Rattle.dn_instance.specs.Texts.{Reads}
@@ -20,7 +20,7 @@ use Rattle.dn_report.specs.Shows.{IsShown}
 use Rattle.dn_sink.specs.Puts.{HasPut, PutsPrefix}
 use Rattle.dn_command.specs.Commands.{Canon, Compare}
 use Rattle.dn_run.specs.Answers.{Answer, Done, Refused, Unfit, Cut, IsAnswerTo, OutAfter}
-use Rattle.dn_run.specs.State.Answers.{unwritten}
+use Rattle.dn_run.specs.State.Endings.{unwritten}
 use Rattle.dn_run.specs.FilesRuns.{FilesRun, text_asked}
 use Rattle.dn_run.specs.State.Findings.{IsFound, PutsFinding}
 use Rattle.dn_run.specs.Outcomes.{OnText, OnTwoTexts, RanOn}
@@ -28,24 +28,24 @@ use Rattle.dn_run.specs.Runs.{Never, PutsCanon, PutsChecked, PutsCompared, PutsF
 use Rattle.dn_run.specs.Streams.{SinkRun, sink_run}
 use Rattle.dn_run.specs.Takings.{KeepsOthers}
 use Rattle.dn_run.specs.Texts.{AskedText, IsRefusedCanon, IsRefusedCopy, IsRefusedText, unopened}
-use Rattle.dn_run.specs.State.Texts.{IsCopy, IsRead}
+use Rattle.dn_run.specs.State.TextReads.{IsCopy, IsRead}
 use Rattle.dn_run.specs.declared.files.FilesFault.{FilesFault}
 use Rattle.dn_run.proofs.OutcomeLaws.{added, as_some, as_two, by_behind, cut_unread, done_unread, not_refused, on_held, on_left, on_left_read, on_read, on_refused, unfit_unread}
-use Rattle.dn_sink.specs.Sinks.{SinkWords}
+use Rattle.dn_sink.specs.Sinks.{SinkFacts}
 
 module _ {T S : Type 0} (text : AskedText T) (out : SinkRun S) (held : Held) where
   -- ---- `show`
 
   module _ (h : IsRead (IsRefusedText text) text (Ok held)) (t : List ℕ)
       (shows : (I : Instance) → IsValid I → IsHeld (parsed held) I → IsShown I t) where
-    pub shown_done : HasPut out.words out.old out.new [] t
+    pub shown_done : HasPut out.facts out.old out.new [] t
         → OnText PutsShown (λ _. Never) (IsRefusedText text) text out (Done 0)
     shown_done put =
         on_read PutsShown (λ _. Never) (IsRefusedText text) (IsRefusedText text) text out held (Done 0) h
         (done_unread 0 text.name)
         (λ b I reads is. (I, reads, t, (refl, shows I (reads_valid b I reads) is), added put))
 
-    pub shown_cut : PutsPrefix out.words out.old out.new t
+    pub shown_cut : PutsPrefix out.facts out.old out.new t
         → OnText PutsShown (λ _. Never) (IsRefusedText text) text out Cut
     shown_cut part =
         on_read PutsShown (λ _. Never) (IsRefusedText text) (IsRefusedText text) text out held Cut h
@@ -56,7 +56,7 @@ module _ {T S : Type 0} (text : AskedText T) (out : SinkRun S) (held : Held) whe
 
   module _ (form : Form) (h : IsRead (IsRefusedText text) text (Ok held)) where
     pub canon_done :
-        ((I : Instance) → IsValid I → IsHeld (parsed held) I → WritesCanon out.words out.old out.new form I (Ok tt))
+        ((I : Instance) → IsValid I → IsHeld (parsed held) I → WritesCanon out.facts out.old out.new form I (Ok tt))
         → OnText (PutsCanon form) (λ _. Never) (IsRefusedCanon form text) text out (Done 0)
     canon_done writes =
         on_read (PutsCanon form) (λ _. Never) (IsRefusedText text) (IsRefusedCanon form text) text out held (Done 0) h
@@ -68,7 +68,7 @@ module _ {T S : Type 0} (text : AskedText T) (out : SinkRun S) (held : Held) whe
 
     -- `canon` ends as its answer says if the canonical text is not written
     pub canon_unwritten : (e : Refusal) → IsOfWriting e
-        → ((I : Instance) → IsValid I → IsHeld (parsed held) I → WritesCanon out.words out.old out.new form I (Err e))
+        → ((I : Instance) → IsValid I → IsHeld (parsed held) I → WritesCanon out.facts out.old out.new form I (Err e))
         → OnText (PutsCanon form) (λ _. Never) (IsRefusedCanon form text) text out (unwritten text.name e)
     canon_unwritten e after writes =
         on_read (PutsCanon form) (λ _. Never) (IsRefusedText text) (IsRefusedCanon form text) text out held
@@ -84,7 +84,7 @@ module _ {T S : Type 0} (text : AskedText T) (out : SinkRun S) (held : Held) whe
         unread Endless h e = absurd h
 
         by_refusal : (b : List ℕ) (e : Refusal) (I : Instance) → Reads b I
-            → WritesCanon out.words out.old out.new form I (Err e)
+            → WritesCanon out.facts out.old out.new form I (Err e)
             → RanOn (PutsCanon form) (λ _. Never) (IsRefusedCanon form text) text.name out b (unwritten text.name e)
         by_refusal b Write I reads (J, canon, w) =
             (I, reads, 0, print J, (refl, (J, record { canon = canon; text_is = refl })), w.0)
@@ -95,7 +95,7 @@ module _ {T S : Type 0} (text : AskedText T) (out : SinkRun S) (held : Held) whe
         by_refusal b Endless I reads w = absurd w.2
 
 -- if a canonical text is not written, `out` has failed, or is unchanged
-pub canon_after : {S : Type 0} (sink : SinkWords S) (old new : S) (name : List ℕ) (e : Refusal)
+pub canon_after : {S : Type 0} (sink : SinkFacts S) (old new : S) (name : List ℕ) (e : Refusal)
     → SinkAfter sink old new (Err e)
     → OutAfter (sink_run sink (old, new)) (unwritten name e)
 canon_after sink old new name CountTooLarge h = h
@@ -175,7 +175,7 @@ held_read text Refuses held h =
 -- taking the first text does not change what is behind the second name, so `IsRead` of the second text holds with the
 -- bytes that were behind its name before
 pub before_first : {F T : Type 0} (files : FilesRun F T) (mid : F) (left right : List ℕ)
-    → KeepsOthers (files.words.behind files.old) (files.words.behind mid) left → (left ≡ codes "-" → right ≢ codes "-")
+    → KeepsOthers (files.facts.behind files.old) (files.facts.behind mid) left → (left ≡ codes "-" → right ≢ codes "-")
     → (r : Result Held Refusal)
     → IsRead (IsRefusedText (text_asked (record files { old = mid }) mid files.new right))
     (text_asked (record files { old = mid }) mid files.new right) r

@@ -13,12 +13,12 @@ use Rattle.dn_run.specs.Answers.{Answer, Done, Refused, Unfit, Cut}
 use Rattle.dn_run.specs.Outcomes.{IsRefusedAs, OnText, OnTwoTexts, RanOn, RanOnSome, RanOnTwo}
 use Rattle.dn_run.specs.Streams.{SinkRun}
 use Rattle.dn_run.specs.Texts.{AskedText, IsRefusedText, unopened}
-use Rattle.dn_run.specs.State.Texts.{IsRead}
+use Rattle.dn_run.specs.State.TextReads.{IsRead}
 use Rattle.dn_run.specs.declared.files.FilesFault.{FilesFault}
-use Rattle.dn_sink.specs.Sinks.{SinkWords}
+use Rattle.dn_sink.specs.Sinks.{SinkFacts}
 
 -- a text of which nothing is left to put was appended to what the sink has taken
-pub added : {S : Type 0} {sink : SinkWords S} {old new : S} {t : List ℕ} → HasPut sink old new [] t
+pub added : {S : Type 0} {sink : SinkFacts S} {old new : S} {t : List ℕ} → HasPut sink old new [] t
     → Appends (sink.taken old) (sink.taken new) t
 added {S} {sink} {old} {new} h =
     subst (λ l. Appends (sink.taken old) (sink.taken new) l) (sym (append-nil h.put) ∙ h.whole) h.bytes

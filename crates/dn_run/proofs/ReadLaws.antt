@@ -2,14 +2,14 @@
 use Rattle.std.proofs.Common.{◌≡◌, ◌≢◌, ℕ, List, [], ◌++◌, Option, Some, None, Result, Ok, Err, IsTrue, OnOk, IfOk, IfSome, IsErrOf, refl, sym, ap, ◌∙◌, subst, inl, inr, append-nil}
 use Rattle.std.specs.Io.KnownBytes.{IsAtEnd}
 use Rattle.dn_instance.specs.SourceReads.{AfterPulls, after_pulls}
-use Rattle.dn_instance.specs.State.SourceReads.{CopyOutcome, Copied, SourceOutcome, HoldsCopied, HoldsSome}
+use Rattle.dn_instance.specs.State.SourceResults.{CopyOutcome, Copied, SourceOutcome, HoldsCopied, HoldsSome}
 use Rattle.dn_instance.specs.declared.held.Held.{Held}
 use Rattle.dn_instance.specs.declared.refusal.Refusal.{Refusal}
 use Rattle.dn_instance.specs.declared.refusal.Refusal.TheVariants.{Text, Memory, Read, Endless, Write, CountTooLarge}
 use Rattle.dn_instance.proofs.SourceLaws.{ran_out}
 use Rattle.dn_run.specs.declared.files.FilesFault.{FilesFault}
 use Rattle.dn_run.specs.Texts.{AskedText, ComesOf, IsRefusedCopy, IsRefusedText, unopened}
-use Rattle.dn_run.specs.State.Texts.{IsRead, ReadsAs}
+use Rattle.dn_run.specs.State.TextReads.{IsRead, ReadsAs}
 
 module _ {T : Type 0} (text : AskedText T) where
   module _ (source : T) (comes : ComesOf text source) (fine : text.fault ≡ None) where

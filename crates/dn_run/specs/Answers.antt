@@ -42,7 +42,7 @@ Tells err Cut = TakesLine err (fault_line [] Write)
 
 -- whether `out` has failed did not change
 abbrev pub OutDone : {S : Type 0} → SinkRun S → Type 0
-OutDone out = out.words.has_failed out.new ≡ out.words.has_failed out.old
+OutDone out = out.facts.has_failed out.new ≡ out.facts.has_failed out.old
 
 -- what the command has done to `out`: if the command is done, it has not changed whether `out` has failed; if a text is
 -- refused or a companion does not fit, `out` is unchanged; if the answer is `Cut`, `out` has failed
@@ -50,7 +50,7 @@ abbrev pub OutAfter : {S : Type 0} → SinkRun S → Answer → Type 0
 OutAfter out (Done status) = OutDone out
 OutAfter out (Refused name refusal) = out.new ≡ out.old
 OutAfter out (Unfit name fault) = out.new ≡ out.old
-OutAfter out Cut = IsTrue (out.words.has_failed out.new)
+OutAfter out Cut = IsTrue (out.facts.has_failed out.new)
 
 -- a command that is done has status 0, or, if it is a comparison, 0 or 1
 abbrev pub IsDoneWith : Asked → ℕ → Type 0
@@ -87,5 +87,5 @@ IsAnswerTo asked Cut = Unit {0}
 -- what a run has done to `out`, by the exit status: on 0 and 1 `out` has passed on all that it took, and whether it has
 -- failed did not change; on 2 and 3 `out` is unchanged
 pub record OutByStatus {S : Type 0} (out : SinkRun S) (status : ℕ) : Type 0 where
-  pub done : (status ≡ 0) ⊎ (status ≡ 1) → IsTrue (out.words.is_flushed out.new) × OutDone out
+  pub done : (status ≡ 0) ⊎ (status ≡ 1) → IsTrue (out.facts.is_flushed out.new) × OutDone out
   pub refused : (status ≡ 2) ⊎ (status ≡ 3) → out.new ≡ out.old

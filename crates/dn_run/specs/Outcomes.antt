@@ -19,12 +19,12 @@ abbrev pub RanOn : {S : Type 0} → (List ℕ → Instance → ℕ → List ℕ 
     → (List ℕ → Refusal → Type 0) → List ℕ → SinkRun S → List ℕ → Answer → Type 0
 RanOn Puts Unfits Refuses name out b (Done status) =
     (I : Instance) × Reads b I × (t : List ℕ) × Puts b I status t
-    × Appends (out.words.taken out.old) (out.words.taken out.new) t
+    × Appends (out.facts.taken out.old) (out.facts.taken out.new) t
 RanOn Puts Unfits Refuses name out b (Refused of refusal) = (of ≡ name) × Refuses b refusal
 RanOn Puts Unfits Refuses name out b (Unfit of fault) = (I : Instance) × Reads b I × (of ≡ name) × Unfits I fault
 RanOn Puts Unfits Refuses name out b Cut =
     (I : Instance) × Reads b I × (status : ℕ) × (t : List ℕ) × Puts b I status t
-    × PutsPrefix out.words out.old out.new t
+    × PutsPrefix out.facts out.old out.new t
 
 -- the answer refuses a text, or is right for some text b of this name, whether or not the bytes behind the name are
 -- known

@@ -93,15 +93,15 @@ pub record CommandRun {F T S E : Type 0} (files : FilesRun F T) (out : SinkRun S
 -- the command does not accept its text, or its two texts together, if the bytes behind all names are known: one reads
 -- as no instance, the canonical text that is asked for is too large, or the companion does not fit
 abbrev pub NotAccepted : {F T : Type 0} → FilesRun F T → Asked → Type 0
-NotAccepted files (Show name) = IfSome (files.words.behind files.old name) (λ b. (I : Instance) → Reads b I → ⊥)
-NotAccepted files (Check name None) = IfSome (files.words.behind files.old name) (λ b. (I : Instance) → Reads b I → ⊥)
+NotAccepted files (Show name) = IfSome (files.facts.behind files.old name) (λ b. (I : Instance) → Reads b I → ⊥)
+NotAccepted files (Check name None) = IfSome (files.facts.behind files.old name) (λ b. (I : Instance) → Reads b I → ⊥)
 NotAccepted files (Check name (Some companion)) =
-    IfSome (files.words.behind files.old name) (λ b. IfSome (files.words.behind files.old companion)
+    IfSome (files.facts.behind files.old name) (λ b. IfSome (files.facts.behind files.old companion)
     (λ c. (I J : Instance) → Reads b I → Reads c J → (fault : CompanionFault) × Unfits I J fault))
 NotAccepted files (Canon name form) =
-    IfSome (files.words.behind files.old name) (λ b. (I : Instance) → Reads b I → IsTooLarge form I)
+    IfSome (files.facts.behind files.old name) (λ b. (I : Instance) → Reads b I → IsTooLarge form I)
 NotAccepted files (Compare left right) =
-    IfSome (files.words.behind files.old left) (λ b. IfSome (files.words.behind files.old right)
+    IfSome (files.facts.behind files.old left) (λ b. IfSome (files.facts.behind files.old right)
     (λ c. (I J : Instance) → Reads b I → Reads c J → ⊥))
 
 -- a run that is refused because of its words: the exit status is 3, the run puts this line on `err`, and the files and

@@ -1,5 +1,4 @@
-pub mod Answers
-pub mod Texts
-pub mod FilesRuns
-pub mod Runs
+pub mod Endings
+pub mod TextReads
+pub mod CommandRuns
 pub mod Findings

@@ -1,19 +1,19 @@
 -- The sinks `out` and `err` of a run (this project's profile).
 use Rattle.std.specs.Prelude.{ℕ, List, Result}
 use Rattle.dn_sink.specs.Puts.{Puts}
-use Rattle.dn_sink.specs.Sinks.{SinkWords}
+use Rattle.dn_sink.specs.Sinks.{SinkFacts}
 use Rattle.dn_sink.specs.declared.sink.SinkFault.{SinkFault}
 
 -- a sink of a run: how it describes itself, and the sink before and after the run
 pub record SinkRun (S : Type 0) : Type 0 where
-  pub words : SinkWords S
+  pub facts : SinkFacts S
   pub old : S
   pub new : S
 
 -- the sink with this description: the first before the run, and the second after it
-abbrev pub sink_run : {S : Type 0} → SinkWords S → S × S → SinkRun S
-sink_run words sink = record { words = words; old = sink.0; new = sink.1 }
+abbrev pub sink_run : {S : Type 0} → SinkFacts S → S × S → SinkRun S
+sink_run facts sink = record { facts = facts; old = sink.0; new = sink.1 }
 
 -- the sink took this line, or it took a prefix of the line and has failed
 abbrev pub TakesLine : {S : Type 0} → SinkRun S → List ℕ → Type 0
-TakesLine err line = (result : Result (Unit {0}) SinkFault) × Puts err.words err.old err.new line result
+TakesLine err line = (result : Result (Unit {0}) SinkFault) × Puts err.facts err.old err.new line result

@@ -1,11 +1,11 @@
 -- How files describe themselves, and what asking them for a text does (this project's profile).
 use Rattle.std.specs.Prelude.{◌≡◌, ◌≢◌, ℕ, List, Option, Some, None, false, Result, IfOk, IfSome, OnOk, codes}
 use Rattle.std.specs.Result.{IfErr}
-use Rattle.dn_line.specs.Sources.{SourceWords}
+use Rattle.dn_line.specs.Sources.{SourceFacts}
 use Rattle.dn_run.specs.declared.files.FilesFault.{FilesFault}
 
 -- the description of files of type F, which hand out texts of type T
-pub record FilesWords (F T : Type 0) : Type 1 where
+pub record FilesFacts (F T : Type 0) : Type 1 where
   -- the bytes behind a name, if they are known
   pub behind : F → List ℕ → Option (List ℕ)
   -- why the files did not hand out the text of a name when they were last asked for it, or `None` if they did
@@ -23,7 +23,7 @@ pub record FilesWords (F T : Type 0) : Type 1 where
 abbrev pub KeepsOthers : (List ℕ → Option (List ℕ)) → (List ℕ → Option (List ℕ)) → List ℕ → Type 0
 KeepsOthers before after name = (other : List ℕ) → (name ≡ codes "-" → other ≢ codes "-") → after other ≡ before other
 
-module _ {F T : Type 0} (files : FilesWords F T) (old new : F) (name : List ℕ) where
+module _ {F T : Type 0} (files : FilesFacts F T) (old new : F) (name : List ℕ) where
   -- the files were asked once, for the text of this name. If they have a fault for it afterwards, asking could fail
   -- with this fault. Asking did not change what is behind any name, except what is behind `-` if this name is `-`
   pub record AsksOne : Type 0 where
@@ -34,7 +34,7 @@ module _ {F T : Type 0} (files : FilesWords F T) (old new : F) (name : List ℕ)
   -- what taking the text of this name does: the files were asked once for it. On `Ok` they hand out a source for the
   -- name that gives what is behind it, if this is known, and has not failed, and afterwards they have no fault for the
   -- name. On a fault, afterwards they have this fault for the name
-  pub record Takes (source : SourceWords T) (result : Result T FilesFault) : Type 0 where
+  pub record Takes (source : SourceFacts T) (result : Result T FilesFault) : Type 0 where
     pub text : IfOk result (λ t. IfSome (files.behind old name) (λ b. source.gives t ≡ Some b))
     pub fine : IfOk result (λ t. source.has_failed t ≡ false)
     pub hands : IfOk result (files.Hands old name)

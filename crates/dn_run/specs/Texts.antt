@@ -1,6 +1,6 @@
 -- A text that a run asks for, and why it is refused (this project's profile).
 use Rattle.std.specs.Prelude.{◌≡◌, ◌⊎◌, ℕ, ◌<◌, ◌≤◌, ◌^◌, List, ◌++◌, length, Option, Some, IsTrue}
-use Rattle.dn_line.specs.Sources.{SourceWords}
+use Rattle.dn_line.specs.Sources.{SourceFacts}
 use Rattle.dn_arc.specs.declared.arc.Form.{Form}
 use Rattle.dn_instance.specs.Instances.{Instance}
 use Rattle.dn_instance.specs.Readers.{ended}
@@ -21,7 +21,7 @@ pub record AskedText (T : Type 0) : Type 1 where
   pub fault : Option FilesFault
   pub Hands : T → Type 0
   pub Backs : T → Type 0
-  pub source : SourceWords T
+  pub source : SourceFacts T
 
 -- this is a source that was handed out for the text, as the pulls of reading left it, and that was then taken back
 pub record ComesOf {T : Type 0} (text : AskedText T) (source : T) : Type 0 where

@@ -32,8 +32,8 @@ pub record AskedRun {F T S E : Type 0} (files : FilesRun F T) (out : SinkRun S) 
 -- the answer is done with status 0, and `out` took this text; or the answer is `Cut`, and `out` took a prefix of the
 -- text and has failed
 abbrev pub PutsAll : {S : Type 0} → SinkRun S → List ℕ → Answer → Type 0
-PutsAll out t answer = ((answer ≡ Done 0) × Appends (out.words.taken out.old) (out.words.taken out.new) t)
-    ⊎ ((answer ≡ Cut) × PutsPrefix out.words out.old out.new t)
+PutsAll out t answer = ((answer ≡ Done 0) × Appends (out.facts.taken out.old) (out.facts.taken out.new) t)
+    ⊎ ((answer ≡ Cut) × PutsPrefix out.facts out.old out.new t)
 
 -- what a run does that prints this text: it puts the text on `out`, and the status is 0; or `out` has failed, the
 -- status is 4, and the run puts the line of this failure on `err`

@@ -1,7 +1,7 @@
 // The commands. Each asks files for its texts, and puts what it finds on `out`.
 ghost use Rattle.std.specs.Prelude.{◌≡◌, ◌≢◌, None, Some, false, codes};
 ghost use Rattle.dn_command.specs.Commands.{Canon, Check, Compare, Show, asks, names_twice};
-ghost use Rattle.dn_run.specs.State.Runs.{Does};
+ghost use Rattle.dn_run.specs.State.CommandRuns.{Does};
 
 use crate::files::Files;
 use crate::findings::{put_check, put_compared};

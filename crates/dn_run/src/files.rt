@@ -1,6 +1,6 @@
 // Files, which hand out texts by name.
 ghost use Rattle.std.specs.Prelude.{◌≡◌};
-ghost use Rattle.dn_run.specs.Takings.{FilesWords, Takes, TakesBack};
+ghost use Rattle.dn_run.specs.Takings.{FilesFacts, Takes, TakesBack};
 
 use dn_instance::Held;
 use dn_line::Source;
@@ -23,7 +23,7 @@ pub trait Files {
     type Text: Source + Drop;
 
     /// How the files describe themselves.
-    ghost files: { FilesWords Self Self.Text };
+    ghost files: { FilesFacts Self Self.Text };
 
     /// Hands out the text of this name. Does not change what is behind any name, except what is behind `-` if this name
     /// is `-`.

@@ -1,10 +1,10 @@
 // Puts what `check` and `compare` find in texts that were read.
 ghost use Rattle.std.specs.Prelude.{◌≡◌, ℕ, List, Option, IsTrue, OnOk};
 ghost use Rattle.dn_instance.specs.State.Helds.{OfBoth};
-ghost use Rattle.dn_instance.specs.State.Readers.{OfText};
+ghost use Rattle.dn_instance.specs.State.ReaderResults.{OfText};
 ghost use Rattle.dn_command.specs.Commands.{Check};
 ghost use Rattle.dn_run.specs.Answers.{IsAnswerTo, OutAfter};
-ghost use Rattle.dn_run.specs.State.Answers.{answer_of};
+ghost use Rattle.dn_run.specs.State.Endings.{answer_of};
 ghost use Rattle.dn_run.specs.State.Findings.{IsFound, PutsFinding, verdict_status};
 ghost use Rattle.dn_run.specs.Runs.{AreForms, PutsChecked, PutsCompared};
 ghost use Rattle.dn_run.specs.Streams.{sink_run};

@@ -1,7 +1,7 @@
 // Why a command stops before it is done.
 ghost use Rattle.std.specs.Prelude.{◌≡◌};
 ghost use Rattle.dn_run.specs.Answers.{Tells, refusal_status, status_of};
-ghost use Rattle.dn_run.specs.State.Answers.{stopped, unwritten};
+ghost use Rattle.dn_run.specs.State.Endings.{stopped, unwritten};
 ghost use Rattle.dn_run.specs.Streams.{sink_run};
 
 use dn_instance::{CompanionFault, Refusal};

@@ -1,11 +1,11 @@
 // Reads texts by name.
 ghost use Rattle.std.specs.Prelude.{◌≡◌, [], IfErr, IfOk};
 ghost use Rattle.dn_instance.specs.SourceReads.{IsOfReading};
-ghost use Rattle.dn_instance.specs.State.SourceReads.{HoldsCopied};
-ghost use Rattle.dn_run.specs.State.FilesRuns.{taken_text};
+ghost use Rattle.dn_instance.specs.State.SourceResults.{HoldsCopied};
+ghost use Rattle.dn_run.specs.State.CommandRuns.{taken_text};
 ghost use Rattle.dn_run.specs.FilesRuns.{ReadsOne};
 ghost use Rattle.dn_run.specs.Texts.{IsRefusedCopy, IsRefusedText, unopened};
-ghost use Rattle.dn_run.specs.State.Texts.{IsCopy, IsRead};
+ghost use Rattle.dn_run.specs.State.TextReads.{IsCopy, IsRead};
 
 use crate::files::{Files, FilesFault};
 use dn_instance::{Held, Refusal, read_from, read_keep};

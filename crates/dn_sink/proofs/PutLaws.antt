@@ -5,16 +5,16 @@ use Rattle.std.proofs.lemmas.Result.{MatchResult-from_err}
 use Rattle.std.proofs.KnownBytes.{Appends-trans, Appends-nil}
 use Rattle.std.specs.Io.KnownBytes.{Appends, Keeps}
 use Rattle.dn_sink.specs.declared.sink.SinkFault.{SinkFault}
-use Rattle.dn_sink.specs.Sinks.{SinkWords}
+use Rattle.dn_sink.specs.Sinks.{SinkFacts}
 use Rattle.dn_sink.specs.Puts.{HasPut, PutsPrefix, Puts}
 use Rattle.dn_sink.specs.State.Turns.{Took, Flush}
 
 -- before the first put, the whole text is left
-pub put_from : {K : Type 0} {k : SinkWords K} {a : K} {left all : List ℕ} → left ≡ all → HasPut k a a left all
+pub put_from : {K : Type 0} {k : SinkFacts K} {a : K} {left all : List ℕ} → left ≡ all → HasPut k a a left all
 put_from {K} {k} {a} {left} {all} e = record { put = []; bytes = Appends-nil (k.taken a); whole = e; fine = refl }
 
 -- after a put of n bytes, n at least 1, the rest begins n bytes later
-pub put_part : {K : Type 0} (k : SinkWords K) (a b c : K) (piece : List ℕ) (at n : ℕ)
+pub put_part : {K : Type 0} (k : SinkFacts K) (a b c : K) (piece : List ℕ) (at n : ℕ)
     → HasPut k a b (drop at piece) piece
     → Took k b c (take (length piece - at) (drop at piece)) n → 0 < n → HasPut k a c (drop (at + n) piece) piece
 put_part k a b c piece at n h t some =
@@ -30,7 +30,7 @@ put_part k a b c piece at n h t some =
       fine = t.fine (λ none. absurd (omega (arith, none, some))) ∙ h.fine;
     }
 
-module _ {K : Type 0} {k : SinkWords K} {a b c : K} where
+module _ {K : Type 0} {k : SinkFacts K} {a b c : K} where
   -- after the next piece is put, the rest of the text is left
   pub put_more : {x rest all : List ℕ} → HasPut k a b (x ++ rest) all → HasPut k b c [] x → HasPut k a c rest all
   put_more {x} {rest} {all} h p = record {
@@ -60,13 +60,13 @@ kept (Some x) None e = absurd e
 kept (Some x) (Some y) e = e ∙ sym (append-nil x)
 
 -- putting the rest ends a put of the whole text
-pub put_last : {K : Type 0} (k : SinkWords K) (a b c : K) (x all : List ℕ) (r : Result (Unit {0}) SinkFault)
+pub put_last : {K : Type 0} (k : SinkFacts K) (a b c : K) (x all : List ℕ) (r : Result (Unit {0}) SinkFault)
     → HasPut k a b x all → Puts k b c x r → Puts k a c all r
 put_last k a b c x all (Ok u) h p = put_more (subst (λ l. HasPut k a b l all) (sym (append-nil x)) h) p
 put_last k a b c x all (Err e) h p = put_stop x [] (subst (λ l. HasPut k a b l all) (sym (append-nil x)) h) p
 
 -- a flush ends a put of the whole text
-pub put_flushed : {K : Type 0} (k : SinkWords K) (a b c : K) (all : List ℕ) (r : Result (Unit {0}) SinkFault)
+pub put_flushed : {K : Type 0} (k : SinkFacts K) (a b c : K) (all : List ℕ) (r : Result (Unit {0}) SinkFault)
     → HasPut k a b [] all → Flush k b c r → Puts k a c all r
 put_flushed k a b c all (Ok u) h f =
     put_last k a b c [] all (Ok u) h
@@ -76,6 +76,6 @@ put_flushed k a b c all (Err e) h f =
     (record { put = []; left = []; bytes = kept (k.taken b) (k.taken c) f.bytes; whole = refl; failed = f.err })
 
 -- a fault of a call is the fault of the whole put
-pub stopped : {K : Type 0} {k : SinkWords K} {a b : K} {all : List ℕ} (r : Result (Unit {0}) SinkFault) → IsErr r
+pub stopped : {K : Type 0} {k : SinkFacts K} {a b : K} {all : List ℕ} (r : Result (Unit {0}) SinkFault) → IsErr r
     → PutsPrefix k a b all → Puts k a b all r
 stopped r is f = MatchResult-from_err r _ _ is (λ e. f)

@@ -2,10 +2,10 @@
 use Rattle.std.specs.Prelude.{◌≡◌, List, ℕ, [], ◌++◌, IsTrue, MatchResult}
 use Rattle.std.specs.Io.KnownBytes.{Appends}
 use Rattle.std.specs.declared.result.Result.{Result}
-use Rattle.dn_sink.specs.Sinks.{SinkWords}
+use Rattle.dn_sink.specs.Sinks.{SinkFacts}
 use Rattle.dn_sink.specs.declared.sink.SinkFault.{SinkFault}
 
-module _ {S : Type 0} (sink : SinkWords S) (old new : S) where
+module _ {S : Type 0} (sink : SinkFacts S) (old new : S) where
   -- the sink took all of the text but the rest `left`, and this did not change whether it has failed
   pub record HasPut (left all : List ℕ) : Type 0 where
     pub put : List ℕ

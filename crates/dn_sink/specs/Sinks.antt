@@ -2,7 +2,7 @@
 use Rattle.std.specs.Prelude.{ℕ, List, Bool, Option}
 
 -- the description of a sink of type S
-pub record SinkWords (S : Type 0) : Type 0 where
+pub record SinkFacts (S : Type 0) : Type 0 where
   -- the bytes that it has taken, if they are known
   pub taken : S → Option (List ℕ)
   -- whether it has failed

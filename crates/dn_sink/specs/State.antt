@@ -1,4 +1,4 @@
 pub mod Turns
-pub mod Held
+pub mod MemorySinks
 pub mod Matches
 pub mod Spaced

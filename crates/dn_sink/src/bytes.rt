@@ -15,7 +15,7 @@ pub struct Bytes {
 
 impl Model for Bytes {
     ghost use Rattle.std.specs.Prelude.{vec_capacity};
-    ghost use Rattle.dn_sink.specs.State.Held.{Taken};
+    ghost use Rattle.dn_sink.specs.State.MemorySinks.{Taken};
 
     ghost Value = { Taken };
 

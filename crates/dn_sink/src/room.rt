@@ -1,6 +1,6 @@
 // A sink that fills a slice.
 ghost use Rattle.std.specs.Prelude.{◌≡◌, [], length, false, true, Some, Ok, IsOk};
-ghost use Rattle.dn_sink.specs.State.Held.{room_for, filled};
+ghost use Rattle.dn_sink.specs.State.MemorySinks.{room_for, filled};
 ghost use Rattle.dn_sink.specs.State.Turns.{Turn, Flush};
 
 use crate::sink::{Sink, SinkFault};
@@ -16,7 +16,7 @@ pub struct Room<'a> {
 
 impl<'a> Model for Room<'a> {
     ghost use Rattle.std.specs.Prelude.{◌≡◌, ◌≤◌, length, take};
-    ghost use Rattle.dn_sink.specs.State.Held.{Filled};
+    ghost use Rattle.dn_sink.specs.State.MemorySinks.{Filled};
 
     ghost Value = { Filled };
 

@@ -1,7 +1,7 @@
 // Where the bytes of a text go.
 ghost use Rattle.std.specs.Prelude.{IsTrue, OnOk};
 ghost use Rattle.dn_sink.specs.Puts.{Puts};
-ghost use Rattle.dn_sink.specs.Sinks.{SinkWords};
+ghost use Rattle.dn_sink.specs.Sinks.{SinkFacts};
 ghost use Rattle.dn_sink.specs.State.Turns.{Turn, Flush};
 
 use thiserror::Error;
@@ -14,7 +14,7 @@ pub struct SinkFault;
 /// Takes bytes piece by piece.
 pub trait Sink {
     /// How the sink describes itself.
-    ghost sink: { SinkWords Self };
+    ghost sink: { SinkFacts Self };
 
     /// Takes bytes from the beginning of `piece`, and returns how many. It returns a fault, or 0 for a non-empty piece,
     /// only if the sink has failed. On a fault it takes none. Otherwise it does not change whether the sink has failed.

@@ -3,7 +3,7 @@ use Rattle.std.proofs.Common.{◌≡◌, ℕ, zero, suc, ℤ, List, [], ◌∷�
 use Rattle.std.specs.List.{AllByRecursion}
 use Rattle.std.specs.Map.{lookup}
 use Rattle.dn_arc.specs.Kinds.{ArcKind}
-use Rattle.dn_arc.specs.State.Kinds.{NeedsMore}
+use Rattle.dn_arc.specs.State.CanonArcs.{NeedsMore}
 use Rattle.dn_arc.specs.declared.arc.Form.TheVariants.{One}
 use Rattle.dn_arc.specs.State.Bundles.{IsKind}
 use Rattle.dn_arc.specs.Pairs.{bundle, same_pair}

@@ -4,7 +4,7 @@ ghost use Rattle.std.specs.List.{IsDistinct};
 ghost use Rattle.std.specs.Map.{keys_of};
 ghost use Rattle.dn_arc.specs.declared.arc.Form.{Form};
 ghost use Rattle.dn_arc.specs.Pairs.{same_pair};
-ghost use Rattle.dn_table.specs.State.GraphEntries.{entries_listed};
+ghost use Rattle.dn_table.specs.State.ListedEntries.{entries_listed};
 ghost use Rattle.dn_arc.specs.State.Bundles.{meant};
 ghost use Rattle.dn_table.specs.State.Tables.{CountsEntries};
 

@@ -6,7 +6,7 @@ ghost use Rattle.std.specs.List.Sorted.{IsStrictlySortedBy};
 ghost use Rattle.std.specs.Map.{keys_of, lookup};
 ghost use Rattle.dn_arc.specs.declared.arc.Form.{Form};
 ghost use Rattle.dn_arc.specs.Pairs.{pair_cmp, same_pair};
-ghost use Rattle.dn_table.specs.State.GraphEntries.{entries_listed};
+ghost use Rattle.dn_table.specs.State.ListedEntries.{entries_listed};
 ghost use Rattle.dn_table.specs.State.Tables.{entry_of, CountsEntries};
 
 use crate::entry_sum::{bundle_entries, count_arcs};

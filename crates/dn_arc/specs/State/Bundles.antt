@@ -3,14 +3,14 @@ use Rattle.std.specs.Prelude.{◌≡◌, ℕ, ◌+◌, ◌-◌, ◌^◌, ℤ, po
 use Rattle.std.specs.Int.{w64}
 use Rattle.std.specs.List.{AllByRecursion}
 use Rattle.dn_arc.specs.Kinds.{ArcKind}
-use Rattle.dn_arc.specs.State.Kinds.{NeedsMore}
-use Rattle.dn_arc.specs.State.Meanings.{IsMeaning}
+use Rattle.dn_arc.specs.State.CanonArcs.{NeedsMore}
+use Rattle.dn_arc.specs.State.Equivalences.{IsMeaning}
 use Rattle.dn_arc.specs.declared.arc.Form.{Form}
 use Rattle.dn_arc.specs.declared.arc.Form.TheVariants.{One}
 use Rattle.dn_arc.specs.declared.difference.How.{How}
 
 -- what a kind of bundle specifies about itself
-pub record BundleWords (B Arc : Type 0) : Type 1 where
+pub record BundleFacts (B Arc : Type 0) : Type 1 where
   -- the kind of its arcs, which defines what they mean
   pub kind : ArcKind Arc
   -- the canonical arcs that the bundle lists, by form; it represents all arcs that mean the same
@@ -73,7 +73,7 @@ listed_of listed (Some b) = listed b
 abbrev pub IsAfter : {A : Type 0} → List A → A → Option A → Type 0
 IsAfter xs x next = (i : ℕ) → slice_get xs i ≡ Some x → next ≡ slice_get xs (i + 1)
 
-module _ {B Arc : Type 0} (bundle : BundleWords B Arc) where
+module _ {B Arc : Type 0} (bundle : BundleFacts B Arc) where
   -- the arcs that a bundle lists in form 1, which have its meaning
   abbrev pub meant : B → List Arc
   meant b = bundle.listed One b

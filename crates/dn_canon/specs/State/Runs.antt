@@ -3,16 +3,16 @@ use Rattle.std.specs.Prelude.{◌≡◌, ◌↔◌, true, ◌<◌, ◌^◌, ℕ,
 use Rattle.std.specs.Io.KnownBytes.{IsAtEnd}
 use Rattle.std.specs.declared.result.Result.{Result}
 use Rattle.dn_line.specs.Pieces.{lines}
-use Rattle.dn_line.specs.Sources.{SourceWords}
+use Rattle.dn_line.specs.Sources.{SourceFacts}
 use Rattle.dn_arc.specs.declared.arc.Form.{Form}
 use Rattle.dn_instance.specs.Instances.{Instance, size_of}
 use Rattle.dn_instance.specs.Readers.{WantsMemory}
 use Rattle.dn_instance.specs.SourceReads.{AfterPulls, after_pulls}
-use Rattle.dn_instance.specs.State.SourceReads.{SourceOutcome}
+use Rattle.dn_instance.specs.State.SourceResults.{SourceOutcome}
 use Rattle.dn_instance.specs.Texts.{Reads, IsFirstFault}
 use Rattle.dn_instance.specs.declared.refusal.Refusal.{Refusal}
 use Rattle.dn_instance.specs.declared.refusal.Refusal.TheVariants.{Text, Memory, Write, CountTooLarge}
-use Rattle.dn_sink.specs.Sinks.{SinkWords}
+use Rattle.dn_sink.specs.Sinks.{SinkFacts}
 use Rattle.dn_canon.specs.CanonInstances.{IsCanonInstanceOf}
 use Rattle.dn_canon.specs.CanonTexts.{IsCanonOf, IsTooLarge, PrintsCanon}
 use Rattle.dn_canon.specs.State.Writes.{WritesCanon}
@@ -39,7 +39,7 @@ JudgesCanon form t (Err _) = ⊥
 
 -- the source gave the text t from here on, and its pulls left it so. At its end t reads as an instance, and either its
 -- canonical text is written or writing is refused. A refusal of reading leaves the source as `read_from` does
-abbrev pub RunOutcome : {S : Type 0} → SinkWords S → S → S → Form → List ℕ → AfterPulls → Result (Unit {0}) Refusal
+abbrev pub RunOutcome : {S : Type 0} → SinkFacts S → S → S → Form → List ℕ → AfterPulls → Result (Unit {0}) Refusal
     → Type 0
 RunOutcome sink old new form t left (Ok x) =
     (I : Instance) × Reads t I × IsAtEnd left.gives × WritesCanon sink old new form I (Ok x)
@@ -50,7 +50,7 @@ RunOutcome sink old new form t left (Err CountTooLarge) =
 RunOutcome sink old new form t left (Err refusal) = SourceOutcome t left (Err refusal)
 
 -- what canonicalising the text of a source returns, if its bytes are known
-abbrev pub RunsSource : {T S : Type 0} → SourceWords T → T → T → SinkWords S → S → S → Form → Result (Unit {0}) Refusal
+abbrev pub RunsSource : {T S : Type 0} → SourceFacts T → T → T → SinkFacts S → S → S → Form → Result (Unit {0}) Refusal
     → Type 0
 RunsSource source before after sink old new form result =
     IfSome (source.gives before) (λ t. RunOutcome sink old new form t (after_pulls source before after) result)

@@ -7,7 +7,7 @@ use Rattle.dn_instance.specs.Instances.{Instance, size_of}
 use Rattle.dn_canon.specs.CanonInstances.{IsCanonInstanceOf}
 use Rattle.dn_canon.specs.Prints.{supply_row, terminal_row, print}
 use Rattle.dn_sink.specs.Rows.{Row}
-use Rattle.dn_sink.specs.Sinks.{SinkWords}
+use Rattle.dn_sink.specs.Sinks.{SinkFacts}
 use Rattle.dn_sink.specs.Puts.{HasPut, PutsPrefix}
 use Rattle.dn_instance.specs.declared.refusal.Refusal.{Refusal}
 use Rattle.dn_instance.specs.declared.refusal.Refusal.TheVariants.{Write, CountTooLarge}
@@ -23,19 +23,19 @@ node_rows NoNodes = []
 
 -- the sink took the whole text, or has failed and took a prefix of it; or the text has 2^63 counted lines or more, and
 -- nothing was put
-abbrev pub Writes : {S : Type 0} → SinkWords S → S → S → List ℕ → ℕ → Result (Unit {0}) Refusal → Type 0
+abbrev pub Writes : {S : Type 0} → SinkFacts S → S → S → List ℕ → ℕ → Result (Unit {0}) Refusal → Type 0
 Writes sink old new text count (Ok _) = HasPut sink old new [] text × count < 2 ^ 63
 Writes sink old new text count (Err Write) = PutsPrefix sink old new text × count < 2 ^ 63
 Writes sink old new text count (Err CountTooLarge) = (new ≡ old) × 2 ^ 63 ≤ count
 Writes sink old new text count (Err _) = ⊥
 
 -- the text of the canonical instance of I is written, or writing is refused
-abbrev pub WritesCanon : {S : Type 0} → SinkWords S → S → S → Form → Instance → Result (Unit {0}) Refusal → Type 0
+abbrev pub WritesCanon : {S : Type 0} → SinkFacts S → S → S → Form → Instance → Result (Unit {0}) Refusal → Type 0
 WritesCanon sink old new form I result =
     (J : Instance) × IsCanonInstanceOf form J I × Writes sink old new (print J) (size_of J) result
 
 -- on `Ok` whether the sink has failed did not change; on `Write` it has failed; on any other refusal nothing was put
-abbrev pub SinkAfter : {S : Type 0} → SinkWords S → S → S → Result (Unit {0}) Refusal → Type 0
+abbrev pub SinkAfter : {S : Type 0} → SinkFacts S → S → S → Result (Unit {0}) Refusal → Type 0
 SinkAfter sink old new (Ok _) = sink.has_failed new ≡ sink.has_failed old
 SinkAfter sink old new (Err Write) = IsTrue (sink.has_failed new)
 SinkAfter sink old new (Err _) = new ≡ old

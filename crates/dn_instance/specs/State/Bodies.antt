@@ -11,7 +11,7 @@ use Rattle.dn_line.specs.declared.line.Line.{Line}
 use Rattle.dn_line.specs.declared.row.Row.{Row}
 use Rattle.dn_line.specs.declared.row_block.RowLine.{RowLine}
 use Rattle.dn_arc.specs.Kinds.{ArcKind}
-use Rattle.dn_arc.specs.State.Bundles.{BundleWords, meant}
+use Rattle.dn_arc.specs.State.Bundles.{BundleFacts, meant}
 use Rattle.dn_table.specs.GraphEntries.{graph_entries}
 use Rattle.dn_table.specs.State.Tables.{AreArcs, GraphNeedsMore, Stays, TableLists}
 use Rattle.dn_instance.specs.Items.{Problem, problem_of, arcs_of, source_in, query_in, point_in, by_key}
@@ -104,7 +104,7 @@ pub record TableHolds {B Arc : Type 0} (kind : ArcKind Arc) (arc_in : Line → O
   pub are_arcs : AreArcs kind (arcs_of arc_in items)
 
 -- the arcs of a graph, merged by ordered pair
-abbrev pub table_body : {B Arc : Type 0} → Kind → (Line → Option ((ℤ × ℤ) × Arc)) → BundleWords B Arc
+abbrev pub table_body : {B Arc : Type 0} → Kind → (Line → Option ((ℤ × ℤ) × Arc)) → BundleFacts B Arc
     → TakerFacts (List ((ℤ × ℤ) × B))
 table_body kind arc_in bundle = record { kind = kind; Holds = TableHolds bundle.kind arc_in (meant bundle) }
 

@@ -9,7 +9,7 @@ use Rattle.dn_instance.specs.declared.refusal.Refusal.{Refusal}
 use Rattle.dn_instance.specs.declared.refusal.Refusal.TheVariants.{Memory}
 use Rattle.dn_instance.specs.Readers.{WantsMemory, ended}
 use Rattle.dn_instance.specs.EntryCount.{entries_so_far}
-use Rattle.dn_instance.specs.State.Readers.{EntriesBefore, IsRefused, IsNext, lines_taken, refusal_of}
+use Rattle.dn_instance.specs.State.ReaderResults.{EntriesBefore, IsRefused, IsNext, lines_taken, refusal_of}
 use Rattle.dn_instance.specs.Texts.{items_of}
 use Rattle.dn_instance.specs.State.TextsSoFar.{TextAt}
 
@@ -62,8 +62,8 @@ Advances r t u (Err e) =
     (r.refusal ≡ Some e) × IsRefused (length (ended t)) (ended u) e × StopsIn r (ended u) e
     × (length (ended t) ≤ lines_taken r)
 
--- after t, the reader has read the first n bytes of the piece, or it keeps the refusal of a line that is complete in the
--- first bytes of the piece
+-- after t, the reader has read the first n bytes of the piece, or it keeps the refusal of a line that is complete in
+-- the first bytes of the piece
 abbrev pub Steps : Reader → List ℕ → List ℕ → Result ℕ Refusal → Type 0
 Steps r t piece (Ok n) = IsReading r (t ++ take n piece)
 Steps r t piece (Err e) = (n : ℕ) × Advances r t (t ++ take n piece) (Err e)

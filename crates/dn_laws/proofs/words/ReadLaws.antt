@@ -8,7 +8,7 @@ use Rattle.clap.specs.declared.error.kind.ErrorKind.TheVariants.{DisplayHelp, Di
 use Rattle.dn_command.specs.Commands.{Asked, is_name}
 use Rattle.dn_command.specs.Options.{dnorm_app, form_words}
 use Rattle.dn_command.specs.Requests.{Answers, IsReadByClap, subcommand_asked}
-use Rattle.dn_command.specs.State.Requests.{Prints, PrintsVersion, Requests}
+use Rattle.dn_command.specs.State.RequestKinds.{Prints, PrintsVersion, Requests}
 use Rattle.dn_command.specs.declared.request.Request.{Request}
 use Rattle.dn_command.specs.declared.request.Request.TheVariants as requests
 

@@ -1,6 +1,6 @@
 // Worked examples of texts: their first faults, instances and numbers of entries.
 ghost use Rattle.std.specs.Prelude.{◌≡◌, codes, [], ◌∷◌, pos, negsuc};
-ghost use Rattle.dn_instance.specs.State.EntryCount.{entries_of};
+ghost use Rattle.dn_instance.specs.State.InstanceEntries.{entries_of};
 ghost use Rattle.dn_instance.specs.Instances.{MinCostFlow, MaxFlow, ShortestPaths, Sources, Queries, Coordinates};
 ghost use Rattle.dn_instance.specs.Texts.{Reads, IsFirstFault};
 

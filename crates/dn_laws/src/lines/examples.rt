@@ -2,7 +2,7 @@
 ghost use Rattle.std.specs.Prelude.{◌≡◌, [], ◌∷◌, ◌++◌, codes, pos, negsuc, true, false};
 ghost use Rattle.dn_line.specs.Pieces.{lines};
 ghost use Rattle.dn_line.specs.Words.{words, said_words, is_skip};
-ghost use Rattle.dn_line.specs.State.Reading.{line_read};
+ghost use Rattle.dn_line.specs.State.LineReads.{line_read};
 
 use dn_line::{Code, Kind, Letter, Line};
 

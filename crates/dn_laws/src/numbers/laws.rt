@@ -3,7 +3,7 @@ ghost use Rattle.std.specs.Prelude.{◌≡◌, ℕ, ℤ, List, Ok, ◌↔◌, Is
 ghost use Rattle.std.specs.Int.{w64};
 ghost use Rattle.std.specs.Fmt.{signed_decimal};
 ghost use Rattle.dn_num.specs.Number.{fits, number_read};
-ghost use Rattle.dn_num.specs.State.Number.{NumberText, ShortestText};
+ghost use Rattle.dn_num.specs.State.NumberTexts.{NumberText, ShortestText};
 
 use dn_num::NumFault;
 

@@ -3,7 +3,7 @@ ghost use Rattle.std.specs.Prelude.{◌≡◌, ◌⊎◌, codes, [], ◌∷◌, 
 ghost use Rattle.dn_arc.specs.declared.arc.Form.TheVariants.{One, Two};
 ghost use Rattle.dn_command.specs.Commands.{Canon, Check, Compare, Show, names_twice, plain_asked};
 ghost use Rattle.dn_command.specs.Requests.{IsReadByClap};
-ghost use Rattle.dn_command.specs.State.Requests.{Prints, PrintsVersion};
+ghost use Rattle.dn_command.specs.State.RequestKinds.{Prints, PrintsVersion};
 ghost use Rattle.dn_command.specs.declared.request.Request.{Request};
 ghost use Rattle.dn_command.specs.declared.request.Request.TheVariants.{Bad, Memory};
 

@@ -4,7 +4,7 @@ ghost use Rattle.std.specs.Prelude.{◌≡◌, ◌⊎◌, ◌++◌, ◌∷◌, [
 ghost use Rattle.dn_arc.specs.declared.arc.Form.TheVariants.{One, Two};
 ghost use Rattle.dn_command.specs.Commands.{Canon, Check, Compare, Show, is_name};
 ghost use Rattle.dn_command.specs.Requests.{IsReadByClap};
-ghost use Rattle.dn_command.specs.State.Requests.{Requests};
+ghost use Rattle.dn_command.specs.State.RequestKinds.{Requests};
 ghost use Rattle.dn_command.specs.declared.request.Request.{Request};
 ghost use Rattle.dn_command.specs.declared.request.Request.TheVariants.{Memory};
 

@@ -1,10 +1,10 @@
 -- How one pull changes a source.
 use Rattle.std.specs.Prelude.{◌≡◌, ℕ, ◌≤◌, List, length, take, Result, IsTrue, IsErr, IfOk, OnErr}
 use Rattle.std.specs.Io.KnownBytes.{Consumes, IsAtEnd, Keeps}
-use Rattle.dn_line.specs.Sources.{SourceWords}
+use Rattle.dn_line.specs.Sources.{SourceFacts}
 use Rattle.dn_line.specs.declared.source.SourceFault.{SourceFault}
 
-module _ {S : Type 0} (source : SourceWords S) (old new : S) where
+module _ {S : Type 0} (source : SourceFacts S) (old new : S) where
   -- the first n bytes of `into` are the next that the source gives, if these are known; n is 0 only at the end, and
   -- whether the source has failed does not change
   pub record Pulled (into : List ℕ) (n : ℕ) : Type 0 where

@@ -17,9 +17,9 @@ IsFound _ = ⊥
 -- of a text that `Puts` allows and has failed
 abbrev pub PutsFinding : {S : Type 0} → (ℕ → List ℕ → Type 0) → SinkRun S → Answer → Type 0
 PutsFinding Puts out (Done status) =
-    (t : List ℕ) × Puts status t × Appends (out.words.taken out.old) (out.words.taken out.new) t
+    (t : List ℕ) × Puts status t × Appends (out.facts.taken out.old) (out.facts.taken out.new) t
 PutsFinding Puts out Cut =
-    (status : ℕ) × (t : List ℕ) × Puts status t × PutsPrefix out.words out.old out.new t
+    (status : ℕ) × (t : List ℕ) × Puts status t × PutsPrefix out.facts out.old out.new t
 PutsFinding Puts out _ = ⊥
 
 -- the exit status of a comparison: 0 if nothing differs, and otherwise 1

@@ -1,10 +1,10 @@
 -- What one call does to a sink.
 use Rattle.std.specs.Prelude.{◌≡◌, ℕ, ◌<◌, ◌≤◌, List, length, take, Result, IsTrue, IfOk, OnOk, OnErr}
 use Rattle.std.specs.Io.KnownBytes.{Appends, Keeps}
-use Rattle.dn_sink.specs.Sinks.{SinkWords}
+use Rattle.dn_sink.specs.Sinks.{SinkFacts}
 use Rattle.dn_sink.specs.declared.sink.SinkFault.{SinkFault}
 
-module _ {S : Type 0} (sink : SinkWords S) (old new : S) where
+module _ {S : Type 0} (sink : SinkFacts S) (old new : S) where
   -- the sink took the first n bytes of the piece, as far as its bytes are known. It has failed if it took none of a
   -- non-empty piece; otherwise whether it has failed did not change
   pub record Took (piece : List ℕ) (n : ℕ) : Type 0 where

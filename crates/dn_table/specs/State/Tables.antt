@@ -5,9 +5,9 @@ use Rattle.std.specs.Borrow.{Bor}
 use Rattle.std.specs.List.{AllByRecursion}
 use Rattle.std.specs.List.Sorted.{IsStrictlySortedBy}
 use Rattle.std.specs.Map.{keys_of, lookup}
-use Rattle.dn_arc.specs.State.Bundles.{BundleWords, meant, listed_of}
+use Rattle.dn_arc.specs.State.Bundles.{BundleFacts, meant, listed_of}
 use Rattle.dn_arc.specs.Kinds.{ArcKind}
-use Rattle.dn_arc.specs.State.Kinds.{AreCanonArcsOf, NeedsMore}
+use Rattle.dn_arc.specs.State.CanonArcs.{AreCanonArcsOf, NeedsMore}
 use Rattle.dn_table.specs.GraphEntries.{graph_entries}
 use Rattle.dn_arc.specs.Pairs.{bundle, pair_cmp, same_pair}
 
@@ -57,7 +57,7 @@ Stays {Arc} kind =
     (xs : List Arc) (a : Arc) → AllByRecursion kind.IsArc xs → kind.IsArc a → kind.Same (xs ++ a ∷ []) []
     → kind.Same xs []
 
-module _ {B Arc : Type 0} (bundle : BundleWords B Arc) where
+module _ {B Arc : Type 0} (bundle : BundleFacts B Arc) where
   -- the bundles represent these arcs
   abbrev pub Lists : List ((ℤ × ℤ) × B) → List ((ℤ × ℤ) × Arc) → Type 0
   Lists = TableLists bundle.kind (meant bundle)

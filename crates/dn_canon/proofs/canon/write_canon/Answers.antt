@@ -1,7 +1,6 @@
 use Rattle.std.proofs.Common.{◌∙◌, FitsSigned, w64, rules, subst, to_z-of_z}
 use Rattle.dn_arc.specs.State.CurveListed.{listed}
-use Rattle.dn_arc.specs.State.Lengths.{length_listed}
-use Rattle.dn_arc.specs.State.Capacities.{cap_listed}
+use Rattle.dn_arc.specs.State.SingleArcs.{length_listed, cap_listed}
 use Rattle.dn_arc.specs.declared.arc.Form.{Form}
 use Rattle.dn_arc.specs.State.Curves.{CurveNumbers}
 use Rattle.dn_bundle.specs.declared.least.Least.{Least}

@@ -1,7 +1,7 @@
 use Rattle.std.proofs.Common.{◌≡◌, ◌≤◌, ◌^◌, [], ◌++◌, take, length, ◌∙◌, Err, refl, sym, ap, subst, rules, arith, append-nil, length-append}
 use Rattle.std.proofs.KnownBytes.{Consumes-nil}
 use Rattle.dn_instance.specs.SourceReads.{after_pulls, unpulled, pulled}
-use Rattle.dn_instance.specs.State.Readers.{Outcome}
+use Rattle.dn_instance.specs.State.ReaderResults.{Outcome}
 use Rattle.dn_instance.specs.declared.refusal.Refusal.TheVariants.{Endless, Read}
 use Rattle.dn_instance.proofs.SourceLaws.{endless, finished, given_all, given_more, has_none, has_some, kept, kept_more, left_here, left_on, not_refused, refused, refused_unread}
 use Rattle.dn_instance.proofs.read.read_all.Goals as goal
@@ -34,7 +34,8 @@ returns-then-is_empty-clause-outcome g c =
 pub returns-then-is_empty-clause-left : goal.returns-then-is_empty-clause-left
 returns-then-is_empty-clause-left g c =
     let fed = c.loop.invariant.fed in
-    left_on _ _ _ _ fed c.pull.new.self c.finish.result c.pull.ensures.pulls (λ failed. c.in-Ok.ensures.ok.fine ∙ failed)
+    left_on _ _ _ _ fed c.pull.new.self c.finish.result c.pull.ensures.pulls
+    (λ failed. c.in-Ok.ensures.ok.fine ∙ failed)
     (λ is. absurd (subst (Outcome fed.given) is (c.finish.ensures.outcome fed.given fed.read)))
 
 pub returns-in-Err-feed-clause-prefix : goal.returns-in-Err-feed-clause-prefix

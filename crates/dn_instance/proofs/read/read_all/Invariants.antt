@@ -1,5 +1,5 @@
 use Rattle.std.proofs.Common.{◌≤◌, length}
-use Rattle.dn_instance.specs.State.SourceReads.{IsFed, IsKept}
+use Rattle.dn_instance.specs.State.SourceResults.{IsFed, IsKept}
 use Rattle.dn_instance.proofs.read.read_all.Given as goal
 
 abbrev pub invariant-loop : goal.invariant-loop

@@ -4,7 +4,7 @@ use Rattle.dn_run.specs.Answers.{IsAnswerTo, OutAfter}
 use Rattle.dn_run.specs.FilesRuns.{files_run, text_asked}
 use Rattle.dn_run.specs.Outcomes.{OnText}
 use Rattle.dn_run.specs.Runs.{Never, PutsCanon}
-use Rattle.dn_run.specs.State.Runs.{Does}
+use Rattle.dn_run.specs.State.CommandRuns.{Does}
 use Rattle.dn_run.specs.Streams.{sink_run}
 use Rattle.dn_run.specs.Texts.{IsRefusedCanon}
 use Rattle.dn_run.proofs.CommandLaws.{canon_after, canon_done, canon_refused, canon_unwritten, unwritten_answers}

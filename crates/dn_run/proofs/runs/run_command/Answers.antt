@@ -1,6 +1,6 @@
 use Rattle.std.proofs.Common.{◌≡◌, ℕ, true, false, refl, sym, ◌∙◌}
 use Rattle.dn_run.specs.Answers.{Done}
-use Rattle.dn_run.specs.State.Answers.{stopped}
+use Rattle.dn_run.specs.State.Endings.{stopped}
 use Rattle.dn_run.proofs.RefusedLaws.{not_accepted}
 use Rattle.dn_run.proofs.runs.run_command.Goals as goal
 

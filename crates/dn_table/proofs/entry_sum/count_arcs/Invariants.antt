@@ -1,5 +1,5 @@
 use Rattle.std.proofs.Common.{◌≡◌, ◌+◌, drop, length}
-use Rattle.dn_table.specs.State.GraphEntries.{entries_listed}
+use Rattle.dn_table.specs.State.ListedEntries.{entries_listed}
 use Rattle.dn_table.proofs.entry_sum.count_arcs.Given as goal
 
 -- the count so far and the arcs of the remaining bundles sum to the total

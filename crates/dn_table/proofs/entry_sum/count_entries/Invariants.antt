@@ -1,6 +1,6 @@
 use Rattle.std.proofs.Common.{◌≡◌, ◌+◌, drop}
 use Rattle.dn_arc.specs.declared.arc.Form.TheVariants.{One}
-use Rattle.dn_table.specs.State.GraphEntries.{entries_listed}
+use Rattle.dn_table.specs.State.ListedEntries.{entries_listed}
 use Rattle.dn_table.proofs.entry_sum.count_entries.Given as goal
 
 -- the count so far and the entries of the remaining bundles sum to the total

@@ -18,7 +18,8 @@ returns-in-Min c =
 pub returns-in-Max : goal.returns-in-Max
 returns-in-Max c =
     counted_by max_body Bodies.Max (λ t. refl) (λ t items h. h) (λ t items h. h) _ _
-    (table_counted Kinds.Max capacities cap_arc_in total_arcs _ _ (λ items. refl) c.entries-in-Max.ensures) _ c.in-Max.is
+    (table_counted Kinds.Max capacities cap_arc_in total_arcs _ _ (λ items. refl) c.entries-in-Max.ensures) _
+    c.in-Max.is
 
 pub returns-in-Sp : goal.returns-in-Sp
 returns-in-Sp c =
@@ -28,12 +29,14 @@ returns-in-Sp c =
 pub returns-in-Ss : goal.returns-in-Ss
 returns-in-Ss c =
     counted_by ids_body Bodies.Ss (λ t. refl) (λ t items h. h) (λ t items h. h) c.in-Ss.ids _
-    (λ items h few. (let n = c.len.ensures in let k = c.in-Ss.ids.ok in let e = ap length h in omega arith)) _ c.in-Ss.is
+    (λ items h few. (let n = c.len.ensures in let k = c.in-Ss.ids.ok in let e = ap length h in omega arith)) _
+    c.in-Ss.is
 
 pub returns-in-P2p : goal.returns-in-P2p
 returns-in-P2p c =
     counted_by pairs_body Bodies.P2p (λ t. refl) (λ t items h. h) (λ t items h. h) c.in-P2p.pairs _
-    (λ items h few. (let n = c.len-in-P2p.ensures in let k = c.in-P2p.pairs.ok in let e = ap length h in omega arith)) _ c.in-P2p.is
+    (λ items h few. (let n = c.len-in-P2p.ensures in let k = c.in-P2p.pairs.ok in let e = ap length h in omega arith))
+    _ c.in-P2p.is
 
 pub returns-in-Co : goal.returns-in-Co
 returns-in-Co c =

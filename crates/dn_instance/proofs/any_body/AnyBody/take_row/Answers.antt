@@ -12,7 +12,8 @@ few c =
 
 pub returns-in-Some-clause-taken : goal.returns-in-Some-clause-taken
 returns-in-Some-clause-taken c kind before a =
-    one_refused (any_body kind) (line_of kind) before _ _ _ (c.take_rows.ensures.taken kind before a) c.in-Some.fault c.in-Some.is
+    one_refused (any_body kind) (line_of kind) before _ _ _ (c.take_rows.ensures.taken kind before a) c.in-Some.fault
+    c.in-Some.is
     (few c)
 
 pub returns-in-Some-clause-unchanged : goal.returns-in-Some-clause-unchanged

@@ -3,7 +3,7 @@ use Rattle.dn_line.specs.declared.kind.Kind.TheVariants as Kinds
 use Rattle.dn_arc.specs.Kinds.{lengths, costs}
 use Rattle.dn_arc.specs.State.CurveListed.{listed}
 use Rattle.dn_arc.specs.State.Curves.{CurveNumbers}
-use Rattle.dn_arc.specs.State.Lengths.{length_listed}
+use Rattle.dn_arc.specs.State.SingleArcs.{length_listed}
 use Rattle.dn_arc.specs.declared.arc.Form.TheVariants.{One}
 use Rattle.dn_bundle.specs.declared.least.Least.{Least}
 use Rattle.dn_instance.specs.Items.{arcs_of, cost_arc_in, length_arc_in}

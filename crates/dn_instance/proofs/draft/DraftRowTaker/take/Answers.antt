@@ -8,4 +8,5 @@ returns-clause-taken c =
 
 pub returns-clause-unchanged : goal.returns-clause-unchanged
 returns-clause-unchanged c =
-    on_err_weaker c.take_supply.result (λ keep items h. (h.0, (keep items h.1.0, h.1.1))) c.take_supply.ensures.unchanged
+    on_err_weaker c.take_supply.result (λ keep items h. (h.0, (keep items h.1.0, h.1.1)))
+    c.take_supply.ensures.unchanged

@@ -1,7 +1,7 @@
 use Rattle.std.proofs.Common.{◌≡◌, append-nil, [], Some, ℕ, ◌≤◌, List, ◌++◌, length, take, sym, ◌∙◌, subst, arith}
 use Rattle.std.proofs.lemmas.List.{take_all}
 use Rattle.dn_instance.specs.Readers.{ended}
-use Rattle.dn_instance.specs.State.Readers.{IsRefused, lines_taken}
+use Rattle.dn_instance.specs.State.ReaderResults.{IsRefused, lines_taken}
 use Rattle.dn_instance.specs.State.ReaderStates.{StopsIn, IsReading}
 use Rattle.dn_instance.specs.Texts.{IsClean}
 use Rattle.dn_instance.specs.declared.refusal.Refusal.{Refusal}

@@ -1,5 +1,5 @@
 use Rattle.std.proofs.Common.{◌≡◌, ◌≤◌, ℕ, List, ◌++◌, length, take, ◌-◌, None}
-use Rattle.dn_instance.specs.State.Readers.{refusal_of}
+use Rattle.dn_instance.specs.State.ReaderResults.{refusal_of}
 use Rattle.dn_instance.specs.State.ReaderStates.{ReaderAt, IsReading}
 use Rattle.dn_instance.proofs.reader.Reader.feed.Given as goal
 

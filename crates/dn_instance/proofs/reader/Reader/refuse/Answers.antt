@@ -1,5 +1,5 @@
 use Rattle.std.proofs.Common.{ap, ◌∙◌}
-use Rattle.dn_instance.specs.State.Refusals.{refused_at}
+use Rattle.dn_instance.specs.State.LineRefusals.{refused_at}
 use Rattle.dn_instance.proofs.reader.Reader.refuse.Goals as goal
 
 pub returns-clause-said : goal.returns-clause-said

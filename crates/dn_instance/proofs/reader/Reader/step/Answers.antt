@@ -2,7 +2,7 @@ use Rattle.std.proofs.Common.{arith, ◌≡◌, ◌≤◌, ℕ, List, ◌++◌, 
 use Rattle.dn_line.specs.State.LineStates.{LineReaderAt, has_end, used_of, line_of}
 use Rattle.dn_line.proofs.LineReaderLaws.{open_of_line, step_follows}
 use Rattle.dn_instance.specs.Readers.{ended}
-use Rattle.dn_instance.specs.State.Readers.{IsRefused}
+use Rattle.dn_instance.specs.State.ReaderResults.{IsRefused}
 use Rattle.dn_instance.specs.State.ReaderStates.{StopsIn}
 use Rattle.dn_instance.specs.State.TextsSoFar.{TextAt}
 use Rattle.dn_instance.proofs.PieceSteps.{ended_then, goes_on}

@@ -1,6 +1,6 @@
 use Rattle.std.proofs.Common.{◌≡◌, Ok, sym, ap, ◌∙◌}
 use Rattle.dn_line.specs.Words.{said_words}
-use Rattle.dn_line.specs.State.Reading.{head_read, fields_read}
+use Rattle.dn_line.specs.State.LineReads.{head_read, fields_read}
 use Rattle.dn_instance.specs.State.Drafts.{draft_kind}
 use Rattle.dn_instance.proofs.ItemSteps.{kind_agrees}
 use Rattle.dn_instance.proofs.NextLaws.{head_refused, order_agrees, order_refused, then_fields}

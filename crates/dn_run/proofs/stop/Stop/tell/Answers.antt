@@ -1,6 +1,6 @@
 use Rattle.std.proofs.Common.{sym, subst}
 use Rattle.dn_run.specs.Answers.{Tells}
-use Rattle.dn_run.specs.State.Answers.{stopped}
+use Rattle.dn_run.specs.State.Endings.{stopped}
 use Rattle.dn_run.specs.Streams.{sink_run}
 use Rattle.dn_run.proofs.stop.Stop.tell.Goals as goal
 

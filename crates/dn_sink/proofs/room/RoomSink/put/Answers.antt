@@ -1,7 +1,7 @@
 use Rattle.std.proofs.Common.{◌≡◌, ℕ, ◌+◌, ◌-◌, ◌≤◌, List, length, take, drop, min, Bool, ap, sym, ◌∙◌, subst, arith, Ok}
 use Rattle.std.proofs.lemmas.List.{length-take-le, length-drop}
 use borrow.Rule.Slice.PartMut.{put_mid, same_len_mid}
-use Rattle.dn_sink.specs.State.Held.{Filled, room_for}
+use Rattle.dn_sink.specs.State.MemorySinks.{Filled, room_for}
 use Rattle.dn_sink.proofs.room.RoomSink.put.Goals as goal
 
 module _ (room piece mid : List ℕ) (used n : ℕ) (inv : used ≤ length room)

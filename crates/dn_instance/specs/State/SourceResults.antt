@@ -2,14 +2,14 @@
 use Rattle.std.specs.Prelude.{◌≡◌, ◌⊎◌, ℕ, ◌<◌, ◌≤◌, ◌^◌, List, ◌++◌, length, Bool, Option, Some, None, Result, Ok, Err, IfSome, IsErrOf, IsTrue}
 use Rattle.std.specs.Io.KnownBytes.{Consumes, IsAtEnd}
 use Rattle.dn_line.specs.Pieces.{lines}
-use Rattle.dn_line.specs.Sources.{SourceWords}
+use Rattle.dn_line.specs.Sources.{SourceFacts}
 use Rattle.dn_instance.specs.declared.held.Held.{Held}
 use Rattle.dn_instance.specs.declared.reader.Reader.{Reader}
 use Rattle.dn_instance.specs.declared.refusal.Place.TheVariants as Places
 use Rattle.dn_instance.specs.declared.refusal.Refusal.{Refusal}
 use Rattle.dn_instance.specs.declared.refusal.Refusal.TheVariants.{Text, Memory, Read, Endless, Write, CountTooLarge}
 use Rattle.dn_instance.specs.Readers.{ended}
-use Rattle.dn_instance.specs.State.Readers.{IsRefused, Outcome, refusal_of}
+use Rattle.dn_instance.specs.State.ReaderResults.{IsRefused, Outcome, refusal_of}
 use Rattle.dn_instance.specs.State.ReaderStates.{ReaderAt}
 use Rattle.dn_instance.specs.Texts.{IsClean, IsFirstFault}
 use Rattle.dn_instance.specs.SourceReads.{AfterPulls, CleanSoFar, PulledBytes, PulledWhileClean, after_pulls}
@@ -58,13 +58,13 @@ SourceOutcome t left (Err Write) = ⊥
 SourceOutcome t left (Err CountTooLarge) = ⊥
 
 -- what reading a source returns, if the bytes of the source are known
-abbrev pub ReadsSource : {S : Type 0} → SourceWords S → S → S → Result Held Refusal → Type 0
+abbrev pub ReadsSource : {S : Type 0} → SourceFacts S → S → S → Result Held Refusal → Type 0
 ReadsSource source old new result =
     IfSome (source.gives old) (λ t. SourceOutcome t (after_pulls source old new) result)
 
 -- how reading leaves a source: the source has failed if the result is `Read`, it has failed if it had failed before,
 -- and it was pulled only while no complete line of the bytes given had a fault
-pub record SourceLeft {S A : Type 0} (source : SourceWords S) (old new : S) (result : Result A Refusal) : Type 0 where
+pub record SourceLeft {S A : Type 0} (source : SourceFacts S) (old new : S) (result : Result A Refusal) : Type 0 where
   pub read : IsErrOf result Read → IsTrue (source.has_failed new)
   pub stays : IsTrue (source.has_failed old) → IsTrue (source.has_failed new)
   pub pulls : PulledWhileClean source old new
@@ -100,7 +100,7 @@ CopyOutcome t left old_copy new_copy (Err Memory) =
 CopyOutcome t left old_copy new_copy result = SourceOutcome t left result × Copied t left.gives old_copy new_copy
 
 -- what reading a source with a copy returns, if the bytes of the source are known
-abbrev pub CopiesSource : {S : Type 0} → SourceWords S → S → S → List ℕ → List ℕ → Result Held Refusal → Type 0
+abbrev pub CopiesSource : {S : Type 0} → SourceFacts S → S → S → List ℕ → List ℕ → Result Held Refusal → Type 0
 CopiesSource source old new old_copy new_copy result =
     IfSome (source.gives old) (λ t. CopyOutcome t (after_pulls source old new) old_copy new_copy result)
 
@@ -114,7 +114,7 @@ HoldsCopied old_copy new_copy held = (t : List ℕ) × Outcome t (Ok held) × (n
 
 -- pulls changed the source from `old` to `new`, and each of them gave at least one byte; the reader has read the bytes
 -- that they gave, and has no refusal
-pub record IsFed {S : Type 0} (source : SourceWords S) (old new : S) (r : Reader) : Type 0 where
+pub record IsFed {S : Type 0} (source : SourceFacts S) (old new : S) (r : Reader) : Type 0 where
   pub given : List ℕ
   pub gave : Consumes (source.gives old) (source.gives new) given
   pub pulls : PulledBytes source old new

@@ -1,6 +1,6 @@
 -- What reading a text that a run asks for returns.
 use Rattle.std.specs.Prelude.{◌≡◌, ℕ, List, None, Result, Ok, Err, OnOk, IsErrOf, IfOk, IfSome}
-use Rattle.dn_instance.specs.State.SourceReads.{HoldsSome}
+use Rattle.dn_instance.specs.State.SourceResults.{HoldsSome}
 use Rattle.dn_instance.specs.State.Helds.{IsHeld, parsed}
 use Rattle.dn_instance.specs.Instances.{Instance}
 use Rattle.dn_instance.specs.Texts.{Reads}
