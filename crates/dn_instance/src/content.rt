@@ -1,11 +1,10 @@
 // What a parsed instance holds, by kind.
 ghost use Rattle.std.specs.Prelude.{◌≡◌, ◌<◌, ◌^◌};
 ghost use Rattle.dn_instance.specs.State.InstanceEntries.{entries_of};
-ghost use Rattle.dn_instance.specs.State.Helds.{contents_kind, pair_count, Shows, contents_of, viewed};
+ghost use Rattle.dn_instance.specs.State.Helds.{contents_kind, pair_count, Shows, contents_of};
 ghost use Rattle.dn_instance.specs.Instances.{Instance};
 ghost use Rattle.dn_instance.specs.Validity.{IsValid};
 
-use crate::view::View;
 use dn_bundle::{Curve, Least, Total};
 use dn_line::Kind;
 use dn_table::Table;
@@ -67,28 +66,6 @@ impl Content {
             Content::Ss(ids) => ids.len() as u64,
             Content::P2p(pairs) => pairs.len() as u64,
             Content::Co(points) => points.len() as u64,
-        }
-    }
-
-    // Returns a view of the content.
-    pub(crate) fn view(&self) -> View<'_>
-        ensures { viewed result ≡ contents_of self.now }
-    {
-        match self {
-            Content::Min { supplies, table } => View::Min { supplies, table },
-            Content::Max {
-                source,
-                sink,
-                table,
-            } => View::Max {
-                source: *source,
-                sink: *sink,
-                table,
-            },
-            Content::Sp(table) => View::Sp { table },
-            Content::Ss(items) => View::Ss { items },
-            Content::P2p(items) => View::P2p { items },
-            Content::Co(points) => View::Co { points },
         }
     }
 }

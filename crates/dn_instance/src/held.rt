@@ -76,6 +76,21 @@ impl Held {
     pub fn view(&self) -> View<'_>
         ensures { viewed result ≡ (parsed self.now).contents }
     {
-        self.content.view()
+        match &self.content {
+            Content::Min { supplies, table } => View::Min { supplies, table },
+            Content::Max {
+                source,
+                sink,
+                table,
+            } => View::Max {
+                source: *source,
+                sink: *sink,
+                table,
+            },
+            Content::Sp(table) => View::Sp { table },
+            Content::Ss(items) => View::Ss { items },
+            Content::P2p(items) => View::P2p { items },
+            Content::Co(points) => View::Co { points },
+        }
     }
 }
