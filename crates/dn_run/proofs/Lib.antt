@@ -3,3 +3,4 @@ pub mod OutcomeLaws
 pub mod CompareLaws
 pub mod CommandLaws
 pub mod RefusedLaws
+pub mod RunLaws

@@ -1,15 +1,14 @@
 // A run of the program, over any files and any streams.
 ghost use Rattle.std.specs.Prelude.{◌≡◌, ◌≤◌, map, string_bytes};
-ghost use Rattle.dn_command.specs.Commands.{asks};
 ghost use Rattle.dn_run.specs.Answers.{OutByStatus};
 ghost use Rattle.dn_run.specs.FilesRuns.{files_run};
 ghost use Rattle.dn_run.specs.Streams.{TakesLine, sink_run};
-ghost use Rattle.dn_run.specs.Words.{AskedRun, PrintsText, Ran, bad_command_line};
+ghost use Rattle.dn_run.specs.Words.{PrintsText, Ran, bad_command_line};
 
 use crate::commands::perform;
 use crate::files::Files;
 use crate::stop::Stop;
-use dn_command::{Command, Request, request_of};
+use dn_command::{Request, request_of};
 use dn_instance::Refusal;
 use dn_report::put_fault_line;
 use dn_sink::{Sink, put_all, put_and_flush};
@@ -31,7 +30,17 @@ pub fn run<F: Files, O: Sink, E: Sink>(
         (sink_run O.sink (out.old, out.new)) (sink_run E.sink (err.old, err.new)) result }
 {
     match request_of(alloc, words) {
-        Request::Command(command) => run_command(alloc, &command, files, out, err),
+        Request::Command(command) if command.names_standard_input_twice() => {
+            let _ = put_all(err, b"dnorm: standard input named twice\n");
+            3
+        }
+        Request::Command(command) => match perform(alloc, &command, files, out) {
+            Ok(status) => status,
+            Err(stop) => {
+                stop.tell(err);
+                stop.status()
+            }
+        },
         Request::Print(text) => print(&text, out, err),
         Request::Bad => refuse_words(err),
         Request::Memory => {
@@ -48,34 +57,6 @@ pub fn refuse_words<E: Sink>(err: &mut E) -> u8
 {
     let _ = put_all(err, b"dnorm: bad command line\n");
     3
-}
-
-// Runs a command, and returns the exit status.
-fn run_command<F: Files, O: Sink, E: Sink>(
-    alloc: Global,
-    command: &Command<'_>,
-    files: &mut F,
-    out: &mut O,
-    err: &mut E,
-) -> u8
-    ensures status { result ≤ 4 }
-    ensures asked { AskedRun
-        (files_run F.files F.Text.source (files.old, files.new))
-        (sink_run O.sink (out.old, out.new)) (sink_run E.sink (err.old, err.new))
-        (asks command.now) result }
-    ensures out { OutByStatus (sink_run O.sink (out.old, out.new)) result }
-{
-    if command.names_standard_input_twice() {
-        let _ = put_all(err, b"dnorm: standard input named twice\n");
-        return 3;
-    }
-    match perform(alloc, command, files, out) {
-        Ok(status) => status,
-        Err(stop) => {
-            stop.tell(err);
-            stop.status()
-        }
-    }
 }
 
 // Puts a text on `out`, and returns the exit status.

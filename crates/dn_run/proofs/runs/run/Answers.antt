@@ -1,22 +1,22 @@
-use Rattle.std.proofs.Common.{◌≡◌, ℕ, rules, refl, subst}
-use Rattle.dn_command.specs.Commands.{Asked}
-use Rattle.dn_command.specs.declared.request.Request.TheVariants.{Command, Memory}
-use Rattle.dn_run.specs.FilesRuns.{FilesRun}
-use Rattle.dn_run.specs.Streams.{SinkRun}
-use Rattle.dn_run.specs.Words.{AskedRun}
+use Rattle.std.proofs.Common.{Err, refl, rules, sym, ◌∙◌}
+use Rattle.dn_command.specs.declared.request.Request.TheVariants.{Memory}
+use Rattle.dn_run.proofs.RunLaws.{ran, refused_twice, run_once}
 use Rattle.dn_run.proofs.runs.run.Goals as goal
 
--- a run that does what a command asks for does what is asked for
-asked_for : {F T S E : Type 0} (files : FilesRun F T) (out : SinkRun S) (err : SinkRun E) (number : ℕ) (a b : Asked)
-    → a ≡ b → AskedRun files out err a number → AskedRun files out err b number
-asked_for files out err number a b is ran = subst (λ x. AskedRun files out err x number) is ran
-
 pub returns-in-Command-clause-ran : goal.returns-in-Command-clause-ran
-returns-in-Command-clause-ran g c = record {
-  asked = λ asked plain. asked_for _ _ _ _ _ _ (c.in-Command.ensures.plain asked plain) c.run_command.ensures.asked;
-  other = λ none. (Command c.in-Command.command, c.in-Command.ensures.other none, c.run_command.ensures.asked);
-  out_by_status = c.run_command.ensures.out;
-}
+returns-in-Command-clause-ran g c =
+    ran _ _ _ _ c.in-Command.command 3 c.in-Command.ensures.plain c.in-Command.ensures.other
+    (refused_twice _ _ _ _ (sym c.names_standard_input_twice.ensures ∙ c.if-names_standard_input_twice.true)
+    (record { status_is = refl; files_stay = refl; out_stays = refl; tells = (c.put_all.result, c.put_all.ensures) }))
+    (search rules)
+
+pub returns-in-Err-clause-ran : goal.returns-in-Err-clause-ran
+returns-in-Err-clause-ran g c =
+    ran _ _ _ _ c.in-Command.command c.status.result c.in-Command.ensures.plain c.in-Command.ensures.other
+    (run_once _ _ _ _ _ _ _ (Err c.in-Err.stop) c.status.result
+    (sym c.names_standard_input_twice.ensures ∙ c.if-names_standard_input_twice.false) c.in-Err.ensures c.status.ensures
+    c.tell.ensures)
+    (search rules)
 
 pub returns-in-Memory-clause-ran : goal.returns-in-Memory-clause-ran
 returns-in-Memory-clause-ran g c = record {
