@@ -15,16 +15,14 @@ one_way : (xs ys : List CostArc) → AreOrdered xs → AreOrdered ys → IsSameF
     → LeastCost ys x k
 one_way xs ys o p s x k l =
     let f = filling_of_least xs x k o l in
-    let high = f.high in
-    let units = s.units in
-    let more = ap (λ z. x -ℤ z) units in
+    let more = ap (λ z. x -ℤ z) s.units in
     least_of_filling ys x k p (record {
       low = omega (arith, ints);
       high = omega (arith, ints);
       cost =
           f.cost ∙ ap (λ z. z +ℤ fill_cost xs (x -ℤ forced_units xs)) s.cost
           ∙ ap (λ z. forced_cost ys +ℤ z)
-          (s.each (x -ℤ forced_units xs) (omega (arith, ints)) high ∙ ap (fill_cost ys) more);
+          (s.each (x -ℤ forced_units xs) (omega (arith, ints)) f.high ∙ ap (fill_cost ys) more);
     })
 
 flip : (xs ys : List CostArc) → IsSameFill xs ys → IsSameFill ys xs

@@ -164,13 +164,12 @@ pub reach : (arcs : List CostArc) (z : ℤ) → AreOrdered arcs → pos 0 ≤ℤ
     → AtMost arcs (forced_units arcs +ℤ z) (forced_cost arcs +ℤ fill_cost arcs z)
 reach [] z o l u = record { amount = omega (arith, ints); within = ≤ℤ_refl _ }
 reach (a ∷ rest) z o l u =
-    let some = o.0.room in
     by_lt_z (room a) z
     (λ past. record {
       share = a.cap;
       other = forced_units rest +ℤ (z -ℤ room a);
       spent = forced_cost rest +ℤ fill_cost rest (z -ℤ room a);
-      low_is = some;
+      low_is = o.0.room;
       cap_is = ≤ℤ_refl _;
       amount = omega (arith, ints);
       within = past_reach a.cost a.low a.cap (forced_cost rest) _ _ (fill_high a rest z past);

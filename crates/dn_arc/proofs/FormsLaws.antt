@@ -88,8 +88,7 @@ free_apart : (free : List CostArc) → AllByRecursion IsFreeArc free → IsApart
 free_apart [] f = record { units = refl; cost = refl; room = refl; fill = λ y h. refl }
 free_apart (a ∷ rest) f =
     let i = free_apart rest f.1 in
-    let none = f.0.none in
-    let p = ap (λ z. a.cost *ℤ z) none in
+    let p = ap (λ z. a.cost *ℤ z) f.0.none in
     record { units = omega (arith, ints); cost = omega (arith, ints); room = refl; fill = λ y h. refl }
 
 none_past : (p u fx f1 f2 : ℤ) → u ≡ pos 0 → fx ≡ (p *ℤ u) +ℤ f1 → f1 ≡ f2 → fx ≡ f2

@@ -162,16 +162,13 @@ join_one : (a : CostArc) (free : List CostArc) → IsFixedArc a → AllByRecursi
 join_one a free f m r n =
     let l = joined_low a free f.some m (rw n tt) in
     let is : filter has_low (join_arc a free) ≡ l.arc ∷ [] = l.is ∙ ap (λ x. l.arc ∷ x) n in
-    let u = joined_units a free in
-    let c = joined_cost a free in
-    let k = joined_cap a free in
     record {
       each = joined_mixed a free f m;
       rising = joined_rising a free r;
       near = rw is tt;
-      units = omega (arith, ints);
-      cost = omega (arith, ints);
-      cap = omega (arith, ints);
+      units = omega (arith, ints, joined_units a free);
+      cost = omega (arith, ints, joined_cost a free);
+      cap = omega (arith, ints, joined_cap a free);
       parts = joined_free a free f.full;
     }
 
@@ -185,16 +182,13 @@ join_two a b free f g e m r n =
     let is : filter has_low arcs ≡ l.arc ∷ [] = l.is ∙ ap (λ x. l.arc ∷ x) n in
     let k = joined_low a arcs f.some i.each (rw is (omega (arith, ints), tt)) in
     let both : filter has_low (join_arc a arcs) ≡ k.arc ∷ l.arc ∷ [] = k.is ∙ ap (λ x. k.arc ∷ x) is in
-    let u = joined_units a arcs in
-    let c = joined_cost a arcs in
-    let p = joined_cap a arcs in
     record {
       each = joined_mixed a arcs f i.each;
       rising = joined_rising a arcs i.rising;
       near = rw both (omega (arith, ints));
-      units = omega (arith, ints);
-      cost = omega (arith, ints);
-      cap = omega (arith, ints);
+      units = omega (arith, ints, joined_units a arcs);
+      cost = omega (arith, ints, joined_cost a arcs);
+      cap = omega (arith, ints, joined_cap a arcs);
       parts = joined_free a arcs f.full ∙ i.parts;
     }
 

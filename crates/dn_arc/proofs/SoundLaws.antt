@@ -74,10 +74,9 @@ numbers_fit : (arcs : List CostArc) → AllByRecursion IsCostArc arcs → cost_c
     → NumbersFit costs arcs
 numbers_fit [] h m f = tt
 numbers_fit (a ∷ rest) h m f =
-    let low = h.0.some in
     let left = caps_some rest h.1 in (
       (
-        fits_some a.low low (omega (arith, ints)),
+        fits_some a.low h.0.some (omega (arith, ints)),
         (fits_some a.cap (omega (arith, ints)) (omega (arith, ints)), (f.0, tt)),
       ),
       numbers_fit rest h.1

@@ -88,46 +88,31 @@ one_share low cost R x (inr b) = inr (
       rest = b.1.at;
     };
     least = λ j s.
-        let w = s.within in
         let is_low : s.share ≡ low = omega (arith, ints) in
         let same : s.other ≡ x -ℤ low = omega (arith, ints) in
         let h = b.1.least s.spent (rw same at s.rest) in
-        omega (arith, ints, rw is_low at w);
+        omega (arith, ints, rw is_low at s.within);
   },
 )
+
+-- a cost that is at most each cost of both relations is the least
+lesser : (P Q R : ℤ → ℤ → Type 0) (x a : ℤ) → R x a → ((k : ℤ) → R x k → P x k ⊎ Q x k)
+    → ((j : ℤ) → P x j → a ≤ℤ j) → ((j : ℤ) → Q x j → a ≤ℤ j) → Found R x
+lesser P Q R x a at h p q =
+    inr (a, record { at = at; least = λ j r. elim (h j r) [ inl s ↦ p j s | inr s ↦ q j s ] })
 
 -- the lesser of two least costs
 best_of : (P Q R : ℤ → ℤ → Type 0) (x : ℤ) → ((k : ℤ) → P x k → R x k) → ((k : ℤ) → Q x k → R x k)
     → ((k : ℤ) → R x k → P x k ⊎ Q x k) → Found P x → Found Q x → Found R x
 best_of P Q R x f g h (inl never) (inl none) = inl (λ k r. elim (h k r) [ inl p ↦ never k p | inr q ↦ none k q ])
 best_of P Q R x f g h (inl never) (inr b) =
-    inr (
-      b.0,
-      record
-          { at = g b.0 b.1.at; least = λ j r. elim (h j r) [ inl p ↦ absurd (never j p) | inr q ↦ b.1.least j q ] },
-    )
+    lesser P Q R x b.0 (g b.0 b.1.at) h (λ j p. absurd (never j p)) b.1.least
 best_of P Q R x f g h (inr a) (inl none) =
-    inr (
-      a.0,
-      record
-          { at = f a.0 a.1.at; least = λ j r. elim (h j r) [ inl p ↦ a.1.least j p | inr q ↦ absurd (none j q) ] },
-    )
+    lesser P Q R x a.0 (f a.0 a.1.at) h a.1.least (λ j q. absurd (none j q))
 best_of P Q R x f g h (inr a) (inr b) =
     by_lt_z a.0 b.0
-    (λ lt. inr (
-      a.0,
-      record {
-        at = f a.0 a.1.at;
-        least = λ j r. elim (h j r) [ inl p ↦ a.1.least j p | inr q ↦ (omega (arith, ints, b.1.least j q)) ];
-      },
-    ))
-    (λ le. inr (
-      b.0,
-      record {
-        at = g b.0 b.1.at;
-        least = λ j r. elim (h j r) [ inl p ↦ (omega (arith, ints, a.1.least j p)) | inr q ↦ b.1.least j q ];
-      },
-    ))
+    (λ lt. lesser P Q R x a.0 (f a.0 a.1.at) h a.1.least (λ j q. omega (arith, ints, b.1.least j q)))
+    (λ le. lesser P Q R x b.0 (g b.0 b.1.at) h (λ j p. omega (arith, ints, a.1.least j p)) b.1.least)
 
 wider : (l c m d p : ℤ) (R : ℤ → ℤ → Type 0) → m ≤ℤ l → c ≤ℤ d → (x k : ℤ) → Share l c p R x k → Share m d p R x k
 wider l c m d p R h g x k s = same_share s (omega (arith, ints)) (omega (arith, ints)) s.amount s.within s.rest
@@ -135,8 +120,6 @@ wider l c m d p R h g x k s = same_share s (omega (arith, ints)) (omega (arith, 
 cut : (low mid cap cost : ℤ) (R : ℤ → ℤ → Type 0) (x k : ℤ) → Share low cap cost R x k
     → Share low mid cost R x k ⊎ Share (mid +ℤ pos 1) cap cost R x k
 cut low mid cap cost R x k s =
-    let u = s.low_is in
-    let v = s.cap_is in
     by_lt_z mid s.share (λ lt. inr (same_share s (omega (arith, ints)) s.cap_is s.amount s.within s.rest))
     (λ le. inl (same_share s s.low_is le s.amount s.within s.rest))
 

@@ -78,18 +78,13 @@ module _ (units cost total : ℤ) (steps : List (ℤ × ℤ)) (a : CostArc) (s :
   -- if the curve needs memory for the arc, so do the arcs that it lists
   pub needs_more : NeedsRoom units cost steps a → NeedsMore costs (listed One units cost steps) a
   needs_more (forced none low) =
-      let p = entries_listed units cost total steps s in
-      let q = entries_next in
-      let i = forced_new units a.low none low in
-      let j = length_grows in
-      inl (omega (arith, p, q, i, j))
+      let old = entries_listed units cost total steps s in
+      inl (omega (arith, old, entries_next, forced_new units a.low none low, length_grows))
   needs_more (free room new) =
-      let p = entries_listed units cost total steps s in
-      let q = entries_next in
-      let i = forced_grows units a.low h.some in
-      let j : length next ≡ suc (length steps) =
+      let old = entries_listed units cost total steps s in
+      let longer : length next ≡ suc (length steps) =
       rw (test_yes (pos 0) (a.cap -ℤ a.low) room, length_put steps rest s.rising, new) in
-      inl (omega (arith, p, q, i, j))
+      inl (omega (arith, old, entries_next, forced_grows units a.low h.some, longer))
   needs_more (more some low other) =
       let n = none_is units cost total steps s in
       let l = listed_units units cost steps s.some n s.rising in

@@ -179,11 +179,10 @@ module _ (amount cost : ℤ) (l r : ℤ × ℤ) (left right : List (ℤ × ℤ))
 
   left_first : l.0 ≡ r.0 → l.1 <ℤ r.1 → IsFirstGap amount cost (l ∷ left) (r ∷ right) left_ends
   left_first e h =
-      let some = sl.0 in
       let rest : AreSteps (cut l.1 r ∷ right) = (omega (arith, ints), sr.1, sr.2) in
       later amount cost (l ∷ left) (r ∷ right) (amount +ℤ l.1) (cost +ℤ (l.1 *ℤ l.0)) left (cut l.1 r ∷ right)
       (omega (arith, ints))
-      (past_same amount cost l left some)
+      (past_same amount cost l left sl.0)
       (λ x u. rw e (cut_same amount cost r right sr.2 l.1 (omega (arith, ints)) h x u))
       (λ x u k. (
         here_same amount cost l r left right sl.2 sr.2 e x k (omega (arith, ints)) (omega (arith, ints)),
@@ -195,12 +194,11 @@ module _ (amount cost : ℤ) (l r : ℤ × ℤ) (left right : List (ℤ × ℤ))
 
   right_first : l.0 ≡ r.0 → r.1 <ℤ l.1 → IsFirstGap amount cost (l ∷ left) (r ∷ right) right_ends
   right_first e h =
-      let some = sr.0 in
       let rest : AreSteps (cut r.1 l ∷ left) = (omega (arith, ints), sl.1, sl.2) in
       later amount cost (l ∷ left) (r ∷ right) (amount +ℤ r.1) (cost +ℤ (r.1 *ℤ r.0)) (cut r.1 l ∷ left) right
       (omega (arith, ints))
       (λ x u. rw (← e) (cut_same amount cost l left sl.2 r.1 (omega (arith, ints)) h x u))
-      (past_same amount cost r right some)
+      (past_same amount cost r right sr.0)
       (λ x u k. (
         here_same amount cost l r left right sl.2 sr.2 e x k (omega (arith, ints)) (omega (arith, ints)),
         here_same amount cost r l right left sr.2 sl.2 (sym e) x k (omega (arith, ints)) (omega (arith, ints)),
@@ -214,9 +212,8 @@ module _ (amount cost : ℤ) (l r : ℤ × ℤ) (left right : List (ℤ × ℤ))
   both_end e f None s = let same : l ≡ r = ap (λ z. (z, l.1)) e ∙ ap (λ z. (r.0, z)) f in
       rw (same, s)
   both_end e f (Some g) i =
-      let some = sl.0 in
       later amount cost (l ∷ left) (r ∷ right) (amount +ℤ l.1) (cost +ℤ (l.1 *ℤ l.0)) left right (omega (arith, ints))
-      (past_same amount cost l left some)
+      (past_same amount cost l left sl.0)
       (rw (e, f) (past_same amount cost r right sr.0))
       (λ x u k. (
         here_same amount cost l r left right sl.2 sr.2 e x k (omega (arith, ints)) (omega (arith, ints)),

@@ -56,9 +56,8 @@ module _ (units cost total : ℤ) (steps : List (ℤ × ℤ)) (s : IsSound units
       filling_of_least (listed One units cost steps) x k
       (form_one_ordered _ (listed_one units cost steps s.some n s.rising)) l in
       let u = listed_units units cost steps s.some n s.rising in
-      let r = same_room in
       let under : units ≤ℤ x = omega (arith, ints) in
-      record { low = under; high = omega (arith, ints); is = f.cost ∙ same_cost x under }
+      record { low = under; high = omega (arith, ints, same_room); is = f.cost ∙ same_cost x under }
 
   pub at_least : (x k : ℤ) → IsAt units cost steps x k → LeastCost (listed One units cost steps) x k
   at_least x k p =
@@ -156,9 +155,8 @@ module _ (units cost : ℤ) (steps : List (ℤ × ℤ)) (x taken spent : ℤ) (l
 
   pub next_fits : FitsSigned w128 (spent +ℤ (step.1 *ℤ step.0))
   next_fits =
-      let some = here.rising.0 in
-      let m = here.most in
-      let left = steps_some rest here.rising.2 in
+      let h = here in
+      let left = steps_some rest h.rising.2 in
       more_fits spent step.1 step.0 taken t.some (omega (arith, ints)) (omega (arith, ints)) f0 t.mean
 
   pub next : (r : ℤ) → FitsSigned w128 r → le_z (to_z w64 (of_z w64 (x -ℤ taken))) (to_z w64 (of_z w64 step.1)) ≡ false
@@ -168,9 +166,7 @@ module _ (units cost : ℤ) (steps : List (ℤ × ℤ)) (x taken spent : ℤ) (l
   next r fr h v =
       let p = past (x -ℤ taken) step.1 f1 (rw left_is at h) in
       let some = here.rising.0 in
-      let low = t.some in
       let m = here.most in
-      let mx = most x fx in
       let left = steps_some rest here.rising.2 in
       let over : (taken +ℤ step.1) <ℤ x = omega (arith, ints) in
       let new : IsTaken units cost steps x (taken +ℤ step.1) (spent +ℤ (step.1 *ℤ step.0)) rest = record {

@@ -77,7 +77,8 @@ impl RowTaker for Vec<i64> {
 
     fn take(&mut self, _alloc: Global, _nodes: &i64, row: &Row) -> Result<(), ItemFault> {
         take_source(self, &row.first)
-    }}
+    }
+}
 
 impl RowTaker for Vec<(i64, i64)> {
     ghost taker = { pairs_body };
@@ -86,7 +87,8 @@ impl RowTaker for Vec<(i64, i64)> {
 
     fn take(&mut self, _alloc: Global, _nodes: &i64, row: &Row) -> Result<(), ItemFault> {
         take_query(self, (row.first, row.second))
-    }}
+    }
+}
 
 impl RowTaker for BTreeMap<i64, (i64, i64)> {
     ghost taker = { points_body };
@@ -95,7 +97,8 @@ impl RowTaker for BTreeMap<i64, (i64, i64)> {
 
     fn take(&mut self, _alloc: Global, _nodes: &i64, row: &Row) -> Result<(), ItemFault> {
         take_point(self, &row.first, (row.second, row.third))
-    }}
+    }
+}
 
 // A bundle of the arcs of one kind of text, each of which a row spells.
 pub(crate) trait RowBundle: Bundle {
@@ -123,7 +126,8 @@ impl<B: RowBundle> RowTaker for TableSoFar<B> {
     #[inline(always)]
     fn look_ahead(&mut self, alloc: Global, rows: &[RowLine]) {
         ahead::look_ahead(self, alloc, rows)
-    }}
+    }
+}
 
 impl RowBundle for Least {
     ghost text = { Kind.Sp };

@@ -325,10 +325,10 @@ some_points : (xs ys : List (ℤ × (ℤ × ℤ))) → IsValid (Coordinates xs) 
     → AnyVerdict (Coordinates xs) (Coordinates ys)
 some_points xs ys g h = elim (least_id xs ys (λ a b. a ≡ b) (λ a b. a ≢ b) same_point_or_not refl) [
   | inl all ↦ (
-      Verdicts.Same,
-      same_first (Coordinates xs) (Coordinates ys)
-          (same_entries int_cmp int_cmp_total exact_signed xs ys g.map h.map all),
-    )
+    Verdicts.Same,
+    same_first (Coordinates xs) (Coordinates ys)
+        (same_entries int_cmp int_cmp_total exact_signed xs ys g.map h.map all),
+  )
   | inr l ↦ (Verdicts.Point l.0, points_first xs ys l.0 (record { differ = l.1; same_before = l.2 }))
 ]
 

@@ -8,9 +8,8 @@ use Rattle.dn_bundle.proofs.curve.Curve.least.Goals as goal
 pub returns-then-x-units : goal.returns-then-x-units
 returns-then-x-units c = λ k l.
     let self = c.args.self.now in
-    let is = c.units-units.ensures in
     too_little self.units self.cost self.steps c.args.x k
-    (rw (← is) (less c.args.x c.units-units.result (search rules) (search rules) c.if-x-units.true))
+    (rw (← c.units-units.ensures) (less c.args.x c.units-units.result (search rules) (search rules) c.if-x-units.true))
     (least_at self.units self.cost self.total self.steps self.sound c.args.x k l)
 
 pub more_cost-requires : goal.more_cost-requires

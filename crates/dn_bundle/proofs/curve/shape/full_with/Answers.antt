@@ -21,13 +21,12 @@ add-requires-clause-sound c =
 
 pub add-requires-clause-total : goal.add-requires-clause-total
 add-requires-clause-total c =
-    let low = c.args.low in
     let step = c.args.step in
     let units = c.from-units.result in
     let cost = c.cost_of.result in
     to_z-of_z w64 c.args.total c.ranges.total ∙ c.requires.total
     ∙ ap (λ z. z +ℤ c.args.arc.cap)
-    (sym (made_total low step units cost c.requires.sound c.from-units.ensures c.cost_of.ensures (search rules)
+    (sym (made_total c.args.low step units cost c.requires.sound c.from-units.ensures c.cost_of.ensures (search rules)
     (search rules) (search rules)))
 
 pub returns : goal.returns

@@ -45,9 +45,8 @@ returns-in_default-one-clause-ok g c =
 pub invariant_of-self : goal.invariant_of-self
 invariant_of-self g c =
     let e : (ℤ × ℤ) × g.row.B.Denot = (c.args.pair, c.in-Some.bundle) in
-    let es = c.self.inside.entries.items in
     let grown = c.push_reserved.ensures.items ∙ ap (λ xs. xs ++ e ∷ []) c.reserve.ensures.items in
-    rw (ap keys_of grown ∙ map-append (λ (x : (ℤ × ℤ) × g.row.B.Denot). x.0) es (e ∷ []))
+    rw (ap keys_of grown ∙ map-append (λ (x : (ℤ × ℤ) × g.row.B.Denot). x.0) c.self.inside.entries.items (e ∷ []))
     (rw (← c.deref.ensures.value) (c.is_next.ensures.stays c.if-not-is_next.false))
 
 pub returns-in-Ok-reserve-clause-ok : goal.returns-in-Ok-reserve-clause-ok

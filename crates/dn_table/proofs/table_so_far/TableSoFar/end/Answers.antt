@@ -7,10 +7,9 @@ use Rattle.dn_table.proofs.table_so_far.TableSoFar.end.Goals as goal
 
 pub returns-clause-kept : goal.returns-clause-kept
 returns-clause-kept g c pair =
-    let es = c.self.inside.entries.items in
     let fs = c.sort.new.entries in
     let now = with_items_is c.self.inside.entries fs (c.sort.auto.entries ∙ c.deref_mut.ensures.len) in
     ap (lookup (same_pair pair)) (c.of.ensures ∙ now)
-    ∙ lookups_still es fs (rw c.deref_mut.ensures.value at c.sort.ensures.moved)
+    ∙ lookups_still c.self.inside.entries.items fs (rw c.deref_mut.ensures.value at c.sort.ensures.moved)
     c.self.invariant.apart pair
     ∙ ap (lookup (same_pair pair)) c.self.view_is

@@ -29,18 +29,16 @@ push_reserved-requires g c = c.in-Ok.ensures.room
 
 pub returns-in-Ok-clause-there : goal.returns-in-Ok-clause-there
 returns-in-Ok-clause-there g c =
-    let es = c.self.inside.entries.items in
     let fs = c.note_next.new.entries.items in
     ap (lookup (same_pair c.args.pair)) c.push_reserved.ensures.items
     ∙ push_found (same_pair c.args.pair) (c.args.pair, c.args.bundle) fs
-    (lookups_still es fs c.note_next.ensures.moved c.self.invariant.apart c.args.pair
+    (lookups_still c.self.inside.entries.items fs c.note_next.ensures.moved c.self.invariant.apart c.args.pair
     ∙ ap (lookup (same_pair c.args.pair)) c.self.view_is ∙ c.requires) (pair_self c.args.pair)
 
 pub returns-in-Ok-clause-others : goal.returns-in-Ok-clause-others
 returns-in-Ok-clause-others g c q other =
-    let es = c.self.inside.entries.items in
     let fs = c.note_next.new.entries.items in
     ap (lookup (same_pair q)) c.push_reserved.ensures.items
     ∙ push_other (same_pair q) (c.args.pair, c.args.bundle) fs (other_pair c.args.pair q other)
-    ∙ lookups_still es fs c.note_next.ensures.moved c.self.invariant.apart q
+    ∙ lookups_still c.self.inside.entries.items fs c.note_next.ensures.moved c.self.invariant.apart q
     ∙ ap (lookup (same_pair q)) c.self.view_is

@@ -5,8 +5,7 @@ use Rattle.pair_index.proofs.index.PairIndex.is_next.Goals as goal
 pub returns-in-Runs-clause-stays : goal.returns-in-Runs-clause-stays
 returns-in-Runs-clause-stays g c is =
     let keys = keys_of c.args.entries.now in
-    let p = c.args.pair.now in
     record {
-      apart = apart_more keys p c.requires.apart (c.is_next.ensures.fresh is);
+      apart = apart_more keys c.args.pair.now c.requires.apart (c.is_next.ensures.fresh is);
       shows = rw c.in-Runs.is (c.is_next.ensures.stays is);
     }

@@ -20,19 +20,17 @@ returns-in-Runs-clause-taken g c is =
 pub returns-else-not-stays-clause-taken : goal.returns-else-not-stays-clause-taken
 returns-else-not-stays-clause-taken g c is =
     let keys = keys_of c.args.entries.now in
-    let p = c.args.pair.now in
     record {
-      apart = apart_more keys p c.requires.indexed.apart c.requires.fresh;
+      apart = apart_more keys c.args.pair.now c.requires.indexed.apart c.requires.fresh;
       shows = rw is at c.take-in-Tails.ensures.taken refl;
     }
 
 pub returns-in-Chained-clause-taken : goal.returns-in-Chained-clause-taken
 returns-in-Chained-clause-taken g c is =
     let keys = keys_of c.args.entries.now in
-    let p = c.args.pair.now in
     let taken : c.take-in-Chained.result ≡ true = cc in
     record {
-      apart = apart_more keys p c.requires.indexed.apart c.requires.fresh;
+      apart = apart_more keys c.args.pair.now c.requires.indexed.apart c.requires.fresh;
       shows =
           c.take-in-Chained.ensures.taken taken keys
           (rw c.in-Chained.is at c.requires.indexed.shows);

@@ -5,10 +5,9 @@ use Rattle.pair_index.proofs.runs.Runs.find_in_group.Goals as goal
 
 pub find-requires : goal.find-requires
 find-requires g c =
-    let runs = c.args.self.now in
     let keys = keys_of c.args.entries.now in
     let linked = rw c.in-Linked.is at c.requires.shows in
-    group_linked runs.begin c.args.entries.now c.in-Linked.chains linked.1
+    group_linked c.args.self.now.begin c.args.entries.now c.in-Linked.chains linked.1
 
 pub returns-in_err-position-in-Linked : goal.returns-in_err-position-in-Linked
 returns-in_err-position-in-Linked g c =

@@ -19,9 +19,8 @@ returns-in-Less-clause-taken g c is =
     let closed = c.close.new.self in
     let es = c.args.entries.now in
     let fs = c.close.new.entries in
-    let p = c.args.pair.now in
     let falls = c.close.ensures.falls in
-    rw c.close.ensures.group (rw falls (sorted_after es fs c.in-Some.field-0.now p c.in-Some.ensures.value
+    rw c.close.ensures.group (rw falls (sorted_after es fs c.in-Some.field-0.now c.args.pair.now c.in-Some.ensures.value
     (λ e. true≢false (sym (c.is_tail.ensures.1 e) ∙ c.if-is_tail.false)) c.close.ensures.moved runs.falls runs.begin
     runs.group c.requires.shows (sym c.in-Less.ensures)
     (rw falls at c.close.ensures.sorted)))

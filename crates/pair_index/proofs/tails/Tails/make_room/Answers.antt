@@ -9,11 +9,10 @@ returns-in_ok-resize-clause-kept c keys links =
     let self = c.args.self.now in
     let ok = self.heads.ok.0 in
     let short = c.if-len-tail.true in
-    let count = c.len-2.ensures in
     let more = (c.in-Some.tail + 1) - c.args.self.now.heads.len in
     let zeros = replicate more 0 in
     let whole =
-    ap (λ h. h ++ zeros) (take_all (c.in-Some.tail + 1) self.heads.items (omega (arith, ok, short, count))) in
+    ap (λ h. h ++ zeros) (take_all (c.in-Some.tail + 1) self.heads.items (omega (arith, ok, short, c.len-2.ensures))) in
     subst (λ h. Links h c.reserve.new.self.items keys) (sym (c.in_ok-resize.ensures.items ∙ whole))
     (subst (λ n. Links (self.heads.items ++ zeros) n keys) (sym c.reserve.ensures.items)
     (links_wider self.heads.items self.next.items keys more links))

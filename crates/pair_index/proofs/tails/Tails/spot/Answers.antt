@@ -22,10 +22,9 @@ bounds-entries-at g c =
 
 pub index-after-requires : goal.index-after-requires
 index-after-requires g c =
-    let self = c.args.self.now in
     let in_keys = (sought_inside c.args.pair.now c.loop-after.before c.loop-after.after c.loop-after-test.true
     c.loop-after.invariant).0 in
-    rw self.next.ok.0 (has_next c.requires in_keys)
+    rw c.args.self.now.next.ok.0 (has_next c.requires in_keys)
 
 pub loop-after-smaller : goal.loop-after-smaller
 loop-after-smaller g c =
