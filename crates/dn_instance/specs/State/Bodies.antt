@@ -12,7 +12,6 @@ use Rattle.dn_line.specs.declared.row.Row.{Row}
 use Rattle.dn_line.specs.declared.row_block.RowLine.{RowLine}
 use Rattle.dn_arc.specs.Kinds.{ArcKind}
 use Rattle.dn_arc.specs.State.Bundles.{BundleFacts, meant}
-use Rattle.dn_table.specs.GraphEntries.{graph_entries}
 use Rattle.dn_table.specs.State.Tables.{AreArcs, GraphNeedsMore, Stays, TableLists}
 use Rattle.dn_instance.specs.Items.{Problem, problem_of, arcs_of, source_in, query_in, point_in, by_key}
 use Rattle.dn_instance.specs.TextFaults.{item_tests}

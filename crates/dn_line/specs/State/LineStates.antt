@@ -1,6 +1,6 @@
 -- The state of a line, and the line that a reader represents.
 use Rattle.std.specs.Prelude.{◌≡◌, ℕ, List, [], ◌∷◌, ◌++◌, ◌+◌, length, take, min, map, filter, Bool, not, ◌&&◌, cond, true, false, nat_lt}
-use Rattle.std.specs.List.{position_or_len, before_first, list_all}
+use Rattle.std.specs.List.{position_or_len, before_first}
 use Rattle.dn_line.specs.Pieces.{parts, has_bytes, is_line_feed}
 use Rattle.dn_line.specs.Words.{is_blank, said, words, is_comment}
 use Rattle.dn_line.specs.State.OpenWords.{WordAt}

@@ -1,4 +1,3 @@
-use Rattle.std.proofs.Common.{sym, ◌∙◌, ap, Some}
 use Rattle.dn_instance.proofs.RowLinesLaws.{none_read}
 use Rattle.dn_instance.proofs.text_so_far.TextSoFar.take_rows.Goals as goal
 
