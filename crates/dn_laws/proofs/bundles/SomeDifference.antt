@@ -140,7 +140,8 @@ module _ (xs ys : List CostArc) where
     }
 
     pub curve_or_differ : SameCurve xs ys ⊎ ((how : How) × CurvesDiffer xs ys how)
-    curve_or_differ = by_room (cost_cap xs +ℤ cost_cap ys) refl (cost_kind.capacity_some xs h) (cost_kind.capacity_some ys g)
+    curve_or_differ =
+        by_room (cost_cap xs +ℤ cost_cap ys) refl (cost_kind.capacity_some xs h) (cost_kind.capacity_some ys g)
       where
         by_room : (n : ℤ) → n ≡ cost_cap xs +ℤ cost_cap ys → pos 0 ≤ℤ cost_cap xs → pos 0 ≤ℤ cost_cap ys
             → SameCurve xs ys ⊎ ((how : How) × CurvesDiffer xs ys how)

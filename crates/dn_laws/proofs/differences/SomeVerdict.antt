@@ -236,6 +236,7 @@ some_first (MinCostFlow s G) (MinCostFlow t H) g h = by_nodes _ _ refl (some_min
 some_first (MaxFlow a b G) (MaxFlow c d H) g h = by_nodes _ _ refl (some_max a b c d G H g h)
 some_first (ShortestPaths G) (ShortestPaths H) g h = by_nodes _ _ refl (some_sp G H g h)
 some_first (Sources xs) (Sources ys) g h = let p = some_list xs ys same_or_not in (p.0, sources_first xs ys p.0 p.1)
-some_first (Queries xs) (Queries ys) g h = let p = some_list xs ys same_pair_or_not in (p.0, queries_first xs ys p.0 p.1)
+some_first (Queries xs) (Queries ys) g h =
+    let p = some_list xs ys same_pair_or_not in (p.0, queries_first xs ys p.0 p.1)
 some_first (Coordinates xs) (Coordinates ys) g h = some_points xs ys g h
 some_first I J g h = (Verdicts.Kind (kind_of I) (kind_of J), kind_first I J (λ e. cc))

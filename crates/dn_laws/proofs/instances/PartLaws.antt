@@ -182,8 +182,8 @@ module _ {Arc : Type 0} {kind : ArcKind Arc} {make : Graph Arc → Instance} (ma
   graphs_same : (G K : Graph Arc) (Hs Ks : List (Graph Arc)) → G.nodes ≡ K.nodes → AreParts (map make Hs) (make G)
       → AreParts (map make Ks) (make K) → AreSame (map make Hs) (map make Ks) → IsSame (make G) (make K)
   graphs_same G K Hs Ks n p q s =
-      let all : SameAt kind making.kind_laws.meaning G.arcs K.arcs = rw (arcs_are G Hs p, arcs_are K Ks q) (same_all Hs Ks s)
-      in
+      let all : SameAt kind making.kind_laws.meaning G.arcs K.arcs =
+      rw (arcs_are G Hs p, arcs_are K Ks q) (same_all Hs Ks s) in
       making.make_same G K (record { nodes = n; bundles = all.at })
 
   made_same : (G : Graph Arc) (J : Instance) (parts others : List Instance) → SameHead (make G) J

@@ -21,8 +21,8 @@ use Rattle.dn_sink.specs.Rows.{Row}
 use Rattle.dn_report.specs.Shows.{AreLengthWords, total_words, cost_words, pair_row, ArePairRows, IsShown}
 
 -- the words at a pair, or none, are right for its arcs
-record IsListed {Arc : Type 0} (kind : ArcKind Arc) (AreWords : List Arc → Row → Type 0) (o : Option Row) (xs : List Arc)
-    : Type 0 where
+record IsListed {Arc : Type 0} (kind : ArcKind Arc) (AreWords : List Arc → Row → Type 0) (o : Option Row)
+    (xs : List Arc) : Type 0 where
   meant : (o ≡ None) ↔ kind.Same xs []
   words : IfSome o (AreWords xs)
 

@@ -187,8 +187,8 @@ module _ {Arc : Type 0} {kind : ArcKind Arc} {make : Graph Arc → Instance} (ca
       let hs = graphs_of canon.making G parts p.heads in
       let cs = graphs_of canon.making o.graph canons q'.heads in
       rw (o.is)
-      (graph_canon G o.graph (all_arcs hs.graphs) cs.graphs cs.nodes_are (rw (cs.are) at (canons_valid form canons parts c))
-      (rw (cs.are) at q') (all_canon hs.graphs cs.graphs (rw (hs.are, cs.are) at c) (rw (hs.are) at r)) s')
+      (graph_canon G o.graph (all_arcs hs.graphs) cs.graphs cs.nodes_are
+      (rw (cs.are) at (canons_valid form canons parts c)) (rw (cs.are) at q') (all_canon hs.graphs cs.graphs (rw (hs.are, cs.are) at c) (rw (hs.are) at r)) s')
 
 -- the problem made of the canonical instances of ranges is the canonical instance
 pub canon_made : (form : Form) (I J : Instance) (c : HasCanonParts form I) → AreRanges c.parts → AreParts c.canons J

@@ -8,4 +8,5 @@ use Rattle.dn_laws.proofs.differences.examples.capacities.Goals as goal
 pub returns : goal.returns
 returns c =
     max_pairs _ _ _ _ _ _ _ refl refl refl
-    (arcs_part Arcs.capacities total_kind (refl, refl, λ e. cc) (λ e. cc, (λ e. cc, (λ e. cc, (λ e. cc, (λ e. cc, (λ e. cc, tt)))))))
+    (arcs_part Arcs.capacities total_kind (refl, refl, λ e. cc)
+    (λ e. cc, (λ e. cc, (λ e. cc, (λ e. cc, (λ e. cc, (λ e. cc, tt)))))))

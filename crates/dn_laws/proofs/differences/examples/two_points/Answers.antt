@@ -5,4 +5,5 @@ use Rattle.dn_laws.proofs.differences.examples.two_points.Goals as goal
 
 pub returns : goal.returns
 returns c =
-    points_first _ _ _ (map_part refl (inner _ _ (λ e. cc (ap (λ (p : ℤ × ℤ). p.0) e))) (λ e. cc, (λ e. cc, (λ e. cc, (λ e. cc, tt)))))
+    points_first _ _ _ (map_part refl (inner _ _ (λ e. cc (ap (λ (p : ℤ × ℤ). p.0) e)))
+    (λ e. cc, (λ e. cc, (λ e. cc, (λ e. cc, tt)))))

@@ -8,9 +8,10 @@ use Rattle.dn_laws.specs.State.TextExamples.{on_one_pair}
 use Rattle.dn_laws.proofs.texts.ExampleLaws.{canonical_at, same_at, worked_one_valid, worked_two_valid}
 use Rattle.dn_laws.proofs.texts.examples.canonical_texts.Goals as goal
 
-pub returns-clause-one : goal.returns-clause-one
+pub returns : goal.returns
 unfolding digits
-returns-clause-one c = (
+returns c = record {
+  one = (
   on_one_pair worked_one,
   record {
     canon = record {
@@ -20,11 +21,8 @@ returns-clause-one c = (
     };
     text_is = refl;
   },
-)
-
-pub returns-clause-two : goal.returns-clause-two
-unfolding digits
-returns-clause-two c = (
+);
+  two = (
   on_one_pair worked_two,
   record {
     canon = record {
@@ -34,4 +32,5 @@ returns-clause-two c = (
     };
     text_is = refl;
   },
-)
+);
+}
