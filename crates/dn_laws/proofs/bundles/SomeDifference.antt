@@ -1,5 +1,5 @@
 -- Lemmas that arcs that do not mean the same have a first difference.
-use Rattle.std.proofs.Common.{◌≡◌, ◌≢◌, ◌⊎◌, inl, inr, ℕ, suc, zero, ℤ, pos, negsuc, ◌+ℤ◌, ◌≤ℤ◌, ◌<ℤ◌, ◌↔◌, List, [], ◌∷◌, Option, Some, None, refl, sym, ap, subst, arith}
+use Rattle.std.proofs.Common.{◌≡◌, ◌≢◌, ◌⊎◌, inl, inr, ℕ, suc, zero, ℤ, pos, negsuc, ◌+ℤ◌, ◌≤ℤ◌, ◌<ℤ◌, ◌↔◌, List, [], ◌∷◌, Option, Some, None, refl, ap, arith}
 use Rattle.std.specs.List.{AllByRecursion}
 use Rattle.std.proofs.lemmas.Int.{ints, by_lt_z}
 use Rattle.dn_arc.specs.declared.arc.LengthArc.{LengthArc}
@@ -108,9 +108,9 @@ module _ (xs ys : List CostArc) where
             let here : x ≡ n = omega (arith, ints) in
             rw here (cost_there xs ys n l.0 l.1 right k, cost_there ys xs n l.0 right l.1 k))))
         | inr d ↦ inr (
-            record { amount = n; left = l.0; right = r.0 },
-            record { left = l.1; right = r.1; differ = d; same_below = same },
-          )
+          record { amount = n; left = l.0; right = r.0 },
+          record { left = l.1; right = r.1; differ = d; same_below = same },
+        )
       ]
 
   -- up to an amount the least costs are the same, or there is a gap

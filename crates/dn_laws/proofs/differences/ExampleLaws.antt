@@ -12,7 +12,7 @@ use Rattle.dn_arc.specs.Kinds as Arcs
 use Rattle.dn_arc.specs.Differences.{IsGap}
 use Rattle.dn_arc.specs.Lengths.{LeastLength}
 use Rattle.dn_arc.specs.Meanings.{SameLength, SameCurve}
-use Rattle.dn_arc.specs.Pairs.{bundle, pair_cmp, same_pair}
+use Rattle.dn_arc.specs.Pairs.{bundle, pair_cmp}
 use Rattle.dn_arc.specs.declared.arc.LengthArc.{LengthArc}
 use Rattle.dn_arc.specs.declared.arc.CostArc.{CostArc}
 use Rattle.dn_arc.specs.declared.difference.Gap.{Gap}

@@ -67,10 +67,10 @@ module _ {K : Type 0} (cmp : K → K → Ordering) (total : IsTotalOrder cmp) (e
   least Alike Apart decide (k ∷ ks) outside = elim (decide k) [
     | inl a ↦ least Alike Apart decide ks (λ q h. everywhere Alike q (k ∷ []) (a, tt) (λ e. outside q (e.0, h)))
     | inr a ↦ elim (least (λ q. cmp q k ≡ Less → Alike q) (λ q. Apart q × (cmp q k ≡ Less)) below ks
-    (λ q h lt. outside q (rw lt refl, h))) [
-      | inl all ↦ inr (k, a, all)
-      | inr l ↦ inr (l.0, l.1.0, λ q lt. l.2 q lt (total.trans q l.0 k lt l.1.1))
-    ]
+        (λ q h lt. outside q (rw lt refl, h))) [
+          | inl all ↦ inr (k, a, all)
+          | inr l ↦ inr (l.0, l.1.0, λ q lt. l.2 q lt (total.trans q l.0 k lt l.1.1))
+        ]
   ]
     where
       below : (q : K) → (cmp q k ≡ Less → Alike q) ⊎ (Apart q × (cmp q k ≡ Less))

@@ -1,5 +1,5 @@
 -- Lemmas on graph problems that are made of parts, and on problems made of the canonical instances of these parts.
-use Rattle.std.proofs.Common.{◌≡◌, ◌≢◌, ◌↔◌, ℕ, ◌+◌, ◌-◌, ◌^◌, ℤ, pos, ◌≤ℤ◌, List, [], ◌∷◌, length, length-append, map, refl, sym, ap, ◌∙◌, subst}
+use Rattle.std.proofs.Common.{◌≡◌, ◌≢◌, ◌↔◌, ℕ, ℤ, List, [], ◌∷◌, length, length-append, map, refl, sym, ap, ◌∙◌, subst}
 use Rattle.std.proofs.lemmas.List.Sums.{sum_by-cons}
 use Rattle.std.specs.List.{AllByRecursion, sum_by}
 use Rattle.dn_arc.specs.declared.arc.Form.{Form}
@@ -8,7 +8,7 @@ use Rattle.dn_arc.specs.Pairs.{bundle}
 use Rattle.dn_instance.specs.Instances.{Graph, Instance, MinCostFlow, MaxFlow, ShortestPaths, size_of}
 use Rattle.dn_instance.specs.State.Parts.{SameHead, AreParts, AreSame}
 use Rattle.dn_instance.specs.Sameness.{SameGraph, IsSame}
-use Rattle.dn_instance.specs.Validity.{Fits, IsPlaced, IsValid, IsValidGraph}
+use Rattle.dn_instance.specs.Validity.{IsPlaced, IsValid, IsValidGraph}
 use Rattle.dn_laws.proofs.instances.PartLaws.{IsMaking, min_making, max_making, sp_making, all_arcs, graphs_of, arcs_are, all_lines, head_then, own_head, parts_same}
 use Rattle.dn_instance.proofs.SameLaws.{sym_of}
 use Rattle.dn_canon.specs.CanonInstances.{IsCanonGraph, IsCanonInstance}

@@ -58,8 +58,10 @@ module _ {Arc : Type 0} where
       by_low : (us : List Arc) → bundle p xs ≡ us → Q us → Q (us ++ bundle p ys)
       by_low [] e h = high
       by_low (u ∷ us) e h =
-          rw (none_below p ys (at_some _ (λ q. AllByRecursion (λ b. q.0 <ℤ b.0.0) ys) (λ a g. g) xs p u us below e),
-          append-nil (u ∷ us)) h
+          rw (
+            none_below p ys (at_some _ (λ q. AllByRecursion (λ b. q.0 <ℤ b.0.0) ys) (λ a g. g) xs p u us below e),
+            append-nil (u ∷ us),
+          ) h
 
   -- two sorted lists, the first below the second, are sorted together
   order_joined : (xs ys : List ((ℤ × ℤ) × Arc)) → IsBelow xs ys → AreInOrder xs → AreInOrder ys → AreInOrder (xs ++ ys)
@@ -188,7 +190,8 @@ module _ {Arc : Type 0} {kind : ArcKind Arc} {make : Graph Arc → Instance} (ca
       let cs = graphs_of canon.making o.graph canons q'.heads in
       rw (o.is)
       (graph_canon G o.graph (all_arcs hs.graphs) cs.graphs cs.nodes_are
-      (rw (cs.are) at (canons_valid form canons parts c)) (rw (cs.are) at q') (all_canon hs.graphs cs.graphs (rw (hs.are, cs.are) at c) (rw (hs.are) at r)) s')
+      (rw (cs.are) at (canons_valid form canons parts c)) (rw (cs.are) at q')
+      (all_canon hs.graphs cs.graphs (rw (hs.are, cs.are) at c) (rw (hs.are) at r)) s')
 
 -- the problem made of the canonical instances of ranges is the canonical instance
 pub canon_made : (form : Form) (I J : Instance) (c : HasCanonParts form I) → AreRanges c.parts → AreParts c.canons J

@@ -51,8 +51,13 @@ parts_rows (C ∷ others) = rw (map-append line_row (arc_lines C) (flat_map arc_
 rows_gathered : (I J : Instance) (others : List Instance) → SameHead I J → AreParts others J
     → rows J ≡ gathered_rows I others
 rows_gathered I J others h p =
-    rw (rows_parted J (own_head J others p), whole_size J others p, head_one (sum_by size_of others) I J h, p.arcs,
-    parts_rows others)
+    rw (
+      rows_parted J (own_head J others p),
+      whole_size J others p,
+      head_one (sum_by size_of others) I J h,
+      p.arcs,
+      parts_rows others,
+    )
 
 -- the canonical text of the whole
 pub ranges_text : (form : Form) (t : List ℕ) (I : Instance) (c : HasCanonParts form I) → AreRanges c.parts

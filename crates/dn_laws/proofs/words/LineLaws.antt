@@ -1,11 +1,10 @@
 -- Lemmas on what `clap` makes of a line with a command, word by word.
-use Rattle.std.proofs.Common.{◌≡◌, ◌∙◌, ℕ, false, true, List, [], ◌∷◌, Option, Some, None, is_some, option_map, find, fold, refl, ap, ap₂}
-use Rattle.std.specs.Option.{option_map_or}
+use Rattle.std.proofs.Common.{◌≡◌, ◌∙◌, ℕ, false, true, List, [], ◌∷◌, Some, None, find, fold, refl}
 use Rattle.std.specs.Borrow.{Bor}
 use Rattle.clap.specs.Kinds.{Kinds, or_else}
 use Rattle.clap.specs.Walk.{Held, Text, Waiting, Walk, after_step, answers_to, arg_by_index, finished, idle, nothing_held, option, plain_word, settled, to_positional, value, walk, walk_from, walked}
-use Rattle.clap.specs.Simple.{App, Shape, built, entered, label_of, names_of, rows_at}
-use Rattle.clap.specs.Faults.{built_fault, check_fault, defaults_fault, entered_fault, level_fault, settle_fault, step_fault, turn_fault, walk_fault}
+use Rattle.clap.specs.Simple.{App, Shape, built, entered, label_of, names_of}
+use Rattle.clap.specs.Faults.{built_fault, check_fault, defaults_fault, level_fault, settle_fault, step_fault, turn_fault, walk_fault}
 use Rattle.dn_command.specs.Commands.{Asked, is_name}
 use Rattle.dn_command.specs.Options.{dnorm_app}
 use Rattle.dn_command.specs.Requests.{command_asked, subcommand_asked}

@@ -12,25 +12,25 @@ pub returns : goal.returns
 unfolding digits
 returns c = record {
   one = (
-  on_one_pair worked_one,
-  record {
-    canon = record {
-      valid = worked_one_valid;
-      canonical = canonical_at One worked_one worked_form_one;
-      same = (refl, same_at worked worked_one (curve_meaning.same_sym worked_one worked worked_same_one));
-    };
-    text_is = refl;
-  },
-);
+    on_one_pair worked_one,
+    record {
+      canon = record {
+        valid = worked_one_valid;
+        canonical = canonical_at One worked_one worked_form_one;
+        same = (refl, same_at worked worked_one (curve_meaning.same_sym worked_one worked worked_same_one));
+      };
+      text_is = refl;
+    },
+  );
   two = (
-  on_one_pair worked_two,
-  record {
-    canon = record {
-      valid = worked_two_valid;
-      canonical = canonical_at Two worked_two (search rules);
-      same = (refl, same_at worked worked_two (curve_meaning.same_sym worked_two worked worked_same_two));
-    };
-    text_is = refl;
-  },
-);
+    on_one_pair worked_two,
+    record {
+      canon = record {
+        valid = worked_two_valid;
+        canonical = canonical_at Two worked_two (search rules);
+        same = (refl, same_at worked worked_two (curve_meaning.same_sym worked_two worked worked_same_two));
+      };
+      text_is = refl;
+    },
+  );
 }

@@ -10,14 +10,14 @@ unfolding clap_on_literals
 returns c = record {
   after = λ program name companion r is_text is_companion.
       answered _ (Check name (Some companion))
-      (λ p q s. line_reads (form_refs p q s) program (codes "check") (name ∷ codes "--with" ∷ companion ∷ []) refl refl refl
-      (name_then is_text refl (word_then refl (value_then is_companion no_more))) refl refl) r;
+      (λ p q s. line_reads (form_refs p q s) program (codes "check") (name ∷ codes "--with" ∷ companion ∷ [])
+      refl refl refl (name_then is_text refl (word_then refl (value_then is_companion no_more))) refl refl) r;
   before = λ program name companion r is_text is_companion.
       answered _ (Check name (Some companion))
-      (λ p q s. line_reads (form_refs p q s) program (codes "check") (codes "--with" ∷ companion ∷ name ∷ []) refl refl refl
-      (word_then refl (value_then is_companion (name_then is_text refl no_more))) refl refl) r;
+      (λ p q s. line_reads (form_refs p q s) program (codes "check") (codes "--with" ∷ companion ∷ name ∷ [])
+      refl refl refl (word_then refl (value_then is_companion (name_then is_text refl no_more))) refl refl) r;
   equals = λ program name companion r is.
       answered _ (Check name (Some companion))
-      (λ p q s. line_reads (form_refs p q s) program (codes "check") (name ∷ (codes "--with=" ++ companion) ∷ []) refl refl refl
-      (name_then is refl (word_then refl no_more)) refl refl) r;
+      (λ p q s. line_reads (form_refs p q s) program (codes "check") (name ∷ (codes "--with=" ++ companion) ∷ [])
+      refl refl refl (name_then is refl (word_then refl no_more)) refl refl) r;
 }

@@ -11,18 +11,18 @@ unfolding clap_on_literals
 returns c = record {
   show = λ program name r is.
       answered _ (Show name)
-      (λ p q s. line_reads (form_refs p q s) program (codes "show") (name ∷ []) refl refl refl
-      (name_then is refl no_more) refl refl) r;
+      (λ p q s. line_reads (form_refs p q s) program (codes "show") (name ∷ [])
+      refl refl refl (name_then is refl no_more) refl refl) r;
   check = λ program name r is.
       answered _ (Check name None)
-      (λ p q s. line_reads (form_refs p q s) program (codes "check") (name ∷ []) refl refl refl
-      (name_then is refl no_more) refl refl) r;
+      (λ p q s. line_reads (form_refs p q s) program (codes "check") (name ∷ [])
+      refl refl refl (name_then is refl no_more) refl refl) r;
   canon = λ program name r is.
       answered _ (Canon name One)
-      (λ p q s. line_reads (form_refs p q s) program (codes "canon") (name ∷ []) refl refl refl
-      (name_then is refl no_more) refl refl) r;
+      (λ p q s. line_reads (form_refs p q s) program (codes "canon") (name ∷ [])
+      refl refl refl (name_then is refl no_more) refl refl) r;
   compare = λ program left right r is_left is_right.
       answered _ (Compare left right)
-      (λ p q s. line_reads (form_refs p q s) program (codes "compare") (left ∷ right ∷ []) refl refl refl
-      (name_then is_left refl (name_then is_right refl no_more)) refl refl) r;
+      (λ p q s. line_reads (form_refs p q s) program (codes "compare") (left ∷ right ∷ [])
+      refl refl refl (name_then is_left refl (name_then is_right refl no_more)) refl refl) r;
 }
