@@ -1,5 +1,5 @@
 -- Lemmas that problems that are made of parts are the same if their parts are the same.
-use Rattle.std.proofs.Common.{◌≡◌, ℤ, List, [], ◌∷◌, ◌++◌, length, map, Some, refl, sym, ap, ◌∙◌, subst}
+use Rattle.std.proofs.Common.{◌≡◌, ℤ, List, [], ◌∷◌, length, map, refl, sym, ap, ◌∙◌}
 use Rattle.std.proofs.lemmas.List.{map-append}
 use Rattle.std.specs.List.{AllByRecursion, flat_map}
 use Rattle.dn_arc.specs.State.Bundles.{IsKind}
@@ -11,7 +11,7 @@ use Rattle.dn_arc.proofs.TotalKindLaws.{total_kind}
 use Rattle.dn_instance.specs.Instances.{Graph, Instance, MinCostFlow, MaxFlow, ShortestPaths, size_of}
 use Rattle.dn_instance.specs.State.Parts.{arc_lines, graph_lines, SameHead, AreParts, AreSame}
 use Rattle.dn_instance.specs.Sameness.{SameGraph, IsSame}
-use Rattle.dn_instance.specs.Validity.{AreSupplies, AreTerminals, IsValid, IsValidGraph}
+use Rattle.dn_instance.specs.Validity.{IsValid, IsValidGraph}
 use Rattle.dn_instance.proofs.SameLaws.{SameAt, placed_meaning}
 
 -- an instance that is the same problem has the same head
@@ -73,7 +73,7 @@ pub record IsMaking {Arc : Type 0} (kind : ArcKind Arc) (make : Graph Arc → In
 -- a problem with the head of a `min` problem is made of a graph
 open_min : (s : List (ℤ × ℤ)) (G : Graph _) (P : Instance) → SameHead (MinCostFlow s G) P
     → IsMade (MinCostFlow s) G.nodes P
-open_min s G (MinCostFlow t H) h = record { graph = H; is = ap (λ u. MinCostFlow u H) (sym h.0); nodes_are = h.1 }
+open_min s G (MinCostFlow t H) h = record { graph = H; is = rw (h.0); nodes_are = h.1 }
 open_min s G _ h = absurd h
 
 pub min_making : (s : List (ℤ × ℤ)) → IsMaking costs (MinCostFlow s)
@@ -86,13 +86,12 @@ min_making s = record {
   same_graph = λ G H e. e.1;
   make_same = λ G H e. (refl, e);
   valid_graph = λ G v. v.0;
-  make_valid = λ G H n v w. (w, subst (λ m. AreSupplies m s) n v.1);
+  make_valid = λ G H n v w. (w, rw n at (v.1));
 }
 
 -- a problem with the head of a `max` problem is made of a graph
 open_max : (a b : ℤ) (G : Graph _) (P : Instance) → SameHead (MaxFlow a b G) P → IsMade (MaxFlow a b) G.nodes P
-open_max a b G (MaxFlow c d H) h =
-    record { graph = H; is = ap (λ u. MaxFlow u d H) (sym h.0) ∙ ap (λ u. MaxFlow a u H) (sym h.1); nodes_are = h.2 }
+open_max a b G (MaxFlow c d H) h = record { graph = H; is = rw (h.0, h.1); nodes_are = h.2 }
 open_max a b G _ h = absurd h
 
 pub max_making : (a b : ℤ) → IsMaking capacities (MaxFlow a b)
@@ -105,7 +104,7 @@ max_making a b = record {
   same_graph = λ G H e. e.2;
   make_same = λ G H e. (refl, refl, e);
   valid_graph = λ G v. v.0;
-  make_valid = λ G H n v w. (w, subst (λ m. AreTerminals m a b) n v.1);
+  make_valid = λ G H n v w. (w, rw n at (v.1));
 }
 
 -- a problem with the head of an `sp` graph is made of a graph
@@ -130,14 +129,7 @@ sp_making = record {
 abbrev pub all_arcs : {Arc : Type 0} → List (Graph Arc) → List ((ℤ × ℤ) × Arc)
 all_arcs graphs = flat_map (λ G. G.arcs) graphs
 
--- equal pairs and equal arcs make equal placed arcs
-placed_is : {Arc : Type 0} (p q : ℤ × ℤ) (x y : Arc) → p ≡ q → x ≡ y → (let a : (ℤ × ℤ) × Arc = (p, x) in a) ≡ (q, y)
-placed_is p q x y e f = cc
-
-some_one : {A : Type 0} (x y : A) → Some x ≡ Some y → x ≡ y
-some_one x y e = cc
-
-module _ {Arc : Type 0} (kind : ArcKind Arc) (make : Graph Arc → Instance) (making : IsMaking kind make) where
+module _ {Arc : Type 0} {kind : ArcKind Arc} {make : Graph Arc → Instance} (making : IsMaking kind make) where
   abbrev line : (ℤ × ℤ) × Arc → (ℤ × ℤ) × List ℤ
   line a = (a.0, kind.numbers a.1)
 
@@ -146,14 +138,11 @@ module _ {Arc : Type 0} (kind : ArcKind Arc) (make : Graph Arc → Instance) (ma
   lines_one [] [] e = refl
   lines_one [] (b ∷ ys) e = cc
   lines_one (a ∷ xs) [] e = cc
-  lines_one (a ∷ xs) (b ∷ ys) e =
-      let first : line a ≡ line b = cc in
-      let pair : a.0 ≡ b.0 = ap (λ (l : (ℤ × ℤ) × List ℤ). l.0) first in
-      let numbers : kind.numbers a.1 ≡ kind.numbers b.1 = ap (λ (l : (ℤ × ℤ) × List ℤ). l.1) first in
-      let arc : a.1 ≡ b.1 =
-      some_one a.1 b.1
-      (sym (making.kind_laws.arc_of_numbers a.1) ∙ ap kind.arc_of numbers ∙ making.kind_laws.arc_of_numbers b.1) in
-      let here : a ≡ b = placed_is a.0 b.0 a.1 b.1 pair arc in
+  lines_one ((p, x) ∷ xs) ((q, y) ∷ ys) e =
+      let first : line (p, x) ≡ line (q, y) = cc in
+      let pair : p ≡ q = ap (λ (l : (ℤ × ℤ) × List ℤ). l.0) first in
+      let numbers : kind.numbers x ≡ kind.numbers y = ap (λ (l : (ℤ × ℤ) × List ℤ). l.1) first in
+      let arc : x ≡ y = cc (making.kind_laws.arc_of_numbers x, making.kind_laws.arc_of_numbers y) in
       let rest : xs ≡ ys = lines_one xs ys cc in
       cc
 
@@ -169,17 +158,11 @@ module _ {Arc : Type 0} (kind : ArcKind Arc) (make : Graph Arc → Instance) (ma
   graphs_of G (P ∷ parts) h =
       let first = making.opens G P h.0 in
       let rest = graphs_of G parts h.1 in
-      record {
-        graphs = first.graph ∷ rest.graphs;
-        are = ap (λ Q. Q ∷ parts) first.is ∙ ap (λ l. make first.graph ∷ l) rest.are;
-        nodes_are = (first.nodes_are, rest.nodes_are);
-      }
+      record { graphs = first.graph ∷ rest.graphs; are = cc; nodes_are = (first.nodes_are, rest.nodes_are) }
 
   pub all_lines : (Hs : List (Graph Arc)) → flat_map arc_lines (map make Hs) ≡ map line (all_arcs Hs)
   all_lines [] = refl
-  all_lines (H ∷ Hs) =
-      ap (λ l. l ++ flat_map arc_lines (map make Hs)) (making.lines_are H)
-      ∙ ap (λ l. map line H.arcs ++ l) (all_lines Hs) ∙ sym (map-append line H.arcs (all_arcs Hs))
+  all_lines (H ∷ Hs) = rw (making.lines_are H, all_lines Hs, map-append line H.arcs (all_arcs Hs))
 
   -- the arcs of a graph that is made of parts are the arcs of the parts
   pub arcs_are : (G : Graph Arc) (Hs : List (Graph Arc)) → AreParts (map make Hs) (make G) → G.arcs ≡ all_arcs Hs
@@ -199,33 +182,27 @@ module _ {Arc : Type 0} (kind : ArcKind Arc) (make : Graph Arc → Instance) (ma
   graphs_same : (G K : Graph Arc) (Hs Ks : List (Graph Arc)) → G.nodes ≡ K.nodes → AreParts (map make Hs) (make G)
       → AreParts (map make Ks) (make K) → AreSame (map make Hs) (map make Ks) → IsSame (make G) (make K)
   graphs_same G K Hs Ks n p q s =
-      let all =
-      subst (SameAt kind making.kind_laws.meaning G.arcs) (sym (arcs_are K Ks q))
-      (subst (λ l. SameAt kind making.kind_laws.meaning l (all_arcs Ks)) (sym (arcs_are G Hs p))
-      (same_all Hs Ks s)) in
+      let all : SameAt kind making.kind_laws.meaning G.arcs K.arcs =
+      rw (arcs_are G Hs p, arcs_are K Ks q) (same_all Hs Ks s) in
       making.make_same G K (record { nodes = n; bundles = all.at })
 
   made_same : (G : Graph Arc) (J : Instance) (parts others : List Instance) → SameHead (make G) J
       → AreParts parts (make G) → AreParts others J → AreSame parts others → IsSame (make G) J
   made_same G J parts others h p q s =
       let o = making.opens G J h in
-      let K = o.graph in
-      let q' : AreParts others (make K) = subst (AreParts others) o.is q in
+      let q' : AreParts others (make o.graph) = rw (o.is) at q in
       let hs = graphs_of G parts p.heads in
-      let ks = graphs_of K others q'.heads in
-      subst (IsSame (make G)) (sym o.is)
-      (graphs_same G K hs.graphs ks.graphs o.nodes_are (subst (λ l. AreParts l (make G)) hs.are p)
-      (subst (λ l. AreParts l (make K)) ks.are q')
-      (subst (AreSame (map make hs.graphs)) ks.are (subst (λ l. AreSame l others) hs.are s)))
+      let ks = graphs_of o.graph others q'.heads in
+      rw (o.is) (graphs_same G o.graph hs.graphs ks.graphs o.nodes_are (rw (hs.are) at p) (rw (ks.are) at q')
+      (rw (hs.are, ks.are) at s))
 
 -- problems that are made of the same parts are the same problem
 pub parts_same : (I J : Instance) (parts others : List Instance) → AreParts parts I → AreParts others J
     → AreSame parts others → IsSame I J
-parts_same I J parts others p q s = by_kind I J parts others (heads_agree I J parts others p q s) p q s
+parts_same I J parts others p q s = by_kind I (heads_agree I J parts others p q s) p
   where
-    by_kind : (I J : Instance) (parts others : List Instance) → SameHead I J → AreParts parts I → AreParts others J
-        → AreSame parts others → IsSame I J
-    by_kind (MinCostFlow s G) J parts others h = made_same costs (MinCostFlow s) (min_making s) G J parts others h
-    by_kind (MaxFlow a b G) J parts others h = made_same capacities (MaxFlow a b) (max_making a b) G J parts others h
-    by_kind (ShortestPaths G) J parts others h = made_same lengths ShortestPaths sp_making G J parts others h
-    by_kind _ _ parts others h = absurd h
+    by_kind : (I : Instance) → SameHead I J → AreParts parts I → IsSame I J
+    by_kind (MinCostFlow a G) h p = made_same (min_making a) G J parts others h p q s
+    by_kind (MaxFlow a b G) h p = made_same (max_making a b) G J parts others h p q s
+    by_kind (ShortestPaths G) h p = made_same sp_making G J parts others h p q s
+    by_kind _ h p = absurd h

@@ -1,14 +1,14 @@
 -- Lemmas on graph problems that are made of parts, and on problems made of the canonical instances of these parts.
-use Rattle.std.proofs.Common.{◌≡◌, ◌≢◌, ◌↔◌, ℕ, ◌+◌, ◌-◌, ◌^◌, ℤ, pos, ◌≤ℤ◌, List, [], ◌∷◌, length, length-append, map, refl, sym, ap, ◌∙◌, subst}
+use Rattle.std.proofs.Common.{◌≡◌, ◌≢◌, ◌↔◌, ℕ, ℤ, List, [], ◌∷◌, length, length-append, map, refl, sym, ap, ◌∙◌, subst}
 use Rattle.std.proofs.lemmas.List.Sums.{sum_by-cons}
 use Rattle.std.specs.List.{AllByRecursion, sum_by}
 use Rattle.dn_arc.specs.declared.arc.Form.{Form}
 use Rattle.dn_arc.specs.Kinds.{ArcKind, lengths, capacities, costs}
 use Rattle.dn_arc.specs.Pairs.{bundle}
-use Rattle.dn_instance.specs.Instances.{Graph, Instance, MinCostFlow, MaxFlow, ShortestPaths, Sources, Queries, Coordinates, size_of}
+use Rattle.dn_instance.specs.Instances.{Graph, Instance, MinCostFlow, MaxFlow, ShortestPaths, size_of}
 use Rattle.dn_instance.specs.State.Parts.{SameHead, AreParts, AreSame}
 use Rattle.dn_instance.specs.Sameness.{SameGraph, IsSame}
-use Rattle.dn_instance.specs.Validity.{Fits, IsPlaced, IsValid, IsValidGraph}
+use Rattle.dn_instance.specs.Validity.{IsPlaced, IsValid, IsValidGraph}
 use Rattle.dn_laws.proofs.instances.PartLaws.{IsMaking, min_making, max_making, sp_making, all_arcs, graphs_of, arcs_are, all_lines, head_then, own_head, parts_same}
 use Rattle.dn_instance.proofs.SameLaws.{sym_of}
 use Rattle.dn_canon.specs.CanonInstances.{IsCanonGraph, IsCanonInstance}
@@ -57,25 +57,20 @@ pub by_kind : (Q : Instance → Type 0)
     → ((Arc : Type 0) (kind : ArcKind Arc) (make : Graph Arc → Instance) → IsCanonMaking kind make → (G : Graph Arc)
     → Q (make G)) → (I : Instance) → SameHead I I → Q I
 by_kind Q f (MinCostFlow s G) h =
-    f _ costs (MinCostFlow s)
-    (record { making = min_making s; canon_graph = λ form K c. c; make_canon = λ form K c. c }) G
+    f _ costs _ (record { making = min_making s; canon_graph = λ form K c. c; make_canon = λ form K c. c }) G
 by_kind Q f (MaxFlow a b G) h =
-    f _ capacities (MaxFlow a b)
-    (record { making = max_making a b; canon_graph = λ form K c. c; make_canon = λ form K c. c }) G
+    f _ capacities _ (record { making = max_making a b; canon_graph = λ form K c. c; make_canon = λ form K c. c }) G
 by_kind Q f (ShortestPaths G) h =
-    f _ lengths ShortestPaths (record { making = sp_making; canon_graph = λ form K c. c; make_canon = λ form K c. c }) G
-by_kind Q f (Sources ids) h = absurd h
-by_kind Q f (Queries pairs) h = absurd h
-by_kind Q f (Coordinates points) h = absurd h
+    f _ lengths _ (record { making = sp_making; canon_graph = λ form K c. c; make_canon = λ form K c. c }) G
+by_kind Q f _ h = absurd h
 
-module _ {Arc : Type 0} (kind : ArcKind Arc) (make : Graph Arc → Instance) (making : IsMaking kind make) where
+module _ {Arc : Type 0} {kind : ArcKind Arc} {make : Graph Arc → Instance} (making : IsMaking kind make) where
   -- the arcs of valid parts are placed in the graph
   pub placed_all : (n : ℤ) (Hs : List (Graph Arc)) → AllByRecursion (λ (H : Graph Arc). n ≡ H.nodes) Hs
       → AllByRecursion IsValid (map make Hs) → AllByRecursion (IsPlaced kind n) (all_arcs Hs)
   placed_all n [] e v = tt
   placed_all n (H ∷ Hs) e v =
-      all_append (IsPlaced kind n) H.arcs (all_arcs Hs)
-      (subst (λ m. AllByRecursion (IsPlaced kind m) H.arcs) (sym e.0) (making.valid_graph H v.0).placed)
+      all_append (IsPlaced kind n) H.arcs (all_arcs Hs) (rw (e.0) ((making.valid_graph H v.0).placed))
       (placed_all n Hs e.1 v.1)
 
   -- a graph with the meaning of a valid one is valid, if its arcs are placed
@@ -86,13 +81,12 @@ module _ {Arc : Type 0} (kind : ArcKind Arc) (make : Graph Arc → Instance) (ma
       → AllByRecursion kind.IsArc (bundle q H.arcs) =
       λ H placed q. all_at_pair (IsPlaced kind H.nodes) kind.IsArc (λ a h. h.is_arc) q H.arcs placed in
       record {
-        some_nodes = subst (λ n. pos 0 ≤ℤ n) s.nodes v.some_nodes;
-        nodes_fit = subst Fits s.nodes v.nodes_fit;
+        some_nodes = rw (s.nodes) at (v.some_nodes);
+        nodes_fit = rw (s.nodes) at (v.nodes_fit);
         placed = p;
         capacities =
-            λ q. subst (λ z. z ≤ℤ pos (2 ^ 63 - 1))
-            (making.kind_laws.same_capacity (bundle q G.arcs) (bundle q K.arcs) (are G v.placed q) (are K p q)
-            (s.bundles q)) (v.capacities q);
+            λ q. rw (making.kind_laws.same_capacity (bundle q G.arcs) (bundle q K.arcs) (are G v.placed q) (are K p q)
+            (s.bundles q)) at (v.capacities q);
       }
 
   -- a problem made of valid parts is valid, if it is the same as a valid problem
@@ -101,14 +95,15 @@ module _ {Arc : Type 0} (kind : ArcKind Arc) (make : Graph Arc → Instance) (ma
   valid_made G J others h s p each v =
       let o = making.opens G J h in
       let K = o.graph in
-      let p' : AreParts others (make K) = subst (AreParts others) o.is p in
-      let ks = graphs_of kind make making K others p'.heads in
-      let arcs = arcs_are kind make making K ks.graphs (subst (λ l. AreParts l (make K)) ks.are p') in
-      let placed = placed_all K.nodes ks.graphs ks.nodes_are (subst (AllByRecursion IsValid) ks.are each) in
-      subst IsValid (sym o.is)
+      let p' : AreParts others (make K) = rw (o.is) at p in
+      let s' : IsSame (make G) (make K) = rw (o.is) at s in
+      let ks = graphs_of making K others p'.heads in
+      let placed : AllByRecursion (IsPlaced kind K.nodes) K.arcs =
+      rw (arcs_are making K ks.graphs (rw (ks.are) at p'))
+      (placed_all K.nodes ks.graphs ks.nodes_are (rw (ks.are) at each)) in
+      rw (o.is)
       (making.make_valid G K o.nodes_are v
-      (valid_over G K (making.same_graph G K (subst (IsSame (make G)) o.is s)) (making.valid_graph G v)
-      (subst (AllByRecursion (IsPlaced kind K.nodes)) (sym arcs) placed)))
+      (valid_over G K (making.same_graph G K s') (making.valid_graph G v) placed))
 
   heads_made : (K : Graph Arc) (Cs : List (Graph Arc)) → AllByRecursion (λ (C : Graph Arc). K.nodes ≡ C.nodes) Cs
       → AllByRecursion (SameHead (make K)) (map make Cs)
@@ -119,37 +114,36 @@ module _ {Arc : Type 0} (kind : ArcKind Arc) (make : Graph Arc → Instance) (ma
   whole_made : (G : Graph Arc) (others : List Instance) → others ≢ [] → AllByRecursion (SameHead (make G)) others
       → (W : Instance) × AreParts others W
   whole_made G others some h =
-      let cs = graphs_of kind make making G others h in
+      let cs = graphs_of making G others h in
       let K : Graph Arc = record { nodes = G.nodes; arcs = all_arcs cs.graphs } in (
         make K,
         subst (λ l. AreParts l (make K)) (sym cs.are)
             (record {
               some = λ e. some (cs.are ∙ e);
               heads = heads_made K cs.graphs cs.nodes_are;
-              arcs = making.lines_are K ∙ sym (all_lines kind make making cs.graphs);
+              arcs = making.lines_are K ∙ sym (all_lines making cs.graphs);
             }),
       )
 
   sizes : (Hs : List (Graph Arc)) → length (all_arcs Hs) ≡ sum_by size_of (map make Hs)
   sizes [] = refl
   sizes (H ∷ Hs) =
-      length-append H.arcs (all_arcs Hs) ∙ ap (λ n. n + length (all_arcs Hs)) (sym (making.size_is H))
-      ∙ ap (λ n. size_of (make H) + n) (sizes Hs) ∙ sym (sum_by-cons size_of (make H) (map make Hs))
+      rw (length-append H.arcs (all_arcs Hs), sizes Hs, ← making.size_is H, sum_by-cons size_of (make H) (map make Hs))
 
   -- the number of arcs is the sum of the numbers of the parts
   size_made : (K : Graph Arc) (others : List Instance) → AreParts others (make K)
       → size_of (make K) ≡ sum_by size_of others
   size_made K others p =
-      let cs = graphs_of kind make making K others p.heads in
-      making.size_is K ∙ ap length (arcs_are kind make making K cs.graphs (subst (λ l. AreParts l (make K)) cs.are p))
-      ∙ sizes cs.graphs ∙ ap (sum_by size_of) (sym cs.are)
+      let cs = graphs_of making K others p.heads in
+      making.size_is K ∙ ap length (arcs_are making K cs.graphs (rw (cs.are) at p)) ∙ sizes cs.graphs
+      ∙ ap (sum_by size_of) (sym cs.are)
 
 parts_valid : (I J : Instance) (parts others : List Instance) → IsSame I J → AreParts parts I → AreParts others J
     → AllByRecursion IsValid others → IsValid I → IsValid J
 parts_valid I J parts others s p q each v =
     let own = own_head I parts p in
     by_kind (λ I. SameHead I J → IsSame I J → IsValid I → IsValid J)
-    (λ Arc kind make canon G h e w. valid_made kind make canon.making G J others h e q each w) I own
+    (λ Arc kind make canon G h e w. valid_made canon.making G J others h e q each w) I own
     (head_then I I J own s) s v
 
 -- the canonical instances of the parts make a problem
@@ -157,7 +151,7 @@ pub whole_of : (form : Form) (I : Instance) (c : HasCanonParts form I) → (W : 
 whole_of form I c =
     let some = canons_some form c.canons c.parts c.canons_are c.parts_are.some in
     by_kind (λ I. AllByRecursion (SameHead I) c.canons → (W : Instance) × AreParts c.canons W)
-    (λ Arc kind make canon G h. whole_made kind make canon.making G c.canons some h) I
+    (λ Arc kind make canon G h. whole_made canon.making G c.canons some h) I
     (own_head I c.parts c.parts_are) (canons_heads form I c.canons c.parts c.canons_are c.parts_are.heads)
 
 -- the problem made of canonical instances is the same as the whole
@@ -182,4 +176,4 @@ whole_bytes from to t u I W c w x y = (texts_agree to t u I W x y).1 (whole_same
 pub whole_size : (J : Instance) (others : List Instance) → AreParts others J → size_of J ≡ sum_by size_of others
 whole_size J others p =
     by_kind (λ J. AreParts others J → size_of J ≡ sum_by size_of others)
-    (λ Arc kind make canon K q. size_made kind make canon.making K others q) J (own_head J others p) p
+    (λ Arc kind make canon K q. size_made canon.making K others q) J (own_head J others p) p

@@ -1,5 +1,6 @@
 -- Lemmas on the worked `min` problem on one pair: it is valid, canonical, and the same as its canonical arcs.
-use Rattle.std.proofs.Common.{◌≡◌, ℤ, pos, ◌≤ℤ◌, ◌-◌, ◌^◌, List, [], Bool, true, false, cond, refl, sym, ap, ◌∙◌, subst, arith, append-nil}
+use Rattle.std.proofs.Common.{◌≡◌, ℤ, pos, ◌≤ℤ◌, ◌-◌, ◌^◌, List, [], inl, inr, cond, refl, arith, rules, append-nil}
+use Rattle.std.proofs.lemmas.Bool.{cases_Bool, cond_both}
 use Rattle.std.proofs.lemmas.Int.{ints}
 use Rattle.std.specs.List.{AllByRecursion}
 use Rattle.dn_arc.specs.declared.arc.CostArc.{CostArc}
@@ -27,20 +28,15 @@ here = (pos 1, pos 2)
 -- the arcs of a pair, if all arcs are at one pair
 bundle_at : (p : ℤ × ℤ) (arcs : List CostArc) → bundle p (placed here arcs) ≡ cond (same_pair p here) arcs []
 bundle_at p arcs =
-    ap (bundle p) (sym (append-nil (placed here arcs))) ∙ bundle_placed p here arcs []
-    ∙ ap (λ l. cond (same_pair p here) l []) (append-nil arcs)
+    rw (append-nil (placed here arcs), append-nil arcs) at (bundle_placed p here arcs [])
 
 -- what holds of these arcs and of no arcs holds of the bundle at each pair
 at_each : (P : List CostArc → Type 0) (arcs : List CostArc) → P arcs → P [] → (p : ℤ × ℤ)
     → P (bundle p (placed here arcs))
-at_each P arcs all none p = subst P (sym (bundle_at p arcs)) (by_test (same_pair p here))
-  where
-    by_test : (t : Bool) → P (cond t arcs [])
-    by_test true = all
-    by_test false = none
+at_each P arcs all none p = rw (bundle_at p arcs) (cond_both (same_pair p here) arcs [] P (λ e. all) (λ e. none))
 
 in_order : (arcs : List CostArc) → AreInOrder (placed here arcs)
-in_order arcs = subst AreInOrder (append-nil (placed here arcs)) (order_placed here arcs [] tt tt).1
+in_order arcs = rw (append-nil (placed here arcs)) at ((order_placed here arcs [] tt tt).1)
 
 -- placed arcs whose CAPs sum within the range make a valid problem
 pub valid_at : (arcs : List CostArc) → AllByRecursion (IsPlaced costs (pos 2)) (placed here arcs)
@@ -71,54 +67,24 @@ canonical_at form arcs c =
 -- if the problem is canonical, its arcs are canonical
 pub canonical_here : (form : Form) (arcs : List CostArc) → IsCanonInstance form (on_one_pair arcs)
     → AreCanonCosts form arcs
-canonical_here form arcs c = subst (AreCanonCosts form) (bundle_at here arcs) (c.canonical here)
+canonical_here form arcs c = rw (bundle_at here arcs) at (c.canonical here)
 
 pub same_at : (xs ys : List CostArc) → SameCurve xs ys
     → SameGraph costs (record { nodes = pos 2; arcs = placed here xs })
     (record { nodes = pos 2; arcs = placed here ys })
-same_at xs ys s =
-    record {
-      nodes = refl;
-      bundles =
-          λ p. subst (λ l. SameCurve l (bundle p (placed here ys))) (sym (bundle_at p xs))
-          (subst (λ l. SameCurve (cond (same_pair p here) xs []) l) (sym (bundle_at p ys))
-          (by_test (same_pair p here)));
-    }
+same_at xs ys s = record { nodes = refl; bundles = at }
   where
-    by_test : (t : Bool) → SameCurve (cond t xs []) (cond t ys [])
-    by_test true = s
-    by_test false = curve_meaning.same_refl []
+    at : (p : ℤ × ℤ) → SameCurve (bundle p (placed here xs)) (bundle p (placed here ys))
+    at p = elim (cases_Bool (same_pair p here)) [
+      | inl e ↦ rw (bundle_at p xs, bundle_at p ys, e) s
+      | inr e ↦ rw (bundle_at p xs, bundle_at p ys, e) (curve_meaning.same_refl [])
+    ]
 
-one_placed : (l u k : ℤ) → pos 0 ≤ℤ l → l ≤ℤ u → Fits l → Fits u → Fits k → IsPlaced costs (pos 2) (here, arc l u k)
-one_placed l u k h g a b c = placed_arc (arc l u k) (record { some = h; room = g }) a b c
+one_placed : {l u k : ℤ} → pos 0 ≤ℤ l → l ≤ℤ u → Fits l → Fits u → Fits k → IsPlaced costs (pos 2) (here, arc l u k)
+one_placed h g a b c = placed_arc _ (record { some = h; room = g }) a b c
 
 pub worked_one_valid : IsValid (on_one_pair worked_one)
-worked_one_valid =
-    valid_at worked_one (
-      one_placed _ _ _ (omega (arith, ints)) (omega (arith, ints)) refl refl refl,
-      (
-        one_placed _ _ _ (omega (arith, ints)) (omega (arith, ints)) refl refl refl,
-        (
-          one_placed _ _ _ (omega (arith, ints)) (omega (arith, ints)) refl refl refl,
-          (
-            one_placed _ _ _ (omega (arith, ints)) (omega (arith, ints)) refl refl refl,
-            (one_placed _ _ _ (omega (arith, ints)) (omega (arith, ints)) refl refl refl, tt),
-          ),
-        ),
-      ),
-    )
-    (omega (arith, ints))
+worked_one_valid = valid_at worked_one (search (rules, one_placed)) (omega (arith, ints))
 
 pub worked_two_valid : IsValid (on_one_pair worked_two)
-worked_two_valid =
-    valid_at worked_two (
-      one_placed _ _ _ (omega (arith, ints)) (omega (arith, ints)) refl refl refl,
-      (
-        one_placed _ _ _ (omega (arith, ints)) (omega (arith, ints)) refl refl refl,
-        (
-          one_placed _ _ _ (omega (arith, ints)) (omega (arith, ints)) refl refl refl,
-          (one_placed _ _ _ (omega (arith, ints)) (omega (arith, ints)) refl refl refl, tt),
-        ),
-      ),
-    )
-    (omega (arith, ints))
+worked_two_valid = valid_at worked_two (search (rules, one_placed)) (omega (arith, ints))

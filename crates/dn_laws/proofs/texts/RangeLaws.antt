@@ -1,11 +1,10 @@
 -- Lemmas that the canonical arcs of ranges of SRC, one range after another, are the canonical arcs of the whole.
-use Rattle.std.proofs.Common.{◌≡◌, ◌↔◌, ◌-◌, ◌^◌, ℤ, pos, ◌≤ℤ◌, ◌<ℤ◌, List, [], ◌∷◌, ◌++◌, cond, map, refl, sym, ap, ◌∙◌, subst, arith, append-nil, IsTrue}
+use Rattle.std.proofs.Common.{◌≡◌, ◌↔◌, ◌-◌, ◌^◌, ℤ, pos, ◌≤ℤ◌, ◌<ℤ◌, List, [], ◌∷◌, ◌++◌, map, refl, sym, ap, arith, append-nil, IsTrue}
 use Rattle.std.proofs.lemmas.Int.{ints}
+use Rattle.std.specs.Cmp.{int_cmp_is}
 use Rattle.std.specs.List.{AllByRecursion, flat_map}
-use Rattle.std.specs.Ordering.{is_eq, is_le, int_cmp, ordering_then}
-use Rattle.std.specs.declared.cmp.Ordering.{Ordering}
-use Rattle.std.specs.declared.cmp.Ordering.TheVariants.{Less, Equal, Greater}
-use Rattle.std.proofs.lemmas.Cmp.{int_ranked}
+use Rattle.std.specs.Ordering.{is_le}
+use Rattle.std.specs.declared.cmp.Ordering.TheVariants.{Less}
 use Rattle.dn_arc.specs.declared.arc.Form.{Form}
 use Rattle.dn_arc.specs.State.Bundles.{IsKind}
 use Rattle.dn_arc.specs.Kinds.{ArcKind}
@@ -14,7 +13,7 @@ use Rattle.dn_arc.specs.Pairs.{bundle, pair_cmp, pair_le}
 use Rattle.dn_instance.specs.Instances.{Graph, Instance}
 use Rattle.dn_instance.specs.State.Parts.{AreParts, SameHead, arc_lines}
 use Rattle.dn_instance.specs.Sameness.{IsSame}
-use Rattle.dn_instance.specs.Validity.{Fits, IsValid}
+use Rattle.dn_instance.specs.Validity.{IsValid}
 use Rattle.dn_instance.proofs.MapLaws.{all_mono}
 use Rattle.dn_laws.proofs.instances.PartLaws.{all_arcs, graphs_of, arcs_are, all_lines, own_head, head_then}
 use Rattle.dn_instance.proofs.SameLaws.{SameAt, placed_meaning, sym_of, trans_of}
@@ -28,12 +27,7 @@ use Rattle.dn_canon.proofs.ListedLaws.{all_from, at_some}
 
 -- a pair with a lesser tail is less
 less_by_tail : (p q : ℤ × ℤ) → p.0 <ℤ q.0 → pair_cmp p q ≡ Less
-less_by_tail p q h = by_order (int_cmp p.0 q.0) refl
-  where
-    by_order : (o : Ordering) → o ≡ int_cmp p.0 q.0 → ordering_then (int_cmp p.0 q.0) (int_cmp p.1 q.1) ≡ Less
-    by_order Less e = ap (λ o. ordering_then o (int_cmp p.1 q.1)) (sym e)
-    by_order Equal e = (let same = int_ranked p.0 q.0 Equal e in absurd (omega (arith, ints, h, same)))
-    by_order Greater e = (let back = int_ranked p.0 q.0 Greater e in absurd (omega (arith, ints, h, back)))
+less_by_tail p q h = rw (← int_cmp_is p.0 q.0 Less h)
 
 -- a fact holds of each element
 each_of : {X : Type 0} (P : Type 0) → P → (xs : List X) → AllByRecursion (λ (x : X). P) xs
@@ -54,29 +48,27 @@ module _ {Arc : Type 0} where
   -- a pair whose SRC is below all SRCs has no arcs
   none_below : (p : ℤ × ℤ) (ys : List ((ℤ × ℤ) × Arc)) → AllByRecursion (λ b. p.0 <ℤ b.0.0) ys → bundle p ys ≡ []
   none_below p [] h = refl
-  none_below p (b ∷ ys) h =
-      ap (λ o. cond (is_eq o) (b.1 ∷ bundle p ys) (bundle p ys)) (less_by_tail p b.0 h.0) ∙ none_below p ys h.1
+  none_below p (b ∷ ys) h = rw (less_by_tail p b.0 h.0) (none_below p ys h.1)
 
   -- each pair has arcs in at most one of the two lists
   in_one : (Q : List Arc → Type 0) (p : ℤ × ℤ) (xs ys : List ((ℤ × ℤ) × Arc)) → IsBelow xs ys → Q (bundle p xs)
       → Q (bundle p ys) → Q (bundle p (xs ++ ys))
-  in_one Q p xs ys below low high = subst Q (sym (bundle_append p xs ys)) (by_low (bundle p xs) refl low)
+  in_one Q p xs ys below low high = rw (bundle_append p xs ys) (by_low (bundle p xs) refl low)
     where
       by_low : (us : List Arc) → bundle p xs ≡ us → Q us → Q (us ++ bundle p ys)
       by_low [] e h = high
       by_low (u ∷ us) e h =
-          let above =
-          at_some (λ a. AllByRecursion (λ b. a.0.0 <ℤ b.0.0) ys) (λ q. AllByRecursion (λ b. q.0 <ℤ b.0.0) ys)
-          (λ a g. g) xs p u us below e in
-          subst (λ l. Q ((u ∷ us) ++ l)) (sym (none_below p ys above)) (subst Q (sym (append-nil (u ∷ us))) h)
+          rw (
+            none_below p ys (at_some _ (λ q. AllByRecursion (λ b. q.0 <ℤ b.0.0) ys) (λ a g. g) xs p u us below e),
+            append-nil (u ∷ us),
+          ) h
 
   -- two sorted lists, the first below the second, are sorted together
   order_joined : (xs ys : List ((ℤ × ℤ) × Arc)) → IsBelow xs ys → AreInOrder xs → AreInOrder ys → AreInOrder (xs ++ ys)
   order_joined [] ys below r s = s
   order_joined (a ∷ xs) ys below r s = (
     all_append (λ b. IsTrue (pair_le a.0 b.0)) xs ys r.0
-        (all_mono (λ b. a.0.0 <ℤ b.0.0) (λ b. IsTrue (pair_le a.0 b.0))
-        (λ b h. ap is_le (less_by_tail a.0 b.0 h)) ys below.0),
+        (all_mono (λ b. a.0.0 <ℤ b.0.0) _ (λ b h. ap is_le (less_by_tail a.0 b.0 h)) ys below.0),
     order_joined xs ys below.1 r.1 s,
   )
 
@@ -103,9 +95,8 @@ module _ {Arc : Type 0} (kind : ArcKind Arc) (laws : IsKind kind) (form : Form) 
     where
       by_bundle : (q : ℤ × ℤ) (us : List Arc) → bundle q xs ≡ us → AllByRecursion (λ x. F q.0) (bundle q cs)
       by_bundle q [] e =
-          let listed = laws.meaning.same_sym [] (bundle q cs)
-          (subst (λ l. kind.Same l (bundle q cs)) e (c.same.at q)) in
-          subst (AllByRecursion (λ x. F q.0)) (sym (laws.nothing_listed form (bundle q cs) (c.canonical q) listed)) tt
+          let listed = laws.meaning.same_sym [] (bundle q cs) (rw e at (c.same.at q)) in
+          rw (laws.nothing_listed form (bundle q cs) (c.canonical q) listed) tt
       by_bundle q (u ∷ us) e =
           each_of (F q.0) (at_some (λ a. F a.0.0) (λ p. F p.0) (λ a g. g) xs q u us h e) (bundle q cs)
 
@@ -114,8 +105,7 @@ module _ {Arc : Type 0} (kind : ArcKind Arc) (laws : IsKind kind) (form : Form) 
       → IsBelow cs ds
   below_canon xs cs ys ds c d h =
       same_tails (λ t. AllByRecursion (λ b. t <ℤ b.0.0) ds) xs cs c
-      (all_mono (λ a. AllByRecursion (λ b. a.0.0 <ℤ b.0.0) ys) (λ a. AllByRecursion (λ b. a.0.0 <ℤ b.0.0) ds)
-      (λ a g. same_tails (λ u. a.0.0 <ℤ u) ys ds d g) xs h)
+      (all_mono _ (λ a. AllByRecursion (λ b. a.0.0 <ℤ b.0.0) ds) (λ a g. same_tails (λ u. a.0.0 <ℤ u) ys ds d g) xs h)
 
   -- the canonical arcs of two ranges are those of both together
   joined_canon : (xs cs ys ds : List ((ℤ × ℤ) × Arc)) → AreCanonArcs xs cs → AreCanonArcs ys ds → IsBelow xs ys
@@ -129,7 +119,7 @@ module _ {Arc : Type 0} (kind : ArcKind Arc) (laws : IsKind kind) (form : Form) 
         same = same_joined (SameAt kind laws.meaning) (placed_meaning kind laws.meaning) xs cs ys ds c.same d.same;
       }
 
-module _ {Arc : Type 0} (kind : ArcKind Arc) (make : Graph Arc → Instance) (canon : IsCanonMaking kind make)
+module _ {Arc : Type 0} {kind : ArcKind Arc} {make : Graph Arc → Instance} (canon : IsCanonMaking kind make)
     (form : Form) where
   abbrev CanonArcs : List ((ℤ × ℤ) × Arc) → List ((ℤ × ℤ) × Arc) → Type 0
   CanonArcs xs cs = AreCanonArcs kind canon.making.kind_laws form xs cs
@@ -149,11 +139,9 @@ module _ {Arc : Type 0} (kind : ArcKind Arc) (make : Graph Arc → Instance) (ca
       → AreBelow (arc_lines (make H)) (flat_map arc_lines (map make Hs)) → IsBelow H.arcs (all_arcs Hs)
   below_arcs H Hs h =
       let line : (ℤ × ℤ) × Arc → (ℤ × ℤ) × List ℤ = λ a. (a.0, kind.numbers a.1) in
-      let lines =
-      subst (λ l. AreBelow (map line H.arcs) l) (all_lines kind make canon.making Hs)
-      (subst (λ l. AreBelow l (flat_map arc_lines (map make Hs))) (canon.making.lines_are H) h) in
-      all_mono (λ a. AllByRecursion (λ (m : (ℤ × ℤ) × List ℤ). a.0.0 <ℤ m.0.0) (map line (all_arcs Hs)))
-      (λ a. AllByRecursion (λ b. a.0.0 <ℤ b.0.0) (all_arcs Hs))
+      let lines : AreBelow (map line H.arcs) (map line (all_arcs Hs)) =
+      rw (canon.making.lines_are H, all_lines canon.making Hs) at h in
+      all_mono _ (λ a. AllByRecursion (λ b. a.0.0 <ℤ b.0.0) (all_arcs Hs))
       (λ a g. all_unmap (λ (m : (ℤ × ℤ) × List ℤ). a.0.0 <ℤ m.0.0) line (all_arcs Hs) g) H.arcs
       (all_unmap
       (λ (l : (ℤ × ℤ) × List ℤ). AllByRecursion (λ (m : (ℤ × ℤ) × List ℤ). l.0.0 <ℤ m.0.0)
@@ -176,15 +164,15 @@ module _ {Arc : Type 0} (kind : ArcKind Arc) (make : Graph Arc → Instance) (ca
   graph_canon G K xs [] n v p c s = absurd (p.some refl)
   graph_canon G K xs (C ∷ Cs) n v p c s =
       let making = canon.making in
-      let arcs = sym (arcs_are kind make making K (C ∷ Cs) p) in
-      let all = subst (CanonArcs xs) arcs c in
+      let arcs = arcs_are making K (C ∷ Cs) p in
+      let all : CanonArcs xs K.arcs = rw arcs c in
       let first = making.valid_graph C v.0 in
       record {
         valid = making.make_valid C K (sym n.0) v.0
             (record {
-              some_nodes = subst (λ m. pos 0 ≤ℤ m) (sym n.0) first.some_nodes;
-              nodes_fit = subst Fits (sym n.0) first.nodes_fit;
-              placed = subst (AllByRecursion _) arcs (placed_all kind make making K.nodes (C ∷ Cs) n v);
+              some_nodes = rw (n.0) (first.some_nodes);
+              nodes_fit = rw (n.0) (first.nodes_fit);
+              placed = rw arcs (placed_all making K.nodes (C ∷ Cs) n v);
               capacities = all.bounded;
             });
         canonical = canon.make_canon form K (record { in_order = all.in_order; canonical = all.canonical });
@@ -195,19 +183,15 @@ module _ {Arc : Type 0} (kind : ArcKind Arc) (make : Graph Arc → Instance) (ca
       → AreParts parts (make G) → AreCanonsOf form canons parts → AreRanges parts → AreParts canons J
       → IsCanonInstanceOf form J (make G)
   made_canon G J parts canons h s p c r q =
-      let making = canon.making in
-      let o = making.opens G J h in
-      let K = o.graph in
-      let q' : AreParts canons (make K) = subst (AreParts canons) o.is q in
-      let hs = graphs_of kind make making G parts p.heads in
-      let cs = graphs_of kind make making K canons q'.heads in
-      let each =
-      subst (AreCanonsOf form (map make cs.graphs)) hs.are (subst (λ l. AreCanonsOf form l parts) cs.are c) in
-      let all = all_canon hs.graphs cs.graphs each (subst AreRanges hs.are r) in
-      subst (λ W. IsCanonInstanceOf form W (make G)) (sym o.is)
-      (graph_canon G K (all_arcs hs.graphs) cs.graphs cs.nodes_are
-      (subst (AllByRecursion IsValid) cs.are (canons_valid form canons parts c))
-      (subst (λ l. AreParts l (make K)) cs.are q') all (subst (IsSame (make G)) o.is s))
+      let o = canon.making.opens G J h in
+      let q' : AreParts canons (make o.graph) = rw (o.is) at q in
+      let s' : IsSame (make G) (make o.graph) = rw (o.is) at s in
+      let hs = graphs_of canon.making G parts p.heads in
+      let cs = graphs_of canon.making o.graph canons q'.heads in
+      rw (o.is)
+      (graph_canon G o.graph (all_arcs hs.graphs) cs.graphs cs.nodes_are
+      (rw (cs.are) at (canons_valid form canons parts c)) (rw (cs.are) at q')
+      (all_canon hs.graphs cs.graphs (rw (hs.are, cs.are) at c) (rw (hs.are) at r)) s')
 
 -- the problem made of the canonical instances of ranges is the canonical instance
 pub canon_made : (form : Form) (I J : Instance) (c : HasCanonParts form I) → AreRanges c.parts → AreParts c.canons J
@@ -216,7 +200,7 @@ canon_made form I J c r w =
     let own = own_head I c.parts c.parts_are in
     let same = whole_same form I J c w in
     by_kind (λ I. SameHead I J → IsSame I J → AreParts c.parts I → IsCanonInstanceOf form J I)
-    (λ Arc kind make canon G h s p. made_canon kind make canon form G J c.parts c.canons h s p c.canons_are r w) I
+    (λ Arc kind make canon G h s p. made_canon canon form G J c.parts c.canons h s p c.canons_are r w) I
     own (head_then I I J own same) same c.parts_are
 
 -- the canonical instance is made of the canonical instances of ranges
@@ -225,8 +209,7 @@ made_of_canon : (form : Form) (I J : Instance) (c : HasCanonParts form I) → Ar
 made_of_canon form I J c r j =
     let (W, w) = whole_of form I c in
     let canon = canon_made form I W c r w in
-    subst (AreParts c.canons)
-    (canon_one form W J canon.canonical j.canonical (trans_of W I J (sym_of I W canon.same) j.same)) w
+    rw (canon_one form W J canon.canonical j.canonical (trans_of W I J (sym_of I W canon.same) j.same)) at w
 
 pub ranges_canon : (form : Form) (I J : Instance) (c : HasCanonParts form I) → AreRanges c.parts
     → AreParts c.canons J ↔ IsCanonInstanceOf form J I

@@ -1,11 +1,10 @@
 -- Lemmas on what `clap` makes of a line with a command, word by word.
-use Rattle.std.proofs.Common.{◌≡◌, ◌∙◌, ℕ, false, true, List, [], ◌∷◌, Option, Some, None, is_some, option_map, find, fold, refl, ap, ap₂}
-use Rattle.std.specs.Option.{option_map_or}
+use Rattle.std.proofs.Common.{◌≡◌, ◌∙◌, ℕ, false, true, List, [], ◌∷◌, Some, None, find, fold, refl}
 use Rattle.std.specs.Borrow.{Bor}
 use Rattle.clap.specs.Kinds.{Kinds, or_else}
 use Rattle.clap.specs.Walk.{Held, Text, Waiting, Walk, after_step, answers_to, arg_by_index, finished, idle, nothing_held, option, plain_word, settled, to_positional, value, walk, walk_from, walked}
-use Rattle.clap.specs.Simple.{App, Shape, built, entered, label_of, names_of, rows_at}
-use Rattle.clap.specs.Faults.{built_fault, check_fault, defaults_fault, entered_fault, level_fault, settle_fault, step_fault, turn_fault, walk_fault}
+use Rattle.clap.specs.Simple.{App, Shape, built, entered, label_of, names_of}
+use Rattle.clap.specs.Faults.{built_fault, check_fault, defaults_fault, level_fault, settle_fault, step_fault, turn_fault, walk_fault}
 use Rattle.dn_command.specs.Commands.{Asked, is_name}
 use Rattle.dn_command.specs.Options.{dnorm_app}
 use Rattle.dn_command.specs.Requests.{command_asked, subcommand_asked}
@@ -28,10 +27,8 @@ one_more : (s : Shape) (from next to : Walk) (word : Text) (rest : List Text)
     → (walked s.rules [] from word ≡ next) × (turn_fault s [] from word ≡ []) → Passes s next rest to
     → Passes s from (word ∷ rest) to
 unfolding walk_fault
-one_more s from next to word rest one others = record {
-  ends = ap (λ (w : Walk). fold (walked s.rules []) w rest) one.0 ∙ others.ends;
-  none = ap₂ (λ (f : Kinds) (w : Walk). or_else f (walk_fault s [] w rest)) one.1 one.0 ∙ others.none;
-}
+one_more s from next to word rest one others =
+    record { ends = rw (one.0) (others.ends); none = rw (one.1, one.0) (others.none) }
 
 -- a word without a fault, followed by other words
 pub word_then : {s : Shape} {from to : Walk} {word : Text} {rest : List Text} → turn_fault s [] from word ≡ []
@@ -83,8 +80,7 @@ end_fault s end = or_else (settle_fault s.rules s.args_override_self end)
 -- a command has no fault if its words have none, and none is found after them
 command_passes : (s : Shape) (words : List Text) (end : Walk) → Passes s (walk_from nothing_held) words end
     → end_fault s end.held ≡ [] → level_fault s [] nothing_held words false [] ≡ []
-command_passes s words end passes none =
-    ap₂ (λ (f : Kinds) (w : Walk). or_else f (or_else [] (end_fault s w.held))) passes.none passes.ends ∙ none
+command_passes s words end passes none = rw (passes.none, passes.ends) none
 
 -- a line has no fault if its command has none
 line_passes : (a : App) (words rest : List Text) (command : Text) (s : Shape)
@@ -92,13 +88,7 @@ line_passes : (a : App) (words rest : List Text) (command : Text) (s : Shape)
     → find (λ x. answers_to command (label_of x)) a.subs ≡ Some s
     → level_fault a.top (names_of a) nothing_held words true [] ≡ []
     → level_fault s [] nothing_held rest false [] ≡ [] → built_fault a nothing_held words ≡ []
-line_passes a words rest command s stops finds above below =
-    ap (λ (stop : Option (Text × List Text)). level_fault a.top (names_of a) nothing_held words
-    (is_some (entered a stop)) (entered_fault a stop)) stops
-    ∙ (ap (λ (o : Option Shape). level_fault a.top (names_of a) nothing_held words
-    (is_some (option_map (λ x. rows_at x rest) o))
-    (option_map_or (λ x. level_fault x [] nothing_held rest false []) o [])) finds
-    ∙ (ap (λ (f : Kinds). level_fault a.top (names_of a) nothing_held words true f) below ∙ above))
+line_passes a words rest command s stops finds above below = rw (stops, finds, below) above
 
 -- a line asks for what its command asks for after the words
 line_asks : (a : App) (words rest : List Text) (command : Text) (s : Shape) (end : Walk)
@@ -107,10 +97,7 @@ line_asks : (a : App) (words rest : List Text) (command : Text) (s : Shape) (end
     → walk s.rules [] nothing_held rest ≡ end
     → subcommand_asked (entered a (walk a.top.rules (names_of a) nothing_held words).stopped)
     ≡ command_asked s.name (finished s.rules end.held)
-line_asks a words rest command s end stops finds ends =
-    ap (λ (stop : Option (Text × List Text)). subcommand_asked (entered a stop)) stops
-    ∙ (ap (λ (o : Option Shape). subcommand_asked (option_map (λ x. rows_at x rest) o)) finds
-    ∙ ap (λ (w : Walk). command_asked s.name (finished s.rules w.held)) ends)
+line_asks a words rest command s end stops finds ends = rw (stops, finds, ends)
 
 -- what `clap` reads of a line: it stops at the command, whose words have no fault and ask for this
 pub line_reads : (forms : Bor (List (Bor Text))) (program command : Text) (rest : List Text)

@@ -1,5 +1,6 @@
 -- Lemmas on the request for a line of words, given what `clap` finds in it.
-use Rattle.std.proofs.Common.{◌≡◌, ◌⊎◌, ◌∙◌, ◌&&◌, ◌||◌, not, ℕ, nat_eq, Bool, false, true, true≢false, List, [], ◌∷◌, length, map, Option, Some, is_some, unwrap_or, codes, refl, sym, ap, subst, inl, inr, arith}
+use Rattle.std.proofs.Common.{◌≡◌, ◌⊎◌, ◌∙◌, ◌&&◌, ◌||◌, not, ℕ, nat_eq, Bool, false, true, true≢false, List, [], ◌∷◌, length, map, Option, Some, unwrap_or, codes, refl, sym, ap, subst, inl, inr, arith}
+use Rattle.std.proofs.lemmas.Bool.{cases_Bool}
 use Rattle.std.proofs.lemmas.Bool.Decides.{nat_tests}
 use Rattle.std.specs.Borrow.{Bor}
 use Rattle.clap.specs.Words.{IsAmong, Kinds, Text, fault_of, subcommand_of}
@@ -26,11 +27,10 @@ pub name_cases : (P : Text → Type 0) → P (codes "-") → ((b : ℕ) (rest : 
     → (word : Text) → is_name word ≡ true → P word
 name_cases P one other [] h = absurd (true≢false (sym h))
 name_cases P one other (b ∷ x ∷ xs) h = other b (x ∷ xs) (not_dash (nat_eq b 45) h)
-name_cases P one other (b ∷ []) h = go (nat_eq b 45) refl
-  where
-    go : (t : Bool) → nat_eq b 45 ≡ t → P (b ∷ [])
-    go true e = subst (λ c. P (c ∷ [])) (sym (dash b e)) one
-    go false e = other b [] e
+name_cases P one other (b ∷ []) h = elim (cases_Bool (nat_eq b 45)) [
+  | inl e ↦ rw (dash b e) one
+  | inr e ↦ other b [] e
+]
 
 -- ---- the forms in memory
 
@@ -40,14 +40,6 @@ form_refs p q r = record {
   ref_ptr = p;
   now = record { ref_ptr = q; now = codes "1" } ∷ record { ref_ptr = r; now = codes "2" } ∷ [];
 }
-
-abbrev first : List Text → Text
-first [] = []
-first (x ∷ xs) = x
-
-abbrev second : List Text → Text
-second [] = []
-second (x ∷ xs) = first xs
 
 -- what holds of all references to these texts holds of all forms
 forms_cases : (P : Bor (List (Bor Text)) → Type 0) → ((p q r : ℕ × ℕ) → P (form_refs p q r))
@@ -59,14 +51,13 @@ forms_cases P h forms e = go forms.now e
     go (a ∷ []) e = absurd (omega (arith, ap length e))
     go (a ∷ b ∷ c ∷ rest) e = absurd (omega (arith, ap length e))
     go (a ∷ b ∷ []) e =
+        let first : a.now ≡ codes "1" = cc in
+        let second : b.now ≡ codes "2" = cc in
         subst
-        (λ (t : Text). P
-        (record { ref_ptr = forms.ref_ptr; now = record { ref_ptr = a.ref_ptr; now = t } ∷ b ∷ [] }))
-        (sym (ap first e))
-        (subst (λ (t : Text). P (record {
+        (λ (t : Text × Text). P (record {
           ref_ptr = forms.ref_ptr;
-          now = record { ref_ptr = a.ref_ptr; now = codes "1" } ∷ record { ref_ptr = b.ref_ptr; now = t } ∷ [];
-        })) (sym (ap second e)) (h forms.ref_ptr a.ref_ptr b.ref_ptr))
+          now = record { ref_ptr = a.ref_ptr; now = t.0 } ∷ record { ref_ptr = b.ref_ptr; now = t.1 } ∷ [];
+        })) (let both : (codes "1", codes "2") ≡ (a.now, b.now) = cc in both) (h forms.ref_ptr a.ref_ptr b.ref_ptr)
 
 -- ---- lines
 
@@ -75,18 +66,14 @@ abbrev pub Reads : Bor (List (Bor Text)) → List Text → Asked → Type 0
 Reads forms words asked =
     (fault_of (dnorm_app forms) words ≡ []) × (subcommand_asked (subcommand_of (dnorm_app forms) words) ≡ Some asked)
 
--- no fault is among no faults
-none_among : (faults : Kinds) (k : ErrorKind) → faults ≡ [] → IsAmong k faults → ⊥
-none_among faults k none h = subst (λ (f : Kinds). IsAmong k f) none h
-
 -- the request, if there is no fault
 does : (faults : Kinds) (listed : Option Asked) (asked : Asked) (r : Request) → faults ≡ [] → listed ≡ Some asked
     → Answers faults listed r → Requests asked r ⊎ (r ≡ requests.Memory)
 does faults listed asked (requests.Command command) none is h = inl (ap (λ o. unwrap_or o asked) (sym h.1 ∙ is))
-does faults listed asked (requests.Print text) none is (inl h) = absurd (none_among _ _ none h)
-does faults listed asked (requests.Print text) none is (inr h) = absurd (none_among _ _ none h.0)
-does faults listed asked requests.Bad none is (inl h) = absurd (none_among _ _ none h.1)
-does faults listed asked requests.Bad none is (inr h) = absurd (true≢false (ap is_some (sym is ∙ h.1)))
+does faults listed asked (requests.Print text) none is (inl h) = absurd (rw none at h)
+does faults listed asked (requests.Print text) none is (inr h) = absurd (rw none at (h.0))
+does faults listed asked requests.Bad none is (inl h) = absurd (rw none at (h.1))
+does faults listed asked requests.Bad none is (inr h) = cc (h.1)
 does faults listed asked requests.Memory none is h = inr refl
 
 -- the request for words that `clap` reads as this, at any address of the forms
@@ -116,12 +103,9 @@ no_call [] k none h = elim h [ ]
 no_call (x ∷ xs) k none (inl e) = ap is_call e ∙ none.0
 no_call (x ∷ xs) k none (inr h) = no_call xs k none.1 h
 
-some_fault : (k : ErrorKind) (ks : Kinds) → k ∷ ks ≡ [] → ⊥
-some_fault k ks e = omega (arith, ap length e)
-
 mistaken_by : (listed : Option Asked) (k : ErrorKind) (ks : Kinds) (r : Request) → NoCalls (k ∷ ks)
     → Answers (k ∷ ks) listed r → (r ≡ requests.Bad) ⊎ (r ≡ requests.Memory)
-mistaken_by listed k ks (requests.Command command) none h = absurd (some_fault k ks h.0)
+mistaken_by listed k ks (requests.Command command) none h = cc (h.0)
 mistaken_by listed k ks (requests.Print text) none (inl h) = absurd (true≢false (no_call (k ∷ ks) DisplayHelp none h))
 mistaken_by listed k ks (requests.Print text) none (inr h) =
     absurd (true≢false (no_call (k ∷ ks) DisplayVersion none h.0))
@@ -130,53 +114,44 @@ mistaken_by listed k ks requests.Memory none h = inr refl
 
 helped_by : (listed : Option Asked) (r : Request) → Answers (DisplayHelp ∷ []) listed r → Prints r ⊎
     (r ≡ requests.Memory)
-helped_by listed (requests.Command command) h = absurd (some_fault _ _ h.0)
+helped_by listed (requests.Command command) h = cc (h.0)
 helped_by listed (requests.Print text) h = inl tt
 helped_by listed requests.Bad (inl (k, (inl e), no_help, no_version)) = absurd (no_help e)
 helped_by listed requests.Bad (inl (k, (inr h), no_help, no_version)) = absurd h
-helped_by listed requests.Bad (inr h) = absurd (some_fault _ _ h.0)
+helped_by listed requests.Bad (inr h) = cc (h.0)
 helped_by listed requests.Memory h = inr refl
 
 versioned_by : (listed : Option Asked) (r : Request) → Answers (DisplayVersion ∷ []) listed r
     → PrintsVersion r ⊎ (r ≡ requests.Memory)
-versioned_by listed (requests.Command command) h = absurd (some_fault _ _ h.0)
+versioned_by listed (requests.Command command) h = cc (h.0)
 versioned_by listed (requests.Print text) (inl (inl e)) = absurd (true≢false (ap is_version (sym e)))
 versioned_by listed (requests.Print text) (inl (inr h)) = absurd h
 versioned_by listed (requests.Print text) (inr h) = inl h.1
 versioned_by listed requests.Bad (inl (k, (inl e), no_help, no_version)) = absurd (no_version e)
 versioned_by listed requests.Bad (inl (k, (inr h), no_help, no_version)) = absurd h
-versioned_by listed requests.Bad (inr h) = absurd (some_fault _ _ h.0)
+versioned_by listed requests.Bad (inr h) = cc (h.0)
 versioned_by listed requests.Memory h = inr refl
 
--- equal faults make the same requests right
-of_same : (faults same : Kinds) (listed : Option Asked) (r : Request) → faults ≡ same → Answers faults listed r
-    → Answers same listed r
-of_same faults same listed r e h = subst (λ (f : Kinds). Answers f listed r) e h
-
 -- the requests for words in which `clap` finds these faults
+found : (words : List Text) (same : Kinds) (Q : Request → Type 0)
+    → ((p q r : ℕ × ℕ) → fault_of (dnorm_app (form_refs p q r)) words ≡ same)
+    → ((listed : Option Asked) (r : Request) → Answers same listed r → Q r) → (r : Request) → IsReadByClap words r → Q r
+found words same Q faults by r h =
+    by _ r (rw (forms_cases (λ f. fault_of (dnorm_app f) words ≡ same) faults h.forms h.are_forms) at (h.answer))
+
 pub mistaken : (words : List Text) (k : ErrorKind) (ks : Kinds)
     → ((p q r : ℕ × ℕ) → fault_of (dnorm_app (form_refs p q r)) words ≡ k ∷ ks) → NoCalls (k ∷ ks)
     → (r : Request) → IsReadByClap words r → (r ≡ requests.Bad) ⊎ (r ≡ requests.Memory)
-mistaken words k ks faults none r h =
-    let e =
-    forms_cases (λ (f : Bor (List (Bor Text))). fault_of (dnorm_app f) words ≡ k ∷ ks) faults h.forms h.are_forms in
-    mistaken_by _ k ks r none (of_same _ _ _ r e h.answer)
+mistaken words k ks faults none =
+    found words (k ∷ ks) (λ r. (r ≡ requests.Bad) ⊎ (r ≡ requests.Memory)) faults
+    (λ listed r h. mistaken_by listed k ks r none h)
 
 pub helped : (words : List Text)
     → ((p q r : ℕ × ℕ) → fault_of (dnorm_app (form_refs p q r)) words ≡ DisplayHelp ∷ [])
     → (r : Request) → IsReadByClap words r → Prints r ⊎ (r ≡ requests.Memory)
-helped words faults r h =
-    let e =
-    forms_cases
-    (λ (f : Bor (List (Bor Text))). fault_of (dnorm_app f) words ≡ DisplayHelp ∷ []) faults h.forms h.are_forms in
-    helped_by _ r (of_same _ _ _ r e h.answer)
+helped words faults = found words _ (λ r. Prints r ⊎ (r ≡ requests.Memory)) faults helped_by
 
 pub versioned : (words : List Text)
     → ((p q r : ℕ × ℕ) → fault_of (dnorm_app (form_refs p q r)) words ≡ DisplayVersion ∷ [])
     → (r : Request) → IsReadByClap words r → PrintsVersion r ⊎ (r ≡ requests.Memory)
-versioned words faults r h =
-    let e =
-    forms_cases
-    (λ (f : Bor (List (Bor Text))). fault_of
-    (dnorm_app f) words ≡ DisplayVersion ∷ []) faults h.forms h.are_forms in
-    versioned_by _ r (of_same _ _ _ r e h.answer)
+versioned words faults = found words _ (λ r. PrintsVersion r ⊎ (r ≡ requests.Memory)) faults versioned_by

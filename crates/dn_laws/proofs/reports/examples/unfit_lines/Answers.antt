@@ -2,10 +2,6 @@ use Rattle.std.proofs.Common.{refl}
 use Rattle.std.specs.Fmt.{digits}
 use Rattle.dn_laws.proofs.reports.examples.unfit_lines.Goals as goal
 
-pub returns-clause-node : goal.returns-clause-node
+pub returns : goal.returns
 unfolding digits
-returns-clause-node c = refl
-
-pub returns-clause-kinds : goal.returns-clause-kinds
-unfolding digits
-returns-clause-kinds c = refl
+returns c = record { node = refl; kinds = refl }

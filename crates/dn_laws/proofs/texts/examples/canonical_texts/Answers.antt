@@ -8,30 +8,29 @@ use Rattle.dn_laws.specs.State.TextExamples.{on_one_pair}
 use Rattle.dn_laws.proofs.texts.ExampleLaws.{canonical_at, same_at, worked_one_valid, worked_two_valid}
 use Rattle.dn_laws.proofs.texts.examples.canonical_texts.Goals as goal
 
-pub returns-clause-one : goal.returns-clause-one
+pub returns : goal.returns
 unfolding digits
-returns-clause-one c = (
-  on_one_pair worked_one,
-  record {
-    canon = record {
-      valid = worked_one_valid;
-      canonical = canonical_at One worked_one worked_form_one;
-      same = (refl, same_at worked worked_one (curve_meaning.same_sym worked_one worked worked_same_one));
-    };
-    text_is = refl;
-  },
-)
-
-pub returns-clause-two : goal.returns-clause-two
-unfolding digits
-returns-clause-two c = (
-  on_one_pair worked_two,
-  record {
-    canon = record {
-      valid = worked_two_valid;
-      canonical = canonical_at Two worked_two (search rules);
-      same = (refl, same_at worked worked_two (curve_meaning.same_sym worked_two worked worked_same_two));
-    };
-    text_is = refl;
-  },
-)
+returns c = record {
+  one = (
+    on_one_pair worked_one,
+    record {
+      canon = record {
+        valid = worked_one_valid;
+        canonical = canonical_at One worked_one worked_form_one;
+        same = (refl, same_at worked worked_one (curve_meaning.same_sym worked_one worked worked_same_one));
+      };
+      text_is = refl;
+    },
+  );
+  two = (
+    on_one_pair worked_two,
+    record {
+      canon = record {
+        valid = worked_two_valid;
+        canonical = canonical_at Two worked_two (search rules);
+        same = (refl, same_at worked worked_two (curve_meaning.same_sym worked_two worked worked_same_two));
+      };
+      text_is = refl;
+    },
+  );
+}

@@ -2,22 +2,6 @@ use Rattle.std.proofs.Common.{refl}
 use Rattle.std.specs.Fmt.{digits}
 use Rattle.dn_laws.proofs.texts.examples.printed.Goals as goal
 
-pub returns-clause-sp : goal.returns-clause-sp
+pub returns : goal.returns
 unfolding digits
-returns-clause-sp c = refl
-
-pub returns-clause-max : goal.returns-clause-max
-unfolding digits
-returns-clause-max c = refl
-
-pub returns-clause-ss : goal.returns-clause-ss
-unfolding digits
-returns-clause-ss c = refl
-
-pub returns-clause-p2p : goal.returns-clause-p2p
-unfolding digits
-returns-clause-p2p c = refl
-
-pub returns-clause-co : goal.returns-clause-co
-unfolding digits
-returns-clause-co c = refl
+returns c = record { sp = refl; max = refl; ss = refl; p2p = refl; co = refl }

@@ -1,11 +1,15 @@
-use Rattle.dn_laws.proofs.words.ReadLaws.{answered, form_refs}
-use Rattle.dn_laws.proofs.words.AnyLines.{canon_any, check_any, compare_any, show_any}
+use Rattle.std.proofs.Common.{None, refl}
+use Rattle.clap.proofs.OnLiterals.{clap_on_literals}
+use Rattle.dn_command.specs.Commands.{Canon, Check, Compare, Show}
+use Rattle.dn_arc.specs.declared.arc.Form.TheVariants.{One}
+use Rattle.dn_laws.proofs.words.ReadLaws.{answered}
 use Rattle.dn_laws.proofs.words.laws.any_names.Goals as goal
 
 pub returns : goal.returns
+unfolding clap_on_literals
 returns c = record {
-  show = λ program name r h. answered _ _ (λ p q s. show_any (form_refs p q s) program name) r h;
-  check = λ program name r h. answered _ _ (λ p q s. check_any (form_refs p q s) program name) r h;
-  canon = λ program name r h. answered _ _ (λ p q s. canon_any p q s program name) r h;
-  compare = λ program left right r h. answered _ _ (λ p q s. compare_any (form_refs p q s) program left right) r h;
+  show = λ program name. answered _ (Show name) (λ p q s. (refl, refl));
+  check = λ program name. answered _ (Check name None) (λ p q s. (refl, refl));
+  canon = λ program name. answered _ (Canon name One) (λ p q s. (refl, refl));
+  compare = λ program left right. answered _ (Compare left right) (λ p q s. (refl, refl));
 }

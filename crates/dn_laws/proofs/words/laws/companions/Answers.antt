@@ -1,13 +1,23 @@
+use Rattle.std.proofs.Common.{[], ◌∷◌, ◌++◌, Some, codes, refl}
+use Rattle.clap.proofs.OnLiterals.{clap_on_literals}
+use Rattle.dn_command.specs.Commands.{Check}
 use Rattle.dn_laws.proofs.words.ReadLaws.{answered, form_refs}
-use Rattle.dn_laws.proofs.words.CompanionLines.{with_after, with_before, with_equals}
+use Rattle.dn_laws.proofs.words.LineLaws.{line_reads, name_then, no_more, value_then, word_then}
 use Rattle.dn_laws.proofs.words.laws.companions.Goals as goal
 
 pub returns : goal.returns
+unfolding clap_on_literals
 returns c = record {
-  after = λ program name companion r is_text is_companion h.
-      answered _ _ (λ p q s. with_after (form_refs p q s) program name companion is_text is_companion) r h;
-  before = λ program name companion r is_text is_companion h.
-      answered _ _ (λ p q s. with_before (form_refs p q s) program name companion is_text is_companion) r h;
-  equals = λ program name companion r is h.
-      answered _ _ (λ p q s. with_equals (form_refs p q s) program name companion is) r h;
+  after = λ program name companion r is_text is_companion.
+      answered _ (Check name (Some companion))
+      (λ p q s. line_reads (form_refs p q s) program (codes "check") (name ∷ codes "--with" ∷ companion ∷ [])
+      refl refl refl (name_then is_text refl (word_then refl (value_then is_companion no_more))) refl refl) r;
+  before = λ program name companion r is_text is_companion.
+      answered _ (Check name (Some companion))
+      (λ p q s. line_reads (form_refs p q s) program (codes "check") (codes "--with" ∷ companion ∷ name ∷ [])
+      refl refl refl (word_then refl (value_then is_companion (name_then is_text refl no_more))) refl refl) r;
+  equals = λ program name companion r is.
+      answered _ (Check name (Some companion))
+      (λ p q s. line_reads (form_refs p q s) program (codes "check") (name ∷ (codes "--with=" ++ companion) ∷ [])
+      refl refl refl (name_then is refl (word_then refl no_more)) refl refl) r;
 }

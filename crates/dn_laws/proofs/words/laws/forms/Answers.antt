@@ -1,10 +1,24 @@
-use Rattle.dn_laws.proofs.words.ReadLaws.{answered}
-use Rattle.dn_laws.proofs.words.FormLines.{form_after, form_one, form_two}
+use Rattle.std.proofs.Common.{[], ◌∷◌, codes, refl}
+use Rattle.clap.proofs.OnLiterals.{clap_on_literals}
+use Rattle.dn_command.specs.Commands.{Canon}
+use Rattle.dn_arc.specs.declared.arc.Form.TheVariants.{One, Two}
+use Rattle.dn_laws.proofs.words.ReadLaws.{answered, form_refs}
+use Rattle.dn_laws.proofs.words.LineLaws.{line_reads, name_then, no_more, word_then}
 use Rattle.dn_laws.proofs.words.laws.forms.Goals as goal
 
 pub returns : goal.returns
+unfolding clap_on_literals
 returns c = record {
-  one = λ program name r is h. answered _ _ (λ p q s. form_one p q s program name is) r h;
-  two = λ program name r is h. answered _ _ (λ p q s. form_two p q s program name is) r h;
-  after = λ program name r is h. answered _ _ (λ p q s. form_after p q s program name is) r h;
+  one = λ program name r is.
+      answered _ (Canon name One)
+      (λ p q s. line_reads (form_refs p q s) program (codes "canon") (codes "--form" ∷ codes "1" ∷ name ∷ [])
+      refl refl refl (word_then refl (word_then refl (name_then is refl no_more))) refl refl) r;
+  two = λ program name r is.
+      answered _ (Canon name Two)
+      (λ p q s. line_reads (form_refs p q s) program (codes "canon") (codes "--form" ∷ codes "2" ∷ name ∷ [])
+      refl refl refl (word_then refl (word_then refl (name_then is refl no_more))) refl refl) r;
+  after = λ program name r is.
+      answered _ (Canon name Two)
+      (λ p q s. line_reads (form_refs p q s) program (codes "canon") (name ∷ codes "--form=2" ∷ [])
+      refl refl refl (name_then is refl (word_then refl no_more)) refl refl) r;
 }
