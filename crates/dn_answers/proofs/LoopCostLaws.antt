@@ -1,5 +1,5 @@
 -- Of the self-loops of a `min` graph, only the least cost over all amounts changes costs.
-use Rattle.std.specs.Prelude.{◌≡◌, ◌≢◌, ◌↔◌, ℤ, pos, ◌+ℤ◌, ◌-ℤ◌, ◌*ℤ◌, ◌≤ℤ◌, List, [], ◌∷◌, Bool, true, false, cond, refl}
+use Rattle.std.specs.Prelude.{◌≡◌, ◌≢◌, ◌↔◌, ℤ, pos, ◌-ℤ◌, ◌*ℤ◌, ◌≤ℤ◌, List, [], ◌∷◌, Bool, true, false, cond, refl}
 use Rattle.std.specs.Int.Signed.{≤ℤ_refl}
 use Rattle.std.specs.Ordering.{int_eq}
 use Rattle.std.proofs.Common.{inl, inr, ap, arith, ◌&&◌}
@@ -14,7 +14,7 @@ use Rattle.dn_arc.proofs.CurvesLaws.{curve_meaning}
 use Rattle.dn_arc.proofs.ProductsLaws.{mul_sub, mul_mono}
 use Rattle.dn_instance.specs.Instances.{Graph}
 use Rattle.dn_answers.specs.Flows.{units_on, net_outflow}
-use Rattle.dn_answers.specs.MinCostFlows.{IsFeasible, flow_cost, HasFlowWithin, IsLeastCost}
+use Rattle.dn_answers.specs.MinCostFlows.{HasFlowWithin, IsLeastCost}
 use Rattle.dn_answers.specs.Loops.{LeastOverall, SameButForLoops}
 use Rattle.dn_answers.proofs.AssemblyLaws.{Carried, matched}
 use Rattle.dn_answers.proofs.CarryLaws.{cost_low, cost_high, spent, CostShares, cost_shares, spent_cost, costs_carry}

@@ -1,5 +1,5 @@
 -- Self-loops do not change the values of flows, and those of no negative length do not change distances.
-use Rattle.std.specs.Prelude.{◌≡◌, ◌↔◌, ℤ, pos, ◌+ℤ◌, ◌≤ℤ◌, List, [], ◌∷◌, Bool, false, cond, refl}
+use Rattle.std.specs.Prelude.{◌≡◌, ◌↔◌, ℤ, pos, ◌≤ℤ◌, List, [], ◌∷◌, Bool, false, cond, refl}
 use Rattle.std.specs.List.{AllByRecursion}
 use Rattle.std.specs.Int.Signed.{≤ℤ_refl}
 use Rattle.std.specs.Ordering.{int_eq}
@@ -11,7 +11,7 @@ use Rattle.dn_arc.specs.declared.arc.LengthArc.{LengthArc}
 use Rattle.dn_arc.specs.declared.arc.CapArc.{CapArc}
 use Rattle.dn_arc.specs.Canonical.{IsCapArc}
 use Rattle.dn_instance.specs.Instances.{Graph}
-use Rattle.dn_answers.specs.Walks.{IsAmong, Leads, IsWalk, walk_length, HasWalkWithin, IsDistance}
+use Rattle.dn_answers.specs.Walks.{IsAmong, Leads, walk_length, HasWalkWithin, IsDistance}
 use Rattle.dn_answers.specs.Flows.{IsWithin, net_outflow}
 use Rattle.dn_answers.specs.MaxFlows.{HasValue}
 use Rattle.dn_answers.specs.Loops.{without_loops, loopless, HasNoNegativeLoop}

@@ -6,14 +6,12 @@ use Rattle.dn_arc.specs.declared.arc.CostArc.{CostArc}
 use Rattle.dn_arc.specs.declared.difference.How.{How}
 use Rattle.dn_arc.specs.declared.difference.How.TheVariants.{Lengths, Totals, Costs}
 use Rattle.dn_arc.specs.Differences.{IsLengthOf, IsCostOf}
-use Rattle.dn_arc.specs.Lengths.{HasLength, LeastLength}
 use Rattle.dn_arc.specs.Pairs.{bundle}
 use Rattle.dn_arc.proofs.SplitsLaws.{some_least}
 use Rattle.dn_instance.specs.Instances.{Instance, MinCostFlow, MaxFlow, ShortestPaths}
 use Rattle.dn_instance.specs.Validity.{IsNode, IsValid}
 use Rattle.dn_instance.specs.declared.verdict.Verdict.TheVariants as Verdicts
 use Rattle.dn_compare.specs.FirstDifference.{BundlesDiffer, IsFirstDifference}
-use Rattle.dn_answers.specs.Walks.{walk_length}
 use Rattle.dn_answers.specs.Parallel.{parallel, supplies_for, IsDistanceOf, IsLeastCostOf, HaveAnswers}
 use Rattle.dn_answers.proofs.FlowLaws.{caps_at, caps_of}
 use Rattle.dn_answers.proofs.ParallelLaws.{one_arc, split_of, length_alone, capacity_alone, cost_alone, through}
