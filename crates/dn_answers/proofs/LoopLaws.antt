@@ -140,7 +140,8 @@ refilled (a ∷ arcs) gs c h = elim (cases_Bool (is_loop a)) [
 ]
   where
     more : is_loop a ≡ false → (hs : List ℤ) → IsWithin cap_low cap_high (a ∷ without_loops arcs) hs
-        → ((ks : List ℤ) → IsWithin cap_low cap_high (without_loops arcs) ks → Refilled arcs ks) → Refilled (a ∷ arcs) hs
+        → ((ks : List ℤ) → IsWithin cap_low cap_high (without_loops arcs) ks → Refilled arcs ks)
+        → Refilled (a ∷ arcs) hs
     more t [] w go = absurd w
     more t (k ∷ ks) w go =
         let r = go ks w.2 in
