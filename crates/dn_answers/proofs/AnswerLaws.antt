@@ -1,7 +1,6 @@
 -- Instances that pose the same problem have the same answers. So do texts with the same canonical text, and a text and
 -- its canonical text.
 use Rattle.std.specs.Prelude.{ℕ, ◌-◌, ◌<◌, ◌^◌, List, length, refl}
-use Rattle.std.proofs.Common.{subst}
 use Rattle.dn_line.specs.Pieces.{lines}
 use Rattle.dn_instance.specs.Instances.{Instance, MinCostFlow, MaxFlow, ShortestPaths, Sources, Queries, Coordinates}
 use Rattle.dn_instance.specs.Validity.{IsValid}
@@ -18,14 +17,11 @@ use Rattle.dn_answers.proofs.FlowLaws.{caps_of, same_values, same_greatest, same
 -- valid instances that are the same problem have the same answers
 pub same_answers : (I J : Instance) → IsValid I → IsValid J → IsSame I J → HaveSameAnswers I J
 same_answers (MinCostFlow s G) (MinCostFlow t H) v w e =
-    subst (λ u. HaveSameAnswers (MinCostFlow s G) (MinCostFlow u H)) e.0
-    (same_bounds s G H e.1, same_least s G H e.1)
+    rw (← e.0) (same_bounds s G H e.1, same_least s G H e.1)
 same_answers (MaxFlow a b G) (MaxFlow c d H) v w e =
     let g = caps_of G.nodes G.arcs v.0.placed in
     let h = caps_of H.nodes H.arcs w.0.placed in
-    subst (λ x. HaveSameAnswers (MaxFlow a b G) (MaxFlow x d H)) e.0
-    (subst (λ x. HaveSameAnswers (MaxFlow a b G) (MaxFlow a x H)) e.1
-    (same_values a b G H e.2 g h, same_greatest a b G H e.2 g h))
+    rw (← e.0, ← e.1) (same_values a b G H e.2 g h, same_greatest a b G H e.2 g h)
 same_answers (ShortestPaths G) (ShortestPaths H) v w e = (walk_bounds G H e, same_distances G H e)
 same_answers (Sources xs) (Sources ys) v w e = e
 same_answers (Queries xs) (Queries ys) v w e = e

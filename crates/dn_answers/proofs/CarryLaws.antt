@@ -1,8 +1,8 @@
 -- Bundles that mean the same carry the same units, at no greater cost.
-use Rattle.std.specs.Prelude.{◌≡◌, ℤ, pos, ◌+ℤ◌, ◌-ℤ◌, ◌*ℤ◌, ◌≤ℤ◌, List, [], ◌∷◌, true, refl}
+use Rattle.std.specs.Prelude.{◌≡◌, ◌↔◌, ℤ, pos, ◌-ℤ◌, ◌*ℤ◌, ◌≤ℤ◌, List, [], ◌∷◌, true, refl}
 use Rattle.std.specs.List.{AllByRecursion}
 use Rattle.std.specs.Int.Signed.{≤ℤ_refl}
-use Rattle.std.proofs.Common.{sym, ap, arith, ◌∙◌}
+use Rattle.std.proofs.Common.{sym, arith, ◌∙◌}
 use Rattle.std.proofs.lemmas.Int.{ints, by_lt_z}
 use Rattle.dn_arc.specs.declared.arc.CapArc.{CapArc}
 use Rattle.dn_arc.specs.declared.arc.CostArc.{CostArc}
@@ -17,28 +17,37 @@ use Rattle.dn_answers.proofs.AssemblyLaws.{Shares, weight, Carried}
 abbrev pub units : {Arc : Type 0} → Arc → ℤ → ℤ
 units a f = f
 
--- `max`: shares are 0 to CAP
+-- `max`: an arc carries 0 to CAP, at no cost
+abbrev pub cap_low : CapArc → ℤ
+cap_low a = pos 0
+
+abbrev pub cap_high : CapArc → ℤ
+cap_high a = a.cap
+
+abbrev pub free : CapArc → ℤ → ℤ
+free a f = pos 0
+
 abbrev pub CapShares : List CapArc → List ℤ → Type 0
-CapShares = Shares (λ (a : CapArc). pos 0) (λ (a : CapArc). a.cap)
+CapShares = Shares cap_low cap_high
 
 cap_least : (arcs : List CapArc) (zs : List ℤ) → CapShares arcs zs → pos 0 ≤ℤ weight units arcs zs
 cap_least [] zs h = ≤ℤ_refl (pos 0)
 cap_least (a ∷ rest) [] h = ≤ℤ_refl (pos 0)
-cap_least (a ∷ rest) (z ∷ zs) h = let i = cap_least rest zs h.2 in let f = h.0 in omega (arith, ints)
+cap_least (a ∷ rest) (z ∷ zs) h = omega (arith, ints, cap_least rest zs h.2, h.0)
 
 pub cap_most : (arcs : List CapArc) (zs : List ℤ) → CapShares arcs zs → weight units arcs zs ≤ℤ total_cap arcs
 cap_most [] zs h = ≤ℤ_refl (pos 0)
 cap_most (a ∷ rest) [] h = absurd h
-cap_most (a ∷ rest) (z ∷ zs) h = let i = cap_most rest zs h.2 in let f = h.1 in omega (arith, ints)
+cap_most (a ∷ rest) (z ∷ zs) h = omega (arith, ints, cap_most rest zs h.2, h.1)
 
-no_cost : (arcs : List CapArc) (zs : List ℤ) → weight (λ (a : CapArc) (f : ℤ). pos 0) arcs zs ≡ pos 0
+no_cost : (arcs : List CapArc) (zs : List ℤ) → weight free arcs zs ≡ pos 0
 no_cost [] zs = refl
 no_cost (a ∷ rest) [] = refl
-no_cost (a ∷ rest) (z ∷ zs) = let i = no_cost rest zs in omega (arith, ints)
+no_cost (a ∷ rest) (z ∷ zs) = omega (arith, ints, no_cost rest zs)
 
 pub some_total : (arcs : List CapArc) → AllByRecursion IsCapArc arcs → pos 0 ≤ℤ total_cap arcs
 some_total [] h = ≤ℤ_refl (pos 0)
-some_total (a ∷ rest) h = let i = some_total rest h.1 in let f = h.0.some in omega (arith, ints)
+some_total (a ∷ rest) h = omega (arith, ints, some_total rest h.1, h.0.some)
 
 -- shares of the arcs that sum to x
 pub record Filled (arcs : List CapArc) (x : ℤ) : Type 0 where
@@ -54,68 +63,62 @@ filled (a ∷ rest) x h some most =
     let left = some_total rest h.1 in
     by_lt_z a.cap x
     (λ lt.
-    let f : Filled rest (x -ℤ a.cap) = filled rest (x -ℤ a.cap) h.1 (omega (arith, ints)) (omega (arith, ints)) in
-    let e = f.sum in
-    record { split = a.cap ∷ f.split; shares = (room, ≤ℤ_refl a.cap, f.shares); sum = omega (arith, ints) })
+    let f = filled rest (x -ℤ a.cap) h.1 (omega (arith, ints)) (omega (arith, ints)) in
+    record { split = a.cap ∷ f.split; shares = (room, ≤ℤ_refl a.cap, f.shares); sum = omega (arith, ints, f.sum) })
     (λ le.
-    let f : Filled rest (pos 0) = filled rest (pos 0) h.1 (≤ℤ_refl (pos 0)) left in
-    let e = f.sum in
-    record { split = x ∷ f.split; shares = (some, le, f.shares); sum = omega (arith, ints) })
+    let f = filled rest (pos 0) h.1 (≤ℤ_refl (pos 0)) left in
+    record { split = x ∷ f.split; shares = (some, le, f.shares); sum = omega (arith, ints, f.sum) })
 
 pub caps_carry : (xs ys : List CapArc) → AllByRecursion IsCapArc ys → SameTotal xs ys → (zs : List ℤ) → CapShares xs zs
-    → Carried (λ (a : CapArc). pos 0) (λ (a : CapArc). a.cap) (λ (a : CapArc) (f : ℤ). pos 0) true xs ys zs
+    → Carried cap_low cap_high free true xs ys zs
 caps_carry xs ys valid s zs h =
-    let e = s.is in
-    let most = cap_most xs zs h in
-    let f = filled ys (weight units xs zs) valid (cap_least xs zs h) (omega (arith, ints)) in
-    let g = no_cost xs zs in
-    let k = no_cost ys f.split in
+    let e = cap_most xs zs h in
+    let f = filled ys (weight units xs zs) valid (cap_least xs zs h) (omega (arith, ints, s.is)) in
+    let none = no_cost xs zs in
+    let g = no_cost ys f.split in
     record { split = f.split; shares = f.shares; same = λ e. sym f.sum; cost_is = omega (arith, ints) }
 
--- `min`: shares are LOW to CAP
-abbrev pub CostShares : List CostArc → List ℤ → Type 0
-CostShares = Shares (λ (a : CostArc). a.low) (λ (a : CostArc). a.cap)
+-- `min`: an arc carries LOW to CAP, at COST
+abbrev pub cost_low : CostArc → ℤ
+cost_low a = a.low
 
--- what a number costs
+abbrev pub cost_high : CostArc → ℤ
+cost_high a = a.cap
+
 abbrev pub spent : CostArc → ℤ → ℤ
 spent a f = a.cost *ℤ f
 
-pub are_shares : (arcs : List CostArc) (zs : List ℤ) → CostShares arcs zs → AreShares arcs zs
-are_shares [] [] h = tt
-are_shares [] (z ∷ zs) h = absurd h
-are_shares (a ∷ rest) [] h = absurd h
-are_shares (a ∷ rest) (z ∷ zs) h = (h.0, h.1, are_shares rest zs h.2)
+abbrev pub CostShares : List CostArc → List ℤ → Type 0
+CostShares = Shares cost_low cost_high
 
-pub from_shares : (arcs : List CostArc) (zs : List ℤ) → AreShares arcs zs → CostShares arcs zs
-from_shares [] [] h = tt
-from_shares [] (z ∷ zs) h = absurd h
-from_shares (a ∷ rest) [] h = absurd h
-from_shares (a ∷ rest) (z ∷ zs) h = (h.0, h.1, from_shares rest zs h.2)
+pub cost_shares : (arcs : List CostArc) (zs : List ℤ) → CostShares arcs zs ↔ AreShares arcs zs
+cost_shares [] [] = (λ h. h, λ h. h)
+cost_shares [] (z ∷ zs) = (λ h. h, λ h. h)
+cost_shares (a ∷ rest) [] = (λ h. h, λ h. h)
+cost_shares (a ∷ rest) (z ∷ zs) =
+    let i = cost_shares rest zs in (λ h. (h.0, h.1, i.0 h.2), λ h. (h.0, h.1, i.1 h.2))
 
 pub units_total : (arcs : List CostArc) (zs : List ℤ) → AreShares arcs zs → weight units arcs zs ≡ total zs
 units_total [] [] h = refl
 units_total [] (z ∷ zs) h = absurd h
 units_total (a ∷ rest) [] h = absurd h
-units_total (a ∷ rest) (z ∷ zs) h = ap (λ x. z +ℤ x) (units_total rest zs h.2)
+units_total (a ∷ rest) (z ∷ zs) h = rw (units_total rest zs h.2)
 
 pub spent_cost : (arcs : List CostArc) (zs : List ℤ) → weight spent arcs zs ≡ cost_of arcs zs
 spent_cost [] zs = refl
 spent_cost (a ∷ rest) [] = refl
-spent_cost (a ∷ rest) (z ∷ zs) = ap (λ x. (a.cost *ℤ z) +ℤ x) (spent_cost rest zs)
+spent_cost (a ∷ rest) (z ∷ zs) = rw (spent_cost rest zs)
 
 pub costs_carry : (xs ys : List CostArc) → SameCurve xs ys → (zs : List ℤ) → CostShares xs zs
-    → Carried (λ (a : CostArc). a.low) (λ (a : CostArc). a.cap) spent true xs ys zs
+    → Carried cost_low cost_high spent true xs ys zs
 costs_carry xs ys s zs h =
-    let shares = are_shares xs zs h in
+    let shares = (cost_shares xs zs).0 h in
     let there = (above xs ys s).there (total zs) (cost_of xs zs)
     (split_at_most xs zs (total zs) (record { shares = shares; whole = refl })) in
     let w = at_most_split ys (total zs) (cost_of xs zs) there in
-    let cheap = w.costs in
-    let e = spent_cost xs zs in
-    let f = spent_cost ys w.split in
     record {
       split = w.split;
-      shares = from_shares ys w.split w.is.shares;
+      shares = (cost_shares ys w.split).1 w.is.shares;
       same = λ e. units_total xs zs shares ∙ sym w.is.whole ∙ sym (units_total ys w.split w.is.shares);
-      cost_is = omega (arith, ints);
+      cost_is = omega (arith, ints, w.costs, spent_cost xs zs, spent_cost ys w.split);
     }

@@ -1,16 +1,17 @@
 -- The answers of small problems.
-use Rattle.std.specs.Prelude.{◌≡◌, ◌≢◌, ℤ, pos, negsuc, ◌+ℤ◌, ◌-ℤ◌, ◌≤ℤ◌, List, [], ◌∷◌, cond, Bool, true, false, refl}
+use Rattle.std.specs.Prelude.{◌≢◌, ℤ, pos, negsuc, ◌+ℤ◌, ◌≤ℤ◌, List, [], ◌∷◌, cond, refl}
 use Rattle.std.specs.List.{AllByRecursion}
 use Rattle.std.specs.Ordering.{int_eq}
-use Rattle.std.proofs.Common.{inl, inr, sym, ap, subst, arith, ◌∙◌}
+use Rattle.std.proofs.Common.{inl, inr, ap, arith}
 use Rattle.std.proofs.lemmas.Int.{ints}
+use Rattle.std.proofs.lemmas.Bool.{cases_Bool}
 use Rattle.std.proofs.lemmas.Bool.Decides.{Decides-int_eq}
 use Rattle.dn_arc.specs.declared.arc.LengthArc.{LengthArc}
 use Rattle.dn_instance.specs.Instances.{MinCostFlow, MaxFlow, ShortestPaths}
 use Rattle.dn_answers.specs.Walks.{IsAmong, Leads, walk_length, IsWalk, HasWalkWithin, IsDistance}
 use Rattle.dn_answers.specs.Flows.{net_outflow}
 use Rattle.dn_answers.specs.MaxFlows.{IsFlow, IsGreatestValue}
-use Rattle.dn_answers.specs.MinCostFlows.{supply_of, IsFeasible, flow_cost, IsLeastCost}
+use Rattle.dn_answers.specs.MinCostFlows.{IsFeasible, flow_cost, IsLeastCost}
 use Rattle.dn_answers.specs.Answers.{HaveSameAnswers}
 use Rattle.dn_answers.specs.Examples.{three_lengths, three_caps, three_costs, three_units, there_and_back, negative_cycle, returning_caps, forced_costs, two_units, five_units, unbalanced}
 use Rattle.dn_answers.proofs.WalkLaws.{at_among}
@@ -18,19 +19,16 @@ use Rattle.dn_answers.proofs.ParallelLaws.{not_eq}
 
 module _ (height : ℤ → ℤ) where
   -- the height does not rise by more than the LENGTH of the arc
-  record Gentle (a : (ℤ × ℤ) × LengthArc) : Type 0 where
-    rise : height a.0.1 ≤ℤ (height a.0.0 +ℤ a.1.length)
+  abbrev Gentle : (ℤ × ℤ) × LengthArc → Type 0
+  Gentle a = height a.0.1 ≤ℤ (height a.0.0 +ℤ a.1.length)
 
   -- a walk is at least as long as the height that it climbs
   climbs : (arcs : List ((ℤ × ℤ) × LengthArc)) → AllByRecursion Gentle arcs → (u v : ℤ)
       (walk : List ((ℤ × ℤ) × LengthArc)) → AllByRecursion (λ a. IsAmong a arcs) walk → Leads u walk v
       → height v ≤ℤ (height u +ℤ walk_length walk)
-  climbs arcs h u v [] m l = let e = ap height l in omega (arith, ints)
+  climbs arcs h u v [] m l = omega (arith, ints, ap height l)
   climbs arcs h u v (a ∷ walk) m l =
-      let i = climbs arcs h a.0.1 v walk m.1 l.1 in
-      let e = ap height l.0 in
-      let g = (at_among Gentle arcs h a m.0).rise in
-      omega (arith, ints)
+      omega (arith, ints, climbs arcs h a.0.1 v walk m.1 l.1, ap height l.0, at_among Gentle arcs h a m.0)
 
 -- the distances from 1
 abbrev from_one : ℤ → ℤ
@@ -46,13 +44,9 @@ three_distance = record {
   };
   length = refl;
   least = λ other w.
-      (let h = climbs from_one three_lengths.arcs (
-        record { rise = omega (arith, ints) },
-        (
-          record { rise = omega (arith, ints) },
-          (record { rise = omega (arith, ints) }, (record { rise = omega (arith, ints) }, tt)),
-        ),
-      ) (pos 1) (pos 3) other w.arcs w.leads in
+      (let h = climbs from_one three_lengths.arcs
+      (omega (arith, ints), (omega (arith, ints), (omega (arith, ints), (omega (arith, ints), tt))))
+      (pos 1) (pos 3) other w.arcs w.leads in
       omega (arith, ints));
 }
 
@@ -62,11 +56,7 @@ value_of [] f = absurd f.within
 value_of (x ∷ []) f = absurd f.within.2
 value_of (x ∷ y ∷ []) f = absurd f.within.2.2
 value_of (x ∷ y ∷ z ∷ []) f =
-    let e = f.conserved (pos 2) (λ h. cc) (λ h. cc) in
-    let a = f.within.2.0 in
-    let b = f.within.2.1 in
-    let c = f.within.2.2.1 in
-    omega (arith, ints)
+    omega (arith, ints, f.conserved (pos 2) (λ h. cc) (λ h. cc), f.within.2.0, f.within.2.1, f.within.2.2.1)
 value_of (x ∷ y ∷ z ∷ w ∷ flow) f = absurd f.within.2.2.2
 
 pub three_value : IsGreatestValue (pos 1) (pos 3) three_caps (pos 3)
@@ -79,32 +69,21 @@ three_value = record {
         omega (arith, ints),
         (omega (arith, ints), omega (arith, ints), (omega (arith, ints), omega (arith, ints), tt)),
       );
-      conserved = λ v g h. conserved v (not_eq (pos 1) v (λ e. g (sym e))) (not_eq (pos 3) v (λ e. h (sym e)));
+      conserved = λ v g h.
+          rw (not_eq (pos 1) v g, not_eq (pos 3) v h)
+          (elim (cases_Bool (int_eq (pos 2) v)) [ inl t ↦ rw t | inr t ↦ rw t ]);
     };
     value_is = refl;
   };
-  greatest = λ x h. subst (λ z. z ≤ℤ pos 3) h.value_is (value_of h.flow h.is);
+  greatest = λ x h. rw h.value_is at (value_of h.flow h.is);
 }
-  where
-    conserved : (v : ℤ) → int_eq (pos 1) v ≡ false → int_eq (pos 3) v ≡ false
-        → net_outflow v three_caps.arcs (pos 2 ∷ pos 2 ∷ pos 1 ∷ []) ≡ pos 0
-    conserved v a b = rw (a, b) (by_test (int_eq (pos 2) v))
-      where
-        by_test : (t : Bool)
-            → (pos 0 +ℤ (cond t (pos 2) (pos 0) +ℤ (pos 0 +ℤ pos 0)))
-            -ℤ (cond t (pos 2) (pos 0) +ℤ (pos 0 +ℤ (pos 0 +ℤ pos 0))) ≡ pos 0
-        by_test true = refl
-        by_test false = refl
 
 cost_least : (flow : List ℤ) → IsFeasible three_units three_costs flow → pos 10 ≤ℤ flow_cost three_costs.arcs flow
 cost_least [] f = absurd f.within
 cost_least (x ∷ []) f = absurd f.within.2
 cost_least (x ∷ y ∷ []) f = absurd f.within.2.2
 cost_least (x ∷ y ∷ z ∷ []) f =
-    let d = f.balanced (pos 1) in
-    let e = f.balanced (pos 2) in
-    let a = f.within.2.1 in
-    omega (arith, ints)
+    omega (arith, ints, f.balanced (pos 1), f.balanced (pos 2), f.within.2.1)
 cost_least (x ∷ y ∷ z ∷ w ∷ flow) f = absurd f.within.2.2.2
 
 pub three_cost : IsLeastCost three_units three_costs (pos 10)
@@ -116,23 +95,17 @@ three_cost = record {
       omega (arith, ints),
       (omega (arith, ints), omega (arith, ints), (omega (arith, ints), omega (arith, ints), tt)),
     );
-    balanced = λ v. by_tests v (int_eq (pos 1) v) (int_eq (pos 2) v) (int_eq (pos 3) v) refl refl refl;
+    balanced = λ v. elim (cases_Bool (int_eq (pos 1) v)) [
+      | inl a ↦ rw (← (Decides-int_eq (pos 1) v).0 a)
+      | inr a ↦ elim (cases_Bool (int_eq (pos 2) v)) [
+        | inl b ↦ rw (← (Decides-int_eq (pos 2) v).0 b)
+        | inr b ↦ elim (cases_Bool (int_eq (pos 3) v)) [ inl c ↦ rw (a, b, c) | inr c ↦ rw (a, b, c) ]
+      ]
+    ];
   };
   cost_is = refl;
   least = cost_least;
 }
-  where
-    by_tests : (v : ℤ) (r s t : Bool) → int_eq (pos 1) v ≡ r → int_eq (pos 2) v ≡ s → int_eq (pos 3) v ≡ t
-        → net_outflow v three_costs.arcs (pos 2 ∷ pos 2 ∷ pos 1 ∷ []) ≡ supply_of three_units v
-    by_tests v true s true a b c =
-        let e : pos 1 ≡ pos 3 = (Decides-int_eq (pos 1) v).0 a ∙ sym ((Decides-int_eq (pos 3) v).0 c) in
-        absurd (omega (arith, ints))
-    by_tests v true true false a b c = rw (a, b, c) refl
-    by_tests v true false false a b c = rw (a, b, c) refl
-    by_tests v false true true a b c = rw (a, b, c) refl
-    by_tests v false false true a b c = rw (a, b, c) refl
-    by_tests v false true false a b c = rw (a, b, c) refl
-    by_tests v false false false a b c = rw (a, b, c) refl
 
 -- the distances from 1, with a long way there and a short way back
 abbrev from_one_there : ℤ → ℤ
@@ -148,8 +121,7 @@ there_distance = record {
   };
   length = refl;
   least = λ other w.
-      (let h = climbs from_one_there there_and_back.arcs
-      (record { rise = omega (arith, ints) }, (record { rise = omega (arith, ints) }, tt))
+      (let h = climbs from_one_there there_and_back.arcs (omega (arith, ints), (omega (arith, ints), tt))
       (pos 1) (pos 2) other w.arcs w.leads in
       omega (arith, ints));
 }
@@ -161,9 +133,7 @@ value_of_returning [] f = absurd f.within
 value_of_returning (x ∷ []) f = absurd f.within.2
 value_of_returning (x ∷ y ∷ []) f = absurd f.within.2.2
 value_of_returning (x ∷ y ∷ z ∷ []) f =
-    let e = f.conserved (pos 2) (λ h. cc) (λ h. cc) in
-    let c = f.within.2.2.1 in
-    omega (arith, ints)
+    omega (arith, ints, f.conserved (pos 2) (λ h. cc) (λ h. cc), f.within.2.2.1)
 value_of_returning (x ∷ y ∷ z ∷ w ∷ flow) f = absurd f.within.2.2.2
 
 pub returning_value : IsGreatestValue (pos 1) (pos 3) returning_caps (pos 1)
@@ -176,30 +146,19 @@ returning_value = record {
         omega (arith, ints),
         (omega (arith, ints), omega (arith, ints), (omega (arith, ints), omega (arith, ints), tt)),
       );
-      conserved = λ v g h. conserved v (not_eq (pos 1) v (λ e. g (sym e))) (not_eq (pos 3) v (λ e. h (sym e)));
+      conserved = λ v g h.
+          rw (not_eq (pos 1) v g, not_eq (pos 3) v h)
+          (elim (cases_Bool (int_eq (pos 2) v)) [ inl t ↦ rw t | inr t ↦ rw t ]);
     };
     value_is = refl;
   };
-  greatest = λ x h. subst (λ z. z ≤ℤ pos 1) h.value_is (value_of_returning h.flow h.is);
+  greatest = λ x h. rw h.value_is at (value_of_returning h.flow h.is);
 }
-  where
-    conserved : (v : ℤ) → int_eq (pos 1) v ≡ false → int_eq (pos 3) v ≡ false
-        → net_outflow v returning_caps.arcs (pos 1 ∷ pos 0 ∷ pos 1 ∷ []) ≡ pos 0
-    conserved v a b = rw (a, b) (by_test (int_eq (pos 2) v))
-      where
-        by_test : (t : Bool)
-            → (pos 0 +ℤ (cond t (pos 0) (pos 0) +ℤ (cond t (pos 1) (pos 0) +ℤ pos 0)))
-            -ℤ (cond t (pos 1) (pos 0) +ℤ (pos 0 +ℤ (pos 0 +ℤ pos 0))) ≡ pos 0
-        by_test true = refl
-        by_test false = refl
 
 forced_least : (flow : List ℤ) → IsFeasible two_units forced_costs flow → pos 6 ≤ℤ flow_cost forced_costs.arcs flow
 forced_least [] f = absurd f.within
 forced_least (x ∷ []) f = absurd f.within.2
-forced_least (x ∷ y ∷ []) f =
-    let d = f.balanced (pos 1) in
-    let a = f.within.2.0 in
-    omega (arith, ints)
+forced_least (x ∷ y ∷ []) f = omega (arith, ints, f.balanced (pos 1), f.within.2.0)
 forced_least (x ∷ y ∷ z ∷ flow) f = absurd f.within.2.2
 
 pub forced_cost_is : IsLeastCost two_units forced_costs (pos 6)
@@ -211,20 +170,14 @@ forced_cost_is = record {
       omega (arith, ints),
       (omega (arith, ints), omega (arith, ints), tt),
     );
-    balanced = λ v. by_tests v (int_eq (pos 1) v) (int_eq (pos 2) v) refl refl;
+    balanced = λ v. elim (cases_Bool (int_eq (pos 1) v)) [
+      | inl a ↦ rw (← (Decides-int_eq (pos 1) v).0 a)
+      | inr a ↦ elim (cases_Bool (int_eq (pos 2) v)) [ inl b ↦ rw (a, b) | inr b ↦ rw (a, b) ]
+    ];
   };
   cost_is = refl;
   least = forced_least;
 }
-  where
-    by_tests : (v : ℤ) (r s : Bool) → int_eq (pos 1) v ≡ r → int_eq (pos 2) v ≡ s
-        → net_outflow v forced_costs.arcs (pos 1 ∷ pos 1 ∷ []) ≡ supply_of two_units v
-    by_tests v true true a b =
-        let e : pos 1 ≡ pos 2 = (Decides-int_eq (pos 1) v).0 a ∙ sym ((Decides-int_eq (pos 2) v).0 b) in
-        absurd (omega (arith, ints))
-    by_tests v true false a b = rw (a, b) refl
-    by_tests v false true a b = rw (a, b) refl
-    by_tests v false false a b = rw (a, b) refl
 
 -- no arc has the tail 3
 from_three : (walk : List ((ℤ × ℤ) × LengthArc)) → AllByRecursion (λ a. IsAmong a three_lengths.arcs) walk
@@ -249,27 +202,18 @@ endless d m =
       arcs = (inl refl, (inr (inl refl), m.is.arcs));
       leads = (refl, (refl, m.is.leads));
     } in
-    let h = m.least turn is in
-    let e = m.length in
-    omega (arith, ints)
+    omega (arith, ints, m.least turn is, m.length)
 
 pub too_many : (flow : List ℤ) → IsFeasible five_units forced_costs flow → ⊥
 too_many [] f = absurd f.within
 too_many (x ∷ []) f = absurd f.within.2
-too_many (x ∷ y ∷ []) f =
-    let d = f.balanced (pos 1) in
-    let a = f.within.1 in
-    let b = f.within.2.1 in
-    omega (arith, ints)
+too_many (x ∷ y ∷ []) f = omega (arith, ints, f.balanced (pos 1), f.within.1, f.within.2.1)
 too_many (x ∷ y ∷ z ∷ flow) f = absurd f.within.2.2
 
 pub uneven : (flow : List ℤ) → IsFeasible unbalanced forced_costs flow → ⊥
 uneven [] f = absurd f.within
 uneven (x ∷ []) f = absurd f.within.2
-uneven (x ∷ y ∷ []) f =
-    let d = f.balanced (pos 1) in
-    let e = f.balanced (pos 2) in
-    omega (arith, ints)
+uneven (x ∷ y ∷ []) f = omega (arith, ints, f.balanced (pos 1), f.balanced (pos 2))
 uneven (x ∷ y ∷ z ∷ flow) f = absurd f.within.2.2
 
 pub lengths_differ : HaveSameAnswers (ShortestPaths there_and_back) (ShortestPaths negative_cycle) → ⊥
@@ -278,9 +222,7 @@ lengths_differ h = endless (pos 5) ((h.1 (pos 1) (pos 2) (pos 5)).0 there_distan
 pub capacities_differ :
     HaveSameAnswers (MaxFlow (pos 1) (pos 3) three_caps) (MaxFlow (pos 1) (pos 3) returning_caps) → ⊥
 capacities_differ h =
-    let m = (h.1 (pos 3)).0 three_value in
-    let most = returning_value.greatest (pos 3) m.has in
-    omega (arith, ints)
+    let most = returning_value.greatest (pos 3) ((h.1 (pos 3)).0 three_value).has in omega (arith, ints)
 
 pub costs_differ : HaveSameAnswers (MinCostFlow two_units forced_costs) (MinCostFlow five_units forced_costs) → ⊥
 costs_differ h = let m = (h.1 (pos 6)).0 forced_cost_is in too_many m.flow m.is

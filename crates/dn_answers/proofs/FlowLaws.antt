@@ -1,9 +1,10 @@
 -- If two graphs mean the same, each flow of the one has a flow of the other with the same units on each pair, at no
 -- greater cost.
-use Rattle.std.specs.Prelude.{◌≡◌, ◌↔◌, ℤ, pos, ◌+ℤ◌, ◌*ℤ◌, ◌≤ℤ◌, List, [], ◌∷◌, Bool, true, false, cond, refl}
+use Rattle.std.specs.Prelude.{◌≡◌, ◌↔◌, ℤ, ◌≤ℤ◌, List, [], ◌∷◌, true, refl}
 use Rattle.std.specs.List.{AllByRecursion}
 use Rattle.std.specs.Ordering.{int_eq}
-use Rattle.std.proofs.Common.{sym, ap, arith, ◌∙◌}
+use Rattle.std.proofs.Common.{inl, inr, sym, arith, ◌∙◌}
+use Rattle.std.proofs.lemmas.Bool.{cases_Bool}
 use Rattle.std.proofs.lemmas.Int.{ints}
 use Rattle.dn_arc.specs.declared.arc.CapArc.{CapArc}
 use Rattle.dn_arc.specs.declared.arc.CostArc.{CostArc}
@@ -21,35 +22,27 @@ use Rattle.dn_answers.specs.MaxFlows.{IsFlow, HasMatchingFlow, HasValue, IsGreat
 use Rattle.dn_answers.specs.MinCostFlows.{IsFeasible, flow_cost, HasMatchingFeasible, HasFlowWithin, IsLeastCost}
 use Rattle.dn_answers.proofs.SumLaws.{sum_on}
 use Rattle.dn_answers.proofs.AssemblyLaws.{entries, matched}
-use Rattle.dn_answers.proofs.CarryLaws.{caps_carry, spent, costs_carry}
-use Rattle.dn_arc.proofs.SplitsLaws.{antisym}
-use Rattle.dn_answers.proofs.WalkLaws.{equal_le, trans_le}
+use Rattle.dn_answers.proofs.CarryLaws.{cap_low, cap_high, free, caps_carry, cost_low, cost_high, spent, costs_carry}
 
 -- flows with the same units have the same net outflow at each node
 same_net_outflow : {Arc : Type 0} (xs ys : List ((ℤ × ℤ) × Arc)) (fs gs : List ℤ) → HaveSameUnits xs fs ys gs → (v : ℤ)
     → net_outflow v xs fs ≡ net_outflow v ys gs
-same_net_outflow xs ys fs gs h v =
-    let out = h.on (λ p. int_eq p.0 v) in
-    let into = h.on (λ p. int_eq p.1 v) in
-    omega (arith, ints)
+same_net_outflow xs ys fs gs h v = omega (arith, ints, h.on (λ p. int_eq p.0 v), h.on (λ p. int_eq p.1 v))
 
 -- the arcs of a pair have CAPs of at least 0 if all arcs do
 pub caps_at : (p : ℤ × ℤ) (arcs : List ((ℤ × ℤ) × CapArc)) → AllByRecursion (λ a. IsCapArc a.1) arcs
     → AllByRecursion IsCapArc (bundle p arcs)
 caps_at p [] h = tt
-caps_at p (a ∷ rest) h = by_test (same_pair p a.0) (caps_at p rest h.1)
-  where
-    by_test : (t : Bool) → AllByRecursion IsCapArc (bundle p rest)
-        → AllByRecursion IsCapArc (cond t (a.1 ∷ bundle p rest) (bundle p rest))
-    by_test true i = (h.0, i)
-    by_test false i = i
+caps_at p (a ∷ rest) h = elim (cases_Bool (same_pair p a.0)) [
+  | inl t ↦ rw t (h.0, caps_at p rest h.1)
+  | inr t ↦ rw t (caps_at p rest h.1)
+]
 
 pub flow_there : (source sink : ℤ) (G H : Graph CapArc) → SameGraph capacities G H
     → AllByRecursion (λ a. IsCapArc a.1) H.arcs → (flow : List ℤ) → IsFlow source sink G flow
     → HasMatchingFlow source sink G H flow
 flow_there source sink G H s caps flow f =
-    let m = matched (λ (a : CapArc). pos 0) (λ (a : CapArc). a.cap) (λ (a : CapArc) (z : ℤ). pos 0) (λ p. true)
-    G.arcs H.arcs
+    let m = matched cap_low cap_high free (λ p. true) G.arcs H.arcs
     (λ p. caps_carry (bundle p G.arcs) (bundle p H.arcs) (caps_at p H.arcs caps) (s.bundles p)) flow f.within in
     let same : HaveSameUnits G.arcs flow H.arcs m.flow = record { on = λ chosen. m.units chosen (λ p e. refl) } in
     record {
@@ -94,20 +87,17 @@ cost_sum : (arcs : List ((ℤ × ℤ) × CostArc)) (fs : List ℤ)
     → flow_cost arcs fs ≡ sum_on (λ p. true) (entries spent arcs fs)
 cost_sum [] fs = refl
 cost_sum (a ∷ rest) [] = refl
-cost_sum (a ∷ rest) (f ∷ fs) = ap (λ z. (a.1.cost *ℤ f) +ℤ z) (cost_sum rest fs)
+cost_sum (a ∷ rest) (f ∷ fs) = rw (cost_sum rest fs)
 
 pub no_costlier : (xs ys : List ((ℤ × ℤ) × CostArc)) (fs gs : List ℤ)
     → sum_on (λ p. true) (entries spent ys gs) ≤ℤ sum_on (λ p. true) (entries spent xs fs)
     → flow_cost ys gs ≤ℤ flow_cost xs fs
-no_costlier xs ys fs gs h =
-    let here = cost_sum xs fs in
-    let there = cost_sum ys gs in
-    omega (arith, ints)
+no_costlier xs ys fs gs h = omega (arith, ints, cost_sum xs fs, cost_sum ys gs)
 
 pub feasible_there : (supplies : List (ℤ × ℤ)) (G H : Graph CostArc) → SameGraph costs G H → (flow : List ℤ)
     → IsFeasible supplies G flow → HasMatchingFeasible supplies G H flow
 feasible_there supplies G H s flow f =
-    let m = matched (λ (a : CostArc). a.low) (λ (a : CostArc). a.cap) spent (λ p. true) G.arcs H.arcs
+    let m = matched cost_low cost_high spent (λ p. true) G.arcs H.arcs
     (λ p. costs_carry (bundle p G.arcs) (bundle p H.arcs) (s.bundles p)) flow f.within in
     let same : HaveSameUnits G.arcs flow H.arcs m.flow = record { on = λ chosen. m.units chosen (λ p e. refl) } in
     record {
@@ -124,56 +114,45 @@ feasible_there supplies G H s flow f =
 pub record Covers (supplies : List (ℤ × ℤ)) (G H : Graph CostArc) : Type 0 where
   pub at : (flow : List ℤ) → IsFeasible supplies G flow → HasFlowWithin supplies H (flow_cost G.arcs flow)
 
+bound_there : (supplies : List (ℤ × ℤ)) (G H : Graph CostArc) → Covers supplies G H → (k : ℤ)
+    → HasFlowWithin supplies G k → HasFlowWithin supplies H k
+bound_there supplies G H c k h =
+    let f = c.at h.flow h.is in record { flow = f.flow; is = f.is; within = omega (arith, ints, f.within, h.within) }
+
+least_there : (supplies : List (ℤ × ℤ)) (G H : Graph CostArc) → Covers supplies G H → Covers supplies H G → (k : ℤ)
+    → IsLeastCost supplies G k → IsLeastCost supplies H k
+least_there supplies G H there back k m =
+    let f = there.at m.flow m.is in
+    record {
+      flow = f.flow;
+      is = f.is;
+      cost_is = omega (arith, ints, f.within, m.cost_is, least f.flow f.is);
+      least = least;
+    }
+  where
+    least : (other : List ℤ) → IsFeasible supplies H other → k ≤ℤ flow_cost H.arcs other
+    least other is = let b = back.at other is in omega (arith, ints, m.least b.flow b.is, b.within)
+
+module _ (supplies : List (ℤ × ℤ)) (G H : Graph CostArc) (there : Covers supplies G H) (back : Covers supplies H G)
+    (k : ℤ) where
+  pub covered_bounds : HasFlowWithin supplies G k ↔ HasFlowWithin supplies H k
+  covered_bounds = (bound_there supplies G H there k, bound_there supplies H G back k)
+
+  pub covered_least : IsLeastCost supplies G k ↔ IsLeastCost supplies H k
+  covered_least = (least_there supplies G H there back k, least_there supplies H G back there k)
+
 same_covers : (supplies : List (ℤ × ℤ)) (G H : Graph CostArc) → SameGraph costs G H → Covers supplies G H
 same_covers supplies G H s = record {
   at = λ flow f. (let m = feasible_there supplies G H s flow f in
       record { flow = m.other; is = m.is; within = m.cost });
 }
 
-bound_there : (supplies : List (ℤ × ℤ)) (G H : Graph CostArc) → Covers supplies G H → (k : ℤ)
-    → HasFlowWithin supplies G k → HasFlowWithin supplies H k
-bound_there supplies G H c k h =
-    let f = c.at h.flow h.is in
-    record {
-      flow = f.flow;
-      is = f.is;
-      within = trans_le (flow_cost H.arcs f.flow) (flow_cost G.arcs h.flow) k f.within h.within;
-    }
+module _ (supplies : List (ℤ × ℤ)) (G H : Graph CostArc) (s : SameGraph costs G H) where
+  back : Covers supplies H G
+  back = same_covers supplies H G (graph_sym costs curve_meaning G H s)
 
-least_there : (supplies : List (ℤ × ℤ)) (G H : Graph CostArc) → Covers supplies G H → Covers supplies H G → (k : ℤ)
-    → IsLeastCost supplies G k → IsLeastCost supplies H k
-least_there supplies G H there back k m =
-    let f = there.at m.flow m.is in
-    let up = trans_le (flow_cost H.arcs f.flow) (flow_cost G.arcs m.flow) k f.within
-    (equal_le (flow_cost G.arcs m.flow) k m.cost_is) in
-    record {
-      flow = f.flow;
-      is = f.is;
-      cost_is = antisym (flow_cost H.arcs f.flow) k up (least f.flow f.is);
-      least = least;
-    }
-  where
-    least : (other : List ℤ) → IsFeasible supplies H other → k ≤ℤ flow_cost H.arcs other
-    least other is =
-        let b = back.at other is in
-        trans_le k (flow_cost G.arcs b.flow) (flow_cost H.arcs other) (m.least b.flow b.is) b.within
+  pub same_bounds : (k : ℤ) → HasFlowWithin supplies G k ↔ HasFlowWithin supplies H k
+  same_bounds = covered_bounds supplies G H (same_covers supplies G H s) back
 
-module _ (supplies : List (ℤ × ℤ)) (G H : Graph CostArc) (there : Covers supplies G H) (back : Covers supplies H G)
-  where
-    pub covered_bounds : (k : ℤ) → HasFlowWithin supplies G k ↔ HasFlowWithin supplies H k
-    covered_bounds k = (bound_there supplies G H there k, bound_there supplies H G back k)
-
-    pub covered_least : (k : ℤ) → IsLeastCost supplies G k ↔ IsLeastCost supplies H k
-    covered_least k = (least_there supplies G H there back k, least_there supplies H G back there k)
-
-pub same_bounds : (supplies : List (ℤ × ℤ)) (G H : Graph CostArc) → SameGraph costs G H → (k : ℤ)
-    → HasFlowWithin supplies G k ↔ HasFlowWithin supplies H k
-same_bounds supplies G H s =
-    covered_bounds supplies G H (same_covers supplies G H s)
-    (same_covers supplies H G (graph_sym costs curve_meaning G H s))
-
-pub same_least : (supplies : List (ℤ × ℤ)) (G H : Graph CostArc) → SameGraph costs G H → (k : ℤ)
-    → IsLeastCost supplies G k ↔ IsLeastCost supplies H k
-same_least supplies G H s =
-    covered_least supplies G H (same_covers supplies G H s)
-    (same_covers supplies H G (graph_sym costs curve_meaning G H s))
+  pub same_least : (k : ℤ) → IsLeastCost supplies G k ↔ IsLeastCost supplies H k
+  same_least = covered_least supplies G H (same_covers supplies G H s) back

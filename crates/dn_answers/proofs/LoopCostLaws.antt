@@ -1,10 +1,11 @@
 -- Of the self-loops of a `min` graph, only the least cost over all amounts changes costs.
-use Rattle.std.specs.Prelude.{◌≡◌, ◌≢◌, ◌↔◌, ℤ, pos, ◌+ℤ◌, ◌-ℤ◌, ◌*ℤ◌, ◌≤ℤ◌, List, [], ◌∷◌, Bool, true, false, cond, refl}
+use Rattle.std.specs.Prelude.{◌≡◌, ◌≢◌, ◌↔◌, ℤ, pos, ◌-ℤ◌, ◌*ℤ◌, ◌≤ℤ◌, List, [], ◌∷◌, Bool, true, false, cond, refl}
 use Rattle.std.specs.Int.Signed.{≤ℤ_refl}
 use Rattle.std.specs.Ordering.{int_eq}
-use Rattle.std.proofs.Common.{sym, ap, arith, ◌∙◌, subst}
+use Rattle.std.proofs.Common.{inl, inr, ap, arith, ◌&&◌}
+use Rattle.std.proofs.lemmas.Bool.{cases_Bool, and_parts}
 use Rattle.std.proofs.lemmas.Int.{ints, by_lt_z}
-use Rattle.std.proofs.lemmas.Bool.Decides.{Decides-int_eq}
+use Rattle.std.proofs.lemmas.Bool.Decides.{Decides-int_eq, not_from_Decides}
 use Rattle.dn_arc.specs.declared.arc.CostArc.{CostArc}
 use Rattle.dn_arc.specs.Meanings.{SameCurve}
 use Rattle.dn_arc.specs.Pairs.{bundle}
@@ -13,26 +14,21 @@ use Rattle.dn_arc.proofs.CurvesLaws.{curve_meaning}
 use Rattle.dn_arc.proofs.ProductsLaws.{mul_sub, mul_mono}
 use Rattle.dn_instance.specs.Instances.{Graph}
 use Rattle.dn_answers.specs.Flows.{units_on, net_outflow}
-use Rattle.dn_answers.specs.MinCostFlows.{IsFeasible, flow_cost, HasFlowWithin, IsLeastCost}
+use Rattle.dn_answers.specs.MinCostFlows.{HasFlowWithin, IsLeastCost}
 use Rattle.dn_answers.specs.Loops.{LeastOverall, SameButForLoops}
 use Rattle.dn_answers.proofs.AssemblyLaws.{Carried, matched}
-use Rattle.dn_answers.proofs.CarryLaws.{CostShares, spent, are_shares, from_shares, spent_cost, costs_carry}
+use Rattle.dn_answers.proofs.CarryLaws.{cost_low, cost_high, spent, CostShares, cost_shares, spent_cost, costs_carry}
 use Rattle.dn_answers.proofs.FlowLaws.{no_costlier, Covers, covered_bounds, covered_least}
-use Rattle.dn_answers.proofs.WalkLaws.{trans_le}
 
 -- a product with a factor of at least 0 does not fall with the other factor
 grows : (c l y : ℤ) → pos 0 ≤ℤ c → l ≤ℤ y → (c *ℤ l) ≤ℤ (c *ℤ y)
 grows c l y some le =
-    let m = mul_mono (pos 0) c (y -ℤ l) some (omega (arith, ints)) in
-    let e = mul_sub c y l in
-    omega (arith, ints)
+    omega (arith, ints, mul_mono (pos 0) c (y -ℤ l) some (omega (arith, ints)), mul_sub c y l)
 
 -- a product with a factor of at most 0 does not rise with the other factor
 falls : (c y u : ℤ) → c ≤ℤ pos 0 → y ≤ℤ u → (c *ℤ u) ≤ℤ (c *ℤ y)
 falls c y u none le =
-    let m = mul_mono c (pos 0) (u -ℤ y) none (omega (arith, ints)) in
-    let e = mul_sub c u y in
-    omega (arith, ints)
+    omega (arith, ints, mul_mono c (pos 0) (u -ℤ y) none (omega (arith, ints)), mul_sub c u y)
 
 -- shares of the arcs such that no shares cost less
 record Cheapest (arcs : List CostArc) : Type 0 where
@@ -48,10 +44,7 @@ one_more a rest c y low cap each =
   where
     least : (zs : List ℤ) → AreShares (a ∷ rest) zs → cost_of (a ∷ rest) (y ∷ c.split) ≤ℤ cost_of (a ∷ rest) zs
     least [] h = absurd h
-    least (z ∷ zs) h =
-        let i = c.least zs h.2 in
-        let e = each z h.0 h.1 in
-        omega (arith, ints)
+    least (z ∷ zs) h = omega (arith, ints, c.least zs h.2, each z h.0 h.1)
 
 -- arcs that have shares have cheapest ones: LOW where COST is at least 0, and CAP elsewhere
 cheapest : (arcs : List CostArc) (zs : List ℤ) → AreShares arcs zs → Cheapest arcs
@@ -59,7 +52,7 @@ cheapest [] zs h = record { split = []; shares = tt; least = λ ys g. ≤ℤ_ref
 cheapest (a ∷ rest) [] h = absurd h
 cheapest (a ∷ rest) (z ∷ zs) h =
     let c = cheapest rest zs h.2 in
-    let some = trans_le a.low z a.cap h.0 h.1 in
+    let some : a.low ≤ℤ a.cap = omega (arith, ints, h.0, h.1) in
     by_lt_z a.cost (pos 0)
     (λ lt. one_more a rest c a.cap some (≤ℤ_refl a.cap) (λ y low cap.
     falls a.cost y a.cap (omega (arith, ints)) cap))
@@ -75,102 +68,77 @@ overall arcs c = record {
     costs = refl;
     least = λ ys s. c.least ys s.shares;
   };
-  least = λ x j l. subst (λ z. cost_of arcs c.split ≤ℤ z) l.costs (c.least l.split l.is.shares);
+  least = λ x j l. rw (← l.costs) (c.least l.split l.is.shares);
 }
 
 -- self-loops with the same least cost over all amounts have shares that cost no more
 loops_carry : (xs ys : List CostArc) → ((k : ℤ) → LeastOverall xs k → LeastOverall ys k) → (zs : List ℤ)
-    → CostShares xs zs → Carried (λ (a : CostArc). a.low) (λ (a : CostArc). a.cap) spent false xs ys zs
+    → CostShares xs zs → Carried cost_low cost_high spent false xs ys zs
 loops_carry xs ys there zs h =
-    let shares = are_shares xs zs h in
+    let shares = (cost_shares xs zs).0 h in
     let c = cheapest xs zs shares in
     let l = there (cost_of xs c.split) (overall xs c) in
     let d = c.least zs shares in
-    let k = l.is.costs in
-    let e = spent_cost xs zs in
-    let f = spent_cost ys l.is.split in
     record {
       split = l.is.split;
-      shares = from_shares ys l.is.split l.is.is.shares;
+      shares = (cost_shares ys l.is.split).1 l.is.is.shares;
       same = λ never. cc;
-      cost_is = omega (arith, ints);
+      cost_is = omega (arith, ints, l.is.costs, spent_cost xs zs, spent_cost ys l.is.split);
     }
 
 -- the pair joins two different nodes
 abbrev joins_two : ℤ × ℤ → Bool
 joins_two p = cond (int_eq p.0 p.1) false true
 
+-- the pairs of v and another node
+abbrev leaves : ℤ → ℤ × ℤ → Bool
+leaves v p = joins_two p && int_eq p.0 v
+
+abbrev enters : ℤ → ℤ × ℤ → Bool
+enters v p = joins_two p && int_eq p.1 v
+
 -- the units of self-loops do not change the net outflow
 net_of_two : {Arc : Type 0} (v : ℤ) (arcs : List ((ℤ × ℤ) × Arc)) (fs : List ℤ)
-    → net_outflow v arcs fs ≡ units_on (λ p. cond (joins_two p) (int_eq p.0 v) false) arcs fs
-    -ℤ units_on (λ p. cond (joins_two p) (int_eq p.1 v) false) arcs fs
+    → net_outflow v arcs fs ≡ units_on (leaves v) arcs fs -ℤ units_on (enters v) arcs fs
 net_of_two v [] fs = refl
 net_of_two v (a ∷ rest) [] = refl
-net_of_two v (a ∷ rest) (f ∷ fs) = by_test (int_eq a.0.0 a.0.1) refl (net_of_two v rest fs)
-  where
-    by_test : (t : Bool) → int_eq a.0.0 a.0.1 ≡ t
-        → net_outflow v rest fs ≡ units_on (λ p. cond (joins_two p) (int_eq p.0 v) false) rest fs
-        -ℤ units_on (λ p. cond (joins_two p) (int_eq p.1 v) false) rest fs
-        → net_outflow v (a ∷ rest) (f ∷ fs)
-        ≡ (cond (cond (cond t false true) (int_eq a.0.0 v) false) f (pos 0)
-        +ℤ units_on (λ p. cond (joins_two p) (int_eq p.0 v) false) rest fs)
-        -ℤ (cond (cond (cond t false true) (int_eq a.0.1 v) false) f (pos 0)
-        +ℤ units_on (λ p. cond (joins_two p) (int_eq p.1 v) false) rest fs)
-    by_test true e i =
-        let same : cond (int_eq a.0.0 v) f (pos 0) ≡ cond (int_eq a.0.1 v) f (pos 0) =
-        ap (λ z. cond (int_eq z v) f (pos 0)) ((Decides-int_eq a.0.0 a.0.1).0 e) in
-        omega (arith, ints)
-    by_test false e i = omega (arith, ints)
+net_of_two v (a ∷ rest) (f ∷ fs) = elim (cases_Bool (int_eq a.0.0 a.0.1)) [
+  | inl t ↦ rw (t, (Decides-int_eq a.0.0 a.0.1).0 t) (omega (arith, ints, net_of_two v rest fs))
+  | inr t ↦ rw t (omega (arith, ints, net_of_two v rest fs))
+]
 
 module _ (supplies : List (ℤ × ℤ)) (G H : Graph CostArc)
     (bundles : (p : ℤ × ℤ) → p.0 ≢ p.1 → SameCurve (bundle p G.arcs) (bundle p H.arcs))
     (loops : (v k : ℤ) → LeastOverall (bundle (v, v) G.arcs) k → LeastOverall (bundle (v, v) H.arcs) k) where
   -- each bundle carries what the bundle of its pair carries, or is of self-loops and costs no more
   carry : (p : ℤ × ℤ) (zs : List ℤ) → CostShares (bundle p G.arcs) zs
-      → Carried (λ (a : CostArc). a.low) (λ (a : CostArc). a.cap) spent (joins_two p) (bundle p G.arcs)
-      (bundle p H.arcs) zs
-  carry p zs h = by_test (int_eq p.0 p.1) refl
-    where
-      by_test : (t : Bool) → int_eq p.0 p.1 ≡ t
-          → Carried (λ (a : CostArc). a.low) (λ (a : CostArc). a.cap) spent (cond t false true) (bundle p G.arcs)
-          (bundle p H.arcs) zs
-      by_test true e =
-          let q : (p.0, p.0) ≡ p = ap (λ (z : ℤ). (p.0, z)) ((Decides-int_eq p.0 p.1).0 e) in
-          loops_carry (bundle p G.arcs) (bundle p H.arcs)
-          (subst (λ (r : ℤ × ℤ). (k : ℤ) → LeastOverall (bundle r G.arcs) k → LeastOverall (bundle r H.arcs) k) q
-          (loops p.0)) zs h
-      by_test false e =
-          costs_carry (bundle p G.arcs) (bundle p H.arcs)
-          (bundles p (λ same. (let never : true ≡ false = sym ((Decides-int_eq p.0 p.1).1 same) ∙ e in cc))) zs h
+      → Carried cost_low cost_high spent (joins_two p) (bundle p G.arcs) (bundle p H.arcs) zs
+  carry p zs h = elim (cases_Bool (int_eq p.0 p.1)) [
+    | inl e ↦
+        let q : (p.0, p.0) ≡ p = ap (λ (z : ℤ). (p.0, z)) ((Decides-int_eq p.0 p.1).0 e) in
+        rw e (loops_carry (bundle p G.arcs) (bundle p H.arcs) (rw q at (loops p.0)) zs h)
+    | inr e ↦
+        let two = not_from_Decides (int_eq p.0 p.1) (Decides-int_eq p.0 p.1) e in
+        rw e (costs_carry (bundle p G.arcs) (bundle p H.arcs) (bundles p two) zs h)
+  ]
 
   -- each feasible flow of G has one of H that costs no more
   loops_cover : Covers supplies G H
-  loops_cover = record { at = at }
-    where
-      only_two : (t : Bool) (b : Bool) → cond t b false ≡ true → t ≡ true
-      only_two true b e = refl
-      only_two false b e = e
-
-      at : (flow : List ℤ) → IsFeasible supplies G flow → HasFlowWithin supplies H (flow_cost G.arcs flow)
-      at flow f =
-          let m = matched (λ (a : CostArc). a.low) (λ (a : CostArc). a.cap) spent joins_two G.arcs H.arcs carry flow
-          f.within in
-          record {
-            flow = m.flow;
-            is = record {
-              within = m.within;
-              balanced = λ v.
-                  (let out = m.units (λ p. cond (joins_two p) (int_eq p.0 v) false)
-                  (λ p. only_two (joins_two p) (int_eq p.0 v)) in
-                  let into = m.units (λ p. cond (joins_two p) (int_eq p.1 v) false)
-                  (λ p. only_two (joins_two p) (int_eq p.1 v)) in
-                  let here = net_of_two v G.arcs flow in
-                  let there = net_of_two v H.arcs m.flow in
-                  let b = f.balanced v in
-                  omega (arith, ints));
-            };
-            within = no_costlier G.arcs H.arcs flow m.flow (m.cost_is (λ p. true));
-          }
+  loops_cover = record {
+    at = λ flow f.
+        (let m = matched cost_low cost_high spent joins_two G.arcs H.arcs carry flow f.within in
+        record {
+          flow = m.flow;
+          is = record {
+            within = m.within;
+            balanced = λ v.
+                (let out = m.units (leaves v) (λ p e. (and_parts (joins_two p) (int_eq p.0 v) e).0) in
+                let into = m.units (enters v) (λ p e. (and_parts (joins_two p) (int_eq p.1 v) e).0) in
+                omega (arith, ints, net_of_two v G.arcs flow, net_of_two v H.arcs m.flow, f.balanced v));
+          };
+          within = no_costlier G.arcs H.arcs flow m.flow (m.cost_is (λ p. true));
+        });
+  }
 
 module _ (supplies : List (ℤ × ℤ)) (G H : Graph CostArc) (s : SameButForLoops G H) where
   there : Covers supplies G H

@@ -2,10 +2,10 @@ use Rattle.dn_answers.proofs.ParallelLaws.{length_alone, capacity_alone, cost_al
 use Rattle.dn_answers.proofs.parallel.alone.Goals as goal
 
 pub returns-clause-lengths : goal.returns-clause-lengths
-returns-clause-lengths c = length_alone
+returns-clause-lengths c = λ n p xs node differ. length_alone n p differ xs node
 
 pub returns-clause-capacities : goal.returns-clause-capacities
-returns-clause-capacities c = capacity_alone
+returns-clause-capacities c = λ n p xs differ. capacity_alone n p differ xs
 
 pub returns-clause-costs : goal.returns-clause-costs
-returns-clause-costs c = cost_alone
+returns-clause-costs c = λ n p xs differ. cost_alone n p differ xs
