@@ -224,23 +224,12 @@ some_sp G H g h n =
 
 some_points : (xs ys : List (ℤ × (ℤ × ℤ))) → IsValid (Coordinates xs) → IsValid (Coordinates ys)
     → AnyVerdict (Coordinates xs) (Coordinates ys)
-<<<<<<< HEAD
-some_points xs ys g h = elim (least_id xs ys (λ a b. a ≡ b) (λ a b. a ≢ b) same_point_or_not refl) [
-  | inl all ↦ (
-    Verdicts.Same,
-    same_first (Coordinates xs) (Coordinates ys)
-        (same_entries int_cmp int_cmp_total exact_signed xs ys g.map h.map all),
-  )
-  | inr l ↦ (Verdicts.Point l.0, points_first xs ys l.0 (record { differ = l.1; same_before = l.2 }))
-]
-=======
 some_points xs ys g h =
     elim (least_id xs ys (λ a b. a ≡ b) (λ a b. a ≢ b) (same_option_or_not same_pair_or_not) refl) [
       | inl all ↦
           (_, same_first (Coordinates xs) _ (same_entries int_cmp int_cmp_total exact_signed xs ys g.map h.map all))
       | inr l ↦ (_, points_first xs ys l.0 (record { differ = l.1; same_before = l.2 }))
     ]
->>>>>>> 23a100f17cf7e63cf85bb77631ec14fcf9e37aed
 
 pub some_first : (I J : Instance) → IsValid I → IsValid J → AnyVerdict I J
 some_first (MinCostFlow s G) (MinCostFlow t H) g h = by_nodes _ _ refl (some_min s t G H g h)
