@@ -81,7 +81,7 @@ pub(crate) fn take_point(
     if *id <= 0 {
         return Err(ItemFault::Text(Code::NodeOutOfRange));
     }
-    if points.contains_key(id) {
+    if has_key(points, id) {
         return Err(ItemFault::Text(Code::RepeatedNode));
     }
     match points.insert(*id, at) {
@@ -112,13 +112,23 @@ pub(crate) fn take_supply(
     if !in_graph(nodes, id) {
         return Err(ItemFault::Text(Code::NodeOutOfRange));
     }
-    if supplies.contains_key(id) || idle.contains(id) {
+    if has_key(supplies, id) || idle.contains(id) {
         return Err(ItemFault::Text(Code::RepeatedNode));
     }
     if *flow == 0 {
         put_idle(idle, id)
     } else {
         put_flow(supplies, id, flow)
+    }
+}
+
+// Whether a map has this key. A key above all of its keys needs no search.
+fn has_key<V>(map: &BTreeMap<i64, V>, key: &i64) -> bool
+    ensures { result ≡ is_some (Map.get int_cmp map.now key.now) }
+{
+    match map.last_key_value() {
+        Some((last, _)) if *key <= *last => map.contains_key(key),
+        _ => false,
     }
 }
 
