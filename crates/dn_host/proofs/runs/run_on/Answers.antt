@@ -1,4 +1,4 @@
-use Rattle.std.proofs.Common.{refl, arith, ◌∙◌}
+use Rattle.std.proofs.Common.{refl, arith, ◌∙◌, rules}
 use Rattle.dn_host.proofs.runs.run_on.Goals as goal
 
 pub returns-in-Ok-clause-ran : goal.returns-in-Ok-clause-ran
@@ -21,3 +21,6 @@ returns-in_default g c = record {
     };
   };
 }
+
+pub returns-in-InvalidData-clause-ran : goal.returns-in-InvalidData-clause-ran
+returns-in-InvalidData-clause-ran g c = search rules

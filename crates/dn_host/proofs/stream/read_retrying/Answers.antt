@@ -16,3 +16,6 @@ loop-i-preserved g c =
       more c.loop-i._i c.loop-i.stream c.read.new.self c.loop-i.invariant.1
           (subst (λ k. g.S.Stream.stream.Fails c.loop-i.stream k c.read.new.self) kind c.in-Err.ensures.fails),
     )
+
+pub returns : goal.returns
+returns g c = search rules
