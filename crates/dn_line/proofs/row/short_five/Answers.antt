@@ -1,17 +1,15 @@
-use Rattle.std.proofs.Common.{◌≡◌, arith, to_z, of_z, w64}
+use Rattle.std.proofs.Common.{arith}
 use Rattle.std.proofs.lemmas.Int.{ints}
-use Rattle.dn_line.proofs.NumbersLaws.{last_number, more_numbers, number_gap}
+use Rattle.dn_line.proofs.NumbersLaws.{Kept, last_number, more_numbers, number_gap}
 use Rattle.dn_line.proofs.row.short_five.Goals as goal
 
 pub returns : goal.returns
 returns c =
-    let first : to_z w64 (of_z w64 c.in_ok-first.first.number) ≡ c.in_ok-first.first.number = omega (arith, ints) in
-    let second : to_z w64 (of_z w64 c.in_ok-second.second.number) ≡ c.in_ok-second.second.number =
-    omega (arith, ints) in
-    let third : to_z w64 (of_z w64 c.in_ok-third.third.number) ≡ c.in_ok-third.third.number = omega (arith, ints) in
-    let fourth : to_z w64 (of_z w64 c.in_ok-fourth.fourth.number) ≡ c.in_ok-fourth.fourth.number =
-    omega (arith, ints) in
-    let fifth : to_z w64 (of_z w64 c.in_ok-fifth.fifth.number) ≡ c.in_ok-fifth.fifth.number = omega (arith, ints) in
+    let first : Kept c.in_ok-first.first.number = omega (arith, ints) in
+    let second : Kept c.in_ok-second.second.number = omega (arith, ints) in
+    let third : Kept c.in_ok-third.third.number = omega (arith, ints) in
+    let fourth : Kept c.in_ok-fourth.fourth.number = omega (arith, ints) in
+    let fifth : Kept c.in_ok-fifth.fifth.number = omega (arith, ints) in
     record {
       numbers =
           simp (first, second, third, fourth, fifth)

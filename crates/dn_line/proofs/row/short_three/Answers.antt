@@ -1,14 +1,13 @@
-use Rattle.std.proofs.Common.{◌≡◌, refl, arith, to_z, of_z, w64}
+use Rattle.std.proofs.Common.{refl, arith}
 use Rattle.std.proofs.lemmas.Int.{ints}
-use Rattle.dn_line.proofs.NumbersLaws.{last_number, more_numbers, number_gap}
+use Rattle.dn_line.proofs.NumbersLaws.{Kept, last_number, more_numbers, number_gap}
 use Rattle.dn_line.proofs.row.short_three.Goals as goal
 
 pub returns-clause-numbers : goal.returns-clause-numbers
 returns-clause-numbers c =
-    let first : to_z w64 (of_z w64 c.in_ok-first.first.number) ≡ c.in_ok-first.first.number = omega (arith, ints) in
-    let second : to_z w64 (of_z w64 c.in_ok-second.second.number) ≡ c.in_ok-second.second.number =
-    omega (arith, ints) in
-    let third : to_z w64 (of_z w64 c.in_ok-third.third.number) ≡ c.in_ok-third.third.number = omega (arith, ints) in
+    let first : Kept c.in_ok-first.first.number = omega (arith, ints) in
+    let second : Kept c.in_ok-second.second.number = omega (arith, ints) in
+    let third : Kept c.in_ok-third.third.number = omega (arith, ints) in
     record {
       numbers =
           simp (first, second, third)
