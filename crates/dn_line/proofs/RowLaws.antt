@@ -85,14 +85,13 @@ row_front letter fields (b ∷ bytes) more rest r clear some is g a fit =
 
 stand_all : (fs : List Field) (ns : List ℤ) → FieldsFit fs ns → AllStand fs (map number_word ns)
 stand_all [] [] h = Fields.none
-stand_all [] (n ∷ ns) h = absurd h
-stand_all (f ∷ fs) [] h = absurd h
 stand_all (f ∷ fs) (n ∷ ns) h = Fields.more (by_field f h.0) (stand_all fs ns h.1)
   where
     by_field : (f : Field) → field_fits (Some f) n ≡ true → Stands f (number_word n)
     by_field Number e = refl
     by_field Natural e = (refl, not_below n (not-true (int_lt n (pos 0)) e))
     by_field Terminal e = cc
+stand_all _ _ h = absurd h
 
 -- numbers that fit the fields of a line read as the item of the line
 row_reads : (kind : Kind) (key : Keyword) (fs : List Field) (ns : List ℤ) → row kind key ≡ Some fs → FieldsFit fs ns

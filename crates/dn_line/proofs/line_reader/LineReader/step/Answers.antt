@@ -11,16 +11,10 @@ pub returns-then-is_empty-clause-stands : goal.returns-then-is_empty-clause-stan
 returns-then-is_empty-clause-stands c l h =
     rw (no_bytes c.args.piece.now (sym c.is_empty.ensures ∙ c.if-is_empty.true)) h
 
-pub returns-then-self-clause-ok : goal.returns-then-self-clause-ok
-returns-then-self-clause-ok c = (c.go.ensures.used, c.go.ensures.ended)
-
 pub returns-then-self-clause-stands : goal.returns-then-self-clause-stands
 returns-then-self-clause-stands c l h =
     let e = unended c.args.self.now l h c.if-self.true in
     rw e (c.go.ensures.stands l.bytes (rw e at h))
-
-pub returns-clause-ok : goal.returns-clause-ok
-returns-clause-ok c = (c.go-2.ensures.used, c.go-2.ensures.ended)
 
 pub returns-clause-stands : goal.returns-clause-stands
 returns-clause-stands c l h =
