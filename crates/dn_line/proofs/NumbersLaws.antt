@@ -52,19 +52,20 @@ abbrev pub Kept : ℤ → Type 0
 Kept n = to_z w64 (of_z w64 n) ≡ n
 
 -- one number, any blanks and LF are a line of one number
-pub last_number : (bytes left rest : List ℕ) (v : ℤ) → IsNumberFront bytes v left → IsLineEnd left rest
-    → AreNumbers bytes (v ∷ []) rest
-last_number bytes left rest v n e =
+pub last_number : (bytes left rest : List ℕ) (v : ℤ) → IsNumberFront bytes v left → Kept v → IsLineEnd left rest
+    → AreNumbers bytes (to_z w64 (of_z w64 v) ∷ []) rest
+last_number bytes left rest v n kept e =
     let clear = number_clear n.word v n.reads in
     let bs = e.blanks.blanks in
-    record {
+    rw kept
+    (record {
       line = n.word ++ bs;
       whole = rw (append_assoc, e.blanks.whole) n.whole;
       inner = inner_append n.word bs (clear_inner n.word clear) (blanks_inner bs e.blanks.all);
       says =
           rw (run_last n.word bs clear (some_bytes n.word v n.reads) e.blanks.all)
           (ap (λ (w : Word). w ∷ []) (number_said n.word v n.reads));
-    }
+    })
 
 -- a number followed by blanks
 pub number_gap : (bytes left rest : List ℕ) (v : ℤ) → IsNumberFront bytes v left → IsGap left rest
@@ -72,15 +73,16 @@ pub number_gap : (bytes left rest : List ℕ) (v : ℤ) → IsNumberFront bytes 
 number_gap bytes left rest v n g = record { left = left; front = n; gap = g }
 
 -- a number and blanks before a line of numbers make a line of one more number
-pub more_numbers : (bytes left rest : List ℕ) (v : ℤ) (vs : List ℤ) → IsNumberBefore bytes v left
-    → AreNumbers left vs rest → AreNumbers bytes (v ∷ vs) rest
-more_numbers bytes left rest v vs n m =
+pub more_numbers : (bytes left rest : List ℕ) (v : ℤ) (vs : List ℤ) → IsNumberBefore bytes v left → Kept v
+    → AreNumbers left vs rest → AreNumbers bytes (to_z w64 (of_z w64 v) ∷ vs) rest
+more_numbers bytes left rest v vs n kept m =
     let f = n.front in
     let g = n.gap in
     let bs = g.then.blanks in
     let clear = number_clear f.word v f.reads in
     let tail : List ℕ = bs ++ m.line in
-    record {
+    rw kept
+    (record {
       line = f.word ++ g.blank ∷ tail;
       whole = rw (append_assoc, append_assoc, m.whole, g.then.whole, g.whole) f.whole;
       inner =
@@ -93,4 +95,4 @@ more_numbers bytes left rest v vs n m =
             blanks_words bs m.line g.then.all,
             m.says,
           ) (ap (λ (w : Word). w ∷ map number_word vs) (number_said f.word v f.reads));
-    }
+    })
