@@ -52,9 +52,9 @@ abbrev pub Kept : ℤ → Type 0
 Kept n = to_z w64 (of_z w64 n) ≡ n
 
 -- one number, any blanks and LF are a line of one number
-pub last_number : (bytes left rest : List ℕ) (v : ℤ) → IsNumberFront bytes v left → Kept v → IsLineEnd left rest
+pub last_number : {bytes left rest : List ℕ} {v : ℤ} → IsNumberFront bytes v left → Kept v → IsLineEnd left rest
     → AreNumbers bytes (to_z w64 (of_z w64 v) ∷ []) rest
-last_number bytes left rest v n kept e =
+last_number {rest = rest} {v = v} n kept e =
     let clear = number_clear n.word v n.reads in
     let bs = e.blanks.blanks in
     rw kept
@@ -68,14 +68,14 @@ last_number bytes left rest v n kept e =
     })
 
 -- a number followed by blanks
-pub number_gap : (bytes left rest : List ℕ) (v : ℤ) → IsNumberFront bytes v left → IsGap left rest
+pub number_gap : {bytes left rest : List ℕ} {v : ℤ} → IsNumberFront bytes v left → IsGap left rest
     → IsNumberBefore bytes v rest
-number_gap bytes left rest v n g = record { left = left; front = n; gap = g }
+number_gap n g = record { left = _; front = n; gap = g }
 
 -- a number and blanks before a line of numbers make a line of one more number
-pub more_numbers : (bytes left rest : List ℕ) (v : ℤ) (vs : List ℤ) → IsNumberBefore bytes v left → Kept v
+pub more_numbers : {bytes left rest : List ℕ} {v : ℤ} {vs : List ℤ} → IsNumberBefore bytes v left → Kept v
     → AreNumbers left vs rest → AreNumbers bytes (to_z w64 (of_z w64 v) ∷ vs) rest
-more_numbers bytes left rest v vs n kept m =
+more_numbers {rest = rest} {v = v} {vs = vs} n kept m =
     let f = n.front in
     let g = n.gap in
     let bs = g.then.blanks in

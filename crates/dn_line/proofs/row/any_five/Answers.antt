@@ -7,10 +7,10 @@ pub returns : goal.returns
 returns c =
     record {
       numbers =
-          (more_numbers _ _ _ _ _ c.in_ok-first.ensures (omega (arith, ints))
-          (more_numbers _ _ _ _ _ c.in_ok-second.ensures (omega (arith, ints))
-          (more_numbers _ _ _ _ _ c.in_ok-third.ensures (omega (arith, ints))
-          (more_numbers _ _ _ _ _ c.in_ok-fourth.ensures (omega (arith, ints))
-          (last_number _ _ _ _ c.in_ok-fifth.ensures (omega (arith, ints)) c.in_ok-after_line_end.ensures)))));
+          more_numbers c.in_ok-first.ensures (omega (arith, ints))
+          (more_numbers c.in_ok-second.ensures (omega (arith, ints))
+          (more_numbers c.in_ok-third.ensures (omega (arith, ints))
+          (more_numbers c.in_ok-fourth.ensures (omega (arith, ints))
+          (last_number c.in_ok-fifth.ensures (omega (arith, ints)) c.in_ok-after_line_end.ensures))));
       others = tt;
     }

@@ -7,8 +7,8 @@ pub returns : goal.returns
 returns c =
     record {
       numbers =
-          (more_numbers _ _ _ _ _ c.in_ok-first.ensures (omega (arith, ints))
-          (more_numbers _ _ _ _ _ c.in_ok-second.ensures (omega (arith, ints))
-          (last_number _ _ _ _ c.in_ok-third.ensures (omega (arith, ints)) c.in_ok-after_line_end.ensures)));
+          more_numbers c.in_ok-first.ensures (omega (arith, ints))
+          (more_numbers c.in_ok-second.ensures (omega (arith, ints))
+          (last_number c.in_ok-third.ensures (omega (arith, ints)) c.in_ok-after_line_end.ensures));
       others = (refl, (refl, tt));
     }

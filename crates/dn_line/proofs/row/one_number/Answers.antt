@@ -6,6 +6,6 @@ use Rattle.dn_line.proofs.row.one_number.Goals as goal
 pub returns : goal.returns
 returns c =
     record {
-      numbers = (last_number _ _ _ _ c.in_ok-first.ensures (omega (arith, ints)) c.in_ok-after_line_end.ensures);
+      numbers = last_number c.in_ok-first.ensures (omega (arith, ints)) c.in_ok-after_line_end.ensures;
       others = (refl, (refl, (refl, (refl, tt))));
     }
