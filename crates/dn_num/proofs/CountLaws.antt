@@ -20,9 +20,6 @@ lessened xs = zip2 (λ a b. (a + (256 - b)) % 256) xs (replicate 8 48)
 abbrev pub is_other : ℕ → Bool
 is_other x = ltb 9 ((x + 208) % 256)
 
-lessened_is : (xs : List ℕ) → length xs ≡ 8 → lessened xs ≡ map (λ x. (x + 208) % 256) xs
-lessened_is xs h = zip2_splat (λ a b. (a + (256 - b)) % 256) xs 8 48 h
-
 -- the mask of the lanes that are not digits
 abbrev mask : List ℕ → ℕ
 mask xs = mask_l (map (top 7) (zip2 (λ a b. cond (ltb a b) 255 0) (replicate 8 9) (lessened xs))) % 2 ^ 64
@@ -33,7 +30,7 @@ others_mask xs h =
     let long : length ds ≡ 8 = length-map xs (λ x. (x + 208) % 256) ∙ h in
     let f : ℕ → ℕ → ℕ = λ a b. cond (ltb a b) 255 0 in
     let g : ℕ → ℕ → ℕ = λ a b. cond (ltb b a) 255 0 in
-    rw (lessened_is xs h, zip2_splat_left f 9 8 ds long, ← zip2_splat g ds 8 9 long)
+    rw (zip2_splat (λ a b. (a + (256 - b)) % 256) xs 8 48 h, zip2_splat_left f 9 8 ds long, ← zip2_splat g ds 8 9 long)
     (bitmask_splat w8 (λ a b. ltb b a) ds 8 9 long (omega arith)
     ∙ ap mask_l (map-map (λ x. ltb 9 x) (λ x. (x + 208) % 256) xs))
 

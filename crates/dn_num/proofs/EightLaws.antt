@@ -1,7 +1,7 @@
 -- Splitting words into digits by multiplication.
 use Rattle.std.proofs.Common.{◌≡◌, ℕ, ◌+◌, ◌-◌, ◌*◌, ◌/◌, ◌%◌, ◌^◌, ◌<◌, List, [], ◌∷◌, ap, ◌∙◌, arith, bit_and, lit<}
 use Rattle.std.specs.Simd.Lanes.{Each1, number_l}
-use Rattle.dn_num.proofs.LaneLaws.{and_lanes, masks, low}
+use Rattle.dn_num.proofs.LaneLaws.{and_lanes, masks}
 
 -- below 10000, a multiplication and a shift divide by 100
 hundredth : (a : ℕ) → a < 10000 → a * 10486 / 1048576 ≡ a / 100
@@ -17,13 +17,12 @@ first_pairs w a b h k is =
     let x : ℕ = a * 10486 / 1048576 in
     let y : ℕ = b * 10486 / 1048576 in
     let z : ℕ = b * 10486 % 1048576 in
+    let p : x ≡ a / 100 = hundredth a h in
     let q : y ≡ b / 100 = hundredth b k in
     let lanes : List ℕ = (x + 128 * (32 * z)) ∷ y ∷ [] in
     let half : w * 10486 % 2 ^ 64 / 2 ^ 20 ≡ number_l 4294967296 lanes = omega arith in
-    let last : y % 128 ≡ b / 100 = omega arith in
     rw half
-    (and_lanes 32 127 lanes (omega arith) (lit< tt) ∙ ap (number_l 4294967296) (masks 7 lanes)
-    ∙ rw (low 7 x (32 * z) (omega (arith, hundredth a h)) ∙ hundredth a h, last))
+    (and_lanes 32 127 lanes (omega arith) (lit< tt) ∙ ap (number_l 4294967296) (masks 7 lanes) ∙ (omega arith))
 
 pub pairs_are : (w a b : ℕ) → a < 10000 → b < 10000 → w ≡ number_l 4294967296 (a ∷ b ∷ [])
     → (w * 65536 % 2 ^ 64 +
@@ -45,18 +44,10 @@ first_digits w a b c d few is =
     let z : ℕ = c * 103 / 1024 + 16 * (4 * (d * 103 % 1024)) in
     let lanes : List ℕ = x ∷ y ∷ z ∷ (d * 103 / 1024) ∷ [] in
     let half : w * 103 % 2 ^ 64 / 2 ^ 10 ≡ number_l 65536 lanes = omega arith in
-    let last : d * 103 / 1024 % 16 ≡ d / 10 = omega arith in
     rw half
-    (and_lanes 16 15 lanes (omega arith) (lit< tt) ∙ ap (number_l 65536) (masks 4 lanes)
-    ∙ rw (
-      low 4 (a * 103 / 1024) (4 * (b * 103 % 1024)) (omega arith) ∙ p,
-      low 4 (b * 103 / 1024) (4 * (c * 103 % 1024)) (omega arith) ∙ q,
-      low 4 (c * 103 / 1024) (4 * (d * 103 % 1024)) (omega arith) ∙ r,
-      last,
-    ))
+    (and_lanes 16 15 lanes (omega arith) (lit< tt) ∙ ap (number_l 65536) (masks 4 lanes) ∙ (omega arith))
 
 pub digits_are : (w a b c d : ℕ) → Each1 (λ x. x < 100) (a ∷ b ∷ c ∷ d ∷ []) → w ≡ number_l 65536 (a ∷ b ∷ c ∷ d ∷ [])
     → (w * 256 % 2 ^ 64 + (2 ^ 64 - bit_and (w * 103 % 2 ^ 64 / 2 ^ 10) 0x000F000F000F000F * 2559 % 2 ^ 64)) % 2 ^ 64
     ≡ number_l 256 ((a / 10) ∷ (a % 10) ∷ (b / 10) ∷ (b % 10) ∷ (c / 10) ∷ (c % 10) ∷ (d / 10) ∷ (d % 10) ∷ [])
-digits_are w a b c d h is =
-    rw (first_digits w a b c d h is) (omega arith)
+digits_are w a b c d h is = rw (first_digits w a b c d h is) (omega arith)
