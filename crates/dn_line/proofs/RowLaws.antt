@@ -1,10 +1,9 @@
 -- Lines of a letter and numbers.
-use Rattle.std.proofs.Common.{◌≡◌, ◌≤◌, ◌-◌, ◌<◌, ℕ, ℤ, suc, pos, ◌≤ℤ◌, int_lt, not, List, [], ◌∷◌, ◌++◌, length, take, drop, get_or, map, true, false, slice_get, is_none, None, Some, Ok, refl, sym, ap, ◌∙◌, subst, arith, append_assoc}
-use Rattle.std.proofs.lemmas.Bool.{not-true}
-use Rattle.std.proofs.lemmas.Int.{ints}
+use Rattle.std.proofs.Common.{Option, ◌≡◌, ◌≤◌, ◌-◌, ◌<◌, ℕ, ℤ, suc, pos, ◌≤ℤ◌, int_lt, List, [], ◌∷◌, ◌++◌, length, take, drop, get_or, map, true, slice_get, is_none, None, Some, Ok, refl, ap, ◌∙◌, arith, append_assoc}
+use Rattle.std.proofs.lemmas.Bool.{and_from, not-true}
 use Rattle.std.proofs.lemmas.List.{take_all}
 use Rattle.std.specs.List.{list_all}
-use Rattle.dn_line.specs.Faults.{field_tests, first_fault, row_fields}
+use Rattle.dn_line.specs.Faults.{first_fault}
 use Rattle.dn_line.specs.LineTable.{row}
 use Rattle.dn_line.specs.Reading.{item, unless}
 use Rattle.dn_line.specs.Words.{first, said, said_words}
@@ -21,10 +20,10 @@ use Rattle.dn_line.specs.declared.word.Field.TheVariants.{Number, Natural, Termi
 use Rattle.dn_line.specs.declared.word.Keyword.{Keyword}
 use Rattle.dn_line.specs.declared.word.Keyword.TheVariants as Key
 use Rattle.dn_line.specs.declared.word.Word.{Word}
-use Rattle.dn_line.proofs.FieldLaws.{AllStand, Stands, below_none, stand_none}
+use Rattle.dn_line.proofs.FieldLaws.{AllStand, Stands, not_below, below_none, stand_none}
 use Rattle.dn_line.proofs.FieldLaws as Fields
 use Rattle.dn_line.proofs.NumbersLaws.{blank_inner, blanks_inner, blanks_words, run_words}
-use Rattle.dn_line.proofs.ClearLaws.{both_true, clear_inner, inner_append}
+use Rattle.dn_line.proofs.ClearLaws.{clear_inner, inner_append}
 
 -- each number fits the field at its place, counted from `k`, or there is no such field
 abbrev pub FitFrom : List Field → ℕ → List ℤ → Type 0
@@ -45,17 +44,14 @@ fit_first (f ∷ fs) (n ∷ ns) l h = (h.0, fit_first fs ns (omega arith) (fit_l
 -- three numbers that are at least 0 fit three fields of numbers
 pub natural_fit : (fs : List Field) (r : Row) → length fs ≡ 3 → AreNumeric fs → AreNatural 3 r
     → FieldsFit fs (numbers_of 3 r)
-natural_fit [] r l num h = absurd (omega arith)
-natural_fit (f ∷ []) r l num h = absurd (omega arith)
-natural_fit (f ∷ g ∷ []) r l num h = absurd (omega arith)
 natural_fit (f ∷ g ∷ k ∷ []) r l num h =
     (by_field f r.first (num 0) h.0, (by_field g r.second (num 1) h.1.0, (by_field k r.third (num 2) h.1.1.0, tt)))
   where
     by_field : (f : Field) (n : ℤ) → (Some f ≡ Some Terminal → ⊥) → pos 0 ≤ℤ n → field_fits (Some f) n ≡ true
     by_field Number n is h = refl
-    by_field Natural n is h = ap not (below_none n h)
+    by_field Natural n is h = rw (below_none n h)
     by_field Terminal n is h = absurd (is refl)
-natural_fit (f ∷ g ∷ k ∷ _ ∷ fs) r l num h = absurd (omega arith)
+natural_fit _ r l num h = absurd (omega arith)
 
 -- a letter, blanks and numbers that fit the fields are the line of the row
 row_line : (letter : ℕ) (fields : List Field) (bytes more rest : List ℕ) (r : Row) → is_clear letter ≡ true
@@ -64,21 +60,15 @@ row_line : (letter : ℕ) (fields : List Field) (bytes more rest : List ℕ) (r 
 row_line letter fields bytes more rest r clear g has fit =
     let bs = g.then.blanks in
     let a = has.numbers in
-    let run : list_all is_clear (letter ∷ []) ≡ true = both_true (is_clear letter) true clear refl in
+    let run : list_all is_clear (letter ∷ []) ≡ true = rw clear in
     record {
       line = letter ∷ g.blank ∷ bs ++ a.line;
-      whole =
-          ap (λ l. letter ∷ g.blank ∷ l) (append_assoc bs a.line (10 ∷ rest) ∙ ap (λ l. bs ++ l) a.whole ∙ g.then.whole)
-          ∙ ap (λ l. letter ∷ l) g.whole;
+      whole = rw (append_assoc, a.whole, g.then.whole, g.whole);
       inner =
           inner_append (letter ∷ []) (g.blank ∷ bs ++ a.line) (clear_inner (letter ∷ []) run)
-          (both_true (is_inner g.blank) (list_all is_inner (bs ++ a.line)) (blank_inner g.blank g.is)
+          (and_from (is_inner g.blank) (list_all is_inner (bs ++ a.line)) (blank_inner g.blank g.is)
           (inner_append bs a.line (blanks_inner bs g.then.all) a.inner));
-      says =
-          ap (map said)
-          (run_words (letter ∷ []) g.blank (bs ++ a.line) run refl g.is
-          ∙ ap (λ ws. (letter ∷ []) ∷ ws) (blanks_words bs a.line g.then.all))
-          ∙ ap (λ (ws : List Word). said (letter ∷ []) ∷ ws) a.says;
+      says = rw (run_words (letter ∷ []) g.blank (bs ++ a.line) run refl g.is, blanks_words bs a.line g.then.all, a.says);
       fit = fit;
       others = has.others;
     }
@@ -90,34 +80,23 @@ pub row_front : (letter : ℕ) (fields : List Field) (bytes more rest : List ℕ
     → BeginsWithRow letter fields bytes r rest
 row_front letter fields [] more rest r clear some is g a fit = absurd (omega arith)
 row_front letter fields (b ∷ bytes) more rest r clear some is g a fit =
-    subst (λ x. BeginsWithRow letter fields (x ∷ bytes) r rest) (sym is)
-    (row_line letter fields bytes more rest r clear
-    (subst (λ l. IsGap l more) (take_all (length (b ∷ bytes) - 1) bytes (omega arith)) g) a fit)
+    rw is
+    (row_line letter fields bytes more rest r clear (rw (take_all (length (b ∷ bytes) - 1) bytes (omega arith)) at g) a fit)
 
 stand_all : (fs : List Field) (ns : List ℤ) → FieldsFit fs ns → AllStand fs (map number_word ns)
 stand_all [] [] h = Fields.none
-stand_all [] (n ∷ ns) h = absurd h
-stand_all (f ∷ fs) [] h = absurd h
 stand_all (f ∷ fs) (n ∷ ns) h = Fields.more (by_field f h.0) (stand_all fs ns h.1)
   where
-    at_least : (n : ℤ) → int_lt n (pos 0) ≡ false → pos 0 ≤ℤ n
-    at_least n h = grind (arith, ints)
-
     by_field : (f : Field) → field_fits (Some f) n ≡ true → Stands f (number_word n)
     by_field Number e = refl
-    by_field Natural e = (refl, at_least n (not-true (int_lt n (pos 0)) e))
+    by_field Natural e = (refl, not_below n (not-true (int_lt n (pos 0)) e))
     by_field Terminal e = cc
+stand_all _ _ h = absurd h
 
 -- numbers that fit the fields of a line read as the item of the line
 row_reads : (kind : Kind) (key : Keyword) (fs : List Field) (ns : List ℤ) → row kind key ≡ Some fs → FieldsFit fs ns
     → checked_item kind key (map number_word ns) ≡ Ok (item kind key (map number_word ns))
-row_reads kind key fs ns e h =
-    let ws = map number_word ns in
-    ap (λ o. unless (first_fault (field_tests (row_fields o ws))) (item kind key ws)) e
-    ∙ ap (λ f. unless f (item kind key ws)) (stand_none fs ws (stand_all fs ns h))
-
-same : {a b : ℕ} → Some a ≡ Some b → a ≡ b
-same e = cc
+row_reads kind key fs ns e h = rw (e, stand_none fs (map number_word ns) (stand_all fs ns h))
 
 -- what the head and the fields of a line that begins with this byte read as, given the words after the letter
 abbrev ReadAs : Kind → Keyword → List Word → ℕ → Type 0
@@ -127,14 +106,17 @@ ReadAs kind key ws b =
     × (fields_read (Some kind) (said (b ∷ []) ∷ ws) ≡ checked_item kind key ws)
     × (first (said (b ∷ []) ∷ ws) ≡ Some key)
 
-by_letter : (kind : Kind) (key : Keyword) (letter : ℕ) (ws : List Word) → letter_byte key ≡ Some letter
-    → ReadAs kind key ws letter
-by_letter kind Key.N letter ws e = subst (ReadAs kind Key.N ws) (same e) (refl, refl, refl)
-by_letter kind Key.A letter ws e = subst (ReadAs kind Key.A ws) (same e) (refl, refl, refl)
-by_letter kind Key.S letter ws e = subst (ReadAs kind Key.S ws) (same e) (refl, refl, refl)
-by_letter kind Key.Q letter ws e = subst (ReadAs kind Key.Q ws) (same e) (refl, refl, refl)
-by_letter kind Key.V letter ws e = subst (ReadAs kind Key.V ws) (same e) (refl, refl, refl)
-by_letter kind _ letter ws e = cc
+abbrev ReadAny : Kind → Keyword → List Word → Option ℕ → Type 0
+ReadAny kind key ws None = Unit {0}
+ReadAny kind key ws (Some b) = ReadAs kind key ws b
+
+by_letter : (kind : Kind) (key : Keyword) (ws : List Word) → ReadAny kind key ws (letter_byte key)
+by_letter kind Key.N ws = (refl, refl, refl)
+by_letter kind Key.A ws = (refl, refl, refl)
+by_letter kind Key.S ws = (refl, refl, refl)
+by_letter kind Key.Q ws = (refl, refl, refl)
+by_letter kind Key.V ws = (refl, refl, refl)
+by_letter kind _ ws = tt
 
 -- the line of these words begins with a letter, and after a problem line of this kind it reads as this item
 pub record ReadsAs (kind : Kind) (key : Keyword) (ws : List Word) (i : Line) : Type 0 where
@@ -148,11 +130,9 @@ pub row_item : (kind : Kind) (letter : ℕ) (fields : List Field) (bytes rest : 
     → ReadsAs kind has.key (said_words b.line) (item kind has.key (map number_word (numbers_of (length fields) r)))
 row_item kind letter fields bytes rest r has b =
     let ws = map number_word (numbers_of (length fields) r) in
-    let reads = by_letter kind has.key letter ws has.byte_is in
+    let reads = rw has.byte_is at (by_letter kind has.key ws) in
     record {
-      head =
-          ap (head_read (Some kind)) b.says ∙ reads.0
-          ∙ ap (λ o. unless (first_fault ((WrongLine, is_none o) ∷ [])) (head_of (Some has.key) None)) has.row_is;
+      head = ap (head_read (Some kind)) b.says ∙ reads.0 ∙ rw has.row_is;
       fields =
           ap (fields_read (Some kind)) b.says ∙ reads.1
           ∙ row_reads kind has.key fields (numbers_of (length fields) r) has.row_is b.fit;

@@ -1,8 +1,10 @@
 -- The digits of a number make its decimal text.
-use Rattle.std.proofs.Common.{◌≡◌, ℕ, ◌+◌, ◌-◌, ◌*◌, ◌/◌, ◌%◌, ◌^◌, ◌<◌, ◌≤◌, ◌&&◌, List, [], ◌∷◌, ◌++◌, zero, suc, refl, ap, sym, ◌∙◌, arith, length, take, drop, get_or, cond, nat_eq, Bool, true, false, zero-mul, zero-add, pow-add, length-append}
+use Rattle.std.proofs.lemmas.List.Folds.{list_all-append}
+use Rattle.std.proofs.lemmas.Bool.{ne_eqb, eqb-true, and_from}
+use Rattle.std.proofs.Common.{◌≡◌, ℕ, ◌+◌, ◌-◌, ◌*◌, ◌/◌, ◌%◌, ◌^◌, ◌<◌, ◌≤◌, List, [], ◌∷◌, ◌++◌, zero, suc, refl, ap, sym, ◌∙◌, arith, length, take, drop, true, zero-mul, zero-add, pow-add, length-append}
 use Rattle.std.proofs.lemmas.Bool.Decides.{nat_tests}
-use Rattle.std.proofs.lemmas.Nat.{shr-shr}
-use Rattle.std.proofs.lemmas.List.{length-map, length-drop}
+use Rattle.std.proofs.lemmas.Nat.{shr-shr, shr_le}
+use Rattle.std.proofs.lemmas.List.{length-map, length-drop, get_or_append_left}
 use Rattle.std.proofs.lemmas.Fmt.{decimal_nonempty, first_decimal, digits_decimal, digits_value-decimal}
 use Rattle.std.specs.Fmt.{decimal}
 use Rattle.std.specs.List.{list_all}
@@ -12,20 +14,16 @@ use Rattle.dn_num.specs.State.Lanes.{places}
 use Rattle.dn_num.specs.Number.{is_digit, is_digits, digits_number}
 use Rattle.dn_num.specs.State.NumberTexts.{begins_with_zero}
 use Rattle.dn_num.proofs.LaneLaws.{high}
-use Rattle.dn_num.proofs.ShortestLaws.{numerals, digits_are}
+use Rattle.dn_num.proofs.ShortestLaws.{numerals, digits_are, some_digits, first_zero}
 
 -- shifting a word right by z lanes drops its first z lanes
 pub lowered : (z : ℕ) (cs : List ℕ) → Each1 (λ c. c < 256) cs → number_l 256 cs / 2 ^ (8 * z) ≡ number_l 256 (drop z cs)
 lowered zero cs h = omega arith
-lowered (suc z) [] h = shifted_none (8 * suc z)
-  where
-    shifted_none : (k : ℕ) → 0 / 2 ^ k ≡ 0
-    shifted_none k = grind arith
+lowered (suc z) [] h = omega (arith, shr_le 0 (8 * suc z))
 lowered (suc z) (c ∷ cs) h =
     let n : ℕ = number_l 256 cs in
     let e : 8 * suc z ≡ 8 + 8 * z = omega arith in
-    ap (λ k. (c + 256 * n) / 2 ^ k) e ∙ sym (shr-shr (c + 256 * n) 8 (8 * z))
-    ∙ ap (λ m. m / 2 ^ (8 * z)) (high 8 c n h.0) ∙ lowered z cs h.1
+    rw (e, ← shr-shr (c + 256 * n) 8 (8 * z), high 8 c n h.0) (lowered z cs h.1)
 
 pub each_drop : (P : ℕ → Type 0) (z : ℕ) (cs : List ℕ) → Each1 P cs → Each1 P (drop z cs)
 each_drop P zero cs h = h
@@ -40,87 +38,63 @@ codes_small (d ∷ ds) h = (omega (arith, h.0), codes_small ds h.1)
 codes_value : (ds : List ℕ) → digits_number (codes_of ds) ≡ places ds
 codes_value [] = refl
 codes_value (d ∷ ds) =
-    let e : d + 48 - 48 ≡ d = omega arith in
-    ap (λ n. (d + 48 - 48) * 10 ^ n + digits_number (codes_of ds)) (length-map ds (λ d. d + 48))
-    ∙ ap (λ x. x * 10 ^ length ds + digits_number (codes_of ds)) e
-    ∙ ap (λ x. d * 10 ^ length ds + x) (codes_value ds)
-
-code_digit : (d : ℕ) → d < 10 → is_digit (d + 48) ≡ true
-code_digit d h = grind (arith, nat_tests)
+    let e : d + 48 - 48 ≡ d = omega arith in rw (length-map ds (λ d. d + 48), e, codes_value ds)
 
 codes_digits : (ds : List ℕ) → Each1 (λ d. d < 10) ds → list_all is_digit (codes_of ds) ≡ true
 codes_digits [] h = refl
-codes_digits (d ∷ ds) h = ap (λ b. b && list_all is_digit (codes_of ds)) (code_digit d h.0) ∙ codes_digits ds h.1
+codes_digits (d ∷ ds) h = and_from (is_digit (d + 48)) _ (grind (arith, nat_tests, h.0)) (codes_digits ds h.1)
 
 pub eight_places : (n : ℕ) → places (eight_digits n) ≡ n
 eight_places n = omega arith
 
 pub eight_small : (n : ℕ) → n < 100000000 → Each1 (λ d. d < 10) (eight_digits n)
-eight_small n h = (
-  omega arith,
-  (omega arith, (omega arith, (omega arith, (omega arith, (omega arith, (omega arith, (omega arith, tt))))))),
-)
+eight_small n h = omega arith
 
--- digits without leading zeros are a shortest text, and have the value of all digits
-record Stripped (ds : List ℕ) : Type 0 where
-  digits : is_digits (drop (zeros_before ds) (codes_of ds)) ≡ true
-  lead : begins_with_zero (drop (zeros_before ds) (codes_of ds)) ≡ true
-      → length (drop (zeros_before ds) (codes_of ds)) ≡ 1
-  value : digits_number (drop (zeros_before ds) (codes_of ds)) ≡ places ds
+-- a text of digits is a shortest text, and has the value of these digits
+record Stripped (text ds : List ℕ) : Type 0 where
+  digits : is_digits text ≡ true
+  lead : begins_with_zero text ≡ true → length text ≡ 1
+  value : digits_number text ≡ places ds
 
-stripped : (d : ℕ) (ds : List ℕ) → Each1 (λ d. d < 10) (d ∷ ds) → Stripped (d ∷ ds)
+stripped : (d : ℕ) (ds : List ℕ) → Each1 (λ d. d < 10) (d ∷ ds)
+    → Stripped (drop (zeros_before (d ∷ ds)) (codes_of (d ∷ ds))) (d ∷ ds)
 stripped d [] h = record { digits = codes_digits (d ∷ []) h; lead = λ e. refl; value = codes_value (d ∷ []) }
 stripped zero (e ∷ ds) h =
-    let next : Stripped (e ∷ ds) = stripped e ds h.1 in
+    let next = stripped e ds h.1 in
     let one : 1 + zeros_before (e ∷ ds) ≡ suc (zeros_before (e ∷ ds)) = omega arith in
-    let same : drop (1 + zeros_before (e ∷ ds)) (codes_of (zero ∷ e ∷ ds)) ≡ drop (zeros_before (e ∷ ds))
-    (codes_of (e ∷ ds)) = ap (λ n. drop n (codes_of (zero ∷ e ∷ ds))) one in
-    record {
-      digits = ap is_digits same ∙ next.digits;
-      lead = λ f. ap length same ∙ next.lead (ap begins_with_zero (sym same) ∙ f);
-      value =
-          ap digits_number same ∙ next.value ∙ sym (zero-add (places (e ∷ ds)))
-          ∙ ap (λ x. x + places (e ∷ ds)) (sym (zero-mul (10 ^ length (e ∷ ds))));
-    }
+    let none : places (zero ∷ e ∷ ds) ≡ places (e ∷ ds) = rw (zero-mul (10 ^ length (e ∷ ds))) (omega arith) in
+    rw one (record { digits = next.digits; lead = next.lead; value = next.value ∙ sym none })
 stripped (suc d) (e ∷ ds) h =
-    let none : zeros_before (suc d ∷ e ∷ ds) ≡ 0 = ap (λ b. cond b (1 + zeros_before (e ∷ ds)) 0) (not_zero d) in
-    let same : drop (zeros_before (suc d ∷ e ∷ ds)) (codes_of (suc d ∷ e ∷ ds)) ≡ codes_of (suc d ∷ e ∷ ds) =
-    ap (λ n. drop n (codes_of (suc d ∷ e ∷ ds))) none in
-    record {
-      digits = ap is_digits same ∙ codes_digits (suc d ∷ e ∷ ds) h;
-      lead = λ f. absurd (no_zero d (codes_of (e ∷ ds)) (ap begins_with_zero (sym same) ∙ f));
-      value = ap digits_number same ∙ codes_value (suc d ∷ e ∷ ds);
-    }
-  where
-    not_zero : (d : ℕ) → nat_eq (suc d) 0 ≡ false
-    not_zero d = grind (arith, nat_tests)
-
-    no_zero : (d : ℕ) (cs : List ℕ) → begins_with_zero ((suc d + 48) ∷ cs) ≡ true → ⊥
-    no_zero d cs e = grind (arith, nat_tests)
+    rw (ne_eqb (suc d) 0 (λ q. omega arith))
+    (record {
+      digits = codes_digits (suc d ∷ e ∷ ds) h;
+      lead = λ f. absurd (omega (arith, eqb-true (suc d + 48) 48 f));
+      value = codes_value (suc d ∷ e ∷ ds);
+    })
 
 -- the eight digits of a number without leading zeros are its decimal text
 pub short_decimal : (n : ℕ) → n < 100000000
     → drop (zeros_before (eight_digits n)) (codes_of (eight_digits n)) ≡ decimal n
 short_decimal n h =
-    let s : Stripped (eight_digits n) = stripped _ _ (eight_small n h) in
-    let value : digits_number (drop (zeros_before (eight_digits n)) (codes_of (eight_digits n))) ≡ n =
-    s.value ∙ eight_places n in
-    sym (digits_are _ s.digits s.lead (omega (arith, value))) ∙ ap decimal value
+    let text : List ℕ = drop (zeros_before (eight_digits n)) (codes_of (eight_digits n)) in
+    let s : Stripped text (eight_digits n) = stripped _ _ (eight_small n h) in
+    let value : digits_number text ≡ n = s.value ∙ eight_places n in
+    rw value at (sym (digits_are text s.digits s.lead (omega (arith, value))))
 
-zeros_le : (d : ℕ) (ds : List ℕ) → zeros_before (d ∷ ds) ≤ length ds
-zeros_le d [] = omega arith
-zeros_le zero (e ∷ ds) = omega (arith, zeros_le e ds)
-zeros_le (suc d) (e ∷ ds) = omega (arith, ap (λ b. cond b (1 + zeros_before (e ∷ ds)) 0) (not_zero d))
-  where
-    not_zero : (d : ℕ) → nat_eq (suc d) 0 ≡ false
-    not_zero d = grind (arith, nat_tests)
+zeros_le : (ds : List ℕ) → zeros_before ds ≤ length ds - 1
+zeros_le (zero ∷ e ∷ ds) = omega (arith, zeros_le (e ∷ ds))
+zeros_le (suc d ∷ e ∷ ds) = rw (ne_eqb (suc d) 0 (λ q. omega arith)) (omega arith)
+zeros_le _ = omega arith
 
-zeros_less : (ds : List ℕ) → 0 < length ds → zeros_before ds < length ds
-zeros_less [] h = absurd (omega arith)
-zeros_less (d ∷ ds) h = omega (arith, zeros_le d ds)
+few_zeros : (n z : ℕ) → z ≡ zeros_before (eight_digits n) → z ≤ 7
+few_zeros n z e = rw e (zeros_le (eight_digits n))
 
-pub few_zeros : (n : ℕ) → zeros_before (eight_digits n) ≤ 7
-few_zeros n = let less = zeros_less (eight_digits n) (omega arith) in omega arith
+-- a count of the leading zeros of eight digits is at most 7
+pub zeros_few : (n w z : ℕ) → n < 100000000 → w ≡ number_l 256 (eight_digits n)
+    → ((a b c d e f g h : ℕ) → Each1 (λ x. x < 10) (a ∷ b ∷ c ∷ d ∷ e ∷ f ∷ g ∷ h ∷ [])
+    → w ≡ number_l 256 (a ∷ b ∷ c ∷ d ∷ e ∷ f ∷ g ∷ h ∷ [])
+    → z ≡ zeros_before (a ∷ b ∷ c ∷ d ∷ e ∷ f ∷ g ∷ h ∷ [])) → z ≤ 7
+zeros_few n w z few is count = few_zeros n z (count _ _ _ _ _ _ _ _ (eight_small n few) is)
 
 -- what holds after the digits of a number, without leading zeros, have been written
 pub record ShortPut (at z n : ℕ) (new front : List ℕ) : Type 0 where
@@ -135,73 +109,48 @@ pub short_put : (at z w n : ℕ) (new front : List ℕ) → n < 100000000 → z 
 short_put at z w n new front few zeros word put =
     let all : List ℕ = codes_of (eight_digits n) in
     let small = codes_small (eight_digits n) (eight_small n few) in
-    let same : drop z all ≡ decimal n = ap (λ k. drop k all) zeros ∙ short_decimal n few in
+    let same : drop z all ≡ decimal n = rw zeros (short_decimal n few) in
     let long : length (drop z all) ≡ 8 - z = length-drop z all in
-    let less : zeros_before (eight_digits n) ≤ 7 = few_zeros n in
-    let end : at + 8 - z ≡ at + length (drop z all) = omega arith in
-    let text =
-    put (drop z all) (omega arith) (each_drop (λ c. c < 256) z all small)
-    (ap (λ m. m / 2 ^ (8 * z)) word ∙ lowered z all small) in
+    let end : at + 8 - z ≡ at + length (decimal n) = omega (arith, few_zeros n z zeros, ap length same) in
     record {
-      text = ap (λ k. take k new) end ∙ text ∙ ap (λ l. front ++ l) same;
-      end = end ∙ ap (λ l. at + length l) same;
+      text =
+          rw end
+          (rw same at
+          (put (drop z all) (omega arith) (each_drop (λ c. c < 256) z all small) (rw word (lowered z all small))));
+      end = end;
     }
 
 -- ---- numbers of more than eight digits
 
-all_append : (ds es : List ℕ) → list_all is_digit ds ≡ true → list_all is_digit es ≡ true
-    → list_all is_digit (ds ++ es) ≡ true
-all_append [] es h k = k
-all_append (d ∷ ds) es h k = by_test (λ i. all_append ds es i k) (is_digit d) h
-  where
-    by_test : (list_all is_digit ds ≡ true → list_all is_digit (ds ++ es) ≡ true) → (b : Bool)
-        → b && list_all is_digit ds ≡ true → b && list_all is_digit (ds ++ es) ≡ true
-    by_test more true h = more h
-    by_test more false h = cc
-
 number_append : (ds es : List ℕ) → digits_number (ds ++ es) ≡ digits_number ds * 10 ^ length es + digits_number es
-number_append [] es = sym (ap (λ x. x + digits_number es) (zero-mul (10 ^ length es)) ∙ zero-add (digits_number es))
+number_append [] es = rw (zero-mul, zero-add)
 number_append (d ∷ ds) es =
-    let p : ℕ = 10 ^ length es in
-    let more : 10 ^ length (ds ++ es) ≡ 10 ^ length ds * p =
-    ap (λ k. 10 ^ k) (length-append ds es) ∙ pow-add 10 (length ds) (length es) in
-    ap (λ x. (d - 48) * x + digits_number (ds ++ es)) more
-    ∙ ap (λ x. (d - 48) * (10 ^ length ds * p) + x) (number_append ds es)
-    ∙ gathered (d - 48) (10 ^ length ds) p (digits_number ds) (digits_number es)
-  where
-    gathered : (a b p x y : ℕ) → a * (b * p) + (x * p + y) ≡ (a * b + x) * p + y
-    gathered a b p x y = grind arith
-
-no_lead : (ds es : List ℕ) → 0 < length ds → 48 < get_or ds 0 0 → begins_with_zero (ds ++ es) ≡ true → ⊥
-no_lead [] es h k e = absurd (omega arith)
-no_lead (d ∷ ds) es h k e = grind (arith, nat_tests)
-
-digits_append : (ds es : List ℕ) → 0 < length ds → list_all is_digit ds ≡ true → list_all is_digit es ≡ true
-    → is_digits (ds ++ es) ≡ true
-digits_append [] es some h k = absurd (omega arith)
-digits_append (d ∷ ds) es some h k = all_append (d ∷ ds) es h k
+    rw (length-append ds es, pow-add 10 (length ds) (length es), number_append ds es) (grind arith)
 
 -- the decimal text of a number from 10^8 on ends with the eight digits of its remainder by 10^8
 pub long_decimal : (n : ℕ) → 100000000 ≤ n → n < 2 ^ 64
     → decimal n ≡ decimal (n / 100000000) ++ codes_of (eight_digits (n % 100000000))
 long_decimal n h fits =
     let high : ℕ = n / 100000000 in
-    let last : ℕ = n % 100000000 in
+    let ds : List ℕ = eight_digits (n % 100000000) in
+    let text : List ℕ = decimal high ++ codes_of ds in
     let within : high < 2 ^ 64 = omega arith in
     let some : 0 < length (decimal high) = decimal_nonempty high within in
-    let front : digits_number (decimal high) ≡ high = digits_value-decimal numerals high within in
-    let back : digits_number (codes_of (eight_digits last)) ≡ last =
-    codes_value (eight_digits last) ∙ eight_places last in
-    let value : digits_number (decimal high ++ codes_of (eight_digits last)) ≡ n =
-    number_append (decimal high) (codes_of (eight_digits last))
-    ∙ ap (λ x. x * 100000000 + digits_number (codes_of (eight_digits last))) front
-    ∙ ap (λ x. high * 100000000 + x) back ∙ (omega arith) in
-    let digits =
-    digits_append (decimal high) (codes_of (eight_digits last)) some (digits_decimal numerals high within)
-    (codes_digits (eight_digits last) (eight_small last (omega arith))) in
-    let lead : begins_with_zero (decimal high ++ codes_of (eight_digits last)) ≡ true
-    → length (decimal high ++ codes_of (eight_digits last)) ≡ 1 =
-    λ e. absurd
-    (no_lead (decimal high) (codes_of (eight_digits last)) some (first_decimal high (omega arith) within) e) in
-    ap decimal (sym value) ∙ digits_are (decimal high ++ codes_of (eight_digits last)) digits lead
-    (omega (arith, value))
+    let front = digits_value-decimal numerals high within in
+    let back : digits_number (codes_of ds) ≡ n % 100000000 = codes_value ds ∙ eight_places (n % 100000000) in
+    let value : digits_number text ≡ n =
+    rw (number_append (decimal high) (codes_of ds), front, back) (omega arith) in
+    let all =
+    list_all-append is_digit (decimal high) (codes_of ds)
+    ∙ and_from (list_all is_digit (decimal high)) (list_all is_digit (codes_of ds)) (digits_decimal numerals high within)
+    (codes_digits ds (eight_small (n % 100000000) (omega arith))) in
+    rw value at
+    (digits_are text (some_digits text (simp length-append (omega arith)) all)
+    (λ e. absurd
+    (omega (
+      arith,
+      first_zero text e,
+      get_or_append_left (decimal high) (codes_of ds) 0 0 some,
+      first_decimal high (omega arith) within,
+    )))
+    (omega (arith, value)))

@@ -1,5 +1,5 @@
 -- Writing a word into bytes.
-use Rattle.std.proofs.Common.{◌≡◌, ℕ, ◌+◌, ◌*◌, ◌/◌, ◌%◌, ◌<◌, ◌≤◌, List, [], ◌∷◌, ◌++◌, zero, suc, refl, ap, sym, ◌∙◌, arith, length, take, drop}
+use Rattle.std.proofs.Common.{◌≡◌, ℕ, ◌+◌, ◌<◌, ◌≤◌, List, [], ◌∷◌, ◌++◌, zero, suc, refl, ap, ◌∙◌, arith, length, take, drop}
 use Rattle.std.proofs.lemmas.List.{take-append-le, length-take-le}
 use Rattle.std.proofs.Math.Seq.{take-append-add}
 use Rattle.std.proofs.lemmas.Simd.{put_chunk_is}
@@ -14,11 +14,7 @@ lanes_back k [] h each = refl
 lanes_back zero (c ∷ cs) h each = absurd (omega arith)
 lanes_back (suc k) (c ∷ cs) h each =
     let n : ℕ = number_l 256 cs in
-    let first : (c + 256 * n) % 256 ≡ c = low 8 c n each.0 in
-    let rest : (c + 256 * n) / 256 ≡ n = high 8 c n each.0 in
-    ap (λ b. b ∷ take (length cs) (digits_l 256 k ((c + 256 * n) / 256))) first
-    ∙ ap (λ m. c ∷ take (length cs) (digits_l 256 k m)) rest
-    ∙ ap (λ l. c ∷ l) (lanes_back k cs (omega arith) each.1)
+    rw (low 8 c n each.0, high 8 c n each.0, lanes_back k cs (omega arith) each.1)
 
 -- the bytes after a word has been written
 pub word_put : (at w : ℕ) (bytes cs : List ℕ) → at + 8 ≤ length bytes → length cs ≤ 8 → Each1 (λ c. c < 256) cs
@@ -29,8 +25,7 @@ word_put at w bytes cs h short each is =
     let long : length (take at bytes) ≡ at = length-take-le at bytes (omega arith) in
     let rest : List ℕ = word ++ drop (length word) (drop at bytes) in
     let same : w + 0 ≡ number_l 256 cs = omega arith in
-    ap (take (at + length cs)) (put_chunk_is at bytes word h)
-    ∙ ap (λ n. take (n + length cs) (take at bytes ++ rest)) (sym long)
-    ∙ take-append-add (take at bytes) rest (length cs)
-    ∙ ap (λ l. take at bytes ++ l) (take-append-le (length cs) word (drop (length word) (drop at bytes)) short
-    ∙ ap (λ n. take (length cs) (digits_l 256 8 n)) same ∙ lanes_back 8 cs short each)
+    rw (put_chunk_is at bytes word h, rw long at (take-append-add (take at bytes) rest (length cs)))
+    (ap (λ l. take at bytes ++ l)
+    (take-append-le (length cs) word (drop (length word) (drop at bytes)) short
+    ∙ rw same (lanes_back 8 cs short each)))

@@ -3,10 +3,10 @@ use Rattle.dn_line.proofs.items.problem.Goals as goal
 
 pub returns-in-Min : goal.returns-in-Min
 returns-in-Min c =
-    graph_at c.args.kind c.args.words.now _ _ c.in-Min.is (passed _ _ c.value_at.type_inv c.value_at.ensures)
-    (passed _ _ c.value_at-in-Min.type_inv c.value_at-in-Min.ensures) c.requires
+    rw (passed c.value_at.type_inv c.value_at.ensures, passed c.value_at-in-Min.type_inv c.value_at-in-Min.ensures)
+    (graph_at c.args.kind c.args.words.now c.in-Min.is c.requires)
 
 pub returns-in-Ss : goal.returns-in-Ss
 returns-in-Ss c =
-    aux_at c.args.kind c.args.words.now _ c.in-Ss.is
-    (passed _ _ c.value_at-in-Ss.type_inv c.value_at-in-Ss.ensures) c.requires
+    rw (passed c.value_at-in-Ss.type_inv c.value_at-in-Ss.ensures)
+    (aux_at c.args.kind c.args.words.now c.in-Ss.is c.requires)

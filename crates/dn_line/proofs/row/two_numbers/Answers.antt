@@ -1,17 +1,13 @@
-use Rattle.std.proofs.Common.{◌≡◌, refl, arith, to_z, of_z, w64}
+use Rattle.std.proofs.Common.{refl, arith}
 use Rattle.std.proofs.lemmas.Int.{ints}
 use Rattle.dn_line.proofs.NumbersLaws.{last_number, more_numbers}
 use Rattle.dn_line.proofs.row.two_numbers.Goals as goal
 
 pub returns : goal.returns
 returns c =
-    let first : to_z w64 (of_z w64 c.in_ok-first.first.number) ≡ c.in_ok-first.first.number = omega (arith, ints) in
-    let second : to_z w64 (of_z w64 c.in_ok-second.second.number) ≡ c.in_ok-second.second.number =
-    omega (arith, ints) in
     record {
       numbers =
-          simp (first, second)
-          (more_numbers _ _ _ _ _ c.in_ok-first.ensures
-          (last_number _ _ _ _ c.in_ok-second.ensures c.in_ok-after_line_end.ensures));
+          more_numbers c.in_ok-first.ensures (omega (arith, ints))
+          (last_number c.in_ok-second.ensures (omega (arith, ints)) c.in_ok-after_line_end.ensures);
       others = (refl, (refl, (refl, tt)));
     }

@@ -1,28 +1,18 @@
-use Rattle.std.proofs.Common.{arith, ◌≡◌, ◌≤◌}
-use Rattle.dn_num.specs.State.Digits.{eight_digits, zeros_before}
-use Rattle.dn_num.proofs.DigitLaws.{eight_small, few_zeros, short_put}
+use Rattle.std.proofs.Common.{arith}
+use Rattle.dn_num.proofs.DigitLaws.{eight_small, zeros_few, short_put}
 use Rattle.dn_num.proofs.put.put_short.Goals as goal
 
 pub overflow_mul-zeros : goal.overflow_mul-zeros
-overflow_mul-zeros c =
-    let zeros : c.zeros-zeros.result ≡ zeros_before (eight_digits c.args.number) =
-    c.zeros-zeros.ensures _ _ _ _ _ _ _ _ (eight_small c.args.number c.requires.few) c.eight-digits.ensures in
-    let few : zeros_before (eight_digits c.args.number) ≤ 7 = few_zeros c.args.number in
-    record { fits = omega arith }
+overflow_mul-zeros c = let few =
+    zeros_few c.args.number _ _ c.requires.few c.eight-digits.ensures c.zeros-zeros.ensures in record { fits = omega arith }
 
 pub overflow_shr-codes : goal.overflow_shr-codes
-overflow_shr-codes c =
-    let zeros : c.zeros-zeros.result ≡ zeros_before (eight_digits c.args.number) =
-    c.zeros-zeros.ensures _ _ _ _ _ _ _ _ (eight_small c.args.number c.requires.few) c.eight-digits.ensures in
-    let few : zeros_before (eight_digits c.args.number) ≤ 7 = few_zeros c.args.number in
-    omega arith
+overflow_shr-codes c = let few =
+    zeros_few c.args.number _ _ c.requires.few c.eight-digits.ensures c.zeros-zeros.ensures in omega arith
 
 pub overflow_sub-result : goal.overflow_sub-result
-overflow_sub-result c =
-    let zeros : c.zeros-zeros.result ≡ zeros_before (eight_digits c.args.number) =
-    c.zeros-zeros.ensures _ _ _ _ _ _ _ _ (eight_small c.args.number c.requires.few) c.eight-digits.ensures in
-    let few : zeros_before (eight_digits c.args.number) ≤ 7 = few_zeros c.args.number in
-    omega arith
+overflow_sub-result c = let few =
+    zeros_few c.args.number _ _ c.requires.few c.eight-digits.ensures c.zeros-zeros.ensures in omega arith
 
 pub returns : goal.returns
 returns c =
