@@ -1,5 +1,6 @@
 -- Lemmas on arc lines after the items before them: the first fault, and what the table then holds.
 use Rattle.std.proofs.Common.{◌≡◌, ◌-◌, ◌^◌, ℤ, pos, ◌+ℤ◌, List, [], ◌∷◌, ◌++◌, Bool, true, false, cond, not, ◌&&◌, int_lt, Option, Some, None, refl, sym, ap, ◌∙◌, subst, arith, inl, inr}
+use Rattle.std.proofs.Math.Bool.{and-true}
 use Rattle.std.proofs.lemmas.Int.{ints}
 use Rattle.std.specs.List.{list_all}
 use Rattle.dn_line.specs.declared.code.Code.{Code}
@@ -18,36 +19,13 @@ use Rattle.dn_instance.specs.State.Bodies.{TableHolds}
 use Rattle.dn_arc.specs.Pairs.{bundle}
 use Rattle.dn_table.specs.State.Tables.{TableLists, AreArcs, Stays}
 use Rattle.dn_instance.proofs.SumLaws.{total_append, total_passes}
-use Rattle.dn_instance.proofs.ValidLaws.{arcs_push}
 use Rattle.dn_arc.proofs.TotalKindLaws.{total_some}
 use Rattle.dn_bundle.proofs.BundleLaws.{all_end}
-
--- both nodes of a pair are in range
-pub ends_range : (p : Problem) (s d : ℤ) → is_companion p.kind ≡ false
-    → list_all (is_in_range (Some p)) (s ∷ d ∷ []) ≡ (in_graph p.nodes s && in_graph p.nodes d)
-ends_range p s d c = rw c (and_true (in_graph p.nodes s) (in_graph p.nodes d))
-  where
-    and_true : (a b : Bool) → (a && (b && true)) ≡ (a && b)
-    and_true true true = refl
-    and_true true false = refl
-    and_true false b = refl
-
-pub stray_is : (before : List Line) (p : Problem) (i : Line) (s d : ℤ) → problem_of before ≡ Some p
-    → is_companion p.kind ≡ false
-    → not (list_all (is_in_range (problem_of before)) (s ∷ d ∷ [])) ≡ not (in_graph p.nodes s && in_graph p.nodes d)
-stray_is before p i s d h c = ap (λ o. not (list_all (is_in_range o) (s ∷ d ∷ []))) h ∙ ap not (ends_range p s d c)
 
 pub length_item : (before : List Line) (p : Problem) (s d l : ℤ) → problem_of before ≡ Some p → p.kind ≡ Kinds.Sp
     → first_fault (item_tests before (Some (Item.SpArc s d l))) ≡ arc_fault lengths p.nodes
     (arcs_of length_arc_in before) true ((s, d), record { length = l })
-length_item before p s d l h k =
-    ap (λ (b : Bool). let f : Option Code = cond b (Some NodeOutOfRange) None in f)
-    (stray_is before p (Item.SpArc s d l) s d h (ap is_companion k))
-
-pub length_grown : (before : List Line) (s d l : ℤ)
-    → arcs_of length_arc_in (before ++ Item.SpArc s d l ∷ []) ≡ arcs_of length_arc_in before ++
-    ((s, d), record { length = l }) ∷ []
-length_grown before s d l = arcs_push length_arc_in before (Item.SpArc s d l)
+length_item before p s d l h k = rw (h, k, and-true)
 
 -- the table holds one more arc line
 pub table_grown : {B Arc : Type 0} (kind : ArcKind Arc) (arc_in : Line → Option ((ℤ × ℤ) × Arc)) (lists : B → List Arc)
@@ -57,8 +35,8 @@ pub table_grown : {B Arc : Type 0} (kind : ArcKind Arc) (arc_in : Line → Optio
     → TableLists kind lists table (arcs_of arc_in before ++ a ∷ [])
     → TableHolds kind arc_in lists table (before ++ i ∷ [])
 table_grown kind arc_in lists table before i a e are is t = record {
-  lists_them = subst (TableLists kind lists table) (sym e) t;
-  are_arcs = subst (AreArcs kind) (sym e) (all_end (λ b. kind.IsArc b.1) (arcs_of arc_in before) a are is);
+  lists_them = rw e t;
+  are_arcs = rw e (all_end (λ b. kind.IsArc b.1) (arcs_of arc_in before) a are is);
 }
 
 no_arcs_more : {A : Type 0} (xs : List A) (a : A) → xs ++ a ∷ [] ≡ [] → ⊥
@@ -75,25 +53,10 @@ length_stays xs a are is same = elim (least_of (xs ++ a ∷ [])) [
 -- `max` arcs that mean something also mean something with one more arc
 pub cap_stays : Stays capacities
 cap_stays xs a are is same =
-    let e = same.is in
-    let f = total_append xs a in
-    let g = total_some xs are in
-    let h = is.some in
-    record { is = omega (arith, ints) }
+    record { is = omega (arith, ints, same.is, total_append xs a, total_some xs are, is.some) }
 
 pub cap_item : (before : List Line) (p : Problem) (s d c : ℤ) → problem_of before ≡ Some p → p.kind ≡ Kinds.Max
     → first_fault (item_tests before (Some (Item.MaxArc s d c))) ≡ arc_fault capacities p.nodes
     (arcs_of cap_arc_in before) true ((s, d), record { cap = c })
 cap_item before p s d c h k =
-    let sums : Bool = int_lt (pos (2 ^ 63 - 1)) (total_cap (bundle (s, d) (arcs_of cap_arc_in before)) +ℤ c) in
-    ap (λ (b : Bool). let f : Option Code = cond b (Some NodeOutOfRange) (cond sums (Some SumTooLarge) None) in f)
-    (stray_is before p (Item.MaxArc s d c) s d h (ap is_companion k))
-    ∙ ap (λ (b : Bool). let f : Option Code =
-    cond (not (in_graph p.nodes s && in_graph p.nodes d)) (Some NodeOutOfRange) (cond b (Some SumTooLarge) None) in
-    f)
-    (total_passes (arcs_of cap_arc_in before) ((s, d), record { cap = c }))
-
-pub cap_grown : (before : List Line) (s d c : ℤ)
-    → arcs_of cap_arc_in (before ++ Item.MaxArc s d c ∷ []) ≡ arcs_of cap_arc_in before ++
-    ((s, d), record { cap = c }) ∷ []
-cap_grown before s d c = arcs_push cap_arc_in before (Item.MaxArc s d c)
+    rw (h, k, and-true, total_passes (arcs_of cap_arc_in before) ((s, d), record { cap = c }))

@@ -9,11 +9,6 @@ use Rattle.dn_instance.specs.declared.body.Taken.{Taken}
 use Rattle.dn_instance.specs.declared.refusal.ItemFault.{ItemFault}
 use Rattle.dn_instance.proofs.RowRunLaws.{items_next, joins_more, problem_all, sign_at}
 
--- no rows change nothing
-pub joins_nothing : {H : Type 0} (Holds : H → List Line → Type 0) (held : H) (before : List Line) → Holds held before
-    → Joins Holds before held []
-joins_nothing Holds held before h = record { faultless = tt; holds = subst (Holds held) (sym (append-nil before)) h }
-
 module _ {T : Type 0} (taker : TakerFacts T) (line : Row → Line) (nodes : ℤ) (before : List Line)
     (rows : List RowLine) where
   -- the next row comes after the items of the rows that were taken
@@ -36,8 +31,8 @@ module _ {T : Type 0} (taker : TakerFacts T) (line : Row → Line) (nodes : ℤ)
       → Took taker line (before ++ row_items line (take i rows)) new (get_or rows i d).row r
       → Joins taker.Holds before new (row_items line (take (i + 1) rows))
   one_more now new i d r x e h j t =
-      let ok = subst (Took taker line (before ++ row_items line (take i rows)) new (get_or rows i d).row) e t in
-      subst (Joins taker.Holds before new) (sym (items_next line rows i d h))
+      let ok = rw e at t in
+      rw (items_next line rows i d h)
       (joins_more taker.Holds before now new (row_items line (take i rows))
       (line (get_or rows i d).row) j ok.answer.fault ok.holds)
 

@@ -1,6 +1,8 @@
 -- Lemmas on the items of a text without a fault: each line adds no item, or one that has no fault after those before
 -- it.
-use Rattle.std.proofs.Common.{◌≡◌, ℕ, ◌+◌, List, [], ◌∷◌, ◌++◌, length, Bool, true, false, cond, Option, Some, None, Ok, refl, sym, ap, ◌∙◌, subst, append-nil}
+use Rattle.std.proofs.Common.{◌≡◌, ℕ, ◌+◌, List, [], ◌∷◌, ◌++◌, length, Bool, true, false, cond, Option, Some, None, Ok, refl, sym, ap, ◌∙◌, subst, append-nil, inl, inr}
+use Rattle.dn_line.specs.declared.code.Code.{Code}
+use Rattle.std.proofs.lemmas.Bool.{cases_Bool, cond-false}
 use Rattle.std.specs.Option.{option_or, option_to_list}
 use Rattle.std.proofs.lemmas.List.Sums.{fold-append}
 use Rattle.dn_line.specs.declared.code.Code.TheVariants.{NodeOutOfRange, RepeatedNode, SameTerminal, LowAboveCap, SumTooLarge, TooLong}
@@ -38,18 +40,18 @@ pub or_assoc : {X : Type 0} (x y z : Option X) → option_or x (option_or y z) �
 or_assoc None y z = refl
 or_assoc (Some x) y z = refl
 
-both_none : {X : Type 0} (x y : Option X) → option_or x y ≡ None → (x ≡ None) × (y ≡ None)
-both_none None y h = (refl, h)
-both_none (Some x) y h = cc
-
 pub none_both : (ts us : List Test) → first_fault (ts ++ us) ≡ None → (first_fault ts ≡ None) × (first_fault us ≡ None)
-none_both ts us h = both_none (first_fault ts) (first_fault us) (sym (fault_append ts us) ∙ h)
+none_both ts us h = both_none (first_fault ts) (rw (fault_append ts us) at h)
+  where
+    both_none : (x : Option Code) → option_or x (first_fault us) ≡ None → (x ≡ None) × (first_fault us ≡ None)
+    both_none None h = (refl, h)
+    both_none (Some x) h = cc
 
 pub problem_push : (xs : List Line) (i : Line)
     → Of.problem_of (xs ++ i ∷ []) ≡ option_or (Of.problem_of xs) (problem_in i)
 problem_push [] i = or_none (problem_in i)
 problem_push (x ∷ xs) i =
-    ap (option_or (problem_in x)) (problem_push xs i) ∙ or_assoc (problem_in x) (Of.problem_of xs) (problem_in i)
+    rw (problem_push xs i) (or_assoc (problem_in x) (Of.problem_of xs) (problem_in i))
 
 -- the items of the lines and of one more line
 pub items_push : (ls : List (List ℕ)) (l : List ℕ) → items_of (ls ++ l ∷ []) ≡ with_next (items_of ls) (said_words l)
@@ -57,11 +59,7 @@ items_push ls l = fold-append (λ before x. with_next before (said_words x)) [] 
 
 -- a skipped line adds no item
 pub skip_adds_none : (before : List Line) (ws : List Word) → is_skip ws ≡ true → with_next before ws ≡ before
-skip_adds_none before ws e =
-    ap (λ r. before ++ option_to_list (item_spelled r))
-    (ap (λ b. cond b (Ok Item.Skip)
-    (unless (first_fault (own_tests (kind_known before) ws)) (spelled (kind_known before) ws))) e)
-    ∙ append-nil before
+skip_adds_none before ws e = rw e (append-nil before)
 
 -- the head, the fields and the item of a line have no fault
 pub record NoFault (before : List Line) (ws : List Word) : Type 0 where
@@ -73,26 +71,13 @@ pub no_fault : (n : ℕ) (before : List Line) (ws : List Word) → is_skip ws �
     → NoFault before ws
 no_fault n before ws e h =
     let known = kind_known before in
+    let own = field_tests (fields known ws) in
+    let item = item_tests before (item_spelled (words_read known ws)) in
     let late = none_first (is_too_long n) TooLong _ h in
-    let all : first_fault (line_tests before ws) ≡ None =
-    ap (λ b. first_fault (cond b [] (line_tests before ws))) (sym e) ∙ late.1 in
-    let one =
-    none_both (head_tests known ws)
-    (order_tests before ws ++
-    (field_tests (fields known ws) ++ item_tests before (item_spelled (words_read known ws)))) all in
-    let two =
-    none_both (order_tests before ws)
-    (field_tests (fields known ws) ++ item_tests before (item_spelled (words_read known ws))) one.1 in
-    let three =
-    none_both (field_tests (fields known ws)) (item_tests before (item_spelled (words_read known ws))) two.1 in
-    record { head = one.0; fields = three.0; item = three.1 }
-
-own_none : (before : List Line) (ws : List Word) → NoFault before ws
-    → first_fault (own_tests (kind_known before) ws) ≡ None
-own_none before ws n =
-    fault_append (head_tests (kind_known before) ws) (field_tests (fields (kind_known before) ws))
-    ∙ ap (λ x. option_or x (first_fault (field_tests (fields (kind_known before) ws)))) n.head
-    ∙ n.fields
+    let all = ap first_fault (sym (cond-false (is_skip ws) [] (line_tests before ws) e)) ∙ late.1 in
+    let one = none_both (head_tests known ws) (order_tests before ws ++ (own ++ item)) all in
+    let two = none_both own item (none_both (order_tests before ws) (own ++ item) one.1).1 in
+    record { head = one.0; fields = two.0; item = two.1 }
 
 pub item_some : (i : Line) (slots : List Slot) → slots_of i ≡ Some slots → item_spelled (Ok i) ≡ Some i
 item_some Item.Skip slots h = cc
@@ -120,26 +105,25 @@ reads_next before l e n =
     let known = kind_known before in
     let ws = said_words l in
     let i = spelled known ws in
-    let s : Spells known ws i = faultless_spells known ws (own_none before ws n) in
-    let r : words_read known ws ≡ Ok i = (read_item known l i e).1 s in
-    let some : item_spelled (words_read known ws) ≡ Some i = ap item_spelled r ∙ item_some i s.slots s.slots_are in
-    record {
-      item = i;
-      next = next_from before l i s (ap (λ o. first_fault (item_tests before o)) (sym some) ∙ n.item);
-      read = some;
-    }
+    let s =
+    faultless_spells known ws
+    (rw (fault_append (head_tests known ws) (field_tests (fields known ws)), n.head) n.fields) in
+    let some : item_spelled (words_read known ws) ≡ Some i =
+    ap item_spelled ((read_item known l i e).1 s) ∙ item_some i s.slots s.slots_are in
+    record { item = i; next = next_from before l i s (rw some at n.item); read = some }
 
 -- what holds of no items, and also with each next item, holds of the items of a text without a fault
 module _ (Q : List Line → Type 0)
     (go : (before : List Line) (i : Line) → Q before → IsNext before i → Q (before ++ i ∷ [])) where
-  one_line : (ls : List (List ℕ)) (l : List ℕ) (b : Bool) → is_skip (said_words l) ≡ b → fault_after ls l ≡ None
-      → Q (items_of ls) → Q (items_of (ls ++ l ∷ []))
-  one_line ls l true e h q = subst Q (sym (items_push ls l ∙ skip_adds_none (items_of ls) (said_words l) e)) q
-  one_line ls l false e h q =
-      let r = reads_next (items_of ls) l e (no_fault (length ls + 1) (items_of ls) (said_words l) e h) in
-      subst Q (sym (items_push ls l ∙ ap (λ o. items_of ls ++ option_to_list o) r.read))
-      (go (items_of ls) r.item q r.next)
+  one_line : (ls : List (List ℕ)) (l : List ℕ) → fault_after ls l ≡ None → Q (items_of ls)
+      → Q (items_of (ls ++ l ∷ []))
+  one_line ls l h q = elim (cases_Bool (is_skip (said_words l))) [
+    | inl e ↦ rw (items_push ls l, skip_adds_none (items_of ls) (said_words l) e) q
+    | inr e ↦
+        let r = reads_next (items_of ls) l e (no_fault (length ls + 1) (items_of ls) (said_words l) e h) in
+        rw (items_push ls l, r.read) (go (items_of ls) r.item q r.next)
+  ]
 
   pub by_items : Q [] → (ls : List (List ℕ)) → IsClean ls → Q (items_of ls)
   by_items none ls clean =
-      by_clean_lines (λ xs. Q (items_of xs)) ls clean (λ b l h q. one_line b l (is_skip (said_words l)) refl h q) none
+      by_clean_lines (λ xs. Q (items_of xs)) ls clean one_line none

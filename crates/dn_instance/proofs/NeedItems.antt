@@ -22,40 +22,25 @@ use Rattle.dn_instance.proofs.FirstFaults.{none_first}
 use Rattle.dn_instance.proofs.ValidLaws.{grown}
 use Rattle.dn_instance.proofs.MapLaws.{by_key_push, one_more_key}
 use Rattle.dn_instance.proofs.ItemSteps.{problem_kept}
-use Rattle.dn_instance.proofs.ArcItems.{length_grown, cap_grown}
-use Rattle.dn_instance.proofs.CostItems.{cost_grown}
 
 module _ (before : List Line) (p : Problem) (h : problem_of before ≡ Some p) where
   -- items that make more entries of their kind make more entries
-  entries_grow : (i : Line) → entries_as p.kind before < entries_as p.kind (before ++ i ∷ []) → NeedsMemory before i
-  entries_grow i more =
-      let kind : Option Problem → Option Kind = option_map (λ (q : Problem). q.kind) in
-      let e : entries_so_far before ≡ entries_as p.kind before = ap (λ o. entries_by (kind o) before) h in
-      let f : entries_so_far (before ++ i ∷ []) ≡ entries_as p.kind (before ++ i ∷ []) =
-      ap (λ o. entries_by (kind o) (before ++ i ∷ [])) (problem_kept before i p h) in
-      inl (omega (arith, e, f, more))
-
   entries_more : (i : Line) (kind : Kind) → p.kind ≡ kind
       → entries_as kind before < entries_as kind (before ++ i ∷ []) → NeedsMemory before i
-  entries_more i kind k more =
-      entries_grow i (subst (λ x. entries_as x before < entries_as x (before ++ i ∷ [])) (sym k) more)
+  entries_more i kind k more = inl (rw (problem_kept before i p h, h, k) more)
 
   pub length_need : (s d l : ℤ) → p.kind ≡ Kinds.Sp
       → GraphNeedsMore lengths (arcs_of length_arc_in before) ((s, d), record { length = l })
       → NeedsMemory before (Item.SpArc s d l)
   length_need s d l k (inl more) =
-      entries_more (Item.SpArc s d l) Kinds.Sp k
-      (subst (λ x. graph_entries lengths (arcs_of length_arc_in before) < graph_entries lengths x)
-      (sym (length_grown before s d l)) more)
+      entries_more (Item.SpArc s d l) Kinds.Sp k (rw (grown length_arc_in before (Item.SpArc s d l) _ refl) more)
   length_need s d l k (inr spreads) = absurd spreads
 
   pub cap_need : (s d c : ℤ) → p.kind ≡ Kinds.Max
       → GraphNeedsMore capacities (arcs_of cap_arc_in before) ((s, d), record { cap = c })
       → NeedsMemory before (Item.MaxArc s d c)
   cap_need s d c k (inl more) =
-      entries_more (Item.MaxArc s d c) Kinds.Max k
-      (subst (λ x. graph_entries capacities (arcs_of cap_arc_in before) < graph_entries capacities x)
-      (sym (cap_grown before s d c)) more)
+      entries_more (Item.MaxArc s d c) Kinds.Max k (rw (grown cap_arc_in before (Item.MaxArc s d c) _ refl) more)
   cap_need s d c k (inr spreads) = absurd spreads
 
   pub cost_need : (s d l u k : ℤ) → p.kind ≡ Kinds.Min
@@ -63,32 +48,21 @@ module _ (before : List Line) (p : Problem) (h : problem_of before ≡ Some p) w
       → NeedsMemory before (Item.MinArc s d l u k)
   cost_need s d l u k e (inl more) =
       entries_more (Item.MinArc s d l u k) Kinds.Min e
-      (subst (λ x. graph_entries costs (arcs_of cost_arc_in before) < graph_entries costs x)
-      (sym (cost_grown before s d l u k)) more)
+      (rw (grown cost_arc_in before (Item.MinArc s d l u k) _ refl) more)
   cost_need s d l u k e (inr spreads) = inr spreads
 
-  one_longer : {X : Type 0} (xs ys : List X) (x : X) → ys ≡ xs ++ x ∷ [] → length xs < length ys
-  one_longer xs ys x e = let n = ap length e in let m = length-append xs (x ∷ []) in omega (arith, n, m)
+  one_longer : {X : Type 0} (xs : List X) (x : X) → length xs < length (xs ++ x ∷ [])
+  one_longer xs x = omega (arith, length-append xs (x ∷ []))
 
   pub id_need : (id : ℤ) → p.kind ≡ Kinds.Ss → NeedsMemory before (Item.Source id)
   id_need id k =
       entries_more (Item.Source id) Kinds.Ss k
-      (one_longer (filter_map source_in before) _ id (grown source_in before (Item.Source id) id refl))
+      (rw (grown source_in before (Item.Source id) id refl) (one_longer (filter_map source_in before) id))
 
   pub pair_need : (pair : ℤ × ℤ) → p.kind ≡ Kinds.P2p → NeedsMemory before (Item.Query pair.0 pair.1)
   pair_need pair k =
       entries_more (Item.Query pair.0 pair.1) Kinds.P2p k
-      (one_longer (filter_map query_in before) _ pair (grown query_in before (Item.Query pair.0 pair.1) pair refl))
-
-  pub point_need : (id x y : ℤ) → p.kind ≡ Kinds.Co
-      → is_some (lookup (is_at (int_cmp id)) (by_key (filter_map point_in before))) ≡ false
-      → NeedsMemory before (Item.Point id x y)
-  point_need id x y k new =
-      let e =
-      ap (λ l. length (by_key l)) (grown point_in before (Item.Point id x y) (id, (x, y)) refl)
-      ∙ ap length (by_key_push (filter_map point_in before) (id, (x, y)))
-      ∙ one_more_key id (x, y) (by_key (filter_map point_in before)) new in
-      entries_more (Item.Point id x y) Kinds.Co k (omega (arith, e))
+      (rw (grown query_in before (Item.Query pair.0 pair.1) pair refl) (one_longer (filter_map query_in before) pair))
 
   -- memory runs out only at a point of a new ID
   pub point_out : (id x y : ℤ) (points : BTreeMap ℤ (ℤ × ℤ)) (r : Result (Unit {0}) ItemFault)
@@ -96,8 +70,8 @@ module _ (before : List Line) (p : Problem) (h : problem_of before ≡ Some p) w
       → p.kind ≡ Kinds.Co → points.entries ≡ by_key (filter_map point_in before)
       → r ≡ Err Memory → NeedsMemory before (Item.Point id x y)
   point_out id x y points r ans k held out =
-      let named = is_some (lookup (is_at (int_cmp id)) points.entries) in
-      let none = subst (λ s. AnswersFault s (point_fault named id)) out ans in
-      let one = none_first (not (int_lt (pos 0) id)) NodeOutOfRange _ none in
-      let two = none_first named RepeatedNode _ one.1 in
-      point_need id x y k (ap (λ es. is_some (lookup (is_at (int_cmp id)) es)) (sym held) ∙ two.0)
+      let one = none_first (not (int_lt (pos 0) id)) NodeOutOfRange _ (rw (out, held) at ans) in
+      let points = by_key (filter_map point_in before) in
+      let new = one_more_key id (x, y) points (none_first (is_some (lookup (is_at (int_cmp id)) points)) RepeatedNode _ one.1).0 in
+      entries_more (Item.Point id x y) Kinds.Co k
+      (rw (grown point_in before (Item.Point id x y) (id, (x, y)) refl, by_key_push) (omega (arith, new)))

@@ -1,5 +1,5 @@
 -- Lemmas on rows that are taken one after another.
-use Rattle.std.proofs.Common.{◌≡◌, ◌<◌, ◌≤◌, ◌+◌, ◌-◌, ◌^◌, ◌+ℤ◌, ◌-ℤ◌, negsuc, FitsSigned, w64, ℕ, zero, suc, ℤ, pos, ◌≤ℤ◌, ◌<ℤ◌, List, [], ◌∷◌, ◌++◌, length, take, drop, get_or, filter, true, false, cond, not, ◌||◌, int_lt, Option, Some, None, refl, sym, subst, ap, ◌∙◌, arith, append-nil, append_assoc, length-append}
+use Rattle.std.proofs.Common.{◌≡◌, ◌<◌, ◌≤◌, ◌+◌, ◌-◌, ◌^◌, ◌+ℤ◌, ◌-ℤ◌, negsuc, FitsSigned, w64, ℕ, zero, suc, ℤ, pos, ◌≤ℤ◌, ◌<ℤ◌, List, [], ◌∷◌, ◌++◌, length, take, drop, get_or, filter, true, false, cond, not, ◌||◌, int_lt, Option, Some, None, refl, sym, subst, ap, ◌∙◌, arith, append-nil, append_assoc, length-append, add-one, add-zero}
 use Rattle.std.specs.Prelude.{MatchOption}
 use Rattle.std.specs.List.{AllByRecursion, list_any}
 use Rattle.std.specs.Option.{option_map, option_or}
@@ -31,12 +31,9 @@ use Rattle.dn_instance.proofs.ItemSteps.{counted_yes, problem_kept, problem_agre
 -- items without a fault, followed by one more, have no fault
 faultless_more : (before items : List Line) (i : Line) → AreFaultless before items
     → first_fault (item_tests (before ++ items) (Some i)) ≡ None → AreFaultless before (items ++ i ∷ [])
-faultless_more before [] i h f = (subst (λ b. first_fault (item_tests b (Some i)) ≡ None) (append-nil before) f, tt)
-faultless_more before (x ∷ items) i h f = (
-  h.0,
-  faultless_more (before ++ x ∷ []) items i h.1
-      (subst (λ b. first_fault (item_tests b (Some i)) ≡ None) (sym (append_assoc before (x ∷ []) items)) f),
-)
+faultless_more before [] i h f = (rw append-nil at f, tt)
+faultless_more before (x ∷ items) i h f =
+    (h.0, faultless_more (before ++ x ∷ []) items i h.1 (rw (append_assoc before (x ∷ []) items) f))
 
 pub joins_more : {H : Type 0} (Holds : H → List Line → Type 0) (before : List Line) (held more : H) (items : List Line)
     (i : Line) → Joins Holds before held items
@@ -44,7 +41,7 @@ pub joins_more : {H : Type 0} (Holds : H → List Line → Type 0) (before : Lis
     → Joins Holds before more (items ++ i ∷ [])
 joins_more Holds before held more items i j f h = record {
   faultless = faultless_more before items i j.faultless f;
-  holds = subst (Holds more) (append_assoc before items (i ∷ [])) h;
+  holds = rw append_assoc at h;
 }
 
 or_kept : (a b c : Option Problem) (p : Problem) → option_or a b ≡ Some p → (b ≡ Some p → c ≡ Some p)
@@ -63,11 +60,7 @@ problem_all (x ∷ before) items p h =
 pub items_next : (line : Row → Line) (rows : List RowLine) (i : ℕ) (d : RowLine) → i < length rows
     → row_items line (take (i + 1) rows) ≡ row_items line (take i rows) ++ line (get_or rows i d).row ∷ []
 items_next line rows i d h =
-    ap (λ n. row_items line (take n rows)) (one i) ∙ ap (row_items line) (take-suc rows i d h)
-    ∙ map-append (λ (r : RowLine). line r.row) (take i rows) (get_or rows i d ∷ [])
-  where
-    one : (i : ℕ) → i + 1 ≡ suc i
-    one i = omega arith
+    rw (add-one i, take-suc rows i d h) (map-append (λ (r : RowLine). line r.row) (take i rows) (get_or rows i d ∷ []))
 
 pub sign_at : (line : Row → Line) (rows : List RowLine) (i : ℕ) (d : RowLine) → i < length rows
     → AllByRecursion HasSigns (row_items line rows) → HasSigns (line (get_or rows i d).row)
@@ -78,11 +71,7 @@ sign_at line (r ∷ rows) (suc i) d h s = sign_at line rows i d (omega arith) s.
 -- the item of a row is counted
 pub one_counted : (kind : Kind) (r : RowLine) → is_counted (line_of kind r.row) ≡ true
 one_counted Min r = refl
-one_counted Max r = refl
-one_counted Sp r = refl
-one_counted Ss r = refl
-one_counted P2p r = refl
-one_counted Co r = refl
+one_counted _ r = refl
 
 one_arc : (kind : Kind) (r : RowLine) → is_companion kind ≡ false → is_arc (line_of kind r.row) ≡ true
 one_arc Min r c = refl
@@ -92,26 +81,18 @@ one_arc _ r c = cc
 
 all_counted : (kind : Kind) (rows : List RowLine) → counted (row_items (line_of kind) rows) ≡ length rows
 all_counted kind [] = refl
-all_counted kind (r ∷ rows) =
-    let rest = filter is_counted (row_items (line_of kind) rows) in
-    ap (λ b. length (cond b (line_of kind r.row ∷ rest) rest)) (one_counted kind r) ∙ ap suc (all_counted kind rows)
+all_counted kind (r ∷ rows) = rw (one_counted kind r, all_counted kind rows)
 
 counted_all : (kind : Kind) (before : List Line) (rows : List RowLine)
     → counted (before ++ row_items (line_of kind) rows) ≡ counted before + length rows
 counted_all kind before rows =
-    ap length (filter-append is_counted before (row_items (line_of kind) rows))
-    ∙ length-append (filter is_counted before) (filter is_counted (row_items (line_of kind) rows))
-    ∙ ap (λ n. counted before + n) (all_counted kind rows)
+    rw (filter-append is_counted before (row_items (line_of kind) rows), length-append, all_counted kind rows)
 
 -- a counted item comes in time if there are fewer counted lines than declared
 counted_in_time : (kind : Kind) (before : List Line) (r : RowLine)
     → is_full (problem_of before) (counted before) ≡ false → IsInTime before (line_of kind r.row)
 counted_in_time Min before r h = h
-counted_in_time Max before r h = h
-counted_in_time Sp before r h = h
-counted_in_time Ss before r h = h
-counted_in_time P2p before r h = h
-counted_in_time Co before r h = h
+counted_in_time _ before r h = h
 
 -- rows come in time if they are at most as many as are still declared
 pub come_in_time : (kind : Kind) (rows : List RowLine) (before : List Line) (p : Problem) → problem_of before ≡ Some p
@@ -121,17 +102,16 @@ come_in_time kind [] before p h m = tt
 come_in_time kind (r ∷ rows) before p h m =
     let i = line_of kind r.row in (
       counted_in_time kind before r
-          (ap (λ o. is_full o (counted before)) h ∙ below (counted before) (length rows) p.count (m (omega arith))),
+          (rw h (below (counted before) (length rows) p.count (m (omega arith)))),
       come_in_time kind rows (before ++ i ∷ []) p (problem_kept before i p h)
-          (λ _. subst (λ n. pos (n + length rows) ≤ℤ p.count) (sym (counted_yes before i (one_counted kind r)))
-          (subst (λ n. pos n ≤ℤ p.count) (shift (counted before) (length rows)) (m (omega arith)))),
+          (λ _. rw (counted_yes before i (one_counted kind r)) (shift (counted before) (length rows) p.count (m (omega arith)))),
     )
   where
     below : (k n : ℕ) (m : ℤ) → pos (k + suc n) ≤ℤ m → not (int_lt (pos k) m) ≡ false
-    below k n m r = let lt : int_lt (pos k) m ≡ true = grind (arith, ints, nat_tests) in ap not lt
+    below k n m r = grind (arith, ints, nat_tests)
 
-    shift : (k n : ℕ) → k + suc n ≡ suc k + n
-    shift k n = omega arith
+    shift : (k n : ℕ) (m : ℤ) → pos (k + suc n) ≤ℤ m → pos (suc k + n) ≤ℤ m
+    shift k n m r = omega (arith, ints)
 
 -- `min` node lines come in time before any arc
 pub supplies_in_time : (rows : List RowLine) (before : List Line) → list_any is_arc before ≡ false
@@ -140,7 +120,7 @@ supplies_in_time [] before h = tt
 supplies_in_time (r ∷ rows) before h = (
   h,
   supplies_in_time rows (before ++ supply_of r.row ∷ [])
-      (list_any-append is_arc before (supply_of r.row ∷ []) ∙ ap (λ b. b || false) h),
+      (rw (list_any-append is_arc before (supply_of r.row ∷ []), h)),
 )
 
 -- the first m of some items come in time, and those after them after these
@@ -151,13 +131,9 @@ pub in_time_split : (line : Row → Line) (rows : List RowLine) (m : ℕ) (befor
 in_time_split line [] zero before h = (tt, tt)
 in_time_split line [] (suc m) before h = (tt, tt)
 in_time_split line (r ∷ rows) zero before h =
-    (tt, subst (λ b. AreInTime b (row_items line (r ∷ rows))) (sym (append-nil before)) h)
+    (tt, rw append-nil h)
 in_time_split line (r ∷ rows) (suc m) before h =
-    let s = in_time_split line rows m (before ++ line r.row ∷ []) h.1 in (
-      (h.0, s.0),
-      subst (λ b. AreInTime b (row_items line (drop m rows)))
-          (append_assoc before (line r.row ∷ []) (row_items line (take m rows))) s.1,
-    )
+    let s = in_time_split line rows m (before ++ line r.row ∷ []) h.1 in ((h.0, s.0), rw append_assoc at s.1)
 
 -- more rows have been read
 module _ (t : TextSoFar) (d : Draft) (kind : Kind) (before : List Line) (at : HasRead t before)
@@ -166,19 +142,17 @@ module _ (t : TextSoFar) (d : Draft) (kind : Kind) (before : List Line) (at : Ha
       → n ≡ pos (counted before + length rows)
       → list_any is_arc (before ++ row_items (line_of kind) rows) ≡ int_lt (pos 0) n
   arcs_then graph [] n e =
-      ap (list_any is_arc) (append-nil before) ∙ at.arcs_are graph
-      ∙ ap (int_lt (pos 0)) (at.counted_is ∙ sym (e ∙ ap pos (none (counted before))))
-    where
-      none : (k : ℕ) → k + 0 ≡ k
-      none k = omega arith
+      rw (append-nil before) (at.arcs_are graph ∙ ap (int_lt (pos 0)) (at.counted_is ∙ sym (rw add-zero at e)))
   arcs_then graph (r ∷ rows) n e =
-      list_any-append is_arc before (row_items (line_of kind) (r ∷ rows))
-      ∙ ap (λ b. list_any is_arc before || (b || list_any is_arc (row_items (line_of kind) rows)))
-      (one_arc kind r (not-true (is_companion kind) (sym (ap is_graph is) ∙ graph)))
-      ∙ or-true (list_any is_arc before)
-      ∙ sym (ap (int_lt (pos 0)) e ∙ above (counted before) (length rows))
+      rw (
+        list_any-append is_arc before (row_items (line_of kind) (r ∷ rows)),
+        one_arc kind r (not-true (is_companion kind) (rw is at graph)),
+        or-true,
+        e,
+      )
+      (above (counted before) (length rows))
     where
-      above : (k m : ℕ) → int_lt (pos 0) (pos (k + suc m)) ≡ true
+      above : (k m : ℕ) → true ≡ int_lt (pos 0) (pos (k + suc m))
       above k m = grind (arith, ints, nat_tests)
 
   pub rows_read : (rows : List RowLine) (n : ℤ) → n ≡ pos (counted before + length rows)
@@ -188,12 +162,11 @@ module _ (t : TextSoFar) (d : Draft) (kind : Kind) (before : List Line) (at : Ha
       let all = counted_all kind before rows in
       record {
         problem_is =
-            problem_all before (row_items (line_of kind) rows) _ (problem_agrees t before kind at is)
-            ∙ sym (ap (option_map (problem_as t)) (kept ∙ is));
+            rw (kept ∙ is) (problem_all before (row_items (line_of kind) rows) _ (problem_agrees t before kind at is));
         count_fits = at.count_fits;
-        counted_is = e ∙ ap pos (sym all);
-        counted_few = subst (λ k. k < 2 ^ 63) (sym all) few;
-        arcs_are = λ graph. arcs_then (sym (ap is_graph kept) ∙ graph) rows n e;
+        counted_is = rw all e;
+        counted_few = rw all few;
+        arcs_are = λ graph. arcs_then (rw kept at graph) rows n e;
         holds = h;
       }
 
@@ -210,23 +183,18 @@ module _ (t : TextSoFar) (d : Draft) (before : List Line) (at : HasRead t before
 
   same_count : (rows : List RowLine) → counted (before ++ row_items supply_of rows) ≡ counted before
   same_count rows =
-      ap length
-      (filter-append is_counted before (row_items supply_of rows)
-      ∙ ap (λ l. filter is_counted before ++ l) (none_counted rows) ∙ append-nil (filter is_counted before))
+      rw (filter-append is_counted before (row_items supply_of rows), none_counted rows, append-nil)
 
   pub supplies_read : (rows : List RowLine) → DraftHolds d (before ++ row_items supply_of rows)
       → HasRead (record t { draft = d }) (before ++ row_items supply_of rows)
   supplies_read rows h = record {
     problem_is =
-        problem_all before (row_items supply_of rows) _ (problem_agrees t before Min at is)
-        ∙ sym (ap (option_map (problem_as t)) (kept ∙ is));
+        rw (kept ∙ is) (problem_all before (row_items supply_of rows) _ (problem_agrees t before Min at is));
     count_fits = at.count_fits;
-    counted_is = at.counted_is ∙ ap pos (sym (same_count rows));
-    counted_few = subst (λ k. k < 2 ^ 63) (sym (same_count rows)) at.counted_few;
-    arcs_are =
-        λ graph. list_any-append is_arc before (row_items supply_of rows)
-        ∙ ap (λ b. list_any is_arc before || b) (no_arcs rows) ∙ or-false (list_any is_arc before)
-        ∙ at.arcs_are (sym (ap is_graph kept) ∙ graph);
+    counted_is = rw (same_count rows) at.counted_is;
+    counted_few = rw (same_count rows) at.counted_few;
+    arcs_are = λ graph.
+        rw (list_any-append is_arc before (row_items supply_of rows), no_arcs rows, or-false) (at.arcs_are (rw kept at graph));
     holds = h;
   }
 
@@ -239,17 +207,15 @@ within n (negsuc m) some h = absurd (omega (arith, ints))
 pub still_declared : (k m n : ℕ) (count s : ℤ) → s ≡ saturate_signed w64 (count -ℤ pos k) → (0 < n → pos n ≤ℤ s) → m ≤ n
     → 0 < m → pos (k + m) ≤ℤ count
 still_declared k m n count s e most h some =
-    let some_n : 0 < n = omega arith in
-    let all : pos n ≤ℤ (count -ℤ pos k) = within n (count -ℤ pos k) some_n (subst (λ x. pos n ≤ℤ x) e (most some_n)) in
-    omega (arith, ints)
+    let all = within n (count -ℤ pos k) (omega arith) (rw e at (most (omega arith))) in omega (arith, ints)
 
 pub still_few : (k m : ℕ) (count : ℤ) → count <ℤ pos (2 ^ 63) → k < 2 ^ 63 → (0 < m → pos (k + m) ≤ℤ count)
     → k + m < 2 ^ 63
 still_few k zero count f h declared = omega arith
-still_few k (suc m) count f h declared = let d = declared (omega arith) in omega (arith, ints)
+still_few k (suc m) count f h declared = omega (arith, ints, declared (omega arith))
 
 pub sum_taken : (k m : ℕ) → k + m < 2 ^ 63 → saturate_signed w64 (pos k +ℤ pos m) ≡ pos (k + m)
-sum_taken k m h = let small : k + m ≤ 2 ^ 63 - 1 = omega arith in ap pos (min-eq_left small)
+sum_taken k m h = ap pos (min-eq_left (omega arith))
 
 pub sum_fits : (n : ℕ) → n < 2 ^ 63 → FitsSigned w64 (pos n)
 sum_fits n h = fits_signed_from_abs w64 (pos n) (grind (arith, ints, nat_tests))

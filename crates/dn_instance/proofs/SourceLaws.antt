@@ -26,8 +26,7 @@ front_lines given rest =
     let n = lines_more (given ++ rest) in
     record {
       rest = m.rest ++ n.rest;
-      whole =
-          n.whole ∙ ap (λ l. l ++ n.rest) m.whole ∙ append_assoc (ended given) m.rest n.rest;
+      whole = rw (n.whole, m.whole) (append_assoc (ended given) m.rest n.rest);
     }
 
 -- if a text was refused because memory ran out, memory ran out at a line of the last piece, or at the last line
@@ -48,23 +47,15 @@ ran_out t left (inr s) = inr (s.at_end, s.refused)
 -- a refusal is one after the first `before` lines, if memory ran out only after these
 refused_past : (before : ℕ) (ls : List (List ℕ)) (e : Refusal) → IsRefused 0 ls e → (e ≡ Memory → WantsMemory before ls)
     → IsRefused before ls e
-refused_past before ls (Text (Places.Line number) code) h m = h
-refused_past before ls (Text Places.End code) h m = h
 refused_past before ls Memory h m = m refl
-refused_past before ls Read h m = h
-refused_past before ls Endless h m = h
-refused_past before ls Write h m = h
-refused_past before ls CountTooLarge h m = h
+refused_past before ls (Text (Places.Line number) code) h m = h
+refused_past before ls _ h m = h
 
 piece_outcome : (t : List ℕ) (left : AfterPulls) (e : Refusal) → IsRefused 0 (lines t) e → StopsInPiece t left e
     → SourceOutcome t left (Err e)
 piece_outcome t left (Text (Places.Line number) code) h s = (h, inl s)
-piece_outcome t left (Text Places.End code) h s = absurd h
 piece_outcome t left Memory h s = inl s
-piece_outcome t left Read h s = absurd h
-piece_outcome t left Endless h s = absurd h
-piece_outcome t left Write h s = absurd h
-piece_outcome t left CountTooLarge h s = absurd h
+piece_outcome t left _ h s = absurd h
 
 -- what holds of all bytes that a source gave and still gives holds of its bytes, if they are known
 given_rest : (old new : Option (List ℕ)) (given : List ℕ) (P : List ℕ → Type 0) → Consumes old new given
@@ -75,7 +66,7 @@ given_rest (Some t) (Some rest) given P c f = f t rest c refl
 
 -- a refusal at a line is not `Read`
 pub refused_unread : (n : ℕ) (ls : List (List ℕ)) (e : Refusal) → IsRefused n ls e → e ≡ Read → ⊥
-refused_unread n ls e h is = subst (IsRefused n ls) is h
+refused_unread n ls e h is = rw is at h
 
 pub not_refused : (o : Option Refusal) → Ok tt ≡ answer_of o → o ≡ None
 not_refused None e = refl
@@ -86,20 +77,15 @@ pub has_none : (piece : List ℕ) (test : Bool) → test ≡ (length piece == 0)
 has_none piece test is e = nil_from_length piece (eqb-true (length piece) 0 (sym is ∙ e))
 
 pub has_some : (piece : List ℕ) (test : Bool) → test ≡ (length piece == 0) → test ≡ false → 0 < length piece
-has_some piece test is e = let some = eqb-false (length piece) 0 (sym is ∙ e) in omega arith
+has_some piece test is e = omega (arith, eqb-false (length piece) 0 (sym is ∙ e))
 
 end_outcome : (t : List ℕ) (left : AfterPulls) (r : Result Held Refusal) → IsAtEnd left.gives → IsClean (ended t)
     → (r ≡ Err Memory → WantsMemory (length (ended t)) (lines t)) → Outcome t r → SourceOutcome t left r
 end_outcome t left (Ok held) e clean m h = (h, e)
-end_outcome t left (Err (Text (Places.Line number) code)) e clean m h =
-    (h, inr (record { at_end = e; clean = clean; refused = h }))
-end_outcome t left (Err (Text Places.End code)) e clean m h =
+end_outcome t left (Err (Text place code)) e clean m h =
     (h, inr (record { at_end = e; clean = clean; refused = h }))
 end_outcome t left (Err Memory) e clean m h = inr (record { at_end = e; clean = clean; refused = m refl })
-end_outcome t left (Err Read) e clean m h = absurd h
-end_outcome t left (Err Endless) e clean m h = absurd h
-end_outcome t left (Err Write) e clean m h = absurd h
-end_outcome t left (Err CountTooLarge) e clean m h = absurd h
+end_outcome t left _ e clean m h = absurd h
 
 module _ {S : Type 0} (source : SourceFacts S) (old before : S) (r : Reader) (fed : IsFed source old before r) where
   -- no complete line of the bytes given has a fault
@@ -146,8 +132,7 @@ module _ {S : Type 0} (source : SourceFacts S) (old before : S) (r : Reader) (fe
   pub given_all : (new : S) (piece : List ℕ) → piece ≡ [] → Consumes (source.gives before) (source.gives new) piece
       → Consumes (source.gives old) (source.gives new) fed.given
   given_all new piece none c =
-      subst (λ l. Consumes (source.gives old) (source.gives new) l)
-      (ap (λ l. fed.given ++ l) none ∙ append-nil fed.given) (given_more new piece c)
+      rw (none, append-nil fed.given) at (given_more new piece c)
 
   -- the outcome of a source that is at its end
   pub finished : (new : S) (a : Result Held Refusal) → Consumes (source.gives old) (source.gives new) fed.given
@@ -175,7 +160,7 @@ module _ {S : Type 0} (source : SourceFacts S) (old before : S) (r : Reader) (fe
         (λ t rest whole is.
         piece_outcome t (after_pulls source old new) e
         (refused_on 0 0 (ended all) (lines t) e (omega arith)
-        (subst (λ x. More (ended all) (lines x)) (sym whole) (front_lines all rest)) h)
+        (rw whole (front_lines all rest)) h)
         (record {
           given = fed.given;
           piece = piece;
@@ -192,7 +177,7 @@ module _ {S : Type 0} (source : SourceFacts S) (old before : S) (r : Reader) (fe
 pub kept_more : (keeps : Bool) (old mid new given piece : List ℕ) → IsKept keeps old mid given
     → IsKept keeps mid new piece → IsKept keeps old new (given ++ piece)
 kept_more keeps old mid new given piece h k is =
-    k is ∙ ap (λ l. l ++ piece) (h is) ∙ append_assoc old given piece
+    rw (k is, h is) (append_assoc old given piece)
 
 -- the outcome if all bytes that the source gave are kept, if bytes are kept
 pub kept : (keeps : Bool) (old new : Option (List ℕ)) (left : AfterPulls) (given old_copy new_copy : List ℕ)
@@ -208,7 +193,7 @@ pub unkept : (old : Option (List ℕ)) (left : AfterPulls) (old_copy new_copy : 
     → IfSome old (λ t. KeptOutcome false t left old_copy new_copy r) → IfSome old (λ t. SourceOutcome t left r)
 unkept None left old_copy new_copy r h = tt
 unkept (Some t) left old_copy new_copy r (inl h) = h.0
-unkept (Some t) left old_copy new_copy r (inr h) = absurd (let never = h.1 in cc)
+unkept (Some t) left old_copy new_copy r (inr h) = cc h.1
 
 pub unkept_held : (old_copy new_copy : List ℕ) (a : Result Held Refusal)
     → IfOk a (HoldsKept false old_copy new_copy) → IfOk a HoldsSome
@@ -217,13 +202,10 @@ unkept_held old_copy new_copy (Err e) h = tt
 
 copy_outcome : (t : List ℕ) (left : AfterPulls) (old_copy new_copy : List ℕ) (r : Result Held Refusal)
     → SourceOutcome t left r → Copied t left.gives old_copy new_copy → CopyOutcome t left old_copy new_copy r
-copy_outcome t left old_copy new_copy (Ok held) h k = (h, k)
-copy_outcome t left old_copy new_copy (Err (Text place code)) h k = (h, k)
 copy_outcome t left old_copy new_copy (Err Memory) h k = inl (h, k)
-copy_outcome t left old_copy new_copy (Err Read) h k = (h, k)
-copy_outcome t left old_copy new_copy (Err Endless) h k = (h, k)
 copy_outcome t left old_copy new_copy (Err Write) h k = absurd h
 copy_outcome t left old_copy new_copy (Err CountTooLarge) h k = absurd h
+copy_outcome t left old_copy new_copy _ h k = (h, k)
 
 -- the outcome if bytes are kept
 pub copied : (old : Option (List ℕ)) (left : AfterPulls) (old_copy new_copy : List ℕ) (r : Result Held Refusal)
@@ -232,7 +214,7 @@ pub copied : (old : Option (List ℕ)) (left : AfterPulls) (old_copy new_copy : 
 copied None left old_copy new_copy r h = tt
 copied (Some t) left old_copy new_copy r (inl h) = copy_outcome t left old_copy new_copy r h.0 (h.1 refl)
 copied (Some t) left old_copy new_copy r (inr h) =
-    subst (λ x. CopyOutcome t left old_copy new_copy x) (sym h.0) (inr h.2)
+    rw h.0 (inr h.2)
 
 pub copied_held : (old_copy new_copy : List ℕ) (a : Result Held Refusal)
     → IfOk a (HoldsKept true old_copy new_copy) → IfOk a (HoldsCopied old_copy new_copy)

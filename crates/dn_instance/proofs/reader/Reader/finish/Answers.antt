@@ -5,7 +5,8 @@ use Rattle.dn_instance.specs.State.ReaderStates.{IsReading}
 use Rattle.dn_instance.specs.State.TextsSoFar.{TextAt}
 use Rattle.dn_instance.specs.declared.reader.Reader.{Reader}
 use Rattle.dn_instance.proofs.PieceSteps.{with_last, none_open, without_last}
-use Rattle.dn_instance.proofs.ReaderLaws.{none_from, reading, refused_before, refused_last, held_whole, takes_last}
+use Rattle.dn_instance.proofs.FirstFaults.{none_from}
+use Rattle.dn_instance.proofs.ReaderLaws.{reading, refused_before, refused_last, held_whole, takes_last}
 use Rattle.dn_instance.proofs.reader.Reader.finish.Goals.{then-pending+in-Ok, else-pending}
 use Rattle.dn_instance.proofs.reader.Reader.finish.Goals as goal
 
