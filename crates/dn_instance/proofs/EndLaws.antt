@@ -1,7 +1,6 @@
 -- Lemmas on the end of a text.
-use Rattle.std.proofs.Common.{◌≡◌, ℤ, pos, List, [], ◌∷◌, Bool, true, false, ◌||◌, cond, not, int_lt, Option, Some, None, is_none, Result, Ok, Err, refl, sym, ap, ◌∙◌, subst}
+use Rattle.std.proofs.Common.{◌≡◌, ℤ, pos, List, [], ◌∷◌, Bool, true, false, ◌||◌, cond, not, int_lt, Option, Some, None, is_none, Result, Ok, Err, refl, sym, ap, ◌∙◌, subst, option_map}
 use Rattle.std.proofs.Math.Bool.{not-not}
-use Rattle.std.specs.Option.{option_map}
 use Rattle.dn_line.specs.declared.code.Code.{Code}
 use Rattle.dn_line.specs.declared.code.Code.TheVariants.{NoProblem, MissingTerminal, TooFewLines}
 use Rattle.dn_line.specs.declared.kind.Kind.{Kind}
@@ -54,8 +53,7 @@ pub ends_whole : (t : TextSoFar) (items : List Line) (content : Content) (held :
     → (parsed held).nodes ≡ t.nodes → (parsed held).lines ≡ t.counted → (parsed held).contents ≡ contents_of content
     → EndsWith items (Ok held)
 ends_whole t items content held at made enough nodes lines contents =
-    by_kind t items (Ok content) made (λ is no. cc)
-    (λ kind is made. (
+    by_kind t items (Ok content) made (λ is no. cc) (λ kind is made. (
       end_is t items kind false false at is made.0 enough,
       record {
         problem = problem_as t kind;
@@ -79,11 +77,6 @@ pub ends_lacking : (t : TextSoFar) (items : List Line) (code : Code) → HasRead
 ends_lacking t items code at made =
     by_kind t items (Err code) made (λ is no. (let same : NoProblem ≡ code = cc in rw (at.problem_is, is, same)))
     (λ kind is made. rw made.0 (end_is t items kind true (int_lt t.counted t.count) at is made.1 refl))
-
--- the result for the kind of a body
-pub made_by : (b at : AnyBody) (kind : Kind) (nodes : ℤ) (items : List Line) (r : Result Content Code)
-    → b ≡ at → body_kind at ≡ Some kind → Makes (Some kind) nodes items r → Makes (body_kind b) nodes items r
-made_by b at kind nodes items r e k m = rw (ap body_kind e ∙ k) m
 
 -- a `max` draft with a source and a sink makes content
 pub both_named : (d : Draft) (table kept : Bundles Total) → IsStrictlySortedBy pair_cmp (keys_of kept)

@@ -1,5 +1,5 @@
 -- Lemmas on finding the first fault of a text line by line.
-use Rattle.std.proofs.Common.{◌≡◌, ℕ, zero, suc, ◌+◌, ◌-◌, ◌<◌, List, [], ◌∷◌, ◌++◌, length, Bool, true, false, cond, ◌||◌, Option, Some, None, is_none, ◌⊎◌, inl, inr, refl, sym, ap, ◌∙◌, subst, arith, append_assoc, append-nil, length-append}
+use Rattle.std.proofs.Common.{◌≡◌, ℕ, zero, suc, ◌+◌, ◌-◌, ◌<◌, List, [], ◌∷◌, ◌++◌, length, Bool, true, false, cond, ◌||◌, Option, Some, None, is_none, ◌⊎◌, inl, inr, refl, sym, ap, ◌∙◌, subst, arith, append_assoc, append-nil, length-append, ℤ, option_and_then, option_map}
 use Rattle.std.proofs.lemmas.Bool.{cases_eq}
 use Rattle.dn_line.specs.declared.code.Code.{Code}
 use Rattle.dn_line.specs.declared.kind.Kind.{Kind}
@@ -10,8 +10,6 @@ use Rattle.dn_line.specs.Words.{said_words}
 use Rattle.dn_line.specs.Pieces.{lines}
 use Rattle.dn_instance.specs.declared.refusal.Place.{Place}
 use Rattle.dn_instance.specs.declared.refusal.Place.TheVariants as Places
-use Rattle.std.proofs.Common.{ℤ, option_and_then}
-use Rattle.std.specs.Option.{option_map}
 use Rattle.dn_arc.specs.declared.arc.CapArc.{CapArc}
 use Rattle.dn_line.specs.declared.code.Code.TheVariants.{NoProblem, MissingTerminal}
 use Rattle.dn_instance.specs.Instances.{Graph, Instance}
@@ -38,8 +36,7 @@ same_front (c ∷ a) (d ∷ b) x y xs ys e h =
 pub fault_there : (ls before after : List (List ℕ)) (l : List ℕ) (n : ℕ) (c : Code) → ls ≡ before ++ l ∷ after
     → n ≡ length before + 1 → FaultAt ls n c → fault_after before l ≡ Some c
 fault_there ls before after l n c e m f =
-    let r =
-    same_front f.before before f.line l f.after after (sym f.lines_are ∙ e) (omega (arith, f.number_is)) in
+    let r = same_front f.before before f.line l f.after after (sym f.lines_are ∙ e) (omega (arith, f.number_is)) in
     rw (← m, ← r.1, ← r.0) f.fault_is
 
 pub none_from : {X : Type 0} (o : Option X) → ((x : X) → o ≡ Some x → ⊥) → o ≡ None
@@ -50,9 +47,7 @@ none_from (Some x) h = absurd (h x refl)
 pub clean_there : (ls before after : List (List ℕ)) (l : List ℕ) → ls ≡ before ++ l ∷ after → IsClean ls
     → fault_after before l ≡ None
 clean_there ls before after l e clean =
-    none_from (fault_after before l)
-    (λ c h.
-    clean (length before + 1) c
+    none_from (fault_after before l) (λ c h. clean (length before + 1) c
     (record { before = before; line = l; after = after; lines_are = e; number_is = refl; fault_is = h }))
 
 -- the first k lines have no fault
@@ -97,16 +92,15 @@ found_here ls before after l (Some c) found e none h go =
 
 found_from : (ls before rest : List (List ℕ)) → ls ≡ before ++ rest → NoneUpTo ls (length before)
     → Found ls (found_in before rest)
-found_from ls before [] e none = λ n c f.
-    omega (
-      arith,
-      none n c f,
-      f.number_is,
-      ap length e,
-      ap length (append-nil before),
-      ap length f.lines_are,
-      length-append f.before (f.line ∷ f.after),
-    )
+found_from ls before [] e none = λ n c f. omega (
+  arith,
+  none n c f,
+  f.number_is,
+  ap length e,
+  ap length (append-nil before),
+  ap length f.lines_are,
+  length-append f.before (f.line ∷ f.after),
+)
 found_from ls before (l ∷ rest) e none =
     found_here ls before rest l (fault_after before l) (found_in (before ++ l ∷ []) rest) e none refl
     (λ h. found_from ls (before ++ l ∷ []) rest (e ∙ one_more before l rest) (later ls before rest l e none h))
@@ -148,8 +142,7 @@ same_fault : (ls : List (List ℕ)) (m n : ℕ) (c d : Code) → IsFirstFaultAt 
 same_fault ls m n c d f g =
     let a = f.at in
     let at = fault_there ls a.before a.after a.line in
-    cc
-    (at m c a.lines_are a.number_is a, at n d a.lines_are (sym (same_number ls m n c d f g) ∙ a.number_is) g.at)
+    cc (at m c a.lines_are a.number_is a, at n d a.lines_are (sym (same_number ls m n c d f g) ∙ a.number_is) g.at)
 
 pub same_code : (t : List ℕ) (p q : Place) (c d : Code) → IsFirstFault t p c → IsFirstFault t q d → c ≡ d
 same_code t (Places.Line m) (Places.Line n) c d f g = same_fault (lines t) m n c d f g
@@ -162,8 +155,8 @@ later_lines : (before ls ms : List (List ℕ)) (x : ℕ × Code) → found_in be
 later_lines before [] ms x h = cc
 later_lines before (l ∷ ls) ms x h = at_first (fault_after before l) _ _ _ (later_lines (before ++ l ∷ []) ls ms x) h
   where
-    at_first : (f : Option Code) (n : ℕ) (a b : Option (ℕ × Code)) → (a ≡ Some x → b ≡ Some x)
-        → or_later f n a ≡ Some x → or_later f n b ≡ Some x
+    at_first : (f : Option Code) (n : ℕ) (a b : Option (ℕ × Code)) → (a ≡ Some x → b ≡ Some x) → or_later f n a ≡ Some x
+        → or_later f n b ≡ Some x
     at_first None n a b go g = go g
     at_first (Some c) n a b go g = g
 

@@ -1,10 +1,10 @@
 -- Lemmas on `n` lines: what the heads hold after them, and that other lines keep what the heads hold.
-use Rattle.std.proofs.Common.{◌≡◌, ℤ, List, [], ◌∷◌, ◌++◌, true, false, ◌||◌, not, Option, Some, None, is_some, IsSome, Result, Ok, Err, OnOk, OnErr, refl, sym, ap, ◌∙◌, subst, append-nil, take, inr}
+use Rattle.std.proofs.Common.{◌≡◌, ℤ, List, [], ◌∷◌, ◌++◌, true, false, ◌||◌, not, Option, Some, None, is_some, IsSome, Result, Ok, Err, OnOk, OnErr, refl, sym, ap, ◌∙◌, subst, append-nil, take, inr, filter_map, pos, Bool, cond, ◌&&◌, arith, inl, int_cmp, int_eq, BTreeMap, BTreeSet}
 use Rattle.dn_instance.proofs.CleanItems.{or_none}
-use Rattle.dn_instance.proofs.ValidLaws.{terminal_more, kept}
-use Rattle.std.specs.List.{AllByRecursion, cons_option, filter_map, list_any}
+use Rattle.dn_instance.proofs.ValidLaws.{terminal_more, kept, grown}
+use Rattle.std.specs.List.{AllByRecursion, cons_option, list_any}
 use Rattle.std.specs.Option.{option_or}
-use Rattle.std.proofs.Math.Bool.{or-false, and-true}
+use Rattle.std.proofs.Math.Bool.{or-false, and-true, or_assoc}
 use Rattle.std.proofs.lemmas.List.Elements.{filter_map-append}
 use Rattle.std.proofs.lemmas.List.Folds.{list_any-append}
 use Rattle.std.proofs.lemmas.Result.{on_err_weaker, on_ok_weaker}
@@ -19,12 +19,12 @@ use Rattle.dn_line.specs.declared.line.Line.{Line}
 use Rattle.dn_line.specs.declared.line.Line.TheVariants as Item
 use Rattle.dn_line.specs.declared.row.Row.{Row}
 use Rattle.dn_line.specs.declared.row_block.RowLine.{RowLine}
-use Rattle.dn_arc.specs.Kinds.{capacities, costs, lengths}
-use Rattle.dn_instance.specs.Items.{arcs_of, by_key, cap_arc_in, cost_arc_in, is_counted, length_arc_in, point_in, problem_in, query_in, source_in, supplies_of, supply_in, terminal_in, terminal_of}
+use Rattle.dn_arc.specs.Kinds.{capacities, costs, lengths, ArcKind}
+use Rattle.dn_instance.specs.Items.{arcs_of, by_key, cap_arc_in, cost_arc_in, is_counted, length_arc_in, point_in, problem_in, query_in, source_in, supplies_of, supply_in, terminal_in, terminal_of, Problem, problem_of}
 use Rattle.dn_instance.specs.TextFaults.{has_supply, is_companion, is_id, item_tests}
-use Rattle.dn_instance.specs.State.Bodies.{AnswersItem, TakesRow, TakesRows}
+use Rattle.dn_instance.specs.State.Bodies.{AnswersItem, TakesRow, TakesRows, TableHolds}
 use Rattle.dn_instance.specs.State.Drafts.{BodyHolds, ComesNext, DraftHolds, HeadsHold, TakesHead, any_body, body_kind, draft_of, draft_kind}
-use Rattle.dn_instance.specs.State.ItemFaults.{AnswersFault, in_graph, terminal_fault}
+use Rattle.dn_instance.specs.State.ItemFaults.{AnswersFault, in_graph, terminal_fault, supply_fault}
 use Rattle.dn_instance.specs.State.RowRuns.{HasSigns, line_of, row_items, supply_of}
 use Rattle.dn_instance.specs.declared.any_body.AnyBody.{AnyBody}
 use Rattle.dn_instance.specs.declared.any_body.AnyBody.TheVariants as Bodies
@@ -32,9 +32,24 @@ use Rattle.dn_instance.specs.declared.body.Taken.{Taken}
 use Rattle.dn_instance.specs.declared.draft.Draft.{Draft}
 use Rattle.dn_instance.specs.declared.heads.Heads.{Heads}
 use Rattle.dn_instance.specs.declared.refusal.ItemFault.{ItemFault}
-use Rattle.dn_instance.proofs.DraftLaws.{own_kind, table_kept, on_ok_from}
 use Rattle.dn_instance.proofs.FirstFaults.{none_first}
 use Rattle.dn_table.proofs.GrownLaws.{none_is}
+use Rattle.dn_line.specs.declared.code.Code.{Code}
+use Rattle.std.proofs.lemmas.Bool.{cases_Bool}
+use Rattle.std.proofs.lemmas.Int.{ints}
+use Rattle.std.proofs.lemmas.Bool.Decides.{nat_tests}
+use Rattle.std.specs.BTreeMap as Map
+use Rattle.std.specs.BTreeSet as Set
+use Rattle.std.specs.BTreeMap.{is_at, insert_entry}
+use Rattle.std.specs.Map.{lookup}
+use Rattle.std.proofs.lemmas.Cmp.{int_eq_equiv}
+use Rattle.dn_instance.proofs.MapLaws.{sought_eq, by_key_push, lookup_put, some_cond}
+
+-- what holds after a success without a fault
+pub on_ok_from : {P Q : Type 0} (r : Result (Unit {0}) ItemFault) (f : Option Code) → AnswersFault r f
+    → (f ≡ None → P → Q) → OnOk r P → OnOk r Q
+on_ok_from (Ok x) f a go ok = go a ok
+on_ok_from (Err e) f a go ok = tt
 
 -- the item is no `n` line
 pub record IsNoHead (i : Line) : Type 0 where
@@ -105,14 +120,12 @@ module _ (nodes id : ℤ) (h : Heads) (s : Option ℤ) (r : Result (Unit {0}) It
       let i = Item.Terminal id S ∷ [] in
       rw is (
         rw (problem, graph, and-true, nodes_are, ← was.source_is, ← was.sink_is) ans,
-        on_ok_from r (terminal_fault nodes h.source h.sink id) ans
-            (λ f e. record {
-              supplies_are = was.supplies_are ∙ sym (supplies_more before i refl);
-              named_are = λ q. was.named_are q ∙ sym (named_more q before i refl);
-              source_is = rw (terminal_more S before i, ← was.source_is, not_yet h.source h.sink f) e;
-              sink_is = was.sink_is ∙ sym (same_terminal T before i refl);
-            })
-            ok,
+        on_ok_from r (terminal_fault nodes h.source h.sink id) ans (λ f e. record {
+          supplies_are = was.supplies_are ∙ sym (supplies_more before i refl);
+          named_are = λ q. was.named_are q ∙ sym (named_more q before i refl);
+          source_is = rw (terminal_more S before i, ← was.source_is, not_yet h.source h.sink f) e;
+          sink_is = was.sink_is ∙ sym (same_terminal T before i refl);
+        }) ok,
       )
 
   pub sink_taken : (l : Letter) → l ≡ T → AnswersFault r (terminal_fault nodes h.sink h.source id)
@@ -121,14 +134,12 @@ module _ (nodes id : ℤ) (h : Heads) (s : Option ℤ) (r : Result (Unit {0}) It
       let i = Item.Terminal id T ∷ [] in
       rw is (
         rw (problem, graph, and-true, nodes_are, ← was.source_is, ← was.sink_is) ans,
-        on_ok_from r (terminal_fault nodes h.sink h.source id) ans
-            (λ f e. record {
-              supplies_are = was.supplies_are ∙ sym (supplies_more before i refl);
-              named_are = λ q. was.named_are q ∙ sym (named_more q before i refl);
-              source_is = was.source_is ∙ sym (same_terminal S before i refl);
-              sink_is = rw (terminal_more T before i, ← was.sink_is, not_yet h.sink h.source f) e;
-            })
-            ok,
+        on_ok_from r (terminal_fault nodes h.sink h.source id) ans (λ f e. record {
+          supplies_are = was.supplies_are ∙ sym (supplies_more before i refl);
+          named_are = λ q. was.named_are q ∙ sym (named_more q before i refl);
+          source_is = was.source_is ∙ sym (same_terminal S before i refl);
+          sink_is = rw (terminal_more T before i, ← was.sink_is, not_yet h.sink h.source f) e;
+        }) ok,
       )
 
   pub source_same : OnErr r (s ≡ h.source)
@@ -137,6 +148,14 @@ module _ (nodes id : ℤ) (h : Heads) (s : Option ℤ) (r : Result (Unit {0}) It
 
   pub sink_same : OnErr r (s ≡ h.sink) → OnErr r ((items : List Line) → HeadsHold h items → HeadsHold with_sink items)
   sink_same same = on_err_weaker r (λ e items was. rw e was) same
+
+-- an item that is not an arc does not change what the table holds
+table_kept : {B Arc : Type 0} (kind : ArcKind Arc) (arc_in : Line → Option ((ℤ × ℤ) × Arc)) (lists : B → List Arc)
+    (table : List ((ℤ × ℤ) × B)) (before : List Line) (i : Line) → arc_in i ≡ None
+    → TableHolds kind arc_in lists table before → TableHolds kind arc_in lists table (before ++ i ∷ [])
+table_kept kind arc_in lists table before i e t =
+    let same = kept arc_in before i e in
+    record { lists_them = rw same t.lists_them; are_arcs = rw same t.are_arcs }
 
 -- an item that is not counted makes nothing of a body
 makes_none : (i : Line) → is_counted i ≡ false → (cost_arc_in i ≡ None) × (cap_arc_in i ≡ None)
@@ -192,8 +211,7 @@ draft_rows kind nodes d b rows r h before a =
           t.joins.holds.0,
           (
             heads_kept d.heads before (row_items (line_of kind) (take r.rows rows))
-                (rows_no_head kind (take r.rows rows))
-                a.holds.1.0,
+                (rows_no_head kind (take r.rows rows)) a.holds.1.0,
             t.joins.holds.1,
           ),
         );
@@ -211,10 +229,7 @@ draft_supply nodes d heads row r takes before a =
       answer = record { fault = t.0; memory = λ out. inr tt };
       holds =
           on_ok_weaker r
-          (λ held. (
-            a.holds.0,
-            (held, body_kept d.body before (supply_of row) refl (ap is_some a.holds.0) a.holds.1.1),
-          ))
+          (λ held. (a.holds.0, (held, body_kept d.body before (supply_of row) refl (ap is_some a.holds.0) a.holds.1.1)))
           t.1;
     }
 
@@ -230,7 +245,7 @@ module _ (d : Draft) (nodes : ℤ) (before : List Line) (i : Line) (r : Result (
       → is_counted i ≡ false → TakesHead nodes d.heads heads i r → HeadTaken heads
   draft_head heads kind k graph free takes =
       let at = next.drafted in
-      let own : next.problem.kind ≡ kind = own_kind (sym k ∙ next.of_kind) in
+      let own : next.problem.kind ≡ kind = cc (k, next.of_kind) in
       let t = takes before next.problem at.problem_is (ap is_companion own ∙ graph) at.nodes_are at.holds.0 in (
         t.0,
         on_ok_weaker r (λ held. (held, body_kept d.body before i free (ap is_some at.kind_is) at.holds.1)) t.1,
@@ -238,19 +253,17 @@ module _ (d : Draft) (nodes : ℤ) (before : List Line) (i : Line) (r : Result (
 
   pub supply_next : (heads : Heads) (id flow : ℤ) → i ≡ Item.Supply id flow
       → TakesHead nodes d.heads heads (Item.Supply id flow) r → HeadTaken heads
-  supply_next heads id flow e takes =
-      draft_head heads Min (ap kind_before e) refl (ap is_counted e) (rw e takes)
+  supply_next heads id flow e takes = draft_head heads Min (ap kind_before e) refl (ap is_counted e) (rw e takes)
 
   pub terminal_next : (heads : Heads) (id : ℤ) (letter : Letter) → i ≡ Item.Terminal id letter
       → TakesHead nodes d.heads heads (Item.Terminal id letter) r → HeadTaken heads
-  terminal_next heads id letter e takes =
-      draft_head heads Max (ap kind_before e) refl (ap is_counted e) (rw e takes)
+  terminal_next heads id letter e takes = draft_head heads Max (ap kind_before e) refl (ap is_counted e) (rw e takes)
 
   -- if it is counted, the body takes its row
   pub draft_row : (b : AnyBody) (row : Row)
       → ((kind : Kind) → TakesRow (any_body kind) (line_of kind) nodes d.body b row r)
-      → ((kind : Kind) → kind_before i ≡ Some kind → is_counted i ≡ true → line_of kind row ≡ i)
-      → is_counted i ≡ true → AnswersItem before i r × OnOk r (DraftHolds (record d { body = b }) (before ++ i ∷ []))
+      → ((kind : Kind) → kind_before i ≡ Some kind → is_counted i ≡ true → line_of kind row ≡ i) → is_counted i ≡ true
+      → AnswersItem before i r × OnOk r (DraftHolds (record d { body = b }) (before ++ i ∷ []))
   draft_row b row takes spells counts =
       let at = next.drafted in
       let kind = next.problem.kind in
@@ -271,11 +284,84 @@ module _ (d : Draft) (nodes : ℤ) (before : List Line) (i : Line) (r : Result (
 
 -- an item of a kind is an `n` line or counted
 pub others_counted : (i : Line) (kind : Kind) → kind_before i ≡ Some kind
-    → ((id flow : ℤ) → i ≡ Item.Supply id flow → ⊥)
-    → ((id : ℤ) (letter : Letter) → i ≡ Item.Terminal id letter → ⊥) → is_counted i ≡ true
+    → ((id flow : ℤ) → i ≡ Item.Supply id flow → ⊥) → ((id : ℤ) (letter : Letter) → i ≡ Item.Terminal id letter → ⊥)
+    → is_counted i ≡ true
 others_counted (Item.Supply id flow) kind k s t = absurd (s id flow refl)
 others_counted (Item.Terminal id letter) kind k s t = absurd (t id letter refl)
-others_counted Item.Skip kind k s t = cc
-others_counted (Item.Graph _ _ _) kind k s t = cc
-others_counted (Item.Aux _ _) kind k s t = cc
-others_counted _ kind k s t = refl
+others_counted _ kind k s t = cc
+
+-- whether an ID has a node line, with one more node line
+named_push : (q id flow : ℤ) (before : List Line)
+    → list_any (has_supply q) (before ++ Item.Supply id flow ∷ []) ≡ (list_any (has_supply q) before || int_eq id q)
+named_push q id flow before = rw (list_any-append (has_supply q) before (Item.Supply id flow ∷ []), or-false (int_eq id q))
+
+flow_named : (s g c : Bool) → ((s || g) || c) ≡ ((g || c) || s)
+flow_named true true c = refl
+flow_named true false true = refl
+flow_named true false false = refl
+flow_named false true c = refl
+flow_named false false true = refl
+flow_named false false false = refl
+
+module _ (id flow : ℤ) (before : List Line) (s s' : BTreeMap ℤ ℤ)
+    (put : s'.entries ≡ cond (int_eq flow (pos 0)) s.entries (insert_entry int_cmp s.entries id flow)) where
+  named : (q : ℤ) (z z' : BTreeSet ℤ)
+      → (is_some (Map.get int_cmp s q) || Set.contains int_cmp z q) ≡ list_any (has_supply q) before
+      → Set.contains int_cmp z' q ≡ (Set.contains int_cmp z q || (int_eq flow (pos 0) && is_at (int_cmp id) q))
+      → (is_some (Map.get int_cmp s' q) || Set.contains int_cmp z' q) ≡ list_any (has_supply q)
+      (before ++ Item.Supply id flow ∷ [])
+  named q z z' was kept = elim (cases_Bool (int_eq flow (pos 0))) [
+    | inl e ↦
+        let same = rw e at put in
+        let in_idle = rw (e, sought_eq id q, int_eq_equiv.symm q id) at kept in
+        rw (named_push q id flow before, ← was, same, in_idle)
+        (sym (or_assoc (is_some (Map.get int_cmp s q)) (Set.contains int_cmp z q) (int_eq id q)))
+    | inr e ↦
+        let more = rw e at put in
+        let in_idle = rw (e, or-false) at kept in
+        rw (named_push q id flow before, ← was, more, in_idle, lookup_put q id flow s.entries, some_cond, sought_eq q id)
+        (flow_named (int_eq id q) (is_some (Map.get int_cmp s q)) (Set.contains int_cmp z q))
+  ]
+
+  supplies_put : s.entries ≡ supplies_of before → s'.entries ≡ supplies_of (before ++ Item.Supply id flow ∷ [])
+  supplies_put are = elim (cases_Bool (int_eq flow (pos 0))) [
+    | inl e ↦ rw (kept supply_in before (Item.Supply id flow) (rw e), ← are) (rw e at put)
+    | inr e ↦ rw (grown supply_in before (Item.Supply id flow) (id, flow) (rw e), by_key_push, ← are) (rw e at put)
+  ]
+
+-- `n` lines of a `min` text
+module _ (nodes id flow : ℤ) (h : Heads) (s : BTreeMap ℤ ℤ) (z : BTreeSet ℤ) (r : Result (Unit {0}) ItemFault) where
+  abbrev with_supply : Heads
+  with_supply = record h { supplies = s; idle = z }
+
+  pub supply_taken :
+      AnswersFault r (supply_fault nodes (is_some (Map.get int_cmp h.supplies id) || Set.contains int_cmp h.idle id) id)
+      → OnOk r
+      (s.entries ≡ cond (int_eq flow (pos 0)) h.supplies.entries (insert_entry int_cmp h.supplies.entries id flow))
+      → OnOk r ((q : ℤ) → Set.contains int_cmp z q
+      ≡ (Set.contains int_cmp h.idle q || (int_eq flow (pos 0) && is_at (int_cmp id) q)))
+      → TakesHead nodes h with_supply (Item.Supply id flow) r
+  supply_taken ans put kept before p problem graph nodes_are was = (
+    rw (problem, graph, and-true, nodes_are, ← was.named_are id) ans,
+    both_ok r (λ put kept. record {
+      supplies_are = supplies_put id flow before h.supplies s put was.supplies_are;
+      named_are = λ q. named id flow before h.supplies s put q h.idle z (was.named_are q) (kept q);
+      source_is = was.source_is ∙ sym (same_terminal S before (Item.Supply id flow ∷ []) refl);
+      sink_is = was.sink_is ∙ sym (same_terminal T before (Item.Supply id flow ∷ []) refl);
+    }) put kept,
+  )
+    where
+      both_ok : {P Q R : Type 0} (r : Result (Unit {0}) ItemFault) → (P → Q → R) → OnOk r P → OnOk r Q → OnOk r R
+      both_ok (Ok x) go p q = go p q
+      both_ok (Err e) go p q = tt
+
+  -- a node line that is not taken does not change what the heads hold
+  pub supply_same : OnErr r ((s.entries ≡ h.supplies.entries) × (z.keys ≡ h.idle.keys))
+      → OnErr r ((items : List Line) → HeadsHold h items → HeadsHold with_supply items)
+  supply_same same =
+      on_err_weaker r (λ e items was. record {
+        supplies_are = e.0 ∙ was.supplies_are;
+        named_are = λ q. rw (e.0, e.1) (was.named_are q);
+        source_is = was.source_is;
+        sink_is = was.sink_is;
+      }) same

@@ -1,7 +1,7 @@
 -- Lemmas on the items that have been read and one more item.
-use Rattle.std.proofs.Common.{◌≡◌, ◌<◌, ℕ, ◌+◌, ℤ, pos, ◌+ℤ◌, ◌<ℤ◌, List, [], ◌∷◌, ◌++◌, length, filter, Bool, true, false, cond, not, ◌||◌, int_lt, Option, Some, None, is_some, IsSome, refl, sym, subst, ap, ◌∙◌, arith, ◌≤◌, ◌^◌, ◌-◌, FitsSigned, w64, suc, inl, inr, add-one, append-nil, length-append}
+use Rattle.std.proofs.Common.{◌≡◌, ◌<◌, ℕ, ◌+◌, ℤ, pos, ◌+ℤ◌, ◌<ℤ◌, List, [], ◌∷◌, ◌++◌, length, filter, Bool, true, false, cond, not, ◌||◌, int_lt, Option, Some, None, is_some, IsSome, refl, sym, subst, ap, ◌∙◌, arith, ◌≤◌, ◌^◌, ◌-◌, FitsSigned, w64, suc, inl, inr, add-one, append-nil, length-append, option_map}
 use Rattle.std.proofs.lemmas.List.Elements.{filter-append}
-use Rattle.std.proofs.lemmas.Bool.{cases_Bool, not-false}
+use Rattle.std.proofs.lemmas.Bool.{cases_Bool, not-false, not-true}
 use Rattle.std.proofs.lemmas.Int.{ints, fits_signed_from_abs}
 use Rattle.std.proofs.lemmas.Bool.Decides.{nat_tests}
 use Rattle.std.proofs.lemmas.List.Folds.{list_any-append}
@@ -9,14 +9,14 @@ use Rattle.std.proofs.Math.Bool.{or-false, or-true}
 use Rattle.std.proofs.Math.Nat.{min-eq_left}
 use Rattle.std.specs.Int.{saturate_signed}
 use Rattle.std.specs.List.{list_any}
-use Rattle.std.specs.Option.{option_map, option_or}
+use Rattle.std.specs.Option.{option_or}
 use Rattle.dn_line.specs.declared.line.Line.{Line}
 use Rattle.dn_line.specs.declared.line.Line.TheVariants as Item
 use Rattle.dn_line.specs.declared.kind.Kind.{Kind}
 use Rattle.dn_line.specs.declared.kind.Kind.TheVariants as Kinds
 use Rattle.dn_line.specs.State.Spelling.{kind_before, slots_of}
 use Rattle.dn_instance.specs.Items.{Problem, problem_of, problem_in, kind_known, counted, is_counted}
-use Rattle.dn_instance.specs.TextFaults.{is_arc, is_full}
+use Rattle.dn_instance.specs.TextFaults.{is_arc, is_full, is_companion}
 use Rattle.dn_instance.specs.State.Drafts.{BodyHolds, body_kind, draft_kind, is_graph, ComesNext, DraftHolds}
 use Rattle.dn_instance.specs.State.RowRuns.{HasRoom}
 use Rattle.dn_instance.specs.State.TextsSoFar.{Awaits, HasRead, problem_as}
@@ -37,8 +37,7 @@ kind_agrees t items at = rw at.problem_is (kind_as (draft_kind t.draft))
 
 -- the items declare the problem of the draft's kind
 pub problem_agrees : (t : TextSoFar) (items : List Line) (kind : Kind) → HasRead t items → draft_kind t.draft ≡ Some
-    kind
-    → problem_of items ≡ Some (problem_as t kind)
+    kind → problem_of items ≡ Some (problem_as t kind)
 problem_agrees t items kind at is = rw is at at.problem_is
 
 -- the items that have been read do not depend on the number of lines
@@ -84,16 +83,23 @@ comes_next t before i a none =
             problem_is = problem_agrees t before k.0 a.read kind_is;
             kind_is = kind_is;
             nodes_are = refl;
-            holds =
-                a.read.holds;
+            holds = a.read.holds;
           };
       of_kind = k.1;
       signs = a.may.signs;
     }
 
-pub problem_kept : (items : List Line) (i : Line) (p : Problem) → problem_of items ≡ Some p
-    → problem_of (items ++ i ∷ []) ≡ Some p
-problem_kept items i p h = rw (problem_push items i, h)
+or_kept : (a b c : Option Problem) (p : Problem) → option_or a b ≡ Some p → (b ≡ Some p → c ≡ Some p)
+    → option_or a c ≡ Some p
+or_kept None b c p h k = k h
+or_kept (Some x) b c p h k = h
+
+-- the first problem line stays the first with more items
+pub problem_all : (before items : List Line) (p : Problem) → problem_of before ≡ Some p
+    → problem_of (before ++ items) ≡ Some p
+problem_all [] items p h = cc
+problem_all (x ∷ before) items p h =
+    or_kept (problem_in x) (problem_of before) (problem_of (before ++ items)) p h (problem_all before items p)
 
 -- a counted item adds 1 to the count, and any other item adds nothing
 pub counted_yes : (items : List Line) (i : Line) → is_counted i ≡ true → counted (items ++ i ∷ []) ≡ suc (counted items)
@@ -103,65 +109,53 @@ counted_yes items i h =
 pub counted_no : (items : List Line) (i : Line) → is_counted i ≡ false → counted (items ++ i ∷ []) ≡ counted items
 counted_no items i h = rw (filter-append is_counted items (i ∷ []), h, append-nil)
 
--- in a graph problem, the counted items are the arcs
-arc_counted : (i : Line) → is_graph (kind_before i) ≡ true → is_arc i ≡ is_counted i
-arc_counted (Item.Source id) h = cc
-arc_counted (Item.Query a b) h = cc
-arc_counted (Item.Point id x y) h = cc
-arc_counted _ h = refl
-
--- adding 1 to a number that is below a number of 64 bits does not saturate
-pub next_fits : (k : ℕ) (m : ℤ) → m <ℤ pos (2 ^ 63) → int_lt (pos k) m ≡ true → FitsSigned w64 (pos (suc k))
-next_fits k m f h = fits_signed_from_abs w64 (pos (suc k)) (grind (arith, ints, nat_tests))
-
-pub next_few : (k : ℕ) (m : ℤ) → m <ℤ pos (2 ^ 63) → int_lt (pos k) m ≡ true → suc k < 2 ^ 63
+pub next_few : (k : ℕ) (m : ℤ) → m <ℤ pos (2 ^ 63) → int_lt (pos k) m ≡ true → k + 1 < 2 ^ 63
 next_few k m f h = grind (arith, ints, nat_tests)
-
-pub sum_is : (k : ℕ) (m : ℤ) → m <ℤ pos (2 ^ 63) → int_lt (pos k) m ≡ true
-    → saturate_signed w64 (pos k +ℤ pos 1) ≡ pos (suc k)
-sum_is k m f h =
-    ap pos (min-eq_left (grind (arith, ints, nat_tests))) ∙ ap pos (add-one k)
 
 -- if a counted item may follow, fewer counted lines than declared have been read
 pub has_room : (t : TextSoFar) (items : List Line) (i : Line) (kind : Kind) → HasRead t items
     → draft_kind t.draft ≡ Some kind → HasRoom items i → is_counted i ≡ true
     → int_lt (pos (counted items)) t.count ≡ true
-has_room t items i kind at is room y =
-    not-false _ (rw (problem_agrees t items kind at is) at (room y))
+has_room t items i kind at is room y = not-false _ (rw (problem_agrees t items kind at is) at (room y))
+
+-- more items have been read
+pub more_read : (t : TextSoFar) (d : Draft) (before items : List Line) (kind : Kind) → HasRead t before
+    → draft_kind t.draft ≡ Some kind → draft_kind d ≡ draft_kind t.draft
+    → (is_companion kind ≡ false → list_any is_arc items ≡ int_lt (pos 0) (pos (counted items))) → (n : ℤ)
+    → n ≡ pos (counted before + counted items) → counted before + counted items < 2 ^ 63
+    → DraftHolds d (before ++ items) → HasRead (record t { counted = n; draft = d }) (before ++ items)
+more_read t d before items kind at is kept arcs n e few h =
+    let all : counted (before ++ items) ≡ counted before + counted items =
+    rw (filter-append is_counted before items) (length-append (filter is_counted before) (filter is_counted items)) in
+    record {
+      problem_is = rw (kept ∙ is) (problem_all before items _ (problem_agrees t before kind at is));
+      count_fits = at.count_fits;
+      counted_is = rw all e;
+      counted_few = rw all few;
+      arcs_are = λ graph.
+          let g = rw kept at graph in
+          rw (list_any-append is_arc before items, at.arcs_are g, at.counted_is, arcs (not-true _ (rw is at g)), e)
+          (sum (counted before) (counted items));
+      holds = h;
+    }
+  where
+    sum : (k m : ℕ) → (int_lt (pos 0) (pos k) || int_lt (pos 0) (pos m)) ≡ int_lt (pos 0) (pos (k + m))
+    sum k m = grind (arith, ints, nat_tests)
+
+-- in a graph problem, the counted items are the arcs
+arc_counted : (i : Line) → is_graph (kind_before i) ≡ true
+    → list_any is_arc (i ∷ []) ≡ int_lt (pos 0) (pos (counted (i ∷ [])))
+arc_counted Item.Skip h = refl
+arc_counted _ h = cc
 
 -- one more item has been read
-module _ (t : TextSoFar) (d : Draft) (items : List Line) (i : Line) (at : HasRead t items)
-    (next : ComesNext t.draft t.nodes items i) (kept : draft_kind d ≡ draft_kind t.draft) where
-  arcs_then : (n : ℤ) → n ≡ pos (counted (items ++ i ∷ [])) → is_graph (draft_kind d) ≡ true
-      → list_any is_arc (items ++ i ∷ []) ≡ int_lt (pos 0) n
-  arcs_then n e graph =
-      let arc = arc_counted i (ap is_graph (next.of_kind ∙ sym next.drafted.kind_is ∙ sym kept) ∙ graph) in
-      elim (cases_Bool (is_counted i)) [
-        | inl c ↦
-            rw
-            (list_any-append is_arc items (i ∷ []), arc, c, or-true, e, counted_yes items i c)
-            (above (counted items))
-        | inr c ↦
-            rw
-            (list_any-append is_arc items (i ∷ []), arc, c, or-false, e, counted_no items i c)
-            (at.arcs_are (rw kept at graph) ∙ ap (int_lt (pos 0)) at.counted_is)
-      ]
-    where
-      above : (k : ℕ) → true ≡ int_lt (pos 0) (pos (suc k))
-      above k = grind (arith, ints, nat_tests)
-
-  pub is_then : (n : ℤ) → n ≡ pos (counted (items ++ i ∷ [])) → counted (items ++ i ∷ []) < 2 ^ 63
-      → DraftHolds d (items ++ i ∷ []) → HasRead (record t { counted = n; draft = d }) (items ++ i ∷ [])
-  is_then n e few h =
-      let kind = next.drafted.kind_is in
-      record {
-        problem_is = rw (kept ∙ kind) (problem_kept items i _ (problem_agrees t items _ at kind));
-        count_fits = at.count_fits;
-        counted_is = e;
-        counted_few = few;
-        arcs_are = arcs_then n e;
-        holds = h;
-      }
+pub is_then : (t : TextSoFar) (d : Draft) (items : List Line) (i : Line) → HasRead t items
+    → (next : ComesNext t.draft t.nodes items i) → draft_kind d ≡ draft_kind t.draft → (n : ℤ)
+    → n ≡ pos (counted items + counted (i ∷ [])) → counted items + counted (i ∷ []) < 2 ^ 63
+    → DraftHolds d (items ++ i ∷ []) → HasRead (record t { counted = n; draft = d }) (items ++ i ∷ [])
+is_then t d items i at next kept =
+    more_read t d items (i ∷ []) next.problem.kind at next.drafted.kind_is kept
+    (λ g. arc_counted i (rw (next.of_kind, g) refl))
 
 -- a problem line belongs to no kind, is not an arc, and is not counted
 heads : (i : Line) → IsSome (problem_in i) → (kind_before i ≡ None) × (list_any is_arc (i ∷ []) ≡ false)
@@ -184,11 +178,9 @@ none_before t before i p a is =
 -- the problem line has been read
 pub begun : (t u : TextSoFar) (before : List Line) (i : Line) (p : Problem) → Awaits t before i → problem_in i ≡ Some p
     → draft_kind u.draft ≡ Some p.kind → p ≡ problem_as u p.kind → u.count <ℤ pos (2 ^ 63) → u.counted ≡ t.counted
-    → DraftHolds u.draft []
-    → HasRead u (before ++ i ∷ [])
+    → DraftHolds u.draft [] → HasRead u (before ++ i ∷ [])
 begun t u before i p a is kind same_problem fits same holds =
-    rw first
-    (record {
+    rw first (record {
       problem_is = rw (is, kind, ← same_problem);
       count_fits = fits;
       counted_is = rw head.2 none;

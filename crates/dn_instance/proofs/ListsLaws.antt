@@ -44,8 +44,7 @@ module _ {B Arc : Type 0} (kind : ArcKind Arc) (lists : B → List Arc) (laws : 
 
   same_here : kind.Same (listed_at lists n pair) (bundle pair (arcs ++ (pair, arc) ∷ []))
   same_here =
-      rw bundle_here
-      (laws.meaning.same_trans (listed_at lists n pair) (listed_at lists m pair ++ arc ∷ [])
+      rw bundle_here (laws.meaning.same_trans (listed_at lists n pair) (listed_at lists m pair ++ arc ∷ [])
       (bundle pair arcs ++ arc ∷ []) grows.here
       (same_push kind.Same laws.meaning (listed_at lists m pair) (bundle pair arcs) arc (old.stands pair).same))
 
@@ -59,17 +58,14 @@ module _ {B Arc : Type 0} (kind : ArcKind Arc) (lists : B → List Arc) (laws : 
           let listed = listed_at lists n pair in
           let here = bundle pair (arcs ++ (pair, arc) ∷ []) in (
             λ g. laws.meaning.same_trans here listed [] (laws.meaning.same_sym listed here same_here) (f.0 g),
-            λ s. f.1
-                (laws.meaning.same_trans listed here [] same_here s),
+            λ s. f.1 (laws.meaning.same_trans listed here [] same_here s),
           )
       by_old (Some b) e = (
         λ g. cc (g, grows.kept (rw e refl)),
-        λ s.
-            cc (
-              e,
-              (old.absent pair).1 (stays (bundle pair arcs) arc (bundle_arcs kind pair arcs are) is
-                  (rw bundle_here at s)),
-            ),
+        λ s. cc (
+          e,
+          (old.absent pair).1 (stays (bundle pair arcs) arc (bundle_arcs kind pair arcs are) is (rw bundle_here at s)),
+        ),
       )
 
   stands_at : (p : ℤ × ℤ) → AreCanonArcsOf kind (listed_at lists n p) (bundle p (arcs ++ (pair, arc) ∷ []))
@@ -99,8 +95,7 @@ pub listed_capacity : {B Arc : Type 0} (kind : ArcKind Arc) (lists : B → List 
 listed_capacity kind lists laws m arcs p arc old are is =
     laws.same_capacity (listed_at lists m p ++ arc ∷ []) (bundle p arcs ++ arc ∷ [])
     (all_end kind.IsArc (listed_at lists m p) arc (laws.canon_arcs One (listed_at lists m p) (old.stands p).canonical)
-    is)
-    (all_end kind.IsArc (bundle p arcs) arc (bundle_arcs kind p arcs are) is)
+    is) (all_end kind.IsArc (bundle p arcs) arc (bundle_arcs kind p arcs are) is)
     (same_push kind.Same laws.meaning (listed_at lists m p) (bundle p arcs) arc (old.stands p).same)
 
 -- an arc has no fault, or only that of its sum
@@ -117,9 +112,8 @@ sum_fault kind nodes arcs is a e f g = rw (e, f, g) refl
 -- the sum of the capacities is too large exactly if the table finds it too large
 pub sum_passes : {B Arc F : Type 0} (kind : ArcKind Arc) (lists : B → List Arc) → IsKind kind
     → (m : List ((ℤ × ℤ) × B)) (arcs : List ((ℤ × ℤ) × Arc)) (p : ℤ × ℤ) (arc : Arc) → TableLists kind lists m arcs
-    → AreArcs kind arcs → kind.IsArc arc
-    → F ↔ (pos (2 ^ 63 - 1) <ℤ kind.capacity (listed_at lists m p ++ arc ∷ [])) → (F → passes kind arcs (p, arc) ≡ true)
-    × ((F → ⊥) → passes kind arcs (p, arc) ≡ false)
+    → AreArcs kind arcs → kind.IsArc arc → F ↔ (pos (2 ^ 63 - 1) <ℤ kind.capacity (listed_at lists m p ++ arc ∷ []))
+    → (F → passes kind arcs (p, arc) ≡ true) × ((F → ⊥) → passes kind arcs (p, arc) ≡ false)
 sum_passes kind lists laws m arcs p arc old are is h =
     let past = kind.capacity (bundle p arcs ++ arc ∷ []) in
     let e = rw (listed_capacity kind lists laws m arcs p arc old are is) at h in (

@@ -1,8 +1,7 @@
 -- Lemmas on the complete lines of a text when a piece is appended.
-use Rattle.std.proofs.Common.{◌≡◌, ℕ, suc, ◌+◌, ◌-◌, ◌≤◌, List, [], ◌∷◌, ◌++◌, length, length-append, take, drop, take-append-drop, Bool, true, false, cond, not, ◌&&◌, refl, sym, ap, ◌∙◌, append-nil, append_assoc, arith, inl, inr, add-zero}
+use Rattle.std.proofs.Common.{◌≡◌, ℕ, suc, ◌+◌, ◌-◌, ◌≤◌, List, [], ◌∷◌, ◌++◌, length, length-append, take, drop, take-append-drop, Bool, true, false, cond, not, ◌&&◌, refl, sym, ap, ◌∙◌, append-nil, append_assoc, arith, inl, inr, add-zero, take-add, take_all}
 use Rattle.std.proofs.lemmas.Bool.{ltb-true, cases_Bool}
-use Rattle.std.proofs.Math.Seq.{take-add}
-use Rattle.std.proofs.lemmas.List.{take_all, length-drop}
+use Rattle.std.proofs.lemmas.List.{length-drop}
 use Rattle.std.specs.List.{position_or_len, before_first, list_all}
 use Rattle.dn_line.specs.Pieces.{parts, has_bytes, if_any, lines, is_line_feed}
 use Rattle.dn_line.specs.State.LineStates.{LineSoFar, has_end, used_of, last_of, line_of, is_inner}
@@ -19,12 +18,10 @@ closes : (p : Parts) (ls : List (List ℕ)) (o : List ℕ) → p ≡ (ls ++ o �
 closes p ls o e = rw (e, ended_push ls o)
 
 -- the first LF of a piece ends one more line
-pub ends_at : (t piece : List ℕ) → has_end piece ≡ true
-    → parts is_line_feed (t ++ take (used_of piece) piece) ≡
+pub ends_at : (t piece : List ℕ) → has_end piece ≡ true → parts is_line_feed (t ++ take (used_of piece) piece) ≡
     (ended t ++ (open_of t ++ before_first is_line_feed piece) ∷ [], [])
 ends_at t piece e =
-    rw e
-    (parts_end is_line_feed t piece (position_or_len is_line_feed piece) refl (ltb-true _ _ e)
+    rw e (parts_end is_line_feed t piece (position_or_len is_line_feed piece) refl (ltb-true _ _ e)
     ∙ ap (λ (q : Parts). let r : Parts = (q.0 ++ q.1 ∷ [], []) in r) (parts_run is_line_feed t piece))
 
 pub ended_then : (t piece : List ℕ) → has_end piece ≡ true
@@ -56,8 +53,7 @@ ended_more t (b ∷ u) =
     let more = ended_more (t ++ b ∷ []) u in
     record {
       rest = one.rest ++ more.rest;
-      whole =
-          rw (← append_assoc t (b ∷ []) u, more.whole, one.whole) (append_assoc (ended t) one.rest more.rest);
+      whole = rw (← append_assoc t (b ∷ []) u, more.whole, one.whole) (append_assoc (ended t) one.rest more.rest);
     }
 
 -- whether a text has a last line without an LF, given the line of the reader
@@ -83,11 +79,9 @@ without_last t e = rw e (append-nil (ended t))
 
 -- if no line is open, the first LF of a piece ends the first line of the piece
 pub line_more : (t piece line rest : List ℕ) → open_of t ≡ [] → line ++ 10 ∷ rest ≡ piece
-    → list_all is_inner line ≡ true
-    → parts is_line_feed (t ++ take (used_of piece) piece) ≡ (ended t ++ line ∷ [], [])
+    → list_all is_inner line ≡ true → parts is_line_feed (t ++ take (used_of piece) piece) ≡ (ended t ++ line ∷ [], [])
 line_more t piece line rest o e h =
-    rw
-    (ends_at t piece (rw (← e) (line_ends line rest h)), o, ← e, line_before line rest h)
+    rw (ends_at t piece (rw (← e) (line_ends line rest h)), o, ← e, line_before line rest h)
 
 -- if no line is open, lines with their LFs follow the complete lines
 pub closed_more : (t : List ℕ) (more : List (List ℕ)) → open_of t ≡ [] → AreInner more

@@ -1,10 +1,10 @@
--- Lemmas on what a reader has read.
-use Rattle.std.proofs.Common.{◌≡◌, ℕ, ◌+◌, ◌≤◌, List, [], ◌∷◌, ◌++◌, length, take, drop, Option, Some, None, Ok, Err, Result, MatchOption, ◌⊎◌, inl, inr, refl, sym, ap, ◌∙◌, subst, arith, length-append, append-nil, append_assoc, pos, option_and_then}
+-- Lemmas on what a reader has read, and on a reader that takes rows at the beginning of a piece.
+use Rattle.std.proofs.Common.{◌≡◌, ℕ, ◌+◌, ◌≤◌, List, [], ◌∷◌, ◌++◌, length, take, drop, Option, Some, None, Ok, Err, Result, MatchOption, ◌⊎◌, inl, inr, refl, sym, ap, ◌∙◌, subst, arith, length-append, append-nil, append_assoc, pos, option_and_then, take_all, true, IfOk, take-add}
 use Rattle.std.proofs.Math.Seq.{take-append_seam}
-use Rattle.std.proofs.lemmas.List.{take_all, take-append-le}
+use Rattle.std.proofs.lemmas.List.{take-append-le}
 use Rattle.dn_line.specs.declared.code.Code.{Code}
 use Rattle.dn_line.specs.Words.{said_words}
-use Rattle.dn_line.specs.Pieces.{lines}
+use Rattle.dn_line.specs.Pieces.{lines, parts, is_line_feed}
 use Rattle.dn_instance.specs.declared.refusal.ItemFault.{ItemFault}
 use Rattle.dn_instance.specs.declared.refusal.ItemFault.TheVariants as Faults
 use Rattle.dn_instance.specs.declared.refusal.Place.TheVariants as Places
@@ -14,20 +14,24 @@ use Rattle.dn_instance.specs.declared.refusal.Refusal.TheVariants.{Text, Memory,
 use Rattle.dn_instance.specs.State.ItemFaults.{AnswersFault}
 use Rattle.dn_instance.specs.Readers.{SpellsNeed, ended}
 use Rattle.dn_instance.specs.State.ReaderResults.{lines_taken, IsNext, EntriesBefore, IsRefused, Fed, Outcome, answer_of}
-use Rattle.dn_instance.specs.State.ReaderStates.{StopsIn, Takes, TakesAll, IsReading, ReaderAt}
+use Rattle.dn_instance.specs.State.ReaderStates.{StopsIn, Takes, TakesAll, IsReading, ReaderAt, Advances, HasOpen, Steps, open_of}
 use Rattle.dn_instance.specs.State.LineRefusals.{refused_at}
 use Rattle.dn_instance.specs.TextFaults.{line_fault}
 use Rattle.dn_instance.specs.Texts.{items_of, FaultAt, IsClean, IsFirstFaultAt}
-use Rattle.dn_instance.specs.State.TextsSoFar.{TextAt}
+use Rattle.dn_instance.specs.State.TextsSoFar.{TextAt, AreInner, IsRefusedFront, ReadsFront, RefusesFront, closed_lines}
 use Rattle.dn_instance.proofs.FirstFaults.{first_on}
-use Rattle.dn_instance.proofs.LineSteps.{split, clean_more}
-use Rattle.dn_instance.proofs.PieceSteps.{More, ended_more, lines_more, rest_of, step_on, whole_of}
+use Rattle.dn_instance.proofs.CleanItems.{split, clean_more}
+use Rattle.dn_instance.proofs.PieceSteps.{More, ended_more, lines_more, rest_of, step_on, whole_of, closed_more}
 use Rattle.dn_instance.proofs.SizeLaws.{problem_sized}
 use Rattle.dn_instance.specs.State.Ends.{EndsWith}
 use Rattle.dn_instance.specs.EntryCount.{entries_so_far}
 use Rattle.dn_instance.specs.Items.{Problem, instance_as}
 use Rattle.dn_instance.specs.declared.held.Held.{Held}
 use Rattle.dn_instance.specs.declared.text_so_far.TextSoFar.{TextSoFar}
+use Rattle.std.specs.List.{list_all}
+use Rattle.dn_line.specs.State.LineStates.{is_inner, used_of}
+use Rattle.dn_line.proofs.PartsLaws.{Parts}
+use Rattle.dn_instance.specs.declared.text_so_far.Front.{Front}
 
 -- the fault of a line that follows lines without a fault is the first fault
 fault_first : (ls : List (List ℕ)) (l : List ℕ) (number : ℕ) (code : Code) → IsClean ls → number ≡ length ls + 1
@@ -37,9 +41,7 @@ fault_first ls l number code clean n f = record {
   first = λ other fault g. elim (split ls g.before g.after l g.line g.lines_are) [
     | inl e ↦ omega (arith, ap length e.0, g.number_is)
     | inr e ↦
-        absurd
-        (clean other fault
-        (record
+        absurd (clean other fault (record
         { before = g.before; line = g.line; after = e.0; lines_are = e.1; number_is = g.number_is; fault_is = g.fault_is }))
   ];
 }
@@ -66,8 +68,7 @@ refused_next ls l number Faults.Memory clean n h item = record {
 -- later lines do not change a refusal
 pub refused_on : (before earlier : ℕ) (ls ms : List (List ℕ)) (e : Refusal) → earlier ≤ before → More ls ms
     → IsRefused before ls e → IsRefused earlier ms e
-refused_on before earlier ls ms (Text (Places.Line number) code) b m f =
-    rw m.whole (first_on ls m.rest number code f)
+refused_on before earlier ls ms (Text (Places.Line number) code) b m f = rw m.whole (first_on ls m.rest number code f)
 refused_on before earlier ls ms Memory b m w = record {
   earlier = w.earlier;
   line = w.line;
@@ -176,8 +177,7 @@ entries_before r ls e n s h = (rw s.read.number_is s.next, rw front (h s.before 
 -- the complete lines after a prefix of a piece are the first complete lines after the piece
 pub more_from : (t p : List ℕ) (i n : ℕ) → More (ended ((t ++ take i p) ++ take n (rest_of p i))) (ended (t ++ p))
 more_from t p i n =
-    rw (whole_of t p (i + n), ← step_on t p i n)
-    (ended_more ((t ++ take i p) ++ take n (rest_of p i)) (drop (i + n) p))
+    rw (whole_of t p (i + n), ← step_on t p i n) (ended_more ((t ++ take i p) ++ take n (rest_of p i)) (drop (i + n) p))
 
 pub more_count : (ls ms : List (List ℕ)) → More ls ms → length ls ≤ length ms
 more_count ls ms m = omega (arith, ap length m.whole, length-append ls m.rest)
@@ -197,8 +197,7 @@ refused_before r t e is h = refused_early t e (refused r t e is h).0
 
 pub refused_last : (t : List ℕ) (before : ℕ) (e : Refusal) → IsRefused before (lines t) e → Outcome t (Err e)
 refused_last t before e h =
-    listed_of t e
-    (refused_on before 0 (lines t) (lines t) e (omega arith)
+    listed_of t e (refused_on before 0 (lines t) (lines t) e (omega arith)
     (record { rest = []; whole = sym (append-nil (lines t)) }) h)
 
 -- the parsed instance of a whole text represents what the text reads as
@@ -210,4 +209,64 @@ held_whole x t held r e =
       all.instance,
       record { clean = r.clean; whole = e.0; instance_is = rw all.problem_is all.made },
       record { nodes_are = all.nodes_are ∙ size.0; lines_are = all.lines_are ∙ ap pos size.1; shows = all.shows },
+    )
+
+-- rows have been read after a text without an open line
+pub with_rows : (r : Reader) (t piece : List ℕ) (front : Front) → HasOpen r.line (open_of t) → open_of t ≡ []
+    → ReadsFront r.text (ended t) piece front → IsReading r (t ++ take front.used piece)
+with_rows r t piece front line none f =
+    let all = ap (λ x. parts is_line_feed (t ++ x)) (sym f.whole) ∙ closed_more t f.more none f.inner in
+    record {
+      read = subst (TextAt r.text) (sym (ap (λ (p : Parts). p.0) all)) f.read;
+      line = subst (HasOpen r.line) (none ∙ sym (ap (λ (p : Parts). p.1) all)) line;
+    }
+
+pub to_steps : (r : Reader) (t piece : List ℕ) (result : Result ℕ Refusal) → IfOk result (λ n. n ≡ used_of piece)
+    → Advances r t (t ++ take (used_of piece) piece) result → Steps r t piece result
+to_steps r t piece (Ok n) u a = subst (λ k. IsReading r (t ++ take k piece)) (sym u) a
+to_steps r t piece (Err e) u a = (used_of piece, a)
+
+-- one more line
+closed_push : (more : List (List ℕ)) (l : List ℕ) → closed_lines (more ++ l ∷ []) ≡ closed_lines more ++ (l ++ 10 ∷ [])
+closed_push [] l = append-nil (l ++ 10 ∷ [])
+closed_push (m ∷ more) l =
+    ap (λ x. (m ++ 10 ∷ []) ++ x) (closed_push more l)
+    ∙ sym (append_assoc (m ++ 10 ∷ []) (closed_lines more) (l ++ 10 ∷ []))
+
+inner_push : (more : List (List ℕ)) (l : List ℕ) → AreInner more → list_all is_inner l ≡ true
+    → AreInner (more ++ l ∷ [])
+inner_push [] l h i = (i, tt)
+inner_push (m ∷ more) l h i = (h.0, inner_push more l h.1 i)
+
+-- a row of the piece is refused, and the reader keeps its refusal
+pub front_refused : (r : Reader) (t piece : List ℕ) (front : Front) (fault : ItemFault) (e : Refusal) → open_of t ≡ []
+    → front.fault ≡ Some fault → ReadsFront r.text (ended t) piece front → r.refusal ≡ Some e
+    → ((ls : List (List ℕ)) → TextAt r.text ls → e ≡ refused_at (length ls + 1) fault) → Steps r t piece (Err e)
+front_refused r t piece front fault e none is reads refusal said =
+    let ls = ended t ++ reads.more in
+    let s : IsRefusedFront ls (drop front.used piece) fault =
+    subst (RefusesFront ls (drop front.used piece)) is reads.stops in
+    let line = s.line ++ 10 ∷ [] in
+    let all = reads.more ++ s.line ∷ [] in
+    let bytes : take (front.used + length line) piece ≡ closed_lines all =
+    take-add front.used (length line) piece
+    ∙ ap (λ x. x ++ take (length line) (drop front.used piece)) (sym reads.whole)
+    ∙ ap (λ x. closed_lines reads.more ++ take (length line) x)
+    (sym s.whole ∙ sym (append_assoc s.line (10 ∷ []) s.rest))
+    ∙ ap (λ x. closed_lines reads.more ++ x) (take-append_seam line s.rest) ∙ sym (closed_push reads.more s.line) in
+    let lines : ended (t ++ take (front.used + length line) piece) ≡ ls ++ s.line ∷ [] =
+    ap (λ x. ended (t ++ x)) bytes
+    ∙ ap (λ (p : Parts). p.0) (closed_more t all none (inner_push reads.more s.line reads.inner s.inner))
+    ∙ sym (append_assoc (ended t) reads.more (s.line ∷ [])) in
+    let takes = refuses_next r ls s.line fault e reads.read refusal (said ls reads.read) s.answer s.needs in
+    let more : length ls ≡ length (ended t) + length reads.more = length-append (ended t) reads.more in (
+      front.used + length line,
+      (
+        takes.0,
+        subst (λ x. IsRefused (length (ended t)) x e) (sym lines)
+            (refused_on (length ls) (length (ended t)) (ls ++ s.line ∷ []) (ls ++ s.line ∷ []) e (omega arith)
+            (record { rest = []; whole = sym (append-nil (ls ++ s.line ∷ [])) }) takes.1),
+        subst (λ x. StopsIn r x e) (sym lines) takes.2,
+        (let n = takes.3 in omega arith),
+      ),
     )

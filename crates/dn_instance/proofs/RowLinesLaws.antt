@@ -1,11 +1,9 @@
 -- Lemmas on the lines of rows that are taken one after another.
-use Rattle.std.proofs.Common.{◌≡◌, ◌<◌, ◌≤◌, ◌+◌, ◌-◌, ◌^◌, ℕ, zero, suc, pos, List, [], ◌∷◌, ◌++◌, length, map, take, drop, Bool, true, false, cond, ◌&&◌, Option, Some, None, Ok, Err, refl, sym, subst, ap, ◌∙◌, arith, append-nil, append_assoc, length-append, inl, inr}
+use Rattle.std.proofs.Common.{◌≡◌, ◌<◌, ◌≤◌, ◌+◌, ◌-◌, ◌^◌, ℕ, zero, suc, pos, List, [], ◌∷◌, ◌++◌, length, map, take, drop, Bool, true, false, cond, ◌&&◌, Option, Some, None, Ok, Err, refl, sym, subst, ap, ◌∙◌, arith, append-nil, append_assoc, length-append, inl, inr, option_map, length-take-le}
 use Rattle.std.proofs.Math.Nat.{add-sub_cancel}
 use Rattle.std.proofs.lemmas.Bool.{cases_Bool}
 use Rattle.std.specs.List.{AllByRecursion, list_any}
-use Rattle.std.specs.Option.{option_map}
 use Rattle.std.proofs.Math.Seq.{drop-append_seam, take-append_seam}
-use Rattle.std.proofs.lemmas.List.{length-take-le}
 use Rattle.dn_line.specs.Faults.{first_fault}
 use Rattle.dn_line.specs.LineTable.{row}
 use Rattle.dn_line.specs.Reading.{item}
@@ -38,12 +36,11 @@ use Rattle.dn_instance.specs.TextFaults.{is_arc, is_counted_letter, is_full, is_
 use Rattle.dn_instance.specs.Texts.{IsClean, items_of, with_next}
 use Rattle.dn_instance.specs.declared.text_so_far.Front.{Front}
 use Rattle.dn_instance.specs.declared.text_so_far.TextSoFar.{TextSoFar}
-use Rattle.dn_instance.proofs.CleanItems.{items_push}
+use Rattle.dn_instance.proofs.CleanItems.{items_push, clean_more, fault_is_next, in_time}
 use Rattle.dn_instance.proofs.FirstFaults.{fault_after}
-use Rattle.dn_instance.proofs.FollowLaws.{follows_as, same_fault, adds_it}
-use Rattle.dn_instance.proofs.LineSteps.{clean_more, fault_is_next, in_time}
-use Rattle.dn_instance.proofs.NextLaws.{head_skips, then_fields}
-use Rattle.dn_instance.proofs.RowRunLaws.{in_time_split, problem_all}
+use Rattle.dn_instance.proofs.FollowLaws.{follows_as, same_fault, adds_it, head_skips, then_fields}
+use Rattle.dn_instance.proofs.ItemSteps.{problem_all}
+use Rattle.dn_instance.proofs.RowRunLaws.{in_time_split}
 
 -- a line of this letter has no fault because of the lines before it
 record IsInOrder (key : Keyword) (before : List Line) : Type 0 where
@@ -169,12 +166,10 @@ pub record RunOn (line : Row → Line) (bytes rest : List ℕ) (ls : List (List 
 
 -- the bytes before the rest, and the rest
 pub before_front : (a b c : List ℕ) → a ++ b ≡ c → take (length c - length b) c ≡ a
-before_front a b c e =
-    rw (← e, length-append a b, add-sub_cancel (length a) (length b)) (take-append_seam a b)
+before_front a b c e = rw (← e, length-append a b, add-sub_cancel (length a) (length b)) (take-append_seam a b)
 
 pub after_front : (a b c : List ℕ) → a ++ b ≡ c → drop (length c - length b) c ≡ b
-after_front a b c e =
-    rw (← e, length-append a b, add-sub_cancel (length a) (length b)) (drop-append_seam a b)
+after_front a b c e = rw (← e, length-append a b, add-sub_cancel (length a) (length b)) (drop-append_seam a b)
 
 module _ (kind : Kind) (byte : ℕ) (line : Row → Line) (rows_spell : SpellsRows kind byte line) where
   -- LOW and CAP of an item that the line of a row spells are at least 0
@@ -199,8 +194,8 @@ module _ (kind : Kind) (byte : ℕ) (line : Row → Line) (rows_spell : SpellsRo
     adds : with_next (items_of ls) (said_words l) ≡ items_of ls ++ i ∷ []
 
   one_on : (ls : List (List ℕ)) (l : List ℕ) (i : Line) (p : Problem) → problem_of (items_of ls) ≡ Some p
-      → p.kind ≡ kind
-      → ReadsRow kind (said_words l) i → IsInTime (items_of ls) i → length ls < 2 ^ 63 - 2 → OneOn ls l i
+      → p.kind ≡ kind → ReadsRow kind (said_words l) i → IsInTime (items_of ls) i → length ls < 2 ^ 63 - 2
+      → OneOn ls l i
   one_on ls l i p problem is r t few =
       let before = items_of ls in
       let ws = said_words l in
@@ -235,8 +230,7 @@ module _ (kind : Kind) (byte : ℕ) (line : Row → Line) (rows_spell : SpellsRo
       let more =
       run_on rows u.0 rest (ls ++ l ∷ []) p u.2 (clean_more ls l clean (one.faults ∙ f.0))
       (ap problem_of items ∙ problem_all (items_of ls) (i ∷ []) p problem) is (rw items f.1) (rw items t.1)
-      (omega arith)
-      in
+      (omega arith) in
       let joined : ls ++ l ∷ more.more ≡ (ls ++ l ∷ []) ++ more.more = sym (append_assoc ls (l ∷ []) more.more) in
       record {
         more = l ∷ more.more;
@@ -251,8 +245,8 @@ module _ (kind : Kind) (byte : ℕ) (line : Row → Line) (rows_spell : SpellsRo
   -- the line of the row at which the rows stop has the fault
   refuses : (left : List RowLine) (bytes rest : List ℕ) (ls : List (List ℕ)) (p : Problem) (fault : Option ItemFault)
       → ReadUpTo kind byte bytes left rest → problem_of (items_of ls) ≡ Some p → p.kind ≡ kind
-      → AreInTime (items_of ls) (row_items line left) → StopsAt line (items_of ls) left fault
-      → length ls < 2 ^ 63 - 2 → RefusesFront ls bytes fault
+      → AreInTime (items_of ls) (row_items line left) → StopsAt line (items_of ls) left fault → length ls < 2 ^ 63 - 2
+      → RefusesFront ls bytes fault
   refuses left bytes rest ls p None u problem is t s few = tt
   refuses [] bytes rest ls p (Some fault) u problem is t s few = absurd s
   refuses (r ∷ left) bytes rest ls p (Some fault) u problem is t s few =
@@ -273,8 +267,8 @@ module _ (kind : Kind) (byte : ℕ) (line : Row → Line) (rows_spell : SpellsRo
       → problem_of (items_of ls) ≡ Some p → p.kind ≡ kind
       → AreFaultless (items_of ls) (row_items line (take t.rows rows)) → AreInTime (items_of ls) (row_items line rows)
       → StopsAt line (items_of ls ++ row_items line (take t.rows rows)) (drop t.rows rows) t.fault
-      → t.rows ≤ length rows → length ls + length rows < 2 ^ 63 - 2
-      → now.closed ≡ length ls + t.rows → HasRead now (items_of ls ++ row_items line (take t.rows rows))
+      → t.rows ≤ length rows → length ls + length rows < 2 ^ 63 - 2 → now.closed ≡ length ls + t.rows
+      → HasRead now (items_of ls ++ row_items line (take t.rows rows))
       → front.used ≡ length bytes - last_left (length bytes) (take t.rows rows) → front.fault ≡ t.fault
       → ReadsFront now ls bytes front
   front_read now rows t bytes rest ls p front u clean problem is f early s within few number held used fault =
@@ -316,5 +310,4 @@ module _ (kind : Kind) (byte : ℕ) (line : Row → Line) (rows_spell : SpellsRo
 -- no line has been taken
 pub none_read : (t : TextSoFar) (ls : List (List ℕ)) (bytes : List ℕ) → TextAt t ls
     → ReadsFront t ls bytes (record { used = 0; fault = None })
-none_read t ls bytes at =
-    record { more = []; whole = refl; inner = tt; read = rw append-nil at; stops = tt }
+none_read t ls bytes at = record { more = []; whole = refl; inner = tt; read = rw append-nil at; stops = tt }

@@ -1,8 +1,8 @@
 -- Lemmas that a text without a fault has as many counted lines as arcs, items or points.
-use Rattle.std.proofs.Common.{◌≡◌, ℕ, suc, ◌+◌, ◌*◌, ◌≤◌, ◌<◌, ◌^◌, ℤ, pos, List, [], ◌∷◌, ◌++◌, length, length-append, filter_map, Option, Some, None, true, false, refl, sym, ap, ◌∙◌, subst, arith}
+use Rattle.std.proofs.Common.{◌≡◌, ℕ, suc, ◌+◌, ◌*◌, ◌≤◌, ◌<◌, ◌^◌, ℤ, pos, List, [], ◌∷◌, ◌++◌, length, length-append, filter_map, Option, Some, None, true, false, refl, sym, ap, ◌∙◌, subst, arith, option_map}
 use Rattle.dn_instance.specs.TextFaults.{ids_in, is_in_range}
 use Rattle.std.specs.List.{list_all}
-use Rattle.std.specs.Option.{option_or, option_map}
+use Rattle.std.specs.Option.{option_or}
 use Rattle.dn_line.specs.declared.kind.Kind.{Kind}
 use Rattle.dn_line.specs.declared.kind.Kind.TheVariants as Kinds
 use Rattle.dn_line.specs.declared.line.Line.{Line}
@@ -16,8 +16,7 @@ use Rattle.dn_instance.specs.Items.{Problem, problem_in, problem_of, arcs_of, le
 use Rattle.dn_line.specs.declared.kind.Letter.TheVariants.{S, T}
 use Rattle.dn_instance.specs.Texts.{items_of, IsClean}
 use Rattle.dn_instance.proofs.CleanItems.{IsNext, by_items, problem_push}
-use Rattle.dn_instance.proofs.DraftLaws.{points_named}
-use Rattle.dn_instance.proofs.MapLaws.{by_key_push, found_by_key, one_more_key}
+use Rattle.dn_instance.proofs.MapLaws.{points_named, by_key_push, found_by_key, one_more_key}
 use Rattle.dn_instance.proofs.ItemSteps.{counted_yes, counted_no}
 use Rattle.dn_instance.proofs.ValidLaws.{kept, grown, OnSlots, some_is, ForProblem, by_problem}
 
@@ -34,8 +33,7 @@ one_longer : {X : Type 0} (f : Line → Option X) (before : List Line) (i : Line
     → f i ≡ Some x → counted before ≡ length (filter_map f before)
     → counted (before ++ i ∷ []) ≡ length (filter_map f (before ++ i ∷ []))
 one_longer f before i x c e h =
-    rw (grown f before i x e)
-    (omega (arith, counted_yes before i c, length-append (filter_map f before) (x ∷ [])))
+    rw (grown f before i x e) (omega (arith, counted_yes before i c, length-append (filter_map f before) (x ∷ [])))
 
 as_long : {X : Type 0} (f : Line → Option X) (before : List Line) (i : Line) → is_counted i ≡ false → f i ≡ None
     → counted before ≡ length (filter_map f before)
@@ -76,10 +74,7 @@ first_sized (Item.Graph Kinds.Sp nodes arcs) s e = refl
 first_sized (Item.Aux Kinds.Ss count) s e = (refl, refl)
 first_sized (Item.Aux Kinds.P2p count) s e = (refl, refl)
 first_sized (Item.Aux Kinds.Co count) s e = (refl, refl)
-first_sized Item.Skip s e = absurd s
-first_sized (Item.Graph _ nodes arcs) s e = absurd s
-first_sized (Item.Aux _ count) s e = absurd s
-first_sized _ s e = cc
+first_sized _ s e = absurd (first_of (assumption, cc))
 
 clean_sized : (ls : List (List ℕ)) → IsClean ls → ForProblem SizedAs (problem_of (items_of ls)) (items_of ls)
 clean_sized = by_problem SizedAs first_sized next_sized
@@ -121,5 +116,4 @@ so_far_by (Some p) items s = by_kind p.kind s
 
 pub so_far_fits : (ls : List (List ℕ)) → IsClean ls → counted (items_of ls) < 2 ^ 63
     → entries_so_far (items_of ls) < 2 ^ 64
-so_far_fits ls clean h =
-    omega (arith, so_far_by (problem_of (items_of ls)) (items_of ls) (clean_sized ls clean))
+so_far_fits ls clean h = omega (arith, so_far_by (problem_of (items_of ls)) (items_of ls) (clean_sized ls clean))

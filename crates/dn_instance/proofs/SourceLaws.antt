@@ -24,10 +24,7 @@ front_lines : (given rest : List ℕ) → More (ended given) (lines (given ++ re
 front_lines given rest =
     let m = ended_more given rest in
     let n = lines_more (given ++ rest) in
-    record {
-      rest = m.rest ++ n.rest;
-      whole = rw (n.whole, m.whole) (append_assoc (ended given) m.rest n.rest);
-    }
+    record { rest = m.rest ++ n.rest; whole = rw (n.whole, m.whole) (append_assoc (ended given) m.rest n.rest) }
 
 -- if a text was refused because memory ran out, memory ran out at a line of the last piece, or at the last line
 pub ran_out : (t : List ℕ) (left : AfterPulls) → StopsAt t left Memory → RanOut t left
@@ -82,8 +79,7 @@ has_some piece test is e = omega (arith, eqb-false (length piece) 0 (sym is ∙ 
 end_outcome : (t : List ℕ) (left : AfterPulls) (r : Result Held Refusal) → IsAtEnd left.gives → IsClean (ended t)
     → (r ≡ Err Memory → WantsMemory (length (ended t)) (lines t)) → Outcome t r → SourceOutcome t left r
 end_outcome t left (Ok held) e clean m h = (h, e)
-end_outcome t left (Err (Text place code)) e clean m h =
-    (h, inr (record { at_end = e; clean = clean; refused = h }))
+end_outcome t left (Err (Text place code)) e clean m h = (h, inr (record { at_end = e; clean = clean; refused = h }))
 end_outcome t left (Err Memory) e clean m h = inr (record { at_end = e; clean = clean; refused = m refl })
 end_outcome t left _ e clean m h = absurd h
 
@@ -98,8 +94,7 @@ module _ {S : Type 0} (source : SourceFacts S) (old before : S) (r : Reader) (fe
       (λ t rest whole is. record { given = fed.given; rest = rest; whole = whole; rest_is = is; clean = clean })
 
   pulled : (new : S) → (new ≡ before) ⊎ source.Pulls before new → PulledWhileClean source old new
-  pulled new last =
-      record { before = before; pulls = fed.pulls; clean = clean_so_far; last = last }
+  pulled new last = record { before = before; pulls = fed.pulls; clean = clean_so_far; last = last }
 
   -- how the source is left, after no more pull or after one more
   pub left_here : {A : Type 0} (result : Result A Refusal) → (IsErrOf result Read → ⊥)
@@ -118,8 +113,7 @@ module _ {S : Type 0} (source : SourceFacts S) (old before : S) (r : Reader) (fe
       → IfSome (source.gives old) (λ t. SourceOutcome t (after_pulls source old before) (Err Endless))
   endless count h k =
       given_rest (source.gives old) (source.gives before) fed.given
-      (λ t. SourceOutcome t (after_pulls source old before) (Err Endless)) fed.gave
-      (λ t rest whole is. (
+      (λ t. SourceOutcome t (after_pulls source old before) (Err Endless)) fed.gave (λ t rest whole is. (
         record { given = fed.given; rest = rest; whole = whole; rest_is = is; clean = clean },
         omega arith,
       ))
@@ -131,8 +125,7 @@ module _ {S : Type 0} (source : SourceFacts S) (old before : S) (r : Reader) (fe
   -- an empty piece adds no bytes
   pub given_all : (new : S) (piece : List ℕ) → piece ≡ [] → Consumes (source.gives before) (source.gives new) piece
       → Consumes (source.gives old) (source.gives new) fed.given
-  given_all new piece none c =
-      rw (none, append-nil fed.given) at (given_more new piece c)
+  given_all new piece none c = rw (none, append-nil fed.given) at (given_more new piece c)
 
   -- the outcome of a source that is at its end
   pub finished : (new : S) (a : Result Held Refusal) → Consumes (source.gives old) (source.gives new) fed.given
@@ -156,12 +149,9 @@ module _ {S : Type 0} (source : SourceFacts S) (old before : S) (r : Reader) (fe
     refused e h m =
         let all = fed.given ++ piece in
         given_rest (source.gives old) (source.gives new) all
-        (λ t. SourceOutcome t (after_pulls source old new) (Err e)) (given_more new piece c)
-        (λ t rest whole is.
-        piece_outcome t (after_pulls source old new) e
-        (refused_on 0 0 (ended all) (lines t) e (omega arith)
-        (rw whole (front_lines all rest)) h)
-        (record {
+        (λ t. SourceOutcome t (after_pulls source old new) (Err e)) (given_more new piece c) (λ t rest whole is.
+        piece_outcome t (after_pulls source old new) e (refused_on 0 0 (ended all) (lines t) e (omega arith)
+        (rw whole (front_lines all rest)) h) (record {
           given = fed.given;
           piece = piece;
           rest = rest;
@@ -176,8 +166,7 @@ module _ {S : Type 0} (source : SourceFacts S) (old before : S) (r : Reader) (fe
 -- what is kept after one more piece
 pub kept_more : (keeps : Bool) (old mid new given piece : List ℕ) → IsKept keeps old mid given
     → IsKept keeps mid new piece → IsKept keeps old new (given ++ piece)
-kept_more keeps old mid new given piece h k is =
-    rw (k is, h is) (append_assoc old given piece)
+kept_more keeps old mid new given piece h k is = rw (k is, h is) (append_assoc old given piece)
 
 -- the outcome if all bytes that the source gave are kept, if bytes are kept
 pub kept : (keeps : Bool) (old new : Option (List ℕ)) (left : AfterPulls) (given old_copy new_copy : List ℕ)
@@ -195,8 +184,8 @@ unkept None left old_copy new_copy r h = tt
 unkept (Some t) left old_copy new_copy r (inl h) = h.0
 unkept (Some t) left old_copy new_copy r (inr h) = cc h.1
 
-pub unkept_held : (old_copy new_copy : List ℕ) (a : Result Held Refusal)
-    → IfOk a (HoldsKept false old_copy new_copy) → IfOk a HoldsSome
+pub unkept_held : (old_copy new_copy : List ℕ) (a : Result Held Refusal) → IfOk a (HoldsKept false old_copy new_copy)
+    → IfOk a HoldsSome
 unkept_held old_copy new_copy (Ok held) h = (h.0, h.1)
 unkept_held old_copy new_copy (Err e) h = tt
 
@@ -213,10 +202,9 @@ pub copied : (old : Option (List ℕ)) (left : AfterPulls) (old_copy new_copy : 
     → IfSome old (λ t. CopyOutcome t left old_copy new_copy r)
 copied None left old_copy new_copy r h = tt
 copied (Some t) left old_copy new_copy r (inl h) = copy_outcome t left old_copy new_copy r h.0 (h.1 refl)
-copied (Some t) left old_copy new_copy r (inr h) =
-    rw h.0 (inr h.2)
+copied (Some t) left old_copy new_copy r (inr h) = rw h.0 (inr h.2)
 
-pub copied_held : (old_copy new_copy : List ℕ) (a : Result Held Refusal)
-    → IfOk a (HoldsKept true old_copy new_copy) → IfOk a (HoldsCopied old_copy new_copy)
+pub copied_held : (old_copy new_copy : List ℕ) (a : Result Held Refusal) → IfOk a (HoldsKept true old_copy new_copy)
+    → IfOk a (HoldsCopied old_copy new_copy)
 copied_held old_copy new_copy (Ok held) h = (h.0, h.1, h.2 refl)
 copied_held old_copy new_copy (Err e) h = tt

@@ -1,12 +1,12 @@
 -- Lemmas that what a text reads as is valid.
-use Rattle.std.proofs.Common.{◌≡◌, ℕ, ◌-◌, ◌^◌, ℤ, pos, negsuc, ◌≤ℤ◌, List, [], ◌∷◌, ◌++◌, Bool, true, false, cond, not, ◌&&◌, ◌||◌, map, Option, Some, None, is_some, option_and_then, Ok, Err, int_lt, refl, sym, ap, ◌∙◌, subst, append-nil, arith, filter_map, inl, inr}
+use Rattle.std.proofs.Common.{◌≡◌, ℕ, ◌-◌, ◌^◌, ℤ, pos, negsuc, ◌≤ℤ◌, List, [], ◌∷◌, ◌++◌, Bool, true, false, cond, not, ◌&&◌, ◌||◌, map, Option, Some, None, is_some, option_and_then, Ok, Err, int_lt, refl, sym, ap, ◌∙◌, subst, append-nil, arith, filter_map, inl, inr, int_eq, option_map}
 use Rattle.dn_arc.specs.declared.arc.CostArc.{CostArc}
 use Rattle.std.proofs.lemmas.Bool.{cases_Bool, and_parts, not-false}
+use Rattle.std.proofs.lemmas.Cmp.{int_eq_equiv}
 use Rattle.std.proofs.lemmas.Int.{ints}
 use Rattle.std.proofs.lemmas.Bool.Decides.{nat_tests}
-use Rattle.std.specs.Option.{option_or, option_map}
+use Rattle.std.specs.Option.{option_or}
 use Rattle.std.specs.List.{AllByRecursion, list_all}
-use Rattle.std.specs.Ordering.{int_eq}
 use Rattle.std.proofs.lemmas.List.Elements.{filter_map-append}
 use Rattle.dn_line.specs.Number.{number_read, fits, is_number, number_value}
 use Rattle.dn_line.specs.declared.kind.Kind.{Kind}
@@ -24,7 +24,7 @@ use Rattle.dn_arc.specs.Pairs.{bundle, same_pair}
 use Rattle.dn_instance.specs.Instances.{Graph, Instance, MaxFlow}
 use Rattle.dn_instance.specs.Validity.{Fits, IsNode, IsId, IsPlaced, IsValidGraph, IsSupply, IsPoint, AreSupplies, AreTerminals, ArePoints, IsValid}
 use Rattle.dn_instance.specs.Items.{Problem, problem_in, problem_of, kind_known, arcs_of, length_arc_in, cap_arc_in, cost_arc_in, by_key, supply_in, supplies_of, terminal_in, terminal_of, source_in, query_in, point_in, graph_of, max_flow, instance_as}
-use Rattle.dn_instance.specs.TextFaults.{is_in_range, ids_in, is_companion, is_id, other_letter}
+use Rattle.dn_instance.specs.TextFaults.{is_in_range, ids_in, is_companion, is_id, other_letter, is_arc}
 use Rattle.dn_instance.specs.Texts.{items_of, IsClean, Reads}
 use Rattle.dn_arc.proofs.PairLaws.{pair_is, bundle_push}
 use Rattle.dn_instance.proofs.SumLaws.{passes, total_passes, cost_passes}
@@ -72,8 +72,7 @@ each_of f P go (x ∷ xs) h = let b = and_parts (f x) (list_all f xs) h in (go x
 nodes_there : (p : Problem) (i : Line) → is_companion p.kind ≡ false → list_all (is_in_range (Some p)) (ids_in i) ≡ true
     → AllByRecursion (IsNode p.nodes) (ids_in i)
 nodes_there p i c =
-    each_of (is_in_range (Some p)) (IsNode p.nodes)
-    (λ id h.
+    each_of (is_in_range (Some p)) (IsNode p.nodes) (λ id h.
     let both = and_parts (int_lt (pos 0) id) (not (int_lt p.nodes id)) (rw c at h) in
     record { some = grind (arith, ints, both.0); most = grind (arith, ints, both.1) })
     (ids_in i)
@@ -82,8 +81,7 @@ nodes_there p i c =
 ids_there : (p : Problem) (i : Line) → list_all (is_in_range (Some p)) (ids_in i) ≡ true
     → AllByRecursion (λ id. Fits id → IsId id) (ids_in i)
 ids_there p i =
-    each_of (is_in_range (Some p)) (λ id. Fits id → IsId id)
-    (λ id h f.
+    each_of (is_in_range (Some p)) (λ id. Fits id → IsId id) (λ id h f.
     let both = and_parts (int_lt (pos 0) id) (is_companion p.kind || not (int_lt p.nodes id)) h in
     record { some = grind (arith, ints, both.0); fits = f })
     (ids_in i)
@@ -104,8 +102,7 @@ module _ {Arc : Type 0} (kind : ArcKind Arc) (arc_in : Line → Option ((ℤ × 
       → passes kind (arcs_of arc_in before) a ≡ false → IsValidGraph kind (graph_of arc_in nodes (before ++ i ∷ []))
   graph_grown a e placed sum =
       let arcs = arcs_of arc_in before in
-      rw (grown arc_in before i a e)
-      (record {
+      rw (grown arc_in before i a e) (record {
         some_nodes = v.some_nodes;
         nodes_fit = v.nodes_fit;
         placed = all_end (IsPlaced kind nodes) arcs a v.placed placed;
@@ -174,10 +171,7 @@ first_item (Item.Graph Kinds.Sp nodes arcs) s e = none_graph lengths nodes refl 
 first_item (Item.Aux Kinds.Ss count) s e = tt
 first_item (Item.Aux Kinds.P2p count) s e = tt
 first_item (Item.Aux Kinds.Co count) s e = record { map = no_keys; each = tt }
-first_item Item.Skip s e = absurd s
-first_item (Item.Graph _ nodes arcs) s e = absurd s
-first_item (Item.Aux _ count) s e = absurd s
-first_item _ s e = cc
+first_item _ s e = absurd (first_of (assumption, cc))
 
 -- valid flows are valid with the flow of one more node line
 supplies_grown : (nodes : ℤ) (before : List Line) (id flow : ℤ) → IsNode nodes id → Fits flow
@@ -186,8 +180,7 @@ supplies_grown nodes before id flow node fit s = elim (cases_Bool (int_eq flow (
   | inl e ↦ rw (kept supply_in before (Item.Supply id flow) (rw e)) s
   | inr e ↦
       let some : flow ≡ pos 0 → ⊥ = λ z. cc (rw z at e) in
-      rw (grown supply_in before (Item.Supply id flow) (id, flow) (rw e), by_key_push)
-      (record {
+      rw (grown supply_in before (Item.Supply id flow) (id, flow) (rw e), by_key_push) (record {
         map = map_put id flow (supplies_of before) s.map;
         each =
             each_put id flow (IsSupply nodes) (supplies_of before)
@@ -195,12 +188,8 @@ supplies_grown nodes before id flow node fit s = elim (cases_Bool (int_eq flow (
       })
 ]
 
-pub int_eq_self : (z : ℤ) → int_eq z z ≡ true
-int_eq_self (pos n) = grind (arith, nat_tests)
-int_eq_self (negsuc n) = grind (arith, nat_tests)
-
 ids_differ : (a b : ℤ) → int_eq a b ≡ false → a ≡ b → ⊥
-ids_differ a b h e = cc (rw (e, int_eq_self b) at h)
+ids_differ a b h e = cc (rw (e, int_eq_equiv.refl b) at h)
 
 -- a terminal that is not the other one is valid with it
 source_named : (nodes id : ℤ) (t : Option ℤ) → IsNode nodes id → AreEnds nodes None t → is_id id t ≡ false
@@ -245,14 +234,12 @@ next_item p Kinds.Min before (Item.MinArc src dst low cap cost) e b fit r n s =
     let i = Item.MinArc src dst low cap cost in
     let ends = nodes_there p i (ap is_companion e) r in
     let arc : CostArc = record { low = low; cap = cap; cost = cost } in (
-      graph_grown costs cost_arc_in p.nodes before i s.0 ((src, dst), arc) refl
-          (record {
-            tail = ends.0;
-            head = ends.1.0;
-            is_arc = record { some = fit.1.1.1.0.1; room = grind (arith, ints, n.low) };
-            numbers = (fit.1.1.1.0.0, (fit.1.1.1.1.0.0, (fit.1.1.1.1.1.0, tt)));
-          })
-          (sym (cost_passes (arcs_of cost_arc_in before) ((src, dst), arc)) ∙ n.sum),
+      graph_grown costs cost_arc_in p.nodes before i s.0 ((src, dst), arc) refl (record {
+        tail = ends.0;
+        head = ends.1.0;
+        is_arc = record { some = fit.1.1.1.0.1; room = grind (arith, ints, n.low) };
+        numbers = (fit.1.1.1.0.0, (fit.1.1.1.1.0.0, (fit.1.1.1.1.1.0, tt)));
+      }) (sym (cost_passes (arcs_of cost_arc_in before) ((src, dst), arc)) ∙ n.sum),
       rw (kept supply_in before i refl) s.1,
     )
 next_item p Kinds.Max before (Item.Terminal id letter) e b fit r n s = (
@@ -263,14 +250,12 @@ next_item p Kinds.Max before (Item.Terminal id letter) e b fit r n s = (
 next_item p Kinds.Max before (Item.MaxArc src dst cap) e b fit r n s =
     let i = Item.MaxArc src dst cap in
     let ends = nodes_there p i (ap is_companion e) r in (
-      graph_grown capacities cap_arc_in p.nodes before i s.0 ((src, dst), record { cap = cap }) refl
-          (record {
-            tail = ends.0;
-            head = ends.1.0;
-            is_arc = record { some = fit.1.1.1.0.1 };
-            numbers = (fit.1.1.1.0.0, tt);
-          })
-          (sym (total_passes (arcs_of cap_arc_in before) ((src, dst), record { cap = cap })) ∙ n.sum),
+      graph_grown capacities cap_arc_in p.nodes before i s.0 ((src, dst), record { cap = cap }) refl (record {
+        tail = ends.0;
+        head = ends.1.0;
+        is_arc = record { some = fit.1.1.1.0.1 };
+        numbers = (fit.1.1.1.0.0, tt);
+      }) (sym (total_passes (arcs_of cap_arc_in before) ((src, dst), record { cap = cap })) ∙ n.sum),
       simp (terminal_more, or_none {X = ℤ}) s.1,
     )
 next_item p Kinds.Sp before (Item.SpArc src dst length) e b fit r n s =
@@ -288,8 +273,7 @@ next_item p Kinds.P2p before (Item.Query first second) e b fit r n s =
     (ids.0 fit.1.0, ids.1.0 fit.1.1.0))
 next_item p Kinds.Co before (Item.Point id x y) e b fit r n s =
     let points = by_key (filter_map point_in before) in
-    rw (grown point_in before (Item.Point id x y) (id, (x, y)) refl, by_key_push)
-    (record {
+    rw (grown point_in before (Item.Point id x y) (id, (x, y)) refl, by_key_push) (record {
       map = map_put id (x, y) points s.map;
       each =
           each_put id (x, y) IsPoint points
