@@ -1,33 +1,28 @@
 -- Lemmas on taking one row into a body, and on a body of one kind as a body of any kind.
-use Rattle.std.proofs.Common.{◌≡◌, ℤ, List, [], ◌∷◌, ◌++◌, Bool, true, false, cond, not, int_lt, ◌&&◌, IsTrue, ◌↔◌, Option, Some, None, Result, Ok, Err, OnOk, OnErr, refl, sym, ap, ◌∙◌, subst, Vec, Global, BTreeMap, is_some, int_cmp, ◌-◌, ◌^◌, pos, ◌+ℤ◌, arith, inl, inr, ◌≤ℤ◌, ◌<◌, length, filter_map, length-append, option_map, ◌||◌, append-nil, int_eq, is_eq, ℕ}
+use Rattle.std.proofs.Common.{◌≡◌, ℤ, List, [], ◌∷◌, ◌++◌, Bool, true, not, int_lt, ◌&&◌, IsTrue, ◌↔◌, Option, Some, Result, Err, OnOk, OnErr, refl, sym, ap, ◌∙◌, subst, Vec, Global, BTreeMap, is_some, int_cmp, ◌^◌, pos, arith, inl, inr, ◌<◌, filter_map, length-append, ℕ}
 use Rattle.std.proofs.lemmas.Result.{on_err_weaker, on_ok_weaker}
 use Rattle.std.specs.BTreeMap.{is_at, insert_entry}
 use Rattle.std.specs.Map.{lookup}
-use Rattle.dn_line.specs.declared.code.Code.TheVariants.{NodeOutOfRange, LowAboveCap, SumTooLarge, RepeatedNode}
+use Rattle.dn_line.specs.declared.code.Code.TheVariants.{NodeOutOfRange, LowAboveCap, RepeatedNode}
 use Rattle.dn_line.specs.declared.kind.Kind.{Kind}
 use Rattle.dn_line.specs.declared.kind.Kind.TheVariants as Kinds
 use Rattle.dn_line.specs.declared.line.Line.{Line}
 use Rattle.dn_line.specs.declared.row.Row.{Row}
 use Rattle.dn_arc.specs.Kinds.{lengths, capacities, costs, ArcKind}
-use Rattle.dn_arc.specs.State.Bundles.{BundleFacts, meant, IsKind}
+use Rattle.dn_arc.specs.State.Bundles.{BundleFacts, meant}
 use Rattle.dn_table.specs.State.Tables.{AreArcs, GraphNeedsMore, TableLists, Stays}
 use Rattle.dn_instance.specs.Items.{arcs_of, length_arc_in, cap_arc_in, cost_arc_in, Problem, problem_of, source_in, query_in, point_in, by_key}
-use Rattle.dn_instance.specs.TextFaults.{is_companion, is_in_range, item_tests, has_point}
+use Rattle.dn_instance.specs.TextFaults.{is_companion}
 use Rattle.dn_instance.specs.State.Bodies.{Awaits, IsArcOfRow, Keeps, Took, ids_body, pairs_body, points_body, table_body, TableHolds, TakerFacts, Counts, TakesRows, TookRows}
 use Rattle.dn_instance.specs.State.ItemFaults.{AnswersFault, arc_fault, id_fault, in_graph, pair_fault, point_fault}
 use Rattle.dn_instance.specs.State.RowRuns.{line_of, row_items}
 use Rattle.dn_instance.specs.declared.refusal.ItemFault.{ItemFault}
 use Rattle.dn_instance.specs.declared.refusal.ItemFault.TheVariants.{Memory}
-use Rattle.dn_instance.proofs.ValidLaws.{grown, kept}
+use Rattle.dn_instance.proofs.ValidLaws.{grown}
 use Rattle.std.proofs.Math.Bool.{and-true, not-not}
 use Rattle.std.proofs.lemmas.Int.{ints}
-use Rattle.std.specs.List.{list_all, AllByRecursion, list_any}
-use Rattle.dn_line.specs.declared.code.Code.{Code}
-use Rattle.dn_line.specs.declared.line.Line.TheVariants as Item
-use Rattle.dn_line.specs.Faults.{first_fault}
-use Rattle.dn_arc.specs.Capacities.{total_cap}
+use Rattle.std.specs.List.{AllByRecursion}
 use Rattle.dn_arc.proofs.LengthsLaws.{least_of}
-use Rattle.dn_arc.specs.Pairs.{bundle}
 use Rattle.dn_instance.proofs.SumLaws.{total_append, total_passes, cost_passes}
 use Rattle.dn_arc.proofs.TotalKindLaws.{total_some}
 use Rattle.dn_bundle.proofs.BundleLaws.{all_end}
@@ -40,14 +35,12 @@ use Rattle.dn_arc.proofs.AddsLaws.{above_none}
 use Rattle.dn_arc.proofs.CostKindLaws.{cost_kind}
 use Rattle.dn_arc.specs.declared.arc.CostArc.{CostArc}
 use Rattle.dn_table.specs.GraphEntries.{graph_entries}
-use Rattle.dn_instance.specs.EntryCount.{entries_as, entries_by, entries_so_far}
+use Rattle.dn_instance.specs.EntryCount.{entries_as, entries_by}
 use Rattle.dn_instance.specs.Readers.{NeedsMemory}
 use Rattle.dn_instance.proofs.FirstFaults.{none_first}
 use Rattle.dn_instance.proofs.MapLaws.{by_key_push, one_more_key, found_by_key, points_named}
 use Rattle.dn_instance.proofs.ItemSteps.{problem_all}
-use Rattle.std.proofs.lemmas.Bool.{cases_Bool, not-false}
-use Rattle.dn_arc.specs.declared.arc.Form.TheVariants.{One}
-use Rattle.dn_arc.proofs.PairLaws.{int_self}
+use Rattle.std.proofs.lemmas.Bool.{not-false}
 use Rattle.dn_instance.proofs.HeadsLaws.{on_ok_from}
 use Rattle.dn_line.specs.declared.row_block.RowLine.{RowLine}
 use Rattle.dn_instance.specs.State.Drafts.{BodyHolds, any_body, body_kind, max_body, min_body, sp_body}
@@ -206,12 +199,9 @@ length_row row = record {
 pub cap_row : (row : Row) → IsArcOfRow Kinds.Max capacities cap_arc_in row (record { cap = row.third })
 cap_row row = record {
   in_line = refl;
-  faults = λ before p h k some. record {
-    is = true;
-    decides = (λ x. record { some = some }, λ x. refl);
-    fault =
-        rw (h, k, and-true, total_passes (arcs_of cap_arc_in before) ((row.first, row.second), record { cap = row.third }));
-  };
+  faults = λ before p h k some.
+      let sum = total_passes (arcs_of cap_arc_in before) ((row.first, row.second), record { cap = row.third }) in
+      record { is = true; decides = (λ x. record { some = some }, λ x. refl); fault = rw (h, k, and-true, sum) };
   needs = λ before p h k more. elim more [
     | inl m ↦
         entries_more before p (line_of Kinds.Max row) Kinds.Max h k
@@ -303,13 +293,12 @@ module _ {T : Type 0} {facts : TakerFacts T} {put : T → AnyBody} (part : IsPar
 
   pub rows_kept : (old new : T) → Keeps facts old new → (b : AnyBody) → b ≡ put old → (items : List Line)
       → BodyHolds b items → BodyHolds (put new) items
-  rows_kept old new keeps b e items h = part.back new items (keeps items (part.to old items (subst (λ x. BodyHolds x items) e h)))
+  rows_kept old new keeps b e items h = part.back new items (keeps items (part.to old items (rw e at h)))
 
   pub counted_by : (t : T) (n : ℕ) → Counts facts t n → (b : AnyBody) → b ≡ put t → (items : List Line)
       → BodyHolds b items → entries_by (body_kind b) items < 2 ^ 64 → n ≡ entries_by (body_kind b) items
   counted_by t n h b e =
-      rw e (λ items held few.
-      subst (λ o. entries_by o items < 2 ^ 64 → n ≡ entries_by o items) (sym (part.is t)) (h items (part.to t items held)) few)
+      rw e (λ items held few. rw (part.is t) (h items (part.to t items held) (rw (part.is t) at few)))
 
 -- the entries of a table are those of the arcs of the items
 pub table_counted : {B Arc : Type 0} (text : Kind) (kind : ArcKind Arc) (arc_in : Line → Option ((ℤ × ℤ) × Arc))

@@ -1,6 +1,6 @@
 -- Lemmas on the items of a text without a fault: each line adds no item, or one that has no fault after those before
 -- it. And on the complete lines and one more line.
-use Rattle.std.proofs.Common.{◌≡◌, ℕ, ◌+◌, List, [], ◌∷◌, ◌++◌, length, Bool, true, false, cond, Option, Some, None, Ok, refl, sym, ap, ◌∙◌, subst, append-nil, inl, inr, option_to_list, suc, ◌-◌, ◌^◌, ◌<◌, ◌≤◌, arith, length-append, ◌⊎◌, add-one}
+use Rattle.std.proofs.Common.{◌≡◌, ℕ, ◌+◌, List, [], ◌∷◌, ◌++◌, length, true, false, Option, Some, None, Ok, refl, sym, ap, ◌∙◌, append-nil, inl, inr, suc, ◌-◌, ◌^◌, ◌<◌, ◌≤◌, arith, length-append, ◌⊎◌, add-one}
 use Rattle.dn_line.specs.declared.code.Code.{Code}
 use Rattle.std.proofs.lemmas.Bool.{cases_Bool, cond-false}
 use Rattle.std.specs.Option.{option_or}
@@ -10,9 +10,9 @@ use Rattle.dn_line.specs.declared.line.Line.{Line}
 use Rattle.dn_line.specs.declared.line.Line.TheVariants as Item
 use Rattle.dn_line.specs.declared.word.Word.{Word}
 use Rattle.dn_line.specs.Words.{said_words, is_skip}
-use Rattle.dn_line.specs.Faults.{Test, first_fault, head_tests, field_tests, own_tests, fields}
+use Rattle.dn_line.specs.Faults.{Test, first_fault, head_tests, field_tests, fields}
 use Rattle.dn_line.specs.State.Spelling.{Slot, slots_of, Spells}
-use Rattle.dn_line.specs.Reading.{unless, words_read, spelled}
+use Rattle.dn_line.specs.Reading.{words_read, spelled}
 use Rattle.dn_line.proofs.FaultLaws.{fault_append}
 use Rattle.dn_line.proofs.SpellingLaws.{faultless_spells}
 use Rattle.dn_line.proofs.AnswerLaws.{read_item}
@@ -161,9 +161,10 @@ no_lines number code f = omega (arith, ap length f.lines_are, length-append f.be
 pub clean_more : (ls : List (List ℕ)) (l : List ℕ) → IsClean ls → fault_after ls l ≡ None → IsClean (ls ++ l ∷ [])
 clean_more ls l clean h number code f = elim (split ls f.before f.after l f.line f.lines_are) [
   | inl e ↦ cc (h, rw (e.0, e.1, f.number_is) at f.fault_is)
-  | inr e ↦
+  | inr (a, e) ↦
       clean number code
-      (record { before = f.before; line = f.line; after = e.0; lines_are = e.1; number_is = f.number_is; fault_is = f.fault_is })
+      (record
+      { before = f.before; line = f.line; after = a; lines_are = e; number_is = f.number_is; fault_is = f.fault_is })
 ]
 
 -- one more line has been read

@@ -1,32 +1,28 @@
 -- Lemmas on the end of a text.
-use Rattle.std.proofs.Common.{◌≡◌, ℤ, pos, List, [], ◌∷◌, Bool, true, false, ◌||◌, cond, not, int_lt, Option, Some, None, is_none, Result, Ok, Err, refl, sym, ap, ◌∙◌, subst, option_map}
+use Rattle.std.proofs.Common.{◌≡◌, ℤ, pos, List, Bool, true, false, cond, int_lt, Option, Some, None, Result, Ok, Err, refl, sym, ◌∙◌}
 use Rattle.std.proofs.Math.Bool.{not-not}
 use Rattle.dn_line.specs.declared.code.Code.{Code}
 use Rattle.dn_line.specs.declared.code.Code.TheVariants.{NoProblem, MissingTerminal, TooFewLines}
 use Rattle.dn_line.specs.declared.kind.Kind.{Kind}
-use Rattle.dn_line.specs.declared.kind.Kind.TheVariants.{Max}
 use Rattle.dn_line.specs.declared.kind.Letter.TheVariants.{S, T}
 use Rattle.dn_line.specs.declared.line.Line.{Line}
-use Rattle.dn_line.specs.Faults.{first_fault}
 use Rattle.dn_arc.specs.Kinds.{capacities}
 use Rattle.dn_arc.specs.State.SingleArcs.{cap_listed}
 use Rattle.std.specs.List.Sorted.{IsStrictlySortedBy}
 use Rattle.std.specs.Map.{keys_of, lookup}
 use Rattle.dn_arc.specs.Pairs.{pair_cmp, same_pair}
 use Rattle.dn_table.proofs.GrownLaws.{stands_as}
-use Rattle.dn_instance.specs.Instances.{Graph, MaxFlow}
-use Rattle.dn_instance.specs.Items.{Problem, counted, terminal_of, graph_of, max_flow, arcs_of, cap_arc_in}
-use Rattle.dn_instance.specs.TextFaults.{end_fault, lacks_terminal, is_full}
-use Rattle.dn_instance.specs.State.Drafts.{BodyHolds, body_kind, draft_kind, DraftHolds}
+use Rattle.dn_instance.specs.Instances.{MaxFlow}
+use Rattle.dn_instance.specs.Items.{counted, terminal_of, graph_of, arcs_of, cap_arc_in}
+use Rattle.dn_instance.specs.TextFaults.{end_fault, lacks_terminal}
+use Rattle.dn_instance.specs.State.Drafts.{draft_kind, DraftHolds}
 use Rattle.dn_instance.specs.State.Ends.{Makes, EndsWith}
-use Rattle.dn_instance.specs.State.Helds.{Bundles, Shows, contents_of, parsed}
+use Rattle.dn_instance.specs.State.Helds.{Bundles, contents_of, parsed}
 use Rattle.dn_instance.specs.State.TextsSoFar.{HasRead, problem_as}
 use Rattle.dn_instance.specs.declared.content.Content.{Content}
 use Rattle.dn_instance.specs.declared.content.Content.TheVariants as Kept
 use Rattle.dn_instance.specs.declared.draft.Draft.{Draft}
-use Rattle.dn_instance.specs.declared.any_body.AnyBody.{AnyBody}
 use Rattle.dn_instance.specs.declared.any_body.AnyBody.TheVariants as Bodies
-use Rattle.dn_arc.specs.declared.arc.CapArc.{CapArc}
 use Rattle.dn_bundle.specs.declared.total.Total.{Total}
 use Rattle.dn_instance.specs.declared.held.Held.{Held}
 use Rattle.dn_instance.specs.declared.text_so_far.TextSoFar.{TextSoFar}

@@ -1,6 +1,5 @@
 -- Lemmas on the number of entries of an instance, given its size, and of the content of a parsed instance.
 use Rattle.std.proofs.Common.{◌≡◌, ◌*◌, ◌≤◌, ◌<◌, ◌^◌, ℤ, pos, FitsSigned, w64, List, [], ◌∷◌, subst, arith, ℕ, length, ap}
-use Rattle.dn_instance.specs.TextFaults.{is_arc}
 use Rattle.std.specs.List.{AllByRecursion}
 use Rattle.dn_arc.specs.Kinds.{ArcKind, costs, capacities, lengths}
 use Rattle.dn_table.specs.State.Tables.{AreArcs, TableLists}

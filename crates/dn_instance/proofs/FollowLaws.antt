@@ -1,5 +1,5 @@
 -- Lemmas on what the next line reads as, check by check, and on the item of a line that has no fault up to its fields.
-use Rattle.std.proofs.Common.{◌≡◌, List, [], ◌∷◌, ◌++◌, Bool, true, false, ◌&&◌, cond, Option, Some, None, IsSome, is_some, Ok, Err, refl, sym, ap, ◌∙◌, subst, inl, inr, append_assoc, option_to_list, Result}
+use Rattle.std.proofs.Common.{◌≡◌, List, [], ◌∷◌, ◌++◌, true, false, cond, Option, Some, None, is_some, Ok, Err, refl, sym, ap, ◌∙◌, inl, inr, append_assoc}
 use Rattle.std.proofs.lemmas.Bool.{cases_Bool, cond-false}
 use Rattle.std.specs.Option.{option_or}
 use Rattle.dn_line.specs.declared.line.Line.{Line}
@@ -9,13 +9,13 @@ use Rattle.dn_line.specs.declared.word.Word.{Word}
 use Rattle.dn_line.specs.declared.code.Code.{Code}
 use Rattle.dn_line.specs.declared.code.Code.TheVariants.{LateNode, TooManyLines}
 use Rattle.dn_line.specs.Words.{is_skip, first}
-use Rattle.dn_line.specs.Faults.{Test, first_fault, head_tests, field_tests, own_tests, fields}
+use Rattle.dn_line.specs.Faults.{Test, first_fault, head_tests, field_tests, fields}
 use Rattle.dn_line.specs.State.Spelling.{Slot, FitSlots, Spells, slots_of}
 use Rattle.dn_line.specs.Reading.{unless, spelled, words_read}
 use Rattle.dn_line.proofs.FaultLaws.{fault_append}
 use Rattle.dn_line.proofs.SpellingLaws.{faultless_spells}
-use Rattle.dn_instance.specs.Items.{problem_of, kind_known, counted, is_counted}
-use Rattle.dn_instance.specs.TextFaults.{order_tests, line_tests, item_tests, item_spelled, is_counted_letter, is_full, is_late_node, is_surplus}
+use Rattle.dn_instance.specs.Items.{kind_known, is_counted}
+use Rattle.dn_instance.specs.TextFaults.{order_tests, line_tests, item_tests, item_spelled, is_counted_letter, is_late_node, is_surplus}
 use Rattle.dn_instance.specs.State.RowRuns.{HasSigns}
 use Rattle.dn_instance.specs.Texts.{with_next}
 use Rattle.dn_instance.specs.State.TextsSoFar.{next_read, fault_next, MayFollow}
@@ -226,5 +226,7 @@ next_item before ws i h n =
 -- a fault up to the fields is the first fault of the line
 pub line_refused : (before : List Line) (ws : List Word) (c : Code) → next_read before ws ≡ Err c
     → fault_next before ws ≡ Some c
-line_refused before ws c h =
-    elim (cases_Bool (is_skip ws)) [ inl e ↦ cc (rw e at h) | inr e ↦ cond-false (is_skip ws) None _ e ∙ refused before ws e c h ]
+line_refused before ws c h = elim (cases_Bool (is_skip ws)) [
+  | inl e ↦ cc (rw e at h)
+  | inr e ↦ cond-false (is_skip ws) None _ e ∙ refused before ws e c h
+]

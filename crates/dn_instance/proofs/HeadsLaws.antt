@@ -1,18 +1,17 @@
 -- Lemmas on `n` lines: what the heads hold after them, and that other lines keep what the heads hold.
-use Rattle.std.proofs.Common.{◌≡◌, ℤ, List, [], ◌∷◌, ◌++◌, true, false, ◌||◌, not, Option, Some, None, is_some, IsSome, Result, Ok, Err, OnOk, OnErr, refl, sym, ap, ◌∙◌, subst, append-nil, take, inr, filter_map, pos, Bool, cond, ◌&&◌, arith, inl, int_cmp, int_eq, BTreeMap, BTreeSet}
+use Rattle.std.proofs.Common.{◌≡◌, ℤ, List, [], ◌∷◌, ◌++◌, true, false, ◌||◌, not, Option, Some, None, is_some, IsSome, Result, Ok, Err, OnOk, OnErr, refl, sym, ap, ◌∙◌, append-nil, take, inr, filter_map, pos, Bool, cond, ◌&&◌, inl, int_cmp, int_eq, BTreeMap, BTreeSet}
 use Rattle.dn_instance.proofs.CleanItems.{or_none}
 use Rattle.dn_instance.proofs.ValidLaws.{terminal_more, kept, grown}
-use Rattle.std.specs.List.{AllByRecursion, cons_option, list_any}
-use Rattle.std.specs.Option.{option_or}
+use Rattle.std.specs.List.{AllByRecursion, list_any}
 use Rattle.std.proofs.Math.Bool.{or-false, and-true, or_assoc}
 use Rattle.std.proofs.lemmas.List.Elements.{filter_map-append}
 use Rattle.std.proofs.lemmas.List.Folds.{list_any-append}
 use Rattle.std.proofs.lemmas.Result.{on_err_weaker, on_ok_weaker}
 use Rattle.dn_line.specs.Faults.{first_fault}
 use Rattle.dn_line.specs.State.Spelling.{kind_before}
-use Rattle.dn_line.specs.declared.code.Code.TheVariants.{NodeOutOfRange, RepeatedNode, SameTerminal}
+use Rattle.dn_line.specs.declared.code.Code.TheVariants.{NodeOutOfRange, RepeatedNode}
 use Rattle.dn_line.specs.declared.kind.Kind.{Kind}
-use Rattle.dn_line.specs.declared.kind.Kind.TheVariants.{Min, Max, Sp, Ss, P2p, Co}
+use Rattle.dn_line.specs.declared.kind.Kind.TheVariants.{Min, Max}
 use Rattle.dn_line.specs.declared.kind.Letter.{Letter}
 use Rattle.dn_line.specs.declared.kind.Letter.TheVariants.{S, T}
 use Rattle.dn_line.specs.declared.line.Line.{Line}
@@ -20,12 +19,12 @@ use Rattle.dn_line.specs.declared.line.Line.TheVariants as Item
 use Rattle.dn_line.specs.declared.row.Row.{Row}
 use Rattle.dn_line.specs.declared.row_block.RowLine.{RowLine}
 use Rattle.dn_arc.specs.Kinds.{capacities, costs, lengths, ArcKind}
-use Rattle.dn_instance.specs.Items.{arcs_of, by_key, cap_arc_in, cost_arc_in, is_counted, length_arc_in, point_in, problem_in, query_in, source_in, supplies_of, supply_in, terminal_in, terminal_of, Problem, problem_of}
-use Rattle.dn_instance.specs.TextFaults.{has_supply, is_companion, is_id, item_tests}
+use Rattle.dn_instance.specs.Items.{cap_arc_in, cost_arc_in, is_counted, length_arc_in, point_in, problem_in, query_in, source_in, supplies_of, supply_in, terminal_in, terminal_of}
+use Rattle.dn_instance.specs.TextFaults.{has_supply, is_companion, item_tests}
 use Rattle.dn_instance.specs.State.Bodies.{AnswersItem, TakesRow, TakesRows, TableHolds}
 use Rattle.dn_instance.specs.State.Drafts.{BodyHolds, ComesNext, DraftHolds, HeadsHold, TakesHead, any_body, body_kind, draft_of, draft_kind}
 use Rattle.dn_instance.specs.State.ItemFaults.{AnswersFault, in_graph, terminal_fault, supply_fault}
-use Rattle.dn_instance.specs.State.RowRuns.{HasSigns, line_of, row_items, supply_of}
+use Rattle.dn_instance.specs.State.RowRuns.{line_of, row_items, supply_of}
 use Rattle.dn_instance.specs.declared.any_body.AnyBody.{AnyBody}
 use Rattle.dn_instance.specs.declared.any_body.AnyBody.TheVariants as Bodies
 use Rattle.dn_instance.specs.declared.body.Taken.{Taken}
@@ -36,12 +35,9 @@ use Rattle.dn_instance.proofs.FirstFaults.{none_first}
 use Rattle.dn_table.proofs.GrownLaws.{none_is}
 use Rattle.dn_line.specs.declared.code.Code.{Code}
 use Rattle.std.proofs.lemmas.Bool.{cases_Bool}
-use Rattle.std.proofs.lemmas.Int.{ints}
-use Rattle.std.proofs.lemmas.Bool.Decides.{nat_tests}
 use Rattle.std.specs.BTreeMap as Map
 use Rattle.std.specs.BTreeSet as Set
 use Rattle.std.specs.BTreeMap.{is_at, insert_entry}
-use Rattle.std.specs.Map.{lookup}
 use Rattle.std.proofs.lemmas.Cmp.{int_eq_equiv}
 use Rattle.dn_instance.proofs.MapLaws.{sought_eq, by_key_push, lookup_put, some_cond}
 
@@ -204,18 +200,10 @@ draft_rows kind nodes d b rows r h before a =
       signs = a.signs;
       holds = (a.holds.0, a.holds.1.1);
     }) in
+    let items = take r.rows rows in
+    let heads = heads_kept d.heads before (row_items (line_of kind) items) (rows_no_head kind items) a.holds.1.0 in
     record {
-      joins = record {
-        faultless = t.joins.faultless;
-        holds = (
-          t.joins.holds.0,
-          (
-            heads_kept d.heads before (row_items (line_of kind) (take r.rows rows))
-                (rows_no_head kind (take r.rows rows)) a.holds.1.0,
-            t.joins.holds.1,
-          ),
-        );
-      };
+      joins = record { faultless = t.joins.faultless; holds = (t.joins.holds.0, (heads, t.joins.holds.1)) };
       stops = t.stops;
     }
 
@@ -278,7 +266,10 @@ module _ (d : Draft) (nodes : ℤ) (before : List Line) (i : Line) (r : Result (
       }) in (
         rw e at t.answer,
         on_ok_weaker r
-            (λ held. (heads_kept d.heads before (i ∷ []) (rw e at (row_no_head kind row), tt) at.holds.0, rw e at held.1))
+            (λ held. (
+              heads_kept d.heads before (i ∷ []) (rw e at (row_no_head kind row), tt) at.holds.0,
+              rw e at held.1,
+            ))
             t.holds,
       )
 
@@ -293,7 +284,7 @@ others_counted _ kind k s t = cc
 -- whether an ID has a node line, with one more node line
 named_push : (q id flow : ℤ) (before : List Line)
     → list_any (has_supply q) (before ++ Item.Supply id flow ∷ []) ≡ (list_any (has_supply q) before || int_eq id q)
-named_push q id flow before = rw (list_any-append (has_supply q) before (Item.Supply id flow ∷ []), or-false (int_eq id q))
+named_push q id flow before = rw (list_any-append (has_supply q) before (Item.Supply id flow ∷ []), or-false)
 
 flow_named : (s g c : Bool) → ((s || g) || c) ≡ ((g || c) || s)
 flow_named true true c = refl
@@ -319,7 +310,7 @@ module _ (id flow : ℤ) (before : List Line) (s s' : BTreeMap ℤ ℤ)
     | inr e ↦
         let more = rw e at put in
         let in_idle = rw (e, or-false) at kept in
-        rw (named_push q id flow before, ← was, more, in_idle, lookup_put q id flow s.entries, some_cond, sought_eq q id)
+        rw (named_push q id flow before, ← was, more, in_idle, lookup_put q id flow, some_cond, sought_eq q id)
         (flow_named (int_eq id q) (is_some (Map.get int_cmp s q)) (Set.contains int_cmp z q))
   ]
 

@@ -1,13 +1,10 @@
 -- Lemmas on the items that have been read and one more item.
-use Rattle.std.proofs.Common.{◌≡◌, ◌<◌, ℕ, ◌+◌, ℤ, pos, ◌+ℤ◌, ◌<ℤ◌, List, [], ◌∷◌, ◌++◌, length, filter, Bool, true, false, cond, not, ◌||◌, int_lt, Option, Some, None, is_some, IsSome, refl, sym, subst, ap, ◌∙◌, arith, ◌≤◌, ◌^◌, ◌-◌, FitsSigned, w64, suc, inl, inr, add-one, append-nil, length-append, option_map}
+use Rattle.std.proofs.Common.{◌≡◌, ◌<◌, ℕ, ◌+◌, ℤ, pos, ◌<ℤ◌, List, [], ◌∷◌, ◌++◌, filter, true, false, ◌||◌, int_lt, Option, Some, None, is_some, IsSome, refl, sym, ap, ◌∙◌, arith, ◌^◌, suc, add-one, append-nil, length-append, option_map}
 use Rattle.std.proofs.lemmas.List.Elements.{filter-append}
-use Rattle.std.proofs.lemmas.Bool.{cases_Bool, not-false, not-true}
-use Rattle.std.proofs.lemmas.Int.{ints, fits_signed_from_abs}
+use Rattle.std.proofs.lemmas.Bool.{not-false, not-true}
+use Rattle.std.proofs.lemmas.Int.{ints}
 use Rattle.std.proofs.lemmas.Bool.Decides.{nat_tests}
 use Rattle.std.proofs.lemmas.List.Folds.{list_any-append}
-use Rattle.std.proofs.Math.Bool.{or-false, or-true}
-use Rattle.std.proofs.Math.Nat.{min-eq_left}
-use Rattle.std.specs.Int.{saturate_signed}
 use Rattle.std.specs.List.{list_any}
 use Rattle.std.specs.Option.{option_or}
 use Rattle.dn_line.specs.declared.line.Line.{Line}
@@ -16,7 +13,7 @@ use Rattle.dn_line.specs.declared.kind.Kind.{Kind}
 use Rattle.dn_line.specs.declared.kind.Kind.TheVariants as Kinds
 use Rattle.dn_line.specs.State.Spelling.{kind_before, slots_of}
 use Rattle.dn_instance.specs.Items.{Problem, problem_of, problem_in, kind_known, counted, is_counted}
-use Rattle.dn_instance.specs.TextFaults.{is_arc, is_full, is_companion}
+use Rattle.dn_instance.specs.TextFaults.{is_arc, is_companion}
 use Rattle.dn_instance.specs.State.Drafts.{BodyHolds, body_kind, draft_kind, is_graph, ComesNext, DraftHolds}
 use Rattle.dn_instance.specs.State.RowRuns.{HasRoom}
 use Rattle.dn_instance.specs.State.TextsSoFar.{Awaits, HasRead, problem_as}
@@ -24,7 +21,6 @@ use Rattle.dn_instance.specs.declared.any_body.AnyBody.{AnyBody}
 use Rattle.dn_instance.specs.declared.any_body.AnyBody.TheVariants as Bodies
 use Rattle.dn_instance.specs.declared.draft.Draft.{Draft}
 use Rattle.dn_instance.specs.declared.text_so_far.TextSoFar.{TextSoFar}
-use Rattle.dn_instance.proofs.CleanItems.{problem_push}
 use Rattle.dn_instance.proofs.HeadsLaws.{held_problem}
 
 -- the draft is of the declared kind

@@ -1,8 +1,8 @@
 -- Lemmas on inserting entries by ascending key.
-use Rattle.std.proofs.Common.{arith, ◌≡◌, is_eq, suc, length, ℤ, List, [], ◌∷◌, ◌++◌, refl, sym, ap, ◌∙◌, subst, Bool, true, false, cond, ◌||◌, Option, Some, is_some, inl, inr, pos, not, ◌&&◌, int_lt, None, Result, OnOk, filter_map, append-nil, Vec, Global, Ok, Err, int_cmp, int_eq, BTreeMap}
+use Rattle.std.proofs.Common.{arith, ◌≡◌, is_eq, suc, length, ℤ, List, [], ◌∷◌, ◌++◌, refl, sym, ap, ◌∙◌, Bool, true, false, cond, ◌||◌, Option, Some, is_some, inl, inr, filter_map, int_cmp, int_eq}
 use Rattle.std.proofs.Math.Bool.{or-false}
 use Rattle.std.proofs.lemmas.Bool.{cases_Bool}
-use Rattle.std.specs.List.{AllByRecursion, fold, list_any, list_all}
+use Rattle.std.specs.List.{AllByRecursion, fold, list_any}
 use Rattle.std.specs.List.Sorted.{IsStrictlySortedBy}
 use Rattle.std.specs.Map.{keys_of, lookup}
 use Rattle.std.specs.Ordering.{int_cmp, match_ordering, ordering_reverse}
@@ -13,13 +13,13 @@ use Rattle.std.proofs.lemmas.Cmp.{int_cmp_total, int_eq_equiv}
 use Rattle.std.proofs.lemmas.Map.Lookups.{exact_signed}
 use Rattle.std.proofs.lemmas.List.Sums.{fold-append}
 use Rattle.dn_arc.proofs.PairLaws.{int_self, equal_is}
-use Rattle.dn_instance.specs.Items.{by_key, Problem, problem_of, arcs_of, source_in, query_in, point_in}
+use Rattle.dn_instance.specs.Items.{by_key, point_in}
 use Rattle.dn_instance.specs.Validity.{IsMap}
 use Rattle.std.proofs.lemmas.Int.{ints}
 use Rattle.std.proofs.lemmas.Bool.Decides.{nat_tests}
 use Rattle.dn_line.specs.declared.line.Line.{Line}
 use Rattle.dn_line.specs.declared.line.Line.TheVariants as Item
-use Rattle.dn_instance.specs.TextFaults.{is_companion, is_in_range, item_tests, has_point}
+use Rattle.dn_instance.specs.TextFaults.{has_point}
 
 -- what follows from a property of each element holds of each element
 pub all_mono : {Y : Type 0} (P Q : Y → Type 0) → ((y : Y) → P y → Q y) → (ys : List Y) → AllByRecursion P ys

@@ -1,5 +1,5 @@
 -- Lemmas on the complete lines of a text when a piece is appended.
-use Rattle.std.proofs.Common.{◌≡◌, ℕ, suc, ◌+◌, ◌-◌, ◌≤◌, List, [], ◌∷◌, ◌++◌, length, length-append, take, drop, take-append-drop, Bool, true, false, cond, not, ◌&&◌, refl, sym, ap, ◌∙◌, append-nil, append_assoc, arith, inl, inr, add-zero, take-add, take_all}
+use Rattle.std.proofs.Common.{◌≡◌, ℕ, ◌+◌, ◌-◌, List, [], ◌∷◌, ◌++◌, length, length-append, take, drop, take-append-drop, Bool, true, false, cond, not, ◌&&◌, refl, sym, ap, ◌∙◌, append-nil, append_assoc, arith, inl, inr, add-zero, take-add, take_all}
 use Rattle.std.proofs.lemmas.Bool.{ltb-true, cases_Bool}
 use Rattle.std.proofs.lemmas.List.{length-drop}
 use Rattle.std.specs.List.{position_or_len, before_first, list_all}

@@ -1,5 +1,5 @@
 -- Lemmas on what a reader has read, and on a reader that takes rows at the beginning of a piece.
-use Rattle.std.proofs.Common.{◌≡◌, ℕ, ◌+◌, ◌≤◌, List, [], ◌∷◌, ◌++◌, length, take, drop, Option, Some, None, Ok, Err, Result, MatchOption, ◌⊎◌, inl, inr, refl, sym, ap, ◌∙◌, subst, arith, length-append, append-nil, append_assoc, pos, option_and_then, take_all, true, IfOk, take-add}
+use Rattle.std.proofs.Common.{◌≡◌, ℕ, ◌+◌, ◌≤◌, List, [], ◌∷◌, ◌++◌, length, take, drop, Option, Some, None, Ok, Err, Result, MatchOption, inl, inr, refl, sym, ap, ◌∙◌, subst, arith, length-append, append-nil, append_assoc, pos, take_all, true, IfOk, take-add}
 use Rattle.std.proofs.Math.Seq.{take-append_seam}
 use Rattle.std.proofs.lemmas.List.{take-append-le}
 use Rattle.dn_line.specs.declared.code.Code.{Code}
@@ -10,14 +10,14 @@ use Rattle.dn_instance.specs.declared.refusal.ItemFault.TheVariants as Faults
 use Rattle.dn_instance.specs.declared.refusal.Place.TheVariants as Places
 use Rattle.dn_instance.specs.declared.reader.Reader.{Reader}
 use Rattle.dn_instance.specs.declared.refusal.Refusal.{Refusal}
-use Rattle.dn_instance.specs.declared.refusal.Refusal.TheVariants.{Text, Memory, Read, Endless, Write, CountTooLarge}
+use Rattle.dn_instance.specs.declared.refusal.Refusal.TheVariants.{Text, Memory}
 use Rattle.dn_instance.specs.State.ItemFaults.{AnswersFault}
 use Rattle.dn_instance.specs.Readers.{SpellsNeed, ended}
 use Rattle.dn_instance.specs.State.ReaderResults.{lines_taken, IsNext, EntriesBefore, IsRefused, Fed, Outcome, answer_of}
 use Rattle.dn_instance.specs.State.ReaderStates.{StopsIn, Takes, TakesAll, IsReading, ReaderAt, Advances, HasOpen, Steps, open_of}
 use Rattle.dn_instance.specs.State.LineRefusals.{refused_at}
 use Rattle.dn_instance.specs.TextFaults.{line_fault}
-use Rattle.dn_instance.specs.Texts.{items_of, FaultAt, IsClean, IsFirstFaultAt}
+use Rattle.dn_instance.specs.Texts.{items_of, IsClean, IsFirstFaultAt}
 use Rattle.dn_instance.specs.State.TextsSoFar.{TextAt, AreInner, IsRefusedFront, ReadsFront, RefusesFront, closed_lines}
 use Rattle.dn_instance.proofs.FirstFaults.{first_on}
 use Rattle.dn_instance.proofs.CleanItems.{split, clean_more}
@@ -25,7 +25,6 @@ use Rattle.dn_instance.proofs.PieceSteps.{More, ended_more, lines_more, rest_of,
 use Rattle.dn_instance.proofs.SizeLaws.{problem_sized}
 use Rattle.dn_instance.specs.State.Ends.{EndsWith}
 use Rattle.dn_instance.specs.EntryCount.{entries_so_far}
-use Rattle.dn_instance.specs.Items.{Problem, instance_as}
 use Rattle.dn_instance.specs.declared.held.Held.{Held}
 use Rattle.dn_instance.specs.declared.text_so_far.TextSoFar.{TextSoFar}
 use Rattle.std.specs.List.{list_all}
@@ -40,9 +39,11 @@ fault_first ls l number code clean n f = record {
   at = record { before = ls; line = l; after = []; lines_are = refl; number_is = n; fault_is = rw n f };
   first = λ other fault g. elim (split ls g.before g.after l g.line g.lines_are) [
     | inl e ↦ omega (arith, ap length e.0, g.number_is)
-    | inr e ↦
-        absurd (clean other fault (record
-        { before = g.before; line = g.line; after = e.0; lines_are = e.1; number_is = g.number_is; fault_is = g.fault_is }))
+    | inr (a, e) ↦
+        absurd
+        (clean other fault
+        (record
+        { before = g.before; line = g.line; after = a; lines_are = e; number_is = g.number_is; fault_is = g.fault_is }))
   ];
 }
 

@@ -1,5 +1,5 @@
 -- Lemmas on the lines of rows that are taken one after another.
-use Rattle.std.proofs.Common.{◌≡◌, ◌<◌, ◌≤◌, ◌+◌, ◌-◌, ◌^◌, ℕ, zero, suc, pos, List, [], ◌∷◌, ◌++◌, length, map, take, drop, Bool, true, false, cond, ◌&&◌, Option, Some, None, Ok, Err, refl, sym, subst, ap, ◌∙◌, arith, append-nil, append_assoc, length-append, inl, inr, option_map, length-take-le}
+use Rattle.std.proofs.Common.{◌≡◌, ◌<◌, ◌≤◌, ◌+◌, ◌-◌, ◌^◌, ℕ, zero, suc, pos, List, [], ◌∷◌, ◌++◌, length, map, take, drop, true, false, ◌&&◌, Option, Some, None, Ok, Err, refl, sym, ap, ◌∙◌, arith, append-nil, append_assoc, length-append, inl, inr, length-take-le}
 use Rattle.std.proofs.Math.Nat.{add-sub_cancel}
 use Rattle.std.proofs.lemmas.Bool.{cases_Bool}
 use Rattle.std.specs.List.{AllByRecursion, list_any}
@@ -8,11 +8,10 @@ use Rattle.dn_line.specs.Faults.{first_fault}
 use Rattle.dn_line.specs.LineTable.{row}
 use Rattle.dn_line.specs.Reading.{item}
 use Rattle.dn_line.specs.State.Numbers.{number_word}
-use Rattle.dn_line.specs.State.LineReads.{fields_read, head_of, head_read}
+use Rattle.dn_line.specs.State.LineReads.{head_of, head_read}
 use Rattle.dn_line.specs.State.RowBlocks.{IsRowLine, ReadUpTo, last_left}
 use Rattle.dn_line.specs.State.Rows.{FieldsFit, letter_byte, numbers_of}
 use Rattle.dn_line.specs.Words.{is_skip, said_words}
-use Rattle.dn_line.specs.declared.code.Code.TheVariants.{LateNode, TooManyLines}
 use Rattle.dn_line.specs.declared.kind.Kind.{Kind}
 use Rattle.dn_line.specs.declared.kind.Kind.TheVariants.{Min, Max, Sp, Ss, P2p, Co}
 use Rattle.dn_line.specs.declared.line.Head.TheVariants as Heads
@@ -27,12 +26,11 @@ use Rattle.dn_line.specs.declared.word.Word.{Word}
 use Rattle.dn_line.proofs.RowLaws.{ReadsAs, row_item}
 use Rattle.dn_instance.specs.Items.{Problem, counted, kind_known, problem_of}
 use Rattle.dn_instance.specs.State.Bodies.{StopsAt}
-use Rattle.dn_instance.specs.State.ItemFaults.{AnswersFault}
 use Rattle.dn_instance.specs.declared.body.Taken.{Taken}
 use Rattle.dn_instance.specs.declared.refusal.ItemFault.{ItemFault}
 use Rattle.dn_instance.specs.State.RowRuns.{AreFaultless, AreInTime, HasSigns, IsInTime, line_of, row_items, supply_of}
 use Rattle.dn_instance.specs.State.TextsSoFar.{AreInner, HasRead, ReadsFront, RefusesFront, TextAt, closed_lines, next_read}
-use Rattle.dn_instance.specs.TextFaults.{is_arc, is_counted_letter, is_full, is_node_letter, item_tests, order_tests}
+use Rattle.dn_instance.specs.TextFaults.{is_arc, is_counted_letter, is_full, is_node_letter, item_tests}
 use Rattle.dn_instance.specs.Texts.{IsClean, items_of, with_next}
 use Rattle.dn_instance.specs.declared.text_so_far.Front.{Front}
 use Rattle.dn_instance.specs.declared.text_so_far.TextSoFar.{TextSoFar}
@@ -152,7 +150,8 @@ module _ (kind : Kind) (before : List Line) (p : Problem) (problem : problem_of 
   reads_item : IsInTime before i → next_read before ws ≡ Ok i
   reads_item t =
       let p = r.is.in_order_after before t in
-      sym (then_fields before ws _ (ap (λ k. head_read k ws) known ∙ r.reads.head) (rw (counts, r.reads.letter, p.early, p.room)))
+      let head = ap (λ k. head_read k ws) known ∙ r.reads.head in
+      sym (then_fields before ws _ head (rw (counts, r.reads.letter, p.early, p.room)))
       ∙ rw known r.reads.fields
 
 -- the bytes begin with the lines of these rows, and these lines have no fault after the earlier lines
@@ -235,7 +234,7 @@ module _ (kind : Kind) (byte : ℕ) (line : Row → Line) (rows_spell : SpellsRo
       record {
         more = l ∷ more.more;
         whole =
-            rw (append_assoc (l ++ 10 ∷ []) (closed_lines more.more) rest, append_assoc l (10 ∷ []), more.whole) b.whole;
+            rw (append_assoc (l ++ 10 ∷ []) (closed_lines more.more) rest, append_assoc l, more.whole) b.whole;
         inner = (b.inner, more.inner);
         clean = rw joined more.clean;
         items = rw (joined, more.items, items) (append_assoc (items_of ls) (i ∷ []) (row_items line rows));

@@ -1,26 +1,23 @@
 -- Lemmas on rows that are taken one after another.
-use Rattle.std.proofs.Common.{◌≡◌, ◌<◌, ◌≤◌, ◌+◌, ◌-◌, ◌^◌, ◌+ℤ◌, ◌-ℤ◌, negsuc, FitsSigned, w64, ℕ, zero, suc, ℤ, pos, ◌≤ℤ◌, ◌<ℤ◌, List, [], ◌∷◌, ◌++◌, length, take, drop, get_or, filter, true, false, cond, not, ◌||◌, int_lt, Option, Some, None, refl, sym, subst, ap, ◌∙◌, arith, append-nil, append_assoc, length-append, add-one, add-zero, MatchOption, option_map, take-suc, Result, Ok, Err, OnErr, inl, inr}
+use Rattle.std.proofs.Common.{◌≡◌, ◌<◌, ◌≤◌, ◌+◌, ◌^◌, ◌+ℤ◌, ◌-ℤ◌, negsuc, FitsSigned, w64, ℕ, zero, suc, ℤ, pos, ◌≤ℤ◌, ◌<ℤ◌, List, [], ◌∷◌, ◌++◌, length, take, drop, get_or, filter, true, false, not, int_lt, Option, Some, None, refl, subst, ap, arith, append-nil, append_assoc, add-one, add-zero, MatchOption, take-suc, Result, Ok, Err, OnErr, inl, inr}
 use Rattle.std.specs.List.{AllByRecursion, list_any}
-use Rattle.std.specs.Option.{option_or}
-use Rattle.std.proofs.Math.Bool.{or-false, or-true}
 use Rattle.std.specs.Int.{saturate_signed}
 use Rattle.std.proofs.Math.Nat.{min-eq_left}
-use Rattle.std.proofs.lemmas.Bool.{not-true, cases_eq}
+use Rattle.std.proofs.lemmas.Bool.{cases_eq}
 use Rattle.std.proofs.lemmas.Bool.Decides.{nat_tests}
 use Rattle.std.proofs.lemmas.Int.{ints, fits_signed_from_abs}
 use Rattle.std.proofs.lemmas.List.{map-append}
-use Rattle.std.proofs.lemmas.List.Elements.{filter-append}
 use Rattle.std.proofs.lemmas.List.Folds.{list_any-append}
 use Rattle.dn_line.specs.Faults.{first_fault}
 use Rattle.dn_line.specs.declared.kind.Kind.{Kind}
-use Rattle.dn_line.specs.declared.kind.Kind.TheVariants.{Min, Max, Sp, Ss, P2p, Co}
+use Rattle.dn_line.specs.declared.kind.Kind.TheVariants.{Min, Max, Sp}
 use Rattle.dn_line.specs.declared.line.Line.{Line}
 use Rattle.dn_line.specs.declared.row.Row.{Row}
 use Rattle.dn_line.specs.declared.row_block.RowLine.{RowLine}
 use Rattle.dn_instance.specs.State.RowRuns.{AreFaultless, AreInTime, HasSigns, IsInTime, Joins, line_of, row_items, supply_of}
-use Rattle.dn_instance.specs.State.Drafts.{DraftHolds, draft_kind, is_graph}
-use Rattle.dn_instance.specs.Items.{Problem, counted, is_counted, problem_in, problem_of}
-use Rattle.dn_instance.specs.State.TextsSoFar.{HasRead, problem_as}
+use Rattle.dn_instance.specs.State.Drafts.{DraftHolds, draft_kind}
+use Rattle.dn_instance.specs.Items.{Problem, counted, is_counted, problem_of}
+use Rattle.dn_instance.specs.State.TextsSoFar.{HasRead}
 use Rattle.dn_instance.specs.TextFaults.{is_arc, is_companion, is_full, item_tests}
 use Rattle.dn_instance.specs.declared.draft.Draft.{Draft}
 use Rattle.dn_instance.specs.declared.text_so_far.TextSoFar.{TextSoFar}
@@ -86,7 +83,9 @@ come_in_time kind (r ∷ rows) before p h m =
     let i = line_of kind r.row in (
       counted_in_time kind before r (rw h (below (counted before) (length rows) p.count (m (omega arith)))),
       come_in_time kind rows (before ++ i ∷ []) p (problem_all before (i ∷ []) p h)
-          (λ _. rw (counted_yes before i (one_counted kind r)) (shift (counted before) (length rows) p.count (m (omega arith)))),
+          (λ _.
+          rw (counted_yes before i (one_counted kind r))
+          (shift (counted before) (length rows) p.count (m (omega arith)))),
     )
   where
     below : (k n : ℕ) (m : ℤ) → pos (k + suc n) ≤ℤ m → not (int_lt (pos k) m) ≡ false

@@ -1,8 +1,7 @@
 -- Lemmas that a text without a fault has as many counted lines as arcs, items or points.
-use Rattle.std.proofs.Common.{◌≡◌, ℕ, suc, ◌+◌, ◌*◌, ◌≤◌, ◌<◌, ◌^◌, ℤ, pos, List, [], ◌∷◌, ◌++◌, length, length-append, filter_map, Option, Some, None, true, false, refl, sym, ap, ◌∙◌, subst, arith, option_map}
+use Rattle.std.proofs.Common.{◌≡◌, ℕ, suc, ◌*◌, ◌≤◌, ◌<◌, ◌^◌, ℤ, pos, List, [], ◌∷◌, ◌++◌, length, length-append, filter_map, Option, Some, None, true, false, refl, sym, ap, ◌∙◌, arith, option_map}
 use Rattle.dn_instance.specs.TextFaults.{ids_in, is_in_range}
 use Rattle.std.specs.List.{list_all}
-use Rattle.std.specs.Option.{option_or}
 use Rattle.dn_line.specs.declared.kind.Kind.{Kind}
 use Rattle.dn_line.specs.declared.kind.Kind.TheVariants as Kinds
 use Rattle.dn_line.specs.declared.line.Line.{Line}
@@ -15,7 +14,7 @@ use Rattle.dn_table.proofs.EntryLaws.{graph_few, costs_few, capacities_few, leng
 use Rattle.dn_instance.specs.Items.{Problem, problem_in, problem_of, arcs_of, length_arc_in, cap_arc_in, cost_arc_in, by_key, source_in, query_in, point_in, counted, is_counted, instance_as, max_flow, graph_of, terminal_of}
 use Rattle.dn_line.specs.declared.kind.Letter.TheVariants.{S, T}
 use Rattle.dn_instance.specs.Texts.{items_of, IsClean}
-use Rattle.dn_instance.proofs.CleanItems.{IsNext, by_items, problem_push}
+use Rattle.dn_instance.proofs.CleanItems.{IsNext}
 use Rattle.dn_instance.proofs.MapLaws.{points_named, by_key_push, found_by_key, one_more_key}
 use Rattle.dn_instance.proofs.ItemSteps.{counted_yes, counted_no}
 use Rattle.dn_instance.proofs.ValidLaws.{kept, grown, OnSlots, some_is, ForProblem, by_problem}

@@ -1,8 +1,7 @@
-use Rattle.std.proofs.Common.{◌≡◌, ◌≤◌, ◌^◌, [], ◌++◌, take, length, ◌∙◌, Err, refl, sym, ap, subst, rules, arith, append-nil, length-append, false}
+use Rattle.std.proofs.Common.{◌≤◌, ◌^◌, [], ◌++◌, take, length, ◌∙◌, Err, refl, sym, ap, rules, arith, append-nil, length-append}
 use Rattle.std.proofs.KnownBytes.{Consumes-nil}
 use Rattle.dn_instance.specs.SourceReads.{after_pulls, unpulled, pulled}
-use Rattle.dn_instance.specs.State.ReaderResults.{Outcome}
-use Rattle.dn_instance.specs.declared.refusal.Refusal.TheVariants.{Endless, Read}
+use Rattle.dn_instance.specs.declared.refusal.Refusal.TheVariants.{Endless}
 use Rattle.dn_instance.proofs.SourceLaws.{endless, finished, given_all, given_more, has_none, has_some, kept, kept_more, left_here, left_on, not_refused, refused, refused_unread}
 use Rattle.dn_instance.proofs.read.read_all.Goals as goal
 

@@ -4,7 +4,6 @@ use Rattle.dn_arc.specs.Kinds.{capacities, costs, lengths}
 use Rattle.dn_arc.specs.declared.arc.Form.TheVariants.{One}
 use Rattle.dn_bundle.specs.State.Listings.{curve_arcs, least_arcs, total_arcs}
 use Rattle.dn_instance.specs.Items.{cap_arc_in, cost_arc_in, length_arc_in}
-use Rattle.dn_instance.specs.State.Drafts.{max_body, min_body, sp_body}
 use Rattle.dn_instance.proofs.BodyLaws.{min_part, max_part, sp_part, ids_part, pairs_part, points_part, counted_by, table_counted}
 use Rattle.dn_instance.proofs.any_body.AnyBody.entries.Goals as goal
 

@@ -1,4 +1,4 @@
-use Rattle.std.proofs.Common.{◌<◌, ◌≤◌, subst, arith, MatchOption}
+use Rattle.std.proofs.Common.{◌<◌, arith}
 use Rattle.dn_instance.specs.State.Drafts.{any_body}
 use Rattle.dn_instance.specs.State.RowRuns.{line_of}
 use Rattle.dn_instance.proofs.RowRunLaws.{one_refused, one_taken}

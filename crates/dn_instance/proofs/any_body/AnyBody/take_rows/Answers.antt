@@ -1,5 +1,3 @@
-use Rattle.std.proofs.Common.{refl}
-use Rattle.dn_instance.specs.State.Drafts.{max_body, min_body, sp_body}
 use Rattle.dn_instance.proofs.BodyLaws.{min_part, max_part, sp_part, ids_part, pairs_part, points_part, rows_kept, rows_taken}
 use Rattle.dn_instance.proofs.any_body.AnyBody.take_rows.Goals as goal
 

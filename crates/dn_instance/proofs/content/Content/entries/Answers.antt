@@ -1,5 +1,4 @@
-use Rattle.std.proofs.Common.{◌∙◌, subst}
-use Rattle.dn_instance.specs.State.Helds.{Shows, contents_of}
+use Rattle.std.proofs.Common.{◌∙◌}
 use Rattle.dn_instance.proofs.EntryLaws.{min_entries, max_entries, sp_entries, ss_entries, p2p_entries, co_entries}
 use Rattle.dn_instance.proofs.content.Content.entries.Goals as goal
 

@@ -1,5 +1,4 @@
-use Rattle.std.proofs.Common.{rules, Some, Ok, refl, subst, FitsSigned, w64, to_z-of_z}
-use Rattle.dn_line.specs.declared.kind.Kind.TheVariants as Kinds
+use Rattle.std.proofs.Common.{rules, refl, FitsSigned, w64, to_z-of_z}
 use Rattle.dn_arc.specs.Kinds.{lengths, costs}
 use Rattle.dn_arc.specs.State.CurveListed.{listed}
 use Rattle.dn_arc.specs.State.Curves.{CurveNumbers}
@@ -7,9 +6,6 @@ use Rattle.dn_arc.specs.State.SingleArcs.{length_listed}
 use Rattle.dn_arc.specs.declared.arc.Form.TheVariants.{One}
 use Rattle.dn_bundle.specs.declared.least.Least.{Least}
 use Rattle.dn_instance.specs.Items.{arcs_of, cost_arc_in, length_arc_in}
-use Rattle.dn_instance.specs.State.Drafts.{BodyHolds}
-use Rattle.dn_instance.specs.State.Ends.{Makes}
-use Rattle.dn_instance.specs.declared.content.Content.TheVariants as Kept
 use Rattle.dn_instance.proofs.EndLaws.{both_named}
 use Rattle.dn_table.proofs.GrownLaws.{stands_as}
 use Rattle.dn_instance.proofs.draft.Draft.end.Goals as goal

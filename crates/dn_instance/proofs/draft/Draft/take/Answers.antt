@@ -1,7 +1,6 @@
-use Rattle.std.proofs.Common.{List, rules, w64, sym, subst, inr, FitsSigned}
+use Rattle.std.proofs.Common.{List, rules, w64, inr, FitsSigned}
 use Rattle.std.proofs.lemmas.Int.{to_z-of_z}
 use Rattle.std.proofs.lemmas.Result.{on_err_weaker}
-use Rattle.dn_instance.specs.Readers.{NeedsMemory}
 use Rattle.dn_instance.proofs.HeadsLaws.{draft_row, others_counted, supply_next, terminal_next}
 use Rattle.dn_line.specs.declared.line.Line.{Line}
 use Rattle.dn_instance.specs.State.Drafts.{ComesNext}

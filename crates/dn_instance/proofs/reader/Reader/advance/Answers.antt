@@ -1,7 +1,5 @@
-use Rattle.std.proofs.Common.{◌≡◌, ◌++◌, append-nil, arith, sym, ap, ◌∙◌, subst, take, false}
+use Rattle.std.proofs.Common.{◌≡◌, append-nil, arith, sym, ◌∙◌}
 use Rattle.dn_instance.specs.Readers.{ended}
-use Rattle.dn_instance.specs.State.ReaderStates.{IsReading}
-use Rattle.dn_instance.specs.State.TextsSoFar.{ReadsFront, TextAt}
 use Rattle.dn_instance.specs.declared.reader.Reader.{Reader}
 use Rattle.dn_instance.proofs.ReaderLaws.{front_refused, to_steps, with_rows}
 use Rattle.dn_instance.proofs.PieceSteps.{none_open}

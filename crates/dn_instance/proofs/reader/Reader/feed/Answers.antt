@@ -1,8 +1,7 @@
-use Rattle.std.proofs.Common.{◌≡◌, append-nil, [], Some, ℕ, ◌≤◌, List, ◌++◌, length, take, sym, ◌∙◌, subst, arith, take_all, false}
+use Rattle.std.proofs.Common.{◌≡◌, append-nil, [], Some, ℕ, ◌≤◌, List, ◌++◌, length, take, sym, ◌∙◌, arith, take_all}
 use Rattle.dn_instance.specs.Readers.{ended}
 use Rattle.dn_instance.specs.State.ReaderResults.{IsRefused, lines_taken}
 use Rattle.dn_instance.specs.State.ReaderStates.{StopsIn, IsReading}
-use Rattle.dn_instance.specs.Texts.{IsClean}
 use Rattle.dn_instance.specs.declared.refusal.Refusal.{Refusal}
 use Rattle.dn_instance.specs.declared.refusal.Refusal.TheVariants.{Memory}
 use Rattle.dn_instance.proofs.PieceSteps.{ended_more, rest_of, rest_len, step_on}

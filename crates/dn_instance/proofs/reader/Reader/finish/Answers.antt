@@ -1,4 +1,4 @@
-use Rattle.std.proofs.Common.{◌≡◌, ◌&&◌, not, false, ℕ, List, Ok, Err, length, subst, sym, ◌∙◌}
+use Rattle.std.proofs.Common.{◌≡◌, ◌&&◌, not, false, ℕ, List, Ok, Err, length, sym, ◌∙◌}
 use Rattle.dn_line.specs.Pieces.{has_bytes, lines}
 use Rattle.dn_instance.specs.Readers.{ended}
 use Rattle.dn_instance.specs.State.ReaderStates.{IsReading}

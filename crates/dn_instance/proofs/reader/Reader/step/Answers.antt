@@ -1,10 +1,7 @@
-use Rattle.std.proofs.Common.{arith, ◌≡◌, ◌≤◌, ℕ, List, ◌++◌, length, take, true, false, sym, ◌∙◌, subst}
-use Rattle.dn_line.specs.State.LineStates.{LineReaderAt, has_end, used_of, line_of}
+use Rattle.std.proofs.Common.{arith, ◌≡◌, ℕ, List, ◌++◌, take, true, false, sym, ◌∙◌}
+use Rattle.dn_line.specs.State.LineStates.{has_end, used_of, line_of}
 use Rattle.dn_line.proofs.LineReaderLaws.{open_of_line, step_follows}
 use Rattle.dn_instance.specs.Readers.{ended}
-use Rattle.dn_instance.specs.State.ReaderResults.{IsRefused}
-use Rattle.dn_instance.specs.State.ReaderStates.{StopsIn}
-use Rattle.dn_instance.specs.State.TextsSoFar.{TextAt}
 use Rattle.dn_instance.proofs.PieceSteps.{ended_then, goes_on}
 use Rattle.dn_instance.proofs.reader.Reader.step.Goals as goal
 use Rattle.dn_line.proofs.LineEndLaws.{used_within}

@@ -1,4 +1,4 @@
-use Rattle.std.proofs.Common.{rules, FitsSigned, w64, to_z-of_z, false}
+use Rattle.std.proofs.Common.{rules, FitsSigned, w64, to_z-of_z}
 use Rattle.dn_instance.specs.Texts.{items_of}
 use Rattle.dn_instance.proofs.EndLaws.{ends_whole, ends_early, ends_lacking}
 use Rattle.dn_instance.proofs.text_so_far.TextSoFar.end.Goals as goal

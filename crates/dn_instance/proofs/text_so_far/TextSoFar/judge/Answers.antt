@@ -1,10 +1,6 @@
-use Rattle.std.proofs.Common.{rules, Some, Ok, OnOk, w64, FitsSigned, to_z-of_z, sym, ap, ◌∙◌, subst}
-use Rattle.dn_line.specs.Faults.{first_fault}
+use Rattle.std.proofs.Common.{rules, Ok, w64, FitsSigned, to_z-of_z, sym, ap, ◌∙◌}
 use Rattle.dn_line.specs.Words.{said_words}
 use Rattle.dn_instance.specs.Items.{problem_in}
-use Rattle.dn_instance.specs.State.ItemFaults.{AnswersFault}
-use Rattle.dn_instance.specs.State.TextsSoFar.{HasRead}
-use Rattle.dn_instance.specs.TextFaults.{item_tests}
 use Rattle.dn_instance.proofs.CleanItems.{skip_adds_none}
 use Rattle.dn_instance.proofs.FollowLaws.{skip_only, skip_faultless, next_item, line_refused}
 use Rattle.dn_instance.proofs.ItemSteps.{no_problem}

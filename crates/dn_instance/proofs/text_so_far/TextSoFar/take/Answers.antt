@@ -1,11 +1,6 @@
-use Rattle.std.proofs.Common.{◌+◌, rules, ◌≡◌, ◌<◌, ◌^◌, pos, ◌+ℤ◌, ◌++◌, ◌∷◌, [], Some, OnOk, OnErr, FitsSigned, suc, to_z, of_z, to_z-of_z, w64, sym, ap, ◌∙◌, subst, option_map, add-zero, false}
+use Rattle.std.proofs.Common.{◌+◌, rules, ◌≡◌, pos, ◌+ℤ◌, FitsSigned, to_z-of_z, w64, sym, ap, ◌∙◌, add-zero}
 use Rattle.std.specs.Int.{saturate_signed}
-use Rattle.dn_line.specs.Faults.{first_fault}
 use Rattle.dn_instance.specs.Items.{counted}
-use Rattle.dn_instance.specs.TextFaults.{item_tests}
-use Rattle.dn_instance.specs.State.Drafts.{DraftHolds, is_graph}
-use Rattle.dn_instance.specs.State.ItemFaults.{AnswersFault}
-use Rattle.dn_instance.specs.State.TextsSoFar.{problem_as}
 use Rattle.dn_instance.proofs.RowRunLaws.{sum_fits, sum_taken}
 use Rattle.dn_instance.proofs.ItemSteps.{comes_next, has_room, is_then, next_few}
 use Rattle.dn_instance.proofs.text_so_far.TextSoFar.take.Goals as goal

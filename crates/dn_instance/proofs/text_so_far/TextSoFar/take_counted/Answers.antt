@@ -1,7 +1,6 @@
-use Rattle.std.proofs.Common.{rules, ◌≡◌, ◌<◌, ◌+◌, ◌-◌, ◌^◌, ◌≤◌, ◌≤ℤ◌, ◌+ℤ◌, ◌-ℤ◌, pos, List, get_or, length, take, w64, FitsSigned, to_z, of_z, to_z-of_z, refl, sym, ap, ◌∙◌, subst, arith, length-take-le}
+use Rattle.std.proofs.Common.{rules, ◌≡◌, ◌<◌, ◌+◌, ◌-◌, ◌^◌, ◌≤◌, ◌+ℤ◌, ◌-ℤ◌, pos, List, get_or, length, take, w64, FitsSigned, to_z, of_z, to_z-of_z, refl, sym, ap, ◌∙◌, arith, length-take-le}
 use Rattle.std.specs.Int.{saturate_signed}
 use Rattle.std.proofs.lemmas.Int.{ints, to_z_pos}
-use Rattle.dn_line.specs.State.RowBlocks.{ReadUpTo}
 use Rattle.dn_line.specs.declared.row_block.RowLine.{RowLine}
 use Rattle.dn_instance.specs.Items.{Problem, counted}
 use Rattle.dn_instance.specs.State.RowRuns.{line_of}

@@ -1,9 +1,7 @@
-use Rattle.std.proofs.Common.{◌≡◌, ◌+◌, suc, length, false, OnOk, OnErr, None, arith, sym, ◌∙◌, subst}
+use Rattle.std.proofs.Common.{◌≡◌, ◌+◌, length, false, arith, ◌∙◌}
 use Rattle.dn_line.specs.Words.{said_words}
-use Rattle.dn_instance.specs.State.ItemFaults.{AnswersFault}
-use Rattle.dn_instance.specs.TextFaults.{is_too_long, line_fault}
-use Rattle.dn_instance.specs.Texts.{items_of, with_next}
-use Rattle.dn_instance.specs.State.TextsSoFar.{HasRead, fault_next}
+use Rattle.dn_instance.specs.TextFaults.{is_too_long}
+use Rattle.dn_instance.specs.Texts.{items_of}
 use Rattle.dn_instance.proofs.ItemSteps.{with_lines}
 use Rattle.dn_instance.proofs.CleanItems.{fault_is_next, too_long, is_late, in_time, few_more, read_more}
 use Rattle.dn_instance.proofs.text_so_far.TextSoFar.take_line.Goals as goal
