@@ -1,85 +1,152 @@
--- Lemmas on taking one row into a body.
-use Rattle.std.proofs.Common.{◌≡◌, ℤ, List, [], ◌∷◌, ◌++◌, Bool, true, false, cond, not, int_lt, ◌&&◌, IsTrue, ◌↔◌, Option, Some, None, Result, Ok, Err, OnOk, OnErr, refl, sym, ap, ◌∙◌, subst, Vec, Global}
-use Rattle.std.proofs.lemmas.Result.{on_err_weaker}
-use Rattle.std.specs.BTreeMap.{BTreeMap, is_at, insert_entry}
+-- Lemmas on taking one row into a body, and on a body of one kind as a body of any kind.
+use Rattle.std.proofs.Common.{◌≡◌, ℤ, List, [], ◌∷◌, ◌++◌, Bool, true, not, int_lt, ◌&&◌, IsTrue, ◌↔◌, Option, Some, Result, Err, OnOk, OnErr, refl, sym, ap, ◌∙◌, subst, Vec, Global, BTreeMap, is_some, int_cmp, ◌^◌, pos, arith, inl, inr, ◌<◌, filter_map, length-append, ℕ}
+use Rattle.std.proofs.lemmas.Result.{on_err_weaker, on_ok_weaker}
+use Rattle.std.specs.BTreeMap.{is_at, insert_entry}
 use Rattle.std.specs.Map.{lookup}
-use Rattle.std.specs.Option.{is_some}
-use Rattle.std.specs.Ordering.{int_cmp}
-use Rattle.dn_line.specs.declared.code.Code.TheVariants.{NodeOutOfRange, LowAboveCap, SumTooLarge}
+use Rattle.dn_line.specs.declared.code.Code.TheVariants.{NodeOutOfRange, LowAboveCap, RepeatedNode}
 use Rattle.dn_line.specs.declared.kind.Kind.{Kind}
 use Rattle.dn_line.specs.declared.kind.Kind.TheVariants as Kinds
 use Rattle.dn_line.specs.declared.line.Line.{Line}
 use Rattle.dn_line.specs.declared.row.Row.{Row}
-use Rattle.dn_arc.specs.Kinds.{lengths, capacities, costs}
+use Rattle.dn_arc.specs.Kinds.{lengths, capacities, costs, ArcKind}
 use Rattle.dn_arc.specs.State.Bundles.{BundleFacts, meant}
-use Rattle.dn_table.specs.State.Tables.{AreArcs, GraphNeedsMore, TableLists}
-use Rattle.dn_instance.specs.Items.{arcs_of, length_arc_in, cap_arc_in, cost_arc_in}
+use Rattle.dn_table.specs.State.Tables.{AreArcs, GraphNeedsMore, TableLists, Stays}
+use Rattle.dn_instance.specs.Items.{arcs_of, length_arc_in, cap_arc_in, cost_arc_in, Problem, problem_of, source_in, query_in, point_in, by_key}
 use Rattle.dn_instance.specs.TextFaults.{is_companion}
-use Rattle.dn_instance.specs.State.Bodies.{Awaits, IsArcOfRow, Keeps, Took, ids_body, pairs_body, points_body, table_body}
+use Rattle.dn_instance.specs.State.Bodies.{Awaits, IsArcOfRow, Keeps, Took, ids_body, pairs_body, points_body, table_body, TableHolds, TakerFacts, Counts, TakesRows, TookRows}
 use Rattle.dn_instance.specs.State.ItemFaults.{AnswersFault, arc_fault, id_fault, in_graph, pair_fault, point_fault}
-use Rattle.dn_instance.specs.State.RowRuns.{line_of}
+use Rattle.dn_instance.specs.State.RowRuns.{line_of, row_items}
 use Rattle.dn_instance.specs.declared.refusal.ItemFault.{ItemFault}
 use Rattle.dn_instance.specs.declared.refusal.ItemFault.TheVariants.{Memory}
-use Rattle.dn_instance.proofs.ArcItems.{cap_item, cap_stays, length_item, length_stays, table_grown}
-use Rattle.dn_instance.proofs.CostItems.{cost_item, cost_stays, is_cost_arc}
-use Rattle.dn_instance.proofs.DraftLaws.{id_answer, id_stand, pair_answer, pair_stand, point_answer, point_stand}
-use Rattle.dn_instance.proofs.NeedItems.{cap_need, cost_need, id_need, length_need, pair_need, point_out}
 use Rattle.dn_instance.proofs.ValidLaws.{grown}
+use Rattle.std.proofs.Math.Bool.{and-true, not-not}
+use Rattle.std.proofs.lemmas.Int.{ints}
+use Rattle.std.specs.List.{AllByRecursion}
+use Rattle.dn_arc.proofs.LengthsLaws.{least_of}
+use Rattle.dn_instance.proofs.SumLaws.{total_append, total_passes, cost_passes}
+use Rattle.dn_arc.proofs.TotalKindLaws.{total_some}
+use Rattle.dn_bundle.proofs.BundleLaws.{all_end}
+use Rattle.std.proofs.lemmas.Bool.Decides.{nat_tests}
+use Rattle.dn_arc.specs.Splits.{cost_cap}
+use Rattle.dn_arc.specs.Canonical.{IsCostArc}
+use Rattle.dn_arc.proofs.SplitsLaws.{SameAbove, same}
+use Rattle.dn_arc.proofs.CurvesLaws.{above_meaning, cost_cap_same}
+use Rattle.dn_arc.proofs.AddsLaws.{above_none}
+use Rattle.dn_arc.proofs.CostKindLaws.{cost_kind}
+use Rattle.dn_arc.specs.declared.arc.CostArc.{CostArc}
+use Rattle.dn_table.specs.GraphEntries.{graph_entries}
+use Rattle.dn_instance.specs.EntryCount.{entries_as, entries_by}
+use Rattle.dn_instance.specs.Readers.{NeedsMemory}
+use Rattle.dn_instance.proofs.FirstFaults.{none_first}
+use Rattle.dn_instance.proofs.MapLaws.{by_key_push, one_more_key, found_by_key, points_named}
+use Rattle.dn_instance.proofs.ItemSteps.{problem_all}
+use Rattle.std.proofs.lemmas.Bool.{not-false}
+use Rattle.dn_instance.proofs.HeadsLaws.{on_ok_from}
+use Rattle.dn_line.specs.declared.row_block.RowLine.{RowLine}
+use Rattle.dn_instance.specs.State.Drafts.{BodyHolds, any_body, body_kind, max_body, min_body, sp_body}
+use Rattle.dn_instance.specs.declared.any_body.AnyBody.{AnyBody}
+use Rattle.dn_instance.specs.declared.any_body.AnyBody.TheVariants as Bodies
+use Rattle.dn_instance.specs.declared.body.Taken.{Taken}
+
+no_arcs_more : {A : Type 0} (xs : List A) (a : A) → xs ++ a ∷ [] ≡ [] → ⊥
+no_arcs_more [] a e = cc
+no_arcs_more (x ∷ xs) a e = cc
+
+-- `sp` arcs that mean something also mean something with one more arc
+length_stays : Stays lengths
+length_stays xs a are is same = elim (least_of (xs ++ a ∷ [])) [
+  | inl e ↦ absurd (no_arcs_more xs a e)
+  | inr w ↦ absurd (same.there w.0 w.1).has
+]
+
+-- `max` arcs that mean something also mean something with one more arc
+cap_stays : Stays capacities
+cap_stays xs a are is same = record { is = omega (arith, ints, same.is, total_append xs a, total_some xs are, is.some) }
+
+-- arcs whose CAPs sum to 0 mean the same as no arcs
+none_carried : (xs : List CostArc) → AllByRecursion IsCostArc xs → cost_cap xs ≡ pos 0 → SameAbove xs []
+none_carried [] are e = above_meaning.same_refl []
+none_carried (a ∷ xs) are e =
+    let some = are.0.some in
+    let room = are.0.room in
+    let rest = cost_kind.capacity_some xs are.1 in
+    let low : a.low ≡ pos 0 = omega (arith, ints) in
+    above_meaning.same_trans (a ∷ xs) xs []
+    (subst (λ l. SameAbove (record { low = l; cap = a.cap; cost = a.cost } ∷ xs) xs) (sym low)
+    (above_none a.cost a.cap xs (omega (arith, ints)))) (none_carried xs are.1 (omega (arith, ints)))
+
+-- `min` arcs that mean something also mean something with one more arc
+cost_stays : Stays costs
+cost_stays xs a are is nothing =
+    let all = cost_cap_same (xs ++ a ∷ []) [] (all_end IsCostArc xs a are is) tt nothing in
+    same xs [] (none_carried xs are (omega
+    (arith, ints, all, cost_kind.capacity_append xs (a ∷ []), cost_kind.capacity_some xs are, is.some, is.room)))
+
+-- items that make more entries of their kind make more entries
+entries_more : (before : List Line) (p : Problem) (i : Line) (kind : Kind) → problem_of before ≡ Some p → p.kind ≡ kind
+    → entries_as kind before < entries_as kind (before ++ i ∷ []) → NeedsMemory before i
+entries_more before p i kind h k more = inl (rw (problem_all before (i ∷ []) p h, h, k) more)
 
 pub ids_took : (nodes : ℤ) (ids ids' : Vec ℤ Global) (row : Row) (r : Result (Unit {0}) ItemFault) (before : List Line)
     → AnswersFault r (id_fault row.first) → OnOk r (ids'.items ≡ ids.items ++ row.first ∷ [])
     → Awaits ids_body nodes ids before (line_of Kinds.Ss row ∷ []) → Took ids_body (line_of Kinds.Ss) before ids' row r
-ids_took nodes ids ids' row r before ans ok a = record {
-  answer = record {
-    fault = id_answer before a.problem a.problem_is (ap is_companion a.kind_is) r row.first ans;
-    memory = λ out. id_need before a.problem a.problem_is row.first a.kind_is;
-  };
-  holds = id_stand before r row.first ids ids' ok a.holds;
-}
+ids_took nodes ids ids' row r before ans ok a =
+    let i = line_of Kinds.Ss row in
+    let more = grown source_in before i row.first refl in
+    record {
+      answer = record {
+        fault = rw (a.problem_is, ap is_companion a.kind_is, and-true, and-true) ans;
+        memory = λ out. entries_more before a.problem i Kinds.Ss a.problem_is a.kind_is
+            (rw more (omega (arith, length-append (filter_map source_in before) (row.first ∷ []))));
+      };
+      holds = on_ok_weaker r (λ e. rw (more, ← a.holds) e) ok;
+    }
 
 pub pairs_took : (nodes : ℤ) (pairs pairs' : Vec (ℤ × ℤ) Global) (row : Row) (r : Result (Unit {0}) ItemFault)
     (before : List Line) → AnswersFault r (pair_fault (row.first, row.second))
     → OnOk r (pairs'.items ≡ pairs.items ++ (row.first, row.second) ∷ [])
     → Awaits pairs_body nodes pairs before (line_of Kinds.P2p row ∷ [])
     → Took pairs_body (line_of Kinds.P2p) before pairs' row r
-pairs_took nodes pairs pairs' row r before ans ok a = record {
-  answer = record {
-    fault = pair_answer before a.problem a.problem_is (ap is_companion a.kind_is) r (row.first, row.second) ans;
-    memory = λ out. pair_need before a.problem a.problem_is (row.first, row.second) a.kind_is;
-  };
-  holds = pair_stand before r (row.first, row.second) pairs pairs' ok a.holds;
-}
+pairs_took nodes pairs pairs' row r before ans ok a =
+    let i = line_of Kinds.P2p row in
+    let more = grown query_in before i (row.first, row.second) refl in
+    record {
+      answer = record {
+        fault = simp (a.problem_is, ap is_companion a.kind_is, and-true) ans;
+        memory = λ out. entries_more before a.problem i Kinds.P2p a.problem_is a.kind_is
+            (rw more (omega (arith, length-append (filter_map query_in before) ((row.first, row.second) ∷ []))));
+      };
+      holds = on_ok_weaker r (λ e. rw (more, ← a.holds) e) ok;
+    }
 
+-- memory runs out only at a point of a new ID
 pub points_took : (nodes : ℤ) (points points' : BTreeMap ℤ (ℤ × ℤ)) (row : Row) (r : Result (Unit {0}) ItemFault)
     (before : List Line)
     → AnswersFault r (point_fault (is_some (lookup (is_at (int_cmp row.first)) points.entries)) row.first)
     → OnOk r (points'.entries ≡ insert_entry int_cmp points.entries row.first (row.second, row.third))
     → Awaits points_body nodes points before (line_of Kinds.Co row ∷ [])
     → Took points_body (line_of Kinds.Co) before points' row r
-points_took nodes points points' row r before ans ok a = record {
-  answer = record {
-    fault =
-        point_answer before a.problem a.problem_is (ap is_companion a.kind_is) r points a.holds row.first row.second
-        row.third ans;
-    memory =
-        point_out before a.problem a.problem_is row.first row.second row.third points r ans a.kind_is a.holds;
-  };
-  holds = point_stand before r row.first row.second row.third points points' ok a.holds;
-}
+points_took nodes points points' row r before ans ok a =
+    let id = row.first in
+    let i = line_of Kinds.Co row in
+    let es = filter_map point_in before in
+    let found = is_some (lookup (is_at (int_cmp id)) (by_key es)) in
+    let more = grown point_in before i (id, (row.second, row.third)) refl in
+    record {
+      answer = record {
+        fault =
+            rw (a.problem_is, ap is_companion a.kind_is, and-true, and-true, ← points_named id before)
+            (rw (a.holds, found_by_key) at ans);
+        memory = λ out.
+            let one = none_first (not (int_lt (pos 0) id)) NodeOutOfRange _ (rw (out, a.holds) at ans) in
+            let new = one_more_key id (row.second, row.third) (by_key es) (none_first found RepeatedNode _ one.1).0 in
+            entries_more before a.problem i Kinds.Co a.problem_is a.kind_is
+            (rw (more, by_key_push) (omega (arith, new)));
+      };
+      holds = on_ok_weaker r (λ e. rw (more, by_key_push, ← a.holds) e) ok;
+    }
 
 module _ {B Arc : Type 0} (text : Kind) (arc_in : Line → Option ((ℤ × ℤ) × Arc)) (b : BundleFacts B Arc) where
-  -- a problem may have an arc that has no fault
-  may_be : (nodes : ℤ) (arcs : List ((ℤ × ℤ) × Arc)) (is : Bool) (a : (ℤ × ℤ) × Arc)
-      → arc_fault b.kind nodes arcs is a ≡ None → is ≡ true
-  may_be nodes arcs is a h = by_range (not (in_graph nodes a.0.0 && in_graph nodes a.0.1)) is _ h
-    where
-      by_range : (x i sum : Bool)
-          → cond x (Some NodeOutOfRange) (cond (not i) (Some LowAboveCap) (cond sum (Some SumTooLarge) None)) ≡ None
-          → i ≡ true
-      by_range true i sum g = cc
-      by_range false true sum g = refl
-      by_range false false sum g = cc
-
   pub table_took : (nodes : ℤ) (t t' : List ((ℤ × ℤ) × B)) (row : Row) (arc : Arc) (r : Result (Unit {0}) ItemFault)
       (before : List Line) → IsArcOfRow text b.kind arc_in row arc
       → ((is : Bool) → AreArcs b.kind (arcs_of arc_in before) → (IsTrue is ↔ b.kind.IsArc arc)
@@ -91,69 +158,155 @@ module _ {B Arc : Type 0} (text : Kind) (arc_in : Line → Option ((ℤ × ℤ) 
       → Awaits (table_body text arc_in b) nodes t before (line_of text row ∷ [])
       → Took (table_body text arc_in b) (line_of text) before t' row r
   table_took nodes t t' row arc r before w ans ok out a =
+      let arcs = arcs_of arc_in before in
       let says = w.faults before a.problem a.problem_is a.kind_is a.signs.0 in
       let placed : (ℤ × ℤ) × Arc = ((row.first, row.second), arc) in
       let found = ans says.is a.holds.are_arcs says.decides in
       record {
         answer = record {
-          fault =
-              subst (AnswersFault r)
-              (sym (says.fault ∙ ap (λ m. arc_fault b.kind m (arcs_of arc_in before) says.is placed) a.nodes_are))
-              found;
+          fault = rw (says.fault ∙ ap (λ m. arc_fault b.kind m arcs says.is placed) a.nodes_are) found;
           memory = λ e. w.needs before a.problem a.problem_is a.kind_is (out a.holds.are_arcs e);
         };
-        holds = by_result r says.is says.decides found (ok a.holds.are_arcs);
+        holds =
+            on_ok_from r (arc_fault b.kind nodes arcs says.is placed) found (λ f lists.
+            let one = none_first (not (in_graph nodes row.first && in_graph nodes row.second)) NodeOutOfRange _ f in
+            let is = not-false says.is (none_first (not says.is) LowAboveCap _ one.1).0 in
+            let more = grown arc_in before (line_of text row) placed w.in_line in
+            record {
+              lists_them = rw more lists;
+              are_arcs = rw more (all_end (λ x. b.kind.IsArc x.1) arcs placed a.holds.are_arcs (says.decides.0 is));
+            }) (ok a.holds.are_arcs);
       }
-    where
-      by_result : (r : Result (Unit {0}) ItemFault) (is : Bool) → (IsTrue is ↔ b.kind.IsArc arc)
-          → AnswersFault r (arc_fault b.kind nodes (arcs_of arc_in before) is ((row.first, row.second), arc))
-          → OnOk r (TableLists b.kind (meant b) t' (arcs_of arc_in before ++ ((row.first, row.second), arc) ∷ []))
-          → OnOk r ((table_body text arc_in b).Holds t' (before ++ line_of text row ∷ []))
-      by_result (Err e) is decides ans ok = tt
-      by_result (Ok x) is decides ans ok =
-          table_grown b.kind arc_in (meant b) t' before (line_of text row) ((row.first, row.second), arc)
-          (grown arc_in before (line_of text row) ((row.first, row.second), arc) w.in_line) a.holds.are_arcs
-          (decides.0 (may_be nodes (arcs_of arc_in before) is ((row.first, row.second), arc) ans)) ok
 
   pub table_same : (t t' : List ((ℤ × ℤ) × B)) (r : Result (Unit {0}) ItemFault) → OnErr r (t' ≡ t)
       → OnErr r (Keeps (table_body text arc_in b) t t')
-  table_same t t' r same =
-      on_err_weaker r (λ e items. subst (λ x. (table_body text arc_in b).Holds x items) (sym e)) same
+  table_same t t' r same = on_err_weaker r (λ e items h. rw e h) same
 
 -- the arcs that rows spell
 pub length_row : (row : Row) → IsArcOfRow Kinds.Sp lengths length_arc_in row (record { length = row.third })
 length_row row = record {
   in_line = refl;
-  faults = λ before p h k signs. record {
-    is = true;
-    decides = (λ x. tt, λ x. refl);
-    fault = length_item before p row.first row.second row.third h k;
-  };
-  needs = λ before p h k. length_need before p h row.first row.second row.third k;
+  faults = λ before p h k signs. record { is = true; decides = (λ x. tt, λ x. refl); fault = rw (h, k, and-true) };
+  needs = λ before p h k more. elim more [
+    | inl m ↦
+        entries_more before p (line_of Kinds.Sp row) Kinds.Sp h k
+        (rw (grown length_arc_in before (line_of Kinds.Sp row) _ refl) m)
+    | inr m ↦ absurd m
+  ];
   stays = length_stays;
 }
 
 pub cap_row : (row : Row) → IsArcOfRow Kinds.Max capacities cap_arc_in row (record { cap = row.third })
 cap_row row = record {
   in_line = refl;
-  faults = λ before p h k some. record {
-    is = true;
-    decides = (λ x. record { some = some }, λ x. refl);
-    fault = cap_item before p row.first row.second row.third h k;
-  };
-  needs = λ before p h k. cap_need before p h row.first row.second row.third k;
+  faults = λ before p h k some.
+      let sum = total_passes (arcs_of cap_arc_in before) ((row.first, row.second), record { cap = row.third }) in
+      record { is = true; decides = (λ x. record { some = some }, λ x. refl); fault = rw (h, k, and-true, sum) };
+  needs = λ before p h k more. elim more [
+    | inl m ↦
+        entries_more before p (line_of Kinds.Max row) Kinds.Max h k
+        (rw (grown cap_arc_in before (line_of Kinds.Max row) _ refl) m)
+    | inr m ↦ absurd m
+  ];
   stays = cap_stays;
 }
 
 pub cost_row : (row : Row)
     → IsArcOfRow Kinds.Min costs cost_arc_in row (record { low = row.third; cap = row.fourth; cost = row.fifth })
-cost_row row = record {
-  in_line = refl;
-  faults = λ before p h k signs. record {
-    is = not (int_lt row.fourth row.third);
-    decides = is_cost_arc row.third row.fourth row.fifth signs.0;
-    fault = cost_item before p row.first row.second row.third row.fourth row.fifth h k;
-  };
-  needs = λ before p h k. cost_need before p h row.first row.second row.third row.fourth row.fifth k;
-  stays = cost_stays;
-}
+cost_row row =
+    let arc : CostArc = record { low = row.third; cap = row.fourth; cost = row.fifth } in
+    let above = int_lt row.fourth row.third in
+    record {
+      in_line = refl;
+      faults = λ before p h k signs.
+          let passes = cost_passes (arcs_of cost_arc_in before) ((row.first, row.second), arc) in
+          record {
+            is = not above;
+            decides = (
+              λ h. record { some = signs.0; room = grind (arith, ints, nat_tests, h) },
+              λ a. grind (arith, ints, nat_tests, a.room),
+            );
+            fault = rw (h, k, and-true, not-not above, passes);
+          };
+      needs = λ before p h k more. elim more [
+        | inl m ↦
+            entries_more before p (line_of Kinds.Min row) Kinds.Min h k
+            (rw (grown cost_arc_in before (line_of Kinds.Min row) _ refl) m)
+        | inr m ↦ inr m
+      ];
+      stays = cost_stays;
+    }
+
+-- what a body of one kind holds is what it holds as a body of any kind
+pub record IsPart {T : Type 0} (facts : TakerFacts T) (put : T → AnyBody) : Type 0 where
+  is : (t : T) → body_kind (put t) ≡ Some facts.kind
+  to : (t : T) (items : List Line) → BodyHolds (put t) items → facts.Holds t items
+  back : (t : T) (items : List Line) → facts.Holds t items → BodyHolds (put t) items
+
+pub min_part : IsPart min_body Bodies.Min
+min_part = record { is = λ t. refl; to = λ t items h. h; back = λ t items h. h }
+
+pub max_part : IsPart max_body Bodies.Max
+max_part = record { is = λ t. refl; to = λ t items h. h; back = λ t items h. h }
+
+pub sp_part : IsPart sp_body Bodies.Sp
+sp_part = record { is = λ t. refl; to = λ t items h. h; back = λ t items h. h }
+
+pub ids_part : IsPart ids_body Bodies.Ss
+ids_part = record { is = λ t. refl; to = λ t items h. h; back = λ t items h. h }
+
+pub pairs_part : IsPart pairs_body Bodies.P2p
+pairs_part = record { is = λ t. refl; to = λ t items h. h; back = λ t items h. h }
+
+pub points_part : IsPart points_body Bodies.Co
+points_part = record { is = λ t. refl; to = λ t items h. h; back = λ t items h. h }
+
+module _ {T : Type 0} {facts : TakerFacts T} {put : T → AnyBody} (part : IsPart facts put) where
+  -- at its own kind
+  own_rows : (nodes : ℤ) (old new : T) (rows : List RowLine) (r : Taken)
+      → TakesRows facts (line_of facts.kind) nodes old new rows r
+      → TakesRows (any_body facts.kind) (line_of facts.kind) nodes (put old) (put new) rows r
+  own_rows nodes old new rows r h before a =
+      let t = h before (record {
+        problem = a.problem;
+        problem_is = a.problem_is;
+        kind_is = a.kind_is;
+        nodes_are = a.nodes_are;
+        signs = a.signs;
+        holds = part.to old before a.holds.1;
+      }) in
+      record {
+        joins = record { faultless = t.joins.faultless; holds = (part.is new, part.back new _ t.joins.holds) };
+        stops = t.stops;
+      }
+
+  same_kind : (t : T) (kind : Kind) → body_kind (put t) ≡ Some kind → facts.kind ≡ kind
+  same_kind t kind h = let same : Some facts.kind ≡ Some kind = sym (part.is t) ∙ h in cc
+
+  pub rows_taken : (nodes : ℤ) (old new : T) (rows : List RowLine) (r : Taken)
+      → TakesRows facts (line_of facts.kind) nodes old new rows r → (b : AnyBody) → b ≡ put old → (kind : Kind)
+      → TakesRows (any_body kind) (line_of kind) nodes b (put new) rows r
+  rows_taken nodes old new rows r h b e kind =
+      rw e (λ before a. subst (λ k. Awaits (any_body k) nodes (put old) before (row_items (line_of k) rows)
+      → TookRows (any_body k) (line_of k) before (put new) rows r)
+      (same_kind old kind a.holds.0) (own_rows nodes old new rows r h before) a)
+
+  pub rows_kept : (old new : T) → Keeps facts old new → (b : AnyBody) → b ≡ put old → (items : List Line)
+      → BodyHolds b items → BodyHolds (put new) items
+  rows_kept old new keeps b e items h = part.back new items (keeps items (part.to old items (rw e at h)))
+
+  pub counted_by : (t : T) (n : ℕ) → Counts facts t n → (b : AnyBody) → b ≡ put t → (items : List Line)
+      → BodyHolds b items → entries_by (body_kind b) items < 2 ^ 64 → n ≡ entries_by (body_kind b) items
+  counted_by t n h b e =
+      rw e (λ items held few. rw (part.is t) (h items (part.to t items held) (rw (part.is t) at few)))
+
+-- the entries of a table are those of the arcs of the items
+pub table_counted : {B Arc : Type 0} (text : Kind) (kind : ArcKind Arc) (arc_in : Line → Option ((ℤ × ℤ) × Arc))
+    (lists : B → List Arc) (table : List ((ℤ × ℤ) × B)) (n : ℕ)
+    → ((items : List Line) → entries_by (Some text) items ≡ graph_entries kind (arcs_of arc_in items))
+    → ((arcs : List ((ℤ × ℤ) × Arc)) → TableLists kind lists table arcs → AreArcs kind arcs
+    → graph_entries kind arcs < 2 ^ 64 → n ≡ graph_entries kind arcs) → (items : List Line)
+    → TableHolds kind arc_in lists table items → entries_by (Some text) items < 2 ^ 64
+    → n ≡ entries_by (Some text) items
+table_counted text kind arc_in lists table n same counts items held few =
+    counts _ held.lists_them held.are_arcs (subst (λ k. k < 2 ^ 64) (same items) few) ∙ sym (same items)

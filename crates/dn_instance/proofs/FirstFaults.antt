@@ -1,5 +1,6 @@
 -- Lemmas on finding the first fault of a text line by line.
-use Rattle.std.proofs.Common.{◌≡◌, ℕ, zero, suc, ◌+◌, ◌-◌, ◌<◌, List, [], ◌∷◌, ◌++◌, length, Bool, true, false, cond, ◌||◌, Option, Some, None, is_none, ◌⊎◌, inl, inr, refl, sym, ap, ◌∙◌, subst, arith, append_assoc, append-nil, length-append}
+use Rattle.std.proofs.Common.{◌≡◌, ℕ, ◌+◌, ◌<◌, List, [], ◌∷◌, ◌++◌, length, Bool, true, false, cond, ◌||◌, Option, Some, None, is_none, ◌⊎◌, inl, inr, refl, sym, ap, ◌∙◌, arith, append_assoc, append-nil, length-append, ℤ, option_and_then, option_map}
+use Rattle.std.proofs.lemmas.Bool.{cases_eq}
 use Rattle.dn_line.specs.declared.code.Code.{Code}
 use Rattle.dn_line.specs.declared.kind.Kind.{Kind}
 use Rattle.dn_line.specs.declared.kind.Kind.TheVariants as Kinds
@@ -9,8 +10,6 @@ use Rattle.dn_line.specs.Words.{said_words}
 use Rattle.dn_line.specs.Pieces.{lines}
 use Rattle.dn_instance.specs.declared.refusal.Place.{Place}
 use Rattle.dn_instance.specs.declared.refusal.Place.TheVariants as Places
-use Rattle.std.proofs.Common.{ℤ, option_and_then}
-use Rattle.std.specs.Option.{option_map}
 use Rattle.dn_arc.specs.declared.arc.CapArc.{CapArc}
 use Rattle.dn_line.specs.declared.code.Code.TheVariants.{NoProblem, MissingTerminal}
 use Rattle.dn_instance.specs.Instances.{Graph, Instance}
@@ -26,35 +25,30 @@ fault_after before l = line_fault (length before + 1) (items_of before) (said_wo
 pub same_front : {X : Type 0} (a b : List X) (x y : X) (xs ys : List X) → a ++ x ∷ xs ≡ b ++ y ∷ ys
     → length a ≡ length b → (a ≡ b) × (x ≡ y)
 same_front [] [] x y xs ys e h = let same : x ≡ y = cc in (refl, same)
-same_front [] (d ∷ b) x y xs ys e h = absurd (omega arith)
-same_front (c ∷ a) [] x y xs ys e h = absurd (omega arith)
+same_front [] (d ∷ b) x y xs ys e h = cc
+same_front (c ∷ a) [] x y xs ys e h = cc
 same_front (c ∷ a) (d ∷ b) x y xs ys e h =
     let heads : c ≡ d = cc in
-    let rest : a ++ x ∷ xs ≡ b ++ y ∷ ys = cc in
-    let r = same_front a b x y xs ys rest (omega arith) in
-    (ap (λ z. z ∷ a) heads ∙ ap (λ z. d ∷ z) r.0, r.1)
+    let r = same_front a b x y xs ys (cc) (omega arith) in
+    (rw (heads, r.0), r.1)
 
 -- the fault at a line is that of this line after the lines before it
 pub fault_there : (ls before after : List (List ℕ)) (l : List ℕ) (n : ℕ) (c : Code) → ls ≡ before ++ l ∷ after
     → n ≡ length before + 1 → FaultAt ls n c → fault_after before l ≡ Some c
 fault_there ls before after l n c e m f =
-    let number : length f.before ≡ length before = (let h = f.number_is in omega arith) in
-    let r = same_front f.before before f.line l f.after after (sym f.lines_are ∙ e) number in
-    subst (λ (k : ℕ). line_fault k (items_of before) (said_words l) ≡ Some c) m
-    (subst (λ (x : List ℕ). line_fault n (items_of before) (said_words x) ≡ Some c) r.1
-    (subst (λ (b : List (List ℕ)). line_fault n (items_of b) (said_words f.line) ≡ Some c) r.0 f.fault_is))
+    let r = same_front f.before before f.line l f.after after (sym f.lines_are ∙ e) (omega (arith, f.number_is)) in
+    rw (← m, ← r.1, ← r.0) f.fault_is
+
+pub none_from : {X : Type 0} (o : Option X) → ((x : X) → o ≡ Some x → ⊥) → o ≡ None
+none_from None h = refl
+none_from (Some x) h = absurd (h x refl)
 
 -- a line of a text without a fault has no fault
 pub clean_there : (ls before after : List (List ℕ)) (l : List ℕ) → ls ≡ before ++ l ∷ after → IsClean ls
     → fault_after before l ≡ None
-clean_there ls before after l e clean = by_fault (fault_after before l) refl
-  where
-    by_fault : (f : Option Code) → fault_after before l ≡ f → fault_after before l ≡ None
-    by_fault None h = h
-    by_fault (Some c) h =
-        absurd
-        (clean (length before + 1) c
-        (record { before = before; line = l; after = after; lines_are = e; number_is = refl; fault_is = h }))
+clean_there ls before after l e clean =
+    none_from (fault_after before l) (λ c h. clean (length before + 1) c
+    (record { before = before; line = l; after = after; lines_are = e; number_is = refl; fault_is = h }))
 
 -- the first k lines have no fault
 abbrev NoneUpTo : List (List ℕ) → ℕ → Type 0
@@ -67,19 +61,10 @@ one_more before l after = sym (append_assoc before (l ∷ []) after)
 -- if the first k lines and the next line have no fault, the first k + 1 lines have no fault
 later : (ls before after : List (List ℕ)) (l : List ℕ) → ls ≡ before ++ l ∷ after → NoneUpTo ls (length before)
     → fault_after before l ≡ None → NoneUpTo ls (length (before ++ l ∷ []))
-later ls before after l e none h n c f =
-    by_number (n - (length before + 1)) refl
-  where
-    past : length before < n
-    past = none n c f
-
-    by_number : (d : ℕ) → n - (length before + 1) ≡ d → length (before ++ l ∷ []) < n
-    by_number zero g =
-        let there : fault_after before l ≡ Some c =
-        fault_there ls before after l n c e (let p = past in omega arith) f in
-        let never : None ≡ Some c = sym h ∙ there in
-        cc
-    by_number (suc d) g = let p = past in omega (arith, length-append before (l ∷ []))
+later ls before after l e none h n c f = elim (cases_eq n (length before + 1)) [
+  | inl m ↦ cc (sym h ∙ fault_there ls before after l n c e m f)
+  | inr m ↦ omega (arith, none n c f, length-append before (l ∷ []))
+]
 
 abbrev or_later : Option Code → ℕ → Option (ℕ × Code) → Option (ℕ × Code)
 or_later None n found = found
@@ -102,37 +87,39 @@ found_here ls before after l None found e none h go = go h
 found_here ls before after l (Some c) found e none h go =
     record {
       at = record { before = before; line = l; after = after; lines_are = e; number_is = refl; fault_is = h };
-      first = λ n d g. (let p = none n d g in omega arith);
+      first = λ n d g. omega (arith, none n d g);
     }
 
 found_from : (ls before rest : List (List ℕ)) → ls ≡ before ++ rest → NoneUpTo ls (length before)
     → Found ls (found_in before rest)
-found_from ls before [] e none = λ n c f.
-    let p = none n c f in
-    let m = f.number_is in
-    let all : length ls ≡ length before = ap length e ∙ ap length (append-nil before) in
-    let parts : length ls ≡ length f.before + suc (length f.after) =
-    ap length f.lines_are ∙ length-append f.before (f.line ∷ f.after) in
-    omega arith
+found_from ls before [] e none = λ n c f. omega (
+  arith,
+  none n c f,
+  f.number_is,
+  ap length e,
+  ap length (append-nil before),
+  ap length f.lines_are,
+  length-append f.before (f.line ∷ f.after),
+)
 found_from ls before (l ∷ rest) e none =
     found_here ls before rest l (fault_after before l) (found_in (before ++ l ∷ []) rest) e none refl
     (λ h. found_from ls (before ++ l ∷ []) rest (e ∙ one_more before l rest) (later ls before rest l e none h))
 
 found_is : (ls : List (List ℕ)) → Found ls (found_in [] ls)
-found_is ls = found_from ls [] ls refl (λ n c f. (let m = f.number_is in omega arith))
+found_is ls = found_from ls [] ls refl (λ n c f. omega (arith, f.number_is))
 
 -- the fault that is found line by line is the first fault
 pub first_is : (ls : List (List ℕ)) (n : ℕ) (c : Code) → found_in [] ls ≡ Some (n, c) → IsFirstFaultAt ls n c
-first_is ls n c h = subst (Found ls) h (found_is ls)
+first_is ls n c h = rw h at (found_is ls)
 
 -- if no fault is found, no line has a fault
 pub clean_is : (ls : List (List ℕ)) → found_in [] ls ≡ None → IsClean ls
-clean_is ls h = subst (Found ls) h (found_is ls)
+clean_is ls h = rw h at (found_is ls)
 
 -- what holds of no lines, and also with each next line without a fault, holds of lines without a fault
 clean_from : (P : List (List ℕ) → Type 0) (ls before rest : List (List ℕ)) → ls ≡ before ++ rest → IsClean ls
     → ((b : List (List ℕ)) (l : List ℕ) → fault_after b l ≡ None → P b → P (b ++ l ∷ [])) → P before → P ls
-clean_from P ls before [] e clean step here = subst P (sym (append-nil before) ∙ sym e) here
+clean_from P ls before [] e clean step here = rw (e, append-nil before) here
 clean_from P ls before (l ∷ rest) e clean step here =
     clean_from P ls (before ++ l ∷ []) rest (e ∙ one_more before l rest) clean step
     (step before l (clean_there ls before rest l e clean) here)
@@ -142,7 +129,7 @@ pub by_clean_lines : (P : List (List ℕ) → Type 0) (ls : List (List ℕ)) →
 by_clean_lines P ls clean step none = clean_from P ls [] ls refl clean step none
 
 same_number : (ls : List (List ℕ)) (m n : ℕ) (c d : Code) → IsFirstFaultAt ls m c → IsFirstFaultAt ls n d → m ≡ n
-same_number ls m n c d f g = let a = f.first n d g.at in let b = g.first m c f.at in omega arith
+same_number ls m n c d f g = omega (arith, f.first n d g.at, g.first m c f.at)
 
 pub same_place : (t : List ℕ) (p q : Place) (c d : Code) → IsFirstFault t p c → IsFirstFault t q d → p ≡ q
 same_place t (Places.Line m) (Places.Line n) c d f g = ap (λ k. Places.Line k) (same_number (lines t) m n c d f g)
@@ -150,36 +137,28 @@ same_place t (Places.Line m) Places.End c d f g = absurd (g.clean m c f.at)
 same_place t Places.End (Places.Line n) c d f g = absurd (f.clean n d g.at)
 same_place t Places.End Places.End c d f g = refl
 
-some_same : (c d : Code) (x y : Option Code) → x ≡ Some c → y ≡ Some d → x ≡ y → c ≡ d
-some_same c d x y e f g = cc
-
 -- lines have only one first fault
 same_fault : (ls : List (List ℕ)) (m n : ℕ) (c d : Code) → IsFirstFaultAt ls m c → IsFirstFaultAt ls n d → c ≡ d
 same_fault ls m n c d f g =
-    let same = same_number ls m n c d f g in
     let a = f.at in
-    let b = g.at in
-    let there = fault_there ls a.before a.after a.line n d a.lines_are (sym same ∙ a.number_is) b in
-    let here = fault_there ls a.before a.after a.line m c a.lines_are a.number_is a in
-    some_same c d _ _ here there refl
+    let at = fault_there ls a.before a.after a.line in
+    cc (at m c a.lines_are a.number_is a, at n d a.lines_are (sym (same_number ls m n c d f g) ∙ a.number_is) g.at)
 
 pub same_code : (t : List ℕ) (p q : Place) (c d : Code) → IsFirstFault t p c → IsFirstFault t q d → c ≡ d
 same_code t (Places.Line m) (Places.Line n) c d f g = same_fault (lines t) m n c d f g
 same_code t (Places.Line m) Places.End c d f g = absurd (g.clean m c f.at)
 same_code t Places.End (Places.Line n) c d f g = absurd (f.clean n d g.at)
-same_code t Places.End Places.End c d f g = some_same c d _ _ f.fault_is g.fault_is refl
+same_code t Places.End Places.End c d f g = cc (f.fault_is, g.fault_is)
 
 later_lines : (before ls ms : List (List ℕ)) (x : ℕ × Code) → found_in before ls ≡ Some x
     → found_in before (ls ++ ms) ≡ Some x
 later_lines before [] ms x h = cc
-later_lines before (l ∷ ls) ms x h = by_fault (fault_after before l) (later_lines (before ++ l ∷ []) ls ms x) h
+later_lines before (l ∷ ls) ms x h = at_first (fault_after before l) _ _ _ (later_lines (before ++ l ∷ []) ls ms x) h
   where
-    by_fault : (f : Option Code)
-        → (found_in (before ++ l ∷ []) ls ≡ Some x → found_in (before ++ l ∷ []) (ls ++ ms) ≡ Some x)
-        → or_later f (length before + 1) (found_in (before ++ l ∷ []) ls) ≡ Some x
-        → or_later f (length before + 1) (found_in (before ++ l ∷ []) (ls ++ ms)) ≡ Some x
-    by_fault None go g = go g
-    by_fault (Some c) go g = g
+    at_first : (f : Option Code) (n : ℕ) (a b : Option (ℕ × Code)) → (a ≡ Some x → b ≡ Some x) → or_later f n a ≡ Some x
+        → or_later f n b ≡ Some x
+    at_first None n a b go g = go g
+    at_first (Some c) n a b go g = g
 
 -- later lines do not change the first fault
 pub first_on : (ls ms : List (List ℕ)) (n : ℕ) (c : Code) → IsFirstFaultAt ls n c → IsFirstFaultAt (ls ++ ms) n c
@@ -188,15 +167,13 @@ first_on ls ms n c f = by_found (found_in [] ls) refl
     by_found : (x : Option (ℕ × Code)) → found_in [] ls ≡ x → IsFirstFaultAt (ls ++ ms) n c
     by_found None e = absurd (clean_is ls e n c f.at)
     by_found (Some x) e =
-        let g : IsFirstFaultAt ls x.0 x.1 = first_is ls x.0 x.1 e in
-        let number : x.0 ≡ n = same_number ls x.0 n x.1 c g f in
-        let code : x.1 ≡ c = same_fault ls x.0 n x.1 c g f in
-        let there : IsFirstFaultAt (ls ++ ms) x.0 x.1 = first_is (ls ++ ms) x.0 x.1 (later_lines [] ls ms x e) in
-        subst (λ k. IsFirstFaultAt (ls ++ ms) n k) code (subst (λ k. IsFirstFaultAt (ls ++ ms) k x.1) number there)
+        let g = first_is ls x.0 x.1 e in
+        rw (same_number ls n x.0 c x.1 f g, same_fault ls n x.0 c x.1 f g)
+        (first_is (ls ++ ms) x.0 x.1 (later_lines [] ls ms x e))
 
 pub not_both : (t : List ℕ) (I : Instance) (p : Place) (c : Code) → Reads t I → IsFirstFault t p c → ⊥
 not_both t I (Places.Line n) c r f = r.clean n c f.at
-not_both t I Places.End c r f = let never : None ≡ Some c = sym r.whole ∙ f.fault_is in cc
+not_both t I Places.End c r f = cc (sym r.whole ∙ f.fault_is)
 
 -- if no fault is found, the first test does not apply
 pub none_first : {X : Type 0} (b : Bool) (x : X) (rest : Option X) → cond b (Some x) rest ≡ None → (b ≡ false)
@@ -206,13 +183,11 @@ none_first false x rest h = (refl, h)
 
 with_terminals : (a b : Option ℤ) (G : Graph CapArc) → (is_none a || is_none b) ≡ false → (I : Instance)
     × (max_flow a b G ≡ Some I)
-with_terminals None b G h = cc
-with_terminals (Some a) None G h = cc
 with_terminals (Some a) (Some b) G h = (_, refl)
+with_terminals _ _ G h = cc
 
 of_kind : (k : Kind) (nodes : ℤ) (items : List Line) → lacks_terminal (Some k) items ≡ false → (I : Instance)
     × (instance_as k nodes items ≡ Some I)
-of_kind Kinds.Min nodes items h = (_, refl)
 of_kind Kinds.Max nodes items h =
     with_terminals (terminal_of S items) (terminal_of T items) (graph_of cap_arc_in nodes items) h
 of_kind _ nodes items h = (_, refl)
@@ -234,8 +209,8 @@ abbrev Either : List ℕ → Type 0
 Either t = ((I : Instance) × Reads t I) ⊎ ((p : Place) × (c : Code) × IsFirstFault t p c)
 
 at_end : (t : List ℕ) (f : Option Code) → IsClean (lines t) → end_fault (items_of (lines t)) ≡ f → Either t
-at_end t None clean h = let m = made (items_of (lines t)) h in
-    inl (m.0, record { clean = clean; whole = h; instance_is = m.1 })
+at_end t None clean h =
+    let m = made (items_of (lines t)) h in inl (m.0, record { clean = clean; whole = h; instance_is = m.1 })
 at_end t (Some c) clean h = inr (Places.End, c, record { clean = clean; fault_is = h })
 
 by_found : (t : List ℕ) (f : Option (ℕ × Code)) → Found (lines t) f → Either t

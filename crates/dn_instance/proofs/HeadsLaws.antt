@@ -1,38 +1,51 @@
 -- Lemmas on `n` lines: what the heads hold after them, and that other lines keep what the heads hold.
-use Rattle.std.proofs.Common.{◌≡◌, ℤ, List, [], ◌∷◌, ◌++◌, true, false, ◌||◌, not, Option, Some, None, is_some, IsSome, Result, Ok, Err, OnOk, OnErr, refl, sym, ap, ◌∙◌, subst, append-nil, take, inr}
-use Rattle.std.specs.List.{AllByRecursion, cons_option, filter_map, list_any}
-use Rattle.std.specs.Option.{option_or}
-use Rattle.std.proofs.Math.Bool.{or-false}
+use Rattle.std.proofs.Common.{◌≡◌, ℤ, List, [], ◌∷◌, ◌++◌, true, false, ◌||◌, not, Option, Some, None, is_some, IsSome, Result, Ok, Err, OnOk, OnErr, refl, sym, ap, ◌∙◌, append-nil, take, inr, filter_map, pos, Bool, cond, ◌&&◌, inl, int_cmp, int_eq, BTreeMap, BTreeSet}
+use Rattle.dn_instance.proofs.CleanItems.{or_none}
+use Rattle.dn_instance.proofs.ValidLaws.{terminal_more, kept, grown}
+use Rattle.std.specs.List.{AllByRecursion, list_any}
+use Rattle.std.proofs.Math.Bool.{or-false, and-true, or_assoc}
 use Rattle.std.proofs.lemmas.List.Elements.{filter_map-append}
 use Rattle.std.proofs.lemmas.List.Folds.{list_any-append}
 use Rattle.std.proofs.lemmas.Result.{on_err_weaker, on_ok_weaker}
 use Rattle.dn_line.specs.Faults.{first_fault}
 use Rattle.dn_line.specs.State.Spelling.{kind_before}
-use Rattle.dn_line.specs.declared.code.Code.TheVariants.{NodeOutOfRange, RepeatedNode, SameTerminal}
+use Rattle.dn_line.specs.declared.code.Code.TheVariants.{NodeOutOfRange, RepeatedNode}
 use Rattle.dn_line.specs.declared.kind.Kind.{Kind}
-use Rattle.dn_line.specs.declared.kind.Kind.TheVariants.{Min, Max, Sp, Ss, P2p, Co}
+use Rattle.dn_line.specs.declared.kind.Kind.TheVariants.{Min, Max}
 use Rattle.dn_line.specs.declared.kind.Letter.{Letter}
 use Rattle.dn_line.specs.declared.kind.Letter.TheVariants.{S, T}
 use Rattle.dn_line.specs.declared.line.Line.{Line}
 use Rattle.dn_line.specs.declared.line.Line.TheVariants as Item
 use Rattle.dn_line.specs.declared.row.Row.{Row}
 use Rattle.dn_line.specs.declared.row_block.RowLine.{RowLine}
-use Rattle.dn_arc.specs.Kinds.{capacities, costs, lengths}
-use Rattle.dn_instance.specs.Items.{arcs_of, by_key, cap_arc_in, cost_arc_in, is_counted, length_arc_in, point_in, problem_in, query_in, source_in, supplies_of, supply_in, terminal_in, terminal_of}
-use Rattle.dn_instance.specs.TextFaults.{has_supply, is_companion, is_id, item_tests}
-use Rattle.dn_instance.specs.State.Bodies.{AnswersItem, TakesRow, TakesRows}
+use Rattle.dn_arc.specs.Kinds.{capacities, costs, lengths, ArcKind}
+use Rattle.dn_instance.specs.Items.{cap_arc_in, cost_arc_in, is_counted, length_arc_in, point_in, problem_in, query_in, source_in, supplies_of, supply_in, terminal_in, terminal_of}
+use Rattle.dn_instance.specs.TextFaults.{has_supply, is_companion, item_tests}
+use Rattle.dn_instance.specs.State.Bodies.{AnswersItem, TakesRow, TakesRows, TableHolds}
 use Rattle.dn_instance.specs.State.Drafts.{BodyHolds, ComesNext, DraftHolds, HeadsHold, TakesHead, any_body, body_kind, draft_of, draft_kind}
-use Rattle.dn_instance.specs.State.ItemFaults.{AnswersFault, in_graph, terminal_fault}
-use Rattle.dn_instance.specs.State.RowRuns.{HasSigns, line_of, row_items, supply_of}
+use Rattle.dn_instance.specs.State.ItemFaults.{AnswersFault, in_graph, terminal_fault, supply_fault}
+use Rattle.dn_instance.specs.State.RowRuns.{line_of, row_items, supply_of}
 use Rattle.dn_instance.specs.declared.any_body.AnyBody.{AnyBody}
 use Rattle.dn_instance.specs.declared.any_body.AnyBody.TheVariants as Bodies
 use Rattle.dn_instance.specs.declared.body.Taken.{Taken}
 use Rattle.dn_instance.specs.declared.draft.Draft.{Draft}
 use Rattle.dn_instance.specs.declared.heads.Heads.{Heads}
 use Rattle.dn_instance.specs.declared.refusal.ItemFault.{ItemFault}
-use Rattle.dn_instance.proofs.DraftLaws.{or_else, own_kind, stray_one, table_kept}
 use Rattle.dn_instance.proofs.FirstFaults.{none_first}
 use Rattle.dn_table.proofs.GrownLaws.{none_is}
+use Rattle.dn_line.specs.declared.code.Code.{Code}
+use Rattle.std.proofs.lemmas.Bool.{cases_Bool}
+use Rattle.std.specs.BTreeMap as Map
+use Rattle.std.specs.BTreeSet as Set
+use Rattle.std.specs.BTreeMap.{is_at, insert_entry}
+use Rattle.std.proofs.lemmas.Cmp.{int_eq_equiv}
+use Rattle.dn_instance.proofs.MapLaws.{sought_eq, by_key_push, lookup_put, some_cond}
+
+-- what holds after a success without a fault
+pub on_ok_from : {P Q : Type 0} (r : Result (Unit {0}) ItemFault) (f : Option Code) → AnswersFault r f
+    → (f ≡ None → P → Q) → OnOk r P → OnOk r Q
+on_ok_from (Ok x) f a go ok = go a ok
+on_ok_from (Err e) f a go ok = tt
 
 -- the item is no `n` line
 pub record IsNoHead (i : Line) : Type 0 where
@@ -41,13 +54,9 @@ pub record IsNoHead (i : Line) : Type 0 where
   pub terminal : (l : Letter) → terminal_in l i ≡ None
 
 -- the item of a row is no `n` line
-pub row_no_head : (kind : Kind) (r : Row) → IsNoHead (line_of kind r)
+row_no_head : (kind : Kind) (r : Row) → IsNoHead (line_of kind r)
 row_no_head Min r = record { supply = refl; other = λ q. refl; terminal = λ l. refl }
-row_no_head Max r = record { supply = refl; other = λ q. refl; terminal = λ l. refl }
-row_no_head Sp r = record { supply = refl; other = λ q. refl; terminal = λ l. refl }
-row_no_head Ss r = record { supply = refl; other = λ q. refl; terminal = λ l. refl }
-row_no_head P2p r = record { supply = refl; other = λ q. refl; terminal = λ l. refl }
-row_no_head Co r = record { supply = refl; other = λ q. refl; terminal = λ l. refl }
+row_no_head _ r = record { supply = refl; other = λ q. refl; terminal = λ l. refl }
 
 rows_no_head : (kind : Kind) (rows : List RowLine) → AllByRecursion IsNoHead (row_items (line_of kind) rows)
 rows_no_head kind [] = tt
@@ -55,50 +64,28 @@ rows_no_head kind (r ∷ rows) = (row_no_head kind r.row, rows_no_head kind rows
 
 no_supplies : (items : List Line) → AllByRecursion IsNoHead items → filter_map supply_in items ≡ []
 no_supplies [] h = refl
-no_supplies (i ∷ items) h =
-    ap (λ o. cons_option o (filter_map supply_in items)) h.0.supply ∙ no_supplies items h.1
+no_supplies (i ∷ items) h = rw h.0.supply (no_supplies items h.1)
 
 not_named : (q : ℤ) (items : List Line) → AllByRecursion IsNoHead items → list_any (has_supply q) items ≡ false
 not_named q [] h = refl
-not_named q (i ∷ items) h = ap (λ b. b || list_any (has_supply q) items) (h.0.other q) ∙ not_named q items h.1
+not_named q (i ∷ items) h = rw (h.0.other q) (not_named q items h.1)
 
 no_terminal : (l : Letter) (items : List Line) → AllByRecursion IsNoHead items → terminal_of l items ≡ None
 no_terminal l [] h = refl
-no_terminal l (i ∷ items) h = ap (λ o. option_or o (terminal_of l items)) (h.0.terminal l) ∙ no_terminal l items h.1
+no_terminal l (i ∷ items) h = rw (h.0.terminal l) (no_terminal l items h.1)
 
 supplies_more : (before items : List Line) → filter_map supply_in items ≡ []
     → supplies_of (before ++ items) ≡ supplies_of before
 supplies_more before items none =
-    ap by_key
-    (filter_map-append supply_in before items
-    ∙ ap (λ l. filter_map supply_in before ++ l) none ∙ append-nil (filter_map supply_in before))
+    rw (filter_map-append supply_in before items, none, append-nil (filter_map supply_in before))
 
 named_more : (q : ℤ) (before items : List Line) → list_any (has_supply q) items ≡ false
     → list_any (has_supply q) (before ++ items) ≡ list_any (has_supply q) before
-named_more q before items none =
-    list_any-append (has_supply q) before items
-    ∙ ap (λ b. list_any (has_supply q) before || b) none ∙ or-false (list_any (has_supply q) before)
-
--- the first terminal of a letter among more items
-pub terminal_more : (l : Letter) (before items : List Line)
-    → terminal_of l (before ++ items) ≡ option_or (terminal_of l before) (terminal_of l items)
-terminal_more l [] items = refl
-terminal_more l (x ∷ before) items =
-    ap (option_or (terminal_in l x)) (terminal_more l before items)
-    ∙ by_first (terminal_in l x) (terminal_of l before) (terminal_of l items)
-  where
-    by_first : (a b c : Option ℤ) → option_or a (option_or b c) ≡ option_or (option_or a b) c
-    by_first None b c = refl
-    by_first (Some x) b c = refl
-
-or_none : (o : Option ℤ) → option_or o None ≡ o
-or_none None = refl
-or_none (Some x) = refl
+named_more q before items none = rw (list_any-append (has_supply q) before items, none) (or-false _)
 
 pub same_terminal : (l : Letter) (before items : List Line) → terminal_of l items ≡ None
     → terminal_of l (before ++ items) ≡ terminal_of l before
-same_terminal l before items none =
-    terminal_more l before items ∙ ap (option_or (terminal_of l before)) none ∙ or_none (terminal_of l before)
+same_terminal l before items none = rw (terminal_more l before items, none) (or_none (terminal_of l before))
 
 -- items that are no `n` lines keep what the heads hold
 pub heads_kept : (h : Heads) (before items : List Line) → AllByRecursion IsNoHead items → HeadsHold h before
@@ -118,138 +105,74 @@ module _ (nodes id : ℤ) (h : Heads) (s : Option ℤ) (r : Result (Unit {0}) It
   abbrev with_sink : Heads
   with_sink = record h { sink = s }
 
-  source_line : AnswersFault r (terminal_fault nodes h.source h.sink id) → OnOk r (s ≡ Some id)
-      → TakesHead nodes h with_source (Item.Terminal id S) r
-  source_line ans ok before p problem graph nodes_are was = (
-    subst (AnswersFault r)
-        (sym (ap
-        (λ x. or_else x NodeOutOfRange
-        (or_else (is_some (terminal_of S before)) RepeatedNode
-        (or_else (is_id id (terminal_of T before)) SameTerminal None))) (stray_one before p problem id graph)
-        ∙ ap (λ m. terminal_fault m (terminal_of S before) (terminal_of T before) id) nodes_are
-        ∙ ap (λ x. terminal_fault nodes x (terminal_of T before) id) (sym was.source_is)
-        ∙ ap (λ x. terminal_fault nodes h.source x id) (sym was.sink_is)))
-        ans,
-    by_result r ans ok,
-  )
-    where
-      by_result : (r : Result (Unit {0}) ItemFault) → AnswersFault r (terminal_fault nodes h.source h.sink id)
-          → OnOk r (s ≡ Some id) → OnOk r (HeadsHold with_source (before ++ Item.Terminal id S ∷ []))
-      by_result (Err e) ans ok = tt
-      by_result (Ok x) ans ok =
-          let one = none_first (not (in_graph nodes id)) NodeOutOfRange _ ans in
-          let two = none_first (is_some h.source) RepeatedNode _ one.1 in
-          let none : terminal_of S before ≡ None = sym was.source_is ∙ none_is h.source two.0 in
-          record {
-            supplies_are = was.supplies_are ∙ sym (supplies_more before (Item.Terminal id S ∷ []) refl);
-            named_are = λ q. was.named_are q ∙ sym (named_more q before (Item.Terminal id S ∷ []) refl);
-            source_is =
-                ok ∙ sym (terminal_more S before (Item.Terminal id S ∷ []) ∙ ap (λ o. option_or o (Some id)) none);
-            sink_is = was.sink_is ∙ sym (same_terminal T before (Item.Terminal id S ∷ []) refl);
-          }
-
-  sink_line : AnswersFault r (terminal_fault nodes h.sink h.source id) → OnOk r (s ≡ Some id)
-      → TakesHead nodes h with_sink (Item.Terminal id T) r
-  sink_line ans ok before p problem graph nodes_are was = (
-    subst (AnswersFault r)
-        (sym (ap
-        (λ x. or_else x NodeOutOfRange
-        (or_else (is_some (terminal_of T before)) RepeatedNode
-        (or_else (is_id id (terminal_of S before)) SameTerminal None))) (stray_one before p problem id graph)
-        ∙ ap (λ m. terminal_fault m (terminal_of T before) (terminal_of S before) id) nodes_are
-        ∙ ap (λ x. terminal_fault nodes x (terminal_of S before) id) (sym was.sink_is)
-        ∙ ap (λ x. terminal_fault nodes h.sink x id) (sym was.source_is)))
-        ans,
-    by_result r ans ok,
-  )
-    where
-      by_result : (r : Result (Unit {0}) ItemFault) → AnswersFault r (terminal_fault nodes h.sink h.source id)
-          → OnOk r (s ≡ Some id) → OnOk r (HeadsHold with_sink (before ++ Item.Terminal id T ∷ []))
-      by_result (Err e) ans ok = tt
-      by_result (Ok x) ans ok =
-          let one = none_first (not (in_graph nodes id)) NodeOutOfRange _ ans in
-          let two = none_first (is_some h.sink) RepeatedNode _ one.1 in
-          let none : terminal_of T before ≡ None = sym was.sink_is ∙ none_is h.sink two.0 in
-          record {
-            supplies_are = was.supplies_are ∙ sym (supplies_more before (Item.Terminal id T ∷ []) refl);
-            named_are = λ q. was.named_are q ∙ sym (named_more q before (Item.Terminal id T ∷ []) refl);
-            source_is = was.source_is ∙ sym (same_terminal S before (Item.Terminal id T ∷ []) refl);
-            sink_is =
-                ok ∙ sym (terminal_more T before (Item.Terminal id T ∷ []) ∙ ap (λ o. option_or o (Some id)) none);
-          }
+  not_yet : (own other : Option ℤ) → terminal_fault nodes own other id ≡ None → own ≡ None
+  not_yet own other f =
+      none_is own
+      (none_first (is_some own) RepeatedNode _ (none_first (not (in_graph nodes id)) NodeOutOfRange _ f).1).0
 
   pub source_taken : (l : Letter) → l ≡ S → AnswersFault r (terminal_fault nodes h.source h.sink id)
       → OnOk r (s ≡ Some id) → TakesHead nodes h with_source (Item.Terminal id l) r
-  source_taken l e ans ok =
-      subst (λ x. TakesHead nodes h with_source (Item.Terminal id x) r) (sym e) (source_line ans ok)
+  source_taken l is ans ok before p problem graph nodes_are was =
+      let i = Item.Terminal id S ∷ [] in
+      rw is (
+        rw (problem, graph, and-true, nodes_are, ← was.source_is, ← was.sink_is) ans,
+        on_ok_from r (terminal_fault nodes h.source h.sink id) ans (λ f e. record {
+          supplies_are = was.supplies_are ∙ sym (supplies_more before i refl);
+          named_are = λ q. was.named_are q ∙ sym (named_more q before i refl);
+          source_is = rw (terminal_more S before i, ← was.source_is, not_yet h.source h.sink f) e;
+          sink_is = was.sink_is ∙ sym (same_terminal T before i refl);
+        }) ok,
+      )
 
   pub sink_taken : (l : Letter) → l ≡ T → AnswersFault r (terminal_fault nodes h.sink h.source id)
       → OnOk r (s ≡ Some id) → TakesHead nodes h with_sink (Item.Terminal id l) r
-  sink_taken l e ans ok = subst (λ x. TakesHead nodes h with_sink (Item.Terminal id x) r) (sym e) (sink_line ans ok)
+  sink_taken l is ans ok before p problem graph nodes_are was =
+      let i = Item.Terminal id T ∷ [] in
+      rw is (
+        rw (problem, graph, and-true, nodes_are, ← was.source_is, ← was.sink_is) ans,
+        on_ok_from r (terminal_fault nodes h.sink h.source id) ans (λ f e. record {
+          supplies_are = was.supplies_are ∙ sym (supplies_more before i refl);
+          named_are = λ q. was.named_are q ∙ sym (named_more q before i refl);
+          source_is = was.source_is ∙ sym (same_terminal S before i refl);
+          sink_is = rw (terminal_more T before i, ← was.sink_is, not_yet h.sink h.source f) e;
+        }) ok,
+      )
 
   pub source_same : OnErr r (s ≡ h.source)
       → OnErr r ((items : List Line) → HeadsHold h items → HeadsHold with_source items)
-  source_same same =
-      on_err_weaker r
-      (λ e items was. record {
-        supplies_are = was.supplies_are;
-        named_are = was.named_are;
-        source_is = e ∙ was.source_is;
-        sink_is = was.sink_is;
-      })
-      same
+  source_same same = on_err_weaker r (λ e items was. rw e was) same
 
   pub sink_same : OnErr r (s ≡ h.sink) → OnErr r ((items : List Line) → HeadsHold h items → HeadsHold with_sink items)
-  sink_same same =
-      on_err_weaker r
-      (λ e items was. record {
-        supplies_are = was.supplies_are;
-        named_are = was.named_are;
-        source_is = was.source_is;
-        sink_is = e ∙ was.sink_is;
-      })
-      same
+  sink_same same = on_err_weaker r (λ e items was. rw e was) same
+
+-- an item that is not an arc does not change what the table holds
+table_kept : {B Arc : Type 0} (kind : ArcKind Arc) (arc_in : Line → Option ((ℤ × ℤ) × Arc)) (lists : B → List Arc)
+    (table : List ((ℤ × ℤ) × B)) (before : List Line) (i : Line) → arc_in i ≡ None
+    → TableHolds kind arc_in lists table before → TableHolds kind arc_in lists table (before ++ i ∷ [])
+table_kept kind arc_in lists table before i e t =
+    let same = kept arc_in before i e in
+    record { lists_them = rw same t.lists_them; are_arcs = rw same t.are_arcs }
 
 -- an item that is not counted makes nothing of a body
-cost_none : (i : Line) → is_counted i ≡ false → arcs_of cost_arc_in (i ∷ []) ≡ []
-cost_none (Item.MinArc _ _ _ _ _) h = cc
-cost_none _ h = refl
-
-cap_none : (i : Line) → is_counted i ≡ false → arcs_of cap_arc_in (i ∷ []) ≡ []
-cap_none (Item.MaxArc _ _ _) h = cc
-cap_none _ h = refl
-
-length_none : (i : Line) → is_counted i ≡ false → arcs_of length_arc_in (i ∷ []) ≡ []
-length_none (Item.SpArc _ _ _) h = cc
-length_none _ h = refl
-
-source_none : (i : Line) → is_counted i ≡ false → filter_map source_in (i ∷ []) ≡ []
-source_none (Item.Source _) h = cc
-source_none _ h = refl
-
-query_none : (i : Line) → is_counted i ≡ false → filter_map query_in (i ∷ []) ≡ []
-query_none (Item.Query _ _) h = cc
-query_none _ h = refl
-
-point_none : (i : Line) → is_counted i ≡ false → filter_map point_in (i ∷ []) ≡ []
-point_none (Item.Point _ _ _) h = cc
-point_none _ h = refl
-
-same_list : {X : Type 0} (f : Line → Option X) (before : List Line) (i : Line) → filter_map f (i ∷ []) ≡ []
-    → filter_map f (before ++ i ∷ []) ≡ filter_map f before
-same_list f before i none =
-    filter_map-append f before (i ∷ []) ∙ ap (λ l. filter_map f before ++ l) none ∙ append-nil (filter_map f before)
+makes_none : (i : Line) → is_counted i ≡ false → (cost_arc_in i ≡ None) × (cap_arc_in i ≡ None)
+    × (length_arc_in i ≡ None) × (source_in i ≡ None) × (query_in i ≡ None) × (point_in i ≡ None)
+makes_none (Item.MinArc _ _ _ _ _) h = cc
+makes_none (Item.MaxArc _ _ _) h = cc
+makes_none (Item.SpArc _ _ _) h = cc
+makes_none (Item.Source _) h = cc
+makes_none (Item.Query _ _) h = cc
+makes_none (Item.Point _ _ _) h = cc
+makes_none _ h = (refl, refl, refl, refl, refl, refl)
 
 pub body_kept : (b : AnyBody) (before : List Line) (i : Line) → is_counted i ≡ false → IsSome (body_kind b)
     → BodyHolds b before → BodyHolds b (before ++ i ∷ [])
 body_kept Bodies.Empty before i free some h = cc
-body_kept (Bodies.Min t) before i free some h = table_kept costs cost_arc_in _ t before i (cost_none i free) h
-body_kept (Bodies.Max t) before i free some h = table_kept capacities cap_arc_in _ t before i (cap_none i free) h
-body_kept (Bodies.Sp t) before i free some h = table_kept lengths length_arc_in _ t before i (length_none i free) h
-body_kept (Bodies.Ss ids) before i free some h = h ∙ sym (same_list source_in before i (source_none i free))
-body_kept (Bodies.P2p pairs) before i free some h = h ∙ sym (same_list query_in before i (query_none i free))
-body_kept (Bodies.Co points) before i free some h =
-    h ∙ sym (ap by_key (same_list point_in before i (point_none i free)))
+body_kept (Bodies.Min t) before i free some h = table_kept costs cost_arc_in _ t before i (makes_none i free).0 h
+body_kept (Bodies.Max t) before i free some h = table_kept capacities cap_arc_in _ t before i (makes_none i free).1 h
+body_kept (Bodies.Sp t) before i free some h = table_kept lengths length_arc_in _ t before i (makes_none i free).2 h
+body_kept (Bodies.Ss ids) before i free some h = rw (kept source_in before i (makes_none i free).3) h
+body_kept (Bodies.P2p pairs) before i free some h = rw (kept query_in before i (makes_none i free).4) h
+body_kept (Bodies.Co points) before i free some h = rw (kept point_in before i (makes_none i free).5) h
 
 -- a problem line is not counted, and no `n` line
 no_item : (i : Line) → IsSome (problem_in i) → (is_counted i ≡ false) × IsNoHead i
@@ -277,19 +200,10 @@ draft_rows kind nodes d b rows r h before a =
       signs = a.signs;
       holds = (a.holds.0, a.holds.1.1);
     }) in
+    let items = take r.rows rows in
+    let heads = heads_kept d.heads before (row_items (line_of kind) items) (rows_no_head kind items) a.holds.1.0 in
     record {
-      joins = record {
-        faultless = t.joins.faultless;
-        holds = (
-          t.joins.holds.0,
-          (
-            heads_kept d.heads before (row_items (line_of kind) (take r.rows rows))
-                (rows_no_head kind (take r.rows rows))
-                a.holds.1.0,
-            t.joins.holds.1,
-          ),
-        );
-      };
+      joins = record { faultless = t.joins.faultless; holds = (t.joins.holds.0, (heads, t.joins.holds.1)) };
       stops = t.stops;
     }
 
@@ -303,50 +217,41 @@ draft_supply nodes d heads row r takes before a =
       answer = record { fault = t.0; memory = λ out. inr tt };
       holds =
           on_ok_weaker r
-          (λ held. (
-            a.holds.0,
-            (held, body_kept d.body before (supply_of row) refl (ap is_some a.holds.0) a.holds.1.1),
-          ))
+          (λ held. (a.holds.0, (held, body_kept d.body before (supply_of row) refl (ap is_some a.holds.0) a.holds.1.1)))
           t.1;
     }
 
 -- the next item after what a draft holds
 module _ (d : Draft) (nodes : ℤ) (before : List Line) (i : Line) (r : Result (Unit {0}) ItemFault)
     (next : ComesNext d nodes before i) where
-  -- if it is an `n` line, the heads take it
-  pub draft_head : (heads : Heads) (kind : Kind) → kind_before i ≡ Some kind → is_companion kind ≡ false
-      → is_counted i ≡ false → TakesHead nodes d.heads heads i r
-      → (AnswersFault r (first_fault (item_tests before (Some i))))
+  abbrev HeadTaken : Heads → Type 0
+  HeadTaken heads = (AnswersFault r (first_fault (item_tests before (Some i))))
       × (OnOk r (DraftHolds (record d { heads = heads }) (before ++ i ∷ [])))
+
+  -- if it is an `n` line, the heads take it
+  draft_head : (heads : Heads) (kind : Kind) → kind_before i ≡ Some kind → is_companion kind ≡ false
+      → is_counted i ≡ false → TakesHead nodes d.heads heads i r → HeadTaken heads
   draft_head heads kind k graph free takes =
       let at = next.drafted in
-      let own : next.problem.kind ≡ kind = own_kind (sym k ∙ next.of_kind) in
+      let own : next.problem.kind ≡ kind = cc (k, next.of_kind) in
       let t = takes before next.problem at.problem_is (ap is_companion own ∙ graph) at.nodes_are at.holds.0 in (
         t.0,
         on_ok_weaker r (λ held. (held, body_kept d.body before i free (ap is_some at.kind_is) at.holds.1)) t.1,
       )
 
   pub supply_next : (heads : Heads) (id flow : ℤ) → i ≡ Item.Supply id flow
-      → TakesHead nodes d.heads heads (Item.Supply id flow) r
-      → (AnswersFault r (first_fault (item_tests before (Some i))))
-      × (OnOk r (DraftHolds (record d { heads = heads }) (before ++ i ∷ [])))
-  supply_next heads id flow e takes =
-      draft_head heads Min (ap kind_before e) refl (ap is_counted e)
-      (subst (λ l. TakesHead nodes d.heads heads l r) (sym e) takes)
+      → TakesHead nodes d.heads heads (Item.Supply id flow) r → HeadTaken heads
+  supply_next heads id flow e takes = draft_head heads Min (ap kind_before e) refl (ap is_counted e) (rw e takes)
 
   pub terminal_next : (heads : Heads) (id : ℤ) (letter : Letter) → i ≡ Item.Terminal id letter
-      → TakesHead nodes d.heads heads (Item.Terminal id letter) r
-      → (AnswersFault r (first_fault (item_tests before (Some i))))
-      × (OnOk r (DraftHolds (record d { heads = heads }) (before ++ i ∷ [])))
-  terminal_next heads id letter e takes =
-      draft_head heads Max (ap kind_before e) refl (ap is_counted e)
-      (subst (λ l. TakesHead nodes d.heads heads l r) (sym e) takes)
+      → TakesHead nodes d.heads heads (Item.Terminal id letter) r → HeadTaken heads
+  terminal_next heads id letter e takes = draft_head heads Max (ap kind_before e) refl (ap is_counted e) (rw e takes)
 
   -- if it is counted, the body takes its row
   pub draft_row : (b : AnyBody) (row : Row)
       → ((kind : Kind) → TakesRow (any_body kind) (line_of kind) nodes d.body b row r)
-      → ((kind : Kind) → kind_before i ≡ Some kind → is_counted i ≡ true → line_of kind row ≡ i)
-      → is_counted i ≡ true → AnswersItem before i r × OnOk r (DraftHolds (record d { body = b }) (before ++ i ∷ []))
+      → ((kind : Kind) → kind_before i ≡ Some kind → is_counted i ≡ true → line_of kind row ≡ i) → is_counted i ≡ true
+      → AnswersItem before i r × OnOk r (DraftHolds (record d { body = b }) (before ++ i ∷ []))
   draft_row b row takes spells counts =
       let at = next.drafted in
       let kind = next.problem.kind in
@@ -356,30 +261,98 @@ module _ (d : Draft) (nodes : ℤ) (before : List Line) (i : Line) (r : Result (
         problem_is = at.problem_is;
         kind_is = refl;
         nodes_are = at.nodes_are;
-        signs = (subst HasSigns (sym e) next.signs, tt);
+        signs = (rw e next.signs, tt);
         holds = (at.kind_is, at.holds.1);
       }) in (
-        subst (λ l. AnswersItem before l r) e t.answer,
+        rw e at t.answer,
         on_ok_weaker r
             (λ held. (
-              heads_kept d.heads before (i ∷ []) (subst IsNoHead e (row_no_head kind row), tt) at.holds.0,
-              subst (λ l. BodyHolds b (before ++ l ∷ [])) e held.1,
+              heads_kept d.heads before (i ∷ []) (rw e at (row_no_head kind row), tt) at.holds.0,
+              rw e at held.1,
             ))
             t.holds,
       )
 
 -- an item of a kind is an `n` line or counted
 pub others_counted : (i : Line) (kind : Kind) → kind_before i ≡ Some kind
-    → ((id flow : ℤ) → i ≡ Item.Supply id flow → ⊥)
-    → ((id : ℤ) (letter : Letter) → i ≡ Item.Terminal id letter → ⊥) → is_counted i ≡ true
+    → ((id flow : ℤ) → i ≡ Item.Supply id flow → ⊥) → ((id : ℤ) (letter : Letter) → i ≡ Item.Terminal id letter → ⊥)
+    → is_counted i ≡ true
 others_counted (Item.Supply id flow) kind k s t = absurd (s id flow refl)
 others_counted (Item.Terminal id letter) kind k s t = absurd (t id letter refl)
-others_counted Item.Skip kind k s t = cc
-others_counted (Item.Graph _ _ _) kind k s t = cc
-others_counted (Item.Aux _ _) kind k s t = cc
-others_counted (Item.MinArc _ _ _ _ _) kind k s t = refl
-others_counted (Item.MaxArc _ _ _) kind k s t = refl
-others_counted (Item.SpArc _ _ _) kind k s t = refl
-others_counted (Item.Source _) kind k s t = refl
-others_counted (Item.Query _ _) kind k s t = refl
-others_counted (Item.Point _ _ _) kind k s t = refl
+others_counted _ kind k s t = cc
+
+-- whether an ID has a node line, with one more node line
+named_push : (q id flow : ℤ) (before : List Line)
+    → list_any (has_supply q) (before ++ Item.Supply id flow ∷ []) ≡ (list_any (has_supply q) before || int_eq id q)
+named_push q id flow before = rw (list_any-append (has_supply q) before (Item.Supply id flow ∷ []), or-false)
+
+flow_named : (s g c : Bool) → ((s || g) || c) ≡ ((g || c) || s)
+flow_named true true c = refl
+flow_named true false true = refl
+flow_named true false false = refl
+flow_named false true c = refl
+flow_named false false true = refl
+flow_named false false false = refl
+
+module _ (id flow : ℤ) (before : List Line) (s s' : BTreeMap ℤ ℤ)
+    (put : s'.entries ≡ cond (int_eq flow (pos 0)) s.entries (insert_entry int_cmp s.entries id flow)) where
+  named : (q : ℤ) (z z' : BTreeSet ℤ)
+      → (is_some (Map.get int_cmp s q) || Set.contains int_cmp z q) ≡ list_any (has_supply q) before
+      → Set.contains int_cmp z' q ≡ (Set.contains int_cmp z q || (int_eq flow (pos 0) && is_at (int_cmp id) q))
+      → (is_some (Map.get int_cmp s' q) || Set.contains int_cmp z' q) ≡ list_any (has_supply q)
+      (before ++ Item.Supply id flow ∷ [])
+  named q z z' was kept = elim (cases_Bool (int_eq flow (pos 0))) [
+    | inl e ↦
+        let same = rw e at put in
+        let in_idle = rw (e, sought_eq id q, int_eq_equiv.symm q id) at kept in
+        rw (named_push q id flow before, ← was, same, in_idle)
+        (sym (or_assoc (is_some (Map.get int_cmp s q)) (Set.contains int_cmp z q) (int_eq id q)))
+    | inr e ↦
+        let more = rw e at put in
+        let in_idle = rw (e, or-false) at kept in
+        rw (named_push q id flow before, ← was, more, in_idle, lookup_put q id flow, some_cond, sought_eq q id)
+        (flow_named (int_eq id q) (is_some (Map.get int_cmp s q)) (Set.contains int_cmp z q))
+  ]
+
+  supplies_put : s.entries ≡ supplies_of before → s'.entries ≡ supplies_of (before ++ Item.Supply id flow ∷ [])
+  supplies_put are = elim (cases_Bool (int_eq flow (pos 0))) [
+    | inl e ↦ rw (kept supply_in before (Item.Supply id flow) (rw e), ← are) (rw e at put)
+    | inr e ↦ rw (grown supply_in before (Item.Supply id flow) (id, flow) (rw e), by_key_push, ← are) (rw e at put)
+  ]
+
+-- `n` lines of a `min` text
+module _ (nodes id flow : ℤ) (h : Heads) (s : BTreeMap ℤ ℤ) (z : BTreeSet ℤ) (r : Result (Unit {0}) ItemFault) where
+  abbrev with_supply : Heads
+  with_supply = record h { supplies = s; idle = z }
+
+  pub supply_taken :
+      AnswersFault r (supply_fault nodes (is_some (Map.get int_cmp h.supplies id) || Set.contains int_cmp h.idle id) id)
+      → OnOk r
+      (s.entries ≡ cond (int_eq flow (pos 0)) h.supplies.entries (insert_entry int_cmp h.supplies.entries id flow))
+      → OnOk r ((q : ℤ) → Set.contains int_cmp z q
+      ≡ (Set.contains int_cmp h.idle q || (int_eq flow (pos 0) && is_at (int_cmp id) q)))
+      → TakesHead nodes h with_supply (Item.Supply id flow) r
+  supply_taken ans put kept before p problem graph nodes_are was = (
+    rw (problem, graph, and-true, nodes_are, ← was.named_are id) ans,
+    both_ok r (λ put kept. record {
+      supplies_are = supplies_put id flow before h.supplies s put was.supplies_are;
+      named_are = λ q. named id flow before h.supplies s put q h.idle z (was.named_are q) (kept q);
+      source_is = was.source_is ∙ sym (same_terminal S before (Item.Supply id flow ∷ []) refl);
+      sink_is = was.sink_is ∙ sym (same_terminal T before (Item.Supply id flow ∷ []) refl);
+    }) put kept,
+  )
+    where
+      both_ok : {P Q R : Type 0} (r : Result (Unit {0}) ItemFault) → (P → Q → R) → OnOk r P → OnOk r Q → OnOk r R
+      both_ok (Ok x) go p q = go p q
+      both_ok (Err e) go p q = tt
+
+  -- a node line that is not taken does not change what the heads hold
+  pub supply_same : OnErr r ((s.entries ≡ h.supplies.entries) × (z.keys ≡ h.idle.keys))
+      → OnErr r ((items : List Line) → HeadsHold h items → HeadsHold with_supply items)
+  supply_same same =
+      on_err_weaker r (λ e items was. record {
+        supplies_are = e.0 ∙ was.supplies_are;
+        named_are = λ q. rw (e.0, e.1) (was.named_are q);
+        source_is = was.source_is;
+        sink_is = was.sink_is;
+      }) same

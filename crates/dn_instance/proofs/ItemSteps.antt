@@ -1,20 +1,19 @@
 -- Lemmas on the items that have been read and one more item.
-use Rattle.std.proofs.Common.{◌≡◌, ◌<◌, ℕ, ◌+◌, ℤ, pos, ◌+ℤ◌, ◌<ℤ◌, List, [], ◌∷◌, ◌++◌, length, filter, Bool, true, false, cond, not, ◌||◌, int_lt, Option, Some, None, is_some, IsSome, refl, sym, subst, ap, ◌∙◌, arith, ◌≤◌, ◌^◌, ◌-◌, FitsSigned, w64, suc}
-use Rattle.std.proofs.lemmas.Int.{ints, fits_signed_from_abs}
+use Rattle.std.proofs.Common.{◌≡◌, ◌<◌, ℕ, ◌+◌, ℤ, pos, ◌<ℤ◌, List, [], ◌∷◌, ◌++◌, filter, true, false, ◌||◌, int_lt, Option, Some, None, is_some, IsSome, refl, sym, ap, ◌∙◌, arith, ◌^◌, suc, add-one, append-nil, length-append, option_map}
+use Rattle.std.proofs.lemmas.List.Elements.{filter-append}
+use Rattle.std.proofs.lemmas.Bool.{not-false, not-true}
+use Rattle.std.proofs.lemmas.Int.{ints}
 use Rattle.std.proofs.lemmas.Bool.Decides.{nat_tests}
 use Rattle.std.proofs.lemmas.List.Folds.{list_any-append}
-use Rattle.std.proofs.Math.Bool.{or-false, or-true}
-use Rattle.std.proofs.Math.Nat.{min-eq_left}
-use Rattle.std.specs.Int.{saturate_signed}
 use Rattle.std.specs.List.{list_any}
-use Rattle.std.specs.Option.{option_map, option_or}
+use Rattle.std.specs.Option.{option_or}
 use Rattle.dn_line.specs.declared.line.Line.{Line}
 use Rattle.dn_line.specs.declared.line.Line.TheVariants as Item
 use Rattle.dn_line.specs.declared.kind.Kind.{Kind}
 use Rattle.dn_line.specs.declared.kind.Kind.TheVariants as Kinds
 use Rattle.dn_line.specs.State.Spelling.{kind_before, slots_of}
 use Rattle.dn_instance.specs.Items.{Problem, problem_of, problem_in, kind_known, counted, is_counted}
-use Rattle.dn_instance.specs.TextFaults.{is_arc, is_full}
+use Rattle.dn_instance.specs.TextFaults.{is_arc, is_companion}
 use Rattle.dn_instance.specs.State.Drafts.{BodyHolds, body_kind, draft_kind, is_graph, ComesNext, DraftHolds}
 use Rattle.dn_instance.specs.State.RowRuns.{HasRoom}
 use Rattle.dn_instance.specs.State.TextsSoFar.{Awaits, HasRead, problem_as}
@@ -22,12 +21,11 @@ use Rattle.dn_instance.specs.declared.any_body.AnyBody.{AnyBody}
 use Rattle.dn_instance.specs.declared.any_body.AnyBody.TheVariants as Bodies
 use Rattle.dn_instance.specs.declared.draft.Draft.{Draft}
 use Rattle.dn_instance.specs.declared.text_so_far.TextSoFar.{TextSoFar}
-use Rattle.dn_instance.proofs.CleanItems.{problem_push}
 use Rattle.dn_instance.proofs.HeadsLaws.{held_problem}
 
 -- the draft is of the declared kind
 pub kind_agrees : (t : TextSoFar) (items : List Line) → HasRead t items → kind_known items ≡ draft_kind t.draft
-kind_agrees t items at = ap (option_map (λ (p : Problem). p.kind)) at.problem_is ∙ kind_as (draft_kind t.draft)
+kind_agrees t items at = rw at.problem_is (kind_as (draft_kind t.draft))
   where
     kind_as : (o : Option Kind) → option_map (λ (p : Problem). p.kind) (option_map (problem_as t) o) ≡ o
     kind_as None = refl
@@ -35,9 +33,8 @@ kind_agrees t items at = ap (option_map (λ (p : Problem). p.kind)) at.problem_i
 
 -- the items declare the problem of the draft's kind
 pub problem_agrees : (t : TextSoFar) (items : List Line) (kind : Kind) → HasRead t items → draft_kind t.draft ≡ Some
-    kind
-    → problem_of items ≡ Some (problem_as t kind)
-problem_agrees t items kind at is = at.problem_is ∙ ap (option_map (problem_as t)) is
+    kind → problem_of items ≡ Some (problem_as t kind)
+problem_agrees t items kind at is = rw is at at.problem_is
 
 -- the items that have been read do not depend on the number of lines
 pub with_lines : (t : TextSoFar) (n : ℕ) (items : List Line) → HasRead t items → HasRead (record t { closed = n }) items
@@ -54,15 +51,7 @@ pub no_problem : (i : Line) → ((kind : Kind) (nodes arcs : ℤ) → i ≡ Item
     → ((kind : Kind) (count : ℤ) → i ≡ Item.Aux kind count → ⊥) → problem_in i ≡ None
 no_problem (Item.Graph kind nodes arcs) g a = absurd (g kind nodes arcs refl)
 no_problem (Item.Aux kind count) g a = absurd (a kind count refl)
-no_problem Item.Skip g a = refl
-no_problem (Item.Supply _ _) g a = refl
-no_problem (Item.Terminal _ _) g a = refl
-no_problem (Item.MinArc _ _ _ _ _) g a = refl
-no_problem (Item.MaxArc _ _ _) g a = refl
-no_problem (Item.SpArc _ _ _) g a = refl
-no_problem (Item.Source _) g a = refl
-no_problem (Item.Query _ _) g a = refl
-no_problem (Item.Point _ _ _) g a = refl
+no_problem _ g a = refl
 
 -- an item other than a problem line belongs to a kind
 kind_of_item : (i : Line) → problem_in i ≡ None → IsSome (slots_of i) → (kind : Kind) × (kind_before i ≡ Some kind)
@@ -90,139 +79,91 @@ comes_next t before i a none =
             problem_is = problem_agrees t before k.0 a.read kind_is;
             kind_is = kind_is;
             nodes_are = refl;
-            holds =
-                a.read.holds;
+            holds = a.read.holds;
           };
       of_kind = k.1;
       signs = a.may.signs;
     }
 
-pub problem_kept : (items : List Line) (i : Line) (p : Problem) → problem_of items ≡ Some p
-    → problem_of (items ++ i ∷ []) ≡ Some p
-problem_kept items i p h = problem_push items i ∙ ap (λ o. option_or o (problem_in i)) h
+or_kept : (a b c : Option Problem) (p : Problem) → option_or a b ≡ Some p → (b ≡ Some p → c ≡ Some p)
+    → option_or a c ≡ Some p
+or_kept None b c p h k = k h
+or_kept (Some x) b c p h k = h
+
+-- the first problem line stays the first with more items
+pub problem_all : (before items : List Line) (p : Problem) → problem_of before ≡ Some p
+    → problem_of (before ++ items) ≡ Some p
+problem_all [] items p h = cc
+problem_all (x ∷ before) items p h =
+    or_kept (problem_in x) (problem_of before) (problem_of (before ++ items)) p h (problem_all before items p)
 
 -- a counted item adds 1 to the count, and any other item adds nothing
 pub counted_yes : (items : List Line) (i : Line) → is_counted i ≡ true → counted (items ++ i ∷ []) ≡ suc (counted items)
-counted_yes [] i h = ap (λ b. length (cond b (i ∷ []) [])) h
-counted_yes (x ∷ rest) i h = by_test (is_counted x) (counted_yes rest i h)
-  where
-    by_test : (b : Bool) → length (filter is_counted (rest ++ i ∷ [])) ≡ suc (length (filter is_counted rest))
-        → length (cond b (x ∷ filter is_counted (rest ++ i ∷ [])) (filter is_counted (rest ++ i ∷ []))) ≡ suc
-        (length (cond b (x ∷ filter is_counted rest) (filter is_counted rest)))
-    by_test true e = ap suc e
-    by_test false e = e
+counted_yes items i h =
+    rw (filter-append is_counted items (i ∷ []), h) (length-append (filter is_counted items) (i ∷ []) ∙ add-one _)
 
 pub counted_no : (items : List Line) (i : Line) → is_counted i ≡ false → counted (items ++ i ∷ []) ≡ counted items
-counted_no [] i h = ap (λ b. length (cond b (i ∷ []) [])) h
-counted_no (x ∷ rest) i h = by_test (is_counted x) (counted_no rest i h)
-  where
-    by_test : (b : Bool) → length (filter is_counted (rest ++ i ∷ [])) ≡ length (filter is_counted rest)
-        → length (cond b (x ∷ filter is_counted (rest ++ i ∷ [])) (filter is_counted (rest ++ i ∷ []))) ≡ length
-        (cond b (x ∷ filter is_counted rest) (filter is_counted rest))
-    by_test true e = ap suc e
-    by_test false e = e
+counted_no items i h = rw (filter-append is_counted items (i ∷ []), h, append-nil)
 
-any_push : (items : List Line) (i : Line) → list_any is_arc (items ++ i ∷ []) ≡ (list_any is_arc items || is_arc i)
-any_push items i = list_any-append is_arc items (i ∷ []) ∙ ap (λ b. list_any is_arc items || b) (or-false (is_arc i))
-
--- in a graph problem, the counted items are the arcs
-arc_counted : (i : Line) → is_graph (kind_before i) ≡ true → is_arc i ≡ is_counted i
-arc_counted (Item.Source id) h = cc
-arc_counted (Item.Query a b) h = cc
-arc_counted (Item.Point id x y) h = cc
-arc_counted (Item.MinArc a b c d e) h = refl
-arc_counted (Item.MaxArc a b c) h = refl
-arc_counted (Item.SpArc a b c) h = refl
-arc_counted Item.Skip h = refl
-arc_counted (Item.Graph _ _ _) h = refl
-arc_counted (Item.Aux _ _) h = refl
-arc_counted (Item.Supply _ _) h = refl
-arc_counted (Item.Terminal _ _) h = refl
-
--- adding 1 to a number that is below a number of 64 bits does not saturate
-pub next_fits : (k : ℕ) (m : ℤ) → m <ℤ pos (2 ^ 63) → int_lt (pos k) m ≡ true → FitsSigned w64 (pos (suc k))
-next_fits k m f h = fits_signed_from_abs w64 (pos (suc k)) (grind (arith, ints, nat_tests))
-
-pub next_few : (k : ℕ) (m : ℤ) → m <ℤ pos (2 ^ 63) → int_lt (pos k) m ≡ true → suc k < 2 ^ 63
+pub next_few : (k : ℕ) (m : ℤ) → m <ℤ pos (2 ^ 63) → int_lt (pos k) m ≡ true → k + 1 < 2 ^ 63
 next_few k m f h = grind (arith, ints, nat_tests)
-
-pub sum_is : (k : ℕ) (m : ℤ) → m <ℤ pos (2 ^ 63) → int_lt (pos k) m ≡ true
-    → saturate_signed w64 (pos k +ℤ pos 1) ≡ pos (suc k)
-sum_is k m f h =
-    let small : (k + 1) ≤ 2 ^ 63 - 1 = grind (arith, ints, nat_tests) in
-    let one_more : k + 1 ≡ suc k = grind (arith) in
-    ap pos (min-eq_left small ∙ one_more)
 
 -- if a counted item may follow, fewer counted lines than declared have been read
 pub has_room : (t : TextSoFar) (items : List Line) (i : Line) (kind : Kind) → HasRead t items
     → draft_kind t.draft ≡ Some kind → HasRoom items i → is_counted i ≡ true
     → int_lt (pos (counted items)) t.count ≡ true
-has_room t items i kind at is room y =
-    not_not _ (sym (ap (λ o. is_full o (counted items)) (problem_agrees t items kind at is)) ∙ room y)
+has_room t items i kind at is room y = not-false _ (rw (problem_agrees t items kind at is) at (room y))
+
+-- more items have been read
+pub more_read : (t : TextSoFar) (d : Draft) (before items : List Line) (kind : Kind) → HasRead t before
+    → draft_kind t.draft ≡ Some kind → draft_kind d ≡ draft_kind t.draft
+    → (is_companion kind ≡ false → list_any is_arc items ≡ int_lt (pos 0) (pos (counted items))) → (n : ℤ)
+    → n ≡ pos (counted before + counted items) → counted before + counted items < 2 ^ 63
+    → DraftHolds d (before ++ items) → HasRead (record t { counted = n; draft = d }) (before ++ items)
+more_read t d before items kind at is kept arcs n e few h =
+    let all : counted (before ++ items) ≡ counted before + counted items =
+    rw (filter-append is_counted before items) (length-append (filter is_counted before) (filter is_counted items)) in
+    record {
+      problem_is = rw (kept ∙ is) (problem_all before items _ (problem_agrees t before kind at is));
+      count_fits = at.count_fits;
+      counted_is = rw all e;
+      counted_few = rw all few;
+      arcs_are = λ graph.
+          let g = rw kept at graph in
+          rw (list_any-append is_arc before items, at.arcs_are g, at.counted_is, arcs (not-true _ (rw is at g)), e)
+          (sum (counted before) (counted items));
+      holds = h;
+    }
   where
-    not_not : (b : Bool) → not b ≡ false → b ≡ true
-    not_not true h = refl
-    not_not false h = cc
+    sum : (k m : ℕ) → (int_lt (pos 0) (pos k) || int_lt (pos 0) (pos m)) ≡ int_lt (pos 0) (pos (k + m))
+    sum k m = grind (arith, ints, nat_tests)
+
+-- in a graph problem, the counted items are the arcs
+arc_counted : (i : Line) → is_graph (kind_before i) ≡ true
+    → list_any is_arc (i ∷ []) ≡ int_lt (pos 0) (pos (counted (i ∷ [])))
+arc_counted Item.Skip h = refl
+arc_counted _ h = cc
 
 -- one more item has been read
-module _ (t : TextSoFar) (d : Draft) (items : List Line) (i : Line) (at : HasRead t items)
-    (next : ComesNext t.draft t.nodes items i) (kept : draft_kind d ≡ draft_kind t.draft) where
-  arcs_then : (n : ℤ) (b : Bool) → is_counted i ≡ b → n ≡ pos (counted (items ++ i ∷ []))
-      → is_graph (draft_kind d) ≡ true → list_any is_arc (items ++ i ∷ []) ≡ int_lt (pos 0) n
-  arcs_then n b c e graph =
-      any_push items i ∙ ap (λ x. list_any is_arc items || x)
-      (arc_counted i (ap is_graph (next.of_kind ∙ sym next.drafted.kind_is ∙ sym kept) ∙ graph) ∙ c) ∙ by_test b c
-    where
-      above : (k : ℕ) → int_lt (pos 0) (pos (suc k)) ≡ true
-      above k = grind (arith, ints, nat_tests)
-
-      by_test : (b : Bool) → is_counted i ≡ b → (list_any is_arc items || b) ≡ int_lt (pos 0) n
-      by_test true c =
-          or-true (list_any is_arc items) ∙ sym
-          (ap (int_lt (pos 0)) (e ∙ ap pos (counted_yes items i c)) ∙ above (counted items))
-      by_test false c =
-          or-false (list_any is_arc items) ∙ at.arcs_are (ap is_graph (sym kept) ∙ graph)
-          ∙ ap (int_lt (pos 0)) (at.counted_is ∙ sym (e ∙ ap pos (counted_no items i c)))
-
-  pub is_then : (n : ℤ) → n ≡ pos (counted (items ++ i ∷ [])) → counted (items ++ i ∷ []) < 2 ^ 63
-      → DraftHolds d (items ++ i ∷ []) → HasRead (record t { counted = n; draft = d }) (items ++ i ∷ [])
-  is_then n e few h =
-      let kind = next.drafted.kind_is in
-      record {
-        problem_is =
-            problem_kept items i _ (problem_agrees t items _ at kind)
-            ∙ sym (ap (option_map (problem_as t)) (kept ∙ kind));
-        count_fits = at.count_fits;
-        counted_is = e;
-        counted_few = few;
-        arcs_are = arcs_then n (is_counted i) refl e;
-        holds = h;
-      }
+pub is_then : (t : TextSoFar) (d : Draft) (items : List Line) (i : Line) → HasRead t items
+    → (next : ComesNext t.draft t.nodes items i) → draft_kind d ≡ draft_kind t.draft → (n : ℤ)
+    → n ≡ pos (counted items + counted (i ∷ [])) → counted items + counted (i ∷ []) < 2 ^ 63
+    → DraftHolds d (items ++ i ∷ []) → HasRead (record t { counted = n; draft = d }) (items ++ i ∷ [])
+is_then t d items i at next kept =
+    more_read t d items (i ∷ []) next.problem.kind at next.drafted.kind_is kept
+    (λ g. arc_counted i (rw (next.of_kind, g) refl))
 
 -- a problem line belongs to no kind, is not an arc, and is not counted
 heads : (i : Line) → IsSome (problem_in i) → (kind_before i ≡ None) × (list_any is_arc (i ∷ []) ≡ false)
     × (counted (i ∷ []) ≡ 0)
 heads (Item.Graph k n c) s = (refl, refl, refl)
 heads (Item.Aux k c) s = (refl, refl, refl)
-heads Item.Skip s = cc
-heads (Item.Supply _ _) s = cc
-heads (Item.Terminal _ _) s = cc
-heads (Item.MinArc _ _ _ _ _) s = cc
-heads (Item.MaxArc _ _ _) s = cc
-heads (Item.SpArc _ _ _) s = cc
-heads (Item.Source _) s = cc
-heads (Item.Query _ _) s = cc
-heads (Item.Point _ _ _) s = cc
+heads _ s = cc
 
 -- before the problem line, there are no items
 none_made : (b : AnyBody) (items : List Line) → body_kind b ≡ None → BodyHolds b items → items ≡ []
 none_made Bodies.Empty items e h = h
-none_made (Bodies.Min _) items e h = cc
-none_made (Bodies.Max _) items e h = cc
-none_made (Bodies.Sp _) items e h = cc
-none_made (Bodies.Ss _) items e h = cc
-none_made (Bodies.P2p _) items e h = cc
-none_made (Bodies.Co _) items e h = cc
+none_made _ items e h = cc
 
 pub none_before : (t : TextSoFar) (before : List Line) (i : Line) (p : Problem) → Awaits t before i
     → problem_in i ≡ Some p → before ≡ []
@@ -233,15 +174,14 @@ none_before t before i p a is =
 -- the problem line has been read
 pub begun : (t u : TextSoFar) (before : List Line) (i : Line) (p : Problem) → Awaits t before i → problem_in i ≡ Some p
     → draft_kind u.draft ≡ Some p.kind → p ≡ problem_as u p.kind → u.count <ℤ pos (2 ^ 63) → u.counted ≡ t.counted
-    → DraftHolds u.draft []
-    → HasRead u (before ++ i ∷ [])
+    → DraftHolds u.draft [] → HasRead u (before ++ i ∷ [])
 begun t u before i p a is kind same_problem fits same holds =
-    subst (λ items. HasRead u (items ++ i ∷ [])) (sym first) (record {
-      problem_is = ap (λ o. option_or o None) is ∙ ap Some same_problem ∙ sym (ap (option_map (problem_as u)) kind);
+    rw first (record {
+      problem_is = rw (is, kind, ← same_problem);
       count_fits = fits;
-      counted_is = none ∙ sym (ap pos head.2);
-      counted_few = subst (λ n. n < 2 ^ 63) (sym head.2) (omega arith);
-      arcs_are = λ graph. head.1 ∙ sym (ap (int_lt (pos 0)) none);
+      counted_is = rw head.2 none;
+      counted_few = rw head.2 (omega arith);
+      arcs_are = λ graph. rw (head.1, none);
       holds = held_problem u.draft i (ap is_some is) (ap is_some kind) holds;
     })
   where
@@ -252,4 +192,4 @@ begun t u before i p a is kind same_problem fits same holds =
     head = heads i (ap is_some is)
 
     none : u.counted ≡ pos 0
-    none = same ∙ a.read.counted_is ∙ ap (λ items. pos (counted items)) first
+    none = rw first at (same ∙ a.read.counted_is)

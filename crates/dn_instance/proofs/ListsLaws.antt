@@ -1,5 +1,6 @@
 -- Lemmas on a table that represents arcs when one more arc is added.
-use Rattle.std.proofs.Common.{◌≡◌, ◌↔◌, ℤ, pos, ◌<ℤ◌, int_lt, ◌-◌, ◌^◌, ◌&&◌, arith, List, [], ◌∷◌, ◌++◌, Bool, true, false, cond, Option, Some, None, IsSome, is_some, refl, sym, ap, ◌∙◌, subst, append-nil}
+use Rattle.std.proofs.Common.{◌≡◌, ◌↔◌, ℤ, pos, ◌<ℤ◌, ◌-◌, ◌^◌, ◌&&◌, arith, List, [], ◌∷◌, ◌++◌, Bool, true, false, Option, Some, None, refl, append-nil, inl, inr}
+use Rattle.std.proofs.lemmas.Bool.{cases_Bool, cond_both}
 use Rattle.std.specs.List.{AllByRecursion}
 use Rattle.std.specs.Map.{lookup}
 use Rattle.dn_arc.specs.declared.arc.Form.TheVariants.{One}
@@ -26,12 +27,9 @@ module _ {B Arc : Type 0} (kind : ArcKind Arc) (lists : B → List Arc) (laws : 
 bundle_arcs : {Arc : Type 0} (kind : ArcKind Arc) (p : ℤ × ℤ) (arcs : List ((ℤ × ℤ) × Arc)) → AreArcs kind arcs
     → AllByRecursion kind.IsArc (bundle p arcs)
 bundle_arcs kind p [] h = tt
-bundle_arcs kind p (a ∷ rest) h = by_test (same_pair p a.0) (bundle_arcs kind p rest h.1)
-  where
-    by_test : (t : Bool) → AllByRecursion kind.IsArc (bundle p rest)
-        → AllByRecursion kind.IsArc (cond t (a.1 ∷ bundle p rest) (bundle p rest))
-    by_test true all = (h.0, all)
-    by_test false all = all
+bundle_arcs kind p (a ∷ rest) h =
+    cond_both (same_pair p a.0) _ _ (AllByRecursion kind.IsArc) (λ e. (h.0, bundle_arcs kind p rest h.1))
+    (λ e. bundle_arcs kind p rest h.1)
 
 module _ {B Arc : Type 0} (kind : ArcKind Arc) (lists : B → List Arc) (laws : IsKind kind)
     (canonical : (b : B) → kind.IsCanon One (lists b)) (stays : Stays kind)
@@ -39,24 +37,16 @@ module _ {B Arc : Type 0} (kind : ArcKind Arc) (lists : B → List Arc) (laws : 
     (old : TableLists kind lists m arcs) (are : AreArcs kind arcs) (is : kind.IsArc arc)
     (grows : Grows kind lists m n pair arc) where
   bundle_here : bundle pair (arcs ++ (pair, arc) ∷ []) ≡ bundle pair arcs ++ arc ∷ []
-  bundle_here = bundle_push pair arcs (pair, arc) ∙ ap (λ t. bundle pair arcs ++ cond t (arc ∷ []) []) (pair_self pair)
+  bundle_here = rw (bundle_push pair arcs (pair, arc), pair_self pair)
 
   bundle_there : (p : ℤ × ℤ) → same_pair p pair ≡ false → bundle p (arcs ++ (pair, arc) ∷ []) ≡ bundle p arcs
-  bundle_there p e =
-      bundle_push p arcs (pair, arc) ∙ ap (λ t. bundle p arcs ++ cond t (arc ∷ []) []) e ∙ append-nil (bundle p arcs)
+  bundle_there p e = rw (bundle_push p arcs (pair, arc), e) (append-nil (bundle p arcs))
 
   same_here : kind.Same (listed_at lists n pair) (bundle pair (arcs ++ (pair, arc) ∷ []))
   same_here =
-      subst (kind.Same (listed_at lists n pair)) (sym bundle_here)
-      (laws.meaning.same_trans (listed_at lists n pair) (listed_at lists m pair ++ arc ∷ [])
+      rw bundle_here (laws.meaning.same_trans (listed_at lists n pair) (listed_at lists m pair ++ arc ∷ [])
       (bundle pair arcs ++ arc ∷ []) grows.here
       (same_push kind.Same laws.meaning (listed_at lists m pair) (bundle pair arcs) arc (old.stands pair).same))
-
-  some_not_none : (b : B) → lookup (same_pair pair) m ≡ Some b → lookup (same_pair pair) n ≡ None → ⊥
-  some_not_none b e g =
-      let some : IsSome (lookup (same_pair pair) n) = grows.kept (subst IsSome (sym e) refl) in
-      let never : false ≡ true = sym (ap is_some g) ∙ some in
-      cc
 
   absent_here : (lookup (same_pair pair) n ≡ None) ↔ kind.Same (bundle pair (arcs ++ (pair, arc) ∷ [])) []
   absent_here = by_old (lookup (same_pair pair) m) refl
@@ -68,45 +58,34 @@ module _ {B Arc : Type 0} (kind : ArcKind Arc) (lists : B → List Arc) (laws : 
           let listed = listed_at lists n pair in
           let here = bundle pair (arcs ++ (pair, arc) ∷ []) in (
             λ g. laws.meaning.same_trans here listed [] (laws.meaning.same_sym listed here same_here) (f.0 g),
-            λ s. f.1
-                (laws.meaning.same_trans listed here [] same_here s),
+            λ s. f.1 (laws.meaning.same_trans listed here [] same_here s),
           )
       by_old (Some b) e = (
-        λ g. absurd (some_not_none b e g),
-        λ s.
-            let nothing =
-            stays (bundle pair arcs) arc (bundle_arcs kind pair arcs are) is
-            (subst (λ l. kind.Same l []) bundle_here s) in
-            let gone : lookup (same_pair pair) m ≡ None = (old.absent pair).1 nothing in
-            let never : None ≡ Some b = sym gone ∙ e in
-            cc,
+        λ g. cc (g, grows.kept (rw e refl)),
+        λ s. cc (
+          e,
+          (old.absent pair).1 (stays (bundle pair arcs) arc (bundle_arcs kind pair arcs are) is (rw bundle_here at s)),
+        ),
       )
 
-  stands_at : (p : ℤ × ℤ) (t : Bool) → same_pair pair p ≡ t
-      → AreCanonArcsOf kind (listed_at lists n p) (bundle p (arcs ++ (pair, arc) ∷ []))
-  stands_at p true e =
-      subst (λ q. AreCanonArcsOf kind (listed_at lists n q) (bundle q (arcs ++ (pair, arc) ∷ []))) (pair_is pair p e)
-      (record { canonical = listed_canon kind lists laws canonical (lookup (same_pair pair) n); same = same_here })
-  stands_at p false e = record {
+  stands_at : (p : ℤ × ℤ) → AreCanonArcsOf kind (listed_at lists n p) (bundle p (arcs ++ (pair, arc) ∷ []))
+  stands_at p = record {
     canonical = listed_canon kind lists laws canonical (lookup (same_pair p) n);
-    same =
-        subst (λ l. kind.Same (listed_at lists n p) l) (sym (bundle_there p (other_pair pair p e)))
-        (subst (λ o. kind.Same (listed_of lists o) (bundle p arcs)) (sym (grows.others p e)) (old.stands p).same);
+    same = elim (cases_Bool (same_pair pair p)) [
+      | inl e ↦ rw (← pair_is pair p e) same_here
+      | inr e ↦ rw (bundle_there p (other_pair pair p e), grows.others p e) (old.stands p).same
+    ];
   }
 
-  absent_at : (p : ℤ × ℤ) (t : Bool) → same_pair pair p ≡ t
-      → (lookup (same_pair p) n ≡ None) ↔ kind.Same (bundle p (arcs ++ (pair, arc) ∷ [])) []
-  absent_at p true e =
-      subst (λ q. (lookup (same_pair q) n ≡ None) ↔ kind.Same (bundle q (arcs ++ (pair, arc) ∷ [])) [])
-      (pair_is pair p e) absent_here
-  absent_at p false e =
-      subst (λ l. (lookup (same_pair p) n ≡ None) ↔ kind.Same l []) (sym (bundle_there p (other_pair pair p e)))
-      (subst (λ o. (o ≡ None) ↔ kind.Same (bundle p arcs) []) (sym (grows.others p e)) (old.absent p))
+  absent_at : (p : ℤ × ℤ) → (lookup (same_pair p) n ≡ None) ↔ kind.Same (bundle p (arcs ++ (pair, arc) ∷ [])) []
+  absent_at p = elim (cases_Bool (same_pair pair p)) [
+    | inl e ↦ rw (← pair_is pair p e) absent_here
+    | inr e ↦ rw (bundle_there p (other_pair pair p e), grows.others p e) (old.absent p)
+  ]
 
   -- the new table represents the arcs with one more arc
   pub lists_more : TableLists kind lists n (arcs ++ (pair, arc) ∷ [])
-  lists_more =
-      record { stands = λ p. stands_at p (same_pair pair p) refl; absent = λ p. absent_at p (same_pair pair p) refl }
+  lists_more = record { stands = stands_at; absent = absent_at }
 
 -- at a pair, the arcs of the graph and those that the table lists have the same capacity with one more arc
 pub listed_capacity : {B Arc : Type 0} (kind : ArcKind Arc) (lists : B → List Arc) → IsKind kind
@@ -116,12 +95,8 @@ pub listed_capacity : {B Arc : Type 0} (kind : ArcKind Arc) (lists : B → List 
 listed_capacity kind lists laws m arcs p arc old are is =
     laws.same_capacity (listed_at lists m p ++ arc ∷ []) (bundle p arcs ++ arc ∷ [])
     (all_end kind.IsArc (listed_at lists m p) arc (laws.canon_arcs One (listed_at lists m p) (old.stands p).canonical)
-    is)
-    (all_end kind.IsArc (bundle p arcs) arc (bundle_arcs kind p arcs are) is)
+    is) (all_end kind.IsArc (bundle p arcs) arc (bundle_arcs kind p arcs are) is)
     (same_push kind.Same laws.meaning (listed_at lists m p) (bundle p arcs) arc (old.stands p).same)
-
-past_none : (x y : ℤ) → (x <ℤ y → ⊥) → int_lt x y ≡ false
-past_none x y h = by_lt_z x y (λ lt. absurd (h lt)) (λ le. grind (arith, ints))
 
 -- an arc has no fault, or only that of its sum
 pub taken_fault : {Arc : Type 0} (kind : ArcKind Arc) (nodes : ℤ) (arcs : List ((ℤ × ℤ) × Arc)) (is : Bool)
@@ -137,12 +112,11 @@ sum_fault kind nodes arcs is a e f g = rw (e, f, g) refl
 -- the sum of the capacities is too large exactly if the table finds it too large
 pub sum_passes : {B Arc F : Type 0} (kind : ArcKind Arc) (lists : B → List Arc) → IsKind kind
     → (m : List ((ℤ × ℤ) × B)) (arcs : List ((ℤ × ℤ) × Arc)) (p : ℤ × ℤ) (arc : Arc) → TableLists kind lists m arcs
-    → AreArcs kind arcs → kind.IsArc arc
-    → F ↔ (pos (2 ^ 63 - 1) <ℤ kind.capacity (listed_at lists m p ++ arc ∷ [])) → (F → passes kind arcs (p, arc) ≡ true)
-    × ((F → ⊥) → passes kind arcs (p, arc) ≡ false)
+    → AreArcs kind arcs → kind.IsArc arc → F ↔ (pos (2 ^ 63 - 1) <ℤ kind.capacity (listed_at lists m p ++ arc ∷ []))
+    → (F → passes kind arcs (p, arc) ≡ true) × ((F → ⊥) → passes kind arcs (p, arc) ≡ false)
 sum_passes kind lists laws m arcs p arc old are is h =
-    let e = listed_capacity kind lists laws m arcs p arc old are is in
-    let past = kind.capacity (bundle p arcs ++ arc ∷ []) in (
-      λ f. (let lt : pos (2 ^ 63 - 1) <ℤ past = subst (λ z. pos (2 ^ 63 - 1) <ℤ z) e (h.0 f) in grind (arith, ints)),
-      λ no. past_none (pos (2 ^ 63 - 1)) past (λ lt. no (h.1 (subst (λ z. pos (2 ^ 63 - 1) <ℤ z) (sym e) lt))),
+    let past = kind.capacity (bundle p arcs ++ arc ∷ []) in
+    let e = rw (listed_capacity kind lists laws m arcs p arc old are is) at h in (
+      λ f. grind (arith, ints, e.0 f),
+      λ no. by_lt_z (pos (2 ^ 63 - 1)) past (λ lt. absurd (no (e.1 lt))) (λ le. grind (arith, ints)),
     )

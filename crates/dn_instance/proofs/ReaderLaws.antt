@@ -1,61 +1,54 @@
--- Lemmas on what a reader has read.
-use Rattle.std.proofs.Common.{◌≡◌, ℕ, ◌+◌, ◌≤◌, List, [], ◌∷◌, ◌++◌, length, take, drop, Option, Some, None, Ok, Err, Result, MatchOption, ◌⊎◌, inl, inr, refl, sym, ap, ◌∙◌, subst, arith, length-append, append-nil, append_assoc, pos, option_and_then}
+-- Lemmas on what a reader has read, and on a reader that takes rows at the beginning of a piece.
+use Rattle.std.proofs.Common.{◌≡◌, ℕ, ◌+◌, ◌≤◌, List, [], ◌∷◌, ◌++◌, length, take, drop, Option, Some, None, Ok, Err, Result, MatchOption, inl, inr, refl, sym, ap, ◌∙◌, subst, arith, length-append, append-nil, append_assoc, pos, take_all, true, IfOk, take-add}
 use Rattle.std.proofs.Math.Seq.{take-append_seam}
-use Rattle.std.proofs.lemmas.List.{take_all, take-append-le}
+use Rattle.std.proofs.lemmas.List.{take-append-le}
 use Rattle.dn_line.specs.declared.code.Code.{Code}
 use Rattle.dn_line.specs.Words.{said_words}
-use Rattle.dn_line.specs.Pieces.{lines}
+use Rattle.dn_line.specs.Pieces.{lines, parts, is_line_feed}
 use Rattle.dn_instance.specs.declared.refusal.ItemFault.{ItemFault}
 use Rattle.dn_instance.specs.declared.refusal.ItemFault.TheVariants as Faults
 use Rattle.dn_instance.specs.declared.refusal.Place.TheVariants as Places
 use Rattle.dn_instance.specs.declared.reader.Reader.{Reader}
 use Rattle.dn_instance.specs.declared.refusal.Refusal.{Refusal}
-use Rattle.dn_instance.specs.declared.refusal.Refusal.TheVariants.{Text, Memory, Read, Endless, Write, CountTooLarge}
+use Rattle.dn_instance.specs.declared.refusal.Refusal.TheVariants.{Text, Memory}
 use Rattle.dn_instance.specs.State.ItemFaults.{AnswersFault}
 use Rattle.dn_instance.specs.Readers.{SpellsNeed, ended}
 use Rattle.dn_instance.specs.State.ReaderResults.{lines_taken, IsNext, EntriesBefore, IsRefused, Fed, Outcome, answer_of}
-use Rattle.dn_instance.specs.State.ReaderStates.{StopsIn, Takes, TakesAll, IsReading, ReaderAt}
+use Rattle.dn_instance.specs.State.ReaderStates.{StopsIn, Takes, TakesAll, IsReading, ReaderAt, Advances, HasOpen, Steps, open_of}
 use Rattle.dn_instance.specs.State.LineRefusals.{refused_at}
 use Rattle.dn_instance.specs.TextFaults.{line_fault}
-use Rattle.dn_instance.specs.Texts.{items_of, FaultAt, IsClean, IsFirstFaultAt}
-use Rattle.dn_instance.specs.State.TextsSoFar.{TextAt}
+use Rattle.dn_instance.specs.Texts.{items_of, IsClean, IsFirstFaultAt}
+use Rattle.dn_instance.specs.State.TextsSoFar.{TextAt, AreInner, IsRefusedFront, ReadsFront, RefusesFront, closed_lines}
 use Rattle.dn_instance.proofs.FirstFaults.{first_on}
-use Rattle.dn_instance.proofs.LineSteps.{split, clean_more}
-use Rattle.dn_instance.proofs.PieceSteps.{More, ended_more, lines_more, rest_of, step_on, whole_of}
+use Rattle.dn_instance.proofs.CleanItems.{split, clean_more}
+use Rattle.dn_instance.proofs.PieceSteps.{More, ended_more, lines_more, rest_of, step_on, whole_of, closed_more}
 use Rattle.dn_instance.proofs.SizeLaws.{problem_sized}
 use Rattle.dn_instance.specs.State.Ends.{EndsWith}
 use Rattle.dn_instance.specs.EntryCount.{entries_so_far}
-use Rattle.dn_instance.specs.Items.{Problem, instance_as}
 use Rattle.dn_instance.specs.declared.held.Held.{Held}
 use Rattle.dn_instance.specs.declared.text_so_far.TextSoFar.{TextSoFar}
+use Rattle.std.specs.List.{list_all}
+use Rattle.dn_line.specs.State.LineStates.{is_inner, used_of}
+use Rattle.dn_line.proofs.PartsLaws.{Parts}
+use Rattle.dn_instance.specs.declared.text_so_far.Front.{Front}
 
 -- the fault of a line that follows lines without a fault is the first fault
 fault_first : (ls : List (List ℕ)) (l : List ℕ) (number : ℕ) (code : Code) → IsClean ls → number ≡ length ls + 1
     → line_fault (length ls + 1) (items_of ls) (said_words l) ≡ Some code → IsFirstFaultAt (ls ++ l ∷ []) number code
 fault_first ls l number code clean n f = record {
-  at = record {
-    before = ls;
-    line = l;
-    after = [];
-    lines_are = refl;
-    number_is = n;
-    fault_is =
-        subst (λ k. line_fault k (items_of ls) (said_words l) ≡ Some code) (sym n) f;
-  };
-  first = λ other fault g. by_split other fault g (split ls g.before g.after l g.line g.lines_are);
-}
-  where
-    by_split : (other : ℕ) (fault : Code) (g : FaultAt (ls ++ l ∷ []) other fault)
-        → ((g.before ≡ ls) × (g.line ≡ l)) ⊎ ((a : List (List ℕ)) × (ls ≡ g.before ++ g.line ∷ a)) → number ≤ other
-    by_split other fault g (inl (b, m)) = let k = ap length b in let o = g.number_is in omega arith
-    by_split other fault g (inr (a, e)) =
+  at = record { before = ls; line = l; after = []; lines_are = refl; number_is = n; fault_is = rw n f };
+  first = λ other fault g. elim (split ls g.before g.after l g.line g.lines_are) [
+    | inl e ↦ omega (arith, ap length e.0, g.number_is)
+    | inr (a, e) ↦
         absurd
         (clean other fault
         (record
         { before = g.before; line = g.line; after = a; lines_are = e; number_is = g.number_is; fault_is = g.fault_is }))
+  ];
+}
 
 all_of : (ls : List (List ℕ)) (l : List ℕ) → take (length ls + 1) (ls ++ l ∷ []) ≡ ls ++ l ∷ []
-all_of ls l = take_all (length ls + 1) (ls ++ l ∷ []) (let n = length-append ls (l ∷ []) in omega arith)
+all_of ls l = take_all (length ls + 1) (ls ++ l ∷ []) (omega (arith, length-append ls (l ∷ [])))
 
 -- the next line is refused
 pub refused_next : (ls : List (List ℕ)) (l : List ℕ) (number : ℕ) (fault : ItemFault) → IsClean ls
@@ -76,45 +69,37 @@ refused_next ls l number Faults.Memory clean n h item = record {
 -- later lines do not change a refusal
 pub refused_on : (before earlier : ℕ) (ls ms : List (List ℕ)) (e : Refusal) → earlier ≤ before → More ls ms
     → IsRefused before ls e → IsRefused earlier ms e
-refused_on before earlier ls ms (Text (Places.Line number) code) b m f =
-    subst (λ x. IsFirstFaultAt x number code) (sym m.whole) (first_on ls m.rest number code f)
-refused_on before earlier ls ms (Text Places.End code) b m f = absurd f
+refused_on before earlier ls ms (Text (Places.Line number) code) b m f = rw m.whole (first_on ls m.rest number code f)
 refused_on before earlier ls ms Memory b m w = record {
   earlier = w.earlier;
   line = w.line;
   later = w.later ++ m.rest;
-  whole = m.whole ∙ ap (λ x. x ++ m.rest) w.whole ∙ append_assoc w.earlier (w.line ∷ w.later) m.rest;
-  past = (let p = w.past in omega arith);
+  whole = rw (m.whole, w.whole) (append_assoc w.earlier (w.line ∷ w.later) m.rest);
+  past = omega (arith, w.past);
   item = w.item;
   clean = w.clean;
 }
-refused_on before earlier ls ms Read b m f = absurd f
-refused_on before earlier ls ms Endless b m f = absurd f
-refused_on before earlier ls ms Write b m f = absurd f
-refused_on before earlier ls ms CountTooLarge b m f = absurd f
+refused_on before earlier ls ms _ b m f = absurd f
 
-pub none_from : (o : Option Refusal) → ((x : Refusal) → o ≡ Some x → ⊥) → o ≡ None
-none_from None h = refl
-none_from (Some x) h = absurd (h x refl)
+-- what a reader with this refusal represents, if there is one
+abbrev At : Reader → List ℕ → Option Refusal → Type 0
+At r t o = MatchOption o (IsReading r t) (λ x. IsRefused 0 (ended t) x × StopsIn r (ended t) x)
 
 -- a reader without a refusal has read the bytes that it represents
 pub reading : (r : Reader) (t : List ℕ) → r.refusal ≡ None → ReaderAt r t → IsReading r t
-reading r t e h = subst (λ o. MatchOption o (IsReading r t) (λ x. IsRefused 0 (ended t) x × StopsIn r (ended t) x)) e h
+reading r t e h = subst (At r t) e h
 
 pub stands : (r : Reader) (t : List ℕ) → r.refusal ≡ None → IsReading r t → ReaderAt r t
-stands r t e h =
-    subst (λ o. MatchOption o (IsReading r t) (λ x. IsRefused 0 (ended t) x × StopsIn r (ended t) x)) (sym e) h
+stands r t e h = subst (At r t) (sym e) h
 
 -- a reader with a refusal represents bytes with a refused line
 pub refused : (r : Reader) (t : List ℕ) (x : Refusal) → r.refusal ≡ Some x → ReaderAt r t → IsRefused 0 (ended t) x
     × StopsIn r (ended t) x
-refused r t x e h =
-    subst (λ o. MatchOption o (IsReading r t) (λ y. IsRefused 0 (ended t) y × StopsIn r (ended t) y)) e h
+refused r t x e h = subst (At r t) e h
 
 pub refuses : (r : Reader) (t : List ℕ) (x : Refusal) → r.refusal ≡ Some x → IsRefused 0 (ended t) x
     × StopsIn r (ended t) x → ReaderAt r t
-refuses r t x e h =
-    subst (λ o. MatchOption o (IsReading r t) (λ y. IsRefused 0 (ended t) y × StopsIn r (ended t) y)) (sym e) h
+refuses r t x e h = subst (At r t) (sym e) h
 
 -- what a reader returns for the text so far
 pub fed : (r : Reader) (t : List ℕ) → ReaderAt r t → Fed t (answer_of r.refusal)
@@ -127,21 +112,16 @@ fed r t h = by_refusal r.refusal refl
 -- a reader takes a last line without an LF
 pub takes_last : (r : Reader) (t bytes : List ℕ) (x : Result (Unit {0}) Refusal) → lines t ≡ ended t ++ bytes ∷ []
     → Takes r (ended t) bytes x → TakesAll r t x
-takes_last r t bytes (Ok x) e h = subst (TextAt r.text) (sym e) h
-takes_last r t bytes (Err x) e h = subst (λ ls. IsRefused (length (ended t)) ls x) (sym e) h.1
+takes_last r t bytes (Ok x) e h = rw e h
+takes_last r t bytes (Err x) e h = rw e h.1
 
 next_on : (taken : ℕ) (ls ms : List (List ℕ)) (e : Refusal) → More ls ms → IsNext taken ls e → IsNext taken ms e
 next_on taken ls ms (Text (Places.Line number) code) m n = n
-next_on taken ls ms (Text Places.End code) m n = n
 next_on taken ls ms Memory m n = (
-  (let k = ap length m.whole in let h = length-append ls m.rest in let q = n.0 in omega arith),
-  subst IsClean
-      (sym (ap (take (taken + 1)) m.whole ∙ take-append-le (taken + 1) ls m.rest (let q = n.0 in omega arith))) n.1,
+  omega (arith, ap length m.whole, length-append ls m.rest, n.0),
+  rw (m.whole, take-append-le (taken + 1) ls m.rest (omega (arith, n.0))) n.1,
 )
-next_on taken ls ms Read m n = n
-next_on taken ls ms Endless m n = n
-next_on taken ls ms Write m n = n
-next_on taken ls ms CountTooLarge m n = n
+next_on taken ls ms _ m n = absurd n
 
 -- later lines do not change which lines before the refused line are read
 pub stops_on : (r : Reader) (ls ms : List (List ℕ)) (e : Refusal) → More ls ms → StopsIn r ls e → StopsIn r ms e
@@ -149,28 +129,24 @@ stops_on r ls ms e m s =
     record {
       before = s.before;
       rest = s.rest ++ m.rest;
-      whole =
-          m.whole ∙ ap (λ l. l ++ m.rest) s.whole ∙ append_assoc s.before s.rest m.rest;
+      whole = rw (m.whole, s.whole) (append_assoc s.before s.rest m.rest);
       read = s.read;
-      next =
-          next_on (length s.before) ls ms e m s.next;
+      next = next_on (length s.before) ls ms e m s.next;
     }
 
 pub still_refused : (r : Reader) (t u : List ℕ) (e : Refusal) → r.refusal ≡ Some e → ReaderAt r t → ReaderAt r (t ++ u)
 still_refused r t u e is h =
     let was = refused r t e is h in
-    refuses r (t ++ u) e is (
-      refused_on 0 0 (ended t) (ended (t ++ u)) e (omega arith) (ended_more t u) was.0,
-      stops_on r (ended t)
-          (ended (t ++ u)) e (ended_more t u) was.1,
-    )
+    let more = ended_more t u in
+    refuses r (t ++ u) e is
+    (refused_on 0 0 (ended t) (ended (t ++ u)) e (omega arith) more was.0, stops_on r (ended t) _ e more was.1)
 
 pub next_after : (ls : List (List ℕ)) (l : List ℕ) (number : ℕ) (fault : ItemFault) → IsClean ls
     → number ≡ length ls + 1 → AnswersFault (Err fault) (line_fault (length ls + 1) (items_of ls) (said_words l))
     → IsNext (length ls) (ls ++ l ∷ []) (refused_at number fault)
 next_after ls l number (Faults.Text code) clean n h = n
 next_after ls l number Faults.Memory clean n h =
-    ((let m = length-append ls (l ∷ []) in omega arith), subst IsClean (sym (all_of ls l)) (clean_more ls l clean h))
+    (omega (arith, length-append ls (l ∷ [])), rw (all_of ls l) (clean_more ls l clean h))
 
 -- the next line is refused, and the reader keeps its refusal
 pub refuses_next : (r : Reader) (ls : List (List ℕ)) (l : List ℕ) (fault : ItemFault) (e : Refusal) → TextAt r.text ls
@@ -179,16 +155,13 @@ pub refuses_next : (r : Reader) (ls : List (List ℕ)) (l : List ℕ) (fault : I
     → (fault ≡ Faults.Memory → SpellsNeed (items_of ls) (said_words l)) → Takes r ls l (Err e)
 refuses_next r ls l fault e at is said answer item = (
   is,
-  subst (IsRefused (length ls) (ls ++ l ∷ [])) (sym said)
-      (refused_next ls l (length ls + 1) fault at.clean refl answer item),
+  rw said (refused_next ls l (length ls + 1) fault at.clean refl answer item),
   record {
     before = ls;
     rest = l ∷ [];
     whole = refl;
     read = at;
-    next =
-        subst (IsNext (length ls) (ls ++ l ∷ [])) (sym said)
-        (next_after ls l (length ls + 1) fault at.clean refl answer);
+    next = rw said (next_after ls l (length ls + 1) fault at.clean refl answer);
   },
   at.number_is,
 )
@@ -197,34 +170,24 @@ refuses_next r ls l fault e at is said answer item = (
 pub entries_before : (r : Reader) (ls : List (List ℕ)) (e : Refusal) (n : ℕ) → StopsIn r ls e
     → ((before : List (List ℕ)) → TextAt r.text before → n ≡ entries_so_far (items_of before))
     → EntriesBefore (lines_taken r) ls e n
-entries_before r ls e n s h = (
-  subst (λ k. IsNext k ls e) (sym s.read.number_is) s.next,
-  h s.before s.read ∙ ap (λ l. entries_so_far (items_of l)) (sym front),
-)
+entries_before r ls e n s h = (rw s.read.number_is s.next, rw front (h s.before s.read))
   where
     front : take (lines_taken r) ls ≡ s.before
-    front =
-        ap (λ k. take k ls) s.read.number_is ∙ ap (take (length s.before)) s.whole ∙ take-append_seam s.before s.rest
+    front = rw (s.read.number_is, s.whole) (take-append_seam s.before s.rest)
 
 -- the complete lines after a prefix of a piece are the first complete lines after the piece
 pub more_from : (t p : List ℕ) (i n : ℕ) → More (ended ((t ++ take i p) ++ take n (rest_of p i))) (ended (t ++ p))
 more_from t p i n =
-    subst (λ u. More (ended ((t ++ take i p) ++ take n (rest_of p i))) (ended u))
-    (sym (whole_of t p (i + n) ∙ ap (λ l. l ++ drop (i + n) p) (sym (step_on t p i n))))
-    (ended_more ((t ++ take i p) ++ take n (rest_of p i)) (drop (i + n) p))
+    rw (whole_of t p (i + n), ← step_on t p i n) (ended_more ((t ++ take i p) ++ take n (rest_of p i)) (drop (i + n) p))
 
 pub more_count : (ls ms : List (List ℕ)) → More ls ms → length ls ≤ length ms
-more_count ls ms m = let n = ap length m.whole in let k = length-append ls m.rest in omega arith
+more_count ls ms m = omega (arith, ap length m.whole, length-append ls m.rest)
 
 -- the refusal of all lines is the outcome of the text
 listed_of : (t : List ℕ) (e : Refusal) → IsRefused 0 (lines t) e → Outcome t (Err e)
 listed_of t (Text (Places.Line number) code) h = h
-listed_of t (Text Places.End code) h = absurd h
 listed_of t Memory h = h
-listed_of t Read h = absurd h
-listed_of t Endless h = absurd h
-listed_of t Write h = absurd h
-listed_of t CountTooLarge h = absurd h
+listed_of t _ h = absurd h
 
 -- the refusal of the complete lines is the outcome of the text
 pub refused_early : (t : List ℕ) (e : Refusal) → IsRefused 0 (ended t) e → Outcome t (Err e)
@@ -235,8 +198,7 @@ refused_before r t e is h = refused_early t e (refused r t e is h).0
 
 pub refused_last : (t : List ℕ) (before : ℕ) (e : Refusal) → IsRefused before (lines t) e → Outcome t (Err e)
 refused_last t before e h =
-    listed_of t e
-    (refused_on before 0 (lines t) (lines t) e (omega arith)
+    listed_of t e (refused_on before 0 (lines t) (lines t) e (omega arith)
     (record { rest = []; whole = sym (append-nil (lines t)) }) h)
 
 -- the parsed instance of a whole text represents what the text reads as
@@ -246,16 +208,66 @@ held_whole x t held r e =
     let all = e.1 in
     let size = problem_sized (lines t) all.problem all.instance r.clean all.problem_is all.made in (
       all.instance,
-      record {
-        clean = r.clean;
-        whole = e.0;
-        instance_is =
-            ap (option_and_then (λ (p : Problem). instance_as p.kind p.nodes (items_of (lines t)))) all.problem_is
-            ∙ all.made;
-      },
-      record {
-        nodes_are = all.nodes_are ∙ size.0;
-        lines_are = all.lines_are ∙ ap pos size.1;
-        shows = all.shows;
-      },
+      record { clean = r.clean; whole = e.0; instance_is = rw all.problem_is all.made },
+      record { nodes_are = all.nodes_are ∙ size.0; lines_are = all.lines_are ∙ ap pos size.1; shows = all.shows },
+    )
+
+-- rows have been read after a text without an open line
+pub with_rows : (r : Reader) (t piece : List ℕ) (front : Front) → HasOpen r.line (open_of t) → open_of t ≡ []
+    → ReadsFront r.text (ended t) piece front → IsReading r (t ++ take front.used piece)
+with_rows r t piece front line none f =
+    let all = ap (λ x. parts is_line_feed (t ++ x)) (sym f.whole) ∙ closed_more t f.more none f.inner in
+    record {
+      read = subst (TextAt r.text) (sym (ap (λ (p : Parts). p.0) all)) f.read;
+      line = subst (HasOpen r.line) (none ∙ sym (ap (λ (p : Parts). p.1) all)) line;
+    }
+
+pub to_steps : (r : Reader) (t piece : List ℕ) (result : Result ℕ Refusal) → IfOk result (λ n. n ≡ used_of piece)
+    → Advances r t (t ++ take (used_of piece) piece) result → Steps r t piece result
+to_steps r t piece (Ok n) u a = subst (λ k. IsReading r (t ++ take k piece)) (sym u) a
+to_steps r t piece (Err e) u a = (used_of piece, a)
+
+-- one more line
+closed_push : (more : List (List ℕ)) (l : List ℕ) → closed_lines (more ++ l ∷ []) ≡ closed_lines more ++ (l ++ 10 ∷ [])
+closed_push [] l = append-nil (l ++ 10 ∷ [])
+closed_push (m ∷ more) l =
+    ap (λ x. (m ++ 10 ∷ []) ++ x) (closed_push more l)
+    ∙ sym (append_assoc (m ++ 10 ∷ []) (closed_lines more) (l ++ 10 ∷ []))
+
+inner_push : (more : List (List ℕ)) (l : List ℕ) → AreInner more → list_all is_inner l ≡ true
+    → AreInner (more ++ l ∷ [])
+inner_push [] l h i = (i, tt)
+inner_push (m ∷ more) l h i = (h.0, inner_push more l h.1 i)
+
+-- a row of the piece is refused, and the reader keeps its refusal
+pub front_refused : (r : Reader) (t piece : List ℕ) (front : Front) (fault : ItemFault) (e : Refusal) → open_of t ≡ []
+    → front.fault ≡ Some fault → ReadsFront r.text (ended t) piece front → r.refusal ≡ Some e
+    → ((ls : List (List ℕ)) → TextAt r.text ls → e ≡ refused_at (length ls + 1) fault) → Steps r t piece (Err e)
+front_refused r t piece front fault e none is reads refusal said =
+    let ls = ended t ++ reads.more in
+    let s : IsRefusedFront ls (drop front.used piece) fault =
+    subst (RefusesFront ls (drop front.used piece)) is reads.stops in
+    let line = s.line ++ 10 ∷ [] in
+    let all = reads.more ++ s.line ∷ [] in
+    let bytes : take (front.used + length line) piece ≡ closed_lines all =
+    take-add front.used (length line) piece
+    ∙ ap (λ x. x ++ take (length line) (drop front.used piece)) (sym reads.whole)
+    ∙ ap (λ x. closed_lines reads.more ++ take (length line) x)
+    (sym s.whole ∙ sym (append_assoc s.line (10 ∷ []) s.rest))
+    ∙ ap (λ x. closed_lines reads.more ++ x) (take-append_seam line s.rest) ∙ sym (closed_push reads.more s.line) in
+    let lines : ended (t ++ take (front.used + length line) piece) ≡ ls ++ s.line ∷ [] =
+    ap (λ x. ended (t ++ x)) bytes
+    ∙ ap (λ (p : Parts). p.0) (closed_more t all none (inner_push reads.more s.line reads.inner s.inner))
+    ∙ sym (append_assoc (ended t) reads.more (s.line ∷ [])) in
+    let takes = refuses_next r ls s.line fault e reads.read refusal (said ls reads.read) s.answer s.needs in
+    let more : length ls ≡ length (ended t) + length reads.more = length-append (ended t) reads.more in (
+      front.used + length line,
+      (
+        takes.0,
+        subst (λ x. IsRefused (length (ended t)) x e) (sym lines)
+            (refused_on (length ls) (length (ended t)) (ls ++ s.line ∷ []) (ls ++ s.line ∷ []) e (omega arith)
+            (record { rest = []; whole = sym (append-nil (ls ++ s.line ∷ [])) }) takes.1),
+        subst (λ x. StopsIn r x e) (sym lines) takes.2,
+        (let n = takes.3 in omega arith),
+      ),
     )

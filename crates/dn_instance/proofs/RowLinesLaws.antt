@@ -1,18 +1,17 @@
 -- Lemmas on the lines of rows that are taken one after another.
-use Rattle.std.proofs.Common.{◌≡◌, ◌<◌, ◌≤◌, ◌+◌, ◌-◌, ◌^◌, ℕ, zero, suc, pos, List, [], ◌∷◌, ◌++◌, length, map, take, drop, Bool, true, false, cond, ◌&&◌, Option, Some, None, Ok, Err, refl, sym, subst, ap, ◌∙◌, arith, append-nil, append_assoc, length-append}
+use Rattle.std.proofs.Common.{◌≡◌, ◌<◌, ◌≤◌, ◌+◌, ◌-◌, ◌^◌, ℕ, zero, suc, pos, List, [], ◌∷◌, ◌++◌, length, map, take, drop, true, false, ◌&&◌, Option, Some, None, Ok, Err, refl, sym, ap, ◌∙◌, arith, append-nil, append_assoc, length-append, inl, inr, length-take-le}
+use Rattle.std.proofs.Math.Nat.{add-sub_cancel}
+use Rattle.std.proofs.lemmas.Bool.{cases_Bool}
 use Rattle.std.specs.List.{AllByRecursion, list_any}
-use Rattle.std.specs.Option.{option_map}
 use Rattle.std.proofs.Math.Seq.{drop-append_seam, take-append_seam}
-use Rattle.std.proofs.lemmas.List.{length-take-le}
 use Rattle.dn_line.specs.Faults.{first_fault}
 use Rattle.dn_line.specs.LineTable.{row}
 use Rattle.dn_line.specs.Reading.{item}
 use Rattle.dn_line.specs.State.Numbers.{number_word}
-use Rattle.dn_line.specs.State.LineReads.{fields_read, head_of, head_read}
+use Rattle.dn_line.specs.State.LineReads.{head_of, head_read}
 use Rattle.dn_line.specs.State.RowBlocks.{IsRowLine, ReadUpTo, last_left}
 use Rattle.dn_line.specs.State.Rows.{FieldsFit, letter_byte, numbers_of}
-use Rattle.dn_line.specs.Words.{first, is_skip, said_words}
-use Rattle.dn_line.specs.declared.code.Code.TheVariants.{LateNode, TooManyLines}
+use Rattle.dn_line.specs.Words.{is_skip, said_words}
 use Rattle.dn_line.specs.declared.kind.Kind.{Kind}
 use Rattle.dn_line.specs.declared.kind.Kind.TheVariants.{Min, Max, Sp, Ss, P2p, Co}
 use Rattle.dn_line.specs.declared.line.Head.TheVariants as Heads
@@ -27,35 +26,33 @@ use Rattle.dn_line.specs.declared.word.Word.{Word}
 use Rattle.dn_line.proofs.RowLaws.{ReadsAs, row_item}
 use Rattle.dn_instance.specs.Items.{Problem, counted, kind_known, problem_of}
 use Rattle.dn_instance.specs.State.Bodies.{StopsAt}
-use Rattle.dn_instance.specs.State.ItemFaults.{AnswersFault}
 use Rattle.dn_instance.specs.declared.body.Taken.{Taken}
 use Rattle.dn_instance.specs.declared.refusal.ItemFault.{ItemFault}
 use Rattle.dn_instance.specs.State.RowRuns.{AreFaultless, AreInTime, HasSigns, IsInTime, line_of, row_items, supply_of}
 use Rattle.dn_instance.specs.State.TextsSoFar.{AreInner, HasRead, ReadsFront, RefusesFront, TextAt, closed_lines, next_read}
-use Rattle.dn_instance.specs.TextFaults.{is_arc, is_counted_letter, is_full, is_node_letter, item_tests, order_tests}
+use Rattle.dn_instance.specs.TextFaults.{is_arc, is_counted_letter, is_full, is_node_letter, item_tests}
 use Rattle.dn_instance.specs.Texts.{IsClean, items_of, with_next}
 use Rattle.dn_instance.specs.declared.text_so_far.Front.{Front}
 use Rattle.dn_instance.specs.declared.text_so_far.TextSoFar.{TextSoFar}
-use Rattle.dn_instance.proofs.CleanItems.{items_push}
+use Rattle.dn_instance.proofs.CleanItems.{items_push, clean_more, fault_is_next, in_time}
 use Rattle.dn_instance.proofs.FirstFaults.{fault_after}
-use Rattle.dn_instance.proofs.FollowLaws.{follows_as, same_fault, adds_it}
-use Rattle.dn_instance.proofs.LineSteps.{clean_more, fault_is_next, in_time}
-use Rattle.dn_instance.proofs.NextLaws.{head_skips, then_fields}
-use Rattle.dn_instance.proofs.RowRunLaws.{in_time_split, problem_all}
+use Rattle.dn_instance.proofs.FollowLaws.{follows_as, same_fault, adds_it, head_skips, then_fields}
+use Rattle.dn_instance.proofs.ItemSteps.{problem_all}
+use Rattle.dn_instance.proofs.RowRunLaws.{in_time_split}
 
 -- a line of this letter has no fault because of the lines before it
-record IsPlaced (key : Keyword) (before : List Line) : Type 0 where
+record IsInOrder (key : Keyword) (before : List Line) : Type 0 where
   early : (is_node_letter (Some key) && list_any is_arc before) ≡ false
   room : (is_counted_letter (Some key) && is_full (problem_of before) (counted before)) ≡ false
 
 -- lines of this letter are not skipped, and come in time if this item does
 record IsLetterOf (key : Keyword) (i : Line) : Type 0 where
   some : head_of (Some key) None ≡ Heads.Skip → ⊥
-  placed : (before : List Line) → IsInTime before i → IsPlaced key before
+  in_order_after : (before : List Line) → IsInTime before i → IsInOrder key before
 
 -- the letter is that of the item, and the numbers of a row make the item
-abbrev Makes : Kind → Keyword → Line → Row → List Field → Type 0
-Makes kind key i r fields = IsLetterOf key i × (item kind key (map number_word (numbers_of (length fields) r)) ≡ i)
+abbrev SpellsItem : Kind → Keyword → Line → Row → List Field → Type 0
+SpellsItem kind key i r fields = IsLetterOf key i × (item kind key (map number_word (numbers_of (length fields) r)) ≡ i)
 
 field_list : {a b : List Field} → Some a ≡ Some b → a ≡ b
 field_list e = cc
@@ -63,37 +60,24 @@ field_list e = cc
 counted_letter : (key : Keyword) (i : Line) → is_counted_letter (Some key) ≡ true
     → ((before : List Line) → IsInTime before i → is_full (problem_of before) (counted before) ≡ false)
     → IsLetterOf key i
-counted_letter Key.A i h t =
-    record { some = λ e. cc; placed = λ before e. record { early = refl; room = t before e } }
-counted_letter Key.S i h t =
-    record { some = λ e. cc; placed = λ before e. record { early = refl; room = t before e } }
-counted_letter Key.Q i h t =
-    record { some = λ e. cc; placed = λ before e. record { early = refl; room = t before e } }
-counted_letter Key.V i h t =
-    record { some = λ e. cc; placed = λ before e. record { early = refl; room = t before e } }
+counted_letter Key.A i h t = record { some = λ e. cc; in_order_after = λ b e. record { early = refl; room = t b e } }
+counted_letter Key.S i h t = record { some = λ e. cc; in_order_after = λ b e. record { early = refl; room = t b e } }
+counted_letter Key.Q i h t = record { some = λ e. cc; in_order_after = λ b e. record { early = refl; room = t b e } }
+counted_letter Key.V i h t = record { some = λ e. cc; in_order_after = λ b e. record { early = refl; room = t b e } }
 counted_letter _ i h t = cc
 
 -- a line of numbers of the table is counted, unless it is a `min` node line
 by_table : (kind : Kind) (key : Keyword) (r : Row) (fields : List Field) → row kind key ≡ Some fields
     → FieldsFit fields (numbers_of (length fields) r) → (kind ≡ Min → key ≡ Key.N → ⊥)
-    → Makes kind key (line_of kind r) r fields
+    → SpellsItem kind key (line_of kind r) r fields
 by_table Min Key.N r fields h fit n = absurd (n refl refl)
-by_table Max Key.N r fields h fit n =
-    let f = subst (λ fs. FieldsFit fs (numbers_of (length fs) r)) (sym (field_list h)) fit in
-    let never : false ≡ true = f.1.0 in
-    cc
-by_table Min Key.A r fields h fit n =
-    subst (Makes Min Key.A (line_of Min r) r) (field_list h) (counted_letter Key.A _ refl (λ before t. t), refl)
-by_table Max Key.A r fields h fit n =
-    subst (Makes Max Key.A (line_of Max r) r) (field_list h) (counted_letter Key.A _ refl (λ before t. t), refl)
-by_table Sp Key.A r fields h fit n =
-    subst (Makes Sp Key.A (line_of Sp r) r) (field_list h) (counted_letter Key.A _ refl (λ before t. t), refl)
-by_table Ss Key.S r fields h fit n =
-    subst (Makes Ss Key.S (line_of Ss r) r) (field_list h) (counted_letter Key.S _ refl (λ before t. t), refl)
-by_table P2p Key.Q r fields h fit n =
-    subst (Makes P2p Key.Q (line_of P2p r) r) (field_list h) (counted_letter Key.Q _ refl (λ before t. t), refl)
-by_table Co Key.V r fields h fit n =
-    subst (Makes Co Key.V (line_of Co r) r) (field_list h) (counted_letter Key.V _ refl (λ before t. t), refl)
+by_table Max Key.N r fields h fit n = let f = rw (← field_list h) at fit in cc f.1.0
+by_table Min Key.A r fields h fit n = rw (← field_list h) (counted_letter Key.A _ refl (λ before t. t), refl)
+by_table Max Key.A r fields h fit n = rw (← field_list h) (counted_letter Key.A _ refl (λ before t. t), refl)
+by_table Sp Key.A r fields h fit n = rw (← field_list h) (counted_letter Key.A _ refl (λ before t. t), refl)
+by_table Ss Key.S r fields h fit n = rw (← field_list h) (counted_letter Key.S _ refl (λ before t. t), refl)
+by_table P2p Key.Q r fields h fit n = rw (← field_list h) (counted_letter Key.Q _ refl (λ before t. t), refl)
+by_table Co Key.V r fields h fit n = rw (← field_list h) (counted_letter Key.V _ refl (λ before t. t), refl)
 by_table _ _ r fields h fit n = cc
 
 -- the line of a row reads as this item, and comes in time if the item does
@@ -109,33 +93,24 @@ pub record SpellsRows (kind : Kind) (byte : ℕ) (line : Row → Line) : Type 0 
   first : (r : Row) → IsInTime (Graph kind (pos 0) (pos 1) ∷ []) (line r)
 
 made : (kind : Kind) (byte : ℕ) (bytes rest : List ℕ) (r : RowLine) (i : Line) → (l : IsRowLine kind byte bytes r rest)
-    → Makes kind l.in_table.key i r.row l.fields → ReadsRow kind (said_words l.begins.line) i
+    → SpellsItem kind l.in_table.key i r.row l.fields → ReadsRow kind (said_words l.begins.line) i
 made kind byte bytes rest r i l m = record {
   key = l.in_table.key;
   is = m.0;
-  reads =
-      subst (ReadsAs kind l.in_table.key (said_words l.begins.line)) m.1
-      (row_item kind byte l.fields bytes rest r.row l.in_table l.begins);
+  reads = rw m.1 at (row_item kind byte l.fields bytes rest r.row l.in_table l.begins);
 }
 
 pub counted_rows : (kind : Kind) (byte : ℕ) → (kind ≡ Min → byte ≡ 110 → ⊥) → SpellsRows kind byte (line_of kind)
 counted_rows kind byte other = record {
   reads = λ bytes rest r l. made kind byte bytes rest r (line_of kind r.row) l
       (by_table kind l.in_table.key r.row l.fields l.in_table.row_is l.begins.fit
-      (λ min n. other min (is_n l.in_table.key n l.in_table.byte_is)));
+      (λ min n. other min (cc (rw n at l.in_table.byte_is))));
   first = early kind;
 }
   where
-    is_n : (key : Keyword) → key ≡ Key.N → letter_byte key ≡ Some byte → byte ≡ 110
-    is_n key n e = let same : Some 110 ≡ Some byte = subst (λ k. letter_byte k ≡ Some byte) n e in cc
-
     early : (kind : Kind) (r : Row) → IsInTime (Graph kind (pos 0) (pos 1) ∷ []) (line_of kind r)
     early Min r = refl
-    early Max r = refl
-    early Sp r = refl
-    early Ss r = refl
-    early P2p r = refl
-    early Co r = refl
+    early _ r = refl
 
 pub supply_rows : (byte : ℕ) → byte ≡ 110 → SpellsRows Min byte supply_of
 supply_rows byte e = record {
@@ -156,38 +131,28 @@ supply_rows byte e = record {
     only_n _ h = cc
 
     of_n : (key : Keyword) → key ≡ Key.N → (fields : List Field) → row Min key ≡ Some fields → (r : Row)
-        → Makes Min key (supply_of r) r fields
+        → SpellsItem Min key (supply_of r) r fields
     of_n key n fields h r =
-        subst (λ k. Makes Min k (supply_of r) r fields) (sym n)
-        (subst (Makes Min Key.N (supply_of r) r) (field_list (subst (λ k. row Min k ≡ Some fields) n h))
-        (record { some = λ e. cc; placed = λ before e. record { early = e; room = refl } }, refl))
+        rw (n, ← field_list (rw n at h))
+        (record { some = λ e. cc; in_order_after = λ before e. record { early = e; room = refl } }, refl)
 
 module _ (kind : Kind) (before : List Line) (p : Problem) (problem : problem_of before ≡ Some p) (is : p.kind ≡ kind)
     (ws : List Word) (i : Line) (r : ReadsRow kind ws i) where
   known : kind_known before ≡ Some kind
-  known = ap (option_map (λ (x : Problem). x.kind)) problem ∙ ap Some is
+  known = rw (problem, is)
 
   counts : is_skip ws ≡ false
-  counts = by_skip (is_skip ws) refl
-    where
-      by_skip : (b : Bool) → is_skip ws ≡ b → is_skip ws ≡ false
-      by_skip true e = absurd (r.is.some (head_skips (Some kind) ws _ e r.reads.head))
-      by_skip false e = e
-
-  in_order : IsInTime before i → first_fault (order_tests before ws) ≡ None
-  in_order t =
-      let p = r.is.placed before t in
-      neither _ _ (ap (λ o. is_node_letter o && list_any is_arc before) r.reads.letter ∙ p.early)
-      (ap (λ o. is_counted_letter o && is_full (problem_of before) (counted before)) r.reads.letter ∙ p.room)
-    where
-      neither : (a b : Bool) → a ≡ false → b ≡ false → cond a (Some LateNode) (cond b (Some TooManyLines) None) ≡ None
-      neither a b e f = rw (e, f) refl
+  counts = elim (cases_Bool (is_skip ws)) [
+    | inl e ↦ absurd (r.is.some (head_skips (Some kind) ws _ e r.reads.head))
+    | inr e ↦ e
+  ]
 
   reads_item : IsInTime before i → next_read before ws ≡ Ok i
   reads_item t =
-      sym (then_fields before ws _ (ap (λ k. head_read k ws) known ∙ r.reads.head)
-      (ap (λ b. cond b None (first_fault (order_tests before ws))) counts ∙ in_order t))
-      ∙ ap (λ k. fields_read k ws) known ∙ r.reads.fields
+      let p = r.is.in_order_after before t in
+      let head = ap (λ k. head_read k ws) known ∙ r.reads.head in
+      sym (then_fields before ws _ head (rw (counts, r.reads.letter, p.early, p.room)))
+      ∙ rw known r.reads.fields
 
 -- the bytes begin with the lines of these rows, and these lines have no fault after the earlier lines
 pub record RunOn (line : Row → Line) (bytes rest : List ℕ) (ls : List (List ℕ)) (rows : List RowLine) : Type 0 where
@@ -200,16 +165,10 @@ pub record RunOn (line : Row → Line) (bytes rest : List ℕ) (ls : List (List 
 
 -- the bytes before the rest, and the rest
 pub before_front : (a b c : List ℕ) → a ++ b ≡ c → take (length c - length b) c ≡ a
-before_front a b c e =
-    ap (λ x. take (length x - length b) x) (sym e)
-    ∙ ap (λ n. take n (a ++ b)) (let n = length-append a b in omega arith)
-    ∙ take-append_seam a b
+before_front a b c e = rw (← e, length-append a b, add-sub_cancel (length a) (length b)) (take-append_seam a b)
 
 pub after_front : (a b c : List ℕ) → a ++ b ≡ c → drop (length c - length b) c ≡ b
-after_front a b c e =
-    ap (λ x. drop (length x - length b) x) (sym e)
-    ∙ ap (λ n. drop n (a ++ b)) (let n = length-append a b in omega arith)
-    ∙ drop-append_seam a b
+after_front a b c e = rw (← e, length-append a b, add-sub_cancel (length a) (length b)) (drop-append_seam a b)
 
 module _ (kind : Kind) (byte : ℕ) (line : Row → Line) (rows_spell : SpellsRows kind byte line) where
   -- LOW and CAP of an item that the line of a row spells are at least 0
@@ -234,18 +193,18 @@ module _ (kind : Kind) (byte : ℕ) (line : Row → Line) (rows_spell : SpellsRo
     adds : with_next (items_of ls) (said_words l) ≡ items_of ls ++ i ∷ []
 
   one_on : (ls : List (List ℕ)) (l : List ℕ) (i : Line) (p : Problem) → problem_of (items_of ls) ≡ Some p
-      → p.kind ≡ kind
-      → ReadsRow kind (said_words l) i → IsInTime (items_of ls) i → length ls < 2 ^ 63 - 2 → OneOn ls l i
+      → p.kind ≡ kind → ReadsRow kind (said_words l) i → IsInTime (items_of ls) i → length ls < 2 ^ 63 - 2
+      → OneOn ls l i
   one_on ls l i p problem is r t few =
       let before = items_of ls in
       let ws = said_words l in
-      let counts_here = counts kind before p problem is ws i r in
-      let f = follows_as before ws counts_here i (reads_item kind before p problem is ws i r t) in
+      let counts = counts kind before p problem is ws i r in
+      let f = follows_as before ws counts i (reads_item kind before p problem is ws i r t) in
       record {
         faults =
             fault_is_next (length ls + 1) before ws (in_time (length ls) (length ls) refl few)
-            ∙ same_fault before ws i counts_here f;
-        adds = adds_it before ws i counts_here f;
+            ∙ same_fault before ws i counts f;
+        adds = adds_it before ws i counts f;
       }
 
   pub run_on : (rows : List RowLine) (bytes rest : List ℕ) (ls : List (List ℕ)) (p : Problem)
@@ -256,9 +215,9 @@ module _ (kind : Kind) (byte : ℕ) (line : Row → Line) (rows_spell : SpellsRo
     more = [];
     whole = sym u;
     inner = tt;
-    clean = subst IsClean (sym (append-nil ls)) clean;
-    items = ap items_of (append-nil ls) ∙ sym (append-nil (items_of ls));
-    number = ap length (append-nil ls) ∙ (omega arith);
+    clean = rw append-nil clean;
+    items = rw (append-nil ls, append-nil (items_of ls));
+    number = rw append-nil (omega arith);
   }
   run_on (r ∷ rows) bytes rest ls p u clean problem is f t few =
       let b = u.1.begins in
@@ -266,33 +225,27 @@ module _ (kind : Kind) (byte : ℕ) (line : Row → Line) (rows_spell : SpellsRo
       let i = line r.row in
       let one = one_on ls l i p problem is (rows_spell.reads bytes u.0 r u.1) t.0 (omega arith) in
       let items = items_push ls l ∙ one.adds in
-      let long : length (ls ++ l ∷ []) ≡ length ls + 1 = length-append ls (l ∷ []) in
+      let long = length-append ls (l ∷ []) in
       let more =
       run_on rows u.0 rest (ls ++ l ∷ []) p u.2 (clean_more ls l clean (one.faults ∙ f.0))
-      (ap problem_of items ∙ problem_all (items_of ls) (i ∷ []) p problem) is
-      (subst (λ x. AreFaultless x (row_items line rows)) (sym items) f.1)
-      (subst (λ x. AreInTime x (row_items line rows)) (sym items) t.1)
-      (omega arith)
-      in
-      let joined : (ls ++ l ∷ []) ++ more.more ≡ ls ++ l ∷ more.more = append_assoc ls (l ∷ []) more.more in
+      (ap problem_of items ∙ problem_all (items_of ls) (i ∷ []) p problem) is (rw items f.1) (rw items t.1)
+      (omega arith) in
+      let joined : ls ++ l ∷ more.more ≡ (ls ++ l ∷ []) ++ more.more = sym (append_assoc ls (l ∷ []) more.more) in
       record {
         more = l ∷ more.more;
         whole =
-            append_assoc (l ++ 10 ∷ []) (closed_lines more.more) rest
-            ∙ append_assoc l (10 ∷ []) (closed_lines more.more ++ rest) ∙ ap (λ x. l ++ 10 ∷ x) more.whole ∙ b.whole;
+            rw (append_assoc (l ++ 10 ∷ []) (closed_lines more.more) rest, append_assoc l, more.whole) b.whole;
         inner = (b.inner, more.inner);
-        clean = subst IsClean joined more.clean;
-        items =
-            ap items_of (sym joined) ∙ more.items ∙ ap (λ x. x ++ row_items line rows) items
-            ∙ append_assoc (items_of ls) (i ∷ []) (row_items line rows);
-        number = ap length (sym joined) ∙ more.number ∙ (omega arith);
+        clean = rw joined more.clean;
+        items = rw (joined, more.items, items) (append_assoc (items_of ls) (i ∷ []) (row_items line rows));
+        number = ap length joined ∙ more.number ∙ (omega arith);
       }
 
   -- the line of the row at which the rows stop has the fault
   refuses : (left : List RowLine) (bytes rest : List ℕ) (ls : List (List ℕ)) (p : Problem) (fault : Option ItemFault)
       → ReadUpTo kind byte bytes left rest → problem_of (items_of ls) ≡ Some p → p.kind ≡ kind
-      → AreInTime (items_of ls) (row_items line left) → StopsAt line (items_of ls) left fault
-      → length ls < 2 ^ 63 - 2 → RefusesFront ls bytes fault
+      → AreInTime (items_of ls) (row_items line left) → StopsAt line (items_of ls) left fault → length ls < 2 ^ 63 - 2
+      → RefusesFront ls bytes fault
   refuses left bytes rest ls p None u problem is t s few = tt
   refuses [] bytes rest ls p (Some fault) u problem is t s few = absurd s
   refuses (r ∷ left) bytes rest ls p (Some fault) u problem is t s few =
@@ -303,7 +256,7 @@ module _ (kind : Kind) (byte : ℕ) (line : Row → Line) (rows_spell : SpellsRo
         rest = u.0;
         whole = b.whole;
         inner = b.inner;
-        answer = subst (AnswersFault (Err fault)) (sym one.faults) s.fault;
+        answer = rw one.faults s.fault;
         needs = λ e. record { item = line r.row; spelled = one.adds; needs = s.memory (ap Err e) };
       }
 
@@ -313,8 +266,8 @@ module _ (kind : Kind) (byte : ℕ) (line : Row → Line) (rows_spell : SpellsRo
       → problem_of (items_of ls) ≡ Some p → p.kind ≡ kind
       → AreFaultless (items_of ls) (row_items line (take t.rows rows)) → AreInTime (items_of ls) (row_items line rows)
       → StopsAt line (items_of ls ++ row_items line (take t.rows rows)) (drop t.rows rows) t.fault
-      → t.rows ≤ length rows → length ls + length rows < 2 ^ 63 - 2
-      → now.closed ≡ length ls + t.rows → HasRead now (items_of ls ++ row_items line (take t.rows rows))
+      → t.rows ≤ length rows → length ls + length rows < 2 ^ 63 - 2 → now.closed ≡ length ls + t.rows
+      → HasRead now (items_of ls ++ row_items line (take t.rows rows))
       → front.used ≡ length bytes - last_left (length bytes) (take t.rows rows) → front.fault ≡ t.fault
       → ReadsFront now ls bytes front
   front_read now rows t bytes rest ls p front u clean problem is f early s within few number held used fault =
@@ -323,27 +276,23 @@ module _ (kind : Kind) (byte : ℕ) (line : Row → Line) (rows_spell : SpellsRo
       let times = in_time_split line rows t.rows (items_of ls) early in
       let long : length taken ≡ t.rows = length-take-le t.rows rows within in
       let on = run_on taken bytes split.0 ls p split.1 clean problem is f times.0 (omega arith) in
-      let left : front.used ≡ length bytes - length split.0 = used ∙ ap (λ n. length bytes - n) (sym split.2) in
-      let lines : length (ls ++ on.more) ≡ length ls + t.rows = on.number ∙ ap (λ n. length ls + n) long in
+      let left : front.used ≡ length bytes - length split.0 = rw split.2 used in
+      let lines : length (ls ++ on.more) ≡ length ls + t.rows = omega (arith, on.number) in
       record {
         more = on.more;
-        whole = sym (before_front _ split.0 bytes on.whole) ∙ ap (λ n. take n bytes) (sym left);
+        whole = rw left (sym (before_front _ split.0 bytes on.whole));
         inner = on.inner;
         read = record {
           clean = on.clean;
           few = omega arith;
           number_is = number ∙ sym lines;
-          items_are = subst (HasRead now) (sym on.items) held;
+          items_are = rw on.items held;
         };
         stops =
-            subst (RefusesFront (ls ++ on.more) (drop front.used bytes)) (sym fault)
-            (subst (λ b. RefusesFront (ls ++ on.more) b t.fault)
-            (sym (after_front _ split.0 bytes on.whole) ∙ ap (λ n. drop n bytes) (sym left))
+            rw (fault, left, after_front _ split.0 bytes on.whole)
             (refuses (drop t.rows rows) split.0 rest (ls ++ on.more) p t.fault split.3
             (ap problem_of on.items ∙ problem_all (items_of ls) (row_items line taken) p problem) is
-            (subst (λ x. AreInTime x (row_items line (drop t.rows rows))) (sym on.items) times.1)
-            (subst (λ x. StopsAt line x (drop t.rows rows) t.fault) (sym on.items) s)
-            (omega arith)));
+            (rw on.items times.1) (rw on.items s) (omega arith));
       }
     where
       -- the first m of these lines, and those after them
@@ -355,10 +304,9 @@ module _ (kind : Kind) (byte : ℕ) (line : Row → Line) (rows_spell : SpellsRo
       split_at (r ∷ rows) zero bytes rest u = (bytes, refl, refl, u)
       split_at (r ∷ rows) (suc m) bytes rest u =
           let q = split_at rows m u.0 rest u.2 in
-          (q.0, (u.0, u.1, q.1), subst (λ n. length q.0 ≡ last_left n (take m rows)) (sym u.1.left) q.2, q.3)
+          (q.0, (u.0, u.1, q.1), rw u.1.left q.2, q.3)
 
 -- no line has been taken
 pub none_read : (t : TextSoFar) (ls : List (List ℕ)) (bytes : List ℕ) → TextAt t ls
     → ReadsFront t ls bytes (record { used = 0; fault = None })
-none_read t ls bytes at =
-    record { more = []; whole = refl; inner = tt; read = subst (TextAt t) (sym (append-nil ls)) at; stops = tt }
+none_read t ls bytes at = record { more = []; whole = refl; inner = tt; read = rw append-nil at; stops = tt }

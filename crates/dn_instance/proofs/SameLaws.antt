@@ -43,8 +43,7 @@ module _ {Arc : Type 0} (kind : ArcKind Arc) (meaning : IsMeaning kind.Same) whe
   more_at true a xs ys s = meaning.same_more a xs ys s
   more_at false a xs ys s = s
 
-  swap_at : (s t : Bool) (a b : Arc) (xs : List Arc)
-      → kind.Same (cond s (a ∷ cond t (b ∷ xs) xs) (cond t (b ∷ xs) xs))
+  swap_at : (s t : Bool) (a b : Arc) (xs : List Arc) → kind.Same (cond s (a ∷ cond t (b ∷ xs) xs) (cond t (b ∷ xs) xs))
       (cond t (b ∷ cond s (a ∷ xs) xs) (cond s (a ∷ xs) xs))
   swap_at true true a b xs = meaning.same_swap a b xs
   swap_at true false a b xs = meaning.same_refl (a ∷ xs)
@@ -103,38 +102,24 @@ trans_of (ShortestPaths G) (ShortestPaths H) (ShortestPaths K) e f = graph_trans
 trans_of (Sources xs) (Sources ys) (Sources zs) e f = e ∙ f
 trans_of (Queries xs) (Queries ys) (Queries zs) e f = e ∙ f
 trans_of (Coordinates xs) (Coordinates ys) (Coordinates zs) e f = e ∙ f
-trans_of (MinCostFlow s G) (MinCostFlow t H) _ e f = absurd f
-trans_of (MaxFlow a b G) (MaxFlow c d H) _ e f = absurd f
-trans_of (ShortestPaths G) (ShortestPaths H) _ e f = absurd f
-trans_of (Sources xs) (Sources ys) _ e f = absurd f
-trans_of (Queries xs) (Queries ys) _ e f = absurd f
-trans_of (Coordinates xs) (Coordinates ys) _ e f = absurd f
-trans_of _ _ _ e f = absurd e
+trans_of _ _ _ e f = absurd assumption
 
 shows_one : (c : Contents) (I J : Instance) → nodes_of I ≡ nodes_of J → Shows c I → Shows c J → IsSame I J
 shows_one (OfMin flows table) (MinCostFlow s G) (MinCostFlow t H) n x y = (
   sym x.0 ∙ y.0,
-  table_one costs curve_meaning
-      (λ (b : CurveNumbers). listed One b.units b.cost b.steps) table G H n x.1 y.1,
+  table_one costs curve_meaning (λ (b : CurveNumbers). listed One b.units b.cost b.steps) table G H n x.1 y.1,
 )
 shows_one (OfMax source sink table) (MaxFlow a b G) (MaxFlow c d H) n x y = (
   sym x.0 ∙ y.0,
   sym x.1 ∙ y.1,
-  table_one capacities total_meaning
-      (λ (b : Total). cap_listed b.total) table G H n x.2 y.2,
+  table_one capacities total_meaning (λ (b : Total). cap_listed b.total) table G H n x.2 y.2,
 )
 shows_one (OfSp table) (ShortestPaths G) (ShortestPaths H) n x y =
     table_one lengths length_meaning (λ (b : Least). length_listed b.length) table G H n x y
 shows_one (OfSs ids) (Sources xs) (Sources ys) n x y = sym x ∙ y
 shows_one (OfP2p pairs) (Queries xs) (Queries ys) n x y = sym x ∙ y
 shows_one (OfCo points) (Coordinates xs) (Coordinates ys) n x y = sym x ∙ y
-shows_one (OfMin flows table) (MinCostFlow s G) _ n x y = absurd y
-shows_one (OfMax source sink table) (MaxFlow a b G) _ n x y = absurd y
-shows_one (OfSp table) (ShortestPaths G) _ n x y = absurd y
-shows_one (OfSs ids) (Sources xs) _ n x y = absurd y
-shows_one (OfP2p pairs) (Queries xs) _ n x y = absurd y
-shows_one (OfCo points) (Coordinates xs) _ n x y = absurd y
-shows_one _ _ _ n x y = absurd x
+shows_one _ _ _ n x y = absurd assumption
 
 -- the instances that a parsed instance represents pose the same problem
 pub held_one : (h : Parsed) (I J : Instance) → IsHeld h I → IsHeld h J → IsSame I J

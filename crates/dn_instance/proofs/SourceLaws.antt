@@ -1,5 +1,5 @@
 -- Lemmas on the outcome of reading a source.
-use Rattle.std.proofs.Common.{◌≡◌, ◌⊎◌, inl, inr, ℕ, ◌<◌, ◌≤◌, ◌^◌, List, [], ◌++◌, append_assoc, append-nil, length, Bool, true, false, ◌==◌, Option, Some, None, Result, Ok, Err, refl, sym, ap, ◌∙◌, subst, arith, IfSome, IfOk, IsErrOf, IsTrue}
+use Rattle.std.proofs.Common.{◌≡◌, ◌⊎◌, inl, inr, ℕ, ◌<◌, ◌≤◌, ◌^◌, List, [], ◌++◌, append_assoc, append-nil, length, Bool, true, false, ◌==◌, Option, Some, None, Result, Ok, Err, refl, sym, ◌∙◌, arith, IfSome, IfOk, IsErrOf, IsTrue}
 use Rattle.std.specs.Io.KnownBytes.{Consumes, IsAtEnd}
 use Rattle.std.proofs.KnownBytes.{Consumes-trans, Consumes-whole}
 use Rattle.std.proofs.lemmas.Bool.{eqb-true, eqb-false}
@@ -24,11 +24,7 @@ front_lines : (given rest : List ℕ) → More (ended given) (lines (given ++ re
 front_lines given rest =
     let m = ended_more given rest in
     let n = lines_more (given ++ rest) in
-    record {
-      rest = m.rest ++ n.rest;
-      whole =
-          n.whole ∙ ap (λ l. l ++ n.rest) m.whole ∙ append_assoc (ended given) m.rest n.rest;
-    }
+    record { rest = m.rest ++ n.rest; whole = rw (n.whole, m.whole) (append_assoc (ended given) m.rest n.rest) }
 
 -- if a text was refused because memory ran out, memory ran out at a line of the last piece, or at the last line
 pub ran_out : (t : List ℕ) (left : AfterPulls) → StopsAt t left Memory → RanOut t left
@@ -48,23 +44,15 @@ ran_out t left (inr s) = inr (s.at_end, s.refused)
 -- a refusal is one after the first `before` lines, if memory ran out only after these
 refused_past : (before : ℕ) (ls : List (List ℕ)) (e : Refusal) → IsRefused 0 ls e → (e ≡ Memory → WantsMemory before ls)
     → IsRefused before ls e
-refused_past before ls (Text (Places.Line number) code) h m = h
-refused_past before ls (Text Places.End code) h m = h
 refused_past before ls Memory h m = m refl
-refused_past before ls Read h m = h
-refused_past before ls Endless h m = h
-refused_past before ls Write h m = h
-refused_past before ls CountTooLarge h m = h
+refused_past before ls (Text (Places.Line number) code) h m = h
+refused_past before ls _ h m = h
 
 piece_outcome : (t : List ℕ) (left : AfterPulls) (e : Refusal) → IsRefused 0 (lines t) e → StopsInPiece t left e
     → SourceOutcome t left (Err e)
 piece_outcome t left (Text (Places.Line number) code) h s = (h, inl s)
-piece_outcome t left (Text Places.End code) h s = absurd h
 piece_outcome t left Memory h s = inl s
-piece_outcome t left Read h s = absurd h
-piece_outcome t left Endless h s = absurd h
-piece_outcome t left Write h s = absurd h
-piece_outcome t left CountTooLarge h s = absurd h
+piece_outcome t left _ h s = absurd h
 
 -- what holds of all bytes that a source gave and still gives holds of its bytes, if they are known
 given_rest : (old new : Option (List ℕ)) (given : List ℕ) (P : List ℕ → Type 0) → Consumes old new given
@@ -75,7 +63,7 @@ given_rest (Some t) (Some rest) given P c f = f t rest c refl
 
 -- a refusal at a line is not `Read`
 pub refused_unread : (n : ℕ) (ls : List (List ℕ)) (e : Refusal) → IsRefused n ls e → e ≡ Read → ⊥
-refused_unread n ls e h is = subst (IsRefused n ls) is h
+refused_unread n ls e h is = rw is at h
 
 pub not_refused : (o : Option Refusal) → Ok tt ≡ answer_of o → o ≡ None
 not_refused None e = refl
@@ -86,20 +74,14 @@ pub has_none : (piece : List ℕ) (test : Bool) → test ≡ (length piece == 0)
 has_none piece test is e = nil_from_length piece (eqb-true (length piece) 0 (sym is ∙ e))
 
 pub has_some : (piece : List ℕ) (test : Bool) → test ≡ (length piece == 0) → test ≡ false → 0 < length piece
-has_some piece test is e = let some = eqb-false (length piece) 0 (sym is ∙ e) in omega arith
+has_some piece test is e = omega (arith, eqb-false (length piece) 0 (sym is ∙ e))
 
 end_outcome : (t : List ℕ) (left : AfterPulls) (r : Result Held Refusal) → IsAtEnd left.gives → IsClean (ended t)
     → (r ≡ Err Memory → WantsMemory (length (ended t)) (lines t)) → Outcome t r → SourceOutcome t left r
 end_outcome t left (Ok held) e clean m h = (h, e)
-end_outcome t left (Err (Text (Places.Line number) code)) e clean m h =
-    (h, inr (record { at_end = e; clean = clean; refused = h }))
-end_outcome t left (Err (Text Places.End code)) e clean m h =
-    (h, inr (record { at_end = e; clean = clean; refused = h }))
+end_outcome t left (Err (Text place code)) e clean m h = (h, inr (record { at_end = e; clean = clean; refused = h }))
 end_outcome t left (Err Memory) e clean m h = inr (record { at_end = e; clean = clean; refused = m refl })
-end_outcome t left (Err Read) e clean m h = absurd h
-end_outcome t left (Err Endless) e clean m h = absurd h
-end_outcome t left (Err Write) e clean m h = absurd h
-end_outcome t left (Err CountTooLarge) e clean m h = absurd h
+end_outcome t left _ e clean m h = absurd h
 
 module _ {S : Type 0} (source : SourceFacts S) (old before : S) (r : Reader) (fed : IsFed source old before r) where
   -- no complete line of the bytes given has a fault
@@ -112,8 +94,7 @@ module _ {S : Type 0} (source : SourceFacts S) (old before : S) (r : Reader) (fe
       (λ t rest whole is. record { given = fed.given; rest = rest; whole = whole; rest_is = is; clean = clean })
 
   pulled : (new : S) → (new ≡ before) ⊎ source.Pulls before new → PulledWhileClean source old new
-  pulled new last =
-      record { before = before; pulls = fed.pulls; clean = clean_so_far; last = last }
+  pulled new last = record { before = before; pulls = fed.pulls; clean = clean_so_far; last = last }
 
   -- how the source is left, after no more pull or after one more
   pub left_here : {A : Type 0} (result : Result A Refusal) → (IsErrOf result Read → ⊥)
@@ -132,8 +113,7 @@ module _ {S : Type 0} (source : SourceFacts S) (old before : S) (r : Reader) (fe
       → IfSome (source.gives old) (λ t. SourceOutcome t (after_pulls source old before) (Err Endless))
   endless count h k =
       given_rest (source.gives old) (source.gives before) fed.given
-      (λ t. SourceOutcome t (after_pulls source old before) (Err Endless)) fed.gave
-      (λ t rest whole is. (
+      (λ t. SourceOutcome t (after_pulls source old before) (Err Endless)) fed.gave (λ t rest whole is. (
         record { given = fed.given; rest = rest; whole = whole; rest_is = is; clean = clean },
         omega arith,
       ))
@@ -145,9 +125,7 @@ module _ {S : Type 0} (source : SourceFacts S) (old before : S) (r : Reader) (fe
   -- an empty piece adds no bytes
   pub given_all : (new : S) (piece : List ℕ) → piece ≡ [] → Consumes (source.gives before) (source.gives new) piece
       → Consumes (source.gives old) (source.gives new) fed.given
-  given_all new piece none c =
-      subst (λ l. Consumes (source.gives old) (source.gives new) l)
-      (ap (λ l. fed.given ++ l) none ∙ append-nil fed.given) (given_more new piece c)
+  given_all new piece none c = rw (none, append-nil fed.given) at (given_more new piece c)
 
   -- the outcome of a source that is at its end
   pub finished : (new : S) (a : Result Held Refusal) → Consumes (source.gives old) (source.gives new) fed.given
@@ -171,12 +149,9 @@ module _ {S : Type 0} (source : SourceFacts S) (old before : S) (r : Reader) (fe
     refused e h m =
         let all = fed.given ++ piece in
         given_rest (source.gives old) (source.gives new) all
-        (λ t. SourceOutcome t (after_pulls source old new) (Err e)) (given_more new piece c)
-        (λ t rest whole is.
-        piece_outcome t (after_pulls source old new) e
-        (refused_on 0 0 (ended all) (lines t) e (omega arith)
-        (subst (λ x. More (ended all) (lines x)) (sym whole) (front_lines all rest)) h)
-        (record {
+        (λ t. SourceOutcome t (after_pulls source old new) (Err e)) (given_more new piece c) (λ t rest whole is.
+        piece_outcome t (after_pulls source old new) e (refused_on 0 0 (ended all) (lines t) e (omega arith)
+        (rw whole (front_lines all rest)) h) (record {
           given = fed.given;
           piece = piece;
           rest = rest;
@@ -191,8 +166,7 @@ module _ {S : Type 0} (source : SourceFacts S) (old before : S) (r : Reader) (fe
 -- what is kept after one more piece
 pub kept_more : (keeps : Bool) (old mid new given piece : List ℕ) → IsKept keeps old mid given
     → IsKept keeps mid new piece → IsKept keeps old new (given ++ piece)
-kept_more keeps old mid new given piece h k is =
-    k is ∙ ap (λ l. l ++ piece) (h is) ∙ append_assoc old given piece
+kept_more keeps old mid new given piece h k is = rw (k is, h is) (append_assoc old given piece)
 
 -- the outcome if all bytes that the source gave are kept, if bytes are kept
 pub kept : (keeps : Bool) (old new : Option (List ℕ)) (left : AfterPulls) (given old_copy new_copy : List ℕ)
@@ -208,22 +182,19 @@ pub unkept : (old : Option (List ℕ)) (left : AfterPulls) (old_copy new_copy : 
     → IfSome old (λ t. KeptOutcome false t left old_copy new_copy r) → IfSome old (λ t. SourceOutcome t left r)
 unkept None left old_copy new_copy r h = tt
 unkept (Some t) left old_copy new_copy r (inl h) = h.0
-unkept (Some t) left old_copy new_copy r (inr h) = absurd (let never = h.1 in cc)
+unkept (Some t) left old_copy new_copy r (inr h) = cc h.1
 
-pub unkept_held : (old_copy new_copy : List ℕ) (a : Result Held Refusal)
-    → IfOk a (HoldsKept false old_copy new_copy) → IfOk a HoldsSome
+pub unkept_held : (old_copy new_copy : List ℕ) (a : Result Held Refusal) → IfOk a (HoldsKept false old_copy new_copy)
+    → IfOk a HoldsSome
 unkept_held old_copy new_copy (Ok held) h = (h.0, h.1)
 unkept_held old_copy new_copy (Err e) h = tt
 
 copy_outcome : (t : List ℕ) (left : AfterPulls) (old_copy new_copy : List ℕ) (r : Result Held Refusal)
     → SourceOutcome t left r → Copied t left.gives old_copy new_copy → CopyOutcome t left old_copy new_copy r
-copy_outcome t left old_copy new_copy (Ok held) h k = (h, k)
-copy_outcome t left old_copy new_copy (Err (Text place code)) h k = (h, k)
 copy_outcome t left old_copy new_copy (Err Memory) h k = inl (h, k)
-copy_outcome t left old_copy new_copy (Err Read) h k = (h, k)
-copy_outcome t left old_copy new_copy (Err Endless) h k = (h, k)
 copy_outcome t left old_copy new_copy (Err Write) h k = absurd h
 copy_outcome t left old_copy new_copy (Err CountTooLarge) h k = absurd h
+copy_outcome t left old_copy new_copy _ h k = (h, k)
 
 -- the outcome if bytes are kept
 pub copied : (old : Option (List ℕ)) (left : AfterPulls) (old_copy new_copy : List ℕ) (r : Result Held Refusal)
@@ -231,10 +202,9 @@ pub copied : (old : Option (List ℕ)) (left : AfterPulls) (old_copy new_copy : 
     → IfSome old (λ t. CopyOutcome t left old_copy new_copy r)
 copied None left old_copy new_copy r h = tt
 copied (Some t) left old_copy new_copy r (inl h) = copy_outcome t left old_copy new_copy r h.0 (h.1 refl)
-copied (Some t) left old_copy new_copy r (inr h) =
-    subst (λ x. CopyOutcome t left old_copy new_copy x) (sym h.0) (inr h.2)
+copied (Some t) left old_copy new_copy r (inr h) = rw h.0 (inr h.2)
 
-pub copied_held : (old_copy new_copy : List ℕ) (a : Result Held Refusal)
-    → IfOk a (HoldsKept true old_copy new_copy) → IfOk a (HoldsCopied old_copy new_copy)
+pub copied_held : (old_copy new_copy : List ℕ) (a : Result Held Refusal) → IfOk a (HoldsKept true old_copy new_copy)
+    → IfOk a (HoldsCopied old_copy new_copy)
 copied_held old_copy new_copy (Ok held) h = (h.0, h.1, h.2 refl)
 copied_held old_copy new_copy (Err e) h = tt

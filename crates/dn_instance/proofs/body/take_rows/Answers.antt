@@ -1,6 +1,6 @@
 use Rattle.std.proofs.Common.{arith, sym, subst}
 use Rattle.dn_instance.specs.State.Bodies.{Keeps}
-use Rattle.dn_instance.proofs.BodyRunLaws.{awaits_next, kept_on_error, one_more, stopped}
+use Rattle.dn_instance.proofs.RowRunLaws.{awaits_next, kept_on_error, one_more, stopped}
 use Rattle.dn_instance.proofs.body.take_rows.Goals as goal
 
 pub loop-i-preserved : goal.loop-i-preserved
@@ -9,9 +9,7 @@ loop-i-preserved g c = record {
       let here = c.loop-i-test.true in
       let j = c.loop-i.invariant.joins before a in
       one_more g.T.RowTaker.taker g.T.RowTaker.line c.args.nodes.now before c.args.rows.now _ _ c.loop-i.i _
-      c.take.result _ c.in_default.is
-      here j
-      (c.take.ensures.taken _
+      c.take.result _ c.in_default.is here j (c.take.ensures.taken _
       (awaits_next g.T.RowTaker.taker g.T.RowTaker.line c.args.nodes.now before c.args.rows.now _ _ c.loop-i.i _
       here a j))
       );
@@ -25,8 +23,7 @@ returns-in-Err-clause-taken g c before a =
     let kept : Keeps g.T.RowTaker.taker c.loop-i.taker c.take.new.self =
     kept_on_error c.take.result _ c.in-Err.is c.take.ensures.unchanged in
     stopped g.T.RowTaker.taker g.T.RowTaker.line c.args.nodes.now before c.args.rows.now _ _ c.loop-i.i _
-    c.take.result _ c.in-Err.is here j
-    (c.take.ensures.taken _
+    c.take.result _ c.in-Err.is here j (c.take.ensures.taken _
     (awaits_next g.T.RowTaker.taker g.T.RowTaker.line c.args.nodes.now before c.args.rows.now _ _ c.loop-i.i _
     here a j)) (kept _ j.holds)
 

@@ -1,8 +1,5 @@
-use Rattle.std.proofs.Common.{Bool, true, false, cond, ◌≡◌, ◌+◌, ℤ, pos, ◌∷◌, Option, Some, None, Ok}
-use Rattle.std.proofs.Common.{Err, drop, get_or, refl, sym, ◌∙◌, ap, ℕ, List, length, ◌<◌}
+use Rattle.std.proofs.Common.{Bool, true, false, cond, ◌≡◌, ◌+◌, ℤ, pos, ◌∷◌, Option, Some, None, Ok, Err, drop, get_or, refl, sym, ◌∙◌, ap, ℕ, List, length, ◌<◌, int_lt, find, flat_map}
 use Rattle.std.proofs.lemmas.List.{drop_more}
-use Rattle.std.specs.Prelude.{int_lt}
-use Rattle.std.specs.List.{find, flat_map}
 use Rattle.dn_instance.specs.Companions.{both_nodes, unless_found, within}
 use Rattle.dn_instance.specs.declared.companion.CompanionFault.{CompanionFault}
 use Rattle.dn_instance.proofs.companion.check_pairs.Goals as goal

@@ -1,5 +1,4 @@
-use Rattle.std.proofs.Common.{◌≡◌, drop}
-use Rattle.std.specs.List.{flat_map}
+use Rattle.std.proofs.Common.{◌≡◌, drop, flat_map}
 use Rattle.dn_instance.specs.Companions.{both_nodes, within}
 use Rattle.dn_instance.proofs.companion.check_pairs.Given as goal
 

@@ -1,8 +1,7 @@
-use Rattle.std.proofs.Common.{◌≡◌, ◌≤◌, ◌^◌, [], ◌++◌, take, length, ◌∙◌, Err, refl, sym, ap, subst, rules, arith, append-nil, length-append}
+use Rattle.std.proofs.Common.{◌≤◌, ◌^◌, [], ◌++◌, take, length, ◌∙◌, Err, refl, sym, ap, rules, arith, append-nil, length-append}
 use Rattle.std.proofs.KnownBytes.{Consumes-nil}
 use Rattle.dn_instance.specs.SourceReads.{after_pulls, unpulled, pulled}
-use Rattle.dn_instance.specs.State.ReaderResults.{Outcome}
-use Rattle.dn_instance.specs.declared.refusal.Refusal.TheVariants.{Endless, Read}
+use Rattle.dn_instance.specs.declared.refusal.Refusal.TheVariants.{Endless}
 use Rattle.dn_instance.proofs.SourceLaws.{endless, finished, given_all, given_more, has_none, has_some, kept, kept_more, left_here, left_on, not_refused, refused, refused_unread}
 use Rattle.dn_instance.proofs.read.read_all.Goals as goal
 
@@ -35,8 +34,7 @@ pub returns-then-is_empty-clause-left : goal.returns-then-is_empty-clause-left
 returns-then-is_empty-clause-left g c =
     let fed = c.loop.invariant.fed in
     left_on _ _ _ _ fed c.pull.new.self c.finish.result c.pull.ensures.pulls
-    (λ failed. c.in-Ok.ensures.ok.fine ∙ failed)
-    (λ is. absurd (subst (Outcome fed.given) is (c.finish.ensures.outcome fed.given fed.read)))
+    (λ failed. c.in-Ok.ensures.ok.fine ∙ failed) (λ is. absurd (rw is at (c.finish.ensures.outcome fed.given fed.read)))
 
 pub returns-in-Err-feed-clause-prefix : goal.returns-in-Err-feed-clause-prefix
 returns-in-Err-feed-clause-prefix g c = (
@@ -62,8 +60,7 @@ pub returns-in-Err-feed-clause-left : goal.returns-in-Err-feed-clause-left
 returns-in-Err-feed-clause-left g c =
     let fed = c.loop.invariant.fed in
     left_on _ _ _ _ fed c.pull.new.self _ c.pull.ensures.pulls (λ failed. c.in-Ok.ensures.ok.fine ∙ failed)
-    (λ is. absurd (refused_unread _ _ _ (c.in-Err-feed.ensures.fed fed.given fed.read)
-    (let same : c.in-Err-feed.refusal ≡ Read = cc in same)))
+    (λ is. absurd (refused_unread _ _ _ (c.in-Err-feed.ensures.fed fed.given fed.read) (cc)))
 
 pub loop-preserved : goal.loop-preserved
 loop-preserved g c =
@@ -80,7 +77,7 @@ loop-preserved g c =
         read = c.in_default-feed.ensures.stands fed.given fed.read;
         fine = not_refused _ c.in_default-feed.ensures.answer;
       };
-      count = let all = length-append fed.given piece in let so_far = c.loop.invariant.count in omega arith;
+      count = omega (arith, length-append fed.given piece, c.loop.invariant.count);
       kept = kept_more _ _ _ _ _ _ c.loop.invariant.kept c.in_default.ensures.ok;
     }
 
@@ -89,7 +86,7 @@ returns-clause-outcome g c =
     let fed = c.loop.invariant.fed in
     kept g.K.Keep.keeps _ _ (after_pulls g.S.Source.source c.args.source.now c.loop.source) fed.given
     (g.K.Keep.kept c.args.text.now) (g.K.Keep.kept c.loop.text) (Err Endless) refl fed.gave c.loop.invariant.kept
-    (endless _ _ _ _ fed c.loop.counter c.loop.invariant.count (let over = c.loop-test.false in omega arith))
+    (endless _ _ _ _ fed c.loop.counter c.loop.invariant.count (omega (arith, c.loop-test.false)))
 
 pub returns-clause-left : goal.returns-clause-left
 returns-clause-left g c = left_here _ _ _ _ c.loop.invariant.fed _ (λ is. cc)

@@ -4,41 +4,35 @@ use Rattle.dn_arc.specs.Kinds.{capacities, costs, lengths}
 use Rattle.dn_arc.specs.declared.arc.Form.TheVariants.{One}
 use Rattle.dn_bundle.specs.State.Listings.{curve_arcs, least_arcs, total_arcs}
 use Rattle.dn_instance.specs.Items.{cap_arc_in, cost_arc_in, length_arc_in}
-use Rattle.dn_instance.specs.State.Bodies.{ids_body, pairs_body, points_body}
-use Rattle.dn_instance.specs.State.Drafts.{max_body, min_body, sp_body}
-use Rattle.dn_instance.specs.declared.any_body.AnyBody.TheVariants as Bodies
-use Rattle.dn_instance.proofs.AnyBodyLaws.{counted_by, table_counted}
+use Rattle.dn_instance.proofs.BodyLaws.{min_part, max_part, sp_part, ids_part, pairs_part, points_part, counted_by, table_counted}
 use Rattle.dn_instance.proofs.any_body.AnyBody.entries.Goals as goal
 
 pub returns-in-Min : goal.returns-in-Min
 returns-in-Min c =
-    counted_by min_body Bodies.Min (λ t. refl) (λ t items h. h) (λ t items h. h) _ _
+    counted_by min_part _ _
     (table_counted Kinds.Min costs cost_arc_in (curve_arcs One) _ _ (λ items. refl) c.entries.ensures) _ c.in-Min.is
 
 pub returns-in-Max : goal.returns-in-Max
 returns-in-Max c =
-    counted_by max_body Bodies.Max (λ t. refl) (λ t items h. h) (λ t items h. h) _ _
+    counted_by max_part _ _
     (table_counted Kinds.Max capacities cap_arc_in total_arcs _ _ (λ items. refl) c.entries-in-Max.ensures) _
     c.in-Max.is
 
 pub returns-in-Sp : goal.returns-in-Sp
 returns-in-Sp c =
-    counted_by sp_body Bodies.Sp (λ t. refl) (λ t items h. h) (λ t items h. h) _ _
+    counted_by sp_part _ _
     (table_counted Kinds.Sp lengths length_arc_in least_arcs _ _ (λ items. refl) c.entries-in-Sp.ensures) _ c.in-Sp.is
 
 pub returns-in-Ss : goal.returns-in-Ss
 returns-in-Ss c =
-    counted_by ids_body Bodies.Ss (λ t. refl) (λ t items h. h) (λ t items h. h) c.in-Ss.ids _
-    (λ items h few. (let n = c.len.ensures in let k = c.in-Ss.ids.ok in let e = ap length h in omega arith)) _
+    counted_by ids_part c.in-Ss.ids _ (λ items h few. omega (arith, c.len.ensures, c.in-Ss.ids.ok, ap length h)) _
     c.in-Ss.is
 
 pub returns-in-P2p : goal.returns-in-P2p
 returns-in-P2p c =
-    counted_by pairs_body Bodies.P2p (λ t. refl) (λ t items h. h) (λ t items h. h) c.in-P2p.pairs _
-    (λ items h few. (let n = c.len-in-P2p.ensures in let k = c.in-P2p.pairs.ok in let e = ap length h in omega arith))
-    _ c.in-P2p.is
+    counted_by pairs_part c.in-P2p.pairs _
+    (λ items h few. omega (arith, c.len-in-P2p.ensures, c.in-P2p.pairs.ok, ap length h)) _ c.in-P2p.is
 
 pub returns-in-Co : goal.returns-in-Co
 returns-in-Co c =
-    counted_by points_body Bodies.Co (λ t. refl) (λ t items h. h) (λ t items h. h) c.in-Co.points _
-    (λ items h few. c.len-in-Co.ensures.len ∙ ap length h) _ c.in-Co.is
+    counted_by points_part c.in-Co.points _ (λ items h few. c.len-in-Co.ensures.len ∙ ap length h) _ c.in-Co.is

@@ -1,66 +1,44 @@
-use Rattle.std.proofs.Common.{refl}
-use Rattle.dn_instance.specs.State.Bodies.{ids_body, pairs_body, points_body}
-use Rattle.dn_instance.specs.State.Drafts.{max_body, min_body, sp_body}
-use Rattle.dn_instance.specs.declared.any_body.AnyBody.TheVariants as Bodies
-use Rattle.dn_instance.proofs.AnyBodyLaws.{rows_kept, rows_taken}
+use Rattle.dn_instance.proofs.BodyLaws.{min_part, max_part, sp_part, ids_part, pairs_part, points_part, rows_kept, rows_taken}
 use Rattle.dn_instance.proofs.any_body.AnyBody.take_rows.Goals as goal
 
 pub returns-in-Min-clause-taken : goal.returns-in-Min-clause-taken
-returns-in-Min-clause-taken c =
-    rows_taken min_body Bodies.Min (λ t. refl) (λ t items h. h) (λ t items h. h) _ _ _ _ _ c.take_rows.ensures.taken _
-    c.in-Min.is
+returns-in-Min-clause-taken c = rows_taken min_part _ _ _ _ _ c.take_rows.ensures.taken _ c.in-Min.is
 
 pub returns-in-Min-clause-unchanged : goal.returns-in-Min-clause-unchanged
-returns-in-Min-clause-unchanged c none =
-    rows_kept min_body Bodies.Min (λ t. refl) (λ t items h. h) (λ t items h. h) _ _ (c.take_rows.ensures.unchanged none)
-    _ c.in-Min.is
+returns-in-Min-clause-unchanged c none = rows_kept min_part _ _ (c.take_rows.ensures.unchanged none) _ c.in-Min.is
 
 pub returns-in-Max-clause-taken : goal.returns-in-Max-clause-taken
-returns-in-Max-clause-taken c =
-    rows_taken max_body Bodies.Max (λ t. refl) (λ t items h. h) (λ t items h. h) _ _ _ _ _
-    c.take_rows-in-Max.ensures.taken _ c.in-Max.is
+returns-in-Max-clause-taken c = rows_taken max_part _ _ _ _ _ c.take_rows-in-Max.ensures.taken _ c.in-Max.is
 
 pub returns-in-Max-clause-unchanged : goal.returns-in-Max-clause-unchanged
 returns-in-Max-clause-unchanged c none =
-    rows_kept max_body Bodies.Max (λ t. refl) (λ t items h. h) (λ t items h. h) _ _
-    (c.take_rows-in-Max.ensures.unchanged none) _ c.in-Max.is
+    rows_kept max_part _ _ (c.take_rows-in-Max.ensures.unchanged none) _ c.in-Max.is
 
 pub returns-in-Sp-clause-taken : goal.returns-in-Sp-clause-taken
-returns-in-Sp-clause-taken c =
-    rows_taken sp_body Bodies.Sp (λ t. refl) (λ t items h. h) (λ t items h. h) _ _ _ _ _ c.take_rows-in-Sp.ensures.taken
-    _ c.in-Sp.is
+returns-in-Sp-clause-taken c = rows_taken sp_part _ _ _ _ _ c.take_rows-in-Sp.ensures.taken _ c.in-Sp.is
 
 pub returns-in-Sp-clause-unchanged : goal.returns-in-Sp-clause-unchanged
-returns-in-Sp-clause-unchanged c none =
-    rows_kept sp_body Bodies.Sp (λ t. refl) (λ t items h. h) (λ t items h. h) _ _
-    (c.take_rows-in-Sp.ensures.unchanged none) _ c.in-Sp.is
+returns-in-Sp-clause-unchanged c none = rows_kept sp_part _ _ (c.take_rows-in-Sp.ensures.unchanged none) _ c.in-Sp.is
 
 pub returns-in-Ss-clause-taken : goal.returns-in-Ss-clause-taken
-returns-in-Ss-clause-taken c =
-    rows_taken ids_body Bodies.Ss (λ t. refl) (λ t items h. h) (λ t items h. h) _ _ _ _ _
-    c.take_rows-in-Ss.ensures.taken _ c.in-Ss.is
+returns-in-Ss-clause-taken c = rows_taken ids_part _ _ _ _ _ c.take_rows-in-Ss.ensures.taken _ c.in-Ss.is
 
 pub returns-in-Ss-clause-unchanged : goal.returns-in-Ss-clause-unchanged
 returns-in-Ss-clause-unchanged c none =
-    rows_kept ids_body Bodies.Ss (λ t. refl) (λ t items h. h) (λ t items h. h) c.in-Ss.ids c.take_rows-in-Ss.new.taker
-    (c.take_rows-in-Ss.ensures.unchanged none) _ c.in-Ss.is
+    rows_kept ids_part c.in-Ss.ids c.take_rows-in-Ss.new.taker (c.take_rows-in-Ss.ensures.unchanged none) _ c.in-Ss.is
 
 pub returns-in-P2p-clause-taken : goal.returns-in-P2p-clause-taken
-returns-in-P2p-clause-taken c =
-    rows_taken pairs_body Bodies.P2p (λ t. refl) (λ t items h. h) (λ t items h. h) _ _ _ _ _
-    c.take_rows-in-P2p.ensures.taken _ c.in-P2p.is
+returns-in-P2p-clause-taken c = rows_taken pairs_part _ _ _ _ _ c.take_rows-in-P2p.ensures.taken _ c.in-P2p.is
 
 pub returns-in-P2p-clause-unchanged : goal.returns-in-P2p-clause-unchanged
 returns-in-P2p-clause-unchanged c none =
-    rows_kept pairs_body Bodies.P2p (λ t. refl) (λ t items h. h) (λ t items h. h) c.in-P2p.pairs
+    rows_kept pairs_part c.in-P2p.pairs
     c.take_rows-in-P2p.new.taker (c.take_rows-in-P2p.ensures.unchanged none) _ c.in-P2p.is
 
 pub returns-in-Co-clause-taken : goal.returns-in-Co-clause-taken
-returns-in-Co-clause-taken c =
-    rows_taken points_body Bodies.Co (λ t. refl) (λ t items h. h) (λ t items h. h) _ _ _ _ _
-    c.take_rows-in-Co.ensures.taken _ c.in-Co.is
+returns-in-Co-clause-taken c = rows_taken points_part _ _ _ _ _ c.take_rows-in-Co.ensures.taken _ c.in-Co.is
 
 pub returns-in-Co-clause-unchanged : goal.returns-in-Co-clause-unchanged
 returns-in-Co-clause-unchanged c none =
-    rows_kept points_body Bodies.Co (λ t. refl) (λ t items h. h) (λ t items h. h) c.in-Co.points
+    rows_kept points_part c.in-Co.points
     c.take_rows-in-Co.new.taker (c.take_rows-in-Co.ensures.unchanged none) _ c.in-Co.is

@@ -1,5 +1,4 @@
-use Rattle.std.proofs.Common.{rules, Some, Ok, refl, subst, FitsSigned, w64, to_z-of_z}
-use Rattle.dn_line.specs.declared.kind.Kind.TheVariants as Kinds
+use Rattle.std.proofs.Common.{rules, refl, FitsSigned, w64, to_z-of_z}
 use Rattle.dn_arc.specs.Kinds.{lengths, costs}
 use Rattle.dn_arc.specs.State.CurveListed.{listed}
 use Rattle.dn_arc.specs.State.Curves.{CurveNumbers}
@@ -7,17 +6,14 @@ use Rattle.dn_arc.specs.State.SingleArcs.{length_listed}
 use Rattle.dn_arc.specs.declared.arc.Form.TheVariants.{One}
 use Rattle.dn_bundle.specs.declared.least.Least.{Least}
 use Rattle.dn_instance.specs.Items.{arcs_of, cost_arc_in, length_arc_in}
-use Rattle.dn_instance.specs.State.Drafts.{BodyHolds}
-use Rattle.dn_instance.specs.State.Ends.{Makes}
-use Rattle.dn_instance.specs.declared.content.Content.TheVariants as Kept
-use Rattle.dn_instance.proofs.EndLaws.{both_named, made_by}
+use Rattle.dn_instance.proofs.EndLaws.{both_named}
 use Rattle.dn_table.proofs.GrownLaws.{stands_as}
 use Rattle.dn_instance.proofs.draft.Draft.end.Goals as goal
 
 pub returns-in-Min : goal.returns-in-Min
 returns-in-Min c nodes items h =
-    let k = subst (λ b. BodyHolds b items) c.in-Min.is h.1 in
-    let out : Makes (Some Kinds.Min) nodes items (Ok (Kept.Min c.args.self.heads.supplies c.end.result)) = (
+    let k = rw c.in-Min.is at h.1 in
+    rw c.in-Min.is (
       refl,
       (
         _,
@@ -28,8 +24,7 @@ returns-in-Min c nodes items h =
               (arcs_of cost_arc_in items) c.end.ensures.rising c.end.ensures.kept k.lists_them,
         ),
       ),
-    ) in
-    made_by c.args.self.body _ _ nodes items _ c.in-Min.is refl out
+    )
 
 pub returns-in-Some-Some : goal.returns-in-Some-Some
 returns-in-Some-Some c nodes items h =
@@ -41,8 +36,8 @@ returns-in-Some-Some c nodes items h =
 
 pub returns-in-Sp : goal.returns-in-Sp
 returns-in-Sp c nodes items h =
-    let k = subst (λ b. BodyHolds b items) c.in-Sp.is h.1 in
-    let out : Makes (Some Kinds.Sp) nodes items (Ok (Kept.Sp c.end-in-Sp.result)) = (
+    let k = rw c.in-Sp.is at h.1 in
+    rw c.in-Sp.is (
       refl,
       (
         _,
@@ -50,20 +45,13 @@ returns-in-Sp c nodes items h =
         stands_as lengths (λ (b : Least). length_listed b.length) c.in-Sp.table c.end-in-Sp.result
             (arcs_of length_arc_in items) c.end-in-Sp.ensures.rising c.end-in-Sp.ensures.kept k.lists_them,
       ),
-    ) in
-    made_by c.args.self.body _ _ nodes items _ c.in-Sp.is refl out
+    )
 
 pub returns-in-Ss : goal.returns-in-Ss
-returns-in-Ss c nodes items h =
-    let k = subst (λ b. BodyHolds b items) c.in-Ss.is h.1 in
-    made_by c.args.self.body _ _ nodes items _ c.in-Ss.is refl (refl, (_, refl, k))
+returns-in-Ss c nodes items h = rw c.in-Ss.is (refl, (_, refl, rw c.in-Ss.is at h.1))
 
 pub returns-in-P2p : goal.returns-in-P2p
-returns-in-P2p c nodes items h =
-    let k = subst (λ b. BodyHolds b items) c.in-P2p.is h.1 in
-    made_by c.args.self.body _ _ nodes items _ c.in-P2p.is refl (refl, (_, refl, k))
+returns-in-P2p c nodes items h = rw c.in-P2p.is (refl, (_, refl, rw c.in-P2p.is at h.1))
 
 pub returns : goal.returns
-returns c nodes items h =
-    let k = subst (λ b. BodyHolds b items) c.in-Co.is h.1 in
-    made_by c.args.self.body _ _ nodes items _ c.in-Co.is refl (refl, (_, refl, k))
+returns c nodes items h = rw c.in-Co.is (refl, (_, refl, rw c.in-Co.is at h.1))

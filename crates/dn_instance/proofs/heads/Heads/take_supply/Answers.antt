@@ -1,4 +1,4 @@
-use Rattle.dn_instance.proofs.SupplyItems.{supply_same, supply_taken}
+use Rattle.dn_instance.proofs.HeadsLaws.{supply_same, supply_taken}
 use Rattle.dn_instance.proofs.heads.Heads.take_supply.Goals as goal
 
 pub returns-clause-taken : goal.returns-clause-taken

@@ -1,9 +1,7 @@
-use Rattle.std.proofs.Common.{◌≡◌, ◌++◌, append-nil, arith, sym, ap, ◌∙◌, subst, take}
+use Rattle.std.proofs.Common.{◌≡◌, append-nil, arith, sym, ◌∙◌}
 use Rattle.dn_instance.specs.Readers.{ended}
-use Rattle.dn_instance.specs.State.ReaderStates.{IsReading}
-use Rattle.dn_instance.specs.State.TextsSoFar.{ReadsFront, TextAt}
 use Rattle.dn_instance.specs.declared.reader.Reader.{Reader}
-use Rattle.dn_instance.proofs.FrontLaws.{front_refused, to_steps, with_rows}
+use Rattle.dn_instance.proofs.ReaderLaws.{front_refused, to_steps, with_rows}
 use Rattle.dn_instance.proofs.PieceSteps.{none_open}
 use Rattle.dn_instance.proofs.reader.Reader.advance.Goals.{then-not-pending+in_default+else-front-gt0, else-not-pending}
 use Rattle.dn_instance.proofs.reader.Reader.advance.Goals as goal
@@ -13,11 +11,8 @@ returns-in-Some-clause-advances c t h =
     let none =
     none_open t h.line.line h.line.open_is (sym c.if-not-pending.true ∙ c.pending.ensures h.line.line h.line.stands) in
     front_refused c.refuse.new.self t c.args.piece.now c.take_rows-front.result c.in-Some.fault c.refuse.result none
-    c.in-Some.is
-    (subst (λ x. ReadsFront x (ended t) c.args.piece.now c.take_rows-front.result) (sym c.refuse.ensures.text)
-    (c.take_rows-front.ensures.taken (ended t) h.read))
-    c.refuse.ensures.refusal
-    (λ ls at. c.refuse.ensures.said ls (subst (λ x. TextAt x ls) c.refuse.ensures.text at))
+    c.in-Some.is (rw c.refuse.ensures.text (c.take_rows-front.ensures.taken (ended t) h.read)) c.refuse.ensures.refusal
+    (λ ls at. c.refuse.ensures.said ls (rw c.refuse.ensures.text at at))
 
 pub returns-then-front-gt0-clause-advances : goal.returns-then-front-gt0-clause-advances
 returns-then-front-gt0-clause-advances c t h =
@@ -34,12 +29,10 @@ returns-clause-advances c t h =
       | then-not-pending+in_default+else-front-gt0 w ↦
           let after : Reader = record c.args.self.now { text = w.take_rows-front.new.self } in
           let front = w.take_rows-front.result in
-          let none : front.used ≡ 0 = (let no = w.if-front-gt0.false in omega arith) in
-          subst (λ r. IsReading r t) (sym w.self-is)
-          (subst (IsReading after) (ap (λ n. t ++ take n p) none ∙ append-nil t)
-          (with_rows after t p front h.line
+          let none : front.used ≡ 0 = omega (arith, w.if-front-gt0.false) in
+          rw w.self-is (rw (none, append-nil t) at (with_rows after t p front h.line
           (none_open t h.line.line h.line.open_is
           (sym w.if-not-pending.true ∙ c.pending.ensures h.line.line h.line.stands))
           (w.take_rows-front.ensures.taken (ended t) h.read)))
-      | else-not-pending w ↦ subst (λ r. IsReading r t) (sym w.self-is) h
+      | else-not-pending w ↦ rw w.self-is h
     ]))

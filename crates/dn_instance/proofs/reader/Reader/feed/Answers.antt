@@ -1,9 +1,7 @@
-use Rattle.std.proofs.Common.{◌≡◌, append-nil, [], Some, ℕ, ◌≤◌, List, ◌++◌, length, take, sym, ◌∙◌, subst, arith}
-use Rattle.std.proofs.lemmas.List.{take_all}
+use Rattle.std.proofs.Common.{◌≡◌, append-nil, [], Some, ℕ, ◌≤◌, List, ◌++◌, length, take, sym, ◌∙◌, arith, take_all}
 use Rattle.dn_instance.specs.Readers.{ended}
 use Rattle.dn_instance.specs.State.ReaderResults.{IsRefused, lines_taken}
 use Rattle.dn_instance.specs.State.ReaderStates.{StopsIn, IsReading}
-use Rattle.dn_instance.specs.Texts.{IsClean}
 use Rattle.dn_instance.specs.declared.refusal.Refusal.{Refusal}
 use Rattle.dn_instance.specs.declared.refusal.Refusal.TheVariants.{Memory}
 use Rattle.dn_instance.proofs.PieceSteps.{ended_more, rest_of, rest_len, step_on}
@@ -37,7 +35,7 @@ refused_within c t reads =
       refused_on (length (ended u)) (length (ended t)) (ended (u ++ take n (rest_of p i))) (ended (t ++ p)) e
           (more_count (ended t) (ended u) (ended_more t (take i p))) (more_from t p i n) a.1,
       stops_on c.advance.new.self (ended (u ++ take n (rest_of p i))) (ended (t ++ p)) e (more_from t p i n) a.2,
-      (let more = more_count (ended t) (ended u) (ended_more t (take i p)) in let all = a.3 in omega arith),
+      omega (arith, more_count (ended t) (ended u) (ended_more t (take i p)), a.3),
     )
 
 refused_at_all : (before : ℕ) (ls : List (List ℕ)) (e : Refusal) → IsRefused before ls e → IsRefused 0 ls e
@@ -59,28 +57,17 @@ returns-in-Err-clause-fed c t h =
 pub returns-in-Err-clause-memory : goal.returns-in-Err-clause-memory
 returns-in-Err-clause-memory c t h none is =
     let r = refused_within c t (c.loop-at.invariant.reads t h) in
-    let e : c.in-Err.refusal ≡ Memory = cc in
-    (subst (IsRefused (length (ended t)) (ended (t ++ c.args.piece.now))) e r.1, r.3)
+    let e : c.in-Err.refusal ≡ Memory = cc in (rw e at r.1, r.3)
 
 pub loop-at-preserved : goal.loop-at-preserved
 loop-at-preserved c = record {
-  within = (
-      let bound = c.in-Ok.ensures.bound in
-      let len = rest_len c.args.piece.now c.loop-at.at in
-      let here = c.loop-at-test.true in
-      omega arith
-      );
+  within = omega (arith, c.in-Ok.ensures.bound, rest_len c.args.piece.now c.loop-at.at, c.loop-at-test.true);
   fine = c.in-Ok.ensures.refusal ∙ c.loop-at.invariant.fine;
-  reads = λ t h. (
-      let p = c.args.piece.now in
-      let i = c.loop-at.at in
-      subst (IsReading c.advance.new.self) (step_on t p i c.in-Ok.used)
-      (c.in-Ok.ensures.advances (t ++ take i p) (c.loop-at.invariant.reads t h))
-      );
+  reads = λ t h. rw (step_on t c.args.piece.now c.loop-at.at c.in-Ok.used) at
+      (c.in-Ok.ensures.advances (t ++ take c.loop-at.at c.args.piece.now) (c.loop-at.invariant.reads t h));
 }
 
 pub returns-clause-fed : goal.returns-clause-fed
 returns-clause-fed c t h =
-    subst (λ l. IsClean (ended (t ++ l)))
-    (take_all c.loop-at.at c.args.piece.now (let over = c.loop-at-test.false in omega arith))
+    rw (take_all c.loop-at.at c.args.piece.now (omega (arith, c.loop-at-test.false))) at
     (c.loop-at.invariant.reads t h).read.clean

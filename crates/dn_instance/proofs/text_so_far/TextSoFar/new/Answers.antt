@@ -1,8 +1,7 @@
-use Rattle.std.proofs.Common.{pos, refl, sym, ap, arith}
-use Rattle.std.specs.Option.{option_map}
+use Rattle.std.proofs.Common.{pos, refl, sym, ap, arith, option_map}
 use Rattle.dn_instance.specs.State.TextsSoFar.{problem_as}
 use Rattle.dn_instance.specs.declared.text_so_far.TextSoFar.{TextSoFar}
-use Rattle.dn_instance.proofs.LineSteps.{no_lines}
+use Rattle.dn_instance.proofs.CleanItems.{no_lines}
 use Rattle.dn_instance.proofs.text_so_far.TextSoFar.new.Goals as goal
 
 pub returns : goal.returns

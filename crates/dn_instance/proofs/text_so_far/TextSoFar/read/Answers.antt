@@ -3,7 +3,7 @@ use Rattle.dn_line.specs.Words.{said_words}
 use Rattle.dn_line.specs.State.LineReads.{head_read, fields_read}
 use Rattle.dn_instance.specs.State.Drafts.{draft_kind}
 use Rattle.dn_instance.proofs.ItemSteps.{kind_agrees}
-use Rattle.dn_instance.proofs.NextLaws.{head_refused, order_agrees, order_refused, then_fields}
+use Rattle.dn_instance.proofs.FollowLaws.{head_refused, order_agrees, order_refused, then_fields}
 use Rattle.dn_instance.proofs.text_so_far.TextSoFar.read.Goals as goal
 
 pub returns-in-Some : goal.returns-in-Some

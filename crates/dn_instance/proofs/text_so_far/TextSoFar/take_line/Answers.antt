@@ -1,11 +1,9 @@
-use Rattle.std.proofs.Common.{◌≡◌, ◌+◌, suc, length, false, OnOk, OnErr, None, arith, sym, ◌∙◌, subst}
+use Rattle.std.proofs.Common.{◌≡◌, ◌+◌, length, false, arith, ◌∙◌}
 use Rattle.dn_line.specs.Words.{said_words}
-use Rattle.dn_instance.specs.State.ItemFaults.{AnswersFault}
-use Rattle.dn_instance.specs.TextFaults.{is_too_long, line_fault}
-use Rattle.dn_instance.specs.Texts.{items_of, with_next}
-use Rattle.dn_instance.specs.State.TextsSoFar.{HasRead, fault_next}
+use Rattle.dn_instance.specs.TextFaults.{is_too_long}
+use Rattle.dn_instance.specs.Texts.{items_of}
 use Rattle.dn_instance.proofs.ItemSteps.{with_lines}
-use Rattle.dn_instance.proofs.LineSteps.{fault_is_next, too_long, is_late, in_time, few_more, read_more}
+use Rattle.dn_instance.proofs.CleanItems.{fault_is_next, too_long, is_late, in_time, few_more, read_more}
 use Rattle.dn_instance.proofs.text_so_far.TextSoFar.take_line.Goals as goal
 
 pub returns-in-Ok-clause-stands : goal.returns-in-Ok-clause-stands
@@ -13,43 +11,32 @@ returns-in-Ok-clause-stands c ls l h stands =
     let ws = said_words l.bytes in
     let early : is_too_long (length ls + 1) ≡ false =
     in_time (length ls) c.args.self.now.closed h.number_is (omega (arith, c.if-self-ge-LAST.false)) in
-    let none : fault_next (items_of ls) ws ≡ None =
-    subst (λ r. AnswersFault r (fault_next (items_of ls) ws)) c.in-Ok.is
-    (c.judge.ensures.answer (items_of ls) l h.items_are stands) in
-    let number : c.judge.new.self.closed + 1 ≡ suc (length ls) =
-    (let kept = c.judge.ensures.kept in let n = h.number_is in omega arith) in
-    read_more c.args.self.now ls l.bytes _ h (fault_is_next (length ls + 1) (items_of ls) ws early ∙ none) number
-    (few_more (length ls) early)
-    (with_lines c.judge.new.self _ _
-    (subst (λ r. OnOk r (HasRead c.judge.new.self (with_next (items_of ls) ws))) c.in-Ok.is
-    (c.judge.ensures.read (items_of ls) l h.items_are stands)))
+    let none = rw c.in-Ok.is at (c.judge.ensures.answer (items_of ls) l h.items_are stands) in
+    read_more c.args.self.now ls l.bytes _ h (fault_is_next (length ls + 1) (items_of ls) ws early ∙ none)
+    (omega (arith, c.judge.ensures.kept, h.number_is)) (few_more (length ls) early) (with_lines c.judge.new.self _ _
+    (rw c.in-Ok.is at (c.judge.ensures.read (items_of ls) l h.items_are stands)))
 
 pub returns-in-Err-clause-answer : goal.returns-in-Err-clause-answer
 returns-in-Err-clause-answer c ls l h stands =
     let early : is_too_long (length ls + 1) ≡ false =
     in_time (length ls) c.args.self.now.closed h.number_is (omega (arith, c.if-self-ge-LAST.false)) in
-    subst (λ r. AnswersFault r (line_fault (length ls + 1) (items_of ls) (said_words l.bytes))) c.in-Err.is
-    (subst (AnswersFault c.judge.result) (sym (fault_is_next (length ls + 1) (items_of ls) (said_words l.bytes) early))
-    (c.judge.ensures.answer (items_of ls) l h.items_are stands))
+    rw (fault_is_next (length ls + 1) (items_of ls) (said_words l.bytes) early)
+    (rw c.in-Err.is at (c.judge.ensures.answer (items_of ls) l h.items_are stands))
 
 pub returns-in-Err-clause-unchanged : goal.returns-in-Err-clause-unchanged
 returns-in-Err-clause-unchanged c ls h = record {
   clean = h.clean;
   few = h.few;
   number_is = c.judge.ensures.kept ∙ h.number_is;
-  items_are =
-      subst (λ r. OnErr r (HasRead c.judge.new.self (items_of ls))) c.in-Err.is
-      (c.judge.ensures.unchanged (items_of ls) h.items_are);
+  items_are = rw c.in-Err.is at (c.judge.ensures.unchanged (items_of ls) h.items_are);
 }
 
 pub returns-in-Ok-clause-answer : goal.returns-in-Ok-clause-answer
 returns-in-Ok-clause-answer c ls l h stands =
-    let ws = said_words l.bytes in
     let early : is_too_long (length ls + 1) ≡ false =
     in_time (length ls) c.args.self.now.closed h.number_is (omega (arith, c.if-self-ge-LAST.false)) in
-    fault_is_next (length ls + 1) (items_of ls) ws early
-    ∙ subst (λ r. AnswersFault r (fault_next (items_of ls) ws)) c.in-Ok.is
-    (c.judge.ensures.answer (items_of ls) l h.items_are stands)
+    fault_is_next (length ls + 1) (items_of ls) (said_words l.bytes) early
+    ∙ rw c.in-Ok.is at (c.judge.ensures.answer (items_of ls) l h.items_are stands)
 
 pub returns-then-self-ge-LAST-clause-answer : goal.returns-then-self-ge-LAST-clause-answer
 returns-then-self-ge-LAST-clause-answer c ls l h stands =

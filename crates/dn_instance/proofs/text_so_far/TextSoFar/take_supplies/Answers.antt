@@ -1,8 +1,7 @@
-use Rattle.std.proofs.Common.{◌≡◌, ◌<◌, ◌+◌, ◌-◌, ◌^◌, List, false, get_or, length, take, refl, sym, ap, ◌∙◌, subst, arith}
+use Rattle.std.proofs.Common.{◌≡◌, ◌<◌, ◌+◌, ◌-◌, ◌^◌, List, false, get_or, length, take, refl, sym, ap, ◌∙◌, arith}
 use Rattle.std.proofs.lemmas.Bool.Decides.{nat_tests}
 use Rattle.std.proofs.lemmas.Int.{ints}
 use Rattle.std.specs.List.{list_any}
-use Rattle.dn_line.specs.State.RowBlocks.{ReadUpTo}
 use Rattle.dn_line.specs.declared.kind.Kind.TheVariants.{Min}
 use Rattle.dn_line.specs.declared.row_block.RowLine.{RowLine}
 use Rattle.dn_instance.specs.Items.{Problem}
@@ -36,7 +35,7 @@ returns-clause-taken c ls at =
     let problem = problem_agrees self items Min at.items_are is in
     let p : Problem = problem_as self Min in
     let read = c.read.ensures.rows in
-    let all = subst (λ l. ReadUpTo Min byte bytes l read.0) (sym c.rows-rows.ensures.rows) read.1 in
+    let all = rw (← c.rows-rows.ensures.rows) at read.1 in
     let took =
     c.take_supplies-taken.ensures.taken items (record {
       problem = p;
@@ -52,11 +51,9 @@ returns-clause-taken c ls at =
     took.joins.holds.1 in
     let after : TextSoFar = record self { draft = c.take_supplies-taken.new.self } in
     let no_arc : list_any is_arc items ≡ false =
-    at.items_are.arcs_are (ap is_graph is)
-    ∙ (let none = c.if-self-gt0.false in grind (arith, ints, nat_tests)) in
+    at.items_are.arcs_are (ap is_graph is) ∙ grind (arith, ints, nat_tests, c.if-self-gt0.false) in
     let early = supplies_in_time rows items no_arc in
-    let short : length ls + n < 2 ^ 63 - 2 =
-    (let a = c.rows-rows.ensures.few in let e = at.number_is in let f = c.requires.early in omega arith) in
+    let short : length ls + n < 2 ^ 63 - 2 = omega (arith, c.rows-rows.ensures.few, at.number_is, c.requires.early) in
     front_read Min byte supply_of spell (record after { closed = self.closed + m }) rows t bytes read.0 ls p
     c.front_of.result all at.clean problem refl took.joins.faultless early took.stops within short
     (ap (λ k. k + m) at.number_is) (with_lines after (self.closed + m) _ held) c.front_of.ensures.used
