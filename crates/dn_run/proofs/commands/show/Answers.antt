@@ -6,12 +6,8 @@ use Rattle.dn_run.proofs.commands.show.Goals as goal
 pub returns-in-Ok-put : goal.returns-in-Ok-put
 returns-in-Ok-put g c = record {
   performs = (
-      let text = c.in-Ok-put.ensures.text in
-      record {
-        asks = c.in-Ok.ensures.asks;
-        means =
-            shown_done _ _ c.in-Ok.held c.in-Ok.ensures.read text.0 text.2 text.1;
-      }
+      let (t, put, shows) = c.in-Ok-put.ensures.text in
+      record { asks = c.in-Ok.ensures.asks; means = shown_done c.in-Ok.ensures.read shows put }
       );
   out_after = c.in-Ok-put.ensures.text.1.fine;
   answers = refl;
@@ -21,12 +17,8 @@ returns-in-Ok-put g c = record {
 pub returns-in-Err-put : goal.returns-in-Err-put
 returns-in-Err-put g c = record {
   performs = (
-      let text = c.in-Err-put.ensures.text in
-      record {
-        asks = c.in-Ok.ensures.asks;
-        means =
-            shown_cut _ _ c.in-Ok.held c.in-Ok.ensures.read text.0 text.2 text.1;
-      }
+      let (t, part, shows) = c.in-Err-put.ensures.text in
+      record { asks = c.in-Ok.ensures.asks; means = shown_cut c.in-Ok.ensures.read shows part }
       );
   out_after = c.in-Err-put.ensures.text.1.failed;
   answers = tt;
@@ -35,12 +27,7 @@ returns-in-Err-put g c = record {
 
 pub returns-in-Err : goal.returns-in-Err
 returns-in-Err g c = record {
-  performs =
-      record {
-        asks = c.in-Err.ensures.asks;
-        means =
-            on_refused _ _ _ _ _ _ c.in-Err.refusal c.in-Err.ensures.read (λ b r. r);
-      };
+  performs = record { asks = c.in-Err.ensures.asks; means = on_refused c.in-Err.ensures.read (λ b r. r) };
   out_after = refl;
   answers = (refl, c.in-Err.ensures.refusal);
   flushed = tt;

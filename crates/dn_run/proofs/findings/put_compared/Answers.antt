@@ -6,8 +6,7 @@ use Rattle.dn_run.proofs.findings.put_compared.Goals as goal
 pub returns-in-Ok-clause-puts : goal.returns-in-Ok-clause-puts
 returns-in-Ok-clause-puts g c I J v w is is' = (
   _,
-  compared_as I J c.compare-verdict.result c.verdict_status.result
-      (c.compare-verdict.ensures I J v w is is') c.verdict_status.ensures,
+  compared_as I J _ _ (c.compare-verdict.ensures I J v w is is') c.verdict_status.ensures,
   added c.in-Ok.ensures.text,
 )
 
@@ -15,7 +14,6 @@ pub returns-in-Err-clause-puts : goal.returns-in-Err-clause-puts
 returns-in-Err-clause-puts g c I J v w is is' = (
   _,
   _,
-  compared_as I J c.compare-verdict.result _
-      (c.compare-verdict.ensures I J v w is is') refl,
+  compared_as I J _ _ (c.compare-verdict.ensures I J v w is is') refl,
   c.in-Err.ensures.text,
 )

@@ -1,6 +1,6 @@
 use Rattle.std.proofs.Common.{refl, sym, ◌∙◌}
 use Rattle.dn_run.specs.FilesRuns.{read, unopened}
-use Rattle.dn_run.proofs.ReadLaws.{handed_copied, handed_copies, handed_copy, some_is_not_none}
+use Rattle.dn_run.proofs.ReadLaws.{handed_copied, handed_copies, handed_copy}
 use Rattle.dn_run.proofs.texts.copy_named.Goals as goal
 
 pub returns-in-Ok-clause-read : goal.returns-in-Ok-clause-read
@@ -43,5 +43,5 @@ returns-in-Err-clause-asks g c = record {
   mid = c.take.new.self;
   asks = c.in-Err.ensures.asked;
   keeps = c.in-Err.ensures.asked.keeps;
-  back = unopened (λ e. some_is_not_none _ (sym c.in-Err.ensures.err ∙ e)) refl;
+  back = unopened (λ e. cc (sym c.in-Err.ensures.err ∙ e)) refl;
 }

@@ -1,6 +1,6 @@
 use Rattle.std.proofs.Common.{refl, sym, ◌∙◌}
 use Rattle.dn_run.specs.FilesRuns.{read, unopened}
-use Rattle.dn_run.proofs.ReadLaws.{handed_reads, some_is_not_none}
+use Rattle.dn_run.proofs.ReadLaws.{handed_reads}
 use Rattle.dn_run.proofs.texts.read_named.Goals as goal
 
 pub returns-in-Ok-clause-read : goal.returns-in-Ok-clause-read
@@ -35,5 +35,5 @@ returns-in-Err-clause-asks g c = record {
   mid = c.take.new.self;
   asks = c.in-Err.ensures.asked;
   keeps = c.in-Err.ensures.asked.keeps;
-  back = unopened (λ e. some_is_not_none _ (sym c.in-Err.ensures.err ∙ e)) refl;
+  back = unopened (λ e. cc (sym c.in-Err.ensures.err ∙ e)) refl;
 }
