@@ -11,73 +11,39 @@ use Rattle.dn_instance.specs.Validity.{IsValid}
 use Rattle.dn_instance.specs.declared.companion.CompanionFault.{CompanionFault}
 use Rattle.dn_instance.specs.declared.held.Held.{Held}
 use Rattle.dn_instance.specs.declared.refusal.Refusal.{Refusal}
-use Rattle.dn_instance.specs.declared.refusal.Refusal.TheVariants.{Read, Write, CountTooLarge}
+use Rattle.dn_instance.specs.declared.refusal.Refusal.TheVariants.{Write, CountTooLarge}
 use Rattle.dn_instance.proofs.HeldLaws.{held_kind}
 use Rattle.dn_instance.proofs.ValidLaws.{reads_valid}
 use Rattle.dn_canon.specs.Prints.{print}
 use Rattle.dn_canon.specs.State.Writes.{IsOfWriting, SinkAfter, WritesCanon}
-use Rattle.dn_report.specs.Shows.{IsShown}
-use Rattle.dn_sink.specs.Puts.{HasPut, PutsPrefix}
 use Rattle.dn_command.specs.Commands.{Canon, Compare}
-use Rattle.dn_run.specs.Answers.{Answer, Done, Refused, Unfit, Cut, IsAnswerTo, OutAfter}
+use Rattle.dn_run.specs.Answers.{Answer, Done, Refused, Cut, IsAnswerTo, OutAfter}
 use Rattle.dn_run.specs.State.Endings.{unwritten}
-use Rattle.dn_run.specs.FilesRuns.{FilesRun, text_asked, ReadsOne, GoesOn}
+use Rattle.dn_run.specs.FilesRuns.{FilesRun, text_asked, ReadsOne, TwoAsked}
 use Rattle.dn_run.specs.State.Findings.{IsFound, PutsFinding}
 use Rattle.dn_run.specs.Outcomes.{OnText, OnTwoTexts, RanOn}
-use Rattle.dn_run.specs.Runs.{Never, PutsCanon, PutsChecked, PutsCompared, PutsFit, PutsShown, Unfits}
+use Rattle.dn_run.specs.Runs.{Never, PutsCanon, PutsChecked, PutsCompared, PutsFit, Unfits}
 use Rattle.dn_run.specs.Streams.{SinkRun, sink_run}
 use Rattle.dn_run.specs.Texts.{AskedText, IsRefusedCanon, IsRefusedCopy, IsRefusedText, unopened}
 use Rattle.dn_run.specs.State.TextReads.{IsCopy, IsRead}
 use Rattle.dn_run.specs.declared.files.FilesFault.{FilesFault}
-use Rattle.dn_run.proofs.OutcomeLaws.{added, by_behind, on_held, on_left, on_left_read, on_read, on_refused}
+use Rattle.dn_run.proofs.OutcomeLaws.{by_behind, on_held, on_left, on_left_read, on_read}
 use Rattle.dn_sink.specs.Sinks.{SinkFacts}
 
-module _ {T S : Type 0} {text : AskedText T} {out : SinkRun S} {held : Held} where
-  -- ---- `show`
+-- ---- `canon`
 
-  module _ (h : IsRead (IsRefusedText text) text (Ok held)) {t : List ℕ}
-      (shows : (I : Instance) → IsValid I → IsHeld (parsed held) I → IsShown I t) where
-    pub shown_done : HasPut out.facts out.old out.new [] t
-        → OnText PutsShown (λ _. Never) (IsRefusedText text) text out (Done 0)
-    shown_done put =
-        on_read (Done 0) h (λ e. cc)
-        (λ b I reads is. (I, reads, t, (refl, shows I (reads_valid b I reads) is), added put))
-
-    pub shown_cut : PutsPrefix out.facts out.old out.new t
-        → OnText PutsShown (λ _. Never) (IsRefusedText text) text out Cut
-    shown_cut part =
-        on_read Cut h (λ e. cc) (λ b I reads is. (I, reads, 0, t, (refl, shows I (reads_valid b I reads) is), part))
-
-  -- ---- `canon`
-
-  module _ (form : Form) (h : IsRead (IsRefusedText text) text (Ok held)) where
-    pub canon_done :
-        ((I : Instance) → IsValid I → IsHeld (parsed held) I → WritesCanon out.facts out.old out.new form I (Ok tt))
-        → OnText (PutsCanon form) (λ _. Never) (IsRefusedCanon form text) text out (Done 0)
-    canon_done writes = on_read (Done 0) h (λ e. cc) (λ b I reads is.
-        let w = writes I (reads_valid b I reads) is in
-        (I, reads, print w.0, (refl, (w.0, record { canon = w.1; text_is = refl })), added w.2.0))
-
-    -- `canon` ends as its answer says if the canonical text is not written
-    pub canon_unwritten : (e : Refusal) → IsOfWriting e
-        → ((I : Instance) → IsValid I → IsHeld (parsed held) I → WritesCanon out.facts out.old out.new form I (Err e))
-        → OnText (PutsCanon form) (λ _. Never) (IsRefusedCanon form text) text out (unwritten text.name e)
-    canon_unwritten e after writes =
-        on_read (unwritten text.name e) h (unread e after)
-        (λ b I reads is. by_refusal b e I reads (writes I (reads_valid b I reads) is))
-      where
-        unread : (e : Refusal) → IsOfWriting e → unwritten text.name e ≡ Refused text.name Read → ⊥
-        unread Write h e = cc
-        unread CountTooLarge h e = cc
-        unread _ h e = absurd h
-
-        by_refusal : (b : List ℕ) (e : Refusal) (I : Instance) → Reads b I
-            → WritesCanon out.facts out.old out.new form I (Err e)
-            → RanOn (PutsCanon form) (λ _. Never) (IsRefusedCanon form text) text.name out b (unwritten text.name e)
-        by_refusal b Write I reads (J, canon, w) =
-            (I, reads, 0, print J, (refl, (J, record { canon = canon; text_is = refl })), w.0)
-        by_refusal b CountTooLarge I reads (J, canon, w) = (refl, (I, reads, (J, canon, w.1)))
-        by_refusal b _ I reads w = absurd w.2
+-- `canon` ends as its answer says if the canonical text is not written
+pub canon_unwritten : {T S : Type 0} {text : AskedText T} {out : SinkRun S} {held : Held} (form : Form) (e : Refusal)
+    → IsRead (IsRefusedText text) text (Ok held) → IsOfWriting e
+    → ((I : Instance) → IsValid I → IsHeld (parsed held) I → WritesCanon out.facts out.old out.new form I (Err e))
+    → OnText (PutsCanon form) (λ _. Never) (IsRefusedCanon form text) text out (unwritten text.name e)
+canon_unwritten form Write h after writes = on_read Cut h (λ e. cc) (λ b I reads is.
+    let (J, canon, w) = writes I (reads_valid b I reads) is in
+    (I, reads, 0, print J, (refl, (J, record { canon = canon; text_is = refl })), w.0))
+canon_unwritten {text = text} form CountTooLarge h after writes =
+    on_read (Refused text.name CountTooLarge) h (λ e. cc) (λ b I reads is.
+    let (J, canon, w) = writes I (reads_valid b I reads) is in (refl, (I, reads, (J, canon, w.1))))
+canon_unwritten form _ h after writes = absurd after
 
 -- if a canonical text is not written, `out` has failed, or is unchanged
 pub canon_after : {S : Type 0} (sink : SinkFacts S) (old new : S) (name : List ℕ) (e : Refusal)
@@ -136,80 +102,67 @@ module _ {T S : Type 0} {text : AskedText T} {out : SinkRun S} {held : Held} {ke
 -- ---- two texts
 
 -- after the left text was read, the run went on to the right one
-pub goes_on : {F T : Type 0} {files : FilesRun F T} {mid : F} {left right : List ℕ}
-    {Refuses : List ℕ → Refusal → Type 0} {held : Held} → IsRead Refuses (text_asked files files.old mid left) (Ok held)
-    → ReadsOne files.facts files.source mid files.new right → GoesOn files mid left right
-goes_on {files = files} {mid = mid} {left = left} {held = held} h asks =
+pub asked_two : {F T : Type 0} {files : FilesRun F T} {mid : F} {left right : List ℕ} {answer : Answer}
+    {Refuses : List ℕ → Refusal → Type 0} {held : Held} {Means : AskedText T → AskedText T → Type 0}
+    → ReadsOne files.facts files.source files.old mid left
+    → IsRead Refuses (text_asked files files.old mid left) (Ok held)
+    → ReadsOne files.facts files.source mid files.new right
+    → Means (text_asked files files.old mid left) (text_asked files mid files.new right)
+    → TwoAsked files left right answer Means
+asked_two {files = files} {mid = mid} {left = left} {held = held} first h asks means =
     let handed = no_fault (files.facts.fault mid left) h.not_handed in
+    let read = by_behind (files.facts.behind files.old left) (λ b known (I, reads, is). (I, reads)) (h.handed handed) in
     record {
-      handed = handed;
-      read = by_behind (files.facts.behind files.old left) (λ b known (I, reads, is). (I, reads)) (h.handed handed);
-      asks = asks;
+      mid = mid;
+      first = first;
+      second = inr (record { handed = handed; read = read; asks = asks });
+      means = means;
     }
   where
     no_fault : (fault : Option FilesFault) → IfSome fault (λ f. Ok held ≡ Err (unopened f)) → fault ≡ None
     no_fault None h = refl
     no_fault (Some f) h = cc
 
-module _ {T S : Type 0} {left right : AskedText T} {out : SinkRun S} {graph : Held}
-    (h : IsRead (IsRefusedCopy left) left (Ok graph)) where
-  -- if the right text is refused, so `check` ends
-  pub fit_refused : {e : Refusal} → IsRead (IsRefusedText right) right (Err e)
-      → OnTwoTexts PutsFit Unfits (IsRefusedCopy left) left right out (Refused right.name e)
-  fit_refused {e} k = on_left_read (Refused right.name e) h (λ b I reads is. on_refused k (λ x r. r))
-
-  module _ {companion : Held} (k : IsRead (IsRefusedText right) right (Ok companion)) where
-    -- if the companion does not fit, so `check` ends
-    pub unfit : {fault : CompanionFault} → OfBoth graph companion (λ I J. Err fault ≡ companion_fit I J)
-        → OnTwoTexts PutsFit Unfits (IsRefusedCopy left) left right out (Unfit right.name fault)
-    unfit {fault} u = on_left_read (Unfit right.name fault) h
-        (λ b I reads is. on_read (Unfit right.name fault) k (λ e. cc)
-        (λ x J reads' is'. (J, reads', refl, sym (u I J (reads_valid b I reads) (reads_valid x J reads') is is'))))
-
-    -- if the companion fits, `check` puts the lines of both texts
-    module _ {kept copy : List ℕ} (s : copy ≡ kept) (c : IsCopy left kept (Ok graph)) (all : HoldsCopied [] kept graph)
-        (fit : OfBoth graph companion (λ I J. Ok tt ≡ companion_fit I J)) {with : Kind}
-        (w : with ≡ contents_kind (parsed companion).contents) where
-      pub fits : {answer : Answer}
-          → ((I : Instance) → Reads copy I → IsHeld (parsed graph) I
-          → PutsFinding (PutsChecked (Some with) copy I) out answer)
-          → OnTwoTexts PutsFit Unfits (IsRefusedCopy left) left right out answer
-      fits {answer} puts =
-          let (t, (I, reads, is), same) = all in
-          let here : Reads copy I = rw (s ∙ same) reads in
-          on_left answer h (λ b none e I reads is.
-          let same : copy ≡ b = s ∙ copy_at (λ x. kept ≡ x) c b none e in
-          on b I (reads_valid b I reads) is (rw same at (puts I (rw same reads) is)))
-          (copy, I, here, (on copy I (reads_valid copy I here) is (puts I here is)).some)
-        where
-          on : (b : List ℕ) (I : Instance) → IsValid I → IsHeld (parsed graph) I
-              → PutsFinding (PutsChecked (Some with) b I) out answer
-              → OnText (λ x J. PutsFit b I J) (Unfits I) (IsRefusedText right) right out answer
-          on b I v is p = on_read answer k (λ e. rw e at p) (λ x J reads is'.
-              finding_on (λ x J. PutsFit b I J) (Unfits I) (IsRefusedText right) right.name out x J reads
-              (λ status t p. (
-                sym (fit I J v (reads_valid x J reads) is is'),
-                rw (w ∙ held_kind (parsed companion) J is') at p,
-              )) answer p)
+-- `check` of two texts puts the lines of both if the companion fits
+module _ {T S : Type 0} {left right : AskedText T} {out : SinkRun S} {graph companion : Held}
+    (h : IsRead (IsRefusedCopy left) left (Ok graph)) (k : IsRead (IsRefusedText right) right (Ok companion))
+    {kept copy : List ℕ} (s : copy ≡ kept) (c : IsCopy left kept (Ok graph)) (all : HoldsCopied [] kept graph)
+    (fit : OfBoth graph companion (λ I J. Ok tt ≡ companion_fit I J)) {with : Kind}
+    (w : with ≡ contents_kind (parsed companion).contents) where
+  pub fits : {answer : Answer}
+      → ((I : Instance) → Reads copy I → IsHeld (parsed graph) I
+      → PutsFinding (PutsChecked (Some with) copy I) out answer)
+      → OnTwoTexts PutsFit Unfits (IsRefusedCopy left) left right out answer
+  fits {answer} puts =
+      let (t, (I, reads, is), same) = all in
+      let here : Reads copy I = rw (s ∙ same) reads in
+      on_left answer h (λ b none e I reads is.
+      let same : copy ≡ b = s ∙ copy_at (λ x. kept ≡ x) c b none e in
+      on b I (reads_valid b I reads) is (rw same at (puts I (rw same reads) is)))
+      (copy, I, here, (on copy I (reads_valid copy I here) is (puts I here is)).some)
+    where
+      on : (b : List ℕ) (I : Instance) → IsValid I → IsHeld (parsed graph) I
+          → PutsFinding (PutsChecked (Some with) b I) out answer
+          → OnText (λ x J. PutsFit b I J) (Unfits I) (IsRefusedText right) right out answer
+      on b I v is p = on_read answer k (λ e. rw e at p) (λ x J reads is'.
+          finding_on (λ x J. PutsFit b I J) (Unfits I) (IsRefusedText right) right.name out x J reads
+          (λ status t p. (
+            sym (fit I J v (reads_valid x J reads) is is'),
+            rw (w ∙ held_kind (parsed companion) J is') at p,
+          )) answer p)
 
 -- ---- `compare`
 
-module _ {T S : Type 0} {left right : AskedText T} {out : SinkRun S} {one : Held}
-    (h : IsRead (IsRefusedText left) left (Ok one)) where
-  -- if the right text is refused, so `compare` ends
-  pub compare_refused : {e : Refusal} → IsRead (IsRefusedText right) right (Err e)
-      → OnTwoTexts (λ _. PutsCompared) (λ _ _. Never) (IsRefusedText left) left right out (Refused right.name e)
-  compare_refused {e} k = on_left_read (Refused right.name e) h (λ b I reads is. on_refused k (λ x r. r))
-
-  -- if both texts were read, `compare` puts their first difference
-  pub compared : {other : Held} {answer : Answer} → IsRead (IsRefusedText right) right (Ok other) → IsFound answer
-      → ((I J : Instance) → IsValid I → IsValid J → IsHeld (parsed one) I → IsHeld (parsed other) J
-      → PutsFinding (PutsCompared I J) out answer)
-      → OnTwoTexts (λ _. PutsCompared) (λ _ _. Never) (IsRefusedText left) left right out answer
-  compared {answer = answer} k found puts =
-      on_left_read answer h (λ b I reads is. on_read answer k (λ e. rw e at found) (λ x J reads' is'.
-      finding_on (λ x J. PutsCompared I J) (λ _. Never) (IsRefusedText right) right.name out x J reads'
-      (λ status t p. p) answer (puts I J (reads_valid b I reads) (reads_valid x J reads') is is')))
+-- if both texts were read, `compare` puts their first difference
+pub compared : {T S : Type 0} {left right : AskedText T} {out : SinkRun S} {one other : Held} {answer : Answer}
+    → IsRead (IsRefusedText left) left (Ok one) → IsRead (IsRefusedText right) right (Ok other) → IsFound answer
+    → ((I J : Instance) → IsValid I → IsValid J → IsHeld (parsed one) I → IsHeld (parsed other) J
+    → PutsFinding (PutsCompared I J) out answer)
+    → OnTwoTexts (λ _. PutsCompared) (λ _ _. Never) (IsRefusedText left) left right out answer
+compared {right = right} {out = out} {answer = answer} h k found puts =
+    on_left_read answer h (λ b I reads is. on_read answer k (λ e. rw e at found) (λ x J reads' is'.
+    finding_on (λ x J. PutsCompared I J) (λ _. Never) (IsRefusedText right) right.name out x J reads' (λ status t p. p)
+    answer (puts I J (reads_valid b I reads) (reads_valid x J reads') is is')))
 
 -- `compare` may end done with 0 or 1, or with `Cut`
 pub found_answers : (l r : List ℕ) (answer : Answer) → IsFound answer → IsAnswerTo (Compare l r) answer

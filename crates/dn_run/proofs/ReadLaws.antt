@@ -2,7 +2,7 @@
 use Rattle.dn_run.proofs.OutcomeLaws.{by_behind}
 use Rattle.std.proofs.Common.{◌≡◌, ℕ, List, [], Option, Some, None, Result, Ok, Err, IsTrue, OnOk, IfOk, IfSome, IsErrOf, refl, inl, inr, append-nil}
 use Rattle.std.specs.Io.KnownBytes.{IsAtEnd}
-use Rattle.dn_instance.specs.SourceReads.{AfterPulls, after_pulls}
+use Rattle.dn_instance.specs.SourceReads.{AfterPulls, after_pulls, PulledWhileClean}
 use Rattle.dn_instance.specs.State.SourceResults.{CopyOutcome, Copied, SourceOutcome, HoldsCopied, HoldsSome}
 use Rattle.dn_instance.specs.declared.held.Held.{Held}
 use Rattle.dn_instance.specs.declared.refusal.Refusal.{Refusal}
@@ -10,6 +10,11 @@ use Rattle.dn_instance.specs.declared.refusal.Refusal.TheVariants.{Text, Memory,
 use Rattle.dn_instance.proofs.SourceLaws.{ran_out}
 use Rattle.dn_run.specs.Texts.{AskedText, ComesOf, IsRefusedCopy, IsRefusedText}
 use Rattle.dn_run.specs.State.TextReads.{IsRead, ReadsAs}
+
+-- a source that was handed out, pulled while it was clean and taken back comes of the text
+abbrev pub came : {T : Type 0} {text : AskedText T} {source : T} (first : T) → text.Hands first
+    → PulledWhileClean text.source first source → text.Backs source → ComesOf text source
+came first h p b = record { first = first; handed = h; pulled = p; backs = b }
 
 module _ {T : Type 0} (text : AskedText T) where
   module _ (source : T) (comes : ComesOf text source) (fine : text.fault ≡ None) where

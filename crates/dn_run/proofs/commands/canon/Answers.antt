@@ -1,6 +1,9 @@
 use Rattle.std.proofs.Common.{refl, inl}
-use Rattle.dn_run.proofs.CommandLaws.{canon_after, canon_done, canon_refused, canon_unwritten, unwritten_answers}
-use Rattle.dn_run.proofs.OutcomeLaws.{on_refused}
+use Rattle.dn_run.proofs.CommandLaws.{canon_after, canon_refused, canon_unwritten, unwritten_answers}
+use Rattle.dn_run.proofs.OutcomeLaws.{added, on_read, on_refused}
+use Rattle.dn_instance.proofs.ValidLaws.{reads_valid}
+use Rattle.dn_canon.specs.Prints.{print}
+use Rattle.dn_run.specs.Answers.{Done}
 use Rattle.dn_run.proofs.commands.canon.Goals as goal
 
 pub returns-in-Ok-written : goal.returns-in-Ok-written
@@ -8,7 +11,9 @@ returns-in-Ok-written g c =
     rw c.release.ensures (record {
       performs = record {
         asks = c.in-Ok.ensures.asks;
-        means = canon_done c.args.form c.in-Ok.ensures.read c.in-Ok-written.ensures.canon;
+        means = on_read (Done 0) c.in-Ok.ensures.read (λ e. cc) (λ b I reads is.
+            let (J, canon, put) = c.in-Ok-written.ensures.canon I (reads_valid b I reads) is in
+            (I, reads, print J, (refl, (J, record { canon = canon; text_is = refl })), added put.0));
       };
       out_after = c.in-Ok-written.ensures.after;
       answers = refl;
@@ -22,7 +27,7 @@ returns-in-Err-written g c =
         asks = c.in-Ok.ensures.asks;
         means =
             rw c.unwritten.ensures
-            (canon_unwritten c.args.form c.in-Ok.ensures.read _ c.in-Err-written.ensures.refusal
+            (canon_unwritten c.args.form _ c.in-Ok.ensures.read c.in-Err-written.ensures.refusal
             c.in-Err-written.ensures.canon);
       };
       out_after =

@@ -1,19 +1,14 @@
 use Rattle.std.proofs.Common.{refl, inl, inr}
-use Rattle.dn_run.proofs.CommandLaws.{compare_refused, compared, found_answers, goes_on}
-use Rattle.dn_run.proofs.OutcomeLaws.{left_refused}
+use Rattle.dn_run.proofs.CommandLaws.{compared, found_answers, asked_two}
+use Rattle.dn_run.proofs.OutcomeLaws.{left_refused, on_left_read, on_refused}
 use Rattle.dn_run.proofs.commands.compare_named.Goals as goal
 
 pub returns-in-Ok-read_named : goal.returns-in-Ok-read_named
 returns-in-Ok-read_named g c = record {
-  performs = record {
-    mid = c.read_named.new.files;
-    first = c.in-Ok.ensures.asks;
-    second = inr (goes_on c.in-Ok.ensures.read c.in-Ok-read_named.ensures.asks);
-    means =
-        compared c.in-Ok.ensures.read
-        (rw (c.in-Ok.ensures.asks.keeps c.args.right.now c.requires) at c.in-Ok-read_named.ensures.read)
-        c.put_compared-found.ensures.found c.put_compared-found.ensures.puts;
-  };
+  performs =
+      asked_two c.in-Ok.ensures.asks c.in-Ok.ensures.read c.in-Ok-read_named.ensures.asks
+      (compared c.in-Ok.ensures.read (rw (c.in-Ok.ensures.asks.keeps c.args.right.now c.requires) at c.in-Ok-read_named.ensures.read)
+      c.put_compared-found.ensures.found c.put_compared-found.ensures.puts);
   out_after = c.put_compared-found.ensures.out_after;
   answers = found_answers _ _ _ c.put_compared-found.ensures.found;
   flushed = c.put_compared-found.ensures.flushed;
@@ -21,14 +16,10 @@ returns-in-Ok-read_named g c = record {
 
 pub returns-in-Err-read_named : goal.returns-in-Err-read_named
 returns-in-Err-read_named g c = record {
-  performs = record {
-    mid = c.read_named.new.files;
-    first = c.in-Ok.ensures.asks;
-    second = inr (goes_on c.in-Ok.ensures.read c.in-Err-read_named.ensures.asks);
-    means =
-        compare_refused c.in-Ok.ensures.read
-        (rw (c.in-Ok.ensures.asks.keeps c.args.right.now c.requires) at c.in-Err-read_named.ensures.read);
-  };
+  performs =
+      asked_two c.in-Ok.ensures.asks c.in-Ok.ensures.read c.in-Err-read_named.ensures.asks
+      (on_left_read _ c.in-Ok.ensures.read (λ b I reads is. on_refused
+      (rw (c.in-Ok.ensures.asks.keeps c.args.right.now c.requires) at c.in-Err-read_named.ensures.read) (λ x r. r)));
   out_after = refl;
   answers = (inr refl, c.in-Err-read_named.ensures.refusal);
   flushed = tt;

@@ -1,17 +1,13 @@
 use Rattle.std.proofs.Common.{refl, sym, ◌∙◌}
 use Rattle.dn_run.specs.FilesRuns.{read, unopened}
-use Rattle.dn_run.proofs.ReadLaws.{handed_copied, handed_copies, handed_copy}
+use Rattle.dn_run.proofs.ReadLaws.{came, handed_copied, handed_copies, handed_copy}
 use Rattle.dn_run.proofs.texts.copy_named.Goals as goal
 
 pub returns-in-Ok-clause-read : goal.returns-in-Ok-clause-read
 returns-in-Ok-clause-read g c =
     handed_copies _ _
-    (record {
-      first = c.in-Ok.text;
-      handed = c.in-Ok.ensures.hands;
-      pulled = c.read_keep-read.ensures.left.pulls;
-      backs = (c.take.new.self, c.give_back.ensures);
-    })
+    (came c.in-Ok.text c.in-Ok.ensures.hands c.read_keep-read.ensures.left.pulls
+    (c.take.new.self, c.give_back.ensures))
     (c.give_back.ensures.faults c.args.name.now ∙ c.in-Ok.ensures.ok) _ _ _ c.read_keep-read.result c.requires
     c.in-Ok.ensures.text c.read_keep-read.ensures.outcome c.read_keep-read.ensures.left.read
     c.read_keep-read.ensures.held
@@ -29,12 +25,8 @@ returns-in-Ok-clause-asks g c = record {
   asks = c.in-Ok.ensures.asked;
   keeps = λ other h. c.give_back.ensures.behind other ∙ c.in-Ok.ensures.asked.keeps other h;
   back = read _
-      (record {
-        first = c.in-Ok.text;
-        handed = c.in-Ok.ensures.hands;
-        pulled = c.read_keep-read.ensures.left.pulls;
-        backs = (c.take.new.self, c.give_back.ensures);
-      })
+      (came c.in-Ok.text c.in-Ok.ensures.hands c.read_keep-read.ensures.left.pulls
+      (c.take.new.self, c.give_back.ensures))
       c.give_back.ensures;
 }
 
