@@ -1,5 +1,11 @@
 -- Lemmas on how each command ends.
-use Rattle.std.proofs.Common.{◌≡◌, ℕ, List, [], Option, Some, None, Ok, Err, IfSome, refl, sym, ◌∙◌, inr}
+use Rattle.dn_compare.proofs.VerdictLaws.{one_first, same_first}
+use Rattle.dn_instance.specs.declared.verdict.Verdict.TheVariants.{Same}
+use Rattle.dn_instance.specs.declared.verdict.Verdict.{Verdict}
+use Rattle.dn_compare.specs.FirstDifference.{IsFirstDifference}
+use Rattle.dn_report.specs.Verdicts.{verdict_row}
+use Rattle.dn_sink.specs.Rows.{line_text}
+use Rattle.std.proofs.Common.{◌≡◌, ℕ, List, [], Option, Some, None, Ok, Err, IfSome, refl, sym, ◌∙◌, inr, ◌≤◌, arith}
 use Rattle.dn_line.specs.declared.kind.Kind.{Kind}
 use Rattle.dn_arc.specs.declared.arc.Form.{Form}
 use Rattle.dn_instance.specs.Companions.{companion_fit}
@@ -20,7 +26,7 @@ use Rattle.dn_command.specs.Commands.{Canon, Compare}
 use Rattle.dn_run.specs.Answers.{Answer, Done, Refused, Cut, IsAnswerTo, OutAfter}
 use Rattle.dn_run.specs.State.Endings.{unwritten}
 use Rattle.dn_run.specs.FilesRuns.{FilesRun, text_asked, ReadsOne, TwoAsked}
-use Rattle.dn_run.specs.State.Findings.{IsFound, PutsFinding}
+use Rattle.dn_run.specs.State.Findings.{IsFound, PutsFinding, verdict_status}
 use Rattle.dn_run.specs.Outcomes.{OnText, OnTwoTexts, RanOn}
 use Rattle.dn_run.specs.Runs.{Never, PutsCanon, PutsChecked, PutsCompared, PutsFit, Unfits}
 use Rattle.dn_run.specs.Streams.{SinkRun, sink_run}
@@ -47,8 +53,7 @@ canon_unwritten form _ h after writes = absurd after
 
 -- if a canonical text is not written, `out` has failed, or is unchanged
 pub canon_after : {S : Type 0} (sink : SinkFacts S) (old new : S) (name : List ℕ) (e : Refusal)
-    → SinkAfter sink old new (Err e)
-    → OutAfter (sink_run sink (old, new)) (unwritten name e)
+    → SinkAfter sink old new (Err e) → OutAfter (sink_run sink (old, new)) (unwritten name e)
 canon_after sink old new name Write h = h
 canon_after sink old new name _ h = h
 
@@ -66,11 +71,6 @@ canon_refused text form b CountTooLarge h = absurd h
 canon_refused text form b _ h = h
 
 -- ---- `check`
-
--- what holds of the bytes behind a name holds of b, if the text was handed out and these bytes are b
-copy_at : {fault : Option FilesFault} {behind : Option (List ℕ)} (P : List ℕ → Type 0)
-    → (fault ≡ None → IfSome behind P) → (b : List ℕ) → fault ≡ None → behind ≡ Some b → P b
-copy_at P h b none e = rw e at (h none)
 
 -- what was put for an instance that b reads as is right for b
 finding_on : {S : Type 0} {P : ℕ → List ℕ → Type 0} (Puts : List ℕ → Instance → ℕ → List ℕ → Type 0)
@@ -91,7 +91,7 @@ module _ {T S : Type 0} {text : AskedText T} {out : SinkRun S} {held : Held} {ke
       let (t, (I, reads, is), same) = k in
       let here : Reads copy I = rw (s ∙ same) reads in
       on_held answer h (λ e. rw e at found) (λ b none e I reads is.
-      let same : copy ≡ b = s ∙ copy_at (λ x. kept ≡ x) c b none e in
+      let same : copy ≡ b = rw s (rw e at (c none)) in
       on b I reads (rw same at (puts I (rw same reads) is))) (copy, on copy I here (puts I here is))
     where
       on : (b : List ℕ) (I : Instance) → Reads b I → PutsFinding (PutsChecked None b I) out answer
@@ -129,15 +129,14 @@ module _ {T S : Type 0} {left right : AskedText T} {out : SinkRun S} {graph comp
     {kept copy : List ℕ} (s : copy ≡ kept) (c : IsCopy left kept (Ok graph)) (all : HoldsCopied [] kept graph)
     (fit : OfBoth graph companion (λ I J. Ok tt ≡ companion_fit I J)) {with : Kind}
     (w : with ≡ contents_kind (parsed companion).contents) where
-  pub fits : {answer : Answer}
-      → ((I : Instance) → Reads copy I → IsHeld (parsed graph) I
+  pub fits : {answer : Answer} → ((I : Instance) → Reads copy I → IsHeld (parsed graph) I
       → PutsFinding (PutsChecked (Some with) copy I) out answer)
       → OnTwoTexts PutsFit Unfits (IsRefusedCopy left) left right out answer
   fits {answer} puts =
       let (t, (I, reads, is), same) = all in
       let here : Reads copy I = rw (s ∙ same) reads in
       on_left answer h (λ b none e I reads is.
-      let same : copy ≡ b = s ∙ copy_at (λ x. kept ≡ x) c b none e in
+      let same : copy ≡ b = rw s (rw e at (c none)) in
       on b I (reads_valid b I reads) is (rw same at (puts I (rw same reads) is)))
       (copy, I, here, (on copy I (reads_valid copy I here) is (puts I here is)).some)
     where
@@ -152,6 +151,29 @@ module _ {T S : Type 0} {left right : AskedText T} {out : SinkRun S} {graph comp
           )) answer p)
 
 -- ---- `compare`
+
+most_of : (v : Verdict) → verdict_status v ≤ 1
+most_of Same = omega arith
+most_of _ = omega arith
+
+-- the status of a verdict is 0 only if nothing differs
+same_of : (v : Verdict) → verdict_status v ≡ 0 → v ≡ Same
+same_of Same e = refl
+same_of _ e = cc
+
+-- the line and the status of a first difference are what `compare` puts
+pub compared_as : (I J : Instance) (v : Verdict) (status : ℕ) → IsFirstDifference I J v → status ≡ verdict_status v
+    → PutsCompared I J status (line_text (verdict_row v))
+compared_as I J v status first e = record {
+  verdict = v;
+  first = first;
+  text_is = refl;
+  most = rw e (most_of v);
+  same = (
+    λ zero. (rw (same_of v (sym e ∙ zero)) at first).true_of,
+    λ same. rw (e, one_first I J v Same first (same_first I J same)),
+  );
+}
 
 -- if both texts were read, `compare` puts their first difference
 pub compared : {T S : Type 0} {left right : AskedText T} {out : SinkRun S} {one other : Held} {answer : Answer}

@@ -30,8 +30,7 @@ by_behind (Some x) f h = f x refl h
 module _ {T S : Type 0} {Puts : List ℕ → Instance → ℕ → List ℕ → Type 0} {Unfits : Instance → CompanionFault → Type 0}
     {Reading Refuses : List ℕ → Refusal → Type 0} {text : AskedText T} {out : SinkRun S} where
   -- if the text was read, `OnText` holds of an answer that is right for the bytes behind its name and for some text
-  pub on_held : {held : Held} (answer : Answer) → IsRead Reading text (Ok held)
-      → (answer ≡ Refused text.name Read → ⊥)
+  pub on_held : {held : Held} (answer : Answer) → IsRead Reading text (Ok held) → (answer ≡ Refused text.name Read → ⊥)
       → ((b : List ℕ) → text.fault ≡ None → text.behind ≡ Some b → (I : Instance) → Reads b I → IsHeld (parsed held) I
       → RanOn Puts Unfits Refuses text.name out b answer)
       → (b : List ℕ) × RanOn Puts Unfits Refuses text.name out b answer → OnText Puts Unfits Refuses text out answer
@@ -50,11 +49,9 @@ module _ {T S : Type 0} {Puts : List ℕ → Instance → ℕ → List ℕ → T
 
   -- if the text was read, `OnText` holds of an answer that is right for each text that reads as an instance that `held`
   -- represents
-  pub on_read : {held : Held} (answer : Answer) → IsRead Reading text (Ok held)
-      → (answer ≡ Refused text.name Read → ⊥)
+  pub on_read : {held : Held} (answer : Answer) → IsRead Reading text (Ok held) → (answer ≡ Refused text.name Read → ⊥)
       → ((b : List ℕ) (I : Instance) → Reads b I → IsHeld (parsed held) I
-      → RanOn Puts Unfits Refuses text.name out b answer)
-      → OnText Puts Unfits Refuses text out answer
+      → RanOn Puts Unfits Refuses text.name out b answer) → OnText Puts Unfits Refuses text out answer
   on_read answer h unread ran =
       let (b, (I, reads, is)) = h.held in
       on_held answer h unread (λ c none e. ran c) (b, ran b I reads is)

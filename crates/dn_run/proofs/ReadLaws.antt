@@ -68,8 +68,7 @@ module _ {T : Type 0} (text : AskedText T) where
     copies_as b copy (Err _) h read = h.0
 
     pub handed_copies : (given : Option (List ℕ)) (old copy : List ℕ) (r : Result Held Refusal) → old ≡ []
-        → IfSome text.behind (λ b. given ≡ Some b)
-        → IfSome given (λ b. CopyOutcome b left old copy r)
+        → IfSome text.behind (λ b. given ≡ Some b) → IfSome given (λ b. CopyOutcome b left old copy r)
         → (IsErrOf r Read → IsTrue (text.source.has_failed source)) → IfOk r (HoldsCopied old copy)
         → IsRead (IsRefusedCopy text) text r
     handed_copies given old copy r empty e h read held = record {
@@ -100,8 +99,3 @@ handed_copy new given behind old copy r empty e h =
     by_result : (b : List ℕ) (r : Result Held Refusal) → CopyOutcome b new [] copy r → OnOk r (copy ≡ b)
     by_result b (Ok held) h = whole_copy b copy new.gives h.0.1 h.1
     by_result b (Err e) h = tt
-
--- a copy that was empty before is the text that was read
-pub handed_copied : (old copy : List ℕ) (r : Result Held Refusal) → old ≡ [] → IfOk r (HoldsCopied old copy)
-    → IfOk r (HoldsCopied [] copy)
-handed_copied old copy r empty h = rw empty at h

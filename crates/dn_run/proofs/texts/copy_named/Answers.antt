@@ -1,6 +1,6 @@
 use Rattle.std.proofs.Common.{refl, sym, ◌∙◌}
 use Rattle.dn_run.specs.FilesRuns.{read, unopened}
-use Rattle.dn_run.proofs.ReadLaws.{came, handed_copied, handed_copies, handed_copy}
+use Rattle.dn_run.proofs.ReadLaws.{came, handed_copies, handed_copy}
 use Rattle.dn_run.proofs.texts.copy_named.Goals as goal
 
 pub returns-in-Ok-clause-read : goal.returns-in-Ok-clause-read
@@ -17,7 +17,7 @@ returns-in-Ok-clause-copy g c fine =
     handed_copy _ _ _ _ _ c.read_keep-read.result c.requires c.in-Ok.ensures.text c.read_keep-read.ensures.outcome
 
 pub returns-in-Ok-clause-copied : goal.returns-in-Ok-clause-copied
-returns-in-Ok-clause-copied g c = handed_copied _ _ c.read_keep-read.result c.requires c.read_keep-read.ensures.held
+returns-in-Ok-clause-copied g c = rw c.requires at c.read_keep-read.ensures.held
 
 pub returns-in-Ok-clause-asks : goal.returns-in-Ok-clause-asks
 returns-in-Ok-clause-asks g c = record {
