@@ -36,8 +36,6 @@ use Rattle.dn_run.specs.declared.files.FilesFault.{FilesFault}
 use Rattle.dn_run.proofs.OutcomeLaws.{by_behind, on_held, on_left, on_left_read, on_read}
 use Rattle.dn_sink.specs.Sinks.{SinkFacts}
 
--- ---- `canon`
-
 -- `canon` ends as its answer says if the canonical text is not written
 pub canon_unwritten : {T S : Type 0} {text : AskedText T} {out : SinkRun S} {held : Held} (form : Form) (e : Refusal)
     → IsRead (IsRefusedText text) text (Ok held) → IsOfWriting e
@@ -70,8 +68,6 @@ pub canon_refused : {T : Type 0} (text : AskedText T) (form : Form) (b : List �
 canon_refused text form b CountTooLarge h = absurd h
 canon_refused text form b _ h = h
 
--- ---- `check`
-
 -- what was put for an instance that b reads as is right for b
 finding_on : {S : Type 0} {P : ℕ → List ℕ → Type 0} (Puts : List ℕ → Instance → ℕ → List ℕ → Type 0)
     (Unfits : Instance → CompanionFault → Type 0) (Refuses : List ℕ → Refusal → Type 0) (name : List ℕ) (out : SinkRun S)
@@ -98,8 +94,6 @@ module _ {T S : Type 0} {text : AskedText T} {out : SinkRun S} {held : Held} {ke
           → RanOn (PutsChecked None) (λ _. Never) (IsRefusedCopy text) text.name out b answer
       on b I reads =
           finding_on (PutsChecked None) (λ _. Never) (IsRefusedCopy text) text.name out b I reads (λ status t p. p) answer
-
--- ---- two texts
 
 -- after the left text was read, the run went on to the right one
 pub asked_two : {F T : Type 0} {files : FilesRun F T} {mid : F} {left right : List ℕ} {answer : Answer}
@@ -149,8 +143,6 @@ module _ {T S : Type 0} {left right : AskedText T} {out : SinkRun S} {graph comp
             sym (fit I J v (reads_valid x J reads) is is'),
             rw (w ∙ held_kind (parsed companion) J is') at p,
           )) answer p)
-
--- ---- `compare`
 
 most_of : (v : Verdict) → verdict_status v ≤ 1
 most_of Same = omega arith

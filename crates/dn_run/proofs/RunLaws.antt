@@ -1,5 +1,4 @@
--- Lemmas on what a run does for the command that its words ask for, and that a command that ends with status 2 does not
--- accept its texts.
+-- Lemmas on what a run does for the command that its words ask for, and on the texts that it does not accept.
 use Rattle.std.proofs.Common.{◌≡◌, ◌⊎◌, ℕ, List, Option, Some, None, IfSome, refl, sym, ◌∙◌, inl, inr, arith, Result, true, false}
 use Rattle.dn_arc.specs.declared.arc.Form.{Form}
 use Rattle.dn_instance.specs.Instances.{Instance}

@@ -46,8 +46,12 @@ returns-in-Ok-read_named g c = record {
       asked_two c.in-Ok.ensures.asks c.in-Ok.ensures.read c.in-Ok-read_named.ensures.asks
       (on_left_read _ c.in-Ok.ensures.read (λ b I reads is. on_read _
       (rw (c.in-Ok.ensures.asks.keeps c.args.companion.now c.requires) at c.in-Ok-read_named.ensures.read) (λ e. cc)
-      (λ x J reads' is'. (J, reads', refl,
-      sym (c.in-Err-fits.ensures I J (reads_valid b I reads) (reads_valid x J reads') is is')))));
+      (λ x J reads' is'. (
+        J,
+        reads',
+        refl,
+        sym (c.in-Err-fits.ensures I J (reads_valid b I reads) (reads_valid x J reads') is is'),
+      ))));
   out_after = refl;
   answers = refl;
   flushed = tt;
