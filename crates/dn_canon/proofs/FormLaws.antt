@@ -12,9 +12,7 @@ canonical_in : (form form' : Form) (J : Instance) → kind_of J ≢ Kinds.Min �
 canonical_in form form' (MinCostFlow supplies graph) other h = absurd (other refl)
 canonical_in form form' (MaxFlow source sink graph) other h = record { in_order = h.in_order; canonical = h.canonical }
 canonical_in form form' (ShortestPaths graph) other h = record { in_order = h.in_order; canonical = h.canonical }
-canonical_in form form' (Sources ids) other h = h
-canonical_in form form' (Queries pairs) other h = h
-canonical_in form form' (Coordinates points) other h = h
+canonical_in form form' _ other h = h
 
 same_kind : (I J : Instance) → IsSame I J → kind_of I ≡ kind_of J
 same_kind (MinCostFlow s G) (MinCostFlow t H) h = refl

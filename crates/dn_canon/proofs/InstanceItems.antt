@@ -1,5 +1,7 @@
 -- The lines of an instance, and the items that they spell.
-use Rattle.std.proofs.Common.{◌≡◌, ◌≢◌, inl, inr, ℕ, ℤ, pos, List, [], ◌∷◌, ◌++◌, length, Bool, false, cond, map, Option, Some, None, refl, ap, ◌∙◌, append-nil}
+use Rattle.std.specs.Option.{option_map}
+use Rattle.dn_line.specs.LineTable.{kind_named}
+use Rattle.std.proofs.Common.{◌≡◌, ◌≢◌, inl, inr, ℕ, ℤ, pos, List, [], ◌∷◌, ◌++◌, length, false, map, Some, refl, append-nil}
 use Rattle.std.proofs.lemmas.Bool.{cases_Bool}
 use Rattle.std.proofs.lemmas.Bool.Decides.{Decides-int_eq}
 use Rattle.std.proofs.lemmas.List.Elements.{filter_map-append}
@@ -16,17 +18,17 @@ use Rattle.dn_line.specs.declared.line.Line.{Line}
 use Rattle.dn_line.specs.declared.line.Line.TheVariants as Item
 use Rattle.dn_line.specs.declared.word.Keyword.{Keyword}
 use Rattle.dn_line.specs.declared.word.Keyword.TheVariants as Key
-use Rattle.dn_line.specs.Words.{keyword_text}
+use Rattle.dn_line.specs.Words.{keyword_text, said}
 use Rattle.dn_arc.specs.Kinds.{ArcKind, lengths, capacities, costs}
 use Rattle.dn_instance.specs.Instances.{Graph, Instance, MinCostFlow, MaxFlow, ShortestPaths, Sources, Queries, Coordinates, kind_of, nodes_of}
 use Rattle.dn_instance.specs.Validity.{IsSupply, AreSupplies, IsValid}
-use Rattle.dn_instance.specs.Items.{length_arc_in, cap_arc_in, cost_arc_in, arcs_of, supply_in, supplies_of, source_in, query_in, point_in, by_key, graph_of, instance_as, instance_of}
+use Rattle.dn_instance.specs.Items.{cost_arc_in, supply_in, supplies_of, source_in, query_in, point_in, instance_as, instance_of, Problem, problem_in}
 use Rattle.dn_canon.specs.Prints.{word_row, graph_row, companion_row, supply_row, terminal_row, arc_row, source_row, query_row, point_row, rows}
 use Rattle.dn_sink.specs.Rows.{Row}
 use Rattle.dn_canon.proofs.RowLaws.{IsInk, AllWords, number_word, number_words}
 use Rattle.dn_canon.proofs.ItemLaws.{IsHead}
-use Rattle.dn_canon.proofs.PartLaws.{items_back, no_items, always, all_append, all_map}
-use Rattle.dn_canon.proofs.ArcItems.{min_item, max_item, sp_item, min_items, max_items, sp_items, arcs_back}
+use Rattle.dn_canon.proofs.PartLaws.{items_back, no_items, all_append, all_map}
+use Rattle.dn_canon.proofs.ArcItems.{min_item, max_item, sp_item, min_items, max_items, sp_items, arcs_back, no_arc_more}
 use Rattle.dn_canon.proofs.KeyLaws.{by_key_rising}
 
 -- the words of the problem line
@@ -80,16 +82,8 @@ body_of (Coordinates points) = map point_item points
 
 -- the lines of an instance are its problem line and the lines after it
 pub rows_are : (I : Instance) → rows I ≡ head_row I ∷ body_rows I
-rows_are (MinCostFlow supplies graph) = refl
-rows_are (MaxFlow source sink graph) = refl
-rows_are (ShortestPaths graph) = refl
 rows_are (Sources ids) = refl
-rows_are (Queries pairs) = refl
-rows_are (Coordinates points) = refl
-
--- a keyword of ink bytes and numbers are words
-row_words : (key : Keyword) (ns : List ℤ) → IsInk (keyword_text key) → AllWords (word_row key ns)
-row_words key ns h = (h, number_words ns)
+rows_are I = refl
 
 -- the problem line of a graph consists of words
 graph_words : (k : Kind) (nodes : ℤ) (n : ℕ) → IsInk (kind_name k) → AllWords (graph_row k nodes n)
@@ -99,53 +93,51 @@ graph_words k nodes n h = ((refl, tt), (h, (number_word nodes, (number_word (pos
 companion_words : (k : Kind) (n : ℕ) → IsInk (kind_name k) → AllWords (companion_row k n)
 companion_words k n h = ((refl, tt), ((refl, (refl, (refl, tt))), ((refl, (refl, tt)), (h, (number_word (pos n), tt)))))
 
+-- the lines of a letter and numbers consist of words
+number_rows : {X : Type 0} (row : X → Row) (key : Keyword) (numbers : X → List ℤ)
+    → ((x : X) → row x ≡ word_row key (numbers x)) → IsInk (keyword_text key) → (xs : List X)
+    → AllByRecursion AllWords (map row xs)
+number_rows row key numbers is h = all_map AllWords row (λ x. rw (is x) (h, number_words (numbers x)))
+
 -- the lines of arcs consist of words
 arc_words : {Arc : Type 0} (kind : ArcKind Arc) (arcs : List ((ℤ × ℤ) × Arc))
     → AllByRecursion AllWords (map (arc_row kind) arcs)
-arc_words kind arcs =
-    all_map AllWords (arc_row kind) (λ a. row_words Key.A (a.0.0 ∷ a.0.1 ∷ kind.numbers a.1) (refl, tt)) arcs
+arc_words kind = number_rows (arc_row kind) Key.A (λ a. a.0.0 ∷ a.0.1 ∷ kind.numbers a.1) (λ a. refl) (refl, tt)
 
 -- each line after the problem line consists of words
 pub body_words : (I : Instance) → AllByRecursion AllWords (body_rows I)
 body_words (MinCostFlow supplies graph) =
-    all_append AllWords (map supply_row supplies) (map (arc_row costs) graph.arcs)
-    (all_map AllWords supply_row (λ s. row_words Key.N (s.0 ∷ s.1 ∷ []) (refl, tt)) supplies)
-    (arc_words costs graph.arcs)
+    all_append AllWords (map supply_row supplies) _
+    (number_rows supply_row Key.N (λ s. s.0 ∷ s.1 ∷ []) (λ s. refl) (refl, tt) supplies) (arc_words costs graph.arcs)
 body_words (MaxFlow source sink graph) = (
   ((refl, tt), (number_word source, ((refl, tt), tt))),
   (((refl, tt), (number_word sink, ((refl, tt), tt))), arc_words capacities graph.arcs),
 )
 body_words (ShortestPaths graph) = arc_words lengths graph.arcs
-body_words (Sources ids) = all_map AllWords source_row (λ i. row_words Key.S (i ∷ []) (refl, tt)) ids
-body_words (Queries pairs) = all_map AllWords query_row (λ q. row_words Key.Q (q.0 ∷ q.1 ∷ []) (refl, tt)) pairs
+body_words (Sources ids) = number_rows source_row Key.S (λ i. i ∷ []) (λ i. refl) (refl, tt) ids
+body_words (Queries pairs) = number_rows query_row Key.Q (λ q. q.0 ∷ q.1 ∷ []) (λ q. refl) (refl, tt) pairs
 body_words (Coordinates points) =
-    all_map AllWords point_row (λ p. row_words Key.V (p.0 ∷ p.1.0 ∷ p.1.1 ∷ []) (refl, tt)) points
+    number_rows point_row Key.V (λ p. p.0 ∷ p.1.0 ∷ p.1.1 ∷ []) (λ p. refl) (refl, tt) points
 
 -- the problem line names the kind
 pub head_is : (I : Instance) → IsHead (head_row I) (head_item I) (kind_of I)
-head_is (MinCostFlow supplies graph) =
-    record {
-      words = graph_words Kinds.Min graph.nodes (length graph.arcs) (refl, (refl, (refl, tt)));
-      kind = refl;
-      declares =
-          refl;
-    }
-head_is (MaxFlow source sink graph) =
-    record {
-      words = graph_words Kinds.Max graph.nodes (length graph.arcs) (refl, (refl, (refl, tt)));
-      kind = refl;
-      declares =
-          refl;
-    }
-head_is (ShortestPaths graph) =
-    record
-    { words = graph_words Kinds.Sp graph.nodes (length graph.arcs) (refl, (refl, tt)); kind = refl; declares = refl }
-head_is (Sources ids) =
-    record { words = companion_words Kinds.Ss (length ids) (refl, (refl, tt)); kind = refl; declares = refl }
-head_is (Queries pairs) =
-    record { words = companion_words Kinds.P2p (length pairs) (refl, (refl, (refl, tt))); kind = refl; declares = refl }
-head_is (Coordinates points) =
-    record { words = companion_words Kinds.Co (length points) (refl, (refl, tt)); kind = refl; declares = refl }
+head_is I = record { words = words I; kind = kind I; declares = declares I }
+  where
+    words : (I : Instance) → AllWords (head_row I)
+    words (MinCostFlow supplies graph) = graph_words Kinds.Min graph.nodes _ (refl, (refl, (refl, tt)))
+    words (MaxFlow source sink graph) = graph_words Kinds.Max graph.nodes _ (refl, (refl, (refl, tt)))
+    words (ShortestPaths graph) = graph_words Kinds.Sp graph.nodes _ (refl, (refl, tt))
+    words (Sources ids) = companion_words Kinds.Ss _ (refl, (refl, tt))
+    words (Queries pairs) = companion_words Kinds.P2p _ (refl, (refl, (refl, tt)))
+    words (Coordinates points) = companion_words Kinds.Co _ (refl, (refl, tt))
+
+    kind : (I : Instance) → kind_named (map said (head_row I)) ≡ Some (kind_of I)
+    kind (Sources ids) = refl
+    kind I = refl
+
+    declares : (I : Instance) → option_map (λ (p : Problem). p.kind) (problem_in (head_item I)) ≡ Some (kind_of I)
+    declares (Sources ids) = refl
+    declares I = refl
 
 -- NODES in the words of a problem line; 0 for a companion
 abbrev pub nodes_in : Row → ℤ
@@ -154,70 +146,47 @@ nodes_in _ = pos 0
 
 -- NODES of the problem line is that of the instance
 pub nodes_back : (I : Instance) → IsValid I → nodes_in (head_row I) ≡ nodes_of I
-nodes_back (MinCostFlow supplies graph) v = ap number_or_zero (decimal_reads graph.nodes v.0.nodes_fit)
-nodes_back (MaxFlow source sink graph) v = ap number_or_zero (decimal_reads graph.nodes v.0.nodes_fit)
-nodes_back (ShortestPaths graph) v = ap number_or_zero (decimal_reads graph.nodes v.nodes_fit)
-nodes_back (Sources ids) v = refl
-nodes_back (Queries pairs) v = refl
-nodes_back (Coordinates points) v = refl
+nodes_back (MinCostFlow supplies graph) v = rw (decimal_reads graph.nodes v.0.nodes_fit)
+nodes_back (MaxFlow source sink graph) v = rw (decimal_reads graph.nodes v.0.nodes_fit)
+nodes_back (ShortestPaths graph) v = rw (decimal_reads graph.nodes v.nodes_fit)
+nodes_back I v = refl
 
 -- different numbers compare as different
 pub differ : (a b : ℤ) → a ≢ b → int_eq a b ≡ false
 differ a b n = elim (cases_Bool (int_eq a b)) [ inl is ↦ absurd (n ((Decides-int_eq a b).0 is)) | inr is_not ↦ is_not ]
 
--- the supply of a supply's item is the supply
-supply_back : (nodes : ℤ) (s : ℤ × ℤ) → IsSupply nodes s → supply_in (supply_item s) ≡ Some s
-supply_back nodes s h =
-    ap (λ (t : Bool). let o : Option (ℤ × ℤ) = cond t None (Some (s.0, s.1)) in o) (differ s.1 (pos 0) h.some)
+-- the supplies of the items of supplies
+supplies_read : (nodes : ℤ) (supplies : List (ℤ × ℤ)) → AllByRecursion (IsSupply nodes) supplies
+    → filter_map supply_in (map supply_item supplies) ≡ supplies
+supplies_read nodes [] h = refl
+supplies_read nodes (s ∷ rest) h = rw (differ s.1 (pos 0) h.0.some, supplies_read nodes rest h.1)
 
 -- the supplies of the items are the supplies
 supplies_back : (graph : Graph _) (supplies : List (ℤ × ℤ)) → AreSupplies graph.nodes supplies
     → supplies_of (map supply_item supplies ++ map min_item graph.arcs) ≡ supplies
 supplies_back graph supplies v =
-    ap by_key (
-    filter_map-append supply_in (map supply_item supplies) (map min_item graph.arcs)
-    ∙ ap (λ l. l ++ filter_map supply_in (map min_item graph.arcs))
-    (items_back supply_in supply_item (IsSupply graph.nodes) (supply_back graph.nodes) supplies v.each)
-    ∙ ap (λ l. supplies ++ l) (no_items supply_in min_item min_items.no_supply graph.arcs)
-    ∙ append-nil supplies)
-    ∙ by_key_rising supplies v.map
-
--- the arcs of the items are the arcs
-min_arcs_back : (graph : Graph _) (supplies : List (ℤ × ℤ))
-    → arcs_of cost_arc_in (map supply_item supplies ++ map min_item graph.arcs) ≡ graph.arcs
-min_arcs_back graph supplies =
-    filter_map-append cost_arc_in (map supply_item supplies) (map min_item graph.arcs)
-    ∙ ap (λ l. l ++ arcs_of cost_arc_in (map min_item graph.arcs))
-    (no_items cost_arc_in supply_item (λ s. refl) supplies)
-    ∙ arcs_back costs cost_arc_in Kinds.Min min_item min_items graph.arcs
+    rw (
+      filter_map-append supply_in (map supply_item supplies) (map min_item graph.arcs),
+      supplies_read graph.nodes supplies v.each,
+      no_items supply_in min_item min_items.no_supply graph.arcs,
+      append-nil,
+    ) (by_key_rising supplies v.map)
 
 -- the items after the problem line make the instance
 pub body_makes : (I : Instance) → IsValid I → instance_as (kind_of I) (nodes_of I) (body_of I) ≡ Some I
 body_makes (MinCostFlow supplies graph) v =
-    ap (λ s. Some (MinCostFlow s (graph_of cost_arc_in graph.nodes (body_of (MinCostFlow supplies graph)))))
-    (supplies_back graph supplies v.1)
-    ∙ ap (λ arcs. Some (MinCostFlow supplies (record { nodes = graph.nodes; arcs = arcs })))
-    (min_arcs_back graph supplies)
-body_makes (MaxFlow source sink graph) v =
-    ap (λ arcs. Some (MaxFlow source sink (record { nodes = graph.nodes; arcs = arcs })))
-    (arcs_back capacities cap_arc_in Kinds.Max max_item max_items graph.arcs)
-body_makes (ShortestPaths graph) v =
-    ap (λ arcs. Some (ShortestPaths (record { nodes = graph.nodes; arcs = arcs })))
-    (arcs_back lengths length_arc_in Kinds.Sp sp_item sp_items graph.arcs)
-body_makes (Sources ids) v =
-    ap (λ l. Some (Sources l)) (items_back source_in Item.Source (λ i. Unit {0}) (λ i h. refl) ids (always ids))
-body_makes (Queries pairs) v =
-    ap (λ l. Some (Queries l)) (items_back query_in query_item (λ q. Unit {0}) (λ q h. refl) pairs (always pairs))
+    rw (
+      supplies_back graph supplies v.1,
+      no_arc_more min_items (map supply_item supplies) graph.arcs (no_items cost_arc_in supply_item (λ s. refl) supplies),
+    )
+body_makes (MaxFlow source sink graph) v = rw (arcs_back max_items graph.arcs)
+body_makes (ShortestPaths graph) v = rw (arcs_back sp_items graph.arcs)
+body_makes (Sources ids) v = rw (items_back source_in Item.Source (λ i. refl) ids)
+body_makes (Queries pairs) v = rw (items_back query_in query_item (λ q. refl) pairs)
 body_makes (Coordinates points) v =
-    ap (λ l. Some (Coordinates l))
-    (ap by_key (items_back point_in point_item (λ p. Unit {0}) (λ p h. refl) points (always points))
-    ∙ by_key_rising points v.map)
+    rw (items_back point_in point_item (λ p. refl) points, by_key_rising points v.map)
 
 -- all items make the instance
 pub items_make : (I : Instance) → IsValid I → instance_of (head_item I ∷ body_of I) ≡ Some I
-items_make (MinCostFlow supplies graph) v = body_makes (MinCostFlow supplies graph) v
-items_make (MaxFlow source sink graph) v = body_makes (MaxFlow source sink graph) v
-items_make (ShortestPaths graph) v = body_makes (ShortestPaths graph) v
 items_make (Sources ids) v = body_makes (Sources ids) v
-items_make (Queries pairs) v = body_makes (Queries pairs) v
-items_make (Coordinates points) v = body_makes (Coordinates points) v
+items_make I v = body_makes I v

@@ -1,14 +1,15 @@
 -- Lemmas on whether a text is the canonical text of what it reads as.
-use Rattle.std.proofs.Common.{◌≡◌, ◌↔◌, ℕ, ◌<◌, ◌≤◌, ◌^◌, List, [], ◌∷◌, ◌++◌, length, take, drop, get_or, length-append, append-nil, Bool, true, false, Some, Ok, Err, refl, sym, ap, ◌∙◌, arith}
+use Rattle.std.proofs.Common.{◌≡◌, ◌↔◌, ℕ, ◌<◌, ◌≤◌, ◌^◌, List, [], ◌∷◌, ◌++◌, length, length-append, append-nil, Bool, true, false, Some, Ok, Err, refl, sym, ap, ◌∙◌, arith}
 use Rattle.std.proofs.lemmas.List.{drop_at, take_at}
 use Rattle.std.specs.List.{join_with_byte}
 use Rattle.dn_arc.specs.declared.arc.Form.{Form}
 use Rattle.dn_instance.specs.Instances.{Instance, size_of}
 use Rattle.dn_instance.specs.State.ReaderResults.{Outcome}
 use Rattle.dn_instance.specs.declared.refusal.Refusal.{Refusal}
-use Rattle.dn_instance.specs.declared.refusal.Refusal.TheVariants.{Text, Memory, Read, Endless, Write, CountTooLarge}
+use Rattle.dn_instance.specs.declared.refusal.Refusal.TheVariants.{Text, Memory, Write, CountTooLarge}
 use Rattle.dn_instance.proofs.SameLaws.{refl_of}
-use Rattle.dn_canon.specs.CanonTexts.{IsCanonOf, IsTooLarge}
+use Rattle.dn_canon.specs.CanonInstances.{IsCanonInstanceOf}
+use Rattle.dn_canon.specs.CanonTexts.{IsCanonOf}
 use Rattle.dn_canon.specs.Prints.{rows, print}
 use Rattle.dn_sink.specs.Rows.{Row, line_text, text_of}
 use Rattle.dn_canon.specs.State.Runs.{JudgesCanon}
@@ -23,48 +24,37 @@ use Rattle.dn_canon.proofs.TextLaws.{texts_agree}
 rows_long : (rs : List Row) → length rs ≤ length (text_of rs)
 rows_long [] = omega arith
 rows_long (r ∷ rs) =
-    let one = length-append (join_with_byte 32 r) (10 ∷ []) in
-    let all = length-append (line_text r) (text_of rs) in
-    let more = rows_long rs in
-    omega arith
+    omega (
+      arith,
+      length-append (join_with_byte 32 r) (10 ∷ []),
+      length-append (line_text r) (text_of rs),
+      rows_long rs,
+    )
 
--- an instance has at least as many lines as counted lines
-enough : (I : Instance) → size_of I ≤ length (rows I)
-enough I = let count = count_rows I in let all = ap length (rows_are I) in omega arith
-
+-- an instance has at least as many bytes as counted lines
 print_long : (I : Instance) → size_of I ≤ length (print I)
-print_long I = let h = rows_long (rows I) in let g = enough I in omega arith
+print_long I = omega (arith, count_rows I, ap length (rows_are I), rows_long (rows I))
 
--- a text of fewer than 2^63 bytes is not a canonical text of 2^63 counted lines
-not_so_large : (form : Form) (t : List ℕ) (I : Instance) → IsTooLarge form I → length t < 2 ^ 63
-    → (false ≡ true) ↔ IsCanonOf form t I
-not_so_large form t I (K, canon, large) small = (
-  λ y. cc,
-  λ h. (
-      let same = (texts_agree form (print K) t I I (K, record { canon = canon; text_is = refl }) h).1 (refl_of I) in
-      let long = print_long K in
-      let equal = ap length same in
-      absurd (omega arith)
-      ),
-)
+-- a canonical text of an instance is the printed text of its canonical instance
+only_text : (form : Form) (t : List ℕ) (I K : Instance) → IsCanonInstanceOf form K I → IsCanonOf form t I → print K ≡ t
+only_text form t I K canon h =
+    (texts_agree form (print K) t I I (K, record { canon = canon; text_is = refl }) h).1 (refl_of I)
 
 -- the description of a sink that compares
 abbrev matcher_words : SinkFacts Matched
-matcher_words =
-    record {
-      taken = λ (m : Matched). Some (taken_of m);
-      has_failed = λ (m : Matched). m.failed;
-      is_flushed =
-          λ (m : Matched). true;
-    }
+matcher_words = record {
+  taken = λ (m : Matched). Some (taken_of m);
+  has_failed = λ (m : Matched). m.failed;
+  is_flushed = λ (m : Matched). true;
+}
 
 -- what a comparing sink has taken determines the text and the bytes put
 listed_apart : (t u put put' : List ℕ) → length t ∷ (t ++ put) ≡ length u ∷ (u ++ put') → (t ≡ u) × (put ≡ put')
 listed_apart t u put put' e =
-    let many : length t ≡ length u = ap (λ l. get_or l 0 0) e in
-    let rest : t ++ put ≡ u ++ put' = ap (λ l. drop 1 l) e in (
-      sym (take_at t put (length u) many) ∙ ap (λ l. take (length u) l) rest ∙ take_at u put' (length u) refl,
-      sym (drop_at t put (length u) many) ∙ ap (λ l. drop (length u) l) rest ∙ drop_at u put' (length u) refl,
+    let many : length t ≡ length u = cc in
+    let rest : t ++ put ≡ u ++ put' = cc in (
+      sym (take_at t put (length u) many) ∙ rw rest (take_at u put' (length u) refl),
+      sym (drop_at t put (length u) many) ∙ rw rest (drop_at u put' (length u) refl),
     )
 
 module _ (form : Form) (t : List ℕ) (I : Instance) (old new : Matched) (begins : old.text ≡ t)
@@ -72,9 +62,8 @@ module _ (form : Form) (t : List ℕ) (I : Instance) (old new : Matched) (begins
   -- the bytes put are all that the sink has taken since it was made
   put_since : (put : List ℕ) → taken_of new ≡ taken_of old ++ put → (new.text ≡ t) × (new.put ≡ put)
   put_since put e =
-      let from : taken_of old ≡ length t ∷ (t ++ []) =
-      ap (λ l. length l ∷ (l ++ old.put)) begins ∙ ap (λ l. length t ∷ (t ++ l)) empty in
-      listed_apart new.text t new.put put (e ∙ ap (λ l. l ++ put) (from ∙ ap (λ l. length t ∷ l) (append-nil t)))
+      let from = rw (begins, empty) at e in
+      listed_apart new.text t new.put put (from ∙ ap (λ l. length t ∷ (l ++ put)) (append-nil t))
 
   -- if the canonical text was put whole, the answer of the sink is right
   pub judged_whole : WritesCanon matcher_words old new form I (Ok tt) → (answer : Bool)
@@ -83,39 +72,24 @@ module _ (form : Form) (t : List ℕ) (I : Instance) (old new : Matched) (begins
       let since = put_since w.0.put w.0.bytes in
       let whole : new.put ≡ print J = since.1 ∙ sym (append-nil w.0.put) ∙ w.0.whole in (
         λ y. (J, record { canon = canon; text_is = sym since.0 ∙ sym (match.0 y) ∙ whole }),
-        λ h. match.1
-            (whole ∙ (texts_agree form (print J) t I I (J, record { canon = canon; text_is = refl }) h).1 (refl_of I)
-            ∙ sym since.0),
-      )
-
-  -- if the sink stopped the writing, the text is not canonical
-  judged_part : WritesCanon matcher_words old new form I (Err Write) → (new.failed ≡ true → IsNoPrefix new.put new.text)
-      → (false ≡ true) ↔ IsCanonOf form t I
-  judged_part (J, canon, w) apart =
-      let since = put_since w.0.put w.0.bytes in (
-        λ y. cc,
-        λ h. absurd (apart w.0.failed w.0.left
-            (ap (λ l. l ++ w.0.left) since.1 ∙ w.0.whole
-            ∙ (texts_agree form (print J) t I I (J, record { canon = canon; text_is = refl }) h).1 (refl_of I)
-            ∙ sym since.0)),
+        λ h. match.1 (whole ∙ only_text form t I J canon h ∙ sym since.0),
       )
 
   -- if writing was refused, the text is not canonical
   pub judged_unwritten : (e : Refusal) → WritesCanon matcher_words old new form I (Err e)
       → (new.failed ≡ true → IsNoPrefix new.put new.text) → length t < 2 ^ 63
       → (false ≡ true) ↔ IsCanonOf form t I
-  judged_unwritten Write w apart small = judged_part w apart
-  judged_unwritten CountTooLarge (K, canon, w) apart small = not_so_large form t I (K, canon, w.1) small
-  judged_unwritten (Text place code) w apart small = absurd w.2
-  judged_unwritten Memory w apart small = absurd w.2
-  judged_unwritten Read w apart small = absurd w.2
-  judged_unwritten Endless w apart small = absurd w.2
+  judged_unwritten Write (J, canon, w) apart small =
+      let since = put_since w.0.put w.0.bytes in (
+        λ y. cc,
+        λ h. absurd (apart w.0.failed w.0.left (rw since.1 (w.0.whole ∙ only_text form t I J canon h ∙ sym since.0))),
+      )
+  judged_unwritten CountTooLarge (J, canon, w) apart small =
+      (λ y. cc, λ h. absurd (omega (arith, w.1, print_long J, ap length (only_text form t I J canon h))))
+  judged_unwritten _ w apart small = absurd w.2
 
 -- a refusal of reading is the refusal of the judgement
 pub refused_text : (form : Form) (t : List ℕ) (e : Refusal) → Outcome t (Err e) → JudgesCanon form t (Err e)
 refused_text form t (Text place code) h = h
 refused_text form t Memory h = h
-refused_text form t Read h = absurd h
-refused_text form t Endless h = absurd h
-refused_text form t Write h = absurd h
-refused_text form t CountTooLarge h = absurd h
+refused_text form t _ h = absurd h

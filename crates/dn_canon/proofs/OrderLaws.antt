@@ -1,5 +1,6 @@
 -- Lemmas that arcs sorted by pair are determined by the arcs of each pair.
-use Rattle.std.proofs.Common.{◌≡◌, ℤ, List, [], ◌∷◌, Bool, true, false, cond, refl, sym, ap, ◌∙◌, IsTrue}
+use Rattle.std.proofs.lemmas.Bool.{cases_Bool}
+use Rattle.std.proofs.Common.{inl, inr, ◌≡◌, ℤ, List, [], ◌∷◌, Bool, true, false, cond, refl, sym, ap, ◌∙◌, IsTrue}
 use Rattle.std.specs.List.{AllByRecursion}
 use Rattle.std.specs.Ordering.{is_eq, is_le}
 use Rattle.std.specs.declared.cmp.Ordering.{Ordering}
@@ -18,7 +19,7 @@ before_less p k q h n = by_order (pair_cmp k q) refl n
   where
     by_order : (o : Ordering) → pair_cmp k q ≡ o → is_le o ≡ true → pair_cmp p q ≡ Less
     by_order Less e t = pair_total.trans p k q h e
-    by_order Equal e t = ap (pair_cmp p) (sym (pair_is k q (ap is_eq e))) ∙ h
+    by_order Equal e t = rw (← pair_is k q (ap is_eq e)) h
     by_order Greater e t = cc
 
 module _ {Arc : Type 0} where
@@ -29,61 +30,49 @@ module _ {Arc : Type 0} where
   -- a pair before k has no arcs, if no arc is before k
   none_at : (p k : ℤ × ℤ) (ys : List ((ℤ × ℤ) × Arc)) → pair_cmp p k ≡ Less → NoneBefore k ys → bundle p ys ≡ []
   none_at p k [] h n = refl
-  none_at p k (b ∷ ys) h n =
-      ap (λ o. cond (is_eq o) (b.1 ∷ bundle p ys) (bundle p ys)) (before_less p k b.0 h n.0) ∙ none_at p k ys h n.1
-
-  -- a pair before the first arc's has no arcs in a sorted list
-  none_from : (p : ℤ × ℤ) (b : (ℤ × ℤ) × Arc) (ys : List ((ℤ × ℤ) × Arc)) → pair_cmp p b.0 ≡ Less → NoneBefore b.0 ys
-      → bundle p (b ∷ ys) ≡ []
-  none_from p b ys h n = ap (λ o. cond (is_eq o) (b.1 ∷ bundle p ys) (bundle p ys)) h ∙ none_at p b.0 ys h n
+  none_at p k (b ∷ ys) h n = rw (before_less p k b.0 h n.0) (none_at p k ys h n.1)
 
   -- the arcs at the first arc's pair begin with this arc
   pub at_head : (a : (ℤ × ℤ) × Arc) (xs : List ((ℤ × ℤ) × Arc)) → bundle a.0 (a ∷ xs) ≡ a.1 ∷ bundle a.0 xs
-  at_head a xs = ap (λ t. cond t (a.1 ∷ bundle a.0 xs) (bundle a.0 xs)) (pair_self a.0)
+  at_head a xs = rw (pair_self a.0)
 
   -- what holds of each arc holds of the arcs of each pair
   pub all_at_pair : (P : (ℤ × ℤ) × Arc → Type 0) (Q : Arc → Type 0) → ((a : (ℤ × ℤ) × Arc) → P a → Q a.1)
       → (q : ℤ × ℤ) (arcs : List ((ℤ × ℤ) × Arc)) → AllByRecursion P arcs → AllByRecursion Q (bundle q arcs)
   all_at_pair P Q h q [] all = tt
-  all_at_pair P Q h q (a ∷ rest) all = by_test (same_pair q a.0) (all_at_pair P Q h q rest all.1)
-    where
-      by_test : (t : Bool) → AllByRecursion Q (bundle q rest)
-          → AllByRecursion Q (cond t (a.1 ∷ bundle q rest) (bundle q rest))
-      by_test true more = (h a all.0, more)
-      by_test false more = more
+  all_at_pair P Q h q (a ∷ rest) all =
+      let more = all_at_pair P Q h q rest all.1 in
+      elim (cases_Bool (same_pair q a.0)) [ inl e ↦ rw e (h a all.0, more) | inr e ↦ rw e more ]
+
+  -- the first pair of a sorted list is not before that of another with the same arcs at each pair
+  not_less : (a b : (ℤ × ℤ) × Arc) (xs ys : List ((ℤ × ℤ) × Arc)) → AreInOrder (b ∷ ys)
+      → bundle a.0 (a ∷ xs) ≡ bundle a.0 (b ∷ ys) → pair_cmp a.0 b.0 ≡ Less → ⊥
+  not_less a b xs ys s h e = cc (rw (at_head a xs, e, none_at a.0 b.0 ys e s.0) at h)
 
   -- two sorted lists with the same arcs at each pair begin at the same pair
   same_key : (a b : (ℤ × ℤ) × Arc) (xs ys : List ((ℤ × ℤ) × Arc)) → AreInOrder (a ∷ xs) → AreInOrder (b ∷ ys)
       → ((q : ℤ × ℤ) → bundle q (a ∷ xs) ≡ bundle q (b ∷ ys)) → (o : Ordering) → pair_cmp a.0 b.0 ≡ o → a.0 ≡ b.0
-  same_key a b xs ys r s h Less e = let no = sym (at_head a xs) ∙ h a.0 ∙ none_from a.0 b ys e s.0 in cc
+  same_key a b xs ys r s h Less e = absurd (not_less a b xs ys s (h a.0) e)
   same_key a b xs ys r s h Equal e = pair_is a.0 b.0 (ap is_eq e)
-  same_key a b xs ys r s h Greater e = let no =
-      sym (at_head b ys) ∙ sym (h b.0) ∙ none_from b.0 a xs (flipped a.0 b.0 e) r.0 in cc
+  same_key a b xs ys r s h Greater e = absurd (not_less b a ys xs r (sym (h b.0)) (flipped a.0 b.0 e))
 
   -- two lists have the same rest if prepending elements under the same condition makes them equal
   rest_one : (t : Bool) (x : Arc) (xs ys : List Arc) → cond t (x ∷ xs) xs ≡ cond t (x ∷ ys) ys → xs ≡ ys
   rest_one true x xs ys e = cc
   rest_one false x xs ys e = e
 
-  -- equal pairs and equal arcs make equal placed arcs
-  placed_is : (p q : ℤ × ℤ) (x y : Arc) → p ≡ q → x ≡ y → (let a : (ℤ × ℤ) × Arc = (p, x) in a) ≡ (q, y)
-  placed_is p q x y e f = cc
-
   -- two sorted lists with the same arcs at each pair are equal
   pub order_one : (xs ys : List ((ℤ × ℤ) × Arc)) → AreInOrder xs → AreInOrder ys
       → ((q : ℤ × ℤ) → bundle q xs ≡ bundle q ys) → xs ≡ ys
   order_one [] [] r s h = refl
-  order_one [] (b ∷ ys) r s h = let no = h b.0 ∙ at_head b ys in cc
-  order_one (a ∷ xs) [] r s h = let no = sym (at_head a xs) ∙ h a.0 in cc
+  order_one [] (b ∷ ys) r s h = cc (rw at_head at (h b.0))
+  order_one (a ∷ xs) [] r s h = cc (rw at_head at (h a.0))
   order_one (a ∷ xs) (b ∷ ys) r s h =
       let key : a.0 ≡ b.0 = same_key a b xs ys r s h (pair_cmp a.0 b.0) refl in
       let heads : a.1 ∷ bundle a.0 xs ≡ b.1 ∷ bundle b.0 ys =
       sym (at_head a xs) ∙ h a.0 ∙ ap (λ p. bundle p (b ∷ ys)) key ∙ at_head b ys in
       let arc : a.1 ≡ b.1 = cc in
-      let here : a ≡ b = placed_is a.0 b.0 a.1 b.1 key arc in
-      let tails : (q : ℤ × ℤ)
-      → bundle q xs ≡ bundle q ys =
-      λ q. rest_one (same_pair q a.0) a.1 (bundle q xs) (bundle q ys)
-      (h q ∙ ap (λ (c : (ℤ × ℤ) × Arc). bundle q (c ∷ ys)) (sym here)) in
-      let rest : xs ≡ ys = order_one xs ys r.1 s.1 tails in
-      cc
+      let here : a ≡ b = λ i. (key i, arc i) in
+      let rest = order_one xs ys r.1 s.1
+      (λ q. rest_one (same_pair q a.0) a.1 _ _ (h q ∙ ap (λ (c : (ℤ × ℤ) × Arc). bundle q (c ∷ ys)) (sym here))) in
+      λ i. here i ∷ rest i

@@ -1,5 +1,6 @@
 -- Lemmas on the lines of printed rows and the words of these lines.
-use Rattle.std.proofs.Common.{◌≡◌, ℕ, zero, suc, ◌/◌, ◌%◌, ℤ, pos, negsuc, List, [], ◌∷◌, ◌++◌, Bool, true, false, cond, nat_lt, nat_eq, map, refl, sym, ap, ◌∙◌, subst, append_assoc, append-nil, arith}
+use Rattle.std.proofs.lemmas.Bool.{cases_Bool}
+use Rattle.std.proofs.Common.{inl, inr, ◌≡◌, ℕ, zero, suc, ◌/◌, ◌%◌, ℤ, pos, negsuc, List, [], ◌∷◌, ◌++◌, Bool, true, false, nat_lt, nat_eq, map, refl, sym, ap, ◌∙◌, append_assoc, append-nil, arith}
 use Rattle.std.proofs.lemmas.Bool.Decides.{nat_tests}
 use Rattle.std.proofs.lemmas.List.Elements.{All-nil, All-cons}
 use Rattle.std.specs.List.{All, AllByRecursion, join_with_byte}
@@ -36,52 +37,45 @@ ink_of (b ∷ bs) h = h
 abbrev NoFeed : List ℕ → Type 0
 NoFeed = AllByRecursion (λ b. is_line_feed b ≡ false)
 
--- a byte above the space is not a blank
+-- a byte above the space is neither a blank nor an LF
 ink_plain : (b : ℕ) → nat_lt 32 b ≡ true → is_blank b ≡ false
 ink_plain b h = grind (arith, nat_tests)
 
--- a byte above the space is not an LF
 ink_no_feed : (b : ℕ) → nat_lt 32 b ≡ true → is_line_feed b ≡ false
 ink_no_feed b h = grind (arith, nat_tests)
 
 -- a word contains no blank
 no_blank : (w : List ℕ) → AllInk w → All (λ b. is_blank b ≡ false) w
-no_blank [] h = All-nil (λ b. is_blank b ≡ false)
-no_blank (b ∷ bs) h = All-cons (λ b. is_blank b ≡ false) b bs (ink_plain b h.0) (no_blank bs h.1)
+no_blank [] h = All-nil _
+no_blank (b ∷ bs) h = All-cons (λ x. is_blank x ≡ false) b bs (ink_plain b h.0) (no_blank bs h.1)
 
 -- bytes above the space are a word of a line
 word_is : (w : List ℕ) → IsInk w → IsWord w
 word_is [] h = absurd h
 word_is (b ∷ bs) h = (λ e. cc, no_blank (b ∷ bs) h)
 
--- two lists without an LF have none together
-feed_append : (l m : List ℕ) → NoFeed l → NoFeed m → NoFeed (l ++ m)
-feed_append [] m h k = k
-feed_append (b ∷ bs) m h k = (h.0, feed_append bs m h.1 k)
-
--- a word contains no LF
-word_feed : (w : List ℕ) → AllInk w → NoFeed w
-word_feed [] h = tt
-word_feed (b ∷ bs) h = (ink_no_feed b h.0, word_feed bs h.1)
+-- a word contains no LF, nor does what follows it if that contains none
+word_feed : (w m : List ℕ) → AllInk w → NoFeed m → NoFeed (w ++ m)
+word_feed [] m h k = k
+word_feed (b ∷ bs) m h k = (ink_no_feed b h.0, word_feed bs m h.1 k)
 
 -- the line of a row contains no LF
 line_feed : (r : Row) → AllWords r → NoFeed (line_of r)
 line_feed [] h = tt
-line_feed (w ∷ []) h = word_feed w (ink_of w h.0)
-line_feed (w ∷ x ∷ xs) h =
-    feed_append w (32 ∷ line_of (x ∷ xs)) (word_feed w (ink_of w h.0)) (refl, line_feed (x ∷ xs) h.1)
+line_feed (w ∷ []) h = rw append-nil at (word_feed w [] (ink_of w h.0) tt)
+line_feed (w ∷ x ∷ xs) h = word_feed w (32 ∷ line_of (x ∷ xs)) (ink_of w h.0) (refl, line_feed (x ∷ xs) h.1)
 
 -- after blanks, the words of a row are the runs of its line
 row_runs : (gap : List ℕ) (r : Row) → AllBlank gap → AllWords r → AreRuns (gap ++ line_of r) r
-row_runs gap [] g h = subst AllBlank (sym (append-nil gap)) g
+row_runs gap [] g h = rw append-nil g
 row_runs gap (w ∷ []) g h = record {
   gap = gap;
   rest = [];
-  line_is = ap (λ l. gap ++ l) (sym (append-nil w));
+  line_is = rw append-nil;
   blanks = g;
   word = word_is w h.0;
   breaks = tt;
-  goes = All-nil (λ b. is_blank b ≡ true);
+  goes = All-nil _;
 }
 row_runs gap (w ∷ x ∷ xs) g h = record {
   gap = gap;
@@ -90,13 +84,12 @@ row_runs gap (w ∷ x ∷ xs) g h = record {
   blanks = g;
   word = word_is w h.0;
   breaks = refl;
-  goes =
-      row_runs (32 ∷ []) (x ∷ xs) (All-cons (λ b. is_blank b ≡ true) 32 [] refl (All-nil (λ b. is_blank b ≡ true))) h.1;
+  goes = row_runs (32 ∷ []) (x ∷ xs) (All-cons (λ b. is_blank b ≡ true) 32 [] refl (All-nil _)) h.1;
 }
 
 -- the words of a row's line are the row
 words_are : (r : Row) → AllWords r → words (line_of r) ≡ r
-words_are r h = sym (runs_only (line_of r) r (row_runs [] r (All-nil (λ b. is_blank b ≡ true)) h))
+words_are r h = sym (runs_only (line_of r) r (row_runs [] r (All-nil _) h))
 
 -- the words of a row's line say what the row's words say
 pub said_are : (r : Row) → AllWords r → said_words (line_of r) ≡ map said r
@@ -108,28 +101,23 @@ first_part : (l rest : List ℕ) → NoFeed l
 first_part [] rest h = refl
 first_part (b ∷ bs) rest h = rw (h.0, first_part bs rest h.1) refl
 
--- the first LF ends the first line
-first_line : (l rest : List ℕ) → NoFeed l → lines ((l ++ 10 ∷ []) ++ rest) ≡ l ∷ lines rest
-first_line l rest h = rw append_assoc (rw (first_part l rest h) refl)
-
 -- the lines of a printed text are the lines of its rows
 pub lines_are : (rs : List Row) → AllByRecursion AllWords rs → lines (text_of rs) ≡ map line_of rs
 lines_are [] h = refl
 lines_are (r ∷ rs) h =
-    first_line (line_of r) (text_of rs) (line_feed r h.0) ∙ ap (λ ls. line_of r ∷ ls) (lines_are rs h.1)
+    rw append_assoc (rw (first_part (line_of r) (text_of rs) (line_feed r h.0)) (ap (λ ls. line_of r ∷ ls) (lines_are rs h.1)))
 
 -- the words of the rows' lines are the rows
 all_words_are : (rs : List Row) → AllByRecursion AllWords rs → map words (map line_of rs) ≡ rs
 all_words_are [] h = refl
-all_words_are (r ∷ rs) h =
-    ap (λ x. x ∷ map words (map line_of rs)) (words_are r h.0) ∙ ap (λ xs. r ∷ xs) (all_words_are rs h.1)
+all_words_are (r ∷ rs) h = rw (words_are r h.0, all_words_are rs h.1)
 
 -- rows with the same text are equal
 pub rows_one : (rs ss : List Row) → AllByRecursion AllWords rs → AllByRecursion AllWords ss → text_of rs ≡ text_of ss
     → rs ≡ ss
 rows_one rs ss h k e =
-    let same_lines : map line_of rs ≡ map line_of ss = sym (lines_are rs h) ∙ ap lines e ∙ lines_are ss k in
-    sym (all_words_are rs h) ∙ ap (map words) same_lines ∙ all_words_are ss k
+    let same : map line_of rs ≡ map line_of ss = sym (lines_are rs h) ∙ ap lines e ∙ lines_are ss k in
+    sym (all_words_are rs h) ∙ ap (map words) same ∙ all_words_are ss k
 
 -- a digit is above the space
 glyph_ink : (d : ℕ) → nat_lt 32 (digit_glyph false d) ≡ true
@@ -140,19 +128,19 @@ more_digits : (k n c : ℕ) (acc : List ℕ) → IsInk (c ∷ acc) → IsInk (di
 more_digits zero n c acc h = h
 more_digits (suc k) n c acc h =
     let g = digit_glyph false (n % 10) in
-    elim (nat_eq (n / 10) 0) as (λ t. IsInk (cond t (g ∷ c ∷ acc) (digits_onto k 10 false (n / 10) (g ∷ c ∷ acc)))) [
-      | true ↦ (glyph_ink (n % 10), h)
-      | false ↦ more_digits k (n / 10) g (c ∷ acc) (glyph_ink (n % 10), h)
+    elim (cases_Bool (nat_eq (n / 10) 0)) [
+      | inl e ↦ rw e (glyph_ink (n % 10), h)
+      | inr e ↦ rw e (more_digits k (n / 10) g (c ∷ acc) (glyph_ink (n % 10), h))
     ]
 
 -- the digits of a number are a word
 some_digits : (k n : ℕ) → IsInk (digits_onto (suc k) 10 false n [])
-some_digits k n = by_test (nat_eq (n / 10) 0) (digit_glyph false (n % 10)) (glyph_ink (n % 10))
-  where
-    by_test : (t : Bool) (g : ℕ) → nat_lt 32 g ≡ true
-        → IsInk (cond t (g ∷ []) (digits_onto k 10 false (n / 10) (g ∷ [])))
-    by_test true g e = (e, tt)
-    by_test false g e = more_digits k (n / 10) g [] (e, tt)
+some_digits k n =
+    let g = digit_glyph false (n % 10) in
+    elim (cases_Bool (nat_eq (n / 10) 0)) [
+      | inl e ↦ rw e (glyph_ink (n % 10), tt)
+      | inr e ↦ rw e (more_digits k (n / 10) g [] (glyph_ink (n % 10), tt))
+    ]
 
 -- a decimal is a word
 decimal_word : (n : ℕ) → IsInk (decimal n)
@@ -162,7 +150,7 @@ decimal_word n = some_digits 63 n
 -- the shortest text of a number is a word
 pub number_word : (n : ℤ) → IsInk (signed_decimal n)
 number_word (pos n) = decimal_word n
-number_word (negsuc n) = (refl, ink_of (decimal (suc n)) (decimal_word (suc n)))
+number_word (negsuc n) = (refl, ink_of _ (decimal_word (suc n)))
 
 -- the shortest texts of numbers are words
 pub number_words : (ns : List ℤ) → AllWords (map signed_decimal ns)

@@ -8,7 +8,7 @@ use Rattle.dn_instance.specs.State.SourceResults.{SourceOutcome}
 use Rattle.dn_instance.specs.Validity.{IsValid}
 use Rattle.dn_instance.specs.declared.held.Held.{Held}
 use Rattle.dn_instance.specs.declared.refusal.Refusal.{Refusal}
-use Rattle.dn_instance.specs.declared.refusal.Refusal.TheVariants.{Text, Memory, Read, Endless, Write, CountTooLarge}
+use Rattle.dn_instance.specs.declared.refusal.Refusal.TheVariants.{Write, CountTooLarge}
 use Rattle.dn_instance.proofs.ValidLaws.{reads_valid}
 use Rattle.dn_canon.specs.State.Runs.{RunOutcome}
 use Rattle.dn_canon.specs.State.Writes.{WritesCanon}
@@ -26,22 +26,16 @@ run_written sink old new form (Some t) left held result o w =
   where
     by_result : (r : Result (Unit {0}) Refusal) → WritesCanon sink old new form o.0.0 r
         → RunOutcome sink old new form t left r
-    by_result (Ok x) h = (o.0.0, o.0.1, o.1, h)
     by_result (Err Write) h = (o.0.0, o.0.1, o.1, h)
     by_result (Err CountTooLarge) h = (o.0.0, o.0.1, o.1, h)
     by_result (Err _) h = absurd h.2
+    by_result (Ok x) h = (o.0.0, o.0.1, o.1, h)
 
 -- a refusal of reading is the outcome of the run
 pub run_refused : {S : Type 0} (sink : SinkFacts S) (old new : S) (form : Form) (given : Option (List ℕ))
     (left : AfterPulls) (e : Refusal) → IfSome given (λ t. SourceOutcome t left (Err e))
     → IfSome given (λ t. RunOutcome sink old new form t left (Err e))
 run_refused sink old new form None left e o = tt
-run_refused sink old new form (Some t) left e o = by_refusal e o
-  where
-    by_refusal : (x : Refusal) → SourceOutcome t left (Err x) → RunOutcome sink old new form t left (Err x)
-    by_refusal (Text place code) h = h
-    by_refusal Memory h = h
-    by_refusal Read h = h
-    by_refusal Endless h = h
-    by_refusal Write h = absurd h
-    by_refusal CountTooLarge h = absurd h
+run_refused sink old new form (Some t) left Write o = absurd o
+run_refused sink old new form (Some t) left CountTooLarge o = absurd o
+run_refused sink old new form (Some t) left _ o = o

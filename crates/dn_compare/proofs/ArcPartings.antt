@@ -13,25 +13,22 @@ pub exact_pair : CmpEqualImpliesEq pair_cmp
 exact_pair = exact_pairs int_cmp int_cmp exact_signed exact_signed
 
 -- where the listed arcs of two tables first differ, the arcs that they represent do
-pub of_arcs : {B Arc : Type 0} (kind : ArcKind Arc) (laws : IsKind kind) (lists : B → List Arc)
+pub of_arcs : {B Arc : Type 0} {kind : ArcKind Arc} (laws : IsKind kind) (lists : B → List Arc)
     (left right : List ((ℤ × ℤ) × B)) (xs ys : List ((ℤ × ℤ) × Arc)) (o : Option ((ℤ × ℤ) × How))
     → TableLists kind lists left xs → TableLists kind lists right ys
     → IsParting pair_cmp (by_meaning kind lists) left right o → IsArcsParting kind xs ys o
-of_arcs {B} {Arc} kind laws lists left right xs ys o f g h = by_answer o h
+of_arcs {kind = kind} laws lists left right xs ys o f g h = by_answer o h
   where
     same : (q : ℤ × ℤ) → kind.Same (listed_at lists left q) (listed_at lists right q)
         → kind.Same (bundle q xs) (bundle q ys)
     same q s =
-        laws.meaning.same_trans (bundle q xs) (listed_at lists left q) (bundle q ys)
-        (laws.meaning.same_sym (listed_at lists left q) (bundle q xs) (f.stands q).same)
-        (laws.meaning.same_trans (listed_at lists left q) (listed_at lists right q) (bundle q ys) s (g.stands q).same)
+        laws.meaning.same_trans _ _ _ (laws.meaning.same_sym _ _ (f.stands q).same)
+        (laws.meaning.same_trans _ _ _ s (g.stands q).same)
 
     by_answer : (o : Option ((ℤ × ℤ) × How)) → IsParting pair_cmp (by_meaning kind lists) left right o
         → IsArcsParting kind xs ys o
     by_answer None h = λ q. same q (h q)
     by_answer (Some x) h = record {
-      differ =
-          laws.same_differ (listed_at lists left x.0) (bundle x.0 xs) (listed_at lists right x.0) (bundle x.0 ys) x.1
-          (f.stands x.0).same (g.stands x.0).same h.differ;
+      differ = laws.same_differ _ _ _ _ x.1 (f.stands x.0).same (g.stands x.0).same h.differ;
       same_before = λ q l. same q (h.same_before q l);
     }

@@ -2,7 +2,7 @@
 use Rattle.std.proofs.Common.{◌≡◌, ◌≢◌, ℕ, ℤ, pos, refl, sym, ◌∙◌}
 use Rattle.std.specs.Ordering.{int_cmp, ordering_then}
 use Rattle.std.specs.declared.cmp.Ordering.{Ordering}
-use Rattle.std.specs.declared.cmp.Ordering.TheVariants.{Less, Equal, Greater}
+use Rattle.std.specs.declared.cmp.Ordering.TheVariants.{Less, Equal}
 use Rattle.dn_arc.specs.declared.difference.How.{How}
 use Rattle.dn_instance.specs.Instances.{Instance, kind_of, nodes_of}
 use Rattle.dn_arc.specs.Pairs.{pair_cmp}
@@ -12,13 +12,12 @@ use Rattle.dn_instance.specs.declared.verdict.Verdict.{Verdict}
 use Rattle.dn_instance.specs.declared.verdict.Verdict.TheVariants as Verdicts
 use Rattle.dn_compare.proofs.TruthLaws.{seen, no_bundles, no_items}
 
-equal : {A : Type 0} {x y l r : A} → x ≡ y → Differ x y l r → ⊥
-equal e d = d.2 (sym d.0 ∙ e ∙ d.1)
+equal : {A : Type 0} {x y l r : A} → Differ x y l r → x ≡ y → ⊥
+equal d e = d.2 (sym d.0 ∙ e ∙ d.1)
 
 first_of_two : (o : Ordering) → ordering_then o Equal ≡ Less → o ≡ Less
 first_of_two Less e = refl
-first_of_two Equal e = cc
-first_of_two Greater e = cc
+first_of_two _ e = cc
 
 module _ (I J : Instance) where
   abbrev IsFirst : Verdict → Type 0
@@ -37,8 +36,7 @@ module _ (I J : Instance) where
       where
         earlier : IsFirst (Verdicts.Nodes (nodes_of I) (nodes_of J))
         earlier Verdicts.Same lt t = n (seen I J t).nodes
-        earlier (Verdicts.Kind l r) lt t = equal kind t
-        earlier _ lt t = cc
+        earlier w lt t = first_of (cc, search equal)
 
     module _ (nodes : nodes_of I ≡ nodes_of J) where
       pub supply_first : (id l r : ℤ) → IsTrueOf I J (Verdicts.Supply id l r)
@@ -46,34 +44,25 @@ module _ (I J : Instance) where
       supply_first id l r d before = record { true_of = d; none_earlier = earlier }
         where
           earlier : IsFirst (Verdicts.Supply id l r)
-          earlier Verdicts.Same lt t = equal ((seen I J t).flow id) d
-          earlier (Verdicts.Kind a b) lt t = equal kind t
-          earlier (Verdicts.Nodes a b) lt t = equal nodes t
-          earlier (Verdicts.Supply q a b) lt t = equal (before q (first_of_two (int_cmp q id) lt)) t
-          earlier _ lt t = cc
+          earlier Verdicts.Same lt t = equal d ((seen I J t).flow id)
+          earlier (Verdicts.Supply q a b) lt t = equal t (before q (first_of_two (int_cmp q id) lt))
+          earlier w lt t = first_of (cc, search equal)
 
       module _ (flow : (id : ℤ) → flow_of I id ≡ flow_of J id) where
         pub source_first : (l r : ℤ) → IsTrueOf I J (Verdicts.Source l r) → IsFirstDifference I J (Verdicts.Source l r)
         source_first l r d = record { true_of = d; none_earlier = earlier }
           where
             earlier : IsFirst (Verdicts.Source l r)
-            earlier Verdicts.Same lt t = equal (seen I J t).source d
-            earlier (Verdicts.Kind a b) lt t = equal kind t
-            earlier (Verdicts.Nodes a b) lt t = equal nodes t
-            earlier (Verdicts.Supply q a b) lt t = equal (flow q) t
-            earlier _ lt t = cc
+            earlier Verdicts.Same lt t = equal d (seen I J t).source
+            earlier w lt t = first_of (cc, search equal)
 
         module _ (source : source_of I ≡ source_of J) where
           pub sink_first : (l r : ℤ) → IsTrueOf I J (Verdicts.Sink l r) → IsFirstDifference I J (Verdicts.Sink l r)
           sink_first l r d = record { true_of = d; none_earlier = earlier }
             where
               earlier : IsFirst (Verdicts.Sink l r)
-              earlier Verdicts.Same lt t = equal (seen I J t).sink d
-              earlier (Verdicts.Kind a b) lt t = equal kind t
-              earlier (Verdicts.Nodes a b) lt t = equal nodes t
-              earlier (Verdicts.Supply q a b) lt t = equal (flow q) t
-              earlier (Verdicts.Source a b) lt t = equal source t
-              earlier _ lt t = cc
+              earlier Verdicts.Same lt t = equal d (seen I J t).sink
+              earlier w lt t = first_of (cc, search equal)
 
           module _ (sink : sink_of I ≡ sink_of J) where
             pub pair_first : (src dst : ℤ) (how : How) → BundlesDiffer I J (src, dst) how
@@ -83,13 +72,8 @@ module _ (I J : Instance) where
               where
                 earlier : IsFirst (Verdicts.Pair src dst how)
                 earlier Verdicts.Same lt t = no_bundles I J (src, dst) how t d
-                earlier (Verdicts.Kind a b) lt t = equal kind t
-                earlier (Verdicts.Nodes a b) lt t = equal nodes t
-                earlier (Verdicts.Supply q a b) lt t = equal (flow q) t
-                earlier (Verdicts.Source a b) lt t = equal source t
-                earlier (Verdicts.Sink a b) lt t = equal sink t
                 earlier (Verdicts.Pair u v other) lt t = before (u, v) other lt t
-                earlier _ lt t = cc
+                earlier w lt t = first_of (cc, search equal)
 
             module _ (bundles : (p : ℤ × ℤ) (how : How) → BundlesDiffer I J p how → ⊥) where
               pub length_first : (l r : ℕ) → IsTrueOf I J (Verdicts.Length l r)
@@ -97,14 +81,8 @@ module _ (I J : Instance) where
               length_first l r d = record { true_of = d; none_earlier = earlier }
                 where
                   earlier : IsFirst (Verdicts.Length l r)
-                  earlier Verdicts.Same lt t = equal (seen I J t).count d
-                  earlier (Verdicts.Kind a b) lt t = equal kind t
-                  earlier (Verdicts.Nodes a b) lt t = equal nodes t
-                  earlier (Verdicts.Supply q a b) lt t = equal (flow q) t
-                  earlier (Verdicts.Source a b) lt t = equal source t
-                  earlier (Verdicts.Sink a b) lt t = equal sink t
-                  earlier (Verdicts.Pair u v other) lt t = bundles (u, v) other t
-                  earlier _ lt t = cc
+                  earlier Verdicts.Same lt t = equal d (seen I J t).count
+                  earlier w lt t = first_of (cc, search equal)
 
               module _ (count : count_of I ≡ count_of J) where
                 pub item_first : (i : ℕ) → ItemsDiffer I J i
@@ -114,15 +92,8 @@ module _ (I J : Instance) where
                   where
                     earlier : IsFirst (Verdicts.Item i)
                     earlier Verdicts.Same lt t = no_items I J i t d
-                    earlier (Verdicts.Kind a b) lt t = equal kind t
-                    earlier (Verdicts.Nodes a b) lt t = equal nodes t
-                    earlier (Verdicts.Supply q a b) lt t = equal (flow q) t
-                    earlier (Verdicts.Source a b) lt t = equal source t
-                    earlier (Verdicts.Sink a b) lt t = equal sink t
-                    earlier (Verdicts.Pair u v other) lt t = bundles (u, v) other t
-                    earlier (Verdicts.Length a b) lt t = equal count t
                     earlier (Verdicts.Item j) lt t = before j (first_of_two (int_cmp (pos j) (pos i)) lt) t
-                    earlier _ lt t = cc
+                    earlier w lt t = first_of (cc, search equal)
 
                 pub point_first : (id : ℤ) → IsTrueOf I J (Verdicts.Point id)
                     → ((q : ℤ) → int_cmp q id ≡ Less → point_of I q ≡ point_of J q) → ((j : ℕ) → ItemsDiffer I J j → ⊥)
@@ -131,12 +102,5 @@ module _ (I J : Instance) where
                   where
                     earlier : IsFirst (Verdicts.Point id)
                     earlier Verdicts.Same lt t = d ((seen I J t).point id)
-                    earlier (Verdicts.Kind a b) lt t = equal kind t
-                    earlier (Verdicts.Nodes a b) lt t = equal nodes t
-                    earlier (Verdicts.Supply q a b) lt t = equal (flow q) t
-                    earlier (Verdicts.Source a b) lt t = equal source t
-                    earlier (Verdicts.Sink a b) lt t = equal sink t
-                    earlier (Verdicts.Pair u v other) lt t = bundles (u, v) other t
-                    earlier (Verdicts.Length a b) lt t = equal count t
-                    earlier (Verdicts.Item j) lt t = items j t
                     earlier (Verdicts.Point q) lt t = t (before q (first_of_two (int_cmp q id) lt))
+                    earlier w lt t = first_of (cc, search equal)

@@ -1,11 +1,11 @@
 -- Lemmas on the verdict on two parsed instances.
-use Rattle.std.proofs.Common.{◌≡◌, ◌≢◌, ℕ, suc, zero, ◌<◌, ℤ, pos, List, [], ◌∷◌, Bool, true, false, cond, Option, Some, None, refl, sym, ap, ◌∙◌, subst, arith}
+use Rattle.std.proofs.lemmas.Bool.{cases_Bool}
+use Rattle.std.proofs.Common.{inl, inr, ◌≡◌, ◌≢◌, ℕ, suc, zero, ℤ, pos, List, [], ◌∷◌, Option, Some, None, refl, sym, ap, ◌∙◌, arith, length}
 use Rattle.std.specs.BTreeMap.{is_at}
 use Rattle.std.specs.List.{AllByRecursion}
 use Rattle.std.specs.List.Sorted.{IsStrictlySortedBy}
 use Rattle.std.specs.Map.{keys_of}
 use Rattle.std.specs.Ordering.{int_cmp}
-use Rattle.std.specs.declared.cmp.Ordering.TheVariants.{Less}
 use Rattle.std.proofs.lemmas.Cmp.{int_cmp_total}
 use Rattle.std.proofs.lemmas.Int.{ints}
 use Rattle.std.proofs.lemmas.Map.Lookups.{exact_signed}
@@ -25,15 +25,15 @@ use Rattle.dn_arc.specs.declared.difference.How.{How}
 use Rattle.dn_arc.proofs.CostKindLaws.{cost_kind}
 use Rattle.dn_arc.proofs.TotalKindLaws.{total_kind}
 use Rattle.dn_arc.proofs.LengthKindLaws.{length_kind}
-use Rattle.dn_instance.specs.State.Helds.{Contents, Parsed, OfMin, OfMax, OfSp, OfSs, OfP2p, OfCo, Shows, IsHeld, contents_kind}
+use Rattle.dn_instance.specs.State.Helds.{Contents, Parsed, OfMin, OfMax, OfSp, OfSs, OfP2p, OfCo, IsHeld, contents_kind}
 use Rattle.dn_instance.specs.Instances.{Graph, Instance, MinCostFlow, MaxFlow, ShortestPaths, Sources, Queries, Coordinates, kind_of, nodes_of}
 use Rattle.dn_arc.specs.Pairs.{bundle}
 use Rattle.dn_instance.specs.Sameness.{IsSame}
 use Rattle.dn_instance.proofs.HeldLaws.{held_kind}
 use Rattle.dn_table.specs.State.Tables.{TableLists}
 use Rattle.dn_instance.specs.Validity.{IsSupply, IsValid}
-use Rattle.dn_compare.specs.Observed.{value_of, flow_or_zero, flow_of, source_of, sink_of, item_at}
-use Rattle.dn_compare.specs.FirstDifference.{BundlesDiffer, IsFirstDifference}
+use Rattle.dn_compare.specs.Observed.{value_of, flow_or_zero, flow_of, source_of, sink_of, item_at, count_of}
+use Rattle.dn_compare.specs.FirstDifference.{BundlesDiffer, IsFirstDifference, ItemsDiffer}
 use Rattle.dn_compare.specs.State.Partings.{by_flow, by_point, AlikeAt, PartAt, IsPairVerdict, IsListVerdict, IsVerdictOn}
 use Rattle.dn_instance.specs.declared.verdict.Verdict.{Verdict}
 use Rattle.dn_instance.specs.declared.verdict.Verdict.TheVariants as Verdicts
@@ -43,7 +43,7 @@ use Rattle.dn_compare.proofs.VerdictLaws.{same_first}
 
 -- ---- graphs
 
-module _ {Arc : Type 0} (kind : ArcKind Arc) (laws : IsKind kind) (xs ys : List ((ℤ × ℤ) × Arc)) where
+module _ {Arc : Type 0} {kind : ArcKind Arc} (laws : IsKind kind) (xs ys : List ((ℤ × ℤ) × Arc)) where
   pairs_first : (I J : Instance)
       → ((p : ℤ × ℤ) (how : How) → kind.Differ (bundle p xs) (bundle p ys) how → BundlesDiffer I J p how)
       → ((p : ℤ × ℤ) (how : How) → BundlesDiffer I J p how → kind.Differ (bundle p xs) (bundle p ys) how)
@@ -54,34 +54,31 @@ module _ {Arc : Type 0} (kind : ArcKind Arc) (laws : IsKind kind) (xs ys : List 
   pairs_first I J there back same k n f s t Verdicts.Same h = same_first I J (same h)
   pairs_first I J there back same k n f s t (Verdicts.Pair src dst how) h =
       pair_first I J k n f s t src dst how (there (src, dst) how h.differ)
-      (λ q other lt d. laws.none_differ (bundle q xs) (bundle q ys) other (back q other d) (h.same_before q lt))
+      (λ q other lt d. laws.none_differ _ _ other (back q other d) (h.same_before q lt))
   pairs_first I J there back same k n f s t _ h = absurd h
 
 pub min_pairs : (s t : List (ℤ × ℤ)) (G H : Graph CostArc) (v : Verdict) → s ≡ t → G.nodes ≡ H.nodes
     → IsPairVerdict costs G.arcs H.arcs v → IsFirstDifference (MinCostFlow s G) (MinCostFlow t H) v
 min_pairs s t G H v e n h =
-    pairs_first costs cost_kind G.arcs H.arcs (MinCostFlow s G) (MinCostFlow t H) (λ p how d. d) (λ p how d. d)
-    (λ same. (e, record { nodes = n; bundles = same }))
-    refl n (λ id. ap (λ m. Some (flow_or_zero (value_of m id))) e) refl refl v h
+    pairs_first cost_kind G.arcs H.arcs (MinCostFlow s G) (MinCostFlow t H) (λ p how d. d) (λ p how d. d)
+    (λ same. (e, record { nodes = n; bundles = same })) refl n (λ id. rw e) refl refl v h
 
 pub max_pairs : (a b c d : ℤ) (G H : Graph CapArc) (v : Verdict) → a ≡ c → b ≡ d → G.nodes ≡ H.nodes
     → IsPairVerdict capacities G.arcs H.arcs v → IsFirstDifference (MaxFlow a b G) (MaxFlow c d H) v
 max_pairs a b c d G H v e f n h =
-    pairs_first capacities total_kind G.arcs H.arcs (MaxFlow a b G) (MaxFlow c d H) (λ p how x. x) (λ p how x. x)
-    (λ same. (e, f, record { nodes = n; bundles = same }))
-    refl n (λ id. refl) (ap Some e) (ap Some f) v h
+    pairs_first total_kind G.arcs H.arcs (MaxFlow a b G) (MaxFlow c d H) (λ p how x. x) (λ p how x. x)
+    (λ same. (e, f, record { nodes = n; bundles = same })) refl n (λ id. refl) (rw e) (rw f) v h
 
 pub sp_pairs : (G H : Graph LengthArc) (v : Verdict) → G.nodes ≡ H.nodes → IsPairVerdict lengths G.arcs H.arcs v
     → IsFirstDifference (ShortestPaths G) (ShortestPaths H) v
 sp_pairs G H v n h =
-    pairs_first lengths length_kind G.arcs H.arcs (ShortestPaths G) (ShortestPaths H) (λ p how d. d) (λ p how d. d)
-    (λ same. record { nodes = n; bundles = same })
-    refl n (λ id. refl) refl refl v h
+    pairs_first length_kind G.arcs H.arcs (ShortestPaths G) (ShortestPaths H) (λ p how d. d) (λ p how d. d)
+    (λ same. record { nodes = n; bundles = same }) refl n (λ id. refl) refl refl v h
 
 -- ---- supplies
 
 pub inner : {A : Type 0} (l r : A) → l ≢ r → Some l ≢ Some r
-inner l r n e = (let same : l ≡ r = cc in n same)
+inner l r n e = n (cc)
 
 pub supply_at : (s t : List (ℤ × ℤ)) (G H : Graph CostArc) (id l r : ℤ) → G.nodes ≡ H.nodes
     → PartAt int_cmp by_flow s t id (l, r)
@@ -93,11 +90,10 @@ supply_at s t G H id l r n d =
 -- a flow in valid supplies is not 0
 some_flow : (nodes id b : ℤ) (s : List (ℤ × ℤ)) → AllByRecursion (IsSupply nodes) s → value_of s id ≡ Some b → b ≢ pos 0
 some_flow nodes id b [] a e = cc
-some_flow nodes id b (x ∷ s) a e = by_test (is_at (int_cmp id) x.0) e (some_flow nodes id b s a.1)
-  where
-    by_test : (t : Bool) → cond t (Some x.1) (value_of s id) ≡ Some b → (value_of s id ≡ Some b → b ≢ pos 0) → b ≢ pos 0
-    by_test true e i = (let same : x.1 ≡ b = cc in λ z. a.0.some (same ∙ z))
-    by_test false e i = i e
+some_flow nodes id b (x ∷ s) a e = elim (cases_Bool (is_at (int_cmp id) x.0)) [
+  | inl t ↦ (let same : Some x.1 ≡ Some b = rw t at e in λ z. a.0.some (cc))
+  | inr t ↦ some_flow nodes id b s a.1 (rw t at e)
+]
 
 same_flow : (a b : Option ℤ) → ((z : ℤ) → a ≡ Some z → z ≢ pos 0) → ((z : ℤ) → b ≡ Some z → z ≢ pos 0)
     → flow_or_zero a ≡ flow_or_zero b → a ≡ b
@@ -114,122 +110,100 @@ supplies_same m n s t rs rt some_s some_t e =
     same_entries int_cmp int_cmp_total exact_signed s t rs rt
     (λ q. same_flow (value_of s q) (value_of t q) (λ z. some_flow m q z s some_s) (λ z. some_flow n q z t some_t) (e q))
 
-pub supply_on : (ls rs : List (ℤ × ℤ)) (lt rt : List ((ℤ × ℤ) × CurveNumbers)) (id l r : ℤ)
-    → PartAt int_cmp by_flow ls rs id (l, r) → IsVerdictOn (OfMin ls lt) (OfMin rs rt) (Verdicts.Supply id l r)
-supply_on ls rs lt rt id l r d (MinCostFlow s G) (MinCostFlow t H) v w n a b =
-    supply_at s t G H id l r n
-    (subst (λ m. PartAt int_cmp by_flow m t id (l, r)) a.0
-    (subst (λ m. PartAt int_cmp by_flow ls m id (l, r)) b.0 d))
-supply_on ls rs lt rt id l r d (MinCostFlow s G) _ v w n a b = absurd b
-supply_on ls rs lt rt id l r d _ J v w n a b = absurd a
+-- ---- what is found on the contents of two instances
 
--- ---- what the walk over two tables returns
+module _ (ls rs : List (ℤ × ℤ)) (lt rt : List ((ℤ × ℤ) × CurveNumbers)) where
+  pub supply_on : (id l r : ℤ) → PartAt int_cmp by_flow ls rs id (l, r)
+      → IsVerdictOn (OfMin ls lt) (OfMin rs rt) (Verdicts.Supply id l r)
+  supply_on id l r d (MinCostFlow s G) (MinCostFlow t H) v w n a b =
+      supply_at s t G H id l r n (rw (← a.0, ← b.0) d)
+  supply_on id l r d _ _ v w n a b = absurd (search)
 
-module _ (v : Verdict) where
-  pub min_on : (ls rs : List (ℤ × ℤ)) (lt rt : List ((ℤ × ℤ) × CurveNumbers))
-      → ((q : ℤ) → AlikeAt int_cmp by_flow ls rs q)
+  pub min_on : (v : Verdict) → ((q : ℤ) → AlikeAt int_cmp by_flow ls rs q)
       → ((xs ys : List ((ℤ × ℤ) × CostArc))
       → TableLists costs (λ (b : CurveNumbers). listed One b.units b.cost b.steps) lt xs
       → TableLists costs (λ (b : CurveNumbers). listed One b.units b.cost b.steps) rt ys
       → IsPairVerdict costs xs ys v) → IsVerdictOn (OfMin ls lt) (OfMin rs rt) v
-  min_on ls rs lt rt same h (MinCostFlow s G) (MinCostFlow t H) f g n a b =
-      let flows : (q : ℤ)
-      → AlikeAt int_cmp by_flow s t q =
-      subst (λ m. (q : ℤ) → AlikeAt int_cmp by_flow m t q) a.0
-      (subst (λ m. (q : ℤ) → AlikeAt int_cmp by_flow ls m q) b.0 same) in
+  min_on v same h (MinCostFlow s G) (MinCostFlow t H) f g n a b =
+      let flows : (q : ℤ) → AlikeAt int_cmp by_flow s t q = rw (← a.0, ← b.0) same in
       min_pairs s t G H v (supplies_same G.nodes H.nodes s t f.1.map g.1.map f.1.each g.1.each flows) n
       (h G.arcs H.arcs a.1.lists_them b.1.lists_them)
-  min_on ls rs lt rt same h (MinCostFlow s G) _ f g n a b = absurd b
-  min_on ls rs lt rt same h _ J f g n a b = absurd a
+  min_on v same h _ _ f g n a b = absurd (search)
 
-  pub max_on : (a b c d : ℤ) (lt rt : List ((ℤ × ℤ) × Total)) → a ≡ c → b ≡ d
+module _ (a b c d : ℤ) (lt rt : List ((ℤ × ℤ) × Total)) where
+  pub max_on : (v : Verdict) → a ≡ c → b ≡ d
       → ((xs ys : List ((ℤ × ℤ) × CapArc)) → TableLists capacities (λ (b : Total). cap_listed b.total) lt xs
       → TableLists capacities (λ (b : Total). cap_listed b.total) rt ys → IsPairVerdict capacities xs ys v)
       → IsVerdictOn (OfMax a b lt) (OfMax c d rt) v
-  max_on a b c d lt rt e f h (MaxFlow s t G) (MaxFlow u w H) p q n x y =
+  max_on v e f h (MaxFlow s t G) (MaxFlow u w H) p q n x y =
       max_pairs s t u w G H v (sym x.0 ∙ e ∙ y.0) (sym x.1 ∙ f ∙ y.1) n (h G.arcs H.arcs x.2.lists_them y.2.lists_them)
-  max_on a b c d lt rt e f h (MaxFlow s t G) _ p q n x y = absurd y
-  max_on a b c d lt rt e f h _ J p q n x y = absurd x
+  max_on v e f h _ _ p q n x y = absurd (search)
 
-  pub sp_on : (lt rt : List ((ℤ × ℤ) × Least))
-      → ((xs ys : List ((ℤ × ℤ) × LengthArc)) → TableLists lengths (λ (b : Least). length_listed b.length) lt xs
-      → TableLists lengths (λ (b : Least). length_listed b.length) rt ys → IsPairVerdict lengths xs ys v)
-      → IsVerdictOn (OfSp lt) (OfSp rt) v
-  sp_on lt rt h (ShortestPaths G) (ShortestPaths H) p q n x y =
-      sp_pairs G H v n (h G.arcs H.arcs x.lists_them y.lists_them)
-  sp_on lt rt h (ShortestPaths G) _ p q n x y = absurd y
-  sp_on lt rt h _ J p q n x y = absurd x
+  pub source_on : a ≢ c → IsVerdictOn (OfMax a b lt) (OfMax c d rt) (Verdicts.Source a c)
+  source_on m (MaxFlow s t G) (MaxFlow u w H) p q n x y =
+      source_first (MaxFlow s t G) (MaxFlow u w H) refl n (λ id. refl) a c (rw x.0, rw y.0, inner a c m)
+  source_on m _ _ p q n x y = absurd (search)
 
-pub source_on : (a b c d l r : ℤ) (lt rt : List ((ℤ × ℤ) × Total)) → a ≡ l → c ≡ r → l ≢ r
-    → IsVerdictOn (OfMax a b lt) (OfMax c d rt) (Verdicts.Source l r)
-source_on a b c d l r lt rt e f m (MaxFlow s t G) (MaxFlow u w H) p q n x y =
-    source_first (MaxFlow s t G) (MaxFlow u w H) refl n (λ id. refl) l r
-    (ap Some (sym x.0 ∙ e), ap Some (sym y.0 ∙ f), inner l r m)
-source_on a b c d l r lt rt e f m (MaxFlow s t G) _ p q n x y = absurd y
-source_on a b c d l r lt rt e f m _ J p q n x y = absurd x
+  pub sink_on : a ≡ c → b ≢ d → IsVerdictOn (OfMax a b lt) (OfMax c d rt) (Verdicts.Sink b d)
+  sink_on s m (MaxFlow i j G) (MaxFlow u w H) p q n x y =
+      sink_first (MaxFlow i j G) (MaxFlow u w H) refl n (λ id. refl) (ap Some (sym x.0 ∙ s ∙ y.0)) b d
+      (rw x.1, rw y.1, inner b d m)
+  sink_on s m _ _ p q n x y = absurd (search)
 
-pub sink_on : (a b c d l r : ℤ) (lt rt : List ((ℤ × ℤ) × Total)) → a ≡ c → b ≡ l → d ≡ r → l ≢ r
-    → IsVerdictOn (OfMax a b lt) (OfMax c d rt) (Verdicts.Sink l r)
-sink_on a b c d l r lt rt s e f m (MaxFlow i j G) (MaxFlow u w H) p q n x y =
-    sink_first (MaxFlow i j G) (MaxFlow u w H) refl n (λ id. refl) (ap Some (sym x.0 ∙ s ∙ y.0)) l r
-    (ap Some (sym x.1 ∙ e), ap Some (sym y.1 ∙ f), inner l r m)
-sink_on a b c d l r lt rt s e f m (MaxFlow i j G) _ p q n x y = absurd y
-sink_on a b c d l r lt rt s e f m _ J p q n x y = absurd x
+pub sp_on : (lt rt : List ((ℤ × ℤ) × Least)) (v : Verdict)
+    → ((xs ys : List ((ℤ × ℤ) × LengthArc)) → TableLists lengths (λ (b : Least). length_listed b.length) lt xs
+    → TableLists lengths (λ (b : Least). length_listed b.length) rt ys → IsPairVerdict lengths xs ys v)
+    → IsVerdictOn (OfSp lt) (OfSp rt) v
+sp_on lt rt v h (ShortestPaths G) (ShortestPaths H) p q n x y =
+    sp_pairs G H v n (h G.arcs H.arcs x.lists_them y.lists_them)
+sp_on lt rt v h _ _ p q n x y = absurd (search)
 
 -- ---- lists
-
-less_is : (j i : ℕ) → int_cmp (pos j) (pos i) ≡ Less → j < i
-less_is j i e = grind (arith, ints)
 
 -- lists with the same item at every index are equal
 pub same_items : {A : Type 0} (xs ys : List A) → ((j : ℕ) → item_at xs j ≡ item_at ys j) → xs ≡ ys
 same_items [] [] h = refl
-same_items [] (y ∷ ys) h = (let never : None ≡ Some y = h 1 in cc)
-same_items (x ∷ xs) [] h = (let never : Some x ≡ None = h 1 in cc)
-same_items (x ∷ xs) (y ∷ ys) h =
-    let first : Some x ≡ Some y = h 1 in
-    let head : x ≡ y = cc in
-    ap (λ z. z ∷ xs) head ∙ ap (λ zs. y ∷ zs) (same_items xs ys (after h))
+same_items [] (y ∷ ys) h = cc (h 1)
+same_items (x ∷ xs) [] h = cc (h 1)
+same_items (x ∷ xs) (y ∷ ys) h = cc (h 1, same_items xs ys after)
   where
-    after : ((j : ℕ) → item_at (x ∷ xs) j ≡ item_at (y ∷ ys) j) → (j : ℕ) → item_at xs j ≡ item_at ys j
-    after h zero = refl
-    after h (suc j) = h (suc (suc j))
+    after : (j : ℕ) → item_at xs j ≡ item_at ys j
+    after zero = refl
+    after (suc j) = h (suc (suc j))
+
+lists_first : {A : Type 0} (xs ys : List A) (I J : Instance) → (xs ≡ ys → IsSame I J) → kind_of I ≡ kind_of J
+    → nodes_of I ≡ nodes_of J → ((id : ℤ) → flow_of I id ≡ flow_of J id) → source_of I ≡ source_of J
+    → sink_of I ≡ sink_of J → ((p : ℤ × ℤ) (how : How) → BundlesDiffer I J p how → ⊥) → count_of I ≡ Some (length xs)
+    → count_of J ≡ Some (length ys) → ((i : ℕ) → item_at xs i ≢ item_at ys i → ItemsDiffer I J i)
+    → ((i : ℕ) → ItemsDiffer I J i → item_at xs i ≢ item_at ys i) → (v : Verdict) → IsListVerdict xs ys v
+    → IsFirstDifference I J v
+lists_first xs ys I J same k n f s t b c d there back Verdicts.Same h = same_first I J (same h)
+lists_first xs ys I J same k n f s t b c d there back (Verdicts.Length l r) h =
+    length_first I J k n f s t b l r (c ∙ ap Some h.0, d ∙ ap Some h.1, inner l r h.2)
+lists_first xs ys I J same k n f s t b c d there back (Verdicts.Item i) h =
+    item_first I J k n f s t b (c ∙ ap Some h.0 ∙ sym d) i (there i h.1.differ)
+    (λ j lt x. back j x (h.1.same_before j (grind (arith, ints))))
+lists_first xs ys I J same k n f s t b c d there back _ h = absurd h
 
 pub sources_first : (xs ys : List ℤ) (v : Verdict) → IsListVerdict xs ys v
     → IsFirstDifference (Sources xs) (Sources ys) v
-sources_first xs ys Verdicts.Same h = same_first (Sources xs) (Sources ys) h
-sources_first xs ys (Verdicts.Length l r) h =
-    length_first (Sources xs) (Sources ys) refl refl (λ id. refl) refl refl (λ p how d. d) l r
-    (ap Some h.0, ap Some h.1, inner l r h.2)
-sources_first xs ys (Verdicts.Item i) h =
-    item_first (Sources xs) (Sources ys) refl refl (λ id. refl) refl refl (λ p how d. d) (ap Some h.0) i h.1.differ
-    (λ j lt d. d (h.1.same_before j (less_is j i lt)))
-sources_first xs ys _ h = absurd h
+sources_first xs ys =
+    lists_first xs ys (Sources xs) (Sources ys) (λ e. e) refl refl (λ id. refl) refl refl (λ p how d. d) refl refl
+    (λ i d. d) (λ i d. d)
 
 pub queries_first : (xs ys : List (ℤ × ℤ)) (v : Verdict) → IsListVerdict xs ys v
     → IsFirstDifference (Queries xs) (Queries ys) v
-queries_first xs ys Verdicts.Same h = same_first (Queries xs) (Queries ys) h
-queries_first xs ys (Verdicts.Length l r) h =
-    length_first (Queries xs) (Queries ys) refl refl (λ id. refl) refl refl (λ p how d. d) l r
-    (ap Some h.0, ap Some h.1, inner l r h.2)
-queries_first xs ys (Verdicts.Item i) h =
-    item_first (Queries xs) (Queries ys) refl refl (λ id. refl) refl refl (λ p how d. d) (ap Some h.0) i h.1.differ
-    (λ j lt d. d (h.1.same_before j (less_is j i lt)))
-queries_first xs ys _ h = absurd h
+queries_first xs ys =
+    lists_first xs ys (Queries xs) (Queries ys) (λ e. e) refl refl (λ id. refl) refl refl (λ p how d. d) refl refl
+    (λ i d. d) (λ i d. d)
 
 pub ss_on : (xs ys : List ℤ) (v : Verdict) → IsListVerdict xs ys v → IsVerdictOn (OfSs xs) (OfSs ys) v
-ss_on xs ys v h (Sources is) (Sources js) p q n x y =
-    subst (λ l. IsFirstDifference (Sources l) (Sources js) v) x
-    (subst (λ l. IsFirstDifference (Sources xs) (Sources l) v) y (sources_first xs ys v h))
-ss_on xs ys v h (Sources is) _ p q n x y = absurd y
-ss_on xs ys v h _ J p q n x y = absurd x
+ss_on xs ys v h (Sources is) (Sources js) p q n x y = rw (← x, ← y) (sources_first xs ys v h)
+ss_on xs ys v h _ _ p q n x y = absurd (search)
 
 pub p2p_on : (xs ys : List (ℤ × ℤ)) (v : Verdict) → IsListVerdict xs ys v → IsVerdictOn (OfP2p xs) (OfP2p ys) v
-p2p_on xs ys v h (Queries is) (Queries js) p q n x y =
-    subst (λ l. IsFirstDifference (Queries l) (Queries js) v) x
-    (subst (λ l. IsFirstDifference (Queries xs) (Queries l) v) y (queries_first xs ys v h))
-p2p_on xs ys v h (Queries is) _ p q n x y = absurd y
-p2p_on xs ys v h _ J p q n x y = absurd x
+p2p_on xs ys v h (Queries is) (Queries js) p q n x y = rw (← x, ← y) (queries_first xs ys v h)
+p2p_on xs ys v h _ _ p q n x y = absurd (search)
 
 -- ---- points
 
@@ -241,49 +215,35 @@ points_first xs ys id d =
 
 pub point_on : (xs ys : List (ℤ × (ℤ × ℤ))) (id : ℤ) → PartAt int_cmp by_point xs ys id tt
     → IsVerdictOn (OfCo xs) (OfCo ys) (Verdicts.Point id)
-point_on xs ys id d (Coordinates is) (Coordinates js) p q n x y =
-    subst (λ l. IsFirstDifference (Coordinates l) (Coordinates js) (Verdicts.Point id)) x
-    (subst (λ l. IsFirstDifference (Coordinates xs) (Coordinates l) (Verdicts.Point id)) y (points_first xs ys id d))
-point_on xs ys id d (Coordinates is) _ p q n x y = absurd y
-point_on xs ys id d _ J p q n x y = absurd x
+point_on xs ys id d (Coordinates is) (Coordinates js) p q n x y = rw (← x, ← y) (points_first xs ys id d)
+point_on xs ys id d _ _ p q n x y = absurd (search)
 
 pub points_on : (xs ys : List (ℤ × (ℤ × ℤ))) → ((q : ℤ) → AlikeAt int_cmp by_point xs ys q)
     → IsVerdictOn (OfCo xs) (OfCo ys) Verdicts.Same
 points_on xs ys h (Coordinates is) (Coordinates js) p q n x y =
     same_first (Coordinates is) (Coordinates js)
-    (same_entries int_cmp int_cmp_total exact_signed is js p.map q.map
-    (λ i. ap (λ m. value_of m i) (sym x) ∙ h i ∙ ap (λ m. value_of m i) y))
-points_on xs ys h (Coordinates is) _ p q n x y = absurd y
-points_on xs ys h _ J p q n x y = absurd x
+    (same_entries int_cmp int_cmp_total exact_signed is js p.map q.map (rw (← x, ← y) h))
+points_on xs ys h _ _ p q n x y = absurd (search)
 
 -- ---- kinds and nodes
 
--- a verdict on contents is a verdict on equal contents
-pub shown_on : (a b c d : Contents) (v : Verdict) → a ≡ c → b ≡ d → IsVerdictOn a b v → IsVerdictOn c d v
-shown_on a b c d v e f h = subst (λ x. IsVerdictOn x d v) e (subst (λ y. IsVerdictOn a y v) f h)
-
 module _ (a b : Parsed) (I J : Instance) (p : IsHeld a I) (q : IsHeld b J) where
-  pub kinds_on : (l r : Kind) → l ≡ contents_kind a.contents → r ≡ contents_kind b.contents → l ≢ r
+  pub kinds_on : {l r : Kind} → l ≡ contents_kind a.contents → r ≡ contents_kind b.contents → l ≢ r
       → IsFirstDifference I J (Verdicts.Kind l r)
-  kinds_on l r e f n =
-      let left : kind_of I ≡ l = sym (e ∙ held_kind a I p) in
-      let right : kind_of J ≡ r = sym (f ∙ held_kind b J q) in
-      subst (λ k. IsFirstDifference I J (Verdicts.Kind k r)) left
-      (subst (λ k. IsFirstDifference I J (Verdicts.Kind (kind_of I) k)) right
-      (kind_first I J (λ s. n (sym left ∙ s ∙ right))))
+  kinds_on e f n =
+      let left = e ∙ held_kind a I p in
+      let right = f ∙ held_kind b J q in
+      rw (left, right) (kind_first I J (λ s. n (left ∙ s ∙ sym right)))
 
-  pub nodes_on : contents_kind a.contents ≡ contents_kind b.contents → (l r : ℤ) → l ≡ a.nodes → r ≡ b.nodes → l ≢ r
+  pub nodes_on : contents_kind a.contents ≡ contents_kind b.contents → {l r : ℤ} → l ≡ a.nodes → r ≡ b.nodes → l ≢ r
       → IsFirstDifference I J (Verdicts.Nodes l r)
-  nodes_on k l r e f n =
-      let left : nodes_of I ≡ l = sym (e ∙ p.nodes_are) in
-      let right : nodes_of J ≡ r = sym (f ∙ q.nodes_are) in
-      let kinds : kind_of I ≡ kind_of J = sym (held_kind a I p) ∙ k ∙ held_kind b J q in
-      subst (λ k. IsFirstDifference I J (Verdicts.Nodes k r)) left
-      (subst (λ k. IsFirstDifference I J (Verdicts.Nodes (nodes_of I) k)) right
-      (nodes_first I J kinds (λ s. n (sym left ∙ s ∙ right))))
+  nodes_on k e f n =
+      let left = e ∙ p.nodes_are in
+      let right = f ∙ q.nodes_are in
+      rw (left, right)
+      (nodes_first I J (sym (held_kind a I p) ∙ k ∙ held_kind b J q) (λ s. n (left ∙ s ∙ sym right)))
 
-  pub held_on : (c d : Contents) (v : Verdict) → IsVerdictOn c d v → c ≡ a.contents → d ≡ b.contents → a.nodes ≡ b.nodes
-      → IsValid I → IsValid J → IsFirstDifference I J v
-  held_on c d v h e f n x y =
-      h I J x y (sym p.nodes_are ∙ n ∙ q.nodes_are) (subst (λ z. Shows z I) (sym e) p.shows)
-      (subst (λ z. Shows z J) (sym f) q.shows)
+  pub held_on : {c d : Contents} {v : Verdict} → IsVerdictOn c d v → c ≡ a.contents → d ≡ b.contents
+      → a.nodes ≡ b.nodes → IsValid I → IsValid J → IsFirstDifference I J v
+  held_on h e f n x y =
+      h I J x y (sym p.nodes_are ∙ n ∙ q.nodes_are) (rw (← e) at p.shows) (rw (← f) at q.shows)

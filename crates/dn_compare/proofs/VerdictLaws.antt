@@ -1,9 +1,9 @@
 -- Lemmas on the first difference: there is at most one, it depends on the meaning, and it can be exchanged.
-use Rattle.std.proofs.Common.{◌≡◌, inl, inr, refl, sym, ap, ◌∙◌}
+use Rattle.std.proofs.Common.{◌≡◌, inl, inr, refl}
 use Rattle.dn_instance.specs.Instances.{Instance}
 use Rattle.dn_instance.specs.Sameness.{IsSame}
 use Rattle.dn_instance.proofs.SameLaws.{sym_of}
-use Rattle.dn_compare.specs.FirstDifference.{IsFirstDifference, StandsEarlier, place_of, place_cmp}
+use Rattle.dn_compare.specs.FirstDifference.{IsFirstDifference, StandsEarlier, place_of}
 use Rattle.dn_instance.specs.State.Turned.{turned}
 use Rattle.dn_instance.specs.declared.verdict.Verdict.{Verdict}
 use Rattle.dn_instance.specs.declared.verdict.Verdict.TheVariants as Verdicts
@@ -20,15 +20,7 @@ one_first I J v w f g = elim (which_first v w) [
 -- no verdict is earlier than `Same`
 none_before_same : (w : Verdict) → StandsEarlier w Verdicts.Same → ⊥
 none_before_same Verdicts.Same e = cc
-none_before_same (Verdicts.Kind l r) e = cc
-none_before_same (Verdicts.Nodes l r) e = cc
-none_before_same (Verdicts.Supply id l r) e = cc
-none_before_same (Verdicts.Source l r) e = cc
-none_before_same (Verdicts.Sink l r) e = cc
-none_before_same (Verdicts.Pair src dst how) e = cc
-none_before_same (Verdicts.Length l r) e = cc
-none_before_same (Verdicts.Item i) e = cc
-none_before_same (Verdicts.Point id) e = cc
+none_before_same _ e = cc
 
 -- the first difference of instances that are the same problem is `Same`
 pub same_first : (I J : Instance) → IsSame I J → IsFirstDifference I J Verdicts.Same
@@ -44,22 +36,11 @@ first_by_meaning I I' J J' v e f h = record {
 
 place_turned : (v : Verdict) → place_of (turned v) ≡ place_of v
 place_turned Verdicts.Same = refl
-place_turned (Verdicts.Kind l r) = refl
-place_turned (Verdicts.Nodes l r) = refl
-place_turned (Verdicts.Supply id l r) = refl
-place_turned (Verdicts.Source l r) = refl
-place_turned (Verdicts.Sink l r) = refl
-place_turned (Verdicts.Pair src dst how) = refl
-place_turned (Verdicts.Length l r) = refl
-place_turned (Verdicts.Item i) = refl
-place_turned (Verdicts.Point id) = refl
+place_turned _ = refl
 
 -- the first difference in the other order is the exchanged one
 pub first_turned : (I J : Instance) (v : Verdict) → IsFirstDifference I J v → IsFirstDifference J I (turned v)
 first_turned I J v h = record {
   true_of = true_turned I J v h.true_of;
-  none_earlier =
-      λ w lt t. h.none_earlier (turned w)
-      (ap (λ p. place_cmp p (place_of v)) (place_turned w) ∙ ap (place_cmp (place_of w)) (sym (place_turned v)) ∙ lt)
-      (true_turned J I w t);
+  none_earlier = λ w lt t. h.none_earlier (turned w) (rw (place_turned w, ← place_turned v) lt) (true_turned J I w t);
 }

@@ -44,10 +44,10 @@ pub(crate) trait Side: Drop {
     // Keys that compare as equal are equal.
     ghost exact: { (k l : Self.Key) → Self.Key.cmp k l ≡ Equal → k ≡ l };
 
-    // Two missing values count as the same,
+    // Two missing values count as the same.
     ghost none_alike: { by.Alike None None };
 
-    // and do not differ.
+    // Two missing values do not differ.
     ghost none_differ: { (how : Self.How) → by.Differ None None how → ⊥ };
 }
 

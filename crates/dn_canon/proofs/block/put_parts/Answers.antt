@@ -9,8 +9,7 @@ loop-i-preserved g c =
     let fits : FitsSigned w64 c.part-number.result = search rules in
     record {
       text =
-          number_more _ _ _ _ _ _ c.loop-i.invariant.text c.put_spaced-end.ensures.text
-          (part_more (g.P.Parts.numbers c.args.arc.now) c.loop-i.i c.part-number.result _ c.part-number.ensures
-          (to_z-of_z w64 c.part-number.result fits));
+          number_more _ _ _ c.loop-i.invariant.text c.put_spaced-end.ensures.text
+          (part_more _ c.loop-i.i _ _ c.part-number.ensures (to_z-of_z w64 c.part-number.result fits));
       within = omega arith;
     }

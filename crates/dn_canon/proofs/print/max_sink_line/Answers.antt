@@ -3,5 +3,4 @@ use Rattle.dn_canon.proofs.print.max_sink_line.Goals as goal
 
 pub returns-in_err-make_room : goal.returns-in_err-make_room
 returns-in_err-make_room g c =
-    pass_stopped c.make_room.new.self c.from_residual.result c.from_residual.ensures.0
-    (prefix_more _ c.in_err-make_room.ensures.put)
+    pass_stopped _ _ c.from_residual.ensures.0 (prefix_more _ c.in_err-make_room.ensures.put)

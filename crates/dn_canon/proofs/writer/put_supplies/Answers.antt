@@ -6,11 +6,9 @@ use Rattle.dn_canon.proofs.writer.put_supplies.Goals as goal
 
 pub loop-id-preserved : goal.loop-id-preserved
 loop-id-preserved g c =
-    row_more supply_row c.loop-id.block c.loop-id.id-iterator c.next.new.self
-    (c.in-Some.id.now, c.in-Some.flow.now) c.in-Some.ensures.steps refl c.loop-id.invariant c.in_ok-supply_line.ensures
+    row_more supply_row c.loop-id.block c.in-Some.ensures.steps refl c.loop-id.invariant c.in_ok-supply_line.ensures
 
 pub returns-in_err-supply_line : goal.returns-in_err-supply_line
 returns-in_err-supply_line g c =
-    pass_stopped c.supply_line.new.block c.from_residual.result c.from_residual.ensures.0
-    (row_stop supply_row c.loop-id.block c.loop-id.id-iterator c.next.new.self (c.in-Some.id.now, c.in-Some.flow.now)
-    c.in-Some.ensures.steps refl c.loop-id.invariant c.in_err-supply_line.ensures)
+    pass_stopped _ _ c.from_residual.ensures.0
+    (row_stop supply_row c.loop-id.block c.in-Some.ensures.steps refl c.loop-id.invariant c.in_err-supply_line.ensures)

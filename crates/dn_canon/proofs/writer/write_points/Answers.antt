@@ -1,7 +1,5 @@
-use Rattle.std.proofs.Common.{map, refl, ap}
-use Rattle.dn_canon.specs.Prints.{point_row, print}
-use Rattle.dn_sink.specs.Rows.{text_of}
-use Rattle.dn_instance.specs.Instances.{Coordinates}
+use Rattle.std.proofs.Common.{refl}
+use Rattle.dn_canon.specs.Prints.{point_row}
 use Rattle.dn_sink.proofs.PutLaws.{stopped}
 use Rattle.dn_canon.proofs.BlockLaws.{all_done, put_block}
 use Rattle.dn_canon.proofs.PutLaws.{row_more, row_stop}
@@ -9,19 +7,14 @@ use Rattle.dn_canon.proofs.writer.write_points.Goals as goal
 
 pub loop-id-preserved : goal.loop-id-preserved
 loop-id-preserved g c =
-    row_more point_row c.loop-id.block c.loop-id.id-iterator c.next.new.self
-    (c.in-Some.id.now, c.in-Some.place.now) c.in-Some.ensures.steps refl c.loop-id.invariant c.in_ok-point_line.ensures
+    row_more point_row c.loop-id.block c.in-Some.ensures.steps refl c.loop-id.invariant c.in_ok-point_line.ensures
 
 pub returns-in_err-point_line-clause-text : goal.returns-in_err-point_line-clause-text
 returns-in_err-point_line-clause-text g c =
-    stopped c.from_residual.result c.from_residual.ensures.0
-    (row_stop point_row c.loop-id.block c.loop-id.id-iterator c.next.new.self (c.in-Some.id.now, c.in-Some.place.now)
-    c.in-Some.ensures.steps refl c.loop-id.invariant c.in_err-point_line.ensures)
+    stopped _ c.from_residual.ensures.0
+    (row_stop point_row c.loop-id.block c.in-Some.ensures.steps refl c.loop-id.invariant c.in_err-point_line.ensures)
 
 pub returns-clause-text : goal.returns-clause-text
 returns-clause-text g c =
-    put_block g.K.Sink.sink c.args.sink.now c.loop-id.sink c.put_and_flush.new.sink c.bytes.result.now
-    c.loop-id.block (print (Coordinates c.args.points.now.entries)) c.put_and_flush.result c.bytes.ensures
-    (all_done c.loop-id.block (text_of (map point_row c.loop-id.id-iterator))
-    (ap (λ left. text_of (map point_row left)) c.in-None.ensures.steps.0) c.loop-id.invariant)
-    c.put_and_flush.ensures.puts
+    put_block _ _ c.bytes.ensures
+    (all_done c.loop-id.block _ (rw c.in-None.ensures.steps.0) c.loop-id.invariant) c.put_and_flush.ensures.puts

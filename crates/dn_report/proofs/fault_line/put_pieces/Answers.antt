@@ -1,7 +1,6 @@
-use Rattle.std.proofs.Common.{◌≡◌, ℕ, ◌+◌, ◌<◌, List, [], ◌++◌, Bor, refl, ap, drop, get_or, length, map, subst, arith}
+use Rattle.std.proofs.Common.{◌≡◌, ℕ, ◌+◌, ◌<◌, List, [], ◌++◌, Bor, refl, ap, drop, get_or, length, map, arith}
 use Rattle.std.specs.List.{concat}
 use Rattle.std.proofs.lemmas.List.{drop_all, drop_more}
-use Rattle.dn_sink.specs.Puts.{HasPut}
 use Rattle.dn_sink.proofs.PutLaws.{put_from, put_more, put_stop, stopped}
 use Rattle.dn_report.proofs.fault_line.put_pieces.Goals as goal
 
@@ -19,25 +18,18 @@ loop-piece-init g c = put_from refl
 
 pub loop-piece-preserved : goal.loop-piece-preserved
 loop-piece-preserved g c =
-    let next = next_piece c.args.pieces.now c.loop-piece.piece-index c.loop-piece-test.true in
     put_more
-    (subst
-    (λ l. HasPut g.K.Sink.sink c.args.sink.now c.loop-piece.sink l
-    (text c.args.pieces.now)) next c.loop-piece.invariant)
+    (rw (next_piece c.args.pieces.now c.loop-piece.piece-index c.loop-piece-test.true) at c.loop-piece.invariant)
     c.in_ok-put_all.ensures
 
 pub returns-in_err-put_all : goal.returns-in_err-put_all
 returns-in_err-put_all g c =
-    let next = next_piece c.args.pieces.now c.loop-piece.piece-index c.loop-piece-test.true in
-    stopped c.from_residual.result c.from_residual.ensures.0
+    stopped _ c.from_residual.ensures.0
     (put_stop _ _
-    (subst
-    (λ l. HasPut g.K.Sink.sink c.args.sink.now c.loop-piece.sink l
-    (text c.args.pieces.now)) next c.loop-piece.invariant)
+    (rw (next_piece c.args.pieces.now c.loop-piece.piece-index c.loop-piece-test.true) at c.loop-piece.invariant)
     c.in_err-put_all.ensures)
 
 pub returns : goal.returns
 returns g c =
-    subst (λ l. HasPut g.K.Sink.sink c.args.sink.now c.loop-piece.sink (text l) (text c.args.pieces.now))
-    (drop_all c.loop-piece.piece-index c.args.pieces.now
-    (omega (arith, c.loop-piece-test.false))) c.loop-piece.invariant
+    rw (drop_all c.loop-piece.piece-index c.args.pieces.now (omega (arith, c.loop-piece-test.false)))
+    at c.loop-piece.invariant

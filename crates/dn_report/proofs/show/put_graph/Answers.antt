@@ -3,33 +3,29 @@ use Rattle.std.specs.List.{concat}
 use Rattle.dn_arc.specs.declared.arc.Form.TheVariants.{One}
 use Rattle.dn_sink.specs.Rows.{text_of}
 use Rattle.dn_sink.proofs.PutLaws.{put_from, put_more, put_stop, put_last, stopped}
-use Rattle.dn_report.specs.State.ListedRows.{table_rows, listed_rows}
+use Rattle.dn_report.specs.State.ListedRows.{table_rows}
 use Rattle.dn_report.proofs.ShowLaws.{table_text}
 use Rattle.dn_report.proofs.show.put_graph.Goals as goal
 
 pub returns-in_err-put_lines : goal.returns-in_err-put_lines
 returns-in_err-put_lines g c =
-    stopped c.from_residual.result c.from_residual.ensures.0
+    stopped _ c.from_residual.ensures.0
     (put_stop (concat c.args.head.now)
-    (text_of (table_rows g.B.PairLine.words (g.B.Bundle.bundle.listed One) c.args.table.now))
-    (put_from refl) c.in_err-put_lines.ensures)
+    (text_of (table_rows g.B.PairLine.words (g.B.Bundle.bundle.listed One) c.args.table.now)) (put_from refl)
+    c.in_err-put_lines.ensures)
 
 pub returns-in_err-put : goal.returns-in_err-put
 returns-in_err-put g c =
-    let start = ap (λ l. concat c.args.head.now ++ l) (table_text g.B.PairLine.words (g.B.Bundle.bundle.listed One)
-    c.args.table.now c.len.result c.count_line.result c.count_line.ensures c.len.ensures) in
-    stopped c.from_residual-in_err-put.result c.from_residual-in_err-put.ensures.0
-    (put_stop c.count_line.result (text_of (listed_rows g.B.PairLine.words (g.B.Bundle.bundle.listed One)
-    c.args.table.now))
-    (put_more (put_from start) c.in_ok-put_lines.ensures) c.in_err-put.ensures)
+    let start = table_text g.B.PairLine.words (g.B.Bundle.bundle.listed One) c.args.table.now c.count_line.ensures
+    c.len.ensures in
+    stopped _ c.from_residual-in_err-put.ensures.0
+    (put_stop c.count_line.result _
+    (put_more (put_from (ap (λ l. concat c.args.head.now ++ l) start)) c.in_ok-put_lines.ensures) c.in_err-put.ensures)
 
 pub returns : goal.returns
 returns g c =
-    let rows = text_of (listed_rows g.B.PairLine.words (g.B.Bundle.bundle.listed One) c.args.table.now) in
-    let all =
-    concat c.args.head.now ++ text_of
-    (table_rows g.B.PairLine.words (g.B.Bundle.bundle.listed One) c.args.table.now) in
-    let start = ap (λ l. concat c.args.head.now ++ l) (table_text g.B.PairLine.words (g.B.Bundle.bundle.listed One)
-    c.args.table.now c.len.result c.count_line.result c.count_line.ensures c.len.ensures) in
-    put_last g.K.Sink.sink c.args.sink.now c.put.new.sink c.put_pairs.new.sink rows all c.put_pairs.result
-    (put_more (put_more (put_from start) c.in_ok-put_lines.ensures) c.in_ok-put.ensures) c.put_pairs.ensures
+    let start = table_text g.B.PairLine.words (g.B.Bundle.bundle.listed One) c.args.table.now c.count_line.ensures
+    c.len.ensures in
+    put_last g.K.Sink.sink _ _ _ _ _ _
+    (put_more (put_more (put_from (ap (λ l. concat c.args.head.now ++ l) start)) c.in_ok-put_lines.ensures)
+    c.in_ok-put.ensures) c.put_pairs.ensures

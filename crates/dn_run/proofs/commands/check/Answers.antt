@@ -7,9 +7,9 @@ pub returns-in-Ok : goal.returns-in-Ok
 returns-in-Ok g c = record {
   performs = record {
     asks = c.in-Ok.ensures.asks;
-    means = checked _ _ c.in-Ok.held c.copy_named.new.copy.items c.deref.result.now c.deref.ensures.value
-        c.in-Ok.ensures.read c.in-Ok.ensures.copy c.in-Ok.ensures.copied _ c.put_check-put.ensures.found
-        c.put_check-put.ensures.puts;
+    means =
+        checked c.deref.ensures.value c.in-Ok.ensures.read c.in-Ok.ensures.copy c.in-Ok.ensures.copied
+        c.put_check-put.ensures.found c.put_check-put.ensures.puts;
   };
   out_after = c.put_check-put.ensures.out_after;
   answers = c.put_check-put.ensures.answers _ _;
@@ -18,12 +18,7 @@ returns-in-Ok g c = record {
 
 pub returns : goal.returns
 returns g c = record {
-  performs =
-      record {
-        asks = c.in-Err.ensures.asks;
-        means =
-            on_refused _ _ _ _ _ _ c.in-Err.refusal c.in-Err.ensures.read (λ b r. r);
-      };
+  performs = record { asks = c.in-Err.ensures.asks; means = on_refused c.in-Err.ensures.read (λ b r. r) };
   out_after = refl;
   answers = (inl refl, c.in-Err.ensures.refusal);
   flushed = tt;

@@ -14,11 +14,7 @@ returns-in_default c I reads is =
     let one = c.is_canon_of-one.ensures I reads is in
     record {
       one = one;
-      two = (
-        λ y. canon_in One Two c.args.text.now I other (one.0 y),
-        λ h. one.1
-            (canon_in Two One c.args.text.now I other h),
-      );
+      two = (λ y. canon_in One Two _ I other (one.0 y), λ h. one.1 (canon_in Two One _ I other h));
     }
 
 pub returns-in-Min : goal.returns-in-Min

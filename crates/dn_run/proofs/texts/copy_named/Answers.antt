@@ -1,17 +1,13 @@
 use Rattle.std.proofs.Common.{refl, sym, ◌∙◌}
 use Rattle.dn_run.specs.FilesRuns.{read, unopened}
-use Rattle.dn_run.proofs.ReadLaws.{handed_copied, handed_copies, handed_copy, some_is_not_none}
+use Rattle.dn_run.proofs.ReadLaws.{came, handed_copies, handed_copy}
 use Rattle.dn_run.proofs.texts.copy_named.Goals as goal
 
 pub returns-in-Ok-clause-read : goal.returns-in-Ok-clause-read
 returns-in-Ok-clause-read g c =
     handed_copies _ _
-    (record {
-      first = c.in-Ok.text;
-      handed = c.in-Ok.ensures.hands;
-      pulled = c.read_keep-read.ensures.left.pulls;
-      backs = (c.take.new.self, c.give_back.ensures);
-    })
+    (came c.in-Ok.text c.in-Ok.ensures.hands c.read_keep-read.ensures.left.pulls
+    (c.take.new.self, c.give_back.ensures))
     (c.give_back.ensures.faults c.args.name.now ∙ c.in-Ok.ensures.ok) _ _ _ c.read_keep-read.result c.requires
     c.in-Ok.ensures.text c.read_keep-read.ensures.outcome c.read_keep-read.ensures.left.read
     c.read_keep-read.ensures.held
@@ -21,7 +17,7 @@ returns-in-Ok-clause-copy g c fine =
     handed_copy _ _ _ _ _ c.read_keep-read.result c.requires c.in-Ok.ensures.text c.read_keep-read.ensures.outcome
 
 pub returns-in-Ok-clause-copied : goal.returns-in-Ok-clause-copied
-returns-in-Ok-clause-copied g c = handed_copied _ _ c.read_keep-read.result c.requires c.read_keep-read.ensures.held
+returns-in-Ok-clause-copied g c = rw c.requires at c.read_keep-read.ensures.held
 
 pub returns-in-Ok-clause-asks : goal.returns-in-Ok-clause-asks
 returns-in-Ok-clause-asks g c = record {
@@ -29,12 +25,8 @@ returns-in-Ok-clause-asks g c = record {
   asks = c.in-Ok.ensures.asked;
   keeps = λ other h. c.give_back.ensures.behind other ∙ c.in-Ok.ensures.asked.keeps other h;
   back = read _
-      (record {
-        first = c.in-Ok.text;
-        handed = c.in-Ok.ensures.hands;
-        pulled = c.read_keep-read.ensures.left.pulls;
-        backs = (c.take.new.self, c.give_back.ensures);
-      })
+      (came c.in-Ok.text c.in-Ok.ensures.hands c.read_keep-read.ensures.left.pulls
+      (c.take.new.self, c.give_back.ensures))
       c.give_back.ensures;
 }
 
@@ -43,5 +35,5 @@ returns-in-Err-clause-asks g c = record {
   mid = c.take.new.self;
   asks = c.in-Err.ensures.asked;
   keeps = c.in-Err.ensures.asked.keeps;
-  back = unopened (λ e. some_is_not_none _ (sym c.in-Err.ensures.err ∙ e)) refl;
+  back = unopened (λ e. cc (sym c.in-Err.ensures.err ∙ e)) refl;
 }

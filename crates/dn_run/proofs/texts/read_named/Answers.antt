@@ -1,17 +1,13 @@
 use Rattle.std.proofs.Common.{refl, sym, ◌∙◌}
 use Rattle.dn_run.specs.FilesRuns.{read, unopened}
-use Rattle.dn_run.proofs.ReadLaws.{handed_reads, some_is_not_none}
+use Rattle.dn_run.proofs.ReadLaws.{came, handed_reads}
 use Rattle.dn_run.proofs.texts.read_named.Goals as goal
 
 pub returns-in-Ok-clause-read : goal.returns-in-Ok-clause-read
 returns-in-Ok-clause-read g c =
     handed_reads _ _
-    (record {
-      first = c.in-Ok.text;
-      handed = c.in-Ok.ensures.hands;
-      pulled = c.read_from-read.ensures.left.pulls;
-      backs = (c.take.new.self, c.give_back.ensures);
-    })
+    (came c.in-Ok.text c.in-Ok.ensures.hands c.read_from-read.ensures.left.pulls
+    (c.take.new.self, c.give_back.ensures))
     (c.give_back.ensures.faults c.args.name.now ∙ c.in-Ok.ensures.ok) _ c.read_from-read.result c.in-Ok.ensures.text
     c.read_from-read.ensures.outcome c.read_from-read.ensures.left.read c.read_from-read.ensures.held
 
@@ -21,12 +17,8 @@ returns-in-Ok-clause-asks g c = record {
   asks = c.in-Ok.ensures.asked;
   keeps = λ other h. c.give_back.ensures.behind other ∙ c.in-Ok.ensures.asked.keeps other h;
   back = read _
-      (record {
-        first = c.in-Ok.text;
-        handed = c.in-Ok.ensures.hands;
-        pulled = c.read_from-read.ensures.left.pulls;
-        backs = (c.take.new.self, c.give_back.ensures);
-      })
+      (came c.in-Ok.text c.in-Ok.ensures.hands c.read_from-read.ensures.left.pulls
+      (c.take.new.self, c.give_back.ensures))
       c.give_back.ensures;
 }
 
@@ -35,5 +27,5 @@ returns-in-Err-clause-asks g c = record {
   mid = c.take.new.self;
   asks = c.in-Err.ensures.asked;
   keeps = c.in-Err.ensures.asked.keeps;
-  back = unopened (λ e. some_is_not_none _ (sym c.in-Err.ensures.err ∙ e)) refl;
+  back = unopened (λ e. cc (sym c.in-Err.ensures.err ∙ e)) refl;
 }

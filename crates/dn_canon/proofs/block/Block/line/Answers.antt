@@ -1,4 +1,4 @@
-use Rattle.std.proofs.Common.{rules, arith, ◌+◌, ◌≤◌, ◌∷◌, [], ◌++◌, ap, ◌∙◌}
+use Rattle.std.proofs.Common.{rules, arith, ◌+◌, ◌≤◌}
 use Rattle.std.proofs.lemmas.List.{take_more_set}
 use Rattle.dn_canon.proofs.LineLaws.{line_added}
 use Rattle.dn_canon.proofs.block.Block.line.Goals as goal
@@ -7,6 +7,5 @@ pub returns : goal.returns
 returns c =
     let room : c.self.inside.used + 128 ≤ 8192 = search rules in
     let first = take_more_set c.self.inside.bytes c.self.inside.used c.args.letter (omega arith) in
-    line_added c.args.self.now _ _ _ c.args.letter c.args.numbers.now
-    (first ∙ ap (λ l. l ++ c.args.letter ∷ []) c.self.view_is) c.put_numbers-end.ensures.text
-    (take_more_set c.put_numbers-end.new.bytes c.put_numbers-end.result 10 (omega arith))
+    line_added c.args.self.now c.args.letter c.args.numbers.now (rw c.self.view_is at first)
+    c.put_numbers-end.ensures.text (take_more_set c.put_numbers-end.new.bytes c.put_numbers-end.result 10 (omega arith))
