@@ -1,8 +1,8 @@
 -- Flows of a whole list of arcs, put together from one flow for each bundle.
-use Rattle.std.specs.Prelude.{◌≡◌, ℤ, pos, ◌+ℤ◌, ◌≤ℤ◌, List, [], ◌∷◌, Bool, true, cond, refl}
 use Rattle.std.proofs.Common.{inl, inr, sym, ap, arith, ◌∙◌}
 use Rattle.std.proofs.lemmas.Bool.{cases_Bool}
 use Rattle.std.proofs.lemmas.Int.{ints}
+use Rattle.std.specs.Prelude.{◌≡◌, ℤ, pos, ◌+ℤ◌, ◌≤ℤ◌, List, [], ◌∷◌, Bool, true, cond, refl}
 use Rattle.dn_arc.specs.Pairs.{same_pair, bundle}
 use Rattle.dn_arc.proofs.PairLaws.{pair_is, pair_self}
 use Rattle.dn_answers.specs.Flows.{IsWithin, units_on}

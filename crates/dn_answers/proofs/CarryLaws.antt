@@ -1,9 +1,9 @@
 -- Bundles that mean the same carry the same units, at no greater cost.
+use Rattle.std.proofs.Common.{sym, arith, ◌∙◌}
+use Rattle.std.proofs.lemmas.Int.{ints, by_lt_z}
 use Rattle.std.specs.Prelude.{◌≡◌, ◌↔◌, ℤ, pos, ◌-ℤ◌, ◌*ℤ◌, ◌≤ℤ◌, List, [], ◌∷◌, true, refl}
 use Rattle.std.specs.List.{AllByRecursion}
 use Rattle.std.specs.Int.Signed.{≤ℤ_refl}
-use Rattle.std.proofs.Common.{sym, arith, ◌∙◌}
-use Rattle.std.proofs.lemmas.Int.{ints, by_lt_z}
 use Rattle.dn_arc.specs.declared.arc.CapArc.{CapArc}
 use Rattle.dn_arc.specs.declared.arc.CostArc.{CostArc}
 use Rattle.dn_arc.specs.Capacities.{total_cap}

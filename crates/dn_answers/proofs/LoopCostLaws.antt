@@ -1,11 +1,11 @@
 -- Of the self-loops of a `min` graph, only the least cost over all amounts changes costs.
-use Rattle.std.specs.Prelude.{◌≡◌, ◌≢◌, ◌↔◌, ℤ, pos, ◌-ℤ◌, ◌*ℤ◌, ◌≤ℤ◌, List, [], ◌∷◌, Bool, true, false, cond, refl}
-use Rattle.std.specs.Int.Signed.{≤ℤ_refl}
-use Rattle.std.specs.Ordering.{int_eq}
 use Rattle.std.proofs.Common.{inl, inr, ap, arith, ◌&&◌}
 use Rattle.std.proofs.lemmas.Bool.{cases_Bool, and_parts}
 use Rattle.std.proofs.lemmas.Int.{ints, by_lt_z}
 use Rattle.std.proofs.lemmas.Bool.Decides.{Decides-int_eq, not_from_Decides}
+use Rattle.std.specs.Prelude.{◌≡◌, ◌≢◌, ◌↔◌, ℤ, pos, ◌-ℤ◌, ◌*ℤ◌, ◌≤ℤ◌, List, [], ◌∷◌, Bool, true, false, cond, refl}
+use Rattle.std.specs.Int.Signed.{≤ℤ_refl}
+use Rattle.std.specs.Ordering.{int_eq}
 use Rattle.dn_arc.specs.declared.arc.CostArc.{CostArc}
 use Rattle.dn_arc.specs.Meanings.{SameCurve}
 use Rattle.dn_arc.specs.Pairs.{bundle}

@@ -1,12 +1,12 @@
 -- Self-loops do not change the values of flows, and those of no negative length do not change distances.
-use Rattle.std.specs.Prelude.{◌≡◌, ◌↔◌, ℤ, pos, ◌≤ℤ◌, List, [], ◌∷◌, Bool, false, cond, refl}
-use Rattle.std.specs.List.{AllByRecursion}
-use Rattle.std.specs.Int.Signed.{≤ℤ_refl}
-use Rattle.std.specs.Ordering.{int_eq}
 use Rattle.std.proofs.Common.{inl, inr, sym, arith, ◌∙◌}
 use Rattle.std.proofs.lemmas.Bool.{cases_Bool}
 use Rattle.std.proofs.lemmas.Int.{ints}
 use Rattle.std.proofs.lemmas.Bool.Decides.{Decides-int_eq}
+use Rattle.std.specs.Prelude.{◌≡◌, ◌↔◌, ℤ, pos, ◌≤ℤ◌, List, [], ◌∷◌, Bool, false, cond, refl}
+use Rattle.std.specs.List.{AllByRecursion}
+use Rattle.std.specs.Int.Signed.{≤ℤ_refl}
+use Rattle.std.specs.Ordering.{int_eq}
 use Rattle.dn_arc.specs.declared.arc.LengthArc.{LengthArc}
 use Rattle.dn_arc.specs.declared.arc.CapArc.{CapArc}
 use Rattle.dn_arc.specs.Canonical.{IsCapArc}

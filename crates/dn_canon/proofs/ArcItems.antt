@@ -150,7 +150,8 @@ module _ {Arc : Type 0} {kind : ArcKind Arc} {arc_in : Line → Option ((ℤ × 
       let whole = laws.kind_laws.capacity_append (bundle a.0 d ++ a.1 ∷ []) (bundle a.0 s.rest) in
       let some = laws.kind_laws.capacity_some (bundle a.0 s.rest)
       (all_at_pair _ kind.IsArc (λ x p. p.is_arc) a.0 s.rest (all_after _ d (a ∷ s.rest) (rw s.is at v.placed)).1) in
-      test_no (pos (2 ^ 63 - 1)) (kind.capacity (bundle a.0 d ++ a.1 ∷ [])) (omega (arith, ints, rw append_assoc at whole))
+      test_no (pos (2 ^ 63 - 1)) (kind.capacity (bundle a.0 d ++ a.1 ∷ []))
+      (omega (arith, ints, rw append_assoc at whole))
 
   -- the items of the arcs follow the problem line and items that are neither arcs nor counted
   pub arcs_follow : (graph : Graph Arc) (ns : List Line) → IsValidGraph kind graph → arcs_of arc_in ns ≡ []
@@ -165,6 +166,7 @@ module _ {Arc : Type 0} {kind : ArcKind Arc} {arc_in : Line → Option ((ℤ × 
         spells = laws.spells graph.nodes a v.nodes_fit placed;
         order = rw (counted_more ns d none, not_full _ _ (fewer s));
         own =
-            laws.own before a (rw (laws.ids_are a, node_in_range k placed.tail, node_in_range k placed.head)) placed.is_arc
+            laws.own before a (rw (laws.ids_are a, node_in_range k placed.tail, node_in_range k placed.head))
+            placed.is_arc
             (rw (laws.problem_none, no_arc_more ns d no_arc) (sum_within graph v s));
       })

@@ -156,7 +156,8 @@ end_clean I = by_kind I (items_counted I)
     enough : (c n : ℕ) → c ≡ n → int_lt (pos c) (pos n) ≡ false
     enough c n e = grind (arith, ints)
 
-    by_kind : (I : Instance) → counted (head_item I ∷ body_of I) ≡ size_of I → end_fault (head_item I ∷ body_of I) ≡ None
+    by_kind : (I : Instance) → counted (head_item I ∷ body_of I) ≡ size_of I
+        → end_fault (head_item I ∷ body_of I) ≡ None
     by_kind (Sources ids) e = rw (enough _ _ e)
     by_kind (MaxFlow source sink graph) e = rw (enough _ _ e)
     by_kind I e = rw (enough _ _ e)

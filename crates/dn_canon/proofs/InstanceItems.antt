@@ -1,12 +1,11 @@
 -- The lines of an instance, and the items that they spell.
-use Rattle.std.specs.Option.{option_map}
-use Rattle.dn_line.specs.LineTable.{kind_named}
 use Rattle.std.proofs.Common.{◌≡◌, ◌≢◌, inl, inr, ℕ, ℤ, pos, List, [], ◌∷◌, ◌++◌, length, false, map, Some, refl, append-nil}
 use Rattle.std.proofs.lemmas.Bool.{cases_Bool}
 use Rattle.std.proofs.lemmas.Bool.Decides.{Decides-int_eq}
 use Rattle.std.proofs.lemmas.List.Elements.{filter_map-append}
 use Rattle.std.specs.List.{AllByRecursion, filter_map}
 use Rattle.std.specs.Ordering.{int_eq}
+use Rattle.std.specs.Option.{option_map}
 use Rattle.dn_num.proofs.ShortestLaws.{decimal_reads}
 use Rattle.dn_line.specs.Number.{number_read}
 use Rattle.dn_line.specs.Names.{kind_name}
@@ -19,6 +18,7 @@ use Rattle.dn_line.specs.declared.line.Line.TheVariants as Item
 use Rattle.dn_line.specs.declared.word.Keyword.{Keyword}
 use Rattle.dn_line.specs.declared.word.Keyword.TheVariants as Key
 use Rattle.dn_line.specs.Words.{keyword_text, said}
+use Rattle.dn_line.specs.LineTable.{kind_named}
 use Rattle.dn_arc.specs.Kinds.{ArcKind, lengths, capacities, costs}
 use Rattle.dn_instance.specs.Instances.{Graph, Instance, MinCostFlow, MaxFlow, ShortestPaths, Sources, Queries, Coordinates, kind_of, nodes_of}
 use Rattle.dn_instance.specs.Validity.{IsSupply, AreSupplies, IsValid}
@@ -177,7 +177,8 @@ pub body_makes : (I : Instance) → IsValid I → instance_as (kind_of I) (nodes
 body_makes (MinCostFlow supplies graph) v =
     rw (
       supplies_back graph supplies v.1,
-      no_arc_more min_items (map supply_item supplies) graph.arcs (no_items cost_arc_in supply_item (λ s. refl) supplies),
+      no_arc_more min_items (map supply_item supplies) graph.arcs
+          (no_items cost_arc_in supply_item (λ s. refl) supplies),
     )
 body_makes (MaxFlow source sink graph) v = rw (arcs_back max_items graph.arcs)
 body_makes (ShortestPaths graph) v = rw (arcs_back sp_items graph.arcs)

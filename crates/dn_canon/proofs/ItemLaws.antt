@@ -62,7 +62,8 @@ no_fault n before l i short f =
     let known = kind_known before in
     let ws = said_words l in
     let own = item_tests before (item_spelled (words_read known ws)) in
-    let faultless = none_both (head_tests known ws) (field_tests (fields known ws)) (spells_faultless known ws i f.spells) in
+    let faultless =
+    none_both (head_tests known ws) (field_tests (fields known ws)) (spells_faultless known ws i f.spells) in
     not_skipped (is_skip ws) n (line_tests before ws) (spells_unskipped known l i f.spells) short
     (none_append (head_tests known ws) (order_tests before ws ++ (field_tests (fields known ws) ++ own)) faultless.0
     (none_append (order_tests before ws) (field_tests (fields known ws) ++ own) f.order
@@ -131,7 +132,8 @@ parted_clean ls before (x ∷ rs) (i ∷ items) [] l a e w f p short =
     rw (append-nil ls, here, e) (no_fault _ before (line_of x) i (rw append-nil at short) (line_follows x w.0 f.0))
 parted_clean ls before (x ∷ rs) (i ∷ items) (y ∷ b) l a e w f p short =
     let here : y ≡ line_of x = cc in
-    let more : items_of (ls ++ y ∷ []) ≡ before ++ i ∷ [] = rw (items_push ls y, e, here) (adds_item before x i w.0 f.0) in
+    let more : items_of (ls ++ y ∷ []) ≡ before ++ i ∷ [] =
+    rw (items_push ls y, e, here) (adds_item before x i w.0 f.0) in
     rw (← append_assoc ls (y ∷ []) b)
     (parted_clean (ls ++ y ∷ []) (before ++ i ∷ []) rs items b l a more w.1 f.1 (cc) (rw append_assoc short))
 parted_clean ls before (x ∷ rs) [] b l a e w f p short = absurd f

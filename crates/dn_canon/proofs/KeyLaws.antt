@@ -20,7 +20,10 @@ module _ {X : Type 0} where
   -- the keys before an entry are below its key
   below_at : (d : List (ℤ × X)) (e : ℤ × X) (r : List (ℤ × X)) → IsMap (d ++ e ∷ r) → AllBelow e.0 d
   below_at [] e r m = tt
-  below_at (x ∷ d) e r m = (key_at d e r (sorted_head int_cmp x.0 (keys_of (d ++ e ∷ r)) m), below_at d e r (sorted_tail int_cmp x.0 (keys_of (d ++ e ∷ r)) m))
+  below_at (x ∷ d) e r m = (
+    key_at d e r (sorted_head int_cmp x.0 (keys_of (d ++ e ∷ r)) m),
+    below_at d e r (sorted_tail int_cmp x.0 (keys_of (d ++ e ∷ r)) m),
+  )
     where
       key_at : (d : List (ℤ × X)) (e : ℤ × X) (r : List (ℤ × X))
           → AllByRecursion (λ y. int_cmp x.0 y ≡ Less) (keys_of (d ++ e ∷ r)) → int_cmp x.0 e.0 ≡ Less

@@ -1,10 +1,10 @@
 -- Lemmas that arcs sorted by pair are determined by the arcs of each pair.
-use Rattle.std.proofs.lemmas.Bool.{cases_Bool}
 use Rattle.std.proofs.Common.{inl, inr, ◌≡◌, ℤ, List, [], ◌∷◌, Bool, true, false, cond, refl, sym, ap, ◌∙◌, IsTrue}
 use Rattle.std.specs.List.{AllByRecursion}
 use Rattle.std.specs.Ordering.{is_eq, is_le}
 use Rattle.std.specs.declared.cmp.Ordering.{Ordering}
 use Rattle.std.specs.declared.cmp.Ordering.TheVariants.{Less, Equal, Greater}
+use Rattle.std.proofs.lemmas.Bool.{cases_Bool}
 use Rattle.dn_arc.proofs.PairLaws.{pair_is, pair_self, pair_total, reversed}
 use Rattle.dn_arc.specs.Pairs.{bundle, pair_cmp, pair_le, same_pair}
 use Rattle.dn_canon.specs.CanonInstances.{AreInOrder}

@@ -1,10 +1,10 @@
 -- Lemmas on the lines of printed rows and the words of these lines.
-use Rattle.std.proofs.lemmas.Bool.{cases_Bool}
 use Rattle.std.proofs.Common.{inl, inr, ◌≡◌, ℕ, zero, suc, ◌/◌, ◌%◌, ℤ, pos, negsuc, List, [], ◌∷◌, ◌++◌, Bool, true, false, nat_lt, nat_eq, map, refl, sym, ap, ◌∙◌, append_assoc, append-nil, arith}
 use Rattle.std.proofs.lemmas.Bool.Decides.{nat_tests}
 use Rattle.std.proofs.lemmas.List.Elements.{All-nil, All-cons}
 use Rattle.std.specs.List.{All, AllByRecursion, join_with_byte}
 use Rattle.std.specs.Fmt.{digits, digits_onto, digit_glyph, decimal, signed_decimal}
+use Rattle.std.proofs.lemmas.Bool.{cases_Bool}
 use Rattle.dn_line.specs.Pieces.{parts, lines, is_line_feed}
 use Rattle.dn_line.specs.Words.{is_blank, words, said, said_words}
 use Rattle.dn_line.specs.State.Runs.{AllBlank, IsWord, AreRuns}
@@ -105,7 +105,8 @@ first_part (b ∷ bs) rest h = rw (h.0, first_part bs rest h.1) refl
 pub lines_are : (rs : List Row) → AllByRecursion AllWords rs → lines (text_of rs) ≡ map line_of rs
 lines_are [] h = refl
 lines_are (r ∷ rs) h =
-    rw append_assoc (rw (first_part (line_of r) (text_of rs) (line_feed r h.0)) (ap (λ ls. line_of r ∷ ls) (lines_are rs h.1)))
+    rw append_assoc (rw (first_part (line_of r) (text_of rs) (line_feed r h.0))
+    (ap (λ ls. line_of r ∷ ls) (lines_are rs h.1)))
 
 -- the words of the rows' lines are the rows
 all_words_are : (rs : List Row) → AllByRecursion AllWords rs → map words (map line_of rs) ≡ rs

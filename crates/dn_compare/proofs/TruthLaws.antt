@@ -39,7 +39,8 @@ one_at I J (Verdicts.Pair u v how) (Verdicts.Pair u' v' other) d e h =
     let dst : v ≡ v' = ap (λ (p : ℤ × (ℤ × ℤ)). p.1.1) h in
     cc (one_how I J (u, v) how other d (rw (src, dst) e))
 one_at I J (Verdicts.Length l r) (Verdicts.Length l' r') d e h = cc
-one_at I J (Verdicts.Item i) (Verdicts.Item j) d e h = (let index : pos i ≡ pos j = ap (λ (p : ℤ × (ℤ × ℤ)). p.1.0) h in cc)
+one_at I J (Verdicts.Item i) (Verdicts.Item j) d e h =
+    (let index : pos i ≡ pos j = ap (λ (p : ℤ × (ℤ × ℤ)). p.1.0) h in cc)
 one_at I J (Verdicts.Point i) (Verdicts.Point j) d e h = (let id : i ≡ j = ap (λ (p : ℤ × (ℤ × ℤ)). p.1.0) h in cc)
 one_at I J _ _ d e h = (let variant = ap (λ (p : ℤ × (ℤ × ℤ)). p.0) h in cc)
 

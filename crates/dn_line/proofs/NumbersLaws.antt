@@ -1,7 +1,7 @@
 -- Lines whose words are numbers, separated by blanks.
-use Rattle.std.proofs.lemmas.Bool.{and_parts, and_from}
 use Rattle.std.proofs.Common.{to_z, of_z, w64, ◌≡◌, ℕ, ℤ, List, [], ◌∷◌, ◌++◌, true, append-nil, refl, ap, append_assoc, map, Ok}
 use Rattle.std.specs.List.{list_all}
+use Rattle.std.proofs.lemmas.Bool.{and_parts, and_from}
 use Rattle.dn_num.specs.Number.{number_read}
 use Rattle.dn_line.specs.Pieces.{parts, has_bytes}
 use Rattle.dn_line.specs.Words.{is_blank, words}

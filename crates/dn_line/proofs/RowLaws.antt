@@ -68,7 +68,11 @@ row_line letter fields bytes more rest r clear g has fit =
           inner_append (letter ∷ []) (g.blank ∷ bs ++ a.line) (clear_inner (letter ∷ []) run)
           (and_from (is_inner g.blank) (list_all is_inner (bs ++ a.line)) (blank_inner g.blank g.is)
           (inner_append bs a.line (blanks_inner bs g.then.all) a.inner));
-      says = rw (run_words (letter ∷ []) g.blank (bs ++ a.line) run refl g.is, blanks_words bs a.line g.then.all, a.says);
+      says = rw (
+        run_words (letter ∷ []) g.blank (bs ++ a.line) run refl g.is,
+        blanks_words bs a.line g.then.all,
+        a.says,
+      );
       fit = fit;
       others = has.others;
     }
@@ -81,7 +85,8 @@ pub row_front : (letter : ℕ) (fields : List Field) (bytes more rest : List ℕ
 row_front letter fields [] more rest r clear some is g a fit = absurd (omega arith)
 row_front letter fields (b ∷ bytes) more rest r clear some is g a fit =
     rw is
-    (row_line letter fields bytes more rest r clear (rw (take_all (length (b ∷ bytes) - 1) bytes (omega arith)) at g) a fit)
+    (row_line letter fields bytes more rest r clear
+    (rw (take_all (length (b ∷ bytes) - 1) bytes (omega arith)) at g) a fit)
 
 stand_all : (fs : List Field) (ns : List ℤ) → FieldsFit fs ns → AllStand fs (map number_word ns)
 stand_all [] [] h = Fields.none

@@ -1,7 +1,4 @@
 -- How many lanes are digits.
-use mir.Val.{Fits}
-use Rattle.std.specs.Simd.Lanes.{chunk}
-use Rattle.std.proofs.lemmas.List.Sums.{prefix_len-le-length}
 use Rattle.std.proofs.Common.{get_or, ◌≡◌, ℕ, ◌+◌, ◌-◌, ◌%◌, ◌^◌, ◌<◌, ◌≤◌, List, [], ◌∷◌, Bool, cond, not, refl, ap, sym, ◌∙◌, arith, length, map, w8, ltb}
 use lib.Count.{count_trailing_zeros}
 use lib.Lanes.{zip2, mask_l, top, Each1}
@@ -10,6 +7,9 @@ use Rattle.std.specs.List.{prefix_len}
 use Rattle.std.proofs.lemmas.Bool.Decides.{nat_tests}
 use Rattle.std.proofs.lemmas.Simd.{chunk-fits, below_from_Fits, length-chunk, zip2_splat, zip2_splat_left, bitmask_splat, leading_from_mask_l, trailing_mask_l, map-map, Each1-weaker}
 use Rattle.std.proofs.lemmas.List.{length-map}
+use mir.Val.{Fits}
+use Rattle.std.specs.Simd.Lanes.{chunk}
+use Rattle.std.proofs.lemmas.List.Sums.{prefix_len-le-length}
 use Rattle.dn_num.specs.Number.{is_digit}
 
 -- each lane minus 48, modulo 256

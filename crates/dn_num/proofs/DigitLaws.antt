@@ -1,6 +1,4 @@
 -- The digits of a number make its decimal text.
-use Rattle.std.proofs.lemmas.List.Folds.{list_all-append}
-use Rattle.std.proofs.lemmas.Bool.{ne_eqb, eqb-true, and_from}
 use Rattle.std.proofs.Common.{◌≡◌, ℕ, ◌+◌, ◌-◌, ◌*◌, ◌/◌, ◌%◌, ◌^◌, ◌<◌, ◌≤◌, List, [], ◌∷◌, ◌++◌, zero, suc, refl, ap, sym, ◌∙◌, arith, length, take, drop, true, zero-mul, zero-add, pow-add, length-append}
 use Rattle.std.proofs.lemmas.Bool.Decides.{nat_tests}
 use Rattle.std.proofs.lemmas.Nat.{shr-shr, shr_le}
@@ -9,6 +7,8 @@ use Rattle.std.proofs.lemmas.Fmt.{decimal_nonempty, first_decimal, digits_decima
 use Rattle.std.specs.Fmt.{decimal}
 use Rattle.std.specs.List.{list_all}
 use Rattle.std.specs.Simd.Lanes.{Each1, number_l}
+use Rattle.std.proofs.lemmas.List.Folds.{list_all-append}
+use Rattle.std.proofs.lemmas.Bool.{ne_eqb, eqb-true, and_from}
 use Rattle.dn_num.specs.State.Digits.{eight_digits, zeros_before, codes_of}
 use Rattle.dn_num.specs.State.Lanes.{places}
 use Rattle.dn_num.specs.Number.{is_digit, is_digits, digits_number}
@@ -142,7 +142,8 @@ long_decimal n h fits =
     rw (number_append (decimal high) (codes_of ds), front, back) (omega arith) in
     let all =
     list_all-append is_digit (decimal high) (codes_of ds)
-    ∙ and_from (list_all is_digit (decimal high)) (list_all is_digit (codes_of ds)) (digits_decimal numerals high within)
+    ∙ and_from (list_all is_digit (decimal high)) (list_all is_digit (codes_of ds))
+    (digits_decimal numerals high within)
     (codes_digits ds (eight_small (n % 100000000) (omega arith))) in
     rw value at
     (digits_are text (some_digits text (simp length-append (omega arith)) all)

@@ -91,7 +91,8 @@ value_is w x y z r (a ∷ b ∷ c ∷ d ∷ e ∷ f ∷ g ∷ h ∷ []) s last n
     s.pairs (a % 16) (b % 16) (c % 16) (d % 16) (e % 16) (f % 16) (g % 16) (h % 16) few
     (s.values (a ∷ b ∷ c ∷ d ∷ e ∷ f ∷ g ∷ h ∷ []) n k is) in
     let z1 =
-    s.fours (a % 16 * 10 + b % 16) (c % 16 * 10 + d % 16) (e % 16 * 10 + f % 16) (g % 16 * 10 + h % 16) (omega arith) y1 in
+    s.fours (a % 16 * 10 + b % 16) (c % 16 * 10 + d % 16) (e % 16 * 10 + f % 16) (g % 16 * 10 + h % 16)
+    (omega arith) y1 in
     last ((a % 16 * 10 + b % 16) * 100 + (c % 16 * 10 + d % 16)) ((e % 16 * 10 + f % 16) * 100 + (g % 16 * 10 + h % 16))
     (omega arith) (omega arith) z1
     ∙ places_eight (a % 16) (b % 16) (c % 16) (d % 16) (e % 16) (f % 16) (g % 16) (h % 16)

@@ -1,6 +1,4 @@
 -- Short numbers.
-use Rattle.std.proofs.Math.Nat.{mul-mod_left}
-use Rattle.std.proofs.lemmas.Bool.{cases_Bool}
 use Rattle.std.proofs.Common.{inl, inr, ◌≡◌, ℕ, ◌+◌, ◌-◌, ◌*◌, ◌%◌, ◌^◌, ◌<◌, ◌≤◌, List, [], ◌∷◌, ◌++◌, zero, suc, true, false, refl, sym, ◌∙◌, arith, length, length-append, map, take, pos, Ok, mod-eq_of_lt, mul-one, zero-add, mul-le-mul_right, pow-suc, zero-mul, lit<}
 use Rattle.std.proofs.lemmas.Nat.{shl-shr, mod-pow-add, pow_pos, pow-add}
 use Rattle.std.proofs.lemmas.Bool.Decides.{nat_tests}
@@ -9,6 +7,8 @@ use Rattle.std.proofs.lemmas.Simd.{length-replicate, Each1-replicate, Each1-weak
 use Rattle.std.specs.List.{list_all, prefix_len}
 use Rattle.std.specs.Prelude.{replicate}
 use Rattle.std.specs.Simd.Lanes.{Each1, number_l}
+use Rattle.std.proofs.Math.Nat.{mul-mod_left}
+use Rattle.std.proofs.lemmas.Bool.{cases_Bool}
 use Rattle.dn_num.specs.Number.{is_digit, digits_number, number_read}
 use Rattle.dn_num.specs.State.NumberReader.{digits_state, state_read}
 use Rattle.dn_num.proofs.FrontLaws.{digits_front_read}

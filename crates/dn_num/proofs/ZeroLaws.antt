@@ -1,8 +1,8 @@
 -- Zeros at the low end of a word.
-use Rattle.std.proofs.lemmas.Bool.{cases_eq, ne_eqb}
 use Rattle.std.proofs.Common.{inl, inr, ◌≡◌, ℕ, ◌+◌, ◌*◌, ◌/◌, ◌%◌, ◌^◌, ◌<◌, List, [], ◌∷◌, zero, suc, arith, length, pow-suc}
 use lib.Count.{count_trailing_zeros}
 use Rattle.std.specs.Simd.Lanes.{Each1, number_l}
+use Rattle.std.proofs.lemmas.Bool.{cases_eq, ne_eqb}
 use Rattle.dn_num.specs.State.Digits.{zeros_before}
 
 even_step : (k n : ℕ) → count_trailing_zeros (suc k) (2 * n) ≡ suc (count_trailing_zeros k n)

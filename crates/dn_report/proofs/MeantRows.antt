@@ -1,10 +1,10 @@
 -- Lemmas that the lines of a parsed instance are right for the instance that it represents.
-use Rattle.std.proofs.lemmas.Bool.{cases_Bool}
 use Rattle.std.proofs.Common.{◌≡◌, ◌↔◌, ℤ, pos, List, [], ◌∷◌, length, map, Option, Some, None, IfSome, inl, refl, ap, arith, inr}
 use Rattle.std.proofs.lemmas.Int.{ints}
 use Rattle.std.specs.List.{AllByRecursion}
 use Rattle.std.specs.Map.{keys_of, lookup}
 use Rattle.std.specs.Option.{option_map}
+use Rattle.std.proofs.lemmas.Bool.{cases_Bool}
 use Rattle.dn_line.specs.declared.kind.Kind.{Kind}
 use Rattle.dn_line.specs.declared.kind.Kind.TheVariants as Kinds
 use Rattle.dn_arc.specs.Kinds.{ArcKind, lengths, capacities, costs}

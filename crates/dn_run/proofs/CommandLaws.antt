@@ -1,10 +1,4 @@
 -- Lemmas on how each command ends.
-use Rattle.dn_compare.proofs.VerdictLaws.{one_first, same_first}
-use Rattle.dn_instance.specs.declared.verdict.Verdict.TheVariants.{Same}
-use Rattle.dn_instance.specs.declared.verdict.Verdict.{Verdict}
-use Rattle.dn_compare.specs.FirstDifference.{IsFirstDifference}
-use Rattle.dn_report.specs.Verdicts.{verdict_row}
-use Rattle.dn_sink.specs.Rows.{line_text}
 use Rattle.std.proofs.Common.{◌≡◌, ℕ, List, [], Option, Some, None, Ok, Err, IfSome, refl, sym, ◌∙◌, inr, ◌≤◌, arith}
 use Rattle.dn_line.specs.declared.kind.Kind.{Kind}
 use Rattle.dn_arc.specs.declared.arc.Form.{Form}
@@ -18,6 +12,8 @@ use Rattle.dn_instance.specs.declared.companion.CompanionFault.{CompanionFault}
 use Rattle.dn_instance.specs.declared.held.Held.{Held}
 use Rattle.dn_instance.specs.declared.refusal.Refusal.{Refusal}
 use Rattle.dn_instance.specs.declared.refusal.Refusal.TheVariants.{Write, CountTooLarge}
+use Rattle.dn_instance.specs.declared.verdict.Verdict.TheVariants.{Same}
+use Rattle.dn_instance.specs.declared.verdict.Verdict.{Verdict}
 use Rattle.dn_instance.proofs.HeldLaws.{held_kind}
 use Rattle.dn_instance.proofs.ValidLaws.{reads_valid}
 use Rattle.dn_canon.specs.Prints.{print}
@@ -35,6 +31,10 @@ use Rattle.dn_run.specs.State.TextReads.{IsCopy, IsRead}
 use Rattle.dn_run.specs.declared.files.FilesFault.{FilesFault}
 use Rattle.dn_run.proofs.OutcomeLaws.{by_behind, on_held, on_left, on_left_read, on_read}
 use Rattle.dn_sink.specs.Sinks.{SinkFacts}
+use Rattle.dn_sink.specs.Rows.{line_text}
+use Rattle.dn_compare.proofs.VerdictLaws.{one_first, same_first}
+use Rattle.dn_compare.specs.FirstDifference.{IsFirstDifference}
+use Rattle.dn_report.specs.Verdicts.{verdict_row}
 
 -- `canon` ends as its answer says if the canonical text is not written
 pub canon_unwritten : {T S : Type 0} {text : AskedText T} {out : SinkRun S} {held : Held} (form : Form) (e : Refusal)
@@ -70,7 +70,8 @@ canon_refused text form b _ h = h
 
 -- what was put for an instance that b reads as is right for b
 finding_on : {S : Type 0} {P : ℕ → List ℕ → Type 0} (Puts : List ℕ → Instance → ℕ → List ℕ → Type 0)
-    (Unfits : Instance → CompanionFault → Type 0) (Refuses : List ℕ → Refusal → Type 0) (name : List ℕ) (out : SinkRun S)
+    (Unfits : Instance → CompanionFault → Type 0) (Refuses : List ℕ → Refusal → Type 0) (name : List ℕ)
+    (out : SinkRun S)
     (b : List ℕ) (I : Instance) → Reads b I → ((status : ℕ) (t : List ℕ) → P status t → Puts b I status t)
     → (answer : Answer) → PutsFinding P out answer → RanOn Puts Unfits Refuses name out b answer
 finding_on Puts Unfits Refuses name out b I reads f (Done status) (t, p, a) = (I, reads, t, f status t p, a)
@@ -93,7 +94,8 @@ module _ {T S : Type 0} {text : AskedText T} {out : SinkRun S} {held : Held} {ke
       on : (b : List ℕ) (I : Instance) → Reads b I → PutsFinding (PutsChecked None b I) out answer
           → RanOn (PutsChecked None) (λ _. Never) (IsRefusedCopy text) text.name out b answer
       on b I reads =
-          finding_on (PutsChecked None) (λ _. Never) (IsRefusedCopy text) text.name out b I reads (λ status t p. p) answer
+          finding_on (PutsChecked None) (λ _. Never) (IsRefusedCopy text) text.name out b I reads (λ status t p. p)
+          answer
 
 -- after the left text was read, the run went on to the right one
 pub asked_two : {F T : Type 0} {files : FilesRun F T} {mid : F} {left right : List ℕ} {answer : Answer}

@@ -1,5 +1,4 @@
 -- Lemmas on what reading a text that a run asks for returns.
-use Rattle.dn_run.proofs.OutcomeLaws.{by_behind}
 use Rattle.std.proofs.Common.{◌≡◌, ℕ, List, [], Option, Some, None, Result, Ok, Err, IsTrue, OnOk, IfOk, IfSome, IsErrOf, refl, inl, inr, append-nil}
 use Rattle.std.specs.Io.KnownBytes.{IsAtEnd}
 use Rattle.dn_instance.specs.SourceReads.{AfterPulls, after_pulls, PulledWhileClean}
@@ -10,6 +9,7 @@ use Rattle.dn_instance.specs.declared.refusal.Refusal.TheVariants.{Text, Memory,
 use Rattle.dn_instance.proofs.SourceLaws.{ran_out}
 use Rattle.dn_run.specs.Texts.{AskedText, ComesOf, IsRefusedCopy, IsRefusedText}
 use Rattle.dn_run.specs.State.TextReads.{IsRead, ReadsAs}
+use Rattle.dn_run.proofs.OutcomeLaws.{by_behind}
 
 -- a source that was handed out, pulled while it was clean and taken back comes of the text
 abbrev pub came : {T : Type 0} {text : AskedText T} {source : T} (first : T) → text.Hands first
@@ -74,7 +74,8 @@ module _ {T : Type 0} (text : AskedText T) where
     handed_copies given old copy r empty e h read held = record {
       not_handed = rw fine tt;
       failed = λ _ is. record { source = source; comes = comes; failed = read is };
-      handed = λ _. by_behind text.behind (λ b known (is : given ≡ Some b). copies_as b copy r (rw (is, empty) at h) read) e;
+      handed = λ _. by_behind text.behind
+          (λ b known (is : given ≡ Some b). copies_as b copy r (rw (is, empty) at h) read) e;
       held = held_of r held;
     }
       where

@@ -1,8 +1,8 @@
 -- Lemmas on the worked bundle: its least costs of 2 and of 5 units, that its arcs in form 1 are canonical, and that its
 -- arcs in either form mean the same as it.
-use Rattle.std.specs.Prelude.{pos, List, [], ◌∷◌, refl}
 use Rattle.std.proofs.Common.{arith, rules}
 use Rattle.std.proofs.lemmas.Int.{ints}
+use Rattle.std.specs.Prelude.{pos, List, [], ◌∷◌, refl}
 use Rattle.dn_arc.specs.declared.arc.CostArc.{CostArc}
 use Rattle.dn_arc.specs.Splits.{LeastCost}
 use Rattle.dn_arc.specs.Meanings.{SameCurve}

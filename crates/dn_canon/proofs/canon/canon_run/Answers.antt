@@ -8,4 +8,5 @@ returns-in-Ok-clause-outcome g c =
 
 pub returns-in-Err-clause-outcome : goal.returns-in-Err-clause-outcome
 returns-in-Err-clause-outcome g c =
-    run_refused g.K.Sink.sink _ _ _ (g.S.Source.source.gives c.args.source.now) _ c.in-Err.refusal c.in-Err.ensures.outcome
+    run_refused g.K.Sink.sink _ _ _ (g.S.Source.source.gives c.args.source.now) _ c.in-Err.refusal
+    c.in-Err.ensures.outcome

@@ -37,13 +37,15 @@ returns-in-Sp-clause-canon g c I v h =
 
 pub returns-in-Ss-clause-canon : goal.returns-in-Ss-clause-canon
 returns-in-Ss-clause-canon g c I v h =
-    companion_written g.K.Sink.sink c.args.sink.now c.write_sources.new.sink c.args.form (Sources c.in-Ss.items.now) I _ _
+    companion_written g.K.Sink.sink c.args.sink.now c.write_sources.new.sink c.args.form
+    (Sources c.in-Ss.items.now) I _ _
     c.written.ensures tt (shows_sources _ I (rw (← c.in-Ss.ensures) at h.shows)) v c.write_sources.ensures.few
     c.write_sources.ensures.text
 
 pub returns-in-P2p-clause-canon : goal.returns-in-P2p-clause-canon
 returns-in-P2p-clause-canon g c I v h =
-    companion_written g.K.Sink.sink c.args.sink.now c.write_queries.new.sink c.args.form (Queries c.in-P2p.items.now) I _ _
+    companion_written g.K.Sink.sink c.args.sink.now c.write_queries.new.sink c.args.form
+    (Queries c.in-P2p.items.now) I _ _
     c.written-in-P2p.ensures tt (shows_queries _ I (rw (← c.in-P2p.ensures) at h.shows)) v c.write_queries.ensures.few
     c.write_queries.ensures.text
 

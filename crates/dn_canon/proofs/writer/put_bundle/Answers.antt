@@ -16,7 +16,8 @@ returns-in_err-make_room g c =
     let listed = g.B.Bundle.bundle.listed c.args.form c.args.bundle.now in
     pass_stopped _ _ c.from_residual.ensures.0
     (row_stop (arc_row g.B.Bundle.bundle.kind) c.loop.block
-    (ap (placed c.args.pair.now) (drop_get listed c.loop.counter c.in-Some.arc (sym c.loop.invariant.next ∙ c.in-Some.is)))
+    (ap (placed c.args.pair.now) (drop_get listed c.loop.counter c.in-Some.arc
+    (sym c.loop.invariant.next ∙ c.in-Some.is)))
     (arc_text g.B.Bundle.bundle.kind c.args.pair.now _ refl (g.met.B.Bundle.same_numbers c.in-Some.arc))
     c.loop.invariant.has (prefix_more _ c.in_err-make_room.ensures.put))
 

@@ -1,7 +1,7 @@
-use Rattle.dn_canon.specs.Prints.{supply_row}
 use Rattle.std.proofs.Common.{refl}
 use Rattle.dn_canon.proofs.BlockLaws.{pass_stopped}
 use Rattle.dn_canon.proofs.PutLaws.{row_more, row_stop}
+use Rattle.dn_canon.specs.Prints.{supply_row}
 use Rattle.dn_canon.proofs.writer.put_supplies.Goals as goal
 
 pub loop-id-preserved : goal.loop-id-preserved

@@ -7,7 +7,8 @@ use Rattle.dn_compare.proofs.difference.compare.Goals as goal
 
 pub returns-then-ne : goal.returns-then-ne
 returns-then-ne c I J x y p q =
-    kinds_on (parsed c.args.left.now) (parsed c.args.right.now) I J p q c.kind-then-ne.ensures c.kind-then-ne-2.ensures (search rules)
+    kinds_on (parsed c.args.left.now) (parsed c.args.right.now) I J p q c.kind-then-ne.ensures c.kind-then-ne-2.ensures
+    (search rules)
 
 pub returns-then-nodes : goal.returns-then-nodes
 returns-then-nodes c I J x y p q =

@@ -90,3 +90,6 @@ returns-clause-outcome g c =
 
 pub returns-clause-left : goal.returns-clause-left
 returns-clause-left g c = left_here _ _ _ _ c.loop.invariant.fed _ (λ is. cc)
+
+pub returns-in-Err-clause-outcome : goal.returns-in-Err-clause-outcome
+returns-in-Err-clause-outcome g c = search rules

@@ -20,12 +20,20 @@ returns-in-Max-N c =
 
 pub returns-in-Max-A : goal.returns-in-Max-A
 returns-in-Max-A c =
-    rw (passed c.value_at-in-Max-A.type_inv c.value_at-in-Max-A.ensures, passed c.value_at-in-Max-A-2.type_inv c.value_at-in-Max-A-2.ensures, passed c.value_at-in-Max-A-3.type_inv c.value_at-in-Max-A-3.ensures)
+    rw (
+      passed c.value_at-in-Max-A.type_inv c.value_at-in-Max-A.ensures,
+      passed c.value_at-in-Max-A-2.type_inv c.value_at-in-Max-A-2.ensures,
+      passed c.value_at-in-Max-A-3.type_inv c.value_at-in-Max-A-3.ensures,
+    )
     (placed Max A c.args.words.now c.in-Max-A.is-0 c.in-Max-A.is-1 c.requires)
 
 pub returns-in-Sp-A : goal.returns-in-Sp-A
 returns-in-Sp-A c =
-    rw (passed c.value_at-in-Sp-A.type_inv c.value_at-in-Sp-A.ensures, passed c.value_at-in-Sp-A-2.type_inv c.value_at-in-Sp-A-2.ensures, passed c.value_at-in-Sp-A-3.type_inv c.value_at-in-Sp-A-3.ensures)
+    rw (
+      passed c.value_at-in-Sp-A.type_inv c.value_at-in-Sp-A.ensures,
+      passed c.value_at-in-Sp-A-2.type_inv c.value_at-in-Sp-A-2.ensures,
+      passed c.value_at-in-Sp-A-3.type_inv c.value_at-in-Sp-A-3.ensures,
+    )
     (placed Sp A c.args.words.now c.in-Sp-A.is-0 c.in-Sp-A.is-1 c.requires)
 
 pub returns-in-Ss-S : goal.returns-in-Ss-S
@@ -35,10 +43,17 @@ returns-in-Ss-S c =
 
 pub returns-in-P2p-Q : goal.returns-in-P2p-Q
 returns-in-P2p-Q c =
-    rw (passed c.value_at-in-P2p-Q.type_inv c.value_at-in-P2p-Q.ensures, passed c.value_at-in-P2p-Q-2.type_inv c.value_at-in-P2p-Q-2.ensures)
+    rw (
+      passed c.value_at-in-P2p-Q.type_inv c.value_at-in-P2p-Q.ensures,
+      passed c.value_at-in-P2p-Q-2.type_inv c.value_at-in-P2p-Q-2.ensures,
+    )
     (placed P2p Q c.args.words.now c.in-P2p-Q.is-0 c.in-P2p-Q.is-1 c.requires)
 
 pub returns-in-Co-V : goal.returns-in-Co-V
 returns-in-Co-V c =
-    rw (passed c.value_at-in-Co-V.type_inv c.value_at-in-Co-V.ensures, passed c.value_at-in-Co-V-2.type_inv c.value_at-in-Co-V-2.ensures, passed c.value_at-in-Co-V-3.type_inv c.value_at-in-Co-V-3.ensures)
+    rw (
+      passed c.value_at-in-Co-V.type_inv c.value_at-in-Co-V.ensures,
+      passed c.value_at-in-Co-V-2.type_inv c.value_at-in-Co-V-2.ensures,
+      passed c.value_at-in-Co-V-3.type_inv c.value_at-in-Co-V-3.ensures,
+    )
     (placed Co V c.args.words.now c.in-Co-V.is-0 c.in-Co-V.is-1 c.requires)

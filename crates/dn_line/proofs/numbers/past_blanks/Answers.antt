@@ -11,7 +11,8 @@ returns-then-not-is_blank c =
     record {
       blanks = take i bytes;
       whole =
-          rw (take_all (length bytes - i) (drop i bytes) (omega (arith, length-drop i bytes))) (take-append-drop i bytes);
+          rw (take_all (length bytes - i) (drop i bytes) (omega (arith, length-drop i bytes)))
+          (take-append-drop i bytes);
       all = c.loop-i.invariant.blank;
     }
 

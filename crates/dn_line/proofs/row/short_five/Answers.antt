@@ -8,9 +8,12 @@ returns c =
     record {
       numbers =
           more_numbers (number_gap c.in_ok-first.ensures.number c.in_ok-after_space.ensures.gap) (omega (arith, ints))
-          (more_numbers (number_gap c.in_ok-second.ensures.number c.in_ok-after_space-2.ensures.gap) (omega (arith, ints))
-          (more_numbers (number_gap c.in_ok-third.ensures.number c.in_ok-after_space-3.ensures.gap) (omega (arith, ints))
-          (more_numbers (number_gap c.in_ok-fourth.ensures.number c.in_ok-after_space-4.ensures.gap) (omega (arith, ints))
+          (more_numbers (number_gap c.in_ok-second.ensures.number c.in_ok-after_space-2.ensures.gap)
+          (omega (arith, ints))
+          (more_numbers (number_gap c.in_ok-third.ensures.number c.in_ok-after_space-3.ensures.gap)
+          (omega (arith, ints))
+          (more_numbers (number_gap c.in_ok-fourth.ensures.number c.in_ok-after_space-4.ensures.gap)
+          (omega (arith, ints))
           (last_number c.in_ok-fifth.ensures (omega (arith, ints)) c.in_ok-after_line_end.ensures))));
       others = tt;
     }

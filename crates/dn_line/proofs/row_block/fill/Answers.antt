@@ -1,4 +1,4 @@
-use Rattle.std.proofs.Common.{◌≡◌, refl, length, take, arith, ◌∙◌}
+use Rattle.std.proofs.Common.{◌≡◌, refl, length, take, arith, ◌∙◌, rules}
 use Rattle.std.proofs.lemmas.List.{take_more_set, length-set}
 use Rattle.dn_line.specs.declared.row_block.RowLine.{RowLine}
 use Rattle.dn_line.proofs.RowBlockLaws.{row_more}
@@ -27,3 +27,6 @@ pub returns-clause-rows : goal.returns-clause-rows
 returns-clause-rows g c = λ kind has.
     let all : c.loop-i.i ≡ c.min-end.result = omega (arith, c.loop-i.auto.i-end) in
     (c.loop-i.rest.now, rw all at (c.loop-i.invariant.rows kind has))
+
+pub returns-clause-few : goal.returns-clause-few
+returns-clause-few g c = search rules

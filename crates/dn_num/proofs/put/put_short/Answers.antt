@@ -4,7 +4,8 @@ use Rattle.dn_num.proofs.put.put_short.Goals as goal
 
 pub overflow_mul-zeros : goal.overflow_mul-zeros
 overflow_mul-zeros c = let few =
-    zeros_few c.args.number _ _ c.requires.few c.eight-digits.ensures c.zeros-zeros.ensures in record { fits = omega arith }
+    zeros_few c.args.number _ _ c.requires.few c.eight-digits.ensures c.zeros-zeros.ensures in
+    record { fits = omega arith }
 
 pub overflow_shr-codes : goal.overflow_shr-codes
 overflow_shr-codes c = let few =

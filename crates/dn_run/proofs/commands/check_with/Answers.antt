@@ -8,7 +8,8 @@ pub returns-in-Ok-fits : goal.returns-in-Ok-fits
 returns-in-Ok-fits g c = record {
   performs =
       asked_two c.in-Ok.ensures.asks c.in-Ok.ensures.read c.in-Ok-read_named.ensures.asks
-      (fits c.in-Ok.ensures.read (rw (c.in-Ok.ensures.asks.keeps c.args.companion.now c.requires) at c.in-Ok-read_named.ensures.read)
+      (fits c.in-Ok.ensures.read
+      (rw (c.in-Ok.ensures.asks.keeps c.args.companion.now c.requires) at c.in-Ok-read_named.ensures.read)
       c.deref.ensures.value c.in-Ok.ensures.copy c.in-Ok.ensures.copied c.in-Ok-fits.ensures c.kind-with.ensures
       c.put_check-put.ensures.puts);
   out_after = c.put_check-put.ensures.out_after;
@@ -21,7 +22,8 @@ returns-in-Ok g c = record {
   performs =
       asked_two c.in-Ok.ensures.asks c.in-Ok.ensures.read c.in-Err-read_named.ensures.asks
       (on_left_read _ c.in-Ok.ensures.read (λ b I reads is. on_refused
-      (rw (c.in-Ok.ensures.asks.keeps c.args.companion.now c.requires) at c.in-Err-read_named.ensures.read) (λ x r. r)));
+      (rw (c.in-Ok.ensures.asks.keeps c.args.companion.now c.requires) at c.in-Err-read_named.ensures.read)
+      (λ x r. r)));
   out_after = refl;
   answers = (inr refl, c.in-Err-read_named.ensures.refusal);
   flushed = tt;

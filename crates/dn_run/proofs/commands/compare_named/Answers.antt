@@ -7,7 +7,8 @@ pub returns-in-Ok-read_named : goal.returns-in-Ok-read_named
 returns-in-Ok-read_named g c = record {
   performs =
       asked_two c.in-Ok.ensures.asks c.in-Ok.ensures.read c.in-Ok-read_named.ensures.asks
-      (compared c.in-Ok.ensures.read (rw (c.in-Ok.ensures.asks.keeps c.args.right.now c.requires) at c.in-Ok-read_named.ensures.read)
+      (compared c.in-Ok.ensures.read
+      (rw (c.in-Ok.ensures.asks.keeps c.args.right.now c.requires) at c.in-Ok-read_named.ensures.read)
       c.put_compared-found.ensures.found c.put_compared-found.ensures.puts);
   out_after = c.put_compared-found.ensures.out_after;
   answers = found_answers _ _ _ c.put_compared-found.ensures.found;

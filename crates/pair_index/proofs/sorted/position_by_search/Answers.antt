@@ -1,7 +1,7 @@
+use Rattle.std.proofs.Common.{rules}
+use Rattle.std.proofs.lemmas.Fn.{always_returns_same}
 use Rattle.pair_index.specs.State.Sorted.{order_of}
 use Rattle.pair_index.proofs.SortedLaws.{searchable, position_found, position_none}
-use Rattle.std.proofs.lemmas.Fn.{always_returns_same}
-use Rattle.std.proofs.Common.{rules}
 use Rattle.pair_index.proofs.sorted.position_by_search.Goals as goal
 
 pub returns-in-Ok : goal.returns-in-Ok

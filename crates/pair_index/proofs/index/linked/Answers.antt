@@ -1,0 +1,5 @@
+use Rattle.std.proofs.Common.{rules}
+use Rattle.pair_index.proofs.index.linked.Goals as goal
+
+pub returns-in-Some-2 : goal.returns-in-Some-2
+returns-in-Some-2 g c = search rules
