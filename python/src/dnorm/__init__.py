@@ -25,7 +25,7 @@ from .program import find_program, version
 from .refusals import REFUSALS
 
 # The version of the program that this package belongs to, as Python packages spell it.
-__version__ = "1.1.0.dev0"
+__version__ = "1.1.0"
 
 __all__ = [
     "REFUSALS",
