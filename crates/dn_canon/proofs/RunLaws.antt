@@ -1,12 +1,11 @@
 -- Lemmas on a run from a source to a sink.
 use Rattle.std.proofs.Common.{ℕ, List, Option, Some, None, Result, Ok, Err, IfSome}
 use Rattle.dn_arc.specs.declared.arc.Form.{Form}
-use Rattle.dn_instance.specs.State.Helds.{IsHeld, parsed}
+use Rattle.dn_instance.specs.State.Helds.{Parsed, IsHeld}
 use Rattle.dn_instance.specs.Instances.{Instance}
 use Rattle.dn_instance.specs.SourceReads.{AfterPulls}
 use Rattle.dn_instance.specs.State.SourceResults.{SourceOutcome}
 use Rattle.dn_instance.specs.Validity.{IsValid}
-use Rattle.dn_instance.specs.declared.held.Held.{Held}
 use Rattle.dn_instance.specs.declared.refusal.Refusal.{Refusal}
 use Rattle.dn_instance.specs.declared.refusal.Refusal.TheVariants.{Write, CountTooLarge}
 use Rattle.dn_instance.proofs.ValidLaws.{reads_valid}
@@ -16,9 +15,9 @@ use Rattle.dn_sink.specs.Sinks.{SinkFacts}
 
 -- after a text was read, the outcome of the run is that of writing
 pub run_written : {S : Type 0} (sink : SinkFacts S) (old new : S) (form : Form) (given : Option (List ℕ))
-    (left : AfterPulls) (held : Held) (result : Result (Unit {0}) Refusal)
+    (left : AfterPulls) (held : Parsed) (result : Result (Unit {0}) Refusal)
     → IfSome given (λ t. SourceOutcome t left (Ok held))
-    → ((I : Instance) → IsValid I → IsHeld (parsed held) I → WritesCanon sink old new form I result)
+    → ((I : Instance) → IsValid I → IsHeld held I → WritesCanon sink old new form I result)
     → IfSome given (λ t. RunOutcome sink old new form t left result)
 run_written sink old new form None left held result o w = tt
 run_written sink old new form (Some t) left held result o w =

@@ -41,11 +41,10 @@ use Rattle.dn_instance.proofs.FirstFaults.{none_first}
 use Rattle.dn_instance.proofs.MapLaws.{by_key_push, one_more_key, found_by_key, points_named}
 use Rattle.dn_instance.proofs.ItemSteps.{problem_all}
 use Rattle.std.proofs.lemmas.Bool.{not-false}
-use Rattle.dn_instance.proofs.HeadsLaws.{on_ok_from}
+use Rattle.dn_instance.proofs.MarksLaws.{on_ok_from}
 use Rattle.dn_line.specs.declared.row_block.RowLine.{RowLine}
-use Rattle.dn_instance.specs.State.Drafts.{BodyHolds, any_body, body_kind, max_body, min_body, sp_body}
-use Rattle.dn_instance.specs.declared.any_body.AnyBody.{AnyBody}
-use Rattle.dn_instance.specs.declared.any_body.AnyBody.TheVariants as Bodies
+use Rattle.dn_instance.specs.State.TextParts.{AnyBody, BodyHolds, any_body, body_kind, max_body, min_body, sp_body}
+use Rattle.dn_instance.specs.declared.body.Body.TheVariants as Bodies
 use Rattle.dn_instance.specs.declared.body.Taken.{Taken}
 
 no_arcs_more : {A : Type 0} (xs : List A) (a : A) → xs ++ a ∷ [] ≡ [] → ⊥
@@ -239,7 +238,7 @@ cost_row row =
 
 -- what a body of one kind holds is what it holds as a body of any kind
 pub record IsPart {T : Type 0} (facts : TakerFacts T) (put : T → AnyBody) : Type 0 where
-  is : (t : T) → body_kind (put t) ≡ Some facts.kind
+  is : (t : T) → body_kind (put t) ≡ facts.kind
   to : (t : T) (items : List Line) → BodyHolds (put t) items → facts.Holds t items
   back : (t : T) (items : List Line) → facts.Holds t items → BodyHolds (put t) items
 
@@ -280,8 +279,8 @@ module _ {T : Type 0} {facts : TakerFacts T} {put : T → AnyBody} (part : IsPar
         stops = t.stops;
       }
 
-  same_kind : (t : T) (kind : Kind) → body_kind (put t) ≡ Some kind → facts.kind ≡ kind
-  same_kind t kind h = let same : Some facts.kind ≡ Some kind = sym (part.is t) ∙ h in cc
+  same_kind : (t : T) (kind : Kind) → body_kind (put t) ≡ kind → facts.kind ≡ kind
+  same_kind t kind h = sym (part.is t) ∙ h
 
   pub rows_taken : (nodes : ℤ) (old new : T) (rows : List RowLine) (r : Taken)
       → TakesRows facts (line_of facts.kind) nodes old new rows r → (b : AnyBody) → b ≡ put old → (kind : Kind)
@@ -296,7 +295,7 @@ module _ {T : Type 0} {facts : TakerFacts T} {put : T → AnyBody} (part : IsPar
   rows_kept old new keeps b e items h = part.back new items (keeps items (part.to old items (rw e at h)))
 
   pub counted_by : (t : T) (n : ℕ) → Counts facts t n → (b : AnyBody) → b ≡ put t → (items : List Line)
-      → BodyHolds b items → entries_by (body_kind b) items < 2 ^ 64 → n ≡ entries_by (body_kind b) items
+      → BodyHolds b items → entries_as (body_kind b) items < 2 ^ 64 → n ≡ entries_as (body_kind b) items
   counted_by t n h b e =
       rw e (λ items held few. rw (part.is t) (h items (part.to t items held) (rw (part.is t) at few)))
 

@@ -5,6 +5,7 @@ use Rattle.std.specs.Option.{option_or}
 use Rattle.dn_line.specs.declared.line.Line.{Line}
 use Rattle.dn_line.specs.declared.line.Line.TheVariants as Item
 use Rattle.dn_line.specs.declared.kind.Kind.{Kind}
+use Rattle.dn_line.specs.declared.kind.Kind.TheVariants.{Min, Max, Sp, Ss, P2p, Co}
 use Rattle.dn_line.specs.declared.word.Word.{Word}
 use Rattle.dn_line.specs.declared.code.Code.{Code}
 use Rattle.dn_line.specs.declared.code.Code.TheVariants.{LateNode, TooManyLines}
@@ -63,12 +64,20 @@ abbrev FitSome : Option (List Slot) → List Word → Type 0
 FitSome None ws = ⊥
 FitSome (Some slots) ws = FitSlots slots ws
 
--- LOW and CAP of an item that words spell are at least 0
+-- LOW, CAP, ARCS and K of an item that words spell are at least 0
 signs : (i : Line) (ws : List Word) → FitSome (slots_of i) ws → HasSigns i
 signs (Item.MinArc _ _ _ _ _) (w ∷ v ∷ u ∷ t ∷ s ∷ ws) f = (f.1.1.1.0.1, f.1.1.1.1.0.1)
 signs (Item.MinArc _ _ _ _ _) _ f = absurd assumption
 signs (Item.MaxArc _ _ _) (w ∷ v ∷ u ∷ t ∷ ws) f = f.1.1.1.0.1
 signs (Item.MaxArc _ _ _) _ f = absurd assumption
+signs (Item.Graph Min _ _) (w ∷ v ∷ u ∷ t ∷ ws) f = f.1.1.1.0.1
+signs (Item.Graph Max _ _) (w ∷ v ∷ u ∷ t ∷ ws) f = f.1.1.1.0.1
+signs (Item.Graph Sp _ _) (w ∷ v ∷ u ∷ t ∷ ws) f = f.1.1.1.0.1
+signs (Item.Graph _ _ _) _ f = absurd assumption
+signs (Item.Aux Ss _) (w ∷ v ∷ u ∷ t ∷ s ∷ ws) f = f.1.1.1.1.0.1
+signs (Item.Aux P2p _) (w ∷ v ∷ u ∷ t ∷ s ∷ ws) f = f.1.1.1.1.0.1
+signs (Item.Aux Co _) (w ∷ v ∷ u ∷ t ∷ s ∷ ws) f = f.1.1.1.1.0.1
+signs (Item.Aux _ _) _ f = absurd assumption
 signs _ ws f = tt
 
 -- the line of a counted item has the letter of a counted line

@@ -16,5 +16,5 @@ pub mod SourceLaws
 pub mod EntryLaws
 pub mod RowRunLaws
 pub mod RowLinesLaws
-pub mod HeadsLaws
+pub mod MarksLaws
 pub mod BodyLaws

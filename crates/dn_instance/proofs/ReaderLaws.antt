@@ -1,4 +1,5 @@
 -- Lemmas on what a reader has read, and on a reader that takes rows at the beginning of a piece.
+use Rattle.dn_instance.specs.State.Helds.{Parsed}
 use Rattle.std.proofs.Common.{◌≡◌, ℕ, ◌+◌, ◌≤◌, List, [], ◌∷◌, ◌++◌, length, take, drop, Option, Some, None, Ok, Err, Result, MatchOption, inl, inr, refl, sym, ap, ◌∙◌, subst, arith, length-append, append-nil, append_assoc, pos, take_all, true, IfOk, take-add}
 use Rattle.std.proofs.Math.Seq.{take-append_seam}
 use Rattle.std.proofs.lemmas.List.{take-append-le}
@@ -18,19 +19,18 @@ use Rattle.dn_instance.specs.State.ReaderStates.{StopsIn, Takes, TakesAll, IsRea
 use Rattle.dn_instance.specs.State.LineRefusals.{refused_at}
 use Rattle.dn_instance.specs.TextFaults.{line_fault}
 use Rattle.dn_instance.specs.Texts.{items_of, IsClean, IsFirstFaultAt}
-use Rattle.dn_instance.specs.State.TextsSoFar.{TextAt, AreInner, IsRefusedFront, ReadsFront, RefusesFront, closed_lines}
+use Rattle.dn_instance.specs.State.TextsSoFar.{TextAt, AreInner, IsRefusedRow, ReadsRows, RefusesRow, closed_lines}
 use Rattle.dn_instance.proofs.FirstFaults.{first_on}
 use Rattle.dn_instance.proofs.CleanItems.{split, clean_more}
 use Rattle.dn_instance.proofs.PieceSteps.{More, ended_more, lines_more, rest_of, step_on, whole_of, closed_more}
 use Rattle.dn_instance.proofs.SizeLaws.{problem_sized}
 use Rattle.dn_instance.specs.State.Ends.{EndsWith}
 use Rattle.dn_instance.specs.EntryCount.{entries_so_far}
-use Rattle.dn_instance.specs.declared.held.Held.{Held}
 use Rattle.dn_instance.specs.declared.text_so_far.TextSoFar.{TextSoFar}
 use Rattle.std.specs.List.{list_all}
 use Rattle.dn_line.specs.State.LineStates.{is_inner, used_of}
 use Rattle.dn_line.proofs.PartsLaws.{Parts}
-use Rattle.dn_instance.specs.declared.text_so_far.Front.{Front}
+use Rattle.dn_instance.specs.declared.text_so_far.RowsTaken.{RowsTaken}
 
 -- the fault of a line that follows lines without a fault is the first fault
 fault_first : (ls : List (List ℕ)) (l : List ℕ) (number : ℕ) (code : Code) → IsClean ls → number ≡ length ls + 1
@@ -202,7 +202,7 @@ refused_last t before e h =
     (record { rest = []; whole = sym (append-nil (lines t)) }) h)
 
 -- the parsed instance of a whole text represents what the text reads as
-pub held_whole : (x : TextSoFar) (t : List ℕ) (held : Held) → TextAt x (lines t)
+pub held_whole : (x : TextSoFar) (t : List ℕ) (held : Parsed) → TextAt x (lines t)
     → EndsWith (items_of (lines t)) (Ok held) → Outcome t (Ok held)
 held_whole x t held r e =
     let all = e.1 in
@@ -213,8 +213,8 @@ held_whole x t held r e =
     )
 
 -- rows have been read after a text without an open line
-pub with_rows : (r : Reader) (t piece : List ℕ) (front : Front) → HasOpen r.line (open_of t) → open_of t ≡ []
-    → ReadsFront r.text (ended t) piece front → IsReading r (t ++ take front.used piece)
+pub with_rows : (r : Reader) (t piece : List ℕ) (front : RowsTaken) → HasOpen r.line (open_of t) → open_of t ≡ []
+    → ReadsRows r.text (ended t) piece front → IsReading r (t ++ take front.used piece)
 with_rows r t piece front line none f =
     let all = ap (λ x. parts is_line_feed (t ++ x)) (sym f.whole) ∙ closed_more t f.more none f.inner in
     record {
@@ -240,13 +240,14 @@ inner_push [] l h i = (i, tt)
 inner_push (m ∷ more) l h i = (h.0, inner_push more l h.1 i)
 
 -- a row of the piece is refused, and the reader keeps its refusal
-pub front_refused : (r : Reader) (t piece : List ℕ) (front : Front) (fault : ItemFault) (e : Refusal) → open_of t ≡ []
-    → front.fault ≡ Some fault → ReadsFront r.text (ended t) piece front → r.refusal ≡ Some e
+pub front_refused : (r : Reader) (t piece : List ℕ) (front : RowsTaken) (fault : ItemFault) (e : Refusal)
+    → open_of t ≡ []
+    → front.fault ≡ Some fault → ReadsRows r.text (ended t) piece front → r.refusal ≡ Some e
     → ((ls : List (List ℕ)) → TextAt r.text ls → e ≡ refused_at (length ls + 1) fault) → Steps r t piece (Err e)
 front_refused r t piece front fault e none is reads refusal said =
     let ls = ended t ++ reads.more in
-    let s : IsRefusedFront ls (drop front.used piece) fault =
-    subst (RefusesFront ls (drop front.used piece)) is reads.stops in
+    let s : IsRefusedRow ls (drop front.used piece) fault =
+    subst (RefusesRow ls (drop front.used piece)) is reads.stops in
     let line = s.line ++ 10 ∷ [] in
     let all = reads.more ++ s.line ∷ [] in
     let bytes : take (front.used + length line) piece ≡ closed_lines all =

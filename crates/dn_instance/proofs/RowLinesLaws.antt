@@ -1,7 +1,7 @@
 -- Lemmas on the lines of rows that are taken one after another.
 use Rattle.std.proofs.Common.{◌≡◌, ◌<◌, ◌≤◌, ◌+◌, ◌-◌, ◌^◌, ℕ, zero, suc, pos, List, [], ◌∷◌, ◌++◌, length, map, take, drop, true, false, ◌&&◌, Option, Some, None, Ok, Err, refl, sym, ap, ◌∙◌, arith, append-nil, append_assoc, length-append, inl, inr, length-take-le}
 use Rattle.std.proofs.Math.Nat.{add-sub_cancel}
-use Rattle.std.proofs.lemmas.Bool.{cases_Bool}
+use Rattle.std.proofs.lemmas.Bool.{cases_Bool, cases_eq, ne_eqb}
 use Rattle.std.specs.List.{AllByRecursion, list_any}
 use Rattle.std.proofs.Math.Seq.{drop-append_seam, take-append_seam}
 use Rattle.dn_line.specs.Faults.{first_fault}
@@ -25,14 +25,14 @@ use Rattle.dn_line.specs.declared.word.Keyword.TheVariants as Key
 use Rattle.dn_line.specs.declared.word.Word.{Word}
 use Rattle.dn_line.proofs.RowLaws.{ReadsAs, row_item}
 use Rattle.dn_instance.specs.Items.{Problem, counted, kind_known, problem_of}
-use Rattle.dn_instance.specs.State.Bodies.{StopsAt}
+use Rattle.dn_instance.specs.State.Bodies.{StopsAtRow}
 use Rattle.dn_instance.specs.declared.body.Taken.{Taken}
 use Rattle.dn_instance.specs.declared.refusal.ItemFault.{ItemFault}
-use Rattle.dn_instance.specs.State.RowRuns.{AreFaultless, AreInTime, HasSigns, IsInTime, line_of, row_items, supply_of}
-use Rattle.dn_instance.specs.State.TextsSoFar.{AreInner, HasRead, ReadsFront, RefusesFront, TextAt, closed_lines, next_read}
+use Rattle.dn_instance.specs.State.RowRuns.{AreFaultless, AreInTime, HasSigns, IsInTime, IsRowHead, line_of, row_items, row_line, run_head, supply_of}
+use Rattle.dn_instance.specs.State.TextsSoFar.{AreInner, HasRead, ReadsRows, RefusesRow, TextAt, closed_lines, next_read}
 use Rattle.dn_instance.specs.TextFaults.{is_arc, is_counted_letter, is_full, is_node_letter, item_tests}
 use Rattle.dn_instance.specs.Texts.{IsClean, items_of, with_next}
-use Rattle.dn_instance.specs.declared.text_so_far.Front.{Front}
+use Rattle.dn_instance.specs.declared.text_so_far.RowsTaken.{RowsTaken}
 use Rattle.dn_instance.specs.declared.text_so_far.TextSoFar.{TextSoFar}
 use Rattle.dn_instance.proofs.CleanItems.{items_push, clean_more, fault_is_next, in_time}
 use Rattle.dn_instance.proofs.FirstFaults.{fault_after}
@@ -135,6 +135,24 @@ supply_rows byte e = record {
     of_n key n fields h r =
         rw (n, ← field_list (rw n at h))
         (record { some = λ e. cc; in_order_after = λ before e. record { early = e; room = refl } }, refl)
+
+-- the lines of rows that begin with a byte have its head
+pub rows_spell : (kind : Kind) (byte : ℕ) → SpellsRows kind byte (row_line kind (run_head kind byte))
+rows_spell Min byte = elim (cases_eq byte 110) [
+  | inl e ↦ rw e (supply_rows 110 refl)
+  | inr n ↦ rw (ne_eqb byte 110 n) (counted_rows Min byte (λ k e. n e))
+]
+rows_spell Max byte = counted_rows Max byte (λ k e. cc)
+rows_spell kind byte = counted_rows kind byte (λ k e. cc)
+
+-- lines of rows have this head
+pub run_head_is : (kind : Kind) (byte : ℕ) → IsRowHead kind (run_head kind byte)
+run_head_is Min byte = elim (cases_eq byte 110) [
+  | inl e ↦ rw e (inl (refl, refl))
+  | inr n ↦ rw (ne_eqb byte 110 n) (inr refl)
+]
+run_head_is Max byte = inr refl
+run_head_is kind byte = inr refl
 
 module _ (kind : Kind) (before : List Line) (p : Problem) (problem : problem_of before ≡ Some p) (is : p.kind ≡ kind)
     (ws : List Word) (i : Line) (r : ReadsRow kind ws i) where
@@ -244,8 +262,9 @@ module _ (kind : Kind) (byte : ℕ) (line : Row → Line) (rows_spell : SpellsRo
   -- the line of the row at which the rows stop has the fault
   refuses : (left : List RowLine) (bytes rest : List ℕ) (ls : List (List ℕ)) (p : Problem) (fault : Option ItemFault)
       → ReadUpTo kind byte bytes left rest → problem_of (items_of ls) ≡ Some p → p.kind ≡ kind
-      → AreInTime (items_of ls) (row_items line left) → StopsAt line (items_of ls) left fault → length ls < 2 ^ 63 - 2
-      → RefusesFront ls bytes fault
+      → AreInTime (items_of ls) (row_items line left) → StopsAtRow line (items_of ls) left fault
+      → length ls < 2 ^ 63 - 2
+      → RefusesRow ls bytes fault
   refuses left bytes rest ls p None u problem is t s few = tt
   refuses [] bytes rest ls p (Some fault) u problem is t s few = absurd s
   refuses (r ∷ left) bytes rest ls p (Some fault) u problem is t s few =
@@ -262,14 +281,14 @@ module _ (kind : Kind) (byte : ℕ) (line : Row → Line) (rows_spell : SpellsRo
 
   -- the lines of the rows that were taken have been read, and the next line has the fault
   pub front_read : (now : TextSoFar) (rows : List RowLine) (t : Taken) (bytes rest : List ℕ) (ls : List (List ℕ))
-      (p : Problem) (front : Front) → ReadUpTo kind byte bytes rows rest → IsClean ls
+      (p : Problem) (front : RowsTaken) → ReadUpTo kind byte bytes rows rest → IsClean ls
       → problem_of (items_of ls) ≡ Some p → p.kind ≡ kind
       → AreFaultless (items_of ls) (row_items line (take t.rows rows)) → AreInTime (items_of ls) (row_items line rows)
-      → StopsAt line (items_of ls ++ row_items line (take t.rows rows)) (drop t.rows rows) t.fault
+      → StopsAtRow line (items_of ls ++ row_items line (take t.rows rows)) (drop t.rows rows) t.fault
       → t.rows ≤ length rows → length ls + length rows < 2 ^ 63 - 2 → now.closed ≡ length ls + t.rows
       → HasRead now (items_of ls ++ row_items line (take t.rows rows))
       → front.used ≡ length bytes - last_left (length bytes) (take t.rows rows) → front.fault ≡ t.fault
-      → ReadsFront now ls bytes front
+      → ReadsRows now ls bytes front
   front_read now rows t bytes rest ls p front u clean problem is f early s within few number held used fault =
       let taken = take t.rows rows in
       let split = split_at rows t.rows bytes rest u in
@@ -308,5 +327,5 @@ module _ (kind : Kind) (byte : ℕ) (line : Row → Line) (rows_spell : SpellsRo
 
 -- no line has been taken
 pub none_read : (t : TextSoFar) (ls : List (List ℕ)) (bytes : List ℕ) → TextAt t ls
-    → ReadsFront t ls bytes (record { used = 0; fault = None })
+    → ReadsRows t ls bytes (record { used = 0; fault = None })
 none_read t ls bytes at = record { more = []; whole = refl; inner = tt; read = rw append-nil at; stops = tt }

@@ -1,30 +1,38 @@
 -- Lemmas on rows that are taken one after another.
-use Rattle.std.proofs.Common.{◌≡◌, ◌<◌, ◌≤◌, ◌+◌, ◌^◌, ◌+ℤ◌, ◌-ℤ◌, negsuc, FitsSigned, w64, ℕ, zero, suc, ℤ, pos, ◌≤ℤ◌, ◌<ℤ◌, List, [], ◌∷◌, ◌++◌, length, take, drop, get_or, filter, true, false, not, int_lt, Option, Some, None, refl, subst, ap, arith, append-nil, append_assoc, add-one, add-zero, MatchOption, take-suc, Result, Ok, Err, OnErr, inl, inr}
+use Rattle.std.proofs.Common.{◌≡◌, ◌<◌, ◌≤◌, ◌+◌, ◌^◌, ◌-ℤ◌, negsuc, w64, ℕ, zero, suc, ℤ, pos, ◌≤ℤ◌, ◌<ℤ◌, List, [], ◌∷◌, ◌++◌, length, take, drop, get_or, filter, true, false, not, int_lt, Option, Some, None, refl, sym, ◌∙◌, subst, ap, arith, append-nil, append_assoc, add-one, length-take-le, MatchOption, take-suc, Result, Ok, Err, OnErr, inl, inr}
 use Rattle.std.specs.List.{AllByRecursion, list_any}
 use Rattle.std.specs.Int.{saturate_signed}
 use Rattle.std.proofs.Math.Nat.{min-eq_left}
+use Rattle.std.proofs.lemmas.Result.{on_ok_weaker}
 use Rattle.std.proofs.lemmas.Bool.{cases_eq}
 use Rattle.std.proofs.lemmas.Bool.Decides.{nat_tests}
-use Rattle.std.proofs.lemmas.Int.{ints, fits_signed_from_abs}
+use Rattle.std.proofs.lemmas.Int.{ints}
 use Rattle.std.proofs.lemmas.List.{map-append}
 use Rattle.std.proofs.lemmas.List.Folds.{list_any-append}
 use Rattle.dn_line.specs.Faults.{first_fault}
+use Rattle.dn_line.specs.State.RowItems.{item_of_row, letter_named}
+use Rattle.dn_line.specs.State.Spelling.{kind_before}
 use Rattle.dn_line.specs.declared.kind.Kind.{Kind}
-use Rattle.dn_line.specs.declared.kind.Kind.TheVariants.{Min, Max, Sp}
+use Rattle.dn_line.specs.declared.kind.Kind.TheVariants.{Min, Max, Sp, Ss, P2p, Co}
+use Rattle.dn_line.specs.declared.line.Head.{Head}
+use Rattle.dn_line.specs.declared.line.Head.TheVariants as Heads
 use Rattle.dn_line.specs.declared.line.Line.{Line}
+use Rattle.dn_line.specs.declared.line.Line.TheVariants as Item
 use Rattle.dn_line.specs.declared.row.Row.{Row}
 use Rattle.dn_line.specs.declared.row_block.RowLine.{RowLine}
-use Rattle.dn_instance.specs.State.RowRuns.{AreFaultless, AreInTime, HasSigns, IsInTime, Joins, line_of, row_items, supply_of}
-use Rattle.dn_instance.specs.State.Drafts.{DraftHolds, draft_kind}
-use Rattle.dn_instance.specs.Items.{Problem, counted, is_counted, problem_of}
-use Rattle.dn_instance.specs.State.TextsSoFar.{HasRead}
+use Rattle.dn_instance.specs.State.RowRuns.{AreFaultless, AreInTime, HasSigns, IsInTime, IsRowHead, Joins, counted_head, line_of, row_items, row_line, supply_of}
+use Rattle.dn_instance.specs.State.TextParts.{AnyBody, BodyHolds, TakesMark, any_body, body_kind, marks_of}
+use Rattle.dn_instance.specs.Items.{Problem, counted, is_counted, problem_in, problem_of}
+use Rattle.dn_instance.specs.State.TextsSoFar.{AwaitsRow, HasRead, IsOfRun, RoomFor, TakesRowOf, problem_as, text_kind, text_of}
 use Rattle.dn_instance.specs.TextFaults.{is_arc, is_companion, is_full, item_tests}
-use Rattle.dn_instance.specs.declared.draft.Draft.{Draft}
+use Rattle.dn_instance.specs.declared.marks.Marks.{Marks}
 use Rattle.dn_instance.specs.declared.text_so_far.TextSoFar.{TextSoFar}
-use Rattle.dn_instance.proofs.ItemSteps.{counted_yes, problem_all, more_read}
-use Rattle.dn_instance.specs.State.Bodies.{AnswersItem, Awaits, TakerFacts, StopsAt, Took, TookRows}
+use Rattle.dn_instance.proofs.MarksLaws.{marks_kept, rows_no_mark}
+use Rattle.dn_instance.proofs.ItemSteps.{body_read, counted_yes, has_due, marks_read, kind_agrees, kind_of_item, problem_agrees, problem_all}
+use Rattle.dn_instance.specs.State.Bodies.{AnswersItem, Awaits, TakerFacts, StopsAtRow, TakesRows, Took, TookRows}
 use Rattle.dn_instance.specs.declared.body.Taken.{Taken}
 use Rattle.dn_instance.specs.declared.refusal.ItemFault.{ItemFault}
+use Rattle.dn_instance.specs.declared.refusal.ItemFault.TheVariants as ItemFaults
 
 -- items without a fault, followed by one more, have no fault
 faultless_more : (before items : List Line) (i : Line) → AreFaultless before items
@@ -121,16 +129,6 @@ rows_arcs kind (r ∷ rows) g = rw (one_arc kind r g, one_counted kind r) (above
     above : (k : ℕ) → true ≡ int_lt (pos 0) (pos (suc k))
     above k = grind (arith, ints, nat_tests)
 
--- more rows have been read
-pub rows_read : (t : TextSoFar) (d : Draft) (kind : Kind) (before : List Line) → HasRead t before
-    → draft_kind t.draft ≡ Some kind → draft_kind d ≡ draft_kind t.draft → (rows : List RowLine) (n : ℤ)
-    → n ≡ pos (counted before + length rows) → counted before + length rows < 2 ^ 63
-    → DraftHolds d (before ++ row_items (line_of kind) rows)
-    → HasRead (record t { counted = n; draft = d }) (before ++ row_items (line_of kind) rows)
-rows_read t d kind before at is kept rows n e few =
-    more_read t d before (row_items (line_of kind) rows) kind at is kept (rows_arcs kind rows) n
-    (rw (all_counted kind rows) e) (rw (all_counted kind rows) few)
-
 none_counted : (rows : List RowLine) → filter is_counted (row_items supply_of rows) ≡ []
 none_counted [] = refl
 none_counted (r ∷ rows) = none_counted rows
@@ -139,35 +137,9 @@ no_arcs : (rows : List RowLine) → list_any is_arc (row_items supply_of rows) �
 no_arcs [] = refl
 no_arcs (r ∷ rows) = no_arcs rows
 
--- rows of `min` node lines have been read
-pub supplies_read : (t : TextSoFar) (d : Draft) (before : List Line) → HasRead t before → draft_kind t.draft ≡ Some Min
-    → draft_kind d ≡ draft_kind t.draft → (rows : List RowLine) → DraftHolds d (before ++ row_items supply_of rows)
-    → HasRead (record t { draft = d }) (before ++ row_items supply_of rows)
-supplies_read t d before at is kept rows =
-    more_read t d before (row_items supply_of rows) Min at is kept (λ g. rw (no_arcs rows, none_counted rows))
-    t.counted (rw (none_counted rows, add-zero) at.counted_is) (rw (none_counted rows, add-zero) at.counted_few)
-
--- a number above 0 that is at most a saturated difference is at most the difference
-within : (n : ℕ) (z : ℤ) → 0 < n → pos n ≤ℤ saturate_signed w64 z → pos n ≤ℤ z
-within n (pos m) some h = omega (arith, ints)
-within n (negsuc m) some h = absurd (omega (arith, ints))
-
--- the rows that are taken are at most as many as are still declared
-pub still_declared : (k m n : ℕ) (count s : ℤ) → s ≡ saturate_signed w64 (count -ℤ pos k) → (0 < n → pos n ≤ℤ s) → m ≤ n
-    → 0 < m → pos (k + m) ≤ℤ count
-still_declared k m n count s e most h some =
-    let all = within n (count -ℤ pos k) (omega arith) (rw e at (most (omega arith))) in omega (arith, ints)
-
-pub still_few : (k m : ℕ) (count : ℤ) → count <ℤ pos (2 ^ 63) → k < 2 ^ 63 → (0 < m → pos (k + m) ≤ℤ count)
-    → k + m < 2 ^ 63
-still_few k zero count f h declared = omega arith
-still_few k (suc m) count f h declared = omega (arith, ints, declared (omega arith))
-
-pub sum_taken : (k m : ℕ) → k + m < 2 ^ 63 → saturate_signed w64 (pos k +ℤ pos m) ≡ pos (k + m)
-sum_taken k m h = ap pos (min-eq_left (omega arith))
-
-pub sum_fits : (n : ℕ) → n < 2 ^ 63 → FitsSigned w64 (pos n)
-sum_fits n h = fits_signed_from_abs w64 (pos n) (grind (arith, ints, nat_tests))
+none_free : (rows : List RowLine) → AllByRecursion (λ i. is_counted i ≡ false) (row_items supply_of rows)
+none_free [] = tt
+none_free (r ∷ rows) = (refl, none_free rows)
 
 -- at most all rows are taken
 pub within_all : {F : Type 0} (fault : Option F) (m n : ℕ) → MatchOption fault (m ≤ n) (λ f. m < n) → m ≤ n
@@ -212,7 +184,7 @@ module _ {T : Type 0} (taker : TakerFacts T) (line : Row → Line) (nodes : ℤ)
       }
     where
       at_row : (items : List Line) (rs : List RowLine) (i : ℕ) → i < length rs
-          → AnswersItem items (line (get_or rs i d).row) (Err e) → StopsAt line items (drop i rs) (Some e)
+          → AnswersItem items (line (get_or rs i d).row) (Err e) → StopsAtRow line items (drop i rs) (Some e)
       at_row items [] i h a = absurd (omega arith)
       at_row items (x ∷ rs) zero h a = a
       at_row items (x ∷ rs) (suc i) h a = at_row items rs i (omega arith) a
@@ -220,6 +192,196 @@ module _ {T : Type 0} (taker : TakerFacts T) (line : Row → Line) (nodes : ℤ)
 pub kept_on_error : {P : Type 0} (r : Result (Unit {0}) ItemFault) (e : ItemFault) → r ≡ Err e → OnErr r P → P
 kept_on_error (Ok x) e h p = cc
 kept_on_error (Err f) e h p = p
+
+-- no counted line has the head of node lines
+not_node : (kind : Kind) → Heads.Node ≡ counted_head kind → ⊥
+not_node Min e = cc
+not_node _ e = cc
+
+-- rows of `min` node lines have been taken
+pub marks_run : (t : TextSoFar) (h : Marks) (kind : Kind) (head : Head) (rows : List RowLine) (r : Taken)
+    → head ≡ Heads.Node → IsRowHead kind head → TakesRows marks_of supply_of t.nodes t.marks h rows r
+    → (before : List Line) → Awaits (text_of kind) t.nodes t before (row_items (row_line kind head) rows)
+    → TookRows (text_of kind) (row_line kind head) before (record t { marks = h }) rows r
+marks_run t h kind head rows r node is takes = elim is [
+  | inl e ↦ rw (e.0, e.1) (λ before a.
+      let took = takes before (record {
+        problem = a.problem;
+        problem_is = a.problem_is;
+        kind_is = a.kind_is;
+        nodes_are = a.nodes_are;
+        signs = a.signs;
+        holds = a.holds.1.marks_hold;
+      }) in
+      let first = take r.rows rows in
+      record {
+        joins = record {
+          faultless = took.joins.faultless;
+          holds = (
+            a.holds.0,
+            marks_read t h before (row_items supply_of first) Min a.holds.1 a.holds.0 (none_free first)
+                (none_counted first) (no_arcs first) took.joins.holds,
+          );
+        };
+        stops = took.stops;
+      })
+  | inr e ↦ absurd (not_node kind (sym node ∙ e))
+]
+
+-- rows of counted lines have been taken
+pub body_run : (t : TextSoFar) (b b' : AnyBody) (kind : Kind) (head : Head) (rows : List RowLine) (r : Taken) (d : ℤ)
+    → t.body ≡ Some b → (head ≡ Heads.Node → ⊥) → IsRowHead kind head → r.rows ≤ length rows
+    → TakesRows (any_body kind) (line_of kind) t.nodes b b' rows r → body_kind b' ≡ body_kind b
+    → d ≡ t.due -ℤ pos r.rows → pos 0 ≤ℤ d
+    → (before : List Line) → Awaits (text_of kind) t.nodes t before (row_items (row_line kind head) rows)
+    → TookRows (text_of kind) (row_line kind head) before (record t { due = d; body = Some b' }) rows r
+body_run t b b' kind head rows r d body counts is within takes same due some = elim is [
+  | inl e ↦ absurd (counts e.0)
+  | inr e ↦ rw e (λ before a.
+      let own : body_kind b ≡ kind = own_kind (rw body at a.holds.0) in
+      let took = takes before (record {
+        problem = a.problem;
+        problem_is = a.problem_is;
+        kind_is = a.kind_is;
+        nodes_are = a.nodes_are;
+        signs = a.signs;
+        holds = (own, rw body at a.holds.1.body_holds);
+      }) in
+      let first = take r.rows rows in
+      let items = row_items (line_of kind) first in
+      let long : counted items ≡ r.rows = all_counted kind first ∙ length-take-le r.rows rows within in
+      record {
+        joins = record {
+          faultless = took.joins.faultless;
+          holds = (
+            ap Some (same ∙ own),
+            body_read t b' before items kind d a.holds.1 a.holds.0 (same ∙ own) (rows_arcs kind first)
+                (rw long (omega (arith, ints, due))) some
+                (marks_kept t.marks before items (rows_no_mark kind first) a.holds.1.marks_hold)
+                took.joins.holds.1,
+          );
+        };
+        stops = took.stops;
+      })
+]
+  where
+    own_kind : {k l : Kind} → Some k ≡ Some l → k ≡ l
+    own_kind e = cc
+
+-- a difference that fits is not saturated
+pub not_saturated : (z : ℤ) → pos 0 ≤ℤ z → z <ℤ pos (2 ^ 63) → saturate_signed w64 z ≡ z
+not_saturated (pos m) some few = ap pos (min-eq_left (omega (arith, ints)))
+not_saturated (negsuc m) some few = absurd (omega (arith, ints))
+
+-- if no row has been taken, the text has read the same items
+pub same_read : (t : TextSoFar) (b b' : AnyBody) (d : ℤ) (before : List Line) → t.body ≡ Some b
+    → body_kind b' ≡ body_kind b → d ≡ t.due → (BodyHolds b before → BodyHolds b' before) → HasRead t before
+    → HasRead (record t { due = d; body = Some b' }) before
+same_read t b b' d before body same due keep at = record {
+  problem_is = rw same (rw body at at.problem_is);
+  count_fits = at.count_fits;
+  due_is = rw due at.due_is;
+  due_some = rw due at.due_some;
+  arcs_are = λ graph. rw due (at.arcs_are (rw (body, ← same) graph));
+  marks_hold = at.marks_hold;
+  body_holds = keep (rw body at at.body_holds);
+}
+
+-- rows come in time if the first of them has no fault because of the lines before it, and there is room for all
+pub run_in_time : (t : TextSoFar) (items : List Line) (kind : Kind) (head : Head) (rows : List RowLine)
+    → HasRead t items → text_kind t ≡ Some kind → IsRowHead kind head → RoomFor head rows t
+    → (head ≡ Heads.Node → int_lt t.due t.count ≡ false) → AreInTime items (row_items (row_line kind head) rows)
+run_in_time t items kind head rows at is row room early = elim row [
+  | inl e ↦
+      let no_arc : list_any is_arc items ≡ false =
+      at.arcs_are (rw (is, e.1) refl) ∙ early e.0 in
+      rw (e.0, e.1) (supplies_in_time rows items no_arc)
+  | inr e ↦
+      let most = room (λ n. not_node kind (sym n ∙ e)) in
+      rw e (come_in_time kind rows items (problem_as t kind) (problem_agrees t items kind at is)
+      (λ some. omega (arith, ints, most, at.due_is)))
+]
+
+-- as many rows as were asked for are at most as many as are still to come
+pub room_for : (n q : ℕ) (d : ℤ) → n ≤ q → (0 < q → pos q ≤ℤ d) → pos 0 ≤ℤ d → pos n ≤ℤ d
+room_for zero q d few most some = some
+room_for (suc n) q d few most some = omega (arith, ints, most (omega arith))
+
+-- the item of a line that is no problem line is no problem
+row_no_problem : (head : Head) (known : Option Kind) (row : Row) → ((kind : Kind) → head ≡ Heads.Problem kind → ⊥)
+    → problem_in (item_of_row head known row) ≡ None
+row_no_problem (Heads.Problem k) known row n = absurd (n k refl)
+row_no_problem _ (Some Min) row n = refl
+row_no_problem _ _ row n = refl
+
+-- a line that spells an item of its kind, and is no problem line and no `max` node line, has the head of a row
+row_head_is : (head : Head) (kind : Kind) (row : Row) → kind_before (item_of_row head (Some kind) row) ≡ Some kind
+    → ((k : Kind) → head ≡ Heads.Problem k → ⊥) → (head ≡ Heads.Node → kind ≡ Max → ⊥) → IsRowHead kind head
+row_head_is (Heads.Problem k) kind row h p n = absurd (p k refl)
+row_head_is Heads.Node Min row h p n = inl (refl, refl)
+row_head_is Heads.Node Max row h p n = absurd (n refl refl)
+row_head_is Heads.Arc Min row h p n = inr refl
+row_head_is Heads.Arc Max row h p n = inr refl
+row_head_is Heads.Arc Sp row h p n = inr refl
+row_head_is Heads.Source Ss row h p n = inr refl
+row_head_is Heads.Query P2p row h p n = inr refl
+row_head_is Heads.Point Co row h p n = inr refl
+row_head_is _ Min row h p n = cc
+row_head_is _ _ row h p n = cc
+
+-- a run of the row of the next line
+pub took_one : (t u : TextSoFar) (head : Head) (row : Row) (k : Taken)
+    → (let line : RowLine = record { row = row; left = 0 } in (kind : Kind) (before : List Line) → IsRowHead kind head
+    → RoomFor head (line ∷ []) t → Awaits (text_of kind) t.nodes t before (row_items (row_line kind head) (line ∷ []))
+    → TookRows (text_of kind) (row_line kind head) before u (line ∷ []) k) → IsOfRun t head → (before : List Line)
+    → AwaitsRow t before (item_of_row head (text_kind t) row)
+    → (kind : Kind) × (text_kind t ≡ Some kind)
+    × TookRows (text_of kind) (row_line kind head) before u (record { row = row; left = 0 } ∷ []) k
+took_one t u head row k takes run before a = by own.0 own.1
+  where
+    i : Line
+    i = item_of_row head (text_kind t) row
+
+    own : (kind : Kind) × (kind_before i ≡ Some kind)
+    own = kind_of_item i (row_no_problem head (text_kind t) row run.no_problem) a.may.spelled
+
+    by : (kind : Kind) → kind_before i ≡ Some kind → (kind : Kind) × (text_kind t ≡ Some kind)
+        × TookRows (text_of kind) (row_line kind head) before u (record { row = row; left = 0 } ∷ []) k
+    by kind of =
+        let is : text_kind t ≡ Some kind = sym (kind_agrees t before a.read) ∙ a.may.kind_is ∙ of in
+        let row_is : IsRowHead kind head =
+        row_head_is head kind row (ap (λ o. kind_before (item_of_row head o row)) (sym is) ∙ of) run.no_problem
+        (λ n m. run.no_terminal n (is ∙ ap Some m)) in (
+          kind,
+          is,
+          takes kind before row_is (λ counts. elim row_is [
+            | inl e ↦ absurd (counts e.0)
+            | inr e ↦
+                has_due t before i kind a.read is a.may.room
+                (ap (λ o. is_counted (item_of_row head o row)) is
+                ∙ ap (λ h. is_counted (item_of_row h (Some kind) row)) e
+                ∙ one_counted kind (record { row = row; left = 0 }))
+          ]) (record {
+            problem = problem_as t kind;
+            problem_is = problem_agrees t before kind a.read is;
+            kind_is = refl;
+            nodes_are = refl;
+            signs = (subst (λ o. HasSigns (item_of_row head o row)) is a.may.signs, tt);
+            holds = (is, a.read);
+          }),
+        )
+
+-- a `max` node line that the marks take is taken by the text
+pub terminal_read : (t : TextSoFar) (h : Marks) (head : Head) (row : Row) (r : Result (Unit {0}) ItemFault)
+    → head ≡ Heads.Node → text_kind t ≡ Some Max
+    → TakesMark t.nodes t.marks h (Item.Terminal row.first (letter_named row.second)) r
+    → (r ≡ Err ItemFaults.Memory → ⊥) → TakesRowOf t (record t { marks = h }) head row r
+terminal_read t h head row r node is takes never = rw (node, is) (λ before a.
+    let i = Item.Terminal row.first (letter_named row.second) in
+    let took = takes before (problem_as t Max) (problem_agrees t before Max a.read is) refl refl a.read.marks_hold in (
+      record { fault = took.0; memory = λ e. absurd (never e) },
+      on_ok_weaker r (λ held. marks_read t h before (i ∷ []) Max a.read is (refl, tt) refl refl held) took.1,
+    ))
 
 -- a run of one row
 module _ {T : Type 0} (taker : TakerFacts T) (line : Row → Line) (before : List Line) (held : T) (row : RowLine)

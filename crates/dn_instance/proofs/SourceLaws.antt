@@ -1,4 +1,5 @@
 -- Lemmas on the outcome of reading a source.
+use Rattle.dn_instance.specs.State.Helds.{Parsed}
 use Rattle.std.proofs.Common.{◌≡◌, ◌⊎◌, inl, inr, ℕ, ◌<◌, ◌≤◌, ◌^◌, List, [], ◌++◌, append_assoc, append-nil, length, Bool, true, false, ◌==◌, Option, Some, None, Result, Ok, Err, refl, sym, ◌∙◌, arith, IfSome, IfOk, IsErrOf, IsTrue}
 use Rattle.std.specs.Io.KnownBytes.{Consumes, IsAtEnd}
 use Rattle.std.proofs.KnownBytes.{Consumes-trans, Consumes-whole}
@@ -7,7 +8,6 @@ use Rattle.std.proofs.lemmas.List.{nil_from_length}
 use Rattle.dn_line.specs.Pieces.{lines}
 use Rattle.dn_line.specs.Sources.{SourceFacts}
 use Rattle.dn_instance.specs.declared.refusal.Place.TheVariants as Places
-use Rattle.dn_instance.specs.declared.held.Held.{Held}
 use Rattle.dn_instance.specs.declared.reader.Reader.{Reader}
 use Rattle.dn_instance.specs.declared.refusal.Refusal.{Refusal}
 use Rattle.dn_instance.specs.declared.refusal.Refusal.TheVariants.{Text, Memory, Read, Endless, Write, CountTooLarge}
@@ -76,7 +76,7 @@ has_none piece test is e = nil_from_length piece (eqb-true (length piece) 0 (sym
 pub has_some : (piece : List ℕ) (test : Bool) → test ≡ (length piece == 0) → test ≡ false → 0 < length piece
 has_some piece test is e = omega (arith, eqb-false (length piece) 0 (sym is ∙ e))
 
-end_outcome : (t : List ℕ) (left : AfterPulls) (r : Result Held Refusal) → IsAtEnd left.gives → IsClean (ended t)
+end_outcome : (t : List ℕ) (left : AfterPulls) (r : Result Parsed Refusal) → IsAtEnd left.gives → IsClean (ended t)
     → (r ≡ Err Memory → WantsMemory (length (ended t)) (lines t)) → Outcome t r → SourceOutcome t left r
 end_outcome t left (Ok held) e clean m h = (h, e)
 end_outcome t left (Err (Text place code)) e clean m h = (h, inr (record { at_end = e; clean = clean; refused = h }))
@@ -128,7 +128,7 @@ module _ {S : Type 0} (source : SourceFacts S) (old before : S) (r : Reader) (fe
   given_all new piece none c = rw (none, append-nil fed.given) at (given_more new piece c)
 
   -- the outcome of a source that is at its end
-  pub finished : (new : S) (a : Result Held Refusal) → Consumes (source.gives old) (source.gives new) fed.given
+  pub finished : (new : S) (a : Result Parsed Refusal) → Consumes (source.gives old) (source.gives new) fed.given
       → IsAtEnd (source.gives new) → Outcome fed.given a
       → (a ≡ Err Memory → WantsMemory (length (ended fed.given)) (lines fed.given))
       → IfSome (source.gives old) (λ t. SourceOutcome t (after_pulls source old new) a)
@@ -170,7 +170,7 @@ kept_more keeps old mid new given piece h k is = rw (k is, h is) (append_assoc o
 
 -- the outcome if all bytes that the source gave are kept, if bytes are kept
 pub kept : (keeps : Bool) (old new : Option (List ℕ)) (left : AfterPulls) (given old_copy new_copy : List ℕ)
-    (r : Result Held Refusal) → left.gives ≡ new → Consumes old new given → IsKept keeps old_copy new_copy given
+    (r : Result Parsed Refusal) → left.gives ≡ new → Consumes old new given → IsKept keeps old_copy new_copy given
     → IfSome old (λ t. SourceOutcome t left r) → IfSome old (λ t. KeptOutcome keeps t left old_copy new_copy r)
 kept keeps None new left given old_copy new_copy r l c k h = tt
 kept keeps (Some t) None left given old_copy new_copy r l c k h = absurd c
@@ -178,18 +178,18 @@ kept keeps (Some t) (Some rest) left given old_copy new_copy r l c k h =
     inl (h, λ is. record { given = given; rest = rest; whole = c; rest_is = l; copy = k is })
 
 -- the outcome if no bytes are kept
-pub unkept : (old : Option (List ℕ)) (left : AfterPulls) (old_copy new_copy : List ℕ) (r : Result Held Refusal)
+pub unkept : (old : Option (List ℕ)) (left : AfterPulls) (old_copy new_copy : List ℕ) (r : Result Parsed Refusal)
     → IfSome old (λ t. KeptOutcome false t left old_copy new_copy r) → IfSome old (λ t. SourceOutcome t left r)
 unkept None left old_copy new_copy r h = tt
 unkept (Some t) left old_copy new_copy r (inl h) = h.0
 unkept (Some t) left old_copy new_copy r (inr h) = cc h.1
 
-pub unkept_held : (old_copy new_copy : List ℕ) (a : Result Held Refusal) → IfOk a (HoldsKept false old_copy new_copy)
+pub unkept_held : (old_copy new_copy : List ℕ) (a : Result Parsed Refusal) → IfOk a (HoldsKept false old_copy new_copy)
     → IfOk a HoldsSome
 unkept_held old_copy new_copy (Ok held) h = (h.0, h.1)
 unkept_held old_copy new_copy (Err e) h = tt
 
-copy_outcome : (t : List ℕ) (left : AfterPulls) (old_copy new_copy : List ℕ) (r : Result Held Refusal)
+copy_outcome : (t : List ℕ) (left : AfterPulls) (old_copy new_copy : List ℕ) (r : Result Parsed Refusal)
     → SourceOutcome t left r → Copied t left.gives old_copy new_copy → CopyOutcome t left old_copy new_copy r
 copy_outcome t left old_copy new_copy (Err Memory) h k = inl (h, k)
 copy_outcome t left old_copy new_copy (Err Write) h k = absurd h
@@ -197,14 +197,14 @@ copy_outcome t left old_copy new_copy (Err CountTooLarge) h k = absurd h
 copy_outcome t left old_copy new_copy _ h k = (h, k)
 
 -- the outcome if bytes are kept
-pub copied : (old : Option (List ℕ)) (left : AfterPulls) (old_copy new_copy : List ℕ) (r : Result Held Refusal)
+pub copied : (old : Option (List ℕ)) (left : AfterPulls) (old_copy new_copy : List ℕ) (r : Result Parsed Refusal)
     → IfSome old (λ t. KeptOutcome true t left old_copy new_copy r)
     → IfSome old (λ t. CopyOutcome t left old_copy new_copy r)
 copied None left old_copy new_copy r h = tt
 copied (Some t) left old_copy new_copy r (inl h) = copy_outcome t left old_copy new_copy r h.0 (h.1 refl)
 copied (Some t) left old_copy new_copy r (inr h) = rw h.0 (inr h.2)
 
-pub copied_held : (old_copy new_copy : List ℕ) (a : Result Held Refusal) → IfOk a (HoldsKept true old_copy new_copy)
+pub copied_held : (old_copy new_copy : List ℕ) (a : Result Parsed Refusal) → IfOk a (HoldsKept true old_copy new_copy)
     → IfOk a (HoldsCopied old_copy new_copy)
 copied_held old_copy new_copy (Ok held) h = (h.0, h.1, h.2 refl)
 copied_held old_copy new_copy (Err e) h = tt

@@ -3,7 +3,7 @@ pub mod InstanceEntries
 pub mod ItemFaults
 pub mod RowRuns
 pub mod Bodies
-pub mod Drafts
+pub mod TextParts
 pub mod TextsSoFar
 pub mod Helds
 pub mod Ends

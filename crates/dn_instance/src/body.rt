@@ -1,11 +1,13 @@
-// Takes the rows of one kind of text as they arrive.
-ghost use Rattle.std.specs.Prelude.{◌≡◌, ◌<◌, ◌≤◌, ℤ, Option, OnErr, MatchOption, length};
+// Takes the rows of counted lines as they arrive.
+ghost use Rattle.std.specs.Prelude.{◌≡◌, ◌<◌, ◌≤◌, ◌^◌, ℤ, List, [], Option, OnErr, MatchOption, length};
 ghost use Rattle.dn_line.specs.declared.kind.Kind.{Kind};
 ghost use Rattle.dn_line.specs.declared.kind.Kind.TheVariants.{Co, P2p, Ss};
 ghost use Rattle.dn_line.specs.declared.line.Line.{Line};
 ghost use Rattle.dn_line.specs.declared.row.Row.{Row};
 ghost use Rattle.dn_instance.specs.Items.{length_arc_in, cap_arc_in, cost_arc_in};
+ghost use Rattle.dn_instance.specs.EntryCount.{entries_as};
 ghost use Rattle.dn_instance.specs.State.RowRuns.{line_of};
+ghost use Rattle.dn_instance.specs.State.TextParts.{BodyHolds, IsSorted, any_body, body_kind};
 ghost use Rattle.dn_instance.specs.State.Bodies.{IsArcOfRow, Keeps, TakerFacts, TakesRow, TakesRows, ids_body, pairs_body, points_body, table_body};
 
 use crate::ahead;
@@ -13,8 +15,8 @@ use crate::arcs::take_arc;
 use crate::items::{take_point, take_query, take_source};
 use crate::refusal::ItemFault;
 use dn_bundle::{Bundle, CapArc, CostArc, Curve, Least, LengthArc, Total};
-use dn_line::{Row, RowLine};
-use dn_table::TableSoFar;
+use dn_line::{Kind, Row, RowLine};
+use dn_table::{Table, TableSoFar};
 use std::alloc::Global;
 use std::collections::BTreeMap;
 
@@ -162,6 +164,103 @@ impl RowBundle for Curve {
             low: row.third,
             cap: row.fourth,
             cost: row.fifth,
+        }
+    }
+}
+
+// What the counted lines of a text make, by kind: bundles by ordered pair, lists and points. While lines arrive, each
+// arc is merged into the bundle of its pair at once; at the end, the bundles are sorted by pair.
+#[derive(Drop)]
+pub(crate) enum Body<C: Drop, T: Drop, L: Drop> {
+    Min(C),
+    Max(T),
+    Sp(L),
+    Ss(Vec<i64>),
+    P2p(Vec<(i64, i64)>),
+    Co(BTreeMap<i64, (i64, i64)>),
+}
+
+impl<C: Drop, T: Drop, L: Drop> Body<C, T, L> {
+    // Returns the kind of the text.
+    pub(crate) fn kind(&self) -> Kind
+        ensures { result ≡ body_kind self.now }
+    {
+        match self {
+            Body::Min(_) => Kind::Min,
+            Body::Max(_) => Kind::Max,
+            Body::Sp(_) => Kind::Sp,
+            Body::Ss(_) => Kind::Ss,
+            Body::P2p(_) => Kind::P2p,
+            Body::Co(_) => Kind::Co,
+        }
+    }
+}
+
+impl Body<TableSoFar<Curve>, TableSoFar<Total>, TableSoFar<Least>> {
+    // Makes the body of a problem line of this kind.
+    pub(crate) fn new(
+        alloc: Global,
+        kind: &Kind,
+    ) -> Body<TableSoFar<Curve>, TableSoFar<Total>, TableSoFar<Least>>
+        ensures kind { body_kind result ≡ kind.now }
+        ensures none { BodyHolds result [] }
+    {
+        match kind {
+            Kind::Min => Body::Min(TableSoFar::new(alloc)),
+            Kind::Max => Body::Max(TableSoFar::new(alloc)),
+            Kind::Sp => Body::Sp(TableSoFar::new(alloc)),
+            Kind::Ss => Body::Ss(Vec::new(alloc)),
+            Kind::P2p => Body::P2p(Vec::new(alloc)),
+            Kind::Co => Body::Co(BTreeMap::new(alloc)),
+        }
+    }
+
+    // Takes rows one after another, up to the first that has a fault or for which an allocation fails.
+    pub(crate) fn take_rows(&mut self, alloc: Global, nodes: &i64, rows: &[RowLine]) -> Taken
+        ensures taken { (kind : Kind)
+            → TakesRows (any_body kind) (line_of kind) nodes.now self.old self.new rows.now result }
+        ensures unchanged { result.rows ≡ 0
+            → (items : List Line) → BodyHolds self.old items → BodyHolds self.new items }
+        ensures within { MatchOption result.fault (result.rows ≤ length rows.now)
+            (λ f. result.rows < length rows.now) }
+        ensures kept { body_kind self.new ≡ body_kind self.old }
+    {
+        match self {
+            Body::Min(table) => take_rows(table, alloc, nodes, rows),
+            Body::Max(table) => take_rows(table, alloc, nodes, rows),
+            Body::Sp(table) => take_rows(table, alloc, nodes, rows),
+            Body::Ss(ids) => take_rows(ids, alloc, nodes, rows),
+            Body::P2p(pairs) => take_rows(pairs, alloc, nodes, rows),
+            Body::Co(points) => take_rows(points, alloc, nodes, rows),
+        }
+    }
+
+    // Returns how many entries the rows so far make, if this is below 2^64.
+    pub(crate) fn entries(&self) -> u64
+        ensures { (items : List Line) → BodyHolds self.now items → entries_as (body_kind self.now) items < 2 ^ 64
+            → result ≡ entries_as (body_kind self.now) items }
+    {
+        match self {
+            Body::Min(table) => table.entries(),
+            Body::Max(table) => table.entries(),
+            Body::Sp(table) => table.entries(),
+            Body::Ss(ids) => ids.len() as u64,
+            Body::P2p(pairs) => pairs.len() as u64,
+            Body::Co(points) => points.len() as u64,
+        }
+    }
+
+    // Returns the body at the end of the text, with the bundles sorted by pair. This does not allocate.
+    pub(crate) fn end(self) -> Body<Table<Curve>, Table<Total>, Table<Least>>
+        ensures { IsSorted self result }
+    {
+        match self {
+            Body::Min(table) => Body::Min(table.end()),
+            Body::Max(table) => Body::Max(table.end()),
+            Body::Sp(table) => Body::Sp(table.end()),
+            Body::Ss(ids) => Body::Ss(ids),
+            Body::P2p(pairs) => Body::P2p(pairs),
+            Body::Co(points) => Body::Co(points),
         }
     }
 }

@@ -3,23 +3,20 @@
 //! and keeps a refusal.
 //!
 //! In the order of the data: `read` takes a text from memory or pulls it from a source, `reader` takes it in pieces,
-//! and `text_so_far` takes each line and checks what depends on the number and order of lines. `draft` holds what the
-//! items make: `heads` what `n` lines make, and `any_body`, by the `body` of each kind, what counted lines make. `arcs`
-//! and `items` take one item each, and `ahead` looks up the pairs of the next arcs. `refusal` says why an item or a
-//! text is refused, and where. `held` is a parsed instance, `content` is what it holds by kind, and `view` shows it.
+//! and `text_so_far` takes each line and checks what depends on the number and order of lines. `marks` holds what `n`
+//! lines make, and `body` what counted lines make. `arcs` and `items` take one item each, and `ahead` looks up the
+//! pairs of the next arcs. `refusal` says why an item or a
+//! text is refused, and where. `held` is a parsed instance, and `view` shows it.
 //! `companion` judges a companion by its graph. `verdict` says where two instances first differ.
 #![tactic(auto)]
 
 mod ahead;
-mod any_body;
 mod arcs;
 mod body;
 pub mod companion;
-mod content;
-mod draft;
-mod heads;
 pub mod held;
 mod items;
+mod marks;
 pub mod read;
 pub mod reader;
 pub mod refusal;

@@ -1,5 +1,6 @@
 // The complete lines of a text: how many they are, and what their items make.
-ghost use Rattle.std.specs.Prelude.{◌≡◌, ◌<◌, ◌≤◌, ◌≤ℤ◌, ℕ, ◌+◌, ◌-◌, ◌^◌, pos, length, take, List, ◌∷◌, ◌++◌, [], OnOk, OnErr, Err, Some, None, true, false, get_or};
+ghost use Rattle.std.specs.Prelude.{◌≡◌, ◌<◌, ◌≤◌, ◌≤ℤ◌, ℕ, ◌+◌, ◌-◌, ◌^◌, pos, length, take, List, ◌∷◌, ◌++◌, [], OnOk, OnErr, Err, Some, MatchOption, get_or, int_lt, None, true, false};
+ghost use Rattle.dn_line.specs.declared.kind.Kind.{Kind};
 ghost use Rattle.dn_line.specs.declared.line.Line.{Line};
 ghost use Rattle.dn_line.specs.declared.row_block.RowLine.{RowLine};
 ghost use Rattle.dn_line.specs.declared.word.Word.{Word};
@@ -9,27 +10,33 @@ ghost use Rattle.dn_line.specs.Words.{first, said_words};
 ghost use Rattle.dn_line.specs.Faults.{first_fault, head_tests};
 ghost use Rattle.dn_line.specs.State.LineReads.{head_of};
 ghost use Rattle.dn_line.specs.State.LineStates.{LineSoFar, LineReaderAt};
-ghost use Rattle.dn_instance.specs.Items.{problem_in, is_counted};
-ghost use Rattle.dn_instance.specs.TextFaults.{order_tests, item_tests, line_fault};
-ghost use Rattle.dn_instance.specs.State.Drafts.{draft_kind};
+ghost use Rattle.dn_line.specs.State.RowItems.{problem_item};
+ghost use Rattle.dn_instance.specs.Items.{problem_in};
+ghost use Rattle.dn_instance.specs.TextFaults.{order_tests, line_fault};
+ghost use Rattle.dn_instance.specs.State.Bodies.{Awaits, TookRows};
 ghost use Rattle.dn_instance.specs.State.Ends.{EndsWith};
 ghost use Rattle.dn_instance.specs.EntryCount.{entries_so_far};
-ghost use Rattle.dn_instance.specs.Readers.{NeedsMemory, SpellsNeed};
+ghost use Rattle.dn_instance.specs.Readers.{SpellsNeed};
 ghost use Rattle.dn_instance.specs.State.ItemFaults.{AnswersFault};
 ghost use Rattle.dn_instance.specs.Texts.{items_of, with_next};
-ghost use Rattle.dn_instance.specs.State.TextsSoFar.{Awaits, HasRead, next_read, fault_next, TextAt, ReadsFront};
+ghost use Rattle.dn_instance.specs.State.RowRuns.{IsRowHead, row_items, row_line, run_head};
+ghost use Rattle.dn_instance.specs.State.TextsSoFar.{AwaitsRow, HasRead, IsOfRun, NextRead, fault_next, TakesRowOf, TextAt, ReadsRows, RoomFor, text_kind, text_of};
 
-use crate::body::Taken;
-use crate::draft::Draft;
+use crate::body::{Body, Taken, take_rows};
 use crate::held::Held;
+use crate::marks::Marks;
 use crate::refusal::ItemFault;
-use dn_line::{BLOCK, Code, Head, Kind, Line, LineReader, RowBlock, RowLine, left_behind};
+use dn_bundle::{Curve, Least, Total};
+use dn_line::{
+    BLOCK, Code, Head, Kind, LineReader, Row, RowBlock, RowLine, left_behind, letter_named,
+};
+use dn_table::TableSoFar;
 use std::alloc::Global;
 
 // The greatest number of lines that a text may have.
 const LAST: u64 = (1 << 63) - 2;
 
-// The complete lines of a text so far, none of which has a fault. Before the problem line, the draft is empty and the
+// The complete lines of a text so far, none of which has a fault. Before the problem line, there is no body, and the
 // numbers other than `closed` are 0.
 #[derive(Drop)]
 pub(crate) struct TextSoFar {
@@ -39,9 +46,12 @@ pub(crate) struct TextSoFar {
     nodes: i64,
     // The number of counted lines that the problem line declares: ARCS or K.
     count: i64,
-    // The number of counted lines so far.
-    counted: i64,
-    draft: Draft,
+    // How many of these lines are still to come.
+    due: i64,
+    // What the `n` lines make.
+    marks: Marks,
+    // What the counted lines make.
+    body: Option<Body<TableSoFar<Curve>, TableSoFar<Total>, TableSoFar<Least>>>,
 }
 
 impl TextSoFar {
@@ -53,8 +63,9 @@ impl TextSoFar {
             closed: 0,
             nodes: 0,
             count: 0,
-            counted: 0,
-            draft: Draft::empty(alloc),
+            due: 0,
+            marks: Marks::new(alloc),
+            body: None,
         }
     }
 
@@ -66,72 +77,152 @@ impl TextSoFar {
         self.closed.saturating_add(1)
     }
 
+    // Returns the kind that the problem line names.
+    fn kind(&self) -> Option<Kind>
+        ensures { result ≡ text_kind self.now }
+    {
+        match &self.body {
+            Some(body) => Some(body.kind()),
+            None => None,
+        }
+    }
+
+    // Whether the text may have another line after this many more lines.
+    fn has_room(&self, more: u64) -> bool
+        requires { more ≤ 16 }
+        ensures room { result ≡ true → self.now.closed + more < 2 ^ 63 - 2 }
+        ensures full { result ≡ false → 2 ^ 63 - 2 ≤ self.now.closed + more }
+    {
+        self.closed < LAST - more
+    }
+
     // Returns the first fault that a line with this head has because of the lines before it. The head has no fault
     // itself.
-    fn check_order(&self, head: Head) -> Option<Code>
+    fn order_fault(&self, head: Head) -> Option<Code>
         ensures answer { (before : List Line) (ws : List Word) → HasRead self.now before
-            → first_fault (head_tests (draft_kind self.now.draft) ws) ≡ None
+            → first_fault (head_tests (text_kind self.now) ws) ≡ None
             → head ≡ head_of (first ws) (kind_named ws)
             → result ≡ first_fault (order_tests before ws) }
         ensures skip { head ≡ Head.Skip → result ≡ None }
+        ensures node { head ≡ Head.Node → result ≡ None → int_lt self.now.due self.now.count ≡ false }
     {
         match head {
-            Head::Node if 0 < self.counted => Some(Code::LateNode),
-            Head::Arc | Head::Source | Head::Query | Head::Point if self.count <= self.counted => {
+            Head::Node if self.due < self.count => Some(Code::LateNode),
+            Head::Arc | Head::Source | Head::Query | Head::Point if self.due <= 0 => {
                 Some(Code::TooManyLines)
             }
             _ => None,
         }
     }
 
-    // Returns what the next line reads as.
-    fn read(&self, line: &LineReader) -> Result<Line, Code>
+    // Returns the head and the row of the next line.
+    fn read(&self, line: &LineReader) -> Result<(Head, Row), Code>
         ensures { (items : List Line) (l : LineSoFar) → HasRead self.now items
-            → LineReaderAt line.now l → result ≡ next_read items (said_words l.bytes) }
+            → LineReaderAt line.now l → NextRead (text_kind self.now) items (said_words l.bytes) result }
     {
-        let known = self.draft.kind();
-        match line.head(known) {
-            Ok(head) => match self.check_order(head) {
-                Some(code) => Err(code),
-                None => line.fields(known),
-            },
+        let known = self.kind();
+        let head = match line.head(known) {
+            Ok(head) => head,
+            Err(code) => return Err(code),
+        };
+        if let Some(code) = self.order_fault(head) {
+            return Err(code);
+        }
+        match line.row(known, head) {
+            Ok(row) => Ok((head, row)),
             Err(code) => Err(code),
         }
     }
 
-    // Takes the problem line, which is the first item.
-    fn begin(&mut self, alloc: Global, kind: &Kind, nodes: &i64, count: &i64)
-        ensures read { (before : List Line) (i : Line) → Awaits self.old before i
-            → problem_in i ≡ Some (record { kind = kind.now; nodes = nodes.now; count = count.now })
-            → HasRead self.new (before ++ i ∷ []) }
+    // Takes the row of the problem line, which is the first item.
+    fn begin(&mut self, alloc: Global, kind: Kind, row: &Row)
+        ensures read { (before : List Line) → AwaitsRow self.old before (problem_item kind row.now)
+            → HasRead self.new (before ++ problem_item kind row.now ∷ []) }
+        ensures kept { self.new.closed ≡ self.old.closed }
+    {
+        match kind {
+            Kind::Min | Kind::Max | Kind::Sp => self.declare(alloc, kind, &row.first, &row.second),
+            Kind::Ss | Kind::P2p | Kind::Co => self.declare(alloc, kind, &0, &row.first),
+        }
+    }
+
+    // Takes the problem that the problem line declares.
+    fn declare(&mut self, alloc: Global, kind: Kind, nodes: &i64, count: &i64)
+        ensures read { (before : List Line) (i : Line) → AwaitsRow self.old before i
+            → problem_in i ≡ Some (record { kind = kind; nodes = nodes.now; count = count.now })
+            → pos 0 ≤ℤ count.now → HasRead self.new (before ++ i ∷ []) }
         ensures kept { self.new.closed ≡ self.old.closed }
     {
         self.nodes = *nodes;
         self.count = *count;
-        self.draft = Draft::new(alloc, kind);
+        self.due = *count;
+        self.body = Some(Body::new(alloc, &kind));
     }
 
-    // Takes the next item after the problem line, or returns its fault.
-    fn take(&mut self, alloc: Global, item: Line) -> Result<(), ItemFault>
-        ensures answer { (before : List Line) → Awaits self.old before item → problem_in item ≡ None
-            → AnswersFault result (first_fault (item_tests before (Some item))) }
-        ensures read { (before : List Line) → Awaits self.old before item → problem_in item ≡ None
-            → OnOk result (HasRead self.new (before ++ item ∷ [])) }
-        ensures unchanged { (before : List Line) → HasRead self.old before
-            → OnErr result (HasRead self.new before) }
+    // Takes rows of lines with this head one after another, up to the first that has a fault or for which an allocation
+    // fails.
+    fn take_run(&mut self, alloc: Global, head: Head, rows: &[RowLine]) -> Taken
+        ensures taken { (kind : Kind) (before : List Line) → IsRowHead kind head → RoomFor head rows.now self.old
+            → Awaits (text_of kind) self.old.nodes self.old before (row_items (row_line kind head) rows.now)
+            → TookRows (text_of kind) (row_line kind head) before self.new rows.now result }
+        ensures unchanged { result.rows ≡ 0 → (before : List Line) → HasRead self.old before → HasRead self.new before }
+        ensures within { MatchOption result.fault (result.rows ≤ length rows.now)
+            (λ f. result.rows < length rows.now) }
         ensures kept { self.new.closed ≡ self.old.closed }
-        ensures memory { (before : List Line) → Awaits self.old before item → problem_in item ≡ None
-            → result ≡ Err ItemFault.Memory → NeedsMemory before item }
     {
-        match self.draft.take(alloc, &self.nodes, item) {
-            Ok(()) => {
-                if is_counted(&item) {
-                    // The reader takes at most as many counted lines as are declared, so nothing saturates.
-                    self.counted = self.counted.saturating_add(1);
-                }
+        if let Head::Node = head {
+            return take_rows(&mut self.marks, alloc, &self.nodes, rows);
+        }
+        let Some(body) = &mut self.body else {
+            return NO_ROWS;
+        };
+        let taken = body.take_rows(alloc, &self.nodes, rows);
+        // At most as many rows come as are still to come, so nothing saturates.
+        self.due = self.due.saturating_sub(taken.rows as i64);
+        taken
+    }
+
+    // Takes the row of the next line, which has this head, or returns the fault of its item.
+    fn take(&mut self, alloc: Global, head: Head, row: &Row) -> Result<(), ItemFault>
+        ensures taken { TakesRowOf self.old self.new head row.now result }
+        ensures unchanged { (before : List Line) → HasRead self.old before → OnErr result (HasRead self.new before) }
+        ensures kept { self.new.closed ≡ self.old.closed }
+    {
+        match head {
+            Head::Problem(kind) => {
+                self.begin(alloc, kind, row);
                 Ok(())
             }
-            Err(fault) => Err(fault),
+            Head::Node => {
+                if self.has_terminals() {
+                    let letter = letter_named(&row.second);
+                    self.marks.take_terminal(&self.nodes, &row.first, letter)
+                } else {
+                    self.take_one(alloc, head, row)
+                }
+            }
+            _ => self.take_one(alloc, head, row),
+        }
+    }
+
+    // Whether this is a `max` text.
+    fn has_terminals(&self) -> bool
+        ensures yes { result ≡ true → text_kind self.now ≡ Some Kind.Max }
+        ensures no { result ≡ false → text_kind self.now ≡ Some Kind.Max → ⊥ }
+    {
+        matches!(&self.body, Some(Body::Max(_)))
+    }
+
+    // Takes the row of the next line, which has this head, as a run of one row.
+    fn take_one(&mut self, alloc: Global, head: Head, row: &Row) -> Result<(), ItemFault>
+        ensures taken { IsOfRun self.old head → TakesRowOf self.old self.new head row.now result }
+        ensures unchanged { (before : List Line) → HasRead self.old before → OnErr result (HasRead self.new before) }
+        ensures kept { self.new.closed ≡ self.old.closed }
+    {
+        let line = RowLine { row: *row, left: 0 };
+        match self.take_run(alloc, head, &[line]).fault {
+            Some(fault) => Err(fault),
+            None => Ok(()),
         }
     }
 
@@ -151,17 +242,9 @@ impl TextSoFar {
             → result ≡ Err ItemFault.Memory → SpellsNeed items (said_words l.bytes) }
     {
         match self.read(line) {
-            Ok(item) => match item {
-                Line::Skip => Ok(()),
-                Line::Graph { kind, nodes, arcs } => {
-                    self.begin(alloc, &kind, &nodes, &arcs);
-                    Ok(())
-                }
-                Line::Aux { kind, count } => {
-                    self.begin(alloc, &kind, &0, &count);
-                    Ok(())
-                }
-                _ => self.take(alloc, item),
+            Ok((head, row)) => match head {
+                Head::Skip => Ok(()),
+                _ => self.take(alloc, head, &row),
             },
             Err(code) => Err(ItemFault::Text(code)),
         }
@@ -181,7 +264,7 @@ impl TextSoFar {
         ensures unchanged { (ls : List (List ℕ)) → TextAt self.old ls
             → OnErr result (TextAt self.new ls) }
     {
-        if LAST <= self.closed {
+        if !self.has_room(0) {
             return Err(ItemFault::Text(Code::TooLong));
         }
         match self.judge(alloc, line) {
@@ -193,67 +276,46 @@ impl TextSoFar {
         }
     }
 
-    // Takes the rows of plain lines at the beginning of these bytes, at most as many as one block has. All are counted
-    // lines, or all are `min` node lines. Stops before the first that comes too late, that has a fault, or for which an
-    // allocation fails. The block is memory to read into.
-    pub(crate) fn take_rows(&mut self, alloc: Global, block: &mut RowBlock, bytes: &[u8]) -> Front
-        ensures taken { (ls : List (List ℕ)) → TextAt self.old ls → ReadsFront self.new ls bytes.now result }
-        ensures within { result.used ≤ length bytes.now }
-    {
-        let Some(kind) = self.draft.kind() else {
-            return NO_FRONT;
-        };
-        if LAST - BLOCK as u64 <= self.closed {
-            return NO_FRONT;
-        }
-        if begins_with_supply(kind, bytes) {
-            self.take_supplies(alloc, block, bytes)
-        } else {
-            self.take_counted(alloc, kind, block, bytes)
-        }
-    }
-
-    // Takes the rows of plain counted lines at the beginning of these bytes, at most as many as are still declared.
-    fn take_counted(
+    // Takes the rows of plain lines at the beginning of these bytes, at most as many as one block has and as are still
+    // to come. All are counted lines, or all are `min` node lines. Stops before the first that comes too late, that has
+    // a fault, or for which an allocation fails. The block is memory to read into.
+    pub(crate) fn take_rows(
         &mut self,
         alloc: Global,
-        kind: Kind,
         block: &mut RowBlock,
         bytes: &[u8],
-    ) -> Front
-        requires kind { draft_kind self.old.draft ≡ Some kind }
-        requires early { self.old.closed < 2 ^ 63 - 2 - 16 }
-        requires other { kind ≡ Kind.Min → get_or bytes.now 0 0 ≡ 110 → ⊥ }
-        ensures taken { (ls : List (List ℕ)) → TextAt self.old ls → ReadsFront self.new ls bytes.now result }
+    ) -> RowsTaken
+        ensures taken { (ls : List (List ℕ)) → TextAt self.old ls → ReadsRows self.new ls bytes.now result }
         ensures within { result.used ≤ length bytes.now }
     {
-        // The reader takes at most as many counted lines as are declared, so nothing saturates, here and below.
-        let most = self.count.saturating_sub(self.counted);
-        block.read(kind, as_many(&most), bytes);
+        let Some(body) = &self.body else {
+            return NONE_TAKEN;
+        };
+        let kind = body.kind();
+        let head = row_head(kind, bytes);
+        if !self.has_room(BLOCK as u64) {
+            return NONE_TAKEN;
+        }
+        if let Some(_) = self.order_fault(head) {
+            return NONE_TAKEN;
+        }
+        block.read(kind, self.most(head), bytes);
         let rows = block.rows();
-        let taken = self.draft.take_rows(alloc, &self.nodes, rows);
-        self.counted = self.counted.saturating_add(taken.rows as i64);
+        let taken = self.take_run(alloc, head, rows);
         self.closed += taken.rows as u64;
-        front_of(rows, &taken, bytes)
+        rows_taken_of(rows, &taken, bytes)
     }
 
-    // Takes the rows of plain `min` node lines at the beginning of these bytes. Takes none after an arc, since such a
-    // line is late.
-    fn take_supplies(&mut self, alloc: Global, block: &mut RowBlock, bytes: &[u8]) -> Front
-        requires kind { draft_kind self.old.draft ≡ Some Kind.Min }
-        requires early { self.old.closed < 2 ^ 63 - 2 - 16 }
-        requires letter { get_or bytes.now 0 0 ≡ 110 }
-        ensures taken { (ls : List (List ℕ)) → TextAt self.old ls → ReadsFront self.new ls bytes.now result }
-        ensures within { result.used ≤ length bytes.now }
+    // Returns how many lines with this head may come next: at most a block of them, and no more than are still to come
+    // if they are counted.
+    fn most(&self, head: Head) -> usize
+        ensures { (head ≡ Head.Node → ⊥) → 0 < result → pos result ≤ℤ self.now.due }
     {
-        if 0 < self.counted {
-            return NO_FRONT;
+        match (head, usize::try_from(self.due)) {
+            (Head::Node, _) => BLOCK,
+            (_, Ok(due)) => due,
+            (_, Err(_)) => 0,
         }
-        block.read(Kind::Min, BLOCK, bytes);
-        let rows = block.rows();
-        let taken = self.draft.take_supplies(alloc, &self.nodes, rows);
-        self.closed += taken.rows as u64;
-        front_of(rows, &taken, bytes)
     }
 
     // Returns how many entries the lines so far make.
@@ -261,30 +323,48 @@ impl TextSoFar {
         ensures { (ls : List (List ℕ)) → TextAt self.now ls
             → result ≡ entries_so_far (items_of ls) }
     {
-        self.draft.entries()
+        match &self.body {
+            Some(body) => body.entries(),
+            None => 0,
+        }
     }
 
     // Returns the parsed instance at the end of the text, or the fault at the end.
     pub(crate) fn end(self) -> Result<Held, Code>
         ensures { (ls : List (List ℕ)) → TextAt self ls → EndsWith (items_of ls) result }
     {
-        match self.draft.end() {
-            Ok(content) => {
-                if self.counted < self.count {
-                    drop(content);
-                    Err(Code::TooFewLines)
-                } else {
-                    Ok(Held::new(self.nodes, self.counted, content))
-                }
-            }
-            Err(code) => Err(code),
+        let TextSoFar {
+            nodes,
+            count,
+            due,
+            marks,
+            body,
+            ..
+        } = self;
+        let Some(body) = body else {
+            return Err(Code::NoProblem);
+        };
+        let Some(terminals) = marks.terminals(&body.kind()) else {
+            drop(body);
+            return Err(Code::MissingTerminal);
+        };
+        if 0 < due {
+            drop(body);
+            return Err(Code::TooFewLines);
         }
+        Ok(Held::new(nodes, count, marks.supplies, terminals, body.end()))
     }
 }
 
+// No rows.
+const NO_ROWS: Taken = Taken {
+    rows: 0,
+    fault: None,
+};
+
 // The lines at the beginning of some bytes that were taken as rows.
 #[derive(Clone, Copy)]
-pub(crate) struct Front {
+pub(crate) struct RowsTaken {
     // The count of their bytes, with the LFs that end the lines.
     pub(crate) used: usize,
     // The fault of the line after them, if its row was not taken for a fault.
@@ -292,58 +372,34 @@ pub(crate) struct Front {
 }
 
 // No lines.
-const NO_FRONT: Front = Front {
+const NONE_TAKEN: RowsTaken = RowsTaken {
     used: 0,
     fault: None,
 };
 
 // Returns the lines of those of these rows that were taken, which begin these bytes.
-fn front_of(rows: &[RowLine], taken: &Taken, bytes: &[u8]) -> Front
+fn rows_taken_of(rows: &[RowLine], taken: &Taken, bytes: &[u8]) -> RowsTaken
     requires { taken.now.rows ≤ length rows.now }
     ensures used { result.used ≡ length bytes.now - last_left (length bytes.now) (take taken.now.rows rows.now) }
     ensures fault { result.fault ≡ taken.now.fault }
 {
     let left = left_behind(&rows[..taken.rows], bytes.len());
-    Front {
+    RowsTaken {
         // No more bytes are left than there were, so nothing saturates.
         used: bytes.len().saturating_sub(left),
         fault: taken.fault,
     }
 }
 
-// Returns this number as a count, or 0 if it is below 0 or not a count.
-fn as_many(most: &i64) -> usize
-    ensures { 0 < result → pos result ≤ℤ most.now }
-{
-    match usize::try_from(*most) {
-        Ok(count) => count,
-        Err(_) => 0,
-    }
-}
-
-// Whether these bytes begin with the letter of a `min` node line, in a text of this kind.
-fn begins_with_supply(kind: Kind, bytes: &[u8]) -> bool
-    ensures min { result ≡ true → kind ≡ Kind.Min }
-    ensures letter { result ≡ true → get_or bytes.now 0 0 ≡ 110 }
-    ensures other { result ≡ false → kind ≡ Kind.Min → get_or bytes.now 0 0 ≡ 110 → ⊥ }
+// Returns the head of the plain lines at the beginning of these bytes, in a text of this kind.
+fn row_head(kind: Kind, bytes: &[u8]) -> Head
+    ensures { result ≡ run_head kind (get_or bytes.now 0 0) }
 {
     match (kind, bytes) {
-        (Kind::Min, [first, ..]) => *first == b'n',
-        _ => false,
+        (Kind::Min, [b'n', ..]) => Head::Node,
+        (Kind::Min | Kind::Max | Kind::Sp, _) => Head::Arc,
+        (Kind::Ss, _) => Head::Source,
+        (Kind::P2p, _) => Head::Query,
+        (Kind::Co, _) => Head::Point,
     }
-}
-
-// Whether ARCS or K counts the line.
-fn is_counted(item: &Line) -> bool
-    ensures { result ≡ is_counted item.now }
-{
-    matches!(
-        item,
-        Line::MinArc { .. }
-            | Line::MaxArc { .. }
-            | Line::SpArc { .. }
-            | Line::Source { .. }
-            | Line::Query { .. }
-            | Line::Point { .. }
-    )
 }

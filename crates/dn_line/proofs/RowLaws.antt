@@ -1,17 +1,18 @@
 -- Lines of a letter and numbers.
-use Rattle.std.proofs.Common.{Option, ◌≡◌, ◌≤◌, ◌-◌, ◌<◌, ℕ, ℤ, suc, pos, ◌≤ℤ◌, int_lt, List, [], ◌∷◌, ◌++◌, length, take, drop, get_or, map, true, slice_get, is_none, None, Some, Ok, refl, ap, ◌∙◌, arith, append_assoc}
+use Rattle.std.proofs.Common.{Option, ◌≡◌, ◌≤◌, ◌-◌, ◌<◌, ℕ, ℤ, suc, pos, ◌≤ℤ◌, int_lt, List, [], ◌∷◌, ◌++◌, length, take, drop, get_or, map, true, slice_get, is_none, None, Some, Result, Ok, refl, ap, ◌∙◌, arith, append_assoc}
 use Rattle.std.proofs.lemmas.Bool.{and_from, not-true}
 use Rattle.std.proofs.lemmas.List.{take_all}
 use Rattle.std.specs.List.{list_all}
-use Rattle.dn_line.specs.Faults.{first_fault}
+use Rattle.dn_line.specs.Faults.{first_fault, field_tests, row_fields}
 use Rattle.dn_line.specs.LineTable.{row}
 use Rattle.dn_line.specs.Reading.{item, unless}
 use Rattle.dn_line.specs.Words.{first, said, said_words}
 use Rattle.dn_line.specs.State.LineStates.{is_clear, is_inner}
 use Rattle.dn_line.specs.State.Numbers.{IsGap, number_word}
-use Rattle.dn_line.specs.State.LineReads.{checked_item, fields_read, head_of, head_read}
+use Rattle.dn_line.specs.State.LineReads.{fields_read, head_of, head_read}
 use Rattle.dn_line.specs.State.Rows.{AreNatural, AreNumeric, BeginsWithRow, FieldsFit, HasNumbers, HasRow, field_fits, letter_byte, numbers_of}
 use Rattle.dn_line.specs.declared.kind.Kind.{Kind}
+use Rattle.dn_line.specs.declared.code.Code.{Code}
 use Rattle.dn_line.specs.declared.code.Code.TheVariants.{WrongLine}
 use Rattle.dn_line.specs.declared.line.Line.{Line}
 use Rattle.dn_line.specs.declared.row.Row.{Row}
@@ -98,9 +99,13 @@ stand_all (f ∷ fs) (n ∷ ns) h = Fields.more (by_field f h.0) (stand_all fs n
     by_field Terminal e = cc
 stand_all _ _ h = absurd h
 
+-- what the fields of a line read as, given the words after its letter
+abbrev checked : Kind → Keyword → List Word → Result Line Code
+checked k l ws = unless (first_fault (field_tests (row_fields (row k l) ws))) (item k l ws)
+
 -- numbers that fit the fields of a line read as the item of the line
 row_reads : (kind : Kind) (key : Keyword) (fs : List Field) (ns : List ℤ) → row kind key ≡ Some fs → FieldsFit fs ns
-    → checked_item kind key (map number_word ns) ≡ Ok (item kind key (map number_word ns))
+    → checked kind key (map number_word ns) ≡ Ok (item kind key (map number_word ns))
 row_reads kind key fs ns e h = rw (e, stand_none fs (map number_word ns) (stand_all fs ns h))
 
 -- what the head and the fields of a line that begins with this byte read as, given the words after the letter
@@ -108,7 +113,7 @@ abbrev ReadAs : Kind → Keyword → List Word → ℕ → Type 0
 ReadAs kind key ws b =
     (head_read (Some kind) (said (b ∷ []) ∷ ws)
     ≡ unless (first_fault ((WrongLine, is_none (row kind key)) ∷ [])) (head_of (Some key) None))
-    × (fields_read (Some kind) (said (b ∷ []) ∷ ws) ≡ checked_item kind key ws)
+    × (fields_read (Some kind) (said (b ∷ []) ∷ ws) ≡ checked kind key ws)
     × (first (said (b ∷ []) ∷ ws) ≡ Some key)
 
 abbrev ReadAny : Kind → Keyword → List Word → Option ℕ → Type 0

@@ -7,5 +7,6 @@ pub mod OpenWords
 pub mod LineStates
 pub mod Numbers
 pub mod Rows
+pub mod RowItems
 pub mod RowBlocks
 pub mod Pulls

@@ -3,8 +3,11 @@ ghost use Rattle.std.specs.Prelude.{◌≡◌, ◌∷◌, map, MatchOption, IfSo
 ghost use Rattle.dn_line.specs.LineTable.{row, named, counts, after_name};
 ghost use Rattle.dn_line.specs.State.LineStates.{is_clear};
 ghost use Rattle.dn_line.specs.State.Rows.{AreNumeric, HasRow, letter_byte};
+ghost use Rattle.dn_line.specs.State.RowItems.{after_head, fields_at};
+ghost use Rattle.dn_line.specs.Words.{tail};
 
 use crate::kind::Kind;
+use crate::line::Head;
 use crate::word::{Field, Keyword, Word};
 
 // Returns the kind that the words after `p` begin with the name of.
@@ -24,7 +27,7 @@ pub(crate) fn named(words: &[Word]) -> Option<Kind>
 }
 
 // Returns the fields of the line that this kind has for this letter.
-pub(crate) fn row(kind: Kind, letter: Keyword) -> Option<&'static [Field]>
+fn row(kind: Kind, letter: Keyword) -> Option<&'static [Field]>
     ensures { MatchOption result (row kind letter ≡ None) (λ fields. row kind letter ≡ Some fields.now) }
 {
     match (kind, letter) {
@@ -42,6 +45,21 @@ pub(crate) fn row(kind: Kind, letter: Keyword) -> Option<&'static [Field]>
         (Kind::Ss, Keyword::S) => Some(&[Field::Number]),
         (Kind::P2p, Keyword::Q) => Some(&[Field::Number, Field::Number]),
         (Kind::Co, Keyword::V) => Some(&[Field::Number, Field::Number, Field::Number]),
+        _ => None,
+    }
+}
+
+// Returns the fields of a line with this head, in a text of this kind.
+pub(crate) fn fields_at(known: Option<Kind>, head: Head) -> Option<&'static [Field]>
+    ensures { MatchOption result (fields_at head known ≡ None) (λ fields. fields_at head known ≡ Some fields.now) }
+{
+    match (head, known) {
+        (Head::Problem(kind), _) => Some(counts(kind)),
+        (Head::Node, Some(kind)) => row(kind, Keyword::N),
+        (Head::Arc, Some(kind)) => row(kind, Keyword::A),
+        (Head::Source, Some(kind)) => row(kind, Keyword::S),
+        (Head::Query, Some(kind)) => row(kind, Keyword::Q),
+        (Head::Point, Some(kind)) => row(kind, Keyword::V),
         _ => None,
     }
 }
@@ -87,7 +105,7 @@ fn are_numeric(fields: &[Field]) -> bool
 }
 
 // Returns the fields of a problem line, which follow the name of its kind.
-pub(crate) fn counts(kind: Kind) -> &'static [Field]
+fn counts(kind: Kind) -> &'static [Field]
     ensures { result.now ≡ counts kind }
 {
     match kind {
@@ -96,8 +114,28 @@ pub(crate) fn counts(kind: Kind) -> &'static [Field]
     }
 }
 
+// Returns the words that fill the fields of a line with this head.
+pub(crate) fn after_head(head: Head, words: &[Word]) -> &[Word]
+    ensures { result.now ≡ after_head head words.now }
+{
+    match head {
+        Head::Problem(kind) => after_name(kind, tail(words)),
+        _ => tail(words),
+    }
+}
+
+// Returns the words after the first.
+fn tail(words: &[Word]) -> &[Word]
+    ensures { result.now ≡ tail words.now }
+{
+    match words {
+        [_, rest @ ..] => rest,
+        [] => &[],
+    }
+}
+
 // Returns the words after the name of the kind.
-pub(crate) fn after_name(kind: Kind, words: &[Word]) -> &[Word]
+fn after_name(kind: Kind, words: &[Word]) -> &[Word]
     ensures { result.now ≡ after_name kind words.now }
 {
     match (kind, words) {

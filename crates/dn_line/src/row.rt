@@ -9,7 +9,8 @@ use crate::numbers::{
 };
 use crate::word::Field;
 
-/// The numbers of a line, in their order. A number that the line does not have is 0.
+/// The numbers of a line, in their order. A number that the line does not have is 0. A terminal counts as a number: 0
+/// for `s`, and 1 for `t`.
 #[derive(Clone, Copy, PartialEq, Eq)]
 pub struct Row {
     /// The first number.

@@ -2,7 +2,6 @@
 ghost use Rattle.std.specs.Prelude.{◌++◌, ℕ, List, IsTrue, OnOk};
 ghost use Rattle.std.specs.List.{concat};
 ghost use Rattle.dn_arc.specs.declared.arc.Form.{Form};
-ghost use Rattle.dn_instance.specs.State.Helds.{parsed};
 ghost use Rattle.dn_sink.specs.Rows.{text_of};
 ghost use Rattle.dn_sink.specs.Puts.{Puts};
 ghost use Rattle.dn_report.specs.State.ListedRows.{ShowsHeld, held_rows, table_rows, listed_rows};
@@ -30,7 +29,7 @@ pub fn put_shown<K: Sink>(sink: &mut K, held: &Held) -> Result<(), SinkFault>
 
 // Puts the lines of a parsed instance.
 fn put_held<K: Sink>(sink: &mut K, held: &Held) -> Result<(), SinkFault>
-    ensures { Puts K.sink sink.old sink.new (text_of (held_rows (parsed held.now))) result }
+    ensures { Puts K.sink sink.old sink.new (text_of (held_rows held.now)) result }
 {
     let kind = word_line(b"kind", held.kind().name().as_bytes());
     let nodes = number_line(b"nodes", &held.nodes());

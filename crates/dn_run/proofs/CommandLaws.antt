@@ -4,12 +4,11 @@ use Rattle.dn_line.specs.declared.kind.Kind.{Kind}
 use Rattle.dn_arc.specs.declared.arc.Form.{Form}
 use Rattle.dn_instance.specs.Companions.{companion_fit}
 use Rattle.dn_instance.specs.State.SourceResults.{HoldsCopied}
-use Rattle.dn_instance.specs.State.Helds.{IsHeld, OfBoth, contents_kind, parsed}
+use Rattle.dn_instance.specs.State.Helds.{Parsed, IsHeld, OfBoth, contents_kind}
 use Rattle.dn_instance.specs.Instances.{Instance}
 use Rattle.dn_instance.specs.Texts.{Reads}
 use Rattle.dn_instance.specs.Validity.{IsValid}
 use Rattle.dn_instance.specs.declared.companion.CompanionFault.{CompanionFault}
-use Rattle.dn_instance.specs.declared.held.Held.{Held}
 use Rattle.dn_instance.specs.declared.refusal.Refusal.{Refusal}
 use Rattle.dn_instance.specs.declared.refusal.Refusal.TheVariants.{Write, CountTooLarge}
 use Rattle.dn_instance.specs.declared.verdict.Verdict.TheVariants.{Same}
@@ -37,9 +36,9 @@ use Rattle.dn_compare.specs.FirstDifference.{IsFirstDifference}
 use Rattle.dn_report.specs.Verdicts.{verdict_row}
 
 -- `canon` ends as its answer says if the canonical text is not written
-pub canon_unwritten : {T S : Type 0} {text : AskedText T} {out : SinkRun S} {held : Held} (form : Form) (e : Refusal)
+pub canon_unwritten : {T S : Type 0} {text : AskedText T} {out : SinkRun S} {held : Parsed} (form : Form) (e : Refusal)
     → IsRead (IsRefusedText text) text (Ok held) → IsOfWriting e
-    → ((I : Instance) → IsValid I → IsHeld (parsed held) I → WritesCanon out.facts out.old out.new form I (Err e))
+    → ((I : Instance) → IsValid I → IsHeld held I → WritesCanon out.facts out.old out.new form I (Err e))
     → OnText (PutsCanon form) (λ _. Never) (IsRefusedCanon form text) text out (unwritten text.name e)
 canon_unwritten form Write h after writes = on_read Cut h (λ e. cc) (λ b I reads is.
     let (J, canon, w) = writes I (reads_valid b I reads) is in
@@ -78,11 +77,11 @@ finding_on Puts Unfits Refuses name out b I reads f (Done status) (t, p, a) = (I
 finding_on Puts Unfits Refuses name out b I reads f Cut (status, t, p, a) = (I, reads, status, t, f status t p, a)
 finding_on Puts Unfits Refuses name out b I reads f _ p = absurd p
 
-module _ {T S : Type 0} {text : AskedText T} {out : SinkRun S} {held : Held} {kept copy : List ℕ} (s : copy ≡ kept)
+module _ {T S : Type 0} {text : AskedText T} {out : SinkRun S} {held : Parsed} {kept copy : List ℕ} (s : copy ≡ kept)
     (h : IsRead (IsRefusedCopy text) text (Ok held)) (c : IsCopy text kept (Ok held))
     (k : HoldsCopied [] kept held) where
   pub checked : {answer : Answer} → IsFound answer
-      → ((I : Instance) → Reads copy I → IsHeld (parsed held) I → PutsFinding (PutsChecked None copy I) out answer)
+      → ((I : Instance) → Reads copy I → IsHeld held I → PutsFinding (PutsChecked None copy I) out answer)
       → OnText (PutsChecked None) (λ _. Never) (IsRefusedCopy text) text out answer
   checked {answer} found puts =
       let (t, (I, reads, is), same) = k in
@@ -99,7 +98,7 @@ module _ {T S : Type 0} {text : AskedText T} {out : SinkRun S} {held : Held} {ke
 
 -- after the left text was read, the run went on to the right one
 pub asked_two : {F T : Type 0} {files : FilesRun F T} {mid : F} {left right : List ℕ} {answer : Answer}
-    {Refuses : List ℕ → Refusal → Type 0} {held : Held} {Means : AskedText T → AskedText T → Type 0}
+    {Refuses : List ℕ → Refusal → Type 0} {held : Parsed} {Means : AskedText T → AskedText T → Type 0}
     → ReadsOne files.facts files.source files.old mid left
     → IsRead Refuses (text_asked files files.old mid left) (Ok held)
     → ReadsOne files.facts files.source mid files.new right
@@ -120,12 +119,12 @@ asked_two {files = files} {mid = mid} {left = left} {held = held} first h asks m
     no_fault (Some f) h = cc
 
 -- `check` of two texts puts the lines of both if the companion fits
-module _ {T S : Type 0} {left right : AskedText T} {out : SinkRun S} {graph companion : Held}
+module _ {T S : Type 0} {left right : AskedText T} {out : SinkRun S} {graph companion : Parsed}
     (h : IsRead (IsRefusedCopy left) left (Ok graph)) (k : IsRead (IsRefusedText right) right (Ok companion))
     {kept copy : List ℕ} (s : copy ≡ kept) (c : IsCopy left kept (Ok graph)) (all : HoldsCopied [] kept graph)
     (fit : OfBoth graph companion (λ I J. Ok tt ≡ companion_fit I J)) {with : Kind}
-    (w : with ≡ contents_kind (parsed companion).contents) where
-  pub fits : {answer : Answer} → ((I : Instance) → Reads copy I → IsHeld (parsed graph) I
+    (w : with ≡ contents_kind companion.contents) where
+  pub fits : {answer : Answer} → ((I : Instance) → Reads copy I → IsHeld graph I
       → PutsFinding (PutsChecked (Some with) copy I) out answer)
       → OnTwoTexts PutsFit Unfits (IsRefusedCopy left) left right out answer
   fits {answer} puts =
@@ -136,14 +135,14 @@ module _ {T S : Type 0} {left right : AskedText T} {out : SinkRun S} {graph comp
       on b I (reads_valid b I reads) is (rw same at (puts I (rw same reads) is)))
       (copy, I, here, (on copy I (reads_valid copy I here) is (puts I here is)).some)
     where
-      on : (b : List ℕ) (I : Instance) → IsValid I → IsHeld (parsed graph) I
+      on : (b : List ℕ) (I : Instance) → IsValid I → IsHeld graph I
           → PutsFinding (PutsChecked (Some with) b I) out answer
           → OnText (λ x J. PutsFit b I J) (Unfits I) (IsRefusedText right) right out answer
       on b I v is p = on_read answer k (λ e. rw e at p) (λ x J reads is'.
           finding_on (λ x J. PutsFit b I J) (Unfits I) (IsRefusedText right) right.name out x J reads
           (λ status t p. (
             sym (fit I J v (reads_valid x J reads) is is'),
-            rw (w ∙ held_kind (parsed companion) J is') at p,
+            rw (w ∙ held_kind companion J is') at p,
           )) answer p)
 
 most_of : (v : Verdict) → verdict_status v ≤ 1
@@ -170,9 +169,9 @@ compared_as I J v status first e = record {
 }
 
 -- if both texts were read, `compare` puts their first difference
-pub compared : {T S : Type 0} {left right : AskedText T} {out : SinkRun S} {one other : Held} {answer : Answer}
+pub compared : {T S : Type 0} {left right : AskedText T} {out : SinkRun S} {one other : Parsed} {answer : Answer}
     → IsRead (IsRefusedText left) left (Ok one) → IsRead (IsRefusedText right) right (Ok other) → IsFound answer
-    → ((I J : Instance) → IsValid I → IsValid J → IsHeld (parsed one) I → IsHeld (parsed other) J
+    → ((I J : Instance) → IsValid I → IsValid J → IsHeld one I → IsHeld other J
     → PutsFinding (PutsCompared I J) out answer)
     → OnTwoTexts (λ _. PutsCompared) (λ _ _. Never) (IsRefusedText left) left right out answer
 compared {right = right} {out = out} {answer = answer} h k found puts =

@@ -1,11 +1,10 @@
 -- Lemmas on how a command ends, from the results of reading its texts.
 use Rattle.std.proofs.Common.{◌≡◌, ℕ, List, [], Option, Some, None, Ok, Err, IfSome, refl, inl, inr, append-nil}
 use Rattle.std.specs.Io.KnownBytes.{Appends}
-use Rattle.dn_instance.specs.State.Helds.{IsHeld, parsed}
+use Rattle.dn_instance.specs.State.Helds.{Parsed, IsHeld}
 use Rattle.dn_instance.specs.Instances.{Instance}
 use Rattle.dn_instance.specs.Texts.{Reads}
 use Rattle.dn_instance.specs.declared.companion.CompanionFault.{CompanionFault}
-use Rattle.dn_instance.specs.declared.held.Held.{Held}
 use Rattle.dn_instance.specs.declared.refusal.Refusal.{Refusal}
 use Rattle.dn_instance.specs.declared.refusal.Refusal.TheVariants.{Read}
 use Rattle.dn_sink.specs.Puts.{HasPut}
@@ -30,8 +29,9 @@ by_behind (Some x) f h = f x refl h
 module _ {T S : Type 0} {Puts : List ℕ → Instance → ℕ → List ℕ → Type 0} {Unfits : Instance → CompanionFault → Type 0}
     {Reading Refuses : List ℕ → Refusal → Type 0} {text : AskedText T} {out : SinkRun S} where
   -- if the text was read, `OnText` holds of an answer that is right for the bytes behind its name and for some text
-  pub on_held : {held : Held} (answer : Answer) → IsRead Reading text (Ok held) → (answer ≡ Refused text.name Read → ⊥)
-      → ((b : List ℕ) → text.fault ≡ None → text.behind ≡ Some b → (I : Instance) → Reads b I → IsHeld (parsed held) I
+  pub on_held : {held : Parsed} (answer : Answer) → IsRead Reading text (Ok held)
+      → (answer ≡ Refused text.name Read → ⊥)
+      → ((b : List ℕ) → text.fault ≡ None → text.behind ≡ Some b → (I : Instance) → Reads b I → IsHeld held I
       → RanOn Puts Unfits Refuses text.name out b answer)
       → (b : List ℕ) × RanOn Puts Unfits Refuses text.name out b answer → OnText Puts Unfits Refuses text out answer
   on_held answer h unread ran some = record {
@@ -49,8 +49,8 @@ module _ {T S : Type 0} {Puts : List ℕ → Instance → ℕ → List ℕ → T
 
   -- if the text was read, `OnText` holds of an answer that is right for each text that reads as an instance that `held`
   -- represents
-  pub on_read : {held : Held} (answer : Answer) → IsRead Reading text (Ok held) → (answer ≡ Refused text.name Read → ⊥)
-      → ((b : List ℕ) (I : Instance) → Reads b I → IsHeld (parsed held) I
+  pub on_read : {held : Parsed} (answer : Answer) → IsRead Reading text (Ok held)
+      → (answer ≡ Refused text.name Read → ⊥) → ((b : List ℕ) (I : Instance) → Reads b I → IsHeld held I
       → RanOn Puts Unfits Refuses text.name out b answer) → OnText Puts Unfits Refuses text out answer
   on_read answer h unread ran =
       let (b, (I, reads, is)) = h.held in
@@ -72,8 +72,8 @@ module _ {T S : Type 0} {Puts : List ℕ → Instance → Instance → ℕ → L
     {left right : AskedText T} {out : SinkRun S} where
   -- if the left text was read, `OnTwoTexts` holds of an answer that is right for the bytes behind the names and for
   -- some two texts
-  pub on_left : {held : Held} (answer : Answer) → IsRead Refuses left (Ok held)
-      → ((b : List ℕ) → left.fault ≡ None → left.behind ≡ Some b → (I : Instance) → Reads b I → IsHeld (parsed held) I
+  pub on_left : {held : Parsed} (answer : Answer) → IsRead Refuses left (Ok held)
+      → ((b : List ℕ) → left.fault ≡ None → left.behind ≡ Some b → (I : Instance) → Reads b I → IsHeld held I
       → OnText (λ c J. Puts b I J) (Unfits I) (IsRefusedText right) right out answer)
       → (b : List ℕ) × (I : Instance) × Reads b I
       × RanOnSome (λ c J. Puts b I J) (Unfits I) (IsRefusedText right) right.name out answer
@@ -94,8 +94,8 @@ module _ {T S : Type 0} {Puts : List ℕ → Instance → Instance → ℕ → L
 
   -- if the left text was read, `OnTwoTexts` holds of an answer that is right for each left text that reads as an
   -- instance that `held` represents
-  pub on_left_read : {held : Held} (answer : Answer) → IsRead Refuses left (Ok held)
-      → ((b : List ℕ) (I : Instance) → Reads b I → IsHeld (parsed held) I
+  pub on_left_read : {held : Parsed} (answer : Answer) → IsRead Refuses left (Ok held)
+      → ((b : List ℕ) (I : Instance) → Reads b I → IsHeld held I
       → OnText (λ c J. Puts b I J) (Unfits I) (IsRefusedText right) right out answer)
       → OnTwoTexts Puts Unfits Refuses left right out answer
   on_left_read answer h ran =

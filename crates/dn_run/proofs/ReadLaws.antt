@@ -1,9 +1,9 @@
 -- Lemmas on what reading a text that a run asks for returns.
+use Rattle.dn_instance.specs.State.Helds.{Parsed}
 use Rattle.std.proofs.Common.{◌≡◌, ℕ, List, [], Option, Some, None, Result, Ok, Err, IsTrue, OnOk, IfOk, IfSome, IsErrOf, refl, inl, inr, append-nil}
 use Rattle.std.specs.Io.KnownBytes.{IsAtEnd}
 use Rattle.dn_instance.specs.SourceReads.{AfterPulls, after_pulls, PulledWhileClean}
 use Rattle.dn_instance.specs.State.SourceResults.{CopyOutcome, Copied, SourceOutcome, HoldsCopied, HoldsSome}
-use Rattle.dn_instance.specs.declared.held.Held.{Held}
 use Rattle.dn_instance.specs.declared.refusal.Refusal.{Refusal}
 use Rattle.dn_instance.specs.declared.refusal.Refusal.TheVariants.{Text, Memory, Read, Endless}
 use Rattle.dn_instance.proofs.SourceLaws.{ran_out}
@@ -21,7 +21,7 @@ module _ {T : Type 0} (text : AskedText T) where
     abbrev pub left : AfterPulls
     left = after_pulls text.source comes.first source
 
-    reads_as : (b : List ℕ) (r : Result Held Refusal) → SourceOutcome b left r
+    reads_as : (b : List ℕ) (r : Result Parsed Refusal) → SourceOutcome b left r
         → (IsErrOf r Read → IsTrue (text.source.has_failed source)) → ReadsAs (IsRefusedText text) b r
     reads_as b (Ok held) h read = h.0
     reads_as b (Err (Text place code)) h read = h.0
@@ -31,7 +31,7 @@ module _ {T : Type 0} (text : AskedText T) where
     reads_as b (Err _) h read = h
 
     -- reading the source that was handed out returns what `IsRead` says
-    pub handed_reads : (given : Option (List ℕ)) (r : Result Held Refusal) → IfSome text.behind (λ b. given ≡ Some b)
+    pub handed_reads : (given : Option (List ℕ)) (r : Result Parsed Refusal) → IfSome text.behind (λ b. given ≡ Some b)
         → IfSome given (λ b. SourceOutcome b left r)
         → (IsErrOf r Read → IsTrue (text.source.has_failed source)) → IfOk r HoldsSome
         → IsRead (IsRefusedText text) text r
@@ -42,7 +42,7 @@ module _ {T : Type 0} (text : AskedText T) where
       held = held;
     }
 
-    copies_as : (b copy : List ℕ) (r : Result Held Refusal) → CopyOutcome b left [] copy r
+    copies_as : (b copy : List ℕ) (r : Result Parsed Refusal) → CopyOutcome b left [] copy r
         → (IsErrOf r Read → IsTrue (text.source.has_failed source)) → ReadsAs (IsRefusedCopy text) b r
     copies_as b copy (Ok held) h read = h.0.0
     copies_as b copy (Err (Text place code)) h read = h.0.0
@@ -67,7 +67,7 @@ module _ {T : Type 0} (text : AskedText T) where
         record { source = source; comes = comes; clean = c; many = many }
     copies_as b copy (Err _) h read = h.0
 
-    pub handed_copies : (given : Option (List ℕ)) (old copy : List ℕ) (r : Result Held Refusal) → old ≡ []
+    pub handed_copies : (given : Option (List ℕ)) (old copy : List ℕ) (r : Result Parsed Refusal) → old ≡ []
         → IfSome text.behind (λ b. given ≡ Some b) → IfSome given (λ b. CopyOutcome b left old copy r)
         → (IsErrOf r Read → IsTrue (text.source.has_failed source)) → IfOk r (HoldsCopied old copy)
         → IsRead (IsRefusedCopy text) text r
@@ -79,7 +79,7 @@ module _ {T : Type 0} (text : AskedText T) where
       held = held_of r held;
     }
       where
-        held_of : (r : Result Held Refusal) → IfOk r (HoldsCopied old copy) → IfOk r HoldsSome
+        held_of : (r : Result Parsed Refusal) → IfOk r (HoldsCopied old copy) → IfOk r HoldsSome
         held_of (Ok held) (t, o, same) = (t, o)
         held_of (Err e) h = tt
 
@@ -91,12 +91,12 @@ whole_copy b copy (Some rest) end c =
 whole_copy b copy None end c = cc (c.rest_is)
 
 -- if a source that gave what is behind a name was read and copied, the copy is what is behind the name
-pub handed_copy : (new : AfterPulls) (given behind : Option (List ℕ)) (old copy : List ℕ) (r : Result Held Refusal)
+pub handed_copy : (new : AfterPulls) (given behind : Option (List ℕ)) (old copy : List ℕ) (r : Result Parsed Refusal)
     → old ≡ [] → IfSome behind (λ b. given ≡ Some b) → IfSome given (λ b. CopyOutcome b new old copy r)
     → IfSome behind (λ b. OnOk r (copy ≡ b))
 handed_copy new given behind old copy r empty e h =
     by_behind behind (λ b known (is : given ≡ Some b). by_result b r (rw (is, empty) at h)) e
   where
-    by_result : (b : List ℕ) (r : Result Held Refusal) → CopyOutcome b new [] copy r → OnOk r (copy ≡ b)
+    by_result : (b : List ℕ) (r : Result Parsed Refusal) → CopyOutcome b new [] copy r → OnOk r (copy ≡ b)
     by_result b (Ok held) h = whole_copy b copy new.gives h.0.1 h.1
     by_result b (Err e) h = tt

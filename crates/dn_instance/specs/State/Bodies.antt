@@ -36,10 +36,10 @@ pub record AnswersItem (before : List Line) (i : Line) (result : Result (Unit {0
   pub memory : result ≡ Err Memory → NeedsMemory before i
 
 -- the fault, if there is one, is that of the first row that is left, after these items; without a fault, no row is left
-abbrev pub StopsAt : (Row → Line) → List Line → List RowLine → Option ItemFault → Type 0
-StopsAt line items left None = left ≡ []
-StopsAt line items [] (Some fault) = ⊥
-StopsAt line items (r ∷ left) (Some fault) = AnswersItem items (line r.row) (Err fault)
+abbrev pub StopsAtRow : (Row → Line) → List Line → List RowLine → Option ItemFault → Type 0
+StopsAtRow line items left None = left ≡ []
+StopsAtRow line items [] (Some fault) = ⊥
+StopsAtRow line items (r ∷ left) (Some fault) = AnswersItem items (line r.row) (Err fault)
 
 module _ {T : Type 0} (taker : TakerFacts T) where
   -- the taker holds what the items of a problem of its kind make, and LOW and CAP of the next items are at least 0
@@ -67,7 +67,7 @@ module _ {T : Type 0} (taker : TakerFacts T) where
   pub record TookRows (line : Row → Line) (before : List Line) (held : T) (rows : List RowLine) (result : Taken)
       : Type 0 where
     pub joins : Joins taker.Holds before held (row_items line (take result.rows rows))
-    pub stops : StopsAt line (before ++ row_items line (take result.rows rows)) (drop result.rows rows) result.fault
+    pub stops : StopsAtRow line (before ++ row_items line (take result.rows rows)) (drop result.rows rows) result.fault
 
   -- rows are taken one after another after any items that the taker holds
   abbrev pub TakesRows : (Row → Line) → ℤ → T → T → List RowLine → Taken → Type 0

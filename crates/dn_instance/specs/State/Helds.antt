@@ -11,9 +11,8 @@ use Rattle.dn_bundle.specs.declared.total.Total.{Total}
 use Rattle.dn_instance.specs.Instances.{Instance, MinCostFlow, MaxFlow, ShortestPaths, Sources, Queries, Coordinates, nodes_of, size_of}
 use Rattle.dn_instance.specs.Validity.{IsValid}
 use Rattle.dn_table.specs.State.Tables.{TableStandsFor}
-use Rattle.dn_instance.specs.declared.content.Content.{Content}
-use Rattle.dn_instance.specs.declared.content.Content.TheVariants as Kept
-use Rattle.dn_instance.specs.declared.held.Held.{Held}
+use Rattle.dn_instance.specs.State.TextParts.{AnyBody}
+use Rattle.dn_instance.specs.declared.body.Body.TheVariants as Bodies
 use Rattle.dn_instance.specs.declared.view.View.{View}
 use Rattle.dn_instance.specs.declared.view.View.TheVariants as Views
 
@@ -71,18 +70,14 @@ pub record IsHeld (h : Parsed) (I : Instance) : Type 0 where
   pub lines_are : h.lines ≡ pos (size_of I)
   pub shows : Shows h.contents I
 
--- what a `Content` holds
-abbrev pub contents_of : Content → Contents
-contents_of (Kept.Min supplies table) = OfMin supplies.entries table
-contents_of (Kept.Max source sink table) = OfMax source sink table
-contents_of (Kept.Sp table) = OfSp table
-contents_of (Kept.Ss ids) = OfSs ids.items
-contents_of (Kept.P2p pairs) = OfP2p pairs.items
-contents_of (Kept.Co points) = OfCo points.entries
-
--- what a parsed instance holds
-abbrev pub parsed : Held → Parsed
-parsed h = record { nodes = h.nodes; lines = h.lines; contents = contents_of h.content }
+-- what a parsed instance holds, given its flows, its source and sink, and its body
+abbrev pub contents_of : List (ℤ × ℤ) → ℤ × ℤ → AnyBody → Contents
+contents_of flows terminals (Bodies.Min table) = OfMin flows table
+contents_of flows terminals (Bodies.Max table) = OfMax terminals.0 terminals.1 table
+contents_of flows terminals (Bodies.Sp table) = OfSp table
+contents_of flows terminals (Bodies.Ss ids) = OfSs ids.items
+contents_of flows terminals (Bodies.P2p pairs) = OfP2p pairs.items
+contents_of flows terminals (Bodies.Co points) = OfCo points.entries
 
 -- what a view shows
 abbrev pub viewed : View → Contents
@@ -94,10 +89,10 @@ viewed (Views.P2p items) = OfP2p items.now
 viewed (Views.Co points) = OfCo points.now.entries
 
 -- `Is` holds of every valid instance that the parsed instance represents
-abbrev pub OfHeld : Held → (Instance → Type 0) → Type 0
-OfHeld held Is = (I : Instance) → IsValid I → IsHeld (parsed held) I → Is I
+abbrev pub OfHeld : Parsed → (Instance → Type 0) → Type 0
+OfHeld held Is = (I : Instance) → IsValid I → IsHeld held I → Is I
 
 -- `Are` holds of any two valid instances that the two parsed instances represent
-abbrev pub OfBoth : Held → Held → (Instance → Instance → Type 0) → Type 0
+abbrev pub OfBoth : Parsed → Parsed → (Instance → Instance → Type 0) → Type 0
 OfBoth left right Are =
-    (I J : Instance) → IsValid I → IsValid J → IsHeld (parsed left) I → IsHeld (parsed right) J → Are I J
+    (I J : Instance) → IsValid I → IsValid J → IsHeld left I → IsHeld right J → Are I J

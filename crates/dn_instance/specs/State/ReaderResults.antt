@@ -4,11 +4,10 @@ use Rattle.dn_line.specs.Pieces.{lines}
 use Rattle.dn_instance.specs.declared.refusal.Place.TheVariants as Places
 use Rattle.dn_instance.specs.declared.refusal.Refusal.{Refusal}
 use Rattle.dn_instance.specs.declared.refusal.Refusal.TheVariants.{Text, Memory, Read, Endless, Write, CountTooLarge}
-use Rattle.dn_instance.specs.declared.held.Held.{Held}
 use Rattle.dn_instance.specs.declared.reader.Reader.{Reader}
 use Rattle.dn_instance.specs.EntryCount.{entries_so_far}
 use Rattle.dn_instance.specs.Instances.{Instance}
-use Rattle.dn_instance.specs.State.Helds.{IsHeld, parsed}
+use Rattle.dn_instance.specs.State.Helds.{Parsed, IsHeld}
 use Rattle.dn_instance.specs.Texts.{items_of, IsClean, IsFirstFaultAt, IsFirstFault, Reads}
 use Rattle.dn_instance.specs.Readers.{WantsMemory, ended}
 
@@ -31,8 +30,8 @@ Fed t (Err e) = IsRefused 0 (ended t) e
 
 -- what reading a whole text returns: a parsed instance that represents what the text reads as, the first fault of the
 -- text, or `Memory` at a line where neither it nor an earlier line has a fault
-abbrev pub Outcome : List ℕ → Result Held Refusal → Type 0
-Outcome t (Ok held) = (I : Instance) × Reads t I × IsHeld (parsed held) I
+abbrev pub Outcome : List ℕ → Result Parsed Refusal → Type 0
+Outcome t (Ok held) = (I : Instance) × Reads t I × IsHeld held I
 Outcome t (Err (Text place code)) = IsFirstFault t place code
 Outcome t (Err Memory) = WantsMemory 0 (lines t)
 Outcome t (Err Read) = ⊥
@@ -41,8 +40,8 @@ Outcome t (Err Write) = ⊥
 Outcome t (Err CountTooLarge) = ⊥
 
 -- `Is` holds of every instance that the text reads as and the parsed instance represents
-abbrev pub OfText : List ℕ → Held → (Instance → Type 0) → Type 0
-OfText text held Is = (I : Instance) → Reads text I → IsHeld (parsed held) I → Is I
+abbrev pub OfText : List ℕ → Parsed → (Instance → Type 0) → Type 0
+OfText text held Is = (I : Instance) → Reads text I → IsHeld held I → Is I
 
 -- the refusal that a reader keeps, if there is one; every later call returns it
 abbrev pub refusal_of : Reader → Option Refusal

@@ -1,10 +1,10 @@
 -- What the state of a reader represents.
+use Rattle.dn_instance.specs.State.Helds.{Parsed}
 use Rattle.std.specs.Prelude.{◌≡◌, ℕ, ◌≤◌, List, [], ◌∷◌, ◌++◌, length, take, cond, Some, None, MatchOption, Result, Ok, Err}
 use Rattle.dn_line.specs.Pieces.{parts, lines, is_line_feed}
 use Rattle.dn_line.specs.State.LineStates.{LineSoFar, LineReaderAt}
 use Rattle.dn_line.specs.declared.line_reader.LineReader.{LineReader}
 use Rattle.dn_instance.specs.declared.reader.Reader.{Reader}
-use Rattle.dn_instance.specs.declared.held.Held.{Held}
 use Rattle.dn_instance.specs.declared.refusal.Refusal.{Refusal}
 use Rattle.dn_instance.specs.declared.refusal.Refusal.TheVariants.{Memory}
 use Rattle.dn_instance.specs.Readers.{WantsMemory, ended}
@@ -76,7 +76,7 @@ WantsInPiece old new piece result =
     → WantsMemory (length (ended t)) (ended (t ++ piece)) × (length (ended t) ≤ lines_taken new)
 
 -- if memory runs out at the end of a text, it runs out at a last line without an LF
-abbrev pub WantsAtEnd : Reader → Result Held Refusal → Type 0
+abbrev pub WantsAtEnd : Reader → Result Parsed Refusal → Type 0
 WantsAtEnd r result =
     (t : List ℕ) → ReaderAt r t → refusal_of r ≡ None → result ≡ Err Memory → WantsMemory (length (ended t)) (lines t)
 

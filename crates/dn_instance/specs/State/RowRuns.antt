@@ -1,9 +1,12 @@
 -- Rows that are taken one after another.
-use Rattle.std.specs.Prelude.{◌≡◌, pos, ◌≤ℤ◌, List, [], ◌∷◌, ◌++◌, map, true, false, None, Some}
+use Rattle.std.specs.Prelude.{◌≡◌, ◌⊎◌, ℕ, nat_eq, cond, pos, ◌≤ℤ◌, List, [], ◌∷◌, ◌++◌, map, true, false, None, Some}
 use Rattle.std.specs.List.{list_any}
 use Rattle.dn_line.specs.Faults.{first_fault}
+use Rattle.dn_line.specs.State.RowItems.{item_of_row}
 use Rattle.dn_line.specs.declared.kind.Kind.{Kind}
 use Rattle.dn_line.specs.declared.kind.Kind.TheVariants.{Min, Max, Sp, Ss, P2p, Co}
+use Rattle.dn_line.specs.declared.line.Head.{Head}
+use Rattle.dn_line.specs.declared.line.Head.TheVariants as Heads
 use Rattle.dn_line.specs.declared.line.Line.{Line}
 use Rattle.dn_line.specs.declared.line.Line.TheVariants as Item
 use Rattle.dn_line.specs.declared.row.Row.{Row}
@@ -11,25 +14,44 @@ use Rattle.dn_line.specs.declared.row_block.RowLine.{RowLine}
 use Rattle.dn_instance.specs.Items.{counted, is_counted, problem_of}
 use Rattle.dn_instance.specs.TextFaults.{is_arc, is_full, item_tests}
 
--- the counted item of these numbers, in a text of this kind
-abbrev pub line_of : Kind → Row → Line
-line_of Min r = Item.MinArc r.first r.second r.third r.fourth r.fifth
-line_of Max r = Item.MaxArc r.first r.second r.third
-line_of Sp r = Item.SpArc r.first r.second r.third
-line_of Ss r = Item.Source r.first
-line_of P2p r = Item.Query r.first r.second
-line_of Co r = Item.Point r.first r.second r.third
+-- the item of a row of a line with this head, in a text of this kind
+abbrev pub row_line : Kind → Head → Row → Line
+row_line kind head r = item_of_row head (Some kind) r
 
--- the `min` node line of these numbers
+-- the head of the counted lines of a text of this kind
+abbrev pub counted_head : Kind → Head
+counted_head Min = Heads.Arc
+counted_head Max = Heads.Arc
+counted_head Sp = Heads.Arc
+counted_head Ss = Heads.Source
+counted_head P2p = Heads.Query
+counted_head Co = Heads.Point
+
+-- lines of rows have this head in a text of this kind: they are counted, or they are `min` node lines
+abbrev pub IsRowHead : Kind → Head → Type 0
+IsRowHead kind head = ((head ≡ Heads.Node) × (kind ≡ Min)) ⊎ (head ≡ counted_head kind)
+
+-- the head of the lines of rows that begin with this byte, where 110 is the byte of `n`
+abbrev pub run_head : Kind → ℕ → Head
+run_head Min byte = cond (nat_eq byte 110) Heads.Node Heads.Arc
+run_head kind byte = counted_head kind
+
+-- the counted item of a row, in a text of this kind
+abbrev pub line_of : Kind → Row → Line
+line_of kind = row_line kind (counted_head kind)
+
+-- the `min` node line of a row
 abbrev pub supply_of : Row → Line
-supply_of r = Item.Supply r.first r.second
+supply_of = row_line Min Heads.Node
 
 -- the items of these rows, where `line` is the item of one row
 abbrev pub row_items : (Row → Line) → List RowLine → List Line
 row_items line rows = map (λ (r : RowLine). line r.row) rows
 
--- LOW and CAP of an arc are at least 0
+-- LOW, CAP, ARCS and K are at least 0
 abbrev pub HasSigns : Line → Type 0
+HasSigns (Item.Graph kind nodes arcs) = pos 0 ≤ℤ arcs
+HasSigns (Item.Aux kind count) = pos 0 ≤ℤ count
 HasSigns (Item.MinArc src dst low cap cost) = (pos 0 ≤ℤ low) × (pos 0 ≤ℤ cap)
 HasSigns (Item.MaxArc src dst cap) = pos 0 ≤ℤ cap
 HasSigns _ = Unit {0}

@@ -1,9 +1,9 @@
 -- What reading a source returns, and in which state it leaves the source.
+use Rattle.dn_instance.specs.State.Helds.{Parsed}
 use Rattle.std.specs.Prelude.{◌≡◌, ◌⊎◌, ℕ, ◌<◌, ◌≤◌, ◌^◌, List, ◌++◌, length, Bool, Option, Some, None, Result, Ok, Err, IfSome, IsErrOf, IsTrue}
 use Rattle.std.specs.Io.KnownBytes.{Consumes, IsAtEnd}
 use Rattle.dn_line.specs.Pieces.{lines}
 use Rattle.dn_line.specs.Sources.{SourceFacts}
-use Rattle.dn_instance.specs.declared.held.Held.{Held}
 use Rattle.dn_instance.specs.declared.reader.Reader.{Reader}
 use Rattle.dn_instance.specs.declared.refusal.Place.TheVariants as Places
 use Rattle.dn_instance.specs.declared.refusal.Refusal.{Refusal}
@@ -48,7 +48,7 @@ StopsAt t left e = StopsInPiece t left e ⊎ StopsAtEnd t left.gives e
 -- represents what t reads as, with the source at its end; the first fault of t, or `Memory`, with the source as
 -- `StopsAt` says; or `Read`, or `Endless` after at least 2^40 bytes, where no complete line of the bytes given has a
 -- fault
-abbrev pub SourceOutcome : List ℕ → AfterPulls → Result Held Refusal → Type 0
+abbrev pub SourceOutcome : List ℕ → AfterPulls → Result Parsed Refusal → Type 0
 SourceOutcome t left (Ok held) = Outcome t (Ok held) × IsAtEnd left.gives
 SourceOutcome t left (Err (Text place code)) = IsFirstFault t place code × StopsAt t left (Text place code)
 SourceOutcome t left (Err Memory) = StopsAt t left Memory
@@ -58,7 +58,7 @@ SourceOutcome t left (Err Write) = ⊥
 SourceOutcome t left (Err CountTooLarge) = ⊥
 
 -- what reading a source returns, if the bytes of the source are known
-abbrev pub ReadsSource : {S : Type 0} → SourceFacts S → S → S → Result Held Refusal → Type 0
+abbrev pub ReadsSource : {S : Type 0} → SourceFacts S → S → S → Result Parsed Refusal → Type 0
 ReadsSource source old new result =
     IfSome (source.gives old) (λ t. SourceOutcome t (after_pulls source old new) result)
 
@@ -94,22 +94,22 @@ pub record LacksRoom (t : List ℕ) (left : AfterPulls) (old_copy new_copy : Lis
 
 -- what reading a source with a copy returns: the outcome of reading the source, where the copy has gained all bytes
 -- given; or `Memory`, where the copy has gained all bytes given but the last piece
-abbrev pub CopyOutcome : List ℕ → AfterPulls → List ℕ → List ℕ → Result Held Refusal → Type 0
+abbrev pub CopyOutcome : List ℕ → AfterPulls → List ℕ → List ℕ → Result Parsed Refusal → Type 0
 CopyOutcome t left old_copy new_copy (Err Memory) =
     (SourceOutcome t left (Err Memory) × Copied t left.gives old_copy new_copy) ⊎ LacksRoom t left old_copy new_copy
 CopyOutcome t left old_copy new_copy result = SourceOutcome t left result × Copied t left.gives old_copy new_copy
 
 -- what reading a source with a copy returns, if the bytes of the source are known
-abbrev pub CopiesSource : {S : Type 0} → SourceFacts S → S → S → List ℕ → List ℕ → Result Held Refusal → Type 0
+abbrev pub CopiesSource : {S : Type 0} → SourceFacts S → S → S → List ℕ → List ℕ → Result Parsed Refusal → Type 0
 CopiesSource source old new old_copy new_copy result =
     IfSome (source.gives old) (λ t. CopyOutcome t (after_pulls source old new) old_copy new_copy result)
 
 -- the parsed instance represents what some text reads as, whether or not the bytes of the source are known
-abbrev pub HoldsSome : Held → Type 0
+abbrev pub HoldsSome : Parsed → Type 0
 HoldsSome held = (t : List ℕ) × Outcome t (Ok held)
 
 -- the parsed instance represents what some text reads as, and the copy has gained this text
-abbrev pub HoldsCopied : List ℕ → List ℕ → Held → Type 0
+abbrev pub HoldsCopied : List ℕ → List ℕ → Parsed → Type 0
 HoldsCopied old_copy new_copy held = (t : List ℕ) × Outcome t (Ok held) × (new_copy ≡ old_copy ++ t)
 
 -- pulls changed the source from `old` to `new`, and each of them gave at least one byte; the reader has read the bytes
@@ -127,12 +127,12 @@ abbrev pub IsKept : Bool → List ℕ → List ℕ → List ℕ → Type 0
 IsKept keeps old new bytes = IsTrue keeps → new ≡ old ++ bytes
 
 -- the parsed instance represents what some text reads as, and this text is kept, if bytes are kept
-abbrev pub HoldsKept : Bool → List ℕ → List ℕ → Held → Type 0
+abbrev pub HoldsKept : Bool → List ℕ → List ℕ → Parsed → Type 0
 HoldsKept keeps old new held = (t : List ℕ) × Outcome t (Ok held) × IsKept keeps old new t
 
 -- what reading a source returns that may keep the bytes given: the outcome of reading the source, where all bytes given
 -- are kept, if bytes are kept; or `Memory`, where bytes are kept, and all bytes given but the last piece are
-abbrev pub KeptOutcome : Bool → List ℕ → AfterPulls → List ℕ → List ℕ → Result Held Refusal → Type 0
+abbrev pub KeptOutcome : Bool → List ℕ → AfterPulls → List ℕ → List ℕ → Result Parsed Refusal → Type 0
 KeptOutcome keeps t left old new result =
     (SourceOutcome t left result × (IsTrue keeps → Copied t left.gives old new))
     ⊎ ((result ≡ Err Memory) × IsTrue keeps × LacksRoom t left old new)

@@ -1,10 +1,15 @@
 -- What the complete lines so far make, and what the next line reads as after them.
-use Rattle.std.specs.Prelude.{◌≡◌, ℕ, ◌+◌, ◌-◌, ◌^◌, ◌<◌, pos, ◌<ℤ◌, List, [], ◌∷◌, ◌++◌, length, take, drop, cond, true, flat_map, Option, Some, None, Result, Ok, Err, IsSome, int_lt}
+use Rattle.std.specs.Prelude.{◌≡◌, ℕ, ◌+◌, ◌-◌, ◌^◌, ◌<◌, pos, ◌<ℤ◌, ◌≤ℤ◌, ◌+ℤ◌, List, [], ◌∷◌, ◌++◌, length, take, drop, cond, true, flat_map, Option, Some, None, Result, Ok, Err, IsSome, OnOk, int_lt}
 use Rattle.std.specs.List.{list_all, list_any, AllByRecursion}
 use Rattle.std.specs.Option.{option_map}
 use Rattle.dn_line.specs.declared.kind.Kind.{Kind}
+use Rattle.dn_line.specs.declared.kind.Kind.TheVariants.{Max}
+use Rattle.dn_line.specs.declared.line.Head.{Head}
+use Rattle.dn_line.specs.declared.line.Head.TheVariants as Heads
 use Rattle.dn_line.specs.declared.line.Line.{Line}
 use Rattle.dn_line.specs.declared.line.Line.TheVariants.{Skip}
+use Rattle.dn_line.specs.declared.row.Row.{Row}
+use Rattle.dn_line.specs.declared.row_block.RowLine.{RowLine}
 use Rattle.dn_line.specs.declared.word.Word.{Word}
 use Rattle.dn_line.specs.declared.code.Code.{Code}
 use Rattle.dn_line.specs.Words.{is_skip, said_words}
@@ -12,30 +17,46 @@ use Rattle.dn_line.specs.State.LineStates.{is_inner}
 use Rattle.dn_line.specs.Faults.{first_fault, head_tests, field_tests, fields}
 use Rattle.dn_line.specs.State.Spelling.{slots_of, kind_before}
 use Rattle.dn_line.specs.Reading.{unless, spelled}
+use Rattle.dn_line.specs.State.RowItems.{item_of_row}
 use Rattle.dn_instance.specs.Items.{Problem, problem_of, kind_known, counted}
 use Rattle.dn_instance.specs.Readers.{SpellsNeed}
 use Rattle.dn_instance.specs.TextFaults.{is_arc, line_fault, line_tests, order_tests}
 use Rattle.dn_instance.specs.Texts.{items_of, IsClean}
-use Rattle.dn_instance.specs.State.Drafts.{draft_kind, is_graph, DraftHolds}
+use Rattle.dn_instance.specs.State.TextParts.{AnyBody, BodyHolds, MarksHold, body_kind, is_graph}
+use Rattle.dn_instance.specs.State.Bodies.{AnswersItem, TakerFacts}
 use Rattle.dn_instance.specs.State.ItemFaults.{AnswersFault}
 use Rattle.dn_instance.specs.State.RowRuns.{HasRoom, HasSigns}
 use Rattle.dn_instance.specs.declared.refusal.ItemFault.{ItemFault}
 use Rattle.dn_instance.specs.declared.refusal.ItemFault.TheVariants.{Memory}
-use Rattle.dn_instance.specs.declared.text_so_far.Front.{Front}
+use Rattle.dn_instance.specs.declared.text_so_far.RowsTaken.{RowsTaken}
 use Rattle.dn_instance.specs.declared.text_so_far.TextSoFar.{TextSoFar}
+
+-- the kind that the problem line declares; before the problem line, there is none
+abbrev pub text_kind : TextSoFar → Option Kind
+text_kind t = option_map body_kind t.body
 
 -- the problem of this kind with the numbers of the problem line
 abbrev pub problem_as : TextSoFar → Kind → Problem
 problem_as t kind = record { kind = kind; nodes = t.nodes; count = t.count }
 
+-- the body, if there is one, holds what the counted ones of these items make; without a body, there are no items
+abbrev pub HoldsBody : Option AnyBody → List Line → Type 0
+HoldsBody None items = items ≡ []
+HoldsBody (Some b) items = BodyHolds b items
+
 -- the text so far has read these items
 pub record HasRead (t : TextSoFar) (items : List Line) : Type 0 where
-  pub problem_is : problem_of items ≡ option_map (problem_as t) (draft_kind t.draft)
+  pub problem_is : problem_of items ≡ option_map (problem_as t) (text_kind t)
   pub count_fits : t.count <ℤ pos (2 ^ 63)
-  pub counted_is : t.counted ≡ pos (counted items)
-  pub counted_few : counted items < 2 ^ 63
-  pub arcs_are : is_graph (draft_kind t.draft) ≡ true → list_any is_arc items ≡ int_lt (pos 0) t.counted
-  pub holds : DraftHolds t.draft items
+  pub due_is : pos (counted items) +ℤ t.due ≡ t.count
+  pub due_some : pos 0 ≤ℤ t.due
+  pub arcs_are : is_graph (text_kind t) ≡ true → list_any is_arc items ≡ int_lt t.due t.count
+  pub marks_hold : MarksHold t.marks items
+  pub body_holds : HoldsBody t.body items
+
+-- the texts so far of this kind
+abbrev pub text_of : Kind → TakerFacts TextSoFar
+text_of kind = record { kind = kind; Holds = λ t items. (text_kind t ≡ Some kind) × HasRead t items }
 
 -- what a line reads as after these items, where the faults of its item are not checked
 abbrev pub next_read : List Line → List Word → Result Line Code
@@ -44,8 +65,8 @@ next_read before ws =
     let faults = head_tests known ws ++ (order_tests before ws ++ field_tests (fields known ws)) in
     cond (is_skip ws) (Ok Skip) (unless (first_fault faults) (spelled known ws))
 
--- a line after these items can spell this item: the item belongs to the known kind, its LOW and CAP are at least 0, and
--- if it is counted, there are not as many counted lines as declared
+-- a line after these items can spell this item: the item belongs to the known kind, its LOW, CAP, ARCS and K are at
+-- least 0, and if it is counted, there are not as many counted lines as declared
 pub record MayFollow (before : List Line) (i : Line) : Type 0 where
   pub kind_is : kind_known before ≡ kind_before i
   pub spelled : IsSome (slots_of i)
@@ -53,9 +74,33 @@ pub record MayFollow (before : List Line) (i : Line) : Type 0 where
   pub room : HasRoom before i
 
 -- the text so far has read these items, and this item may follow them
-pub record Awaits (t : TextSoFar) (before : List Line) (i : Line) : Type 0 where
+pub record AwaitsRow (t : TextSoFar) (before : List Line) (i : Line) : Type 0 where
   pub read : HasRead t before
   pub may : MayFollow before i
+
+-- the result answers the item of this row after the items that the old text has read, and the new text has read it too
+-- if it has no fault
+abbrev pub TakesRowOf : TextSoFar → TextSoFar → Head → Row → Result (Unit {0}) ItemFault → Type 0
+TakesRowOf old new head row result =
+    let i = item_of_row head (text_kind old) row in
+    (before : List Line) → AwaitsRow old before i
+    → AnswersItem before i result × OnOk result (HasRead new (before ++ i ∷ []))
+
+-- the line of this head is no problem line and no `max` node line
+pub record IsOfRun (t : TextSoFar) (head : Head) : Type 0 where
+  pub no_problem : (kind : Kind) → head ≡ Heads.Problem kind → ⊥
+  pub no_terminal : head ≡ Heads.Node → text_kind t ≡ Some Max → ⊥
+
+-- at most as many of these rows as are still to come, if their lines are counted
+abbrev pub RoomFor : Head → List RowLine → TextSoFar → Type 0
+RoomFor head rows t = (head ≡ Heads.Node → ⊥) → pos (length rows) ≤ℤ t.due
+
+-- the next line reads as the item of a row of a line with this head, or it has this fault; a skipped line has the head
+-- `Skip`
+abbrev pub NextRead : Option Kind → List Line → List Word → Result (Head × Row) Code → Type 0
+NextRead known before ws (Ok p) =
+    (next_read before ws ≡ Ok (item_of_row p.0 known p.1)) × (is_skip ws ≡ true → p.0 ≡ Heads.Skip)
+NextRead known before ws (Err code) = next_read before ws ≡ Err code
 
 -- the first fault of a line after these items, except `TooLong`
 abbrev pub fault_next : List Line → List Word → Option Code
@@ -78,7 +123,7 @@ AreInner ls = AllByRecursion (λ l. list_all is_inner l ≡ true) ls
 
 -- the first of these bytes are a line and its LF, and after the lines `ls` this line has the fault, or spells an item
 -- that needs memory
-pub record IsRefusedFront (ls : List (List ℕ)) (bytes : List ℕ) (fault : ItemFault) : Type 0 where
+pub record IsRefusedRow (ls : List (List ℕ)) (bytes : List ℕ) (fault : ItemFault) : Type 0 where
   pub line : List ℕ
   pub rest : List ℕ
   pub whole : line ++ 10 ∷ rest ≡ bytes
@@ -87,15 +132,15 @@ pub record IsRefusedFront (ls : List (List ℕ)) (bytes : List ℕ) (fault : Ite
   pub needs : fault ≡ Memory → SpellsNeed (items_of ls) (said_words line)
 
 -- there is no fault, or it is that of the first line of these bytes
-abbrev pub RefusesFront : List (List ℕ) → List ℕ → Option ItemFault → Type 0
-RefusesFront ls bytes None = Unit {0}
-RefusesFront ls bytes (Some fault) = IsRefusedFront ls bytes fault
+abbrev pub RefusesRow : List (List ℕ) → List ℕ → Option ItemFault → Type 0
+RefusesRow ls bytes None = Unit {0}
+RefusesRow ls bytes (Some fault) = IsRefusedRow ls bytes fault
 
 -- the first bytes, as many as were used, are lines, each followed by its LF, and the text so far has read these lines
 -- after `ls`; the fault, if there is one, is that of the next line
-pub record ReadsFront (t : TextSoFar) (ls : List (List ℕ)) (bytes : List ℕ) (front : Front) : Type 0 where
+pub record ReadsRows (t : TextSoFar) (ls : List (List ℕ)) (bytes : List ℕ) (front : RowsTaken) : Type 0 where
   pub more : List (List ℕ)
   pub whole : closed_lines more ≡ take front.used bytes
   pub inner : AreInner more
   pub read : TextAt t (ls ++ more)
-  pub stops : RefusesFront (ls ++ more) (drop front.used bytes) front.fault
+  pub stops : RefusesRow (ls ++ more) (drop front.used bytes) front.fault

@@ -1,8 +1,8 @@
 -- The two steps of reading a line: its head, and its fields.
-use Rattle.std.specs.Prelude.{ℕ, List, cond, Option, Some, None, Result, Ok, Err, map}
+use Rattle.std.specs.Prelude.{ℕ, List, cond, Option, Some, None, Result, Ok, Err}
 use Rattle.dn_line.specs.Words.{said_words, is_skip, first}
-use Rattle.dn_line.specs.LineTable.{kind_named, row, named}
-use Rattle.dn_line.specs.Faults.{first_fault, head_tests, field_tests, fields, problem_fields, row_fields}
+use Rattle.dn_line.specs.LineTable.{kind_named}
+use Rattle.dn_line.specs.Faults.{first_fault, head_tests, field_tests, fields}
 use Rattle.dn_line.specs.declared.kind.Kind.{Kind}
 use Rattle.dn_line.specs.declared.line.Head.{Head}
 use Rattle.dn_line.specs.declared.line.Head.TheVariants as Heads
@@ -12,7 +12,7 @@ use Rattle.dn_line.specs.declared.word.Keyword.{Keyword}
 use Rattle.dn_line.specs.declared.word.Keyword.TheVariants as Key
 use Rattle.dn_line.specs.declared.word.Word.{Word}
 use Rattle.dn_line.specs.declared.code.Code.{Code}
-use Rattle.dn_line.specs.Reading.{item, problem_named, spelled, unless, words_read}
+use Rattle.dn_line.specs.Reading.{spelled, unless, words_read}
 
 -- the head of a problem line that names this kind
 abbrev pub problem_head : Option Kind → Head
@@ -47,13 +47,3 @@ line_read known l = words_read known (said_words l)
 abbrev pub then_fields : Result Head Code → Result Line Code → Result Line Code
 then_fields (Ok h) r = r
 then_fields (Err c) r = Err c
-
--- what the fields of a problem line read as, given the words after `p`
-abbrev pub checked_problem : List Word → Result Line Code
-checked_problem ws =
-    unless (first_fault (field_tests (problem_fields (named (map (λ w. w.keyword) ws)) ws)))
-    (problem_named (named (map (λ w. w.keyword) ws)) ws)
-
--- what the fields of any other line read as, given the words after its letter
-abbrev pub checked_item : Kind → Keyword → List Word → Result Line Code
-checked_item k l ws = unless (first_fault (field_tests (row_fields (row k l) ws))) (item k l ws)

@@ -6,7 +6,6 @@ use Rattle.dn_bundle.specs.State.Listings.{least_arcs, total_arcs, curve_arcs}
 use Rattle.dn_arc.specs.declared.arc.Form.TheVariants.{One}
 use Rattle.dn_arc.specs.declared.arc.LengthArc.{LengthArc}
 use Rattle.dn_instance.specs.State.Helds.{Bundles, Contents, OfCo, OfHeld, OfMax, OfMin, OfP2p, OfSp, OfSs, Parsed}
-use Rattle.dn_instance.specs.declared.held.Held.{Held}
 use Rattle.dn_sink.specs.Rows.{Row}
 use Rattle.dn_report.specs.Shows.{IsShown, pair_row, total_words, cost_words, number_row, graph_rows, companion_rows, supply_rows, terminal_rows}
 
@@ -39,5 +38,5 @@ abbrev pub held_rows : Parsed → List Row
 held_rows h = contents_rows h.nodes h.lines h.contents
 
 -- `show` prints this text of every valid instance that the parsed instance represents
-abbrev pub ShowsHeld : Held → List ℕ → Type 0
+abbrev pub ShowsHeld : Parsed → List ℕ → Type 0
 ShowsHeld held text = OfHeld held (λ I. IsShown I text)

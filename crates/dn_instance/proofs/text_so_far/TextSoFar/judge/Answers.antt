@@ -1,83 +1,54 @@
-use Rattle.std.proofs.Common.{rules, Ok, w64, FitsSigned, to_z-of_z, sym, ap, ◌∙◌}
+use Rattle.std.proofs.Common.{List, Ok, ap, ◌∙◌}
+use Rattle.dn_line.specs.declared.line.Line.{Line}
+use Rattle.dn_line.specs.State.LineStates.{LineSoFar, LineReaderAt}
 use Rattle.dn_line.specs.Words.{said_words}
-use Rattle.dn_instance.specs.Items.{problem_in}
+use Rattle.dn_line.specs.State.RowItems.{item_of_row}
+use Rattle.dn_instance.specs.State.TextsSoFar.{HasRead, text_kind}
 use Rattle.dn_instance.proofs.CleanItems.{skip_adds_none}
-use Rattle.dn_instance.proofs.FollowLaws.{skip_only, skip_faultless, next_item, line_refused}
-use Rattle.dn_instance.proofs.ItemSteps.{no_problem}
+use Rattle.dn_instance.proofs.FollowLaws.{IsNextItem, skip_only, skip_faultless, next_item, line_refused}
 use Rattle.dn_instance.proofs.text_so_far.TextSoFar.judge.Goals as goal
 
 pub returns-in-Skip-clause-answer : goal.returns-in-Skip-clause-answer
 returns-in-Skip-clause-answer c items l at stands =
     let ws = said_words l.bytes in
-    skip_faultless items ws
-    (skip_only items ws (sym (c.read.ensures items l at stands) ∙ c.in-Ok.is ∙ ap Ok c.in-Skip.is))
+    let read = rw c.in-Ok.is at (c.read.ensures items l at stands) in
+    skip_faultless items ws (skip_only items ws (rw c.in-Skip.is at read.0))
 
 pub returns-in-Skip-clause-read : goal.returns-in-Skip-clause-read
 returns-in-Skip-clause-read c items l at stands =
     let ws = said_words l.bytes in
-    rw (skip_adds_none items ws
-    (skip_only items ws (sym (c.read.ensures items l at stands) ∙ c.in-Ok.is ∙ ap Ok c.in-Skip.is))) at
+    let read = rw c.in-Ok.is at (c.read.ensures items l at stands) in
+    rw (skip_adds_none items ws (skip_only items ws (rw c.in-Skip.is at read.0))) at
 
-pub returns-in-Graph-clause-answer : goal.returns-in-Graph-clause-answer
-returns-in-Graph-clause-answer c items l at stands =
-    rw c.in-Graph.is at
-    (next_item items (said_words l.bytes) c.in-Ok.item (sym (c.read.ensures items l at stands) ∙ c.in-Ok.is)
-    (λ skip. cc (sym c.in-Graph.is ∙ skip))).fault
+-- the item of the row may follow, has the first fault of the line, and is what the line adds
+next : (c : goal.After-take) (items : List Line) (l : LineSoFar) → HasRead c.args.self.now items
+    → LineReaderAt c.args.line.now l
+    → IsNextItem items (said_words l.bytes) (item_of_row c.in-Ok.head (text_kind c.args.self.now) c.in-Ok.row)
+next c items l at stands =
+    let ws = said_words l.bytes in
+    let read = rw c.in-Ok.is at (c.read.ensures items l at stands) in
+    next_item items ws _ read.0
+    (λ e. c.in_default.not-Skip (read.1 (skip_only items ws (read.0 ∙ ap Ok e))))
 
-pub returns-in-Graph-clause-read : goal.returns-in-Graph-clause-read
-returns-in-Graph-clause-read c items l at stands =
-    let next =
-    next_item items (said_words l.bytes) c.in-Ok.item (sym (c.read.ensures items l at stands) ∙ c.in-Ok.is)
-    (λ skip. cc (sym c.in-Graph.is ∙ skip)) in
-    let fnodes : FitsSigned w64 c.in-Graph.nodes = search rules in
-    let farcs : FitsSigned w64 c.in-Graph.arcs = search rules in
-    rw next.adds (c.begin.ensures.read items c.in-Ok.item (record { read = at; may = next.may })
-    (ap problem_in c.in-Graph.is ∙ simp to_z-of_z))
-
-pub returns-in-Aux-clause-answer : goal.returns-in-Aux-clause-answer
-returns-in-Aux-clause-answer c items l at stands =
-    rw c.in-Aux.is at
-    (next_item items (said_words l.bytes) c.in-Ok.item (sym (c.read.ensures items l at stands) ∙ c.in-Ok.is)
-    (λ skip. cc (sym c.in-Aux.is ∙ skip))).fault
-
-pub returns-in-Aux-clause-read : goal.returns-in-Aux-clause-read
-returns-in-Aux-clause-read c items l at stands =
-    let next =
-    next_item items (said_words l.bytes) c.in-Ok.item (sym (c.read.ensures items l at stands) ∙ c.in-Ok.is)
-    (λ skip. cc (sym c.in-Aux.is ∙ skip)) in
-    let fcount : FitsSigned w64 c.in-Aux.count = search rules in
-    rw next.adds (c.begin-in-Aux.ensures.read items c.in-Ok.item (record { read = at; may = next.may })
-    (ap problem_in c.in-Aux.is ∙ simp to_z-of_z))
-
-pub returns-in_default-clause-answer : goal.returns-in_default-clause-answer
-returns-in_default-clause-answer c items l at stands =
-    let next =
-    next_item items (said_words l.bytes) c.in-Ok.item
-    (sym (c.read.ensures items l at stands) ∙ c.in-Ok.is) c.in_default.not-Skip in
-    rw next.fault (c.take.ensures.answer items (record { read = at; may = next.may })
-    (no_problem c.in-Ok.item c.in_default.not-Graph c.in_default.not-Aux))
-
-pub returns-in_default-clause-read : goal.returns-in_default-clause-read
-returns-in_default-clause-read c items l at stands =
-    let next =
-    next_item items (said_words l.bytes) c.in-Ok.item
-    (sym (c.read.ensures items l at stands) ∙ c.in-Ok.is) c.in_default.not-Skip in
-    rw next.adds (c.take.ensures.read items (record { read = at; may = next.may })
-    (no_problem c.in-Ok.item c.in_default.not-Graph c.in_default.not-Aux))
-
-pub returns-in_default-clause-item : goal.returns-in_default-clause-item
-returns-in_default-clause-item c items l at stands e =
-    let next =
-    next_item items (said_words l.bytes) c.in-Ok.item
-    (sym (c.read.ensures items l at stands) ∙ c.in-Ok.is) c.in_default.not-Skip in
-    record {
-      item = c.in-Ok.item;
-      spelled = next.adds;
-      needs =
-          c.take.ensures.memory items (record { read = at; may = next.may })
-          (no_problem c.in-Ok.item c.in_default.not-Graph c.in_default.not-Aux) e;
-    }
+pub returns-in_default : goal.returns-in_default
+returns-in_default c = record {
+  answer = λ items l at stands.
+      let n = next c items l at stands in
+      rw n.fault (c.take.ensures.taken items (record { read = at; may = n.may })).0.fault;
+  read = λ items l at stands.
+      let n = next c items l at stands in
+      rw n.adds (c.take.ensures.taken items (record { read = at; may = n.may })).1;
+  unchanged = c.take.ensures.unchanged;
+  kept = c.take.ensures.kept;
+  item = λ items l at stands e.
+      let n = next c items l at stands in
+      record {
+        item = _;
+        spelled = n.adds;
+        needs = (c.take.ensures.taken items (record { read = at; may = n.may })).0.memory e;
+      };
+}
 
 pub returns-in-Err-clause-answer : goal.returns-in-Err-clause-answer
 returns-in-Err-clause-answer c items l at stands =
-    line_refused items (said_words l.bytes) c.in-Err.code (sym (c.read.ensures items l at stands) ∙ c.in-Err.is)
+    line_refused items (said_words l.bytes) c.in-Err.code (rw c.in-Err.is at (c.read.ensures items l at stands))

@@ -10,7 +10,8 @@ pub returns-in-Ok-clause-stands : goal.returns-in-Ok-clause-stands
 returns-in-Ok-clause-stands c ls l h stands =
     let ws = said_words l.bytes in
     let early : is_too_long (length ls + 1) ≡ false =
-    in_time (length ls) c.args.self.now.closed h.number_is (omega (arith, c.if-self-ge-LAST.false)) in
+    in_time (length ls) c.args.self.now.closed h.number_is
+    (omega (arith, c.has_room.ensures.room c.if-not-has_room.false)) in
     let none = rw c.in-Ok.is at (c.judge.ensures.answer (items_of ls) l h.items_are stands) in
     read_more c.args.self.now ls l.bytes _ h (fault_is_next (length ls + 1) (items_of ls) ws early ∙ none)
     (omega (arith, c.judge.ensures.kept, h.number_is)) (few_more (length ls) early) (with_lines c.judge.new.self _ _
@@ -19,7 +20,8 @@ returns-in-Ok-clause-stands c ls l h stands =
 pub returns-in-Err-clause-answer : goal.returns-in-Err-clause-answer
 returns-in-Err-clause-answer c ls l h stands =
     let early : is_too_long (length ls + 1) ≡ false =
-    in_time (length ls) c.args.self.now.closed h.number_is (omega (arith, c.if-self-ge-LAST.false)) in
+    in_time (length ls) c.args.self.now.closed h.number_is
+    (omega (arith, c.has_room.ensures.room c.if-not-has_room.false)) in
     rw (fault_is_next (length ls + 1) (items_of ls) (said_words l.bytes) early)
     (rw c.in-Err.is at (c.judge.ensures.answer (items_of ls) l h.items_are stands))
 
@@ -34,14 +36,16 @@ returns-in-Err-clause-unchanged c ls h = record {
 pub returns-in-Ok-clause-answer : goal.returns-in-Ok-clause-answer
 returns-in-Ok-clause-answer c ls l h stands =
     let early : is_too_long (length ls + 1) ≡ false =
-    in_time (length ls) c.args.self.now.closed h.number_is (omega (arith, c.if-self-ge-LAST.false)) in
+    in_time (length ls) c.args.self.now.closed h.number_is
+    (omega (arith, c.has_room.ensures.room c.if-not-has_room.false)) in
     fault_is_next (length ls + 1) (items_of ls) (said_words l.bytes) early
     ∙ rw c.in-Ok.is at (c.judge.ensures.answer (items_of ls) l h.items_are stands)
 
-pub returns-then-self-ge-LAST-clause-answer : goal.returns-then-self-ge-LAST-clause-answer
-returns-then-self-ge-LAST-clause-answer c ls l h stands =
+pub returns-then-not-has_room-clause-answer : goal.returns-then-not-has_room-clause-answer
+returns-then-not-has_room-clause-answer c ls l h stands =
     too_long (length ls + 1) (items_of ls) (said_words l.bytes)
-    (is_late (length ls) c.args.self.now.closed h.number_is (omega (arith, c.if-self-ge-LAST.true)))
+    (is_late (length ls) c.args.self.now.closed h.number_is
+    (omega (arith, c.has_room.ensures.full c.if-not-has_room.true)))
 
-pub returns-then-self-ge-LAST-clause-unchanged : goal.returns-then-self-ge-LAST-clause-unchanged
-returns-then-self-ge-LAST-clause-unchanged c ls h = h
+pub returns-then-not-has_room-clause-unchanged : goal.returns-then-not-has_room-clause-unchanged
+returns-then-not-has_room-clause-unchanged c ls h = h

@@ -1,5 +1,56 @@
-use Rattle.dn_instance.proofs.RowLinesLaws.{none_read}
+use Rattle.std.proofs.Common.{◌≡◌, ◌<◌, ◌≤◌, ◌+◌, ◌-◌, ◌^◌, Some, get_or, length, refl, ap, ◌∙◌, arith}
+use Rattle.dn_instance.specs.Items.{Problem}
+use Rattle.dn_instance.specs.State.RowRuns.{IsRowHead, row_line}
+use Rattle.dn_instance.specs.State.TextsSoFar.{RoomFor, problem_as, text_kind}
+use Rattle.dn_instance.specs.Texts.{items_of}
+use Rattle.dn_instance.proofs.FirstFaults.{none_from}
+use Rattle.dn_instance.proofs.ItemSteps.{problem_agrees, with_lines}
+use Rattle.dn_instance.proofs.RowLinesLaws.{SpellsRows, front_read, none_read, rows_spell, run_head_is, run_signs}
+use Rattle.dn_instance.proofs.RowRunLaws.{room_for, run_in_time, within_all}
 use Rattle.dn_instance.proofs.text_so_far.TextSoFar.take_rows.Goals as goal
 
 pub returns-in_default-clause-taken : goal.returns-in_default-clause-taken
 returns-in_default-clause-taken c ls at = none_read c.args.self.now ls c.args.bytes.now at
+
+pub returns-clause-taken : goal.returns-clause-taken
+returns-clause-taken c ls at =
+    let self = c.args.self.now in
+    let kind = c.kind-kind.result in
+    let head = c.row_head-head.result in
+    let bytes = c.args.bytes.now in
+    let byte = get_or bytes 0 0 in
+    let items = items_of ls in
+    let rows = c.rows-rows.result.now in
+    let t = c.take_run-taken.result in
+    let n = length rows in
+    let m = t.rows in
+    let is : text_kind self ≡ Some kind = rw (c.in-Some.is, c.kind-kind.ensures) in
+    let spell : SpellsRows kind byte (row_line kind head) = rw c.row_head-head.ensures (rows_spell kind byte) in
+    let row : IsRowHead kind head = rw c.row_head-head.ensures (run_head_is kind byte) in
+    let problem = problem_agrees self items kind at.items_are is in
+    let p : Problem = problem_as self kind in
+    let read = c.read.ensures.rows in
+    let all = rw (← c.rows-rows.ensures.rows) at read.1 in
+    let few : n ≤ c.most.result = rw c.rows-rows.ensures.rows c.read.ensures.few in
+    let room : RoomFor head rows self = λ counts.
+    room_for n c.most.result self.due few (c.most.ensures counts) at.items_are.due_some in
+    let early =
+    run_in_time self items kind head rows at.items_are is row room
+    (λ node. c.order_fault.ensures.node node (none_from c.order_fault.result c.in_default-order_fault.not-Some)) in
+    let took =
+    c.take_run-taken.ensures.taken kind items row room (record {
+      problem = p;
+      problem_is = problem;
+      kind_is = refl;
+      nodes_are = refl;
+      signs = run_signs kind byte (row_line kind head) spell rows bytes read.0 all;
+      holds = (is, at.items_are);
+    }) in
+    let within = within_all t.fault m n c.take_run-taken.ensures.within in
+    let short : length ls + n < 2 ^ 63 - 2 =
+    omega (arith, c.rows-rows.ensures.few, at.number_is, c.has_room.ensures.room c.if-not-has_room.false) in
+    front_read kind byte (row_line kind head) spell _ rows t bytes read.0 ls p c.rows_taken_of.result all at.clean
+    problem refl took.joins.faultless early took.stops within short
+    (ap (λ k. k + m) (c.take_run-taken.ensures.kept ∙ at.number_is))
+    (with_lines c.take_run-taken.new.self _ _ took.joins.holds.1) c.rows_taken_of.ensures.used
+    c.rows_taken_of.ensures.fault

@@ -1,5 +1,0 @@
-use Rattle.std.proofs.Common.{rules}
-use Rattle.dn_instance.proofs.held.Held.lines.Goals as goal
-
-pub returns : goal.returns
-returns c = search rules

@@ -1,0 +1,111 @@
+-- What the parts of a text so far hold: its `n` lines, and its counted lines.
+use Rattle.std.specs.Prelude.{◌≡◌, ℤ, pos, ◌||◌, List, [], ◌∷◌, ◌++◌, Bool, false, not, Option, Some, None, is_some, Result, OnOk}
+use Rattle.std.specs.BTreeMap as Map
+use Rattle.std.specs.BTreeSet as Set
+use Rattle.std.specs.List.{list_any}
+use Rattle.std.specs.List.Sorted.{IsStrictlySortedBy}
+use Rattle.std.specs.Map.{keys_of, lookup}
+use Rattle.std.specs.Ordering.{int_cmp}
+use Rattle.dn_line.specs.Faults.{first_fault}
+use Rattle.dn_line.specs.declared.kind.Kind.{Kind}
+use Rattle.dn_line.specs.declared.kind.Kind.TheVariants as Kinds
+use Rattle.dn_line.specs.declared.kind.Letter.TheVariants.{S, T}
+use Rattle.dn_line.specs.declared.line.Line.{Line}
+use Rattle.dn_arc.specs.Kinds.{lengths, capacities, costs}
+use Rattle.dn_arc.specs.Pairs.{pair_cmp, same_pair}
+use Rattle.dn_arc.specs.State.Curves.{CurveNumbers}
+use Rattle.dn_arc.specs.declared.arc.Form.TheVariants.{One}
+use Rattle.dn_bundle.specs.State.Listings.{least_arcs, total_arcs, curve_arcs}
+use Rattle.dn_bundle.specs.declared.least.Least.{Least}
+use Rattle.dn_bundle.specs.declared.total.Total.{Total}
+use Rattle.dn_instance.specs.Items.{Problem, problem_of, length_arc_in, cap_arc_in, cost_arc_in, supplies_of, terminal_of}
+use Rattle.dn_instance.specs.TextFaults.{has_supply, is_companion, item_tests}
+use Rattle.dn_instance.specs.State.Bodies.{TakerFacts, TableHolds, ids_body, pairs_body, points_body}
+use Rattle.dn_instance.specs.State.ItemFaults.{AnswersFault}
+use Rattle.dn_instance.specs.declared.body.Body.{Body}
+use Rattle.dn_instance.specs.declared.body.Body.TheVariants as Bodies
+use Rattle.dn_instance.specs.declared.marks.Marks.{Marks}
+use Rattle.dn_instance.specs.declared.refusal.ItemFault.{ItemFault}
+
+-- the arcs of a `min`, a `max` and an `sp` text
+abbrev pub min_body : TakerFacts (List ((ℤ × ℤ) × CurveNumbers))
+min_body = record { kind = Kinds.Min; Holds = TableHolds costs cost_arc_in (curve_arcs One) }
+
+abbrev pub max_body : TakerFacts (List ((ℤ × ℤ) × Total))
+max_body = record { kind = Kinds.Max; Holds = TableHolds capacities cap_arc_in total_arcs }
+
+abbrev pub sp_body : TakerFacts (List ((ℤ × ℤ) × Least))
+sp_body = record { kind = Kinds.Sp; Holds = TableHolds lengths length_arc_in least_arcs }
+
+-- what the counted lines of a text make; bundles are in any order while lines arrive, and sorted by pair at the end
+abbrev pub AnyBody : Type 0
+AnyBody = Body (List ((ℤ × ℤ) × CurveNumbers)) (List ((ℤ × ℤ) × Total)) (List ((ℤ × ℤ) × Least))
+
+-- the kind of the text
+abbrev pub body_kind : {C T L : Type 0} → Body C T L → Kind
+body_kind (Bodies.Min table) = Kinds.Min
+body_kind (Bodies.Max table) = Kinds.Max
+body_kind (Bodies.Sp table) = Kinds.Sp
+body_kind (Bodies.Ss ids) = Kinds.Ss
+body_kind (Bodies.P2p pairs) = Kinds.P2p
+body_kind (Bodies.Co points) = Kinds.Co
+
+-- the body holds what the counted ones of these items make
+abbrev pub BodyHolds : AnyBody → List Line → Type 0
+BodyHolds (Bodies.Min table) items = min_body.Holds table items
+BodyHolds (Bodies.Max table) items = max_body.Holds table items
+BodyHolds (Bodies.Sp table) items = sp_body.Holds table items
+BodyHolds (Bodies.Ss ids) items = ids_body.Holds ids items
+BodyHolds (Bodies.P2p pairs) items = pairs_body.Holds pairs items
+BodyHolds (Bodies.Co points) items = points_body.Holds points items
+
+-- the bodies of texts of this kind
+abbrev pub any_body : Kind → TakerFacts AnyBody
+any_body kind = record { kind = kind; Holds = λ b items. (body_kind b ≡ kind) × BodyHolds b items }
+
+-- the table is sorted by ascending pair, and has the bundles of the other table
+pub record SortsTable {B : Type 0} (old new : List ((ℤ × ℤ) × B)) : Type 0 where
+  pub rising : IsStrictlySortedBy pair_cmp (keys_of new)
+  pub kept : (p : ℤ × ℤ) → lookup (same_pair p) new ≡ lookup (same_pair p) old
+
+-- the new body is the old one, with its bundles sorted by ascending pair
+abbrev pub IsSorted : AnyBody → AnyBody → Type 0
+IsSorted (Bodies.Min old) (Bodies.Min new) = SortsTable old new
+IsSorted (Bodies.Max old) (Bodies.Max new) = SortsTable old new
+IsSorted (Bodies.Sp old) (Bodies.Sp new) = SortsTable old new
+IsSorted (Bodies.Ss old) (Bodies.Ss new) = new ≡ old
+IsSorted (Bodies.P2p old) (Bodies.P2p new) = new ≡ old
+IsSorted (Bodies.Co old) (Bodies.Co new) = new ≡ old
+IsSorted _ _ = ⊥
+
+-- the source and the sink, if a text of this kind has both; a kind without terminals has (0, 0)
+abbrev pub terminals_of : Kind → Option ℤ → Option ℤ → Option (ℤ × ℤ)
+terminals_of Kinds.Max (Some source) (Some sink) = Some (source, sink)
+terminals_of Kinds.Max _ _ = None
+terminals_of _ source sink = Some (pos 0, pos 0)
+
+-- the `n` lines among these items make these marks
+pub record MarksHold (marks : Marks) (items : List Line) : Type 0 where
+  pub supplies_are : marks.supplies.entries ≡ supplies_of items
+  pub named_are : (q : ℤ) → (is_some (Map.get int_cmp marks.supplies q) || Set.contains int_cmp marks.idle q)
+      ≡ list_any (has_supply q) items
+  pub source_is : marks.source ≡ terminal_of S items
+  pub sink_is : marks.sink ≡ terminal_of T items
+
+-- the marks of a `min` text
+abbrev pub marks_of : TakerFacts Marks
+marks_of = record { kind = Kinds.Min; Holds = MarksHold }
+
+-- the result says the first fault of an `n` line after any items of a graph problem with these nodes, and the new marks
+-- hold the line if it has none
+abbrev pub TakesMark : ℤ → Marks → Marks → Line → Result (Unit {0}) ItemFault → Type 0
+TakesMark nodes old new i result =
+    (before : List Line) (p : Problem) → problem_of before ≡ Some p → is_companion p.kind ≡ false → p.nodes ≡ nodes
+    → MarksHold old before
+    → (AnswersFault result (first_fault (item_tests before (Some i))))
+    × (OnOk result (MarksHold new (before ++ i ∷ [])))
+
+-- the kind is known, and texts of this kind have arcs
+abbrev pub is_graph : Option Kind → Bool
+is_graph None = false
+is_graph (Some kind) = not (is_companion kind)

@@ -1,0 +1,84 @@
+// Takes `n` lines as they arrive.
+ghost use Rattle.std.specs.Prelude.{◌≡◌, List, [], OnErr, Err};
+ghost use Rattle.dn_line.specs.declared.line.Line.{Line};
+ghost use Rattle.dn_line.specs.declared.line.Line.TheVariants.{Supply, Terminal};
+ghost use Rattle.dn_instance.specs.State.RowRuns.{supply_of};
+ghost use Rattle.dn_instance.specs.State.TextParts.{MarksHold, TakesMark, marks_of, terminals_of};
+
+use crate::body::RowTaker;
+use crate::items::{take_supply, take_terminal};
+use crate::refusal::ItemFault;
+use dn_line::{Kind, Letter, Row};
+use std::alloc::Global;
+use std::collections::{BTreeMap, BTreeSet};
+
+// What the `n` lines so far make. A text of a kind without such lines has none of these.
+#[derive(Drop)]
+pub(crate) struct Marks {
+    pub(crate) supplies: BTreeMap<i64, i64>,
+    // The nodes whose `n` lines have flow 0. A second `n` line of such a node is a fault, too.
+    pub(crate) idle: BTreeSet<i64>,
+    pub(crate) source: Option<i64>,
+    pub(crate) sink: Option<i64>,
+}
+
+impl Marks {
+    // Makes the marks of a text without `n` lines.
+    pub(crate) fn new(alloc: Global) -> Marks
+        ensures { MarksHold result [] }
+    {
+        Marks {
+            supplies: BTreeMap::new(alloc),
+            idle: BTreeSet::new(alloc),
+            source: None,
+            sink: None,
+        }
+    }
+
+    // Takes a `min` node line, or returns its fault.
+    pub(crate) fn take_supply(&mut self, nodes: &i64, id: &i64, flow: &i64) -> Result<(), ItemFault>
+        ensures taken { TakesMark nodes.now self.old self.new (Supply id.now flow.now) result }
+        ensures unchanged { OnErr result ((items : List Line) → MarksHold self.old items → MarksHold self.new items) }
+    {
+        take_supply(&mut self.supplies, &mut self.idle, nodes, id, flow)
+    }
+
+    // Takes a `max` node line, or returns its fault.
+    pub(crate) fn take_terminal(
+        &mut self,
+        nodes: &i64,
+        id: &i64,
+        letter: Letter,
+    ) -> Result<(), ItemFault>
+        ensures taken { TakesMark nodes.now self.old self.new (Terminal id.now letter) result }
+        ensures unchanged { OnErr result ((items : List Line) → MarksHold self.old items → MarksHold self.new items) }
+        ensures memory { result ≡ Err ItemFault.Memory → ⊥ }
+    {
+        match letter {
+            Letter::S => take_terminal(&mut self.source, &self.sink, nodes, id),
+            Letter::T => take_terminal(&mut self.sink, &self.source, nodes, id),
+        }
+    }
+
+    // Returns the source and the sink of a whole text of this kind, or none if one is missing. A text of a kind without
+    // terminals has (0, 0).
+    pub(crate) fn terminals(&self, kind: &Kind) -> Option<(i64, i64)>
+        ensures { result ≡ terminals_of kind.now self.now.source self.now.sink }
+    {
+        match kind {
+            Kind::Max => Some((self.source?, self.sink?)),
+            _ => Some((0, 0)),
+        }
+    }
+}
+
+// The marks take the rows of `min` node lines.
+impl RowTaker for Marks {
+    ghost taker = { marks_of };
+
+    ghost line = { supply_of };
+
+    fn take(&mut self, _alloc: Global, nodes: &i64, row: &Row) -> Result<(), ItemFault> {
+        self.take_supply(nodes, &row.first, &row.second)
+    }
+}
