@@ -14,6 +14,8 @@ pub record OpenerFacts (O : Type 0) : Type 1 where
   pub input : O → Option (List ℕ)
   -- whether opening the file of a name can fail with an error of this kind
   pub Fails : O → List ℕ → ErrorKind → Type 0
+  -- whether opening the text of this name once can change the first state of the opener to the second
+  pub Opens : O → List ℕ → O → Type 0
 
 -- the bytes behind a name, if they are known: those of standard input for `-`, and otherwise those of the file
 abbrev pub behind_of : {O : Type 0} → OpenerFacts O → O → List ℕ → Option (List ℕ)

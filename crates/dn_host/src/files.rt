@@ -3,6 +3,7 @@ ghost use Rattle.std.specs.Prelude.{◌≡◌, false, ◌≢◌, None, IfErr, If
 ghost use Rattle.std.specs.IoError.{error_kind};
 ghost use Rattle.dn_host.specs.Openers.{MayFault, Remains, behind_of};
 ghost use Rattle.dn_host.specs.State.Failures.{MayFail};
+ghost use Rattle.dn_run.specs.Takings.{KeepsOthers};
 
 use crate::buffered::Buffered;
 use crate::opener::Opener;
@@ -19,14 +20,14 @@ use std::mem::forget;
 #[derive(Drop)]
 pub struct OpenedFiles<'a, P> {
     alloc: Global,
-    opener: &'a P,
+    opener: &'a mut P,
     fault: Option<FilesFault>,
 }
 
 impl<'a, P> OpenedFiles<'a, P> {
     /// Returns the files of an opener, with no fault.
-    pub fn new(alloc: Global, opener: &'a P) -> OpenedFiles<'a, P>
-        ensures opener { result.opener.now ≡ opener.now }
+    pub fn new(alloc: Global, opener: &'a mut P) -> OpenedFiles<'a, P>
+        ensures opener { result.opener.now ≡ opener.entry.now }
         ensures fault { result.fault ≡ None }
     {
         OpenedFiles {
@@ -47,8 +48,9 @@ impl<'a, P: Opener> Files for OpenedFiles<'a, P> {
       behind = λ s name. behind_of P.opener s.opener.now name;
       fault = λ s _. s.fault;
       Faults = λ s. MayFault P.opener s.opener.now;
-      Asks = λ old _ new. new.opener ≡ old.opener;
-      Hands = λ _ _ t. t.failed ≡ false;
+      Asks = λ old name new. P.opener.Opens old.opener.now name new.opener.now;
+      Hands = λ s name t. (t.failed ≡ false) × Remains (behind_of P.opener s.opener.now name)
+          (⟦<OpenedSource<P> as Source>⟧.source.gives t);
       Backs = λ old _ _ new. new ≡ old;
     } };
 
@@ -75,9 +77,11 @@ impl<'a, P: Opener> Files for OpenedFiles<'a, P> {
 }
 
 // Opens the stream of a text.
-fn stream_of<P: Opener>(opener: &P, name: &str) -> io::Result<P::Stream>
-    ensures bytes { IfOk result (λ s. Remains (behind_of P.opener opener.now name.now) (P.Stream.stream.gives s)) }
-    ensures fails { IfErr result (λ e. MayFail P.opener opener.now name.now (error_kind e)) }
+fn stream_of<P: Opener>(opener: &mut P, name: &str) -> io::Result<P::Stream>
+    ensures bytes { IfOk result (λ s. Remains (behind_of P.opener opener.old name.now) (P.Stream.stream.gives s)) }
+    ensures fails { IfErr result (λ e. MayFail P.opener opener.old name.now (error_kind e)) }
+    ensures opens { P.opener.Opens opener.old name.now opener.new }
+    ensures keeps { KeepsOthers (behind_of P.opener opener.old) (behind_of P.opener opener.new) name.now }
 {
     if name == "-" {
         Ok(opener.input())
@@ -87,11 +91,13 @@ fn stream_of<P: Opener>(opener: &P, name: &str) -> io::Result<P::Stream>
 }
 
 // Opens a text.
-fn opened<P: Opener>(alloc: Global, opener: &P, name: &str) -> io::Result<OpenedSource<P>>
-    ensures gives { IfOk result (λ t. Remains (behind_of P.opener opener.now name.now)
+fn opened<P: Opener>(alloc: Global, opener: &mut P, name: &str) -> io::Result<OpenedSource<P>>
+    ensures gives { IfOk result (λ t. Remains (behind_of P.opener opener.old name.now)
         (⟦<OpenedSource<P> as Source>⟧.source.gives t)) }
     ensures fine { IfOk result (λ t. ⟦<OpenedSource<P> as Source>⟧.source.has_failed t ≡ false) }
-    ensures fails { IfErr result (λ e. MayFail P.opener opener.now name.now (error_kind e)) }
+    ensures fails { IfErr result (λ e. MayFail P.opener opener.old name.now (error_kind e)) }
+    ensures opens { P.opener.Opens opener.old name.now opener.new }
+    ensures keeps { KeepsOthers (behind_of P.opener opener.old) (behind_of P.opener opener.new) name.now }
 {
     let stream = stream_of(opener, name)?;
     Ok(Buffered::new(alloc, stream)?)

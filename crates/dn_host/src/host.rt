@@ -1,12 +1,13 @@
 // What the host opens, its words, and its standard output. No contract says which bytes these are.
-ghost use Rattle.std.specs.Prelude.{◌≡◌, false, None};
+ghost use Rattle.std.specs.Prelude.{◌≡◌, ◌⊎◌, false, None};
 ghost use Rattle.dn_host.specs.HostTexts.{text_remains};
 
 use crate::opener::Opener;
 use crate::retried::Retried;
 use crate::stream::Stream;
 use dn_sink::{Sink, ToWrite};
-use std::io::{BufWriter, Printer, Read};
+use std::alloc::Global;
+use std::io::{BufWriter, Printer, Read, Write};
 use std::rt::Runtime;
 use std::{env, fs, io};
 
@@ -43,13 +44,13 @@ pub struct HostOpener<'a, R> {
 impl<'a, R: fs::Files + Input> Opener for HostOpener<'a, R> {
     type Stream = HostText<<R as Input>::Reader, <R as fs::Files>::File>;
 
-    ghost opener = { record { file = λ _ _. None; input = λ _. None; Fails = λ _ _ _. Unit {0} } };
+    ghost opener = { record { file = λ _ _. None; input = λ _. None; Fails = λ _ _ _. Unit {0}; Opens = λ _ _ _. Unit {0} } };
 
-    fn open(&self, name: &str) -> io::Result<Self::Stream> {
+    fn open(&mut self, name: &str) -> io::Result<Self::Stream> {
         Ok(HostText::File(fs::open(self.host, name)?))
     }
 
-    fn input(&self) -> Self::Stream {
+    fn input(&mut self) -> Self::Stream {
         HostText::Input(self.host.reader())
     }
 }
@@ -62,20 +63,28 @@ pub fn words_of<R: Runtime + AllocGlobal>(host: &R) -> io::Result<Vec<String>> {
 /// The standard output of the host, buffered.
 pub type HostOut<'a, R> = ToWrite<BufWriter<Retried<Printer<'a, R>>>>;
 
+/// A buffered sink over a writer.
+pub type Out<W> = ToWrite<BufWriter<Retried<W>>>;
+
+/// Returns a buffered sink over a writer, or, if there is no memory for its buffer, one without over the other writer.
+/// Writes nothing.
+pub fn out_over<W: Write + Drop>(alloc: Global, writer: W, plain: W) -> Out<W>
+    ensures fine { ⟦<Out<W> as Sink>⟧.sink.has_failed result ≡ false }
+    ensures taken { (⟦<Out<W> as Sink>⟧.sink.taken result ≡ W.contents writer)
+        ⊎ (⟦<Out<W> as Sink>⟧.sink.taken result ≡ W.contents plain) }
+{
+    match BufWriter::with_capacity(alloc, BUFFER, Retried { stream: writer }) {
+        Ok(buffer) => {
+            drop(plain);
+            ToWrite::new(buffer)
+        }
+        Err(_) => ToWrite::new(BufWriter::with_capacity(alloc, 0, Retried { stream: plain }).unwrap()),
+    }
+}
+
 /// Returns the standard output of the host. If there is no memory for its buffer, it has none.
 pub fn out_of<'a, R: Runtime + AllocGlobal>(host: &'a R) -> HostOut<'a, R>
     ensures { ⟦<HostOut<'a, R> as Sink>⟧.sink.has_failed result ≡ false }
 {
-    let printer = Retried {
-        stream: io::writer(host),
-    };
-    match BufWriter::with_capacity(host.alloc(), BUFFER, printer) {
-        Ok(buffer) => ToWrite::new(buffer),
-        Err(_) => {
-            let plain = Retried {
-                stream: io::writer(host),
-            };
-            ToWrite::new(BufWriter::with_capacity(host.alloc(), 0, plain).unwrap())
-        }
-    }
+    out_over(host.alloc(), io::writer(host), io::writer(host))
 }

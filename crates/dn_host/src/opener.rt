@@ -1,7 +1,8 @@
 // Opens texts.
-ghost use Rattle.std.specs.Prelude.{IfErr, IfOk};
+ghost use Rattle.std.specs.Prelude.{IfErr, IfOk, codes};
 ghost use Rattle.std.specs.IoError.{error_kind};
-ghost use Rattle.dn_host.specs.Openers.{OpenerFacts, Remains};
+ghost use Rattle.dn_host.specs.Openers.{OpenerFacts, Remains, behind_of};
+ghost use Rattle.dn_run.specs.Takings.{KeepsOthers};
 
 use crate::stream::Stream;
 use std::io;
@@ -15,11 +16,15 @@ pub trait Opener {
     ghost opener: { OpenerFacts Self };
 
     /// Opens the file of this name.
-    fn open(&self, name: &str) -> io::Result<Self::Stream>
-        ensures bytes { IfOk result (λ s. Remains (opener.file self.now name.now) (Self.Stream.stream.gives s)) }
-        ensures fails { IfErr result (λ e. opener.Fails self.now name.now (error_kind e)) };
+    fn open(&mut self, name: &str) -> io::Result<Self::Stream>
+        ensures bytes { IfOk result (λ s. Remains (opener.file self.old name.now) (Self.Stream.stream.gives s)) }
+        ensures fails { IfErr result (λ e. opener.Fails self.old name.now (error_kind e)) }
+        ensures opens { opener.Opens self.old name.now self.new }
+        ensures keeps { KeepsOthers (behind_of opener self.old) (behind_of opener self.new) name.now };
 
     /// Returns standard input.
-    fn input(&self) -> Self::Stream
-        ensures { Remains (opener.input self.now) (Self.Stream.stream.gives result) };
+    fn input(&mut self) -> Self::Stream
+        ensures bytes { Remains (opener.input self.old) (Self.Stream.stream.gives result) }
+        ensures opens { opener.Opens self.old (codes "-") self.new }
+        ensures keeps { KeepsOthers (behind_of opener self.old) (behind_of opener self.new) (codes "-") };
 }

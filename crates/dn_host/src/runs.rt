@@ -20,7 +20,7 @@ use std::io::ErrorKind;
 pub fn run_on<'a, P: Opener, O: Sink, E: Sink>(
     alloc: Global,
     words: &io::Result<Vec<String>>,
-    opener: &'a P,
+    opener: &'a mut P,
     out: &mut O,
     err: &mut E,
 ) -> u8
@@ -31,7 +31,7 @@ pub fn run_on<'a, P: Opener, O: Sink, E: Sink>(
         (λ ws. RanOnHost (record {
           files = ⟦<OpenedFiles<'a, P> as Files>⟧.files;
           source = ⟦<OpenedSource<P> as Source>⟧.source;
-          Begins = λ f. (f.opener.now ≡ opener.now) × (f.fault ≡ None);
+          Begins = λ f. (f.opener.now ≡ opener.entry.now) × (f.fault ≡ None);
         }) o e (map string_bytes ws.items) result)
         (λ error. NoWords o e error result) }
 {

@@ -86,9 +86,10 @@ impl Opener for Shelf {
       input = λ s. Some s.input.rest.now;
       Fails = λ s name kind. (bytes_eq s.first.name.now name ≡ false) × (bytes_eq s.second.name.now name ≡ false)
           × (bytes_eq s.third.name.now name ≡ false) × (kind ≡ NotFound);
+      Opens = λ old _ new. new ≡ old;
     } };
 
-    fn open(&self, name: &str) -> io::Result<Sheet> {
+    fn open(&mut self, name: &str) -> io::Result<Sheet> {
         if self.first.name == name {
             Ok(self.first.sheet)
         } else if self.second.name == name {
@@ -100,14 +101,14 @@ impl Opener for Shelf {
         }
     }
 
-    fn input(&self) -> Sheet {
+    fn input(&mut self) -> Sheet {
         self.input
     }
 }
 
 // Whether a run of these words writes this to `out` and `err`, and has this status.
 fn ends(alloc: Global, words: &io::Result<Vec<String>>, out: &str, err: &str, status: u8) -> bool {
-    let shelf = Shelf {
+    let mut shelf = Shelf {
         first: Named {
             name: "roads",
             sheet: Sheet::new(ROADS),
@@ -124,7 +125,7 @@ fn ends(alloc: Global, words: &io::Result<Vec<String>>, out: &str, err: &str, st
     };
     let mut to_out = Bytes::new(alloc);
     let mut to_err = Bytes::new(alloc);
-    let found = run_on(alloc, words, &shelf, &mut to_out, &mut to_err);
+    let found = run_on(alloc, words, &mut shelf, &mut to_out, &mut to_err);
     found == status && to_out.taken() == out.as_bytes() && to_err.taken() == err.as_bytes()
 }
 

@@ -12,7 +12,7 @@ fn main(rt: HostRuntime) -> ExitCode {
         stream: rt.stderr(),
     });
     let words = words_of(&rt);
-    let opener = HostOpener { host: &rt };
+    let mut opener = HostOpener { host: &rt };
     let mut out = out_of(&rt);
-    ExitCode::from(run_on(rt.alloc(), &words, &opener, &mut out, &mut err))
+    ExitCode::from(run_on(rt.alloc(), &words, &mut opener, &mut out, &mut err))
 }
