@@ -10,3 +10,4 @@ pub mod LoopCostLaws
 pub mod ChoiceLaws
 pub mod ReportLaws
 pub mod ExampleLaws
+pub mod RunLaws

@@ -7,3 +7,4 @@ pub mod Parallel
 pub mod Choices
 pub mod Loops
 pub mod Examples
+pub mod Runs

@@ -11,4 +11,5 @@ pub mod loops;
 pub mod max_flows;
 pub mod min_cost_flows;
 pub mod parallel;
+pub mod runs;
 pub mod texts;
