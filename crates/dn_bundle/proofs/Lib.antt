@@ -10,5 +10,4 @@ pub mod NewLaws
 pub mod LenLaws
 pub mod GapLaws
 pub mod PartLaws
-pub mod BundleLaws
 pub mod SpotLaws

@@ -19,7 +19,7 @@ use Rattle.dn_arc.proofs.SoundLaws.{none_is, sound_arcs}
 use Rattle.dn_bundle.specs.declared.curve.shape.Shape.TheVariants.{Plain}
 use Rattle.dn_bundle.specs.State.Shapes.{plain_step, numbers_of, LeavesPlain, NeedsRoom, forced, free, more, NeedRoom}
 use Rattle.dn_bundle.proofs.GrowLaws.{grown_sound, grown_same}
-use Rattle.dn_bundle.proofs.BundleLaws.{all_end}
+use Rattle.dn_kind.proofs.BundleLaws.{all_end}
 use Rattle.dn_bundle.proofs.CurveLaws.{entries_listed}
 use Rattle.dn_bundle.proofs.GapLaws.{eq_no}
 

@@ -16,11 +16,11 @@ ghost use Rattle.dn_arc.specs.declared.arc.Form.{Form};
 ghost use Rattle.dn_arc.specs.declared.difference.How.TheVariants.{Costs};
 ghost use Rattle.dn_bundle.specs.State.Listings.{curve_arcs, form_one_arcs};
 
-use crate::bundle::{Bundle, BundleFault};
 use crate::cost128::{floor, more_cost};
 use crate::curve::shape::Shape;
 use crate::difference::first_gap;
 use dn_arc::{CostArc, Fixed, Form, Gap, How};
+use dn_kind::{Bundle, BundleFault};
 use std::alloc::{AllocError, Global};
 use std::marker::Model;
 

@@ -7,8 +7,8 @@ ghost use Rattle.dn_arc.specs.Lengths.{LeastLength};
 ghost use Rattle.dn_arc.specs.State.SingleArcs.{length_listed};
 ghost use Rattle.dn_arc.proofs.LengthKindLaws.{length_kind, length_canonical, length_fit};
 
-use crate::bundle::{Bundle, BundleFault};
 use dn_arc::{Form, How, LengthArc};
+use dn_kind::{Bundle, BundleFault};
 use std::alloc::{AllocError, Global};
 
 /// The least length of the arcs of an `sp` pair.

@@ -9,7 +9,6 @@
 //! `difference` finds the first gap between the breakpoints of two curves.
 #![tactic(auto)]
 
-pub mod bundle;
 mod cost128;
 pub mod curve;
 mod difference;
@@ -17,8 +16,8 @@ pub mod least;
 mod steps;
 pub mod total;
 
-pub use bundle::{Bundle, BundleFault, bundle_of};
 pub use curve::Curve;
 pub use dn_arc::{CapArc, CostArc, Fixed, Form, Gap, How, LengthArc, Parts};
+pub use dn_kind::{Bundle, BundleFault, bundle_of};
 pub use least::Least;
 pub use total::Total;

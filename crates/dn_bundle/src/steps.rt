@@ -301,8 +301,17 @@ impl<'a> Iterator for StepsIter<'a> {
             self.few = few;
             return Some(*step);
         }
-        let rest = self.rest.as_mut()?;
-        let (cost, room) = rest.next()?;
-        Some((*cost, *room))
+        match &mut self.rest {
+            Some(rest) => next_in(rest),
+            None => None,
+        }
     }
+}
+
+// Returns the next breakpoint of what is left of a map.
+fn next_in(rest: &mut Iter<'_, i64, i64>) -> Option<(i64, i64)>
+    ensures { YieldsFirst (λ s. s) rest.old result rest.new }
+{
+    let (cost, room) = rest.next()?;
+    Some((*cost, *room))
 }

@@ -6,8 +6,8 @@ ghost use Rattle.dn_arc.specs.Capacities.{total_cap};
 ghost use Rattle.dn_arc.specs.State.SingleArcs.{cap_listed};
 ghost use Rattle.dn_arc.proofs.TotalKindLaws.{total_kind, total_canonical, total_fit};
 
-use crate::bundle::{Bundle, BundleFault};
 use dn_arc::{CapArc, Form, How};
+use dn_kind::{Bundle, BundleFault};
 use std::alloc::{AllocError, Global};
 
 /// The total capacity of the arcs of a `max` pair, which is above 0.

@@ -25,7 +25,7 @@ use Rattle.std.specs.List.{AllByRecursion}
 use Rattle.dn_arc.proofs.LengthsLaws.{least_of}
 use Rattle.dn_instance.proofs.SumLaws.{total_append, total_passes, cost_passes}
 use Rattle.dn_arc.proofs.TotalKindLaws.{total_some}
-use Rattle.dn_bundle.proofs.BundleLaws.{all_end}
+use Rattle.dn_kind.proofs.BundleLaws.{all_end}
 use Rattle.std.proofs.lemmas.Bool.Decides.{nat_tests}
 use Rattle.dn_arc.specs.Splits.{cost_cap}
 use Rattle.dn_arc.specs.Canonical.{IsCostArc}

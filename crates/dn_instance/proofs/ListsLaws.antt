@@ -16,7 +16,7 @@ use Rattle.dn_instance.proofs.SumLaws.{passes}
 use Rattle.dn_instance.specs.State.ItemFaults.{in_graph, arc_fault}
 use Rattle.dn_line.specs.declared.code.Code.TheVariants.{SumTooLarge}
 use Rattle.std.proofs.lemmas.Int.{ints, by_lt_z}
-use Rattle.dn_bundle.proofs.BundleLaws.{all_end}
+use Rattle.dn_kind.proofs.BundleLaws.{all_end}
 
 module _ {B Arc : Type 0} (kind : ArcKind Arc) (lists : B → List Arc) (laws : IsKind kind)
     (canonical : (b : B) → kind.IsCanon One (lists b)) where

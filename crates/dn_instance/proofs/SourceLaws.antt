@@ -14,6 +14,7 @@ use Rattle.dn_instance.specs.declared.refusal.Refusal.TheVariants.{Text, Memory,
 use Rattle.dn_instance.specs.Readers.{ended, WantsMemory}
 use Rattle.dn_instance.specs.State.ReaderResults.{IsRefused, Outcome, answer_of}
 use Rattle.dn_instance.specs.SourceReads.{AfterPulls, CleanSoFar, GaveLast, PulledWhileClean, RanOut, after_pulls}
+use Rattle.dn_instance.specs.State.FedSources.{IsFedAll}
 use Rattle.dn_instance.specs.State.SourceResults.{StopsInPiece, StopsAt, SourceLeft, SourceOutcome, Copied, CopyOutcome, HoldsCopied, HoldsKept, HoldsSome, IsFed, IsKept, KeptOutcome}
 use Rattle.dn_instance.specs.Texts.{IsClean}
 use Rattle.dn_instance.proofs.PieceSteps.{More, ended_more, lines_more}
@@ -162,6 +163,16 @@ module _ {S : Type 0} (source : SourceFacts S) (old before : S) (r : Reader) (fe
           clean = clean;
           refused = refused_past (length (ended fed.given)) (ended all) e h m;
         }))
+
+-- the outcome of a source whose bytes a reader has read
+pub fed_all : {S : Type 0} (source : SourceFacts S) (old new : S) (r : Reader) (given : List ℕ) (a : Result Held Refusal)
+    → IsFedAll source old new r given → Outcome given a
+    → (a ≡ Err Memory → WantsMemory (length (ended given)) (lines given))
+    → IfSome (source.gives old) (λ t. SourceOutcome t (after_pulls source old new) a)
+fed_all source old new r given a w h m =
+    Consumes-whole (source.gives old) (source.gives new) given (λ t. SourceOutcome t (after_pulls source old new) a)
+    w.gave w.at_end
+    (end_outcome given (after_pulls source old new) a w.at_end (reading r given w.fine w.read).read.clean m h)
 
 -- what is kept after one more piece
 pub kept_more : (keeps : Bool) (old mid new given piece : List ℕ) → IsKept keeps old mid given

@@ -30,7 +30,7 @@ use Rattle.dn_instance.proofs.SumLaws.{passes, total_passes, cost_passes}
 use Rattle.dn_instance.proofs.CleanItems.{IsNext, by_items, problem_push, or_none, or_assoc}
 use Rattle.dn_instance.proofs.MapLaws.{each_put, map_put, by_key_push, no_keys}
 use Rattle.dn_table.proofs.GrownLaws.{none_is}
-use Rattle.dn_bundle.proofs.BundleLaws.{all_end}
+use Rattle.dn_kind.proofs.BundleLaws.{all_end}
 
 -- the number of a slot fits 64 signed bits
 abbrev SlotFits : Slot → Type 0

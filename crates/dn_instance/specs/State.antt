@@ -12,3 +12,4 @@ pub mod ReaderResults
 pub mod ReaderStates
 pub mod SourceResults
 pub mod Turned
+pub mod FedSources

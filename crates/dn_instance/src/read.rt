@@ -1,6 +1,8 @@
 // Reads a whole text from memory or from a source.
-ghost use Rattle.std.specs.Prelude.{◌≡◌, ◌++◌, [], ℕ, List, Bool, true, false, IfErr, IfOk, IfSome, IsTrue, OnErr, OnOk};
-ghost use Rattle.dn_instance.specs.State.ReaderResults.{Outcome};
+ghost use Rattle.std.specs.Prelude.{◌≡◌, ◌++◌, [], ℕ, List, Bool, true, false, Err, IfErr, IfOk, IfSome, IsTrue, None, OnErr, OnOk};
+ghost use Rattle.dn_instance.specs.State.FedSources.{IsFedAll};
+ghost use Rattle.dn_instance.specs.State.ReaderResults.{Outcome, refusal_of};
+ghost use Rattle.dn_instance.specs.State.ReaderStates.{ReaderAt};
 ghost use Rattle.dn_instance.specs.SourceReads.{IsOfReading, after_pulls};
 ghost use Rattle.dn_instance.specs.State.SourceResults.{CopiesSource, HoldsCopied, HoldsKept, HoldsSome, IsKept, KeptOutcome, ReadsSource, SourceLeft};
 
@@ -126,6 +128,28 @@ fn read_all<S: Source, K: Keep>(
     ensures left { SourceLeft S.source source.old source.new result }
 {
     let mut reader = Reader::new(alloc);
+    match feed_all(source, text, &mut reader) {
+        Ok(()) => reader.finish(),
+        Err(refusal) => Err(refusal),
+    }
+}
+
+// Feeds a new reader all pieces of a source. Each piece is kept in `text` before it is read, if bytes are kept.
+fn feed_all<S: Source, K: Keep>(
+    source: &mut S,
+    text: &mut K,
+    reader: &mut Reader,
+) -> Result<(), Refusal>
+    requires new { ReaderAt reader.old [] }
+    requires fine { refusal_of reader.old ≡ None }
+    ensures fed { OnOk result ((given : List ℕ) × IsFedAll S.source source.old source.new reader.new given
+        × IsKept K.keeps (K.kept text.old) (K.kept text.new) given) }
+    ensures prefix { (more : List ℕ) × IsKept K.keeps (K.kept text.old) (K.kept text.new) more }
+    ensures outcome { IfErr result (λ refusal. IfSome (S.source.gives source.old) (λ t. KeptOutcome K.keeps t
+        (after_pulls S.source source.old source.new) (K.kept text.old) (K.kept text.new) (Err refusal))) }
+    ensures refusal { IfErr result IsOfReading }
+    ensures left { SourceLeft S.source source.old source.new result }
+{
     let mut room = [0u8; PIECE];
     for _ in 0..PULLS {
         let used = match source.pull(&mut room) {
@@ -134,7 +158,7 @@ fn read_all<S: Source, K: Keep>(
         };
         let piece = &room[..used];
         if piece.is_empty() {
-            return reader.finish();
+            return Ok(());
         }
         if let Err(refusal) = text.keep(piece) {
             return Err(refusal);

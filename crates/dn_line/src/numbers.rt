@@ -91,6 +91,21 @@ pub(crate) fn short_front(bytes: &[u8]) -> Option<NumberFront<'_>>
     })
 }
 
+// Reads the number of one to eight digits at the beginning, and the space after it.
+#[inline(always)]
+pub(crate) fn short_before(bytes: &[u8]) -> Option<NumberFront<'_>>
+    requires { 9 ≤ length bytes.now }
+    ensures number { IfSome result (λ n. IsNumberBefore bytes.now n.number n.rest.now) }
+    ensures some { IfSome result (λ n. pos 0 ≤ℤ n.number) }
+    ensures within { IfSome result (λ n. length bytes.now ≤ length n.rest.now + 9) }
+{
+    let front = short_front(bytes)?;
+    Some(NumberFront {
+        number: front.number,
+        rest: after_space(front.rest)?,
+    })
+}
+
 // Reads the number at the beginning.
 pub(crate) fn any_front(bytes: &[u8]) -> Option<NumberFront<'_>>
     ensures { IfSome result (λ n. IsNumberFront bytes.now n.number n.rest.now) }

@@ -4,8 +4,8 @@ ghost use Rattle.dn_line.specs.State.LineStates.{is_clear};
 ghost use Rattle.dn_line.specs.State.Rows.{AreNatural, AreNumeric, BeginsWithRow, FieldsFit, HasNumbers, field_fits, numbers_of};
 
 use crate::numbers::{
-    after_blanks, after_line_end, after_plain_end, after_space, any_front, last_front,
-    number_before, short_front,
+    after_blanks, after_line_end, after_plain_end, any_front, last_front, number_before,
+    short_before, short_front,
 };
 use crate::word::Field;
 
@@ -177,9 +177,9 @@ fn short_three(bytes: &[u8]) -> Option<RowBefore<'_>>
     if bytes.len() < SHORT_THREE {
         return None;
     }
-    let first = short_front(bytes)?;
-    let second = short_front(after_space(first.rest)?)?;
-    let third = short_front(after_space(second.rest)?)?;
+    let first = short_before(bytes)?;
+    let second = short_before(first.rest)?;
+    let third = short_front(second.rest)?;
     Some(RowBefore {
         row: Row {
             first: first.number,
@@ -222,11 +222,11 @@ fn short_five(bytes: &[u8]) -> Option<RowBefore<'_>>
     if bytes.len() < SHORT_FIVE {
         return None;
     }
-    let first = short_front(bytes)?;
-    let second = short_front(after_space(first.rest)?)?;
-    let third = short_front(after_space(second.rest)?)?;
-    let fourth = short_front(after_space(third.rest)?)?;
-    let fifth = last_front(after_space(fourth.rest)?)?;
+    let first = short_before(bytes)?;
+    let second = short_before(first.rest)?;
+    let third = short_before(second.rest)?;
+    let fourth = short_before(third.rest)?;
+    let fifth = last_front(fourth.rest)?;
     Some(RowBefore {
         row: Row {
             first: first.number,

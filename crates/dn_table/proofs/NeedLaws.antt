@@ -8,7 +8,7 @@ use Rattle.dn_arc.specs.declared.arc.Form.TheVariants.{One}
 use Rattle.dn_arc.specs.State.Bundles.{IsKind}
 use Rattle.dn_arc.specs.Pairs.{bundle, same_pair}
 use Rattle.dn_arc.proofs.OrdersLaws.{same_push}
-use Rattle.dn_bundle.proofs.BundleLaws.{all_end}
+use Rattle.dn_kind.proofs.BundleLaws.{all_end}
 use Rattle.dn_table.specs.State.Tables.{listed_at, TableLists, AreArcs, GraphNeedsMore}
 use Rattle.dn_table.proofs.EntryLaws.{bundle_arcs, graph_grows}
 

@@ -8,7 +8,7 @@ ghost use Rattle.dn_table.specs.State.ListedEntries.{entries_listed};
 ghost use Rattle.dn_arc.specs.State.Bundles.{meant};
 ghost use Rattle.dn_table.specs.State.Tables.{CountsEntries};
 
-use dn_bundle::{Bundle, Form};
+use dn_kind::{Bundle, Form};
 
 // Returns how many entries the bundles of different pairs make, or `u64::MAX` if this does not fit 64 bits.
 pub(crate) fn bundle_entries<B: Bundle>(entries: &[((i64, i64), B)]) -> u64

@@ -10,7 +10,7 @@ ghost use Rattle.dn_table.specs.State.ListedEntries.{entries_listed};
 ghost use Rattle.dn_table.specs.State.Tables.{entry_of, CountsEntries};
 
 use crate::entry_sum::{bundle_entries, count_arcs};
-use dn_bundle::{Bundle, Form};
+use dn_kind::{Bundle, Form};
 use pair_index::position_among;
 use std::marker::Model;
 

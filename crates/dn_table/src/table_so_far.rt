@@ -11,7 +11,7 @@ ghost use Rattle.dn_table.specs.State.Tables.{Adds, IsTooMuch, CountsEntries, Wi
 
 use crate::entry_sum::bundle_entries;
 use crate::table::Table;
-use dn_bundle::{Bundle, BundleFault, Form};
+use dn_kind::{Bundle, BundleFault, Form};
 use pair_index::{AHEAD, PairIndex, is_pair};
 use std::alloc::{AllocError, Global};
 use std::marker::Model;

@@ -7,6 +7,8 @@ ghost use Rattle.pair_index.specs.State.Indexed.{Indexes};
 ghost use Rattle.dn_arc.specs.Pairs.{pair_cmp, same_pair};
 ghost use Rattle.pair_index.specs.State.Positions.{IsPosition};
 ghost use Rattle.pair_index.specs.State.Shown.{HasPositions, ShowsIndex};
+ghost use Rattle.pair_index.specs.State.Chained.{IsChained};
+ghost use Rattle.pair_index.specs.State.Tailed.{IsTailed};
 
 use crate::chains::Chains;
 use crate::runs::Runs;
@@ -81,19 +83,50 @@ fn way_with<X>(
     requires fresh { list_any (same_pair pair.now) (keys_of entries.now) ≡ false }
     ensures { IfOk result (λ way. ShowsIndex way (keys_of entries.now ++ pair.now ∷ [])) }
 {
-    if let Some(mut tails) = Tails::of(alloc, entries)? {
-        if tails.take(entries, pair)? {
-            return Ok(Way::Tails(tails));
-        }
-        drop(tails);
+    if let Some(tails) = tails_with(alloc, entries, pair)? {
+        return Ok(Way::Tails(tails));
     }
-    if let Some(mut chains) = Chains::of(alloc, entries, short)? {
-        if chains.take(pair) {
-            return Ok(Way::Chained(chains));
-        }
-        drop(chains);
+    if let Some(chains) = chains_with(alloc, entries, short, pair)? {
+        return Ok(Way::Chained(chains));
     }
     Ok(Way::Ordered(positions_with(alloc, entries, pair)?))
+}
+
+// Links the positions of the entries and of one more pair by tail, if the tails allow it.
+fn tails_with<X>(
+    alloc: Global,
+    entries: &[((i64, i64), X)],
+    pair: &(i64, i64),
+) -> Result<Option<Tails>, AllocError>
+    requires apart { IsDistinct same_pair (keys_of entries.now) }
+    requires fresh { list_any (same_pair pair.now) (keys_of entries.now) ≡ false }
+    ensures { IfOk result (λ o. IfSome o (λ tails. IsTailed tails (keys_of entries.now ++ pair.now ∷ []))) }
+{
+    let Some(mut tails) = Tails::of(alloc, entries)? else {
+        return Ok(None);
+    };
+    if tails.take(entries, pair)? {
+        return Ok(Some(tails));
+    }
+    Ok(None)
+}
+
+// Links the positions of the entries and of one more pair by bucket, if the chains allow it.
+fn chains_with<X>(
+    alloc: Global,
+    entries: &[((i64, i64), X)],
+    short: bool,
+    pair: &(i64, i64),
+) -> Result<Option<Chains>, AllocError>
+    ensures { IfOk result (λ o. IfSome o (λ chains. IsChained chains (keys_of entries.now ++ pair.now ∷ []))) }
+{
+    let Some(mut chains) = Chains::of(alloc, entries, short)? else {
+        return Ok(None);
+    };
+    if chains.take(pair) {
+        return Ok(Some(chains));
+    }
+    Ok(None)
 }
 
 impl PairIndex {

@@ -1,6 +1,6 @@
 use Rattle.std.proofs.Common.{◌-◌, ◌^◌, pos, ◌≤ℤ◌, take}
 use Rattle.dn_arc.specs.State.Bundles.{listed_of, meant}
-use Rattle.dn_bundle.proofs.bundle.bundle_of.Given as goal
+use Rattle.dn_kind.proofs.bundle.bundle_of.Given as goal
 
 abbrev pub invariant-loop-arc : goal.invariant-loop-arc
 invariant-loop-arc g l =

@@ -1,8 +1,8 @@
 use Rattle.std.proofs.Common.{[], arith}
 use Rattle.std.proofs.lemmas.List.{take_all}
 use Rattle.dn_arc.specs.State.Bundles.{listed_of, meant}
-use Rattle.dn_bundle.proofs.BundleLaws.{none_cap, next_arc, next_same, next_fits, too_much, listed_arcs}
-use Rattle.dn_bundle.proofs.bundle.bundle_of.Goals as goal
+use Rattle.dn_kind.proofs.BundleLaws.{none_cap, next_arc, next_same, next_fits, too_much, listed_arcs}
+use Rattle.dn_kind.proofs.bundle.bundle_of.Goals as goal
 
 pub loop-arc-init : goal.loop-arc-init
 loop-arc-init g c = (g.met.B.Bundle.laws.meaning.same_refl [], none_cap g.B.Bundle.bundle.kind g.met.B.Bundle.laws)

@@ -1,5 +1,5 @@
-use Rattle.dn_bundle.proofs.BundleLaws.{fits_alone}
-use Rattle.dn_bundle.proofs.bundle.add_to.Goals as goal
+use Rattle.dn_kind.proofs.BundleLaws.{fits_alone}
+use Rattle.dn_kind.proofs.bundle.add_to.Goals as goal
 
 pub returns-in-Ok-clause-sum : goal.returns-in-Ok-clause-sum
 returns-in-Ok-clause-sum g c = (

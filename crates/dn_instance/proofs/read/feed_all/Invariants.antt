@@ -1,6 +1,6 @@
 use Rattle.std.proofs.Common.{◌≤◌, length}
 use Rattle.dn_instance.specs.State.SourceResults.{IsFed, IsKept}
-use Rattle.dn_instance.proofs.read.read_all.Given as goal
+use Rattle.dn_instance.proofs.read.feed_all.Given as goal
 
 abbrev pub invariant-loop : goal.invariant-loop
 invariant-loop g l = record {

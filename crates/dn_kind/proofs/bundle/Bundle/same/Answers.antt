@@ -1,5 +1,5 @@
 use Rattle.std.proofs.Common.{rules}
-use Rattle.dn_bundle.proofs.bundle.Bundle.same.Goals as goal
+use Rattle.dn_kind.proofs.bundle.Bundle.same.Goals as goal
 
 pub returns : goal.returns
 returns g c = search rules
