@@ -9,7 +9,8 @@ use Rattle.dn_line.specs.declared.code.Code.TheVariants.{FieldCount}
 use Rattle.dn_line.specs.declared.kind.Kind.{Kind}
 use Rattle.dn_line.specs.declared.kind.Kind.TheVariants.{Min, Max, Sp, Ss, P2p, Co}
 use Rattle.dn_line.specs.declared.line.Head.{Head}
-use Rattle.dn_line.specs.declared.line.Head.TheVariants.{Skip, Problem, Node, Arc, Source, Query, Point}
+use Rattle.dn_line.specs.declared.line.Head.TheVariants.{Skip}
+use Rattle.dn_line.specs.declared.line.Line.{Line}
 use Rattle.dn_line.specs.declared.line.Line.TheVariants as Items
 use Rattle.dn_line.specs.declared.row.Row.{Row}
 use Rattle.dn_line.specs.declared.word.Field.{Field}
@@ -17,11 +18,11 @@ use Rattle.dn_line.specs.declared.word.Keyword.{Keyword}
 use Rattle.dn_line.specs.declared.word.Keyword.TheVariants as Key
 use Rattle.dn_line.specs.declared.word.Word.{Word}
 use Rattle.dn_line.specs.Words.{is_skip, first, tail}
-use Rattle.dn_line.specs.LineTable.{kind_named}
+use Rattle.dn_line.specs.LineTable.{row, counts, after_name, kind_named}
 use Rattle.dn_line.specs.Faults.{first_fault, field_tests, is_p, problem_fields, row_fields, row_of}
-use Rattle.dn_line.specs.Reading.{num, letter_of, unless, problem_named, item_of}
-use Rattle.dn_line.specs.State.LineReads.{head_of, head_read, fields_read}
-use Rattle.dn_line.specs.State.RowItems.{terminal_number, letter_named, filled_row, item_of_row, heading, fields_at, after_head, spelled_at, read_at}
+use Rattle.dn_line.specs.Reading.{num, letter_of, item, problem, unless, problem_named, item_of}
+use Rattle.dn_line.specs.State.LineReads.{head_of}
+use Rattle.dn_line.specs.State.RowItems.{RowRead, terminal_number, letter_named, problem_item, filled_row, item_of_row, row_at, fields_at, after_head, item_read, row_read}
 
 -- a number of 64 signed bits passes through a conversion unchanged
 pub passed : {r n : ℤ} → mag r < 9223372036854775808 → r ≡ n → to_z w64 (of_z w64 r) ≡ n
@@ -31,61 +32,44 @@ letter_same : (k : Option Keyword) → letter_named (terminal_number k) ≡ lett
 letter_same (Some Key.S) = refl
 letter_same _ = refl
 
--- the row of a line without numbers
-abbrev pub no_row : Row
-no_row = record { first = pos 0; second = pos 0; third = pos 0; fourth = pos 0; fifth = pos 0 }
-
--- the row of the words that fill these fields, if there are any
-abbrev row_at : Option (List Field) → List Word → Row
-row_at None ws = no_row
-row_at (Some fs) ws = filled_row fs ws
-
--- the words fill the fields of a line with this head without a fault
-abbrev Faultless : Head → Option Kind → List Word → Type 0
-Faultless head known ws = first_fault (field_tests (row_fields (fields_at head known) ws)) ≡ None
+-- the words fill these fields without a fault
+abbrev Faultless : Option (List Field) → List Word → Type 0
+Faultless fields ws = first_fault (field_tests (row_fields fields ws)) ≡ None
 
 -- a fault contradicts that there is none
 no_fault : {T : Type 0} → Some FieldCount ≡ None → T
 no_fault h = cc
 
-item_is : (head : Head) (known : Option Kind) (ws : List Word) → Faultless head known ws
-    → item_of_row head known (row_at (fields_at head known) ws) ≡ spelled_at head known ws
-item_is (Problem Min) known (x ∷ y ∷ []) h = refl
-item_is (Problem Min) known _ h = no_fault h
-item_is (Problem Max) known (x ∷ y ∷ []) h = refl
-item_is (Problem Max) known _ h = no_fault h
-item_is (Problem Sp) known (x ∷ y ∷ []) h = refl
-item_is (Problem Sp) known _ h = no_fault h
-item_is (Problem Ss) known (x ∷ []) h = refl
-item_is (Problem Ss) known _ h = no_fault h
-item_is (Problem P2p) known (x ∷ []) h = refl
-item_is (Problem P2p) known _ h = no_fault h
-item_is (Problem Co) known (x ∷ []) h = refl
-item_is (Problem Co) known _ h = no_fault h
-item_is Node (Some Min) (x ∷ y ∷ []) h = refl
-item_is Node (Some Min) _ h = no_fault h
-item_is Node (Some Max) (x ∷ y ∷ []) h = ap (λ l. Items.Terminal (num x) l) (letter_same y.keyword)
-item_is Node (Some Max) _ h = no_fault h
-item_is Arc (Some Min) (x ∷ y ∷ z ∷ u ∷ v ∷ []) h = refl
-item_is Arc (Some Min) _ h = no_fault h
-item_is Arc (Some Max) (x ∷ y ∷ z ∷ []) h = refl
-item_is Arc (Some Max) _ h = no_fault h
-item_is Arc (Some Sp) (x ∷ y ∷ z ∷ []) h = refl
-item_is Arc (Some Sp) _ h = no_fault h
-item_is Source (Some Ss) (x ∷ []) h = refl
-item_is Source (Some Ss) _ h = no_fault h
-item_is Query (Some P2p) (x ∷ y ∷ []) h = refl
-item_is Query (Some P2p) _ h = no_fault h
-item_is Point (Some Co) (x ∷ y ∷ z ∷ []) h = refl
-item_is Point (Some Co) _ h = no_fault h
-item_is _ _ ws h = refl
+problem_is : (kind : Kind) (ws : List Word) → Faultless (Some (counts kind)) ws
+    → problem_item kind (filled_row (counts kind) ws) ≡ problem kind ws
+problem_is Min (x ∷ y ∷ []) h = refl
+problem_is Min _ h = no_fault h
+problem_is Max (x ∷ y ∷ []) h = refl
+problem_is Max _ h = no_fault h
+problem_is Sp (x ∷ y ∷ []) h = refl
+problem_is Sp _ h = no_fault h
+problem_is _ (x ∷ []) h = refl
+problem_is _ _ h = no_fault h
 
-module _ (head : Head) (known : Option Kind) (ws : List Word) where
-  -- words without a fault read as the item of their row
-  pub row_filled : (fs : List Field) → fields_at head known ≡ Some fs
-      → first_fault (field_tests (Some (fs, after_head head ws))) ≡ None
-      → Ok (item_of_row head known (filled_row fs (after_head head ws))) ≡ read_at head known ws
-  row_filled fs e h = rw (e, h) (ap Ok (rw e at (item_is head known (after_head head ws) (rw e h))))
+item_is : (kind : Kind) (key : Keyword) (ws : List Word) → Faultless (row kind key) ws
+    → item_of_row (head_of (Some key) None) (Some kind) (row_at (row kind key) ws) ≡ item kind key ws
+item_is Min Key.N (x ∷ y ∷ []) h = refl
+item_is Min Key.N _ h = no_fault h
+item_is Max Key.N (x ∷ y ∷ []) h = ap (λ l. Items.Terminal (num x) l) (letter_same y.keyword)
+item_is Max Key.N _ h = no_fault h
+item_is Min Key.A (x ∷ y ∷ z ∷ u ∷ v ∷ []) h = refl
+item_is Min Key.A _ h = no_fault h
+item_is Max Key.A (x ∷ y ∷ z ∷ []) h = refl
+item_is Max Key.A _ h = no_fault h
+item_is Sp Key.A (x ∷ y ∷ z ∷ []) h = refl
+item_is Sp Key.A _ h = no_fault h
+item_is Ss Key.S (x ∷ []) h = refl
+item_is Ss Key.S _ h = no_fault h
+item_is P2p Key.Q (x ∷ y ∷ []) h = refl
+item_is P2p Key.Q _ h = no_fault h
+item_is Co Key.V (x ∷ y ∷ z ∷ []) h = refl
+item_is Co Key.V _ h = no_fault h
+item_is _ _ ws h = refl
 
 fields_by : (known : Option Kind) (key : Option Keyword) (named : Option Kind) (ws : List Word)
     → cond (is_p key) (problem_fields named (tail ws)) (row_fields (row_of known key) (tail ws))
@@ -95,31 +79,35 @@ fields_by _ (Some Key.P) (Some k) ws = refl
 fields_by _ _ _ ws = refl
 
 spelled_by : (known : Option Kind) (key : Option Keyword) (named : Option Kind) (ws : List Word)
-    → cond (is_p key) (problem_named named (tail ws)) (item_of known key (tail ws))
-    ≡ spelled_at (head_of key named) known (after_head (head_of key named) ws)
-spelled_by (Some Min) (Some Key.P) (Some k) ws = refl
-spelled_by _ (Some Key.P) (Some k) ws = refl
-spelled_by _ _ _ ws = refl
-
--- the fields of a line are read by its head
-pub read_by_head : (known : Option Kind) (head : Head) (ws : List Word) → head ≡ heading ws
-    → read_at head known ws ≡ fields_read known ws
-read_by_head known head ws e = rw e (elim (cases_Bool (is_skip ws)) [
-  | inl s ↦ rw s refl
-  | inr s ↦ rw s (sym (rw (
-    fields_by known (first ws) (kind_named ws) ws,
-    spelled_by known (first ws) (kind_named ws) ws,
-  ) refl))
-])
+    → Faultless (fields_at (head_of key named) known) (after_head (head_of key named) ws)
+    → item_of_row (head_of key named) known
+    (row_at (fields_at (head_of key named) known) (after_head (head_of key named) ws))
+    ≡ cond (is_p key) (problem_named named (tail ws)) (item_of known key (tail ws))
+spelled_by (Some Min) (Some Key.P) (Some k) ws h = problem_is k (after_name k (tail ws)) h
+spelled_by _ (Some Key.P) (Some k) ws h = problem_is k (after_name k (tail ws)) h
+spelled_by (Some k) (Some Key.N) named ws h = item_is k Key.N (tail ws) h
+spelled_by (Some k) (Some Key.A) named ws h = item_is k Key.A (tail ws) h
+spelled_by (Some k) (Some Key.S) named ws h = item_is k Key.S (tail ws) h
+spelled_by (Some k) (Some Key.Q) named ws h = item_is k Key.Q (tail ws) h
+spelled_by (Some k) (Some Key.V) named ws h = item_is k Key.V (tail ws) h
+spelled_by _ _ _ ws h = refl
 
 unless_same : {A : Type 0} (f : Option Code) (x y : A) → unless f x ≡ Ok y → y ≡ x
 unless_same None x y h = cc
 unless_same (Some c) x y h = cc
 
--- the head that the checks return is that of the words
-pub heading_read : (known : Option Kind) (ws : List Word) (head : Head) → head_read known ws ≡ Ok head
-    → head ≡ heading ws
-heading_read known ws head h = elim (cases_Bool (is_skip ws)) [
-  | inl s ↦ rw s (unless_same None Skip head (rw s at h))
-  | inr s ↦ rw s (unless_same _ (head_of (first ws) (kind_named ws)) head (rw s at h))
+item_unless : (head : Head) (known : Option Kind) (r : Row) (i : Line) (f : Option Code)
+    → (f ≡ None → item_of_row head known r ≡ i) → item_read head known (unless f r) ≡ unless f i
+item_unless head known r i None h = ap Ok (h refl)
+item_unless head known r i (Some c) h = refl
+
+-- the row of a line has the item that the line spells, or the first fault of its fields
+pub row_reads : (known : Option Kind) (head : Head) (ws : List Word) → RowRead known head ws (row_read known head ws)
+row_reads known head ws h = elim (cases_Bool (is_skip ws)) [
+  | inl s ↦ rw (unless_same None Skip head (rw s at h), s) refl
+  | inr s ↦ rw (
+      unless_same _ (head_of (first ws) (kind_named ws)) head (rw s at h),
+      s,
+      fields_by known (first ws) (kind_named ws) ws,
+    ) (item_unless _ known _ _ _ (spelled_by known (first ws) (kind_named ws) ws))
 ]

@@ -1,11 +1,11 @@
 -- The row of the words of a line, and the item of a row.
 use Rattle.std.specs.Prelude.{◌≡◌, ℤ, pos, List, cond, slice_get, Option, Some, None, Result, Ok, Err}
 use Rattle.std.specs.Ordering.{int_eq}
-use Rattle.dn_line.specs.Words.{is_skip, first, tail}
-use Rattle.dn_line.specs.LineTable.{row, counts, after_name, kind_named}
+use Rattle.dn_line.specs.Words.{tail}
+use Rattle.dn_line.specs.LineTable.{row, counts, after_name}
 use Rattle.dn_line.specs.Faults.{first_fault, field_tests, row_fields}
-use Rattle.dn_line.specs.Reading.{num, item, problem, unless}
-use Rattle.dn_line.specs.State.LineReads.{head_of, head_read, fields_read}
+use Rattle.dn_line.specs.Reading.{num, unless}
+use Rattle.dn_line.specs.State.LineReads.{head_read, fields_read}
 use Rattle.dn_line.specs.declared.code.Code.{Code}
 use Rattle.dn_line.specs.declared.kind.Kind.{Kind}
 use Rattle.dn_line.specs.declared.kind.Kind.TheVariants.{Min, Max, Sp, Ss, P2p, Co}
@@ -75,10 +75,6 @@ item_of_row Heads.Query (Some P2p) r = Items.Query r.first r.second
 item_of_row Heads.Point (Some Co) r = Items.Point r.first r.second r.third
 item_of_row _ _ r = Items.Skip
 
--- what a line is by its first word and the kind that it names, whether or not these have a fault
-abbrev pub heading : List Word → Head
-heading ws = cond (is_skip ws) Heads.Skip (head_of (first ws) (kind_named ws))
-
 -- the fields of a line with this head, in a text of this kind
 abbrev pub fields_at : Head → Option Kind → Option (List Field)
 fields_at Heads.Skip known = None
@@ -95,22 +91,20 @@ abbrev pub after_head : Head → List Word → List Word
 after_head (Heads.Problem kind) ws = after_name kind (tail ws)
 after_head _ ws = tail ws
 
--- the item of a line with this head, given the words that fill its fields
-abbrev pub spelled_at : Head → Option Kind → List Word → Line
-spelled_at Heads.Skip known ws = Items.Skip
-spelled_at (Heads.Problem kind) known ws = problem kind ws
-spelled_at Heads.Node (Some kind) ws = item kind Key.N ws
-spelled_at Heads.Arc (Some kind) ws = item kind Key.A ws
-spelled_at Heads.Source (Some kind) ws = item kind Key.S ws
-spelled_at Heads.Query (Some kind) ws = item kind Key.Q ws
-spelled_at Heads.Point (Some kind) ws = item kind Key.V ws
-spelled_at _ None ws = Items.Skip
+-- the row of a line without numbers
+abbrev pub no_row : Row
+no_row = record { first = pos 0; second = pos 0; third = pos 0; fourth = pos 0; fifth = pos 0 }
 
--- what the fields of a line with this head read as
-abbrev pub read_at : Head → Option Kind → List Word → Result Line Code
-read_at head known ws =
+-- the row of the words that fill these fields, if there are any
+abbrev pub row_at : Option (List Field) → List Word → Row
+row_at None ws = no_row
+row_at (Some fs) ws = filled_row fs ws
+
+-- the row of a line with this head, or the first fault of its fields
+abbrev pub row_read : Option Kind → Head → List Word → Result Row Code
+row_read known head ws =
     unless (first_fault (field_tests (row_fields (fields_at head known) (after_head head ws))))
-    (spelled_at head known (after_head head ws))
+    (row_at (fields_at head known) (after_head head ws))
 
 -- the item of the row if there is one, and the fault otherwise
 abbrev pub item_read : Head → Option Kind → Result Row Code → Result Line Code

@@ -3,5 +3,5 @@ use Rattle.dn_line.proofs.line_state.LineState.row.Goals as goal
 
 pub returns : goal.returns
 returns c l t =
-    row_agrees c.args.known c.args.head c.args.self.now l t c.row.result
-    (rw (c.all_words.ensures (t.closed, t.last) t.stands) at c.row.ensures)
+    rw (c.row.ensures, c.all_words.ensures (t.closed, t.last) t.stands)
+    (row_agrees c.args.known c.args.head c.args.self.now l t)
