@@ -20,7 +20,7 @@ use Rattle.dn_instance.specs.Validity.{IsNode}
 use Rattle.dn_answers.specs.Walks.{IsAmong, IsWalk, walk_length, IsDistance}
 use Rattle.dn_answers.specs.Flows.{IsWithin, units_on, net_outflow}
 use Rattle.dn_answers.specs.MaxFlows.{HasValue, IsGreatestValue}
-use Rattle.dn_answers.specs.MinCostFlows.{supply_of, IsFeasible, flow_cost, IsLeastCost}
+use Rattle.dn_answers.specs.MinCostFlows.{listed_supply, IsFeasible, flow_cost, IsLeastCost}
 use Rattle.dn_answers.specs.Parallel.{parallel, supplies_for}
 use Rattle.dn_answers.proofs.AssemblyLaws.{Shares, weight}
 use Rattle.dn_answers.proofs.CarryLaws.{units, cap_low, cap_high, cap_most, some_total, filled, cost_low, cost_high, cost_shares, units_total}
@@ -174,7 +174,7 @@ module _ (n : ℤ) (p : ℤ × ℤ) (differ : p.0 ≢ p.1) where
   }
     where
       by_tests : (v : ℤ)
-          → cond (int_eq p.0 v) x (pos 0) -ℤ cond (int_eq p.1 v) x (pos 0) ≡ supply_of (supplies_for p x) v
+          → cond (int_eq p.0 v) x (pos 0) -ℤ cond (int_eq p.1 v) x (pos 0) ≡ listed_supply (supplies_for p x) v
       by_tests v = elim (cases_Bool (int_eq p.0 v)) [
         | inl a ↦ rw (a, not_eq p.1 v (λ e. differ ((Decides-int_eq p.0 v).0 a ∙ e))) (omega (arith, ints))
         | inr a ↦ rw a (elim (cases_Bool (int_eq p.1 v)) [ inl b ↦ rw b | inr b ↦ rw b ])

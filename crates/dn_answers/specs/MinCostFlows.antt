@@ -7,15 +7,15 @@ use Rattle.dn_instance.specs.Instances.{Graph}
 use Rattle.dn_answers.specs.Flows.{IsWithin, net_outflow, HaveSameUnits}
 
 -- the supply of v is the flow that is listed for v, or 0 if none is listed; a demand is a negative supply
-abbrev pub supply_of : List (ℤ × ℤ) → ℤ → ℤ
-supply_of [] v = pos 0
-supply_of (s ∷ supplies) v = cond (int_eq s.0 v) s.1 (supply_of supplies v)
+abbrev pub listed_supply : List (ℤ × ℤ) → ℤ → ℤ
+listed_supply [] v = pos 0
+listed_supply (s ∷ supplies) v = cond (int_eq s.0 v) s.1 (listed_supply supplies v)
 
 -- a feasible flow has LOW to CAP units on each arc, and the units that leave each node, minus those that enter it, are
 -- its supply (mass balance)
 pub record IsFeasible (supplies : List (ℤ × ℤ)) (G : Graph CostArc) (flow : List ℤ) : Type 0 where
   pub within : IsWithin (λ a. a.low) (λ a. a.cap) G.arcs flow
-  pub balanced : (v : ℤ) → net_outflow v G.arcs flow ≡ supply_of supplies v
+  pub balanced : (v : ℤ) → net_outflow v G.arcs flow ≡ listed_supply supplies v
 
 -- the cost of a flow is the sum of COST times units over all arcs
 abbrev pub flow_cost : List ((ℤ × ℤ) × CostArc) → List ℤ → ℤ

@@ -13,7 +13,7 @@ use Rattle.dn_arc.specs.Meanings.{SameCurve}
 use Rattle.dn_arc.specs.Canonical.{IsCostArc}
 use Rattle.dn_arc.specs.State.Steps.{put_step, add_step, AreSteps, steps_room}
 use Rattle.dn_arc.specs.State.CurveListed.{free_arc, step_arc, listed, IsSound}
-use Rattle.dn_bundle.specs.State.Shapes.{numbers_of, AreSound, curve_of, IsGrown}
+use Rattle.dn_bundle.specs.State.Shapes.{shape_numbers, AreSound, curve_of, IsGrown}
 use Rattle.dn_arc.proofs.SplitsLaws.{SameAbove}
 use Rattle.dn_arc.proofs.CurvesLaws.{above_meaning}
 use Rattle.dn_arc.proofs.PartsLaws.{test_yes, test_no}
@@ -30,8 +30,8 @@ most (pos n) f = omega (arith, ints, f.sfits)
 most (negsuc n) f = omega (arith, ints)
 
 -- a curve whose numbers do not change does not change
-pub same_curve : (old new : Shape) (s : AreSound (numbers_of old)) (t : AreSound (numbers_of new))
-    → numbers_of new ≡ numbers_of old → curve_of new t ≡ curve_of old s
+pub same_curve : (old new : Shape) (s : AreSound (shape_numbers old)) (t : AreSound (shape_numbers new))
+    → shape_numbers new ≡ shape_numbers old → curve_of new t ≡ curve_of old s
 same_curve old new s t e = same_numbers _ _ (ap (λ (n : Numbers). (n.units, (n.cost, (n.total, n.steps)))) e)
 
 -- the costs fit 64 bits

@@ -1,5 +1,5 @@
 -- An arc for which a curve needs memory makes another entry, or adds to forced units as the definitions say.
-use Rattle.std.proofs.Common.{◌≡◌, ℕ, suc, ◌+◌, ◌^◌, ◌<◌, ◌≤◌, ℤ, pos, ◌+ℤ◌, ◌-ℤ◌, ◌*ℤ◌, ◌<ℤ◌, ◌≤ℤ◌, Bool, true, false, List, [], ◌∷◌, ◌++◌, length, refl, sym, ◌∙◌, arith, w64, cond, inl, inr, FitsSigned, int_lt}
+use Rattle.std.proofs.Common.{◌≡◌, ℕ, suc, ◌+◌, ◌<◌, ◌≤◌, ℤ, pos, ◌+ℤ◌, ◌-ℤ◌, ◌*ℤ◌, ◌<ℤ◌, ◌≤ℤ◌, Bool, true, false, List, [], ◌∷◌, ◌++◌, length, refl, sym, ◌∙◌, arith, w64, cond, inl, inr, FitsSigned, int_lt}
 use Rattle.std.proofs.Math.IntN.{*ℤ_comm}
 use Rattle.std.proofs.lemmas.Int.{ints, by_lt_z}
 use Rattle.dn_arc.specs.declared.arc.CostArc.{CostArc}
@@ -16,8 +16,9 @@ use Rattle.dn_arc.proofs.CostKindLaws.{cost_kind}
 use Rattle.dn_arc.proofs.ListedLaws.{listed_units, listed_cost}
 use Rattle.dn_arc.proofs.ProductsLaws.{mul_suc, mul_mono}
 use Rattle.dn_arc.proofs.SoundLaws.{none_is, sound_arcs}
+use Rattle.dn_bundle.specs.declared.curve.shape.OneCost.{OneCost}
 use Rattle.dn_bundle.specs.declared.curve.shape.Shape.TheVariants.{Plain}
-use Rattle.dn_bundle.specs.State.Shapes.{plain_step, numbers_of, LeavesPlain, NeedsRoom, forced, free, more, NeedRoom}
+use Rattle.dn_bundle.specs.State.Shapes.{one_step, shape_numbers, LeavesPlain, NeedsRoom, forced, free, more, NeedRoom}
 use Rattle.dn_bundle.proofs.GrowLaws.{grown_sound, grown_same}
 use Rattle.dn_kind.proofs.BundleLaws.{all_end}
 use Rattle.dn_bundle.proofs.CurveLaws.{entries_listed}
@@ -106,21 +107,20 @@ same_each u x y some e =
     (λ ge. omega (arith, ints)))
 
 -- the free capacity of a plain shape has one cost
-plain_lacks : (step : ℤ × ℤ) (cost : ℤ) → (cost ≡ step.0 → ⊥) → has_step (steps_of (plain_step step) []) cost ≡ false
-plain_lacks step cost n =
-    by_lt_z (pos 0) step.1 (λ lt. rw (test_yes (pos 0) step.1 lt, eq_no cost step.0 n))
-    (λ le. rw (test_no (pos 0) step.1 le))
+plain_lacks : (one : OneCost) (cost : ℤ) → (cost ≡ one.cost → ⊥) → has_step (steps_of (one_step one) []) cost ≡ false
+plain_lacks one cost n =
+    by_lt_z (pos 0) one.free (λ lt. rw (test_yes (pos 0) one.free lt, eq_no cost one.cost n))
+    (λ le. rw (test_no (pos 0) one.free le))
 
 -- a plain shape that cannot take an arc needs memory for it
-pub leaves_room : (low : ℕ) (step : ℤ × ℤ) (a : CostArc) → IsCostArc a → low < 2 ^ 32 → (a.cap ≡ pos 0 → ⊥)
-    → LeavesPlain low step a → NeedRoom (numbers_of (Plain low step)) a
-leaves_room low step a h few some (inl many) =
-    by_lt_z (pos 0) (pos low) (λ lt. more lt (omega (arith, ints)) (inr many))
-    (λ le. forced (omega (arith, ints)) (omega (arith, ints)))
-leaves_room low step a h few some (inr other) =
+pub leaves_room : (one : OneCost) (a : CostArc) → IsCostArc a → (a.cap ≡ pos 0 → ⊥)
+    → LeavesPlain one a → NeedRoom (shape_numbers (Plain one)) a
+leaves_room one a h some (inl many) =
+    by_lt_z (pos 0) (pos one.low) (λ lt. more lt many.0 (inr many.1)) (λ le. forced (omega (arith, ints)) many.0)
+leaves_room one a h some (inr other) =
     by_lt_z (pos 0) a.low
-    (λ adds. by_lt_z (pos 0) (pos low)
-    (λ lt. more lt adds (inl (λ e. other (sym (same_each (pos low) step.0 a.cost lt e)))))
+    (λ adds. by_lt_z (pos 0) (pos one.low)
+    (λ lt. more lt adds (inl (λ e. other (sym (same_each (pos one.low) one.cost a.cost lt e)))))
     (λ le. forced (omega (arith, ints)) adds))
-    (λ none. by_lt_z (pos 0) a.cap (λ lt. free (omega (arith, ints)) (plain_lacks step a.cost other))
+    (λ none. by_lt_z (pos 0) a.cap (λ lt. free (omega (arith, ints)) (plain_lacks one a.cost other))
     (λ le. absurd (some (omega (arith, ints)))))

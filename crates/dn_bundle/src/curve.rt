@@ -9,7 +9,7 @@ ghost use Rattle.dn_arc.specs.Entries.{free_costs};
 ghost use Rattle.dn_arc.specs.Differences.{IsCostOf};
 ghost use Rattle.dn_arc.specs.State.CurveListed.{listed, fixed_arcs, step_arc, fixed_list, HasNext, is_free};
 ghost use Rattle.dn_bundle.specs.State.Gaps.{IsGapOf};
-ghost use Rattle.dn_bundle.specs.State.Shapes.{numbers_of, AreSound, NeedsRoom};
+ghost use Rattle.dn_bundle.specs.State.Shapes.{shape_numbers, AreSound, NeedsRoom};
 ghost use Rattle.dn_arc.proofs.SoundLaws.{IsSound-prop, sound_canonical, sound_same, sound_fit};
 ghost use Rattle.dn_arc.proofs.CostKindLaws.{cost_kind};
 ghost use Rattle.dn_arc.specs.declared.arc.Form.{Form};
@@ -17,7 +17,7 @@ ghost use Rattle.dn_arc.specs.declared.difference.How.TheVariants.{Costs};
 ghost use Rattle.dn_bundle.specs.State.Listings.{curve_arcs, form_one_arcs};
 
 use crate::cost128::{floor, more_cost};
-use crate::curve::shape::Shape;
+use crate::curve::shape::{OneCost, Shape};
 use crate::difference::first_gap;
 use dn_arc::{CostArc, Fixed, Form, Gap, How};
 use dn_kind::{Bundle, BundleFault};
@@ -34,7 +34,7 @@ pub struct Curve {
     // Allocates the numbers once the shape needs them.
     alloc: Global,
     shape: Shape,
-    ghost sound: { AreSound (numbers_of shape) } by { IsSound-prop _ _ _ _ },
+    ghost sound: { AreSound (shape_numbers shape) } by { IsSound-prop _ _ _ _ },
 }
 
 impl Model for Curve {
@@ -232,7 +232,11 @@ impl Bundle for Curve {
     fn of(alloc: Global, arc: CostArc) -> Result<Option<Curve>, AllocError> {
         let mut curve = Curve {
             alloc,
-            shape: Shape::Plain(0, (0, 0)),
+            shape: Shape::Plain(OneCost {
+                low: 0,
+                cost: 0,
+                free: 0,
+            }),
         };
         curve.grow(arc, arc.cap)?;
         if curve.total() == 0 {

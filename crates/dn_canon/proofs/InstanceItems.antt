@@ -24,7 +24,7 @@ use Rattle.dn_instance.specs.Instances.{Graph, Instance, MinCostFlow, MaxFlow, S
 use Rattle.dn_instance.specs.Validity.{IsSupply, AreSupplies, IsValid}
 use Rattle.dn_instance.specs.Items.{cost_arc_in, supply_in, supplies_of, source_in, query_in, point_in, instance_as, instance_of, Problem, problem_in}
 use Rattle.dn_canon.specs.Prints.{word_row, graph_row, companion_row, supply_row, terminal_row, arc_row, source_row, query_row, point_row, rows}
-use Rattle.dn_sink.specs.Rows.{Row}
+use Rattle.dn_sink.specs.Rows.{Cells}
 use Rattle.dn_canon.proofs.RowLaws.{IsInk, AllWords, number_word, number_words}
 use Rattle.dn_canon.proofs.ItemLaws.{IsHead}
 use Rattle.dn_canon.proofs.PartLaws.{items_back, no_items, all_append, all_map}
@@ -32,7 +32,7 @@ use Rattle.dn_canon.proofs.ArcItems.{min_item, max_item, sp_item, min_items, max
 use Rattle.dn_canon.proofs.KeyLaws.{by_key_rising}
 
 -- the words of the problem line
-abbrev pub head_row : Instance → Row
+abbrev pub head_row : Instance → Cells
 head_row (MinCostFlow supplies graph) = graph_row Kinds.Min graph.nodes (length graph.arcs)
 head_row (MaxFlow source sink graph) = graph_row Kinds.Max graph.nodes (length graph.arcs)
 head_row (ShortestPaths graph) = graph_row Kinds.Sp graph.nodes (length graph.arcs)
@@ -61,7 +61,7 @@ abbrev pub point_item : ℤ × (ℤ × ℤ) → Line
 point_item p = Item.Point p.0 p.1.0 p.1.1
 
 -- the words of the lines after the problem line
-abbrev pub body_rows : Instance → List Row
+abbrev pub body_rows : Instance → List Cells
 body_rows (MinCostFlow supplies graph) = map supply_row supplies ++ map (arc_row costs) graph.arcs
 body_rows (MaxFlow source sink graph) =
     terminal_row source Key.S ∷ terminal_row sink Key.T ∷ map (arc_row capacities) graph.arcs
@@ -94,7 +94,7 @@ companion_words : (k : Kind) (n : ℕ) → IsInk (kind_name k) → AllWords (com
 companion_words k n h = ((refl, tt), ((refl, (refl, (refl, tt))), ((refl, (refl, tt)), (h, (number_word (pos n), tt)))))
 
 -- the lines of a letter and numbers consist of words
-number_rows : {X : Type 0} (row : X → Row) (key : Keyword) (numbers : X → List ℤ)
+number_rows : {X : Type 0} (row : X → Cells) (key : Keyword) (numbers : X → List ℤ)
     → ((x : X) → row x ≡ word_row key (numbers x)) → IsInk (keyword_text key) → (xs : List X)
     → AllByRecursion AllWords (map row xs)
 number_rows row key numbers is h = all_map AllWords row (λ x. rw (is x) (h, number_words (numbers x)))
@@ -140,7 +140,7 @@ head_is I = record { words = words I; kind = kind I; declares = declares I }
     declares I = refl
 
 -- NODES in the words of a problem line; 0 for a companion
-abbrev pub nodes_in : Row → ℤ
+abbrev pub nodes_in : Cells → ℤ
 nodes_in (p ∷ name ∷ nodes ∷ arcs ∷ []) = number_or_zero (number_read nodes)
 nodes_in _ = pos 0
 

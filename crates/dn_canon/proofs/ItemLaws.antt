@@ -20,7 +20,7 @@ use Rattle.dn_instance.specs.TextFaults.{item_spelled, is_too_long, item_tests, 
 use Rattle.dn_instance.specs.Texts.{with_next, items_of, IsClean}
 use Rattle.dn_instance.proofs.FirstFaults.{fault_after}
 use Rattle.dn_instance.proofs.CleanItems.{item_some, items_push, none_both}
-use Rattle.dn_sink.specs.Rows.{Row}
+use Rattle.dn_sink.specs.Rows.{Cells}
 use Rattle.dn_canon.proofs.RowLaws.{line_of, AllWords, said_are}
 
 -- the words spell the item, and neither they nor the item have a fault after the items before it
@@ -35,7 +35,7 @@ pub spells_by : {known : Option Kind} {ws : List Word} {i : Line} {slots : List 
 spells_by {slots = slots} e f k = record { slots = slots; slots_are = e; fit = f; kind_is = k }
 
 -- each line spells its item, which follows the items before it
-abbrev pub AllFollow : List Line → List Row → List Line → Type 0
+abbrev pub AllFollow : List Line → List Cells → List Line → Type 0
 AllFollow before [] [] = Unit {0}
 AllFollow before (r ∷ rs) (i ∷ items) = Follows before (map said r) i × AllFollow (before ++ i ∷ []) rs items
 AllFollow before _ _ = ⊥
@@ -74,12 +74,12 @@ abbrev pub items_under : Option Kind → List (List ℕ) → List Line
 items_under k ls = filter_map (λ l. item_spelled (words_read k (said_words l))) ls
 
 -- the item of a problem line that declares this kind
-pub record IsHead (r : Row) (h : Line) (k : Kind) : Type 0 where
+pub record IsHead (r : Cells) (h : Line) (k : Kind) : Type 0 where
   pub words : AllWords r
   pub kind : kind_named (map said r) ≡ Some k
   pub declares : option_map (λ (p : Problem). p.kind) (problem_in h) ≡ Some k
 
-module _ {r : Row} {h : Line} {k : Kind} (head : IsHead r h k) where
+module _ {r : Cells} {h : Line} {k : Kind} (head : IsHead r h k) where
   -- the kind is known from the problem line on
   known_is : (items : List Line) → kind_known (h ∷ items) ≡ Some k
   known_is items = by_problem (problem_in h) head.declares
@@ -90,7 +90,7 @@ module _ {r : Row} {h : Line} {k : Kind} (head : IsHead r h k) where
       by_problem (Some p) e = e
 
   -- the items of the lines after the problem line depend only on its kind
-  pub body_items : (before : List Line) (rs : List Row) (items : List Line) → AllByRecursion AllWords rs
+  pub body_items : (before : List Line) (rs : List Cells) (items : List Line) → AllByRecursion AllWords rs
       → AllFollow (h ∷ before) rs items → items_under (Some k) (map line_of rs) ≡ items
   body_items before [] [] w f = refl
   body_items before (x ∷ rs) (i ∷ items) w f =
@@ -100,17 +100,17 @@ module _ {r : Row} {h : Line} {k : Kind} (head : IsHead r h k) where
   body_items before _ _ w f = absurd f
 
 -- the line of a row follows the items before it if the row does
-line_follows : {before : List Line} {i : Line} (x : Row) → AllWords x → Follows before (map said x) i
+line_follows : {before : List Line} {i : Line} (x : Cells) → AllWords x → Follows before (map said x) i
     → Follows before (said_words (line_of x)) i
 line_follows x w f = rw (said_are x w) f
 
 -- the line of a row appends its item
-adds_item : (before : List Line) (x : Row) (i : Line) → AllWords x → Follows before (map said x) i
+adds_item : (before : List Line) (x : Cells) (i : Line) → AllWords x → Follows before (map said x) i
     → with_next before (said_words (line_of x)) ≡ before ++ i ∷ []
 adds_item before x i w f = rw (spells_item (line_of x) (line_follows x w f).spells)
 
 -- the lines of rows append their items
-rows_add : (before : List Line) (rs : List Row) (items : List Line) → AllByRecursion AllWords rs
+rows_add : (before : List Line) (rs : List Cells) (items : List Line) → AllByRecursion AllWords rs
     → AllFollow before rs items → fold (λ xs l. with_next xs (said_words l)) before (map line_of rs) ≡ before ++ items
 rows_add before [] [] w f = sym (append-nil before)
 rows_add before (x ∷ rs) (i ∷ items) w f =
@@ -119,12 +119,12 @@ rows_add before (x ∷ rs) (i ∷ items) w f =
     ∙ append_assoc before (i ∷ []) items
 rows_add before _ _ w f = absurd f
 
-pub items_are : (rs : List Row) (items : List Line) → AllByRecursion AllWords rs → AllFollow [] rs items
+pub items_are : (rs : List Cells) (items : List Line) → AllByRecursion AllWords rs → AllFollow [] rs items
     → items_of (map line_of rs) ≡ items
 items_are = rows_add []
 
 -- each of the lines has no fault after the lines before it
-parted_clean : (ls : List (List ℕ)) (before : List Line) (rs : List Row) (items : List Line) (b : List (List ℕ))
+parted_clean : (ls : List (List ℕ)) (before : List Line) (rs : List Cells) (items : List Line) (b : List (List ℕ))
     (l : List ℕ) (a : List (List ℕ)) → items_of ls ≡ before → AllByRecursion AllWords rs → AllFollow before rs items
     → map line_of rs ≡ b ++ l ∷ a → is_too_long (length (ls ++ b) + 1) ≡ false → fault_after (ls ++ b) l ≡ None
 parted_clean ls before (x ∷ rs) (i ∷ items) [] l a e w f p short =
@@ -141,7 +141,7 @@ parted_clean ls before [] items [] l a e w f p short = cc
 parted_clean ls before [] items (y ∷ b) l a e w f p short = cc
 
 -- rows whose items follow one another make a text without a fault
-pub rows_clean : (rs : List Row) (items : List Line) → AllByRecursion AllWords rs → AllFollow [] rs items
+pub rows_clean : (rs : List Cells) (items : List Line) → AllByRecursion AllWords rs → AllFollow [] rs items
     → length (map line_of rs) < 2 ^ 63 - 1 → IsClean (map line_of rs)
 rows_clean rs items w f few = λ n c at.
     let count : length at.before + 1 < 2 ^ 63 - 1 =

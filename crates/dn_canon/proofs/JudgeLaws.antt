@@ -11,7 +11,7 @@ use Rattle.dn_instance.proofs.SameLaws.{refl_of}
 use Rattle.dn_canon.specs.CanonInstances.{IsCanonInstanceOf}
 use Rattle.dn_canon.specs.CanonTexts.{IsCanonOf}
 use Rattle.dn_canon.specs.Prints.{rows, print}
-use Rattle.dn_sink.specs.Rows.{Row, line_text, text_of}
+use Rattle.dn_sink.specs.Rows.{Cells, line_text, text_of}
 use Rattle.dn_canon.specs.State.Runs.{JudgesCanon}
 use Rattle.dn_canon.specs.State.Writes.{WritesCanon}
 use Rattle.dn_sink.specs.Sinks.{SinkFacts}
@@ -21,7 +21,7 @@ use Rattle.dn_canon.proofs.InstanceItems.{rows_are}
 use Rattle.dn_canon.proofs.TextLaws.{texts_agree}
 
 -- a text has at least as many bytes as lines
-rows_long : (rs : List Row) → length rs ≤ length (text_of rs)
+rows_long : (rs : List Cells) → length rs ≤ length (text_of rs)
 rows_long [] = omega arith
 rows_long (r ∷ rs) =
     omega (

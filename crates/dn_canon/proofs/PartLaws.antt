@@ -4,7 +4,7 @@ use Rattle.std.specs.List.{AllByRecursion, filter_map}
 use Rattle.dn_line.specs.declared.line.Line.{Line}
 use Rattle.dn_line.specs.Words.{said}
 use Rattle.dn_instance.specs.Items.{counted, is_counted}
-use Rattle.dn_sink.specs.Rows.{Row}
+use Rattle.dn_sink.specs.Rows.{Cells}
 use Rattle.dn_canon.proofs.ItemLaws.{Follows, AllFollow}
 
 -- x is an element of the list, and d are the elements before it
@@ -38,7 +38,7 @@ all_map P f h [] = tt
 all_map P f h (x ∷ xs) = (h x, all_map P f h xs)
 
 -- items that follow, and items that follow all of these, follow together
-pub follow_append : (before : List Line) (rs ss : List Row) (xs ys : List Line) → AllFollow before rs xs
+pub follow_append : (before : List Line) (rs ss : List Cells) (xs ys : List Line) → AllFollow before rs xs
     → AllFollow (before ++ xs) ss ys → AllFollow before (rs ++ ss) (xs ++ ys)
 follow_append before [] ss [] ys f g = rw append-nil at g
 follow_append before (r ∷ rs) ss (x ∷ xs) ys f g =
@@ -46,7 +46,7 @@ follow_append before (r ∷ rs) ss (x ∷ xs) ys f g =
 follow_append before _ ss _ ys f g = absurd f
 
 -- the items of elements follow if each follows those of the elements before it
-pub each_follow : {X : Type 0} (row : X → Row) (item : X → Line) (before : List Line) (xs : List X)
+pub each_follow : {X : Type 0} (row : X → Cells) (item : X → Line) (before : List Line) (xs : List X)
     → ((d : List X) (x : X) → Splits xs d x → Follows (before ++ map item d) (map said (row x)) (item x))
     → AllFollow before (map row xs) (map item xs)
 each_follow row item before [] h = tt

@@ -9,14 +9,14 @@ use Rattle.dn_instance.specs.Instances.{Instance, kind_of, nodes_of, size_of}
 use Rattle.dn_instance.specs.Validity.{IsValid}
 use Rattle.dn_instance.specs.Texts.{Reads}
 use Rattle.dn_canon.specs.Prints.{print}
-use Rattle.dn_sink.specs.Rows.{Row, text_of}
+use Rattle.dn_sink.specs.Rows.{Cells, text_of}
 use Rattle.dn_canon.proofs.RowLaws.{line_of, AllWords, lines_are, rows_one}
 use Rattle.dn_canon.proofs.ItemLaws.{AllFollow, items_under, body_items, items_are, rows_clean}
 use Rattle.dn_canon.proofs.InstanceItems.{head_row, head_item, body_rows, body_of, rows_are, body_words, head_is, nodes_in, nodes_back, body_makes, items_make}
 use Rattle.dn_canon.proofs.FollowLaws.{head_follows, body_follows, end_clean, count_rows}
 
 -- the words of all lines of an instance
-abbrev all_rows : Instance → List Row
+abbrev all_rows : Instance → List Cells
 all_rows I = head_row I ∷ body_rows I
 
 -- each line consists of words

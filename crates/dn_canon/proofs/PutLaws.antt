@@ -8,7 +8,7 @@ use Rattle.dn_line.specs.declared.word.Keyword.TheVariants.{A, S, T}
 use Rattle.dn_arc.specs.Kinds.{ArcKind}
 use Rattle.dn_instance.specs.Instances.{Graph}
 use Rattle.dn_canon.specs.Prints.{word_row, graph_row, terminal_row, arc_row, graph_rows}
-use Rattle.dn_sink.specs.Rows.{Row, line_text, text_of}
+use Rattle.dn_sink.specs.Rows.{Cells, line_text, text_of}
 use Rattle.dn_sink.specs.Puts.{HasPut, PutsPrefix}
 use Rattle.dn_canon.proofs.BlockLaws.{pass_more, pass_stop, all_done}
 use Rattle.dn_canon.specs.State.ListedArcs.{placed, listed_arcs}
@@ -20,7 +20,7 @@ use Rattle.dn_sink.proofs.RowLaws.{text-append}
 use Rattle.dn_sink.proofs.PutLaws.{put_from}
 
 module _ {K : Type 0} {sink : SinkFacts K} {a b c : K} {X : Type 0} {all line : List ℕ} {left rest : List X} {x : X}
-    (row : X → Row) (before : List ℕ) (e : left ≡ x ∷ rest) (f : line ≡ line_text (row x))
+    (row : X → Cells) (before : List ℕ) (e : left ≡ x ∷ rest) (f : line ≡ line_text (row x))
     (h : HasPut sink a b (before ++ text_of (map row left)) all) where
   -- the line of the next row passes through the block
   pub row_more : {after : List ℕ} → HasPut sink b c after (before ++ line)
@@ -54,14 +54,14 @@ some_below {X} xs i o h e n = by_case (slice_get_cases xs i).1
     by_case (inr (past, none)) = absurd (omega arith)
 
 -- past the last row, only the block is left
-pub rows_done : {K : Type 0} {sink : SinkFacts K} {a b : K} {all : List ℕ} {X : Type 0} (row : X → Row) (block : List ℕ)
+pub rows_done : {K : Type 0} {sink : SinkFacts K} {a b : K} {all : List ℕ} {X : Type 0} (row : X → Cells) (block : List ℕ)
     (xs : List X) (i : ℕ) → length xs ≤ i
     → HasPut sink a b (block ++ text_of (map row (drop i xs))) all → HasPut sink a b block all
 rows_done row block xs i h = all_done block _ (rw (drop_all i xs h))
 
 -- after the problem line of a graph, its node lines and its arc lines are left
 pub graph_start : {K : Type 0} {sink : SinkFacts K} {a : K} {Arc : Type 0} {empty line : List ℕ} {count : ℕ}
-    (arcs : ArcKind Arc) (kind : Kind) (graph : Graph Arc) (nodes : List Row) → empty ≡ []
+    (arcs : ArcKind Arc) (kind : Kind) (graph : Graph Arc) (nodes : List Cells) → empty ≡ []
     → line ≡ empty ++ line_text (graph_row kind graph.nodes count) → count ≡ length graph.arcs
     → HasPut sink a a (line ++ (text_of nodes ++ (text_of (map (arc_row arcs) graph.arcs) ++ [])))
     (text_of (graph_rows arcs kind graph nodes))

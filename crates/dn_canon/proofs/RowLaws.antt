@@ -9,10 +9,10 @@ use Rattle.dn_line.specs.Pieces.{parts, lines, is_line_feed}
 use Rattle.dn_line.specs.Words.{is_blank, words, said, said_words}
 use Rattle.dn_line.specs.State.Runs.{AllBlank, IsWord, AreRuns}
 use Rattle.dn_line.proofs.RunLaws.{runs_only}
-use Rattle.dn_sink.specs.Rows.{Row, text_of}
+use Rattle.dn_sink.specs.Rows.{Cells, text_of}
 
 -- the line of a row, without its LF
-abbrev pub line_of : Row → List ℕ
+abbrev pub line_of : Cells → List ℕ
 line_of = join_with_byte 32
 
 -- all bytes are above the space, so neither blanks nor LFs
@@ -25,7 +25,7 @@ IsInk [] = ⊥
 IsInk (b ∷ bs) = AllInk (b ∷ bs)
 
 -- each word of the row is such a list of bytes
-abbrev pub AllWords : Row → Type 0
+abbrev pub AllWords : Cells → Type 0
 AllWords = AllByRecursion IsInk
 
 -- all bytes of a word are above the space
@@ -60,13 +60,13 @@ word_feed [] m h k = k
 word_feed (b ∷ bs) m h k = (ink_no_feed b h.0, word_feed bs m h.1 k)
 
 -- the line of a row contains no LF
-line_feed : (r : Row) → AllWords r → NoFeed (line_of r)
+line_feed : (r : Cells) → AllWords r → NoFeed (line_of r)
 line_feed [] h = tt
 line_feed (w ∷ []) h = rw append-nil at (word_feed w [] (ink_of w h.0) tt)
 line_feed (w ∷ x ∷ xs) h = word_feed w (32 ∷ line_of (x ∷ xs)) (ink_of w h.0) (refl, line_feed (x ∷ xs) h.1)
 
 -- after blanks, the words of a row are the runs of its line
-row_runs : (gap : List ℕ) (r : Row) → AllBlank gap → AllWords r → AreRuns (gap ++ line_of r) r
+row_runs : (gap : List ℕ) (r : Cells) → AllBlank gap → AllWords r → AreRuns (gap ++ line_of r) r
 row_runs gap [] g h = rw append-nil g
 row_runs gap (w ∷ []) g h = record {
   gap = gap;
@@ -88,11 +88,11 @@ row_runs gap (w ∷ x ∷ xs) g h = record {
 }
 
 -- the words of a row's line are the row
-words_are : (r : Row) → AllWords r → words (line_of r) ≡ r
+words_are : (r : Cells) → AllWords r → words (line_of r) ≡ r
 words_are r h = sym (runs_only (line_of r) r (row_runs [] r (All-nil _) h))
 
 -- the words of a row's line say what the row's words say
-pub said_are : (r : Row) → AllWords r → said_words (line_of r) ≡ map said r
+pub said_are : (r : Cells) → AllWords r → said_words (line_of r) ≡ map said r
 said_are r h = ap (map said) (words_are r h)
 
 -- the first LF ends the first part
@@ -102,19 +102,19 @@ first_part [] rest h = refl
 first_part (b ∷ bs) rest h = rw (h.0, first_part bs rest h.1) refl
 
 -- the lines of a printed text are the lines of its rows
-pub lines_are : (rs : List Row) → AllByRecursion AllWords rs → lines (text_of rs) ≡ map line_of rs
+pub lines_are : (rs : List Cells) → AllByRecursion AllWords rs → lines (text_of rs) ≡ map line_of rs
 lines_are [] h = refl
 lines_are (r ∷ rs) h =
     rw append_assoc (rw (first_part (line_of r) (text_of rs) (line_feed r h.0))
     (ap (λ ls. line_of r ∷ ls) (lines_are rs h.1)))
 
 -- the words of the rows' lines are the rows
-all_words_are : (rs : List Row) → AllByRecursion AllWords rs → map words (map line_of rs) ≡ rs
+all_words_are : (rs : List Cells) → AllByRecursion AllWords rs → map words (map line_of rs) ≡ rs
 all_words_are [] h = refl
 all_words_are (r ∷ rs) h = rw (words_are r h.0, all_words_are rs h.1)
 
 -- rows with the same text are equal
-pub rows_one : (rs ss : List Row) → AllByRecursion AllWords rs → AllByRecursion AllWords ss → text_of rs ≡ text_of ss
+pub rows_one : (rs ss : List Cells) → AllByRecursion AllWords rs → AllByRecursion AllWords ss → text_of rs ≡ text_of ss
     → rs ≡ ss
 rows_one rs ss h k e =
     let same : map line_of rs ≡ map line_of ss = sym (lines_are rs h) ∙ ap lines e ∙ lines_are ss k in

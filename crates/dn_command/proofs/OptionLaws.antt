@@ -11,7 +11,7 @@ use Rattle.clap.specs.declared.error.kind.ErrorKind.TheVariants.{OutOfMemory}
 use Rattle.clap.specs.Simple.{is_simple}
 use Rattle.clap.specs.declared.error.Error.{Error}
 use Rattle.clap.specs.declared.parser.matches.ArgMatches.{ArgMatches}
-use Rattle.dn_command.specs.Options.{dnorm_app, form_words}
+use Rattle.dn_command.specs.Options.{dnorm_app, form_option_words}
 use Rattle.dn_command.specs.State.Parses.{IsParseOf}
 
 free : (forms : Bor (List (Bor Text))) → is_simple_and_free (dnorm_app forms) ≡ true
@@ -31,7 +31,7 @@ adds_arg old arg (Err e) is local ruled own adds = (tt, tt)
 
 -- the result of `clap` is the parse of the words with the program's options
 pub is_parse : (a : App) (forms : Bor (List (Bor Text))) (words : List Text) (r : Result ArgMatches Error)
-    → a ≡ dnorm_app forms → map (λ s. s.now) forms.now ≡ form_words
+    → a ≡ dnorm_app forms → map (λ s. s.now) forms.now ≡ form_option_words
     → (is_simple_and_free a ≡ true → FailsBy (fault_of a words) r)
     → IfOk r (HasMatchesOf a words) → IsParseOf words r
 is_parse a forms words (Ok m) is are_forms fails matches = record {
@@ -51,7 +51,7 @@ is_parse a forms words (Err e) is are_forms fails matches = record {
 
 -- if memory runs out for the options, the error is a parse of the words
 pub no_parse : (forms : Bor (List (Bor Text))) (words : List Text) (r : Result ArgMatches Error)
-    → map (λ s. s.now) forms.now ≡ form_words → IsErrAnd r (λ e. kind_of e ≡ OutOfMemory) → IsParseOf words r
+    → map (λ s. s.now) forms.now ≡ form_option_words → IsErrAnd r (λ e. kind_of e ≡ OutOfMemory) → IsParseOf words r
 no_parse forms words (Ok m) are_forms memory = elim memory [ ]
 no_parse forms words (Err e) are_forms memory = record {
   forms = forms;

@@ -49,5 +49,5 @@ dnorm_app forms = with_subcommand (with_subcommand (with_subcommand (with_subcom
     show_app.top) check_app.top) (canon_app forms).top) compare_app.top
 
 -- the words that may follow `--form`
-abbrev pub form_words : List Text
-form_words = codes "1" ∷ codes "2" ∷ []
+abbrev pub form_option_words : List Text
+form_option_words = codes "1" ∷ codes "2" ∷ []

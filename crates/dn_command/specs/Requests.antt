@@ -8,7 +8,7 @@ use Rattle.clap.specs.declared.error.kind.ErrorKind.TheVariants.{DisplayHelp, Di
 use Rattle.dn_arc.specs.declared.arc.Form.{Form}
 use Rattle.dn_arc.specs.declared.arc.Form.TheVariants.{One, Two}
 use Rattle.dn_command.specs.Commands.{Asked, Canon, Check, Compare, Show, asks}
-use Rattle.dn_command.specs.Options.{dnorm_app, form_words}
+use Rattle.dn_command.specs.Options.{dnorm_app, form_option_words}
 use Rattle.dn_command.specs.declared.request.Request.{Request}
 use Rattle.dn_command.specs.declared.request.Request.TheVariants as requests
 
@@ -67,6 +67,6 @@ Answers faults asked requests.Memory = ⊤
 pub record IsReadByClap (words : List Text) (request : Request) : Type 0 where
   -- the two words that may follow `--form`, at any address in memory
   pub forms : Bor (List (Bor Text))
-  pub are_forms : map (λ s. s.now) forms.now ≡ form_words
+  pub are_forms : map (λ s. s.now) forms.now ≡ form_option_words
   pub answer : Answers (fault_of (dnorm_app forms) words)
       (subcommand_asked (subcommand_of (dnorm_app forms) words)) request

@@ -4,7 +4,7 @@ ghost use Rattle.clap.specs.Words.{App, app_of, new_app, rule_of, with_rule, wit
 ghost use Rattle.clap.specs.declared.builder.command.Command.TheViews.{out-Command as fields_of};
 ghost use Rattle.dn_command.specs.Options.{bare_app, canon_app, check_app, compare_app, dnorm_app};
 ghost use Rattle.dn_command.specs.State.Parses.{IsParseOf};
-ghost use Rattle.dn_command.specs.Options.{form_option, form_words, option_rule, show_app, text_rule};
+ghost use Rattle.dn_command.specs.Options.{form_option, form_option_words, option_rule, show_app, text_rule};
 ghost use Rattle.dn_command.specs.Options.{with_option};
 
 use crate::help;
@@ -24,7 +24,7 @@ fn parse_with<'a>(
     forms: &'a [&'a str],
     words: &'a [String],
 ) -> Result<ArgMatches<'a>, Error>
-    requires { map (λ s. s.now) forms.now ≡ form_words }
+    requires { map (λ s. s.now) forms.now ≡ form_option_words }
     ensures { IsParseOf (map string_bytes words.entry.now) result }
 {
     match dnorm_command(alloc, forms) {

@@ -16,7 +16,7 @@ pub record StreamFacts (S : Type 0) : Type 1 where
 
 -- what a read does: it gives the next bytes, and none only at the end or if there is no room; or it fails, where it
 -- can, and gives none
-pub record Reads {S : Type 0} (facts : StreamFacts S) (old new : S) (into : List ℕ) (result : Result ℕ Error)
+pub record ReadsStream {S : Type 0} (facts : StreamFacts S) (old new : S) (into : List ℕ) (result : Result ℕ Error)
     : Type 0 where
   pub bound : ReadsAtMost result into
   pub bytes : ReadConsumes (facts.gives old) (facts.gives new) result into

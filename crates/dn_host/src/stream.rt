@@ -1,5 +1,5 @@
 // Streams of bytes.
-ghost use Rattle.dn_host.specs.Streams.{StreamFacts, Reads};
+ghost use Rattle.dn_host.specs.Streams.{StreamFacts, ReadsStream};
 ghost use Rattle.dn_host.specs.State.Failures.{retrying};
 
 use std::io;
@@ -13,12 +13,12 @@ pub trait Stream {
     /// Writes the next bytes to the beginning of `into`, and returns their count. It is 0 only at the end, or if `into`
     /// is empty.
     fn read(&mut self, into: &mut [u8]) -> io::Result<usize>
-        ensures { Reads stream self.old self.new into.new result };
+        ensures { ReadsStream stream self.old self.new into.new result };
 }
 
-/// Reads as `Stream::read` does, and again after each interrupted read. Fails after 2^64-1 interruptions.
+/// ReadsStream as `Stream::read` does, and again after each interrupted read. Fails after 2^64-1 interruptions.
 pub(crate) fn read_retrying<S: Stream>(stream: &mut S, into: &mut [u8]) -> io::Result<usize>
-    ensures { Reads (retrying S.stream) stream.old stream.new into.new result }
+    ensures { ReadsStream (retrying S.stream) stream.old stream.new into.new result }
 {
     for _i in 0..u64::MAX {
         match stream.read(into) {

@@ -13,9 +13,9 @@ use Rattle.dn_arc.specs.State.Bundles.{BundleFacts, meant}
 use Rattle.dn_table.specs.State.Tables.{AreArcs, GraphNeedsMore, TableLists, Stays}
 use Rattle.dn_instance.specs.Items.{arcs_of, length_arc_in, cap_arc_in, cost_arc_in, Problem, problem_of, source_in, query_in, point_in, by_key}
 use Rattle.dn_instance.specs.TextFaults.{is_companion}
-use Rattle.dn_instance.specs.State.Bodies.{Awaits, IsArcOfRow, Keeps, Took, ids_body, pairs_body, points_body, table_body, TableHolds, TakerFacts, Counts, TakesRows, TookRows}
+use Rattle.dn_instance.specs.State.Bodies.{Awaits, IsArcOfRow, Keeps, TookRow, ids_body, pairs_body, points_body, table_body, TableHolds, TakerFacts, Counts, TakesRows, TookRows}
 use Rattle.dn_instance.specs.State.ItemFaults.{AnswersFault, arc_fault, id_fault, in_graph, pair_fault, point_fault}
-use Rattle.dn_instance.specs.State.RowRuns.{line_of, row_items}
+use Rattle.dn_instance.specs.State.RowRuns.{counted_line, row_items}
 use Rattle.dn_instance.specs.declared.refusal.ItemFault.{ItemFault}
 use Rattle.dn_instance.specs.declared.refusal.ItemFault.TheVariants.{Memory}
 use Rattle.dn_instance.proofs.ValidLaws.{grown}
@@ -88,9 +88,9 @@ entries_more before p i kind h k more = inl (rw (problem_all before (i ∷ []) p
 
 pub ids_took : (nodes : ℤ) (ids ids' : Vec ℤ Global) (row : Row) (r : Result (Unit {0}) ItemFault) (before : List Line)
     → AnswersFault r (id_fault row.first) → OnOk r (ids'.items ≡ ids.items ++ row.first ∷ [])
-    → Awaits ids_body nodes ids before (line_of Kinds.Ss row ∷ []) → Took ids_body (line_of Kinds.Ss) before ids' row r
+    → Awaits ids_body nodes ids before (counted_line Kinds.Ss row ∷ []) → TookRow ids_body (counted_line Kinds.Ss) before ids' row r
 ids_took nodes ids ids' row r before ans ok a =
-    let i = line_of Kinds.Ss row in
+    let i = counted_line Kinds.Ss row in
     let more = grown source_in before i row.first refl in
     record {
       answer = record {
@@ -104,10 +104,10 @@ ids_took nodes ids ids' row r before ans ok a =
 pub pairs_took : (nodes : ℤ) (pairs pairs' : Vec (ℤ × ℤ) Global) (row : Row) (r : Result (Unit {0}) ItemFault)
     (before : List Line) → AnswersFault r (pair_fault (row.first, row.second))
     → OnOk r (pairs'.items ≡ pairs.items ++ (row.first, row.second) ∷ [])
-    → Awaits pairs_body nodes pairs before (line_of Kinds.P2p row ∷ [])
-    → Took pairs_body (line_of Kinds.P2p) before pairs' row r
+    → Awaits pairs_body nodes pairs before (counted_line Kinds.P2p row ∷ [])
+    → TookRow pairs_body (counted_line Kinds.P2p) before pairs' row r
 pairs_took nodes pairs pairs' row r before ans ok a =
-    let i = line_of Kinds.P2p row in
+    let i = counted_line Kinds.P2p row in
     let more = grown query_in before i (row.first, row.second) refl in
     record {
       answer = record {
@@ -123,11 +123,11 @@ pub points_took : (nodes : ℤ) (points points' : BTreeMap ℤ (ℤ × ℤ)) (ro
     (before : List Line)
     → AnswersFault r (point_fault (is_some (lookup (is_at (int_cmp row.first)) points.entries)) row.first)
     → OnOk r (points'.entries ≡ insert_entry int_cmp points.entries row.first (row.second, row.third))
-    → Awaits points_body nodes points before (line_of Kinds.Co row ∷ [])
-    → Took points_body (line_of Kinds.Co) before points' row r
+    → Awaits points_body nodes points before (counted_line Kinds.Co row ∷ [])
+    → TookRow points_body (counted_line Kinds.Co) before points' row r
 points_took nodes points points' row r before ans ok a =
     let id = row.first in
-    let i = line_of Kinds.Co row in
+    let i = counted_line Kinds.Co row in
     let es = filter_map point_in before in
     let found = is_some (lookup (is_at (int_cmp id)) (by_key es)) in
     let more = grown point_in before i (id, (row.second, row.third)) refl in
@@ -154,8 +154,8 @@ module _ {B Arc : Type 0} (text : Kind) (arc_in : Line → Option ((ℤ × ℤ) 
       → OnOk r (TableLists b.kind (meant b) t' (arcs_of arc_in before ++ ((row.first, row.second), arc) ∷ [])))
       → (AreArcs b.kind (arcs_of arc_in before) → r ≡ Err Memory
       → GraphNeedsMore b.kind (arcs_of arc_in before) ((row.first, row.second), arc))
-      → Awaits (table_body text arc_in b) nodes t before (line_of text row ∷ [])
-      → Took (table_body text arc_in b) (line_of text) before t' row r
+      → Awaits (table_body text arc_in b) nodes t before (counted_line text row ∷ [])
+      → TookRow (table_body text arc_in b) (counted_line text) before t' row r
   table_took nodes t t' row arc r before w ans ok out a =
       let arcs = arcs_of arc_in before in
       let says = w.faults before a.problem a.problem_is a.kind_is a.signs.0 in
@@ -170,7 +170,7 @@ module _ {B Arc : Type 0} (text : Kind) (arc_in : Line → Option ((ℤ × ℤ) 
             on_ok_from r (arc_fault b.kind nodes arcs says.is placed) found (λ f lists.
             let one = none_first (not (in_graph nodes row.first && in_graph nodes row.second)) NodeOutOfRange _ f in
             let is = not-false says.is (none_first (not says.is) LowAboveCap _ one.1).0 in
-            let more = grown arc_in before (line_of text row) placed w.in_line in
+            let more = grown arc_in before (counted_line text row) placed w.in_line in
             record {
               lists_them = rw more lists;
               are_arcs = rw more (all_end (λ x. b.kind.IsArc x.1) arcs placed a.holds.are_arcs (says.decides.0 is));
@@ -188,8 +188,8 @@ length_row row = record {
   faults = λ before p h k signs. record { is = true; decides = (λ x. tt, λ x. refl); fault = rw (h, k, and-true) };
   needs = λ before p h k more. elim more [
     | inl m ↦
-        entries_more before p (line_of Kinds.Sp row) Kinds.Sp h k
-        (rw (grown length_arc_in before (line_of Kinds.Sp row) _ refl) m)
+        entries_more before p (counted_line Kinds.Sp row) Kinds.Sp h k
+        (rw (grown length_arc_in before (counted_line Kinds.Sp row) _ refl) m)
     | inr m ↦ absurd m
   ];
   stays = length_stays;
@@ -203,8 +203,8 @@ cap_row row = record {
       record { is = true; decides = (λ x. record { some = some }, λ x. refl); fault = rw (h, k, and-true, sum) };
   needs = λ before p h k more. elim more [
     | inl m ↦
-        entries_more before p (line_of Kinds.Max row) Kinds.Max h k
-        (rw (grown cap_arc_in before (line_of Kinds.Max row) _ refl) m)
+        entries_more before p (counted_line Kinds.Max row) Kinds.Max h k
+        (rw (grown cap_arc_in before (counted_line Kinds.Max row) _ refl) m)
     | inr m ↦ absurd m
   ];
   stays = cap_stays;
@@ -229,8 +229,8 @@ cost_row row =
           };
       needs = λ before p h k more. elim more [
         | inl m ↦
-            entries_more before p (line_of Kinds.Min row) Kinds.Min h k
-            (rw (grown cost_arc_in before (line_of Kinds.Min row) _ refl) m)
+            entries_more before p (counted_line Kinds.Min row) Kinds.Min h k
+            (rw (grown cost_arc_in before (counted_line Kinds.Min row) _ refl) m)
         | inr m ↦ inr m
       ];
       stays = cost_stays;
@@ -263,8 +263,8 @@ points_part = record { is = λ t. refl; to = λ t items h. h; back = λ t items 
 module _ {T : Type 0} {facts : TakerFacts T} {put : T → AnyBody} (part : IsPart facts put) where
   -- at its own kind
   own_rows : (nodes : ℤ) (old new : T) (rows : List RowLine) (r : Taken)
-      → TakesRows facts (line_of facts.kind) nodes old new rows r
-      → TakesRows (any_body facts.kind) (line_of facts.kind) nodes (put old) (put new) rows r
+      → TakesRows facts (counted_line facts.kind) nodes old new rows r
+      → TakesRows (any_body facts.kind) (counted_line facts.kind) nodes (put old) (put new) rows r
   own_rows nodes old new rows r h before a =
       let t = h before (record {
         problem = a.problem;
@@ -283,11 +283,11 @@ module _ {T : Type 0} {facts : TakerFacts T} {put : T → AnyBody} (part : IsPar
   same_kind t kind h = sym (part.is t) ∙ h
 
   pub rows_taken : (nodes : ℤ) (old new : T) (rows : List RowLine) (r : Taken)
-      → TakesRows facts (line_of facts.kind) nodes old new rows r → (b : AnyBody) → b ≡ put old → (kind : Kind)
-      → TakesRows (any_body kind) (line_of kind) nodes b (put new) rows r
+      → TakesRows facts (counted_line facts.kind) nodes old new rows r → (b : AnyBody) → b ≡ put old → (kind : Kind)
+      → TakesRows (any_body kind) (counted_line kind) nodes b (put new) rows r
   rows_taken nodes old new rows r h b e kind =
-      rw e (λ before a. subst (λ k. Awaits (any_body k) nodes (put old) before (row_items (line_of k) rows)
-      → TookRows (any_body k) (line_of k) before (put new) rows r)
+      rw e (λ before a. subst (λ k. Awaits (any_body k) nodes (put old) before (row_items (counted_line k) rows)
+      → TookRows (any_body k) (counted_line k) before (put new) rows r)
       (same_kind old kind a.holds.0) (own_rows nodes old new rows r h before) a)
 
   pub rows_kept : (old new : T) → Keeps facts old new → (b : AnyBody) → b ≡ put old → (items : List Line)

@@ -16,7 +16,7 @@ use Rattle.dn_line.specs.State.Spelling.{kind_before, slots_of}
 use Rattle.dn_instance.specs.Items.{Problem, problem_of, problem_in, kind_known, counted, is_counted}
 use Rattle.dn_instance.specs.TextFaults.{is_arc, is_companion}
 use Rattle.dn_instance.specs.State.TextParts.{AnyBody, BodyHolds, MarksHold, body_kind}
-use Rattle.dn_instance.specs.State.RowRuns.{HasRoom}
+use Rattle.dn_instance.specs.State.RowRuns.{HasRoomFor}
 use Rattle.dn_instance.specs.State.TextsSoFar.{AwaitsRow, HasRead, HoldsBody, problem_as, text_kind}
 use Rattle.dn_instance.specs.declared.marks.Marks.{Marks}
 use Rattle.dn_instance.specs.declared.text_so_far.TextSoFar.{TextSoFar}
@@ -101,7 +101,7 @@ counted_no items i h = rw (filter-append is_counted items (i ∷ []), h, append-
 
 -- if a counted item may follow, a counted line is still to come
 pub has_due : (t : TextSoFar) (items : List Line) (i : Line) (kind : Kind) → HasRead t items → text_kind t ≡ Some kind
-    → HasRoom items i → is_counted i ≡ true → pos 1 ≤ℤ t.due
+    → HasRoomFor items i → is_counted i ≡ true → pos 1 ≤ℤ t.due
 has_due t items i kind at is room y =
     above t.due (not-false _ (sym (full_is t items at) ∙ rw (problem_agrees t items kind at is) at (room y)))
   where

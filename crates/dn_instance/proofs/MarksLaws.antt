@@ -23,7 +23,7 @@ use Rattle.dn_instance.specs.State.Bodies.{TakesRow, TableHolds}
 use Rattle.dn_instance.specs.State.TextParts.{AnyBody, BodyHolds, MarksHold, TakesMark, body_kind, marks_of}
 use Rattle.dn_instance.specs.State.TextsSoFar.{HoldsBody}
 use Rattle.dn_instance.specs.State.ItemFaults.{AnswersFault, in_graph, terminal_fault, supply_fault}
-use Rattle.dn_instance.specs.State.RowRuns.{line_of, row_items, supply_of}
+use Rattle.dn_instance.specs.State.RowRuns.{counted_line, row_items, supply_line}
 use Rattle.dn_instance.specs.declared.body.Body.TheVariants as Bodies
 use Rattle.dn_instance.specs.declared.marks.Marks.{Marks}
 use Rattle.dn_instance.specs.declared.refusal.ItemFault.{ItemFault}
@@ -50,11 +50,11 @@ pub record IsNoMark (i : Line) : Type 0 where
   pub terminal : (l : Letter) → terminal_in l i ≡ None
 
 -- the item of a counted row is no `n` line
-row_no_mark : (kind : Kind) (r : Row) → IsNoMark (line_of kind r)
+row_no_mark : (kind : Kind) (r : Row) → IsNoMark (counted_line kind r)
 row_no_mark Min r = record { supply = refl; other = λ q. refl; terminal = λ l. refl }
 row_no_mark _ r = record { supply = refl; other = λ q. refl; terminal = λ l. refl }
 
-pub rows_no_mark : (kind : Kind) (rows : List RowLine) → AllByRecursion IsNoMark (row_items (line_of kind) rows)
+pub rows_no_mark : (kind : Kind) (rows : List RowLine) → AllByRecursion IsNoMark (row_items (counted_line kind) rows)
 rows_no_mark kind [] = tt
 rows_no_mark kind (r ∷ rows) = (row_no_mark kind r.row, rows_no_mark kind rows)
 
@@ -189,7 +189,7 @@ no_item _ h = cc
 
 -- a `min` node line that the marks take has its row taken
 pub marks_took : (nodes : ℤ) (old new : Marks) (row : Row) (r : Result (Unit {0}) ItemFault)
-    → TakesMark nodes old new (supply_of row) r → TakesRow marks_of supply_of nodes old new row r
+    → TakesMark nodes old new (supply_line row) r → TakesRow marks_of supply_line nodes old new row r
 marks_took nodes old new row r takes before a =
     let t = takes before a.problem a.problem_is (ap is_companion a.kind_is) a.nodes_are a.holds in
     record { answer = record { fault = t.0; memory = λ out. inr tt }; holds = t.1 }

@@ -4,7 +4,7 @@ use Rattle.std.proofs.lemmas.Bool.{ltb-true, cases_Bool}
 use Rattle.std.proofs.lemmas.List.{length-drop}
 use Rattle.std.specs.List.{position_or_len, before_first, list_all}
 use Rattle.dn_line.specs.Pieces.{parts, has_bytes, if_any, lines, is_line_feed}
-use Rattle.dn_line.specs.State.LineStates.{LineSoFar, has_end, used_of, last_of, line_of, is_inner}
+use Rattle.dn_line.specs.State.LineStates.{LineSoFar, has_end, used_of, last_of, last_line, is_inner}
 use Rattle.dn_line.proofs.PartsLaws.{Parts, parts_run, parts_end, parts_push}
 use Rattle.dn_line.proofs.LineReaderLaws.{ended_push}
 use Rattle.dn_line.proofs.LineEndLaws.{line_ends, line_before, line_used}
@@ -25,7 +25,7 @@ ends_at t piece e =
     ∙ ap (λ (q : Parts). let r : Parts = (q.0 ++ q.1 ∷ [], []) in r) (parts_run is_line_feed t piece))
 
 pub ended_then : (t piece : List ℕ) → has_end piece ≡ true
-    → ended (t ++ take (used_of piece) piece) ≡ ended t ++ (line_of (t ++ take (used_of piece) piece)).bytes ∷ []
+    → ended (t ++ take (used_of piece) piece) ≡ ended t ++ (last_line (t ++ take (used_of piece) piece)).bytes ∷ []
 ended_then t piece e =
     closes (parts is_line_feed (t ++ take (used_of piece) piece)) (ended t)
     (open_of t ++ before_first is_line_feed piece) (ends_at t piece e)

@@ -5,12 +5,12 @@ use Rattle.std.proofs.lemmas.Bool.{cases_Bool, cases_eq, ne_eqb}
 use Rattle.std.specs.List.{AllByRecursion, list_any}
 use Rattle.std.proofs.Math.Seq.{drop-append_seam, take-append_seam}
 use Rattle.dn_line.specs.Faults.{first_fault}
-use Rattle.dn_line.specs.LineTable.{row}
+use Rattle.dn_line.specs.LineTable.{fields_of}
 use Rattle.dn_line.specs.Reading.{item}
 use Rattle.dn_line.specs.State.Numbers.{number_word}
 use Rattle.dn_line.specs.State.LineReads.{head_of, head_read}
 use Rattle.dn_line.specs.State.RowBlocks.{IsRowLine, ReadUpTo, last_left}
-use Rattle.dn_line.specs.State.Rows.{FieldsFit, letter_byte, numbers_of}
+use Rattle.dn_line.specs.State.Rows.{FieldsFit, letter_byte, row_numbers}
 use Rattle.dn_line.specs.Words.{is_skip, said_words}
 use Rattle.dn_line.specs.declared.kind.Kind.{Kind}
 use Rattle.dn_line.specs.declared.kind.Kind.TheVariants.{Min, Max, Sp, Ss, P2p, Co}
@@ -28,7 +28,7 @@ use Rattle.dn_instance.specs.Items.{Problem, counted, kind_known, problem_of}
 use Rattle.dn_instance.specs.State.Bodies.{StopsAtRow}
 use Rattle.dn_instance.specs.declared.body.Taken.{Taken}
 use Rattle.dn_instance.specs.declared.refusal.ItemFault.{ItemFault}
-use Rattle.dn_instance.specs.State.RowRuns.{AreFaultless, AreInTime, HasSigns, IsInTime, IsRowHead, line_of, row_items, row_line, run_head, supply_of}
+use Rattle.dn_instance.specs.State.RowRuns.{AreFaultless, AreInTime, HasSigns, IsInTime, IsRowHead, counted_line, row_items, row_line, run_head, supply_line}
 use Rattle.dn_instance.specs.State.TextsSoFar.{AreInner, HasRead, ReadsRows, RefusesRow, TextAt, closed_lines, next_read}
 use Rattle.dn_instance.specs.TextFaults.{is_arc, is_counted_letter, is_full, is_node_letter, item_tests}
 use Rattle.dn_instance.specs.Texts.{IsClean, items_of, with_next}
@@ -52,7 +52,7 @@ record IsLetterOf (key : Keyword) (i : Line) : Type 0 where
 
 -- the letter is that of the item, and the numbers of a row make the item
 abbrev SpellsItem : Kind → Keyword → Line → Row → List Field → Type 0
-SpellsItem kind key i r fields = IsLetterOf key i × (item kind key (map number_word (numbers_of (length fields) r)) ≡ i)
+SpellsItem kind key i r fields = IsLetterOf key i × (item kind key (map number_word (row_numbers (length fields) r)) ≡ i)
 
 field_list : {a b : List Field} → Some a ≡ Some b → a ≡ b
 field_list e = cc
@@ -67,9 +67,9 @@ counted_letter Key.V i h t = record { some = λ e. cc; in_order_after = λ b e. 
 counted_letter _ i h t = cc
 
 -- a line of numbers of the table is counted, unless it is a `min` node line
-by_table : (kind : Kind) (key : Keyword) (r : Row) (fields : List Field) → row kind key ≡ Some fields
-    → FieldsFit fields (numbers_of (length fields) r) → (kind ≡ Min → key ≡ Key.N → ⊥)
-    → SpellsItem kind key (line_of kind r) r fields
+by_table : (kind : Kind) (key : Keyword) (r : Row) (fields : List Field) → fields_of kind key ≡ Some fields
+    → FieldsFit fields (row_numbers (length fields) r) → (kind ≡ Min → key ≡ Key.N → ⊥)
+    → SpellsItem kind key (counted_line kind r) r fields
 by_table Min Key.N r fields h fit n = absurd (n refl refl)
 by_table Max Key.N r fields h fit n = let f = rw (← field_list h) at fit in cc f.1.0
 by_table Min Key.A r fields h fit n = rw (← field_list h) (counted_letter Key.A _ refl (λ before t. t), refl)
@@ -100,21 +100,21 @@ made kind byte bytes rest r i l m = record {
   reads = rw m.1 at (row_item kind byte l.fields bytes rest r.row l.in_table l.begins);
 }
 
-pub counted_rows : (kind : Kind) (byte : ℕ) → (kind ≡ Min → byte ≡ 110 → ⊥) → SpellsRows kind byte (line_of kind)
+pub counted_rows : (kind : Kind) (byte : ℕ) → (kind ≡ Min → byte ≡ 110 → ⊥) → SpellsRows kind byte (counted_line kind)
 counted_rows kind byte other = record {
-  reads = λ bytes rest r l. made kind byte bytes rest r (line_of kind r.row) l
+  reads = λ bytes rest r l. made kind byte bytes rest r (counted_line kind r.row) l
       (by_table kind l.in_table.key r.row l.fields l.in_table.row_is l.begins.fit
       (λ min n. other min (cc (rw n at l.in_table.byte_is))));
   first = early kind;
 }
   where
-    early : (kind : Kind) (r : Row) → IsInTime (Graph kind (pos 0) (pos 1) ∷ []) (line_of kind r)
+    early : (kind : Kind) (r : Row) → IsInTime (Graph kind (pos 0) (pos 1) ∷ []) (counted_line kind r)
     early Min r = refl
     early _ r = refl
 
-pub supply_rows : (byte : ℕ) → byte ≡ 110 → SpellsRows Min byte supply_of
+pub supply_rows : (byte : ℕ) → byte ≡ 110 → SpellsRows Min byte supply_line
 supply_rows byte e = record {
-  reads = λ bytes rest r l. made Min byte bytes rest r (supply_of r.row) l
+  reads = λ bytes rest r l. made Min byte bytes rest r (supply_line r.row) l
       (of_n l.in_table.key (only_n l.in_table.key (l.in_table.byte_is ∙ ap Some e)) l.fields l.in_table.row_is r.row);
   first = λ r. refl;
 }
@@ -130,8 +130,8 @@ supply_rows byte e = record {
     only_n Key.V h = absurd (let e : 118 ≡ 110 = byte_is h in omega arith)
     only_n _ h = cc
 
-    of_n : (key : Keyword) → key ≡ Key.N → (fields : List Field) → row Min key ≡ Some fields → (r : Row)
-        → SpellsItem Min key (supply_of r) r fields
+    of_n : (key : Keyword) → key ≡ Key.N → (fields : List Field) → fields_of Min key ≡ Some fields → (r : Row)
+        → SpellsItem Min key (supply_line r) r fields
     of_n key n fields h r =
         rw (n, ← field_list (rw n at h))
         (record { some = λ e. cc; in_order_after = λ before e. record { early = e; room = refl } }, refl)

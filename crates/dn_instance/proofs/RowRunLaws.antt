@@ -20,16 +20,16 @@ use Rattle.dn_line.specs.declared.line.Line.{Line}
 use Rattle.dn_line.specs.declared.line.Line.TheVariants as Item
 use Rattle.dn_line.specs.declared.row.Row.{Row}
 use Rattle.dn_line.specs.declared.row_block.RowLine.{RowLine}
-use Rattle.dn_instance.specs.State.RowRuns.{AreFaultless, AreInTime, HasSigns, IsInTime, IsRowHead, Joins, counted_head, line_of, row_items, row_line, supply_of}
+use Rattle.dn_instance.specs.State.RowRuns.{AreFaultless, AreInTime, HasSigns, IsInTime, IsRowHead, Joins, counted_head, counted_line, row_items, row_line, supply_line}
 use Rattle.dn_instance.specs.State.TextParts.{AnyBody, BodyHolds, TakesMark, any_body, body_kind, marks_of}
 use Rattle.dn_instance.specs.Items.{Problem, counted, is_counted, problem_in, problem_of}
-use Rattle.dn_instance.specs.State.TextsSoFar.{AwaitsRow, HasRead, IsOfRun, RoomFor, TakesRowOf, problem_as, text_kind, text_of}
+use Rattle.dn_instance.specs.State.TextsSoFar.{AwaitsRow, HasRead, IsOfRun, RoomFor, TakesRowOf, problem_as, text_kind, text_taker}
 use Rattle.dn_instance.specs.TextFaults.{is_arc, is_companion, is_full, item_tests}
 use Rattle.dn_instance.specs.declared.marks.Marks.{Marks}
 use Rattle.dn_instance.specs.declared.text_so_far.TextSoFar.{TextSoFar}
 use Rattle.dn_instance.proofs.MarksLaws.{marks_kept, rows_no_mark}
 use Rattle.dn_instance.proofs.ItemSteps.{body_read, counted_yes, has_due, marks_read, kind_agrees, kind_of_item, problem_agrees, problem_all}
-use Rattle.dn_instance.specs.State.Bodies.{AnswersItem, Awaits, TakerFacts, StopsAtRow, TakesRows, Took, TookRows}
+use Rattle.dn_instance.specs.State.Bodies.{AnswersItem, Awaits, TakerFacts, StopsAtRow, TakesRows, TookRow, TookRows}
 use Rattle.dn_instance.specs.declared.body.Taken.{Taken}
 use Rattle.dn_instance.specs.declared.refusal.ItemFault.{ItemFault}
 use Rattle.dn_instance.specs.declared.refusal.ItemFault.TheVariants as ItemFaults
@@ -62,33 +62,33 @@ sign_at line (r ∷ rows) zero d h s = s.0
 sign_at line (r ∷ rows) (suc i) d h s = sign_at line rows i d (omega arith) s.1
 
 -- the item of a row is counted
-pub one_counted : (kind : Kind) (r : RowLine) → is_counted (line_of kind r.row) ≡ true
+pub one_counted : (kind : Kind) (r : RowLine) → is_counted (counted_line kind r.row) ≡ true
 one_counted Min r = refl
 one_counted _ r = refl
 
-one_arc : (kind : Kind) (r : RowLine) → is_companion kind ≡ false → is_arc (line_of kind r.row) ≡ true
+one_arc : (kind : Kind) (r : RowLine) → is_companion kind ≡ false → is_arc (counted_line kind r.row) ≡ true
 one_arc Min r c = refl
 one_arc Max r c = refl
 one_arc Sp r c = refl
 one_arc _ r c = cc
 
-all_counted : (kind : Kind) (rows : List RowLine) → counted (row_items (line_of kind) rows) ≡ length rows
+all_counted : (kind : Kind) (rows : List RowLine) → counted (row_items (counted_line kind) rows) ≡ length rows
 all_counted kind [] = refl
 all_counted kind (r ∷ rows) = rw (one_counted kind r, all_counted kind rows)
 
 -- a counted item comes in time if there are fewer counted lines than declared
 counted_in_time : (kind : Kind) (before : List Line) (r : RowLine)
-    → is_full (problem_of before) (counted before) ≡ false → IsInTime before (line_of kind r.row)
+    → is_full (problem_of before) (counted before) ≡ false → IsInTime before (counted_line kind r.row)
 counted_in_time Min before r h = h
 counted_in_time _ before r h = h
 
 -- rows come in time if they are at most as many as are still declared
 pub come_in_time : (kind : Kind) (rows : List RowLine) (before : List Line) (p : Problem) → problem_of before ≡ Some p
     → (0 < length rows → pos (counted before + length rows) ≤ℤ p.count)
-    → AreInTime before (row_items (line_of kind) rows)
+    → AreInTime before (row_items (counted_line kind) rows)
 come_in_time kind [] before p h m = tt
 come_in_time kind (r ∷ rows) before p h m =
-    let i = line_of kind r.row in (
+    let i = counted_line kind r.row in (
       counted_in_time kind before r (rw h (below (counted before) (length rows) p.count (m (omega arith)))),
       come_in_time kind rows (before ++ i ∷ []) p (problem_all before (i ∷ []) p h)
           (λ _.
@@ -104,11 +104,11 @@ come_in_time kind (r ∷ rows) before p h m =
 
 -- `min` node lines come in time before any arc
 pub supplies_in_time : (rows : List RowLine) (before : List Line) → list_any is_arc before ≡ false
-    → AreInTime before (row_items supply_of rows)
+    → AreInTime before (row_items supply_line rows)
 supplies_in_time [] before h = tt
 supplies_in_time (r ∷ rows) before h = (
   h,
-  supplies_in_time rows (before ++ supply_of r.row ∷ []) (rw (list_any-append is_arc before (supply_of r.row ∷ []), h)),
+  supplies_in_time rows (before ++ supply_line r.row ∷ []) (rw (list_any-append is_arc before (supply_line r.row ∷ []), h)),
 )
 
 -- the first m of some items come in time, and those after them after these
@@ -122,22 +122,22 @@ in_time_split line (r ∷ rows) (suc m) before h =
     let s = in_time_split line rows m (before ++ line r.row ∷ []) h.1 in ((h.0, s.0), rw append_assoc at s.1)
 
 rows_arcs : (kind : Kind) (rows : List RowLine) → is_companion kind ≡ false
-    → list_any is_arc (row_items (line_of kind) rows) ≡ int_lt (pos 0) (pos (counted (row_items (line_of kind) rows)))
+    → list_any is_arc (row_items (counted_line kind) rows) ≡ int_lt (pos 0) (pos (counted (row_items (counted_line kind) rows)))
 rows_arcs kind [] g = refl
 rows_arcs kind (r ∷ rows) g = rw (one_arc kind r g, one_counted kind r) (above _)
   where
     above : (k : ℕ) → true ≡ int_lt (pos 0) (pos (suc k))
     above k = grind (arith, ints, nat_tests)
 
-none_counted : (rows : List RowLine) → filter is_counted (row_items supply_of rows) ≡ []
+none_counted : (rows : List RowLine) → filter is_counted (row_items supply_line rows) ≡ []
 none_counted [] = refl
 none_counted (r ∷ rows) = none_counted rows
 
-no_arcs : (rows : List RowLine) → list_any is_arc (row_items supply_of rows) ≡ false
+no_arcs : (rows : List RowLine) → list_any is_arc (row_items supply_line rows) ≡ false
 no_arcs [] = refl
 no_arcs (r ∷ rows) = no_arcs rows
 
-none_free : (rows : List RowLine) → AllByRecursion (λ i. is_counted i ≡ false) (row_items supply_of rows)
+none_free : (rows : List RowLine) → AllByRecursion (λ i. is_counted i ≡ false) (row_items supply_line rows)
 none_free [] = tt
 none_free (r ∷ rows) = (refl, none_free rows)
 
@@ -164,7 +164,7 @@ module _ {T : Type 0} (taker : TakerFacts T) (line : Row → Line) (nodes : ℤ)
 
   pub one_more : (now new : T) (i : ℕ) (d : RowLine) (r : Result (Unit {0}) ItemFault) (x : Unit {0}) → r ≡ Ok x
       → i < length rows → Joins taker.Holds before now (row_items line (take i rows))
-      → Took taker line (before ++ row_items line (take i rows)) new (get_or rows i d).row r
+      → TookRow taker line (before ++ row_items line (take i rows)) new (get_or rows i d).row r
       → Joins taker.Holds before new (row_items line (take (i + 1) rows))
   one_more now new i d r x e h j t =
       let ok = rw e at t in
@@ -173,11 +173,11 @@ module _ {T : Type 0} (taker : TakerFacts T) (line : Row → Line) (nodes : ℤ)
 
   pub stopped : (now new : T) (i : ℕ) (d : RowLine) (r : Result (Unit {0}) ItemFault) (e : ItemFault) → r ≡ Err e
       → i < length rows → Joins taker.Holds before now (row_items line (take i rows))
-      → Took taker line (before ++ row_items line (take i rows)) new (get_or rows i d).row r
+      → TookRow taker line (before ++ row_items line (take i rows)) new (get_or rows i d).row r
       → taker.Holds new (before ++ row_items line (take i rows))
       → TookRows taker line before new rows (record { rows = i; fault = Some e })
   stopped now new i d r e is h j t kept =
-      let err = subst (Took taker line (before ++ row_items line (take i rows)) new (get_or rows i d).row) is t in
+      let err = subst (TookRow taker line (before ++ row_items line (take i rows)) new (get_or rows i d).row) is t in
       record {
         joins = record { faultless = j.faultless; holds = kept };
         stops = at_row (before ++ row_items line (take i rows)) rows i h err.answer;
@@ -200,9 +200,9 @@ not_node _ e = cc
 
 -- rows of `min` node lines have been taken
 pub marks_run : (t : TextSoFar) (h : Marks) (kind : Kind) (head : Head) (rows : List RowLine) (r : Taken)
-    → head ≡ Heads.Node → IsRowHead kind head → TakesRows marks_of supply_of t.nodes t.marks h rows r
-    → (before : List Line) → Awaits (text_of kind) t.nodes t before (row_items (row_line kind head) rows)
-    → TookRows (text_of kind) (row_line kind head) before (record t { marks = h }) rows r
+    → head ≡ Heads.Node → IsRowHead kind head → TakesRows marks_of supply_line t.nodes t.marks h rows r
+    → (before : List Line) → Awaits (text_taker kind) t.nodes t before (row_items (row_line kind head) rows)
+    → TookRows (text_taker kind) (row_line kind head) before (record t { marks = h }) rows r
 marks_run t h kind head rows r node is takes = elim is [
   | inl e ↦ rw (e.0, e.1) (λ before a.
       let took = takes before (record {
@@ -219,7 +219,7 @@ marks_run t h kind head rows r node is takes = elim is [
           faultless = took.joins.faultless;
           holds = (
             a.holds.0,
-            marks_read t h before (row_items supply_of first) Min a.holds.1 a.holds.0 (none_free first)
+            marks_read t h before (row_items supply_line first) Min a.holds.1 a.holds.0 (none_free first)
                 (none_counted first) (no_arcs first) took.joins.holds,
           );
         };
@@ -231,10 +231,10 @@ marks_run t h kind head rows r node is takes = elim is [
 -- rows of counted lines have been taken
 pub body_run : (t : TextSoFar) (b b' : AnyBody) (kind : Kind) (head : Head) (rows : List RowLine) (r : Taken) (d : ℤ)
     → t.body ≡ Some b → (head ≡ Heads.Node → ⊥) → IsRowHead kind head → r.rows ≤ length rows
-    → TakesRows (any_body kind) (line_of kind) t.nodes b b' rows r → body_kind b' ≡ body_kind b
+    → TakesRows (any_body kind) (counted_line kind) t.nodes b b' rows r → body_kind b' ≡ body_kind b
     → d ≡ t.due -ℤ pos r.rows → pos 0 ≤ℤ d
-    → (before : List Line) → Awaits (text_of kind) t.nodes t before (row_items (row_line kind head) rows)
-    → TookRows (text_of kind) (row_line kind head) before (record t { due = d; body = Some b' }) rows r
+    → (before : List Line) → Awaits (text_taker kind) t.nodes t before (row_items (row_line kind head) rows)
+    → TookRows (text_taker kind) (row_line kind head) before (record t { due = d; body = Some b' }) rows r
 body_run t b b' kind head rows r d body counts is within takes same due some = elim is [
   | inl e ↦ absurd (counts e.0)
   | inr e ↦ rw e (λ before a.
@@ -248,7 +248,7 @@ body_run t b b' kind head rows r d body counts is within takes same due some = e
         holds = (own, rw body at a.holds.1.body_holds);
       }) in
       let first = take r.rows rows in
-      let items = row_items (line_of kind) first in
+      let items = row_items (counted_line kind) first in
       let long : counted items ≡ r.rows = all_counted kind first ∙ length-take-le r.rows rows within in
       record {
         joins = record {
@@ -332,11 +332,11 @@ row_head_is _ _ row h p n = cc
 -- a run of the row of the next line
 pub took_one : (t u : TextSoFar) (head : Head) (row : Row) (k : Taken)
     → (let line : RowLine = record { row = row; left = 0 } in (kind : Kind) (before : List Line) → IsRowHead kind head
-    → RoomFor head (line ∷ []) t → Awaits (text_of kind) t.nodes t before (row_items (row_line kind head) (line ∷ []))
-    → TookRows (text_of kind) (row_line kind head) before u (line ∷ []) k) → IsOfRun t head → (before : List Line)
+    → RoomFor head (line ∷ []) t → Awaits (text_taker kind) t.nodes t before (row_items (row_line kind head) (line ∷ []))
+    → TookRows (text_taker kind) (row_line kind head) before u (line ∷ []) k) → IsOfRun t head → (before : List Line)
     → AwaitsRow t before (item_of_row head (text_kind t) row)
     → (kind : Kind) × (text_kind t ≡ Some kind)
-    × TookRows (text_of kind) (row_line kind head) before u (record { row = row; left = 0 } ∷ []) k
+    × TookRows (text_taker kind) (row_line kind head) before u (record { row = row; left = 0 } ∷ []) k
 took_one t u head row k takes run before a = by own.0 own.1
   where
     i : Line
@@ -346,7 +346,7 @@ took_one t u head row k takes run before a = by own.0 own.1
     own = kind_of_item i (row_no_problem head (text_kind t) row run.no_problem) a.may.spelled
 
     by : (kind : Kind) → kind_before i ≡ Some kind → (kind : Kind) × (text_kind t ≡ Some kind)
-        × TookRows (text_of kind) (row_line kind head) before u (record { row = row; left = 0 } ∷ []) k
+        × TookRows (text_taker kind) (row_line kind head) before u (record { row = row; left = 0 } ∷ []) k
     by kind of =
         let is : text_kind t ≡ Some kind = sym (kind_agrees t before a.read) ∙ a.may.kind_is ∙ of in
         let row_is : IsRowHead kind head =
@@ -386,12 +386,12 @@ terminal_read t h head row r node is takes never = rw (node, is) (λ before a.
 -- a run of one row
 module _ {T : Type 0} (taker : TakerFacts T) (line : Row → Line) (before : List Line) (held : T) (row : RowLine)
     (t : Taken) (took : TookRows taker line before held (row ∷ []) t) where
-  pub one_refused : (f : ItemFault) → t.fault ≡ Some f → t.rows < 1 → Took taker line before held row.row (Err f)
+  pub one_refused : (f : ItemFault) → t.fault ≡ Some f → t.rows < 1 → TookRow taker line before held row.row (Err f)
   one_refused f is few =
       let zero : t.rows ≡ 0 = omega arith in
       record { answer = rw (is, zero, append-nil before) at took.stops; holds = tt }
 
-  pub one_taken : t.fault ≡ None → t.rows ≤ 1 → Took taker line before held row.row (Ok tt)
+  pub one_taken : t.fault ≡ None → t.rows ≤ 1 → TookRow taker line before held row.row (Ok tt)
   one_taken is few = elim (cases_eq t.rows 0) [
     | inl none ↦ cc (rw (is, none) at took.stops)
     | inr some ↦

@@ -12,7 +12,7 @@ use Rattle.dn_instance.specs.declared.reader.Reader.{Reader}
 use Rattle.dn_instance.specs.declared.refusal.Refusal.{Refusal}
 use Rattle.dn_instance.specs.declared.refusal.Refusal.TheVariants.{Text, Memory, Read, Endless, Write, CountTooLarge}
 use Rattle.dn_instance.specs.Readers.{ended, WantsMemory}
-use Rattle.dn_instance.specs.State.ReaderResults.{IsRefused, Outcome, answer_of}
+use Rattle.dn_instance.specs.State.ReaderResults.{IsRefused, Outcome, fed_answer}
 use Rattle.dn_instance.specs.SourceReads.{AfterPulls, CleanSoFar, GaveLast, PulledWhileClean, RanOut, after_pulls}
 use Rattle.dn_instance.specs.State.FedSources.{IsFedAll}
 use Rattle.dn_instance.specs.State.SourceResults.{StopsInPiece, StopsAt, SourceLeft, SourceOutcome, Copied, CopyOutcome, HoldsCopied, HoldsKept, HoldsSome, IsFed, IsKept, KeptOutcome}
@@ -66,7 +66,7 @@ given_rest (Some t) (Some rest) given P c f = f t rest c refl
 pub refused_unread : (n : ℕ) (ls : List (List ℕ)) (e : Refusal) → IsRefused n ls e → e ≡ Read → ⊥
 refused_unread n ls e h is = rw is at h
 
-pub not_refused : (o : Option Refusal) → Ok tt ≡ answer_of o → o ≡ None
+pub not_refused : (o : Option Refusal) → Ok tt ≡ fed_answer o → o ≡ None
 not_refused None e = refl
 not_refused (Some x) e = cc
 
@@ -165,7 +165,7 @@ module _ {S : Type 0} (source : SourceFacts S) (old before : S) (r : Reader) (fe
         }))
 
 -- the outcome of a source whose bytes a reader has read
-pub fed_all : {S : Type 0} (source : SourceFacts S) (old new : S) (r : Reader) (given : List ℕ) (a : Result Held Refusal)
+pub fed_all : {S : Type 0} (source : SourceFacts S) (old new : S) (r : Reader) (given : List ℕ) (a : Result Parsed Refusal)
     → IsFedAll source old new r given → Outcome given a
     → (a ≡ Err Memory → WantsMemory (length (ended given)) (lines given))
     → IfSome (source.gives old) (λ t. SourceOutcome t (after_pulls source old new) a)

@@ -6,7 +6,7 @@ ghost use Rattle.dn_line.specs.declared.line.Line.{Line};
 ghost use Rattle.dn_line.specs.declared.row.Row.{Row};
 ghost use Rattle.dn_instance.specs.Items.{length_arc_in, cap_arc_in, cost_arc_in};
 ghost use Rattle.dn_instance.specs.EntryCount.{entries_as};
-ghost use Rattle.dn_instance.specs.State.RowRuns.{line_of};
+ghost use Rattle.dn_instance.specs.State.RowRuns.{counted_line};
 ghost use Rattle.dn_instance.specs.State.TextParts.{BodyHolds, IsSorted, any_body, body_kind};
 ghost use Rattle.dn_instance.specs.State.Bodies.{IsArcOfRow, Keeps, TakerFacts, TakesRow, TakesRows, ids_body, pairs_body, points_body, table_body};
 
@@ -75,7 +75,7 @@ pub(crate) fn take_rows<T: RowTaker>(
 impl RowTaker for Vec<i64> {
     ghost taker = { ids_body };
 
-    ghost line = { line_of Ss };
+    ghost line = { counted_line Ss };
 
     fn take(&mut self, _alloc: Global, _nodes: &i64, row: &Row) -> Result<(), ItemFault> {
         take_source(self, &row.first)
@@ -85,7 +85,7 @@ impl RowTaker for Vec<i64> {
 impl RowTaker for Vec<(i64, i64)> {
     ghost taker = { pairs_body };
 
-    ghost line = { line_of P2p };
+    ghost line = { counted_line P2p };
 
     fn take(&mut self, _alloc: Global, _nodes: &i64, row: &Row) -> Result<(), ItemFault> {
         take_query(self, (row.first, row.second))
@@ -95,7 +95,7 @@ impl RowTaker for Vec<(i64, i64)> {
 impl RowTaker for BTreeMap<i64, (i64, i64)> {
     ghost taker = { points_body };
 
-    ghost line = { line_of Co };
+    ghost line = { counted_line Co };
 
     fn take(&mut self, _alloc: Global, _nodes: &i64, row: &Row) -> Result<(), ItemFault> {
         take_point(self, &row.first, (row.second, row.third))
@@ -118,7 +118,7 @@ pub(crate) trait RowBundle: Bundle {
 impl<B: RowBundle> RowTaker for TableSoFar<B> {
     ghost taker = { table_body B.text B.arc_in B.bundle };
 
-    ghost line = { line_of B.text };
+    ghost line = { counted_line B.text };
 
     #[inline(always)]
     fn take(&mut self, alloc: Global, nodes: &i64, row: &Row) -> Result<(), ItemFault> {
@@ -218,7 +218,7 @@ impl Body<TableSoFar<Curve>, TableSoFar<Total>, TableSoFar<Least>> {
     // Takes rows one after another, up to the first that has a fault or for which an allocation fails.
     pub(crate) fn take_rows(&mut self, alloc: Global, nodes: &i64, rows: &[RowLine]) -> Taken
         ensures taken { (kind : Kind)
-            → TakesRows (any_body kind) (line_of kind) nodes.now self.old self.new rows.now result }
+            → TakesRows (any_body kind) (counted_line kind) nodes.now self.old self.new rows.now result }
         ensures unchanged { result.rows ≡ 0
             → (items : List Line) → BodyHolds self.old items → BodyHolds self.new items }
         ensures within { MatchOption result.fault (result.rows ≤ length rows.now)

@@ -2,7 +2,7 @@
 ghost use Rattle.std.specs.Prelude.{◌≡◌, List, [], OnErr, Err};
 ghost use Rattle.dn_line.specs.declared.line.Line.{Line};
 ghost use Rattle.dn_line.specs.declared.line.Line.TheVariants.{Supply, Terminal};
-ghost use Rattle.dn_instance.specs.State.RowRuns.{supply_of};
+ghost use Rattle.dn_instance.specs.State.RowRuns.{supply_line};
 ghost use Rattle.dn_instance.specs.State.TextParts.{MarksHold, TakesMark, marks_of, terminals_of};
 
 use crate::body::RowTaker;
@@ -76,7 +76,7 @@ impl Marks {
 impl RowTaker for Marks {
     ghost taker = { marks_of };
 
-    ghost line = { supply_of };
+    ghost line = { supply_line };
 
     fn take(&mut self, _alloc: Global, nodes: &i64, row: &Row) -> Result<(), ItemFault> {
         self.take_supply(nodes, &row.first, &row.second)

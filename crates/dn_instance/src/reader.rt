@@ -2,8 +2,8 @@
 ghost use Rattle.std.specs.Prelude.{◌≡◌, ◌≤◌, ℕ, ◌+◌, List, [], ◌++◌, length, take, drop, Some, None, Err, ◌<◌, IfOk, MatchResult};
 ghost use Rattle.dn_line.specs.State.LineStates.{LineSoFar, LineReaderAt, used_of};
 ghost use Rattle.dn_line.specs.Pieces.{lines};
-ghost use Rattle.dn_instance.specs.State.ReaderResults.{Fed, Outcome, refusal_of, answer_of};
-ghost use Rattle.dn_instance.specs.State.ReaderStates.{ReaderAt, IsReading, Takes, Advances, CountsBefore, CountsRead, Steps, WantsAtEnd, WantsInPiece};
+ghost use Rattle.dn_instance.specs.State.ReaderResults.{Fed, Outcome, refusal_of, fed_answer};
+ghost use Rattle.dn_instance.specs.State.ReaderStates.{ReaderAt, IsReading, TakesLine, Advances, CountsBefore, CountsRead, Steps, WantsAtEnd, WantsInPiece};
 ghost use Rattle.dn_instance.specs.State.LineRefusals.{refused_at};
 ghost use Rattle.dn_instance.specs.State.TextsSoFar.{TextAt};
 
@@ -36,10 +36,10 @@ impl Reader {
         }
     }
 
-    // Takes the line that the line reader represents, or keeps and returns its refusal.
+    // TakesLine the line that the line reader represents, or keeps and returns its refusal.
     fn close(&mut self) -> Result<(), Refusal>
         ensures taken { (ls : List (List ℕ)) (l : LineSoFar) → TextAt self.old.text ls → LineReaderAt self.old.line l
-            → Takes self.new ls l.bytes result }
+            → TakesLine self.new ls l.bytes result }
         ensures line { self.new.line ≡ self.old.line }
         ensures refusal { MatchResult result (λ x. refusal_of self.new ≡ refusal_of self.old)
             (λ e. refusal_of self.new ≡ Some e) }
@@ -63,7 +63,7 @@ impl Reader {
         refusal
     }
 
-    // Takes a piece up to and including its first LF, or all of it if there is no LF. Returns how many bytes it takes.
+    // TakesLine a piece up to and including its first LF, or all of it if there is no LF. Returns how many bytes it takes.
     fn step(&mut self, piece: &[u8]) -> Result<usize, Refusal>
         requires { 0 < length piece.now }
         ensures used { IfOk result (λ n. n ≡ used_of piece.now) }
@@ -107,7 +107,7 @@ impl Reader {
         self.step(piece)
     }
 
-    /// Takes the next piece of the text.
+    /// TakesLine the next piece of the text.
     ///
     /// # Errors
     ///
@@ -118,7 +118,7 @@ impl Reader {
         ensures stands { (t : List ℕ) → ReaderAt self.old t → ReaderAt self.new (t ++ piece.now) }
         ensures fed { (t : List ℕ) → ReaderAt self.old t → Fed (t ++ piece.now) result }
         ensures memory { WantsInPiece self.old self.new piece.now result }
-        ensures answer { result ≡ answer_of (refusal_of self.new) }
+        ensures answer { result ≡ fed_answer (refusal_of self.new) }
         ensures again { (e : Refusal) → refusal_of self.old ≡ Some e → self.new ≡ self.old }
     {
         if let Some(refusal) = self.refusal {
@@ -144,7 +144,7 @@ impl Reader {
         self.text.entries()
     }
 
-    /// Takes a last line without an LF, then the end of the text, and returns the parsed instance of the whole text.
+    /// TakesLine a last line without an LF, then the end of the text, and returns the parsed instance of the whole text.
     ///
     /// # Errors
     ///

@@ -20,7 +20,7 @@ ghost use Rattle.dn_instance.specs.Readers.{SpellsNeed};
 ghost use Rattle.dn_instance.specs.State.ItemFaults.{AnswersFault};
 ghost use Rattle.dn_instance.specs.Texts.{items_of, with_next};
 ghost use Rattle.dn_instance.specs.State.RowRuns.{IsRowHead, row_items, row_line, run_head};
-ghost use Rattle.dn_instance.specs.State.TextsSoFar.{AwaitsRow, HasRead, IsOfRun, NextRead, fault_next, TakesRowOf, TextAt, ReadsRows, RoomFor, text_kind, text_of};
+ghost use Rattle.dn_instance.specs.State.TextsSoFar.{AwaitsRow, HasRead, IsOfRun, NextRead, fault_next, TakesRowOf, TextAt, ReadsRows, RoomFor, text_kind, text_taker};
 
 use crate::body::{Body, Taken, take_rows};
 use crate::held::Held;
@@ -163,8 +163,8 @@ impl TextSoFar {
     // fails.
     fn take_run(&mut self, alloc: Global, head: Head, rows: &[RowLine]) -> Taken
         ensures taken { (kind : Kind) (before : List Line) → IsRowHead kind head → RoomFor head rows.now self.old
-            → Awaits (text_of kind) self.old.nodes self.old before (row_items (row_line kind head) rows.now)
-            → TookRows (text_of kind) (row_line kind head) before self.new rows.now result }
+            → Awaits (text_taker kind) self.old.nodes self.old before (row_items (row_line kind head) rows.now)
+            → TookRows (text_taker kind) (row_line kind head) before self.new rows.now result }
         ensures unchanged { result.rows ≡ 0 → (before : List Line) → HasRead self.old before → HasRead self.new before }
         ensures within { MatchOption result.fault (result.rows ≤ length rows.now)
             (λ f. result.rows < length rows.now) }

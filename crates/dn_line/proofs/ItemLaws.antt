@@ -1,5 +1,5 @@
 -- The row of the words of a line has the item that the words spell.
-use Rattle.std.proofs.Common.{◌≡◌, inl, inr, ℤ, List, [], ◌∷◌, ◌<◌, cond, Option, Some, None, Ok, refl, sym, ap, ◌∙◌, pos, arith, to_z, of_z, w64}
+use Rattle.std.proofs.Common.{◌≡◌, inl, inr, ℤ, List, [], ◌∷◌, ◌<◌, cond, Option, Some, None, Ok, refl, ap, ◌∙◌, arith, to_z, of_z, w64}
 use Rattle.std.specs.Int.RustNames.{FitsSigned}
 use lib.Signed.{mag}
 use Rattle.std.proofs.lemmas.Int.{to_z-of_z}
@@ -18,8 +18,8 @@ use Rattle.dn_line.specs.declared.word.Keyword.{Keyword}
 use Rattle.dn_line.specs.declared.word.Keyword.TheVariants as Key
 use Rattle.dn_line.specs.declared.word.Word.{Word}
 use Rattle.dn_line.specs.Words.{is_skip, first, tail}
-use Rattle.dn_line.specs.LineTable.{row, counts, after_name, kind_named}
-use Rattle.dn_line.specs.Faults.{first_fault, field_tests, is_p, problem_fields, row_fields, row_of}
+use Rattle.dn_line.specs.LineTable.{fields_of, counts, after_name, kind_named}
+use Rattle.dn_line.specs.Faults.{first_fault, field_tests, is_p, problem_fields, filled_fields, known_fields}
 use Rattle.dn_line.specs.Reading.{num, letter_of, item, problem, unless, problem_named, item_of}
 use Rattle.dn_line.specs.State.LineReads.{head_of}
 use Rattle.dn_line.specs.State.RowItems.{RowRead, terminal_number, letter_named, problem_item, filled_row, item_of_row, row_at, fields_at, after_head, item_read, row_read}
@@ -34,7 +34,7 @@ letter_same _ = refl
 
 -- the words fill these fields without a fault
 abbrev Faultless : Option (List Field) → List Word → Type 0
-Faultless fields ws = first_fault (field_tests (row_fields fields ws)) ≡ None
+Faultless fields ws = first_fault (field_tests (filled_fields fields ws)) ≡ None
 
 -- a fault contradicts that there is none
 no_fault : {T : Type 0} → Some FieldCount ≡ None → T
@@ -51,8 +51,8 @@ problem_is Sp _ h = no_fault h
 problem_is _ (x ∷ []) h = refl
 problem_is _ _ h = no_fault h
 
-item_is : (kind : Kind) (key : Keyword) (ws : List Word) → Faultless (row kind key) ws
-    → item_of_row (head_of (Some key) None) (Some kind) (row_at (row kind key) ws) ≡ item kind key ws
+item_is : (kind : Kind) (key : Keyword) (ws : List Word) → Faultless (fields_of kind key) ws
+    → item_of_row (head_of (Some key) None) (Some kind) (row_at (fields_of kind key) ws) ≡ item kind key ws
 item_is Min Key.N (x ∷ y ∷ []) h = refl
 item_is Min Key.N _ h = no_fault h
 item_is Max Key.N (x ∷ y ∷ []) h = ap (λ l. Items.Terminal (num x) l) (letter_same y.keyword)
@@ -72,8 +72,8 @@ item_is Co Key.V _ h = no_fault h
 item_is _ _ ws h = refl
 
 fields_by : (known : Option Kind) (key : Option Keyword) (named : Option Kind) (ws : List Word)
-    → cond (is_p key) (problem_fields named (tail ws)) (row_fields (row_of known key) (tail ws))
-    ≡ row_fields (fields_at (head_of key named) known) (after_head (head_of key named) ws)
+    → cond (is_p key) (problem_fields named (tail ws)) (filled_fields (known_fields known key) (tail ws))
+    ≡ filled_fields (fields_at (head_of key named) known) (after_head (head_of key named) ws)
 fields_by (Some Min) (Some Key.P) (Some k) ws = refl
 fields_by _ (Some Key.P) (Some k) ws = refl
 fields_by _ _ _ ws = refl
@@ -106,8 +106,8 @@ pub row_reads : (known : Option Kind) (head : Head) (ws : List Word) → RowRead
 row_reads known head ws h = elim (cases_Bool (is_skip ws)) [
   | inl s ↦ rw (unless_same None Skip head (rw s at h), s) refl
   | inr s ↦ rw (
-      unless_same _ (head_of (first ws) (kind_named ws)) head (rw s at h),
-      s,
-      fields_by known (first ws) (kind_named ws) ws,
-    ) (item_unless _ known _ _ _ (spelled_by known (first ws) (kind_named ws) ws))
+    unless_same _ (head_of (first ws) (kind_named ws)) head (rw s at h),
+    s,
+    fields_by known (first ws) (kind_named ws) ws,
+  ) (item_unless _ known _ _ _ (spelled_by known (first ws) (kind_named ws) ws))
 ]

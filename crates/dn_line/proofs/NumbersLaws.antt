@@ -6,7 +6,7 @@ use Rattle.dn_num.specs.Number.{number_read}
 use Rattle.dn_line.specs.Pieces.{parts, has_bytes}
 use Rattle.dn_line.specs.Words.{is_blank, words}
 use Rattle.dn_line.specs.State.LineStates.{is_clear, is_inner}
-use Rattle.dn_line.specs.State.Numbers.{IsGap, IsLineEnd, IsNumberBefore, IsNumberFront, AreNumbers, number_word}
+use Rattle.dn_line.specs.State.Numbers.{AreSomeBlanks, IsLineEnd, IsNumberBefore, IsNumberFront, AreNumbers, number_word}
 use Rattle.dn_line.specs.declared.word.Word.{Word}
 use Rattle.dn_line.proofs.ClearLaws.{all_weaker, other_byte, clear_first, clear_inner, clear_parts, inner_append, number_clear, number_said}
 
@@ -68,7 +68,7 @@ last_number {rest = rest} {v = v} n kept e =
     })
 
 -- a number followed by blanks
-pub number_gap : {bytes left rest : List ℕ} {v : ℤ} → IsNumberFront bytes v left → IsGap left rest
+pub number_gap : {bytes left rest : List ℕ} {v : ℤ} → IsNumberFront bytes v left → AreSomeBlanks left rest
     → IsNumberBefore bytes v rest
 number_gap n g = record { left = _; front = n; gap = g }
 

@@ -3,14 +3,14 @@ use Rattle.std.proofs.Common.{Option, ◌≡◌, ◌≤◌, ◌-◌, ◌<◌, �
 use Rattle.std.proofs.lemmas.Bool.{and_from, not-true}
 use Rattle.std.proofs.lemmas.List.{take_all}
 use Rattle.std.specs.List.{list_all}
-use Rattle.dn_line.specs.Faults.{first_fault, field_tests, row_fields}
-use Rattle.dn_line.specs.LineTable.{row}
+use Rattle.dn_line.specs.Faults.{first_fault, field_tests, filled_fields}
+use Rattle.dn_line.specs.LineTable.{fields_of}
 use Rattle.dn_line.specs.Reading.{item, unless}
 use Rattle.dn_line.specs.Words.{first, said, said_words}
 use Rattle.dn_line.specs.State.LineStates.{is_clear, is_inner}
-use Rattle.dn_line.specs.State.Numbers.{IsGap, number_word}
+use Rattle.dn_line.specs.State.Numbers.{AreSomeBlanks, number_word}
 use Rattle.dn_line.specs.State.LineReads.{fields_read, head_of, head_read}
-use Rattle.dn_line.specs.State.Rows.{AreNatural, AreNumeric, BeginsWithRow, FieldsFit, HasNumbers, HasRow, field_fits, letter_byte, numbers_of}
+use Rattle.dn_line.specs.State.Rows.{AreNatural, AreNumeric, BeginsWithRow, FieldsFit, HasNumbers, HasFields, field_fits, letter_byte, row_numbers}
 use Rattle.dn_line.specs.declared.kind.Kind.{Kind}
 use Rattle.dn_line.specs.declared.code.Code.{Code}
 use Rattle.dn_line.specs.declared.code.Code.TheVariants.{WrongLine}
@@ -44,7 +44,7 @@ fit_first (f ∷ fs) (n ∷ ns) l h = (h.0, fit_first fs ns (omega arith) (fit_l
 
 -- three numbers that are at least 0 fit three fields of numbers
 pub natural_fit : (fs : List Field) (r : Row) → length fs ≡ 3 → AreNumeric fs → AreNatural 3 r
-    → FieldsFit fs (numbers_of 3 r)
+    → FieldsFit fs (row_numbers 3 r)
 natural_fit (f ∷ g ∷ k ∷ []) r l num h =
     (by_field f r.first (num 0) h.0, (by_field g r.second (num 1) h.1.0, (by_field k r.third (num 2) h.1.1.0, tt)))
   where
@@ -56,7 +56,7 @@ natural_fit _ r l num h = absurd (omega arith)
 
 -- a letter, blanks and numbers that fit the fields are the line of the row
 row_line : (letter : ℕ) (fields : List Field) (bytes more rest : List ℕ) (r : Row) → is_clear letter ≡ true
-    → IsGap bytes more → HasNumbers (length fields) more r rest → FieldsFit fields (numbers_of (length fields) r)
+    → AreSomeBlanks bytes more → HasNumbers (length fields) more r rest → FieldsFit fields (row_numbers (length fields) r)
     → BeginsWithRow letter fields (letter ∷ bytes) r rest
 row_line letter fields bytes more rest r clear g has fit =
     let bs = g.then.blanks in
@@ -80,8 +80,8 @@ row_line letter fields bytes more rest r clear g has fit =
 
 -- the same for bytes whose first is the letter
 pub row_front : (letter : ℕ) (fields : List Field) (bytes more rest : List ℕ) (r : Row) → is_clear letter ≡ true
-    → 0 < length bytes → get_or bytes 0 0 ≡ letter → IsGap (take (length bytes - 1) (drop 1 bytes)) more
-    → HasNumbers (length fields) more r rest → FieldsFit fields (numbers_of (length fields) r)
+    → 0 < length bytes → get_or bytes 0 0 ≡ letter → AreSomeBlanks (take (length bytes - 1) (drop 1 bytes)) more
+    → HasNumbers (length fields) more r rest → FieldsFit fields (row_numbers (length fields) r)
     → BeginsWithRow letter fields bytes r rest
 row_front letter fields [] more rest r clear some is g a fit = absurd (omega arith)
 row_front letter fields (b ∷ bytes) more rest r clear some is g a fit =
@@ -101,10 +101,10 @@ stand_all _ _ h = absurd h
 
 -- what the fields of a line read as, given the words after its letter
 abbrev checked : Kind → Keyword → List Word → Result Line Code
-checked k l ws = unless (first_fault (field_tests (row_fields (row k l) ws))) (item k l ws)
+checked k l ws = unless (first_fault (field_tests (filled_fields (fields_of k l) ws))) (item k l ws)
 
 -- numbers that fit the fields of a line read as the item of the line
-row_reads : (kind : Kind) (key : Keyword) (fs : List Field) (ns : List ℤ) → row kind key ≡ Some fs → FieldsFit fs ns
+row_reads : (kind : Kind) (key : Keyword) (fs : List Field) (ns : List ℤ) → fields_of kind key ≡ Some fs → FieldsFit fs ns
     → checked kind key (map number_word ns) ≡ Ok (item kind key (map number_word ns))
 row_reads kind key fs ns e h = rw (e, stand_none fs (map number_word ns) (stand_all fs ns h))
 
@@ -112,7 +112,7 @@ row_reads kind key fs ns e h = rw (e, stand_none fs (map number_word ns) (stand_
 abbrev ReadAs : Kind → Keyword → List Word → ℕ → Type 0
 ReadAs kind key ws b =
     (head_read (Some kind) (said (b ∷ []) ∷ ws)
-    ≡ unless (first_fault ((WrongLine, is_none (row kind key)) ∷ [])) (head_of (Some key) None))
+    ≡ unless (first_fault ((WrongLine, is_none (fields_of kind key)) ∷ [])) (head_of (Some key) None))
     × (fields_read (Some kind) (said (b ∷ []) ∷ ws) ≡ checked kind key ws)
     × (first (said (b ∷ []) ∷ ws) ≡ Some key)
 
@@ -136,15 +136,15 @@ pub record ReadsAs (kind : Kind) (key : Keyword) (ws : List Word) (i : Line) : T
 
 -- the line of a row reads as the item of its numbers
 pub row_item : (kind : Kind) (letter : ℕ) (fields : List Field) (bytes rest : List ℕ) (r : Row)
-    → (has : HasRow kind letter fields) → (b : BeginsWithRow letter fields bytes r rest)
-    → ReadsAs kind has.key (said_words b.line) (item kind has.key (map number_word (numbers_of (length fields) r)))
+    → (has : HasFields kind letter fields) → (b : BeginsWithRow letter fields bytes r rest)
+    → ReadsAs kind has.key (said_words b.line) (item kind has.key (map number_word (row_numbers (length fields) r)))
 row_item kind letter fields bytes rest r has b =
-    let ws = map number_word (numbers_of (length fields) r) in
+    let ws = map number_word (row_numbers (length fields) r) in
     let reads = rw has.byte_is at (by_letter kind has.key ws) in
     record {
       head = ap (head_read (Some kind)) b.says ∙ reads.0 ∙ rw has.row_is;
       fields =
           ap (fields_read (Some kind)) b.says ∙ reads.1
-          ∙ row_reads kind has.key fields (numbers_of (length fields) r) has.row_is b.fit;
+          ∙ row_reads kind has.key fields (row_numbers (length fields) r) has.row_is b.fit;
       letter = ap first b.says ∙ reads.2;
     }

@@ -1,8 +1,8 @@
 // The table of lines: the fields of each line, and where they begin.
 ghost use Rattle.std.specs.Prelude.{◌≡◌, ◌∷◌, map, MatchOption, IfSome, Some, true};
-ghost use Rattle.dn_line.specs.LineTable.{row, named, counts, after_name};
+ghost use Rattle.dn_line.specs.LineTable.{fields_of, named, counts, after_name};
 ghost use Rattle.dn_line.specs.State.LineStates.{is_clear};
-ghost use Rattle.dn_line.specs.State.Rows.{AreNumeric, HasRow, letter_byte};
+ghost use Rattle.dn_line.specs.State.Rows.{AreNumeric, HasFields, letter_byte};
 ghost use Rattle.dn_line.specs.State.RowItems.{after_head, fields_at};
 ghost use Rattle.dn_line.specs.Words.{tail};
 
@@ -27,8 +27,8 @@ pub(crate) fn named(words: &[Word]) -> Option<Kind>
 }
 
 // Returns the fields of the line that this kind has for this letter.
-fn row(kind: Kind, letter: Keyword) -> Option<&'static [Field]>
-    ensures { MatchOption result (row kind letter ≡ None) (λ fields. row kind letter ≡ Some fields.now) }
+fn fields_of(kind: Kind, letter: Keyword) -> Option<&'static [Field]>
+    ensures { MatchOption result (fields_of kind letter ≡ None) (λ fields. fields_of kind letter ≡ Some fields.now) }
 {
     match (kind, letter) {
         (Kind::Min, Keyword::N) => Some(&[Field::Number, Field::Number]),
@@ -55,22 +55,22 @@ pub(crate) fn fields_at(known: Option<Kind>, head: Head) -> Option<&'static [Fie
 {
     match (head, known) {
         (Head::Problem(kind), _) => Some(counts(kind)),
-        (Head::Node, Some(kind)) => row(kind, Keyword::N),
-        (Head::Arc, Some(kind)) => row(kind, Keyword::A),
-        (Head::Source, Some(kind)) => row(kind, Keyword::S),
-        (Head::Query, Some(kind)) => row(kind, Keyword::Q),
-        (Head::Point, Some(kind)) => row(kind, Keyword::V),
+        (Head::Node, Some(kind)) => fields_of(kind, Keyword::N),
+        (Head::Arc, Some(kind)) => fields_of(kind, Keyword::A),
+        (Head::Source, Some(kind)) => fields_of(kind, Keyword::S),
+        (Head::Query, Some(kind)) => fields_of(kind, Keyword::Q),
+        (Head::Point, Some(kind)) => fields_of(kind, Keyword::V),
         _ => None,
     }
 }
 
 // Returns the fields of the line that this kind has for this letter, if all of them are numbers.
-pub(crate) fn number_row(kind: Kind, letter: u8) -> Option<&'static [Field]>
-    ensures row { IfSome result (λ fields. HasRow kind letter fields.now) }
+pub(crate) fn number_fields(kind: Kind, letter: u8) -> Option<&'static [Field]>
+    ensures fields { IfSome result (λ fields. HasFields kind letter fields.now) }
     ensures clear { IfSome result (λ fields. is_clear letter ≡ true) }
     ensures numeric { IfSome result (λ fields. AreNumeric fields.now) }
 {
-    let fields = row(kind, letter_keyword(letter)?)?;
+    let fields = fields_of(kind, letter_keyword(letter)?)?;
     if are_numeric(fields) {
         Some(fields)
     } else {

@@ -1,6 +1,6 @@
 // Reads the numbers of a line, the blanks between them, and the end of the line.
 ghost use Rattle.std.specs.Prelude.{◌+◌, ◌<◌, ◌≤◌, pos, ◌≤ℤ◌, IfSome, length};
-ghost use Rattle.dn_line.specs.State.Numbers.{AreBlanks, IsGap, IsLineEnd, IsNumberBefore, IsNumberFront};
+ghost use Rattle.dn_line.specs.State.Numbers.{AreBlanks, AreSomeBlanks, IsLineEnd, IsNumberBefore, IsNumberFront};
 
 use crate::piece::{after, is_blank};
 use dn_num::{number_front, short_number};
@@ -28,7 +28,7 @@ fn past_blanks(bytes: &[u8]) -> &[u8]
 // Returns the bytes after the leading blanks, or none if there is no blank.
 #[inline(always)]
 pub(crate) fn after_blanks(bytes: &[u8]) -> Option<&[u8]>
-    ensures { IfSome result (λ rest. IsGap bytes.now rest.now) }
+    ensures { IfSome result (λ rest. AreSomeBlanks bytes.now rest.now) }
 {
     match bytes {
         [byte, rest @ ..] if is_blank(*byte) => Some(past_blanks(rest)),
@@ -50,7 +50,7 @@ pub(crate) fn after_line_end(bytes: &[u8]) -> Option<&[u8]>
 #[inline(always)]
 pub(crate) fn after_space(bytes: &[u8]) -> Option<&[u8]>
     requires { 0 < length bytes.now }
-    ensures gap { IfSome result (λ rest. IsGap bytes.now rest.now) }
+    ensures gap { IfSome result (λ rest. AreSomeBlanks bytes.now rest.now) }
     ensures within { IfSome result (λ rest. length bytes.now ≤ length rest.now + 1) }
 {
     if bytes[0] == b' ' {

@@ -1,7 +1,7 @@
 // Reads a line of a letter and numbers in plain spelling in one pass.
 ghost use Rattle.std.specs.Prelude.{◌≡◌, ◌≤◌, ℕ, IfSome, true, length, slice_get};
 ghost use Rattle.dn_line.specs.State.LineStates.{is_clear};
-ghost use Rattle.dn_line.specs.State.Rows.{AreNatural, AreNumeric, BeginsWithRow, FieldsFit, HasNumbers, field_fits, numbers_of};
+ghost use Rattle.dn_line.specs.State.Rows.{AreNatural, AreNumeric, BeginsWithRow, FieldsFit, HasNumbers, field_fits, row_numbers};
 
 use crate::numbers::{
     after_blanks, after_line_end, after_plain_end, any_front, last_front, number_before,
@@ -51,7 +51,7 @@ pub(crate) trait Count {
         requires count { length fields.now ≡ count }
         requires numeric { AreNumeric fields.now }
         ensures numbers { IfSome result (λ r. HasNumbers count bytes.now r.row r.rest.now) }
-        ensures fit { IfSome result (λ r. FieldsFit fields.now (numbers_of count r.row)) };
+        ensures fit { IfSome result (λ r. FieldsFit fields.now (row_numbers count r.row)) };
 }
 
 // One number.
@@ -267,7 +267,7 @@ fn fitting<'a>(fields: &[Field], found: RowBefore<'a>) -> Option<RowBefore<'a>>
     requires numeric { AreNumeric fields.now }
     ensures row { IfSome result (λ r. r.row ≡ found.entry.row) }
     ensures rest { IfSome result (λ r. r.rest.now ≡ found.entry.rest.now) }
-    ensures fit { IfSome result (λ r. FieldsFit fields.now (numbers_of (length fields.now) r.row)) }
+    ensures fit { IfSome result (λ r. FieldsFit fields.now (row_numbers (length fields.now) r.row)) }
 {
     if fit(fields, &found.row) {
         Some(found)
@@ -281,7 +281,7 @@ fn fitting<'a>(fields: &[Field], found: RowBefore<'a>) -> Option<RowBefore<'a>>
 fn fit(fields: &[Field], row: &Row) -> bool
     requires few { length fields.now ≤ 5 }
     requires numeric { AreNumeric fields.now }
-    ensures { result ≡ true → FieldsFit fields.now (numbers_of (length fields.now) row.now) }
+    ensures { result ≡ true → FieldsFit fields.now (row_numbers (length fields.now) row.now) }
 {
     let first = fits(fields, 0, &row.first);
     let second = fits(fields, 1, &row.second);

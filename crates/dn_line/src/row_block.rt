@@ -2,10 +2,10 @@
 ghost use Rattle.std.specs.Prelude.{◌≡◌, ◌≤◌, ℕ, List, [], length, take, true};
 ghost use Rattle.dn_line.specs.State.LineStates.{is_clear};
 ghost use Rattle.dn_line.specs.State.RowBlocks.{BeginWithRows, ReadUpTo, last_left};
-ghost use Rattle.dn_line.specs.State.Rows.{AreNumeric, HasRow};
+ghost use Rattle.dn_line.specs.State.Rows.{AreNumeric, HasFields};
 
 use crate::kind::Kind;
-use crate::line_table::number_row;
+use crate::line_table::number_fields;
 use crate::row::{Count, Five, NO_ROW, One, Row, Three, Two, read_row};
 use crate::word::Field;
 use std::marker::Model;
@@ -69,7 +69,7 @@ impl RowBlock {
         let [letter, ..] = bytes else {
             return;
         };
-        let Some(fields) = number_row(kind, *letter) else {
+        let Some(fields) = number_fields(kind, *letter) else {
             return;
         };
         self.len = match fields.len() {
@@ -103,7 +103,7 @@ fn fill<N: Count>(
     requires clear { is_clear letter ≡ true }
     requires count { length fields.now ≡ N.count }
     requires numeric { AreNumeric fields.now }
-    ensures rows { (kind : Kind) → HasRow kind letter fields.now
+    ensures rows { (kind : Kind) → HasFields kind letter fields.now
         → (rest : List ℕ) × ReadUpTo kind letter bytes.now (take result rows.new) rest }
     ensures few { result ≤ most }
     ensures within { result ≤ BLOCK }

@@ -18,8 +18,8 @@ use Rattle.dn_table.specs.State.Tables.{TableStandsFor, AreArcs}
 use Rattle.dn_instance.specs.State.Helds.{Bundles, Contents, Parsed, IsHeld, OfMin, OfMax, OfSp, OfSs, OfP2p, OfCo, Shows}
 use Rattle.dn_instance.specs.Instances.{Graph, Instance, MinCostFlow, MaxFlow, ShortestPaths, Sources, Queries, Coordinates, nodes_of, size_of}
 use Rattle.dn_instance.specs.Validity.{IsPlaced, IsValid}
-use Rattle.dn_sink.specs.Rows.{Row, text_of}
-use Rattle.dn_report.specs.Shows.{AreLengthWords, total_words, cost_words, pair_row, AreGraphRows, graph_rows, IsShown, supply_rows, terminal_rows}
+use Rattle.dn_sink.specs.Rows.{Cells, text_of}
+use Rattle.dn_report.specs.Shows.{AreLengthWords, total_words, cost_words, pair_row, AreGraphRows, shown_graph, IsShown, supply_rows, terminal_rows}
 use Rattle.dn_report.specs.State.ListedRows.{length_words, listed_rows, contents_rows, held_rows}
 
 -- what holds of all arcs holds of the arcs of each pair
@@ -37,15 +37,15 @@ are_arcs kind nodes [] all = tt
 are_arcs kind nodes (a ∷ rest) all = (all.0.is_arc, are_arcs kind nodes rest all.1)
 
 -- words on the arcs that a bundle lists are right for the arcs that it represents, if these mean something
-abbrev Says : {Arc : Type 0} → ArcKind Arc → (List Arc → Row → Type 0) → (List Arc → Row) → Type 0
+abbrev Says : {Arc : Type 0} → ArcKind Arc → (List Arc → Cells → Type 0) → (List Arc → Cells) → Type 0
 Says {Arc} kind AreWords words =
     (listed arcs : List Arc) → AreCanonArcsOf kind listed arcs → AllByRecursion kind.IsArc arcs
     → (kind.Same arcs [] → ⊥) → AreWords arcs (words listed)
 
-module _ {B Arc : Type 0} (kind : ArcKind Arc) (AreWords : List Arc → Row → Type 0) (words : List Arc → Row)
+module _ {B Arc : Type 0} (kind : ArcKind Arc) (AreWords : List Arc → Cells → Type 0) (words : List Arc → Cells)
     (lists : B → List Arc) where
   -- the words of each pair
-  abbrev entries_listed : Bundles B → List ((ℤ × ℤ) × Row)
+  abbrev entries_listed : Bundles B → List ((ℤ × ℤ) × Cells)
   entries_listed table = map (λ e. (e.0, words (lists e.1))) table
 
   keys_listed : (table : Bundles B) → keys_of (entries_listed table) ≡ keys_of table
@@ -62,18 +62,18 @@ module _ {B Arc : Type 0} (kind : ArcKind Arc) (AreWords : List Arc → Row → 
   found_listed p (e ∷ es) =
       rw (found_listed p es) (elim (cases_Bool (same_pair p e.0)) [ inl t ↦ rw t | inr t ↦ rw t ])
 
-  none_both : (o : Option Row) (u : Option B) → o ≡ option_map (λ b. words (lists b)) u → (o ≡ None) ↔ (u ≡ None)
+  none_both : (o : Option Cells) (u : Option B) → o ≡ option_map (λ b. words (lists b)) u → (o ≡ None) ↔ (u ≡ None)
   none_both o None e = (λ h. refl, λ h. e)
   none_both o (Some b) e = (λ h. cc, λ h. cc)
 
   -- the lines of a parsed graph are right for the graph
   graph_shown : Says kind AreWords words
-      → (name : Kind) (nodes lines : ℤ) (besides more : List Row) (table : Bundles B) (graph : Graph Arc)
+      → (name : Kind) (nodes lines : ℤ) (besides more : List Cells) (table : Bundles B) (graph : Graph Arc)
       → nodes ≡ graph.nodes → lines ≡ pos (length graph.arcs) → besides ≡ more
       → TableStandsFor kind lists table graph.arcs
       → AllByRecursion (IsPlaced kind graph.nodes) graph.arcs
       → AreGraphRows kind AreWords name graph more
-      (graph_rows name nodes lines besides (listed_rows words lists table))
+      (shown_graph name nodes lines besides (listed_rows words lists table))
   graph_shown says name nodes lines besides more table graph e f g stands placed = record {
     pairs = listed_rows words lists table;
     are_pairs = record {

@@ -4,12 +4,12 @@ use Rattle.std.specs.List.{concat}
 use Rattle.dn_line.specs.Names.{kind_name}
 use Rattle.dn_line.specs.declared.kind.Kind.{Kind}
 use Rattle.dn_instance.specs.State.Helds.{Bundles, Contents, Parsed, contents_kind}
-use Rattle.dn_sink.specs.Rows.{Row, line_text, text_of}
-use Rattle.dn_report.specs.Shows.{kind_row, number_row, pair_row, graph_rows, supply_rows, terminal_rows}
+use Rattle.dn_sink.specs.Rows.{Cells, line_text, text_of}
+use Rattle.dn_report.specs.Shows.{kind_row, number_row, pair_row, shown_graph, supply_rows, terminal_rows}
 use Rattle.dn_report.specs.State.ListedRows.{listed_rows, table_rows, contents_rows, held_rows}
 use Rattle.dn_sink.proofs.RowLaws.{text-append}
 
-module _ {B Arc : Type 0} (words : List Arc → Row) (lists : B → List Arc) where
+module _ {B Arc : Type 0} (words : List Arc → Cells) (lists : B → List Arc) where
   -- the lines of a table are the line of the next bundle and then those of the other bundles
   pub pair_next : {left rest : Bundles B} {e : (ℤ × ℤ) × B} {line : List ℕ} → left ≡ e ∷ rest
       → line ≡ line_text (pair_row e.0 (words (lists e.1)))
@@ -28,11 +28,11 @@ module _ {B Arc : Type 0} (words : List Arc → Row) (lists : B → List Arc) wh
   count_listed (e ∷ es) = ap suc (count_listed es)
 
   -- the first lines of a graph and the lines of its table are the lines of the graph
-  pub graph_text : {a b c : List ℕ} (kind : Kind) (nodes lines : ℤ) (besides : List Row) (table : Bundles B)
+  pub graph_text : {a b c : List ℕ} (kind : Kind) (nodes lines : ℤ) (besides : List Cells) (table : Bundles B)
       (ds : List (List ℕ)) → a ≡ line_text (kind_row kind) → b ≡ line_text (number_row (codes "nodes") nodes)
       → c ≡ line_text (number_row (codes "lines") lines) → concat ds ≡ text_of besides
       → concat (a ∷ b ∷ c ∷ ds) ++ text_of (table_rows words lists table) ≡ text_of
-      (graph_rows kind nodes lines besides (listed_rows words lists table))
+      (shown_graph kind nodes lines besides (listed_rows words lists table))
   graph_text {a} {b} {c} kind nodes lines besides table ds e f g h =
       let rows = listed_rows words lists table in
       rw (

@@ -16,76 +16,76 @@ use Rattle.dn_arc.specs.declared.arc.CapArc.{CapArc}
 use Rattle.dn_arc.specs.declared.arc.CostArc.{CostArc}
 use Rattle.dn_arc.specs.Pairs.{bundle, pair_cmp, same_pair}
 use Rattle.dn_instance.specs.Instances.{Graph, Instance, MinCostFlow, MaxFlow, ShortestPaths, Sources, Queries, Coordinates}
-use Rattle.dn_sink.specs.Rows.{Row, text_of}
+use Rattle.dn_sink.specs.Rows.{Cells, text_of}
 
 -- `kind K`, where K is the kind
-abbrev pub kind_row : Kind → Row
+abbrev pub kind_row : Kind → Cells
 kind_row kind = codes "kind" ∷ kind_name kind ∷ []
 
 -- the line of a word and a number
-abbrev pub number_row : List ℕ → ℤ → Row
+abbrev pub number_row : List ℕ → ℤ → Cells
 number_row name n = name ∷ signed_decimal n ∷ []
 
 -- `pair SRC DST`, followed by words on its arcs
-abbrev pub pair_row : ℤ × ℤ → Row → Row
+abbrev pub pair_row : ℤ × ℤ → Cells → Cells
 pair_row p words = codes "pair" ∷ signed_decimal p.0 ∷ signed_decimal p.1 ∷ words
 
 -- the words on the arcs of an `sp` pair: `length W`, where W is their least length
-abbrev pub AreLengthWords : List LengthArc → Row → Type 0
+abbrev pub AreLengthWords : List LengthArc → Cells → Type 0
 AreLengthWords arcs words =
     (w : ℤ) × LeastLength arcs w × (words ≡ codes "length" ∷ signed_decimal w ∷ [])
 
 -- the words on the arcs of a `max` pair: `total C`, where C is the sum of their CAPs
-abbrev pub total_words : List CapArc → Row
+abbrev pub total_words : List CapArc → Cells
 total_words arcs = codes "total" ∷ signed_decimal (total_cap arcs) ∷ []
 
 -- `forced L cost F steps N`, for L forced units of total cost F, and N costs with free capacity
-abbrev pub forced_words : ℤ → ℤ → ℕ → Row
+abbrev pub forced_words : ℤ → ℤ → ℕ → Cells
 forced_words units cost steps =
     codes "forced" ∷ signed_decimal units ∷ codes "cost" ∷ signed_decimal cost
     ∷ codes "steps" ∷ signed_decimal (pos steps) ∷ []
 
 -- the words on the arcs of a `min` pair: L is the sum of their LOWs, F the sum of LOW times COST, and N the number of
 -- COSTs with free capacity
-abbrev pub cost_words : List CostArc → Row
+abbrev pub cost_words : List CostArc → Cells
 cost_words arcs = forced_words (forced_units arcs) (forced_cost arcs) (length (free_costs arcs))
 
 -- one line for each ordered pair whose arcs mean something, by ascending pair, with words on these arcs
-pub record ArePairRows {Arc : Type 0} (kind : ArcKind Arc) (AreWords : List Arc → Row → Type 0)
-    (arcs : List ((ℤ × ℤ) × Arc)) (rows : List Row) : Type 0 where
-  pub entries : List ((ℤ × ℤ) × Row)
+pub record ArePairRows {Arc : Type 0} (kind : ArcKind Arc) (AreWords : List Arc → Cells → Type 0)
+    (arcs : List ((ℤ × ℤ) × Arc)) (rows : List Cells) : Type 0 where
+  pub entries : List ((ℤ × ℤ) × Cells)
   pub rising : IsStrictlySortedBy pair_cmp (keys_of entries)
   pub meant : (p : ℤ × ℤ) → (lookup (same_pair p) entries ≡ None) ↔ kind.Same (bundle p arcs) []
   pub words : (p : ℤ × ℤ) → IfSome (lookup (same_pair p) entries) (AreWords (bundle p arcs))
   pub rows_are : rows ≡ map (λ e. pair_row e.0 e.1) entries
 
 -- the lines of a graph: kind, nodes, lines, what else its kind has, the number of pairs, and the pairs
-abbrev pub graph_rows : Kind → ℤ → ℤ → List Row → List Row → List Row
-graph_rows kind nodes lines besides pairs =
+abbrev pub shown_graph : Kind → ℤ → ℤ → List Cells → List Cells → List Cells
+shown_graph kind nodes lines besides pairs =
     kind_row kind ∷ number_row (codes "nodes") nodes ∷ number_row (codes "lines") lines
     ∷ (besides ++ number_row (codes "pairs") (pos (length pairs)) ∷ pairs)
 
 -- the lines of a companion: kind and lines
-abbrev pub companion_rows : Kind → ℤ → List Row
+abbrev pub companion_rows : Kind → ℤ → List Cells
 companion_rows kind lines = kind_row kind ∷ number_row (codes "lines") lines ∷ []
 
 -- the line of the number of supplies of a `min` problem
-abbrev pub supply_rows : List (ℤ × ℤ) → List Row
+abbrev pub supply_rows : List (ℤ × ℤ) → List Cells
 supply_rows supplies = number_row (codes "supplies") (pos (length supplies)) ∷ []
 
 -- the lines of the source and the sink of a `max` problem
-abbrev pub terminal_rows : ℤ → ℤ → List Row
+abbrev pub terminal_rows : ℤ → ℤ → List Cells
 terminal_rows source sink = number_row (codes "source") source ∷ number_row (codes "sink") sink ∷ []
 
 -- the lines of this graph; `lines` is the number of its arcs
-pub record AreGraphRows {Arc : Type 0} (kind : ArcKind Arc) (AreWords : List Arc → Row → Type 0) (name : Kind)
-    (graph : Graph Arc) (besides rows : List Row) : Type 0 where
-  pub pairs : List Row
+pub record AreGraphRows {Arc : Type 0} (kind : ArcKind Arc) (AreWords : List Arc → Cells → Type 0) (name : Kind)
+    (graph : Graph Arc) (besides rows : List Cells) : Type 0 where
+  pub pairs : List Cells
   pub are_pairs : ArePairRows kind AreWords graph.arcs pairs
-  pub rows_are : rows ≡ graph_rows name graph.nodes (pos (length graph.arcs)) besides pairs
+  pub rows_are : rows ≡ shown_graph name graph.nodes (pos (length graph.arcs)) besides pairs
 
 -- these are the lines that `show` prints for an instance
-abbrev pub AreShown : Instance → List Row → Type 0
+abbrev pub AreShown : Instance → List Cells → Type 0
 AreShown (MinCostFlow supplies graph) rows =
     AreGraphRows costs (λ arcs words. words ≡ cost_words arcs) Kinds.Min graph (supply_rows supplies) rows
 AreShown (MaxFlow source sink graph) rows =
@@ -97,4 +97,4 @@ AreShown (Coordinates points) rows = rows ≡ companion_rows Kinds.Co (pos (leng
 
 -- t is the text that `show` prints for an instance
 abbrev pub IsShown : Instance → List ℕ → Type 0
-IsShown I t = (rows : List Row) × AreShown I rows × (t ≡ text_of rows)
+IsShown I t = (rows : List Cells) × AreShown I rows × (t ≡ text_of rows)

@@ -2,7 +2,7 @@
 ghost use Rattle.std.specs.Prelude.{◌≡◌, ◌≤◌, ◌++◌, ◌∷◌, List, codes, length};
 ghost use Rattle.std.specs.Fmt.{signed_decimal};
 ghost use Rattle.dn_arc.specs.State.Bundles.{meant};
-ghost use Rattle.dn_sink.specs.Rows.{Row, line_text};
+ghost use Rattle.dn_sink.specs.Rows.{Cells, line_text};
 ghost use Rattle.dn_report.specs.Shows.{cost_words, forced_words, pair_row, total_words};
 ghost use Rattle.dn_report.specs.State.ListedRows.{length_words};
 
@@ -12,7 +12,7 @@ use dn_sink::LineBuffer;
 // A bundle that `show` prints on one line.
 pub(crate) trait PairLine: Bundle {
     // The words of the line after the pair, given the arcs that the bundle lists.
-    ghost words: { List Self.Arc → Row };
+    ghost words: { List Self.Arc → Cells };
 
     // Replaces `line` by the line of this bundle and its pair.
     fn make_line(&self, line: &mut LineBuffer, pair: &(i64, i64))

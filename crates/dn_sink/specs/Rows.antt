@@ -4,13 +4,13 @@ use Rattle.std.specs.Prelude.{ℕ, List, [], ◌∷◌, ◌++◌, map}
 use Rattle.std.specs.List.{join_with_byte, concat}
 
 -- the words of one line
-abbrev pub Row : Type 0
-Row = List (List ℕ)
+abbrev pub Cells : Type 0
+Cells = List (List ℕ)
 
 -- the words of a line with single spaces between them, and an LF
-abbrev pub line_text : Row → List ℕ
+abbrev pub line_text : Cells → List ℕ
 line_text words = join_with_byte 32 words ++ 10 ∷ []
 
 -- the text of a list of lines
-abbrev pub text_of : List Row → List ℕ
+abbrev pub text_of : List Cells → List ℕ
 text_of rows = concat (map line_text rows)

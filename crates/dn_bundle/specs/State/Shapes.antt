@@ -1,35 +1,36 @@
 -- How a curve stores its numbers: in a box, or as one cost with the forced units and the free capacity at it.
-use Rattle.std.specs.Prelude.{◌≡◌, ◌⊎◌, ◌-◌, ◌^◌, ℕ, ℤ, pos, ◌+ℤ◌, ◌-ℤ◌, ◌*ℤ◌, ◌≤ℤ◌, ◌<ℤ◌, List, [], Option, Some, None, cond, int_lt, false}
+use Rattle.std.specs.Prelude.{◌≡◌, ◌⊎◌, ◌-◌, ◌^◌, ℤ, pos, ◌+ℤ◌, ◌-ℤ◌, ◌*ℤ◌, ◌≤ℤ◌, ◌<ℤ◌, List, [], Option, Some, None, cond, int_lt, false}
 use Rattle.dn_arc.specs.declared.arc.CostArc.{CostArc}
 use Rattle.dn_bundle.specs.declared.curve.shape.Numbers.{Numbers}
+use Rattle.dn_bundle.specs.declared.curve.shape.OneCost.{OneCost}
 use Rattle.dn_bundle.specs.declared.curve.shape.Shape.{Shape}
 use Rattle.dn_bundle.specs.declared.curve.shape.Shape.TheVariants.{Plain, Full}
 use Rattle.dn_arc.specs.State.CurveListed.{IsSound}
 use Rattle.dn_arc.specs.State.Curves.{CurveNumbers}
 use Rattle.dn_arc.specs.State.Steps.{steps_of, add_step, has_step}
 
--- the breakpoint, if it has capacity
-abbrev pub plain_step : ℤ × ℤ → Option (ℤ × ℤ)
-plain_step step = cond (int_lt (pos 0) step.1) (Some step) None
+-- the breakpoint of the numbers of a curve with one cost, if there is free capacity
+abbrev pub one_step : OneCost → Option (ℤ × ℤ)
+one_step one = cond (int_lt (pos 0) one.free) (Some (one.cost, one.free)) None
 
 -- the numbers that a shape represents
-abbrev pub numbers_of : Shape → Numbers
-numbers_of (Plain low step) = record {
-  units = pos low;
-  cost = pos low *ℤ step.0;
-  total = pos low +ℤ step.1;
-  steps = steps_of (plain_step step) [];
+abbrev pub shape_numbers : Shape → Numbers
+shape_numbers (Plain one) = record {
+  units = pos one.low;
+  cost = pos one.low *ℤ one.cost;
+  total = pos one.low +ℤ one.free;
+  steps = steps_of (one_step one) [];
 }
-numbers_of (Full numbers) = numbers.value
+shape_numbers (Full numbers) = numbers.value
 
 -- the numbers are those of a valid curve
 abbrev pub AreSound : Numbers → Type 0
 AreSound n = IsSound n.units n.cost n.total n.steps
 
 -- the curve that a shape represents
-abbrev pub curve_of : (shape : Shape) → AreSound (numbers_of shape) → CurveNumbers
+abbrev pub curve_of : (shape : Shape) → AreSound (shape_numbers shape) → CurveNumbers
 curve_of shape sound =
-    let n = numbers_of shape in
+    let n = shape_numbers shape in
     record { units = n.units; cost = n.cost; total = n.total; steps = n.steps; sound = sound }
 
 -- the new numbers have one more arc: its LOW is forced, and the rest of its CAP is free at its COST
@@ -40,13 +41,15 @@ pub record IsGrown (old : Numbers) (a : CostArc) (new : Numbers) : Type 0 where
   pub steps : new.steps ≡ add_step old.steps (a.cost, a.cap -ℤ a.low)
 
 -- a plain shape can take the arc: it has the cost of the arc, or no capacity, and its forced units fit 32 bits with LOW
-pub record StaysPlain (low : ℕ) (step : ℤ × ℤ) (a : CostArc) : Type 0 where
-  pub few : (pos low +ℤ a.low) ≤ℤ pos (2 ^ 32 - 1)
-  pub one : (a.cost ≡ step.0) ⊎ ((low ≡ 0) × (step.1 ≡ pos 0))
+pub record StaysPlain (one : OneCost) (a : CostArc) : Type 0 where
+  pub few : (pos one.low +ℤ a.low) ≤ℤ pos (2 ^ 32 - 1)
+  pub same : (a.cost ≡ one.cost) ⊎ ((one.low ≡ 0) × (one.free ≡ pos 0))
 
--- a plain shape may not be able to take the arc: its forced units do not fit 32 bits with LOW, or the costs differ
-abbrev pub LeavesPlain : ℕ → ℤ × ℤ → CostArc → Type 0
-LeavesPlain low step a = (pos (2 ^ 32 - 1) <ℤ (pos low +ℤ a.low)) ⊎ (a.cost ≡ step.0 → ⊥)
+-- a plain shape may not be able to take the arc: its forced units do not fit 32 bits with a LOW above 0, or the costs
+-- differ
+abbrev pub LeavesPlain : OneCost → CostArc → Type 0
+LeavesPlain one a =
+    ((pos 0 <ℤ a.low) × (pos (2 ^ 32 - 1) <ℤ (pos one.low +ℤ a.low))) ⊎ (a.cost ≡ one.cost → ⊥)
 
 -- the numbers of a curve need memory for the arc: it is the first with LOW above 0 or the first with free capacity at
 -- its COST, or it adds to forced units, at another cost per unit or to more than 2^32 - 1

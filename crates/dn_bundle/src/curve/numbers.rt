@@ -4,7 +4,7 @@ ghost use Rattle.dn_arc.specs.State.Steps.{step_past, has_step};
 
 use crate::cost128::cost_of;
 use crate::curve::Curve;
-use crate::curve::shape::{Shape, plain_step};
+use crate::curve::shape::Shape;
 use crate::steps::StepsIter;
 
 impl Curve {
@@ -13,7 +13,7 @@ impl Curve {
         ensures { result ≡ self.now.units }
     {
         match &self.shape {
-            Shape::Plain(low, _) => i64::from(*low),
+            Shape::Plain(one) => i64::from(one.low),
             Shape::Full(numbers) => numbers.units,
         }
     }
@@ -23,7 +23,7 @@ impl Curve {
         ensures { result ≡ self.now.cost }
     {
         match &self.shape {
-            Shape::Plain(low, step) => cost_of(&i64::from(*low), &step.0),
+            Shape::Plain(one) => cost_of(&i64::from(one.low), &one.cost),
             Shape::Full(numbers) => numbers.cost,
         }
     }
@@ -33,7 +33,7 @@ impl Curve {
         ensures { result ≡ self.now.total }
     {
         match &self.shape {
-            Shape::Plain(low, step) => i64::from(*low) + step.1,
+            Shape::Plain(one) => i64::from(one.low) + one.free,
             Shape::Full(numbers) => numbers.total,
         }
     }
@@ -44,7 +44,7 @@ impl Curve {
         ensures small { result ≤ 2 ^ 63 + 3 }
     {
         match &self.shape {
-            Shape::Plain(_, step) => { if 0 < step.1 { 1 } else { 0 } }
+            Shape::Plain(one) => { if 0 < one.free { 1 } else { 0 } }
             Shape::Full(numbers) => numbers.steps.len(),
         }
     }
@@ -54,7 +54,7 @@ impl Curve {
         ensures { result ≡ slice_get self.now.steps 0 }
     {
         match &self.shape {
-            Shape::Plain(_, step) => plain_step(*step),
+            Shape::Plain(one) => one.step(),
             Shape::Full(numbers) => numbers.steps.first(),
         }
     }
@@ -64,7 +64,7 @@ impl Curve {
         ensures { result ≡ slice_get self.now.steps i }
     {
         match &self.shape {
-            Shape::Plain(_, step) => { if i == 0 { plain_step(*step) } else { None } }
+            Shape::Plain(one) => { if i == 0 { one.step() } else { None } }
             Shape::Full(numbers) => numbers.steps.get(i),
         }
     }
@@ -75,13 +75,7 @@ impl Curve {
         ensures { result ≡ step_past self.now.steps past.now }
     {
         match &self.shape {
-            Shape::Plain(_, step) => {
-                if *past < step.0 {
-                    plain_step(*step)
-                } else {
-                    None
-                }
-            }
+            Shape::Plain(one) => { if *past < one.cost { one.step() } else { None } }
             Shape::Full(numbers) => numbers.steps.past(past),
         }
     }
@@ -91,7 +85,7 @@ impl Curve {
         ensures { result ≡ has_step self.now.steps at.now }
     {
         match &self.shape {
-            Shape::Plain(_, step) => *at == step.0 && 0 < step.1,
+            Shape::Plain(one) => *at == one.cost && 0 < one.free,
             Shape::Full(numbers) => numbers.steps.has(at),
         }
     }
@@ -101,7 +95,7 @@ impl Curve {
         ensures { result ≡ self.now.steps }
     {
         match &self.shape {
-            Shape::Plain(_, step) => StepsIter::of(plain_step(*step)),
+            Shape::Plain(one) => StepsIter::of(one.step()),
             Shape::Full(numbers) => numbers.steps.iter(),
         }
     }

@@ -1,7 +1,7 @@
 // How a curve stores its numbers, and how it adds an arc to them.
 ghost use Rattle.std.specs.Prelude.{◌≡◌, ◌+ℤ◌, OnOk, OnErr, IfOk, IsTrue, false};
 ghost use Rattle.dn_arc.specs.Canonical.{IsCostArc};
-ghost use Rattle.dn_bundle.specs.State.Shapes.{plain_step, numbers_of, AreSound, IsGrown, LeavesPlain, NeedRoom, StaysPlain};
+ghost use Rattle.dn_bundle.specs.State.Shapes.{one_step, shape_numbers, AreSound, IsGrown, LeavesPlain, NeedRoom, StaysPlain};
 
 use crate::cost128::{cost_of, more_cost};
 use crate::steps::Steps;
@@ -21,19 +21,46 @@ pub(crate) struct Numbers {
     pub(crate) steps: Steps,
 }
 
+/// The numbers of a curve with one cost.
+#[derive(Clone, Copy)]
+pub(crate) struct OneCost {
+    /// The forced units.
+    pub(crate) low: u32,
+    /// The cost of each forced unit, and the only cost with free capacity.
+    pub(crate) cost: i64,
+    /// The free capacity.
+    pub(crate) free: i64,
+}
+
 /// How a curve stores its numbers. A curve with one cost and few forced units, as most pairs have, needs no allocation.
 #[derive(Drop)]
 pub(crate) enum Shape {
-    /// The forced units, their cost, and the free capacity at it.
-    Plain(u32, (i64, i64)),
+    Plain(OneCost),
     Full(Box<Numbers>),
 }
 
-/// Returns the breakpoint if it has capacity.
-pub(crate) fn plain_step(step: (i64, i64)) -> Option<(i64, i64)>
-    ensures { result ≡ plain_step step }
-{
-    if 0 < step.1 { Some(step) } else { None }
+impl OneCost {
+    /// Returns the breakpoint, if there is free capacity.
+    pub(crate) fn step(&self) -> Option<(i64, i64)>
+        ensures { result ≡ one_step self.now }
+    {
+        if 0 < self.free {
+            Some((self.cost, self.free))
+        } else {
+            None
+        }
+    }
+
+    // Whether the numbers with this arc are of this kind too. A false result affects only the speed and the memory.
+    fn takes(&self, arc: &CostArc) -> bool
+        ensures stays { IsTrue result → StaysPlain self.now arc.now }
+        ensures leaves { result ≡ false → LeavesPlain self.now arc.now }
+    {
+        if i64::from(u32::MAX - self.low) < arc.low {
+            return false;
+        }
+        arc.cost == self.cost || (self.low == 0 && self.free == 0)
+    }
 }
 
 impl Numbers {
@@ -58,69 +85,53 @@ impl Numbers {
 // `total`.
 fn full_with(
     alloc: Global,
-    low: u32,
-    step: (i64, i64),
+    one: OneCost,
     arc: CostArc,
     total: i64,
 ) -> Result<Box<Numbers>, AllocError>
-    requires sound { AreSound (numbers_of (Shape.Plain low step)) }
+    requires sound { AreSound (shape_numbers (Shape.Plain one)) }
     requires arc { IsCostArc arc }
-    requires total { total ≡ (numbers_of (Shape.Plain low step)).total +ℤ arc.cap }
-    ensures { IfOk result (λ numbers. IsGrown (numbers_of (Shape.Plain low step)) arc numbers.value) }
+    requires total { total ≡ (shape_numbers (Shape.Plain one)).total +ℤ arc.cap }
+    ensures { IfOk result (λ numbers. IsGrown (shape_numbers (Shape.Plain one)) arc numbers.value) }
 {
-    let units = i64::from(low);
+    let units = i64::from(one.low);
     let mut numbers = Numbers {
         units,
-        cost: cost_of(&units, &step.0),
-        total: units + step.1,
-        steps: Steps::of(alloc, plain_step(step)),
+        cost: cost_of(&units, &one.cost),
+        total: units + one.free,
+        steps: Steps::of(alloc, one.step()),
     };
     numbers.add(arc, total)?;
     Ok(Box::new(alloc, numbers)?)
 }
 
-// Whether a plain shape can take an arc. A false result affects only the speed and the memory.
-fn stays_plain(low: u32, step: (i64, i64), arc: &CostArc) -> bool
-    ensures stays { IsTrue result → StaysPlain low step arc.now }
-    ensures leaves { result ≡ false → LeavesPlain low step arc.now }
-{
-    if i64::from(u32::MAX - low) < arc.low {
-        return false;
-    }
-    if arc.cost == step.0 {
-        return true;
-    }
-    if low != 0 {
-        return false;
-    }
-    if step.1 != 0 {
-        return false;
-    }
-    true
-}
-
 impl Shape {
     /// Adds an arc, with which the total capacity is `total`. After an error, nothing has changed.
     pub(crate) fn add(&mut self, alloc: Global, arc: CostArc, total: i64) -> Result<(), AllocError>
-        requires sound { AreSound (numbers_of self.old) }
+        requires sound { AreSound (shape_numbers self.old) }
         requires arc { IsCostArc arc }
-        requires total { total ≡ (numbers_of self.old).total +ℤ arc.cap }
-        ensures ok { OnOk result (IsGrown (numbers_of self.old) arc (numbers_of self.new)) }
-        ensures err { OnErr result (numbers_of self.new ≡ numbers_of self.old) }
-        ensures memory { OnErr result (NeedRoom (numbers_of self.old) arc) }
+        requires total { total ≡ (shape_numbers self.old).total +ℤ arc.cap }
+        ensures ok { OnOk result (IsGrown (shape_numbers self.old) arc (shape_numbers self.new)) }
+        ensures err { OnErr result (shape_numbers self.new ≡ shape_numbers self.old) }
+        ensures memory { OnErr result (NeedRoom (shape_numbers self.old) arc) }
     {
         match self {
             Shape::Full(numbers) => numbers.add(arc, total),
-            Shape::Plain(low, step) => {
+            Shape::Plain(one) => {
                 if arc.cap == 0 {
                     return Ok(());
                 }
-                if stays_plain(*low, *step, &arc) {
-                    *low += arc.low as u32;
-                    *step = (arc.cost, step.1 + (arc.cap - arc.low));
+                if one.takes(&arc) {
+                    let low = one.low + arc.low as u32;
+                    let free = one.free + (arc.cap - arc.low);
+                    *one = OneCost {
+                        low,
+                        cost: arc.cost,
+                        free,
+                    };
                     return Ok(());
                 }
-                *self = Shape::Full(full_with(alloc, *low, *step, arc, total)?);
+                *self = Shape::Full(full_with(alloc, *one, arc, total)?);
                 Ok(())
             }
         }

@@ -3,7 +3,7 @@ use Rattle.std.specs.Prelude.{ℕ, ℤ, ◌<ℤ◌, List, [], ◌∷◌, ◌++�
 use Rattle.std.specs.List.{AllByRecursion, flat_map, sum_by}
 use Rattle.dn_line.specs.declared.kind.Kind.TheVariants as Kinds
 use Rattle.dn_line.specs.declared.word.Keyword.TheVariants.{A, S, T}
-use Rattle.dn_sink.specs.Rows.{Row}
+use Rattle.dn_sink.specs.Rows.{Cells}
 use Rattle.dn_arc.specs.declared.arc.Form.{Form}
 use Rattle.dn_instance.specs.Instances.{Instance, MinCostFlow, MaxFlow, ShortestPaths, size_of}
 use Rattle.dn_instance.specs.State.Parts.{AreParts, arc_lines}
@@ -34,15 +34,15 @@ AreRanges [] = Unit {0}
 AreRanges (I ∷ rest) = AreBelow (arc_lines I) (flat_map arc_lines rest) × AreRanges rest
 
 -- the line of an arc with these nodes and numbers
-abbrev pub line_row : (ℤ × ℤ) × List ℤ → Row
+abbrev pub line_row : (ℤ × ℤ) × List ℤ → Cells
 line_row line = word_row A (line.0.0 ∷ line.0.1 ∷ line.1)
 
 -- the arc lines of an instance
-abbrev pub arc_rows : Instance → List Row
+abbrev pub arc_rows : Instance → List Cells
 arc_rows I = map line_row (arc_lines I)
 
 -- the lines of a graph problem before its arcs, with this number of arcs
-abbrev pub head_rows : ℕ → Instance → List Row
+abbrev pub head_rows : ℕ → Instance → List Cells
 head_rows arcs (MinCostFlow supplies graph) = graph_row Kinds.Min graph.nodes arcs ∷ map supply_row supplies
 head_rows arcs (MaxFlow source sink graph) =
     graph_row Kinds.Max graph.nodes arcs ∷ terminal_row source S ∷ terminal_row sink T ∷ []
@@ -51,5 +51,5 @@ head_rows arcs _ = []
 
 -- the lines of I before its arcs, with the total number of arcs of the given instances, and then the arc lines of these
 -- instances, one instance after another
-abbrev pub gathered_rows : Instance → List Instance → List Row
+abbrev pub gathered_rows : Instance → List Instance → List Cells
 gathered_rows I canons = head_rows (sum_by size_of canons) I ++ flat_map arc_rows canons

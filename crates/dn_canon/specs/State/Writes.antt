@@ -6,7 +6,7 @@ use Rattle.dn_arc.specs.declared.arc.Form.{Form}
 use Rattle.dn_instance.specs.Instances.{Instance, size_of}
 use Rattle.dn_canon.specs.CanonInstances.{IsCanonInstanceOf}
 use Rattle.dn_canon.specs.Prints.{supply_row, terminal_row, print}
-use Rattle.dn_sink.specs.Rows.{Row}
+use Rattle.dn_sink.specs.Rows.{Cells}
 use Rattle.dn_sink.specs.Sinks.{SinkFacts}
 use Rattle.dn_sink.specs.Puts.{HasPut, PutsPrefix}
 use Rattle.dn_instance.specs.declared.refusal.Refusal.{Refusal}
@@ -16,7 +16,7 @@ use Rattle.dn_canon.specs.declared.writer.NodeLines.{NodeLines}
 use Rattle.dn_canon.specs.declared.writer.NodeLines.TheVariants.{Supplies, Terminals, NoNodes}
 
 -- the lines between the problem line and the arcs
-abbrev pub node_rows : NodeLines → List Row
+abbrev pub node_rows : NodeLines → List Cells
 node_rows (Supplies supplies) = map supply_row supplies.now.entries
 node_rows (Terminals source sink) = terminal_row source.now S ∷ terminal_row sink.now T ∷ []
 node_rows NoNodes = []

@@ -18,7 +18,7 @@ use Rattle.dn_instance.specs.TextFaults.{item_tests}
 use Rattle.dn_instance.specs.EntryCount.{entries_by}
 use Rattle.dn_instance.specs.Readers.{NeedsMemory}
 use Rattle.dn_instance.specs.State.ItemFaults.{AnswersFault, arc_fault}
-use Rattle.dn_instance.specs.State.RowRuns.{HasSigns, Joins, line_of, row_items}
+use Rattle.dn_instance.specs.State.RowRuns.{HasSigns, Joins, counted_line, row_items}
 use Rattle.dn_instance.specs.declared.body.Taken.{Taken}
 use Rattle.dn_instance.specs.declared.refusal.ItemFault.{ItemFault}
 use Rattle.dn_instance.specs.declared.refusal.ItemFault.TheVariants.{Memory}
@@ -52,7 +52,7 @@ module _ {T : Type 0} (taker : TakerFacts T) where
     pub holds : taker.Holds held before
 
   -- the result answers the row's item, and the taker holds the item if it has no fault
-  pub record Took (line : Row → Line) (before : List Line) (held : T) (row : Row) (result : Result (Unit {0}) ItemFault)
+  pub record TookRow (line : Row → Line) (before : List Line) (held : T) (row : Row) (result : Result (Unit {0}) ItemFault)
       : Type 0 where
     pub answer : AnswersItem before (line row) result
     pub holds : OnOk result (taker.Holds held (before ++ line row ∷ []))
@@ -60,7 +60,7 @@ module _ {T : Type 0} (taker : TakerFacts T) where
   -- a row is taken after any items that the taker holds
   abbrev pub TakesRow : (Row → Line) → ℤ → T → T → Row → Result (Unit {0}) ItemFault → Type 0
   TakesRow line nodes old new row result =
-      (before : List Line) → Awaits nodes old before (line row ∷ []) → Took line before new row result
+      (before : List Line) → Awaits nodes old before (line row ∷ []) → TookRow line before new row result
 
   -- the items of the rows that were taken have no fault, the taker holds them, and the next row has the fault, if there
   -- is one
@@ -118,12 +118,12 @@ pub record SaysFault {Arc : Type 0} (kind : ArcKind Arc) (nodes : ℤ) (arcs : L
 -- memory where the arc does
 pub record IsArcOfRow {Arc : Type 0} (text : Kind) (kind : ArcKind Arc) (arc_in : Line → Option ((ℤ × ℤ) × Arc))
     (row : Row) (arc : Arc) : Type 0 where
-  pub in_line : arc_in (line_of text row) ≡ Some ((row.first, row.second), arc)
+  pub in_line : arc_in (counted_line text row) ≡ Some ((row.first, row.second), arc)
   pub faults : (before : List Line) (p : Problem) → problem_of before ≡ Some p → p.kind ≡ text
-      → HasSigns (line_of text row)
+      → HasSigns (counted_line text row)
       → SaysFault kind p.nodes (arcs_of arc_in before) ((row.first, row.second), arc)
-      (first_fault (item_tests before (Some (line_of text row))))
+      (first_fault (item_tests before (Some (counted_line text row))))
   pub needs : (before : List Line) (p : Problem) → problem_of before ≡ Some p → p.kind ≡ text
       → GraphNeedsMore kind (arcs_of arc_in before) ((row.first, row.second), arc)
-      → NeedsMemory before (line_of text row)
+      → NeedsMemory before (counted_line text row)
   pub stays : Stays kind

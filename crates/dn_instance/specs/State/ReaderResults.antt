@@ -48,9 +48,9 @@ abbrev pub refusal_of : Reader → Option Refusal
 refusal_of r = r.refusal
 
 -- this refusal if there is one, and success otherwise
-abbrev pub answer_of : Option Refusal → Result (Unit {0}) Refusal
-answer_of None = Ok tt
-answer_of (Some e) = Err e
+abbrev pub fed_answer : Option Refusal → Result (Unit {0}) Refusal
+fed_answer None = Ok tt
+fed_answer (Some e) = Err e
 
 -- the number of lines that a reader has taken
 abbrev pub lines_taken : Reader → ℕ

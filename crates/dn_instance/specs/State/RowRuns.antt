@@ -37,12 +37,12 @@ run_head Min byte = cond (nat_eq byte 110) Heads.Node Heads.Arc
 run_head kind byte = counted_head kind
 
 -- the counted item of a row, in a text of this kind
-abbrev pub line_of : Kind → Row → Line
-line_of kind = row_line kind (counted_head kind)
+abbrev pub counted_line : Kind → Row → Line
+counted_line kind = row_line kind (counted_head kind)
 
 -- the `min` node line of a row
-abbrev pub supply_of : Row → Line
-supply_of = row_line Min Heads.Node
+abbrev pub supply_line : Row → Line
+supply_line = row_line Min Heads.Node
 
 -- the items of these rows, where `line` is the item of one row
 abbrev pub row_items : (Row → Line) → List RowLine → List Line
@@ -57,8 +57,8 @@ HasSigns (Item.MaxArc src dst cap) = pos 0 ≤ℤ cap
 HasSigns _ = Unit {0}
 
 -- if the item is counted, it does not follow as many counted lines as declared
-abbrev pub HasRoom : List Line → Line → Type 0
-HasRoom items i = is_counted i ≡ true → is_full (problem_of items) (counted items) ≡ false
+abbrev pub HasRoomFor : List Line → Line → Type 0
+HasRoomFor items i = is_counted i ≡ true → is_full (problem_of items) (counted items) ≡ false
 
 -- a `min` node line follows no arc, and any other item does not follow as many counted lines as declared
 abbrev pub IsInTime : List Line → Line → Type 0

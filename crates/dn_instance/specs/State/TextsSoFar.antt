@@ -25,7 +25,7 @@ use Rattle.dn_instance.specs.Texts.{items_of, IsClean}
 use Rattle.dn_instance.specs.State.TextParts.{AnyBody, BodyHolds, MarksHold, body_kind, is_graph}
 use Rattle.dn_instance.specs.State.Bodies.{AnswersItem, TakerFacts}
 use Rattle.dn_instance.specs.State.ItemFaults.{AnswersFault}
-use Rattle.dn_instance.specs.State.RowRuns.{HasRoom, HasSigns}
+use Rattle.dn_instance.specs.State.RowRuns.{HasRoomFor, HasSigns}
 use Rattle.dn_instance.specs.declared.refusal.ItemFault.{ItemFault}
 use Rattle.dn_instance.specs.declared.refusal.ItemFault.TheVariants.{Memory}
 use Rattle.dn_instance.specs.declared.text_so_far.RowsTaken.{RowsTaken}
@@ -55,8 +55,8 @@ pub record HasRead (t : TextSoFar) (items : List Line) : Type 0 where
   pub body_holds : HoldsBody t.body items
 
 -- the texts so far of this kind
-abbrev pub text_of : Kind → TakerFacts TextSoFar
-text_of kind = record { kind = kind; Holds = λ t items. (text_kind t ≡ Some kind) × HasRead t items }
+abbrev pub text_taker : Kind → TakerFacts TextSoFar
+text_taker kind = record { kind = kind; Holds = λ t items. (text_kind t ≡ Some kind) × HasRead t items }
 
 -- what a line reads as after these items, where the faults of its item are not checked
 abbrev pub next_read : List Line → List Word → Result Line Code
@@ -71,7 +71,7 @@ pub record MayFollow (before : List Line) (i : Line) : Type 0 where
   pub kind_is : kind_known before ≡ kind_before i
   pub spelled : IsSome (slots_of i)
   pub signs : HasSigns i
-  pub room : HasRoom before i
+  pub room : HasRoomFor before i
 
 -- the text so far has read these items, and this item may follow them
 pub record AwaitsRow (t : TextSoFar) (before : List Line) (i : Line) : Type 0 where

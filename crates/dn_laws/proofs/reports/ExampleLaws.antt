@@ -17,22 +17,22 @@ use Rattle.dn_arc.proofs.PairLaws.{pair_total}
 use Rattle.dn_compare.proofs.ArcPartings.{exact_pair}
 use Rattle.dn_laws.proofs.differences.SomeVerdict.{IsApart, bundle_apart, everywhere, lookup_apart}
 use Rattle.dn_laws.specs.State.DifferenceExamples.{cost_arc_at, flow_from, length_arc_at, with_costs, with_lengths, worked_capacities}
-use Rattle.dn_sink.specs.Rows.{Row}
+use Rattle.dn_sink.specs.Rows.{Cells}
 use Rattle.dn_report.specs.Shows.{AreLengthWords, total_words, cost_words, pair_row, ArePairRows, IsShown}
 
 -- the words at a pair, or none, are right for its arcs
-record IsListed {Arc : Type 0} (kind : ArcKind Arc) (AreWords : List Arc → Row → Type 0) (o : Option Row)
+record IsListed {Arc : Type 0} (kind : ArcKind Arc) (AreWords : List Arc → Cells → Type 0) (o : Option Cells)
     (xs : List Arc) : Type 0 where
   meant : (o ≡ None) ↔ kind.Same xs []
   words : IfSome o (AreWords xs)
 
-module _ {Arc : Type 0} (kind : ArcKind Arc) (AreWords : List Arc → Row → Type 0) where
+module _ {Arc : Type 0} (kind : ArcKind Arc) (AreWords : List Arc → Cells → Type 0) where
   -- words are right for arcs that mean something
-  some_words : (row : Row) (xs : List Arc) → (kind.Same xs [] → ⊥) → AreWords xs row
+  some_words : (row : Cells) (xs : List Arc) → (kind.Same xs [] → ⊥) → AreWords xs row
       → IsListed kind AreWords (Some row) xs
   some_words row xs never is = record { meant = (λ h. cc, λ h. absurd (never h)); words = is }
 
-  module _ (laws : IsKind kind) (arcs : List ((ℤ × ℤ) × Arc)) (entries : List ((ℤ × ℤ) × Row)) where
+  module _ (laws : IsKind kind) (arcs : List ((ℤ × ℤ) × Arc)) (entries : List ((ℤ × ℤ) × Cells)) where
     abbrev ListedAt : ℤ × ℤ → Type 0
     ListedAt p = IsListed kind AreWords (lookup (same_pair p) entries) (bundle p arcs)
 
@@ -59,11 +59,11 @@ some_lengths =
     length_arc_at (pos 2) (pos 1) (pos 4) ∷ length_arc_at (pos 1) (pos 2) (pos 7)
     ∷ length_arc_at (pos 1) (pos 2) (pos 3) ∷ []
 
-abbrev length_entries : List ((ℤ × ℤ) × Row)
+abbrev length_entries : List ((ℤ × ℤ) × Cells)
 length_entries = ((pos 1, pos 2), codes "length" ∷ signed_decimal (pos 3) ∷ []) ∷
     ((pos 2, pos 1), codes "length" ∷ signed_decimal (pos 4) ∷ []) ∷ []
 
-length_words : {row : Row} {xs : List LengthArc} → AreLengthWords xs row → IsListed lengths AreLengthWords (Some row) xs
+length_words : {row : Cells} {xs : List LengthArc} → AreLengthWords xs row → IsListed lengths AreLengthWords (Some row) xs
 length_words w = some_words lengths AreLengthWords _ _ (λ same. (same.there w.0 w.1).has) w
 
 pub shown_lengths : IsShown (with_lengths some_lengths)
@@ -79,11 +79,11 @@ shown_lengths =
     (_, record { pairs = _; are_pairs = rows; rows_are = refl }, refl)
 
 -- the worked `max` graph
-abbrev cap_entries : List ((ℤ × ℤ) × Row)
+abbrev cap_entries : List ((ℤ × ℤ) × Cells)
 cap_entries = ((pos 1, pos 2), codes "total" ∷ signed_decimal (pos 9) ∷ []) ∷
     ((pos 1, pos 3), codes "total" ∷ signed_decimal (pos 2) ∷ []) ∷ []
 
-abbrev AreTotal : List CapArc → Row → Type 0
+abbrev AreTotal : List CapArc → Cells → Type 0
 AreTotal arcs words = words ≡ total_words arcs
 
 pub shown_capacities : IsShown (flow_from (pos 1) (pos 3) worked_capacities)
@@ -106,10 +106,10 @@ some_costs =
     cost_arc_at (pos 1) (pos 3) (pos 2) ∷ cost_arc_at (pos 0) (pos 2) (pos 5)
     ∷ cost_arc_at (pos 2) (pos 2) (negsuc 6) ∷ []
 
-abbrev cost_entries : List ((ℤ × ℤ) × Row)
+abbrev cost_entries : List ((ℤ × ℤ) × Cells)
 cost_entries = ((pos 1, pos 2), cost_words (bundle (pos 1, pos 2) some_costs)) ∷ []
 
-abbrev AreCosts : List CostArc → Row → Type 0
+abbrev AreCosts : List CostArc → Cells → Type 0
 AreCosts arcs words = words ≡ cost_words arcs
 
 -- the arcs of the worked `min` graph mean something

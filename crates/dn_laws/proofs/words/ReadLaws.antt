@@ -7,7 +7,7 @@ use Rattle.clap.specs.Words.{IsAmong, Kinds, Text, fault_of, subcommand_of}
 use Rattle.clap.specs.declared.error.kind.ErrorKind.{ErrorKind}
 use Rattle.clap.specs.declared.error.kind.ErrorKind.TheVariants.{DisplayHelp, DisplayVersion}
 use Rattle.dn_command.specs.Commands.{Asked, is_name}
-use Rattle.dn_command.specs.Options.{dnorm_app, form_words}
+use Rattle.dn_command.specs.Options.{dnorm_app, form_option_words}
 use Rattle.dn_command.specs.Requests.{Answers, IsReadByClap, subcommand_asked}
 use Rattle.dn_command.specs.State.RequestKinds.{Prints, PrintsVersion, Requests}
 use Rattle.dn_command.specs.declared.request.Request.{Request}
@@ -43,10 +43,10 @@ form_refs p q r = record {
 
 -- what holds of all references to these texts holds of all forms
 forms_cases : (P : Bor (List (Bor Text)) → Type 0) → ((p q r : ℕ × ℕ) → P (form_refs p q r))
-    → (forms : Bor (List (Bor Text))) → map (λ s. s.now) forms.now ≡ form_words → P forms
+    → (forms : Bor (List (Bor Text))) → map (λ s. s.now) forms.now ≡ form_option_words → P forms
 forms_cases P h forms e = go forms.now e
   where
-    go : (l : List (Bor Text)) → map (λ s. s.now) l ≡ form_words → P (record { ref_ptr = forms.ref_ptr; now = l })
+    go : (l : List (Bor Text)) → map (λ s. s.now) l ≡ form_option_words → P (record { ref_ptr = forms.ref_ptr; now = l })
     go [] e = absurd (omega (arith, ap length e))
     go (a ∷ []) e = absurd (omega (arith, ap length e))
     go (a ∷ b ∷ c ∷ rest) e = absurd (omega (arith, ap length e))

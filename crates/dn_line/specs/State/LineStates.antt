@@ -109,5 +109,5 @@ last_of ls [] = last_ended ls
 last_of ls (b ∷ bs) = record { bytes = b ∷ bs; ended = false }
 
 -- the line that a reader represents after the bytes of a text
-abbrev pub line_of : List ℕ → LineSoFar
-line_of t = last_of (parts is_line_feed t).0 (parts is_line_feed t).1
+abbrev pub last_line : List ℕ → LineSoFar
+last_line t = last_of (parts is_line_feed t).0 (parts is_line_feed t).1

@@ -13,7 +13,7 @@ pub record AreBlanks (bytes rest : List ℕ) : Type 0 where
   pub all : list_all is_blank blanks ≡ true
 
 -- the bytes are one or more blanks, followed by the rest
-pub record IsGap (bytes rest : List ℕ) : Type 0 where
+pub record AreSomeBlanks (bytes rest : List ℕ) : Type 0 where
   pub blank : ℕ
   pub is : is_blank blank ≡ true
   pub more : List ℕ
@@ -34,7 +34,7 @@ pub record IsNumberFront (bytes : List ℕ) (number : ℤ) (rest : List ℕ) : T
 pub record IsNumberBefore (bytes : List ℕ) (number : ℤ) (rest : List ℕ) : Type 0 where
   pub left : List ℕ
   pub front : IsNumberFront bytes number left
-  pub gap : IsGap left rest
+  pub gap : AreSomeBlanks left rest
 
 -- the word that spells this number
 abbrev pub number_word : ℤ → Word

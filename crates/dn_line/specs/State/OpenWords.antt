@@ -3,43 +3,43 @@ use Rattle.std.specs.Prelude.{◌≡◌, ℕ, List, [], ◌∷◌, Bool, false, 
 use Rattle.dn_num.specs.State.NumberReader.{NumberReaderAt}
 use Rattle.dn_line.specs.Words.{keyword_of}
 use Rattle.dn_line.specs.declared.word.Keyword.{Keyword}
-use Rattle.dn_line.specs.declared.open_word.Short.{Short}
-use Rattle.dn_line.specs.declared.open_word.Short.TheVariants.{Zero, One, Two, Three, More}
+use Rattle.dn_line.specs.declared.open_word.FirstBytes.{FirstBytes}
+use Rattle.dn_line.specs.declared.open_word.FirstBytes.TheVariants.{Zero, One, Two, Three, More}
 use Rattle.dn_line.specs.declared.open_word.OpenWord.{OpenWord}
 
 -- the bytes of a word of at most three bytes, as each keyword is, or else the first byte
-abbrev pub short : List ℕ → Short
-short [] = Zero
-short (a ∷ []) = One a
-short (a ∷ b ∷ []) = Two a b
-short (a ∷ b ∷ c ∷ []) = Three a b c
-short (a ∷ b ∷ c ∷ d ∷ ds) = More a
+abbrev pub first_bytes : List ℕ → FirstBytes
+first_bytes [] = Zero
+first_bytes (a ∷ []) = One a
+first_bytes (a ∷ b ∷ []) = Two a b
+first_bytes (a ∷ b ∷ c ∷ []) = Three a b c
+first_bytes (a ∷ b ∷ c ∷ d ∷ ds) = More a
 
 -- the state represents these bytes of a word
 pub record WordAt (o : OpenWord) (w : List ℕ) : Type 0 where
-  pub short_is : o.short ≡ short w
+  pub first_is : o.first ≡ first_bytes w
   pub number_is : NumberReaderAt o.number w
 
 -- the state after one more byte
-abbrev pub short_step : Short → ℕ → Short
-short_step Zero x = One x
-short_step (One a) x = Two a x
-short_step (Two a b) x = Three a b x
-short_step (Three a b c) x = More a
-short_step (More a) x = More a
+abbrev pub first_bytes_step : FirstBytes → ℕ → FirstBytes
+first_bytes_step Zero x = One x
+first_bytes_step (One a) x = Two a x
+first_bytes_step (Two a b) x = Three a b x
+first_bytes_step (Three a b c) x = More a
+first_bytes_step (More a) x = More a
 
 -- the keyword that the word is
-abbrev pub short_keyword : Short → Option Keyword
-short_keyword Zero = None
-short_keyword (One a) = keyword_of (a ∷ [])
-short_keyword (Two a b) = keyword_of (a ∷ b ∷ [])
-short_keyword (Three a b c) = keyword_of (a ∷ b ∷ c ∷ [])
-short_keyword (More a) = None
+abbrev pub first_bytes_keyword : FirstBytes → Option Keyword
+first_bytes_keyword Zero = None
+first_bytes_keyword (One a) = keyword_of (a ∷ [])
+first_bytes_keyword (Two a b) = keyword_of (a ∷ b ∷ [])
+first_bytes_keyword (Three a b c) = keyword_of (a ∷ b ∷ c ∷ [])
+first_bytes_keyword (More a) = None
 
 -- the word begins with `c`
-abbrev pub short_comment : Short → Bool
-short_comment Zero = false
-short_comment (One a) = nat_eq a 99
-short_comment (Two a b) = nat_eq a 99
-short_comment (Three a b c) = nat_eq a 99
-short_comment (More a) = nat_eq a 99
+abbrev pub begins_with_c : FirstBytes → Bool
+begins_with_c Zero = false
+begins_with_c (One a) = nat_eq a 99
+begins_with_c (Two a b) = nat_eq a 99
+begins_with_c (Three a b c) = nat_eq a 99
+begins_with_c (More a) = nat_eq a 99

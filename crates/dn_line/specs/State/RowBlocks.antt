@@ -1,6 +1,6 @@
 -- Consecutive lines of a letter and numbers at the beginning of longer bytes.
 use Rattle.std.specs.Prelude.{◌≡◌, ℕ, List, [], ◌∷◌, get_or, length}
-use Rattle.dn_line.specs.State.Rows.{BeginsWithRow, HasRow}
+use Rattle.dn_line.specs.State.Rows.{BeginsWithRow, HasFields}
 use Rattle.dn_line.specs.declared.kind.Kind.{Kind}
 use Rattle.dn_line.specs.declared.row_block.RowLine.{RowLine}
 use Rattle.dn_line.specs.declared.word.Field.{Field}
@@ -9,7 +9,7 @@ use Rattle.dn_line.specs.declared.word.Field.{Field}
 -- the rest, whose length the row records
 pub record IsRowLine (kind : Kind) (letter : ℕ) (bytes : List ℕ) (r : RowLine) (rest : List ℕ) : Type 0 where
   pub fields : List Field
-  pub in_table : HasRow kind letter fields
+  pub in_table : HasFields kind letter fields
   pub begins : BeginsWithRow letter fields bytes r.row rest
   pub left : r.left ≡ length rest
 

@@ -2,8 +2,8 @@
 use Rattle.std.specs.Prelude.{◌≡◌, ℤ, pos, List, cond, slice_get, Option, Some, None, Result, Ok, Err}
 use Rattle.std.specs.Ordering.{int_eq}
 use Rattle.dn_line.specs.Words.{tail}
-use Rattle.dn_line.specs.LineTable.{row, counts, after_name}
-use Rattle.dn_line.specs.Faults.{first_fault, field_tests, row_fields}
+use Rattle.dn_line.specs.LineTable.{fields_of, counts, after_name}
+use Rattle.dn_line.specs.Faults.{first_fault, field_tests, filled_fields}
 use Rattle.dn_line.specs.Reading.{num, unless}
 use Rattle.dn_line.specs.State.LineReads.{head_read, fields_read}
 use Rattle.dn_line.specs.declared.code.Code.{Code}
@@ -38,19 +38,19 @@ field_value Natural w = num w
 field_value Terminal w = terminal_number w.keyword
 
 -- the number of a word in its field, or 0 if there is no field or no word
-abbrev pub value_of : Option Field → Option Word → ℤ
-value_of (Some f) (Some w) = field_value f w
-value_of (Some f) None = pos 0
-value_of None w = pos 0
+abbrev pub number_in : Option Field → Option Word → ℤ
+number_in (Some f) (Some w) = field_value f w
+number_in (Some f) None = pos 0
+number_in None w = pos 0
 
 -- the row of the words that fill these fields
 abbrev pub filled_row : List Field → List Word → Row
 filled_row fs ws = record {
-  first = value_of (slice_get fs 0) (slice_get ws 0);
-  second = value_of (slice_get fs 1) (slice_get ws 1);
-  third = value_of (slice_get fs 2) (slice_get ws 2);
-  fourth = value_of (slice_get fs 3) (slice_get ws 3);
-  fifth = value_of (slice_get fs 4) (slice_get ws 4);
+  first = number_in (slice_get fs 0) (slice_get ws 0);
+  second = number_in (slice_get fs 1) (slice_get ws 1);
+  third = number_in (slice_get fs 2) (slice_get ws 2);
+  fourth = number_in (slice_get fs 3) (slice_get ws 3);
+  fifth = number_in (slice_get fs 4) (slice_get ws 4);
 }
 
 -- the problem that the row of a problem line of this kind declares
@@ -79,11 +79,11 @@ item_of_row _ _ r = Items.Skip
 abbrev pub fields_at : Head → Option Kind → Option (List Field)
 fields_at Heads.Skip known = None
 fields_at (Heads.Problem kind) known = Some (counts kind)
-fields_at Heads.Node (Some kind) = row kind Key.N
-fields_at Heads.Arc (Some kind) = row kind Key.A
-fields_at Heads.Source (Some kind) = row kind Key.S
-fields_at Heads.Query (Some kind) = row kind Key.Q
-fields_at Heads.Point (Some kind) = row kind Key.V
+fields_at Heads.Node (Some kind) = fields_of kind Key.N
+fields_at Heads.Arc (Some kind) = fields_of kind Key.A
+fields_at Heads.Source (Some kind) = fields_of kind Key.S
+fields_at Heads.Query (Some kind) = fields_of kind Key.Q
+fields_at Heads.Point (Some kind) = fields_of kind Key.V
 fields_at _ None = None
 
 -- the words that fill the fields of a line with this head
@@ -103,7 +103,7 @@ row_at (Some fs) ws = filled_row fs ws
 -- the row of a line with this head, or the first fault of its fields
 abbrev pub row_read : Option Kind → Head → List Word → Result Row Code
 row_read known head ws =
-    unless (first_fault (field_tests (row_fields (fields_at head known) (after_head head ws))))
+    unless (first_fault (field_tests (filled_fields (fields_at head known) (after_head head ws))))
     (row_at (fields_at head known) (after_head head ws))
 
 -- the item of the row if there is one, and the fault otherwise

@@ -1,7 +1,7 @@
 -- Lines of a letter and numbers in plain spelling at the beginning of longer bytes.
 use Rattle.std.specs.Prelude.{◌≡◌, ◌≤ℤ◌, ℕ, ℤ, pos, List, [], ◌∷◌, ◌++◌, length, slice_get, map, take, drop, Bool, true, false, not, int_lt, Option, Some, None}
 use Rattle.std.specs.List.{AllByRecursion, list_all}
-use Rattle.dn_line.specs.LineTable.{row}
+use Rattle.dn_line.specs.LineTable.{fields_of}
 use Rattle.dn_line.specs.Words.{said, said_words}
 use Rattle.dn_line.specs.State.Numbers.{AreNumbers, number_word}
 use Rattle.dn_line.specs.State.LineStates.{is_inner}
@@ -22,14 +22,14 @@ letter_byte V = Some 118
 letter_byte _ = None
 
 -- lines that begin with this letter have these fields in a text of this kind
-pub record HasRow (kind : Kind) (letter : ℕ) (fields : List Field) : Type 0 where
+pub record HasFields (kind : Kind) (letter : ℕ) (fields : List Field) : Type 0 where
   pub key : Keyword
   pub byte_is : letter_byte key ≡ Some letter
-  pub row_is : row kind key ≡ Some fields
+  pub row_is : fields_of kind key ≡ Some fields
 
 -- the first numbers of a row, this many
-abbrev pub numbers_of : ℕ → Row → List ℤ
-numbers_of count r = take count (r.first ∷ r.second ∷ r.third ∷ r.fourth ∷ r.fifth ∷ [])
+abbrev pub row_numbers : ℕ → Row → List ℤ
+row_numbers count r = take count (r.first ∷ r.second ∷ r.third ∷ r.fourth ∷ r.fifth ∷ [])
 
 -- the numbers of a row after the first ones, this many, are 0
 abbrev pub EndsWithZeros : ℕ → Row → Type 0
@@ -38,7 +38,7 @@ EndsWithZeros count r =
 
 -- the bytes are a line of this many numbers and LF, followed by the rest, and the row has these numbers and no others
 pub record HasNumbers (count : ℕ) (bytes : List ℕ) (r : Row) (rest : List ℕ) : Type 0 where
-  pub numbers : AreNumbers bytes (numbers_of count r) rest
+  pub numbers : AreNumbers bytes (row_numbers count r) rest
   pub others : EndsWithZeros count r
 
 -- the number fits this field, or there is no field
@@ -50,7 +50,7 @@ field_fits (Some Terminal) n = false
 
 -- the first numbers of a row, this many, are at least 0
 abbrev pub AreNatural : ℕ → Row → Type 0
-AreNatural count r = AllByRecursion (λ n. pos 0 ≤ℤ n) (numbers_of count r)
+AreNatural count r = AllByRecursion (λ n. pos 0 ≤ℤ n) (row_numbers count r)
 
 -- each field is of a number
 abbrev pub AreNumeric : List Field → Type 0
@@ -68,6 +68,6 @@ pub record BeginsWithRow (letter : ℕ) (fields : List Field) (bytes : List ℕ)
   pub line : List ℕ
   pub whole : line ++ 10 ∷ rest ≡ bytes
   pub inner : list_all is_inner line ≡ true
-  pub says : said_words line ≡ said (letter ∷ []) ∷ map number_word (numbers_of (length fields) r)
-  pub fit : FieldsFit fields (numbers_of (length fields) r)
+  pub says : said_words line ≡ said (letter ∷ []) ∷ map number_word (row_numbers (length fields) r)
+  pub fit : FieldsFit fields (row_numbers (length fields) r)
   pub others : EndsWithZeros (length fields) r

@@ -3,16 +3,16 @@ use Rattle.dn_arc.specs.declared.arc.Form.TheVariants.{One}
 use Rattle.dn_arc.specs.Meanings.{SameCurve}
 use Rattle.dn_arc.specs.State.CurveListed.{listed}
 use Rattle.dn_arc.specs.State.Curves.{CurveNumbers}
-use Rattle.dn_bundle.specs.State.Shapes.{numbers_of}
+use Rattle.dn_bundle.specs.State.Shapes.{shape_numbers}
 use Rattle.dn_bundle.proofs.GrowLaws.{taken_same, taken_sound, same_curve}
 use Rattle.dn_bundle.proofs.curve.Curve.grow.Goals as goal
 
 pub invariant_of-self-inside : goal.invariant_of-self-inside
 invariant_of-self-inside c =
-    let old = numbers_of c.self.inside.shape in
+    let old = shape_numbers c.self.inside.shape in
     let total = c.requires.total ∙ ap (λ (v : CurveNumbers). v.total +ℤ c.args.arc.cap) (sym c.self.view_is) in (
       taken_sound old
-          (numbers_of c.add.new.self) c.args.arc c.args.total c.self.inside.sound c.requires.arc total c.ranges.total
+          (shape_numbers c.add.new.self) c.args.arc c.args.total c.self.inside.sound c.requires.arc total c.ranges.total
           (search rules) c.add.result c.add.ensures.ok c.add.ensures.err,
       tt,
     )
@@ -23,8 +23,8 @@ returns-in-Err-clause-err c =
 
 pub returns-clause-ok : goal.returns-clause-ok
 returns-clause-ok c =
-    let old = numbers_of c.self.inside.shape in
-    let new = numbers_of c.add.new.self in
+    let old = shape_numbers c.self.inside.shape in
+    let new = shape_numbers c.add.new.self in
     let total = c.requires.total ∙ ap (λ (v : CurveNumbers). v.total +ℤ c.args.arc.cap) (sym c.self.view_is) in
     subst
     (λ (v : CurveNumbers). SameCurve (listed One new.units new.cost new.steps)

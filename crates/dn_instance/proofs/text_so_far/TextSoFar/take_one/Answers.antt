@@ -1,6 +1,6 @@
 use Rattle.std.proofs.Common.{◌<◌, arith}
 use Rattle.dn_instance.specs.State.RowRuns.{row_line}
-use Rattle.dn_instance.specs.State.TextsSoFar.{text_of}
+use Rattle.dn_instance.specs.State.TextsSoFar.{text_taker}
 use Rattle.dn_instance.proofs.RowRunLaws.{one_refused, one_taken, took_one}
 use Rattle.dn_instance.proofs.text_so_far.TextSoFar.take_one.Goals as goal
 
@@ -11,7 +11,7 @@ pub returns-in-Some-clause-taken : goal.returns-in-Some-clause-taken
 returns-in-Some-clause-taken c run before a =
     let t = took_one c.args.self.now _ c.args.head c.args.row.now _ c.take_run.ensures.taken run before a in
     let took =
-    one_refused (text_of t.0) (row_line t.0 c.args.head) before _ _ _ t.2 c.in-Some.fault c.in-Some.is (few c) in
+    one_refused (text_taker t.0) (row_line t.0 c.args.head) before _ _ _ t.2 c.in-Some.fault c.in-Some.is (few c) in
     (rw t.1 took.answer, tt)
 
 pub returns-in-Some-clause-unchanged : goal.returns-in-Some-clause-unchanged
@@ -21,6 +21,6 @@ pub returns-in-None-clause-taken : goal.returns-in-None-clause-taken
 returns-in-None-clause-taken c run before a =
     let t = took_one c.args.self.now _ c.args.head c.args.row.now _ c.take_run.ensures.taken run before a in
     let took =
-    one_taken (text_of t.0) (row_line t.0 c.args.head) before _ _ _ t.2 c.in-None.is
+    one_taken (text_taker t.0) (row_line t.0 c.args.head) before _ _ _ t.2 c.in-None.is
     (rw c.in-None.is at c.take_run.ensures.within) in
     (rw t.1 took.answer, rw t.1 took.holds.1)

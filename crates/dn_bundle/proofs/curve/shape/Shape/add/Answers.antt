@@ -4,20 +4,20 @@ use Rattle.dn_bundle.proofs.StepLaws.{on_err}
 use Rattle.dn_bundle.proofs.NewLaws.{leaves_room}
 use Rattle.dn_bundle.proofs.curve.shape.Shape.add.Goals as goal
 
-pub overflow_add-step : goal.overflow_add-step
-overflow_add-step c =
-    plain_sum_fits c.args.self.now c.in-Plain.low c.in-Plain.step c.args.arc c.args.total c.in-Plain.is c.requires.sound
-    c.requires.arc c.requires.total (c.if-stays_plain.ensures.stays refl) c.ranges.total (search rules) (search rules)
+pub overflow_add-free : goal.overflow_add-free
+overflow_add-free c =
+    plain_sum_fits c.args.self.now c.in-Plain.one c.args.arc c.args.total c.in-Plain.is c.requires.sound
+    c.requires.arc c.requires.total (c.if-takes.ensures.stays refl) c.ranges.total (search rules) (search rules)
     (search rules) (search rules)
 
-pub returns-then-stays_plain-clause-ok : goal.returns-then-stays_plain-clause-ok
-returns-then-stays_plain-clause-ok c =
-    plain_taken c.args.self.now c.in-Plain.low c.in-Plain.step c.args.arc c.args.total c.in-Plain.is c.requires.sound
-    c.requires.arc c.requires.total (c.if-stays_plain.ensures.stays refl) c.ranges.total (search rules) (search rules)
+pub returns-then-takes-clause-ok : goal.returns-then-takes-clause-ok
+returns-then-takes-clause-ok c =
+    plain_taken c.args.self.now c.in-Plain.one c.args.arc c.args.total c.in-Plain.is c.requires.sound
+    c.requires.arc c.requires.total (c.if-takes.ensures.stays refl) c.ranges.total (search rules) (search rules)
     (search rules) (search rules)
 
 pub returns-in_err-full_with-in-Plain-clause-memory : goal.returns-in_err-full_with-in-Plain-clause-memory
 returns-in_err-full_with-in-Plain-clause-memory c =
     on_err c.from_residual.result
-    (rw c.in-Plain.is (leaves_room c.in-Plain.low c.in-Plain.step c.args.arc c.requires.arc (search rules)
-    (λ e. c.if-arc-eq0.false (ap (of_z w64) e)) (c.if-stays_plain.ensures.leaves refl)))
+    (rw c.in-Plain.is (leaves_room c.in-Plain.one c.args.arc c.requires.arc
+    (λ e. c.if-arc-eq0.false (ap (of_z w64) e)) (c.if-takes.ensures.leaves refl)))
