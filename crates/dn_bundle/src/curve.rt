@@ -192,8 +192,7 @@ impl Curve {
     fn grow(&mut self, arc: CostArc, total: i64) -> Result<(), AllocError>
         requires arc { IsCostArc arc }
         requires total { total ≡ self.old.total +ℤ arc.cap }
-        ensures ok { OnOk result (SameCurve (listed Form.One self.new.units self.new.cost self.new.steps)
-            (listed Form.One self.old.units self.old.cost self.old.steps ++ arc ∷ [])) }
+        ensures ok { OnOk result (SameCurve (curve_arcs Form.One self.new) (curve_arcs Form.One self.old ++ arc ∷ [])) }
         ensures err { OnErr result (self.new ≡ self.old) }
         ensures memory { OnErr result (NeedsRoom self.old.units self.old.cost self.old.steps arc) }
     {

@@ -4,7 +4,7 @@ ghost use Rattle.std.specs.Prelude.{◌≡◌, ◌+◌, ◌<◌, ◌≤◌, ◌^
 ghost use Rattle.std.specs.Fmt.{signed_decimal};
 ghost use Rattle.dn_line.specs.declared.word.Keyword.TheVariants.{S, T};
 ghost use Rattle.dn_sink.specs.Rows.{line_text};
-ghost use Rattle.dn_canon.specs.State.Blocks.{HasRoom, Passes};
+ghost use Rattle.dn_canon.specs.State.Blocks.{HasRoom, Adds};
 ghost use Rattle.dn_canon.specs.Prints.{graph_row, companion_row, supply_row, terminal_row, source_row, query_row, point_row};
 
 use crate::block::Block;
@@ -45,8 +45,7 @@ pub(crate) fn supply_line<K: Sink>(
     id: &i64,
     flow: &i64,
 ) -> Result<(), SinkFault>
-    ensures { Passes K.sink sink.old sink.new block.new
-        (block.old ++ line_text (supply_row (id.now, flow.now))) result }
+    ensures { Adds K.sink sink.old sink.new block.old block.new (line_text (supply_row (id.now, flow.now))) result }
 {
     row_line(block, sink, b'n', &[*id, *flow])
 }
@@ -57,8 +56,7 @@ pub(crate) fn max_source_line<K: Sink>(
     sink: &mut K,
     id: &i64,
 ) -> Result<(), SinkFault>
-    ensures { Passes K.sink sink.old sink.new block.new
-        (block.old ++ line_text (terminal_row id.now S)) result }
+    ensures { Adds K.sink sink.old sink.new block.old block.new (line_text (terminal_row id.now S)) result }
 {
     block.make_room(sink)?;
     block.byte(b'n');
@@ -73,8 +71,7 @@ pub(crate) fn max_sink_line<K: Sink>(
     sink: &mut K,
     id: &i64,
 ) -> Result<(), SinkFault>
-    ensures { Passes K.sink sink.old sink.new block.new
-        (block.old ++ line_text (terminal_row id.now T)) result }
+    ensures { Adds K.sink sink.old sink.new block.old block.new (line_text (terminal_row id.now T)) result }
 {
     block.make_room(sink)?;
     block.byte(b'n');
@@ -89,8 +86,7 @@ pub(crate) fn source_line<K: Sink>(
     sink: &mut K,
     id: &i64,
 ) -> Result<(), SinkFault>
-    ensures { Passes K.sink sink.old sink.new block.new
-        (block.old ++ line_text (source_row id.now)) result }
+    ensures { Adds K.sink sink.old sink.new block.old block.new (line_text (source_row id.now)) result }
 {
     row_line(block, sink, b's', &[*id])
 }
@@ -101,8 +97,7 @@ pub(crate) fn query_line<K: Sink>(
     sink: &mut K,
     query: &(i64, i64),
 ) -> Result<(), SinkFault>
-    ensures { Passes K.sink sink.old sink.new block.new
-        (block.old ++ line_text (query_row query.now)) result }
+    ensures { Adds K.sink sink.old sink.new block.old block.new (line_text (query_row query.now)) result }
 {
     row_line(block, sink, b'q', &[query.0, query.1])
 }
@@ -114,8 +109,7 @@ pub(crate) fn point_line<K: Sink>(
     id: &i64,
     place: &(i64, i64),
 ) -> Result<(), SinkFault>
-    ensures { Passes K.sink sink.old sink.new block.new
-        (block.old ++ line_text (point_row (id.now, place.now))) result }
+    ensures { Adds K.sink sink.old sink.new block.old block.new (line_text (point_row (id.now, place.now))) result }
 {
     row_line(block, sink, b'v', &[*id, place.0, place.1])
 }
@@ -129,8 +123,7 @@ fn row_line<K: Sink>(
     numbers: &[i64],
 ) -> Result<(), SinkFault>
     requires { length numbers.now ≤ 5 }
-    ensures { Passes K.sink sink.old sink.new block.new
-        (block.old ++ line_text ((letter ∷ []) ∷ map signed_decimal numbers.now)) result }
+    ensures { Adds K.sink sink.old sink.new block.old block.new (line_text ((letter ∷ []) ∷ map signed_decimal numbers.now)) result }
 {
     block.make_room(sink)?;
     block.line(letter, numbers);

@@ -6,14 +6,14 @@ ghost use Rattle.dn_instance.specs.Instances.{Graph, Sources, Queries, Coordinat
 ghost use Rattle.dn_arc.specs.Pairs.{pair_cmp};
 ghost use Rattle.dn_table.specs.State.Tables.{Lists};
 ghost use Rattle.dn_instance.specs.Validity.{IsValidGraph};
-ghost use Rattle.dn_canon.specs.State.Blocks.{Passes};
+ghost use Rattle.dn_canon.specs.State.Blocks.{Adds};
 ghost use Rattle.dn_canon.specs.State.Lines.{AreShort};
-ghost use Rattle.dn_canon.specs.Prints.{arc_row, supply_row, graph_rows, print};
+ghost use Rattle.dn_canon.specs.Prints.{arc_row, supply_row, print};
 ghost use Rattle.dn_sink.specs.Rows.{text_of};
 ghost use Rattle.dn_sink.specs.Puts.{Puts};
 ghost use Rattle.dn_canon.specs.State.CanonGraphs.{IsCanonGraphOf};
 ghost use Rattle.dn_canon.specs.State.ListedArcs.{placed, listed_arcs, listed_graph};
-ghost use Rattle.dn_canon.specs.State.Writes.{node_rows, Writes};
+ghost use Rattle.dn_canon.specs.State.Writes.{Writes, graph_text, node_rows};
 
 use crate::block::Block;
 use crate::print::{
@@ -47,9 +47,9 @@ pub(crate) fn write_graph<B: Bundle, K: Sink>(
     form: Form,
 ) -> Result<(), Refusal>
     requires { AreShort B.bundle.kind }
-    ensures text { let graph = listed_graph (B.bundle.listed form) nodes.now table.now in
-        let text = text_of (graph_rows B.bundle.kind kind graph (node_rows lines.now)) in
-        Writes K.sink sink.old sink.new text (length graph.arcs) result }
+    ensures text { let text = graph_text B.bundle form kind nodes.now lines.now table.now in
+        let arcs = listed_arcs (B.bundle.listed form) table.now in
+        Writes K.sink sink.old sink.new text (length arcs) result }
     ensures flushed { OnOk result (IsTrue (K.sink.is_flushed sink.new)) }
     ensures canon { (G : Graph B.Arc) → G.nodes ≡ nodes.now → Lists B.bundle table.now G.arcs
         → IsValidGraph B.bundle.kind G
@@ -130,8 +130,7 @@ fn put_bundle<B: Bundle, K: Sink>(
     form: Form,
 ) -> Result<(), SinkFault>
     requires { AreShort B.bundle.kind }
-    ensures { Passes K.sink sink.old sink.new block.new
-        (block.old ++ text_of (map (arc_row B.bundle.kind)
+    ensures { Adds K.sink sink.old sink.new block.old block.new (text_of (map (arc_row B.bundle.kind)
         (placed pair.now (B.bundle.listed form bundle.now)))) result }
 {
     let mut next = bundle.canon_arc(0, form);
@@ -153,8 +152,7 @@ fn put_table<B: Bundle, K: Sink>(
     form: Form,
 ) -> Result<(), SinkFault>
     requires { AreShort B.bundle.kind }
-    ensures { Passes K.sink sink.old sink.new block.new
-        (block.old ++ text_of (map (arc_row B.bundle.kind) (listed_arcs (B.bundle.listed form) table.now))) result }
+    ensures { Adds K.sink sink.old sink.new block.old block.new (text_of (map (arc_row B.bundle.kind) (listed_arcs (B.bundle.listed form) table.now))) result }
 {
     for (pair, bundle) in table.pairs() {
         put_bundle(block, sink, &pair, bundle, form)?;
@@ -168,8 +166,7 @@ fn put_supplies<K: Sink>(
     sink: &mut K,
     supplies: &BTreeMap<i64, i64>,
 ) -> Result<(), SinkFault>
-    ensures { Passes K.sink sink.old sink.new block.new
-        (block.old ++ text_of (map supply_row supplies.now.entries)) result }
+    ensures { Adds K.sink sink.old sink.new block.old block.new (text_of (map supply_row supplies.now.entries)) result }
 {
     for (id, flow) in supplies {
         supply_line(block, sink, id, flow)?;
@@ -183,8 +180,7 @@ fn put_nodes<K: Sink>(
     sink: &mut K,
     nodes: &NodeLines<'_>,
 ) -> Result<(), SinkFault>
-    ensures { Passes K.sink sink.old sink.new block.new
-        (block.old ++ text_of (node_rows nodes.now)) result }
+    ensures { Adds K.sink sink.old sink.new block.old block.new (text_of (node_rows nodes.now)) result }
 {
     match nodes {
         NodeLines::Supplies(supplies) => put_supplies(block, sink, supplies),
@@ -209,9 +205,7 @@ fn put_graph<B: Bundle, K: Sink>(
     requires short { AreShort B.bundle.kind }
     requires few { count < 2 ^ 63 }
     requires count { count ≡ length (listed_arcs (B.bundle.listed form) table.now) }
-    ensures text { let graph = listed_graph (B.bundle.listed form) nodes.now table.now in
-        let text = text_of (graph_rows B.bundle.kind kind graph (node_rows lines.now)) in
-        Puts K.sink sink.old sink.new text result }
+    ensures text { Puts K.sink sink.old sink.new (graph_text B.bundle form kind nodes.now lines.now table.now) result }
     ensures flushed { OnOk result (IsTrue (K.sink.is_flushed sink.new)) }
 {
     let mut block = Block::new();

@@ -1,6 +1,8 @@
 pub mod Parts
 pub mod InstanceEntries
 pub mod ItemFaults
+pub mod ArcTakes
+pub mod NodeTakes
 pub mod RowRuns
 pub mod Bodies
 pub mod TextParts

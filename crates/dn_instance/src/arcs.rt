@@ -1,7 +1,7 @@
 // Merges arcs into the bundles of their pairs as they arrive.
-ghost use Rattle.std.specs.Prelude.{◌≡◌, ◌↔◌, ℤ, List, [], ◌∷◌, ◌++◌, Bool, IsTrue, OnOk, OnErr, Err, ◌&&◌};
-ghost use Rattle.dn_instance.specs.State.ItemFaults.{AnswersFault, in_graph, arc_fault};
-ghost use Rattle.dn_table.specs.State.Tables.{AreArcs, GraphNeedsMore, Stays, Lists};
+ghost use Rattle.std.specs.Prelude.{◌≡◌, ◌&&◌, OnErr};
+ghost use Rattle.dn_instance.specs.State.ArcTakes.{AnswersArc, GainsArc, NeedsForArc};
+ghost use Rattle.dn_instance.specs.State.ItemFaults.{in_graph};
 
 use crate::refusal::ItemFault;
 use dn_bundle::{Bundle, BundleFault};
@@ -25,15 +25,10 @@ pub(crate) fn take_arc<B: Bundle>(
     pair: (i64, i64),
     arc: B::Arc,
 ) -> Result<(), ItemFault>
-    ensures answer { (arcs : List ((ℤ × ℤ) × B.Arc)) (is : Bool)
-        → Lists B.bundle table.old arcs → AreArcs B.bundle.kind arcs → (IsTrue is ↔ B.bundle.kind.IsArc arc)
-        → AnswersFault result (arc_fault B.bundle.kind nodes.now arcs is (pair, arc)) }
-    ensures stands { (arcs : List ((ℤ × ℤ) × B.Arc)) → Stays B.bundle.kind
-        → Lists B.bundle table.old arcs → AreArcs B.bundle.kind arcs
-        → OnOk result (Lists B.bundle table.new (arcs ++ (pair, arc) ∷ [])) }
+    ensures answer { AnswersArc B.bundle nodes.now table.old (pair, arc) result }
+    ensures stands { GainsArc B.bundle table.old table.new (pair, arc) result }
     ensures err { OnErr result (table.new ≡ table.old) }
-    ensures memory { (arcs : List ((ℤ × ℤ) × B.Arc)) → Lists B.bundle table.old arcs → AreArcs B.bundle.kind arcs
-        → result ≡ Err ItemFault.Memory → GraphNeedsMore B.bundle.kind arcs (pair, arc) }
+    ensures memory { NeedsForArc B.bundle table.old (pair, arc) result }
 {
     if !joins_nodes(nodes, &pair) {
         return Err(ItemFault::Text(Code::NodeOutOfRange));

@@ -5,9 +5,8 @@ ghost use Rattle.dn_line.specs.declared.kind.Kind.TheVariants.{Co, P2p, Ss};
 ghost use Rattle.dn_line.specs.declared.line.Line.{Line};
 ghost use Rattle.dn_line.specs.declared.row.Row.{Row};
 ghost use Rattle.dn_instance.specs.Items.{length_arc_in, cap_arc_in, cost_arc_in};
-ghost use Rattle.dn_instance.specs.EntryCount.{entries_as};
 ghost use Rattle.dn_instance.specs.State.RowRuns.{counted_line};
-ghost use Rattle.dn_instance.specs.State.TextParts.{BodyHolds, IsSorted, any_body, body_kind};
+ghost use Rattle.dn_instance.specs.State.TextParts.{BodyCounts, BodyTakes, BodyHolds, IsSorted, any_body, body_kind};
 ghost use Rattle.dn_instance.specs.State.Bodies.{IsArcOfRow, Keeps, TakerFacts, TakesRow, TakesRows, ids_body, pairs_body, points_body, table_body};
 
 use crate::ahead;
@@ -217,8 +216,7 @@ impl Body<TableSoFar<Curve>, TableSoFar<Total>, TableSoFar<Least>> {
 
     // Takes rows one after another, up to the first that has a fault or for which an allocation fails.
     pub(crate) fn take_rows(&mut self, alloc: Global, nodes: &i64, rows: &[RowLine]) -> Taken
-        ensures taken { (kind : Kind)
-            → TakesRows (any_body kind) (counted_line kind) nodes.now self.old self.new rows.now result }
+        ensures taken { BodyTakes nodes.now self.old self.new rows.now result }
         ensures unchanged { result.rows ≡ 0
             → (items : List Line) → BodyHolds self.old items → BodyHolds self.new items }
         ensures within { MatchOption result.fault (result.rows ≤ length rows.now)
@@ -237,8 +235,7 @@ impl Body<TableSoFar<Curve>, TableSoFar<Total>, TableSoFar<Least>> {
 
     // Returns how many entries the rows so far make, if this is below 2^64.
     pub(crate) fn entries(&self) -> u64
-        ensures { (items : List Line) → BodyHolds self.now items → entries_as (body_kind self.now) items < 2 ^ 64
-            → result ≡ entries_as (body_kind self.now) items }
+        ensures { BodyCounts self.now result }
     {
         match self {
             Body::Min(table) => table.entries(),

@@ -1,8 +1,8 @@
 // Takes items other than arcs as they arrive.
-ghost use Rattle.std.specs.Prelude.{◌≡◌, ◌||◌, ◌&&◌, ℤ, [], ◌∷◌, ◌++◌, OnOk, OnErr, Some, pos, is_some, cond, true, Err};
+ghost use Rattle.std.specs.Prelude.{◌≡◌, [], ◌∷◌, ◌++◌, OnOk, OnErr, Some, is_some, Err};
 ghost use Rattle.std.specs.BTreeMap as Map;
-ghost use Rattle.std.specs.BTreeSet as Set;
-ghost use Rattle.std.specs.Ordering.{int_cmp, int_eq};
+ghost use Rattle.std.specs.Ordering.{int_cmp};
+ghost use Rattle.dn_instance.specs.State.NodeTakes.{GainsIdle, GainsNode, is_named, with_flow};
 ghost use Rattle.dn_instance.specs.State.ItemFaults.{AnswersFault, supply_fault, terminal_fault, id_fault, pair_fault, point_fault};
 
 use crate::arcs::in_graph;
@@ -99,14 +99,9 @@ pub(crate) fn take_supply(
     id: &i64,
     flow: &i64,
 ) -> Result<(), ItemFault>
-    ensures answer { let named = is_some (Map.get int_cmp supplies.old id.now)
-        || Set.contains int_cmp idle.old id.now in
-        AnswersFault result (supply_fault nodes.now named id.now) }
-    ensures supplies { OnOk result (supplies.new.entries
-        ≡ cond (int_eq flow.now (pos 0)) supplies.old.entries
-        (Map.insert_entry int_cmp supplies.old.entries id.now flow.now)) }
-    ensures idle { OnOk result ((q : ℤ) → Set.contains int_cmp idle.new q
-        ≡ (Set.contains int_cmp idle.old q || (int_eq flow.now (pos 0) && Map.is_at (int_cmp id.now) q))) }
+    ensures answer { AnswersFault result (supply_fault nodes.now (is_named supplies.old idle.old id.now) id.now) }
+    ensures supplies { OnOk result (supplies.new.entries ≡ with_flow supplies.old.entries id.now flow.now) }
+    ensures idle { OnOk result (GainsIdle idle.old idle.new id.now flow.now) }
     ensures err { OnErr result ((supplies.new.entries ≡ supplies.old.entries) × (idle.new.keys ≡ idle.old.keys)) }
 {
     if !in_graph(nodes, id) {
@@ -146,8 +141,7 @@ fn put_flow(supplies: &mut BTreeMap<i64, i64>, id: &i64, flow: &i64) -> Result<(
 
 // Adds a node whose flow is 0. If an allocation fails, nothing changes.
 fn put_idle(idle: &mut BTreeSet<i64>, id: &i64) -> Result<(), ItemFault>
-    ensures ok { OnOk result ((q : ℤ) → Set.contains int_cmp idle.new q
-        ≡ cond (Map.is_at (int_cmp id.now) q) true (Set.contains int_cmp idle.old q)) }
+    ensures ok { OnOk result (GainsNode idle.old idle.new id.now) }
     ensures err { OnErr result (idle.new.keys ≡ idle.old.keys) }
     ensures memory { OnErr result (result ≡ Err ItemFault.Memory) }
 {

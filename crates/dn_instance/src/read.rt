@@ -3,8 +3,8 @@ ghost use Rattle.std.specs.Prelude.{◌≡◌, ◌++◌, [], ℕ, List, Bool, tr
 ghost use Rattle.dn_instance.specs.State.FedSources.{IsFedAll};
 ghost use Rattle.dn_instance.specs.State.ReaderResults.{Outcome, refusal_of};
 ghost use Rattle.dn_instance.specs.State.ReaderStates.{ReaderAt};
-ghost use Rattle.dn_instance.specs.SourceReads.{IsOfReading, after_pulls};
-ghost use Rattle.dn_instance.specs.State.SourceResults.{CopiesSource, HoldsCopied, HoldsKept, HoldsSome, IsKept, KeptOutcome, ReadsSource, SourceLeft};
+ghost use Rattle.dn_instance.specs.SourceReads.{IsOfReading};
+ghost use Rattle.dn_instance.specs.State.SourceResults.{CopiesSource, HoldsCopied, HoldsKept, HoldsSome, IsKept, KeepsSource, ReadsSource, SourceLeft, StopsSource};
 
 use crate::held::Held;
 use crate::reader::Reader;
@@ -122,8 +122,7 @@ fn read_all<S: Source, K: Keep>(
 ) -> Result<Held, Refusal>
     ensures prefix { (more : List ℕ) × IsKept K.keeps (K.kept text.old) (K.kept text.new) more }
     ensures held { IfOk result (HoldsKept K.keeps (K.kept text.old) (K.kept text.new)) }
-    ensures outcome { IfSome (S.source.gives source.old) (λ t. KeptOutcome K.keeps t
-        (after_pulls S.source source.old source.new) (K.kept text.old) (K.kept text.new) result) }
+    ensures outcome { KeepsSource S.source source.old source.new K.keeps (K.kept text.old) (K.kept text.new) result }
     ensures refusal { IfErr result IsOfReading }
     ensures left { SourceLeft S.source source.old source.new result }
 {
@@ -145,8 +144,7 @@ fn feed_all<S: Source, K: Keep>(
     ensures fed { OnOk result ((given : List ℕ) × IsFedAll S.source source.old source.new reader.new given
         × IsKept K.keeps (K.kept text.old) (K.kept text.new) given) }
     ensures prefix { (more : List ℕ) × IsKept K.keeps (K.kept text.old) (K.kept text.new) more }
-    ensures outcome { IfErr result (λ refusal. IfSome (S.source.gives source.old) (λ t. KeptOutcome K.keeps t
-        (after_pulls S.source source.old source.new) (K.kept text.old) (K.kept text.new) (Err refusal))) }
+    ensures outcome { StopsSource S.source source.old source.new K.keeps (K.kept text.old) (K.kept text.new) result }
     ensures refusal { IfErr result IsOfReading }
     ensures left { SourceLeft S.source source.old source.new result }
 {

@@ -3,9 +3,9 @@ ghost use Rattle.std.specs.Prelude.{◌≡◌, ◌≤◌, ℕ, ◌+◌, List, []
 ghost use Rattle.dn_line.specs.State.LineStates.{LineSoFar, LineReaderAt, used_of};
 ghost use Rattle.dn_line.specs.Pieces.{lines};
 ghost use Rattle.dn_instance.specs.State.ReaderResults.{Fed, Outcome, refusal_of, fed_answer};
-ghost use Rattle.dn_instance.specs.State.ReaderStates.{ReaderAt, IsReading, TakesLine, Advances, CountsBefore, CountsRead, Steps, WantsAtEnd, WantsInPiece};
+ghost use Rattle.dn_instance.specs.State.ReaderStates.{Advances, CountsBefore, CountsRead, KeepsRefusal, ReaderAt, Steps, TakesLine, WantsAtEnd, WantsInPiece, WhileReading, first_line};
 ghost use Rattle.dn_instance.specs.State.LineRefusals.{refused_at};
-ghost use Rattle.dn_instance.specs.State.TextsSoFar.{TextAt};
+ghost use Rattle.dn_instance.specs.State.TextsSoFar.{AfterLines, TextAt};
 
 use crate::held::Held;
 use crate::refusal::{ItemFault, Place, Refusal};
@@ -38,11 +38,9 @@ impl Reader {
 
     // TakesLine the line that the line reader represents, or keeps and returns its refusal.
     fn close(&mut self) -> Result<(), Refusal>
-        ensures taken { (ls : List (List ℕ)) (l : LineSoFar) → TextAt self.old.text ls → LineReaderAt self.old.line l
-            → TakesLine self.new ls l.bytes result }
+        ensures taken { AfterLines self.old.text self.old.line (λ ls l. TakesLine self.new ls l result) }
         ensures line { self.new.line ≡ self.old.line }
-        ensures refusal { MatchResult result (λ x. refusal_of self.new ≡ refusal_of self.old)
-            (λ e. refusal_of self.new ≡ Some e) }
+        ensures refusal { KeepsRefusal self.old self.new result }
     {
         match self.text.take_line(self.alloc, &self.line) {
             Ok(()) => Ok(()),
@@ -68,10 +66,8 @@ impl Reader {
         requires { 0 < length piece.now }
         ensures used { IfOk result (λ n. n ≡ used_of piece.now) }
         ensures bound { IfOk result (λ n. n ≤ length piece.now) }
-        ensures advances { (t : List ℕ) → IsReading self.old t
-            → Advances self.new t (t ++ take (used_of piece.now) piece.now) result }
-        ensures refusal { MatchResult result (λ n. refusal_of self.new ≡ refusal_of self.old)
-            (λ e. refusal_of self.new ≡ Some e) }
+        ensures advances { WhileReading self.old (λ t. Advances self.new t (t ++ first_line piece.now) result) }
+        ensures refusal { KeepsRefusal self.old self.new result }
     {
         match self.line.step(piece) {
             Ok(step) if step.ended => match self.close() {
@@ -90,10 +86,8 @@ impl Reader {
         requires { 0 < length piece.now }
         ensures some { IfOk result (λ n. 0 < n) }
         ensures bound { IfOk result (λ n. n ≤ length piece.now) }
-        ensures advances { (t : List ℕ) → IsReading self.old t
-            → Steps self.new t piece.now result }
-        ensures refusal { MatchResult result (λ n. refusal_of self.new ≡ refusal_of self.old)
-            (λ e. refusal_of self.new ≡ Some e) }
+        ensures advances { WhileReading self.old (λ t. Steps self.new t piece.now result) }
+        ensures refusal { KeepsRefusal self.old self.new result }
     {
         if !self.line.pending() {
             let front = self.text.take_rows(self.alloc, block, piece);

@@ -20,7 +20,7 @@ ghost use Rattle.dn_instance.specs.Readers.{SpellsNeed};
 ghost use Rattle.dn_instance.specs.State.ItemFaults.{AnswersFault};
 ghost use Rattle.dn_instance.specs.Texts.{items_of, with_next};
 ghost use Rattle.dn_instance.specs.State.RowRuns.{IsRowHead, row_items, row_line, run_head};
-ghost use Rattle.dn_instance.specs.State.TextsSoFar.{AwaitsRow, HasRead, IsOfRun, NextRead, fault_next, TakesRowOf, TextAt, ReadsRows, RoomFor, text_kind, text_taker};
+ghost use Rattle.dn_instance.specs.State.TextsSoFar.{AfterLines, AtLine, Declares, HasRead, IsOfRun, IsOrderFault, NeedsAfter, NextRead, ReadsRows, TakesItem, TakesRowOf, TakesRun, TextAt, fault_after, fault_next, text_kind};
 
 use crate::body::{Body, Taken, take_rows};
 use crate::held::Held;
@@ -99,10 +99,7 @@ impl TextSoFar {
     // Returns the first fault that a line with this head has because of the lines before it. The head has no fault
     // itself.
     fn order_fault(&self, head: Head) -> Option<Code>
-        ensures answer { (before : List Line) (ws : List Word) → HasRead self.now before
-            → first_fault (head_tests (text_kind self.now) ws) ≡ None
-            → head ≡ head_of (first ws) (kind_named ws)
-            → result ≡ first_fault (order_tests before ws) }
+        ensures answer { IsOrderFault self.now head result }
         ensures skip { head ≡ Head.Skip → result ≡ None }
         ensures node { head ≡ Head.Node → result ≡ None → int_lt self.now.due self.now.count ≡ false }
     {
@@ -117,8 +114,7 @@ impl TextSoFar {
 
     // Returns the head and the row of the next line.
     fn read(&self, line: &LineReader) -> Result<(Head, Row), Code>
-        ensures { (items : List Line) (l : LineSoFar) → HasRead self.now items
-            → LineReaderAt line.now l → NextRead (text_kind self.now) items (said_words l.bytes) result }
+        ensures { AtLine self.now line.now (λ items ws. NextRead (text_kind self.now) items ws result) }
     {
         let known = self.kind();
         let head = match line.head(known) {
@@ -136,8 +132,7 @@ impl TextSoFar {
 
     // Takes the row of the problem line, which is the first item.
     fn begin(&mut self, alloc: Global, kind: Kind, row: &Row)
-        ensures read { (before : List Line) → AwaitsRow self.old before (problem_item kind row.now)
-            → HasRead self.new (before ++ problem_item kind row.now ∷ []) }
+        ensures read { TakesItem self.old self.new (problem_item kind row.now) }
         ensures kept { self.new.closed ≡ self.old.closed }
     {
         match kind {
@@ -148,9 +143,7 @@ impl TextSoFar {
 
     // Takes the problem that the problem line declares.
     fn declare(&mut self, alloc: Global, kind: Kind, nodes: &i64, count: &i64)
-        ensures read { (before : List Line) (i : Line) → AwaitsRow self.old before i
-            → problem_in i ≡ Some (record { kind = kind; nodes = nodes.now; count = count.now })
-            → pos 0 ≤ℤ count.now → HasRead self.new (before ++ i ∷ []) }
+        ensures read { Declares self.old self.new (record { kind = kind; nodes = nodes.now; count = count.now }) }
         ensures kept { self.new.closed ≡ self.old.closed }
     {
         self.nodes = *nodes;
@@ -162,9 +155,7 @@ impl TextSoFar {
     // Takes rows of lines with this head one after another, up to the first that has a fault or for which an allocation
     // fails.
     fn take_run(&mut self, alloc: Global, head: Head, rows: &[RowLine]) -> Taken
-        ensures taken { (kind : Kind) (before : List Line) → IsRowHead kind head → RoomFor head rows.now self.old
-            → Awaits (text_taker kind) self.old.nodes self.old before (row_items (row_line kind head) rows.now)
-            → TookRows (text_taker kind) (row_line kind head) before self.new rows.now result }
+        ensures taken { TakesRun self.old self.new head rows.now result }
         ensures unchanged { result.rows ≡ 0 → (before : List Line) → HasRead self.old before → HasRead self.new before }
         ensures within { MatchOption result.fault (result.rows ≤ length rows.now)
             (λ f. result.rows < length rows.now) }
@@ -228,18 +219,12 @@ impl TextSoFar {
 
     // Takes the item of the next line, or returns the line's fault. The caller counts the line, and checks its number.
     fn judge(&mut self, alloc: Global, line: &LineReader) -> Result<(), ItemFault>
-        ensures answer { (items : List Line) (l : LineSoFar) → HasRead self.old items
-            → LineReaderAt line.now l
-            → AnswersFault result (fault_next items (said_words l.bytes)) }
-        ensures read { (items : List Line) (l : LineSoFar) → HasRead self.old items
-            → LineReaderAt line.now l
-            → OnOk result (HasRead self.new (with_next items (said_words l.bytes))) }
+        ensures answer { AtLine self.old line.now (λ items ws. AnswersFault result (fault_next items ws)) }
+        ensures read { AtLine self.old line.now (λ items ws. OnOk result (HasRead self.new (with_next items ws))) }
         ensures unchanged { (items : List Line) → HasRead self.old items
             → OnErr result (HasRead self.new items) }
         ensures kept { self.new.closed ≡ self.old.closed }
-        ensures item { (items : List Line) (l : LineSoFar) → HasRead self.old items
-            → LineReaderAt line.now l
-            → result ≡ Err ItemFault.Memory → SpellsNeed items (said_words l.bytes) }
+        ensures item { AtLine self.old line.now (λ items ws. result ≡ Err ItemFault.Memory → SpellsNeed items ws) }
     {
         match self.read(line) {
             Ok((head, row)) => match head {
@@ -252,15 +237,9 @@ impl TextSoFar {
 
     // Takes the next line, or returns its fault.
     pub(crate) fn take_line(&mut self, alloc: Global, line: &LineReader) -> Result<(), ItemFault>
-        ensures answer { (ls : List (List ℕ)) (l : LineSoFar) → TextAt self.old ls
-            → LineReaderAt line.now l
-            → AnswersFault result (line_fault (length ls + 1) (items_of ls) (said_words l.bytes)) }
-        ensures stands { (ls : List (List ℕ)) (l : LineSoFar) → TextAt self.old ls
-            → LineReaderAt line.now l
-            → OnOk result (TextAt self.new (ls ++ l.bytes ∷ [])) }
-        ensures item { (ls : List (List ℕ)) (l : LineSoFar) → TextAt self.old ls
-            → LineReaderAt line.now l
-            → result ≡ Err ItemFault.Memory → SpellsNeed (items_of ls) (said_words l.bytes) }
+        ensures answer { AfterLines self.old line.now (λ ls l. AnswersFault result (fault_after ls l)) }
+        ensures stands { AfterLines self.old line.now (λ ls l. OnOk result (TextAt self.new (ls ++ l ∷ []))) }
+        ensures item { AfterLines self.old line.now (λ ls l. result ≡ Err ItemFault.Memory → NeedsAfter ls l) }
         ensures unchanged { (ls : List (List ℕ)) → TextAt self.old ls
             → OnErr result (TextAt self.new ls) }
     {

@@ -28,7 +28,7 @@ pub(crate) fn named(words: &[Word]) -> Option<Kind>
 
 // Returns the fields of the line that this kind has for this letter.
 fn fields_of(kind: Kind, letter: Keyword) -> Option<&'static [Field]>
-    ensures { MatchOption result (fields_of kind letter ≡ None) (λ fields. fields_of kind letter ≡ Some fields.now) }
+    ensures { MatchOption result (fields_of kind letter ≡ None) (λ fs. fields_of kind letter ≡ Some fs.now) }
 {
     match (kind, letter) {
         (Kind::Min, Keyword::N) => Some(&[Field::Number, Field::Number]),

@@ -1,7 +1,7 @@
 // Reads several lines of a letter and numbers at once, if they are in plain spelling.
 ghost use Rattle.std.specs.Prelude.{◌≡◌, ◌≤◌, ℕ, List, [], length, take, true};
 ghost use Rattle.dn_line.specs.State.LineStates.{is_clear};
-ghost use Rattle.dn_line.specs.State.RowBlocks.{BeginWithRows, ReadUpTo, last_left};
+ghost use Rattle.dn_line.specs.State.RowBlocks.{AreRowsOf, BeginWithRows, last_left};
 ghost use Rattle.dn_line.specs.State.Rows.{AreNumeric, HasFields};
 
 use crate::kind::Kind;
@@ -103,8 +103,7 @@ fn fill<N: Count>(
     requires clear { is_clear letter ≡ true }
     requires count { length fields.now ≡ N.count }
     requires numeric { AreNumeric fields.now }
-    ensures rows { (kind : Kind) → HasFields kind letter fields.now
-        → (rest : List ℕ) × ReadUpTo kind letter bytes.now (take result rows.new) rest }
+    ensures rows { AreRowsOf letter fields.now bytes.now (take result rows.new) }
     ensures few { result ≤ most }
     ensures within { result ≤ BLOCK }
 {

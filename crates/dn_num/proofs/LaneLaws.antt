@@ -3,7 +3,7 @@ use Rattle.std.proofs.Common.{◌≡◌, ℕ, ◌+◌, ◌-◌, ◌*◌, ◌/◌
 use Rattle.std.proofs.lemmas.Nat.{and_block, and_mask, div-mul-add, mod-mul-add}
 use Rattle.std.specs.Prelude.{replicate}
 use Rattle.std.specs.Simd.Lanes.{Each1, number_l}
-use Rattle.dn_num.specs.State.Lanes.{places}
+use Rattle.dn_num.specs.State.Lanes.{OfBytes, OfDigits, OfPairs, joined, places}
 
 front : (k x X : ℕ) → x + 2 ^ k * X ≡ X * 2 ^ k + x
 front k x X = omega arith
@@ -69,13 +69,9 @@ fours_are w a b c d few is =
 -- the four steps compute the number of a word of eight digits
 
 pub record Steps (w x y z : ℕ) : Type 0 where
-  pub values : (ds : List ℕ) → length ds ≡ 8 → Each1 (λ d. d < 256) ds → w ≡ number_l 256 ds
-      → x ≡ number_l 256 (map (λ d. d % 16) ds)
-  pub pairs : (a b c d e f g h : ℕ) → Each1 (λ x. x < 10) (a ∷ b ∷ c ∷ d ∷ e ∷ f ∷ g ∷ h ∷ [])
-      → x ≡ number_l 256 (a ∷ b ∷ c ∷ d ∷ e ∷ f ∷ g ∷ h ∷ [])
-      → y ≡ number_l 65536 ((a * 10 + b) ∷ (c * 10 + d) ∷ (e * 10 + f) ∷ (g * 10 + h) ∷ [])
-  pub fours : (a b c d : ℕ) → Each1 (λ x. x < 100) (a ∷ b ∷ c ∷ d ∷ []) → y ≡ number_l 65536 (a ∷ b ∷ c ∷ d ∷ [])
-      → z ≡ number_l 4294967296 ((a * 100 + b) ∷ (c * 100 + d) ∷ [])
+  pub values : OfBytes w (λ ds. x ≡ number_l 256 (map (λ d. d % 16) ds))
+  pub pairs : OfDigits x (λ ds. y ≡ number_l 65536 (joined 10 ds))
+  pub fours : OfPairs y (λ ps. z ≡ number_l 4294967296 (joined 100 ps))
 
 places_eight : (a b c d e f g h : ℕ)
     → ((a * 10 + b) * 100 + (c * 10 + d)) * 10000 + ((e * 10 + f) * 100 + (g * 10 + h)) ≡ places
@@ -84,9 +80,9 @@ places_eight a b c d e f g h = omega arith
 
 pub value_is : (w x y z r : ℕ) (ds : List ℕ) → Steps w x y z
     → ((a b : ℕ) → a < 10000 → b < 10000 → z ≡ number_l 4294967296 (a ∷ b ∷ []) → r ≡ a * 10000 + b)
-    → length ds ≡ 8 → Each1 (λ d. d < 256) ds → Each1 (λ d. d % 16 < 10) ds → w ≡ number_l 256 ds
+    → length ds ≡ 8 → Each1 (λ d. d < 256) ds → w ≡ number_l 256 ds → Each1 (λ d. d % 16 < 10) ds
     → r ≡ places (map (λ d. d % 16) ds)
-value_is w x y z r (a ∷ b ∷ c ∷ d ∷ e ∷ f ∷ g ∷ h ∷ []) s last n k few is =
+value_is w x y z r (a ∷ b ∷ c ∷ d ∷ e ∷ f ∷ g ∷ h ∷ []) s last n k is few =
     let y1 =
     s.pairs (a % 16) (b % 16) (c % 16) (d % 16) (e % 16) (f % 16) (g % 16) (h % 16) few
     (s.values (a ∷ b ∷ c ∷ d ∷ e ∷ f ∷ g ∷ h ∷ []) n k is) in
@@ -96,4 +92,4 @@ value_is w x y z r (a ∷ b ∷ c ∷ d ∷ e ∷ f ∷ g ∷ h ∷ []) s last n
     last ((a % 16 * 10 + b % 16) * 100 + (c % 16 * 10 + d % 16)) ((e % 16 * 10 + f % 16) * 100 + (g % 16 * 10 + h % 16))
     (omega arith) (omega arith) z1
     ∙ places_eight (a % 16) (b % 16) (c % 16) (d % 16) (e % 16) (f % 16) (g % 16) (h % 16)
-value_is w x y z r _ s last n k few is = absurd (omega arith)
+value_is w x y z r _ s last n k is few = absurd (omega arith)

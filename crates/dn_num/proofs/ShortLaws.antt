@@ -12,7 +12,7 @@ use Rattle.std.proofs.lemmas.Bool.{cases_Bool}
 use Rattle.dn_num.specs.Number.{is_digit, digits_number, number_read}
 use Rattle.dn_num.specs.State.NumberReader.{digits_state, state_read}
 use Rattle.dn_num.proofs.FrontLaws.{digits_front_read}
-use Rattle.dn_num.specs.State.Lanes.{places}
+use Rattle.dn_num.specs.State.Lanes.{OfBytes, places}
 use Rattle.dn_num.proofs.LaneLaws.{low, high}
 
 -- a word modulo 2^(8n) keeps its lowest n lanes
@@ -88,8 +88,7 @@ pub record Word (n : ℕ) (bs : List ℕ) (w v : ℕ) : Type 0 where
   pub count : n ≡ prefix_len is_digit bs
   pub within : n ≤ 8
   pub word : w ≡ number_l 256 (replicate (8 - n) 0 ++ take n bs)
-  pub value : (ds : List ℕ) → length ds ≡ 8 → Each1 (λ d. d < 256) ds → Each1 (λ d. d % 16 < 10) ds
-      → w ≡ number_l 256 ds → v ≡ places (map (λ d. d % 16) ds)
+  pub value : OfBytes w (λ ds. Each1 (λ d. d % 16 < 10) ds → v ≡ places (map (λ d. d % 16) ds))
 
 module _ {n : ℕ} {bs : List ℕ} {w v : ℕ} (h : Word n bs w v) where
   abbrev lanes : List ℕ
@@ -112,7 +111,7 @@ module _ {n : ℕ} {bs : List ℕ} {w v : ℕ} (h : Word n bs w v) where
       (omega (arith, h.within))
 
   worth : v ≡ places (map (λ d. d % 16) lanes)
-  worth = h.value lanes eight_long (each_lane (λ d. d < 256) (lit< tt) (λ d e. grind (arith, nat_tests))) small h.word
+  worth = h.value lanes eight_long (each_lane (λ d. d < 256) (lit< tt) (λ d e. grind (arith, nat_tests))) h.word small
 
   pub word_bound : v < 100000000
   word_bound = rw worth (rw eight_long at (places_lt lanes small))

@@ -1,7 +1,8 @@
 // Splits a number below 10^8 into its eight digits, one in each byte of a word, the first digit in the lowest byte.
-ghost use Rattle.std.specs.Prelude.{◌≡◌, ℕ, [], ◌∷◌, ◌/◌, ◌%◌, ◌<◌};
-ghost use Rattle.std.specs.Simd.Lanes.{Each1, number_l};
+ghost use Rattle.std.specs.Prelude.{◌≡◌, [], ◌∷◌, ◌/◌, ◌%◌, ◌<◌};
+ghost use Rattle.std.specs.Simd.Lanes.{number_l};
 ghost use Rattle.dn_num.specs.State.Digits.{eight_digits, zeros_before, codes_of};
+ghost use Rattle.dn_num.specs.State.Lanes.{OfDigits, OfFours, OfPairs, parted};
 
 // Each factor is subtracted once for each unit of the quotient. This leaves the quotient in the lower half of a lane
 // and the remainder in the upper half.
@@ -24,8 +25,7 @@ fn fours(number: u32) -> u64
 // Splits each four digits into two pairs. The factor 10486 / 2^20 replaces 1 / 100, and is exact enough below 10000.
 #[inline(always)]
 fn pairs(word: u64) -> u64
-    ensures { (a b : ℕ) → a < 10000 → b < 10000 → word ≡ number_l 4294967296 (a ∷ b ∷ [])
-        → result ≡ number_l 65536 ((a / 100) ∷ (a % 100) ∷ (b / 100) ∷ (b % 100) ∷ []) }
+    ensures { OfFours word (λ fours. result ≡ number_l 65536 (parted 100 fours)) }
 {
     let high = (word.wrapping_mul(10_486) >> 20) & 0x0000_007F_0000_007F;
     (word << 16).wrapping_sub(high.wrapping_mul(PAIRS))
@@ -34,10 +34,7 @@ fn pairs(word: u64) -> u64
 // Splits each pair into two digits. The factor 103 / 2^10 replaces 1 / 10, and is exact enough below 100.
 #[inline(always)]
 fn digits(word: u64) -> u64
-    ensures { (a b c d : ℕ) → Each1 (λ x. x < 100) (a ∷ b ∷ c ∷ d ∷ [])
-        → word ≡ number_l 65536 (a ∷ b ∷ c ∷ d ∷ [])
-        → result ≡ number_l 256 ((a / 10) ∷ (a % 10) ∷ (b / 10) ∷ (b % 10)
-        ∷ (c / 10) ∷ (c % 10) ∷ (d / 10) ∷ (d % 10) ∷ []) }
+    ensures { OfPairs word (λ pairs. result ≡ number_l 256 (parted 10 pairs)) }
 {
     let high = (word.wrapping_mul(103) >> 10) & 0x000F_000F_000F_000F;
     (word << 8).wrapping_sub(high.wrapping_mul(DIGITS))
@@ -55,9 +52,7 @@ pub(crate) fn eight(number: u32) -> u64
 // Counts the leading zeros of eight digits. The last digit does not count as a leading zero.
 #[inline(always)]
 pub(crate) fn zeros(word: u64) -> u32
-    ensures { (a b c d e f g h : ℕ) → Each1 (λ x. x < 10) (a ∷ b ∷ c ∷ d ∷ e ∷ f ∷ g ∷ h ∷ [])
-        → word ≡ number_l 256 (a ∷ b ∷ c ∷ d ∷ e ∷ f ∷ g ∷ h ∷ [])
-        → result ≡ zeros_before (a ∷ b ∷ c ∷ d ∷ e ∷ f ∷ g ∷ h ∷ []) }
+    ensures { OfDigits word (λ digits. result ≡ zeros_before digits) }
 {
     word.wrapping_add(1 << 56).trailing_zeros() / 8
 }
@@ -65,9 +60,7 @@ pub(crate) fn zeros(word: u64) -> u32
 // Returns the character codes of eight digits.
 #[inline(always)]
 pub(crate) fn codes(word: u64) -> u64
-    ensures { (a b c d e f g h : ℕ) → Each1 (λ x. x < 10) (a ∷ b ∷ c ∷ d ∷ e ∷ f ∷ g ∷ h ∷ [])
-        → word ≡ number_l 256 (a ∷ b ∷ c ∷ d ∷ e ∷ f ∷ g ∷ h ∷ [])
-        → result ≡ number_l 256 (codes_of (a ∷ b ∷ c ∷ d ∷ e ∷ f ∷ g ∷ h ∷ [])) }
+    ensures { OfDigits word (λ digits. result ≡ number_l 256 (codes_of digits)) }
 {
     word.wrapping_add(0x3030_3030_3030_3030)
 }

@@ -1,1 +1,2 @@
+pub mod FaultEnds
 pub mod ListedRows

@@ -3,6 +3,7 @@ ghost use Rattle.std.specs.Prelude.{◌++◌, codes, map};
 ghost use Rattle.std.specs.List.{concat};
 ghost use Rattle.dn_sink.specs.Puts.{Puts};
 ghost use Rattle.dn_report.specs.FaultLines.{fault_line, reason_text, unfit_line};
+ghost use Rattle.dn_report.specs.State.FaultEnds.{node_end, numbered};
 
 use dn_instance::{CompanionFault, Place, Refusal};
 use dn_sink::{Sink, SinkFault, put_all};
@@ -70,8 +71,8 @@ fn put_node_fault<K: Sink>(
     reason: &[u8],
     id: &[u8],
 ) -> Result<(), SinkFault>
-    ensures { Puts K.sink sink.old sink.new (name.now ++ (codes ": "
-        ++ (number.now ++ (codes " " ++ (reason.now ++ (codes " " ++ (id.now ++ codes "\n"))))))) result }
+    ensures { Puts K.sink sink.old sink.new
+        (name.now ++ numbered number.now reason.now (node_end id.now)) result }
 {
     put_pieces(sink, &[name, b": ", number, b" ", reason, b" ", id, b"\n"])
 }
@@ -84,7 +85,7 @@ fn put_kind_fault<K: Sink>(
     reason: &[u8],
 ) -> Result<(), SinkFault>
     ensures { Puts K.sink sink.old sink.new
-        (name.now ++ (codes ": " ++ (number.now ++ (codes " " ++ (reason.now ++ codes "\n"))))) result }
+        (name.now ++ numbered number.now reason.now (codes "\n")) result }
 {
     put_pieces(sink, &[name, b": ", number, b" ", reason, b"\n"])
 }
@@ -114,8 +115,8 @@ fn put_refusal<K: Sink>(
     number: &[u8],
     reason: &[u8],
 ) -> Result<(), SinkFault>
-    ensures { Puts K.sink sink.old sink.new (name.now ++ (place.now ++ (line.now
-        ++ (codes ": " ++ (number.now ++ (codes " " ++ (reason.now ++ codes "\n"))))))) result }
+    ensures { let end = numbered number.now reason.now (codes "\n") in
+        Puts K.sink sink.old sink.new (name.now ++ (place.now ++ (line.now ++ end))) result }
 {
     put_pieces(
         sink,

@@ -5,8 +5,7 @@ ghost use Rattle.std.specs.Map.{keys_of};
 ghost use Rattle.dn_arc.specs.declared.arc.Form.{Form};
 ghost use Rattle.dn_arc.specs.Pairs.{same_pair};
 ghost use Rattle.dn_table.specs.State.ListedEntries.{entries_listed};
-ghost use Rattle.dn_arc.specs.State.Bundles.{meant};
-ghost use Rattle.dn_table.specs.State.Tables.{CountsEntries};
+ghost use Rattle.dn_table.specs.State.Tables.{CountsBelow, CountsEntries, entries_in};
 
 use dn_kind::{Bundle, Form};
 
@@ -22,8 +21,7 @@ pub(crate) fn bundle_entries<B: Bundle>(entries: &[((i64, i64), B)]) -> u64
 
 // Returns how many entries the bundles make, if this fits 64 bits.
 fn count_entries<B: Bundle>(entries: &[((i64, i64), B)]) -> Option<u64>
-    ensures { let all = entries_listed (λ b. B.bundle.kind.entries (meant B.bundle b)) entries.now in
-        MatchOption result (2 ^ 64 ≤ all) (λ n. n ≡ all) }
+    ensures { CountsBelow (2 ^ 64) (entries_listed (entries_in B.bundle) entries.now) result }
 {
     let mut all = 0u64;
     for (_, bundle) in entries {
@@ -34,8 +32,7 @@ fn count_entries<B: Bundle>(entries: &[((i64, i64), B)]) -> Option<u64>
 
 // Returns how many arcs the bundles list in a form, if this fits 64 bits.
 pub(crate) fn count_arcs<B: Bundle>(entries: &[((i64, i64), B)], form: Form) -> Option<u64>
-    ensures { let all = entries_listed (λ b. length (B.bundle.listed form b)) entries.now in
-        MatchOption result (2 ^ 64 ≤ all) (λ n. n ≡ all) }
+    ensures { CountsBelow (2 ^ 64) (entries_listed (λ b. length (B.bundle.listed form b)) entries.now) result }
 {
     let mut all = 0u64;
     for (_, bundle) in entries {

@@ -7,7 +7,7 @@ ghost use Rattle.std.specs.Map.{keys_of, lookup};
 ghost use Rattle.dn_arc.specs.declared.arc.Form.{Form};
 ghost use Rattle.dn_arc.specs.Pairs.{pair_cmp, same_pair};
 ghost use Rattle.dn_table.specs.State.ListedEntries.{entries_listed};
-ghost use Rattle.dn_table.specs.State.Tables.{entry_of, CountsEntries};
+ghost use Rattle.dn_table.specs.State.Tables.{CountsBelow, CountsEntries, entry_of};
 
 use crate::entry_sum::{bundle_entries, count_arcs};
 use dn_kind::{Bundle, Form};
@@ -71,8 +71,7 @@ impl<B: Bundle> Table<B> {
 
     /// Returns how many arcs the bundles list in a form, if this is below 2^64.
     pub fn arc_count(&self, form: Form) -> Option<u64>
-        ensures count { let all = entries_listed (λ b. length (B.bundle.listed form b)) self.now in
-            MatchOption result (2 ^ 64 ≤ all) (λ n. n ≡ all) }
+        ensures count { CountsBelow (2 ^ 64) (entries_listed (λ b. length (B.bundle.listed form b)) self.now) result }
         ensures rising { IsStrictlySortedBy pair_cmp (keys_of self.now) }
     {
         count_arcs(&self.entries, form)

@@ -7,7 +7,7 @@ ghost use Rattle.pair_index.specs.State.Indexed.{Indexes};
 ghost use Rattle.pair_index.specs.State.Positions.{IsPosition};
 ghost use Rattle.dn_arc.specs.declared.arc.Form.{Form};
 ghost use Rattle.dn_arc.specs.Pairs.{pair_cmp, same_pair};
-ghost use Rattle.dn_table.specs.State.Tables.{Adds, IsTooMuch, CountsEntries, WidensAt};
+ghost use Rattle.dn_table.specs.State.Tables.{Adds, CountsEntries, IsSameElsewhere, IsTooMuch, WidensAt};
 
 use crate::entry_sum::bundle_entries;
 use crate::table::Table;
@@ -127,8 +127,7 @@ impl<B: Bundle> TableSoFar<B> {
     fn insert(&mut self, alloc: Global, pair: (i64, i64), bundle: B) -> Result<(), BundleFault>
         requires { lookup (same_pair pair) self.old ≡ None }
         ensures there { OnOk result (lookup (same_pair pair) self.new ≡ Some bundle) }
-        ensures others { OnOk result
-            ((q : ℤ × ℤ) → same_pair pair q ≡ false → lookup (same_pair q) self.new ≡ lookup (same_pair q) self.old) }
+        ensures others { OnOk result (IsSameElsewhere pair self.old self.new) }
         ensures err { OnErr result (self.new ≡ self.old) }
         ensures memory { OnErr result (result ≡ Err BundleFault.Memory) }
     {

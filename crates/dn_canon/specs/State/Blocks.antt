@@ -1,5 +1,5 @@
 -- A block, which gathers the lines of a text before a sink takes them.
-use Rattle.std.specs.Prelude.{ℕ, ◌+◌, ◌≤◌, List, length, MatchResult}
+use Rattle.std.specs.Prelude.{ℕ, ◌+◌, ◌≤◌, List, ◌++◌, length, MatchResult}
 use Rattle.std.specs.declared.result.Result.{Result}
 use Rattle.dn_canon.specs.declared.block.TheConstants.{LINE, SIZE}
 use Rattle.dn_sink.specs.declared.sink.SinkFault.{SinkFault}
@@ -16,3 +16,7 @@ HasRoom block = length block + LINE ≤ SIZE
 abbrev pub Passes : {S : Type 0} → SinkFacts S → S → S → List ℕ → List ℕ → Result (Unit {0}) SinkFault → Type 0
 Passes sink old new block all result =
     MatchResult result (λ _. HasPut sink old new block all) (λ _. PutsPrefix sink old new all)
+
+-- the same of the text that the old block held, followed by this text
+abbrev pub Adds : {S : Type 0} → SinkFacts S → S → S → List ℕ → List ℕ → List ℕ → Result (Unit {0}) SinkFault → Type 0
+Adds sink old new old_block new_block text result = Passes sink old new new_block (old_block ++ text) result

@@ -1,12 +1,15 @@
 -- What writing a text does.
-use Rattle.std.specs.Prelude.{◌≡◌, ◌<◌, ◌≤◌, ◌^◌, ℕ, List, [], ◌∷◌, IsTrue, map, Ok, Err}
+use Rattle.std.specs.Prelude.{◌≡◌, ◌<◌, ◌≤◌, ◌^◌, ℕ, ℤ, List, [], ◌∷◌, IsTrue, map, Ok, Err}
 use Rattle.std.specs.declared.result.Result.{Result}
 use Rattle.dn_line.specs.declared.word.Keyword.TheVariants.{S, T}
+use Rattle.dn_line.specs.declared.kind.Kind.{Kind}
+use Rattle.dn_arc.specs.State.Bundles.{BundleFacts}
 use Rattle.dn_arc.specs.declared.arc.Form.{Form}
 use Rattle.dn_instance.specs.Instances.{Instance, size_of}
 use Rattle.dn_canon.specs.CanonInstances.{IsCanonInstanceOf}
-use Rattle.dn_canon.specs.Prints.{supply_row, terminal_row, print}
-use Rattle.dn_sink.specs.Rows.{Cells}
+use Rattle.dn_canon.specs.Prints.{supply_row, terminal_row, graph_rows, print}
+use Rattle.dn_canon.specs.State.ListedArcs.{listed_graph}
+use Rattle.dn_sink.specs.Rows.{Cells, text_of}
 use Rattle.dn_sink.specs.Sinks.{SinkFacts}
 use Rattle.dn_sink.specs.Puts.{HasPut, PutsPrefix}
 use Rattle.dn_instance.specs.declared.refusal.Refusal.{Refusal}
@@ -20,6 +23,11 @@ abbrev pub node_rows : NodeLines → List Cells
 node_rows (Supplies supplies) = map supply_row supplies.now.entries
 node_rows (Terminals source sink) = terminal_row source.now S ∷ terminal_row sink.now T ∷ []
 node_rows NoNodes = []
+
+-- the text of the graph of a table: its lines with these nodes and node lines, and the arcs that its bundles list
+abbrev pub graph_text : {B Arc : Type 0} → BundleFacts B Arc → Form → Kind → ℤ → NodeLines → List ((ℤ × ℤ) × B) → List ℕ
+graph_text bundle form kind nodes lines table =
+    text_of (graph_rows bundle.kind kind (listed_graph (bundle.listed form) nodes table) (node_rows lines))
 
 -- the sink took the whole text, or has failed and took a prefix of it; or the text has 2^63 counted lines or more, and
 -- nothing was put

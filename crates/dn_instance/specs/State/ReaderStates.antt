@@ -1,8 +1,8 @@
 -- What the state of a reader represents.
 use Rattle.dn_instance.specs.State.Helds.{Parsed}
-use Rattle.std.specs.Prelude.{◌≡◌, ℕ, ◌≤◌, List, [], ◌∷◌, ◌++◌, length, take, cond, Some, None, MatchOption, Result, Ok, Err}
+use Rattle.std.specs.Prelude.{◌≡◌, ℕ, ◌≤◌, List, [], ◌∷◌, ◌++◌, length, take, cond, Some, None, MatchOption, MatchResult, Result, Ok, Err}
 use Rattle.dn_line.specs.Pieces.{parts, lines, is_line_feed}
-use Rattle.dn_line.specs.State.LineStates.{LineSoFar, LineReaderAt}
+use Rattle.dn_line.specs.State.LineStates.{LineSoFar, LineReaderAt, used_of}
 use Rattle.dn_line.specs.declared.line_reader.LineReader.{LineReader}
 use Rattle.dn_instance.specs.declared.reader.Reader.{Reader}
 use Rattle.dn_instance.specs.declared.refusal.Refusal.{Refusal}
@@ -61,6 +61,19 @@ Advances r t u (Ok n) = IsReading r u
 Advances r t u (Err e) =
     (r.refusal ≡ Some e) × IsRefused (length (ended t)) (ended u) e × StopsIn r (ended u) e
     × (length (ended t) ≤ lines_taken r)
+
+-- the bytes of a piece up to and including its first LF, or all if it has no LF
+abbrev pub first_line : List ℕ → List ℕ
+first_line piece = take (used_of piece) piece
+
+-- this holds of any bytes that the reader has read
+abbrev pub WhileReading : Reader → (List ℕ → Type 0) → Type 0
+WhileReading r P = (t : List ℕ) → IsReading r t → P t
+
+-- on an error, the new reader keeps this refusal; otherwise, which refusal the reader keeps has not changed
+abbrev pub KeepsRefusal : {T : Type 0} → Reader → Reader → Result T Refusal → Type 0
+KeepsRefusal old new result =
+    MatchResult result (λ x. refusal_of new ≡ refusal_of old) (λ e. refusal_of new ≡ Some e)
 
 -- after t, the reader has read the first n bytes of the piece, or it keeps the refusal of a line that is complete in
 -- the first bytes of the piece

@@ -1,6 +1,6 @@
 -- What reading a source returns, and in which state it leaves the source.
 use Rattle.dn_instance.specs.State.Helds.{Parsed}
-use Rattle.std.specs.Prelude.{◌≡◌, ◌⊎◌, ℕ, ◌<◌, ◌≤◌, ◌^◌, List, ◌++◌, length, Bool, Option, Some, None, Result, Ok, Err, IfSome, IsErrOf, IsTrue}
+use Rattle.std.specs.Prelude.{◌≡◌, ◌⊎◌, ℕ, ◌<◌, ◌≤◌, ◌^◌, List, ◌++◌, length, Bool, Option, Some, None, Result, Ok, Err, IfErr, IfSome, IsErrOf, IsTrue}
 use Rattle.std.specs.Io.KnownBytes.{Consumes, IsAtEnd}
 use Rattle.dn_line.specs.Pieces.{lines}
 use Rattle.dn_line.specs.Sources.{SourceFacts}
@@ -136,3 +136,14 @@ abbrev pub KeptOutcome : Bool → List ℕ → AfterPulls → List ℕ → List 
 KeptOutcome keeps t left old new result =
     (SourceOutcome t left result × (IsTrue keeps → Copied t left.gives old new))
     ⊎ ((result ≡ Err Memory) × IsTrue keeps × LacksRoom t left old new)
+
+-- what reading a source returns that may keep the bytes given, if the bytes of the source are known
+abbrev pub KeepsSource : {S : Type 0} → SourceFacts S → S → S → Bool → List ℕ → List ℕ → Result Parsed Refusal → Type 0
+KeepsSource source old new keeps old_kept new_kept result =
+    IfSome (source.gives old) (λ t. KeptOutcome keeps t (after_pulls source old new) old_kept new_kept result)
+
+-- a refusal with which reading a source ends before the end of the text is what reading the source returns
+abbrev pub StopsSource : {S : Type 0} → SourceFacts S → S → S → Bool → List ℕ → List ℕ → Result (Unit {0}) Refusal
+    → Type 0
+StopsSource source old new keeps old_kept new_kept result =
+    IfErr result (λ e. KeepsSource source old new keeps old_kept new_kept (Err e))

@@ -1,5 +1,5 @@
 -- What the parts of a text so far hold: its `n` lines, and its counted lines.
-use Rattle.std.specs.Prelude.{◌≡◌, ℤ, pos, ◌||◌, List, [], ◌∷◌, ◌++◌, Bool, false, not, Option, Some, None, is_some, Result, OnOk}
+use Rattle.std.specs.Prelude.{◌≡◌, ℕ, ◌<◌, ◌^◌, ℤ, pos, ◌||◌, List, [], ◌∷◌, ◌++◌, Bool, false, not, Option, Some, None, is_some, Result, OnOk}
 use Rattle.std.specs.BTreeMap as Map
 use Rattle.std.specs.BTreeSet as Set
 use Rattle.std.specs.List.{list_any}
@@ -20,7 +20,11 @@ use Rattle.dn_bundle.specs.declared.least.Least.{Least}
 use Rattle.dn_bundle.specs.declared.total.Total.{Total}
 use Rattle.dn_instance.specs.Items.{Problem, problem_of, length_arc_in, cap_arc_in, cost_arc_in, supplies_of, terminal_of}
 use Rattle.dn_instance.specs.TextFaults.{has_supply, is_companion, item_tests}
-use Rattle.dn_instance.specs.State.Bodies.{TakerFacts, TableHolds, ids_body, pairs_body, points_body}
+use Rattle.dn_instance.specs.EntryCount.{entries_as}
+use Rattle.dn_instance.specs.State.RowRuns.{counted_line}
+use Rattle.dn_line.specs.declared.row_block.RowLine.{RowLine}
+use Rattle.dn_instance.specs.declared.body.Taken.{Taken}
+use Rattle.dn_instance.specs.State.Bodies.{TakerFacts, TakesRows, TableHolds, ids_body, pairs_body, points_body}
 use Rattle.dn_instance.specs.State.ItemFaults.{AnswersFault}
 use Rattle.dn_instance.specs.declared.body.Body.{Body}
 use Rattle.dn_instance.specs.declared.body.Body.TheVariants as Bodies
@@ -59,9 +63,20 @@ BodyHolds (Bodies.Ss ids) items = ids_body.Holds ids items
 BodyHolds (Bodies.P2p pairs) items = pairs_body.Holds pairs items
 BodyHolds (Bodies.Co points) items = points_body.Holds points items
 
+-- n is how many entries the items of the body make, if that is below 2^64
+abbrev pub BodyCounts : AnyBody → ℕ → Type 0
+BodyCounts b n =
+    (items : List Line) → BodyHolds b items → entries_as (body_kind b) items < 2 ^ 64
+    → n ≡ entries_as (body_kind b) items
+
 -- the bodies of texts of this kind
 abbrev pub any_body : Kind → TakerFacts AnyBody
 any_body kind = record { kind = kind; Holds = λ b items. (body_kind b ≡ kind) × BodyHolds b items }
+
+-- the body takes rows of counted lines after any items that it holds
+abbrev pub BodyTakes : ℤ → AnyBody → AnyBody → List RowLine → Taken → Type 0
+BodyTakes nodes old new rows taken =
+    (kind : Kind) → TakesRows (any_body kind) (counted_line kind) nodes old new rows taken
 
 -- the table is sorted by ascending pair, and has the bundles of the other table
 pub record SortsTable {B : Type 0} (old new : List ((ℤ × ℤ) × B)) : Type 0 where

@@ -12,22 +12,26 @@ use Rattle.dn_line.specs.declared.row.Row.{Row}
 use Rattle.dn_line.specs.declared.row_block.RowLine.{RowLine}
 use Rattle.dn_line.specs.declared.word.Word.{Word}
 use Rattle.dn_line.specs.declared.code.Code.{Code}
-use Rattle.dn_line.specs.Words.{is_skip, said_words}
-use Rattle.dn_line.specs.State.LineStates.{is_inner}
+use Rattle.dn_line.specs.Words.{is_skip, first, said_words}
+use Rattle.dn_line.specs.LineTable.{kind_named}
+use Rattle.dn_line.specs.State.LineReads.{head_of}
+use Rattle.dn_line.specs.State.LineStates.{LineSoFar, LineReaderAt, is_inner}
+use Rattle.dn_line.specs.declared.line_reader.LineReader.{LineReader}
 use Rattle.dn_line.specs.Faults.{first_fault, head_tests, field_tests, fields}
 use Rattle.dn_line.specs.State.Spelling.{slots_of, kind_before}
 use Rattle.dn_line.specs.Reading.{unless, spelled}
 use Rattle.dn_line.specs.State.RowItems.{item_of_row}
-use Rattle.dn_instance.specs.Items.{Problem, problem_of, kind_known, counted}
+use Rattle.dn_instance.specs.Items.{Problem, problem_in, problem_of, kind_known, counted}
 use Rattle.dn_instance.specs.Readers.{SpellsNeed}
 use Rattle.dn_instance.specs.TextFaults.{is_arc, line_fault, line_tests, order_tests}
 use Rattle.dn_instance.specs.Texts.{items_of, IsClean}
 use Rattle.dn_instance.specs.State.TextParts.{AnyBody, BodyHolds, MarksHold, body_kind, is_graph}
-use Rattle.dn_instance.specs.State.Bodies.{AnswersItem, TakerFacts}
+use Rattle.dn_instance.specs.State.Bodies.{AnswersItem, Awaits, TakerFacts, TookRows}
 use Rattle.dn_instance.specs.State.ItemFaults.{AnswersFault}
-use Rattle.dn_instance.specs.State.RowRuns.{HasRoomFor, HasSigns}
+use Rattle.dn_instance.specs.State.RowRuns.{HasRoomFor, HasSigns, IsRowHead, row_items, row_line}
 use Rattle.dn_instance.specs.declared.refusal.ItemFault.{ItemFault}
 use Rattle.dn_instance.specs.declared.refusal.ItemFault.TheVariants.{Memory}
+use Rattle.dn_instance.specs.declared.body.Taken.{Taken}
 use Rattle.dn_instance.specs.declared.text_so_far.RowsTaken.{RowsTaken}
 use Rattle.dn_instance.specs.declared.text_so_far.TextSoFar.{TextSoFar}
 
@@ -78,6 +82,26 @@ pub record AwaitsRow (t : TextSoFar) (before : List Line) (i : Line) : Type 0 wh
   pub read : HasRead t before
   pub may : MayFollow before i
 
+-- the new text has read, after the items of the old one, a line that declares this problem, if the line may follow
+abbrev pub Declares : TextSoFar → TextSoFar → Problem → Type 0
+Declares old new p =
+    (before : List Line) (i : Line) → AwaitsRow old before i → problem_in i ≡ Some p → pos 0 ≤ℤ p.count
+    → HasRead new (before ++ i ∷ [])
+
+-- the new text has read this item after the items of the old one, if it may follow them
+abbrev pub TakesItem : TextSoFar → TextSoFar → Line → Type 0
+TakesItem old new i = (before : List Line) → AwaitsRow old before i → HasRead new (before ++ i ∷ [])
+
+-- this holds of any items that the text so far has read and of the words of the line that the line reader represents
+abbrev pub AtLine : TextSoFar → LineReader → (List Line → List Word → Type 0) → Type 0
+AtLine t r P = (items : List Line) (l : LineSoFar) → HasRead t items → LineReaderAt r l → P items (said_words l.bytes)
+
+-- the fault is the first that a line with this head has because of the items before it, if its head has none
+abbrev pub IsOrderFault : TextSoFar → Head → Option Code → Type 0
+IsOrderFault t head fault =
+    (before : List Line) (ws : List Word) → HasRead t before → first_fault (head_tests (text_kind t) ws) ≡ None
+    → head ≡ head_of (first ws) (kind_named ws) → fault ≡ first_fault (order_tests before ws)
+
 -- the result answers the item of this row after the items that the old text has read, and the new text has read it too
 -- if it has no fault
 abbrev pub TakesRowOf : TextSoFar → TextSoFar → Head → Row → Result (Unit {0}) ItemFault → Type 0
@@ -94,6 +118,14 @@ pub record IsOfRun (t : TextSoFar) (head : Head) : Type 0 where
 -- at most as many of these rows as are still to come, if their lines are counted
 abbrev pub RoomFor : Head → List RowLine → TextSoFar → Type 0
 RoomFor head rows t = (head ≡ Heads.Node → ⊥) → pos (length rows) ≤ℤ t.due
+
+-- the rows that were taken are those before the first that has a fault after the items of the old text, or for which
+-- memory ran out, and the new text has read their items
+abbrev pub TakesRun : TextSoFar → TextSoFar → Head → List RowLine → Taken → Type 0
+TakesRun old new head rows taken =
+    (kind : Kind) (before : List Line) → IsRowHead kind head → RoomFor head rows old
+    → Awaits (text_taker kind) old.nodes old before (row_items (row_line kind head) rows)
+    → TookRows (text_taker kind) (row_line kind head) before new rows taken
 
 -- the next line reads as the item of a row of a line with this head, or it has this fault; a skipped line has the head
 -- `Skip`
@@ -113,6 +145,18 @@ pub record TextAt (t : TextSoFar) (ls : List (List ℕ)) : Type 0 where
   pub number_is : t.closed ≡ length ls
   pub items_are : HasRead t (items_of ls)
 
+-- this holds of any lines that the text so far has read and of the line that the line reader represents
+abbrev pub AfterLines : TextSoFar → LineReader → (List (List ℕ) → List ℕ → Type 0) → Type 0
+AfterLines t r P = (ls : List (List ℕ)) (l : LineSoFar) → TextAt t ls → LineReaderAt r l → P ls l.bytes
+
+-- the first fault of a line after these lines
+abbrev pub fault_after : List (List ℕ) → List ℕ → Option Code
+fault_after ls line = line_fault (length ls + 1) (items_of ls) (said_words line)
+
+-- the line spells an item that needs memory after these lines
+abbrev pub NeedsAfter : List (List ℕ) → List ℕ → Type 0
+NeedsAfter ls line = SpellsNeed (items_of ls) (said_words line)
+
 -- the lines, each followed by its LF
 abbrev pub closed_lines : List (List ℕ) → List ℕ
 closed_lines ls = flat_map (λ l. l ++ 10 ∷ []) ls
@@ -128,8 +172,8 @@ pub record IsRefusedRow (ls : List (List ℕ)) (bytes : List ℕ) (fault : ItemF
   pub rest : List ℕ
   pub whole : line ++ 10 ∷ rest ≡ bytes
   pub inner : list_all is_inner line ≡ true
-  pub answer : AnswersFault (Err fault) (line_fault (length ls + 1) (items_of ls) (said_words line))
-  pub needs : fault ≡ Memory → SpellsNeed (items_of ls) (said_words line)
+  pub answer : AnswersFault (Err fault) (fault_after ls line)
+  pub needs : fault ≡ Memory → NeedsAfter ls line
 
 -- there is no fault, or it is that of the first line of these bytes
 abbrev pub RefusesRow : List (List ℕ) → List ℕ → Option ItemFault → Type 0

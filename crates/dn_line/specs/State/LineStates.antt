@@ -19,6 +19,10 @@ pub record LineStateAt (s : LineState) (p : List (List ℕ) × List ℕ) : Type 
   pub words_are : KeepsWords s.words (map said (filter has_bytes p.0))
   pub last_is : WordAt s.last p.1
 
+-- `Is` holds of any pieces, the closed ones and the open one, whose words the state has
+abbrev pub OfPieces : LineState → (List (List ℕ) × List ℕ → Type 0) → Type 0
+OfPieces s Is = (p : List (List ℕ) × List ℕ) → LineStateAt s p → Is p
+
 -- after the bytes l, the state has taken all of the piece but the rest
 pub record UsedUpTo (s : LineState) (l piece rest : List ℕ) : Type 0 where
   pub used : List ℕ
@@ -82,6 +86,18 @@ pub record LineReaderAt (r : LineReader) (l : LineSoFar) : Type 0 where
 -- `Is` holds of every line that the reader represents
 abbrev pub OfLine : LineReader → (LineSoFar → Type 0) → Type 0
 OfLine r Is = (l : LineSoFar) → LineReaderAt r l → Is l
+
+-- `Is` holds of the bytes of any line without an end that the reader represents
+abbrev pub OfOpenLine : LineReader → (LineSoFar → Type 0) → Type 0
+OfOpenLine r Is =
+    (bytes : List ℕ) → LineReaderAt r (record { bytes = bytes; ended = false })
+    → Is (record { bytes = bytes; ended = false })
+
+-- the new reader represents the line of the old one, if this had not ended, with these bytes more
+abbrev pub GrowsLine : LineReader → LineReader → List ℕ → Bool → Type 0
+GrowsLine old new more ended =
+    (l : LineSoFar) → l.ended ≡ false → LineReaderAt old l
+    → LineReaderAt new (record { bytes = l.bytes ++ more; ended = ended })
 
 -- the piece has an LF
 abbrev pub has_end : List ℕ → Bool

@@ -19,6 +19,12 @@ ReadUpTo kind letter bytes [] rest = bytes ≡ rest
 ReadUpTo kind letter bytes (r ∷ rows) rest =
     (next : List ℕ) × IsRowLine kind letter bytes r next × ReadUpTo kind letter next rows rest
 
+-- the bytes begin with the lines of these rows, each with this letter, in a text of any kind that has these fields for
+-- the letter
+abbrev pub AreRowsOf : ℕ → List Field → List ℕ → List RowLine → Type 0
+AreRowsOf letter fields bytes rows =
+    (kind : Kind) → HasFields kind letter fields → (rest : List ℕ) × ReadUpTo kind letter bytes rows rest
+
 -- the bytes begin with the lines of these rows, each with the letter that is the first byte
 abbrev pub BeginWithRows : Kind → List ℕ → List RowLine → Type 0
 BeginWithRows kind bytes rows = (rest : List ℕ) × ReadUpTo kind (get_or bytes 0 0) bytes rows rest

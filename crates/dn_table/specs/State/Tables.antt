@@ -1,6 +1,6 @@
 -- The arcs that a list of bundles by ordered pair represents, how an arc changes the list, and what an iterator over it
 -- returns.
-use Rattle.std.specs.Prelude.{◌≡◌, ◌⊎◌, ◌↔◌, ◌<◌, ◌-◌, ◌^◌, ℕ, ℤ, pos, ◌<ℤ◌, List, [], ◌∷◌, ◌++◌, None, false, IsSome}
+use Rattle.std.specs.Prelude.{◌≡◌, ◌⊎◌, ◌↔◌, ◌<◌, ◌-◌, ◌^◌, ℕ, ℤ, pos, ◌<ℤ◌, List, [], ◌∷◌, ◌++◌, None, Option, MatchOption, ◌≤◌, false, IsSome}
 use Rattle.std.specs.Borrow.{Bor}
 use Rattle.std.specs.List.{AllByRecursion}
 use Rattle.std.specs.List.Sorted.{IsStrictlySortedBy}
@@ -32,6 +32,15 @@ pub record TableStandsFor {B Arc : Type 0} (kind : ArcKind Arc) (lists : B → L
 abbrev pub entry_of : {B : Type 0} → (ℤ × ℤ) × Bor B → (ℤ × ℤ) × B
 entry_of x = (x.0, x.1.now)
 
+-- the two tables have the same bundles at all pairs but this one
+abbrev pub IsSameElsewhere : {B : Type 0} → ℤ × ℤ → List ((ℤ × ℤ) × B) → List ((ℤ × ℤ) × B) → Type 0
+IsSameElsewhere pair old new =
+    (q : ℤ × ℤ) → same_pair pair q ≡ false → lookup (same_pair q) new ≡ lookup (same_pair q) old
+
+-- the count of all, or none if there are so many or more
+abbrev pub CountsBelow : ℕ → ℕ → Option ℕ → Type 0
+CountsBelow limit all count = MatchOption count (limit ≤ all) (λ n. n ≡ all)
+
 -- the new table has one more arc at this pair and is the same elsewhere: its bundle there means the earlier arcs and
 -- this one, and a pair that had no bundle has one exactly if the arc means anything
 pub record Grows {B Arc : Type 0} (kind : ArcKind Arc) (lists : B → List Arc) (old new : List ((ℤ × ℤ) × B))
@@ -40,7 +49,7 @@ pub record Grows {B Arc : Type 0} (kind : ArcKind Arc) (lists : B → List Arc) 
   pub kept : IsSome (lookup (same_pair pair) old) → IsSome (lookup (same_pair pair) new)
   pub fresh : lookup (same_pair pair) old ≡ None
       → (lookup (same_pair pair) new ≡ None) ↔ kind.Same (listed_at lists new pair) []
-  pub others : (p : ℤ × ℤ) → same_pair pair p ≡ false → lookup (same_pair p) new ≡ lookup (same_pair p) old
+  pub others : IsSameElsewhere pair old new
 
 -- each arc may occur in a problem
 abbrev pub AreArcs : {Arc : Type 0} → ArcKind Arc → List ((ℤ × ℤ) × Arc) → Type 0
@@ -58,6 +67,10 @@ Stays {Arc} kind =
     → kind.Same xs []
 
 module _ {B Arc : Type 0} (bundle : BundleFacts B Arc) where
+  -- how many entries the arcs of a bundle make
+  abbrev pub entries_in : B → ℕ
+  entries_in b = bundle.kind.entries (meant bundle b)
+
   -- the bundles represent these arcs
   abbrev pub Lists : List ((ℤ × ℤ) × B) → List ((ℤ × ℤ) × Arc) → Type 0
   Lists = TableLists bundle.kind (meant bundle)
