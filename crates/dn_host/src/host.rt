@@ -2,6 +2,7 @@
 ghost use Rattle.std.specs.Prelude.{◌≡◌, ◌⊎◌, false, None};
 ghost use Rattle.dn_host.specs.HostTexts.{text_remains};
 
+use crate::device::Device;
 use crate::opener::Opener;
 use crate::retried::Retried;
 use crate::stream::Stream;
@@ -60,25 +61,50 @@ pub fn words_of<R: Runtime + AllocGlobal>(host: &R) -> io::Result<Vec<String>> {
     Ok(env::args(host)?.collect(host.alloc())?)
 }
 
+/// Standard output or standard error. It states which bytes the writer holds, and nothing about failures.
+#[derive(Drop)]
+pub struct HostDevice<W> {
+    /// The writer.
+    pub writer: W,
+}
+
+impl<W: Write> Device for HostDevice<W> {
+    ghost device = { record {
+      taken = λ d. W.contents d.writer;
+      Takes = λ _ _ _ _. Unit {0};
+      Fails = λ _ _ _. Unit {0};
+      Flushes = λ _ _. Unit {0};
+      FailsToFlush = λ _ _ _. Unit {0};
+    } };
+
+    fn write(&mut self, bytes: &[u8]) -> io::Result<usize> {
+        self.writer.write(bytes)
+    }
+
+    fn flush(&mut self) -> io::Result<()> {
+        self.writer.flush()
+    }
+}
+
+/// A buffered sink over a device.
+pub type Out<D> = ToWrite<BufWriter<Retried<D>>>;
+
 /// The standard output of the host, buffered.
-pub type HostOut<'a, R> = ToWrite<BufWriter<Retried<Printer<'a, R>>>>;
+pub type HostOut<'a, R> = Out<HostDevice<Printer<'a, R>>>;
 
-/// A buffered sink over a writer.
-pub type Out<W> = ToWrite<BufWriter<Retried<W>>>;
-
-/// Returns a buffered sink over a writer, or, if there is no memory for its buffer, one without over the other writer.
+/// Returns a buffered sink over a device, or, if there is no memory for its buffer, one without over the other device.
 /// Writes nothing.
-pub fn out_over<W: Write + Drop>(alloc: Global, writer: W, plain: W) -> Out<W>
-    ensures fine { ⟦<Out<W> as Sink>⟧.sink.has_failed result ≡ false }
-    ensures taken { (⟦<Out<W> as Sink>⟧.sink.taken result ≡ W.contents writer)
-        ⊎ (⟦<Out<W> as Sink>⟧.sink.taken result ≡ W.contents plain) }
+pub fn out_over<D: Device + Drop>(alloc: Global, device: D, plain: D) -> Out<D>
+    ensures fine { ⟦<Out<D> as Sink>⟧.sink.has_failed result ≡ false }
+    ensures taken { (⟦<Out<D> as Sink>⟧.sink.taken result ≡ D.device.taken device)
+        ⊎ (⟦<Out<D> as Sink>⟧.sink.taken result ≡ D.device.taken plain) }
 {
-    match BufWriter::with_capacity(alloc, BUFFER, Retried { stream: writer }) {
+    match BufWriter::with_capacity(alloc, BUFFER, Retried { device }) {
         Ok(buffer) => {
             drop(plain);
             ToWrite::new(buffer)
         }
-        Err(_) => ToWrite::new(BufWriter::with_capacity(alloc, 0, Retried { stream: plain }).unwrap()),
+        Err(_) => ToWrite::new(BufWriter::with_capacity(alloc, 0, Retried { device: plain }).unwrap()),
     }
 }
 
@@ -86,5 +112,11 @@ pub fn out_over<W: Write + Drop>(alloc: Global, writer: W, plain: W) -> Out<W>
 pub fn out_of<'a, R: Runtime + AllocGlobal>(host: &'a R) -> HostOut<'a, R>
     ensures { ⟦<HostOut<'a, R> as Sink>⟧.sink.has_failed result ≡ false }
 {
-    out_over(host.alloc(), io::writer(host), io::writer(host))
+    let device = HostDevice {
+        writer: io::writer(host),
+    };
+    let plain = HostDevice {
+        writer: io::writer(host),
+    };
+    out_over(host.alloc(), device, plain)
 }

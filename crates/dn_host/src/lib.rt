@@ -1,10 +1,11 @@
 //! A run of the program on the host. In the order of the data: `stream` has streams of bytes, and `buffered` sources
 //! over them; `opener` opens streams, `files` hands out their sources by name, and `runs` runs what the words of the
-//! command line ask for over them. `retried` retries interrupted writes, and `host` has what the host opens, its words
-//! and its standard output.
+//! command line ask for over them. `device` has devices that take bytes, and `retried` writers over
+//! them that retry interrupted writes. `host` has what the host opens, its words and its standard output.
 #![tactic(auto)]
 
 pub mod buffered;
+pub mod device;
 pub mod files;
 pub mod host;
 pub mod opener;
@@ -12,7 +13,8 @@ pub mod retried;
 pub mod runs;
 pub mod stream;
 
-pub use host::{HostOpener, out_of, words_of};
+pub use device::Device;
+pub use host::{HostDevice, HostOpener, out_of, words_of};
 pub use opener::Opener;
 pub use retried::Retried;
 pub use runs::run_on;

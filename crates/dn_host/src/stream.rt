@@ -16,7 +16,7 @@ pub trait Stream {
         ensures { ReadsStream stream self.old self.new into.new result };
 }
 
-/// ReadsStream as `Stream::read` does, and again after each interrupted read. Fails after 2^64-1 interruptions.
+/// Reads as `Stream::read` does, and again after each interrupted read. Fails after 2^64-1 interruptions.
 pub(crate) fn read_retrying<S: Stream>(stream: &mut S, into: &mut [u8]) -> io::Result<usize>
     ensures { ReadsStream (retrying S.stream) stream.old stream.new into.new result }
 {

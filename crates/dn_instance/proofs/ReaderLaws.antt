@@ -15,7 +15,7 @@ use Rattle.dn_instance.specs.declared.refusal.Refusal.TheVariants.{Text, Memory}
 use Rattle.dn_instance.specs.State.ItemFaults.{AnswersFault}
 use Rattle.dn_instance.specs.Readers.{SpellsNeed, ended}
 use Rattle.dn_instance.specs.State.ReaderResults.{lines_taken, IsNext, EntriesBefore, IsRefused, Fed, Outcome, fed_answer}
-use Rattle.dn_instance.specs.State.ReaderStates.{StopsIn, TakesLine, TakesAll, IsReading, ReaderAt, Advances, HasOpen, Steps, open_of}
+use Rattle.dn_instance.specs.State.ReaderStates.{StopsIn, ClosesLine, TakesAll, IsReading, ReaderAt, Advances, HasOpen, Steps, open_of}
 use Rattle.dn_instance.specs.State.LineRefusals.{refused_at}
 use Rattle.dn_instance.specs.TextFaults.{line_fault}
 use Rattle.dn_instance.specs.Texts.{items_of, IsClean, IsFirstFaultAt}
@@ -111,7 +111,7 @@ fed r t h = by_refusal r.refusal refl
 
 -- a reader takes a last line without an LF
 pub takes_last : (r : Reader) (t bytes : List ℕ) (x : Result (Unit {0}) Refusal) → lines t ≡ ended t ++ bytes ∷ []
-    → TakesLine r (ended t) bytes x → TakesAll r t x
+    → ClosesLine r (ended t) bytes x → TakesAll r t x
 takes_last r t bytes (Ok x) e h = rw e h
 takes_last r t bytes (Err x) e h = rw e h.1
 
@@ -152,7 +152,7 @@ next_after ls l number Faults.Memory clean n h =
 pub refuses_next : (r : Reader) (ls : List (List ℕ)) (l : List ℕ) (fault : ItemFault) (e : Refusal) → TextAt r.text ls
     → r.refusal ≡ Some e → e ≡ refused_at (length ls + 1) fault
     → AnswersFault (Err fault) (line_fault (length ls + 1) (items_of ls) (said_words l))
-    → (fault ≡ Faults.Memory → SpellsNeed (items_of ls) (said_words l)) → TakesLine r ls l (Err e)
+    → (fault ≡ Faults.Memory → SpellsNeed (items_of ls) (said_words l)) → ClosesLine r ls l (Err e)
 refuses_next r ls l fault e at is said answer item = (
   is,
   rw said (refused_next ls l (length ls + 1) fault at.clean refl answer item),

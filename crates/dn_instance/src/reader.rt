@@ -3,7 +3,7 @@ ghost use Rattle.std.specs.Prelude.{◌≡◌, ◌≤◌, ℕ, ◌+◌, List, []
 ghost use Rattle.dn_line.specs.State.LineStates.{LineSoFar, LineReaderAt, used_of};
 ghost use Rattle.dn_line.specs.Pieces.{lines};
 ghost use Rattle.dn_instance.specs.State.ReaderResults.{Fed, Outcome, refusal_of, fed_answer};
-ghost use Rattle.dn_instance.specs.State.ReaderStates.{Advances, CountsBefore, CountsRead, KeepsRefusal, ReaderAt, Steps, TakesLine, WantsAtEnd, WantsInPiece, WhileReading, first_line};
+ghost use Rattle.dn_instance.specs.State.ReaderStates.{Advances, CountsBefore, CountsRead, KeepsRefusal, ReaderAt, Steps, ClosesLine, WantsAtEnd, WantsInPiece, WhileReading, first_line};
 ghost use Rattle.dn_instance.specs.State.LineRefusals.{refused_at};
 ghost use Rattle.dn_instance.specs.State.TextsSoFar.{AfterLines, TextAt};
 
@@ -36,9 +36,9 @@ impl Reader {
         }
     }
 
-    // TakesLine the line that the line reader represents, or keeps and returns its refusal.
+    // Takes the line that the line reader represents, or keeps and returns its refusal.
     fn close(&mut self) -> Result<(), Refusal>
-        ensures taken { AfterLines self.old.text self.old.line (λ ls l. TakesLine self.new ls l result) }
+        ensures taken { AfterLines self.old.text self.old.line (λ ls l. ClosesLine self.new ls l result) }
         ensures line { self.new.line ≡ self.old.line }
         ensures refusal { KeepsRefusal self.old self.new result }
     {
@@ -61,7 +61,7 @@ impl Reader {
         refusal
     }
 
-    // TakesLine a piece up to and including its first LF, or all of it if there is no LF. Returns how many bytes it takes.
+    // Takes a piece up to and including its first LF, or all of it if there is no LF. Returns how many bytes it takes.
     fn step(&mut self, piece: &[u8]) -> Result<usize, Refusal>
         requires { 0 < length piece.now }
         ensures used { IfOk result (λ n. n ≡ used_of piece.now) }
@@ -101,7 +101,7 @@ impl Reader {
         self.step(piece)
     }
 
-    /// TakesLine the next piece of the text.
+    /// Takes the next piece of the text.
     ///
     /// # Errors
     ///
@@ -138,7 +138,7 @@ impl Reader {
         self.text.entries()
     }
 
-    /// TakesLine a last line without an LF, then the end of the text, and returns the parsed instance of the whole text.
+    /// Takes a last line without an LF, then the end of the text, and returns the parsed instance of the whole text.
     ///
     /// # Errors
     ///

@@ -1,5 +1,5 @@
 // The line that says why a run was refused.
-ghost use Rattle.std.specs.Prelude.{◌++◌, codes, map};
+ghost use Rattle.std.specs.Prelude.{◌++◌, IsTrue, OnOk, codes, map};
 ghost use Rattle.std.specs.List.{concat};
 ghost use Rattle.dn_sink.specs.Puts.{Puts};
 ghost use Rattle.dn_report.specs.FaultLines.{fault_line, reason_text, unfit_line};
@@ -9,13 +9,15 @@ use dn_instance::{CompanionFault, Place, Refusal};
 use dn_sink::{Sink, SinkFault, put_all};
 use itoa::Buffer;
 
-/// Puts the line of a refusal of the text of this name: the place of the fault, its number and its name.
+/// Puts the line of a refusal of the text of this name: the place of the fault, its number and its name. Then flushes
+/// the sink.
 ///
 /// # Errors
 ///
-/// The sink failed. It has taken a prefix of the line.
+/// The sink failed. It has taken the line or a prefix of it.
 pub fn put_fault_line<K: Sink>(sink: &mut K, name: &str, refusal: &Refusal) -> Result<(), SinkFault>
-    ensures { Puts K.sink sink.old sink.new (fault_line name.now refusal.now) result }
+    ensures puts { Puts K.sink sink.old sink.new (fault_line name.now refusal.now) result }
+    ensures flushed { OnOk result (IsTrue (K.sink.is_flushed sink.new)) }
 {
     let name = name.as_bytes();
     match refusal {
@@ -37,17 +39,18 @@ pub fn put_fault_line<K: Sink>(sink: &mut K, name: &str, refusal: &Refusal) -> R
 }
 
 /// Puts the line that says why the companion of this name does not fit its graph: the number and the name of the fault,
-/// and the node that is not in the graph.
+/// and the node that is not in the graph. Then flushes the sink.
 ///
 /// # Errors
 ///
-/// The sink failed. It has taken a prefix of the line.
+/// The sink failed. It has taken the line or a prefix of it.
 pub fn put_unfit_line<K: Sink>(
     sink: &mut K,
     name: &str,
     fault: &CompanionFault,
 ) -> Result<(), SinkFault>
-    ensures { Puts K.sink sink.old sink.new (unfit_line name.now fault.now) result }
+    ensures puts { Puts K.sink sink.old sink.new (unfit_line name.now fault.now) result }
+    ensures flushed { OnOk result (IsTrue (K.sink.is_flushed sink.new)) }
 {
     let mut digits = Buffer::new();
     let number = digits.format(fault.number()).as_bytes();
@@ -71,8 +74,9 @@ fn put_node_fault<K: Sink>(
     reason: &[u8],
     id: &[u8],
 ) -> Result<(), SinkFault>
-    ensures { Puts K.sink sink.old sink.new
+    ensures puts { Puts K.sink sink.old sink.new
         (name.now ++ numbered number.now reason.now (node_end id.now)) result }
+    ensures flushed { OnOk result (IsTrue (K.sink.is_flushed sink.new)) }
 {
     put_pieces(sink, &[name, b": ", number, b" ", reason, b" ", id, b"\n"])
 }
@@ -84,8 +88,9 @@ fn put_kind_fault<K: Sink>(
     number: &[u8],
     reason: &[u8],
 ) -> Result<(), SinkFault>
-    ensures { Puts K.sink sink.old sink.new
+    ensures puts { Puts K.sink sink.old sink.new
         (name.now ++ numbered number.now reason.now (codes "\n")) result }
+    ensures flushed { OnOk result (IsTrue (K.sink.is_flushed sink.new)) }
 {
     put_pieces(sink, &[name, b": ", number, b" ", reason, b"\n"])
 }
@@ -98,8 +103,9 @@ fn put_line<K: Sink>(
     line: &[u8],
     refusal: &Refusal,
 ) -> Result<(), SinkFault>
-    ensures { Puts K.sink sink.old sink.new
+    ensures puts { Puts K.sink sink.old sink.new
         (name.now ++ (place.now ++ (line.now ++ reason_text refusal.now))) result }
+    ensures flushed { OnOk result (IsTrue (K.sink.is_flushed sink.new)) }
 {
     let mut digits = Buffer::new();
     let number = digits.format(refusal.number()).as_bytes();
@@ -115,8 +121,9 @@ fn put_refusal<K: Sink>(
     number: &[u8],
     reason: &[u8],
 ) -> Result<(), SinkFault>
-    ensures { let end = numbered number.now reason.now (codes "\n") in
+    ensures puts { let end = numbered number.now reason.now (codes "\n") in
         Puts K.sink sink.old sink.new (name.now ++ (place.now ++ (line.now ++ end))) result }
+    ensures flushed { OnOk result (IsTrue (K.sink.is_flushed sink.new)) }
 {
     put_pieces(
         sink,
@@ -124,8 +131,17 @@ fn put_refusal<K: Sink>(
     )
 }
 
-// Puts pieces, one after the other.
+// Puts pieces, one after the other, and then flushes the sink.
 fn put_pieces<K: Sink>(sink: &mut K, pieces: &[&[u8]]) -> Result<(), SinkFault>
+    ensures puts { Puts K.sink sink.old sink.new (concat (map (λ piece. piece.now) pieces.now)) result }
+    ensures flushed { OnOk result (IsTrue (K.sink.is_flushed sink.new)) }
+{
+    put_each(sink, pieces)?;
+    sink.flush()
+}
+
+// Puts pieces, one after the other.
+fn put_each<K: Sink>(sink: &mut K, pieces: &[&[u8]]) -> Result<(), SinkFault>
     ensures { Puts K.sink sink.old sink.new (concat (map (λ piece. piece.now) pieces.now)) result }
 {
     for piece in pieces {

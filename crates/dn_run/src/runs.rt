@@ -11,13 +11,14 @@ use crate::stop::Stop;
 use dn_command::{Request, request_of};
 use dn_instance::Refusal;
 use dn_report::put_fault_line;
-use dn_sink::{Sink, put_all, put_and_flush};
+use dn_sink::{Sink, put_and_flush};
 use std::alloc::Global;
 
 /// Does what the words ask for, the program's name first, and returns the exit status: 0 if that is done, and texts
 /// that are compared are the same problem; 1 if they differ; 2 if a text is refused or a companion does not fit; 3 if
 /// the words are no command, or name standard input for two texts; 4 if an allocation, a file, a source or `out`
-/// failed, or a source has no end. On 2, 3 and 4 it puts one line on `err` that says why. It ignores a fault of `err`.
+/// failed, or a source has no end. On 2, 3 and 4 it puts one line on `err` that says why, and flushes `err`. It ignores
+/// a fault of `err`.
 pub fn run<F: Files, O: Sink, E: Sink>(
     alloc: Global,
     words: &[String],
@@ -31,7 +32,7 @@ pub fn run<F: Files, O: Sink, E: Sink>(
 {
     match request_of(alloc, words) {
         Request::Command(command) if command.names_standard_input_twice() => {
-            let _ = put_all(err, b"dnorm: standard input named twice\n");
+            let _ = put_and_flush(err, b"dnorm: standard input named twice\n");
             3
         }
         Request::Command(command) => match perform(alloc, &command, files, out) {
@@ -50,12 +51,13 @@ pub fn run<F: Files, O: Sink, E: Sink>(
     }
 }
 
-/// Puts the line for words that are no command on `err`, and returns the exit status, 3. Ignores a fault of `err`.
+/// Puts the line for words that are no command on `err`, flushes `err`, and returns the exit status, 3. Ignores a fault
+/// of `err`.
 pub fn refuse_words<E: Sink>(err: &mut E) -> u8
     ensures status { result ≡ 3 }
     ensures said { TakesLine (sink_run E.sink (err.old, err.new)) bad_command_line }
 {
-    let _ = put_all(err, b"dnorm: bad command line\n");
+    let _ = put_and_flush(err, b"dnorm: bad command line\n");
     3
 }
 

@@ -38,7 +38,7 @@ impl Stop<'_> {
         }
     }
 
-    // Puts the line that says why the command stopped. Ignores a fault of the sink.
+    // Puts the line that says why the command stopped, and flushes the sink. Ignores a fault of the sink.
     pub(crate) fn tell<E: Sink>(&self, err: &mut E)
         ensures { Tells (sink_run E.sink (err.old, err.new)) (stopped self.now) }
     {

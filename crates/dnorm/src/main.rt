@@ -3,13 +3,15 @@
 //! to `run_on`.
 #![tactic(auto)]
 
-use dn_host::{HostOpener, Retried, out_of, run_on, words_of};
+use dn_host::{HostDevice, HostOpener, Retried, out_of, run_on, words_of};
 use dn_sink::ToWrite;
 use std::process::ExitCode;
 
 fn main(rt: HostRuntime) -> ExitCode {
     let mut err = ToWrite::new(Retried {
-        stream: rt.stderr(),
+        device: HostDevice {
+            writer: rt.stderr(),
+        },
     });
     let words = words_of(&rt);
     let mut opener = HostOpener { host: &rt };

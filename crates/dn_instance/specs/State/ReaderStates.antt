@@ -42,9 +42,9 @@ abbrev pub ReaderAt : Reader → List ℕ → Type 0
 ReaderAt r t = MatchOption r.refusal (IsReading r t) (λ e. IsRefused 0 (ended t) e × StopsIn r (ended t) e)
 
 -- the reader has taken one more line, or it keeps the refusal of this line and has taken only the lines before it
-abbrev pub TakesLine : Reader → List (List ℕ) → List ℕ → Result (Unit {0}) Refusal → Type 0
-TakesLine r ls l (Ok x) = TextAt r.text (ls ++ l ∷ [])
-TakesLine r ls l (Err e) =
+abbrev pub ClosesLine : Reader → List (List ℕ) → List ℕ → Result (Unit {0}) Refusal → Type 0
+ClosesLine r ls l (Ok x) = TextAt r.text (ls ++ l ∷ [])
+ClosesLine r ls l (Err e) =
     (r.refusal ≡ Some e) × IsRefused (length ls) (ls ++ l ∷ []) e × StopsIn r (ls ++ l ∷ []) e
     × (lines_taken r ≡ length ls)
 

@@ -17,7 +17,7 @@ returns-in_default g c = record {
     memory = λ _. record {
       status_is = refl;
       out_stays = refl;
-      tells = (c.put_fault_line.result, c.put_fault_line.ensures);
+      tells = record { result = c.put_fault_line.result; puts = c.put_fault_line.ensures.puts; flushed = c.put_fault_line.ensures.flushed };
     };
   };
 }

@@ -7,7 +7,7 @@ pub returns-in-Command-clause-ran : goal.returns-in-Command-clause-ran
 returns-in-Command-clause-ran g c =
     ran _ _ _ _ c.in-Command.command 3 c.in-Command.ensures.plain c.in-Command.ensures.other
     (refused_twice _ _ _ _ (sym c.names_standard_input_twice.ensures ∙ c.if-names_standard_input_twice.true)
-    (record { status_is = refl; files_stay = refl; out_stays = refl; tells = (c.put_all.result, c.put_all.ensures) }))
+    (record { status_is = refl; files_stay = refl; out_stays = refl; tells = record { result = c.put_and_flush.result; puts = c.put_and_flush.ensures.puts; flushed = c.put_and_flush.ensures.flushed } }))
     (search rules)
 
 pub returns-in-Err-clause-ran : goal.returns-in-Err-clause-ran
@@ -28,7 +28,7 @@ returns-in-Memory-clause-ran g c = record {
       status_is = refl;
       files_stay = refl;
       out_stays = refl;
-      tells = (c.put_fault_line.result, c.put_fault_line.ensures);
+      tells = record { result = c.put_fault_line.result; puts = c.put_fault_line.ensures.puts; flushed = c.put_fault_line.ensures.flushed };
     },
   );
   out_by_status = search rules;

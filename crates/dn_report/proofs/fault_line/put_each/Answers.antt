@@ -2,7 +2,7 @@ use Rattle.std.proofs.Common.{◌≡◌, ℕ, ◌+◌, ◌<◌, List, [], ◌++�
 use Rattle.std.specs.List.{concat}
 use Rattle.std.proofs.lemmas.List.{drop_all, drop_more}
 use Rattle.dn_sink.proofs.PutLaws.{put_from, put_more, put_stop, stopped}
-use Rattle.dn_report.proofs.fault_line.put_pieces.Goals as goal
+use Rattle.dn_report.proofs.fault_line.put_each.Goals as goal
 
 -- the bytes of pieces, one after the other
 abbrev text : List (Bor (List ℕ)) → List ℕ

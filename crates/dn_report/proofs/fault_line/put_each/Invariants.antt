@@ -1,7 +1,7 @@
 use Rattle.std.proofs.Common.{drop, map}
 use Rattle.std.specs.List.{concat}
 use Rattle.dn_sink.specs.Puts.{HasPut}
-use Rattle.dn_report.proofs.fault_line.put_pieces.Given as goal
+use Rattle.dn_report.proofs.fault_line.put_each.Given as goal
 
 abbrev pub invariant-loop-piece : goal.invariant-loop-piece
 invariant-loop-piece g l =
