@@ -1,4 +1,5 @@
 pub mod Streams
+pub mod Devices
 pub mod Openers
 pub mod HostTexts
 pub mod HostRuns

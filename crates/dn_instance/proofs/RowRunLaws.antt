@@ -198,33 +198,46 @@ not_node : (kind : Kind) → Heads.Node ≡ counted_head kind → ⊥
 not_node Min e = cc
 not_node _ e = cc
 
--- rows of `min` node lines have been taken
-pub marks_run : (t : TextSoFar) (h : Marks) (kind : Kind) (head : Head) (rows : List RowLine) (r : Taken)
-    → head ≡ Heads.Node → IsRowHead kind head → TakesRows marks_of supply_line t.nodes t.marks h rows r
-    → (before : List Line) → Awaits (text_taker kind) t.nodes t before (row_items (row_line kind head) rows)
-    → TookRows (text_taker kind) (row_line kind head) before (record t { marks = h }) rows r
-marks_run t h kind head rows r node is takes = elim is [
-  | inl e ↦ rw (e.0, e.1) (λ before a.
+module _ {T : Type 0} (part : TakerFacts T) (old new : T) (t u : TextSoFar) (line : Row → Line) (rows : List RowLine)
+    (r : Taken) where
+  abbrev text : TakerFacts TextSoFar
+  text = text_taker part.kind
+
+  -- the rows that a part of a text has taken are taken by the text, if the part holds what the text has read before
+  -- them, and the text has read what the part holds after them
+  part_run : TakesRows part line t.nodes old new rows r
+      → ((before : List Line) → text.Holds t before → part.Holds old before)
+      → ((before : List Line) → text.Holds t before → part.Holds new (before ++ row_items line (take r.rows rows))
+      → text.Holds u (before ++ row_items line (take r.rows rows)))
+      → (before : List Line) → Awaits text t.nodes t before (row_items line rows) → TookRows text line before u rows r
+  part_run takes enters leaves before a =
       let took = takes before (record {
         problem = a.problem;
         problem_is = a.problem_is;
         kind_is = a.kind_is;
         nodes_are = a.nodes_are;
         signs = a.signs;
-        holds = a.holds.1.marks_hold;
+        holds = enters before a.holds;
       }) in
-      let first = take r.rows rows in
       record {
-        joins = record {
-          faultless = took.joins.faultless;
-          holds = (
-            a.holds.0,
-            marks_read t h before (row_items supply_line first) Min a.holds.1 a.holds.0 (none_free first)
-                (none_counted first) (no_arcs first) took.joins.holds,
-          );
-        };
+        joins = record { faultless = took.joins.faultless; holds = leaves before a.holds took.joins.holds };
         stops = took.stops;
-      })
+      }
+
+-- rows of `min` node lines have been taken
+pub marks_run : (t : TextSoFar) (h : Marks) (kind : Kind) (head : Head) (rows : List RowLine) (r : Taken)
+    → head ≡ Heads.Node → IsRowHead kind head → TakesRows marks_of supply_line t.nodes t.marks h rows r
+    → (before : List Line) → Awaits (text_taker kind) t.nodes t before (row_items (row_line kind head) rows)
+    → TookRows (text_taker kind) (row_line kind head) before (record t { marks = h }) rows r
+marks_run t h kind head rows r node is takes = elim is [
+  | inl e ↦ rw (e.0, e.1)
+      (part_run marks_of t.marks h t (record t { marks = h }) supply_line rows r takes (λ before at. at.1.marks_hold)
+      (λ before at held.
+      let first = take r.rows rows in (
+        at.0,
+        marks_read t h before (row_items supply_line first) Min at.1 at.0 (none_free first) (none_counted first)
+            (no_arcs first) held,
+      )))
   | inr e ↦ absurd (not_node kind (sym node ∙ e))
 ]
 
@@ -237,32 +250,19 @@ pub body_run : (t : TextSoFar) (b b' : AnyBody) (kind : Kind) (head : Head) (row
     → TookRows (text_taker kind) (row_line kind head) before (record t { due = d; body = Some b' }) rows r
 body_run t b b' kind head rows r d body counts is within takes same due some = elim is [
   | inl e ↦ absurd (counts e.0)
-  | inr e ↦ rw e (λ before a.
-      let own : body_kind b ≡ kind = own_kind (rw body at a.holds.0) in
-      let took = takes before (record {
-        problem = a.problem;
-        problem_is = a.problem_is;
-        kind_is = a.kind_is;
-        nodes_are = a.nodes_are;
-        signs = a.signs;
-        holds = (own, rw body at a.holds.1.body_holds);
-      }) in
+  | inr e ↦ rw e
+      (part_run (any_body kind) b b' t (record t { due = d; body = Some b' }) (counted_line kind) rows r takes
+      (λ before at. (own_kind (rw body at at.0), rw body at at.1.body_holds))
+      (λ before at held.
+      let own : body_kind b ≡ kind = own_kind (rw body at at.0) in
       let first = take r.rows rows in
       let items = row_items (counted_line kind) first in
-      let long : counted items ≡ r.rows = all_counted kind first ∙ length-take-le r.rows rows within in
-      record {
-        joins = record {
-          faultless = took.joins.faultless;
-          holds = (
-            ap Some (same ∙ own),
-            body_read t b' before items kind d a.holds.1 a.holds.0 (same ∙ own) (rows_arcs kind first)
-                (rw long (omega (arith, ints, due))) some
-                (marks_kept t.marks before items (rows_no_mark kind first) a.holds.1.marks_hold)
-                took.joins.holds.1,
-          );
-        };
-        stops = took.stops;
-      })
+      let long : counted items ≡ r.rows = all_counted kind first ∙ length-take-le r.rows rows within in (
+        ap Some (same ∙ own),
+        body_read t b' before items kind d at.1 at.0 (same ∙ own) (rows_arcs kind first)
+            (rw long (omega (arith, ints, due))) some
+            (marks_kept t.marks before items (rows_no_mark kind first) at.1.marks_hold) held.1,
+      )))
 ]
   where
     own_kind : {k l : Kind} → Some k ≡ Some l → k ≡ l

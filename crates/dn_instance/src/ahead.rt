@@ -2,10 +2,13 @@
 ghost use Rattle.std.specs.Prelude.{◌≡◌};
 
 use dn_bundle::Bundle;
-use dn_line::RowLine;
+use dn_line::{BLOCK, RowLine};
 use dn_table::TableSoFar;
 use pair_index::AHEAD;
 use std::alloc::Global;
+
+// The pairs of a whole block are looked up together.
+const _: () = prove!(BLOCK == AHEAD);
 
 // Looks up the pairs of the arcs of these rows together in a table, if there are several rows and that may save time.
 // This affects only the speed.

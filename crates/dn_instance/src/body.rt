@@ -11,7 +11,7 @@ ghost use Rattle.dn_instance.specs.State.Bodies.{IsArcOfRow, Keeps, TakerFacts, 
 
 use crate::ahead;
 use crate::arcs::take_arc;
-use crate::items::{take_point, take_query, take_source};
+use crate::items::{insert_point, push_query, push_source};
 use crate::refusal::ItemFault;
 use dn_bundle::{Bundle, CapArc, CostArc, Curve, Least, LengthArc, Total};
 use dn_line::{Kind, Row, RowLine};
@@ -77,7 +77,7 @@ impl RowTaker for Vec<i64> {
     ghost line = { counted_line Ss };
 
     fn take(&mut self, _alloc: Global, _nodes: &i64, row: &Row) -> Result<(), ItemFault> {
-        take_source(self, &row.first)
+        push_source(self, &row.first)
     }
 }
 
@@ -87,7 +87,7 @@ impl RowTaker for Vec<(i64, i64)> {
     ghost line = { counted_line P2p };
 
     fn take(&mut self, _alloc: Global, _nodes: &i64, row: &Row) -> Result<(), ItemFault> {
-        take_query(self, (row.first, row.second))
+        push_query(self, (row.first, row.second))
     }
 }
 
@@ -97,7 +97,7 @@ impl RowTaker for BTreeMap<i64, (i64, i64)> {
     ghost line = { counted_line Co };
 
     fn take(&mut self, _alloc: Global, _nodes: &i64, row: &Row) -> Result<(), ItemFault> {
-        take_point(self, &row.first, (row.second, row.third))
+        insert_point(self, &row.first, (row.second, row.third))
     }
 }
 

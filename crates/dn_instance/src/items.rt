@@ -1,5 +1,5 @@
 // Takes items other than arcs as they arrive.
-ghost use Rattle.std.specs.Prelude.{◌≡◌, [], ◌∷◌, ◌++◌, OnOk, OnErr, Some, is_some, Err};
+ghost use Rattle.std.specs.Prelude.{◌≡◌, ◌≤◌, vec_capacity, vec_len, [], ◌∷◌, ◌++◌, OnOk, OnErr, Some, is_some, Err};
 ghost use Rattle.std.specs.BTreeMap as Map;
 ghost use Rattle.std.specs.Ordering.{int_cmp};
 ghost use Rattle.dn_instance.specs.State.NodeTakes.{GainsIdle, GainsNode, is_named, with_flow};
@@ -12,7 +12,7 @@ use std::collections::{BTreeMap, BTreeSet};
 
 // Takes the node of a `max` node line. `own` is the terminal of the letter of this line, and `other` is the other
 // terminal. On a fault, nothing changes.
-pub(crate) fn take_terminal(
+pub(crate) fn set_terminal(
     own: &mut Option<i64>,
     other: &Option<i64>,
     nodes: &i64,
@@ -39,10 +39,11 @@ pub(crate) fn take_terminal(
 }
 
 // Takes the ID of an `s` line of an `ss` text. On a fault, nothing changes.
-pub(crate) fn take_source(ids: &mut Vec<i64>, id: &i64) -> Result<(), ItemFault>
+pub(crate) fn push_source(ids: &mut Vec<i64>, id: &i64) -> Result<(), ItemFault>
     ensures answer { AnswersFault result (id_fault id.now) }
     ensures ok { OnOk result (ids.new.items ≡ ids.old.items ++ id.now ∷ []) }
     ensures err { OnErr result (ids.new.items ≡ ids.old.items) }
+    ensures memory { result ≡ Err ItemFault.Memory → vec_capacity ids.old ≤ vec_len ids.old }
 {
     if *id <= 0 {
         return Err(ItemFault::Text(Code::NodeOutOfRange));
@@ -54,10 +55,11 @@ pub(crate) fn take_source(ids: &mut Vec<i64>, id: &i64) -> Result<(), ItemFault>
 }
 
 // Takes the two IDs of a `q` line of a `p2p` text. On a fault, nothing changes.
-pub(crate) fn take_query(pairs: &mut Vec<(i64, i64)>, pair: (i64, i64)) -> Result<(), ItemFault>
+pub(crate) fn push_query(pairs: &mut Vec<(i64, i64)>, pair: (i64, i64)) -> Result<(), ItemFault>
     ensures answer { AnswersFault result (pair_fault pair) }
     ensures ok { OnOk result (pairs.new.items ≡ pairs.old.items ++ pair ∷ []) }
     ensures err { OnErr result (pairs.new.items ≡ pairs.old.items) }
+    ensures memory { result ≡ Err ItemFault.Memory → vec_capacity pairs.old ≤ vec_len pairs.old }
 {
     if pair.0 <= 0 || pair.1 <= 0 {
         return Err(ItemFault::Text(Code::NodeOutOfRange));
@@ -69,7 +71,7 @@ pub(crate) fn take_query(pairs: &mut Vec<(i64, i64)>, pair: (i64, i64)) -> Resul
 }
 
 // Takes the point of a `v` line of a `co` text. On a fault, nothing changes.
-pub(crate) fn take_point(
+pub(crate) fn insert_point(
     points: &mut BTreeMap<i64, (i64, i64)>,
     id: &i64,
     at: (i64, i64),
@@ -92,7 +94,7 @@ pub(crate) fn take_point(
 
 // Takes the flow of a `min` node line. Puts a flow other than 0 into `supplies`, and a node whose flow is 0 into
 // `idle`. On a fault, nothing changes.
-pub(crate) fn take_supply(
+pub(crate) fn insert_supply(
     supplies: &mut BTreeMap<i64, i64>,
     idle: &mut BTreeSet<i64>,
     nodes: &i64,

@@ -6,7 +6,7 @@ ghost use Rattle.dn_instance.specs.State.RowRuns.{supply_line};
 ghost use Rattle.dn_instance.specs.State.TextParts.{MarksHold, TakesMark, marks_of, terminals_of};
 
 use crate::body::RowTaker;
-use crate::items::{take_supply, take_terminal};
+use crate::items::{insert_supply, set_terminal};
 use crate::refusal::ItemFault;
 use dn_line::{Kind, Letter, Row};
 use std::alloc::Global;
@@ -40,7 +40,7 @@ impl Marks {
         ensures taken { TakesMark nodes.now self.old self.new (Supply id.now flow.now) result }
         ensures unchanged { OnErr result ((items : List Line) → MarksHold self.old items → MarksHold self.new items) }
     {
-        take_supply(&mut self.supplies, &mut self.idle, nodes, id, flow)
+        insert_supply(&mut self.supplies, &mut self.idle, nodes, id, flow)
     }
 
     // Takes a `max` node line, or returns its fault.
@@ -55,8 +55,8 @@ impl Marks {
         ensures memory { result ≡ Err ItemFault.Memory → ⊥ }
     {
         match letter {
-            Letter::S => take_terminal(&mut self.source, &self.sink, nodes, id),
-            Letter::T => take_terminal(&mut self.sink, &self.source, nodes, id),
+            Letter::S => set_terminal(&mut self.source, &self.sink, nodes, id),
+            Letter::T => set_terminal(&mut self.sink, &self.source, nodes, id),
         }
     }
 

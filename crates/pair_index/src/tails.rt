@@ -7,14 +7,9 @@ ghost use Rattle.pair_index.specs.State.Positions.{IsPosition};
 ghost use Rattle.dn_arc.specs.Pairs.{same_pair};
 
 use crate::index::AHEAD;
+use crate::links::{LONG, MOST_LINKED, is_long};
 use crate::pair::{is_head_upto, is_pair};
 use std::alloc::{AllocError, Global};
-
-// The greatest count of positions that links of 32 bits can name.
-const MOST_LINKED: usize = u32::MAX as usize;
-
-// The length at which a chain is long.
-const LONG: u32 = 24;
 
 // The greatest count of tails for each entry that there is capacity for.
 const DENSE: usize = 4;
@@ -182,7 +177,7 @@ impl Tails {
         ensures taken { IfOk result (λ is. IsTrue is → IsTailed self.new (keys_of entries.now ++ pair.now ∷ [])) }
         ensures not { result ≢ Ok true → IsTailed self.new (keys_of entries.now) }
     {
-        if self.is_long(pair) {
+        if is_long(self.first_of(pair), &self.next) {
             return Ok(false);
         }
         if !self.make_room(pair)? {
@@ -190,21 +185,6 @@ impl Tails {
         }
         self.link(entries, pair);
         Ok(true)
-    }
-
-    // Whether the chain of a pair is long. This has no contract, because it affects only the speed.
-    fn is_long(&self, pair: &(i64, i64)) -> bool {
-        let mut link = self.first_of(pair);
-        for _ in 0..LONG {
-            if link == 0 {
-                return false;
-            }
-            link = match self.next.get((link - 1) as usize) {
-                Some(next) => *next,
-                None => 0,
-            };
-        }
-        true
     }
 
     // Reserves capacity for the link of a pair. Returns false if its tail is below 0 or too great, or if the links do

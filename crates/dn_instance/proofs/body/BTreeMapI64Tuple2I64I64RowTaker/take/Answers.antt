@@ -8,8 +8,8 @@ pub returns-clause-taken : goal.returns-clause-taken
 returns-clause-taken c before a =
     let second : to_z w64 (of_z w64 c.args.row.now.second) ≡ c.args.row.now.second = omega (arith, ints) in
     let third : to_z w64 (of_z w64 c.args.row.now.third) ≡ c.args.row.now.third = omega (arith, ints) in
-    let ok = simp (second, third) at c.take_point.ensures.ok in
-    points_took c.args._nodes.now _ _ c.args.row.now _ before c.take_point.ensures.answer ok a
+    let ok = simp (second, third) at c.insert_point.ensures.ok in
+    points_took c.args._nodes.now _ _ c.args.row.now _ before c.insert_point.ensures.answer ok a
 
 pub returns-clause-unchanged : goal.returns-clause-unchanged
-returns-clause-unchanged c = on_err_weaker c.take_point.result (λ e items h. e ∙ h) c.take_point.ensures.err
+returns-clause-unchanged c = on_err_weaker c.insert_point.result (λ e items h. e ∙ h) c.insert_point.ensures.err

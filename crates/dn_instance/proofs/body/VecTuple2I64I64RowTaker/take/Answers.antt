@@ -8,9 +8,9 @@ pub returns-clause-taken : goal.returns-clause-taken
 returns-clause-taken c before a =
     let first : to_z w64 (of_z w64 c.args.row.now.first) ≡ c.args.row.now.first = omega (arith, ints) in
     let second : to_z w64 (of_z w64 c.args.row.now.second) ≡ c.args.row.now.second = omega (arith, ints) in
-    let ans = simp (first, second) at c.take_query.ensures.answer in
-    let ok = simp (first, second) at c.take_query.ensures.ok in
+    let ans = simp (first, second) at c.push_query.ensures.answer in
+    let ok = simp (first, second) at c.push_query.ensures.ok in
     pairs_took c.args._nodes.now _ _ c.args.row.now _ before ans ok a
 
 pub returns-clause-unchanged : goal.returns-clause-unchanged
-returns-clause-unchanged c = on_err_weaker c.take_query.result (λ e items h. e ∙ h) c.take_query.ensures.err
+returns-clause-unchanged c = on_err_weaker c.push_query.result (λ e items h. e ∙ h) c.push_query.ensures.err

@@ -1,5 +1,5 @@
 -- How a device that takes bytes describes itself, what a write and a flush of it do, and how interrupted writes are
--- retried.
+-- retried (this project's profile).
 use Rattle.std.specs.Prelude.{ℕ, List, Option, Result, MatchResult}
 use Rattle.std.specs.Io.{WritesAtMost}
 use Rattle.std.specs.Io.KnownBytes.{Keeps, WriteAppends}

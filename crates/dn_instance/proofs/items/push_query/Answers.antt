@@ -1,4 +1,4 @@
-use Rattle.dn_instance.proofs.items.take_query.Goals as goal
+use Rattle.dn_instance.proofs.items.push_query.Goals as goal
 
 pub returns-in-Ok-clause-ok : goal.returns-in-Ok-clause-ok
 returns-in-Ok-clause-ok c = c.in-Ok.ensures.items
