@@ -1,14 +1,11 @@
-// Answers of what a run of `canon` writes.
+//! What runs of `canon` and `compare` say of answers.
 ghost use Rattle.std.specs.Prelude.{◌≡◌, ℕ, List, Some};
+ghost use Rattle.dn_command.specs.Commands.{Canon, Compare, plain_asked};
 ghost use Rattle.dn_run.specs.FilesRuns.{files_run};
-ghost use Rattle.dn_run.specs.Streams.{sink_run};
 ghost use Rattle.dn_run.specs.Runs.{CommandRun};
-ghost use Rattle.dn_command.specs.Commands.{Canon};
-ghost use Rattle.dn_answers.specs.Runs.{WroteAnswersOf};
-
+ghost use Rattle.dn_run.specs.Streams.{sink_run};
 ghost use Rattle.dn_run.specs.Words.{Ran};
-ghost use Rattle.dn_command.specs.Commands.{Compare, plain_asked};
-ghost use Rattle.dn_answers.specs.Runs.{PosedSameAnswers};
+ghost use Rattle.dn_answers.specs.Runs.{PosedSameAnswers, WroteAnswersOf};
 
 use dn_bundle::Form;
 use dn_run::Files;
@@ -24,7 +21,8 @@ pub fn canon_keeps_answers<F: Files, O: Sink, E: Sink>(form: Form)
         → WroteAnswersOf (O.sink.taken out_old) (O.sink.taken out_new) b }
 {}
 
-/// The same of a run for words that are a plain form of `canon`.
+/// If a run for words that are a plain form of `canon` ends with status 0, and the bytes behind the name are known, then
+/// `canon_keeps_answers` promises the same of `out`.
 pub fn words_keep_answers<F: Files, O: Sink, E: Sink>(form: Form)
     ensures { (words : List (List ℕ)) (name b : List ℕ) (old new : F) (out_old out_new : O) (err_old err_new : E)
         → plain_asked words ≡ Some (Canon name form)

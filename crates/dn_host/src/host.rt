@@ -104,7 +104,11 @@ pub fn out_over<D: Device + Drop>(alloc: Global, device: D, plain: D) -> Out<D>
             drop(plain);
             ToWrite::new(buffer)
         }
-        Err(_) => ToWrite::new(BufWriter::with_capacity(alloc, 0, Retried { device: plain }).unwrap()),
+        Err(_) => ToWrite::new(BufWriter::with_capacity(
+            alloc,
+            0,
+            Retried { device: plain },
+        ).unwrap()),
     }
 }
 

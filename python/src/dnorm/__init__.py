@@ -25,7 +25,7 @@ from .program import find_program, version
 from .refusals import REFUSALS
 
 # The version of the program that this package belongs to, as Python packages spell it.
-__version__ = "1.1.0"
+__version__ = "1.2.0-dev"
 
 __all__ = [
     "REFUSALS",
