@@ -93,7 +93,8 @@ by_left left right out b c (Done n) h on known other =
     by_sum left right out b c n h
     (at_known (λ x. IsRefusedAs (IsRefusedText left) left.name x (Done n)
     ⊎ ((I : Instance) × Reads x I
-    × OnText (λ y J. PutsCompared I J) (λ _. Never) (IsRefusedText right) right out (Done n))) b left.behind known (on.handed (handed_out left.name n left.fault on.not_handed))) other
+    × OnText (λ y J. PutsCompared I J) (λ _. Never) (IsRefusedText right) right out (Done n)))
+    b left.behind known (on.handed (handed_out left.name n left.fault on.not_handed))) other
 by_left left right out b c (Refused name e) h on known other = no_refusal e h
 by_left left right out b c (Unfit name fault) h on known other = cc
 by_left left right out b c Cut h on known other = cc

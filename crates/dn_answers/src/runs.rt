@@ -21,8 +21,8 @@ pub fn canon_keeps_answers<F: Files, O: Sink, E: Sink>(form: Form)
         → WroteAnswersOf (O.sink.taken out_old) (O.sink.taken out_new) b }
 {}
 
-/// If a run for words that are a plain form of `canon` ends with status 0, and the bytes behind the name are known, then
-/// `canon_keeps_answers` promises the same of `out`.
+/// If a run for words that are a plain form of `canon` ends with status 0, and the bytes behind the name are known,
+/// `out` took a text of which `canon_keeps_answers` promises the same.
 pub fn words_keep_answers<F: Files, O: Sink, E: Sink>(form: Form)
     ensures { (words : List (List ℕ)) (name b : List ℕ) (old new : F) (out_old out_new : O) (err_old err_new : E)
         → plain_asked words ≡ Some (Canon name form)
@@ -32,8 +32,8 @@ pub fn words_keep_answers<F: Files, O: Sink, E: Sink>(form: Form)
         → WroteAnswersOf (O.sink.taken out_old) (O.sink.taken out_new) b }
 {}
 
-/// If a run of `compare` ends with status 0, and the bytes behind both names are known, then both read as instances, and
-/// these have the same answers.
+/// If a run of `compare` ends with status 0, and the bytes behind both names are known, then both read as instances,
+/// and these have the same answers.
 pub fn compared_same_answers<F: Files, O: Sink, E: Sink>()
     ensures { (left right b c : List ℕ) (old new : F) (out_old out_new : O) (err_old err_new : E)
         → CommandRun (files_run F.files F.Text.source (old, new)) (sink_run O.sink (out_old, out_new))

@@ -81,7 +81,8 @@ module _ (one : OneCost) (low' : ℕ) (a : CostArc) (total : ℤ) (s : AreSound 
       ∙ ap (λ z. z +ℤ (a.cost *ℤ a.low)) (*ℤ_comm a.cost (pos one.low) ∙ same is.same)
       ∙ ap (λ z. (pos one.low *ℤ one.cost) +ℤ z) (*ℤ_comm a.cost a.low)
     where
-      same : (a.cost ≡ one.cost) ⊎ ((one.low ≡ 0) × (one.free ≡ pos 0)) → pos one.low *ℤ a.cost ≡ pos one.low *ℤ one.cost
+      same : (a.cost ≡ one.cost) ⊎ ((one.low ≡ 0) × (one.free ≡ pos 0))
+          → pos one.low *ℤ a.cost ≡ pos one.low *ℤ one.cost
       same (inl at) = ap (λ z. pos one.low *ℤ z) at
       same (inr none) = rw none.0 (zero-*ℤ a.cost ∙ sym (zero-*ℤ one.cost))
 
@@ -123,7 +124,8 @@ module _ (one : OneCost) (units cost : ℤ) (s : AreSound (shape_numbers (Plain 
       let left = steps_some (steps_of (one_step one) []) s.rising in
       fits_some (pos one.low +ℤ one.free) (omega (arith, ints)) s.most
 
-  pub made_total : to_z w64 (of_z w64 (to_z w64 (of_z w64 units) +ℤ to_z w64 (of_z w64 one.free))) ≡ pos one.low +ℤ one.free
+  pub made_total : to_z w64 (of_z w64 (to_z w64 (of_z w64 units) +ℤ to_z w64 (of_z w64 one.free)))
+      ≡ pos one.low +ℤ one.free
   made_total = rw (made_units, to_z-of_z w64 one.free fs) (to_z-of_z w64 (pos one.low +ℤ one.free) total_fits)
 
 -- LOW as the code adds it

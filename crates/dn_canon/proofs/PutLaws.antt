@@ -54,8 +54,8 @@ some_below {X} xs i o h e n = by_case (slice_get_cases xs i).1
     by_case (inr (past, none)) = absurd (omega arith)
 
 -- past the last row, only the block is left
-pub rows_done : {K : Type 0} {sink : SinkFacts K} {a b : K} {all : List ℕ} {X : Type 0} (row : X → Cells) (block : List ℕ)
-    (xs : List X) (i : ℕ) → length xs ≤ i
+pub rows_done : {K : Type 0} {sink : SinkFacts K} {a b : K} {all : List ℕ} {X : Type 0} (row : X → Cells)
+    (block : List ℕ) (xs : List X) (i : ℕ) → length xs ≤ i
     → HasPut sink a b (block ++ text_of (map row (drop i xs))) all → HasPut sink a b block all
 rows_done row block xs i h = all_done block _ (rw (drop_all i xs h))
 

@@ -123,7 +123,8 @@ fn row_line<K: Sink>(
     numbers: &[i64],
 ) -> Result<(), SinkFault>
     requires { length numbers.now ≤ 5 }
-    ensures { Adds K.sink sink.old sink.new block.old block.new (line_text ((letter ∷ []) ∷ map signed_decimal numbers.now)) result }
+    ensures { let words = (letter ∷ []) ∷ map signed_decimal numbers.now in
+        Adds K.sink sink.old sink.new block.old block.new (line_text words) result }
 {
     block.make_room(sink)?;
     block.line(letter, numbers);

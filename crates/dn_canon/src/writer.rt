@@ -152,7 +152,8 @@ fn put_table<B: Bundle, K: Sink>(
     form: Form,
 ) -> Result<(), SinkFault>
     requires { AreShort B.bundle.kind }
-    ensures { Adds K.sink sink.old sink.new block.old block.new (text_of (map (arc_row B.bundle.kind) (listed_arcs (B.bundle.listed form) table.now))) result }
+    ensures { let rows = map (arc_row B.bundle.kind) (listed_arcs (B.bundle.listed form) table.now) in
+        Adds K.sink sink.old sink.new block.old block.new (text_of rows) result }
 {
     for (pair, bundle) in table.pairs() {
         put_bundle(block, sink, &pair, bundle, form)?;

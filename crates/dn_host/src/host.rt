@@ -45,7 +45,12 @@ pub struct HostOpener<'a, R> {
 impl<'a, R: fs::Files + Input> Opener for HostOpener<'a, R> {
     type Stream = HostText<<R as Input>::Reader, <R as fs::Files>::File>;
 
-    ghost opener = { record { file = λ _ _. None; input = λ _. None; Fails = λ _ _ _. Unit {0}; Opens = λ _ _ _. Unit {0} } };
+    ghost opener = { record {
+      file = λ _ _. None;
+      input = λ _. None;
+      Fails = λ _ _ _. Unit {0};
+      Opens = λ _ _ _. Unit {0};
+    } };
 
     fn open(&mut self, name: &str) -> io::Result<Self::Stream> {
         Ok(HostText::File(fs::open(self.host, name)?))

@@ -19,7 +19,8 @@ impl<D: Device> Write for Retried<D> {
 
     fn write(&mut self, bytes: &[u8]) -> io::Result<usize>
         ensures bound { WritesAtMost result bytes.now }
-        ensures bytes { WriteAppends (D.device.taken self.old.device) (D.device.taken self.new.device) result bytes.now }
+        ensures bytes { WriteAppends (D.device.taken self.old.device) (D.device.taken self.new.device)
+            result bytes.now }
         ensures retries { Writes (rewriting D.device) self.old.device self.new.device bytes.now result }
     {
         write_retrying(&mut self.device, bytes)

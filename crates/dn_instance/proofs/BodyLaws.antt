@@ -88,7 +88,8 @@ entries_more before p i kind h k more = inl (rw (problem_all before (i ∷ []) p
 
 pub ids_took : (nodes : ℤ) (ids ids' : Vec ℤ Global) (row : Row) (r : Result (Unit {0}) ItemFault) (before : List Line)
     → AnswersFault r (id_fault row.first) → OnOk r (ids'.items ≡ ids.items ++ row.first ∷ [])
-    → Awaits ids_body nodes ids before (counted_line Kinds.Ss row ∷ []) → TookRow ids_body (counted_line Kinds.Ss) before ids' row r
+    → Awaits ids_body nodes ids before (counted_line Kinds.Ss row ∷ [])
+    → TookRow ids_body (counted_line Kinds.Ss) before ids' row r
 ids_took nodes ids ids' row r before ans ok a =
     let i = counted_line Kinds.Ss row in
     let more = grown source_in before i row.first refl in

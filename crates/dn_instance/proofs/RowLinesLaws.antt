@@ -52,7 +52,8 @@ record IsLetterOf (key : Keyword) (i : Line) : Type 0 where
 
 -- the letter is that of the item, and the numbers of a row make the item
 abbrev SpellsItem : Kind → Keyword → Line → Row → List Field → Type 0
-SpellsItem kind key i r fields = IsLetterOf key i × (item kind key (map number_word (row_numbers (length fields) r)) ≡ i)
+SpellsItem kind key i r fields =
+    IsLetterOf key i × (item kind key (map number_word (row_numbers (length fields) r)) ≡ i)
 
 field_list : {a b : List Field} → Some a ≡ Some b → a ≡ b
 field_list e = cc

@@ -108,7 +108,8 @@ pub supplies_in_time : (rows : List RowLine) (before : List Line) → list_any i
 supplies_in_time [] before h = tt
 supplies_in_time (r ∷ rows) before h = (
   h,
-  supplies_in_time rows (before ++ supply_line r.row ∷ []) (rw (list_any-append is_arc before (supply_line r.row ∷ []), h)),
+  supplies_in_time rows (before ++ supply_line r.row ∷ [])
+      (rw (list_any-append is_arc before (supply_line r.row ∷ []), h)),
 )
 
 -- the first m of some items come in time, and those after them after these
@@ -122,7 +123,8 @@ in_time_split line (r ∷ rows) (suc m) before h =
     let s = in_time_split line rows m (before ++ line r.row ∷ []) h.1 in ((h.0, s.0), rw append_assoc at s.1)
 
 rows_arcs : (kind : Kind) (rows : List RowLine) → is_companion kind ≡ false
-    → list_any is_arc (row_items (counted_line kind) rows) ≡ int_lt (pos 0) (pos (counted (row_items (counted_line kind) rows)))
+    → list_any is_arc (row_items (counted_line kind) rows)
+    ≡ int_lt (pos 0) (pos (counted (row_items (counted_line kind) rows)))
 rows_arcs kind [] g = refl
 rows_arcs kind (r ∷ rows) g = rw (one_arc kind r g, one_counted kind r) (above _)
   where
@@ -332,7 +334,8 @@ row_head_is _ _ row h p n = cc
 -- a run of the row of the next line
 pub took_one : (t u : TextSoFar) (head : Head) (row : Row) (k : Taken)
     → (let line : RowLine = record { row = row; left = 0 } in (kind : Kind) (before : List Line) → IsRowHead kind head
-    → RoomFor head (line ∷ []) t → Awaits (text_taker kind) t.nodes t before (row_items (row_line kind head) (line ∷ []))
+    → RoomFor head (line ∷ []) t
+    → Awaits (text_taker kind) t.nodes t before (row_items (row_line kind head) (line ∷ []))
     → TookRows (text_taker kind) (row_line kind head) before u (line ∷ []) k) → IsOfRun t head → (before : List Line)
     → AwaitsRow t before (item_of_row head (text_kind t) row)
     → (kind : Kind) × (text_kind t ≡ Some kind)

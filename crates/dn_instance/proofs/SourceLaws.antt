@@ -165,7 +165,8 @@ module _ {S : Type 0} (source : SourceFacts S) (old before : S) (r : Reader) (fe
         }))
 
 -- the outcome of a source whose bytes a reader has read
-pub fed_all : {S : Type 0} (source : SourceFacts S) (old new : S) (r : Reader) (given : List ℕ) (a : Result Parsed Refusal)
+pub fed_all : {S : Type 0} (source : SourceFacts S) (old new : S) (r : Reader) (given : List ℕ)
+    (a : Result Parsed Refusal)
     → IsFedAll source old new r given → Outcome given a
     → (a ≡ Err Memory → WantsMemory (length (ended given)) (lines given))
     → IfSome (source.gives old) (λ t. SourceOutcome t (after_pulls source old new) a)

@@ -56,7 +56,8 @@ natural_fit _ r l num h = absurd (omega arith)
 
 -- a letter, blanks and numbers that fit the fields are the line of the row
 row_line : (letter : ℕ) (fields : List Field) (bytes more rest : List ℕ) (r : Row) → is_clear letter ≡ true
-    → AreSomeBlanks bytes more → HasNumbers (length fields) more r rest → FieldsFit fields (row_numbers (length fields) r)
+    → AreSomeBlanks bytes more
+    → HasNumbers (length fields) more r rest → FieldsFit fields (row_numbers (length fields) r)
     → BeginsWithRow letter fields (letter ∷ bytes) r rest
 row_line letter fields bytes more rest r clear g has fit =
     let bs = g.then.blanks in
@@ -104,7 +105,8 @@ abbrev checked : Kind → Keyword → List Word → Result Line Code
 checked k l ws = unless (first_fault (field_tests (filled_fields (fields_of k l) ws))) (item k l ws)
 
 -- numbers that fit the fields of a line read as the item of the line
-row_reads : (kind : Kind) (key : Keyword) (fs : List Field) (ns : List ℤ) → fields_of kind key ≡ Some fs → FieldsFit fs ns
+row_reads : (kind : Kind) (key : Keyword) (fs : List Field) (ns : List ℤ) → fields_of kind key ≡ Some fs
+    → FieldsFit fs ns
     → checked kind key (map number_word ns) ≡ Ok (item kind key (map number_word ns))
 row_reads kind key fs ns e h = rw (e, stand_none fs (map number_word ns) (stand_all fs ns h))
 

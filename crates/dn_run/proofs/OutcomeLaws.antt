@@ -1,5 +1,5 @@
 -- Lemmas on how a command ends, from the results of reading its texts.
-use Rattle.std.proofs.Common.{◌≡◌, ℕ, List, [], Option, Some, None, Ok, Err, IfSome, refl, inl, inr, append-nil}
+use Rattle.std.proofs.Common.{◌≡◌, ℕ, List, [], Option, Some, None, Result, Ok, Err, OnOk, IsTrue, IfSome, refl, inl, inr, append-nil}
 use Rattle.std.specs.Io.KnownBytes.{Appends}
 use Rattle.dn_instance.specs.State.Helds.{Parsed, IsHeld}
 use Rattle.dn_instance.specs.Instances.{Instance}
@@ -7,10 +7,11 @@ use Rattle.dn_instance.specs.Texts.{Reads}
 use Rattle.dn_instance.specs.declared.companion.CompanionFault.{CompanionFault}
 use Rattle.dn_instance.specs.declared.refusal.Refusal.{Refusal}
 use Rattle.dn_instance.specs.declared.refusal.Refusal.TheVariants.{Read}
-use Rattle.dn_sink.specs.Puts.{HasPut}
+use Rattle.dn_sink.specs.Puts.{HasPut, Puts}
+use Rattle.dn_sink.specs.declared.sink.SinkFault.{SinkFault}
 use Rattle.dn_run.specs.Answers.{Answer, Done, Refused}
 use Rattle.dn_run.specs.Outcomes.{OnText, OnTwoTexts, RanOn, RanOnSome, RanOnTwo}
-use Rattle.dn_run.specs.Streams.{SinkRun}
+use Rattle.dn_run.specs.Streams.{SinkRun, TakesLine}
 use Rattle.dn_run.specs.Texts.{AskedText, IsRefusedText}
 use Rattle.dn_run.specs.State.TextReads.{IsRead}
 use Rattle.dn_sink.specs.Sinks.{SinkFacts}
@@ -19,6 +20,12 @@ use Rattle.dn_sink.specs.Sinks.{SinkFacts}
 pub added : {S : Type 0} {sink : SinkFacts S} {old new : S} {t : List ℕ} → HasPut sink old new [] t
     → Appends (sink.taken old) (sink.taken new) t
 added h = rw (← h.whole, append-nil) h.bytes
+
+-- a line that was put and passed on, or that a sink failed to take
+pub line_taken : {S : Type 0} (err : SinkRun S) (line : List ℕ) (result : Result (Unit {0}) SinkFault)
+    → Puts err.facts err.old err.new line result → OnOk result (IsTrue (err.facts.is_flushed err.new))
+    → TakesLine err line
+line_taken err line result puts flushed = record { result = result; puts = puts; flushed = flushed }
 
 -- if P implies Q of what is known, and P holds of it if there is any, so does Q
 pub by_behind : {X : Type 0} {P Q : X → Type 0} (behind : Option X) → ((x : X) → behind ≡ Some x → P x → Q x)

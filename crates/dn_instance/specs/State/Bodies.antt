@@ -52,8 +52,8 @@ module _ {T : Type 0} (taker : TakerFacts T) where
     pub holds : taker.Holds held before
 
   -- the result answers the row's item, and the taker holds the item if it has no fault
-  pub record TookRow (line : Row → Line) (before : List Line) (held : T) (row : Row) (result : Result (Unit {0}) ItemFault)
-      : Type 0 where
+  pub record TookRow (line : Row → Line) (before : List Line) (held : T) (row : Row)
+      (result : Result (Unit {0}) ItemFault) : Type 0 where
     pub answer : AnswersItem before (line row) result
     pub holds : OnOk result (taker.Holds held (before ++ line row ∷ []))
 

@@ -63,7 +63,8 @@ abbrev length_entries : List ((ℤ × ℤ) × Cells)
 length_entries = ((pos 1, pos 2), codes "length" ∷ signed_decimal (pos 3) ∷ []) ∷
     ((pos 2, pos 1), codes "length" ∷ signed_decimal (pos 4) ∷ []) ∷ []
 
-length_words : {row : Cells} {xs : List LengthArc} → AreLengthWords xs row → IsListed lengths AreLengthWords (Some row) xs
+length_words : {row : Cells} {xs : List LengthArc} → AreLengthWords xs row
+    → IsListed lengths AreLengthWords (Some row) xs
 length_words w = some_words lengths AreLengthWords _ _ (λ same. (same.there w.0 w.1).has) w
 
 pub shown_lengths : IsShown (with_lengths some_lengths)

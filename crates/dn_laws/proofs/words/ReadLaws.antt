@@ -46,7 +46,8 @@ forms_cases : (P : Bor (List (Bor Text)) → Type 0) → ((p q r : ℕ × ℕ) �
     → (forms : Bor (List (Bor Text))) → map (λ s. s.now) forms.now ≡ form_option_words → P forms
 forms_cases P h forms e = go forms.now e
   where
-    go : (l : List (Bor Text)) → map (λ s. s.now) l ≡ form_option_words → P (record { ref_ptr = forms.ref_ptr; now = l })
+    go : (l : List (Bor Text)) → map (λ s. s.now) l ≡ form_option_words
+        → P (record { ref_ptr = forms.ref_ptr; now = l })
     go [] e = absurd (omega (arith, ap length e))
     go (a ∷ []) e = absurd (omega (arith, ap length e))
     go (a ∷ b ∷ c ∷ rest) e = absurd (omega (arith, ap length e))

@@ -1,4 +1,5 @@
 use Rattle.std.proofs.Common.{refl, arith, ◌∙◌, rules}
+use Rattle.dn_run.proofs.OutcomeLaws.{line_taken}
 use Rattle.dn_host.proofs.runs.run_on.Goals as goal
 
 pub returns-in-Ok-clause-ran : goal.returns-in-Ok-clause-ran
@@ -17,7 +18,7 @@ returns-in_default g c = record {
     memory = λ _. record {
       status_is = refl;
       out_stays = refl;
-      tells = record { result = c.put_fault_line.result; puts = c.put_fault_line.ensures.puts; flushed = c.put_fault_line.ensures.flushed };
+      tells = line_taken _ _ c.put_fault_line.result c.put_fault_line.ensures.puts c.put_fault_line.ensures.flushed;
     };
   };
 }

@@ -1,13 +1,19 @@
 use Rattle.std.proofs.Common.{Err, refl, rules, sym, ◌∙◌}
 use Rattle.dn_command.specs.declared.request.Request.TheVariants.{Memory}
 use Rattle.dn_run.proofs.RunLaws.{ran, refused_twice, run_once}
+use Rattle.dn_run.proofs.OutcomeLaws.{line_taken}
 use Rattle.dn_run.proofs.runs.run.Goals as goal
 
 pub returns-in-Command-clause-ran : goal.returns-in-Command-clause-ran
 returns-in-Command-clause-ran g c =
     ran _ _ _ _ c.in-Command.command 3 c.in-Command.ensures.plain c.in-Command.ensures.other
     (refused_twice _ _ _ _ (sym c.names_standard_input_twice.ensures ∙ c.if-names_standard_input_twice.true)
-    (record { status_is = refl; files_stay = refl; out_stays = refl; tells = record { result = c.put_and_flush.result; puts = c.put_and_flush.ensures.puts; flushed = c.put_and_flush.ensures.flushed } }))
+    (record {
+      status_is = refl;
+      files_stay = refl;
+      out_stays = refl;
+      tells = line_taken _ _ c.put_and_flush.result c.put_and_flush.ensures.puts c.put_and_flush.ensures.flushed;
+    }))
     (search rules)
 
 pub returns-in-Err-clause-ran : goal.returns-in-Err-clause-ran
@@ -28,7 +34,7 @@ returns-in-Memory-clause-ran g c = record {
       status_is = refl;
       files_stay = refl;
       out_stays = refl;
-      tells = record { result = c.put_fault_line.result; puts = c.put_fault_line.ensures.puts; flushed = c.put_fault_line.ensures.flushed };
+      tells = line_taken _ _ c.put_fault_line.result c.put_fault_line.ensures.puts c.put_fault_line.ensures.flushed;
     },
   );
   out_by_status = search rules;
