@@ -11,7 +11,7 @@ import stat
 from collections.abc import Callable, Iterator
 from typing import BinaryIO, Protocol, Union
 
-from .compressed import COMPRESSORS, DECOMPRESSORS, SIZE, Compressed, pieces
+from .compressed import COMPRESSORS, DECOMPRESSORS, SIZE, Compressed, ending_of, pieces
 from .errors import DnormError, Read, Write
 
 # A line that no text has. It ends a text whose reading failed, so that the program refuses the text.
@@ -124,7 +124,7 @@ def text_of(file: File, name: str, stack: contextlib.ExitStack) -> io.FileIO | I
     except Read as error:
         # The program has to judge an earlier text first.
         return failed(error)
-    start = DECOMPRESSORS.get(os.path.splitext(name)[1])
+    start = DECOMPRESSORS.get(ending_of(name))
     return pieces(opened, start) if start else opened
 
 
@@ -192,7 +192,7 @@ def sink_of(target: Target) -> Iterator[Sink]:
         return
     # A device or a pipe cannot be replaced, so it is written itself.
     is_replaced = os.path.isfile(name) or not os.path.exists(name)
-    start = COMPRESSORS.get(os.path.splitext(name)[1])
+    start = COMPRESSORS.get(ending_of(name))
     with whole_file(name) if is_replaced else written_file(name, name) as file:
         if start:
             with failing(Write, name):
