@@ -35,6 +35,13 @@ class Stream:
             raise OSError(str(error)) from error
 
 
+class Reading(Protocol):
+    """A file that is read."""
+
+    def read(self, size: int, /) -> bytes:
+        """Returns at most so many bytes, and none at the end."""
+
+
 class Compressed(Protocol):
     """A compressed file that is written."""
 
@@ -179,7 +186,7 @@ def ending_of(name: str) -> str:
     return os.path.splitext(name)[1].lower()
 
 
-def pieces(file: BinaryIO, start: Callable[[], Stream]) -> Iterator[bytes]:
+def pieces(file: Reading, start: Callable[[], Stream]) -> Iterator[bytes]:
     """Yields what a compressed file decompresses to, piece by piece. The file has one stream or several, one after
     another. Raises EOFError if the last one is cut, and OSError if one is corrupt, or if other bytes than zeros follow
     it. The functions of the standard library ignore what follows a stream of bzip2 and xz, even a corrupt stream."""

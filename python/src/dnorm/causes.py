@@ -1,0 +1,172 @@
+"""What shows the cause of a refusal: the refused line, and hints that the text gives."""
+
+from __future__ import annotations
+
+import re
+import shlex
+from collections.abc import Callable, Iterator
+from contextlib import AbstractContextManager
+from typing import NamedTuple
+
+from .compressed import SIZE
+
+# Opens a text, and yields its pieces.
+Opener = Callable[[], AbstractContextManager["Iterator[bytes]"]]
+
+# How many bytes of a line are kept and shown.
+KEPT, SHOWN = 4096, 200
+BLANK = rb"[ \t\r]"
+PROBLEM = re.compile(rb"%s*p%s" % (BLANK, BLANK))
+COUNTED = re.compile(rb"%s*[asqv](?:%s|\Z)" % (BLANK, BLANK))
+# The refusals that depend on the number of counted lines.
+COUNTS = (7, 20)
+# What the first bytes of a file mean, and the command that makes a text of it. {} stands for the name of the file.
+MARKS = [
+    (b"\x1f\x8b", "The file is compressed by gzip", "gzip -dc < {}"),
+    (b"\x1f\x9d", "The file is compressed by compress", "gzip -dc < {}"),
+    (b"\xfd7zX", "The file is compressed by xz", "xz -dc < {}"),
+    (b"BZh", "The file is compressed by bzip2", "bzip2 -dc < {}"),
+    (b"\x28\xb5\x2f\xfd", "The file is compressed by zstd", "zstd -dc < {}"),
+    (b"\x04\x22\x4d\x18", "The file is compressed by lz4", "lz4 -dc < {}"),
+    (b"PK\x03\x04", "The file is a zip archive", "unzip -p {}"),
+    (b"7z\xbc\xaf", "The file is an archive of 7-Zip", "7z e -so {}"),
+    (b"\xef\xbb\xbf", "The file begins with a byte order mark", "tail -c +4 < {}"),
+    (b"\xff\xfe", "The file is in UTF-16", "iconv -f UTF-16 -t UTF-8 < {}"),
+    (b"\xfe\xff", "The file is in UTF-16", "iconv -f UTF-16 -t UTF-8 < {}"),
+]
+LFS = b"version https://git-lfs"
+
+
+class Cause(NamedTuple):
+    """The refused line, with all its bytes made visible, or None for the end of a text; and hints."""
+
+    text: str | None
+    hints: list[str]
+
+
+def visible(data: bytes) -> str:
+    """Returns bytes as `cat -vT` prints them: as characters of ASCII."""
+
+    def one(byte: int) -> str:
+        if byte >= 128:
+            return f"M-{one(byte - 128)}"
+        return chr(byte) if 32 <= byte < 127 else f"^{chr(byte ^ 64)}"
+
+    return "".join(map(one, data))
+
+
+def quoted(name: str) -> str:
+    """Returns a name as a word of a shell."""
+    if not name.isprintable():
+        return shlex.quote(name)
+    return re.sub(r"([^\w@%+=:,./-])", r"\\\1", name)
+
+
+def lines_of(pieces: Iterator[bytes]) -> Iterator[bytes]:
+    """Yields the first bytes of each line, without the LF."""
+    rest = b""
+    for piece in pieces:
+        first, *others = piece.split(b"\n")
+        rest = (rest + first)[:KEPT]
+        for it in others:
+            yield rest
+            rest = it[:KEPT]
+    if rest:
+        yield rest
+
+
+def cause_of(text: Opener, name: str | None, line: int | None, number: int) -> Cause:
+    """Returns the cause of a refusal, by its line and its number. `name` is that of the file, if the bytes of the file
+    are the text: hints have commands then."""
+    with text() as pieces:
+        head = next(pieces, b"")
+    with text() as pieces:
+        refused, problem, count = scanned(lines_of(pieces), line, number)
+    hints = [*hints_of_bytes(head[:SIZE], refused, name)]
+    words = (refused or b"").split()
+    if number in COUNTS and problem:
+        declared = visible(problem[-1])
+        hints.append(f"declared {declared}, found {count}: only a, s, q and v lines count")
+    if number == 13 and len(problem) > 2 and problem[1] != b"aux":
+        hints.append(f"NODES {visible(problem[2])}: nodes count from 1")
+    if number == 14 and line and len(words) > 1:
+        with text() as pieces:
+            hints += hints_of_repeated(lines_of(pieces), words)
+    if number == 17 and line and len(words) > 3:
+        with text() as pieces:
+            hints += hints_of_sum(lines_of(pieces), line, words)
+    return Cause(None if refused is None else visible(refused[:SHOWN]), hints)
+
+
+def scanned(lines: Iterator[bytes], line: int | None, number: int) -> tuple[bytes | None, list[bytes], int]:
+    """Returns the refused line, the words of the problem line, and the number of counted lines."""
+    refused: bytes | None = None
+    problem: list[bytes] = []
+    count = 0
+    for at, it in enumerate(lines, 1):
+        if not problem and PROBLEM.match(it):
+            problem = it[:SHOWN].split()
+        if at == line:
+            refused = it
+        if number in COUNTS:
+            count += bool(COUNTED.match(it))
+        elif line is None or at == line:
+            break
+    return b"" if line and refused is None else refused, problem, count
+
+
+def hints_of_bytes(head: bytes, refused: bytes | None, name: str | None) -> Iterator[str]:
+    """Yields what the first bytes of a text mean, and the last ones of the refused line."""
+
+    def hint(what: str, command: str) -> str:
+        return f"{what}: {command.format(quoted(name))} | dnorm check -" if name else what
+
+    for mark, what, command in MARKS:
+        if head.startswith(mark):
+            yield hint(what, command)
+            return
+    if head.startswith(LFS):
+        yield "The file is a pointer of Git LFS, and the text is missing: git lfs pull"
+    elif not head:
+        yield "The file is empty"
+    else:
+        if b"\r" in head and b"\n" not in head:
+            yield hint("CR alone ends lines", r"tr '\r' '\n' < {}")
+        if refused and refused[:SHOWN].endswith((b"\0", b"\x1a")):
+            yield hint("The line ends in NUL or Ctrl-Z", r"tr -d '\0\032' < {}")
+
+
+def hints_of_repeated(lines: Iterator[bytes], words: list[bytes]) -> Iterator[str]:
+    """Yields where the node, the source or the sink of a refused line comes first."""
+    terminal = words[2] if words[2:] and words[2] in (b"s", b"t") else None
+    for at, it in enumerate(lines, 1):
+        found = it.split()
+        if found[:1] != words[:1] or len(found) < 3:
+            continue
+        if terminal and found[2] == terminal:
+            what = "source" if terminal == b"s" else "sink"
+            yield f"The {what} is node {visible(found[1])}, by line {at}"
+            return
+        if number_of(found[1]) == number_of(words[1]):
+            yield f"{'Point' if words[0] == b'v' else 'Node'} {visible(words[1])} came first in line {at}"
+            return
+
+
+def hints_of_sum(lines: Iterator[bytes], line: int, words: list[bytes]) -> Iterator[str]:
+    """Yields the sum of the capacities of a pair before the refused line."""
+    place = 3 if len(words) == 4 else 4
+    pair = [number_of(it) for it in words[1:3]]
+    total = 0
+    for at, it in enumerate(lines, 1):
+        if at == line:
+            break
+        found = it.split()
+        if found[:1] == [b"a"] and len(found) > place and [number_of(it) for it in found[1:3]] == pair:
+            total += number_of(found[place]) or 0
+    after = total + (number_of(words[place]) or 0)
+    yield f"The capacities from {pair[0]} to {pair[1]} sum to {total} before this line, and with it to {after}"
+
+
+def number_of(word: bytes) -> int | None:
+    """Returns the number that a word spells, if it does."""
+    return int(word) if re.fullmatch(rb"[+-]?[0-9]{1,19}", word) else None
