@@ -29,6 +29,7 @@ exit statuses:
   4  a file cannot be read, a folder has no such file, or dnorm cannot be run
 The greatest one that applies counts.
 """
+EACH = "by default one for each processor"
 SIGNALS = (signal.SIGINT, signal.SIGTERM, signal.SIGHUP)
 TASKS = {
     "check": "Checks files, and prints a line for each: NAME: accepted KIND, or the refusal.",
@@ -59,10 +60,12 @@ def parser() -> Parser:
         one.set_defaults(parser=one)
         if task == "compare":
             add_comparison(one)
+            add_runs(one)
         elif task != "explain":
             add_files(one, task)
             add_outputs(one, task)
-        add_runs(one, task)
+            one.add_argument("-j", "--jobs", type=int, metavar="N", help=f"files at the same time, {EACH}")
+            add_runs(one)
     return top
 
 
@@ -108,25 +111,19 @@ def add_comparison(one: argparse.ArgumentParser) -> None:
     one.add_argument("--limit", type=int, default=3, metavar="N", help="print so many differing pairs, by default 3")
 
 
-def add_runs(one: argparse.ArgumentParser, task: str) -> None:
+def add_runs(one: argparse.ArgumentParser) -> None:
     """Adds the arguments that say how the program is run."""
-    add = one.add_argument
-    if task not in ("compare", "explain"):
-        add("-j", "--jobs", type=int, metavar="N", help="files at the same time, by default one for each processor")
-    if task != "explain":
-        add("--timeout", type=float, metavar="SECONDS", help="a file that takes longer is a failure")
-    add("--program", metavar="PROGRAM", help="the program, by default $DNORM, or dnorm on PATH")
-    if task == "explain":
-        add("words", nargs=argparse.REMAINDER, metavar="WORDS", help="run dnorm with these words, and explain that")
+    one.add_argument("--timeout", type=float, metavar="SECONDS", help="a file that takes longer is a failure")
+    one.add_argument("--program", metavar="PROGRAM", help="the program, by default $DNORM, or dnorm on PATH")
 
 
-def parsed(words: Sequence[str] | None) -> argparse.Namespace:
+def parsed(words: Sequence[str]) -> argparse.Namespace:
     """Returns the arguments."""
     found, others = parser().parse_known_args(words)
     error = found.parser.error
     if others:
         error(f"unrecognized arguments: {' '.join(others)}")
-    if getattr(found, "timeout", None) is not None and found.timeout <= 0:
+    if found.timeout is not None and found.timeout <= 0:
         error("--timeout is above 0")
     if "path" in found:
         check_files(found, error)
@@ -204,10 +201,12 @@ def has_output() -> bool:
 
 def main(words: Sequence[str] | None = None) -> int:
     """Runs a command, and returns the exit status."""
+    words = sys.argv[1:] if words is None else words
+    # All words after `explain` are those of the program.
+    if words[:1] == ["explain"]:
+        return explained(words[1:])
     is_open = has_output()
     found = parsed(words)
-    if found.task == "explain":
-        return explained(found.words, found.program)
     console = Console()
     for it in SIGNALS:
         # What is ignored, as by nohup, stays ignored.

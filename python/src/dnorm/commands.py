@@ -76,11 +76,13 @@ class Run:
 
     def print_causes(self, cases: Sequence[Case]) -> None:
         """Prints the refused and failed files again, with the causes, on standard error."""
-        if self.words.format == "text" and not self.words.quiet:
-            for name, result, _ in cases:
-                if isinstance(result, DnormError):
-                    self.console.complain(line_of(name, result))
-                    self.console.complain("".join(f"    {it}\n" for it in cause_of(result)))
+        if self.words.format != "text" or self.words.quiet:
+            return
+        for name, result, _ in cases:
+            causes = "".join(f"    {it}\n" for it in cause_of(result))
+            # A line that is the only one and has no cause would say the same once more.
+            if isinstance(result, DnormError) and (causes or len(cases) > 1):
+                self.console.complain(line_of(name, result) + causes)
 
     def manifest(self) -> None:
         """Prints the canonical checksum of each file."""

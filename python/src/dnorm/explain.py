@@ -6,6 +6,7 @@ import contextlib
 import difflib
 import os
 import re
+import signal
 import subprocess
 import sys
 from collections.abc import Iterator, Sequence
@@ -43,13 +44,13 @@ OTHER_NAMES |= {"normalize": "canon", "normalise": "canon", "canonicalize": "can
 OTHER_NAMES |= {"version": "--version", "-v": "--version", "explain": "help"}
 
 
-def explain(words: Sequence[str], program: str | None = None) -> int:
+def explain(words: Sequence[str]) -> int:
     """Explains standard input, or a run of the program with these words. Returns the status."""
     if words and words[0] in ("-h", "--help"):
         sys.stdout.write(USAGE)
         return 0
     if words:
-        return explain_run(words, program)
+        return explain_run(words)
     if sys.stdin is None or sys.stdin.isatty():
         sys.stderr.write(USAGE)
         return 3
@@ -62,9 +63,9 @@ def explain(words: Sequence[str], program: str | None = None) -> int:
     return status
 
 
-def explain_run(words: Sequence[str], program: str | None) -> int:
+def explain_run(words: Sequence[str]) -> int:
     """Runs the program with these words, and explains on standard error what it prints there."""
-    path = find_program(program)
+    path = find_program()
     try:
         ran = subprocess.run([path, *words], stderr=subprocess.PIPE, check=False)
     except OSError as error:
@@ -166,10 +167,12 @@ def unknown_command(word: str) -> str:
     return f"dnorm has no command {word}; its commands are {', '.join(COMMANDS)}"
 
 
-def explained(words: Sequence[str], program: str | None) -> int:
-    """Explains, and returns the status. A failure is a line on standard error."""
+def explained(words: Sequence[str]) -> int:
+    """Explains, and returns the status. A failure is a line on standard error; a signal ends this like other tools."""
+    for it in (signal.SIGINT, signal.SIGPIPE):
+        signal.signal(it, signal.SIG_DFL)
     try:
-        return explain(words, program)
+        return explain(words)
     except DnormError as error:
         os.write(2, os.fsencode(f"{error}\n"))
         return 4
