@@ -75,7 +75,10 @@ NOT_LOOKED_AT = {
     "set/pipe.gr": "it is neither a file nor a link to one",
 }
 STRICT = "".join(
-    sorted([*LINES.splitlines(True), *(f"{name}: 31 Read ({why})\n" for name, why in NOT_LOOKED_AT.items())])
+    sorted(
+        [*LINES.splitlines(True), *(f"{name}: 31 Read ({why})\n" for name, why in NOT_LOOKED_AT.items())],
+        key=lambda it: it.partition(":")[0],
+    )
 )
 # Arguments of `check`, the lines and the count that it prints, and the status.
 CHECKS = [
@@ -91,8 +94,8 @@ CHECKS = [
      "\nset/p.p2p: accepted p2p\nset/s.ss: accepted ss\n", "3 accepted, 1 refused, 0 failed, 2 other files", 2),
     ("set/a", LINES_A, "3 accepted, 0 refused, 0 failed, 1 other file", 0),
     ("set/a/", LINES_A, "3 accepted, 0 refused, 0 failed, 1 other file", 0),
-    ("set/a set/a/loop.gr/s.ss", f"{LINES_A}set/a/loop.gr/s.ss: accepted ss\n",
-     "4 accepted, 0 refused, 0 failed, 1 other file", 0),
+    ("set/a set/s.ss", f"{LINES_A}set/s.ss: accepted ss\n", "4 accepted, 0 refused, 0 failed, 1 other file", 0),
+    ("set/gr set/a", f"{LINES_A}set/gr:1: 1 BadLine\n", "3 accepted, 1 refused, 0 failed, 1 other file", 2),
     ("set/s.ss set/gr", "set/gr:1: 1 BadLine\nset/s.ss: accepted ss\n", "1 accepted, 1 refused, 0 failed", 2),
     ("missing set/s.ss", f"{MISSING}set/s.ss: accepted ss\n", "1 accepted, 0 refused, 1 failed", 4),
     ("missing", MISSING, "0 accepted, 0 refused, 1 failed", 4),
