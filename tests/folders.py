@@ -375,7 +375,7 @@ def many(tally: Tally, _: str) -> None:
         write(name, f"p sp 9 2\na 1 {at % 9 + 1} {at}\na 1 2 {'x' if name in bad else 3}\n")
     lines = "".join(f"{it}:3: 9 NotANumber\n" if it in bad else f"{it}: accepted sp\n" for it in names)
     told = [it for it in lines.splitlines() if "accepted" not in it]
-    causes = [f"    line 3: a 1 2 x\n" for _ in told]
+    causes = ["    line 3: a 1 2 x\n" for _ in told]
     end = "".join(f"{it}\n{cause}" for it, cause in zip(told, causes))
     wants(tally, "2,000 files", module("check", "many"), lines, f"{end}1980 accepted, 20 refused, 0 failed\n", 2)
 
