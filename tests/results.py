@@ -293,7 +293,8 @@ LARGE += b"a 3 1 0 2 1\n"
 LISTED: dict[str, tuple[bytes, str]] = {
     "a.gr": (ROADS, "nodes 3, without arcs 0|lines 7, canonical 5, merged 2, self-loops 1|length -5 to 9, 31 bits"),
     "b.min": (LARGE, "nodes 4, without arcs 1|lines 4, canonical 3, merged 1, self-loops 1|"
-              "flow -7 to 9000000000, 53 bits|low 0 to 1, 31 bits|cap 1 to 9223372036854775807, 64 bits|cost -2147483649 to 1, 32 bits|"
+              "flow -7 to 9000000000, 53 bits|low 0 to 1, 31 bits|cap 1 to 9223372036854775807, 64 bits|"
+              "cost -2147483649 to 1, 32 bits|"
               f"sums: capacity {2**63 + 2}, capacity times cost {(2**63 - 1) * 2147483649 + 2}, supply 9000000000, "
               "demand 7"),
     "c.max": (b"p max 5 3\nn 5 s\nn 1 t\na 5 1 3000000000\na 5 1 3000000000\na 1 5 0\n",
