@@ -65,7 +65,7 @@ MISSING = "missing: 31 Read (No such file or directory)\n"
 NAMES_OTHERS = "; --ending names other endings)"
 NONE = f"none: 31 Read (no file in it ends in .gr .sp .min .max .ss .p2p .co{NAMES_OTHERS}\n"
 # What follows the lines of refused files where they are printed again.
-CAUSES = {"v.co": "    line 2: s 1\n", "gr": "    line 1: x\n", "notes.txt": "    line 1: x\n"}
+CAUSES = {"v.co:2": "    line 2: s 1\n", "gr:1": "    line 1: x\n", "notes.txt:1": "    line 1: x\n"}
 # The other files of the set, and why they are not looked at.
 NO_ENDING = "its name does not end like that of a DIMACS text"
 NOT_LOOKED_AT = {
