@@ -204,14 +204,31 @@ def later_pairs(tally: Tally, repository: Repository) -> None:
         repository.git("add", "--", name)
         tally.same(f"a commit of {name}", repository.lines("commit", "-q", "-m", "x"), ([line], 1))
         repository.git("reset", "-q", "--hard")
-    repository.git("config", "filter.lfs.clean", "cat > /dev/null; echo pointer")
+    make({"old/a.gr": BAD, "old/b.gr.gz": b"x"})
+    repository.git("add", "old")
+    repository.git("commit", "-q", "--no-verify", "-m", "refused graphs")
+    make({"old/a.ss": b"p aux sp ss 1\ns 9\n", "old/b.co": b"p aux sp co 0\n"})
+    repository.git("add", "old")
+    lines, status = repository.lines("commit", "-q", "-m", "their companions")
+    told = [
+        "old/a.ss: not checked with its graph old/a.gr:2: 13 NodeOutOfRange",
+        "old/b.co: not checked with its graph old/b.gr.gz: 31 Read (gzip: stdin: not in gzip format)",
+    ]
+    tally.same("companions of refused graphs", (lines, status), (told, 0))
+    repository.git("config", "filter.lfs.clean", "cat > /dev/null; cat pointer")
     repository.git("config", "filter.lfs.smudge", "echo 'the object is missing' >&2; false")
     repository.git("config", "filter.lfs.required", "true")
     write(".gitattributes", "lost.gr filter=lfs\n")
     write("lost.gr", ROADS)
+    write("pointer", b"elsewhere\n")
     repository.git("add", ".gitattributes", "lost.gr")
-    wanted = (["lost.gr: git could not read it (the object is missing)"], 1)
+    lost = "fatal: lost.gr: smudge filter lfs failed"
+    wanted = ([f"lost.gr: git could not read it ({lost})"], 1)
     tally.same("a commit of a text that is lost", repository.lines("commit", "-q", "-m", "x"), wanted)
+    write("pointer", POINTER)
+    repository.git("add", "--renormalize", "lost.gr")
+    wanted = (["lost.gr: its text in Git LFS is missing (git lfs pull)"], 1)
+    tally.same("a commit of an object that is missing", repository.lines("commit", "-q", "-m", "x"), wanted)
 
 
 def by_pre_commit(tally: Tally, tested: str) -> None:
