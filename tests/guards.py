@@ -204,7 +204,7 @@ def later_pairs(tally: Tally, repository: Repository) -> None:
         repository.git("add", "--", name)
         tally.same(f"a commit of {name}", repository.lines("commit", "-q", "-m", "x"), ([line], 1))
         repository.git("reset", "-q", "--hard")
-    make({"old/a.gr": BAD, "old/b.gr.gz": b"x"})
+    make({"old/a.gr": BAD, "old/b.gr.gz": b"not compressed"})
     repository.git("add", "old")
     repository.git("commit", "-q", "--no-verify", "-m", "refused graphs")
     make({"old/a.ss": b"p aux sp ss 1\ns 9\n", "old/b.co": b"p aux sp co 0\n"})
