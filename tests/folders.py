@@ -114,7 +114,7 @@ PR_CAPBSET_DROP, CAP_DAC_OVERRIDE, CAP_DAC_READ_SEARCH = 24, 1, 2
 WRONG = [
     *["", "x", "check", "check --jobs 0 set", "check --jobs x set", "check --jobs", "check --js set"],
     *["check --form 2 set", "check --junit", "check --timeout 0 set", "check --json --output-format github set"],
-    *["check --output-format xml set", "check --csv set", "check --files0-from"],
+    *["check --output-format xml set", "check --csv set", "check --files0-from", "check --files0-from - -"],
     *["manifest", "manifest --form 3 set", "manifest --verify x --form 2", "manifest --verify x --output y"],
     *["manifest -q set", "manifest --junit x set", "same", "same --csv x", "same -q x", "same --companions x"],
     *["list", "list --csv --json x", "compare", "compare x", "compare x y z", "compare --limit x y z"],

@@ -134,6 +134,8 @@ def check_files(found: argparse.Namespace, error: Callable[[str], NoReturn]) -> 
     """Completes the arguments of a command on many files."""
     if found.jobs is not None and found.jobs < 1:
         error("--jobs is at least 1")
+    if "-" in found.path and found.files0_from == "-":
+        error("standard input is named twice")
     has_paths = bool(found.path) or found.files0_from is not None
     if not has_paths and getattr(found, "verify", None) is None:
         error("at least one path is required")

@@ -9,12 +9,13 @@ import re
 import signal
 import subprocess
 import sys
-from collections.abc import Iterator, Sequence
+from collections.abc import Iterable, Iterator, Sequence
 
 from .causes import cause_of, quoted
-from .errors import DnormError, NoProgram
+from .errors import DnormError, NoProgram, Write
 from .files import of_stream, reason_of
 from .program import find_program
+from .reports import for_terminal
 
 USAGE = """\
 Prints what dnorm has printed, and below each refusal of a file what shows its cause: the line that it names, NODES, how
@@ -58,9 +59,14 @@ def explain(words: Sequence[str]) -> int:
     for line in iter(sys.stdin.buffer.readline, b""):
         told = os.fsdecode(line[:-1] if line.endswith(b"\n") else line)
         status = max(status, status_of(told))
-        for it in [told, *(f"    {it}" for it in causes_of(told))]:
-            os.write(1, os.fsencode(f"{it}\n"))
+        say(1, told, causes_of(told))
     return status
+
+
+def say(fd: int, told: str, causes: Iterable[str]) -> None:
+    """Prints a line with its causes below it."""
+    text = "".join(f"{it}\n" for it in [told, *(f"    {it}" for it in causes)])
+    os.write(fd, os.fsencode(for_terminal(text) if os.isatty(fd) else text))
 
 
 def explain_run(words: Sequence[str]) -> int:
@@ -71,9 +77,7 @@ def explain_run(words: Sequence[str]) -> int:
     except OSError as error:
         raise NoProgram(path, reason_of(error)) from error
     for told in os.fsdecode(ran.stderr).splitlines():
-        causes = wrong_words(words) if told == WRONG[0] else causes_of(told)
-        for it in [told, *(f"    {it}" for it in causes)]:
-            os.write(2, os.fsencode(f"{it}\n"))
+        say(2, told, wrong_words(words) if told == WRONG[0] else causes_of(told))
     return ran.returncode if ran.returncode >= 0 else 128 - ran.returncode
 
 
@@ -173,6 +177,8 @@ def explained(words: Sequence[str]) -> int:
         signal.signal(it, signal.SIG_DFL)
     try:
         return explain(words)
-    except DnormError as error:
-        os.write(2, os.fsencode(f"{error}\n"))
+    except (DnormError, OSError) as error:
+        failure = error if isinstance(error, DnormError) else Write("out", reason_of(error))
+        with contextlib.suppress(OSError):
+            say(2, str(failure), ())
         return 4

@@ -188,7 +188,7 @@ def junit(cases: Sequence[Case]) -> bytes:
         if isinstance(result, Refused):
             counts["failures"] += 1
             failure = ElementTree.SubElement(case, "failure", type=result.word, message=for_xml(str(result)))
-            failure.text = "\n".join([result.sentence, *cause_of(result)])
+            failure.text = for_xml("\n".join([result.sentence, *cause_of(result)]))
         elif isinstance(result, DnormError):
             counts["errors"] += 1
             message = for_xml(f"{name}{told(name, result)}")
