@@ -2,8 +2,8 @@
 
 from __future__ import annotations
 
+import os
 import re
-import shlex
 from collections.abc import Callable, Iterator
 from contextlib import AbstractContextManager
 from typing import NamedTuple
@@ -56,9 +56,10 @@ def visible(data: bytes) -> str:
 
 
 def quoted(name: str) -> str:
-    """Returns a name as a word of a shell."""
+    """Returns a name as a word of bash."""
     if not name.isprintable():
-        return shlex.quote(name)
+        plain = {byte for byte in range(32, 127) if chr(byte) not in "'\\"}
+        return f"$'{''.join(chr(it) if it in plain else f'{chr(92)}x{it:02x}' for it in os.fsencode(name))}'"
     return re.sub(r"([^\w@%+=:,./-])", r"\\\1", name)
 
 

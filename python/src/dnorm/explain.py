@@ -15,6 +15,7 @@ from .causes import cause_of, quoted
 from .errors import DnormError, NoProgram, Write
 from .files import of_stream, reason_of
 from .program import find_program
+from .refusals import REFUSALS
 from .reports import for_terminal
 
 USAGE = """\
@@ -155,16 +156,28 @@ def wrong_files(command: str, files: Sequence[str], wanted: int) -> Iterator[str
         if not it.isascii() and it != it.encode(errors="ignore").decode():
             yield f"dnorm takes no name that is not UTF-8: dnorm {command} - < {quoted(it)}"
     if command == "help":
-        yield f"help takes one command: {', '.join(it for it in COMMANDS if it != 'help')}"
+        yield sentence_of(files[0]) if files and sentence_of(
+            files[0]
+        ) else f"help takes one command: {', '.join(it for it in COMMANDS if it != 'help')}"
     elif len(files) != wanted:
-        several = "; for several: python3 -m dnorm check FILES.." if command == "check" and len(files) > 1 else ""
-        yield f"{command} takes {'two files' if wanted == 2 else 'one file'}, and not {len(files)}{several}"
+        more = "; - is standard input" if len(files) < wanted else ""
+        if command == "check" and len(files) > 1:
+            more = "; for several: python3 -m dnorm check FILES.."
+        yield f"{command} takes {'two files' if wanted == 2 else 'one file'}, and not {len(files)}{more}"
+
+
+def sentence_of(word: str) -> str:
+    """Returns the sentence of a refusal, given by its number or its name, or nothing if the word is none."""
+    found = [it for it in REFUSALS.items() if word in (str(it[0]), it[1][0])]
+    return "".join(f"{number} {name}: {sentence}" for number, (name, sentence) in found)
 
 
 def unknown_command(word: str) -> str:
     """Returns what is wrong with a word that is no command."""
-    if os.path.exists(word):
+    if word == "-" or os.path.exists(word):
         return f"a command comes before the file: dnorm check {quoted(word)}"
+    if sentence_of(word):
+        return sentence_of(word)
     near = [OTHER_NAMES[word]] if word in OTHER_NAMES else difflib.get_close_matches(word, COMMANDS, 1)
     if near:
         return f"dnorm has no command {word}: the nearest is {near[0]}"
