@@ -117,7 +117,15 @@ WRONG = [
     *["check --output-format xml set", "check --csv set", "check --files0-from", "check --files0-from - -"],
     *["manifest", "manifest --form 3 set", "manifest --verify x --form 2", "manifest --verify x --output y"],
     *["manifest -q set", "manifest --junit x set", "same", "same --csv x", "same -q x", "same --companions x"],
-    *["list", "list --csv --json x", "compare", "compare x", "compare x y z", "compare --limit x y z"],
+    *[
+        "list",
+        "list --csv --json x",
+        "compare",
+        "compare x",
+        "compare x y z",
+        "compare --limit x y z",
+        "compare --limit -1 x y",
+    ],
 ]
 
 

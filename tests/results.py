@@ -8,6 +8,7 @@ import gzip
 import io
 import json
 import os
+import pickle
 import pty
 import random
 import sys
@@ -69,6 +70,10 @@ def causes(tally: Tally, _: str) -> None:
                     tally.same(f"the cause in {text!r:.60} as {file!r:.20}", (error.text, error.hint), (wanted, more))
                 if isinstance(file, io.BytesIO):
                     file.seek(0)
+    first = dnorm.Refused("a.gr", 3, 13, "NodeOutOfRange", None, "a 1 3 7", "NODES 2: nodes count from 1")
+    for error in [first, dnorm.TimedOut("a.gr", 2.5)]:
+        again = pickle.loads(pickle.dumps(error))
+        tally.same(f"{error!r}, pickled", (str(again), vars(again)), (str(error), vars(error)))
     long = b"c\n" * 300_000
     write("t.gr", long + b"x" * 100_000 + b"\n")
     try:
@@ -241,7 +246,7 @@ def folders_of_manifests(tally: Tally, _: str) -> None:
     records = [json.loads(it) for it in found.out.splitlines()]
     tally.same("statuses in JSON", {it["name"]: it["status"] for it in records}, {
         "set/a.gr": "gone", "set/b.min": "differs", "set/c.gr": "same", "set/bad.gr": "not listed",
-        "set/below/new.gr": "not listed", "none": "not listed"})  # fmt: skip
+        "set/below/new.gr": "not listed", "none": "failed"})  # fmt: skip
     tally.same("a record", records[0], {"name": "set/a.gr", "status": "gone", "checksum": sums["set/a.gr"], "form": 1})
     found = module("manifest", "--json", "--form", "2", "set")
     records = [json.loads(it) for it in found.out.splitlines()]
@@ -327,14 +332,22 @@ def lists(tally: Tally, _: str) -> None:
     records = [json.loads(it) for it in found.out.splitlines()]
     tally.same("list --json", [(it["name"], it.get("checksum")) for it in records],
                [*((f"set/{name}", sums[name]) for name in rows), ("set/x.gr", None)])  # fmt: skip
-    wanted = {"name": "set/c.max", "kind": "max", "nodes": 5, "declared": 3, "canonical": 1, "merged": 2, "loops": 0}
-    wanted |= {"bare": 3, "capacity": 6000000000, "expense": None, "supply": None, "demand": None}
+    wanted = {
+        "name": "set/c.max",
+        "kind": "max",
+        "nodes": 5,
+        "declared": 3,
+        "canonical": 1,
+        "merged": 2,
+        "self_loops": 0,
+    }
+    wanted |= {"without_arcs": 3, "capacity": 6000000000, "capacity_times_cost": None, "supply": None, "demand": None}
     wanted |= {"fields": {"cap": {"least": 6000000000, "greatest": 6000000000, "bits": 53}}, "checksum": sums["c.max"]}
     tally.same("a record", records[2], wanted)
     found = module("list", "--csv", "set")
     table = list(csv.DictReader(io.StringIO(found.out.decode())))
     tally.same("list --csv", [(it["name"], it["checksum"]) for it in table], [(f"set/{it}", sums[it]) for it in rows])
-    told_ = [table[1][it] for it in ["kind", "nodes", "cost_least", "cost_bits", "length_bits", "expense"]]
+    told_ = [table[1][it] for it in ["kind", "nodes", "cost_least", "cost_bits", "length_bits", "capacity_times_cost"]]
     tally.same("a row", told_, ["min", "4", "-2147483649", "32", "", str((2**63 - 1) * 2147483649 + 2)])
     form = module("list", "--form", "2", "--json", "set/b.min").out
     tally.same("list --form 2", json.loads(form)["checksum"], dnorm.checksum(LARGE, 2))

@@ -127,6 +127,8 @@ def parsed(words: Sequence[str]) -> argparse.Namespace:
         error("--timeout is above 0")
     if "path" in found:
         check_files(found, error)
+    elif found.limit < 0:
+        error("--limit is at least 0")
     return found
 
 

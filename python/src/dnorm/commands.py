@@ -3,6 +3,7 @@
 from __future__ import annotations
 
 import contextlib
+import errno
 import os
 import time
 from argparse import Namespace
@@ -140,11 +141,14 @@ class Run:
         self.each(task, entries, take)
         known = {os.path.abspath(it.name) for it in entries}
         for name, error in self.found().files.items():
-            if error or os.path.abspath(name) not in known:
-                counts["not listed"] += not error
-                if error:
-                    self.count(error)
-                self.say(name, error or "not listed", {})
+            if not error and not os.path.lexists(name):
+                error = Read(name, os.strerror(errno.ENOENT))
+            if error:
+                self.count(error)
+                self.say(name, error, {})
+            elif os.path.abspath(name) not in known:
+                counts["not listed"] += 1
+                self.say(name, "not listed", {})
         more = [f"{counts[it]} {it}" for it in ["gone", "not listed"] if counts[it]]
         self.sum_up(f"{counts['same']} the same, {counts['differs']} different", *more)
 

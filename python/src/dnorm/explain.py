@@ -131,6 +131,7 @@ def wrong_words(words: Sequence[str]) -> Iterator[str]:
         return
     options, wanted = COMMANDS[command]
     files: list[str] = []
+    given: set[str] = set()
     rest = iter(others)
     for it in rest:
         name, is_given, value = it.partition("=")
@@ -142,7 +143,11 @@ def wrong_words(words: Sequence[str]) -> Iterator[str]:
             known = f"it has {', '.join(options)}" if options else "it has none but --help"
             yield f"{command} has no option {name}: {known}"
             return
+        elif name in given:
+            yield f"{name} can be given once"
+            return
         else:
+            given.add(name)
             value = value if is_given else next(rest, "")
             if not value or VALUES[name] and value not in VALUES[name]:
                 yield f"{name} takes {' or '.join(VALUES[name]) or 'the name of a file'}, and not {value!r}"
@@ -156,9 +161,8 @@ def wrong_files(command: str, files: Sequence[str], wanted: int) -> Iterator[str
         if not it.isascii() and it != it.encode(errors="ignore").decode():
             yield f"dnorm takes no name that is not UTF-8: dnorm {command} - < {quoted(it)}"
     if command == "help":
-        yield sentence_of(files[0]) if files and sentence_of(
-            files[0]
-        ) else f"help takes one command: {', '.join(it for it in COMMANDS if it != 'help')}"
+        commands = ", ".join(it for it in COMMANDS if it != "help")
+        yield sentence_of(" ".join(files)) or f"help takes one command: {commands}"
     elif len(files) != wanted:
         more = "; - is standard input" if len(files) < wanted else ""
         if command == "check" and len(files) > 1:

@@ -42,8 +42,9 @@ class Limit:
         def end() -> None:
             is_over.set()
             # Popen.kill() would take the status of a process that has ended.
-            with contextlib.suppress(ProcessLookupError):
-                os.kill(process.pid, signal.SIGKILL)
+            if process.returncode is None:
+                with contextlib.suppress(ProcessLookupError):
+                    os.kill(process.pid, signal.SIGKILL)
 
         timer = threading.Timer(left, end)
         timer.daemon = True

@@ -33,9 +33,9 @@ class Listed(NamedTuple):
     """What a text contains. A companion has no facts of a graph, which are None.
 
     `declared` is the number of counted lines, and `canonical` that of the canonical text. `merged` is the number of
-    arcs besides the first of each ordered pair, and of arcs that mean nothing. `loops` counts canonical arcs from a
-    node to itself, and `bare` nodes without arcs. `capacity` is the sum of the capacities, and `expense` that of each
-    capacity times the absolute cost. `supply` and `demand` are the sums of the flows above and below 0."""
+    arcs besides the first of each ordered pair, and of arcs that mean nothing. `self_loops` counts arcs of the
+    canonical text, and `without_arcs` nodes. `capacity` is the sum of the capacities, and `capacity_times_cost` that of
+    each capacity times the absolute cost. `supply` and `demand` are the sums of the flows above and below 0."""
 
     name: str
     kind: str
@@ -43,10 +43,10 @@ class Listed(NamedTuple):
     declared: int
     canonical: int
     merged: int | None
-    loops: int | None
-    bare: int | None
+    self_loops: int | None
+    without_arcs: int | None
     capacity: int | None
-    expense: int | None
+    capacity_times_cost: int | None
     supply: int | None
     demand: int | None
     fields: dict[str, Range]
@@ -68,10 +68,12 @@ def listed(name: str, form: int, program: Program, timeout: float | None) -> Lis
         declared=declared,
         canonical=canonical,
         merged=None if pairs is None else declared - len(pairs),
-        loops=None if pairs is None else sum(tail == head for tail, head in arcs_of(it)),
-        bare=it.nodes - len({node for pair in pairs or () for node in pair}) if isinstance(it, Graph) else None,
+        self_loops=None if pairs is None else sum(tail == head for tail, head in arcs_of(it)),
+        without_arcs=it.nodes - len({node for pair in pairs or () for node in pair}) if isinstance(it, Graph) else None,
         capacity=None if caps is None else sum(caps),
-        expense=sum(cap * abs(cost) for cap, cost in zip(columns["cap"], columns["cost"])) if is_min else None,
+        capacity_times_cost=sum(cap * abs(cost) for cap, cost in zip(columns["cap"], columns["cost"]))
+        if is_min
+        else None,
         supply=sum(flow for flow in flows if flow > 0) if is_min else None,
         demand=-sum(flow for flow in flows if flow < 0) if is_min else None,
         fields=dict(ranges({**({"flow": flows} if is_min else {}), **ids_of(it), **columns})),
@@ -116,11 +118,16 @@ def text_of_listed(it: Listed) -> str:
     """Returns the lines below the name of a file."""
     lines = []
     if it.nodes is not None:
-        lines.append(f"nodes {it.nodes}, without arcs {it.bare}")
-    more = "" if it.merged is None else f", merged {it.merged}, self-loops {it.loops}"
+        lines.append(f"nodes {it.nodes}, without arcs {it.without_arcs}")
+    more = "" if it.merged is None else f", merged {it.merged}, self-loops {it.self_loops}"
     lines.append(f"lines {it.declared}, canonical {it.canonical}{more}")
     lines += [f"{field} {of.least} to {of.greatest}, {of.bits} bits" for field, of in it.fields.items()]
-    sums = {"capacity": it.capacity, "capacity times cost": it.expense, "supply": it.supply, "demand": it.demand}
+    sums = {
+        "capacity": it.capacity,
+        "capacity times cost": it.capacity_times_cost,
+        "supply": it.supply,
+        "demand": it.demand,
+    }
     told = [f"{what} {value}" for what, value in sums.items() if value is not None]
     lines += [f"sums: {', '.join(told)}"] if told else []
     lines.append(f"checksum {it.checksum}")
