@@ -71,9 +71,10 @@ def causes(tally: Tally, _: str) -> None:
                 if isinstance(file, io.BytesIO):
                     file.seek(0)
     first = dnorm.Refused("a.gr", 3, 13, "NodeOutOfRange", None, "a 1 3 7", "NODES 2: nodes count from 1")
-    for error in [first, dnorm.TimedOut("a.gr", 2.5)]:
-        again = pickle.loads(pickle.dumps(error))
-        tally.same(f"{error!r}, pickled", (str(again), vars(again)), (str(error), vars(error)))
+    found_: list[dnorm.DnormError] = [first, dnorm.TimedOut("a.gr", 2.5)]
+    for it in found_:
+        again = pickle.loads(pickle.dumps(it))
+        tally.same(f"{it!r}, pickled", (str(again), vars(again)), (str(it), vars(it)))
     long = b"c\n" * 300_000
     write("t.gr", long + b"x" * 100_000 + b"\n")
     try:
