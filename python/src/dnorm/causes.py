@@ -6,6 +6,7 @@ import os
 import re
 from collections.abc import Callable, Iterator
 from contextlib import AbstractContextManager
+from itertools import islice
 from typing import NamedTuple
 
 from .compressed import SIZE
@@ -93,7 +94,7 @@ def cause_of(text: Opener, name: str | None, line: int | None, number: int) -> C
     if number == 14 and line and len(words) > 1:
         with text() as pieces:
             hints += hints_of_repeated(lines_of(pieces), words)
-    if number == 17 and line and len(words) > 3:
+    if number == 17 and line and len(words) in (4, 6):
         with text() as pieces:
             hints += hints_of_sum(lines_of(pieces), line, words)
     return Cause(None if refused is None else visible(refused[:SHOWN]), hints)
@@ -156,16 +157,13 @@ def hints_of_repeated(lines: Iterator[bytes], words: list[bytes]) -> Iterator[st
 def hints_of_sum(lines: Iterator[bytes], line: int, words: list[bytes]) -> Iterator[str]:
     """Yields the sum of the capacities of a pair before the refused line."""
     place = 3 if len(words) == 4 else 4
-    pair = [number_of(it) for it in words[1:3]]
-    total = 0
-    for at, it in enumerate(lines, 1):
-        if at == line:
-            break
-        found = it.split()
-        if found[:1] == [b"a"] and len(found) > place and [number_of(it) for it in found[1:3]] == pair:
-            total += number_of(found[place]) or 0
-    after = total + (number_of(words[place]) or 0)
-    yield f"The capacities from {pair[0]} to {pair[1]} sum to {total} before this line, and with it to {after}"
+    tail, head, cap = (number_of(it) for it in (*words[1:3], words[place]))
+    if tail is None or head is None or cap is None:
+        return
+    arc = re.compile(rb"%s*a%s+\+?0*%d%s+\+?0*%d%s" % (BLANK, BLANK, tail, BLANK, head, BLANK))
+    arcs = (it.split() for it in islice(lines, line - 1) if arc.match(it))
+    total = sum(number_of(it[place]) or 0 for it in arcs if len(it) > place)
+    yield f"The capacities from {tail} to {head} sum to {total} before this line, and with it to {total + cap}"
 
 
 def number_of(word: bytes) -> int | None:
