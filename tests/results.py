@@ -31,6 +31,8 @@ MANY = b"p max 3 3\nn 1 s\nn 3 t\na 1 2 9223372036854775800\na 1 3 1\na 1 2 8\n"
 CAUSES: list[tuple[bytes, str | None, str | None]] = [
     (b"p sp 2 1\na 1 3 7\n", "a 1 3 7", "NODES 2: nodes count from 1"),
     (b"p aux sp ss 1\ns 0\n", "s 0", None),
+    (b"p sp 2 1\na 1 2 7.0\n", "a 1 2 7.0", "Scale to whole numbers; remove a fraction that is 0"),
+    (b"c\n", None, "The text has only comments, or the command that wrote it failed"),
     (b"p sp 2 2\na 1 2 7\n", None, "declared 2, found 1: only a, s, q and v lines count"),
     (b"p sp 2 1\na 1 2 7\r\n\ta\t1 1 1\r\n", "^Ia^I1 1 1^M", "declared 1, found 2: only a, s, q and v lines count"),
     (b"p min 3 0\nc\nn 2 1\nn +02 5\n", "n +02 5", "Node +02 came first in line 3"),
@@ -70,6 +72,14 @@ def causes(tally: Tally, _: str) -> None:
                     tally.same(f"the cause in {text!r:.60} as {file!r:.20}", (error.text, error.hint), (wanted, more))
                 if isinstance(file, io.BytesIO):
                     file.seek(0)
+    write("s.ss", b"p aux sp p2p 3\nc 9\nq 2 1\nq 3 +009\nq 9 9\n")
+    companions: list[dnorm.File] = ["s.ss", bytes_of("s.ss")]
+    for file in companions:
+        try:
+            dnorm.check(ROADS, file)
+        except dnorm.Refused as error:
+            found = (error.number, error.node, error.text, error.hint)
+            tally.same("a companion", found, (35, 9, None, "line 4 names it: q 3 +009"))
     first = dnorm.Refused("a.gr", 3, 13, "NodeOutOfRange", None, "a 1 3 7", "NODES 2: nodes count from 1")
     found_: list[dnorm.DnormError] = [first, dnorm.TimedOut("a.gr", 2.5)]
     for it in found_:
@@ -81,11 +91,11 @@ def causes(tally: Tally, _: str) -> None:
         dnorm.check("t.gr")
     except dnorm.Refused as error:
         tally.same("a line behind others", (error.line, error.text), (300_001, "x" * 200))
-    found = module("check", "--output-format", "github", "t.gr", "missing,:%.gr")
+    shown = module("check", "--output-format", "github", "t.gr", "missing,:%.gr")
     begin = f"::error file=t.gr,line=300001,title=dnorm%3A 1 BadLine::t.gr:300001: 1 BadLine%0A{dnorm.REFUSALS[1][1]}"
     lines = f"{begin}%0Aline 300001: {'x' * 200}\n"
     missing = "::error file=missing%2C%3A%25.gr::missing,:%25.gr: 31 Read (No such file or directory)\n"
-    wants(tally, "--output-format github", found, missing + lines, "0 accepted, 1 refused, 1 failed\n", 4)
+    wants(tally, "--output-format github", shown, missing + lines, "0 accepted, 1 refused, 1 failed\n", 4)
 
 
 def compressions(tally: Tally, _: str) -> None:

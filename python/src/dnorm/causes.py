@@ -36,6 +36,21 @@ MARKS = [
     (b"\xfe\xff", "The file is in UTF-16", "iconv -f UTF-16 -t UTF-8 < {}"),
 ]
 LFS = b"version https://git-lfs"
+# What mends the text where the text itself says no more.
+NO_LIMIT = "for no limit, write a capacity that no flow exceeds"
+REMEDIES = {
+    3: "Separate the files, or keep one problem line with the sums of the counts",
+    4: "The kinds are min, max, sp, aux sp ss, aux sp p2p and aux sp co, in lower case",
+    6: "Put all node lines before the arcs",
+    8: "Add the field, or put the comment on a line of its own",
+    9: "Scale to whole numbers; remove a fraction that is 0",
+    10: f"Scale the numbers down; {NO_LIMIT}",
+    11: f"Costs, lengths and flows may be below 0; {NO_LIMIT}",
+    12: "Write s for the source and t for the sink",
+    16: f"The order is LOW, CAP, COST; {NO_LIMIT}",
+    18: "The text has only comments, or the command that wrote it failed",
+    19: "Add the line n ID s or n ID t, before the arcs",
+}
 
 
 class Cause(NamedTuple):
@@ -77,9 +92,9 @@ def lines_of(pieces: Iterator[bytes]) -> Iterator[bytes]:
         yield rest
 
 
-def cause_of(text: Opener, name: str | None, line: int | None, number: int) -> Cause:
-    """Returns the cause of a refusal, by its line and its number. `name` is that of the file, if the bytes of the file
-    are the text: hints have commands then."""
+def cause_of(text: Opener, name: str | None, line: int | None, number: int, node: int | None = None) -> Cause:
+    """Returns the cause of a refusal, by its line, its number and its node. `name` is that of the file, if the bytes of
+    the file are the text: hints have commands then."""
     with text() as pieces:
         head = next(pieces, b"")
     with text() as pieces:
@@ -97,6 +112,11 @@ def cause_of(text: Opener, name: str | None, line: int | None, number: int) -> C
     if number == 17 and line and len(words) in (4, 6):
         with text() as pieces:
             hints += hints_of_sum(lines_of(pieces), line, words)
+    if node is not None:
+        with text() as pieces:
+            hints += hints_of_node(lines_of(pieces), node)
+    if not hints and number in REMEDIES:
+        hints.append(REMEDIES[number])
     return Cause(None if refused is None else visible(refused[:SHOWN]), hints)
 
 
@@ -164,6 +184,16 @@ def hints_of_sum(lines: Iterator[bytes], line: int, words: list[bytes]) -> Itera
     arcs = (it.split() for it in islice(lines, line - 1) if arc.match(it))
     total = sum(number_of(it[place]) or 0 for it in arcs if len(it) > place)
     yield f"The capacities from {tail} to {head} sum to {total} before this line, and with it to {total + cap}"
+
+
+def hints_of_node(lines: Iterator[bytes], node: int) -> Iterator[str]:
+    """Yields the first line of a companion that names a node."""
+    for at, it in enumerate(lines, 1):
+        letter, *others = it.split() or [b""]
+        names = {b"s": 1, b"q": 2, b"v": 1}.get(letter, 0)
+        if node in map(number_of, others[:names]):
+            yield f"line {at} names it: {visible(it[:SHOWN])}"
+            return
 
 
 def number_of(word: bytes) -> int | None:

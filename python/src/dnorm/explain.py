@@ -29,7 +29,7 @@ The second form runs dnorm with these words, and also explains a command line th
 dnorm, as its lines tell it; of several runs, the greatest one.
 """
 REFUSED_LINE = re.compile(r"(.*):([0-9]+|end): ([12]?[0-9]) [A-Za-z]+")
-OTHER_LINE = re.compile(r"(.*): 3([0-6]) [A-Za-z]+(?: [0-9]+)?")
+OTHER_LINE = re.compile(r"(.*): 3([0-6]) [A-Za-z]+(?: ([0-9]+))?")
 WRONG = ("dnorm: bad command line", "dnorm: standard input named twice")
 # The options of each command with the number of its files, and the values that options take.
 COMMANDS: dict[str, tuple[list[str], int]] = {
@@ -99,19 +99,27 @@ def causes_of(told: str) -> Iterator[str]:
     refused, other = REFUSED_LINE.fullmatch(told), OTHER_LINE.fullmatch(told)
     if other and other[2] == "1" and other[1] != "-":
         yield from reason_of_failure(other[1])
-    if refused and refused[1] != "-" and os.path.isfile(refused[1]):
-        name, line, number = refused[1], None if refused[2] == "end" else int(refused[2]), int(refused[3])
+    if other and other[3]:
+        yield from causes_in(other[1], None, 35, int(other[3]))
+    if refused:
+        yield from causes_in(refused[1], None if refused[2] == "end" else int(refused[2]), int(refused[3]), None)
 
-        @contextlib.contextmanager
-        def text() -> Iterator[Iterator[bytes]]:
-            with open(name, "rb", buffering=0) as file:
-                yield of_stream(file)
 
-        with contextlib.suppress(OSError):
-            cause = cause_of(text, name, line, number)
-            if line is not None:
-                yield f"line {line}: {cause.text or ''}"
-            yield from cause.hints
+def causes_in(name: str, line: int | None, number: int, node: int | None) -> Iterator[str]:
+    """Yields what shows the cause of a refusal in a file."""
+
+    @contextlib.contextmanager
+    def text() -> Iterator[Iterator[bytes]]:
+        with open(name, "rb", buffering=0) as file:
+            yield of_stream(file)
+
+    if name == "-" or not os.path.isfile(name):
+        return
+    with contextlib.suppress(OSError):
+        cause = cause_of(text, name, line, number, node)
+        if line is not None:
+            yield f"line {line}: {cause.text or ''}"
+        yield from cause.hints
 
 
 def reason_of_failure(name: str) -> Iterator[str]:

@@ -195,7 +195,8 @@ class Source:
         elif hasattr(self.file, "read"):
             return None
         with contextlib.suppress(DnormError, OSError, EOFError):
-            return cause_of(self._again, None if self._into else self.name, error.line, error.number)
+            name = None if self._into else self.name
+            return cause_of(self._again, name, error.line, error.number, error.node)
         return None
 
     @contextlib.contextmanager
