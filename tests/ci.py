@@ -81,6 +81,7 @@ def workflow(tally: Tally, tested: str) -> None:
     write("texts/below/roads.gr", ROADS)
     runner = Runner()
     tally.same("the steps", len(runner.steps), 2)
+    tally.holds("it fetches Git LFS", re.search(r"checkout@.*\n +with:\n +lfs: true\n", text_of(WORKFLOW)))
     found = runner.run()
     wanted = Answer(b"", b"1 accepted, 0 refused, 0 failed\n", 0)
     tally.same("a repository of accepted texts", (found[-1], len(found)), (wanted, 2))

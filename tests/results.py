@@ -143,17 +143,49 @@ print(dnorm.check("two.zst").kind)
 """
 
 
+# A module with the members of `compression.zstd` in Python 3.14 that the package uses, as its documentation has them.
+OF_3_14 = """
+import zstandard
+ZstdError = zstandard.ZstdError
+
+class CompressionParameter:
+    checksum_flag = 201
+
+class ZstdDecompressor:
+    def __init__(self):
+        self._it, self._rest, self.eof, self.unused_data = zstandard.ZstdDecompressor().decompressobj(), b"", False, b""
+
+    def decompress(self, data, max_length=-1):
+        if self.eof:
+            raise EOFError("the end was reached before")
+        self._rest += b"" if self._it.eof else self._it.decompress(data)
+        found, self._rest = self._rest[:max_length], self._rest[max_length:]
+        self.eof = self._it.eof and not self._rest
+        self.unused_data = self._it.unused_data if self.eof else b""
+        return found
+
+class ZstdFile:
+    def __init__(self, file, mode, *, level=None, options=None):
+        assert mode == "wb" and options == {201: 1}
+        self._it = zstandard.ZstdCompressor(write_checksum=True).stream_writer(file, closefd=False)
+        self.write, self.close = self._it.write, self._it.close
+"""
+
+
 def zstandard(tally: Tally) -> None:
-    """Tests zstd by a Python that has the module zstandard, and without one."""
+    """Tests zstd by a Python that has the module zstandard, as Python 3.14 does it, and without a module."""
     write("t.gr.zst", zstd(ROADS))
     write("t.gr", ROADS)
-    write("large.gr", "p sp 1 200000\n" + "".join(f"a 1 1 {it * it}\n" for it in range(200_000)))
     write("large.gr", "p sp 50000 50000\n" + "".join(f"a {it} 1 {it * it % 9973}\n" for it in range(1, 50_001)))
     python = python_with("zstandard")
     if python:
         found = run([python, "-c", BY_ZSTANDARD], env={**os.environ, **ENVIRONMENT})
         wanted = "Checked(kind='sp', fits=None, forms=()) True\nTrue\nsp\n"
         tally.same("zstd", (found.out.decode(), found.err, found.status), (wanted, b"", 0))
+        make({"later/compression/__init__.py": b"", "later/compression/zstd.py": OF_3_14.encode()})
+        path = f"{os.getcwd()}/later:{ENVIRONMENT['PYTHONPATH']}"
+        found = run([python, "-c", BY_ZSTANDARD], env={**os.environ, **ENVIRONMENT, "PYTHONPATH": path})
+        tally.same("zstd of 3.14", (found.out.decode(), found.err, found.status), (wanted, b"", 0))
     else:
         tally.pass_over("files of zstd", "the module zstandard")
     code = "import sys; sys.modules['zstandard'] = None; import dnorm; dnorm.check('t.gr.zst')"
