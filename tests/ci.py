@@ -81,11 +81,15 @@ def workflow(tally: Tally, tested: str) -> None:
     write("texts/below/roads.gr", ROADS)
     runner = Runner()
     tally.same("the steps", len(runner.steps), 2)
+    tally.holds("it fetches Git LFS", re.search(r"checkout@.*\n +with:\n +lfs: true\n", text_of(WORKFLOW)))
     found = runner.run()
-    wanted = Answer(b"./below/roads.gr: accepted sp\n", b"1 accepted, 0 refused, 0 failed\n", 0)
+    wanted = Answer(b"", b"1 accepted, 0 refused, 0 failed\n", 0)
     tally.same("a repository of accepted texts", (found[-1], len(found)), (wanted, 2))
     write("texts/bad.gr", b"p sp 1 1\n")
-    lines = b"./bad.gr:end: 20 TooFewLines\n./below/roads.gr: accepted sp\n"
+    lines = (
+        b"::error file=bad.gr,title=dnorm%3A 20 TooFewLines::./bad.gr:end: 20 TooFewLines%0AThere are fewer counted "
+    )
+    lines += b"lines than declared.%0Adeclared 1, found 0: only a, s, q and v lines count\n"
     wanted = Answer(lines, b"1 accepted, 1 refused, 0 failed\n", 2)
     tally.same("a repository with a refused text", runner.run()[-1], wanted)
     suite = ElementTree.parse("temp/dnorm.xml").find("testsuite")
@@ -107,7 +111,12 @@ def pre_commit(tally: Tally, _: str) -> None:
         "a.gr": True,
         "a/b.min.gz": True,
         "a.co.xz": True,
-        "a.gr.zip": False,
+        "A.GR": True,
+        "a.Gr.BZ2": True,
+        "a.gr.zip": True,
+        "a.co.zst": True,
+        "a.min.Z": True,
+        "a.gr.zipped": False,
         "agr": False,
         "a.grx": False,
         "a.gz": False,
@@ -122,7 +131,8 @@ def pre_commit(tally: Tally, _: str) -> None:
     tally.same("an accepted file", found, Answer(b"a.gr: accepted sp\n", b"1 accepted, 0 refused, 0 failed\n", 0))
     found = run([script, "a.gr", "-b.gr"], env=environment)
     lines = b"-b.gr:1: 1 BadLine\na.gr: accepted sp\n"
-    tally.same("a refused file", found, Answer(lines, b"1 accepted, 1 refused, 0 failed\n", 2))
+    err = b"-b.gr:1: 1 BadLine\n    line 1: x\n1 accepted, 1 refused, 0 failed\n"
+    tally.same("a refused file", found, Answer(lines, err, 2))
 
 
 TESTS = [workflow, pre_commit]

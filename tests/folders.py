@@ -47,6 +47,7 @@ SET: dict[str, tuple[bytes, str]] = {
     "set/a-b.gr": (ROADS_CANON, ": accepted sp"),
     "set/a/b/roads.sp": (ROADS, ": accepted sp"),
     "set/a/flow.min": (COSTS_TWO, ": accepted min"),
+    "set/a/x.GR": (ROADS, ": accepted sp"),
     "set/bad.max": (b"p max 2 1\nn 1 s\na 1 2 5\n", ":end: 19 MissingTerminal"),
     "set/flow.min": (COSTS, ": accepted min"),
     "set/p.p2p": (b"p aux sp p2p 0\n", ": accepted p2p"),
@@ -57,50 +58,75 @@ SET: dict[str, tuple[bytes, str]] = {
     "set/s.ss": (b"p aux sp ss 1\ns 1\n", ": accepted ss"),
     "set/v.co": (b"p aux sp co 1\ns 1\n", ":2: 5 WrongLine"),
 }
-OTHERS = ["set/notes.txt", "set/gr", "set/x.gr.zip", "set/a/x.GR", "none/below/notes.txt"]
+OTHERS = ["set/notes.txt", "set/gr", "none/below/notes.txt", "set/.git/x.gr", "set/a/.svn/x.gr"]
 LINES = "".join(f"{name}{what}\n" for name, (_, what) in SET.items())
+LINES_A = LINES[LINES.index("set/a/") : LINES.index("set/bad")]
 MISSING = "missing: 31 Read (No such file or directory)\n"
-NONE = "none: 31 Read (no file in it ends in .gr .sp .min .max .ss .p2p .co)\n"
+NAMES_OTHERS = "; --ending names other endings)"
+NONE = f"none: 31 Read (no file in it ends in .gr .sp .min .max .ss .p2p .co{NAMES_OTHERS}\n"
+# What follows the lines of refused files where they are printed again.
+CAUSES = {"v.co:2": "    line 2: s 1\n", "gr:1": "    line 1: x\n", "notes.txt:1": "    line 1: x\n"}
+# The other files of the set, and why they are not looked at.
+NO_ENDING = "its name does not end like that of a DIMACS text"
+NOT_LOOKED_AT = {
+    "set/a/loop.gr": "it is a link to a folder, which is not followed",
+    "set/gr": NO_ENDING,
+    "set/notes.txt": NO_ENDING,
+    "set/pipe.gr": "it is neither a file nor a link to one",
+}
+STRICT = "".join(
+    sorted(
+        [*LINES.splitlines(True), *(f"{name}: 31 Read ({why})\n" for name, why in NOT_LOOKED_AT.items())],
+        key=lambda it: it.partition(":")[0],
+    )
+)
 # Arguments of `check`, the lines and the count that it prints, and the status.
 CHECKS = [
-    ("set", LINES, "10 accepted, 2 refused, 0 failed", 2),
-    ("set set/roads.gr set", LINES, "10 accepted, 2 refused, 0 failed", 2),
-    ("--jobs 1 set", LINES, "10 accepted, 2 refused, 0 failed", 2),
-    ("--jobs 50 set", LINES, "10 accepted, 2 refused, 0 failed", 2),
-    ("set/a", "set/a/b/roads.sp: accepted sp\nset/a/flow.min: accepted min\n", "2 accepted, 0 refused, 0 failed", 0),
-    ("set/a/", "set/a/b/roads.sp: accepted sp\nset/a/flow.min: accepted min\n", "2 accepted, 0 refused, 0 failed", 0),
+    ("set", LINES, "11 accepted, 2 refused, 0 failed, 4 other files", 2),
+    ("set set/roads.gr set", LINES, "11 accepted, 2 refused, 0 failed, 4 other files", 2),
+    ("--jobs 1 set", LINES, "11 accepted, 2 refused, 0 failed, 4 other files", 2),
+    ("-j 50 set", LINES, "11 accepted, 2 refused, 0 failed, 4 other files", 2),
+    ("--strict set", STRICT, "11 accepted, 2 refused, 4 failed", 4),
+    ("--strict --exclude gr --exclude *.txt --exclude *pipe* --exclude a/l* --exclude bad.max --exclude v.co set",
+     LINES.replace("set/bad.max:end: 19 MissingTerminal\n", "").replace("set/v.co:2: 5 WrongLine\n", ""),
+     "11 accepted, 0 refused, 0 failed", 0),
+    ("--exclude a --exclude *.gr* --exclude *.?o set", "set/bad.max:end: 19 MissingTerminal\nset/flow.min: accepted min"
+     "\nset/p.p2p: accepted p2p\nset/s.ss: accepted ss\n", "3 accepted, 1 refused, 0 failed, 2 other files", 2),
+    ("set/a", LINES_A, "3 accepted, 0 refused, 0 failed, 1 other file", 0),
+    ("set/a/", LINES_A, "3 accepted, 0 refused, 0 failed, 1 other file", 0),
+    ("set/a set/s.ss", f"{LINES_A}set/s.ss: accepted ss\n", "4 accepted, 0 refused, 0 failed, 1 other file", 0),
+    ("set/gr set/a", f"{LINES_A}set/gr:1: 1 BadLine\n", "3 accepted, 1 refused, 0 failed, 1 other file", 2),
     ("set/s.ss set/gr", "set/gr:1: 1 BadLine\nset/s.ss: accepted ss\n", "1 accepted, 1 refused, 0 failed", 2),
     ("missing set/s.ss", f"{MISSING}set/s.ss: accepted ss\n", "1 accepted, 0 refused, 1 failed", 4),
     ("missing", MISSING, "0 accepted, 0 refused, 1 failed", 4),
-    ("none", NONE, "0 accepted, 0 refused, 1 failed", 4),
-    ("none set", NONE + LINES, "10 accepted, 2 refused, 1 failed", 4),
-    ("--ending .txt --ending=.zip set", "set/notes.txt:1: 1 BadLine\nset/x.gr.zip:1: 1 BadLine\n",
-     "0 accepted, 2 refused, 0 failed", 2),
-    ("--ending .x none", "none: 31 Read (no file in it ends in .x)\n", "0 accepted, 0 refused, 1 failed", 4),
+    ("none", NONE, "0 accepted, 0 refused, 1 failed, 1 other file", 4),
+    ("none set", NONE + LINES, "11 accepted, 2 refused, 1 failed, 5 other files", 4),
+    ("--ending .TXT --ending=.zip set", "set/notes.txt:1: 1 BadLine\n",
+     "0 accepted, 1 refused, 0 failed, 16 other files", 2),
+    ("--ending .x none", f"none: 31 Read (no file in it ends in .x{NAMES_OTHERS}\n",
+     "0 accepted, 0 refused, 1 failed, 1 other file", 4),
     ("-- set/s.ss", "set/s.ss: accepted ss\n", "1 accepted, 0 refused, 0 failed", 0),
 ]  # fmt: skip
+COMMANDS = ["check", "manifest", "same", "list", "compare"]
 # Numbers of Linux.
 PR_CAPBSET_DROP, CAP_DAC_OVERRIDE, CAP_DAC_READ_SEARCH = 24, 1, 2
 # Arguments that are refused.
 WRONG = [
-    "",
-    "x",
-    "check",
-    "check --jobs 0 set",
-    "check --jobs x set",
-    "check --jobs",
-    "check --js set",
-    "check --form 2 set",
+    *["", "x", "check", "check --jobs 0 set", "check --jobs x set", "check --jobs", "check --js set"],
+    *["check --form 2 set", "check --junit", "check --timeout 0 set", "check --json --output-format github set"],
+    *["check --output-format xml set", "check --csv set", "check --files0-from", "check --files0-from - -"],
+    *["manifest", "manifest --form 3 set", "manifest --verify x --form 2", "manifest --verify x --output y"],
+    *["manifest -q set", "manifest --junit x set", "same", "same --csv x", "same -q x", "same --companions x"],
+    *[
+        "list",
+        "list --csv --json x",
+        "compare",
+        "compare x",
+        "compare x y z",
+        "compare --limit x y z",
+        "compare --limit -1 x y",
+    ],
 ]
-WRONG += [
-    "manifest",
-    "manifest --form 3 set",
-    "manifest --verify x set",
-    "manifest --verify x --form 2",
-    "same",
-    "same --json x",
-]
-WRONG += ["manifest --verify x --output y", "check --junit"]
 
 
 def make_set() -> None:
@@ -118,17 +144,31 @@ def wants(tally: Tally, what: str, found: Answer, out: str, err: str, status: in
     tally.same(what, found, Answer(os.fsencode(out), os.fsencode(err), status))
 
 
+def again(lines: str) -> str:
+    """Returns the lines of refused and failed files as they are printed again, with their causes. A failure alone has
+    none, and is not printed again."""
+    found = [it for it in lines.splitlines(True) if ": accepted " not in it]
+    causes = [next((cause for name, cause in CAUSES.items() if f"/{name}:" in it), "") for it in found]
+    return "" if lines in found and not any(causes) else "".join(f"{it}{cause}" for it, cause in zip(found, causes))
+
+
 def checks(tally: Tally, _: str) -> None:
     """Tests which files are checked, in which order, and the statuses."""
     make_set()
     for words, out, count, status in CHECKS:
-        wants(tally, f"check {words}", module("check", *words.split()), out, f"{count}\n", status)
+        found = module("check", *words.split())
+        wants(tally, f"check {words}", found, out, f"{again(out)}{count}\n", status)
+        quiet = "".join(it for it in out.splitlines(True) if ": accepted " not in it)
+        wants(tally, f"check -q {words}", module("check", "-q", *words.split()), quiet, f"{count}\n", status)
     found = module("check", ".", cwd="set")
-    wants(tally, "check .", found, LINES.replace("set/", "./"), "10 accepted, 2 refused, 0 failed\n", 2)
+    lines, count = LINES.replace("set/", "./"), "11 accepted, 2 refused, 0 failed, 4 other files\n"
+    wants(tally, "check .", found, lines, again(lines) + count, 2)
     for words in WRONG:
         found = module(*words.split())
-        tally.same(words, (found.out, found.status, found.err[:24]), (b"", 3, b"usage: python3 -m dnorm "))
-    for words in ["-h", "--help", "check -h", "manifest --help", "same --help"]:
+        command = "" if words in ("", "x") else f"{words.split()[0]} "
+        begin = f"usage: python3 -m dnorm {command}".encode()
+        tally.same(words, (found.out, found.status, found.err[: len(begin)]), (b"", 3, begin))
+    for words in ["-h", "--help", *(f"{it} {option}" for it in COMMANDS for option in ("-h", "--help"))]:
         found = module(*words.split())
         tally.same(words, (found.err, found.status, b"exit statuses:" in found.out), (b"", 0, True))
     closed(tally)
@@ -146,9 +186,10 @@ def closed(tally: Tally) -> None:
     os.chmod("set/a/b", 0)
     os.chmod("set/s.ss", 0)
     no = ": 31 Read (Permission denied)\n"
-    lines = f"set/a/b{no}set/a/flow.min: accepted min\nset/s.ss{no}"
+    lines = f"set/a/b{no}set/a/flow.min: accepted min\nset/a/x.GR: accepted sp\nset/s.ss{no}"
     found = module("check", "set/a", "set/s.ss", preexec_fn=give_up_rights)
-    wants(tally, "without permission", found, lines, "1 accepted, 0 refused, 2 failed\n", 4)
+    count = "2 accepted, 0 refused, 2 failed, 1 other file\n"
+    wants(tally, "without permission", found, lines, again(lines) + count, 4)
     os.chmod("set/a/b", 0o755)
 
 
@@ -202,7 +243,7 @@ def odd_names(tally: Tally, _: str) -> None:
         "odd names in groups",
         found,
         "\n".join(pairs),
-        count,
+        count.replace("\n", ", 4 groups\n"),
         0,
     )
 
@@ -211,7 +252,7 @@ def reports(tally: Tally, _: str) -> None:
     """Tests the lines of JSON, and the report in the XML of JUnit."""
     make_set()
     found = module("check", "--json", "--junit", "report", "set", "missing")
-    tally.same("--json", (found.err, found.status), (b"10 accepted, 2 refused, 1 failed\n", 4))
+    tally.same("--json", (found.err, found.status), (b"11 accepted, 2 refused, 1 failed, 4 other files\n", 4))
     records = [json.loads(it) for it in found.out.splitlines()]
     names = sorted(["missing", *SET])
     tally.same("names in JSON", [it["name"] for it in records], names)
@@ -220,19 +261,27 @@ def reports(tally: Tally, _: str) -> None:
     tally.same("an accepted file in JSON", of["set/a-b.gr"], wanted)
     wanted = {"name": "set/bad.max", "status": "refused", "error": "set/bad.max:end: 19 MissingTerminal", "line": None}
     wanted |= {"number": 19, "word": "MissingTerminal", "sentence": "A max file has no source or no sink."}
+    wanted |= {"text": None, "hint": None}
     tally.same("a refused file in JSON", of["set/bad.max"], wanted)
-    tally.same("the line of a fault in JSON", of["set/v.co"]["line"], 2)
+    tally.same("the line of a fault in JSON", (of["set/v.co"]["line"], of["set/v.co"]["text"]), (2, "s 1"))
     wanted = {"name": "missing", "status": "failed", "error": MISSING[:-1]}
     tally.same("a missing file in JSON", of["missing"], wanted)
     suite = ElementTree.parse("report").find("testsuite")
     assert suite is not None
-    tally.same("JUnit", suite.attrib, {"name": "dnorm", "tests": "13", "failures": "2", "errors": "1"})
+    times = [float(it.attrib.pop("time")) for it in [*suite, suite]]
+    tally.holds(f"times in XML: {times}", all(it > 0 for it in times[1:]) and abs(sum(times[:-1]) - times[-1]) < 0.01)
+    tally.same("JUnit", suite.attrib, {"name": "dnorm", "tests": "14", "failures": "2", "errors": "1"})
     cases = {it.get("name"): [(one.tag, one.attrib, one.text) for one in it] for it in suite}
     bad = {"type": "MissingTerminal", "message": "set/bad.max:end: 19 MissingTerminal"}
     tally.same(
         "a refused file in XML", cases["set/bad.max"], [("failure", bad, "A max file has no source or no sink.")]
     )
     lost = {"type": "Read", "message": MISSING[:-1]}
+    tally.same(
+        "a refused line in XML",
+        cases["set/v.co"][0][2],
+        "A file of this kind has no line with this letter.\n" "line 2: s 1",
+    )
     tally.same("other files in XML", (cases["missing"], cases["set/a-b.gr"]), ([("error", lost, None)], []))
     for name, reason in {"/dev/full": "No space left on device", "no/x": "No such file or directory"}.items():
         found = module("check", "--junit", name, "set/a")
@@ -266,11 +315,18 @@ def manifests(tally: Tally, tested: str) -> None:
     for form, head in [("1", ""), ("2", "# form 2\n")]:
         lines = head + "".join(f"{sum_of(tested, text, form)}  {name}\n" for name, text in accepted.items())
         found = module("manifest", "--form", form, "set")
-        wants(tally, f"a manifest of form {form}", found, lines, f"{refused}10 listed, 2 refused, 0 failed\n", 2)
+        wants(
+            tally,
+            f"a manifest of form {form}",
+            found,
+            lines,
+            f"{refused}11 listed, 2 refused, 0 failed, 4 other files\n",
+            2,
+        )
         write("list", lines)
         same = "".join(f"{name}: same\n" for name in accepted)
         found = module("manifest", "--verify", "list")
-        wants(tally, f"form {form} verified", found, same, "10 the same, 0 different, 0 refused, 0 failed\n", 0)
+        wants(tally, f"form {form} verified", found, same, "11 the same, 0 different, 0 refused, 0 failed\n", 0)
     changes = [("set/flow.min", FLOWS, ": differs", 1), ("set/s.ss", b"p\n", ":1: 4 UnknownProblem", 2)]
     changes.append(("set/roads.gr.gz", b"", ": 31 Read (the compressed data end too early)", 4))
     for name, text, what, status in changes:
@@ -278,7 +334,7 @@ def manifests(tally: Tally, tested: str) -> None:
         same = same.replace(f"{name}: same\n", f"{name}{what}\n")
         found = module("manifest", "--verify", "list")
         tally.same(f"a manifest with another {name}", (found.out.decode(), found.status), (same, status))
-    tally.same("its counts", found.err, b"7 the same, 1 different, 1 refused, 1 failed\n")
+    tally.same("its counts", found.err, b"8 the same, 1 different, 1 refused, 1 failed\n")
     for other, reason in NO_MANIFESTS.items():
         write("other", other.replace("H", "0" * 64))
         wanted = f"other: 31 Read ({reason.replace('H', '0' * 64)})\n"
@@ -294,11 +350,26 @@ def groups(tally: Tally, _: str) -> None:
     make_set()
     write("set/again.max", b"p max 2 0\nn 2 t\nn 1 s\n")
     write("set/max.max", b"c\np max 2 1\nn 1 s\nn 2 t\na 1 2 0\n")
-    roads = ["set/a-b.gr", "set/a/b/roads.sp", "set/roads.gr", "set/roads.gr.bz2", "set/roads.gr.gz", "set/roads.gr.xz"]
+    roads = [
+        "set/a-b.gr",
+        "set/a/b/roads.sp",
+        "set/a/x.GR",
+        "set/roads.gr",
+        "set/roads.gr.bz2",
+        "set/roads.gr.gz",
+        "set/roads.gr.xz",
+    ]
     wanted = [roads, ["set/a/flow.min", "set/flow.min"], ["set/again.max", "set/max.max"]]
     lines = "\n".join("".join(f"{it}\n" for it in group) for group in wanted)
     refused = "set/bad.max:end: 19 MissingTerminal\nset/v.co:2: 5 WrongLine\n"
-    wants(tally, "same", module("same", "set"), lines, f"{refused}12 accepted, 2 refused, 0 failed\n", 2)
+    wants(
+        tally,
+        "same",
+        module("same", "set"),
+        lines,
+        f"{refused}13 accepted, 2 refused, 0 failed, 3 groups, 4 other files\n",
+        2,
+    )
     wants(tally, "no groups", module("same", "set/s.ss"), "", "1 accepted, 0 refused, 0 failed\n", 0)
     wants(tally, "no file", module("same", "missing"), "", f"{MISSING}0 accepted, 0 refused, 1 failed\n", 4)
 
@@ -311,7 +382,10 @@ def many(tally: Tally, _: str) -> None:
     for at, name in enumerate(names):
         write(name, f"p sp 9 2\na 1 {at % 9 + 1} {at}\na 1 2 {'x' if name in bad else 3}\n")
     lines = "".join(f"{it}:3: 9 NotANumber\n" if it in bad else f"{it}: accepted sp\n" for it in names)
-    wants(tally, "2,000 files", module("check", "many"), lines, "1980 accepted, 20 refused, 0 failed\n", 2)
+    told = [it for it in lines.splitlines() if "accepted" not in it]
+    causes = ["    line 3: a 1 2 x\n" for _ in told]
+    end = "".join(f"{it}\n{cause}" for it, cause in zip(told, causes))
+    wants(tally, "2,000 files", module("check", "many"), lines, f"{end}1980 accepted, 20 refused, 0 failed\n", 2)
 
 
 def progress(tally: Tally, _: str) -> None:
@@ -420,7 +494,7 @@ def outputs(tally: Tally, tested: str) -> None:
         process = started(*words.split(), stdout=writing, stderr=subprocess.PIPE)
         os.close(writing)
         err = process.communicate(timeout=LIMIT)[1]
-        tally.same(f"{words}, unread", (err, process.returncode), (b"out: 33 Write (Broken pipe)\n", 4))
+        tally.same(f"{words}, unread", (err, process.returncode), (b"", -signal.SIGPIPE))
         right = module(*words.split())
         for to in ["2>&-", "2> /dev/full", "<&-", "<&- 2>&-"]:
             found = by_shell(f"dnorm {words} {to}")
@@ -429,7 +503,9 @@ def outputs(tally: Tally, tested: str) -> None:
     warned = run(
         [sys.executable, "-X", "dev", "-W", "error", *MODULE[1:], "check", "set/a"], env={**os.environ, **ENVIRONMENT}
     )
-    tally.same("with all warnings", (warned.err, warned.status), (b"2 accepted, 0 refused, 0 failed\n", 0))
+    tally.same(
+        "with all warnings", (warned.err, warned.status), (b"3 accepted, 0 refused, 0 failed, 1 other file\n", 0)
+    )
 
 
 def programs(tally: Tally, _: str) -> None:
@@ -453,7 +529,8 @@ def programs(tally: Tally, _: str) -> None:
     lines = "1.gr: accepted sp\n2.gr: dnorm was ended by signal 9 (SIGKILL)\n3.gr: 30 Memory\n"
     lines += "4.gr: dnorm did not answer as it should (its status was 0, and it printed 'Odd\\n')\n"
     found = module("check", "--program", program, *texts)
-    wants(tally, "programs that fail", found, lines, "1 accepted, 0 refused, 3 failed\n", 4)
+    count = "1 accepted, 0 refused, 3 failed\n"
+    wants(tally, "programs that fail", found, lines, again(lines) + count, 4)
 
 
 TESTS = [checks, odd_names, reports, manifests, groups, many, progress, together, signals, outputs, programs]

@@ -6,23 +6,26 @@
     >>> dnorm.compare("flow.min", "flow-cheaper.min")
     Difference(what='cost', left=4, right=3, node=None, pair=(1, 2), amount=5, place=None)
 
-`check`, `canon`, `canon_to`, `checksum`, `compare`, `show` and `read` each run the program once. They take a file as a
-path, as bytes, or as a binary stream, which they read from where it is to its end, and do not close. A path that ends
-in `.gz`, `.bz2` or `.xz` is decompressed while the program reads it. The keyword `program` says where the program is:
-by default `$DNORM` or, if that is not set, the first `dnorm` on `PATH`.
+`check`, `canon`, `canon_to`, `checksum`, `compare`, `show` and `read` each run the program once, and `differences`
+several times. They take a file as a path, as bytes, or as a binary stream, which they read from where it is to its end,
+and do not close. A path that ends in `.gz`, `.bz2` or `.xz` is decompressed while the program reads it, also one that
+ends in `.zst` if Python or the module `zstandard` can; `.Z`, `.lz4`, `.zip`, `.br` and `.7z` are errors. The keyword
+`program` says where the program is: by default `$DNORM` or, if that is not set, the first `dnorm` on `PATH`. With the
+keyword `timeout`, a call that takes more seconds raises `TimedOut`.
 
 A text that the program refuses raises `Refused`, and any other failure another `DnormError`. If reading a text fails,
 or a compressed file is corrupt, no call returns an answer for it.
 
-`python3 -m dnorm` checks folders, and makes and verifies checksums of their files."""
+`python3 -m dnorm` checks and lists folders, makes and verifies checksums of their files, and explains refusals."""
 
 from .answers import CapacityPair, Checked, CostPair, Difference, LengthPair, Same, Shown
 from .calls import canon, canon_to, check, checksum, compare, show
-from .errors import DnormError, Endless, Killed, Memory, NoProgram, Read, Refused, Unexpected, Write
+from .errors import DnormError, Endless, Killed, Memory, NoProgram, Read, Refused, TimedOut, Unexpected, Write
 from .files import File, Readable, Target, Writable
 from .instances import Column, Co, Graph, Instance, Max, Min, P2p, Sp, Ss, read
 from .program import find_program, version
 from .refusals import REFUSALS
+from .summary import Differences, PairDifference, differences
 
 # The version of the program that this package belongs to, as Python packages spell it.
 __version__ = "1.2.0-dev"
@@ -35,6 +38,7 @@ __all__ = [
     "Column",
     "CostPair",
     "Difference",
+    "Differences",
     "DnormError",
     "Endless",
     "File",
@@ -47,6 +51,7 @@ __all__ = [
     "Min",
     "NoProgram",
     "P2p",
+    "PairDifference",
     "Read",
     "Readable",
     "Refused",
@@ -55,6 +60,7 @@ __all__ = [
     "Sp",
     "Ss",
     "Target",
+    "TimedOut",
     "Unexpected",
     "Writable",
     "Write",
@@ -63,6 +69,7 @@ __all__ = [
     "check",
     "checksum",
     "compare",
+    "differences",
     "find_program",
     "read",
     "show",

@@ -7,27 +7,38 @@ import os
 import signal
 import sys
 import traceback
-from collections.abc import Sequence
+from collections.abc import Callable, Sequence
 from typing import Any, NoReturn
 
 from . import __version__
-from .commands import FAILED, USAGE, Run
-from .errors import DnormError, Write
+from .commands import FAILED, REFUSED, USAGE, Run
+from .errors import DnormError, Read, Refused, Write
+from .explain import explained
+from .files import failing
 from .folders import ENDINGS
 from .program import version
-from .reports import Console
+from .reports import Console, Stopped, cause_of, line_of
 
 ABOUT = "Runs the program dnorm on many files at the same time."
 STATUSES = """\
 exit statuses:
   0  success
-  1  manifest --verify: a checksum differs
+  1  manifest --verify: a checksum differs, a file is gone or is not listed; compare: the files differ
   2  a file is refused
   3  the command line is refused
   4  a file cannot be read, a folder has no such file, or dnorm cannot be run
 The greatest one that applies counts.
 """
+EACH = "by default one for each processor"
 SIGNALS = (signal.SIGINT, signal.SIGTERM, signal.SIGHUP)
+TASKS = {
+    "check": "Checks files, and prints a line for each: NAME: accepted KIND, or the refusal.",
+    "manifest": "Prints the checksum of the canonical text of each file, or verifies such checksums.",
+    "same": "Prints the names of files that pose the same problem, in groups.",
+    "list": "Prints what each file contains: sizes, ranges and sums of its numbers, and its checksum.",
+    "compare": "Prints the first difference between two files, how many pairs differ, and the first of these.",
+    "explain": "Prints what dnorm prints, and below each refusal what shows its cause.",
+}
 
 
 class Parser(argparse.ArgumentParser):
@@ -38,65 +49,138 @@ class Parser(argparse.ArgumentParser):
         self.exit(USAGE, f"{self.prog}: {message}\n")
 
 
-class Stopped(BaseException):
-    """A signal ends the run."""
-
-    def __init__(self, number: int) -> None:
-        super().__init__(number)
-        self.number = number
-
-
 def parser() -> Parser:
     """Returns the parser of the command line."""
     layout: dict[str, Any] = {"formatter_class": argparse.RawDescriptionHelpFormatter, "epilog": STATUSES}
     top = Parser(prog="python3 -m dnorm", description=ABOUT, allow_abbrev=False, **layout)
-    top.add_argument("--version", action="version", version=f"dnorm for Python {__version__}")
+    top.add_argument("-V", "--version", action="version", version=f"dnorm for Python {__version__}")
     tasks = top.add_subparsers(dest="task", required=True, metavar="COMMAND")
-    for task, about in [
-        ("check", "Checks files, and prints a line for each: NAME: accepted KIND, or the refusal."),
-        ("manifest", "Prints the checksum of the canonical text of each file, or verifies such checksums."),
-        ("same", "Prints the names of files that pose the same problem, in groups."),
-    ]:
+    for task, about in TASKS.items():
         one = tasks.add_parser(task, help=about, description=about, allow_abbrev=False, **layout)
         one.set_defaults(parser=one)
-        add_options(one, task)
+        if task == "compare":
+            add_comparison(one)
+            add_runs(one)
+        elif task != "explain":
+            add_files(one, task)
+            add_outputs(one, task)
+            one.add_argument("-j", "--jobs", type=int, metavar="N", help=f"files at the same time, {EACH}")
+            add_runs(one)
     return top
 
 
-def add_options(one: argparse.ArgumentParser, task: str) -> None:
-    """Adds the arguments of a command."""
+def add_files(one: argparse.ArgumentParser, task: str) -> None:
+    """Adds the arguments that say which files a command reads."""
     add = one.add_argument
-    about = "a file, or a folder whose files are found by the ends of their names"
-    add("path", nargs="*" if task == "manifest" else "+", metavar="PATH", help=about)
-    if task == "check":
-        add("--json", action="store_true", help="print a JSON object for each file instead")
-        add("--junit", metavar="FILE", help="also write a report for CI services into FILE")
-    if task == "manifest":
-        add("--verify", metavar="FILE", help="verify the checksums in FILE instead")
-        add("--form", type=int, choices=(1, 2), help="the canonical form, 1 by default")
-        add("--output", metavar="FILE", help="write into FILE, once everything is known")
+    about = "a file; a folder, whose files are found by the ends of their names; - for names on standard input, by line"
+    add("path", nargs="*", metavar="PATH", help=about)
+    add("--files0-from", metavar="FILE", help="also the names in FILE, or with - on standard input, each ended by NUL")
     about = f"search folders for names with this ending; repeatable; by default {' '.join(ENDINGS)}"
-    add("--ending", action="append", metavar="END", help=f"{about}; .gz, .bz2 or .xz may follow each")
-    add("--jobs", type=int, metavar="N", help="files at the same time, by default one for each processor")
-    add("--program", metavar="PROGRAM", help="the program, by default $DNORM, or dnorm on PATH")
+    add("--ending", action="append", metavar="END", help=f"{about}; that of a compression may follow each")
+    about = "leave out what folders have by this name or path, where * stands for any characters; repeatable"
+    add("--exclude", action="append", default=[], metavar="PATTERN", help=about)
+    add("--strict", action="store_true", help="the other files of folders are failures")
+    if task == "check":
+        add("--companions", action="store_true", help="check that NAME.ss, NAME.p2p and NAME.co fit NAME.gr")
 
 
-def parsed(words: Sequence[str] | None) -> argparse.Namespace:
+def add_outputs(one: argparse.ArgumentParser, task: str) -> None:
+    """Adds the arguments that say what a command prints."""
+    add = one.add_argument
+    if task in ("check", "manifest"):
+        add("-q", "--quiet", action="store_true", help="print no line for files without a fault")
+    add("--json", action="store_true", help="print JSON objects, one on a line, instead")
+    if task == "check":
+        about = "the lines for each file: as text, as JSON objects, or as annotations of GitHub"
+        add("--output-format", dest="format", choices=("text", "json", "github"), help=about)
+        add("--junit", metavar="FILE", help="also write a report for CI services into FILE")
+    if task == "list":
+        add("--csv", action="store_true", help="print a CSV table instead")
+    if task in ("manifest", "list"):
+        add("--form", type=int, choices=(1, 2), help="the canonical form, 1 by default")
+    if task == "manifest":
+        about = "verify the checksums in FILE instead, and name files of the paths that FILE does not list"
+        add("--verify", metavar="FILE", help=about)
+        add("--output", metavar="FILE", help="write into FILE, once everything is known")
+
+
+def add_comparison(one: argparse.ArgumentParser) -> None:
+    """Adds the arguments of `compare`."""
+    one.add_argument("left", metavar="LEFT", help="a file")
+    one.add_argument("right", metavar="RIGHT", help="another file")
+    one.add_argument("--limit", type=int, default=3, metavar="N", help="print so many differing pairs, by default 3")
+
+
+def add_runs(one: argparse.ArgumentParser) -> None:
+    """Adds the arguments that say how the program is run."""
+    one.add_argument("--timeout", type=float, metavar="SECONDS", help="a file that takes longer is a failure")
+    one.add_argument("--program", metavar="PROGRAM", help="the program, by default $DNORM, or dnorm on PATH")
+
+
+def parsed(words: Sequence[str]) -> argparse.Namespace:
     """Returns the arguments."""
-    found = parser().parse_args(words)
+    found, others = parser().parse_known_args(words)
     error = found.parser.error
+    if others:
+        error(f"unrecognized arguments: {' '.join(others)}")
+    if found.timeout is not None and found.timeout <= 0:
+        error("--timeout is above 0")
+    if "path" in found:
+        check_files(found, error)
+    elif found.limit < 0:
+        error("--limit is at least 0")
+    return found
+
+
+def check_files(found: argparse.Namespace, error: Callable[[str], NoReturn]) -> None:
+    """Completes the arguments of a command on many files."""
     if found.jobs is not None and found.jobs < 1:
         error("--jobs is at least 1")
+    if "-" in found.path and found.files0_from == "-":
+        error("standard input is named twice")
+    has_paths = bool(found.path) or found.files0_from is not None
+    if not has_paths and getattr(found, "verify", None) is None:
+        error("at least one path is required")
+    if found.task == "check":
+        if found.json and found.format not in (None, "json"):
+            error("--json goes without another --output-format")
+        found.format = "json" if found.json else found.format or "text"
     if found.task == "manifest":
-        if (found.verify is None) != bool(found.path):
-            error("either paths or --verify is required")
         if found.verify is not None and (found.form or found.output is not None):
             error("--verify goes without --form and --output")
-        found.form = found.form or 1
+        if found.verify is None and found.quiet:
+            error("--quiet goes with --verify")
         found.task = "manifest" if found.verify is None else "verify"
-    found.jobs = found.jobs or len(os.sched_getaffinity(0))
+    if found.task == "list" and found.json and found.csv:
+        error("--json goes without --csv")
+    found.form = getattr(found, "form", None) or 1
+    found.jobs = found.jobs or processors()
     found.ending = found.ending or ENDINGS
-    return found
+
+
+def processors() -> int:
+    """Returns the number of processors that this process may use."""
+    allowed = getattr(os, "sched_getaffinity", None)
+    return len(allowed(0)) if allowed else os.cpu_count() or 1
+
+
+def named(found: argparse.Namespace) -> list[str]:
+    """Returns the paths of the command line, and those that standard input or a file name. Raises Read if that names
+    none."""
+    paths = [it for it in found.path if it != "-"]
+    ends = {"-": b"\n"} if "-" in found.path else {}
+    if found.files0_from is not None:
+        ends[found.files0_from] = b"\0"
+    for source, end in ends.items():
+        with failing(Read, source):
+            with open(0 if source == "-" else source, "rb", closefd=source != "-") as file:
+                names = file.read().split(end)
+        if not names[-1]:
+            names.pop()
+        if not names:
+            raise Read(source, "it names no file")
+        paths += map(os.fsdecode, names)
+    return paths
 
 
 def stop(number: int, _: object) -> NoReturn:
@@ -121,6 +205,10 @@ def has_output() -> bool:
 
 def main(words: Sequence[str] | None = None) -> int:
     """Runs a command, and returns the exit status."""
+    words = sys.argv[1:] if words is None else words
+    # All words after `explain` are those of the program.
+    if words[:1] == ["explain"]:
+        return explained(words[1:])
     is_open = has_output()
     found = parsed(words)
     console = Console()
@@ -132,6 +220,8 @@ def main(words: Sequence[str] | None = None) -> int:
         if not is_open:
             raise Write("out")
         version(found.program)
+        if "path" in found:
+            found.path = named(found)
         run = Run(found, console)
         getattr(run, found.task)()
         return run.status
@@ -141,8 +231,8 @@ def main(words: Sequence[str] | None = None) -> int:
         os.kill(os.getpid(), stopped.number)
         return FAILED
     except DnormError as error:
-        console.complain(f"{error}\n")
-        return FAILED
+        console.complain(line_of(error.name, error) + "".join(f"    {it}\n" for it in cause_of(error)))
+        return REFUSED if isinstance(error, Refused) else FAILED
     except Exception:
         console.complain(traceback.format_exc())
         return FAILED

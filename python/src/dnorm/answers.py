@@ -81,7 +81,7 @@ Pair = Union[LengthPair, CapacityPair, CostPair]
 PAIR_TYPES: dict[str, type[Pair]] = {"min": CostPair, "max": CapacityPair, "sp": LengthPair}
 
 
-@dataclass(frozen=True)
+@dataclass(frozen=True, repr=False)
 class Shown:
     """What a text contains.
 
@@ -96,6 +96,13 @@ class Shown:
     source: int | None = None
     sink: int | None = None
     pairs: tuple[Pair, ...] = ()
+
+    def __repr__(self) -> str:
+        values = {name: value for name, value in vars(self).items() if value is not None and name != "pairs"}
+        found = [f"{name}={value!r}" for name, value in values.items()]
+        if self.nodes is not None:
+            found.append(f"{len(self.pairs)} pairs")
+        return f"<dnorm.Shown: {', '.join(found)}>"
 
 
 @dataclass(frozen=True)

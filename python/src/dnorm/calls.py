@@ -13,7 +13,9 @@ from .program import Program, run, unexpected
 Answer = TypeVar("Answer")
 
 
-def check(file: File, companion: File | None = None, *, program: Program = None) -> Checked:
+def check(
+    file: File, companion: File | None = None, *, program: Program = None, timeout: float | None = None
+) -> Checked:
     """Checks a text, and with a companion that the companion fits.
 
     Returns the kind of the text, the kind of the companion, and the forms in which the text is canonical. Raises
@@ -22,63 +24,70 @@ def check(file: File, companion: File | None = None, *, program: Program = None)
     def words(name: str, *others: str) -> Sequence[str]:
         return ["check", name, *(["--with", *others] if others else [])]
 
-    found = answer(checked, words, [file] if companion is None else [file, companion], program)
+    found = answer(checked, words, [file] if companion is None else [file, companion], program, timeout)
     if bool(found.fits) != (companion is not None):
         raise unexpected(name_of(file), 0, str(found))
     return found
 
 
-def canon(file: File, form: int = 1, *, program: Program = None) -> bytes:
+def canon(file: File, form: int = 1, *, program: Program = None, timeout: float | None = None) -> bytes:
     """Returns the canonical text of a text. `form` is 1 or 2, and matters only for `min`."""
     parts: list[bytes] = []
-    canon_into(Sink("out", parts.append), file, form, program)
+    canon_into(Sink("out", parts.append), file, form, program, timeout)
     return b"".join(parts)
 
 
-def canon_to(file: File, target: Target, form: int = 1, *, program: Program = None) -> None:
+def canon_to(
+    file: File, target: Target, form: int = 1, *, program: Program = None, timeout: float | None = None
+) -> None:
     """Writes the canonical text of a text to a path or a binary stream, without keeping it in memory.
 
     A path gets a new file once all of it is written, and keeps what it had if anything is raised; it may be the path of
-    `file`. A path that ends in `.gz`, `.bz2` or `.xz` gets a compressed file. A stream, a device or a pipe has got a
-    prefix of the text if writing fails. Raises `Write` then."""
+    `file`. A path that ends in `.gz`, `.bz2`, `.xz` or `.zst` gets a compressed file. A stream, a device or a pipe has
+    got a prefix of the text if writing fails. Raises `Write` then, and for a path that ends as other compressed files
+    do."""
     with sink_of(target) as sink:
-        canon_into(sink, file, form, program)
+        canon_into(sink, file, form, program, timeout)
 
 
-def checksum(file: File, form: int = 1, *, program: Program = None) -> str:
+def checksum(file: File, form: int = 1, *, program: Program = None, timeout: float | None = None) -> str:
     """Returns the SHA-256 checksum of the canonical text, in hexadecimal digits. Texts that pose the same problem have
     the same checksum."""
     found = hashlib.sha256()
-    canon_into(Sink("out", found.update), file, form, program)
+    canon_into(Sink("out", found.update), file, form, program, timeout)
     return found.hexdigest()
 
 
-def canon_into(sink: Sink, file: File, form: int, program: Program) -> None:
+def canon_into(sink: Sink, file: File, form: int, program: Program, timeout: float | None = None) -> None:
     """Writes the canonical text of a text into a sink."""
     if form not in (1, 2):
         raise ValueError(f"form is 1 or 2, and not {form!r}")
-    status = run(lambda name: ["canon", "--form", str(int(form)), name], [file], sink, program)
+    status = run(lambda name: ["canon", "--form", str(int(form)), name], [file], sink, program, timeout)
     if status:
         raise unexpected(name_of(file), status, "")
 
 
-def compare(left: File, right: File, *, program: Program = None) -> Same | Difference:
+def compare(left: File, right: File, *, program: Program = None, timeout: float | None = None) -> Same | Difference:
     """Returns `Same` if both texts pose the same problem, or else their first `Difference`. As a condition, `Same` is
     true and a `Difference` is false."""
-    return answer(compared, lambda *names: ["compare", *names], [left, right], program)
+    return answer(compared, lambda *names: ["compare", *names], [left, right], program, timeout)
 
 
-def show(file: File, *, program: Program = None) -> Shown:
+def show(file: File, *, program: Program = None, timeout: float | None = None) -> Shown:
     """Returns what a text contains. `read` returns its arcs, too."""
-    return answer(shown, lambda name: ["show", name], [file], program)
+    return answer(shown, lambda name: ["show", name], [file], program, timeout)
 
 
 def answer(
-    read: Callable[[str], Answer], words: Callable[..., Sequence[str]], files: Sequence[File], program: Program
+    read: Callable[[str], Answer],
+    words: Callable[..., Sequence[str]],
+    files: Sequence[File],
+    program: Program,
+    timeout: float | None,
 ) -> Answer:
     """Returns what the lines say that the program prints for these files."""
     parts: list[bytes] = []
-    status = run(words, files, Sink("out", parts.append), program)
+    status = run(words, files, Sink("out", parts.append), program, timeout)
     out = b"".join(parts).decode("ascii", "backslashreplace")
     try:
         found = read(out)

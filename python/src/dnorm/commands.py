@@ -1,26 +1,31 @@
-"""The commands of `python3 -m dnorm`."""
+"""The commands of `python3 -m dnorm` on many files."""
 
 from __future__ import annotations
 
 import contextlib
-import json
+import errno
 import os
+import time
 from argparse import Namespace
+from collections import Counter
 from collections.abc import Callable, Sequence
 from typing import TypeVar
 
 from .calls import check, checksum
+from .companions import Fitting, Partners, check_companion, parts_of
 from .errors import DnormError, Read, Refused
 from .files import failing, sink_of
-from .folders import find, in_order, outcome
+from .folders import COMPANIONS, Found, find, in_order, in_order_of_names, outcome
+from .listing import Listed, listed, record_of_listed, row_of, table, text_of_listed
 from .manifests import Entry, entries_of, text_of
-from .reports import Console, Result, junit, line_of, line_with, record_of
+from .reports import Case, Console, Result, annotation_of, as_json, cause_of, junit, line_of, line_with, record_of
+from .summary import differences, lines_of_differences
 
 # The exit statuses besides 0. The greatest one that applies counts.
 DIFFERS, REFUSED, USAGE, FAILED = 1, 2, 3, 4
 
 Item = TypeVar("Item")
-Found = TypeVar("Found")
+Outcome = TypeVar("Outcome")
 
 
 class Run:
@@ -28,69 +33,135 @@ class Run:
 
     def __init__(self, words: Namespace, console: Console) -> None:
         self.words, self.console = words, console
-        self.status = self.done = self.refused = self.failed = 0
+        self.status = self.done = self.refused = self.failed = self.others = 0
 
     def check(self) -> None:
-        """Checks files, and prints a line for each."""
-        results: list[tuple[str, Result]] = []
+        """Checks files, and prints a line for each, and at the end the refusals with their causes."""
+        words = self.words
+        found = self.found()
+        partners = Partners(found.files if words.companions else ())
+        for name in [it for it in words.path if words.companions and it in found.files]:
+            found.files.update(dict.fromkeys(it for it in partners.companions_of(name) if it not in found.files))
+        cases: list[Case] = []
 
-        def take(name: str, result: Result) -> None:
-            self.count(result)
-            line = json.dumps(record_of(name, result)) + "\n" if self.words.json else line_of(name, result)
-            self.console.print(line)
-            if self.words.junit:
-                results.append((name, result))
+        def task(name: str) -> Result:
+            if words.companions and parts_of(name)[1] in COMPANIONS:
+                return check_companion(name, partners.graphs_of(name), words.program, words.timeout)
+            return check(name, program=words.program, timeout=words.timeout)
+
+        def take(case: Case) -> None:
+            self.count(case.result)
+            cases.append(case)
+            self.print_case(case)
 
         with contextlib.ExitStack() as stack:
-            report = stack.enter_context(sink_of(self.words.junit)) if self.words.junit else None
-            self.each_file(lambda name: check(name, program=self.words.program), take)
+            report = stack.enter_context(sink_of(words.junit)) if words.junit else None
+            self.each_file(found, task, lambda name, result, seconds: take(Case(name, result, seconds)))
             if report:
-                report.take(junit(results))
-        self.sum_up(f"{self.done} accepted")
+                report.take(junit(cases))
+        self.print_causes(cases)
+        alone = sum(isinstance(it.result, Fitting) and not it.result.graphs for it in cases)
+        self.sum_up(f"{self.done} accepted", counted(alone, "companion without a graph", "companions without a graph"))
+
+    def print_case(self, case: Case) -> None:
+        """Prints what the check of a file leads to."""
+        name, result, _ = case
+        if self.words.format == "json":
+            text = as_json(record_of(name, result))
+        elif self.words.format == "github":
+            text = annotation_of(name, result)
+        else:
+            text = line_of(name, result)
+        if isinstance(result, DnormError) or not self.words.quiet:
+            self.console.print(text)
+
+    def print_causes(self, cases: Sequence[Case]) -> None:
+        """Prints the refused and failed files again, with the causes, on standard error."""
+        if self.words.format != "text" or self.words.quiet:
+            return
+        for name, result, _ in cases:
+            causes = "".join(f"    {it}\n" for it in cause_of(result))
+            # A line that is the only one and has no cause would say the same once more.
+            if isinstance(result, DnormError) and (causes or len(cases) > 1):
+                self.console.complain(line_of(name, result) + causes)
 
     def manifest(self) -> None:
         """Prints the canonical checksum of each file."""
         entries: list[Entry] = []
-        form = self.words.form
+        words = self.words
 
-        def take(name: str, result: str | DnormError) -> None:
+        def take(name: str, result: str | DnormError, _: float) -> None:
             self.count(result)
-            if isinstance(result, DnormError):
+            if words.json:
+                self.console.print(as_json(self.record_of_entry(name, result)))
+            elif isinstance(result, DnormError):
                 self.console.complain(line_of(name, result))
-            else:
-                entries.append(Entry(name, result, form))
+            if not isinstance(result, DnormError):
+                entries.append(Entry(name, result, words.form))
 
         with contextlib.ExitStack() as stack:
-            target = stack.enter_context(sink_of(self.words.output)) if self.words.output else None
-            self.each_file(lambda name: checksum(name, form, program=self.words.program), take)
+            target = stack.enter_context(sink_of(words.output)) if words.output else None
+            self.each_file(self.found(), lambda name: self.checksum_of(name, words.form), take)
+            text = text_of(entries, words.form)
             if target:
-                target.take(os.fsencode(text_of(entries, form)))
-            else:
-                self.console.print(text_of(entries, form))
+                target.take(os.fsencode(text))
+            elif not words.json:
+                self.console.print(text)
         self.sum_up(f"{self.done} listed")
 
-    def verify(self) -> None:
-        """Compares the canonical checksums of a manifest with those of the files, and prints a line for each."""
-        entries = self.listed(self.words.verify)
-        differing = 0
+    def checksum_of(self, name: str, form: int = 1) -> str:
+        return checksum(name, form, program=self.words.program, timeout=self.words.timeout)
 
-        def take(entry: Entry, result: str | DnormError) -> None:
-            nonlocal differing
-            self.count(result)
+    def record_of_entry(self, name: str, result: str | DnormError) -> dict[str, object]:
+        """Returns the JSON object of a file of a manifest."""
+        if isinstance(result, DnormError):
+            return record_of(name, result)
+        return {"name": name, "status": "listed", "checksum": result, "form": self.words.form}
+
+    def verify(self) -> None:
+        """Compares the canonical checksums of a manifest with those of the files, and prints a line for each. Names
+        files that the paths name and the manifest does not."""
+        entries = self.listed(self.words.verify)
+        counts: Counter[str] = Counter()
+
+        def take(entry: Entry, result: str | DnormError, _: float) -> None:
             if isinstance(result, DnormError):
-                self.console.print(line_of(entry.name, result))
-                return
-            differing += result != entry.checksum
-            self.console.print(line_with(entry.name, after=": same" if result == entry.checksum else ": differs"))
+                is_gone = isinstance(result, Read) and not os.path.lexists(entry.name)
+                status = "gone" if is_gone else ""
+            else:
+                status = "same" if result == entry.checksum else "differs"
+            counts[status] += 1
+            if status != "gone":
+                self.count(result)
+            self.say(entry.name, status or result, {"checksum": entry.checksum, "form": entry.form})
 
         def task(entry: Entry) -> str | DnormError:
-            program = self.words.program
-            return outcome(lambda: checksum(entry.name, entry.form, program=program), entry.name)
+            return outcome(lambda: self.checksum_of(entry.name, entry.form), entry.name)
 
         self.each(task, entries, take)
-        if differing:
+        known = {os.path.abspath(it.name) for it in entries}
+        for name, error in self.found().files.items():
+            if not error and not os.path.lexists(name):
+                error = Read(name, os.strerror(errno.ENOENT))
+            if error:
+                self.count(error)
+                self.say(name, error, {})
+            elif os.path.abspath(name) not in known:
+                counts["not listed"] += 1
+                self.say(name, "not listed", {})
+        more = [f"{counts[it]} {it}" for it in ["gone", "not listed"] if counts[it]]
+        self.sum_up(f"{counts['same']} the same, {counts['differs']} different", *more)
+
+    def say(self, name: str, found: object, more: dict[str, object]) -> None:
+        """Prints what verifying a file leads to: the same, another difference, or an error."""
+        if found != "same" and not isinstance(found, DnormError):
             self.status = max(self.status, DIFFERS)
-        self.sum_up(f"{self.done - differing} the same, {differing} different")
+        if isinstance(found, DnormError):
+            self.console.print(as_json(record_of(name, found)) if self.words.json else line_of(name, found))
+        elif self.words.json:
+            self.console.print(as_json({"name": name, "status": found, **more}))
+        elif found != "same" or not self.words.quiet:
+            self.console.print(line_with(name, after=f": {found}"))
 
     def listed(self, name: str) -> list[Entry]:
         """Returns the entries of a manifest."""
@@ -102,45 +173,102 @@ class Run:
         return entries
 
     def same(self) -> None:
-        """Prints groups of files that pose the same problem."""
-        groups: dict[str, list[str]] = {}
+        """Prints groups of files that pose the same problem. A link to a file of a group is none of them."""
+        groups: dict[str, dict[tuple[int, int], str]] = {}
+        links = 0
 
-        def take(name: str, result: str | DnormError) -> None:
+        def take(name: str, result: tuple[str, tuple[int, int]] | DnormError, _: float) -> None:
+            nonlocal links
             self.count(result)
             if isinstance(result, DnormError):
                 self.console.complain(line_of(name, result))
+                return
+            group, file = groups.setdefault(result[0], {}), result[1]
+            links += file in group
+            # A file itself comes before its links.
+            if file not in group or os.path.islink(group[file]) and not os.path.islink(name):
+                group[file] = name
+
+        self.each_file(self.found(), lambda name: (self.checksum_of(name), identity(name)), take)
+        found = [(sum_, sorted(it.values(), key=os.fsencode)) for sum_, it in groups.items() if len(it) > 1]
+        if self.words.json:
+            self.console.print("".join(as_json({"checksum": sum_, "names": names}) for sum_, names in found))
+        else:
+            self.console.print("\n".join("".join(map(line_with, names)) for _, names in found))
+        self.sum_up(f"{self.done} accepted", counted(len(found), "group", "groups"), counted(links, "link", "links"))
+
+    def list(self) -> None:
+        """Prints what each file contains."""
+        words, rows = self.words, 0
+
+        def take(name: str, result: Listed | DnormError, _: float) -> None:
+            nonlocal rows
+            self.count(result)
+            if isinstance(result, Listed):
+                self.console.print(as_listed(result, words, not rows))
+                rows += 1
+            elif words.json:
+                self.console.print(as_json(record_of(name, result)))
             else:
-                groups.setdefault(result, []).append(name)
+                self.console.complain(line_of(name, result))
 
-        self.each_file(lambda name: checksum(name, program=self.words.program), take)
-        found = [it for it in groups.values() if len(it) > 1]
-        self.console.print("\n".join("".join(map(line_with, it)) for it in found))
-        self.sum_up(f"{self.done} accepted")
+        self.each_file(self.found(), lambda name: listed(name, words.form, words.program, words.timeout), take)
+        self.sum_up(f"{self.done} listed")
 
-    def each_file(self, task: Callable[[str], Found], take: Callable[[str, Found | DnormError], None]) -> None:
-        """Runs a task on each file that the paths of the command line name, and takes the results in their order."""
-        named = find(self.words.path, self.words.ending)
+    def compare(self) -> None:
+        """Prints the first difference between two files, how many pairs differ, and the arcs of the first ones."""
+        words = self.words
+        found = differences(words.left, words.right, words.limit, program=words.program, timeout=words.timeout)
+        self.console.print("".join(f"{it}\n" for it in lines_of_differences(found)))
+        if not found.first:
+            self.status = DIFFERS
 
-        def one(name: str) -> Found | DnormError:
-            error = named[name]
+    def found(self) -> Found:
+        """Returns the files that the paths of the command line name. If it is strict, the other files below them have
+        errors; otherwise they are counted."""
+        words = self.words
+        found = find(words.path, words.ending, words.exclude)
+        if words.strict:
+            errors = {name: Read(name, reason) for name, reason in found.others.items()}
+            return Found(in_order_of_names({**found.files, **errors}), {})
+        self.others += len(found.others)
+        return found
+
+    def each_file(
+        self,
+        found: Found,
+        task: Callable[[str], Outcome],
+        take: Callable[[str, Outcome | DnormError, float], None],
+    ) -> None:
+        """Runs a task on each file, and takes the results in the order of the names."""
+        files = in_order_of_names(found.files)
+
+        def one(name: str) -> Outcome | DnormError:
+            error = files[name]
             if error:
                 return error
             return outcome(lambda: task(name), name)
 
-        self.each(one, list(named), take)
+        self.each(one, list(files), take)
 
-    def each(self, task: Callable[[Item], Found], items: Sequence[Item], take: Callable[[Item, Found], None]) -> None:
-        """Runs a task on each item, and takes the results in their order."""
+    def each(
+        self,
+        task: Callable[[Item], Outcome],
+        items: Sequence[Item],
+        take: Callable[[Item, Outcome, float], None],
+    ) -> None:
+        """Runs a task on each item, and takes the results in their order, each with the seconds that it took."""
 
-        def counted(item: Item) -> Found:
+        def timed(item: Item) -> tuple[Outcome, float]:
+            start = time.monotonic()
             found = task(item)
             self.console.step()
-            return found
+            return found, time.monotonic() - start
 
         self.console.expect(len(items))
-        with contextlib.closing(in_order(counted, items, self.words.jobs)) as found:
-            for result, item in zip(found, items):
-                take(item, result)
+        with contextlib.closing(in_order(timed, items, self.words.jobs)) as found:
+            for (result, seconds), item in zip(found, items):
+                take(item, result, seconds)
 
     def count(self, result: object) -> None:
         """Counts the result of a file."""
@@ -153,6 +281,28 @@ class Run:
         else:
             self.done += 1
 
-    def sum_up(self, done: str) -> None:
+    def sum_up(self, done: str, *more: str) -> None:
         """Prints what was counted."""
-        self.console.complain(f"{done}, {self.refused} refused, {self.failed} failed\n")
+        others = counted(self.others, "other file", "other files")
+        parts = [done, f"{self.refused} refused", f"{self.failed} failed", *more, others]
+        self.console.complain(", ".join(it for it in parts if it) + "\n")
+
+
+def counted(count: int, one: str, many: str) -> str:
+    """Returns a number of things in words, or nothing if there are none."""
+    return f"{count} {one if count == 1 else many}" if count else ""
+
+
+def as_listed(it: Listed, words: Namespace, is_first: bool) -> str:
+    """Returns what `list` prints for a file."""
+    if words.json:
+        return as_json(record_of_listed(it))
+    if words.csv:
+        return table([row_of(it)], is_first)
+    return line_with(it.name, after=f": {it.kind}") + text_of_listed(it)
+
+
+def identity(name: str) -> tuple[int, int]:
+    """Returns the device and the number of a file, which links to it share."""
+    found = os.stat(name)
+    return found.st_dev, found.st_ino

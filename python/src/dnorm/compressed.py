@@ -1,9 +1,12 @@
-"""Compressed files, by the endings of their names."""
+"""Compressed files, by the endings of their names, in small letters or capitals."""
 
 from __future__ import annotations
 
+import contextlib
+import importlib
+import os
 from collections.abc import Callable, Iterator
-from typing import Any, BinaryIO, Protocol
+from typing import Any, BinaryIO, NoReturn, Protocol
 
 # The number of bytes that are read and written at a time.
 SIZE = 1 << 16
@@ -30,6 +33,13 @@ class Stream:
             return bytes(self._it.decompress(getattr(self._it, "unconsumed_tail", b"") + data, SIZE))
         except self._error as error:
             raise OSError(str(error)) from error
+
+
+class Reading(Protocol):
+    """A file that is read."""
+
+    def read(self, size: int, /) -> bytes:
+        """Returns at most so many bytes, and none at the end."""
 
 
 class Compressed(Protocol):
@@ -64,6 +74,47 @@ def unxz() -> Stream:
     return Stream(lzma.LZMADecompressor(lzma.FORMAT_XZ), lzma.LZMAError)
 
 
+class Zstandard:
+    """A decompressor of the module `zstandard` with the members that those of the standard library have."""
+
+    # The compressed bytes that are decompressed at a time: 256 bytes can have some 8 MB of text.
+    FEW = 256
+
+    def __init__(self, module: Any) -> None:
+        self._it = module.ZstdDecompressor().decompressobj()
+        self._ahead, self._rest = b"", b""
+
+    @property
+    def eof(self) -> bool:
+        return bool(self._it.eof) and not self._ahead
+
+    @property
+    def unused_data(self) -> bytes:
+        return bytes(self._it.unused_data) + self._rest
+
+    def decompress(self, data: bytes, size: int) -> bytes:
+        self._rest += data
+        while self._rest and not self._it.eof and len(self._ahead) < size:
+            self._ahead += self._it.decompress(self._rest[: self.FEW])
+            self._rest = self._rest[self.FEW :]
+        found, self._ahead = self._ahead[:size], self._ahead[size:]
+        return found
+
+
+# Why files of zstd are not read or written.
+NO_ZSTD = "zstd needs Python 3.14 or the module zstandard"
+
+
+def unzstd() -> Stream:
+    with contextlib.suppress(ImportError):
+        zstd = importlib.import_module("compression.zstd")
+        return Stream(zstd.ZstdDecompressor(), zstd.ZstdError)
+    with contextlib.suppress(ImportError):
+        zstandard = importlib.import_module("zstandard")
+        return Stream(Zstandard(zstandard), zstandard.ZstdError)
+    raise OSError(NO_ZSTD)
+
+
 def gzip_into(file: BinaryIO) -> Compressed:
     import gzip
 
@@ -83,12 +134,59 @@ def xz_into(file: BinaryIO) -> Compressed:
     return lzma.LZMAFile(file, "wb")
 
 
-# How the files of each ending are read and written.
-DECOMPRESSORS: dict[str, Callable[[], Stream]] = {".gz": gunzip, ".bz2": bunzip2, ".xz": unxz}
-COMPRESSORS: dict[str, Callable[[BinaryIO], Compressed]] = {".gz": gzip_into, ".bz2": bzip2_into, ".xz": xz_into}
+def zstd_into(file: BinaryIO) -> Compressed:
+    # The checksum lets a reader notice damage.
+    with contextlib.suppress(ImportError):
+        zstd = importlib.import_module("compression.zstd")
+        found: Compressed = zstd.ZstdFile(file, "wb", options={zstd.CompressionParameter.checksum_flag: 1})
+        return found
+    with contextlib.suppress(ImportError):
+        zstandard = importlib.import_module("zstandard")
+        found = zstandard.ZstdCompressor(write_checksum=True).stream_writer(file, closefd=False)
+        return found
+    raise OSError(NO_ZSTD)
 
 
-def pieces(file: BinaryIO, start: Callable[[], Stream]) -> Iterator[bytes]:
+def unknown(what: str) -> Callable[..., NoReturn]:
+    """Returns how files of this compression are read and written: not at all."""
+
+    def fail(*_: BinaryIO) -> NoReturn:
+        raise OSError(f"{what} is not supported")
+
+    return fail
+
+
+UNKNOWN = {
+    ".z": unknown("compress"),
+    ".lz4": unknown("lz4"),
+    ".zip": unknown("zip"),
+    ".br": unknown("brotli"),
+    ".7z": unknown("7-Zip"),
+}
+# How the files of each ending are read and written. Those of an ending that is unknown fail, so that no name of a
+# compressed file stands for a plain text.
+DECOMPRESSORS: dict[str, Callable[[], Stream]] = {
+    ".gz": gunzip,
+    ".bz2": bunzip2,
+    ".xz": unxz,
+    ".zst": unzstd,
+    **UNKNOWN,
+}
+COMPRESSORS: dict[str, Callable[[BinaryIO], Compressed]] = {
+    ".gz": gzip_into,
+    ".bz2": bzip2_into,
+    ".xz": xz_into,
+    ".zst": zstd_into,
+    **UNKNOWN,
+}
+
+
+def ending_of(name: str) -> str:
+    """Returns the ending of a name in small letters, as `.gz`."""
+    return os.path.splitext(name)[1].lower()
+
+
+def pieces(file: Reading, start: Callable[[], Stream]) -> Iterator[bytes]:
     """Yields what a compressed file decompresses to, piece by piece. The file has one stream or several, one after
     another. Raises EOFError if the last one is cut, and OSError if one is corrupt, or if other bytes than zeros follow
     it. The functions of the standard library ignore what follows a stream of bzip2 and xz, even a corrupt stream."""

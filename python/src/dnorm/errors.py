@@ -33,11 +33,23 @@ class Refused(DnormError):
 
     `line` counts from 1. It is None for a fault at the end of a text, and for the refusals 34 to 36. `number` and
     `word` are those of the refusal. For 35, `node` is the node that the companion names and the graph does not have.
-    The error prints as the line of the program, as `roads.gr:3: 13 NodeOutOfRange`."""
+    `text` is the line, up to 200 bytes of it, as `cat -vT` prints them, and `hint` says what in the text may be the
+    cause. Both are None where there is nothing to say, and for a stream, which cannot be read again. The error prints
+    as the line of the program, as `roads.gr:3: 13 NodeOutOfRange`."""
 
-    def __init__(self, name: str, line: int | None, number: int, word: str, node: int | None = None) -> None:
-        super().__init__(name, line, number, word, node)
+    def __init__(
+        self,
+        name: str,
+        line: int | None,
+        number: int,
+        word: str,
+        node: int | None = None,
+        text: str | None = None,
+        hint: str | None = None,
+    ) -> None:
+        super().__init__(name, line, number, word, node, text, hint)
         self.line, self.number, self.word, self.node = line, number, word, node
+        self.text, self.hint = text, hint
 
     @property
     def sentence(self) -> str:
@@ -73,6 +85,18 @@ class Killed(DnormError):
     def rest(self) -> str:
         names = {it.value: f" ({it.name})" for it in signal.Signals}
         return f": dnorm was ended by signal {self.signal}{names.get(self.signal, '')}"
+
+
+class TimedOut(DnormError):
+    """A call took longer than its `timeout`, in seconds."""
+
+    def __init__(self, name: str, timeout: float) -> None:
+        super().__init__(name, timeout)
+        self.timeout = timeout
+
+    @property
+    def rest(self) -> str:
+        return f": took more than {self.timeout:g} seconds"
 
 
 class Failed(DnormError):

@@ -11,8 +11,10 @@ import stat
 from collections.abc import Callable, Iterator
 from typing import BinaryIO, Protocol, Union
 
-from .compressed import COMPRESSORS, DECOMPRESSORS, SIZE, Compressed, pieces
-from .errors import DnormError, Read, Write
+from .causes import Cause, cause_of
+from .compressed import COMPRESSORS, DECOMPRESSORS, SIZE, Compressed, ending_of, pieces
+from .errors import DnormError, Read, Refused, Write
+from .limits import Limit, Timed
 
 # A line that no text has. It ends a text whose reading failed, so that the program refuses the text.
 BAD_LINE = b"\n?\n"
@@ -110,7 +112,22 @@ def failed(error: Read) -> Iterator[bytes]:
     yield
 
 
-def text_of(file: File, name: str, stack: contextlib.ExitStack) -> io.FileIO | Iterator[bytes]:
+def opened(path: str | os.PathLike[str] | os.PathLike[bytes], limit: Limit) -> io.FileIO:
+    """Opens a file within a limit."""
+    if limit.seconds is None:
+        return open(path, "rb", buffering=0)
+    # Opening a FIFO waits for its writer, which nothing could end.
+    file = open(path, "rb", buffering=0, opener=lambda it, flags: os.open(it, flags | os.O_NONBLOCK))
+    try:
+        Timed(file, limit).wait()
+        os.set_blocking(file.fileno(), True)
+    except BaseException:
+        file.close()
+        raise
+    return file
+
+
+def text_of(file: File, name: str, stack: contextlib.ExitStack, limit: Limit) -> io.FileIO | Iterator[bytes]:
     """Returns the file whose bytes are a text, or the pieces of the text."""
     if isinstance(file, (bytes, bytearray, memoryview)):
         return of_bytes(memoryview(file).cast("B"))
@@ -120,12 +137,12 @@ def text_of(file: File, name: str, stack: contextlib.ExitStack) -> io.FileIO | I
         return of_stream(file)
     try:
         with failing(Read, name):
-            opened = stack.enter_context(open(file, "rb", buffering=0))
+            found = stack.enter_context(opened(file, limit))
     except Read as error:
         # The program has to judge an earlier text first.
         return failed(error)
-    start = DECOMPRESSORS.get(os.path.splitext(name)[1])
-    return pieces(opened, start) if start else opened
+    start = DECOMPRESSORS.get(ending_of(name))
+    return pieces(Timed(found, limit), start) if start else found
 
 
 class Source:
@@ -133,13 +150,14 @@ class Source:
     text, or else the end of a pipe that `feed` writes to. `failure` is why reading the text failed, and `sure` is the
     number of its lines that were read whole before. The stack closes what is opened."""
 
-    def __init__(self, file: File, stack: contextlib.ExitStack) -> None:
-        self.name, self.sure = name_of(file), 0
+    def __init__(self, file: File, stack: contextlib.ExitStack, limit: Limit) -> None:
+        self.file, self.name, self.sure = file, name_of(file), 0
+        self._limit = limit
         self.failure: Read | None = None
         self._is_compressed = isinstance(file, (str, os.PathLike))
         self._into: BinaryIO | None = None
         self._pieces: Iterator[bytes] = iter(())
-        text = text_of(file, self.name, stack)
+        text = text_of(file, self.name, stack, limit)
         if isinstance(text, io.FileIO):
             end: BinaryIO = text
         else:
@@ -157,6 +175,7 @@ class Source:
             return
         try:
             while (piece := self._next()) is not None:
+                self._limit.left()
                 is_taken = takes(self._into, piece)
                 # Only the end of a compressed file tells whether its lines are right, so it is read to its end.
                 if not self._is_compressed:
@@ -167,6 +186,25 @@ class Source:
             self.failure = error
             takes(self._into, BAD_LINE)
         self._into.close()
+
+    def cause(self, error: Refused) -> Cause | None:
+        """Returns the cause of a refusal, if the text can be read again."""
+        if isinstance(self.file, (str, os.PathLike)):
+            if not os.path.isfile(self.file):
+                return None
+        elif hasattr(self.file, "read"):
+            return None
+        with contextlib.suppress(DnormError, OSError, EOFError):
+            name = None if self._into else self.name
+            return cause_of(self._again, name, error.line, error.number, error.node)
+        return None
+
+    @contextlib.contextmanager
+    def _again(self) -> Iterator[Iterator[bytes]]:
+        """Opens the text once more."""
+        with contextlib.ExitStack() as stack:
+            text = text_of(self.file, self.name, stack, self._limit)
+            yield of_stream(text) if isinstance(text, io.FileIO) else text
 
     def _next(self) -> bytes | None:
         """Returns the next piece, if there is one."""
@@ -192,7 +230,7 @@ def sink_of(target: Target) -> Iterator[Sink]:
         return
     # A device or a pipe cannot be replaced, so it is written itself.
     is_replaced = os.path.isfile(name) or not os.path.exists(name)
-    start = COMPRESSORS.get(os.path.splitext(name)[1])
+    start = COMPRESSORS.get(ending_of(name))
     with whole_file(name) if is_replaced else written_file(name, name) as file:
         if start:
             with failing(Write, name):

@@ -254,11 +254,11 @@ def column(numbers: array[int]) -> Column:
     return found
 
 
-def read(file: File, form: int = 1, *, program: Program = None) -> Instance:
+def read(file: File, form: int = 1, *, program: Program = None, timeout: float | None = None) -> Instance:
     """Returns the instance that a text poses, by its canonical text: an `Sp`, `Max`, `Min`, `Ss`, `P2p` or `Co`. `form`
     is 1 or 2, and matters only for `Min`."""
     reader = Reader(name_of(file))
-    canon_into(Sink("out", reader.take), file, form, program)
+    canon_into(Sink("out", reader.take), file, form, program, timeout)
     reader.end()
     columns = [column(it) for it in reader.columns]
     nodes, terminals = reader.nodes, reader.terminals

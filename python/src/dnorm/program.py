@@ -13,7 +13,8 @@ from typing import Any, Union
 
 from .compressed import SIZE
 from .errors import DnormError, Endless, Killed, Memory, NoProgram, Read, Refused, Unexpected, Write
-from .files import File, Sink, Source, reason_of
+from .files import File, Sink, Source, name_of, reason_of
+from .limits import Limit
 from .refusals import REFUSALS
 
 # The name or the path of the program, or None for $DNORM and PATH.
@@ -122,26 +123,46 @@ def verified(program: Program) -> str:
     return path
 
 
-def run(words: Callable[..., Sequence[str]], files: Sequence[File], sink: Sink, program: Program) -> int:
+def run(
+    words: Callable[..., Sequence[str]],
+    files: Sequence[File],
+    sink: Sink,
+    program: Program,
+    timeout: float | None = None,
+) -> int:
     """Runs the program on files, hands its standard output to the sink, and returns the status 0 or 1. `words` returns
-    the arguments, given the names of the files. Any other status, and a file whose reading fails, raise their error."""
+    the arguments, given the names of the files. Any other status, a file whose reading fails, and a run that takes
+    longer than `timeout` raise their error."""
     path = verified(program)
+    limit = Limit(timeout, name_of(files[0]))
     with contextlib.ExitStack() as stack:
-        sources = [Source(it, stack) for it in files]
+        sources = [Source(it, stack, limit) for it in files]
         # The program reads the first text from its standard input, and the others from further descriptors.
         names = ["-", *(f"/dev/fd/{it.fd}" for it in sources[1:])]
         streams = {"stdin": sources[0].end, "stdout": sink.file or subprocess.PIPE, "stderr": subprocess.PIPE}
         others = [it.fd for it in sources[1:]]
         process = stack.enter_context(children.running([path, *words(*names)], pass_fds=others, **streams))
-        err = talk(process, sources, sink)
-        status = status_of(process, sources[0].name)
+        with limit.over(process):
+            err = talk(process, sources, sink)
+            status = status_of(process, sources[0].name)
     error, source = failure_of(status, err, dict(zip(names, sources)), sink.name)
     failed = next((it for it in sources if it.failure), None)
     if failed and not is_earlier(error, source, failed):
         error = failed.failure
+    if isinstance(error, Refused) and source:
+        error = with_cause(error, source)
     if error:
         raise error
     return status
+
+
+def with_cause(error: Refused, source: Source) -> Refused:
+    """Returns a refusal with its cause, if that can be found."""
+    cause = source.cause(error)
+    if not cause:
+        return error
+    hint = "\n".join(cause.hints) or None
+    return Refused(error.name, error.line, error.number, error.word, error.node, cause.text, hint)
 
 
 def talk(process: subprocess.Popen[bytes], sources: Sequence[Source], sink: Sink) -> bytes:

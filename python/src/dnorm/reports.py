@@ -3,27 +3,48 @@
 from __future__ import annotations
 
 import contextlib
+import json
 import os
 import re
+import signal
 import threading
 import time
 from collections.abc import Sequence
-from typing import Union
+from typing import NamedTuple, Union
 from xml.etree import ElementTree
 
 from .answers import Checked
+from .companions import Fitting
 from .errors import DnormError, Refused, Write
 from .files import reason_of, write_all
 
-# What a check of a file leads to, with the name of the file.
+# What a check of a file leads to.
 Result = Union[Checked, DnormError]
-Results = Sequence["tuple[str, Result]"]
+
+
+class Case(NamedTuple):
+    """A file, what its check leads to, and how many seconds that took."""
+
+    name: str
+    result: Result
+    seconds: float
+
+
+class Stopped(BaseException):
+    """A signal ends the run."""
+
+    def __init__(self, number: int) -> None:
+        super().__init__(number)
+        self.number = number
+
 
 # The columns of a full progress bar, and the time between two drawings in seconds.
 BAR, PAUSE = 30, 0.1
 # Characters that XML cannot contain, and half characters, by which Python represents the bytes of names that are not
 # UTF-8.
 NO_XML = re.compile("[^\t\n\r\x20-\ud7ff\ue000-\ufffd\U00010000-\U0010ffff]")
+# What a message of GitHub and its properties cannot contain.
+NO_MESSAGE, NO_PROPERTY = re.compile("[%\r\n]"), re.compile("[%\r\n:,]")
 
 
 class Console:
@@ -33,7 +54,7 @@ class Console:
     def __init__(self) -> None:
         self._out = open(1, "wb", buffering=0, closefd=False)
         self._lock = threading.Lock()
-        self._is_terminal = os.isatty(2)
+        self._is_shown, self._is_terminal = os.isatty(1), os.isatty(2)
         self._done = self._total = 0
         self._drawn, self._at = "", 0.0
 
@@ -53,17 +74,20 @@ class Console:
                 self._complain(f"\r{self._drawn}")
 
     def print(self, text: str) -> None:
-        """Writes text to standard output. Raises Write if that fails."""
+        """Writes text to standard output. Raises Write if that fails, and Stopped if nothing reads it any more: then
+        the run ends as other programs do."""
         self.hide()
         try:
-            write_all(self._out, os.fsencode(text))
+            write_all(self._out, os.fsencode(for_terminal(text) if self._is_shown else text))
+        except BrokenPipeError as error:
+            raise Stopped(signal.SIGPIPE) from error
         except OSError as error:
             raise Write("out", reason_of(error)) from error
 
     def complain(self, text: str) -> None:
         """Writes text to standard error. It does not matter if that fails."""
         self.hide()
-        self._complain(text)
+        self._complain(for_terminal(text) if self._is_terminal else text)
 
     def hide(self) -> None:
         """Removes the progress bar until it is drawn again."""
@@ -77,11 +101,11 @@ class Console:
             os.write(2, os.fsencode(text))
 
 
-def line_with(name: str, before: str = "", after: str = "") -> str:
-    """Returns a line with the name of a file. As in a line of sha256sum, a backslash, LF or CR in the name is written
-    as two characters, and a backslash begins the line then."""
-    plain = name.replace("\\", r"\\").replace("\n", r"\n").replace("\r", r"\r")
-    return ("\\" if plain != name else "") + before + plain + after + "\n"
+def line_with(name: str, before: str = "", after: str = "", graphs: str = "") -> str:
+    """Returns a line with the name of a file, and at its end with those of graphs. As in a line of sha256sum, a
+    backslash, LF or CR in a name is written as two characters, and a backslash begins the line then."""
+    plain, others = (it.replace("\\", r"\\").replace("\n", r"\n").replace("\r", r"\r") for it in (name, graphs))
+    return ("\\" if (plain, others) != (name, graphs) else "") + before + plain + after + others + "\n"
 
 
 def name_in(mark: str, plain: str) -> str | None:
@@ -102,39 +126,92 @@ def told(name: str, error: DnormError) -> str:
 
 def line_of(name: str, result: Result) -> str:
     """Returns the line of a file."""
-    return line_with(name, after=told(name, result) if isinstance(result, DnormError) else f": accepted {result.kind}")
+    if isinstance(result, DnormError):
+        return line_with(name, after=told(name, result))
+    graphs = ", ".join(result.graphs) if isinstance(result, Fitting) else ""
+    return line_with(name, after=f": accepted {result.kind}", graphs=f", fits {graphs}" if graphs else "")
+
+
+def cause_of(result: Result) -> list[str]:
+    """Returns the lines that show the cause of a refusal."""
+    if not isinstance(result, Refused):
+        return []
+    lines = [f"line {result.line}: {result.text}"] if result.text is not None else []
+    return lines + (result.hint.splitlines() if result.hint else [])
 
 
 def record_of(name: str, result: Result) -> dict[str, object]:
     """Returns the JSON object of a file."""
     if isinstance(result, Checked):
-        return {"name": name, "status": "accepted", "kind": result.kind, "forms": result.forms}
-    found: dict[str, object] = {"name": name, "status": "failed", "error": f"{name}{told(name, result)}"}
+        found: dict[str, object] = {"name": name, "status": "accepted", "kind": result.kind, "forms": result.forms}
+        return {**found, "graphs": result.graphs} if isinstance(result, Fitting) else found
+    found = {"name": name, "status": "failed", "error": f"{name}{told(name, result)}"}
     if isinstance(result, Refused):
         found["status"] = "refused"
         found.update(line=result.line, number=result.number, word=result.word, sentence=result.sentence)
+        found.update(text=result.text, hint=result.hint)
     return found
 
 
-def junit(results: Results) -> bytes:
+def as_json(record: dict[str, object]) -> str:
+    """Returns the line of a JSON object."""
+    return json.dumps(record) + "\n"
+
+
+def annotation_of(name: str, result: Result) -> str:
+    """Returns the line by which GitHub shows an error at a line of a file, or nothing for an accepted file."""
+    if isinstance(result, Checked):
+        return ""
+    properties = {"file": os.path.normpath(name)}
+    parts = [f"{name}{told(name, result)}"]
+    if isinstance(result, Refused):
+        if result.line is not None:
+            properties["line"] = str(result.line)
+        properties["title"] = f"dnorm: {result.number} {result.word}"
+        parts += [result.sentence, *cause_of(result)]
+    fields = ",".join(f"{key}={escaped(value, NO_PROPERTY)}" for key, value in properties.items())
+    return "::error " + fields + "::" + escaped("\n".join(parts), NO_MESSAGE) + "\n"
+
+
+def escaped(text: str, forbidden: re.Pattern[str]) -> str:
+    """Returns a text in which forbidden characters are written as GitHub reads them."""
+    return forbidden.sub(lambda it: f"%{ord(it[0]):02X}", text)
+
+
+def junit(cases: Sequence[Case]) -> bytes:
     """Returns a report in the XML of JUnit, with a test case for each file."""
-    counts = {"tests": len(results), "failures": 0, "errors": 0}
+    counts = {"tests": len(cases), "failures": 0, "errors": 0}
     suite = ElementTree.Element("testsuite", name="dnorm")
-    for name, result in results:
-        case = ElementTree.SubElement(suite, "testcase", classname="dnorm", name=for_xml(name))
+    for name, result, seconds in cases:
+        attributes = {"classname": "dnorm", "name": for_xml(name), "time": f"{seconds:.3f}"}
+        case = ElementTree.SubElement(suite, "testcase", attributes)
         if isinstance(result, Refused):
             counts["failures"] += 1
             failure = ElementTree.SubElement(case, "failure", type=result.word, message=for_xml(str(result)))
-            failure.text = result.sentence
+            failure.text = for_xml("\n".join([result.sentence, *cause_of(result)]))
         elif isinstance(result, DnormError):
             counts["errors"] += 1
             message = for_xml(f"{name}{told(name, result)}")
             ElementTree.SubElement(case, "error", type=type(result).__name__, message=message)
     suite.attrib.update((it, str(count)) for it, count in counts.items())
+    suite.set("time", f"{sum(it.seconds for it in cases):.3f}")
     suites = ElementTree.Element("testsuites")
     suites.append(suite)
     text: bytes = ElementTree.tostring(suites, encoding="utf-8", xml_declaration=True)
     return text + b"\n"
+
+
+def for_terminal(text: str) -> str:
+    """Returns lines in which every character that a terminal could take for a command is written as \\xNN, as a byte of
+    it."""
+    if text.isascii() and text.replace("\n", "").isprintable():
+        return text
+    return "".join(it if it == "\n" or it.isprintable() else bytes_of(it) for it in text)
+
+
+def bytes_of(character: str) -> str:
+    """Returns the bytes of a character, each as \\xNN."""
+    return "".join(f"\\x{byte:02x}" for byte in os.fsencode(character))
 
 
 def for_xml(text: str) -> str:

@@ -1,0 +1,201 @@
+"""What shows the cause of a refusal: the refused line, and hints that the text gives."""
+
+from __future__ import annotations
+
+import os
+import re
+from collections.abc import Callable, Iterator
+from contextlib import AbstractContextManager
+from itertools import islice
+from typing import NamedTuple
+
+from .compressed import SIZE
+
+# Opens a text, and yields its pieces.
+Opener = Callable[[], AbstractContextManager["Iterator[bytes]"]]
+
+# How many bytes of a line are kept and shown.
+KEPT, SHOWN = 4096, 200
+BLANK = rb"[ \t\r]"
+PROBLEM = re.compile(rb"%s*p%s" % (BLANK, BLANK))
+COUNTED = re.compile(rb"%s*[asqv](?:%s|\Z)" % (BLANK, BLANK))
+# The refusals that depend on the number of counted lines.
+COUNTS = (7, 20)
+# What the first bytes of a file mean, and the command that makes a text of it. {} stands for the name of the file.
+MARKS = [
+    (b"\x1f\x8b", "The file is compressed by gzip", "gzip -dc < {}"),
+    (b"\x1f\x9d", "The file is compressed by compress", "gzip -dc < {}"),
+    (b"\xfd7zX", "The file is compressed by xz", "xz -dc < {}"),
+    (b"BZh", "The file is compressed by bzip2", "bzip2 -dc < {}"),
+    (b"\x28\xb5\x2f\xfd", "The file is compressed by zstd", "zstd -dc < {}"),
+    (b"\x04\x22\x4d\x18", "The file is compressed by lz4", "lz4 -dc < {}"),
+    (b"PK\x03\x04", "The file is a zip archive", "unzip -p {}"),
+    (b"7z\xbc\xaf", "The file is an archive of 7-Zip", "7z e -so {}"),
+    (b"\xef\xbb\xbf", "The file begins with a byte order mark", "tail -c +4 < {}"),
+    (b"\xff\xfe", "The file is in UTF-16", "iconv -f UTF-16 -t UTF-8 < {}"),
+    (b"\xfe\xff", "The file is in UTF-16", "iconv -f UTF-16 -t UTF-8 < {}"),
+]
+LFS = b"version https://git-lfs"
+# What mends the text where the text itself says no more.
+NO_LIMIT = "for no limit, write a capacity that no flow exceeds"
+REMEDIES = {
+    3: "Separate the files, or keep one problem line with the sums of the counts",
+    4: "The kinds are min, max, sp, aux sp ss, aux sp p2p and aux sp co, in lower case",
+    6: "Put all node lines before the arcs",
+    8: "Add the field, or put the comment on a line of its own",
+    9: "Scale to whole numbers; remove a fraction that is 0",
+    10: f"Scale the numbers down; {NO_LIMIT}",
+    11: f"Costs, lengths and flows may be below 0; {NO_LIMIT}",
+    12: "Write s for the source and t for the sink",
+    16: f"The order is LOW, CAP, COST; {NO_LIMIT}",
+    18: "The text has only comments, or the command that wrote it failed",
+    19: "Add the line n ID s or n ID t, before the arcs",
+}
+
+
+class Cause(NamedTuple):
+    """The refused line, with all its bytes made visible, or None for the end of a text; and hints."""
+
+    text: str | None
+    hints: list[str]
+
+
+def visible(data: bytes) -> str:
+    """Returns bytes as `cat -vT` prints them: as characters of ASCII."""
+
+    def one(byte: int) -> str:
+        if byte >= 128:
+            return f"M-{one(byte - 128)}"
+        return chr(byte) if 32 <= byte < 127 else f"^{chr(byte ^ 64)}"
+
+    return "".join(map(one, data))
+
+
+def quoted(name: str) -> str:
+    """Returns a name as a word of bash."""
+    if not name.isprintable():
+        plain = {byte for byte in range(32, 127) if chr(byte) not in "'\\"}
+        return f"$'{''.join(chr(it) if it in plain else f'{chr(92)}x{it:02x}' for it in os.fsencode(name))}'"
+    return re.sub(r"([^\w@%+=:,./-])", r"\\\1", name)
+
+
+def lines_of(pieces: Iterator[bytes]) -> Iterator[bytes]:
+    """Yields the first bytes of each line, without the LF."""
+    rest = b""
+    for piece in pieces:
+        first, *others = piece.split(b"\n")
+        rest = (rest + first)[:KEPT]
+        for it in others:
+            yield rest
+            rest = it[:KEPT]
+    if rest:
+        yield rest
+
+
+def cause_of(text: Opener, name: str | None, line: int | None, number: int, node: int | None = None) -> Cause:
+    """Returns the cause of a refusal, by its line, its number and its node. `name` is that of the file, if the bytes of
+    the file are the text: hints have commands then."""
+    with text() as pieces:
+        head = next(pieces, b"")
+    with text() as pieces:
+        refused, problem, count = scanned(lines_of(pieces), line, number)
+    hints = [*hints_of_bytes(head[:SIZE], refused, name)]
+    words = (refused or b"").split()
+    if number in COUNTS and problem:
+        declared = visible(problem[-1])
+        hints.append(f"declared {declared}, found {count}: only a, s, q and v lines count")
+    if number == 13 and len(problem) > 2 and problem[1] != b"aux":
+        hints.append(f"NODES {visible(problem[2])}: nodes count from 1")
+    if number == 14 and line and len(words) > 1:
+        with text() as pieces:
+            hints += hints_of_repeated(lines_of(pieces), words)
+    if number == 17 and line and len(words) in (4, 6):
+        with text() as pieces:
+            hints += hints_of_sum(lines_of(pieces), line, words)
+    if node is not None:
+        with text() as pieces:
+            hints += hints_of_node(lines_of(pieces), node)
+    if not hints and number in REMEDIES:
+        hints.append(REMEDIES[number])
+    return Cause(None if refused is None else visible(refused[:SHOWN]), hints)
+
+
+def scanned(lines: Iterator[bytes], line: int | None, number: int) -> tuple[bytes | None, list[bytes], int]:
+    """Returns the refused line, the words of the problem line, and the number of counted lines."""
+    refused: bytes | None = None
+    problem: list[bytes] = []
+    count = 0
+    for at, it in enumerate(lines, 1):
+        if not problem and PROBLEM.match(it):
+            problem = it[:SHOWN].split()
+        if at == line:
+            refused = it
+        if number in COUNTS:
+            count += bool(COUNTED.match(it))
+        elif line is None or at == line:
+            break
+    return b"" if line and refused is None else refused, problem, count
+
+
+def hints_of_bytes(head: bytes, refused: bytes | None, name: str | None) -> Iterator[str]:
+    """Yields what the first bytes of a text mean, and the last ones of the refused line."""
+
+    def hint(what: str, command: str) -> str:
+        return f"{what}: {command.format(quoted(name))} | dnorm check -" if name else what
+
+    for mark, what, command in MARKS:
+        if head.startswith(mark):
+            yield hint(what, command)
+            return
+    if head.startswith(LFS):
+        yield "The file is a pointer of Git LFS, and the text is missing: git lfs pull"
+    elif not head:
+        yield "The file is empty"
+    else:
+        if b"\r" in head and b"\n" not in head:
+            yield hint("CR alone ends lines", r"tr '\r' '\n' < {}")
+        if refused and refused[:SHOWN].endswith((b"\0", b"\x1a")):
+            yield hint("The line ends in NUL or Ctrl-Z", r"tr -d '\0\032' < {}")
+
+
+def hints_of_repeated(lines: Iterator[bytes], words: list[bytes]) -> Iterator[str]:
+    """Yields where the node, the source or the sink of a refused line comes first."""
+    terminal = words[2] if words[2:] and words[2] in (b"s", b"t") else None
+    for at, it in enumerate(lines, 1):
+        found = it.split()
+        if found[:1] != words[:1] or len(found) < 3:
+            continue
+        if terminal and found[2] == terminal:
+            what = "source" if terminal == b"s" else "sink"
+            yield f"The {what} is node {visible(found[1])}, by line {at}"
+            return
+        if number_of(found[1]) == number_of(words[1]):
+            yield f"{'Point' if words[0] == b'v' else 'Node'} {visible(words[1])} came first in line {at}"
+            return
+
+
+def hints_of_sum(lines: Iterator[bytes], line: int, words: list[bytes]) -> Iterator[str]:
+    """Yields the sum of the capacities of a pair before the refused line."""
+    place = 3 if len(words) == 4 else 4
+    tail, head, cap = (number_of(it) for it in (*words[1:3], words[place]))
+    if tail is None or head is None or cap is None:
+        return
+    arc = re.compile(rb"%s*a%s+\+?0*%d%s+\+?0*%d%s" % (BLANK, BLANK, tail, BLANK, head, BLANK))
+    arcs = (it.split() for it in islice(lines, line - 1) if arc.match(it))
+    total = sum(number_of(it[place]) or 0 for it in arcs if len(it) > place)
+    yield f"The capacities from {tail} to {head} sum to {total} before this line, and with it to {total + cap}"
+
+
+def hints_of_node(lines: Iterator[bytes], node: int) -> Iterator[str]:
+    """Yields the first line of a companion that names a node."""
+    for at, it in enumerate(lines, 1):
+        letter, *others = it.split() or [b""]
+        names = {b"s": 1, b"q": 2, b"v": 1}.get(letter, 0)
+        if node in map(number_of, others[:names]):
+            yield f"line {at} names it: {visible(it[:SHOWN])}"
+            return
+
+
+def number_of(word: bytes) -> int | None:
+    """Returns the number that a word spells, if it does."""
+    return int(word) if re.fullmatch(rb"[+-]?[0-9]{1,19}", word) else None

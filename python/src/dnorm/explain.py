@@ -1,0 +1,209 @@
+"""Explains what the program prints: `python3 -m dnorm explain`, which dnorm-explain runs."""
+
+from __future__ import annotations
+
+import contextlib
+import difflib
+import os
+import re
+import signal
+import subprocess
+import sys
+from collections.abc import Iterable, Iterator, Sequence
+
+from .causes import cause_of, quoted
+from .errors import DnormError, NoProgram, Write
+from .files import of_stream, reason_of
+from .program import find_program
+from .refusals import REFUSALS
+from .reports import for_terminal
+
+USAGE = """\
+Prints what dnorm has printed, and below each refusal of a file what shows its cause: the line that it names, NODES, how
+many lines are declared and found, what the first bytes mean, and a command that mends the file.
+
+    dnorm check FILE 2>&1 | dnorm-explain
+    dnorm-explain WORDS..
+
+The second form runs dnorm with these words, and also explains a command line that is refused. The status is that of
+dnorm, as its lines tell it; of several runs, the greatest one.
+"""
+REFUSED_LINE = re.compile(r"(.*):([0-9]+|end): ([12]?[0-9]) [A-Za-z]+")
+OTHER_LINE = re.compile(r"(.*): 3([0-6]) [A-Za-z]+(?: ([0-9]+))?")
+WRONG = ("dnorm: bad command line", "dnorm: standard input named twice")
+# The options of each command with the number of its files, and the values that options take.
+COMMANDS: dict[str, tuple[list[str], int]] = {
+    "canon": (["--form"], 1),
+    "check": (["--with"], 1),
+    "compare": ([], 2),
+    "show": ([], 1),
+    "help": ([], 0),
+}
+VALUES: dict[str, tuple[str, ...]] = {"--form": ("1", "2"), "--with": ()}
+# What other programs call these commands.
+OTHER_NAMES = {"diff": "compare", "cmp": "compare", "validate": "check", "verify": "check", "lint": "check"}
+OTHER_NAMES |= {"normalize": "canon", "normalise": "canon", "canonicalize": "canon", "info": "show", "stat": "show"}
+OTHER_NAMES |= {"version": "--version", "-v": "--version", "explain": "help"}
+
+
+def explain(words: Sequence[str]) -> int:
+    """Explains standard input, or a run of the program with these words. Returns the status."""
+    if words and words[0] in ("-h", "--help"):
+        sys.stdout.write(USAGE)
+        return 0
+    if words:
+        return explain_run(words)
+    if sys.stdin is None or sys.stdin.isatty():
+        sys.stderr.write(USAGE)
+        return 3
+    status = 0
+    for line in iter(sys.stdin.buffer.readline, b""):
+        told = os.fsdecode(line[:-1] if line.endswith(b"\n") else line)
+        status = max(status, status_of(told))
+        say(1, told, causes_of(told))
+    return status
+
+
+def say(fd: int, told: str, causes: Iterable[str]) -> None:
+    """Prints a line with its causes below it."""
+    text = "".join(f"{it}\n" for it in [told, *(f"    {it}" for it in causes)])
+    os.write(fd, os.fsencode(for_terminal(text) if os.isatty(fd) else text))
+
+
+def explain_run(words: Sequence[str]) -> int:
+    """Runs the program with these words, and explains on standard error what it prints there."""
+    path = find_program()
+    try:
+        ran = subprocess.run([path, *words], stderr=subprocess.PIPE, check=False)
+    except OSError as error:
+        raise NoProgram(path, reason_of(error)) from error
+    for told in os.fsdecode(ran.stderr).splitlines():
+        say(2, told, wrong_words(words) if told == WRONG[0] else causes_of(told))
+    return ran.returncode if ran.returncode >= 0 else 128 - ran.returncode
+
+
+def status_of(told: str) -> int:
+    """Returns the status of a run that prints this line."""
+    other = OTHER_LINE.fullmatch(told)
+    if told in WRONG:
+        return 3
+    if told.startswith("differ "):
+        return 1
+    if REFUSED_LINE.fullmatch(told):
+        return 2
+    return (4 if int(other[2]) < 4 else 2) if other else 0
+
+
+def causes_of(told: str) -> Iterator[str]:
+    """Yields what shows the cause of what a line tells."""
+    refused, other = REFUSED_LINE.fullmatch(told), OTHER_LINE.fullmatch(told)
+    if other and other[2] == "1" and other[1] != "-":
+        yield from reason_of_failure(other[1])
+    if other and other[3]:
+        yield from causes_in(other[1], None, 35, int(other[3]))
+    if refused:
+        yield from causes_in(refused[1], None if refused[2] == "end" else int(refused[2]), int(refused[3]), None)
+
+
+def causes_in(name: str, line: int | None, number: int, node: int | None) -> Iterator[str]:
+    """Yields what shows the cause of a refusal in a file."""
+
+    @contextlib.contextmanager
+    def text() -> Iterator[Iterator[bytes]]:
+        with open(name, "rb", buffering=0) as file:
+            yield of_stream(file)
+
+    if name == "-" or not os.path.isfile(name):
+        return
+    with contextlib.suppress(OSError):
+        cause = cause_of(text, name, line, number, node)
+        if line is not None:
+            yield f"line {line}: {cause.text or ''}"
+        yield from cause.hints
+
+
+def reason_of_failure(name: str) -> Iterator[str]:
+    """Yields why a file cannot be read."""
+    try:
+        with open(name, "rb", buffering=0, opener=lambda it, flags: os.open(it, flags | os.O_NONBLOCK)) as file:
+            file.read(1)
+    except OSError as error:
+        yield reason_of(error)
+
+
+def wrong_words(words: Sequence[str]) -> Iterator[str]:
+    """Yields what is wrong with a command line."""
+    command, *others = words
+    if command not in COMMANDS:
+        yield unknown_command(command)
+        return
+    options, wanted = COMMANDS[command]
+    files: list[str] = []
+    given: set[str] = set()
+    rest = iter(others)
+    for it in rest:
+        name, is_given, value = it.partition("=")
+        if it == "--":
+            files += rest
+        elif it == "-" or not it.startswith("-"):
+            files.append(it)
+        elif name not in options:
+            known = f"it has {', '.join(options)}" if options else "it has none but --help"
+            yield f"{command} has no option {name}: {known}"
+            return
+        elif name in given:
+            yield f"{name} can be given once"
+            return
+        else:
+            given.add(name)
+            value = value if is_given else next(rest, "")
+            if not value or VALUES[name] and value not in VALUES[name]:
+                yield f"{name} takes {' or '.join(VALUES[name]) or 'the name of a file'}, and not {value!r}"
+                return
+    yield from wrong_files(command, files, wanted)
+
+
+def wrong_files(command: str, files: Sequence[str], wanted: int) -> Iterator[str]:
+    """Yields what is wrong with the files of a command."""
+    for it in files:
+        if not it.isascii() and it != it.encode(errors="ignore").decode():
+            yield f"dnorm takes no name that is not UTF-8: dnorm {command} - < {quoted(it)}"
+    if command == "help":
+        commands = ", ".join(it for it in COMMANDS if it != "help")
+        yield sentence_of(" ".join(files)) or f"help takes one command: {commands}"
+    elif len(files) != wanted:
+        more = "; - is standard input" if len(files) < wanted else ""
+        if command == "check" and len(files) > 1:
+            more = "; for several: python3 -m dnorm check FILES.."
+        yield f"{command} takes {'two files' if wanted == 2 else 'one file'}, and not {len(files)}{more}"
+
+
+def sentence_of(word: str) -> str:
+    """Returns the sentence of a refusal, given by its number or its name, or nothing if the word is none."""
+    found = [it for it in REFUSALS.items() if word in (str(it[0]), it[1][0])]
+    return "".join(f"{number} {name}: {sentence}" for number, (name, sentence) in found)
+
+
+def unknown_command(word: str) -> str:
+    """Returns what is wrong with a word that is no command."""
+    if word == "-" or os.path.exists(word):
+        return f"a command comes before the file: dnorm check {quoted(word)}"
+    if sentence_of(word):
+        return sentence_of(word)
+    near = [OTHER_NAMES[word]] if word in OTHER_NAMES else difflib.get_close_matches(word, COMMANDS, 1)
+    if near:
+        return f"dnorm has no command {word}: the nearest is {near[0]}"
+    return f"dnorm has no command {word}; its commands are {', '.join(COMMANDS)}"
+
+
+def explained(words: Sequence[str]) -> int:
+    """Explains, and returns the status. A failure is a line on standard error; a signal ends this like other tools."""
+    for it in (signal.SIGINT, signal.SIGPIPE):
+        signal.signal(it, signal.SIG_DFL)
+    try:
+        return explain(words)
+    except (DnormError, OSError) as error:
+        failure = error if isinstance(error, DnormError) else Write("out", reason_of(error))
+        with contextlib.suppress(OSError):
+            say(2, str(failure), ())
+        return 4

@@ -1,0 +1,76 @@
+"""How long a call may take."""
+
+from __future__ import annotations
+
+import contextlib
+import os
+import select
+import signal
+import subprocess
+import threading
+import time
+from collections.abc import Iterator
+from typing import BinaryIO
+
+from .errors import TimedOut
+
+
+class Limit:
+    """So many seconds from now, or no limit. `name` is what the error of a call calls its file."""
+
+    def __init__(self, seconds: float | None, name: str) -> None:
+        self.seconds, self.name = seconds, name
+        self._end = None if seconds is None else time.monotonic() + seconds
+
+    def left(self) -> float | None:
+        """Returns the seconds that are left. Raises TimedOut if there are none."""
+        if self._end is None or self.seconds is None:
+            return None
+        left = self._end - time.monotonic()
+        if left <= 0:
+            raise TimedOut(self.name, self.seconds)
+        return left
+
+    @contextlib.contextmanager
+    def over(self, process: subprocess.Popen[bytes]) -> Iterator[None]:
+        """Kills a process if it runs when the time is over. Raises TimedOut at the end then."""
+        left, is_over = self.left(), threading.Event()
+        if left is None or self.seconds is None:
+            yield
+            return
+
+        def end() -> None:
+            is_over.set()
+            # Popen.kill() would take the status of a process that has ended.
+            if process.returncode is None:
+                with contextlib.suppress(ProcessLookupError):
+                    os.kill(process.pid, signal.SIGKILL)
+
+        timer = threading.Timer(left, end)
+        timer.daemon = True
+        timer.start()
+        try:
+            yield
+        finally:
+            timer.cancel()
+        if is_over.is_set():
+            raise TimedOut(self.name, self.seconds)
+
+
+class Timed:
+    """A file, pipe or device that is read within a limit."""
+
+    def __init__(self, file: BinaryIO, limit: Limit) -> None:
+        self._file, self._limit = file, limit
+
+    def wait(self) -> None:
+        """Waits until reading does not wait."""
+        left = self._limit.left()
+        poll = select.poll()
+        poll.register(self._file, select.POLLIN)
+        poll.poll(None if left is None else left * 1000)
+        self._limit.left()
+
+    def read(self, size: int, /) -> bytes:
+        self.wait()
+        return self._file.read(size)

@@ -1,0 +1,505 @@
+"""Tests what people who read results get: causes of refusals, lists of names, time limits, lists of what texts contain,
+differences, manifests of folders, links, and names on a terminal. `tests/python` runs these tests, each in a folder of
+its own."""
+
+import contextlib
+import csv
+import gzip
+import io
+import json
+import os
+import pickle
+import pty
+import random
+import sys
+import time
+from collections.abc import Callable
+
+from calls import COMPRESS, bytes_of, fake, told
+from folders import ENVIRONMENT, make, module, started, wants
+from guards import zstd
+from known import COSTS, FLOWS, ROADS, ROADS_CANON
+from reading import Fault, Text, canonical, read
+from shared import LIMIT, ROOT, Tally, python_with, run, write
+from texts import lines_of, made, spelled
+
+import dnorm
+
+SEED, ROUNDS = 21, 60
+# Refused texts, with the line and the hint of the refusal. A file is "t.gr".
+MANY = b"p max 3 3\nn 1 s\nn 3 t\na 1 2 9223372036854775800\na 1 3 1\na 1 2 8\n"
+CAUSES: list[tuple[bytes, str | None, str | None]] = [
+    (b"p sp 2 1\na 1 3 7\n", "a 1 3 7", "NODES 2: nodes count from 1"),
+    (b"p aux sp ss 1\ns 0\n", "s 0", None),
+    (b"p sp 2 1\na 1 2 7.0\n", "a 1 2 7.0", "Scale to whole numbers; remove a fraction that is 0"),
+    (b"c\n", None, "The text has only comments, or the command that wrote it failed"),
+    (b"p sp 2 2\na 1 2 7\n", None, "declared 2, found 1: only a, s, q and v lines count"),
+    (b"p sp 2 1\na 1 2 7\r\n\ta\t1 1 1\r\n", "^Ia^I1 1 1^M", "declared 1, found 2: only a, s, q and v lines count"),
+    (b"p min 3 0\nc\nn 2 1\nn +02 5\n", "n +02 5", "Node +02 came first in line 3"),
+    (b"p max 3 0\nn 2 t\nn 1 t\n", "n 1 t", "The sink is node 2, by line 2"),
+    (b"p max 3 0\nn 2 s\nn 1 t\nn 3 s\n", "n 3 s", "The source is node 2, by line 2"),
+    (b"p aux sp co 2\nv 7 0 0\nv 7 1 1\n", "v 7 1 1", "Point 7 came first in line 2"),
+    (MANY, "a 1 2 8", "The capacities from 1 to 2 sum to 9223372036854775800 before this line, and with it to "
+     "9223372036854775808"),
+    (b"p min 2 2\na 1 2 0 9223372036854775807 0\na 1 2 1 1 0\n", "a 1 2 1 1 0",
+     "The capacities from 1 to 2 sum to 9223372036854775807 before this line, and with it to 9223372036854775808"),
+    (b"", None, "The file is empty"),
+    (b"p sp 0 0\nx" + b"\xe9" * 300, "x" + "M-i" * 199, None),
+    (b"p sp 0 0\n\x1a", "^Z", "The line ends in NUL or Ctrl-Z: tr -d '\\0\\032' < {} | dnorm check -"),
+    (b"\xef\xbb\xbfp sp 0 0\n", "M-oM-;M-?p sp 0 0", "The file begins with a byte order mark: tail -c +4 < {} | "
+     "dnorm check -"),
+    (b"version https://git-lfs.github.com/spec/v1\n", "version https://git-lfs.github.com/spec/v1",
+     "The file is a pointer of Git LFS, and the text is missing: git lfs pull"),
+]  # fmt: skip
+
+
+def causes(tally: Tally, _: str) -> None:
+    """Tests the line and the hint of refusals of files, compressed files, bytes and streams."""
+    for text, line, hint in CAUSES:
+        write("t.gr", text)
+        write("t.gr.gz", gzip.compress(text))
+        # A command applies to a file that is not compressed.
+        plain = hint and hint.partition(": tr ")[0].partition(": tail ")[0]
+        rows: list[tuple[dnorm.File, str | None, str | None]] = [("t.gr", line, hint and hint.format("t.gr"))]
+        rows += [("t.gr.gz", line, plain), (text, line, plain), (io.BytesIO(text), None, None)]
+        for file, wanted, more in rows:
+            calls: list[Callable[[dnorm.File], object]] = [dnorm.check, lambda it: dnorm.compare(ROADS, it)]
+            for call in calls:
+                try:
+                    call(file)
+                    tally.fail(f"{text!r} is accepted")
+                except dnorm.Refused as error:
+                    tally.same(f"the cause in {text!r:.60} as {file!r:.20}", (error.text, error.hint), (wanted, more))
+                if isinstance(file, io.BytesIO):
+                    file.seek(0)
+    write("s.ss", b"p aux sp p2p 3\nc 9\nq 2 1\nq 3 +009\nq 9 9\n")
+    companions: list[dnorm.File] = ["s.ss", bytes_of("s.ss")]
+    for file in companions:
+        try:
+            dnorm.check(ROADS, file)
+        except dnorm.Refused as error:
+            found = (error.number, error.node, error.text, error.hint)
+            tally.same("a companion", found, (35, 9, None, "line 4 names it: q 3 +009"))
+    first = dnorm.Refused("a.gr", 3, 13, "NodeOutOfRange", None, "a 1 3 7", "NODES 2: nodes count from 1")
+    found_: list[dnorm.DnormError] = [first, dnorm.TimedOut("a.gr", 2.5)]
+    for it in found_:
+        again = pickle.loads(pickle.dumps(it))
+        tally.same(f"{it!r}, pickled", (str(again), vars(again)), (str(it), vars(it)))
+    long = b"c\n" * 300_000
+    write("t.gr", long + b"x" * 100_000 + b"\n")
+    try:
+        dnorm.check("t.gr")
+    except dnorm.Refused as error:
+        tally.same("a line behind others", (error.line, error.text), (300_001, "x" * 200))
+    shown = module("check", "--output-format", "github", "t.gr", "missing,:%.gr")
+    begin = f"::error file=t.gr,line=300001,title=dnorm%3A 1 BadLine::t.gr:300001: 1 BadLine%0A{dnorm.REFUSALS[1][1]}"
+    lines = f"{begin}%0Aline 300001: {'x' * 200}\n"
+    missing = "::error file=missing%2C%3A%25.gr::missing,:%25.gr: 31 Read (No such file or directory)\n"
+    wants(tally, "--output-format github", shown, missing + lines, "0 accepted, 1 refused, 1 failed\n", 4)
+
+
+def compressions(tally: Tally, _: str) -> None:
+    """Tests names of compressed files in capitals, those of unknown compressions, and zstd where a module reads it."""
+    for end, compress in COMPRESS.items():
+        dnorm.canon_to(ROADS, f"t{end.upper()}")
+        tally.same(f"canon_to {end.upper()}", bytes_of(f"t{end.upper()}")[:3], compress(ROADS_CANON)[:3])
+        tally.same(f"canon {end.upper()}", told(lambda: dnorm.canon(f"t{end.upper()}")), ROADS_CANON.decode())
+    unknown = {".Z": "compress", ".z": "compress", ".lz4": "lz4", ".zip": "zip", ".BR": "brotli", ".7z": "7-Zip"}
+    for end, what in unknown.items():
+        write(f"t{end}", ROADS)
+        for name in [f"t{end}", f"none{end}"]:
+            reason = f"{what} is not supported"
+            if name in os.listdir("."):
+                tally.same(f"check {name}", told(lambda: dnorm.check(name)), f"Read: {name}: 31 Read ({reason})")
+            found = told(lambda: dnorm.canon_to(ROADS, name))
+            tally.same(f"canon_to {name}", found, f"Write: {name}: 33 Write ({reason})")
+            found_ = module("manifest", "--output", name, f"{ROOT}/examples/roads.gr")
+            tally.same(f"--output {name}", (found_.err, found_.status), (f"{name}: 33 Write ({reason})\n".encode(), 4))
+        tally.same(f"t{end} is kept", bytes_of(f"t{end}"), ROADS)
+    tally.same(
+        "no other file", sorted(os.listdir(".")), sorted([*(f"t{it}" for it in unknown), "t.GZ", "t.BZ2", "t.XZ"])
+    )
+    zstandard(tally)
+
+
+BY_ZSTANDARD = """
+import dnorm, sys
+print(dnorm.check("t.gr.zst"), dnorm.checksum("t.gr.zst") == dnorm.checksum("t.gr"))
+dnorm.canon_to("large.gr", "large.gr.ZST")
+print(dnorm.checksum("large.gr.ZST") == dnorm.checksum("large.gr"))
+data = open("large.gr.ZST", "rb").read()
+for end in range(0, len(data), len(data) // 50 + 1):
+    open("cut.zst", "wb").write(data[:end])
+    open("damaged.zst", "wb").write(data[:end] + bytes([data[end] ^ 85]) + data[end + 1:])
+    open("more.zst", "wb").write(data + data[: end + 1])
+    for name in ["cut.zst", "damaged.zst", "more.zst"]:
+        try:
+            dnorm.canon(name)
+            print(name, end, "is read")
+        except dnorm.Read:
+            pass
+open("two.zst", "wb").write(data[:0] + open("t.gr.zst", "rb").read() + bytes(9))
+print(dnorm.check("two.zst").kind)
+"""
+
+
+# A module with the members of `compression.zstd` in Python 3.14 that the package uses, as its documentation has them.
+OF_3_14 = """
+import zstandard
+ZstdError = zstandard.ZstdError
+
+class CompressionParameter:
+    checksum_flag = 201
+
+class ZstdDecompressor:
+    def __init__(self):
+        self._it, self._rest, self.eof, self.unused_data = zstandard.ZstdDecompressor().decompressobj(), b"", False, b""
+
+    def decompress(self, data, max_length=-1):
+        if self.eof:
+            raise EOFError("the end was reached before")
+        self._rest += b"" if self._it.eof else self._it.decompress(data)
+        found, self._rest = self._rest[:max_length], self._rest[max_length:]
+        self.eof = self._it.eof and not self._rest
+        self.unused_data = self._it.unused_data if self.eof else b""
+        return found
+
+class ZstdFile:
+    def __init__(self, file, mode, *, level=None, options=None):
+        assert mode == "wb" and options == {201: 1}
+        self._it = zstandard.ZstdCompressor(write_checksum=True).stream_writer(file, closefd=False)
+        self.write, self.close = self._it.write, self._it.close
+"""
+
+
+def zstandard(tally: Tally) -> None:
+    """Tests zstd by a Python that has the module zstandard, as Python 3.14 does it, and without a module."""
+    write("t.gr.zst", zstd(ROADS))
+    write("t.gr", ROADS)
+    write("large.gr", "p sp 50000 50000\n" + "".join(f"a {it} 1 {it * it % 9973}\n" for it in range(1, 50_001)))
+    python = python_with("zstandard")
+    if python:
+        found = run([python, "-c", BY_ZSTANDARD], env={**os.environ, **ENVIRONMENT})
+        wanted = "Checked(kind='sp', fits=None, forms=()) True\nTrue\nsp\n"
+        tally.same("zstd", (found.out.decode(), found.err, found.status), (wanted, b"", 0))
+        make({"later/compression/__init__.py": b"", "later/compression/zstd.py": OF_3_14.encode()})
+        path = f"{os.getcwd()}/later:{ENVIRONMENT['PYTHONPATH']}"
+        found = run([python, "-c", BY_ZSTANDARD], env={**os.environ, **ENVIRONMENT, "PYTHONPATH": path})
+        tally.same("zstd of 3.14", (found.out.decode(), found.err, found.status), (wanted, b"", 0))
+    else:
+        tally.pass_over("files of zstd", "the module zstandard")
+    code = "import sys; sys.modules['zstandard'] = None; import dnorm; dnorm.check('t.gr.zst')"
+    found = run([sys.executable, "-c", code], env={**os.environ, **ENVIRONMENT})
+    if sys.version_info < (3, 14):
+        line = found.err.decode().splitlines()[-1]
+        reason = "t.gr.zst: 31 Read (zstd needs Python 3.14 or the module zstandard)"
+        tally.same("zstd without a module", line, f"dnorm.errors.Read: {reason}")
+
+
+def names_given(tally: Tally, _: str) -> None:
+    """Tests names from standard input and from a file."""
+    make({"a/x.gr": ROADS, "a/y\nz.gr": ROADS, "b.min": COSTS})
+    lines = {it: f"{it}: accepted {kind}\n" for it, kind in [("a/x.gr", "sp"), ("b.min", "min")]}
+    lines["a/y\nz.gr"] = "\\a/y\\nz.gr: accepted sp\n"
+    all_ = "".join(lines[it] for it in sorted(lines))
+    write("list", "a/y\nz.gr\0b.min\0a/x.gr")
+    for words, given, out, status in [
+        ("check -", b"b.min\na/x.gr\n", lines["a/x.gr"] + lines["b.min"], 0),
+        ("check -", b"b.min\na/x.gr", lines["a/x.gr"] + lines["b.min"], 0),
+        ("check - a/x.gr", b"b.min\n", lines["a/x.gr"] + lines["b.min"], 0),
+        ("check -", b"a\nb.min\n", all_, 0),
+        ("check --files0-from -", b"a\0b.min\0", all_, 0),
+        ("check --files0-from list", b"", all_, 0),
+        ("check --files0-from list -", b"b.min\n", all_, 0),
+    ]:
+        found = module(*words.split(), given=given)
+        count = f"{out.count(': accepted ')} accepted, 0 refused, 0 failed\n"
+        wants(tally, f"{words} < {given!r}", found, out, count, status)
+    for words, name, reason in [
+        ("check -", "-", "it names no file"),
+        ("list --files0-from -", "-", "it names no file"),
+        ("same --files0-from none", "none", "No such file or directory"),
+    ]:
+        wants(tally, words, module(*words.split()), "", f"{name}: 31 Read ({reason})\n", 4)
+    found = module("check", "-", given=b"\nb.min\n")
+    tally.same("a name without a character", (found.out.decode().splitlines()[0], found.status),
+               (": 31 Read (No such file or directory)", 4))  # fmt: skip
+
+
+def time_limits(tally: Tally, _: str) -> None:
+    """Tests calls and commands that take too long: a program, a FIFO without a writer, and one whose writer waits."""
+    slow = fake("slow", "exec sleep 60")
+    os.mkfifo("pipe.gr")
+    os.mkfifo("pipe.gr.gz")
+    write("t.gr", ROADS)
+    rows: list[tuple[str, Callable[[], object], str]] = [
+        ("a slow program", lambda: dnorm.check("t.gr", program=slow, timeout=0.3), "t.gr"),
+        ("a slow program and bytes", lambda: dnorm.canon(b"c" * 10**6, program=slow, timeout=0.3), "-"),
+        ("a FIFO", lambda: dnorm.show("pipe.gr", timeout=0.3), "pipe.gr"),
+        ("a compressed FIFO", lambda: dnorm.checksum("pipe.gr.gz", timeout=0.3), "pipe.gr.gz"),
+        ("a second FIFO", lambda: dnorm.compare("t.gr", "pipe.gr", timeout=0.3), "t.gr"),
+        ("no time", lambda: dnorm.read("t.gr", timeout=0), "t.gr"),
+        ("differences", lambda: dnorm.differences("t.gr", "t.gr", program=slow, timeout=0.3), "t.gr"),
+    ]
+    with open("pipe.gr", "rb+", buffering=0), open("pipe.gr.gz", "rb+", buffering=0) as file:
+        file.write(gzip.compress(ROADS)[:20])
+        waiting = [*rows]
+        before(tally, waiting)
+    before(tally, rows)
+    in_time = [
+        dnorm.check("t.gr", timeout=60).kind,
+        dnorm.canon("t.gr", timeout=60),
+        dnorm.read("t.gr", timeout=60).kind,
+    ]
+    tally.same("calls in time", in_time, ["sp", ROADS_CANON, "sp"])
+    found = module("check", "--timeout", "0.5", "t.gr", "pipe.gr")
+    lines = "pipe.gr: took more than 0.5 seconds\n"
+    wants(tally, "--timeout", found, f"{lines}t.gr: accepted sp\n", f"{lines}1 accepted, 0 refused, 1 failed\n", 4)
+
+
+def before(tally: Tally, rows: list[tuple[str, Callable[[], object], str]]) -> None:
+    """Tests that calls end soon."""
+    for what, call, name in rows:
+        start = time.monotonic()
+        timeout = "0" if what == "no time" else "0.3"
+        tally.same(what, told(call), f"TimedOut: {name}: took more than {timeout} seconds")
+        tally.holds(f"{what} ends soon", time.monotonic() - start < 10)
+
+
+def folders_of_manifests(tally: Tally, _: str) -> None:
+    """Tests what `manifest --verify` says of files that are gone and of files that the manifest lacks; and JSON."""
+    make({"set/a.gr": ROADS, "set/b.min": COSTS, "set/c.gr": b"p sp 1 0\n", "set/notes": b"x"})
+    module("manifest", "--output", "list", "set")
+    sums = {name: it for it, name in (line.split() for line in bytes_of("list").decode().splitlines())}
+    os.remove("set/a.gr")
+    write("set/b.min", FLOWS)
+    make({"set/below/new.gr": ROADS, "set/bad.gr": b"x\n"})
+    lines = "set/a.gr: gone\nset/b.min: differs\nset/c.gr: same\n"
+    count = "1 the same, 1 different, 0 refused, 0 failed, 1 gone"
+    wants(tally, "what is gone", module("manifest", "--verify", "list"), lines, f"{count}\n", 1)
+    more = "set/bad.gr: not listed\nset/below/new.gr: not listed\n"
+    for path in ["set", "./set/", os.path.abspath("set")]:
+        found = module("manifest", "--verify", "list", path)
+        lines_ = lines + more.replace("set/", os.path.join(path, ""))
+        wants(tally, f"what {path} has", found, lines_, f"{count}, 2 not listed, 1 other file\n", 1)
+    found = module("manifest", "--verify", "list", "-q", "--exclude", "bad.gr", "set")
+    lines = lines.replace("set/c.gr: same\n", "") + "set/below/new.gr: not listed\n"
+    wants(tally, "-q", found, lines, f"{count}, 1 not listed, 1 other file\n", 1)
+    found = module("manifest", "--verify", "list", "--json", "set", "none")
+    records = [json.loads(it) for it in found.out.splitlines()]
+    tally.same("statuses in JSON", {it["name"]: it["status"] for it in records}, {
+        "set/a.gr": "gone", "set/b.min": "differs", "set/c.gr": "same", "set/bad.gr": "not listed",
+        "set/below/new.gr": "not listed", "none": "failed"})  # fmt: skip
+    tally.same("a record", records[0], {"name": "set/a.gr", "status": "gone", "checksum": sums["set/a.gr"], "form": 1})
+    found = module("manifest", "--json", "--form", "2", "set")
+    records = [json.loads(it) for it in found.out.splitlines()]
+    tally.same("a manifest in JSON", [(it["name"], it["status"]) for it in records], [
+        ("set/b.min", "listed"), ("set/bad.gr", "refused"), ("set/below/new.gr", "listed"), ("set/c.gr", "listed")
+    ])  # fmt: skip
+    wanted = {"name": "set/c.gr", "status": "listed", "checksum": sums["set/c.gr"], "form": 2}
+    tally.same("its records", (records[3], found.status), (wanted, 2))
+
+
+def links(tally: Tally, _: str) -> None:
+    """Tests that `same` takes no link for a file of its own, and its groups in JSON."""
+    make({"set/b.gr": ROADS, "set/sub/c.gr": ROADS_CANON, "set/one.min": COSTS})
+    os.symlink("b.gr", "set/a.gr")
+    os.link("set/sub/c.gr", "set/sub/d.gr")
+    os.symlink("one.min", "set/also-one.min")
+    found = module("same", "set")
+    wants(tally, "same", found, "set/b.gr\nset/sub/c.gr\n", "6 accepted, 0 refused, 0 failed, 1 group, 3 links\n", 0)
+    found = module("same", "--json", "set")
+    wanted = {"checksum": dnorm.checksum(ROADS), "names": ["set/b.gr", "set/sub/c.gr"]}
+    tally.same("same --json", [json.loads(it) for it in found.out.splitlines()], [wanted])
+
+
+def on_terminal(tally: Tally, _: str) -> None:
+    """Tests that names cannot command a terminal, and reach a file as they are."""
+    names = ["a\x1b[31m\t.gr", "b\x7f\x9b\u202e.gr", os.fsdecode(b"c\x9b\xff.gr"), "dé.gr"]
+    shown = [r"a\x1b[31m\x09.gr", r"b\x7f\xc2\x9b\xe2\x80\xae.gr", r"c\x9b\xff.gr", "dé.gr"]
+    for it in names:
+        write(it, b"x\n")
+    upper, lower = pty.openpty()
+    process = started("check", *names, stdout=lower, stderr=lower)
+    os.close(lower)
+    said = b""
+    with contextlib.suppress(OSError):
+        while piece := os.read(upper, 4096):
+            said += piece
+    os.close(upper)
+    process.wait(LIMIT)
+    lines = [it.rpartition("\r")[2] for it in said.decode().replace("\r\n", "\n").split("\n")]
+    tally.same("names on a terminal", lines[:4], [f"{it}:1: 1 BadLine" for it in shown])
+    tally.same("names on a terminal, again", lines[4:12:2], [f"{it}:1: 1 BadLine" for it in shown])
+    found = module("check", "-q", *names)
+    tally.same("names in a pipe", found.out, b"".join(os.fsencode(f"{it}:1: 1 BadLine\n") for it in names))
+
+
+LARGE = b"p min 4 4\nn 1 9000000000\nn 4 -7\na 1 2 0 9223372036854775807 -2147483649\na 2 2 1 1 0\na 1 2 0 0 5\n"
+LARGE += b"a 3 1 0 2 1\n"
+# Texts, and what `list` says of them below the line of the name.
+LISTED: dict[str, tuple[bytes, str]] = {
+    "a.gr": (ROADS, "nodes 3, without arcs 0|lines 7, canonical 5, merged 2, self-loops 1|length -5 to 9, 31 bits"),
+    "b.min": (LARGE, "nodes 4, without arcs 1|lines 4, canonical 3, merged 1, self-loops 1|"
+              "flow -7 to 9000000000, 53 bits|low 0 to 1, 31 bits|cap 1 to 9223372036854775807, 64 bits|"
+              "cost -2147483649 to 1, 32 bits|"
+              f"sums: capacity {2**63 + 2}, capacity times cost {(2**63 - 1) * 2147483649 + 2}, supply 9000000000, "
+              "demand 7"),
+    "c.max": (b"p max 5 3\nn 5 s\nn 1 t\na 5 1 3000000000\na 5 1 3000000000\na 1 5 0\n",
+              "nodes 5, without arcs 3|lines 3, canonical 1, merged 2, self-loops 0|cap 6000000000 to 6000000000, "
+              "53 bits|sums: capacity 6000000000"),
+    "d.co": (b"p aux sp co 2\nv 9 -4294967295 1\nv 3 7 4294967296\n", "lines 2, canonical 2|id 3 to 9, 31 bits|"
+             "x -4294967295 to 7, 32 bits|y 1 to 4294967296, 53 bits"),
+    "e.p2p": (b"p aux sp p2p 2\nq 1 7\nq 1 2\n", "lines 2, canonical 2|source 1 to 1, 31 bits|target 2 to 7, 31 bits"),
+    "f.sp": (b"p sp 2 0\n", "nodes 2, without arcs 2|lines 0, canonical 0, merged 0, self-loops 0"),
+    "g.ss": (b"p aux sp ss 0\n", "lines 0, canonical 0"),
+}  # fmt: skip
+
+
+def lists(tally: Tally, _: str) -> None:
+    """Tests `list`: its lines, its JSON objects and its table."""
+    make({f"set/{name}": text for name, (text, _) in LISTED.items()})
+    write("set/h.gr.gz", gzip.compress(b"c\n\tp sp  2 1\na 1 2 3\n"))
+    write("set/x.gr", b"x\n")
+    rows = {**LISTED, "h.gr.gz": (b"p sp 2 1\na 1 2 3\n", "nodes 2, without arcs 0|lines 1, canonical 1, merged 0, "
+            "self-loops 0|length 3 to 3, 31 bits")}  # fmt: skip
+    lines, sums = "", {}
+    for name, (text, more) in rows.items():
+        sums[name] = dnorm.checksum(text)
+        kind = dnorm.check(text).kind
+        below = "".join(f"    {it}\n" for it in [*more.split("|"), f"checksum {sums[name]}"])
+        lines += f"set/{name}: {kind}\n{below}"
+    count = "8 listed, 1 refused, 0 failed\n"
+    wants(tally, "list", module("list", "set"), lines, f"set/x.gr:1: 1 BadLine\n{count}", 2)
+    found = module("list", "--json", "set")
+    records = [json.loads(it) for it in found.out.splitlines()]
+    tally.same("list --json", [(it["name"], it.get("checksum")) for it in records],
+               [*((f"set/{name}", sums[name]) for name in rows), ("set/x.gr", None)])  # fmt: skip
+    wanted = {
+        "name": "set/c.max",
+        "kind": "max",
+        "nodes": 5,
+        "declared": 3,
+        "canonical": 1,
+        "merged": 2,
+        "self_loops": 0,
+    }
+    wanted |= {"without_arcs": 3, "capacity": 6000000000, "capacity_times_cost": None, "supply": None, "demand": None}
+    wanted |= {"fields": {"cap": {"least": 6000000000, "greatest": 6000000000, "bits": 53}}, "checksum": sums["c.max"]}
+    tally.same("a record", records[2], wanted)
+    found = module("list", "--csv", "set")
+    table = list(csv.DictReader(io.StringIO(found.out.decode())))
+    tally.same("list --csv", [(it["name"], it["checksum"]) for it in table], [(f"set/{it}", sums[it]) for it in rows])
+    told_ = [table[1][it] for it in ["kind", "nodes", "cost_least", "cost_bits", "length_bits", "capacity_times_cost"]]
+    tally.same("a row", told_, ["min", "4", "-2147483649", "32", "", str((2**63 - 1) * 2147483649 + 2)])
+    form = module("list", "--form", "2", "--json", "set/b.min").out
+    tally.same("list --form 2", json.loads(form)["checksum"], dnorm.checksum(LARGE, 2))
+
+
+# Changes of a text with the arcs below, and the lines that `compare` prints below the first one.
+ARCS = {(1, 2): "2 40 331", (2, 3): "0 7 1", (3, 1): "0 5 2"}
+
+
+def costly(arcs: dict[tuple[int, int], str], nodes: int = 3, flow: int = 4) -> bytes:
+    """Returns a text with these arcs."""
+    lines = "".join(f"a {tail} {head} {more}\n" for (tail, head), more in arcs.items())
+    return f"p min {nodes} {len(arcs)}\nn 1 {flow}\nn 3 -4\n{lines}".encode()
+
+
+CHANGED: list[tuple[bytes, str]] = [
+    (costly(ARCS), "pairs: 0 only left, 0 only right, 3 in both, 0 of them different"),
+    (costly({**ARCS, (1, 2): "0 40 331"}), "pairs: 0 only left, 0 only right, 3 in both, 1 of them different|"
+     "different in low: 1|< a 1 2 2 40 331|> a 1 2 0 40 331"),
+    (costly({**ARCS, (1, 2): "0 7 5"}), "pairs: 0 only left, 0 only right, 3 in both, 1 of them different|"
+     "different in low cap cost: 1|< a 1 2 2 40 331|> a 1 2 0 7 5"),
+    (costly({(2, 3): "0 7 1", (3, 1): "0 5 2"}), "pairs: 1 only left, 0 only right, 2 in both, 0 of them different|"
+     "< a 1 2 2 40 331"),
+    (costly({(2, 1): "2 40 331", (2, 3): "0 7 1", (3, 1): "0 5 2"}), "pairs: 1 only left, 1 only right, 2 in both, "
+     "0 of them different|reversed: 1|< a 1 2 2 40 331|> a 2 1 2 40 331"),
+    (costly({it: f"{more}0" for it, more in ARCS.items()}, 4), "nodes: 3 left, 4 right|pairs: 0 only left, 0 only "
+     "right, 3 in both, 3 of them different|different in cost: 3|< a 1 2 2 40 331|> a 1 2 2 40 3310|< a 2 3 0 7 1|"
+     "> a 2 3 0 7 10|< a 3 1 0 5 2|> a 3 1 0 5 20"),
+    (costly(ARCS, flow=5), "supplies: 1 different|pairs: 0 only left, 0 only right, 3 in both, 0 of them different"),
+    (ROADS, ""),
+]  # fmt: skip
+
+
+def comparisons(tally: Tally, tested: str) -> None:
+    """Tests `compare` on mistakes of writers, and the repr of what `show` returns."""
+    write("left", costly(ARCS))
+    for text, lines in CHANGED:
+        write("right", text)
+        first = run([tested, "compare", "left", "right"])
+        found = module("compare", "left", "right")
+        wanted = first.out.decode() + "".join(f"{it}\n" for it in lines.split("|") if it)
+        wants(tally, f"compare with {text!r}", found, wanted, "", first.status)
+    write("right", CHANGED[5][0])
+    found = module("compare", "--limit", "0", "left", "right")
+    tally.same("compare --limit 0", (len(found.out.splitlines()), found.status), (4, 1))
+    for name, text, line, status in [
+        ("bad", b"x\n", "bad:1: 1 BadLine\n    line 1: x\n", 2),
+        ("bad.lz4", b"x\n", "bad.lz4: 31 Read (lz4 is not supported)\n", 4),
+    ]:
+        write(name, text)
+        wants(tally, f"compare with {name}", module("compare", "left", name), "", line, status)
+    companions = [(b"p aux sp ss 2\ns 1\ns 5\n", b"p aux sp ss 1\ns 2\n", "items: 1 only left, 0 only right, 1 in "
+                   "both, 1 of them different|different in source: 1|< s 1, item 1|> s 2, item 1|< s 5, item 2"),
+                  (b"p aux sp co 1\nv 7 1 2\n", b"p aux sp co 1\nv 7 1 3\n", "points: 0 only left, 0 only right, 1 in "
+                   "both, 1 of them different|different in y: 1|< v 7 1 2|> v 7 1 3")]  # fmt: skip
+    for left, right, lines in companions:
+        write("left", left)
+        write("right", right)
+        found = module("compare", "left", "right")
+        tally.same(f"compare {left!r}", found.out.decode().splitlines()[1:], lines.split("|"))
+    shown = dnorm.show("p sp 2000 2000\n".encode() + b"".join(b"a %d 1 7\n" % it for it in range(1, 2001)))
+    tally.same("a short repr", repr(shown), "<dnorm.Shown: kind='sp', lines=2000, nodes=2000, 2000 pairs>")
+    tally.same("a companion's repr", repr(dnorm.show(b"p aux sp ss 0\n")), "<dnorm.Shown: kind='ss', lines=0>")
+
+
+def by_pair(text: Text) -> dict[tuple[str, ...], list[list[str]]]:
+    """Returns the arcs of a canonical text of form 2 by their pairs."""
+    found: dict[tuple[str, ...], list[list[str]]] = {}
+    for line in canonical(text, 2).decode().splitlines():
+        if line.startswith("a "):
+            _, tail, head, *more = line.split()
+            found.setdefault((tail, head), []).append(more)
+    return found
+
+
+def summaries(tally: Tally, _: str) -> None:
+    """Tests `differences` on random pairs of graphs, beside a count of the pairs of their canonical texts."""
+    chance = random.Random(SEED)
+    for kind in ["min", "max", "sp"]:
+        graphs: list[tuple[bytes, Text]] = []
+        while len(graphs) < ROUNDS:
+            given = spelled(chance, lines_of(chance, made(chance, kind)))
+            with contextlib.suppress(Fault):
+                graphs.append((given, read(given)))
+        for (one, left), (other, right) in zip(graphs, graphs[1:]):
+            found = dnorm.differences(one, io.BytesIO(other))
+            ours, theirs = by_pair(left), by_pair(right)
+            both = ours.keys() & theirs.keys()
+            different = [it for it in both if ours[it] != theirs[it]]
+            turned = [it for it in ours.keys() - both if it[::-1] not in ours and theirs.get(it[::-1]) == ours[it]]
+            wanted = (len(ours) - len(both), len(theirs) - len(both), len(both), len(different), len(turned))
+            counts = (found.only_left, found.only_right, found.both, found.different, found.reversed)
+            tally.same(f"differences of {one!r} and {other!r}", counts, wanted)
+            keys = sorted(tuple(map(int, it)) for it in {*ours, *theirs} if ours.get(it) != theirs.get(it))
+            tally.same("their pairs", [it.key for it in found.pairs], keys)
+            tally.same("their fields", sum(count for _, count in found.fields), len(different))
+            tally.same("the first one", str(found.first), str(dnorm.compare(one, other)))
+    tally.same("a limit", len(dnorm.differences(ROADS, b"p sp 3 0\n", 2).pairs), 2)
+    found_ = told(lambda: dnorm.differences(ROADS, ROADS, -1))
+    tally.same("no limit", found_, "ValueError: limit is at least 0, and not -1")
+
+
+TESTS: list[Callable[[Tally, str], None]] = [
+    causes,
+    compressions,
+    names_given,
+    time_limits,
+    folders_of_manifests,
+    links,
+    on_terminal,
+]
+TESTS += [lists, comparisons, summaries]
