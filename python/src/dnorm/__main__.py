@@ -14,7 +14,7 @@ from . import __version__
 from .commands import FAILED, USAGE, Run
 from .errors import DnormError, Write
 from .folders import ENDINGS
-from .program import version
+from .program import processors, version
 from .reports import Console
 
 ABOUT = "Runs the program dnorm on many files at the same time."
@@ -94,7 +94,7 @@ def parsed(words: Sequence[str] | None) -> argparse.Namespace:
             error("--verify goes without --form and --output")
         found.form = found.form or 1
         found.task = "manifest" if found.verify is None else "verify"
-    found.jobs = found.jobs or len(os.sched_getaffinity(0))
+    found.jobs = found.jobs or processors()
     found.ending = found.ending or ENDINGS
     return found
 

@@ -4,7 +4,7 @@ from __future__ import annotations
 
 import hashlib
 from collections.abc import Callable, Sequence
-from typing import TypeVar
+from typing import Optional, TypeVar, Union
 
 from .answers import Checked, Difference, Same, Shown, checked, compared, shown
 from .files import File, Sink, Target, name_of, sink_of
@@ -13,7 +13,7 @@ from .program import Program, run, unexpected
 Answer = TypeVar("Answer")
 
 
-def check(file: File, companion: File | None = None, *, program: Program = None) -> Checked:
+def check(file: File, companion: Optional[File] = None, *, program: Program = None) -> Checked:
     """Checks a text, and with a companion that the companion fits.
 
     Returns the kind of the text, the kind of the companion, and the forms in which the text is canonical. Raises
@@ -62,7 +62,7 @@ def canon_into(sink: Sink, file: File, form: int, program: Program) -> None:
         raise unexpected(name_of(file), status, "")
 
 
-def compare(left: File, right: File, *, program: Program = None) -> Same | Difference:
+def compare(left: File, right: File, *, program: Program = None) -> Union[Same, Difference]:
     """Returns `Same` if both texts pose the same problem, or else their first `Difference`. As a condition, `Same` is
     true and a `Difference` is false."""
     return answer(compared, lambda *names: ["compare", *names], [left, right], program)

@@ -9,7 +9,7 @@ import os
 import secrets
 import stat
 from collections.abc import Callable, Iterator
-from typing import BinaryIO, Protocol, Union
+from typing import BinaryIO, Optional, Protocol, Union
 
 from .compressed import COMPRESSORS, DECOMPRESSORS, SIZE, Compressed, pieces
 from .errors import DnormError, Read, Write
@@ -21,20 +21,20 @@ BAD_LINE = b"\n?\n"
 class Readable(Protocol):
     """A binary stream that is read."""
 
-    def read(self, size: int, /) -> bytes | None:
+    def read(self, size: int, /) -> Optional[bytes]:
         """Returns at most so many bytes, and none at the end."""
 
 
 class Writable(Protocol):
     """A binary stream that is written."""
 
-    def write(self, data: bytes, /) -> int | None:
+    def write(self, data: bytes, /) -> Optional[int]:
         """Writes bytes, and returns how many. None means all of them, except for an `io.RawIOBase`."""
 
 
 # A path, whose bytes need not be UTF-8; the bytes of a text; or a binary stream.
-File = Union[str, "os.PathLike[str]", "os.PathLike[bytes]", bytes, bytearray, memoryview, Readable]
-Target = Union[str, "os.PathLike[str]", "os.PathLike[bytes]", Writable]
+File = Union[str, os.PathLike[str], os.PathLike[bytes], bytes, bytearray, memoryview, Readable]
+Target = Union[str, os.PathLike[str], os.PathLike[bytes], Writable]
 
 
 def name_of(file: File | Target) -> str:
@@ -129,19 +129,24 @@ def text_of(file: File, name: str, stack: contextlib.ExitStack) -> io.FileIO | I
 
 
 class Source:
-    """A text that the program reads from `end`, whose descriptor is `fd`. That is the file itself, if its bytes are the
-    text, or else the end of a pipe that `feed` writes to. `failure` is why reading the text failed, and `sure` is the
+    """A text that the program reads from `end`, whose descriptor is `fd` and whose path is `place`. That is the file
+    itself, if its bytes are the text, or else the end of a pipe that `feed` writes to; but if a folder is given, it is
+    a file of its own there, which has the text already. `failure` is why reading the text failed, and `sure` is the
     number of its lines that were read whole before. The stack closes what is opened."""
 
-    def __init__(self, file: File, stack: contextlib.ExitStack) -> None:
+    def __init__(self, file: File, stack: contextlib.ExitStack, folder: str | None = None) -> None:
         self.name, self.sure = name_of(file), 0
         self.failure: Read | None = None
-        self._is_compressed = isinstance(file, (str, os.PathLike))
         self._into: BinaryIO | None = None
         self._pieces: Iterator[bytes] = iter(())
         text = text_of(file, self.name, stack)
-        if isinstance(text, io.FileIO):
-            end: BinaryIO = text
+        self._is_compressed = isinstance(file, (str, os.PathLike)) and not isinstance(text, io.FileIO)
+        if folder is not None:
+            self._pieces = of_stream(text) if isinstance(text, io.FileIO) else text
+            self.place = self._into_file(folder, stack)
+            end: BinaryIO = stack.enter_context(open(self.place, "rb", buffering=0))
+        elif isinstance(text, io.FileIO):
+            end = text
         else:
             self._pieces = text
             reads, writes = os.pipe()
@@ -149,6 +154,17 @@ class Source:
             self._into = stack.enter_context(open(writes, "wb", buffering=0))
         self.end = stack.enter_context(beyond_standard(end))
         self.fd = self.end.fileno()
+        if folder is None:
+            self.place = f"/dev/fd/{self.fd}"
+
+    def _into_file(self, folder: str, stack: contextlib.ExitStack) -> str:
+        """Writes the text into a file of its own in a folder, and returns the path. The stack removes the file."""
+        place = os.path.join(os.path.abspath(folder), f"dnorm-{secrets.token_hex(8)}")
+        with failing(Write, place):
+            self._into = stack.enter_context(open(place, "xb", buffering=0))
+            stack.callback(os.unlink, place)
+            self.feed()
+        return place
 
     def feed(self) -> None:
         """Writes the text into the pipe, until the program reads no more of it. If reading the text fails, ends it with
@@ -167,6 +183,7 @@ class Source:
             self.failure = error
             takes(self._into, BAD_LINE)
         self._into.close()
+        self._into = None
 
     def _next(self) -> bytes | None:
         """Returns the next piece, if there is one."""

@@ -1,0 +1,148 @@
+"""Reads instances from canonical texts."""
+
+from __future__ import annotations
+
+import re
+from array import array
+from typing import Any, Union
+
+from .calls import canon_into
+from .columns import column, numpy_here
+from .errors import Unexpected
+from .files import File, Sink, name_of
+from .instances import Co, Max, Min, P2p, Sp, Ss
+from .lines import COUNTED, PROBLEM
+from .program import Program, unexpected
+
+# The most digits of which every number fits into 64 signed bits.
+SURE = 18
+
+
+class Reader:
+    """Reads a canonical text, piece by piece. `flows` and `terminals` have what its node lines say, and `columns` the
+    numbers of its counted lines."""
+
+    def __init__(self, name: str) -> None:
+        self.name, self.kind = name, ""
+        self.nodes = self.declared = 0
+        self.flows: dict[int, int] = {}
+        self.terminals: dict[bytes, int] = {}
+        self.columns: list[array[int]] = []
+        self._head = self._rest = b""
+        self._numpy = numpy_here()
+
+    def take(self, piece: bytes) -> None:
+        """Reads the next piece."""
+        end = piece.rfind(b"\n") + 1
+        if not end:
+            self._rest += piece
+            return
+        text, self._rest = self._rest + piece[:end], piece[end:]
+        try:
+            if not self.kind:
+                text = self._problem(text)
+            text = self._nodes(text)
+            if text:
+                self._counted(text)
+        except (ValueError, OverflowError) as error:
+            raise self._unexpected(text) from error
+
+    def end(self) -> None:
+        """Ends the text."""
+        is_whole = self.kind and len(self.columns[0]) == self.declared and not self._rest
+        if not is_whole or self.kind == "max" and set(self.terminals) != {b"s", b"t"}:
+            raise self._unexpected(self._rest)
+
+    def _problem(self, text: bytes) -> bytes:
+        """Reads the problem line, and returns the other lines."""
+        found = PROBLEM.match(text)
+        if not found:
+            raise ValueError(text)
+        self.kind, self.nodes, self.declared = (found[1] or found[3]).decode(), int(found[2] or 0), int(found[4])
+        self.columns = [array("q") for _ in range(COUNTED[self.kind][1])]
+        self._head = found[0]
+        return text[found.end() :]
+
+    def _nodes(self, text: bytes) -> bytes:
+        """Reads the node lines, which precede the arcs, and returns the other lines."""
+        if self.kind not in ("min", "max") or self.columns[0]:
+            return text
+        end = 0 if text.startswith(b"a ") else text.find(b"\na ") + 1 or len(text)
+        for line in text[:end].splitlines():
+            letter, node, word = line.split(b" ")
+            if letter != b"n":
+                raise ValueError(line)
+            if self.kind == "min":
+                self.flows[int(node)] = int(word)
+            else:
+                self.terminals[word] = int(node)
+        return text[end:]
+
+    def _counted(self, text: bytes) -> None:
+        """Reads counted lines, all at once."""
+        letter, width = COUNTED[self.kind]
+        if text.translate(None, letter + b"-0123456789 \n"):
+            raise ValueError(text)
+        rows = None if self._numpy is None else rows_of(self._numpy, text, letter, width)
+        if rows is not None:
+            for numbers, row in zip(self.columns, rows):
+                numbers.frombytes(row.data.cast("B"))
+            return
+        words, count = text.split(), text.count(b"\n")
+        if words[:: width + 1] != [letter] * count:
+            raise ValueError(text)
+        for place, numbers in enumerate(self.columns, 1):
+            found = words[place :: width + 1]
+            if len(found) != count:
+                raise ValueError(text)
+            numbers.extend(map(int, found))
+
+    def _unexpected(self, text: bytes) -> Unexpected:
+        """Returns the error for a text that is not canonical, with the first of these lines that the text cannot have,
+        or else with its problem line."""
+        letter, width = COUNTED.get(self.kind, (b"p", 0))
+        line = re.compile(b"n [0-9]+ (?:s|t|-?[0-9]+)|%s(?: -?[0-9]+){%d}" % (letter, width))
+        bad = (it for it in text.splitlines() if not line.fullmatch(it))
+        return unexpected(self.name, 0, next(bad, self._head).decode("ascii", "backslashreplace"))
+
+
+def rows_of(numpy: Any, text: bytes, letter: bytes, width: int) -> Any:
+    """Returns the numbers of lines, those at each place in a row of an array, by numpy; or None if the lines are not of
+    canonical shape, or numbers have so many digits that not all fit. The text has only letters, digits, signs, blanks
+    and line ends."""
+    if text.count(b"-") != text.count(b" -") or b"- " in text or b"-\n" in text:
+        return None
+    signs = numpy.frombuffer(text, numpy.uint8)
+    ends = numpy.flatnonzero(signs <= ord(" "))
+    if len(ends) % (width + 1):
+        return None
+    lengths = numpy.diff(ends, prepend=-1) - 1
+    lines = signs[ends].reshape(-1, width + 1)
+    sizes = lengths.reshape(-1, width + 1)
+    is_shaped = (lines[:, -1] == ord("\n")).all() and (lines[:, :-1] == ord(" ")).all() and (sizes[:, 0] == 1).all()
+    if not is_shaped or lengths.min() < 1 or lengths.max() > SURE:
+        return None
+    if text.count(letter) != len(lines) or not (signs[ends[:: width + 1] - 1] == letter[0]).all():
+        return None
+    numbers = numpy.fromstring(text.translate(None, letter), numpy.int64, sep=" ")
+    return numpy.ascontiguousarray(numbers.reshape(-1, width).T)
+
+
+def read(file: File, form: int = 1, *, program: Program = None) -> Union[Sp, Max, Min, Ss, P2p, Co]:
+    """Returns the instance that a text poses, by its canonical text: an `Sp`, `Max`, `Min`, `Ss`, `P2p` or `Co`. `form`
+    is 1 or 2, and matters only for `Min`."""
+    reader = Reader(name_of(file))
+    canon_into(Sink("out", reader.take), file, form, program)
+    reader.end()
+    columns = [column(it) for it in reader.columns]
+    nodes, terminals = reader.nodes, reader.terminals
+    if reader.kind == "min":
+        tails, heads, lows, caps, costs = columns
+        return Min(nodes, tails, heads, reader.flows, lows, caps, costs)
+    if reader.kind == "max":
+        tails, heads, capacities = columns
+        return Max(nodes, tails, heads, terminals[b"s"], terminals[b"t"], capacities)
+    if reader.kind == "sp":
+        return Sp(nodes, *columns)
+    companions: dict[str, type[Union[Ss, P2p, Co]]] = {"ss": Ss, "p2p": P2p, "co": Co}
+    return companions[reader.kind](*columns)
