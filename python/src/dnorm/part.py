@@ -85,7 +85,8 @@ def arcs_in(block: bytes) -> int:
     """Returns how many of these whole lines are arc lines."""
     count = block.count(b"\na ") + block.startswith(b"a ")
     # No line can be missing in this count if it has all of them.
-    return count if count == block.count(b"\n") else len(ARC.findall(block))
+    is_all = count == block.count(b"\n") + (not block.endswith(b"\n"))
+    return count if is_all else len(ARC.findall(block))
 
 
 def front(kind: str, nodes: int, arcs: int) -> bytes:

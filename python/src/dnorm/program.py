@@ -3,6 +3,7 @@
 from __future__ import annotations
 
 import contextlib
+import fcntl
 import os
 import re
 import shlex
@@ -11,7 +12,7 @@ import subprocess
 import sysconfig
 import threading
 from collections.abc import Callable, Iterator, Sequence
-from typing import Any, Union
+from typing import IO, Any, Union
 
 from .compressed import SIZE
 from .errors import DnormError, Endless, Killed, Memory, NoProgram, Read, Refused, Unexpected, Write
@@ -31,6 +32,8 @@ LINE = re.compile(
 PARTS = {34: (False, False), 35: (False, True), 36: (False, False)}
 # The version that each program has printed, by the words of its command.
 versions: dict[tuple[str, ...], str] = {}
+# The bytes that a pipe of the program's output holds, if the system lets it.
+WIDTH = 1 << 17
 # Where to get the program.
 WHERE = "the wheel for Linux on x86-64 brings it, and the manual names other ways under Python"
 
@@ -194,9 +197,18 @@ def talk(process: subprocess.Popen[bytes], sources: Sequence[Source], sink: Sink
         if it.failure:
             break
     out, err = process.stdout, process.stderr
-    while out and (piece := out.read(SIZE)):
+    size = widened(out) if out else 0
+    while out and (piece := out.read(size)):
         sink.take(piece)
     return err.read() if err else b""
+
+
+def widened(pipe: IO[bytes]) -> int:
+    """Makes a pipe so wide that its two sides rarely wait for each other, and returns how many bytes it has at once."""
+    with contextlib.suppress(AttributeError, OSError):
+        # Linux has this call, and Python from 3.10 on.
+        return fcntl.fcntl(pipe.fileno(), fcntl.F_SETPIPE_SZ, WIDTH)
+    return SIZE
 
 
 def status_of(process: subprocess.Popen[bytes], name: str) -> int:

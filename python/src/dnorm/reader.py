@@ -4,18 +4,16 @@ from __future__ import annotations
 
 import re
 from array import array
-from typing import Any, Union
+from typing import Union
 
 from .calls import canon_into
-from .columns import column, numpy_here
+from .columns import column
+from .digits import Digits
 from .errors import Unexpected
 from .files import File, Sink, name_of
 from .instances import Co, Max, Min, P2p, Sp, Ss
 from .lines import COUNTED, PROBLEM
 from .program import Program, unexpected
-
-# The most digits of which every number fits into 64 signed bits.
-SURE = 18
 
 
 class Reader:
@@ -29,7 +27,6 @@ class Reader:
         self.terminals: dict[bytes, int] = {}
         self.columns: list[array[int]] = []
         self._head = self._rest = b""
-        self._numpy = numpy_here()
 
     def take(self, piece: bytes) -> None:
         """Reads the next piece."""
@@ -60,6 +57,7 @@ class Reader:
             raise ValueError(text)
         self.kind, self.nodes, self.declared = (found[1] or found[3]).decode(), int(found[2] or 0), int(found[4])
         self.columns = [array("q") for _ in range(COUNTED[self.kind][1])]
+        self._digits = Digits(*COUNTED[self.kind])
         self._head = found[0]
         return text[found.end() :]
 
@@ -80,14 +78,14 @@ class Reader:
 
     def _counted(self, text: bytes) -> None:
         """Reads counted lines, all at once."""
+        columns = self._digits.columns(text)
+        if columns is not None:
+            for numbers, more in zip(self.columns, columns):
+                numbers.frombytes(more.data.cast("B"))
+            return
         letter, width = COUNTED[self.kind]
         if text.translate(None, letter + b"-0123456789 \n"):
             raise ValueError(text)
-        rows = None if self._numpy is None else rows_of(self._numpy, text, letter, width)
-        if rows is not None:
-            for numbers, row in zip(self.columns, rows):
-                numbers.frombytes(row.data.cast("B"))
-            return
         words, count = text.split(), text.count(b"\n")
         if words[:: width + 1] != [letter] * count:
             raise ValueError(text)
@@ -104,28 +102,6 @@ class Reader:
         line = re.compile(b"n [0-9]+ (?:s|t|-?[0-9]+)|%s(?: -?[0-9]+){%d}" % (letter, width))
         bad = (it for it in text.splitlines() if not line.fullmatch(it))
         return unexpected(self.name, 0, next(bad, self._head).decode("ascii", "backslashreplace"))
-
-
-def rows_of(numpy: Any, text: bytes, letter: bytes, width: int) -> Any:
-    """Returns the numbers of lines, those at each place in a row of an array, by numpy; or None if the lines are not of
-    canonical shape, or numbers have so many digits that not all fit. The text has only letters, digits, signs, blanks
-    and line ends."""
-    if text.count(b"-") != text.count(b" -") or b"- " in text or b"-\n" in text:
-        return None
-    signs = numpy.frombuffer(text, numpy.uint8)
-    ends = numpy.flatnonzero(signs <= ord(" "))
-    if len(ends) % (width + 1):
-        return None
-    lengths = numpy.diff(ends, prepend=-1) - 1
-    lines = signs[ends].reshape(-1, width + 1)
-    sizes = lengths.reshape(-1, width + 1)
-    is_shaped = (lines[:, -1] == ord("\n")).all() and (lines[:, :-1] == ord(" ")).all() and (sizes[:, 0] == 1).all()
-    if not is_shaped or lengths.min() < 1 or lengths.max() > SURE:
-        return None
-    if text.count(letter) != len(lines) or not (signs[ends[:: width + 1] - 1] == letter[0]).all():
-        return None
-    numbers = numpy.fromstring(text.translate(None, letter), numpy.int64, sep=" ")
-    return numpy.ascontiguousarray(numbers.reshape(-1, width).T)
 
 
 def read(file: File, form: int = 1, *, program: Program = None) -> Union[Sp, Max, Min, Ss, P2p, Co]:
