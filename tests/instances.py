@@ -28,7 +28,7 @@ CLASSES |= {"ss": dnorm.Ss, "p2p": dnorm.P2p, "co": dnorm.Co}
 SEED, ROUNDS = 64, 2000
 FLOW = b"p min 3 2\nn 1 4\nn 3 -4\na 1 2 0 4 2\na 2 3 0 4 -1\n"
 # An instance of each kind, the numbers of its arcs or items, and how it prints.
-KINDS = [
+KINDS: list[tuple[bytes, list[tuple[int, ...]], str]] = [
     (ROADS, [(1, 2, 3), (2, 1, 4), (2, 2, 0), (2, 3, 9), (3, 1, -5)], "<dnorm.Sp: 3 nodes, 5 arcs>"),
     (b"p max 3 1\nn 1 s\nn 3 t\na 1 3 7\n", [(1, 3, 7)], "<dnorm.Max: 3 nodes, 1 arcs>"),
     (FLOW, [(1, 2, 0, 4, 2), (2, 3, 0, 4, -1)], "<dnorm.Min: 3 nodes, 2 arcs>"),
@@ -64,11 +64,9 @@ def values(tally: Tally, _: str) -> None:
 
 def is_fixed(it: dnorm.Instance) -> bool:
     """Whether neither the columns nor the attributes of an instance can be written."""
-    columns: list[Any] = [getattr(it, name) for name in COLUMNS[it.kind].split()]
-    fails = [cannot(lambda: column.__setitem__(0, 1)) for column in columns if len(column)]
-    return all(fails) and all(
-        cannot(lambda: setattr(it, name, column)) for name in COLUMNS[it.kind].split() for column in columns
-    )
+    names = COLUMNS[it.kind].split()
+    fails = [cannot(lambda: getattr(it, name).__setitem__(0, 1)) for name in names if len(it)]
+    return all(fails) and all(cannot(lambda: setattr(it, name, getattr(it, name))) for name in names)
 
 
 def cannot(call: Callable[[], object]) -> bool:
@@ -91,8 +89,9 @@ def constructors(tally: Tally, _: str) -> None:
     for lengths in [(3,), iter([3]), range(3, 4), given.lengths, [True + 2], given.lengths[:1]]:
         tally.same(f"lengths {lengths!r}", arrays({"lengths": lengths}), given)
     other = "and not a list: from_arrays takes other numbers, too"
+    listed: Any = [1]
     rows: list[tuple[Callable[[], object], str]] = [
-        (lambda: dnorm.Sp(2, [1], [2], [3]), f"TypeError: tails is an array of 64 signed bits, {other}"),  # type: ignore
+        (lambda: dnorm.Sp(2, listed, listed, listed), f"TypeError: tails is an array of 64 signed bits, {other}"),
         (lambda: arrays({"lengths": [1.5]}), "TypeError: lengths: 'float' object cannot be interpreted as an integer"),
         (lambda: arrays({"lengths": ["3"]}), "TypeError: lengths: 'str' object cannot be interpreted as an integer"),
         (lambda: arrays({"lengths": [[3]]}), "TypeError: lengths: 'list' object cannot be interpreted as an integer"),

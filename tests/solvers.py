@@ -128,7 +128,7 @@ def by_linear_program(found: dnorm.Instance) -> int:
     assert isinstance(found, dnorm.Min)
     incidence, supplies = found.to_scipy()
     bounds = list(zip(found.lows.tolist(), found.caps.tolist()))
-    return round(optimize.linprog(found.costs, A_eq=incidence, b_eq=supplies, bounds=bounds).fun)
+    return int(round(optimize.linprog(found.costs, A_eq=incidence, b_eq=supplies, bounds=bounds).fun))
 
 
 def networks(tally: Tally, chance: random.Random) -> None:

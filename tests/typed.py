@@ -1,5 +1,5 @@
-"""A page of ordinary use of the Python package. `mypy --strict` must accept it, which tools/lint tries; tests/python runs
-it in the folder examples."""
+"""A page of ordinary use of the Python package. `mypy --strict` must accept it, which tools/lint tries; tests/python
+runs it in the folder examples."""
 
 from __future__ import annotations
 
@@ -26,7 +26,7 @@ def longest(path: str) -> int:
     """Returns the greatest length of an `sp` graph."""
     graph = dnorm.read(path)
     if graph.kind == "sp":
-        return max(graph.lengths.tolist())
+        return int(max(graph.lengths))
     if isinstance(graph, dnorm.Max):
         raise ValueError(f"{path} has the source {graph.source}")
     raise ValueError(f"{path} is {graph.kind}")

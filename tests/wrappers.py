@@ -5,9 +5,7 @@ in a folder of its own."""
 import gzip
 import os
 import shlex
-import subprocess
 import sys
-import sysconfig
 from collections.abc import Callable
 
 # This puts the folder of the package on the path.

@@ -205,9 +205,11 @@ def talk(process: subprocess.Popen[bytes], sources: Sequence[Source], sink: Sink
 
 def widened(pipe: IO[bytes]) -> int:
     """Makes a pipe so wide that its two sides rarely wait for each other, and returns how many bytes it has at once."""
-    with contextlib.suppress(AttributeError, OSError):
-        # Linux has this call, and Python from 3.10 on.
-        return fcntl.fcntl(pipe.fileno(), fcntl.F_SETPIPE_SZ, WIDTH)
+    # Linux has this request, and Python knows it from 3.10 on.
+    request = getattr(fcntl, "F_SETPIPE_SZ", None)
+    with contextlib.suppress(OSError):
+        if request is not None:
+            return fcntl.fcntl(pipe.fileno(), request, WIDTH)
     return SIZE
 
 
