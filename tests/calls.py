@@ -20,7 +20,7 @@ from pathlib import Path
 
 from known import COSTS, ROADS, ROADS_CANON, rows
 from reading import COUNTED, Fault, Text, canonical, read
-from shared import ROOT, Tally, run, write
+from shared import ROOT, Tally, bytes_of, run, write
 from texts import lines_of, made, spelled
 
 PACKAGE = f"{ROOT}/python/src"
@@ -339,11 +339,6 @@ def names(tally: Tally, _: str) -> None:
     tally.same("left before right", told(lambda: dnorm.compare(b"x", "missing")), "Refused: -:1: 1 BadLine")
     found = told(lambda: dnorm.check(5))  # type: ignore[arg-type]
     tally.same("a number", found, "TypeError: a file is a path, bytes or a binary stream, and not int")
-
-
-def bytes_of(name: str) -> bytes:
-    with open(name, "rb") as file:
-        return file.read()
 
 
 def threads(tally: Tally, _: str) -> None:

@@ -16,9 +16,9 @@ from pathlib import Path
 from typing import Any
 
 # This puts the folder of the package on the path.
-from calls import CALLS, COMPRESS, PACKAGE, bytes_of, fake, told
+from calls import CALLS, COMPRESS, PACKAGE, fake, told
 from known import ROADS, ROADS_CANON
-from shared import LIMIT, Tally, run, write
+from shared import LIMIT, Tally, bytes_of, run, write
 
 import dnorm
 

@@ -15,10 +15,10 @@ from concurrent.futures import ThreadPoolExecutor
 from typing import Any
 
 # This puts the folder of the package on the path.
-from calls import COLUMNS, bytes_of, has_numpy, told
+from calls import COLUMNS, has_numpy, told
 from known import ROADS, ROADS_CANON
 from reading import GRAPHS, MOST, Fault, Text, canonical, read
-from shared import ROOT, Tally, run
+from shared import ROOT, Tally, bytes_of, run
 from texts import lines_of, made, spelled
 
 import dnorm
