@@ -41,13 +41,15 @@ class Digits:
         if len(ends) % step or not self._has_shape(signs, ends):
             return None
         words = np.ndarray((len(padded) - 7,), "<u8", padded, 0, (1,))
-        found, count = [], 0
+        found, count, has_signs = [], 0, b"-" in text
         for place in range(1, step):
             end, before = ends[place::step], ends[place - 1 :: step]
             size = end - before - 1
-            is_negative = signs[before + 1] == ord("-") if b"-" in text else None
-            if is_negative is not None:
+            is_negative = signs[before + 1] == ord("-") if has_signs else None
+            if is_negative is not None and is_negative.any():
                 size -= is_negative
+            else:
+                is_negative = None
             if size.min() < 1 or size.max() > MOST:
                 return None
             count += int(size.sum())

@@ -4,10 +4,10 @@ from __future__ import annotations
 
 import re
 from array import array
-from typing import Union
+from typing import Any, Union
 
 from .calls import canon_into
-from .columns import column
+from .columns import Growing
 from .digits import Digits
 from .errors import Unexpected
 from .files import File, Sink, name_of
@@ -17,15 +17,15 @@ from .program import Program, unexpected
 
 
 class Reader:
-    """Reads a canonical text, piece by piece. `flows` and `terminals` have what its node lines say, and `columns` the
-    numbers of its counted lines."""
+    """Reads a canonical text, piece by piece. `flows` and `terminals` have what its node lines say, and `columns`
+    the numbers of its `counted` lines."""
 
     def __init__(self, name: str) -> None:
         self.name, self.kind = name, ""
-        self.nodes = self.declared = 0
+        self.nodes = self.declared = self.counted = 0
         self.flows: dict[int, int] = {}
         self.terminals: dict[bytes, int] = {}
-        self.columns: list[array[int]] = []
+        self.columns: list[Growing] = []
         self._head = self._rest = b""
 
     def take(self, piece: bytes) -> None:
@@ -46,7 +46,7 @@ class Reader:
 
     def end(self) -> None:
         """Ends the text."""
-        is_whole = self.kind and len(self.columns[0]) == self.declared and not self._rest
+        is_whole = self.kind and self.counted == self.declared and not self._rest
         if not is_whole or self.kind == "max" and set(self.terminals) != {b"s", b"t"}:
             raise self._unexpected(self._rest)
 
@@ -56,14 +56,14 @@ class Reader:
         if not found:
             raise ValueError(text)
         self.kind, self.nodes, self.declared = (found[1] or found[3]).decode(), int(found[2] or 0), int(found[4])
-        self.columns = [array("q") for _ in range(COUNTED[self.kind][1])]
+        self.columns = [Growing() for _ in range(COUNTED[self.kind][1])]
         self._digits = Digits(*COUNTED[self.kind])
         self._head = found[0]
         return text[found.end() :]
 
     def _nodes(self, text: bytes) -> bytes:
         """Reads the node lines, which precede the arcs, and returns the other lines."""
-        if self.kind not in ("min", "max") or self.columns[0]:
+        if self.kind not in ("min", "max") or self.counted:
             return text
         end = 0 if text.startswith(b"a ") else text.find(b"\na ") + 1 or len(text)
         for line in text[:end].splitlines():
@@ -78,22 +78,23 @@ class Reader:
 
     def _counted(self, text: bytes) -> None:
         """Reads counted lines, all at once."""
-        columns = self._digits.columns(text)
-        if columns is not None:
-            for numbers, more in zip(self.columns, columns):
-                numbers.frombytes(more.data.cast("B"))
-            return
+        found = self._digits.columns(text) or self._numbers(text)
+        self.counted += len(found[0])
+        for column, numbers in zip(self.columns, found):
+            column.extend(numbers)
+
+    def _numbers(self, text: bytes) -> list[Any]:
+        """Returns the numbers of counted lines, those at each place of a line in an array."""
         letter, width = COUNTED[self.kind]
         if text.translate(None, letter + b"-0123456789 \n"):
             raise ValueError(text)
         words, count = text.split(), text.count(b"\n")
         if words[:: width + 1] != [letter] * count:
             raise ValueError(text)
-        for place, numbers in enumerate(self.columns, 1):
-            found = words[place :: width + 1]
-            if len(found) != count:
-                raise ValueError(text)
-            numbers.extend(map(int, found))
+        places = [words[place :: width + 1] for place in range(1, width + 1)]
+        if any(len(it) != count for it in places):
+            raise ValueError(text)
+        return [array("q", map(int, it)) for it in places]
 
     def _unexpected(self, text: bytes) -> Unexpected:
         """Returns the error for a text that is not canonical, with the first of these lines that the text cannot have,
@@ -110,7 +111,7 @@ def read(file: File, form: int = 1, *, program: Program = None) -> Union[Sp, Max
     reader = Reader(name_of(file))
     canon_into(Sink("out", reader.take), file, form, program)
     reader.end()
-    columns = [column(it) for it in reader.columns]
+    columns = [it.column() for it in reader.columns]
     nodes, terminals = reader.nodes, reader.terminals
     if reader.kind == "min":
         tails, heads, lows, caps, costs = columns
