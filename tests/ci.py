@@ -12,7 +12,7 @@ from xml.etree import ElementTree
 
 from calls import PACKAGE
 from known import ROADS
-from shared import ROOT, Answer, Tally, run, write
+from shared import ROOT, Answer, Tally, run, text_of, write
 
 WORKFLOW = f"{ROOT}/share/ci/github.yml"
 HOOKS = f"{ROOT}/.pre-commit-hooks.yaml"
@@ -21,11 +21,6 @@ VERSION = "1.2.3"
 STEP = re.compile(r"^ +run: \|\n((?: {10}.*\n)+)", re.M)
 VALUE = re.compile(r"^ {6}(\w+): (\S+)$", re.M)
 FIELD = re.compile(r"^[- ] (\w+): (.*)$", re.M)
-
-
-def text_of(path: str) -> str:
-    with open(path, encoding="utf-8") as file:
-        return file.read()
 
 
 def make_release(tested: str) -> None:

@@ -16,9 +16,9 @@ from pathlib import Path
 from typing import Any
 
 # This puts the folder of the package on the path.
-from calls import CALLS, COMPRESS, PACKAGE, bytes_of, fake, told
+from calls import CALLS, COMPRESS, PACKAGE, fake, told
 from known import ROADS, ROADS_CANON
-from shared import LIMIT, Tally, run, write
+from shared import LIMIT, Tally, bytes_of, run, write
 
 import dnorm
 
@@ -202,6 +202,7 @@ def sinks(tally: Tally, _: str) -> None:
 
 
 NONE = "there is no such program"
+WHERE = "the wheel for Linux on x86-64 brings it, and the manual names other ways under Python"
 # Where the program is looked for: the argument, $DNORM, PATH, and the error if it is not found.
 PLACES: list[tuple[str | None, str | None, str, str]] = [
     ("bin/dnorm", None, "/none", ""),
@@ -214,7 +215,7 @@ PLACES: list[tuple[str | None, str | None, str, str]] = [
     ("bin", "bin/dnorm", "bin", f"NoProgram: bin: cannot be run ({NONE})"),
     ("bin/plain", None, "bin", f"NoProgram: bin/plain: cannot be run ({NONE})"),
     (None, "/none", "bin", f"NoProgram: /none: cannot be run ({NONE}, and $DNORM names it)"),
-    (None, None, "/none", f"NoProgram: dnorm: cannot be run ({NONE} on PATH, and $DNORM names none)"),
+    (None, None, "/none", f"NoProgram: dnorm: cannot be run ({NONE} on PATH, and $DNORM names none; {WHERE})"),
 ]
 
 

@@ -17,9 +17,9 @@ from typing import Any
 from xml.etree import ElementTree
 
 # This puts the folder of the package on the path.
-from calls import COMPRESS, PACKAGE, bytes_of, fake
+from calls import COMPRESS, PACKAGE, fake
 from known import COSTS, COSTS_TWO, FLOWS, ROADS, ROADS_CANON
-from shared import LIMIT, Answer, Tally, run, write
+from shared import LIMIT, Answer, Tally, bytes_of, run, write
 
 ENVIRONMENT = {"PYTHONPATH": PACKAGE, "PYTHONDONTWRITEBYTECODE": "1"}
 MODULE = [sys.executable, "-m", "dnorm"]

@@ -1,5 +1,6 @@
-"""What the tests of the built program share: which program is tested, how it is run, and how results are compared and
-counted. A test prints a line for each failure, and at the end how many checks passed and failed."""
+"""What the tests of the built program share with each other and with tools/: which program is tested, how it is run,
+and how results are compared and counted. A test prints a line for each failure, and at the end how many checks passed
+and failed. What a tool takes from here it finds by adding tests/ to its path; no test imports a tool."""
 
 import os
 import resource
@@ -40,6 +41,10 @@ class Tally:
     def holds(self, name: str, is_so: object) -> None:
         """Checks that this holds, and otherwise prints that it does not."""
         self.same(name, bool(is_so), True)
+
+    def wants(self, what: str, found: Answer, out: str | bytes = b"", err: str | bytes = b"", status: int = 0) -> None:
+        """Checks what a run printed, and its status."""
+        self.same(what, found, Answer(os.fsencode(out), os.fsencode(err), status))
 
     def fail(self, line: str) -> None:
         self.failed += 1
@@ -124,6 +129,18 @@ def pipe(stream: IO[bytes] | None) -> IO[bytes]:
     """Returns a stream of a process that was started with a pipe for it."""
     assert stream is not None
     return stream
+
+
+def text_of(path: str, errors: str = "strict") -> str:
+    """Returns the text of a file. `errors` says what becomes of bytes that are not UTF-8, as for `open`."""
+    with open(path, encoding="utf-8", errors=errors) as file:
+        return file.read()
+
+
+def bytes_of(path: str) -> bytes:
+    """Returns the bytes of a file."""
+    with open(path, "rb") as file:
+        return file.read()
 
 
 def write(path: str | bytes, text: str | bytes) -> None:

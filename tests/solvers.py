@@ -5,8 +5,9 @@ this script by a Python that has networkx and scipy.
 
     tests/solvers.py [PROGRAM]"""
 
-import importlib
 import bz2
+import importlib.util
+import io
 import os
 import pickle
 import random
@@ -17,18 +18,20 @@ import tempfile
 from typing import Any
 
 # This puts the folder of the package on the path.
-from calls import columns
-from reading import Text
+import instances
+from calls import columns, outputs, told
+from reading import Text, canonical
 from shared import Tally, program, run, write
 from texts import lines_of
 
 import dnorm
 
-SEED, ROUNDS = 56, 12
+SEED, ROUNDS, NETWORKS = 56, 12, 200
 # The optimum in the report of glpsol.
 OPTIMUM = re.compile(rb"^Objective: .*?(\S+) \(M", re.M)
 networkx: Any = importlib.import_module("networkx")
 csgraph: Any = importlib.import_module("scipy.sparse.csgraph")
+optimize: Any = importlib.import_module("scipy.optimize")
 
 
 def grid(chance: random.Random, side: int) -> list[tuple[int, int]]:
@@ -116,7 +119,85 @@ def cheapest(tally: Tally, chance: random.Random) -> None:
     given = bytes_of(chance, text)
     wanted = least_cost(text)
     found = [*(by_networkx(dnorm.read(given, form)) for form in [1, 2]), *optima("--mincost", given)]
+    found += [by_linear_program(dnorm.read(given, form)) for form in [1, 2]]
     tally.same("least costs", found, [wanted] * len(found))
+
+
+def by_linear_program(found: dnorm.Instance) -> int:
+    """Returns the least cost of a `min` problem as a linear program."""
+    assert isinstance(found, dnorm.Min)
+    incidence, supplies = found.to_scipy()
+    bounds = list(zip(found.lows.tolist(), found.caps.tolist()))
+    return int(round(optimize.linprog(found.costs, A_eq=incidence, b_eq=supplies, bounds=bounds).fun))
+
+
+def networks(tally: Tally, chance: random.Random) -> None:
+    """Compares the texts of graphs of networkx with what they say, and graphs that were read with what they give back.
+    Edges are parallel where networkx lets them, and attributes that have a default are often missing."""
+    graph, nodes = networkx.MultiDiGraph(source=2, sink=1), chance.randint(2, 6)
+    graph.add_nodes_from(range(1, nodes + 1))
+    texts = {dnorm.Sp: Text("sp", nodes), dnorm.Max: Text("max", nodes, terminals={"s": 2, "t": 1})}
+    texts[dnorm.Min] = Text("min", nodes, flows=dict.fromkeys(range(1, nodes + 1), 0))
+    for _ in range(chance.choice([0, 1, 5, 20])):
+        tail, head, low, capacity = (
+            *chance.choices(range(1, nodes + 1), k=2),
+            chance.choice([0, 1]),
+            chance.randint(0, 9),
+        )
+        data = {"capacity": capacity} | {it: chance.randint(0, 5) for it in ["weight"] if chance.random() < 0.8}
+        graph.add_edge(tail, head, **data, **({"low": low} if low else {}))
+        texts[dnorm.Sp].items.append((tail, head, data.get("weight", 1)))
+        texts[dnorm.Max].items.append((tail, head, capacity))
+        texts[dnorm.Min].items.append((tail, head, low, capacity + low, data.get("weight", 0)))
+        texts[dnorm.Min].flows[tail] += low
+        texts[dnorm.Min].flows[head] -= low
+    for node in chance.sample(range(1, nodes + 1), 2):
+        graph.nodes[node]["demand"] = chance.randint(-9, 9)
+        texts[dnorm.Min].flows[node] -= graph.nodes[node]["demand"]
+    for kind, text in texts.items():
+        target = io.BytesIO()
+        dnorm.write(dnorm.from_networkx(kind, graph), target)
+        given = target.getvalue()
+        tally.same(f"{given!r}, of networkx", dnorm.canon(given), canonical(text, 1))
+        found: Any = dnorm.read(given)
+        tally.same(f"{given!r}, to networkx and back", dnorm.from_networkx(kind, found.to_networkx()), found)
+
+
+def unfit(tally: Tally, _: str) -> None:
+    """Tests graphs of networkx that are no instance, and instances with parallel arcs."""
+    directed = networkx.DiGraph([(1, 2)])
+    rows: list[tuple[Any, Any, str]] = [
+        (dnorm.Sp, networkx.Graph([(1, 2)]), "ValueError: the graph is undirected: "),
+        (dnorm.Sp, networkx.DiGraph([(0, 1)]), "ValueError: the 2 nodes are not the numbers 1 to 2"),
+        (dnorm.Sp, networkx.DiGraph([("a", "b")]), "ValueError: the 2 nodes are not the numbers 1 to 2"),
+        (dnorm.Sp, networkx.DiGraph([(1, 2, {"weight": 0.5})]), "TypeError: lengths: 'float' object cannot be"),
+        (dnorm.Max, networkx.DiGraph([(1, 2)], source=1, sink=2), "ValueError: the edge from 1 to 2 has no capacity"),
+        (
+            dnorm.Max,
+            networkx.DiGraph([(1, 2, {"capacity": 1})], sink=2),
+            "ValueError: the graph has no attribute source",
+        ),
+        (dnorm.Min, directed, "ValueError: the edge from 1 to 2 has no capacity"),
+        (dnorm.Ss, networkx.DiGraph([(1, 2, {"capacity": 1})]), "TypeError: from_networkx makes Sp, Max and Min"),
+    ]
+    for kind, graph, wanted in rows:
+        found = told(lambda: dnorm.from_networkx(kind, graph))
+        tally.holds(f"{graph.edges(data=True)}: {found}", found.startswith(wanted))
+    ends = {"nodes": 2, "tails": [1, 1], "heads": [2, 2]}
+    parallel = dnorm.from_arrays(dnorm.Max, **ends, capacities=[7, 4], source=1, sink=2)
+    lengths = dnorm.from_arrays(dnorm.Sp, **ends, lengths=[7, 4])
+    for call in [parallel.to_networkx, parallel.to_scipy, lengths.to_networkx, lengths.to_scipy]:
+        tally.holds("parallel arcs", told(call).startswith("ValueError: arcs are parallel: "))
+
+
+def frames(tally: Tally, _: str) -> None:
+    """Tests instances as tables of pandas."""
+    if not importlib.util.find_spec("pandas"):
+        tally.leave_out("tables of pandas", "pandas")
+        return
+    found = dnorm.read(b"p min 2 2\na 1 2 0 3 -4\na 1 2 0 5 6\n").to_pandas()
+    wanted = {"tails": [1, 1], "heads": [2, 2], "lows": [0, 0], "caps": [3, 5], "costs": [-4, 6]}
+    tally.same("a table", (found.to_dict("list"), {str(it) for it in found.dtypes}), (wanted, {"int64"}))
 
 
 def least_cost(text: Text) -> int:
@@ -201,8 +282,11 @@ def main() -> int:
         for _ in range(ROUNDS):
             for test in [shortest, greatest, cheapest]:
                 test(tally, chance)
+        for _ in range(NETWORKS):
+            networks(tally, chance)
         published(tally, chance)
-        columns(tally, os.environ["DNORM"])
+        for each in [columns, outputs, unfit, frames, instances.values, instances.constructors, instances.faulty]:
+            each(tally, os.environ["DNORM"])
         numbers = dnorm.read(b"p sp 1 1\na 1 1 7\n")
         assert isinstance(numbers, dnorm.Sp)
         column: Any = numbers.lengths

@@ -1,13 +1,20 @@
-"""Compares the pages with the repository: code that they quote, files and names that they mention, and links.
+"""Compares the pages with the repository: code that they quote, files and names that they mention, and links. Each
+complaint is a line that begins with the page. tools/definitions calls `complaints`; run by itself,
 
-tools/definitions calls `complaints`. Each complaint is a line that begins with the page."""
+    python3 tools/pages.py FOLDER
+
+complains of links in the pages below a folder."""
 
 import glob
 import os
 import re
+import sys
 from collections.abc import Iterator
 
-ROOT = os.path.dirname(os.path.dirname(os.path.realpath(__file__)))
+sys.path.append(os.path.join(os.path.dirname(os.path.realpath(__file__)), "../tests"))
+# The tests' folder must be on the path before this import.
+from shared import ROOT, text_of  # noqa: E402
+
 DOCS = sorted(os.path.relpath(it, ROOT) for it in glob.glob(f"{ROOT}/docs/*.md"))
 # The pages whose paths are checked, and the pages whose links are checked.
 PLACING = ["README.md", "CONTRIBUTING.md", *DOCS]
@@ -46,11 +53,6 @@ BY_MODULE = re.compile(r"in `(\w+)`, by module")
 # A name and a module of a crate that the text named before: `a` (`runs`). Bundles have their kinds in the same
 # notation.
 IN_FILE = re.compile(rf"`({NAME})` \(`(?!(?:sp|max|min)`)([a-z_0-9]+)`\)")
-
-
-def text_of(path: str) -> str:
-    with open(path, encoding="utf-8") as file:
-        return file.read()
 
 
 def page_text(page: str, top: str = ROOT) -> str:
@@ -239,3 +241,17 @@ def complaints() -> Iterator[str]:
         yield from bad_rows(page)
     for page in NAMING:
         yield from bad_names(page)
+
+
+def main() -> int:
+    if len(sys.argv) != 2:
+        sys.exit(__doc__)
+    top = sys.argv[1]
+    for path in sorted(glob.glob(f"{top}/**/*.md", recursive=True)):
+        for complaint in bad_links(os.path.relpath(path, top), top):
+            print(complaint)
+    return 0
+
+
+if __name__ == "__main__":
+    sys.exit(main())

@@ -9,9 +9,10 @@
 `check`, `canon`, `canon_to`, `checksum`, `compare`, `show` and `read` each run the program once, and `differences`
 several times. They take a file as a path, as bytes, or as a binary stream, which they read from where it is to its end,
 and do not close. A path that ends in `.gz`, `.bz2` or `.xz` is decompressed while the program reads it, also one that
-ends in `.zst` if Python or the module `zstandard` can; `.Z`, `.lz4`, `.zip`, `.br` and `.7z` are errors. The keyword
-`program` says where the program is: by default `$DNORM` or, if that is not set, the first `dnorm` on `PATH`. With the
-keyword `timeout`, a call that takes more seconds raises `TimedOut`.
+ends in `.zst` if Python or the module `zstandard` can; `.Z`, `.lz4`, `.zip`, `.br` and `.7z` are errors. `write` writes
+what `read` returns, and what `from_arrays` and `from_networkx` make. The keyword `program` says where the program is:
+by default `$DNORM` or, if that is not set, the one that pip installed with this package, or else the first `dnorm` on
+`PATH`. With the keyword `timeout`, a call that takes more seconds raises `TimedOut`.
 
 A text that the program refuses raises `Refused`, and any other failure another `DnormError`. If reading a text fails,
 or a compressed file is corrupt, no call returns an answer for it.
@@ -20,12 +21,16 @@ or a compressed file is corrupt, no call returns an answer for it.
 
 from .answers import CapacityPair, Checked, CostPair, Difference, LengthPair, Same, Shown
 from .calls import canon, canon_to, check, checksum, compare, show
+from .columns import Column
 from .errors import DnormError, Endless, Killed, Memory, NoProgram, Read, Refused, TimedOut, Unexpected, Write
 from .files import File, Readable, Target, Writable
-from .instances import Column, Co, Graph, Instance, Max, Min, P2p, Sp, Ss, read
+from .instances import Co, Graph, Instance, Max, Min, P2p, Sp, Ss, from_arrays
+from .networks import from_networkx
 from .program import find_program, version
+from .reader import read
 from .refusals import REFUSALS
 from .summary import Differences, PairDifference, differences
+from .writer import write
 
 # The version of the program that this package belongs to, as Python packages spell it.
 __version__ = "1.2.0-dev"
@@ -71,7 +76,10 @@ __all__ = [
     "compare",
     "differences",
     "find_program",
+    "from_arrays",
+    "from_networkx",
     "read",
     "show",
     "version",
+    "write",
 ]

@@ -16,7 +16,7 @@ from .errors import DnormError, Read, Refused, Write
 from .explain import explained
 from .files import failing
 from .folders import ENDINGS
-from .program import version
+from .program import processors, version
 from .reports import Console, Stopped, cause_of, line_of
 
 ABOUT = "Runs the program dnorm on many files at the same time."
@@ -156,12 +156,6 @@ def check_files(found: argparse.Namespace, error: Callable[[str], NoReturn]) -> 
     found.form = getattr(found, "form", None) or 1
     found.jobs = found.jobs or processors()
     found.ending = found.ending or ENDINGS
-
-
-def processors() -> int:
-    """Returns the number of processors that this process may use."""
-    allowed = getattr(os, "sched_getaffinity", None)
-    return len(allowed(0)) if allowed else os.cpu_count() or 1
 
 
 def named(found: argparse.Namespace) -> list[str]:

@@ -4,7 +4,7 @@ from __future__ import annotations
 
 import re
 from dataclasses import dataclass
-from typing import NamedTuple, Union
+from typing import Literal, NamedTuple, Optional, Union
 
 KIND, NUMBER = "min|max|sp|ss|p2p|co", "-?[0-9]+"
 CHECKED = re.compile(rf"accepted ({KIND})\n(?:fits (ss|p2p|co)\n)?forms (1 2|1|2|none)\n")
@@ -46,7 +46,7 @@ class Checked:
     `forms` has the forms in which the text is canonical: 1, 2, both or none."""
 
     kind: str
-    fits: str | None
+    fits: Optional[str]
     forms: tuple[int, ...]
 
 
@@ -91,10 +91,10 @@ class Shown:
 
     kind: str
     lines: int
-    nodes: int | None = None
-    supplies: int | None = None
-    source: int | None = None
-    sink: int | None = None
+    nodes: Optional[int] = None
+    supplies: Optional[int] = None
+    source: Optional[int] = None
+    sink: Optional[int] = None
     pairs: tuple[Pair, ...] = ()
 
     def __repr__(self) -> str:
@@ -109,7 +109,7 @@ class Shown:
 class Same:
     """Two texts pose the same problem. As a condition it is true."""
 
-    def __bool__(self) -> bool:
+    def __bool__(self) -> Literal[True]:
         return True
 
     def __str__(self) -> str:
@@ -136,14 +136,14 @@ class Difference:
     `pair` is a tail and a head. What a difference does not have is None."""
 
     what: str
-    left: int | str | None = None
-    right: int | str | None = None
-    node: int | None = None
-    pair: tuple[int, int] | None = None
-    amount: int | None = None
-    place: int | None = None
+    left: Union[int, str, None] = None
+    right: Union[int, str, None] = None
+    node: Optional[int] = None
+    pair: Optional[tuple[int, int]] = None
+    amount: Optional[int] = None
+    place: Optional[int] = None
 
-    def __bool__(self) -> bool:
+    def __bool__(self) -> Literal[False]:
         return False
 
     def __str__(self) -> str:

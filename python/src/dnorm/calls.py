@@ -4,7 +4,7 @@ from __future__ import annotations
 
 import hashlib
 from collections.abc import Callable, Sequence
-from typing import TypeVar
+from typing import Optional, TypeVar, Union
 
 from .answers import Checked, Difference, Same, Shown, checked, compared, shown
 from .files import File, Sink, Target, name_of, sink_of
@@ -14,7 +14,7 @@ Answer = TypeVar("Answer")
 
 
 def check(
-    file: File, companion: File | None = None, *, program: Program = None, timeout: float | None = None
+    file: File, companion: Optional[File] = None, *, program: Program = None, timeout: Optional[float] = None
 ) -> Checked:
     """Checks a text, and with a companion that the companion fits.
 
@@ -30,7 +30,7 @@ def check(
     return found
 
 
-def canon(file: File, form: int = 1, *, program: Program = None, timeout: float | None = None) -> bytes:
+def canon(file: File, form: int = 1, *, program: Program = None, timeout: Optional[float] = None) -> bytes:
     """Returns the canonical text of a text. `form` is 1 or 2, and matters only for `min`."""
     parts: list[bytes] = []
     canon_into(Sink("out", parts.append), file, form, program, timeout)
@@ -38,7 +38,7 @@ def canon(file: File, form: int = 1, *, program: Program = None, timeout: float 
 
 
 def canon_to(
-    file: File, target: Target, form: int = 1, *, program: Program = None, timeout: float | None = None
+    file: File, target: Target, form: int = 1, *, program: Program = None, timeout: Optional[float] = None
 ) -> None:
     """Writes the canonical text of a text to a path or a binary stream, without keeping it in memory.
 
@@ -50,7 +50,7 @@ def canon_to(
         canon_into(sink, file, form, program, timeout)
 
 
-def checksum(file: File, form: int = 1, *, program: Program = None, timeout: float | None = None) -> str:
+def checksum(file: File, form: int = 1, *, program: Program = None, timeout: Optional[float] = None) -> str:
     """Returns the SHA-256 checksum of the canonical text, in hexadecimal digits. Texts that pose the same problem have
     the same checksum."""
     found = hashlib.sha256()
@@ -58,7 +58,7 @@ def checksum(file: File, form: int = 1, *, program: Program = None, timeout: flo
     return found.hexdigest()
 
 
-def canon_into(sink: Sink, file: File, form: int, program: Program, timeout: float | None = None) -> None:
+def canon_into(sink: Sink, file: File, form: int, program: Program, timeout: Optional[float] = None) -> None:
     """Writes the canonical text of a text into a sink."""
     if form not in (1, 2):
         raise ValueError(f"form is 1 or 2, and not {form!r}")
@@ -67,13 +67,15 @@ def canon_into(sink: Sink, file: File, form: int, program: Program, timeout: flo
         raise unexpected(name_of(file), status, "")
 
 
-def compare(left: File, right: File, *, program: Program = None, timeout: float | None = None) -> Same | Difference:
+def compare(
+    left: File, right: File, *, program: Program = None, timeout: Optional[float] = None
+) -> Union[Same, Difference]:
     """Returns `Same` if both texts pose the same problem, or else their first `Difference`. As a condition, `Same` is
     true and a `Difference` is false."""
     return answer(compared, lambda *names: ["compare", *names], [left, right], program, timeout)
 
 
-def show(file: File, *, program: Program = None, timeout: float | None = None) -> Shown:
+def show(file: File, *, program: Program = None, timeout: Optional[float] = None) -> Shown:
     """Returns what a text contains. `read` returns its arcs, too."""
     return answer(shown, lambda name: ["show", name], [file], program, timeout)
 
@@ -83,7 +85,7 @@ def answer(
     words: Callable[..., Sequence[str]],
     files: Sequence[File],
     program: Program,
-    timeout: float | None,
+    timeout: Optional[float],
 ) -> Answer:
     """Returns what the lines say that the program prints for these files."""
     parts: list[bytes] = []

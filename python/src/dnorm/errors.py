@@ -3,6 +3,7 @@
 from __future__ import annotations
 
 import signal
+from typing import Optional
 
 from .refusals import REFUSALS
 
@@ -40,12 +41,12 @@ class Refused(DnormError):
     def __init__(
         self,
         name: str,
-        line: int | None,
+        line: Optional[int],
         number: int,
         word: str,
-        node: int | None = None,
-        text: str | None = None,
-        hint: str | None = None,
+        node: Optional[int] = None,
+        text: Optional[str] = None,
+        hint: Optional[str] = None,
     ) -> None:
         super().__init__(name, line, number, word, node, text, hint)
         self.line, self.number, self.word, self.node = line, number, word, node

@@ -9,7 +9,7 @@ import os
 import secrets
 import stat
 from collections.abc import Callable, Iterator
-from typing import BinaryIO, Protocol, Union
+from typing import BinaryIO, Optional, Protocol, Union
 
 from .causes import Cause, cause_of
 from .compressed import COMPRESSORS, DECOMPRESSORS, SIZE, Compressed, ending_of, pieces
@@ -23,20 +23,20 @@ BAD_LINE = b"\n?\n"
 class Readable(Protocol):
     """A binary stream that is read."""
 
-    def read(self, size: int, /) -> bytes | None:
+    def read(self, size: int, /) -> Optional[bytes]:
         """Returns at most so many bytes, and none at the end."""
 
 
 class Writable(Protocol):
     """A binary stream that is written."""
 
-    def write(self, data: bytes, /) -> int | None:
+    def write(self, data: bytes, /) -> Optional[int]:
         """Writes bytes, and returns how many. None means all of them, except for an `io.RawIOBase`."""
 
 
 # A path, whose bytes need not be UTF-8; the bytes of a text; or a binary stream.
-File = Union[str, "os.PathLike[str]", "os.PathLike[bytes]", bytes, bytearray, memoryview, Readable]
-Target = Union[str, "os.PathLike[str]", "os.PathLike[bytes]", Writable]
+File = Union[str, os.PathLike[str], os.PathLike[bytes], bytes, bytearray, memoryview, Readable]
+Target = Union[str, os.PathLike[str], os.PathLike[bytes], Writable]
 
 
 def name_of(file: File | Target) -> str:
@@ -146,20 +146,26 @@ def text_of(file: File, name: str, stack: contextlib.ExitStack, limit: Limit) ->
 
 
 class Source:
-    """A text that the program reads from `end`, whose descriptor is `fd`. That is the file itself, if its bytes are the
-    text, or else the end of a pipe that `feed` writes to. `failure` is why reading the text failed, and `sure` is the
+    """A text that the program reads from `end`, whose descriptor is `fd` and whose path is `place`. That is the file
+    itself, if its bytes are the text, or else the end of a pipe that `feed` writes to; but if a folder is given, it is
+    a file of its own there, which has the text already. `failure` is why reading the text failed, and `sure` is the
     number of its lines that were read whole before. The stack closes what is opened."""
 
-    def __init__(self, file: File, stack: contextlib.ExitStack, limit: Limit) -> None:
+    def __init__(self, file: File, stack: contextlib.ExitStack, limit: Limit, folder: str | None = None) -> None:
         self.file, self.name, self.sure = file, name_of(file), 0
         self._limit = limit
         self.failure: Read | None = None
-        self._is_compressed = isinstance(file, (str, os.PathLike))
         self._into: BinaryIO | None = None
         self._pieces: Iterator[bytes] = iter(())
         text = text_of(file, self.name, stack, limit)
-        if isinstance(text, io.FileIO):
-            end: BinaryIO = text
+        self._is_file = isinstance(text, io.FileIO)
+        self._is_compressed = isinstance(file, (str, os.PathLike)) and not self._is_file
+        if folder is not None:
+            self._pieces = of_stream(text) if isinstance(text, io.FileIO) else text
+            self.place = self._into_file(folder, stack)
+            end: BinaryIO = stack.enter_context(open(self.place, "rb", buffering=0))
+        elif isinstance(text, io.FileIO):
+            end = text
         else:
             self._pieces = text
             reads, writes = os.pipe()
@@ -167,6 +173,17 @@ class Source:
             self._into = stack.enter_context(open(writes, "wb", buffering=0))
         self.end = stack.enter_context(beyond_standard(end))
         self.fd = self.end.fileno()
+        if folder is None:
+            self.place = f"/dev/fd/{self.fd}"
+
+    def _into_file(self, folder: str, stack: contextlib.ExitStack) -> str:
+        """Writes the text into a file of its own in a folder, and returns the path. The stack removes the file."""
+        place = os.path.join(os.path.abspath(folder), f"dnorm-{secrets.token_hex(8)}")
+        with failing(Write, place):
+            self._into = stack.enter_context(open(place, "xb", buffering=0))
+            stack.callback(os.unlink, place)
+            self.feed()
+        return place
 
     def feed(self) -> None:
         """Writes the text into the pipe, until the program reads no more of it. If reading the text fails, ends it with
@@ -186,6 +203,7 @@ class Source:
             self.failure = error
             takes(self._into, BAD_LINE)
         self._into.close()
+        self._into = None
 
     def cause(self, error: Refused) -> Cause | None:
         """Returns the cause of a refusal, if the text can be read again."""
@@ -195,7 +213,7 @@ class Source:
         elif hasattr(self.file, "read"):
             return None
         with contextlib.suppress(DnormError, OSError, EOFError):
-            name = None if self._into else self.name
+            name = self.name if self._is_file else None
             return cause_of(self._again, name, error.line, error.number, error.node)
         return None
 

@@ -11,9 +11,10 @@ from typing import Any, NamedTuple
 from .calls import checksum
 from .causes import PROBLEM, lines_of
 from .files import of_stream, text_of
-from .instances import Co, Graph, Instance, Min, read
+from .instances import Co, Graph, Instance, Min
 from .limits import Limit
 from .program import Program
+from .reader import read
 from .summary import VALUES
 
 # The numbers of bits that readers and solvers have for a number without its sign.

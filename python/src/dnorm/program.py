@@ -3,13 +3,16 @@
 from __future__ import annotations
 
 import contextlib
+import fcntl
 import os
 import re
+import shlex
 import shutil
 import subprocess
+import sysconfig
 import threading
 from collections.abc import Callable, Iterator, Sequence
-from typing import Any, Union
+from typing import IO, Any, Union
 
 from .compressed import SIZE
 from .errors import DnormError, Endless, Killed, Memory, NoProgram, Read, Refused, Unexpected, Write
@@ -17,19 +20,23 @@ from .files import File, Sink, Source, name_of, reason_of
 from .limits import Limit
 from .refusals import REFUSALS
 
-# The name or the path of the program, or None for $DNORM and PATH.
-Program = Union[str, "os.PathLike[str]", None]
+# The name or the path of the program, or a command that runs it; or None for $DNORM, the scripts of pip, and PATH.
+Program = Union[str, os.PathLike[str], None]
 
 VERSION = re.compile(rb"dnorm (\S+)\n")
 # The line on standard error of a run that failed, by docs/MANUAL.md. Texts have the names that `run` gives them.
 LINE = re.compile(
-    r"(?P<name>-|/dev/fd/\d+|out|dnorm)(?::(?P<place>\d+|end))?: (?P<number>\d+) (?P<word>\w+)(?: (?P<node>\d+))?\n",
+    r"(?P<name>.+?)(?::(?P<place>\d+|end))?: (?P<number>\d+) (?P<word>\w+)(?: (?P<node>\d+))?\n",
     re.ASCII,
 )
 # Whether the line of a refusal has a place and a node. The refusals below 30 have a place.
 PARTS = {34: (False, False), 35: (False, True), 36: (False, False)}
-# The version that each program has printed, by the program's path.
-versions: dict[str, str] = {}
+# The version that each program has printed, by the words of its command.
+versions: dict[tuple[str, ...], str] = {}
+# The bytes that a pipe of the program's output holds, if the system lets it.
+WIDTH = 1 << 17
+# Where to get the program.
+WHERE = "the wheel for Linux on x86-64 brings it, and the manual names other ways under Python"
 
 
 class Children:
@@ -86,31 +93,56 @@ children = Children()
 
 
 def find_program(program: Program = None) -> str:
-    """Returns the path of the program: the one given, by its name or its path; or else `$DNORM`; or else the first
-    `dnorm` on `PATH`. Raises `NoProgram` if it is not there."""
+    """Returns the program: the one given, by its name, its path, or a command that runs it, as `qemu-x86_64 dnorm`; or
+    else what `$DNORM` is, in the same way; or else the path of the program that pip installed for this Python; or else
+    of the first `dnorm` on `PATH`. Raises `NoProgram` if it is not there."""
+    words = command(program)
+    return words[0] if len(words) == 1 else shlex.join(words)
+
+
+def command(program: Program) -> list[str]:
+    """Returns the words by which the program is run."""
     named = os.environ.get("DNORM")
-    wanted = os.fspath(program) if program is not None else named or "dnorm"
-    found = shutil.which(wanted)
-    if found:
-        return found
-    if program is not None:
-        raise NoProgram(wanted, "there is no such program")
-    if named:
-        raise NoProgram(wanted, "there is no such program, and $DNORM names it")
-    raise NoProgram(wanted, "there is no such program on PATH, and $DNORM names none")
+    if program is None and not named:
+        installed = (f"{it}/dnorm" for it in script_folders())
+        found = next(filter(shutil.which, installed), None) or shutil.which("dnorm")
+        if not found:
+            raise NoProgram("dnorm", f"there is no such program on PATH, and $DNORM names none; {WHERE}")
+        return [found]
+    wanted = named or "" if program is None else os.fspath(program)
+    # A path may contain blanks. If there is no such file, they separate words.
+    for words in ([wanted], split(wanted)):
+        found = shutil.which(words[0]) if words else None
+        if found:
+            return [found, *words[1:]]
+    raise NoProgram(wanted, "there is no such program" + (", and $DNORM names it" if program is None else ""))
+
+
+def split(line: str) -> list[str]:
+    """Returns the words of a command, as a shell splits it."""
+    try:
+        return shlex.split(line)
+    except ValueError:
+        # A quotation mark has no other.
+        return []
+
+
+def script_folders() -> list[str]:
+    """Returns the folders of the scripts that pip installs: for all users of this Python, and for this user."""
+    return [sysconfig.get_path("scripts"), sysconfig.get_path("scripts", f"{os.name}_user")]
 
 
 def version(program: Program = None) -> str:
     """Returns the version that the program prints, as `1.0.0`. Raises `NoProgram` if it is another program."""
-    return versions[verified(program)]
+    return versions[tuple(verified(program))]
 
 
-def verified(program: Program) -> str:
-    """Returns the path of the program, once it has printed its version."""
-    path = find_program(program)
-    if path not in versions:
+def verified(program: Program) -> list[str]:
+    """Returns the words by which the program is run, once it has printed its version."""
+    words = command(program)
+    if tuple(words) not in versions:
         streams = {"stdin": subprocess.DEVNULL, "stdout": subprocess.PIPE, "stderr": subprocess.PIPE}
-        with children.running([path, "--version"], **streams) as process:
+        with children.running([*words, "--version"], **streams) as process:
             out, err = process.communicate()
         error, _ = failure_of(process.returncode, err, {}, "out")
         if isinstance(error, (Killed, Memory)):
@@ -118,9 +150,17 @@ def verified(program: Program) -> str:
         found = VERSION.fullmatch(out)
         if error or not found:
             first = os.fsdecode(out or err).partition("\n")[0]
-            raise NoProgram(path, f"for --version it printed {first!r}, and dnorm prints its name and version")
-        versions[path] = os.fsdecode(found[1])
-    return path
+            reason = f"for --version it printed {first!r}, and dnorm prints its name and version"
+            raise NoProgram(shlex.join(words), reason)
+        versions[tuple(words)] = os.fsdecode(found[1])
+    return words
+
+
+def processors() -> int:
+    """Returns how many processors this process may use."""
+    # Systems other than Linux lack the first call.
+    found = getattr(os, "sched_getaffinity", None)
+    return len(found(0)) if found else os.cpu_count() or 1
 
 
 def run(
@@ -136,12 +176,14 @@ def run(
     path = verified(program)
     limit = Limit(timeout, name_of(files[0]))
     with contextlib.ExitStack() as stack:
-        sources = [Source(it, stack, limit) for it in files]
-        # The program reads the first text from its standard input, and the others from further descriptors.
-        names = ["-", *(f"/dev/fd/{it.fd}" for it in sources[1:])]
+        # The program reads the first text from its standard input, and the others from further descriptors, or from
+        # files where a wrapper does not pass descriptors on.
+        folder = os.environ.get("DNORM_FILES") or None
+        sources = [Source(files[0], stack, limit), *(Source(it, stack, limit, folder) for it in files[1:])]
+        names = ["-", *(it.place for it in sources[1:])]
         streams = {"stdin": sources[0].end, "stdout": sink.file or subprocess.PIPE, "stderr": subprocess.PIPE}
         others = [it.fd for it in sources[1:]]
-        process = stack.enter_context(children.running([path, *words(*names)], pass_fds=others, **streams))
+        process = stack.enter_context(children.running([*path, *words(*names)], pass_fds=others, **streams))
         with limit.over(process):
             err = talk(process, sources, sink)
             status = status_of(process, sources[0].name)
@@ -176,15 +218,30 @@ def talk(process: subprocess.Popen[bytes], sources: Sequence[Source], sink: Sink
         if it.failure:
             break
     out, err = process.stdout, process.stderr
-    while out and (piece := out.read(SIZE)):
+    size = widened(out) if out else 0
+    while out and (piece := out.read(size)):
         sink.take(piece)
     return err.read() if err else b""
+
+
+def widened(pipe: IO[bytes]) -> int:
+    """Makes a pipe so wide that its two sides rarely wait for each other, and returns how many bytes it has at once."""
+    # Linux has this request, and Python knows it from 3.10 on.
+    request = getattr(fcntl, "F_SETPIPE_SZ", None)
+    with contextlib.suppress(OSError):
+        if request is not None:
+            return fcntl.fcntl(pipe.fileno(), request, WIDTH)
+    return SIZE
 
 
 def status_of(process: subprocess.Popen[bytes], name: str) -> int:
     """Waits for the end of a process, and returns its status."""
     try:
-        os.waitid(os.P_PID, process.pid, os.WEXITED | os.WNOWAIT)
+        if hasattr(os, "waitid"):
+            os.waitid(os.P_PID, process.pid, os.WEXITED | os.WNOWAIT)
+        else:
+            # macOS has it from Python 3.13 on.
+            process.returncode = os.waitstatus_to_exitcode(os.waitpid(process.pid, 0)[1])
     except ChildProcessError as error:
         # Popen takes a status that is lost for 0.
         reason = "its status is lost, since SIGCHLD is ignored or something else waits for all processes"
@@ -236,5 +293,9 @@ def error_of(status: int, line: re.Match[str], source: Source | None, out: str) 
         return Write(out) if line["name"] == "out" else None
     if not source:
         return Memory("dnorm") if number == 30 and line["name"] == "dnorm" else None
+    if number == 31 and line["name"] != "-":
+        is_wrapped = "DNORM" in os.environ and "DNORM_FILES" not in os.environ
+        hint = "; if $DNORM is a wrapper, $DNORM_FILES may be needed" if is_wrapped else ""
+        return Read(source.name, f"the program cannot read {line['name']}{hint}")
     kinds = {30: Memory, 31: Read, 32: Endless}
     return kinds[number](source.name) if number in kinds else None

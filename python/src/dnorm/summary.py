@@ -7,12 +7,14 @@ from collections.abc import Iterator
 from dataclasses import dataclass
 from itertools import groupby
 from operator import itemgetter
+from typing import Optional, Union
 
 from .answers import Difference, Same
 from .calls import canon, compare
 from .files import File
-from .instances import Graph, Instance, Max, Min, read
+from .instances import Graph, Instance, Max, Min
 from .program import Program
+from .reader import read
 
 # The columns of each kind: those of the key, and those of the values with their names.
 KEYS = {"min": ("tails", "heads"), "max": ("tails", "heads"), "sp": ("tails", "heads"), "co": ("ids",)}
@@ -54,8 +56,8 @@ class Differences:
     the first differing pairs. For companions, points or items are counted instead of pairs. Texts of different kinds
     have nothing but `first`."""
 
-    first: Same | Difference
-    kind: str | None = None
+    first: Union[Same, Difference]
+    kind: Optional[str] = None
     only_left: int = 0
     only_right: int = 0
     both: int = 0
@@ -68,7 +70,12 @@ class Differences:
 
 
 def differences(
-    left: File, right: File, limit: int | None = None, *, program: Program = None, timeout: float | None = None
+    left: File,
+    right: File,
+    limit: Optional[int] = None,
+    *,
+    program: Program = None,
+    timeout: Optional[float] = None,
 ) -> Differences:
     """Returns all differences between two texts, and the arcs of the first differing pairs, at most `limit` of them. It
     keeps both canonical texts in memory."""

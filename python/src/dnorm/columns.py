@@ -1,0 +1,114 @@
+"""Columns of numbers of 64 signed bits, which cannot be written."""
+
+from __future__ import annotations
+
+import importlib
+import operator
+from array import array
+from collections.abc import Iterable, Iterator
+from typing import TYPE_CHECKING, Any, Protocol
+
+if TYPE_CHECKING:
+    import numpy
+    from numpy.typing import NDArray
+
+    Column = NDArray[numpy.int64]
+else:
+
+    class Column(Protocol):
+        """Numbers of 64 signed bits that cannot be written: a numpy array of `int64`, or a `memoryview` of an
+        `array('q')` where numpy is missing."""
+
+        def __len__(self) -> int:
+            """Returns the number of numbers."""
+
+        def __getitem__(self, place: int, /) -> int:
+            """Returns the number at this place, counted from 0."""
+
+        def __iter__(self) -> Iterator[int]:
+            """Yields the numbers."""
+
+        def tolist(self) -> list[int]:
+            """Returns the numbers as integers of Python."""
+
+
+# The least and the greatest number of a column.
+LEAST, MOST = -(2**63), 2**63 - 1
+
+
+def numpy_here() -> Any:
+    """Returns the module numpy, or None where it is missing."""
+    try:
+        return importlib.import_module("numpy")
+    except ImportError:
+        return None
+
+
+def column(numbers: array[int]) -> Any:
+    """Returns the column of these numbers."""
+    np = numpy_here()
+    return memoryview(numbers).toreadonly() if np is None else frozen("numbers", np.asarray(numbers).view(np.int64))
+
+
+class Growing:
+    """Numbers of a column that are read one array after another. With numpy, the room for them doubles where they do
+    not fit; the system gives memory only to what is written."""
+
+    def __init__(self) -> None:
+        self._np = numpy_here()
+        self._numbers: Any = array("q") if self._np is None else self._np.empty(0, self._np.int64)
+        self._count = 0
+
+    def extend(self, more: Any) -> None:
+        """Adds the numbers of an array."""
+        if self._np is None:
+            self._numbers.extend(more)
+            return
+        end = self._count + len(more)
+        if end > len(self._numbers):
+            wider = self._np.empty(max(end, 2 * len(self._numbers)), self._np.int64)
+            wider[: self._count] = self._numbers[: self._count]
+            self._numbers = wider
+        self._numbers[self._count : end] = more
+        self._count = end
+
+    def column(self) -> Any:
+        """Returns the column."""
+        return column(self._numbers) if self._np is None else frozen("numbers", self._numbers[: self._count])
+
+
+def frozen(name: str, given: object) -> Any:
+    """Returns a column of the same numbers that cannot be written. Raises TypeError for what is not an array of 64
+    signed bits; errors call it by this name."""
+    np = numpy_here()
+    if isinstance(given, array):
+        given = memoryview(given)
+    if isinstance(given, memoryview) and given.format == "q" and given.ndim == 1:
+        if np is None:
+            return given.toreadonly()
+        given = np.asarray(given).view(np.int64)
+    if np is not None and isinstance(given, np.ndarray) and given.dtype == np.int64 and given.ndim == 1:
+        found: Any = given.view()
+        found.setflags(write=False)
+        return found
+    kind = f"{given.dtype} array" if hasattr(given, "dtype") else type(given).__name__
+    raise TypeError(f"{name} is an array of 64 signed bits, and not a {kind}: from_arrays takes other numbers, too")
+
+
+def column_of(name: str, given: Iterable[Any]) -> Any:
+    """Returns a column of its own with these numbers. Raises TypeError if one is not whole, and OverflowError if one
+    does not fit."""
+    np = numpy_here()
+    if np is not None and isinstance(given, np.ndarray) and given.dtype.kind in "iu" and given.ndim == 1:
+        if given.size and int(given.max()) > MOST:
+            raise OverflowError(f"{name} has {given.max()}, which is above 2^63-1")
+        return frozen(name, given.astype(np.int64))
+    try:
+        return column(array("q", map(operator.index, given)))
+    except (TypeError, OverflowError) as error:
+        raise type(error)(f"{name}: {error}") from None
+
+
+def are_same(left: Any, right: Any) -> bool:
+    """Whether two columns have the same numbers."""
+    return len(left) == len(right) and bool(memoryview(left) == memoryview(right))

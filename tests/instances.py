@@ -1,0 +1,192 @@
+"""Tests the instances of the Python package: what is equal, what cannot be written, what constructors take, and the
+texts that are written of random instances. `tests/python` runs these tests, each in a folder of its own."""
+
+import bz2
+import contextlib
+import copy
+import io
+import itertools
+import os
+import pickle
+import random
+import sys
+from collections.abc import Callable
+from concurrent.futures import ThreadPoolExecutor
+from typing import Any
+
+# This puts the folder of the package on the path.
+from calls import COLUMNS, has_numpy, told
+from known import ROADS, ROADS_CANON
+from reading import GRAPHS, MOST, Fault, Text, canonical, read
+from shared import ROOT, Tally, bytes_of, run
+from texts import lines_of, made, spelled
+
+import dnorm
+
+CLASSES: dict[str, type[dnorm.Instance]] = {"min": dnorm.Min, "max": dnorm.Max, "sp": dnorm.Sp}
+CLASSES |= {"ss": dnorm.Ss, "p2p": dnorm.P2p, "co": dnorm.Co}
+SEED, ROUNDS = 64, 2000
+FLOW = b"p min 3 2\nn 1 4\nn 3 -4\na 1 2 0 4 2\na 2 3 0 4 -1\n"
+# An instance of each kind, the numbers of its arcs or items, and how it prints.
+KINDS: list[tuple[bytes, list[tuple[int, ...]], str]] = [
+    (ROADS, [(1, 2, 3), (2, 1, 4), (2, 2, 0), (2, 3, 9), (3, 1, -5)], "<dnorm.Sp: 3 nodes, 5 arcs>"),
+    (b"p max 3 1\nn 1 s\nn 3 t\na 1 3 7\n", [(1, 3, 7)], "<dnorm.Max: 3 nodes, 1 arcs>"),
+    (FLOW, [(1, 2, 0, 4, 2), (2, 3, 0, 4, -1)], "<dnorm.Min: 3 nodes, 2 arcs>"),
+    (b"p aux sp ss 2\ns 3\ns 1\n", [(3,), (1,)], "<dnorm.Ss: 2 items>"),
+    (b"p aux sp p2p 1\nq 3 1\n", [(3, 1)], "<dnorm.P2p: 1 items>"),
+    (b"p aux sp co 1\nv 2 -7 8\n", [(2, -7, 8)], "<dnorm.Co: 1 items>"),
+    (b"p sp 2 0\n", [], "<dnorm.Sp: 2 nodes, 0 arcs>"),
+]
+
+
+def values(tally: Tally, _: str) -> None:
+    """Tests that instances of equal numbers are equal, also as copies, and that nothing of them can be written."""
+    instances = [dnorm.read(text) for text, _, _ in KINDS]
+    for (text, rows, shown), it in zip(KINDS, instances):
+        again = dnorm.read(text)
+        tally.same(f"{text!r} twice", (it == again, it != again, hash(it) == hash(again)), (True, False, True))
+        for other in [pickle.loads(pickle.dumps(it)), copy.copy(it), copy.deepcopy(it)]:
+            tally.same(f"a copy of {text!r}", (it == other, hash(it) == hash(other)), (True, True))
+            tally.holds(f"a copy of {text!r} cannot be written", is_fixed(other))
+        tally.holds(f"{text!r} cannot be written", is_fixed(it))
+        tally.same(f"rows of {text!r}", (len(it), list(it.rows()), repr(it)), (len(rows), rows, shown))
+        if isinstance(it, dnorm.Graph):
+            tally.same(f"arcs of {text!r}", list(it.arcs()), rows)
+    equal = [(at, to) for at, to in itertools.product(range(len(KINDS)), repeat=2) if instances[at] == instances[to]]
+    tally.same("equal instances", equal, [(at, at) for at in range(len(KINDS))])
+    for other in [b"p min 3 2\nn 1 4\nn 3 -4\na 1 2 0 4 2\na 2 3 0 4 1\n", b"p min 3 2\na 1 2 0 4 2\na 2 3 0 4 -1\n"]:
+        tally.holds(f"{other!r} is another", dnorm.read(other) != dnorm.read(FLOW))
+    flow = dnorm.read(FLOW)
+    assert flow.kind == "min"
+    tally.same("supplies as a column", flow.supply_column().tolist(), [4, 0, -4])
+    tally.holds("supplies cannot be written", cannot(lambda: flow.supplies.__setitem__(2, 1)))  # type: ignore
+
+
+def is_fixed(it: dnorm.Instance) -> bool:
+    """Whether neither the columns nor the attributes of an instance can be written."""
+    names = COLUMNS[it.kind].split()
+    fails = [cannot(lambda: getattr(it, name).__setitem__(0, 1)) for name in names if len(it)]
+    return all(fails) and all(cannot(lambda: setattr(it, name, getattr(it, name))) for name in names)
+
+
+def cannot(call: Callable[[], object]) -> bool:
+    """Whether a call raises an error."""
+    try:
+        call()
+    except (AttributeError, TypeError, ValueError):
+        return True
+    return False
+
+
+def arrays(values: Any) -> Any:
+    """Returns an `sp` graph of two nodes with these lengths, or another attribute."""
+    return dnorm.from_arrays(dnorm.Sp, **{"nodes": 2, "tails": [1], "heads": [2], "lengths": [3], **values})
+
+
+def constructors(tally: Tally, _: str) -> None:
+    """Tests what constructors and from_arrays take."""
+    given = arrays({})
+    for lengths in [(3,), iter([3]), range(3, 4), given.lengths, [True + 2], given.lengths[:1]]:
+        tally.same(f"lengths {lengths!r}", arrays({"lengths": lengths}), given)
+    other = "and not a list: from_arrays takes other numbers, too"
+    listed: Any = [1]
+    rows: list[tuple[Callable[[], object], str]] = [
+        (lambda: dnorm.Sp(2, listed, listed, listed), f"TypeError: tails is an array of 64 signed bits, {other}"),
+        (lambda: arrays({"lengths": [1.5]}), "TypeError: lengths: 'float' object cannot be interpreted as an integer"),
+        (lambda: arrays({"lengths": ["3"]}), "TypeError: lengths: 'str' object cannot be interpreted as an integer"),
+        (lambda: arrays({"lengths": [[3]]}), "TypeError: lengths: 'list' object cannot be interpreted as an integer"),
+        (lambda: arrays({"lengths": [3, 4]}), "ValueError: tails and lengths have 1 and 2 numbers"),
+        (lambda: arrays({"heads": []}), "ValueError: tails and heads have 1 and 0 numbers"),
+    ]
+    for call, wanted in rows:
+        tally.same(wanted, told(call), wanted)
+    for number in [MOST + 1, -MOST - 2]:
+        try:
+            found = repr(arrays({"lengths": [number]}))
+        except OverflowError as error:
+            found = str(error)
+        tally.holds(f"{number} is too large: {found}", found.startswith("lengths: "))
+    tally.holds("an attribute is missing", cannot(lambda: dnorm.from_arrays(dnorm.Sp, nodes=2)))
+    tally.holds("an unknown attribute", cannot(lambda: arrays({"costs": [1]})))
+    mine = [1, 2]
+    graph = arrays({"tails": mine, "heads": mine, "lengths": mine})
+    mine[0] = 2
+    tally.same("a column of its own", graph.lengths.tolist(), [1, 2])
+    parallel = arrays({"tails": [1, 1], "heads": [2, 2], "lengths": [7, 4]})
+    target = io.BytesIO()
+    dnorm.write(parallel, target)
+    tally.same("arcs in their order", target.getvalue(), b"p sp 2 2\na 1 2 7\na 1 2 4\n")
+    tally.same("read again", dnorm.canon(target.getvalue()), b"p sp 2 1\na 1 2 4\n")
+
+
+def instance_of(text: Text) -> dnorm.Instance:
+    """Returns the instance of a text that is accepted, with its items in their order."""
+    columns = [list(it) for it in zip(*text.items)] or [[] for _ in COLUMNS[text.kind].split()]
+    attributes: dict[str, Any] = dict(zip(COLUMNS[text.kind].split(), columns))
+    if text.kind in GRAPHS:
+        attributes["nodes"] = text.nodes
+    if text.kind == "max":
+        attributes |= {"source": text.terminals["s"], "sink": text.terminals["t"]}
+    if text.kind == "min":
+        attributes["supplies"] = text.flows
+    return dnorm.from_arrays(CLASSES[text.kind], **attributes)
+
+
+def written(tally: Tally, _: str) -> None:
+    """Tests the texts of random instances: the program accepts them, and they pose the problem of the instance."""
+    chance = random.Random(SEED)
+    texts: list[Text] = []
+    while len(texts) < ROUNDS:
+        text = made(chance, chance.choice(list(COLUMNS)), chance.random() < 0.3)
+        with contextlib.suppress(Fault):
+            texts.append(read(spelled(chance, lines_of(chance, text))))
+
+    def of(text: Text) -> tuple[bytes, bytes, bytes, bytes]:
+        target, again = io.BytesIO(), io.BytesIO()
+        dnorm.write(instance_of(text), target)
+        form = 1 + len(text.items) % 2
+        found = dnorm.read(target.getvalue(), form)
+        dnorm.write(found, again)
+        return target.getvalue(), again.getvalue(), dnorm.canon(target.getvalue(), form), canonical(text, form)
+
+    with ThreadPoolExecutor(os.cpu_count()) as pool:
+        for given, again, found, wanted in pool.map(of, texts):
+            if found == again == wanted:
+                tally.passed += 1
+            else:
+                tally.fail(f"{given!r}: wanted {wanted!r}, found {found!r} and {again!r}")
+
+
+def faulty(tally: Tally, _: str) -> None:
+    """Tests that the text of an instance with a fault replaces no file, and targets of other sorts."""
+    dnorm.write(dnorm.read(ROADS), "roads.gr")
+    tally.same("a file", bytes_of("roads.gr"), ROADS_CANON)
+    dnorm.write(dnorm.read(ROADS), "roads.gr.bz2")
+    tally.same("a compressed file", bz2.decompress(bytes_of("roads.gr.bz2")), ROADS_CANON)
+    rows: list[tuple[dict[str, Any], str]] = [
+        ({"heads": [3]}, "Refused: roads.gr:2: 13 NodeOutOfRange"),
+        ({"tails": [0]}, "Refused: roads.gr:2: 13 NodeOutOfRange"),
+        ({"nodes": 2**63}, "Refused: roads.gr:1: 10 OutOfRange"),
+        ({"nodes": -1}, "Refused: roads.gr:1: 11 Negative"),
+    ]
+    for attributes, wanted in rows:
+        found = told(lambda: dnorm.write(arrays(attributes), "roads.gr"))
+        tally.same(f"write {attributes}", (found, bytes_of("roads.gr")), (wanted, ROADS_CANON))
+    large = arrays({"nodes": 1, **dict.fromkeys(["tails", "heads", "lengths"], [1] * 300_000)})
+    dnorm.write(large, "large.gr")
+    tally.same("many arcs", dnorm.canon("large.gr"), b"p sp 1 1\na 1 1 1\n")
+    found = told(lambda: dnorm.write(dnorm.read(ROADS), "none/roads.gr"))
+    tally.same("no folder", found, "Write: none/roads.gr: 33 Write (No such file or directory)")
+    found = told(lambda: dnorm.write(large, "/dev/full"))
+    tally.same("a full disk", found, "Write: /dev/full: 33 Write (No space left on device)")
+
+
+def typed(tally: Tally, _: str) -> None:
+    """Runs the page of ordinary use, which tools/lint gives to mypy."""
+    found = run([sys.executable, f"{ROOT}/tests/typed.py"], cwd=f"{ROOT}/examples")
+    wanted = "10 None 9\ncost of 1 2 same\n(2, 'NodeOutOfRange') (None, 'sp (1, 2)')\n"
+    wanted += "p sp 2 2\na 1 2 7\na 1 2 4\n2 [7, 4]\n" + ("(11, 2)\n" if has_numpy() else "")
+    tally.same("tests/typed.py", (found.out.decode(), found.err, found.status), (wanted, b"", 0))
+
+
+TESTS = [values, constructors, written, faulty, typed]

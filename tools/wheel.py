@@ -1,0 +1,61 @@
+#!/usr/bin/env python3
+"""Makes the wheel that brings the program, from the wheel of the Python package and a static program.
+
+    tools/wheel.py WHEEL PROGRAM FOLDER
+
+The new wheel, in FOLDER, has the same files with the same times, and the program as a script, which pip installs beside
+the others. Its tags are those of Linux on x86-64 with any C library, since the program needs none. Equal inputs give
+equal bytes. Its name is printed."""
+
+import base64
+import hashlib
+import os
+import re
+import sys
+import zipfile
+
+TAGS = ["py3-none-manylinux1_x86_64", "py3-none-musllinux_1_1_x86_64"]
+ANY = "py3-none-any"
+NAME = "py3-none-manylinux1_x86_64.musllinux_1_1_x86_64"
+
+
+def record(name: str, data: bytes) -> str:
+    """Returns the line of a file in RECORD."""
+    digest = base64.urlsafe_b64encode(hashlib.sha256(data).digest()).rstrip(b"=").decode()
+    return f"{name},sha256={digest},{len(data)}\n"
+
+
+def retagged(data: bytes) -> bytes:
+    """Returns the file WHEEL with the tags of the platform."""
+    text = data.decode().replace("Root-Is-Purelib: true", "Root-Is-Purelib: false")
+    return re.sub(rf"Tag: {ANY}\n", "".join(f"Tag: {it}\n" for it in TAGS), text).encode()
+
+
+def main() -> int:
+    if len(sys.argv) != 4:
+        sys.exit(__doc__)
+    plain, program, folder = sys.argv[1:]
+    with zipfile.ZipFile(plain) as wheel:
+        files = [(it, wheel.read(it)) for it in wheel.infolist()]
+    stem = os.path.basename(plain).removesuffix(f"-{ANY}.whl")
+    info = f"{stem}.dist-info"
+    with open(program, "rb") as file:
+        script = zipfile.ZipInfo(f"{stem}.data/scripts/dnorm", files[0][0].date_time)
+        files.append((script, file.read()))
+    name, lines = f"{stem}-{NAME}.whl", ""
+    with zipfile.ZipFile(f"{folder}/{name}", "w") as made:
+        for it, data in sorted(files, key=lambda it: (it[0].filename == f"{info}/RECORD", it[0].filename)):
+            if it.filename == f"{info}/RECORD":
+                data = f"{lines}{it.filename},,\n".encode()
+            elif it.filename == f"{info}/WHEEL":
+                data = retagged(data)
+            lines += record(it.filename, data)
+            entry = zipfile.ZipInfo(it.filename, it.date_time)
+            entry.external_attr = (0o100755 if it is script else 0o100644) << 16
+            made.writestr(entry, data, zipfile.ZIP_DEFLATED, 9)
+    print(name)
+    return 0
+
+
+if __name__ == "__main__":
+    sys.exit(main())
