@@ -1,0 +1,89 @@
+"""Readers with mistakes: reading.py with one of the changes of mistakes.txt."""
+
+from collections.abc import Iterator
+from types import ModuleType
+from typing import NamedTuple
+
+from reading import LINES, NAMES
+from shared import ROOT
+
+LISTED, SOURCE = f"{ROOT}/tests/mistakes.txt", f"{ROOT}/tests/reading.py"
+
+# Where the reader judges the words of a line.
+JUDGED = "            number = fault_of_line(so_far, words)"
+# What is wrong with a field, and the word that the reader takes for a word `it` of this field: for two of them if it is
+# a number, and for the last one if it is none.
+WORDS = {
+    "has 32 bits and wraps": "str((int(it) + 2**31) % 2**32 - 2**31)",
+    "has no limits, and becomes the greatest or the least number": "str(max(-MOST - 1, min(MOST, int(it))))",
+    "is 1 if it is no number": "'1'",
+}
+
+
+class Mistake(NamedTuple):
+    """What a reader does wrongly, the heading that lists it, and the changes of the source: what is replaced by what.
+    `field` is the key in WORDS of a mistake in a single field."""
+
+    what: str
+    heading: str
+    changes: list[tuple[str, str]]
+    field: str = ""
+
+
+def text_of(path: str) -> str:
+    with open(path, encoding="utf-8") as file:
+        return file.read()
+
+
+def mistakes() -> Iterator[Mistake]:
+    """Yields the mistakes of mistakes.txt, and those of single fields."""
+    heading = ""
+    for part in text_of(LISTED).split("\n\n")[1:]:
+        what, *lines = part.rstrip("\n").split("\n")
+        if lines:
+            yield Mistake(what, heading, [*zip(groups(lines, "-"), groups(lines, "+"))])
+        else:
+            heading = what.removeprefix("# ")
+    yield from of_fields()
+
+
+def of_fields() -> Iterator[Mistake]:
+    """Yields mistakes in each field of a number of each line of each kind."""
+    for kind, names in NAMES.items():
+        for letter, fields in LINES[kind].items():
+            first = 1 + (len(names) if letter == "p" else 0)
+            is_line = f"words[: {first}] == {['p', *names]}" if letter == "p" else f"[so_far.kind, words[0]] == {[kind, letter]}"
+            for at, field in enumerate(fields.split(), first):
+                for (what, value), is_number in zip(WORDS.items(), [True, True, False]):
+                    if field != "TERMINAL":
+                        test = f"if {is_line} and words[{at}:] and {is_number} == bool(NUMBER.fullmatch(words[{at}])):"
+                        changed = f"            {test}\n                it = words[{at}]\n                words[{at}] = {value}\n"
+                        told = f"{field} of a `{letter}` line of `{kind}` {what}."
+                        yield Mistake(told, "Single fields", [(JUDGED, changed + JUDGED)], what)
+
+
+def groups(lines: list[str], mark: str) -> Iterator[str]:
+    """Yields the texts of consecutive lines with this mark."""
+    found: list[str] = []
+    for line in [*lines, ""]:
+        if line.startswith(mark):
+            found.append(line[2:])
+        elif found:
+            yield "\n".join(found)
+            found = []
+
+
+def planted(source: str, mistake: Mistake) -> str:
+    """Returns a source with a mistake. A text to be replaced that does not occur once is an error."""
+    for old, new in mistake.changes:
+        if source.count(old) != 1:
+            raise ValueError(f"{mistake.what} {source.count(old)} places have {old!r}")
+        source = source.replace(old, new)
+    return source
+
+
+def reader(source: str) -> ModuleType:
+    """Returns a reader with this source."""
+    made = ModuleType("reading")
+    exec(compile(source, SOURCE, "exec"), made.__dict__)
+    return made
