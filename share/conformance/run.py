@@ -2,7 +2,7 @@
 """Checks a reader of DIMACS network instances: runs it on the cases in cases.json, which is beside this script, and
 compares its answers with those in the file.
 
-    run.py [--level LEVEL] [--rule RULE].. [--limit SECONDS] [--jobs N] [--all] COMMAND..
+    run.py [--level LEVEL] [--kind KIND].. [--rule RULE].. [--accepted] [--limit SECONDS] [--jobs N] [--all] COMMAND..
 
 COMMAND is the reader, or a small adapter for it, with its arguments. It is called in these ways:
 
@@ -35,6 +35,7 @@ from __future__ import annotations
 import argparse
 import json
 import os
+import re
 import selectors
 import signal
 import subprocess
@@ -52,6 +53,8 @@ FAILED, USAGE = 1, 3
 # failures of a rule are shown.
 MOST, PATIENCE, SHOWN = 1_000_000, 10, 5
 
+# The words after `p` of each kind.
+KINDS = {"min": "min", "max": "max", "sp": "sp", "ss": "aux sp ss", "p2p": "aux sp p2p", "co": "aux sp co"}
 # What only the cases of level compare have.
 FILES = {"left", "with"}
 
@@ -92,6 +95,8 @@ def parsed(words: Sequence[str] | None, rules: Sequence[str]) -> argparse.Namesp
     add = parser.add_argument
     add("--level", choices=LEVELS, default="canon", help="what is compared, by default canon")
     add("--rule", action="append", choices=rules, metavar="RULE", help="only the cases of this rule; repeatable")
+    add("--kind", action="append", choices=list(KINDS), help="only texts of this kind, and of none; repeatable")
+    add("--accepted", action="store_true", help="only texts that are accepted")
     add("--limit", type=positive, default=10, metavar="SECONDS", help="the time limit of a call, by default 10")
     add("--jobs", type=int, default=os.cpu_count(), metavar="N", help="calls at the same time")
     add("--all", action="store_true", help=f"show all failures of a rule, and not only {SHOWN}")
@@ -242,6 +247,23 @@ def brief(text: str) -> str:
     return json.dumps(text if len(text) <= 240 else f"{text[:120]} .. {text[-100:]}")
 
 
+def kind_of(text: str) -> str:
+    """Returns the kind that the first problem line of a text names, or nothing."""
+    for line in text.split("\n"):
+        words = [it for it in re.split("[ \t\r]", line) if it]
+        if words[:1] == ["p"]:
+            return next((kind for kind, it in KINDS.items() if words[1:4][: len(it.split())] == it.split()), "")
+    return ""
+
+
+def is_chosen(case: Case, asked: argparse.Namespace) -> bool:
+    """Whether the command line asks for a case."""
+    if FILES & case.keys() and asked.level != "compare" or asked.accepted and {"refusal", "unfit"} & case.keys():
+        return False
+    kinds = {case["kind"]} if "kind" in case else {kind_of(case[it]) for it in ("text", "left", "right") if it in case}
+    return not asked.kind or kinds <= {*asked.kind, ""}
+
+
 def shown(rule: Case, found: list[tuple[Case, str]], is_all: bool) -> Iterator[str]:
     """Yields the lines on the failures of a rule."""
     failed = [(case, failure) for case, failure in found if failure]
@@ -267,13 +289,12 @@ def main(words: Sequence[str] | None = None) -> int:
         print(f"run.py: {CASES}: {error}", file=sys.stderr)
         return USAGE
     asked = parsed(words, [it["rule"] for it in rules])
-    rules = [it for it in rules if not asked.rule or it["rule"] in asked.rule]
     runner = Runner(asked)
     passed = failed = 0
     try:
         with ThreadPoolExecutor(asked.jobs) as pool:
-            for rule in rules:
-                cases = [it for it in rule["cases"] if asked.level == "compare" or not FILES & it.keys()]
+            for rule in (it for it in rules if not asked.rule or it["rule"] in asked.rule):
+                cases = [it for it in rule["cases"] if is_chosen(it, asked)]
                 found = [*zip(cases, pool.map(runner.failure, cases))]
                 failures = sum(bool(failure) for _, failure in found)
                 passed, failed = passed + len(found) - failures, failed + failures
