@@ -53,6 +53,9 @@ NUMBERS = (
     "00000000000000000009223372036854775807 00000000000000000009223372036854775808 99999999999999999999x 1.5e999 "
     "9999999999999999999999999999999999999999 -9999999999999999999999999999999999999999- 1e400 12345678901234567890.5"
 ).split()
+# The names of signs in the names of cases.
+SIGNS = {"+": "plus", "-": "minus", ".": "point", "/": "slash", "_": "underscore", ",": "comma", "'": "quote"}
+SIGNS |= {"٣": "arabic-3", "²": "superscript-2"}
 # Places in a text, and bytes that are parts of words there, although some readers take them for blanks, for ends of
 # lines or for the end of the text.
 PLACES = {
@@ -198,10 +201,11 @@ def upper_case() -> Iterator[Case]:
 
 def number_words() -> Iterator[Case]:
     """Yields words in the place of a LENGTH."""
-    for i, word in enumerate(NUMBERS, 1):
+    for word in NUMBERS:
         text = f"p sp 2 1\na 1 2 {word}\n".encode().decode("latin-1")
-        yield Case("number", f"{i}", f"the word `{word}` in place of a number", text)
-    yield Case("number", "latin-2", "the byte 0xb2, a superscript digit", "p sp 2 1\na 1 2 \xb2\n")
+        name = "-".join(SIGNS.get(it, it) for it in re.findall(r"[0-9a-zA-Z]+|.", word))
+        yield Case("number", name, f"the word `{word}` in place of a number", text)
+    yield Case("number", "superscript", "the byte 0xb2, a superscript digit", "p sp 2 1\na 1 2 \xb2\n")
 
 
 def odd_bytes() -> Iterator[Case]:

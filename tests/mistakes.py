@@ -52,7 +52,11 @@ def of_fields() -> Iterator[Mistake]:
     for kind, names in NAMES.items():
         for letter, fields in LINES[kind].items():
             first = 1 + (len(names) if letter == "p" else 0)
-            is_line = f"words[: {first}] == {['p', *names]}" if letter == "p" else f"[so_far.kind, words[0]] == {[kind, letter]}"
+            is_line = (
+                f"words[: {first}] == {['p', *names]}"
+                if letter == "p"
+                else f"[so_far.kind, words[0]] == {[kind, letter]}"
+            )
             for at, field in enumerate(fields.split(), first):
                 for (what, value), is_number in zip(WORDS.items(), [True, True, False]):
                     if field != "TERMINAL":

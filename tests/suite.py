@@ -62,7 +62,12 @@ class Suite:
 
     def table(self) -> str:
         """Returns the table of mistakes in README.md."""
-        rows = [f"{len(self.mistakes)} mistakes, and {len(self.entries)} cases:", "", "| Mistake | Found by |", "|---|---|"]
+        rows = [
+            f"{len(self.mistakes)} mistakes, and {len(self.entries)} cases:",
+            "",
+            "| Mistake | Found by |",
+            "|---|---|",
+        ]
         heading, counts = "", self.counts()
         for it, count in zip(self.mistakes, counts):
             if it.heading != heading:
