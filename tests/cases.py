@@ -372,8 +372,8 @@ def answer(case: Case, reader: ModuleType = reading) -> dict[str, Any]:
     if second:
         why = reader.unfit(read, second)
         return {"unfit": why} if why else {"kind": read.kind, "fits": second.kind}
-    forms = [reader.canonical(read, it).decode() for it in (1, 2)]
-    return {"kind": read.kind, "canon": forms if read.kind == "min" else forms[:1]}
+    forms = (1, 2) if read.kind == "min" else (1,)
+    return {"kind": read.kind, "canon": [reader.canonical(read, it).decode() for it in forms]}
 
 
 def rule_of(case: Case, found: dict[str, Any]) -> str:

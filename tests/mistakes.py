@@ -22,12 +22,13 @@ WORDS = {
 
 class Mistake(NamedTuple):
     """What a reader does wrongly, the heading that lists it, and the changes of the source: what is replaced by what.
-    `field` is the key in WORDS of a mistake in a single field."""
+    `field` is the key in WORDS of a mistake in a single field, and `rules` are the rules that a file names for it."""
 
     what: str
     heading: str
     changes: list[tuple[str, str]]
     field: str = ""
+    rules: tuple[str, ...] = ()
 
 
 def text_of(path: str) -> str:
@@ -35,15 +36,21 @@ def text_of(path: str) -> str:
         return file.read()
 
 
-def mistakes() -> Iterator[Mistake]:
-    """Yields the mistakes of mistakes.txt, and those of single fields."""
+def listed(path: str) -> Iterator[Mistake]:
+    """Yields the mistakes of a file."""
     heading = ""
-    for part in text_of(LISTED).split("\n\n")[1:]:
+    for part in text_of(path).split("\n\n")[1:]:
         what, *lines = part.rstrip("\n").split("\n")
         if lines:
-            yield Mistake(what, heading, [*zip(groups(lines, "-"), groups(lines, "+"))])
+            rules = " ".join(groups(lines, "=")).split()
+            yield Mistake(what, heading, [*zip(groups(lines, "-"), groups(lines, "+"))], rules=tuple(rules))
         else:
             heading = what.removeprefix("# ")
+
+
+def mistakes() -> Iterator[Mistake]:
+    """Yields the mistakes of mistakes.txt, and those of single fields."""
+    yield from listed(LISTED)
     yield from of_fields()
 
 

@@ -41,20 +41,11 @@ class Suite:
         self.mistakes = [*mistakes.mistakes()]
         judged = [*cases.judged()]
         found = finds(self.mistakes, judged)
+        self.all = [Entry(case, answer, it) for (case, answer), it in zip(judged, found)]
         chosen: dict[frozenset[int], Entry] = {}
-        for (case, answer), it in zip(judged, found):
-            if it:
-                chosen.setdefault(it, Entry(case, answer, it))
-        self.entries = [it for rule in RULES for it in chosen.values() if it.case.rule == rule]
-
-    def text(self) -> str:
-        """Returns the text of cases.json, with a case in each line."""
-        parts = []
-        for name, rule in RULES.items():
-            about = {"rule": name, "says": rule.says, "section": f"FORMAT.md#{anchor(rule.heading)}"}
-            lines = ",\n".join(dumped(it.fields()) for it in self.entries if it.case.rule == name)
-            parts.append(f'{dumped(about)[:-1]},"cases":[\n{lines}\n]}}')
-        return f'{{"about":{json.dumps(ABOUT)},"rules":[\n' + ",\n".join(parts) + "\n]}\n"
+        for entry in self.all:
+            chosen.setdefault(entry.finds, entry)
+        self.entries = [it for it in chosen.values() if it.finds]
 
     def counts(self) -> list[int]:
         """Returns how many cases find each mistake."""
@@ -79,6 +70,16 @@ class Suite:
             own = [count for it, count in zip(self.mistakes, counts) if it.field == what]
             rows.append(f"| One of the fields {what}: {len(own)} mistakes. | {min(own)} to {max(own)} |")
         return "\n".join([*rows, ""])
+
+
+def text_of(entries: list[Entry]) -> str:
+    """Returns the text of a cases.json with these cases, with a case in each line."""
+    parts = []
+    for name, rule in RULES.items():
+        about = {"rule": name, "says": rule.says, "section": f"FORMAT.md#{anchor(rule.heading)}"}
+        lines = ",\n".join(dumped(it.fields()) for it in entries if it.case.rule == name)
+        parts.append(f'{dumped(about)[:-1]},"cases":[\n{lines}\n]}}')
+    return f'{{"about":{json.dumps(ABOUT)},"rules":[\n' + ",\n".join(parts) + "\n]}\n"
 
 
 def finds(planted: list[Mistake], judged: list[tuple[Case, dict[str, Any]]]) -> list[frozenset[int]]:
@@ -107,8 +108,8 @@ def anchor(heading: str) -> str:
     return re.sub(r"[^\w\- ]", "", heading.lower()).replace(" ", "-")
 
 
-def generated() -> Iterator[tuple[str, str]]:
+def generated(suite: Suite) -> Iterator[tuple[str, str]]:
     """Yields the paths and the texts of the generated files."""
-    suite, readme = Suite(), f"{FOLDER}/README.md"
-    yield f"{FOLDER}/cases.json", suite.text()
+    readme = f"{FOLDER}/README.md"
+    yield f"{FOLDER}/cases.json", text_of(suite.entries)
     yield readme, TABLE.sub(lambda _: suite.table(), mistakes.text_of(readme))

@@ -60,6 +60,8 @@ def parser() -> Parser:
         one = tasks.add_parser(task, help=about, description=about, allow_abbrev=False, **layout)
         one.set_defaults(parser=one)
         add_options(one, task)
+    about = "Runs the conformance suite on a reader of these formats; 'conformance --help' describes it."
+    tasks.add_parser("conformance", help=about, add_help=False)
     return top
 
 
@@ -121,6 +123,12 @@ def has_output() -> bool:
 
 def main(words: Sequence[str] | None = None) -> int:
     """Runs a command, and returns the exit status."""
+    given = sys.argv[1:] if words is None else words
+    if given[:1] == ["conformance"]:
+        # The suite stands alone, and no other command needs it.
+        from .conformance.run import main as conformance
+
+        return conformance(given[1:])
     is_open = has_output()
     found = parsed(words)
     console = Console()
