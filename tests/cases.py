@@ -1,5 +1,6 @@
-"""Makes the cases from which suite.py chooses those of the conformance suite: those of cases.txt, the texts of known.py,
-tables over all kinds, lines and fields, and some random texts of texts.py. The answers are those of reading.py.
+"""Makes the cases from which suite.py chooses those of the conformance suite: those of cases.txt, the texts of
+known.py, tables over all kinds, lines and fields, and some random texts of texts.py. The answers are those of
+reading.py.
 
 No two cases have the same text. Of those made by tables, only the first is kept that has its rule, its kind, its place
 in the text and its answer; of random texts, the first of each refusal and of each kind."""
@@ -13,7 +14,7 @@ from typing import Any, NamedTuple
 
 import reading
 from known import CANONICAL, REFUSED
-from reading import COUNTED, GRAPHS, LINES, MOST, NAMES, Fault
+from reading import COUNTED, GRAPHS, LINES, MOST, Fault
 from shared import ROOT
 from texts import lines_of, made, spelled, spoilt
 
@@ -47,8 +48,8 @@ UNSIGNED = [it for it in VALUES if it != "least-64"]
 SIGNED = [it for it in VALUES if it not in ("negative", "zero")]
 # Words in the place of a LENGTH.
 NUMBERS = (
-    "+7 007 -007 +0 -0 0 00 1.0 .5 5. 1e3 1E3 0x10 0b1 0o7 1_000 1,000 + - ++1 --1 +-1 -+1 1+ 1- 7x x7 nan inf -inf 1/2 "
-    "7L 7u 1'000 ٣ ² 08 010 -9223372036854775808 9223372036854775807 -9223372036854775809 9223372036854775808 "
+    "+7 007 -007 +0 -0 0 00 1.0 .5 5. 1e3 1E3 0x10 0b1 0o7 1_000 1,000 + - ++1 --1 +-1 -+1 1+ 1- 7x x7 nan inf -inf "
+    "1/2 7L 7u 1'000 ٣ ² 08 010 -9223372036854775808 9223372036854775807 -9223372036854775809 9223372036854775808 "
     "+9223372036854775807 18446744073709551615 18446744073709551617 9007199254740993 4294967296 -2147483649 "
     "00000000000000000009223372036854775807 00000000000000000009223372036854775808 99999999999999999999x 1.5e999 "
     "9999999999999999999999999999999999999999 -9999999999999999999999999999999999999999- 1e400 12345678901234567890.5"

@@ -11,12 +11,12 @@ LISTED, SOURCE = f"{ROOT}/tests/mistakes.txt", f"{ROOT}/tests/reading.py"
 
 # Where the reader judges the words of a line.
 JUDGED = "            number = fault_of_line(so_far, words)"
-# What is wrong with a field, and the word that the reader takes for a word `it` of this field: for two of them if it is
-# a number, and for the last one if it is none.
+# What is wrong with a field, whether only numbers in it are taken wrongly, or only other words, and the word that the
+# reader takes for such a word `it`.
 WORDS = {
-    "has 32 bits and wraps": "str((int(it) + 2**31) % 2**32 - 2**31)",
-    "has no limits, and becomes the greatest or the least number": "str(max(-MOST - 1, min(MOST, int(it))))",
-    "is 1 if it is no number": "'1'",
+    "has 32 bits and wraps": (True, "str((int(it) + 2**31) % 2**32 - 2**31)"),
+    "has no limits, and becomes the greatest or the least number": (True, "str(max(-MOST - 1, min(MOST, int(it))))"),
+    "is 1 if it is no number": (False, "'1'"),
 }
 
 
@@ -58,19 +58,22 @@ def of_fields() -> Iterator[Mistake]:
     """Yields mistakes in each field of a number of each line of each kind."""
     for kind, names in NAMES.items():
         for letter, fields in LINES[kind].items():
-            first = 1 + (len(names) if letter == "p" else 0)
-            is_line = (
-                f"words[: {first}] == {['p', *names]}"
-                if letter == "p"
-                else f"[so_far.kind, words[0]] == {[kind, letter]}"
-            )
-            for at, field in enumerate(fields.split(), first):
-                for (what, value), is_number in zip(WORDS.items(), [True, True, False]):
-                    if field != "TERMINAL":
-                        test = f"if {is_line} and words[{at}:] and {is_number} == bool(NUMBER.fullmatch(words[{at}])):"
-                        changed = f"            {test}\n                it = words[{at}]\n                words[{at}] = {value}\n"
-                        told = f"{field} of a `{letter}` line of `{kind}` {what}."
-                        yield Mistake(told, "Single fields", [(JUDGED, changed + JUDGED)], what)
+            begin = ["p", *names] if letter == "p" else [letter]
+            test = f"[so_far.kind, *words[: {len(begin)}]] == {['' if letter == 'p' else kind, *begin]}"
+            for at, field in enumerate(fields.split(), len(begin)):
+                if field != "TERMINAL":
+                    yield from of_field(f"{field} of a `{letter}` line of `{kind}`", test, at)
+
+
+def of_field(named: str, test: str, at: int) -> Iterator[Mistake]:
+    """Yields mistakes in the word at a place of the lines for which a test holds."""
+    for what, (is_number, value) in WORDS.items():
+        changed = [
+            f"            if {test} and len(words) > {at} and bool(NUMBER.fullmatch(words[{at}])) == {is_number}:",
+            f"                it = words[{at}]",
+            f"                words[{at}] = {value}",
+        ]
+        yield Mistake(f"{named} {what}.", "Single fields", [(JUDGED, "\n".join([*changed, JUDGED]))], what)
 
 
 def groups(lines: list[str], mark: str) -> Iterator[str]:

@@ -1,5 +1,5 @@
 """The conformance suite in share/conformance, as far as it is generated: cases.json, and the table of mistakes in its
-README.md. tools/conformance writes them, and tests/conformance compares them."""
+README.md. tools/conformance-cases writes them, and tests/conformance compares them."""
 
 import json
 import re
@@ -16,7 +16,7 @@ from shared import ROOT
 FOLDER = f"{ROOT}/share/conformance"
 ABOUT = "Texts are in Latin-1: each character stands for the byte of its number. README.md describes the fields."
 # The part of README.md that is generated.
-TABLE = re.compile(r"(?<=<!-- mistakes, by tools/conformance -->\n).*?(?=<!-- end of mistakes -->\n)", re.S)
+TABLE = re.compile(r"(?<=<!-- mistakes, by tools/conformance-cases -->\n).*?(?=<!-- end of mistakes -->\n)", re.S)
 
 
 class Entry(NamedTuple):
