@@ -11,7 +11,7 @@ ROOT = os.path.dirname(os.path.dirname(os.path.realpath(__file__)))
 DOCS = sorted(os.path.relpath(it, ROOT) for it in glob.glob(f"{ROOT}/docs/*.md"))
 # The pages whose paths are checked, and the pages whose links are checked.
 PLACING = ["README.md", "CONTRIBUTING.md", *DOCS]
-LINKING = [*PLACING, "CHANGELOG.md", "bench/README.md"]
+LINKING = [*PLACING, "CHANGELOG.md", "bench/README.md", "share/conformance/README.md"]
 # The page whose blocks of code are all quoted from a source, and the pages whose names must all be in sources.
 QUOTING = "docs/PROVED.md"
 NAMING = ["docs/PROVED.md", "docs/ARCHITECTURE.md", "docs/DECISIONS.md", "CONTRIBUTING.md"]

@@ -283,8 +283,8 @@ def shown(rule: Case, found: list[tuple[Case, str]], is_all: bool) -> Iterator[s
 def main(words: Sequence[str] | None = None) -> int:
     """Runs the cases, prints which of them fail, and returns the status."""
     try:
-        with open(CASES, encoding="ascii") as file:
-            rules = json.load(file)["rules"]
+        # Unlike open, the loader of this module also reads from an archive, as a wheel is.
+        rules = json.loads(globals()["__loader__"].get_data(CASES))["rules"]
     except (OSError, ValueError) as error:
         print(f"run.py: {CASES}: {error}", file=sys.stderr)
         return USAGE

@@ -126,7 +126,7 @@ def main(words: Sequence[str] | None = None) -> int:
     given = sys.argv[1:] if words is None else words
     if given[:1] == ["conformance"]:
         # The suite stands alone, and no other command needs it.
-        from .conformance.run import main as conformance
+        from .conformance import main as conformance
 
         return conformance(given[1:])
     is_open = has_output()
