@@ -73,6 +73,10 @@ class Stuck(Exception):
     """Too many calls exceeded the limit."""
 
 
+class Unusable(Exception):
+    """The reader cannot be started."""
+
+
 class Parser(argparse.ArgumentParser):
     """A parser with a status of its own for a command line that is refused."""
 
@@ -98,7 +102,7 @@ def parsed(words: Sequence[str] | None, rules: Sequence[str]) -> argparse.Namesp
     add("--kind", action="append", choices=list(KINDS), help="only texts of this kind, and of none; repeatable")
     add("--accepted", action="store_true", help="only texts that are accepted")
     add("--limit", type=positive, default=10, metavar="SECONDS", help="the time limit of a call, by default 10")
-    add("--jobs", type=int, default=os.cpu_count(), metavar="N", help="calls at the same time")
+    add("--jobs", type=int, default=os.cpu_count() or 1, metavar="N", help="calls at the same time")
     add("--all", action="store_true", help=f"show all failures of a rule, and not only {SHOWN}")
     add("command", nargs=argparse.REMAINDER, metavar="COMMAND", help="the reader or its adapter, with its arguments")
     found = parser.parse_args(words)
@@ -124,7 +128,11 @@ class Runner:
             text.write(given.encode("latin-1"))
             text.seek(0)
             streams: dict[str, Any] = {"stdin": text, "stdout": subprocess.PIPE, "stderr": subprocess.PIPE}
-            with subprocess.Popen([*self.command, *words], start_new_session=True, **streams) as process:
+            try:
+                process = subprocess.Popen([*self.command, *words], start_new_session=True, **streams)
+            except OSError as error:
+                raise Unusable(f"{self.command[0]}: {error.strerror}") from None
+            with process:
                 try:
                     found = read(process, self.limit)
                 finally:
@@ -300,8 +308,8 @@ def main(words: Sequence[str] | None = None) -> int:
                 passed, failed = passed + len(found) - failures, failed + failures
                 if failures:
                     print("\n".join(shown(rule, found, asked.all)), flush=True)
-    except OSError as error:
-        print(f"run.py: {asked.command[0]}: {error.strerror}", file=sys.stderr)
+    except Unusable as error:
+        print(f"run.py: {error}", file=sys.stderr)
         return USAGE
     except Stuck:
         print(f"run.py: {PATIENCE} calls did not end within {asked.limit:g} seconds, and the other cases are not tried")
@@ -311,4 +319,6 @@ def main(words: Sequence[str] | None = None) -> int:
 
 
 if __name__ == "__main__":
+    # Whoever reads the output may stop before its end.
+    signal.signal(signal.SIGPIPE, signal.SIG_DFL)
     sys.exit(main())
