@@ -85,6 +85,11 @@ def read(text: bytes) -> Text:
     return so_far
 
 
+def value_of(word: str) -> int:
+    """Returns the value of a number text."""
+    return int(word)
+
+
 def kind_named(words: list[str]) -> str:
     """Returns the kind that the words after `p` begin with."""
     return next((kind for kind, names in NAMES.items() if words[: len(names)] == names), "")
@@ -125,9 +130,9 @@ def fault_of_fields(so_far: Text, fields: dict[str, str]) -> int:
     texts = [value for name, value in fields.items() if name != "TERMINAL"]
     if not all(NUMBER.fullmatch(it) for it in texts):
         return 9
-    if not all(-MOST - 1 <= int(it) <= MOST for it in texts):
+    if not all(-MOST - 1 <= value_of(it) <= MOST for it in texts):
         return 10
-    numbers = {name: int(value) for name, value in fields.items() if name != "TERMINAL"}
+    numbers = {name: value_of(value) for name, value in fields.items() if name != "TERMINAL"}
     if any(numbers.get(it, 0) < 0 for it in ["NODES", "ARCS", "K", "LOW", "CAP"]):
         return 11
     if fields.get("TERMINAL", "s") not in ("s", "t"):
@@ -162,14 +167,14 @@ def take(so_far: Text, words: list[str]) -> None:
     if words[0] == "p":
         _, values = fields_of(so_far, words)
         so_far.kind = kind_named(words[1:])
-        *nodes, so_far.declared = map(int, values)
+        *nodes, so_far.declared = map(value_of, values)
         so_far.nodes = nodes[0] if nodes else 0
     elif words[0] == "n" and so_far.kind == "max":
-        so_far.terminals[words[2]] = int(words[1])
+        so_far.terminals[words[2]] = value_of(words[1])
     elif words[0] == "n":
-        so_far.flows[int(words[1])] = int(words[2])
+        so_far.flows[value_of(words[1])] = value_of(words[2])
     else:
-        so_far.items.append(tuple(map(int, words[1:])))
+        so_far.items.append(tuple(map(value_of, words[1:])))
 
 
 def fault_of_end(so_far: Text) -> int:

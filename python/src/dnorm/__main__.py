@@ -66,6 +66,8 @@ def parser() -> Parser:
             add_outputs(one, task)
             one.add_argument("-j", "--jobs", type=int, metavar="N", help=f"files at the same time, {EACH}")
             add_runs(one)
+    about = "Runs the conformance suite on a reader of these formats; 'conformance --help' describes it."
+    tasks.add_parser("conformance", help=about, add_help=False)
     return top
 
 
@@ -203,6 +205,11 @@ def main(words: Sequence[str] | None = None) -> int:
     # All words after `explain` are those of the program.
     if words[:1] == ["explain"]:
         return explained(words[1:])
+    if words[:1] == ["conformance"]:
+        # The suite stands alone, and no other command needs it.
+        from .conformance import main as conformance
+
+        return conformance(words[1:])
     is_open = has_output()
     found = parsed(words)
     console = Console()

@@ -1,0 +1,1 @@
+../../../share/conformance/run.py
