@@ -11,11 +11,11 @@ import re
 import shutil
 
 from calls import COMPRESS
-from ci import FIELD, HOOKS, STEP, WORKFLOW, text_of
+from ci import FIELD, HOOKS, STEP, WORKFLOW
 from folders import ENVIRONMENT, make, module
 from known import ROADS
 from reading import Fault, read
-from shared import ROOT, Answer, Tally, run, write
+from shared import ROOT, Answer, Tally, run, text_of, write
 from texts import lines_of, made, spelled
 
 SEED, COUNT = 64, 300

@@ -5,7 +5,7 @@ from types import ModuleType
 from typing import NamedTuple
 
 from reading import LINES, NAMES
-from shared import ROOT
+from shared import ROOT, text_of
 
 LISTED, SOURCE = f"{ROOT}/tests/mistakes.txt", f"{ROOT}/tests/reading.py"
 
@@ -29,11 +29,6 @@ class Mistake(NamedTuple):
     changes: list[tuple[str, str]]
     field: str = ""
     rules: tuple[str, ...] = ()
-
-
-def text_of(path: str) -> str:
-    with open(path, encoding="utf-8") as file:
-        return file.read()
 
 
 def listed(path: str) -> Iterator[Mistake]:

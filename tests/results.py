@@ -15,12 +15,12 @@ import sys
 import time
 from collections.abc import Callable
 
-from calls import COMPRESS, bytes_of, fake, told
+from calls import COMPRESS, fake, told
 from folders import ENVIRONMENT, make, module, started, wants
 from guards import zstd
 from known import COSTS, FLOWS, ROADS, ROADS_CANON
 from reading import Fault, Text, canonical, read
-from shared import LIMIT, ROOT, Tally, python_with, run, write
+from shared import LIMIT, ROOT, Tally, bytes_of, python_with, run, write
 from texts import lines_of, made, spelled
 
 import dnorm

@@ -12,13 +12,13 @@ import tempfile
 from collections.abc import Callable, Sequence
 from typing import NoReturn
 
-from .__main__ import SIGNALS, Stopped, has_output, stop
+from .__main__ import SIGNALS, has_output, stop
 from .errors import DnormError
 from .files import reason_of
 from .machines import Jobs
 from .parts import Ended, Options, Parts, fail
 from .program import children, processors
-from .reports import Console
+from .reports import Console, Stopped
 
 USAGE = """\
 Writes the canonical text of a graph in parts: the bytes that `dnorm canon FILE` writes, without a process that keeps

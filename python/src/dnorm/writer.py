@@ -29,9 +29,7 @@ class Copied:
         return piece
 
 
-def write(
-    instance: Instance, target: Target, *, program: Program = None, timeout: Optional[float] = None
-) -> None:
+def write(instance: Instance, target: Target, *, program: Program = None, timeout: Optional[float] = None) -> None:
     """Writes a text that poses the problem of an instance, with its arcs or items in their order, to a path or a binary
     stream, as `canon_to` does. The text of an instance that was read is the canonical text.
 
