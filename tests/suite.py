@@ -11,7 +11,7 @@ import mistakes
 from cases import Case
 from mistakes import Mistake
 from rules import RULES
-from shared import ROOT
+from shared import ROOT, text_of
 
 FOLDER = f"{ROOT}/share/conformance"
 ABOUT = "Texts are in Latin-1: each character stands for the byte of its number. README.md describes the fields."
@@ -72,7 +72,7 @@ class Suite:
         return "\n".join([*rows, ""])
 
 
-def text_of(entries: list[Entry]) -> str:
+def cases_json(entries: list[Entry]) -> str:
     """Returns the text of a cases.json with these cases, with a case in each line."""
     parts = []
     for name, rule in RULES.items():
@@ -84,7 +84,7 @@ def text_of(entries: list[Entry]) -> str:
 
 def finds(planted: list[Mistake], judged: list[tuple[Case, dict[str, Any]]]) -> list[frozenset[int]]:
     """Returns the numbers of the mistakes that each case finds."""
-    source = mistakes.text_of(mistakes.SOURCE)
+    source = text_of(mistakes.SOURCE)
     found: list[set[int]] = [set() for _ in judged]
     for i, mistake in enumerate(planted):
         reader = mistakes.reader(mistakes.planted(source, mistake))
@@ -111,5 +111,5 @@ def anchor(heading: str) -> str:
 def generated(suite: Suite) -> Iterator[tuple[str, str]]:
     """Yields the paths and the texts of the generated files."""
     readme = f"{FOLDER}/README.md"
-    yield f"{FOLDER}/cases.json", text_of(suite.entries)
-    yield readme, TABLE.sub(lambda _: suite.table(), mistakes.text_of(readme))
+    yield f"{FOLDER}/cases.json", cases_json(suite.entries)
+    yield readme, TABLE.sub(lambda _: suite.table(), text_of(readme))
