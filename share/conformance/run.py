@@ -13,8 +13,10 @@ COMMAND is the reader, or a small adapter for it, with its arguments. It is call
     COMMAND canon --form 1 -           the same, but prints the canonical text of a text that it accepts, and nothing
     COMMAND canon --form 2 -           on standard output for one that it refuses
     COMMAND check - --with COMPANION   the same as 'check -', and then prints 'fits KIND' for the file of a companion;
-                                       or prints 'COMPANION: NUMBER NAME' with status 2 if it does not fit
-    COMMAND compare LEFT RIGHT         prints 'same', with status 0, or how two files differ, with status 1
+                                       or prints 'COMPANION: 35 NotInGraph ID' or 'COMPANION: 36 NotKinds' on standard
+                                       error, with status 2
+    COMMAND compare LEFT RIGHT         prints 'same', with status 0, or how two files differ, with status 1: README.md
+                                       lists the lines
 
 Levels, each of which includes the ones before it:
 
