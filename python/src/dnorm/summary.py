@@ -41,7 +41,7 @@ class PairDifference:
     right: Arcs
 
 
-@dataclass(frozen=True)
+@dataclass(frozen=True, repr=False)
 class Differences:
     """How two texts differ.
 
@@ -64,6 +64,10 @@ class Differences:
     fields: tuple[tuple[str, int], ...] = ()
     values: tuple[tuple[str, int, int], ...] = ()
     pairs: tuple[PairDifference, ...] = ()
+
+    def __repr__(self) -> str:
+        counts = [f"{it}={getattr(self, it)}" for it in ("only_left", "only_right", "both", "different")]
+        return f"<dnorm.Differences: {self.first}, {', '.join(counts)}>"
 
 
 def differences(
