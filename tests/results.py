@@ -457,8 +457,8 @@ def comparisons(tally: Tally, tested: str) -> None:
         tally.same(f"compare {left!r}", found.out.decode().splitlines()[1:], lines.split("|"))
     shown = dnorm.show("p sp 2000 2000\n".encode() + b"".join(b"a %d 1 7\n" % it for it in range(1, 2001)))
     tally.same("a short repr", repr(shown), "<dnorm.Shown: kind='sp', lines=2000, nodes=2000, 2000 pairs>")
-    wanted = "<dnorm.Differences: differ pair 1 2 length 3 none, only_left=5, only_right=0, both=0, different=0>"
-    tally.same("the repr of differences", repr(dnorm.differences(ROADS, b"p sp 3 0\n")), wanted)
+    short = "<dnorm.Differences: differ pair 1 2 length 3 none, only_left=5, only_right=0, both=0, different=0>"
+    tally.same("the repr of differences", repr(dnorm.differences(ROADS, b"p sp 3 0\n")), short)
     tally.same("a companion's repr", repr(dnorm.show(b"p aux sp ss 0\n")), "<dnorm.Shown: kind='ss', lines=0>")
 
 
