@@ -437,9 +437,9 @@ def comparisons(tally: Tally, tested: str) -> None:
     found = module("compare", "--limit", "0", "left", "right")
     tally.same("compare --limit 0", (len(found.out.splitlines()), found.status), (4, 1))
     write("right", costly({(2, 1): "2 40 331", (3, 2): "0 7 1", (3, 1): "0 5 2"}))
-    for limit, first in [("1", "1 2, .."), ("2", "1 2, 2 3")]:
+    for limit, turned in [("1", "1 2, .."), ("2", "1 2, 2 3")]:
         found = module("compare", "--limit", limit, "left", "right")
-        tally.holds(f"compare --limit {limit}: {found}", f"\nreversed: 2, from {first}\n".encode() in found.out)
+        tally.holds(f"compare --limit {limit}: {found}", f"\nreversed: 2, from {turned}\n".encode() in found.out)
     for name, text, line, status in [
         ("bad", b"x\n", "bad:1: 1 BadLine\n    line 1: x\n", 2),
         ("bad.lz4", b"x\n", "bad.lz4: 31 Read (lz4 is not supported)\n", 4),
