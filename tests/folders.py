@@ -65,7 +65,9 @@ MISSING = "missing: 31 Read (No such file or directory)\n"
 NAMES_OTHERS = "; --ending names other endings)"
 NONE = f"none: 31 Read (no file in it ends in .gr .sp .min .max .ss .p2p .co{NAMES_OTHERS}\n"
 # What follows the lines of refused files where they are printed again.
+TERMINAL = "Add the line n ID s or n ID t, before the arcs"
 CAUSES = {"v.co:2": "    line 2: s 1\n", "gr:1": "    line 1: x\n", "notes.txt:1": "    line 1: x\n"}
+CAUSES["bad.max:end"] = f"    {TERMINAL}\n"
 # The other files of the set, and why they are not looked at.
 NO_ENDING = "its name does not end like that of a DIMACS text"
 NOT_LOOKED_AT = {
@@ -261,7 +263,7 @@ def reports(tally: Tally, _: str) -> None:
     tally.same("an accepted file in JSON", of["set/a-b.gr"], wanted)
     wanted = {"name": "set/bad.max", "status": "refused", "error": "set/bad.max:end: 19 MissingTerminal", "line": None}
     wanted |= {"number": 19, "word": "MissingTerminal", "sentence": "A max file has no source or no sink."}
-    wanted |= {"text": None, "hint": None}
+    wanted |= {"text": None, "hint": TERMINAL}
     tally.same("a refused file in JSON", of["set/bad.max"], wanted)
     tally.same("the line of a fault in JSON", (of["set/v.co"]["line"], of["set/v.co"]["text"]), (2, "s 1"))
     wanted = {"name": "missing", "status": "failed", "error": MISSING[:-1]}
@@ -274,7 +276,9 @@ def reports(tally: Tally, _: str) -> None:
     cases = {it.get("name"): [(one.tag, one.attrib, one.text) for one in it] for it in suite}
     bad = {"type": "MissingTerminal", "message": "set/bad.max:end: 19 MissingTerminal"}
     tally.same(
-        "a refused file in XML", cases["set/bad.max"], [("failure", bad, "A max file has no source or no sink.")]
+        "a refused file in XML",
+        cases["set/bad.max"],
+        [("failure", bad, f"A max file has no source or no sink.\n{TERMINAL}")],
     )
     lost = {"type": "Read", "message": MISSING[:-1]}
     tally.same(
@@ -383,7 +387,7 @@ def many(tally: Tally, _: str) -> None:
         write(name, f"p sp 9 2\na 1 {at % 9 + 1} {at}\na 1 2 {'x' if name in bad else 3}\n")
     lines = "".join(f"{it}:3: 9 NotANumber\n" if it in bad else f"{it}: accepted sp\n" for it in names)
     told = [it for it in lines.splitlines() if "accepted" not in it]
-    causes = ["    line 3: a 1 2 x\n" for _ in told]
+    causes = ["    line 3: a 1 2 x\n    Scale to whole numbers; remove a fraction that is 0\n" for _ in told]
     end = "".join(f"{it}\n{cause}" for it, cause in zip(told, causes))
     wants(tally, "2,000 files", module("check", "many"), lines, f"{end}1980 accepted, 20 refused, 0 failed\n", 2)
 

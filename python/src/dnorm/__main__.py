@@ -17,7 +17,7 @@ from .explain import explained
 from .files import failing
 from .folders import ENDINGS
 from .program import processors, version
-from .reports import Console, Stopped, cause_of, line_of
+from .reports import Console, Stopped, cause_of, for_terminal, line_of
 
 ABOUT = "Runs the program dnorm on many files at the same time."
 STATUSES = """\
@@ -46,7 +46,7 @@ class Parser(argparse.ArgumentParser):
 
     def error(self, message: str) -> NoReturn:
         self.print_usage(sys.stderr)
-        self.exit(USAGE, f"{self.prog}: {message}\n")
+        self.exit(USAGE, for_terminal(f"{self.prog}: {message}\n"))
 
 
 def parser() -> Parser:

@@ -18,7 +18,7 @@ Opener = Callable[[], AbstractContextManager["Iterator[bytes]"]]
 KEPT, SHOWN = 4096, 200
 BLANK = rb"[ \t\r]"
 PROBLEM = re.compile(rb"%s*p%s" % (BLANK, BLANK))
-COUNTED = re.compile(rb"%s*[asqv](?:%s|\Z)" % (BLANK, BLANK))
+COUNTED = re.compile(rb"^%s*[asqv](?:%s|$)" % (BLANK, BLANK), re.M)
 # The refusals that depend on the number of counted lines.
 COUNTS = (7, 20)
 # What the first bytes of a file mean, and the command that makes a text of it. {} stands for the name of the file.
@@ -98,12 +98,13 @@ def cause_of(text: Opener, name: str | None, line: int | None, number: int, node
     with text() as pieces:
         head = next(pieces, b"")
     with text() as pieces:
-        refused, problem, count = scanned(lines_of(pieces), line, number)
+        refused, problem = scanned(lines_of(pieces), line)
     hints = [*hints_of_bytes(head[:SIZE], refused, name)]
     words = (refused or b"").split()
     if number in COUNTS and problem:
-        declared = visible(problem[-1])
-        hints.append(f"declared {declared}, found {count}: only a, s, q and v lines count")
+        with text() as pieces:
+            count = counted(pieces)
+        hints.append(f"declared {visible(problem[-1])}, found {count}: only a, s, q and v lines count")
     if number == 13 and len(problem) > 2 and problem[1] != b"aux":
         hints.append(f"NODES {visible(problem[2])}: nodes count from 1")
     if number == 14 and line and len(words) > 1:
@@ -120,21 +121,29 @@ def cause_of(text: Opener, name: str | None, line: int | None, number: int, node
     return Cause(None if refused is None else visible(refused[:SHOWN]), hints)
 
 
-def scanned(lines: Iterator[bytes], line: int | None, number: int) -> tuple[bytes | None, list[bytes], int]:
-    """Returns the refused line, the words of the problem line, and the number of counted lines."""
-    refused: bytes | None = None
+def scanned(lines: Iterator[bytes], line: int | None) -> tuple[bytes | None, list[bytes]]:
+    """Returns the refused line, and the words of the problem line, if that comes before."""
     problem: list[bytes] = []
-    count = 0
     for at, it in enumerate(lines, 1):
         if not problem and PROBLEM.match(it):
             problem = it[:SHOWN].split()
         if at == line:
-            refused = it
-        if number in COUNTS:
-            count += bool(COUNTED.match(it))
-        elif line is None or at == line:
+            return it, problem
+        if problem:
             break
-    return b"" if line and refused is None else refused, problem, count
+    if line is None:
+        return None, problem
+    return next(islice(lines, line - at - 1, None), b"") if problem else b"", problem
+
+
+def counted(pieces: Iterator[bytes]) -> int:
+    """Returns the number of counted lines of a text."""
+    rest, count = b"", 0
+    for piece in pieces:
+        whole, end, rest = (rest + piece).rpartition(b"\n")
+        rest = rest[:KEPT]
+        count += len(COUNTED.findall(whole)) if end else 0
+    return count + len(COUNTED.findall(rest))
 
 
 def hints_of_bytes(head: bytes, refused: bytes | None, name: str | None) -> Iterator[str]:

@@ -36,20 +36,19 @@ Arcs = tuple[tuple[int, ...], ...]
 class PairDifference:
     """A pair whose arcs differ. `key` is its tail and head; or the ID of a point, or the place of an item. `left` and
     `right` have the values of each arc: LENGTH, CAP, or LOW, CAP and COST as of form 2. They are empty where a text has
-    no such pair. `is_reversed` says that only the right text has the opposite pair, with the same arcs."""
+    no such pair."""
 
     key: Key
     left: Arcs
     right: Arcs
-    is_reversed: bool = False
 
 
-@dataclass(frozen=True)
+@dataclass(frozen=True, repr=False)
 class Differences:
     """How two texts differ.
 
     `first` is what `compare` returns, and `kind` is that of both texts. The pairs are counted: those that only one text
-    has, those that `both` have, and how many of these are `different`. `reversed` counts the pairs that only the left
+    has, those that `both` have, and how many of these are `different`. `reversed` has the pairs that only the left
     text has, and whose opposite with the same arcs only the right one has. `supplies` is the number of nodes whose
     flows differ. `fields` counts the different pairs by the fields that differ, as `low cap`, or `arcs` if the numbers
     of arcs do. `values` has the names `nodes`, `source` and `sink` with both values, where these differ. `pairs` has
@@ -62,11 +61,15 @@ class Differences:
     only_right: int = 0
     both: int = 0
     different: int = 0
-    reversed: int = 0
+    reversed: tuple[Key, ...] = ()
     supplies: int = 0
     fields: tuple[tuple[str, int], ...] = ()
     values: tuple[tuple[str, int, int], ...] = ()
     pairs: tuple[PairDifference, ...] = ()
+
+    def __repr__(self) -> str:
+        counts = [f"{it}={getattr(self, it)}" for it in ("only_left", "only_right", "both", "different")]
+        return f"<dnorm.Differences: {self.first}, {', '.join(counts)}>"
 
 
 def differences(
@@ -103,8 +106,6 @@ def summary(first: Same | Difference, left: Instance, right: Instance, limit: in
             if where == "both":
                 counts["different"] += 1
                 fields[differing_fields(left.kind, ours, theirs)] += 1
-    opposite = reversed_pairs(differing) if isinstance(left, Graph) else set()
-    shown = [PairDifference(it.key, it.left, it.right, it.key in opposite) for it in differing[:limit]]
     return Differences(
         first,
         left.kind,
@@ -112,11 +113,11 @@ def summary(first: Same | Difference, left: Instance, right: Instance, limit: in
         only_right=counts["only_right"],
         both=counts["both"],
         different=counts["different"],
-        reversed=len(opposite),
+        reversed=reversed_pairs(differing) if isinstance(left, Graph) else (),
         supplies=differing_supplies(left, right),
         fields=tuple(fields.most_common()),
         values=tuple(differing_values(left, right)),
-        pairs=tuple(shown),
+        pairs=tuple(differing[:limit]),
     )
 
 
@@ -150,10 +151,10 @@ def differing_fields(kind: str, left: Arcs, right: Arcs) -> str:
     return " ".join(name for at, name in names if [it[at] for it in left] != [it[at] for it in right])
 
 
-def reversed_pairs(differing: list[PairDifference]) -> set[Key]:
+def reversed_pairs(differing: list[PairDifference]) -> tuple[Key, ...]:
     """Returns the pairs that only LEFT has, and whose opposite with the same arcs only RIGHT has."""
     only_right = {it.key: it.right for it in differing if not it.left}
-    return {it.key for it in differing if not it.right and only_right.get(it.key[::-1]) == it.left}
+    return tuple(it.key for it in differing if not it.right and only_right.get(it.key[::-1]) == it.left)
 
 
 def differing_supplies(left: Instance, right: Instance) -> int:
@@ -191,7 +192,8 @@ def lines_of_differences(it: Differences) -> Iterator[str]:
     for names, count in it.fields:
         yield f"different in {names}: {count}"
     if it.reversed:
-        yield f"reversed: {it.reversed}"
+        first = [f"{tail} {head}" for tail, head in it.reversed[: max(1, len(it.pairs))]]
+        yield f"reversed: {len(it.reversed)}, from {', '.join(first)}{', ..' * (len(first) < len(it.reversed))}"
     for pair in it.pairs:
         key = () if letter in "sq" else pair.key
         for mark, arcs in (("<", pair.left), (">", pair.right)):
