@@ -14,7 +14,7 @@ from collections.abc import Iterable, Iterator, Sequence
 from .causes import cause_of, quoted
 from .errors import DnormError, NoProgram, Write
 from .files import of_stream, reason_of
-from .program import find_program
+from .program import command as command_of
 from .refusals import REFUSALS
 from .reports import for_terminal
 
@@ -72,11 +72,11 @@ def say(fd: int, told: str, causes: Iterable[str]) -> None:
 
 def explain_run(words: Sequence[str]) -> int:
     """Runs the program with these words, and explains on standard error what it prints there."""
-    path = find_program()
+    program = command_of(None)
     try:
-        ran = subprocess.run([path, *words], stderr=subprocess.PIPE, check=False)
+        ran = subprocess.run([*program, *words], stderr=subprocess.PIPE, check=False)
     except OSError as error:
-        raise NoProgram(path, reason_of(error)) from error
+        raise NoProgram(program[0], reason_of(error)) from error
     for told in os.fsdecode(ran.stderr).splitlines():
         say(2, told, wrong_words(words) if told == WRONG[0] else causes_of(told))
     return ran.returncode if ran.returncode >= 0 else 128 - ran.returncode
