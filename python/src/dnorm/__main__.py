@@ -116,7 +116,8 @@ def add_comparison(one: argparse.ArgumentParser) -> None:
 def add_runs(one: argparse.ArgumentParser) -> None:
     """Adds the arguments that say how the program is run."""
     one.add_argument("--timeout", type=float, metavar="SECONDS", help="a file that takes longer is a failure")
-    one.add_argument("--program", metavar="PROGRAM", help="the program, by default $DNORM, or dnorm on PATH")
+    about = "the program, by default $DNORM, the one that pip installed, or dnorm on PATH"
+    one.add_argument("--program", metavar="PROGRAM", help=about)
 
 
 def parsed(words: Sequence[str]) -> argparse.Namespace:

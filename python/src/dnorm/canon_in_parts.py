@@ -3,13 +3,14 @@
 from __future__ import annotations
 
 import argparse
+import contextlib
 import os
 import re
 import shutil
 import signal
 import subprocess
 import tempfile
-from collections.abc import Callable, Sequence
+from collections.abc import Callable, Iterator, Sequence
 from typing import NoReturn
 
 from .__main__ import SIGNALS, has_output, stop
@@ -164,19 +165,36 @@ def run(words: Sequence[str], place: Place, has_input: bool, is_open: bool) -> N
         raise fail(4, "GNU parallel is missing (on Debian: apt-get install parallel)")
     open_input(found.file, has_input)
     options = Options(found.file, int(found.form), int(found.lines), int(found.parts) if found.parts else None)
-    if not os.path.isdir(found.tmpdir):
-        raise fail(4, f"no folder {found.tmpdir}")
-    try:
-        folder = tempfile.TemporaryDirectory(prefix="canon-in-parts.", dir=os.path.realpath(found.tmpdir))
-    except OSError:
-        raise fail(4, f"{found.tmpdir} takes no files") from None
-    with folder as at:
+    with folder_in(found.tmpdir) as at:
         count = ["--jobs", found.jobs] if found.jobs else []
         jobs = Jobs(program, jobs_at_once(found.jobs), count, machines, at)
         try:
             Parts(options, at, jobs, is_open).run()
         finally:
             jobs.leave()
+
+
+@contextlib.contextmanager
+def folder_in(place: str) -> Iterator[str]:
+    """Makes a folder for temporary files, and removes it at the end. Signals wait meanwhile, so that none comes between
+    the making of the folder and the duty to remove it, or into its removal."""
+    if not os.path.isdir(place):
+        raise fail(4, f"no folder {place}")
+    signal.pthread_sigmask(signal.SIG_BLOCK, SIGNALS)
+    try:
+        made = tempfile.mkdtemp(prefix="canon-in-parts.", dir=os.path.realpath(place))
+    except OSError:
+        raise fail(4, f"{place} takes no files") from None
+    try:
+        try:
+            signal.pthread_sigmask(signal.SIG_UNBLOCK, SIGNALS)
+            yield made
+        finally:
+            # After a signal that comes here, all others are ignored.
+            signal.pthread_sigmask(signal.SIG_BLOCK, SIGNALS)
+    finally:
+        shutil.rmtree(made)
+        signal.pthread_sigmask(signal.SIG_UNBLOCK, SIGNALS)
 
 
 def has_parallel() -> bool:
@@ -221,6 +239,7 @@ def main(words: Sequence[str], here: str, root: str) -> int:
     except Ended as ended:
         status, line = ended.status, ended.line
     except Stopped as stopped:
+        children.stop()
         status = 128 + stopped.number
     except (DnormError, OSError) as error:
         reason = reason_of(error)

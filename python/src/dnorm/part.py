@@ -46,7 +46,7 @@ class Result(NamedTuple):
 
 
 class Failed(Exception):
-    """A part could not be canonicalised: with the number and the word that the program said, or `` if it said none."""
+    """A part could not be canonicalised, with the number and the word that the program printed, if it did."""
 
 
 # What starts a process, and waits for its end: subprocess.Popen, or the like.
