@@ -18,6 +18,7 @@ from .files import failing
 from .folders import ENDINGS
 from .program import processors, version
 from .reports import Console, Stopped, cause_of, for_terminal, line_of
+from .suite import suite
 
 ABOUT = "Runs the program dnorm on many files at the same time."
 STATUSES = """\
@@ -207,10 +208,8 @@ def main(words: Sequence[str] | None = None) -> int:
     if words[:1] == ["explain"]:
         return explained(words[1:])
     if words[:1] == ["conformance"]:
-        # The suite stands alone, and no other command needs it.
-        from .conformance import main as conformance
-
-        return conformance(words[1:])
+        status: int = suite().main(words[1:])
+        return status
     is_open = has_output()
     found = parsed(words)
     console = Console()

@@ -1,1 +1,0 @@
-../../../share/conformance/run.py
