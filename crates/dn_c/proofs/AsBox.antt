@@ -21,7 +21,12 @@ use Rattle.dn_c.specs.contracts.seal.parts.Parts as Parts
 use Rattle.dn_c.specs.contracts.seal.Seal as Seal
 
 abbrev pub E : Bx
-E = record { row = Work.the_row; laws = work.the_row_laws; al = record { row = Heap.the_row; laws = heap.the_row_laws; g = ghosts; d = dict; drops = impl [] tnil dnil } }
+E = record {
+  row = Work.the_row;
+  laws = work.the_row_laws;
+  al = record
+      { row = Heap.the_row; laws = heap.the_row_laws; g = ghosts; d = dict; drops = impl [] tnil dnil };
+}
 
 abbrev pub FromParts : Slot 0
 FromParts = plain (λ _. Parts.the_row Work.the_row Heap.the_row ghosts)

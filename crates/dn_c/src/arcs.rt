@@ -10,7 +10,8 @@ use dn_arc::Parts;
 use dn_bundle::{Bundle, Form};
 use dn_table::Table;
 
-/// An arc as C has it: its nodes, and its numbers in the order of its line. Missing numbers are 0.
+/// An arc as C has it: its nodes, and its numbers in the order of its line, which are the length (`sp`), the capacity
+/// (`max`), or the lower bound, the capacity and the cost (`min`). Missing numbers are 0.
 #[repr(C)]
 #[derive(Clone, Copy, Drop)]
 pub struct Arc {
@@ -41,7 +42,7 @@ fn row<A: Parts>(pair: &(i64, i64), arc: &A) -> Arc
     }
 }
 
-// Takes the canonical arcs of one pair.
+// Takes the canonical arcs of one pair: goes past those of the first `skip` arcs, and puts the others from `at` on.
 fn put_bundle<B: Bundle>(
     out: &mut [Arc],
     at: usize,
@@ -51,7 +52,8 @@ fn put_bundle<B: Bundle>(
     form: Form,
 ) -> (usize, u64)
     ensures { (want rest : List Arc)
-        → HasCopied want out.old at skip (rows_by B.Arc.numbers (placed pair.now (B.bundle.listed form bundle.now)) ++ rest)
+        → HasCopied want out.old at skip
+        (rows_by B.Arc.numbers (placed pair.now (B.bundle.listed form bundle.now)) ++ rest)
         → HasCopied want out.new result.0 result.1 rest }
 {
     let count = bundle.canon_len(form);

@@ -6,18 +6,23 @@ use crate::work::Work;
 use dn_compare::compare;
 use dn_instance::Verdict;
 
-/// Where two instances first differ. `what` is 0 nowhere (they are the same problem), 1 the kinds, 2 the numbers of
-/// nodes, 3 the flow of node `at`, 4 the sources, 5 the sinks, 6 the arcs from node `at` to node `to`, 7 the numbers of
-/// items, 8 the item `at`, 9 the point `at`, or 255 if a handle holds no instance.
+/// Where two instances first differ.
 #[repr(C)]
 #[derive(Clone, Copy, Drop)]
 pub struct Difference {
+    /// 0 nowhere, 1 in the kinds, 2 in NODES, 3 in the flow of node `at`, 4 in the sources, 5 in the sinks, 6 in the
+    /// arcs from node `at` to node `to`, 7 in the numbers of items, 8 in the item `index`, 9 in the point `at`, or 255
+    /// if a handle holds no instance.
     pub what: u8,
+    /// A node, or the ID of a point; else 0.
     pub at: i64,
+    /// The head of an ordered pair, else 0.
     pub to: i64,
+    /// The item, counted from 1, else 0.
     pub index: u64,
 }
 
+// Returns a difference of this sort, at a node or an ordered pair.
 fn place(what: u8, at: i64, to: i64) -> Difference
     ensures { result ≡ at_place what at to }
 {
@@ -36,6 +41,7 @@ pub fn not_both() -> Difference
     place(255, 0, 0)
 }
 
+// Returns a verdict as C has it.
 fn difference_of(verdict: Verdict) -> Difference
     ensures { result ≡ difference_of verdict }
 {

@@ -1,4 +1,5 @@
-// The functions that C calls.
+// The functions that C calls. `c/dnorm.h` declares them and says which rules a caller must keep. A call takes the work
+// out of its handle and puts it back, which moves only a pointer.
 ghost use Rattle.std.specs.Prelude.{◌≡◌, Some, None, List, MatchOption};
 ghost use Rattle.dn_c.specs.State.Differences.{not_both, Compares};
 ghost use Rattle.dn_c.specs.State.Facts.{no_facts, facts_of};
@@ -17,14 +18,19 @@ use crate::work::Work;
 use dn_instance::{Reader, Refusal};
 use std::alloc::Global;
 
-/// Makes a reader that was fed no bytes in a handle that holds nothing.
+/// Makes a reader that was fed no bytes, and puts it into a handle that holds nothing. The handle owns it.
+///
+/// # Errors
+///
+/// The status is that of `Memory` if an allocation fails, and the handle then holds nothing. If the handle holds
+/// something, it keeps that, and the call is a wrong one.
 #[unsafe(no_mangle)]
 pub extern "C" fn dnorm_begin(alloc: Global, handle: &mut Handle) -> Status
     ensures { Begins (work_of handle.old) (work_of handle.new) result }
 {
     match handle.take(alloc) {
-        Some(work) => {
-            handle.put(work);
+        Some(was) => {
+            handle.put(was);
             wrong_call()
         }
         None => match Box::new(alloc, Work::Reading(Reader::new(alloc))) {
@@ -37,7 +43,13 @@ pub extern "C" fn dnorm_begin(alloc: Global, handle: &mut Handle) -> Status
     }
 }
 
-/// Feeds the next piece of the text to the reader.
+/// Feeds the next piece of the text to the reader. Pieces may end anywhere, also in a line or in a word, and may be
+/// empty. The reader keeps none of the bytes.
+///
+/// # Errors
+///
+/// The status is that of the first fault of the text as soon as its line is complete, or that of `Memory`. Every later
+/// piece, and the end of the text, then has the same status. If the handle holds no reader, nothing changes.
 #[unsafe(no_mangle)]
 pub extern "C" fn dnorm_feed(alloc: Global, handle: &mut Handle, piece: &[u8]) -> Status
     ensures { Does (λ old. Feeds old piece.now) (work_of handle.old) (work_of handle.new) result }
@@ -52,7 +64,7 @@ pub extern "C" fn dnorm_feed(alloc: Global, handle: &mut Handle, piece: &[u8]) -
     }
 }
 
-// Feeds the next piece of the text to the reader.
+// Feeds the next piece of the text, if the work is a reader.
 fn feed_work(work: &mut Work, piece: &[u8]) -> Status
     ensures { Feeds work.old piece.now work.new result }
 {
@@ -65,7 +77,12 @@ fn feed_work(work: &mut Work, piece: &[u8]) -> Status
     }
 }
 
-/// Ends the text. The handle then holds its parsed instance, or why it is refused.
+/// Ends the text, and frees the reader. The handle then holds the parsed instance of the text, or why it is refused.
+///
+/// # Errors
+///
+/// The status is that of the first fault of the text, or that of `Memory`. If the handle holds no reader, nothing
+/// changes.
 #[unsafe(no_mangle)]
 pub extern "C" fn dnorm_finish(alloc: Global, handle: &mut Handle) -> Status
     ensures { Does Finishes (work_of handle.old) (work_of handle.new) result }
@@ -81,7 +98,7 @@ pub extern "C" fn dnorm_finish(alloc: Global, handle: &mut Handle) -> Status
     }
 }
 
-// Ends the text of the reader.
+// Ends the text, if the work is a reader.
 fn finished(work: Work) -> (Work, Status)
     ensures { Finishes work result.0 result.1 }
 {
@@ -94,7 +111,7 @@ fn finished(work: Work) -> (Work, Status)
     }
 }
 
-/// Frees what the handle holds, which then holds nothing.
+/// Frees what the handle holds. It then holds nothing, and may be used anew.
 #[unsafe(no_mangle)]
 pub extern "C" fn dnorm_free(alloc: Global, handle: &mut Handle)
     ensures { work_of handle.new ≡ None }
@@ -102,7 +119,7 @@ pub extern "C" fn dnorm_free(alloc: Global, handle: &mut Handle)
     drop(handle.take(alloc));
 }
 
-/// Returns what the instance is.
+/// Returns what the instance is, in numbers. The kind is 0 if the handle holds no instance.
 #[unsafe(no_mangle)]
 pub extern "C" fn dnorm_facts(alloc: Global, handle: &mut Handle) -> Facts
     ensures facts { MatchOption (work_of handle.old) (result ≡ no_facts) (λ work. result ≡ facts_of work) }
@@ -118,8 +135,9 @@ pub extern "C" fn dnorm_facts(alloc: Global, handle: &mut Handle) -> Facts
     }
 }
 
-/// Copies the canonical arcs of the instance from the one at `from`, counted from 0, as far as there is room. Returns
-/// how many it copied.
+/// Copies the canonical arcs of the instance in a form (1 or 2) from the one at `from`, counted from 0, as far as there
+/// is room, in the order of the canonical text. Returns how many it copied: 0 past the last, and where the handle holds
+/// no graph. The call walks over the pairs before that arc.
 #[unsafe(no_mangle)]
 pub extern "C" fn dnorm_arcs(
     alloc: Global,
@@ -142,7 +160,13 @@ pub extern "C" fn dnorm_arcs(
     }
 }
 
-/// Puts the canonical text of the instance into a handle that holds nothing.
+/// Puts the canonical text of the instance in a form (1 or 2) into `into`, a handle that holds nothing. It then owns
+/// the text.
+///
+/// # Errors
+///
+/// The status is that of `Memory` or of `CountTooLarge`, and `into` then holds nothing. If `into` holds something, or
+/// `handle` no instance, nothing changes, and the call is a wrong one.
 #[unsafe(no_mangle)]
 pub extern "C" fn dnorm_canon(
     alloc: Global,
@@ -165,7 +189,7 @@ pub extern "C" fn dnorm_canon(
 }
 
 /// Copies the bytes of the text from the one at `from`, counted from 0, as far as there is room. Returns how many it
-/// copied.
+/// copied: 0 past the last, and where the handle holds no text.
 #[unsafe(no_mangle)]
 pub extern "C" fn dnorm_text(
     alloc: Global,
@@ -188,7 +212,8 @@ pub extern "C" fn dnorm_text(
 }
 
 /// Copies what the instance holds beside its arcs from the one at `from`, counted from 0, as far as there is room: the
-/// flows that are not 0, the source and the sink, or the items or points of a companion. Returns how many it copied.
+/// flows that are not 0 by ascending node, the source with the sink, or the items or points of a companion. Returns how
+/// many it copied: 0 past the last, and where the handle holds no instance.
 #[unsafe(no_mangle)]
 pub extern "C" fn dnorm_items(
     alloc: Global,
@@ -210,10 +235,11 @@ pub extern "C" fn dnorm_items(
     }
 }
 
-/// Returns where two instances first differ.
+/// Returns where two instances first differ. Both handles keep theirs.
 #[unsafe(no_mangle)]
 pub extern "C" fn dnorm_compare(alloc: Global, left: &mut Handle, right: &mut Handle) -> Difference
-    ensures compares { BothHold (λ l r. Compares l r result) (result ≡ not_both) (work_of left.old) (work_of right.old) }
+    ensures compares { BothHold (λ l r. Compares l r result) (result ≡ not_both) (work_of left.old)
+        (work_of right.old) }
     ensures left_kept { work_of left.new ≡ work_of left.old }
     ensures right_kept { work_of right.new ≡ work_of right.old }
 {
@@ -239,5 +265,5 @@ pub extern "C" fn dnorm_compare(alloc: Global, left: &mut Handle, right: &mut Ha
 pub extern "C" fn dnorm_abi() -> u32
     ensures { result ≡ 1 }
 {
-    1
+    1u32
 }

@@ -5,16 +5,21 @@ ghost use Rattle.dn_c.specs.State.Facts.{kind_number, no_facts, facts_of};
 use crate::work::Work;
 use dn_line::Kind;
 
-/// What an instance is. `kind` is 1 `min`, 2 `max`, 3 `sp`, 4 `ss`, 5 `p2p`, 6 `co`, or 0 if there is no instance.
+/// What an instance is, in numbers.
 #[repr(C)]
 #[derive(Clone, Copy, Drop)]
 pub struct Facts {
+    /// 1 `min`, 2 `max`, 3 `sp`, 4 `ss`, 5 `p2p`, 6 `co`, or 0 if there is no instance.
     pub kind: u8,
+    /// NODES, or 0 for a companion.
     pub nodes: i64,
+    /// How many counted lines were read: arcs, items or points.
     pub lines: i64,
+    /// How many ordered pairs have canonical arcs, or 0 for a companion.
     pub pairs: u64,
 }
 
+// Returns the number of a kind.
 fn kind_number(kind: Kind) -> u8
     ensures { result ≡ kind_number kind }
 {

@@ -1,4 +1,4 @@
-// What C holds of a work.
+// A handle, which is what C holds of a work.
 ghost use Rattle.std.specs.Prelude.{◌≡◌, Bool, Some, None, is_some};
 ghost use Rattle.std.specs.Option.{option_map};
 
@@ -8,7 +8,8 @@ use std::alloc::Global;
 use std::marker::Send;
 use std::mem::replace;
 
-/// A handle that C declares as `struct dnorm { void *work; bool full; }`. One that is all zeros holds nothing.
+/// A handle: it owns a work, or nothing. C declares it as `struct dnorm { void *work; bool full; }`, and begins with
+/// one that is all zeros, which holds nothing.
 #[repr(C)]
 pub struct Handle {
     seal: Seal,
@@ -37,7 +38,7 @@ impl Handle {
         }
     }
 
-    /// Returns the work that the handle holds.
+    /// Returns the work that the handle holds, if any.
     pub fn into_box(self) -> Option<Box<Work>>
         ensures { option_map (λ b. b.value) result ≡ self.seal.work }
     {
@@ -67,13 +68,14 @@ impl Drop for Handle {
     }
 }
 
-// Asks for the proof that a handle may go to another thread.
+/// Returns the handle. That this is accepted proves that a handle may go to another thread.
 pub fn moved(handle: Handle) -> Handle
     ensures { result ≡ handle }
 {
     sent(handle)
 }
 
+// Asks for the proof that a value may go to another thread.
 fn sent<T: Send>(x: T) -> T
     ensures { result ≡ x }
 {

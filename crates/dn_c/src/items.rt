@@ -1,4 +1,4 @@
-// Copies what an instance holds beside its arcs.
+// Copies what an instance holds beside its arcs: flows, source and sink, items and points.
 ghost use Rattle.std.specs.Prelude.{◌≡◌, length, map, take, drop};
 ghost use Rattle.dn_c.specs.State.Items.{flow_item, point_item, id_item, pair_item};
 

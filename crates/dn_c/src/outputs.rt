@@ -1,4 +1,4 @@
-// Copies arcs and texts to C.
+// What C gets of a work: arcs, items, and a canonical text.
 ghost use Rattle.std.specs.Prelude.{◌≡◌, ◌<◌, ◌+◌, ◌-◌, List, length, take, drop};
 ghost use Rattle.dn_c.specs.State.Works.{work_of};
 ghost use Rattle.dn_c.specs.State.Outputs.{form_of, CopiesArcs, CopiesItems, CopiesText, Prints, PrintsInto};
@@ -13,8 +13,8 @@ use dn_canon::canon_text;
 use dn_instance::{Refusal, View};
 use std::alloc::Global;
 
-/// Returns the form with this number: 2 is form 2, and any other form 1.
-pub fn form_of(form: u8) -> Form
+// Returns the form with this number: 2 is form 2, and any other form 1.
+fn form_of(form: u8) -> Form
     ensures { result ≡ form_of form }
 {
     if form == 2 { Form::Two } else { Form::One }

@@ -4,7 +4,7 @@ ghost use Rattle.dn_c.specs.State.Statuses.{fine, wrong_call, refusal_status};
 
 use dn_instance::{Place, Refusal};
 
-/// Whether a call did what its name says, or why not.
+/// What a call returns: that it did what its name says, or why not.
 #[repr(C)]
 #[derive(Clone, Copy, PartialEq, Eq, Drop)]
 pub struct Status {

@@ -8,12 +8,15 @@ use Rattle.dn_c.specs.declared.difference.Difference.{Difference}
 use Rattle.dn_c.specs.declared.work.Work.{Work}
 use Rattle.dn_c.specs.declared.work.Work.TheVariants as Works
 
+-- a difference of this sort at a node or an ordered pair
 abbrev pub at_place : ℕ → ℤ → ℤ → Difference
 at_place what at to = record { what = what; at = at; to = to; index = 0 }
 
+-- the answer where a handle holds no instance
 abbrev pub not_both : Difference
 not_both = at_place 255 (pos 0) (pos 0)
 
+-- a verdict without its values
 abbrev pub difference_of : Verdict → Difference
 difference_of Verdicts.Same = at_place 0 (pos 0) (pos 0)
 difference_of (Verdicts.Kind left right) = at_place 1 (pos 0) (pos 0)
@@ -26,7 +29,7 @@ difference_of (Verdicts.Length left right) = at_place 7 (pos 0) (pos 0)
 difference_of (Verdicts.Item index) = record { what = 8; at = pos 0; to = pos 0; index = index }
 difference_of (Verdicts.Point id) = at_place 9 id (pos 0)
 
--- the first difference between what two works hold
+-- the first difference between the instances that two works hold
 abbrev pub Compares : Work → Work → Difference → Type 0
 Compares (Works.Read left) (Works.Read right) d =
     (v : Verdict) × OfBoth left right (λ I J. IsFirstDifference I J v) × (d ≡ difference_of v)

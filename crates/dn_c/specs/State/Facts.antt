@@ -7,6 +7,7 @@ use Rattle.dn_c.specs.declared.facts.Facts.{Facts}
 use Rattle.dn_c.specs.declared.work.Work.{Work}
 use Rattle.dn_c.specs.declared.work.Work.TheVariants as Works
 
+-- the number of a kind
 abbrev pub kind_number : Kind → ℕ
 kind_number Kinds.Min = 1
 kind_number Kinds.Max = 2
@@ -15,12 +16,19 @@ kind_number Kinds.Ss = 4
 kind_number Kinds.P2p = 5
 kind_number Kinds.Co = 6
 
+-- the facts of no instance
 abbrev pub no_facts : Facts
 no_facts = record { kind = 0; nodes = pos 0; lines = pos 0; pairs = 0 }
 
+-- what a parsed instance is
 abbrev pub parsed_facts : Parsed → Facts
 parsed_facts h =
-    record { kind = kind_number (contents_kind h.contents); nodes = h.nodes; lines = h.lines; pairs = pair_count h.contents }
+    record {
+      kind = kind_number (contents_kind h.contents);
+      nodes = h.nodes;
+      lines = h.lines;
+      pairs = pair_count h.contents;
+    }
 
 -- what the instance is, if the work is one
 abbrev pub facts_of : Work → Facts

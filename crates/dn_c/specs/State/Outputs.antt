@@ -1,4 +1,4 @@
--- The arcs and the texts that C gets.
+-- What C gets of a work: arcs, items, and a canonical text.
 use Rattle.std.specs.Prelude.{◌≡◌, ◌⊎◌, ℕ, cond, nat_eq, List, [], ◌∷◌, map, take, drop, length, Option, Some, None, Result, Ok, Err}
 use Rattle.std.specs.Global.{Vec}
 use Rattle.dn_arc.specs.declared.arc.Form.{Form}
@@ -33,26 +33,30 @@ arcs_of form (OfMax source sink table) = rows_by (λ (a : CapArc). a.cap ∷ [])
 arcs_of form (OfSp table) = rows_by (λ (a : LengthArc). a.length ∷ []) (listed_arcs least_arcs table)
 arcs_of form _ = []
 
--- n arcs of the instance from the one at `from` are copied, as many as there is room for
+-- n canonical arcs of the instance in a form, from the one at `from`, counted from 0, are copied, as many as there is
+-- room for; of any other work, none are
 abbrev pub CopiesArcs : Work → ℕ → ℕ → List Arc → List Arc → ℕ → Type 0
 CopiesArcs (Works.Read held) form from old new n =
     take n new ≡ take (length old) (drop from (arcs_of (form_of form) held.contents))
 CopiesArcs _ form from old new n = (n ≡ 0) × (new ≡ old)
 
--- n bytes of the text from the one at `from` are copied, as many as there is room for
+-- n bytes of the text from the one at `from`, counted from 0, are copied, as many as there is room for; of any other
+-- work, none are
 abbrev pub CopiesText : Work → ℕ → List ℕ → List ℕ → ℕ → Type 0
 CopiesText (Works.Text text) from old new n = take n new ≡ take (length old) (drop from text.items)
 CopiesText _ from old new n = (n ≡ 0) × (new ≡ old)
 
 -- the canonical text of the instance in this form, or why there is none
 abbrev pub Prints : Work → ℕ → Result (Vec ℕ) Status → Type 0
-Prints (Works.Read held) form (Ok text) = OfHeld held (λ I. TextOutcome (λ (v : Vec ℕ). v.items) (form_of form) I (Ok text))
+Prints (Works.Read held) form (Ok text) =
+    OfHeld held (λ I. TextOutcome (λ (v : Vec ℕ). v.items) (form_of form) I (Ok text))
 Prints (Works.Read held) form (Err status) =
-    (e : Refusal) × (status ≡ refusal_status e) × OfHeld held (λ I. TextOutcome (λ (v : Vec ℕ). v.items) (form_of form) I (Err e))
+    (e : Refusal) × (status ≡ refusal_status e)
+    × OfHeld held (λ I. TextOutcome (λ (v : Vec ℕ). v.items) (form_of form) I (Err e))
 Prints _ form (Ok text) = ⊥
 Prints _ form (Err status) = status ≡ wrong_call
 
--- what making a canonical text does to the handle for it
+-- what making a canonical text does to the handle for it: it holds the text, if it held nothing before
 abbrev pub PrintsInto : Work → ℕ → Option Work → Option Work → Status → Type 0
 PrintsInto work form None new status =
     ((text : Vec ℕ) × (new ≡ Some (Works.Text text)) × (status ≡ fine) × Prints work form (Ok text))
@@ -68,7 +72,8 @@ items_of (OfSs ids) = map id_item ids
 items_of (OfP2p pairs) = map pair_item pairs
 items_of (OfCo points) = map point_item points
 
--- n items of the instance from the one at `from` are copied, as many as there is room for
+-- n items of the instance from the one at `from`, counted from 0, are copied, as many as there is room for; of any
+-- other work, none are
 abbrev pub CopiesItems : Work → ℕ → List Item → List Item → ℕ → Type 0
 CopiesItems (Works.Read held) from old new n = take n new ≡ take (length old) (drop from (items_of held.contents))
 CopiesItems _ from old new n = (n ≡ 0) × (new ≡ old)

@@ -11,6 +11,6 @@ abbrev pub row_of : ℤ × ℤ → List ℤ → Arc
 row_of p numbers =
     record { tail = p.0; head = p.1; a = number_at numbers 0; b = number_at numbers 1; c = number_at numbers 2 }
 
--- the arcs as C has them
+-- arcs with their pairs as C has them
 abbrev pub rows_by : {A : Type 0} → (A → List ℤ) → List ((ℤ × ℤ) × A) → List Arc
 rows_by numbers arcs = map (λ a. row_of a.0 (numbers a.1)) arcs

@@ -25,6 +25,7 @@ abbrev pub line_of : Refusal → ℕ
 line_of (Text (Places.Line n) code) = n
 line_of _ = 0
 
+-- the status of a refusal: its number and its place
 abbrev pub refusal_status : Refusal → Status
 refusal_status e = record { code = refusal_number e; place = place_of e; line = line_of e }
 

@@ -22,12 +22,15 @@ loop-preserved g c =
             next = w.next-is ∙ w.canon_after-next.ensures c.loop.counter here;
             copied = λ want rest h.
                 let rests = rows_by numbers (placed c.args.pair.now (drop (c.loop.counter + 1) listed)) ++ rest in
-                let whole : rows_by numbers (placed c.args.pair.now (drop c.loop.counter listed)) ++ rest ≡ w.row.result ∷ rests =
-                ap (λ l. rows_by numbers (placed c.args.pair.now l) ++ rest) (drop_get listed c.loop.counter w.in-Some.arc here)
+                let whole : rows_by numbers (placed c.args.pair.now (drop c.loop.counter listed)) ++ rest
+                ≡ w.row.result ∷ rests =
+                ap (λ l. rows_by numbers (placed c.args.pair.now l) ++ rest)
+                (drop_get listed c.loop.counter w.in-Some.arc here)
                 ∙ ap (λ r. r ∷ rests) (sym w.row.ensures) in
                 rw (w.out-is, w.place-is)
                 (w.put_one-place.ensures want rests
-                (subst (HasCopied want c.loop.out c.loop.place.0 c.loop.place.1) whole (c.loop.invariant.copied want rest h)));
+                (subst (HasCopied want c.loop.out c.loop.place.0 c.loop.place.1) whole
+                (c.loop.invariant.copied want rest h)));
           }
       | in_default w ↦ absurd
           (some_below _ c.loop.counter c.loop.next (omega arith) c.loop.invariant.next w.in_default.not-Some)

@@ -15,7 +15,8 @@ loop-pair-preserved g c want h =
     let whole = ap (λ t. rows_by numbers (listed_arcs lists t)) c.in-Some.ensures.steps
     ∙ map-append (λ a. row_of a.0 (numbers a.1)) (placed c.in-Some.pair (lists c.in-Some.bundle.now)) rests in
     c.put_bundle-place.ensures want (rows_by numbers rests)
-    (subst (HasCopied want c.loop-pair.out c.loop-pair.place.0 c.loop-pair.place.1) whole (c.loop-pair.invariant want h))
+    (subst (HasCopied want c.loop-pair.out c.loop-pair.place.0 c.loop-pair.place.1) whole
+    (c.loop-pair.invariant want h))
 
 -- src/arcs.rt:84:1
 pub returns : goal.returns
@@ -25,7 +26,8 @@ returns g c =
     let all = rows_by numbers (listed_arcs lists c.args.table.now) in
     let want = take (length c.args.out.now) (drop c.args.from all) in
     copied_all want c.loop-pair.out c.loop-pair.place.0 c.loop-pair.place.1
-    (subst (λ t. HasCopied want c.loop-pair.out c.loop-pair.place.0 c.loop-pair.place.1 (rows_by numbers (listed_arcs lists t)))
+    (subst (λ t. HasCopied want c.loop-pair.out c.loop-pair.place.0 c.loop-pair.place.1
+    (rows_by numbers (listed_arcs lists t)))
     c.in-None.ensures.steps.0 (c.loop-pair.invariant want (none_copied c.args.out.now c.args.from all)))
 
 pub returns-then-place-out : goal.returns-then-place-out

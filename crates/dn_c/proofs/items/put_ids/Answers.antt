@@ -11,7 +11,8 @@ loop-id-preserved c want h =
     let rests = map id_item (drop (c.loop-id.id-index + 1) c.args.ids.now) in
     let whole = ap (map id_item) (drop_more c.args.ids.now c.loop-id.id-index (pos 0) c.loop-id-test.true)
     ∙ ap (λ x. x ∷ rests) (sym c.id_item.ensures) in
-    c.put_one-place.ensures want rests (subst (HasCopied want c.loop-id.out c.loop-id.place.0 c.loop-id.place.1) whole (c.loop-id.invariant want h))
+    c.put_one-place.ensures want rests
+    (subst (HasCopied want c.loop-id.out c.loop-id.place.0 c.loop-id.place.1) whole (c.loop-id.invariant want h))
 
 pub returns : goal.returns
 returns c =

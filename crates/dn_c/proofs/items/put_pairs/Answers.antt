@@ -9,12 +9,16 @@ use Rattle.dn_c.proofs.items.put_pairs.Goals as goal
 pub loop-pair-preserved : goal.loop-pair-preserved
 loop-pair-preserved c want h =
     let rests = map pair_item (drop (c.loop-pair.pair-index + 1) c.args.pairs.now) in
-    let whole = ap (map pair_item) (drop_more c.args.pairs.now c.loop-pair.pair-index (pos 0, pos 0) c.loop-pair-test.true)
+    let whole = ap (map pair_item) (drop_more c.args.pairs.now c.loop-pair.pair-index (pos 0, pos 0)
+    c.loop-pair-test.true)
     ∙ ap (λ x. x ∷ rests) (sym c.pair_item.ensures) in
-    c.put_one-place.ensures want rests (subst (HasCopied want c.loop-pair.out c.loop-pair.place.0 c.loop-pair.place.1) whole (c.loop-pair.invariant want h))
+    c.put_one-place.ensures want rests
+    (subst (HasCopied want c.loop-pair.out c.loop-pair.place.0 c.loop-pair.place.1) whole
+    (c.loop-pair.invariant want h))
 
 pub returns : goal.returns
 returns c =
-    walked c.args.out.now c.loop-pair.out c.args.from c.loop-pair.place.0 c.loop-pair.place.1 (map pair_item c.args.pairs.now)
+    walked c.args.out.now c.loop-pair.out c.args.from c.loop-pair.place.0 c.loop-pair.place.1
+    (map pair_item c.args.pairs.now)
     (λ want h. subst (λ l. HasCopied want c.loop-pair.out c.loop-pair.place.0 c.loop-pair.place.1 (map pair_item l))
     (drop_of_length-le c.args.pairs.now (omega arith)) (c.loop-pair.invariant want h))
