@@ -3,8 +3,8 @@
 //!
 //! `exports` has the functions that C calls, over a `handle`, which owns a `work`: a reader, a parsed instance, a
 //! refusal or a text. `seal` keeps a work behind a pointer. `status` is what a call returns; `facts`, `arcs`, `items`
-//! and `outputs` copy an instance out, and `difference` compares two. C may call them in any order: a call that a handle
-//! is not for changes nothing and says so.
+//! and `outputs` copy an instance out, and `difference` compares two. C may call them in any order: a call that a
+//! handle is not for changes nothing and says so.
 #![tactic(auto)]
 
 mod arcs;
