@@ -51,7 +51,7 @@ typedef struct dnorm {
 #define DNORM_NONE ((dnorm){0})
 #endif
 
-/* Codes of a dnorm_status. 1 to 21 are the refusals of a text, by their numbers in `dnorm help errors`. */
+/* Codes of a dnorm_status. 1 to 21 are the refusals of a text, by their numbers in `dnorm help`. */
 enum {
     DNORM_FINE = 0,
     DNORM_BAD_LINE = 1,
