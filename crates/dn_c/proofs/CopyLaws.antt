@@ -40,6 +40,12 @@ pub walked : {A : Type 0} (out new : List A) (from n skip : ℕ) (all : List A)
 walked out new from n skip all goes =
     let want = take (length out) (drop from all) in copied_all want new n skip (goes want (none_copied out from all))
 
+-- what is copied fits
+pub walked_fits : {A : Type 0} (out new : List A) (from n skip : ℕ) (all : List A)
+    → ((want : List A) → HasCopied want out 0 from all → HasCopied want new n skip []) → n ≤ length new
+walked_fits out new from n skip all goes =
+    (goes (take (length out) (drop from all)) (none_copied out from all)).within
+
 -- the copy is whole where there is no room
 pub copied_full : {A : Type 0} (want out : List A) (at skip : ℕ) (rest : List A) → at ≡ length out
     → HasCopied want out at skip rest

@@ -74,8 +74,9 @@ fn put_bundle<B: Bundle>(
 /// Copies the canonical arcs of a table from the one at `from`, counted from 0, as far as there is room. Returns how
 /// many it copied.
 pub fn put_table<B: Bundle>(table: &Table<B>, form: Form, from: u64, out: &mut [Arc]) -> usize
-    ensures { take result out.new ≡ take (length out.old)
+    ensures copies { take result out.new ≡ take (length out.old)
         (drop from (rows_by B.Arc.numbers (listed_arcs (B.bundle.listed form) table.now))) }
+    ensures fits { result ≤ length out.new }
 {
     let mut place = (0usize, from);
     for (pair, bundle) in table.pairs() {

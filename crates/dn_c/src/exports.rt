@@ -1,6 +1,6 @@
 // The functions that C calls. `c/dnorm.h` declares them and says which rules a caller must keep. A call takes the work
 // out of its handle and puts it back, which moves only a pointer.
-ghost use Rattle.std.specs.Prelude.{◌≡◌, Some, None, List, MatchOption};
+ghost use Rattle.std.specs.Prelude.{◌≡◌, ◌≤◌, Some, None, List, MatchOption, length};
 ghost use Rattle.dn_c.specs.State.Differences.{not_both, Compares};
 ghost use Rattle.dn_c.specs.State.Facts.{no_facts, facts_of};
 ghost use Rattle.dn_c.specs.State.Outputs.{CopiesArcs, CopiesItems, CopiesText, PrintsInto};
@@ -148,6 +148,7 @@ pub extern "C" fn dnorm_arcs(
 ) -> usize
     ensures copies { MatchOption (work_of handle.old) (result ≡ 0)
         (λ work. CopiesArcs work form from out.old out.new result) }
+    ensures fits { result ≤ length out.new }
     ensures kept { work_of handle.new ≡ work_of handle.old }
 {
     match handle.take(alloc) {
@@ -199,6 +200,7 @@ pub extern "C" fn dnorm_text(
 ) -> usize
     ensures copies { MatchOption (work_of handle.old) (result ≡ 0)
         (λ work. CopiesText work from out.old out.new result) }
+    ensures fits { result ≤ length out.new }
     ensures kept { work_of handle.new ≡ work_of handle.old }
 {
     match handle.take(alloc) {
@@ -223,6 +225,7 @@ pub extern "C" fn dnorm_items(
 ) -> usize
     ensures copies { MatchOption (work_of handle.old) (result ≡ 0)
         (λ work. CopiesItems work from out.old out.new result) }
+    ensures fits { result ≤ length out.new }
     ensures kept { work_of handle.new ≡ work_of handle.old }
 {
     match handle.take(alloc) {

@@ -1,5 +1,5 @@
 // Copies what an instance holds beside its arcs: flows, source and sink, items and points.
-ghost use Rattle.std.specs.Prelude.{◌≡◌, length, map, take, drop};
+ghost use Rattle.std.specs.Prelude.{◌≡◌, ◌≤◌, length, map, take, drop};
 ghost use Rattle.dn_c.specs.State.Items.{flow_item, point_item, id_item, pair_item};
 
 use crate::copy::put_one;
@@ -60,7 +60,8 @@ fn pair_item(pair: &(i64, i64)) -> Item
 
 /// Copies the flows from the one at `from`, counted from 0, as far as there is room. Returns how many it copied.
 pub fn put_flows(flows: &BTreeMap<i64, i64>, from: u64, out: &mut [Item]) -> usize
-    ensures { take result out.new ≡ take (length out.old) (drop from (map flow_item flows.now.entries)) }
+    ensures copies { take result out.new ≡ take (length out.old) (drop from (map flow_item flows.now.entries)) }
+    ensures fits { result ≤ length out.new }
 {
     let mut place = (0usize, from);
     for (id, flow) in flows {
@@ -71,7 +72,8 @@ pub fn put_flows(flows: &BTreeMap<i64, i64>, from: u64, out: &mut [Item]) -> usi
 
 /// Copies the points from the one at `from`, counted from 0, as far as there is room. Returns how many it copied.
 pub fn put_points(points: &BTreeMap<i64, (i64, i64)>, from: u64, out: &mut [Item]) -> usize
-    ensures { take result out.new ≡ take (length out.old) (drop from (map point_item points.now.entries)) }
+    ensures copies { take result out.new ≡ take (length out.old) (drop from (map point_item points.now.entries)) }
+    ensures fits { result ≤ length out.new }
 {
     let mut place = (0usize, from);
     for (id, at) in points {
@@ -82,7 +84,8 @@ pub fn put_points(points: &BTreeMap<i64, (i64, i64)>, from: u64, out: &mut [Item
 
 /// Copies the IDs from the one at `from`, counted from 0, as far as there is room. Returns how many it copied.
 pub fn put_ids(ids: &[i64], from: u64, out: &mut [Item]) -> usize
-    ensures { take result out.new ≡ take (length out.old) (drop from (map id_item ids.now)) }
+    ensures copies { take result out.new ≡ take (length out.old) (drop from (map id_item ids.now)) }
+    ensures fits { result ≤ length out.new }
 {
     let mut place = (0usize, from);
     for id in ids {
@@ -93,7 +96,8 @@ pub fn put_ids(ids: &[i64], from: u64, out: &mut [Item]) -> usize
 
 /// Copies the pairs from the one at `from`, counted from 0, as far as there is room. Returns how many it copied.
 pub fn put_pairs(pairs: &[(i64, i64)], from: u64, out: &mut [Item]) -> usize
-    ensures { take result out.new ≡ take (length out.old) (drop from (map pair_item pairs.now)) }
+    ensures copies { take result out.new ≡ take (length out.old) (drop from (map pair_item pairs.now)) }
+    ensures fits { result ≤ length out.new }
 {
     let mut place = (0usize, from);
     for pair in pairs {

@@ -1,5 +1,5 @@
 // What C gets of a work: arcs, items, and a canonical text.
-ghost use Rattle.std.specs.Prelude.{◌≡◌, ◌<◌, ◌+◌, ◌-◌, List, length, take, drop};
+ghost use Rattle.std.specs.Prelude.{◌≡◌, ◌≤◌, ◌<◌, ◌+◌, ◌-◌, List, length, take, drop};
 ghost use Rattle.dn_c.specs.State.Works.{work_of};
 ghost use Rattle.dn_c.specs.State.Outputs.{form_of, CopiesArcs, CopiesItems, CopiesText, Prints, PrintsInto};
 
@@ -23,7 +23,8 @@ fn form_of(form: u8) -> Form
 /// Copies the canonical arcs of the instance from the one at `from`, counted from 0, as far as there is room. Returns
 /// how many it copied.
 pub fn arcs(work: &Work, form: u8, from: u64, out: &mut [Arc]) -> usize
-    ensures { CopiesArcs work.now form from out.old out.new result }
+    ensures copies { CopiesArcs work.now form from out.old out.new result }
+    ensures fits { result ≤ length out.new }
 {
     match work {
         Work::Read(held) => match held.view() {
@@ -39,7 +40,8 @@ pub fn arcs(work: &Work, form: u8, from: u64, out: &mut [Arc]) -> usize
 /// Copies what the instance holds beside its arcs from the one at `from`, counted from 0, as far as there is room.
 /// Returns how many it copied.
 pub fn items(work: &Work, from: u64, out: &mut [Item]) -> usize
-    ensures { CopiesItems work.now from out.old out.new result }
+    ensures copies { CopiesItems work.now from out.old out.new result }
+    ensures fits { result ≤ length out.new }
 {
     match work {
         Work::Read(held) => match held.view() {
@@ -70,7 +72,8 @@ pub fn canon(alloc: Global, work: &Work, form: u8) -> Result<Vec<u8>, Status>
 /// Copies the bytes of the text from the one at `from`, counted from 0, as far as there is room. Returns how many it
 /// copied.
 pub fn text(work: &Work, from: usize, out: &mut [u8]) -> usize
-    ensures { CopiesText work.now from out.old out.new result }
+    ensures copies { CopiesText work.now from out.old out.new result }
+    ensures fits { result ≤ length out.new }
 {
     match work {
         Work::Text(text) => copy_from(text.as_slice(), from, out),
@@ -80,7 +83,8 @@ pub fn text(work: &Work, from: usize, out: &mut [u8]) -> usize
 
 // Copies the bytes from the one at `from` as far as there is room.
 fn copy_from(bytes: &[u8], from: usize, out: &mut [u8]) -> usize
-    ensures { take result out.new ≡ take (length out.old) (drop from bytes.now) }
+    ensures copies { take result out.new ≡ take (length out.old) (drop from bytes.now) }
+    ensures fits { result ≤ length out.new }
 {
     if bytes.len() < from {
         return 0;

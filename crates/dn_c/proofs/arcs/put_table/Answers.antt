@@ -19,8 +19,8 @@ loop-pair-preserved g c want h =
     (c.loop-pair.invariant want h))
 
 -- src/arcs.rt:84:1
-pub returns : goal.returns
-returns g c =
+pub returns-clause-copies : goal.returns-clause-copies
+returns-clause-copies g c =
     let lists = g.B.Bundle.bundle.listed c.args.form in
     let numbers = g.B.Arc.Parts.numbers in
     let all = rows_by numbers (listed_arcs lists c.args.table.now) in
@@ -30,10 +30,22 @@ returns g c =
     (rows_by numbers (listed_arcs lists t)))
     c.in-None.ensures.steps.0 (c.loop-pair.invariant want (none_copied c.args.out.now c.args.from all)))
 
-pub returns-then-place-out : goal.returns-then-place-out
-returns-then-place-out g c =
+pub returns-clause-fits : goal.returns-clause-fits
+returns-clause-fits g c =
+    let lists = g.B.Bundle.bundle.listed c.args.form in
+    let all = rows_by g.B.Arc.Parts.numbers (listed_arcs lists c.args.table.now) in
+    (c.loop-pair.invariant _ (none_copied c.args.out.now c.args.from all)).within
+
+pub returns-then-place-out-clause-copies : goal.returns-then-place-out-clause-copies
+returns-then-place-out-clause-copies g c =
     let lists = g.B.Bundle.bundle.listed c.args.form in
     let all = rows_by g.B.Arc.Parts.numbers (listed_arcs lists c.args.table.now) in
     let want = take (length c.args.out.now) (drop c.args.from all) in
     copied_full want c.loop-pair.out c.loop-pair.place.0 c.loop-pair.place.1 _ (omega arith)
     (c.loop-pair.invariant want (none_copied c.args.out.now c.args.from all))
+
+pub returns-then-place-out-clause-fits : goal.returns-then-place-out-clause-fits
+returns-then-place-out-clause-fits g c =
+    let lists = g.B.Bundle.bundle.listed c.args.form in
+    let all = rows_by g.B.Arc.Parts.numbers (listed_arcs lists c.args.table.now) in
+    (c.loop-pair.invariant _ (none_copied c.args.out.now c.args.from all)).within

@@ -3,7 +3,7 @@ use Rattle.std.proofs.lemmas.List.{drop_more}
 use Rattle.std.proofs.Math.ListN.{drop_of_length-le}
 use Rattle.dn_c.specs.State.Copies.{HasCopied}
 use Rattle.dn_c.specs.State.Items.{pair_item}
-use Rattle.dn_c.proofs.CopyLaws.{walked}
+use Rattle.dn_c.proofs.CopyLaws.{walked, walked_fits}
 use Rattle.dn_c.proofs.items.put_pairs.Goals as goal
 
 pub loop-pair-preserved : goal.loop-pair-preserved
@@ -16,9 +16,16 @@ loop-pair-preserved c want h =
     (subst (HasCopied want c.loop-pair.out c.loop-pair.place.0 c.loop-pair.place.1) whole
     (c.loop-pair.invariant want h))
 
-pub returns : goal.returns
-returns c =
+pub returns-clause-copies : goal.returns-clause-copies
+returns-clause-copies c =
     walked c.args.out.now c.loop-pair.out c.args.from c.loop-pair.place.0 c.loop-pair.place.1
+    (map pair_item c.args.pairs.now)
+    (λ want h. subst (λ l. HasCopied want c.loop-pair.out c.loop-pair.place.0 c.loop-pair.place.1 (map pair_item l))
+    (drop_of_length-le c.args.pairs.now (omega arith)) (c.loop-pair.invariant want h))
+
+pub returns-clause-fits : goal.returns-clause-fits
+returns-clause-fits c =
+    walked_fits c.args.out.now c.loop-pair.out c.args.from c.loop-pair.place.0 c.loop-pair.place.1
     (map pair_item c.args.pairs.now)
     (λ want h. subst (λ l. HasCopied want c.loop-pair.out c.loop-pair.place.0 c.loop-pair.place.1 (map pair_item l))
     (drop_of_length-le c.args.pairs.now (omega arith)) (c.loop-pair.invariant want h))
