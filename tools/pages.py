@@ -222,7 +222,8 @@ def unexplained(page: str) -> Iterator[str]:
 def bad_dependencies() -> Iterator[str]:
     """Yields crates that crates.txt lists for a crate whose files do not cite them."""
     lines = [line.partition(":") for line in page_text("crates.txt").split("\n") if not line.startswith("#")]
-    for crate, names in ((crate, names.split()) for crate, colon, names in lines if colon):
+    # A static library has a word after its name.
+    for crate, names in ((crate.split()[0], names.split()) for crate, colon, names in lines if colon):
         paths = glob.glob(f"{ROOT}/crates/{crate}/[sp]*/**/*.*", recursive=True)
         for name in lacks({word for path in paths for word in WORD.findall(text_of(path))}, names):
             yield f"crates.txt: {crate} cites nothing of {name}"

@@ -1,0 +1,28 @@
+use Rattle.std.proofs.Common.{◌∷◌, ◌∙◌, ap, sym, subst, map}
+use Rattle.dn_c.specs.State.Copies.{HasCopied}
+use Rattle.dn_c.specs.State.Items.{point_item}
+use Rattle.dn_c.proofs.CopyLaws.{walked, walked_fits}
+use Rattle.dn_c.proofs.items.put_points.Goals as goal
+
+pub loop-id-preserved : goal.loop-id-preserved
+loop-id-preserved c want h =
+    let rests = map point_item c.next.new.self in
+    let whole = ap (map point_item) c.in-Some.ensures.steps ∙ ap (λ x. x ∷ rests) (sym c.point_item.ensures) in
+    c.put_one-place.ensures want rests
+    (subst (HasCopied want c.loop-id.out c.loop-id.place.0 c.loop-id.place.1) whole (c.loop-id.invariant want h))
+
+pub returns-clause-copies : goal.returns-clause-copies
+returns-clause-copies c =
+    walked c.args.out.now c.loop-id.out c.args.from c.loop-id.place.0 c.loop-id.place.1
+    (map point_item c.args.points.now.entries)
+    (λ want h. subst (λ l. HasCopied want c.loop-id.out c.loop-id.place.0 c.loop-id.place.1 (map point_item l))
+    c.in-None.ensures.steps.0
+    (c.loop-id.invariant want h))
+
+pub returns-clause-fits : goal.returns-clause-fits
+returns-clause-fits c =
+    walked_fits c.args.out.now c.loop-id.out c.args.from c.loop-id.place.0 c.loop-id.place.1
+    (map point_item c.args.points.now.entries)
+    (λ want h. subst (λ l. HasCopied want c.loop-id.out c.loop-id.place.0 c.loop-id.place.1 (map point_item l))
+    c.in-None.ensures.steps.0
+    (c.loop-id.invariant want h))

@@ -1,0 +1,9 @@
+pub mod Copies
+pub mod Differences
+pub mod Facts
+pub mod Items
+pub mod Outputs
+pub mod Rows
+pub mod Sealed
+pub mod Statuses
+pub mod Works
