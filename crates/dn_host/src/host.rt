@@ -1,5 +1,5 @@
 // What the host opens, its words, and its standard output. No contract says which bytes these are.
-ghost use Rattle.std.specs.Prelude.{◌≡◌, ◌⊎◌, false, None};
+ghost use Rattle.std.specs.Prelude.{◌≡◌, false, MatchOption, None};
 ghost use Rattle.dn_host.specs.HostTexts.{text_remains};
 
 use crate::device::Device;
@@ -97,24 +97,24 @@ pub type Out<D> = ToWrite<BufWriter<Retried<D>>>;
 /// The standard output of the host, buffered.
 pub type HostOut<'a, R> = Out<HostDevice<Printer<'a, R>>>;
 
-/// Returns a buffered sink over a device, or, if there is no memory for its buffer, one without over the other device.
-/// Writes nothing.
-pub fn out_over<D: Device + Drop>(alloc: Global, device: D, plain: D) -> Out<D>
-    ensures fine { ⟦<Out<D> as Sink>⟧.sink.has_failed result ≡ false }
-    ensures taken { (⟦<Out<D> as Sink>⟧.sink.taken result ≡ D.device.taken device)
-        ⊎ (⟦<Out<D> as Sink>⟧.sink.taken result ≡ D.device.taken plain) }
+/// Returns a buffered sink over a device, or nothing if there is no memory for its buffer. Writes nothing.
+pub fn buffered_over<D: Device + Drop>(alloc: Global, device: D) -> Option<Out<D>>
+    ensures fine { MatchOption result (Unit {0}) (λ out. ⟦<Out<D> as Sink>⟧.sink.has_failed out ≡ false) }
+    ensures taken { MatchOption result (Unit {0})
+        (λ out. ⟦<Out<D> as Sink>⟧.sink.taken out ≡ D.device.taken device) }
 {
     match BufWriter::with_capacity(alloc, BUFFER, Retried { device }) {
-        Ok(buffer) => {
-            drop(plain);
-            ToWrite::new(buffer)
-        }
-        Err(_) => ToWrite::new(BufWriter::with_capacity(
-            alloc,
-            0,
-            Retried { device: plain },
-        ).unwrap()),
+        Ok(buffer) => Some(ToWrite::new(buffer)),
+        Err(_) => None,
     }
+}
+
+/// Returns a sink over a device, without a buffer. Writes nothing, and does not allocate.
+pub fn plain_over<D: Device + Drop>(alloc: Global, device: D) -> Out<D>
+    ensures fine { ⟦<Out<D> as Sink>⟧.sink.has_failed result ≡ false }
+    ensures taken { ⟦<Out<D> as Sink>⟧.sink.taken result ≡ D.device.taken device }
+{
+    ToWrite::new(BufWriter::with_capacity(alloc, 0, Retried { device }).unwrap())
 }
 
 /// Returns the standard output of the host. If there is no memory for its buffer, it has none.
@@ -124,8 +124,11 @@ pub fn out_of<'a, R: Runtime + AllocGlobal>(host: &'a R) -> HostOut<'a, R>
     let device = HostDevice {
         writer: io::writer(host),
     };
+    if let Some(out) = buffered_over(host.alloc(), device) {
+        return out;
+    }
     let plain = HostDevice {
         writer: io::writer(host),
     };
-    out_over(host.alloc(), device, plain)
+    plain_over(host.alloc(), plain)
 }
