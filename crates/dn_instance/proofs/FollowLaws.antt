@@ -80,6 +80,16 @@ signs (Item.Aux Co _) (w ∷ v ∷ u ∷ t ∷ s ∷ ws) f = f.1.1.1.1.0.1
 signs (Item.Aux _ _) _ f = absurd assumption
 signs _ ws f = tt
 
+-- LOW, CAP, ARCS and K of the item of a line without a fault are at least 0
+pub fields_signs : (known : Option Kind) (ws : List Word) (i : Line) → is_skip ws ≡ false
+    → first_fault (head_tests known ws) ≡ None → fields_read known ws ≡ Ok i → HasSigns i
+fields_signs known ws i e head h =
+    let f = unless_ok (first_fault (field_tests (fields known ws))) (spelled known ws) i (rw e at h) in
+    let s =
+    faultless_spells known ws (rw (fault_append (head_tests known ws) (field_tests (fields known ws)), head) f.0) in
+    let fit : FitSome (slots_of (spelled known ws)) ws = rw s.slots_are s.fit in
+    rw f.1 at (signs (spelled known ws) ws fit)
+
 -- the line of a counted item has the letter of a counted line
 letter : (i : Line) (ws : List Word) → FitSome (slots_of i) ws → is_counted i ≡ true
     → is_counted_letter (first ws) ≡ true

@@ -15,6 +15,7 @@ pub mod SizeLaws
 pub mod SourceLaws
 pub mod EntryLaws
 pub mod RowRunLaws
+pub mod OrderLaws
 pub mod RowLinesLaws
 pub mod MarksLaws
 pub mod BodyLaws

@@ -1,5 +1,5 @@
 -- Lemmas on rows that are taken one after another.
-use Rattle.std.proofs.Common.{◌≡◌, ◌<◌, ◌≤◌, ◌+◌, ◌^◌, ◌-ℤ◌, negsuc, w64, ℕ, zero, suc, ℤ, pos, ◌≤ℤ◌, ◌<ℤ◌, List, [], ◌∷◌, ◌++◌, length, take, drop, get_or, filter, true, false, not, int_lt, Option, Some, None, refl, sym, ◌∙◌, subst, ap, arith, append-nil, append_assoc, add-one, length-take-le, MatchOption, take-suc, Result, Ok, Err, OnErr, inl, inr}
+use Rattle.std.proofs.Common.{◌≡◌, ◌<◌, ◌≤◌, ◌+◌, ◌^◌, ◌-ℤ◌, negsuc, w64, ℕ, zero, suc, ℤ, pos, ◌≤ℤ◌, ◌<ℤ◌, List, [], ◌∷◌, ◌++◌, length, take, drop, get_or, filter, true, false, int_lt, Option, Some, None, refl, sym, ◌∙◌, subst, ap, arith, append-nil, append_assoc, add-one, length-take-le, MatchOption, take-suc, Result, Ok, Err, OnErr, inl, inr}
 use Rattle.std.specs.List.{AllByRecursion, list_any}
 use Rattle.std.specs.Int.{saturate_signed}
 use Rattle.std.proofs.Math.Nat.{min-eq_left}
@@ -8,7 +8,6 @@ use Rattle.std.proofs.lemmas.Bool.{cases_eq}
 use Rattle.std.proofs.lemmas.Bool.Decides.{nat_tests}
 use Rattle.std.proofs.lemmas.Int.{ints}
 use Rattle.std.proofs.lemmas.List.{map-append}
-use Rattle.std.proofs.lemmas.List.Folds.{list_any-append}
 use Rattle.dn_line.specs.Faults.{first_fault}
 use Rattle.dn_line.specs.State.RowItems.{item_of_row, letter_named}
 use Rattle.dn_line.specs.State.Spelling.{kind_before}
@@ -20,15 +19,15 @@ use Rattle.dn_line.specs.declared.line.Line.{Line}
 use Rattle.dn_line.specs.declared.line.Line.TheVariants as Item
 use Rattle.dn_line.specs.declared.row.Row.{Row}
 use Rattle.dn_line.specs.declared.row_block.RowLine.{RowLine}
-use Rattle.dn_instance.specs.State.RowRuns.{AreFaultless, AreInTime, HasSigns, IsInTime, IsRowHead, Joins, counted_head, counted_line, row_items, row_line, supply_line}
+use Rattle.dn_instance.specs.State.RowRuns.{AreFaultless, HasSigns, IsRowHead, Joins, counted_head, counted_line, row_items, row_line, supply_line}
 use Rattle.dn_instance.specs.State.TextParts.{AnyBody, BodyHolds, TakesMark, any_body, body_kind, marks_of}
-use Rattle.dn_instance.specs.Items.{Problem, counted, is_counted, problem_in, problem_of}
+use Rattle.dn_instance.specs.Items.{counted, is_counted, problem_in}
 use Rattle.dn_instance.specs.State.TextsSoFar.{AwaitsRow, HasRead, IsOfRun, RoomFor, TakesRowOf, problem_as, text_kind, text_taker}
-use Rattle.dn_instance.specs.TextFaults.{is_arc, is_companion, is_full, item_tests}
+use Rattle.dn_instance.specs.TextFaults.{is_arc, is_companion, item_tests}
 use Rattle.dn_instance.specs.declared.marks.Marks.{Marks}
 use Rattle.dn_instance.specs.declared.text_so_far.TextSoFar.{TextSoFar}
 use Rattle.dn_instance.proofs.MarksLaws.{marks_kept, rows_no_mark}
-use Rattle.dn_instance.proofs.ItemSteps.{body_read, counted_yes, has_due, marks_read, kind_agrees, kind_of_item, problem_agrees, problem_all}
+use Rattle.dn_instance.proofs.ItemSteps.{body_read, has_due, marks_read, kind_agrees, kind_of_item, problem_agrees, problem_all}
 use Rattle.dn_instance.specs.State.Bodies.{AnswersItem, Awaits, TakerFacts, StopsAtRow, TakesRows, TookRow, TookRows}
 use Rattle.dn_instance.specs.declared.body.Taken.{Taken}
 use Rattle.dn_instance.specs.declared.refusal.ItemFault.{ItemFault}
@@ -75,52 +74,6 @@ one_arc _ r c = cc
 all_counted : (kind : Kind) (rows : List RowLine) → counted (row_items (counted_line kind) rows) ≡ length rows
 all_counted kind [] = refl
 all_counted kind (r ∷ rows) = rw (one_counted kind r, all_counted kind rows)
-
--- a counted item comes in time if there are fewer counted lines than declared
-counted_in_time : (kind : Kind) (before : List Line) (r : RowLine)
-    → is_full (problem_of before) (counted before) ≡ false → IsInTime before (counted_line kind r.row)
-counted_in_time Min before r h = h
-counted_in_time _ before r h = h
-
--- rows come in time if they are at most as many as are still declared
-pub come_in_time : (kind : Kind) (rows : List RowLine) (before : List Line) (p : Problem) → problem_of before ≡ Some p
-    → (0 < length rows → pos (counted before + length rows) ≤ℤ p.count)
-    → AreInTime before (row_items (counted_line kind) rows)
-come_in_time kind [] before p h m = tt
-come_in_time kind (r ∷ rows) before p h m =
-    let i = counted_line kind r.row in (
-      counted_in_time kind before r (rw h (below (counted before) (length rows) p.count (m (omega arith)))),
-      come_in_time kind rows (before ++ i ∷ []) p (problem_all before (i ∷ []) p h)
-          (λ _.
-          rw (counted_yes before i (one_counted kind r))
-          (shift (counted before) (length rows) p.count (m (omega arith)))),
-    )
-  where
-    below : (k n : ℕ) (m : ℤ) → pos (k + suc n) ≤ℤ m → not (int_lt (pos k) m) ≡ false
-    below k n m r = grind (arith, ints, nat_tests)
-
-    shift : (k n : ℕ) (m : ℤ) → pos (k + suc n) ≤ℤ m → pos (suc k + n) ≤ℤ m
-    shift k n m r = omega (arith, ints)
-
--- `min` node lines come in time before any arc
-pub supplies_in_time : (rows : List RowLine) (before : List Line) → list_any is_arc before ≡ false
-    → AreInTime before (row_items supply_line rows)
-supplies_in_time [] before h = tt
-supplies_in_time (r ∷ rows) before h = (
-  h,
-  supplies_in_time rows (before ++ supply_line r.row ∷ [])
-      (rw (list_any-append is_arc before (supply_line r.row ∷ []), h)),
-)
-
--- the first m of some items come in time, and those after them after these
-pub in_time_split : (line : Row → Line) (rows : List RowLine) (m : ℕ) (before : List Line)
-    → AreInTime before (row_items line rows) → AreInTime before (row_items line (take m rows))
-    × AreInTime (before ++ row_items line (take m rows)) (row_items line (drop m rows))
-in_time_split line [] zero before h = (tt, tt)
-in_time_split line [] (suc m) before h = (tt, tt)
-in_time_split line (r ∷ rows) zero before h = (tt, rw append-nil h)
-in_time_split line (r ∷ rows) (suc m) before h =
-    let s = in_time_split line rows m (before ++ line r.row ∷ []) h.1 in ((h.0, s.0), rw append_assoc at s.1)
 
 rows_arcs : (kind : Kind) (rows : List RowLine) → is_companion kind ≡ false
     → list_any is_arc (row_items (counted_line kind) rows)
@@ -196,7 +149,7 @@ kept_on_error (Ok x) e h p = cc
 kept_on_error (Err f) e h p = p
 
 -- no counted line has the head of node lines
-not_node : (kind : Kind) → Heads.Node ≡ counted_head kind → ⊥
+pub not_node : (kind : Kind) → Heads.Node ≡ counted_head kind → ⊥
 not_node Min e = cc
 not_node _ e = cc
 
@@ -288,21 +241,6 @@ same_read t b b' d before body same due keep at = record {
   marks_hold = at.marks_hold;
   body_holds = keep (rw body at at.body_holds);
 }
-
--- rows come in time if the first of them has no fault because of the lines before it, and there is room for all
-pub run_in_time : (t : TextSoFar) (items : List Line) (kind : Kind) (head : Head) (rows : List RowLine)
-    → HasRead t items → text_kind t ≡ Some kind → IsRowHead kind head → RoomFor head rows t
-    → (head ≡ Heads.Node → int_lt t.due t.count ≡ false) → AreInTime items (row_items (row_line kind head) rows)
-run_in_time t items kind head rows at is row room early = elim row [
-  | inl e ↦
-      let no_arc : list_any is_arc items ≡ false =
-      at.arcs_are (rw (is, e.1) refl) ∙ early e.0 in
-      rw (e.0, e.1) (supplies_in_time rows items no_arc)
-  | inr e ↦
-      let most = room (λ n. not_node kind (sym n ∙ e)) in
-      rw e (come_in_time kind rows items (problem_as t kind) (problem_agrees t items kind at is)
-      (λ some. omega (arith, ints, most, at.due_is)))
-]
 
 -- as many rows as were asked for are at most as many as are still to come
 pub room_for : (n q : ℕ) (d : ℤ) → n ≤ q → (0 < q → pos q ≤ℤ d) → pos 0 ≤ℤ d → pos n ≤ℤ d

@@ -101,7 +101,6 @@ impl TextSoFar {
     fn order_fault(&self, head: Head) -> Option<Code>
         ensures answer { IsOrderFault self.now head result }
         ensures skip { head ≡ Head.Skip → result ≡ None }
-        ensures node { head ≡ Head.Node → result ≡ None → int_lt self.now.due self.now.count ≡ false }
     {
         match head {
             Head::Node if self.due < self.count => Some(Code::LateNode),

@@ -1,7 +1,10 @@
 -- Rows that are taken one after another.
 use Rattle.std.specs.Prelude.{◌≡◌, ◌⊎◌, ℕ, nat_eq, cond, pos, ◌≤ℤ◌, List, [], ◌∷◌, ◌++◌, map, true, false, None, Some}
-use Rattle.std.specs.List.{list_any}
-use Rattle.dn_line.specs.Faults.{first_fault}
+use Rattle.dn_line.specs.Faults.{first_fault, head_tests}
+use Rattle.dn_line.specs.LineTable.{kind_named}
+use Rattle.dn_line.specs.State.LineReads.{head_of}
+use Rattle.dn_line.specs.Words.{first}
+use Rattle.dn_line.specs.declared.word.Word.{Word}
 use Rattle.dn_line.specs.State.RowItems.{item_of_row}
 use Rattle.dn_line.specs.declared.kind.Kind.{Kind}
 use Rattle.dn_line.specs.declared.kind.Kind.TheVariants.{Min, Max, Sp, Ss, P2p, Co}
@@ -11,8 +14,8 @@ use Rattle.dn_line.specs.declared.line.Line.{Line}
 use Rattle.dn_line.specs.declared.line.Line.TheVariants as Item
 use Rattle.dn_line.specs.declared.row.Row.{Row}
 use Rattle.dn_line.specs.declared.row_block.RowLine.{RowLine}
-use Rattle.dn_instance.specs.Items.{counted, is_counted, problem_of}
-use Rattle.dn_instance.specs.TextFaults.{is_arc, is_full, item_tests}
+use Rattle.dn_instance.specs.Items.{counted, is_counted, kind_known, problem_of}
+use Rattle.dn_instance.specs.TextFaults.{is_full, item_tests, order_tests}
 
 -- the item of a row of a line with this head, in a text of this kind
 abbrev pub row_line : Kind → Head → Row → Line
@@ -60,10 +63,11 @@ HasSigns _ = Unit {0}
 abbrev pub HasRoomFor : List Line → Line → Type 0
 HasRoomFor items i = is_counted i ≡ true → is_full (problem_of items) (counted items) ≡ false
 
--- a `min` node line follows no arc, and any other item does not follow as many counted lines as declared
-abbrev pub IsInTime : List Line → Line → Type 0
-IsInTime items (Item.Supply id flow) = list_any is_arc items ≡ false
-IsInTime items _ = is_full (problem_of items) (counted items) ≡ false
+-- a line with this head has no fault because of these items before it, if its head has none
+abbrev pub IsInTime : Head → List Line → Type 0
+IsInTime head before =
+    (ws : List Word) → first_fault (head_tests (kind_known before) ws) ≡ None
+    → head ≡ head_of (first ws) (kind_named ws) → first_fault (order_tests before ws) ≡ None
 
 -- no item of the second list has a fault after the items before it
 abbrev pub AreFaultless : List Line → List Line → Type 0
@@ -71,10 +75,10 @@ AreFaultless before [] = Unit {0}
 AreFaultless before (i ∷ items) =
     (first_fault (item_tests before (Some i)) ≡ None) × AreFaultless (before ++ i ∷ []) items
 
--- each item of the second list comes in time after the items before it
-abbrev pub AreInTime : List Line → List Line → Type 0
-AreInTime before [] = Unit {0}
-AreInTime before (i ∷ items) = IsInTime before i × AreInTime (before ++ i ∷ []) items
+-- where each item of the second list stands, a line with this head comes in time
+abbrev pub AreInTime : Head → List Line → List Line → Type 0
+AreInTime head before [] = Unit {0}
+AreInTime head before (i ∷ items) = IsInTime head before × AreInTime head (before ++ i ∷ []) items
 
 -- no item of `items` has a fault after the items before it, and `held` holds the earlier items and these
 pub record Joins {H : Type 0} (Holds : H → List Line → Type 0) (before : List Line) (held : H) (items : List Line)
