@@ -95,6 +95,19 @@ module _ (one : OneCost) (low' : ℕ) (a : CostArc) (total : ℤ) (s : AreSound 
       let m = most total f in
       fits_some (one.free +ℤ (a.cap -ℤ a.low)) (omega (arith, ints)) (omega (arith, ints))
 
+-- an arc without capacity leaves the numbers as they are
+pub nothing_grown : (n : Numbers) (a : CostArc) → IsCostArc a → FitsSigned w64 a.cap
+    → of_z w64 a.cap ≡ of_z w64 (pos 0) → IsGrown n a n
+nothing_grown n a h f e =
+    let cap : a.cap ≡ pos 0 = sym (to_z-of_z w64 a.cap f) ∙ ap (to_z w64) e in
+    let low : a.low ≡ pos 0 = omega (arith, ints, h.some) in
+    record {
+      units = omega (arith, ints);
+      cost = rw (low, zero-*ℤ a.cost) (omega (arith, ints));
+      total = omega (arith, ints);
+      steps = rw (test_no (pos 0) (a.cap -ℤ a.low) (omega (arith, ints))) refl;
+    }
+
 -- numbers that the code makes are those of a shape
 pub same_sound : (n : Numbers) (u c t : ℤ) (l : List (ℤ × ℤ)) → u ≡ n.units → c ≡ n.cost → t ≡ n.total → l ≡ n.steps
     → AreSound n → IsSound u c t l

@@ -165,6 +165,10 @@ get_below [] i x h = cc
 get_below (y ∷ xs) zero x h = omega arith
 get_below (y ∷ xs) (suc i) x h = let l = get_below xs i x h in omega (arith, l)
 
+-- a breakpoint that is there is within the whole list
+pub within : (xs ys now : List (ℤ × ℤ)) (i : ℕ) (x : ℤ × ℤ) → xs ++ ys ≡ now → slice_get xs i ≡ Some x → i < length now
+within xs ys now i x view h = rw (← view, length-append) (omega (arith, get_below xs i x h))
+
 module _ (xs ys now : List (ℤ × ℤ)) (step : ℤ × ℤ) (at : ℕ) (is : at ≡ spot xs step.0) (view : xs ++ ys ≡ now) where
   pub rest_put : (new : List (ℤ × ℤ)) → slice_get xs at ≡ None → new ≡ put_step ys step → xs ++ new ≡ put_step now step
   rest_put new h e = rw (e, ← view) (sym (put_rest xs ys step (rw is at h)))

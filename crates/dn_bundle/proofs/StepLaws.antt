@@ -1,6 +1,6 @@
 -- Breakpoints in a map, with the first one outside it: insertions, ranges and look-ups of the map are those of
 -- breakpoints, and capacities that the code adds fit.
-use Rattle.std.proofs.Common.{inl, inr, ◌≡◌, ◌-◌, ◌^◌, ℤ, pos, ◌+ℤ◌, ◌≤ℤ◌, ◌<ℤ◌, Bool, true, false, ◌&&◌, not, List, [], ◌∷◌, Some, None, refl, sym, ap, ◌∙◌, arith, to_z, of_z, Result, Ok, Err, OnErr, w64, FitsSigned, int_lt, unwrap_or, is_some}
+use Rattle.std.proofs.Common.{inl, inr, ◌≡◌, ◌-◌, ◌^◌, ℤ, pos, ◌+ℤ◌, ◌≤ℤ◌, ◌<ℤ◌, Bool, true, false, ◌&&◌, not, List, [], ◌∷◌, Some, None, refl, sym, ap, ◌∙◌, arith, to_z, of_z, Result, Ok, Err, OnErr, OnOk, w64, FitsSigned, int_lt, unwrap_or, is_some}
 use Rattle.std.specs.List.{AllByRecursion, filter, slice_get}
 use Rattle.std.specs.List.Sorted.{IsStrictlySortedBy}
 use Rattle.std.specs.Ordering.{int_cmp, is_lt}
@@ -97,6 +97,14 @@ has_is (step ∷ rest) cost =
 pub lacks : (es : List (ℤ × ℤ)) (cost : ℤ) → FitsSigned w64 cost
     → lookup (is_at (int_cmp (to_z w64 (of_z w64 cost)))) es ≡ None → has_step es cost ≡ false
 lacks es cost f e = sym (has_is es cost) ∙ ap is_some (simp to_z-of_z at e)
+
+pub ok_so : {A E P Q : Type 0} (r : Result A E) → (P → Q) → OnOk r P → OnOk r Q
+ok_so (Ok x) f h = f h
+ok_so (Err e) f h = tt
+
+pub err_so : {A E P Q : Type 0} (r : Result A E) → (P → Q) → OnErr r P → OnErr r Q
+err_so (Ok x) f h = tt
+err_so (Err e) f h = f h
 
 pub on_err : {A E P : Type 0} (r : Result A E) → P → OnErr r P
 on_err (Ok x) h = tt

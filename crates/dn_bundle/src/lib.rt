@@ -3,8 +3,8 @@
 //! an arc with which the capacities would sum to more than 2^63-1, and it finds the first difference from another
 //! bundle.
 //!
-//! `bundle` has the trait, and makes a bundle from a list of arcs. `least`, `total` and `curve` have the three kinds of
-//! bundles. A curve stores its breakpoints in `steps`, and computes costs of 128 bits by `cost128`. `curve::shape`
+//! `dn_kind` has the trait, and makes a bundle from a list of arcs. `least`, `total` and `curve` have the three kinds
+//! of bundles. A curve stores its breakpoints in `steps`, and computes costs of 128 bits by `cost128`. `curve::shape`
 //! stores the numbers of a curve, `curve::numbers` reads them, and `curve::canon_arcs` lists its canonical arcs.
 //! `difference` finds the first gap between the breakpoints of two curves.
 #![tactic(auto)]

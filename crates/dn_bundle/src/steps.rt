@@ -211,20 +211,21 @@ impl Steps {
         match held_in(&self.few, at) {
             Some(held) => {
                 if step.0 < held.0 {
-                    self.insert_few(at, step)?;
+                    self.insert_few(at, step)
                 } else {
                     self.few[at] = (held.0, held.1 + step.1);
+                    Ok(())
                 }
             }
             None => {
                 if self.few.is_full() {
-                    put_in(&mut self.rest, step)?;
+                    put_in(&mut self.rest, step)
                 } else {
                     self.few.push(step);
+                    Ok(())
                 }
             }
         }
-        Ok(())
     }
 
     /// Adds capacity at a cost, if the capacity is above 0. After an error, nothing has changed.

@@ -73,10 +73,8 @@ fn bare_command<'a>(alloc: Global) -> Command<'a>
     ensures app { app_of result ≡ bare_app }
     ensures local { (fields_of result).has_globals ≡ false }
 {
-    Command::new(alloc, "dnorm")
-        .about(help::PROGRAM)
+    named_command(alloc, "dnorm", help::PROGRAM, help::SHORT_END)
         .version(help::VERSION)
-        .after_help(help::SHORT_END)
         .after_long_help(help::LONG_END)
         .subcommand_required(true)
 }
@@ -167,10 +165,15 @@ fn text_command<'a>(
         app_of c ≡ with_rule (new_app name.entry.now) (text_rule text_name.entry.now)) }
     ensures local { IfOk result (λ c. (fields_of c).has_globals ≡ false) }
 {
-    Command::new(alloc, name)
-        .about(about)
-        .after_help(end)
-        .arg(text(alloc, text_name, help::TEXT))
+    named_command(alloc, name, about, end).arg(text(alloc, text_name, help::TEXT))
+}
+
+// Builds a command of this name, without arguments. Its help ends with `end`.
+fn named_command<'a>(alloc: Global, name: &'a str, about: &'a str, end: &'a str) -> Command<'a>
+    ensures app { app_of result ≡ new_app name.entry.now }
+    ensures local { (fields_of result).has_globals ≡ false }
+{
+    Command::new(alloc, name).about(about).after_help(end)
 }
 
 // Builds `--with COMPANION`.

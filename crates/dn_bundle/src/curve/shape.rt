@@ -1,5 +1,6 @@
 // How a curve stores its numbers, and how it adds an arc to them.
-ghost use Rattle.std.specs.Prelude.{◌≡◌, ◌+ℤ◌, OnOk, OnErr, IfOk, IsTrue, false};
+ghost use Rattle.std.specs.Prelude.{◌≡◌, ◌+ℤ◌, FitsSigned, OnOk, OnErr, IfOk, IsTrue, false};
+ghost use Rattle.std.specs.Int.{w64};
 ghost use Rattle.dn_arc.specs.Canonical.{IsCostArc};
 ghost use Rattle.dn_bundle.specs.State.Shapes.{one_step, shape_numbers, AreSound, IsGrown, LeavesPlain, NeedRoom, StaysPlain};
 
@@ -60,6 +61,21 @@ impl OneCost {
             return false;
         }
         arc.cost == self.cost || (self.low == 0 && self.free == 0)
+    }
+
+    // Returns the numbers with an arc that they take.
+    fn with(&self, arc: &CostArc) -> OneCost
+        requires sound { AreSound (shape_numbers (Shape.Plain self.now)) }
+        requires arc { IsCostArc arc.now }
+        requires fits { FitsSigned w64 ((shape_numbers (Shape.Plain self.now)).total +ℤ arc.now.cap) }
+        requires stays { StaysPlain self.now arc.now }
+        ensures { IsGrown (shape_numbers (Shape.Plain self.now)) arc.now (shape_numbers (Shape.Plain result)) }
+    {
+        OneCost {
+            low: self.low + arc.low as u32,
+            cost: arc.cost,
+            free: self.free + (arc.cap - arc.low),
+        }
     }
 }
 
@@ -122,13 +138,7 @@ impl Shape {
                     return Ok(());
                 }
                 if one.takes(&arc) {
-                    let low = one.low + arc.low as u32;
-                    let free = one.free + (arc.cap - arc.low);
-                    *one = OneCost {
-                        low,
-                        cost: arc.cost,
-                        free,
-                    };
+                    *one = one.with(&arc);
                     return Ok(());
                 }
                 *self = Shape::Full(full_with(alloc, *one, arc, total)?);

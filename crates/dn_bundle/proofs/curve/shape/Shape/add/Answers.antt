@@ -1,20 +1,21 @@
 use Rattle.std.proofs.Common.{rules, refl, ap, of_z, w64}
-use Rattle.dn_bundle.proofs.ShapeLaws.{plain_sum_fits, plain_taken}
+use Rattle.dn_bundle.proofs.ShapeLaws.{nothing_grown}
 use Rattle.dn_bundle.proofs.StepLaws.{on_err}
 use Rattle.dn_bundle.proofs.NewLaws.{leaves_room}
 use Rattle.dn_bundle.proofs.curve.shape.Shape.add.Goals as goal
 
-pub overflow_add-free : goal.overflow_add-free
-overflow_add-free c =
-    plain_sum_fits c.args.self.now c.in-Plain.one c.args.arc c.args.total c.in-Plain.is c.requires.sound
-    c.requires.arc c.requires.total (c.if-takes.ensures.stays refl) c.ranges.total (search rules) (search rules)
-    (search rules) (search rules)
+pub with-requires-clause-sound : goal.with-requires-clause-sound
+with-requires-clause-sound c = rw c.in-Plain.is at c.requires.sound
+
+pub with-requires-clause-fits : goal.with-requires-clause-fits
+with-requires-clause-fits c = rw (c.requires.total, c.in-Plain.is) at c.ranges.total
+
+pub returns-then-arc-eq0-clause-ok : goal.returns-then-arc-eq0-clause-ok
+returns-then-arc-eq0-clause-ok c =
+    rw c.in-Plain.is (nothing_grown _ c.args.arc c.requires.arc (search rules) c.if-arc-eq0.true)
 
 pub returns-then-takes-clause-ok : goal.returns-then-takes-clause-ok
-returns-then-takes-clause-ok c =
-    plain_taken c.args.self.now c.in-Plain.one c.args.arc c.args.total c.in-Plain.is c.requires.sound
-    c.requires.arc c.requires.total (c.if-takes.ensures.stays refl) c.ranges.total (search rules) (search rules)
-    (search rules) (search rules)
+returns-then-takes-clause-ok c = rw c.in-Plain.is c.with.ensures
 
 pub returns-in_err-full_with-in-Plain-clause-memory : goal.returns-in_err-full_with-in-Plain-clause-memory
 returns-in_err-full_with-in-Plain-clause-memory c =
