@@ -10,7 +10,7 @@ use Rattle.dn_run.specs.Outcomes.{IsRefusedAs, OnText, OnTwoTexts}
 use Rattle.dn_run.specs.Runs.{CommandRun, Never, PutsCanon, PutsCompared}
 use Rattle.dn_run.specs.Streams.{SinkRun}
 use Rattle.dn_run.specs.Texts.{AskedText, IsRefusedCanon, IsRefusedText, unopened}
-use Rattle.dn_run.specs.declared.files.FilesFault.{FilesFault}
+use Rattle.dn_files.specs.declared.files.FilesFault.{FilesFault}
 use Rattle.dn_run.specs.Words.{Ran}
 use Rattle.dn_instance.specs.Instances.{Instance}
 use Rattle.dn_instance.specs.Texts.{Reads}

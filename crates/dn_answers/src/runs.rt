@@ -8,7 +8,7 @@ ghost use Rattle.dn_run.specs.Words.{Ran};
 ghost use Rattle.dn_answers.specs.Runs.{PosedSameAnswers, WroteAnswersOf};
 
 use dn_bundle::Form;
-use dn_run::Files;
+use dn_files::Files;
 use dn_sink::Sink;
 
 /// If a run of `canon` ends with status 0, and the bytes behind the name are known, then they read as an instance, and

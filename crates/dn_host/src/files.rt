@@ -3,14 +3,14 @@ ghost use Rattle.std.specs.Prelude.{◌≡◌, false, ◌≢◌, None, IfErr, If
 ghost use Rattle.std.specs.IoError.{error_kind};
 ghost use Rattle.dn_host.specs.Openers.{MayFault, Remains, behind_of};
 ghost use Rattle.dn_host.specs.State.Failures.{MayFail};
-ghost use Rattle.dn_run.specs.Takings.{KeepsOthers};
+ghost use Rattle.dn_files.specs.Takings.{KeepsOthers};
 
 use crate::buffered::Buffered;
 use crate::opener::Opener;
 use crate::stream::Stream;
+use dn_files::{Files, FilesFault};
 use dn_instance::Held;
 use dn_line::Source;
-use dn_run::{Files, FilesFault};
 use std::alloc::Global;
 use std::io;
 use std::io::ErrorKind;
@@ -20,8 +20,10 @@ use std::mem::forget;
 #[derive(Drop)]
 pub struct OpenedFiles<'a, P> {
     alloc: Global,
-    opener: &'a mut P,
-    fault: Option<FilesFault>,
+    /// The opener.
+    pub opener: &'a mut P,
+    /// Why no text was handed out when one was last asked for, if it was not.
+    pub fault: Option<FilesFault>,
 }
 
 impl<'a, P> OpenedFiles<'a, P> {

@@ -1,7 +1,7 @@
-//! A run of the program on the host. In the order of the data: `stream` has streams of bytes, and `buffered` sources
-//! over them; `opener` opens streams, `files` hands out their sources by name, and `runs` runs what the words of the
-//! command line ask for over them. `device` has devices that take bytes, and `retried` writers over
-//! them that retry interrupted writes. `host` has what the host opens, its words and its standard output.
+//! The files and streams of the host. In the order of the data: `stream` has streams of bytes, and `buffered` sources
+//! over them; `opener` opens streams, and `files` hands out their sources by name. `device` has devices that take
+//! bytes, and `retried` writers over them that retry interrupted writes. `host` has what the host opens, its words and
+//! its standard output.
 #![tactic(auto)]
 
 pub mod buffered;
@@ -10,12 +10,10 @@ pub mod files;
 pub mod host;
 pub mod opener;
 pub mod retried;
-pub mod runs;
 pub mod stream;
 
 pub use device::Device;
 pub use host::{HostDevice, HostOpener, out_of, words_of};
 pub use opener::Opener;
 pub use retried::Retried;
-pub use runs::run_on;
 pub use stream::Stream;

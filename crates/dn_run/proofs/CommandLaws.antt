@@ -27,7 +27,7 @@ use Rattle.dn_run.specs.Runs.{Never, PutsCanon, PutsChecked, PutsCompared, PutsF
 use Rattle.dn_run.specs.Streams.{SinkRun, sink_run}
 use Rattle.dn_run.specs.Texts.{AskedText, IsRefusedCanon, IsRefusedCopy, IsRefusedText, unopened}
 use Rattle.dn_run.specs.State.TextReads.{IsCopy, IsRead}
-use Rattle.dn_run.specs.declared.files.FilesFault.{FilesFault}
+use Rattle.dn_files.specs.declared.files.FilesFault.{FilesFault}
 use Rattle.dn_run.proofs.OutcomeLaws.{by_behind, on_held, on_left, on_left_read, on_read}
 use Rattle.dn_sink.specs.Sinks.{SinkFacts}
 use Rattle.dn_sink.specs.Rows.{line_text}

@@ -16,8 +16,8 @@ use Rattle.dn_run.specs.Outcomes.{IsRefusedAs, OnText, OnTwoTexts, RanOn}
 use Rattle.dn_run.specs.Runs.{NotAccepted, Performs, Unfits, IsRefusedRun}
 use Rattle.dn_run.specs.Streams.{SinkRun, sink_run}
 use Rattle.dn_run.specs.Texts.{AskedText, IsRefusedCanon, IsRefusedCopy, IsRefusedText, unopened}
-use Rattle.dn_run.specs.declared.files.FilesFault.{FilesFault}
-use Rattle.dn_run.specs.declared.files.FilesFault.TheVariants as Files
+use Rattle.dn_files.specs.declared.files.FilesFault.{FilesFault}
+use Rattle.dn_files.specs.declared.files.FilesFault.TheVariants as Files
 use Rattle.dn_run.proofs.OutcomeLaws.{by_behind}
 use Rattle.dn_line.specs.Sources.{SourceFacts}
 use Rattle.dn_sink.specs.Sinks.{SinkFacts}
@@ -26,7 +26,7 @@ use Rattle.dn_command.specs.declared.command.Command.{Command}
 use Rattle.dn_command.specs.declared.request.Request.TheVariants as requests
 use Rattle.dn_run.specs.State.Endings.{answer_of}
 use Rattle.dn_run.specs.State.CommandRuns.{Does}
-use Rattle.dn_run.specs.Takings.{FilesFacts}
+use Rattle.dn_files.specs.Takings.{FilesFacts}
 use Rattle.dn_run.specs.Words.{AskedRun, Ran, twice_line}
 use Rattle.dn_run.specs.declared.stop.Stop.{Stop}
 

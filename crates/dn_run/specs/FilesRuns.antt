@@ -5,7 +5,7 @@ use Rattle.dn_instance.specs.Instances.{Instance}
 use Rattle.dn_instance.specs.Texts.{Reads}
 use Rattle.dn_instance.specs.declared.refusal.Refusal.{Refusal}
 use Rattle.dn_run.specs.Answers.{Answer, Refused}
-use Rattle.dn_run.specs.Takings.{AsksOne, FilesFacts, KeepsOthers, TakesBack}
+use Rattle.dn_files.specs.Takings.{AsksOne, FilesFacts, KeepsOthers, TakesBack}
 use Rattle.dn_run.specs.Texts.{AskedText, ComesOf}
 
 -- the files of a run: how they and the sources of their texts describe themselves, and the files before and after the

@@ -1,9 +1,9 @@
 pub mod Streams
 pub mod Answers
-pub mod Takings
 pub mod Texts
 pub mod FilesRuns
 pub mod Outcomes
 pub mod Runs
 pub mod Words
+pub mod HostRuns
 pub mod State

@@ -9,8 +9,8 @@ use Rattle.dn_instance.specs.Texts.{IsClean, IsFirstFault, Reads}
 use Rattle.dn_instance.specs.declared.refusal.Refusal.{Refusal}
 use Rattle.dn_instance.specs.declared.refusal.Refusal.TheVariants.{Text, Memory, Read, Endless, Write, CountTooLarge}
 use Rattle.dn_canon.specs.CanonTexts.{IsTooLarge}
-use Rattle.dn_run.specs.declared.files.FilesFault.{FilesFault}
-use Rattle.dn_run.specs.declared.files.FilesFault.TheVariants as Files
+use Rattle.dn_files.specs.declared.files.FilesFault.{FilesFault}
+use Rattle.dn_files.specs.declared.files.FilesFault.TheVariants as Files
 
 -- a text that a run asked for: its name; the bytes behind the name before the run, if they are known; why the files did
 -- not hand it out, or `None` if they did; which sources they can hand out for it, and which they can have taken back;

@@ -3,13 +3,13 @@ ghost use Rattle.std.specs.Prelude.{◌≡◌, ◌≢◌, None, Some, false, cod
 ghost use Rattle.dn_command.specs.Commands.{Canon, Check, Compare, Show, asks, names_twice};
 ghost use Rattle.dn_run.specs.State.CommandRuns.{Does};
 
-use crate::files::Files;
 use crate::findings::{put_check, put_compared};
 use crate::stop::{Stop, unwritten};
 use crate::texts::{copy_named, read_named};
 use dn_bundle::Form;
 use dn_canon::write_canon;
 use dn_command::Command;
+use dn_files::Files;
 use dn_instance::check_companion;
 use dn_report::put_shown;
 use dn_sink::Sink;

@@ -6,9 +6,9 @@ ghost use Rattle.dn_run.specs.Streams.{TakesLine, sink_run};
 ghost use Rattle.dn_run.specs.Words.{PrintsText, Ran, bad_command_line};
 
 use crate::commands::perform;
-use crate::files::Files;
 use crate::stop::Stop;
 use dn_command::{Request, request_of};
+use dn_files::Files;
 use dn_instance::Refusal;
 use dn_report::put_fault_line;
 use dn_sink::{Sink, put_and_flush};
@@ -51,9 +51,9 @@ pub fn run<F: Files, O: Sink, E: Sink>(
     }
 }
 
-/// Puts the line for words that are no command on `err`, flushes `err`, and returns the exit status, 3. Ignores a fault
-/// of `err`.
-pub fn refuse_words<E: Sink>(err: &mut E) -> u8
+// Puts the line for words that are no command on `err`, flushes `err`, and returns the exit status, 3. Ignores a fault
+// of `err`.
+pub(crate) fn refuse_words<E: Sink>(err: &mut E) -> u8
     ensures status { result ≡ 3 }
     ensures said { TakesLine (sink_run E.sink (err.old, err.new)) bad_command_line }
 {

@@ -7,7 +7,7 @@ ghost use Rattle.dn_run.specs.FilesRuns.{ReadsOne};
 ghost use Rattle.dn_run.specs.Texts.{IsRefusedCopy, IsRefusedText, unopened};
 ghost use Rattle.dn_run.specs.State.TextReads.{IsCopy, IsRead};
 
-use crate::files::{Files, FilesFault};
+use dn_files::{Files, FilesFault};
 use dn_instance::{Held, Refusal, read_from, read_keep};
 use std::alloc::Global;
 

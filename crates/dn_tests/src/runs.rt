@@ -4,7 +4,8 @@ ghost use Rattle.std.specs.Prelude.{None};
 use crate::commands::owned;
 use crate::stand_ins::{NoFlush, OneByte, Pieces};
 use crate::texts::{CAPACITIES, COSTS, FLOWS, FULL, ROADS, ROADS_CANON};
-use dn_run::{Files, FilesFault, run};
+use dn_files::{Files, FilesFault};
+use dn_run::run;
 use dn_sink::{Bytes, Room};
 use std::alloc::Global;
 

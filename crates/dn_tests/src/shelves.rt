@@ -5,7 +5,8 @@ ghost use Rattle.std.specs.declared.io.ErrorKind.TheVariants.{Interrupted, NotFo
 
 use crate::commands::owned;
 use crate::texts::{CAPACITIES, COSTS, COSTS_ONE, ROADS, ROADS_CANON};
-use dn_host::{Opener, Stream, run_on};
+use dn_host::{Opener, Stream};
+use dn_run::run_on;
 use dn_sink::Bytes;
 use std::alloc::Global;
 use std::io;

@@ -3,7 +3,8 @@
 //! to `run_on`.
 #![tactic(auto)]
 
-use dn_host::{HostDevice, HostOpener, Retried, out_of, run_on, words_of};
+use dn_host::{HostDevice, HostOpener, Retried, out_of, words_of};
+use dn_run::run_on;
 use dn_sink::ToWrite;
 use std::process::ExitCode;
 

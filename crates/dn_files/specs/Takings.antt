@@ -2,7 +2,7 @@
 use Rattle.std.specs.Prelude.{◌≡◌, ◌≢◌, ℕ, List, Option, Some, None, false, Result, IfOk, IfSome, OnOk, codes}
 use Rattle.std.specs.Result.{IfErr}
 use Rattle.dn_line.specs.Sources.{SourceFacts}
-use Rattle.dn_run.specs.declared.files.FilesFault.{FilesFault}
+use Rattle.dn_files.specs.declared.files.FilesFault.{FilesFault}
 
 -- the description of files of type F, which hand out texts of type T
 pub record FilesFacts (F T : Type 0) : Type 1 where

@@ -1,6 +1,6 @@
 use Rattle.std.proofs.Common.{refl, arith, ◌∙◌, rules}
 use Rattle.dn_run.proofs.OutcomeLaws.{line_taken}
-use Rattle.dn_host.proofs.runs.run_on.Goals as goal
+use Rattle.dn_run.proofs.host_runs.run_on.Goals as goal
 
 pub returns-in-Ok-clause-ran : goal.returns-in-Ok-clause-ran
 returns-in-Ok-clause-ran g c = rw c.in-Ok.is record {

@@ -8,7 +8,7 @@ use Rattle.dn_instance.specs.declared.refusal.Refusal.TheVariants.{Memory}
 use Rattle.dn_report.specs.FaultLines.{fault_line}
 use Rattle.dn_run.specs.FilesRuns.{files_run}
 use Rattle.dn_run.specs.Streams.{SinkRun, TakesLine}
-use Rattle.dn_run.specs.Takings.{FilesFacts}
+use Rattle.dn_files.specs.Takings.{FilesFacts}
 use Rattle.dn_run.specs.Words.{Ran, bad_command_line}
 
 -- the files of a run on the host: how they and the sources of their texts describe themselves, and in which states the

@@ -1,14 +1,15 @@
 // A run of the program over the texts of an opener.
 ghost use Rattle.std.specs.Prelude.{◌≡◌, ◌≤◌, None, MatchResult, map, string_bytes};
 ghost use Rattle.dn_run.specs.Streams.{sink_run};
-ghost use Rattle.dn_host.specs.HostRuns.{HostFilesFacts, NoWords, RanOnHost};
+ghost use Rattle.dn_run.specs.HostRuns.{HostFilesFacts, NoWords, RanOnHost};
 
-use crate::files::{OpenedFiles, OpenedSource};
-use crate::opener::Opener;
+use crate::runs::{refuse_words, run};
+use dn_files::Files;
+use dn_host::Opener;
+use dn_host::files::{OpenedFiles, OpenedSource};
 use dn_instance::Refusal;
 use dn_line::Source;
 use dn_report::put_fault_line;
-use dn_run::{Files, refuse_words, run};
 use dn_sink::Sink;
 use std::alloc::Global;
 use std::io;

@@ -1,6 +1,6 @@
 // Files, which hand out texts by name.
 ghost use Rattle.std.specs.Prelude.{◌≡◌};
-ghost use Rattle.dn_run.specs.Takings.{FilesFacts, Takes, TakesBack};
+ghost use Rattle.dn_files.specs.Takings.{FilesFacts, Takes, TakesBack};
 
 use dn_instance::Held;
 use dn_line::Source;
