@@ -86,11 +86,6 @@ times() { # KIND NAME=COMMAND..
     rm -f "$work/out"
 }
 
-instructions() { # COMMAND FILE
-    sh -c "exec valgrind --tool=callgrind --callgrind-out-file=/dev/null $1" < "$2" 2>&1 > /dev/null |
-        sed -n 's/.*Collected : \([0-9]*\).*/\1/p'
-}
-
 # Counts the instructions per arc.
 counts() {
     local kind file arcs word count

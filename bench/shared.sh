@@ -1,4 +1,5 @@
-# Functions that run.sh, hostile.sh and lines.sh share. These scripts read this file; it does nothing by itself.
+# Functions that run.sh, hostile.sh, lines.sh and library.sh share. These scripts read this file, which does nothing by
+# itself.
 # shellcheck shell=bash
 
 here=$(cd "$(dirname "${BASH_SOURCE[0]}")" && pwd)
@@ -71,4 +72,10 @@ agree() { # FILE NAME=COMMAND..
         [[ $name == "$first" ]] || rm -f "$work/out.$name"
     done
     rm -f "$work/out.$first"
+}
+
+# Prints how many instructions a command takes for a text.
+instructions() { # COMMAND FILE
+    sh -c "exec valgrind --tool=callgrind --callgrind-out-file=/dev/null $1" < "$2" 2>&1 > /dev/null |
+        sed -n 's/.*Collected : \([0-9]*\).*/\1/p'
 }

@@ -117,6 +117,23 @@ typedef struct dnorm_arc {
     int64_t a, b, c;
 } dnorm_arc;
 
+/* A place between two canonical arcs of a graph. All zeros, DNORM_FIRST, is the place before the first arc; only
+   dnorm_next and dnorm_columns move it. */
+typedef struct dnorm_place {
+    /* So many pairs with all their arcs are before it. */
+    size_t pairs;
+    /* So many arcs of the next pair are before it. */
+    uint64_t arcs;
+} dnorm_place;
+
+/* The place before the first arc. */
+#ifdef __cplusplus
+#define DNORM_FIRST \
+    dnorm_place {}
+#else
+#define DNORM_FIRST ((dnorm_place){0})
+#endif
+
 /* What an instance has beside its arcs: a node and its flow, which is not 0 (`min`); the source and the sink (`max`); an
    ID (`ss`); two IDs (`p2p`); an ID, x and y (`co`). Numbers that a kind lacks are 0. */
 typedef struct dnorm_item {
@@ -139,7 +156,15 @@ enum {
     DNORM_NOT_BOTH = 255
 };
 
-/* Where two instances first differ, as `dnorm compare` says it, without the two values. */
+/* A whole number of 128 bits: `high` times 2^64, and `low`. */
+typedef struct dnorm_value {
+    /* Whether there is a number; all is 0 if there is none. */
+    bool known;
+    int64_t high;
+    uint64_t low;
+} dnorm_value;
+
+/* Where two instances first differ, as `dnorm compare` says it. */
 typedef struct dnorm_difference {
     uint8_t what;
     /* The node (DNORM_SUPPLY_DIFFERS), the tail (DNORM_PAIR_DIFFERS) or the ID (DNORM_POINT_DIFFERS); 0 otherwise. */
@@ -148,7 +173,25 @@ typedef struct dnorm_difference {
     int64_t to;
     /* The item, counted from 1 (DNORM_ITEM_DIFFERS); 0 otherwise. */
     uint64_t index;
+    /* The least amount at which the least costs of a pair differ (DNORM_PAIR_DIFFERS of `min`); 0 otherwise. */
+    int64_t amount;
+    /* The values of the left and of the right instance: the kind, NODES, the flow, the source or the sink, the number of
+       items; of a pair, the least length, which is not known without an arc, the capacity, or the least cost of the
+       amount, which is not known if the amount is infeasible. Items and points have none. */
+    dnorm_value left, right;
 } dnorm_difference;
+
+/* Codes of a dnorm_fit: the companion fits, names a node that is not in the graph, or is not one. */
+enum { DNORM_FITS = 0, DNORM_NOT_IN_GRAPH = 35, DNORM_NOT_KINDS = 36 };
+
+/* Whether a companion fits a graph. */
+typedef struct dnorm_fit {
+    /* DNORM_FITS, or why not; DNORM_NOT_BOTH if there are no two instances. */
+    uint8_t code;
+    /* The first node that is not in the graph (DNORM_NOT_IN_GRAPH): in the order of the text for `ss` and `p2p`, and the
+       least for `co`; 0 otherwise. */
+    int64_t node;
+} dnorm_fit;
 
 /* Makes a reader in `reader`, which owns nothing before.
    Codes: DNORM_FINE; DNORM_MEMORY, and it owns nothing; DNORM_WRONG_CALL if it owns anything, which it keeps. */
@@ -170,8 +213,18 @@ dnorm_summary dnorm_facts(dnorm *instance);
 /* Copies canonical arcs in form 1 or 2 to `out`, from the one at `from`, counted from 0, as far as there is room, in the
    order of the canonical text. Returns how many it copied: 0 only past the last arc, without room, and if there is no
    graph. Items of `out` behind these may have changed as well. Each call walks over the arcs before `from`, so let it
-   copy many, or all. */
+   copy all, or take dnorm_next. */
 size_t dnorm_arcs(dnorm *graph, uint8_t form, uint64_t from, dnorm_arc *out, size_t room);
+
+/* Copies canonical arcs in form 1 or 2 to `out`, from the one after `place` on, as dnorm_arcs does, and moves `place`
+   behind them. No call walks over the arcs before it. A place belongs to one graph and one form. */
+size_t dnorm_next(dnorm *graph, uint8_t form, dnorm_place *place, dnorm_arc *out, size_t room);
+
+/* Copies canonical arcs in form 1 or 2 as dnorm_next does, each number to a column of its own: as many arcs as `tails`
+   has room for. A column with less room has its part of the first of them, so one that is not wanted has room 0. */
+size_t dnorm_columns(dnorm *graph, uint8_t form, dnorm_place *place, int64_t *tails, size_t tails_room, int64_t *heads,
+                     size_t heads_room, int64_t *a, size_t a_room, int64_t *b, size_t b_room, int64_t *c,
+                     size_t c_room);
 
 /* Copies what the instance has beside its arcs to `out`, as dnorm_arcs copies arcs: flows by ascending node, the source
    with the sink, items in the order of the text, points by ascending ID. */
@@ -190,6 +243,14 @@ size_t dnorm_text(dnorm *text, size_t from, uint8_t *out, size_t room);
 /* Returns where two instances, of two different `dnorm`, first differ: DNORM_SAME if they pose the same problem, and
    DNORM_NOT_BOTH if one of them is no instance. */
 dnorm_difference dnorm_compare(dnorm *left, dnorm *right);
+
+/* Returns whether `companion` is an `ss`, `p2p` or `co` instance that names only nodes of `graph`, an `sp` instance in
+   another `dnorm`. */
+dnorm_fit dnorm_fits(dnorm *graph, dnorm *companion);
+
+/* Copies the name of what it owns to `out`, as far as there is room, without a byte 0 behind it: the name of a refusal,
+   as `dnorm help` has it, or of the kind of an instance. Returns the number of bytes: 0 if it owns neither. */
+size_t dnorm_name(dnorm *any, uint8_t *out, size_t room);
 
 /* Frees what it owns. It then owns nothing, and may be used anew. */
 void dnorm_free(dnorm *any);

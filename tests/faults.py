@@ -286,13 +286,13 @@ def limits(tally: Tally, tested: str) -> None:
 
 
 def of_program(call: Callable[[dnorm.File], object], file: dnorm.File, program: str) -> object:
-    """Calls with another program."""
-    kept = os.environ["DNORM"]
-    os.environ["DNORM"] = program
+    """Calls with another program, and without the library."""
+    kept = {it: os.environ[it] for it in ["DNORM", "DNORM_LIBRARY"]}
+    os.environ.update(DNORM=program, DNORM_LIBRARY="none")
     try:
         return call(file)
     finally:
-        os.environ["DNORM"] = kept
+        os.environ.update(kept)
 
 
 # Calls in a process of its own, which write what they lead to into a file; and the arguments are the closed streams.

@@ -2,6 +2,7 @@
 and how results are compared and counted. A test prints a line for each failure, and at the end how many checks passed
 and failed. What a tool takes from here it finds by adding tests/ to its path; no test imports a tool."""
 
+import functools
 import os
 import resource
 import shutil
@@ -13,6 +14,8 @@ from typing import IO, Any, NamedTuple
 ROOT = os.path.dirname(os.path.dirname(os.path.realpath(__file__)))
 # A run that takes longer, in seconds, is ended and fails the test.
 LIMIT = 60
+# The page that tools/definitions makes for a release.
+DEFINITIONS = "docs/DEFINITIONS.md"
 # The arguments of a command, after its name.
 Words = Sequence[str | bytes]
 
@@ -75,11 +78,37 @@ def program() -> str:
     return path
 
 
-def listed() -> list[tuple[int, str, str]]:
-    """Returns what share/installed.txt lists: modes, paths in the repository and paths below a prefix."""
+def rows_of_list() -> list[list[str]]:
+    """Returns the rows of share/installed.txt."""
     with open(f"{ROOT}/share/installed.txt", encoding="utf-8") as lines:
-        found = [line.split() for line in lines if not line.startswith("#")]
-    return [(int(mode, 8), place, to) for mode, place, to in found]
+        return [line.split() for line in lines if not line.startswith("#")]
+
+
+def listed() -> list[tuple[int, str, str]]:
+    """Returns the files that share/installed.txt lists: modes, paths in the repository and paths below a prefix."""
+    return [(int(mode, 8), place, to) for mode, place, to in rows_of_list() if mode != "link"]
+
+
+def links_listed() -> dict[str, str]:
+    """Returns the links that share/installed.txt lists: targets by paths below a prefix."""
+    return {to: target for mode, target, to in rows_of_list() if mode == "link"}
+
+
+def source_of(place: str, tested: str) -> str:
+    """Returns the file that a listed path means in this repository, where the program is the tested one."""
+    if place == "dnorm":
+        return tested
+    if place == DEFINITIONS:
+        make_page()
+    # What tools/c-library makes.
+    return f"{ROOT}/c/out/{place}" if place.startswith(("include/", "lib/")) else f"{ROOT}/{place}"
+
+
+@functools.cache
+def make_page() -> None:
+    """Makes the page of definitions, which Git does not have."""
+    made = subprocess.run([f"{ROOT}/tools/definitions", "--page"], capture_output=True, check=True)
+    write(f"{ROOT}/{DEFINITIONS}", made.stdout)
 
 
 def run(words: Words, given: bytes = b"", **more: Any) -> Answer:

@@ -44,15 +44,8 @@ NAME = r"[^\W\d]\w*(?:::\w+)*"
 PATH = re.compile(r"(?:\./)?[\w.*-]+(?:/[\w.*-]+)+/?|[\w.-]+/|\w[\w.-]*\.(?:rt|antt|py|sh|md|txt|rs|edit)")
 # Folders of generated files, and words for folders of a user.
 ELSEWHERE = {"out", "dist", "PREFIX", "DESTDIR"}
-# Names, a crate and a file of it: `a` and `b` (dn_run, `runs`); `a` in dn_run, `runs`; `a`, dn_run, `runs`.
-PLACED = re.compile(rf"((?:`{NAME}` and )*`{NAME}`),?(?: \(| in | )(\w+), `([\w/]+)`(?: and `([\w/]+)`)?")
-# Names and their crate: `a` and `b` (dn_run).
-IN_CRATE = re.compile(rf"((?:`{NAME}`(?:, | and ))*`{NAME}`) \((dn\w+|pair_index)\)")
 # The crate of the laws in the tables below: in `dn_laws`, by module.
 BY_MODULE = re.compile(r"in `(\w+)`, by module")
-# A name and a module of a crate that the text named before: `a` (`runs`). Bundles have their kinds in the same
-# notation.
-IN_FILE = re.compile(rf"`({NAME})` \(`(?!(?:sp|max|min)`)([a-z_0-9]+)`\)")
 
 
 def page_text(page: str, top: str = ROOT) -> str:
@@ -150,21 +143,6 @@ def misplaced(page: str, crate: str, files: list[str], names: list[str]) -> Iter
         yield f"{page}: there is no `{name}` in {crate.replace('*', 'any crate')}, {', '.join(files)}"
 
 
-def bad_places(page: str) -> Iterator[str]:
-    """Yields names that are not in the files that the page says."""
-    known = crates()
-    for names, crate, *files in PLACED.findall(prose(page)):
-        if crate in known:
-            yield from misplaced(page, crate, [it for it in files if it], SPAN.findall(names))
-        elif crate.startswith("dn"):
-            yield f"{page}: there is no crate {crate}"
-    for names, crate in IN_CRATE.findall(prose(page)):
-        for name in lacks(words_of(sources(crate)), SPAN.findall(names)):
-            yield f"{page}: there is no `{name}` in {crate}"
-    for name, file in IN_FILE.findall(prose(page)):
-        yield from misplaced(page, "*", [file], [name])
-
-
 def cells(line: str) -> list[str]:
     """Returns the cells of a row; none if the line is not a row, or is the line between the head and the rows."""
     return [it.strip() for it in line.strip("|").split(" | ")] if line.startswith("| ") else []
@@ -238,7 +216,6 @@ def complaints() -> Iterator[str]:
         yield from bad_links(page)
     for page in PLACING:
         yield from bad_paths(page)
-        yield from bad_places(page)
         yield from bad_rows(page)
     for page in NAMING:
         yield from bad_names(page)

@@ -1,11 +1,13 @@
 #!/usr/bin/env python3
-"""Makes the wheel that brings the program, from the wheel of the Python package and a static program.
+"""Makes the wheel that brings the program and the library for C, from the wheel of the Python package, a static program
+and the shared library.
 
-    tools/wheel.py WHEEL PROGRAM FOLDER
+    tools/wheel.py WHEEL PROGRAM LIBRARY FOLDER
 
-The new wheel, in FOLDER, has the same files with the same times, and the program as a script, which pip installs beside
-the others. Its tags are those of Linux on x86-64 with any C library, since the program needs none. Equal inputs give
-equal bytes. Its name is printed."""
+The new wheel, in FOLDER, has the same files with the same times, the program as a script, which pip installs beside the
+others, and the library in the package. Its tags are those of Linux on x86-64 with any C library, since the program
+needs none; where the library cannot be loaded, the package does without it. Equal inputs give equal bytes. Its name is
+printed."""
 
 import base64
 import hashlib
@@ -32,16 +34,18 @@ def retagged(data: bytes) -> bytes:
 
 
 def main() -> int:
-    if len(sys.argv) != 4:
+    if len(sys.argv) != 5:
         sys.exit(__doc__)
-    plain, program, folder = sys.argv[1:]
+    plain, program, library, folder = sys.argv[1:]
     with zipfile.ZipFile(plain) as wheel:
         files = [(it, wheel.read(it)) for it in wheel.infolist()]
     stem = os.path.basename(plain).removesuffix(f"-{ANY}.whl")
     info = f"{stem}.dist-info"
-    with open(program, "rb") as file:
-        script = zipfile.ZipInfo(f"{stem}.data/scripts/dnorm", files[0][0].date_time)
-        files.append((script, file.read()))
+    script = zipfile.ZipInfo(f"{stem}.data/scripts/dnorm", files[0][0].date_time)
+    beside = zipfile.ZipInfo(f"dnorm/{os.path.basename(library)}", files[0][0].date_time)
+    for it, path in [(script, program), (beside, library)]:
+        with open(path, "rb") as file:
+            files.append((it, file.read()))
     name, lines = f"{stem}-{NAME}.whl", ""
     with zipfile.ZipFile(f"{folder}/{name}", "w") as made:
         for it, data in sorted(files, key=lambda it: (it[0].filename == f"{info}/RECORD", it[0].filename)):

@@ -1,2 +1,4 @@
 pub mod AsBox
 pub mod CopyLaws
+pub mod NextLaws
+pub mod ColumnLaws

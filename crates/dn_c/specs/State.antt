@@ -1,9 +1,12 @@
 pub mod Copies
-pub mod Differences
+pub mod Rows
+pub mod Places
 pub mod Facts
+pub mod Differences
+pub mod Fits
 pub mod Items
 pub mod Outputs
-pub mod Rows
+pub mod Columns
 pub mod Sealed
 pub mod Statuses
 pub mod Works

@@ -43,7 +43,7 @@ fn row<A: Parts>(pair: &(i64, i64), arc: &A) -> Arc
 }
 
 // Takes the canonical arcs of one pair: goes past those of the first `skip` arcs, and puts the others from `at` on.
-fn put_bundle<B: Bundle>(
+pub(crate) fn put_bundle<B: Bundle>(
     out: &mut [Arc],
     at: usize,
     skip: u64,

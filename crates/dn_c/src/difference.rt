@@ -1,12 +1,23 @@
 // The first difference between two instances, as C has it.
-ghost use Rattle.std.specs.Prelude.{◌≡◌};
-ghost use Rattle.dn_c.specs.State.Differences.{at_place, difference_of, not_both, Compares};
+ghost use Rattle.std.specs.Prelude.{◌≡◌, pos, Some};
+ghost use Rattle.dn_c.specs.State.Differences.{Compares, DiffersAs, IsNotBoth, IsValue, OfWhole, PairDiffers, Tells};
 
+use crate::facts::kind_number;
 use crate::work::Work;
+use dn_arc::How;
 use dn_compare::compare;
 use dn_instance::Verdict;
 
-/// Where two instances first differ.
+/// A whole number of 128 bits: `high` times 2^64, and `low`. All is 0 if there is no number.
+#[repr(C)]
+#[derive(Clone, Copy, Drop)]
+pub struct Value {
+    pub known: bool,
+    pub high: i64,
+    pub low: u64,
+}
+
+/// Where two instances first differ, and their values there.
 #[repr(C)]
 #[derive(Clone, Copy, Drop)]
 pub struct Difference {
@@ -20,47 +31,112 @@ pub struct Difference {
     pub to: i64,
     /// The item, counted from 1, else 0.
     pub index: u64,
+    /// The least amount at which the costs of an ordered pair differ, else 0.
+    pub amount: i64,
+    /// The value of the left instance: the number of its kind, NODES, a flow, the source or the sink, the least length,
+    /// the capacity or the least cost of the amount, or the number of items.
+    pub left: Value,
+    /// The value of the right instance.
+    pub right: Value,
 }
 
-// Returns a difference of this sort, at a node or an ordered pair.
-fn place(what: u8, at: i64, to: i64) -> Difference
-    ensures { result ≡ at_place what at to }
+// Returns a number in two halves.
+fn halves(number: Option<i128>) -> Value
+    ensures { IsValue number result }
+{
+    match number {
+        Some(n) => Value {
+            known: true,
+            high: n.div_euclid(18446744073709551616) as i64,
+            low: n.rem_euclid(18446744073709551616) as u64,
+        },
+        None => Value {
+            known: false,
+            high: 0,
+            low: 0,
+        },
+    }
+}
+
+// Returns a number of 64 bits as one of 128.
+fn wide(number: Option<i64>) -> Option<i128>
+    ensures { result ≡ number }
+{
+    match number {
+        Some(n) => Some(n as i128),
+        None => None,
+    }
+}
+
+// Returns a difference of this sort at a node or an ordered pair, with these values.
+fn tell(what: u8, at: i64, to: i64, left: Option<i128>, right: Option<i128>) -> Difference
+    ensures { Tells what at to 0 (pos 0) left right result }
 {
     Difference {
         what,
         at,
         to,
         index: 0,
+        amount: 0,
+        left: halves(left),
+        right: halves(right),
     }
 }
 
 /// Returns the difference of a call whose handles do not both hold an instance.
 pub fn not_both() -> Difference
-    ensures { result ≡ not_both }
+    ensures { IsNotBoth result }
 {
-    place(255, 0, 0)
+    tell(255, 0, 0, None, None)
+}
+
+// Returns a difference of the whole instances, with these values.
+fn of_both(what: u8, left: i64, right: i64) -> Difference
+    ensures { OfWhole what (Some left) (Some right) result }
+{
+    tell(what, 0, 0, wide(Some(left)), wide(Some(right)))
+}
+
+// Returns a difference of the arcs of an ordered pair.
+fn of_pair(src: i64, dst: i64, how: How) -> Difference
+    ensures { PairDiffers src dst how result }
+{
+    match how {
+        How::Lengths { left, right } => tell(6, src, dst, wide(left), wide(right)),
+        How::Totals { left, right } => tell(6, src, dst, wide(Some(left)), wide(Some(right))),
+        How::Costs(gap) => Difference {
+            amount: gap.amount,
+            ..tell(6, src, dst, gap.left, gap.right)
+        },
+    }
 }
 
 // Returns a verdict as C has it.
 fn difference_of(verdict: Verdict) -> Difference
-    ensures { result ≡ difference_of verdict }
+    ensures { DiffersAs verdict result }
 {
     match verdict {
-        Verdict::Same => place(0, 0, 0),
-        Verdict::Kind { .. } => place(1, 0, 0),
-        Verdict::Nodes { .. } => place(2, 0, 0),
-        Verdict::Supply { id, .. } => place(3, id, 0),
-        Verdict::Source { .. } => place(4, 0, 0),
-        Verdict::Sink { .. } => place(5, 0, 0),
-        Verdict::Pair { src, dst, .. } => place(6, src, dst),
-        Verdict::Length { .. } => place(7, 0, 0),
+        Verdict::Same => tell(0, 0, 0, None, None),
+        Verdict::Kind { left, right } => of_both(
+            1,
+            kind_number(left) as i64,
+            kind_number(right) as i64,
+        ),
+        Verdict::Nodes { left, right } => of_both(2, left, right),
+        Verdict::Supply { id, left, right } => {
+            tell(3, id, 0, wide(Some(left)), wide(Some(right)))
+        }
+        Verdict::Source { left, right } => of_both(4, left, right),
+        Verdict::Sink { left, right } => of_both(5, left, right),
+        Verdict::Pair { src, dst, how } => of_pair(src, dst, how),
+        Verdict::Length { left, right } => {
+            tell(7, 0, 0, Some(left as i128), Some(right as i128))
+        }
         Verdict::Item { index } => Difference {
-            what: 8,
-            at: 0,
-            to: 0,
             index,
+            ..tell(8, 0, 0, None, None)
         },
-        Verdict::Point { id } => place(9, id, 0),
+        Verdict::Point { id } => tell(9, id, 0, None, None),
     }
 }
 

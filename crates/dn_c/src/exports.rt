@@ -1,18 +1,23 @@
 // The functions that C calls. `c/dnorm.h` declares them and says which rules a caller must keep. A call takes the work
 // out of its handle and puts it back, which moves only a pointer.
 ghost use Rattle.std.specs.Prelude.{◌≡◌, ◌≤◌, Some, None, List, MatchOption, length};
-ghost use Rattle.dn_c.specs.State.Differences.{not_both, Compares};
+ghost use Rattle.dn_c.specs.State.Columns.{CopiesColumns};
+ghost use Rattle.dn_c.specs.State.Differences.{Compares, IsNotBoth};
+ghost use Rattle.dn_c.specs.State.Fits.{neither, Judges};
 ghost use Rattle.dn_c.specs.State.Facts.{no_facts, facts_of};
-ghost use Rattle.dn_c.specs.State.Outputs.{CopiesArcs, CopiesItems, CopiesText, PrintsInto};
+ghost use Rattle.dn_c.specs.State.Outputs.{CopiesArcs, CopiesItems, CopiesName, CopiesNext, CopiesText, PrintsInto};
 ghost use Rattle.dn_c.specs.State.Statuses.{wrong_call};
 ghost use Rattle.dn_c.specs.State.Works.{work_of, BothHold, Begins, Does, Feeds, Finishes};
 
 use crate::arcs::Arc;
+use crate::columns::columns;
 use crate::difference::{Difference, not_both, parting};
 use crate::facts::{Facts, no_facts, tell};
+use crate::fits::{Fit, judge, neither};
 use crate::handle::Handle;
 use crate::items::Item;
-use crate::outputs::{arcs, canon_into, items, text};
+use crate::next::Place;
+use crate::outputs::{arcs, canon_into, items, name, next_arcs, text};
 use crate::status::{Status, fine, refusal_status, wrong_call};
 use crate::work::Work;
 use dn_instance::{Reader, Refusal};
@@ -161,6 +166,79 @@ pub extern "C" fn dnorm_arcs(
     }
 }
 
+/// Copies the canonical arcs of the instance in a form (1 or 2) after the place, as far as there is room, and moves the
+/// place past them. Returns how many it copied: 0 after the last, and where the handle holds no graph.
+#[unsafe(no_mangle)]
+pub extern "C" fn dnorm_next(
+    alloc: Global,
+    handle: &mut Handle,
+    form: u8,
+    place: &mut Place,
+    out: &mut [Arc],
+) -> usize
+    ensures copies { MatchOption (work_of handle.old) (result ≡ 0)
+        (λ work. CopiesNext work form place.old place.new out.old out.new result) }
+    ensures fits { result ≤ length out.new }
+    ensures kept { work_of handle.new ≡ work_of handle.old }
+{
+    match handle.take(alloc) {
+        Some(work) => {
+            let count = next_arcs(&work, form, place, out);
+            handle.put(work);
+            count
+        }
+        None => 0,
+    }
+}
+
+/// Copies the canonical arcs of the instance in a form (1 or 2) after the place by columns, as many as the column of
+/// tails has room for, and moves the place past them. A shorter column has its part of the first of them. Returns how
+/// many it copied: 0 after the last, and where the handle holds no graph.
+#[unsafe(no_mangle)]
+pub extern "C" fn dnorm_columns(
+    alloc: Global,
+    handle: &mut Handle,
+    form: u8,
+    place: &mut Place,
+    tails: &mut [i64],
+    heads: &mut [i64],
+    a: &mut [i64],
+    b: &mut [i64],
+    c: &mut [i64],
+) -> usize
+    ensures copies { MatchOption (work_of handle.old) (result ≡ 0) (λ work. CopiesColumns work form place.old place.new
+        (length tails.old) tails.new heads.new a.new b.new c.new result) }
+    ensures kept { work_of handle.new ≡ work_of handle.old }
+{
+    match handle.take(alloc) {
+        Some(work) => {
+            let count = columns(&work, form, place, tails, heads, a, b, c);
+            handle.put(work);
+            count
+        }
+        None => 0,
+    }
+}
+
+/// Copies the name of what the handle holds, as far as there is room: that of a refusal, or that of an instance's kind.
+/// Returns how many bytes it copied: 0 where the handle holds neither.
+#[unsafe(no_mangle)]
+pub extern "C" fn dnorm_name(alloc: Global, handle: &mut Handle, out: &mut [u8]) -> usize
+    ensures copies { MatchOption (work_of handle.old) (result ≡ 0)
+        (λ work. CopiesName work out.old out.new result) }
+    ensures fits { result ≤ length out.new }
+    ensures kept { work_of handle.new ≡ work_of handle.old }
+{
+    match handle.take(alloc) {
+        Some(work) => {
+            let count = name(&work, out);
+            handle.put(work);
+            count
+        }
+        None => 0,
+    }
+}
+
 /// Puts the canonical text of the instance in a form (1 or 2) into `into`, a handle that holds nothing. It then owns
 /// the text.
 ///
@@ -241,7 +319,7 @@ pub extern "C" fn dnorm_items(
 /// Returns where two instances first differ. Both handles keep theirs.
 #[unsafe(no_mangle)]
 pub extern "C" fn dnorm_compare(alloc: Global, left: &mut Handle, right: &mut Handle) -> Difference
-    ensures compares { BothHold (λ l r. Compares l r result) (result ≡ not_both) (work_of left.old)
+    ensures compares { BothHold (λ l r. Compares l r result) (IsNotBoth result) (work_of left.old)
         (work_of right.old) }
     ensures left_kept { work_of left.new ≡ work_of left.old }
     ensures right_kept { work_of right.new ≡ work_of right.old }
@@ -260,6 +338,31 @@ pub extern "C" fn dnorm_compare(alloc: Global, left: &mut Handle, right: &mut Ha
             found
         }
         None => not_both(),
+    }
+}
+
+/// Returns whether the second instance is a companion that names only nodes of the graph. Both handles keep theirs.
+#[unsafe(no_mangle)]
+pub extern "C" fn dnorm_fits(alloc: Global, graph: &mut Handle, companion: &mut Handle) -> Fit
+    ensures judges { BothHold (λ g c. Judges g c result) (result ≡ neither) (work_of graph.old)
+        (work_of companion.old) }
+    ensures graph_kept { work_of graph.new ≡ work_of graph.old }
+    ensures companion_kept { work_of companion.new ≡ work_of companion.old }
+{
+    match graph.take(alloc) {
+        Some(g) => {
+            let fit = match companion.take(alloc) {
+                Some(c) => {
+                    let fit = judge(&g, &c);
+                    companion.put(c);
+                    fit
+                }
+                None => neither(),
+            };
+            graph.put(g);
+            fit
+        }
+        None => neither(),
     }
 }
 

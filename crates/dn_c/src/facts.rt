@@ -19,8 +19,8 @@ pub struct Facts {
     pub pairs: u64,
 }
 
-// Returns the number of a kind.
-fn kind_number(kind: Kind) -> u8
+/// Returns the number of a kind.
+pub fn kind_number(kind: Kind) -> u8
     ensures { result ≡ kind_number kind }
 {
     match kind {

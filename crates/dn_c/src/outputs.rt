@@ -1,11 +1,12 @@
 // What C gets of a work: arcs, items, and a canonical text.
 ghost use Rattle.std.specs.Prelude.{◌≡◌, ◌≤◌, ◌<◌, ◌+◌, ◌-◌, List, length, take, drop};
 ghost use Rattle.dn_c.specs.State.Works.{work_of};
-ghost use Rattle.dn_c.specs.State.Outputs.{form_of, CopiesArcs, CopiesItems, CopiesText, Prints, PrintsInto};
+ghost use Rattle.dn_c.specs.State.Outputs.{form_of, CopiesArcs, CopiesItems, CopiesName, CopiesNext, CopiesText, Prints, PrintsInto};
 
 use crate::arcs::{Arc, put_table};
 use crate::handle::Handle;
 use crate::items::{Item, put_flows, put_ids, put_pairs, put_points};
+use crate::next::{Place, put_next};
 use crate::status::{Status, fine, refusal_status, wrong_call};
 use crate::work::Work;
 use dn_bundle::Form;
@@ -33,6 +34,36 @@ pub fn arcs(work: &Work, form: u8, from: u64, out: &mut [Arc]) -> usize
             View::Sp { table } => put_table(table, form_of(form), from, out),
             _ => 0,
         },
+        _ => 0,
+    }
+}
+
+/// Copies the canonical arcs of the instance after the place, as far as there is room, and moves the place past them.
+/// Returns how many it copied.
+pub fn next_arcs(work: &Work, form: u8, place: &mut Place, out: &mut [Arc]) -> usize
+    ensures copies { CopiesNext work.now form place.old place.new out.old out.new result }
+    ensures fits { result ≤ length out.new }
+{
+    match work {
+        Work::Read(held) => match held.view() {
+            View::Min { table, .. } => put_next(table, form_of(form), place, out),
+            View::Max { table, .. } => put_next(table, form_of(form), place, out),
+            View::Sp { table } => put_next(table, form_of(form), place, out),
+            _ => 0,
+        },
+        _ => 0,
+    }
+}
+
+/// Copies the name of what the work holds, as far as there is room: that of a refusal, or that of an instance's kind.
+/// Returns how many bytes it copied.
+pub fn name(work: &Work, out: &mut [u8]) -> usize
+    ensures copies { CopiesName work.now out.old out.new result }
+    ensures fits { result ≤ length out.new }
+{
+    match work {
+        Work::Refused(refusal) => copy_from(refusal.name().as_bytes(), 0, out),
+        Work::Read(held) => copy_from(held.kind().name().as_bytes(), 0, out),
         _ => 0,
     }
 }

@@ -1,5 +1,5 @@
 // Bundles by their ordered pairs.
-ghost use Rattle.std.specs.Prelude.{◌≡◌, ◌<◌, ◌≤◌, ℤ, List, ◌^◌, length, MatchOption};
+ghost use Rattle.std.specs.Prelude.{◌≡◌, ◌<◌, ◌≤◌, ℤ, List, ◌^◌, drop, length, MatchOption};
 ghost use Rattle.std.specs.Option.{option_copied};
 ghost use Rattle.std.specs.Iterator.{YieldsFirstBy, item_count};
 ghost use Rattle.std.specs.List.Sorted.{IsStrictlySortedBy};
@@ -59,6 +59,16 @@ impl<B: Bundle> Table<B> {
     {
         Pairs {
             rest: &self.entries,
+        }
+    }
+
+    /// Iterates over the pairs that have a bundle, by ascending (src, dst), from the one at `index`, counted from 0.
+    /// There is none from `len` on. This does not allocate.
+    pub fn pairs_from(&self, index: usize) -> Pairs<'_, B>
+        ensures value { result ≡ drop index self.now }
+    {
+        Pairs {
+            rest: &self.entries[index.min(self.len())..],
         }
     }
 

@@ -12,7 +12,8 @@ and do not close. A path that ends in `.gz`, `.bz2` or `.xz` is decompressed whi
 ends in `.zst` if Python or the module `zstandard` can; `.Z`, `.lz4`, `.zip`, `.br` and `.7z` are errors. `write` writes
 what `read` returns, and what `from_arrays` and `from_networkx` make. The keyword `program` says where the program is:
 by default `$DNORM` or, if that is not set, the one that pip installed with this package, or else the first `dnorm` on
-`PATH`. With the keyword `timeout`, a call that takes more seconds raises `TimedOut`.
+`PATH`. `read` uses the library for C in its place where that is beside it, unless `$DNORM_LIBRARY` is `none`. With the
+keyword `timeout`, a call that takes more seconds raises `TimedOut`.
 
 A text that the program refuses raises `Refused`, and any other failure another `DnormError`. If reading a text fails,
 or a compressed file is corrupt, no call returns an answer for it.
@@ -25,6 +26,7 @@ from .columns import Column
 from .errors import DnormError, Endless, Killed, Memory, NoProgram, Read, Refused, TimedOut, Unexpected, Write
 from .files import File, Readable, Target, Writable
 from .instances import Co, Graph, Instance, Max, Min, P2p, Sp, Ss, from_arrays
+from .library import find_library
 from .networks import from_networkx
 from .program import find_program, version
 from .reader import read
@@ -75,6 +77,7 @@ __all__ = [
     "checksum",
     "compare",
     "differences",
+    "find_library",
     "find_program",
     "from_arrays",
     "from_networkx",

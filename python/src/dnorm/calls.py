@@ -60,11 +60,16 @@ def checksum(file: File, form: int = 1, *, program: Program = None, timeout: Opt
 
 def canon_into(sink: Sink, file: File, form: int, program: Program, timeout: Optional[float] = None) -> None:
     """Writes the canonical text of a text into a sink."""
-    if form not in (1, 2):
-        raise ValueError(f"form is 1 or 2, and not {form!r}")
+    check_form(form)
     status = run(lambda name: ["canon", "--form", str(int(form)), name], [file], sink, program, timeout)
     if status:
         raise unexpected(name_of(file), status, "")
+
+
+def check_form(form: int) -> None:
+    """Raises ValueError for a number that is no form."""
+    if form not in (1, 2):
+        raise ValueError(f"form is 1 or 2, and not {form!r}")
 
 
 def compare(

@@ -125,7 +125,8 @@ class Write(Failed):
 
 
 class NoProgram(Failed):
-    """The program cannot be found or started, or is another program. `name` is the name of the program."""
+    """The program cannot be found or started, or is another program; or the library that `$DNORM_LIBRARY` names cannot
+    be used. `name` is the name of the program or the library."""
 
     what = ": cannot be run"
 

@@ -145,29 +145,67 @@ def text_of(file: File, name: str, stack: contextlib.ExitStack, limit: Limit) ->
     return pieces(Timed(found, limit), start) if start else found
 
 
-class Source:
+class Text:
+    """A text that is read once, from its beginning: `is_file` says whether its bytes are those of an open file, and
+    `is_compressed` whether a file is decompressed. The stack closes what is opened."""
+
+    def __init__(self, file: File, stack: contextlib.ExitStack, limit: Limit) -> None:
+        self.file, self.name, self.limit = file, name_of(file), limit
+        self.text = text_of(file, self.name, stack, limit)
+        self.is_file = isinstance(self.text, io.FileIO)
+        self.is_compressed = isinstance(file, (str, os.PathLike)) and not self.is_file
+        self._pieces: Iterator[bytes] | None = None
+
+    def next_piece(self) -> bytes | None:
+        """Returns the next piece, if there is one."""
+        if self._pieces is None:
+            self._pieces = self._all()
+        with failing(Read, self.name):
+            return next(self._pieces, None)
+
+    def _all(self) -> Iterator[bytes]:
+        """Returns the pieces of the text."""
+        if not isinstance(self.text, io.FileIO):
+            return self.text
+        return of_stream(self.text) if self.limit.seconds is None else of_stream(Timed(self.text, self.limit))
+
+    def cause(self, error: Refused) -> Cause | None:
+        """Returns the cause of a refusal, if the text can be read again."""
+        if isinstance(self.file, (str, os.PathLike)):
+            if not os.path.isfile(self.file):
+                return None
+        elif hasattr(self.file, "read"):
+            return None
+        with contextlib.suppress(DnormError, OSError, EOFError):
+            name = self.name if self.is_file else None
+            return cause_of(self._again, name, error.line, error.number, error.node)
+        return None
+
+    @contextlib.contextmanager
+    def _again(self) -> Iterator[Iterator[bytes]]:
+        """Opens the text once more."""
+        with contextlib.ExitStack() as stack:
+            text = text_of(self.file, self.name, stack, self.limit)
+            yield of_stream(text) if isinstance(text, io.FileIO) else text
+
+
+class Source(Text):
     """A text that the program reads from `end`, whose descriptor is `fd` and whose path is `place`. That is the file
     itself, if its bytes are the text, or else the end of a pipe that `feed` writes to; but if a folder is given, it is
     a file of its own there, which has the text already. `failure` is why reading the text failed, and `sure` is the
-    number of its lines that were read whole before. The stack closes what is opened."""
+    number of its lines that were read whole before."""
 
     def __init__(self, file: File, stack: contextlib.ExitStack, limit: Limit, folder: str | None = None) -> None:
-        self.file, self.name, self.sure = file, name_of(file), 0
-        self._limit = limit
+        super().__init__(file, stack, limit)
+        self.sure = 0
         self.failure: Read | None = None
         self._into: BinaryIO | None = None
-        self._pieces: Iterator[bytes] = iter(())
-        text = text_of(file, self.name, stack, limit)
-        self._is_file = isinstance(text, io.FileIO)
-        self._is_compressed = isinstance(file, (str, os.PathLike)) and not self._is_file
         if folder is not None:
-            self._pieces = of_stream(text) if isinstance(text, io.FileIO) else text
             self.place = self._into_file(folder, stack)
             end: BinaryIO = stack.enter_context(open(self.place, "rb", buffering=0))
-        elif isinstance(text, io.FileIO):
-            end = text
+        elif isinstance(self.text, io.FileIO):
+            end = self.text
         else:
-            self._pieces = text
             reads, writes = os.pipe()
             end = stack.enter_context(open(reads, "rb", buffering=0))
             self._into = stack.enter_context(open(writes, "wb", buffering=0))
@@ -191,11 +229,11 @@ class Source:
         if not self._into:
             return
         try:
-            while (piece := self._next()) is not None:
-                self._limit.left()
+            while (piece := self.next_piece()) is not None:
+                self.limit.left()
                 is_taken = takes(self._into, piece)
                 # Only the end of a compressed file tells whether its lines are right, so it is read to its end.
-                if not self._is_compressed:
+                if not self.is_compressed:
                     if not is_taken:
                         break
                     self.sure += piece.count(b"\n")
@@ -204,30 +242,6 @@ class Source:
             takes(self._into, BAD_LINE)
         self._into.close()
         self._into = None
-
-    def cause(self, error: Refused) -> Cause | None:
-        """Returns the cause of a refusal, if the text can be read again."""
-        if isinstance(self.file, (str, os.PathLike)):
-            if not os.path.isfile(self.file):
-                return None
-        elif hasattr(self.file, "read"):
-            return None
-        with contextlib.suppress(DnormError, OSError, EOFError):
-            name = self.name if self._is_file else None
-            return cause_of(self._again, name, error.line, error.number, error.node)
-        return None
-
-    @contextlib.contextmanager
-    def _again(self) -> Iterator[Iterator[bytes]]:
-        """Opens the text once more."""
-        with contextlib.ExitStack() as stack:
-            text = text_of(self.file, self.name, stack, self._limit)
-            yield of_stream(text) if isinstance(text, io.FileIO) else text
-
-    def _next(self) -> bytes | None:
-        """Returns the next piece, if there is one."""
-        with failing(Read, self.name):
-            return next(self._pieces, None)
 
 
 class Sink:

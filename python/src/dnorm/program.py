@@ -16,7 +16,7 @@ from typing import IO, Any, Union
 
 from .compressed import SIZE
 from .errors import DnormError, Endless, Killed, Memory, NoProgram, Read, Refused, Unexpected, Write
-from .files import File, Sink, Source, name_of, reason_of
+from .files import File, Sink, Source, Text, name_of, reason_of
 from .limits import Limit
 from .refusals import REFUSALS
 
@@ -35,6 +35,8 @@ PARTS = {34: (False, False), 35: (False, True), 36: (False, False)}
 versions: dict[tuple[str, ...], str] = {}
 # The bytes that a pipe of the program's output holds, if the system lets it.
 WIDTH = 1 << 17
+# Why no program starts after Children.stop.
+STOPPED = "all runs were stopped"
 # Where to get the program.
 WHERE = "the wheel for Linux on x86-64 brings it, and the manual names other ways under Python"
 
@@ -73,13 +75,18 @@ class Children:
         # `stop` waits for a process that is being started.
         with self._lock:
             if self._is_stopped:
-                raise NoProgram(words[0], "all runs were stopped")
+                raise NoProgram(words[0], STOPPED)
             try:
                 process = subprocess.Popen(words, bufsize=0, **streams)
             except (OSError, ValueError) as error:
                 raise NoProgram(words[0], reason_of(error)) from error
             self._running.add(process)
             return process
+
+    def go_on(self) -> None:
+        """Raises NoProgram once `stop` was called."""
+        if self._is_stopped:
+            raise NoProgram("dnorm", STOPPED)
 
     def stop(self) -> None:
         """Kills all processes that run, and lets no other start."""
@@ -198,7 +205,7 @@ def run(
     return status
 
 
-def with_cause(error: Refused, source: Source) -> Refused:
+def with_cause(error: Refused, source: Text) -> Refused:
     """Returns a refusal with its cause, if that can be found."""
     cause = source.cause(error)
     if not cause:

@@ -1,17 +1,20 @@
-"""Reads instances from canonical texts."""
+"""Reads instances: by the library for C, or from canonical texts."""
 
 from __future__ import annotations
 
+import contextlib
 import re
 from array import array
 from typing import Any, Optional, Union
 
-from .calls import canon_into
+from .calls import canon_into, check_form
 from .columns import Growing
 from .digits import Digits
 from .errors import Unexpected
-from .files import File, Sink, name_of
+from .files import File, Sink, Text, name_of
 from .instances import Co, Max, Min, P2p, Sp, Ss
+from .library import instance_of, library_of
+from .limits import Limit
 from .lines import COUNTED, PROBLEM
 from .program import Program, unexpected
 
@@ -108,20 +111,36 @@ class Reader:
 def read(
     file: File, form: int = 1, *, program: Program = None, timeout: Optional[float] = None
 ) -> Union[Sp, Max, Min, Ss, P2p, Co]:
-    """Returns the instance that a text poses, by its canonical text: an `Sp`, `Max`, `Min`, `Ss`, `P2p` or `Co`. `form`
-    is 1 or 2, and matters only for `Min`."""
+    """Returns the instance that a text poses: an `Sp`, `Max`, `Min`, `Ss`, `P2p` or `Co`. `form` is 1 or 2, and matters
+    only for `Min`. The library for C reads it where `find_library` finds it, and the program by its canonical text
+    elsewhere."""
+    check_form(form)
+    library = library_of(program)
+    if library:
+        limit = Limit(timeout, name_of(file))
+        with contextlib.ExitStack() as stack:
+            found = stack.enter_context(instance_of(library, Text(file, stack, limit), int(form)))
+            flows = dict(found.items()) if found.kind == "min" else {}
+            terminals = dict(zip((b"s", b"t"), found.items()[0])) if found.kind == "max" else {}
+            return instance(found.kind, found.nodes, flows, terminals, found.columns())
     reader = Reader(name_of(file))
     canon_into(Sink("out", reader.take), file, form, program, timeout)
     reader.end()
     columns = [it.column() for it in reader.columns]
-    nodes, terminals = reader.nodes, reader.terminals
-    if reader.kind == "min":
+    return instance(reader.kind, reader.nodes, reader.flows, reader.terminals, columns)
+
+
+def instance(
+    kind: str, nodes: int, flows: dict[int, int], terminals: dict[bytes, int], columns: list[Any]
+) -> Union[Sp, Max, Min, Ss, P2p, Co]:
+    """Returns an instance of a kind."""
+    if kind == "min":
         tails, heads, lows, caps, costs = columns
-        return Min(nodes, tails, heads, reader.flows, lows, caps, costs)
-    if reader.kind == "max":
+        return Min(nodes, tails, heads, flows, lows, caps, costs)
+    if kind == "max":
         tails, heads, capacities = columns
         return Max(nodes, tails, heads, terminals[b"s"], terminals[b"t"], capacities)
-    if reader.kind == "sp":
+    if kind == "sp":
         return Sp(nodes, *columns)
     companions: dict[str, type[Union[Ss, P2p, Co]]] = {"ss": Ss, "p2p": P2p, "co": Co}
-    return companions[reader.kind](*columns)
+    return companions[kind](*columns)

@@ -7,12 +7,16 @@ use Rattle.dn_arc.specs.declared.arc.LengthArc.{LengthArc}
 use Rattle.dn_arc.specs.declared.arc.CapArc.{CapArc}
 use Rattle.dn_arc.specs.declared.arc.CostArc.{CostArc}
 use Rattle.dn_bundle.specs.State.Listings.{least_arcs, total_arcs, curve_arcs}
-use Rattle.dn_instance.specs.State.Helds.{Contents, OfMin, OfMax, OfSp, OfSs, OfP2p, OfCo, OfHeld}
+use Rattle.dn_line.specs.Names.{kind_name}
+use Rattle.dn_instance.specs.Refusals.{refusal_name}
+use Rattle.dn_instance.specs.State.Helds.{Contents, contents_kind, OfMin, OfMax, OfSp, OfSs, OfP2p, OfCo, OfHeld}
 use Rattle.dn_instance.specs.declared.refusal.Refusal.{Refusal}
 use Rattle.dn_canon.specs.State.ListedArcs.{listed_arcs}
 use Rattle.dn_canon.specs.State.Runs.{TextOutcome}
 use Rattle.dn_c.specs.State.Items.{flow_item, point_item, id_item, pair_item}
+use Rattle.dn_c.specs.State.Places.{rows_from}
 use Rattle.dn_c.specs.State.Rows.{rows_by}
+use Rattle.dn_c.specs.declared.next.Place.{Place}
 use Rattle.dn_c.specs.declared.items.Item.{Item}
 use Rattle.dn_instance.specs.declared.refusal.Refusal.TheVariants.{Memory}
 use Rattle.dn_c.specs.State.Statuses.{fine, wrong_call, refusal_status}
@@ -40,11 +44,40 @@ CopiesArcs (Works.Read held) form from old new n =
     take n new ≡ take (length old) (drop from (arcs_of (form_of form) held.contents))
 CopiesArcs _ form from old new n = (n ≡ 0) × (new ≡ old)
 
+-- the canonical arcs of a graph in this form after this place, as C has them; a companion has none
+abbrev pub arcs_from : Form → Place → Contents → List Arc
+arcs_from form place (OfMin flows table) =
+    rows_from (λ (a : CostArc). a.low ∷ a.cap ∷ a.cost ∷ []) (curve_arcs form) table place
+arcs_from form place (OfMax source sink table) = rows_from (λ (a : CapArc). a.cap ∷ []) total_arcs table place
+arcs_from form place (OfSp table) = rows_from (λ (a : LengthArc). a.length ∷ []) least_arcs table place
+arcs_from form place _ = []
+
+-- the canonical arcs after this place of the instance of a work, as C has them; any other work has none
+abbrev pub left_of : Work → ℕ → Place → List Arc
+left_of (Works.Read held) form place = arcs_from (form_of form) place held.contents
+left_of _ form place = []
+
+-- the n canonical arcs after the old place are copied, as many as there is room for, and the new place is after them
+abbrev pub CopiesNext : Work → ℕ → Place → Place → List Arc → List Arc → ℕ → Type 0
+CopiesNext work form old_place place old new n =
+    (take n new ≡ take (length old) (left_of work form old_place))
+    × (left_of work form place ≡ drop n (left_of work form old_place))
+
 -- n bytes of the text from the one at `from`, counted from 0, are copied, as many as there is room for; of any other
 -- work, none are
 abbrev pub CopiesText : Work → ℕ → List ℕ → List ℕ → ℕ → Type 0
 CopiesText (Works.Text text) from old new n = take n new ≡ take (length old) (drop from text.items)
 CopiesText _ from old new n = (n ≡ 0) × (new ≡ old)
+
+-- the name of what a work holds: that of a refusal, or that of an instance's kind
+abbrev pub name_of : Work → List ℕ
+name_of (Works.Refused refusal) = refusal_name refusal
+name_of (Works.Read held) = kind_name (contents_kind held.contents)
+name_of _ = []
+
+-- n bytes of the name are copied, as many as there is room for
+abbrev pub CopiesName : Work → List ℕ → List ℕ → ℕ → Type 0
+CopiesName work old new n = take n new ≡ take (length old) (name_of work)
 
 -- the canonical text of the instance in this form, or why there is none
 abbrev pub Prints : Work → ℕ → Result (Vec ℕ) Status → Type 0

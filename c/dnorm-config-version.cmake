@@ -1,0 +1,18 @@
+# Says which versions find_package(dnorm VERSION) finds: this one, and earlier ones with the same first number.
+set(PACKAGE_VERSION "@VERSION@")
+string(REGEX REPLACE "[^0-9].*" "" dnorm_first "${PACKAGE_VERSION}")
+if(PACKAGE_FIND_VERSION_MAJOR STREQUAL dnorm_first AND NOT PACKAGE_VERSION VERSION_LESS PACKAGE_FIND_VERSION)
+  set(PACKAGE_VERSION_COMPATIBLE TRUE)
+else()
+  set(PACKAGE_VERSION_COMPATIBLE FALSE)
+endif()
+string(REGEX REPLACE "-.*" "" dnorm_number "${PACKAGE_VERSION}")
+if(PACKAGE_FIND_VERSION VERSION_EQUAL dnorm_number)
+  set(PACKAGE_VERSION_EXACT TRUE)
+endif()
+# The libraries are those of a platform with pointers of 64 bits.
+if(CMAKE_SIZEOF_VOID_P AND NOT CMAKE_SIZEOF_VOID_P EQUAL 8)
+  set(PACKAGE_VERSION_UNSUITABLE TRUE)
+endif()
+unset(dnorm_first)
+unset(dnorm_number)

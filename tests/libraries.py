@@ -1,0 +1,192 @@
+"""Tests where the Python package finds the library for C, and that `read` gives the same by it as by the program, also
+with little memory and from several threads; and that no other library is used, one of another version least of all.
+`tests/python` runs these tests, each in a folder of its own."""
+
+import os
+import random
+import shutil
+import sys
+from collections.abc import Callable
+from concurrent.futures import ThreadPoolExecutor
+
+# This puts the folder of the package on the path.
+from calls import COLUMNS, PACKAGE, fake, told
+from known import CANONICAL, ROADS
+from reading import COUNTED
+from shared import ROOT, Tally, run, write
+from texts import lines_of, made, spelled
+
+import dnorm
+import dnorm.library
+from dnorm.program import children
+
+LIBRARY = f"{ROOT}/c/out/lib/libdnorm.so.1"
+SEED, ROUNDS = 77, 100
+# Other files of the name of the library: what each is made of, by a C compiler or as it is, and why it is none.
+OTHERS = {
+    "another": ("unsigned dnorm_abi(void) { return 2; }", "its interface has the number 2, and not 1"),
+    "half": ("unsigned dnorm_abi(void) { return 1; }", "undefined symbol: dnorm_begin"),
+    "foreign": ("int other(void) { return 1; }", "undefined symbol: dnorm_abi"),
+    "text": (None, "file too short"),
+}
+# A process that reads texts until there is too little memory, with more of it each time.
+LITTLE = """
+import dnorm, resource, sys
+dnorm.read(b"p sp 0 0\\n")
+text = open("large.gr", "rb").read()
+now = int(open("/proc/self/statm").read().split()[0]) * resource.getpagesize()
+answers = []
+for more in range(0, 64 << 20, 1 << 20):
+    resource.setrlimit(resource.RLIMIT_AS, (now + more, resource.RLIM_INFINITY))
+    try:
+        answers.append(len(dnorm.read(text)))
+    except (dnorm.Memory, MemoryError) as error:
+        answers.append(type(error).__name__)
+print(*sorted({str(it) for it in answers}))
+"""
+# A process that reads many texts, and says how much memory that took, in kB.
+MANY = """
+import dnorm, resource
+text = open("large.gr", "rb").read()
+peaks = []
+for _ in range(2):
+    for _ in range(20):
+        dnorm.read(text)
+    peaks.append(resource.getrusage(resource.RUSAGE_SELF).ru_maxrss)
+print(peaks[1] - peaks[0])
+"""
+
+
+def python(script: str, **own: str) -> str:
+    """Returns what a script prints, by a process of its own."""
+    environment = {**os.environ, "PYTHONPATH": PACKAGE, "PYTHONDONTWRITEBYTECODE": "1", **own}
+    ran = run([sys.executable, "-c", script], env=environment)
+    return ran.out.decode().strip() if ran.status == 0 else f"status {ran.status}: {ran.err.decode()[-300:]}"
+
+
+def with_environment(call: Callable[[], object], **own: str | None) -> str:
+    """Returns what a call gives, with these variables, or without those that are None."""
+    kept = {it: os.environ.get(it) for it in own}
+    change(own)
+    found = told(call)
+    change(kept)
+    return found
+
+
+def change(own: dict[str, str | None]) -> None:
+    for name, value in own.items():
+        if value is None:
+            os.environ.pop(name, None)
+        else:
+            os.environ[name] = value
+
+
+def places(tally: Tally, tested: str) -> None:
+    """Tests the places of the library beside the program, and when it is not used."""
+    rows = {"usual/bin": "usual/lib", "debian/bin": "debian/lib/x86_64-linux-gnu", "archive": "archive/lib"}
+    rows["alone"] = ""
+    for folder, place in rows.items():
+        os.makedirs(folder)
+        shutil.copy(tested, f"{folder}/dnorm")
+        if place:
+            os.makedirs(place)
+            shutil.copy(LIBRARY, place)
+        program = os.path.abspath(f"{folder}/dnorm")
+        os.makedirs(f"links/{folder}")
+        os.symlink(program, f"links/{folder}/dnorm")
+        wanted = f"{os.path.abspath(place)}/libdnorm.so.1\n" if place else "None\n"
+        for it in [program, os.path.abspath(f"links/{folder}/dnorm")]:
+            found = with_environment(lambda: dnorm.find_library(it), DNORM_LIBRARY=None)
+            tally.same(f"the library of {it}", found, wanted)
+            found = with_environment(dnorm.find_library, DNORM=it, DNORM_LIBRARY="")
+            tally.same(f"the library of $DNORM {it}", found, wanted)
+            found = with_environment(dnorm.find_library, DNORM=it, DNORM_LIBRARY="none")
+            tally.same(f"no library of {it}", found, "None\n")
+        found = with_environment(lambda: dnorm.find_library(f"env {program}"), DNORM_LIBRARY=None)
+        tally.same(f"the library of a command with {program}", found, "None\n")
+        found = with_environment(lambda: dnorm.find_library(program), DNORM_LIBRARY=LIBRARY)
+        tally.same(f"the library of the argument {program}", found, wanted)
+    found = with_environment(dnorm.find_library, DNORM="/none", DNORM_LIBRARY=LIBRARY)
+    tally.same("a library without a program", found, f"{LIBRARY}\n")
+    found = with_environment(lambda: next(dnorm.read(ROADS).rows()), DNORM="/none", DNORM_LIBRARY=LIBRARY)
+    tally.same("read without a program", found, "(1, 2, 3)\n")
+    found = with_environment(lambda: dnorm.read(ROADS), DNORM="/none", DNORM_LIBRARY=None)
+    tally.holds(f"neither: {found}", found.startswith("NoProgram: /none: "))
+
+
+def others(tally: Tally, tested: str) -> None:
+    """Tests that another library beside the program is left alone, and that one that is named is an error."""
+    if not shutil.which("cc"):
+        tally.leave_out("other libraries", "cc")
+        return
+    for name, (source, reason) in OTHERS.items():
+        os.makedirs(f"{name}/bin")
+        os.makedirs(f"{name}/lib")
+        shutil.copy(tested, f"{name}/bin/dnorm")
+        program, path = os.path.abspath(f"{name}/bin/dnorm"), os.path.abspath(f"{name}/lib/libdnorm.so.1")
+        write(f"{name}/it.c", source or "")
+        if source:
+            tally.wants(f"cc {name}", run(["cc", "-shared", "-fPIC", "-o", path, f"{name}/it.c"]))
+        else:
+            write(path, "text")
+        found = with_environment(lambda: dnorm.find_library(program), DNORM_LIBRARY=None)
+        tally.same(f"the library {name}", found, "None\n")
+        found = with_environment(lambda: dnorm.read(ROADS, program=program), DNORM_LIBRARY=None)
+        tally.same(f"read beside the library {name}", found, "<dnorm.Sp: 3 nodes, 5 arcs>\n")
+        found = with_environment(lambda: dnorm.read(ROADS), DNORM_LIBRARY=path)
+        is_told = found.startswith(f"NoProgram: {path}: cannot be run ($DNORM_LIBRARY names it, ") and reason in found
+        tally.holds(f"the library {name} by its name: {found}", is_told)
+    found = with_environment(lambda: dnorm.read(ROADS), DNORM_LIBRARY="/none")
+    tally.holds(f"no library: {found}", found.startswith("NoProgram: /none: cannot be run ($DNORM_LIBRARY names it, "))
+    slow = fake("slow", "exec sleep 60")
+    found = with_environment(lambda: dnorm.read(ROADS, program=slow, timeout=0.3), DNORM_LIBRARY=LIBRARY)
+    tally.same("an argument is stronger", found, "TimedOut: -: took more than 0.3 seconds")
+
+
+def same_instances(tally: Tally, _: str) -> None:
+    """Tests that both give equal instances, of all known and of random texts."""
+    chance = random.Random(SEED)
+    texts = [text for text, *_ in CANONICAL]
+    texts += [spelled(chance, lines_of(chance, made(chance, chance.choice([*COLUMNS])))) for _ in range(ROUNDS)]
+    count = 200_000
+    arcs = b"".join(b"a %d 1 1 3 -%d\n" % (it, it) for it in range(1, count + 1))
+    texts.append(b"p min %d %d\n" % (count, count) + arcs)
+    for text in texts:
+        for form in [1, 2]:
+            found: list[object] = []
+            for library in ["none", LIBRARY]:
+                os.environ["DNORM_LIBRARY"] = library
+                try:
+                    found.append(dnorm.read(text, form))
+                except dnorm.Refused as error:
+                    found.append(str(error))
+            tally.holds(f"both read {text!r:.200} alike in form {form}", found[0] == found[1])
+    os.environ["DNORM_LIBRARY"] = LIBRARY
+    kinds = {dnorm.read(text).kind for text, *_ in CANONICAL}
+    tally.same("kinds that were read", kinds, set(COUNTED))
+
+
+def in_threads(tally: Tally, _: str) -> None:
+    """Tests reads from several threads, that all of them stop, little memory, and a text without an end."""
+    os.environ["DNORM_LIBRARY"] = LIBRARY
+    texts = [b"p sp 9 2\na %d 2 7\na %d 3 7\n" % (it % 9 + 1, it % 9 + 1) for it in range(200)] + [b"p sp 1 1\nq\n"]
+    with ThreadPoolExecutor(8) as pool:
+        found = list(pool.map(lambda it: told(lambda: [*dnorm.read(it).rows()]), texts))
+    wanted = [f"{[(it % 9 + 1, 2, 7), (it % 9 + 1, 3, 7)]}\n" for it in range(200)] + ["Refused: -:2: 5 WrongLine"]
+    tally.same("reads from eight threads", found, wanted)
+    count = 100_000
+    write("large.gr", f"p sp {count} {count}\n" + "".join(f"a {it} 1 1\n" for it in range(1, count + 1)))
+    found_little = set(python(LITTLE).split())
+    is_known = {str(count), "Memory"} <= found_little <= {str(count), "Memory", "MemoryError"}
+    tally.holds(f"little memory: {found_little}", is_known)
+    more = python(MANY)
+    tally.holds(f"forty reads take {more} kB more than twenty", int(more) < 2000)
+    vars(children)["_is_stopped"] = True
+    tally.holds("a read that is stopped", told(lambda: dnorm.read(ROADS)).endswith("(all runs were stopped)"))
+    vars(children)["_is_stopped"] = False
+    kept, dnorm.library.ENDLESS = dnorm.library.ENDLESS, len(ROADS)
+    tally.same("a text without an end", told(lambda: dnorm.read(ROADS)), "Endless: -: 32 Endless")
+    dnorm.library.ENDLESS = kept
+
+
+TESTS = [places, others, same_instances, in_threads]
