@@ -1,19 +1,22 @@
 -- Lemmas on taking one row into a body, and on a body of one kind as a body of any kind.
-use Rattle.std.proofs.Common.{◌≡◌, ℤ, List, [], ◌∷◌, ◌++◌, Bool, true, not, int_lt, ◌&&◌, IsTrue, ◌↔◌, Option, Some, Result, Err, OnOk, OnErr, refl, sym, ap, ◌∙◌, subst, Vec, Global, BTreeMap, is_some, int_cmp, ◌^◌, pos, arith, inl, inr, ◌<◌, filter_map, length-append, ℕ}
+use Rattle.std.proofs.Common.{◌≡◌, ℤ, List, [], ◌∷◌, ◌++◌, Bool, true, not, int_lt, ◌&&◌, IsTrue, ◌↔◌, Option, Some, Result, Err, OnOk, OnErr, refl, sym, ap, ◌∙◌, subst, Vec, Global, BTreeMap, is_some, int_cmp, ◌^◌, pos, arith, inl, inr, ◌<◌, filter_map, length-append, ℕ, length}
 use Rattle.std.proofs.lemmas.Result.{on_err_weaker, on_ok_weaker}
 use Rattle.std.specs.BTreeMap.{is_at, insert_entry}
 use Rattle.std.specs.Map.{lookup}
+use Rattle.dn_line.specs.Faults.{first_fault}
+use Rattle.dn_line.specs.declared.code.Code.{Code}
 use Rattle.dn_line.specs.declared.code.Code.TheVariants.{NodeOutOfRange, LowAboveCap, RepeatedNode}
 use Rattle.dn_line.specs.declared.kind.Kind.{Kind}
 use Rattle.dn_line.specs.declared.kind.Kind.TheVariants as Kinds
 use Rattle.dn_line.specs.declared.line.Line.{Line}
+use Rattle.dn_line.specs.declared.line.Line.TheVariants as Item
 use Rattle.dn_line.specs.declared.row.Row.{Row}
 use Rattle.dn_arc.specs.Kinds.{lengths, capacities, costs, ArcKind}
 use Rattle.dn_arc.specs.State.Bundles.{BundleFacts, meant}
 use Rattle.dn_table.specs.State.Tables.{AreArcs, GraphNeedsMore, TableLists, Stays}
-use Rattle.dn_instance.specs.Items.{arcs_of, length_arc_in, cap_arc_in, cost_arc_in, Problem, problem_of, source_in, query_in, point_in, by_key}
-use Rattle.dn_instance.specs.TextFaults.{is_companion}
-use Rattle.dn_instance.specs.State.Bodies.{Awaits, IsArcOfRow, Keeps, TookRow, ids_body, pairs_body, points_body, table_body, TableHolds, TakerFacts, Counts, TakesRows, TookRows}
+use Rattle.dn_instance.specs.Items.{arcs_of, length_arc_in, cap_arc_in, cost_arc_in, Problem, problem_of, point_in, by_key}
+use Rattle.dn_instance.specs.TextFaults.{is_companion, item_tests}
+use Rattle.dn_instance.specs.State.Bodies.{Awaits, list_body, IsArcOfRow, Keeps, TookRow, ids_body, pairs_body, points_body, table_body, TableHolds, TakerFacts, Counts, TakesRows, TookRows}
 use Rattle.dn_instance.specs.State.ItemFaults.{AnswersFault, arc_fault, id_fault, in_graph, pair_fault, point_fault}
 use Rattle.dn_instance.specs.State.RowRuns.{counted_line, row_items}
 use Rattle.dn_instance.specs.declared.refusal.ItemFault.{ItemFault}
@@ -86,38 +89,37 @@ entries_more : (before : List Line) (p : Problem) (i : Line) (kind : Kind) → p
     → entries_as kind before < entries_as kind (before ++ i ∷ []) → NeedsMemory before i
 entries_more before p i kind h k more = inl (rw (problem_all before (i ∷ []) p h, h, k) more)
 
-pub ids_took : (nodes : ℤ) (ids ids' : Vec ℤ Global) (row : Row) (r : Result (Unit {0}) ItemFault) (before : List Line)
-    → AnswersFault r (id_fault row.first) → OnOk r (ids'.items ≡ ids.items ++ row.first ∷ [])
-    → Awaits ids_body nodes ids before (counted_line Kinds.Ss row ∷ [])
-    → TookRow ids_body (counted_line Kinds.Ss) before ids' row r
-ids_took nodes ids ids' row r before ans ok a =
-    let i = counted_line Kinds.Ss row in
-    let more = grown source_in before i row.first refl in
-    record {
-      answer = record {
-        fault = rw (a.problem_is, ap is_companion a.kind_is, and-true, and-true) ans;
-        memory = λ out. entries_more before a.problem i Kinds.Ss a.problem_is a.kind_is
-            (rw more (omega (arith, length-append (filter_map source_in before) (row.first ∷ []))));
-      };
-      holds = on_ok_weaker r (λ e. rw (more, ← a.holds) e) ok;
-    }
+-- an item of a list goes to its end
+module _ {X : Type 0} (kind : Kind) (item_in : Line → Option X) where
+  pub list_took : (nodes : ℤ) (list list' : Vec X Global) (row : Row) (x : X) (f : Option Code)
+      (r : Result (Unit {0}) ItemFault) (before : List Line) → item_in (counted_line kind row) ≡ Some x
+      → ((p : Problem) → problem_of before ≡ Some p → p.kind ≡ kind
+      → first_fault (item_tests before (Some (counted_line kind row))) ≡ f)
+      → ((items : List Line) → entries_as kind items ≡ length (filter_map item_in items)) → AnswersFault r f
+      → OnOk r (list'.items ≡ list.items ++ x ∷ [])
+      → Awaits (list_body kind item_in) nodes list before (counted_line kind row ∷ [])
+      → TookRow (list_body kind item_in) (counted_line kind) before list' row r
+  list_took nodes list list' row x f r before is faults entries ans ok a =
+      let i = counted_line kind row in
+      let more = grown item_in before i x is in
+      record {
+        answer = record {
+          fault = rw (faults a.problem a.problem_is a.kind_is) ans;
+          memory = λ out. entries_more before a.problem i kind a.problem_is a.kind_is
+              (rw (entries before, entries (before ++ i ∷ []), more)
+              (omega (arith, length-append (filter_map item_in before) (x ∷ []))));
+        };
+        holds = on_ok_weaker r (λ e. rw (more, ← a.holds) e) ok;
+      }
 
-pub pairs_took : (nodes : ℤ) (pairs pairs' : Vec (ℤ × ℤ) Global) (row : Row) (r : Result (Unit {0}) ItemFault)
-    (before : List Line) → AnswersFault r (pair_fault (row.first, row.second))
-    → OnOk r (pairs'.items ≡ pairs.items ++ (row.first, row.second) ∷ [])
-    → Awaits pairs_body nodes pairs before (counted_line Kinds.P2p row ∷ [])
-    → TookRow pairs_body (counted_line Kinds.P2p) before pairs' row r
-pairs_took nodes pairs pairs' row r before ans ok a =
-    let i = counted_line Kinds.P2p row in
-    let more = grown query_in before i (row.first, row.second) refl in
-    record {
-      answer = record {
-        fault = simp (a.problem_is, ap is_companion a.kind_is, and-true) ans;
-        memory = λ out. entries_more before a.problem i Kinds.P2p a.problem_is a.kind_is
-            (rw more (omega (arith, length-append (filter_map query_in before) ((row.first, row.second) ∷ []))));
-      };
-      holds = on_ok_weaker r (λ e. rw (more, ← a.holds) e) ok;
-    }
+-- the fault of a line with one ID, and of a line with two
+pub id_faults : (before : List Line) (id : ℤ) (p : Problem) → problem_of before ≡ Some p → p.kind ≡ Kinds.Ss
+    → first_fault (item_tests before (Some (Item.Source id))) ≡ id_fault id
+id_faults before id p h k = rw (h, ap is_companion k, and-true, and-true)
+
+pub pair_faults : (before : List Line) (q : ℤ × ℤ) (p : Problem) → problem_of before ≡ Some p
+    → p.kind ≡ Kinds.P2p → first_fault (item_tests before (Some (Item.Query q.0 q.1))) ≡ pair_fault q
+pair_faults before q p h k = simp (h, ap is_companion k, and-true)
 
 -- memory runs out only at a point of a new ID
 pub points_took : (nodes : ℤ) (points points' : BTreeMap ℤ (ℤ × ℤ)) (row : Row) (r : Result (Unit {0}) ItemFault)

@@ -27,9 +27,7 @@ pub entries_few : (I : Instance) → entries_of I ≤ 2 * size_of I
 entries_few (MinCostFlow supplies graph) = graph_few costs costs_few graph.arcs
 entries_few (MaxFlow source sink graph) = graph_few capacities capacities_few graph.arcs
 entries_few (ShortestPaths graph) = graph_few lengths lengths_few graph.arcs
-entries_few (Sources ids) = omega arith
-entries_few (Queries pairs) = omega arith
-entries_few (Coordinates points) = omega arith
+entries_few _ = omega arith
 
 -- the number of entries fits 64 bits if the size fits 64 signed bits
 pub entries_fit : (I : Instance) (size : ℤ) → FitsSigned w64 size → size ≡ pos (size_of I) → entries_of I < 2 ^ 64

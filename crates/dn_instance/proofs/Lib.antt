@@ -19,3 +19,4 @@ pub mod OrderLaws
 pub mod RowLinesLaws
 pub mod MarksLaws
 pub mod BodyLaws
+pub mod CompanionLaws

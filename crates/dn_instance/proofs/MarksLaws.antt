@@ -1,5 +1,5 @@
 -- Lemmas on `n` lines: what the marks hold after them, and that other lines keep what the marks hold.
-use Rattle.std.proofs.Common.{◌≡◌, ℤ, List, [], ◌∷◌, ◌++◌, true, false, ◌||◌, not, Option, Some, None, is_some, IsSome, Result, Ok, Err, OnOk, OnErr, refl, sym, ap, ◌∙◌, append-nil, append_assoc, inr, filter_map, pos, Bool, cond, ◌&&◌, inl, int_cmp, int_eq, BTreeMap, BTreeSet, option_map}
+use Rattle.std.proofs.Common.{◌≡◌, ℤ, List, [], ◌∷◌, ◌++◌, true, false, ◌||◌, not, Option, Some, None, is_some, IsSome, Result, Ok, Err, OnOk, OnErr, refl, sym, ap, ◌∙◌, append-nil, append_assoc, inr, filter_map, pos, Bool, cond, ◌&&◌, inl, int_cmp, int_eq, BTreeMap, BTreeSet, option_map, rules}
 use Rattle.dn_instance.proofs.CleanItems.{or_none}
 use Rattle.dn_instance.proofs.ValidLaws.{terminal_more, kept, grown}
 use Rattle.std.specs.List.{AllByRecursion, list_any}
@@ -153,12 +153,7 @@ table_kept kind arc_in lists table before i e t =
 makes_none : (i : Line) → is_counted i ≡ false → (cost_arc_in i ≡ None) × (cap_arc_in i ≡ None)
     × (length_arc_in i ≡ None) × (source_in i ≡ None) × (query_in i ≡ None) × (point_in i ≡ None)
 makes_none (Item.MinArc _ _ _ _ _) h = cc
-makes_none (Item.MaxArc _ _ _) h = cc
-makes_none (Item.SpArc _ _ _) h = cc
-makes_none (Item.Source _) h = cc
-makes_none (Item.Query _ _) h = cc
-makes_none (Item.Point _ _ _) h = cc
-makes_none _ h = (refl, refl, refl, refl, refl, refl)
+makes_none _ h = first_of (cc, search rules)
 
 pub body_kept : (b : AnyBody) (before : List Line) (i : Line) → is_counted i ≡ false → BodyHolds b before
     → BodyHolds b (before ++ i ∷ [])

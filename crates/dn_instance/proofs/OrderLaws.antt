@@ -33,9 +33,6 @@ node_head _ named h = cc
 not_node_head : (key : Option Keyword) (named : Option Kind) → is_counted_letter key ≡ true
     → head_of key named ≡ Heads.Node → ⊥
 not_node_head (Some Key.A) named h e = cc
-not_node_head (Some Key.S) named h e = cc
-not_node_head (Some Key.Q) named h e = cc
-not_node_head (Some Key.V) named h e = cc
 not_node_head _ named h e = cc
 
 module _ (kind : Kind) (head : Head) (is : IsRowHead kind head) (before : List Line) (r : RowLine) (p : Problem)

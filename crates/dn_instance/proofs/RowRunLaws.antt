@@ -1,5 +1,5 @@
 -- Lemmas on rows that are taken one after another.
-use Rattle.std.proofs.Common.{◌≡◌, ◌<◌, ◌≤◌, ◌+◌, ◌^◌, ◌-ℤ◌, negsuc, w64, ℕ, zero, suc, ℤ, pos, ◌≤ℤ◌, ◌<ℤ◌, List, [], ◌∷◌, ◌++◌, length, take, drop, get_or, filter, true, false, int_lt, Option, Some, None, refl, sym, ◌∙◌, subst, ap, arith, append-nil, append_assoc, add-one, length-take-le, MatchOption, take-suc, Result, Ok, Err, OnErr, inl, inr}
+use Rattle.std.proofs.Common.{◌≡◌, ◌<◌, ◌≤◌, ◌+◌, ◌^◌, ◌-ℤ◌, negsuc, w64, ℕ, zero, suc, ℤ, pos, ◌≤ℤ◌, ◌<ℤ◌, List, [], ◌∷◌, ◌++◌, length, take, drop, get_or, filter, true, false, int_lt, Option, Some, None, refl, sym, ◌∙◌, subst, ap, arith, append-nil, append_assoc, add-one, length-take-le, MatchOption, take-suc, Result, Ok, Err, OnErr, inl, inr, rules}
 use Rattle.std.specs.List.{AllByRecursion, list_any}
 use Rattle.std.specs.Int.{saturate_signed}
 use Rattle.std.proofs.Math.Nat.{min-eq_left}
@@ -12,7 +12,7 @@ use Rattle.dn_line.specs.Faults.{first_fault}
 use Rattle.dn_line.specs.State.RowItems.{item_of_row, letter_named}
 use Rattle.dn_line.specs.State.Spelling.{kind_before}
 use Rattle.dn_line.specs.declared.kind.Kind.{Kind}
-use Rattle.dn_line.specs.declared.kind.Kind.TheVariants.{Min, Max, Sp, Ss, P2p, Co}
+use Rattle.dn_line.specs.declared.kind.Kind.TheVariants.{Min, Max, Sp}
 use Rattle.dn_line.specs.declared.line.Head.{Head}
 use Rattle.dn_line.specs.declared.line.Head.TheVariants as Heads
 use Rattle.dn_line.specs.declared.line.Line.{Line}
@@ -260,14 +260,8 @@ row_head_is : (head : Head) (kind : Kind) (row : Row) → kind_before (item_of_r
 row_head_is (Heads.Problem k) kind row h p n = absurd (p k refl)
 row_head_is Heads.Node Min row h p n = inl (refl, refl)
 row_head_is Heads.Node Max row h p n = absurd (n refl refl)
-row_head_is Heads.Arc Min row h p n = inr refl
-row_head_is Heads.Arc Max row h p n = inr refl
-row_head_is Heads.Arc Sp row h p n = inr refl
-row_head_is Heads.Source Ss row h p n = inr refl
-row_head_is Heads.Query P2p row h p n = inr refl
-row_head_is Heads.Point Co row h p n = inr refl
-row_head_is _ Min row h p n = cc
-row_head_is _ _ row h p n = cc
+row_head_is _ Min row h p n = first_of (cc, search rules)
+row_head_is _ _ row h p n = first_of (cc, search rules)
 
 -- a run of the row of the next line
 pub took_one : (t u : TextSoFar) (head : Head) (row : Row) (k : Taken)

@@ -80,9 +80,7 @@ pub refl_of : (I : Instance) → IsSame I I
 refl_of (MinCostFlow s G) = (refl, graph_refl costs curve_meaning G)
 refl_of (MaxFlow a b G) = (refl, refl, graph_refl capacities total_meaning G)
 refl_of (ShortestPaths G) = graph_refl lengths length_meaning G
-refl_of (Sources xs) = refl
-refl_of (Queries xs) = refl
-refl_of (Coordinates xs) = refl
+refl_of _ = refl
 
 pub sym_of : (I J : Instance) → IsSame I J → IsSame J I
 sym_of (MinCostFlow s G) (MinCostFlow t H) e = (sym e.0, graph_sym costs curve_meaning G H e.1)

@@ -84,13 +84,17 @@ module _ {T : Type 0} (taker : TakerFacts T) where
       (items : List Line) → taker.Holds held items → entries_by (Some taker.kind) items < 2 ^ 64
       → n ≡ entries_by (Some taker.kind) items
 
+-- the items of a list, in the order of the file
+abbrev pub list_body : {X : Type 0} → Kind → (Line → Option X) → TakerFacts (Vec X Global)
+list_body kind item_in = record { kind = kind; Holds = λ list items. list.items ≡ filter_map item_in items }
+
 -- the IDs of an `ss` text
 abbrev pub ids_body : TakerFacts (Vec ℤ Global)
-ids_body = record { kind = Ss; Holds = λ ids items. ids.items ≡ filter_map source_in items }
+ids_body = list_body Ss source_in
 
 -- the pairs of a `p2p` text
 abbrev pub pairs_body : TakerFacts (Vec (ℤ × ℤ) Global)
-pairs_body = record { kind = P2p; Holds = λ pairs items. pairs.items ≡ filter_map query_in items }
+pairs_body = list_body P2p query_in
 
 -- the points of a `co` text
 abbrev pub points_body : TakerFacts (BTreeMap ℤ (ℤ × ℤ))
