@@ -1,0 +1,4 @@
+pub mod KeyLaws
+pub mod LinkLaws
+pub mod WalkLaws
+pub mod NodeLaws

@@ -1,0 +1,145 @@
+// Which value each node leads to.
+ghost use Rattle.std.specs.Prelude.{◌≡◌, ◌<◌, ◌≤◌, ◌++◌, ◌≤ℤ◌, ℕ, ℤ, pos, List, [], None, OnOk, OnErr, length, slice_get};
+ghost use Rattle.std.specs.List.{AllByRecursion};
+ghost use Rattle.std.specs.Ordering.{int_cmp};
+ghost use Rattle.std.specs.Map.{lookup};
+ghost use Rattle.std.specs.BTreeMap.{insert_entry};
+ghost use Rattle.dn_nodes.specs.State.Nodes.{at, Rises};
+ghost use Rattle.dn_nodes.specs.State.Links.{direct, AreFar};
+
+use crate::walk::LinksIter;
+use std::alloc::{AllocError, Global};
+use std::collections::BTreeMap;
+use std::marker::Model;
+
+// The list of links reaches up to this many nodes for each value.
+const DENSE: usize = 8;
+
+/// The links of the nodes, by ascending node. Of the nodes from 0 on, those below the length of `links` have their
+/// links there, where 0 is no link. All other nodes are in maps. A node that the list comes to reach moves there, so
+/// both ways to find a node are always there, and none is ever turned into the other as a whole.
+#[derive(Drop)]
+pub(crate) struct Links {
+    below: BTreeMap<i64, usize>,
+    links: Vec<usize>,
+    above: BTreeMap<i64, usize>,
+}
+
+impl Model for Links {
+    ghost use Rattle.std.specs.Prelude.{ℕ, ℤ, pos, List, ◌++◌, ◌<ℤ◌, length};
+    ghost use Rattle.std.specs.List.{AllByRecursion};
+    ghost use Rattle.dn_nodes.specs.State.Links.{direct, AreFar, AreBelow};
+    ghost use Rattle.dn_nodes.specs.State.Nodes.{Rises};
+
+    ghost Value = { List (ℤ × ℕ) };
+
+    ghost view = { λ t. t.below.entries ++ (direct 0 t.links.items ++ t.above.entries) };
+
+    ghost invariant = { λ t. AreBelow t.below.entries × AreFar (length t.links.items) t.above.entries
+        × Rises t.below.entries × Rises t.above.entries };
+}
+
+// Returns the place of a node in a list of links.
+fn place_of(node: &i64) -> usize
+    requires { pos 0 ≤ℤ node.now }
+    ensures { pos result ≡ node.now }
+{
+    *node as usize
+}
+
+// Returns the link at a place, if the list reaches there.
+fn link_at(links: &[usize], place: usize) -> Option<usize>
+    ensures { result ≡ slice_get links.now place }
+{
+    links.get(place).copied()
+}
+
+// Makes the list reach this node, and moves the nodes that it reaches from the map. If an allocation fails, nothing has
+// changed.
+fn reach(
+    links: &mut Vec<usize>,
+    above: &mut BTreeMap<i64, usize>,
+    place: usize,
+) -> Result<(), AllocError>
+    requires beyond { length links.old.items ≤ place }
+    requires far { AreFar (length links.old.items) above.old.entries }
+    requires rises { Rises above.old.entries }
+    ensures same { direct 0 links.new.items ++ above.new.entries ≡ direct 0 links.old.items ++ above.old.entries }
+    ensures far { AreFar (length links.new.items) above.new.entries }
+    ensures rising { Rises above.new.entries }
+    ensures ok { OnOk result (place < length links.new.items) }
+    ensures err_links { OnErr result (links.new.items ≡ links.old.items) }
+    ensures err_above { OnErr result (above.new.entries ≡ above.old.entries) }
+{
+    let Some(len) = place.checked_add(1) else {
+        return Err(AllocError);
+    };
+    links.resize(len, 0)?;
+    while let Some((node, _)) = above.first_key_value() {
+        if len <= place_of(node) {
+            break;
+        }
+        let Some((node, link)) = above.pop_first() else {
+            break;
+        };
+        let at = place_of(&node);
+        links[at] = link;
+    }
+    Ok(())
+}
+
+impl Links {
+    pub(crate) fn new(alloc: Global) -> Links
+        ensures { result ≡ [] }
+    {
+        Links {
+            below: BTreeMap::new(alloc),
+            links: Vec::new(alloc),
+            above: BTreeMap::new(alloc),
+        }
+    }
+
+    /// Returns the link of a node.
+    pub(crate) fn find(&self, node: &i64) -> Option<usize>
+        ensures { result ≡ lookup (at node.now) self.now }
+    {
+        if *node < 0 {
+            return self.below.get(node).copied();
+        }
+        match link_at(&self.links, place_of(node)) {
+            Some(0) => None,
+            Some(link) => Some(link),
+            None => self.above.get(node).copied(),
+        }
+    }
+
+    /// Iterates over the nodes with their links, by ascending node.
+    pub(crate) fn iter(&self) -> LinksIter<'_>
+        ensures { result ≡ self.now }
+    {
+        LinksIter::of(&self.below, &self.links, &self.above)
+    }
+
+    /// Notes the link of a node that has none. If an allocation fails, nothing has changed.
+    pub(crate) fn note(&mut self, node: i64, link: usize) -> Result<(), AllocError>
+        requires none { lookup (at node) self.old ≡ None }
+        requires some { 0 < link }
+        ensures ok { OnOk result (self.new ≡ insert_entry int_cmp self.old node link) }
+        ensures err { OnErr result (self.new ≡ self.old) }
+    {
+        if node < 0 {
+            self.below.insert(node, link)?;
+            return Ok(());
+        }
+        let place = place_of(&node);
+        if self.links.len() <= place {
+            if link.saturating_add(16) <= place / DENSE {
+                self.above.insert(node, link)?;
+                return Ok(());
+            }
+            reach(&mut self.links, &mut self.above, place)?;
+        }
+        self.links[place] = link;
+        Ok(())
+    }
+}

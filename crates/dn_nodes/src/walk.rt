@@ -1,0 +1,102 @@
+// Walking over nodes by ascending node.
+ghost use Rattle.std.specs.Prelude.{◌≡◌, ◌≤◌, ◌≤ℤ◌, ◌+ℤ◌, ◌-◌, ◌^◌, pos, ℕ, List, [], ◌++◌, length, drop};
+ghost use Rattle.std.specs.Iterator.{YieldsFirst, item_count};
+ghost use Rattle.dn_nodes.specs.State.Links.{lead, direct};
+
+use std::collections::BTreeMap;
+use std::collections::btree_map::Iter;
+use std::marker::Model;
+
+// Returns how many zeros the links begin with.
+fn zeros(links: &[usize]) -> usize
+    ensures zeros { result ≡ lead links.now }
+    ensures within { result ≤ length links.now }
+{
+    let mut left = links;
+    let mut skip = 0;
+    while let [link, more @ ..] = left {
+        if *link != 0 {
+            break;
+        }
+        left = more;
+        skip += 1;
+    }
+    skip
+}
+
+// Returns the links from the first one that is not 0 on.
+fn past_zeros(links: &[usize]) -> &[usize]
+    ensures { result.now ≡ drop (lead links.now) links.now }
+{
+    links.split_at(zeros(links)).1
+}
+
+// Returns the node that is `skip` past another.
+fn past(node: &i64, skip: usize) -> i64
+    requires some { pos 0 ≤ℤ node.now }
+    requires room { (node.now +ℤ pos skip) ≤ℤ pos (2 ^ 63 - 1) }
+    ensures { result ≡ node.now +ℤ pos skip }
+{
+    *node + skip as i64
+}
+
+/// The remaining nodes with their links, by ascending node.
+#[derive(Drop)]
+pub(crate) struct LinksIter<'a> {
+    below: Iter<'a, i64, usize>,
+    node: i64,
+    links: &'a [usize],
+    above: Iter<'a, i64, usize>,
+}
+
+impl<'a> Model for LinksIter<'a> {
+    ghost use Rattle.std.specs.Prelude.{ℕ, ℤ, pos, List, ◌++◌, ◌≤ℤ◌, ◌+ℤ◌, ◌-◌, ◌^◌, length};
+    ghost use Rattle.dn_nodes.specs.State.Links.{direct_from};
+
+    ghost Value = { List (ℤ × ℕ) };
+
+    ghost view = { λ t. t.below ++ (direct_from t.node t.links.now ++ t.above) };
+
+    ghost invariant = { λ t. (pos 0 ≤ℤ t.node) × ((t.node +ℤ pos (length t.links.now)) ≤ℤ pos (2 ^ 63 - 1)) };
+}
+
+impl<'a> LinksIter<'a> {
+    /// Iterates over a map, a list of links from node 0 on, and another map.
+    pub(crate) fn of(
+        below: &'a BTreeMap<i64, usize>,
+        links: &'a [usize],
+        above: &'a BTreeMap<i64, usize>,
+    ) -> LinksIter<'a>
+        ensures { result ≡ below.now.entries ++ (direct 0 links.now ++ above.now.entries) }
+    {
+        LinksIter {
+            below: below.iter(),
+            node: 0,
+            links,
+            above: above.iter(),
+        }
+    }
+}
+
+impl<'a> Iterator for LinksIter<'a> {
+    type Item = (i64, usize);
+
+    ghost next_gives = { YieldsFirst (λ s. s) };
+
+    ghost remaining = { item_count (λ s. s) };
+
+    fn next(&mut self) -> Option<(i64, usize)> {
+        if let Some((node, link)) = self.below.next() {
+            return Some((*node, *link));
+        }
+        let node = past(&self.node, zeros(self.links));
+        if let Some((link, links)) = past_zeros(self.links).split_first() {
+            self.node = past(&node, 1);
+            self.links = links;
+            return Some((node, *link));
+        }
+        self.links = &[];
+        let (node, link) = self.above.next()?;
+        Some((*node, *link))
+    }
+}
