@@ -3,7 +3,7 @@ ghost use Rattle.std.specs.Prelude.{◌≡◌, ◌≤◌, length, map, take, dro
 ghost use Rattle.dn_c.specs.State.Items.{flow_item, point_item, id_item, pair_item};
 
 use crate::copy::put_one;
-use std::collections::BTreeMap;
+use dn_nodes::NodeMap;
 
 /// What a line of an instance says beside its arcs: an ID and up to two numbers. Missing numbers are 0.
 #[repr(C)]
@@ -59,25 +59,25 @@ fn pair_item(pair: &(i64, i64)) -> Item
 }
 
 /// Copies the flows from the one at `from`, counted from 0, as far as there is room. Returns how many it copied.
-pub fn put_flows(flows: &BTreeMap<i64, i64>, from: u64, out: &mut [Item]) -> usize
+pub fn put_flows(flows: &NodeMap<i64>, from: u64, out: &mut [Item]) -> usize
     ensures copies { take result out.new ≡ take (length out.old) (drop from (map flow_item flows.now.entries)) }
     ensures fits { result ≤ length out.new }
 {
     let mut place = (0usize, from);
-    for (id, flow) in flows {
-        place = put_one(out, place.0, place.1, flow_item(id, flow));
+    for (id, flow) in flows.iter() {
+        place = put_one(out, place.0, place.1, flow_item(&id, flow));
     }
     place.0
 }
 
 /// Copies the points from the one at `from`, counted from 0, as far as there is room. Returns how many it copied.
-pub fn put_points(points: &BTreeMap<i64, (i64, i64)>, from: u64, out: &mut [Item]) -> usize
+pub fn put_points(points: &NodeMap<(i64, i64)>, from: u64, out: &mut [Item]) -> usize
     ensures copies { take result out.new ≡ take (length out.old) (drop from (map point_item points.now.entries)) }
     ensures fits { result ≤ length out.new }
 {
     let mut place = (0usize, from);
-    for (id, at) in points {
-        place = put_one(out, place.0, place.1, point_item(id, at));
+    for (id, at) in points.iter() {
+        place = put_one(out, place.0, place.1, point_item(&id, at));
     }
     place.0
 }

@@ -23,14 +23,14 @@ use crate::print::{
 use dn_bundle::{Bundle, Form};
 use dn_instance::{Refusal, Table};
 use dn_line::Kind;
+use dn_nodes::NodeMap;
 use dn_sink::{Sink, SinkFault, put_and_flush};
-use std::collections::BTreeMap;
 
 // The lines between the problem line and the arcs of a graph.
 #[derive(Clone, Copy)]
 pub(crate) enum NodeLines<'a> {
     // The node line of each node whose flow is not 0 (`min`).
-    Supplies(&'a BTreeMap<i64, i64>),
+    Supplies(&'a NodeMap<i64>),
     // The lines of the source and the sink (`max`).
     Terminals(&'a i64, &'a i64),
     // No lines (`sp`).
@@ -95,7 +95,7 @@ pub(crate) fn write_queries<K: Sink>(sink: &mut K, queries: &[(i64, i64)]) -> Re
 // Writes a `co` text, by rising ID.
 pub(crate) fn write_points<K: Sink>(
     sink: &mut K,
-    points: &BTreeMap<i64, (i64, i64)>,
+    points: &NodeMap<(i64, i64)>,
 ) -> Result<(), SinkFault>
     ensures few { length points.now.entries < 2 ^ 63 }
     ensures text { Puts K.sink sink.old sink.new (print (Coordinates points.now.entries)) result }
@@ -103,8 +103,8 @@ pub(crate) fn write_points<K: Sink>(
 {
     let mut block = Block::new();
     companion_line(&mut block, Kind::Co, points.len() as u64);
-    for (id, place) in points {
-        point_line(&mut block, sink, id, place)?;
+    for (id, place) in points.iter() {
+        point_line(&mut block, sink, &id, place)?;
     }
     put_and_flush(sink, block.bytes())
 }
@@ -165,12 +165,12 @@ fn put_table<B: Bundle, K: Sink>(
 fn put_supplies<K: Sink>(
     block: &mut Block,
     sink: &mut K,
-    supplies: &BTreeMap<i64, i64>,
+    supplies: &NodeMap<i64>,
 ) -> Result<(), SinkFault>
     ensures { Adds K.sink sink.old sink.new block.old block.new (text_of (map supply_row supplies.now.entries)) result }
 {
-    for (id, flow) in supplies {
-        supply_line(block, sink, id, flow)?;
+    for (id, flow) in supplies.iter() {
+        supply_line(block, sink, &id, flow)?;
     }
     Ok(())
 }

@@ -8,7 +8,7 @@ ghost use Rattle.dn_compare.specs.State.Partings.{IsListVerdict, IsPairVerdict, 
 use crate::parting::{Item, first_item, first_parting};
 use dn_bundle::{Bundle, Curve, Total};
 use dn_instance::{Held, Table, Verdict, View};
-use std::collections::BTreeMap;
+use dn_nodes::NodeMap;
 
 /// Returns the first difference between two parsed instances, in the order of the variants of `Verdict`: the first
 /// variant that is true of them, at its least ID, pair or index. Returns `Same` if and only if they are the same
@@ -69,9 +69,9 @@ fn view_verdict(left: View<'_>, right: View<'_>) -> Verdict
 
 // Returns the verdict on two `min` problems with the same NODES.
 fn min_verdict(
-    left: &BTreeMap<i64, i64>,
+    left: &NodeMap<i64>,
     left_table: &Table<Curve>,
-    right: &BTreeMap<i64, i64>,
+    right: &NodeMap<i64>,
     right_table: &Table<Curve>,
 ) -> Verdict
     ensures { IsVerdictOn (OfMin left.now.entries left_table.now) (OfMin right.now.entries right_table.now) result }
@@ -136,7 +136,7 @@ fn list_verdict<T: Item>(left: &[T], right: &[T]) -> Verdict
 }
 
 // Returns the verdict on the points of two companions.
-fn point_verdict(left: &BTreeMap<i64, (i64, i64)>, right: &BTreeMap<i64, (i64, i64)>) -> Verdict
+fn point_verdict(left: &NodeMap<(i64, i64)>, right: &NodeMap<(i64, i64)>) -> Verdict
     ensures { IsVerdictOn (OfCo left.now.entries) (OfCo right.now.entries) result }
 {
     match first_parting(left.iter(), right.iter()) {

@@ -11,7 +11,7 @@ ghost use Rattle.dn_compare.specs.State.Walks.{before_walk};
 
 use dn_bundle::{Bundle, How};
 use dn_instance::Pairs;
-use std::collections::btree_map::Iter;
+use dn_nodes::Nodes;
 
 // Entries by rising key, each handed out once, whose values can be compared.
 pub(crate) trait Side: Drop {
@@ -86,7 +86,7 @@ impl<'a, B: Bundle> Side for Pairs<'a, B> {
 }
 
 // Flows by node. The flow of a node without an entry is 0.
-impl<'a> Side for Iter<'a, i64, i64> {
+impl<'a> Side for Nodes<'a, i64> {
     type Key = i64;
 
     type Value = i64;
@@ -103,7 +103,7 @@ impl<'a> Side for Iter<'a, i64, i64> {
 
     fn next_entry(&mut self) -> Option<(i64, i64)> {
         let (id, flow) = self.next()?;
-        Some((*id, *flow))
+        Some((id, *flow))
     }
 
     fn how(left: Option<i64>, right: Option<i64>) -> Option<(i64, i64)>
@@ -126,7 +126,7 @@ impl<'a> Side for Iter<'a, i64, i64> {
 }
 
 // Points by ID.
-impl<'a> Side for Iter<'a, i64, (i64, i64)> {
+impl<'a> Side for Nodes<'a, (i64, i64)> {
     type Key = i64;
 
     type Value = (i64, i64);
@@ -143,7 +143,7 @@ impl<'a> Side for Iter<'a, i64, (i64, i64)> {
 
     fn next_entry(&mut self) -> Option<(i64, (i64, i64))> {
         let (id, point) = self.next()?;
-        Some((*id, *point))
+        Some((id, *point))
     }
 
     fn how(left: Option<(i64, i64)>, right: Option<(i64, i64)>) -> Option<()>

@@ -1,5 +1,5 @@
 -- Lemmas on taking one row into a body, and on a body of one kind as a body of any kind.
-use Rattle.std.proofs.Common.{◌≡◌, ℤ, List, [], ◌∷◌, ◌++◌, Bool, true, not, int_lt, ◌&&◌, IsTrue, ◌↔◌, Option, Some, Result, Err, OnOk, OnErr, refl, sym, ap, ◌∙◌, subst, Vec, Global, BTreeMap, is_some, int_cmp, ◌^◌, pos, arith, inl, inr, ◌<◌, filter_map, length-append, ℕ, length}
+use Rattle.std.proofs.Common.{◌≡◌, ℤ, List, [], ◌∷◌, ◌++◌, Bool, true, not, int_lt, ◌&&◌, IsTrue, ◌↔◌, Option, Some, Result, Err, OnOk, OnErr, refl, sym, ap, ◌∙◌, subst, Vec, Global, is_some, int_cmp, ◌^◌, pos, arith, inl, inr, ◌<◌, filter_map, length-append, ℕ, length}
 use Rattle.std.proofs.lemmas.Result.{on_err_weaker, on_ok_weaker}
 use Rattle.std.specs.BTreeMap.{is_at, insert_entry}
 use Rattle.std.specs.Map.{lookup}
@@ -13,6 +13,7 @@ use Rattle.dn_line.specs.declared.line.Line.TheVariants as Item
 use Rattle.dn_line.specs.declared.row.Row.{Row}
 use Rattle.dn_arc.specs.Kinds.{lengths, capacities, costs, ArcKind}
 use Rattle.dn_arc.specs.State.Bundles.{BundleFacts, meant}
+use Rattle.dn_nodes.specs.State.Nodes.{Nodes}
 use Rattle.dn_table.specs.State.Tables.{AreArcs, GraphNeedsMore, TableLists, Stays}
 use Rattle.dn_instance.specs.Items.{arcs_of, length_arc_in, cap_arc_in, cost_arc_in, Problem, problem_of, point_in, by_key}
 use Rattle.dn_instance.specs.TextFaults.{is_companion, item_tests}
@@ -122,7 +123,7 @@ pub pair_faults : (before : List Line) (q : ℤ × ℤ) (p : Problem) → proble
 pair_faults before q p h k = simp (h, ap is_companion k, and-true)
 
 -- memory runs out only at a point of a new ID
-pub points_took : (nodes : ℤ) (points points' : BTreeMap ℤ (ℤ × ℤ)) (row : Row) (r : Result (Unit {0}) ItemFault)
+pub points_took : (nodes : ℤ) (points points' : Nodes (ℤ × ℤ)) (row : Row) (r : Result (Unit {0}) ItemFault)
     (before : List Line)
     → AnswersFault r (point_fault (is_some (lookup (is_at (int_cmp row.first)) points.entries)) row.first)
     → OnOk r (points'.entries ≡ insert_entry int_cmp points.entries row.first (row.second, row.third))

@@ -1,5 +1,5 @@
 -- Lemmas on `n` lines: what the marks hold after them, and that other lines keep what the marks hold.
-use Rattle.std.proofs.Common.{◌≡◌, ℤ, List, [], ◌∷◌, ◌++◌, true, false, ◌||◌, not, Option, Some, None, is_some, IsSome, Result, Ok, Err, OnOk, OnErr, refl, sym, ap, ◌∙◌, append-nil, append_assoc, inr, filter_map, pos, Bool, cond, ◌&&◌, inl, int_cmp, int_eq, BTreeMap, BTreeSet, option_map, rules}
+use Rattle.std.proofs.Common.{◌≡◌, ℤ, List, [], ◌∷◌, ◌++◌, true, false, ◌||◌, not, Option, Some, None, is_some, IsSome, Result, Ok, Err, OnOk, OnErr, refl, sym, ap, ◌∙◌, append-nil, append_assoc, inr, filter_map, pos, Bool, cond, ◌&&◌, inl, int_cmp, int_eq, BTreeSet, option_map, rules}
 use Rattle.dn_instance.proofs.CleanItems.{or_none}
 use Rattle.dn_instance.proofs.ValidLaws.{terminal_more, kept, grown}
 use Rattle.std.specs.List.{AllByRecursion, list_any}
@@ -16,6 +16,7 @@ use Rattle.dn_line.specs.declared.line.Line.{Line}
 use Rattle.dn_line.specs.declared.line.Line.TheVariants as Item
 use Rattle.dn_line.specs.declared.row.Row.{Row}
 use Rattle.dn_line.specs.declared.row_block.RowLine.{RowLine}
+use Rattle.dn_nodes.specs.State.Nodes.{Nodes, get}
 use Rattle.dn_arc.specs.Kinds.{capacities, costs, lengths, ArcKind}
 use Rattle.dn_instance.specs.Items.{cap_arc_in, cost_arc_in, is_counted, length_arc_in, point_in, problem_in, query_in, source_in, supplies_of, supply_in, terminal_in, terminal_of}
 use Rattle.dn_instance.specs.TextFaults.{has_supply, is_companion}
@@ -31,7 +32,6 @@ use Rattle.dn_instance.proofs.FirstFaults.{none_first}
 use Rattle.dn_table.proofs.GrownLaws.{none_is}
 use Rattle.dn_line.specs.declared.code.Code.{Code}
 use Rattle.std.proofs.lemmas.Bool.{cases_Bool}
-use Rattle.std.specs.BTreeMap as Map
 use Rattle.std.specs.BTreeSet as Set
 use Rattle.std.specs.BTreeMap.{is_at, insert_entry}
 use Rattle.std.proofs.lemmas.Cmp.{int_eq_equiv}
@@ -202,24 +202,24 @@ flow_named false true c = refl
 flow_named false false true = refl
 flow_named false false false = refl
 
-module _ (id flow : ℤ) (before : List Line) (s s' : BTreeMap ℤ ℤ)
+module _ (id flow : ℤ) (before : List Line) (s s' : Nodes ℤ)
     (put : s'.entries ≡ cond (int_eq flow (pos 0)) s.entries (insert_entry int_cmp s.entries id flow)) where
   named : (q : ℤ) (z z' : BTreeSet ℤ)
-      → (is_some (Map.get int_cmp s q) || Set.contains int_cmp z q) ≡ list_any (has_supply q) before
+      → (is_some (get s q) || Set.contains int_cmp z q) ≡ list_any (has_supply q) before
       → Set.contains int_cmp z' q ≡ (Set.contains int_cmp z q || (int_eq flow (pos 0) && is_at (int_cmp id) q))
-      → (is_some (Map.get int_cmp s' q) || Set.contains int_cmp z' q) ≡ list_any (has_supply q)
+      → (is_some (get s' q) || Set.contains int_cmp z' q) ≡ list_any (has_supply q)
       (before ++ Item.Supply id flow ∷ [])
   named q z z' was kept = elim (cases_Bool (int_eq flow (pos 0))) [
     | inl e ↦
         let same = rw e at put in
         let in_idle = rw (e, sought_eq id q, int_eq_equiv.symm q id) at kept in
         rw (named_push q id flow before, ← was, same, in_idle)
-        (sym (or_assoc (is_some (Map.get int_cmp s q)) (Set.contains int_cmp z q) (int_eq id q)))
+        (sym (or_assoc (is_some (get s q)) (Set.contains int_cmp z q) (int_eq id q)))
     | inr e ↦
         let more = rw e at put in
         let in_idle = rw (e, or-false) at kept in
         rw (named_push q id flow before, ← was, more, in_idle, lookup_put q id flow, some_cond, sought_eq q id)
-        (flow_named (int_eq id q) (is_some (Map.get int_cmp s q)) (Set.contains int_cmp z q))
+        (flow_named (int_eq id q) (is_some (get s q)) (Set.contains int_cmp z q))
   ]
 
   supplies_put : s.entries ≡ supplies_of before → s'.entries ≡ supplies_of (before ++ Item.Supply id flow ∷ [])
@@ -229,12 +229,12 @@ module _ (id flow : ℤ) (before : List Line) (s s' : BTreeMap ℤ ℤ)
   ]
 
 -- `n` lines of a `min` text
-module _ (nodes id flow : ℤ) (h : Marks) (s : BTreeMap ℤ ℤ) (z : BTreeSet ℤ) (r : Result (Unit {0}) ItemFault) where
+module _ (nodes id flow : ℤ) (h : Marks) (s : Nodes ℤ) (z : BTreeSet ℤ) (r : Result (Unit {0}) ItemFault) where
   abbrev with_supply : Marks
   with_supply = record h { supplies = s; idle = z }
 
   pub supply_taken :
-      AnswersFault r (supply_fault nodes (is_some (Map.get int_cmp h.supplies id) || Set.contains int_cmp h.idle id) id)
+      AnswersFault r (supply_fault nodes (is_some (get h.supplies id) || Set.contains int_cmp h.idle id) id)
       → OnOk r
       (s.entries ≡ cond (int_eq flow (pos 0)) h.supplies.entries (insert_entry int_cmp h.supplies.entries id flow))
       → OnOk r ((q : ℤ) → Set.contains int_cmp z q

@@ -15,9 +15,9 @@ use crate::items::{insert_point, push_query, push_source};
 use crate::refusal::ItemFault;
 use dn_bundle::{Bundle, CapArc, CostArc, Curve, Least, LengthArc, Total};
 use dn_line::{Kind, Row, RowLine};
+use dn_nodes::NodeMap;
 use dn_table::{Table, TableSoFar};
 use std::alloc::Global;
-use std::collections::BTreeMap;
 
 // What takes the rows of lines of one letter as they arrive.
 pub(crate) trait RowTaker: Sized {
@@ -91,7 +91,7 @@ impl RowTaker for Vec<(i64, i64)> {
     }
 }
 
-impl RowTaker for BTreeMap<i64, (i64, i64)> {
+impl RowTaker for NodeMap<(i64, i64)> {
     ghost taker = { points_body };
 
     ghost line = { counted_line Co };
@@ -176,7 +176,7 @@ pub(crate) enum Body<C: Drop, T: Drop, L: Drop> {
     Sp(L),
     Ss(Vec<i64>),
     P2p(Vec<(i64, i64)>),
-    Co(BTreeMap<i64, (i64, i64)>),
+    Co(NodeMap<(i64, i64)>),
 }
 
 impl<C: Drop, T: Drop, L: Drop> Body<C, T, L> {
@@ -210,7 +210,7 @@ impl Body<TableSoFar<Curve>, TableSoFar<Total>, TableSoFar<Least>> {
             Kind::Sp => Body::Sp(TableSoFar::new(alloc)),
             Kind::Ss => Body::Ss(Vec::new(alloc)),
             Kind::P2p => Body::P2p(Vec::new(alloc)),
-            Kind::Co => Body::Co(BTreeMap::new(alloc)),
+            Kind::Co => Body::Co(NodeMap::new(alloc)),
         }
     }
 

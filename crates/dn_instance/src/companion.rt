@@ -7,7 +7,7 @@ ghost use Rattle.dn_instance.specs.State.Helds.{OfBoth};
 
 use crate::held::Held;
 use crate::view::View;
-use std::collections::BTreeMap;
+use dn_nodes::NodeMap;
 use thiserror::Error;
 
 /// Why a companion does not fit a graph. The numbers and names are this project's profile.
@@ -106,11 +106,11 @@ fn check_pairs(nodes: &i64, pairs: &[(i64, i64)]) -> Result<(), CompanionFault>
 }
 
 // Checks that the ID of each point is at most NODES, by ascending ID.
-fn check_points(nodes: &i64, points: &BTreeMap<i64, (i64, i64)>) -> Result<(), CompanionFault>
+fn check_points(nodes: &i64, points: &NodeMap<(i64, i64)>) -> Result<(), CompanionFault>
     ensures { result ≡ within nodes.now (keys_of points.now.entries) }
 {
-    for (id, _) in points {
-        if let Err(fault) = check_id(nodes, id) {
+    for (id, _) in points.iter() {
+        if let Err(fault) = check_id(nodes, &id) {
             return Err(fault);
         }
     }

@@ -9,8 +9,8 @@ use crate::body::Body;
 use crate::view::View;
 use dn_bundle::{Curve, Least, Total};
 use dn_line::Kind;
+use dn_nodes::NodeMap;
 use dn_table::Table;
-use std::collections::BTreeMap;
 use std::marker::Model;
 
 /// A parsed instance: the problem, graph or companion that a text reads as.
@@ -19,7 +19,7 @@ pub struct Held {
     nodes: i64,
     lines: i64,
     // The flows other than 0 of a `min` text.
-    supplies: BTreeMap<i64, i64>,
+    supplies: NodeMap<i64>,
     // The source and the sink of a `max` text.
     terminals: (i64, i64),
     body: Body<Table<Curve>, Table<Total>, Table<Least>>,
@@ -47,7 +47,7 @@ impl Held {
     pub(crate) fn new(
         nodes: i64,
         lines: i64,
-        supplies: BTreeMap<i64, i64>,
+        supplies: NodeMap<i64>,
         terminals: (i64, i64),
         body: Body<Table<Curve>, Table<Total>, Table<Least>>,
     ) -> Held

@@ -1,14 +1,16 @@
 // Takes items other than arcs as they arrive.
-ghost use Rattle.std.specs.Prelude.{◌≡◌, ◌≤◌, vec_capacity, vec_len, [], ◌∷◌, ◌++◌, OnOk, OnErr, Some, is_some, Err};
-ghost use Rattle.std.specs.BTreeMap as Map;
+ghost use Rattle.std.specs.Prelude.{◌≡◌, ◌≤◌, vec_capacity, vec_len, [], ◌∷◌, ◌++◌, OnOk, OnErr, Some, None, is_some, Err};
+ghost use Rattle.std.specs.BTreeMap.{insert_entry};
 ghost use Rattle.std.specs.Ordering.{int_cmp};
+ghost use Rattle.dn_nodes.specs.State.Nodes.{get};
 ghost use Rattle.dn_instance.specs.State.NodeTakes.{GainsIdle, GainsNode, is_named, with_flow};
 ghost use Rattle.dn_instance.specs.State.ItemFaults.{AnswersFault, supply_fault, terminal_fault, id_fault, pair_fault, point_fault};
 
 use crate::arcs::in_graph;
 use crate::refusal::ItemFault;
 use dn_line::Code;
-use std::collections::{BTreeMap, BTreeSet};
+use dn_nodes::NodeMap;
+use std::collections::BTreeSet;
 
 // Takes the node of a `max` node line. `own` is the terminal of the letter of this line, and `other` is the other
 // terminal. On a fault, nothing changes.
@@ -72,22 +74,22 @@ pub(crate) fn push_query(pairs: &mut Vec<(i64, i64)>, pair: (i64, i64)) -> Resul
 
 // Takes the point of a `v` line of a `co` text. On a fault, nothing changes.
 pub(crate) fn insert_point(
-    points: &mut BTreeMap<i64, (i64, i64)>,
+    points: &mut NodeMap<(i64, i64)>,
     id: &i64,
     at: (i64, i64),
 ) -> Result<(), ItemFault>
-    ensures answer { AnswersFault result (point_fault (is_some (Map.get int_cmp points.old id.now)) id.now) }
-    ensures ok { OnOk result (points.new.entries ≡ Map.insert_entry int_cmp points.old.entries id.now at) }
+    ensures answer { AnswersFault result (point_fault (is_some (get points.old id.now)) id.now) }
+    ensures ok { OnOk result (points.new.entries ≡ insert_entry int_cmp points.old.entries id.now at) }
     ensures err { OnErr result (points.new.entries ≡ points.old.entries) }
 {
     if *id <= 0 {
         return Err(ItemFault::Text(Code::NodeOutOfRange));
     }
-    if has_key(points, id) {
+    if points.get(id).is_some() {
         return Err(ItemFault::Text(Code::RepeatedNode));
     }
     match points.insert(*id, at) {
-        Ok(_) => Ok(()),
+        Ok(()) => Ok(()),
         Err(_) => Err(ItemFault::Memory),
     }
 }
@@ -95,7 +97,7 @@ pub(crate) fn insert_point(
 // Takes the flow of a `min` node line. Puts a flow other than 0 into `supplies`, and a node whose flow is 0 into
 // `idle`. On a fault, nothing changes.
 pub(crate) fn insert_supply(
-    supplies: &mut BTreeMap<i64, i64>,
+    supplies: &mut NodeMap<i64>,
     idle: &mut BTreeSet<i64>,
     nodes: &i64,
     id: &i64,
@@ -109,7 +111,7 @@ pub(crate) fn insert_supply(
     if !in_graph(nodes, id) {
         return Err(ItemFault::Text(Code::NodeOutOfRange));
     }
-    if has_key(supplies, id) || idle.contains(id) {
+    if supplies.get(id).is_some() || idle.contains(id) {
         return Err(ItemFault::Text(Code::RepeatedNode));
     }
     if *flow == 0 {
@@ -119,24 +121,15 @@ pub(crate) fn insert_supply(
     }
 }
 
-// Whether a map has this key. A key above all of its keys needs no search.
-fn has_key<V>(map: &BTreeMap<i64, V>, key: &i64) -> bool
-    ensures { result ≡ is_some (Map.get int_cmp map.now key.now) }
-{
-    match map.last_key_value() {
-        Some((last, _)) if *key <= *last => map.contains_key(key),
-        _ => false,
-    }
-}
-
 // Adds the flow, which is not 0, of a node without an earlier line. If an allocation fails, nothing changes.
-fn put_flow(supplies: &mut BTreeMap<i64, i64>, id: &i64, flow: &i64) -> Result<(), ItemFault>
-    ensures ok { OnOk result (supplies.new.entries ≡ Map.insert_entry int_cmp supplies.old.entries id.now flow.now) }
+fn put_flow(supplies: &mut NodeMap<i64>, id: &i64, flow: &i64) -> Result<(), ItemFault>
+    requires { get supplies.old id.now ≡ None }
+    ensures ok { OnOk result (supplies.new.entries ≡ insert_entry int_cmp supplies.old.entries id.now flow.now) }
     ensures err { OnErr result (supplies.new.entries ≡ supplies.old.entries) }
     ensures memory { OnErr result (result ≡ Err ItemFault.Memory) }
 {
     match supplies.insert(*id, *flow) {
-        Ok(_) => Ok(()),
+        Ok(()) => Ok(()),
         Err(_) => Err(ItemFault::Memory),
     }
 }

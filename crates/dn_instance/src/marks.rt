@@ -9,13 +9,14 @@ use crate::body::RowTaker;
 use crate::items::{insert_supply, set_terminal};
 use crate::refusal::ItemFault;
 use dn_line::{Kind, Letter, Row};
+use dn_nodes::NodeMap;
 use std::alloc::Global;
-use std::collections::{BTreeMap, BTreeSet};
+use std::collections::BTreeSet;
 
 // What the `n` lines so far make. A text of a kind without such lines has none of these.
 #[derive(Drop)]
 pub(crate) struct Marks {
-    pub(crate) supplies: BTreeMap<i64, i64>,
+    pub(crate) supplies: NodeMap<i64>,
     // The nodes whose `n` lines have flow 0. A second `n` line of such a node is a fault, too.
     pub(crate) idle: BTreeSet<i64>,
     pub(crate) source: Option<i64>,
@@ -28,7 +29,7 @@ impl Marks {
         ensures { MarksHold result [] }
     {
         Marks {
-            supplies: BTreeMap::new(alloc),
+            supplies: NodeMap::new(alloc),
             idle: BTreeSet::new(alloc),
             source: None,
             sink: None,

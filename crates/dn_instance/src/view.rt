@@ -1,8 +1,8 @@
 // What a parsed instance shows.
 
 use dn_bundle::{Curve, Least, Total};
+use dn_nodes::NodeMap;
 use dn_table::Table;
-use std::collections::BTreeMap;
 
 /// What a parsed instance holds, by kind.
 #[derive(Clone, Copy)]
@@ -10,7 +10,7 @@ pub enum View<'a> {
     /// A `min` problem: the flow of each node whose flow is not 0, and a cost curve for each pair that has a bundle.
     Min {
         /// The flow of each node whose flow is not 0, by ID.
-        supplies: &'a BTreeMap<i64, i64>,
+        supplies: &'a NodeMap<i64>,
         /// The cost curves by ordered pair.
         table: &'a Table<Curve>,
     },
@@ -41,6 +41,6 @@ pub enum View<'a> {
     /// A `co` companion.
     Co {
         /// X and Y by ID.
-        points: &'a BTreeMap<i64, (i64, i64)>,
+        points: &'a NodeMap<(i64, i64)>,
     },
 }

@@ -1,6 +1,5 @@
 -- What the lines of a text make, and how rows change it.
 use Rattle.std.specs.Prelude.{◌≡◌, ◌<◌, ◌^◌, ℕ, ℤ, List, [], ◌∷◌, ◌++◌, Bool, IsTrue, ◌↔◌, filter_map, take, drop, Option, Some, None, Result, Err, OnOk, Vec}
-use Rattle.std.specs.BTreeMap.{BTreeMap}
 use Rattle.std.specs.Global.{Global}
 use Rattle.std.specs.List.{AllByRecursion}
 use Rattle.dn_line.specs.Faults.{first_fault}
@@ -12,6 +11,7 @@ use Rattle.dn_line.specs.declared.row.Row.{Row}
 use Rattle.dn_line.specs.declared.row_block.RowLine.{RowLine}
 use Rattle.dn_arc.specs.Kinds.{ArcKind}
 use Rattle.dn_arc.specs.State.Bundles.{BundleFacts, meant}
+use Rattle.dn_nodes.specs.State.Nodes.{Nodes}
 use Rattle.dn_table.specs.State.Tables.{AreArcs, GraphNeedsMore, Stays, TableLists}
 use Rattle.dn_instance.specs.Items.{Problem, problem_of, arcs_of, source_in, query_in, point_in, by_key}
 use Rattle.dn_instance.specs.TextFaults.{item_tests}
@@ -97,7 +97,7 @@ abbrev pub pairs_body : TakerFacts (Vec (ℤ × ℤ) Global)
 pairs_body = list_body P2p query_in
 
 -- the points of a `co` text
-abbrev pub points_body : TakerFacts (BTreeMap ℤ (ℤ × ℤ))
+abbrev pub points_body : TakerFacts (Nodes (ℤ × ℤ))
 points_body = record { kind = Co; Holds = λ points items. points.entries ≡ by_key (filter_map point_in items) }
 
 -- the table represents the arcs among the items, and a problem may have each of these arcs

@@ -1,6 +1,5 @@
 -- What the parts of a text so far hold: its `n` lines, and its counted lines.
 use Rattle.std.specs.Prelude.{◌≡◌, ℕ, ◌<◌, ◌^◌, ℤ, pos, ◌||◌, List, [], ◌∷◌, ◌++◌, Bool, false, not, Option, Some, None, is_some, Result, OnOk}
-use Rattle.std.specs.BTreeMap as Map
 use Rattle.std.specs.BTreeSet as Set
 use Rattle.std.specs.List.{list_any}
 use Rattle.std.specs.List.Sorted.{IsStrictlySortedBy}
@@ -15,6 +14,7 @@ use Rattle.dn_arc.specs.Kinds.{lengths, capacities, costs}
 use Rattle.dn_arc.specs.Pairs.{pair_cmp, same_pair}
 use Rattle.dn_arc.specs.State.Curves.{CurveNumbers}
 use Rattle.dn_arc.specs.declared.arc.Form.TheVariants.{One}
+use Rattle.dn_nodes.specs.State.Nodes.{get}
 use Rattle.dn_bundle.specs.State.Listings.{least_arcs, total_arcs, curve_arcs}
 use Rattle.dn_bundle.specs.declared.least.Least.{Least}
 use Rattle.dn_bundle.specs.declared.total.Total.{Total}
@@ -102,7 +102,7 @@ terminals_of _ source sink = Some (pos 0, pos 0)
 -- the `n` lines among these items make these marks
 pub record MarksHold (marks : Marks) (items : List Line) : Type 0 where
   pub supplies_are : marks.supplies.entries ≡ supplies_of items
-  pub named_are : (q : ℤ) → (is_some (Map.get int_cmp marks.supplies q) || Set.contains int_cmp marks.idle q)
+  pub named_are : (q : ℤ) → (is_some (get marks.supplies q) || Set.contains int_cmp marks.idle q)
       ≡ list_any (has_supply q) items
   pub source_is : marks.source ≡ terminal_of S items
   pub sink_is : marks.sink ≡ terminal_of T items

@@ -1,4 +1,4 @@
-use Rattle.std.proofs.Common.{◌∷◌, ◌∙◌, ap, sym, subst, map}
+use Rattle.std.proofs.Common.{◌∷◌, ◌∙◌, ap, sym, subst, map, rules, FitsSigned, w64, to_z-of_z}
 use Rattle.dn_c.specs.State.Copies.{HasCopied}
 use Rattle.dn_c.specs.State.Items.{flow_item}
 use Rattle.dn_c.proofs.CopyLaws.{walked, walked_fits}
@@ -6,8 +6,10 @@ use Rattle.dn_c.proofs.items.put_flows.Goals as goal
 
 pub loop-id-preserved : goal.loop-id-preserved
 loop-id-preserved c want h =
+    let id : FitsSigned w64 c.in-Some.id = search rules in
+    let item = simp to_z-of_z at c.flow_item.ensures in
     let rests = map flow_item c.next.new.self in
-    let whole = ap (map flow_item) c.in-Some.ensures.steps ∙ ap (λ x. x ∷ rests) (sym c.flow_item.ensures) in
+    let whole = ap (map flow_item) c.in-Some.ensures.steps ∙ ap (λ x. x ∷ rests) (sym item) in
     c.put_one-place.ensures want rests
     (subst (HasCopied want c.loop-id.out c.loop-id.place.0 c.loop-id.place.1) whole (c.loop-id.invariant want h))
 

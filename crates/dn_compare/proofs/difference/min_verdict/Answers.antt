@@ -12,9 +12,9 @@ returns-in-Some c =
     simp to_z-of_z
     (supply_on c.args.left.now.entries c.args.right.now.entries c.args.left_table.now c.args.right_table.now
     c.in-Some.id c.in-Some.left c.in-Some.right
-    (rw (c.iter.ensures.rest, c.iter-2.ensures.rest) at c.in-Some.ensures))
+    (rw (c.iter.ensures.value, c.iter-2.ensures.value) at c.in-Some.ensures))
 
 pub returns-in-None : goal.returns-in-None
 returns-in-None c =
     min_on c.args.left.now.entries c.args.right.now.entries c.args.left_table.now c.args.right_table.now _
-    (rw (c.iter.ensures.rest, c.iter-2.ensures.rest) at c.in-None.ensures) c.pair_verdict.ensures
+    (rw (c.iter.ensures.value, c.iter-2.ensures.value) at c.in-None.ensures) c.pair_verdict.ensures

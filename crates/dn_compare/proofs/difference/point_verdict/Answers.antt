@@ -9,9 +9,9 @@ returns-in-Some c =
     let id : FitsSigned w64 c.in-Some.id = search rules in
     simp to_z-of_z
     (point_on c.args.left.now.entries c.args.right.now.entries c.in-Some.id
-    (rw (c.iter.ensures.rest, c.iter-2.ensures.rest) at c.in-Some.ensures))
+    (rw (c.iter.ensures.value, c.iter-2.ensures.value) at c.in-Some.ensures))
 
 pub returns-in-None : goal.returns-in-None
 returns-in-None c =
     points_on c.args.left.now.entries c.args.right.now.entries
-    (rw (c.iter.ensures.rest, c.iter-2.ensures.rest) at c.in-None.ensures)
+    (rw (c.iter.ensures.value, c.iter-2.ensures.value) at c.in-None.ensures)

@@ -12,7 +12,7 @@ returns-in-Min g c =
     let nodes : FitsSigned w64 c.nodes.result = search rules in
     let lines : FitsSigned w64 c.lines.result = search rules in
     let kind = kind_text c.word_line-kind.ensures (search rules) c.kind.ensures c.in-Min.ensures in
-    let supplies = supplies_text c.in-Min.supplies.now.entries c.count_line-supplies.ensures c.len.ensures.len in
+    let supplies = supplies_text c.in-Min.supplies.now.entries c.count_line-supplies.ensures c.len.ensures.value in
     rw (held_text c.args.held.now (to_z-of_z nodes ∙ c.nodes.ensures) (to_z-of_z lines ∙ c.lines.ensures)
     c.in-Min.ensures
     (graph_text cost_words (curve_arcs One) Kinds.Min _ _ (supply_rows c.in-Min.supplies.now.entries) c.in-Min.table.now

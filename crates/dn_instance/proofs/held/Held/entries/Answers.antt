@@ -36,4 +36,4 @@ returns-in-P2p c I v held =
 pub returns-in-Co : goal.returns-in-Co
 returns-in-Co c I v held =
     let h = rw (← c.self.view_is) at held in
-    c.len-in-Co.ensures.len ∙ co_entries c.in-Co.points.entries I (rw c.in-Co.is at h.shows)
+    c.len-in-Co.ensures.value ∙ co_entries c.in-Co.points.entries I (rw c.in-Co.is at h.shows)
