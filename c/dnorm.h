@@ -217,7 +217,8 @@ dnorm_summary dnorm_facts(dnorm *instance);
 size_t dnorm_arcs(dnorm *graph, uint8_t form, uint64_t from, dnorm_arc *out, size_t room);
 
 /* Copies canonical arcs in form 1 or 2 to `out`, from the one after `place` on, as dnorm_arcs does, and moves `place`
-   behind them. No call walks over the arcs before it. A place belongs to one graph and one form. */
+   behind them. Of the arcs before it a call walks only over those of its pair. A place belongs to one graph and one
+   form. */
 size_t dnorm_next(dnorm *graph, uint8_t form, dnorm_place *place, dnorm_arc *out, size_t room);
 
 /* Copies canonical arcs in form 1 or 2 as dnorm_next does, each number to a column of its own: as many arcs as `tails`
