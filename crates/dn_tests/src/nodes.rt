@@ -24,10 +24,7 @@ fn next(seed: &mut u64, below: i64) -> i64 {
 
 // Puts nodes into both maps, each with its number. A node that is refused for lack of memory is put once more, into the
 // state that the refusal left.
-fn filled(
-    alloc: Global,
-    draw: &Draw,
-) -> Result<(NodeMap<i64>, BTreeMap<i64, i64>), AllocError> {
+fn filled(alloc: Global, draw: &Draw) -> Result<(NodeMap<i64>, BTreeMap<i64, i64>), AllocError> {
     let mut seed = 5;
     let mut nodes = NodeMap::new(alloc);
     let mut map = BTreeMap::new(alloc);

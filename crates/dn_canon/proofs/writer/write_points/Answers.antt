@@ -8,12 +8,12 @@ use Rattle.dn_canon.proofs.writer.write_points.Goals as goal
 pub loop-id-init : goal.loop-id-init
 loop-id-init g c =
     put_from (rw (
-        c.companion_line.ensures,
-        c.new-block.ensures,
-        c.len.ensures.value,
-        c.into_iter-id-iterator.ensures.into_iter_gives,
-        c.iter-id-items.ensures.value,
-      ))
+      c.companion_line.ensures,
+      c.new-block.ensures,
+      c.len.ensures.value,
+      c.into_iter-id-iterator.ensures.into_iter_gives,
+      c.iter-id-items.ensures.value,
+    ))
 
 pub loop-id-preserved : goal.loop-id-preserved
 loop-id-preserved g c =
