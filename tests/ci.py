@@ -67,7 +67,11 @@ class Runner:
 
 
 def workflow(tally: Tally, tested: str) -> None:
-    """Tests the steps of the workflow."""
+    """Tests the steps of the workflow, and that it fetches the release of this version."""
+    version = run([tested, "--version"]).out.decode().split()[1]
+    # Between releases, it fetches the last one.
+    if "-" not in version:
+        tally.same("the release that it fetches", dict(VALUE.findall(text_of(WORKFLOW)))["VERSION"], version)
     if not shutil.which("curl"):
         tally.leave_out("the steps of share/ci/github.yml", "curl")
         return
