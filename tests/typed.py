@@ -61,8 +61,9 @@ def main() -> int:
     print(first_difference("flow.min", "flow-cheaper.min"), first_difference("flow.min", "flow.min"))
     print(refusal_of(b"p sp 1 1\na 1 2 3\n"), refusal_of(b"p sp 1 0\n"))
     made = dnorm.from_arrays(dnorm.Sp, nodes=2, tails=[1, 1], heads=[2, 2], lengths=[7, 4])
-    dnorm.write(made, sys.stdout.buffer)
+    # What was printed before goes first.
     sys.stdout.flush()
+    dnorm.write(made, sys.stdout.buffer)
     print(len(made), [length for _, _, length in made.arcs()])
     if calls.has_numpy():
         print(sums(made))
