@@ -67,7 +67,13 @@ impl Marks {
         ensures { result ≡ terminals_of kind.now self.now.source self.now.sink }
     {
         match kind {
-            Kind::Max => Some((self.source?, self.sink?)),
+            Kind::Max => match self.source {
+                Some(source) => match self.sink {
+                    Some(sink) => Some((source, sink)),
+                    None => None,
+                },
+                None => None,
+            },
             _ => Some((0, 0)),
         }
     }

@@ -29,7 +29,10 @@ pub fn read_text(alloc: Global, text: &[u8]) -> Result<Held, Refusal>
     let mut reader = Reader::new(alloc);
     match reader.feed(text) {
         Ok(()) => reader.finish(),
-        Err(refusal) => Err(refusal),
+        Err(refusal) => {
+            drop(reader);
+            Err(refusal)
+        }
     }
 }
 
@@ -129,7 +132,10 @@ fn read_all<S: Source, K: Keep>(
     let mut reader = Reader::new(alloc);
     match feed_all(source, text, &mut reader) {
         Ok(()) => reader.finish(),
-        Err(refusal) => Err(refusal),
+        Err(refusal) => {
+            drop(reader);
+            Err(refusal)
+        }
     }
 }
 

@@ -11,16 +11,27 @@ use std::alloc::{AllocError, Global};
 use std::fmt::Display;
 use std::test::Fail;
 
-const VERSION: &str = "dnorm 1.2.0\n";
+const VERSION: &str = "dnorm 1.3.0\n";
 
 // Returns the words of a line after the program's name. `|` separates the words of the line.
 pub(crate) fn owned(alloc: Global, line: &str) -> Result<Vec<String>, AllocError> {
     let mut all = Vec::new(alloc);
+    match push_words(alloc, line, &mut all) {
+        Ok(()) => Ok(all),
+        Err(error) => {
+            drop(all);
+            Err(error)
+        }
+    }
+}
+
+// Appends the words of a line to `all`, the program's name first.
+fn push_words(alloc: Global, line: &str, all: &mut Vec<String>) -> Result<(), AllocError> {
     all.push(String::from_str(alloc, "dnorm")?)?;
     for word in line.split('|') {
         all.push(String::from_str(alloc, word)?)?;
     }
-    Ok(all)
+    Ok(())
 }
 
 // Returns a command in the notation of the tables.

@@ -88,15 +88,30 @@ impl Listed {
 // first pairs must still be found, and the second attempt must succeed.
 fn index_of(alloc: Global, pairs: &[(i64, i64)]) -> Result<Option<Listed>, AllocError> {
     let mut listed = Listed::new(alloc);
+    match list_all(alloc, pairs, &mut listed) {
+        Ok(true) => Ok(Some(listed)),
+        Ok(false) => {
+            drop(listed);
+            Ok(None)
+        }
+        Err(error) => {
+            drop(listed);
+            Err(error)
+        }
+    }
+}
+
+// Lists these pairs, and returns whether each was found at its position.
+fn list_all(alloc: Global, pairs: &[(i64, i64)], listed: &mut Listed) -> Result<bool, AllocError> {
     for pair in pairs {
         if listed.take(alloc, *pair).is_err() {
             if !listed.finds(&pairs[..pairs.len().min(8)]) {
-                return Ok(None);
+                return Ok(false);
             }
             listed.take(alloc, *pair)?;
         }
     }
-    Ok(Some(listed))
+    Ok(true)
 }
 
 // Returns how these pairs are found at the end, or what went wrong.
