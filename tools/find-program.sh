@@ -14,10 +14,10 @@ stop() { # LINE
     exit 125
 }
 
-# Whether no file in these places is newer than the mark, and none below released/ has been changed since, whatever its
-# time says.
+# Whether no file in these places is newer than the mark, nor a folder with files of a crate, and nothing below
+# released/ has been changed since, whatever its time says.
 is_current() { # MARK PLACE..
-    [[ -e $1 && -z $(find "${@:2}" -name out -prune -o -type f \
+    [[ -e $1 && -z $(find "${@:2}" -name out -prune -o \( -type f -o -path '*/crates/*/*' \) \
         \( -newer "$1" -o -path '*/released/*' -cnewer "$1" \) -print -quit) ]]
 }
 
@@ -44,7 +44,7 @@ find_released() {
 # sums. If all is well, the next call need not compare.
 check_released() {
     local began=${EPOCHREALTIME/,/.} sum
-    sum=$(sed -n 's/^sources of the program: //p' "$root/released/buildinfo") || return 1
+    sum=$(sed -n 's/^sources of the program: //p' "$root/released/buildinfo" 2> /dev/null) || return 1
     [[ $sum == "$("$root/tools/source-sum" program)" ]] || return 1
     if ! (cd "$root/released" && sha256sum --strict --check SHA256SUMS) &> /dev/null; then
         stop "released/ has other bytes than SHA256SUMS says: git restores it, and tools/build builds the program anew"
