@@ -22,6 +22,13 @@ from dnorm.program import children
 
 LIBRARY = f"{ROOT}/c/out/lib/libdnorm.so.1"
 SEED, ROUNDS = 77, 100
+# A process that thinks it is on another machine, and says where the library may be.
+ELSEWHERE = """
+import os, types
+os.uname = lambda: types.SimpleNamespace(machine="aarch64")
+import dnorm.library
+print(*dnorm.library.places_beside("/usr/bin/dnorm"))
+"""
 # Other files of the name of the library: what each is made of, by a C compiler or as it is, and why it is none.
 OTHERS = {
     "another": ("unsigned dnorm_abi(void) { return 2; }", "its interface has the number 2, and not 1"),
@@ -83,8 +90,8 @@ def change(own: dict[str, str | None]) -> None:
 
 def places(tally: Tally, tested: str) -> None:
     """Tests the places of the library beside the program, and when it is not used."""
-    rows = {"usual/bin": "usual/lib", "debian/bin": "debian/lib/x86_64-linux-gnu", "archive": "archive/lib"}
-    rows["alone"] = ""
+    rows = {"usual/bin": "usual/lib", "archive": "archive/lib", "alone": ""}
+    rows["debian/bin"] = f"debian/lib/{os.uname().machine}-linux-gnu"
     for folder, place in rows.items():
         os.makedirs(folder)
         shutil.copy(tested, f"{folder}/dnorm")
@@ -106,6 +113,8 @@ def places(tally: Tally, tested: str) -> None:
         tally.same(f"the library of a command with {program}", found, "None\n")
         found = with_environment(lambda: dnorm.find_library(program), DNORM_LIBRARY=LIBRARY)
         tally.same(f"the library of the argument {program}", found, wanted)
+    wanted = [f"/usr/{it}/libdnorm.so.1" for it in ("lib", "lib/aarch64-linux-gnu", "bin/lib")]
+    tally.same("places on aarch64", python(ELSEWHERE).split(), wanted)
     found = with_environment(dnorm.find_library, DNORM="/none", DNORM_LIBRARY=LIBRARY)
     tally.same("a library without a program", found, f"{LIBRARY}\n")
     found = with_environment(lambda: next(dnorm.read(ROADS).rows()), DNORM="/none", DNORM_LIBRARY=LIBRARY)

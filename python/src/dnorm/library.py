@@ -19,8 +19,9 @@ from .refusals import REFUSALS
 NAME = "libdnorm.so.1"
 # The number of the interface that this module knows.
 ABI = 1
-# Where the library is, from the folder of the program: below PREFIX, on Debian, and in the archive of a release.
-BESIDE = ["../lib", "../lib/x86_64-linux-gnu", "lib"]
+# Where the library is, from the folder of the program: below PREFIX, on Debian, and in the archive of a release. On
+# Debian, libraries for other processors may be beside that of this machine.
+BESIDE = ["../lib", f"../lib/{os.uname().machine}-linux-gnu", "lib"]
 # Kinds by their numbers, with the numbers of an arc, and those of an item of a companion, that are columns.
 KINDS = [("", 0), ("min", 5), ("max", 3), ("sp", 3), ("ss", 1), ("p2p", 2), ("co", 3)]
 GRAPHS = ("min", "max", "sp")
