@@ -113,8 +113,8 @@ def places(tally: Tally, tested: str) -> None:
         tally.same(f"the library of a command with {program}", found, "None\n")
         found = with_environment(lambda: dnorm.find_library(program), DNORM_LIBRARY=LIBRARY)
         tally.same(f"the library of the argument {program}", found, wanted)
-    wanted = [f"/usr/{it}/libdnorm.so.1" for it in ("lib", "lib/aarch64-linux-gnu", "bin/lib")]
-    tally.same("places on aarch64", python(ELSEWHERE).split(), wanted)
+    places = [f"/usr/{it}/libdnorm.so.1" for it in ("lib", "lib/aarch64-linux-gnu", "bin/lib")]
+    tally.same("places on aarch64", python(ELSEWHERE).split(), places)
     found = with_environment(dnorm.find_library, DNORM="/none", DNORM_LIBRARY=LIBRARY)
     tally.same("a library without a program", found, f"{LIBRARY}\n")
     found = with_environment(lambda: next(dnorm.read(ROADS).rows()), DNORM="/none", DNORM_LIBRARY=LIBRARY)
