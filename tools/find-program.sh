@@ -14,11 +14,11 @@ stop() { # LINE
     exit 125
 }
 
-# Whether no file in these places is newer than the mark, nor a folder with files of a crate, and nothing below
-# released/ has been changed since, whatever its time says.
+# Whether no file in these places has been changed since the mark, whatever time it has, nor a folder with files of a
+# crate.
 is_current() { # MARK PLACE..
-    [[ -e $1 && -z $(find "${@:2}" -name out -prune -o \( -type f -o -path '*/crates/*/*' \) \
-        \( -newer "$1" -o -path '*/released/*' -cnewer "$1" \) -print -quit) ]]
+    [[ -e $1 && -z $(find "${@:2}" -name out -prune -o \( -type f -o -path '*/crates/*/*' \) -cnewer "$1" \
+        -print -quit) ]]
 }
 
 find_built() {
@@ -28,28 +28,29 @@ find_built() {
 
 # Finds the released program of this machine. One that is packed is unpacked beside the mark.
 find_released() {
-    local machine
-    machine=$(uname -m)
+    # What bash was built for, which no variable of the environment changes.
+    local machine=${BASH_VERSINFO[5]%%-*}
     program=$root/released/$machine/dnorm packed=''
     if [[ -e $program.gz ]]; then
         packed=$program.gz program=$out/released/dnorm-$machine
     fi
     [[ $packed || -e $program ]] || return 1
-    if [[ ! -x $program ]] || ! is_current "$found" "${sources[@]}" "$root/released"; then
+    if [[ ! -x $program ]] || ! is_current "$found" "${sources[@]}" "$root/released" ${packed:+"$program"}; then
         check_released
     fi
 }
 
 # Compares the sources with those that the released program was made from, and the files below released/ with their
-# sums. If all is well, the next call need not compare.
+# sums. If all is well, the next call need not compare: nothing has been changed since this one began.
 check_released() {
-    local began=${EPOCHREALTIME/,/.} sum
+    local began sum
+    [[ ! $packed ]] || unpack || stop "$packed could not be unpacked to $program"
+    began=${EPOCHREALTIME/,/.}
     sum=$(sed -n 's/^sources of the program: //p' "$root/released/buildinfo" 2> /dev/null) || return 1
     [[ $sum == "$("$root/tools/source-sum" program)" ]] || return 1
     if ! (cd "$root/released" && sha256sum --strict --check SHA256SUMS) &> /dev/null; then
         stop "released/ has other bytes than SHA256SUMS says: git restores it, and tools/build builds the program anew"
     fi
-    [[ ! $packed ]] || unpack || stop "$packed could not be unpacked to $program"
     [[ $(head -c 4 "$program") == $'\x7fELF' ]] || stop "$program is no program: tools/build builds one"
     [[ -x $program ]] || stop "$program is not executable: chmod +x makes it so"
     if mkdir -p "$out/released" 2> /dev/null; then
@@ -58,8 +59,13 @@ check_released() {
 }
 
 unpack() {
-    mkdir -p "$out/released" && gzip -dc "$packed" > "$program.$$" && chmod 755 "$program.$$" &&
+    mkdir -p "$out/released" || return 1
+    if gzip -dc "$packed" > "$program.$$" 2> /dev/null && chmod 755 "$program.$$"; then
         mv "$program.$$" "$program"
+    else
+        rm -f "$program.$$"
+        return 1
+    fi
 }
 
 find_program() {
