@@ -57,6 +57,15 @@ static void small(void) {
         }
 }
 
+/* A block that is freed is used no more. It is too large for those that malloc keeps in use after that. */
+static void freed(void) {
+    size_t before = mallinfo2().uordblks;
+    struct words block = rattle_alloc(5000, 8);
+    int is_used = mallinfo2().uordblks >= before + 5000;
+    rattle_dealloc(block.memory);
+    holds("a block that is freed", is_used && mallinfo2().uordblks == before);
+}
+
 /* More memory than there is: the answer is false, with a pointer that is not null, and the old block is as it was. */
 static void large(void) {
     const size_t sizes[] = {(size_t)1 << 47, (size_t)1 << 48, (size_t)1 << 62, ((size_t)1 << 63) - 1};
@@ -150,6 +159,7 @@ static void arguments(void) {
 int main(int argc, char **argv) {
     memset(longest, 'x', LONGEST);
     small();
+    freed();
     large();
     resized();
     errors();
