@@ -38,7 +38,7 @@ WIDTH = 1 << 17
 # Why no program starts after Children.stop.
 STOPPED = "all runs were stopped"
 # Where to get the program.
-WHERE = "the wheel for Linux on x86-64 brings it, and the manual names other ways under Python"
+WHERE = "the wheels for Linux on x86-64 and ARM bring it, and the manual names other ways under Python"
 
 
 class Children:
