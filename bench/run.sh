@@ -1,15 +1,17 @@
 #!/usr/bin/env bash
 # Measures dnorm beside other ways to make canonical texts.
 #
-#     run.sh [BINARY] [N]
+#     run.sh [--small] [BINARY] [N]
 #
 # BINARY is a program that is run as `BINARY < text`. By default it is that of the repository; `-` measures only the
 # baselines. N is the number of arcs of each text, by default 1000000. First all outputs are compared byte for byte, and
-# a difference ends the run. Then the times are measured.
+# a difference ends the run. Then the times are measured. With --small N is by default 200000, and the sp texts are
+# road, road-shuffled and hubs, which takes about a minute. The status is 3 for a wrong command line and without rustc,
+# the linker cc or python3.
 #
 # Environment:
 #     REPS=3            rounds
-#     KINDS="road .."   the sp texts, of the kinds in generate.rs; by default all nine below
+#     KINDS="road .."   the sp texts, of the kinds in generate.rs; by default all nine below, or the three of --small
 #     SLOW=0            leaves out the shell pipeline and Python
 #     OTHERS=0          leaves out min, max and co, for a program that knows sp alone
 #     IR=1              counts instructions of each arc too, on 100,000 arcs, with valgrind
@@ -19,15 +21,29 @@ set -euo pipefail
 # shellcheck source-path=SCRIPTDIR source=shared.sh
 . "$(dirname "${BASH_SOURCE[0]}")/shared.sh"
 
+fail() { # LINE
+    echo "run.sh: $1" >&2
+    exit 3
+}
+
+all='road road-pairs road-shuffled multi road-descending road-twice hubs hubs-shuffled hubs-pairs'
+arcs=1000000 timed=$all
+if [[ ${1-} == --small ]]; then
+    arcs=200000 timed='road road-shuffled hubs'
+    shift
+fi
 case ${1-} in
-    -) binary='' n=${2:-1000000} ;;
-    '' | *[!0-9]*) binary=$(program "${1-}") n=${2:-1000000} ;;
+    -) binary='' n=${2:-$arcs} ;;
+    -*) fail 'the command line is: run.sh [--small] [BINARY] [N]' ;;
+    '' | *[!0-9]*) binary=$(program "${1-}") n=${2:-$arcs} ;;
     *) binary=$(program) n=$1 ;;
 esac
+for tool in rustc cc python3; do
+    [[ $(command -v "$tool") ]] || fail "$tool is missing"
+done
 reps=${REPS:-3}
 limit=${LIMIT:-600}
-all='road road-pairs road-shuffled multi road-descending road-twice hubs hubs-shuffled hubs-pairs'
-read -r -a kinds <<< "${KINDS-$all}"
+read -r -a kinds <<< "${KINDS-$timed}"
 compile generate.rs measure.rs baselines/btree.rs baselines/tuned.rs baselines/tuned_flow.rs
 
 pipeline="pipeline=sh '$here/baselines/pipeline.sh'"

@@ -7,7 +7,6 @@ import ctypes
 import hashlib
 import json
 import os
-import pty
 import re
 import signal
 import subprocess
@@ -19,7 +18,7 @@ from xml.etree import ElementTree
 # This puts the folder of the package on the path.
 from calls import COMPRESS, PACKAGE, fake
 from known import COSTS, COSTS_TWO, FLOWS, ROADS, ROADS_CANON
-from shared import LIMIT, Answer, Tally, bytes_of, run, write
+from shared import LIMIT, Answer, Tally, bytes_of, run, terminal, write
 
 ENVIRONMENT = {"PYTHONPATH": PACKAGE, "PYTHONDONTWRITEBYTECODE": "1"}
 MODULE = [sys.executable, "-m", "dnorm"]
@@ -394,11 +393,14 @@ def many(tally: Tally, _: str) -> None:
 
 def progress(tally: Tally, _: str) -> None:
     """Tests the progress bar, which is drawn on a terminal only, and its removal before each line."""
+    ends = terminal(tally, "the progress bar of `check`")
+    if not ends:
+        return
+    upper, lower = ends
     slow = fake("slow", "sleep 0.3; cat > /dev/null; echo accepted sp; echo forms 1")
     names = [f"{it}.gr" for it in range(4)]
     for name in names:
         write(name, ROADS)
-    upper, lower = pty.openpty()
     process = started("check", "--jobs", "1", "--program", slow, *names, stderr=lower, stdout=lower)
     os.close(lower)
     said = b""

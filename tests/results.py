@@ -9,7 +9,6 @@ import io
 import json
 import os
 import pickle
-import pty
 import random
 import sys
 import time
@@ -20,7 +19,7 @@ from folders import ENVIRONMENT, make, module, started, wants
 from guards import zstd
 from known import COSTS, FLOWS, ROADS, ROADS_CANON
 from reading import Fault, Text, canonical, read
-from shared import LIMIT, ROOT, Tally, bytes_of, python_with, run, write
+from shared import LIMIT, ROOT, Tally, bytes_of, python_with, run, terminal, write
 from texts import lines_of, made, spelled
 
 import dnorm
@@ -319,7 +318,10 @@ def on_terminal(tally: Tally, _: str) -> None:
     shown = [r"a\x1b[31m\x09.gr", r"b\x7f\xc2\x9b\xe2\x80\xae.gr", r"c\x9b\xff.gr", "dé.gr"]
     for it in names:
         write(it, b"x\n")
-    upper, lower = pty.openpty()
+    ends = terminal(tally, "names on a terminal")
+    if not ends:
+        return
+    upper, lower = ends
     process = started("check", *names, stdout=lower, stderr=lower)
     os.close(lower)
     said = b""

@@ -2,13 +2,16 @@
 and how results are compared and counted. A test prints a line for each failure, and at the end how many checks passed
 and failed. What a tool takes from here it finds by adding tests/ to its path; no test imports a tool."""
 
+import contextlib
 import functools
 import os
 import resource
-import shutil
+import signal
+import struct
 import subprocess
 import sys
-from collections.abc import Callable, Sequence
+import tempfile
+from collections.abc import Callable, Iterator, Sequence
 from typing import IO, Any, NamedTuple
 
 ROOT = os.path.dirname(os.path.dirname(os.path.realpath(__file__)))
@@ -16,6 +19,8 @@ ROOT = os.path.dirname(os.path.dirname(os.path.realpath(__file__)))
 LIMIT = 60
 # The page that tools/definitions makes for a release.
 DEFINITIONS = "docs/DEFINITIONS.md"
+# The signals that end a test as an exit does.
+ENDING = (signal.SIGINT, signal.SIGTERM, signal.SIGHUP)
 # The arguments of a command, after its name.
 Words = Sequence[str | bytes]
 
@@ -70,12 +75,60 @@ class Tally:
         return 0 if self.failed == 0 else 1
 
 
+def is_quick() -> bool:
+    """Whether the first argument is --quick, by which a test takes less time. It is removed from the arguments."""
+    found = sys.argv[1:2] == ["--quick"]
+    if found:
+        del sys.argv[1]
+    return found
+
+
 def program() -> str:
-    """Returns the program that is tested: the first argument, or else the built program of the repository."""
-    path = os.path.abspath(sys.argv[1]) if sys.argv[1:] else f"{ROOT}/crates/dnorm/out/dnorm"
-    if not os.access(path, os.X_OK):
-        sys.exit(f"{path} is not a program: tools/build builds it")
+    """Returns the program that is tested: the first argument, or else the one that tools/program names. From then on
+    signals end the test as an exit does."""
+    end_by_signals()
+    if sys.argv[1:]:
+        path = os.path.abspath(sys.argv[1])
+    else:
+        named = subprocess.run([f"{ROOT}/tools/program"], stdout=subprocess.PIPE, text=True, check=False)
+        if named.returncode:
+            # It has said why.
+            sys.exit(named.returncode)
+        path = named.stdout.rstrip("\n")
+    if not os.path.isfile(path) or not os.access(path, os.X_OK):
+        sys.exit(f"{path} is not a program")
     return path
+
+
+def exit_by(number: int, _: object) -> None:
+    """Ends this process as an exit does, with the status that a shell gives to a process ended by this signal."""
+    sys.exit(128 + number)
+
+
+def end_by_signals() -> None:
+    """Lets signals end this process as an exit does, so that it removes its folders and ends what it started. Signals
+    that are ignored, as by nohup, stay ignored."""
+    for it in ENDING:
+        if signal.getsignal(it) is not signal.SIG_IGN:
+            signal.signal(it, exit_by)
+
+
+@contextlib.contextmanager
+def own_folder(name: str, place: str | None = None) -> Iterator[str]:
+    """Makes a folder for a test, and removes it at the end. Programs that the test starts put their temporary files
+    into another one, which is removed, too, since a program that is killed leaves its files."""
+    made = [tempfile.TemporaryDirectory(prefix=f"dnorm-{name}-", dir=place) for _ in range(2)]
+    folder, os.environ["TMPDIR"] = (it.name for it in made)
+    os.chmod(os.environ["TMPDIR"], 0o1777)
+    try:
+        yield folder
+    finally:
+        os.environ["TMPDIR"] = tempfile.gettempdir()
+        # A second signal must not end the removal.
+        before = signal.pthread_sigmask(signal.SIG_BLOCK, ENDING)
+        for it in made:
+            it.cleanup()
+        signal.pthread_sigmask(signal.SIG_SETMASK, before)
 
 
 def rows_of_list() -> list[list[str]]:
@@ -111,9 +164,9 @@ def make_page() -> None:
     write(f"{ROOT}/{DEFINITIONS}", made.stdout)
 
 
-def run(words: Words, given: bytes = b"", **more: Any) -> Answer:
+def run(words: Words, given: bytes = b"", limit: float = LIMIT, **more: Any) -> Answer:
     """Runs the program that these words begin with on the bytes given."""
-    ran = subprocess.run(words, input=given, capture_output=True, timeout=LIMIT, check=False, **more)
+    ran = subprocess.run(words, input=given, capture_output=True, timeout=limit, check=False, **more)
     return Answer(ran.stdout, ran.stderr, ran.returncode)
 
 
@@ -178,6 +231,23 @@ def write(path: str | bytes, text: str | bytes) -> None:
         file.write(text if isinstance(text, bytes) else text.encode())
 
 
+def has_proc(tally: Tally, what: str) -> bool:
+    """Whether the system has /proc. What needs it, by itself or by bash's <(..), is left out without it."""
+    found = os.path.exists("/proc/self/fd")
+    if not found:
+        tally.pass_over(what, "/proc")
+    return found
+
+
+def terminal(tally: Tally, what: str) -> tuple[int, int] | None:
+    """Returns both ends of a terminal. Where the system has none, as without /dev/pts, what needs it is left out."""
+    try:
+        return os.openpty()
+    except OSError:
+        tally.pass_over(what, "a terminal (/dev/pts)")
+        return None
+
+
 def python_with(*modules: str) -> str | None:
     """Returns a Python that has these modules: this one, or /usr/bin/python3, which has what Debian packages install.
     Returns None if neither has them."""
@@ -187,16 +257,14 @@ def python_with(*modules: str) -> str | None:
     return None
 
 
-def loaded_first(tally: Tally, folder: str, what: str, source: str) -> str | None:
-    """Makes a library from a C source, which is to be loaded before all others. Returns None if it cannot be made:
-    without a C compiler, what needs it is left out."""
-    compiler, library = shutil.which("cc"), f"{folder}/first.so"
-    if not compiler:
-        tally.leave_out(what, "cc")
-        return None
-    write(f"{folder}/first.c", source)
-    made = run([compiler, "-shared", "-fPIC", "-o", library, f"{folder}/first.c"])
-    if made.status:
-        tally.fail(f"cc: {made.err.decode(errors='replace')}")
-        return None
-    return library
+def is_static(path: str) -> bool:
+    """Whether a program loads no libraries: it is an ELF file of 64 bits without the header PT_INTERP, which names the
+    loader. Any other program, such as a script, may load some."""
+    with open(path, "rb") as file:
+        head = file.read(64)
+        if not head.startswith(b"\x7fELF\x02\x01") or len(head) < 64:
+            return False
+        start, size, count = struct.unpack_from("<Q14xHH", head, 32)
+        file.seek(start)
+        table = file.read(size * count)
+    return all(table[at : at + 4] != struct.pack("<I", 3) for at in range(0, len(table), max(size, 1)))

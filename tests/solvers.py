@@ -14,14 +14,13 @@ import random
 import re
 import shutil
 import sys
-import tempfile
 from typing import Any
 
 # This puts the folder of the package on the path.
 import instances
 from calls import columns, outputs, told
 from reading import Text, canonical
-from shared import Tally, program, run, write
+from shared import Tally, own_folder, program, run, write
 from texts import lines_of
 
 import dnorm
@@ -277,7 +276,7 @@ def main() -> int:
     os.environ["DNORM"] = program()
     if not shutil.which("glpsol"):
         tally.leave_out("what glpsol finds for min and max", "glpsol")
-    with tempfile.TemporaryDirectory(prefix="dnorm-solvers-") as folder:
+    with own_folder("solvers") as folder:
         os.chdir(folder)
         for _ in range(ROUNDS):
             for test in [shortest, greatest, cheapest]:
