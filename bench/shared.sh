@@ -13,17 +13,12 @@ else
     trap 'rm -rf "$work"' EXIT
 fi
 
-# Prints the path of the program: the one that is named, or the built program of the repository.
+# Prints the path of the program: the one that is named, or the one that ./dnorm runs.
 program() { # [BINARY]
-    local built=$here/../crates/dnorm/out/dnorm
     if [[ ${1-} ]]; then
         realpath -e "$1"
-    elif [[ -x $built ]]; then
-        realpath "$built"
     else
-        echo 'There is no program at crates/dnorm/out/dnorm.' \
-            'Run ./dnorm at the top of the repository first: it builds it.' >&2
-        return 1
+        "$here/../tools/program"
     fi
 }
 
