@@ -14,6 +14,9 @@ import tempfile
 from collections.abc import Callable, Iterator, Sequence
 from typing import IO, Any, NamedTuple
 
+if sys.version_info < (3, 10):
+    sys.exit("the tests need Python 3.10 or later")
+
 ROOT = os.path.dirname(os.path.dirname(os.path.realpath(__file__)))
 # A run that takes longer, in seconds, is ended and fails the test.
 LIMIT = 60
