@@ -15,7 +15,7 @@ from collections.abc import Callable, Iterator, Sequence
 from typing import IO, Any, NamedTuple
 
 if sys.version_info < (3, 10):
-    sys.exit("the tests need Python 3.10 or later")
+    sys.exit("this script needs Python 3.10 or later")
 
 ROOT = os.path.dirname(os.path.dirname(os.path.realpath(__file__)))
 # A run that takes longer, in seconds, is ended and fails the test.
