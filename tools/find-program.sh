@@ -1,6 +1,6 @@
 # shellcheck shell=bash
 # Finds the program of a clone: the one that tools/build has built, or else the released one, if it was made from the
-# sources that are there. ./dnorm and tools/program include this file. It needs bash and coreutils.
+# sources that are there. ./dnorm and tools/program include this file. It needs bash and what every Debian has.
 
 root=${BASH_SOURCE[0]%/tools/find-program.sh}
 out=$root/crates/dnorm/out
