@@ -3,7 +3,7 @@
 #
 #     run.sh [--small] [BINARY] [N]
 #
-# BINARY is a program that is run as `BINARY < text`. By default it is that of the repository; `-` measures only the
+# BINARY is a program that is run as `BINARY < text`. By default it is the one that ./dnorm runs; `-` measures only the
 # baselines. N is the number of arcs of each text, by default 1000000. First all outputs are compared byte for byte, and
 # a difference ends the run. Then the times are measured. With --small N is by default 200000, and the sp texts are
 # road, road-shuffled and hubs, which takes about a minute. The status is 3 for a wrong command line and without rustc,
