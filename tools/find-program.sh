@@ -1,6 +1,6 @@
 # shellcheck shell=bash
 # Finds the program of a clone: the one that tools/build has built, or else the released one, if it was made from the
-# sources that are there. ./dnorm and tools/program include this file. It needs bash and what every Debian has.
+# sources that are there. ./dnorm and tools/program include this file. It needs bash, GNU coreutils, findutils and sed.
 
 root=${BASH_SOURCE[0]%/tools/find-program.sh}
 out=$root/crates/dnorm/out
@@ -14,11 +14,13 @@ stop() { # LINE
     exit 125
 }
 
-# Whether no file in these places has been changed since the mark, whatever time it has, nor a folder with files of a
-# crate.
+# Whether the mark exists and nothing in these places has changed since: no file, and in crates/ no folder. `out` does
+# not count. Times of change are compared, which `cp -p` and `touch` cannot set back. If find fails, as for a place that
+# is gone, the answer is no.
 is_current() { # MARK PLACE..
-    [[ -e $1 && -z $(find "${@:2}" -name out -prune -o \( -type f -o -path '*/crates/*/*' \) -cnewer "$1" \
-        -print -quit) ]]
+    local changed
+    [[ -e $1 ]] && changed=$(find "${@:2}" -name out -prune -o -cnewer "$1" -print -quit 2> /dev/null) &&
+        [[ ! $changed ]]
 }
 
 find_built() {
@@ -40,33 +42,29 @@ find_released() {
     fi
 }
 
-# Compares the sources with those that the released program was made from, and the files below released/ with their
-# sums. If all is well, the next call need not compare: nothing has been changed since this one began.
+# Compares the released program's sources and files with their sums. If they agree, sets the mark to the time before the
+# comparison, so that later calls need not repeat it.
 check_released() {
     local began sum
     [[ ! $packed ]] || unpack || stop "$packed could not be unpacked to $program"
-    began=${EPOCHREALTIME/,/.}
+    # This changes crates/dnorm, so it comes before the time of the mark.
+    mkdir -p "$out/released" 2> /dev/null || true
+    began=$(date +%s.%N)
     sum=$(sed -n 's/^sources of the program: //p' "$root/released/buildinfo" 2> /dev/null) || return 1
-    [[ $sum == "$("$root/tools/source-sum" program)" ]] || return 1
+    [[ $sum && $sum == "$("$root/tools/source-sum" program 2> /dev/null)" ]] || return 1
     if ! (cd "$root/released" && sha256sum --strict --check SHA256SUMS) &> /dev/null; then
         stop "released/ has other bytes than SHA256SUMS says: git restores it, and tools/build builds the program anew"
     fi
     [[ $(head -c 4 "$program") == $'\x7fELF' ]] || stop "$program is no program: tools/build builds one"
     [[ -x $program ]] || stop "$program is not executable: chmod +x makes it so"
-    if mkdir -p "$out/released" 2> /dev/null; then
-        touch -d "@$began" "$found" 2> /dev/null || true
-    fi
+    touch -d "@$began" "$found" 2> /dev/null || true
 }
 
-unpack() {
-    mkdir -p "$out/released" || return 1
-    if gzip -dc "$packed" > "$program.$$" 2> /dev/null && chmod 755 "$program.$$"; then
+unpack() (
+    trap 'rm -f "$program.$$"' EXIT
+    mkdir -p "$out/released" && gzip -dc "$packed" > "$program.$$" && chmod 755 "$program.$$" &&
         mv "$program.$$" "$program"
-    else
-        rm -f "$program.$$"
-        return 1
-    fi
-}
+) 2> /dev/null
 
 find_program() {
     find_built || find_released
