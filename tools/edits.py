@@ -2,7 +2,8 @@
 these functions."""
 
 import re
-from collections.abc import Collection, Iterator, Mapping
+from collections.abc import Collection, Iterable, Iterator, Mapping
+from pathlib import Path
 from typing import NamedTuple
 
 # The head of a function, of a block of functions (an implementation or a trait), and of a type.
@@ -115,6 +116,12 @@ class Sources:
         homes = {name: module_of(it) for it, text in code.items() for name in TYPE.findall(text)}
         self.functions = {it: [*functions_of(it, text, homes)] for it, text in code.items()}
 
+    @classmethod
+    def of(cls, crate: Path) -> "Sources":
+        """Returns the sources in the folder of a crate."""
+        files = [it for part in ("src", "specs", "proofs") for it in (crate / part).rglob("*") if it.is_file()]
+        return cls({str(it.relative_to(crate)): it.read_text("utf-8") for it in sorted(files)})
+
     def at(self, path: str, line: int) -> Function | None:
         """Returns the function at a line of a source, counted from 0."""
         return next((it for it in self.functions.get(path, []) if it.first <= line <= it.last), None)
@@ -124,6 +131,21 @@ class Sources:
         lines = [(self.at(*it), it[1]) for it in applied(text, self.texts)[1]]
         functions = {it.path for it, _ in lines if it} if all(it for it, _ in lines) else set[str]()
         return Edit(name, text, tuple(sorted(functions)), all(it and it.body < at < it.last for it, at in lines))
+
+    def together(self, edits: Iterable[Edit]) -> tuple[list[Edit], dict[str, str]]:
+        """Returns the first of these edits and those that can be applied with it, each of other functions, and the
+        texts with all of them."""
+        chosen, texts, taken = list[Edit](), {**self.texts}, set[str]()
+        for it in edits:
+            if taken.isdisjoint(it.functions):
+                try:
+                    texts, _ = applied(it.text, texts)
+                except ValueError:
+                    # Its old text stands in the new text of another edit, too.
+                    continue
+                taken.update(it.functions)
+                chosen.append(it)
+        return chosen, texts
 
 
 class Said:
