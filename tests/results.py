@@ -363,13 +363,14 @@ def lists(tally: Tally, _: str) -> None:
     make({f"set/{name}": text for name, (text, _) in LISTED.items()})
     write("set/h.gr.gz", gzip.compress(b"c\n\tp sp  2 1\na 1 2 3\n"))
     write("set/x.gr", b"x\n")
-    rows = {**LISTED, "h.gr.gz": (b"p sp 2 1\na 1 2 3\n", "nodes 2, without arcs 0|lines 1, canonical 1, merged 0, "
-            "self-loops 0|length 3 to 3, 31 bits")}  # fmt: skip
+    rows = {**LISTED, "h.gr.gz": (b"c\n\tp sp  2 1\na 1 2 3\n", "nodes 2, without arcs 0|lines 1, canonical 1, "
+            "merged 0, self-loops 0|length 3 to 3, 31 bits")}  # fmt: skip
     lines, sums = "", {}
     for name, (text, more) in rows.items():
         sums[name] = dnorm.checksum(text)
         kind = dnorm.check(text).kind
-        below = "".join(f"    {it}\n" for it in [*more.split("|"), f"checksum {sums[name]}"])
+        told_of = [f"bytes {len(text)}", *more.split("|"), f"checksum {sums[name]}"]
+        below = "".join(f"    {it}\n" for it in told_of)
         lines += f"set/{name}: {kind}\n{below}"
     count = "8 listed, 1 refused, 0 failed\n"
     wants(tally, "list", module("list", "set"), lines, f"set/x.gr:1: 1 BadLine\n{count}", 2)
@@ -380,6 +381,7 @@ def lists(tally: Tally, _: str) -> None:
     wanted = {
         "name": "set/c.max",
         "kind": "max",
+        "bytes": len(LISTED["c.max"][0]),
         "nodes": 5,
         "declared": 3,
         "canonical": 1,

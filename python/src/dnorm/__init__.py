@@ -28,10 +28,11 @@ from .files import File, Readable, Target, Writable
 from .instances import Co, Graph, Instance, Max, Min, P2p, Sp, Ss, from_arrays
 from .library import find_library
 from .networks import from_networkx
+from .pairs import PairDifference
 from .program import find_program, version
 from .reader import read
 from .refusals import REFUSALS
-from .summary import Differences, PairDifference, differences
+from .summary import Differences, differences
 from .writer import write
 
 # The version of the program that this package belongs to, as Python packages spell it.

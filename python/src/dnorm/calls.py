@@ -7,7 +7,8 @@ from collections.abc import Callable, Sequence
 from typing import Optional, TypeVar, Union
 
 from .answers import Checked, Difference, Same, Shown, checked, compared, shown
-from .files import File, Sink, Target, name_of, sink_of
+from .files import File, Sink, Target, enough_memory, name_of, sink_of
+from .limits import Limit
 from .program import Program, run, unexpected
 
 Answer = TypeVar("Answer")
@@ -24,7 +25,8 @@ def check(
     def words(name: str, *others: str) -> Sequence[str]:
         return ["check", name, *(["--with", *others] if others else [])]
 
-    found = answer(checked, words, [file] if companion is None else [file, companion], program, timeout)
+    files = [file] if companion is None else [file, companion]
+    found = answer(checked, words, files, program, Limit(timeout, name_of(file)))
     if bool(found.fits) != (companion is not None):
         raise unexpected(name_of(file), 0, str(found))
     return found
@@ -33,8 +35,10 @@ def check(
 def canon(file: File, form: int = 1, *, program: Program = None, timeout: Optional[float] = None) -> bytes:
     """Returns the canonical text of a text. `form` is 1 or 2, and matters only for `min`."""
     parts: list[bytes] = []
-    canon_into(Sink("out", parts.append), file, form, program, timeout)
-    return b"".join(parts)
+    limit = Limit(timeout, name_of(file))
+    with enough_memory(limit.name):
+        canon_into(Sink("out", parts.append), file, form, program, limit)
+        return b"".join(parts)
 
 
 def canon_to(
@@ -47,21 +51,28 @@ def canon_to(
     got a prefix of the text if writing fails. Raises `Write` then, and for a path that ends as other compressed files
     do."""
     with sink_of(target) as sink:
-        canon_into(sink, file, form, program, timeout)
+        canon_into(sink, file, form, program, Limit(timeout, name_of(file)))
 
 
 def checksum(file: File, form: int = 1, *, program: Program = None, timeout: Optional[float] = None) -> str:
     """Returns the SHA-256 checksum of the canonical text, in hexadecimal digits. Texts that pose the same problem have
     the same checksum."""
     found = hashlib.sha256()
-    canon_into(Sink("out", found.update), file, form, program, timeout)
+    canon_into(Sink("out", found.update), file, form, program, Limit(timeout, name_of(file)))
     return found.hexdigest()
 
 
-def canon_into(sink: Sink, file: File, form: int, program: Program, timeout: Optional[float] = None) -> None:
-    """Writes the canonical text of a text into a sink."""
+def canon_into(
+    sink: Sink,
+    file: File,
+    form: int,
+    program: Program,
+    limit: Limit,
+    watch: Optional[Callable[[bytes], object]] = None,
+) -> None:
+    """Writes the canonical text of a text into a sink. `watch` takes the pieces of the text."""
     check_form(form)
-    status = run(lambda name: ["canon", "--form", str(int(form)), name], [file], sink, program, timeout)
+    status = run(lambda name: ["canon", "--form", str(int(form)), name], [file], sink, program, limit, watch)
     if status:
         raise unexpected(name_of(file), status, "")
 
@@ -77,12 +88,14 @@ def compare(
 ) -> Union[Same, Difference]:
     """Returns `Same` if both texts pose the same problem, or else their first `Difference`. As a condition, `Same` is
     true and a `Difference` is false."""
-    return answer(compared, lambda *names: ["compare", *names], [left, right], program, timeout)
+    return answer(compared, lambda *names: ["compare", *names], [left, right], program, Limit(timeout, name_of(left)))
 
 
 def show(file: File, *, program: Program = None, timeout: Optional[float] = None) -> Shown:
     """Returns what a text contains. `read` returns its arcs, too."""
-    return answer(shown, lambda name: ["show", name], [file], program, timeout)
+    limit = Limit(timeout, name_of(file))
+    with enough_memory(limit.name):
+        return answer(shown, lambda name: ["show", name], [file], program, limit)
 
 
 def answer(
@@ -90,11 +103,11 @@ def answer(
     words: Callable[..., Sequence[str]],
     files: Sequence[File],
     program: Program,
-    timeout: Optional[float],
+    limit: Limit,
 ) -> Answer:
     """Returns what the lines say that the program prints for these files."""
     parts: list[bytes] = []
-    status = run(words, files, Sink("out", parts.append), program, timeout)
+    status = run(words, files, Sink("out", parts.append), program, limit)
     out = b"".join(parts).decode("ascii", "backslashreplace")
     try:
         found = read(out)

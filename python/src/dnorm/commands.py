@@ -16,6 +16,7 @@ from .companions import Fitting, Partners, check_companion, parts_of
 from .errors import DnormError, Read, Refused
 from .files import failing, sink_of
 from .folders import COMPANIONS, Found, find, in_order, in_order_of_names, outcome
+from .library import library_of
 from .listing import Listed, listed, record_of_listed, row_of, table, text_of_listed
 from .manifests import Entry, entries_of, text_of
 from .reports import Case, Console, Result, annotation_of, as_json, cause_of, junit, line_of, line_with, record_of
@@ -199,7 +200,10 @@ class Run:
 
     def list(self) -> None:
         """Prints what each file contains."""
-        words, rows = self.words, 0
+        words, rows, library = self.words, 0, library_of(self.words.program)
+
+        def task(name: str) -> Listed:
+            return listed(name, words.form, words.program, library, words.timeout)
 
         def take(name: str, result: Listed | DnormError, _: float) -> None:
             nonlocal rows
@@ -212,7 +216,7 @@ class Run:
             else:
                 self.console.complain(line_of(name, result))
 
-        self.each_file(self.found(), lambda name: listed(name, words.form, words.program, words.timeout), take)
+        self.each_file(self.found(), task, take)
         self.sum_up(f"{self.done} listed")
 
     def compare(self) -> None:

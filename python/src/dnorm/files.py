@@ -13,7 +13,7 @@ from typing import BinaryIO, Optional, Protocol, Union
 
 from .causes import Cause, cause_of
 from .compressed import COMPRESSORS, DECOMPRESSORS, SIZE, Compressed, ending_of, pieces
-from .errors import DnormError, Read, Refused, Write
+from .errors import DnormError, Memory, Read, Refused, Write
 from .limits import Limit, Timed
 
 # A line that no text has. It ends a text whose reading failed, so that the program refuses the text.
@@ -64,6 +64,15 @@ def failing(kind: type[Read] | type[Write], name: str) -> Iterator[None]:
         raise kind(name, reason_of(error)) from error
 
 
+@contextlib.contextmanager
+def enough_memory(name: str) -> Iterator[None]:
+    """Raises Memory if Python or numpy has too little memory for what is kept of the file of this name."""
+    try:
+        yield
+    except MemoryError as error:
+        raise Memory(name) from error
+
+
 def write_all(file: BinaryIO, data: bytes) -> None:
     """Writes all of these bytes to a file without a buffer, whose writes can take less."""
     rest = memoryview(data)
@@ -100,10 +109,9 @@ def of_stream(stream: Readable) -> Iterator[bytes]:
 
 
 def beyond_standard(file: BinaryIO) -> BinaryIO:
-    """Moves an open file away from the descriptors of the standard streams, which it has if these were closed. A child
-    would have its own standard streams in its place."""
-    with file:
-        return open(fcntl.fcntl(file.fileno(), fcntl.F_DUPFD_CLOEXEC, 3), "rb", buffering=0)
+    """Opens what is open a second time, away from the descriptors of the standard streams, which the file has if these
+    were closed. A child would have its own standard streams in its place."""
+    return open(fcntl.fcntl(file.fileno(), fcntl.F_DUPFD_CLOEXEC, 3), "rb", buffering=0)
 
 
 def failed(error: Read) -> Iterator[bytes]:
@@ -127,54 +135,71 @@ def opened(path: str | os.PathLike[str] | os.PathLike[bytes], limit: Limit) -> i
     return file
 
 
-def text_of(file: File, name: str, stack: contextlib.ExitStack, limit: Limit) -> io.FileIO | Iterator[bytes]:
-    """Returns the file whose bytes are a text, or the pieces of the text."""
-    if isinstance(file, (bytes, bytearray, memoryview)):
-        return of_bytes(memoryview(file).cast("B"))
-    if not isinstance(file, (str, os.PathLike)):
-        if not hasattr(file, "read"):
-            raise TypeError(f"a file is a path, bytes or a binary stream, and not {type(file).__name__}")
-        return of_stream(file)
-    try:
-        with failing(Read, name):
-            found = stack.enter_context(opened(file, limit))
-    except Read as error:
-        # The program has to judge an earlier text first.
-        return failed(error)
-    start = DECOMPRESSORS.get(ending_of(name))
-    return pieces(Timed(found, limit), start) if start else found
+def mark_of(file: BinaryIO) -> tuple[int, int] | None:
+    """Returns what changes when a regular file is written: its size and its time. Returns None for any other file."""
+    found = os.fstat(file.fileno())
+    return (found.st_size, found.st_mtime_ns) if stat.S_ISREG(found.st_mode) else None
 
 
 class Text:
     """A text that is read once, from its beginning: `is_file` says whether its bytes are those of an open file, and
-    `is_compressed` whether a file is decompressed. The stack closes what is opened."""
+    `is_compressed` whether a file is decompressed. The file of a path is opened once, and the stack closes it. `size`
+    counts the bytes that were read."""
 
     def __init__(self, file: File, stack: contextlib.ExitStack, limit: Limit) -> None:
         self.file, self.name, self.limit = file, name_of(file), limit
-        self.text = text_of(file, self.name, stack, limit)
+        self.is_path = isinstance(file, (str, os.PathLike))
+        self.size = 0
+        self._opened: io.FileIO | None = None
+        self._mark: tuple[int, int] | None = None
+        try:
+            if isinstance(file, (str, os.PathLike)):
+                with failing(Read, self.name):
+                    self._opened = stack.enter_context(opened(file, limit))
+                    self._mark = mark_of(self._opened)
+            self.text = self._begun()
+        except Read as error:
+            # The program has to judge an earlier text first.
+            self.text = failed(error)
         self.is_file = isinstance(self.text, io.FileIO)
-        self.is_compressed = isinstance(file, (str, os.PathLike)) and not self.is_file
+        self.is_compressed = self.is_path and not self.is_file
         self._pieces: Iterator[bytes] | None = None
+
+    def _begun(self) -> io.FileIO | Iterator[bytes]:
+        """Returns the file whose bytes are the text, or the pieces of the text."""
+        file = self.file
+        if self._opened:
+            start = DECOMPRESSORS.get(ending_of(self.name))
+            return pieces(Timed(self._opened, self.limit), start) if start else self._opened
+        if isinstance(file, (bytes, bytearray, memoryview)):
+            return of_bytes(memoryview(file).cast("B"))
+        if isinstance(file, (str, os.PathLike)) or not hasattr(file, "read"):
+            raise TypeError(f"a file is a path, bytes or a binary stream, and not {type(file).__name__}")
+        return of_stream(file)
 
     def next_piece(self) -> bytes | None:
         """Returns the next piece, if there is one."""
         if self._pieces is None:
-            self._pieces = self._all()
+            self._pieces = self._all(self.text)
         with failing(Read, self.name):
-            return next(self._pieces, None)
+            piece = next(self._pieces, None)
+        self.size += len(piece or b"")
+        return piece
 
-    def _all(self) -> Iterator[bytes]:
+    def _all(self, text: io.FileIO | Iterator[bytes]) -> Iterator[bytes]:
         """Returns the pieces of the text."""
-        if not isinstance(self.text, io.FileIO):
-            return self.text
-        return of_stream(self.text) if self.limit.seconds is None else of_stream(Timed(self.text, self.limit))
+        if not isinstance(text, io.FileIO):
+            return text
+        return of_stream(text) if self.limit.seconds is None else of_stream(Timed(text, self.limit))
+
+    def stay_same(self) -> None:
+        """Raises Read if the file of the text was written since it was opened."""
+        if self._opened and self._mark and mark_of(self._opened) != self._mark:
+            raise Read(self.name, "it changed while it was read")
 
     def cause(self, error: Refused) -> Cause | None:
         """Returns the cause of a refusal, if the text can be read again."""
-        if isinstance(self.file, (str, os.PathLike)):
-            if not os.path.isfile(self.file):
-                return None
-        elif hasattr(self.file, "read"):
+        if self._mark is None and not isinstance(self.file, (bytes, bytearray, memoryview)):
             return None
         with contextlib.suppress(DnormError, OSError, EOFError):
             name = self.name if self.is_file else None
@@ -183,36 +208,47 @@ class Text:
 
     @contextlib.contextmanager
     def _again(self) -> Iterator[Iterator[bytes]]:
-        """Opens the text once more."""
-        with contextlib.ExitStack() as stack:
-            text = text_of(self.file, self.name, stack, self.limit)
-            yield of_stream(text) if isinstance(text, io.FileIO) else text
+        """Begins the text once more, by the file that is open."""
+        if self._opened:
+            self._opened.seek(0)
+        yield self._all(self._begun())
 
 
 class Source(Text):
     """A text that the program reads from `end`, whose descriptor is `fd` and whose path is `place`. That is the file
-    itself, if its bytes are the text, or else the end of a pipe that `feed` writes to; but if a folder is given, it is
-    a file of its own there, which has the text already. `failure` is why reading the text failed, and `sure` is the
-    number of its lines that were read whole before."""
+    itself, if its bytes are the text and nobody watches them, or else the end of a pipe that `feed` writes to; but if a
+    folder is given, it is a file of its own there, which has the text already. `failure` is why reading the text
+    failed, and `sure` is the number of its lines that were read whole before. `watch` takes each piece."""
 
-    def __init__(self, file: File, stack: contextlib.ExitStack, limit: Limit, folder: str | None = None) -> None:
+    def __init__(
+        self,
+        file: File,
+        stack: contextlib.ExitStack,
+        limit: Limit,
+        folder: str | None = None,
+        watch: Callable[[bytes], object] | None = None,
+    ) -> None:
         super().__init__(file, stack, limit)
-        self.sure = 0
+        self.watch, self.sure = watch, 0
         self.failure: Read | None = None
         self._into: BinaryIO | None = None
-        if folder is not None:
-            self.place = self._into_file(folder, stack)
-            end: BinaryIO = stack.enter_context(open(self.place, "rb", buffering=0))
-        elif isinstance(self.text, io.FileIO):
-            end = self.text
-        else:
-            reads, writes = os.pipe()
-            end = stack.enter_context(open(reads, "rb", buffering=0))
-            self._into = stack.enter_context(open(writes, "wb", buffering=0))
-        self.end = stack.enter_context(beyond_standard(end))
+        with contextlib.ExitStack() as first:
+            self.end = stack.enter_context(beyond_standard(self._first_end(folder, first, stack)))
         self.fd = self.end.fileno()
         if folder is None:
             self.place = f"/dev/fd/{self.fd}"
+
+    def _first_end(self, folder: str | None, first: contextlib.ExitStack, stack: contextlib.ExitStack) -> BinaryIO:
+        """Returns what `end` reads. `first` closes it, except for the file of the text, which stays open: the cause of
+        a refusal is looked for in it."""
+        if folder is not None:
+            self.place = self._into_file(folder, stack)
+            return first.enter_context(open(self.place, "rb", buffering=0))
+        if isinstance(self.text, io.FileIO) and not self.watch:
+            return self.text
+        reads, writes = os.pipe()
+        self._into = stack.enter_context(open(writes, "wb", buffering=0))
+        return first.enter_context(open(reads, "rb", buffering=0))
 
     def _into_file(self, folder: str, stack: contextlib.ExitStack) -> str:
         """Writes the text into a file of its own in a folder, and returns the path. The stack removes the file."""
@@ -231,6 +267,8 @@ class Source(Text):
         try:
             while (piece := self.next_piece()) is not None:
                 self.limit.left()
+                if self.watch:
+                    self.watch(piece)
                 is_taken = takes(self._into, piece)
                 # Only the end of a compressed file tells whether its lines are right, so it is read to its end.
                 if not self.is_compressed:

@@ -148,14 +148,22 @@ def find_library(program: Program = None) -> Optional[str]:
 
 
 class Instance:
-    """An instance that the library has read: its kind, `nodes`, and its numbers as columns."""
+    """An instance that the library has read: its kind, `nodes`, the number of counted `lines` that were read and of
+    `pairs` with arcs, and its numbers as columns."""
 
     def __init__(self, library: Library, handle: Any, form: int) -> None:
         self._library, self._handle, self._form = library, handle, form
         facts = library.facts(handle)
         self.kind, self._width = KINDS[facts.kind]
         self.nodes: int = facts.nodes
+        self.lines: int = facts.lines
+        self.pairs: int = facts.pairs
         self._room = max(ROOM, facts.lines // 4 + 1)
+
+    @property
+    def handle(self) -> Any:
+        """What the functions of the library take."""
+        return self._handle
 
     def columns(self) -> list[Any]:
         """Returns the columns of the arcs, or of the items of a companion."""
@@ -232,6 +240,7 @@ def fed(library: Library, address: Any, text: Text) -> Any:
             status = library.feed(address, piece, len(piece))
         if status.code != FINE and not text.is_compressed:
             break
+    text.stay_same()
     return status
 
 

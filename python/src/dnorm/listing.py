@@ -2,21 +2,27 @@
 
 from __future__ import annotations
 
+import contextlib
 import csv
+import hashlib
 import io
 from collections.abc import Iterable, Iterator
-from contextlib import ExitStack
 from typing import Any, NamedTuple
 
-from .calls import checksum
-from .causes import PROBLEM, lines_of
-from .files import of_stream, text_of
-from .instances import Co, Graph, Instance, Min
+from .calls import canon_into
+from .causes import PROBLEM
+from .columns import Column, numpy_here
+from .files import Sink, Text, enough_memory
+from .handles import canonical_pieces
+from .instances import Co, Graph, Min
+from .library import Library, instance_of
 from .limits import Limit
+from .pairs import VALUES
 from .program import Program
-from .reader import read
-from .summary import VALUES
+from .reader import AnyInstance, Reader, instance_by
 
+# A graph with more nodes than so many for each arc has few nodes with arcs; and the lower half of a number of 64 bits.
+SPARSE, LOW = 10, (1 << 32) - 1
 # The numbers of bits that readers and solvers have for a number without its sign.
 BITS = (31, 32, 53)
 
@@ -33,13 +39,15 @@ class Range(NamedTuple):
 class Listed(NamedTuple):
     """What a text contains. A companion has no facts of a graph, which are None.
 
-    `declared` is the number of counted lines, and `canonical` that of the canonical text. `merged` is the number of
+    `bytes` is the size of the text, which may be behind a compression. `declared` is the number of counted lines, and
+    `canonical` that of the canonical text. `merged` is the number of
     arcs besides the first of each ordered pair, and of arcs that mean nothing. `self_loops` counts arcs of the
     canonical text, and `without_arcs` nodes. `capacity` is the sum of the capacities, and `capacity_times_cost` that of
     each capacity times the absolute cost. `supply` and `demand` are the sums of the flows above and below 0."""
 
     name: str
     kind: str
+    bytes: int
     nodes: int | None
     declared: int
     canonical: int
@@ -54,70 +62,154 @@ class Listed(NamedTuple):
     checksum: str
 
 
-def listed(name: str, form: int, program: Program, timeout: float | None) -> Listed:
-    """Returns what a file contains."""
-    it = read(name, form, program=program, timeout=timeout)
-    columns = {field: getattr(it, column).tolist() for field, column in VALUES[it.kind].items()}
-    declared, canonical = declared_by(name, timeout), len(next(iter(columns.values())))
+def listed(name: str, form: int, program: Program, library: Library | None, timeout: float | None) -> Listed:
+    """Returns what a file contains. The file is read once: by this library, or else by the program."""
+    limit = Limit(timeout, name)
+    with enough_memory(name):
+        if library is None:
+            return listed_by_program(name, form, program, limit)
+        return listed_by_library(name, form, library, limit)
+
+
+def listed_by_library(name: str, form: int, library: Library, limit: Limit) -> Listed:
+    """Returns what a file contains, by the instance that the library has read."""
+    found = hashlib.sha256()
+    with contextlib.ExitStack() as stack:
+        text = Text(name, stack, limit)
+        held = stack.enter_context(instance_of(library, text, form))
+        for piece in canonical_pieces(library, held, form, limit):
+            found.update(piece)
+        instance, declared = instance_by(held), held.lines
+    return listed_as(name, text.size, instance, declared, found.hexdigest())
+
+
+def listed_by_program(name: str, form: int, program: Program, limit: Limit) -> Listed:
+    """Returns what a file contains, by its canonical text."""
+    reader, found, begin = Reader(name), hashlib.sha256(), Beginning()
+
+    def take(piece: bytes) -> None:
+        found.update(piece)
+        reader.take(piece)
+
+    canon_into(Sink("out", take), name, form, program, limit, begin.take)
+    return listed_as(name, begin.size, reader.end(), begin.declared, found.hexdigest())
+
+
+class Beginning:
+    """The problem line of an accepted text: it `declared` so many counted lines. `size` is the number of bytes that the
+    text has so far."""
+
+    def __init__(self) -> None:
+        self.declared = self.size = 0
+        self._rest: bytes | None = b""
+
+    def take(self, piece: bytes) -> None:
+        """Reads the next piece."""
+        self.size += len(piece)
+        if self._rest is None:
+            return
+        *lines, rest = (self._rest + piece).split(b"\n")
+        # A problem line without an LF ends the text, and declares no lines.
+        problem = next((it for it in lines if PROBLEM.match(it)), None)
+        if problem is not None:
+            self.declared, self._rest = int(problem.split()[-1]), None
+        else:
+            rest = rest.lstrip(b" \t\r")
+            self._rest = rest if rest.startswith(b"p") else rest[:1]
+
+
+def listed_as(name: str, size: int, it: AnyInstance, declared: int, checksum: str) -> Listed:
+    """Returns what an instance contains."""
+    columns = {field: getattr(it, column) for field, column in VALUES[it.kind].items()}
     flows = list(it.supplies.values()) if isinstance(it, Min) else []
-    caps = columns.get("cap")
-    is_min, pairs = isinstance(it, Min), pairs_of(it)
+    graph = facts_of(it) if isinstance(it, Graph) else None
+    is_min = isinstance(it, Min)
+    more: dict[str, Any] = {"flow": flows} if is_min else {"id": it.ids} if isinstance(it, Co) else {}
     return Listed(
         name=name,
         kind=it.kind,
+        bytes=size,
         nodes=it.nodes if isinstance(it, Graph) else None,
         declared=declared,
-        canonical=canonical,
-        merged=None if pairs is None else declared - len(pairs),
-        self_loops=None if pairs is None else sum(tail == head for tail, head in arcs_of(it)),
-        without_arcs=it.nodes - len({node for pair in pairs or () for node in pair}) if isinstance(it, Graph) else None,
-        capacity=None if caps is None else sum(caps),
-        capacity_times_cost=sum(cap * abs(cost) for cap, cost in zip(columns["cap"], columns["cost"]))
-        if is_min
-        else None,
+        canonical=len(it),
+        merged=declared - graph.pairs if graph else None,
+        self_loops=graph.self_loops if graph else None,
+        without_arcs=graph.without_arcs if graph else None,
+        capacity=sum_of(columns["cap"]) if "cap" in columns else None,
+        capacity_times_cost=sum_of_products(columns["cap"], columns["cost"]) if is_min else None,
         supply=sum(flow for flow in flows if flow > 0) if is_min else None,
         demand=-sum(flow for flow in flows if flow < 0) if is_min else None,
-        fields=dict(ranges({**({"flow": flows} if is_min else {}), **ids_of(it), **columns})),
-        checksum=checksum(name, form, program=program, timeout=timeout),
+        fields=dict(ranges({**more, **columns})),
+        checksum=checksum,
     )
 
 
-def arcs_of(it: Instance) -> Iterator[tuple[int, int]]:
-    """Yields tail and head of each arc of a graph."""
-    return zip(it.tails.tolist(), it.heads.tolist()) if isinstance(it, Graph) else iter(())
+class Facts(NamedTuple):
+    """How many pairs of a graph have arcs, how many arcs begin where they end, and how many nodes have no arcs."""
+
+    pairs: int
+    self_loops: int
+    without_arcs: int
 
 
-def pairs_of(it: Instance) -> set[tuple[int, int]] | None:
-    """Returns the ordered pairs of a graph that have arcs."""
-    return set(arcs_of(it)) if isinstance(it, Graph) else None
+def facts_of(it: Graph) -> Facts:
+    """Returns facts of a graph whose arcs are in the order of the canonical text."""
+    np, tails, heads = numpy_here(), it.tails, it.heads
+    if np is None:
+        pairs = set(zip(tails.tolist(), heads.tolist()))
+        loops = sum(tail == head for tail, head in zip(tails.tolist(), heads.tolist()))
+        return Facts(len(pairs), loops, it.nodes - len({node for pair in pairs for node in pair}))
+    again = np.count_nonzero((tails[1:] == tails[:-1]) & (heads[1:] == heads[:-1]))
+    return Facts(len(it) - int(again), int(np.count_nonzero(tails == heads)), it.nodes - count_of_nodes(np, it))
 
 
-def ids_of(it: Instance) -> dict[str, list[int]]:
-    """Returns the IDs of the points of a `co` text."""
-    return {"id": it.ids.tolist()} if isinstance(it, Co) else {}
+def count_of_nodes(np: Any, it: Graph) -> int:
+    """Returns how many nodes have arcs."""
+    if it.nodes > SPARSE * len(it):
+        return len(np.union1d(it.tails, it.heads))
+    has_arcs = np.zeros(it.nodes + 1, bool)
+    has_arcs[it.tails] = has_arcs[it.heads] = True
+    return int(np.count_nonzero(has_arcs))
 
 
-def ranges(columns: dict[str, list[int]]) -> Iterator[tuple[str, Range]]:
+def sum_of(numbers: Column) -> int:
+    """Returns the sum of numbers that are not below 0."""
+    np = numpy_here()
+    if np is None:
+        return sum(numbers.tolist())
+    # Halves of 32 bits, so that no sum of 64 bits overflows.
+    return (int((numbers >> 32).sum()) << 32) + int((numbers & LOW).sum())
+
+
+def sum_of_products(caps: Column, costs: Column) -> int:
+    """Returns the sum of each capacity times the absolute cost."""
+    np = numpy_here()
+    if np is None:
+        return sum(cap * abs(cost) for cap, cost in zip(caps.tolist(), costs.tolist()))
+    # The absolute value of -2^63 is itself, and as a number without a sign it is 2^63.
+    halves = [(it >> np.uint64(32), it & np.uint64(LOW)) for it in (caps.view("u8"), np.abs(costs).view("u8"))]
+    total = 0
+    for place, cap in zip((32, 0), halves[0]):
+        for to, cost in zip((32, 0), halves[1]):
+            product = cap * cost
+            total += int((product >> np.uint64(32)).sum()) << (32 + place + to)
+            total += int((product & np.uint64(LOW)).sum()) << (place + to)
+    return total
+
+
+def ranges(columns: dict[str, Any]) -> Iterator[tuple[str, Range]]:
     """Yields the range of each field that has a number."""
     for field, numbers in columns.items():
-        if numbers:
-            least, greatest = min(numbers), max(numbers)
+        if len(numbers):
+            is_array = hasattr(numbers, "max")
+            least, greatest = (int(numbers.min()), int(numbers.max())) if is_array else (min(numbers), max(numbers))
             bits = max(least.bit_length(), greatest.bit_length())
             yield field, Range(least, greatest, next((it for it in BITS if bits <= it), 64))
 
 
-def declared_by(name: str, timeout: float | None) -> int:
-    """Returns how many counted lines the problem line of a file declares."""
-    with ExitStack() as stack:
-        text = text_of(name, name, stack, Limit(timeout, name))
-        lines = lines_of(of_stream(text) if isinstance(text, io.FileIO) else text)
-        problem = next((it for it in lines if PROBLEM.match(it)), b"0")
-    return int(problem.split()[-1])
-
-
 def text_of_listed(it: Listed) -> str:
     """Returns the lines below the name of a file."""
-    lines = []
+    lines = [f"bytes {it.bytes}"]
     if it.nodes is not None:
         lines.append(f"nodes {it.nodes}, without arcs {it.without_arcs}")
     more = "" if it.merged is None else f", merged {it.merged}, self-loops {it.self_loops}"

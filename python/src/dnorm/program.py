@@ -16,7 +16,7 @@ from typing import IO, Any, Union
 
 from .compressed import SIZE
 from .errors import DnormError, Endless, Killed, Memory, NoProgram, Read, Refused, Unexpected, Write
-from .files import File, Sink, Source, Text, name_of, reason_of
+from .files import File, Sink, Source, Text, reason_of
 from .limits import Limit
 from .refusals import REFUSALS
 
@@ -175,18 +175,19 @@ def run(
     files: Sequence[File],
     sink: Sink,
     program: Program,
-    timeout: float | None = None,
+    limit: Limit,
+    watch: Callable[[bytes], object] | None = None,
 ) -> int:
     """Runs the program on files, hands its standard output to the sink, and returns the status 0 or 1. `words` returns
-    the arguments, given the names of the files. Any other status, a file whose reading fails, and a run that takes
-    longer than `timeout` raise their error."""
+    the arguments, given the names of the files, and `watch` takes the pieces of the first one. Any other status, a file
+    whose reading fails, and a run that takes longer than the limit raise their error."""
     path = verified(program)
-    limit = Limit(timeout, name_of(files[0]))
     with contextlib.ExitStack() as stack:
         # The program reads the first text from its standard input, and the others from further descriptors, or from
         # files where a wrapper does not pass descriptors on.
         folder = os.environ.get("DNORM_FILES") or None
-        sources = [Source(files[0], stack, limit), *(Source(it, stack, limit, folder) for it in files[1:])]
+        first = Source(files[0], stack, limit, watch=watch)
+        sources = [first, *(Source(it, stack, limit, folder) for it in files[1:])]
         names = ["-", *(it.place for it in sources[1:])]
         streams = {"stdin": sources[0].end, "stdout": sink.file or subprocess.PIPE, "stderr": subprocess.PIPE}
         others = [it.fd for it in sources[1:]]
@@ -194,15 +195,21 @@ def run(
         with limit.over(process):
             err = talk(process, sources, sink)
             status = status_of(process, sources[0].name)
-    error, source = failure_of(status, err, dict(zip(names, sources)), sink.name)
-    failed = next((it for it in sources if it.failure), None)
+        error = error_of_run(status, err, dict(zip(names, sources)), sink.name)
+        if error:
+            raise error
+    return status
+
+
+def error_of_run(status: int, err: bytes, sources: dict[str, Source], out: str) -> DnormError | None:
+    """Returns the error that a run of the program on these texts has ended with, if any, with its cause."""
+    for it in sources.values():
+        it.stay_same()
+    error, source = failure_of(status, err, sources, out)
+    failed = next((it for it in sources.values() if it.failure), None)
     if failed and not is_earlier(error, source, failed):
         error = failed.failure
-    if isinstance(error, Refused) and source:
-        error = with_cause(error, source)
-    if error:
-        raise error
-    return status
+    return with_cause(error, source) if isinstance(error, Refused) and source else error
 
 
 def with_cause(error: Refused, source: Text) -> Refused:

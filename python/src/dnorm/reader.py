@@ -11,12 +11,16 @@ from .calls import canon_into, check_form
 from .columns import Growing
 from .digits import Digits
 from .errors import Unexpected
-from .files import File, Sink, Text, name_of
+from .files import File, Sink, Text, enough_memory, name_of
 from .instances import Co, Max, Min, P2p, Sp, Ss
+from .library import Instance as Held
 from .library import instance_of, library_of
 from .limits import Limit
 from .lines import COUNTED, PROBLEM
 from .program import Program, unexpected
+
+
+AnyInstance = Union[Sp, Max, Min, Ss, P2p, Co]
 
 
 class Reader:
@@ -47,11 +51,13 @@ class Reader:
         except (ValueError, OverflowError) as error:
             raise self._unexpected(text) from error
 
-    def end(self) -> None:
-        """Ends the text."""
+    def end(self) -> AnyInstance:
+        """Ends the text, and returns its instance."""
         is_whole = self.kind and self.counted == self.declared and not self._rest
         if not is_whole or self.kind == "max" and set(self.terminals) != {b"s", b"t"}:
             raise self._unexpected(self._rest)
+        columns = [it.column() for it in self.columns]
+        return instance(self.kind, self.nodes, self.flows, self.terminals, columns)
 
     def _problem(self, text: bytes) -> bytes:
         """Reads the problem line, and returns the other lines."""
@@ -108,31 +114,31 @@ class Reader:
         return unexpected(self.name, 0, next(bad, self._head).decode("ascii", "backslashreplace"))
 
 
-def read(
-    file: File, form: int = 1, *, program: Program = None, timeout: Optional[float] = None
-) -> Union[Sp, Max, Min, Ss, P2p, Co]:
+def read(file: File, form: int = 1, *, program: Program = None, timeout: Optional[float] = None) -> AnyInstance:
     """Returns the instance that a text poses: an `Sp`, `Max`, `Min`, `Ss`, `P2p` or `Co`. `form` is 1 or 2, and matters
     only for `Min`. The library for C reads it where `find_library` finds it, and the program by its canonical text
     elsewhere."""
     check_form(form)
-    library = library_of(program)
-    if library:
-        limit = Limit(timeout, name_of(file))
-        with contextlib.ExitStack() as stack:
-            found = stack.enter_context(instance_of(library, Text(file, stack, limit), int(form)))
-            flows = dict(found.items()) if found.kind == "min" else {}
-            terminals = dict(zip((b"s", b"t"), found.items()[0])) if found.kind == "max" else {}
-            return instance(found.kind, found.nodes, flows, terminals, found.columns())
-    reader = Reader(name_of(file))
-    canon_into(Sink("out", reader.take), file, form, program, timeout)
-    reader.end()
-    columns = [it.column() for it in reader.columns]
-    return instance(reader.kind, reader.nodes, reader.flows, reader.terminals, columns)
+    limit, library = Limit(timeout, name_of(file)), library_of(program)
+    with enough_memory(limit.name):
+        if library:
+            with contextlib.ExitStack() as stack:
+                return instance_by(stack.enter_context(instance_of(library, Text(file, stack, limit), int(form))))
+        reader = Reader(limit.name)
+        canon_into(Sink("out", reader.take), file, form, program, limit)
+        return reader.end()
+
+
+def instance_by(found: Held) -> AnyInstance:
+    """Returns the instance that the library has read."""
+    flows = dict(found.items()) if found.kind == "min" else {}
+    terminals = dict(zip((b"s", b"t"), found.items()[0])) if found.kind == "max" else {}
+    return instance(found.kind, found.nodes, flows, terminals, found.columns())
 
 
 def instance(
     kind: str, nodes: int, flows: dict[int, int], terminals: dict[bytes, int], columns: list[Any]
-) -> Union[Sp, Max, Min, Ss, P2p, Co]:
+) -> AnyInstance:
     """Returns an instance of a kind."""
     if kind == "min":
         tails, heads, lows, caps, costs = columns

@@ -2,45 +2,22 @@
 
 from __future__ import annotations
 
-from collections import Counter
+import contextlib
+import io
 from collections.abc import Iterator
 from dataclasses import dataclass
-from itertools import groupby
-from operator import itemgetter
 from typing import Optional, Union
 
-from .answers import Difference, Same
-from .calls import canon, compare
-from .files import File
+from .answers import Difference, Same, compared
+from .calls import answer, canon_into
+from .files import File, Sink, Text, enough_memory, name_of
+from .handles import first_difference
 from .instances import Graph, Instance, Max, Min
+from .library import Library, instance_of, library_of
+from .limits import Limit
+from .pairs import Key, PairDifference, paired
 from .program import Program
-from .reader import read
-
-# The columns of each kind: those of the key, and those of the values with their names.
-KEYS = {"min": ("tails", "heads"), "max": ("tails", "heads"), "sp": ("tails", "heads"), "co": ("ids",)}
-VALUES = {
-    "min": {"low": "lows", "cap": "caps", "cost": "costs"},
-    "max": {"cap": "capacities"},
-    "sp": {"length": "lengths"},
-    "co": {"x": "xs", "y": "ys"},
-    "ss": {"source": "sources"},
-    "p2p": {"source": "sources", "target": "targets"},
-}
-
-Key = tuple[int, ...]
-# The values of the arcs of a pair. There are none if the text has no such pair.
-Arcs = tuple[tuple[int, ...], ...]
-
-
-@dataclass(frozen=True)
-class PairDifference:
-    """A pair whose arcs differ. `key` is its tail and head; or the ID of a point, or the place of an item. `left` and
-    `right` have the values of each arc: LENGTH, CAP, or LOW, CAP and COST as of form 2. They are empty where a text has
-    no such pair."""
-
-    key: Key
-    left: Arcs
-    right: Arcs
+from .reader import AnyInstance, Reader, instance_by
 
 
 @dataclass(frozen=True, repr=False)
@@ -84,77 +61,72 @@ def differences(
     keeps both canonical texts in memory."""
     if limit is not None and limit < 0:
         raise ValueError(f"limit is at least 0, and not {limit}")
-    # A stream can be read only once.
-    texts = [canon(it, 2, program=program, timeout=timeout) if hasattr(it, "read") else it for it in (left, right)]
-    first = compare(texts[0], texts[1], program=program, timeout=timeout)
-    if isinstance(first, Difference) and first.what == "kind":
-        return Differences(first)
-    one, other = (read(it, 2, program=program, timeout=timeout) for it in texts)
-    return summary(first, one, other, limit)
+    time, library = Limit(timeout, name_of(left)), library_of(program)
+    with enough_memory(time.name):
+        if library:
+            first, instances = by_library(library, (left, right), time)
+        else:
+            first, instances = by_program(program, (left, right), time)
+        return summary(first, *instances, limit=limit) if instances else Differences(first)
+
+
+# The first difference between two texts, and their instances of form 2, or None if their kinds differ.
+Both = tuple[Union[Same, Difference], Optional[tuple[AnyInstance, AnyInstance]]]
+
+
+def by_library(library: Library, files: tuple[File, File], limit: Limit) -> Both:
+    """Returns what the library says of two texts, each of which it reads once."""
+    with contextlib.ExitStack() as stack:
+        left, right = (stack.enter_context(instance_of(library, Text(it, stack, limit), 2)) for it in files)
+        first = first_difference(library, left, right)
+        instances = None if left.kind != right.kind else (instance_by(left), instance_by(right))
+    return first, instances
+
+
+class Canonical(io.BytesIO):
+    """A canonical text that keeps the name of its file."""
+
+    def __init__(self, name: str, text: bytes) -> None:
+        super().__init__(text)
+        self.name = name
+
+
+def by_program(program: Program, files: tuple[File, File], limit: Limit) -> Both:
+    """Returns what the program says of two texts, each of which it reads once: it compares their canonical texts."""
+    (left, one), (right, other) = (kept(program, it, limit) for it in files)
+    first = answer(compared, lambda *names: ["compare", *names], [left, right], program, limit)
+    return first, None if one.kind != other.kind else (one, other)
+
+
+def kept(program: Program, file: File, limit: Limit) -> tuple[Canonical, AnyInstance]:
+    """Returns the canonical text of a text, by the program, and its instance."""
+    reader = Reader(name_of(file))
+    parts: list[bytes] = []
+
+    def take(piece: bytes) -> None:
+        reader.take(piece)
+        parts.append(piece)
+
+    canon_into(Sink("out", take), file, 2, program, limit)
+    return Canonical(reader.name, b"".join(parts)), reader.end()
 
 
 def summary(first: Same | Difference, left: Instance, right: Instance, limit: int | None) -> Differences:
     """Returns the differences between two instances of one kind."""
-    counts: Counter[str] = Counter()
-    fields: Counter[str] = Counter()
-    differing: list[PairDifference] = []
-    for key, ours, theirs in merged(pairs_of(left), pairs_of(right)):
-        where = "both" if ours and theirs else "only_left" if ours else "only_right"
-        counts[where] += 1
-        if ours != theirs:
-            differing.append(PairDifference(key, ours, theirs))
-            if where == "both":
-                counts["different"] += 1
-                fields[differing_fields(left.kind, ours, theirs)] += 1
+    found = paired(left, right, limit)
     return Differences(
         first,
         left.kind,
-        only_left=counts["only_left"],
-        only_right=counts["only_right"],
-        both=counts["both"],
-        different=counts["different"],
-        reversed=reversed_pairs(differing) if isinstance(left, Graph) else (),
+        only_left=found.only_left,
+        only_right=found.only_right,
+        both=found.both,
+        different=found.different,
+        reversed=found.reversed,
         supplies=differing_supplies(left, right),
-        fields=tuple(fields.most_common()),
+        fields=found.fields,
         values=tuple(differing_values(left, right)),
-        pairs=tuple(differing[:limit]),
+        pairs=found.first,
     )
-
-
-def pairs_of(it: Instance) -> Iterator[tuple[Key, Arcs]]:
-    """Yields the pairs of an instance, by rising keys, with their arcs."""
-    columns = [getattr(it, name).tolist() for name in VALUES[it.kind].values()]
-    keys = [getattr(it, name).tolist() for name in KEYS.get(it.kind, ())] or [range(1, len(columns[0]) + 1)]
-    for key, rows in groupby(zip(zip(*keys), zip(*columns)), itemgetter(0)):
-        yield key, tuple(values for _, values in rows)
-
-
-def merged(left: Iterator[tuple[Key, Arcs]], right: Iterator[tuple[Key, Arcs]]) -> Iterator[tuple[Key, Arcs, Arcs]]:
-    """Yields each key that one of two texts has, by rising keys, with the arcs of both."""
-    ours, theirs = next(left, None), next(right, None)
-    while ours or theirs:
-        key = min(it[0] for it in (ours, theirs) if it)
-        one = ours[1] if ours and ours[0] == key else ()
-        other = theirs[1] if theirs and theirs[0] == key else ()
-        yield key, one, other
-        if one:
-            ours = next(left, None)
-        if other:
-            theirs = next(right, None)
-
-
-def differing_fields(kind: str, left: Arcs, right: Arcs) -> str:
-    """Returns the names of the fields in which the arcs of a pair differ, or `arcs` if their numbers do."""
-    if len(left) != len(right):
-        return "arcs"
-    names = enumerate(VALUES[kind])
-    return " ".join(name for at, name in names if [it[at] for it in left] != [it[at] for it in right])
-
-
-def reversed_pairs(differing: list[PairDifference]) -> tuple[Key, ...]:
-    """Returns the pairs that only LEFT has, and whose opposite with the same arcs only RIGHT has."""
-    only_right = {it.key: it.right for it in differing if not it.left}
-    return tuple(it.key for it in differing if not it.right and only_right.get(it.key[::-1]) == it.left)
 
 
 def differing_supplies(left: Instance, right: Instance) -> int:

@@ -9,6 +9,7 @@ from typing import Optional
 from .calls import canon_into
 from .files import Sink, Target, sink_of
 from .instances import Graph, Instance, Max, Min
+from .limits import Limit
 from .lines import COUNTED
 from .program import Program
 
@@ -36,7 +37,8 @@ def write(instance: Instance, target: Target, *, program: Program = None, timeou
     The program reads the text as well. If the text has a fault, as a node that the graph does not have, `Refused` is
     raised with the line, and a path keeps what it had."""
     with sink_of(target) as sink:
-        canon_into(Sink("out", len), Copied(pieces_of(instance), sink), 1, program, timeout)
+        limit = Limit(timeout, sink.name)
+        canon_into(Sink("out", len), Copied(pieces_of(instance), sink), 1, program, limit)
 
 
 def pieces_of(instance: Instance) -> Iterator[bytes]:

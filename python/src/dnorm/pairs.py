@@ -1,0 +1,247 @@
+"""The pairs of two canonical texts beside each other: by numpy, or without it."""
+
+from __future__ import annotations
+
+from collections import Counter
+from collections.abc import Iterator
+from dataclasses import dataclass
+from itertools import groupby
+from operator import itemgetter
+from typing import Any, NamedTuple
+
+from .columns import numpy_here
+from .instances import Graph, Instance
+
+# The columns of each kind: those of the key, and those of the values with their names.
+KEYS = {"min": ("tails", "heads"), "max": ("tails", "heads"), "sp": ("tails", "heads"), "co": ("ids",)}
+VALUES = {
+    "min": {"low": "lows", "cap": "caps", "cost": "costs"},
+    "max": {"cap": "capacities"},
+    "sp": {"length": "lengths"},
+    "co": {"x": "xs", "y": "ys"},
+    "ss": {"source": "sources"},
+    "p2p": {"source": "sources", "target": "targets"},
+}
+# Nodes up to this one have a number of 64 signed bits for each pair.
+MOST = 3_000_000_000
+
+Key = tuple[int, ...]
+# The values of the arcs of a pair. There are none if the text has no such pair.
+Arcs = tuple[tuple[int, ...], ...]
+
+
+@dataclass(frozen=True)
+class PairDifference:
+    """A pair whose arcs differ. `key` is its tail and head; or the ID of a point, or the place of an item. `left` and
+    `right` have the values of each arc: LENGTH, CAP, or LOW, CAP and COST as of form 2. They are empty where a text has
+    no such pair."""
+
+    key: Key
+    left: Arcs
+    right: Arcs
+
+
+class Paired(NamedTuple):
+    """How many pairs only one of two texts has, and both, and how many of these are different; the different ones by
+    their fields; the pairs that only the right text has the other way round; and the first differing pairs."""
+
+    only_left: int
+    only_right: int
+    both: int
+    different: int
+    fields: tuple[tuple[str, int], ...]
+    reversed: tuple[Key, ...]
+    first: tuple[PairDifference, ...]
+
+
+def paired(left: Instance, right: Instance, limit: int | None) -> Paired:
+    """Returns how the pairs of two instances of one kind differ, with at most `limit` of the differing pairs. The
+    instances are those of canonical texts."""
+    np = numpy_here()
+    return paired_by_python(left, right, limit) if np is None else paired_by_numpy(np, left, right, limit)
+
+
+def paired_by_python(left: Instance, right: Instance, limit: int | None) -> Paired:
+    """Returns how the pairs of two instances differ, without numpy."""
+    counts: Counter[str] = Counter()
+    fields: Counter[str] = Counter()
+    differing: list[PairDifference] = []
+    for key, ours, theirs in merged(pairs_of(left), pairs_of(right)):
+        where = "both" if ours and theirs else "only_left" if ours else "only_right"
+        counts[where] += 1
+        if ours != theirs:
+            differing.append(PairDifference(key, ours, theirs))
+            if where == "both":
+                counts["different"] += 1
+                fields[differing_fields(left.kind, ours, theirs)] += 1
+    return Paired(
+        only_left=counts["only_left"],
+        only_right=counts["only_right"],
+        both=counts["both"],
+        different=counts["different"],
+        fields=tuple(fields.most_common()),
+        reversed=reversed_pairs(differing) if isinstance(left, Graph) else (),
+        first=tuple(differing[:limit]),
+    )
+
+
+def pairs_of(it: Instance) -> Iterator[tuple[Key, Arcs]]:
+    """Yields the pairs of an instance, by rising keys, with their arcs."""
+    columns = [getattr(it, name).tolist() for name in VALUES[it.kind].values()]
+    keys = [getattr(it, name).tolist() for name in KEYS.get(it.kind, ())] or [range(1, len(columns[0]) + 1)]
+    for key, rows in groupby(zip(zip(*keys), zip(*columns)), itemgetter(0)):
+        yield key, tuple(values for _, values in rows)
+
+
+def merged(left: Iterator[tuple[Key, Arcs]], right: Iterator[tuple[Key, Arcs]]) -> Iterator[tuple[Key, Arcs, Arcs]]:
+    """Yields each key that one of two texts has, by rising keys, with the arcs of both."""
+    ours, theirs = next(left, None), next(right, None)
+    while ours or theirs:
+        key = min(it[0] for it in (ours, theirs) if it)
+        one = ours[1] if ours and ours[0] == key else ()
+        other = theirs[1] if theirs and theirs[0] == key else ()
+        yield key, one, other
+        if one:
+            ours = next(left, None)
+        if other:
+            theirs = next(right, None)
+
+
+def differing_fields(kind: str, left: Arcs, right: Arcs) -> str:
+    """Returns the names of the fields in which the arcs of a pair differ, or `arcs` if their numbers do."""
+    if len(left) != len(right):
+        return "arcs"
+    names = enumerate(VALUES[kind])
+    return " ".join(name for at, name in names if [it[at] for it in left] != [it[at] for it in right])
+
+
+def reversed_pairs(differing: list[PairDifference]) -> tuple[Key, ...]:
+    """Returns the pairs that only the left text has, and whose opposite with the same arcs only the right one has."""
+    only_right = {it.key: it.right for it in differing if not it.left}
+    return tuple(it.key for it in differing if not it.right and only_right.get(it.key[::-1]) == it.left)
+
+
+class Grouped:
+    """The arcs of an instance by their pairs, as arrays of numpy: `starts` has the place of the first arc of each pair,
+    `counts` the number of its arcs, `ends` the columns of the key, and `values` those of the arcs."""
+
+    def __init__(self, np: Any, it: Instance) -> None:
+        self.np = np
+        self.values = [getattr(it, name) for name in VALUES[it.kind].values()]
+        self.ends = [getattr(it, name) for name in KEYS.get(it.kind, ())] or [np.arange(1, len(it) + 1)]
+        is_first = np.ones(len(it), bool)
+        if len(it):
+            is_first[1:] = np.any([end[1:] != end[:-1] for end in self.ends], axis=0)
+        self.starts = np.flatnonzero(is_first)
+        self.counts = np.diff(self.starts, append=len(it))
+
+    def rows(self, pairs: Any) -> tuple[Any, Any]:
+        """Returns the places of the arcs of these pairs, one pair after another, and where each pair begins there."""
+        counts = self.counts[pairs]
+        firsts = self.np.cumsum(counts) - counts
+        return self.np.repeat(self.starts[pairs] - firsts, counts) + self.np.arange(counts.sum()), firsts
+
+    def key(self, pair: int) -> Key:
+        return tuple(int(it[self.starts[pair]]) for it in self.ends)
+
+    def arcs(self, pair: int | None) -> Arcs:
+        """Returns the arcs of a pair, or none."""
+        if pair is None:
+            return ()
+        start, count = int(self.starts[pair]), int(self.counts[pair])
+        return tuple(zip(*(it[start : start + count].tolist() for it in self.values)))
+
+
+class Matched:
+    """Which pairs of two grouped instances have the same key. Pairs are given by their places."""
+
+    def __init__(self, np: Any, left: Grouped, right: Grouped) -> None:
+        self.np, self.left, self.right = np, left, right
+        ends = [[it.ends[at][it.starts] for it in (left, right)] for at in range(len(left.ends))]
+        if len(ends) == 2 and any(it.max(initial=0) > MOST for sides in ends for it in sides):
+            # The places of the nodes among all of them have the order of the nodes.
+            columns = [it for sides in ends for it in sides]
+            places = np.unique(np.concatenate(columns), return_inverse=True)[1]
+            split = np.split(places, np.cumsum([len(it) for it in columns])[:-1])
+            ends = [split[:2], split[2:]]
+        self.width = MOST + 1
+        (self.tails, self.heads) = (ends[0], ends[1]) if len(ends) == 2 else (None, ends[0])
+        keys = ends[0] if len(ends) == 1 else [self.joined(*it) for it in zip(*ends)]
+        self.ours, self.theirs = keys
+        places = self.places_of(self.ours, self.theirs)
+        self.both_left = np.flatnonzero(places >= 0)
+        self.both_right = places[self.both_left]
+        self.only_left = np.flatnonzero(places < 0)
+        is_alone = np.ones(len(self.theirs), bool)
+        is_alone[self.both_right] = False
+        self.only_right = np.flatnonzero(is_alone)
+
+    def joined(self, tails: Any, heads: Any) -> Any:
+        """Returns a number for each pair, which rises as the pairs do."""
+        return tails * self.width + heads
+
+    def places_of(self, keys: Any, among: Any) -> Any:
+        """Returns the places of keys among rising ones, or -1 where they are none of them."""
+        if not len(among):
+            return self.np.full(len(keys), -1)
+        places = self.np.searchsorted(among, keys)
+        places[places == len(among)] = 0
+        places[among[places] != keys] = -1
+        return places
+
+    def differing(self, ours: Any, theirs: Any) -> Any:
+        """Returns a number for each of these pairs of both texts: 0 if their arcs are the same, a bit for each field in
+        which they differ, or the next bit alone if the numbers of arcs differ."""
+        np, left, right = self.np, self.left, self.right
+        found = np.full(len(ours), 1 << len(left.values))
+        is_long = left.counts[ours] == right.counts[theirs]
+        if is_long.any():
+            rows, firsts = left.rows(ours[is_long])
+            others, _ = right.rows(theirs[is_long])
+            bits = np.zeros(len(rows), np.int8)
+            for bit, (one, other) in enumerate(zip(left.values, right.values)):
+                bits |= (one[rows] != other[others]).astype(np.int8) << bit
+            found[is_long] = np.bitwise_or.reduceat(bits, firsts)
+        return found
+
+    def reversed(self) -> tuple[Key, ...]:
+        """Returns the pairs that only the left text has, and whose opposite with the same arcs only the right has."""
+        if self.tails is None:
+            return ()
+        turned = self.joined(self.heads[0][self.only_left], self.tails[0][self.only_left])
+        places = self.places_of(turned, self.theirs[self.only_right])
+        ours, theirs = self.only_left[places >= 0], self.only_right[places[places >= 0]]
+        same = ours[self.differing(ours, theirs) == 0]
+        return tuple(zip(*(it[self.left.starts[same]].tolist() for it in self.left.ends)))
+
+
+def paired_by_numpy(np: Any, left: Instance, right: Instance, limit: int | None) -> Paired:
+    """Returns how the pairs of two instances differ, by numpy."""
+    ours, theirs = Grouped(np, left), Grouped(np, right)
+    found = Matched(np, ours, theirs)
+    bits = found.differing(found.both_left, found.both_right)
+    unlike = np.flatnonzero(bits)
+    kinds, firsts, counts = np.unique(bits[unlike], return_index=True, return_counts=True)
+    order = sorted(range(len(kinds)), key=lambda it: (-counts[it], firsts[it]))
+    fields = tuple((names_of(left.kind, int(kinds[it])), int(counts[it])) for it in order)
+    # The pairs of each sort are in the order of their keys.
+    first = [(ours.key(it), it, None) for it in found.only_left[:limit].tolist()]
+    first += [(theirs.key(it), None, it) for it in found.only_right[:limit].tolist()]
+    both = zip(found.both_left[unlike[:limit]].tolist(), found.both_right[unlike[:limit]].tolist())
+    first += [(ours.key(it), it, other) for it, other in both]
+    first.sort(key=itemgetter(0))
+    return Paired(
+        only_left=len(found.only_left),
+        only_right=len(found.only_right),
+        both=len(found.both_left),
+        different=len(unlike),
+        fields=fields,
+        reversed=found.reversed(),
+        first=tuple(PairDifference(key, ours.arcs(it), theirs.arcs(other)) for key, it, other in first[:limit]),
+    )
+
+
+def names_of(kind: str, bits: int) -> str:
+    """Returns the names of the fields of these bits."""
+    names = [*VALUES[kind]]
+    return "arcs" if bits >> len(names) else " ".join(it for bit, it in enumerate(names) if bits >> bit & 1)
