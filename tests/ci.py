@@ -115,23 +115,37 @@ def pre_commit(tally: Tally, _: str) -> None:
         "a.gr.zip": True,
         "a.co.zst": True,
         "a.min.Z": True,
-        "a.gr.zipped": False,
+        "a.gr.zipped": True,
+        "a.gr.gz.gz": True,
+        "a.gr.lzma": True,
+        "a.gr.": True,
+        "a.gr.d/notes.txt": False,
+        "jquery.min.js": False,
+        "page.MIN.css.map": False,
+        "a.min.jsx": True,
         "agr": False,
         "a.grx": False,
         "a.gz": False,
     }
-    tally.same("its files", {it: bool(re.search(fields["files"], it)) for it in names}, names)
+    found_ = {it: bool(re.search(fields["files"], it) and not re.search(fields["exclude"], it)) for it in names}
+    tally.same("its files", found_, names)
+    tally.same("its types", [fields["types"], fields["types_or"]], ["[]", "[file, symlink]"])
     script = f"{ROOT}/{fields['entry']}"
     environment = {it: value for it, value in os.environ.items() if it != "PYTHONPATH"}
     environment["PYTHONDONTWRITEBYTECODE"] = "1"
     write("a.gr", ROADS)
     write("-b.gr", b"x\n")
     found = run([script, "a.gr"], env=environment)
-    tally.same("an accepted file", found, Answer(b"a.gr: accepted sp\n", b"1 accepted, 0 refused, 0 failed\n", 0))
+    tally.same("an accepted file", found, Answer(b"", b"1 accepted, 0 refused, 0 failed\n", 0))
     found = run([script, "a.gr", "-b.gr"], env=environment)
-    lines = b"-b.gr:1: 1 BadLine\na.gr: accepted sp\n"
-    err = b"-b.gr:1: 1 BadLine\n    line 1: x\n1 accepted, 1 refused, 0 failed\n"
-    tally.same("a refused file", found, Answer(lines, err, 2))
+    tally.same("a refused file", found, Answer(b"-b.gr:1: 1 BadLine\n", b"1 accepted, 1 refused, 0 failed\n", 2))
+    write("a.max", ROADS)
+    line = b"a.max: accepted sp, its ending is that of max\n"
+    err = b"1 accepted, 0 refused, 0 failed, 1 file of another kind than its ending\n"
+    tally.same("another kind", run([script, "a.max"], env=environment), Answer(line, err, 0))
+    line = b"a.max: 31 Read (accepted sp, its ending is that of max)\n"
+    found = run([script, "--strict", "a.max"], env=environment)
+    tally.same("another kind with --strict", found, Answer(line, b"0 accepted, 0 refused, 1 failed\n", 4))
 
 
 TESTS = [workflow, pre_commit]

@@ -11,6 +11,7 @@ import re
 import signal
 import subprocess
 import sys
+import threading
 import time
 from typing import Any
 from xml.etree import ElementTree
@@ -19,6 +20,8 @@ from xml.etree import ElementTree
 from calls import COMPRESS, PACKAGE, fake
 from known import COSTS, COSTS_TWO, FLOWS, ROADS, ROADS_CANON
 from shared import LIMIT, Answer, Tally, bytes_of, run, terminal, write
+
+from dnorm.folders import in_order
 
 ENVIRONMENT = {"PYTHONPATH": PACKAGE, "PYTHONDONTWRITEBYTECODE": "1"}
 MODULE = [sys.executable, "-m", "dnorm"]
@@ -259,6 +262,7 @@ def reports(tally: Tally, _: str) -> None:
     tally.same("names in JSON", [it["name"] for it in records], names)
     of = {it["name"]: it for it in records}
     wanted: dict[str, object] = {"name": "set/a-b.gr", "status": "accepted", "kind": "sp", "forms": [1, 2]}
+    wanted |= {"remarks": []}
     tally.same("an accepted file in JSON", of["set/a-b.gr"], wanted)
     wanted = {"name": "set/bad.max", "status": "refused", "error": "set/bad.max:end: 19 MissingTerminal", "line": None}
     wanted |= {"number": 19, "word": "MissingTerminal", "sentence": "A max file has no source or no sink."}
@@ -346,6 +350,55 @@ def manifests(tally: Tally, tested: str) -> None:
     for name, reason in {"/dev/full": "No space left on device", "no/x": "No such file or directory"}.items():
         found = module("manifest", "--output", name, "set/a")
         tally.same(f"a manifest in {name}", (found.err, found.status), (f"{name}: 33 Write ({reason})\n".encode(), 4))
+
+
+def kept_manifests(tally: Tally, _: str) -> None:
+    """Tests that a file that fails takes no entry out of a manifest."""
+    make({f"set/{it}.gr": ROADS for it in "abc"})
+    module("manifest", "--output", "list", "set")
+    before = bytes_of("list")
+    os.rename("set/b.gr", "b.gr")
+    os.symlink("nowhere", "set/b.gr")
+    lines = "set/b.gr: 31 Read (No such file or directory)\nlist: not written, since it would lack what failed\n"
+    lines += "2 listed, 0 refused, 1 failed\n"
+    for target in ["list", "new"]:
+        wanted = lines.replace("list: ", f"{target}: ")
+        found = module("manifest", "--output", target, "set")
+        wants(tally, f"a manifest in {target} while a file fails", found, "", wanted, 4)
+    tally.same("the manifest", (bytes_of("list"), os.path.exists("new"), hidden()), (before, False, []))
+    os.replace("b.gr", "set/b.gr")
+    found = module("manifest", "--verify", "list", "-q", "set")
+    wants(tally, "the manifest verified", found, "", "3 the same, 0 different, 0 refused, 0 failed\n", 0)
+    write("set/c.gr", b"x\n")
+    found = module("manifest", "--output", "list", "set")
+    lines = "set/c.gr:1: 1 BadLine\n2 listed, 1 refused, 0 failed\n"
+    wants(tally, "a manifest beside a refused file", found, "", lines, 2)
+    tally.same("its entries", len(bytes_of("list").splitlines()), 2)
+
+
+def few_threads(tally: Tally, _: str) -> None:
+    """Tests that all tasks are done, in their order, where the system lets few threads start or none."""
+    start = threading.Thread.start
+    for most in [0, 1, 3]:
+        begun: list[threading.Thread] = []
+
+        def begin(thread: threading.Thread) -> None:
+            if len(begun) >= most:
+                raise RuntimeError("can't start new thread")
+            begun.append(thread)
+            start(thread)
+
+        setattr(threading.Thread, "start", begin)
+        try:
+            found = list(in_order(lambda it: (time.sleep(0.03), it * it)[1], range(20), 4))
+        finally:
+            setattr(threading.Thread, "start", start)
+        tally.same(f"tasks by {most} threads", (found, len(begun)), ([it * it for it in range(20)], most))
+    make_set()
+    for kilobytes in [50_000, 60_000]:
+        limited = run(["bash", "-c", f'ulimit -v {kilobytes}; exec "$@"', "bash", *MODULE, "check", "-j", "4", "set"],
+                      env={**os.environ, **ENVIRONMENT})  # fmt: skip
+        tally.holds(f"no traceback in {kilobytes} kB: {limited.err!r}", b"Traceback" not in limited.err)
 
 
 def groups(tally: Tally, _: str) -> None:
@@ -539,4 +592,18 @@ def programs(tally: Tally, _: str) -> None:
     wants(tally, "programs that fail", found, lines, again(lines) + count, 4)
 
 
-TESTS = [checks, odd_names, reports, manifests, groups, many, progress, together, signals, outputs, programs]
+TESTS = [
+    checks,
+    odd_names,
+    reports,
+    manifests,
+    kept_manifests,
+    few_threads,
+    groups,
+    many,
+    progress,
+    together,
+    signals,
+    outputs,
+    programs,
+]

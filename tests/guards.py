@@ -1,14 +1,18 @@
 """Tests the guards of a collection: `python3 -m dnorm check`, the hook for git at a commit and at a merge, the hook for
 pre-commit, and the workflow for CI services. The collection has 300 instances, and beside them texts with faults, with
-names in capitals, behind six compressions, cut or damaged, pointers of Git LFS, companions that do not fit, and links.
-Each guard refuses each of these files, or counts it among the other files. `tests/python` runs these tests, each in a
-folder of its own."""
+names in capitals, behind compressions that are read and others, cut or damaged, pointers of Git LFS, companions that do
+not fit, and links. Each guard refuses each of these files, or counts it among the other files. It names a text of
+another kind than its ending and a companion without a graph that is accepted, and refuses them if it is strict.
+`tests/python` runs these tests, each in a folder of its own."""
 
 import gzip
+import io
+import lzma
 import os
 import random
 import re
 import shutil
+import zipfile
 
 from calls import COMPRESS
 from ci import FIELD, HOOKS, STEP, WORKFLOW
@@ -41,7 +45,31 @@ def refused_texts() -> dict[str, tuple[bytes, str]]:
     return found
 
 
+def zipped(text: bytes) -> bytes:
+    """Returns a zip archive of one text, which gzip decompresses as well."""
+    archive = io.BytesIO()
+    with zipfile.ZipFile(archive, "w", zipfile.ZIP_DEFLATED) as file:
+        file.writestr("text", text)
+    return archive.getvalue()
+
+
 NO = ": 31 Read "
+# What follows the ending of a text in names that stand for no text.
+FOLLOWS = [
+    ".lzma",
+    ".lz",
+    ".zstd",
+    ".gzip",
+    ".bz",
+    ".tgz",
+    ".gz.gz",
+    ".gz.xz",
+    ".xz.gz",
+    ".tar.gz",
+    ".part",
+    ".orig",
+    ".",
+]
 # Files that every guard must refuse, with an expression for what follows their names.
 BROKEN: dict[str, tuple[bytes, str]] = {
     **refused_texts(),
@@ -61,6 +89,13 @@ BROKEN: dict[str, tuple[bytes, str]] = {
     "coll/y.gr.zip": (b"PK\x03\x04", NO),
     "coll/w.gr.br": (b"x", NO),
     "coll/s.gr.7z": (b"7z\xbc\xaf\x27\x1c", NO),
+    **{f"coll/f{at}.gr{it}": (GRAPH, NO) for at, it in enumerate(FOLLOWS)},
+    "coll/alone.gr.xz": (lzma.compress(GRAPH, lzma.FORMAT_ALONE), NO),
+    "coll/zipped.gr.gz": (zipped(GRAPH), NO),
+    "coll/gzipped.gr.zst": (gzip.compress(GRAPH), NO),
+    "coll/gzipped.gr.xz": (gzip.compress(GRAPH), NO),
+    "coll/pointer.gr.gz": (POINTER, f"{NO}|: it is a pointer of Git LFS, and its text is missing "),
+    "coll/worse.gr": (BAD, ":2: 13 NodeOutOfRange"),
     "coll/pointer.min": (POINTER, ":1: 1 BadLine|: it is a pointer of Git LFS, and its text is missing "),
     "coll/fit.ss": (b"p aux sp ss 1\ns 999\n", ": 35 NotInGraph 999"),
     "coll/Fit2.p2p": (b"p aux sp p2p 1\nq 1 31\n", ": 35 NotInGraph 31"),
@@ -68,25 +103,54 @@ BROKEN: dict[str, tuple[bytes, str]] = {
     "coll/fit4.ss": (b"p aux sp ss 1\ns 1\n", ": 36 NotKinds"),
     "coll/a b:7: 9 NotANumber.gr": (b"p sp 2 1\na 1 3 5\n", ":2: 13 NodeOutOfRange"),
 }
+# Links that every guard must refuse, with what they lead to and an expression for what follows their names.
+BROKEN_LINKS = {
+    "coll/dangling.gr": ("nowhere.gr", NO),
+    "coll/loop.gr": ("loop.gr", NO),
+    "coll/link.gr": ("UP.GR", ":2: 13 NodeOutOfRange"),
+    "coll/inst/up.gr": ("../a.gr.gz", ":1: 1 BadLine"),
+}
+FAULTS = {name: fault for broken in (BROKEN, BROKEN_LINKS) for name, (_, fault) in broken.items()}
+SOURCES, POINTS = b"p aux sp ss 1\ns 2\n", b"p aux sp co 1\nv 1 0 0\n"
+# Texts that are accepted and named: of another kind than their endings, without a graph, and with one that is refused.
+OTHER_KIND, NO_GRAPH, REFUSED_GRAPH = "its ending is that of (sp|min|max|ss|co)", "no graph", "graph not accepted: "
+REMARKED = {
+    "coll/kind-min.gr": (b"p min 3 0\n", OTHER_KIND),
+    "coll/kind-max.min": (b"p max 2 0\nn 1 s\nn 2 t\n", OTHER_KIND),
+    "coll/kind-sp.max.gz": (gzip.compress(GRAPH), OTHER_KIND),
+    "coll/kind-sp.min": (GRAPH, OTHER_KIND),
+    "coll/kind-ss.gr": (SOURCES, OTHER_KIND),
+    "coll/kind-sp.co": (GRAPH, f"{NO_GRAPH}, {OTHER_KIND}"),
+    "coll/kind-co.ss": (POINTS, f"{NO_GRAPH}, {OTHER_KIND}"),
+    "coll/fit4.gr": (b"p min 3 0\n", OTHER_KIND),
+    "coll/lone.ss": (b"p aux sp ss 1\ns 5\n", NO_GRAPH),
+    "coll/lone.p2p": (b"p aux sp p2p 0\n", NO_GRAPH),
+    "coll/d.ss": (SOURCES, NO_GRAPH),
+    "coll/v.ss": (SOURCES, NO_GRAPH),
+    "coll/worse.co": (POINTS, f"{REFUSED_GRAPH}(\\./)?coll/worse\\.gr"),
+}
 # The graphs of companions, which are accepted, and companions that fit.
 GRAPHS = {
     "coll/fit.gr": GRAPH,
     "coll/Fit2.GR": GRAPH,
     "coll/fit3.gr.xz": COMPRESS[".xz"](GRAPH),
-    "coll/fit4.gr": b"p min 3 0\n",
+    "coll/D.GR": GRAPH,
+    "coll/v.v1.gr": GRAPH,
     "coll/good.gr.gz": gzip.compress(GRAPH),
     "coll/good.ss": b"p aux sp ss 1\ns 30\n",
     "coll/good.co": b"p aux sp co 1\nv 1 0 0\n",
 }
 # Files that the guards count, and do not look at.
 OTHERS = ["coll/x.net", "coll/noend", "coll/bad.dimacs", "coll/bad.txt", "coll/README.md", "coll/x.zst"]
-LONE = ["coll/lone.ss", "coll/lone.p2p"]
+OTHERS += ["coll/jquery.min.js", "coll/page.min.css.map", "coll/gr.d/notes"]
 
 
-def make_collection() -> dict[str, bytes]:
-    """Makes the collection in the folder `coll`, and returns its instances that are accepted."""
-    chance, found = random.Random(SEED), dict(GRAPHS)
-    while len(found) < COUNT - len(LONE):
+def make_collection() -> dict[str, str]:
+    """Makes the collection in the folder `coll`, and returns its instances that are accepted, with an expression for
+    what is remarked about them."""
+    chance, found = random.Random(SEED), {**GRAPHS, **{name: text for name, (text, _) in REMARKED.items()}}
+    remarks = {name: REMARKED[name][1] if name in REMARKED else "" for name in found}
+    while len(found) < COUNT:
         kind = chance.choice(KINDS)
         text = spelled(chance, lines_of(chance, made(chance, kind)))
         try:
@@ -96,16 +160,18 @@ def make_collection() -> dict[str, bytes]:
         name = f"coll/inst/i{len(found):03}{ENDS.get(kind, f'.{kind}')}"
         packed = chance.choice(["", "", "", *COMPRESS])
         found[name + packed] = COMPRESS[packed](text) if packed else text
-    found |= {"coll/lone.ss": b"p aux sp ss 1\ns 5\n", "coll/lone.p2p": b"p aux sp p2p 0\n"}
+        remarks[name + packed] = NO_GRAPH if kind in ("ss", "p2p", "co") else ""
     make({**found, **{name: text for name, (text, _) in BROKEN.items()}, **dict.fromkeys(OTHERS, BAD)})
+    for name, (to, _) in BROKEN_LINKS.items():
+        os.symlink(to, name)
     os.makedirs("coll/.git/refs/heads/feature")
     write("coll/.git/refs/heads/feature/fix.gr", 40 * "1")
-    return found
+    return remarks
 
 
-def are_named(tally: Tally, what: str, lines: list[str], besides: tuple[str, ...] = ()) -> None:
-    """Tests that these lines name each broken file with its fault, and nothing else but what begins so."""
-    for name, (_, fault) in BROKEN.items():
+def are_named(tally: Tally, what: str, lines: list[str], faults: dict[str, str], besides: tuple[str, ...] = ()) -> None:
+    """Tests that these lines name each of these files with its fault, and nothing else but what begins so."""
+    for name, fault in faults.items():
         pattern = re.compile(re.escape(name) + f"(?:{fault})")
         told = [it for it in lines if pattern.match(it)]
         tally.same(f"{what} names {name}", len(told), 1)
@@ -113,29 +179,33 @@ def are_named(tally: Tally, what: str, lines: list[str], besides: tuple[str, ...
     tally.same(f"{what} names others", [it for it in lines if not it.startswith(besides or ("\0",))], [])
 
 
+def remarked(remarks: dict[str, str], before: str = ": accepted [a-z0-9]+, ") -> dict[str, str]:
+    """Returns what follows the names of the files with remarks."""
+    return {name: f"{before}{it}$" for name, it in remarks.items() if it}
+
+
 def by_package(tally: Tally, _: str) -> None:
-    """Tests `python3 -m dnorm check`, also with links, and with --strict."""
-    accepted = make_collection()
-    os.symlink("nowhere.gr", "coll/dangling.gr")
+    """Tests `python3 -m dnorm check`, also with links to folders, with --strict and with names that are given."""
+    remarks = make_collection()
     os.symlink("inst", "coll/linked")
-    os.symlink("UP.GR", "coll/link.gr")
     found = module("check", "--companions", "-q", "coll")
     lines = found.out.decode().splitlines()
-    links = ("coll/dangling.gr: 31 Read (No such file or directory)", "coll/link.gr:2: 13 NodeOutOfRange")
-    tally.same("links are named", [it for it in lines if it in links], list(links))
-    are_named(tally, "check", lines, links)
+    are_named(tally, "check", lines, {**FAULTS, **remarked(remarks)})
     failed = sum(": 31 Read " in it for it in lines)
-    count = f"{len(accepted)} accepted, {len(lines) - failed} refused, {failed} failed"
-    alone = sum(bool(re.search(r"\.(ss|p2p|co)(\.\w+)?$", it)) for it in accepted) - 2
-    count += f", {alone} companions without a graph, {len(OTHERS) + 1} other files\n"
+    alone, kinds = (sum(it in remark for remark in remarks.values()) for it in (NO_GRAPH, OTHER_KIND))
+    count = f"{len(remarks)} accepted, {len(FAULTS) - failed} refused, {failed} failed"
+    count += f", {alone} companions without a graph, 1 companion of a graph that is not accepted"
+    count += f", {kinds} files of another kind than their endings, {len(OTHERS) + 1} other files\n"
     tally.same("the count", (found.err.decode(), found.status), (count, 4))
-    tally.same("accepted files", len(accepted), COUNT)
-    found = module("check", "--strict", "-q", "coll")
-    named = [it.partition(": 31 Read ")[0] for it in found.out.decode().splitlines()]
-    tally.same("--strict names others", [it for it in [*OTHERS, "coll/linked"] if it not in named], [])
-    names = "\0".join([*accepted, *BROKEN]).encode()
+    tally.same("accepted files", len(remarks), COUNT)
+    found = module("check", "--strict", "--companions", "-q", "coll")
+    others = {it: NO for it in [*OTHERS, "coll/linked"]}
+    strict = remarked(remarks, r": 31 Read \(accepted [a-z0-9]+, ")
+    strict = {name: it.replace("$", r"\)$") for name, it in strict.items()}
+    are_named(tally, "--strict", found.out.decode().splitlines(), {**FAULTS, **strict, **others})
+    names = "\0".join([*remarks, *FAULTS]).encode()
     found = module("check", "--companions", "-q", "--files0-from", "-", given=names)
-    are_named(tally, "check of named files", found.out.decode().splitlines())
+    are_named(tally, "check of named files", found.out.decode().splitlines(), {**FAULTS, **remarked(remarks)})
 
 
 class Repository:
@@ -147,6 +217,7 @@ class Repository:
         who = {f"GIT_{one}_{it}": "a@example.org" for one in ["AUTHOR", "COMMITTER"] for it in ["NAME", "EMAIL"]}
         alone = {"GIT_CONFIG_GLOBAL": "/dev/null", "GIT_CONFIG_NOSYSTEM": "1", "LC_ALL": "C.UTF-8"}
         self.environment = {**os.environ, **who, **alone, "PATH": f"{os.getcwd()}/bin:{os.environ['PATH']}"}
+        del self.environment["DNORM"]
         self.git("init", "-q", "-b", "main")
         write("first.txt", "first")
         self.git("add", "first.txt")
@@ -166,7 +237,7 @@ def by_git(tally: Tally, tested: str) -> None:
     if not shutil.which("git"):
         tally.leave_out("a collection in git", "git")
         return
-    make_collection()
+    remarks = make_collection()
     shutil.rmtree("coll/.git")
     repository = Repository(tested)
     repository.git("switch", "-q", "-c", "branch")
@@ -176,14 +247,76 @@ def by_git(tally: Tally, tested: str) -> None:
     for it in ["pre-commit", "pre-merge-commit"]:
         shutil.copy(f"{ROOT}/share/git/pre-commit", f".git/hooks/{it}")
     lines, status = repository.lines("merge", "--no-ff", "-q", "-m", "merged", "branch")
-    are_named(tally, "a merge", lines, ("Not committing merge; ",))
+    told = {**FAULTS, **remarks_of_hook(remarks)}
+    # Of a companion of another kind there is a line more.
+    more = ("coll/kind-co.ss: no graph", "coll/kind-sp.co: no graph")
+    are_named(tally, "a merge", lines, told, ("Not committing merge; ", "    line ", *more))
     tally.same("a merge", (status, repository.git("log", "--format=%s").out), (1, b"first\n"))
     lines, status = repository.lines("commit", "-q", "-m", "a collection")
-    are_named(tally, "a commit", lines)
+    are_named(tally, "a commit", lines, told, ("    line ", *more))
+    tally.holds("a commit shows lines", "    line 2: a 1 3 5" in lines)
     tally.same("a commit", (status, repository.git("log", "--format=%s").out), (1, b"first\n"))
-    repository.git("rm", "-q", "--cached", "--", *BROKEN)
-    tally.same("a commit of the others", repository.lines("commit", "-q", "-m", "the others"), ([], 0))
+    repository.git("rm", "-q", "--cached", "--", *FAULTS)
+    repository.git("config", "dnorm.strict", "true")
+    lines, status = repository.lines("commit", "-q", "-m", "the others")
+    told = remarks_of_hook({name: it for name, it in remarks.items() if not it.startswith(REFUSED_GRAPH)})
+    told["coll/worse.co"] = ": no graph$"
+    are_named(tally, "a strict commit of the others", lines, told, more)
+    tally.same("its status", status, 1)
+    repository.git("config", "dnorm.strict", "false")
+    lines, status = repository.lines("commit", "-q", "-m", "the others")
+    are_named(tally, "a commit of the others", lines, told, more)
+    tally.same("its status", status, 0)
+    later_links(tally, repository)
+    by_variable(tally, repository)
     later_pairs(tally, repository)
+
+
+def remarks_of_hook(remarks: dict[str, str]) -> dict[str, str]:
+    """Returns what the hook for git says of the files with remarks: of both in two lines."""
+    found = {}
+    for name, it in remarks.items():
+        if it.startswith(REFUSED_GRAPH):
+            found[name] = ": not checked with its graph coll/worse.gr:2: 13 NodeOutOfRange$"
+        elif it == NO_GRAPH:
+            found[name] = ": no graph$"
+        elif it:
+            found[name] = f": accepted [a-z]+, {OTHER_KIND}$"
+    return found
+
+
+def later_links(tally: Tally, repository: Repository) -> None:
+    """Tests links that lead out of what is committed, and to folders."""
+    make({"below/x.gr": ROADS, "untracked": ROADS, f"{os.getcwd()}-outside": ROADS})
+    links = {"a.gr": "below/x.gr", "b.gr": "untracked", "c.gr": f"{os.getcwd()}-outside", "d.gr": "below"}
+    for name, to in links.items():
+        os.symlink(to, name)
+    repository.git("add", "below", *links)
+    lines, status = repository.lines("commit", "-q", "-m", "links")
+    tally.same("a commit of links", (lines, status), (["b.gr: 31 Read (No such file or directory)"], 1))
+    repository.git("rm", "-q", "--cached", "b.gr")
+    tally.same("a commit of links", repository.lines("commit", "-q", "-m", "links"), ([], 0))
+    repository.git("rm", "-q", "coll/good.gr.gz")
+    orphans = ["coll/good.co: no graph", "coll/good.ss: no graph"]
+    tally.same("a graph that is removed", repository.lines("commit", "-q", "-m", "x"), (orphans, 0))
+    os.remove(f"{os.getcwd()}-outside")
+    repository.git("reset", "-q", "--hard", "HEAD~1")
+
+
+def by_variable(tally: Tally, repository: Repository) -> None:
+    """Tests that the hook runs the program in $DNORM, and says so if there is none."""
+    write("new.gr", BAD)
+    repository.git("add", "new.gr")
+    os.mkdir("a b")
+    shutil.copy("bin/dnorm", "a b/dnorm")
+    refusal = ["new.gr:2: 13 NodeOutOfRange", "    line 2: a 1 3 5"]
+    missing = ["none: there is no such program; $DNORM may name it"]
+    rows = {f"{os.getcwd()}/a b/dnorm": refusal, f"env A=b {os.getcwd()}/bin/dnorm": refusal, "none": missing}
+    for named, lines in rows.items():
+        repository.environment["DNORM"] = named
+        tally.same(f"$DNORM {named}", repository.lines("commit", "-q", "-m", "x"), (lines, 1))
+    del repository.environment["DNORM"]
+    repository.git("reset", "-q", "--hard")
 
 
 def later_pairs(tally: Tally, repository: Repository) -> None:
@@ -232,31 +365,39 @@ def later_pairs(tally: Tally, repository: Repository) -> None:
 
 
 def by_pre_commit(tally: Tally, tested: str) -> None:
-    """Tests the hook for pre-commit, called as pre-commit calls it: with the files that match its expression."""
-    make_collection()
+    """Tests the hook for pre-commit, called as pre-commit calls it: with the files that match its expressions."""
+    remarks = make_collection()
     fields = {name: value.strip("'") for name, value in FIELD.findall(text_of(HOOKS))}
     names = [os.path.join(at, it) for at, _, below in os.walk("coll") for it in below if "/.git" not in at]
-    chosen = sorted(it for it in names if re.search(fields["files"], it))
+    chosen = [it for it in names if re.search(fields["files"], it) and not re.search(fields["exclude"], it)]
     tally.same("files that are not chosen", sorted(set(names) - set(chosen)), sorted(OTHERS))
     environment = {it: value for it, value in os.environ.items() if it != "PYTHONPATH"}
     environment |= {"PYTHONDONTWRITEBYTECODE": "1", "DNORM": tested}
-    found = run([f"{ROOT}/{fields['entry']}", *chosen], env=environment)
-    are_named(tally, "pre-commit", [it for it in found.out.decode().splitlines() if ": accepted " not in it])
+    found = run([f"{ROOT}/{fields['entry']}", *sorted(chosen)], env=environment)
+    are_named(tally, "pre-commit", found.out.decode().splitlines(), {**FAULTS, **remarked(remarks)})
     tally.same("its status", found.status, 4)
+    # Its companions are checked with a graph that is named.
+    for it in FAULTS:
+        os.remove(it)
+    accepted = sorted(set(chosen) - set(FAULTS))
+    for words, status in [([], 0), (["--strict"], 4)]:
+        found = run([f"{ROOT}/{fields['entry']}", *words, *accepted], env=environment)
+        tally.same(f"pre-commit {words} of the others", found.status, status)
 
 
 def by_ci(tally: Tally, tested: str) -> None:
     """Tests the step of the workflow that checks the texts: GitHub shows each broken file."""
-    make_collection()
+    remarks = make_collection()
     steps = STEP.findall(text_of(WORKFLOW))
     environment = {**os.environ, **ENVIRONMENT, "DNORM": os.path.abspath(tested), "RUNNER_TEMP": os.getcwd()}
     found = run(["bash", "-e", "-c", steps[1]], env=environment)
-    lines = re.findall(
-        r"^::error file=(.*?)(?:,line=\d+)?(?:,title=.*?)?::\./(.*?)(?:%0A.*)?$", found.out.decode(), re.M
-    )
-    are_named(tally, "CI", [line for _, line in lines])
+    annotation = r"^::(?:error|warning) file=(.*?)(?:,line=\d+)?(?:,title=.*?)?::\./(.*?)(?:%0A.*)?$"
+    lines = re.findall(annotation, found.out.decode(), re.M)
+    told = {**FAULTS, **remarked(remarks)}
+    are_named(tally, "CI", [line for _, line in lines], told)
     files = [it.replace("%3A", ":").replace("%2C", ",") for it, _ in lines]
-    tally.same("annotated files", sorted(files), sorted(BROKEN))
+    tally.same("annotated files", sorted(files), sorted(told))
+    tally.same("warnings", found.out.count(b"::warning "), len(remarked(remarks)))
     tally.same("its status", found.status, 4)
     tally.holds("other files are counted", f", {len(OTHERS)} other files\n".encode() in found.err)
 

@@ -15,7 +15,7 @@ from .commands import FAILED, REFUSED, USAGE, Run
 from .errors import DnormError, Read, Refused, Write
 from .explain import explained
 from .files import failing
-from .folders import ENDINGS
+from .names import ENDINGS
 from .program import processors, version
 from .reports import Console, Stopped, cause_of, for_terminal, line_of
 from .suite import suite

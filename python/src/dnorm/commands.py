@@ -11,29 +11,39 @@ from collections import Counter
 from collections.abc import Callable, Sequence
 from typing import TypeVar
 
-from .calls import check, checksum
-from .companions import Fitting, Partners, check_companion, parts_of
+from .calls import checksum
+from .checks import Accepted, Checker
+from .companions import Partners
 from .errors import DnormError, Read, Refused
-from .files import failing, sink_of
-from .folders import COMPANIONS, Found, find, in_order, in_order_of_names, outcome
-from .library import library_of
+from .files import Text, failing, sink_of
+from .folders import Found, find, in_order, in_order_of_names, outcome
+from .handles import canonical_sum
+from .library import instance_of, library_of
+from .limits import Limit
 from .listing import Listed, listed, record_of_listed, row_of, table, text_of_listed
 from .manifests import Entry, entries_of, text_of
-from .reports import Case, Console, Result, annotation_of, as_json, cause_of, junit, line_of, line_with, record_of
+from .reports import Case, Console, annotation_of, as_json, cause_of, junit, line_of, line_with, record_of
 from .summary import differences, lines_of_differences
 
 # The exit statuses besides 0. The greatest one that applies counts.
 DIFFERS, REFUSED, USAGE, FAILED = 1, 2, 3, 4
 
+OTHER_KIND = "file of another kind than its ending"
+OTHER_KINDS = "files of another kind than their endings"
+
 Item = TypeVar("Item")
 Outcome = TypeVar("Outcome")
+
+
+class Incomplete(Exception):
+    """A file is not written, since it would not be complete."""
 
 
 class Run:
     """A run of a command, with the parsed arguments `words`. It counts what the files lead to."""
 
     def __init__(self, words: Namespace, console: Console) -> None:
-        self.words, self.console = words, console
+        self.words, self.console, self.library = words, console, library_of(words.program)
         self.status = self.done = self.refused = self.failed = self.others = 0
 
     def check(self) -> None:
@@ -41,14 +51,17 @@ class Run:
         words = self.words
         found = self.found()
         partners = Partners(found.files if words.companions else ())
+        checker = Checker(
+            words.program,
+            words.timeout,
+            # The library does not say in which forms a text is canonical.
+            None if words.format == "json" else self.library,
+            partners=partners if words.companions else None,
+            is_strict=words.strict,
+        )
         for name in [it for it in words.path if words.companions and it in found.files]:
             found.files.update(dict.fromkeys(it for it in partners.companions_of(name) if it not in found.files))
         cases: list[Case] = []
-
-        def task(name: str) -> Result:
-            if words.companions and parts_of(name)[1] in COMPANIONS:
-                return check_companion(name, partners.graphs_of(name), words.program, words.timeout)
-            return check(name, program=words.program, timeout=words.timeout)
 
         def take(case: Case) -> None:
             self.count(case.result)
@@ -57,24 +70,31 @@ class Run:
 
         with contextlib.ExitStack() as stack:
             report = stack.enter_context(sink_of(words.junit)) if words.junit else None
-            self.each_file(found, task, lambda name, result, seconds: take(Case(name, result, seconds)))
+            self.each_file(found, checker.check, lambda name, result, seconds: take(Case(name, result, seconds)))
             if report:
                 report.take(junit(cases))
         self.print_causes(cases)
-        alone = sum(isinstance(it.result, Fitting) and not it.result.graphs for it in cases)
-        self.sum_up(f"{self.done} accepted", counted(alone, "companion without a graph", "companions without a graph"))
+        accepted = [it.result for it in cases if isinstance(it.result, Accepted)]
+        alone = sum(it.is_alone for it in accepted)
+        unsure = sum(bool(it.not_accepted) for it in accepted)
+        self.sum_up(
+            f"{self.done} accepted",
+            counted(alone, "companion without a graph", "companions without a graph"),
+            counted(unsure, "companion of a graph that is not accepted", "companions of graphs that are not accepted"),
+            counted(sum(it.named is not None for it in accepted), OTHER_KIND, OTHER_KINDS),
+        )
 
     def print_case(self, case: Case) -> None:
         """Prints what the check of a file leads to."""
         name, result, _ = case
+        if self.words.quiet and isinstance(result, Accepted) and not result.remarks:
+            return
         if self.words.format == "json":
-            text = as_json(record_of(name, result))
+            self.console.print(as_json(record_of(name, result)))
         elif self.words.format == "github":
-            text = annotation_of(name, result)
+            self.console.print(annotation_of(name, result))
         else:
-            text = line_of(name, result)
-        if isinstance(result, DnormError) or not self.words.quiet:
-            self.console.print(text)
+            self.console.print(line_of(name, result))
 
     def print_causes(self, cases: Sequence[Case]) -> None:
         """Prints the refused and failed files again, with the causes, on standard error."""
@@ -100,10 +120,13 @@ class Run:
             if not isinstance(result, DnormError):
                 entries.append(Entry(name, result, words.form))
 
-        with contextlib.ExitStack() as stack:
+        with contextlib.suppress(Incomplete), contextlib.ExitStack() as stack:
             target = stack.enter_context(sink_of(words.output)) if words.output else None
             self.each_file(self.found(), lambda name: self.checksum_of(name, words.form), take)
             text = text_of(entries, words.form)
+            if target and self.failed:
+                self.console.complain(line_with(words.output, after=": not written, since it would lack what failed"))
+                raise Incomplete
             if target:
                 target.take(os.fsencode(text))
             elif not words.json:
@@ -111,7 +134,14 @@ class Run:
         self.sum_up(f"{self.done} listed")
 
     def checksum_of(self, name: str, form: int = 1) -> str:
-        return checksum(name, form, program=self.words.program, timeout=self.words.timeout)
+        """Returns the canonical checksum of a file."""
+        if not self.library:
+            return checksum(name, form, program=self.words.program, timeout=self.words.timeout)
+        limit = Limit(self.words.timeout, name)
+        with contextlib.ExitStack() as stack:
+            held = stack.enter_context(instance_of(self.library, Text(name, stack, limit), form))
+            found = canonical_sum(self.library, held, form, limit)
+        return found
 
     def record_of_entry(self, name: str, result: str | DnormError) -> dict[str, object]:
         """Returns the JSON object of a file of a manifest."""
@@ -200,10 +230,10 @@ class Run:
 
     def list(self) -> None:
         """Prints what each file contains."""
-        words, rows, library = self.words, 0, library_of(self.words.program)
+        words, rows = self.words, 0
 
         def task(name: str) -> Listed:
-            return listed(name, words.form, words.program, library, words.timeout)
+            return listed(name, words.form, words.program, self.library, words.timeout)
 
         def take(name: str, result: Listed | DnormError, _: float) -> None:
             nonlocal rows

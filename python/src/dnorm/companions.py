@@ -5,32 +5,11 @@ from __future__ import annotations
 import contextlib
 import os
 from collections.abc import Iterable
-from dataclasses import dataclass
 
-from .answers import Checked
-from .calls import check
-from .compressed import DECOMPRESSORS, ending_of
-from .errors import Read, Refused
-from .folders import COMPANIONS
-from .program import Program
+from .names import COMPANIONS, parts_of
 
 # The ends of the names of graphs that have companions.
 WITH_COMPANIONS = (".gr", ".sp")
-
-
-@dataclass(frozen=True)
-class Fitting(Checked):
-    """What a check of a companion found, and which graphs of its name it fits."""
-
-    graphs: tuple[str, ...]
-
-
-def parts_of(name: str) -> tuple[str, str]:
-    """Returns the name of a text without its ending, and the ending, both without that of a compression."""
-    ending = ending_of(name)
-    plain = name[: -len(ending)] if ending in DECOMPRESSORS else name
-    ending = ending_of(plain)
-    return plain[: len(plain) - len(ending)], ending
 
 
 class Partners:
@@ -59,16 +38,3 @@ class Partners:
     def graphs_of(self, name: str) -> list[str]:
         """Returns the graphs of a companion."""
         return self.graphs.get(parts_of(name)[0], [])
-
-
-def check_companion(name: str, graphs: Iterable[str], program: Program, timeout: float | None) -> Fitting:
-    """Checks a companion, and that it fits each of these graphs, except for those that are refused or unreadable."""
-    found, fitting = check(name, program=program, timeout=timeout), []
-    for graph in graphs:
-        try:
-            check(graph, name, program=program, timeout=timeout)
-            fitting.append(graph)
-        except (Refused, Read) as error:
-            if error.name == name:
-                raise
-    return Fitting(found.kind, None, found.forms, tuple(fitting))

@@ -4,9 +4,10 @@ from __future__ import annotations
 
 import contextlib
 import importlib
-import os
 from collections.abc import Callable, Iterator
-from typing import Any, BinaryIO, NoReturn, Protocol
+from typing import Any, BinaryIO, Protocol
+
+from .names import ending_of, unknown_compression, unknown_text
 
 # The number of bytes that are read and written at a time.
 SIZE = 1 << 16
@@ -147,43 +148,33 @@ def zstd_into(file: BinaryIO) -> Compressed:
     raise OSError(NO_ZSTD)
 
 
-def unknown(what: str) -> Callable[..., NoReturn]:
-    """Returns how files of this compression are read and written: not at all."""
-
-    def fail(*_: BinaryIO) -> NoReturn:
-        raise OSError(f"{what} is not supported")
-
-    return fail
-
-
-UNKNOWN = {
-    ".z": unknown("compress"),
-    ".lz4": unknown("lz4"),
-    ".zip": unknown("zip"),
-    ".br": unknown("brotli"),
-    ".7z": unknown("7-Zip"),
-}
-# How the files of each ending are read and written. Those of an ending that is unknown fail, so that no name of a
-# compressed file stands for a plain text.
-DECOMPRESSORS: dict[str, Callable[[], Stream]] = {
-    ".gz": gunzip,
-    ".bz2": bunzip2,
-    ".xz": unxz,
-    ".zst": unzstd,
-    **UNKNOWN,
-}
+# How the files of each ending are read and written.
+DECOMPRESSORS: dict[str, Callable[[], Stream]] = {".gz": gunzip, ".bz2": bunzip2, ".xz": unxz, ".zst": unzstd}
 COMPRESSORS: dict[str, Callable[[BinaryIO], Compressed]] = {
     ".gz": gzip_into,
     ".bz2": bzip2_into,
     ".xz": xz_into,
     ".zst": zstd_into,
-    **UNKNOWN,
 }
 
 
-def ending_of(name: str) -> str:
-    """Returns the ending of a name in small letters, as `.gz`."""
-    return os.path.splitext(name)[1].lower()
+def decompressor_of(name: str) -> Callable[[], Stream] | None:
+    """Returns how the file of this name is decompressed, or None if it is plain. Raises OSError for a compression that
+    is not read."""
+    raise_for(unknown_compression(name))
+    return DECOMPRESSORS.get(ending_of(name))
+
+
+def compressor_of(name: str) -> Callable[[BinaryIO], Compressed] | None:
+    """Returns how the file of this name is compressed, or None if it is plain. Raises OSError for a compression that is
+    not written, and for a name that stands for no plain text."""
+    raise_for(unknown_compression(name) or unknown_text(name))
+    return COMPRESSORS.get(ending_of(name))
+
+
+def raise_for(reason: str) -> None:
+    if reason:
+        raise OSError(reason)
 
 
 def pieces(file: Reading, start: Callable[[], Stream]) -> Iterator[bytes]:

@@ -12,7 +12,7 @@ from collections.abc import Callable, Iterator
 from typing import BinaryIO, Optional, Protocol, Union
 
 from .causes import Cause, cause_of
-from .compressed import COMPRESSORS, DECOMPRESSORS, SIZE, Compressed, ending_of, pieces
+from .compressed import SIZE, Compressed, compressor_of, decompressor_of, pieces
 from .errors import DnormError, Memory, Read, Refused, Write
 from .limits import Limit, Timed
 
@@ -169,7 +169,8 @@ class Text:
         """Returns the file whose bytes are the text, or the pieces of the text."""
         file = self.file
         if self._opened:
-            start = DECOMPRESSORS.get(ending_of(self.name))
+            with failing(Read, self.name):
+                start = decompressor_of(self.name)
             return pieces(Timed(self._opened, self.limit), start) if start else self._opened
         if isinstance(file, (bytes, bytearray, memoryview)):
             return of_bytes(memoryview(file).cast("B"))
@@ -300,7 +301,8 @@ def sink_of(target: Target) -> Iterator[Sink]:
         return
     # A device or a pipe cannot be replaced, so it is written itself.
     is_replaced = os.path.isfile(name) or not os.path.exists(name)
-    start = COMPRESSORS.get(ending_of(name))
+    with failing(Write, name):
+        start = compressor_of(name)
     with whole_file(name) if is_replaced else written_file(name, name) as file:
         if start:
             with failing(Write, name):

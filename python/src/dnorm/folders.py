@@ -3,26 +3,24 @@
 from __future__ import annotations
 
 import os
-from collections import deque
+import threading
+import time
 from collections.abc import Callable, Generator, Iterable, Sequence
-from concurrent.futures import ThreadPoolExecutor, wait
 from fnmatch import fnmatchcase
-from itertools import islice
-from typing import NamedTuple, TypeVar
+from typing import Generic, NamedTuple, TypeVar, cast
 
-from .compressed import DECOMPRESSORS
 from .errors import DnormError, Memory, Read
 from .files import reason_of
+from .names import is_text, unknown_text
 from .program import children
 
-# The ends of the names of DIMACS texts.
-GRAPHS, COMPANIONS = (".gr", ".sp", ".min", ".max"), (".ss", ".p2p", ".co")
-ENDINGS = (*GRAPHS, *COMPANIONS)
 # What version control keeps for itself: branches can have names like texts.
 HIDDEN = {".git", ".hg", ".svn", ".bzr", ".jj", "CVS", "_darcs"}
 
-# The longest wait for a task, in seconds; and how many tasks are started before the first one must have ended.
+# The longest wait of a thread, in seconds, and how many tasks begin before the result of the first one is taken.
 PAUSE, MOST = 0.1, 10_000
+# The seconds of a result, on the average, and the wait for one result, after which another thread is started.
+SOON, LONG = 0.001, 0.02
 
 Item = TypeVar("Item")
 Result = TypeVar("Result")
@@ -39,7 +37,8 @@ class Found(NamedTuple):
 def find(paths: Iterable[str], endings: Sequence[str], excluded: Sequence[str] = ()) -> Found:
     """Returns the files that these paths name. The path of a folder names all files below it that end in one of these
     endings, in small letters or capitals, compressed or not, except what matches an excluded pattern. A folder that
-    cannot be read, or that has no such file, has an error."""
+    cannot be read, or that has no such file, has an error, and so has a file in whose name something else follows such
+    an ending."""
     found = Found({}, {})
     for path in paths:
         if os.path.isdir(path):
@@ -48,9 +47,15 @@ def find(paths: Iterable[str], endings: Sequence[str], excluded: Sequence[str] =
             found.files.update(below.files or {path: missing})
             found.others.update(below.others)
         else:
-            found.files[path] = None
+            found.files[path] = error_of_name(path, endings)
     others = {name: reason for name, reason in found.others.items() if name not in found.files}
     return Found(in_order_of_names(found.files), in_order_of_names(others))
+
+
+def error_of_name(path: str, endings: Sequence[str]) -> DnormError | None:
+    """Returns the error of a file whose name stands for no text that can be read, although it begins like one."""
+    reason = unknown_text(path, endings)
+    return Read(path, reason) if reason else None
 
 
 def in_order_of_names(found: dict[str, Result]) -> dict[str, Result]:
@@ -61,8 +66,7 @@ class Search:
     """A search below a folder."""
 
     def __init__(self, folder: str, endings: Sequence[str], excluded: Sequence[str]) -> None:
-        self.folder, self.excluded = folder, excluded
-        self.ends = tuple(f"{it.lower()}{more}" for it in endings for more in ("", *DECOMPRESSORS))
+        self.folder, self.endings, self.excluded = folder, endings, excluded
 
     def found(self) -> Found:
         """Returns the files and the other files below the folder. Links to files count as files, even if they lead
@@ -78,7 +82,7 @@ class Search:
                 if reason:
                     found.others[path] = reason
                 else:
-                    found.files[path] = None
+                    found.files[path] = error_of_name(path, self.endings)
         for error in errors:
             name = os.fsdecode(error.filename)
             found.files[name] = Read(name, reason_of(error))
@@ -93,7 +97,7 @@ class Search:
 
     def reason(self, path: str) -> str:
         """Returns why a file is not looked at, or nothing if it is."""
-        if not path.lower().endswith(self.ends):
+        if not is_text(path, self.endings) and not unknown_text(path, self.endings):
             return "its name does not end like that of a DIMACS text"
         if os.path.exists(path) and not os.path.isfile(path):
             return "it is neither a file nor a link to one"
@@ -113,23 +117,86 @@ def outcome(task: Callable[[], Result], name: str) -> Result | DnormError:
         return Read(name, reason_of(error))
 
 
+class Workers(Generic[Item, Result]):
+    """Threads that run a task on each of these items, at most `jobs` of them. They do not run ahead of the result that
+    is waited for by more than MOST items. Nothing waits for their end, since a thread may wait for a file without end.
+
+    The first thread starts at once, and others while results are slow: for small files, threads would only wait for
+    each other."""
+
+    def __init__(self, task: Callable[[Item], Result], items: Sequence[Item], jobs: int) -> None:
+        self._task, self._items, self._jobs = task, items, min(jobs, len(items))
+        self._changed = threading.Condition()
+        self._begun = self._wanted = self._threads = 0
+        self._is_stopped = False
+        self._done: dict[int, tuple[Result | None, BaseException | None]] = {}
+        self._start = time.monotonic()
+        self._start_thread()
+
+    def _start_thread(self) -> None:
+        """Starts another thread. Where the system lets no more of them start, those that there are do all."""
+        if self._threads < self._jobs:
+            try:
+                threading.Thread(target=self._work, daemon=True).start()
+                self._threads += 1
+            except (RuntimeError, MemoryError):
+                self._jobs = self._threads
+
+    def _work(self) -> None:
+        while (at := self._next()) is not None:
+            self._do(at)
+
+    def _next(self) -> int | None:
+        """Returns the place of the next item, or None if there is none."""
+        with self._changed:
+            while not self._is_stopped and self._begun < len(self._items):
+                if self._begun < self._wanted + MOST:
+                    self._begun += 1
+                    return self._begun - 1
+                self._changed.wait(PAUSE)
+        return None
+
+    def _do(self, at: int) -> None:
+        found: tuple[Result | None, BaseException | None]
+        try:
+            found = self._task(self._items[at]), None
+        except BaseException as error:
+            found = None, error
+        with self._changed:
+            self._done[at] = found
+            if at == self._wanted:
+                self._changed.notify_all()
+
+    def result(self, at: int) -> Result:
+        """Returns the result of this item, or raises what its task has raised."""
+        if not self._threads:
+            self._do(at)
+        elif time.monotonic() - self._start > at * SOON:
+            self._start_thread()
+        with self._changed:
+            self._wanted = at
+            # A signal that comes just before a wait does not end it, so no wait is long.
+            while at not in self._done:
+                if not self._changed.wait(LONG):
+                    self._start_thread()
+            found, error = self._done.pop(at)
+        if error:
+            raise error
+        return cast(Result, found)
+
+    def stop(self) -> None:
+        """Lets no thread begin another item."""
+        self._is_stopped = True
+
+
 def in_order(task: Callable[[Item], Result], items: Sequence[Item], jobs: int) -> Generator[Result, None, None]:
     """Runs a task on each of these items, so many at a time, and yields the results in their order. If anything is
     raised, or the caller closes the iterator, kills the processes that run, and starts no others."""
-    pool = ThreadPoolExecutor(jobs)
-    rest = iter(items)
+    workers = Workers(task, items, jobs)
     try:
-        futures = deque(pool.submit(task, it) for it in islice(rest, MOST))
-        while futures:
-            future = futures.popleft()
-            # A signal that comes just before a wait does not end it, so no wait is long.
-            while not wait([future], PAUSE).done:
-                pass
-            futures.extend(pool.submit(task, it) for it in islice(rest, 1))
-            yield future.result()
+        for at in range(len(items)):
+            yield workers.result(at)
     except BaseException:
-        # A thread may wait for a file without end, so nothing waits for the threads.
+        workers.stop()
         children.stop()
-        pool.shutdown(wait=False, cancel_futures=True)
         raise
-    pool.shutdown()

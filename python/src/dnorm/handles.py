@@ -5,18 +5,21 @@ from __future__ import annotations
 
 import ctypes
 import functools
+import hashlib
 from collections.abc import Iterator
 from typing import Any
 
 from .answers import Difference, Same
 from .errors import DnormError, Memory, Refused
-from .library import FINE, GRAPHS, HANDLE, KINDS, MEMORY, Handle, Instance, Library, Status
+from .library import FINE, HANDLE, KINDS, MEMORY, Handle, Instance, Library, Status
 from .limits import Limit
 from .program import unexpected
 from .refusals import REFUSALS
 
+# The refusal that has a node.
+NOT_IN_GRAPH = 35
 # The bytes of a canonical text that are copied at a time.
-ROOM = 1 << 20
+ROOM = 1 << 16
 
 
 class Value(ctypes.Structure):
@@ -81,10 +84,18 @@ def canonical_pieces(library: Library, instance: Instance, form: int, limit: Lim
         at, room = 0, ctypes.create_string_buffer(ROOM)
         while more := calls["text"](ctypes.byref(text), at, room, ROOM):
             limit.left()
-            yield room.raw[:more]
+            yield ctypes.string_at(room, more)
             at += more
     finally:
         library.free(ctypes.byref(text))
+
+
+def canonical_sum(library: Library, instance: Instance, form: int, limit: Limit) -> str:
+    """Returns the SHA-256 checksum of the canonical text of an instance."""
+    found = hashlib.sha256()
+    for piece in canonical_pieces(library, instance, form, limit):
+        found.update(piece)
+    return found.hexdigest()
 
 
 def error_of(code: int, name: str) -> DnormError:
@@ -110,9 +121,9 @@ def first_difference(library: Library, left: Instance, right: Instance) -> Same 
     return Difference(what, one, other, node=node, place=found.index if what == "item" else None)
 
 
-def check_fit(library: Library, graph: Instance, companion: Instance, name: str) -> None:
-    """Raises Refused if a companion, which has this name, does not fit a graph."""
+def refusal_of_fit(library: Library, graph: Instance, companion: Instance, name: str) -> Refused | None:
+    """Returns the refusal of a companion of this name that does not fit a graph, or None if it fits."""
     found = functions_of(library.path)["fits"](graph.handle, companion.handle)
-    if found.code != FINE:
-        node = found.node if graph.kind in GRAPHS and found.code == 35 else None
-        raise Refused(name, None, found.code, REFUSALS[found.code][0], node)
+    if found.code == FINE:
+        return None
+    return Refused(name, None, found.code, REFUSALS[found.code][0], found.node if found.code == NOT_IN_GRAPH else None)

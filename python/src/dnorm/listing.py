@@ -13,7 +13,7 @@ from .calls import canon_into
 from .causes import PROBLEM
 from .columns import Column, numpy_here
 from .files import Sink, Text, enough_memory
-from .handles import canonical_pieces
+from .handles import canonical_sum
 from .instances import Co, Graph, Min
 from .library import Library, instance_of
 from .limits import Limit
@@ -73,14 +73,12 @@ def listed(name: str, form: int, program: Program, library: Library | None, time
 
 def listed_by_library(name: str, form: int, library: Library, limit: Limit) -> Listed:
     """Returns what a file contains, by the instance that the library has read."""
-    found = hashlib.sha256()
     with contextlib.ExitStack() as stack:
         text = Text(name, stack, limit)
         held = stack.enter_context(instance_of(library, text, form))
-        for piece in canonical_pieces(library, held, form, limit):
-            found.update(piece)
+        found = canonical_sum(library, held, form, limit)
         instance, declared = instance_by(held), held.lines
-    return listed_as(name, text.size, instance, declared, found.hexdigest())
+    return listed_as(name, text.size, instance, declared, found)
 
 
 def listed_by_program(name: str, form: int, program: Program, limit: Limit) -> Listed:

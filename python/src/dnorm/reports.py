@@ -13,13 +13,12 @@ from collections.abc import Sequence
 from typing import NamedTuple, Union
 from xml.etree import ElementTree
 
-from .answers import Checked
-from .companions import Fitting
+from .checks import Accepted
 from .errors import DnormError, Refused, Write
 from .files import reason_of, write_all
 
 # What a check of a file leads to.
-Result = Union[Checked, DnormError]
+Result = Union[Accepted, DnormError]
 
 
 class Case(NamedTuple):
@@ -101,11 +100,11 @@ class Console:
             os.write(2, os.fsencode(text))
 
 
-def line_with(name: str, before: str = "", after: str = "", graphs: str = "") -> str:
-    """Returns a line with the name of a file, and at its end with those of graphs. As in a line of sha256sum, a
+def line_with(name: str, before: str = "", after: str = "", more: str = "") -> str:
+    """Returns a line with the name of a file, and at its end with more that has names. As in a line of sha256sum, a
     backslash, LF or CR in a name is written as two characters, and a backslash begins the line then."""
-    plain, others = (it.replace("\\", r"\\").replace("\n", r"\n").replace("\r", r"\r") for it in (name, graphs))
-    return ("\\" if (plain, others) != (name, graphs) else "") + before + plain + after + others + "\n"
+    plain, others = (it.replace("\\", r"\\").replace("\n", r"\n").replace("\r", r"\r") for it in (name, more))
+    return ("\\" if (plain, others) != (name, more) else "") + before + plain + after + others + "\n"
 
 
 def name_in(mark: str, plain: str) -> str | None:
@@ -128,8 +127,8 @@ def line_of(name: str, result: Result) -> str:
     """Returns the line of a file."""
     if isinstance(result, DnormError):
         return line_with(name, after=told(name, result))
-    graphs = ", ".join(result.graphs) if isinstance(result, Fitting) else ""
-    return line_with(name, after=f": accepted {result.kind}", graphs=f", fits {graphs}" if graphs else "")
+    more = [*([f"fits {', '.join(result.fits)}"] if result.fits else []), *result.remarks]
+    return line_with(name, after=f": accepted {result.kind}", more="".join(f", {it}" for it in more))
 
 
 def cause_of(result: Result) -> list[str]:
@@ -142,9 +141,10 @@ def cause_of(result: Result) -> list[str]:
 
 def record_of(name: str, result: Result) -> dict[str, object]:
     """Returns the JSON object of a file."""
-    if isinstance(result, Checked):
+    if isinstance(result, Accepted):
         found: dict[str, object] = {"name": name, "status": "accepted", "kind": result.kind, "forms": result.forms}
-        return {**found, "graphs": result.graphs} if isinstance(result, Fitting) else found
+        graphs = {} if result.fits is None else {"graphs": result.fits, "not_accepted": result.not_accepted}
+        return {**found, **graphs, "remarks": result.remarks}
     found = {"name": name, "status": "failed", "error": f"{name}{told(name, result)}"}
     if isinstance(result, Refused):
         found["status"] = "refused"
@@ -159,18 +159,25 @@ def as_json(record: dict[str, object]) -> str:
 
 
 def annotation_of(name: str, result: Result) -> str:
-    """Returns the line by which GitHub shows an error at a line of a file, or nothing for an accepted file."""
-    if isinstance(result, Checked):
-        return ""
+    """Returns the line by which GitHub shows an error at a line of a file, or a warning about an accepted file with
+    remarks. There is none for any other accepted file."""
     properties = {"file": os.path.normpath(name)}
+    if isinstance(result, Accepted):
+        text = f"{name}: accepted {result.kind}, {', '.join(result.remarks)}"
+        return annotation("warning", properties, text) if result.remarks else ""
     parts = [f"{name}{told(name, result)}"]
     if isinstance(result, Refused):
         if result.line is not None:
             properties["line"] = str(result.line)
         properties["title"] = f"dnorm: {result.number} {result.word}"
         parts += [result.sentence, *cause_of(result)]
+    return annotation("error", properties, "\n".join(parts))
+
+
+def annotation(level: str, properties: dict[str, str], text: str) -> str:
+    """Returns a line for GitHub."""
     fields = ",".join(f"{key}={escaped(value, NO_PROPERTY)}" for key, value in properties.items())
-    return "::error " + fields + "::" + escaped("\n".join(parts), NO_MESSAGE) + "\n"
+    return f"::{level} {fields}::{escaped(text, NO_MESSAGE)}\n"
 
 
 def escaped(text: str, forbidden: re.Pattern[str]) -> str:
@@ -193,6 +200,8 @@ def junit(cases: Sequence[Case]) -> bytes:
             counts["errors"] += 1
             message = for_xml(f"{name}{told(name, result)}")
             ElementTree.SubElement(case, "error", type=type(result).__name__, message=message)
+        elif result.remarks:
+            ElementTree.SubElement(case, "system-out").text = for_xml(", ".join(result.remarks))
     suite.attrib.update((it, str(count)) for it, count in counts.items())
     suite.set("time", f"{sum(it.seconds for it in cases):.3f}")
     suites = ElementTree.Element("testsuites")

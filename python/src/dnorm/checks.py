@@ -1,0 +1,118 @@
+"""Checks of files: whether they are accepted, whether companions fit the graphs of their names, and whether the ending
+of a name is that of the kind."""
+
+from __future__ import annotations
+
+import contextlib
+from collections.abc import Callable, Sequence
+from dataclasses import dataclass, replace
+from typing import Optional
+
+from .calls import check
+from .companions import Partners
+from .errors import Read, Refused
+from .files import Text
+from .handles import refusal_of_fit
+from .library import Library, instance_of
+from .limits import Limit
+from .names import COMPANIONS, KINDS, parts_of
+from .program import Program, with_cause
+
+
+@dataclass(frozen=True)
+class Accepted:
+    """What a check of an accepted file found: its `kind`; the `forms` in which it is canonical, if these were asked
+    for; which graphs of its name a companion `fits`, if that was checked, and which of them are `not_accepted`; and the
+    kind that the ending of its name is `named` for, if that is another one."""
+
+    kind: str
+    forms: Optional[tuple[int, ...]] = None
+    fits: Optional[tuple[str, ...]] = None
+    not_accepted: tuple[str, ...] = ()
+    named: Optional[str] = None
+
+    @property
+    def is_alone(self) -> bool:
+        """Whether a companion has no graph of its name."""
+        return self.fits == () and not self.not_accepted
+
+    @property
+    def remarks(self) -> list[str]:
+        """What is odd about the file, although it is accepted."""
+        found = ["no graph"] if self.is_alone else []
+        found += [f"graph not accepted: {it}" for it in self.not_accepted]
+        return found + ([f"its ending is that of {self.named}"] if self.named else [])
+
+
+class Checker:
+    """Checks files: by this library, or else by the program, which also says the forms. With partners, companions are
+    checked beside their graphs. If it is strict, a file with a remark has an error."""
+
+    def __init__(
+        self,
+        program: Program,
+        timeout: float | None,
+        library: Library | None,
+        *,
+        partners: Partners | None = None,
+        is_strict: bool = False,
+    ) -> None:
+        self.program, self.timeout, self.partners, self.is_strict = program, timeout, partners, is_strict
+        self.library = library
+
+    def check(self, name: str) -> Accepted:
+        """Checks a file."""
+        ending = parts_of(name)[1]
+        graphs = self.partners.graphs_of(name) if self.partners and ending in COMPANIONS else None
+        if self.library:
+            found = self._by_library(self.library, name, graphs)
+        else:
+            found = self._by_program(name, graphs)
+        expected = KINDS.get(ending, found.kind)
+        if expected != found.kind:
+            found = replace(found, named=expected)
+        if self.is_strict and found.remarks:
+            raise Read(name, f"accepted {found.kind}, {', '.join(found.remarks)}")
+        return found
+
+    def _by_library(self, library: Library, name: str, graphs: Sequence[str] | None) -> Accepted:
+        limit = Limit(self.timeout, name)
+        with contextlib.ExitStack() as stack:
+            text = Text(name, stack, limit)
+            companion = stack.enter_context(instance_of(library, text, 1))
+
+            def fit(graph: str) -> None:
+                with contextlib.ExitStack() as inner:
+                    other = inner.enter_context(instance_of(library, Text(graph, inner, limit), 1))
+                    error = refusal_of_fit(library, other, companion, name)
+                if error:
+                    raise with_cause(error, text)
+
+            found = Accepted(companion.kind)
+            if graphs is not None:
+                found = beside(found, name, graphs, fit)
+        return found
+
+    def _by_program(self, name: str, graphs: Sequence[str] | None) -> Accepted:
+        checked = check(name, program=self.program, timeout=self.timeout)
+
+        def fit(graph: str) -> None:
+            check(graph, name, program=self.program, timeout=self.timeout)
+
+        found = Accepted(checked.kind, checked.forms)
+        return found if graphs is None else beside(found, name, graphs, fit)
+
+
+def beside(found: Accepted, name: str, graphs: Sequence[str], fit: Callable[[str], None]) -> Accepted:
+    """Returns what was found of a companion, with the graphs of its name. `fit` raises an error for one that the
+    companion does not fit, and for one that is refused or cannot be read."""
+    fits, others = [], []
+    for graph in graphs:
+        try:
+            fit(graph)
+            fits.append(graph)
+        except (Refused, Read) as error:
+            if error.name == name:
+                raise
+            others.append(graph)
+    return replace(found, fits=tuple(fits), not_accepted=tuple(others))

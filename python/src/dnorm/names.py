@@ -1,0 +1,63 @@
+"""What the names of files say: the kinds of DIMACS texts, and compressions, by their endings in small letters or
+capitals."""
+
+from __future__ import annotations
+
+import functools
+import os
+import re
+from collections.abc import Sequence
+
+# The kinds of texts by the ends of their names.
+KINDS = {".gr": "sp", ".sp": "sp", ".min": "min", ".max": "max", ".ss": "ss", ".p2p": "p2p", ".co": "co"}
+COMPANIONS = (".ss", ".p2p", ".co")
+ENDINGS = (*KINDS,)
+# The compressions that are read and written, and others by what they are called.
+COMPRESSIONS = (".gz", ".bz2", ".xz", ".zst")
+OTHERS = {".z": "compress", ".lz4": "lz4", ".zip": "zip", ".br": "brotli", ".7z": "7-Zip", ".lzma": "lzma"}
+OTHERS |= {".lz": "lzip", ".lzo": "lzop", ".tar": "tar", ".rar": "rar"}
+OTHERS |= {it: it for it in (".gzip", ".bzip2", ".bz", ".zstd", ".tgz", ".tbz", ".tbz2", ".txz", ".tzst")}
+# Minified pages of the web have the ending of a `min` text before their own.
+MINIFIED = re.compile(r"\.min\.(?:[cm]?js|css|html?|svg|json)(?:\.map)?(?:\.gz|\.br)?")
+
+
+def ending_of(name: str) -> str:
+    """Returns the ending of a name in small letters, as `.gz`."""
+    return os.path.splitext(name)[1].lower()
+
+
+def parts_of(name: str) -> tuple[str, str]:
+    """Returns the name of a text without its ending, and the ending, both without that of a compression."""
+    ending = ending_of(name)
+    plain = name[: -len(ending)] if ending in COMPRESSIONS or ending in OTHERS else name
+    ending = ending_of(plain)
+    return plain[: len(plain) - len(ending)], ending
+
+
+@functools.lru_cache(maxsize=None)
+def ends_of(endings: tuple[str, ...]) -> tuple[str, ...]:
+    """Returns the ends of the names of texts with these endings, compressed or not."""
+    return tuple(f"{it.lower()}{more}" for it in endings for more in ("", *COMPRESSIONS))
+
+
+def is_text(name: str, endings: Sequence[str] = ENDINGS) -> bool:
+    """Whether a name ends like that of a text, which may be compressed."""
+    return name.lower().endswith(ends_of(tuple(endings)))
+
+
+def unknown_compression(name: str) -> str:
+    """Returns why a file of this name is not decompressed, or nothing if it is, or if it is not compressed."""
+    ending = ending_of(name)
+    if ending in COMPRESSIONS:
+        inner = ending_of(os.path.splitext(name)[0])
+        return f"{inner}{ending} is not supported" if inner in COMPRESSIONS or inner in OTHERS else ""
+    return f"{OTHERS[ending]} is not supported" if ending in OTHERS else ""
+
+
+def unknown_text(name: str, endings: Sequence[str] = ENDINGS) -> str:
+    """Returns why a file of this name is no text, although the ending of one is in the name; or nothing."""
+    lower = os.path.basename(name).lower()
+    ends = [at + len(it) for it in endings if (at := lower.rfind(f"{it.lower()}.")) >= 0]
+    if not ends or is_text(name, endings) or MINIFIED.fullmatch(lower, max(ends) - len(".min")):
+        return ""
+    return unknown_compression(name) or f"{lower[max(ends):]} is not supported"
