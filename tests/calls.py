@@ -338,7 +338,7 @@ def names(tally: Tally, _: str) -> None:
         tally.same(f"compare with {name!r:.20}", told(lambda: dnorm.compare(ROADS, name)), wanted)
     tally.same("left before right", told(lambda: dnorm.compare(b"x", "missing")), "Refused: -:1: 1 BadLine")
     found = told(lambda: dnorm.check(5))  # type: ignore[arg-type]
-    tally.same("a number", found, "TypeError: a file is a path, bytes or a binary stream, and not int")
+    tally.same("a number", found, "TypeError: a file is a path, bytes, a binary stream or an instance, and not int")
 
 
 def threads(tally: Tally, _: str) -> None:

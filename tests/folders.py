@@ -376,6 +376,11 @@ def kept_manifests(tally: Tally, _: str) -> None:
     tally.same("its entries", len(bytes_of("list").splitlines()), 2)
 
 
+def slowly_squared(number: int) -> int:
+    time.sleep(0.03)
+    return number * number
+
+
 def few_threads(tally: Tally, _: str) -> None:
     """Tests that all tasks are done, in their order, where the system lets few threads start or none."""
     start = threading.Thread.start
@@ -390,7 +395,7 @@ def few_threads(tally: Tally, _: str) -> None:
 
         setattr(threading.Thread, "start", begin)
         try:
-            found = list(in_order(lambda it: (time.sleep(0.03), it * it)[1], range(20), 4))
+            found = list(in_order(slowly_squared, range(20), 4))
         finally:
             setattr(threading.Thread, "start", start)
         tally.same(f"tasks by {most} threads", (found, len(begun)), ([it * it for it in range(20)], most))

@@ -110,7 +110,8 @@ BROKEN_LINKS = {
     "coll/link.gr": ("UP.GR", ":2: 13 NodeOutOfRange"),
     "coll/inst/up.gr": ("../a.gr.gz", ":1: 1 BadLine"),
 }
-FAULTS = {name: fault for broken in (BROKEN, BROKEN_LINKS) for name, (_, fault) in broken.items()}
+FAULTS = {name: fault for name, (_, fault) in BROKEN.items()}
+FAULTS |= {name: fault for name, (_, fault) in BROKEN_LINKS.items()}
 SOURCES, POINTS = b"p aux sp ss 1\ns 2\n", b"p aux sp co 1\nv 1 0 0\n"
 # Texts that are accepted and named: of another kind than their endings, without a graph, and with one that is refused.
 OTHER_KIND, NO_GRAPH, REFUSED_GRAPH = "its ending is that of (sp|min|max|ss|co)", "no graph", "graph not accepted: "
@@ -380,7 +381,8 @@ def by_pre_commit(tally: Tally, tested: str) -> None:
     for it in FAULTS:
         os.remove(it)
     accepted = sorted(set(chosen) - set(FAULTS))
-    for words, status in [([], 0), (["--strict"], 4)]:
+    rows: list[tuple[list[str], int]] = [([], 0), (["--strict"], 4)]
+    for words, status in rows:
         found = run([f"{ROOT}/{fields['entry']}", *words, *accepted], env=environment)
         tally.same(f"pre-commit {words} of the others", found.status, status)
 

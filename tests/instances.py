@@ -4,12 +4,15 @@ texts that are written of random instances. `tests/python` runs these tests, eac
 import bz2
 import contextlib
 import copy
+import dataclasses
+import importlib
 import io
 import itertools
 import os
 import pickle
 import random
 import sys
+from array import array
 from collections.abc import Callable
 from concurrent.futures import ThreadPoolExecutor
 from typing import Any
@@ -83,9 +86,73 @@ def arrays(values: Any) -> Any:
     return dnorm.from_arrays(dnorm.Sp, **{"nodes": 2, "tails": [1], "heads": [2], "lengths": [3], **values})
 
 
+def ends(values: Any) -> Any:
+    """Returns a `max` graph of two nodes with this source or sink."""
+    return dnorm.from_arrays(
+        "max", **{"nodes": 2, "tails": [], "heads": [], "capacities": []}, **{"source": 1, "sink": 2, **values}
+    )
+
+
+def flows(supplies: Any) -> Any:
+    """Returns a `min` graph of two nodes with these supplies."""
+    return dnorm.from_arrays("min", nodes=2, tails=[1], heads=[2], caps=[3], costs=[4], supplies=supplies)
+
+
+OF_KINDS = "kind is one of dnorm.Sp, dnorm.Max, dnorm.Min, dnorm.Ss, dnorm.P2p, dnorm.Co, or its name"
+
+
+def notebooks(tally: Tally, _: str) -> None:
+    """Tests what notebooks do with instances: as files, by their kinds, as rows, as tables and as dictionaries."""
+    roads, flow = dnorm.read(ROADS), dnorm.read(FLOW)
+    assert isinstance(flow, dnorm.Min)
+    rows: list[tuple[Callable[[dnorm.File], object], dnorm.Instance, bytes]] = [
+        (dnorm.check, roads, ROADS_CANON), (dnorm.checksum, roads, ROADS_CANON), (dnorm.canon, flow, FLOW),
+        (lambda it: dnorm.compare(it, ROADS), roads, ROADS_CANON), (dnorm.read, flow, FLOW), (dnorm.show, flow, FLOW),
+        (lambda it: dnorm.differences(ROADS, it), roads, ROADS_CANON),
+        (lambda it: dnorm.differences(it, it, 1).both, flow, FLOW),
+    ]  # fmt: skip
+    for call, instance, text in rows:
+        tally.same(f"a call of {instance!r}", told(lambda: call(instance)), told(lambda: call(text)))
+    with contextlib.suppress(dnorm.Refused):
+        dnorm.check(arrays({"heads": [3]}))
+        tally.fail("a faulty instance is accepted")
+    told_ = "TypeError: a str is a path, and there is no such file: give a text as bytes"
+    tally.same("a text as str", told(lambda: dnorm.read(ROADS.decode())), told_)
+    tally.same("by name", [dnorm.from_arrays("sp", nodes=2, tails=[1], heads=[2], lengths=[3])], [arrays({})])
+    tally.same("by default", vars(flows({}))["lows"].tolist(), [0])
+    tally.same("no supplies", dnorm.from_arrays("min", nodes=2, tails=[], heads=[], caps=[], costs=[]).supplies, {})
+    # A memoryview cannot be copied so.
+    attributes = dataclasses.asdict(flow) if has_numpy() else vars(flow)
+    again = dnorm.from_arrays("min", **{**attributes, "supplies": flow.supply_column()})
+    tally.same("a column of supplies", (again == flow, dict(again.supplies)), (True, {1: 4, 3: -4}))
+    tally.same("iterating", list(roads), list(roads.rows()))
+    shown = roads._repr_html_()
+    tally.holds(
+        shown, "&lt;dnorm.Sp: 3 nodes, 5 arcs&gt;" in shown and shown.count("<tr>") == 6 and "<td>-5</td>" in shown
+    )
+    many = dnorm.from_arrays("ss", sources=range(1, 100))._repr_html_()
+    tally.holds(many, many.count("<tr>") == 12 and many.endswith("<tr><td>...</td></tr></table>"))
+    mine = array("q", [1])
+    for column in [mine, memoryview(mine), *own_array(mine)]:
+        graph = dnorm.Sp(1, column, column, column)
+        before = hash(graph)
+        mine[0] = 7
+        tally.same(f"a constructor copies {type(column)}", (hash(graph), graph.tails[0]), (before, 1))
+        mine[0] = 1
+
+
+def own_array(numbers: "array[int]") -> list[Any]:
+    """Returns a numpy array of these numbers that can be written, where numpy is there."""
+    return [importlib.import_module("numpy").asarray(numbers)] if has_numpy() else []
+
+
 def constructors(tally: Tally, _: str) -> None:
     """Tests what constructors and from_arrays take."""
     given = arrays({})
+    # Their types take none of these.
+    graph_of: Any = dnorm.Sp
+    write_it: Any = dnorm.write
+    ones = (given.tails, given.tails, given.tails)
     for lengths in [(3,), iter([3]), range(3, 4), given.lengths, [True + 2], given.lengths[:1]]:
         tally.same(f"lengths {lengths!r}", arrays({"lengths": lengths}), given)
     other = "and not a list: from_arrays takes other numbers, too"
@@ -97,15 +164,41 @@ def constructors(tally: Tally, _: str) -> None:
         (lambda: arrays({"lengths": [[3]]}), "TypeError: lengths: 'list' object cannot be interpreted as an integer"),
         (lambda: arrays({"lengths": [3, 4]}), "ValueError: tails and lengths have 1 and 2 numbers"),
         (lambda: arrays({"heads": []}), "ValueError: tails and heads have 1 and 0 numbers"),
+        (lambda: arrays({"nodes": 3.0}), "TypeError: nodes: 'float' object cannot be interpreted as an integer"),
+        (
+            lambda: arrays({"nodes": "3 1\na 1 1 9\nc"}),
+            "TypeError: nodes: 'str' object cannot be interpreted as an integer",
+        ),
+        (lambda: arrays({"nodes": None}), "TypeError: nodes: 'NoneType' object cannot be interpreted as an integer"),
+        (lambda: arrays({"nodes": -1}), "ValueError: nodes is -1"),
+        (lambda: ends({"source": 1.5}), "TypeError: source: 'float' object cannot be interpreted as an integer"),
+        (lambda: ends({"source": 0}), "ValueError: source is 0, which is no node of 1 to 2: nodes count from 1"),
+        (lambda: ends({"sink": 3}), "ValueError: sink is 3, which is no node of 1 to 2: nodes count from 1"),
+        (lambda: flows({1: 4.7}), "TypeError: supplies: 'float' object cannot be interpreted as an integer"),
+        (lambda: flows({"1 s": 4}), "TypeError: supplies: 'str' object cannot be interpreted as an integer"),
+        (lambda: flows({0: 5}), "ValueError: supplies has node 0, which is none of 1 to 2: nodes count from 1"),
+        (lambda: flows({3: 5}), "ValueError: supplies has node 3, which is none of 1 to 2: nodes count from 1"),
+        (lambda: flows([5]), "ValueError: supplies has 1 numbers, and there are 2 nodes"),
+        (lambda: flows([5, "x"]), "TypeError: supplies: 'str' object cannot be interpreted as an integer"),
+        (lambda: dnorm.from_arrays("spp", nodes=2), f"TypeError: {OF_KINDS}"),  # type: ignore[call-overload]
+        (lambda: dnorm.from_arrays(dict, nodes=2), f"TypeError: {OF_KINDS}"),  # type: ignore[type-var]
+        (lambda: dnorm.from_arrays(dnorm.Graph, nodes=2), f"TypeError: {OF_KINDS}"),
+        (lambda: graph_of(2.5, *ones), "TypeError: nodes: 'float' object cannot be interpreted as an integer"),
+        (
+            lambda: dnorm.Min(2, ones[0], ones[0], {0: 5}, *ones).supply_column(),
+            "ValueError: supplies has node 0, which is none of 1 to 2: nodes count from 1",
+        ),
+        (lambda: write_it("a.gr", given), "TypeError: write takes an instance, and then a target, and not str"),
     ]
     for call, wanted in rows:
         tally.same(wanted, told(call), wanted)
-    for number in [MOST + 1, -MOST - 2]:
+    wide: list[tuple[dict[str, Any], str]] = [({"lengths": [it]}, "lengths: ") for it in (MOST + 1, -MOST - 2)]
+    for attributes, begin in [*wide, ({"nodes": MOST + 1}, f"nodes is {MOST + 1}, which does not fit into 64 signed")]:
         try:
-            found = repr(arrays({"lengths": [number]}))
+            found = repr(arrays(attributes))
         except OverflowError as error:
             found = str(error)
-        tally.holds(f"{number} is too large: {found}", found.startswith("lengths: "))
+        tally.holds(f"{attributes} is too large: {found}", found.startswith(begin))
     tally.holds("an attribute is missing", cannot(lambda: dnorm.from_arrays(dnorm.Sp, nodes=2)))
     tally.holds("an unknown attribute", cannot(lambda: arrays({"costs": [1]})))
     mine = [1, 2]
@@ -166,8 +259,6 @@ def faulty(tally: Tally, _: str) -> None:
     rows: list[tuple[dict[str, Any], str]] = [
         ({"heads": [3]}, "Refused: roads.gr:2: 13 NodeOutOfRange"),
         ({"tails": [0]}, "Refused: roads.gr:2: 13 NodeOutOfRange"),
-        ({"nodes": 2**63}, "Refused: roads.gr:1: 10 OutOfRange"),
-        ({"nodes": -1}, "Refused: roads.gr:1: 11 Negative"),
     ]
     for attributes, wanted in rows:
         found = told(lambda: dnorm.write(arrays(attributes), "roads.gr"))
@@ -184,9 +275,9 @@ def faulty(tally: Tally, _: str) -> None:
 def typed(tally: Tally, _: str) -> None:
     """Runs the page of ordinary use, which tools/lint gives to mypy."""
     found = run([sys.executable, f"{ROOT}/tests/typed.py"], cwd=f"{ROOT}/examples")
-    wanted = "10 None 9\ncost of 1 2 same\n(2, 'NodeOutOfRange') (None, 'sp (1, 2)')\n"
+    wanted = "10 None 9\ncost of 1 2 same\n-1 at 5 from 1 MIN and SP\n(2, 'NodeOutOfRange') (None, 'sp (1, 2)')\n"
     wanted += "p sp 2 2\na 1 2 7\na 1 2 4\n2 [7, 4]\n" + ("(11, 2)\n" if has_numpy() else "")
     tally.same("tests/typed.py", (found.out.decode(), found.err, found.status), (wanted, b"", 0))
 
 
-TESTS = [values, constructors, written, faulty, typed]
+TESTS = [values, constructors, notebooks, written, faulty, typed]

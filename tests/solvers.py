@@ -29,6 +29,8 @@ SEED, ROUNDS, NETWORKS = 56, 12, 200
 # The optimum in the report of glpsol.
 OPTIMUM = re.compile(rb"^Objective: .*?(\S+) \(M", re.M)
 networkx: Any = importlib.import_module("networkx")
+# Tests of instances that this Python runs with numpy.
+OF_INSTANCES = [instances.values, instances.constructors, instances.notebooks, instances.faulty]
 csgraph: Any = importlib.import_module("scipy.sparse.csgraph")
 optimize: Any = importlib.import_module("scipy.optimize")
 
@@ -143,11 +145,11 @@ def networks(tally: Tally, chance: random.Random) -> None:
             chance.choice([0, 1]),
             chance.randint(0, 9),
         )
-        data = {"capacity": capacity} | {it: chance.randint(0, 5) for it in ["weight"] if chance.random() < 0.8}
+        data = {"capacity": capacity, "weight": chance.randint(0, 5)}
         graph.add_edge(tail, head, **data, **({"low": low} if low else {}))
-        texts[dnorm.Sp].items.append((tail, head, data.get("weight", 1)))
+        texts[dnorm.Sp].items.append((tail, head, data["weight"]))
         texts[dnorm.Max].items.append((tail, head, capacity))
-        texts[dnorm.Min].items.append((tail, head, low, capacity + low, data.get("weight", 0)))
+        texts[dnorm.Min].items.append((tail, head, low, capacity + low, data["weight"]))
         texts[dnorm.Min].flows[tail] += low
         texts[dnorm.Min].flows[head] -= low
     for node in chance.sample(range(1, nodes + 1), 2):
@@ -178,6 +180,8 @@ def unfit(tally: Tally, _: str) -> None:
         ),
         (dnorm.Min, directed, "ValueError: the edge from 1 to 2 has no capacity"),
         (dnorm.Ss, networkx.DiGraph([(1, 2, {"capacity": 1})]), "TypeError: from_networkx makes Sp, Max and Min"),
+        (dnorm.Sp, networkx.DiGraph([(1, 2, {"length": 5})]), "ValueError: the edge from 1 to 2 has no weight: "),
+        ("min", networkx.DiGraph([(1, 2, {"capacity": 5})]), "ValueError: the edge from 1 to 2 has no weight: "),
     ]
     for kind, graph, wanted in rows:
         found = told(lambda: dnorm.from_networkx(kind, graph))
@@ -187,6 +191,51 @@ def unfit(tally: Tally, _: str) -> None:
     lengths = dnorm.from_arrays(dnorm.Sp, **ends, lengths=[7, 4])
     for call in [parallel.to_networkx, parallel.to_scipy, lengths.to_networkx, lengths.to_scipy]:
         tally.holds("parallel arcs", told(call).startswith("ValueError: arcs are parallel: "))
+    arc: dict[str, Any] = {"nodes": 2, "tails": [0], "heads": [1]}
+    beyond: list[Any] = [
+        dnorm.from_arrays("sp", **arc, lengths=[1]),
+        dnorm.from_arrays("max", **arc, capacities=[1], source=1, sink=2),
+        dnorm.from_arrays("min", **arc, caps=[1], costs=[1]),
+    ]
+    wanted = "ValueError: tails has a node that is none of 1 to 2: nodes count from 1"
+    for it in beyond:
+        tally.same("arcs from node 0", [told(it.to_networkx), told(it.to_scipy)], [wanted] * 2)
+
+
+def options(tally: Tally, _: str) -> None:
+    """Tests the attributes that from_networkx takes, and matrices of scipy."""
+    graph = networkx.DiGraph([(1, 2, {"length": 5, "room": 7}), (2, 3, {"length": 6, "room": 8})])
+    rows: list[tuple[dict[str, Any], list[int]]] = [
+        ({"weight": "length"}, [5, 6]),
+        ({"weight": None}, [1, 1]),
+        ({"weight": lambda tail, head, data: 10 * tail + head + data["length"]}, [17, 29]),
+    ]
+    for words, wanted in rows:
+        found: Any = dnorm.from_networkx("sp", graph, **words)
+        tally.same(f"lengths by {words}", found.lengths.tolist(), wanted)
+    found = dnorm.from_networkx(dnorm.Max, graph, capacity="room", source=1, sink=3)
+    tally.same("a max graph", (found.source, found.sink, found.capacities.tolist()), (1, 3, [7, 8]))
+    costs = dnorm.from_networkx(dnorm.Min, graph, capacity="room", weight=None)
+    tally.same("costs", (costs.costs.tolist(), costs.caps.tolist()), ([0, 0], [7, 8]))
+    sparse: Any = importlib.import_module("scipy.sparse")
+    entries = ([4, 0, 9], ([0, 1, 2], [2, 0, 2]))
+    for matrix in [sparse.csr_matrix(entries, shape=(3, 3)), sparse.coo_matrix(entries, shape=(3, 3))]:
+        made = dnorm.from_scipy(dnorm.Sp, matrix)
+        tally.same("a matrix", sorted(made.rows()), [(1, 3, 4), (2, 1, 0), (3, 3, 9)])
+        tally.same("there and back", abs(made.to_scipy() - matrix).sum(), 0)
+        flow = dnorm.from_scipy("max", matrix, source=0, sink=2)
+        tally.same("terminals are rows", (flow.source, flow.sink, flow.nodes), (1, 3, 3))
+    # Its types take none of these.
+    made_of: Any = dnorm.from_scipy
+    wrong: list[tuple[Any, Any, str]] = [
+        ("sp", sparse.csr_matrix((2, 3), dtype=int), "ValueError: the matrix has 2 rows and 3 columns"),
+        ("sp", sparse.csr_matrix([[0.5]]), "TypeError: lengths: 'numpy.float64' object cannot be interpreted"),
+        ("max", sparse.csr_matrix([[1]]), "TypeError: source and sink are missing"),
+        (dnorm.Min, sparse.csr_matrix([[1]]), "TypeError: from_scipy makes Sp and Max, and not Min"),
+    ]
+    for kind, matrix, begin in wrong:
+        told_ = told(lambda: made_of(kind, matrix))
+        tally.holds(f"{begin}: {told_}", told_.startswith(begin))
 
 
 def frames(tally: Tally, _: str) -> None:
@@ -284,7 +333,7 @@ def main() -> int:
         for _ in range(NETWORKS):
             networks(tally, chance)
         published(tally, chance)
-        for each in [columns, outputs, unfit, frames, instances.values, instances.constructors, instances.faulty]:
+        for each in [columns, outputs, unfit, options, frames, *OF_INSTANCES]:
             each(tally, os.environ["DNORM"])
         numbers = dnorm.read(b"p sp 1 1\na 1 1 7\n")
         assert isinstance(numbers, dnorm.Sp)

@@ -41,6 +41,20 @@ def first_difference(left: str, right: str) -> str:
     return str(found)
 
 
+def excess(left: str, right: str) -> str:
+    """Returns by how much the right value of the first difference exceeds the left one."""
+    found = dnorm.compare(left, right)
+    if found:
+        return "none"
+    if found.what == "kind":
+        return f"{found.left.upper()} and {found.right.upper()}"
+    if found.what == "cost":
+        return f"{(found.right or 0) - (found.left or 0)} at {found.amount + 0} from {found.pair[0]}"
+    if found.what == "nodes" or found.what == "supply" or found.what == "capacity":
+        return str(found.right - found.left)
+    return str(found.left or 0)
+
+
 def refusal_of(text: bytes) -> tuple[Optional[int], str]:
     """Returns the line and the word of the refusal of a text."""
     try:
@@ -59,6 +73,7 @@ def sums(graph: dnorm.Sp) -> tuple[int, int]:
 def main() -> int:
     print(cost_of("flow.min"), cost_of("roads.gr"), longest("roads.gr"))
     print(first_difference("flow.min", "flow-cheaper.min"), first_difference("flow.min", "flow.min"))
+    print(excess("flow.min", "flow-cheaper.min"), excess("flow.min", "roads.gr"))
     print(refusal_of(b"p sp 1 1\na 1 2 3\n"), refusal_of(b"p sp 1 0\n"))
     made = dnorm.from_arrays(dnorm.Sp, nodes=2, tails=[1, 1], heads=[2, 2], lengths=[7, 4])
     # What was printed before goes first.

@@ -7,13 +7,14 @@
     Difference(what='cost', left=4, right=3, node=None, pair=(1, 2), amount=5, place=None)
 
 `check`, `canon`, `canon_to`, `checksum`, `compare`, `show` and `read` each run the program once, and `differences`
-several times. They take a file as a path, as bytes, or as a binary stream, which they read from where it is to its end,
-and do not close. A path that ends in `.gz`, `.bz2` or `.xz` is decompressed while the program reads it, also one that
-ends in `.zst` if Python or the module `zstandard` can; `.Z`, `.lz4`, `.zip`, `.br` and `.7z` are errors. `write` writes
-what `read` returns, and what `from_arrays` and `from_networkx` make. The keyword `program` says where the program is:
-by default `$DNORM` or, if that is not set, the one that pip installed with this package, or else the first `dnorm` on
-`PATH`. `read` uses the library for C in its place where that is beside it, unless `$DNORM_LIBRARY` is `none`. With the
-keyword `timeout`, a call that takes more seconds raises `TimedOut`.
+several times. They open each file once. They take a file as a path, as bytes, or as a binary stream, which they read
+from where it is to its end, and do not close. A path that ends in `.gz`, `.bz2` or `.xz` is decompressed while the
+program reads it, also one that ends in `.zst` if Python or the module `zstandard` can; other compressions are errors.
+`write` writes what `read` returns, and what `from_arrays`, `from_networkx` and `from_scipy` make; such an instance is a
+file as well. The keyword `program` says where the program is: by default `$DNORM` or, if that is not set, the one that
+pip installed with this package, or else the first `dnorm` on `PATH`. `read` and `differences` use the library for C in
+its place where that is beside it, unless `$DNORM_LIBRARY` is `none`. With the keyword `timeout`, a call that takes more
+seconds raises `TimedOut`.
 
 A text that the program refuses raises `Refused`, and any other failure another `DnormError`. If reading a text fails,
 or a compressed file is corrupt, no call returns an answer for it.
@@ -27,7 +28,7 @@ from .errors import DnormError, Endless, Killed, Memory, NoProgram, Read, Refuse
 from .files import File, Readable, Target, Writable
 from .instances import Co, Graph, Instance, Max, Min, P2p, Sp, Ss, from_arrays
 from .library import find_library
-from .networks import from_networkx
+from .networks import from_networkx, from_scipy
 from .pairs import PairDifference
 from .program import find_program, version
 from .reader import read
@@ -82,6 +83,7 @@ __all__ = [
     "find_program",
     "from_arrays",
     "from_networkx",
+    "from_scipy",
     "read",
     "show",
     "version",

@@ -4,7 +4,7 @@ from __future__ import annotations
 
 import re
 from dataclasses import dataclass
-from typing import Literal, NamedTuple, Optional, Union
+from typing import TYPE_CHECKING, Literal, NamedTuple, Optional, Union, cast
 
 KIND, NUMBER = "min|max|sp|ss|p2p|co", "-?[0-9]+"
 CHECKED = re.compile(rf"accepted ({KIND})\n(?:fits (ss|p2p|co)\n)?forms (1 2|1|2|none)\n")
@@ -154,6 +154,58 @@ class Difference:
         return " ".join("none" if it is None else str(it) for it in words)
 
 
+if TYPE_CHECKING:
+    # What a type checker knows of a difference once it knows `what` differs. There is one class only.
+
+    class KindDifference(Difference):
+        what: Literal["kind"]
+        left: str
+        right: str
+
+    class NumberDifference(Difference):
+        what: Literal["nodes", "source", "sink", "items"]
+        left: int
+        right: int
+
+    class SupplyDifference(Difference):
+        what: Literal["supply"]
+        left: int
+        right: int
+        node: int
+
+    class CapacityDifference(Difference):
+        what: Literal["capacity"]
+        left: int
+        right: int
+        pair: tuple[int, int]
+
+    class LengthDifference(Difference):
+        what: Literal["length"]
+        left: Optional[int]
+        right: Optional[int]
+        pair: tuple[int, int]
+
+    class CostDifference(Difference):
+        what: Literal["cost"]
+        left: Optional[int]
+        right: Optional[int]
+        pair: tuple[int, int]
+        amount: int
+
+    class ItemDifference(Difference):
+        what: Literal["item"]
+        place: int
+
+    class PointDifference(Difference):
+        what: Literal["point"]
+        node: int
+
+    OfNumbers = Union[NumberDifference, SupplyDifference, CapacityDifference, LengthDifference, CostDifference]
+    AnyDifference = Union[KindDifference, OfNumbers, ItemDifference, PointDifference]
+else:
+    AnyDifference = Difference
+
+
 def pattern_of(line: str) -> re.Pattern[str]:
     """Returns the pattern of lines in which N stands for a number."""
     return re.compile(line.replace("N", f"({NUMBER})"))
@@ -202,7 +254,7 @@ def pair_on(kind: str, line: str) -> Pair:
     return PAIR_TYPES[kind]._make(map(int, found.groups()))
 
 
-def compared(out: str) -> Same | Difference:
+def compared(out: str) -> Same | AnyDifference:
     """Returns what the line of `compare` says."""
     if out == "same\n":
         return Same()
@@ -213,7 +265,7 @@ def compared(out: str) -> Same | Difference:
     raise ValueError(out)
 
 
-def difference(what: str, words: dict[str, str]) -> Difference:
+def difference(what: str, words: dict[str, str]) -> AnyDifference:
     """Returns the difference that these words tell."""
 
     def side(name: str) -> int | str | None:
@@ -224,4 +276,5 @@ def difference(what: str, words: dict[str, str]) -> Difference:
         return int(words[name]) if name in words else None
 
     pair = (int(words["TAIL"]), int(words["HEAD"])) if "TAIL" in words else None
-    return Difference(what, side("LEFT"), side("RIGHT"), number("NODE"), pair, number("AMOUNT"), number("PLACE"))
+    values = side("LEFT"), side("RIGHT"), number("NODE"), pair, number("AMOUNT"), number("PLACE")
+    return cast(AnyDifference, Difference(what, *values))

@@ -6,7 +6,7 @@ import hashlib
 from collections.abc import Callable, Sequence
 from typing import Optional, TypeVar, Union
 
-from .answers import Checked, Difference, Same, Shown, checked, compared, shown
+from .answers import AnyDifference, Checked, Same, Shown, checked, compared, shown
 from .files import File, Sink, Target, enough_memory, name_of, sink_of
 from .limits import Limit
 from .program import Program, run, unexpected
@@ -85,7 +85,7 @@ def check_form(form: int) -> None:
 
 def compare(
     left: File, right: File, *, program: Program = None, timeout: Optional[float] = None
-) -> Union[Same, Difference]:
+) -> Union[Same, AnyDifference]:
     """Returns `Same` if both texts pose the same problem, or else their first `Difference`. As a condition, `Same` is
     true and a `Difference` is false."""
     return answer(compared, lambda *names: ["compare", *names], [left, right], program, Limit(timeout, name_of(left)))

@@ -244,6 +244,8 @@ def main(words: Sequence[str], here: str, root: str) -> int:
     except (DnormError, OSError) as error:
         reason = reason_of(error)
         status, line = 4, f"canon-in-parts: {error if isinstance(error, DnormError) else reason}"
+    except MemoryError:
+        status, line = 4, "canon-in-parts: 30 Memory"
     if line:
         Console().complain(f"{line}\n")
     return status

@@ -47,7 +47,13 @@ def numpy_here() -> Any:
 def column(numbers: array[int]) -> Any:
     """Returns the column of these numbers."""
     np = numpy_here()
-    return memoryview(numbers).toreadonly() if np is None else frozen("numbers", np.asarray(numbers).view(np.int64))
+    return memoryview(numbers).toreadonly() if np is None else read_only(np.asarray(numbers).view(np.int64))
+
+
+def read_only(numbers: Any) -> Any:
+    """Returns an array of numpy that cannot be written. Nothing else must write it."""
+    numbers.setflags(write=False)
+    return numbers
 
 
 class Growing:
@@ -74,23 +80,20 @@ class Growing:
 
     def column(self) -> Any:
         """Returns the column."""
-        return column(self._numbers) if self._np is None else frozen("numbers", self._numbers[: self._count])
+        return column(self._numbers) if self._np is None else read_only(self._numbers[: self._count])
 
 
 def frozen(name: str, given: object) -> Any:
-    """Returns a column of the same numbers that cannot be written. Raises TypeError for what is not an array of 64
-    signed bits; errors call it by this name."""
+    """Returns a column of the same numbers that cannot be written: a copy of what can. Raises TypeError for what is not
+    an array of 64 signed bits; errors call it by this name."""
     np = numpy_here()
-    if isinstance(given, array):
+    if isinstance(given, array) and given.typecode == "q":
         given = memoryview(given)
     if isinstance(given, memoryview) and given.format == "q" and given.ndim == 1:
-        if np is None:
-            return given.toreadonly()
-        given = np.asarray(given).view(np.int64)
+        numbers = given if given.readonly else memoryview(array("q", given)).toreadonly()
+        return numbers if np is None else np.asarray(numbers).view(np.int64)
     if np is not None and isinstance(given, np.ndarray) and given.dtype == np.int64 and given.ndim == 1:
-        found: Any = given.view()
-        found.setflags(write=False)
-        return found
+        return read_only(given.copy() if given.flags.writeable else given.view())
     kind = f"{given.dtype} array" if hasattr(given, "dtype") else type(given).__name__
     raise TypeError(f"{name} is an array of 64 signed bits, and not a {kind}: from_arrays takes other numbers, too")
 
@@ -102,11 +105,18 @@ def column_of(name: str, given: Iterable[Any]) -> Any:
     if np is not None and isinstance(given, np.ndarray) and given.dtype.kind in "iu" and given.ndim == 1:
         if given.size and int(given.max()) > MOST:
             raise OverflowError(f"{name} has {given.max()}, which is above 2^63-1")
-        return frozen(name, given.astype(np.int64))
+        return read_only(given.astype(np.int64))
     try:
         return column(array("q", map(operator.index, given)))
     except (TypeError, OverflowError) as error:
         raise type(error)(f"{name}: {error}") from None
+
+
+def least_and_greatest(numbers: Any) -> tuple[int, int]:
+    """Returns the least and the greatest number of a column, or of a list."""
+    if hasattr(numbers, "max"):
+        return int(numbers.min()), int(numbers.max())
+    return min(numbers), max(numbers)
 
 
 def are_same(left: Any, right: Any) -> bool:

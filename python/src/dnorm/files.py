@@ -14,6 +14,7 @@ from typing import BinaryIO, Optional, Protocol, Union
 from .causes import Cause, cause_of
 from .compressed import SIZE, Compressed, compressor_of, decompressor_of, pieces
 from .errors import DnormError, Memory, Read, Refused, Write
+from .instances import Instance
 from .limits import Limit, Timed
 
 # A line that no text has. It ends a text whose reading failed, so that the program refuses the text.
@@ -34,8 +35,8 @@ class Writable(Protocol):
         """Writes bytes, and returns how many. None means all of them, except for an `io.RawIOBase`."""
 
 
-# A path, whose bytes need not be UTF-8; the bytes of a text; or a binary stream.
-File = Union[str, os.PathLike[str], os.PathLike[bytes], bytes, bytearray, memoryview, Readable]
+# A path, whose bytes need not be UTF-8; the bytes of a text; a binary stream; or an instance.
+File = Union[str, os.PathLike[str], os.PathLike[bytes], bytes, bytearray, memoryview, Readable, Instance]
 Target = Union[str, os.PathLike[str], os.PathLike[bytes], Writable]
 
 
@@ -154,6 +155,8 @@ class Text:
         self._mark: tuple[int, int] | None = None
         try:
             if isinstance(file, (str, os.PathLike)):
+                if isinstance(file, str) and "\n" in file and not os.path.lexists(file):
+                    raise TypeError("a str is a path, and there is no such file: give a text as bytes")
                 with failing(Read, self.name):
                     self._opened = stack.enter_context(opened(file, limit))
                     self._mark = mark_of(self._opened)
@@ -174,8 +177,11 @@ class Text:
             return pieces(Timed(self._opened, self.limit), start) if start else self._opened
         if isinstance(file, (bytes, bytearray, memoryview)):
             return of_bytes(memoryview(file).cast("B"))
+        if isinstance(file, Instance):
+            return file.pieces()
         if isinstance(file, (str, os.PathLike)) or not hasattr(file, "read"):
-            raise TypeError(f"a file is a path, bytes or a binary stream, and not {type(file).__name__}")
+            kinds = "a path, bytes, a binary stream or an instance"
+            raise TypeError(f"a file is {kinds}, and not {type(file).__name__}")
         return of_stream(file)
 
     def next_piece(self) -> bytes | None:
@@ -200,7 +206,7 @@ class Text:
 
     def cause(self, error: Refused) -> Cause | None:
         """Returns the cause of a refusal, if the text can be read again."""
-        if self._mark is None and not isinstance(self.file, (bytes, bytearray, memoryview)):
+        if self._mark is None and not isinstance(self.file, (bytes, bytearray, memoryview, Instance)):
             return None
         with contextlib.suppress(DnormError, OSError, EOFError):
             name = self.name if self.is_file else None

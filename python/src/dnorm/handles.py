@@ -7,9 +7,9 @@ import ctypes
 import functools
 import hashlib
 from collections.abc import Iterator
-from typing import Any
+from typing import Any, cast
 
-from .answers import Difference, Same
+from .answers import AnyDifference, Difference, Same
 from .errors import DnormError, Memory, Refused
 from .library import FINE, HANDLE, KINDS, MEMORY, Handle, Instance, Library, Status
 from .limits import Limit
@@ -105,18 +105,21 @@ def error_of(code: int, name: str) -> DnormError:
     return Refused(name, None, code, REFUSALS[code][0]) if code in REFUSALS else unexpected(name, code, "")
 
 
-def first_difference(library: Library, left: Instance, right: Instance) -> Same | Difference:
+def first_difference(library: Library, left: Instance, right: Instance) -> Same | AnyDifference:
     """Returns where two instances first differ."""
     found = functions_of(library.path)["compare"](left.handle, right.handle)
     what = WHAT[found.what]
-    if what == "same":
-        return Same()
+    return Same() if what == "same" else cast(AnyDifference, difference_of(what, found, left.kind))
+
+
+def difference_of(what: str, found: FirstDifference, kind: str) -> Difference:
+    """Returns the difference that the library has found between two instances, the left one of which has this kind."""
     one, other = found.left.number(), found.right.number()
     if what == "kind":
         return Difference(what, KINDS[one][0], KINDS[other][0])
     if what == "pair":
-        amount = found.amount if left.kind == "min" else None
-        return Difference(OF_PAIR[left.kind], one, other, pair=(found.at, found.to), amount=amount)
+        amount = found.amount if kind == "min" else None
+        return Difference(OF_PAIR[kind], one, other, pair=(found.at, found.to), amount=amount)
     node = found.at if what in ("supply", "point") else None
     return Difference(what, one, other, node=node, place=found.index if what == "item" else None)
 

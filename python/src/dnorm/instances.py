@@ -2,30 +2,49 @@
 
 from __future__ import annotations
 
+import html
 import importlib
+import operator
 from array import array
 from collections.abc import Iterator, Mapping
 from dataclasses import dataclass, fields
-from types import MappingProxyType
-from typing import Any, ClassVar, Literal, TypeVar
+from itertools import islice
+from typing import Any, ClassVar, Literal, NoReturn, TypeVar, Union, overload
 
-from .columns import Column, are_same, column, column_of, frozen
+from .columns import LEAST, MOST, Column, are_same, column, column_of, frozen, least_and_greatest
+from .lines import COUNTED
 
-# How many rows are made of columns at a time.
-STEP = 1 << 16
+# How many rows are made of columns at a time, how many lines of text, and how many rows a notebook shows.
+STEP, LINES, SHOWN = 1 << 16, 1 << 12, 10
+
+
+class Flows(dict[int, int]):
+    """The flows of nodes, which cannot be written."""
+
+    def _fixed(self, *_: object, **__: object) -> NoReturn:
+        raise TypeError("the flows of an instance cannot be written")
+
+    __setitem__ = __delitem__ = __ior__ = clear = pop = popitem = setdefault = update = _fixed  # type: ignore
+
+    def __reduce__(self) -> tuple[Any, ...]:
+        return Flows, (dict(self),)
 
 
 @dataclass(frozen=True, eq=False, repr=False)
 class Instance:
     """What a canonical text says. Each `kind` has a class of its own.
 
-    Two instances are equal if all their numbers are, in the same order. `len` is the number of arcs or items. Neither
-    attributes nor columns can be written. The numbers themselves are not checked: `write` does that."""
+    Two instances are equal if all their numbers are, in the same order. `len` is the number of arcs or items, and
+    iterating yields their rows. Neither attributes nor columns can be written. The numbers of columns are not checked:
+    `write` does that. An instance is also a file for the calls that read texts."""
 
     kind: ClassVar[str]
 
     def __post_init__(self) -> None:
         names = column_names(type(self))
+        for it in fields(self):
+            if str(it.type) == "int":
+                object.__setattr__(self, it.name, whole(it.name, getattr(self, it.name)))
         for name in names:
             # The class is frozen to its users.
             object.__setattr__(self, name, frozen(name, getattr(self, name)))
@@ -58,10 +77,38 @@ class Instance:
     def _columns(self) -> list[Any]:
         return [getattr(self, it) for it in column_names(type(self))]
 
+    def _repr_html_(self) -> str:
+        """Returns what a notebook shows: the first rows as a table."""
+        rows: list[tuple[object, ...]] = [tuple(column_names(type(self))), *islice(self.rows(), SHOWN)]
+        if len(self) > SHOWN:
+            rows.append(("...",) * len(rows[0]))
+        table = "".join(f"<tr>{''.join(f'<td>{it}</td>' for it in row)}</tr>" for row in rows)
+        return f"<p>{html.escape(repr(self))}</p><table>{table}</table>"
+
+    def __iter__(self) -> Iterator[tuple[int, ...]]:
+        return self.rows()
+
     def rows(self) -> Iterator[tuple[int, ...]]:
         """Yields the numbers of each arc or item, in the order of the columns."""
         for at in range(0, len(self), STEP):
             yield from zip(*(it[at : at + STEP].tolist() for it in self._columns()))
+
+    def pieces(self) -> Iterator[bytes]:
+        """Yields a text of the instance in pieces, with its arcs or items in their order."""
+        letter, width = COUNTED[self.kind]
+        yield "".join([f"p {self._problem()} {len(self)}\n", *self._heads()]).encode()
+        line = letter.decode() + " %d" * width + "\n"
+        rows = self.rows()
+        while piece := "".join(map(line.__mod__, islice(rows, LINES))):
+            yield piece.encode()
+
+    def _problem(self) -> str:
+        """Returns the words of the problem line between its letter and its last number."""
+        return f"aux sp {self.kind}"
+
+    def _heads(self) -> Iterator[str]:
+        """Yields the node lines."""
+        return iter(())
 
     def to_pandas(self) -> Any:
         """Returns a `pandas.DataFrame` with the columns, and a row for each arc or item."""
@@ -79,23 +126,18 @@ def column_names(kind: type[Instance]) -> list[str]:
 
 def picklable(value: Any) -> Any:
     """Returns the value of an attribute as something that pickle takes and the constructor turns back."""
-    if isinstance(value, MappingProxyType):
-        return dict(value)
     return array("q", value) if isinstance(value, memoryview) else value
 
 
-def from_arrays(kind: type[Made], **values: Any) -> Made:
-    """Returns an instance of a class, given its attributes by their names. Columns may be lists, numpy arrays of any
-    whole numbers, or other iterables, and are copied. Arcs may be in any order and parallel: `write` and `canon_to`
-    take care of that.
-
-        >>> dnorm.from_arrays(dnorm.Sp, nodes=3, tails=[1, 2], heads=[2, 3], lengths=[7, -1])
-        <dnorm.Sp: 3 nodes, 2 arcs>
-
-    Raises TypeError if an attribute is missing or a number is not whole, OverflowError if one does not fit into 64
-    bits, and ValueError if columns differ in length."""
-    names = column_names(kind)
-    return kind(**{name: column_of(name, it) if name in names else it for name, it in values.items()})
+def whole(name: str, number: Any) -> int:
+    """Returns a number of 64 signed bits, which errors call by this name."""
+    try:
+        found = operator.index(number)
+    except TypeError as error:
+        raise TypeError(f"{name}: {error}") from None
+    if not LEAST <= found <= MOST:
+        raise OverflowError(f"{name} is {found}, which does not fit into 64 signed bits")
+    return found
 
 
 @dataclass(frozen=True, eq=False, repr=False)
@@ -110,15 +152,27 @@ class Graph(Instance):
     def __repr__(self) -> str:
         return f"<dnorm.{type(self).__name__}: {self.nodes} nodes, {len(self)} arcs>"
 
+    def _problem(self) -> str:
+        return f"{self.kind} {self.nodes}"
+
     def arcs(self) -> Iterator[tuple[int, ...]]:
         """Yields the arcs: tail, head, and the length, the capacity, or LOW, CAP and COST."""
         return self.rows()
 
     def without_parallel(self, made: Any, count: int) -> Any:
         """Returns what was made of the arcs, if it has as many of them."""
+        self.check_ends()
         if count != len(self):
             raise ValueError("arcs are parallel: dnorm.read of the text that dnorm.write makes merges them")
         return made
+
+    def check_ends(self) -> None:
+        """Raises ValueError if an arc has an end that is no node."""
+        for name in ("tails", "heads"):
+            ends = getattr(self, name)
+            least, greatest = least_and_greatest(ends) if len(ends) else (1, 0)
+            if least < 1 or greatest > self.nodes:
+                raise ValueError(f"{name} has a node that is none of 1 to {self.nodes}: nodes count from 1")
 
 
 @dataclass(frozen=True, eq=False, repr=False)
@@ -153,6 +207,10 @@ class Max(Graph):
     sink: int
     capacities: Column
 
+    def _heads(self) -> Iterator[str]:
+        yield f"n {self.source} s\n"
+        yield f"n {self.sink} t\n"
+
     def to_networkx(self) -> Any:
         """Returns a `networkx.DiGraph`, whose edges have the attribute `capacity`. Its attributes
         `graph["source"]` and `graph["sink"]` are the terminals. Raises ValueError if arcs are parallel, which no
@@ -182,12 +240,17 @@ class Min(Graph):
 
     def __post_init__(self) -> None:
         super().__post_init__()
-        object.__setattr__(self, "supplies", MappingProxyType(dict(self.supplies)))
+        object.__setattr__(self, "supplies", Flows(self.supplies))
+
+    def _heads(self) -> Iterator[str]:
+        return (f"n {node} {flow}\n" for node, flow in self.supplies.items())
 
     def supply_column(self) -> Column:
         """Returns the flow of each node. That of node i is at place i - 1."""
         flows = array("q", bytes(8 * self.nodes))
         for node, flow in self.supplies.items():
+            if not 1 <= node <= self.nodes:
+                raise ValueError(f"supplies has node {node}, which is none of 1 to {self.nodes}: nodes count from 1")
             flows[node - 1] = flow
         found: Column = column(flows)
         return found
@@ -199,6 +262,7 @@ class Min(Graph):
         its LOW; and `low`, its LOW, which adds to the flow that a solver finds. A node has the attribute `demand`, the
         flow that it then lacks. `graph["cost"]` is the cost of the lower bounds, which adds to the cost that a solver
         finds."""
+        self.check_ends()
         fixed = sum(low * cost for _, _, low, _, cost in self.arcs())
         graph = importlib.import_module("networkx").MultiDiGraph(cost=fixed)
         demands = dict.fromkeys(range(1, self.nodes + 1), 0)
@@ -219,6 +283,7 @@ class Min(Graph):
         or neither if they are the same node. So flows x along the arcs are a solution if the matrix times x is the
         supplies, and x is between `lows` and `caps`: what `scipy.optimize.linprog` takes, with `costs` to minimise."""
         numpy, sparse = importlib.import_module("numpy"), importlib.import_module("scipy.sparse")
+        self.check_ends()
         rows = numpy.concatenate([numpy.asarray(self.tails) - 1, numpy.asarray(self.heads) - 1])
         columns = numpy.tile(numpy.arange(len(self)), 2)
         signs = numpy.repeat(numpy.array([1, -1]), len(self))
@@ -257,6 +322,99 @@ class Co(Instance):
 def matrix(graph: Graph, values: Column) -> Any:
     """Returns a matrix with a value for each arc."""
     numpy, sparse = importlib.import_module("numpy"), importlib.import_module("scipy.sparse")
+    graph.check_ends()
     tails, heads, data = (numpy.asarray(it, dtype=numpy.int64) for it in (graph.tails, graph.heads, values))
     found = sparse.csr_matrix((data, (tails - 1, heads - 1)), shape=(graph.nodes, graph.nodes))
     return graph.without_parallel(found, found.nnz)
+
+
+AnyInstance = Union[Sp, Max, Min, Ss, P2p, Co]
+CLASSES: dict[str, Any] = {"sp": Sp, "max": Max, "min": Min, "ss": Ss, "p2p": P2p, "co": Co}
+
+
+@overload
+def from_arrays(kind: Literal["sp"], **values: Any) -> Sp:
+    ...
+
+
+@overload
+def from_arrays(kind: Literal["max"], **values: Any) -> Max:
+    ...
+
+
+@overload
+def from_arrays(kind: Literal["min"], **values: Any) -> Min:
+    ...
+
+
+@overload
+def from_arrays(kind: Literal["ss"], **values: Any) -> Ss:
+    ...
+
+
+@overload
+def from_arrays(kind: Literal["p2p"], **values: Any) -> P2p:
+    ...
+
+
+@overload
+def from_arrays(kind: Literal["co"], **values: Any) -> Co:
+    ...
+
+
+@overload
+def from_arrays(kind: type[Made], **values: Any) -> Made:
+    ...
+
+
+def from_arrays(kind: Any, **values: Any) -> Any:
+    """Returns an instance of a class, which may be given by its kind, and of its attributes by their names. Columns may
+    be lists, numpy arrays of any whole numbers, or other iterables, and are copied; so a DataFrame `df` with such
+    columns is `**df`. Arcs may be in any order and parallel: `write` and `canon_to` take care of that.
+
+        >>> dnorm.from_arrays("sp", nodes=3, tails=[1, 2], heads=[2, 3], lengths=[7, -1])
+        <dnorm.Sp: 3 nodes, 2 arcs>
+
+    For `Min`, `lows` are 0 and `supplies` none by default. These may also be a column with the flow of each node.
+
+    Raises TypeError if an attribute is missing or a number is not whole, OverflowError if one does not fit into 64
+    bits, and ValueError if columns differ in length, or if the nodes besides the arcs' are not in 1 to `nodes`."""
+    made = class_of(kind)
+    names = column_names(made)
+    given = {name: column_of(name, it) if name in names else it for name, it in values.items()}
+    for it in ("nodes", "source", "sink"):
+        if it in given:
+            given[it] = whole(it, given[it])
+    nodes = given.get("nodes", MOST)
+    if nodes < 0:
+        raise ValueError(f"nodes is {nodes}")
+    for it in ("source", "sink"):
+        if it in given and not 1 <= given[it] <= nodes:
+            raise ValueError(f"{it} is {given[it]}, which is no node of 1 to {nodes}: nodes count from 1")
+    if made is Min:
+        given.setdefault("lows", column(array("q", bytes(8 * len(given.get("tails", ()))))))
+        given["supplies"] = flows_of(given.get("supplies", {}), nodes)
+    return made(**given)
+
+
+def class_of(kind: object) -> Any:
+    """Returns the class of instances that is given, or that of a kind."""
+    if isinstance(kind, str) and kind in CLASSES:
+        return CLASSES[kind]
+    if kind in CLASSES.values():
+        return kind
+    raise TypeError(f"kind is one of dnorm.{', dnorm.'.join(it.__name__ for it in CLASSES.values())}, or its name")
+
+
+def flows_of(supplies: Any, nodes: int) -> dict[int, int]:
+    """Returns the flows of nodes, which are given by node, or as a column."""
+    if not isinstance(supplies, Mapping):
+        flows = column_of("supplies", supplies).tolist()
+        if len(flows) != nodes:
+            raise ValueError(f"supplies has {len(flows)} numbers, and there are {nodes} nodes")
+        return {node: flow for node, flow in enumerate(flows, 1) if flow}
+    found = {whole("supplies", node): whole("supplies", flow) for node, flow in supplies.items()}
+    for node in found:
+        if not 1 <= node <= nodes:
+            raise ValueError(f"supplies has node {node}, which is none of 1 to {nodes}: nodes count from 1")
+    return found

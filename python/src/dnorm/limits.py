@@ -12,7 +12,7 @@ import time
 from collections.abc import Iterator
 from typing import BinaryIO
 
-from .errors import TimedOut
+from .errors import Memory, TimedOut
 
 
 class Limit:
@@ -48,7 +48,11 @@ class Limit:
 
         timer = threading.Timer(left, end)
         timer.daemon = True
-        timer.start()
+        try:
+            timer.start()
+        except RuntimeError as error:
+            # The system lets no more threads start.
+            raise Memory(self.name) from error
         try:
             yield
         finally:

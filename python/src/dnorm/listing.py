@@ -11,15 +11,15 @@ from typing import Any, NamedTuple
 
 from .calls import canon_into
 from .causes import PROBLEM
-from .columns import Column, numpy_here
+from .columns import Column, least_and_greatest, numpy_here
 from .files import Sink, Text, enough_memory
 from .handles import canonical_sum
-from .instances import Co, Graph, Min
+from .instances import AnyInstance, Co, Graph, Min
 from .library import Library, instance_of
 from .limits import Limit
 from .pairs import VALUES
 from .program import Program
-from .reader import AnyInstance, Reader, instance_by
+from .reader import Reader, instance_by
 
 # A graph with more nodes than so many for each arc has few nodes with arcs; and the lower half of a number of 64 bits.
 SPARSE, LOW = 10, (1 << 32) - 1
@@ -199,8 +199,7 @@ def ranges(columns: dict[str, Any]) -> Iterator[tuple[str, Range]]:
     """Yields the range of each field that has a number."""
     for field, numbers in columns.items():
         if len(numbers):
-            is_array = hasattr(numbers, "max")
-            least, greatest = (int(numbers.min()), int(numbers.max())) if is_array else (min(numbers), max(numbers))
+            least, greatest = least_and_greatest(numbers)
             bits = max(least.bit_length(), greatest.bit_length())
             yield field, Range(least, greatest, next((it for it in BITS if bits <= it), 64))
 

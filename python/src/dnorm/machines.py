@@ -58,8 +58,12 @@ class Jobs:
 
         self.console.expect(len(parts))
         with ThreadPoolExecutor(self.count) as pool:
-            futures: list[Future[Result]] = [pool.submit(one, *it) for it in parts]
+            futures: list[Future[Result]] = []
             try:
+                try:
+                    futures += [pool.submit(one, *it) for it in parts]
+                except RuntimeError as error:
+                    raise Failed(f"the system lets no thread start: {error}") from error
                 rest = set(futures)
                 while rest:
                     done, rest = wait(rest, PAUSE, FIRST_EXCEPTION)

@@ -8,6 +8,7 @@ from __future__ import annotations
 
 import os
 import re
+import signal
 import subprocess
 import sys
 from collections.abc import Callable, Iterable, Iterator, Sequence
@@ -46,7 +47,7 @@ class Result(NamedTuple):
 
 
 class Failed(Exception):
-    """A part could not be canonicalised, with the number and the word that the program printed, if it did."""
+    """A part could not be canonicalised, with the number and the word that the program printed, or how it ended."""
 
 
 # What starts a process, and waits for its end: subprocess.Popen, or the like.
@@ -129,10 +130,18 @@ def canon_part(
     if status == 2 and found and found[1]:
         return Result(arcs, 0, int(found[1]) - head.count(b"\n"), 0, os.path.getsize(to), found[2].decode())
     if status:
-        raise Failed(found[2].decode() if found and not found[1] else "")
+        raise Failed(found[2].decode() if found and not found[1] else ended(status))
     with open(to, "rb") as made:
         first = [made.readline() for _ in range(HEAD[kind])]
     return Result(arcs, int(first[0].split()[3]), 0, sum(map(len, first)), os.path.getsize(to), "")
+
+
+def ended(status: int) -> str:
+    """Returns how a program has ended whose status this is."""
+    if status >= 0:
+        return f"dnorm ended with status {status}"
+    names = {it.value: f" ({it.name})" for it in signal.Signals}
+    return f"dnorm was ended by signal {-status}{names.get(-status, '')}"
 
 
 def main() -> int:

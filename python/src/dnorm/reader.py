@@ -12,15 +12,12 @@ from .columns import Growing
 from .digits import Digits
 from .errors import Unexpected
 from .files import File, Sink, Text, enough_memory, name_of
-from .instances import Co, Max, Min, P2p, Sp, Ss
+from .instances import AnyInstance, Co, Max, Min, P2p, Sp, Ss
 from .library import Instance as Held
 from .library import instance_of, library_of
 from .limits import Limit
 from .lines import COUNTED, PROBLEM
 from .program import Program, unexpected
-
-
-AnyInstance = Union[Sp, Max, Min, Ss, P2p, Co]
 
 
 class Reader:

@@ -8,16 +8,16 @@ from collections.abc import Iterator
 from dataclasses import dataclass
 from typing import Optional, Union
 
-from .answers import Difference, Same, compared
+from .answers import AnyDifference, Same, compared
 from .calls import answer, canon_into
 from .files import File, Sink, Text, enough_memory, name_of
 from .handles import first_difference
-from .instances import Graph, Instance, Max, Min
+from .instances import AnyInstance, Graph, Instance, Max, Min
 from .library import Library, instance_of, library_of
 from .limits import Limit
 from .pairs import Key, PairDifference, paired
 from .program import Program
-from .reader import AnyInstance, Reader, instance_by
+from .reader import Reader, instance_by
 
 
 @dataclass(frozen=True, repr=False)
@@ -32,7 +32,7 @@ class Differences:
     the first differing pairs. For companions, points or items are counted instead of pairs. Texts of different kinds
     have nothing but `first`."""
 
-    first: Union[Same, Difference]
+    first: Union[Same, AnyDifference]
     kind: Optional[str] = None
     only_left: int = 0
     only_right: int = 0
@@ -71,7 +71,7 @@ def differences(
 
 
 # The first difference between two texts, and their instances of form 2, or None if their kinds differ.
-Both = tuple[Union[Same, Difference], Optional[tuple[AnyInstance, AnyInstance]]]
+Both = tuple[Union[Same, AnyDifference], Optional[tuple[AnyInstance, AnyInstance]]]
 
 
 def by_library(library: Library, files: tuple[File, File], limit: Limit) -> Both:
@@ -111,7 +111,7 @@ def kept(program: Program, file: File, limit: Limit) -> tuple[Canonical, AnyInst
     return Canonical(reader.name, b"".join(parts)), reader.end()
 
 
-def summary(first: Same | Difference, left: Instance, right: Instance, limit: int | None) -> Differences:
+def summary(first: Same | AnyDifference, left: Instance, right: Instance, limit: int | None) -> Differences:
     """Returns the differences between two instances of one kind."""
     found = paired(left, right, limit)
     return Differences(

@@ -3,18 +3,13 @@
 from __future__ import annotations
 
 from collections.abc import Iterator
-from itertools import islice
 from typing import Optional
 
 from .calls import canon_into
 from .files import Sink, Target, sink_of
-from .instances import Graph, Instance, Max, Min
+from .instances import Instance
 from .limits import Limit
-from .lines import COUNTED
 from .program import Program
-
-# How many lines are written at a time.
-STEP = 1 << 12
 
 
 class Copied:
@@ -36,22 +31,7 @@ def write(instance: Instance, target: Target, *, program: Program = None, timeou
 
     The program reads the text as well. If the text has a fault, as a node that the graph does not have, `Refused` is
     raised with the line, and a path keeps what it had."""
+    if not isinstance(instance, Instance):
+        raise TypeError(f"write takes an instance, and then a target, and not {type(instance).__name__}")
     with sink_of(target) as sink:
-        limit = Limit(timeout, sink.name)
-        canon_into(Sink("out", len), Copied(pieces_of(instance), sink), 1, program, limit)
-
-
-def pieces_of(instance: Instance) -> Iterator[bytes]:
-    """Yields the text of an instance in pieces."""
-    letter, width = COUNTED[instance.kind]
-    nodes = f"{instance.kind} {instance.nodes}" if isinstance(instance, Graph) else f"aux sp {instance.kind}"
-    heads = [f"p {nodes} {len(instance)}\n"]
-    if isinstance(instance, Max):
-        heads += [f"n {instance.source} s\n", f"n {instance.sink} t\n"]
-    if isinstance(instance, Min):
-        heads += [f"n {node} {flow}\n" for node, flow in instance.supplies.items()]
-    yield "".join(heads).encode()
-    line = letter.decode() + " %d" * width + "\n"
-    rows = instance.rows()
-    while piece := "".join(map(line.__mod__, islice(rows, STEP))):
-        yield piece.encode()
+        canon_into(Sink("out", len), Copied(instance.pieces(), sink), 1, program, Limit(timeout, sink.name))
