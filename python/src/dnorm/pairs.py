@@ -122,34 +122,66 @@ def reversed_pairs(differing: list[PairDifference]) -> tuple[Key, ...]:
 
 
 class Grouped:
-    """The arcs of an instance by their pairs, as arrays of numpy: `starts` has the place of the first arc of each pair,
-    `counts` the number of its arcs, `ends` the columns of the key, and `values` those of the arcs."""
+    """The arcs of an instance by their pairs, as arrays of numpy: `ends` has the columns of the key, and `values` those
+    of the arcs. Where a pair may have several arcs, `starts` has the place of the first one of each pair, and `counts`
+    their number; elsewhere there are none, and the places of pairs and arcs are the same."""
 
     def __init__(self, np: Any, it: Instance) -> None:
         self.np = np
+        self.starts: Any = None
+        self.counts: Any = None
         self.values = [getattr(it, name) for name in VALUES[it.kind].values()]
         self.ends = [getattr(it, name) for name in KEYS.get(it.kind, ())] or [np.arange(1, len(it) + 1)]
-        is_first = np.ones(len(it), bool)
-        if len(it):
+        if it.kind == "min":
+            is_first = np.ones(len(it), bool)
             is_first[1:] = np.any([end[1:] != end[:-1] for end in self.ends], axis=0)
-        self.starts = np.flatnonzero(is_first)
-        self.counts = np.diff(self.starts, append=len(it))
+            self.starts = np.flatnonzero(is_first)
+            self.counts = np.diff(self.starts, append=len(it))
 
-    def rows(self, pairs: Any) -> tuple[Any, Any]:
-        """Returns the places of the arcs of these pairs, one pair after another, and where each pair begins there."""
-        counts = self.counts[pairs]
-        firsts = self.np.cumsum(counts) - counts
-        return self.np.repeat(self.starts[pairs] - firsts, counts) + self.np.arange(counts.sum()), firsts
+    def keys(self) -> list[Any]:
+        """Returns the columns of the keys of all pairs."""
+        return self.ends if self.starts is None else [it[self.starts] for it in self.ends]
 
-    def key(self, pair: int) -> Key:
-        return tuple(int(it[self.starts[pair]]) for it in self.ends)
+    def first_arcs(self, pairs: Any) -> Any:
+        """Returns the places of the first arcs of these pairs."""
+        return pairs if self.starts is None else self.starts[pairs]
 
-    def arcs(self, pair: int | None) -> Arcs:
+    def arcs_at(self, pair: int | None) -> Arcs:
         """Returns the arcs of a pair, or none."""
         if pair is None:
             return ()
-        start, count = int(self.starts[pair]), int(self.counts[pair])
+        start, count = int(self.first_arcs(pair)), 1 if self.counts is None else int(self.counts[pair])
         return tuple(zip(*(it[start : start + count].tolist() for it in self.values)))
+
+    def key_at(self, pair: int) -> Key:
+        return tuple(int(it[self.first_arcs(pair)]) for it in self.ends)
+
+
+def differing_bits(np: Any, left: Grouped, right: Grouped, ours: Any, theirs: Any) -> Any:
+    """Returns a number for each of these pairs of both texts: 0 if their arcs are the same, a bit for each field in
+    which they differ, or the next bit alone if the numbers of arcs differ."""
+    if left.counts is None or right.counts is None:
+        return bits_of_rows(np, left, right, ours, theirs)
+    found = np.full(len(ours), 1 << len(left.values), np.int8)
+    is_long = left.counts[ours] == right.counts[theirs]
+    if is_long.any():
+        counts = left.counts[ours[is_long]]
+        firsts = np.cumsum(counts) - counts
+        # The place of each arc behind the first one of its pair.
+        behind = np.arange(counts.sum()) - np.repeat(firsts, counts)
+        rows, others = (
+            np.repeat(it.starts[pairs[is_long]], counts) + behind for it, pairs in ((left, ours), (right, theirs))
+        )
+        found[is_long] = np.bitwise_or.reduceat(bits_of_rows(np, left, right, rows, others), firsts)
+    return found
+
+
+def bits_of_rows(np: Any, left: Grouped, right: Grouped, rows: Any, others: Any) -> Any:
+    """Returns for each of these arcs the bits of the fields in which it differs from the other one."""
+    bits = np.zeros(len(rows), np.int8)
+    for bit, (one, other) in enumerate(zip(left.values, right.values)):
+        bits |= (one[rows] != other[others]).astype(np.int8) << bit
+    return bits
 
 
 class Matched:
@@ -157,7 +189,7 @@ class Matched:
 
     def __init__(self, np: Any, left: Grouped, right: Grouped) -> None:
         self.np, self.left, self.right = np, left, right
-        ends = [[it.ends[at][it.starts] for it in (left, right)] for at in range(len(left.ends))]
+        ends = [list(it) for it in zip(left.keys(), right.keys())]
         if len(ends) == 2 and any(it.max(initial=0) > MOST for sides in ends for it in sides):
             # The places of the nodes among all of them have the order of the nodes.
             columns = [it for sides in ends for it in sides]
@@ -189,21 +221,6 @@ class Matched:
         places[among[places] != keys] = -1
         return places
 
-    def differing(self, ours: Any, theirs: Any) -> Any:
-        """Returns a number for each of these pairs of both texts: 0 if their arcs are the same, a bit for each field in
-        which they differ, or the next bit alone if the numbers of arcs differ."""
-        np, left, right = self.np, self.left, self.right
-        found = np.full(len(ours), 1 << len(left.values))
-        is_long = left.counts[ours] == right.counts[theirs]
-        if is_long.any():
-            rows, firsts = left.rows(ours[is_long])
-            others, _ = right.rows(theirs[is_long])
-            bits = np.zeros(len(rows), np.int8)
-            for bit, (one, other) in enumerate(zip(left.values, right.values)):
-                bits |= (one[rows] != other[others]).astype(np.int8) << bit
-            found[is_long] = np.bitwise_or.reduceat(bits, firsts)
-        return found
-
     def reversed(self) -> tuple[Key, ...]:
         """Returns the pairs that only the left text has, and whose opposite with the same arcs only the right has."""
         if self.tails is None:
@@ -211,24 +228,24 @@ class Matched:
         turned = self.joined(self.heads[0][self.only_left], self.tails[0][self.only_left])
         places = self.places_of(turned, self.theirs[self.only_right])
         ours, theirs = self.only_left[places >= 0], self.only_right[places[places >= 0]]
-        same = ours[self.differing(ours, theirs) == 0]
-        return tuple(zip(*(it[self.left.starts[same]].tolist() for it in self.left.ends)))
+        same = self.left.first_arcs(ours[differing_bits(self.np, self.left, self.right, ours, theirs) == 0])
+        return tuple(zip(*(it[same].tolist() for it in self.left.ends)))
 
 
 def paired_by_numpy(np: Any, left: Instance, right: Instance, limit: int | None) -> Paired:
     """Returns how the pairs of two instances differ, by numpy."""
     ours, theirs = Grouped(np, left), Grouped(np, right)
     found = Matched(np, ours, theirs)
-    bits = found.differing(found.both_left, found.both_right)
+    bits = differing_bits(np, ours, theirs, found.both_left, found.both_right)
     unlike = np.flatnonzero(bits)
     kinds, firsts, counts = np.unique(bits[unlike], return_index=True, return_counts=True)
     order = sorted(range(len(kinds)), key=lambda it: (-counts[it], firsts[it]))
     fields = tuple((names_of(left.kind, int(kinds[it])), int(counts[it])) for it in order)
     # The pairs of each sort are in the order of their keys.
-    first = [(ours.key(it), it, None) for it in found.only_left[:limit].tolist()]
-    first += [(theirs.key(it), None, it) for it in found.only_right[:limit].tolist()]
+    first = [(ours.key_at(it), it, None) for it in found.only_left[:limit].tolist()]
+    first += [(theirs.key_at(it), None, it) for it in found.only_right[:limit].tolist()]
     both = zip(found.both_left[unlike[:limit]].tolist(), found.both_right[unlike[:limit]].tolist())
-    first += [(ours.key(it), it, other) for it, other in both]
+    first += [(ours.key_at(it), it, other) for it, other in both]
     first.sort(key=itemgetter(0))
     return Paired(
         only_left=len(found.only_left),
@@ -237,7 +254,7 @@ def paired_by_numpy(np: Any, left: Instance, right: Instance, limit: int | None)
         different=len(unlike),
         fields=fields,
         reversed=found.reversed(),
-        first=tuple(PairDifference(key, ours.arcs(it), theirs.arcs(other)) for key, it, other in first[:limit]),
+        first=tuple(PairDifference(key, ours.arcs_at(it), theirs.arcs_at(other)) for key, it, other in first[:limit]),
     )
 
 

@@ -13,7 +13,7 @@ from .calls import answer, canon_into
 from .files import File, Sink, Text, enough_memory, name_of
 from .handles import first_difference
 from .instances import AnyInstance, Graph, Instance, Max, Min
-from .library import Library, instance_of, library_of
+from .library import GRAPHS, Library, instance_of, library_of
 from .limits import Limit
 from .pairs import Key, PairDifference, paired
 from .program import Program
@@ -64,23 +64,28 @@ def differences(
     time, library = Limit(timeout, name_of(left)), library_of(program)
     with enough_memory(time.name):
         if library:
-            first, instances = by_library(library, (left, right), time)
+            return by_library(library, (left, right), limit, time)
+        return by_program(program, (left, right), limit, time)
+
+
+def by_library(library: Library, files: tuple[File, File], limit: Optional[int], time: Limit) -> Differences:
+    """Returns how two texts differ, by the library, which reads each of them once."""
+    with contextlib.ExitStack() as later, contextlib.ExitStack() as sooner:
+        stacks = zip(files, (sooner, later))
+        left, right = (stack.enter_context(instance_of(library, Text(it, stack, time), 2)) for it, stack in stacks)
+        first, kind = first_difference(library, left, right), left.kind
+        if first:
+            found = Differences(first, kind, both=left.pairs if kind in GRAPHS else left.lines)
+        elif kind != right.kind:
+            found = Differences(first)
         else:
-            first, instances = by_program(program, (left, right), time)
-        return summary(first, *instances, limit=limit) if instances else Differences(first)
-
-
-# The first difference between two texts, and their instances of form 2, or None if their kinds differ.
-Both = tuple[Union[Same, AnyDifference], Optional[tuple[AnyInstance, AnyInstance]]]
-
-
-def by_library(library: Library, files: tuple[File, File], limit: Limit) -> Both:
-    """Returns what the library says of two texts, each of which it reads once."""
-    with contextlib.ExitStack() as stack:
-        left, right = (stack.enter_context(instance_of(library, Text(it, stack, limit), 2)) for it in files)
-        first = first_difference(library, left, right)
-        instances = None if left.kind != right.kind else (instance_by(left), instance_by(right))
-    return first, instances
+            one = instance_by(left)
+            # The library keeps the left text no longer than it is needed.
+            sooner.close()
+            other = instance_by(right)
+            later.close()
+            found = summary(first, one, other, limit)
+    return found
 
 
 class Canonical(io.BytesIO):
@@ -91,11 +96,12 @@ class Canonical(io.BytesIO):
         self.name = name
 
 
-def by_program(program: Program, files: tuple[File, File], limit: Limit) -> Both:
-    """Returns what the program says of two texts, each of which it reads once: it compares their canonical texts."""
-    (left, one), (right, other) = (kept(program, it, limit) for it in files)
-    first = answer(compared, lambda *names: ["compare", *names], [left, right], program, limit)
-    return first, None if one.kind != other.kind else (one, other)
+def by_program(program: Program, files: tuple[File, File], limit: Optional[int], time: Limit) -> Differences:
+    """Returns how two texts differ, by the program, which reads each of them once, and compares their canonical
+    texts."""
+    (left, one), (right, other) = (kept(program, it, time) for it in files)
+    first = answer(compared, lambda *names: ["compare", *names], [left, right], program, time)
+    return Differences(first) if one.kind != other.kind else summary(first, one, other, limit)
 
 
 def kept(program: Program, file: File, limit: Limit) -> tuple[Canonical, AnyInstance]:
