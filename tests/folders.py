@@ -21,7 +21,8 @@ from calls import COMPRESS, PACKAGE, fake
 from known import COSTS, COSTS_TWO, FLOWS, ROADS, ROADS_CANON
 from shared import LIMIT, Answer, Tally, bytes_of, run, terminal, write
 
-from dnorm.folders import in_order
+from dnorm.commands import DONE
+from dnorm.folders import Workers
 
 ENVIRONMENT = {"PYTHONPATH": PACKAGE, "PYTHONDONTWRITEBYTECODE": "1"}
 MODULE = [sys.executable, "-m", "dnorm"]
@@ -395,7 +396,8 @@ def few_threads(tally: Tally, _: str) -> None:
 
         setattr(threading.Thread, "start", begin)
         try:
-            found = list(in_order(slowly_squared, range(20), 4))
+            workers = Workers(slowly_squared, range(20), 4)
+            found = [workers.result(it) for it in range(20)]
         finally:
             setattr(threading.Thread, "start", start)
         tally.same(f"tasks by {most} threads", (found, len(begun)), ([it * it for it in range(20)], most))
@@ -467,7 +469,9 @@ def progress(tally: Tally, _: str) -> None:
             said += piece
     os.close(upper)
     tally.same("the status on a terminal", process.wait(LIMIT), 0)
-    bars = re.findall(rb"\r\[(#*)\.*\] (\d) of 4", said)
+    bars = re.findall(rb"\r\[(#*)\.*\] (\d) of 4, \d+ %", said)
+    shares = [int(it) for it in re.findall(rb"of 4, (\d+) %", said)]
+    tally.holds(f"shares rise: {shares}", shares == sorted(shares) and shares[:1] < [50] and shares[-1:] > [50])
     tally.same("bars on a terminal", {len(it) for it, _ in bars}, {30 * int(at) // 4 for _, at in bars})
     tally.holds("there are bars on a terminal", bars)
     shown = said.decode().replace("\r\n", "\n").split("\n")
@@ -509,7 +513,9 @@ def signals(tally: Tally, _: str) -> None:
                 time.sleep(0.01)
             process.send_signal(number)
             out, err = process.communicate(timeout=LIMIT)
-            tally.same(f"{words} after {number.name}", (out, err, process.returncode), (b"", b"", -number))
+            done = DONE["verify" if "--verify" in words else words.split()[0]]
+            line = f"0 {done}, 0 refused, 0 failed, 0 of 9 done\n".encode()
+            tally.same(f"{words} after {number.name}", (out, err, process.returncode), (b"", line, -number))
             tally.same(f"{words} leaves", (bytes_of("kept"), hidden(), still_running()), (b"old", [], []))
     program = fake("one", "sleep 0.5; cat > /dev/null; echo accepted sp; echo forms 1")
     ignoring = started(
@@ -522,6 +528,46 @@ def signals(tally: Tally, _: str) -> None:
     ignoring.send_signal(signal.SIGHUP)
     ignoring.communicate(timeout=LIMIT)
     tally.same("a signal that is ignored, as by nohup", ignoring.returncode, 0)
+
+
+def known_so_far(tally: Tally, _: str) -> None:
+    """Tests that a signal lets a check print what is known, also of files behind one that takes long; and that -x ends
+    a check after the first fault."""
+    names = [f"{it}.gr" for it in range(6)]
+    for name in names:
+        write(name, ROADS)
+    write("1.gr", b"slow\n")
+    write("3.gr", b"bad\n")
+    program = fake("some", """
+        text=$(cat)
+        case $text in
+            slow) echo + >> log; exec sleep 60 ;;
+            bad) echo '-:1: 1 BadLine' >&2; echo + >> log; exit 2 ;;
+        esac
+        echo accepted sp; echo forms 1; echo + >> log""")  # fmt: skip
+    for number in [signal.SIGINT, signal.SIGTERM]:
+        write("log", "")
+        process = started("check", "--jobs", "2", "--program", program, *names, stdout=-1, stderr=-1)
+        while len(bytes_of("log")) < 12 and process.poll() is None:
+            time.sleep(0.01)
+        # The last program may not have ended.
+        time.sleep(0.3)
+        process.send_signal(number)
+        out, err = process.communicate(timeout=LIMIT)
+        lines = [f"{it}: accepted sp\n" for it in names if it not in ("1.gr", "3.gr")]
+        lines.insert(2, "3.gr:1: 1 BadLine\n")
+        cause = "3.gr:1: 1 BadLine\n    line 1: bad\n4 accepted, 1 refused, 0 failed, 5 of 6 done\n"
+        wanted = ("".join(lines).encode(), cause.encode(), -number)
+        tally.same(f"what is known at {number.name}", (out, err, process.returncode), wanted)
+    write("1.gr", ROADS)
+    for option in ["-x", "--exit-first"]:
+        found = module("check", option, *names)
+        lines = [*(f"{it}.gr: accepted sp\n" for it in range(3)), "3.gr:1: 1 BadLine\n"]
+        cause = "3.gr:1: 1 BadLine\n    line 1: bad\n3 accepted, 1 refused, 0 failed, 4 of 6 done\n"
+        wants(tally, f"check {option}", found, "".join(lines), cause, 2)
+    found = module("check", "-x", "0.gr", "1.gr")
+    wants(tally, "check -x of good files", found, "0.gr: accepted sp\n1.gr: accepted sp\n",
+          "2 accepted, 0 refused, 0 failed\n", 0)  # fmt: skip
 
 
 def hidden() -> list[str]:
@@ -609,6 +655,7 @@ TESTS = [
     progress,
     together,
     signals,
+    known_so_far,
     outputs,
     programs,
 ]

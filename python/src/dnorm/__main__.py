@@ -3,6 +3,7 @@
 from __future__ import annotations
 
 import argparse
+import contextlib
 import os
 import signal
 import sys
@@ -84,6 +85,7 @@ def add_files(one: argparse.ArgumentParser, task: str) -> None:
     add("--exclude", action="append", default=[], metavar="PATTERN", help=about)
     add("--strict", action="store_true", help="the other files of folders are failures")
     if task == "check":
+        add("-x", "--exit-first", action="store_true", help="end after the first file that is refused or fails")
         add("--companions", action="store_true", help="check that NAME.ss, NAME.p2p and NAME.co fit NAME.gr")
 
 
@@ -212,7 +214,7 @@ def main(words: Sequence[str] | None = None) -> int:
         return status
     is_open = has_output()
     found = parsed(words)
-    console = Console()
+    console, run = Console(), None
     for it in SIGNALS:
         # What is ignored, as by nohup, stays ignored.
         if signal.getsignal(it) != signal.SIG_IGN:
@@ -228,7 +230,12 @@ def main(words: Sequence[str] | None = None) -> int:
         return run.status
     except Stopped as stopped:
         console.hide()
-        signal.signal(stopped.number, signal.SIG_DFL)
+        # Another signal ends the run at once.
+        for number in {*SIGNALS, stopped.number}:
+            signal.signal(number, signal.SIG_DFL)
+        if run and stopped.number in SIGNALS:
+            with contextlib.suppress(DnormError, Stopped):
+                run.stop()
         os.kill(os.getpid(), stopped.number)
         return FAILED
     except DnormError as error:

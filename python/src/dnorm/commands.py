@@ -16,7 +16,7 @@ from .checks import Accepted, Checker
 from .companions import Partners
 from .errors import DnormError, Read, Refused
 from .files import Text, failing, sink_of
-from .folders import Found, find, in_order, in_order_of_names, outcome
+from .folders import Found, Workers, find, in_order_of_names, outcome
 from .handles import canonical_sum
 from .library import instance_of, library_of
 from .limits import Limit
@@ -28,6 +28,8 @@ from .summary import differences, lines_of_differences
 # The exit statuses besides 0. The greatest one that applies counts.
 DIFFERS, REFUSED, USAGE, FAILED = 1, 2, 3, 4
 
+# What the accepted files are called at the end, by the commands.
+DONE = {"check": "accepted", "manifest": "listed", "verify": "the same", "same": "accepted", "list": "listed"}
 OTHER_KIND = "file of another kind than its ending"
 OTHER_KINDS = "files of another kind than their endings"
 
@@ -44,7 +46,12 @@ class Run:
 
     def __init__(self, words: Namespace, console: Console) -> None:
         self.words, self.console, self.library = words, console, library_of(words.program)
-        self.status = self.done = self.refused = self.failed = self.others = 0
+        self.status = self.done = self.refused = self.failed = self.others = self.ended = 0
+        # How many files are done, if not all of them; what takes the results that a signal has left; and what prints
+        # more about all results.
+        self.unfinished = ""
+        self.take_rest: Callable[[], None] = lambda: None
+        self.print_rest: Callable[[], None] = lambda: None
 
     def check(self) -> None:
         """Checks files, and prints a line for each, and at the end the refusals with their causes."""
@@ -62,6 +69,7 @@ class Run:
         for name in [it for it in words.path if words.companions and it in found.files]:
             found.files.update(dict.fromkeys(it for it in partners.companions_of(name) if it not in found.files))
         cases: list[Case] = []
+        self.print_rest = lambda: self.print_causes(cases)
 
         def take(case: Case) -> None:
             self.count(case.result)
@@ -299,10 +307,46 @@ class Run:
             self.console.step()
             return found, time.monotonic() - start
 
-        self.console.expect(len(items))
-        with contextlib.closing(in_order(timed, items, self.words.jobs)) as found:
-            for (result, seconds), item in zip(found, items):
+        self.console.expect(len(items), self.sizes(items))
+        workers = Workers(timed, items, self.words.jobs, self.console.draw)
+        self.ended = 0
+        try:
+            for at, item in enumerate(items):
+                result, seconds = workers.result(at)
+                self.ended += 1
                 take(item, result, seconds)
+                if self.is_enough():
+                    self.unfinished = f"{self.ended} of {len(items)} done"
+                    workers.stop()
+                    break
+        except BaseException:
+            rest = workers.stop()
+
+            def take_rest() -> None:
+                for at, (result, seconds) in rest:
+                    take(items[at], result, seconds)
+                self.unfinished = f"{self.ended + len(rest)} of {len(items)} done"
+
+            self.take_rest = take_rest
+            raise
+
+    def is_enough(self) -> bool:
+        """Whether the first fault ends the run."""
+        return getattr(self.words, "exit_first", False) and bool(self.status)
+
+    def sizes(self, items: Sequence[object]) -> int:
+        """Returns the sum of the sizes of files, for the progress on a terminal."""
+        if not self.console.is_terminal:
+            return 0
+        names = [it.name if isinstance(it, Entry) else str(it) for it in items]
+        return sum(os.path.getsize(it) for it in names if os.path.isfile(it))
+
+    def stop(self) -> None:
+        """Prints what is known of a run that a signal ends."""
+        self.take_rest()
+        if self.unfinished:
+            self.print_rest()
+            self.sum_up(f"{self.done} {DONE[self.words.task]}")
 
     def count(self, result: object) -> None:
         """Counts the result of a file."""
@@ -318,7 +362,7 @@ class Run:
     def sum_up(self, done: str, *more: str) -> None:
         """Prints what was counted."""
         others = counted(self.others, "other file", "other files")
-        parts = [done, f"{self.refused} refused", f"{self.failed} failed", *more, others]
+        parts = [done, f"{self.refused} refused", f"{self.failed} failed", *more, others, self.unfinished]
         self.console.complain(", ".join(it for it in parts if it) + "\n")
 
 

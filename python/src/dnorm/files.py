@@ -8,6 +8,7 @@ import io
 import os
 import secrets
 import stat
+import threading
 from collections.abc import Callable, Iterator
 from typing import BinaryIO, Optional, Protocol, Union
 
@@ -142,6 +143,40 @@ def mark_of(file: BinaryIO) -> tuple[int, int] | None:
     return (found.st_size, found.st_mtime_ns) if stat.S_ISREG(found.st_mode) else None
 
 
+class Progress:
+    """How many bytes of files were read: those of the files that are closed, and of those that are open as far as they
+    are read, also by the program, which reads by the same open file."""
+
+    def __init__(self) -> None:
+        self._closed = 0
+        self._open: set[io.FileIO] = set()
+        self._lock = threading.Lock()
+
+    def begin(self, file: io.FileIO) -> None:
+        with self._lock:
+            self._open.add(file)
+
+    def end(self, file: io.FileIO) -> None:
+        with self._lock:
+            self._open.discard(file)
+            self._closed += place_in(file)
+
+    def so_far(self) -> int:
+        with self._lock:
+            return self._closed + sum(map(place_in, self._open))
+
+
+progress = Progress()
+
+
+def place_in(file: io.FileIO) -> int:
+    """Returns how far a file was read, or 0 if it has no places, as a pipe."""
+    try:
+        return file.tell()
+    except OSError:
+        return 0
+
+
 class Text:
     """A text that is read once, from its beginning: `is_file` says whether its bytes are those of an open file, and
     `is_compressed` whether a file is decompressed. The file of a path is opened once, and the stack closes it. `size`
@@ -160,6 +195,8 @@ class Text:
                 with failing(Read, self.name):
                     self._opened = stack.enter_context(opened(file, limit))
                     self._mark = mark_of(self._opened)
+                progress.begin(self._opened)
+                stack.callback(progress.end, self._opened)
             self.text = self._begun()
         except Read as error:
             # The program has to judge an earlier text first.

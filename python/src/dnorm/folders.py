@@ -5,7 +5,7 @@ from __future__ import annotations
 import os
 import threading
 import time
-from collections.abc import Callable, Generator, Iterable, Sequence
+from collections.abc import Callable, Iterable, Sequence
 from fnmatch import fnmatchcase
 from typing import Generic, NamedTuple, TypeVar, cast
 
@@ -122,10 +122,12 @@ class Workers(Generic[Item, Result]):
     is waited for by more than MOST items. Nothing waits for their end, since a thread may wait for a file without end.
 
     The first thread starts at once, and others while results are slow: for small files, threads would only wait for
-    each other."""
+    each other. `idle` is called again and again during a long wait."""
 
-    def __init__(self, task: Callable[[Item], Result], items: Sequence[Item], jobs: int) -> None:
-        self._task, self._items, self._jobs = task, items, min(jobs, len(items))
+    def __init__(
+        self, task: Callable[[Item], Result], items: Sequence[Item], jobs: int, idle: Callable[[], None] = lambda: None
+    ) -> None:
+        self._task, self._items, self._jobs, self._idle = task, items, min(jobs, len(items)), idle
         self._changed = threading.Condition()
         self._begun = self._wanted = self._threads = 0
         self._is_stopped = False
@@ -179,24 +181,17 @@ class Workers(Generic[Item, Result]):
             while at not in self._done:
                 if not self._changed.wait(LONG):
                     self._start_thread()
+                    self._idle()
             found, error = self._done.pop(at)
         if error:
             raise error
         return cast(Result, found)
 
-    def stop(self) -> None:
-        """Lets no thread begin another item."""
-        self._is_stopped = True
-
-
-def in_order(task: Callable[[Item], Result], items: Sequence[Item], jobs: int) -> Generator[Result, None, None]:
-    """Runs a task on each of these items, so many at a time, and yields the results in their order. If anything is
-    raised, or the caller closes the iterator, kills the processes that run, and starts no others."""
-    workers = Workers(task, items, jobs)
-    try:
-        for at in range(len(items)):
-            yield workers.result(at)
-    except BaseException:
-        workers.stop()
+    def stop(self) -> list[tuple[int, Result]]:
+        """Kills the processes that run, and lets no thread begin another item. Returns the results that were not taken,
+        with the places of their items."""
+        with self._changed:
+            self._is_stopped = True
+            rest = [(at, cast(Result, found)) for at, (found, error) in sorted(self._done.items()) if not error]
         children.stop()
-        raise
+        return rest

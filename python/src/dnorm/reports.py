@@ -15,7 +15,7 @@ from xml.etree import ElementTree
 
 from .checks import Accepted
 from .errors import DnormError, Refused, Write
-from .files import reason_of, write_all
+from .files import progress, reason_of, write_all
 
 # What a check of a file leads to.
 Result = Union[Accepted, DnormError]
@@ -53,24 +53,32 @@ class Console:
     def __init__(self) -> None:
         self._out = open(1, "wb", buffering=0, closefd=False)
         self._lock = threading.Lock()
-        self._is_shown, self._is_terminal = os.isatty(1), os.isatty(2)
-        self._done = self._total = 0
+        self._is_shown, self.is_terminal = os.isatty(1), os.isatty(2)
+        self._done = self._total = self._size = 0
         self._drawn, self._at = "", 0.0
 
-    def expect(self, total: int) -> None:
-        """Starts the progress bar for so many tasks."""
-        self._done, self._total = 0, total
+    def expect(self, total: int, size: int = 0) -> None:
+        """Starts the progress bar for so many tasks, which read files of this size together, if that is known."""
+        self._done, self._total, self._size = 0, total, size
 
     def step(self) -> None:
         """Counts a task that has ended."""
         with self._lock:
             self._done += 1
+        self.draw()
+
+    def draw(self) -> None:
+        """Draws the progress bar, unless it was drawn just before."""
+        with self._lock:
             now = time.monotonic()
-            if self._is_terminal and now >= self._at + PAUSE:
+            if self.is_terminal and now >= self._at + PAUSE:
                 self._at = now
                 filled = BAR * self._done // self._total
-                self._drawn = f"[{'#' * filled}{'.' * (BAR - filled)}] {self._done} of {self._total}"
-                self._complain(f"\r{self._drawn}")
+                drawn = f"[{'#' * filled}{'.' * (BAR - filled)}] {self._done} of {self._total}"
+                if self._size:
+                    drawn += f", {min(100, 100 * progress.so_far() // self._size)} %"
+                self._complain(f"\r{drawn.ljust(len(self._drawn))}")
+                self._drawn = drawn
 
     def print(self, text: str) -> None:
         """Writes text to standard output. Raises Write if that fails, and Stopped if nothing reads it any more: then
@@ -86,7 +94,7 @@ class Console:
     def complain(self, text: str) -> None:
         """Writes text to standard error. It does not matter if that fails."""
         self.hide()
-        self._complain(for_terminal(text) if self._is_terminal else text)
+        self._complain(for_terminal(text) if self.is_terminal else text)
 
     def hide(self) -> None:
         """Removes the progress bar until it is drawn again."""
