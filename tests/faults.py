@@ -213,7 +213,8 @@ PLACES: list[tuple[str | None, str | None, str, str]] = [
     (None, "", "bin", ""),
     ("/none", "bin/dnorm", "bin", f"NoProgram: /none: cannot be run ({NONE})"),
     ("bin", "bin/dnorm", "bin", f"NoProgram: bin: cannot be run ({NONE})"),
-    ("bin/plain", None, "bin", f"NoProgram: bin/plain: cannot be run ({NONE})"),
+    ("bin/plain", None, "bin", "NoProgram: bin/plain: cannot be run (the file cannot be run)"),
+    (None, "bin/plain", "bin", "NoProgram: bin/plain: cannot be run (the file cannot be run, and $DNORM names it)"),
     (None, "/none", "bin", f"NoProgram: /none: cannot be run ({NONE}, and $DNORM names it)"),
     (None, None, "/none", f"NoProgram: dnorm: cannot be run ({NONE} on PATH, and $DNORM names none; {WHERE})"),
 ]

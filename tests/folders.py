@@ -130,6 +130,13 @@ WRONG = [
         "compare x y z",
         "compare --limit x y z",
         "compare --limit -1 x y",
+        "compare - -",
+        "compare -q --json x y",
+        "check --json --output-format sarif x",
+        "canon x",
+        "show x",
+        "version",
+        "help",
     ],
 ]
 
@@ -170,7 +177,7 @@ def checks(tally: Tally, _: str) -> None:
     wants(tally, "check .", found, lines, again(lines) + count, 2)
     for words in WRONG:
         found = module(*words.split())
-        command = "" if words in ("", "x") else f"{words.split()[0]} "
+        command = f"{words.split()[0]} " if words.split()[:1] and words.split()[0] in COMMANDS else ""
         begin = f"usage: python3 -m dnorm {command}".encode()
         tally.same(words, (found.out, found.status, found.err[: len(begin)]), (b"", 3, begin))
     for words in ["-h", "--help", *(f"{it} {option}" for it in COMMANDS for option in ("-h", "--help"))]:
@@ -270,7 +277,7 @@ def reports(tally: Tally, _: str) -> None:
     wanted |= {"text": None, "hint": TERMINAL}
     tally.same("a refused file in JSON", of["set/bad.max"], wanted)
     tally.same("the line of a fault in JSON", (of["set/v.co"]["line"], of["set/v.co"]["text"]), (2, "s 1"))
-    wanted = {"name": "missing", "status": "failed", "error": MISSING[:-1]}
+    wanted = {"name": "missing", "status": "failed", "error": MISSING[:-1], "hint": None}
     tally.same("a missing file in JSON", of["missing"], wanted)
     suite = ElementTree.parse("report").find("testsuite")
     assert suite is not None

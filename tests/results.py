@@ -10,9 +10,11 @@ import json
 import os
 import pickle
 import random
+import re
 import sys
 import time
 from collections.abc import Callable
+from xml.etree import ElementTree
 
 from calls import COMPRESS, fake, told
 from folders import ENVIRONMENT, make, module, started, wants
@@ -27,6 +29,7 @@ import dnorm
 SEED, ROUNDS = 21, 60
 # Refused texts, with the line and the hint of the refusal. A file is "t.gr".
 MANY = b"p max 3 3\nn 1 s\nn 3 t\na 1 2 9223372036854775800\na 1 3 1\na 1 2 8\n"
+NUL_WITHIN = "The line has NUL within, where data may be lost: get the file again"
 CAUSES: list[tuple[bytes, str | None, str | None]] = [
     (b"p sp 2 1\na 1 3 7\n", "a 1 3 7", "NODES 2: nodes count from 1"),
     (b"p aux sp ss 1\ns 0\n", "s 0", None),
@@ -45,6 +48,15 @@ CAUSES: list[tuple[bytes, str | None, str | None]] = [
     (b"", None, "The file is empty"),
     (b"p sp 0 0\nx" + b"\xe9" * 300, "x" + "M-i" * 199, None),
     (b"p sp 0 0\n\x1a", "^Z", "The line ends in NUL or Ctrl-Z: tr -d '\\0\\032' < {} | dnorm check -"),
+    (b"p sp 2 1\na 1 2" + bytes(200) + b"7 9\n", "a 1 2" + "^@" * 195, NUL_WITHIN),
+    (b"p sp 2 1\na 1 2 3\0 ", "a 1 2 3^@ ", NUL_WITHIN),
+    (b"p sp 2 1\na 1 2 3" + bytes(9000), "a 1 2 3" + "^@" * 193, NUL_WITHIN),
+    (b"p sp 2 1\na 1 2 3" + bytes(900), "a 1 2 3" + "^@" * 193,
+     "The line ends in NUL or Ctrl-Z: tr -d '\\0\\032' < {} | dnorm check -"),
+    ("p sp 0 0\n".encode("utf-32"), "M-^?M-~^@^@" + "".join(f"{it}^@^@^@" for it in "p sp 0 0"),
+     "The file is in UTF-32: iconv -f UTF-32 -t UTF-8 < {} | dnorm check -"),
+    ("p sp 0 0\n".encode("utf-16"), "M-^?M-~" + "".join(f"{it}^@" for it in "p sp 0 0"),
+     "The file is in UTF-16: iconv -f UTF-16 -t UTF-8 < {} | dnorm check -"),
     (b"\xef\xbb\xbfp sp 0 0\n", "M-oM-;M-?p sp 0 0", "The file begins with a byte order mark: tail -c +4 < {} | "
      "dnorm check -"),
     (b"version https://git-lfs.github.com/spec/v1\n", "version https://git-lfs.github.com/spec/v1",
@@ -58,7 +70,7 @@ def causes(tally: Tally, _: str) -> None:
         write("t.gr", text)
         write("t.gr.gz", gzip.compress(text))
         # A command applies to a file that is not compressed.
-        plain = hint and hint.partition(": tr ")[0].partition(": tail ")[0]
+        plain = hint and re.split(": (?:tr|tail|iconv) ", hint)[0]
         rows: list[tuple[dnorm.File, str | None, str | None]] = [("t.gr", line, hint and hint.format("t.gr"))]
         rows += [("t.gr.gz", line, plain), (text, line, plain), (io.BytesIO(text), None, None)]
         for file, wanted, more in rows:
@@ -95,6 +107,76 @@ def causes(tally: Tally, _: str) -> None:
     lines = f"{begin}%0Aline 300001: {'x' * 200}\n"
     missing = "::error file=missing%2C%3A%25.gr::missing,:%25.gr: 31 Read (No such file or directory)\n"
     wants(tally, "--output-format github", shown, missing + lines, "0 accepted, 1 refused, 1 failed\n", 4)
+
+
+# Files that are not what their names say, with the hint that they have.
+PACKED: dict[str, tuple[bytes, str]] = {
+    "plain.gr.gz": (ROADS, "The file is not compressed: dnorm check - < plain.gr.gz"),
+    "lfs.gr.gz": (b"version https://git-lfs.github.com/spec/v1\noid sha256:0\n",
+                  "The file is a pointer of Git LFS, and the text is missing: git lfs pull"),
+    "cut.gr.bz2": (COMPRESS[".bz2"](ROADS)[:-5], "The file is cut or damaged: get it again"),
+    "zip.gr.xz": (b"PK\x03\x04..", "The file is a zip archive, and its name says another thing: unzip -p zip.gr.xz | "
+                  "dnorm check -"),
+    "empty.gr.gz": (b"", "The file is empty"),
+    "noise.gr.gz": (b"\x80\x81", "The file is not compressed as its name says"),
+}  # fmt: skip
+
+
+def hints_of_failures(tally: Tally, _: str) -> None:
+    """Tests the hints of files that are not compressed as their names say, in each format."""
+    for name, (data, _hint) in PACKED.items():
+        write(name, data)
+    names = sorted(PACKED)
+    found = module("check", *names)
+    told_ = [it.strip() for it in found.err.decode().splitlines() if it.startswith("    ")]
+    tally.same("hints as text", told_, [PACKED[it][1] for it in names])
+    records = [json.loads(it) for it in module("check", "--json", *names).out.splitlines()]
+    tally.same("hints in JSON", [it["hint"] for it in records], [PACKED[it][1] for it in names])
+    lines = module("check", "--output-format", "github", *names).out.decode().splitlines()
+    tally.same("hints for GitHub", [it.partition("%0A")[2] for it in lines], [PACKED[it][1] for it in names])
+    module("check", "--junit", "report", *names)
+    texts = [it.text for it in ElementTree.parse("report").iter("error")]
+    tally.same("hints in XML", texts, [PACKED[it][1] for it in names])
+    try:
+        dnorm.read("plain.gr.gz")
+    except dnorm.Read as error:
+        tally.same("a hint of a call", error.hint, PACKED["plain.gr.gz"][1])
+        again = pickle.loads(pickle.dumps(error))
+        tally.same("a hint, pickled", (str(again), vars(again)), (str(error), vars(error)))
+    write("a.ss", b"p aux sp ss 0\n")
+    write("a.gr", ROADS)
+    try:
+        dnorm.check("a.ss", "a.gr")
+    except dnorm.Refused as error:
+        wanted = "The graph comes first, an sp text, and then the companion, an ss, p2p or co text"
+        tally.same("swapped arguments", (error.number, error.hint), (36, wanted))
+    found = run([f"{ROOT}/dnorm-explain"], b"a.gr: 36 NotKinds\n", env={**os.environ, **ENVIRONMENT})
+    tally.holds(f"dnorm-explain of 36: {found.out!r}", wanted.encode() in found.out)
+
+
+def documents(tally: Tally, _: str) -> None:
+    """Tests the document of SARIF, and CSV with an odd name."""
+    make({"s/a b.gr": ROADS, "s/bad.gr": b"p sp 2 1\na 1 3 7\n", "s/end.gr": b"c\n", "s/k.max": ROADS})
+    found = module("check", "--output-format", "sarif", "s", "none.gr")
+    tally.same("the end of a SARIF run", (found.err, found.status), (
+        b"2 accepted, 2 refused, 1 failed, 1 file of another kind than its ending\n", 4))  # fmt: skip
+    document = json.loads(found.out)
+    results = document["runs"][0]["results"]
+    tally.same("the version", (document["version"], len(document["runs"])), ("2.1.0", 1))
+    places = [it["locations"][0]["physicalLocation"] for it in results]
+    tally.same("places", [(it["artifactLocation"]["uri"], it.get("region")) for it in places],
+               [("none.gr", None), ("s/bad.gr", {"startLine": 2}), ("s/end.gr", None), ("s/k.max", None)])  # fmt: skip
+    tally.same("levels", [it["level"] for it in results], ["error", "error", "error", "warning"])
+    tally.same("rules", [it.get("ruleId") for it in results], [None, "NodeOutOfRange", "NoProblem", None])
+    rules = {it["id"] for it in document["runs"][0]["tool"]["driver"]["rules"]}
+    tally.holds("the rules are described", {"NodeOutOfRange", "NoProblem"} <= rules)
+    told_ = "A node is not in 1 to NODES; in a companion, below 1. line 2: a 1 3 7 NODES 2: nodes count from 1"
+    tally.same("a message", results[1]["message"]["text"], told_)
+    odd = ["c\r.gr", "d\n.gr", 'e",.gr']
+    for it in odd:
+        write(it, ROADS)
+    rows = list(csv.DictReader(io.StringIO(module("list", "--csv", *odd).out.decode(), newline="")))
+    tally.same("odd names in CSV", [(it["name"], it["kind"]) for it in rows], [(it, "sp") for it in odd])
 
 
 def compressions(tally: Tally, _: str) -> None:
@@ -439,6 +521,15 @@ def comparisons(tally: Tally, tested: str) -> None:
         wants(tally, f"compare with {text!r}", found, wanted, "", first.status)
     write("right", CHANGED[5][0])
     found = module("compare", "--limit", "0", "left", "right")
+    record = json.loads(module("compare", "--json", "--limit", "1", "left", "right").out)
+    wanted_ = (False, "differ nodes 3 4", 3, [["nodes", 3, 4]], [1, 2])
+    told_ = (record["same"], record["first"], record["different"], record["values"], record["pairs"][0]["key"])
+    tally.same("compare --json", told_, wanted_)
+    for words, status in [("left right", 1), ("left left", 0)]:
+        wants(tally, f"compare -q {words}", module("compare", "-q", *words.split()), "", "", status)
+    for words in ["- left", "left -"]:
+        piped = module("compare", "-q", *words.split(), given=bytes_of("left"))
+        wants(tally, f"compare -q {words}", piped, "", "", 0)
     tally.same("compare --limit 0", (len(found.out.splitlines()), found.status), (4, 1))
     write("right", costly({(2, 1): "2 40 331", (3, 2): "0 7 1", (3, 1): "0 5 2"}))
     for limit, turned in [("1", "1 2, .."), ("2", "1 2, 2 3")]:
@@ -506,6 +597,8 @@ def summaries(tally: Tally, _: str) -> None:
 
 TESTS: list[Callable[[Tally, str], None]] = [
     causes,
+    hints_of_failures,
+    documents,
     compressions,
     names_given,
     time_limits,

@@ -31,6 +31,10 @@ exit statuses:
   4  a file cannot be read, a folder has no such file, or dnorm cannot be run
 The greatest one that applies counts.
 """
+# Commands of the program, and what is an option here.
+OTHER_COMMANDS = {it: f"{it} is a command of the program: dnorm {it} FILE" for it in ("canon", "show")}
+OTHER_COMMANDS |= {it: f"{it} is an option here: --{it}" for it in ("help", "version")}
+FORMATS = ("text", "json", "github", "sarif")
 EACH = "by default one for each processor"
 SIGNALS = (signal.SIGINT, signal.SIGTERM, signal.SIGHUP)
 TASKS = {
@@ -96,8 +100,8 @@ def add_outputs(one: argparse.ArgumentParser, task: str) -> None:
         add("-q", "--quiet", action="store_true", help="print no line for files without a fault")
     add("--json", action="store_true", help="print JSON objects, one on a line, instead")
     if task == "check":
-        about = "the lines for each file: as text, as JSON objects, or as annotations of GitHub"
-        add("--output-format", dest="format", choices=("text", "json", "github"), help=about)
+        about = "the lines for each file: as text, as JSON objects, or as annotations of GitHub; or a SARIF document"
+        add("--output-format", dest="format", choices=FORMATS, help=about)
         add("--junit", metavar="FILE", help="also write a report for CI services into FILE")
     if task == "list":
         add("--csv", action="store_true", help="print a CSV table instead")
@@ -111,8 +115,10 @@ def add_outputs(one: argparse.ArgumentParser, task: str) -> None:
 
 def add_comparison(one: argparse.ArgumentParser) -> None:
     """Adds the arguments of `compare`."""
-    one.add_argument("left", metavar="LEFT", help="a file")
+    one.add_argument("left", metavar="LEFT", help="a file, or - for standard input")
     one.add_argument("right", metavar="RIGHT", help="another file")
+    one.add_argument("-q", "--quiet", action="store_true", help="print nothing; the status tells")
+    one.add_argument("--json", action="store_true", help="print a JSON object instead")
     one.add_argument("--limit", type=int, default=3, metavar="N", help="print so many differing pairs, by default 3")
 
 
@@ -125,6 +131,8 @@ def add_runs(one: argparse.ArgumentParser) -> None:
 
 def parsed(words: Sequence[str]) -> argparse.Namespace:
     """Returns the arguments."""
+    if words[:1] and words[0] in OTHER_COMMANDS:
+        parser().error(OTHER_COMMANDS[words[0]])
     found, others = parser().parse_known_args(words)
     error = found.parser.error
     if others:
@@ -135,6 +143,10 @@ def parsed(words: Sequence[str]) -> argparse.Namespace:
         check_files(found, error)
     elif found.limit < 0:
         error("--limit is at least 0")
+    elif found.left == found.right == "-":
+        error("standard input is named twice")
+    elif found.quiet and found.json:
+        error("--quiet goes without --json")
     return found
 
 

@@ -10,6 +10,7 @@ from itertools import islice
 from typing import NamedTuple
 
 from .compressed import SIZE
+from .names import ending_of
 
 # Opens a text, and yields its pieces.
 Opener = Callable[[], AbstractContextManager["Iterator[bytes]"]]
@@ -32,10 +33,17 @@ MARKS = [
     (b"PK\x03\x04", "The file is a zip archive", "unzip -p {}"),
     (b"7z\xbc\xaf", "The file is an archive of 7-Zip", "7z e -so {}"),
     (b"\xef\xbb\xbf", "The file begins with a byte order mark", "tail -c +4 < {}"),
+    (b"\xff\xfe\0\0", "The file is in UTF-32", "iconv -f UTF-32 -t UTF-8 < {}"),
+    (b"\0\0\xfe\xff", "The file is in UTF-32", "iconv -f UTF-32 -t UTF-8 < {}"),
     (b"\xff\xfe", "The file is in UTF-16", "iconv -f UTF-16 -t UTF-8 < {}"),
     (b"\xfe\xff", "The file is in UTF-16", "iconv -f UTF-16 -t UTF-8 < {}"),
 ]
 LFS = b"version https://git-lfs"
+POINTER = "The file is a pointer of Git LFS, and the text is missing: git lfs pull"
+# The marks of the compressions that endings name.
+PACKED = {".gz": b"\x1f\x8b", ".bz2": b"BZh", ".xz": b"\xfd7zX", ".zst": b"\x28\xb5\x2f\xfd"}
+# A line that ends in bytes that other systems put at the end of a text.
+ENDED = re.compile(rb"[^\0\x1a]*[\0\x1a]+")
 # What mends the text where the text itself says no more.
 NO_LIMIT = "for no limit, write a capacity that no flow exceeds"
 REMEDIES = {
@@ -50,6 +58,7 @@ REMEDIES = {
     16: f"The order is LOW, CAP, COST; {NO_LIMIT}",
     18: "The text has only comments, or the command that wrote it failed",
     19: "Add the line n ID s or n ID t, before the arcs",
+    36: "The graph comes first, an sp text, and then the companion, an ss, p2p or co text",
 }
 
 
@@ -157,14 +166,32 @@ def hints_of_bytes(head: bytes, refused: bytes | None, name: str | None) -> Iter
             yield hint(what, command)
             return
     if head.startswith(LFS):
-        yield "The file is a pointer of Git LFS, and the text is missing: git lfs pull"
+        yield POINTER
     elif not head:
         yield "The file is empty"
     else:
         if b"\r" in head and b"\n" not in head:
             yield hint("CR alone ends lines", r"tr '\r' '\n' < {}")
-        if refused and refused[:SHOWN].endswith((b"\0", b"\x1a")):
+        if refused and len(refused) < KEPT and ENDED.fullmatch(refused):
             yield hint("The line ends in NUL or Ctrl-Z", r"tr -d '\0\032' < {}")
+        elif refused and b"\0" in refused:
+            yield "The line has NUL within, where data may be lost: get the file again"
+
+
+def hint_of_compressed(head: bytes, name: str) -> str:
+    """Returns what the first bytes of a file mean that cannot be decompressed as its name says."""
+    if head.startswith(LFS):
+        return POINTER
+    if not head:
+        return "The file is empty"
+    if head.startswith(PACKED.get(ending_of(name), b"\0")):
+        return "The file is cut or damaged: get it again"
+    for mark, what, command in MARKS:
+        if head.startswith(mark):
+            return f"{what}, and its name says another thing: {command.format(quoted(name))} | dnorm check -"
+    if re.fullmatch(rb"[\t\n\r -~]+", head):
+        return f"The file is not compressed: dnorm check - < {quoted(name)}"
+    return "The file is not compressed as its name says"
 
 
 def hints_of_repeated(lines: Iterator[bytes], words: list[bytes]) -> Iterator[str]:

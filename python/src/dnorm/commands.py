@@ -22,8 +22,8 @@ from .library import instance_of, library_of
 from .limits import Limit
 from .listing import Listed, listed, record_of_listed, row_of, table, text_of_listed
 from .manifests import Entry, entries_of, text_of
-from .reports import Case, Console, annotation_of, as_json, cause_of, junit, line_of, line_with, record_of
-from .summary import differences, lines_of_differences
+from .reports import Case, Console, annotation_of, as_json, cause_of, junit, line_of, line_with, record_of, sarif
+from .summary import differences, lines_of_differences, record_of_differences
 
 # The exit statuses besides 0. The greatest one that applies counts.
 DIFFERS, REFUSED, USAGE, FAILED = 1, 2, 3, 4
@@ -69,7 +69,7 @@ class Run:
         for name in [it for it in words.path if words.companions and it in found.files]:
             found.files.update(dict.fromkeys(it for it in partners.companions_of(name) if it not in found.files))
         cases: list[Case] = []
-        self.print_rest = lambda: self.print_causes(cases)
+        self.print_rest = lambda: self.print_end(cases)
 
         def take(case: Case) -> None:
             self.count(case.result)
@@ -81,7 +81,7 @@ class Run:
             self.each_file(found, checker.check, lambda name, result, seconds: take(Case(name, result, seconds)))
             if report:
                 report.take(junit(cases))
-        self.print_causes(cases)
+        self.print_end(cases)
         accepted = [it.result for it in cases if isinstance(it.result, Accepted)]
         alone = sum(it.is_alone for it in accepted)
         unsure = sum(bool(it.not_accepted) for it in accepted)
@@ -101,11 +101,14 @@ class Run:
             self.console.print(as_json(record_of(name, result)))
         elif self.words.format == "github":
             self.console.print(annotation_of(name, result))
-        else:
+        elif self.words.format == "text":
             self.console.print(line_of(name, result))
 
-    def print_causes(self, cases: Sequence[Case]) -> None:
-        """Prints the refused and failed files again, with the causes, on standard error."""
+    def print_end(self, cases: Sequence[Case]) -> None:
+        """Prints the SARIF document of all files; or the refused and failed files again, with the causes, on standard
+        error."""
+        if self.words.format == "sarif":
+            self.console.print(sarif(cases))
         if self.words.format != "text" or self.words.quiet:
             return
         for name, result, _ in cases:
@@ -258,10 +261,16 @@ class Run:
         self.sum_up(f"{self.done} listed")
 
     def compare(self) -> None:
-        """Prints the first difference between two files, how many pairs differ, and the arcs of the first ones."""
+        """Prints the first difference between two files, how many pairs differ, and the arcs of the first ones. A file
+        - is standard input."""
         words = self.words
-        found = differences(words.left, words.right, words.limit, program=words.program, timeout=words.timeout)
-        self.console.print("".join(f"{it}\n" for it in lines_of_differences(found)))
+        with open(0, "rb", buffering=0, closefd=False) as stream:
+            left, right = (stream if it == "-" else it for it in (words.left, words.right))
+            found = differences(left, right, words.limit, program=words.program, timeout=words.timeout)
+        if words.json:
+            self.console.print(as_json(record_of_differences(found)))
+        elif not words.quiet:
+            self.console.print("".join(f"{it}\n" for it in lines_of_differences(found)))
         if not found.first:
             self.status = DIFFERS
 

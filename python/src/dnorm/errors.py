@@ -113,9 +113,15 @@ class Failed(DnormError):
 
 
 class Read(Failed):
-    """A file cannot be opened, reading it failed, or a compressed file is cut or corrupt."""
+    """A file cannot be opened, reading it failed, or a compressed file is cut or corrupt. `hint` says what the first
+    bytes of a file that is not compressed as its name says may mean, or is None."""
 
     what = ": 31 Read"
+
+    def __init__(self, name: str, reason: str = "", hint: Optional[str] = None) -> None:
+        super().__init__(name, reason)
+        self.args = (name, reason, hint)
+        self.hint = hint
 
 
 class Write(Failed):

@@ -11,7 +11,7 @@ import subprocess
 import sys
 from collections.abc import Iterable, Iterator, Sequence
 
-from .causes import cause_of, quoted
+from .causes import REMEDIES, cause_of, quoted
 from .errors import DnormError, NoProgram, Write
 from .files import of_stream, reason_of
 from .program import command as command_of
@@ -101,6 +101,8 @@ def causes_of(told: str) -> Iterator[str]:
         yield from reason_of_failure(other[1])
     if other and other[3]:
         yield from causes_in(other[1], None, 35, int(other[3]))
+    if other and other[2] == "6":
+        yield REMEDIES[36]
     if refused:
         yield from causes_in(refused[1], None if refused[2] == "end" else int(refused[2]), int(refused[3]), None)
 

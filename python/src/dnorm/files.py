@@ -12,8 +12,8 @@ import threading
 from collections.abc import Callable, Iterator
 from typing import BinaryIO, Optional, Protocol, Union
 
-from .causes import Cause, cause_of
-from .compressed import SIZE, Compressed, compressor_of, decompressor_of, pieces
+from .causes import SHOWN, Cause, cause_of, hint_of_compressed
+from .compressed import SIZE, Compressed, Stream, compressor_of, decompressor_of, pieces
 from .errors import DnormError, Memory, Read, Refused, Write
 from .instances import Instance
 from .limits import Limit, Timed
@@ -211,7 +211,7 @@ class Text:
         if self._opened:
             with failing(Read, self.name):
                 start = decompressor_of(self.name)
-            return pieces(Timed(self._opened, self.limit), start) if start else self._opened
+            return self._decompressed(self._opened, start) if start else self._opened
         if isinstance(file, (bytes, bytearray, memoryview)):
             return of_bytes(memoryview(file).cast("B"))
         if isinstance(file, Instance):
@@ -220,6 +220,15 @@ class Text:
             kinds = "a path, bytes, a binary stream or an instance"
             raise TypeError(f"a file is {kinds}, and not {type(file).__name__}")
         return of_stream(file)
+
+    def _decompressed(self, file: io.FileIO, start: Callable[[], Stream]) -> Iterator[bytes]:
+        """Yields what the file decompresses to, in pieces."""
+        try:
+            yield from pieces(Timed(file, self.limit), start)
+        except (OSError, EOFError) as error:
+            head = os.pread(file.fileno(), SHOWN, 0) if self._mark else b""
+            hint = hint_of_compressed(head, self.name) if self._mark else None
+            raise Read(self.name, reason_of(error), hint) from error
 
     def next_piece(self) -> bytes | None:
         """Returns the next piece, if there is one."""

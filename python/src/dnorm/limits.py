@@ -19,6 +19,8 @@ class Limit:
     """So many seconds from now, or no limit. `name` is what the error of a call calls its file."""
 
     def __init__(self, seconds: float | None, name: str) -> None:
+        if seconds is not None and seconds < 0:
+            raise ValueError(f"timeout is at least 0, and not {seconds}")
         self.seconds, self.name = seconds, name
         self._end = None if seconds is None else time.monotonic() + seconds
 

@@ -241,9 +241,10 @@ def row_of(it: Listed) -> dict[str, Any]:
 
 def table(rows: Iterable[dict[str, Any]], is_first: bool) -> str:
     """Returns rows of a CSV table, with the heads before the first ones."""
-    text = io.StringIO()
-    writer = csv.DictWriter(text, HEADS, extrasaction="ignore", lineterminator="\n")
-    if is_first:
-        writer.writeheader()
-    writer.writerows(rows)
-    return text.getvalue()
+    found = []
+    for row in [*([dict(zip(HEADS, HEADS))] if is_first else []), *rows]:
+        text = io.StringIO()
+        # Only a terminator with CR has a name with CR quoted.
+        csv.DictWriter(text, HEADS, extrasaction="ignore", lineterminator="\r\n").writerow(row)
+        found.append(text.getvalue().removesuffix("\r\n") + "\n")
+    return "".join(found)

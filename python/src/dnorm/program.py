@@ -122,7 +122,8 @@ def command(program: Program) -> list[str]:
         found = shutil.which(words[0]) if words else None
         if found:
             return [found, *words[1:]]
-    raise NoProgram(wanted, "there is no such program" + (", and $DNORM names it" if program is None else ""))
+    reason = "the file cannot be run" if os.path.isfile(wanted) else "there is no such program"
+    raise NoProgram(wanted, reason + (", and $DNORM names it" if program is None else ""))
 
 
 def split(line: str) -> list[str]:

@@ -11,11 +11,13 @@ import threading
 import time
 from collections.abc import Sequence
 from typing import NamedTuple, Union
+from urllib.parse import quote
 from xml.etree import ElementTree
 
 from .checks import Accepted
-from .errors import DnormError, Refused, Write
+from .errors import DnormError, Read, Refused, Write
 from .files import progress, reason_of, write_all
+from .refusals import REFUSALS
 
 # What a check of a file leads to.
 Result = Union[Accepted, DnormError]
@@ -140,7 +142,9 @@ def line_of(name: str, result: Result) -> str:
 
 
 def cause_of(result: Result) -> list[str]:
-    """Returns the lines that show the cause of a refusal."""
+    """Returns the lines that show the cause of a refusal, or of a compressed file that cannot be read."""
+    if isinstance(result, Read) and result.hint:
+        return result.hint.splitlines()
     if not isinstance(result, Refused):
         return []
     lines = [f"line {result.line}: {result.text}"] if result.text is not None else []
@@ -153,7 +157,9 @@ def record_of(name: str, result: Result) -> dict[str, object]:
         found: dict[str, object] = {"name": name, "status": "accepted", "kind": result.kind, "forms": result.forms}
         graphs = {} if result.fits is None else {"graphs": result.fits, "not_accepted": result.not_accepted}
         return {**found, **graphs, "remarks": result.remarks}
-    found = {"name": name, "status": "failed", "error": f"{name}{told(name, result)}"}
+    found = {"name": name, "status": "failed", "error": f"{name}{told(name, result)}", "hint": None}
+    if isinstance(result, Read):
+        found["hint"] = result.hint
     if isinstance(result, Refused):
         found["status"] = "refused"
         found.update(line=result.line, number=result.number, word=result.word, sentence=result.sentence)
@@ -178,7 +184,8 @@ def annotation_of(name: str, result: Result) -> str:
         if result.line is not None:
             properties["line"] = str(result.line)
         properties["title"] = f"dnorm: {result.number} {result.word}"
-        parts += [result.sentence, *cause_of(result)]
+        parts.append(result.sentence)
+    parts += cause_of(result)
     return annotation("error", properties, "\n".join(parts))
 
 
@@ -191,6 +198,33 @@ def annotation(level: str, properties: dict[str, str], text: str) -> str:
 def escaped(text: str, forbidden: re.Pattern[str]) -> str:
     """Returns a text in which forbidden characters are written as GitHub reads them."""
     return forbidden.sub(lambda it: f"%{ord(it[0]):02X}", text)
+
+
+def sarif(cases: Sequence[Case]) -> str:
+    """Returns a document in the JSON of SARIF 2.1.0, with a result for each file that is refused or fails, or that is
+    accepted with remarks."""
+    results = [found for name, result, _ in cases if (found := sarif_of(name, result))]
+    rules = [{"id": word, "shortDescription": {"text": sentence}} for word, sentence in REFUSALS.values()]
+    driver = {"name": "dnorm", "rules": rules}
+    runs = [{"tool": {"driver": driver}, "columnKind": "unicodeCodePoints", "results": results}]
+    schema = "https://json.schemastore.org/sarif-2.1.0.json"
+    return as_json({"$schema": schema, "version": "2.1.0", "runs": runs})
+
+
+def sarif_of(name: str, result: Result) -> dict[str, object]:
+    """Returns the result of SARIF for a file, or none for an accepted file without remarks."""
+    place: dict[str, object] = {"artifactLocation": {"uri": quote(os.fsencode(os.path.normpath(name)))}}
+    found: dict[str, object] = {"level": "error", "locations": [{"physicalLocation": place}]}
+    if isinstance(result, Accepted):
+        text = f"accepted {result.kind}, {', '.join(result.remarks)}"
+        return {**found, "level": "warning", "message": {"text": text}} if result.remarks else {}
+    text = told(name, result).lstrip(":").strip()
+    if isinstance(result, Refused):
+        found["ruleId"] = result.word
+        text = " ".join([result.sentence, *cause_of(result)])
+        if result.line is not None:
+            place["region"] = {"startLine": result.line}
+    return {**found, "message": {"text": text}}
 
 
 def junit(cases: Sequence[Case]) -> bytes:
@@ -207,7 +241,8 @@ def junit(cases: Sequence[Case]) -> bytes:
         elif isinstance(result, DnormError):
             counts["errors"] += 1
             message = for_xml(f"{name}{told(name, result)}")
-            ElementTree.SubElement(case, "error", type=type(result).__name__, message=message)
+            failure = ElementTree.SubElement(case, "error", type=type(result).__name__, message=message)
+            failure.text = for_xml("\n".join(cause_of(result))) or None
         elif result.remarks:
             ElementTree.SubElement(case, "system-out").text = for_xml(", ".join(result.remarks))
     suite.attrib.update((it, str(count)) for it, count in counts.items())

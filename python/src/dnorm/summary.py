@@ -3,9 +3,9 @@
 from __future__ import annotations
 
 import contextlib
+import dataclasses
 import io
 from collections.abc import Iterator
-from dataclasses import dataclass
 from typing import Optional, Union
 
 from .answers import AnyDifference, Same, compared
@@ -20,7 +20,7 @@ from .program import Program
 from .reader import Reader, instance_by
 
 
-@dataclass(frozen=True, repr=False)
+@dataclasses.dataclass(frozen=True, repr=False)
 class Differences:
     """How two texts differ.
 
@@ -149,6 +149,11 @@ def differing_values(left: Instance, right: Instance) -> Iterator[tuple[str, int
     for name in names:
         if getattr(left, name) != getattr(right, name):
             yield name, getattr(left, name), getattr(right, name)
+
+
+def record_of_differences(it: Differences) -> dict[str, object]:
+    """Returns the JSON object of the differences of two texts."""
+    return {"same": bool(it.first), **dataclasses.asdict(it), "first": str(it.first)}
 
 
 # The letters of the lines that tell arcs, points and items, and what these are called.
