@@ -14,17 +14,22 @@ import re
 import sys
 import time
 from collections.abc import Callable
+from typing import Any
 from xml.etree import ElementTree
 
 from calls import COMPRESS, fake, told
 from folders import ENVIRONMENT, make, module, started, wants
 from guards import zstd
 from known import COSTS, FLOWS, ROADS, ROADS_CANON
-from reading import Fault, Text, canonical, read
+from reading import Fault, canonical, read
+from reading import Text as Known
 from shared import LIMIT, ROOT, Tally, bytes_of, python_with, run, terminal, write
 from texts import lines_of, made, spelled
 
 import dnorm
+from dnorm.files import Text
+from dnorm.library import Status, instance_of
+from dnorm.limits import Limit
 
 SEED, ROUNDS = 21, 60
 # Refused texts, with the line and the hint of the refusal. A file is "t.gr".
@@ -338,6 +343,39 @@ def time_limits(tally: Tally, _: str) -> None:
     wants(tally, "--timeout", found, f"{lines}t.gr: accepted sp\n", f"{lines}1 accepted, 0 refused, 1 failed\n", 4)
 
 
+class SlowLibrary:
+    """Stands for a library whose last step takes a second. It says how often it was freed."""
+
+    def __init__(self) -> None:
+        self.freed = 0
+        self.begin = self.feed = lambda *_: Status()
+
+    def finish(self, _: object) -> Status:
+        time.sleep(1)
+        return Status()
+
+    def free(self, _: object) -> None:
+        self.freed += 1
+
+
+def long_steps(tally: Tally, _: str) -> None:
+    """Tests that a step of the library that takes long ends no later than the limit, and frees its memory at its end;
+    and that limits are not below 0."""
+    library: Any = SlowLibrary()
+    start = time.monotonic()
+    with contextlib.ExitStack() as stack:
+        text = Text(ROADS, stack, Limit(0.2, "-"))
+        found = told(lambda: stack.enter_context(instance_of(library, text, 1)))
+    took = time.monotonic() - start
+    tally.same("a long step", (found, library.freed), ("TimedOut: -: took more than 0.2 seconds", 0))
+    tally.holds(f"it takes {took} s", took < 0.6)
+    time.sleep(1)
+    tally.same("it is freed once", library.freed, 1)
+    tally.same(
+        "a limit below 0", told(lambda: dnorm.check(ROADS, timeout=-1)), "ValueError: timeout is at least 0, and not -1"
+    )
+
+
 def before(tally: Tally, rows: list[tuple[str, Callable[[], object], str]]) -> None:
     """Tests that calls end soon."""
     for what, call, name in rows:
@@ -557,7 +595,7 @@ def comparisons(tally: Tally, tested: str) -> None:
     tally.same("a companion's repr", repr(dnorm.show(b"p aux sp ss 0\n")), "<dnorm.Shown: kind='ss', lines=0>")
 
 
-def by_pair(text: Text) -> dict[tuple[str, ...], list[list[str]]]:
+def by_pair(text: Known) -> dict[tuple[str, ...], list[list[str]]]:
     """Returns the arcs of a canonical text of form 2 by their pairs."""
     found: dict[tuple[str, ...], list[list[str]]] = {}
     for line in canonical(text, 2).decode().splitlines():
@@ -571,7 +609,7 @@ def summaries(tally: Tally, _: str) -> None:
     """Tests `differences` on random pairs of graphs, beside a count of the pairs of their canonical texts."""
     chance = random.Random(SEED)
     for kind in ["min", "max", "sp"]:
-        graphs: list[tuple[bytes, Text]] = []
+        graphs: list[tuple[bytes, Known]] = []
         while len(graphs) < ROUNDS:
             given = spelled(chance, lines_of(chance, made(chance, kind)))
             with contextlib.suppress(Fault):
@@ -602,6 +640,7 @@ TESTS: list[Callable[[Tally, str], None]] = [
     compressions,
     names_given,
     time_limits,
+    long_steps,
     folders_of_manifests,
     links,
     on_terminal,

@@ -12,7 +12,7 @@ from typing import Any, cast
 from .answers import AnyDifference, Difference, Same
 from .errors import DnormError, Memory, Refused
 from .library import FINE, HANDLE, KINDS, MEMORY, Handle, Instance, Library, Status
-from .limits import Limit
+from .limits import Lease, Limit
 from .program import unexpected
 from .refusals import REFUSALS
 
@@ -77,8 +77,10 @@ def functions_of(path: str) -> dict[str, Any]:
 def canonical_pieces(library: Library, instance: Instance, form: int, limit: Limit) -> Iterator[bytes]:
     """Yields the canonical text of an instance in pieces."""
     calls, text = functions_of(library.path), Handle()
+    lease = Lease(lambda: library.free(ctypes.byref(text)))
     try:
-        status = calls["canon"](instance.handle, form, ctypes.byref(text))
+        make = functools.partial(calls["canon"], instance.handle, form, ctypes.byref(text))
+        status = limit.during(make, instance.lease, lease)
         if status.code != FINE:
             raise error_of(status.code, limit.name)
         at, room = 0, ctypes.create_string_buffer(ROOM)
@@ -87,7 +89,7 @@ def canonical_pieces(library: Library, instance: Instance, form: int, limit: Lim
             yield ctypes.string_at(room, more)
             at += more
     finally:
-        library.free(ctypes.byref(text))
+        lease.end()
 
 
 def canonical_sum(library: Library, instance: Instance, form: int, limit: Limit) -> str:
@@ -105,9 +107,10 @@ def error_of(code: int, name: str) -> DnormError:
     return Refused(name, None, code, REFUSALS[code][0]) if code in REFUSALS else unexpected(name, code, "")
 
 
-def first_difference(library: Library, left: Instance, right: Instance) -> Same | AnyDifference:
+def first_difference(library: Library, left: Instance, right: Instance, limit: Limit) -> Same | AnyDifference:
     """Returns where two instances first differ."""
-    found = functions_of(library.path)["compare"](left.handle, right.handle)
+    compare = functools.partial(functions_of(library.path)["compare"], left.handle, right.handle)
+    found = limit.during(compare, left.lease, right.lease)
     what = WHAT[found.what]
     return Same() if what == "same" else cast(AnyDifference, difference_of(what, found, left.kind))
 

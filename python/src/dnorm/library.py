@@ -5,6 +5,7 @@ from __future__ import annotations
 
 import contextlib
 import ctypes
+import functools
 import os
 from array import array
 from collections.abc import Iterator
@@ -13,6 +14,7 @@ from typing import Any, Optional
 from .columns import Growing, numpy_here
 from .errors import DnormError, Endless, Memory, NoProgram, Refused
 from .files import Text
+from .limits import Lease
 from .program import Program, children, command, script_folders, unexpected, with_cause
 from .refusals import REFUSALS
 
@@ -149,7 +151,9 @@ def find_library(program: Program = None) -> Optional[str]:
 
 class Instance:
     """An instance that the library has read: its kind, `nodes`, the number of counted `lines` that were read and of
-    `pairs` with arcs, and its numbers as columns."""
+    `pairs` with arcs, and its numbers as columns. Calls that may go on after it take its lease."""
+
+    lease: Lease
 
     def __init__(self, library: Library, handle: Any, form: int) -> None:
         self._library, self._handle, self._form = library, handle, form
@@ -209,19 +213,22 @@ def instance_of(library: Library, text: Text, form: int) -> Iterator[Instance]:
     """Reads a text, and frees its instance at the end."""
     handle = Handle()
     address = ctypes.byref(handle)
+    lease = Lease(lambda: library.free(address))
     try:
         status, failed = library.begin(address), None
         if status.code == FINE:
             status = fed(library, address, text)
         if status.code == FINE:
-            status = library.finish(address)
+            status = text.limit.during(functools.partial(library.finish, address), lease)
         if status.code == FINE:
             text.limit.left()
-            yield Instance(library, address, form)
+            found = Instance(library, address, form)
+            found.lease = lease
+            yield found
         else:
             failed = error_of(status, text)
     finally:
-        library.free(address)
+        lease.end()
     if failed:
         raise failed
 

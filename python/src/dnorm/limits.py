@@ -9,10 +9,33 @@ import signal
 import subprocess
 import threading
 import time
-from collections.abc import Iterator
-from typing import BinaryIO
+from collections.abc import Callable, Iterator
+from typing import BinaryIO, TypeVar
 
 from .errors import Memory, TimedOut
+
+
+Result = TypeVar("Result")
+
+
+class Lease:
+    """Something that is freed once nothing uses it any more."""
+
+    def __init__(self, free: Callable[[], object]) -> None:
+        self._free, self._users, self._lock = free, 1, threading.Lock()
+
+    def take(self) -> None:
+        """Says that something more uses it."""
+        with self._lock:
+            self._users += 1
+
+    def end(self) -> None:
+        """Says that something uses it no more."""
+        with self._lock:
+            self._users -= 1
+            is_free = not self._users
+        if is_free:
+            self._free()
 
 
 class Limit:
@@ -33,6 +56,30 @@ class Limit:
             raise TimedOut(self.name, self.seconds)
         return left
 
+    def during(self, call: Callable[[], Result], *leases: Lease) -> Result:
+        """Returns what a call returns that nothing can end, and that uses what is leased. If the time is over before,
+        raises TimedOut; the call then goes on in a thread, and what it uses stays until its end."""
+        left = self.left()
+        if left is None:
+            return call()
+        found: list[Result] = []
+        has_ended = threading.Event()
+
+        def run() -> None:
+            try:
+                found.append(call())
+            finally:
+                for it in leases:
+                    it.end()
+                has_ended.set()
+
+        for it in leases:
+            it.take()
+        started(threading.Thread(target=run, daemon=True), self.name)
+        has_ended.wait(left)
+        self.left()
+        return found[0]
+
     @contextlib.contextmanager
     def over(self, process: subprocess.Popen[bytes]) -> Iterator[None]:
         """Kills a process if it runs when the time is over. Raises TimedOut at the end then."""
@@ -50,17 +97,22 @@ class Limit:
 
         timer = threading.Timer(left, end)
         timer.daemon = True
-        try:
-            timer.start()
-        except RuntimeError as error:
-            # The system lets no more threads start.
-            raise Memory(self.name) from error
+        started(timer, self.name)
         try:
             yield
         finally:
             timer.cancel()
         if is_over.is_set():
             raise TimedOut(self.name, self.seconds)
+
+
+def started(thread: threading.Thread, name: str) -> None:
+    """Starts a thread for the file of this name."""
+    try:
+        thread.start()
+    except RuntimeError as error:
+        # The system lets no more threads start.
+        raise Memory(name) from error
 
 
 class Timed:

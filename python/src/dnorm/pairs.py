@@ -11,6 +11,7 @@ from typing import Any, NamedTuple
 
 from .columns import numpy_here
 from .instances import Graph, Instance
+from .limits import Limit
 
 # The columns of each kind: those of the key, and those of the values with their names.
 KEYS = {"min": ("tails", "heads"), "max": ("tails", "heads"), "sp": ("tails", "heads"), "co": ("ids",)}
@@ -24,6 +25,8 @@ VALUES = {
 }
 # Nodes up to this one have a number of 64 signed bits for each pair.
 MOST = 3_000_000_000
+# How many pairs are looked at between two looks at the time.
+STEP = 10_000
 
 Key = tuple[int, ...]
 # The values of the arcs of a pair. There are none if the text has no such pair.
@@ -54,19 +57,24 @@ class Paired(NamedTuple):
     first: tuple[PairDifference, ...]
 
 
-def paired(left: Instance, right: Instance, limit: int | None) -> Paired:
+def paired(left: Instance, right: Instance, limit: int | None, time: Limit) -> Paired:
     """Returns how the pairs of two instances of one kind differ, with at most `limit` of the differing pairs. The
     instances are those of canonical texts."""
     np = numpy_here()
-    return paired_by_python(left, right, limit) if np is None else paired_by_numpy(np, left, right, limit)
+    time.left()
+    if np is None:
+        return paired_by_python(left, right, limit, time)
+    return paired_by_numpy(np, left, right, limit, time)
 
 
-def paired_by_python(left: Instance, right: Instance, limit: int | None) -> Paired:
+def paired_by_python(left: Instance, right: Instance, limit: int | None, time: Limit) -> Paired:
     """Returns how the pairs of two instances differ, without numpy."""
     counts: Counter[str] = Counter()
     fields: Counter[str] = Counter()
     differing: list[PairDifference] = []
-    for key, ours, theirs in merged(pairs_of(left), pairs_of(right)):
+    for at, (key, ours, theirs) in enumerate(merged(pairs_of(left), pairs_of(right))):
+        if at % STEP == 0:
+            time.left()
         where = "both" if ours and theirs else "only_left" if ours else "only_right"
         counts[where] += 1
         if ours != theirs:
@@ -232,11 +240,14 @@ class Matched:
         return tuple(zip(*(it[same].tolist() for it in self.left.ends)))
 
 
-def paired_by_numpy(np: Any, left: Instance, right: Instance, limit: int | None) -> Paired:
+def paired_by_numpy(np: Any, left: Instance, right: Instance, limit: int | None, time: Limit) -> Paired:
     """Returns how the pairs of two instances differ, by numpy."""
     ours, theirs = Grouped(np, left), Grouped(np, right)
+    time.left()
     found = Matched(np, ours, theirs)
+    time.left()
     bits = differing_bits(np, ours, theirs, found.both_left, found.both_right)
+    time.left()
     unlike = np.flatnonzero(bits)
     kinds, firsts, counts = np.unique(bits[unlike], return_index=True, return_counts=True)
     order = sorted(range(len(kinds)), key=lambda it: (-counts[it], firsts[it]))

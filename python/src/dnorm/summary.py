@@ -73,7 +73,7 @@ def by_library(library: Library, files: tuple[File, File], limit: Optional[int],
     with contextlib.ExitStack() as later, contextlib.ExitStack() as sooner:
         stacks = zip(files, (sooner, later))
         left, right = (stack.enter_context(instance_of(library, Text(it, stack, time), 2)) for it, stack in stacks)
-        first, kind = first_difference(library, left, right), left.kind
+        first, kind = first_difference(library, left, right, time), left.kind
         if first:
             found = Differences(first, kind, both=left.pairs if kind in GRAPHS else left.lines)
         elif kind != right.kind:
@@ -84,7 +84,7 @@ def by_library(library: Library, files: tuple[File, File], limit: Optional[int],
             sooner.close()
             other = instance_by(right)
             later.close()
-            found = summary(first, one, other, limit)
+            found = summary(first, one, other, limit, time)
     return found
 
 
@@ -101,7 +101,7 @@ def by_program(program: Program, files: tuple[File, File], limit: Optional[int],
     texts."""
     (left, one), (right, other) = (kept(program, it, time) for it in files)
     first = answer(compared, lambda *names: ["compare", *names], [left, right], program, time)
-    return Differences(first) if one.kind != other.kind else summary(first, one, other, limit)
+    return Differences(first) if one.kind != other.kind else summary(first, one, other, limit, time)
 
 
 def kept(program: Program, file: File, limit: Limit) -> tuple[Canonical, AnyInstance]:
@@ -117,9 +117,11 @@ def kept(program: Program, file: File, limit: Limit) -> tuple[Canonical, AnyInst
     return Canonical(reader.name, b"".join(parts)), reader.end()
 
 
-def summary(first: Same | AnyDifference, left: Instance, right: Instance, limit: int | None) -> Differences:
+def summary(
+    first: Same | AnyDifference, left: Instance, right: Instance, limit: int | None, time: Limit
+) -> Differences:
     """Returns the differences between two instances of one kind."""
-    found = paired(left, right, limit)
+    found = paired(left, right, limit, time)
     return Differences(
         first,
         left.kind,
