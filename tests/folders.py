@@ -21,6 +21,7 @@ from calls import COMPRESS, PACKAGE, fake
 from known import COSTS, COSTS_TWO, FLOWS, ROADS, ROADS_CANON
 from shared import LIMIT, Answer, Tally, bytes_of, run, terminal, write
 
+import dnorm
 from dnorm.commands import DONE
 from dnorm.folders import Workers
 
@@ -121,6 +122,7 @@ WRONG = [
     *["check --form 2 set", "check --junit", "check --timeout 0 set", "check --json --output-format github set"],
     *["check --output-format xml set", "check --csv set", "check --files0-from", "check --files0-from - -"],
     *["manifest", "manifest --form 3 set", "manifest --verify x --form 2", "manifest --verify x --output y"],
+    *["manifest --verify x --incremental y", "manifest --output x --incremental y z"],
     *["manifest -q set", "manifest --junit x set", "same", "same --csv x", "same -q x", "same --companions x"],
     *[
         "list",
@@ -382,6 +384,36 @@ def kept_manifests(tally: Tally, _: str) -> None:
     lines = "set/c.gr:1: 1 BadLine\n2 listed, 1 refused, 0 failed\n"
     wants(tally, "a manifest beside a refused file", found, "", lines, 2)
     tally.same("its entries", len(bytes_of("list").splitlines()), 2)
+
+
+def renewed(tally: Tally, _: str) -> None:
+    """Tests that `manifest --incremental` reads only what is new or was written, and what others make of its file."""
+    make({f"set/{it}.gr": ROADS for it in "abcd"})
+    old = time.time_ns() - 3_600_000_000_000
+    for it in "abc":
+        os.utime(f"set/{it}.gr", ns=(old, old))
+    begin = "manifest --incremental list set".split()
+    wants(tally, "a first manifest", module(*begin), "", "4 listed, 0 refused, 0 failed\n", 0)
+    marks = [f"# file {len(ROADS)} {old}"] * 3
+    tally.same("its marks", [it for it in bytes_of("list").decode().splitlines() if it.startswith("#")], marks)
+    # If it is not read, a file may have become anything.
+    write("set/a.gr", b"x" * len(ROADS))
+    os.utime("set/a.gr", ns=(old, old))
+    write("set/b.gr", COSTS)
+    wants(tally, "a second one", module(*begin), "", "4 listed, 0 refused, 0 failed, 2 not read again\n", 0)
+    sums = dict(reversed(it.split("  ")) for it in bytes_of("list").decode().splitlines() if "  " in it)
+    roads, costs = dnorm.checksum(ROADS), dnorm.checksum(COSTS)
+    tally.same("its sums", sums, {"set/a.gr": roads, "set/b.gr": costs, "set/c.gr": roads, "set/d.gr": roads})
+    tally.same("marks of fresh files", bytes_of("list").count(b"# file"), 2)
+    os.remove("set/c.gr")
+    wants(tally, "a file that is gone", module(*begin), "", "3 listed, 0 refused, 0 failed, 1 not read again\n", 0)
+    found = module("manifest", "--verify", "list", "-q")
+    tally.same("verifying reads all files", (found.status, found.out.startswith(b"set/a.gr:1: 1 BadLine")), (2, True))
+    found = module(*begin, "--form", "2")
+    tally.same("another form is read", (found.status, b"not read again" in found.err), (2, False))
+    write("list", b"no manifest\n")
+    wanted = "list: 31 Read (no manifest has the line 'no manifest')\n"
+    wants(tally, "no manifest to renew", module(*begin), "", wanted, 4)
 
 
 def slowly_squared(number: int) -> int:
@@ -656,6 +688,7 @@ TESTS = [
     reports,
     manifests,
     kept_manifests,
+    renewed,
     few_threads,
     groups,
     many,

@@ -111,6 +111,8 @@ def add_outputs(one: argparse.ArgumentParser, task: str) -> None:
         about = "verify the checksums in FILE instead, and name files of the paths that FILE does not list"
         add("--verify", metavar="FILE", help=about)
         add("--output", metavar="FILE", help="write into FILE, once everything is known")
+        about = "renew FILE, or make it, with sizes and times, and read only files that are new or were written"
+        add("--incremental", metavar="FILE", help=about)
 
 
 def add_comparison(one: argparse.ArgumentParser) -> None:
@@ -164,8 +166,10 @@ def check_files(found: argparse.Namespace, error: Callable[[str], NoReturn]) -> 
             error("--json goes without another --output-format")
         found.format = "json" if found.json else found.format or "text"
     if found.task == "manifest":
-        if found.verify is not None and (found.form or found.output is not None):
-            error("--verify goes without --form and --output")
+        if found.verify is not None and (found.form or found.output is not None or found.incremental is not None):
+            error("--verify goes without --form, --output and --incremental")
+        if found.output is not None and found.incremental is not None:
+            error("--output goes without --incremental")
         if found.verify is None and found.quiet:
             error("--quiet goes with --verify")
         found.task = "manifest" if found.verify is None else "verify"

@@ -21,7 +21,7 @@ from .handles import canonical_sum
 from .library import instance_of, library_of
 from .limits import Limit
 from .listing import Listed, listed, record_of_listed, row_of, table, text_of_listed
-from .manifests import Entry, entries_of, text_of
+from .manifests import Entry, entries_of, entry_of, text_of
 from .reports import Case, Console, annotation_of, as_json, cause_of, junit, line_of, line_with, record_of, sarif
 from .summary import differences, lines_of_differences, record_of_differences
 
@@ -118,31 +118,43 @@ class Run:
                 self.console.complain(line_of(name, result) + causes)
 
     def manifest(self) -> None:
-        """Prints the canonical checksum of each file."""
-        entries: list[Entry] = []
+        """Prints the canonical checksum of each file, or writes them into a file. If that is one with the marks of
+        files, those that have not changed are not read."""
         words = self.words
+        output = words.output if words.incremental is None else words.incremental
+        known = {it.name: it for it in self.known()}
+        entries: list[Entry] = []
 
-        def take(name: str, result: str | DnormError, _: float) -> None:
+        def task(name: str) -> Entry:
+            return entry_of(name, words.form, lambda: self.checksum_of(name, words.form), known.get(name))
+
+        def take(name: str, result: Entry | DnormError, _: float) -> None:
             self.count(result)
             if words.json:
-                self.console.print(as_json(self.record_of_entry(name, result)))
+                self.console.print(as_json(record_of_entry(name, result)))
             elif isinstance(result, DnormError):
                 self.console.complain(line_of(name, result))
-            if not isinstance(result, DnormError):
-                entries.append(Entry(name, result, words.form))
+            if isinstance(result, Entry):
+                entries.append(result)
 
         with contextlib.suppress(Incomplete), contextlib.ExitStack() as stack:
-            target = stack.enter_context(sink_of(words.output)) if words.output else None
-            self.each_file(self.found(), lambda name: self.checksum_of(name, words.form), take)
-            text = text_of(entries, words.form)
+            target = stack.enter_context(sink_of(output)) if output else None
+            self.each_file(self.found(), task, take)
+            text = text_of(entries, words.form, has_marks=words.incremental is not None)
             if target and self.failed:
-                self.console.complain(line_with(words.output, after=": not written, since it would lack what failed"))
+                self.console.complain(line_with(output, after=": not written, since it would lack what failed"))
                 raise Incomplete
             if target:
                 target.take(os.fsencode(text))
             elif not words.json:
                 self.console.print(text)
-        self.sum_up(f"{self.done} listed")
+        unread = sum(it is known.get(it.name) for it in entries)
+        self.sum_up(f"{self.done} listed", f"{unread} not read again" if unread else "")
+
+    def known(self) -> list[Entry]:
+        """Returns the entries of the manifest that is to be renewed, or none if there is no such file yet."""
+        name = self.words.incremental
+        return [] if name is None or not os.path.lexists(name) else self.listed(name, is_empty=True)
 
     def checksum_of(self, name: str, form: int = 1) -> str:
         """Returns the canonical checksum of a file."""
@@ -153,12 +165,6 @@ class Run:
             held = stack.enter_context(instance_of(self.library, Text(name, stack, limit), form))
             found = canonical_sum(self.library, held, form, limit)
         return found
-
-    def record_of_entry(self, name: str, result: str | DnormError) -> dict[str, object]:
-        """Returns the JSON object of a file of a manifest."""
-        if isinstance(result, DnormError):
-            return record_of(name, result)
-        return {"name": name, "status": "listed", "checksum": result, "form": self.words.form}
 
     def verify(self) -> None:
         """Compares the canonical checksums of a manifest with those of the files, and prints a line for each. Names
@@ -205,12 +211,12 @@ class Run:
         elif found != "same" or not self.words.quiet:
             self.console.print(line_with(name, after=f": {found}"))
 
-    def listed(self, name: str) -> list[Entry]:
-        """Returns the entries of a manifest."""
+    def listed(self, name: str, is_empty: bool = False) -> list[Entry]:
+        """Returns the entries of a manifest, which may be empty or not."""
         with failing(Read, name):
             with open(name, "rb") as file:
                 entries = entries_of(os.fsdecode(file.read()))
-        if not entries:
+        if not entries and not is_empty:
             raise Read(name, "it lists no file")
         return entries
 
@@ -373,6 +379,13 @@ class Run:
         others = counted(self.others, "other file", "other files")
         parts = [done, f"{self.refused} refused", f"{self.failed} failed", *more, others, self.unfinished]
         self.console.complain(", ".join(it for it in parts if it) + "\n")
+
+
+def record_of_entry(name: str, result: Entry | DnormError) -> dict[str, object]:
+    """Returns the JSON object of a file of a manifest."""
+    if isinstance(result, DnormError):
+        return record_of(name, result)
+    return {"name": name, "status": "listed", "checksum": result.checksum, "form": result.form}
 
 
 def counted(count: int, one: str, many: str) -> str:

@@ -1,43 +1,95 @@
-"""Manifests: the canonical checksums of files, one on a line."""
+"""Manifests: the canonical checksums of files, one on a line. With the sizes and times of the files, a manifest also
+says which of them need not be read again."""
 
 from __future__ import annotations
 
+import os
 import re
-from collections.abc import Iterable
-from typing import NamedTuple
+import time
+from collections.abc import Callable, Iterable
+from typing import NamedTuple, Optional
 
 from .reports import line_with, name_in
 
 # The line that says the form of the checksums after it. Without one, the form is 1.
 FORM = re.compile(r"# form ([12])")
+# The line with the size and the time of the file of the next line.
+MARK = re.compile(r"# file ([0-9]+) ([0-9]+)")
+# A file that was written so few nanoseconds before may be written again without another time.
+FRESH = 2_000_000_000
 ENTRY = re.compile(r"(\\?)([0-9a-f]{64})  (.+)", re.S)
 
 
+class Mark(NamedTuple):
+    """The size of a file, and the time when it was written, in nanoseconds."""
+
+    size: int
+    time: int
+
+
 class Entry(NamedTuple):
-    """A file, its canonical checksum, and the form of that."""
+    """A file, its canonical checksum, the form of that, and the mark that the file had then, if that is known."""
 
     name: str
     checksum: str
     form: int
+    mark: Optional[Mark] = None
 
 
-def text_of(entries: Iterable[Entry], form: int) -> str:
-    """Returns the text of a manifest in one form."""
-    head = "" if form == 1 else f"# form {form}\n"
-    return head + "".join(line_with(it.name, before=f"{it.checksum}  ") for it in entries)
+def mark_of(name: str) -> Mark | None:
+    """Returns the mark of a file, or None if there is no such file."""
+    try:
+        found = os.stat(name)
+    except (OSError, ValueError):
+        return None
+    return Mark(found.st_size, found.st_mtime_ns)
+
+
+def entry_of(name: str, form: int, checksum_of: Callable[[], str], known: Entry | None) -> Entry:
+    """Returns the entry of a file: the one that is known, if the file has its mark and this form, or else by the
+    checksum. The new one has a mark if the file was not written meanwhile, or just before."""
+    before, number = mark_of(name), number_of(name)
+    if known and before and (known.mark, known.form) == (before, form):
+        return known
+    checksum = checksum_of()
+    is_sure = before and (mark_of(name), number_of(name)) == (before, number) and before.time < time.time_ns() - FRESH
+    return Entry(name, checksum, form, before if is_sure else None)
+
+
+def number_of(name: str) -> tuple[int, int] | None:
+    """Returns the device and the number of a file, which links to it share, or None if there is no such file."""
+    try:
+        found = os.stat(name)
+    except (OSError, ValueError):
+        return None
+    return found.st_dev, found.st_ino
+
+
+def text_of(entries: Iterable[Entry], form: int, has_marks: bool = False) -> str:
+    """Returns the text of a manifest in one form, with the marks of the files or without them."""
+    lines = [] if form == 1 else [f"# form {form}\n"]
+    for it in entries:
+        if has_marks and it.mark:
+            lines.append(f"# file {it.mark.size} {it.mark.time}\n")
+        lines.append(line_with(it.name, before=f"{it.checksum}  "))
+    return "".join(lines)
 
 
 def entries_of(text: str) -> list[Entry]:
     """Returns the entries of a manifest. Raises ValueError for a line that a manifest cannot have."""
     found, form = [], 1
+    mark: Mark | None = None
     lines = text.split("\n")
     for line in lines if lines[-1] else lines[:-1]:
-        head, entry = FORM.fullmatch(line), ENTRY.fullmatch(line)
+        head, entry, marked = FORM.fullmatch(line), ENTRY.fullmatch(line), MARK.fullmatch(line)
         name = name_in(entry[1], entry[3]) if entry else None
         if head:
             form = int(head[1])
+        elif marked:
+            mark = Mark(int(marked[1]), int(marked[2]))
         elif entry and name:
-            found.append(Entry(name, entry[2], form))
+            found.append(Entry(name, entry[2], form, mark))
+            mark = None
         else:
             raise ValueError(f"no manifest has the line {line!r}")
     return found
