@@ -401,7 +401,8 @@ def renewed(tally: Tally, _: str) -> None:
     os.utime("set/a.gr", ns=(old, old))
     write("set/b.gr", COSTS)
     wants(tally, "a second one", module(*begin), "", "4 listed, 0 refused, 0 failed, 2 not read again\n", 0)
-    sums = dict(reversed(it.split("  ")) for it in bytes_of("list").decode().splitlines() if "  " in it)
+    lines = [it.partition("  ") for it in bytes_of("list").decode().splitlines()]
+    sums = {name: checksum for checksum, _, name in lines if name}
     roads, costs = dnorm.checksum(ROADS), dnorm.checksum(COSTS)
     tally.same("its sums", sums, {"set/a.gr": roads, "set/b.gr": costs, "set/c.gr": roads, "set/d.gr": roads})
     tally.same("marks of fresh files", bytes_of("list").count(b"# file"), 2)
