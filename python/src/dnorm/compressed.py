@@ -7,7 +7,7 @@ import importlib
 from collections.abc import Callable, Iterator
 from typing import Any, BinaryIO, Protocol
 
-from .names import ending_of, unknown_compression, unknown_text
+from .names import OTHERS, ending_of, unknown_compression, unknown_text
 
 # The number of bytes that are read and written at a time.
 SIZE = 1 << 16
@@ -161,8 +161,10 @@ COMPRESSORS: dict[str, Callable[[BinaryIO], Compressed]] = {
 def decompressor_of(name: str) -> Callable[[], Stream] | None:
     """Returns how the file of this name is decompressed, or None if it is plain. Raises OSError for a compression that
     is not read."""
-    raise_for(unknown_compression(name))
-    return DECOMPRESSORS.get(ending_of(name))
+    ending = ending_of(name)
+    if ending in DECOMPRESSORS or ending in OTHERS:
+        raise_for(unknown_compression(name))
+    return DECOMPRESSORS.get(ending)
 
 
 def compressor_of(name: str) -> Callable[[BinaryIO], Compressed] | None:

@@ -173,7 +173,7 @@ class Workers(Generic[Item, Result]):
         """Returns the result of this item, or raises what its task has raised."""
         if not self._threads:
             self._do(at)
-        elif time.monotonic() - self._start > at * SOON:
+        elif time.monotonic() - self._start > LONG + at * SOON:
             self._start_thread()
         with self._changed:
             self._wanted = at

@@ -22,8 +22,9 @@ MINIFIED = re.compile(r"\.min\.(?:[cm]?js|css|html?|svg|json)(?:\.map)?(?:\.gz|\
 
 
 def ending_of(name: str) -> str:
-    """Returns the ending of a name in small letters, as `.gz`."""
-    return os.path.splitext(name)[1].lower()
+    """Returns the ending of a name in small letters, as `.gz`. Dots that begin a name begin no ending."""
+    before, dot, ending = name[name.rfind("/") + 1 :].rpartition(".")
+    return f".{ending.lower()}" if dot and before.strip(".") else ""
 
 
 def parts_of(name: str) -> tuple[str, str]:
@@ -49,7 +50,7 @@ def unknown_compression(name: str) -> str:
     """Returns why a file of this name is not decompressed, or nothing if it is, or if it is not compressed."""
     ending = ending_of(name)
     if ending in COMPRESSIONS:
-        inner = ending_of(os.path.splitext(name)[0])
+        inner = ending_of(name[: -len(ending)])
         return f"{inner}{ending} is not supported" if inner in COMPRESSIONS or inner in OTHERS else ""
     return f"{OTHERS[ending]} is not supported" if ending in OTHERS else ""
 
