@@ -9,7 +9,6 @@ from typing import Any, Optional, Union
 
 from .calls import canon_into, check_form
 from .columns import Growing
-from .digits import Digits
 from .errors import Unexpected
 from .files import File, Sink, Text, enough_memory, name_of
 from .instances import AnyInstance, Co, Max, Min, P2p, Sp, Ss
@@ -63,7 +62,6 @@ class Reader:
             raise ValueError(text)
         self.kind, self.nodes, self.declared = (found[1] or found[3]).decode(), int(found[2] or 0), int(found[4])
         self.columns = [Growing() for _ in range(COUNTED[self.kind][1])]
-        self._digits = Digits(*COUNTED[self.kind])
         self._head = found[0]
         return text[found.end() :]
 
@@ -84,7 +82,7 @@ class Reader:
 
     def _counted(self, text: bytes) -> None:
         """Reads counted lines, all at once."""
-        found = self._digits.columns(text) or self._numbers(text)
+        found = self._numbers(text)
         self.counted += len(found[0])
         for column, numbers in zip(self.columns, found):
             column.extend(numbers)
