@@ -12,6 +12,7 @@ import os
 import pickle
 import random
 import sys
+import warnings
 from array import array
 from collections.abc import Callable
 from concurrent.futures import ThreadPoolExecutor
@@ -263,6 +264,12 @@ def faulty(tally: Tally, _: str) -> None:
     for attributes, wanted in rows:
         found = told(lambda: dnorm.write(arrays(attributes), "roads.gr"))
         tally.same(f"write {attributes}", (found, bytes_of("roads.gr")), (wanted, ROADS_CANON))
+    with warnings.catch_warnings(record=True) as seen:
+        warnings.simplefilter("always")
+        for name in ["flow.gr.gz", "flow.min", "flow.txt"]:
+            dnorm.write(dnorm.read(FLOW), name)
+    told_ = ["flow.gr.gz: its ending is that of sp, not of min"]
+    tally.same("a name of another kind", [str(it.message) for it in seen], told_)
     large = arrays({"nodes": 1, **dict.fromkeys(["tails", "heads", "lengths"], [1] * 300_000)})
     dnorm.write(large, "large.gr")
     tally.same("many arcs", dnorm.canon("large.gr"), b"p sp 1 1\na 1 1 1\n")

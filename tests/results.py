@@ -11,6 +11,7 @@ import os
 import pickle
 import random
 import re
+import signal
 import sys
 import time
 from collections.abc import Callable
@@ -332,6 +333,14 @@ def time_limits(tally: Tally, _: str) -> None:
         waiting = [*rows]
         before(tally, waiting)
     before(tally, rows)
+    kept = signal.signal(signal.SIGALRM, ring)
+    signal.setitimer(signal.ITIMER_REAL, 0.2)
+    try:
+        dnorm.check("pipe.gr")
+        tally.fail("a FIFO is opened")
+    except TimeoutError as error:
+        tally.same("an alarm while a FIFO is opened", str(error), "mine")
+    signal.signal(signal.SIGALRM, kept)
     in_time = [
         dnorm.check("t.gr", timeout=60).kind,
         dnorm.canon("t.gr", timeout=60),
@@ -341,6 +350,10 @@ def time_limits(tally: Tally, _: str) -> None:
     found = module("check", "--timeout", "0.5", "t.gr", "pipe.gr")
     lines = "pipe.gr: took more than 0.5 seconds\n"
     wants(tally, "--timeout", found, f"{lines}t.gr: accepted sp\n", f"{lines}1 accepted, 0 refused, 1 failed\n", 4)
+
+
+def ring(*_: object) -> None:
+    raise TimeoutError("mine")
 
 
 class SlowLibrary:

@@ -28,8 +28,9 @@ many lines are declared and found, what the first bytes mean, and a command that
 The second form runs dnorm with these words, and also explains a command line that is refused. The status is that of
 dnorm, as its lines tell it; of several runs, the greatest one.
 """
-REFUSED_LINE = re.compile(r"(.*):([0-9]+|end): ([12]?[0-9]) [A-Za-z]+")
-OTHER_LINE = re.compile(r"(.*): 3([0-6]) [A-Za-z]+(?: ([0-9]+))?")
+# A name may have LF.
+REFUSED_LINE = re.compile(r"(.*):([0-9]+|end): ([12]?[0-9]) [A-Za-z]+", re.S)
+OTHER_LINE = re.compile(r"(.*): 3([0-6]) [A-Za-z]+(?: ([0-9]+))?", re.S)
 WRONG = ("dnorm: bad command line", "dnorm: standard input named twice")
 # The options of each command with the number of its files, and the values that options take.
 COMMANDS: dict[str, tuple[list[str], int]] = {
@@ -77,9 +78,16 @@ def explain_run(words: Sequence[str]) -> int:
         ran = subprocess.run([*program, *words], stderr=subprocess.PIPE, check=False)
     except OSError as error:
         raise NoProgram(program[0], reason_of(error)) from error
-    for told in os.fsdecode(ran.stderr).splitlines():
+    for told in lines_of(os.fsdecode(ran.stderr)):
         say(2, told, wrong_words(words) if told == WRONG[0] else causes_of(told))
     return ran.returncode if ran.returncode >= 0 else 128 - ran.returncode
+
+
+def lines_of(said: str) -> list[str]:
+    """Returns the lines on standard error of a run, or the one that names a file with LF in its name."""
+    whole = said.removesuffix("\n")
+    found = REFUSED_LINE.fullmatch(whole) or OTHER_LINE.fullmatch(whole)
+    return [whole] if found and os.path.lexists(found[1]) else said.splitlines()
 
 
 def status_of(told: str) -> int:

@@ -56,13 +56,16 @@ def reason_of(error: Exception) -> str:
 
 @contextlib.contextmanager
 def failing(kind: type[Read] | type[Write], name: str) -> Iterator[None]:
-    """Raises an error of this kind if anything fails, with the reason. Errors of this package, wrong types and lack of
-    memory stay what they are."""
+    """Raises an error of this kind if anything fails, with the reason. Errors of this package, wrong types, lack of
+    memory, and the error of a handler of an alarm stay what they are."""
     try:
         yield
     except (DnormError, TypeError, MemoryError):
         raise
     except Exception as error:
+        # That of the system has a number.
+        if isinstance(error, TimeoutError) and error.errno is None:
+            raise
         raise kind(name, reason_of(error)) from error
 
 
