@@ -31,8 +31,8 @@ def write(instance: Instance, target: Target, *, program: Program = None, timeou
     """Writes a text that poses the problem of an instance, with its arcs or items in their order, to a path or a binary
     stream, as `canon_to` does. The text of an instance that was read is the canonical text.
 
-    A path whose ending is that of another kind leads to a warning. The program reads the text as well. If the text has a
-    fault, as a node that the graph does not have, `Refused` is raised with the line, and a path keeps what it had."""
+    A path whose ending is that of another kind leads to a warning. The program reads the text as well. If the text has
+    a fault, as a node that the graph does not have, `Refused` is raised with the line, and a path keeps what it had."""
     if not isinstance(instance, Instance):
         raise TypeError(f"write takes an instance, and then a target, and not {type(instance).__name__}")
     expected = KINDS.get(parts_of(name_of(target))[1], instance.kind)
