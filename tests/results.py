@@ -28,6 +28,7 @@ from shared import LIMIT, ROOT, Tally, bytes_of, python_with, run, terminal, wri
 from texts import lines_of, made, spelled
 
 import dnorm
+import dnorm.reader
 from dnorm.files import Text
 from dnorm.library import Status, instance_of
 from dnorm.limits import Limit
@@ -356,6 +357,10 @@ def ring(*_: object) -> None:
     raise TimeoutError("mine")
 
 
+def lack_memory(*_: object) -> None:
+    raise MemoryError
+
+
 class SlowLibrary:
     """Stands for a library whose last step takes a second. It says how often it was freed."""
 
@@ -384,6 +389,10 @@ def long_steps(tally: Tally, _: str) -> None:
     tally.holds(f"it takes {took} s", took < 0.6)
     time.sleep(1)
     tally.same("it is freed once", library.freed, 1)
+    kept = dnorm.reader.instance
+    setattr(dnorm.reader, "instance", lack_memory)
+    tally.same("little memory for columns", told(lambda: dnorm.read(ROADS)), "Memory: -: 30 Memory")
+    setattr(dnorm.reader, "instance", kept)
     tally.same(
         "a limit below 0", told(lambda: dnorm.check(ROADS, timeout=-1)), "ValueError: timeout is at least 0, and not -1"
     )
