@@ -101,34 +101,37 @@ def workflow(tally: Tally, tested: str) -> None:
     tally.same("a release with another checksum", (len(found), found[0].status), (1, 1))
 
 
+# Names of files, and whether the hook for pre-commit looks at them.
+CHOSEN = {
+    "a.gr": True,
+    "a/b.min.gz": True,
+    "a.co.xz": True,
+    "A.GR": True,
+    "a.Gr.BZ2": True,
+    "a.gr.zip": True,
+    "a.co.zst": True,
+    "a.min.Z": True,
+    "a.gr.zipped": True,
+    "a.gr.gz.gz": True,
+    "a.gr.lzma": True,
+    "a.gr.": True,
+    "a.gr.d/notes.txt": False,
+    "jquery.min.js": False,
+    "page.MIN.css.map": False,
+    "a.min.jsx": True,
+    "agr": False,
+    "a.grx": False,
+    "a.gz": False,
+}
+
+
 def pre_commit(tally: Tally, _: str) -> None:
     """Tests the hook for pre-commit: which files it names, and how it is called."""
     fields = {name: value.strip("'") for name, value in FIELD.findall(text_of(HOOKS))}
     wanted = {"id": "dnorm", "language": "script", "require_serial": "true"}
     tally.same("the hook", {it: fields.get(it) for it in wanted}, wanted)
-    names = {
-        "a.gr": True,
-        "a/b.min.gz": True,
-        "a.co.xz": True,
-        "A.GR": True,
-        "a.Gr.BZ2": True,
-        "a.gr.zip": True,
-        "a.co.zst": True,
-        "a.min.Z": True,
-        "a.gr.zipped": True,
-        "a.gr.gz.gz": True,
-        "a.gr.lzma": True,
-        "a.gr.": True,
-        "a.gr.d/notes.txt": False,
-        "jquery.min.js": False,
-        "page.MIN.css.map": False,
-        "a.min.jsx": True,
-        "agr": False,
-        "a.grx": False,
-        "a.gz": False,
-    }
-    found_ = {it: bool(re.search(fields["files"], it) and not re.search(fields["exclude"], it)) for it in names}
-    tally.same("its files", found_, names)
+    found_ = {it: bool(re.search(fields["files"], it) and not re.search(fields["exclude"], it)) for it in CHOSEN}
+    tally.same("its files", found_, CHOSEN)
     tally.same("its types", [fields["types"], fields["types_or"]], ["[]", "[file, symlink]"])
     script = f"{ROOT}/{fields['entry']}"
     environment = {it: value for it, value in os.environ.items() if it != "PYTHONPATH"}

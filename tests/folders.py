@@ -294,11 +294,8 @@ def reports(tally: Tally, _: str) -> None:
         [("failure", bad, f"A max file has no source or no sink.\n{TERMINAL}")],
     )
     lost = {"type": "Read", "message": MISSING[:-1]}
-    tally.same(
-        "a refused line in XML",
-        cases["set/v.co"][0][2],
-        "A file of this kind has no line with this letter.\n" "line 2: s 1",
-    )
+    told = "A file of this kind has no line with this letter.\nline 2: s 1"
+    tally.same("a refused line in XML", cases["set/v.co"][0][2], told)
     tally.same("other files in XML", (cases["missing"], cases["set/a-b.gr"]), ([("error", lost, None)], []))
     for name, reason in {"/dev/full": "No space left on device", "no/x": "No such file or directory"}.items():
         found = module("check", "--junit", name, "set/a")

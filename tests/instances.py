@@ -147,24 +147,14 @@ def own_array(numbers: "array[int]") -> list[Any]:
     return [importlib.import_module("numpy").asarray(numbers)] if has_numpy() else []
 
 
-def constructors(tally: Tally, _: str) -> None:
-    """Tests what constructors and from_arrays take."""
+def checked_numbers(tally: Tally, _: str) -> None:
+    """Tests which numbers beside columns, kinds and arguments are refused."""
     given = arrays({})
     # Their types take none of these.
     graph_of: Any = dnorm.Sp
     write_it: Any = dnorm.write
     ones = (given.tails, given.tails, given.tails)
-    for lengths in [(3,), iter([3]), range(3, 4), given.lengths, [True + 2], given.lengths[:1]]:
-        tally.same(f"lengths {lengths!r}", arrays({"lengths": lengths}), given)
-    other = "and not a list: from_arrays takes other numbers, too"
-    listed: Any = [1]
     rows: list[tuple[Callable[[], object], str]] = [
-        (lambda: dnorm.Sp(2, listed, listed, listed), f"TypeError: tails is an array of 64 signed bits, {other}"),
-        (lambda: arrays({"lengths": [1.5]}), "TypeError: lengths: 'float' object cannot be interpreted as an integer"),
-        (lambda: arrays({"lengths": ["3"]}), "TypeError: lengths: 'str' object cannot be interpreted as an integer"),
-        (lambda: arrays({"lengths": [[3]]}), "TypeError: lengths: 'list' object cannot be interpreted as an integer"),
-        (lambda: arrays({"lengths": [3, 4]}), "ValueError: tails and lengths have 1 and 2 numbers"),
-        (lambda: arrays({"heads": []}), "ValueError: tails and heads have 1 and 0 numbers"),
         (lambda: arrays({"nodes": 3.0}), "TypeError: nodes: 'float' object cannot be interpreted as an integer"),
         (
             lambda: arrays({"nodes": "3 1\na 1 1 9\nc"}),
@@ -190,6 +180,25 @@ def constructors(tally: Tally, _: str) -> None:
             "ValueError: supplies has node 0, which is none of 1 to 2: nodes count from 1",
         ),
         (lambda: write_it("a.gr", given), "TypeError: write takes an instance, and then a target, and not str"),
+    ]
+    for call, wanted in rows:
+        tally.same(wanted, told(call), wanted)
+
+
+def constructors(tally: Tally, _: str) -> None:
+    """Tests what constructors and from_arrays take."""
+    given = arrays({})
+    for lengths in [(3,), iter([3]), range(3, 4), given.lengths, [True + 2], given.lengths[:1]]:
+        tally.same(f"lengths {lengths!r}", arrays({"lengths": lengths}), given)
+    other = "and not a list: from_arrays takes other numbers, too"
+    listed: Any = [1]
+    rows: list[tuple[Callable[[], object], str]] = [
+        (lambda: dnorm.Sp(2, listed, listed, listed), f"TypeError: tails is an array of 64 signed bits, {other}"),
+        (lambda: arrays({"lengths": [1.5]}), "TypeError: lengths: 'float' object cannot be interpreted as an integer"),
+        (lambda: arrays({"lengths": ["3"]}), "TypeError: lengths: 'str' object cannot be interpreted as an integer"),
+        (lambda: arrays({"lengths": [[3]]}), "TypeError: lengths: 'list' object cannot be interpreted as an integer"),
+        (lambda: arrays({"lengths": [3, 4]}), "ValueError: tails and lengths have 1 and 2 numbers"),
+        (lambda: arrays({"heads": []}), "ValueError: tails and heads have 1 and 0 numbers"),
     ]
     for call, wanted in rows:
         tally.same(wanted, told(call), wanted)
@@ -287,4 +296,4 @@ def typed(tally: Tally, _: str) -> None:
     tally.same("tests/typed.py", (found.out.decode(), found.err, found.status), (wanted, b"", 0))
 
 
-TESTS = [values, constructors, notebooks, written, faulty, typed]
+TESTS = [values, constructors, checked_numbers, notebooks, written, faulty, typed]

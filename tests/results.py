@@ -581,15 +581,6 @@ def comparisons(tally: Tally, tested: str) -> None:
         wants(tally, f"compare with {text!r}", found, wanted, "", first.status)
     write("right", CHANGED[5][0])
     found = module("compare", "--limit", "0", "left", "right")
-    record = json.loads(module("compare", "--json", "--limit", "1", "left", "right").out)
-    wanted_ = (False, "differ nodes 3 4", 3, [["nodes", 3, 4]], [1, 2])
-    told_ = (record["same"], record["first"], record["different"], record["values"], record["pairs"][0]["key"])
-    tally.same("compare --json", told_, wanted_)
-    for words, status in [("left right", 1), ("left left", 0)]:
-        wants(tally, f"compare -q {words}", module("compare", "-q", *words.split()), "", "", status)
-    for words in ["- left", "left -"]:
-        piped = module("compare", "-q", *words.split(), given=bytes_of("left"))
-        wants(tally, f"compare -q {words}", piped, "", "", 0)
     tally.same("compare --limit 0", (len(found.out.splitlines()), found.status), (4, 1))
     write("right", costly({(2, 1): "2 40 331", (3, 2): "0 7 1", (3, 1): "0 5 2"}))
     for limit, turned in [("1", "1 2, .."), ("2", "1 2, 2 3")]:
@@ -615,6 +606,21 @@ def comparisons(tally: Tally, tested: str) -> None:
     short = "<dnorm.Differences: differ pair 1 2 length 3 none, only_left=5, only_right=0, both=0, different=0>"
     tally.same("the repr of differences", repr(dnorm.differences(ROADS, b"p sp 3 0\n")), short)
     tally.same("a companion's repr", repr(dnorm.show(b"p aux sp ss 0\n")), "<dnorm.Shown: kind='ss', lines=0>")
+
+
+def compared_quietly(tally: Tally, _: str) -> None:
+    """Tests `compare` as JSON, without output, and with standard input."""
+    write("left", costly(ARCS))
+    write("right", CHANGED[5][0])
+    record = json.loads(module("compare", "--json", "--limit", "1", "left", "right").out)
+    wanted_ = (False, "differ nodes 3 4", 3, [["nodes", 3, 4]], [1, 2])
+    told_ = (record["same"], record["first"], record["different"], record["values"], record["pairs"][0]["key"])
+    tally.same("compare --json", told_, wanted_)
+    for words, status in [("left right", 1), ("left left", 0)]:
+        wants(tally, f"compare -q {words}", module("compare", "-q", *words.split()), "", "", status)
+    for words in ["- left", "left -"]:
+        piped = module("compare", "-q", *words.split(), given=bytes_of("left"))
+        wants(tally, f"compare -q {words}", piped, "", "", 0)
 
 
 def by_pair(text: Known) -> dict[tuple[str, ...], list[list[str]]]:
@@ -667,4 +673,4 @@ TESTS: list[Callable[[Tally, str], None]] = [
     links,
     on_terminal,
 ]
-TESTS += [lists, comparisons, summaries]
+TESTS += [lists, comparisons, compared_quietly, summaries]

@@ -30,7 +30,8 @@ SEED, ROUNDS, NETWORKS = 56, 12, 200
 OPTIMUM = re.compile(rb"^Objective: .*?(\S+) \(M", re.M)
 networkx: Any = importlib.import_module("networkx")
 # Tests of instances that this Python runs with numpy.
-OF_INSTANCES = [instances.values, instances.constructors, instances.notebooks, instances.faulty]
+OF_INSTANCES = [instances.values, instances.constructors, instances.checked_numbers, instances.notebooks]
+OF_INSTANCES += [instances.faulty]
 csgraph: Any = importlib.import_module("scipy.sparse.csgraph")
 optimize: Any = importlib.import_module("scipy.optimize")
 

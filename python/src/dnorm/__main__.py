@@ -206,6 +206,16 @@ def stop(number: int, _: object) -> NoReturn:
     raise Stopped(number)
 
 
+def end_by(number: int, run: Run | None) -> None:
+    """Ends this process by a signal, once the run has printed what it knows. Another signal ends it at once."""
+    for it in {*SIGNALS, number}:
+        signal.signal(it, signal.SIG_DFL)
+    if run and number in SIGNALS:
+        with contextlib.suppress(DnormError, Stopped):
+            run.stop()
+    os.kill(os.getpid(), number)
+
+
 def has_output() -> bool:
     """Whether standard output is open. No file that is opened later gets the number of a standard stream."""
     try:
@@ -246,13 +256,7 @@ def main(words: Sequence[str] | None = None) -> int:
         return run.status
     except Stopped as stopped:
         console.hide()
-        # Another signal ends the run at once.
-        for number in {*SIGNALS, stopped.number}:
-            signal.signal(number, signal.SIG_DFL)
-        if run and stopped.number in SIGNALS:
-            with contextlib.suppress(DnormError, Stopped):
-                run.stop()
-        os.kill(os.getpid(), stopped.number)
+        end_by(stopped.number, run)
         return FAILED
     except DnormError as error:
         console.complain(line_of(error.name, error) + "".join(f"    {it}\n" for it in cause_of(error)))

@@ -69,11 +69,7 @@ def from_networkx(
     made = class_of(kind)
     if made not in (Sp, Max, Min):
         raise TypeError(f"from_networkx makes Sp, Max and Min, and not {made.__name__}")
-    if not graph.is_directed():
-        raise ValueError("the graph is undirected: graph.to_directed() has an arc in each direction")
-    count = len(graph)
-    if set(graph) != set(range(1, count + 1)):
-        raise ValueError(f"the {count} nodes are not the numbers 1 to {count}")
+    count = count_of_nodes(graph)
     edges = list(graph.edges(data=True))
     values: dict[str, Any] = {"nodes": count}
     values.update(tails=[tail for tail, _, _ in edges], heads=[head for _, head, _ in edges])
@@ -86,6 +82,16 @@ def from_networkx(
     lows = [operator.index(data.get(low, 0)) for _, _, data in edges]
     values.update(supplies=supplies_of(graph, lows, demand), costs=weights_of(edges, weight, 0))
     return from_arrays(Min, lows=lows, caps=[it + more for it, more in zip(lows, capacities)], **values)
+
+
+def count_of_nodes(graph: Any) -> int:
+    """Returns how many nodes a directed graph has, if these are the numbers from 1 on."""
+    if not graph.is_directed():
+        raise ValueError("the graph is undirected: graph.to_directed() has an arc in each direction")
+    count = len(graph)
+    if set(graph) != set(range(1, count + 1)):
+        raise ValueError(f"the {count} nodes are not the numbers 1 to {count}")
+    return count
 
 
 Edges = list[tuple[Any, Any, dict[str, Any]]]
