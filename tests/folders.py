@@ -180,7 +180,7 @@ def checks(tally: Tally, _: str) -> None:
     for words in WRONG:
         found = module(*words.split())
         command = f"{words.split()[0]} " if words.split()[:1] and words.split()[0] in COMMANDS else ""
-        begin = f"usage: python3 -m dnorm {command}".encode()
+        begin = f"usage: dnorm-files {command}".encode()
         tally.same(words, (found.out, found.status, found.err[: len(begin)]), (b"", 3, begin))
     for words in ["-h", "--help", *(f"{it} {option}" for it in COMMANDS for option in ("-h", "--help"))]:
         found = module(*words.split())

@@ -1,4 +1,4 @@
-"""The command line: `python3 -m dnorm`."""
+"""The command line: `dnorm-files`, which is `python3 -m dnorm`."""
 
 from __future__ import annotations
 
@@ -11,14 +11,14 @@ import traceback
 from collections.abc import Callable, Sequence
 from typing import Any, NoReturn
 
-from . import __version__
+from . import __version__, canon_in_parts
 from .commands import FAILED, REFUSED, USAGE, Run
 from .errors import DnormError, Read, Refused, Write
 from .explain import explained
 from .files import failing
 from .names import ENDINGS
 from .program import processors, version
-from .reports import Console, Stopped, cause_of, for_terminal, line_of
+from .reports import SIGNALS, Console, Stopped, cause_of, for_terminal, has_output, line_of, stop
 from .suite import suite
 
 ABOUT = "Runs the program dnorm on many files at the same time."
@@ -36,7 +36,6 @@ OTHER_COMMANDS = {it: f"{it} is a command of the program: dnorm {it} FILE" for i
 OTHER_COMMANDS |= {it: f"{it} is an option here: --{it}" for it in ("help", "version")}
 FORMATS = ("text", "json", "github", "sarif")
 EACH = "by default one for each processor"
-SIGNALS = (signal.SIGINT, signal.SIGTERM, signal.SIGHUP)
 TASKS = {
     "check": "Checks files, and prints a line for each: NAME: accepted KIND, or the refusal.",
     "manifest": "Prints the checksum of the canonical text of each file, or verifies such checksums.",
@@ -58,7 +57,7 @@ class Parser(argparse.ArgumentParser):
 def parser() -> Parser:
     """Returns the parser of the command line."""
     layout: dict[str, Any] = {"formatter_class": argparse.RawDescriptionHelpFormatter, "epilog": STATUSES}
-    top = Parser(prog="python3 -m dnorm", description=ABOUT, allow_abbrev=False, **layout)
+    top = Parser(prog="dnorm-files", description=ABOUT, allow_abbrev=False, **layout)
     top.add_argument("-V", "--version", action="version", version=f"dnorm for Python {__version__}")
     tasks = top.add_subparsers(dest="task", required=True, metavar="COMMAND")
     for task, about in TASKS.items():
@@ -74,6 +73,8 @@ def parser() -> Parser:
             add_runs(one)
     about = "Runs the conformance suite on a reader of these formats; 'conformance --help' describes it."
     tasks.add_parser("conformance", help=about, add_help=False)
+    about = "Writes the canonical text of a graph that is larger than memory; 'parts --help' describes it."
+    tasks.add_parser("parts", help=about, add_help=False)
     return top
 
 
@@ -199,13 +200,6 @@ def named(found: argparse.Namespace) -> list[str]:
     return paths
 
 
-def stop(number: int, _: object) -> NoReturn:
-    """Handles a signal. A second one must not disturb how the run ends."""
-    for it in SIGNALS:
-        signal.signal(it, signal.SIG_IGN)
-    raise Stopped(number)
-
-
 def end_by(number: int, run: Run | None) -> None:
     """Ends this process by a signal, once the run has printed what it knows. Another signal ends it at once."""
     for it in {*SIGNALS, number}:
@@ -214,19 +208,6 @@ def end_by(number: int, run: Run | None) -> None:
         with contextlib.suppress(DnormError, Stopped):
             run.stop()
     os.kill(os.getpid(), number)
-
-
-def has_output() -> bool:
-    """Whether standard output is open. No file that is opened later gets the number of a standard stream."""
-    try:
-        os.fstat(1)
-        is_open = True
-    except OSError:
-        is_open = False
-    while (fd := os.open(os.devnull, os.O_RDWR)) <= 2:
-        pass
-    os.close(fd)
-    return is_open
 
 
 def main(words: Sequence[str] | None = None) -> int:
@@ -238,6 +219,8 @@ def main(words: Sequence[str] | None = None) -> int:
     if words[:1] == ["conformance"]:
         status: int = suite().main(words[1:])
         return status
+    if words[:1] == ["parts"]:
+        return canon_in_parts.main(words[1:], canon_in_parts.Anywhere())
     is_open = has_output()
     found = parsed(words)
     console, run = Console(), None

@@ -13,13 +13,12 @@ import tempfile
 from collections.abc import Callable, Iterator, Sequence
 from typing import NoReturn
 
-from .__main__ import SIGNALS, has_output, stop
 from .errors import DnormError
 from .files import reason_of
 from .machines import Jobs
 from .parts import Ended, Options, Parts, fail
-from .program import children, processors
-from .reports import Console, Stopped
+from .program import children, command, processors
+from .reports import SIGNALS, Console, Stopped, has_output, stop
 
 USAGE = """\
 Writes the canonical text of a graph in parts: the bytes that `dnorm canon FILE` writes, without a process that keeps
@@ -135,6 +134,20 @@ class Place:
         return beside if os.access(beside, os.X_OK) else f"{self.root}/dnorm"
 
 
+class Anywhere(Place):
+    """Where the package finds the program."""
+
+    def __init__(self) -> None:
+        super().__init__("", "")
+
+    def program(self) -> str:
+        """Returns the path of the program."""
+        words = command(None)
+        if len(words) > 1:
+            raise fail(3, "--program names the program itself, and not a command that runs it")
+        return words[0]
+
+
 def version_of(program: str) -> str:
     """Returns what a program prints as its version."""
     try:
@@ -221,8 +234,8 @@ def open_input(name: str, has_input: bool) -> None:
         raise Ended(4, f"{name}: 31 Read") from None
 
 
-def main(words: Sequence[str], here: str, root: str) -> int:
-    """Runs the script that is in the folder `here`, which is in `root`, and returns the exit status."""
+def main(words: Sequence[str], place: Place) -> int:
+    """Runs the command with the program of this place, and returns the exit status."""
     try:
         os.fstat(0)
         has_input = True
@@ -235,7 +248,7 @@ def main(words: Sequence[str], here: str, root: str) -> int:
             signal.signal(it, stop)
     status, line = 0, ""
     try:
-        run(words, Place(here, root), has_input, is_open)
+        run(words, place, has_input, is_open)
     except Ended as ended:
         status, line = ended.status, ended.line
     except Stopped as stopped:

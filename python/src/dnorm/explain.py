@@ -184,7 +184,7 @@ def wrong_files(command: str, files: Sequence[str], wanted: int) -> Iterator[str
     elif len(files) != wanted:
         more = "; - is standard input" if len(files) < wanted else ""
         if command == "check" and len(files) > 1:
-            more = "; for several: python3 -m dnorm check FILES.."
+            more = "; for several: dnorm-files check FILES.."
         yield f"{command} takes {'two files' if wanted == 2 else 'one file'}, and not {len(files)}{more}"
 
 

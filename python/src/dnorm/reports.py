@@ -10,7 +10,7 @@ import signal
 import threading
 import time
 from collections.abc import Sequence
-from typing import NamedTuple, Union
+from typing import NamedTuple, NoReturn, Union
 from urllib.parse import quote
 from xml.etree import ElementTree
 
@@ -37,6 +37,30 @@ class Stopped(BaseException):
     def __init__(self, number: int) -> None:
         super().__init__(number)
         self.number = number
+
+
+# The signals that end a run.
+SIGNALS = (signal.SIGINT, signal.SIGTERM, signal.SIGHUP)
+
+
+def stop(number: int, _: object) -> NoReturn:
+    """Handles a signal. A second one must not disturb how the run ends."""
+    for it in SIGNALS:
+        signal.signal(it, signal.SIG_IGN)
+    raise Stopped(number)
+
+
+def has_output() -> bool:
+    """Whether standard output is open. No file that is opened later gets the number of a standard stream."""
+    try:
+        os.fstat(1)
+        is_open = True
+    except OSError:
+        is_open = False
+    while (fd := os.open(os.devnull, os.O_RDWR)) <= 2:
+        pass
+    os.close(fd)
+    return is_open
 
 
 # The columns of a full progress bar, and the time between two drawings in seconds.
