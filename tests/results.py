@@ -19,8 +19,8 @@ from typing import Any
 from xml.etree import ElementTree
 
 from calls import COMPRESS, fake, told
+from collection import zstd
 from folders import ENVIRONMENT, make, module, started, wants
-from guards import zstd
 from known import COSTS, FLOWS, ROADS, ROADS_CANON
 from reading import Fault, canonical, read
 from reading import Text as Known
