@@ -21,7 +21,7 @@ from .handles import canonical_sum
 from .library import instance_of, library_of
 from .limits import Limit
 from .listing import Listed, listed, record_of_listed, row_of, table, text_of_listed
-from .manifests import Entry, entries_of, entry_of, text_of
+from .manifests import Entry, entries_of, entry_of, state_of, text_of
 from .reports import Case, Console, annotation_of, as_json, cause_of, junit, line_of, line_with, record_of, sarif
 from .summary import differences, lines_of_differences, record_of_differences
 
@@ -237,7 +237,7 @@ class Run:
             if file not in group or os.path.islink(group[file]) and not os.path.islink(name):
                 group[file] = name
 
-        self.each_file(self.found(), lambda name: (self.checksum_of(name), identity(name)), take)
+        self.each_file(self.found(), lambda name: (self.checksum_of(name), state_of(name).identity), take)
         found = [(sum_, sorted(it.values(), key=os.fsencode)) for sum_, it in groups.items() if len(it) > 1]
         if self.words.json:
             self.console.print("".join(as_json({"checksum": sum_, "names": names}) for sum_, names in found))
@@ -400,9 +400,3 @@ def as_listed(it: Listed, words: Namespace, is_first: bool) -> str:
     if words.csv:
         return table([row_of(it)], is_first)
     return line_with(it.name, after=f": {it.kind}") + text_of_listed(it)
-
-
-def identity(name: str) -> tuple[int, int]:
-    """Returns the device and the number of a file, which links to it share."""
-    found = os.stat(name)
-    return found.st_dev, found.st_ino

@@ -9,6 +9,8 @@ import time
 from collections.abc import Callable, Iterable
 from typing import NamedTuple, Optional
 
+from .errors import Read
+from .files import failing
 from .reports import line_with, name_in
 
 # The line that says the form of the checksums after it. Without one, the form is 1.
@@ -36,33 +38,30 @@ class Entry(NamedTuple):
     mark: Optional[Mark] = None
 
 
-def mark_of(name: str) -> Mark | None:
-    """Returns the mark of a file, or None if there is no such file."""
-    try:
-        found = os.stat(name)
-    except (OSError, ValueError):
-        return None
-    return Mark(found.st_size, found.st_mtime_ns)
+class State(NamedTuple):
+    """The mark of a file, and the device and the number of the file, which links to it share."""
+
+    mark: Mark
+    identity: tuple[int, int]
+
+
+def state_of(name: str) -> State:
+    """Returns the state of a file. Raises OSError if there is no such file."""
+    found = os.stat(name)
+    return State(Mark(found.st_size, found.st_mtime_ns), (found.st_dev, found.st_ino))
 
 
 def entry_of(name: str, form: int, checksum_of: Callable[[], str], known: Entry | None) -> Entry:
     """Returns the entry of a file: the one that is known, if the file has its mark and this form, or else by the
     checksum. The new one has a mark if the file was not written meanwhile, or just before."""
-    before, number = mark_of(name), number_of(name)
-    if known and before and (known.mark, known.form) == (before, form):
+    with failing(Read, name):
+        before = state_of(name)
+    if known and (known.mark, known.form) == (before.mark, form):
         return known
     checksum = checksum_of()
-    is_sure = before and (mark_of(name), number_of(name)) == (before, number) and before.time < time.time_ns() - FRESH
-    return Entry(name, checksum, form, before if is_sure else None)
-
-
-def number_of(name: str) -> tuple[int, int] | None:
-    """Returns the device and the number of a file, which links to it share, or None if there is no such file."""
-    try:
-        found = os.stat(name)
-    except (OSError, ValueError):
-        return None
-    return found.st_dev, found.st_ino
+    with failing(Read, name):
+        is_sure = state_of(name) == before and before.mark.time < time.time_ns() - FRESH
+    return Entry(name, checksum, form, before.mark if is_sure else None)
 
 
 def text_of(entries: Iterable[Entry], form: int, has_marks: bool = False) -> str:
