@@ -193,6 +193,7 @@ def compressions(tally: Tally, _: str) -> None:
         tally.same(f"canon_to {end.upper()}", bytes_of(f"t{end.upper()}")[:3], compress(ROADS_CANON)[:3])
         tally.same(f"canon {end.upper()}", told(lambda: dnorm.canon(f"t{end.upper()}")), ROADS_CANON.decode())
     unknown = {".Z": "compress", ".z": "compress", ".lz4": "lz4", ".zip": "zip", ".BR": "brotli", ".7z": "7-Zip"}
+    unknown |= {".lzma": "lzma", ".zstd": ".zstd", ".tgz": ".tgz", ".gz.xz": ".gz.xz", ".tar.gz": ".tar.gz"}
     for end, what in unknown.items():
         write(f"t{end}", ROADS)
         for name in [f"t{end}", f"none{end}"]:
@@ -207,6 +208,14 @@ def compressions(tally: Tally, _: str) -> None:
     tally.same(
         "no other file", sorted(os.listdir(".")), sorted([*(f"t{it}" for it in unknown), "t.GZ", "t.BZ2", "t.XZ"])
     )
+    for name, what in {"t.gr.new": ".new", "t.MIN.txt": ".txt", "t.gr.gz.gz": ".gz.gz", "t.gr.": "."}.items():
+        found = told(lambda: dnorm.canon_to(ROADS, name))
+        tally.same(f"canon_to {name}", found, f"Write: {name}: 33 Write ({what} is not supported)")
+        tally.holds(f"no {name}", not os.path.exists(name))
+    write("t.gr.old", ROADS)
+    tally.same("another name is read", told(lambda: dnorm.check("t.gr.old")), "accepted sp\nforms none\n")
+    dnorm.canon_to(ROADS, "jquery.min.js")
+    tally.same("a page's name", bytes_of("jquery.min.js"), ROADS_CANON)
     zstandard(tally)
 
 
