@@ -19,7 +19,8 @@ seconds raises `TimedOut`.
 A text that the program refuses raises `Refused`, and any other failure another `DnormError`. If reading a text fails,
 or a compressed file is corrupt, no call returns an answer for it.
 
-`python3 -m dnorm` checks and lists folders, makes and verifies checksums of their files, and explains refusals."""
+`dnorm-files`, or `python3 -m dnorm`, checks and lists folders, makes and verifies checksums of their files, and
+explains refusals."""
 
 from .answers import CapacityPair, Checked, CostPair, Difference, LengthPair, Same, Shown
 from .calls import canon, canon_to, check, checksum, compare, show

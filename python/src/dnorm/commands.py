@@ -1,4 +1,4 @@
-"""The commands of `python3 -m dnorm` on many files."""
+"""The commands of `dnorm-files` on many files."""
 
 from __future__ import annotations
 

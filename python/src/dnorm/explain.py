@@ -1,4 +1,4 @@
-"""Explains what the program prints: `python3 -m dnorm explain`, which dnorm-explain runs."""
+"""Explains what the program prints: `dnorm-files explain`, which dnorm-explain runs."""
 
 from __future__ import annotations
 

@@ -1,4 +1,4 @@
-"""What `python3 -m dnorm` prints: a line for each file, a progress bar, and a report for CI services."""
+"""What `dnorm-files` prints: a line for each file, a progress bar, and a report for CI services."""
 
 from __future__ import annotations
 
