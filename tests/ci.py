@@ -121,6 +121,7 @@ CHOSEN = {
     "a.min.jsx": True,
     "agr": False,
     "a.grx": False,
+    "a.grz": True,
     "a.gz": False,
 }
 

@@ -145,6 +145,8 @@ BROKEN: dict[str, tuple[bytes, str]] = {
     "coll/w.gr.br": (b"x", NO),
     "coll/s.gr.7z": (b"7z\xbc\xaf\x27\x1c", NO),
     **{f"coll/f{at}.gr{it}": (GRAPH, NO) for at, it in enumerate(FOLLOWS)},
+    "coll/z.grz": (gzip.compress(GRAPH), NO),
+    "coll/Z.P2PZ": (gzip.compress(GRAPH), NO),
     "coll/alone.gr.xz": (lzma.compress(GRAPH, lzma.FORMAT_ALONE), NO),
     "coll/zipped.gr.gz": (zipped(GRAPH), NO),
     "coll/gzipped.gr.zst": (gzip.compress(GRAPH), NO),

@@ -208,7 +208,13 @@ def compressions(tally: Tally, _: str) -> None:
     tally.same(
         "no other file", sorted(os.listdir(".")), sorted([*(f"t{it}" for it in unknown), "t.GZ", "t.BZ2", "t.XZ"])
     )
-    for name, what in {"t.gr.new": ".new", "t.MIN.txt": ".txt", "t.gr.gz.gz": ".gz.gz", "t.gr.": "."}.items():
+    for name, what in {
+        "t.gr.new": ".new",
+        "t.MIN.txt": ".txt",
+        "t.gr.gz.gz": ".gz.gz",
+        "t.gr.": ".",
+        "t.grz": ".grz",
+    }.items():
         found = told(lambda: dnorm.canon_to(ROADS, name))
         tally.same(f"canon_to {name}", found, f"Write: {name}: 33 Write ({what} is not supported)")
         tally.holds(f"no {name}", not os.path.exists(name))

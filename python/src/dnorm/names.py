@@ -57,8 +57,13 @@ def unknown_compression(name: str) -> str:
 
 def unknown_text(name: str, endings: Sequence[str] = ENDINGS) -> str:
     """Returns why a file of this name is no text, although the ending of one is in the name; or nothing."""
+    if is_text(name, endings):
+        return ""
     lower = os.path.basename(name).lower()
+    # As .svgz is the ending of a compressed .svg.
+    if lower.endswith(tuple(f"{it.lower()}z" for it in endings)):
+        return f"{ending_of(name)} is not supported"
     ends = [at + len(it) for it in endings if (at := lower.rfind(f"{it.lower()}.")) >= 0]
-    if not ends or is_text(name, endings) or MINIFIED.fullmatch(lower, max(ends) - len(".min")):
+    if not ends or MINIFIED.fullmatch(lower, max(ends) - len(".min")):
         return ""
     return unknown_compression(name) or f"{lower[max(ends):]} is not supported"
