@@ -150,24 +150,28 @@ def find_library(program: Program = None) -> Optional[str]:
 
 
 class Instance:
-    """An instance that the library has read: its kind, `nodes`, the number of counted `lines` that were read and of
-    `pairs` with arcs, and its numbers as columns. Calls that may go on after it take its lease."""
-
-    lease: Lease
+    """An instance that the library has read: its kind, `nodes`, and its numbers as columns."""
 
     def __init__(self, library: Library, handle: Any, form: int) -> None:
         self._library, self._handle, self._form = library, handle, form
         facts = library.facts(handle)
         self.kind, self._width = KINDS[facts.kind]
         self.nodes: int = facts.nodes
-        self.lines: int = facts.lines
-        self.pairs: int = facts.pairs
         self._room = max(ROOM, facts.lines // 4 + 1)
+
+    # What calls take that may go on after the instance.
+    lease: Lease
 
     @property
     def handle(self) -> Any:
         """What the functions of the library take."""
         return self._handle
+
+    @property
+    def sizes(self) -> tuple[int, int]:
+        """The numbers of counted lines that were read, and of pairs with arcs."""
+        facts = self._library.facts(self._handle)
+        return facts.lines, facts.pairs
 
     def columns(self) -> list[Any]:
         """Returns the columns of the arcs, or of the items of a companion."""

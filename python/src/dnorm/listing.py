@@ -77,7 +77,7 @@ def listed_by_library(name: str, form: int, library: Library, limit: Limit) -> L
         text = Text(name, stack, limit)
         held = stack.enter_context(instance_of(library, text, form))
         found = canonical_sum(library, held, form, limit)
-        instance, declared = instance_by(held), held.lines
+        instance, (declared, _) = instance_by(held), held.sizes
     return listed_as(name, text.size, instance, declared, found)
 
 

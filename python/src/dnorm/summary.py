@@ -75,7 +75,8 @@ def by_library(library: Library, files: tuple[File, File], limit: Optional[int],
         left, right = (stack.enter_context(instance_of(library, Text(it, stack, time), 2)) for it, stack in stacks)
         first, kind = first_difference(library, left, right, time), left.kind
         if first:
-            found = Differences(first, kind, both=left.pairs if kind in GRAPHS else left.lines)
+            lines, pairs = left.sizes
+            found = Differences(first, kind, both=pairs if kind in GRAPHS else lines)
         elif kind != right.kind:
             found = Differences(first)
         else:
