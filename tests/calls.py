@@ -13,6 +13,7 @@ import os
 import pickle
 import random
 import re
+import signal
 import sys
 from collections.abc import Callable
 from concurrent.futures import ThreadPoolExecutor
@@ -341,6 +342,11 @@ def names(tally: Tally, _: str) -> None:
     tally.same("a number", found, "TypeError: a file is a path, bytes, a binary stream or an instance, and not int")
 
 
+def end_at_once() -> None:
+    """Lets SIGTERM, by which a pool ends its processes, end this one. An exit could wait for another process."""
+    signal.signal(signal.SIGTERM, signal.SIG_DFL)
+
+
 def threads(tally: Tally, _: str) -> None:
     """Tests calls from several threads, and from several processes."""
     texts = [b"p sp %d 0\n" % it for it in range(200)]
@@ -348,7 +354,7 @@ def threads(tally: Tally, _: str) -> None:
         found = list(pool.map(lambda it: (dnorm.canon(it), str(dnorm.compare(it, io.BytesIO(texts[7])))), texts))
     wanted = [(it, "same" if at == 7 else f"differ nodes {at} 7") for at, it in enumerate(texts)]
     tally.same("calls from eight threads", found, wanted)
-    with multiprocessing.get_context("fork").Pool(4) as processes:
+    with multiprocessing.get_context("fork").Pool(4, end_at_once) as processes:
         tally.same("calls from four processes", processes.map(dnorm.canon, texts), texts)
         error = told(lambda: processes.map(dnorm.canon, [*texts, b"x\n"]))
         tally.same("an error from another process", error, "Refused: -:1: 1 BadLine")

@@ -151,6 +151,11 @@ class Progress:
     are read, also by the program, which reads by the same open file."""
 
     def __init__(self) -> None:
+        self._begin()
+        # A process that is forked has no thread that could release a lock.
+        os.register_at_fork(after_in_child=self._begin)
+
+    def _begin(self) -> None:
         self._closed = 0
         self._open: set[io.FileIO] = set()
         self._lock = threading.Lock()
