@@ -9,8 +9,9 @@ from shared import ROOT, text_of
 
 LISTED, SOURCE = f"{ROOT}/tests/mistakes.txt", f"{ROOT}/tests/reading.py"
 
-# Where the reader judges the words of a line.
-JUDGED = "            number = fault_of_line(so_far, words)"
+# Where the reader judges the words of a line, and where it splits a line into words.
+JUDGED = "        number = fault_of_line(so_far, words)"
+SPLIT = '"[ \\t\\r]"'
 # What is wrong with a field, whether only numbers in it are taken wrongly, or only other words, and the word that the
 # reader takes for such a word `it`.
 WORDS = {
@@ -18,16 +19,27 @@ WORDS = {
     "has no limits, and becomes the greatest or the least number": (True, "str(max(-MOST - 1, min(MOST, int(it))))"),
     "is 1 if it is no number": (False, "'1'"),
 }
+# Bytes that a reader may take for blanks.
+BYTES = [*range(9), 11, 12, *range(14, 32), *map(ord, "!,./:;=|"), 127, 133, 160]
+# First words of lines, and words after `p`, that other formats and tools know.
+FIRST_WORDS = "b d e f g h i j k l m o r t u w x y z E T # % // /* ; ! * $ -- = > @ [ { dnl end rem".split()
+KINDS = "edge col graph asn mat cep tw cnf wcnf spp shortest network mcf mincost maxflow flow arc sssp apsp".split()
+# The headings of families of mistakes in README.md.
+FIELDS, BLANKS, SKIPPED, NAMED = "Single fields", "Single bytes", "Lines of other formats", "Kinds of other formats"
 
 
 class Mistake(NamedTuple):
     """What a reader does wrongly, the heading that lists it, and the changes of the source: what is replaced by what.
-    `field` is the key in WORDS of a mistake in a single field, and `rules` are the rules that a file names for it."""
+    `family` is what it has in common with others of a table, `types` the line types, or their letters, that it is
+    in, if these are not all, `needs` what a line must have to show it, and `rules` the rules that a file names for
+    it."""
 
     what: str
     heading: str
     changes: list[tuple[str, str]]
-    field: str = ""
+    family: str = ""
+    types: tuple[str, ...] = ()
+    needs: str = ""
     rules: tuple[str, ...] = ()
 
 
@@ -37,16 +49,28 @@ def listed(path: str) -> Iterator[Mistake]:
     for part in text_of(path).split("\n\n")[1:]:
         what, *lines = part.rstrip("\n").split("\n")
         if lines:
-            rules = " ".join(groups(lines, "=")).split()
-            yield Mistake(what, heading, [*zip(groups(lines, "-"), groups(lines, "+"))], rules=tuple(rules))
+            rules, types = " ".join(groups(lines, "=")).split(), " ".join(groups(lines, "@")).split(", ")
+            changes = [*zip(groups(lines, "-"), groups(lines, "+"))]
+            yield Mistake(what, heading, changes, types=tuple(filter(None, types)), rules=tuple(rules))
         else:
             heading = what.removeprefix("# ")
 
 
 def mistakes() -> Iterator[Mistake]:
-    """Yields the mistakes of mistakes.txt, and those of single fields."""
+    """Yields the mistakes of mistakes.txt, and those of tables."""
     yield from listed(LISTED)
     yield from of_fields()
+    for byte in BYTES:
+        change = (SPLIT, f'"[ \\t\\r\\x{byte:02x}]"')
+        yield Mistake(f"0x{byte:02x} is a blank.", BLANKS, [change], "One of the bytes is a blank", needs=chr(byte))
+    for word in FIRST_WORDS:
+        change = (JUDGED, f"        if words[0] == {word!r}:\n            return\n{JUDGED}")
+        yield Mistake(
+            f"`{word}` lines are skipped.", SKIPPED, [change], "Lines with one first word are skipped", needs=word
+        )
+    for word in KINDS:
+        change = (JUDGED, f"        words[1:2] = ['sp' if it == {word!r} else it for it in words[1:2]]\n{JUDGED}")
+        yield Mistake(f"`p {word}` is read as `p sp`.", NAMED, [change], "One of the kinds is read as `sp`", needs=word)
 
 
 def of_fields() -> Iterator[Mistake]:
@@ -57,18 +81,19 @@ def of_fields() -> Iterator[Mistake]:
             test = f"[so_far.kind, *words[: {len(begin)}]] == {['' if letter == 'p' else kind, *begin]}"
             for at, field in enumerate(fields.split(), len(begin)):
                 if field != "TERMINAL":
-                    yield from of_field(f"{field} of a `{letter}` line of `{kind}`", test, at)
+                    yield from of_field(f"{field} of a `{letter}` line of `{kind}`", f"{kind} {letter}", test, at)
 
 
-def of_field(named: str, test: str, at: int) -> Iterator[Mistake]:
-    """Yields mistakes in the word at a place of the lines for which a test holds."""
+def of_field(named: str, line_type: str, test: str, at: int) -> Iterator[Mistake]:
+    """Yields mistakes in the word at a place of the lines of a type, for which a test holds."""
     for what, (is_number, value) in WORDS.items():
         changed = [
-            f"            if {test} and len(words) > {at} and bool(NUMBER.fullmatch(words[{at}])) == {is_number}:",
-            f"                it = words[{at}]",
-            f"                words[{at}] = {value}",
+            f"        if {test} and len(words) > {at} and bool(NUMBER.fullmatch(words[{at}])) == {is_number}:",
+            f"            it = words[{at}]",
+            f"            words[{at}] = {value}",
         ]
-        yield Mistake(f"{named} {what}.", "Single fields", [(JUDGED, "\n".join([*changed, JUDGED]))], what)
+        change = (JUDGED, "\n".join([*changed, JUDGED]))
+        yield Mistake(f"{named} {what}.", FIELDS, [change], f"One of the fields {what}", (line_type,))
 
 
 def groups(lines: list[str], mark: str) -> Iterator[str]:
@@ -80,6 +105,11 @@ def groups(lines: list[str], mark: str) -> Iterator[str]:
         elif found:
             yield "\n".join(found)
             found = []
+
+
+def source() -> str:
+    """Returns the source of the reader without mistakes."""
+    return text_of(SOURCE)
 
 
 def planted(source: str, mistake: Mistake) -> str:

@@ -159,11 +159,12 @@ Text read(const std::string &bytes) {
     size_t begin = 0;
     for (int64_t number = 1; begin < bytes.size(); number++) {
         size_t end = std::min(bytes.find('\n', begin), bytes.size());
+        const std::string line = bytes.substr(begin, end - begin);
         Words words;
-        while (begin < end) {
-            size_t next = std::min(bytes.find_first_of(" \t\r", begin), end);
-            if (next > begin) words.push_back(bytes.substr(begin, next - begin));
-            begin = next + 1;
+        for (size_t at = 0; at < line.size();) {
+            size_t next = std::min(line.find_first_of(" \t\r", at), line.size());
+            if (next > at) words.push_back(line.substr(at, next - at));
+            at = next + 1;
         }
         begin = end + 1;
         if (words.empty() || words[0][0] == 'c') continue;

@@ -1,6 +1,6 @@
 """A second implementation of docs/FORMAT.md, simple and slow. It computes what a text reads as or its first fault, what
 the text means, its canonical texts, what `show` prints for it, the first difference of two texts, and whether a
-companion fits. It finds the costs of the arcs of a `min` pair by trying all splits."""
+companion fits. It finds the costs of the arcs of a `min` pair by trying all splits, unless there are many."""
 
 import re
 from collections.abc import Iterable, Sequence
@@ -8,6 +8,8 @@ from dataclasses import dataclass, field
 
 MOST = 2**63 - 1
 LETTERS = {"p", "n", "a", "s", "q", "v"}
+# The greatest capacity of a `min` pair whose splits are all tried.
+SMALL = 1000
 NUMBER = re.compile(r"[+-]?[0-9]+")
 # The lines of each kind: the fields of its problem line, then the fields of its other lines, by their letters.
 LINES = {
@@ -71,22 +73,35 @@ class Fault(Exception):
 def read(text: bytes) -> Text:
     """Returns what a text, in bytes, reads as, or raises its first fault."""
     so_far = Text()
-    pieces = text.decode("latin-1").split("\n")
-    for at, piece in enumerate(pieces[:-1] if pieces[-1] == "" else pieces, 1):
-        words = [it for it in re.split("[ \t\r]", piece) if it]
-        if words and not words[0].startswith("c"):
-            number = fault_of_line(so_far, words)
-            if number:
-                raise Fault(at, number)
-            take(so_far, words)
+    for at, line in numbered(text.decode("latin-1")):
+        read_line(so_far, at, line)
     number = fault_of_end(so_far)
     if number:
         raise Fault("end", number)
     return so_far
 
 
+def numbered(text: str, first: int = 1) -> Iterable[tuple[int, str]]:
+    """Returns the lines of a text, without their LFs, with their numbers."""
+    pieces = text.split("\n")
+    return enumerate(pieces[:-1] if pieces[-1] == "" else pieces, first)
+
+
+def read_line(so_far: Text, at: int, line: str) -> None:
+    """Adds a line to what was read, or raises its fault."""
+    words = [it for it in re.split("[ \t\r]", line) if it]
+    if words and not words[0].startswith("c"):
+        number = fault_of_line(so_far, words)
+        if number:
+            raise Fault(at, number)
+        take(so_far, words)
+
+
 def value_of(word: str) -> int:
-    """Returns the value of a number text."""
+    """Returns the value of a number text, or another value out of range for one of more than 99 digits."""
+    if 99 < len(word):
+        # int refuses thousands of digits.
+        word = re.sub("([+-]?)0*([0-9]{1,99}).*", r"\1\2", word)
     return int(word)
 
 
@@ -302,7 +317,7 @@ def difference_of_pairs(left: Text, right: Text) -> str:
     amounts."""
     for pair in sorted({*left.arcs(), *right.arcs()}):
         arcs = [it.arcs().get(pair, []) for it in (left, right)]
-        how = how_of_costs(*map(curve, arcs)) if left.kind == "min" else how_of_numbers(left.kind, *arcs)
+        how = how_of_min(*arcs) if left.kind == "min" else how_of_numbers(left.kind, *arcs)
         if how:
             return f"differ pair {pair[0]} {pair[1]} {how}"
     return "same"
@@ -315,6 +330,31 @@ def how_of_numbers(kind: str, left: Sequence[Numbers], right: Sequence[Numbers])
         return ""
     name, nothing = ("length", "none") if kind == "sp" else ("capacity", 0)
     return " ".join([name, *[str(nothing if it is None else it) for it in values]])
+
+
+def how_of_min(left: Sequence[Numbers], right: Sequence[Numbers]) -> str:
+    """Returns how the costs of amounts differ."""
+    is_small = all(sum(cap for _, cap, _ in arcs) <= SMALL for arcs in (left, right))
+    return how_of_costs(curve(left), curve(right)) if is_small else how_of_steps(left, right)
+
+
+def how_of_steps(left: Sequence[Numbers], right: Sequence[Numbers]) -> str:
+    """Returns the same as how_of_costs, also for great capacities: an amount costs what the forced units cost, and what
+    the cheapest free units above them cost."""
+    units, costs = zip(*map(forced, (left, right)))
+    if units[0] != units[1] or costs[0] != costs[1]:
+        shown = [cost if own == min(units) else "none" for own, cost in zip(units, costs)]
+        return f"amount {min(units)} cost {shown[0]} {shown[1]}"
+    steps = [[*free(arcs).items()] for arcs in (left, right)]
+    amount, spent = units[0], costs[0]
+    while steps[0] and steps[1] and steps[0][0][0] == steps[1][0][0]:
+        cost, most = steps[0][0][0], min(own[0][1] for own in steps)
+        amount, spent = amount + most, spent + most * cost
+        steps = [[*[(cost, own[0][1] - most)] * (own[0][1] > most), *own[1:]] for own in steps]
+    if not steps[0] and not steps[1]:
+        return ""
+    shown = [spent + own[0][0] if own else "none" for own in steps]
+    return f"amount {amount + 1} cost {shown[0]} {shown[1]}"
 
 
 def how_of_costs(left: dict[int, int], right: dict[int, int]) -> str:

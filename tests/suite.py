@@ -1,102 +1,148 @@
-"""The conformance suite in share/conformance, as far as it is generated: cases.json, and the table of mistakes in its
-README.md. tools/conformance-cases writes them, and tests/conformance compares them."""
+"""The conformance suite in share/conformance, as far as it is generated: cases.json, and the list of mistakes in
+mistakes.md. tools/conformance-cases writes them, and tests/conformance compares them."""
 
 import json
 import re
+from collections import Counter
 from collections.abc import Iterator
 from typing import Any, NamedTuple
 
 import cases
 import mistakes
-from cases import Case
+from case import Case
+from found import LONG, Find, Finder, applies
 from mistakes import Mistake
+from reading import LINES
 from rules import RULES
-from shared import ROOT, text_of
+from shared import ROOT
 
 FOLDER = f"{ROOT}/share/conformance"
-ABOUT = "Texts are in Latin-1: each character stands for the byte of its number. README.md describes the fields."
-# The part of README.md that is generated.
-TABLE = re.compile(r"(?<=<!-- mistakes, by tools/conformance-cases -->\n).*?(?=<!-- end of mistakes -->\n)", re.S)
+ABOUT = (
+    "Texts are in Latin-1: each character stands for the byte of its number. A long text is a list of strings, and of"
+    " strings with the number of times that they are repeated. README.md describes the fields."
+)
+# The types of lines, and the headings of mistakes that a line of any type can have.
+TYPES = [f"{kind} {letter}" for kind, letters in LINES.items() for letter in letters]
+OF_LINES = ["Lines and words", "Keywords", "Numbers"]
+# A part of a long text that is repeated.
+REPEATED = re.compile(r"(.{1,16}?)\1{63,}", re.S)
 
 
 class Entry(NamedTuple):
-    """A case of the suite, its answer, and the numbers of the mistakes that it finds."""
+    """A case of the suite, its answer, and what it finds."""
 
     case: Case
     answer: dict[str, Any]
-    finds: frozenset[int]
+    finds: frozenset[Find]
+
+    @property
+    def id(self) -> str:
+        return f"{self.case.rule}-{self.case.name}"
 
     def fields(self) -> dict[str, Any]:
         """Returns the case as cases.json has it."""
-        case = self.case
-        names = ("text", "with") if case.rule == "fit" else ("left", "right") if case.second is not None else ("text",)
-        texts = dict(zip(names, [case.text, case.second]))
-        return {"id": f"{case.rule}-{case.name}", "about": case.about, **texts, **self.answer}
+        case, answer = self.case, dict(self.answer)
+        names = cases.names(case) if case.second is not None else ["text"]
+        texts = {name: parts(text) for name, text in zip(names, [case.text, case.second]) if text is not None}
+        if "canon" in answer:
+            answer["canon"] = [parts(it) for it in answer["canon"]]
+        return {"id": self.id, "about": case.about, **texts, **answer}
 
 
 class Suite:
-    """The cases: no two of them find the same mistakes, and each of them finds some."""
+    """The cases: no two short ones find the same mistakes, and each of these finds some."""
 
     def __init__(self) -> None:
         self.mistakes = [*mistakes.mistakes()]
-        judged = [*cases.judged()]
-        found = finds(self.mistakes, judged)
-        self.all = [Entry(case, answer, it) for (case, answer), it in zip(judged, found)]
-        chosen: dict[frozenset[int], Entry] = {}
+        finder = Finder(cases.judged())
+        found = finder.finds(self.mistakes)
+        self.all = [Entry(it.case, it.answer, frozenset(own)) for it, own in zip(finder.all, found)]
+        chosen: dict[frozenset[Find], Entry] = {}
         for entry in self.all:
             chosen.setdefault(entry.finds, entry)
-        self.entries = [it for it in chosen.values() if it.finds]
+        kept = {it.id for it in chosen.values() if it.finds}
+        self.entries = [it for it in self.all if it.id in kept or LONG < len(it.case.text)]
+
+    def finds(self) -> Counter[Find]:
+        """Returns how many cases find each mistake in each line type or kind."""
+        return Counter(it for entry in self.entries for it in entry.finds)
 
     def counts(self) -> list[int]:
         """Returns how many cases find each mistake."""
-        return [sum(i in it.finds for it in self.entries) for i in range(len(self.mistakes))]
+        found = Counter(number for entry in self.entries for number in {number for number, _ in entry.finds})
+        return [found[number] for number in range(len(self.mistakes))]
 
-    def table(self) -> str:
-        """Returns the table of mistakes in README.md."""
+    def missing(self) -> dict[str, list[str]]:
+        """Returns the line types in which no case finds a mistake that any line can have, by the mistakes."""
+        found = self.finds()
+        missing: dict[str, list[str]] = {}
+        for number, it in self.of_lines():
+            own = [line_type for line_type in TYPES if applies(it, line_type) and (number, line_type) not in found]
+            missing |= {it.what: own} if own else {}
+        return missing
+
+    def of_lines(self) -> list[tuple[int, Mistake]]:
+        """Returns the mistakes that any line can have, with their numbers."""
+        return [(number, it) for number, it in enumerate(self.mistakes) if it.heading in OF_LINES]
+
+    def planted(self) -> int:
+        """Returns in how many line types mistakes that any line can have were planted."""
+        return sum(applies(it, line_type) for _, it in self.of_lines() for line_type in TYPES)
+
+    def page(self) -> str:
+        """Returns the text of mistakes.md."""
+        missing, heading, counts = self.missing(), "", self.counts()
         rows = [
-            f"{len(self.mistakes)} mistakes, and {len(self.entries)} cases:",
+            "# Mistakes that the cases find",
             "",
-            "| Mistake | Found by |",
-            "|---|---|",
+            f"{len(self.mistakes)} mistakes, and {len(self.entries)} cases. A mistake in how a line is read was planted"
+            f" into each of the {len(TYPES)} types of lines alone, any other one into texts of each kind. *Where* is"
+            " the number of line types and kinds in which a case finds the mistake, and *Cases* the number of these"
+            " cases.",
+            "",
+            f"The mistakes under {', '.join(OF_LINES)} can be in a line of any type: they were planted into"
+            f" {self.planted()} line types, and found in all but {sum(map(len, missing.values()))}. There the only"
+            " number of the line is K, which is as small as the number of lines:",
+            "",
+            *(f"- {what} `{'`, `'.join(own)}`" for what, own in missing.items()),
         ]
-        heading, counts = "", self.counts()
-        for it, count in zip(self.mistakes, counts):
+        where = Counter(number for number, place in self.finds() if place)
+        for number, it in enumerate(self.mistakes):
+            if it.family:
+                continue
             if it.heading != heading:
                 heading = it.heading
-                rows.append(f"| **{heading}** | |")
-            if not it.field:
-                rows.append(f"| {it.what} | {count} |")
-        for what in mistakes.WORDS:
-            own = [count for it, count in zip(self.mistakes, counts) if it.field == what]
-            rows.append(f"| One of the fields {what}: {len(own)} mistakes. | {min(own)} to {max(own)} |")
-        return "\n".join([*rows, ""])
+                rows += ["", f"## {heading}", "", "| Mistake | Where | Cases |", "|---|---|---|"]
+            rows.append(f"| {it.what} | {where[number] or ''} | {counts[number]} |")
+        return "\n".join([*rows, *self.families(counts), ""])
+
+    def families(self, counts: list[int]) -> Iterator[str]:
+        """Yields the lines on mistakes that differ in a byte, a word or a field alone."""
+        yield from ["", "## Mistakes of tables", "", "| Mistake | Number | Cases of each |", "|---|---|---|"]
+        for family in dict.fromkeys(it.family for it in self.mistakes if it.family):
+            own = [count for it, count in zip(self.mistakes, counts) if it.family == family]
+            yield f"| {family}. | {len(own)} | {min(own)} to {max(own)} |"
+
+
+def parts(text: str) -> str | list[Any]:
+    """Returns a text; or if much of it is repeated, a list of strings, and of strings with the number of times that
+    they are repeated."""
+    found: list[Any] = []
+    at = 0
+    for it in REPEATED.finditer(text):
+        found += [*([text[at : it.start()]] if at < it.start() else []), [it[1], len(it[0]) // len(it[1])]]
+        at = it.end()
+    return [*found, *([text[at:]] if at < len(text) else [])] if found else text
 
 
 def cases_json(entries: list[Entry]) -> str:
     """Returns the text of a cases.json with these cases, with a case in each line."""
-    parts = []
+    rules = []
     for name, rule in RULES.items():
         about = {"rule": name, "says": rule.says, "section": f"FORMAT.md#{anchor(rule.heading)}"}
         lines = ",\n".join(dumped(it.fields()) for it in entries if it.case.rule == name)
-        parts.append(f'{dumped(about)[:-1]},"cases":[\n{lines}\n]}}')
-    return f'{{"about":{json.dumps(ABOUT)},"rules":[\n' + ",\n".join(parts) + "\n]}\n"
-
-
-def finds(planted: list[Mistake], judged: list[tuple[Case, dict[str, Any]]]) -> list[frozenset[int]]:
-    """Returns the numbers of the mistakes that each case finds."""
-    source = text_of(mistakes.SOURCE)
-    found: list[set[int]] = [set() for _ in judged]
-    for i, mistake in enumerate(planted):
-        reader = mistakes.reader(mistakes.planted(source, mistake))
-        for (case, answer), own in zip(judged, found):
-            try:
-                is_found = cases.answer(case, reader) != answer
-            except Exception:
-                # A reader with a mistake may end by any exception.
-                is_found = True
-            if is_found:
-                own.add(i)
-    return [frozenset(it) for it in found]
+        rules.append(f'{dumped(about)[:-1]},"cases":[\n{lines}\n]}}')
+    return f'{{"about":{json.dumps(ABOUT)},"rules":[\n' + ",\n".join(rules) + "\n]}\n"
 
 
 def dumped(it: dict[str, Any]) -> str:
@@ -110,6 +156,5 @@ def anchor(heading: str) -> str:
 
 def generated(suite: Suite) -> Iterator[tuple[str, str]]:
     """Yields the paths and the texts of the generated files."""
-    readme = f"{FOLDER}/README.md"
     yield f"{FOLDER}/cases.json", cases_json(suite.entries)
-    yield readme, TABLE.sub(lambda _: suite.table(), text_of(readme))
+    yield f"{FOLDER}/mistakes.md", suite.page()

@@ -18,7 +18,8 @@ from shared import ROOT, text_of  # noqa: E402
 DOCS = sorted(os.path.relpath(it, ROOT) for it in glob.glob(f"{ROOT}/docs/*.md"))
 # The pages whose paths are checked, and the pages whose links are checked.
 PLACING = ["README.md", "ARTIFACT.md", "CONTRIBUTING.md", *DOCS]
-LINKING = [*PLACING, "CHANGELOG.md", "bench/README.md", "released/README.md", "share/conformance/README.md"]
+LINKING = [*PLACING, "CHANGELOG.md", "bench/README.md", "released/README.md"]
+LINKING += ["share/conformance/README.md", "share/conformance/mistakes.md"]
 # The page whose blocks of code are all quoted from a source, and the pages whose names must all be in sources.
 QUOTING = "docs/PROVED.md"
 NAMING = ["docs/PROVED.md", "docs/ARCHITECTURE.md", "docs/DECISIONS.md", "CONTRIBUTING.md"]

@@ -59,6 +59,8 @@ MOST, PATIENCE, SHOWN = 1_000_000, 10, 5
 KINDS = {"min": "min", "max": "max", "sp": "sp", "ss": "aux sp ss", "p2p": "aux sp p2p", "co": "aux sp co"}
 # What only the cases of level compare have.
 FILES = {"left", "with"}
+# The texts of a case.
+TEXTS = ["text", "with", "left", "right"]
 
 Case = dict[str, Any]
 
@@ -92,6 +94,13 @@ def positive(word: str) -> float:
     if not 0 < value < float("inf"):
         raise ValueError
     return value
+
+
+def joined(parts: Any) -> str:
+    """Returns a text of cases.json, which may be a list of strings, and of strings with how often they are repeated."""
+    if isinstance(parts, str):
+        return parts
+    return "".join(it if isinstance(it, str) else it[0] * it[1] for it in parts)
 
 
 def parsed(words: Sequence[str] | None, rules: Sequence[str]) -> argparse.Namespace:
@@ -155,13 +164,14 @@ class Runner:
             with tempfile.TemporaryDirectory(prefix="conformance-") as folder:
                 yield from self.files(case, folder)
             return
-        yield from wrong("check", self.call(["check", "-"], case["text"]), case, self.level)
+        given = joined(case["text"])
+        yield from wrong("check", self.call(["check", "-"], given), case, self.level)
         if self.level < LEVELS.index("canon"):
             return
         for form in [1, 2]:
-            found = self.call(["canon", "--form", str(form), "-"], case["text"])
+            found = self.call(["canon", "--form", str(form), "-"], given)
             if "kind" in case:
-                text = case["canon"][form - 1 if len(case["canon"]) == 2 else 0]
+                text = joined(case["canon"][form - 1 if len(case["canon"]) == 2 else 0])
                 if found.status != 0 or found.out != text.encode("latin-1"):
                     yield f"canon --form {form} printed {told(found)}; expected {brief(text)}"
             else:
@@ -174,22 +184,26 @@ class Runner:
         paths = {it: os.path.join(folder, it) for it in ["left", "right", "with"] if it in case}
         for name, path in paths.items():
             with open(path, "wb") as file:
-                file.write(case[name].encode("latin-1"))
+                file.write(joined(case[name]).encode("latin-1"))
+        call = "compare" if "left" in case else "check --with"
         if "left" in case:
             found = self.call(["compare", paths["left"], paths["right"]])
+        else:
+            found = self.call(["check", "-", "--with", paths["with"]], joined(case["text"]))
+        if "verdict" in case:
             wanted = (f"{case['verdict']}\n".encode(), 0 if case["verdict"] == "same" else 1)
             if (found.out, found.status) != wanted:
-                yield f"compare printed {told(found)}; expected '{case['verdict']}' and status {wanted[1]}"
-            return
-        found = self.call(["check", "-", "--with", paths["with"]], case["text"])
-        if "fits" in case:
+                yield f"{call} printed {told(found)}; expected '{case['verdict']}' and status {wanted[1]}"
+        elif "fits" in case:
             lines = [f"accepted {case['kind']}".encode(), f"fits {case['fits']}".encode()]
             if found.status != 0 or found.out.splitlines()[:2] != lines:
-                yield f"check --with printed {told(found)}; expected 'accepted {case['kind']}', 'fits {case['fits']}'"
-            return
-        line = f"{paths['with']}: {case['unfit']}"
-        if found.status != 2 or found.err.splitlines()[-1:] != [line.encode()]:
-            yield f"check --with printed {told(found)}; expected 'COMPANION: {case['unfit']}' and status 2"
+                yield f"{call} printed {told(found)}; expected 'accepted {case['kind']}', 'fits {case['fits']}'"
+        else:
+            name = case.get("refused", "with")
+            line = f":{case['place']}: {case['refusal']}" if "refused" in case else f": {case['unfit']}"
+            last = found.err.splitlines()[-1:]
+            if found.status != 2 or last != [f"{paths.get(name, '-')}{line}".encode()]:
+                yield f"{call} printed {told(found)}; expected '{name.upper()}{line}' and status 2"
 
 
 def read(process: subprocess.Popen[bytes], limit: float) -> Answer:
@@ -270,7 +284,8 @@ def is_chosen(case: Case, asked: argparse.Namespace) -> bool:
     """Whether the command line asks for a case."""
     if FILES & case.keys() and asked.level != "compare" or asked.accepted and {"refusal", "unfit"} & case.keys():
         return False
-    kinds = {case["kind"]} if "kind" in case else {kind_of(case[it]) for it in ("text", "left", "right") if it in case}
+    texts = [joined(case[it]) for it in ("text", "left", "right") if it in case]
+    kinds = {case["kind"]} if "kind" in case else {*map(kind_of, texts)}
     return not asked.kind or kinds <= {*asked.kind, ""}
 
 
@@ -281,9 +296,9 @@ def shown(rule: Case, found: list[tuple[Case, str]], is_all: bool) -> Iterator[s
     yield f"  {len(failed)} of {len(found)} cases fail"
     for case, failure in failed if is_all else failed[:SHOWN]:
         yield f"  {case['id']}: {case['about']}"
-        for name in ["text", "with", "left", "right"]:
+        for name in TEXTS:
             if name in case:
-                yield f"    {name}: {brief(case[name])}"
+                yield f"    {name}: {brief(joined(case[name]))}"
         yield f"    {failure}"
     if not is_all and SHOWN < len(failed):
         rest = " ".join(case["id"] for case, _ in failed[SHOWN:])
