@@ -2,7 +2,7 @@
 """Checks a reader of DIMACS network instances: runs it on the cases in cases.json, which is beside this script, and
 compares its answers with those in the file.
 
-    run.py [--level LEVEL] [--kind KIND].. [--rule RULE].. [--accepted] [--limit SECONDS] [--jobs N] [--all] COMMAND..
+    run.py [OPTION].. COMMAND..
 
 COMMAND is the reader, or a small adapter for it, with its arguments. It is called in these ways:
 
@@ -26,23 +26,29 @@ Levels, each of which includes the ones before it:
     canon      'canon', in both forms; the default
     compare    'compare', and 'check' with a companion
 
+Standard input is a file, a pipe, or a pipe in pieces, in turn: --pieces gives the sizes of these.
+
 Further lines are ignored where 'check' prints them: on standard output after the expected ones, and on standard error
 before the refusal.
 
-The status is 0 if all cases pass, 1 if one fails, and 3 if the command line is refused. A call that takes longer than
-the limit, or prints more than 1 MB, is ended and fails."""
+The status is 0 if all cases pass, 1 if one fails, and 3 if the command line is refused. A call that takes more
+processor time than the limit, or six times as long by the clock, or prints more than 1 MB, is ended and fails."""
 
 from __future__ import annotations
 
 import argparse
+import fcntl
+import itertools
 import json
 import os
 import re
 import selectors
 import signal
+import struct
 import subprocess
 import sys
 import tempfile
+import termios
 import time
 from collections.abc import Iterator, Sequence
 from concurrent.futures import ThreadPoolExecutor
@@ -54,6 +60,11 @@ FAILED, USAGE = 1, 3
 # What a call may print, in bytes; how many calls may exceed the limit before no further case is tried; and how many
 # failures of a rule are shown.
 MOST, PATIENCE, SHOWN = 1_000_000, 10, 5
+# How often the limit of processor time a call may take by the clock.
+CLOCK = 6
+# The default sizes of pieces, how many pieces a text has at most, and the seconds between two looks at whether a piece
+# has been read.
+PIECES, MANY, PAUSE = [1, 7, 4096], 200, 0.0002
 
 # The words after `p` of each kind.
 KINDS = {"min": "min", "max": "max", "sp": "sp", "ss": "aux sp ss", "p2p": "aux sp p2p", "co": "aux sp co"}
@@ -88,6 +99,14 @@ class Parser(argparse.ArgumentParser):
         self.exit(USAGE, f"run.py: {message}\nrun.py --help describes the command line\n")
 
 
+def sizes(word: str) -> list[int]:
+    """Returns sizes of pieces."""
+    found = [int(it) for it in word.split(",")]
+    if min(found) < 1:
+        raise ValueError
+    return found
+
+
 def positive(word: str) -> float:
     """Returns a number above 0."""
     value = float(word)
@@ -112,7 +131,8 @@ def parsed(words: Sequence[str] | None, rules: Sequence[str]) -> argparse.Namesp
     add("--rule", action="append", choices=rules, metavar="RULE", help="only the cases of this rule; repeatable")
     add("--kind", action="append", choices=list(KINDS), help="only texts of this kind, and of none; repeatable")
     add("--accepted", action="store_true", help="only texts that are accepted")
-    add("--limit", type=positive, default=10, metavar="SECONDS", help="the time limit of a call, by default 10")
+    add("--limit", type=positive, default=10, metavar="SECONDS", help="the processor time of a call, by default 10")
+    add("--pieces", type=sizes, default=PIECES, metavar="N,..", help="the bytes of a piece of a pipe; default 1,7,4096")
     add("--jobs", type=int, default=os.cpu_count() or 1, metavar="N", help="calls at the same time")
     add("--all", action="store_true", help=f"show all failures of a rule, and not only {SHOWN}")
     add("command", nargs=argparse.REMAINDER, metavar="COMMAND", help="the reader or its adapter, with its arguments")
@@ -126,29 +146,68 @@ def parsed(words: Sequence[str] | None, rules: Sequence[str]) -> argparse.Namesp
     return found
 
 
+class Feed:
+    """A pipe by which a text arrives in pieces, each of them after the one before has been read."""
+
+    def __init__(self, text: bytes, size: int) -> None:
+        self.read_end, self.write_end = os.pipe()
+        os.set_blocking(self.write_end, False)
+        self.left, self.size = memoryview(text), max(size, len(text) // MANY)
+
+    def go_on(self) -> bool:
+        """Writes the next piece if it is time, and returns whether more is to come."""
+        unread = struct.unpack("i", fcntl.ioctl(self.read_end, termios.FIONREAD, bytes(4)))[0]
+        if self.write_end < 0 or unread:
+            return self.write_end >= 0
+        if self.left:
+            self.left = self.left[os.write(self.write_end, self.left[: self.size]) :]
+        if not self.left:
+            os.close(self.write_end)
+            self.write_end = -1
+        return bool(self.left)
+
+    def close(self) -> None:
+        for it in [self.read_end, self.write_end]:
+            if it >= 0:
+                os.close(it)
+
+
 class Runner:
     """The reader that is tested."""
 
     def __init__(self, asked: argparse.Namespace) -> None:
         self.command, self.limit, self.level = asked.command, asked.limit, LEVELS.index(asked.level)
+        # The size of pieces: of the whole text, or given; or none, where standard input is a file.
+        self.ways = itertools.cycle([None, sys.maxsize, *asked.pieces])
         self.stuck = 0
 
-    def call(self, words: Sequence[str], given: str = "") -> Answer:
-        """Runs the reader with these arguments on a text."""
-        with tempfile.TemporaryFile() as text:
-            text.write(given.encode("latin-1"))
-            text.seek(0)
-            streams: dict[str, Any] = {"stdin": text, "stdout": subprocess.PIPE, "stderr": subprocess.PIPE}
+    def call(self, words: Sequence[str], given: str = "", size: int | None = None) -> Answer:
+        """Runs the reader with these arguments on a text, which is a file or arrives by a pipe in pieces of a size."""
+        feed = Feed(given.encode("latin-1"), size) if size else None
+        try:
+            if feed:
+                return self.run(words, feed.read_end, feed)
+            with tempfile.TemporaryFile() as text:
+                text.write(given.encode("latin-1"))
+                text.seek(0)
+                return self.run(words, text, None)
+        finally:
+            if feed:
+                feed.close()
+
+    def run(self, words: Sequence[str], stdin: Any, feed: Feed | None) -> Answer:
+        """Runs the reader with these arguments and this standard input."""
+        streams: dict[str, Any] = {"stdin": stdin, "stdout": subprocess.PIPE, "stderr": subprocess.PIPE}
+        try:
+            process = subprocess.Popen([*self.command, *words], start_new_session=True, **streams)
+        except OSError as error:
+            raise Unusable(f"{self.command[0]}: {error.strerror}") from None
+        with process:
             try:
-                process = subprocess.Popen([*self.command, *words], start_new_session=True, **streams)
-            except OSError as error:
-                raise Unusable(f"{self.command[0]}: {error.strerror}") from None
-            with process:
-                try:
-                    found = read(process, self.limit)
-                finally:
-                    # The reader may have started others, which would keep its streams open.
-                    stop(process)
+                found = read(process, self.limit, feed)
+            finally:
+                # The reader may have started others, which would keep its streams open.
+                stop(process)
         self.stuck += found.status is None
         return found
 
@@ -165,19 +224,21 @@ class Runner:
                 yield from self.files(case, folder)
             return
         given = joined(case["text"])
-        yield from wrong("check", self.call(["check", "-"], given), case, self.level)
+        size = case["size"]
+        yield from wrong(f"check{by(size)}", self.call(["check", "-"], given, size), case, self.level)
         if self.level < LEVELS.index("canon"):
             return
-        for form in [1, 2]:
-            found = self.call(["canon", "--form", str(form), "-"], given)
+        for form, own in [(1, None if size else sys.maxsize), (2, sys.maxsize if size else None)]:
+            found = self.call(["canon", "--form", str(form), "-"], given, own)
+            call = f"canon --form {form}{by(own)}"
             if "kind" in case:
                 text = joined(case["canon"][form - 1 if len(case["canon"]) == 2 else 0])
                 if found.status != 0 or found.out != text.encode("latin-1"):
-                    yield f"canon --form {form} printed {told(found)}; expected {brief(text)}"
+                    yield f"{call} printed {told(found)}; expected {brief(text)}"
             else:
-                yield from wrong(f"canon --form {form}", found, case, self.level)
+                yield from wrong(call, found, case, self.level)
                 if found.out:
-                    yield f"canon --form {form} printed {told(found)} before the refusal"
+                    yield f"{call} printed {told(found)} before the refusal"
 
     def files(self, case: Case, folder: str) -> Iterator[str]:
         """Yields how the reader fails a case of two files, or of a text and the file of a companion."""
@@ -206,28 +267,66 @@ class Runner:
                 yield f"{call} printed {told(found)}; expected '{name.upper()}{line}' and status 2"
 
 
-def read(process: subprocess.Popen[bytes], limit: float) -> Answer:
+class Clock:
+    """How long a call takes."""
+
+    def __init__(self, pid: int, limit: float) -> None:
+        self.pid, self.limit, self.begun = pid, limit, time.monotonic()
+
+    def left(self) -> float:
+        """Returns the seconds to wait before the next look at the processor time, or 0 if the call has had its time."""
+        passed = time.monotonic() - self.begun
+        if passed < self.limit:
+            return self.limit - passed
+        return 0 if CLOCK * self.limit < passed else max(0, self.limit - processor_time(self.pid))
+
+
+def processor_time(pid: int) -> float:
+    """Returns the seconds of processor time that a process has taken; infinite where the system does not tell."""
+    try:
+        with open(f"/proc/{pid}/stat", encoding="latin-1") as file:
+            fields = file.read().rpartition(")")[2].split()
+    except OSError:
+        return float("inf")
+    return sum(map(int, fields[11:15])) / os.sysconf("SC_CLK_TCK")
+
+
+def read(process: subprocess.Popen[bytes], limit: float, feed: Feed | None) -> Answer:
     """Reads what a process prints until it ends or exceeds a limit."""
-    end = time.monotonic() + limit
+    clock = Clock(process.pid, limit)
     found = {process.stdout: b"", process.stderr: b""}
     with selectors.DefaultSelector() as streams:
         for it in found:
             if it:
                 streams.register(it, selectors.EVENT_READ, it)
         while streams.get_map():
-            ready = streams.select(max(0, end - time.monotonic()))
-            if not ready or MOST < sum(map(len, found.values())):
+            wait = PAUSE if feed and feed.go_on() else 1
+            ready = streams.select(min(wait, clock.left()))
+            if not clock.left() or MOST < sum(map(len, found.values())):
                 return Answer(found[process.stdout], found[process.stderr], None)
             for key, _ in ready:
                 piece = os.read(key.fd, 65536)
                 found[key.data] += piece
                 if not piece:
                     streams.unregister(key.fileobj)
-    try:
-        status = process.wait(max(0, end - time.monotonic()))
-    except subprocess.TimeoutExpired:
-        return Answer(found[process.stdout], found[process.stderr], None)
-    return Answer(found[process.stdout], found[process.stderr], status)
+    return Answer(found[process.stdout], found[process.stderr], ended(process, clock))
+
+
+def ended(process: subprocess.Popen[bytes], clock: Clock) -> int | None:
+    """Waits until a process ends, and returns its status, or None if its time is over."""
+    while True:
+        try:
+            return process.wait(clock.left())
+        except subprocess.TimeoutExpired:
+            if not clock.left():
+                return None
+
+
+def by(size: int | None) -> str:
+    """Returns how a text arrived, for a person."""
+    if size is None:
+        return ""
+    return " from a pipe" if size == sys.maxsize else f" from a pipe in pieces of {size} byte{'s' * (size > 1)}"
 
 
 def stop(process: subprocess.Popen[bytes]) -> None:
@@ -319,7 +418,8 @@ def main(words: Sequence[str] | None = None) -> int:
     try:
         with ThreadPoolExecutor(asked.jobs) as pool:
             for rule in (it for it in rules if not asked.rule or it["rule"] in asked.rule):
-                cases = [it for it in rule["cases"] if is_chosen(it, asked)]
+                cases = [{**it, "size": next(runner.ways)} for it in rule["cases"]]
+                cases = [it for it in cases if is_chosen(it, asked)]
                 found = [*zip(cases, pool.map(runner.failure, cases))]
                 failures = sum(bool(failure) for _, failure in found)
                 passed, failed = passed + len(found) - failures, failed + failures
