@@ -7,7 +7,7 @@ from reading import LINES
 
 # A text of each kind, each line of which the tables change.
 BASES = {
-    "min": "p min 30 2 / n 10 14 / n 30 -14 / a 10 20 0 14 12 / a 20 30 11 15 -11",
+    "min": "p min 30 2 / n 10 14 / n 30 -14 / a 10 20 0 14 12 / a 20 30 0 15 -11",
     "max": "p max 30 2 / n 10 s / n 30 t / a 10 20 14 / a 20 30 15",
     "sp": "p sp 30 2 / a 10 20 17 / a 20 30 -14",
     "ss": "p aux sp ss 2 / s 15 / s 12",

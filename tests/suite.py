@@ -1,6 +1,7 @@
 """The conformance suite in share/conformance, as far as it is generated: cases.json, and the list of mistakes in
 mistakes.md. tools/conformance-cases writes them, and tests/conformance compares them."""
 
+import hashlib
 import json
 import re
 from collections import Counter
@@ -8,15 +9,20 @@ from collections.abc import Iterator
 from typing import Any, NamedTuple
 
 import cases
+import challenge
 import mistakes
 from case import Case
 from found import LONG, Find, Finder, applies
 from mistakes import Mistake
 from reading import LINES
 from rules import RULES
-from shared import ROOT
+from shared import ROOT, text_of
 
 FOLDER = f"{ROOT}/share/conformance"
+# The number of this state of the cases. A release in which cases were added, removed or changed has the next one.
+VERSION = 2
+# The ids that cases have or had, each with a checksum of its texts: an id is never given to another text.
+IDS = f"{ROOT}/tests/case-ids.txt"
 ABOUT = (
     "Texts are in Latin-1: each character stands for the byte of its number. A long text is a list of strings, and of"
     " strings with the number of times that they are repeated. README.md describes the fields."
@@ -46,7 +52,14 @@ class Entry(NamedTuple):
         texts = {name: parts(text) for name, text in zip(names, [case.text, case.second]) if text is not None}
         if "canon" in answer:
             answer["canon"] = [parts(it) for it in answer["canon"]]
-        return {"id": self.id, "about": case.about, **texts, **answer}
+        is_decided = case.second is None and challenge.decides(case.text, answer)
+        profile = {} if is_decided else {"profile": True}
+        return {"id": self.id, "about": case.about, **profile, **texts, **answer}
+
+    def checksum(self) -> str:
+        """Returns a checksum of the texts."""
+        texts = json.dumps([self.case.text, self.case.second])
+        return hashlib.sha256(texts.encode()).hexdigest()[:12]
 
 
 class Suite:
@@ -142,7 +155,25 @@ def cases_json(entries: list[Entry]) -> str:
         about = {"rule": name, "says": rule.says, "section": f"FORMAT.md#{anchor(rule.heading)}"}
         lines = ",\n".join(dumped(it.fields()) for it in entries if it.case.rule == name)
         rules.append(f'{dumped(about)[:-1]},"cases":[\n{lines}\n]}}')
-    return f'{{"about":{json.dumps(ABOUT)},"rules":[\n' + ",\n".join(rules) + "\n]}\n"
+    return f'{{"version":{VERSION},"about":{json.dumps(ABOUT)},"rules":[\n' + ",\n".join(rules) + "\n]}\n"
+
+
+def known_ids() -> dict[str, str]:
+    """Returns the ids that cases have or had, with their checksums."""
+    return dict(line.split(" ") for line in text_of(IDS).splitlines() if not line.startswith("#"))
+
+
+def ids(entries: list[Entry]) -> str:
+    """Returns the list of ids, with those of new cases. An id that had another text is an error."""
+    known = known_ids()
+    for it in entries:
+        if known.setdefault(it.id, it.checksum()) != it.checksum():
+            raise ValueError(f"{it.id}: a case with another text had this id, which needs a new name")
+    head = (
+        "# The ids that cases of the conformance suite have or had, each with a checksum of its texts, so that an id\n"
+    )
+    head += "# is never given to another text. tools/conformance-cases --write adds those of new cases.\n"
+    return head + "".join(f"{name} {checksum}\n" for name, checksum in sorted(known.items()))
 
 
 def dumped(it: dict[str, Any]) -> str:
@@ -158,3 +189,4 @@ def generated(suite: Suite) -> Iterator[tuple[str, str]]:
     """Yields the paths and the texts of the generated files."""
     yield f"{FOLDER}/cases.json", cases_json(suite.entries)
     yield f"{FOLDER}/mistakes.md", suite.page()
+    yield IDS, ids(suite.entries)
