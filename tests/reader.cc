@@ -3,11 +3,15 @@
 //
 //     reader check -
 //     reader canon --form FORM -
+//     reader batch              as run.py --batch calls it
 #include <algorithm>
 #include <cstdint>
 #include <cstdio>
+#include <fstream>
+#include <iostream>
 #include <map>
 #include <set>
+#include <sstream>
 #include <string>
 #include <vector>
 
@@ -230,17 +234,52 @@ std::string canonical(const Text &text, int form) {
     return problem + heads + lines;
 }
 
-int main(int count, char **words) {
-    std::string bytes;
-    for (int it; (it = std::getchar()) != EOF;) bytes += char(it);
+// Returns the answer to a call on a text, and sets its status.
+std::string answer(const Words &words, const std::string &bytes, int &status) {
+    status = 0;
     try {
         Text text = read(bytes);
-        bool is_canon = count > 3 && words[1] == std::string("canon");
-        std::string answer = is_canon ? canonical(text, std::stoi(words[3])) : "accepted " + text.kind + "\n";
-        std::fwrite(answer.data(), 1, answer.size(), stdout);
-        return 0;
+        bool is_canon = words.size() > 2 && words[0] == "canon";
+        return is_canon ? canonical(text, std::stoi(words[2])) : "accepted " + text.kind + "\n";
     } catch (const Fault &it) {
-        std::fprintf(stderr, "-:%s: %d %s\n", it.place.c_str(), it.number, NAMES[it.number]);
-        return 2;
+        status = 2;
+        return words.back() + ":" + it.place + ": " + std::to_string(it.number) + " " + NAMES[it.number] + "\n";
     }
+}
+
+// Returns the answer in one line: a canonical text as a string of JSON.
+std::string in_a_line(const std::string &text, bool is_canonical) {
+    if (!is_canonical) return text;
+    std::string found = "\"";
+    for (char it : text) found += it == '\n' ? "\\n" : std::string(1, it);
+    return found + "\"\n";
+}
+
+// Answers each line of standard input, which has the words of a call with tabs between them, in a line.
+void batch() {
+    for (std::string line; std::getline(std::cin, line);) {
+        Words words;
+        std::istringstream parts(line);
+        for (std::string it; std::getline(parts, it, '\t');) words.push_back(it);
+        std::ifstream file(words.back(), std::ios::binary);
+        std::ostringstream bytes;
+        bytes << file.rdbuf();
+        int status;
+        std::string found = answer(words, bytes.str(), status);
+        std::cout << in_a_line(found, !status && words[0] == "canon") << std::flush;
+    }
+}
+
+int main(int count, char **arguments) {
+    const Words words(arguments + 1, arguments + count);
+    if (words.size() == 1 && words[0] == "batch") {
+        batch();
+        return 0;
+    }
+    std::string bytes;
+    for (int it; (it = std::getchar()) != EOF;) bytes += char(it);
+    int status;
+    std::string found = answer(words, bytes, status);
+    std::fwrite(found.data(), 1, found.size(), status ? stderr : stdout);
+    return status;
 }

@@ -3,6 +3,7 @@
 compares its answers with those in the file.
 
     run.py [OPTION].. COMMAND..
+    run.py [OPTION].. --write FOLDER
 
 COMMAND is the reader, or a small adapter for it, with its arguments. It is called in these ways:
 
@@ -14,19 +15,21 @@ COMMAND is the reader, or a small adapter for it, with its arguments. It is call
     COMMAND canon --form 2 -           on standard output for one that it refuses
     COMMAND check - --with COMPANION   the same as 'check -', and then prints 'fits KIND' for the file of a companion;
                                        or prints 'COMPANION: 35 NotInGraph ID' or 'COMPANION: 36 NotKinds' on standard
-                                       error, with status 2
+                                       error, with status 2; or refuses the companion, with its name in place of '-'
     COMMAND compare LEFT RIGHT         prints 'same', with status 0, or how two files differ, with status 1: README.md
-                                       lists the lines
+                                       lists the lines; or refuses the first of the files that is not well formed
 
 Levels, each of which includes the ones before it:
 
+    challenge  the status of 'check -', in cases that the DIMACS Challenges decide
     accept     the status of 'check -'
     line       the line of a refusal
     refusal    the number and the name of a refusal, and the kind of an accepted text
     canon      'canon', in both forms; the default
     compare    'compare', and 'check' with a companion
 
-Standard input is a file, a pipe, or a pipe in pieces, in turn: --pieces gives the sizes of these.
+Standard input is a file, a pipe, or a pipe in pieces, in turn: --pieces gives the sizes of these. With --batch, COMMAND
+runs once for each job, and answers each line of its standard input in a line: README.md describes these.
 
 Further lines are ignored where 'check' prints them: on standard output after the expected ones, and on standard error
 before the refusal.
@@ -42,6 +45,7 @@ import itertools
 import json
 import os
 import re
+import select
 import selectors
 import signal
 import struct
@@ -49,13 +53,15 @@ import subprocess
 import sys
 import tempfile
 import termios
+import threading
 import time
+import xml.etree.ElementTree
 from collections.abc import Iterator, Sequence
 from concurrent.futures import ThreadPoolExecutor
 from typing import Any, NamedTuple, NoReturn
 
 CASES = os.path.join(os.path.dirname(os.path.abspath(__file__)), "cases.json")
-LEVELS = ["accept", "line", "refusal", "canon", "compare"]
+LEVELS = ["challenge", "accept", "line", "refusal", "canon", "compare"]
 FAILED, USAGE = 1, 3
 # What a call may print, in bytes; how many calls may exceed the limit before no further case is tried; and how many
 # failures of a rule are shown.
@@ -122,28 +128,74 @@ def joined(parts: Any) -> str:
     return "".join(it if isinstance(it, str) else it[0] * it[1] for it in parts)
 
 
-def parsed(words: Sequence[str] | None, rules: Sequence[str]) -> argparse.Namespace:
-    """Returns the arguments."""
+def status(word: str) -> int:
+    """Returns a status of refusals, or 0 for any."""
+    value = 0 if word == "any" else int(word)
+    if not 0 <= value < 256 or word == "0":
+        raise ValueError
+    return value
+
+
+def parser_of(rules: Sequence[str]) -> Parser:
+    """Returns the parser of the command line."""
     layout: dict[str, Any] = {"formatter_class": argparse.RawDescriptionHelpFormatter, "allow_abbrev": False}
     parser = Parser(prog="run.py", usage="run.py [OPTION].. COMMAND..", description=__doc__, **layout)
     add = parser.add_argument
     add("--level", choices=LEVELS, default="canon", help="what is compared, by default canon")
     add("--rule", action="append", choices=rules, metavar="RULE", help="only the cases of this rule; repeatable")
     add("--kind", action="append", choices=list(KINDS), help="only texts of this kind, and of none; repeatable")
+    add("--case", action="append", metavar="ID", help="only this case; repeatable")
     add("--accepted", action="store_true", help="only texts that are accepted")
+    add("--refused", type=status, default=2, metavar="STATUS", help="the status of a refusal, by default 2; or any")
     add("--limit", type=positive, default=10, metavar="SECONDS", help="the processor time of a call, by default 10")
+    add("--memory", type=int, metavar="MB", help="the memory of a call")
     add("--pieces", type=sizes, default=PIECES, metavar="N,..", help="the bytes of a piece of a pipe; default 1,7,4096")
     add("--jobs", type=int, default=os.cpu_count() or 1, metavar="N", help="calls at the same time")
+    add("--batch", action="store_true", help="COMMAND reads the calls from standard input")
+    add("--expect", metavar="FILE", help="the ids of cases that are known to fail, one in a line")
     add("--all", action="store_true", help=f"show all failures of a rule, and not only {SHOWN}")
+    shapes = parser.add_mutually_exclusive_group()
+    for name, about in {"tap": "in the Test Anything Protocol", "junit": "as XML for JUnit", "json": "as JSON"}.items():
+        shapes.add_argument(f"--{name}", dest="shape", action="store_const", const=name, help=f"print results {about}")
+    add("--write", metavar="FOLDER", help="make files of the texts, and run nothing")
+    add("--version", action="store_true", help="print the version of the cases")
     add("command", nargs=argparse.REMAINDER, metavar="COMMAND", help="the reader or its adapter, with its arguments")
+    return parser
+
+
+def parsed(words: Sequence[str] | None, rules: Sequence[Case]) -> argparse.Namespace:
+    """Returns the arguments."""
+    parser = parser_of([it["rule"] for it in rules])
     found = parser.parse_args(words)
+    ids = {case["id"] for rule in rules for case in rule["cases"]}
     if found.command[:1] == ["--"]:
         del found.command[0]
-    if not found.command:
+    if not found.command and not found.write and not found.version:
         parser.error("COMMAND is missing")
+    if found.write:
+        # Texts of all levels.
+        found.level = LEVELS[-1]
     if found.jobs < 1:
         parser.error("--jobs is at least 1")
+    if found.memory is not None and found.memory < 1:
+        parser.error("--memory is at least 1")
+    found.expected = {}
+    if found.expect:
+        try:
+            found.expected = expected(found.expect)
+        except (OSError, UnicodeError) as error:
+            parser.error(f"{found.expect}: {getattr(error, 'strerror', None) or error}")
+    for name, line in [*[(it, 0) for it in found.case or []], *found.expected.items()]:
+        if name not in ids:
+            parser.error(f"{f'{found.expect}:{line}: ' if line else ''}no case has the id {name!r}")
     return found
+
+
+def expected(path: str) -> dict[str, int]:
+    """Returns the ids of a file, with their lines. What follows a `#` is a comment."""
+    with open(path, encoding="utf-8") as file:
+        lines = [(line.partition("#")[0].strip(), number) for number, line in enumerate(file, 1)]
+    return {name: number for name, number in lines if name}
 
 
 class Feed:
@@ -177,9 +229,15 @@ class Runner:
 
     def __init__(self, asked: argparse.Namespace) -> None:
         self.command, self.limit, self.level = asked.command, asked.limit, LEVELS.index(asked.level)
+        if asked.memory:
+            self.command = ["sh", "-c", 'ulimit -v "$0" && exec "$@"', str(1024 * asked.memory), *asked.command]
+        self.refused = asked.refused
+        self.refusal = f"status {asked.refused}" if asked.refused else "a status other than 0"
         # The size of pieces: of the whole text, or given; or none, where standard input is a file.
         self.ways = itertools.cycle([None, sys.maxsize, *asked.pieces])
         self.stuck = 0
+        # The longest calls, in seconds by the clock, with the ids of their cases.
+        self.slow: list[tuple[float, str]] = []
 
     def call(self, words: Sequence[str], given: str = "", size: int | None = None) -> Answer:
         """Runs the reader with these arguments on a text, which is a file or arrives by a pipe in pieces of a size."""
@@ -197,12 +255,8 @@ class Runner:
 
     def run(self, words: Sequence[str], stdin: Any, feed: Feed | None) -> Answer:
         """Runs the reader with these arguments and this standard input."""
-        streams: dict[str, Any] = {"stdin": stdin, "stdout": subprocess.PIPE, "stderr": subprocess.PIPE}
-        try:
-            process = subprocess.Popen([*self.command, *words], start_new_session=True, **streams)
-        except OSError as error:
-            raise Unusable(f"{self.command[0]}: {error.strerror}") from None
-        with process:
+        streams = {"stdin": stdin, "stdout": subprocess.PIPE, "stderr": subprocess.PIPE}
+        with self.started([*self.command, *words], streams) as process:
             try:
                 found = read(process, self.limit, feed)
             finally:
@@ -211,11 +265,26 @@ class Runner:
         self.stuck += found.status is None
         return found
 
-    def failure(self, case: Case) -> str:
-        """Returns how the reader fails a case, or nothing."""
+    def started(self, words: Sequence[str], streams: dict[str, Any]) -> subprocess.Popen[bytes]:
+        """Starts the reader."""
+        try:
+            return subprocess.Popen(words, start_new_session=True, **streams)
+        except OSError as error:
+            raise Unusable(f"{words[0]}: {error.strerror}") from None
+
+    def close(self) -> None:
+        """Ends what was started."""
+
+    def judged(self, case: Case) -> list[str]:
+        """Returns how the reader fails a case."""
         if self.stuck >= PATIENCE:
             raise Stuck
-        return next(self.failures(case), "")
+        begun = time.monotonic()
+        found = [*self.failures(case)]
+        seconds = time.monotonic() - begun
+        if self.limit / 2 < seconds:
+            self.slow.append((seconds, case["id"]))
+        return found
 
     def failures(self, case: Case) -> Iterator[str]:
         """Yields how the answers of the reader differ from those of a case."""
@@ -223,22 +292,50 @@ class Runner:
             with tempfile.TemporaryDirectory(prefix="conformance-") as folder:
                 yield from self.files(case, folder)
             return
-        given = joined(case["text"])
-        size = case["size"]
-        yield from wrong(f"check{by(size)}", self.call(["check", "-"], given, size), case, self.level)
-        if self.level < LEVELS.index("canon"):
+        given, size, is_right = joined(case["text"]), case["size"], True
+        for failure in self.wrong(f"check{self.by(size)}", self.call(["check", "-"], given, size), case):
+            yield failure
+            is_right = False
+        if self.level < LEVELS.index("canon") or not is_right:
             return
         for form, own in [(1, None if size else sys.maxsize), (2, sys.maxsize if size else None)]:
             found = self.call(["canon", "--form", str(form), "-"], given, own)
-            call = f"canon --form {form}{by(own)}"
+            call = f"canon --form {form}{self.by(own)}"
             if "kind" in case:
                 text = joined(case["canon"][form - 1 if len(case["canon"]) == 2 else 0])
                 if found.status != 0 or found.out != text.encode("latin-1"):
-                    yield f"{call} printed {told(found)}; expected {brief(text)}"
+                    yield f"{call} printed {told(found)}; expected {brief(text)}{differing(found.out, text)}"
             else:
-                yield from wrong(call, found, case, self.level)
+                yield from self.wrong(call, found, case)
                 if found.out:
                     yield f"{call} printed {told(found)} before the refusal"
+
+    def by(self, size: int | None) -> str:
+        """Returns how a text arrived, for a person."""
+        if size is None:
+            return ""
+        return " from a pipe" if size == sys.maxsize else f" from a pipe in pieces of {size} byte{'s' * (size > 1)}"
+
+    def is_refusal(self, status: int | None) -> bool:
+        return status is not None and status > 0 and self.refused in (0, status)
+
+    def wrong(self, call: str, found: Answer, case: Case) -> Iterator[str]:
+        """Yields how the answer of `check` differs from that of a case, or how another call refuses a text."""
+        if "kind" in case:
+            lines = found.out.splitlines()[:1]
+            is_told = self.level < LEVELS.index("refusal") or lines == [f"accepted {case['kind']}".encode()]
+            if found.status != 0 or not is_told:
+                yield f"{call} printed {told(found)}; expected 'accepted {case['kind']}' and status 0"
+            return
+        line = f"-:{case['place']}: {case['refusal']}"
+        (last,) = found.err.splitlines()[-1:] or [b""]
+        is_right = True
+        if self.level == LEVELS.index("line"):
+            is_right = last.split(b":")[:2] == [b"-", str(case["place"]).encode()]
+        elif self.level > LEVELS.index("line"):
+            is_right = last == line.encode()
+        if not self.is_refusal(found.status) or not is_right:
+            yield f"{call} printed {told(found)}; expected '{line}' and {self.refusal}"
 
     def files(self, case: Case, folder: str) -> Iterator[str]:
         """Yields how the reader fails a case of two files, or of a text and the file of a companion."""
@@ -263,8 +360,77 @@ class Runner:
             name = case.get("refused", "with")
             line = f":{case['place']}: {case['refusal']}" if "refused" in case else f": {case['unfit']}"
             last = found.err.splitlines()[-1:]
-            if found.status != 2 or last != [f"{paths.get(name, '-')}{line}".encode()]:
-                yield f"{call} printed {told(found)}; expected '{name.upper()}{line}' and status 2"
+            if not self.is_refusal(found.status) or last != [f"{paths.get(name, '-')}{line}".encode()]:
+                yield f"{call} printed {told(found)}; expected '{name.upper()}{line}' and {self.refusal}"
+
+
+class Batch(Runner):
+    """A reader that runs once for each job, and answers a call in a line."""
+
+    def __init__(self, asked: argparse.Namespace) -> None:
+        super().__init__(asked)
+        self.folder = tempfile.TemporaryDirectory(prefix="conformance-")
+        self.processes: dict[int, subprocess.Popen[bytes]] = {}
+
+    def call(self, words: Sequence[str], given: str = "", size: int | None = None) -> Answer:
+        """Asks the reader of this thread to answer a call, in which a file is in place of standard input."""
+        path = os.path.join(self.folder.name, str(threading.get_ident()))
+        with open(path, "wb") as file:
+            file.write(given.encode("latin-1"))
+        found = self.ask("\t".join(path if it == "-" else it for it in words))
+        self.stuck += found.status is None
+        if found.status == 0:
+            return self.answer(found.out.removesuffix(b"\n"), path.encode())
+        stop(self.processes.pop(threading.get_ident()))
+        return found
+
+    def by(self, size: int | None) -> str:
+        return ""
+
+    def ask(self, request: str) -> Answer:
+        """Writes a line to the reader, and returns the line that it answers; its status is 0 unless it ends."""
+        process = self.process()
+        assert process.stdin and process.stdout
+        clock, line = Clock(process.pid, self.limit), b""
+        try:
+            process.stdin.write(f"{request}\n".encode())
+            process.stdin.flush()
+        except OSError:
+            return Answer(line, b"", process.wait() or FAILED)
+        while not line.endswith(b"\n"):
+            ready = select.select([process.stdout], [], [], min(1, clock.left()))[0]
+            if not clock.left() or MOST < len(line):
+                return Answer(line, b"", None)
+            piece = os.read(process.stdout.fileno(), 65536) if ready else b""
+            if ready and not piece:
+                return Answer(line, b"", ended(process, clock) or FAILED)
+            line += piece
+        return Answer(line, b"", 0)
+
+    def process(self) -> subprocess.Popen[bytes]:
+        """Returns the reader of this thread."""
+        own = threading.get_ident()
+        if own not in self.processes:
+            streams = {"stdin": subprocess.PIPE, "stdout": subprocess.PIPE, "stderr": subprocess.DEVNULL}
+            self.processes[own] = self.started(self.command, streams)
+        return self.processes[own]
+
+    def answer(self, line: bytes, path: bytes) -> Answer:
+        """Returns what a call of its own would have printed in place of a line."""
+        if line.startswith(b'"'):
+            try:
+                return Answer(str(json.loads(line)).encode("latin-1"), b"", 0)
+            except ValueError:
+                return Answer(line, b"", FAILED)
+        if line.startswith((b"accepted", b"same", b"differ ")):
+            return Answer(line.replace(b" fits ", b"\nfits ") + b"\n", b"", int(line.startswith(b"differ ")))
+        return Answer(b"", line.replace(path, b"-") + b"\n", self.refused or FAILED)
+
+    def close(self) -> None:
+        for it in self.processes.values():
+            stop(it)
+            it.communicate()
+        self.folder.cleanup()
 
 
 class Clock:
@@ -272,22 +438,24 @@ class Clock:
 
     def __init__(self, pid: int, limit: float) -> None:
         self.pid, self.limit, self.begun = pid, limit, time.monotonic()
+        self.before = processor_time(pid) or 0
 
     def left(self) -> float:
         """Returns the seconds to wait before the next look at the processor time, or 0 if the call has had its time."""
         passed = time.monotonic() - self.begun
         if passed < self.limit:
             return self.limit - passed
-        return 0 if CLOCK * self.limit < passed else max(0, self.limit - processor_time(self.pid))
+        taken = processor_time(self.pid)
+        return 0 if taken is None or CLOCK * self.limit < passed else max(0, self.limit - taken + self.before)
 
 
-def processor_time(pid: int) -> float:
-    """Returns the seconds of processor time that a process has taken; infinite where the system does not tell."""
+def processor_time(pid: int) -> float | None:
+    """Returns the seconds of processor time that a process has taken, or None where the system does not tell."""
     try:
         with open(f"/proc/{pid}/stat", encoding="latin-1") as file:
             fields = file.read().rpartition(")")[2].split()
     except OSError:
-        return float("inf")
+        return None
     return sum(map(int, fields[11:15])) / os.sysconf("SC_CLK_TCK")
 
 
@@ -322,13 +490,6 @@ def ended(process: subprocess.Popen[bytes], clock: Clock) -> int | None:
                 return None
 
 
-def by(size: int | None) -> str:
-    """Returns how a text arrived, for a person."""
-    if size is None:
-        return ""
-    return " from a pipe" if size == sys.maxsize else f" from a pipe in pieces of {size} byte{'s' * (size > 1)}"
-
-
 def stop(process: subprocess.Popen[bytes]) -> None:
     """Ends a process and those that it started."""
     try:
@@ -336,24 +497,6 @@ def stop(process: subprocess.Popen[bytes]) -> None:
     except (ProcessLookupError, PermissionError):
         # All of them have ended.
         pass
-
-
-def wrong(call: str, found: Answer, case: Case, level: int) -> Iterator[str]:
-    """Yields how the answer of `check` differs from that of a case, or how another call refuses a text."""
-    if "kind" in case:
-        lines = found.out.splitlines()[:1]
-        if found.status != 0 or level >= LEVELS.index("refusal") and lines != [f"accepted {case['kind']}".encode()]:
-            yield f"{call} printed {told(found)}; expected 'accepted {case['kind']}' and status 0"
-        return
-    line = f"-:{case['place']}: {case['refusal']}"
-    (last,) = found.err.splitlines()[-1:] or [b""]
-    is_right = [
-        True,
-        last.split(b":")[:2] == [b"-", str(case["place"]).encode()],
-        last == line.encode(),
-    ][min(level, LEVELS.index("refusal"))]
-    if found.status != 2 or not is_right:
-        yield f"{call} printed {told(found)}; expected '{line}' and status 2"
 
 
 def told(found: Answer) -> str:
@@ -366,8 +509,24 @@ def told(found: Answer) -> str:
 
 
 def brief(text: str) -> str:
-    """Returns a text in one line, without the middle of a long one."""
-    return json.dumps(text if len(text) <= 240 else f"{text[:120]} .. {text[-100:]}")
+    """Returns a text in one line as `printf` of a shell takes it, without the middle of a long one."""
+    spelled = {"\n": "\\n", "\t": "\\t", "\r": "\\r", "\\": "\\\\", "%": "%%", "'": "\\047"}
+    shown = [spelled.get(it) or (it if " " <= it <= "~" else f"\\{ord(it):03o}") for it in shortened(text)]
+    return f"'{''.join(shown)}'"
+
+
+def shortened(text: str) -> str:
+    return text if len(text) <= 240 else f"{text[:120]} .. {text[-100:]}"
+
+
+def differing(printed: bytes, text: str) -> str:
+    """Returns the first line in which what a call printed differs from a text, if both have lines."""
+    ways = [it.split("\n") for it in (printed.decode("latin-1"), text)]
+    for number, (own, wanted) in enumerate(itertools.zip_longest(*ways), 1):
+        if own != wanted and printed:
+            shown = ["nothing" if it is None else brief(it) for it in (own, wanted)]
+            return f"; line {number} is {shown[0]} in place of {shown[1]}"
+    return ""
 
 
 def kind_of(text: str) -> str:
@@ -381,58 +540,166 @@ def kind_of(text: str) -> str:
 
 def is_chosen(case: Case, asked: argparse.Namespace) -> bool:
     """Whether the command line asks for a case."""
+    if asked.case:
+        return case["id"] in asked.case
     if FILES & case.keys() and asked.level != "compare" or asked.accepted and {"refusal", "unfit"} & case.keys():
+        return False
+    if asked.level == "challenge" and "profile" in case or asked.rule and case["rule"] not in asked.rule:
         return False
     texts = [joined(case[it]) for it in ("text", "left", "right") if it in case]
     kinds = {case["kind"]} if "kind" in case else {*map(kind_of, texts)}
     return not asked.kind or kinds <= {*asked.kind, ""}
 
 
-def shown(rule: Case, found: list[tuple[Case, str]], is_all: bool) -> Iterator[str]:
+class Result(NamedTuple):
+    """A case, how the reader fails it, and whether it is known to fail."""
+
+    case: Case
+    failures: list[str]
+    is_known: bool
+
+    @property
+    def outcome(self) -> str:
+        if self.is_known:
+            return "fails as expected" if self.failures else "passes unexpectedly"
+        return "fails" if self.failures else "passes"
+
+    @property
+    def is_bad(self) -> bool:
+        return self.outcome in ("fails", "passes unexpectedly")
+
+    def messages(self) -> list[str]:
+        """Returns what to tell of a case that is bad."""
+        return self.failures or ["passes now, and should no longer be expected to fail"]
+
+
+def shown(rule: Case, found: list[Result], is_all: bool) -> Iterator[str]:
     """Yields the lines on the failures of a rule."""
-    failed = [(case, failure) for case, failure in found if failure]
+    bad = [it for it in found if it.is_bad]
     yield f"{rule['rule']}: {rule['says']} ({rule['section']})"
-    yield f"  {len(failed)} of {len(found)} cases fail"
-    for case, failure in failed if is_all else failed[:SHOWN]:
-        yield f"  {case['id']}: {case['about']}"
+    yield f"  {len(bad)} of {len(found)} cases fail"
+    for it in bad if is_all else bad[:SHOWN]:
+        yield f"  {it.case['id']}: {it.case['about']}"
         for name in TEXTS:
-            if name in case:
-                yield f"    {name}: {brief(joined(case[name]))}"
-        yield f"    {failure}"
-    if not is_all and SHOWN < len(failed):
-        rest = " ".join(case["id"] for case, _ in failed[SHOWN:])
+            if name in it.case:
+                text = joined(it.case[name])
+                cut = f" ({len(text)} bytes; --write makes a file)" if text != shortened(text) else ""
+                yield f"    {name}: printf {brief(text)}{cut}"
+        yield from (f"    {failure}" for failure in it.messages())
+    if not is_all and SHOWN < len(bad):
+        rest = " ".join(it.case["id"] for it in bad[SHOWN:])
         yield f"  and {rest} (--all shows them)"
+
+
+def tap(found: list[Result]) -> Iterator[str]:
+    """Yields the lines of the Test Anything Protocol."""
+    yield from ["TAP version 13", f"1..{len(found)}"]
+    for number, it in enumerate(found, 1):
+        todo = " # TODO known to fail" if it.is_known else ""
+        yield f"{'not ok' if it.failures else 'ok'} {number} - {it.case['id']}{todo}"
+        yield from (f"# {failure}" for failure in (it.messages() if it.is_bad else []))
+
+
+def junit(found: list[Result]) -> Iterator[str]:
+    """Yields XML as tools for JUnit read it."""
+    element = xml.etree.ElementTree.SubElement
+    counts = {"tests": str(len(found)), "failures": str(sum(it.is_bad for it in found))}
+    suite = xml.etree.ElementTree.Element("testsuite", {"name": "conformance", **counts})
+    for it in found:
+        case = element(suite, "testcase", classname=it.case["rule"], name=it.case["id"])
+        if it.is_bad:
+            element(case, "failure", message=it.case["about"]).text = "\n".join(it.messages())
+        elif it.is_known:
+            element(case, "skipped", message="known to fail")
+    yield xml.etree.ElementTree.tostring(suite, encoding="us-ascii", xml_declaration=True).decode()
+
+
+def as_json(found: list[Result]) -> Iterator[str]:
+    """Yields a JSON object, with a case in each line."""
+    lines = [
+        json.dumps({"id": it.case["id"], "rule": it.case["rule"], "outcome": it.outcome, "failures": it.failures})
+        for it in found
+    ]
+    yield '{"cases":[\n' + ",\n".join(lines) + "\n]}"
+
+
+SHAPES = {"tap": tap, "junit": junit, "json": as_json}
+
+
+def write(cases: list[Case], folder: str) -> None:
+    """Makes files of the texts of cases, and of what is expected."""
+    os.makedirs(folder, exist_ok=True)
+    for case in cases:
+        files = {name: joined(case[name]) for name in TEXTS if name in case}
+        forms = {f"canon-{form}": joined(it) for form, it in enumerate(case.get("canon", []), 1)}
+        rest = {key: it for key, it in case.items() if key not in [*TEXTS, "canon", "size"]}
+        for name, text in {**files, **forms, "json": json.dumps(rest) + "\n"}.items():
+            with open(os.path.join(folder, f"{case['id']}.{name}"), "wb") as file:
+                file.write(text.encode("latin-1"))
+
+
+def run_all(runner: Runner, rules: list[Case], chosen: list[Case], asked: argparse.Namespace) -> list[Result]:
+    """Runs the cases, rule by rule, and prints the failures of each."""
+    results: list[Result] = []
+    with ThreadPoolExecutor(asked.jobs) as pool:
+        for rule in rules:
+            cases = [it for it in chosen if it["rule"] == rule["rule"]]
+            judged = zip(cases, pool.map(runner.judged, cases))
+            found = [Result(case, failures, case["id"] in asked.expected) for case, failures in judged]
+            results += found
+            if not asked.shape and any(it.is_bad for it in found):
+                print("\n".join(shown(rule, found, asked.all)), flush=True)
+    return results
+
+
+def summary(runner: Runner, found: list[Result], asked: argparse.Namespace) -> Iterator[str]:
+    """Yields the last lines."""
+    if runner.slow:
+        seconds, name = max(runner.slow)
+        half = f"{runner.limit / 2:g} seconds"
+        yield f"{len(runner.slow)} cases took more than {half}, the longest {seconds:.1f} seconds: {name}"
+    bad = sum(it.is_bad for it in found)
+    known = sum(it.outcome == "fails as expected" for it in found)
+    told_known = f", {known} fail as expected" if asked.expect else ""
+    yield f"{len(found) - bad - known} cases pass, {bad} fail{told_known} (level {asked.level})"
 
 
 def main(words: Sequence[str] | None = None) -> int:
     """Runs the cases, prints which of them fail, and returns the status."""
     try:
         # Unlike open, the loader of this module also reads from an archive, as a wheel is.
-        rules = json.loads(globals()["__loader__"].get_data(CASES))["rules"]
+        suite = json.loads(globals()["__loader__"].get_data(CASES))
+        rules = suite["rules"]
     except (OSError, ValueError) as error:
         print(f"run.py: {CASES}: {error}", file=sys.stderr)
         return USAGE
-    asked = parsed(words, [it["rule"] for it in rules])
-    runner = Runner(asked)
-    passed = failed = 0
+    asked = parsed(words, rules)
+    if asked.batch:
+        # Writing to a reader that has ended is an error of its case.
+        signal.signal(signal.SIGPIPE, signal.SIG_IGN)
+    runner = Batch(asked) if asked.batch else Runner(asked)
+    cases = [{**case, "rule": rule["rule"], "size": next(runner.ways)} for rule in rules for case in rule["cases"]]
+    chosen = [it for it in cases if is_chosen(it, asked)]
     try:
-        with ThreadPoolExecutor(asked.jobs) as pool:
-            for rule in (it for it in rules if not asked.rule or it["rule"] in asked.rule):
-                cases = [{**it, "size": next(runner.ways)} for it in rule["cases"]]
-                cases = [it for it in cases if is_chosen(it, asked)]
-                found = [*zip(cases, pool.map(runner.failure, cases))]
-                failures = sum(bool(failure) for _, failure in found)
-                passed, failed = passed + len(found) - failures, failed + failures
-                if failures:
-                    print("\n".join(shown(rule, found, asked.all)), flush=True)
-    except Unusable as error:
+        if asked.version:
+            print(f"cases {suite['version']}")
+            return 0
+        if asked.write:
+            write(chosen, asked.write)
+            return 0
+        found = run_all(runner, rules, chosen, asked)
+    except (Unusable, OSError) as error:
         print(f"run.py: {error}", file=sys.stderr)
         return USAGE
     except Stuck:
         print(f"run.py: {PATIENCE} calls did not end within {asked.limit:g} seconds, and the other cases are not tried")
         return FAILED
-    print(f"{passed} cases pass, {failed} fail (level {asked.level})")
-    return FAILED if failed else 0
+    finally:
+        runner.close()
+    if asked.shape:
+        print("\n".join(SHAPES[asked.shape](found)))
+    print("\n".join(summary(runner, found, asked)), file=sys.stderr if asked.shape else sys.stdout)
+    return FAILED if any(it.is_bad for it in found) else 0
 
 
 if __name__ == "__main__":
