@@ -34,7 +34,8 @@ runs once for each job, and answers each line of its standard input in a line: R
 Further lines are ignored where 'check' prints them: on standard output after the expected ones, and on standard error
 before the refusal.
 
-The status is 0 if all cases pass, 1 if one fails, and 3 if the command line is refused. A call that takes more
+The status is 0 if all cases pass, 1 if one fails, and 3 if the command line is refused, or if COMMAND ends with status
+125, which says that it cannot work. A call that takes more
 processor time than the limit, or six times as long by the clock, or prints more than 1 MB, is ended and fails."""
 
 from __future__ import annotations
@@ -66,6 +67,8 @@ FAILED, USAGE = 1, 3
 # What a call may print, in bytes; how many calls may exceed the limit before no further case is tried; and how many
 # failures of a rule are shown.
 MOST, PATIENCE, SHOWN = 1_000_000, 10, 5
+# The status of a reader or an adapter that cannot work, say because a program is missing.
+BROKEN = 125
 # How often the limit of processor time a call may take by the clock.
 CLOCK = 6
 # The default sizes of pieces, how many pieces a text has at most, and the seconds between two looks at whether a piece
@@ -263,6 +266,9 @@ class Runner:
                 # The reader may have started others, which would keep its streams open.
                 stop(process)
         self.stuck += found.status is None
+        if found.status == BROKEN:
+            (last,) = found.err.splitlines()[-1:] or [b""]
+            raise Unusable(f"{self.command[0]} cannot work: {last.decode(errors='replace')}")
         return found
 
     def started(self, words: Sequence[str], streams: dict[str, Any]) -> subprocess.Popen[bytes]:
