@@ -115,6 +115,10 @@ def costs() -> Iterator[Case]:
         yield Case("form", f"costs-{name}", f"free arcs of costs {about}", text("min", 2, free))
         fixed = [[1, 2, 2, 2, found[0]], [1, 2, 0, 3, found[1]], [1, 2, 0, 4, found[0]]]
         yield Case("form", f"fixed-{name}", f"fixed and free arcs of costs {about}", text("min", 2, fixed))
+        below = [[1, 2, 2, 2, min(found)], [1, 2, 0, 3, max(found)]]
+        yield Case(
+            "form", f"fixed-below-{name}", f"a fixed arc below a free one, of costs {about}", text("min", 2, below)
+        )
         mean = [[1, 2, 1 + i, 1 + i, cost] for i, cost in enumerate(found)]
         yield Case("forced", f"costs-{name}", f"forced units of costs {about}", text("min", 2, mean))
         for way, lengths in [("falling", found), ("rising", found[::-1])]:

@@ -56,13 +56,13 @@ WRAPPING = {
 # places.
 BYTES = {
     "between": ["\0", "\v", "\f", "\xa0", ","],
-    "last": ["\v"],
+    "number": ["\v"],
     "after": ["\0", "\f", "\x1a", "\x85", "\xa0", ";"],
     "before": ["\x1f"],
 }
 PLACES = {
     "between": "between the last two words",
-    "last": "before the last word",
+    "number": "before the last number",
     "after": "after the last word",
     "before": "before the first word",
 }
@@ -106,13 +106,19 @@ def odd_bytes() -> Iterator[Case]:
     """Yields lines with bytes that are parts of words."""
     for it in lines():
         whole = " ".join(it.words)
+        front, _, last = whole.rpartition(" ")
+        number = it.numbers()[-1]
         for place, values in BYTES.items():
             for byte in values:
-                front, _, last = whole.rpartition(" ")
-                between, last_word = f"{front}{byte}{last}", f"{front} {byte}{last}"
-                texts = {"between": between, "last": last_word, "after": f"{whole}{byte}", "before": f"{byte}{whole}"}
+                words = [f"{byte}{word}" if i == number else word for i, word in enumerate(it.words)]
+                text = {
+                    "between": f"{front}{byte}{last}",
+                    "number": " ".join(words),
+                    "after": f"{whole}{byte}",
+                    "before": f"{byte}{whole}",
+                }[place]
                 name = f"{place}-{hexadecimal(byte, '-', '')}"
-                yield it.case("byte", name, f"{hexadecimal(byte)} {PLACES[place]}", f"{texts[place]}\n")
+                yield it.case("byte", name, f"{hexadecimal(byte)} {PLACES[place]}", f"{text}\n")
 
 
 def keywords() -> Iterator[Case]:

@@ -19,6 +19,7 @@ BORDERS = {
     "cr": ("a CR between words", "\np sp 2 1\na 1 2\r|7\n"),
     "sign": ("a sign and its digits", "\np sp 2 1\na 1 2 -|7\n"),
     "digits": ("the digits of a number", "\np sp 2 1\na 1 2 12|34\n"),
+    "empty": ("an empty line before a fault", "\n|\nx\n"),
     "last": ("the last byte", "\np sp 2 1\na 1 2 7|"),
 }
 # Counts that 8 or 16 bits do not hold.

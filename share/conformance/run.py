@@ -377,12 +377,17 @@ class Batch(Runner):
         super().__init__(asked)
         self.folder = tempfile.TemporaryDirectory(prefix="conformance-")
         self.processes: dict[int, subprocess.Popen[bytes]] = {}
+        # The text of the file of each thread.
+        self.given: dict[str, str] = {}
 
     def call(self, words: Sequence[str], given: str = "", size: int | None = None) -> Answer:
         """Asks the reader of this thread to answer a call, in which a file is in place of standard input."""
         path = os.path.join(self.folder.name, str(threading.get_ident()))
-        with open(path, "wb") as file:
-            file.write(given.encode("latin-1"))
+        # The calls of a case have the same text.
+        if self.given.get(path) is not given:
+            self.given[path] = given
+            with open(path, "wb") as file:
+                file.write(given.encode("latin-1"))
         found = self.ask("\t".join(path if it == "-" else it for it in words))
         self.stuck += found.status is None
         if found.status == 0:
