@@ -28,8 +28,9 @@ Levels, each of which includes the ones before it:
     canon      'canon', in both forms; the default
     compare    'compare', and 'check' with a companion
 
-Standard input is a file, a pipe, or a pipe in pieces, in turn: --pieces gives the sizes of these. With --batch, COMMAND
-runs once for each job, and answers each line of its standard input in a line: README.md describes these.
+Standard input is a file, a pipe, or a pipe in pieces, by the id of the case: --pieces gives the sizes of these. With
+--batch, COMMAND runs once for each job, and answers each line of its standard input in a line: README.md describes
+these.
 
 Further lines are ignored where 'check' prints them: on standard output after the expected ones, and on standard error
 before the refusal.
@@ -57,7 +58,8 @@ import termios
 import threading
 import time
 import xml.etree.ElementTree
-from collections.abc import Iterator, Sequence
+import zlib
+from collections.abc import Iterable, Iterator, Sequence
 from concurrent.futures import ThreadPoolExecutor
 from typing import Any, NamedTuple, NoReturn
 
@@ -237,7 +239,7 @@ class Runner:
         self.refused = asked.refused
         self.refusal = f"status {asked.refused}" if asked.refused else "a status other than 0"
         # The size of pieces: of the whole text, or given; or none, where standard input is a file.
-        self.ways = itertools.cycle([None, sys.maxsize, *asked.pieces])
+        self.ways: list[int | None] = [None, sys.maxsize, *asked.pieces]
         self.stuck = 0
         # The longest calls, in seconds by the clock, with the ids of their cases.
         self.slow: list[tuple[float, str]] = []
@@ -298,7 +300,7 @@ class Runner:
             with tempfile.TemporaryDirectory(prefix="conformance-") as folder:
                 yield from self.files(case, folder)
             return
-        given, size, is_right = joined(case["text"]), case["size"], True
+        given, size, is_right = joined(case["text"]), self.way(case["id"]), True
         for failure in self.wrong(f"check{self.by(size)}", self.call(["check", "-"], given, size), case):
             yield failure
             is_right = False
@@ -315,6 +317,10 @@ class Runner:
                 yield from self.wrong(call, found, case)
                 if found.out:
                     yield f"{call} printed {told(found)} before the refusal"
+
+    def way(self, name: str) -> int | None:
+        """Returns the size of pieces in which the text of a case arrives, which depends on its id alone."""
+        return self.ways[zlib.crc32(name.encode()) % len(self.ways)]
 
     def by(self, size: int | None) -> str:
         """Returns how a text arrived, for a person."""
@@ -643,24 +649,27 @@ def write(cases: list[Case], folder: str) -> None:
     for case in cases:
         files = {name: joined(case[name]) for name in TEXTS if name in case}
         forms = {f"canon-{form}": joined(it) for form, it in enumerate(case.get("canon", []), 1)}
-        rest = {key: it for key, it in case.items() if key not in [*TEXTS, "canon", "size"]}
+        rest = {key: it for key, it in case.items() if key not in [*TEXTS, "canon"]}
         for name, text in {**files, **forms, "json": json.dumps(rest) + "\n"}.items():
             with open(os.path.join(folder, f"{case['id']}.{name}"), "wb") as file:
                 file.write(text.encode("latin-1"))
 
 
-def run_all(runner: Runner, rules: list[Case], chosen: list[Case], asked: argparse.Namespace) -> list[Result]:
-    """Runs the cases, rule by rule, and prints the failures of each."""
-    results: list[Result] = []
+def run_all(runner: Runner, chosen: list[Case], asked: argparse.Namespace) -> Iterator[Result]:
+    """Yields the results of the cases."""
     with ThreadPoolExecutor(asked.jobs) as pool:
-        for rule in rules:
-            cases = [it for it in chosen if it["rule"] == rule["rule"]]
-            judged = zip(cases, pool.map(runner.judged, cases))
-            found = [Result(case, failures, case["id"] in asked.expected) for case, failures in judged]
-            results += found
-            if not asked.shape and any(it.is_bad for it in found):
-                print("\n".join(shown(rule, found, asked.all)), flush=True)
-    return results
+        for case, failures in zip(chosen, pool.map(runner.judged, chosen)):
+            yield Result(case, failures, case["id"] in asked.expected)
+
+
+def by_rule(rules: list[Case], found: list[Result], is_all: bool) -> Iterator[str]:
+    """Yields the lines on the failures of all rules, first of those with the greatest share of failures: a mistake
+    fails most cases of its own rule."""
+    own = [(rule, [it for it in found if it.case["rule"] == rule["rule"]]) for rule in rules]
+    shares = [(sum(it.is_bad for it in results) / len(results), i) for i, (_, results) in enumerate(own) if results]
+    for share, i in sorted(shares, key=lambda it: (-it[0], it[1])):
+        if share:
+            yield from shown(*own[i], is_all)
 
 
 def summary(runner: Runner, found: list[Result], asked: argparse.Namespace) -> Iterator[str]:
@@ -675,42 +684,60 @@ def summary(runner: Runner, found: list[Result], asked: argparse.Namespace) -> I
     yield f"{len(found) - bad - known} cases pass, {bad} fail{told_known} (level {asked.level})"
 
 
-def main(words: Sequence[str] | None = None) -> int:
-    """Runs the cases, prints which of them fail, and returns the status."""
+def loaded() -> Any:
+    """Returns cases.json."""
     try:
         # Unlike open, the loader of this module also reads from an archive, as a wheel is.
-        suite = json.loads(globals()["__loader__"].get_data(CASES))
-        rules = suite["rules"]
+        return json.loads(globals()["__loader__"].get_data(CASES))
     except (OSError, ValueError) as error:
-        print(f"run.py: {CASES}: {error}", file=sys.stderr)
-        return USAGE
-    asked = parsed(words, rules)
-    if asked.batch:
-        # Writing to a reader that has ended is an error of its case.
-        signal.signal(signal.SIGPIPE, signal.SIG_IGN)
+        raise Unusable(f"{CASES}: {error}") from None
+
+
+def printed(lines: Iterable[str], is_aside: bool = False) -> None:
+    """Prints lines on standard output, or aside on standard error."""
+    print("".join(f"{it}\n" for it in lines), end="", flush=True, file=sys.stderr if is_aside else sys.stdout)
+
+
+def tried(rules: list[Case], asked: argparse.Namespace) -> int:
+    """Runs the cases, prints which of them fail, and returns the status."""
     runner = Batch(asked) if asked.batch else Runner(asked)
-    cases = [{**case, "rule": rule["rule"], "size": next(runner.ways)} for rule in rules for case in rule["cases"]]
+    cases = [{**case, "rule": rule["rule"]} for rule in rules for case in rule["cases"]]
     chosen = [it for it in cases if is_chosen(it, asked)]
+    found: list[Result] = []
     try:
-        if asked.version:
-            print(f"cases {suite['version']}")
-            return 0
         if asked.write:
             write(chosen, asked.write)
             return 0
-        found = run_all(runner, rules, chosen, asked)
-    except (Unusable, OSError) as error:
-        print(f"run.py: {error}", file=sys.stderr)
-        return USAGE
+        for it in run_all(runner, chosen, asked):
+            found.append(it)
     except Stuck:
-        print(f"run.py: {PATIENCE} calls did not end within {asked.limit:g} seconds, and the other cases are not tried")
+        stuck = (
+            f"run.py: {PATIENCE} calls did not end within {asked.limit:g} seconds, and the other cases are not tried"
+        )
+        printed([*by_rule(rules, found, asked.all), stuck])
         return FAILED
     finally:
         runner.close()
-    if asked.shape:
-        print("\n".join(SHAPES[asked.shape](found)))
-    print("\n".join(summary(runner, found, asked)), file=sys.stderr if asked.shape else sys.stdout)
+    printed(SHAPES[asked.shape](found) if asked.shape else by_rule(rules, found, asked.all))
+    printed(summary(runner, found, asked), bool(asked.shape))
     return FAILED if any(it.is_bad for it in found) else 0
+
+
+def main(words: Sequence[str] | None = None) -> int:
+    """Runs what the command line asks for, and returns the status."""
+    try:
+        suite = loaded()
+        asked = parsed(words, suite["rules"])
+        if asked.version:
+            printed([f"cases {suite['version']}"])
+            return 0
+        if asked.batch:
+            # Writing to a reader that has ended is an error of its case.
+            signal.signal(signal.SIGPIPE, signal.SIG_IGN)
+        return tried(suite["rules"], asked)
+    except (Unusable, OSError) as error:
+        printed([f"run.py: {error}"], True)
+        return USAGE
 
 
 if __name__ == "__main__":
