@@ -12,7 +12,7 @@ import mistakes
 import reading
 from case import Case
 from mistakes import Mistake
-from reading import LINES, Fault, Item, Text
+from reading import LINES, NAMES, Fault, Item, Text
 
 # The functions of reading.py, and its constants, that read a line; those that a whole text needs; and those that
 # compare two texts. The others say what a text means.
@@ -79,8 +79,8 @@ def type_of(kind: str, line: str) -> str:
         found = next((it for it in [*LINES[kind], *COMMON] if it in letter), "")
         return f"{kind} {found}" if found in LINES[kind] else ""
     is_aux = bool(words) and is_near(words[0], "aux")
-    kinds, place = (["ss", "p2p", "co"], 2) if is_aux else (["min", "max", "sp"], 0)
-    found = next((it for it in kinds if place < len(words) and is_near(words[place], it)), "")
+    own = [(kind, names) for kind, names in NAMES.items() if (names[0] == "aux") == is_aux]
+    found = next((kind for kind, names in own if len(names) <= len(words) and is_near(words[len(names) - 1], kind)), "")
     return f"{found} p" if "p" in letter and found else ""
 
 
