@@ -85,8 +85,8 @@ def type_of(kind: str, line: str) -> str:
 
 
 def is_near(word: str, keyword: str) -> bool:
-    """Whether a word is a keyword, or becomes one by bytes before, after or at its end."""
-    return keyword in word or len(word) > 1 and keyword.startswith(word) or word == keyword[0]
+    """Whether a word has a keyword in it, or is the beginning of one."""
+    return keyword in word or keyword.startswith(word)
 
 
 def outcome(reader: ModuleType, probe: Probe) -> State | str:

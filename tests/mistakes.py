@@ -24,8 +24,8 @@ BYTES = [*range(9), 11, 12, *range(14, 32), *map(ord, "!,./:;=|"), 127, 133, 160
 # First words of lines, and words after `p`, that other formats and tools know.
 FIRST_WORDS = "b d e f g h i j k l m o r t u w x y z E T # % // /* ; ! * $ -- = > @ [ { dnl end rem".split()
 KINDS = "edge col graph asn mat cep tw cnf wcnf spp shortest network mcf mincost maxflow flow arc sssp apsp".split()
-# The headings of families of mistakes in README.md.
-FIELDS, BLANKS, SKIPPED, NAMED = "Single fields", "Single bytes", "Lines of other formats", "Kinds of other formats"
+# The heading of mistakes that tables make.
+OF_TABLES = "Mistakes of tables"
 
 
 class Mistake(NamedTuple):
@@ -62,15 +62,17 @@ def mistakes() -> Iterator[Mistake]:
     yield from of_fields()
     for byte in BYTES:
         change = (SPLIT, f'"[ \\t\\r\\x{byte:02x}]"')
-        yield Mistake(f"0x{byte:02x} is a blank.", BLANKS, [change], "One of the bytes is a blank", needs=chr(byte))
+        yield Mistake(f"0x{byte:02x} is a blank.", OF_TABLES, [change], "One of the bytes is a blank", needs=chr(byte))
     for word in FIRST_WORDS:
         change = (JUDGED, f"        if words[0] == {word!r}:\n            return\n{JUDGED}")
         yield Mistake(
-            f"`{word}` lines are skipped.", SKIPPED, [change], "Lines with one first word are skipped", needs=word
+            f"`{word}` lines are skipped.", OF_TABLES, [change], "Lines with one first word are skipped", needs=word
         )
     for word in KINDS:
         change = (JUDGED, f"        words[1:2] = ['sp' if it == {word!r} else it for it in words[1:2]]\n{JUDGED}")
-        yield Mistake(f"`p {word}` is read as `p sp`.", NAMED, [change], "One of the kinds is read as `sp`", needs=word)
+        yield Mistake(
+            f"`p {word}` is read as `p sp`.", OF_TABLES, [change], "One of the kinds is read as `sp`", needs=word
+        )
 
 
 def of_fields() -> Iterator[Mistake]:
@@ -93,7 +95,7 @@ def of_field(named: str, line_type: str, test: str, at: int) -> Iterator[Mistake
             f"            words[{at}] = {value}",
         ]
         change = (JUDGED, "\n".join([*changed, JUDGED]))
-        yield Mistake(f"{named} {what}.", FIELDS, [change], f"One of the fields {what}", (line_type,))
+        yield Mistake(f"{named} {what}.", OF_TABLES, [change], f"One of the fields {what}", (line_type,))
 
 
 def groups(lines: list[str], mark: str) -> Iterator[str]:

@@ -1,5 +1,6 @@
-"""The conformance suite in share/conformance, as far as it is generated: cases.json, and the list of mistakes in
-mistakes.md. tools/conformance-cases writes them, and tests/conformance compares them."""
+"""The conformance suite, as far as it is generated: cases.json and the list of mistakes, mistakes.md, in
+share/conformance, and the list of ids, tests/case-ids.txt. tools/conformance-cases writes them, and tests/conformance
+compares them."""
 
 import hashlib
 import json
@@ -13,7 +14,7 @@ import challenge
 import mistakes
 from case import Case
 from found import LONG, Find, Finder, applies
-from mistakes import Mistake
+from mistakes import OF_TABLES, Mistake
 from reading import LINES
 from rules import RULES
 from shared import ROOT, text_of
@@ -131,7 +132,7 @@ class Suite:
 
     def families(self, counts: list[int]) -> Iterator[str]:
         """Yields the lines on mistakes that differ in a byte, a word or a field alone."""
-        yield from ["", "## Mistakes of tables", "", "| Mistake | Number | Cases of each |", "|---|---|---|"]
+        yield from ["", f"## {OF_TABLES}", "", "| Mistake | Number | Cases of each |", "|---|---|---|"]
         for family in dict.fromkeys(it.family for it in self.mistakes if it.family):
             own = [count for it, count in zip(self.mistakes, counts) if it.family == family]
             yield f"| {family}. | {len(own)} | {min(own)} to {max(own)} |"
