@@ -88,7 +88,7 @@ def add_files(one: argparse.ArgumentParser, task: str) -> None:
     add("--ending", action="append", metavar="END", help=f"{about}; that of a compression may follow each")
     about = "leave out what folders have by this name or path, where * stands for any characters; repeatable"
     add("--exclude", action="append", default=[], metavar="PATTERN", help=about)
-    add("--strict", action="store_true", help="the other files of folders are failures, and for check files with a remark")
+    add("--strict", action="store_true", help="other files of folders are failures, and for check files with a remark")
     if task == "check":
         add("-x", "--exit-first", action="store_true", help="end after the first file that is refused or fails")
         add("--companions", action="store_true", help="check that NAME.ss, NAME.p2p and NAME.co fit NAME.gr")
