@@ -16,39 +16,55 @@
 
    1. A `dnorm` begins as DNORM_NONE, which is all zeros. Only these functions change it. It is passed by its address,
       and is not copied: both copies would own the same memory. A move is allowed if the old place is not used again.
-   2. A pointer is not null, is aligned, and points to as many items as the number after it says, even if this is 0.
-      What two pointers of one call point to does not overlap, and nothing else uses it during the call.
-   3. One call at a time uses a `dnorm`. It may go to another thread, in an order that a lock, or the start or the join
-      of a thread gives. Different ones may be used at the same time.
+   2. A pointer is not null, is aligned, and points to as many items as the number after it says. What a call may change
+      overlaps nothing else that it is given, and nothing else uses it during the call.
+   3. A call that takes a `dnorm *` is the only one that uses that `dnorm`. Calls that take a `const dnorm *` may use
+      one `dnorm` at the same time, in any threads. A `dnorm` may go to another thread, in an order that a lock, or the
+      start or the join of a thread gives.
    4. malloc, realloc and free belong to one allocator. No function is called from a signal handler.
 
-   The order of calls is free: a call that a `dnorm` is not for changes nothing, and returns DNORM_WRONG_CALL, 0 items,
-   the kind DNORM_NO_KIND, or DNORM_NOT_BOTH. No call opens a file, writes to a stream or keeps anything outside of the
-   `dnorm` that it is given. Whatever a `dnorm` owns, dnorm_free frees. */
+   The order of calls is free: a call that a `dnorm` is not for changes nothing, and returns DNORM_WRONG_CALL, the kind
+   DNORM_NO_KIND, or DNORM_NOT_BOTH.
+
+   Some things are tested, and not proved. Of rule 3 it is proved that a call with a `const dnorm *` has that `dnorm` on
+   loan, that a loan can be given any number of times, and that nothing is written through it; that several threads read
+   one `dnorm` at once is tested. So are these: dnorm_free frees all memory that a `dnorm` owns. No call opens a file,
+   writes to a stream, or keeps anything outside of the `dnorm` that it is given, and no byte of a piece is kept.
+   dnorm_facts takes the same time for any instance; dnorm_arc_count walks over the pairs; dnorm_next and dnorm_columns
+   search for their place, and then walk over what they copy; dnorm_items may also walk over the items before its place,
+   so let it copy all of them. Nor are the macros at the end of dnorm.h proved, which allow null pointers where there is
+   no room. */
 #ifndef DNORM_H
 #define DNORM_H
 #include <stdbool.h>
 #include <stddef.h>
 #include <stdint.h>
+/* R's Rmath.h defines a macro `dnorm`. Beside it, this struct is called dnorm_handle, whichever file comes first. */
+#pragma push_macro("dnorm")
+#undef dnorm
 #ifdef __cplusplus
 extern "C" {
 #endif
 
 /* The number of the interface that this file declares; dnorm_abi returns that of the library. */
-#define DNORM_ABI 1
+#define DNORM_ABI 2
+
+/* The version of this file: 10000 times its first number, 100 times its second, and its third. */
+#define DNORM_VERSION 10300
 
 /* Owns nothing, a reader, an instance, a refusal, or a canonical text. Its members are the library's. */
 typedef struct dnorm {
     void *work;
     bool full;
 } dnorm;
+typedef dnorm dnorm_handle;
 
-/* A `dnorm` that owns nothing. */
+/* The first value of a `dnorm`, which owns nothing. In C it is an initialiser; `(dnorm)DNORM_NONE` is a value. */
 #ifdef __cplusplus
 #define DNORM_NONE \
-    dnorm {}
+    dnorm_handle {}
 #else
-#define DNORM_NONE ((dnorm){0})
+#define DNORM_NONE {0, 0}
 #endif
 
 /* Codes of a dnorm_status. 1 to 21 are the refusals of a text, by their numbers in `dnorm help`. */
@@ -77,7 +93,7 @@ enum {
     DNORM_TOO_LONG = 21,
     /* An allocation failed. */
     DNORM_MEMORY = 30,
-    /* The canonical text has more than 2^63-1 counted lines. */
+    /* The canonical text has more than 2^63-1 counted lines, or there are 2^64 arcs or more (dnorm_arc_count). */
     DNORM_COUNT_TOO_LARGE = 34,
     /* The `dnorm` is not for this call, and nothing changed. */
     DNORM_WRONG_CALL = 40
@@ -95,19 +111,29 @@ typedef struct dnorm_status {
     uint64_t line;
 } dnorm_status;
 
+/* How many arcs, items or bytes a call copied or counted. */
+typedef struct dnorm_count {
+    /* Fewer than there is room for at the end; 0 with any code but DNORM_FINE. */
+    size_t count;
+    /* DNORM_FINE; DNORM_WRONG_CALL, where nothing changed; DNORM_COUNT_TOO_LARGE (dnorm_arc_count). */
+    uint8_t code;
+} dnorm_count;
+
 /* Kinds of instances. */
 enum { DNORM_NO_KIND = 0, DNORM_MIN = 1, DNORM_MAX = 2, DNORM_SP = 3, DNORM_SS = 4, DNORM_P2P = 5, DNORM_CO = 6 };
 
-/* What an instance is, in numbers. */
+/* What an instance is, in numbers; of a reader, what the problem line of its text declares. */
 typedef struct dnorm_summary {
     uint8_t kind;
     /* NODES, or 0 for a companion. */
     int64_t nodes;
-    /* The number of arcs, items or points that were read. */
+    /* The number of arcs, items or points that were read; of a reader, that are declared. */
     int64_t lines;
-    /* The number of ordered pairs that have canonical arcs, or 0 for a companion. Each has one arc in `sp` and `max`,
-       and one or more in `min`. */
+    /* The number of ordered pairs that have canonical arcs, or 0 for a companion and for a reader. Each has one arc in
+       `sp` and `max`, and one or more in `min`: dnorm_arc_count counts the arcs. */
     uint64_t pairs;
+    /* The number of items, which dnorm_items copies; 0 for a reader. */
+    uint64_t items;
 } dnorm_summary;
 
 /* A canonical arc: its nodes, and its numbers in the order of its line. These are the length (`sp`), the capacity
@@ -117,25 +143,28 @@ typedef struct dnorm_arc {
     int64_t a, b, c;
 } dnorm_arc;
 
-/* A place between two canonical arcs of a graph. All zeros, DNORM_FIRST, is the place before the first arc; only
-   dnorm_next and dnorm_columns move it. */
+/* A place between two canonical arcs, or between two items. All zeros, DNORM_FIRST, is the place before the first one;
+   only dnorm_next, dnorm_columns and dnorm_items move it. A place belongs to one instance and one form. Any other place
+   is harmless: a call copies some arcs or items of the instance, or none, and never more than there is room for. */
 typedef struct dnorm_place {
-    /* So many pairs with all their arcs are before it. */
+    /* So many pairs, or items, are before it. */
     size_t pairs;
-    /* So many arcs of the next pair are before it. */
-    uint64_t arcs;
+    /* Whether arcs of the next pair are before it, and the numbers of the last of them. */
+    uint64_t within;
+    int64_t a, b, c;
 } dnorm_place;
 
-/* The place before the first arc. */
+/* The place before the first arc or item. In C it is an initialiser; `(dnorm_place)DNORM_FIRST` is a value. */
 #ifdef __cplusplus
 #define DNORM_FIRST \
     dnorm_place {}
 #else
-#define DNORM_FIRST ((dnorm_place){0})
+#define DNORM_FIRST {0, 0, 0, 0, 0}
 #endif
 
-/* What an instance has beside its arcs: a node and its flow, which is not 0 (`min`); the source and the sink (`max`); an
-   ID (`ss`); two IDs (`p2p`); an ID, x and y (`co`). Numbers that a kind lacks are 0. */
+/* What an instance has beside its arcs. In `min` an item is a node, `id`, and its flow, `a`, which is not 0; `max` has
+   one item, whose `id` is the source and whose `a` is the sink; in `ss` an item is an ID, in `p2p` two, `id` and `a`;
+   in `co` it is an ID, x, `a`, and y, `b`. Numbers that a kind lacks are 0. */
 typedef struct dnorm_item {
     int64_t id;
     int64_t a, b;
@@ -197,8 +226,7 @@ typedef struct dnorm_fit {
    Codes: DNORM_FINE; DNORM_MEMORY, and it owns nothing; DNORM_WRONG_CALL if it owns anything, which it keeps. */
 dnorm_status dnorm_begin(dnorm *reader);
 
-/* Feeds the next piece of the text. A piece may end anywhere, also in a word, and may be empty. None of its bytes is
-   kept.
+/* Feeds the next piece of the text. A piece may end anywhere, also in a word, and may be empty.
    Codes: DNORM_FINE; the first fault of the text, as soon as its line is complete; DNORM_MEMORY. Once it returned a
    fault or DNORM_MEMORY, so does every later call, and dnorm_finish. DNORM_WRONG_CALL if there is no reader. */
 dnorm_status dnorm_feed(dnorm *reader, const uint8_t *bytes, size_t length);
@@ -207,51 +235,53 @@ dnorm_status dnorm_feed(dnorm *reader, const uint8_t *bytes, size_t length);
    Codes: DNORM_FINE; the first fault of the text; DNORM_MEMORY; DNORM_WRONG_CALL if there is no reader. */
 dnorm_status dnorm_finish(dnorm *reader);
 
-/* Returns what the instance is. Its kind is DNORM_NO_KIND if there is no instance. */
-dnorm_summary dnorm_facts(dnorm *instance);
+/* Returns what the instance is, or what the problem line declares once a reader has read it. The kind is DNORM_NO_KIND
+   for any other `dnorm`. */
+dnorm_summary dnorm_facts(const dnorm *any);
 
-/* Copies canonical arcs in form 1 or 2 to `out`, from the one at `from`, counted from 0, as far as there is room, in the
-   order of the canonical text. Returns how many it copied: 0 only past the last arc, without room, and if there is no
-   graph. Items of `out` behind these may have changed as well. Each call walks over the arcs before `from`, so let it
-   copy all, or take dnorm_next. */
-size_t dnorm_arcs(dnorm *graph, uint8_t form, uint64_t from, dnorm_arc *out, size_t room);
+/* Counts the canonical arcs in form 1 or 2. Any form but 2 is form 1, and forms matter only for `min`.
+   Codes: DNORM_FINE; DNORM_COUNT_TOO_LARGE if there are 2^64 arcs or more; DNORM_WRONG_CALL if there is no graph. */
+dnorm_count dnorm_arc_count(const dnorm *graph, uint8_t form);
 
-/* Copies canonical arcs in form 1 or 2 to `out`, from the one after `place` on, as dnorm_arcs does, and moves `place`
-   behind them. Of the arcs before it a call walks only over those of its pair. A place belongs to one graph and one
-   form. */
-size_t dnorm_next(dnorm *graph, uint8_t form, dnorm_place *place, dnorm_arc *out, size_t room);
+/* Copies canonical arcs in form 1 or 2 to `out`, from the one after `place` on, in the order of the canonical text, as
+   far as there is room, and moves `place` behind them. It copies fewer than there is room for only if no arc is left.
+   Items of `out` behind these may have changed as well.
+   Codes: DNORM_FINE; DNORM_WRONG_CALL if there is no graph. */
+dnorm_count dnorm_next(const dnorm *graph, uint8_t form, dnorm_place *place, dnorm_arc *out, size_t room);
 
-/* Copies canonical arcs in form 1 or 2 as dnorm_next does, each number to a column of its own: as many arcs as `tails`
-   has room for. A column with less room has its part of the first of them, so one that is not wanted has room 0. */
-size_t dnorm_columns(dnorm *graph, uint8_t form, dnorm_place *place, int64_t *tails, size_t tails_room, int64_t *heads,
-                     size_t heads_room, int64_t *a, size_t a_room, int64_t *b, size_t b_room, int64_t *c,
-                     size_t c_room);
+/* Copies canonical arcs in form 1 or 2 as dnorm_next does, each number to a column of its own: as many arcs as the
+   longest column has room for. A shorter column has its part of the first of them, so one that is not wanted has room
+   0. */
+dnorm_count dnorm_columns(const dnorm *graph, uint8_t form, dnorm_place *place, int64_t *tails, size_t tails_room,
+                          int64_t *heads, size_t heads_room, int64_t *a, size_t a_room, int64_t *b, size_t b_room,
+                          int64_t *c, size_t c_room);
 
-/* Copies what the instance has beside its arcs to `out`, as dnorm_arcs copies arcs: flows by ascending node, the source
-   with the sink, items in the order of the text, points by ascending ID. */
-size_t dnorm_items(dnorm *instance, uint64_t from, dnorm_item *out, size_t room);
+/* Copies what the instance has beside its arcs to `out`, from the item after `place` on, as dnorm_next copies arcs:
+   flows by ascending node, the source with the sink, items in the order of the text, points by ascending ID.
+   Codes: DNORM_FINE; DNORM_WRONG_CALL if there is no instance. */
+dnorm_count dnorm_items(const dnorm *instance, dnorm_place *place, dnorm_item *out, size_t room);
 
-/* Makes the canonical text of the instance, in form 1 or 2, in `text`, another `dnorm`, which owns nothing before. Any
-   form but 2 is form 1, and forms matter only for `min`.
+/* Makes the canonical text of the instance, in form 1 or 2, in `text`, another `dnorm`, which owns nothing before.
    Codes: DNORM_FINE; DNORM_MEMORY and DNORM_COUNT_TOO_LARGE, and `text` owns nothing; DNORM_WRONG_CALL if there is no
    instance, or `text` owns anything. */
-dnorm_status dnorm_canon(dnorm *instance, uint8_t form, dnorm *text);
+dnorm_status dnorm_canon(const dnorm *instance, uint8_t form, dnorm *text);
 
-/* Copies the bytes of a text to `out`, from the one at `from`, counted from 0, as far as there is room. Returns how many
-   it copied: 0 only at the end of the text, without room, and if there is no text. */
-size_t dnorm_text(dnorm *text, size_t from, uint8_t *out, size_t room);
-
-/* Returns where two instances, of two different `dnorm`, first differ: DNORM_SAME if they pose the same problem, and
-   DNORM_NOT_BOTH if one of them is no instance. */
-dnorm_difference dnorm_compare(dnorm *left, dnorm *right);
-
-/* Returns whether `companion` is an `ss`, `p2p` or `co` instance that names only nodes of `graph`, an `sp` instance in
-   another `dnorm`. */
-dnorm_fit dnorm_fits(dnorm *graph, dnorm *companion);
+/* Copies the bytes of a text to `out`, from the one at `from`, counted from 0, as far as there is room. It copies fewer
+   than there is room for only at the end of the text.
+   Codes: DNORM_FINE; DNORM_WRONG_CALL if there is no text. */
+dnorm_count dnorm_text(const dnorm *text, size_t from, uint8_t *out, size_t room);
 
 /* Copies the name of what it owns to `out`, as far as there is room, without a byte 0 behind it: the name of a refusal,
-   as `dnorm help` has it, or of the kind of an instance. Returns the number of bytes: 0 if it owns neither. */
-size_t dnorm_name(dnorm *any, uint8_t *out, size_t room);
+   as `dnorm help` has it, also of a reader that has refused its text, or the name of the kind of an instance.
+   Codes: DNORM_FINE; DNORM_WRONG_CALL if it owns neither. */
+dnorm_count dnorm_name(const dnorm *any, uint8_t *out, size_t room);
+
+/* Returns where two instances first differ: DNORM_SAME if they pose the same problem, and DNORM_NOT_BOTH if one of them
+   is no instance. */
+dnorm_difference dnorm_compare(const dnorm *left, const dnorm *right);
+
+/* Returns whether `companion` is an `ss`, `p2p` or `co` instance that names only nodes of `graph`, an `sp` instance. */
+dnorm_fit dnorm_fits(const dnorm *graph, const dnorm *companion);
 
 /* Frees what it owns. It then owns nothing, and may be used anew. */
 void dnorm_free(dnorm *any);
@@ -262,4 +292,68 @@ uint32_t dnorm_abi(void);
 #ifdef __cplusplus
 }
 #endif
+
+/* C++ has one such function in a program, and C one in each of its files. */
+#ifdef __cplusplus
+#define DNORM_INLINE inline
+#else
+#define DNORM_INLINE static inline
+#endif
+
+/* The macros below have the names of functions, and call them by inline functions. By them a pointer may also be null
+   where its number is 0, and so may the `dnorm` that dnorm_free frees; and dnorm_canon of a `dnorm` into itself is
+   DNORM_WRONG_CALL. `(dnorm_free)(any)` calls the function alone. */
+DNORM_INLINE dnorm_status dnorm_inline_feed(dnorm *reader, const uint8_t *bytes, size_t length) {
+    const uint8_t none = 0;
+    return dnorm_feed(reader, length ? bytes : &none, length);
+}
+
+DNORM_INLINE dnorm_count dnorm_inline_next(const dnorm *graph, uint8_t form, dnorm_place *place, dnorm_arc *out,
+                                           size_t room) {
+    dnorm_arc none;
+    return dnorm_next(graph, form, place, room ? out : &none, room);
+}
+
+DNORM_INLINE dnorm_count dnorm_inline_columns(const dnorm *graph, uint8_t form, dnorm_place *place, int64_t *tails,
+                                              size_t tails_room, int64_t *heads, size_t heads_room, int64_t *a,
+                                              size_t a_room, int64_t *b, size_t b_room, int64_t *c, size_t c_room) {
+    int64_t none;
+    return dnorm_columns(graph, form, place, tails_room ? tails : &none, tails_room, heads_room ? heads : &none,
+                         heads_room, a_room ? a : &none, a_room, b_room ? b : &none, b_room, c_room ? c : &none,
+                         c_room);
+}
+
+DNORM_INLINE dnorm_count dnorm_inline_items(const dnorm *instance, dnorm_place *place, dnorm_item *out, size_t room) {
+    dnorm_item none;
+    return dnorm_items(instance, place, room ? out : &none, room);
+}
+
+DNORM_INLINE dnorm_status dnorm_inline_canon(const dnorm *instance, uint8_t form, dnorm *text) {
+    const dnorm_status wrong_call = {DNORM_WRONG_CALL, DNORM_NO_PLACE, 0};
+    return instance == text ? wrong_call : dnorm_canon(instance, form, text);
+}
+
+DNORM_INLINE dnorm_count dnorm_inline_text(const dnorm *text, size_t from, uint8_t *out, size_t room) {
+    uint8_t none;
+    return dnorm_text(text, from, room ? out : &none, room);
+}
+
+DNORM_INLINE dnorm_count dnorm_inline_name(const dnorm *any, uint8_t *out, size_t room) {
+    uint8_t none;
+    return dnorm_name(any, room ? out : &none, room);
+}
+
+DNORM_INLINE void dnorm_inline_free(dnorm *any) {
+    if (any) dnorm_free(any);
+}
+
+#define dnorm_feed(...) dnorm_inline_feed(__VA_ARGS__)
+#define dnorm_next(...) dnorm_inline_next(__VA_ARGS__)
+#define dnorm_columns(...) dnorm_inline_columns(__VA_ARGS__)
+#define dnorm_items(...) dnorm_inline_items(__VA_ARGS__)
+#define dnorm_canon(...) dnorm_inline_canon(__VA_ARGS__)
+#define dnorm_text(...) dnorm_inline_text(__VA_ARGS__)
+#define dnorm_name(...) dnorm_inline_name(__VA_ARGS__)
+#define dnorm_free(...) dnorm_inline_free(__VA_ARGS__)
+#pragma pop_macro("dnorm")
 #endif

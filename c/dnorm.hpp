@@ -1,42 +1,62 @@
-// dnorm for C++17, over the functions of dnorm.h, in the namespace dnorm_cpp:
+// dnorm for C++17, over the functions of dnorm.h and dnorm_tools.h, in the namespace dnorm_cpp:
 //
-//     Instance   an instance that a text was read as: what it is, its arcs and items, its canonical text
-//     Reader     reads a text that comes in pieces
-//     Arcs       the canonical arcs of an instance one after another, without a copy of all
-//     Refused    why there is no instance or no text, where that is thrown; out of memory is std::bad_alloc
+//     Instance            an instance that a text was read as: what it is, its arcs and items, its canonical text
+//     Path, Descriptor    where a text is that an instance is read from: a file, or an open one
+//     Reader              reads a text that comes in pieces
+//     Arcs                the canonical arcs of an instance one after another, without a copy of all
+//     write               writes a text of items and arcs
+//     Refused             why there is no instance or no text, where that is thrown; out of memory is std::bad_alloc
 //
-// Instance and Reader free what they own, can be moved and not copied, and keep the rules of dnorm.h; different ones may
-// be used at the same time. A call with a `dnorm_status &` throws nothing but std::bad_alloc, and sets that to the code
-// of the call, which is DNORM_MEMORY where the library has no memory.
+// Instance and Reader free what they own, can be moved and not copied, and keep the rules of dnorm.h. The const members
+// of one Instance may be called by several threads at the same time. A call with a `dnorm_status &` throws nothing but
+// std::bad_alloc, and sets that to the code of the call, which is DNORM_MEMORY where the library has no memory.
 #ifndef DNORM_HPP
 #define DNORM_HPP
 #include "dnorm.h"
+#include "dnorm_tools.h"
+#include <cerrno>
 #include <cstddef>
 #include <istream>
 #include <iterator>
 #include <new>
 #include <optional>
+#include <ostream>
 #include <stdexcept>
 #include <string>
 #include <string_view>
+#include <system_error>
 #include <utility>
 #include <vector>
 
 namespace dnorm_cpp {
 
-// Why there is no instance or no text: the status of the call.
+// Why there is no instance or no text: the status of the call. what() is `line 2: 13 NodeOutOfRange: ..`.
 class Refused : public std::runtime_error {
 public:
     const dnorm_status status;
     explicit Refused(dnorm_status why) : std::runtime_error(said(why)), status(why) {}
 
+    // Returns the name of the refusal.
+    const char *name() const noexcept { return dnorm_code_name(status.code); }
+
 private:
     static std::string said(dnorm_status why) {
-        std::string line = "refused with code " + std::to_string(why.code);
-        if (why.place == DNORM_AT_LINE) line += " at line " + std::to_string(why.line);
-        if (why.place == DNORM_AT_END) line += " at the end";
+        char line[256];
+        dnorm_status_line(why, line, sizeof line);
         return line;
     }
+};
+
+// The name of a file.
+struct Path {
+    std::string name;
+    explicit Path(std::string given) : name(std::move(given)) {}
+};
+
+// An open file, which stays open.
+struct Descriptor {
+    int number;
+    explicit Descriptor(int given) : number(given) {}
 };
 
 namespace detail {
@@ -53,11 +73,11 @@ public:
     Handle(const Handle &) = delete;
     Handle &operator=(const Handle &) = delete;
     ~Handle() { dnorm_free(&raw); }
-    dnorm *get() noexcept { return &raw; }
-    bool is_full() const noexcept { return raw.full; }
+    dnorm_handle *get() noexcept { return &raw; }
+    const dnorm_handle *get() const noexcept { return &raw; }
 
 private:
-    dnorm raw = DNORM_NONE;
+    dnorm_handle raw = DNORM_NONE;
 };
 
 inline void fine(dnorm_status status) {
@@ -67,16 +87,27 @@ inline void fine(dnorm_status status) {
 
 inline std::uint8_t form_of(int form) noexcept { return form == 2 ? 2 : 1; }
 
-// Copies all items, into room that doubles.
-template <typename Item, typename Copy> std::vector<Item> all(Copy copy) {
-    std::vector<Item> items(1024);
-    std::size_t count = 0;
-    while (std::size_t more = copy(count, items.data() + count, items.size() - count)) {
-        count += more;
-        if (count == items.size()) items.resize(2 * count);
-    }
-    items.resize(count);
-    return items;
+// How many arcs there are, which is 0 without a graph.
+inline std::size_t arc_count(const dnorm_handle *graph, int form) {
+    dnorm_count found = dnorm_arc_count(graph, form_of(form));
+    if (found.code != DNORM_WRONG_CALL) fine(dnorm_status{found.code, DNORM_NO_PLACE, 0});
+    return found.count;
+}
+
+// The functions that copy columns of these numbers.
+inline dnorm_count copy(const dnorm_handle *graph, int form, std::vector<std::int64_t> &tails,
+                        std::vector<std::int64_t> &heads, std::vector<std::int64_t> &a, std::vector<std::int64_t> &b,
+                        std::vector<std::int64_t> &c) {
+    dnorm_place place = DNORM_FIRST;
+    return dnorm_columns(graph, form_of(form), &place, tails.data(), tails.size(), heads.data(), heads.size(), a.data(),
+                         a.size(), b.data(), b.size(), c.data(), c.size());
+}
+inline dnorm_count copy(const dnorm_handle *graph, int form, std::vector<std::int32_t> &tails,
+                        std::vector<std::int32_t> &heads, std::vector<std::int32_t> &a, std::vector<std::int32_t> &b,
+                        std::vector<std::int32_t> &c) {
+    dnorm_place place = DNORM_FIRST;
+    return dnorm_columns_32(graph, form_of(form), &place, tails.data(), tails.size(), heads.data(), heads.size(),
+                            a.data(), a.size(), b.data(), b.size(), c.data(), c.size());
 }
 
 } // namespace detail
@@ -85,7 +116,7 @@ class Instance;
 class Reader;
 
 // The canonical arcs of an instance in form 1 or 2, for one range-based for. The instance must stay where it is
-// meanwhile. Some thousand arcs are copied at a time.
+// meanwhile. Some arcs are copied at a time.
 class Arcs {
 public:
     class iterator {
@@ -95,14 +126,28 @@ public:
         using difference_type = std::ptrdiff_t;
         using pointer = const dnorm_arc *;
         using reference = const dnorm_arc &;
-        explicit iterator(Arcs *arcs = nullptr) : arcs(arcs && arcs->count ? arcs : nullptr) {}
+        // What `*it++` has: the arc before the step.
+        class Before {
+        public:
+            explicit Before(const dnorm_arc &given) : arc(given) {}
+            reference operator*() const { return arc; }
+
+        private:
+            dnorm_arc arc;
+        };
+
+        explicit iterator(Arcs *of = nullptr) : arcs(of && of->count ? of : nullptr) {}
         reference operator*() const { return arcs->some[arcs->at]; }
         pointer operator->() const { return &**this; }
         iterator &operator++() {
             if (!arcs->goes_on()) arcs = nullptr;
             return *this;
         }
-        void operator++(int) { ++*this; }
+        Before operator++(int) {
+            Before before(**this);
+            ++*this;
+            return before;
+        }
         bool operator==(const iterator &other) const { return arcs == other.arcs; }
         bool operator!=(const iterator &other) const { return arcs != other.arcs; }
 
@@ -120,16 +165,16 @@ public:
 
 private:
     friend class Instance;
-    dnorm *graph;
+    const dnorm_handle *graph;
     int form;
     std::vector<dnorm_arc> some;
     dnorm_place place = DNORM_FIRST;
     std::size_t count = 0, at = 0;
 
-    Arcs(dnorm *graph, int form) : graph(graph), form(form), some(65536) {}
+    Arcs(const dnorm_handle *of, int in_form) : graph(of), form(in_form), some(4096) {}
 
     void fill() {
-        count = dnorm_next(graph, detail::form_of(form), &place, some.data(), some.size());
+        count = dnorm_next(graph, detail::form_of(form), &place, some.data(), some.size()).count;
         at = 0;
     }
 
@@ -139,9 +184,19 @@ private:
     }
 };
 
-// Canonical arcs by columns, as dnorm_arc has their numbers.
-struct Columns {
-    std::vector<std::int64_t> tails, heads, a, b, c;
+// Canonical arcs by columns, as dnorm_arc has their numbers. Columns that the kind lacks are empty: b and c of `sp` and
+// `max`.
+template <typename Number> struct ColumnsOf {
+    std::vector<Number> tails, heads, a, b, c;
+};
+using Columns = ColumnsOf<std::int64_t>;
+using Columns32 = ColumnsOf<std::int32_t>;
+
+// Canonical arcs by their tails, a forward star. The arcs of node v, counted from 1, have the indexes from first[v - 1]
+// to first[v], without the last one.
+struct Star {
+    std::vector<std::size_t> first;
+    std::vector<std::int64_t> heads, a, b, c;
 };
 
 // A parsed instance.
@@ -153,51 +208,78 @@ public:
     // Reads a text. Throws Refused or std::bad_alloc.
     explicit Instance(std::string_view text);
 
+    // Reads a file to its end: Instance graph{Path(name)}. Throws Refused, std::bad_alloc, or std::system_error if it
+    // cannot be read.
+    explicit Instance(const Path &file) { read_file(file.name.c_str()); }
+    explicit Instance(const Descriptor &file) { read_file(file.number); }
+
+    // A text is a std::string_view, and the name of a file is a Path.
+    explicit Instance(const char *) = delete;
+
     // Reads a text to its end. There is no instance if the text is refused; or if the stream fails, where the code may
-    // be DNORM_FINE.
+    // be DNORM_FINE; or if the file does, where it is DNORM_READ, and errno has the cause.
     static std::optional<Instance> read(std::istream &source, dnorm_status &status);
-
-    // Returns what the instance is. After it was moved from, its kind is DNORM_NO_KIND.
-    dnorm_summary facts() noexcept { return dnorm_facts(handle.get()); }
-
-    // Returns the canonical arcs in form 1 or 2, all of them.
-    std::vector<dnorm_arc> arcs(int form = 1) {
-        dnorm_place place = DNORM_FIRST;
-        return detail::all<dnorm_arc>([&](std::size_t, dnorm_arc *out, std::size_t room) {
-            return dnorm_next(handle.get(), detail::form_of(form), &place, out, room);
-        });
+    static std::optional<Instance> read(const Path &file, dnorm_status &status) {
+        detail::Handle made;
+        status = dnorm_read_path(made.get(), file.name.c_str());
+        return of(std::move(made), status);
+    }
+    static std::optional<Instance> read(const Descriptor &file, dnorm_status &status) {
+        detail::Handle made;
+        status = dnorm_read_fd(made.get(), file.number);
+        return of(std::move(made), status);
     }
 
-    // Returns the canonical arcs in form 1 or 2 by columns, all of them. Numbers that the kind lacks are 0.
-    Columns columns(int form = 1) {
-        Columns made;
-        std::vector<std::int64_t> *all[] = {&made.tails, &made.heads, &made.a, &made.b, &made.c};
+    // Returns what the instance is. After it was moved from, its kind is DNORM_NO_KIND, and it has no arcs or items.
+    dnorm_summary facts() const noexcept { return dnorm_facts(handle.get()); }
+
+    // Returns the number of canonical arcs in form 1 or 2.
+    std::size_t arc_count(int form = 1) const { return detail::arc_count(handle.get(), form); }
+
+    // Returns the canonical arcs in form 1 or 2, all of them.
+    std::vector<dnorm_arc> arcs(int form = 1) const {
+        std::vector<dnorm_arc> made(arc_count(form));
         dnorm_place place = DNORM_FIRST;
-        std::size_t count = 0, more;
-        do {
-            for (auto *it : all) it->resize(count < 512 ? 1024 : 2 * count);
-            std::size_t room = made.tails.size() - count;
-            more = dnorm_columns(handle.get(), detail::form_of(form), &place, made.tails.data() + count, room,
-                                 made.heads.data() + count, room, made.a.data() + count, room, made.b.data() + count,
-                                 room, made.c.data() + count, room);
-            count += more;
-        } while (more > 0);
-        for (auto *it : all) it->resize(count);
+        dnorm_next(handle.get(), detail::form_of(form), &place, made.data(), made.size());
+        return made;
+    }
+
+    // Returns the canonical arcs in form 1 or 2 by columns, all of them.
+    Columns columns(int form = 1) const { return columns_of<std::int64_t>(form); }
+
+    // Returns them by columns of 32 bits. Throws std::range_error if a number does not fit.
+    Columns32 columns_32(int form = 1) const { return columns_of<std::int32_t>(form); }
+
+    // Returns them by their tails. The star has NODES + 1 numbers, and a text can declare any NODES: throws
+    // std::bad_alloc if there is no memory for so many.
+    Star star(int form = 1) const {
+        Star made;
+        if (facts().kind == DNORM_NO_KIND || facts().kind > DNORM_SP) return made;
+        const std::size_t nodes = static_cast<std::size_t>(facts().nodes);
+        if (nodes >= made.first.max_size()) throw std::bad_alloc();
+        made.first.resize(nodes + 1);
+        dnorm_first_arcs(handle.get(), detail::form_of(form), made.first.data(), made.first.size());
+        std::vector<std::int64_t> no_tails;
+        size(form, made.heads, made.a, made.b, made.c);
+        detail::copy(handle.get(), form, no_tails, made.heads, made.a, made.b, made.c);
         return made;
     }
 
     // Returns the canonical arcs in form 1 or 2, to go over them once: for (const dnorm_arc &it : graph.each_arc()).
-    Arcs each_arc(int form = 1) { return Arcs(handle.get(), form); }
+    // The arcs of a temporary do not compile, since it would end before the loop.
+    Arcs each_arc(int form = 1) const & { return Arcs(handle.get(), form); }
+    Arcs each_arc(int form = 1) const && = delete;
 
     // Returns what the instance has beside its arcs.
-    std::vector<dnorm_item> items() {
-        return detail::all<dnorm_item>([&](std::size_t from, dnorm_item *out, std::size_t room) {
-            return dnorm_items(handle.get(), from, out, room);
-        });
+    std::vector<dnorm_item> items() const {
+        std::vector<dnorm_item> made(static_cast<std::size_t>(facts().items));
+        dnorm_place place = DNORM_FIRST;
+        dnorm_items(handle.get(), &place, made.data(), made.size());
+        return made;
     }
 
     // Returns the canonical text in form 1 or 2. Throws Refused or std::bad_alloc.
-    std::string text(int form = 1) {
+    std::string text(int form = 1) const {
         dnorm_status status;
         std::optional<std::string> made = text(form, status);
         detail::fine(status);
@@ -205,28 +287,25 @@ public:
     }
 
     // Returns the canonical text in form 1 or 2, if it can be made.
-    std::optional<std::string> text(int form, dnorm_status &status) {
+    std::optional<std::string> text(int form, dnorm_status &status) const {
         detail::Handle made;
         status = dnorm_canon(handle.get(), detail::form_of(form), made.get());
         if (status.code != DNORM_FINE) return std::nullopt;
-        auto copy = detail::all<std::uint8_t>([&](std::size_t from, std::uint8_t *out, std::size_t room) {
-            return dnorm_text(made.get(), from, out, room);
-        });
-        return std::string(copy.begin(), copy.end());
+        std::string copied;
+        std::vector<std::uint8_t> some(65536);
+        while (std::size_t more = dnorm_text(made.get(), copied.size(), some.data(), some.size()).count)
+            copied.append(some.begin(), some.begin() + static_cast<std::ptrdiff_t>(more));
+        return copied;
     }
 
     // Returns whether this instance is a graph that the companion fits.
-    dnorm_fit fits(Instance &companion) noexcept {
-        if (this != &companion) return dnorm_fits(handle.get(), companion.handle.get());
-        return dnorm_fit{handle.is_full() ? std::uint8_t{DNORM_NOT_KINDS} : std::uint8_t{DNORM_NOT_BOTH}, 0};
+    dnorm_fit fits(const Instance &companion) const noexcept {
+        return dnorm_fits(handle.get(), companion.handle.get());
     }
 
-    // Returns where this instance and another first differ. One and the same instance has no difference from itself.
-    dnorm_difference compare(Instance &other) noexcept {
-        if (this != &other) return dnorm_compare(handle.get(), other.handle.get());
-        dnorm_difference found{};
-        found.what = handle.is_full() ? DNORM_SAME : DNORM_NOT_BOTH;
-        return found;
+    // Returns where this instance and another first differ.
+    dnorm_difference compare(const Instance &other) const noexcept {
+        return dnorm_compare(handle.get(), other.handle.get());
     }
 
 private:
@@ -234,6 +313,38 @@ private:
     detail::Handle handle;
 
     explicit Instance(detail::Handle &&made) noexcept : handle(std::move(made)) {}
+
+    static std::optional<Instance> of(detail::Handle &&made, dnorm_status status) {
+        if (status.code != DNORM_FINE) return std::nullopt;
+        return Instance(std::move(made));
+    }
+
+    void read_file(const char *path) { done(dnorm_read_path(handle.get(), path), path); }
+    void read_file(int fd) { done(dnorm_read_fd(handle.get(), fd), "a file descriptor"); }
+    static void done(dnorm_status status, const char *name) {
+        if (status.code == DNORM_READ) throw std::system_error(errno, std::generic_category(), name);
+        detail::fine(status);
+    }
+
+    // Gives the columns that the kind has room for all arcs.
+    template <typename Number>
+    void size(int form, std::vector<Number> &heads, std::vector<Number> &a, std::vector<Number> &b,
+              std::vector<Number> &c) const {
+        const std::size_t count = arc_count(form);
+        heads.resize(count);
+        a.resize(count);
+        b.resize(facts().kind == DNORM_MIN ? count : 0);
+        c.resize(b.size());
+    }
+
+    template <typename Number> ColumnsOf<Number> columns_of(int form) const {
+        ColumnsOf<Number> made;
+        size(form, made.heads, made.a, made.b, made.c);
+        made.tails.resize(made.heads.size());
+        dnorm_count found = detail::copy(handle.get(), form, made.tails, made.heads, made.a, made.b, made.c);
+        if (found.code == DNORM_TOO_WIDE) throw std::range_error(dnorm_code_sentence(found.code));
+        return made;
+    }
 };
 
 // Reads a text that comes in pieces, which may end anywhere.
@@ -249,10 +360,11 @@ public:
         detail::fine(status);
     }
     void feed(std::string_view piece, dnorm_status &status) noexcept {
-        static const std::uint8_t none = 0;
-        const std::uint8_t *bytes = piece.empty() ? &none : reinterpret_cast<const std::uint8_t *>(piece.data());
-        status = dnorm_feed(handle.get(), bytes, piece.size());
+        status = dnorm_feed(handle.get(), reinterpret_cast<const std::uint8_t *>(piece.data()), piece.size());
     }
+
+    // Returns what the problem line declares, once it was read; before, the kind is DNORM_NO_KIND.
+    dnorm_summary facts() const noexcept { return dnorm_facts(handle.get()); }
 
     // Ends the text. Throws Refused or std::bad_alloc. The reader then takes no other text.
     Instance finish() {
@@ -293,6 +405,26 @@ inline Instance::Instance(std::string_view text) {
     Reader reader;
     reader.feed(text);
     handle = std::move(reader.finish().handle);
+}
+
+// Writes a text of this kind with these items and arcs in their order, as items() and arcs() return them: nodes and
+// arcs are for a graph alone. What it is given is not judged: Instance judges the text. Sets the stream's failbit for a
+// kind that is none.
+inline void write(std::ostream &out, std::uint8_t kind, std::int64_t nodes, const std::vector<dnorm_item> &items,
+                  const std::vector<dnorm_arc> &arcs = {}) {
+    char line[DNORM_LINE];
+    if (!dnorm_problem_line(kind, nodes, kind >= DNORM_SS ? items.size() : arcs.size(), line))
+        return out.setstate(std::ios_base::failbit);
+    out << line;
+    for (const dnorm_item &it : items) {
+        dnorm_item_line(kind, it, line);
+        out << line;
+    }
+    if (kind >= DNORM_SS) return;
+    for (const dnorm_arc &it : arcs) {
+        dnorm_arc_line(kind, it, line);
+        out << line;
+    }
 }
 
 } // namespace dnorm_cpp

@@ -6,6 +6,8 @@ from collections.abc import Sequence
 from typing import Any, NamedTuple, Optional
 
 WRONG_CALL, NO_KIND, NOT_BOTH = 40, 0, 255
+# The number of the interface.
+ABI = 2
 KINDS = ["", "min", "max", "sp", "ss", "p2p", "co"]
 
 
@@ -23,7 +25,12 @@ class Summary(ctypes.Structure):
         ("nodes", ctypes.c_int64),
         ("lines", ctypes.c_int64),
         ("pairs", ctypes.c_uint64),
+        ("items", ctypes.c_uint64),
     ]
+
+
+class Count(ctypes.Structure):
+    _fields_ = [("count", ctypes.c_size_t), ("code", ctypes.c_uint8)]
 
 
 class Arc(ctypes.Structure):
@@ -31,7 +38,11 @@ class Arc(ctypes.Structure):
 
 
 class Place(ctypes.Structure):
-    _fields_ = [("pairs", ctypes.c_size_t), ("arcs", ctypes.c_uint64)]
+    _fields_ = [
+        ("pairs", ctypes.c_size_t),
+        ("within", ctypes.c_uint64),
+        *[(name, ctypes.c_int64) for name in ("a", "b", "c")],
+    ]
 
 
 class Item(ctypes.Structure):
@@ -61,23 +72,22 @@ class Fit(ctypes.Structure):
     _fields_ = [("code", ctypes.c_uint8), ("node", ctypes.c_int64)]
 
 
-HANDLE, SIZE, BYTE, INDEX = ctypes.POINTER(Handle), ctypes.c_size_t, ctypes.c_uint8, ctypes.c_uint64
-PLACE = ctypes.POINTER(Place)
+HANDLE, SIZE, BYTE, PLACE = ctypes.POINTER(Handle), ctypes.c_size_t, ctypes.c_uint8, ctypes.POINTER(Place)
 # Each function: what it returns, and its arguments.
 FUNCTIONS: dict[str, tuple[Any, ...]] = {
     "begin": (Status, HANDLE),
     "feed": (Status, HANDLE, ctypes.c_char_p, SIZE),
     "finish": (Status, HANDLE),
     "facts": (Summary, HANDLE),
-    "arcs": (SIZE, HANDLE, BYTE, INDEX, ctypes.c_void_p, SIZE),
-    "next": (SIZE, HANDLE, BYTE, PLACE, ctypes.c_void_p, SIZE),
-    "columns": (SIZE, HANDLE, BYTE, PLACE, *[ctypes.c_void_p, SIZE] * 5),
-    "items": (SIZE, HANDLE, INDEX, ctypes.c_void_p, SIZE),
+    "arc_count": (Count, HANDLE, BYTE),
+    "next": (Count, HANDLE, BYTE, PLACE, ctypes.c_void_p, SIZE),
+    "columns": (Count, HANDLE, BYTE, PLACE, *[ctypes.c_void_p, SIZE] * 5),
+    "items": (Count, HANDLE, PLACE, ctypes.c_void_p, SIZE),
     "canon": (Status, HANDLE, BYTE, HANDLE),
-    "text": (SIZE, HANDLE, SIZE, ctypes.c_void_p, SIZE),
+    "text": (Count, HANDLE, SIZE, ctypes.c_void_p, SIZE),
     "compare": (Difference, HANDLE, HANDLE),
     "fits": (Fit, HANDLE, HANDLE),
-    "name": (SIZE, HANDLE, ctypes.c_void_p, SIZE),
+    "name": (Count, HANDLE, ctypes.c_void_p, SIZE),
     "free": (None, HANDLE),
     "abi": (ctypes.c_uint32,),
 }
@@ -94,9 +104,22 @@ def answer(status: Any) -> Answer:
     return Answer(status.code, {0: "", 1: str(status.line), 2: "end"}[status.place])
 
 
-# Arcs by their numbers, and columns of numbers.
+# Arcs or items by their numbers, and columns of numbers.
 Rows = list[tuple[int, ...]]
 Columns = list[list[int]]
+
+
+class WrongCall(Exception):
+    """A handle is not for a call."""
+
+
+def counted(made: Any) -> int:
+    """Returns how many a call copied. Raises WrongCall, or AssertionError for any other code."""
+    if made.code == WRONG_CALL:
+        assert made.count == 0
+        raise WrongCall
+    assert made.code == 0, made.code
+    return int(made.count)
 
 
 class Library:
@@ -122,40 +145,55 @@ class Library:
         ended = answer(self.finish(handle))
         return ended if found.code in (0, ended.code) else Answer(-1, "the end has another answer than a piece")
 
-    def list(self, name: str, item: Any, room: int, *arguments: Any) -> list[Any]:
-        """Returns all items that a function copies, in ranges of `room`."""
-        found: list[Any] = []
-        out = (item * room)()
-        while count := self.calls[name](*arguments, len(found), ctypes.byref(out), room):
-            found += [type(it).from_buffer_copy(it) if isinstance(it, ctypes.Structure) else it for it in out[:count]]
-        return found
-
-    def arcs_in_order(self, handle: Handle, form: int, room: int) -> Rows:
-        """Returns all arcs, copied one range after another."""
+    def rows(self, name: str, row: Any, room: int, *arguments: Any) -> Rows:
+        """Returns all arcs or items, copied in ranges of `room`, each from the place where the last one ended. A range
+        that has fewer is the last one."""
         found: Rows = []
-        place, out = Place(), (Arc * room)()
-        while count := self.next(handle, form, ctypes.byref(place), ctypes.byref(out), room):
-            found += [(it.tail, it.head, it.a, it.b, it.c) for it in out[:count]]
-        return found
+        place, out, names = Place(), (row * room)(), [name for name, _ in row._fields_]
+        while True:
+            count = counted(self.calls[name](*arguments, ctypes.byref(place), ctypes.byref(out), room))
+            found += [tuple(getattr(it, name) for name in names) for it in out[:count]]
+            if count < room:
+                return found
+
+    def arcs(self, handle: Handle, form: int, room: int) -> Rows:
+        return self.rows("next", Arc, room, handle, form)
+
+    def items_of(self, handle: Handle, room: int) -> Rows:
+        return self.rows("items", Item, room, handle)
+
+    def arcs_counted(self, handle: Handle, form: int) -> int:
+        return counted(self.arc_count(handle, form))
 
     def columns_of(self, handle: Handle, form: int, rooms: Sequence[int]) -> Columns:
         """Returns the columns of all arcs, copied in ranges; a column has room for so many of each range."""
         found: Columns = [[] for _ in rooms]
         place, outs = Place(), [(ctypes.c_int64 * room)() for room in rooms]
         places = [it for out, room in zip(outs, rooms) for it in (ctypes.byref(out), room)]
-        while count := self.calls["columns"](handle, form, ctypes.byref(place), *places):
+        while True:
+            count = counted(self.columns(handle, form, ctypes.byref(place), *places))
             for column, out in zip(found, outs):
                 column += out[:count]
-        return found
+            if count < max(rooms):
+                return found
 
     def name_of(self, handle: Handle, room: int) -> str:
         out = (ctypes.c_uint8 * room)()
-        return bytes(out[: self.name(handle, ctypes.byref(out), room)]).decode()
+        return bytes(out[: counted(self.name(handle, ctypes.byref(out), room))]).decode()
+
+    def bytes_of(self, text: Handle, room: int) -> bytes:
+        """Returns the bytes of a canonical text."""
+        found, out = b"", (ctypes.c_uint8 * room)()
+        while True:
+            count = counted(self.text(text, len(found), ctypes.byref(out), room))
+            found += bytes(out[:count])
+            if count < room:
+                return found
 
     def text_of(self, handle: Handle, form: int, room: int) -> bytes:
         """Returns the canonical text of the instance in a handle."""
         made = Handle()
         status = self.canon(handle, form, made)
-        text = bytes(self.list("text", ctypes.c_uint8, room, made))
+        text = self.bytes_of(made, room) if status.code == 0 else b"status %d" % status.code
         self.free(made)
-        return text if status.code == 0 else b"status %d" % status.code
+        return text

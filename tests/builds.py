@@ -9,6 +9,8 @@ from known import CANONICAL, FLOWS, REFUSED
 from shared import ROOT, Tally, run, text_of, write
 
 CRATES = f"{ROOT}/share/rust"
+# Where tools/c-library puts the library.
+PREFIX = f"{ROOT}/c/out"
 # What dnorm.h and the crate dnorm-sys declare.
 CONSTANT = re.compile(r"\b(DNORM_[A-Z0-9_]+) = (\d+)")
 RUST_CONSTANT = re.compile(r"^pub const (DNORM_\w+): \w+ = (\d+);$", re.M)
@@ -28,9 +30,33 @@ target_link_libraries(shared dnorm::dnorm)
 add_executable(static library.cc)
 target_link_libraries(static dnorm::static)
 """
+# Texts that are given to programs: canonical in both forms, and longer than what is copied at a time.
+LARGE = b"p sp 9000 9000\n" + b"".join(b"a %d 1 -7\n" % it for it in range(1, 9001))
+POINTS = b"p aux sp co 20000\n" + b"".join(b"v %d -%d 7\n" % (it, it) for it in range(1, 20001))
+GIVEN = [*CANONICAL, (LARGE, LARGE, LARGE), (POINTS, POINTS, POINTS)]
 MEMCHECK = ["valgrind", "-q", "--error-exitcode=9", "--leak-check=full", "--errors-for-leak-kinds=definite"]
-# A program that uses an instance in two threads at a time, which is refused.
-SHARED = "fn both<T: Sync>() {}\nfn main() {\n    both::<dnorm::Instance>();\n}\n"
+# A number in the help, with its name and its sentence, which may go on in the next line.
+IN_HELP = re.compile(r"^ {2,3}(\d+) (\w+) {2,}(.+(?:\n {22}.+)*)$", re.M)
+
+
+def version_of(tested: str) -> str:
+    return run([tested, "--version"]).out.decode().split()[1]
+
+
+def sentences_of(tested: str) -> dict[int, str]:
+    """Returns the name and the sentence of each refusal, by its number, as the help has them."""
+    found = IN_HELP.findall(run([tested, "help"]).out.decode())
+    return {int(number): f"{name}: {' '.join(said.split())}" for number, name, said in found}
+
+
+def refusal_lines(tested: str) -> dict[bytes, str]:
+    """Returns what the headers say of each refused text of known.py."""
+    sentences, lines = sentences_of(tested), {}
+    for text, err in REFUSED:
+        _, place, said = err.decode().split(":")
+        number = said.split()[0]
+        lines[text] = f"{'end' if place == 'end' else f'line {place}'}: {number} {sentences[int(number)]}"
+    return lines
 
 
 def pkg_config(tally: Tally, prefix: str) -> list[str]:
@@ -43,9 +69,9 @@ def pkg_config(tally: Tally, prefix: str) -> list[str]:
     return found
 
 
-def in_cmake(tally: Tally, folder: str, prefix: str, version: str) -> None:
+def in_cmake(tally: Tally, folder: str, prefix: str, tested: str) -> None:
     """Tests that CMake finds both libraries, and no later version than this one."""
-    number = version.partition("-")[0]
+    number = version_of(tested).partition("-")[0]
     first, second, _ = number.split(".")
     by_cmake(tally, folder, prefix)
     wanted = {number: True, f"{first}.0": True, f"{number} EXACT": True}
@@ -106,10 +132,11 @@ def built_by_rustc(tally: Tally, prefix: str, folder: str) -> bool:
     rustc = ["rustc", "--edition=2021", "-O", "-Dwarnings", "-L", folder, "--out-dir", folder]
     library = ["--crate-type", "rlib"]
     calls = [
-        [*library, "--crate-name", "dnorm_sys", f"{CRATES}/dnorm-sys/src/lib.rs"],
+        [*library, "-L", f"native={prefix}/lib", "-l", "static=dnorm", "--crate-name", "dnorm_sys"],
         [*library, "--crate-name", "dnorm", "--extern", f"dnorm_sys={folder}/libdnorm_sys.rlib"],
-        ["-L", f"native={prefix}/lib", "-l", "static=dnorm", "--extern", f"dnorm={folder}/libdnorm.rlib"],
+        ["--extern", f"dnorm={folder}/libdnorm.rlib"],
     ]
+    calls[0].append(f"{CRATES}/dnorm-sys/src/lib.rs")
     calls[1].append(f"{CRATES}/dnorm/src/lib.rs")
     calls[2].append(f"{ROOT}/tests/library.rs")
     for words in calls:
@@ -117,15 +144,12 @@ def built_by_rustc(tally: Tally, prefix: str, folder: str) -> bool:
         tally.wants(f"rustc {words}", ran)
         if ran.status:
             return False
-    write(f"{folder}/shared.rs", SHARED)
-    ran = run([*rustc, *calls[2][:-1], f"{folder}/shared.rs"])
-    is_refused = ran.status and b"cannot be shared between threads safely" in ran.err
-    tally.holds(f"rustc refuses an instance in two threads: {ran.err.decode()}", is_refused)
     return True
 
 
-def in_rust(tally: Tally, folder: str, prefix: str, version: str) -> None:
+def in_rust(tally: Tally, folder: str, prefix: str, tested: str) -> None:
     """Tests the crates, built by rustc alone, and by cargo."""
+    version = version_of(tested)
     crate_declares(tally)
     for name in ["dnorm", "dnorm-sys"]:
         found = re.findall(r'^version = "(.*)"', text_of(f"{CRATES}/{name}/Cargo.toml"), re.M)
@@ -136,15 +160,18 @@ def in_rust(tally: Tally, folder: str, prefix: str, version: str) -> None:
         return
     if not built_by_rustc(tally, prefix, folder):
         return
-    tested = f"{folder}/library"
-    for text, *forms in CANONICAL:
-        tally.wants(f"{text!r} in Rust", run([tested], text), b"".join(forms))
-    for text, err in REFUSED:
-        line = err.decode().partition(":")[2]
-        tally.wants(f"{text!r} in Rust", run([tested], text), err=line, status=2)
+    uses = f"{folder}/library"
+    for text, *forms in GIVEN:
+        tally.wants(f"{text!r:.200} in Rust", run([uses], text), b"".join(forms))
+        write(f"{folder}/text", text)
+        tally.wants(f"{text!r:.200} in Rust by a file", run([uses, f"{folder}/text"]), forms[0])
+    for text, line in refusal_lines(tested).items():
+        tally.wants(f"{text!r} in Rust", run([uses], text), err=f"{line}\n", status=2)
+    missing = run([uses, f"{folder}/none"])
+    tally.wants("a missing file in Rust", missing, err="No such file or directory (os error 2)\n", status=4)
     if shutil.which("valgrind"):
         for text in [FLOWS, b"p sp 1 1\nq\n"]:
-            tally.same(f"memcheck: {text!r} in Rust", run([*MEMCHECK, tested], text), run([tested], text))
+            tally.same(f"memcheck: {text!r} in Rust", run([*MEMCHECK, uses], text), run([uses], text))
     by_cargo(tally, prefix, folder)
 
 

@@ -2,10 +2,12 @@
 with little memory and from several threads; and that no other library is used, one of another version least of all.
 `tests/python` runs these tests, each in a folder of its own."""
 
+import itertools
 import os
 import random
 import shutil
 import sys
+import types
 from collections.abc import Callable
 from concurrent.futures import ThreadPoolExecutor
 
@@ -18,9 +20,10 @@ from texts import lines_of, made, spelled
 
 import dnorm
 import dnorm.library
+import dnorm.limits
 from dnorm.program import children
 
-LIBRARY = f"{ROOT}/c/out/lib/libdnorm.so.1"
+LIBRARY = f"{ROOT}/c/out/lib/libdnorm.so.2"
 SEED, ROUNDS = 77, 100
 # A process that thinks it is on another machine, and says where the library may be.
 ELSEWHERE = """
@@ -31,8 +34,8 @@ print(*dnorm.library.places_beside("/usr/bin/dnorm"))
 """
 # Other files of the name of the library: what each is made of, by a C compiler or as it is, and why it is none.
 OTHERS = {
-    "another": ("unsigned dnorm_abi(void) { return 2; }", "its interface has the number 2, and not 1"),
-    "half": ("unsigned dnorm_abi(void) { return 1; }", "undefined symbol: dnorm_begin"),
+    "another": ("unsigned dnorm_abi(void) { return 1; }", "its interface has the number 1, and not 2"),
+    "half": ("unsigned dnorm_abi(void) { return 2; }", "undefined symbol: dnorm_begin"),
     "foreign": ("int other(void) { return 1; }", "undefined symbol: dnorm_abi"),
     "text": (None, "file too short"),
 }
@@ -101,7 +104,7 @@ def places(tally: Tally, tested: str) -> None:
         program = os.path.abspath(f"{folder}/dnorm")
         os.makedirs(f"links/{folder}")
         os.symlink(program, f"links/{folder}/dnorm")
-        wanted = f"{os.path.abspath(place)}/libdnorm.so.1\n" if place else "None\n"
+        wanted = f"{os.path.abspath(place)}/libdnorm.so.2\n" if place else "None\n"
         for it in [program, os.path.abspath(f"links/{folder}/dnorm")]:
             found = with_environment(lambda: dnorm.find_library(it), DNORM_LIBRARY=None)
             tally.same(f"the library of {it}", found, wanted)
@@ -113,7 +116,7 @@ def places(tally: Tally, tested: str) -> None:
         tally.same(f"the library of a command with {program}", found, "None\n")
         found = with_environment(lambda: dnorm.find_library(program), DNORM_LIBRARY=LIBRARY)
         tally.same(f"the library of the argument {program}", found, wanted)
-    places = [f"/usr/{it}/libdnorm.so.1" for it in ("lib", "lib/aarch64-linux-gnu", "bin/lib")]
+    places = [f"/usr/{it}/libdnorm.so.2" for it in ("lib", "lib/aarch64-linux-gnu", "bin/lib")]
     tally.same("places on aarch64", python(ELSEWHERE).split(), places)
     found = with_environment(dnorm.find_library, DNORM="/none", DNORM_LIBRARY=LIBRARY)
     tally.same("a library without a program", found, f"{LIBRARY}\n")
@@ -132,7 +135,7 @@ def others(tally: Tally, tested: str) -> None:
         os.makedirs(f"{name}/bin")
         os.makedirs(f"{name}/lib")
         shutil.copy(tested, f"{name}/bin/dnorm")
-        program, path = os.path.abspath(f"{name}/bin/dnorm"), os.path.abspath(f"{name}/lib/libdnorm.so.1")
+        program, path = os.path.abspath(f"{name}/bin/dnorm"), os.path.abspath(f"{name}/lib/libdnorm.so.2")
         write(f"{name}/it.c", source or "")
         if source:
             tally.wants(f"cc {name}", run(["cc", "-shared", "-fPIC", "-o", path, f"{name}/it.c"]))
@@ -175,6 +178,33 @@ def same_instances(tally: Tally, _: str) -> None:
     tally.same("kinds that were read", kinds, set(COUNTED))
 
 
+def in_rooms(tally: Tally, _: str) -> None:
+    """Tests that columns are copied whole in rooms of several sizes, and that after each room it is seen whether the
+    time is over: looks at the clock are counted."""
+    os.environ["DNORM_LIBRARY"] = LIBRARY
+    texts = {
+        b"p sp 1000 1000\n" + b"".join(b"a %d 1 7\n" % it for it in range(1, 1001)): 1000,
+        b"p aux sp co 1000\n" + b"".join(b"v %d 1 7\n" % it for it in range(1, 1001)): 1000,
+        b"p min 2 300\n" + b"".join(b"a 1 2 0 1 %d\n" % it for it in range(300)): 300,
+    }
+    kept, names = dnorm.library.ROOM, vars(dnorm.limits)
+    clock = names["time"]
+    for text, count in texts.items():
+        whole, looks = dnorm.read(text), set()
+        for room in [1, 7, 300, 1000, 1001]:
+            dnorm.library.ROOM = room
+            tally.holds(f"{count} rows in rooms of {room}", dnorm.read(text) == whole)
+            clock_looks = itertools.count()
+            names["time"] = types.SimpleNamespace(monotonic=clock_looks.__next__)
+            dnorm.read(text, timeout=9999)
+            # Items are copied in four rooms at most.
+            size = max(room, count // 4 + 1) if whole.kind == "co" else room
+            looks.add(next(clock_looks) - -(-count // size))
+            names["time"] = clock
+        tally.same(f"looks at the clock beside one a room, {whole.kind}", len(looks), 1)
+    dnorm.library.ROOM = kept
+
+
 def in_threads(tally: Tally, _: str) -> None:
     """Tests reads from several threads, that all of them stop, little memory, and a text without an end."""
     os.environ["DNORM_LIBRARY"] = LIBRARY
@@ -198,4 +228,4 @@ def in_threads(tally: Tally, _: str) -> None:
     dnorm.library.ENDLESS = kept
 
 
-TESTS = [places, others, same_instances, in_threads]
+TESTS = [places, others, same_instances, in_rooms, in_threads]

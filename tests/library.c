@@ -3,6 +3,8 @@
        library orders N     every order of N calls out of eleven, on two handles
        library memory       each allocation fails once; prints how many there are
        library threads      a handle goes through threads, and each of four threads has one
+       library readers N    each of three threads reads one instance N times; prints how many answers are wrong
+       library nulls        pointers that are null where there is no room, and a handle that is its own text
 
    All memory is freed at the end of each; the status is 1 if that or an answer is wrong. */
 #include "dnorm.h"
@@ -14,6 +16,8 @@
 enum { CALLS = 11, ROUNDS = 200 };
 
 static const char good[] = "p min 4 3\nn 1 2\nn 2 -2\na 1 2 0 5 7\na 2 3 1 5 7\na 1 2 1 5 6\n";
+static const char canon[] = "p min 4 5\nn 1 2\nn 2 -2\na 1 2 1 1 6\na 1 2 0 4 6\na 1 2 0 5 7\n"
+                            "a 2 3 1 1 7\na 2 3 0 4 7\n";
 static const char bad[] = "p sp 1 1\nq\n";
 
 /* The linker passes calls of malloc, realloc and free through these, which count what is not yet freed. */
@@ -49,6 +53,7 @@ static dnorm_status feed(dnorm *reader, const char *text) {
 
 /* Makes the call of this number. */
 static void act(int number, dnorm *one, dnorm *other) {
+    dnorm_place place = DNORM_FIRST;
     dnorm_arc arcs[2];
     dnorm_item items[2];
     uint8_t bytes[9];
@@ -57,8 +62,8 @@ static void act(int number, dnorm *one, dnorm *other) {
     case 1: feed(one, good); break;
     case 2: feed(one, bad); break;
     case 3: dnorm_finish(one); break;
-    case 4: dnorm_arcs(one, 1, 1, arcs, 2); break;
-    case 5: dnorm_items(one, 0, items, 2); break;
+    case 4: dnorm_next(one, 1, &place, arcs, 2); break;
+    case 5: dnorm_items(one, &place, items, 2); break;
     case 6: dnorm_canon(one, 2, other); break;
     case 7: dnorm_text(other, 3, bytes, 9); break;
     case 8: dnorm_compare(one, other); break;
@@ -121,8 +126,9 @@ static void *read_many(void *sum) {
     for (int i = 0; i < ROUNDS; i++) {
         dnorm graph = DNORM_NONE, text = DNORM_NONE;
         dnorm_arc arcs[8];
+        dnorm_place place = DNORM_FIRST;
         make_text(&graph, &text);
-        size_t count = dnorm_arcs(&graph, 1, 0, arcs, 8);
+        size_t count = dnorm_next(&graph, 1, &place, arcs, 8).count;
         for (size_t at = 0; at < count; at++) *(long long *)sum += arcs[at].b;
         dnorm_free(&text);
         dnorm_free(&graph);
@@ -149,10 +155,82 @@ static int threads(void) {
     return puts(""), 0;
 }
 
+/* An instance and its text, which threads share, and what one of them found in them. */
+typedef struct readings {
+    const dnorm *graph, *text;
+    long times, wrong;
+} readings;
+
+/* Whether the arcs, in both ways to copy them, the items and the text are right. */
+static int is_copied(const dnorm *graph, const dnorm *text) {
+    dnorm_place places[3] = {DNORM_FIRST, DNORM_FIRST, DNORM_FIRST};
+    dnorm_arc arcs[8];
+    dnorm_item items[4];
+    int64_t heads[8], costs[8];
+    uint8_t bytes[128];
+    size_t count = dnorm_next(graph, 1, &places[0], arcs, 2).count;
+    count += dnorm_next(graph, 1, &places[0], arcs + 2, 6).count;
+    size_t columns = dnorm_columns(graph, 1, &places[1], NULL, 0, heads, 8, NULL, 0, NULL, 0, costs, 8).count;
+    size_t length = dnorm_text(text, 0, bytes, sizeof bytes).count;
+    if (count != 5 || columns != 5 || arcs[1].b != 4 || heads[3] != 3 || costs[0] != 6) return 0;
+    if (dnorm_items(graph, &places[2], items, 4).count != 2 || items[1].a != -2) return 0;
+    return length == strlen(canon) && !memcmp(bytes, canon, length);
+}
+
+static void *read_both(void *given) {
+    readings *it = given;
+    for (long i = 0; i < it->times; i++) {
+        uint8_t name[8];
+        dnorm text = DNORM_NONE;
+        int is_right = dnorm_facts(it->graph).pairs == 2 && dnorm_arc_count(it->graph, 2).count == 3;
+        is_right &= dnorm_name(it->graph, name, 8).count == 3 && is_copied(it->graph, it->text);
+        is_right &= dnorm_compare(it->graph, it->graph).what == DNORM_SAME;
+        is_right &= dnorm_compare(it->graph, it->text).what == DNORM_NOT_BOTH;
+        is_right &= dnorm_fits(it->graph, it->graph).code == DNORM_NOT_KINDS;
+        is_right &= dnorm_canon(it->graph, 1, &text).code == DNORM_FINE && is_copied(it->graph, &text);
+        dnorm_free(&text);
+        it->wrong += !is_right;
+    }
+    it->wrong += live != 0;
+    return 0;
+}
+
+static int readers(long times) {
+    pthread_t ids[3];
+    dnorm graph = DNORM_NONE, text = DNORM_NONE;
+    make_text(&graph, &text);
+    readings all[3] = {{&graph, &text, times, 0}, {&graph, &text, times, 0}, {&graph, &text, times, 0}};
+    for (int i = 0; i < 3; i++) pthread_create(&ids[i], 0, read_both, &all[i]);
+    for (int i = 0; i < 3; i++) pthread_join(ids[i], 0);
+    dnorm_free(&text);
+    dnorm_free(&graph);
+    return printf("%ld wrong\n", all[0].wrong + all[1].wrong + all[2].wrong), live != 0;
+}
+
+static int nulls(void) {
+    dnorm graph = DNORM_NONE, text = DNORM_NONE;
+    dnorm_place place = DNORM_FIRST;
+    dnorm_free(NULL);
+    int is_right = dnorm_begin(&graph).code == DNORM_FINE && dnorm_feed(&graph, NULL, 0).code == DNORM_FINE;
+    feed(&graph, good);
+    is_right &= dnorm_finish(&graph).code == DNORM_FINE && dnorm_next(&graph, 1, &place, NULL, 0).code == DNORM_FINE;
+    is_right &= dnorm_columns(&graph, 1, &place, NULL, 0, NULL, 0, NULL, 0, NULL, 0, NULL, 0).count == 0;
+    is_right &= dnorm_items(&graph, &place, NULL, 0).code == DNORM_FINE && dnorm_name(&graph, NULL, 0).count == 0;
+    is_right &= dnorm_canon(&graph, 1, &graph).code == DNORM_WRONG_CALL && dnorm_facts(&graph).kind == DNORM_MIN;
+    is_right &= dnorm_canon(&text, 1, &text).code == DNORM_WRONG_CALL && !text.full;
+    is_right &= dnorm_canon(&graph, 1, &text).code == DNORM_FINE && dnorm_text(&text, 0, NULL, 0).code == DNORM_FINE;
+    is_right &= place.pairs == 0 && place.within == 0;
+    (dnorm_free)(&text);
+    dnorm_free(&graph);
+    return puts(is_right ? "right" : "wrong"), live != 0;
+}
+
 int main(int count, char **words) {
     const char *mode = count > 1 ? words[1] : "";
     if (!strcmp(mode, "orders") && count > 2) return orders(atoi(words[2]));
     if (!strcmp(mode, "memory")) return memory();
     if (!strcmp(mode, "threads")) return threads();
+    if (!strcmp(mode, "readers") && count > 2) return readers(atol(words[2]));
+    if (!strcmp(mode, "nulls")) return nulls();
     return 2;
 }

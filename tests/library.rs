@@ -1,18 +1,102 @@
 //! Writes the canonical text of standard input in both forms, by the crate `dnorm`, after the instance went through a
-//! thread; a refusal is a line on standard error. The status is 2 for a refused text.
-use dnorm::{Form, Instance, ReadError, Reader, Refusal};
+//! thread; a refusal is a line on standard error. The status is 2 for a refused text. With an argument, the text is in
+//! the file of this name; its arcs are also written by the crate.
+use dnorm::{
+    Arc, Columns, Declared, Difference, Fit, Form, Instance, Item, Kind, ReadError, Reader, Refusal,
+};
 use std::io::{stdin, stdout, Write};
 use std::process::ExitCode;
-use std::thread::spawn;
+use std::thread::{scope, spawn};
 
 /// Reads a text in pieces of this size.
 fn read_in_pieces(text: &[u8], size: usize) -> Result<Instance, Refusal> {
     let mut reader = Reader::new()?;
     reader.feed(b"")?;
+    assert_eq!(reader.declared(), None);
     for piece in text.chunks(size) {
         reader.feed(piece)?;
     }
-    reader.finish()
+    let declared = reader.declared().expect("a problem line");
+    let made = reader.finish()?;
+    let (kind, nodes, lines) = (made.kind(), made.nodes(), made.lines());
+    assert_eq!(declared, Declared { kind, nodes, lines });
+    Ok(made)
+}
+
+/// Checks that all ways to have the arcs agree.
+fn check_arcs(instance: &Instance, form: Form) {
+    let arcs: Vec<Arc> = instance.arcs(form).collect();
+    assert_eq!(arcs.len(), instance.arc_count(form));
+    let columns = instance.columns(form);
+    for (at, arc) in arcs.iter().enumerate() {
+        let further = |column: &[i64]| column.get(at).copied().unwrap_or(0);
+        let found = (columns.tails[at], columns.heads[at], columns.a[at]);
+        assert_eq!(found, (arc.tail, arc.head, arc.a));
+        assert_eq!((further(&columns.b), further(&columns.c)), (arc.b, arc.c));
+    }
+    let has_all = instance.kind() == Kind::Min && !arcs.is_empty();
+    assert_eq!(columns.b.is_empty(), !has_all);
+    match instance.columns_32(form) {
+        Ok(short) => {
+            assert!(short.tails.len() == arcs.len() && short.c.len() == columns.c.len());
+            let wide = short.a.iter().map(|it| i64::from(*it));
+            assert!(wide.eq(columns.a.iter().copied()));
+        }
+        Err(_) => {
+            let wide = |it: &i64| i32::try_from(*it).is_err();
+            let Columns {
+                tails,
+                heads,
+                a,
+                b,
+                c,
+            } = &columns;
+            assert!([tails, heads, a, b, c].iter().any(|it| it.iter().any(wide)));
+        }
+    }
+    check_star(instance, form, &columns);
+}
+
+/// Checks that a forward star has the arcs of each node.
+fn check_star(instance: &Instance, form: Form, columns: &Columns<i64>) {
+    match instance.star(form) {
+        Ok(star) => {
+            assert_eq!(star.columns, *columns);
+            for node in 1..star.first.len() {
+                let is_own = |tail: &i64| *tail == node as i64;
+                assert!(columns.tails[star.arcs_of(node)].iter().all(is_own));
+            }
+            let all = (1..star.first.len())
+                .map(|it| star.arcs_of(it).len())
+                .sum::<usize>();
+            assert_eq!(all, columns.tails.len());
+        }
+        Err(why) => assert!(why.is_memory() && instance.nodes() > 1_000_000),
+    }
+}
+
+/// Checks that an instance has all that another one has, which reads as the same text.
+fn check_same(instance: &Instance, again: &Instance, form: Form, text: &[u8]) {
+    assert_eq!(again.compare(instance), None);
+    assert_eq!(again.compare(again), None);
+    assert_eq!((again.kind(), again.nodes(), again.pairs()), {
+        (instance.kind(), instance.nodes(), instance.pairs())
+    });
+    assert!(again.arcs(form).eq(instance.arcs(form)));
+    assert!(again.items().eq(instance.items()));
+    assert_eq!(again.items().count() as u64, instance.item_count());
+    // Several threads read one instance, and iterators go to other threads.
+    let (mut arcs, mut items) = (again.arcs(form), instance.items());
+    scope(|threads| {
+        threads.spawn(|| check_arcs(again, form));
+        threads.spawn(|| check_arcs(again, form));
+        threads.spawn(move || arcs.next());
+        threads.spawn(move || items.next());
+    });
+    let counted = text
+        .split(|it| *it == b'\n')
+        .filter(|it| it.starts_with(b"a "));
+    assert_eq!(counted.count(), instance.arc_count(form));
 }
 
 /// Returns both canonical texts, once the instance was compared with what they read as.
@@ -24,37 +108,87 @@ fn texts_of(instance: Instance) -> Result<Vec<u8>, Refusal> {
             let text = text.clone();
             move || read_in_pieces(&text, 7)
         });
-        let again = again.join().expect("a thread")?;
-        assert_eq!(again.compare(&instance), None);
-        assert_eq!(again.compare(&again), None);
-        assert_eq!((again.kind(), again.nodes(), again.pairs()), {
-            (instance.kind(), instance.nodes(), instance.pairs())
-        });
-        assert!(again.arcs(form).eq(instance.arcs(form)));
-        assert!(again.items().eq(instance.items()));
-        let counted = text
-            .split(|it| *it == b'\n')
-            .filter(|it| it.starts_with(b"a "));
-        assert_eq!(counted.count(), instance.arcs(form).count());
+        check_same(&instance, &again.join().expect("a thread")?, form, text);
     }
+    // An instance can end while an iterator that is no longer used is there.
+    let mut items = instance.items();
+    let first = items.next();
+    drop(instance);
+    let has_items = |it: &[u8]| it[0] == b'\n' && b"nsqv".contains(&it[1]);
+    assert_eq!(first.is_some(), one.windows(2).any(has_items));
     Ok([one, two].concat())
 }
 
+/// Checks what differs, with values, and which companions fit.
+fn check_pairs() -> Result<(), Refusal> {
+    let graph = Instance::from_bytes(b"p sp 2 1\na 1 2 7\n")?;
+    let other = Instance::from_bytes(b"p sp 2 1\na 2 1 -7\n")?;
+    let sources = Instance::from_bytes(b"p aux sp ss 1\ns 9\n")?;
+    let [left, right] = [Some(7), None];
+    let (tail, head, amount) = (1, 2, 0);
+    let wanted = Difference::Pair {
+        tail,
+        head,
+        amount,
+        left,
+        right,
+    };
+    assert_eq!(graph.compare(&other), Some(wanted));
+    assert_eq!(
+        graph.compare(&sources),
+        Some(Difference::Kinds(Kind::Sp, Kind::Ss))
+    );
+    let larger = Instance::from_bytes(b"p sp 3 0\n")?;
+    assert_eq!(graph.compare(&larger), Some(Difference::Nodes(2, 3)));
+    let low = Instance::from_bytes(b"p min 1 0\nn 1 -9223372036854775808\n")?;
+    let none = Instance::from_bytes(b"p min 1 0\n")?;
+    assert_eq!(
+        low.compare(&none),
+        Some(Difference::Supply(1, i128::from(i64::MIN), 0))
+    );
+    let near = Instance::from_bytes(b"p aux sp ss 1\ns 2\n")?;
+    assert_eq!(graph.fits(&near), Fit::Fits);
+    assert_eq!(graph.fits(&sources), Fit::NotInGraph(9));
+    assert_eq!(
+        (sources.fits(&graph), graph.fits(&graph)),
+        (Fit::NotKinds, Fit::NotKinds)
+    );
+    Ok(())
+}
+
+/// Writes the text in a file by the crate, once it has no arcs too many.
+fn print_file(name: &str) -> Result<(), ReadError> {
+    let instance = Instance::open(name)?;
+    let items: Vec<Item> = instance.items().collect();
+    let arcs: Vec<Arc> = instance.arcs(Form::One).collect();
+    dnorm::write(stdout(), instance.kind(), instance.nodes(), &items, &arcs)?;
+    Ok(())
+}
+
+fn print() -> Result<(), ReadError> {
+    let instance = Instance::read(stdin())?;
+    check_arcs(&instance, Form::One);
+    let text = spawn(move || texts_of(instance)).join();
+    stdout().write_all(&text.expect("a thread")?)?;
+    Ok(())
+}
+
 fn main() -> ExitCode {
-    assert_eq!(dnorm::abi(), 1);
-    let other = Instance::from_bytes(b"p sp 9 0\n").expect("an instance");
-    match Instance::read(stdin()) {
-        Ok(instance) => {
-            assert!(instance.compare(&other).is_some());
-            let text = spawn(move || texts_of(instance)).join();
-            let text = text.expect("a thread").expect("a text");
-            stdout().write_all(&text).expect("standard output");
-            ExitCode::SUCCESS
-        }
+    assert_eq!(dnorm::abi(), 2);
+    check_pairs().expect("instances");
+    match std::env::args()
+        .nth(1)
+        .map_or_else(print, |it| print_file(&it))
+    {
+        Ok(()) => ExitCode::SUCCESS,
         Err(ReadError::Refused(refusal)) => {
+            assert_eq!(format!("{refusal:?}"), refusal.to_string());
             eprintln!("{refusal}");
             ExitCode::from(2)
         }
-        Err(ReadError::Failed(error)) => panic!("{error}"),
+        Err(ReadError::Failed(error)) => {
+            eprintln!("{error}");
+            ExitCode::from(4)
+        }
     }
 }

@@ -59,8 +59,13 @@ def prose(page: str, top: str = ROOT) -> str:
 
 
 def anchors(page: str, top: str) -> set[str]:
-    """Returns what a link to a page can name: its headings, as GitHub spells them."""
-    heads = [re.sub(r"\]\([^)]*\)", "]", it) for it in HEADING.findall(prose(page, top))]
+    """Returns what a link to a page can name."""
+    return anchors_in(page_text(page, top))
+
+
+def anchors_in(text: str) -> set[str]:
+    """Returns the headings of a text, as GitHub spells them in links."""
+    heads = [re.sub(r"\]\([^)]*\)", "]", it) for it in HEADING.findall(FENCE.sub("", text))]
     return {re.sub(r"[^\w\- ]", "", it.lower()).strip().replace(" ", "-") for it in heads}
 
 

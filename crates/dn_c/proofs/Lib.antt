@@ -1,4 +1,4 @@
 pub mod AsBox
-pub mod CopyLaws
-pub mod NextLaws
-pub mod ColumnLaws
+pub mod Steps
+pub mod ReadLaws
+pub mod WalkLaws

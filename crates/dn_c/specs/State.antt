@@ -1,4 +1,4 @@
-pub mod Copies
+pub mod Reads
 pub mod Rows
 pub mod Places
 pub mod Facts
@@ -9,4 +9,5 @@ pub mod Outputs
 pub mod Columns
 pub mod Sealed
 pub mod Statuses
+pub mod Walks
 pub mod Works

@@ -1,6 +1,6 @@
 // The first difference between two instances, as C has it.
 ghost use Rattle.std.specs.Prelude.{◌≡◌, pos, Some};
-ghost use Rattle.dn_c.specs.State.Differences.{Compares, DiffersAs, IsNotBoth, IsValue, OfWhole, PairDiffers, Tells};
+ghost use Rattle.dn_c.specs.State.Differences.{ComparesWorks, DiffersAs, IsNotBoth, IsValue, OfWhole, PairDiffers, TellsVerdict};
 
 use crate::facts::kind_number;
 use crate::work::Work;
@@ -70,7 +70,7 @@ fn wide(number: Option<i64>) -> Option<i128>
 
 // Returns a difference of this sort at a node or an ordered pair, with these values.
 fn tell(what: u8, at: i64, to: i64, left: Option<i128>, right: Option<i128>) -> Difference
-    ensures { Tells what at to 0 (pos 0) left right result }
+    ensures { TellsVerdict what at to 0 (pos 0) left right result }
 {
     Difference {
         what,
@@ -142,10 +142,10 @@ fn difference_of(verdict: Verdict) -> Difference
 
 /// Returns where two instances first differ.
 pub fn parting(left: &Work, right: &Work) -> Difference
-    ensures { Compares left.now right.now result }
+    ensures { ComparesWorks left.now right.now result }
 {
     match (left, right) {
-        (Work::Read(left), Work::Read(right)) => difference_of(compare(left, right)),
+        (Work::Read(left, _), Work::Read(right, _)) => difference_of(compare(left, right)),
         _ => not_both(),
     }
 }

@@ -1,24 +1,30 @@
 // The functions that C calls. `c/dnorm.h` declares them and says which rules a caller must keep. A call takes the work
 // out of its handle and puts it back, which moves only a pointer.
 ghost use Rattle.std.specs.Prelude.{◌≡◌, ◌≤◌, Some, None, List, MatchOption, length};
-ghost use Rattle.dn_c.specs.State.Columns.{CopiesColumns};
-ghost use Rattle.dn_c.specs.State.Differences.{Compares, IsNotBoth};
+ghost use Rattle.dn_c.specs.State.Columns.{longest, SameColumns, HasColumns};
+ghost use Rattle.dn_c.specs.State.Differences.{ComparesWorks, IsNotBoth};
 ghost use Rattle.dn_c.specs.State.Fits.{neither, Judges};
-ghost use Rattle.dn_c.specs.State.Facts.{no_facts, facts_of};
-ghost use Rattle.dn_c.specs.State.Outputs.{CopiesArcs, CopiesItems, CopiesName, CopiesNext, CopiesText, PrintsInto};
-ghost use Rattle.dn_c.specs.State.Statuses.{wrong_call};
-ghost use Rattle.dn_c.specs.State.Works.{work_of, BothHold, Begins, Does, Feeds, Finishes};
+ghost use Rattle.dn_c.specs.State.Facts.{no_facts, IsFacts};
+ghost use Rattle.dn_c.specs.State.Outputs.{CopiesHeld, CopiesItems, CopiesName, CopiesText, CountsArcs, IsIdle, PrintsHeld};
+ghost use Rattle.dn_c.specs.State.Walks.{HasRows};
+ghost use Rattle.dn_c.specs.State.Statuses.{wrong_count, wrong_call};
+ghost use base.Fml.{Lft, Share, fsep};
+ghost use types.Logic.{sem};
+ghost use Rattle.dn_c.specs.declared.shown.Shown.{Shown};
+ghost use Rattle.dn_c.specs.State.Reads.{read_at, alive_at, shown_work};
+ghost use Rattle.dn_c.specs.State.Works.{work_of, BothHold, BeginsReader, OnWork, Feeds, Finishes};
 
 use crate::arcs::Arc;
-use crate::columns::columns;
 use crate::difference::{Difference, not_both, parting};
 use crate::facts::{Facts, no_facts, tell};
 use crate::fits::{Fit, judge, neither};
 use crate::handle::Handle;
 use crate::items::Item;
-use crate::next::Place;
-use crate::outputs::{arcs, canon_into, items, name, next_arcs, text};
-use crate::status::{Status, fine, refusal_status, wrong_call};
+use crate::outputs::{arc_count, canon_into, columns, items, name, next_arcs, text};
+use crate::place::Place;
+use crate::shown::Shown;
+use crate::status::{Count, Status, fine, refused_with, wrong_call, wrong_count};
+use crate::store::store;
 use crate::work::Work;
 use dn_instance::{Reader, Refusal};
 use std::alloc::Global;
@@ -31,21 +37,12 @@ use std::alloc::Global;
 /// something, it keeps that, and the call is a wrong one.
 #[unsafe(no_mangle)]
 pub extern "C" fn dnorm_begin(alloc: Global, handle: &mut Handle) -> Status
-    ensures { Begins (work_of handle.old) (work_of handle.new) result }
+    ensures { BeginsReader (work_of handle.old) (work_of handle.new) result }
 {
-    match handle.take(alloc) {
-        Some(was) => {
-            handle.put(was);
-            wrong_call()
-        }
-        None => match Box::new(alloc, Work::Reading(Reader::new(alloc))) {
-            Ok(work) => {
-                handle.put(work);
-                fine()
-            }
-            Err(_) => refusal_status(Refusal::Memory),
-        },
+    if handle.is_full() {
+        return wrong_call();
     }
+    store(alloc, handle, Work::Reading(Reader::new(alloc)))
 }
 
 /// Feeds the next piece of the text to the reader. Pieces may end anywhere, also in a line or in a word, and may be
@@ -57,7 +54,7 @@ pub extern "C" fn dnorm_begin(alloc: Global, handle: &mut Handle) -> Status
 /// piece, and the end of the text, then has the same status. If the handle holds no reader, nothing changes.
 #[unsafe(no_mangle)]
 pub extern "C" fn dnorm_feed(alloc: Global, handle: &mut Handle, piece: &[u8]) -> Status
-    ensures { Does (λ old. Feeds old piece.now) (work_of handle.old) (work_of handle.new) result }
+    ensures { OnWork (λ old. Feeds old piece.now) (work_of handle.old) (work_of handle.new) result }
 {
     match handle.take(alloc) {
         Some(mut work) => {
@@ -76,7 +73,7 @@ fn feed_work(work: &mut Work, piece: &[u8]) -> Status
     match work {
         Work::Reading(reader) => match reader.feed(piece) {
             Ok(()) => fine(),
-            Err(refusal) => refusal_status(refusal),
+            Err(refusal) => refused_with(refusal),
         },
         _ => wrong_call(),
     }
@@ -90,11 +87,14 @@ fn feed_work(work: &mut Work, piece: &[u8]) -> Status
 /// changes.
 #[unsafe(no_mangle)]
 pub extern "C" fn dnorm_finish(alloc: Global, handle: &mut Handle) -> Status
-    ensures { Does Finishes (work_of handle.old) (work_of handle.new) result }
+    ensures { OnWork Finishes (work_of handle.old) (work_of handle.new) result }
 {
     match handle.take(alloc) {
         Some(mut work) => {
-            let (new, status) = finished(Box::replace(&mut work, Work::Refused(Refusal::Memory)));
+            let (new, status) = finished(
+                alloc,
+                Box::replace(&mut work, Work::Refused(Refusal::Memory)),
+            );
             drop(Box::replace(&mut work, new));
             handle.put(work);
             status
@@ -104,13 +104,13 @@ pub extern "C" fn dnorm_finish(alloc: Global, handle: &mut Handle) -> Status
 }
 
 // Ends the text, if the work is a reader.
-fn finished(work: Work) -> (Work, Status)
+fn finished(alloc: Global, work: Work) -> (Work, Status)
     ensures { Finishes work result.0 result.1 }
 {
     match work {
         Work::Reading(reader) => match reader.finish() {
-            Ok(held) => (Work::Read(held), fine()),
-            Err(refusal) => (Work::Refused(refusal), refusal_status(refusal)),
+            Ok(held) => (Work::Read(held, alloc), fine()),
+            Err(refusal) => (Work::Refused(refusal), refused_with(refusal)),
         },
         other => (other, wrong_call()),
     }
@@ -124,80 +124,99 @@ pub extern "C" fn dnorm_free(alloc: Global, handle: &mut Handle)
     drop(handle.take(alloc));
 }
 
-/// Returns what the instance is, in numbers. The kind is 0 if the handle holds no instance.
+/// Returns what the instance is, in numbers, or what the problem line declares that a reader has read. The kind is 0 if
+/// the handle holds neither.
 #[unsafe(no_mangle)]
-pub extern "C" fn dnorm_facts(alloc: Global, handle: &mut Handle) -> Facts
-    ensures facts { MatchOption (work_of handle.old) (result ≡ no_facts) (λ work. result ≡ facts_of work) }
-    ensures kept { work_of handle.new ≡ work_of handle.old }
+pub unsafe extern "C" fn dnorm_facts(handle: *const u8) -> Facts
+    ghost g: { (Lft × Share) × Shown }
+    requires* { sem 𝓛 (read_at g.0 handle g.1) }
+    ensures* alive { sem 𝓛 (alive_at g.0) }
+    ensures facts { MatchOption (shown_work g.1) (result ≡ no_facts) (λ work. IsFacts work result) }
 {
-    match handle.take(alloc) {
-        Some(work) => {
-            let facts = tell(&work);
-            handle.put(work);
-            facts
-        }
+    facts_in(&*(handle as *const Shown))
+}
+
+// Returns what the instance is, in numbers, or what the problem line declares.
+fn facts_in(handle: &Shown) -> Facts
+    ensures { MatchOption (shown_work handle.now) (result ≡ no_facts) (λ work. IsFacts work result) }
+{
+    match handle.get() {
+        Some(work) => tell(work),
         None => no_facts(),
     }
 }
 
-/// Copies the canonical arcs of the instance in a form (1 or 2) from the one at `from`, counted from 0, as far as there
-/// is room, in the order of the canonical text. Returns how many it copied: 0 past the last, and where the handle holds
-/// no graph. The call walks over the pairs before that arc.
+/// Returns how many canonical arcs the instance has in a form (1 or 2). The call walks over the pairs.
+///
+/// # Errors
+///
+/// The code is 34 if there are 2^64 or more. It is that of a wrong call where the handle holds no graph.
 #[unsafe(no_mangle)]
-pub extern "C" fn dnorm_arcs(
-    alloc: Global,
-    handle: &mut Handle,
-    form: u8,
-    from: u64,
-    out: &mut [Arc],
-) -> usize
-    ensures copies { MatchOption (work_of handle.old) (result ≡ 0)
-        (λ work. CopiesArcs work form from out.old out.new result) }
-    ensures fits { result ≤ length out.new }
-    ensures kept { work_of handle.new ≡ work_of handle.old }
+pub unsafe extern "C" fn dnorm_arc_count(handle: *const u8, form: u8) -> Count
+    ghost g: { (Lft × Share) × Shown }
+    requires* { sem 𝓛 (read_at g.0 handle g.1) }
+    ensures* alive { sem 𝓛 (alive_at g.0) }
+    ensures counts { MatchOption (shown_work g.1) (result ≡ wrong_count) (λ work. CountsArcs work form result) }
 {
-    match handle.take(alloc) {
-        Some(work) => {
-            let count = arcs(&work, form, from, out);
-            handle.put(work);
-            count
-        }
-        None => 0,
+    arc_count_in(&*(handle as *const Shown), form)
+}
+
+// Returns how many canonical arcs the instance has in a form.
+fn arc_count_in(handle: &Shown, form: u8) -> Count
+    ensures { MatchOption (shown_work handle.now) (result ≡ wrong_count) (λ work. CountsArcs work form result) }
+{
+    match handle.get() {
+        Some(work) => arc_count(work, form),
+        None => wrong_count(),
     }
 }
 
-/// Copies the canonical arcs of the instance in a form (1 or 2) after the place, as far as there is room, and moves the
-/// place past them. Returns how many it copied: 0 after the last, and where the handle holds no graph.
+/// Copies the canonical arcs of the instance in a form (1 or 2) after the place, as far as there is room, in the order
+/// of the canonical text, and moves the place behind them. Returns how many it copied. Where it copied fewer than there
+/// was room for, none are left.
+///
+/// # Errors
+///
+/// The code is that of a wrong call where the handle holds no graph, and then nothing changes.
 #[unsafe(no_mangle)]
-pub extern "C" fn dnorm_next(
-    alloc: Global,
-    handle: &mut Handle,
+pub unsafe extern "C" fn dnorm_next(
+    handle: *const u8,
     form: u8,
     place: &mut Place,
     out: &mut [Arc],
-) -> usize
-    ensures copies { MatchOption (work_of handle.old) (result ≡ 0)
-        (λ work. CopiesNext work form place.old place.new out.old out.new result) }
-    ensures fits { result ≤ length out.new }
-    ensures kept { work_of handle.new ≡ work_of handle.old }
+) -> Count
+    ghost g: { (Lft × Share) × Shown }
+    requires* { sem 𝓛 (read_at g.0 handle g.1) }
+    ensures* alive { sem 𝓛 (alive_at g.0) }
+    ensures copies { CopiesHeld (shown_work g.1) form place.old place.new (length out.old) (HasRows out.new)
+        (out.new ≡ out.old) result }
+    ensures fits { result.count ≤ length out.new }
 {
-    match handle.take(alloc) {
-        Some(work) => {
-            let count = next_arcs(&work, form, place, out);
-            handle.put(work);
-            count
-        }
-        None => 0,
+    next_in(&*(handle as *const Shown), form, place, out)
+}
+
+// Copies the canonical arcs of the instance after the place, as far as there is room, and moves the place behind them.
+fn next_in(handle: &Shown, form: u8, place: &mut Place, out: &mut [Arc]) -> Count
+    ensures copies { CopiesHeld (shown_work handle.now) form place.old place.new (length out.old) (HasRows out.new)
+        (out.new ≡ out.old) result }
+    ensures fits { result.count ≤ length out.new }
+{
+    match handle.get() {
+        Some(work) => next_arcs(work, form, place, out),
+        None => wrong_count(),
     }
 }
 
-/// Copies the canonical arcs of the instance in a form (1 or 2) after the place by columns, as many as the column of
-/// tails has room for, and moves the place past them. A shorter column has its part of the first of them. Returns how
-/// many it copied: 0 after the last, and where the handle holds no graph.
+/// Copies the canonical arcs of the instance in a form (1 or 2) after the place by columns, as many as the longest
+/// column has room for, and moves the place behind them. A shorter column has its part of the first of them. Returns how
+/// many it copied. Where it copied fewer than there was room for, none are left.
+///
+/// # Errors
+///
+/// The code is that of a wrong call where the handle holds no graph, and then nothing changes.
 #[unsafe(no_mangle)]
-pub extern "C" fn dnorm_columns(
-    alloc: Global,
-    handle: &mut Handle,
+pub unsafe extern "C" fn dnorm_columns(
+    handle: *const u8,
     form: u8,
     place: &mut Place,
     tails: &mut [i64],
@@ -205,37 +224,76 @@ pub extern "C" fn dnorm_columns(
     a: &mut [i64],
     b: &mut [i64],
     c: &mut [i64],
-) -> usize
-    ensures copies { MatchOption (work_of handle.old) (result ≡ 0) (λ work. CopiesColumns work form place.old place.new
-        (length tails.old) tails.new heads.new a.new b.new c.new result) }
-    ensures kept { work_of handle.new ≡ work_of handle.old }
+) -> Count
+    ghost g: { (Lft × Share) × Shown }
+    requires* { sem 𝓛 (read_at g.0 handle g.1) }
+    ensures* alive { sem 𝓛 (alive_at g.0) }
+    ensures copies { CopiesHeld (shown_work g.1) form place.old place.new
+        (longest tails.old heads.old a.old b.old c.old) (HasColumns tails.new heads.new a.new b.new c.new)
+        (SameColumns tails.old heads.old a.old b.old c.old tails.new heads.new a.new b.new c.new) result }
+    ensures fits { result.count ≤ longest tails.old heads.old a.old b.old c.old }
 {
-    match handle.take(alloc) {
-        Some(work) => {
-            let count = columns(&work, form, place, tails, heads, a, b, c);
-            handle.put(work);
-            count
-        }
-        None => 0,
+    columns_in(
+        &*(handle as *const Shown),
+        form,
+        place,
+        tails,
+        heads,
+        a,
+        b,
+        c,
+    )
+}
+
+// Copies the canonical arcs of the instance after the place by columns.
+fn columns_in(
+    handle: &Shown,
+    form: u8,
+    place: &mut Place,
+    tails: &mut [i64],
+    heads: &mut [i64],
+    a: &mut [i64],
+    b: &mut [i64],
+    c: &mut [i64],
+) -> Count
+    ensures copies { CopiesHeld (shown_work handle.now) form place.old place.new
+        (longest tails.old heads.old a.old b.old c.old) (HasColumns tails.new heads.new a.new b.new c.new)
+        (SameColumns tails.old heads.old a.old b.old c.old tails.new heads.new a.new b.new c.new) result }
+    ensures fits { result.count ≤ longest tails.old heads.old a.old b.old c.old }
+{
+    match handle.get() {
+        Some(work) => columns(work, form, place, tails, heads, a, b, c),
+        None => wrong_count(),
     }
 }
 
 /// Copies the name of what the handle holds, as far as there is room: that of a refusal, or that of an instance's kind.
-/// Returns how many bytes it copied: 0 where the handle holds neither.
+/// Returns how many bytes it copied.
+///
+/// # Errors
+///
+/// The code is that of a wrong call where the handle holds neither, and then nothing changes.
 #[unsafe(no_mangle)]
-pub extern "C" fn dnorm_name(alloc: Global, handle: &mut Handle, out: &mut [u8]) -> usize
-    ensures copies { MatchOption (work_of handle.old) (result ≡ 0)
+pub unsafe extern "C" fn dnorm_name(handle: *const u8, out: &mut [u8]) -> Count
+    ghost g: { (Lft × Share) × Shown }
+    requires* { sem 𝓛 (read_at g.0 handle g.1) }
+    ensures* alive { sem 𝓛 (alive_at g.0) }
+    ensures copies { MatchOption (shown_work g.1) (IsIdle out.old out.new result)
         (λ work. CopiesName work out.old out.new result) }
-    ensures fits { result ≤ length out.new }
-    ensures kept { work_of handle.new ≡ work_of handle.old }
+    ensures fits { result.count ≤ length out.new }
 {
-    match handle.take(alloc) {
-        Some(work) => {
-            let count = name(&work, out);
-            handle.put(work);
-            count
-        }
-        None => 0,
+    name_in(&*(handle as *const Shown), out)
+}
+
+// Copies the name of what the handle holds, as far as there is room.
+fn name_in(handle: &Shown, out: &mut [u8]) -> Count
+    ensures copies { MatchOption (shown_work handle.now) (IsIdle out.old out.new result)
+        (λ work. CopiesName work out.old out.new result) }
+    ensures fits { result.count ≤ length out.new }
+{
+    match handle.get() {
+        Some(work) => name(work, out),
+        None => wrong_count(),
     }
 }
 
@@ -247,129 +305,137 @@ pub extern "C" fn dnorm_name(alloc: Global, handle: &mut Handle, out: &mut [u8])
 /// The status is that of `Memory` or of `CountTooLarge`, and `into` then holds nothing. If `into` holds something, or
 /// `handle` no instance, nothing changes, and the call is a wrong one.
 #[unsafe(no_mangle)]
-pub extern "C" fn dnorm_canon(
-    alloc: Global,
-    handle: &mut Handle,
-    form: u8,
-    into: &mut Handle,
-) -> Status
-    ensures prints { MatchOption (work_of handle.old) (result ≡ wrong_call)
-        (λ work. PrintsInto work form (work_of into.old) (work_of into.new) result) }
-    ensures kept { work_of handle.new ≡ work_of handle.old }
+pub unsafe extern "C" fn dnorm_canon(handle: *const u8, form: u8, into: &mut Handle) -> Status
+    ghost g: { (Lft × Share) × Shown }
+    requires* { sem 𝓛 (read_at g.0 handle g.1) }
+    ensures* alive { sem 𝓛 (alive_at g.0) }
+    ensures prints { PrintsHeld (shown_work g.1) form (work_of into.old) (work_of into.new) result }
 {
-    match handle.take(alloc) {
-        Some(work) => {
-            let status = canon_into(alloc, &work, form, into);
-            handle.put(work);
-            status
-        }
+    canon_in(&*(handle as *const Shown), form, into)
+}
+
+// Puts the canonical text of the instance into a handle that holds nothing.
+fn canon_in(handle: &Shown, form: u8, into: &mut Handle) -> Status
+    ensures { PrintsHeld (shown_work handle.now) form (work_of into.old) (work_of into.new) result }
+{
+    match handle.get() {
+        Some(work) => canon_into(work, form, into),
         None => wrong_call(),
     }
 }
 
 /// Copies the bytes of the text from the one at `from`, counted from 0, as far as there is room. Returns how many it
-/// copied: 0 past the last, and where the handle holds no text.
+/// copied: 0 past the last.
+///
+/// # Errors
+///
+/// The code is that of a wrong call where the handle holds no text, and then nothing changes.
 #[unsafe(no_mangle)]
-pub extern "C" fn dnorm_text(
-    alloc: Global,
-    handle: &mut Handle,
-    from: usize,
-    out: &mut [u8],
-) -> usize
-    ensures copies { MatchOption (work_of handle.old) (result ≡ 0)
+pub unsafe extern "C" fn dnorm_text(handle: *const u8, from: usize, out: &mut [u8]) -> Count
+    ghost g: { (Lft × Share) × Shown }
+    requires* { sem 𝓛 (read_at g.0 handle g.1) }
+    ensures* alive { sem 𝓛 (alive_at g.0) }
+    ensures copies { MatchOption (shown_work g.1) (IsIdle out.old out.new result)
         (λ work. CopiesText work from out.old out.new result) }
-    ensures fits { result ≤ length out.new }
-    ensures kept { work_of handle.new ≡ work_of handle.old }
+    ensures fits { result.count ≤ length out.new }
 {
-    match handle.take(alloc) {
-        Some(work) => {
-            let count = text(&work, from, out);
-            handle.put(work);
-            count
-        }
-        None => 0,
+    text_in(&*(handle as *const Shown), from, out)
+}
+
+// Copies the bytes of the text from the one at `from`, counted from 0, as far as there is room.
+fn text_in(handle: &Shown, from: usize, out: &mut [u8]) -> Count
+    ensures copies { MatchOption (shown_work handle.now) (IsIdle out.old out.new result)
+        (λ work. CopiesText work from out.old out.new result) }
+    ensures fits { result.count ≤ length out.new }
+{
+    match handle.get() {
+        Some(work) => text(work, from, out),
+        None => wrong_count(),
     }
 }
 
-/// Copies what the instance holds beside its arcs from the one at `from`, counted from 0, as far as there is room: the
-/// flows that are not 0 by ascending node, the source with the sink, or the items or points of a companion. Returns how
-/// many it copied: 0 past the last, and where the handle holds no instance.
+/// Copies what the instance holds beside its arcs after the place, as far as there is room, and moves the place behind
+/// it: the flows that are not 0 by ascending node, the source with the sink, or the items or points of a companion.
+/// Returns how many it copied. Where it copied fewer than there was room for, none are left.
+///
+/// # Errors
+///
+/// The code is that of a wrong call where the handle holds no instance, and then nothing changes.
 #[unsafe(no_mangle)]
-pub extern "C" fn dnorm_items(
-    alloc: Global,
-    handle: &mut Handle,
-    from: u64,
+pub unsafe extern "C" fn dnorm_items(
+    handle: *const u8,
+    place: &mut Place,
     out: &mut [Item],
-) -> usize
-    ensures copies { MatchOption (work_of handle.old) (result ≡ 0)
-        (λ work. CopiesItems work from out.old out.new result) }
-    ensures fits { result ≤ length out.new }
-    ensures kept { work_of handle.new ≡ work_of handle.old }
+) -> Count
+    ghost g: { (Lft × Share) × Shown }
+    requires* { sem 𝓛 (read_at g.0 handle g.1) }
+    ensures* alive { sem 𝓛 (alive_at g.0) }
+    ensures copies { MatchOption (shown_work g.1) (IsIdle out.old out.new result × (place.new ≡ place.old))
+        (λ work. CopiesItems work place.old place.new out.old out.new result) }
+    ensures fits { result.count ≤ length out.new }
 {
-    match handle.take(alloc) {
-        Some(work) => {
-            let count = items(&work, from, out);
-            handle.put(work);
-            count
-        }
-        None => 0,
+    items_in(&*(handle as *const Shown), place, out)
+}
+
+// Copies what the instance holds beside its arcs after the place, as far as there is room.
+fn items_in(handle: &Shown, place: &mut Place, out: &mut [Item]) -> Count
+    ensures copies { MatchOption (shown_work handle.now) (IsIdle out.old out.new result × (place.new ≡ place.old))
+        (λ work. CopiesItems work place.old place.new out.old out.new result) }
+    ensures fits { result.count ≤ length out.new }
+{
+    match handle.get() {
+        Some(work) => items(work, place, out),
+        None => wrong_count(),
     }
 }
 
 /// Returns where two instances first differ. Both handles keep theirs.
 #[unsafe(no_mangle)]
-pub extern "C" fn dnorm_compare(alloc: Global, left: &mut Handle, right: &mut Handle) -> Difference
-    ensures compares { BothHold (λ l r. Compares l r result) (IsNotBoth result) (work_of left.old)
-        (work_of right.old) }
-    ensures left_kept { work_of left.new ≡ work_of left.old }
-    ensures right_kept { work_of right.new ≡ work_of right.old }
+pub unsafe extern "C" fn dnorm_compare(left: *const u8, right: *const u8) -> Difference
+    ghost g: { ((Lft × Share) × Shown) × ((Lft × Share) × Shown) }
+    requires* { sem 𝓛 (fsep (read_at g.0.0 left g.0.1) (read_at g.1.0 right g.1.1)) }
+    ensures* alive { sem 𝓛 (fsep (alive_at g.0.0) (alive_at g.1.0)) }
+    ensures compares { BothHold (λ l r. ComparesWorks l r result) (IsNotBoth result) (shown_work g.0.1)
+        (shown_work g.1.1) }
 {
-    match left.take(alloc) {
-        Some(l) => {
-            let found = match right.take(alloc) {
-                Some(r) => {
-                    let found = parting(&l, &r);
-                    right.put(r);
-                    found
-                }
-                None => not_both(),
-            };
-            left.put(l);
-            found
-        }
-        None => not_both(),
+    compare_in(&*(left as *const Shown), &*(right as *const Shown))
+}
+
+// Returns where two instances first differ.
+fn compare_in(left: &Shown, right: &Shown) -> Difference
+    ensures { BothHold (λ l r. ComparesWorks l r result) (IsNotBoth result) (shown_work left.now) (shown_work right.now) }
+{
+    match (left.get(), right.get()) {
+        (Some(l), Some(r)) => parting(l, r),
+        _ => not_both(),
     }
 }
 
 /// Returns whether the second instance is a companion that names only nodes of the graph. Both handles keep theirs.
 #[unsafe(no_mangle)]
-pub extern "C" fn dnorm_fits(alloc: Global, graph: &mut Handle, companion: &mut Handle) -> Fit
-    ensures judges { BothHold (λ g c. Judges g c result) (result ≡ neither) (work_of graph.old)
-        (work_of companion.old) }
-    ensures graph_kept { work_of graph.new ≡ work_of graph.old }
-    ensures companion_kept { work_of companion.new ≡ work_of companion.old }
+pub unsafe extern "C" fn dnorm_fits(graph: *const u8, companion: *const u8) -> Fit
+    ghost g: { ((Lft × Share) × Shown) × ((Lft × Share) × Shown) }
+    requires* { sem 𝓛 (fsep (read_at g.0.0 graph g.0.1) (read_at g.1.0 companion g.1.1)) }
+    ensures* alive { sem 𝓛 (fsep (alive_at g.0.0) (alive_at g.1.0)) }
+    ensures judges { BothHold (λ g c. Judges g c result) (result ≡ neither) (shown_work g.0.1) (shown_work g.1.1) }
 {
-    match graph.take(alloc) {
-        Some(g) => {
-            let fit = match companion.take(alloc) {
-                Some(c) => {
-                    let fit = judge(&g, &c);
-                    companion.put(c);
-                    fit
-                }
-                None => neither(),
-            };
-            graph.put(g);
-            fit
-        }
-        None => neither(),
+    fits_in(&*(graph as *const Shown), &*(companion as *const Shown))
+}
+
+// Returns whether the second instance is a companion that names only nodes of the graph.
+fn fits_in(graph: &Shown, companion: &Shown) -> Fit
+    ensures { BothHold (λ g c. Judges g c result) (result ≡ neither) (shown_work graph.now) (shown_work companion.now) }
+{
+    match (graph.get(), companion.get()) {
+        (Some(g), Some(c)) => judge(g, c),
+        _ => neither(),
     }
 }
 
 /// Returns the number of this interface, which changes with each change that a caller must know.
 #[unsafe(no_mangle)]
 pub extern "C" fn dnorm_abi() -> u32
-    ensures { result ≡ 1 }
+    ensures { result ≡ 2 }
 {
-    1u32
+    2u32
 }

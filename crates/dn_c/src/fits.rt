@@ -44,7 +44,9 @@ pub fn judge(graph: &Work, companion: &Work) -> Fit
     ensures { Judges graph.now companion.now result }
 {
     match (graph, companion) {
-        (Work::Read(graph), Work::Read(companion)) => fit_of(check_companion(graph, companion)),
+        (Work::Read(graph, _), Work::Read(companion, _)) => fit_of(check_companion(
+            graph, companion,
+        )),
         _ => neither(),
     }
 }

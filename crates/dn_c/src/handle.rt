@@ -46,6 +46,13 @@ impl Handle {
         if full { Some(seal.into_box()) } else { None }
     }
 
+    /// Whether the handle holds a work.
+    pub fn is_full(&self) -> bool
+        ensures { result ≡ is_some self.now.seal.work }
+    {
+        self.full
+    }
+
     /// Takes the work out of the handle, which then holds nothing.
     pub fn take(&mut self, alloc: Global) -> Option<Box<Work>>
         ensures value { option_map (λ b. b.value) result ≡ self.old.seal.work }

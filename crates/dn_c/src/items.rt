@@ -1,9 +1,9 @@
 // Copies what an instance holds beside its arcs: flows, source and sink, items and points.
-ghost use Rattle.std.specs.Prelude.{◌≡◌, ◌≤◌, length, map, take, drop};
-ghost use Rattle.dn_c.specs.State.Items.{flow_item, point_item, id_item, pair_item};
+ghost use Rattle.std.specs.Prelude.{◌≡◌, ◌≤◌, [], ◌∷◌, MatchOption, length, take, drop};
+ghost use Rattle.dn_c.specs.State.Items.{flow_item, point_item, id_item, pair_item, items_left, listed_items};
 
-use crate::copy::put_one;
-use dn_nodes::NodeMap;
+use dn_instance::{Held, View};
+use dn_nodes::{NodeMap, Nodes};
 
 /// What a line of an instance says beside its arcs: an ID and up to two numbers. Missing numbers are 0.
 #[repr(C)]
@@ -58,50 +58,100 @@ fn pair_item(pair: &(i64, i64)) -> Item
     }
 }
 
-/// Copies the flows from the one at `from`, counted from 0, as far as there is room. Returns how many it copied.
-pub fn put_flows(flows: &NodeMap<i64>, from: u64, out: &mut [Item]) -> usize
-    ensures copies { take result out.new ≡ take (length out.old) (drop from (map flow_item flows.now.entries)) }
-    ensures fits { result ≤ length out.new }
-{
-    let mut place = (0usize, from);
-    for (id, flow) in flows.iter() {
-        place = put_one(out, place.0, place.1, flow_item(&id, flow));
-    }
-    place.0
+// The items of an instance that are left from some place on.
+#[derive(Drop)]
+pub(crate) enum ItemsLeft<'a> {
+    Flows(Nodes<'a, i64>),
+    Points(Nodes<'a, (i64, i64)>),
+    Ids(&'a [i64]),
+    Pairs(&'a [(i64, i64)]),
+    Terminals(Option<(i64, i64)>),
 }
 
-/// Copies the points from the one at `from`, counted from 0, as far as there is room. Returns how many it copied.
-pub fn put_points(points: &NodeMap<(i64, i64)>, from: u64, out: &mut [Item]) -> usize
-    ensures copies { take result out.new ≡ take (length out.old) (drop from (map point_item points.now.entries)) }
-    ensures fits { result ≤ length out.new }
+// Returns the nodes of a map from the one at `from`, counted from 0.
+fn nodes_from<V: Drop>(map: &NodeMap<V>, from: u64) -> Nodes<'_, V>
+    ensures { result ≡ drop from map.now.entries }
 {
-    let mut place = (0usize, from);
-    for (id, at) in points.iter() {
-        place = put_one(out, place.0, place.1, point_item(&id, at));
+    let mut nodes = map.iter();
+    for _ in 0..from {
+        match nodes.next() {
+            Some(_) => {}
+            None => return nodes,
+        }
     }
-    place.0
+    nodes
 }
 
-/// Copies the IDs from the one at `from`, counted from 0, as far as there is room. Returns how many it copied.
-pub fn put_ids(ids: &[i64], from: u64, out: &mut [Item]) -> usize
-    ensures copies { take result out.new ≡ take (length out.old) (drop from (map id_item ids.now)) }
-    ensures fits { result ≤ length out.new }
+// Returns a list from the element at `from` on, counted from 0.
+fn list_from<T>(list: &[T], from: u64) -> &[T]
+    ensures { result.now ≡ drop from list.now }
 {
-    let mut place = (0usize, from);
-    for id in ids {
-        place = put_one(out, place.0, place.1, id_item(id));
+    if list.len() as u64 <= from {
+        return &[];
     }
-    place.0
+    &list[from as usize..]
 }
 
-/// Copies the pairs from the one at `from`, counted from 0, as far as there is room. Returns how many it copied.
-pub fn put_pairs(pairs: &[(i64, i64)], from: u64, out: &mut [Item]) -> usize
-    ensures copies { take result out.new ≡ take (length out.old) (drop from (map pair_item pairs.now)) }
-    ensures fits { result ≤ length out.new }
-{
-    let mut place = (0usize, from);
-    for pair in pairs {
-        place = put_one(out, place.0, place.1, pair_item(pair));
+impl<'a> ItemsLeft<'a> {
+    // Returns the items of a parsed instance from the one at `from`, counted from 0.
+    pub(crate) fn of(held: &'a Held, from: u64) -> ItemsLeft<'a>
+        ensures { items_left result ≡ drop from (listed_items held.now.contents) }
+    {
+        match held.view() {
+            View::Min { supplies, .. } => ItemsLeft::Flows(nodes_from(supplies, from)),
+            View::Max { source, sink, .. } if from == 0 => {
+                ItemsLeft::Terminals(Some((source, sink)))
+            }
+            View::Max { .. } | View::Sp { .. } => ItemsLeft::Terminals(None),
+            View::Ss { items } => ItemsLeft::Ids(list_from(items, from)),
+            View::P2p { items } => ItemsLeft::Pairs(list_from(items, from)),
+            View::Co { points } => ItemsLeft::Points(nodes_from(points, from)),
+        }
     }
-    place.0
+
+    // Returns the next item, and goes behind it.
+    fn next(&mut self) -> Option<Item>
+        ensures { MatchOption result (items_left self.old ≡ [])
+            (λ item. items_left self.old ≡ item ∷ items_left self.new) }
+    {
+        match self {
+            ItemsLeft::Flows(nodes) => match nodes.next() {
+                Some((id, flow)) => Some(flow_item(&id, flow)),
+                None => None,
+            },
+            ItemsLeft::Points(nodes) => match nodes.next() {
+                Some((id, place)) => Some(point_item(&id, place)),
+                None => None,
+            },
+            ItemsLeft::Ids(ids) => {
+                let (id, rest) = ids.split_first()?;
+                *ids = rest;
+                Some(id_item(id))
+            }
+            ItemsLeft::Pairs(pairs) => {
+                let (pair, rest) = pairs.split_first()?;
+                *pairs = rest;
+                Some(pair_item(pair))
+            }
+            ItemsLeft::Terminals(terminals) => match terminals.take() {
+                Some(pair) => Some(pair_item(&pair)),
+                None => None,
+            },
+        }
+    }
+
+    // Copies the items, as far as there is room. Returns how many it copied.
+    pub(crate) fn put(mut self, out: &mut [Item]) -> usize
+        ensures copies { take result out.new ≡ take (length out.old) (items_left self.entry) }
+        ensures fits { result ≤ length out.new }
+    {
+        let room = out.len();
+        for at in 0..room {
+            match self.next() {
+                Some(item) => out[at] = item,
+                None => return at,
+            }
+        }
+        room
+    }
 }

@@ -1,78 +1,56 @@
-// Copies the next canonical arcs of a table, from a place on.
-ghost use Rattle.std.specs.Prelude.{◌≡◌, ◌≤◌, ◌<◌, ◌+◌, ◌-◌, ◌^◌, List, length, take, drop};
-ghost use Rattle.dn_canon.specs.State.ListedArcs.{placed};
-ghost use Rattle.dn_c.specs.State.Rows.{rows_by};
-ghost use Rattle.dn_c.specs.State.Places.{rows_from, TakesPair};
+// Copies canonical arcs, one after the other.
+ghost use Rattle.std.specs.Prelude.{◌≡◌, ◌≤◌, length};
+ghost use Rattle.dn_c.specs.State.Walks.{CopiesFrom, Fills, HasRows};
 
-use crate::arcs::{Arc, put_bundle};
+use crate::arcs::{Arc, row};
+use crate::place::{Kept, Place, last_before, place_after};
+use crate::status::{Count, fine_count};
+use crate::walk::step;
 use dn_bundle::{Bundle, Form};
 use dn_table::Table;
 
-/// A place between two canonical arcs of a graph: so many pairs with all their arcs, and so many arcs of the next pair,
-/// are before it. All zeros is the place before the first arc.
-#[repr(C)]
-#[derive(Clone, Copy, Drop)]
-pub struct Place {
-    pub pairs: usize,
-    pub arcs: u64,
-}
-
-// Takes the canonical arcs of one pair that come after the place: puts them from `at` on, as far as there is room, and
-// moves the place past those that it put. Returns where the next arc goes, and whether the place is past the pair.
-fn put_pair<B: Bundle>(
-    out: &mut [Arc],
-    at: usize,
-    place: &mut Place,
-    pair: &(i64, i64),
-    bundle: &B,
+// Copies the canonical arcs of a table after the last one that was taken, as far as there is room. Returns how many it
+// copied, and the last one that is taken then with the index of its pair.
+fn put_rows<B: Bundle>(
+    table: &Table<B>,
     form: Form,
-) -> (usize, bool)
-    requires within { at ≤ length out.now }
-    requires few { place.now.pairs < 2 ^ 64 - 1 }
-    ensures takes { TakesPair (rows_by B.Arc.numbers (placed pair.now (B.bundle.listed form bundle.now))) at out.old
-        place.old out.new place.new result }
-    ensures kept { length out.new ≡ length out.old }
+    index: usize,
+    last: Option<B::Arc>,
+    out: &mut [Arc],
+) -> (usize, (usize, Option<B::Arc>))
+    ensures fills { Fills B.Arc.numbers (B.bundle.listed form) table.now index last (length out.old) (HasRows out.new)
+        result.0 result.1.0 result.1.1 }
+    ensures fits { result.0 ≤ length out.new }
 {
-    let (end, _) = put_bundle(out, at, place.arcs, pair, bundle, form);
-    let put = (end - at) as u64;
-    let count = bundle.canon_len(form);
-    if put < count.saturating_sub(place.arcs) {
-        place.arcs += put;
-        return (end, false);
+    let room = out.len();
+    let mut spot = index;
+    let mut taken = last;
+    for at in 0..room {
+        match step(table, form, spot, taken) {
+            Some(found) => {
+                out[at] = row(&found.1.0, &found.1.1);
+                spot = found.0;
+                taken = Some(found.1.1);
+            }
+            None => return (at, (spot, taken)),
+        }
     }
-    place.pairs += 1;
-    // More arcs than the pair has are passed among those of the next pairs.
-    place.arcs = place.arcs.saturating_sub(count);
-    (end, true)
+    (room, (spot, taken))
 }
 
-/// Copies the canonical arcs of a table after the place, as far as there is room, and moves the place past them.
+/// Copies the canonical arcs of a table after the place, as far as there is room, and moves the place behind them.
 /// Returns how many it copied.
-pub fn put_next<B: Bundle>(
+pub(crate) fn put_next<B: Kept>(
     table: &Table<B>,
     form: Form,
     place: &mut Place,
     out: &mut [Arc],
-) -> usize
-    ensures copies { take result out.new ≡ take (length out.old)
-        (rows_from B.Arc.numbers (B.bundle.listed form) table.now place.old) }
-    ensures moves { rows_from B.Arc.numbers (B.bundle.listed form) table.now place.new ≡ drop result
-        (rows_from B.Arc.numbers (B.bundle.listed form) table.now place.old) }
-    ensures fits { result ≤ length out.new }
+) -> Count
+    ensures copies { CopiesFrom B.Arc.numbers (B.bundle.listed form) B.arc_at table.now place.old place.new
+        (length out.old) (HasRows out.new) result }
+    ensures fits { result.count ≤ length out.new }
 {
-    if table.len() <= place.pairs {
-        return 0;
-    }
-    let mut at = 0usize;
-    for (pair, bundle) in table.pairs_from(place.pairs) {
-        if at == out.len() {
-            return at;
-        }
-        let (end, past) = put_pair(out, at, place, &pair, bundle, form);
-        at = end;
-        if !past {
-            return at;
-        }
-    }
-    at
+    let put = put_rows(table, form, place.pairs, last_before::<B>(place), out);
+    *place = place_after(put.1.0, &put.1.1);
+    fine_count(put.0)
 }

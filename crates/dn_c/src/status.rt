@@ -1,6 +1,6 @@
 // What a call returns to C.
 ghost use Rattle.std.specs.Prelude.{◌≡◌};
-ghost use Rattle.dn_c.specs.State.Statuses.{fine, wrong_call, refusal_status};
+ghost use Rattle.dn_c.specs.State.Statuses.{fine, wrong_call, refused_with, fine_count, wrong_count, too_many};
 
 use dn_instance::{Place, Refusal};
 
@@ -39,8 +39,8 @@ pub fn wrong_call() -> Status
 }
 
 /// Returns the status of a refusal.
-pub fn refusal_status(refusal: Refusal) -> Status
-    ensures { result ≡ refusal_status refusal }
+pub fn refused_with(refusal: Refusal) -> Status
+    ensures { result ≡ refused_with refusal }
 {
     let code = refusal.number();
     match refusal {
@@ -66,4 +66,35 @@ pub fn refusal_status(refusal: Refusal) -> Status
             line: 0,
         },
     }
+}
+
+/// How many a call copied or counted, or that the handle is not for the call.
+#[repr(C)]
+#[derive(Clone, Copy, Drop)]
+pub struct Count {
+    /// How many; 0 unless `code` is 0.
+    pub count: usize,
+    /// 0, or 34 if there are 2^64 or more, or 40 for a call that the handle is not for.
+    pub code: u8,
+}
+
+/// Returns the count of a call that did what its name says.
+pub fn fine_count(count: usize) -> Count
+    ensures { result ≡ fine_count count }
+{
+    Count { count, code: 0 }
+}
+
+/// Returns the count of a call that the handle is not for.
+pub fn wrong_count() -> Count
+    ensures { result ≡ wrong_count }
+{
+    Count { count: 0, code: 40 }
+}
+
+/// Returns the count of 2^64 or more.
+pub fn too_many() -> Count
+    ensures { result ≡ too_many }
+{
+    Count { count: 0, code: 34 }
 }

@@ -166,11 +166,11 @@ refuses_next r ls l fault e at is said answer item = (
   at.number_is,
 )
 
--- the entries of the lines before the refused line
-pub entries_before : (r : Reader) (ls : List (List ℕ)) (e : Refusal) (n : ℕ) → StopsIn r ls e
-    → ((before : List (List ℕ)) → TextAt r.text before → n ≡ entries_so_far (items_of before))
-    → EntriesBefore (lines_taken r) ls e n
-entries_before r ls e n s h = (rw s.read.number_is s.next, rw front (h s.before s.read))
+-- what holds of the lines that a refused reader has taken holds of the lines before the refused line
+pub before_refused : (r : Reader) (ls : List (List ℕ)) (e : Refusal) (P : List (List ℕ) → Type 0) → StopsIn r ls e
+    → ((before : List (List ℕ)) → TextAt r.text before → P before)
+    → IsNext (lines_taken r) ls e × P (take (lines_taken r) ls)
+before_refused r ls e P s h = (rw s.read.number_is s.next, subst P (sym front) (h s.before s.read))
   where
     front : take (lines_taken r) ls ≡ s.before
     front = rw (s.read.number_is, s.whole) (take-append_seam s.before s.rest)

@@ -3,17 +3,18 @@
 //! and keeps a refusal.
 //!
 //! In the order of the data: `read` takes a text from memory or pulls it from a source, `reader` takes it in pieces,
-//! and `text_so_far` takes each line and checks what depends on the number and order of lines. `marks` holds what `n`
-//! lines make, and `body` what counted lines make. `arcs` and `items` take one item each, and `ahead` looks up the
-//! pairs of the next arcs. `refusal` says why an item or a
-//! text is refused, and where. `held` is a parsed instance, and `view` shows it.
-//! `companion` judges a companion by its graph. `verdict` says where two instances first differ.
+//! and `text_so_far` takes each line and checks what depends on the number and order of lines. `declared` is what the
+//! problem line declares, `marks` holds what `n` lines make, and `body` what counted lines make. `arcs` and `items` take
+//! one item each, and `ahead` looks up the pairs of the next arcs. `refusal` says why an item or a text is refused, and
+//! where. `held` is a parsed instance, and `view` shows it. `companion` judges a companion by its graph. `verdict` says
+//! where two instances first differ.
 #![tactic(auto)]
 
 mod ahead;
 mod arcs;
 mod body;
 pub mod companion;
+pub mod declared;
 pub mod held;
 mod items;
 mod marks;
@@ -25,6 +26,7 @@ pub mod verdict;
 pub mod view;
 
 pub use companion::{CompanionFault, check_companion};
+pub use declared::Declared;
 pub use dn_table::{Pairs, Table};
 pub use held::Held;
 pub use read::{read_from, read_keep, read_text};

@@ -3,10 +3,11 @@ ghost use Rattle.std.specs.Prelude.{◌≡◌, ◌≤◌, ℕ, ◌+◌, List, []
 ghost use Rattle.dn_line.specs.State.LineStates.{LineSoFar, LineReaderAt, used_of};
 ghost use Rattle.dn_line.specs.Pieces.{lines};
 ghost use Rattle.dn_instance.specs.State.ReaderResults.{Fed, Outcome, refusal_of, fed_answer};
-ghost use Rattle.dn_instance.specs.State.ReaderStates.{Advances, CountsBefore, CountsRead, KeepsRefusal, ReaderAt, Steps, ClosesLine, WantsAtEnd, WantsInPiece, WhileReading, first_line};
+ghost use Rattle.dn_instance.specs.State.ReaderStates.{Advances, CountsBefore, CountsRead, DeclaresBefore, DeclaresRead, KeepsRefusal, ReaderAt, Steps, ClosesLine, WantsAtEnd, WantsInPiece, WhileReading, first_line};
 ghost use Rattle.dn_instance.specs.State.LineRefusals.{refused_at};
 ghost use Rattle.dn_instance.specs.State.TextsSoFar.{AfterLines, TextAt};
 
+use crate::declared::Declared;
 use crate::held::Held;
 use crate::refusal::{ItemFault, Place, Refusal};
 use crate::text_so_far::TextSoFar;
@@ -127,6 +128,22 @@ impl Reader {
             }
         }
         Ok(())
+    }
+
+    /// Returns the refusal of the text so far, if it is refused.
+    pub fn refusal(&self) -> Option<Refusal>
+        ensures { result ≡ refusal_of self.now }
+    {
+        self.refusal
+    }
+
+    /// Returns what the problem line declares, if it is among the complete lines so far. After a refusal, that is among
+    /// the lines before the refused line.
+    pub fn declared(&self) -> Option<Declared>
+        ensures fine { DeclaresRead self.now result }
+        ensures refused { DeclaresBefore self.now result }
+    {
+        self.text.declared()
     }
 
     /// Returns how many entries the complete lines so far make, as `Held::entries` counts them, or 0 before the problem

@@ -16,6 +16,7 @@ ghost use Rattle.dn_instance.specs.TextFaults.{order_tests, line_fault};
 ghost use Rattle.dn_instance.specs.State.Bodies.{Awaits, TookRows};
 ghost use Rattle.dn_instance.specs.State.Ends.{EndsWith};
 ghost use Rattle.dn_instance.specs.EntryCount.{entries_so_far};
+ghost use Rattle.dn_instance.specs.State.Declarations.{declared_in};
 ghost use Rattle.dn_instance.specs.Readers.{SpellsNeed};
 ghost use Rattle.dn_instance.specs.State.ItemFaults.{AnswersFault};
 ghost use Rattle.dn_instance.specs.Texts.{items_of, with_next};
@@ -23,6 +24,7 @@ ghost use Rattle.dn_instance.specs.State.RowRuns.{IsRowHead, row_items, row_line
 ghost use Rattle.dn_instance.specs.State.TextsSoFar.{AfterLines, AtLine, Declares, HasRead, IsOfRun, IsOrderFault, NeedsAfter, NextRead, ReadsRows, TakesItem, TakesRowOf, TakesRun, TextAt, fault_after, fault_next, text_kind};
 
 use crate::body::{Body, Taken, take_rows};
+use crate::declared::Declared;
 use crate::held::Held;
 use crate::marks::Marks;
 use crate::refusal::ItemFault;
@@ -293,6 +295,20 @@ impl TextSoFar {
             (Head::Node, _) => BLOCK,
             (_, Ok(due)) => due,
             (_, Err(_)) => 0,
+        }
+    }
+
+    // Returns what the problem line declares, once it was read.
+    pub(crate) fn declared(&self) -> Option<Declared>
+        ensures { (ls : List (List ℕ)) → TextAt self.now ls → result ≡ declared_in (items_of ls) }
+    {
+        match self.kind() {
+            Some(kind) => Some(Declared {
+                kind,
+                nodes: self.nodes,
+                lines: self.count,
+            }),
+            None => None,
         }
     }
 

@@ -11,7 +11,7 @@ from typing import Any, cast
 
 from .answers import AnyDifference, Difference, Same
 from .errors import DnormError, Memory, Refused
-from .library import FINE, HANDLE, KINDS, MEMORY, Handle, Instance, Library, Status
+from .library import FINE, HANDLE, KINDS, MEMORY, Count, Handle, Instance, Library, Status
 from .limits import Lease, Limit
 from .program import unexpected
 from .refusals import REFUSALS
@@ -55,7 +55,7 @@ class Fit(ctypes.Structure):
 # The functions that are called: what each returns, and its arguments.
 FUNCTIONS: dict[str, tuple[Any, ...]] = {
     "canon": (Status, HANDLE, ctypes.c_uint8, HANDLE),
-    "text": (ctypes.c_size_t, HANDLE, ctypes.c_size_t, ctypes.c_char_p, ctypes.c_size_t),
+    "text": (Count, HANDLE, ctypes.c_size_t, ctypes.c_char_p, ctypes.c_size_t),
     "compare": (FirstDifference, HANDLE, HANDLE),
     "fits": (Fit, HANDLE, HANDLE),
 }
@@ -84,7 +84,7 @@ def canonical_pieces(library: Library, instance: Instance, form: int, limit: Lim
         if status.code != FINE:
             raise error_of(status.code, limit.name)
         at, room = 0, ctypes.create_string_buffer(ROOM)
-        while more := calls["text"](ctypes.byref(text), at, room, ROOM):
+        while more := calls["text"](ctypes.byref(text), at, room, ROOM).count:
             limit.left()
             yield ctypes.string_at(room, more)
             at += more

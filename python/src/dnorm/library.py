@@ -11,16 +11,16 @@ from array import array
 from collections.abc import Iterator
 from typing import Any, Optional
 
-from .columns import Growing, numpy_here
+from .columns import column, numpy_here, read_only
 from .errors import DnormError, Endless, Memory, NoProgram, Refused
 from .files import Text
 from .limits import Lease
 from .program import Program, children, command, script_folders, unexpected, with_cause
 from .refusals import REFUSALS
 
-NAME = "libdnorm.so.1"
+NAME = "libdnorm.so.2"
 # The number of the interface that this module knows.
-ABI = 1
+ABI = 2
 # Where the library is, from the folder of the program: below PREFIX, on Debian, and in the archive of a release. On
 # Debian, libraries for other processors may be beside that of this machine.
 BESIDE = ["../lib", f"../lib/{os.uname().machine}-linux-gnu", "lib"]
@@ -28,8 +28,8 @@ BESIDE = ["../lib", f"../lib/{os.uname().machine}-linux-gnu", "lib"]
 KINDS = [("", 0), ("min", 5), ("max", 3), ("sp", 3), ("ss", 1), ("p2p", 2), ("co", 3)]
 GRAPHS = ("min", "max", "sp")
 FINE, MEMORY, AT_LINE = 0, 30, 1
-# The number of arcs, and the least number of items, that are copied at a time. A call for items walks over those
-# before, so that it copies at least a quarter of the counted lines.
+# The number of arcs, and the least number of items, that are copied at a time. Between two calls it is seen whether the
+# time is over. A call for items may walk over those before, so that it copies at least a quarter of them.
 ROOM = 1 << 16
 # A text of so many bytes has no end, as the program says it.
 ENDLESS = 1 << 40
@@ -55,24 +55,37 @@ class Summary(ctypes.Structure):
         ("nodes", ctypes.c_int64),
         ("lines", ctypes.c_int64),
         ("pairs", ctypes.c_uint64),
+        ("items", ctypes.c_uint64),
     ]
 
 
+class Count(ctypes.Structure):
+    """How many a call copied or counted."""
+
+    _fields_ = [("count", ctypes.c_size_t), ("code", ctypes.c_uint8)]
+
+
 class Place(ctypes.Structure):
-    """A place between two arcs. That of zeros is before the first one."""
+    """A place between two arcs or items. That of zeros is before the first one."""
 
-    _fields_ = [("pairs", ctypes.c_size_t), ("arcs", ctypes.c_uint64)]
+    _fields_ = [
+        ("pairs", ctypes.c_size_t),
+        ("within", ctypes.c_uint64),
+        *[(name, ctypes.c_int64) for name in ("a", "b", "c")],
+    ]
 
 
-HANDLE, SIZE, ADDRESS = ctypes.POINTER(Handle), ctypes.c_size_t, ctypes.c_void_p
+HANDLE, PLACE = ctypes.POINTER(Handle), ctypes.POINTER(Place)
+SIZE, ADDRESS = ctypes.c_size_t, ctypes.c_void_p
 # The functions that are called: what each returns, and its arguments.
 FUNCTIONS: dict[str, tuple[Any, ...]] = {
     "begin": (Status, HANDLE),
     "feed": (Status, HANDLE, ctypes.c_char_p, SIZE),
     "finish": (Status, HANDLE),
     "facts": (Summary, HANDLE),
-    "columns": (SIZE, HANDLE, ctypes.c_uint8, ctypes.POINTER(Place), *[ADDRESS, SIZE] * 5),
-    "items": (SIZE, HANDLE, ctypes.c_uint64, ADDRESS, SIZE),
+    "arc_count": (Count, HANDLE, ctypes.c_uint8),
+    "columns": (Count, HANDLE, ctypes.c_uint8, PLACE, *[ADDRESS, SIZE] * 5),
+    "items": (Count, HANDLE, PLACE, ADDRESS, SIZE),
     "free": (None, HANDLE),
 }
 
@@ -150,14 +163,28 @@ def find_library(program: Program = None) -> Optional[str]:
 
 
 class Instance:
-    """An instance that the library has read: its kind, `nodes`, and its numbers as columns."""
+    """An instance that the library has read of a text: its kind, `nodes`, and its numbers as columns."""
 
-    def __init__(self, library: Library, handle: Any, form: int) -> None:
-        self._library, self._handle, self._form = library, handle, form
+    def __init__(self, library: Library, handle: Any, text: Text, form: int) -> None:
+        self._library, self._handle, self._text, self._form = library, handle, text, form
         facts = library.facts(handle)
         self.kind, self._width = KINDS[facts.kind]
         self.nodes: int = facts.nodes
-        self._room = max(ROOM, facts.lines // 4 + 1)
+        self._item_count: int = facts.items
+
+    # What calls take that may go on after the instance.
+    lease: Lease
+
+    @property
+    def handle(self) -> Any:
+        """What the functions of the library take."""
+        return self._handle
+
+    @property
+    def sizes(self) -> tuple[int, int]:
+        """The numbers of counted lines that were read, and of pairs with arcs."""
+        facts = self._library.facts(self._handle)
+        return facts.lines, facts.pairs
 
     # What calls take that may go on after the instance.
     lease: Lease
@@ -177,15 +204,15 @@ class Instance:
         """Returns the columns of the arcs, or of the items of a companion."""
         if self.kind not in GRAPHS:
             return self._items(self._width)
+        count = self._counted(self._library.arc_count(self._handle, self._form))
         # The last two numbers of an arc are not copied where the kind lacks them.
-        columns, rooms = [Growing() for _ in range(self._width)], [room_for(ROOM) for _ in range(5)]
-        sizes = [ROOM if place < self._width else 0 for place in range(5)]
-        places = [it for (_, at), size in zip(rooms, sizes) for it in (at, size)]
-        arguments = self._handle, self._form, ctypes.byref(Place()), *places
-        while more := self._library.columns(*arguments):
-            for it, (room, _) in zip(columns, rooms):
-                it.extend(room[:more])
-        return [it.column() for it in columns]
+        columns, place = [room_for(count) for _ in range(self._width)], Place()
+        for done in range(0, count, ROOM):
+            rooms = [word for _, at in columns for word in (at + 8 * done, min(ROOM, count - done))]
+            words = [*rooms, *[None, 0] * (5 - self._width)]
+            self._counted(self._library.columns(self._handle, self._form, ctypes.byref(place), *words))
+            self._text.limit.left()
+        return [column_of_room(it) for it, _ in columns]
 
     def items(self) -> list[tuple[int, int]]:
         """Returns the first two numbers of what a graph has beside its arcs."""
@@ -194,12 +221,21 @@ class Instance:
 
     def _items(self, width: int) -> list[Any]:
         """Returns the first columns of the items, which have three numbers each."""
-        columns, (room, at), count = [Growing() for _ in range(width)], room_for(3 * self._room), 0
-        while more := self._library.items(self._handle, count, at, self._room):
-            for place, it in enumerate(columns):
-                it.extend(room[place : more * 3 : 3])
-            count += more
-        return [it.column() for it in columns]
+        count, place = self._item_count, Place()
+        room = min(count, max(ROOM, count // 4 + 1))
+        columns, (some, at) = [room_for(count)[0] for _ in range(width)], room_for(3 * room)
+        for done in range(0, count, max(1, room)):
+            more = self._counted(self._library.items(self._handle, ctypes.byref(place), at, min(room, count - done)))
+            for number, it in enumerate(columns):
+                it[done : done + more] = some[number : 3 * more : 3]
+            self._text.limit.left()
+        return [column_of_room(it) for it in columns]
+
+    def _counted(self, found: Any) -> int:
+        """Returns the count of a call. Raises an error if it has another code than that of success."""
+        if found.code != FINE:
+            raise error_of(Status(found.code), self._text)
+        return int(found.count)
 
 
 def room_for(size: int) -> tuple[Any, int]:
@@ -210,6 +246,11 @@ def room_for(size: int) -> tuple[Any, int]:
         return numbers, numbers.buffer_info()[0]
     room = np.empty(size, np.int64)
     return room, room.ctypes.data
+
+
+def column_of_room(room: Any) -> Any:
+    """Returns the column of an array that `room_for` returned."""
+    return column(room) if isinstance(room, array) else read_only(room)
 
 
 @contextlib.contextmanager
@@ -226,7 +267,7 @@ def instance_of(library: Library, text: Text, form: int) -> Iterator[Instance]:
             status = text.limit.during(functools.partial(library.finish, address), lease)
         if status.code == FINE:
             text.limit.left()
-            found = Instance(library, address, form)
+            found = Instance(library, address, text, form)
             found.lease = lease
             yield found
         else:

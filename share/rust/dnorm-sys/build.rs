@@ -13,7 +13,7 @@ fn main() {
     if let Some(folder) = env::var("DNORM_LIB").ok().or(found) {
         println!("cargo:rustc-link-search=native={}", folder.trim());
     }
-    let is_static = env::var("DNORM_STATIC").is_ok_and(|it| it == "1");
+    let is_static = env::var("DNORM_STATIC").map_or(false, |it| it == "1");
     println!(
         "cargo:rustc-link-lib={}dnorm",
         if is_static { "static=" } else { "" }

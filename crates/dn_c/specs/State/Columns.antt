@@ -1,11 +1,8 @@
 -- Canonical arcs by columns.
-use Rattle.std.specs.Prelude.{◌≡◌, ℕ, ℤ, List, map, take, drop, length}
-use Rattle.dn_c.specs.State.Outputs.{left_of}
+use Rattle.std.specs.Prelude.{◌≡◌, ℕ, ℤ, List, map, take, length, max}
 use Rattle.dn_c.specs.declared.arcs.Arc.{Arc}
 use Rattle.dn_c.specs.declared.columns.Column.{Column}
 use Rattle.dn_c.specs.declared.columns.Column.TheVariants.{Tail, Head, A, B, C}
-use Rattle.dn_c.specs.declared.next.Place.{Place}
-use Rattle.dn_c.specs.declared.work.Work.{Work}
 
 -- what a column has of an arc
 abbrev pub field_of : Column → Arc → ℤ
@@ -20,19 +17,19 @@ abbrev pub HasColumn : (Arc → ℤ) → List Arc → List ℤ → Type 0
 HasColumn field arcs column = take (length arcs) column ≡ take (length column) (map field arcs)
 
 -- each column has its part of these arcs
-abbrev pub HasColumns : List Arc → List ℤ → List ℤ → List ℤ → List ℤ → List ℤ → Type 0
-HasColumns arcs tails heads a b c =
+abbrev pub HasColumns : List ℤ → List ℤ → List ℤ → List ℤ → List ℤ → List Arc → Type 0
+HasColumns tails heads a b c arcs =
     HasColumn (field_of Tail) arcs tails
     × HasColumn (field_of Head) arcs heads
     × HasColumn (field_of A) arcs a
     × HasColumn (field_of B) arcs b
     × HasColumn (field_of C) arcs c
 
--- the columns have the canonical arcs after the old place, as many as there is room for, and the new place is after
--- them
-abbrev pub CopiesColumns : Work → ℕ → Place → Place → ℕ → List ℤ → List ℤ → List ℤ → List ℤ → List ℤ → ℕ → Type 0
-CopiesColumns work form old_place place room tails heads a b c n =
-    let rest = left_of work form old_place in
-    HasColumns (take room rest) tails heads a b c
-    × (n ≡ length (take room rest))
-    × (left_of work form place ≡ drop n rest)
+-- how many arcs the longest of the columns has room for
+abbrev pub longest : List ℤ → List ℤ → List ℤ → List ℤ → List ℤ → ℕ
+longest tails heads a b c = max (max (max (max (length tails) (length heads)) (length a)) (length b)) (length c)
+
+-- no column has changed
+abbrev pub SameColumns : List ℤ → List ℤ → List ℤ → List ℤ → List ℤ → List ℤ → List ℤ → List ℤ → List ℤ → List ℤ → Type 0
+SameColumns tails heads a b c tails' heads' a' b' c' =
+    (tails' ≡ tails) × (heads' ≡ heads) × (a' ≡ a) × (b' ≡ b) × (c' ≡ c)

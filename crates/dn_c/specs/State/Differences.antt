@@ -18,7 +18,7 @@ IsValue None v = v ≡ record { known = false; high = pos 0; low = 0 }
 IsValue (Some n) v = (v.known ≡ true) × (v.high *ℤ pos (2 ^ 64) +ℤ pos v.low ≡ n)
 
 -- a difference of this sort, at a node or an ordered pair, or at an item, or from an amount on, with these values
-pub record Tells (what : ℕ) (at to : ℤ) (index : ℕ) (amount : ℤ) (left right : Option ℤ) (d : Difference) : Type 0 where
+pub record TellsVerdict (what : ℕ) (at to : ℤ) (index : ℕ) (amount : ℤ) (left right : Option ℤ) (d : Difference) : Type 0 where
   pub what_is : d.what ≡ what
   pub at_is : d.at ≡ at
   pub to_is : d.to ≡ to
@@ -29,7 +29,7 @@ pub record Tells (what : ℕ) (at to : ℤ) (index : ℕ) (amount : ℤ) (left r
 
 -- a difference of this sort of the whole instances, with these values
 abbrev pub OfWhole : ℕ → Option ℤ → Option ℤ → Difference → Type 0
-OfWhole what left right d = Tells what (pos 0) (pos 0) 0 (pos 0) left right d
+OfWhole what left right d = TellsVerdict what (pos 0) (pos 0) 0 (pos 0) left right d
 
 -- the answer where a handle holds no instance
 abbrev pub IsNotBoth : Difference → Type 0
@@ -37,9 +37,9 @@ IsNotBoth d = OfWhole 255 None None d
 
 -- how the arcs of an ordered pair differ, as C has it
 abbrev pub PairDiffers : ℤ → ℤ → How → Difference → Type 0
-PairDiffers src dst (Hows.Lengths left right) d = Tells 6 src dst 0 (pos 0) left right d
-PairDiffers src dst (Hows.Totals left right) d = Tells 6 src dst 0 (pos 0) (Some left) (Some right) d
-PairDiffers src dst (Hows.Costs gap) d = Tells 6 src dst 0 gap.amount gap.left gap.right d
+PairDiffers src dst (Hows.Lengths left right) d = TellsVerdict 6 src dst 0 (pos 0) left right d
+PairDiffers src dst (Hows.Totals left right) d = TellsVerdict 6 src dst 0 (pos 0) (Some left) (Some right) d
+PairDiffers src dst (Hows.Costs gap) d = TellsVerdict 6 src dst 0 gap.amount gap.left gap.right d
 
 -- a verdict as C has it
 abbrev pub DiffersAs : Verdict → Difference → Type 0
@@ -47,16 +47,16 @@ DiffersAs Verdicts.Same d = OfWhole 0 None None d
 DiffersAs (Verdicts.Kind left right) d =
     OfWhole 1 (Some (pos (kind_number left))) (Some (pos (kind_number right))) d
 DiffersAs (Verdicts.Nodes left right) d = OfWhole 2 (Some left) (Some right) d
-DiffersAs (Verdicts.Supply id left right) d = Tells 3 id (pos 0) 0 (pos 0) (Some left) (Some right) d
+DiffersAs (Verdicts.Supply id left right) d = TellsVerdict 3 id (pos 0) 0 (pos 0) (Some left) (Some right) d
 DiffersAs (Verdicts.Source left right) d = OfWhole 4 (Some left) (Some right) d
 DiffersAs (Verdicts.Sink left right) d = OfWhole 5 (Some left) (Some right) d
 DiffersAs (Verdicts.Pair src dst how) d = PairDiffers src dst how d
 DiffersAs (Verdicts.Length left right) d = OfWhole 7 (Some (pos left)) (Some (pos right)) d
-DiffersAs (Verdicts.Item index) d = Tells 8 (pos 0) (pos 0) index (pos 0) None None d
-DiffersAs (Verdicts.Point id) d = Tells 9 id (pos 0) 0 (pos 0) None None d
+DiffersAs (Verdicts.Item index) d = TellsVerdict 8 (pos 0) (pos 0) index (pos 0) None None d
+DiffersAs (Verdicts.Point id) d = TellsVerdict 9 id (pos 0) 0 (pos 0) None None d
 
 -- the first difference between the instances that two works hold
-abbrev pub Compares : Work → Work → Difference → Type 0
-Compares (Works.Read left) (Works.Read right) d =
+abbrev pub ComparesWorks : Work → Work → Difference → Type 0
+ComparesWorks (Works.Read left _) (Works.Read right _) d =
     (v : Verdict) × OfBoth left right (λ I J. IsFirstDifference I J v) × DiffersAs v d
-Compares _ _ d = IsNotBoth d
+ComparesWorks _ _ d = IsNotBoth d

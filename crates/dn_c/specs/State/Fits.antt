@@ -20,7 +20,7 @@ neither = record { code = 255; node = pos 0 }
 
 -- whether the second work is a companion that fits the graph of the first
 abbrev pub Judges : Work → Work → Fit → Type 0
-Judges (Works.Read graph) (Works.Read companion) fit =
+Judges (Works.Read graph _) (Works.Read companion _) fit =
     (check : Result (Unit {0}) CompanionFault) × OfBoth graph companion (λ I J. check ≡ companion_fit I J)
     × (fit ≡ fit_of check)
 Judges _ _ fit = fit ≡ neither

@@ -1,6 +1,9 @@
 -- What C gets of an instance beside its arcs, an item for each line.
-use Rattle.std.specs.Prelude.{ℤ, pos}
+use Rattle.std.specs.Prelude.{ℤ, pos, List, [], ◌∷◌, map, Some, None}
+use Rattle.dn_instance.specs.State.Helds.{Contents, OfMin, OfMax, OfSp, OfSs, OfP2p, OfCo}
 use Rattle.dn_c.specs.declared.items.Item.{Item}
+use Rattle.dn_c.specs.declared.items.ItemsLeft.{ItemsLeft}
+use Rattle.dn_c.specs.declared.items.ItemsLeft.TheVariants as Lefts
 
 -- the flow of a node
 abbrev pub flow_item : ℤ × ℤ → Item
@@ -17,3 +20,21 @@ id_item id = record { id = id; a = pos 0; b = pos 0 }
 -- two IDs: a query, or the source and the sink
 abbrev pub pair_item : ℤ × ℤ → Item
 pair_item p = record { id = p.0; a = p.1; b = pos 0 }
+
+-- what the instance holds beside its arcs: the flows that are not 0, the source with the sink, or the items or points
+abbrev pub listed_items : Contents → List Item
+listed_items (OfMin flows table) = map flow_item flows
+listed_items (OfMax source sink table) = pair_item (source, sink) ∷ []
+listed_items (OfSp table) = []
+listed_items (OfSs ids) = map id_item ids
+listed_items (OfP2p pairs) = map pair_item pairs
+listed_items (OfCo points) = map point_item points
+
+-- the items that are left
+abbrev pub items_left : ItemsLeft → List Item
+items_left (Lefts.Flows nodes) = map flow_item nodes
+items_left (Lefts.Points nodes) = map point_item nodes
+items_left (Lefts.Ids ids) = map id_item ids.now
+items_left (Lefts.Pairs pairs) = map pair_item pairs.now
+items_left (Lefts.Terminals (Some p)) = pair_item p ∷ []
+items_left (Lefts.Terminals None) = []

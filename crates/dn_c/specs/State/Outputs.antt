@@ -1,5 +1,5 @@
 -- What C gets of a work: arcs, items, and a canonical text.
-use Rattle.std.specs.Prelude.{◌≡◌, ◌⊎◌, ℕ, cond, nat_eq, List, [], ◌∷◌, map, take, drop, length, Option, Some, None, Result, Ok, Err}
+use Rattle.std.specs.Prelude.{◌≡◌, ◌⊎◌, ℕ, cond, nat_eq, List, [], ◌∷◌, take, drop, length, Option, Some, None, Result, Ok, Err, MatchOption, ℤ, ◌^◌}
 use Rattle.std.specs.Global.{Vec}
 use Rattle.dn_arc.specs.declared.arc.Form.{Form}
 use Rattle.dn_arc.specs.declared.arc.Form.TheVariants.{One, Two}
@@ -9,104 +9,121 @@ use Rattle.dn_arc.specs.declared.arc.CostArc.{CostArc}
 use Rattle.dn_bundle.specs.State.Listings.{least_arcs, total_arcs, curve_arcs}
 use Rattle.dn_line.specs.Names.{kind_name}
 use Rattle.dn_instance.specs.Refusals.{refusal_name}
-use Rattle.dn_instance.specs.State.Helds.{Contents, contents_kind, OfMin, OfMax, OfSp, OfSs, OfP2p, OfCo, OfHeld}
+use Rattle.dn_instance.specs.State.ReaderResults.{refusal_of}
+use Rattle.dn_instance.specs.State.Helds.{Contents, Parsed, contents_kind, OfMin, OfMax, OfSp, OfHeld}
 use Rattle.dn_instance.specs.declared.refusal.Refusal.{Refusal}
 use Rattle.dn_canon.specs.State.ListedArcs.{listed_arcs}
 use Rattle.dn_canon.specs.State.Runs.{TextOutcome}
-use Rattle.dn_c.specs.State.Items.{flow_item, point_item, id_item, pair_item}
-use Rattle.dn_c.specs.State.Places.{rows_from}
-use Rattle.dn_c.specs.State.Rows.{rows_by}
-use Rattle.dn_c.specs.declared.next.Place.{Place}
+use Rattle.dn_c.specs.State.Items.{listed_items}
+use Rattle.dn_c.specs.State.Places.{past, cost_at, cap_at, length_at}
+use Rattle.dn_c.specs.State.Walks.{CopiesFrom}
+use Rattle.dn_c.specs.declared.place.Place.{Place}
+use Rattle.dn_table.specs.State.Tables.{CountsBelow}
 use Rattle.dn_c.specs.declared.items.Item.{Item}
 use Rattle.dn_instance.specs.declared.refusal.Refusal.TheVariants.{Memory}
-use Rattle.dn_c.specs.State.Statuses.{fine, wrong_call, refusal_status}
+use Rattle.dn_c.specs.State.Statuses.{fine, wrong_call, refused_with, fine_count, wrong_count, too_many}
 use Rattle.dn_c.specs.declared.arcs.Arc.{Arc}
+use Rattle.dn_c.specs.declared.status.Count.{Count}
 use Rattle.dn_c.specs.declared.status.Status.{Status}
 use Rattle.dn_c.specs.declared.work.Work.{Work}
 use Rattle.dn_c.specs.declared.work.Work.TheVariants as Works
 
 -- the form with this number: 2 is form 2, and any other form 1
-abbrev pub form_of : ℕ → Form
-form_of n = cond (nat_eq n 2) Two One
+abbrev pub form_numbered : ℕ → Form
+form_numbered n = cond (nat_eq n 2) Two One
 
--- the canonical arcs of a graph in this form, as C has them; a companion has none
-abbrev pub arcs_of : Form → Contents → List Arc
-arcs_of form (OfMin flows table) =
-    rows_by (λ (a : CostArc). a.low ∷ a.cap ∷ a.cost ∷ []) (listed_arcs (curve_arcs form) table)
-arcs_of form (OfMax source sink table) = rows_by (λ (a : CapArc). a.cap ∷ []) (listed_arcs total_arcs table)
-arcs_of form (OfSp table) = rows_by (λ (a : LengthArc). a.length ∷ []) (listed_arcs least_arcs table)
-arcs_of form _ = []
+-- the handle is not for the call, and nothing has changed
+abbrev pub CopiesNone : Place → Place → Type 0 → Count → Type 0
+CopiesNone old new Same result = (result ≡ wrong_count) × (new ≡ old) × Same
 
--- n canonical arcs of the instance in a form, from the one at `from`, counted from 0, are copied, as many as there is
--- room for; of any other work, none are
-abbrev pub CopiesArcs : Work → ℕ → ℕ → List Arc → List Arc → ℕ → Type 0
-CopiesArcs (Works.Read held) form from old new n =
-    take n new ≡ take (length old) (drop from (arcs_of (form_of form) held.contents))
-CopiesArcs _ form from old new n = (n ≡ 0) × (new ≡ old)
+-- canonical arcs of a graph in this form are copied from the old place on, and the new place is behind them; a companion
+-- has no arcs, so the handle is not for the call
+abbrev pub CopiesGraph : Form → Contents → Place → Place → ℕ → (List Arc → Type 0) → Type 0 → Count → Type 0
+CopiesGraph form (OfMin flows table) old new room Has Same result =
+    CopiesFrom (λ (a : CostArc). a.low ∷ a.cap ∷ a.cost ∷ []) (curve_arcs form) cost_at table old new room Has result
+CopiesGraph form (OfMax source sink table) old new room Has Same result =
+    CopiesFrom (λ (a : CapArc). a.cap ∷ []) total_arcs cap_at table old new room Has result
+CopiesGraph form (OfSp table) old new room Has Same result =
+    CopiesFrom (λ (a : LengthArc). a.length ∷ []) least_arcs length_at table old new room Has result
+CopiesGraph form _ old new room Has Same result = CopiesNone old new Same result
 
--- the canonical arcs of a graph in this form after this place, as C has them; a companion has none
-abbrev pub arcs_from : Form → Place → Contents → List Arc
-arcs_from form place (OfMin flows table) =
-    rows_from (λ (a : CostArc). a.low ∷ a.cap ∷ a.cost ∷ []) (curve_arcs form) table place
-arcs_from form place (OfMax source sink table) = rows_from (λ (a : CapArc). a.cap ∷ []) total_arcs table place
-arcs_from form place (OfSp table) = rows_from (λ (a : LengthArc). a.length ∷ []) least_arcs table place
-arcs_from form place _ = []
+-- canonical arcs of the instance of a work are copied from the old place on, as many as there is room for, and the new
+-- place is behind them; for any other work nothing changes
+abbrev pub CopiesRows : Work → ℕ → Place → Place → ℕ → (List Arc → Type 0) → Type 0 → Count → Type 0
+CopiesRows (Works.Read held _) form old new room Has Same result =
+    CopiesGraph (form_numbered form) held.contents old new room Has Same result
+CopiesRows _ form old new room Has Same result = CopiesNone old new Same result
 
--- the canonical arcs after this place of the instance of a work, as C has them; any other work has none
-abbrev pub left_of : Work → ℕ → Place → List Arc
-left_of (Works.Read held) form place = arcs_from (form_of form) place held.contents
-left_of _ form place = []
+-- the same of what a handle holds, if anything
+abbrev pub CopiesHeld : Option Work → ℕ → Place → Place → ℕ → (List Arc → Type 0) → Type 0 → Count → Type 0
+CopiesHeld work form old new room Has Same result =
+    MatchOption work (CopiesNone old new Same result) (λ w. CopiesRows w form old new room Has Same result)
 
--- the n canonical arcs after the old place are copied, as many as there is room for, and the new place is after them
-abbrev pub CopiesNext : Work → ℕ → Place → Place → List Arc → List Arc → ℕ → Type 0
-CopiesNext work form old_place place old new n =
-    (take n new ≡ take (length old) (left_of work form old_place))
-    × (left_of work form place ≡ drop n (left_of work form old_place))
+-- the count of these, if there are fewer than 2^64
+abbrev pub count_if : Option ℕ → Count
+count_if (Some n) = fine_count n
+count_if None = too_many
 
--- n bytes of the text from the one at `from`, counted from 0, are copied, as many as there is room for; of any other
--- work, none are
-abbrev pub CopiesText : Work → ℕ → List ℕ → List ℕ → ℕ → Type 0
-CopiesText (Works.Text text) from old new n = take n new ≡ take (length old) (drop from text.items)
-CopiesText _ from old new n = (n ≡ 0) × (new ≡ old)
+-- the number of canonical arcs of a graph in this form, if it is below 2^64; a companion has no arcs, so the handle is
+-- not for the call
+abbrev pub CountsListed : {B A : Type 0} → (B → List A) → List ((ℤ × ℤ) × B) → Count → Type 0
+CountsListed lists table result =
+    (count : Option ℕ) × CountsBelow (2 ^ 64) (length (listed_arcs lists table)) count × (result ≡ count_if count)
 
--- the name of what a work holds: that of a refusal, or that of an instance's kind
-abbrev pub name_of : Work → List ℕ
-name_of (Works.Refused refusal) = refusal_name refusal
-name_of (Works.Read held) = kind_name (contents_kind held.contents)
-name_of _ = []
+abbrev pub CountsGraph : Form → Contents → Count → Type 0
+CountsGraph form (OfMin flows table) result = CountsListed (curve_arcs form) table result
+CountsGraph form (OfMax source sink table) result = CountsListed total_arcs table result
+CountsGraph form (OfSp table) result = CountsListed least_arcs table result
+CountsGraph form _ result = result ≡ wrong_count
 
--- n bytes of the name are copied, as many as there is room for
-abbrev pub CopiesName : Work → List ℕ → List ℕ → ℕ → Type 0
-CopiesName work old new n = take n new ≡ take (length old) (name_of work)
+-- the number of canonical arcs of the instance of a work
+abbrev pub CountsArcs : Work → ℕ → Count → Type 0
+CountsArcs (Works.Read held _) form result = CountsGraph (form_numbered form) held.contents result
+CountsArcs _ form result = result ≡ wrong_count
 
--- the canonical text of the instance in this form, or why there is none
-abbrev pub Prints : Work → ℕ → Result (Vec ℕ) Status → Type 0
-Prints (Works.Read held) form (Ok text) =
-    OfHeld held (λ I. TextOutcome (λ (v : Vec ℕ). v.items) (form_of form) I (Ok text))
-Prints (Works.Read held) form (Err status) =
-    (e : Refusal) × (status ≡ refusal_status e)
-    × OfHeld held (λ I. TextOutcome (λ (v : Vec ℕ). v.items) (form_of form) I (Err e))
-Prints _ form (Ok text) = ⊥
-Prints _ form (Err status) = status ≡ wrong_call
+-- n of these are copied, as many as there is room for
+abbrev pub Copies : {A : Type 0} → List A → List A → List A → Count → Type 0
+Copies all old new result = (result.code ≡ 0) × (take result.count new ≡ take (length old) all)
 
--- what making a canonical text does to the handle for it: it holds the text, if it held nothing before
+-- the handle is not for the call, and nothing has changed
+abbrev pub IsIdle : {A : Type 0} → List A → List A → Count → Type 0
+IsIdle old new result = (result ≡ wrong_count) × (new ≡ old)
+
+-- the bytes of the text from the one at `from`, counted from 0, are copied; any other work has none
+abbrev pub CopiesText : Work → ℕ → List ℕ → List ℕ → Count → Type 0
+CopiesText (Works.Text text) from old new result = Copies (drop from text.items) old new result
+CopiesText _ from old new result = IsIdle old new result
+
+-- the name of what a work holds is copied: that of a refusal, also of a reader that has refused its text, or that of an
+-- instance's kind; any other work has none
+abbrev pub CopiesName : Work → List ℕ → List ℕ → Count → Type 0
+CopiesName (Works.Reading r) old new result =
+    MatchOption (refusal_of r) (IsIdle old new result) (λ e. Copies (refusal_name e) old new result)
+CopiesName (Works.Refused refusal) old new result = Copies (refusal_name refusal) old new result
+CopiesName (Works.Read held _) old new result = Copies (kind_name (contents_kind held.contents)) old new result
+CopiesName _ old new result = IsIdle old new result
+
+-- the canonical text of a parsed instance in this form, or why there is none
+abbrev pub HasText : Parsed → Form → Result (Vec ℕ) Refusal → Type 0
+HasText held form made = OfHeld held (λ I. TextOutcome (λ (v : Vec ℕ). v.items) form I made)
+
+-- what making a canonical text does to the handle for it, which holds the text if it held nothing before; memory can run
+-- out only for an instance
 abbrev pub PrintsInto : Work → ℕ → Option Work → Option Work → Status → Type 0
-PrintsInto work form None new status =
-    ((text : Vec ℕ) × (new ≡ Some (Works.Text text)) × (status ≡ fine) × Prints work form (Ok text))
-    ⊎ ((new ≡ None) × (Prints work form (Err status) ⊎ (status ≡ refusal_status Memory)))
 PrintsInto work form (Some was) new status = (new ≡ Some was) × (status ≡ wrong_call)
+PrintsInto (Works.Read held _) form None new status =
+    ((text : Vec ℕ) × (new ≡ Some (Works.Text text)) × (status ≡ fine) × HasText held (form_numbered form) (Ok text))
+    ⊎ ((new ≡ None)
+    × (((e : Refusal) × (status ≡ refused_with e) × HasText held (form_numbered form) (Err e)) ⊎ (status ≡ refused_with Memory)))
+PrintsInto work form None new status = (new ≡ None) × (status ≡ wrong_call)
 
--- what the instance holds beside its arcs: the flows that are not 0, the source with the sink, or the items or points
-abbrev pub items_of : Contents → List Item
-items_of (OfMin flows table) = map flow_item flows
-items_of (OfMax source sink table) = pair_item (source, sink) ∷ []
-items_of (OfSp table) = []
-items_of (OfSs ids) = map id_item ids
-items_of (OfP2p pairs) = map pair_item pairs
-items_of (OfCo points) = map point_item points
+-- the same of the instance that another handle holds, if it holds one
+abbrev pub PrintsHeld : Option Work → ℕ → Option Work → Option Work → Status → Type 0
+PrintsHeld work form old new status =
+    MatchOption work ((status ≡ wrong_call) × (new ≡ old)) (λ w. PrintsInto w form old new status)
 
--- n items of the instance from the one at `from`, counted from 0, are copied, as many as there is room for; of any
--- other work, none are
-abbrev pub CopiesItems : Work → ℕ → List Item → List Item → ℕ → Type 0
-CopiesItems (Works.Read held) from old new n = take n new ≡ take (length old) (drop from (items_of held.contents))
-CopiesItems _ from old new n = (n ≡ 0) × (new ≡ old)
+-- the items of the instance behind the old place are copied, and the new place is behind them; any other work has none
+abbrev pub CopiesItems : Work → Place → Place → List Item → List Item → Count → Type 0
+CopiesItems (Works.Read held _) old_place place old new result =
+    Copies (drop old_place.pairs (listed_items held.contents)) old new result × (place ≡ past old_place result.count)
+CopiesItems _ old_place place old new result = IsIdle old new result × (place ≡ old_place)

@@ -1,28 +1,40 @@
--- The canonical arcs of a table after a place.
-use Rattle.std.specs.Prelude.{◌≡◌, ◌≤◌, ◌+◌, ℕ, ℤ, List, ◌++◌, length, take, drop, Bool, true, false}
-use Rattle.dn_canon.specs.State.ListedArcs.{listed_arcs}
-use Rattle.dn_c.specs.State.Rows.{rows_by}
-use Rattle.dn_c.specs.declared.arcs.Arc.{Arc}
-use Rattle.dn_c.specs.declared.next.Place.{Place}
+-- Places in a walk over canonical arcs.
+use Rattle.std.specs.Prelude.{ℕ, ℤ, List, Option, None, Some, cond, nat_eq, min, pos, ◌+◌, ◌-◌, ◌^◌}
+use Rattle.dn_arc.specs.declared.arc.LengthArc.{LengthArc}
+use Rattle.dn_arc.specs.declared.arc.CapArc.{CapArc}
+use Rattle.dn_arc.specs.declared.arc.CostArc.{CostArc}
+use Rattle.dn_c.specs.State.Rows.{number_at}
+use Rattle.dn_c.specs.declared.place.Place.{Place}
 
--- the canonical arcs of a table after this place, as C has them
-abbrev pub rows_from : {B A : Type 0} → (A → List ℤ) → (B → List A) → List ((ℤ × ℤ) × B) → Place → List Arc
-rows_from numbers lists table place = drop place.arcs (rows_by numbers (listed_arcs lists (drop place.pairs table)))
+-- the arc with the numbers of a place
+abbrev pub length_at : Place → LengthArc
+length_at p = record { length = p.a }
 
--- the first `at` items of `all` are copied to `out`, and `rest` are those after them
-pub record HasTaken {A : Type 0} (all out rest : List A) (at : ℕ) : Type 0 where
-  pub within : at ≤ length out
-  pub copied : take at out ≡ take at all
-  pub left : drop at all ≡ rest
+abbrev pub cap_at : Place → CapArc
+cap_at p = record { cap = p.a }
 
--- the arcs of a pair that come after the old place are copied from `at` on, up to `end`: all of them, and then the new
--- place is past the pair, or as many as there is room for
-abbrev pub TakesPair : List Arc → ℕ → List Arc → Place → List Arc → Place → ℕ × Bool → Type 0
-TakesPair rows at out old new_out new (end, true) =
-    (new.pairs ≡ old.pairs + 1)
-    × ((all rest : List Arc) → HasTaken all out (drop old.arcs (rows ++ rest)) at
-    → HasTaken all new_out (drop new.arcs rest) end)
-TakesPair rows at out old new_out new (end, false) =
-    (new.pairs ≡ old.pairs) × (end ≡ length new_out)
-    × ((all rest : List Arc) → HasTaken all out (drop old.arcs (rows ++ rest)) at
-    → HasTaken all new_out (drop new.arcs (rows ++ rest)) end)
+abbrev pub cost_at : Place → CostArc
+cost_at p = record { low = p.a; cap = p.b; cost = p.c }
+
+-- the last arc before the place of the pair that it is within, if it is within one
+abbrev pub last_before : {A : Type 0} → (Place → A) → Place → Option A
+last_before arc p = cond (nat_eq p.within 0) None (Some (arc p))
+
+-- the place after the arc with these numbers of the pair at this index
+abbrev pub place_with : ℕ → List ℤ → Place
+place_with index numbers = record {
+  pairs = index;
+  within = 1;
+  a = number_at numbers 0;
+  b = number_at numbers 1;
+  c = number_at numbers 2;
+}
+
+-- the place after this arc of the pair at this index, or before all arcs of that pair
+abbrev pub place_after : {A : Type 0} → (A → List ℤ) → ℕ → Option A → Place
+place_after numbers index None = record { pairs = index; within = 0; a = pos 0; b = pos 0; c = pos 0 }
+place_after numbers index (Some x) = place_with index (numbers x)
+
+-- the place between items behind n more; no text has 2^63 items
+abbrev pub past : Place → ℕ → Place
+past p n = record { pairs = min (p.pairs + n) (2 ^ 64 - 1); within = p.within; a = p.a; b = p.b; c = p.c }

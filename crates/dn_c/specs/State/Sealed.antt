@@ -1,7 +1,8 @@
--- What a `Seal` owns: what a `Box<Work>` owns, or nothing.
-use base.Fml.{Fml, ftrue}
+-- What a `Seal` owns and shares: what a `Box<Work>` does, or nothing.
+use base.Fml.{Lft, Share, Fml, ftrue, fsep, flft}
 use base.Stored.{Coded}
 use denote.RawPtr.{Ptr}
+use denote.Struct.Lending.{lent_at}
 use Rattle.std.specs.Prelude.{Option, Some, None}
 use Rattle.std.specs.Coded.{coded_option}
 use Rattle.std.specs.Box.Ownership.{box_owns}
@@ -13,6 +14,11 @@ use Rattle.dn_c.specs.contracts.work.Work.{the_row}
 abbrev pub seal_owns : Global → Ptr → Option the_row.Denot → Fml
 seal_owns alloc ptr None = ftrue
 seal_owns alloc ptr (Some work) = box_owns (ghosts.dealloc_token alloc) the_row ptr work
+
+-- what the pointer of a seal behind a `&` lends
+abbrev pub seal_shares : Ptr → Option the_row.Denot → Lft → Fml
+seal_shares ptr None κ = ftrue
+seal_shares ptr (Some work) κ = lent_at the_row ptr work κ
 
 -- how the ghost work of a seal is stored
 abbrev pub work_coded : Coded (Option the_row.Denot)

@@ -5,6 +5,7 @@ use Rattle.dn_instance.specs.declared.refusal.Refusal.{Refusal}
 use Rattle.dn_instance.specs.declared.refusal.Refusal.TheVariants.{Text}
 use Rattle.dn_instance.specs.Refusals.{refusal_number}
 use Rattle.dn_c.specs.declared.status.Status.{Status}
+use Rattle.dn_c.specs.declared.status.Count.{Count}
 
 -- the call did what its name says
 abbrev pub fine : Status
@@ -15,10 +16,10 @@ abbrev pub wrong_call : Status
 wrong_call = record { code = 40; place = 0; line = 0 }
 
 -- the place of a refusal: 1 for a line, 2 for the end of the text, and 0 for neither
-abbrev pub place_of : Refusal → ℕ
-place_of (Text (Places.Line n) code) = 1
-place_of (Text Places.End code) = 2
-place_of _ = 0
+abbrev pub place_number : Refusal → ℕ
+place_number (Text (Places.Line n) code) = 1
+place_number (Text Places.End code) = 2
+place_number _ = 0
 
 -- the line of a refusal, or 0
 abbrev pub line_of : Refusal → ℕ
@@ -26,10 +27,22 @@ line_of (Text (Places.Line n) code) = n
 line_of _ = 0
 
 -- the status of a refusal: its number and its place
-abbrev pub refusal_status : Refusal → Status
-refusal_status e = record { code = refusal_number e; place = place_of e; line = line_of e }
+abbrev pub refused_with : Refusal → Status
+refused_with e = record { code = refusal_number e; place = place_number e; line = line_of e }
 
 -- the status of what a call of the library returned
 abbrev pub answer_status : {A : Type 0} → Result A Refusal → Status
 answer_status (Ok x) = fine
-answer_status (Err e) = refusal_status e
+answer_status (Err e) = refused_with e
+
+-- so many were copied or counted
+abbrev pub fine_count : ℕ → Count
+fine_count n = record { count = n; code = 0 }
+
+-- the handle is not for this call, and nothing changed
+abbrev pub wrong_count : Count
+wrong_count = record { count = 0; code = 40 }
+
+-- there are 2^64 or more
+abbrev pub too_many : Count
+too_many = record { count = 0; code = 34 }

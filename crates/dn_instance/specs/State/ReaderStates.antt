@@ -1,13 +1,15 @@
 -- What the state of a reader represents.
 use Rattle.dn_instance.specs.State.Helds.{Parsed}
-use Rattle.std.specs.Prelude.{◌≡◌, ℕ, ◌≤◌, List, [], ◌∷◌, ◌++◌, length, take, cond, Some, None, MatchOption, MatchResult, Result, Ok, Err}
+use Rattle.std.specs.Prelude.{◌≡◌, ℕ, ◌≤◌, List, [], ◌∷◌, ◌++◌, length, take, cond, Option, Some, None, MatchOption, MatchResult, Result, Ok, Err}
 use Rattle.dn_line.specs.Pieces.{parts, lines, is_line_feed}
 use Rattle.dn_line.specs.State.LineStates.{LineSoFar, LineReaderAt, used_of}
 use Rattle.dn_line.specs.declared.line_reader.LineReader.{LineReader}
 use Rattle.dn_instance.specs.declared.reader.Reader.{Reader}
+use Rattle.dn_instance.specs.declared.declared.Declared.{Declared}
 use Rattle.dn_instance.specs.declared.refusal.Refusal.{Refusal}
 use Rattle.dn_instance.specs.declared.refusal.Refusal.TheVariants.{Memory}
 use Rattle.dn_instance.specs.Readers.{WantsMemory, ended}
+use Rattle.dn_instance.specs.State.Declarations.{declared_in}
 use Rattle.dn_instance.specs.EntryCount.{entries_so_far}
 use Rattle.dn_instance.specs.State.ReaderResults.{EntriesBefore, IsRefused, IsNext, lines_taken, refusal_of}
 use Rattle.dn_instance.specs.Texts.{items_of}
@@ -101,3 +103,13 @@ CountsRead r n = (t : List ℕ) → ReaderAt r t → refusal_of r ≡ None → n
 abbrev pub CountsBefore : Reader → ℕ → Type 0
 CountsBefore r n =
     (t : List ℕ) (e : Refusal) → ReaderAt r t → refusal_of r ≡ Some e → EntriesBefore (lines_taken r) (ended t) e n
+
+-- the complete lines declare this, if the reader has no refusal
+abbrev pub DeclaresRead : Reader → Option Declared → Type 0
+DeclaresRead r d = (t : List ℕ) → ReaderAt r t → refusal_of r ≡ None → d ≡ declared_in (items_of (ended t))
+
+-- the lines before the refused line declare this, if the reader has a refusal
+abbrev pub DeclaresBefore : Reader → Option Declared → Type 0
+DeclaresBefore r d =
+    (t : List ℕ) (e : Refusal) → ReaderAt r t → refusal_of r ≡ Some e
+    → IsNext (lines_taken r) (ended t) e × (d ≡ declared_in (items_of (take (lines_taken r) (ended t))))

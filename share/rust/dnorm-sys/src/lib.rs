@@ -5,7 +5,7 @@
 
 use core::ffi::c_void;
 
-pub const DNORM_ABI: u32 = 1;
+pub const DNORM_ABI: u32 = 2;
 
 /// Owns nothing, a reader, an instance, a refusal, or a canonical text.
 #[repr(C)]
@@ -59,6 +59,13 @@ pub struct dnorm_status {
     pub line: u64,
 }
 
+#[repr(C)]
+#[derive(Clone, Copy, Debug, PartialEq, Eq)]
+pub struct dnorm_count {
+    pub count: usize,
+    pub code: u8,
+}
+
 pub const DNORM_NO_KIND: u8 = 0;
 pub const DNORM_MIN: u8 = 1;
 pub const DNORM_MAX: u8 = 2;
@@ -74,6 +81,7 @@ pub struct dnorm_summary {
     pub nodes: i64,
     pub lines: i64,
     pub pairs: u64,
+    pub items: u64,
 }
 
 #[repr(C)]
@@ -90,7 +98,10 @@ pub struct dnorm_arc {
 #[derive(Clone, Copy, Debug, Default, PartialEq, Eq)]
 pub struct dnorm_place {
     pub pairs: usize,
-    pub arcs: u64,
+    pub within: u64,
+    pub a: i64,
+    pub b: i64,
+    pub c: i64,
 }
 
 #[repr(C)]
@@ -148,23 +159,17 @@ extern "C" {
     pub fn dnorm_begin(reader: *mut dnorm) -> dnorm_status;
     pub fn dnorm_feed(reader: *mut dnorm, bytes: *const u8, length: usize) -> dnorm_status;
     pub fn dnorm_finish(reader: *mut dnorm) -> dnorm_status;
-    pub fn dnorm_facts(instance: *mut dnorm) -> dnorm_summary;
-    pub fn dnorm_arcs(
-        graph: *mut dnorm,
-        form: u8,
-        from: u64,
-        out: *mut dnorm_arc,
-        room: usize,
-    ) -> usize;
+    pub fn dnorm_facts(any: *const dnorm) -> dnorm_summary;
+    pub fn dnorm_arc_count(graph: *const dnorm, form: u8) -> dnorm_count;
     pub fn dnorm_next(
-        graph: *mut dnorm,
+        graph: *const dnorm,
         form: u8,
         place: *mut dnorm_place,
         out: *mut dnorm_arc,
         room: usize,
-    ) -> usize;
+    ) -> dnorm_count;
     pub fn dnorm_columns(
-        graph: *mut dnorm,
+        graph: *const dnorm,
         form: u8,
         place: *mut dnorm_place,
         tails: *mut i64,
@@ -177,14 +182,18 @@ extern "C" {
         b_room: usize,
         c: *mut i64,
         c_room: usize,
-    ) -> usize;
-    pub fn dnorm_items(instance: *mut dnorm, from: u64, out: *mut dnorm_item, room: usize)
-        -> usize;
-    pub fn dnorm_canon(instance: *mut dnorm, form: u8, text: *mut dnorm) -> dnorm_status;
-    pub fn dnorm_text(text: *mut dnorm, from: usize, out: *mut u8, room: usize) -> usize;
-    pub fn dnorm_compare(left: *mut dnorm, right: *mut dnorm) -> dnorm_difference;
-    pub fn dnorm_fits(graph: *mut dnorm, companion: *mut dnorm) -> dnorm_fit;
-    pub fn dnorm_name(any: *mut dnorm, out: *mut u8, room: usize) -> usize;
+    ) -> dnorm_count;
+    pub fn dnorm_items(
+        instance: *const dnorm,
+        place: *mut dnorm_place,
+        out: *mut dnorm_item,
+        room: usize,
+    ) -> dnorm_count;
+    pub fn dnorm_canon(instance: *const dnorm, form: u8, text: *mut dnorm) -> dnorm_status;
+    pub fn dnorm_text(text: *const dnorm, from: usize, out: *mut u8, room: usize) -> dnorm_count;
+    pub fn dnorm_name(any: *const dnorm, out: *mut u8, room: usize) -> dnorm_count;
+    pub fn dnorm_compare(left: *const dnorm, right: *const dnorm) -> dnorm_difference;
+    pub fn dnorm_fits(graph: *const dnorm, companion: *const dnorm) -> dnorm_fit;
     pub fn dnorm_free(any: *mut dnorm);
     pub fn dnorm_abi() -> u32;
 }

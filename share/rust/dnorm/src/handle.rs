@@ -1,35 +1,39 @@
 //! A `dnorm` of C, which is freed when it is dropped.
 
 use dnorm_sys as sys;
-use std::cell::UnsafeCell;
 
-/// Owns what a `dnorm` owns. A cell makes it that one thread at a time uses it: the library takes what it owns out
-/// during each call, also of those that only read.
+/// Owns what a `dnorm` owns.
 pub(crate) struct Handle {
-    raw: UnsafeCell<sys::dnorm>,
+    raw: sys::dnorm,
 }
 
-// The rules of `dnorm.h` let a `dnorm` go to another thread.
+// The rules of `dnorm.h` let a `dnorm` go to another thread, and let several threads call the functions that take it by a
+// pointer to const.
 unsafe impl Send for Handle {}
+unsafe impl Sync for Handle {}
 
 impl Handle {
-    /// Calls the library with the address of the `dnorm`. No function of the library calls back, so that there is one
-    /// call at a time.
-    pub(crate) fn call<T>(&self, function: impl FnOnce(*mut sys::dnorm) -> T) -> T {
-        function(self.raw.get())
+    /// Returns the address for a call that only reads.
+    pub(crate) fn get(&self) -> *const sys::dnorm {
+        &self.raw
+    }
+
+    /// Returns the address for any call.
+    pub(crate) fn get_mut(&mut self) -> *mut sys::dnorm {
+        &mut self.raw
     }
 }
 
 impl Default for Handle {
     fn default() -> Handle {
         Handle {
-            raw: UnsafeCell::new(sys::DNORM_NONE),
+            raw: sys::DNORM_NONE,
         }
     }
 }
 
 impl Drop for Handle {
     fn drop(&mut self) {
-        unsafe { sys::dnorm_free(self.raw.get()) }
+        unsafe { sys::dnorm_free(&mut self.raw) }
     }
 }

@@ -1,8 +1,9 @@
 //! Why there is no instance or no text.
 
+use crate::codes::CODES;
 use dnorm_sys as sys;
 use std::error::Error;
-use std::fmt::{Display, Formatter, Result as Printed};
+use std::fmt::{Debug, Display, Formatter, Result as Printed};
 use std::io;
 
 /// Where a text is refused.
@@ -15,7 +16,7 @@ pub enum Place {
 }
 
 /// Why there is no instance or no text.
-#[derive(Clone, Copy, Debug, PartialEq, Eq, Hash)]
+#[derive(Clone, Copy, PartialEq, Eq, Hash)]
 pub struct Refusal {
     /// The number of the refusal, as `dnorm help` lists them: 1 to 21, or 30 if memory ran out, or 34.
     pub number: u8,
@@ -23,39 +24,23 @@ pub struct Refusal {
     pub place: Option<Place>,
 }
 
-/// The names of the refusals, by their numbers.
-const NAMES: [(u8, &str); 24] = [
-    (sys::DNORM_BAD_LINE, "BadLine"),
-    (sys::DNORM_EARLY_LINE, "EarlyLine"),
-    (sys::DNORM_SECOND_PROBLEM, "SecondProblem"),
-    (sys::DNORM_UNKNOWN_PROBLEM, "UnknownProblem"),
-    (sys::DNORM_WRONG_LINE, "WrongLine"),
-    (sys::DNORM_LATE_NODE, "LateNode"),
-    (sys::DNORM_TOO_MANY_LINES, "TooManyLines"),
-    (sys::DNORM_FIELD_COUNT, "FieldCount"),
-    (sys::DNORM_NOT_A_NUMBER, "NotANumber"),
-    (sys::DNORM_OUT_OF_RANGE, "OutOfRange"),
-    (sys::DNORM_NEGATIVE, "Negative"),
-    (sys::DNORM_BAD_TERMINAL, "BadTerminal"),
-    (sys::DNORM_NODE_OUT_OF_RANGE, "NodeOutOfRange"),
-    (sys::DNORM_REPEATED_NODE, "RepeatedNode"),
-    (sys::DNORM_SAME_TERMINAL, "SameTerminal"),
-    (sys::DNORM_LOW_ABOVE_CAP, "LowAboveCap"),
-    (sys::DNORM_SUM_TOO_LARGE, "SumTooLarge"),
-    (sys::DNORM_NO_PROBLEM, "NoProblem"),
-    (sys::DNORM_MISSING_TERMINAL, "MissingTerminal"),
-    (sys::DNORM_TOO_FEW_LINES, "TooFewLines"),
-    (sys::DNORM_TOO_LONG, "TooLong"),
-    (sys::DNORM_MEMORY, "Memory"),
-    (sys::DNORM_COUNT_TOO_LARGE, "CountTooLarge"),
-    (sys::DNORM_WRONG_CALL, "WrongCall"),
-];
-
 impl Refusal {
     /// Returns the name of the refusal, as `dnorm help` lists them.
     pub fn name(&self) -> &'static str {
-        let found = NAMES.iter().find(|(number, _)| *number == self.number);
-        found.map_or("Unknown", |(_, name)| name)
+        self.words().0
+    }
+
+    /// Returns what the refusal means, in a sentence.
+    pub fn sentence(&self) -> &'static str {
+        self.words().1
+    }
+
+    fn words(&self) -> (&'static str, &'static str) {
+        let found = CODES.iter().find(|(number, ..)| *number == self.number);
+        found.map_or(
+            ("WrongCall", "The library does not fit this crate."),
+            |it| (it.1, it.2),
+        )
     }
 
     /// Whether memory ran out.
@@ -65,14 +50,21 @@ impl Refusal {
 }
 
 impl Display for Refusal {
-    /// Prints `3: 13 NodeOutOfRange`, `end: 18 NoProblem` or `30 Memory`.
+    /// Prints `line 3: 13 NodeOutOfRange: A node is ..`, with `end: ` at the end of a text, or without a place.
     fn fmt(&self, to: &mut Formatter<'_>) -> Printed {
         match self.place {
-            Some(Place::Line(line)) => write!(to, "{line}: ")?,
+            Some(Place::Line(line)) => write!(to, "line {line}: ")?,
             Some(Place::End) => write!(to, "end: ")?,
             None => {}
         }
-        write!(to, "{} {}", self.number, self.name())
+        write!(to, "{} {}: {}", self.number, self.name(), self.sentence())
+    }
+}
+
+impl Debug for Refusal {
+    /// Prints the same line, which a program shows if its `main` returns the refusal.
+    fn fmt(&self, to: &mut Formatter<'_>) -> Printed {
+        Display::fmt(self, to)
     }
 }
 
@@ -90,8 +82,8 @@ pub enum ReadError {
 impl Display for ReadError {
     fn fmt(&self, to: &mut Formatter<'_>) -> Printed {
         match self {
-            ReadError::Refused(refusal) => refusal.fmt(to),
-            ReadError::Failed(error) => error.fmt(to),
+            ReadError::Refused(refusal) => Display::fmt(refusal, to),
+            ReadError::Failed(error) => Display::fmt(error, to),
         }
     }
 }
@@ -127,6 +119,14 @@ pub(crate) fn checked(status: sys::dnorm_status) -> Result<(), Refusal> {
     match status.code {
         sys::DNORM_FINE => Ok(()),
         number => Err(Refusal { number, place }),
+    }
+}
+
+/// Returns that memory ran out.
+pub(crate) fn memory() -> Refusal {
+    Refusal {
+        number: sys::DNORM_MEMORY,
+        place: None,
     }
 }
 

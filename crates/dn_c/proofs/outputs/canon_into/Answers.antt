@@ -1,11 +1,31 @@
-use Rattle.std.proofs.Common.{ap, subst, ◌∙◌, Some, inl}
-use Rattle.dn_c.specs.State.Works.{work_of}
-use Rattle.dn_c.specs.State.Outputs.{PrintsInto}
+use Rattle.std.proofs.Common.{◌≡◌, ℕ, false, Option, None, Some, Ok, inl, inr, sym, subst, ◌∙◌}
+use Rattle.std.specs.Option.{is_some}
+use Rattle.std.specs.Global.{Global, Vec}
+use Rattle.dn_instance.specs.State.Helds.{Parsed}
+use Rattle.dn_c.specs.declared.status.Status.{Status}
+use Rattle.dn_c.specs.declared.work.Work.{Work}
+use Rattle.dn_c.specs.declared.work.Work.TheVariants as Works
+use Rattle.dn_c.specs.State.Works.{work_of, Stores}
+use Rattle.dn_c.specs.State.Outputs.{form_numbered, HasText, PrintsInto}
 use Rattle.dn_c.proofs.outputs.canon_into.Goals as goal
 
--- src/outputs.rt:78:1
-pub returns-in-Ok-new : goal.returns-in-Ok-new
-returns-in-Ok-new c =
-    subst (λ o. PrintsInto c.args.work.now c.args.form o (work_of c.put-in-Ok-new.new.self) c.fine.result)
-    c.in-None.ensures.value
-    (inl (c.in-Ok.text, c.put-in-Ok-new.ensures ∙ ap Some c.in-Ok-new.ensures.ok, c.fine.ensures, c.in-Ok.ensures))
+module _ (held : Parsed) (alloc : Global) (form : ℕ) (old : Option Work) (s : Status) (none : is_some old ≡ false) where
+  -- a new text in a handle that held nothing
+  into : (new : Option Work) (text : Vec ℕ) → HasText held (form_numbered form) (Ok text)
+      → Stores (Works.Text text) old new s → PrintsInto (Works.Read held alloc) form old new s
+  into new text has stores = go old none stores
+    where
+      go : (o : Option Work) → is_some o ≡ false → Stores (Works.Text text) o new s
+          → PrintsInto (Works.Read held alloc) form o new s
+      go (Some was) n f = cc
+      go None n (inl f) = inl (text, f.1, f.0, has)
+      go None n (inr f) = inr (f.1, inr f.0)
+
+pub returns-in-Ok : goal.returns-in-Ok
+returns-in-Ok c =
+    let held = c.in-Read.held in
+    subst (λ w. PrintsInto w c.args.form (work_of c.args.into.now) (work_of c.store.new.handle) c.store.result)
+    (sym c.in-Read.is)
+    (into held c.in-Read.alloc c.args.form (work_of c.args.into.now) c.store.result
+    (sym c.is_full.ensures ∙ c.if-is_full.false) (work_of c.store.new.handle) c.in-Ok.text
+    (subst (λ f. HasText held f (Ok c.in-Ok.text)) c.form_numbered.ensures c.in-Ok.ensures) c.store.ensures)

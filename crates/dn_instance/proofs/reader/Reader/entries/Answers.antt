@@ -1,5 +1,8 @@
+use Rattle.std.proofs.Common.{◌≡◌}
+use Rattle.dn_instance.specs.EntryCount.{entries_so_far}
 use Rattle.dn_instance.specs.Readers.{ended}
-use Rattle.dn_instance.proofs.ReaderLaws.{entries_before, reading, refused}
+use Rattle.dn_instance.specs.Texts.{items_of}
+use Rattle.dn_instance.proofs.ReaderLaws.{before_refused, reading, refused}
 use Rattle.dn_instance.proofs.reader.Reader.entries.Goals as goal
 
 pub returns-clause-fine : goal.returns-clause-fine
@@ -7,4 +10,5 @@ returns-clause-fine c t h none = c.entries.ensures (ended t) (reading c.args.sel
 
 pub returns-clause-refused : goal.returns-clause-refused
 returns-clause-refused c t e h is =
-    entries_before c.args.self.now (ended t) e c.entries.result (refused c.args.self.now t e is h).1 c.entries.ensures
+    before_refused c.args.self.now (ended t) e (λ ls. c.entries.result ≡ entries_so_far (items_of ls))
+    (refused c.args.self.now t e is h).1 c.entries.ensures

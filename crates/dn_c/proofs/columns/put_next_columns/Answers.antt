@@ -1,0 +1,16 @@
+use Rattle.std.proofs.Common.{◌≡◌, length, subst}
+use Rattle.dn_c.specs.State.Columns.{HasColumns}
+use Rattle.dn_c.specs.State.Places.{place_with}
+use Rattle.dn_c.proofs.WalkLaws.{copies_from}
+use Rattle.dn_c.proofs.columns.put_next_columns.Goals as goal
+
+pub returns-clause-copies : goal.returns-clause-copies
+returns-clause-copies g c =
+    let put = c.put_columns-put in
+    copies_from g.B.Arc.Parts.numbers (g.B.Bundle.bundle.listed c.args.form) g.B.Kept.arc_at
+    (λ index x. subst (λ l. g.B.Kept.arc_at (place_with index l) ≡ x) (g.met.B.Bundle.same_numbers x)
+    (g.met.B.Kept.keeps index x))
+    c.args.table.now c.args.place.now c.place_after.result c.args.room (HasColumns c.put_columns-put.new.tails c.put_columns-put.new.heads c.put_columns-put.new.a
+    c.put_columns-put.new.b c.put_columns-put.new.c)
+    put.result.0 put.result.1.0 c.last_before-last.result put.result.1.1 c.fine_count.result c.last_before-last.ensures c.place_after.ensures
+    c.fine_count.ensures put.ensures.fills

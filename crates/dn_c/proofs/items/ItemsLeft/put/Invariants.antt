@@ -1,0 +1,9 @@
+use Rattle.std.proofs.Common.{◌≡◌, ◌≤◌, ◌++◌, take, length}
+use Rattle.dn_c.specs.State.Items.{items_left}
+use Rattle.dn_c.proofs.items.ItemsLeft.put.Given as goal
+
+abbrev pub invariant-loop-at : goal.invariant-loop-at
+invariant-loop-at l = record {
+  copied : take l.at l.out ++ items_left l.self ≡ items_left l.fn.self;
+  kept : length l.out ≡ l.room;
+}

@@ -1,0 +1,47 @@
+//! Texts of items and arcs.
+
+use crate::{Arc, Item, Kind};
+use std::io::{self, Write};
+
+/// Writes a text with these items and arcs in their order, as [`Instance::items`](crate::Instance::items) and
+/// [`Instance::arcs`](crate::Instance::arcs) return them: nodes and arcs are for a graph alone. What it is given is not
+/// judged: [`Instance::read`](crate::Instance::read) judges the text.
+///
+/// # Errors
+///
+/// The writer failed.
+pub fn write(
+    mut out: impl Write,
+    kind: Kind,
+    nodes: i64,
+    items: &[Item],
+    arcs: &[Arc],
+) -> io::Result<()> {
+    match kind {
+        Kind::Min => writeln!(out, "p min {nodes} {}", arcs.len())?,
+        Kind::Max => writeln!(out, "p max {nodes} {}", arcs.len())?,
+        Kind::Sp => writeln!(out, "p sp {nodes} {}", arcs.len())?,
+        Kind::Ss => writeln!(out, "p aux sp ss {}", items.len())?,
+        Kind::P2p => writeln!(out, "p aux sp p2p {}", items.len())?,
+        Kind::Co => writeln!(out, "p aux sp co {}", items.len())?,
+    }
+    for Item { id, a, b } in items {
+        match kind {
+            Kind::Min => writeln!(out, "n {id} {a}")?,
+            Kind::Max => writeln!(out, "n {id} s\nn {a} t")?,
+            Kind::Sp => {}
+            Kind::Ss => writeln!(out, "s {id}")?,
+            Kind::P2p => writeln!(out, "q {id} {a}")?,
+            Kind::Co => writeln!(out, "v {id} {a} {b}")?,
+        }
+    }
+    for arc in arcs {
+        let (tail, head, a, b, c) = (arc.tail, arc.head, arc.a, arc.b, arc.c);
+        match kind {
+            Kind::Min => writeln!(out, "a {tail} {head} {a} {b} {c}")?,
+            Kind::Max | Kind::Sp => writeln!(out, "a {tail} {head} {a}")?,
+            Kind::Ss | Kind::P2p | Kind::Co => {}
+        }
+    }
+    Ok(())
+}
