@@ -5,6 +5,7 @@ from __future__ import annotations
 
 import contextlib
 import os
+import re
 import signal
 import subprocess
 import time
@@ -20,6 +21,8 @@ ROOT = kit.ROOT
 KEEPING = {**os.environ, "MIMALLOC_PURGE_DELAY": "-1"}
 # How often a script looks whether a run has ended, in seconds.
 PAUSE = 0.2
+# What `rt ci` prints once the library of a crate is there.
+PROVED = re.compile(rb"rt: (\w+) (?:proved|is kept: .*)")
 
 
 class Row(NamedTuple):
@@ -30,6 +33,10 @@ class Row(NamedTuple):
     kind: list[str]
     stands_on: list[str]
     below: set[str]
+
+    def size(self) -> int:
+        """Returns how many bytes the code of the crate has."""
+        return sum(it.stat().st_size for it in (ROOT / "crates" / self.name / "src").rglob("*.rt"))
 
 
 def rows() -> dict[str, Row]:
@@ -105,6 +112,22 @@ class Run:
         if not self.has_ended():
             os.killpg(self.process.pid, signal.SIGKILL)
             self.status = self.process.wait()
+
+
+class Proofs:
+    """The crates that `rt ci` has proved so far, by what it prints, which comes on standard input."""
+
+    def __init__(self) -> None:
+        self.proved, self.is_over, self.rest = set[str](), False, b""
+        os.set_blocking(0, False)
+
+    def look(self) -> None:
+        """Reads what has been printed since the last call."""
+        with contextlib.suppress(BlockingIOError):
+            while block := os.read(0, 1 << 16):
+                *lines, self.rest = (self.rest + block).split(b"\n")
+                self.proved |= {found[1].decode() for it in lines if (found := PROVED.fullmatch(it))}
+            self.is_over = True
 
 
 def available_memory() -> int:

@@ -10,6 +10,7 @@ pub mod TextsSoFar
 pub mod Helds
 pub mod Ends
 pub mod LineRefusals
+pub mod Declarations
 pub mod ReaderResults
 pub mod ReaderStates
 pub mod SourceResults
