@@ -1,12 +1,12 @@
 -- Values by node: what a look-up finds, and what an insertion changes.
-use Rattle.std.proofs.Common.{inl, inr, ◌≡◌, ℕ, zero, suc, ◌+◌, ◌-◌, ◌<◌, ◌≤◌, ℤ, List, [], ◌∷◌, ◌++◌, Option, Some, None, length, slice_get, get_or, refl, sym, ap, ◌∙◌, arith, int_cmp, length-append}
+use Rattle.std.proofs.Common.{inl, inr, ◌≡◌, ℕ, zero, suc, ◌+◌, ◌-◌, ◌*◌, ◌<◌, ◌≤◌, ℤ, List, [], ◌∷◌, ◌++◌, Option, Some, None, length, slice_get, get_or, refl, sym, ap, ◌∙◌, arith, int_cmp, length-append}
 use Rattle.std.specs.BTreeMap.{insert_entry}
 use Rattle.std.specs.Map.{lookup}
 use Rattle.std.proofs.lemmas.Bool.{cases_Bool}
 use Rattle.std.proofs.lemmas.Option.{slice_get-get_or}
 use Rattle.dn_arc.proofs.CanonsLaws.{by_cmp}
 use Rattle.dn_nodes.specs.State.Nodes.{at, Rises}
-use Rattle.dn_nodes.specs.State.Links.{value_at, valued, AreWithin}
+use Rattle.dn_nodes.specs.State.Links.{value_at, valued, AreWithin, IsShort}
 use Rattle.dn_nodes.proofs.KeyLaws.{Above, rises_head, rises_tail, rises_none, rises_cons, insert_rises}
 
 pub more_length : (es : List (ℤ × ℕ)) (id : ℤ) (n : ℕ) → lookup (at id) es ≡ None
@@ -15,6 +15,11 @@ more_length [] id n none = refl
 more_length (e ∷ es) id n none =
     by_cmp id e.0 (λ c lt. rw c (omega arith)) (λ c eq. cc (rw c at none))
     (λ c gt. rw c (omega (arith, more_length es id n (rw c at none))))
+
+-- a list of links stays short if one more node has a link
+pub short_more : (es now : List (ℤ × ℕ)) (id : ℤ) (n places : ℕ) → now ≡ insert_entry int_cmp es id n
+    → lookup (at id) es ≡ None → places ≤ 8 * (length es + 17) → IsShort places (length now)
+short_more es now id n places is none most = omega (arith, most, ap length is, more_length es id n none)
 
 module _ {V : Type 0} where
   -- the value that a link leads to

@@ -1,5 +1,5 @@
 // Which value each node leads to.
-ghost use Rattle.std.specs.Prelude.{◌≡◌, ◌<◌, ◌≤◌, ◌++◌, ◌≤ℤ◌, ℕ, ℤ, pos, List, [], None, OnOk, OnErr, length, slice_get};
+ghost use Rattle.std.specs.Prelude.{◌≡◌, ◌<◌, ◌≤◌, ◌+◌, ◌++◌, ◌≤ℤ◌, ℕ, ℤ, pos, List, [], None, OnOk, OnErr, length, slice_get};
 ghost use Rattle.std.specs.List.{AllByRecursion};
 ghost use Rattle.std.specs.Ordering.{int_cmp};
 ghost use Rattle.std.specs.Map.{lookup};
@@ -12,12 +12,13 @@ use std::alloc::{AllocError, Global};
 use std::collections::BTreeMap;
 use std::marker::Model;
 
-// The list of links reaches up to this many nodes for each value.
+// The list of links reaches up to this many nodes for each value, and 16 times as many beyond.
 const DENSE: usize = 8;
 
 /// The links of the nodes, by ascending node. Of the nodes from 0 on, those below the length of `links` have their
 /// links there, where 0 is no link. All other nodes are in maps. A node that the list comes to reach moves there, so
-/// both ways to find a node are always there, and none is ever turned into the other as a whole.
+/// both ways to find a node are always there, and none is ever turned into the other as a whole. The list has at most 8
+/// places for each node that has a link, and 128 more, so its length never depends on the nodes' numbers.
 #[derive(Drop)]
 pub(crate) struct Links {
     below: BTreeMap<i64, usize>,
@@ -28,7 +29,7 @@ pub(crate) struct Links {
 impl Model for Links {
     ghost use Rattle.std.specs.Prelude.{ℕ, ℤ, pos, List, ◌++◌, ◌<ℤ◌, length};
     ghost use Rattle.std.specs.List.{AllByRecursion};
-    ghost use Rattle.dn_nodes.specs.State.Links.{direct, AreFar, AreBelow};
+    ghost use Rattle.dn_nodes.specs.State.Links.{direct, AreFar, AreBelow, IsShort};
     ghost use Rattle.dn_nodes.specs.State.Nodes.{Rises};
 
     ghost Value = { List (ℤ × ℕ) };
@@ -36,7 +37,8 @@ impl Model for Links {
     ghost view = { λ t. t.below.entries ++ (direct 0 t.links.items ++ t.above.entries) };
 
     ghost invariant = { λ t. AreBelow t.below.entries × AreFar (length t.links.items) t.above.entries
-        × Rises t.below.entries × Rises t.above.entries };
+        × Rises t.below.entries × Rises t.above.entries
+        × IsShort (length t.links.items) (length (t.below.entries ++ (direct 0 t.links.items ++ t.above.entries))) };
 }
 
 // Returns the place of a node in a list of links.
@@ -67,7 +69,7 @@ fn reach(
     ensures same { direct 0 links.new.items ++ above.new.entries ≡ direct 0 links.old.items ++ above.old.entries }
     ensures far { AreFar (length links.new.items) above.new.entries }
     ensures rising { Rises above.new.entries }
-    ensures ok { OnOk result (place < length links.new.items) }
+    ensures ok { OnOk result (length links.new.items ≡ place + 1) }
     ensures err_links { OnErr result (links.new.items ≡ links.old.items) }
     ensures err_above { OnErr result (above.new.entries ≡ above.old.entries) }
 {
@@ -120,10 +122,11 @@ impl Links {
         LinksIter::of(&self.below, &self.links, &self.above)
     }
 
-    /// Notes the link of a node that has none. If an allocation fails, nothing has changed.
+    /// Notes the link of a node that has none: one more than there are links. If an allocation fails, nothing has
+    /// changed.
     pub(crate) fn note(&mut self, node: i64, link: usize) -> Result<(), AllocError>
         requires none { lookup (at node) self.old ≡ None }
-        requires some { 0 < link }
+        requires next { link ≡ length self.old + 1 }
         ensures ok { OnOk result (self.new ≡ insert_entry int_cmp self.old node link) }
         ensures err { OnErr result (self.new ≡ self.old) }
     {

@@ -1,5 +1,5 @@
 // A run of the program over the texts of an opener.
-ghost use Rattle.std.specs.Prelude.{◌≡◌, ◌≤◌, None, MatchResult, map, string_bytes};
+ghost use Rattle.std.specs.Prelude.{◌≡◌, ◌≤◌, MatchResult, map, string_bytes};
 ghost use Rattle.dn_run.specs.Streams.{sink_run};
 ghost use Rattle.dn_run.specs.HostRuns.{HostFilesFacts, NoWords, RanOnHost};
 
@@ -16,12 +16,12 @@ use std::io;
 use std::io::ErrorKind;
 
 /// Runs the program with the words of the command line, the program's name first, over the texts of an opener, and
-/// returns the exit status. If the words could not be collected, it says why: words that are not UTF-8 are no command,
-/// and any other error is a lack of memory.
+/// returns the exit status. Before and after that, it opens nothing. If the words could not be collected, it opens
+/// nothing at all and says why: words that are not UTF-8 are no command, and any other error is a lack of memory.
 pub fn run_on<'a, P: Opener, O: Sink, E: Sink>(
     alloc: Global,
     words: &io::Result<Vec<String>>,
-    opener: &'a mut P,
+    files: &mut OpenedFiles<'a, P>,
     out: &mut O,
     err: &mut E,
 ) -> u8
@@ -32,15 +32,13 @@ pub fn run_on<'a, P: Opener, O: Sink, E: Sink>(
         (λ ws. RanOnHost (record {
           files = ⟦<OpenedFiles<'a, P> as Files>⟧.files;
           source = ⟦<OpenedSource<P> as Source>⟧.source;
-          Begins = λ f. (f.opener.now ≡ opener.entry.now) × (f.fault ≡ None);
+          Begins = λ f. f ≡ files.old;
+          Ends = λ f. f ≡ files.new;
         }) o e (map string_bytes ws.items) result)
-        (λ error. NoWords o e error result) }
+        (λ error. NoWords o e error result × (files.new ≡ files.old)) }
 {
     match words {
-        Ok(words) => {
-            let mut files = OpenedFiles::new(alloc, opener);
-            run(alloc, words, &mut files, out, err)
-        }
+        Ok(words) => run(alloc, words, files, out, err),
         Err(error) => match error.kind() {
             ErrorKind::InvalidData => refuse_words(err),
             _ => {

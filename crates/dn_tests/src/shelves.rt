@@ -5,6 +5,7 @@ ghost use Rattle.std.specs.declared.io.ErrorKind.TheVariants.{Interrupted, NotFo
 
 use crate::commands::owned;
 use crate::texts::{CAPACITIES, COSTS, COSTS_ONE, ROADS, ROADS_CANON};
+use dn_host::files::OpenedFiles;
 use dn_host::{Opener, Stream};
 use dn_run::run_on;
 use dn_sink::Bytes;
@@ -126,7 +127,8 @@ fn ends(alloc: Global, words: &io::Result<Vec<String>>, out: &str, err: &str, st
     };
     let mut to_out = Bytes::new(alloc);
     let mut to_err = Bytes::new(alloc);
-    let found = run_on(alloc, words, &mut shelf, &mut to_out, &mut to_err);
+    let mut files = OpenedFiles::new(alloc, &mut shelf);
+    let found = run_on(alloc, words, &mut files, &mut to_out, &mut to_err);
     found == status && to_out.taken() == out.as_bytes() && to_err.taken() == err.as_bytes()
 }
 

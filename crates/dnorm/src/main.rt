@@ -3,6 +3,7 @@
 //! to `run_on`.
 #![tactic(auto)]
 
+use dn_host::files::OpenedFiles;
 use dn_host::{HostDevice, HostOpener, Retried, out_of, words_of};
 use dn_run::run_on;
 use dn_sink::ToWrite;
@@ -17,5 +18,6 @@ fn main(rt: HostRuntime) -> ExitCode {
     let words = words_of(&rt);
     let mut opener = HostOpener { host: &rt };
     let mut out = out_of(&rt);
-    ExitCode::from(run_on(rt.alloc(), &words, &mut opener, &mut out, &mut err))
+    let mut files = OpenedFiles::new(rt.alloc(), &mut opener);
+    ExitCode::from(run_on(rt.alloc(), &words, &mut files, &mut out, &mut err))
 }

@@ -1,5 +1,5 @@
 -- Which value each node has: a link is one more than the position of a value, and 0 leads to none.
-use Rattle.std.specs.Prelude.{nat_eq, ◌+ℤ◌, ◌<◌, ◌≤◌, ◌<ℤ◌, ◌≤ℤ◌, ℕ, zero, suc, ℤ, pos, List, [], ◌∷◌, ◌++◌, cond, Option, Some, None, length, slice_get}
+use Rattle.std.specs.Prelude.{nat_eq, ◌+◌, ◌*◌, ◌+ℤ◌, ◌<◌, ◌≤◌, ◌<ℤ◌, ◌≤ℤ◌, ℕ, zero, suc, ℤ, pos, List, [], ◌∷◌, ◌++◌, cond, Option, Some, None, length, slice_get}
 use Rattle.std.specs.List.{AllByRecursion}
 
 -- the entry of a link, if there is one
@@ -29,6 +29,11 @@ AreBelow es = AllByRecursion (λ (e : ℤ × ℕ). e.0 <ℤ pos 0) es
 -- all nodes are beyond a list of this length, and have links
 abbrev pub AreFar : ℕ → List (ℤ × ℕ) → Type 0
 AreFar n es = AllByRecursion (λ (e : ℤ × ℕ). (pos n ≤ℤ e.0) × (0 < e.1)) es
+
+-- a list of links of the first length is short for so many nodes that have links: it has at most 8 places for each, and
+-- 128 more
+abbrev pub IsShort : ℕ → ℕ → Type 0
+IsShort places nodes = places ≤ 8 * (nodes + 16)
 
 -- a node with its value, if it has one
 abbrev pub with_value : {V : Type 0} → ℤ → Option V → List (ℤ × V)

@@ -1,12 +1,14 @@
-use Rattle.std.proofs.Common.{◌≡◌, ◌∙◌, ◌<ℤ◌, ◌≤ℤ◌, ◌≤◌, ◌<◌, ◌++◌, pos, sym, ap, rules, set, length, arith, w64, FitsSigned}
+use Rattle.std.proofs.Common.{◌≡◌, ◌∙◌, ◌<ℤ◌, ◌≤ℤ◌, ◌≤◌, ◌<◌, ◌+◌, ◌*◌, ◌++◌, pos, sym, ap, rules, set, length, arith, w64, FitsSigned}
 use Rattle.std.specs.BTreeMap.{insert_entry}
 use Rattle.std.specs.Ordering.{int_cmp}
 use Rattle.std.proofs.lemmas.Int.{ints, to_z-of_z}
 use Rattle.std.proofs.lemmas.Grind.{common_steps}
+use Rattle.std.proofs.lemmas.List.{length-set}
 use Rattle.dn_nodes.specs.State.Links.{direct}
 use Rattle.dn_nodes.specs.declared.links.Links.TheInside.{Inside}
 use Rattle.dn_nodes.proofs.KeyLaws.{insert_rises}
 use Rattle.dn_nodes.proofs.LinkLaws.{below_insert, far_insert, note_below, note_far, note_link}
+use Rattle.dn_nodes.proofs.NodeLaws.{short_more}
 use Rattle.dn_nodes.proofs.links.Links.note.Goals as goal
 use Rattle.dn_nodes.proofs.links.Links.note.Goals.{then-len-place+else-saturating_add-place+in_ok-reach, else-len-place}
 
@@ -16,11 +18,15 @@ invariant_of-self-then-node-lt0 c =
     let f : FitsSigned w64 c.args.node = search rules in
     let neg : c.args.node <ℤ pos 0 = search rules in
     let is : c.insert.new.self.entries ≡ insert_entry int_cmp s.below.entries c.args.node c.args.link =
-    simp to_z-of_z at c.in_ok-insert.ensures.entries in (
+    simp to_z-of_z at c.in_ok-insert.ensures.entries in
+    let now = note_below s.below.entries s.above.entries c.args.self.now s.links.items c.args.node c.self.invariant.1
+    c.self.view_is neg c.insert.new.self.entries c.args.link is in (
       rw is (below_insert s.below.entries c.args.node c.args.link neg c.self.invariant.0),
       c.self.invariant.1,
       rw is (insert_rises s.below.entries c.args.node c.args.link c.self.invariant.2),
       c.self.invariant.3,
+      short_more c.args.self.now _ c.args.node c.args.link _ now c.requires.none
+          (omega (arith, c.self.invariant.4, ap length c.self.view_is)),
     )
 
 pub returns-then-node-lt0-clause-ok : goal.returns-then-node-lt0-clause-ok
@@ -41,12 +47,17 @@ invariant_of-self-then-saturating_add-place c =
     let far : pos (length s.links.items) ≤ℤ c.args.node = omega (arith, ints, long, place) in
     let is : c.insert-then-saturating_add-place.new.self.entries
     ≡ insert_entry int_cmp s.above.entries c.args.node c.args.link =
-    simp to_z-of_z at c.in_ok-insert-2.ensures.entries in (
+    simp to_z-of_z at c.in_ok-insert-2.ensures.entries in
+    let some : pos 0 ≤ℤ c.args.node = search rules in
+    let now = note_far s.below.entries s.above.entries c.args.self.now s.links.items c.args.node c.self.invariant.1
+    c.self.view_is some c.self.invariant.0 far c.insert-then-saturating_add-place.new.self.entries c.args.link is in (
       c.self.invariant.0,
-      rw is (far_insert (length s.links.items) s.above.entries c.args.node c.args.link far c.requires.some
+      rw is (far_insert (length s.links.items) s.above.entries c.args.node c.args.link far (omega (arith, c.requires.next))
           c.self.invariant.1),
       c.self.invariant.2,
       rw is (insert_rises s.above.entries c.args.node c.args.link c.self.invariant.3),
+      short_more c.args.self.now _ c.args.node c.args.link _ now c.requires.none
+          (omega (arith, c.self.invariant.4, ap length c.self.view_is)),
     )
 
 pub returns-then-saturating_add-place-clause-ok : goal.returns-then-saturating_add-place-clause-ok
@@ -77,12 +88,54 @@ returns-clause-ok c =
           ap (λ r. s.below.entries ++ r) w.in_ok-reach.ensures.same ∙ c.self.view_is in
           ap (λ (t : Inside). t.below.entries ++ (direct 0 (set t.links.items i l) ++ t.above.entries)) w.self-inside-is
           ∙ note_link s.below.entries w.reach.new.above.entries c.args.self.now w.reach.new.links.items c.args.node
-          w.in_ok-reach.ensures.far view some c.self.invariant.0 i (sym place) w.in_ok-reach.ensures.ok l
-          c.requires.some c.requires.none
+          w.in_ok-reach.ensures.far view some c.self.invariant.0 i (sym place) (omega (arith, w.in_ok-reach.ensures.ok)) l
+          (omega (arith, c.requires.next)) c.requires.none
       | else-len-place w ↦
           let lt : i < length s.links.items =
           grind (arith, common_steps, w.if-len-place.false, c.len.ensures) in
           ap (λ (t : Inside). t.below.entries ++ (direct 0 (set t.links.items i l) ++ t.above.entries)) w.self-inside-is
           ∙ note_link s.below.entries s.above.entries c.args.self.now s.links.items c.args.node c.self.invariant.1
-          c.self.view_is some c.self.invariant.0 i (sym place) lt l c.requires.some c.requires.none
+          c.self.view_is some c.self.invariant.0 i (sym place) lt l (omega (arith, c.requires.next)) c.requires.none
+    ]
+
+pub invariant_of-self-2 : goal.invariant_of-self-2
+invariant_of-self-2 c =
+    let s = c.self.inside in
+    let f : FitsSigned w64 c.args.node = search rules in
+    let some : pos 0 ≤ℤ c.args.node = search rules in
+    let place = simp to_z-of_z at c.place_of-place.ensures in
+    let i = c.place_of-place.result in
+    let l = c.args.link in
+    elim c.if-len-place.branch [
+      | then-len-place+else-saturating_add-place+in_ok-reach w ↦
+          let view : s.below.entries ++ (direct 0 w.reach.new.links.items ++ w.reach.new.above.entries)
+          ≡ c.args.self.now =
+          ap (λ r. s.below.entries ++ r) w.in_ok-reach.ensures.same ∙ c.self.view_is in
+          let most : length w.reach.new.links.items ≤ 8 * (length c.args.self.now + 17) =
+          grind (arith, common_steps, w.if-saturating_add-place.false, w.saturating_add.ensures, c.requires.next,
+          w.in_ok-reach.ensures.ok) in
+          let now = note_link s.below.entries w.reach.new.above.entries c.args.self.now w.reach.new.links.items
+          c.args.node w.in_ok-reach.ensures.far view some c.self.invariant.0 i (sym place)
+          (omega (arith, w.in_ok-reach.ensures.ok)) l (omega (arith, c.requires.next)) c.requires.none in
+          rw (w.self-inside-is, length-set) (
+            c.self.invariant.0,
+            w.in_ok-reach.ensures.far,
+            c.self.invariant.2,
+            w.in_ok-reach.ensures.rising,
+            short_more c.args.self.now _ c.args.node l _ now c.requires.none most,
+          )
+      | else-len-place w ↦
+          let lt : i < length s.links.items =
+          grind (arith, common_steps, w.if-len-place.false, c.len.ensures) in
+          let now = note_link s.below.entries s.above.entries c.args.self.now s.links.items c.args.node
+          c.self.invariant.1 c.self.view_is some c.self.invariant.0 i (sym place) lt l
+          (omega (arith, c.requires.next)) c.requires.none in
+          rw (w.self-inside-is, length-set) (
+            c.self.invariant.0,
+            c.self.invariant.1,
+            c.self.invariant.2,
+            c.self.invariant.3,
+            short_more c.args.self.now _ c.args.node l _ now c.requires.none
+                (omega (arith, c.self.invariant.4, ap length c.self.view_is)),
+          )
     ]

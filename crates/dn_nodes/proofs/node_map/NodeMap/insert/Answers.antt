@@ -1,4 +1,4 @@
-use Rattle.std.proofs.Common.{◌≡◌, ◌∙◌, ◌++◌, ◌∷◌, ◌+◌, [], None, length, ap, rules, w64, FitsSigned}
+use Rattle.std.proofs.Common.{◌≡◌, ◌∙◌, ◌++◌, ◌∷◌, ◌+◌, [], None, length, sym, ap, rules, w64, FitsSigned}
 use Rattle.std.proofs.lemmas.Int.{to_z-of_z}
 use Rattle.std.specs.Map.{lookup}
 use Rattle.std.specs.BTreeMap.{insert_entry}
@@ -14,6 +14,13 @@ note-requires-clause-none g c =
     simp to_z-of_z
     (no_link c.args.node s.links s.values.items c.self.invariant.1
     (ap (λ (n : Nodes g.row.V.Denot). lookup (at c.args.node) n.entries) c.self.view_is ∙ c.requires))
+
+pub note-requires-clause-next : goal.note-requires-clause-next
+note-requires-clause-next g c =
+    let s = c.self.inside in
+    let last : c.len.result ≡ length s.values.items =
+    c.len.ensures ∙ c.reserve.new.self.ok.0 ∙ ap length c.in_ok-reserve.ensures.items in
+    ap (λ n. n + 1) (last ∙ sym c.self.invariant.2)
 
 pub invariant_of-self-2 : goal.invariant_of-self-2
 invariant_of-self-2 g c =
