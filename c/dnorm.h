@@ -22,6 +22,7 @@
       one `dnorm` at the same time, in any threads. A `dnorm` may go to another thread, in an order that a lock, or the
       start or the join of a thread gives.
    4. malloc, realloc and free belong to one allocator. No function is called from a signal handler.
+   5. A call needs 32 kB of stack, whatever it is given.
 
    The order of calls is free: a call that a `dnorm` is not for changes nothing, and returns DNORM_WRONG_CALL, the kind
    DNORM_NO_KIND, or DNORM_NOT_BOTH.
@@ -29,11 +30,11 @@
    Some things are tested, and not proved. Of rule 3 it is proved that a call with a `const dnorm *` has that `dnorm` on
    loan, that a loan can be given any number of times, and that nothing is written through it; that several threads read
    one `dnorm` at once is tested. So are these: dnorm_free frees all memory that a `dnorm` owns. No call opens a file,
-   writes to a stream, or keeps anything outside of the `dnorm` that it is given, and no byte of a piece is kept.
-   dnorm_facts takes the same time for any instance; dnorm_arc_count walks over the pairs; dnorm_next and dnorm_columns
-   search for their place, and then walk over what they copy; dnorm_items may also walk over the items before its place,
-   so let it copy all of them. Nor are the macros at the end of dnorm.h proved, which allow null pointers where there is
-   no room. */
+   writes to a stream, or keeps anything outside of the `dnorm` that it is given, and no byte of a piece is kept. No
+   call needs more stack than rule 5 says. dnorm_facts takes the same time for any instance; dnorm_arc_count walks over
+   the pairs; dnorm_next and dnorm_columns search for their place, and then walk over what they copy; dnorm_items may
+   also walk over the items before its place, so let it copy all of them. Nor are the macros at the end of dnorm.h
+   proved, which allow null pointers where there is no room. */
 #ifndef DNORM_H
 #define DNORM_H
 #include <stdbool.h>

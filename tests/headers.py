@@ -110,6 +110,21 @@ def checked(tally: Tally, words: list[str], out: str, checkers: list[str]) -> No
             tally.leave_out(f"{name} of {words}", "valgrind")
 
 
+def large_texts() -> dict[str, bytes]:
+    """Returns a text of many lines for each kind."""
+    count = 40_000
+    texts = {
+        "min": (f"p min {count} {count}\nn 1 9\nn 2 -9\n", "a {0} {1} 0 {2} {2}\n"),
+        "max": (f"p max {count} {count}\nn 1 s\nn 2 t\n", "a {0} {1} {2}\n"),
+        "sp": (f"p sp {count} {count}\n", "a {0} {1} {2}\n"),
+        "ss": (f"p aux sp ss {count}\n", "s {0}\n"),
+        "p2p": (f"p aux sp p2p {count}\n", "q {0} {1}\n"),
+        "co": (f"p aux sp co {count}\n", "v {0} {1} {2}\n"),
+    }
+    numbers = [(i, i * 7919 % count + 1, i % 9 + 1) for i in range(1, count + 1)]
+    return {kind: (head + "".join(line.format(*it) for it in numbers)).encode() for kind, (head, line) in texts.items()}
+
+
 def in_c(tally: Tally, folder: str) -> None:
     """Tests orders of calls, failing allocations and threads."""
     wraps = [f"-Wl,--wrap={it}" for it in ("malloc", "realloc", "free")]
@@ -124,6 +139,8 @@ def in_c(tally: Tally, folder: str) -> None:
         checked(tally, [f"{folder}/c", "readers", "100000"], "0 wrong\n", [])
         checked(tally, [f"{folder}/c", "readers", "200"], "0 wrong\n", ["memcheck", "helgrind"])
         checked(tally, [f"{folder}/c", "nulls"], "right\n", ["memcheck"])
+        for kind, text in large_texts().items():
+            tally.wants(f"little stack for {kind}", run([f"{folder}/c", "stack"], text), "right\n")
 
 
 def in_cpp(tally: Tally, folder: str, tested: str) -> None:

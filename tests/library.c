@@ -5,6 +5,7 @@
        library threads      a handle goes through threads, and each of four threads has one
        library readers N    each of three threads reads one instance N times; prints how many answers are wrong
        library nulls        pointers that are null where there is no room, and a handle that is its own text
+       library stack        each call in a thread with a small stack, for the text on standard input
 
    All memory is freed at the end of each; the status is 1 if that or an answer is wrong. */
 #include "dnorm.h"
@@ -13,7 +14,8 @@
 #include <stdlib.h>
 #include <string.h>
 
-enum { CALLS = 11, ROUNDS = 200 };
+/* STACK is that of the fifth rule of dnorm.h, in bytes. */
+enum { CALLS = 11, ROUNDS = 200, STACK = 32768 };
 
 static const char good[] = "p min 4 3\nn 1 2\nn 2 -2\na 1 2 0 5 7\na 2 3 1 5 7\na 1 2 1 5 6\n";
 static const char canon[] = "p min 4 5\nn 1 2\nn 2 -2\na 1 2 1 1 6\na 1 2 0 4 6\na 1 2 0 5 7\n"
@@ -225,6 +227,65 @@ static int nulls(void) {
     return puts(is_right ? "right" : "wrong"), live != 0;
 }
 
+/* A text, and whether each call for it was right. */
+typedef struct given {
+    char bytes[1 << 22];
+    size_t length;
+    int is_right;
+} given;
+
+/* Copies the canonical text of a graph into a reader, and returns whether the instance that it makes is the same. */
+static int is_same_again(const dnorm *graph, int form) {
+    dnorm text = DNORM_NONE, again = DNORM_NONE;
+    uint8_t piece[512];
+    int is_right = dnorm_canon(graph, form, &text).code == DNORM_FINE && dnorm_begin(&again).code == DNORM_FINE;
+    for (size_t at = 0, count; (count = dnorm_text(&text, at, piece, sizeof piece).count); at += count)
+        is_right &= dnorm_feed(&again, piece, count).code == DNORM_FINE;
+    is_right &= dnorm_finish(&again).code == DNORM_FINE && dnorm_compare(graph, &again).what == DNORM_SAME;
+    dnorm_fit fit = dnorm_fits(graph, &again);
+    dnorm_free(&again);
+    dnorm_free(&text);
+    return is_right && fit.code == DNORM_NOT_KINDS;
+}
+
+static void *call_all(void *it) {
+    given *text = it;
+    dnorm graph = DNORM_NONE;
+    uint8_t name[8];
+    dnorm_arc arcs[8];
+    dnorm_item items[8];
+    int64_t column[8];
+    dnorm_place places[3] = {DNORM_FIRST, DNORM_FIRST, DNORM_FIRST};
+    int is_right = dnorm_begin(&graph).code == DNORM_FINE;
+    for (size_t at = 0; at < text->length; at += 4096) {
+        size_t rest = text->length - at;
+        is_right &= dnorm_feed(&graph, (uint8_t *)text->bytes + at, rest < 4096 ? rest : 4096).code == DNORM_FINE;
+    }
+    is_right &= dnorm_finish(&graph).code == DNORM_FINE && dnorm_name(&graph, name, 8).count > 1;
+    size_t rows = 0, cells = 0;
+    for (size_t n; (n = dnorm_next(&graph, 1, &places[0], arcs, 8).count);) rows += n;
+    for (size_t n; (n = dnorm_columns(&graph, 1, &places[1], column, 8, NULL, 0, NULL, 0, NULL, 0, NULL, 0).count);)
+        cells += n;
+    is_right &= rows == dnorm_arc_count(&graph, 1).count && cells == rows;
+    size_t wanted = dnorm_facts(&graph).items;
+    is_right &= dnorm_items(&graph, &places[2], items, 8).count == (wanted < 8 ? wanted : 8);
+    text->is_right = is_right && is_same_again(&graph, 1) && is_same_again(&graph, 2);
+    dnorm_free(&graph);
+    return 0;
+}
+
+static int stack(void) {
+    static given text;
+    pthread_t id;
+    pthread_attr_t small;
+    text.length = fread(text.bytes, 1, sizeof text.bytes, stdin);
+    pthread_attr_init(&small);
+    pthread_attr_setstacksize(&small, STACK);
+    if (pthread_create(&id, &small, call_all, &text)) return 1;
+    pthread_join(id, 0);
+    return puts(text.is_right ? "right" : "wrong"), live != 0;
+}
+
 int main(int count, char **words) {
     const char *mode = count > 1 ? words[1] : "";
     if (!strcmp(mode, "orders") && count > 2) return orders(atoi(words[2]));
@@ -232,5 +293,6 @@ int main(int count, char **words) {
     if (!strcmp(mode, "threads")) return threads();
     if (!strcmp(mode, "readers") && count > 2) return readers(atol(words[2]));
     if (!strcmp(mode, "nulls")) return nulls();
+    if (!strcmp(mode, "stack")) return stack();
     return 2;
 }
