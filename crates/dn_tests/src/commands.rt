@@ -11,7 +11,7 @@ use std::alloc::{AllocError, Global};
 use std::fmt::Display;
 use std::test::Fail;
 
-const VERSION: &str = "dnorm 1.3.0\n";
+const VERSION: &str = "dnorm 2.0.0-dev\n";
 
 // Returns the words of a line after the program's name. `|` separates the words of the line.
 pub(crate) fn owned(alloc: Global, line: &str) -> Result<Vec<String>, AllocError> {

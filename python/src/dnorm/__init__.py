@@ -38,7 +38,7 @@ from .summary import Differences, differences
 from .writer import write
 
 # The version of the program that this package belongs to, as Python packages spell it.
-__version__ = "1.3.0"
+__version__ = "2.0.0.dev0"
 
 __all__ = [
     "REFUSALS",
