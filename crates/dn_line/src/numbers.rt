@@ -1,9 +1,10 @@
 // Reads the numbers of a line, the blanks between them, and the end of the line.
-ghost use Rattle.std.specs.Prelude.{◌+◌, ◌<◌, ◌≤◌, pos, ◌≤ℤ◌, IfSome, length};
+ghost use Rattle.std.specs.Prelude.{◌≡◌, ◌+◌, ◌<◌, ◌≤◌, pos, ◌≤ℤ◌, IfSome, length, drop};
+ghost use Rattle.dn_num.specs.State.Marks.{AreMarks};
 ghost use Rattle.dn_line.specs.State.Numbers.{AreBlanks, AreSomeBlanks, IsLineEnd, IsNumberBefore, IsNumberFront};
 
 use crate::piece::{after, is_blank};
-use dn_num::{number_front, short_number};
+use dn_num::{Marks, marked_number, number_front, short_number};
 
 // A number, and the bytes after it.
 #[derive(Clone, Copy)]
@@ -51,6 +52,7 @@ pub(crate) fn after_line_end(bytes: &[u8]) -> Option<&[u8]>
 pub(crate) fn after_space(bytes: &[u8]) -> Option<&[u8]>
     requires { 0 < length bytes.now }
     ensures gap { IfSome result (λ rest. AreSomeBlanks bytes.now rest.now) }
+    ensures rest { IfSome result (λ rest. rest.now ≡ drop 1 bytes.now) }
     ensures within { IfSome result (λ rest. length bytes.now ≤ length rest.now + 1) }
 {
     if bytes[0] == b' ' {
@@ -103,6 +105,52 @@ pub(crate) fn short_before(bytes: &[u8]) -> Option<NumberFront<'_>>
     Some(NumberFront {
         number: front.number,
         rest: after_space(front.rest)?,
+    })
+}
+
+// A number, the bytes after it, and the marks of those bytes.
+#[derive(Clone, Copy)]
+pub(crate) struct MarkedFront<'a> {
+    pub(crate) number: i64,
+    pub(crate) rest: &'a [u8],
+    pub(crate) marks: Marks,
+}
+
+// Reads the marked number of one to eight digits at the beginning, and the space after it.
+#[inline(always)]
+pub(crate) fn marked_before(bytes: &[u8], marks: Marks) -> Option<MarkedFront<'_>>
+    requires marks { AreMarks bytes.now marks }
+    requires room { 9 ≤ length bytes.now }
+    requires few { marks.from ≤ 23 }
+    ensures number { IfSome result (λ n. IsNumberBefore bytes.now n.number n.rest.now) }
+    ensures some { IfSome result (λ n. pos 0 ≤ℤ n.number) }
+    ensures within { IfSome result (λ n. length bytes.now ≤ length n.rest.now + 9) }
+    ensures marks { IfSome result (λ n. AreMarks n.rest.now n.marks) }
+    ensures from { IfSome result (λ n. n.marks.from ≤ marks.from + 9) }
+{
+    let marked = marked_number(bytes, marks)?;
+    let rest = after_space(&bytes[marked.used..])?;
+    Some(MarkedFront {
+        number: marked.number as i64,
+        rest,
+        marks: marked.next,
+    })
+}
+
+// Reads the marked number of one to eight digits at the beginning.
+#[inline(always)]
+pub(crate) fn marked_front(bytes: &[u8], marks: Marks) -> Option<NumberFront<'_>>
+    requires marks { AreMarks bytes.now marks }
+    requires room { 8 ≤ length bytes.now }
+    requires few { marks.from ≤ 23 }
+    ensures number { IfSome result (λ n. IsNumberFront bytes.now n.number n.rest.now) }
+    ensures some { IfSome result (λ n. pos 0 ≤ℤ n.number) }
+    ensures within { IfSome result (λ n. length bytes.now ≤ length n.rest.now + 8) }
+{
+    let marked = marked_number(bytes, marks)?;
+    Some(NumberFront {
+        number: marked.number as i64,
+        rest: &bytes[marked.used..],
     })
 }
 

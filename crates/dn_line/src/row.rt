@@ -4,10 +4,11 @@ ghost use Rattle.dn_line.specs.State.LineStates.{is_clear};
 ghost use Rattle.dn_line.specs.State.Rows.{AreNatural, AreNumeric, BeginsWithRow, FieldsFit, HasNumbers, field_fits, row_numbers};
 
 use crate::numbers::{
-    after_blanks, after_line_end, after_plain_end, any_front, last_front, number_before,
-    short_before, short_front,
+    after_blanks, after_line_end, after_plain_end, after_space, any_front, last_front,
+    marked_before, marked_front, number_before, short_before,
 };
 use crate::word::Field;
+use dn_num::marks_of;
 
 /// The numbers of a line, in their order. A number that the line does not have is 0. A terminal counts as a number: 0
 /// for `s`, and 1 for `t`.
@@ -46,6 +47,14 @@ pub(crate) trait Count {
     // The count.
     ghost count: { ℕ };
 
+    // Reads this many short numbers that fit these fields, with one space between them and the line end after them.
+    // Returns none for other bytes, and for so few that short numbers cannot be read at once.
+    fn read_short<'a>(fields: &[Field], bytes: &'a [u8]) -> Option<RowBefore<'a>>
+        requires count { length fields.now ≡ count }
+        requires numeric { AreNumeric fields.now }
+        ensures numbers { IfSome result (λ r. HasNumbers count bytes.now r.row r.rest.now) }
+        ensures fit { IfSome result (λ r. FieldsFit fields.now (row_numbers count r.row)) };
+
     // Reads this many numbers that fit these fields, with blanks between them, and the LF after them.
     fn read<'a>(fields: &[Field], bytes: &'a [u8]) -> Option<RowBefore<'a>>
         requires count { length fields.now ≡ count }
@@ -61,6 +70,11 @@ impl Count for One {
     ghost count = { 1 };
 
     #[inline(always)]
+    fn read_short<'a>(_fields: &[Field], _bytes: &'a [u8]) -> Option<RowBefore<'a>> {
+        None
+    }
+
+    #[inline(always)]
     fn read<'a>(fields: &[Field], bytes: &'a [u8]) -> Option<RowBefore<'a>> {
         fitting(fields, one_number(bytes)?)
     }
@@ -71,6 +85,11 @@ pub(crate) struct Two;
 
 impl Count for Two {
     ghost count = { 2 };
+
+    #[inline(always)]
+    fn read_short<'a>(_fields: &[Field], _bytes: &'a [u8]) -> Option<RowBefore<'a>> {
+        None
+    }
 
     #[inline(always)]
     fn read<'a>(fields: &[Field], bytes: &'a [u8]) -> Option<RowBefore<'a>> {
@@ -85,12 +104,15 @@ impl Count for Three {
     ghost count = { 3 };
 
     #[inline(always)]
+    fn read_short<'a>(_fields: &[Field], bytes: &'a [u8]) -> Option<RowBefore<'a>> {
+        // A number of digits alone fits any field of a number.
+        let found = short_three(bytes)?;
+        Some(found)
+    }
+
+    #[inline(always)]
     fn read<'a>(fields: &[Field], bytes: &'a [u8]) -> Option<RowBefore<'a>> {
-        match short_three(bytes) {
-            // A number of digits alone fits any field of a number.
-            Some(found) => Some(found),
-            None => fitting(fields, any_three(bytes)?),
-        }
+        fitting(fields, any_three(bytes)?)
     }
 }
 
@@ -101,19 +123,50 @@ impl Count for Five {
     ghost count = { 5 };
 
     #[inline(always)]
-    fn read<'a>(fields: &[Field], bytes: &'a [u8]) -> Option<RowBefore<'a>> {
-        match short_five(bytes) {
-            Some(found) => fitting(fields, found),
-            None => fitting(fields, any_five(bytes)?),
-        }
+    fn read_short<'a>(fields: &[Field], bytes: &'a [u8]) -> Option<RowBefore<'a>> {
+        fitting(fields, short_five(bytes)?)
     }
+
+    #[inline(always)]
+    fn read<'a>(fields: &[Field], bytes: &'a [u8]) -> Option<RowBefore<'a>> {
+        fitting(fields, any_five(bytes)?)
+    }
+}
+
+// A letter, a space, and the bytes that three short numbers are read from.
+const SHORT_LINE: usize = 2 + SHORT_THREE;
+
+// Reads the line that begins these bytes, if it is this letter and short numbers that fit these fields, with one space
+// between them. Returns none for any other line, and for too few bytes.
+#[inline(always)]
+pub(crate) fn short_row<'a, N: Count>(
+    letter: u8,
+    fields: &[Field],
+    bytes: &'a [u8],
+) -> Option<RowBefore<'a>>
+    requires clear { is_clear letter ≡ true }
+    requires count { length fields.now ≡ N.count }
+    requires numeric { AreNumeric fields.now }
+    ensures { IfSome result (λ r. BeginsWithRow letter fields.now bytes.now r.row r.rest.now) }
+{
+    if bytes.len() < SHORT_LINE {
+        return None;
+    }
+    let [first, after_letter @ ..] = bytes else {
+        return None;
+    };
+    if letter != *first {
+        return None;
+    }
+    let found = N::read_short(fields, after_space(after_letter)?)?;
+    Some(found)
 }
 
 // Reads the line that begins these bytes, if it is plain: this letter and numbers that fit these fields, with blanks
 // between them, no number with a `+`, and an LF at its end. Returns none for any other line, whether or not that line
-// has a fault.
-#[inline(always)]
-pub(crate) fn read_row<'a, N: Count>(
+// has a fault. Within its caller it would take registers from the reading of short lines.
+#[inline(never)]
+pub(crate) fn any_row<'a, N: Count>(
     letter: u8,
     fields: &[Field],
     bytes: &'a [u8],
@@ -163,9 +216,9 @@ fn two_numbers(bytes: &[u8]) -> Option<RowBefore<'_>>
     })
 }
 
-// The greatest length of a line of three numbers of one to eight digits, with one byte for the blank after each of the
-// first two and two bytes for the line end. It is long enough to read eight bytes at each number.
-const SHORT_THREE: usize = 28;
+// How many bytes are marked at once. Three numbers of one to eight digits, with one byte for the blank after each of the
+// first two and two bytes for the line end, have at most 28. So eight bytes can be read at each number.
+const SHORT_THREE: usize = 32;
 
 // Reads three numbers of one to eight digits each, with one space between them and LF or CR LF after them. Returns none
 // for any other bytes, and for fewer bytes than `SHORT_THREE`.
@@ -177,9 +230,9 @@ fn short_three(bytes: &[u8]) -> Option<RowBefore<'_>>
     if bytes.len() < SHORT_THREE {
         return None;
     }
-    let first = short_before(bytes)?;
-    let second = short_before(first.rest)?;
-    let third = short_front(second.rest)?;
+    let first = marked_before(bytes, marks_of(bytes))?;
+    let second = marked_before(first.rest, first.marks)?;
+    let third = marked_front(second.rest, second.marks)?;
     Some(RowBefore {
         row: Row {
             first: first.number,

@@ -6,7 +6,7 @@ ghost use Rattle.dn_line.specs.State.Rows.{AreNumeric, HasFields};
 
 use crate::kind::Kind;
 use crate::line_table::number_fields;
-use crate::row::{Count, Five, NO_ROW, One, Row, Three, Two, read_row};
+use crate::row::{Count, Five, NO_ROW, One, Row, Three, Two, any_row, short_row};
 use crate::word::Field;
 use std::marker::Model;
 
@@ -110,8 +110,12 @@ fn fill<N: Count>(
     let mut rest = bytes;
     let end = most.min(BLOCK);
     for i in 0..end {
-        let Some(next) = read_row::<N>(letter, fields, rest) else {
-            return i;
+        let next = match short_row::<N>(letter, fields, rest) {
+            Some(next) => next,
+            None => match any_row::<N>(letter, fields, rest) {
+                Some(next) => next,
+                None => return i,
+            },
         };
         rest = next.rest;
         rows[i] = RowLine {

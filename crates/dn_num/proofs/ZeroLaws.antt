@@ -12,7 +12,7 @@ even_step k n =
     let q : 2 * n / 2 ≡ n = omega arith in
     rw (p, q)
 
-odd_step : (k n : ℕ) → n % 2 ≡ 1 → count_trailing_zeros (suc k) n ≡ 0
+pub odd_step : (k n : ℕ) → n % 2 ≡ 1 → count_trailing_zeros (suc k) n ≡ 0
 unfolding count_trailing_zeros
 odd_step k n p = rw p
 
@@ -20,7 +20,7 @@ doubled : (j n : ℕ) → 2 ^ suc j * n ≡ 2 * (2 ^ j * n)
 doubled j n = rw (pow-suc 2 j) (omega arith)
 
 -- multiplying by 2^j adds j trailing zeros
-shifted : (j k n : ℕ) → count_trailing_zeros (j + k) (2 ^ j * n) ≡ j + count_trailing_zeros k n
+pub shifted : (j k n : ℕ) → count_trailing_zeros (j + k) (2 ^ j * n) ≡ j + count_trailing_zeros k n
 shifted zero k n =
     let p : zero + k ≡ k = omega arith in
     let q : 2 ^ zero * n ≡ n = omega arith in

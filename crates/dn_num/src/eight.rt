@@ -1,52 +1,45 @@
-// Splits a number below 10^8 into its eight digits, one in each byte of a word, the first digit in the lowest byte.
-ghost use Rattle.std.specs.Prelude.{◌≡◌, [], ◌∷◌, ◌/◌, ◌%◌, ◌<◌};
-ghost use Rattle.std.specs.Simd.Lanes.{number_l};
-ghost use Rattle.dn_num.specs.State.Digits.{eight_digits, zeros_before, codes_of};
-ghost use Rattle.dn_num.specs.State.Lanes.{OfDigits, OfFours, OfPairs, parted};
+// The digits of a number below 10^8, one in each byte of a word, the first digit in the lowest byte.
+ghost use Rattle.std.specs.Prelude.{◌≡◌, ℕ, List, ◌+◌, ◌<◌, ◌≤◌, length};
+ghost use Rattle.std.specs.Simd.Lanes.{Each1, chunk, number_l};
+ghost use Rattle.dn_num.specs.State.Digits.{four_digits, eight_digits, zeros_before, codes_of};
+ghost use Rattle.dn_num.specs.State.Lanes.{OfDigits};
 
-// Each factor is subtracted once for each unit of the quotient. This leaves the quotient in the lower half of a lane
-// and the remainder in the upper half.
-const FOURS: u64 = (10_000 << 32) - 1;
+use crate::fours::FOURS;
 
-const PAIRS: u64 = (100 << 16) - 1;
-
-const DIGITS: u64 = (10 << 8) - 1;
-
-// Splits a number into its first four digits and its last four.
+// Returns the next four bytes as a word, the first byte in the lowest lane.
 #[inline(always)]
-fn fours(number: u32) -> u64
+fn word_at(bytes: &[u8], at: usize) -> u32
+    requires { at + 4 ≤ length bytes.now }
+    ensures { result ≡ number_l 256 (chunk at 4 bytes.now) }
+{
+    u32::from_le_bytes([bytes[at], bytes[at + 1], bytes[at + 2], bytes[at + 3]])
+}
+
+// Returns the character codes of the four digits of a number.
+#[inline(always)]
+fn four(number: u32) -> u32
+    requires { number < 10000 }
+    ensures { result ≡ number_l 256 (codes_of (four_digits number)) }
+{
+    word_at(&FOURS, number as usize * 4)
+}
+
+// Returns the character codes of the eight digits of a number, with leading zeros.
+#[inline(always)]
+pub(crate) fn codes(number: u32) -> u64
     requires { number < 100000000 }
-    ensures { result ≡ number_l 4294967296 ((number / 10000) ∷ (number % 10000) ∷ []) }
+    ensures { result ≡ number_l 256 (codes_of (eight_digits number)) }
 {
-    let number = u64::from(number);
-    (number << 32) - number / 10_000 * FOURS
+    u64::from(four(number / 10_000)) + (u64::from(four(number % 10_000)) << 32)
 }
 
-// Splits each four digits into two pairs. The factor 10486 / 2^20 replaces 1 / 100, and is exact enough below 10000.
+// Returns the values of eight digits, given their character codes.
 #[inline(always)]
-fn pairs(word: u64) -> u64
-    ensures { OfFours word (λ fours. result ≡ number_l 65536 (parted 100 fours)) }
+pub(crate) fn digits(codes: u64) -> u64
+    ensures { (ds : List ℕ) → length ds ≡ 8 → Each1 (λ d. d < 10) ds → codes ≡ number_l 256 (codes_of ds)
+        → result ≡ number_l 256 ds }
 {
-    let high = (word.wrapping_mul(10_486) >> 20) & 0x0000_007F_0000_007F;
-    (word << 16).wrapping_sub(high.wrapping_mul(PAIRS))
-}
-
-// Splits each pair into two digits. The factor 103 / 2^10 replaces 1 / 10, and is exact enough below 100.
-#[inline(always)]
-fn digits(word: u64) -> u64
-    ensures { OfPairs word (λ pairs. result ≡ number_l 256 (parted 10 pairs)) }
-{
-    let high = (word.wrapping_mul(103) >> 10) & 0x000F_000F_000F_000F;
-    (word << 8).wrapping_sub(high.wrapping_mul(DIGITS))
-}
-
-// Returns the eight digits of a number, with leading zeros.
-#[inline(always)]
-pub(crate) fn eight(number: u32) -> u64
-    requires { number < 100000000 }
-    ensures { result ≡ number_l 256 (eight_digits number) }
-{
-    digits(pairs(fours(number)))
+    codes.wrapping_sub(0x3030_3030_3030_3030)
 }
 
 // Counts the leading zeros of eight digits. The last digit does not count as a leading zero.
@@ -55,12 +48,4 @@ pub(crate) fn zeros(word: u64) -> u32
     ensures { OfDigits word (λ digits. result ≡ zeros_before digits) }
 {
     word.wrapping_add(1 << 56).trailing_zeros() / 8
-}
-
-// Returns the character codes of eight digits.
-#[inline(always)]
-pub(crate) fn codes(word: u64) -> u64
-    ensures { OfDigits word (λ digits. result ≡ number_l 256 (codes_of digits)) }
-{
-    word.wrapping_add(0x3030_3030_3030_3030)
 }

@@ -4,7 +4,7 @@ ghost use Rattle.std.specs.Fmt.{decimal, signed_decimal};
 ghost use Rattle.std.specs.Simd.Lanes.{Each1, number_l};
 ghost use Rattle.dn_num.specs.State.Digits.{codes_of, eight_digits};
 
-use crate::eight::{codes, eight, zeros};
+use crate::eight::{codes, digits, zeros};
 use std::simd::prelude::*;
 
 // The least number of more than eight digits.
@@ -31,9 +31,9 @@ fn put_short(bytes: &mut [u8], at: usize, number: u32) -> usize
     ensures end { result ≡ at + length (decimal number) }
     ensures within { result ≤ at + 8 }
 {
-    let digits = eight(number);
-    let zeros = zeros(digits);
-    put_word(bytes, at, codes(digits) >> (8 * zeros));
+    let codes = codes(number);
+    let zeros = zeros(digits(codes));
+    put_word(bytes, at, codes >> (8 * zeros));
     at + 8 - zeros as usize
 }
 
@@ -45,7 +45,7 @@ fn put_eight(bytes: &mut [u8], at: usize, number: u32) -> usize
     ensures text { take result bytes.new ≡ take at bytes.old ++ codes_of (eight_digits number) }
     ensures end { result ≡ at + 8 }
 {
-    put_word(bytes, at, codes(eight(number)));
+    put_word(bytes, at, codes(number));
     at + 8
 }
 

@@ -35,7 +35,7 @@ fn word_at(bytes: &[u8], at: usize) -> u64
 
 // Returns the first `n` of the next eight bytes in the highest lanes of a word. The lower lanes are 0.
 #[inline(always)]
-fn word_of(bytes: &[u8], at: usize, n: usize) -> u64
+pub(crate) fn word_of(bytes: &[u8], at: usize, n: usize) -> u64
     requires room { at + 8 ≤ length bytes.now }
     requires some { 0 < n }
     requires most { n ≤ 8 }

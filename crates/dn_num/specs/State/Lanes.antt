@@ -1,6 +1,6 @@
 -- The number that a list of digit values represents, the values in the lanes of a word, and the short number at a
 -- position.
-use Rattle.std.specs.Prelude.{◌≡◌, ℕ, ◌+◌, ◌*◌, ◌/◌, ◌%◌, ◌^◌, ◌<◌, pos, List, [], ◌∷◌, length, drop, take, Ok}
+use Rattle.std.specs.Prelude.{◌≡◌, ℕ, ◌+◌, ◌*◌, ◌^◌, ◌<◌, pos, List, [], ◌∷◌, length, drop, take, Ok}
 use Rattle.std.specs.Simd.Lanes.{Each1, number_l}
 use Rattle.dn_num.specs.Number.{number_read}
 use Rattle.dn_num.specs.declared.short.Short.{Short}
@@ -14,15 +14,6 @@ places (d ∷ ds) = d * 10 ^ length ds + places ds
 abbrev pub joined : ℕ → List ℕ → List ℕ
 joined base (a ∷ b ∷ xs) = (a * base + b) ∷ joined base xs
 joined base _ = []
-
--- each value parted into two, of which the first counts as much as `base` of the second
-abbrev pub parted : ℕ → List ℕ → List ℕ
-parted base [] = []
-parted base (x ∷ xs) = (x / base) ∷ (x % base) ∷ parted base xs
-
--- this holds of any two values below 10000 in the halves of a word
-abbrev pub OfFours : ℕ → (List ℕ → Type 0) → Type 0
-OfFours word P = (a b : ℕ) → a < 10000 → b < 10000 → word ≡ number_l 4294967296 (a ∷ b ∷ []) → P (a ∷ b ∷ [])
 
 -- this holds of any four values below 100 in the quarters of a word
 abbrev pub OfPairs : ℕ → (List ℕ → Type 0) → Type 0

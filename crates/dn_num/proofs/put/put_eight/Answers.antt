@@ -8,4 +8,4 @@ returns-clause-text c =
     let small = eight_small c.args.number c.requires.few in
     c.put_word.ensures (codes_of (eight_digits c.args.number)) (omega arith)
     (codes_small (eight_digits c.args.number) small)
-    (c.codes.ensures _ _ _ _ _ _ _ _ small c.eight.ensures)
+    c.codes.ensures

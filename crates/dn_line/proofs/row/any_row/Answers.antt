@@ -1,6 +1,6 @@
 use Rattle.std.proofs.Common.{arith}
 use Rattle.dn_line.proofs.RowLaws.{row_front}
-use Rattle.dn_line.proofs.row.read_row.Goals as goal
+use Rattle.dn_line.proofs.row.any_row.Goals as goal
 
 pub returns : goal.returns
 returns g c =
