@@ -36,7 +36,8 @@ module _ {B A : Type 0} (lists : B → List A) (e : (ℤ × ℤ) × B) (table : 
   )
 
   -- if the pair has another arc, that is the next one
-  pub goes_on : (last : Option A) (x : A) → IsLeft lists (e ∷ table) last left → IsNextArc (lists e.1) last (Some x) → Goes x
+  pub goes_on : (last : Option A) (x : A) → IsLeft lists (e ∷ table) last left → IsNextArc (lists e.1) last (Some x) →
+      Goes x
   goes_on None x h next = goes_from 0 x next h
   goes_on (Some y) x h next = goes_from (h.0 + 1) x (next h.0 h.1) h.2
 
@@ -93,12 +94,14 @@ module _ {B A : Type 0} (numbers : A → List ℤ) (lists : B → List A) (arc :
             let left = h.0 in
             let got = f left (rw was h.1) in
             let row = λ (x : (ℤ × ℤ) × A). row_of x.0 (numbers x.1) in
-            let same : rows_by numbers (take room left) ≡ take room rows = sym (take-map row room left) ∙ ap (take room) (sym h.2) in (
+            let same : rows_by numbers (take room left) ≡ take room rows = sym (take-map row room left) ∙ ap (take room)
+            (sym h.2) in (
               subst Has same got.0,
               got.1 ∙ sym (length-map (take room left) row) ∙ ap length same,
               (
                 drop n left,
-                subst (λ k. IsLeft lists (drop k table) (last_before arc (place_after numbers next taken)) (drop n left))
+                subst (λ k. IsLeft lists (drop k table) (last_before arc (place_after numbers next taken))
+                    (drop n left))
                     (sym (pairs_back next taken))
                     (subst (λ t. IsLeft lists (drop next table) t (drop n left)) (sym (last_back next taken)) got.2),
                 ap (drop n) h.2 ∙ drop-map row n left,

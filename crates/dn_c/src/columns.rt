@@ -97,8 +97,8 @@ fn put_columns<B: Bundle>(
     (room, (spot, taken))
 }
 
-/// Copies at most `room` canonical arcs of a table after the place by columns, and moves the place behind them. A column
-/// with less room has its part of the first of them. Returns how many it copied.
+/// Copies at most `room` canonical arcs of a table after the place by columns, and moves the place behind them. A
+/// column with less room has its part of the first of them. Returns how many it copied.
 pub(crate) fn put_next_columns<B: Kept>(
     table: &Table<B>,
     form: Form,

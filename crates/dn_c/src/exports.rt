@@ -208,8 +208,8 @@ fn next_in(handle: &Shown, form: u8, place: &mut Place, out: &mut [Arc]) -> Coun
 }
 
 /// Copies the canonical arcs of the instance in a form (1 or 2) after the place by columns, as many as the longest
-/// column has room for, and moves the place behind them. A shorter column has its part of the first of them. Returns how
-/// many it copied. Where it copied fewer than there was room for, none are left.
+/// column has room for, and moves the place behind them. A shorter column has its part of the first of them. Returns
+/// how many it copied. Where it copied fewer than there was room for, none are left.
 ///
 /// # Errors
 ///
@@ -403,7 +403,8 @@ pub unsafe extern "C" fn dnorm_compare(left: *const u8, right: *const u8) -> Dif
 
 // Returns where two instances first differ.
 fn compare_in(left: &Shown, right: &Shown) -> Difference
-    ensures { BothHold (λ l r. ComparesWorks l r result) (IsNotBoth result) (shown_work left.now) (shown_work right.now) }
+    ensures { BothHold (λ l r. ComparesWorks l r result) (IsNotBoth result) (shown_work left.now)
+        (shown_work right.now) }
 {
     match (left.get(), right.get()) {
         (Some(l), Some(r)) => parting(l, r),

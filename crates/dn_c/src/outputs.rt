@@ -156,8 +156,8 @@ fn count_if(count: Option<u64>) -> Count
     }
 }
 
-/// Copies the name of what the work holds, as far as there is room: that of a refusal, also of a reader that has refused
-/// its text, or that of an instance's kind. Returns how many bytes it copied.
+/// Copies the name of what the work holds, as far as there is room: that of a refusal, also of a reader that has
+/// refused its text, or that of an instance's kind. Returns how many bytes it copied.
 pub fn name(work: &Work, out: &mut [u8]) -> Count
     ensures copies { CopiesName work.now out.old out.new result }
     ensures fits { result.count ≤ length out.new }

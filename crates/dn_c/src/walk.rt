@@ -15,8 +15,8 @@ fn next_arc<B: Bundle>(bundle: &B, last: &Option<B::Arc>, form: Form) -> Option<
     }
 }
 
-// Returns the canonical arc of a table after the last one that was taken, with its pair and the index of that, or `None`
-// after the last of all. The last one is of the pair at `index`; if none of that pair was taken, there is none.
+// Returns the canonical arc of a table after the last one that was taken, with its pair and the index of that, or
+// `None` after the last of all. The last one is of the pair at `index`; if none of that pair was taken, there is none.
 pub(crate) fn step<B: Bundle>(
     table: &Table<B>,
     form: Form,

@@ -8,7 +8,8 @@ use Rattle.dn_num.specs.declared.fours.TheConstants.{FOURS}
 -- these bytes are the digits of i, of the next number and so on, four of each
 abbrev are_fours : ℕ → List ℕ → Bool
 are_fours i (a ∷ b ∷ c ∷ d ∷ xs) =
-    ((eqb a (i / 100 / 10 + 48) && eqb b (i / 100 % 10 + 48)) && (eqb c (i % 100 / 10 + 48) && eqb d (i % 100 % 10 + 48)))
+    ((eqb a (i / 100 / 10 + 48) && eqb b (i / 100 % 10 + 48)) &&
+    (eqb c (i % 100 / 10 + 48) && eqb d (i % 100 % 10 + 48)))
     && are_fours (suc i) xs
 are_fours i _ = true
 

@@ -32,7 +32,8 @@ others (x ∷ xs) h = (let e = h.0 in grind (arith, nat_tests), others xs h.1)
 
 -- the mask that is computed of these bytes
 abbrev pub mask : List ℕ → ℕ
-mask xs = mask_l (map (top 7) (zip2 (λ a b. cond (ltb a b) 255 0) (replicate 32 9) (zip2 (λ a b. (a + (256 - b)) % 256) xs (replicate 32 48)))) % 2 ^ 64
+mask xs = mask_l (map (top 7) (zip2 (λ a b. cond (ltb a b) 255 0) (replicate 32 9)
+    (zip2 (λ a b. (a + (256 - b)) % 256) xs (replicate 32 48)))) % 2 ^ 64
 
 pub others_mask : (xs : List ℕ) → length xs ≡ 32 → Each1 (λ x. x < 256) xs → mask xs ≡ mask_l (map is_other xs)
 others_mask xs h small =
@@ -40,19 +41,24 @@ others_mask xs h small =
     let long : length ds ≡ 32 = length-map xs (λ x. (x + 208) % 256) ∙ h in
     let f : ℕ → ℕ → ℕ = λ a b. cond (ltb a b) 255 0 in
     let g : ℕ → ℕ → ℕ = λ a b. cond (ltb b a) 255 0 in
-    rw (zip2_splat (λ a b. (a + (256 - b)) % 256) xs 32 48 h, zip2_splat_left f 9 32 ds long, ← zip2_splat g ds 32 9 long)
+    rw (
+      zip2_splat (λ a b. (a + (256 - b)) % 256) xs 32 48 h,
+      zip2_splat_left f 9 32 ds long,
+      ← zip2_splat g ds 32 9 long,
+    )
     (bitmask_splat w8 (λ a b. ltb b a) ds 32 9 long (omega arith)
     ∙ ap mask_l (map-map (λ x. ltb 9 x) (λ x. (x + 208) % 256) xs)
     ∙ ap mask_l (same_map (λ x. ltb 9 ((x + 208) % 256)) is_other xs (others xs small)))
 
 -- ---- the first number in a mask
 
--- if all bytes are digits, their mask is 0. Else its lowest bit is that of the byte after the first digits, and the bits
--- of the following bytes come after it
+-- if all bytes are digits, their mask is 0. Else its lowest bit is that of the byte after the first digits, and the
+-- bits of the following bytes come after it
 pub data Front (xs : List ℕ) : Type 0 where
   None : mask_l (map is_other xs) ≡ 0 → Front xs
   Ends : prefix_len is_digit xs < length xs
-      → mask_l (map is_other xs) ≡ 2 ^ prefix_len is_digit xs * (1 + 2 * mask_l (map is_other (drop (prefix_len is_digit xs + 1) xs)))
+      → mask_l (map is_other xs) ≡ 2 ^ prefix_len is_digit xs *
+      (1 + 2 * mask_l (map is_other (drop (prefix_len is_digit xs + 1) xs)))
       → Front xs
 
 -- one more digit in front
@@ -89,7 +95,8 @@ zeros_at j r h =
     let k : ℕ = 63 - j in
     let e : j + suc k ≡ 64 = omega arith in
     let odd : count_trailing_zeros (suc k) (1 + 2 * r) ≡ 0 = odd_step k (1 + 2 * r) (omega arith) in
-    let all : count_trailing_zeros (j + suc k) (2 ^ j * (1 + 2 * r)) ≡ j = omega (arith, shifted j (suc k) (1 + 2 * r), odd) in
+    let all : count_trailing_zeros (j + suc k) (2 ^ j * (1 + 2 * r)) ≡ j =
+    omega (arith, shifted j (suc k) (1 + 2 * r), odd) in
     rw e at all
 
 take_nil : (k : ℕ) → take {A = ℕ} k [] ≡ []
@@ -111,7 +118,8 @@ length_take (suc k) (x ∷ xs) = omega (arith, length_take k xs)
 pub marks_are : (bytes : List ℕ) → 32 ≤ length bytes → ((k : ℕ) → Fits w8 (get_or bytes k 0))
     → mask (take 32 bytes) ≡ 2 ^ 0 * mask_l (map is_other (take (32 - 0) bytes))
 marks_are bytes h fit =
-    others_mask (take 32 bytes) (length-chunk 0 32 bytes h) (below_from_Fits w8 (take 32 bytes) (chunk-fits w8 0 32 bytes fit))
+    others_mask (take 32 bytes) (length-chunk 0 32 bytes h)
+    (below_from_Fits w8 (take 32 bytes) (chunk-fits w8 0 32 bytes fit))
     ∙ omega arith
 
 -- what holds if the lowest bit of a mask is this many places above the first

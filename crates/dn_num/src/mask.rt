@@ -41,8 +41,8 @@ pub fn marks_of(bytes: &[u8]) -> Marks
     }
 }
 
-/// Returns the number that the digits at the beginning of marked bytes spell. Returns none if there is no digit, if there
-/// are more than eight, and if no marked byte follows them.
+/// Returns the number that the digits at the beginning of marked bytes spell. Returns none if there is no digit, if
+/// there are more than eight, and if no marked byte follows them.
 #[inline(always)]
 pub fn marked_number(bytes: &[u8], marks: Marks) -> Option<Marked>
     requires marks { AreMarks bytes.now marks }

@@ -30,6 +30,7 @@ abbrev pub longest : List ℤ → List ℤ → List ℤ → List ℤ → List �
 longest tails heads a b c = max (max (max (max (length tails) (length heads)) (length a)) (length b)) (length c)
 
 -- no column has changed
-abbrev pub SameColumns : List ℤ → List ℤ → List ℤ → List ℤ → List ℤ → List ℤ → List ℤ → List ℤ → List ℤ → List ℤ → Type 0
+abbrev pub SameColumns : List ℤ → List ℤ → List ℤ → List ℤ → List ℤ → List ℤ → List ℤ → List ℤ → List ℤ → List ℤ
+    → Type 0
 SameColumns tails heads a b c tails' heads' a' b' c' =
     (tails' ≡ tails) × (heads' ≡ heads) × (a' ≡ a) × (b' ≡ b) × (c' ≡ c)

@@ -18,7 +18,8 @@ IsValue None v = v ≡ record { known = false; high = pos 0; low = 0 }
 IsValue (Some n) v = (v.known ≡ true) × (v.high *ℤ pos (2 ^ 64) +ℤ pos v.low ≡ n)
 
 -- a difference of this sort, at a node or an ordered pair, or at an item, or from an amount on, with these values
-pub record TellsVerdict (what : ℕ) (at to : ℤ) (index : ℕ) (amount : ℤ) (left right : Option ℤ) (d : Difference) : Type 0 where
+pub record TellsVerdict (what : ℕ) (at to : ℤ) (index : ℕ) (amount : ℤ) (left right : Option ℤ) (d : Difference)
+    : Type 0 where
   pub what_is : d.what ≡ what
   pub at_is : d.at ≡ at
   pub to_is : d.to ≡ to

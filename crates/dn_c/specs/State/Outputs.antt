@@ -36,8 +36,8 @@ form_numbered n = cond (nat_eq n 2) Two One
 abbrev pub CopiesNone : Place → Place → Type 0 → Count → Type 0
 CopiesNone old new Same result = (result ≡ wrong_count) × (new ≡ old) × Same
 
--- canonical arcs of a graph in this form are copied from the old place on, and the new place is behind them; a companion
--- has no arcs, so the handle is not for the call
+-- canonical arcs of a graph in this form are copied from the old place on, and the new place is behind them; a
+-- companion has no arcs, so the handle is not for the call
 abbrev pub CopiesGraph : Form → Contents → Place → Place → ℕ → (List Arc → Type 0) → Type 0 → Count → Type 0
 CopiesGraph form (OfMin flows table) old new room Has Same result =
     CopiesFrom (λ (a : CostArc). a.low ∷ a.cap ∷ a.cost ∷ []) (curve_arcs form) cost_at table old new room Has result
@@ -107,14 +107,15 @@ CopiesName _ old new result = IsIdle old new result
 abbrev pub HasText : Parsed → Form → Result (Vec ℕ) Refusal → Type 0
 HasText held form made = OfHeld held (λ I. TextOutcome (λ (v : Vec ℕ). v.items) form I made)
 
--- what making a canonical text does to the handle for it, which holds the text if it held nothing before; memory can run
--- out only for an instance
+-- what making a canonical text does to the handle for it, which holds the text if it held nothing before; memory can
+-- run out only for an instance
 abbrev pub PrintsInto : Work → ℕ → Option Work → Option Work → Status → Type 0
 PrintsInto work form (Some was) new status = (new ≡ Some was) × (status ≡ wrong_call)
 PrintsInto (Works.Read held _) form None new status =
     ((text : Vec ℕ) × (new ≡ Some (Works.Text text)) × (status ≡ fine) × HasText held (form_numbered form) (Ok text))
     ⊎ ((new ≡ None)
-    × (((e : Refusal) × (status ≡ refused_with e) × HasText held (form_numbered form) (Err e)) ⊎ (status ≡ refused_with Memory)))
+    × (((e : Refusal) × (status ≡ refused_with e) × HasText held (form_numbered form) (Err e))
+    ⊎ (status ≡ refused_with Memory)))
 PrintsInto work form None new status = (new ≡ None) × (status ≡ wrong_call)
 
 -- the same of the instance that another handle holds, if it holds one

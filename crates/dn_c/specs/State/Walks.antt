@@ -17,10 +17,12 @@ abbrev pub IsLeft : {B A : Type 0} → (B → List A) → List ((ℤ × ℤ) × 
 IsLeft lists table None left = left ≡ listed_arcs lists table
 IsLeft lists [] (Some x) left = ⊥
 IsLeft {A = A} lists (e ∷ table) (Some x) left =
-    (i : ℕ) × (slice_get (lists e.1) i ≡ Some x) × (left ≡ placed e.0 (drop (i + 1) (lists e.1)) ++ listed_arcs lists table)
+    (i : ℕ) × (slice_get (lists e.1) i ≡ Some x)
+    × (left ≡ placed e.0 (drop (i + 1) (lists e.1)) ++ listed_arcs lists table)
 
 -- the arc is the first of those that are left, and the others are left after it; or none is left
-abbrev pub StepsArc : {B A : Type 0} → (B → List A) → List ((ℤ × ℤ) × B) → ℕ → Option A → Option (ℕ × ((ℤ × ℤ) × A)) → Type 0
+abbrev pub StepsArc : {B A : Type 0} → (B → List A) → List ((ℤ × ℤ) × B) → ℕ → Option A
+    → Option (ℕ × ((ℤ × ℤ) × A)) → Type 0
 StepsArc {A = A} lists table index last result =
     (left : List ((ℤ × ℤ) × A)) → IsLeft lists (drop index table) last left
     → MatchOption result (left ≡ [])

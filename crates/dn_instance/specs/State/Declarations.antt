@@ -1,5 +1,5 @@
--- What the problem line of a text declares (DIMACS First and Ninth Challenge formats: `p KIND NODES ARCS`; the companions
--- of the Ninth: `p aux KIND .. K`).
+-- What the problem line of a text declares (DIMACS First and Ninth Challenge formats: `p KIND NODES ARCS`; the
+-- companions of the Ninth: `p aux KIND .. K`).
 use Rattle.std.specs.Prelude.{List, Option}
 use Rattle.std.specs.Option.{option_map}
 use Rattle.dn_line.specs.declared.line.Line.{Line}

@@ -14,7 +14,8 @@ returns-in-None-clause-fills g c left h =
     let at = c.loop-at.at in
     let none = no_more left at (c.in-None.ensures (drop at left) inv.2) in
     let all = take_all at left none ∙ sym (take_all c.args.room left (omega (arith, none, c.loop-at-test.true))) in (
-      subst (λ l. HasColumns c.loop-at.tails c.loop-at.heads c.loop-at.a c.loop-at.b c.loop-at.c (rows_by numbers l)) all inv.0,
+      subst (λ l. HasColumns c.loop-at.tails c.loop-at.heads c.loop-at.a c.loop-at.b c.loop-at.c (rows_by numbers l))
+          all inv.0,
       sym (length-take-le at left inv.1) ∙ ap length all,
       inv.2,
     )
@@ -35,12 +36,17 @@ loop-at-preserved g c = record {
       ∙ ap (rows_by numbers) (sym more.0) in (
         (
           subst (λ l. HasColumn (field_of Tail) l c.put.new.out) rows (c.put.ensures.has done long inv.0.0),
-          subst (λ l. HasColumn (field_of Head) l c.put-in-Some.new.out) rows (c.put-in-Some.ensures.has done long inv.0.1),
-          subst (λ l. HasColumn (field_of A) l c.put-in-Some-2.new.out) rows (c.put-in-Some-2.ensures.has done long inv.0.2),
-          subst (λ l. HasColumn (field_of B) l c.put-in-Some-3.new.out) rows (c.put-in-Some-3.ensures.has done long inv.0.3),
-          subst (λ l. HasColumn (field_of C) l c.put-in-Some-4.new.out) rows (c.put-in-Some-4.ensures.has done long inv.0.4),
+          subst (λ l. HasColumn (field_of Head) l c.put-in-Some.new.out) rows
+              (c.put-in-Some.ensures.has done long inv.0.1),
+          subst (λ l. HasColumn (field_of A) l c.put-in-Some-2.new.out) rows
+              (c.put-in-Some-2.ensures.has done long inv.0.2),
+          subst (λ l. HasColumn (field_of B) l c.put-in-Some-3.new.out) rows
+              (c.put-in-Some-3.ensures.has done long inv.0.3),
+          subst (λ l. HasColumn (field_of C) l c.put-in-Some-4.new.out) rows
+              (c.put-in-Some-4.ensures.has done long inv.0.4),
         ),
         more.2,
-        subst (λ l. IsLeft lists (drop c.in-Some.found.0 c.args.table.now) (Some c.in-Some.found.1.1) l) (sym more.1) went.2,
+        subst (λ l. IsLeft lists (drop c.in-Some.found.0 c.args.table.now) (Some c.in-Some.found.1.1) l) (sym more.1)
+            went.2,
       );
 }

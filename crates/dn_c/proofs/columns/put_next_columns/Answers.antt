@@ -10,7 +10,9 @@ returns-clause-copies g c =
     copies_from g.B.Arc.Parts.numbers (g.B.Bundle.bundle.listed c.args.form) g.B.Kept.arc_at
     (λ index x. subst (λ l. g.B.Kept.arc_at (place_with index l) ≡ x) (g.met.B.Bundle.same_numbers x)
     (g.met.B.Kept.keeps index x))
-    c.args.table.now c.args.place.now c.place_after.result c.args.room (HasColumns c.put_columns-put.new.tails c.put_columns-put.new.heads c.put_columns-put.new.a
+    c.args.table.now c.args.place.now c.place_after.result c.args.room
+    (HasColumns c.put_columns-put.new.tails c.put_columns-put.new.heads c.put_columns-put.new.a
     c.put_columns-put.new.b c.put_columns-put.new.c)
-    put.result.0 put.result.1.0 c.last_before-last.result put.result.1.1 c.fine_count.result c.last_before-last.ensures c.place_after.ensures
+    put.result.0 put.result.1.0 c.last_before-last.result put.result.1.1 c.fine_count.result c.last_before-last.ensures
+    c.place_after.ensures
     c.fine_count.ensures put.ensures.fills

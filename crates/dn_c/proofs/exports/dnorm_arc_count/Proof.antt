@@ -30,8 +30,10 @@ pub dnorm_arc_count_spec : {M : Type 1} → statement M
 dnorm_arc_count_spec 𝓤 𝓛 𝓜 𝓡 wired =
     let c = f.clauses 𝓛 𝓜.mem 𝓡.returns in let W = walk_of 𝓛 f.ended stayed c in let 𝓣 = tables 𝓤 𝓛.H 𝓜 𝓡 𝓡.env in
     let G = triple_of 𝓛 g.signature (g.spec 𝓛 𝓜.mem 𝓡.returns) in
-    proved 𝓛 f.ended stayed c 𝓜 𝓡
-    (Goes-dropped 𝓛 0 (plain (λ _. RawPtr)) yes (λ κs x w. refl), (Goes-dropped 𝓛 0 (plain (λ _. u8)) yes (λ κs x w. refl), tt))
+    proved 𝓛 f.ended stayed c 𝓜 𝓡 (
+      Goes-dropped 𝓛 0 (plain (λ _. RawPtr)) yes (λ κs x w. refl),
+      (Goes-dropped 𝓛 0 (plain (λ _. u8)) yes (λ κs x w. refl), tt),
+    )
     f.Key.name code.function (code.unfolded 𝓤 𝓛.H 𝓜 𝓡 wired)
     (λ κs. (rawptr_vals, (uint_vals w8, tt)))
     (λ κs. (rawptr_Tells, (uint_Tells w8, tt))) (λ κs qs bounds a n are.
@@ -39,27 +41,36 @@ dnorm_arc_count_spec 𝓤 𝓛 𝓜 𝓡 wired =
     let form : ℕ = a.1.0 in let low-form : form < 2 ^ 8 = are.1.0.1 in
     let y : Ptr → W.Ghost = λ p. ((κs, qs, bounds, (p, (form, tt)), (rawptr_vals p, (vint w8 form ∷ [], tt))), n) in
     qed 𝓛 ((‵ ftrue ⊛ (‵ (RawPtr.own_val a.0 (rawptr_vals a.0)) ⊛ ‵ (u8.own_val form (vint w8 form ∷ [])) ⊛ ‵ ftrue)) ∷
-    ‵ (fsep (lent_at Row a.0 h κ) (flft κ q)) ∷ []) ∵ split ! $ drop ! $ split ! $ drop ! $ split ! $ drop ! $ drop ! $ fsplit ! $
+    ‵ (fsep (lent_at Row a.0 h κ) (flft κ q)) ∷ []) ∵ split ! $ drop ! $ split ! $ drop ! $ split ! $ drop ! $ drop ! $
+    fsplit ! $
     -- [the loan; its token; the borrowed parameters and then their tokens, each from the last to the first]
-    in_a_block ! a.0 (λ p. lent_at Row p h κ) (fst∗ 𝓤 (never 𝓤) (sem 𝓛 (shared_of Row h (block_of null_ptr) (count_of null_ptr) κ))) (λ b o e.
-    regoal ! (λ p. prop (WpFn 𝓤 𝓛.H 𝓣.C 𝓣.Λ code.function (rawptr_vals p ++ (vint w8 form ∷ [])) (W.post (y p)))) e refl $
+    in_a_block ! a.0 (λ p. lent_at Row p h κ) (fst∗ 𝓤 (never 𝓤)
+    (sem 𝓛 (shared_of Row h (block_of null_ptr) (count_of null_ptr) κ))) (λ b o e.
+    regoal ! (λ p. prop (WpFn 𝓤 𝓛.H 𝓣.C 𝓣.Λ code.function (rawptr_vals p ++ (vint w8 form ∷ [])) (W.post (y p)))) e
+    refl $
     fsplit ! $ drop ! $ hide ! $
     enter ! _ _ _ _ _ $ alloc_all ! (λ l. pass_all ! refl ((tt, tt), ((tt, record { fits = low-form }), tt)) $
     sets ! (of_opd ! (get ! refl)) refl (tt, tt) $
     sets ! (addr ! (through ! refl (stop !))) refl (tt, tt) $
-    feq_i ! (List Val) (vptr b o ∷ []) (vptr b o ∷ []) refl $ fjoin ! $ nothing ! $ owned ! u8 (Is u8) (uint_Makes 𝓛 w8) form (vint w8 form ∷ []) (refl, low-form) $ fjoin ! $ move ! (1 ∷ 0 ∷ []) $ fjoin ! $
+    feq_i ! (List Val) (vptr b o ∷ []) (vptr b o ∷ []) refl $ fjoin ! $ nothing ! $
+    owned ! u8 (Is u8) (uint_Makes 𝓛 w8) form (vint w8 form ∷ []) (refl, low-form) $ fjoin ! $ move ! (1 ∷ 0 ∷ []) $
+    fjoin ! $
     -- [all parameters; the token of the loan; the other tokens; the locals]
     nothing ! $ move ! (2 ∷ 0 ∷ []) $ join ! $ join ! $ nothing ! $ move ! (1 ∷ 0 ∷ []) $ join ! $
     let s : Bor Row.Denot = record { ref_ptr = (b, o); now = h } in
     let z : G.Ghost = (((κ, tt), (q, tt), tt, (s, (form, tt)), (shr_vals s, (vint w8 form ∷ [], tt))), tt) in
-    let Counts : (Unit {0} × (Unit {0} × Unit {0})) → Out.Denot → Type 0 = λ ws r. MatchOption (shown_work h) (r ≡ wrong_count) (λ work. CountsArcs work form r) in
+    let Counts : (Unit {0} × (Unit {0} × Unit {0})) → Out.Denot → Type 0 = λ ws r. MatchOption (shown_work h)
+    (r ≡ wrong_count) (λ work. CountsArcs work form r) in
     use1 𝓛 (raw (G.pre z)) (id⊢ 𝓤 _) $
-    calls_at ! (framed 𝓤 𝓛.H 𝓜 (tables 𝓤 𝓛.H 𝓜 𝓡 𝓡.env)) G (met 𝓤 𝓛 𝓜 𝓡 (code.calls-dn_c::exports::arc_count_in 𝓡.env wired)) z
+    calls_at ! (framed 𝓤 𝓛.H 𝓜 (tables 𝓤 𝓛.H 𝓜 𝓡 𝓡.env)) G (met 𝓤 𝓛 𝓜 𝓡
+    (code.calls-dn_c::exports::arc_count_in 𝓡.env wired)) z
     (and_then ! (get ! refl) (and_then ! (get ! refl) (no_more !))) (λ v.
     use1 𝓛 (later (some (λ (r : Out.Denot). ((‵ (flft κ q) ⊛ ‵ ftrue) ⊛ ‵ (Out.own_val r (v ∷ []))) ⊛
-    some (λ (ws : (Unit {0} × (Unit {0} × Unit {0}))). ‵ (lasts g.ended (κ, tt) (s, (form, tt)) ws) ⊛ raw (fact 𝓤 (Counts ws r)))))) (id⊢ 𝓤 _) $
+    some (λ (ws : (Unit {0} × (Unit {0} × Unit {0}))). ‵ (lasts g.ended (κ, tt) (s, (form, tt)) ws) ⊛ raw
+    (fact 𝓤 (Counts ws r)))))) (id⊢ 𝓤 _) $
     await ! tt $ pick ! (λ r. split ! $ split ! $ split ! $ move ! (1 ∷ []) $ drop ! $
-    -- [the tokens of the borrowed parameters; that of the loan; the result; the last values and what is said; the locals]
+    -- [the tokens of the borrowed parameters; that of the loan; the result; the last values and what is said; the
+    -- locals]
     move ! (2 ∷ []) $ pick ! (λ ws. split ! $ move ! (1 ∷ []) $ heard ! (Counts ws r) (λ counts.
     fsplit ! $ drop ! $ fsplit ! $ drop ! $ drop ! $ move ! (1 ∷ []) $
     peeks ! Out (Is Out) (shows 𝓛 Out) r (v ∷ []) (λ is.

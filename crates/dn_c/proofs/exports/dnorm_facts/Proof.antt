@@ -34,7 +34,8 @@ dnorm_facts_spec 𝓤 𝓛 𝓜 𝓡 wired =
     qed 𝓛 ((‵ ftrue ⊛ (‵ (RawPtr.own_val a.0 (rawptr_vals a.0)) ⊛ ‵ ftrue)) ∷
     ‵ (fsep (lent_at Row a.0 h κ) (flft κ q)) ∷ []) ∵ split ! $ drop ! $ split ! $ drop ! $ drop ! $ fsplit ! $
     -- [the loan; its token; the borrowed parameters and then their tokens, each from the last to the first]
-    in_a_block ! a.0 (λ p. lent_at Row p h κ) (fst∗ 𝓤 (never 𝓤) (sem 𝓛 (shared_of Row h (block_of null_ptr) (count_of null_ptr) κ))) (λ b o e.
+    in_a_block ! a.0 (λ p. lent_at Row p h κ) (fst∗ 𝓤 (never 𝓤)
+    (sem 𝓛 (shared_of Row h (block_of null_ptr) (count_of null_ptr) κ))) (λ b o e.
     regoal ! (λ p. prop (WpFn 𝓤 𝓛.H 𝓣.C 𝓣.Λ code.function (rawptr_vals p) (W.post (y p)))) e refl $
     fsplit ! $ drop ! $ hide ! $
     enter ! _ _ _ _ _ $ alloc_all ! (λ l. pass_all ! refl ((tt, tt), tt) $
@@ -45,14 +46,18 @@ dnorm_facts_spec 𝓤 𝓛 𝓜 𝓡 wired =
     nothing ! $ move ! (2 ∷ 0 ∷ []) $ join ! $ join ! $ nothing ! $ move ! (1 ∷ 0 ∷ []) $ join ! $
     let s : Bor Row.Denot = record { ref_ptr = (b, o); now = h } in
     let z : G.Ghost = (((κ, tt), (q, tt), tt, (s, tt), (shr_vals s, tt)), tt) in
-    let Facts : (Unit {0} × Unit {0}) → Out.Denot → Type 0 = λ ws r. MatchOption (shown_work h) (r ≡ no_facts) (λ work. IsFacts work r) in
+    let Facts : (Unit {0} × Unit {0}) → Out.Denot → Type 0 = λ ws r. MatchOption (shown_work h) (r ≡ no_facts)
+    (λ work. IsFacts work r) in
     use1 𝓛 (raw (G.pre z)) (id⊢ 𝓤 _) $
-    calls_at ! (framed 𝓤 𝓛.H 𝓜 (tables 𝓤 𝓛.H 𝓜 𝓡 𝓡.env)) G (met 𝓤 𝓛 𝓜 𝓡 (code.calls-dn_c::exports::facts_in 𝓡.env wired)) z
+    calls_at ! (framed 𝓤 𝓛.H 𝓜 (tables 𝓤 𝓛.H 𝓜 𝓡 𝓡.env)) G (met 𝓤 𝓛 𝓜 𝓡
+    (code.calls-dn_c::exports::facts_in 𝓡.env wired)) z
     (and_then ! (get ! refl) (no_more !)) (λ v.
     use1 𝓛 (later (some (λ (r : Out.Denot). ((‵ (flft κ q) ⊛ ‵ ftrue) ⊛ ‵ (Out.own_val r (v ∷ []))) ⊛
-    some (λ (ws : (Unit {0} × Unit {0})). ‵ (lasts g.ended (κ, tt) (s, tt) ws) ⊛ raw (fact 𝓤 (Facts ws r)))))) (id⊢ 𝓤 _) $
+    some (λ (ws : (Unit {0} × Unit {0})). ‵ (lasts g.ended (κ, tt) (s, tt) ws) ⊛ raw (fact 𝓤 (Facts ws r))))))
+    (id⊢ 𝓤 _) $
     await ! tt $ pick ! (λ r. split ! $ split ! $ split ! $ move ! (1 ∷ []) $ drop ! $
-    -- [the tokens of the borrowed parameters; that of the loan; the result; the last values and what is said; the locals]
+    -- [the tokens of the borrowed parameters; that of the loan; the result; the last values and what is said; the
+    -- locals]
     move ! (2 ∷ []) $ pick ! (λ ws. split ! $ move ! (1 ∷ []) $ heard ! (Facts ws r) (λ facts.
     fsplit ! $ drop ! $ drop ! $ move ! (1 ∷ []) $
     peeks ! Out (Is Out) (shows 𝓛 Out) r (v ∷ []) (λ is.

@@ -40,38 +40,54 @@ dnorm_name_spec 𝓤 𝓛 𝓜 𝓡 wired =
     let κ = n.0.0 in let q = n.0.1 in let h = n.1 in
     let κ-out = κs.0 in let q-out = qs.0 in let out : MutBor (List ℕ) = a.1.0 in let v-out = mut_slice_vals out in
     let y : Ptr → W.Ghost = λ p. ((κs, qs, bounds, (p, (out, tt)), (rawptr_vals p, (v-out, tt))), n) in
-    qed 𝓛 (((‵ (flft κ-out q-out) ⊛ ‵ ftrue) ⊛ (‵ (RawPtr.own_val a.0 (rawptr_vals a.0)) ⊛ ‵ ((MutSlice (named 0) κ-out u8).own_val out v-out) ⊛ ‵ ftrue)) ∷
-    ‵ (fsep (lent_at Row a.0 h κ) (flft κ q)) ∷ []) ∵ split ! $ split ! $ move ! (1 ∷ []) $ drop ! $ move ! (1 ∷ []) $ split ! $ drop ! $ split ! $ move ! (1 ∷ []) $ drop ! $ move ! (2 ∷ []) $ fsplit ! $
+    qed 𝓛 (((‵ (flft κ-out q-out) ⊛ ‵ ftrue) ⊛ (‵ (RawPtr.own_val a.0 (rawptr_vals a.0)) ⊛ ‵
+    ((MutSlice (named 0) κ-out u8).own_val out v-out) ⊛ ‵ ftrue)) ∷
+    ‵ (fsep (lent_at Row a.0 h κ) (flft κ q)) ∷ []) ∵ split ! $ split ! $ move ! (1 ∷ []) $ drop ! $ move ! (1 ∷ []) $
+    split ! $ drop ! $ split ! $ move ! (1 ∷ []) $ drop ! $ move ! (2 ∷ []) $ fsplit ! $
     -- [the loan; its token; the borrowed parameters and then their tokens, each from the last to the first]
-    in_a_block ! a.0 (λ p. lent_at Row p h κ) (fst∗ 𝓤 (never 𝓤) (sem 𝓛 (shared_of Row h (block_of null_ptr) (count_of null_ptr) κ))) (λ b o e.
+    in_a_block ! a.0 (λ p. lent_at Row p h κ) (fst∗ 𝓤 (never 𝓤)
+    (sem 𝓛 (shared_of Row h (block_of null_ptr) (count_of null_ptr) κ))) (λ b o e.
     regoal ! (λ p. prop (WpFn 𝓤 𝓛.H 𝓣.C 𝓣.Λ code.function (rawptr_vals p ++ v-out) (W.post (y p)))) e refl $
     fsplit ! $ drop ! $ hide ! $
-    enter ! _ _ _ _ _ $ alloc_all ! (λ l. pass_all ! refl ((tt, tt), ((tt, (tt, (record { fits = are.1.0.0.1.0 }, tt))), tt)) $
+    enter ! _ _ _ _ _ $
+    alloc_all ! (λ l. pass_all ! refl ((tt, tt), ((tt, (tt, (record { fits = are.1.0.0.1.0 }, tt))), tt)) $
     sets ! (of_opd ! (get ! refl)) refl (tt, tt) $
     sets ! (addr ! (through ! refl (stop !))) refl (tt, tt) $
     sets ! (addr ! (from ! (fld ! refl (hop ! (look_in_at ! 2 (sub ! 0 refl (whole !))) (stop !))))) refl (tt, tt) $
-    sets ! (agg ! (and_then ! (get ! refl) (and_then ! (get_in ! (fld ! refl (stop !)) (sub ! 1 refl (whole !))) (no_more !)))) refl (tt, (tt, (record { fits = are.1.0.0.1.0 }, tt))) $
-    feq_i ! (List Val) (vptr b o ∷ []) (vptr b o ∷ []) refl $ fjoin ! $ nothing ! $ move ! (3 ∷ []) $ fjoin ! $ move ! (1 ∷ 0 ∷ []) $ fjoin ! $
+    sets ! (agg ! (and_then ! (get ! refl) (and_then ! (get_in ! (fld ! refl (stop !)) (sub ! 1 refl (whole !)))
+    (no_more !)))) refl (tt, (tt, (record { fits = are.1.0.0.1.0 }, tt))) $
+    feq_i ! (List Val) (vptr b o ∷ []) (vptr b o ∷ []) refl $ fjoin ! $ nothing ! $ move ! (3 ∷ []) $ fjoin ! $
+    move ! (1 ∷ 0 ∷ []) $ fjoin ! $
     -- [all parameters; the token of the loan; the other tokens; the locals]
-    nothing ! $ move ! (3 ∷ 0 ∷ []) $ join ! $ move ! (2 ∷ 0 ∷ []) $ join ! $ join ! $ nothing ! $ move ! (1 ∷ 0 ∷ []) $ join ! $
+    nothing ! $ move ! (3 ∷ 0 ∷ []) $ join ! $ move ! (2 ∷ 0 ∷ []) $ join ! $ join ! $ nothing ! $ move ! (1 ∷ 0 ∷ []) $
+    join ! $
     let s : Bor Row.Denot = record { ref_ptr = (b, o); now = h } in
     let z : G.Ghost = (((κ, (κ-out, tt)), (q, (q-out, tt)), tt, (s, (out, tt)), (shr_vals s, (v-out, tt))), tt) in
-    let Copies : (Unit {0} × (List ℕ × Unit {0})) → Out.Denot → Type 0 = λ ws r. MatchOption (shown_work h) (IsIdle out.now ws.1.0 r) (λ work. CopiesName work out.now ws.1.0 r) in
+    let Copies : (Unit {0} × (List ℕ × Unit {0})) → Out.Denot → Type 0 = λ ws r. MatchOption (shown_work h)
+    (IsIdle out.now ws.1.0 r) (λ work. CopiesName work out.now ws.1.0 r) in
     let Inside : (Unit {0} × (List ℕ × Unit {0})) → Out.Denot → Type 0 = λ ws r. r.count ≤ length ws.1.0 in
     use1 𝓛 (raw (G.pre z)) (id⊢ 𝓤 _) $
-    calls_at ! (framed 𝓤 𝓛.H 𝓜 (tables 𝓤 𝓛.H 𝓜 𝓡 𝓡.env)) G (met 𝓤 𝓛 𝓜 𝓡 (code.calls-dn_c::exports::name_in 𝓡.env wired)) z
+    calls_at ! (framed 𝓤 𝓛.H 𝓜 (tables 𝓤 𝓛.H 𝓜 𝓡 𝓡.env)) G (met 𝓤 𝓛 𝓜 𝓡 (code.calls-dn_c::exports::name_in 𝓡.env wired))
+    z
     (and_then ! (get ! refl) (and_then ! (get ! refl) (no_more !))) (λ v.
-    use1 𝓛 (later (some (λ (r : Out.Denot). ((‵ (flft κ q) ⊛ ‵ (flft κ-out q-out) ⊛ ‵ ftrue) ⊛ ‵ (Out.own_val r (v ∷ []))) ⊛
-    some (λ (ws : (Unit {0} × (List ℕ × Unit {0}))). ‵ (lasts g.ended (κ, (κ-out, tt)) (s, (out, tt)) ws) ⊛ (raw (fact 𝓤 (Copies ws r)) ⊛ raw (fact 𝓤 (Inside ws r))))))) (id⊢ 𝓤 _) $
+    use1 𝓛 (later (some (λ (r : Out.Denot). ((‵ (flft κ q) ⊛ ‵ (flft κ-out q-out) ⊛ ‵ ftrue) ⊛ ‵
+    (Out.own_val r (v ∷ []))) ⊛
+    some (λ (ws : (Unit {0} × (List ℕ × Unit {0}))). ‵ (lasts g.ended (κ, (κ-out, tt)) (s, (out, tt)) ws) ⊛
+    (raw (fact 𝓤 (Copies ws r)) ⊛ raw (fact 𝓤 (Inside ws r))))))) (id⊢ 𝓤 _) $
     await ! tt $ pick ! (λ r. split ! $ split ! $ split ! $ move ! (1 ∷ []) $ split ! $ move ! (1 ∷ []) $ drop ! $
-    -- [the tokens of the borrowed parameters; that of the loan; the result; the last values and what is said; the locals]
-    move ! (3 ∷ []) $ pick ! (λ ws. split ! $ move ! (1 ∷ []) $ split ! $ heard ! (Copies ws r) (λ copies. heard ! (Inside ws r) (λ inside.
-    fsplit ! $ drop ! $ fsplit ! $ fsplit ! $ fsplit ! $ move ! (1 ∷ []) $ feq_l ! (λ same-out. fjoin ! $ move ! (1 ∷ []) $ drop ! $ move ! (3 ∷ []) $
+    -- [the tokens of the borrowed parameters; that of the loan; the result; the last values and what is said; the
+    -- locals]
+    move ! (3 ∷ []) $
+    pick ! (λ ws. split ! $ move ! (1 ∷ []) $ split ! $
+    heard ! (Copies ws r) (λ copies. heard ! (Inside ws r) (λ inside.
+    fsplit ! $ drop ! $ fsplit ! $ fsplit ! $ fsplit ! $ move ! (1 ∷ []) $
+    feq_l ! (λ same-out. fjoin ! $ move ! (1 ∷ []) $ drop ! $ move ! (3 ∷ []) $
     peeks ! Out (Is Out) (shows 𝓛 Out) r (v ∷ []) (λ is.
     lands_as ! refl refl ((result.the_row_laws.lawful 𝓛).typed r _ is).0 $
     returns ! (look_at ! 0 refl) $ free_all ! refl $ keep ! (0 ∷ 1 ∷ 2 ∷ 3 ∷ []) $
     suffices ! _ (ends_at 𝓛 f.ended stayed c (y (block_ptr b o)) v r (tt, (ws.1.0, tt)) (tt, (same-out, tt))) $
-    nothing ! $ move ! (2 ∷ 0 ∷ []) $ fjoin ! $ nothing ! $ fjoin ! $ nothing ! $ move ! (3 ∷ 0 ∷ []) $ join ! $ group ! 3 $
+    nothing ! $ move ! (2 ∷ 0 ∷ []) $ fjoin ! $ nothing ! $ fjoin ! $ nothing ! $ move ! (3 ∷ 0 ∷ []) $ join ! $
+    group ! 3 $
     use0 𝓛 (raw (fact 𝓤 (Inside ws r))) (fact_i 𝓤 (Inside ws r) (emp 𝓤) inside) $
     use0 𝓛 (raw (fact 𝓤 (Copies ws r))) (fact_i 𝓤 (Copies ws r) (emp 𝓤) copies) $
     join ! $ move ! (2 ∷ 0 ∷ []) $ join ! $ move ! (1 ∷ 0 ∷ []) $ done !))))))))))

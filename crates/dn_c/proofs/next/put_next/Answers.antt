@@ -11,5 +11,6 @@ returns-clause-copies g c =
     (λ index x. subst (λ l. g.B.Kept.arc_at (place_with index l) ≡ x) (g.met.B.Bundle.same_numbers x)
     (g.met.B.Kept.keeps index x))
     c.args.table.now c.args.place.now c.place_after.result (length c.args.out.now) (HasRows c.put_rows-put.new.out)
-    put.result.0 put.result.1.0 c.last_before.result put.result.1.1 c.fine_count.result c.last_before.ensures c.place_after.ensures
+    put.result.0 put.result.1.0 c.last_before.result put.result.1.1 c.fine_count.result c.last_before.ensures
+    c.place_after.ensures
     c.fine_count.ensures put.ensures.fills

@@ -11,7 +11,8 @@ returns-in-None-clause-fills g c left h =
     let inv = c.loop-at.invariant.fills left h in
     let at = c.loop-at.at in
     let none = no_more left at (c.in-None.ensures (drop at left) inv.2) in
-    let all = take_all at left none ∙ sym (take_all (length c.args.out.now) left (omega (arith, none, c.loop-at-test.true))) in (
+    let all = take_all at left none ∙ sym (take_all (length c.args.out.now) left
+    (omega (arith, none, c.loop-at-test.true))) in (
       subst (λ l. HasRows c.loop-at.out (rows_by numbers l)) all inv.0,
       sym (length-take-le at left inv.1) ∙ ap length all,
       inv.2,
@@ -35,7 +36,8 @@ loop-at-preserved g c = record {
         subst (HasRows (set c.loop-at.out at c.row.result)) rows
             (has_one_more c.loop-at.out done at c.row.result long low inv.0),
         more.2,
-        subst (λ l. IsLeft lists (drop c.in-Some.found.0 c.args.table.now) (Some c.in-Some.found.1.1) l) (sym more.1) went.2,
+        subst (λ l. IsLeft lists (drop c.in-Some.found.0 c.args.table.now) (Some c.in-Some.found.1.1) l) (sym more.1)
+            went.2,
       );
   kept = length-set c.loop-at.out c.loop-at.at c.row.result ∙ c.loop-at.invariant.kept;
 }

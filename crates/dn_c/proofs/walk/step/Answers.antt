@@ -6,8 +6,10 @@ use Rattle.dn_c.proofs.walk.step.Goals as goal
 pub returns-in-Some-next_arc : goal.returns-in-Some-next_arc
 returns-in-Some-next_arc g c left h =
     let lists = g.B.Bundle.bundle.listed c.args.form in
-    let here = subst (λ l. IsLeft lists l c.loop-pair.taken left) c.in-Some.ensures.steps (c.loop-pair.invariant.left left h) in
-    let gone = goes_on lists (c.in-Some.pair, c.in-Some.bundle.now) c.next.new.self left c.loop-pair.taken c.in-Some-next_arc.arc here
+    let here = subst (λ l. IsLeft lists l c.loop-pair.taken left) c.in-Some.ensures.steps
+    (c.loop-pair.invariant.left left h) in
+    let gone = goes_on lists (c.in-Some.pair, c.in-Some.bundle.now) c.next.new.self left c.loop-pair.taken
+    c.in-Some-next_arc.arc here
     c.in-Some-next_arc.ensures in (
       gone.0,
       gone.1,
@@ -20,7 +22,8 @@ loop-pair-preserved g c =
     let lists = g.B.Bundle.bundle.listed c.args.form in
     record {
       left = λ left h. goes_past lists (c.in-Some.pair, c.in-Some.bundle.now) c.next.new.self left c.loop-pair.taken
-          (subst (λ l. IsLeft lists l c.loop-pair.taken left) c.in-Some.ensures.steps (c.loop-pair.invariant.left left h))
+          (subst (λ l. IsLeft lists l c.loop-pair.taken left) c.in-Some.ensures.steps
+          (c.loop-pair.invariant.left left h))
           c.in_default.ensures;
       stands = ap (drop 1) (sym c.in-Some.ensures.steps ∙ c.loop-pair.invariant.stands)
           ∙ drop-drop 1 c.loop-pair.at c.args.table.now;

@@ -30,11 +30,14 @@ laws : (p : Ptr) (w : Option T.Denot) → ShrLaws (λ κ. seal_shares p w κ)
 laws p None = said_shr_laws ftrue tt
 laws p (Some w) = lent_at_shr_laws T L.shr_laws p w
 
-lends : {M : Type 1} {𝓤 : Ura M} (𝓛 : Logic 𝓤) (l : Lft) (a : Global) (p : Ptr) (w : Option T.Denot) → Lends 𝓛 (seal_owns a p w) (λ κ. seal_shares p w κ) l
+lends : {M : Type 1} {𝓤 : Ura M} (𝓛 : Logic 𝓤) (l : Lft) (a : Global) (p : Ptr) (w : Option T.Denot) → Lends 𝓛
+    (seal_owns a p w) (λ κ. seal_shares p w κ) l
 lends 𝓛 l a p None = Lends-nothing 𝓛 ftrue l
-lends 𝓛 l a p (Some w) = Lends-first 𝓛 (lies_at T full_share p w) (ghosts.dealloc_token a (bare (lone T.mir)) p) (lent_at T p w) l
+lends 𝓛 l a p (Some w) = Lends-first 𝓛 (lies_at T full_share p w) (ghosts.dealloc_token a (bare (lone T.mir)) p)
+    (lent_at T p w) l
     (Lends-lies 𝓛 T l p w (Shares-less 𝓛 T T.lives l (⊑_static l) (L.shares 𝓛) w))
 
 pub shares : statement
-shares = of_Lends C.struct (C.the_codes Heap.the_row.coded) C.the_heap C.the_lent (λ d p. laws d.ptr d.work) (copy_shared RawPtr-field RawPtr-copy, (heap.the_field_shared, tt)) (λ M 𝓤 𝓛 d p.
+shares = of_Lends C.struct (C.the_codes Heap.the_row.coded) C.the_heap C.the_lent (λ d p. laws d.ptr d.work)
+    (copy_shared RawPtr-field RawPtr-copy, (heap.the_field_shared, tt)) (λ M 𝓤 𝓛 d p.
     lends 𝓛 C.the_row.lives d.alloc d.ptr d.work)

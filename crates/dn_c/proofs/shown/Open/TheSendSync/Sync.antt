@@ -17,4 +17,10 @@ keyless p None κ = tt
 keyless p (Some w) κ = seen Work.the_row work p w κ
 
 pub sync : IsSync the_row
-sync = record { shared = λ d b o κ. ((struct_sync (shape the_type) (search sendable, (handle.the_field_sync, tt))).shared (to the_type d) b o κ, keyless d.ptr d.work κ) }
+sync = record {
+  shared = λ d b o κ. (
+    (struct_sync (shape the_type)
+        (search sendable, (handle.the_field_sync, tt))).shared (to the_type d) b o κ,
+    keyless d.ptr d.work κ,
+  );
+}

@@ -14,8 +14,10 @@ returns-in-Some c ls h =
     let nodes : FitsSigned w64 c.args.self.now.nodes = search rules in
     let lines : FitsSigned w64 c.args.self.now.count = search rules in
     simp to_z-of_z
-    (ap (option_map read_as) (ap (option_map (problem_as c.args.self.now)) c.in-Some.ensures ∙ sym h.items_are.problem_is))
+    (ap (option_map read_as)
+    (ap (option_map (problem_as c.args.self.now)) c.in-Some.ensures ∙ sym h.items_are.problem_is))
 
 pub returns-in-None : goal.returns-in-None
 returns-in-None c ls h =
-    ap (option_map read_as) (ap (option_map (problem_as c.args.self.now)) c.in-None.ensures ∙ sym h.items_are.problem_is)
+    ap (option_map read_as)
+    (ap (option_map (problem_as c.args.self.now)) c.in-None.ensures ∙ sym h.items_are.problem_is)

@@ -49,11 +49,11 @@ invariant_of-self-then-saturating_add-place c =
     ≡ insert_entry int_cmp s.above.entries c.args.node c.args.link =
     simp to_z-of_z at c.in_ok-insert-2.ensures.entries in
     let some : pos 0 ≤ℤ c.args.node = search rules in
+    let link : 0 < c.args.link = omega (arith, c.requires.next) in
     let now = note_far s.below.entries s.above.entries c.args.self.now s.links.items c.args.node c.self.invariant.1
     c.self.view_is some c.self.invariant.0 far c.insert-then-saturating_add-place.new.self.entries c.args.link is in (
       c.self.invariant.0,
-      rw is (far_insert (length s.links.items) s.above.entries c.args.node c.args.link far (omega (arith, c.requires.next))
-          c.self.invariant.1),
+      rw is (far_insert (length s.links.items) s.above.entries c.args.node c.args.link far link c.self.invariant.1),
       c.self.invariant.2,
       rw is (insert_rises s.above.entries c.args.node c.args.link c.self.invariant.3),
       short_more c.args.self.now _ c.args.node c.args.link _ now c.requires.none
@@ -88,8 +88,8 @@ returns-clause-ok c =
           ap (λ r. s.below.entries ++ r) w.in_ok-reach.ensures.same ∙ c.self.view_is in
           ap (λ (t : Inside). t.below.entries ++ (direct 0 (set t.links.items i l) ++ t.above.entries)) w.self-inside-is
           ∙ note_link s.below.entries w.reach.new.above.entries c.args.self.now w.reach.new.links.items c.args.node
-          w.in_ok-reach.ensures.far view some c.self.invariant.0 i (sym place) (omega (arith, w.in_ok-reach.ensures.ok)) l
-          (omega (arith, c.requires.next)) c.requires.none
+          w.in_ok-reach.ensures.far view some c.self.invariant.0 i (sym place)
+          (omega (arith, w.in_ok-reach.ensures.ok)) l (omega (arith, c.requires.next)) c.requires.none
       | else-len-place w ↦
           let lt : i < length s.links.items =
           grind (arith, common_steps, w.if-len-place.false, c.len.ensures) in
@@ -112,8 +112,14 @@ invariant_of-self-2 c =
           ≡ c.args.self.now =
           ap (λ r. s.below.entries ++ r) w.in_ok-reach.ensures.same ∙ c.self.view_is in
           let most : length w.reach.new.links.items ≤ 8 * (length c.args.self.now + 17) =
-          grind (arith, common_steps, w.if-saturating_add-place.false, w.saturating_add.ensures, c.requires.next,
-          w.in_ok-reach.ensures.ok) in
+          grind (
+            arith,
+            common_steps,
+            w.if-saturating_add-place.false,
+            w.saturating_add.ensures,
+            c.requires.next,
+            w.in_ok-reach.ensures.ok,
+          ) in
           let now = note_link s.below.entries w.reach.new.above.entries c.args.self.now w.reach.new.links.items
           c.args.node w.in_ok-reach.ensures.far view some c.self.invariant.0 i (sym place)
           (omega (arith, w.in_ok-reach.ensures.ok)) l (omega (arith, c.requires.next)) c.requires.none in
