@@ -3,10 +3,9 @@ use Rattle.std.proofs.Common.{◌≡◌, ℕ, zero, suc, ◌+◌, ◌-◌, ◌*�
 use lib.Ieee.Fits.{and_l, and_r}
 use Rattle.std.specs.Simd.Lanes.{Each1, number_l, chunk}
 use Rattle.dn_num.specs.State.Digits.{four_digits, codes_of}
-use Rattle.dn_num.specs.declared.fours.TheConstants.{FOURS}
 
 -- these bytes are the digits of i, of the next number and so on, four of each
-abbrev are_fours : ℕ → List ℕ → Bool
+abbrev pub are_fours : ℕ → List ℕ → Bool
 are_fours i (a ∷ b ∷ c ∷ d ∷ xs) =
     ((eqb a (i / 100 / 10 + 48) && eqb b (i / 100 % 10 + 48)) &&
     (eqb c (i % 100 / 10 + 48) && eqb d (i % 100 % 10 + 48)))
@@ -33,9 +32,10 @@ four_at (suc n) i (a ∷ b ∷ c ∷ d ∷ xs) t h =
     rw (e, p) next
 four_at n i _ t h = absurd (omega arith)
 
--- the four bytes of a number in the table are the character codes of its digits
-pub FOURS_at : (n : ℕ) → n < 10000 → chunk (n * 4) 4 FOURS ≡ codes_of (four_digits n)
-FOURS_at n h = let e : 0 + n ≡ n = omega arith in rw e at (four_at n 0 FOURS tt (omega arith))
+-- in a table of the digits of 0, 1 and so on, the four bytes at a number are the character codes of its digits
+pub table_at : (n : ℕ) (table : List ℕ) → T (are_fours 0 table) → n * 4 + 4 ≤ length table
+    → chunk (n * 4) 4 table ≡ codes_of (four_digits n)
+table_at n table t h = let e : 0 + n ≡ n = omega arith in rw e at (four_at n 0 table t h)
 
 -- the values of eight digits are their character codes less 48 each
 pub values_are : (w : ℕ) (ds : List ℕ) → length ds ≡ 8 → Each1 (λ d. d < 10) ds → w ≡ number_l 256 (codes_of ds)
