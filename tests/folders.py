@@ -383,20 +383,28 @@ def kept_manifests(tally: Tally, _: str) -> None:
     tally.same("its entries", len(bytes_of("list").splitlines()), 2)
 
 
+def made_before(*names: str, seconds: int = 3600) -> int:
+    """Makes it look as if files were written so long before, and returns that time in nanoseconds."""
+    then = time.time_ns() - seconds * 1_000_000_000
+    for it in names:
+        os.utime(it, ns=(then, then))
+    return then
+
+
 def renewed(tally: Tally, _: str) -> None:
     """Tests that `manifest --incremental` reads only what is new or was written, and what others make of its file."""
     make({f"set/{it}.gr": ROADS for it in "abcd"})
-    old = time.time_ns() - 3_600_000_000_000
-    for it in "abc":
-        os.utime(f"set/{it}.gr", ns=(old, old))
+    old = made_before(*(f"set/{it}.gr" for it in "abc"))
+    made_before("set/d.gr", seconds=-3600)
     begin = "manifest --incremental list set".split()
     wants(tally, "a first manifest", module(*begin), "", "4 listed, 0 refused, 0 failed\n", 0)
-    marks = [f"# file {len(ROADS)} {old}"] * 3
+    marks = [f"# file {len(ROADS)} {old} sp"] * 3
     tally.same("its marks", [it for it in bytes_of("list").decode().splitlines() if it.startswith("#")], marks)
     # If it is not read, a file may have become anything.
     write("set/a.gr", b"x" * len(ROADS))
     os.utime("set/a.gr", ns=(old, old))
     write("set/b.gr", COSTS)
+    made_before("set/b.gr", seconds=-3600)
     wants(tally, "a second one", module(*begin), "", "4 listed, 0 refused, 0 failed, 2 not read again\n", 0)
     lines = [it.partition("  ") for it in bytes_of("list").decode().splitlines()]
     sums = {name: checksum for checksum, _, name in lines if name}
@@ -409,14 +417,65 @@ def renewed(tally: Tally, _: str) -> None:
     tally.same("verifying reads all files", (found.status, found.out.startswith(b"set/a.gr:1: 1 BadLine")), (2, True))
     found = module(*begin, "--form", "2")
     tally.same("another form is read", (found.status, b"not read again" in found.err), (2, False))
-    write("list", b"no manifest\n")
-    wanted = "list: 31 Read (no manifest has the line 'no manifest')\n"
-    wants(tally, "no manifest to renew", module(*begin), "", wanted, 4)
+    for text in ["no manifest", "# file 1 2 net"]:
+        write("list", f"{text}\n")
+        wanted = f"list: 31 Read (no manifest has the line {text!r})\n"
+        wants(tally, f"{text} to renew", module(*begin), "", wanted, 4)
+
+
+def known_files(tally: Tally, _: str) -> None:
+    """Tests that `check --incremental` reads only what is new or was written, and each companion beside its graph."""
+    make(
+        {f"set/{it}": ROADS for it in ("a.gr", "b.gr", "c.gr", "d.min", "fresh.gr")} | {"set/a.ss": SET["set/s.ss"][0]}
+    )
+    old = made_before(*(f"set/{it}" for it in ("a.gr", "a.ss", "b.gr", "c.gr", "d.min")))
+    made_before("set/fresh.gr", seconds=-3600)
+    module(*"manifest --incremental list set".split())
+    kept = bytes_of("list")
+    for it in ("a.gr", "b.gr", "fresh.gr"):
+        write(f"set/{it}", b"x" * len(ROADS))
+    os.utime("set/a.gr", ns=(old, old))
+    write("set/new.gr", ROADS)
+    refused = ["set/b.gr:1: 1 BadLine", "set/fresh.gr:1: 1 BadLine"]
+    odd = "set/d.min: accepted sp, its ending is that of min"
+    end = "5 accepted, 2 refused, 0 failed, 1 file of another kind than its ending, 4 not read again"
+    begin = "check --incremental list set".split()
+    found = module(*begin, "-q")
+    tally.same("known files", (found.out.decode().splitlines(), found.status), ([refused[0], odd, refused[1]], 2))
+    tally.same("known files at the end", found.err.decode().splitlines()[-1], end)
+    found = module(*begin, "--companions")
+    companion = "set/a.ss: accepted ss, graph not accepted: set/a.gr"
+    tally.same("a companion of a known graph", found.out.decode().splitlines()[1], companion)
+    lines = module(*begin, "--strict").out.decode().splitlines()
+    tally.holds(f"strict: {lines}", "set/d.min: 31 Read (accepted sp, its ending is that of min)" in lines)
+    of = {it["name"]: it for it in map(json.loads, module(*begin, "--json").out.splitlines())}
+    tally.same("forms of known files", [of[f"set/{it}.gr"]["forms"] for it in ("c", "new")], [None, []])
+    tally.same("the manifest", bytes_of("list"), kept)
+    os.remove("list")
+    wanted = "list: 31 Read (No such file or directory)\n"
+    wants(tally, "a check by no manifest", module(*begin), "", wanted, 4)
 
 
 def slowly_squared(number: int) -> int:
     time.sleep(0.03)
     return number * number
+
+
+def quick_tasks(tally: Tally, _: str) -> None:
+    """Tests that quick tasks are left to one of the threads that slow ones have started: they would wait for each
+    other."""
+    slow, count, others = 2, 30_000, threading.active_count()
+
+    def task(at: int) -> int:
+        if at < slow:
+            time.sleep(0.2)
+        return threading.active_count() - others
+
+    workers = Workers(task, range(count), slow)
+    threads = [workers.result(it) for it in range(count)]
+    tally.same("threads of slow tasks", max(threads), slow)
+    # The last task may be one of few.
+    tally.same("threads of quick tasks", min(threads[slow:-1000]), 1)
 
 
 def few_threads(tally: Tally, _: str) -> None:
@@ -687,6 +746,8 @@ TESTS = [
     manifests,
     kept_manifests,
     renewed,
+    known_files,
+    quick_tasks,
     few_threads,
     groups,
     many,

@@ -1,18 +1,23 @@
 """Tests where the Python package finds the library for C, and that `read` gives the same by it as by the program, also
-with little memory and from several threads; and that no other library is used, one of another version least of all.
-`tests/python` runs these tests, each in a folder of its own."""
+with little memory and from several threads; that `check --json` prints the same by both; and that no other library is
+used, one of another version least of all. `tests/python` runs these tests, each in a folder of its own."""
 
+import gzip
 import itertools
+import json
 import os
 import random
 import shutil
 import sys
 import types
+from collections import Counter
 from collections.abc import Callable
 from concurrent.futures import ThreadPoolExecutor
 
 # This puts the folder of the package on the path.
 from calls import COLUMNS, PACKAGE, fake, told
+from collection import GRAPH, POINTER, SOURCES
+from folders import ENVIRONMENT, MODULE, make
 from known import CANONICAL, ROADS
 from reading import COUNTED
 from shared import ROOT, Tally, run, write
@@ -178,6 +183,25 @@ def same_instances(tally: Tally, _: str) -> None:
     tally.same("kinds that were read", kinds, set(COUNTED))
 
 
+def same_checks(tally: Tally, _: str) -> None:
+    """Tests that `check --json` prints the same by both, also of compressed texts, with the forms in which a text is
+    canonical; and that by the library the program checks none of them."""
+    chance = random.Random(SEED)
+    texts = [text for row in CANONICAL for text in row]
+    texts += [spelled(chance, lines_of(chance, made(chance, chance.choice([*COLUMNS])))) for _ in range(ROUNDS)]
+    texts += [b"", b"p", b"c\n" + ROADS, GRAPH + b"c\n", GRAPH[:-1], b" " + GRAPH, POINTER]
+    make({f"set/{at:03}.gr": text for at, text in enumerate(texts)} | {"set/x.ss": SOURCES, "set/x.gr": GRAPH})
+    make({f"set/{at:03}.min.gz": gzip.compress(text) for at, (_, text, _) in enumerate(CANONICAL)})
+    found = []
+    for library, program in [("none", None), (LIBRARY, None), (LIBRARY, fake("other", "cat > /dev/null; exit 5"))]:
+        own = {"DNORM_LIBRARY": library} | ({"DNORM": program} if program else {})
+        found.append(run([*MODULE, "check", "--json", "--companions", "set"], env={**os.environ, **ENVIRONMENT, **own}))
+    forms = Counter(str(json.loads(it).get("forms")) for it in found[0].out.splitlines())
+    tally.holds(f"forms: {forms}", min(forms[it] for it in ("[1, 2]", "[1]", "[2]", "[]", "None")) > 1)
+    tally.holds("check --json by both", found[0] == found[1])
+    tally.holds("check --json beside another program", found[0] == found[2])
+
+
 def in_rooms(tally: Tally, _: str) -> None:
     """Tests that columns are copied whole in rooms of several sizes, and that after each room it is seen whether the
     time is over: looks at the clock are counted."""
@@ -228,4 +252,4 @@ def in_threads(tally: Tally, _: str) -> None:
     dnorm.library.ENDLESS = kept
 
 
-TESTS = [places, others, same_instances, in_rooms, in_threads]
+TESTS = [places, others, same_instances, same_checks, in_rooms, in_threads]

@@ -11,10 +11,9 @@ import traceback
 from collections.abc import Callable, Sequence
 from typing import Any, NoReturn
 
-from . import __version__, canon_in_parts
+from . import __version__
 from .commands import FAILED, REFUSED, USAGE, Run
 from .errors import DnormError, Read, Refused, Write
-from .explain import explained
 from .files import failing
 from .names import ENDINGS
 from .program import processors, version
@@ -114,6 +113,9 @@ def add_outputs(one: argparse.ArgumentParser, task: str) -> None:
         add("--output", metavar="FILE", help="write into FILE, once everything is known")
         about = "renew FILE, or make it, with sizes and times, and read only files that are new or were written"
         add("--incremental", metavar="FILE", help=about)
+    if task == "check":
+        about = "read only files that are new or were written since 'manifest --incremental FILE'"
+        add("--incremental", metavar="FILE", help=about)
 
 
 def add_comparison(one: argparse.ArgumentParser) -> None:
@@ -210,17 +212,30 @@ def end_by(number: int, run: Run | None) -> None:
     os.kill(os.getpid(), number)
 
 
+def by_other_module(task: str, words: Sequence[str]) -> int | None:
+    """Runs a command whose words another module reads, which is imported for it alone. Returns the exit status, or None
+    for any other command."""
+    if task == "explain":
+        # All words are those of the program.
+        from .explain import explained
+
+        return explained(words)
+    if task == "conformance":
+        status: int = suite().main(words)
+        return status
+    if task == "parts":
+        from . import canon_in_parts
+
+        return canon_in_parts.main(words, canon_in_parts.Anywhere())
+    return None
+
+
 def main(words: Sequence[str] | None = None) -> int:
     """Runs a command, and returns the exit status."""
     words = sys.argv[1:] if words is None else words
-    # All words after `explain` are those of the program.
-    if words[:1] == ["explain"]:
-        return explained(words[1:])
-    if words[:1] == ["conformance"]:
-        status: int = suite().main(words[1:])
+    status = by_other_module(words[0], words[1:]) if words else None
+    if status is not None:
         return status
-    if words[:1] == ["parts"]:
-        return canon_in_parts.main(words[1:], canon_in_parts.Anywhere())
     is_open = has_output()
     found = parsed(words)
     console, run = Console(), None

@@ -4,6 +4,7 @@ of a name is that of the kind."""
 from __future__ import annotations
 
 import contextlib
+import hashlib
 from collections.abc import Callable, Sequence
 from dataclasses import dataclass, replace
 from typing import Optional
@@ -12,8 +13,8 @@ from .calls import check
 from .companions import Partners
 from .errors import Read, Refused
 from .files import Text
-from .handles import refusal_of_fit
-from .library import Library, instance_of
+from .handles import canonical_sum, refusal_of_fit
+from .library import Instance, Library, instance_of
 from .limits import Limit
 from .names import COMPANIONS, KINDS, parts_of
 from .program import Program, with_cause
@@ -44,9 +45,47 @@ class Accepted:
         return found + ([f"its ending is that of {self.named}"] if self.named else [])
 
 
+class SummedText(Text):
+    """A text with the `checksum` of the bytes that were read, or None if no canonical text begins as it does."""
+
+    def __init__(self, name: str, stack: contextlib.ExitStack, limit: Limit) -> None:
+        super().__init__(name, stack, limit)
+        self._sum, self._is_canonical = hashlib.sha256(), True
+
+    def next_piece(self) -> bytes | None:
+        piece = super().next_piece()
+        if piece and self._is_canonical:
+            self._is_canonical = self.size > len(piece) or piece.startswith(b"p")
+            self._sum.update(piece)
+        return piece
+
+    @property
+    def checksum(self) -> str | None:
+        return self._sum.hexdigest() if self._is_canonical else None
+
+
+def forms_of(library: Library, held: Instance, text: SummedText) -> tuple[int, ...]:
+    """Returns the forms in which a text is canonical that the library has read."""
+
+    def is_canonical(form: int) -> bool:
+        try:
+            return text.checksum == canonical_sum(library, held, form, text.limit)
+        except Refused:
+            # The canonical text has too many lines.
+            return False
+
+    if text.checksum is None:
+        return ()
+    if held.kind == "min":
+        return tuple(filter(is_canonical, (1, 2)))
+    # Both forms are the same.
+    return (1, 2) if is_canonical(1) else ()
+
+
 class Checker:
-    """Checks files: by this library, or else by the program, which also says the forms. With partners, companions are
-    checked beside their graphs. If it is strict, a file with a remark has an error."""
+    """Checks files: by this library, or else by the program. If they are asked for, it says the forms in which a text
+    is canonical. With partners, companions are checked beside their graphs. Of other files, those whose kind is known
+    are not read: `unread` has their names. If it is strict, a file with a remark has an error."""
 
     def __init__(
         self,
@@ -55,16 +94,22 @@ class Checker:
         library: Library | None,
         *,
         partners: Partners | None = None,
+        known_kind: Callable[[str], str] = lambda _: "",
+        has_forms: bool = False,
         is_strict: bool = False,
     ) -> None:
         self.program, self.timeout, self.partners, self.is_strict = program, timeout, partners, is_strict
-        self.library = library
+        self.library, self.known_kind, self.has_forms = library, known_kind, has_forms
+        self.unread: set[str] = set()
 
     def check(self, name: str) -> Accepted:
         """Checks a file."""
         ending = parts_of(name)[1]
         graphs = self.partners.graphs_of(name) if self.partners and ending in COMPANIONS else None
-        if self.library:
+        if graphs is None and (kind := self.known_kind(name)):
+            self.unread.add(name)
+            found = Accepted(kind)
+        elif self.library:
             found = self._by_library(self.library, name, graphs)
         else:
             found = self._by_program(name, graphs)
@@ -78,7 +123,7 @@ class Checker:
     def _by_library(self, library: Library, name: str, graphs: Sequence[str] | None) -> Accepted:
         limit = Limit(self.timeout, name)
         with contextlib.ExitStack() as stack:
-            text = Text(name, stack, limit)
+            text = SummedText(name, stack, limit) if self.has_forms else Text(name, stack, limit)
             companion = stack.enter_context(instance_of(library, text, 1))
 
             def fit(graph: str) -> None:
@@ -88,7 +133,8 @@ class Checker:
                 if error:
                     raise with_cause(error, text)
 
-            found = Accepted(companion.kind)
+            forms = forms_of(library, companion, text) if isinstance(text, SummedText) else None
+            found = Accepted(companion.kind, forms)
             if graphs is not None:
                 found = beside(found, name, graphs, fit)
         return found

@@ -4,6 +4,7 @@ from __future__ import annotations
 
 import contextlib
 import errno
+import hashlib
 import os
 import time
 from argparse import Namespace
@@ -11,17 +12,19 @@ from collections import Counter
 from collections.abc import Callable, Sequence
 from typing import TypeVar
 
-from .calls import checksum
+from .calls import canon_into
 from .checks import Accepted, Checker
 from .companions import Partners
 from .errors import DnormError, Read, Refused
-from .files import Text, failing, sink_of
+from .files import Sink, Text, failing, sink_of
 from .folders import Found, Workers, find, in_order_of_names, outcome
 from .handles import canonical_sum
 from .library import instance_of, library_of
 from .limits import Limit
+from .lines import PROBLEM
 from .listing import Listed, listed, record_of_listed, row_of, table, text_of_listed
-from .manifests import Entry, entries_of, entry_of, state_of, text_of
+from .manifests import Entry, Summed, entries_of, entry_of, known_kind, state_of, text_of
+from .program import Program, unexpected
 from .reports import Case, Console, annotation_of, as_json, cause_of, junit, line_of, line_with, record_of, sarif
 from .summary import differences, lines_of_differences, record_of_differences
 
@@ -57,13 +60,15 @@ class Run:
         """Checks files, and prints a line for each, and at the end the refusals with their causes."""
         words = self.words
         found = self.found()
+        known = {} if words.incremental is None else {it.name: it for it in self.listed(words.incremental)}
         partners = Partners(found.files if words.companions else ())
         checker = Checker(
             words.program,
             words.timeout,
-            # The library does not say in which forms a text is canonical.
-            None if words.format == "json" else self.library,
+            self.library,
             partners=partners if words.companions else None,
+            known_kind=lambda name: known_kind(known.get(name)),
+            has_forms=words.format == "json",
             is_strict=words.strict,
         )
         for name in [it for it in words.path if words.companions and it in found.files]:
@@ -82,6 +87,10 @@ class Run:
             if report:
                 report.take(junit(cases))
         self.print_end(cases)
+        self.sum_up_checks(cases, len(checker.unread))
+
+    def sum_up_checks(self, cases: Sequence[Case], unread: int) -> None:
+        """Prints what was counted of checks."""
         accepted = [it.result for it in cases if isinstance(it.result, Accepted)]
         alone = sum(it.is_alone for it in accepted)
         unsure = sum(bool(it.not_accepted) for it in accepted)
@@ -90,6 +99,7 @@ class Run:
             counted(alone, "companion without a graph", "companions without a graph"),
             counted(unsure, "companion of a graph that is not accepted", "companions of graphs that are not accepted"),
             counted(sum(it.named is not None for it in accepted), OTHER_KIND, OTHER_KINDS),
+            not_read(unread),
         )
 
     def print_case(self, case: Case) -> None:
@@ -126,7 +136,7 @@ class Run:
         entries: list[Entry] = []
 
         def task(name: str) -> Entry:
-            return entry_of(name, words.form, lambda: self.checksum_of(name, words.form), known.get(name))
+            return entry_of(name, words.form, lambda: self.summed(name, words.form), known.get(name))
 
         def take(name: str, result: Entry | DnormError, _: float) -> None:
             self.count(result)
@@ -148,22 +158,21 @@ class Run:
                 target.take(os.fsencode(text))
             elif not words.json:
                 self.console.print(text)
-        unread = sum(it is known.get(it.name) for it in entries)
-        self.sum_up(f"{self.done} listed", f"{unread} not read again" if unread else "")
+        self.sum_up(f"{self.done} listed", not_read(sum(it is known.get(it.name) for it in entries)))
 
     def known(self) -> list[Entry]:
         """Returns the entries of the manifest that is to be renewed, or none if there is no such file yet."""
         name = self.words.incremental
         return [] if name is None or not os.path.lexists(name) else self.listed(name, is_empty=True)
 
-    def checksum_of(self, name: str, form: int = 1) -> str:
-        """Returns the canonical checksum of a file."""
-        if not self.library:
-            return checksum(name, form, program=self.words.program, timeout=self.words.timeout)
+    def summed(self, name: str, form: int = 1) -> Summed:
+        """Returns the kind of a file, and its canonical checksum."""
         limit = Limit(self.words.timeout, name)
+        if not self.library:
+            return summed_by_program(name, form, self.words.program, limit)
         with contextlib.ExitStack() as stack:
             held = stack.enter_context(instance_of(self.library, Text(name, stack, limit), form))
-            found = canonical_sum(self.library, held, form, limit)
+            found = Summed(held.kind, canonical_sum(self.library, held, form, limit))
         return found
 
     def verify(self) -> None:
@@ -184,7 +193,7 @@ class Run:
             self.say(entry.name, status or result, {"checksum": entry.checksum, "form": entry.form})
 
         def task(entry: Entry) -> str | DnormError:
-            return outcome(lambda: self.checksum_of(entry.name, entry.form), entry.name)
+            return outcome(lambda: self.summed(entry.name, entry.form).checksum, entry.name)
 
         self.each(task, entries, take)
         known = {os.path.abspath(it.name) for it in entries}
@@ -237,7 +246,7 @@ class Run:
             if file not in group or os.path.islink(group[file]) and not os.path.islink(name):
                 group[file] = name
 
-        self.each_file(self.found(), lambda name: (self.checksum_of(name), state_of(name).identity), take)
+        self.each_file(self.found(), lambda name: (self.summed(name).checksum, state_of(name).identity), take)
         found = [(sum_, sorted(it.values(), key=os.fsencode)) for sum_, it in groups.items() if len(it) > 1]
         if self.words.json:
             self.console.print("".join(as_json({"checksum": sum_, "names": names}) for sum_, names in found))
@@ -381,6 +390,23 @@ class Run:
         self.console.complain(", ".join(it for it in parts if it) + "\n")
 
 
+def summed_by_program(name: str, form: int, program: Program, limit: Limit) -> Summed:
+    """Returns the kind of a file, and its canonical checksum, by the program."""
+    found, head = hashlib.sha256(), b""
+
+    def take(piece: bytes) -> None:
+        nonlocal head
+        found.update(piece)
+        if b"\n" not in head:
+            head += piece
+
+    canon_into(Sink("out", take), name, form, program, limit)
+    problem = PROBLEM.match(head)
+    if not problem:
+        raise unexpected(name, 0, head.partition(b"\n")[0].decode("ascii", "backslashreplace"))
+    return Summed((problem[1] or problem[3]).decode(), found.hexdigest())
+
+
 def record_of_entry(name: str, result: Entry | DnormError) -> dict[str, object]:
     """Returns the JSON object of a file of a manifest."""
     if isinstance(result, DnormError):
@@ -391,6 +417,11 @@ def record_of_entry(name: str, result: Entry | DnormError) -> dict[str, object]:
 def counted(count: int, one: str, many: str) -> str:
     """Returns a number of things in words, or nothing if there are none."""
     return f"{count} {one if count == 1 else many}" if count else ""
+
+
+def not_read(count: int) -> str:
+    """Returns how many files were not read, in words, or nothing if all were."""
+    return f"{count} not read again" if count else ""
 
 
 def as_listed(it: Listed, words: Namespace, is_first: bool) -> str:

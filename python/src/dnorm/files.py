@@ -54,19 +54,22 @@ def reason_of(error: Exception) -> str:
     return (isinstance(error, OSError) and error.strerror) or str(error) or type(error).__name__
 
 
-@contextlib.contextmanager
-def failing(kind: type[Read] | type[Write], name: str) -> Iterator[None]:
-    """Raises an error of this kind if anything fails, with the reason. Errors of this package, wrong types, lack of
-    memory, and the error of a handler of an alarm stay what they are."""
-    try:
-        yield
-    except (DnormError, TypeError, MemoryError):
-        raise
-    except Exception as error:
+class failing:
+    """A context that raises an error of this kind if anything fails, with the reason. Errors of this package, wrong
+    types, lack of memory, and the error of a handler of an alarm stay what they are."""
+
+    def __init__(self, kind: type[Read] | type[Write], name: str) -> None:
+        self.kind, self.name = kind, name
+
+    def __enter__(self) -> None:
+        pass
+
+    def __exit__(self, _: object, error: BaseException | None, __: object) -> None:
+        if not isinstance(error, Exception) or isinstance(error, (DnormError, TypeError, MemoryError)):
+            return
         # That of the system has a number.
-        if isinstance(error, TimeoutError) and error.errno is None:
-            raise
-        raise kind(name, reason_of(error)) from error
+        if not isinstance(error, TimeoutError) or error.errno is not None:
+            raise self.kind(self.name, reason_of(error)) from error
 
 
 @contextlib.contextmanager

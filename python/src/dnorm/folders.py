@@ -19,7 +19,8 @@ HIDDEN = {".git", ".hg", ".svn", ".bzr", ".jj", "CVS", "_darcs"}
 
 # The longest wait of a thread, in seconds, and how many tasks begin before the result of the first one is taken.
 PAUSE, MOST = 0.1, 10_000
-# The seconds of a result, on the average, and the wait for one result, after which another thread is started.
+# The seconds of a result, on the average, and the wait for one result, after which another thread is started. The wait
+# is also how often results are looked for: to be woken for each takes longer than to read a small file.
 SOON, LONG = 0.001, 0.02
 
 Item = TypeVar("Item")
@@ -99,7 +100,7 @@ class Search:
         """Returns why a file is not looked at, or nothing if it is."""
         if not is_text(path, self.endings) and not unknown_text(path, self.endings):
             return "its name does not end like that of a DIMACS text"
-        if os.path.exists(path) and not os.path.isfile(path):
+        if not os.path.isfile(path) and os.path.exists(path):
             return "it is neither a file nor a link to one"
         return ""
 
@@ -121,8 +122,8 @@ class Workers(Generic[Item, Result]):
     """Threads that run a task on each of these items, at most `jobs` of them. They do not run ahead of the result that
     is waited for by more than MOST items. Nothing waits for their end, since a thread may wait for a file without end.
 
-    The first thread starts at once, and others while results are slow: for small files, threads would only wait for
-    each other. `idle` is called again and again during a long wait."""
+    The first thread starts at once, and others while results are slow. They end where results are quick: for small
+    files, threads would only wait for each other. `idle` is called again and again during a long wait."""
 
     def __init__(
         self, task: Callable[[Item], Result], items: Sequence[Item], jobs: int, idle: Callable[[], None] = lambda: None
@@ -132,21 +133,40 @@ class Workers(Generic[Item, Result]):
         self._begun = self._wanted = self._threads = 0
         self._is_stopped = False
         self._done: dict[int, tuple[Result | None, BaseException | None]] = {}
-        self._start = time.monotonic()
+        self._start = self._last_start = self._last_end = time.monotonic()
+        self._last_thread = 0
         self._start_thread()
 
     def _start_thread(self) -> None:
         """Starts another thread. Where the system lets no more of them start, those that there are do all."""
-        if self._threads < self._jobs:
-            try:
-                threading.Thread(target=self._work, daemon=True).start()
-                self._threads += 1
-            except (RuntimeError, MemoryError):
+        with self._changed:
+            if self._threads >= self._jobs:
+                return
+            self._threads += 1
+            self._last_start = time.monotonic()
+        try:
+            threading.Thread(target=self._work, daemon=True).start()
+        except (RuntimeError, MemoryError):
+            with self._changed:
+                self._threads -= 1
                 self._jobs = self._threads
 
     def _work(self) -> None:
-        while (at := self._next()) is not None:
+        start = 0.0
+        while self._is_needed(start) and (at := self._next()) is not None:
+            start = time.monotonic()
             self._do(at)
+
+    def _is_needed(self, start: float) -> bool:
+        """Whether a thread goes on whose last task began at this time. If that was quick, and another thread had a
+        result just before, it ends."""
+        thread, end = threading.get_ident(), time.monotonic()
+        with self._changed:
+            is_quick = end - start < SOON and end - self._last_end < SOON and self._last_thread != thread
+            self._last_end, self._last_thread = end, thread
+            is_needed = self._threads == 1 or not is_quick
+            self._threads -= not is_needed
+        return is_needed
 
     def _next(self) -> int | None:
         """Returns the place of the next item, or None if there is none."""
@@ -156,6 +176,7 @@ class Workers(Generic[Item, Result]):
                     self._begun += 1
                     return self._begun - 1
                 self._changed.wait(PAUSE)
+            self._changed.notify_all()
         return None
 
     def _do(self, at: int) -> None:
@@ -166,26 +187,32 @@ class Workers(Generic[Item, Result]):
             found = None, error
         with self._changed:
             self._done[at] = found
-            if at == self._wanted:
-                self._changed.notify_all()
 
     def result(self, at: int) -> Result:
         """Returns the result of this item, or raises what its task has raised."""
         if not self._threads:
             self._do(at)
-        elif time.monotonic() - self._start > LONG + at * SOON:
-            self._start_thread()
+        else:
+            now = time.monotonic()
+            if now - self._start > LONG + at * SOON and now - self._last_start > LONG:
+                self._start_thread()
         with self._changed:
             self._wanted = at
-            # A signal that comes just before a wait does not end it, so no wait is long.
-            while at not in self._done:
-                if not self._changed.wait(LONG):
-                    self._start_thread()
-                    self._idle()
-            found, error = self._done.pop(at)
+        # A signal that comes just before a wait does not end it, so no wait is long.
+        while not self._has_come(at):
+            self._start_thread()
+            self._idle()
+        found, error = self._done.pop(at)
         if error:
             raise error
         return cast(Result, found)
+
+    def _has_come(self, at: int) -> bool:
+        """Waits for the result of this item, and returns whether it is there."""
+        with self._changed:
+            if at not in self._done:
+                self._changed.wait(LONG)
+            return at in self._done
 
     def stop(self) -> list[tuple[int, Result]]:
         """Kills the processes that run, and lets no thread begin another item. Returns the results that were not taken,

@@ -186,20 +186,6 @@ class Instance:
         facts = self._library.facts(self._handle)
         return facts.lines, facts.pairs
 
-    # What calls take that may go on after the instance.
-    lease: Lease
-
-    @property
-    def handle(self) -> Any:
-        """What the functions of the library take."""
-        return self._handle
-
-    @property
-    def sizes(self) -> tuple[int, int]:
-        """The numbers of counted lines that were read, and of pairs with arcs."""
-        facts = self._library.facts(self._handle)
-        return facts.lines, facts.pairs
-
     def columns(self) -> list[Any]:
         """Returns the columns of the arcs, or of the items of a companion."""
         if self.kind not in GRAPHS:

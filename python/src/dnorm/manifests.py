@@ -1,5 +1,5 @@
-"""Manifests: the canonical checksums of files, one on a line. With the sizes and times of the files, a manifest also
-says which of them need not be read again."""
+"""Manifests: the canonical checksums of files, one on a line. With the sizes, times and kinds of the files, a manifest
+also says which of them need not be read again."""
 
 from __future__ import annotations
 
@@ -11,12 +11,13 @@ from typing import NamedTuple, Optional
 
 from .errors import Read
 from .files import failing
+from .names import KINDS
 from .reports import line_with, name_in
 
 # The line that says the form of the checksums after it. Without one, the form is 1.
 FORM = re.compile(r"# form ([12])")
-# The line with the size and the time of the file of the next line.
-MARK = re.compile(r"# file ([0-9]+) ([0-9]+)")
+# The line with the size, the time and the kind of the file of the next line.
+MARK = re.compile(rf"# file ([0-9]+) ([0-9]+) ({'|'.join(dict.fromkeys(KINDS.values()))})")
 # A file that was written so few nanoseconds before may be written again without another time.
 FRESH = 2_000_000_000
 ENTRY = re.compile(r"(\\?)([0-9a-f]{64})  (.+)", re.S)
@@ -30,12 +31,21 @@ class Mark(NamedTuple):
 
 
 class Entry(NamedTuple):
-    """A file, its canonical checksum, the form of that, and the mark that the file had then, if that is known."""
+    """A file, its canonical checksum, the form of that, and the mark and the kind that the file had then, if these are
+    known."""
 
     name: str
     checksum: str
     form: int
     mark: Optional[Mark] = None
+    kind: str = ""
+
+
+class Summed(NamedTuple):
+    """The kind of a text, and its canonical checksum."""
+
+    kind: str
+    checksum: str
 
 
 class State(NamedTuple):
@@ -51,17 +61,26 @@ def state_of(name: str) -> State:
     return State(Mark(found.st_size, found.st_mtime_ns), (found.st_dev, found.st_ino))
 
 
-def entry_of(name: str, form: int, checksum_of: Callable[[], str], known: Entry | None) -> Entry:
-    """Returns the entry of a file: the one that is known, if the file has its mark and this form, or else by the
-    checksum. The new one has a mark if the file was not written meanwhile, or just before."""
+def entry_of(name: str, form: int, read: Callable[[], Summed], known: Entry | None) -> Entry:
+    """Returns the entry of a file: the one that is known, if the file has its mark and this form, or else by what is
+    read. The new one has a mark if the file was not written meanwhile, or just before."""
     with failing(Read, name):
         before = state_of(name)
     if known and (known.mark, known.form) == (before.mark, form):
         return known
-    checksum = checksum_of()
+    found = read()
     with failing(Read, name):
         is_sure = state_of(name) == before and before.mark.time < time.time_ns() - FRESH
-    return Entry(name, checksum, form, before.mark if is_sure else None)
+    return Entry(name, found.checksum, form, before.mark if is_sure else None, found.kind)
+
+
+def known_kind(known: Entry | None) -> str:
+    """Returns the kind of the file of an entry, or nothing if the entry does not know it, or if the file was written
+    since."""
+    if not known or not known.mark:
+        return ""
+    with failing(Read, known.name):
+        return known.kind if known.mark == state_of(known.name).mark else ""
 
 
 def text_of(entries: Iterable[Entry], form: int, has_marks: bool = False) -> str:
@@ -69,7 +88,7 @@ def text_of(entries: Iterable[Entry], form: int, has_marks: bool = False) -> str
     lines = [] if form == 1 else [f"# form {form}\n"]
     for it in entries:
         if has_marks and it.mark:
-            lines.append(f"# file {it.mark.size} {it.mark.time}\n")
+            lines.append(f"# file {it.mark.size} {it.mark.time} {it.kind}\n")
         lines.append(line_with(it.name, before=f"{it.checksum}  "))
     return "".join(lines)
 
@@ -77,7 +96,7 @@ def text_of(entries: Iterable[Entry], form: int, has_marks: bool = False) -> str
 def entries_of(text: str) -> list[Entry]:
     """Returns the entries of a manifest. Raises ValueError for a line that a manifest cannot have."""
     found, form = [], 1
-    mark: Mark | None = None
+    mark, kind = None, ""
     lines = text.split("\n")
     for line in lines if lines[-1] else lines[:-1]:
         head, entry, marked = FORM.fullmatch(line), ENTRY.fullmatch(line), MARK.fullmatch(line)
@@ -85,10 +104,10 @@ def entries_of(text: str) -> list[Entry]:
         if head:
             form = int(head[1])
         elif marked:
-            mark = Mark(int(marked[1]), int(marked[2]))
+            mark, kind = Mark(int(marked[1]), int(marked[2])), marked[3]
         elif entry and name:
-            found.append(Entry(name, entry[2], form, mark))
-            mark = None
+            found.append(Entry(name, entry[2], form, mark, kind))
+            mark, kind = None, ""
         else:
             raise ValueError(f"no manifest has the line {line!r}")
     return found

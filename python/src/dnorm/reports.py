@@ -95,9 +95,11 @@ class Console:
 
     def draw(self) -> None:
         """Draws the progress bar, unless it was drawn just before."""
+        if not self.is_terminal:
+            return
         with self._lock:
             now = time.monotonic()
-            if self.is_terminal and now >= self._at + PAUSE:
+            if now >= self._at + PAUSE:
                 self._at = now
                 filled = BAR * self._done // self._total
                 drawn = f"[{'#' * filled}{'.' * (BAR - filled)}] {self._done} of {self._total}"

@@ -28,7 +28,7 @@ complete -c dnorm-files -n '__dnorm_files_on check' -l output-format -x -a 'text
 complete -c dnorm-files -n '__dnorm_files_on check' -l junit -r -F -d 'Write a report'
 complete -c dnorm-files -n '__dnorm_files_on manifest list parts' -l form -x -a '1 2' -d 'The canonical form'
 complete -c dnorm-files -n '__dnorm_files_on manifest' -l output -r -F -d 'Write into a file'
-complete -c dnorm-files -n '__dnorm_files_on manifest' -l incremental -r -F -d 'Renew a file'
+complete -c dnorm-files -n '__dnorm_files_on check manifest' -l incremental -r -F -d 'Read no file that is known'
 complete -c dnorm-files -n '__dnorm_files_on manifest' -l verify -r -F -d 'Verify a file'
 complete -c dnorm-files -n '__dnorm_files_on list' -l csv -d 'Print a table'
 complete -c dnorm-files -n '__dnorm_files_on compare' -l limit -x -d 'Differing pairs'
