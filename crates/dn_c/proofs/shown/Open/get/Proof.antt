@@ -91,8 +91,9 @@ module _ {M : Type 1} {𝓤 : Ura M} (𝓛 : Logic 𝓤) (at_mem : Memory → SP
     S = hidden_shr Words κ fields b o
 
     shows_ptr : ent 𝓤 (sem 𝓛 S) (sep 𝓤 (sem 𝓛 (hidden_shr RawPtr κ d.ptr b (o + 0))) (sem 𝓛 S))
-    shows_ptr = qed 𝓛 (‵ S ∷ []) ∵ shr_dup ! Words words_laws fields b o κ $ unhide ! $ fsplit ! $ fsplit ! $ hide ! $
-    keep ! (0 ∷ 3 ∷ []) $ done !
+    shows_ptr =
+        qed 𝓛 (‵ S ∷ []) ∵ shr_dup ! Words words_laws fields b o κ $ unhide ! $ fsplit ! $ fsplit ! $ hide ! $
+        keep ! (0 ∷ 3 ∷ []) $ done !
 
     exits : ent 𝓤 (sep 𝓤 (A.lft κ q) (sep 𝓤 (sem 𝓛 (hidden_shr B κ d b o)) (sem 𝓛 (hidden_shr R κ w at.0 at.1))))
         (Post (vptr at.0 at.1))
