@@ -47,16 +47,16 @@ pub(crate) trait Count {
     // The count.
     ghost count: { ℕ };
 
-    // Reads this many short numbers that fit these fields, with one space between them and the line end after them.
-    // Returns none for other bytes, and for so few that short numbers cannot be read at once.
-    fn read_short<'a>(fields: &[Field], bytes: &'a [u8]) -> Option<RowBefore<'a>>
+    // Reads this many numbers that fit these fields, with blanks between them, and the LF after them.
+    fn read<'a>(fields: &[Field], bytes: &'a [u8]) -> Option<RowBefore<'a>>
         requires count { length fields.now ≡ count }
         requires numeric { AreNumeric fields.now }
         ensures numbers { IfSome result (λ r. HasNumbers count bytes.now r.row r.rest.now) }
         ensures fit { IfSome result (λ r. FieldsFit fields.now (row_numbers count r.row)) };
 
-    // Reads this many numbers that fit these fields, with blanks between them, and the LF after them.
-    fn read<'a>(fields: &[Field], bytes: &'a [u8]) -> Option<RowBefore<'a>>
+    // Reads the same in less time if there is one space between the numbers, and each, except for the last of five, has
+    // at most eight digits. Returns none for other bytes, and for too few.
+    fn read_short<'a>(fields: &[Field], bytes: &'a [u8]) -> Option<RowBefore<'a>>
         requires count { length fields.now ≡ count }
         requires numeric { AreNumeric fields.now }
         ensures numbers { IfSome result (λ r. HasNumbers count bytes.now r.row r.rest.now) }
@@ -70,13 +70,13 @@ impl Count for One {
     ghost count = { 1 };
 
     #[inline(always)]
-    fn read_short<'a>(_fields: &[Field], _bytes: &'a [u8]) -> Option<RowBefore<'a>> {
-        None
+    fn read<'a>(fields: &[Field], bytes: &'a [u8]) -> Option<RowBefore<'a>> {
+        fitting(fields, one_number(bytes)?)
     }
 
     #[inline(always)]
-    fn read<'a>(fields: &[Field], bytes: &'a [u8]) -> Option<RowBefore<'a>> {
-        fitting(fields, one_number(bytes)?)
+    fn read_short<'a>(_fields: &[Field], _bytes: &'a [u8]) -> Option<RowBefore<'a>> {
+        None
     }
 }
 
@@ -87,13 +87,13 @@ impl Count for Two {
     ghost count = { 2 };
 
     #[inline(always)]
-    fn read_short<'a>(_fields: &[Field], _bytes: &'a [u8]) -> Option<RowBefore<'a>> {
-        None
+    fn read<'a>(fields: &[Field], bytes: &'a [u8]) -> Option<RowBefore<'a>> {
+        fitting(fields, two_numbers(bytes)?)
     }
 
     #[inline(always)]
-    fn read<'a>(fields: &[Field], bytes: &'a [u8]) -> Option<RowBefore<'a>> {
-        fitting(fields, two_numbers(bytes)?)
+    fn read_short<'a>(_fields: &[Field], _bytes: &'a [u8]) -> Option<RowBefore<'a>> {
+        None
     }
 }
 
@@ -104,15 +104,15 @@ impl Count for Three {
     ghost count = { 3 };
 
     #[inline(always)]
+    fn read<'a>(fields: &[Field], bytes: &'a [u8]) -> Option<RowBefore<'a>> {
+        fitting(fields, any_three(bytes)?)
+    }
+
+    #[inline(always)]
     fn read_short<'a>(_fields: &[Field], bytes: &'a [u8]) -> Option<RowBefore<'a>> {
         // A number of digits alone fits any field of a number.
         let found = short_three(bytes)?;
         Some(found)
-    }
-
-    #[inline(always)]
-    fn read<'a>(fields: &[Field], bytes: &'a [u8]) -> Option<RowBefore<'a>> {
-        fitting(fields, any_three(bytes)?)
     }
 }
 
@@ -123,17 +123,17 @@ impl Count for Five {
     ghost count = { 5 };
 
     #[inline(always)]
-    fn read_short<'a>(fields: &[Field], bytes: &'a [u8]) -> Option<RowBefore<'a>> {
-        fitting(fields, short_five(bytes)?)
-    }
-
-    #[inline(always)]
     fn read<'a>(fields: &[Field], bytes: &'a [u8]) -> Option<RowBefore<'a>> {
         fitting(fields, any_five(bytes)?)
     }
+
+    #[inline(always)]
+    fn read_short<'a>(fields: &[Field], bytes: &'a [u8]) -> Option<RowBefore<'a>> {
+        fitting(fields, short_five(bytes)?)
+    }
 }
 
-// A letter, a space, and the bytes that three short numbers are read from.
+// The least number of bytes that `short_row` reads from: a letter, a space, and the bytes that are marked.
 const SHORT_LINE: usize = 2 + SHORT_THREE;
 
 // Reads the line that begins these bytes, if it is this letter and short numbers that fit these fields, with one space

@@ -368,7 +368,7 @@ fn lines(rt: HostRuntime) {
 
 // Bytes that begin with plain lines of a letter and numbers, the row of the first line, the number of bytes after that
 // line, and the number of rows.
-const PLAIN: [(Kind, &str, Row, usize, usize); 11] = [
+const PLAIN: [(Kind, &str, Row, usize, usize); 12] = [
     (
         Kind::Sp,
         "a\t1  2 \t\r 3 \r\na 1 2 3\r\n",
@@ -394,6 +394,19 @@ const PLAIN: [(Kind, &str, Row, usize, usize); 11] = [
         },
         1,
         1,
+    ),
+    (
+        Kind::Sp,
+        "a 12345678 87654321 99999999\r\na 1 2 3\n",
+        Row {
+            first: 12345678,
+            second: 87654321,
+            third: 99999999,
+            fourth: 0,
+            fifth: 0,
+        },
+        8,
+        2,
     ),
     (
         Kind::Sp,

@@ -1,6 +1,9 @@
 // Number texts with known numbers.
 
-use dn_num::{NumFault, NumberReader, append_number, number_front, number_into, read_number};
+use dn_num::{
+    NumFault, NumberReader, append_number, marked_number, marks_of, number_front, number_into,
+    read_number,
+};
 
 // Texts, and the numbers that they spell.
 const TEXTS: [(&str, Result<i64, NumFault>); 13] = [
@@ -84,5 +87,28 @@ fn numbers_in_front(rt: HostRuntime) {
     for (text, answer) in &FRONTS {
         let front = number_front(text.as_bytes()).map(|front| (front.number, front.used));
         assert!(rt; front == *answer, "in front of {text}");
+    }
+}
+
+// Texts of at least 32 bytes, and the number in front of each with its length, if it has one to eight digits.
+const MARKED: [(&str, Option<(u64, usize)>); 6] = [
+    ("12345678 87654321 99999999\r\n....", Some((12345678, 8))),
+    ("0070:...........................", Some((70, 4))),
+    ("9/..............................", Some((9, 1))),
+    ("123456789.......................", None),
+    ("11111111111111111111111111111111", None),
+    (" 1..............................", None),
+];
+
+#[test]
+fn marked_numbers(rt: HostRuntime) {
+    for (text, answer) in &MARKED {
+        let bytes = text.as_bytes();
+        let marked = if bytes.len() < 32 {
+            None
+        } else {
+            marked_number(bytes, marks_of(bytes)).map(|marked| (marked.number, marked.used))
+        };
+        assert!(rt; marked == *answer, "in front of {text}");
     }
 }
