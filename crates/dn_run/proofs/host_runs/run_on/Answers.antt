@@ -14,14 +14,17 @@ returns-in-Ok-clause-ran g c = rw c.in-Ok.is record {
 pub returns-in_default : goal.returns-in_default
 returns-in_default g c = record {
   status = omega arith;
-  ran = rw c.in-Err.is (record {
-    text = λ e. absurd (c.in_default.not-InvalidData (c.kind.ensures ∙ e));
-    memory = λ _. record {
-      status_is = refl;
-      out_stays = refl;
-      tells = line_taken _ _ c.put_fault_line.result c.put_fault_line.ensures.puts c.put_fault_line.ensures.flushed;
-    };
-  }, refl);
+  ran = rw c.in-Err.is (
+    record {
+      text = λ e. absurd (c.in_default.not-InvalidData (c.kind.ensures ∙ e));
+      memory = λ _. record {
+        status_is = refl;
+        out_stays = refl;
+        tells = line_taken _ _ c.put_fault_line.result c.put_fault_line.ensures.puts c.put_fault_line.ensures.flushed;
+      };
+    },
+    refl,
+  );
 }
 
 pub returns-in-InvalidData-clause-ran : goal.returns-in-InvalidData-clause-ran

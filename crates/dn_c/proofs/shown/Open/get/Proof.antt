@@ -100,7 +100,7 @@ module _ {M : Type 1} {𝓤 : Ura M} (𝓛 : Logic 𝓤) (at_mem : Memory → SP
     exits =
         qed 𝓛 (‵ (flft κ q) ∷ ‵ (hidden_shr B κ d b o) ∷ ‵ (hidden_shr R κ w at.0 at.1) ∷ []) ∵
         suffices ! _ (ends_at 𝓛 F.ended stayed (F.clauses 𝓛 at_mem run) bound (vptr at.0 at.1)
-            (record { ref_ptr = at; now = w }) (tt, tt) (tt, tt)) $ says ! refl $
+        (record { ref_ptr = at; now = w }) (tt, tt) (tt, tt)) $ says ! refl $
         nothing ! $ move ! (1 ∷ 0 ∷ []) $ join ! $ frame ! $ feq_i ! (List Val) (vptr b o ∷ []) (vptr b o ∷ []) refl $
         fjoin ! $ nothing ! $ move ! (1 ∷ 0 ∷ []) $ fjoin ! $ frame ! $
         feq_i ! (List Val) (vptr at.0 at.1 ∷ []) (vptr at.0 at.1 ∷ []) refl $ fjoin ! $ done !
@@ -110,15 +110,15 @@ module _ {M : Type 1} {𝓤 : Ura M} (𝓛 : Logic 𝓤) (at_mem : Memory → SP
           (WpFn 𝓤 H C Λ code.function (vptr b o ∷ []) Post)
       walk =
           qed 𝓛 ((‵ (flft κ q) ⊛ ‵ ftrue) ∷ ‵ (owns (ShrRef (named 0) κ B ∷ []) (self, tt) (vptr b o ∷ [], tt)) ∷ []) ∵
-              enter ! C Λ code.function (vptr b o ∷ []) _ $
+          enter ! C Λ code.function (vptr b o ∷ []) _ $
           alloc1 ! (λ l₀. alloc1 ! (λ l₁. alloc1 ! (λ l₂. alloc0 ! $ params1 ! $ pass1 ! (init ! 2 refl (tt, tt)) $
           pass0 ! $
           let En = env code.function.locals (λ i. elim i [ zero ↦ l₀ | suc j ↦ elim j [ zero ↦ l₁ | suc _ ↦ l₂ ] ]) in
           move ! (7 ∷ []) $
           fsplit ! $ fsplit ! $ drop ! $ shr_dup ! B sealed.the_row_laws.shr_laws d b o κ $
           use1 𝓛 (‵ (hidden_shr Words κ fields b o) ⊛ ‵ (fhide (Sealed.the_lent d d.ptr κ)))
-              (lent_out 𝓛 Sealed.struct (Sealed.the_codes Heap.the_row.coded) Sealed.the_heap Sealed.the_lent κ d b o) $
-              split ! $
+          (lent_out 𝓛 Sealed.struct (Sealed.the_codes Heap.the_row.coded) Sealed.the_heap Sealed.the_lent κ d b o) $
+          split ! $
           move ! (1 ∷ []) $
           unhide ! $ fsplit ! $ use1 𝓛 (raw (fact 𝓤 (InBlock d.ptr))) (in_block_says 𝓛 d.ptr) $
           heard ! (InBlock d.ptr) (λ inb. hide ! $
@@ -128,7 +128,7 @@ module _ {M : Type 1} {𝓤 : Ura M} (𝓛 : Logic 𝓤) (at_mem : Memory → SP
           first ! $ blocks ! $
           pointer_in ! tt d.ptr inb b (o + 0) shows_ptr (λ q'.
           assigns_last ! (addr ! (from ! (hop ! (look ! 10 refl) (fld ! refl (hop ! (look ! 1 refl) (stop !))))))
-              (from ! (stop !)) (init ! 8 refl (tt, tt)) $
+          (from ! (stop !)) (init ! 8 refl (tt, tt)) $
           exec ! C Λ En rest (at_ret En Post) $
           pointer_out ! tt d.ptr inb b (o + 0) $
           assigns ! (of_opd ! (load ! (from ! (stop !)) (look ! 6 refl))) (from ! (stop !)) (init ! 10 refl (tt, tt)) $
@@ -143,27 +143,27 @@ module _ {M : Type 1} {𝓤 : Ura M} (𝓛 : Logic 𝓤) (at_mem : Memory → SP
       let self : Bor B.Denot = record { ref_ptr = (b, o); now = record { ptr = p; alloc = al; work = w } } in
       ent 𝓤 (on_entry 𝓛 F.signature (κ, tt) (q, tt) (self, tt) (vptr b o ∷ [], tt))
       (WpFn 𝓤 H C Λ code.function (vptr b o ∷ []) ((walk_of 𝓛 F.ended stayed (F.clauses 𝓛 at_mem run)).post
-          (((κ, tt), (q, tt), tt, (self, tt), (vptr b o ∷ [], tt)), tt)))
+      (((κ, tt), (q, tt), tt, (self, tt), (vptr b o ∷ [], tt)), tt)))
   each C Λ κ q b o p al (Some w) full = walk κ q b o p al w C Λ
   each C Λ κ q b o p al None full = absurd (subst (λ (s : Bool). T (not s)) full tt)
 
   meets : (𝓣 : Tables 𝓤 H) → Meets 𝓛 F.signature (WpFn 𝓤 H 𝓣.C 𝓣.Λ code.function) (F.spec 𝓛 at_mem run)
   meets 𝓣 =
       walk_Meets 𝓛 F.ended stayed (Goes-none_ref 𝓛 1 (0 ∷ []) tt (plain (λ _. B)) yes, tt) (F.clauses 𝓛 at_mem run)
-          (WpFn 𝓤 H 𝓣.C 𝓣.Λ code.function) (WpFn-mono 𝓤 H 𝓛.laws 𝓣 code.function)
+      (WpFn 𝓤 H 𝓣.C 𝓣.Λ code.function) (WpFn-mono 𝓤 H 𝓛.laws 𝓣 code.function)
       (walked 𝓛 F.ended stayed (F.clauses 𝓛 at_mem run) (WpFn 𝓤 H 𝓣.C 𝓣.Λ code.function) (λ κs. (shr_vals, tt))
-          (λ κs. (shr_Tells (named 0) κs.0 B, tt))
+      (λ κs. (shr_Tells (named 0) κs.0 B, tt))
       (λ κs qs bounds a g are.
       let d = a.0.now in
       qed 𝓛 (raw (on_entry 𝓛 F.signature (κs.0, tt) (qs.0, tt) (a.0, tt) (vptr a.0.ref_ptr.0 a.0.ref_ptr.1 ∷ [], tt)) ∷
-          raw (fact 𝓤 (IsSome d.work)) ∷ []) ∵
+      raw (fact 𝓤 (IsSome d.work)) ∷ []) ∵
       move ! (1 ∷ []) $
       heard ! (IsSome d.work) (λ full. by ! (each 𝓣.C 𝓣.Λ κs.0 qs.0 a.0.ref_ptr.0 a.0.ref_ptr.1 d.ptr d.alloc d.work
-          full))))
+      full))))
 
 pub get_spec : {M : Type 1} → stated.statement M
 unfolding tables_of
 get_spec 𝓤 𝓛 𝓜 𝓡 wired =
     let 𝓣 : Tables 𝓤 𝓛.H = tables_of 𝓤 𝓛.H 𝓜 (tables 𝓤 𝓛.H 𝓜 𝓡 𝓡.env) in
     entered 𝓤 𝓛.H (triple_of 𝓛 F.signature (F.spec 𝓛 𝓜.mem 𝓡.returns)) 𝓣.C 𝓣.Λ #self code.function
-        (code.unfolded 𝓤 𝓛.H 𝓜 𝓡 wired) (meets 𝓛 𝓜.mem 𝓡.returns 𝓣)
+    (code.unfolded 𝓤 𝓛.H 𝓜 𝓡 wired) (meets 𝓛 𝓜.mem 𝓡.returns 𝓣)
