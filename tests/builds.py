@@ -75,7 +75,7 @@ def in_cmake(tally: Tally, folder: str, prefix: str, tested: str) -> None:
     first, second, _ = number.split(".")
     by_cmake(tally, folder, prefix)
     wanted = {number: True, f"{first}.0": True, f"{number} EXACT": True}
-    wanted |= {f"{int(first) + 1}.0": False, f"{first}.{int(second) + 1}": False, f"{first}.0 EXACT": False}
+    wanted |= {f"{int(first) + 1}.0": False, f"{first}.{int(second) + 1}": False, f"{first}.999 EXACT": False}
     for asked, is_found in wanted.items() if has_cmake() else ():
         write(f"{folder}/CMakeLists.txt", PROJECT.format(version=asked))
         ran = run(["cmake", "-S", folder, "-B", f"{folder}/build", f"-DCMAKE_PREFIX_PATH={prefix}"])
