@@ -1,5 +1,5 @@
 -- Lemmas that calls get the canonical instance out of a parsed instance.
-use Rattle.std.proofs.Common.{◌≡◌, ◌<◌, ◌≤◌, ℕ, ℤ, zero, suc, List, [], ◌∷◌, ◌++◌, length, map, take, drop, flat_map, append-nil, Ok, refl, sym, ap, ◌∙◌, arith}
+use Rattle.std.proofs.Common.{◌≡◌, ◌<◌, ℕ, ℤ, zero, suc, List, [], ◌∷◌, ◌++◌, length, map, take, drop, flat_map, append-nil, Ok, refl, sym, ap, ◌∙◌, arith}
 use Rattle.dn_arc.specs.Kinds.{costs, capacities, lengths}
 use Rattle.dn_arc.specs.declared.arc.CapArc.{CapArc}
 use Rattle.dn_arc.specs.declared.arc.CostArc.{CostArc}
@@ -16,7 +16,7 @@ use Rattle.dn_bundle.specs.declared.total.Total.{Total}
 use Rattle.dn_table.specs.State.Tables.{TableStandsFor}
 use Rattle.dn_arc.specs.declared.arc.Form.TheVariants.{One}
 use Rattle.dn_instance.specs.Instances.{Graph, Instance, MinCostFlow, MaxFlow, ShortestPaths, Sources, Queries, Coordinates}
-use Rattle.dn_instance.specs.State.Helds.{Bundles, Contents, Parsed, IsHeld, OfHeld, OfMin, OfMax, OfSp, OfSs, OfP2p, OfCo, Shows}
+use Rattle.dn_instance.specs.State.Helds.{Bundles, Contents, Parsed, OfHeld, OfMin, OfMax, OfSp, OfSs, OfP2p, OfCo, Shows}
 use Rattle.dn_instance.specs.State.ReaderResults.{Outcome}
 use Rattle.dn_instance.specs.Texts.{Reads}
 use Rattle.dn_instance.specs.Validity.{IsValid, IsValidGraph}
