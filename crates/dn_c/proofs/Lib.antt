@@ -2,3 +2,4 @@ pub mod AsBox
 pub mod Steps
 pub mod ReadLaws
 pub mod WalkLaws
+pub mod CanonLaws

@@ -11,3 +11,4 @@ pub mod Sealed
 pub mod Statuses
 pub mod Walks
 pub mod Works
+pub mod CanonCopies

@@ -1,0 +1,186 @@
+-- Lemmas that calls get the canonical instance out of a parsed instance.
+use Rattle.std.proofs.Common.{◌≡◌, ◌<◌, ℕ, ℤ, zero, suc, List, [], ◌∷◌, ◌++◌, length, map, take, drop, flat_map, append-nil, Ok, refl, sym, ap, ◌∙◌, arith}
+use Rattle.dn_arc.specs.Kinds.{costs, capacities, lengths}
+use Rattle.dn_arc.specs.declared.arc.CapArc.{CapArc}
+use Rattle.dn_arc.specs.declared.arc.CostArc.{CostArc}
+use Rattle.dn_arc.specs.declared.arc.Form.{Form}
+use Rattle.dn_arc.specs.declared.arc.LengthArc.{LengthArc}
+use Rattle.dn_arc.proofs.CostKindLaws.{cost_kind}
+use Rattle.dn_arc.proofs.LengthKindLaws.{length_kind, length_canonical, length_fit}
+use Rattle.dn_arc.proofs.SoundLaws.{sound_canonical, sound_same, sound_fit}
+use Rattle.dn_arc.proofs.TotalKindLaws.{total_kind, total_canonical, total_fit}
+use Rattle.dn_arc.specs.State.Curves.{CurveNumbers}
+use Rattle.dn_bundle.specs.State.Listings.{least_arcs, total_arcs, curve_arcs}
+use Rattle.dn_bundle.specs.declared.least.Least.{Least}
+use Rattle.dn_bundle.specs.declared.total.Total.{Total}
+use Rattle.dn_table.specs.State.Tables.{TableStandsFor}
+use Rattle.dn_arc.specs.declared.arc.Form.TheVariants.{One}
+use Rattle.dn_instance.specs.Instances.{Graph, Instance, MinCostFlow, MaxFlow, ShortestPaths, Sources, Queries, Coordinates}
+use Rattle.dn_instance.specs.State.Helds.{Bundles, Contents, Parsed, OfHeld, OfMin, OfMax, OfSp, OfSs, OfP2p, OfCo, Shows}
+use Rattle.dn_instance.specs.State.ReaderResults.{Outcome}
+use Rattle.dn_instance.specs.Texts.{Reads}
+use Rattle.dn_instance.specs.Validity.{IsValid, IsValidGraph}
+use Rattle.dn_instance.proofs.SameLaws.{refl_of}
+use Rattle.dn_instance.proofs.ValidLaws.{reads_valid, some_is}
+use Rattle.dn_canon.specs.CanonInstances.{IsCanonInstanceOf}
+use Rattle.dn_canon.specs.State.CanonGraphs.{IsCanonGraphOf}
+use Rattle.dn_canon.specs.State.ListedArcs.{listed_arcs, listed_graph}
+use Rattle.dn_canon.proofs.ListedLaws.{listed_canon, min_canon, max_canon}
+use Rattle.dn_c.specs.State.CanonCopies.{Call, Walks, copied, first_place, GivesOut}
+use Rattle.dn_c.specs.State.Items.{flow_item, point_item, id_item, pair_item}
+use Rattle.dn_c.specs.State.Outputs.{CopiesNone}
+use Rattle.dn_c.specs.State.Places.{cost_at, cap_at, length_at}
+use Rattle.dn_c.specs.State.Rows.{rows_by}
+use Rattle.dn_c.specs.State.Walks.{CopiesFrom, HasRows, IsLeftAfter}
+use Rattle.dn_c.specs.declared.arcs.Arc.{Arc}
+use Rattle.dn_c.specs.declared.place.Place.{Place}
+use Rattle.dn_c.specs.declared.status.Count.{Count}
+use Rattle.dn_c.proofs.WalkLaws.{begins}
+
+module _ {A : Type 0} where
+  -- what is taken of a list and what is left after it are the list
+  whole : (n : ℕ) (xs : List A) → take n xs ++ drop (length (take n xs)) xs ≡ xs
+  whole zero xs = refl
+  whole (suc n) [] = refl
+  whole (suc n) (x ∷ xs) = ap (λ l. x ∷ l) (whole n xs)
+
+  -- if fewer are taken than were asked for, all are
+  all_taken : (n : ℕ) (xs : List A) → length (take n xs) < n → take n xs ≡ xs
+  all_taken zero xs few = absurd (omega (arith, few))
+  all_taken (suc n) [] few = refl
+  all_taken (suc n) (x ∷ xs) few = ap (λ l. x ∷ l) (all_taken n xs (omega (arith, few)))
+
+module _ {B A : Type 0} (numbers : A → List ℤ) (lists : B → List A) (arc : Place → A) (table : Bundles B) where
+  -- the call copies arcs of the table after the place
+  abbrev Copies : Place → Call → Type 0
+  Copies place call =
+      CopiesFrom numbers lists arc table place call.place (length call.old) (HasRows call.new) call.result
+
+  abbrev Left : Place → List Arc → Type 0
+  Left = IsLeftAfter numbers lists arc table
+
+  first_rows : (rows : List Arc) (place : Place) (call : Call) → Left place rows → Copies place call
+      → copied call ≡ take (length call.old) rows
+  first_rows rows place call left c =
+      let got = c.1 rows left in ap (λ n. take n call.new) got.1 ∙ got.0
+
+  -- a walk copies what is left after its first place
+  walk_copies : (rows : List Arc) (place : Place) (calls : List Call) → Left place rows → Walks Copies place calls
+      → flat_map copied calls ≡ rows
+  walk_copies rows place [] left w = absurd w
+  walk_copies rows place (call ∷ []) left w =
+      let got = w.0.1 rows left in
+      append-nil (copied call) ∙ first_rows rows place call left w.0
+      ∙ all_taken (length call.old) rows (omega (arith, got.1, w.1))
+  walk_copies rows place (call ∷ next ∷ rest) left w =
+      let got = w.0.1 rows left in
+      ap (λ l. copied call ++ l) (walk_copies (drop call.result.count rows) call.place (next ∷ rest) got.2 w.1)
+      ∙ ap (λ l. l ++ drop call.result.count rows) (first_rows rows place call left w.0)
+      ∙ ap (λ n. take (length call.old) rows ++ drop n rows) got.1 ∙ whole (length call.old) rows
+
+  walk_first : (calls : List Call) → Walks Copies first_place calls
+      → flat_map copied calls ≡ rows_by numbers (listed_arcs lists table)
+  walk_first calls w = walk_copies _ first_place calls (begins numbers lists arc table) w
+
+-- calls on a companion copy no arcs
+abbrev CopiesNothing : Place → Call → Type 0
+CopiesNothing place call = CopiesNone place call.place (call.new ≡ call.old) call.result
+
+none_copied : (place : Place) (calls : List Call) → Walks CopiesNothing place calls → flat_map copied calls ≡ []
+none_copied place [] w = absurd w
+none_copied place (call ∷ []) w =
+    ap (λ (r : Count). take r.count call.new ++ []) w.0.0
+none_copied place (call ∷ next ∷ rest) w =
+    ap (λ (r : Count). take r.count call.new ++ flat_map copied (next ∷ rest)) w.0.0
+    ∙ none_copied call.place (next ∷ rest) w.1
+
+module _ (form : Form) where
+  -- the arcs that a table lists make the canonical graph of the graph that it represents
+  lengths_canon : (table : Bundles Least) (G : Graph LengthArc) → TableStandsFor lengths least_arcs table G.arcs
+      → IsValidGraph lengths G → IsCanonGraphOf lengths form (listed_graph least_arcs G.nodes table) G
+  lengths_canon table G t valid =
+      listed_canon length_kind (λ f. least_arcs) (λ f b. length_canonical b.length)
+      (λ b. length_kind.meaning.same_refl (least_arcs b)) (λ f b. length_fit b.length b.fits) form G.nodes table G refl
+      t.rising t.lists_them.stands valid
+
+  capacities_canon : (table : Bundles Total) (G : Graph CapArc) → TableStandsFor capacities total_arcs table G.arcs
+      → IsValidGraph capacities G → IsCanonGraphOf capacities form (listed_graph total_arcs G.nodes table) G
+  capacities_canon table G t valid =
+      listed_canon total_kind (λ f. total_arcs) (λ f b. total_canonical b.total b.some)
+      (λ b. total_kind.meaning.same_refl (total_arcs b)) (λ f b. total_fit b.total b.some b.most) form G.nodes table G
+      refl t.rising t.lists_them.stands valid
+
+  costs_canon : (table : Bundles CurveNumbers) (G : Graph CostArc)
+      → TableStandsFor costs (curve_arcs One) table G.arcs → IsValidGraph costs G
+      → IsCanonGraphOf costs form (listed_graph (curve_arcs form) G.nodes table) G
+  costs_canon table G t valid =
+      listed_canon cost_kind curve_arcs (λ f b. sound_canonical b.units b.cost b.total b.steps b.sound f)
+      (λ b. sound_same b.units b.cost b.total b.steps b.sound)
+      (λ f b. sound_fit b.units b.cost b.total b.steps b.sound f) form G.nodes table G refl t.rising
+      t.lists_them.stands valid
+
+  -- the canonical instance of I is what calls get out of the contents
+  abbrev GivesCanon : Contents → Instance → Type 0
+  GivesCanon contents I = (J : Instance) × IsCanonInstanceOf form J I × GivesOut form contents J
+
+  by_contents : (contents : Contents) (I : Instance) → IsValid I → Shows contents I → GivesCanon contents I
+  by_contents (OfMin flows table) (MinCostFlow supplies G) valid s = (
+    MinCostFlow supplies (listed_graph (curve_arcs form) G.nodes table),
+    min_canon form supplies G _ (costs_canon table G s.1 valid.0) valid.1,
+    record {
+      first = begins costs.numbers (curve_arcs form) cost_at table;
+      walk = walk_first costs.numbers (curve_arcs form) cost_at table;
+      items = ap (map flow_item) s.0;
+    },
+  )
+  by_contents (OfMax source sink table) (MaxFlow a b G) valid s = (
+    MaxFlow a b (listed_graph total_arcs G.nodes table),
+    max_canon form a b G _ (capacities_canon table G s.2 valid.0) valid.1,
+    record {
+      first = begins capacities.numbers total_arcs cap_at table;
+      walk = walk_first capacities.numbers total_arcs cap_at table;
+      items = rw (s.0, s.1) refl;
+    },
+  )
+  by_contents (OfSp table) (ShortestPaths G) valid s =
+      let canon = lengths_canon table G s valid in (
+        ShortestPaths (listed_graph least_arcs G.nodes table),
+        record { valid = canon.valid; canonical = canon.canonical; same = canon.same },
+        record {
+          first = begins lengths.numbers least_arcs length_at table;
+          walk = walk_first lengths.numbers least_arcs length_at table;
+          items = refl;
+        },
+      )
+  by_contents (OfSs ids) (Sources items) valid s = (
+    Sources items,
+    record { valid = valid; canonical = tt; same = refl_of (Sources items) },
+    record { first = refl; walk = none_copied first_place; items = ap (map id_item) s },
+  )
+  by_contents (OfP2p pairs) (Queries items) valid s = (
+    Queries items,
+    record { valid = valid; canonical = tt; same = refl_of (Queries items) },
+    record { first = refl; walk = none_copied first_place; items = ap (map pair_item) s },
+  )
+  by_contents (OfCo points) (Coordinates items) valid s = (
+    Coordinates items,
+    record { valid = valid; canonical = tt; same = refl_of (Coordinates items) },
+    record { first = refl; walk = none_copied first_place; items = ap (map point_item) s },
+  )
+  by_contents (OfMin flows table) _ valid s = absurd s
+  by_contents (OfMax source sink table) _ valid s = absurd s
+  by_contents (OfSp table) _ valid s = absurd s
+  by_contents (OfSs ids) _ valid s = absurd s
+  by_contents (OfP2p pairs) _ valid s = absurd s
+  by_contents (OfCo points) _ valid s = absurd s
+
+-- calls get the canonical instance of I, in either form, out of a parsed instance that represents I
+pub held_copies : (form : Form) (held : Parsed) → OfHeld held (GivesCanon form held.contents)
+held_copies form held I valid h = by_contents form held.contents I valid h.shows
+
+-- calls get the canonical instance of what a text reads as, in either form, out of what reading the text returned
+pub copies_canon : (form : Form) (t : List ℕ) (held : Parsed) (I : Instance) → Outcome t (Ok held) → Reads t I
+    → (J : Instance) × IsCanonInstanceOf form J I × GivesOut form held.contents J
+copies_canon form t held I outcome reads =
+    let is : outcome.0 ≡ I = some_is outcome.0 I (sym outcome.1.instance_is ∙ reads.instance_is) in
+    held_copies form held I (reads_valid t I reads) (rw is at outcome.2)
