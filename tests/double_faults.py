@@ -14,7 +14,7 @@ Edit = Callable[[list[list[str]], int], int]
 RESTS = {
     "repeated": ["ID"],
     "letter-again": ["TERMINAL"],
-    "same": ["ID"],
+    "same-node": ["ID"],
     "sum": ["SRC", "DST", "CAP"],
     "low": ["LOW", "CAP"],
 }
@@ -98,7 +98,7 @@ def item_edits(it: Line) -> Iterator[tuple[str, Edit]]:
         yield "repeated", put_before(*it.words)
     if it.kind == "max" and it.letter == "n":
         yield "letter-again", put_before("n", "20", it.words[2])
-        yield "same", put_before("n", it.words[1], "s" if it.words[2] == "t" else "t")
+        yield "same-node", set_word(it.first, next(line[1] for line in base(it.kind) if line[0] == "n"))
     if it.letter == "a" and it.kind == "min":
         yield "low", set_word(it.first + 2, "16")
         yield "sum", put_before("a", it.words[1], it.words[2], "0", str(MOST), "1")

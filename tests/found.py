@@ -1,9 +1,11 @@
 """Which cases find which mistakes. A mistake in how a line is read is planted into the lines of one type alone, such as
 the `a` lines of `max`, since many readers have a parser for each type; any other mistake is found for the kind of the
-text. A find is the number of a mistake, and the line type or the kind."""
+text. A find is the number of a mistake, and the line type or the kind. A mistake is tried only on lines and texts whose
+reading runs a statement that it changes."""
 
 import re
 from collections.abc import Iterable, Iterator
+from functools import partial
 from types import ModuleType
 from typing import Any, NamedTuple
 
@@ -12,6 +14,7 @@ import mistakes
 import reading
 from case import Case
 from mistakes import Mistake
+from reached import Statements
 from reading import LINES, NAMES, Fault, Item, Text
 
 # The functions of reading.py, and its constants, that read a line; those that a whole text needs; and those that
@@ -45,12 +48,22 @@ class Probe(NamedTuple):
     type: str
 
 
+class Step(NamedTuple):
+    """A line that is read, the state or the fault after it, and the statements of reading.py that read it."""
+
+    probe: Probe
+    after: State | str
+    runs: frozenset[int]
+
+
 class Judged(NamedTuple):
-    """A case, its answer, and the lines of its text that are read, each with the state or the fault after it."""
+    """A case, its answer, the lines of its text that are read, and the statements of reading.py that make its answer,
+    or None for a long text."""
 
     case: Case
     answer: Answer
-    steps: list[tuple[Probe, State | str]]
+    steps: list[Step]
+    runs: frozenset[int] | None
 
     @property
     def kind(self) -> str:
@@ -103,21 +116,24 @@ def outcome(reader: ModuleType, probe: Probe) -> State | str:
     return state_of(so_far)
 
 
-def steps(text: str) -> Iterator[tuple[Probe, State | str]]:
-    """Yields the lines of a text up to its first fault, and what was read after each."""
+def steps(text: str, statements: Statements) -> Iterator[Step]:
+    """Yields the lines of a text up to its first fault."""
     after: State | str = state_of(Text())
     for line in re.findall("[^\n]*\n|[^\n]+", text):
         if isinstance(after, str):
             break
         probe = Probe(after, line, type_of(after[0], line))
-        after = outcome(reading, probe)
-        yield probe, after
+        after, runs = statements.run_by(partial(outcome, reading, probe))
+        yield Step(probe, after, runs)
 
 
-def judged(found: Iterable[tuple[Case, Answer]]) -> Iterator[Judged]:
+def judged(found: Iterable[tuple[Case, Answer]], statements: Statements) -> Iterator[Judged]:
     for case, answer in found:
-        is_short = len(case.text) <= LONG and case.second is None
-        yield Judged(case, answer, [*steps(case.text)] if is_short else [])
+        if LONG < len(case.text):
+            yield Judged(case, answer, [], None)
+        else:
+            _, runs = statements.run_by(partial(cases.answer, case))
+            yield Judged(case, answer, [] if case.second else [*steps(case.text, statements)], runs)
 
 
 class Mixed:
@@ -145,14 +161,12 @@ class Finder:
     """The cases, and the different lines of their texts."""
 
     def __init__(self, found: Iterable[tuple[Case, Answer]]) -> None:
-        self.all = [*judged(found)]
-        rights: dict[Probe, State | str] = {}
-        for it in self.all:
-            rights.update(it.steps)
-        self.rights = [*rights.items()]
-        numbers = {probe: i for i, (probe, _) in enumerate(self.rights)}
+        self.statements = Statements(reading.__file__, mistakes.source())
+        self.all = [*judged(found, self.statements)]
+        self.rights = [*{it.probe: it for own in self.all for it in own.steps}.values()]
+        numbers = {it.probe: i for i, it in enumerate(self.rights)}
         # The numbers of the lines of each case, and of the cases that have each line.
-        self.lines = [[numbers[probe] for probe, _ in it.steps] for it in self.all]
+        self.lines = [[numbers[it.probe] for it in own.steps] for own in self.all]
         self.having: list[list[int]] = [[] for _ in self.rights]
         for j, own in enumerate(self.lines):
             for number in dict.fromkeys(own):
@@ -164,24 +178,27 @@ class Finder:
         for i, mistake in enumerate(planted):
             changed = {it for old, _ in mistake.changes for it in named_at(source, old)}
             wrong = mistakes.reader(mistakes.planted(source, mistake))
+            statements = self.statements.of_texts([old for old, _ in mistake.changes])
             if changed & OF_LINES and "read" not in changed:
-                for j, where in self.by_type(wrong, mistake):
+                for j, where in self.by_type(wrong, mistake, statements):
                     found[j].add((i, where))
             if not changed <= OF_LINES - OF_TEXTS:
-                for j in self.by_text(wrong, mistake.heading, changed):
+                for j in self.by_text(wrong, mistake.heading, changed, statements):
                     found[j].add((i, self.all[j].kind))
         return found
 
-    def by_type(self, wrong: ModuleType, mistake: Mistake) -> Iterator[tuple[int, str]]:
+    def by_type(self, wrong: ModuleType, it: Mistake, changed: frozenset[int] | None) -> Iterator[tuple[int, str]]:
         """Yields the numbers of cases that find a mistake in the lines of a type, and the type."""
         wrong.__dict__["Fault"] = Fault
-        needs = mistake.needs
-        tried = ((i, it) for i, it in enumerate(self.rights) if needs in it[0].line and applies(mistake, it[0].type))
-        differing = {i: it for i, (probe, right) in tried if (it := outcome(wrong, probe)) != right}
+        differing = {}
+        for i, (probe, right, runs) in enumerate(self.rights):
+            if it.needs in probe.line and applies(it, probe.type) and runs_one(runs, changed):
+                if (found := outcome(wrong, probe)) != right:
+                    differing[i] = found
         for j in sorted({j for i in differing for j in self.having[i]}):
             seen = set[str]()
             for i in self.lines[j]:
-                probe, right = self.rights[i]
+                probe, right, _ = self.rights[i]
                 if i not in differing or probe.type in seen:
                     continue
                 seen.add(probe.type)
@@ -189,7 +206,9 @@ class Finder:
                 if is_fault or is_found(self.all[j], Mixed(wrong, probe.type)):
                     yield j, probe.type
 
-    def by_text(self, wrong: ModuleType, heading: str, changed: set[str]) -> Iterator[int]:
+    def by_text(
+        self, wrong: ModuleType, heading: str, changed: set[str], statements: frozenset[int] | None
+    ) -> Iterator[int]:
         """Yields the numbers of cases that find a mistake in how whole texts are read, understood or compared."""
         for j, it in enumerate(self.all):
             if (len(it.case.text) > LONG) != (heading == LONG_TEXTS):
@@ -199,8 +218,13 @@ class Finder:
             is_concerned = (
                 it.case.second is not None if changed <= OF_TWO else changed & OF_TEXTS or "kind" in it.answer
             )
-            if is_concerned and is_found(it, wrong):
+            if is_concerned and runs_one(it.runs, statements) and is_found(it, wrong):
                 yield j
+
+
+def runs_one(runs: frozenset[int] | None, changed: frozenset[int] | None) -> bool:
+    """Whether one of the changed statements is among those that are run, or may be."""
+    return runs is None or changed is None or not runs.isdisjoint(changed)
 
 
 def applies(mistake: Mistake, line_type: str) -> bool:

@@ -21,6 +21,7 @@ PAIRS: dict[str, tuple[str, Pair, Pair]] = {
     "times-65536": ("the same value of 2^16 times the tail plus the head", (2, 5), (1, 2**16 + 5)),
     "times-10-6": ("the same value of 10^6 times the tail plus the head", (2, 5), (1, 10**6 + 5)),
     "times-10-9": ("the same value of 10^9 times the tail plus the head", (2, 5), (1, 10**9 + 5)),
+    "times-1000003": ("the same value of 1,000,003 times the tail plus the head", (2, 5), (1, 1000003 + 5)),
     "times-2-32": ("the same value of 2^32 times the tail plus the head", (2, 5), (1, 2**32 + 5)),
     "times-nodes": ("the same value of NODES times the tail plus the head with 64 bits", (3, 5), (1, 3)),
     "tail-8": ("tails that differ by 2^8", (2**8 + 1, 2), (1, 2)),

@@ -122,8 +122,10 @@ def odd_bytes() -> Iterator[Case]:
 
 
 def keywords() -> Iterator[Case]:
-    """Yields each keyword in upper case, longer and shorter."""
+    """Yields each keyword in upper case, longer and shorter, and the kinds of companions without `aux sp`."""
     for it in lines():
+        if it.words[1] == "aux":
+            yield it.case("keyword", "no-aux", "no `aux sp`", f"p {' '.join(it.words[3:])}\n")
         for i, word in enumerate(it.words):
             if not word[0].isalpha():
                 continue

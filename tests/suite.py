@@ -12,6 +12,7 @@ from typing import Any, NamedTuple
 import cases
 import challenge
 import mistakes
+import sentences
 from case import Case
 from found import LONG, Find, Finder, applies
 from mistakes import OF_TABLES, Mistake
@@ -31,6 +32,12 @@ ABOUT = (
 # The types of lines, and the headings of mistakes that a line of any type can have.
 TYPES = [f"{kind} {letter}" for kind, letters in LINES.items() for letter in letters]
 OF_LINES = ["Lines and words", "Keywords", "Numbers"]
+# How many other cases find each mistake that a case which is left out finds, and the rules whose cases all stay: each
+# has two faults or two numbers that no other case has.
+OTHERS = 10
+STAYING = ["several", "pair", "least", "total", "forced", "form"]
+# A case in readers.txt, in which the reader of a library does otherwise.
+FAILED = re.compile(r"^    (\S+)$", re.M)
 # A part of a long text that is repeated.
 REPEATED = re.compile(r"(.{1,16}?)\1{63,}", re.S)
 
@@ -64,7 +71,8 @@ class Entry(NamedTuple):
 
 
 class Suite:
-    """The cases: no two short ones find the same mistakes, and each of these finds some."""
+    """The cases: those that are written by hand, that test a sentence of FORMAT.md, in which the reader of a library
+    fails, or that are long, and of the others some of which no two find the same mistakes, and each finds some."""
 
     def __init__(self) -> None:
         self.mistakes = [*mistakes.mistakes()]
@@ -74,8 +82,22 @@ class Suite:
         chosen: dict[frozenset[Find], Entry] = {}
         for entry in self.all:
             chosen.setdefault(entry.finds, entry)
-        kept = {it.id for it in chosen.values() if it.finds}
+        named = {f"{it.rule}-{it.name}" for it in cases.listed()} | {it for _, ids in sentences.listed() for it in ids}
+        named |= {*FAILED.findall(text_of(f"{FOLDER}/readers.txt"))}
+        kept = named | {it.id for it in chosen.values() if it.finds}
         self.entries = [it for it in self.all if it.id in kept or LONG < len(it.case.text)]
+        spare = {it.id for it in self.spare(named)}
+        self.entries = [it for it in self.entries if it.id not in spare]
+
+    def spare(self, named: set[str]) -> Iterator[Entry]:
+        """Yields short cases without these names that can be left out together: many others find each of their
+        mistakes."""
+        found = self.finds()
+        for it in reversed(self.entries):
+            is_short = len(it.case.text) <= LONG and it.case.rule not in STAYING
+            if is_short and it.id not in named and all(OTHERS < found[find] for find in it.finds):
+                found.subtract(it.finds)
+                yield it
 
     def finds(self) -> Counter[Find]:
         """Returns how many cases find each mistake in each line type or kind."""

@@ -76,6 +76,8 @@ CLOCK = 6
 # The default sizes of pieces, how many pieces a text has at most, and the seconds between two looks at whether a piece
 # has been read.
 PIECES, MANY, PAUSE = [1, 7, 4096], 200, 0.0002
+# The seconds by the clock for which the time of an answer in a batch is not measured.
+AT_ONCE = 0.05
 
 # The words after `p` of each kind.
 KINDS = {"min": "min", "max": "max", "sp": "sp", "ss": "aux sp ss", "p2p": "aux sp p2p", "co": "aux sp co"}
@@ -408,19 +410,22 @@ class Batch(Runner):
         """Writes a line to the reader, and returns the line that it answers; its status is 0 unless it ends."""
         process = self.process()
         assert process.stdin and process.stdout
-        clock, line = Clock(process.pid, self.limit), b""
+        clock: Clock | None = None
+        line = b""
         try:
             process.stdin.write(f"{request}\n".encode())
             process.stdin.flush()
         except OSError:
             return Answer(line, b"", process.wait() or FAILED)
         while not line.endswith(b"\n"):
-            ready = select.select([process.stdout], [], [], min(1, clock.left()))[0]
-            if not clock.left() or MOST < len(line):
+            ready = select.select([process.stdout], [], [], min(1, clock.left()) if clock else AT_ONCE)[0]
+            # Most answers come at once, and need no look at the processor time.
+            clock = clock or (None if ready else Clock(process.pid, self.limit))
+            if clock and not clock.left() or MOST < len(line):
                 return Answer(line, b"", None)
             piece = os.read(process.stdout.fileno(), 65536) if ready else b""
             if ready and not piece:
-                return Answer(line, b"", ended(process, clock) or FAILED)
+                return Answer(line, b"", ended(process, clock or Clock(process.pid, self.limit)) or FAILED)
             line += piece
         return Answer(line, b"", 0)
 
@@ -563,9 +568,11 @@ def is_chosen(case: Case, asked: argparse.Namespace) -> bool:
         return False
     if asked.level == "challenge" and "profile" in case or asked.rule and case["rule"] not in asked.rule:
         return False
+    if not asked.kind:
+        return True
     texts = [joined(case[it]) for it in ("text", "left", "right") if it in case]
     kinds = {case["kind"]} if "kind" in case else {*map(kind_of, texts)}
-    return not asked.kind or kinds <= {*asked.kind, ""}
+    return kinds <= {*asked.kind, ""}
 
 
 class Result(NamedTuple):
