@@ -24,7 +24,7 @@ from collection import (
     make_collection,
     make_pipes,
 )
-from folders import ENVIRONMENT, make, module
+from folders import make, module
 from known import ROADS
 from shared import ROOT, Answer, Tally, run, text_of, write
 
@@ -253,7 +253,8 @@ def by_ci(tally: Tally, tested: str) -> None:
     """Tests the step of the workflow that checks the texts: GitHub shows each broken file."""
     remarks, faults = make_collection(), {**FAULTS, **make_pipes()}
     steps = STEP.findall(text_of(WORKFLOW))
-    environment = {**os.environ, **ENVIRONMENT, "DNORM": os.path.abspath(tested), "RUNNER_TEMP": os.getcwd()}
+    environment = {**os.environ, "DNORM": os.path.abspath(tested), "RUNNER_TEMP": os.getcwd()}
+    environment["PATH"] = f"{ROOT}:{os.environ['PATH']}"
     found = run(["bash", "-e", "-c", steps[1]], env=environment)
     annotation = r"^::(?:error|warning) file=(.*?)(?:,line=\d+)?(?:,title=.*?)?::\./(.*?)(?:%0A.*)?$"
     lines = re.findall(annotation, found.out.decode(), re.M)

@@ -234,8 +234,12 @@ class Matched:
         if self.tails is None:
             return ()
         turned = self.joined(self.heads[0][self.only_left], self.tails[0][self.only_left])
-        places = self.places_of(turned, self.theirs[self.only_right])
-        ours, theirs = self.only_left[places >= 0], self.only_right[places[places >= 0]]
+        # To look up rising keys, and to sort them before, takes less time than keys in any order.
+        order = self.np.argsort(turned)
+        places = self.places_of(turned[order], self.theirs[self.only_right])
+        ours, theirs = self.only_left[order[places >= 0]], self.only_right[places[places >= 0]]
+        order = self.np.argsort(ours)
+        ours, theirs = ours[order], theirs[order]
         same = self.left.first_arcs(ours[differing_bits(self.np, self.left, self.right, ours, theirs) == 0])
         return tuple(zip(*(it[same].tolist() for it in self.left.ends)))
 
