@@ -198,6 +198,11 @@ class Matched:
     def __init__(self, np: Any, left: Grouped, right: Grouped) -> None:
         self.np, self.left, self.right = np, left, right
         ends = [list(it) for it in zip(left.keys(), right.keys())]
+        if all(np.array_equal(*it) for it in ends):
+            self.tails = None
+            self.both_left = self.both_right = np.arange(len(ends[0][0]))
+            self.only_left = self.only_right = np.arange(0)
+            return
         if len(ends) == 2 and any(it.max(initial=0) > MOST for sides in ends for it in sides):
             # The places of the nodes among all of them have the order of the nodes.
             columns = [it for sides in ends for it in sides]
