@@ -7,7 +7,6 @@ import re
 import shutil
 import tarfile
 import textwrap
-import zipfile
 from xml.etree import ElementTree
 
 from calls import PACKAGE
@@ -29,10 +28,10 @@ def make_release(tested: str) -> None:
     name = f"dnorm-{VERSION}-x86_64-linux"
     with tarfile.open(f"release/{name}.tar.gz", "w:gz") as archive:
         archive.add(os.path.realpath(tested), f"{name}/dnorm")
-    with zipfile.ZipFile(f"release/dnorm-{VERSION}-py3-none-any.whl", "w") as wheel:
+        archive.add(f"{ROOT}/dnorm-files", f"{name}/dnorm-files")
         for it in os.listdir(f"{PACKAGE}/dnorm"):
             if it.endswith(".py"):
-                wheel.write(f"{PACKAGE}/dnorm/{it}", f"dnorm/{it}")
+                archive.add(f"{PACKAGE}/dnorm/{it}", f"{name}/python/src/dnorm/{it}")
     sums = run(["bash", "-c", "cd release && sha256sum dnorm-*"]).out
     write("release/SHA256SUMS", sums)
 
@@ -96,7 +95,7 @@ def workflow(tally: Tally, tested: str) -> None:
     shutil.rmtree("texts/below")
     os.remove("texts/bad.gr")
     tally.same("a repository without texts", runner.run()[-1].status, 4)
-    write(f"release/dnorm-{VERSION}-py3-none-any.whl", b"other")
+    write(f"release/dnorm-{VERSION}-x86_64-linux.tar.gz", b"other")
     found = runner.run()
     tally.same("a release with another checksum", (len(found), found[0].status), (1, 1))
 
@@ -115,6 +114,11 @@ CHOSEN = {
     "a.gr.gz.gz": True,
     "a.gr.lzma": True,
     "a.gr.": True,
+    "a.gr~": True,
+    "a.gr ": True,
+    "a.GR (1).gz": True,
+    "a.co-op.txt": False,
+    "a.co-op/notes": False,
     "a.gr.d/notes.txt": False,
     "jquery.min.js": False,
     "page.MIN.css.map": False,

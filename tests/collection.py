@@ -8,6 +8,7 @@ import io
 import lzma
 import os
 import random
+import socket
 import zipfile
 
 from calls import COMPRESS
@@ -64,6 +65,14 @@ FOLLOWS = [
     ".part",
     ".orig",
     ".",
+    " ",
+    "~",
+    "-old",
+    "_1",
+    " (1)",
+    " (1).gz",
+    ",v",
+    ".gz~",
 ]
 GZIP = gzip.compress(GRAPH, mtime=0)
 # Compressed files that are cut, damaged or followed by other bytes, or that hold another compression.
@@ -207,7 +216,18 @@ GRAPHS = {
 }
 # Files that the guards count, and do not look at.
 OTHERS = ["coll/x.net", "coll/noend", "coll/bad.dimacs", "coll/bad.txt", "coll/README.md", "coll/x.zst"]
-OTHERS += ["coll/jquery.min.js", "coll/page.min.css.map", "coll/gr.d/notes"]
+OTHERS += ["coll/jquery.min.js", "coll/page.min.css.map", "coll/gr.d/notes", "coll/a.grid", "coll/a.max-flow.csv"]
+# What no version control keeps, and no guard opens: a pipe and a socket.
+PIPES = {"coll/pipe.gr": NO, "coll/socket.min.gz": NO}
+
+
+def make_pipes() -> dict[str, str]:
+    """Makes the pipe and the socket, and returns their faults."""
+    pipe, end = PIPES
+    os.mkfifo(pipe)
+    with socket.socket(socket.AF_UNIX) as it:
+        it.bind(end)
+    return PIPES
 
 
 def make_collection() -> dict[str, str]:

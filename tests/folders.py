@@ -78,7 +78,7 @@ NOT_LOOKED_AT = {
     "set/a/loop.gr": "it is a link to a folder, which is not followed",
     "set/gr": NO_ENDING,
     "set/notes.txt": NO_ENDING,
-    "set/pipe.gr": "it is neither a file nor a link to one",
+    "set/pipe": NO_ENDING,
 }
 STRICT = "".join(
     sorted(
@@ -97,7 +97,7 @@ CHECKS = [
      LINES.replace("set/bad.max:end: 19 MissingTerminal\n", "").replace("set/v.co:2: 5 WrongLine\n", ""),
      "11 accepted, 0 refused, 0 failed", 0),
     ("--exclude a --exclude *.gr* --exclude *.?o set", "set/bad.max:end: 19 MissingTerminal\nset/flow.min: accepted min"
-     "\nset/p.p2p: accepted p2p\nset/s.ss: accepted ss\n", "3 accepted, 1 refused, 0 failed, 2 other files", 2),
+     "\nset/p.p2p: accepted p2p\nset/s.ss: accepted ss\n", "3 accepted, 1 refused, 0 failed, 3 other files", 2),
     ("set/a", LINES_A, "3 accepted, 0 refused, 0 failed, 1 other file", 0),
     ("set/a/", LINES_A, "3 accepted, 0 refused, 0 failed, 1 other file", 0),
     ("set/a set/s.ss", f"{LINES_A}set/s.ss: accepted ss\n", "4 accepted, 0 refused, 0 failed, 1 other file", 0),
@@ -150,7 +150,7 @@ def make_set() -> None:
         end = os.path.splitext(name)[1]
         write(name, COMPRESS[end](text) if end in COMPRESS else text)
     os.symlink("..", "set/a/loop.gr")
-    os.mkfifo("set/pipe.gr")
+    os.mkfifo("set/pipe")
 
 
 def wants(tally: Tally, what: str, found: Answer, out: str, err: str, status: int) -> None:

@@ -22,8 +22,9 @@ from collection import (
     POINTER,
     REFUSED_GRAPH,
     make_collection,
+    make_pipes,
 )
-from folders import ENVIRONMENT, make, module
+from folders import make, module
 from known import ROADS
 from shared import ROOT, Answer, Tally, run, text_of, write
 
@@ -45,14 +46,14 @@ def remarked(remarks: dict[str, str], before: str = ": accepted [a-z0-9]+, ") ->
 
 def by_package(tally: Tally, _: str) -> None:
     """Tests `python3 -m dnorm check`, also with links to folders, with --strict and with names that are given."""
-    remarks = make_collection()
+    remarks, faults = make_collection(), {**FAULTS, **make_pipes()}
     os.symlink("inst", "coll/linked")
     found = module("check", "--companions", "-q", "coll")
     lines = found.out.decode().splitlines()
-    are_named(tally, "check", lines, {**FAULTS, **remarked(remarks)})
+    are_named(tally, "check", lines, {**faults, **remarked(remarks)})
     failed = sum(": 31 Read " in it for it in lines)
     alone, kinds = (sum(it in remark for remark in remarks.values()) for it in (NO_GRAPH, OTHER_KIND))
-    count = f"{len(remarks)} accepted, {len(FAULTS) - failed} refused, {failed} failed"
+    count = f"{len(remarks)} accepted, {len(faults) - failed} refused, {failed} failed"
     count += f", {alone} companions without a graph, 1 companion of a graph that is not accepted"
     count += f", {kinds} files of another kind than their endings, {len(OTHERS) + 1} other files\n"
     tally.same("the count", (found.err.decode(), found.status), (count, 4))
@@ -61,7 +62,7 @@ def by_package(tally: Tally, _: str) -> None:
     others = {it: NO for it in [*OTHERS, "coll/linked"]}
     strict = remarked(remarks, r": 31 Read \(accepted [a-z0-9]+, ")
     strict = {name: it.replace("$", r"\)$") for name, it in strict.items()}
-    are_named(tally, "--strict", found.out.decode().splitlines(), {**FAULTS, **strict, **others})
+    are_named(tally, "--strict", found.out.decode().splitlines(), {**faults, **strict, **others})
     names = "\0".join([*remarks, *FAULTS]).encode()
     found = module("check", "--companions", "-q", "--files0-from", "-", given=names)
     are_named(tally, "check of named files", found.out.decode().splitlines(), {**FAULTS, **remarked(remarks)})
@@ -158,6 +159,9 @@ def later_links(tally: Tally, repository: Repository) -> None:
     repository.git("rm", "-q", "coll/good.gr.gz")
     orphans = ["coll/good.co: no graph", "coll/good.ss: no graph"]
     tally.same("a graph that is removed", repository.lines("commit", "-q", "-m", "x"), (orphans, 0))
+    repository.git("reset", "-q", "--hard", "HEAD~1")
+    repository.git("mv", "coll/good.gr.gz", "coll/better.gr.gz")
+    tally.same("a graph that is renamed", repository.lines("commit", "-q", "-m", "x"), (orphans, 0))
     os.remove(f"{os.getcwd()}-outside")
     repository.git("reset", "-q", "--hard", "HEAD~1")
 
@@ -247,13 +251,14 @@ def by_pre_commit(tally: Tally, tested: str) -> None:
 
 def by_ci(tally: Tally, tested: str) -> None:
     """Tests the step of the workflow that checks the texts: GitHub shows each broken file."""
-    remarks = make_collection()
+    remarks, faults = make_collection(), {**FAULTS, **make_pipes()}
     steps = STEP.findall(text_of(WORKFLOW))
-    environment = {**os.environ, **ENVIRONMENT, "DNORM": os.path.abspath(tested), "RUNNER_TEMP": os.getcwd()}
+    environment = {**os.environ, "DNORM": os.path.abspath(tested), "RUNNER_TEMP": os.getcwd()}
+    environment["PATH"] = f"{ROOT}:{os.environ['PATH']}"
     found = run(["bash", "-e", "-c", steps[1]], env=environment)
     annotation = r"^::(?:error|warning) file=(.*?)(?:,line=\d+)?(?:,title=.*?)?::\./(.*?)(?:%0A.*)?$"
     lines = re.findall(annotation, found.out.decode(), re.M)
-    told = {**FAULTS, **remarked(remarks)}
+    told = {**faults, **remarked(remarks)}
     are_named(tally, "CI", [line for _, line in lines], told)
     files = [it.replace("%3A", ":").replace("%2C", ",") for it, _ in lines]
     tally.same("annotated files", sorted(files), sorted(told))

@@ -23,7 +23,7 @@ or a compressed file is corrupt, no call returns an answer for it.
 explains refusals."""
 
 from .answers import CapacityPair, Checked, CostPair, Difference, LengthPair, Same, Shown
-from .calls import canon, canon_to, check, checksum, compare, show
+from .calls import canon, canon_to, check, checksum, compare, show, write
 from .columns import Column
 from .errors import DnormError, Endless, Killed, Memory, NoProgram, Read, Refused, TimedOut, Unexpected, Write
 from .files import File, Readable, Target, Writable
@@ -35,7 +35,6 @@ from .program import find_program, version
 from .reader import read
 from .refusals import REFUSALS
 from .summary import Differences, differences
-from .writer import write
 
 # The version of the program that this package belongs to, as Python packages spell it.
 __version__ = "2.0.0.dev0"

@@ -4,11 +4,14 @@ from __future__ import annotations
 
 import argparse
 import contextlib
+import importlib
+import importlib.util
 import os
 import signal
 import sys
 import traceback
 from collections.abc import Callable, Sequence
+from types import ModuleType
 from typing import Any, NoReturn
 
 from . import __version__
@@ -18,7 +21,6 @@ from .files import failing
 from .names import ENDINGS
 from .program import processors, version
 from .reports import SIGNALS, Console, Stopped, cause_of, for_terminal, has_output, line_of, stop
-from .suite import suite
 
 ABOUT = "Runs the program dnorm on many files at the same time."
 STATUSES = """\
@@ -43,6 +45,10 @@ TASKS = {
     "compare": "Prints the first difference between two files, how many pairs differ, and the first of these.",
     "explain": "Prints what dnorm prints, and below each refusal what shows its cause.",
 }
+
+
+# Where the suite of the files that `./install` installs is, and that of a clone.
+PLACES = ("../../conformance/run.py", "../../../share/conformance/run.py")
 
 
 class Parser(argparse.ArgumentParser):
@@ -210,6 +216,20 @@ def end_by(number: int, run: Run | None) -> None:
         with contextlib.suppress(DnormError, Stopped):
             run.stop()
     os.kill(os.getpid(), number)
+
+
+def suite() -> ModuleType:
+    """Returns the module of the conformance suite, which wheels have in this package, and clones and `./install` beside
+    it."""
+    name, here = f"{__package__}.conformance", os.path.dirname(os.path.abspath(__file__))
+    for place in PLACES:
+        path = os.path.normpath(os.path.join(here, place))
+        spec = importlib.util.spec_from_file_location(name, path)
+        if os.path.isfile(path) and spec and spec.loader:
+            found = sys.modules[name] = importlib.util.module_from_spec(spec)
+            spec.loader.exec_module(found)
+            return found
+    return importlib.import_module(name)
 
 
 def by_other_module(task: str, words: Sequence[str]) -> int | None:

@@ -5,12 +5,12 @@ from __future__ import annotations
 
 import contextlib
 import hashlib
-from collections.abc import Callable, Sequence
+import os
+from collections.abc import Callable, Iterable, Sequence
 from dataclasses import dataclass, replace
 from typing import Optional
 
 from .calls import check
-from .companions import Partners
 from .errors import Read, Refused
 from .files import Text
 from .handles import canonical_sum, refusal_of_fit
@@ -18,6 +18,9 @@ from .library import Instance, Library, instance_of
 from .limits import Limit
 from .names import COMPANIONS, KINDS, parts_of
 from .program import Program, with_cause
+
+# The ends of the names of graphs that have companions.
+WITH_COMPANIONS = (".gr", ".sp")
 
 
 @dataclass(frozen=True)
@@ -43,6 +46,35 @@ class Accepted:
         found = ["no graph"] if self.is_alone else []
         found += [f"graph not accepted: {it}" for it in self.not_accepted]
         return found + ([f"its ending is that of {self.named}"] if self.named else [])
+
+
+class Partners:
+    """The graphs and the companions in the folders of files, by their names without endings: roads.ss, roads.p2p and
+    roads.co belong to roads.gr."""
+
+    def __init__(self, names: Iterable[str]) -> None:
+        self.graphs: dict[str, list[str]] = {}
+        self.companions: dict[str, list[str]] = {}
+        for folder in sorted({os.path.dirname(it) for it in names}):
+            # A folder that cannot be listed hides the partners of its files, and the files can still be read.
+            with contextlib.suppress(OSError):
+                for it in sorted(os.listdir(folder or ".")):
+                    self._add(os.path.join(folder, it))
+
+    def _add(self, name: str) -> None:
+        stem, ending = parts_of(name)
+        for endings, found in [(WITH_COMPANIONS, self.graphs), (COMPANIONS, self.companions)]:
+            if ending in endings:
+                found.setdefault(stem, []).append(name)
+
+    def companions_of(self, name: str) -> list[str]:
+        """Returns the companions of a graph."""
+        stem, ending = parts_of(name)
+        return self.companions.get(stem, []) if ending in WITH_COMPANIONS else []
+
+    def graphs_of(self, name: str) -> list[str]:
+        """Returns the graphs of a companion."""
+        return self.graphs.get(parts_of(name)[0], [])
 
 
 class SummedText(Text):

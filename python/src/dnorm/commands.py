@@ -13,15 +13,14 @@ from collections.abc import Callable, Sequence
 from typing import TypeVar
 
 from .calls import canon_into
-from .checks import Accepted, Checker
-from .companions import Partners
+from .checks import Accepted, Checker, Partners
 from .errors import DnormError, Read, Refused
 from .files import Sink, Text, failing, sink_of
 from .folders import Found, Workers, find, in_order_of_names, outcome
 from .handles import canonical_sum
+from .instances import PROBLEM
 from .library import instance_of, library_of
 from .limits import Limit
-from .lines import PROBLEM
 from .listing import Listed, listed, record_of_listed, row_of, table, text_of_listed
 from .manifests import Entry, Summed, entries_of, entry_of, known_kind, state_of, text_of
 from .program import Program, unexpected

@@ -11,7 +11,7 @@ from typing import Generic, NamedTuple, TypeVar, cast
 
 from .errors import DnormError, Memory, Read
 from .files import reason_of
-from .names import is_text, unknown_text
+from .names import is_text, misnamed_text
 from .program import children
 
 # What version control keeps for itself: branches can have names like texts.
@@ -39,7 +39,7 @@ def find(paths: Iterable[str], endings: Sequence[str], excluded: Sequence[str] =
     """Returns the files that these paths name. The path of a folder names all files below it that end in one of these
     endings, in small letters or capitals, compressed or not, except what matches an excluded pattern. A folder that
     cannot be read, or that has no such file, has an error, and so has a file in whose name something else follows such
-    an ending."""
+    an ending, and what is no file, as a pipe."""
     found = Found({}, {})
     for path in paths:
         if os.path.isdir(path):
@@ -55,8 +55,15 @@ def find(paths: Iterable[str], endings: Sequence[str], excluded: Sequence[str] =
 
 def error_of_name(path: str, endings: Sequence[str]) -> DnormError | None:
     """Returns the error of a file whose name stands for no text that can be read, although it begins like one."""
-    reason = unknown_text(path, endings)
+    reason = misnamed_text(path, endings)
     return Read(path, reason) if reason else None
+
+
+def error_of_type(path: str) -> DnormError | None:
+    """Returns the error of what is found and is neither a file nor a link, as a pipe: it is not opened, which could
+    wait without end."""
+    is_none = not os.path.isfile(path) and os.path.exists(path)
+    return Read(path, "it is neither a file nor a link to one") if is_none else None
 
 
 def in_order_of_names(found: dict[str, Result]) -> dict[str, Result]:
@@ -79,11 +86,10 @@ class Search:
             links = [os.path.join(at, it) for it in folders if os.path.islink(os.path.join(at, it))]
             found.others.update(dict.fromkeys(links, "it is a link to a folder, which is not followed"))
             for path in (os.path.join(at, it) for it in names if self.is_wanted(at, it)):
-                reason = self.reason(path)
-                if reason:
-                    found.others[path] = reason
+                if is_text(path, self.endings) or misnamed_text(path, self.endings):
+                    found.files[path] = error_of_name(path, self.endings) or error_of_type(path)
                 else:
-                    found.files[path] = error_of_name(path, self.endings)
+                    found.others[path] = "its name does not end like that of a DIMACS text"
         for error in errors:
             name = os.fsdecode(error.filename)
             found.files[name] = Read(name, reason_of(error))
@@ -95,14 +101,6 @@ class Search:
             return False
         names = (name, os.path.relpath(os.path.join(at, name), self.folder)) if self.excluded else ()
         return not any(fnmatchcase(it, pattern) for it in names for pattern in self.excluded)
-
-    def reason(self, path: str) -> str:
-        """Returns why a file is not looked at, or nothing if it is."""
-        if not is_text(path, self.endings) and not unknown_text(path, self.endings):
-            return "its name does not end like that of a DIMACS text"
-        if not os.path.isfile(path) and os.path.exists(path):
-            return "it is neither a file nor a link to one"
-        return ""
 
 
 def outcome(task: Callable[[], Result], name: str) -> Result | DnormError:

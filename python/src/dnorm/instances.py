@@ -5,6 +5,7 @@ from __future__ import annotations
 import html
 import importlib
 import operator
+import re
 from array import array
 from collections.abc import Iterator, Mapping
 from dataclasses import dataclass, fields
@@ -12,8 +13,11 @@ from itertools import islice
 from typing import Any, ClassVar, Literal, NoReturn, TypeVar, Union, overload
 
 from .columns import LEAST, MOST, Column, are_same, column, column_of, frozen, least_and_greatest
-from .lines import COUNTED
 
+# The problem line of a canonical text.
+PROBLEM = re.compile(rb"p (?:(min|max|sp) ([0-9]+)|aux sp (ss|p2p|co)) ([0-9]+)\n")
+# The letter of the counted lines of each kind, and how many numbers follow it.
+COUNTED = {"min": (b"a", 5), "max": (b"a", 3), "sp": (b"a", 3), "ss": (b"s", 1), "p2p": (b"q", 2), "co": (b"v", 3)}
 # How many rows are made of columns at a time, how many lines of text, and how many rows a notebook shows.
 STEP, LINES, SHOWN = 1 << 16, 1 << 12, 10
 

@@ -55,6 +55,20 @@ def unknown_compression(name: str) -> str:
     return f"{OTHERS[ending]} is not supported" if ending in OTHERS else ""
 
 
+@functools.lru_cache(maxsize=None)
+def signs_after(endings: tuple[str, ...]) -> re.Pattern[str]:
+    """Returns an expression for the names that go on behind an ending by a sign, as `~`, to their end or up to the
+    ending of a compression."""
+    ends, packed = ("|".join(map(re.escape, it)) for it in (endings, COMPRESSIONS))
+    return re.compile(rf"({ends.lower()})[^a-z0-9.][^.]*(?:{packed})?\Z")
+
+
+def misnamed_text(name: str, endings: Sequence[str] = ENDINGS) -> str:
+    """Returns why a file that is found is no text, although its name promises one; or nothing."""
+    found = signs_after(tuple(endings)).search(os.path.basename(name).lower())
+    return unknown_text(name, endings) or (f"its name goes on behind {found[1]}" if found else "")
+
+
 def unknown_text(name: str, endings: Sequence[str] = ENDINGS) -> str:
     """Returns why a file of this name is no text, although the ending of one is in the name; or nothing."""
     if is_text(name, endings):

@@ -11,11 +11,10 @@ from .calls import canon_into, check_form
 from .columns import Growing
 from .errors import Unexpected
 from .files import File, Sink, Text, enough_memory, name_of
-from .instances import AnyInstance, Co, Max, Min, P2p, Sp, Ss
+from .instances import COUNTED, PROBLEM, AnyInstance, Co, Max, Min, P2p, Sp, Ss
 from .library import Instance as Held
 from .library import instance_of, library_of
 from .limits import Limit
-from .lines import COUNTED, PROBLEM
 from .program import Program, unexpected
 
 

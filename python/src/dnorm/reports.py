@@ -258,7 +258,7 @@ def junit(cases: Sequence[Case]) -> bytes:
     counts = {"tests": len(cases), "failures": 0, "errors": 0}
     suite = ElementTree.Element("testsuite", name="dnorm")
     for name, result, seconds in cases:
-        attributes = {"classname": "dnorm", "name": for_xml(name), "time": f"{seconds:.3f}"}
+        attributes = {"classname": "dnorm", "name": for_xml(name), "time": f"{seconds:.6f}"}
         case = ElementTree.SubElement(suite, "testcase", attributes)
         if isinstance(result, Refused):
             counts["failures"] += 1
@@ -272,7 +272,7 @@ def junit(cases: Sequence[Case]) -> bytes:
         elif result.remarks:
             ElementTree.SubElement(case, "system-out").text = for_xml(", ".join(result.remarks))
     suite.attrib.update((it, str(count)) for it, count in counts.items())
-    suite.set("time", f"{sum(it.seconds for it in cases):.3f}")
+    suite.set("time", f"{sum(it.seconds for it in cases):.6f}")
     suites = ElementTree.Element("testsuites")
     suites.append(suite)
     text: bytes = ElementTree.tostring(suites, encoding="utf-8", xml_declaration=True)
