@@ -1,15 +1,11 @@
 -- What a call that only reads requires can be had: whoever owns a handle lends it for a lifetime, to as many calls as
 -- it likes, and has it back once the lifetime has ended.
-use mathlib.Core.Path.{refl}
 use Prim.Native.Nat.{ℕ}
-use mathlib.Core.List.{[], ◌∷◌}
 use seplogic.Ra.Ura.{Ura}
 use base.Fraction.{full_share}
-use base.Logic.{ent, sep, id⊢}
-use base.Fml.{Lft, Share, Fml, ftrue, fsep, flft, flent, Incl-refl}
+use base.Logic.{ent, id⊢}
 use types.Logic.{Logic, sem}
-use denote.Memory.{part_at, part_of, hidden_shr}
-use denote.RawPtr.{block_ptr}
+use denote.Memory.{part_at, part_of}
 use Rattle.dn_c.specs.declared.handle.Handle.{Handle}
 use Rattle.dn_c.specs.declared.shown.Shown.{Shown}
 use Rattle.dn_c.specs.contracts.handle.Handle as H

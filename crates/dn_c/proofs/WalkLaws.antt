@@ -1,5 +1,5 @@
 -- Lemmas on a walk over canonical arcs.
-use Rattle.std.proofs.Common.{◌≡◌, ◌≤◌, ◌<◌, ◌+◌, ℕ, ℤ, zero, suc, List, [], ◌∷◌, ◌++◌, length, take, drop, slice_get, Option, None, Some, refl, sym, ap, ◌∙◌, arith, drop-drop, length-drop, length-append, length-take-le, take-add, take_all}
+use Rattle.std.proofs.Common.{◌≡◌, ◌≤◌, ◌<◌, ◌+◌, ℕ, ℤ, zero, suc, List, [], ◌∷◌, ◌++◌, length, take, drop, slice_get, Option, None, Some, refl, sym, ap, ◌∙◌, arith, drop-drop, length-drop, length-append, take-add}
 use Rattle.dn_canon.specs.State.ListedArcs.{placed, listed_arcs}
 use Rattle.dn_canon.proofs.LineLaws.{drop_get}
 use Rattle.std.proofs.lemmas.List.{length-map, take-map, drop-map, take_more_set}

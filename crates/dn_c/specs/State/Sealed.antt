@@ -1,5 +1,5 @@
 -- What a `Seal` owns and shares: what a `Box<Work>` does, or nothing.
-use base.Fml.{Lft, Share, Fml, ftrue, fsep, flft}
+use base.Fml.{Lft, Fml, ftrue}
 use base.Stored.{Coded}
 use denote.RawPtr.{Ptr}
 use denote.Struct.Lending.{lent_at}

@@ -2,7 +2,7 @@
 use Rattle.std.specs.Prelude.{◌≡◌, ◌+◌, ℕ, ℤ, List, [], ◌∷◌, ◌++◌, take, drop, length, slice_get, Option, None, Some, MatchOption}
 use Rattle.dn_arc.specs.State.Bundles.{IsAfter}
 use Rattle.dn_canon.specs.State.ListedArcs.{placed, listed_arcs}
-use Rattle.dn_c.specs.State.Places.{last_before, place_after}
+use Rattle.dn_c.specs.State.Places.{last_before}
 use Rattle.dn_c.specs.State.Rows.{rows_by}
 use Rattle.dn_c.specs.declared.arcs.Arc.{Arc}
 use Rattle.dn_c.specs.declared.place.Place.{Place}

@@ -1,4 +1,4 @@
-use Rattle.std.proofs.Common.{◌≡◌, ◌∷◌, [], ◌++◌, List, length, take, drop, sym, ap, subst, ◌∙◌, arith, Some, length-take-le, take_all}
+use Rattle.std.proofs.Common.{◌∷◌, [], ◌++◌, length, take, drop, sym, ap, subst, ◌∙◌, arith, Some, length-take-le, take_all}
 use Rattle.std.proofs.lemmas.List.{length-map, map-append}
 use Rattle.dn_c.specs.declared.columns.Column.TheVariants.{Tail, Head, A, B, C}
 use Rattle.dn_c.specs.State.Columns.{HasColumn, HasColumns, field_of}

@@ -1,4 +1,4 @@
-use Rattle.std.proofs.Common.{◌≡◌, ◌≤◌, List, take, drop, length}
+use Rattle.std.proofs.Common.{◌≤◌, List, take, drop, length}
 use Rattle.dn_c.specs.State.Columns.{HasColumns}
 use Rattle.dn_c.specs.State.Rows.{rows_by}
 use Rattle.dn_c.specs.State.Walks.{IsLeft}

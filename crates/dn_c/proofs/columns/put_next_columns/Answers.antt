@@ -1,4 +1,4 @@
-use Rattle.std.proofs.Common.{◌≡◌, length, subst}
+use Rattle.std.proofs.Common.{◌≡◌, subst}
 use Rattle.dn_c.specs.State.Columns.{HasColumns}
 use Rattle.dn_c.specs.State.Places.{place_with}
 use Rattle.dn_c.proofs.WalkLaws.{copies_from}

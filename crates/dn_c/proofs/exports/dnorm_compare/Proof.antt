@@ -1,5 +1,5 @@
 -- `dnorm_compare` makes a `&` of each pointer, and hands them on.
-use Rattle.dn_c.proofs.Steps.{◌≡◌, ℕ, List, [], ◌∷◌, ◌++◌, refl, Bor, proved, id⊢, fst∗, snd∗, ex_e, never, Fml, ftrue, fsep, flft, Val, vptr, fact, tables, WpFn, sem, ‵, raw, ◌⊛◌, some, later, prop, ◌$◌, ◌∵◌, !, qed, done, move, drop, use1, split, join, fsplit, fjoin, feq_i, pick, await, regoal, suffices, enter, of_opd, addr, stop, no_more, and_then, returns, alloc_all, pass_all, free_all, look_at, get, through, sets, lands_as, yes, shows, Is, hide, Ptr, RawPtr, block_ptr, in_a_block, rawptr_vals, rawptr_Tells, shr_vals, plain, nothing, heard, peeks, lent_at, calls_at, lasts, ensured, on_entry, triple_of, Stays, walk_of, stay_dropped, Goes-dropped, ends_at, framed}
+use Rattle.dn_c.proofs.Steps.{List, [], ◌∷◌, ◌++◌, refl, Bor, proved, id⊢, fst∗, snd∗, ex_e, never, ftrue, fsep, flft, Val, vptr, fact, tables, WpFn, sem, ‵, raw, ◌⊛◌, some, later, prop, ◌$◌, ◌∵◌, !, qed, done, move, drop, use1, split, join, fsplit, fjoin, feq_i, pick, await, regoal, suffices, enter, of_opd, addr, stop, no_more, and_then, returns, alloc_all, pass_all, free_all, look_at, get, through, sets, lands_as, yes, shows, Is, hide, Ptr, RawPtr, block_ptr, in_a_block, rawptr_vals, rawptr_Tells, shr_vals, plain, nothing, heard, peeks, lent_at, calls_at, lasts, ensured, on_entry, triple_of, Stays, walk_of, stay_dropped, Goes-dropped, ends_at, framed}
 use base.Logic.{emp}
 use contract.Monad.{fact_i}
 use types.Kit.{use0, group}

@@ -1,4 +1,4 @@
-use Rattle.std.proofs.Common.{◌≡◌, ◌<◌, ◌∷◌, [], ◌++◌, List, length, set, take, drop, sym, ap, subst, ◌∙◌, arith, Some, length-take-le, take_all}
+use Rattle.std.proofs.Common.{◌<◌, ◌∷◌, [], ◌++◌, length, set, take, drop, sym, ap, subst, ◌∙◌, arith, Some, length-take-le, take_all}
 use Rattle.std.proofs.lemmas.List.{length-map, length-set, map-append}
 use Rattle.dn_c.specs.State.Rows.{row_of, rows_by}
 use Rattle.dn_c.specs.State.Walks.{HasRows, IsLeft}

@@ -1,4 +1,4 @@
-use Rattle.std.proofs.Common.{◌≡◌, ◌∷◌, ◌+◌, List, drop, length, refl, sym, ap, subst, ◌∙◌, drop-drop, length-drop, arith, Some, None}
+use Rattle.std.proofs.Common.{drop, length, sym, ap, subst, ◌∙◌, drop-drop, length-drop, arith, Some}
 use Rattle.dn_c.specs.State.Walks.{IsLeft}
 use Rattle.dn_c.proofs.WalkLaws.{goes_on, goes_past}
 use Rattle.dn_c.proofs.walk.step.Goals as goal

@@ -1,4 +1,4 @@
-use Rattle.std.proofs.Common.{◌≡◌, List, drop, ℤ}
+use Rattle.std.proofs.Common.{◌≡◌, List, drop}
 use Rattle.dn_c.specs.State.Walks.{IsLeft}
 use Rattle.dn_c.proofs.walk.step.Given as goal
 

@@ -1,4 +1,4 @@
-use Rattle.std.proofs.Common.{◌≡◌, ◌≤◌, ◌++◌, take, length}
+use Rattle.std.proofs.Common.{◌≡◌, ◌++◌, take, length}
 use Rattle.dn_c.specs.State.Items.{items_left}
 use Rattle.dn_c.proofs.items.ItemsLeft.put.Given as goal
 

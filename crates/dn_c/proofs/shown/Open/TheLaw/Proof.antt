@@ -4,7 +4,7 @@ use base.Fml.{Lft}
 use contract.BorrowLft.{⊑_static}
 use denote.Memory.{lone}
 use denote.RawPtr.{Ptr, lies_at}
-use denote.Sharing.{ShrLaws, nothing, said}
+use denote.Sharing.{ShrLaws}
 use denote.SharingLaws.{said_shr_laws}
 use base.Fml.{ftrue}
 use denote.Shares.{Shares-less}

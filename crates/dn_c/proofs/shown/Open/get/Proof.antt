@@ -5,7 +5,7 @@ use mathlib.Core.List.{List, [], ◌∷◌}
 use seplogic.Ra.Ura.{Ura}
 use mir.Syntax.{Body, named, place, copy, assign, rv_opd, seq, return}
 use mir.Val.{Val, vptr}
-use base.Logic.{SProp, ent, sep, emp, via, fst∗}
+use base.Logic.{SProp, ent, sep}
 use base.Fml.{Lft, Share, Fml, ftrue, fhide, flft}
 use prog.Wp.{Calls, Loops, WpFn, Tables}
 use types.Logic.{Logic, sem}
