@@ -1,9 +1,6 @@
-// Bundles with known meanings.
+// Curves with known values, capacities that sum past the limit, and what faults print.
 
-use dn_bundle::{
-    Bundle, BundleFault, CapArc, CostArc, Curve, Fixed, Form, Gap, How, Least, LengthArc, Total,
-    bundle_of,
-};
+use dn_bundle::{Bundle, BundleFault, CapArc, CostArc, Curve, Fixed, Total, bundle_of};
 use std::alloc::Global;
 use std::test::Fail;
 
@@ -35,7 +32,7 @@ const OTHER: &[Numbers] = &[
     (0, 1, 0),
 ];
 
-const ROWS: [Row; 10] = [
+const ROWS: [Row; 5] = [
     Row {
         arcs: WORKED,
         forced: (2, 3),
@@ -101,20 +98,6 @@ const ROWS: [Row; 10] = [
         ],
     },
     Row {
-        arcs: &[(0, 9223372036854775807, 9223372036854775807)],
-        forced: (0, 0),
-        fixed: Fixed::Zero,
-        free: &[(9223372036854775807, 9223372036854775807)],
-        entries: 1,
-        least: &[
-            (0, Some(0)),
-            (
-                9223372036854775807,
-                Some(85070591730234615847396907784232501249),
-            ),
-        ],
-    },
-    Row {
         arcs: &[
             (
                 4611686018427387904,
@@ -136,52 +119,6 @@ const ROWS: [Row; 10] = [
         free: &[],
         entries: 1,
         least: &[(9223372036854775807, Some(-13835058055282163711))],
-    },
-    Row {
-        arcs: &[(1, 1, 9223372036854775806), (1, 1, 9223372036854775807)],
-        forced: (2, 18446744073709551613),
-        fixed: Fixed::Two {
-            units: 1,
-            cost: 9223372036854775806,
-            above: 1,
-        },
-        free: &[],
-        entries: 1,
-        least: &[(2, Some(18446744073709551613))],
-    },
-    Row {
-        arcs: &[(3, 5, 2), (0, 1, 2)],
-        forced: (3, 6),
-        fixed: Fixed::One { units: 3, cost: 2 },
-        free: &[(2, 3)],
-        entries: 2,
-        least: &[(2, None), (3, Some(6)), (6, Some(12)), (7, None)],
-    },
-    Row {
-        arcs: &[(1, 2, 0), (1, 3, 1)],
-        forced: (2, 1),
-        fixed: Fixed::Two {
-            units: 1,
-            cost: 0,
-            above: 1,
-        },
-        free: &[(0, 1), (1, 2)],
-        entries: 3,
-        least: &[
-            (1, None),
-            (2, Some(1)),
-            (3, Some(1)),
-            (5, Some(3)),
-            (6, None),
-        ],
-    },
-    Row {
-        arcs: &[(1, 1, 0), (1, 1, 4)],
-        forced: (2, 4),
-        fixed: Fixed::One { units: 2, cost: 2 },
-        free: &[],
-        entries: 1,
-        least: &[(1, None), (2, Some(4)), (3, None)],
     },
 ];
 
@@ -287,91 +224,6 @@ fn sums_past_the_limit(rt: HostRuntime) {
         stays_past_the_limit(rt.alloc(), all, (0, 1, 9)),
         "one more at another"
     );
-}
-
-// Whether the methods of a bundle of lengths agree that this is the least length.
-fn is_least(least: &Least, answer: i64) -> bool {
-    let arc = LengthArc { length: answer };
-    least.get() == answer
-        && least.entries() == 1
-        && least.canon_len(Form::Two) == 1
-        && least.canon_arc(0, Form::Two) == Some(arc)
-}
-
-#[test]
-fn lists_of_lengths(rt: HostRuntime) -> Result<(), Fail> {
-    let lengths = [LengthArc { length: 7 }, LengthArc { length: 3 }];
-    let least = bundle_of::<Least>(rt.alloc(), &lengths)?;
-    assert!(rt; least.as_ref().is_some_and(|least| is_least(least, 3)));
-    let how = How::Lengths {
-        left: None,
-        right: Some(3),
-    };
-    assert!(rt; Least::how(None, least.as_ref()) == Some(how));
-    Ok(())
-}
-
-// Whether the methods of a bundle of capacities agree that this is the total capacity, which is not 0.
-fn is_total(total: &Total, answer: i64) -> bool {
-    let arc = CapArc { cap: answer };
-    total.get() == answer
-        && total.entries() == 1
-        && total.canon_len(Form::One) == 1
-        && total.canon_arc(0, Form::One) == Some(arc)
-}
-
-#[test]
-fn lists_of_capacities(rt: HostRuntime) -> Result<(), Fail> {
-    let total = bundle_of::<Total>(rt.alloc(), &[CapArc { cap: 4 }, CapArc { cap: 5 }])?;
-    assert!(rt; total.as_ref().is_some_and(|total| is_total(total, 9)));
-    let how = How::Totals { left: 9, right: 0 };
-    assert!(rt; Total::how(total.as_ref(), None) == Some(how));
-    Ok(())
-}
-
-#[test]
-fn capacities_past_the_limit(rt: HostRuntime) {
-    let past = [
-        CapArc {
-            cap: 9223372036854775807,
-        },
-        CapArc { cap: 1 },
-    ];
-    let fault = bundle_of::<Total>(rt.alloc(), &past).err();
-    assert!(rt; fault == Some(BundleFault::Sum));
-}
-
-#[test]
-fn lists_of_costs(rt: HostRuntime) -> Result<(), Fail> {
-    let costs = [CostArc {
-        low: 0,
-        cap: 2,
-        cost: 4,
-    }];
-    let curve = bundle_of::<Curve>(rt.alloc(), &costs)?;
-    let gap = Gap {
-        amount: 1,
-        left: Some(4),
-        right: None,
-    };
-    assert!(rt;
-        curve
-            .as_ref()
-            .is_some_and(|curve| curve.least(2) == Some(8))
-    );
-    assert!(rt; Curve::how(curve.as_ref(), None) == Some(How::Costs(gap)));
-    Ok(())
-}
-
-// Whether a problem may have an arc with these numbers.
-fn is_arc(low: i64, cap: i64) -> bool {
-    Curve::is_arc(&CostArc { low, cap, cost: 5 })
-}
-
-#[test]
-fn arcs_of_problems(rt: HostRuntime) {
-    let answers = [is_arc(0, 0), is_arc(2, 2), is_arc(-1, 3), is_arc(3, 2)];
-    assert!(rt; answers == [true, true, false, false]);
 }
 
 #[test]

@@ -1,9 +1,9 @@
 // Writing canonical texts into different sinks, and judging texts.
 
 use crate::stand_ins::{FailsOnce, LateWriter, NoFlush};
-use crate::texts::{COSTS, COSTS_ONE, ROADS, ROADS_CANON};
+use crate::texts::{ROADS, ROADS_CANON};
 use dn_bundle::Form;
-use dn_canon::{canon_run, is_canon, is_canon_of, write_canon};
+use dn_canon::{canon_run, is_canon, write_canon};
 use dn_instance::{Refusal, read_text};
 use dn_line::{FromRead, Slice, Source, SourceFault};
 use dn_sink::{Bytes, Sink, SinkFault, ToWrite};
@@ -68,45 +68,6 @@ fn streams_that_fail_once(rt: HostRuntime) {
                 [Err(SinkFault), Err(SinkFault)]
             )
     );
-}
-
-// A text of a problem, another text, a form, and whether the other text is the canonical one of the problem in this
-// form.
-const JUDGED: [(&str, &str, Form, bool); 6] = [
-    (ROADS, ROADS, Form::One, false),
-    (ROADS, ROADS_CANON, Form::One, true),
-    // Without its last LF.
-    (
-        ROADS,
-        "p sp 3 5\na 1 2 3\na 2 1 4\na 2 2 0\na 2 3 9\na 3 1 -5",
-        Form::One,
-        false,
-    ),
-    // With a comment.
-    (
-        ROADS,
-        "p sp 3 5\na 1 2 3\na 2 1 4\na 2 2 0\na 2 3 9\na 3 1 -5\nc\n",
-        Form::One,
-        false,
-    ),
-    (COSTS, COSTS_ONE, Form::One, true),
-    (COSTS, COSTS_ONE, Form::Two, false),
-];
-
-// Whether a text is the canonical one, in this form, of the problem in another.
-fn is_canonical(alloc: Global, problem: &str, text: &str, form: Form) -> Result<bool, Refusal> {
-    let held = read_text(alloc, problem.as_bytes())?;
-    let is_canonical = is_canon_of(&held, text.as_bytes(), form);
-    drop(held);
-    Ok(is_canonical)
-}
-
-#[test]
-fn judging(rt: HostRuntime) {
-    for (problem, text, form, answer) in &JUDGED {
-        let is_judged = is_canonical(rt.alloc(), problem, text, *form) == Ok(*answer);
-        assert!(rt; is_judged, "{text}");
-    }
 }
 
 // Whether `canon_run` puts the canonical text.

@@ -127,31 +127,25 @@ fn way_to_find(alloc: Global, pairs: &[(i64, i64)]) -> Result<&'static str, Allo
     }
 }
 
-// Pairs in groups of one tail: the tails are multiples of one number, and the heads of another.
-#[derive(Clone, Copy)]
-struct Groups {
-    size: i64,
-    tail: i64,
-    head: i64,
-    way: &'static str,
-}
+// Pairs in groups of one tail: their size, and of what numbers the tails and the heads are multiples.
+type Groups = (i64, i64, i64);
 
 // Returns the pairs of these groups. Retries the allocation once if it fails.
-fn pairs_of(alloc: Global, groups: &Groups) -> Result<Vec<(i64, i64)>, AllocError> {
+fn pairs_of(alloc: Global, groups: Groups) -> Result<Vec<(i64, i64)>, AllocError> {
+    let (size, tail, head) = groups;
     let mut pairs = match Vec::with_capacity(alloc, 150) {
         Ok(pairs) => pairs,
         Err(_) => Vec::with_capacity(alloc, 150)?,
     };
     for i in 0..150i64 {
-        let group = i.checked_div(groups.size).unwrap_or(0);
-        let tail = groups.tail.wrapping_mul(group);
-        pairs.push((tail, groups.head.wrapping_mul(i)))?;
+        let group = i.checked_div(size).unwrap_or(0);
+        pairs.push((tail.wrapping_mul(group), head.wrapping_mul(i)))?;
     }
     Ok(pairs)
 }
 
 // Returns `way_to_find` of the pairs of these groups.
-fn way_to_find_groups(alloc: Global, groups: &Groups) -> Result<&'static str, AllocError> {
+fn way_to_find_groups(alloc: Global, groups: Groups) -> Result<&'static str, AllocError> {
     let pairs = pairs_of(alloc, groups)?;
     way_to_find(alloc, &pairs)
 }
@@ -159,78 +153,28 @@ fn way_to_find_groups(alloc: Global, groups: &Groups) -> Result<&'static str, Al
 // A number whose multiples are scattered.
 const SCATTERING: i64 = 0x1E37_79B9_7F4A_7C15;
 
-// How the pairs of groups are found at the end. Groups of more than 24 entries are linked, unless their heads rise.
-const GROUPS: [Groups; 9] = [
+// How the pairs of groups are found at the end: the size of the groups, and of what numbers their tails and their heads
+// are multiples. Groups of more than 24 entries are linked, unless their heads rise.
+const GROUPS: [(i64, i64, i64, &str); 9] = [
     // Tails that rise, and that fall.
-    Groups {
-        size: 1,
-        tail: 1,
-        head: 5,
-        way: "in order",
-    },
-    Groups {
-        size: 1,
-        tail: -1,
-        head: 4,
-        way: "in order",
-    },
+    (1, 1, 5, "in order"),
+    (1, -1, 4, "in order"),
     // One tail, and groups of few and of many heads, whose tails rise or fall.
-    Groups {
-        size: 150,
-        tail: 1,
-        head: -1,
-        way: "in order",
-    },
-    Groups {
-        size: 150,
-        tail: 1,
-        head: SCATTERING,
-        way: "in order",
-    },
-    Groups {
-        size: 10,
-        tail: 1,
-        head: SCATTERING,
-        way: "in order",
-    },
-    Groups {
-        size: 40,
-        tail: 1,
-        head: SCATTERING,
-        way: "in order",
-    },
-    Groups {
-        size: 40,
-        tail: -1,
-        head: SCATTERING,
-        way: "in order",
-    },
+    (150, 1, -1, "in order"),
+    (150, 1, SCATTERING, "in order"),
+    (10, 1, SCATTERING, "in order"),
+    (40, 1, SCATTERING, "in order"),
+    (40, -1, SCATTERING, "in order"),
     // Tails that rise and fall, near to each other and far apart.
-    Groups {
-        size: 1,
-        tail: SCATTERING,
-        head: 1,
-        way: "scattered",
-    },
-    Groups {
-        size: 1,
-        tail: i64::MIN + 1,
-        head: i64::MAX - 3,
-        way: "scattered",
-    },
+    (1, SCATTERING, 1, "scattered"),
+    (1, i64::MIN + 1, i64::MAX - 3, "scattered"),
 ];
 
 #[test]
 fn finds_groups(rt: HostRuntime) {
-    for groups in &GROUPS {
-        let way = way_to_find_groups(rt.alloc(), groups);
-        assert!(rt;
-            way == Ok(groups.way),
-            "{} of {} and {}",
-            groups.size,
-            groups.tail,
-            groups.head
-        );
+    for (size, tail, head, answer) in &GROUPS {
+        let way = way_to_find_groups(rt.alloc(), (*size, *tail, *head));
+        assert!(rt; way == Ok(*answer), "{size} of {tail} and {head}");
     }
 }
 
@@ -254,7 +198,8 @@ fn way_to_find_again(alloc: Global, pairs: &[(i64, i64)]) -> Result<&'static str
 
 #[test]
 fn finds_again(rt: HostRuntime) -> Result<(), Fail> {
-    let rising = pairs_of(rt.alloc(), &GROUPS[0])?;
+    let (size, tail, head, _) = GROUPS[0];
+    let rising = pairs_of(rt.alloc(), (size, tail, head))?;
     assert!(rt; way_to_find_again(rt.alloc(), &rising) == Ok("scattered"));
     Ok(())
 }

@@ -1,209 +1,97 @@
-// Texts that come in pieces, and the instances that they read as.
+// Texts in pieces, refusals that stay, a copy of what is read, and the entries of a reader.
 
 use crate::stand_ins::Pieces;
-use crate::texts::{CAPACITIES, COSTS, COSTS_ONE, ROADS, ROADS_CANON};
+use crate::texts::{COSTS, COSTS_ONE, ROADS, ROADS_CANON};
 use dn_bundle::Form;
 use dn_canon::canon_text;
-use dn_instance::{Held, Place, Reader, Refusal, read_from, read_keep, read_text};
+use dn_instance::{Place, Reader, Refusal, read_from, read_keep};
 use dn_line::{Code, Slice};
 use std::alloc::Global;
 use std::test::Fail;
 
-// A text, the number of bytes after which its fault is known, and its canonical text or its fault.
-#[derive(Clone, Copy)]
-struct Case {
-    text: &'static str,
-    shown: usize,
-    answer: Result<&'static str, Refusal>,
+// A comment of 1,000,000 bytes before a text.
+#[test]
+fn a_long_comment(rt: HostRuntime) -> Result<(), Fail> {
+    let block = [b'1'; 1000];
+    let mut reader = Reader::new(rt.alloc());
+    reader.feed(b"c")?;
+    for _ in 0..1000 {
+        reader.feed(&block)?;
+    }
+    reader.feed(b"\n")?;
+    reader.feed(ROADS.as_bytes())?;
+    let held = reader.finish()?;
+    let text = canon_text(rt.alloc(), &held, Form::One);
+    drop(held);
+    assert!(rt; text.is_ok_and(|text| text.as_slice() == ROADS_CANON.as_bytes()));
+    Ok(())
 }
 
-impl Case {
-    // Returns what a reader must return after this prefix of the text.
-    fn so_far(&self, front: &[u8]) -> Result<(), Refusal> {
-        match self.answer {
-            Err(fault) if front.len() >= self.shown => Err(fault),
-            _ => Ok(()),
-        }
-    }
-
-    // Whether reading the text gave the expected canonical text or fault.
-    fn is_read(&self, alloc: Global, read: Result<Held, Refusal>) -> bool {
-        match read {
-            Ok(held) => {
-                let text = canon_text(alloc, &held, Form::One);
-                drop(held);
-                match (text, self.answer) {
-                    (Ok(text), Ok(canon)) => text.as_slice() == canon.as_bytes(),
-                    _ => false,
-                }
-            }
-            Err(refusal) => self.answer == Err(refusal),
-        }
-    }
-}
-
-// Faults of the second line.
-const NOT_A_NUMBER: Refusal = Refusal::Text {
-    place: Place::Line(2),
-    code: Code::NotANumber,
-};
-
-const OUT_OF_RANGE: Refusal = Refusal::Text {
-    place: Place::Line(2),
-    code: Code::OutOfRange,
-};
-
-const CASES: [Case; 11] = [
-    Case {
-        text: COSTS,
-        shown: usize::MAX,
-        answer: Ok(COSTS_ONE),
-    },
-    Case {
-        text: CAPACITIES,
-        shown: usize::MAX,
-        answer: Ok("p max 3 2\nn 1 s\nn 3 t\na 1 2 9\na 1 3 2\n"),
-    },
-    Case {
-        text: "c\tb\r\n p aux sp co +2\r\n\r\nv 3  -73530767 41085396\nv 1 5 -6",
-        shown: usize::MAX,
-        answer: Ok("p aux sp co 2\nv 1 5 -6\nv 3 -73530767 41085396\n"),
-    },
-    Case {
-        text: "",
-        shown: usize::MAX,
-        answer: Err(Refusal::Text {
-            place: Place::End,
-            code: Code::NoProblem,
-        }),
-    },
-    Case {
-        text: "x",
-        shown: usize::MAX,
-        answer: Err(Refusal::Text {
-            place: Place::Line(1),
-            code: Code::BadLine,
-        }),
-    },
-    Case {
-        text: "p sp 2 2\na 1 2 1\n",
-        shown: usize::MAX,
-        answer: Err(Refusal::Text {
-            place: Place::End,
-            code: Code::TooFewLines,
-        }),
-    },
-    Case {
-        text: "p sp 2 1\na 1 2 1.5\n",
-        shown: 19,
-        answer: Err(NOT_A_NUMBER),
-    },
-    Case {
-        text: "p sp 2 1\na 1 2 9223372036854775808\n",
-        shown: 35,
-        answer: Err(OUT_OF_RANGE),
-    },
-    Case {
-        text: "p sp 2 1\na 1 2 99999999999999999999x\n",
-        shown: 37,
-        answer: Err(NOT_A_NUMBER),
-    },
-    Case {
-        text: "p sp 2 1\na 9223372036854775808 2 x\n",
-        shown: 35,
-        answer: Err(NOT_A_NUMBER),
-    },
-    Case {
-        text: "p sp 1 1\na 1 1 x\nz\n",
-        shown: 17,
-        answer: Err(NOT_A_NUMBER),
-    },
+// Texts, and their canonical texts, or what is wrong with their second lines.
+const CUT: [(&str, Result<&str, Code>); 5] = [
+    (COSTS, Ok(COSTS_ONE)),
+    ("p sp 2 1\na 1 2 1.5\n", Err(Code::NotANumber)),
+    (
+        "p sp 2 1\na 1 2 9223372036854775808\n",
+        Err(Code::OutOfRange),
+    ),
+    (
+        "p sp 2 1\na 1 2 99999999999999999999x\n",
+        Err(Code::NotANumber),
+    ),
+    (
+        "p sp 2 1\na 9223372036854775808 2 x\n",
+        Err(Code::NotANumber),
+    ),
 ];
 
-// Whether a reader that is fed the text byte by byte returns the fault as soon as the LF of the faulty line has come.
-fn tells_by_bytes(reader: &mut Reader, case: &Case) -> bool {
-    let text = case.text.as_bytes();
-    for at in 0..text.len() {
-        if reader.feed(&text[at..=at]) != case.so_far(&text[..=at]) {
-            return false;
-        }
-    }
-    true
-}
-
-// Whether the text is read as expected if it is fed byte by byte.
-fn is_so_by_bytes(alloc: Global, case: &Case) -> bool {
-    let mut reader = Reader::new(alloc);
-    let told = tells_by_bytes(&mut reader, case);
-    let is_read = case.is_read(alloc, reader.finish());
-    told && is_read
-}
-
-// Whether the text is read as expected if it is fed in two pieces, cut at `cut`.
-fn is_so_in_two(alloc: Global, case: &Case, cut: usize) -> bool {
-    let text = case.text.as_bytes();
+// Returns the canonical text of a text that comes in two pieces, the second one byte by byte if `slow`.
+fn canon_in_pieces(alloc: Global, text: &[u8], cut: usize, slow: bool) -> Result<Vec<u8>, Refusal> {
     let (front, back) = text.split_at(cut.min(text.len()));
     let mut reader = Reader::new(alloc);
-    let told = reader.feed(front) == case.so_far(front) && reader.feed(back) == case.so_far(text);
-    let is_read = case.is_read(alloc, reader.finish());
-    told && is_read
-}
-
-// Whether the text is read as expected if it is fed in two pieces, cut at any place.
-fn is_so_in_two_pieces(alloc: Global, case: &Case) -> bool {
-    for cut in 0..=case.text.len() {
-        if !is_so_in_two(alloc, case, cut) {
-            return false;
+    reader.feed(front)?;
+    if slow {
+        for byte in back {
+            reader.feed(&[*byte])?;
         }
-    }
-    true
-}
-
-// Whether reading this source is refused with `fault`, with a copy and without, and the copy contains the bytes pulled.
-fn is_refused(alloc: Global, source: Pieces, fault: Refusal) -> bool {
-    let text = source.rest;
-    let mut alone = source;
-    let mut copied = source;
-    let mut copy = Vec::new(alloc);
-    read_from(alloc, &mut alone).err() == Some(fault)
-        && read_keep(alloc, &mut copied, &mut copy).err() == Some(fault)
-        && copy.as_slice() == &text[..text.len().saturating_sub(copied.rest.len())]
-}
-
-// Whether a source that fails at any pull gives the fault of an earlier complete line, and otherwise `Read`.
-fn is_so_of_failing(alloc: Global, case: &Case) -> bool {
-    let text = case.text.as_bytes();
-    for pulls in 0..=text.len() {
-        let fault = match case.so_far(&text[..pulls]) {
-            Ok(()) => Refusal::Read,
-            Err(fault) => fault,
-        };
-        if !is_refused(alloc, Pieces::failing(text, 1, pulls), fault) {
-            return false;
-        }
-    }
-    true
-}
-
-// Returns in which way the text was given when it was not read as expected.
-fn differs(alloc: Global, case: &Case) -> Option<&'static str> {
-    if !case.is_read(alloc, read_text(alloc, case.text.as_bytes())) {
-        Some("whole")
-    } else if !is_so_by_bytes(alloc, case) {
-        Some("byte by byte")
-    } else if !is_so_in_two_pieces(alloc, case) {
-        Some("in two pieces")
-    } else if !is_so_of_failing(alloc, case) {
-        Some("from a source that fails")
     } else {
-        None
+        reader.feed(back)?;
+    }
+    let held = reader.finish()?;
+    let canon = canon_text(alloc, &held, Form::One);
+    drop(held);
+    canon
+}
+
+// Whether reading the text gave the canonical text or the fault of the second line.
+fn is_read(read: Result<Vec<u8>, Refusal>, answer: &Result<&str, Code>) -> bool {
+    match read {
+        Ok(text) => match answer {
+            Ok(canon) => text.as_slice() == canon.as_bytes(),
+            Err(_) => false,
+        },
+        Err(refusal) => match answer {
+            Ok(_) => false,
+            Err(code) => {
+                refusal
+                    == Refusal::Text {
+                        place: Place::Line(2),
+                        code: *code,
+                    }
+            }
+        },
     }
 }
 
 #[test]
 fn texts_in_pieces(rt: HostRuntime) {
-    for case in &CASES {
-        assert_eq!(rt; differs(rt.alloc(), case), None);
+    for (text, answer) in &CUT {
+        for cut in 0..=text.len() {
+            for slow in [true, false] {
+                let read = canon_in_pieces(rt.alloc(), text.as_bytes(), cut, slow);
+                assert!(rt; is_read(read, answer), "{text} cut at {cut}");
+            }
+        }
     }
 }
 
@@ -221,27 +109,18 @@ fn a_refusal_stays(rt: HostRuntime) {
     assert!(rt; reader.finish().err() == fault.err());
 }
 
-// Whether the text is read as expected after a comment of 1,000,000 bytes.
-fn is_so_behind_a_comment(alloc: Global, case: &Case) -> bool {
-    let block = [b'1'; 1000];
-    let mut reader = Reader::new(alloc);
-    let _ = reader.feed(b"c");
-    for _ in 0..1000 {
-        let _ = reader.feed(&block);
-    }
-    let _ = reader.feed(b"\n");
-    let _ = reader.feed(case.text.as_bytes());
-    case.is_read(alloc, reader.finish())
-}
-
+// A fault of a line before the source fails comes first.
 #[test]
-fn a_long_comment(rt: HostRuntime) {
-    let case = Case {
-        text: ROADS,
-        shown: usize::MAX,
-        answer: Ok(ROADS_CANON),
+fn failing_sources(rt: HostRuntime) {
+    let bad = Refusal::Text {
+        place: Place::Line(1),
+        code: Code::BadLine,
     };
-    assert!(rt; is_so_behind_a_comment(rt.alloc(), &case));
+    for (text, fault) in [("p sp 1 1\n", Refusal::Read), ("x\n", bad)] {
+        let mut source = Pieces::failing(text.as_bytes(), text.len(), 1);
+        let read = read_from(rt.alloc(), &mut source);
+        assert!(rt; read.err() == Some(fault), "{text}");
+    }
 }
 
 #[test]

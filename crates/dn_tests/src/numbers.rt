@@ -1,50 +1,6 @@
-// Number texts with known numbers.
+// Texts of numbers, and the plain numbers that are found in front of bytes.
 
-use dn_num::{
-    NumFault, NumberReader, append_number, marked_number, marks_of, number_front, number_into,
-    read_number,
-};
-
-// Texts, and the numbers that they spell.
-const TEXTS: [(&str, Result<i64, NumFault>); 13] = [
-    (
-        "00000000000000000000000000000000000000009223372036854775807",
-        Ok(9223372036854775807),
-    ),
-    (
-        "-00000000000000000000000000000000000000009223372036854775808",
-        Ok(-9223372036854775808),
-    ),
-    (
-        "9999999999999999999999999999999999999999",
-        Err(NumFault::OutOfRange),
-    ),
-    (
-        "9999999999999999999999999999999999999999-",
-        Err(NumFault::NotANumber),
-    ),
-    ("", Err(NumFault::NotANumber)),
-    ("+", Err(NumFault::NotANumber)),
-    ("+007", Ok(7)),
-    ("-0", Ok(0)),
-    ("1.5", Err(NumFault::NotANumber)),
-    ("9223372036854775808", Err(NumFault::OutOfRange)),
-    ("9223372036854775807", Ok(9223372036854775807)),
-    ("99999999999999999999x", Err(NumFault::NotANumber)),
-    ("x", Err(NumFault::NotANumber)),
-];
-
-#[test]
-fn numbers_of_texts(rt: HostRuntime) {
-    for (text, answer) in &TEXTS {
-        let mut reader = NumberReader::new();
-        for byte in text.as_bytes() {
-            reader.push(*byte);
-        }
-        let both = (read_number(text.as_bytes()), reader.finish());
-        assert!(rt; both == (*answer, *answer), "the word {text}");
-    }
-}
+use dn_num::{append_number, marked_number, marks_of, number_front, number_into};
 
 // Numbers, and their texts.
 const NUMBERS: [(i64, &str); 4] = [
