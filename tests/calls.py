@@ -208,7 +208,7 @@ def unexpected(line: str, status: int) -> str:
 
 
 def failures(tally: Tally, _: str) -> None:
-    """Tests what the calls make of the lines of failed runs: those that the manual has, and others."""
+    """Tests what the calls make of the lines of failed runs: those that the help has, and others."""
     program = fake("fails", 'cat > /dev/null; printf "%s" "$ERR" >&2; exit "$STATUS"')
     rows = [(f"{line}\n", status, wanted) for line, status, wanted in LINES]
     for line, status in [*OTHER_LINES, *(it[:2] for it in LINES)]:

@@ -202,7 +202,7 @@ def sinks(tally: Tally, _: str) -> None:
 
 
 NONE = "there is no such program"
-WHERE = "the wheels for Linux on x86-64 and ARM bring it, and the manual names other ways under Python"
+WHERE = "the wheels for Linux on x86-64 and ARM bring it, and docs/FILES.md names other ways"
 # Where the program is looked for: the argument, $DNORM, PATH, and the error if it is not found.
 PLACES: list[tuple[str | None, str | None, str, str]] = [
     ("bin/dnorm", None, "/none", ""),

@@ -22,8 +22,8 @@ from known import COSTS, COSTS_TWO, FLOWS, ROADS, ROADS_CANON
 from shared import LIMIT, Answer, Tally, bytes_of, run, terminal, write
 
 import dnorm
-from dnorm.commands import DONE
-from dnorm.folders import Workers
+from dnorm.commands.folders import Workers
+from dnorm.commands.tasks import DONE
 
 ENVIRONMENT = {"PYTHONPATH": PACKAGE, "PYTHONDONTWRITEBYTECODE": "1"}
 MODULE = [sys.executable, "-m", "dnorm"]

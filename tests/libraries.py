@@ -1,7 +1,10 @@
 """Tests where the Python package finds the library for C, and that `read` gives the same by it as by the program, also
-with little memory and from several threads; that `check --json` prints the same by both; and that no other library is
-used, one of another version least of all. `tests/python` runs these tests, each in a folder of its own."""
+with little memory, from several threads and of two files at once; that `check --json` prints the same by both; and that
+no other library is used, one of another version least of all. `tests/python` runs these tests, each in a folder of its
+own."""
 
+import _thread
+import functools
 import gzip
 import itertools
 import json
@@ -9,6 +12,7 @@ import os
 import random
 import shutil
 import sys
+import threading
 import types
 from collections import Counter
 from collections.abc import Callable
@@ -20,7 +24,7 @@ from collection import GRAPH, POINTER, SOURCES
 from folders import ENVIRONMENT, MODULE, make
 from known import CANONICAL, ROADS
 from reading import COUNTED
-from shared import ROOT, Tally, run, write
+from shared import LIMIT, ROOT, Tally, run, write
 from texts import lines_of, made, spelled
 
 import dnorm
@@ -252,4 +256,61 @@ def in_threads(tally: Tally, _: str) -> None:
     dnorm.library.ENDLESS = kept
 
 
-TESTS = [places, others, same_instances, same_checks, in_rooms, in_threads]
+def at_once(tally: Tally, _: str) -> None:
+    """Tests two calls at the same time, of which either may fail, also where no thread starts; and which refusal is
+    told of two files that are read so."""
+    os.environ["DNORM_LIBRARY"] = LIBRARY
+    wanted = threading.Event()
+
+    def fail() -> str:
+        raise ValueError("it fails")
+
+    def wait() -> bool:
+        return wanted.wait(LIMIT)
+
+    def both(one: Callable[[], object], other: Callable[[], object]) -> str:
+        return told(lambda: dnorm.limits.at_once(one, other, wanted.set))
+
+    def not_started(_: threading.Thread) -> None:
+        raise RuntimeError("can't start new thread")
+
+    kept = threading.Thread.start
+    for start in [kept, not_started]:
+        setattr(threading.Thread, "start", start)
+        tally.same("two calls", both(lambda: 1, lambda: 2), "(1, 2)\n")
+        tally.same("the second one fails", both(lambda: 1, fail), "ValueError: it fails")
+        tally.same("is the other one asked to end", wanted.is_set(), False)
+        tally.same("the first one fails", both(fail, wait), "ValueError: it fails")
+        tally.same("is the other one asked to end now", wanted.is_set(), start == kept)
+        setattr(threading.Thread, "start", kept)
+        wanted.clear()
+    # A signal comes while the first call has ended, and the second one has not.
+    timer = threading.Timer(0.3, _thread.interrupt_main)
+    timer.start()
+    try:
+        both(lambda: 1, wait)
+        is_interrupted = False
+    except KeyboardInterrupt:
+        is_interrupted = True
+    tally.same("a signal, and is the other one asked to end", (is_interrupted, wanted.is_set()), (True, True))
+    wanted.clear()
+    files = {"good.gr": ROADS, "bad.gr": b"p sp 2 1\na 1 3 5\n", "worse.gr": b"x\n"}
+    for name, text in files.items():
+        write(name, text)
+    said = {
+        "good.gr": "same\n",
+        "bad.gr": "Refused: bad.gr:2: 13 NodeOutOfRange",
+        "worse.gr": "Refused: worse.gr:1: 1 BadLine",
+    }
+    names = [*files, "none.gr"]
+    for left, right in itertools.product(names, names):
+        first = said.get(left if left != "good.gr" else right, "Read: none.gr: 31 Read (No such file or directory)")
+        tally.same(f"{left} and {right}", told(functools.partial(first_of, left, right)), first)
+
+
+def first_of(left: str, right: str) -> object:
+    """Returns the first difference of two files."""
+    return dnorm.differences(left, right).first
+
+
+TESTS = [places, others, same_instances, same_checks, in_rooms, in_threads, at_once]

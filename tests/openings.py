@@ -15,8 +15,8 @@ from shared import Answer, Tally, bytes_of, has_proc, python_with, run, write
 
 import dnorm
 import dnorm.files
+from dnorm.commands.listing import Listed, listed
 from dnorm.library import library_of
-from dnorm.listing import Listed, listed
 
 OTHER = b"p sp 1 1\na 1 1 1\n"
 BAD = b"p sp 2 1\na 1 3 5\n"
@@ -144,8 +144,8 @@ sys.path.insert(0, sys.argv[2])
 if sys.argv[1] == "without":
     sys.modules["numpy"] = None
 import dnorm
+from dnorm.commands.listing import listed
 from dnorm.library import library_of
-from dnorm.listing import listed
 chance = random.Random(64)
 LIMITS = {"sp": [(-2**63, 2**63 - 1)], "max": [(0, 2**40)], "min": [(0, 3), (3, 2**62), (-2**63, 2**63 - 1)]}
 LIMITS |= {"co": [(-2**63, 2**63 - 1)] * 2, "ss": [(1, 9)], "p2p": [(1, 9)] * 2}

@@ -215,6 +215,7 @@ class Text:
         self.is_file = isinstance(self.text, io.FileIO)
         self.is_compressed = self.is_path and not self.is_file
         self._pieces: Iterator[bytes] | None = None
+        self._is_stopped = False
 
     def _begun(self) -> io.FileIO | Iterator[bytes]:
         """Returns the file whose bytes are the text, or the pieces of the text."""
@@ -243,6 +244,8 @@ class Text:
 
     def next_piece(self) -> bytes | None:
         """Returns the next piece, if there is one."""
+        if self._is_stopped:
+            raise Read(self.name, "it is no longer wanted")
         if self._pieces is None:
             self._pieces = self._all(self.text)
         with failing(Read, self.name):
@@ -255,6 +258,10 @@ class Text:
         if not isinstance(text, io.FileIO):
             return text
         return of_stream(text) if self.limit.seconds is None else of_stream(Timed(text, self.limit))
+
+    def stop(self) -> None:
+        """Lets reading the text fail from the next piece on, for a thread whose answer is no longer wanted."""
+        self._is_stopped = True
 
     def stay_same(self) -> None:
         """Raises Read if the file of the text was written since it was opened."""

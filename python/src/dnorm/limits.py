@@ -14,8 +14,8 @@ from typing import BinaryIO, TypeVar
 
 from .errors import Memory, TimedOut
 
-
 Result = TypeVar("Result")
+Other = TypeVar("Other")
 
 
 class Lease:
@@ -113,6 +113,37 @@ def started(thread: threading.Thread, name: str) -> None:
     except RuntimeError as error:
         # The system lets no more threads start.
         raise Memory(name) from error
+
+
+def at_once(one: Callable[[], Result], other: Callable[[], Other], end: Callable[[], None]) -> tuple[Result, Other]:
+    """Returns what two calls return, the second of which a thread makes meanwhile. Raises what the first one raises, if
+    it does, and else what the second one does. `end` makes the second one end soon."""
+    found: list[Other] = []
+    errors: list[BaseException] = []
+
+    def run() -> None:
+        try:
+            found.append(other())
+        except BaseException as error:
+            errors.append(error)
+
+    thread = threading.Thread(target=run, daemon=True)
+    try:
+        thread.start()
+    except RuntimeError:
+        # The system lets no more threads start.
+        return one(), other()
+    try:
+        result = one()
+        thread.join()
+    except BaseException:
+        # What the thread reads must not be closed before it ends, also where a signal ends the wait for it.
+        end()
+        thread.join()
+        raise
+    for error in errors:
+        raise error
+    return result, found[0]
 
 
 class Timed:

@@ -24,7 +24,7 @@ from .refusals import REFUSALS
 Program = Union[str, os.PathLike[str], None]
 
 VERSION = re.compile(rb"dnorm (\S+)\n")
-# The line on standard error of a run that failed, by docs/MANUAL.md. Texts have the names that `run` gives them.
+# The line on standard error of a run that failed, by `dnorm help`. Texts have the names that `run` gives them.
 LINE = re.compile(
     r"(?P<name>.+?)(?::(?P<place>\d+|end))?: (?P<number>\d+) (?P<word>\w+)(?: (?P<node>\d+))?\n",
     re.ASCII,
@@ -38,7 +38,7 @@ WIDTH = 1 << 17
 # Why no program starts after Children.stop.
 STOPPED = "all runs were stopped"
 # Where to get the program.
-WHERE = "the wheels for Linux on x86-64 and ARM bring it, and the manual names other ways under Python"
+WHERE = "the wheels for Linux on x86-64 and ARM bring it, and docs/FILES.md names other ways"
 
 
 class Children:

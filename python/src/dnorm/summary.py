@@ -5,6 +5,7 @@ from __future__ import annotations
 import contextlib
 import dataclasses
 import io
+import os
 from collections.abc import Iterator
 from typing import Optional, Union
 
@@ -14,7 +15,8 @@ from .files import File, Sink, Text, enough_memory, name_of
 from .handles import first_difference
 from .instances import AnyInstance, Graph, Instance, Max, Min
 from .library import GRAPHS, Library, instance_of, library_of
-from .limits import Limit
+from .library import Instance as Held
+from .limits import Limit, at_once
 from .pairs import Key, PairDifference, paired
 from .program import Program
 from .reader import Reader, instance_by
@@ -71,8 +73,7 @@ def differences(
 def by_library(library: Library, files: tuple[File, File], limit: Optional[int], time: Limit) -> Differences:
     """Returns how two texts differ, by the library, which reads each of them once."""
     with contextlib.ExitStack() as later, contextlib.ExitStack() as sooner:
-        stacks = zip(files, (sooner, later))
-        left, right = (stack.enter_context(instance_of(library, Text(it, stack, time), 2)) for it, stack in stacks)
+        left, right = both_read(library, files, (sooner, later), time)
         first, kind = first_difference(library, left, right, time), left.kind
         if first:
             lines, pairs = left.sizes
@@ -87,6 +88,26 @@ def by_library(library: Library, files: tuple[File, File], limit: Optional[int],
             later.close()
             found = summary(first, one, other, limit, time)
     return found
+
+
+def both_read(
+    library: Library, files: tuple[File, File], stacks: tuple[contextlib.ExitStack, contextlib.ExitStack], time: Limit
+) -> tuple[Held, Held]:
+    """Reads two texts by the library, whose instances the stacks free: two files at the same time, and others one after
+    the other, as a pipe of the right one may be written only later."""
+
+    def read(file: File, stack: contextlib.ExitStack) -> Held:
+        return stack.enter_context(instance_of(library, Text(file, stack, time), 2))
+
+    if not all(isinstance(it, (str, os.PathLike)) and os.path.isfile(it) for it in files):
+        left, right = (read(*it) for it in zip(files, stacks))
+        return left, right
+    text = Text(files[1], stacks[1], time)
+    return at_once(
+        lambda: read(files[0], stacks[0]),
+        lambda: stacks[1].enter_context(instance_of(library, text, 2)),
+        text.stop,
+    )
 
 
 class Canonical(io.BytesIO):
@@ -152,37 +173,3 @@ def differing_values(left: Instance, right: Instance) -> Iterator[tuple[str, int
     for name in names:
         if getattr(left, name) != getattr(right, name):
             yield name, getattr(left, name), getattr(right, name)
-
-
-def record_of_differences(it: Differences) -> dict[str, object]:
-    """Returns the JSON object of the differences of two texts."""
-    return {"same": bool(it.first), **dataclasses.asdict(it), "first": str(it.first)}
-
-
-# The letters of the lines that tell arcs, points and items, and what these are called.
-LINES = {"co": ("v", "points"), "ss": ("s", "items"), "p2p": ("q", "items")}
-
-
-def lines_of_differences(it: Differences) -> Iterator[str]:
-    """Yields the lines that tell the differences of two texts."""
-    yield str(it.first)
-    if it.kind is None:
-        return
-    letter, what = LINES.get(it.kind, ("a", "pairs"))
-    for name, left, right in it.values:
-        yield f"{name}: {left} left, {right} right"
-    if it.supplies:
-        yield f"supplies: {it.supplies} different"
-    both = f"{it.both} in both, {it.different} of them different"
-    yield f"{what}: {it.only_left} only left, {it.only_right} only right, {both}"
-    for names, count in it.fields:
-        yield f"different in {names}: {count}"
-    if it.reversed:
-        first = [f"{tail} {head}" for tail, head in it.reversed[: max(1, len(it.pairs))]]
-        yield f"reversed: {len(it.reversed)}, from {', '.join(first)}{', ..' * (len(first) < len(it.reversed))}"
-    for pair in it.pairs:
-        key = () if letter in "sq" else pair.key
-        for mark, arcs in (("<", pair.left), (">", pair.right)):
-            for values in arcs:
-                place = f", item {pair.key[0]}" if letter in "sq" else ""
-                yield f"{mark} {' '.join(map(str, (letter, *key, *values)))}{place}"

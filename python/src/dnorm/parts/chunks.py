@@ -19,10 +19,10 @@ from dataclasses import dataclass
 from itertools import chain
 from typing import Any, BinaryIO, NamedTuple
 
-from .files import write_all
+from ..files import write_all
+from ..program import children
 from .machines import Jobs, Part
 from .part import ARC, BLOCK, Failed, Piece, Result, blocks, feed, lines, whole
-from .program import children
 
 # A line whose first word is `p`.
 PROBLEM = re.compile(rb"^[ \t\r]*p[ \t\r].*", re.M)

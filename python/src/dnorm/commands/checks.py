@@ -10,14 +10,14 @@ from collections.abc import Callable, Iterable, Sequence
 from dataclasses import dataclass, replace
 from typing import Optional
 
-from .calls import check
-from .errors import Read, Refused
-from .files import Text
-from .handles import canonical_sum, refusal_of_fit
-from .library import Instance, Library, instance_of
-from .limits import Limit
-from .names import COMPANIONS, KINDS, parts_of
-from .program import Program, with_cause
+from ..calls import check
+from ..errors import Read, Refused
+from ..files import Text
+from ..handles import canonical_sum, refusal_of_fit
+from ..library import Instance, Library, instance_of
+from ..limits import Limit
+from ..names import COMPANIONS, KINDS, parts_of
+from ..program import Program, with_cause
 
 # The ends of the names of graphs that have companions.
 WITH_COMPANIONS = (".gr", ".sp")

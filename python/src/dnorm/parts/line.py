@@ -13,12 +13,12 @@ import tempfile
 from collections.abc import Callable, Iterator, Sequence
 from typing import NoReturn
 
-from .errors import DnormError
-from .files import reason_of
+from ..console import SIGNALS, Console, Stopped, has_output, stop
+from ..errors import DnormError
+from ..files import reason_of
+from ..program import children, command, processors
+from .chunks import Ended, Options, Parts, fail
 from .machines import Jobs
-from .parts import Ended, Options, Parts, fail
-from .program import children, command, processors
-from .reports import SIGNALS, Console, Stopped, has_output, stop
 
 USAGE = """\
 Writes the canonical text of a graph in parts: the bytes that `dnorm canon FILE` writes, without a process that keeps

@@ -11,12 +11,12 @@ import subprocess
 import sys
 from collections.abc import Iterable, Iterator, Sequence
 
-from .causes import REMEDIES, cause_of, quoted
-from .errors import DnormError, NoProgram, Write
-from .files import of_stream, reason_of
-from .program import command as command_of
-from .refusals import REFUSALS
-from .reports import for_terminal
+from ..causes import REMEDIES, cause_of, quoted
+from ..console import for_terminal
+from ..errors import DnormError, NoProgram, Write
+from ..files import of_stream, reason_of
+from ..program import command as command_of
+from ..refusals import REFUSALS
 
 USAGE = """\
 Prints what dnorm has printed, and below each refusal of a file what shows its cause: the line that it names, NODES, how

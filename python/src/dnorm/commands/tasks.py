@@ -12,20 +12,33 @@ from collections import Counter
 from collections.abc import Callable, Sequence
 from typing import TypeVar
 
-from .calls import canon_into
+from ..calls import canon_into
+from ..console import Console
+from ..errors import DnormError, Read, Refused
+from ..files import Sink, Text, failing, sink_of
+from ..handles import canonical_sum
+from ..instances import PROBLEM
+from ..library import instance_of, library_of
+from ..limits import Limit
+from ..program import Program, unexpected
+from ..summary import differences
 from .checks import Accepted, Checker, Partners
-from .errors import DnormError, Read, Refused
-from .files import Sink, Text, failing, sink_of
 from .folders import Found, Workers, find, in_order_of_names, outcome
-from .handles import canonical_sum
-from .instances import PROBLEM
-from .library import instance_of, library_of
-from .limits import Limit
 from .listing import Listed, listed, record_of_listed, row_of, table, text_of_listed
 from .manifests import Entry, Summed, entries_of, entry_of, known_kind, state_of, text_of
-from .program import Program, unexpected
-from .reports import Case, Console, annotation_of, as_json, cause_of, junit, line_of, line_with, record_of, sarif
-from .summary import differences, lines_of_differences, record_of_differences
+from .reports import (
+    Case,
+    annotation_of,
+    as_json,
+    cause_of,
+    junit,
+    line_of,
+    line_with,
+    lines_of_differences,
+    record_of,
+    record_of_differences,
+    sarif,
+)
 
 # The exit statuses besides 0. The greatest one that applies counts.
 DIFFERS, REFUSED, USAGE, FAILED = 1, 2, 3, 4

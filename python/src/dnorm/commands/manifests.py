@@ -9,9 +9,9 @@ import time
 from collections.abc import Callable, Iterable
 from typing import NamedTuple, Optional
 
-from .errors import Read
-from .files import failing
-from .names import KINDS
+from ..errors import Read
+from ..files import failing
+from ..names import KINDS
 from .reports import line_with, name_in
 
 # The line that says the form of the checksums after it. Without one, the form is 1.

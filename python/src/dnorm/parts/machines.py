@@ -12,11 +12,11 @@ from collections.abc import Sequence
 from concurrent.futures import FIRST_EXCEPTION, Future, ThreadPoolExecutor, wait
 from typing import Any
 
+from ..console import Console
+from ..files import write_all
+from ..program import children
 from . import part
-from .files import write_all
 from .part import Failed, Piece, Result, blocks, canon_part
-from .program import children
-from .reports import Console
 
 # The longest wait for a job, in seconds. A signal that comes just before a wait does not end it.
 PAUSE = 0.1

@@ -1,23 +1,20 @@
-"""What `dnorm-files` prints: a line for each file, a progress bar, and a report for CI services."""
+"""What `dnorm-files` prints: a line for each file, how two files differ, and a report for CI services."""
 
 from __future__ import annotations
 
-import contextlib
+import dataclasses
 import json
 import os
 import re
-import signal
-import threading
-import time
-from collections.abc import Sequence
-from typing import NamedTuple, NoReturn, Union
+from collections.abc import Iterator, Sequence
+from typing import NamedTuple, Union
 from urllib.parse import quote
 from xml.etree import ElementTree
 
+from ..errors import DnormError, Read, Refused
+from ..refusals import REFUSALS
+from ..summary import Differences
 from .checks import Accepted
-from .errors import DnormError, Read, Refused, Write
-from .files import progress, reason_of, write_all
-from .refusals import REFUSALS
 
 # What a check of a file leads to.
 Result = Union[Accepted, DnormError]
@@ -31,109 +28,13 @@ class Case(NamedTuple):
     seconds: float
 
 
-class Stopped(BaseException):
-    """A signal ends the run."""
-
-    def __init__(self, number: int) -> None:
-        super().__init__(number)
-        self.number = number
-
-
-# The signals that end a run.
-SIGNALS = (signal.SIGINT, signal.SIGTERM, signal.SIGHUP)
-
-
-def stop(number: int, _: object) -> NoReturn:
-    """Handles a signal. A second one must not disturb how the run ends."""
-    for it in SIGNALS:
-        signal.signal(it, signal.SIG_IGN)
-    raise Stopped(number)
-
-
-def has_output() -> bool:
-    """Whether standard output is open. No file that is opened later gets the number of a standard stream."""
-    try:
-        os.fstat(1)
-        is_open = True
-    except OSError:
-        is_open = False
-    while (fd := os.open(os.devnull, os.O_RDWR)) <= 2:
-        pass
-    os.close(fd)
-    return is_open
-
-
-# The columns of a full progress bar, and the time between two drawings in seconds.
-BAR, PAUSE = 30, 0.1
+# The letters of the lines that tell arcs, points and items, and what these are called.
+LINES = {"co": ("v", "points"), "ss": ("s", "items"), "p2p": ("q", "items")}
 # Characters that XML cannot contain, and half characters, by which Python represents the bytes of names that are not
 # UTF-8.
 NO_XML = re.compile("[^\t\n\r\x20-\ud7ff\ue000-\ufffd\U00010000-\U0010ffff]")
 # What a message of GitHub and its properties cannot contain.
 NO_MESSAGE, NO_PROPERTY = re.compile("[%\r\n]"), re.compile("[%\r\n:,]")
-
-
-class Console:
-    """Standard output and standard error. A progress bar is drawn on standard error while it is a terminal and tasks
-    run; their threads call `step`."""
-
-    def __init__(self) -> None:
-        self._out = open(1, "wb", buffering=0, closefd=False)
-        self._lock = threading.Lock()
-        self._is_shown, self.is_terminal = os.isatty(1), os.isatty(2)
-        self._done = self._total = self._size = 0
-        self._drawn, self._at = "", 0.0
-
-    def expect(self, total: int, size: int = 0) -> None:
-        """Starts the progress bar for so many tasks, which read files of this size together, if that is known."""
-        self._done, self._total, self._size = 0, total, size
-
-    def step(self) -> None:
-        """Counts a task that has ended."""
-        with self._lock:
-            self._done += 1
-        self.draw()
-
-    def draw(self) -> None:
-        """Draws the progress bar, unless it was drawn just before."""
-        if not self.is_terminal:
-            return
-        with self._lock:
-            now = time.monotonic()
-            if now >= self._at + PAUSE:
-                self._at = now
-                filled = BAR * self._done // self._total
-                drawn = f"[{'#' * filled}{'.' * (BAR - filled)}] {self._done} of {self._total}"
-                if self._size:
-                    drawn += f", {min(100, 100 * progress.so_far() // self._size)} %"
-                self._complain(f"\r{drawn.ljust(len(self._drawn))}")
-                self._drawn = drawn
-
-    def print(self, text: str) -> None:
-        """Writes text to standard output. Raises Write if that fails, and Stopped if nothing reads it any more: then
-        the run ends as other programs do."""
-        self.hide()
-        try:
-            write_all(self._out, os.fsencode(for_terminal(text) if self._is_shown else text))
-        except BrokenPipeError as error:
-            raise Stopped(signal.SIGPIPE) from error
-        except OSError as error:
-            raise Write("out", reason_of(error)) from error
-
-    def complain(self, text: str) -> None:
-        """Writes text to standard error. It does not matter if that fails."""
-        self.hide()
-        self._complain(for_terminal(text) if self.is_terminal else text)
-
-    def hide(self) -> None:
-        """Removes the progress bar until it is drawn again."""
-        with self._lock:
-            if self._drawn:
-                self._complain("\r" + " " * len(self._drawn) + "\r")
-            self._drawn = ""
-
-    def _complain(self, text: str) -> None:
-        with contextlib.suppress(OSError):
-            os.write(2, os.fsencode(text))
 
 
 def line_with(name: str, before: str = "", after: str = "", more: str = "") -> str:
@@ -279,20 +180,37 @@ def junit(cases: Sequence[Case]) -> bytes:
     return text + b"\n"
 
 
-def for_terminal(text: str) -> str:
-    """Returns lines in which every character that a terminal could take for a command is written as \\xNN, as a byte of
-    it."""
-    if text.isascii() and text.replace("\n", "").isprintable():
-        return text
-    return "".join(it if it == "\n" or it.isprintable() else bytes_of(it) for it in text)
-
-
-def bytes_of(character: str) -> str:
-    """Returns the bytes of a character, each as \\xNN."""
-    return "".join(f"\\x{byte:02x}" for byte in os.fsencode(character))
-
-
 def for_xml(text: str) -> str:
     """Returns a text in which every character that XML cannot contain is written as \\xNN, as a byte of it."""
     text = os.fsencode(text).decode("utf-8", "backslashreplace")
     return NO_XML.sub(lambda it: "".join(f"\\x{byte:02x}" for byte in it[0].encode()), text)
+
+
+def record_of_differences(it: Differences) -> dict[str, object]:
+    """Returns the JSON object of the differences of two texts."""
+    return {"same": bool(it.first), **dataclasses.asdict(it), "first": str(it.first)}
+
+
+def lines_of_differences(it: Differences) -> Iterator[str]:
+    """Yields the lines that tell the differences of two texts."""
+    yield str(it.first)
+    if it.kind is None:
+        return
+    letter, what = LINES.get(it.kind, ("a", "pairs"))
+    for name, left, right in it.values:
+        yield f"{name}: {left} left, {right} right"
+    if it.supplies:
+        yield f"supplies: {it.supplies} different"
+    both = f"{it.both} in both, {it.different} of them different"
+    yield f"{what}: {it.only_left} only left, {it.only_right} only right, {both}"
+    for names, count in it.fields:
+        yield f"different in {names}: {count}"
+    if it.reversed:
+        first = [f"{tail} {head}" for tail, head in it.reversed[: max(1, len(it.pairs))]]
+        yield f"reversed: {len(it.reversed)}, from {', '.join(first)}{', ..' * (len(first) < len(it.reversed))}"
+    for pair in it.pairs:
+        key = () if letter in "sq" else pair.key
+        for mark, arcs in (("<", pair.left), (">", pair.right)):
+            for values in arcs:
+                place = f", item {pair.key[0]}" if letter in "sq" else ""
+                yield f"{mark} {' '.join(map(str, (letter, *key, *values)))}{place}"

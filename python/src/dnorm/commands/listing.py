@@ -9,17 +9,17 @@ import io
 from collections.abc import Iterable, Iterator
 from typing import Any, NamedTuple
 
-from .calls import canon_into
-from .causes import PROBLEM
-from .columns import Column, least_and_greatest, numpy_here
-from .files import Sink, Text, enough_memory
-from .handles import canonical_sum
-from .instances import AnyInstance, Co, Graph, Min
-from .library import Library, instance_of
-from .limits import Limit
-from .pairs import VALUES
-from .program import Program
-from .reader import Reader, instance_by
+from ..calls import canon_into
+from ..causes import PROBLEM
+from ..columns import Column, least_and_greatest, numpy_here
+from ..files import Sink, Text, enough_memory
+from ..handles import canonical_sum
+from ..instances import AnyInstance, Co, Graph, Min
+from ..library import Library, instance_of
+from ..limits import Limit
+from ..pairs import VALUES
+from ..program import Program
+from ..reader import Reader, instance_by
 
 # A graph with more nodes than so many for each arc has few nodes with arcs; and the lower half of a number of 64 bits.
 SPARSE, LOW = 10, (1 << 32) - 1

@@ -9,10 +9,10 @@ from collections.abc import Callable, Iterable, Sequence
 from fnmatch import fnmatchcase
 from typing import Generic, NamedTuple, TypeVar, cast
 
-from .errors import DnormError, Memory, Read
-from .files import reason_of
-from .names import is_text, misnamed_text
-from .program import children
+from ..errors import DnormError, Memory, Read
+from ..files import reason_of
+from ..names import is_text, misnamed_text
+from ..program import children
 
 # What version control keeps for itself: branches can have names like texts.
 HIDDEN = {".git", ".hg", ".svn", ".bzr", ".jj", "CVS", "_darcs"}

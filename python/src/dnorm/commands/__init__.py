@@ -1,0 +1,1 @@
+"""The commands of `dnorm-files`, which check, list and compare many files."""

@@ -1,0 +1,285 @@
+"""The command line: `dnorm-files`, which is `python3 -m dnorm`."""
+
+from __future__ import annotations
+
+import argparse
+import contextlib
+import importlib
+import importlib.util
+import os
+import signal
+import sys
+import traceback
+from collections.abc import Callable, Sequence
+from types import ModuleType
+from typing import Any, NoReturn
+
+from .. import __version__
+from ..console import SIGNALS, Console, Stopped, for_terminal, has_output, stop
+from ..errors import DnormError, Read, Refused, Write
+from ..files import failing
+from ..names import ENDINGS
+from ..program import processors, version
+from .reports import cause_of, line_of
+from .tasks import FAILED, REFUSED, USAGE, Run
+
+ABOUT = "Runs the program dnorm on many files at the same time."
+STATUSES = """\
+exit statuses:
+  0  success
+  1  manifest --verify: a checksum differs, a file is gone or is not listed; compare: the files differ
+  2  a file is refused
+  3  the command line is refused
+  4  a file cannot be read, a folder has no such file, or dnorm cannot be run
+The greatest one that applies counts.
+"""
+# Commands of the program, and what is an option here.
+OTHER_COMMANDS = {it: f"{it} is a command of the program: dnorm {it} FILE" for it in ("canon", "show")}
+OTHER_COMMANDS |= {it: f"{it} is an option here: --{it}" for it in ("help", "version")}
+FORMATS = ("text", "json", "github", "sarif")
+EACH = "by default one for each processor"
+TASKS = {
+    "check": "Checks files, and prints a line for each: NAME: accepted KIND, or the refusal.",
+    "manifest": "Prints the checksum of the canonical text of each file, or verifies such checksums.",
+    "same": "Prints the names of files that pose the same problem, in groups.",
+    "list": "Prints what each file contains: sizes, ranges and sums of its numbers, and its checksum.",
+    "compare": "Prints the first difference between two files, how many pairs differ, and the first of these.",
+    "explain": "Prints what dnorm prints, and below each refusal what shows its cause.",
+}
+
+
+# Where the suite of the files that `./install` installs is, and that of a clone.
+PLACES = ("../../../conformance/run.py", "../../../../share/conformance/run.py")
+
+
+class Parser(argparse.ArgumentParser):
+    """A parser with a status of its own for a command line that is refused."""
+
+    def error(self, message: str) -> NoReturn:
+        self.print_usage(sys.stderr)
+        self.exit(USAGE, for_terminal(f"{self.prog}: {message}\n"))
+
+
+def parser() -> Parser:
+    """Returns the parser of the command line."""
+    layout: dict[str, Any] = {"formatter_class": argparse.RawDescriptionHelpFormatter, "epilog": STATUSES}
+    top = Parser(prog="dnorm-files", description=ABOUT, allow_abbrev=False, **layout)
+    top.add_argument("-V", "--version", action="version", version=f"dnorm for Python {__version__}")
+    tasks = top.add_subparsers(dest="task", required=True, metavar="COMMAND")
+    for task, about in TASKS.items():
+        one = tasks.add_parser(task, help=about, description=about, allow_abbrev=False, **layout)
+        one.set_defaults(parser=one)
+        if task == "compare":
+            add_comparison(one)
+            add_runs(one)
+        elif task != "explain":
+            add_files(one, task)
+            add_outputs(one, task)
+            one.add_argument("-j", "--jobs", type=int, metavar="N", help=f"files at the same time, {EACH}")
+            add_runs(one)
+    about = "Runs the conformance suite on a reader of these formats; 'conformance --help' describes it."
+    tasks.add_parser("conformance", help=about, add_help=False)
+    about = "Writes the canonical text of a graph that is larger than memory; 'parts --help' describes it."
+    tasks.add_parser("parts", help=about, add_help=False)
+    return top
+
+
+def add_files(one: argparse.ArgumentParser, task: str) -> None:
+    """Adds the arguments that say which files a command reads."""
+    add = one.add_argument
+    about = "a file; a folder, whose files are found by the ends of their names; - for names on standard input, by line"
+    add("path", nargs="*", metavar="PATH", help=about)
+    add("--files0-from", metavar="FILE", help="also the names in FILE, or with - on standard input, each ended by NUL")
+    about = f"search folders for names with this ending; repeatable; by default {' '.join(ENDINGS)}"
+    add("--ending", action="append", metavar="END", help=f"{about}; that of a compression may follow each")
+    about = "leave out what folders have by this name or path, where * stands for any characters; repeatable"
+    add("--exclude", action="append", default=[], metavar="PATTERN", help=about)
+    add("--strict", action="store_true", help="other files of folders are failures, and for check files with a remark")
+    if task == "check":
+        add("-x", "--exit-first", action="store_true", help="end after the first file that is refused or fails")
+        add("--companions", action="store_true", help="check that NAME.ss, NAME.p2p and NAME.co fit NAME.gr")
+
+
+def add_outputs(one: argparse.ArgumentParser, task: str) -> None:
+    """Adds the arguments that say what a command prints."""
+    add = one.add_argument
+    if task in ("check", "manifest"):
+        add("-q", "--quiet", action="store_true", help="print no line for files without a fault")
+    add("--json", action="store_true", help="print JSON objects, one on a line, instead")
+    if task == "check":
+        about = "the lines for each file: as text, as JSON objects, or as annotations of GitHub; or a SARIF document"
+        add("--output-format", dest="format", choices=FORMATS, help=about)
+        add("--junit", metavar="FILE", help="also write a report for CI services into FILE")
+    if task == "list":
+        add("--csv", action="store_true", help="print a CSV table instead")
+    if task in ("manifest", "list"):
+        add("--form", type=int, choices=(1, 2), help="the canonical form, 1 by default")
+    if task == "manifest":
+        about = "verify the checksums in FILE instead, and name files of the paths that FILE does not list"
+        add("--verify", metavar="FILE", help=about)
+        add("--output", metavar="FILE", help="write into FILE, once everything is known")
+        about = "renew FILE, or make it, with sizes and times, and read only files that are new or were written"
+        add("--incremental", metavar="FILE", help=about)
+    if task == "check":
+        about = "read only files that are new or were written since 'manifest --incremental FILE'"
+        add("--incremental", metavar="FILE", help=about)
+
+
+def add_comparison(one: argparse.ArgumentParser) -> None:
+    """Adds the arguments of `compare`."""
+    one.add_argument("left", metavar="LEFT", help="a file, or - for standard input")
+    one.add_argument("right", metavar="RIGHT", help="another file")
+    one.add_argument("-q", "--quiet", action="store_true", help="print nothing; the status tells")
+    one.add_argument("--json", action="store_true", help="print a JSON object instead")
+    one.add_argument("--limit", type=int, default=3, metavar="N", help="print so many differing pairs, by default 3")
+
+
+def add_runs(one: argparse.ArgumentParser) -> None:
+    """Adds the arguments that say how the program is run."""
+    one.add_argument("--timeout", type=float, metavar="SECONDS", help="a file that takes longer is a failure")
+    about = "the program, by default $DNORM, the one that pip installed, or dnorm on PATH"
+    one.add_argument("--program", metavar="PROGRAM", help=about)
+
+
+def parsed(words: Sequence[str]) -> argparse.Namespace:
+    """Returns the arguments."""
+    if words[:1] and words[0] in OTHER_COMMANDS:
+        parser().error(OTHER_COMMANDS[words[0]])
+    found, others = parser().parse_known_args(words)
+    error = found.parser.error
+    if others:
+        error(f"unrecognized arguments: {' '.join(others)}")
+    if found.timeout is not None and found.timeout <= 0:
+        error("--timeout is above 0")
+    if "path" in found:
+        check_files(found, error)
+    elif found.limit < 0:
+        error("--limit is at least 0")
+    elif found.left == found.right == "-":
+        error("standard input is named twice")
+    elif found.quiet and found.json:
+        error("--quiet goes without --json")
+    return found
+
+
+def check_files(found: argparse.Namespace, error: Callable[[str], NoReturn]) -> None:
+    """Completes the arguments of a command on many files."""
+    if found.jobs is not None and found.jobs < 1:
+        error("--jobs is at least 1")
+    if "-" in found.path and found.files0_from == "-":
+        error("standard input is named twice")
+    has_paths = bool(found.path) or found.files0_from is not None
+    if not has_paths and getattr(found, "verify", None) is None:
+        error("at least one path is required")
+    if found.task == "check":
+        if found.json and found.format not in (None, "json"):
+            error("--json goes without another --output-format")
+        found.format = "json" if found.json else found.format or "text"
+    if found.task == "manifest":
+        if found.verify is not None and (found.form or found.output is not None or found.incremental is not None):
+            error("--verify goes without --form, --output and --incremental")
+        if found.output is not None and found.incremental is not None:
+            error("--output goes without --incremental")
+        if found.verify is None and found.quiet:
+            error("--quiet goes with --verify")
+        found.task = "manifest" if found.verify is None else "verify"
+    if found.task == "list" and found.json and found.csv:
+        error("--json goes without --csv")
+    found.form = getattr(found, "form", None) or 1
+    found.jobs = found.jobs or processors()
+    found.ending = found.ending or ENDINGS
+
+
+def named(found: argparse.Namespace) -> list[str]:
+    """Returns the paths of the command line, and those that standard input or a file name. Raises Read if that names
+    none."""
+    paths = [it for it in found.path if it != "-"]
+    ends = {"-": b"\n"} if "-" in found.path else {}
+    if found.files0_from is not None:
+        ends[found.files0_from] = b"\0"
+    for source, end in ends.items():
+        with failing(Read, source):
+            with open(0 if source == "-" else source, "rb", closefd=source != "-") as file:
+                names = file.read().split(end)
+        if not names[-1]:
+            names.pop()
+        if not names:
+            raise Read(source, "it names no file")
+        paths += map(os.fsdecode, names)
+    return paths
+
+
+def end_by(number: int, run: Run | None) -> None:
+    """Ends this process by a signal, once the run has printed what it knows. Another signal ends it at once."""
+    for it in {*SIGNALS, number}:
+        signal.signal(it, signal.SIG_DFL)
+    if run and number in SIGNALS:
+        with contextlib.suppress(DnormError, Stopped):
+            run.stop()
+    os.kill(os.getpid(), number)
+
+
+def suite() -> ModuleType:
+    """Returns the module of the conformance suite, which wheels have in this package, and clones and `./install` beside
+    it."""
+    name, here = "dnorm.conformance", os.path.dirname(os.path.abspath(__file__))
+    for place in PLACES:
+        path = os.path.normpath(os.path.join(here, place))
+        spec = importlib.util.spec_from_file_location(name, path)
+        if os.path.isfile(path) and spec and spec.loader:
+            found = sys.modules[name] = importlib.util.module_from_spec(spec)
+            spec.loader.exec_module(found)
+            return found
+    return importlib.import_module(name)
+
+
+def by_other_module(task: str, words: Sequence[str]) -> int | None:
+    """Runs a command whose words another module reads, which is imported for it alone. Returns the exit status, or None
+    for any other command."""
+    if task == "explain":
+        # All words are those of the program.
+        from .explain import explained
+
+        return explained(words)
+    if task == "conformance":
+        status: int = suite().main(words)
+        return status
+    if task == "parts":
+        from ..parts import line
+
+        return line.main(words, line.Anywhere())
+    return None
+
+
+def main(words: Sequence[str] | None = None) -> int:
+    """Runs a command, and returns the exit status."""
+    words = sys.argv[1:] if words is None else words
+    status = by_other_module(words[0], words[1:]) if words else None
+    if status is not None:
+        return status
+    is_open = has_output()
+    found = parsed(words)
+    console, run = Console(), None
+    for it in SIGNALS:
+        # What is ignored, as by nohup, stays ignored.
+        if signal.getsignal(it) != signal.SIG_IGN:
+            signal.signal(it, stop)
+    try:
+        if not is_open:
+            raise Write("out")
+        version(found.program)
+        if "path" in found:
+            found.path = named(found)
+        run = Run(found, console)
+        getattr(run, found.task)()
+        return run.status
+    except Stopped as stopped:
+        console.hide()
+        end_by(stopped.number, run)
+        return FAILED
+    except DnormError as error:
+        console.complain(line_of(error.name, error) + "".join(f"    {it}\n" for it in cause_of(error)))
+        return REFUSED if isinstance(error, Refused) else FAILED
+    except Exception:
+        console.complain(traceback.format_exc())
+        return FAILED
