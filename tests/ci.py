@@ -9,9 +9,8 @@ import tarfile
 import textwrap
 from xml.etree import ElementTree
 
-from calls import PACKAGE
 from known import ROADS
-from shared import ROOT, Answer, Tally, run, text_of, write
+from shared import ROOT, Answer, Tally, listed, run, text_of, write
 
 WORKFLOW = f"{ROOT}/share/ci/github.yml"
 HOOKS = f"{ROOT}/.pre-commit-hooks.yaml"
@@ -29,9 +28,9 @@ def make_release(tested: str) -> None:
     with tarfile.open(f"release/{name}.tar.gz", "w:gz") as archive:
         archive.add(os.path.realpath(tested), f"{name}/dnorm")
         archive.add(f"{ROOT}/dnorm-files", f"{name}/dnorm-files")
-        for it in os.listdir(f"{PACKAGE}/dnorm"):
-            if it.endswith(".py"):
-                archive.add(f"{PACKAGE}/dnorm/{it}", f"{name}/python/src/dnorm/{it}")
+        for _, place, _ in listed():
+            if place.startswith("python/src/"):
+                archive.add(f"{ROOT}/{place}", f"{name}/{place}")
     sums = run(["bash", "-c", "cd release && sha256sum dnorm-*"]).out
     write("release/SHA256SUMS", sums)
 

@@ -20,9 +20,10 @@ DOCS = sorted(os.path.relpath(it, ROOT) for it in glob.glob(f"{ROOT}/docs/*.md")
 PLACING = ["README.md", "ARTIFACT.md", "CONTRIBUTING.md", *DOCS]
 LINKING = [*PLACING, "CHANGELOG.md", "bench/README.md", "released/README.md"]
 LINKING += ["share/conformance/README.md", "share/conformance/mistakes.md"]
-# The page whose blocks of code are all quoted from a source, and the pages whose names must all be in sources.
-QUOTING = "docs/PROVED.md"
-NAMING = ["docs/PROVED.md", "docs/ARCHITECTURE.md", "docs/DECISIONS.md", "CONTRIBUTING.md"]
+# The pages whose blocks of code are all quoted from a source, of which the first one explains the signs in them; and
+# the pages whose names must all be in sources.
+QUOTING = ["docs/PROVED.md", "docs/LAWS.md"]
+NAMING = ["docs/PROVED.md", "docs/LAWS.md", "docs/ARCHITECTURE.md", "docs/DECISIONS.md", "CONTRIBUTING.md"]
 
 FENCE = re.compile(r"^```[^\n]*\n(.*?)^```$\n?", re.M | re.S)
 QUOTE = re.compile(r"^<!-- from (\S+) -->\n```[^\n]*\n(.*?)^```$", re.M | re.S)
@@ -215,9 +216,10 @@ def bad_dependencies() -> Iterator[str]:
 
 def complaints() -> Iterator[str]:
     """Yields all wrong statements of the pages."""
-    yield from bad_quotes(QUOTING)
+    for page in QUOTING:
+        yield from bad_quotes(page)
     yield from bad_dependencies()
-    yield from unexplained(QUOTING)
+    yield from unexplained(QUOTING[0])
     for page in LINKING:
         yield from bad_links(page)
     for page in PLACING:
