@@ -35,7 +35,7 @@ Once [] = Unit {0}
 Once (p ∷ ps) = (among p ps ≡ false) × Once ps
 
 -- the list without this pair
-abbrev without : Pair → List Pair → List Pair
+abbrev pub without : Pair → List Pair → List Pair
 without p [] = []
 without p (q ∷ qs) = cond (same_pair p q) (without p qs) (q ∷ without p qs)
 
@@ -44,14 +44,14 @@ not_self p [] = refl
 not_self p (q ∷ qs) =
     elim (cases_Bool (same_pair p q)) [ inl e ↦ rw e (not_self p qs) | inr e ↦ rw (e, e) (not_self p qs) ]
 
-others_stay : (p r : Pair) (qs : List Pair) → same_pair r p ≡ false → among r (without p qs) ≡ among r qs
+pub others_stay : (p r : Pair) (qs : List Pair) → same_pair r p ≡ false → among r (without p qs) ≡ among r qs
 others_stay p r [] n = refl
 others_stay p r (q ∷ qs) n = elim (cases_Bool (same_pair p q)) [
   | inl e ↦ rw (e, ← pair_is p q e, n) (others_stay p r qs n)
   | inr e ↦ rw (e, others_stay p r qs n)
 ]
 
-once_without : (p : Pair) (qs : List Pair) → Once qs → Once (without p qs)
+pub once_without : (p : Pair) (qs : List Pair) → Once qs → Once (without p qs)
 once_without p [] o = tt
 once_without p (q ∷ qs) o = elim (cases_Bool (same_pair p q)) [
   | inl e ↦ rw e (once_without p qs o.1)
@@ -59,7 +59,7 @@ once_without p (q ∷ qs) o = elim (cases_Bool (same_pair p q)) [
 ]
 
 module _ (f : Pair → ℕ) where
-  sum_without : (p : Pair) (qs : List Pair) → Once qs
+  pub sum_without : (p : Pair) (qs : List Pair) → Once qs
       → sum_by f qs ≡ cond (among p qs) (f p) 0 + sum_by f (without p qs)
   sum_without p [] o = refl
   sum_without p (q ∷ qs) o = elim (cases_Bool (same_pair p q)) [

@@ -1,3 +1,4 @@
+pub mod OrderLaws
 pub mod PairLaws
 pub mod TableLaws
 pub mod GrownLaws

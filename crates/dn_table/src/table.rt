@@ -1,55 +1,46 @@
 // Bundles by their ordered pairs.
-ghost use Rattle.std.specs.Prelude.{◌≡◌, ◌<◌, ◌≤◌, ℤ, List, ◌^◌, drop, length, MatchOption};
-ghost use Rattle.std.specs.Option.{option_copied};
+ghost use Rattle.std.specs.Prelude.{◌≡◌, ◌≤◌, ℤ, List, ◌^◌, drop, length, MatchOption};
 ghost use Rattle.std.specs.Iterator.{YieldsFirstBy, item_count};
 ghost use Rattle.std.specs.List.Sorted.{IsStrictlySortedBy};
-ghost use Rattle.std.specs.Map.{keys_of, lookup};
+ghost use Rattle.std.specs.Map.{keys_of};
 ghost use Rattle.dn_arc.specs.declared.arc.Form.{Form};
-ghost use Rattle.dn_arc.specs.Pairs.{pair_cmp, same_pair};
+ghost use Rattle.dn_arc.specs.Pairs.{pair_cmp};
+ghost use Rattle.pair_index.specs.State.Ordered.{IsOrder};
 ghost use Rattle.dn_table.specs.State.ListedEntries.{entries_listed};
+ghost use Rattle.dn_table.specs.State.Orders.{IsListed, listed};
 ghost use Rattle.dn_table.specs.State.Tables.{CountsBelow, CountsEntries, entry_of};
 
 use crate::entry_sum::{bundle_entries, count_arcs};
 use dn_kind::{Bundle, Form};
-use pair_index::position_among;
 use std::marker::Model;
 
 /// The bundles of a graph by ordered pair. A pair whose arcs mean the same as no arcs has no bundle.
 #[derive(Drop)]
 pub struct Table<B: Bundle> {
     entries: Vec<((i64, i64), B)>,
+    // The positions of the entries by ascending pair, unless the entries are sorted.
+    order: Option<Vec<u32>>,
 }
 
 impl<B: Bundle> Model for Table<B> {
     ghost use Rattle.std.specs.Prelude.{ℤ, List};
-    ghost use Rattle.std.specs.List.Sorted.{IsStrictlySortedBy};
     ghost use Rattle.std.specs.Map.{keys_of};
-    ghost use Rattle.dn_arc.specs.Pairs.{pair_cmp};
+    ghost use Rattle.dn_table.specs.State.Orders.{IsListed, listed};
 
     ghost Value = { List ((ℤ × ℤ) × B) };
 
-    ghost view = { λ t. t.entries.items };
+    ghost view = { λ t. listed (λ o. o.items) t.order t.entries.items };
 
-    ghost invariant = { λ t. IsStrictlySortedBy pair_cmp (keys_of t.entries.items) };
+    ghost invariant = { λ t. IsListed (λ o. o.items) t.order (keys_of t.entries.items) };
 }
 
 impl<B: Bundle> Table<B> {
-    // Returns the table of these entries, which are sorted by ascending pair.
-    pub(crate) fn of(entries: Vec<((i64, i64), B)>) -> Table<B>
-        requires { IsStrictlySortedBy pair_cmp (keys_of entries.items) }
-        ensures { result ≡ entries.items }
+    // Returns the table of these entries. The list has their positions by ascending pair; without it they are sorted.
+    pub(crate) fn of(entries: Vec<((i64, i64), B)>, order: Option<Vec<u32>>) -> Table<B>
+        requires { IsListed (λ o. o.items) order (keys_of entries.items) }
+        ensures { result ≡ listed (λ o. o.items) order entries.items }
     {
-        Table { entries }
-    }
-
-    /// Returns the bundle of the arcs from `src` to `dst`, if they mean anything.
-    pub fn get(&self, src: i64, dst: i64) -> Option<&B>
-        ensures { option_copied result ≡ lookup (same_pair (src, dst)) self.now }
-    {
-        match position_among(&self.entries, &(src, dst)) {
-            Some(position) => Some(&self.entries[position].1),
-            None => None,
-        }
+        Table { entries, order }
     }
 
     /// Iterates over the pairs that have a bundle, by ascending (src, dst). This does not allocate.
@@ -57,18 +48,21 @@ impl<B: Bundle> Table<B> {
         ensures value { result ≡ self.now }
         ensures rising { IsStrictlySortedBy pair_cmp (keys_of self.now) }
     {
-        Pairs {
-            rest: &self.entries,
-        }
+        self.pairs_from(0)
     }
 
     /// Iterates over the pairs that have a bundle, by ascending (src, dst), from the one at `index`, counted from 0.
     /// There is none from `len` on. This does not allocate.
     pub fn pairs_from(&self, index: usize) -> Pairs<'_, B>
         ensures value { result ≡ drop index self.now }
+        ensures rising { IsStrictlySortedBy pair_cmp (keys_of self.now) }
     {
-        Pairs {
-            rest: &self.entries[index.min(self.len())..],
+        match &self.order {
+            Some(order) => Pairs {
+                entries: &self.entries,
+                order: Some(&order[index.min(order.len())..]),
+            },
+            None => Pairs::of(&self.entries[index.min(self.entries.len())..]),
         }
     }
 
@@ -76,7 +70,7 @@ impl<B: Bundle> Table<B> {
     pub fn entries(&self) -> u64
         ensures { CountsEntries B.bundle self.now result }
     {
-        bundle_entries(&self.entries)
+        bundle_entries(self.pairs())
     }
 
     /// Returns how many arcs the bundles list in a form, if this is below 2^64.
@@ -84,7 +78,7 @@ impl<B: Bundle> Table<B> {
         ensures count { CountsBelow (2 ^ 64) (entries_listed (λ b. length (B.bundle.listed form b)) self.now) result }
         ensures rising { IsStrictlySortedBy pair_cmp (keys_of self.now) }
     {
-        count_arcs(&self.entries, form)
+        count_arcs(self.pairs(), form)
     }
 
     /// Returns how many pairs have a bundle.
@@ -98,15 +92,30 @@ impl<B: Bundle> Table<B> {
 /// Iterates over the bundles of a table with their pairs, by ascending (src, dst).
 #[derive(Drop)]
 pub struct Pairs<'a, B: Bundle> {
-    rest: &'a [((i64, i64), B)],
+    entries: &'a [((i64, i64), B)],
+    // The positions of the remaining entries, unless all entries remain, in this order.
+    order: Option<&'a [u32]>,
 }
 
 impl<'a, B: Bundle> Model for Pairs<'a, B> {
     ghost use Rattle.std.specs.Prelude.{ℤ, List};
+    ghost use Rattle.dn_table.specs.State.Orders.{listed};
 
     ghost Value = { List ((ℤ × ℤ) × B) };
 
-    ghost view = { λ p. p.rest.now };
+    ghost view = { λ p. listed (λ o. o.now) p.order p.entries.now };
+}
+
+impl<'a, B: Bundle> Pairs<'a, B> {
+    // Iterates over these entries, in this order.
+    pub(crate) fn of(entries: &'a [((i64, i64), B)]) -> Pairs<'a, B>
+        ensures { result ≡ entries.now }
+    {
+        Pairs {
+            entries,
+            order: None,
+        }
+    }
 }
 
 impl<'a, B: Bundle> Iterator for Pairs<'a, B> {
@@ -117,8 +126,19 @@ impl<'a, B: Bundle> Iterator for Pairs<'a, B> {
     ghost remaining = { item_count (λ s. s) };
 
     fn next(&mut self) -> Option<((i64, i64), &'a B)> {
-        let (entry, rest) = self.rest.split_first()?;
-        self.rest = rest;
+        let entry = match self.order {
+            Some(order) => {
+                let (position, rest) = order.split_first()?;
+                let entry = self.entries.get(*position as usize)?;
+                self.order = Some(rest);
+                entry
+            }
+            None => {
+                let (entry, rest) = self.entries.split_first()?;
+                self.entries = rest;
+                entry
+            }
+        };
         Some((entry.0, &entry.1))
     }
 }

@@ -10,7 +10,7 @@ ghost use Rattle.dn_arc.specs.Pairs.{pair_cmp, same_pair};
 ghost use Rattle.dn_table.specs.State.Tables.{Adds, CountsEntries, IsSameElsewhere, IsTooMuch, WidensAt};
 
 use crate::entry_sum::bundle_entries;
-use crate::table::Table;
+use crate::table::{Pairs, Table};
 use dn_kind::{Bundle, BundleFault, Form};
 use pair_index::{AHEAD, PairIndex, is_pair};
 use std::alloc::{AllocError, Global};
@@ -218,10 +218,10 @@ impl<B: Bundle> TableSoFar<B> {
     pub fn entries(&self) -> u64
         ensures { CountsEntries B.bundle self.now result }
     {
-        bundle_entries(&self.entries)
+        bundle_entries(Pairs::of(&self.entries))
     }
 
-    /// Returns the table of these bundles. This does not allocate.
+    /// Returns the table of these bundles. This does not fail if an allocation fails.
     pub fn end(self) -> Table<B>
         ensures rising { IsStrictlySortedBy pair_cmp (keys_of result) }
         ensures kept { (pair : ℤ × ℤ) → lookup (same_pair pair) result ≡ lookup (same_pair pair) self }
@@ -231,8 +231,12 @@ impl<B: Bundle> TableSoFar<B> {
             index,
             ..
         } = self;
+        if let Some(order) = index.order(&entries) {
+            drop(index);
+            return Table::of(entries, Some(order));
+        }
         index.sort(&mut entries);
-        Table::of(entries)
+        Table::of(entries, None)
     }
 }
 

@@ -6,6 +6,7 @@ ghost use Rattle.std.specs.Map.{keys_of};
 ghost use Rattle.pair_index.specs.State.Indexed.{Indexes};
 ghost use Rattle.dn_arc.specs.Pairs.{pair_cmp, same_pair};
 ghost use Rattle.pair_index.specs.State.Positions.{IsPosition};
+ghost use Rattle.pair_index.specs.State.Ordered.{IsOrder};
 ghost use Rattle.pair_index.specs.State.Shown.{HasPositions, ShowsIndex};
 ghost use Rattle.pair_index.specs.State.Chained.{IsChained};
 ghost use Rattle.pair_index.specs.State.Tailed.{IsTailed};
@@ -202,6 +203,17 @@ impl PairIndex {
             }
             Way::Chained(chains) => Some(chains.hints(entries, pairs)),
             Way::Runs(_) | Way::Tails(_) | Way::Ordered(_) => None,
+        }
+    }
+
+    /// Returns the positions of the entries by ascending pair, if listing them saves time over sorting the entries, and
+    /// no allocation fails.
+    pub fn order<X>(&self, entries: &[((i64, i64), X)]) -> Option<Vec<u32>>
+        ensures { IfSome result (λ order. IsOrder (keys_of entries.now) order.items) }
+    {
+        match &self.way {
+            Way::Tails(tails) => tails.order(entries),
+            Way::Runs(_) | Way::Chained(_) | Way::Ordered(_) => None,
         }
     }
 

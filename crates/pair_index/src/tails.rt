@@ -3,11 +3,13 @@ ghost use Rattle.std.specs.Prelude.{◌≡◌, ◌<◌, ℕ, ℤ, false, IsTrue,
 ghost use Rattle.std.specs.List.{list_any, IsDistinct};
 ghost use Rattle.std.specs.Map.{keys_of};
 ghost use Rattle.pair_index.specs.State.Tailed.{HasRoomFor, IsTailed, LeadsTo, IsSpot};
+ghost use Rattle.pair_index.specs.State.Ordered.{IsOrder};
 ghost use Rattle.pair_index.specs.State.Positions.{IsPosition};
 ghost use Rattle.dn_arc.specs.Pairs.{same_pair};
 
 use crate::index::AHEAD;
 use crate::links::{LONG, MOST_LINKED, is_long};
+use crate::order::is_order;
 use crate::pair::{is_head_upto, is_pair};
 use std::alloc::{AllocError, Global};
 
@@ -23,6 +25,7 @@ const SPAN: usize = 64;
 // next greater head. A link is the position plus one, and 0 ends the chain.
 #[derive(Drop)]
 pub(crate) struct Tails {
+    alloc: Global,
     heads: Vec<u32>,
     next: Vec<u32>,
 }
@@ -82,6 +85,7 @@ impl Tails {
         ensures next { result.next.items ≡ [] }
     {
         Tails {
+            alloc,
             heads: Vec::new(alloc),
             next: Vec::new(alloc),
         }
@@ -297,6 +301,45 @@ impl Tails {
             Some(at)
         } else {
             None
+        }
+    }
+
+    // Returns the positions of the entries by ascending pair, or `None` if an allocation fails. Whether it returns them
+    // affects only the speed.
+    pub(crate) fn order<X>(&self, entries: &[((i64, i64), X)]) -> Option<Vec<u32>>
+        ensures { IfSome result (λ order. IsOrder (keys_of entries.now) order.items) }
+    {
+        let Ok(order) = self.positions() else {
+            return None;
+        };
+        if is_order(entries, &order) {
+            Some(order)
+        } else {
+            drop(order);
+            None
+        }
+    }
+
+    // Returns the positions along the chains, by ascending tail. This has no contract, because the caller checks them.
+    fn positions(&self) -> Result<Vec<u32>, AllocError> {
+        let mut positions = Vec::new(self.alloc);
+        positions.reserve(self.next.len())?;
+        for first in &self.heads {
+            self.walk(*first, &mut positions);
+        }
+        Ok(positions)
+    }
+
+    // Appends the positions along a chain, as far as there is capacity. This does not allocate. It has no contract,
+    // because the caller of `positions` checks them.
+    fn walk(&self, first: u32, positions: &mut Vec<u32>) {
+        let mut link = first;
+        while link != 0 && positions.len() < positions.capacity() {
+            positions.push_reserved(link - 1);
+            link = match self.next.get((link - 1) as usize) {
+                Some(next) => *next,
+                None => 0,
+            };
         }
     }
 }
