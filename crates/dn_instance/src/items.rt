@@ -1,5 +1,5 @@
 // Takes items other than arcs as they arrive.
-ghost use Rattle.std.specs.Prelude.{◌≡◌, ◌≤◌, vec_capacity, vec_len, [], ◌∷◌, ◌++◌, OnOk, OnErr, Some, None, is_some, Err};
+ghost use Rattle.std.specs.Prelude.{◌≡◌, ◌≤◌, ◌≤ℤ◌, pos, vec_capacity, vec_len, [], ◌∷◌, ◌++◌, OnOk, OnErr, Some, None, is_some, Err};
 ghost use Rattle.std.specs.BTreeMap.{insert_entry};
 ghost use Rattle.std.specs.Ordering.{int_cmp};
 ghost use Rattle.dn_nodes.specs.State.Nodes.{get};
@@ -123,7 +123,8 @@ pub(crate) fn insert_supply(
 
 // Adds the flow, which is not 0, of a node without an earlier line. If an allocation fails, nothing changes.
 fn put_flow(supplies: &mut NodeMap<i64>, id: &i64, flow: &i64) -> Result<(), ItemFault>
-    requires { get supplies.old id.now ≡ None }
+    requires some { pos 0 ≤ℤ id.now }
+    requires none { get supplies.old id.now ≡ None }
     ensures ok { OnOk result (supplies.new.entries ≡ insert_entry int_cmp supplies.old.entries id.now flow.now) }
     ensures err { OnErr result (supplies.new.entries ≡ supplies.old.entries) }
     ensures memory { OnErr result (result ≡ Err ItemFault.Memory) }

@@ -1,4 +1,4 @@
--- Links in a list of links, and in maps below and above it.
+-- Links in a list of links, and in a map above it.
 use Rattle.std.proofs.Common.{inl, inr, ◌≡◌, ℕ, zero, suc, ◌+◌, ◌<◌, ◌≤◌, ℤ, pos, ◌≤ℤ◌, ◌<ℤ◌, List, [], ◌∷◌, ◌++◌, Option, Some, None, length, slice_get, get_or, set, refl, sym, ap, ◌∙◌, arith, Less, Greater, int_cmp, replicate, take, append_assoc}
 use Rattle.std.specs.List.{AllByRecursion}
 use Rattle.std.specs.BTreeMap.{insert_entry}
@@ -8,7 +8,7 @@ use Rattle.std.proofs.lemmas.Int.{ints}
 use Rattle.std.proofs.lemmas.List.{get_or-set_other}
 use Rattle.dn_arc.proofs.CanonsLaws.{by_cmp}
 use Rattle.dn_nodes.specs.State.Nodes.{at, Rises}
-use Rattle.dn_nodes.specs.State.Links.{direct, AreBelow, AreFar}
+use Rattle.dn_nodes.specs.State.Links.{direct, AreFar}
 use Rattle.dn_nodes.proofs.KeyLaws.{at_self, Above, above_none, rises_head, rises_tail, lookup_right}
 use Rattle.dn_nodes.proofs.KeyLaws.{past, before, insert_first}
 
@@ -108,22 +108,12 @@ pub far_above : (m : ℕ) (es : List (ℤ × ℕ)) (k : ℤ) → k <ℤ pos m �
 far_above m [] k h f = tt
 far_above m (e ∷ es) k h f = (before k e.0 (omega (arith, ints, f.0.0)), far_above m es k h f.1)
 
-pub below_under : (es : List (ℤ × ℕ)) (k : ℤ) → pos 0 ≤ℤ k → AreBelow es → Under k es
-below_under [] k h b = tt
-below_under (e ∷ es) k h b = (past k e.0 (omega (arith, ints, b.0)), below_under es k h b.1)
-
 pub far_insert : (m : ℕ) (es : List (ℤ × ℕ)) (k : ℤ) (l : ℕ) → pos m ≤ℤ k → 0 < l → AreFar m es
     → AreFar m (insert_entry int_cmp es k l)
 far_insert m [] k l h some f = ((h, some), tt)
 far_insert m (e ∷ es) k l h some f =
     by_cmp k e.0 (λ c lt. rw c ((h, some), f)) (λ c eq. rw c ((f.0.0, some), f.1))
     (λ c gt. rw c (f.0, far_insert m es k l h some f.1))
-
-pub below_insert : (es : List (ℤ × ℕ)) (k : ℤ) (l : ℕ) → k <ℤ pos 0 → AreBelow es
-    → AreBelow (insert_entry int_cmp es k l)
-below_insert [] k l h b = (h, tt)
-below_insert (e ∷ es) k l h b =
-    by_cmp k e.0 (λ c lt. rw c (h, b)) (λ c eq. rw c b) (λ c gt. rw c (b.0, below_insert es k l h b.1))
 
 above_append : (k : ℤ) (xs ys : List (ℤ × ℕ)) → Above k xs → Above k ys → Above k (xs ++ ys)
 above_append k [] ys a b = b
@@ -141,78 +131,60 @@ insert_past : (xs ys : List (ℤ × ℕ)) (k : ℤ) (l : ℕ) → Under k xs
 insert_past [] ys k l u = refl
 insert_past (x ∷ xs) ys k l u = rw u.0 (ap (λ r. x ∷ r) (insert_past xs ys k l u.1))
 
-module _ (below above now : List (ℤ × ℕ)) (links : List ℕ) (k : ℤ) (far : AreFar (length links) above)
-    (view : below ++ (direct 0 links ++ above) ≡ now) where
-  after_none : k <ℤ pos 0 → Above k (direct 0 links ++ above)
-  after_none h =
-      above_append k (direct 0 links) above (direct_low 0 links k h)
-      (far_above (length links) above k (omega (arith, ints)) far)
-
-  pub find_below : k <ℤ pos 0 → lookup (at k) below ≡ lookup (at k) now
+module _ (above now : List (ℤ × ℕ)) (links : List ℕ) (k : ℤ) (far : AreFar (length links) above)
+    (view : direct 0 links ++ above ≡ now) where
+  pub find_below : k <ℤ pos 0 → lookup (at k) now ≡ None
   find_below h =
       rw (← view)
-      (sym (lookup_before k below (direct 0 links ++ above) (above_none k (direct 0 links ++ above) (after_none h))))
+      (above_none k (direct 0 links ++ above)
+      (above_append k (direct 0 links) above (direct_low 0 links k h)
+      (far_above (length links) above k (omega (arith, ints)) far)))
 
-  pub note_below : k <ℤ pos 0 → (new : List (ℤ × ℕ)) (l : ℕ) → new ≡ insert_entry int_cmp below k l
-      → new ++ (direct 0 links ++ above) ≡ insert_entry int_cmp now k l
-  note_below h new l e = rw (e, ← view) (insert_before below (direct 0 links ++ above) k l (after_none h))
+  pub find_far : pos (length links) ≤ℤ k → lookup (at k) above ≡ lookup (at k) now
+  find_far h =
+      rw (← view)
+      (sym
+      (lookup_right (at k) (direct 0 links) above
+      (under_none k (direct 0 links) (direct_under 0 links k (omega (arith, ints))))))
 
-  module _ (some : pos 0 ≤ℤ k) (neg : AreBelow below) where
-    past_below : lookup (at k) now ≡ lookup (at k) (direct 0 links ++ above)
-    past_below =
-        rw (← view)
-        (lookup_right (at k) below (direct 0 links ++ above) (under_none k below (below_under below k some neg)))
+  pub note_far : pos (length links) ≤ℤ k → (new : List (ℤ × ℕ)) (l : ℕ) → new ≡ insert_entry int_cmp above k l
+      → direct 0 links ++ new ≡ insert_entry int_cmp now k l
+  note_far h new l e =
+      rw (e, ← view) (insert_past (direct 0 links) above k l (direct_under 0 links k (omega (arith, ints))))
 
-    pub find_far : pos (length links) ≤ℤ k → lookup (at k) above ≡ lookup (at k) now
-    find_far h =
-        rw past_below
-        (sym
-        (lookup_right (at k) (direct 0 links) above
-        (under_none k (direct 0 links) (direct_under 0 links k (omega (arith, ints))))))
+  module _ (i : ℕ) (is : k ≡ pos i) (lt : i < length links) where
+    pub find_link : link_of (slice_get links i) ≡ lookup (at k) now
+    find_link =
+        rw (
+          ← view,
+          lookup_before k (direct 0 links) above
+              (above_none k above (far_above (length links) above k (omega (arith, ints)) far)),
+        )
+        (sym (direct_find 0 i links k (omega (arith, ints))))
 
-    pub note_far : pos (length links) ≤ℤ k → (new : List (ℤ × ℕ)) (l : ℕ) → new ≡ insert_entry int_cmp above k l
-        → below ++ (direct 0 links ++ new) ≡ insert_entry int_cmp now k l
-    note_far h new l e =
-        rw (e, ← view, insert_past (direct 0 links) above k l (direct_under 0 links k (omega (arith, ints))))
-        (insert_past below (direct 0 links ++ above) k l (below_under below k some neg))
+    no_link : (o : Option ℕ) → o ≡ slice_get links i → link_of o ≡ None → get_or links i 0 ≡ 0
+    no_link None h z = zero_past links i (sym h)
+      where
+        zero_past : (xs : List ℕ) (j : ℕ) → slice_get xs j ≡ None → get_or xs j 0 ≡ 0
+        zero_past [] j g = refl
+        zero_past (x ∷ xs) zero g = cc
+        zero_past (x ∷ xs) (suc j) g = zero_past xs j g
+    no_link (Some zero) h z = zero_here links i (sym h)
+      where
+        zero_here : (xs : List ℕ) (j : ℕ) → slice_get xs j ≡ Some 0 → get_or xs j 0 ≡ 0
+        zero_here [] j g = cc
+        zero_here (x ∷ xs) zero g = cc
+        zero_here (x ∷ xs) (suc j) g = zero_here xs j g
+    no_link (Some (suc l)) h z = cc
 
-    module _ (i : ℕ) (is : k ≡ pos i) (lt : i < length links) where
-      pub find_link : link_of (slice_get links i) ≡ lookup (at k) now
-      find_link =
-          rw (
-            past_below,
-            lookup_before k (direct 0 links) above
-                (above_none k above (far_above (length links) above k (omega (arith, ints)) far)),
-          )
-          (sym (direct_find 0 i links k (omega (arith, ints))))
-
-      no_link : (o : Option ℕ) → o ≡ slice_get links i → link_of o ≡ None → get_or links i 0 ≡ 0
-      no_link None h z = zero_past links i (sym h)
-        where
-          zero_past : (xs : List ℕ) (j : ℕ) → slice_get xs j ≡ None → get_or xs j 0 ≡ 0
-          zero_past [] j g = refl
-          zero_past (x ∷ xs) zero g = cc
-          zero_past (x ∷ xs) (suc j) g = zero_past xs j g
-      no_link (Some zero) h z = zero_here links i (sym h)
-        where
-          zero_here : (xs : List ℕ) (j : ℕ) → slice_get xs j ≡ Some 0 → get_or xs j 0 ≡ 0
-          zero_here [] j g = cc
-          zero_here (x ∷ xs) zero g = cc
-          zero_here (x ∷ xs) (suc j) g = zero_here xs j g
-      no_link (Some (suc l)) h z = cc
-
-      pub note_link : (l : ℕ) → 0 < l → lookup (at k) now ≡ None
-          → below ++ (direct 0 (set links i l) ++ above) ≡ insert_entry int_cmp now k l
-      note_link zero some_link none = absurd (omega arith)
-      note_link (suc l) some_link none =
-          let bare = no_link (slice_get links i) refl (find_link ∙ none) in
-          rw (
-            direct_put 0 i links k l (omega (arith, ints)) lt bare,
-            insert_before (direct 0 links) above k (suc l)
-                (far_above (length links) above k (omega (arith, ints)) far),
-            ← view,
-          )
-          (insert_past below (direct 0 links ++ above) k (suc l) (below_under below k some neg))
+    pub note_link : (l : ℕ) → 0 < l → lookup (at k) now ≡ None
+        → direct 0 (set links i l) ++ above ≡ insert_entry int_cmp now k l
+    note_link zero some_link none = absurd (omega arith)
+    note_link (suc l) some_link none =
+        let bare = no_link (slice_get links i) refl (find_link ∙ none) in
+        rw (direct_put 0 i links k l (omega (arith, ints)) lt bare, ← view)
+        (insert_before (direct 0 links) above k (suc l)
+        (far_above (length links) above k (omega (arith, ints)) far))
 
 -- ---- links that reach further
 

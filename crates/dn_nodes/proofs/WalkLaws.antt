@@ -52,33 +52,20 @@ from_is n (suc l ∷ links) =
 
 -- ---- a step of the walk
 
-module _ (below above now : List (ℤ × ℕ)) (links : List ℕ) (node : ℤ)
-    (view : below ++ (direct_from node links ++ above) ≡ now) (none : below ≡ []) where
-  pub walk_link : (after : List (ℤ × ℕ)) (rest : List ℕ) (z link : ℕ) (t u : ℤ) → after ≡ [] → z ≡ lead links
-      → drop (lead links) links ≡ link ∷ rest → t ≡ node +ℤ pos z → u ≡ t +ℤ pos 1
-      → now ≡ (t, link) ∷ (after ++ (direct_from u rest ++ above))
-  walk_link after rest z link t u empty is drops e f =
+module _ (above now : List (ℤ × ℕ)) (links : List ℕ) (node : ℤ) (view : direct_from node links ++ above ≡ now) where
+  pub walk_link : (rest : List ℕ) (z link : ℕ) (t u : ℤ) → z ≡ lead links → drop (lead links) links ≡ link ∷ rest
+      → t ≡ node +ℤ pos z → u ≡ t +ℤ pos 1 → now ≡ (t, link) ∷ (direct_from u rest ++ above)
+  walk_link rest z link t u is drops e f =
       let first = from_first node links rest link drops in
       let at : t ≡ node +ℤ pos (lead links) = rw (← is) e in
-      rw (← view, none, empty, first, f, at) refl
+      rw (← view, first, f, at) refl
 
-  pub walk_above : (after rest : List (ℤ × ℕ)) (e : ℤ × ℕ) → after ≡ [] → length (drop (lead links) links) ≡ 0
-      → above ≡ e ∷ rest → now ≡ e ∷ (after ++ rest)
-  walk_above after rest e empty zeros is = rw (← view, none, empty, from_none node links (no_more zeros), is) refl
+  no_more : length (drop (lead links) links) ≡ 0 → drop (lead links) links ≡ []
+  no_more h = nothing (drop (lead links) links) h
     where
-      no_more : length (drop (lead links) links) ≡ 0 → drop (lead links) links ≡ []
-      no_more h = nothing (drop (lead links) links) h
-        where
-          nothing : (xs : List ℕ) → length xs ≡ 0 → xs ≡ []
-          nothing [] g = refl
-          nothing (x ∷ xs) g = absurd (omega (arith, g))
+      nothing : (xs : List ℕ) → length xs ≡ 0 → xs ≡ []
+      nothing [] g = refl
+      nothing (x ∷ xs) g = absurd (omega (arith, g))
 
-  pub walk_end : length (drop (lead links) links) ≡ 0 → above ≡ [] → now ≡ []
-  walk_end zeros is = rw (← view, none, from_none node links (no_more zeros), is) refl
-    where
-      no_more : length (drop (lead links) links) ≡ 0 → drop (lead links) links ≡ []
-      no_more h = nothing (drop (lead links) links) h
-        where
-          nothing : (xs : List ℕ) → length xs ≡ 0 → xs ≡ []
-          nothing [] g = refl
-          nothing (x ∷ xs) g = absurd (omega (arith, g))
+  pub walk_above : length (drop (lead links) links) ≡ 0 → now ≡ above
+  walk_above zeros = rw (← view, from_none node links (no_more zeros)) refl

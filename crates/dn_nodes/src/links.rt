@@ -15,13 +15,12 @@ use std::marker::Model;
 // The list of links reaches up to this many nodes for each value, and 16 times as many beyond.
 const DENSE: usize = 8;
 
-/// The links of the nodes, by ascending node. Of the nodes from 0 on, those below the length of `links` have their
-/// links there, where 0 is no link. All other nodes are in maps. A node that the list comes to reach moves there, so
-/// both ways to find a node are always there, and none is ever turned into the other as a whole. The list has at most 8
-/// places for each node that has a link, and 128 more, so its length never depends on the nodes' numbers.
+/// The links of the nodes, by ascending node. Nodes below the length of `links` have their links there, where 0 is no
+/// link. All other nodes are in a map. A node that the list comes to reach moves there, so both ways to find a node are
+/// always there, and none is ever turned into the other as a whole. The list has at most 8 places for each node that has
+/// a link, and 128 more, so its length never depends on the nodes' numbers.
 #[derive(Drop)]
 pub(crate) struct Links {
-    below: BTreeMap<i64, usize>,
     links: Vec<usize>,
     above: BTreeMap<i64, usize>,
 }
@@ -29,16 +28,15 @@ pub(crate) struct Links {
 impl Model for Links {
     ghost use Rattle.std.specs.Prelude.{ℕ, ℤ, pos, List, ◌++◌, ◌<ℤ◌, length};
     ghost use Rattle.std.specs.List.{AllByRecursion};
-    ghost use Rattle.dn_nodes.specs.State.Links.{direct, AreFar, AreBelow, IsShort};
+    ghost use Rattle.dn_nodes.specs.State.Links.{direct, AreFar, IsShort};
     ghost use Rattle.dn_nodes.specs.State.Nodes.{Rises};
 
     ghost Value = { List (ℤ × ℕ) };
 
-    ghost view = { λ t. t.below.entries ++ (direct 0 t.links.items ++ t.above.entries) };
+    ghost view = { λ t. direct 0 t.links.items ++ t.above.entries };
 
-    ghost invariant = { λ t. AreBelow t.below.entries × AreFar (length t.links.items) t.above.entries
-        × Rises t.below.entries × Rises t.above.entries
-        × IsShort (length t.links.items) (length (t.below.entries ++ (direct 0 t.links.items ++ t.above.entries))) };
+    ghost invariant = { λ t. AreFar (length t.links.items) t.above.entries × Rises t.above.entries
+        × IsShort (length t.links.items) (length (direct 0 t.links.items ++ t.above.entries)) };
 }
 
 // Returns the place of a node in a list of links.
@@ -95,7 +93,6 @@ impl Links {
         ensures { result ≡ [] }
     {
         Links {
-            below: BTreeMap::new(alloc),
             links: Vec::new(alloc),
             above: BTreeMap::new(alloc),
         }
@@ -105,10 +102,11 @@ impl Links {
     pub(crate) fn find(&self, node: &i64) -> Option<usize>
         ensures { result ≡ lookup (at node.now) self.now }
     {
+        let links = &self.links;
         if *node < 0 {
-            return self.below.get(node).copied();
+            return None;
         }
-        match link_at(&self.links, place_of(node)) {
+        match link_at(links, place_of(node)) {
             Some(0) => None,
             Some(link) => Some(link),
             None => self.above.get(node).copied(),
@@ -119,21 +117,18 @@ impl Links {
     pub(crate) fn iter(&self) -> LinksIter<'_>
         ensures { result ≡ self.now }
     {
-        LinksIter::of(&self.below, &self.links, &self.above)
+        LinksIter::of(&self.links, &self.above)
     }
 
-    /// Notes the link of a node that has none: one more than there are links. If an allocation fails, nothing has
-    /// changed.
+    /// Notes the link of a node from 0 on that has none: one more than there are links. If an allocation fails, nothing
+    /// has changed.
     pub(crate) fn note(&mut self, node: i64, link: usize) -> Result<(), AllocError>
+        requires some { pos 0 ≤ℤ node }
         requires none { lookup (at node) self.old ≡ None }
         requires next { link ≡ length self.old + 1 }
         ensures ok { OnOk result (self.new ≡ insert_entry int_cmp self.old node link) }
         ensures err { OnErr result (self.new ≡ self.old) }
     {
-        if node < 0 {
-            self.below.insert(node, link)?;
-            return Ok(());
-        }
         let place = place_of(&node);
         if self.links.len() <= place {
             if link.saturating_add(16) <= place / DENSE {

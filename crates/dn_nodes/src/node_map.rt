@@ -1,5 +1,5 @@
 // Values by node.
-ghost use Rattle.std.specs.Prelude.{◌≡◌, ◌<◌, ◌^◌, ℤ, List, [], None, OnOk, OnErr, length};
+ghost use Rattle.std.specs.Prelude.{◌≡◌, ◌<◌, ◌≤ℤ◌, ◌^◌, ℤ, pos, List, [], None, OnOk, OnErr, length};
 ghost use Rattle.std.specs.BTreeMap.{insert_entry};
 ghost use Rattle.std.specs.Iterator.{YieldsFirstBy, item_count};
 ghost use Rattle.std.specs.Option.{option_copied};
@@ -12,8 +12,8 @@ use crate::walk::LinksIter;
 use std::alloc::{AllocError, Global};
 use std::marker::Model;
 
-/// A value for each of some nodes, by ascending node. To find a node takes one step where the nodes are dense from 0
-/// on, and a path of an ordered map otherwise.
+/// A value for each of some nodes from 0 on, by ascending node. To find a node takes one step where the nodes are dense
+/// from 0 on, and a path of an ordered map otherwise.
 #[derive(Drop)]
 pub struct NodeMap<V: Drop> {
     links: Links,
@@ -71,13 +71,14 @@ impl<V: Drop> NodeMap<V> {
         }
     }
 
-    /// Adds the value of a node that has none.
+    /// Adds the value of a node from 0 on that has none.
     ///
     /// # Errors
     ///
     /// Returns the error of the allocator if an allocation fails; then nothing has changed.
     pub fn insert(&mut self, node: i64, value: V) -> Result<(), AllocError>
-        requires { get self.old node ≡ None }
+        requires some { pos 0 ≤ℤ node }
+        requires none { get self.old node ≡ None }
         ensures ok { OnOk result (self.new.entries ≡ insert_entry int_cmp self.old.entries node value) }
         ensures err { OnErr result (self.new.entries ≡ self.old.entries) }
     {

@@ -24,13 +24,6 @@ fn zeros(links: &[usize]) -> usize
     skip
 }
 
-// Returns the links from the first one that is not 0 on.
-fn past_zeros(links: &[usize]) -> &[usize]
-    ensures { result.now ≡ drop (lead links.now) links.now }
-{
-    links.split_at(zeros(links)).1
-}
-
 // Returns the node that is `skip` past another.
 fn past(node: &i64, skip: usize) -> i64
     requires some { pos 0 ≤ℤ node.now }
@@ -43,7 +36,6 @@ fn past(node: &i64, skip: usize) -> i64
 /// The remaining nodes with their links, by ascending node.
 #[derive(Drop)]
 pub(crate) struct LinksIter<'a> {
-    below: Iter<'a, i64, usize>,
     node: i64,
     links: &'a [usize],
     above: Iter<'a, i64, usize>,
@@ -55,22 +47,17 @@ impl<'a> Model for LinksIter<'a> {
 
     ghost Value = { List (ℤ × ℕ) };
 
-    ghost view = { λ t. t.below ++ (direct_from t.node t.links.now ++ t.above) };
+    ghost view = { λ t. direct_from t.node t.links.now ++ t.above };
 
     ghost invariant = { λ t. (pos 0 ≤ℤ t.node) × ((t.node +ℤ pos (length t.links.now)) ≤ℤ pos (2 ^ 63 - 1)) };
 }
 
 impl<'a> LinksIter<'a> {
-    /// Iterates over a map, a list of links from node 0 on, and another map.
-    pub(crate) fn of(
-        below: &'a BTreeMap<i64, usize>,
-        links: &'a [usize],
-        above: &'a BTreeMap<i64, usize>,
-    ) -> LinksIter<'a>
-        ensures { result ≡ below.now.entries ++ (direct 0 links.now ++ above.now.entries) }
+    /// Iterates over a list of links from node 0 on, and a map.
+    pub(crate) fn of(links: &'a [usize], above: &'a BTreeMap<i64, usize>) -> LinksIter<'a>
+        ensures { result ≡ direct 0 links.now ++ above.now.entries }
     {
         LinksIter {
-            below: below.iter(),
             node: 0,
             links,
             above: above.iter(),
@@ -86,11 +73,9 @@ impl<'a> Iterator for LinksIter<'a> {
     ghost remaining = { item_count (λ s. s) };
 
     fn next(&mut self) -> Option<(i64, usize)> {
-        if let Some((node, link)) = self.below.next() {
-            return Some((*node, *link));
-        }
-        let node = past(&self.node, zeros(self.links));
-        if let Some((link, links)) = past_zeros(self.links).split_first() {
+        let skip = zeros(self.links);
+        let node = past(&self.node, skip);
+        if let Some((link, links)) = self.links.split_at(skip).1.split_first() {
             self.node = past(&node, 1);
             self.links = links;
             return Some((node, *link));

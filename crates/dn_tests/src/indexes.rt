@@ -1,6 +1,6 @@
 // Each way of finding pairs, compared with a scan of the list. Allocations may fail.
 
-use pair_index::{AHEAD, PairIndex, position_among};
+use pair_index::{AHEAD, PairIndex};
 use std::alloc::{AllocError, Global};
 use std::marker::Model;
 use std::test::Fail;
@@ -65,6 +65,30 @@ impl Listed {
         }
     }
 
+    // Returns whether the index lists the positions of the entries by ascending pair ("listed") or not ("sorted"), or what
+    // went wrong. Retries the allocation once if it fails.
+    fn order(&self) -> &'static str {
+        let Some(order) = self.positions().or_else(|| self.positions()) else {
+            return "sorted";
+        };
+        for i in 1..order.len() {
+            let (left, right) = (order[i - 1] as usize, order[i] as usize);
+            match (self.entries.get(left), self.entries.get(right)) {
+                (Some(left), Some(right)) if left.0 < right.0 => {}
+                _ => return "a wrong position",
+            }
+        }
+        if order.len() == self.entries.len() {
+            "listed"
+        } else {
+            "a wrong number of positions"
+        }
+    }
+
+    fn positions(&self) -> Option<Vec<u32>> {
+        self.index.order(&self.entries)
+    }
+
     // Whether the sorted entries rise, and each pair has its entry among them.
     fn sorts(self, pairs: &[(i64, i64)]) -> bool {
         let Listed { mut entries, index } = self;
@@ -75,8 +99,8 @@ impl Listed {
             }
         }
         for i in 0..pairs.len() {
-            match position_among(&entries, &pairs[i]) {
-                Some(place) if entries[place].1 == i => {}
+            match entries.binary_search_by(|entry| entry.0.cmp(&pairs[i])) {
+                Ok(place) if entries[place].1 == i => {}
                 _ => return false,
             }
         }
@@ -236,22 +260,42 @@ const COLLIDING: [(i64, i64); 28] = [
     (29, 580),
 ];
 
-// Pairs that come nearly in order: each is followed by its reverse.
-fn way_to_find_reversed(alloc: Global) -> Result<&'static str, AllocError> {
+// Returns pairs whose nodes are this far apart, each followed by its reverse. They come nearly in order if that is little.
+fn reversed(alloc: Global, apart: i64) -> Result<Vec<(i64, i64)>, AllocError> {
     let mut pairs = match Vec::with_capacity(alloc, 1200) {
         Ok(pairs) => pairs,
         Err(_) => Vec::with_capacity(alloc, 1200)?,
     };
     for i in 1..600i64 {
-        pairs.push((i, i + 30))?;
-        pairs.push((i + 30, i))?;
+        pairs.push((i, i.wrapping_add(apart)))?;
+        pairs.push((i.wrapping_add(apart), i))?;
     }
-    way_to_find(alloc, &pairs)
+    Ok(pairs)
 }
 
 #[test]
-fn finds_reversed(rt: HostRuntime) {
-    assert!(rt; way_to_find_reversed(rt.alloc()) == Ok("scattered"));
+fn finds_reversed(rt: HostRuntime) -> Result<(), Fail> {
+    for apart in [5, 30] {
+        let pairs = reversed(rt.alloc(), apart)?;
+        assert!(rt; way_to_find(rt.alloc(), &pairs) == Ok("scattered"));
+    }
+    Ok(())
+}
+
+// Returns `Listed::order` of these pairs, or what went wrong.
+fn way_to_order(alloc: Global, pairs: &[(i64, i64)]) -> Result<&'static str, AllocError> {
+    match index_of(alloc, pairs)? {
+        Some(listed) => Ok(listed.order()),
+        None => Ok("a wrong place after an allocation failure"),
+    }
+}
+
+#[test]
+fn orders_pairs(rt: HostRuntime) -> Result<(), Fail> {
+    let (near, far) = (reversed(rt.alloc(), 5)?, reversed(rt.alloc(), 30)?);
+    assert!(rt; way_to_order(rt.alloc(), &near) == Ok("listed"));
+    assert!(rt; way_to_order(rt.alloc(), &far) == Ok("sorted"));
+    Ok(())
 }
 
 #[test]

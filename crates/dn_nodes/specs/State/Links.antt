@@ -1,5 +1,5 @@
 -- Which value each node has: a link is one more than the position of a value, and 0 leads to none.
-use Rattle.std.specs.Prelude.{nat_eq, ◌+◌, ◌*◌, ◌+ℤ◌, ◌<◌, ◌≤◌, ◌<ℤ◌, ◌≤ℤ◌, ℕ, zero, suc, ℤ, pos, List, [], ◌∷◌, ◌++◌, cond, Option, Some, None, length, slice_get}
+use Rattle.std.specs.Prelude.{nat_eq, ◌+◌, ◌*◌, ◌+ℤ◌, ◌<◌, ◌≤◌, ◌≤ℤ◌, ℕ, zero, suc, ℤ, pos, List, [], ◌∷◌, ◌++◌, cond, Option, Some, None, length, slice_get}
 use Rattle.std.specs.List.{AllByRecursion}
 
 -- the entry of a link, if there is one
@@ -21,10 +21,6 @@ direct_from node (link ∷ links) = linked_at node link ++ direct_from (node +�
 abbrev pub lead : List ℕ → ℕ
 lead [] = zero
 lead (link ∷ links) = cond (nat_eq link 0) (suc (lead links)) zero
-
--- all nodes are negative
-abbrev pub AreBelow : List (ℤ × ℕ) → Type 0
-AreBelow es = AllByRecursion (λ (e : ℤ × ℕ). e.0 <ℤ pos 0) es
 
 -- all nodes are beyond a list of this length, and have links
 abbrev pub AreFar : ℕ → List (ℤ × ℕ) → Type 0

@@ -7,35 +7,10 @@ use Rattle.std.proofs.lemmas.List.{length-set}
 use Rattle.dn_nodes.specs.State.Links.{direct}
 use Rattle.dn_nodes.specs.declared.links.Links.TheInside.{Inside}
 use Rattle.dn_nodes.proofs.KeyLaws.{insert_rises}
-use Rattle.dn_nodes.proofs.LinkLaws.{below_insert, far_insert, note_below, note_far, note_link}
+use Rattle.dn_nodes.proofs.LinkLaws.{far_insert, note_far, note_link}
 use Rattle.dn_nodes.proofs.NodeLaws.{short_more}
 use Rattle.dn_nodes.proofs.links.Links.note.Goals as goal
 use Rattle.dn_nodes.proofs.links.Links.note.Goals.{then-len-place+else-saturating_add-place+in_ok-reach, else-len-place}
-
-pub invariant_of-self-then-node-lt0 : goal.invariant_of-self-then-node-lt0
-invariant_of-self-then-node-lt0 c =
-    let s = c.self.inside in
-    let f : FitsSigned w64 c.args.node = search rules in
-    let neg : c.args.node <ℤ pos 0 = search rules in
-    let is : c.insert.new.self.entries ≡ insert_entry int_cmp s.below.entries c.args.node c.args.link =
-    simp to_z-of_z at c.in_ok-insert.ensures.entries in
-    let now = note_below s.below.entries s.above.entries c.args.self.now s.links.items c.args.node c.self.invariant.1
-    c.self.view_is neg c.insert.new.self.entries c.args.link is in (
-      rw is (below_insert s.below.entries c.args.node c.args.link neg c.self.invariant.0),
-      c.self.invariant.1,
-      rw is (insert_rises s.below.entries c.args.node c.args.link c.self.invariant.2),
-      c.self.invariant.3,
-      short_more c.args.self.now _ c.args.node c.args.link _ now c.requires.none
-          (omega (arith, c.self.invariant.4, ap length c.self.view_is)),
-    )
-
-pub returns-then-node-lt0-clause-ok : goal.returns-then-node-lt0-clause-ok
-returns-then-node-lt0-clause-ok c =
-    let s = c.self.inside in
-    let f : FitsSigned w64 c.args.node = search rules in
-    let neg : c.args.node <ℤ pos 0 = search rules in
-    note_below s.below.entries s.above.entries c.args.self.now s.links.items c.args.node c.self.invariant.1
-    c.self.view_is neg c.insert.new.self.entries c.args.link (simp to_z-of_z at c.in_ok-insert.ensures.entries)
 
 pub invariant_of-self-then-saturating_add-place : goal.invariant_of-self-then-saturating_add-place
 invariant_of-self-then-saturating_add-place c =
@@ -45,72 +20,66 @@ invariant_of-self-then-saturating_add-place c =
     let long : length s.links.items ≤ c.place_of-place.result =
     grind (arith, common_steps, c.if-len-place.true, c.len.ensures) in
     let far : pos (length s.links.items) ≤ℤ c.args.node = omega (arith, ints, long, place) in
-    let is : c.insert-then-saturating_add-place.new.self.entries
+    let is : c.insert.new.self.entries
     ≡ insert_entry int_cmp s.above.entries c.args.node c.args.link =
-    simp to_z-of_z at c.in_ok-insert-2.ensures.entries in
-    let some : pos 0 ≤ℤ c.args.node = search rules in
+    simp to_z-of_z at c.in_ok-insert.ensures.entries in
     let link : 0 < c.args.link = omega (arith, c.requires.next) in
-    let now = note_far s.below.entries s.above.entries c.args.self.now s.links.items c.args.node c.self.invariant.1
-    c.self.view_is some c.self.invariant.0 far c.insert-then-saturating_add-place.new.self.entries c.args.link is in (
-      c.self.invariant.0,
-      rw is (far_insert (length s.links.items) s.above.entries c.args.node c.args.link far link c.self.invariant.1),
-      c.self.invariant.2,
-      rw is (insert_rises s.above.entries c.args.node c.args.link c.self.invariant.3),
+    let now = note_far s.above.entries c.args.self.now s.links.items c.args.node c.self.invariant.0
+    c.self.view_is far c.insert.new.self.entries c.args.link is in (
+      rw is (far_insert (length s.links.items) s.above.entries c.args.node c.args.link far link c.self.invariant.0),
+      rw is (insert_rises s.above.entries c.args.node c.args.link c.self.invariant.1),
       short_more c.args.self.now _ c.args.node c.args.link _ now c.requires.none
-          (omega (arith, c.self.invariant.4, ap length c.self.view_is)),
+          (omega (arith, c.self.invariant.2, ap length c.self.view_is)),
     )
 
 pub returns-then-saturating_add-place-clause-ok : goal.returns-then-saturating_add-place-clause-ok
 returns-then-saturating_add-place-clause-ok c =
     let s = c.self.inside in
     let f : FitsSigned w64 c.args.node = search rules in
-    let some : pos 0 ≤ℤ c.args.node = search rules in
     let place = simp to_z-of_z at c.place_of-place.ensures in
     let long : length s.links.items ≤ c.place_of-place.result =
     grind (arith, common_steps, c.if-len-place.true, c.len.ensures) in
     let far : pos (length s.links.items) ≤ℤ c.args.node = omega (arith, ints, long, place) in
-    note_far s.below.entries s.above.entries c.args.self.now s.links.items c.args.node c.self.invariant.1
-    c.self.view_is some c.self.invariant.0 far c.insert-then-saturating_add-place.new.self.entries c.args.link
-    (simp to_z-of_z at c.in_ok-insert-2.ensures.entries)
+    note_far s.above.entries c.args.self.now s.links.items c.args.node c.self.invariant.0
+    c.self.view_is far c.insert.new.self.entries c.args.link
+    (simp to_z-of_z at c.in_ok-insert.ensures.entries)
 
 pub returns-clause-ok : goal.returns-clause-ok
 returns-clause-ok c =
     let s = c.self.inside in
     let f : FitsSigned w64 c.args.node = search rules in
-    let some : pos 0 ≤ℤ c.args.node = search rules in
     let place = simp to_z-of_z at c.place_of-place.ensures in
     let i = c.place_of-place.result in
     let l = c.args.link in
     elim c.if-len-place.branch [
       | then-len-place+else-saturating_add-place+in_ok-reach w ↦
-          let view : s.below.entries ++ (direct 0 w.reach.new.links.items ++ w.reach.new.above.entries)
+          let view : direct 0 w.reach.new.links.items ++ w.reach.new.above.entries
           ≡ c.args.self.now =
-          ap (λ r. s.below.entries ++ r) w.in_ok-reach.ensures.same ∙ c.self.view_is in
-          ap (λ (t : Inside). t.below.entries ++ (direct 0 (set t.links.items i l) ++ t.above.entries)) w.self-inside-is
-          ∙ note_link s.below.entries w.reach.new.above.entries c.args.self.now w.reach.new.links.items c.args.node
-          w.in_ok-reach.ensures.far view some c.self.invariant.0 i (sym place)
+          w.in_ok-reach.ensures.same ∙ c.self.view_is in
+          ap (λ (t : Inside). direct 0 (set t.links.items i l) ++ t.above.entries) w.self-inside-is
+          ∙ note_link w.reach.new.above.entries c.args.self.now w.reach.new.links.items c.args.node
+          w.in_ok-reach.ensures.far view i (sym place)
           (omega (arith, w.in_ok-reach.ensures.ok)) l (omega (arith, c.requires.next)) c.requires.none
       | else-len-place w ↦
           let lt : i < length s.links.items =
           grind (arith, common_steps, w.if-len-place.false, c.len.ensures) in
-          ap (λ (t : Inside). t.below.entries ++ (direct 0 (set t.links.items i l) ++ t.above.entries)) w.self-inside-is
-          ∙ note_link s.below.entries s.above.entries c.args.self.now s.links.items c.args.node c.self.invariant.1
-          c.self.view_is some c.self.invariant.0 i (sym place) lt l (omega (arith, c.requires.next)) c.requires.none
+          ap (λ (t : Inside). direct 0 (set t.links.items i l) ++ t.above.entries) w.self-inside-is
+          ∙ note_link s.above.entries c.args.self.now s.links.items c.args.node c.self.invariant.0
+          c.self.view_is i (sym place) lt l (omega (arith, c.requires.next)) c.requires.none
     ]
 
 pub invariant_of-self-2 : goal.invariant_of-self-2
 invariant_of-self-2 c =
     let s = c.self.inside in
     let f : FitsSigned w64 c.args.node = search rules in
-    let some : pos 0 ≤ℤ c.args.node = search rules in
     let place = simp to_z-of_z at c.place_of-place.ensures in
     let i = c.place_of-place.result in
     let l = c.args.link in
     elim c.if-len-place.branch [
       | then-len-place+else-saturating_add-place+in_ok-reach w ↦
-          let view : s.below.entries ++ (direct 0 w.reach.new.links.items ++ w.reach.new.above.entries)
+          let view : direct 0 w.reach.new.links.items ++ w.reach.new.above.entries
           ≡ c.args.self.now =
-          ap (λ r. s.below.entries ++ r) w.in_ok-reach.ensures.same ∙ c.self.view_is in
+          w.in_ok-reach.ensures.same ∙ c.self.view_is in
           let most : length w.reach.new.links.items ≤ 8 * (length c.args.self.now + 17) =
           grind (
             arith,
@@ -120,28 +89,24 @@ invariant_of-self-2 c =
             c.requires.next,
             w.in_ok-reach.ensures.ok,
           ) in
-          let now = note_link s.below.entries w.reach.new.above.entries c.args.self.now w.reach.new.links.items
-          c.args.node w.in_ok-reach.ensures.far view some c.self.invariant.0 i (sym place)
+          let now = note_link w.reach.new.above.entries c.args.self.now w.reach.new.links.items
+          c.args.node w.in_ok-reach.ensures.far view i (sym place)
           (omega (arith, w.in_ok-reach.ensures.ok)) l (omega (arith, c.requires.next)) c.requires.none in
           rw (w.self-inside-is, length-set) (
-            c.self.invariant.0,
             w.in_ok-reach.ensures.far,
-            c.self.invariant.2,
             w.in_ok-reach.ensures.rising,
             short_more c.args.self.now _ c.args.node l _ now c.requires.none most,
           )
       | else-len-place w ↦
           let lt : i < length s.links.items =
           grind (arith, common_steps, w.if-len-place.false, c.len.ensures) in
-          let now = note_link s.below.entries s.above.entries c.args.self.now s.links.items c.args.node
-          c.self.invariant.1 c.self.view_is some c.self.invariant.0 i (sym place) lt l
+          let now = note_link s.above.entries c.args.self.now s.links.items c.args.node
+          c.self.invariant.0 c.self.view_is i (sym place) lt l
           (omega (arith, c.requires.next)) c.requires.none in
           rw (w.self-inside-is, length-set) (
             c.self.invariant.0,
             c.self.invariant.1,
-            c.self.invariant.2,
-            c.self.invariant.3,
             short_more c.args.self.now _ c.args.node l _ now c.requires.none
-                (omega (arith, c.self.invariant.4, ap length c.self.view_is)),
+                (omega (arith, c.self.invariant.2, ap length c.self.view_is)),
           )
     ]

@@ -13,7 +13,7 @@ note-requires-clause-none g c =
     let f : FitsSigned w64 c.args.node = search rules in
     simp to_z-of_z
     (no_link c.args.node s.links s.values.items c.self.invariant.1
-    (ap (λ (n : Nodes g.row.V.Denot). lookup (at c.args.node) n.entries) c.self.view_is ∙ c.requires))
+    (ap (λ (n : Nodes g.row.V.Denot). lookup (at c.args.node) n.entries) c.self.view_is ∙ c.requires.none))
 
 pub note-requires-clause-next : goal.note-requires-clause-next
 note-requires-clause-next g c =
@@ -29,7 +29,7 @@ invariant_of-self-2 g c =
     let vs = s.values.items in
     let none : lookup (at c.args.node) s.links ≡ None =
     no_link c.args.node s.links vs c.self.invariant.1
-    (ap (λ (n : Nodes g.row.V.Denot). lookup (at c.args.node) n.entries) c.self.view_is ∙ c.requires) in
+    (ap (λ (n : Nodes g.row.V.Denot). lookup (at c.args.node) n.entries) c.self.view_is ∙ c.requires.none) in
     let pushed : c.push_reserved.new.self.items ≡ vs ++ c.args.value ∷ [] =
     c.push_reserved.ensures.items ∙ ap (λ l. l ++ c.args.value ∷ []) c.in_ok-reserve.ensures.items in
     let last : c.len.result + 1 ≡ length vs + 1 =
@@ -46,7 +46,7 @@ returns-clause-ok g c =
     let vs = s.values.items in
     let none : lookup (at c.args.node) s.links ≡ None =
     no_link c.args.node s.links vs c.self.invariant.1
-    (ap (λ (n : Nodes g.row.V.Denot). lookup (at c.args.node) n.entries) c.self.view_is ∙ c.requires) in
+    (ap (λ (n : Nodes g.row.V.Denot). lookup (at c.args.node) n.entries) c.self.view_is ∙ c.requires.none) in
     let pushed : c.push_reserved.new.self.items ≡ vs ++ c.args.value ∷ [] =
     c.push_reserved.ensures.items ∙ ap (λ l. l ++ c.args.value ∷ []) c.in_ok-reserve.ensures.items in
     let last : c.len.result + 1 ≡ length vs + 1 =
