@@ -35,7 +35,7 @@ fn filled(alloc: Global, draw: &Draw) -> Result<(NodeMap<i64>, BTreeMap<i64, i64
             number
         };
         let node = draw.first.wrapping_add(draw.apart.wrapping_mul(drawn));
-        if nodes.get(&node).is_some() {
+        if node < 0 || nodes.get(&node).is_some() {
             continue;
         }
         if nodes.insert(node, number).is_err() && nodes.get(&node).is_none() {
@@ -48,7 +48,7 @@ fn filled(alloc: Global, draw: &Draw) -> Result<(NodeMap<i64>, BTreeMap<i64, i64
     Ok((nodes, map))
 }
 
-// Whether both maps have the same nodes with the same values, in the same order.
+// Whether both maps have the same nodes with the same values, in the same order. No node below 0 has one.
 fn agree(nodes: &NodeMap<i64>, map: &BTreeMap<i64, i64>) -> bool {
     let mut wanted = map.iter();
     for (node, value) in nodes.iter() {
@@ -66,7 +66,7 @@ fn agree(nodes: &NodeMap<i64>, map: &BTreeMap<i64, i64>) -> bool {
             return false;
         }
     }
-    wanted.next().is_none() && nodes.len() == map.len()
+    wanted.next().is_none() && nodes.len() == map.len() && nodes.get(&-1).is_none()
 }
 
 // Returns whether a map from these nodes does what an ordered map does.
@@ -75,7 +75,7 @@ fn is_map(alloc: Global, draw: &Draw) -> Result<bool, AllocError> {
     Ok(agree(&nodes, &map))
 }
 
-// Nodes that rise and that come in a random order, near to each other and far apart, and some below 0.
+// Nodes that rise, that fall, and that come in a random order, near to each other and far apart.
 const DRAWS: [Draw; 6] = [
     Draw {
         nodes: 2000,
@@ -104,7 +104,7 @@ const DRAWS: [Draw; 6] = [
     Draw {
         nodes: 2500,
         apart: -3,
-        first: 4000,
+        first: 7500,
         random: true,
     },
     Draw {
