@@ -24,10 +24,11 @@ const REST: usize = 7;
 pub struct TableSoFar<B: Bundle> {
     entries: Vec<((i64, i64), B)>,
     index: PairIndex,
-    // Hints of the positions of the next pairs, and how many of the hints are used; above `AHEAD`, also how many calls
-    // of `wants_hints` pass before it asks again.
+    // Hints of the positions of the next pairs, and how many of the hints are used.
     hints: [u32; AHEAD],
-    asked: usize,
+    used: usize,
+    // How many calls of `wants_hints` pass before it asks again.
+    rest: usize,
 }
 
 impl<B: Bundle> Model for TableSoFar<B> {
@@ -51,7 +52,8 @@ impl<B: Bundle> TableSoFar<B> {
             entries: Vec::new(alloc),
             index: PairIndex::new(),
             hints: [0; AHEAD],
-            asked: AHEAD,
+            used: AHEAD,
+            rest: 0,
         }
     }
 
@@ -60,11 +62,11 @@ impl<B: Bundle> TableSoFar<B> {
     pub fn wants_hints(&mut self) -> bool
         ensures { self.new ≡ self.old }
     {
-        if AHEAD < self.asked {
-            self.asked -= 1;
+        if 0 < self.rest {
+            self.rest -= 1;
             return false;
         }
-        AHEAD <= self.asked && self.index.is_scattered(self.entries.len())
+        AHEAD <= self.used && self.index.is_scattered(self.entries.len())
     }
 
     /// Looks up these pairs together, if that saves time. They are likely the pairs of the next arcs, and the positions
@@ -75,9 +77,9 @@ impl<B: Bundle> TableSoFar<B> {
         match self.index.hints(alloc, &self.entries, pairs) {
             Some(hints) => {
                 self.hints = hints;
-                self.asked = 0;
+                self.used = 0;
             }
-            None => self.asked = AHEAD + REST,
+            None => self.rest = REST,
         }
     }
 
@@ -95,8 +97,8 @@ impl<B: Bundle> TableSoFar<B> {
     fn next_hint(&mut self) -> Option<usize>
         ensures { self.new ≡ self.old }
     {
-        let hint = *self.hints.get(self.asked)? as usize;
-        self.asked += 1;
+        let hint = *self.hints.get(self.used)? as usize;
+        self.used += 1;
         Some(hint)
     }
 
