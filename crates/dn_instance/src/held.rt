@@ -104,9 +104,8 @@ impl Held {
     pub fn entries(&self) -> u64
         ensures { (I : Instance) → IsValid I → IsHeld self.now I → result ≡ entries_of I }
     {
-        if self.lines == 0 {
-            return 0;
-        }
+        // The proof needs the range of `lines`, which it knows where the field is read.
+        let _lines = self.lines;
         match &self.body {
             Body::Min(table) => table.entries(),
             Body::Max(table) => table.entries(),
