@@ -1,8 +1,9 @@
 -- Entries in the order of a list of positions.
 use Rattle.std.proofs.Common.{inl, inr, ◌≡◌, ℕ, zero, suc, ◌+◌, ◌-◌, ◌<◌, ◌≤◌, ℤ, pos, List, [], ◌∷◌, length, get_or, take, drop, min, length-drop, Bool, true, false, cond, Option, Some, None, sum_by, refl, sym, ap, ◌∙◌, arith}
 use Rattle.std.specs.List.{slice_get, list_any, IsDistinct}
-use Rattle.std.specs.List.Sorted.{IsStrictlySortedBy}
+use Rattle.std.specs.List.Sorted.{IsPermutation, IsStrictlySortedBy}
 use Rattle.std.specs.Map.{keys_of, lookup}
+use Rattle.std.specs.Prelude.{MatchOption}
 use Rattle.std.proofs.lemmas.Bool.{cases_Bool}
 use Rattle.std.proofs.lemmas.List.{drop_min, take_all}
 use Rattle.std.proofs.lemmas.List.Sums.{sum_by-cons}
@@ -14,6 +15,7 @@ use Rattle.dn_arc.specs.Pairs.{pair_cmp, same_pair}
 use Rattle.dn_arc.proofs.PairLaws.{pair_equiv, pair_is, pair_self, pair_total}
 use Rattle.pair_index.specs.State.Ordered.{IsOrder}
 use Rattle.pair_index.specs.State.Positions.{key_at}
+use Rattle.pair_index.proofs.SortLaws.{lookups_still}
 use Rattle.pair_index.proofs.SortedLaws.{key_of_entry}
 use Rattle.dn_table.specs.State.Orders.{first_then, picked, listed, IsListed}
 use Rattle.dn_table.proofs.EntryLaws.{Pair, among, Once, without, others_stay, once_without, sum_without, once_apart}
@@ -172,3 +174,20 @@ module _ {X V : Type 0} (of : V → List ℕ) (es : List (Pair × X)) where
   length-listed None sorted = refl
   length-listed (Some o) is =
       length-picked es (of o) (inside es (of o) is) ∙ is.all ∙ length-keys_of es
+
+module _ {X V : Type 0} (of : V → List ℕ) (es fs : List (Pair × X)) where
+  -- entries that were sorted, or whose positions are listed, are those of a table
+  pub listed_from : (order : Option V)
+      → MatchOption order (IsStrictlySortedBy pair_cmp (keys_of fs)) (λ o. IsOrder (keys_of es) (of o))
+      → MatchOption order (IsPermutation es fs) (λ o. fs ≡ es) → IsListed of order (keys_of fs)
+  listed_from None sorted moved = sorted
+  listed_from (Some o) is same = rw same is
+
+  -- the entries of all pairs are the same in a table
+  pub lookups_listed : (order : Option V)
+      → MatchOption order (IsStrictlySortedBy pair_cmp (keys_of fs)) (λ o. IsOrder (keys_of es) (of o))
+      → MatchOption order (IsPermutation es fs) (λ o. fs ≡ es) → IsDistinct same_pair (keys_of es) → (q : Pair)
+      → lookup (same_pair q) (listed of order fs) ≡ lookup (same_pair q) es
+  lookups_listed None sorted moved apart q = lookups_still es fs moved apart q
+  lookups_listed (Some o) is same apart q =
+      ap (λ l. lookup (same_pair q) (picked (of o) l)) same ∙ lookups_picked es (of o) is apart q

@@ -60,7 +60,8 @@ impl<B: Bundle> Table<B> {
         match &self.order {
             Some(order) => Pairs {
                 entries: &self.entries,
-                order: Some(&order[index.min(order.len())..]),
+                order: &order[index.min(order.len())..],
+                is_listed: true,
             },
             None => Pairs::of(&self.entries[index.min(self.entries.len())..]),
         }
@@ -93,17 +94,18 @@ impl<B: Bundle> Table<B> {
 #[derive(Drop)]
 pub struct Pairs<'a, B: Bundle> {
     entries: &'a [((i64, i64), B)],
-    // The positions of the remaining entries, unless all entries remain, in this order.
-    order: Option<&'a [u32]>,
+    // The positions of the remaining entries, if `is_listed`. Otherwise all entries remain, in this order.
+    order: &'a [u32],
+    is_listed: bool,
 }
 
 impl<'a, B: Bundle> Model for Pairs<'a, B> {
-    ghost use Rattle.std.specs.Prelude.{ℤ, List};
-    ghost use Rattle.dn_table.specs.State.Orders.{listed};
+    ghost use Rattle.std.specs.Prelude.{ℤ, List, cond};
+    ghost use Rattle.dn_table.specs.State.Orders.{picked};
 
     ghost Value = { List ((ℤ × ℤ) × B) };
 
-    ghost view = { λ p. listed (λ o. o.now) p.order p.entries.now };
+    ghost view = { λ p. cond p.is_listed (picked p.order.now p.entries.now) p.entries.now };
 }
 
 impl<'a, B: Bundle> Pairs<'a, B> {
@@ -113,7 +115,8 @@ impl<'a, B: Bundle> Pairs<'a, B> {
     {
         Pairs {
             entries,
-            order: None,
+            order: &[],
+            is_listed: false,
         }
     }
 }
@@ -126,18 +129,15 @@ impl<'a, B: Bundle> Iterator for Pairs<'a, B> {
     ghost remaining = { item_count (λ s. s) };
 
     fn next(&mut self) -> Option<((i64, i64), &'a B)> {
-        let entry = match self.order {
-            Some(order) => {
-                let (position, rest) = order.split_first()?;
-                let entry = self.entries.get(*position as usize)?;
-                self.order = Some(rest);
-                entry
-            }
-            None => {
-                let (entry, rest) = self.entries.split_first()?;
-                self.entries = rest;
-                entry
-            }
+        let entry = if self.is_listed {
+            let (position, rest) = self.order.split_first()?;
+            let entry = self.entries.get(*position as usize)?;
+            self.order = rest;
+            entry
+        } else {
+            let (entry, rest) = self.entries.split_first()?;
+            self.entries = rest;
+            entry
         };
         Some((entry.0, &entry.1))
     }

@@ -223,7 +223,7 @@ impl<B: Bundle> TableSoFar<B> {
         bundle_entries(Pairs::of(&self.entries))
     }
 
-    /// Returns the table of these bundles. This does not fail if an allocation fails.
+    /// Returns the table of these bundles. This does not allocate.
     pub fn end(self) -> Table<B>
         ensures rising { IsStrictlySortedBy pair_cmp (keys_of result) }
         ensures kept { (pair : ℤ × ℤ) → lookup (same_pair pair) result ≡ lookup (same_pair pair) self }
@@ -233,12 +233,8 @@ impl<B: Bundle> TableSoFar<B> {
             index,
             ..
         } = self;
-        if let Some(order) = index.order(&entries) {
-            drop(index);
-            return Table::of(entries, Some(order));
-        }
-        index.sort(&mut entries);
-        Table::of(entries, None)
+        let order = index.sort(&mut entries);
+        Table::of(entries, order)
     }
 }
 

@@ -65,47 +65,54 @@ impl Listed {
         }
     }
 
-    // Returns whether the index lists the positions of the entries by ascending pair ("listed") or not ("sorted"), or what
-    // went wrong. Retries the allocation once if it fails.
-    fn order(&self) -> &'static str {
-        let Some(order) = self.positions().or_else(|| self.positions()) else {
-            return "sorted";
-        };
-        for i in 1..order.len() {
-            let (left, right) = (order[i - 1] as usize, order[i] as usize);
-            match (self.entries.get(left), self.entries.get(right)) {
-                (Some(left), Some(right)) if left.0 < right.0 => {}
-                _ => return "a wrong position",
-            }
-        }
-        if order.len() == self.entries.len() {
-            "listed"
-        } else {
-            "a wrong number of positions"
-        }
-    }
-
-    fn positions(&self) -> Option<Vec<u32>> {
-        self.index.order(&self.entries)
-    }
-
-    // Whether the sorted entries rise, and each pair has its entry among them.
-    fn sorts(self, pairs: &[(i64, i64)]) -> bool {
+    // Returns whether the index sorts the entries ("sorted") or lists their positions by ascending pair ("listed"), or
+    // what went wrong.
+    fn sort(self, pairs: &[(i64, i64)]) -> &'static str {
         let Listed { mut entries, index } = self;
-        index.sort(&mut entries);
-        for i in 1..entries.len() {
-            if entries[i].0 <= entries[i - 1].0 {
-                return false;
-            }
+        match index.sort(&mut entries) {
+            None if is_sorted(&entries, pairs) => "sorted",
+            Some(order) if is_listed(&entries, &order, pairs) => "listed",
+            _ => "a wrong order",
         }
-        for i in 0..pairs.len() {
-            match entries.binary_search_by(|entry| entry.0.cmp(&pairs[i])) {
-                Ok(place) if entries[place].1 == i => {}
-                _ => return false,
-            }
-        }
-        entries.len() == pairs.len()
     }
+
+    // Whether the entries, once they are sorted or listed, are those of these pairs.
+    fn sorts(self, pairs: &[(i64, i64)]) -> bool {
+        self.sort(pairs) != "a wrong order"
+    }
+}
+
+// Whether the entries rise, and each pair has its entry among them.
+fn is_sorted(entries: &[((i64, i64), usize)], pairs: &[(i64, i64)]) -> bool {
+    for i in 1..entries.len() {
+        if entries[i].0 <= entries[i - 1].0 {
+            return false;
+        }
+    }
+    for i in 0..pairs.len() {
+        match entries.binary_search_by(|entry| entry.0.cmp(&pairs[i])) {
+            Ok(place) if entries[place].1 == i => {}
+            _ => return false,
+        }
+    }
+    entries.len() == pairs.len()
+}
+
+// Whether the entries are those of these pairs, in their order, and rise at these positions.
+fn is_listed(entries: &[((i64, i64), usize)], order: &[u32], pairs: &[(i64, i64)]) -> bool {
+    for i in 0..pairs.len() {
+        if entries.get(i) != Some(&(pairs[i], i)) {
+            return false;
+        }
+    }
+    for i in 1..order.len() {
+        let (left, right) = (order[i - 1] as usize, order[i] as usize);
+        match (entries.get(left), entries.get(right)) {
+            (Some(left), Some(right)) if left.0 < right.0 => {}
+            _ => return false,
+        }
+    }
+    order.len() == entries.len() && entries.len() == pairs.len()
 }
 
 // Returns the index of these pairs, or `None` if a pair is found at a wrong position. After an allocation failure the
@@ -282,19 +289,19 @@ fn finds_reversed(rt: HostRuntime) -> Result<(), Fail> {
     Ok(())
 }
 
-// Returns `Listed::order` of these pairs, or what went wrong.
-fn way_to_order(alloc: Global, pairs: &[(i64, i64)]) -> Result<&'static str, AllocError> {
+// Returns `Listed::sort` of these pairs, or what went wrong.
+fn way_to_sort(alloc: Global, pairs: &[(i64, i64)]) -> Result<&'static str, AllocError> {
     match index_of(alloc, pairs)? {
-        Some(listed) => Ok(listed.order()),
+        Some(listed) => Ok(listed.sort(pairs)),
         None => Ok("a wrong place after an allocation failure"),
     }
 }
 
 #[test]
-fn orders_pairs(rt: HostRuntime) -> Result<(), Fail> {
+fn sorts_pairs(rt: HostRuntime) -> Result<(), Fail> {
     let (near, far) = (reversed(rt.alloc(), 5)?, reversed(rt.alloc(), 30)?);
-    assert!(rt; way_to_order(rt.alloc(), &near) == Ok("listed"));
-    assert!(rt; way_to_order(rt.alloc(), &far) == Ok("sorted"));
+    assert!(rt; way_to_sort(rt.alloc(), &near) == Ok("listed"));
+    assert!(rt; way_to_sort(rt.alloc(), &far) == Ok("sorted"));
     Ok(())
 }
 

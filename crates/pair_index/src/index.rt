@@ -1,5 +1,5 @@
 // Finds the entries of a list by their ordered pairs.
-ghost use Rattle.std.specs.Prelude.{◌≡◌, ◌≢◌, [], ◌∷◌, ◌++◌, OnOk, OnErr, IfOk, IfSome, IsTrue, Ok, false, true};
+ghost use Rattle.std.specs.Prelude.{◌≡◌, ◌≢◌, [], ◌∷◌, ◌++◌, OnOk, OnErr, IfOk, IfSome, IsTrue, MatchOption, Ok, false, true};
 ghost use Rattle.std.specs.List.{list_any, IsDistinct};
 ghost use Rattle.std.specs.List.Sorted.{IsPermutation, IsStrictlySortedBy};
 ghost use Rattle.std.specs.Map.{keys_of};
@@ -206,27 +206,33 @@ impl PairIndex {
         }
     }
 
-    /// Returns the positions of the entries by ascending pair, if listing them saves time over sorting the entries, and
-    /// no allocation fails.
-    pub fn order<X>(&self, entries: &[((i64, i64), X)]) -> Option<Vec<u32>>
-        ensures { IfSome result (λ order. IsOrder (keys_of entries.now) order.items) }
-    {
-        match &self.way {
-            Way::Tails(tails) => tails.order(entries),
-            Way::Runs(_) | Way::Chained(_) | Way::Ordered(_) => None,
-        }
-    }
-
-    /// Sorts the entries by ascending pair, in place. This does not allocate.
-    pub fn sort<X>(self, entries: &mut [((i64, i64), X)])
+    /// Returns the positions of the entries by ascending pair, if to list them saves time. Otherwise sorts the entries by
+    /// ascending pair, in place. This does not allocate.
+    pub fn sort<X>(self, entries: &mut [((i64, i64), X)]) -> Option<Vec<u32>>
         requires { Indexes self (keys_of entries.old) }
-        ensures sorted { IsStrictlySortedBy pair_cmp (keys_of entries.new) }
-        ensures moved { IsPermutation entries.old entries.new }
+        ensures sorted { MatchOption result (IsStrictlySortedBy pair_cmp (keys_of entries.new))
+            (λ order. IsOrder (keys_of entries.old) order.items) }
+        ensures moved { MatchOption result (IsPermutation entries.old entries.new)
+            (λ order. entries.new ≡ entries.old) }
     {
         match self.way {
             Way::Runs(runs) => runs.end(entries),
-            Way::Tails(_) | Way::Chained(_) | Way::Ordered(_) => sort_by_pair(false, entries),
+            Way::Tails(tails) => {
+                if let Some(order) = tails.order(entries) {
+                    return Some(order);
+                }
+                sort_by_pair(false, entries);
+            }
+            Way::Chained(chains) => {
+                drop(chains);
+                sort_by_pair(false, entries);
+            }
+            Way::Ordered(positions) => {
+                drop(positions);
+                sort_by_pair(false, entries);
+            }
         }
+        None
     }
 
     // Adds a pair in the present way. Returns false and changes nothing if this way does not serve. Which it returns

@@ -25,7 +25,6 @@ const SPAN: usize = 64;
 // greater head, and the head of its pair. A link is the position plus one, and 0 ends the chain.
 #[derive(Drop)]
 pub(crate) struct Tails {
-    alloc: Global,
     firsts: Vec<u32>,
     next: Vec<u32>,
     heads: Vec<u32>,
@@ -95,7 +94,6 @@ impl Tails {
         ensures heads { result.heads.items ≡ [] }
     {
         Tails {
-            alloc,
             firsts: Vec::new(alloc),
             next: Vec::new(alloc),
             heads: Vec::new(alloc),
@@ -355,42 +353,39 @@ impl Tails {
         }
     }
 
-    // Returns the positions of the entries by ascending pair, or `None` if an allocation fails. Whether it returns them
-    // affects only the speed.
-    pub(crate) fn order<X>(&self, entries: &[((i64, i64), X)]) -> Option<Vec<u32>>
+    // Returns the positions of the entries by ascending pair, or `None` if they are not known to be these. Which it
+    // returns affects only the speed. This does not allocate.
+    pub(crate) fn order<X>(self, entries: &[((i64, i64), X)]) -> Option<Vec<u32>>
         ensures { IfSome result (λ order. IsOrder (keys_of entries.now) order.items) }
     {
-        let Ok(order) = self.positions() else {
-            return None;
-        };
-        if is_order(entries, &order) {
-            Some(order)
+        let Tails {
+            firsts,
+            next,
+            mut heads,
+        } = self;
+        // The positions take the room of the heads, of which there are as many.
+        heads.clear();
+        for first in &firsts {
+            walk(*first, &next, &mut heads);
+        }
+        if is_order(entries, &heads) {
+            Some(heads)
         } else {
-            drop(order);
+            drop(heads);
             None
         }
     }
+}
 
-    // Returns the positions along the chains, by ascending tail. This has no contract, because the caller checks them.
-    fn positions(&self) -> Result<Vec<u32>, AllocError> {
-        let mut positions = Vec::new(self.alloc);
-        positions.reserve(self.next.len())?;
-        for first in &self.firsts {
-            self.walk(*first, &mut positions);
-        }
-        Ok(positions)
-    }
-
-    // Appends the positions along a chain, as far as there is capacity. This does not allocate. It has no contract,
-    // because the caller of `positions` checks them.
-    fn walk(&self, first: u32, positions: &mut Vec<u32>) {
-        let mut link = first;
-        while link != 0 && positions.len() < positions.capacity() {
-            positions.push_reserved(link - 1);
-            link = match self.next.get((link - 1) as usize) {
-                Some(next) => *next,
-                None => 0,
-            };
-        }
+// Appends the positions along a chain, as far as there is capacity, where `next` has the link after each position. This
+// does not allocate. It has no contract, because the caller checks the positions.
+fn walk(first: u32, next: &[u32], positions: &mut Vec<u32>) {
+    let mut link = first;
+    while link != 0 && positions.len() < positions.capacity() {
+        positions.push_reserved(link - 1);
+        link = match next.get((link - 1) as usize) {
+            Some(next) => *next,
+            None => 0,
+        };
     }
 }

@@ -1,6 +1,6 @@
 use Rattle.std.proofs.Common.{◌-◌, length}
 use Rattle.std.specs.Prelude.{vec_capacity}
-use Rattle.pair_index.proofs.tails.Tails.walk.Given as goal
+use Rattle.pair_index.proofs.tails.walk.Given as goal
 
 -- the spare capacity decreases
 abbrev pub decreases-loop-link : goal.decreases-loop-link
