@@ -8,7 +8,7 @@ ghost use Rattle.pair_index.specs.State.Positions.{IsPosition, key_at};
 ghost use Rattle.dn_arc.specs.Pairs.{same_pair};
 
 use crate::index::AHEAD;
-use crate::links::{LONG, MOST_LINKED, is_long};
+use crate::links::{LONG, MOST_LINKED};
 use crate::order::is_order;
 use crate::pair::is_pair;
 use std::alloc::{AllocError, Global};
@@ -28,14 +28,23 @@ pub(crate) struct Tails {
     firsts: Vec<u32>,
     next: Vec<u32>,
     heads: Vec<u32>,
+    last: Option<Last>,
 }
 
-// Where a pair belongs in the chain of its tail: the link to the last position with a lesser head, and the link to the
-// position after that.
+// Where a pair belongs in the chain of its tail: the link to the last position with a lesser head, the link to the
+// position after that, and how many positions come before.
 #[derive(Clone, Copy)]
 pub(crate) struct Spot {
     before: u32,
     after: u32,
+    passed: u32,
+}
+
+// The pair that was last sought, and where it belongs. A pair that has no entry is added next, mostly.
+#[derive(Clone, Copy)]
+pub(crate) struct Last {
+    pair: (i64, i64),
+    spot: Spot,
 }
 
 // Returns the tail of a pair, if it is not below 0.
@@ -92,11 +101,13 @@ impl Tails {
         ensures firsts { result.firsts.items ≡ [] }
         ensures next { result.next.items ≡ [] }
         ensures heads { result.heads.items ≡ [] }
+        ensures last { result.last ≡ None }
     {
         Tails {
             firsts: Vec::new(alloc),
             next: Vec::new(alloc),
             heads: Vec::new(alloc),
+            last: None,
         }
     }
 
@@ -142,6 +153,7 @@ impl Tails {
     {
         let mut before = 0;
         let mut after = self.first_of(pair);
+        let mut passed = 0u32;
         while after != 0 {
             let at = (after - 1) as usize;
             if self.is_upto(entries, pair, at) {
@@ -149,8 +161,39 @@ impl Tails {
             }
             before = after;
             after = self.next[at];
+            passed = passed.saturating_add(1);
         }
-        Spot { before, after }
+        Spot {
+            before,
+            after,
+            passed,
+        }
+    }
+
+    // Returns where a pair belongs in the chain of its tail. It is at hand if the pair was sought last.
+    fn spot_of<X>(&self, entries: &[((i64, i64), X)], pair: &(i64, i64)) -> Spot
+        requires { IsTailed self.now (keys_of entries.now) }
+        ensures { IsSpot (keys_of entries.now) pair.now result }
+    {
+        match &self.last {
+            Some(last) if is_pair(&last.pair, pair) => last.spot,
+            _ => self.spot(entries, pair),
+        }
+    }
+
+    // Whether the chain with this spot is long. This has no contract, because it affects only the speed.
+    fn is_long(&self, spot: &Spot) -> bool {
+        let mut link = spot.after;
+        for _ in spot.passed..LONG {
+            if link == 0 {
+                return false;
+            }
+            link = match self.next.get((link - 1) as usize) {
+                Some(next) => *next,
+                None => 0,
+            };
+        }
+        true
     }
 
     // Returns the chains of the entries. Returns `None` if pairs do not come nearly in order, if a chain would be long,
@@ -211,18 +254,20 @@ impl Tails {
         ensures taken { IfOk result (λ is. IsTrue is → IsTailed self.new (keys_of entries.now ++ pair.now ∷ [])) }
         ensures not { result ≢ Ok true → IsTailed self.new (keys_of entries.now) }
     {
-        if is_long(self.first_of(pair), &self.next) {
+        let spot = self.spot_of(entries, pair);
+        if self.is_long(&spot) {
             return Ok(false);
         }
         let Some(head) = self.make_room(pair)? else {
             return Ok(false);
         };
-        self.link(entries, pair, head);
+        self.link(entries, pair, head, &spot);
         Ok(true)
     }
 
     // Reserves capacity for the link and the head of a pair, and returns the head. Returns `None` if a node of the pair
     // is below 0 or too great, or if the links do not suffice, which affects only the speed.
+    #[inline(always)]
     fn make_room(&mut self, pair: &(i64, i64)) -> Result<Option<u32>, AllocError>
         ensures kept { (keys : List (ℤ × ℤ)) → IsTailed self.old keys → IsTailed self.new keys }
         ensures room { IfOk result (λ o. IfSome o (λ head. HasRoomFor self.new pair.now head)) }
@@ -247,6 +292,7 @@ impl Tails {
     fn has_first(&mut self, tail: usize) -> Result<bool, AllocError>
         ensures next { self.new.next ≡ self.old.next }
         ensures heads { self.new.heads ≡ self.old.heads }
+        ensures last { self.new.last ≡ self.old.last }
         ensures kept { (keys : List (ℤ × ℤ)) → IsTailed self.old keys → IsTailed self.new keys }
         ensures known { IfOk result (λ is. IsTrue is → tail < length self.new.firsts.items) }
     {
@@ -304,14 +350,22 @@ impl Tails {
         if link == 0 { None } else { Some(link - 1) }
     }
 
-    // Links the next position, which is that of the pair. This does not allocate, since there is spare capacity.
-    fn link<X>(&mut self, entries: &[((i64, i64), X)], pair: &(i64, i64), head: u32)
+    // Links the next position, which is that of the pair, at its spot. This does not allocate, since there is spare
+    // capacity.
+    fn link<X>(
+        &mut self,
+        entries: &[((i64, i64), X)],
+        pair: &(i64, i64),
+        head: u32,
+        spot: &Spot,
+    )
         requires linked { IsTailed self.old (keys_of entries.now) }
         requires fresh { list_any (same_pair pair.now) (keys_of entries.now) ≡ false }
         requires room { HasRoomFor self.old pair.now head }
+        requires spot { IsSpot (keys_of entries.now) pair.now spot.now }
         ensures { IsTailed self.new (keys_of entries.now ++ pair.now ∷ []) }
     {
-        let spot = self.spot(entries, pair);
+        self.last = None;
         let link = self.next.len() as u32 + 1;
         self.next.push_reserved(spot.after);
         self.heads.push_reserved(head);
@@ -326,6 +380,7 @@ impl Tails {
     fn set_first(&mut self, pair: &(i64, i64), link: u32)
         ensures next { self.new.next ≡ self.old.next }
         ensures heads { self.new.heads ≡ self.old.heads }
+        ensures last { self.new.last ≡ self.old.last }
         ensures firsts { (tail : ℕ) → pair.now.0 ≡ pos tail → tail < length self.old.firsts.items
             → self.new.firsts.items ≡ slice_set self.old.firsts.items tail link }
     {
@@ -337,11 +392,18 @@ impl Tails {
     }
 
     // Returns the position of the pair's entry.
-    pub(crate) fn find<X>(&self, entries: &[((i64, i64), X)], pair: &(i64, i64)) -> Option<usize>
-        requires { IsTailed self.now (keys_of entries.now) }
-        ensures { IsPosition (keys_of entries.now) pair.now result }
+    pub(crate) fn find<X>(
+        &mut self,
+        entries: &[((i64, i64), X)],
+        pair: &(i64, i64),
+    ) -> Option<usize>
+        requires { IsTailed self.old (keys_of entries.now) }
+        ensures position { IsPosition (keys_of entries.now) pair.now result }
+        ensures stays { IsTailed self.new (keys_of entries.now) }
     {
-        let link = self.spot(entries, pair).after;
+        let spot = self.spot(entries, pair);
+        self.last = Some(Last { pair: *pair, spot });
+        let link = spot.after;
         if link == 0 {
             return None;
         }
@@ -362,6 +424,7 @@ impl Tails {
             firsts,
             next,
             mut heads,
+            ..
         } = self;
         // The positions take the room of the heads, of which there are as many.
         heads.clear();

@@ -1,5 +1,5 @@
 -- Positions linked in chains, by tail and then by ascending head. Only the proofs of this crate use these definitions.
-use Rattle.std.specs.Prelude.{◌≡◌, ℕ, suc, ◌<◌, ◌-◌, ◌^◌, ℤ, pos, ◌<ℤ◌, ◌≤ℤ◌, ◌⊎◌, List, length, get_or, vec_capacity}
+use Rattle.std.specs.Prelude.{◌≡◌, ℕ, suc, ◌<◌, ◌-◌, ◌^◌, ℤ, pos, ◌<ℤ◌, ◌≤ℤ◌, ◌⊎◌, List, length, get_or, vec_capacity, IfSome}
 use Rattle.pair_index.specs.State.Positions.{key_at}
 use Rattle.pair_index.specs.declared.tails.Tails.{Tails}
 use Rattle.pair_index.specs.declared.tails.Spot.{Spot}
@@ -27,10 +27,6 @@ pub record AreHeads (heads : List ℕ) (keys : List (ℤ × ℤ)) : Type 0 where
   pub all : length heads ≡ length keys
   pub each : (i : ℕ) → i < length keys → (key_at keys i).1 ≡ pos (get_or heads i 0)
 
--- the chains link the positions of all keys, and the heads are theirs
-pub record IsTailed (tails : Tails) (keys : List (ℤ × ℤ)) : Type 0 where
-  pub links : Links tails.firsts.items tails.next.items keys
-  pub heads : AreHeads tails.heads.items keys
 
 -- the search for the pair has passed a position of its tail with a lesser head, and continues at the link
 pub record Passed (keys : List (ℤ × ℤ)) (pair : ℤ × ℤ) (before link : ℕ) : Type 0 where
@@ -53,6 +49,12 @@ Sought keys pair before link = Begins keys pair before link ⊎ Passed keys pair
 pub record IsSpot (keys : List (ℤ × ℤ)) (pair : ℤ × ℤ) (spot : Spot) : Type 0 where
   pub sought : Sought keys pair spot.before spot.after
   pub stops : (i : ℕ) → spot.after ≡ suc i → pair.1 ≤ℤ (key_at keys i).1
+
+-- the chains link the positions of all keys, the heads are theirs, and the pair that was last sought belongs at its spot
+pub record IsTailed (tails : Tails) (keys : List (ℤ × ℤ)) : Type 0 where
+  pub links : Links tails.firsts.items tails.next.items keys
+  pub heads : AreHeads tails.heads.items keys
+  pub last : IfSome tails.last (λ l. IsSpot keys l.pair l.spot)
 
 -- the pair's tail has a chain and its head is this number, there is spare capacity for one more link and head, and a
 -- link of 32 bits can name one more position

@@ -17,4 +17,5 @@ returns-clause-kept c keys tailed =
       links = subst (λ h. Links h self.next.items keys) (sym (c.in_ok-resize.ensures.items ∙ whole))
           (links_wider self.firsts.items self.next.items keys more tailed.links);
       heads = tailed.heads;
+      last = tailed.last;
     }
