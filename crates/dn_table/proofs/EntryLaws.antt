@@ -78,7 +78,7 @@ module _ (f : Pair → ℕ) where
       omega (arith, sum_by-cons f q qs, h q (rw (pair_self q)), rest)
 
   -- sums over two lists without repeats are equal if each pair in only one of them adds nothing
-  same_sum : (ps qs : List Pair) → Once ps → Once qs → ((r : Pair) → among r ps ≡ false → among r qs ≡ true → f r ≡ 0)
+  pub same_sum : (ps qs : List Pair) → Once ps → Once qs → ((r : Pair) → among r ps ≡ false → among r qs ≡ true → f r ≡ 0)
       → ((r : Pair) → among r ps ≡ true → among r qs ≡ false → f r ≡ 0) → sum_by f ps ≡ sum_by f qs
   same_sum [] qs op oq out back = sym (all_none qs (λ r e. out r refl e))
   same_sum (p ∷ ps) qs op oq out back =
@@ -151,7 +151,7 @@ module _ {B : Type 0} where
   ]
 
   -- a sum over the bundles is a sum over their pairs
-  sum_at : (f : Pair → ℕ) (g : B → ℕ) (table rest : List (Pair × B))
+  pub sum_at : (f : Pair → ℕ) (g : B → ℕ) (table rest : List (Pair × B))
       → ((k : Pair) → among k (keys_of rest) ≡ true → lookup (same_pair k) rest ≡ lookup (same_pair k) table)
       → Once (keys_of rest)
       → ((k : Pair) (b : B) → lookup (same_pair k) table ≡ Some b → g b ≡ f k)

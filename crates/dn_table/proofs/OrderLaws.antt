@@ -1,5 +1,5 @@
 -- Entries in the order of a list of positions.
-use Rattle.std.proofs.Common.{inl, inr, ◌≡◌, ℕ, zero, suc, ◌+◌, ◌-◌, ◌<◌, ◌≤◌, ℤ, pos, List, [], ◌∷◌, length, get_or, take, drop, min, length-drop, Bool, true, false, cond, Option, Some, None, sum_by, refl, sym, ap, ◌∙◌, arith}
+use Rattle.std.proofs.Common.{inl, inr, ◌≡◌, ℕ, zero, suc, ◌+◌, ◌-◌, ◌<◌, ◌≤◌, ℤ, pos, List, [], ◌∷◌, length, get_or, take, drop, min, length-drop, Bool, true, false, cond, Option, Some, None, is_some, sum_by, refl, sym, ap, ◌∙◌, arith}
 use Rattle.std.specs.List.{slice_get, list_any, IsDistinct}
 use Rattle.std.specs.List.Sorted.{IsPermutation, IsStrictlySortedBy}
 use Rattle.std.specs.Map.{keys_of, lookup}
@@ -15,10 +15,11 @@ use Rattle.dn_arc.specs.Pairs.{pair_cmp, same_pair}
 use Rattle.dn_arc.proofs.PairLaws.{pair_equiv, pair_is, pair_self, pair_total}
 use Rattle.pair_index.specs.State.Ordered.{IsOrder}
 use Rattle.pair_index.specs.State.Positions.{key_at}
-use Rattle.pair_index.proofs.SortLaws.{lookups_still}
+use Rattle.pair_index.proofs.SortLaws.{apart_still, lookups_still}
 use Rattle.pair_index.proofs.SortedLaws.{key_of_entry}
+use Rattle.dn_table.specs.State.ListedEntries.{entries_listed}
 use Rattle.dn_table.specs.State.Orders.{first_then, picked, listed, IsListed}
-use Rattle.dn_table.proofs.EntryLaws.{Pair, among, Once, without, others_stay, once_without, sum_without, once_apart}
+use Rattle.dn_table.proofs.EntryLaws.{Pair, among, Once, without, others_stay, once_without, sum_without, sum_at, same_sum, once_apart}
 use Rattle.dn_table.proofs.GrownLaws.{none_is}
 
 module _ {X : Type 0} (xs : List X) where
@@ -143,6 +144,29 @@ module _ {X : Type 0} (es : List (Pair × X)) (order : List ℕ) (is : IsOrder (
         | inr m ↦ e ∙ sym (none_is (lookup (same_pair q) es) (is_some-lookup (same_pair q) es ∙ m))
       ]
 
+-- two lists with the same look-ups have the same sums
+same_listed : {X : Type 0} (each : X → ℕ) (es fs : List (Pair × X)) → IsDistinct same_pair (keys_of es)
+    → IsDistinct same_pair (keys_of fs) → ((q : Pair) → lookup (same_pair q) fs ≡ lookup (same_pair q) es)
+    → entries_listed each fs ≡ entries_listed each es
+same_listed {X} each es fs apart apart_too same =
+    sum_at f each es fs (λ k m. same k) (once_apart (keys_of fs) apart_too) at
+    ∙ same_sum f (keys_of fs) (keys_of es) (once_apart (keys_of fs) apart_too) (once_apart (keys_of es) apart)
+    (λ r e m. cc (sym (alike r) ∙ e, m)) (λ r e m. cc (sym (alike r) ∙ e, m))
+    ∙ sym (sum_at f each es es (λ k m. refl) (once_apart (keys_of es) apart) at)
+  where
+    f : Pair → ℕ
+    f p = number (lookup (same_pair p) es)
+      where
+        number : Option X → ℕ
+        number None = 0
+        number (Some v) = each v
+
+    at : (k : Pair) (b : X) → lookup (same_pair k) es ≡ Some b → each b ≡ f k
+    at k b e = rw e refl
+
+    alike : (r : Pair) → among r (keys_of fs) ≡ among r (keys_of es)
+    alike r = sym (is_some-lookup (same_pair r) fs) ∙ ap is_some (same r) ∙ is_some-lookup (same_pair r) es
+
 module _ {X V : Type 0} (of : V → List ℕ) (es : List (Pair × X)) where
   rest_all : {Y : Type 0} (slice ys : List Y) (n m : ℕ) → slice ≡ ys → m ≡ min n (length slice)
       → take (length slice - m) (drop m slice) ≡ drop n ys
@@ -175,6 +199,21 @@ module _ {X V : Type 0} (of : V → List ℕ) (es : List (Pair × X)) where
   length-listed (Some o) is =
       length-picked es (of o) (inside es (of o) is) ∙ is.all ∙ length-keys_of es
 
+  module _ (order : Option V) (is : IsListed of order (keys_of es)) (apart : IsDistinct same_pair (keys_of es)) where
+    pub lookups_of : (q : Pair) → lookup (same_pair q) (listed of order es) ≡ lookup (same_pair q) es
+    lookups_of q = by_order order is
+      where
+        by_order : (o : Option V) → IsListed of o (keys_of es)
+            → lookup (same_pair q) (listed of o es) ≡ lookup (same_pair q) es
+        by_order None sorted = refl
+        by_order (Some o) at = lookups_picked es (of o) at apart q
+
+    -- a sum over the bundles of a table is one over its entries
+    pub sum_listed_of : (each : X → ℕ) → entries_listed each (listed of order es) ≡ entries_listed each es
+    sum_listed_of each =
+        same_listed each es (listed of order es) apart
+        (IsDistinct-from_sorted pair_cmp (keys_of (listed of order es)) (rising_listed order is)) lookups_of
+
 module _ {X V : Type 0} (of : V → List ℕ) (es fs : List (Pair × X)) where
   -- entries that were sorted, or whose positions are listed, are those of a table
   pub listed_from : (order : Option V)
@@ -182,6 +221,13 @@ module _ {X V : Type 0} (of : V → List ℕ) (es fs : List (Pair × X)) where
       → MatchOption order (IsPermutation es fs) (λ o. fs ≡ es) → IsListed of order (keys_of fs)
   listed_from None sorted moved = sorted
   listed_from (Some o) is same = rw same is
+
+  -- the entries of a table have different pairs
+  pub apart_from : (order : Option V)
+      → MatchOption order (IsPermutation es fs) (λ o. fs ≡ es) → IsDistinct same_pair (keys_of es)
+      → IsDistinct same_pair (keys_of fs)
+  apart_from None moved apart = apart_still es fs moved apart
+  apart_from (Some o) same apart = rw same apart
 
   -- the entries of all pairs are the same in a table
   pub lookups_listed : (order : Option V)

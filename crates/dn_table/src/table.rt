@@ -1,10 +1,11 @@
 // Bundles by their ordered pairs.
 ghost use Rattle.std.specs.Prelude.{◌≡◌, ◌≤◌, ℤ, List, ◌^◌, drop, length, MatchOption};
 ghost use Rattle.std.specs.Iterator.{YieldsFirstBy, item_count};
+ghost use Rattle.std.specs.List.{IsDistinct};
 ghost use Rattle.std.specs.List.Sorted.{IsStrictlySortedBy};
 ghost use Rattle.std.specs.Map.{keys_of};
 ghost use Rattle.dn_arc.specs.declared.arc.Form.{Form};
-ghost use Rattle.dn_arc.specs.Pairs.{pair_cmp};
+ghost use Rattle.dn_arc.specs.Pairs.{pair_cmp, same_pair};
 ghost use Rattle.pair_index.specs.State.Ordered.{IsOrder};
 ghost use Rattle.dn_table.specs.State.ListedEntries.{entries_listed};
 ghost use Rattle.dn_table.specs.State.Orders.{IsListed, listed};
@@ -24,20 +25,25 @@ pub struct Table<B: Bundle> {
 
 impl<B: Bundle> Model for Table<B> {
     ghost use Rattle.std.specs.Prelude.{ℤ, List};
+    ghost use Rattle.std.specs.List.{IsDistinct};
     ghost use Rattle.std.specs.Map.{keys_of};
+    ghost use Rattle.dn_arc.specs.Pairs.{same_pair};
     ghost use Rattle.dn_table.specs.State.Orders.{IsListed, listed};
 
     ghost Value = { List ((ℤ × ℤ) × B) };
 
     ghost view = { λ t. listed (λ o. o.items) t.order t.entries.items };
 
-    ghost invariant = { λ t. IsListed (λ o. o.items) t.order (keys_of t.entries.items) };
+    ghost invariant = { λ t. IsListed (λ o. o.items) t.order (keys_of t.entries.items)
+        × IsDistinct same_pair (keys_of t.entries.items) };
 }
 
 impl<B: Bundle> Table<B> {
-    // Returns the table of these entries. The list has their positions by ascending pair; without it they are sorted.
+    // Returns the table of these entries of different pairs. The list has their positions by ascending pair; without it
+    // they are sorted.
     pub(crate) fn of(entries: Vec<((i64, i64), B)>, order: Option<Vec<u32>>) -> Table<B>
-        requires { IsListed (λ o. o.items) order (keys_of entries.items) }
+        requires listed { IsListed (λ o. o.items) order (keys_of entries.items) }
+        requires apart { IsDistinct same_pair (keys_of entries.items) }
         ensures { result ≡ listed (λ o. o.items) order entries.items }
     {
         Table { entries, order }
@@ -71,7 +77,7 @@ impl<B: Bundle> Table<B> {
     pub fn entries(&self) -> u64
         ensures { CountsEntries B.bundle self.now result }
     {
-        bundle_entries(self.pairs())
+        bundle_entries(&self.entries)
     }
 
     /// Returns how many arcs the bundles list in a form, if this is below 2^64.
@@ -79,7 +85,7 @@ impl<B: Bundle> Table<B> {
         ensures count { CountsBelow (2 ^ 64) (entries_listed (λ b. length (B.bundle.listed form b)) self.now) result }
         ensures rising { IsStrictlySortedBy pair_cmp (keys_of self.now) }
     {
-        count_arcs(self.pairs(), form)
+        count_arcs(&self.entries, form)
     }
 
     /// Returns how many pairs have a bundle.

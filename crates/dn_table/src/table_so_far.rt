@@ -10,7 +10,7 @@ ghost use Rattle.dn_arc.specs.Pairs.{pair_cmp, same_pair};
 ghost use Rattle.dn_table.specs.State.Tables.{Adds, CountsEntries, IsSameElsewhere, IsTooMuch, WidensAt};
 
 use crate::entry_sum::bundle_entries;
-use crate::table::{Pairs, Table};
+use crate::table::Table;
 use dn_kind::{Bundle, BundleFault, Form};
 use pair_index::{AHEAD, PairIndex, is_pair};
 use std::alloc::{AllocError, Global};
@@ -220,7 +220,7 @@ impl<B: Bundle> TableSoFar<B> {
     pub fn entries(&self) -> u64
         ensures { CountsEntries B.bundle self.now result }
     {
-        bundle_entries(Pairs::of(&self.entries))
+        bundle_entries(&self.entries)
     }
 
     /// Returns the table of these bundles. This does not allocate.

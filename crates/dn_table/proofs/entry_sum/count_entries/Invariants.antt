@@ -1,4 +1,4 @@
-use Rattle.std.proofs.Common.{◌≡◌, ◌+◌}
+use Rattle.std.proofs.Common.{◌≡◌, ◌+◌, drop}
 use Rattle.dn_arc.specs.declared.arc.Form.TheVariants.{One}
 use Rattle.dn_table.specs.State.ListedEntries.{entries_listed}
 use Rattle.dn_table.proofs.entry_sum.count_entries.Given as goal
@@ -8,5 +8,5 @@ abbrev pub invariant-loop-bundle : goal.invariant-loop-bundle
 invariant-loop-bundle g l =
     let kind = g.B.Bundle.bundle.kind in
     let listed = g.B.Bundle.bundle.listed One in
-    l.all + entries_listed (λ b. kind.entries (listed b)) l.bundle-iterator ≡ entries_listed
-    (λ b. kind.entries (listed b)) l.fn.pairs
+    l.all + entries_listed (λ b. kind.entries (listed b)) (drop l.bundle-index l.entries) ≡ entries_listed
+    (λ b. kind.entries (listed b)) l.entries

@@ -6,4 +6,4 @@ pub returns : goal.returns
 returns g c =
     let self = c.self.inside in
     c.len.ensures ∙ self.entries.ok.0
-    ∙ sym (length-listed (λ o. o.items) self.entries.items self.order c.self.invariant) ∙ ap length c.self.view_is
+    ∙ sym (length-listed (λ o. o.items) self.entries.items self.order c.self.invariant.0) ∙ ap length c.self.view_is

@@ -11,12 +11,12 @@ returns-in-Some g c =
     let slice = c.deref-in-Some.result.now in
     record {
       value = rw c.deref.ensures.value
-          (rest_listed (λ o. o.items) self.entries.items self.order c.in-Some.order c.in-Some.is c.self.invariant slice
+          (rest_listed (λ o. o.items) self.entries.items self.order c.in-Some.order c.in-Some.is c.self.invariant.0 slice
           c.args.index c.min.result c.deref-in-Some.ensures.value
           (rw (c.len.ensures ∙ c.in-Some.order.ok.0 ∙ ap length (sym c.deref-in-Some.ensures.value)) at c.min.ensures)
           ∙ ap (drop c.args.index) c.self.view_is);
       rising = rw (← c.self.view_is)
-          (rising_listed (λ o. o.items) self.entries.items self.order c.self.invariant);
+          (rising_listed (λ o. o.items) self.entries.items self.order c.self.invariant.0);
     }
 
 pub returns-in-None : goal.returns-in-None
@@ -30,5 +30,5 @@ returns-in-None g c =
           (rw (c.len-in-None.ensures ∙ self.entries.ok.0 ∙ ap length (sym c.deref-in-None.ensures.value)) at
           c.min-in-None.ensures)
           ∙ ap (drop c.args.index) c.self.view_is;
-      rising = rw (← c.self.view_is) (rising_listed (λ o. o.items) self.entries.items self.order c.self.invariant);
+      rising = rw (← c.self.view_is) (rising_listed (λ o. o.items) self.entries.items self.order c.self.invariant.0);
     }

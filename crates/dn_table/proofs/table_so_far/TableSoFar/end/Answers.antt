@@ -3,16 +3,23 @@ use Rattle.std.specs.Map.{lookup}
 use Rattle.std.proofs.lemmas.List.{with_items_is}
 use Rattle.dn_arc.specs.Pairs.{same_pair}
 use Rattle.dn_table.specs.State.Orders.{listed}
-use Rattle.dn_table.proofs.OrderLaws.{listed_from, lookups_listed, rising_listed}
+use Rattle.dn_table.proofs.OrderLaws.{apart_from, listed_from, lookups_listed, rising_listed}
 use Rattle.dn_table.proofs.table_so_far.TableSoFar.end.Goals as goal
 
-pub of-requires : goal.of-requires
-of-requires g c =
+pub of-requires-clause-listed : goal.of-requires-clause-listed
+of-requires-clause-listed g c =
     let fs = c.sort-order.new.entries in
     rw (with_items_is c.self.inside.entries fs (c.sort-order.auto.entries ∙ c.deref_mut.ensures.len))
     (listed_from (λ o. o.items) c.self.inside.entries.items fs c.sort-order.result
     (rw c.deref_mut.ensures.value at c.sort-order.ensures.sorted)
     (rw c.deref_mut.ensures.value at c.sort-order.ensures.moved))
+
+pub of-requires-clause-apart : goal.of-requires-clause-apart
+of-requires-clause-apart g c =
+    let fs = c.sort-order.new.entries in
+    rw (with_items_is c.self.inside.entries fs (c.sort-order.auto.entries ∙ c.deref_mut.ensures.len))
+    (apart_from (λ o. o.items) c.self.inside.entries.items fs c.sort-order.result
+    (rw c.deref_mut.ensures.value at c.sort-order.ensures.moved) c.self.invariant.apart)
 
 pub returns-clause-rising : goal.returns-clause-rising
 returns-clause-rising g c =
