@@ -1,6 +1,6 @@
 -- Entries in the order of a list of positions.
-use Rattle.std.proofs.Common.{inl, inr, ◌≡◌, ℕ, zero, suc, ◌+◌, ◌-◌, ◌<◌, ◌≤◌, ℤ, pos, List, [], ◌∷◌, length, get_or, take, drop, min, length-drop, Bool, true, false, cond, Option, Some, None, is_some, sum_by, refl, sym, ap, ◌∙◌, arith}
-use Rattle.std.specs.List.{slice_get, list_any, IsDistinct}
+use Rattle.std.proofs.Common.{inl, inr, ◌≡◌, ℕ, zero, suc, ◌+◌, ◌-◌, ◌<◌, ◌≤◌, pos, List, [], ◌∷◌, length, get_or, take, drop, min, length-drop, true, false, Option, Some, None, is_some, sum_by, refl, sym, ap, ◌∙◌, arith}
+use Rattle.std.specs.List.{slice_get, IsDistinct}
 use Rattle.std.specs.List.Sorted.{IsPermutation, IsStrictlySortedBy}
 use Rattle.std.specs.Map.{keys_of, lookup}
 use Rattle.std.specs.Prelude.{MatchOption}

@@ -352,13 +352,7 @@ impl Tails {
 
     // Links the next position, which is that of the pair, at its spot. This does not allocate, since there is spare
     // capacity.
-    fn link<X>(
-        &mut self,
-        entries: &[((i64, i64), X)],
-        pair: &(i64, i64),
-        head: u32,
-        spot: &Spot,
-    )
+    fn link<X>(&mut self, entries: &[((i64, i64), X)], pair: &(i64, i64), head: u32, spot: &Spot)
         requires linked { IsTailed self.old (keys_of entries.now) }
         requires fresh { list_any (same_pair pair.now) (keys_of entries.now) ≡ false }
         requires room { HasRoomFor self.old pair.now head }

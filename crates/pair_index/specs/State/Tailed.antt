@@ -27,7 +27,6 @@ pub record AreHeads (heads : List ℕ) (keys : List (ℤ × ℤ)) : Type 0 where
   pub all : length heads ≡ length keys
   pub each : (i : ℕ) → i < length keys → (key_at keys i).1 ≡ pos (get_or heads i 0)
 
-
 -- the search for the pair has passed a position of its tail with a lesser head, and continues at the link
 pub record Passed (keys : List (ℤ × ℤ)) (pair : ℤ × ℤ) (before link : ℕ) : Type 0 where
   pub at : ℕ

@@ -1,8 +1,7 @@
-use Rattle.std.proofs.Common.{ℕ, ℤ, List, ◌≡◌, ◌<◌, length, sym, ap, ◌∙◌}
+use Rattle.std.proofs.Common.{◌<◌, length, sym, ap, ◌∙◌}
 use Rattle.std.proofs.lemmas.Bool.{ltb-true}
 use Rattle.std.proofs.lemmas.Map.Entries.{length-keys_of}
 use Rattle.std.specs.Map.{keys_of}
-use Rattle.pair_index.specs.State.Positions.{key_at}
 use Rattle.pair_index.proofs.ChainLaws.{key_of_position}
 use Rattle.pair_index.proofs.order.is_before.Goals as goal
 
@@ -17,6 +16,8 @@ returns-in-Less g c _ =
     let two = key_of_position es c.args.right c.in-Some-Some.right.now right in (
       left,
       right,
-      rw (one ∙ ap (λ e. e.0) (sym c.in-Some-Some.ensures.lookup.1),
-          two ∙ ap (λ e. e.0) (sym c.in-Some-Some.ensures'.lookup.1)) (sym c.cmp.ensures ∙ c.in-Less.is),
+      rw (
+        one ∙ ap (λ e. e.0) (sym c.in-Some-Some.ensures.lookup.1),
+        two ∙ ap (λ e. e.0) (sym c.in-Some-Some.ensures'.lookup.1),
+      ) (sym c.cmp.ensures ∙ c.in-Less.is),
     )

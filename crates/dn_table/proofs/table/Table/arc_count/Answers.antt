@@ -1,4 +1,4 @@
-use Rattle.std.proofs.Common.{length, ap, sym, ◌∙◌}
+use Rattle.std.proofs.Common.{length}
 use Rattle.dn_table.proofs.OrderLaws.{rising_listed, sum_listed_of}
 use Rattle.dn_table.proofs.table.Table.arc_count.Goals as goal
 

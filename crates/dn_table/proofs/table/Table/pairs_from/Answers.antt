@@ -1,7 +1,4 @@
 use Rattle.std.proofs.Common.{drop, length, sym, ap, ◌∙◌}
-use Rattle.std.specs.List.Sorted.{IsStrictlySortedBy}
-use Rattle.std.specs.Map.{keys_of}
-use Rattle.dn_arc.specs.Pairs.{pair_cmp}
 use Rattle.dn_table.proofs.OrderLaws.{rest_listed, rest_sorted, rising_listed}
 use Rattle.dn_table.proofs.table.Table.pairs_from.Goals as goal
 

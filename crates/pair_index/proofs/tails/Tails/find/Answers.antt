@@ -1,7 +1,6 @@
 use Rattle.std.proofs.Common.{ℤ, sym, refl, ap}
 use Rattle.std.specs.Map.{keys_of}
 use Rattle.std.proofs.lemmas.Bool.{false≢true}
-use Rattle.pair_index.specs.State.Positions.{key_at}
 use Rattle.pair_index.proofs.TailLaws.{sought_inside, nowhere_past, nowhere_else, pair_from}
 use Rattle.pair_index.proofs.tails.Tails.find.Goals as goal
 

@@ -16,11 +16,11 @@ returns-then-spot-eq0 g c =
     let heads = ap (λ v. v.items) c.set_first.ensures.heads ∙ c.push_reserved-2.ensures.items in
     record {
       links = rw tops
-    (rw nexts (links_more self.firsts.items _ self.next.items _ keys c.args.pair.now room.tail spot.before spot.after
-    (c.len.result + 1) c.requires.linked.links c.requires.fresh
-    c.requires.spot.sought c.requires.spot.stops room.is room.known one
-    (spliced_first self.firsts.items self.next.items room.tail spot.before spot.after
-    (c.len.result + 1) room.known c.if-spot-eq0.true)));
+          (rw nexts (links_more self.firsts.items _ self.next.items _ keys c.args.pair.now room.tail spot.before spot.after
+          (c.len.result + 1) c.requires.linked.links c.requires.fresh
+          c.requires.spot.sought c.requires.spot.stops room.is room.known one
+          (spliced_first self.firsts.items self.next.items room.tail spot.before spot.after
+          (c.len.result + 1) room.known c.if-spot-eq0.true)));
       heads = rw heads (heads_more self.heads.items keys c.args.pair.now c.args.head c.requires.linked.heads room.head_is);
       last = rw c.set_first.ensures.last tt;
     }
@@ -38,11 +38,11 @@ returns-else-spot-eq0 g c =
     (before_inside keys c.args.pair.now spot.before spot.after c.if-spot-eq0.false c.requires.spot.sought) in
     record {
       links = rw c.push_reserved.ensures.items
-    (links_more self.firsts.items _ self.next.items _ keys c.args.pair.now room.tail spot.before spot.after
-    (c.len.result + 1) c.requires.linked.links c.requires.fresh
-    c.requires.spot.sought c.requires.spot.stops room.is room.known one
-    (spliced_after self.firsts.items self.next.items room.tail spot.before spot.after
-    (c.len.result + 1) c.if-spot-eq0.false inside));
+          (links_more self.firsts.items _ self.next.items _ keys c.args.pair.now room.tail spot.before spot.after
+          (c.len.result + 1) c.requires.linked.links c.requires.fresh
+          c.requires.spot.sought c.requires.spot.stops room.is room.known one
+          (spliced_after self.firsts.items self.next.items room.tail spot.before spot.after
+          (c.len.result + 1) c.if-spot-eq0.false inside));
       heads = rw c.push_reserved-2.ensures.items
           (heads_more self.heads.items keys c.args.pair.now c.args.head c.requires.linked.heads room.head_is);
       last = tt;

@@ -2,9 +2,7 @@ use Rattle.std.proofs.Common.{◌≡◌, ◌-◌, refl, arith}
 use Rattle.std.specs.Map.{keys_of}
 use Rattle.std.proofs.lemmas.Bool.{false≢true}
 use Rattle.pair_index.specs.State.Positions.{key_at}
-use Rattle.std.proofs.lemmas.Map.Entries.{length-keys_of}
 use Rattle.std.proofs.lemmas.List.{get_or_read}
-use Rattle.pair_index.proofs.ChainLaws.{key_of_position}
 use Rattle.pair_index.proofs.TailLaws.{sought_inside, sought_on, falls, has_next, past_head}
 use Rattle.pair_index.proofs.tails.Tails.spot.Goals as goal
 
