@@ -7,6 +7,8 @@ from shared import ROOT, text_of
 
 TABLE = "share/refusals.txt"
 ROW = re.compile(r"^ ?(\d+)  +(\d+|-)  (\w+)  +(DNORM_\w+|-)  +(\S.*)$")
+# The faults at the end of a text, and the line that the comment of an example names.
+AT_END, LINE = range(18, 21), re.compile(r"Line (\d+) ")
 # The fault that no example has, since no example has so many lines.
 TOO_LONG = "TooLong"
 
@@ -44,3 +46,9 @@ def faults() -> list[Refusal]:
 def with_example() -> list[Refusal]:
     """Returns the faults that have a text in examples/refused/."""
     return [it for it in faults() if it.name != TOO_LONG]
+
+
+def place_of(number: int, example: str) -> str:
+    """Returns where an example in examples/refused/ has this fault: the line that its comment names, or its end."""
+    found = LINE.search(example)
+    return found[1] if found and number not in AT_END else "end"
