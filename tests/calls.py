@@ -21,6 +21,7 @@ from pathlib import Path
 
 from known import COSTS, ROADS, ROADS_CANON, rows
 from reading import COUNTED, Fault, Text, canonical, read
+from refusal_table import with_example
 from shared import ROOT, Tally, bytes_of, run, write
 from texts import lines_of, made, spelled
 
@@ -149,7 +150,7 @@ def refused(tally: Tally, tested: str) -> None:
             for call, of in CALLS.items():
                 wanted = f"Refused: {it.shown(name)}:{line[:-1]}"
                 tally.same(f"{call} of {name}, by {it.title}", told(lambda: of(it.file(name))), wanted)
-    tally.same("the refusals in examples/refused", numbers, [*range(1, 21)])
+    tally.same("the refusals in examples/refused", numbers, [it.number for it in with_example()])
 
 
 # What a program prints on standard error with its status, and what that is: only these lines are known.

@@ -1,6 +1,34 @@
-"""Small texts with known answers: what each command prints for them, and the statuses."""
+"""Small texts with known answers: what each command prints for them, and the statuses. A text that is a case of
+cases.txt, or is in examples/refused/, stands there alone."""
 
+import os
 from collections.abc import Iterator
+
+from cases import listed
+from refusal_table import place_of
+from shared import ROOT, text_of
+
+EXAMPLES = f"{ROOT}/examples/refused"
+CASES = {f"{it.rule}-{it.name}": it for it in listed()}
+
+
+def case(name: str) -> bytes:
+    """Returns the text of a case of cases.txt."""
+    return CASES[name].text.encode("latin-1")
+
+
+def pair(name: str) -> tuple[bytes, bytes]:
+    """Returns both texts of a case of cases.txt."""
+    return case(name), str(CASES[name].second).encode("latin-1")
+
+
+def examples() -> Iterator[tuple[bytes, bytes]]:
+    """Yields the texts in examples/refused/, and the line of the refusal of a text that is named `t`."""
+    for name in sorted(os.listdir(EXAMPLES)):
+        refusal, text = name.partition(".")[0], text_of(f"{EXAMPLES}/{name}")
+        number, _, word = refusal.partition("-")
+        yield text.encode(), f"t:{place_of(int(number), text)}: {int(number)} {word}\n".encode()
+
 
 # Parallel arcs, both directions, a self-loop and a negative length; and the canonical text.
 ROADS = b"p sp 3 7\na 1 2 7\na 1 2 3\na 2 1 4\na 1 2 3\na 2 2 0\na 3 1 -5\na 2 3 9\n"
@@ -8,14 +36,14 @@ ROADS_CANON = b"p sp 3 5\na 1 2 3\na 2 1 4\na 2 2 0\na 2 3 9\na 3 1 -5\n"
 # An arc of capacity 0, two parallel arcs, and the sink before the source.
 CAPACITIES = b"p max 3 4\nn 3 t\nn 1 s\na 2 3 0\na 1 2 4\na 1 3 2\na 1 2 5\n"
 # Forced units and free capacity; and the canonical texts in form 1 and in form 2.
-COSTS = b"p min 2 3\na 1 2 1 3 0\na 1 2 1 2 3\na 1 2 0 4 1\n"
+COSTS = case("forced-remainder")
 COSTS_ONE = b"p min 2 5\na 1 2 1 1 1\na 1 2 1 1 2\na 1 2 0 2 0\na 1 2 0 4 1\na 1 2 0 1 3\n"
 COSTS_TWO = b"p min 2 4\na 1 2 0 2 0\na 1 2 1 5 1\na 1 2 1 1 2\na 1 2 0 1 3\n"
 # A supply, a demand and a comment; and the canonical text.
 FLOWS = b"c sample\np min 4 5\nn 1 4\nn 4 -4\na 1 2 0 4 2\na 1 3 0 2 2\na 2 3 0 2 1\na 2 4 0 3 3\na 3 4 0 5 1\n"
 FLOWS_CANON = b"p min 4 5\nn 1 4\nn 4 -4\na 1 2 0 4 2\na 1 3 0 2 2\na 2 3 0 2 1\na 2 4 0 3 3\na 3 4 0 5 1\n"
 # Capacities of one pair that sum past the limit.
-FULL = b"p max 2 2\nn 1 s\nn 2 t\na 1 2 9223372036854775807\na 1 2 1\n"
+FULL = case("sum-above-max")
 
 # Runs of `show`. A row has the arguments, the texts by their names (`-` is standard input), the expected standard
 # output and standard error, and the status.
@@ -247,15 +275,15 @@ CANONICAL = [
         COSTS_ONE,
         COSTS_TWO,
     ),
-    (b"p min 1 1\na 1 1 2 5 -4\n", b"p min 1 2\na 1 1 2 2 -4\na 1 1 0 3 -4\n", b"p min 1 1\na 1 1 2 5 -4\n"),
-    (b"p min 2 2\na 1 2 3 5 2\na 1 2 0 1 2\n", b"p min 2 2\na 1 2 3 3 2\na 1 2 0 3 2\n", b"p min 2 1\na 1 2 3 6 2\n"),
+    (case("pair-self-loop-min"), b"p min 1 2\na 1 1 2 2 -4\na 1 1 0 3 -4\n", b"p min 1 1\na 1 1 2 5 -4\n"),
+    (case("form-itself"), b"p min 2 2\na 1 2 3 3 2\na 1 2 0 3 2\n", b"p min 2 1\na 1 2 3 6 2\n"),
     (
-        b"p min 2 2\na 1 2 1 2 0\na 1 2 1 3 1\n",
+        case("forced-beside-free"),
         b"p min 2 4\na 1 2 1 1 0\na 1 2 1 1 1\na 1 2 0 1 0\na 1 2 0 2 1\n",
         b"p min 2 2\na 1 2 1 2 0\na 1 2 1 3 1\n",
     ),
     (
-        b"p min 2 1\na 1 2 0 9223372036854775807 9223372036854775807\n",
+        case("form-wide-cap"),
         b"p min 2 1\na 1 2 0 9223372036854775807 9223372036854775807\n",
         b"p min 2 1\na 1 2 0 9223372036854775807 9223372036854775807\n",
     ),
@@ -270,12 +298,12 @@ CANONICAL = [
     (ROADS, ROADS_CANON, ROADS_CANON),
     (CAPACITIES, b"p max 3 2\nn 1 s\nn 3 t\na 1 2 9\na 1 3 2\n", b"p max 3 2\nn 1 s\nn 3 t\na 1 2 9\na 1 3 2\n"),
     (
-        b"p max 2 2\nn 1 s\nn 2 t\na 1 2 9223372036854775807\na 1 2 0\n",
+        case("sum-zero-max"),
         b"p max 2 1\nn 1 s\nn 2 t\na 1 2 9223372036854775807\n",
         b"p max 2 1\nn 1 s\nn 2 t\na 1 2 9223372036854775807\n",
     ),
     (
-        b"p min 2 2\na 1 2 1 1 -3\na 1 2 1 1 0\n",
+        case("forced-negative"),
         b"p min 2 2\na 1 2 1 1 -2\na 1 2 1 1 -1\n",
         b"p min 2 2\na 1 2 1 1 -2\na 1 2 1 1 -1\n",
     ),
@@ -285,9 +313,9 @@ CANONICAL = [
         b"p aux sp co 2\nv 1 5 -6\nv 3 -73530767 41085396\n",
         b"p aux sp co 2\nv 1 5 -6\nv 3 -73530767 41085396\n",
     ),
-    (b"p sp -0 +00\n", b"p sp 0 0\n", b"p sp 0 0\n"),
+    (case("number-negative-zero"), b"p sp 0 0\n", b"p sp 0 0\n"),
     (b"cab\np sp 1 0\n", b"p sp 1 0\n", b"p sp 1 0\n"),
-    (b"p max 2 1\nn 2 s\nn 1 t\na 1 2 0\n", b"p max 2 0\nn 2 s\nn 1 t\n", b"p max 2 0\nn 2 s\nn 1 t\n"),
+    (case("nothing-max"), b"p max 2 0\nn 2 s\nn 1 t\n", b"p max 2 0\nn 2 s\nn 1 t\n"),
     (b"p sp 2 1\na 1 2 +007\n", b"p sp 2 1\na 1 2 7\n", b"p sp 2 1\na 1 2 7\n"),
     (b"p sp 2 1\na 1 2 -0\n", b"p sp 2 1\na 1 2 0\n", b"p sp 2 1\na 1 2 0\n"),
     (
@@ -300,35 +328,34 @@ CANONICAL = [
         b"p sp 1 1\na 1 1 -9223372036854775808\n",
         b"p sp 1 1\na 1 1 -9223372036854775808\n",
     ),
-    (b"p min 2 2\na 1 2 1 1 0\na 1 2 1 1 4\n", b"p min 2 1\na 1 2 2 2 2\n", b"p min 2 1\na 1 2 2 2 2\n"),
+    (case("forced-exact"), b"p min 2 1\na 1 2 2 2 2\n", b"p min 2 1\na 1 2 2 2 2\n"),
     (
-        b"p min 2 2\na 1 2 4611686018427387904 4611686018427387904 -9223372036854775808\n"
-        b"a 1 2 4611686018427387903 4611686018427387903 9223372036854775807\n",
+        case("forced-64-bits"),
         b"p min 2 2\na 1 2 4611686018427387904 4611686018427387904 -2\n"
         b"a 1 2 4611686018427387903 4611686018427387903 -1\n",
         b"p min 2 2\na 1 2 4611686018427387904 4611686018427387904 -2\n"
         b"a 1 2 4611686018427387903 4611686018427387903 -1\n",
     ),
     (
-        b"p min 2 1\na 1 2 9223372036854775807 9223372036854775807 -9223372036854775808\n",
+        case("forced-least-cost"),
         b"p min 2 1\na 1 2 9223372036854775807 9223372036854775807 -9223372036854775808\n",
         b"p min 2 1\na 1 2 9223372036854775807 9223372036854775807 -9223372036854775808\n",
     ),
     (b"p aux sp ss 3\ns 5\ns 2\ns 5\n", b"p aux sp ss 3\ns 5\ns 2\ns 5\n", b"p aux sp ss 3\ns 5\ns 2\ns 5\n"),
     (b"p aux sp p2p 2\nq 9 1\nq 1 9\n", b"p aux sp p2p 2\nq 9 1\nq 1 9\n", b"p aux sp p2p 2\nq 9 1\nq 1 9\n"),
-    (b"p aux sp ss 0\n", b"p aux sp ss 0\n", b"p aux sp ss 0\n"),
+    (case("ninth-empty-ss"), b"p aux sp ss 0\n", b"p aux sp ss 0\n"),
     (
-        b"p min 9223372036854775807 0\nn 9223372036854775807 -9223372036854775808\n",
+        case("canon-great-nodes"),
         b"p min 9223372036854775807 0\nn 9223372036854775807 -9223372036854775808\n",
         b"p min 9223372036854775807 0\nn 9223372036854775807 -9223372036854775808\n",
     ),
     (
-        b"p min 2 2\na 1 2 0 9223372036854775807 1\na 2 1 0 1 9\n",
+        case("sum-reverse-min"),
         b"p min 2 2\na 1 2 0 9223372036854775807 1\na 2 1 0 1 9\n",
         b"p min 2 2\na 1 2 0 9223372036854775807 1\na 2 1 0 1 9\n",
     ),
     (
-        b"p min 2 2\na 1 2 1 1 9223372036854775806\na 1 2 1 1 9223372036854775807\n",
+        case("forced-greatest-cost"),
         b"p min 2 2\na 1 2 1 1 9223372036854775806\na 1 2 1 1 9223372036854775807\n",
         b"p min 2 2\na 1 2 1 1 9223372036854775806\na 1 2 1 1 9223372036854775807\n",
     ),
@@ -343,20 +370,20 @@ CANONICAL = [
 # A left text, a right text, the line that `compare` prints, and the line for the other order.
 COMPARED = [
     (ROADS, CAPACITIES, b"differ kind sp max\n", b"differ kind max sp\n"),
-    (b"p sp 3 0\n", b"p sp 4 0\n", b"differ nodes 3 4\n", b"differ nodes 4 3\n"),
-    (b"p sp 3 0\n", b"p aux sp ss 0\n", b"differ kind sp ss\n", b"differ kind ss sp\n"),
-    (b"p min 2 0\nn 2 5\n", b"p min 2 0\n", b"differ supply 2 5 0\n", b"differ supply 2 0 5\n"),
+    (*pair("differ-nodes"), b"differ nodes 3 4\n", b"differ nodes 4 3\n"),
+    (*pair("differ-kind-companion"), b"differ kind sp ss\n", b"differ kind ss sp\n"),
+    (*pair("differ-supply"), b"differ supply 2 5 0\n", b"differ supply 2 0 5\n"),
     (b"p min 3 0\nn 3 5\nn 2 1\n", b"p min 3 0\nn 3 6\nn 2 -1\n", b"differ supply 2 1 -1\n", b"differ supply 2 -1 1\n"),
     (b"p min 3 0\nn 3 5\n", b"p min 3 0\nn 2 1\nn 3 5\n", b"differ supply 2 0 1\n", b"differ supply 2 1 0\n"),
-    (b"p max 3 0\nn 1 s\nn 3 t\n", b"p max 3 0\nn 2 s\nn 1 t\n", b"differ source 1 2\n", b"differ source 2 1\n"),
-    (b"p max 3 0\nn 1 s\nn 3 t\n", b"p max 3 0\nn 1 s\nn 2 t\n", b"differ sink 3 2\n", b"differ sink 2 3\n"),
-    (b"p aux sp ss 3\ns 5\ns 2\ns 5\n", b"p aux sp ss 2\ns 5\ns 3\n", b"differ length 3 2\n", b"differ length 2 3\n"),
+    (*pair("differ-source"), b"differ source 1 2\n", b"differ source 2 1\n"),
+    (*pair("differ-sink"), b"differ sink 3 2\n", b"differ sink 2 3\n"),
+    (*pair("differ-items"), b"differ length 3 2\n", b"differ length 2 3\n"),
     (b"p aux sp ss 3\ns 5\ns 2\ns 5\n", b"p aux sp ss 3\ns 5\ns 3\ns 5\n", b"differ item 2\n", b"differ item 2\n"),
-    (b"p aux sp ss 2\ns 5\ns 2\n", b"p aux sp ss 2\ns 2\ns 5\n", b"differ item 1\n", b"differ item 1\n"),
+    (*pair("differ-item-order"), b"differ item 1\n", b"differ item 1\n"),
     (b"p aux sp p2p 1\nq 1 9\n", b"p aux sp p2p 2\nq 1 9\nq 1 9\n", b"differ length 1 2\n", b"differ length 2 1\n"),
     (b"p aux sp p2p 2\nq 9 1\nq 1 9\n", b"p aux sp p2p 2\nq 9 1\nq 1 8\n", b"differ item 2\n", b"differ item 2\n"),
     (b"p aux sp p2p 1\nq 9 1\n", b"p aux sp p2p 1\nq 1 9\n", b"differ item 1\n", b"differ item 1\n"),
-    (b"p aux sp co 1\nv 2 0 0\n", b"p aux sp co 2\nv 2 0 0\nv 1 0 0\n", b"differ point 1\n", b"differ point 1\n"),
+    (*pair("differ-point"), b"differ point 1\n", b"differ point 1\n"),
     (
         b"p aux sp co 2\nv 7 1 2\nv 3 4 5\n",
         b"p aux sp co 2\nv 7 2 1\nv 3 5 4\n",
@@ -382,8 +409,7 @@ COMPARED = [
         b"differ pair 1 2 length 2 1\n",
     ),
     (
-        b"p sp 3 1\na 2 1 1\n",
-        b"p sp 3 1\na 1 2 1\n",
+        *pair("differ-pair-reverse"),
         b"differ pair 1 2 length none 1\n",
         b"differ pair 1 2 length 1 none\n",
     ),
@@ -394,32 +420,27 @@ COMPARED = [
         b"differ pair 1 1 capacity 4 0\n",
     ),
     (
-        b"p min 2 2\na 1 2 0 2 1\na 1 2 0 2 4\n",
-        b"p min 2 2\na 1 2 0 3 1\na 1 2 0 1 4\n",
+        *pair("differ-cost"),
         b"differ pair 1 2 amount 3 cost 6 3\n",
         b"differ pair 1 2 amount 3 cost 3 6\n",
     ),
     (
-        b"p min 2 1\na 1 2 1 2 1\n",
-        b"p min 2 1\na 1 2 0 2 1\n",
+        *pair("differ-cost-low"),
         b"differ pair 1 2 amount 0 cost none 0\n",
         b"differ pair 1 2 amount 0 cost 0 none\n",
     ),
     (
-        b"p min 2 1\na 1 2 1 1 4\n",
-        b"p min 2 1\na 1 2 1 1 5\n",
+        *pair("differ-cost-forced"),
         b"differ pair 1 2 amount 1 cost 4 5\n",
         b"differ pair 1 2 amount 1 cost 5 4\n",
     ),
     (
-        b"p min 2 1\na 1 2 0 2 4\n",
-        b"p min 2 1\na 1 2 0 3 4\n",
+        *pair("differ-cost-cap"),
         b"differ pair 1 2 amount 3 cost none 12\n",
         b"differ pair 1 2 amount 3 cost 12 none\n",
     ),
     (
-        b"p min 2 1\na 1 2 0 2 4\n",
-        b"p min 2 0\n",
+        *pair("differ-cost-none"),
         b"differ pair 1 2 amount 1 cost 4 none\n",
         b"differ pair 1 2 amount 1 cost none 4\n",
     ),
@@ -439,41 +460,41 @@ COMPARED = [
 
 # Texts, and the line of the refusal of a text that is named `t`.
 REFUSED = [
-    (b"", b"t:end: 18 NoProblem\n"),
-    (b"x 1\n", b"t:1: 1 BadLine\n"),
+    *examples(),
+    (case("refusal-18-empty"), b"t:end: 18 NoProblem\n"),
+    (case("line-number-first"), b"t:1: 1 BadLine\n"),
     (b"x", b"t:1: 1 BadLine\n"),
-    (b"pp sp 0 0\n", b"t:1: 1 BadLine\n"),
-    (b"\n\nz\n", b"t:3: 1 BadLine\n"),
-    (b"\xef\xbb\xbfp sp 0 0\n", b"t:1: 1 BadLine\n"),
+    (case("keyword-longer-p"), b"t:1: 1 BadLine\n"),
+    (case("line-number-after-blank"), b"t:3: 1 BadLine\n"),
+    (case("left-out-bom"), b"t:1: 1 BadLine\n"),
     (b"a 1 2 3\n", b"t:1: 2 EarlyLine\n"),
-    (b"p sp 0 0\np sp 0 0\n", b"t:2: 3 SecondProblem\n"),
+    (case("refusal-3-sp"), b"t:2: 3 SecondProblem\n"),
     (b"p asn 2 2\n", b"t:1: 4 UnknownProblem\n"),
-    (b"p\n", b"t:1: 4 UnknownProblem\n"),
-    (b"p aux sp\n", b"t:1: 4 UnknownProblem\n"),
+    (case("refusal-4-alone"), b"t:1: 4 UnknownProblem\n"),
+    (case("refusal-4-aux-sp"), b"t:1: 4 UnknownProblem\n"),
     (b"p SP 0 0\n", b"t:1: 4 UnknownProblem\n"),
     (b"p sp 1 0\nn 1 1\n", b"t:2: 5 WrongLine\n"),
     (b"p aux sp ss 1\nv 1 2 3\n", b"t:2: 5 WrongLine\n"),
-    (b"p min 2 1\na 1 2 0 1 1\nn 1 5\n", b"t:3: 6 LateNode\n"),
+    (case("refusal-6-min"), b"t:3: 6 LateNode\n"),
     (b"p min 2 1\na 1 2 0 1 1\nn x\n", b"t:3: 6 LateNode\n"),
     (b"p sp 2 1\na 1 2 1\na 1 2\n", b"t:3: 7 TooManyLines\n"),
     (b"p aux sp ss 0\ns\n", b"t:2: 7 TooManyLines\n"),
     (b"p sp 1\n", b"t:1: 8 FieldCount\n"),
     (b"p sp 1 0 0\n", b"t:1: 8 FieldCount\n"),
-    (b"p sp 0 0\rp sp 0 0\n", b"t:1: 8 FieldCount\n"),
+    (case("line-end-cr"), b"t:1: 8 FieldCount\n"),
     (b"p sp 1 1\na 1 1\n", b"t:2: 8 FieldCount\n"),
     (b"p sp 1 1\na 1 1\x0b1\n", b"t:2: 8 FieldCount\n"),
     (b"p sp 1.5 0\n", b"t:1: 9 NotANumber\n"),
     (b"p sp 9223372036854775808 x\n", b"t:1: 9 NotANumber\n"),
-    (b"p sp + 0\n", b"t:1: 9 NotANumber\n"),
+    (case("number-empty-sign"), b"t:1: 9 NotANumber\n"),
     (b"p sp 2 1\na 1 2 1.5\n", b"t:2: 9 NotANumber\n"),
     (b"p sp 2 1\na 1 2 99999999999999999999x\n", b"t:2: 9 NotANumber\n"),
     (b"p sp 2 1\na 9223372036854775808 2 x\n", b"t:2: 9 NotANumber\n"),
     (b"p sp 1 1\na 1 1 +\n", b"t:2: 9 NotANumber\n"),
     (b"p sp 1 1\na 1 1 1\x00\n", b"t:2: 9 NotANumber\n"),
     (b"p sp 1 1\na 1 1 9999999999999999999999999999999999999999-\n", b"t:2: 9 NotANumber\n"),
-    (b"p sp 1 1\na 1 1 x\nz\n", b"t:2: 9 NotANumber\n"),
+    (case("earliest-lower-later"), b"t:2: 9 NotANumber\n"),
     (b"p sp 9223372036854775808 0\n", b"t:1: 10 OutOfRange\n"),
-    (b"p sp 2 1\na 1 2 9223372036854775808\n", b"t:2: 10 OutOfRange\n"),
     (b"p sp 1 1\na 1 1 9999999999999999999999999999999999999999\n", b"t:2: 10 OutOfRange\n"),
     (b"p sp -1 0\n", b"t:1: 11 Negative\n"),
     (b"p min 2 1\na 1 2 -1 3 0\n", b"t:2: 11 Negative\n"),
@@ -481,20 +502,18 @@ REFUSED = [
     (b"p sp 2 1\na 1 3 1\n", b"t:2: 13 NodeOutOfRange\n"),
     (b"p max 2 1\nn 3 s\n", b"t:2: 13 NodeOutOfRange\n"),
     (b"p aux sp ss 1\ns 0\n", b"t:2: 13 NodeOutOfRange\n"),
-    (b"p min 2 0\nn 1 0\nn 1 5\n", b"t:3: 14 RepeatedNode\n"),
-    (b"p aux sp co 2\nv 1 0 0\nv 1 0 0\n", b"t:3: 14 RepeatedNode\n"),
+    (case("supply-repeated-zero"), b"t:3: 14 RepeatedNode\n"),
+    (case("point-repeated-same"), b"t:3: 14 RepeatedNode\n"),
     (b"p max 2 1\nn 1 s\nn 2 s\n", b"t:3: 14 RepeatedNode\n"),
     (b"p max 2 1\nn 1 s\nn 1 s\n", b"t:3: 14 RepeatedNode\n"),
     (b"p max 2 1\nn 1 s\nn 1 t\n", b"t:3: 15 SameTerminal\n"),
-    (b"p min 2 1\na 1 2 3 2 0\n", b"t:2: 16 LowAboveCap\n"),
-    (FULL, b"t:5: 17 SumTooLarge\n"),
-    (b"p min 2 2\na 1 2 0 9223372036854775807 1\na 1 2 0 1 9\n", b"t:3: 17 SumTooLarge\n"),
+    (case("sum-above-min"), b"t:3: 17 SumTooLarge\n"),
     (b"c only\n\n", b"t:end: 18 NoProblem\n"),
     (b"p max 2 1\nn 1 s\n", b"t:end: 19 MissingTerminal\n"),
-    (b"p sp 2 2\na 1 2 1\n", b"t:end: 20 TooFewLines\n"),
-    (b"p sp 2 2\na 1 2 1", b"t:end: 20 TooFewLines\n"),
+    (case("refusal-20-sp"), b"t:end: 20 TooFewLines\n"),
+    (case("refusal-20-no-lf"), b"t:end: 20 TooFewLines\n"),
     (b"p aux sp co 1\n", b"t:end: 20 TooFewLines\n"),
-    (b"p sp 1 9223372036854775807\n", b"t:end: 20 TooFewLines\n"),
+    (case("refusal-20-greatest"), b"t:end: 20 TooFewLines\n"),
 ]
 
 

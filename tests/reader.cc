@@ -22,7 +22,7 @@ using Words = std::vector<std::string>;
 const char *const NAMES[] = {
     "", "BadLine", "EarlyLine", "SecondProblem", "UnknownProblem", "WrongLine", "LateNode", "TooManyLines",
     "FieldCount", "NotANumber", "OutOfRange", "Negative", "BadTerminal", "NodeOutOfRange", "RepeatedNode",
-    "SameTerminal", "LowAboveCap", "SumTooLarge", "NoProblem", "MissingTerminal", "TooFewLines"};
+    "SameTerminal", "LowAboveCap", "SumTooLarge", "NoProblem", "MissingTerminal", "TooFewLines", "TooLong"};
 const std::string LETTERS = "pnasqv";
 // The words of each kind after `p`; and the fields of each kind's lines: N a number, C one that is not below 0, I a
 // node, T a terminal.
