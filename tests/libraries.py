@@ -11,6 +11,7 @@ import json
 import os
 import random
 import shutil
+import signal
 import sys
 import threading
 import types
@@ -284,7 +285,9 @@ def at_once(tally: Tally, _: str) -> None:
         tally.same("is the other one asked to end now", wanted.is_set(), start == kept)
         setattr(threading.Thread, "start", kept)
         wanted.clear()
-    # A signal comes while the first call has ended, and the second one has not.
+    # A signal comes while the first call has ended, and the second one has not. The handler of tests/python would end
+    # the test.
+    handler = signal.signal(signal.SIGINT, signal.default_int_handler)
     timer = threading.Timer(0.3, _thread.interrupt_main)
     timer.start()
     try:
@@ -292,6 +295,8 @@ def at_once(tally: Tally, _: str) -> None:
         is_interrupted = False
     except KeyboardInterrupt:
         is_interrupted = True
+    finally:
+        signal.signal(signal.SIGINT, handler)
     tally.same("a signal, and is the other one asked to end", (is_interrupted, wanted.is_set()), (True, True))
     wanted.clear()
     files = {"good.gr": ROADS, "bad.gr": b"p sp 2 1\na 1 3 5\n", "worse.gr": b"x\n"}
