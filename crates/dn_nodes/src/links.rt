@@ -17,8 +17,8 @@ const DENSE: usize = 8;
 
 /// The links of the nodes, by ascending node. Nodes below the length of `links` have their links there, where 0 is no
 /// link. All other nodes are in a map. A node that the list comes to reach moves there, so both ways to find a node are
-/// always there, and none is ever turned into the other as a whole. The list has at most 8 places for each node that has
-/// a link, and 128 more, so its length never depends on the nodes' numbers.
+/// always there, and none is ever turned into the other as a whole. The list has at most 8 places for each node that
+/// has a link, and 128 more, so its length never depends on the nodes' numbers.
 #[derive(Drop)]
 pub(crate) struct Links {
     links: Vec<usize>,

@@ -78,7 +78,8 @@ module _ (f : Pair → ℕ) where
       omega (arith, sum_by-cons f q qs, h q (rw (pair_self q)), rest)
 
   -- sums over two lists without repeats are equal if each pair in only one of them adds nothing
-  pub same_sum : (ps qs : List Pair) → Once ps → Once qs → ((r : Pair) → among r ps ≡ false → among r qs ≡ true → f r ≡ 0)
+  pub same_sum : (ps qs : List Pair) → Once ps → Once qs
+      → ((r : Pair) → among r ps ≡ false → among r qs ≡ true → f r ≡ 0)
       → ((r : Pair) → among r ps ≡ true → among r qs ≡ false → f r ≡ 0) → sum_by f ps ≡ sum_by f qs
   same_sum [] qs op oq out back = sym (all_none qs (λ r e. out r refl e))
   same_sum (p ∷ ps) qs op oq out back =

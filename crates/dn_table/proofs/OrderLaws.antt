@@ -90,7 +90,8 @@ module _ {X : Type 0} (es : List (Pair × X)) (order : List ℕ) (is : IsOrder (
   pub inside : Inside es order
   inside k lt = rw (← length-keys_of es) (is.inside k lt)
 
-  key_picked : (k : ℕ) → k < length order → key_at (keys_of (picked order es)) k ≡ key_at (keys_of es) (get_or order k 0)
+  key_picked : (k : ℕ) → k < length order
+      → key_at (keys_of (picked order es)) k ≡ key_at (keys_of es) (get_or order k 0)
   key_picked k lt = elim ((slice_get_cases es (get_or order k 0)).1) [
     | inl p ↦ key_of_entry false (picked order es) k p.0 (picked_at es order inside k lt ∙ p.2)
         ∙ sym (key_of_entry false es (get_or order k 0) p.0 p.2)

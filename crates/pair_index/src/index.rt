@@ -206,8 +206,8 @@ impl PairIndex {
         }
     }
 
-    /// Returns the positions of the entries by ascending pair, if to list them saves time. Otherwise sorts the entries by
-    /// ascending pair, in place. This does not allocate.
+    /// Returns the positions of the entries by ascending pair, if to list them saves time. Otherwise sorts the entries
+    /// by ascending pair, in place. This does not allocate.
     pub fn sort<X>(self, entries: &mut [((i64, i64), X)]) -> Option<Vec<u32>>
         requires { Indexes self (keys_of entries.old) }
         ensures sorted { MatchOption result (IsStrictlySortedBy pair_cmp (keys_of entries.new))

@@ -49,7 +49,8 @@ pub record IsSpot (keys : List (ℤ × ℤ)) (pair : ℤ × ℤ) (spot : Spot) :
   pub sought : Sought keys pair spot.before spot.after
   pub stops : (i : ℕ) → spot.after ≡ suc i → pair.1 ≤ℤ (key_at keys i).1
 
--- the chains link the positions of all keys, the heads are theirs, and the pair that was last sought belongs at its spot
+-- the chains link the positions of all keys, the heads are theirs, and the pair that was last sought belongs at its
+-- spot
 pub record IsTailed (tails : Tails) (keys : List (ℤ × ℤ)) : Type 0 where
   pub links : Links tails.firsts.items tails.next.items keys
   pub heads : AreHeads tails.heads.items keys

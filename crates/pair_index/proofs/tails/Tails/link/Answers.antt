@@ -16,12 +16,14 @@ returns-then-spot-eq0 g c =
     let heads = ap (λ v. v.items) c.set_first.ensures.heads ∙ c.push_reserved-2.ensures.items in
     record {
       links = rw tops
-          (rw nexts (links_more self.firsts.items _ self.next.items _ keys c.args.pair.now room.tail spot.before spot.after
+          (rw nexts
+          (links_more self.firsts.items _ self.next.items _ keys c.args.pair.now room.tail spot.before spot.after
           (c.len.result + 1) c.requires.linked.links c.requires.fresh
           c.requires.spot.sought c.requires.spot.stops room.is room.known one
           (spliced_first self.firsts.items self.next.items room.tail spot.before spot.after
           (c.len.result + 1) room.known c.if-spot-eq0.true)));
-      heads = rw heads (heads_more self.heads.items keys c.args.pair.now c.args.head c.requires.linked.heads room.head_is);
+      heads = rw heads
+          (heads_more self.heads.items keys c.args.pair.now c.args.head c.requires.linked.heads room.head_is);
       last = rw c.set_first.ensures.last tt;
     }
 

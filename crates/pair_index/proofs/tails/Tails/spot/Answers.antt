@@ -43,5 +43,6 @@ pub returns-then-is_upto : goal.returns-then-is_upto
 returns-then-is_upto g c =
     record {
       sought = c.loop-after.invariant;
-      stops = λ i e. (let at : c.loop-after.after - 1 ≡ i = omega (arith, e) in rw (← at) (c.if-is_upto.ensures.0 refl));
+      stops = λ i e. (let at : c.loop-after.after - 1 ≡ i = omega (arith, e) in
+          rw (← at) (c.if-is_upto.ensures.0 refl));
     }
