@@ -1,6 +1,7 @@
 pub mod Runs
 pub mod Spelling
 pub mod FirstFaults
+pub mod Ranks
 pub mod Fields
 pub mod LineReads
 pub mod OpenWords
