@@ -1,5 +1,5 @@
-"""Small texts with known answers: what each command prints for them, and the statuses. A text that is a case of
-cases.txt, or is in examples/refused/, stands there alone."""
+"""Small texts with known answers: what each command prints for them, and the statuses. CANONICAL, COMPARED and REFUSED
+take a text that is a case of cases.txt from there, and REFUSED has the texts of examples/refused/, too."""
 
 import os
 from collections.abc import Iterator
