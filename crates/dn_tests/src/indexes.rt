@@ -267,8 +267,8 @@ const COLLIDING: [(i64, i64); 28] = [
     (29, 580),
 ];
 
-// Returns pairs whose nodes are this far apart, each followed by its reverse. If that is 18 or less, they come nearly in
-// order.
+// Returns pairs whose nodes are this far apart, each followed by its reverse. If that is at most 18, they come nearly
+// in order.
 fn reversed(alloc: Global, apart: i64) -> Result<Vec<(i64, i64)>, AllocError> {
     let mut pairs = match Vec::with_capacity(alloc, 1200) {
         Ok(pairs) => pairs,
