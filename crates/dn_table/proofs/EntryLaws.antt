@@ -35,7 +35,7 @@ Once [] = Unit {0}
 Once (p ∷ ps) = (among p ps ≡ false) × Once ps
 
 -- the list without this pair
-abbrev pub without : Pair → List Pair → List Pair
+abbrev without : Pair → List Pair → List Pair
 without p [] = []
 without p (q ∷ qs) = cond (same_pair p q) (without p qs) (q ∷ without p qs)
 
@@ -44,14 +44,14 @@ not_self p [] = refl
 not_self p (q ∷ qs) =
     elim (cases_Bool (same_pair p q)) [ inl e ↦ rw e (not_self p qs) | inr e ↦ rw (e, e) (not_self p qs) ]
 
-pub others_stay : (p r : Pair) (qs : List Pair) → same_pair r p ≡ false → among r (without p qs) ≡ among r qs
+others_stay : (p r : Pair) (qs : List Pair) → same_pair r p ≡ false → among r (without p qs) ≡ among r qs
 others_stay p r [] n = refl
 others_stay p r (q ∷ qs) n = elim (cases_Bool (same_pair p q)) [
   | inl e ↦ rw (e, ← pair_is p q e, n) (others_stay p r qs n)
   | inr e ↦ rw (e, others_stay p r qs n)
 ]
 
-pub once_without : (p : Pair) (qs : List Pair) → Once qs → Once (without p qs)
+once_without : (p : Pair) (qs : List Pair) → Once qs → Once (without p qs)
 once_without p [] o = tt
 once_without p (q ∷ qs) o = elim (cases_Bool (same_pair p q)) [
   | inl e ↦ rw e (once_without p qs o.1)
@@ -59,7 +59,7 @@ once_without p (q ∷ qs) o = elim (cases_Bool (same_pair p q)) [
 ]
 
 module _ (f : Pair → ℕ) where
-  pub sum_without : (p : Pair) (qs : List Pair) → Once qs
+  sum_without : (p : Pair) (qs : List Pair) → Once qs
       → sum_by f qs ≡ cond (among p qs) (f p) 0 + sum_by f (without p qs)
   sum_without p [] o = refl
   sum_without p (q ∷ qs) o = elim (cases_Bool (same_pair p q)) [
@@ -78,8 +78,7 @@ module _ (f : Pair → ℕ) where
       omega (arith, sum_by-cons f q qs, h q (rw (pair_self q)), rest)
 
   -- sums over two lists without repeats are equal if each pair in only one of them adds nothing
-  pub same_sum : (ps qs : List Pair) → Once ps → Once qs
-      → ((r : Pair) → among r ps ≡ false → among r qs ≡ true → f r ≡ 0)
+  same_sum : (ps qs : List Pair) → Once ps → Once qs → ((r : Pair) → among r ps ≡ false → among r qs ≡ true → f r ≡ 0)
       → ((r : Pair) → among r ps ≡ true → among r qs ≡ false → f r ≡ 0) → sum_by f ps ≡ sum_by f qs
   same_sum [] qs op oq out back = sym (all_none qs (λ r e. out r refl e))
   same_sum (p ∷ ps) qs op oq out back =
@@ -152,7 +151,7 @@ module _ {B : Type 0} where
   ]
 
   -- a sum over the bundles is a sum over their pairs
-  pub sum_at : (f : Pair → ℕ) (g : B → ℕ) (table rest : List (Pair × B))
+  sum_at : (f : Pair → ℕ) (g : B → ℕ) (table rest : List (Pair × B))
       → ((k : Pair) → among k (keys_of rest) ≡ true → lookup (same_pair k) rest ≡ lookup (same_pair k) table)
       → Once (keys_of rest)
       → ((k : Pair) (b : B) → lookup (same_pair k) table ≡ Some b → g b ≡ f k)

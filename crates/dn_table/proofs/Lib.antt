@@ -1,4 +1,3 @@
-pub mod OrderLaws
 pub mod PairLaws
 pub mod TableLaws
 pub mod GrownLaws

@@ -1,52 +1,55 @@
 // Bundles by their ordered pairs.
-ghost use Rattle.std.specs.Prelude.{◌≡◌, ◌≤◌, ℤ, List, ◌^◌, drop, length, MatchOption};
+ghost use Rattle.std.specs.Prelude.{◌≡◌, ◌<◌, ◌≤◌, ℤ, List, ◌^◌, drop, length, MatchOption};
+ghost use Rattle.std.specs.Option.{option_copied};
 ghost use Rattle.std.specs.Iterator.{YieldsFirstBy, item_count};
-ghost use Rattle.std.specs.List.{IsDistinct};
 ghost use Rattle.std.specs.List.Sorted.{IsStrictlySortedBy};
-ghost use Rattle.std.specs.Map.{keys_of};
+ghost use Rattle.std.specs.Map.{keys_of, lookup};
 ghost use Rattle.dn_arc.specs.declared.arc.Form.{Form};
 ghost use Rattle.dn_arc.specs.Pairs.{pair_cmp, same_pair};
-ghost use Rattle.pair_index.specs.State.Ordered.{IsOrder};
 ghost use Rattle.dn_table.specs.State.ListedEntries.{entries_listed};
-ghost use Rattle.dn_table.specs.State.Orders.{IsListed, listed};
 ghost use Rattle.dn_table.specs.State.Tables.{CountsBelow, CountsEntries, entry_of};
 
 use crate::entry_sum::{bundle_entries, count_arcs};
 use dn_kind::{Bundle, Form};
+use pair_index::position_among;
 use std::marker::Model;
 
 /// The bundles of a graph by ordered pair. A pair whose arcs mean the same as no arcs has no bundle.
 #[derive(Drop)]
 pub struct Table<B: Bundle> {
     entries: Vec<((i64, i64), B)>,
-    // The positions of the entries by ascending pair, unless the entries are sorted.
-    order: Option<Vec<u32>>,
 }
 
 impl<B: Bundle> Model for Table<B> {
     ghost use Rattle.std.specs.Prelude.{ℤ, List};
-    ghost use Rattle.std.specs.List.{IsDistinct};
+    ghost use Rattle.std.specs.List.Sorted.{IsStrictlySortedBy};
     ghost use Rattle.std.specs.Map.{keys_of};
-    ghost use Rattle.dn_arc.specs.Pairs.{same_pair};
-    ghost use Rattle.dn_table.specs.State.Orders.{IsListed, listed};
+    ghost use Rattle.dn_arc.specs.Pairs.{pair_cmp};
 
     ghost Value = { List ((ℤ × ℤ) × B) };
 
-    ghost view = { λ t. listed (λ o. o.items) t.order t.entries.items };
+    ghost view = { λ t. t.entries.items };
 
-    ghost invariant = { λ t. IsListed (λ o. o.items) t.order (keys_of t.entries.items)
-        × IsDistinct same_pair (keys_of t.entries.items) };
+    ghost invariant = { λ t. IsStrictlySortedBy pair_cmp (keys_of t.entries.items) };
 }
 
 impl<B: Bundle> Table<B> {
-    // Returns the table of these entries of different pairs. The list has their positions by ascending pair; without it
-    // they are sorted.
-    pub(crate) fn of(entries: Vec<((i64, i64), B)>, order: Option<Vec<u32>>) -> Table<B>
-        requires listed { IsListed (λ o. o.items) order (keys_of entries.items) }
-        requires apart { IsDistinct same_pair (keys_of entries.items) }
-        ensures { result ≡ listed (λ o. o.items) order entries.items }
+    // Returns the table of these entries, which are sorted by ascending pair.
+    pub(crate) fn of(entries: Vec<((i64, i64), B)>) -> Table<B>
+        requires { IsStrictlySortedBy pair_cmp (keys_of entries.items) }
+        ensures { result ≡ entries.items }
     {
-        Table { entries, order }
+        Table { entries }
+    }
+
+    /// Returns the bundle of the arcs from `src` to `dst`, if they mean anything.
+    pub fn get(&self, src: i64, dst: i64) -> Option<&B>
+        ensures { option_copied result ≡ lookup (same_pair (src, dst)) self.now }
+    {
+        match position_among(&self.entries, &(src, dst)) {
+            Some(position) => Some(&self.entries[position].1),
+            None => None,
+        }
     }
 
     /// Iterates over the pairs that have a bundle, by ascending (src, dst). This does not allocate.
@@ -54,22 +57,18 @@ impl<B: Bundle> Table<B> {
         ensures value { result ≡ self.now }
         ensures rising { IsStrictlySortedBy pair_cmp (keys_of self.now) }
     {
-        self.pairs_from(0)
+        Pairs {
+            rest: &self.entries,
+        }
     }
 
     /// Iterates over the pairs that have a bundle, by ascending (src, dst), from the one at `index`, counted from 0.
     /// There is none from `len` on. This does not allocate.
     pub fn pairs_from(&self, index: usize) -> Pairs<'_, B>
         ensures value { result ≡ drop index self.now }
-        ensures rising { IsStrictlySortedBy pair_cmp (keys_of self.now) }
     {
-        match &self.order {
-            Some(order) => Pairs {
-                entries: &self.entries,
-                order: &order[index.min(order.len())..],
-                is_listed: true,
-            },
-            None => Pairs::of(&self.entries[index.min(self.entries.len())..]),
+        Pairs {
+            rest: &self.entries[index.min(self.len())..],
         }
     }
 
@@ -99,32 +98,15 @@ impl<B: Bundle> Table<B> {
 /// Iterates over the bundles of a table with their pairs, by ascending (src, dst).
 #[derive(Drop)]
 pub struct Pairs<'a, B: Bundle> {
-    entries: &'a [((i64, i64), B)],
-    // The positions of the remaining entries, if `is_listed`. Otherwise all entries remain, in this order.
-    order: &'a [u32],
-    is_listed: bool,
+    rest: &'a [((i64, i64), B)],
 }
 
 impl<'a, B: Bundle> Model for Pairs<'a, B> {
-    ghost use Rattle.std.specs.Prelude.{ℤ, List, cond};
-    ghost use Rattle.dn_table.specs.State.Orders.{picked};
+    ghost use Rattle.std.specs.Prelude.{ℤ, List};
 
     ghost Value = { List ((ℤ × ℤ) × B) };
 
-    ghost view = { λ p. cond p.is_listed (picked p.order.now p.entries.now) p.entries.now };
-}
-
-impl<'a, B: Bundle> Pairs<'a, B> {
-    // Iterates over these entries, in this order.
-    pub(crate) fn of(entries: &'a [((i64, i64), B)]) -> Pairs<'a, B>
-        ensures { result ≡ entries.now }
-    {
-        Pairs {
-            entries,
-            order: &[],
-            is_listed: false,
-        }
-    }
+    ghost view = { λ p. p.rest.now };
 }
 
 impl<'a, B: Bundle> Iterator for Pairs<'a, B> {
@@ -135,16 +117,8 @@ impl<'a, B: Bundle> Iterator for Pairs<'a, B> {
     ghost remaining = { item_count (λ s. s) };
 
     fn next(&mut self) -> Option<((i64, i64), &'a B)> {
-        let entry = if self.is_listed {
-            let (position, rest) = self.order.split_first()?;
-            let entry = self.entries.get(*position as usize)?;
-            self.order = rest;
-            entry
-        } else {
-            let (entry, rest) = self.entries.split_first()?;
-            self.entries = rest;
-            entry
-        };
+        let (entry, rest) = self.rest.split_first()?;
+        self.rest = rest;
         Some((entry.0, &entry.1))
     }
 }

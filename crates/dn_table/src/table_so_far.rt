@@ -233,8 +233,8 @@ impl<B: Bundle> TableSoFar<B> {
             index,
             ..
         } = self;
-        let order = index.sort(&mut entries);
-        Table::of(entries, order)
+        index.sort(&mut entries);
+        Table::of(entries)
     }
 }
 

@@ -1,6 +1,6 @@
 // Each way of finding pairs, compared with a scan of the list. Allocations may fail.
 
-use pair_index::{AHEAD, PairIndex};
+use pair_index::{AHEAD, PairIndex, position_among};
 use std::alloc::{AllocError, Global};
 use std::marker::Model;
 use std::test::Fail;
@@ -65,54 +65,23 @@ impl Listed {
         }
     }
 
-    // Returns whether the index sorts the entries ("sorted") or lists their positions by ascending pair ("listed"), or
-    // what went wrong.
-    fn sort(self, pairs: &[(i64, i64)]) -> &'static str {
-        let Listed { mut entries, index } = self;
-        match index.sort(&mut entries) {
-            None if is_sorted(&entries, pairs) => "sorted",
-            Some(order) if is_listed(&entries, &order, pairs) => "listed",
-            _ => "a wrong order",
-        }
-    }
-
-    // Whether the entries, once they are sorted or listed, are those of these pairs.
+    // Whether the sorted entries rise, and each pair has its entry among them.
     fn sorts(self, pairs: &[(i64, i64)]) -> bool {
-        self.sort(pairs) != "a wrong order"
-    }
-}
-
-// Whether the entries rise, and each pair has its entry among them.
-fn is_sorted(entries: &[((i64, i64), usize)], pairs: &[(i64, i64)]) -> bool {
-    for i in 1..entries.len() {
-        if entries[i].0 <= entries[i - 1].0 {
-            return false;
+        let Listed { mut entries, index } = self;
+        index.sort(&mut entries);
+        for i in 1..entries.len() {
+            if entries[i].0 <= entries[i - 1].0 {
+                return false;
+            }
         }
-    }
-    for i in 0..pairs.len() {
-        match entries.binary_search_by(|entry| entry.0.cmp(&pairs[i])) {
-            Ok(place) if entries[place].1 == i => {}
-            _ => return false,
+        for i in 0..pairs.len() {
+            match position_among(&entries, &pairs[i]) {
+                Some(place) if entries[place].1 == i => {}
+                _ => return false,
+            }
         }
+        entries.len() == pairs.len()
     }
-    entries.len() == pairs.len()
-}
-
-// Whether the entries are those of these pairs, in their order, and rise at these positions.
-fn is_listed(entries: &[((i64, i64), usize)], order: &[u32], pairs: &[(i64, i64)]) -> bool {
-    for i in 0..pairs.len() {
-        if entries.get(i) != Some(&(pairs[i], i)) {
-            return false;
-        }
-    }
-    for i in 1..order.len() {
-        let (left, right) = (order[i - 1] as usize, order[i] as usize);
-        match (entries.get(left), entries.get(right)) {
-            (Some(left), Some(right)) if left.0 < right.0 => {}
-            _ => return false,
-        }
-    }
-    order.len() == entries.len() && entries.len() == pairs.len()
 }
 
 // Returns the index of these pairs, or `None` if a pair is found at a wrong position. After an allocation failure the
@@ -267,43 +236,22 @@ const COLLIDING: [(i64, i64); 28] = [
     (29, 580),
 ];
 
-// Returns pairs whose nodes are this far apart, each followed by its reverse. If that is at most 18, they come nearly
-// in order.
-fn reversed(alloc: Global, apart: i64) -> Result<Vec<(i64, i64)>, AllocError> {
+// Pairs that come nearly in order: each is followed by its reverse.
+fn way_to_find_reversed(alloc: Global) -> Result<&'static str, AllocError> {
     let mut pairs = match Vec::with_capacity(alloc, 1200) {
         Ok(pairs) => pairs,
         Err(_) => Vec::with_capacity(alloc, 1200)?,
     };
     for i in 1..600i64 {
-        pairs.push((i, i.wrapping_add(apart)))?;
-        pairs.push((i.wrapping_add(apart), i))?;
+        pairs.push((i, i + 30))?;
+        pairs.push((i + 30, i))?;
     }
-    Ok(pairs)
+    way_to_find(alloc, &pairs)
 }
 
 #[test]
-fn finds_reversed(rt: HostRuntime) -> Result<(), Fail> {
-    for apart in [5, 30] {
-        let pairs = reversed(rt.alloc(), apart)?;
-        assert!(rt; way_to_find(rt.alloc(), &pairs) == Ok("scattered"));
-    }
-    Ok(())
-}
-
-// Returns `Listed::sort` of these pairs, or what went wrong.
-fn way_to_sort(alloc: Global, pairs: &[(i64, i64)]) -> Result<&'static str, AllocError> {
-    match index_of(alloc, pairs)? {
-        Some(listed) => Ok(listed.sort(pairs)),
-        None => Ok("a wrong place after an allocation failure"),
-    }
-}
-
-#[test]
-fn sorts_pairs(rt: HostRuntime) -> Result<(), Fail> {
-    let (near, far) = (reversed(rt.alloc(), 5)?, reversed(rt.alloc(), 30)?);
-    assert!(rt; way_to_sort(rt.alloc(), &near) == Ok("listed"));
-    assert!(rt; way_to_sort(rt.alloc(), &far) == Ok("sorted"));
-    Ok(())
+fn finds_reversed(rt: HostRuntime) {
+    assert!(rt; way_to_find_reversed(rt.alloc()) == Ok("scattered"));
 }
 
 #[test]

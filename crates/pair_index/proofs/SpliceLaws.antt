@@ -9,7 +9,7 @@ use Rattle.std.proofs.lemmas.List.{length_push, length-set, get_or_append_left, 
 use Rattle.std.proofs.lemmas.Map.Keys.{apart_from_distinct}
 use Rattle.dn_arc.specs.Pairs.{same_pair}
 use Rattle.pair_index.specs.State.Positions.{key_at}
-use Rattle.pair_index.specs.State.Tailed.{AreHeads, IsAfter, LeadsTo, Links, Sought}
+use Rattle.pair_index.specs.State.Tailed.{IsAfter, LeadsTo, Links, Sought}
 use Rattle.dn_arc.proofs.PairLaws.{pair_self}
 use Rattle.pair_index.proofs.PositionLaws.{none_from_positions, fresh_at}
 use Rattle.pair_index.proofs.ChainLaws.{key_of_position, key_kept, key_new}
@@ -17,34 +17,34 @@ use Rattle.pair_index.proofs.TailLaws.{least_from, greatest_before, pair_from}
 
 -- the effect of a splice: the chain of the tail `t` has one more link, at its beginning or after the position of
 -- `before`
-pub record Spliced (firsts tops next links : List ℕ) (t before after link : ℕ) : Type 0 where
-  pub all_tops : length tops ≡ length firsts
+pub record Spliced (heads tops next links : List ℕ) (t before after link : ℕ) : Type 0 where
+  pub all_tops : length tops ≡ length heads
   pub all_links : length links ≡ length next + 1
   pub last : get_or links (length next) 0 ≡ after
-  pub other_tops : (u : ℕ) → (u ≡ t → ⊥) → get_or tops u 0 ≡ get_or firsts u 0
+  pub other_tops : (u : ℕ) → (u ≡ t → ⊥) → get_or tops u 0 ≡ get_or heads u 0
   pub other_links : (i : ℕ) → i < length next → (before ≡ suc i → ⊥) → get_or links i 0 ≡ get_or next i 0
   pub first : before ≡ 0 → get_or tops t 0 ≡ link
-  pub not_first : (before ≡ 0 → ⊥) → get_or tops t 0 ≡ get_or firsts t 0
+  pub not_first : (before ≡ 0 → ⊥) → get_or tops t 0 ≡ get_or heads t 0
   pub follows : (b : ℕ) → before ≡ suc b → get_or links b 0 ≡ link
 
 -- a splice at the beginning of a chain
-pub spliced_first : (firsts next : List ℕ) (t before after link : ℕ) → t < length firsts → before ≡ 0
-    → Spliced firsts (set firsts t link) next (next ++ after ∷ []) t before after link
-spliced_first firsts next t before after link known none = record {
-  all_tops = length-set firsts t link;
+pub spliced_first : (heads next : List ℕ) (t before after link : ℕ) → t < length heads → before ≡ 0
+    → Spliced heads (set heads t link) next (next ++ after ∷ []) t before after link
+spliced_first heads next t before after link known none = record {
+  all_tops = length-set heads t link;
   all_links = length_push next after;
   last = get_or_at next after [] 0 (length next) refl;
-  other_tops = λ u apart. get_or-set_other firsts t u link 0 apart;
+  other_tops = λ u apart. get_or-set_other heads t u link 0 apart;
   other_links = λ i lt not. get_or_append_left next (after ∷ []) 0 i lt;
-  first = λ e. get_or-set_same firsts t link 0 known;
+  first = λ e. get_or-set_same heads t link 0 known;
   not_first = λ some. absurd (some none);
   follows = λ b e. absurd (omega (arith, e, none));
 }
 
 -- a splice after a position
-pub spliced_after : (firsts next : List ℕ) (t before after link : ℕ) → (before ≡ 0 → ⊥) → before - 1 < length next
-    → Spliced firsts firsts next (set (next ++ after ∷ []) (before - 1) link) t before after link
-spliced_after firsts next t before after link some inside = record {
+pub spliced_after : (heads next : List ℕ) (t before after link : ℕ) → (before ≡ 0 → ⊥) → before - 1 < length next
+    → Spliced heads heads next (set (next ++ after ∷ []) (before - 1) link) t before after link
+spliced_after heads next t before after link some inside = record {
   all_tops = refl;
   all_links = length-set (next ++ after ∷ []) (before - 1) link ∙ length_push next after;
   last =
@@ -115,12 +115,12 @@ module _ (keys : List (ℤ × ℤ)) (k : ℤ × ℤ) where
       ]
 
 -- the links with one more position
-module _ (firsts tops next links : List ℕ) (keys : List (ℤ × ℤ)) (k : ℤ × ℤ) (t before after link : ℕ)
-    (old : Links firsts next keys) (fresh : list_any (same_pair k) keys ≡ false)
+module _ (heads tops next links : List ℕ) (keys : List (ℤ × ℤ)) (k : ℤ × ℤ) (t before after link : ℕ)
+    (old : Links heads next keys) (fresh : list_any (same_pair k) keys ≡ false)
     (sought : Sought keys k before after) (stops : (i : ℕ) → after ≡ suc i → k.1 ≤ℤ (key_at keys i).1)
-    (is : k.0 ≡ pos t) (known : t < length firsts) (one : link ≡ suc (length keys))
-    (done : Spliced firsts tops next links t before after link) where
-  -- if the splice is at the beginning, all firsts of the tail are at least the new one
+    (is : k.0 ≡ pos t) (known : t < length heads) (one : link ≡ suc (length keys))
+    (done : Spliced heads tops next links t before after link) where
+  -- if the splice is at the beginning, all heads of the tail are at least the new one
   all_past : before ≡ 0 → (i : ℕ) → i < length keys → (key_at keys i).0 ≡ k.0 → k.1 ≤ℤ (key_at keys i).1
   all_past none i lt tail = by_lt_z (key_at keys i).1 k.1
       (λ low. absurd (omega (arith, none, (greatest_before keys k before after stops sought i lt tail low).1)))
@@ -136,14 +136,14 @@ module _ (firsts tops next links : List ℕ) (keys : List (ℤ × ℤ)) (k : ℤ
         let first = old.at_head t known in
         let at = first.least s.at s.inside (s.tail ∙ is) in
         rw (done.not_first some)
-        (behind keys k (λ p. p.0 ≡ pos t) (get_or firsts t 0) at.0 first at.1 (omega (arith, ints, at.2, s.below)))
+        (behind keys k (λ p. p.0 ≡ pos t) (get_or heads t 0) at.0 first at.1 (omega (arith, ints, at.2, s.below)))
   ]
 
   top_now : (u : ℕ) → u < length tops → (u ≡ t) ⊎ (u ≡ t → ⊥)
       → LeadsTo (now keys k) (λ p. p.0 ≡ pos u) (get_or tops u 0)
   top_now u lt (inl e) = rw e (top_here (cases_eq before 0))
   top_now u lt (inr apart) =
-      rw (done.other_tops u apart) (still keys k (λ p. p.0 ≡ pos u) (get_or firsts u 0)
+      rw (done.other_tops u apart) (still keys k (λ p. p.0 ≡ pos u) (get_or heads u 0)
       (old.at_head u (rw done.all_tops at lt))
       (λ e. apart (omega (arith, ints, sym e ∙ is))))
 
@@ -252,19 +252,6 @@ module _ (firsts tops next links : List ℕ) (keys : List (ℤ × ℤ)) (k : ℤ
     at_head = λ u lt. top_now u lt (cases_eq u t);
     at_next = λ i lt. link_now i lt (cases_lt i (length keys));
   }
-
--- the heads with that of one more key
-pub heads_more : (heads : List ℕ) (keys : List (ℤ × ℤ)) (k : ℤ × ℤ) (head : ℕ) → AreHeads heads keys → k.1 ≡ pos head
-    → AreHeads (heads ++ head ∷ []) (keys ++ k ∷ [])
-heads_more heads keys k head old is = record {
-  all = length_push heads head ∙ ap (λ n. n + 1) old.all ∙ sym (length_push keys k);
-  each = λ i lt. elim (cases_lt i (length keys)) [
-    | inl l ↦ rw (key_kept keys k i l, get_or_append_left heads (head ∷ []) 0 i (rw old.all l)) (old.each i l)
-    | inr l ↦
-        let at : i ≡ length keys = omega (arith, length_push keys k) in
-        rw (key_new keys k i at, get_or_at heads head [] 0 i (old.all ∙ sym at)) is
-  ];
-}
 
 -- the position before the pair's position is one of a key
 pub before_inside : (keys : List (ℤ × ℤ)) (pair : ℤ × ℤ) (before after : ℕ) → (before ≡ 0 → ⊥)

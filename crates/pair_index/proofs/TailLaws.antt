@@ -57,7 +57,7 @@ sought_inside pair before link some (inl s) = s.on.there (link - 1) (omega (arit
 sought_inside pair before link some (inr s) =
     (let at = s.on.there (link - 1) (omega (arith, some)) in (at.0, at.1.0 ∙ s.tail))
 
-module _ (firsts next : List ℕ) (keys : List (ℤ × ℤ)) (links : Links firsts next keys) where
+module _ (heads next : List ℕ) (keys : List (ℤ × ℤ)) (links : Links heads next keys) where
   falls_at : (at then : ℕ) → at < length keys → then ≡ get_or next at 0 → (l : ℕ) → l ≡ then
       → left_of keys l < left_of keys (suc at)
   falls_at at then inside e zero f = omega arith
@@ -79,7 +79,7 @@ module _ (firsts next : List ℕ) (keys : List (ℤ × ℤ)) (links : Links firs
       rw back (falls_at (link - 1) then inside e then refl)
 
   -- a tail beyond the chains has no position
-  pub none_there : (tail : ℕ) (pair : ℤ × ℤ) → pair.0 ≡ pos tail → length firsts ≤ tail
+  pub none_there : (tail : ℕ) (pair : ℤ × ℤ) → pair.0 ≡ pos tail → length heads ≤ tail
       → LeadsTo keys (λ p. p.0 ≡ pair.0) 0
   none_there tail pair is past = record {
     there = λ i e. absurd (omega arith);
@@ -95,8 +95,8 @@ module _ (firsts next : List ℕ) (keys : List (ℤ × ℤ)) (links : Links firs
     least = λ i inside e. absurd (omega (arith, ints, sym (links.tails i inside).2 ∙ e, below));
   }
 
-  pub first_there : (tail : ℕ) (pair : ℤ × ℤ) (link : ℕ) → pair.0 ≡ pos tail → tail < length firsts
-      → link ≡ get_or firsts tail 0 → LeadsTo keys (λ p. p.0 ≡ pair.0) link
+  pub first_there : (tail : ℕ) (pair : ℤ × ℤ) (link : ℕ) → pair.0 ≡ pos tail → tail < length heads
+      → link ≡ get_or heads tail 0 → LeadsTo keys (λ p. p.0 ≡ pair.0) link
   first_there tail pair link is inside e = rw (e, is) (links.at_head tail inside)
 
   -- after a lesser head, the search for a pair continues at the next link
@@ -161,7 +161,7 @@ module _ (keys : List (ℤ × ℤ)) (pair : ℤ × ℤ) (before after : ℕ)
       other (pair_from (key_at keys (after - 1)) pair (sought_inside pair before after some sought).1 (rw back at.2)))
 
 -- each position of a key has a link
-pub has_next : {firsts next : List ℕ} {keys : List (ℤ × ℤ)} {i : ℕ} → Links firsts next keys → i < length keys
+pub has_next : {heads next : List ℕ} {keys : List (ℤ × ℤ)} {i : ℕ} → Links heads next keys → i < length keys
     → i < length next
 has_next links inside = rw links.same inside
 
@@ -170,21 +170,21 @@ pub past_head : (a b : ℤ) → (a ≤ℤ b → ⊥) → b <ℤ a
 past_head a b h = by_lt_z b a (λ l. l) (λ l. absurd (h l))
 
 -- the links remain right with more tails that have no positions
-pub links_wider : (firsts next : List ℕ) (keys : List (ℤ × ℤ)) (m : ℕ) → Links firsts next keys
-    → Links (firsts ++ replicate m 0) next keys
-links_wider firsts next keys m links = record {
+pub links_wider : (heads next : List ℕ) (keys : List (ℤ × ℤ)) (m : ℕ) → Links heads next keys
+    → Links (heads ++ replicate m 0) next keys
+links_wider heads next keys m links = record {
   same = links.same;
   apart = links.apart;
   tails = λ i lt.
       let t = links.tails i lt in
-      (t.0, omega (arith, t.1, length-append firsts (replicate m 0)), t.2);
-  at_head = λ t lt. elim (cases_lt t (length firsts)) [
-    | inl l ↦ rw (get_or_append_left firsts (replicate m 0) 0 t l) (links.at_head t l)
+      (t.0, omega (arith, t.1, length-append heads (replicate m 0)), t.2);
+  at_head = λ t lt. elim (cases_lt t (length heads)) [
+    | inl l ↦ rw (get_or_append_left heads (replicate m 0) 0 t l) (links.at_head t l)
     | inr l ↦
-        let past : t < length firsts + m = rw (length-append, length-replicate) at lt in
-        rw (get_or-append_right firsts (replicate m 0) (length firsts) t 0 refl l)
-        (rw (get_or-replicate {A = ℕ} m (t - length firsts) 0 0 (omega arith))
-        (none_there firsts next keys links t (pos t, pos 0) refl l))
+        let past : t < length heads + m = rw (length-append, length-replicate) at lt in
+        rw (get_or-append_right heads (replicate m 0) (length heads) t 0 refl l)
+        (rw (get_or-replicate {A = ℕ} m (t - length heads) 0 0 (omega arith))
+        (none_there heads next keys links t (pos t, pos 0) refl l))
   ];
   at_next = links.at_next;
 }

@@ -1,7 +1,6 @@
 pub mod Buckets
 pub mod Chained
 pub mod Indexed
-pub mod Ordered
 pub mod Positions
 pub mod Runs
 pub mod Shown

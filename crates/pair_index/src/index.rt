@@ -1,12 +1,11 @@
 // Finds the entries of a list by their ordered pairs.
-ghost use Rattle.std.specs.Prelude.{◌≡◌, ◌≢◌, [], ◌∷◌, ◌++◌, OnOk, OnErr, IfOk, IfSome, IsTrue, MatchOption, Ok, false, true};
+ghost use Rattle.std.specs.Prelude.{◌≡◌, ◌≢◌, [], ◌∷◌, ◌++◌, OnOk, OnErr, IfOk, IfSome, IsTrue, Ok, false, true};
 ghost use Rattle.std.specs.List.{list_any, IsDistinct};
 ghost use Rattle.std.specs.List.Sorted.{IsPermutation, IsStrictlySortedBy};
 ghost use Rattle.std.specs.Map.{keys_of};
 ghost use Rattle.pair_index.specs.State.Indexed.{Indexes};
 ghost use Rattle.dn_arc.specs.Pairs.{pair_cmp, same_pair};
 ghost use Rattle.pair_index.specs.State.Positions.{IsPosition};
-ghost use Rattle.pair_index.specs.State.Ordered.{IsOrder};
 ghost use Rattle.pair_index.specs.State.Shown.{HasPositions, ShowsIndex};
 ghost use Rattle.pair_index.specs.State.Chained.{IsChained};
 ghost use Rattle.pair_index.specs.State.Tailed.{IsTailed};
@@ -206,33 +205,16 @@ impl PairIndex {
         }
     }
 
-    /// Returns the positions of the entries by ascending pair, if to list them saves time. Otherwise sorts the entries
-    /// by ascending pair, in place. This does not allocate.
-    pub fn sort<X>(self, entries: &mut [((i64, i64), X)]) -> Option<Vec<u32>>
+    /// Sorts the entries by ascending pair, in place. This does not allocate.
+    pub fn sort<X>(self, entries: &mut [((i64, i64), X)])
         requires { Indexes self (keys_of entries.old) }
-        ensures sorted { MatchOption result (IsStrictlySortedBy pair_cmp (keys_of entries.new))
-            (λ order. IsOrder (keys_of entries.old) order.items) }
-        ensures moved { MatchOption result (IsPermutation entries.old entries.new)
-            (λ order. entries.new ≡ entries.old) }
+        ensures sorted { IsStrictlySortedBy pair_cmp (keys_of entries.new) }
+        ensures moved { IsPermutation entries.old entries.new }
     {
         match self.way {
             Way::Runs(runs) => runs.end(entries),
-            Way::Tails(tails) => {
-                if let Some(order) = tails.order(entries) {
-                    return Some(order);
-                }
-                sort_by_pair(false, entries);
-            }
-            Way::Chained(chains) => {
-                drop(chains);
-                sort_by_pair(false, entries);
-            }
-            Way::Ordered(positions) => {
-                drop(positions);
-                sort_by_pair(false, entries);
-            }
+            Way::Tails(_) | Way::Chained(_) | Way::Ordered(_) => sort_by_pair(false, entries),
         }
-        None
     }
 
     // Adds a pair in the present way. Returns false and changes nothing if this way does not serve. Which it returns

@@ -1,8 +1,9 @@
 // Entries whose pairs are sorted.
 ghost use Rattle.std.specs.Prelude.{◌≡◌, ◌↔◌, [], ◌∷◌, ◌++◌, IsTrue, false};
 ghost use Rattle.std.specs.List.{list_any};
+ghost use Rattle.std.specs.List.Sorted.{IsStrictlySortedBy};
 ghost use Rattle.std.specs.Map.{keys_of};
-ghost use Rattle.dn_arc.specs.Pairs.{same_pair};
+ghost use Rattle.dn_arc.specs.Pairs.{pair_cmp, same_pair};
 ghost use Rattle.pair_index.specs.State.Positions.{IsPosition};
 ghost use Rattle.pair_index.specs.State.Sorted.{AreSorted, order_of};
 
@@ -49,4 +50,13 @@ pub(crate) fn position_by_search<X>(
         Ok(i) => Some(i),
         Err(_) => None,
     }
+}
+
+/// Returns the position of a pair among entries that are sorted by ascending pair, if it is there. This does not
+/// allocate.
+pub fn position_among<X>(entries: &[((i64, i64), X)], pair: &(i64, i64)) -> Option<usize>
+    requires { IsStrictlySortedBy pair_cmp (keys_of entries.now) }
+    ensures { IsPosition (keys_of entries.now) pair.now result }
+{
+    position_by_search(false, entries, pair)
 }

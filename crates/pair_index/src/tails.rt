@@ -1,16 +1,14 @@
 // Positions linked in chains, by tail and then by ascending head.
-ghost use Rattle.std.specs.Prelude.{◌≡◌, ◌↔◌, ◌≤ℤ◌, ◌<◌, ℕ, ℤ, false, IsTrue, slice_set, pos, ◌<ℤ◌, List, [], ◌∷◌, ◌++◌, MatchOption, length, Ok, true, ◌≢◌, IfOk, IfSome};
+ghost use Rattle.std.specs.Prelude.{◌≡◌, ◌<◌, ℕ, ℤ, false, IsTrue, slice_set, pos, ◌<ℤ◌, List, [], ◌∷◌, ◌++◌, MatchOption, length, Ok, true, ◌≢◌, IfOk, IfSome};
 ghost use Rattle.std.specs.List.{list_any, IsDistinct};
 ghost use Rattle.std.specs.Map.{keys_of};
 ghost use Rattle.pair_index.specs.State.Tailed.{HasRoomFor, IsTailed, LeadsTo, IsSpot};
-ghost use Rattle.pair_index.specs.State.Ordered.{IsOrder};
-ghost use Rattle.pair_index.specs.State.Positions.{IsPosition, key_at};
+ghost use Rattle.pair_index.specs.State.Positions.{IsPosition};
 ghost use Rattle.dn_arc.specs.Pairs.{same_pair};
 
 use crate::index::AHEAD;
-use crate::links::{LONG, MOST_LINKED};
-use crate::order::is_order;
-use crate::pair::is_pair;
+use crate::links::{LONG, MOST_LINKED, is_long};
+use crate::pair::{is_head_upto, is_pair};
 use std::alloc::{AllocError, Global};
 
 // The greatest count of tails for each entry that there is capacity for.
@@ -21,30 +19,20 @@ const FARTHEST: usize = 16384;
 
 const SPAN: usize = 64;
 
-// For each tail a link to the position of its least head; for each position a link to the one of its tail with the next
-// greater head, and the head of its pair. A link is the position plus one, and 0 ends the chain.
+// For each tail a link to the position of its least head, and for each position a link to the one of its tail with the
+// next greater head. A link is the position plus one, and 0 ends the chain.
 #[derive(Drop)]
 pub(crate) struct Tails {
-    firsts: Vec<u32>,
-    next: Vec<u32>,
     heads: Vec<u32>,
-    last: Option<Last>,
+    next: Vec<u32>,
 }
 
-// Where a pair belongs in the chain of its tail: the link to the last position with a lesser head, the link to the
-// position after that, and how many positions come before.
+// Where a pair belongs in the chain of its tail: the link to the last position with a lesser head, and the link to the
+// position after that.
 #[derive(Clone, Copy)]
 pub(crate) struct Spot {
     before: u32,
     after: u32,
-    passed: u32,
-}
-
-// The pair that was last sought, and where it belongs. A pair that has no entry is added next, mostly.
-#[derive(Clone, Copy)]
-pub(crate) struct Last {
-    pair: (i64, i64),
-    spot: Spot,
 }
 
 // Returns the tail of a pair, if it is not below 0.
@@ -57,14 +45,6 @@ fn tail_of(pair: &(i64, i64)) -> Option<usize>
 // Returns how much two tails that are near may differ, among this many entries.
 fn span(entries: usize) -> u64 {
     (entries / SPAN).min(FARTHEST) as u64
-}
-
-// Whether the entry at a position is that of the pair. This has no contract, because it affects only the speed.
-fn stands_at<X>(entries: &[((i64, i64), X)], position: u32, pair: &(i64, i64)) -> bool {
-    match entries.get(position as usize) {
-        Some(entry) => is_pair(&entry.0, pair),
-        None => false,
-    }
 }
 
 // Whether at most half of the entries have a tail that is not near that of the entry before. This has no contract,
@@ -98,16 +78,12 @@ pub(crate) fn are_near_pairs(pairs: &[(i64, i64); AHEAD], entries: usize) -> boo
 impl Tails {
     // Returns chains without tails. This does not allocate.
     pub(crate) fn none(alloc: Global) -> Tails
-        ensures firsts { result.firsts.items ≡ [] }
-        ensures next { result.next.items ≡ [] }
         ensures heads { result.heads.items ≡ [] }
-        ensures last { result.last ≡ None }
+        ensures next { result.next.items ≡ [] }
     {
         Tails {
-            firsts: Vec::new(alloc),
-            next: Vec::new(alloc),
             heads: Vec::new(alloc),
-            last: None,
+            next: Vec::new(alloc),
         }
     }
 
@@ -117,33 +93,14 @@ impl Tails {
     {
         match tail_of(pair) {
             Some(tail) => {
-                if tail < self.firsts.len() {
-                    self.firsts[tail]
+                if tail < self.heads.len() {
+                    self.heads[tail]
                 } else {
                     0
                 }
             }
             None => 0,
         }
-    }
-
-    // Whether the head of a pair is at most that at a position. This does not read the entries.
-    #[inline(always)]
-    fn is_upto<X>(&self, entries: &[((i64, i64), X)], pair: &(i64, i64), at: usize) -> bool
-        requires linked { IsTailed self.now (keys_of entries.now) }
-        requires inside { at < length (keys_of entries.now) }
-        ensures { IsTrue result ↔ (pair.now.1 ≤ℤ (key_at (keys_of entries.now) at).1) }
-    {
-        pair.1 <= i64::from(self.heads[at])
-    }
-
-    // Whether the head of a pair is that at a position. This does not read the entries.
-    fn has_head<X>(&self, entries: &[((i64, i64), X)], pair: &(i64, i64), at: usize) -> bool
-        requires linked { IsTailed self.now (keys_of entries.now) }
-        requires inside { at < length (keys_of entries.now) }
-        ensures { IsTrue result ↔ (pair.now.1 ≡ (key_at (keys_of entries.now) at).1) }
-    {
-        pair.1 == i64::from(self.heads[at])
     }
 
     // Returns where a pair belongs in the chain of its tail.
@@ -153,47 +110,15 @@ impl Tails {
     {
         let mut before = 0;
         let mut after = self.first_of(pair);
-        let mut passed = 0u32;
         while after != 0 {
             let at = (after - 1) as usize;
-            if self.is_upto(entries, pair, at) {
+            if is_head_upto(pair, &entries[at].0) {
                 break;
             }
             before = after;
             after = self.next[at];
-            passed = passed.saturating_add(1);
         }
-        Spot {
-            before,
-            after,
-            passed,
-        }
-    }
-
-    // Returns where a pair belongs in the chain of its tail. It is at hand if the pair was sought last.
-    fn spot_of<X>(&self, entries: &[((i64, i64), X)], pair: &(i64, i64)) -> Spot
-        requires { IsTailed self.now (keys_of entries.now) }
-        ensures { IsSpot (keys_of entries.now) pair.now result }
-    {
-        match &self.last {
-            Some(last) if is_pair(&last.pair, pair) => last.spot,
-            _ => self.spot(entries, pair),
-        }
-    }
-
-    // Whether the chain with this spot is long. This has no contract, because it affects only the speed.
-    fn is_long(&self, spot: &Spot) -> bool {
-        let mut link = spot.after;
-        for _ in spot.passed..LONG {
-            if link == 0 {
-                return false;
-            }
-            link = match self.next.get((link - 1) as usize) {
-                Some(next) => *next,
-                None => 0,
-            };
-        }
-        true
+        Spot { before, after }
     }
 
     // Returns the chains of the entries. Returns `None` if pairs do not come nearly in order, if a chain would be long,
@@ -210,9 +135,7 @@ impl Tails {
         }
         let mut tails = Tails::none(alloc);
         // A slice has fewer entries than a `usize` counts, so the sum does not saturate.
-        let count = entries.len().saturating_add(1);
-        tails.next.reserve(count)?;
-        tails.heads.reserve(count)?;
+        tails.next.reserve(entries.len().saturating_add(1))?;
         if tails.take_all(entries)? {
             Ok(Some(tails))
         } else {
@@ -241,8 +164,8 @@ impl Tails {
         self.next.len() < self.next.capacity() || are_near(entries)
     }
 
-    // Adds a pair that comes next. Returns false if its chain is long, or if a node of it is below 0 or too great. A
-    // false result affects only the speed.
+    // Adds a pair that comes next. Returns false if its chain is long, or if its tail is below 0 or too great. A false
+    // result affects only the speed.
     #[inline(always)]
     pub(crate) fn take<X>(
         &mut self,
@@ -254,56 +177,36 @@ impl Tails {
         ensures taken { IfOk result (λ is. IsTrue is → IsTailed self.new (keys_of entries.now ++ pair.now ∷ [])) }
         ensures not { result ≢ Ok true → IsTailed self.new (keys_of entries.now) }
     {
-        let spot = self.spot_of(entries, pair);
-        if self.is_long(&spot) {
+        if is_long(self.first_of(pair), &self.next) {
             return Ok(false);
         }
-        let Some(head) = self.make_room(pair)? else {
+        if !self.make_room(pair)? {
             return Ok(false);
-        };
-        self.link(entries, pair, head, &spot);
+        }
+        self.link(entries, pair);
         Ok(true)
     }
 
-    // Reserves capacity for the link and the head of a pair, and returns the head. Returns `None` if a node of the pair
-    // is below 0 or too great, or if the links do not suffice, which affects only the speed.
-    #[inline(always)]
-    fn make_room(&mut self, pair: &(i64, i64)) -> Result<Option<u32>, AllocError>
+    // Reserves capacity for the link of a pair. Returns false if its tail is below 0 or too great, or if the links do
+    // not suffice. A false result affects only the speed.
+    fn make_room(&mut self, pair: &(i64, i64)) -> Result<bool, AllocError>
         ensures kept { (keys : List (ℤ × ℤ)) → IsTailed self.old keys → IsTailed self.new keys }
-        ensures room { IfOk result (λ o. IfSome o (λ head. HasRoomFor self.new pair.now head)) }
+        ensures room { IfOk result (λ is. IsTrue is → HasRoomFor self.new pair.now) }
     {
-        let (Some(tail), Ok(head)) = (tail_of(pair), u32::try_from(pair.1)) else {
-            return Ok(None);
+        let Some(tail) = tail_of(pair) else {
+            return Ok(false);
         };
         if MOST_LINKED <= self.next.len() {
-            return Ok(None);
-        }
-        self.next.reserve(1)?;
-        self.heads.reserve(1)?;
-        if self.has_first(tail)? {
-            Ok(Some(head))
-        } else {
-            Ok(None)
-        }
-    }
-
-    // Makes a link for this tail, if there is none. Returns false if the tail is too great, which affects only the
-    // speed.
-    fn has_first(&mut self, tail: usize) -> Result<bool, AllocError>
-        ensures next { self.new.next ≡ self.old.next }
-        ensures heads { self.new.heads ≡ self.old.heads }
-        ensures last { self.new.last ≡ self.old.last }
-        ensures kept { (keys : List (ℤ × ℤ)) → IsTailed self.old keys → IsTailed self.new keys }
-        ensures known { IfOk result (λ is. IsTrue is → tail < length self.new.firsts.items) }
-    {
-        if tail < self.firsts.len() {
-            return Ok(true);
-        }
-        // A product that saturates is above every tail.
-        if self.next.capacity().saturating_mul(DENSE) <= tail {
             return Ok(false);
         }
-        self.firsts.resize(tail + 1, 0)?;
+        self.next.reserve(1)?;
+        if self.heads.len() <= tail {
+            // A product that saturates is above every tail.
+            if self.next.capacity().saturating_mul(DENSE) <= tail {
+                return Ok(false);
+            }
+            self.heads.resize(tail + 1, 0)?;
+        }
         Ok(true)
     }
 
@@ -322,7 +225,7 @@ impl Tails {
         for _ in 0..LONG {
             let mut goes_on = false;
             for i in 0..AHEAD {
-                if let Some(next) = self.past(positions[i], &pairs[i]) {
+                if let Some(next) = self.past(entries, positions[i], &pairs[i]) {
                     positions[i] = next;
                     goes_on = true;
                 }
@@ -331,38 +234,35 @@ impl Tails {
                 break;
             }
         }
-        for i in 0..AHEAD {
-            // The entries are read here, so that their memory is at hand when each is looked up.
-            if !stands_at(entries, positions[i], &pairs[i]) {
-                positions[i] = 0;
-            }
-        }
         positions
     }
 
     // Returns the position after `position` in its chain, if the head at `position` is below that of `pair`. This has
     // no contract, because it affects only the speed.
-    fn past(&self, position: u32, pair: &(i64, i64)) -> Option<u32> {
-        if pair.1 <= i64::from(*self.heads.get(position as usize)?) {
+    fn past<X>(
+        &self,
+        entries: &[((i64, i64), X)],
+        position: u32,
+        pair: &(i64, i64),
+    ) -> Option<u32> {
+        let entry = entries.get(position as usize)?;
+        if is_head_upto(pair, &entry.0) {
             return None;
         }
         let link = *self.next.get(position as usize)?;
         if link == 0 { None } else { Some(link - 1) }
     }
 
-    // Links the next position, which is that of the pair, at its spot. This does not allocate, since there is spare
-    // capacity.
-    fn link<X>(&mut self, entries: &[((i64, i64), X)], pair: &(i64, i64), head: u32, spot: &Spot)
+    // Links the next position, which is that of the pair. This does not allocate, since there is spare capacity.
+    pub(crate) fn link<X>(&mut self, entries: &[((i64, i64), X)], pair: &(i64, i64))
         requires linked { IsTailed self.old (keys_of entries.now) }
         requires fresh { list_any (same_pair pair.now) (keys_of entries.now) ≡ false }
-        requires room { HasRoomFor self.old pair.now head }
-        requires spot { IsSpot (keys_of entries.now) pair.now spot.now }
+        requires room { HasRoomFor self.old pair.now }
         ensures { IsTailed self.new (keys_of entries.now ++ pair.now ∷ []) }
     {
-        self.last = None;
+        let spot = self.spot(entries, pair);
         let link = self.next.len() as u32 + 1;
         self.next.push_reserved(spot.after);
-        self.heads.push_reserved(head);
         if spot.before == 0 {
             self.set_first(pair, link);
         } else {
@@ -373,76 +273,30 @@ impl Tails {
     // Makes `link` the first link of the chain of a pair's tail.
     fn set_first(&mut self, pair: &(i64, i64), link: u32)
         ensures next { self.new.next ≡ self.old.next }
-        ensures heads { self.new.heads ≡ self.old.heads }
-        ensures last { self.new.last ≡ self.old.last }
-        ensures firsts { (tail : ℕ) → pair.now.0 ≡ pos tail → tail < length self.old.firsts.items
-            → self.new.firsts.items ≡ slice_set self.old.firsts.items tail link }
+        ensures heads { (tail : ℕ) → pair.now.0 ≡ pos tail → tail < length self.old.heads.items
+            → self.new.heads.items ≡ slice_set self.old.heads.items tail link }
     {
         if let Some(tail) = tail_of(pair) {
-            if tail < self.firsts.len() {
-                self.firsts[tail] = link;
+            if tail < self.heads.len() {
+                self.heads[tail] = link;
             }
         }
     }
 
     // Returns the position of the pair's entry.
-    pub(crate) fn find<X>(
-        &mut self,
-        entries: &[((i64, i64), X)],
-        pair: &(i64, i64),
-    ) -> Option<usize>
-        requires { IsTailed self.old (keys_of entries.now) }
-        ensures position { IsPosition (keys_of entries.now) pair.now result }
-        ensures stays { IsTailed self.new (keys_of entries.now) }
+    pub(crate) fn find<X>(&self, entries: &[((i64, i64), X)], pair: &(i64, i64)) -> Option<usize>
+        requires { IsTailed self.now (keys_of entries.now) }
+        ensures { IsPosition (keys_of entries.now) pair.now result }
     {
-        let spot = self.spot(entries, pair);
-        self.last = Some(Last { pair: *pair, spot });
-        let link = spot.after;
+        let link = self.spot(entries, pair).after;
         if link == 0 {
             return None;
         }
         let at = (link - 1) as usize;
-        if self.has_head(entries, pair, at) {
+        if is_pair(&entries[at].0, pair) {
             Some(at)
         } else {
             None
         }
-    }
-
-    // Returns the positions of the entries by ascending pair, or `None` if they are not known to be these. Which it
-    // returns affects only the speed. This does not allocate.
-    pub(crate) fn order<X>(self, entries: &[((i64, i64), X)]) -> Option<Vec<u32>>
-        ensures { IfSome result (λ order. IsOrder (keys_of entries.now) order.items) }
-    {
-        let Tails {
-            firsts,
-            next,
-            mut heads,
-            ..
-        } = self;
-        // The positions take the room of the heads, of which there are as many.
-        heads.clear();
-        for first in &firsts {
-            walk(*first, &next, &mut heads);
-        }
-        if is_order(entries, &heads) {
-            Some(heads)
-        } else {
-            drop(heads);
-            None
-        }
-    }
-}
-
-// Appends the positions along a chain, as far as there is capacity, where `next` has the link after each position. This
-// does not allocate. It has no contract, because the caller checks the positions.
-fn walk(first: u32, next: &[u32], positions: &mut Vec<u32>) {
-    let mut link = first;
-    while link != 0 && positions.len() < positions.capacity() {
-        positions.push_reserved(link - 1);
-        link = match next.get((link - 1) as usize) {
-            Some(next) => *next,
-            None => 0,
-        };
     }
 }

@@ -1,5 +1,5 @@
 -- Positions linked in chains, by tail and then by ascending head. Only the proofs of this crate use these definitions.
-use Rattle.std.specs.Prelude.{◌≡◌, ℕ, suc, ◌<◌, ◌-◌, ◌^◌, ℤ, pos, ◌<ℤ◌, ◌≤ℤ◌, ◌⊎◌, List, length, get_or, vec_capacity, IfSome}
+use Rattle.std.specs.Prelude.{◌≡◌, ℕ, suc, ◌<◌, ◌-◌, ◌^◌, ℤ, pos, ◌<ℤ◌, ◌≤ℤ◌, ◌⊎◌, List, length, get_or, vec_capacity}
 use Rattle.pair_index.specs.State.Positions.{key_at}
 use Rattle.pair_index.specs.declared.tails.Tails.{Tails}
 use Rattle.pair_index.specs.declared.tails.Spot.{Spot}
@@ -15,17 +15,16 @@ pub record LeadsTo (keys : List (ℤ × ℤ)) (Asked : ℤ × ℤ → Type 0) (l
       → (j : ℕ) × (link ≡ suc j) × ((key_at keys j).1 ≤ℤ (key_at keys i).1)
 
 -- the links of all positions are right
-pub record Links (firsts next : List ℕ) (keys : List (ℤ × ℤ)) : Type 0 where
+pub record Links (heads next : List ℕ) (keys : List (ℤ × ℤ)) : Type 0 where
   pub same : length next ≡ length keys
   pub apart : (i j : ℕ) → i < length keys → j < length keys → key_at keys i ≡ key_at keys j → i ≡ j
-  pub tails : (i : ℕ) → i < length keys → (t : ℕ) × (t < length firsts) × ((key_at keys i).0 ≡ pos t)
-  pub at_head : (t : ℕ) → t < length firsts → LeadsTo keys (λ p. p.0 ≡ pos t) (get_or firsts t 0)
+  pub tails : (i : ℕ) → i < length keys → (t : ℕ) × (t < length heads) × ((key_at keys i).0 ≡ pos t)
+  pub at_head : (t : ℕ) → t < length heads → LeadsTo keys (λ p. p.0 ≡ pos t) (get_or heads t 0)
   pub at_next : (i : ℕ) → i < length keys → LeadsTo keys (IsAfter (key_at keys i)) (get_or next i 0)
 
--- these are the heads of the keys
-pub record AreHeads (heads : List ℕ) (keys : List (ℤ × ℤ)) : Type 0 where
-  pub all : length heads ≡ length keys
-  pub each : (i : ℕ) → i < length keys → (key_at keys i).1 ≡ pos (get_or heads i 0)
+-- the chains link the positions of all keys
+abbrev pub IsTailed : Tails → List (ℤ × ℤ) → Type 0
+IsTailed tails keys = Links tails.heads.items tails.next.items keys
 
 -- the search for the pair has passed a position of its tail with a lesser head, and continues at the link
 pub record Passed (keys : List (ℤ × ℤ)) (pair : ℤ × ℤ) (before link : ℕ) : Type 0 where
@@ -49,20 +48,11 @@ pub record IsSpot (keys : List (ℤ × ℤ)) (pair : ℤ × ℤ) (spot : Spot) :
   pub sought : Sought keys pair spot.before spot.after
   pub stops : (i : ℕ) → spot.after ≡ suc i → pair.1 ≤ℤ (key_at keys i).1
 
--- the chains link the positions of all keys, the heads are theirs, and the pair that was last sought belongs at its
--- spot
-pub record IsTailed (tails : Tails) (keys : List (ℤ × ℤ)) : Type 0 where
-  pub links : Links tails.firsts.items tails.next.items keys
-  pub heads : AreHeads tails.heads.items keys
-  pub last : IfSome tails.last (λ l. IsSpot keys l.pair l.spot)
-
--- the pair's tail has a chain and its head is this number, there is spare capacity for one more link and head, and a
--- link of 32 bits can name one more position
-pub record HasRoomFor (tails : Tails) (pair : ℤ × ℤ) (head : ℕ) : Type 0 where
+-- the pair's tail has a chain, there is spare capacity for one more link, and a link of 32 bits can name one more
+-- position
+pub record HasRoomFor (tails : Tails) (pair : ℤ × ℤ) : Type 0 where
   pub tail : ℕ
   pub is : pair.0 ≡ pos tail
-  pub known : tail < length tails.firsts.items
-  pub head_is : pair.1 ≡ pos head
+  pub known : tail < length tails.heads.items
   pub spare : length tails.next.items < vec_capacity tails.next
-  pub spare_heads : length tails.heads.items < vec_capacity tails.heads
   pub named : length tails.next.items < 2 ^ 32 - 1

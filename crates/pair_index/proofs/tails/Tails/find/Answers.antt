@@ -1,28 +1,48 @@
-use Rattle.std.proofs.Common.{ℤ, sym, refl, ap}
+use Rattle.std.proofs.Common.{◌-◌, ◌∙◌, sym, refl, arith}
 use Rattle.std.specs.Map.{keys_of}
 use Rattle.std.proofs.lemmas.Bool.{false≢true}
-use Rattle.pair_index.proofs.TailLaws.{sought_inside, nowhere_past, nowhere_else, pair_from}
+use Rattle.std.proofs.lemmas.Map.Entries.{length-keys_of}
+use Rattle.pair_index.proofs.ChainLaws.{key_of_position}
+use Rattle.pair_index.proofs.TailLaws.{sought_inside, nowhere_past, nowhere_else}
 use Rattle.pair_index.proofs.tails.Tails.find.Goals as goal
 
-pub has_head-requires-clause-inside : goal.has_head-requires-clause-inside
-has_head-requires-clause-inside g c =
-    (sought_inside c.args.pair.now c.spot-spot.result.before c.spot-spot.result.after c.if-link-eq0.false
-    c.spot-spot.ensures.sought).0
+pub offset_bounds-entries-at : goal.offset_bounds-entries-at
+offset_bounds-entries-at g c =
+    let spot = c.spot-link.result in
+    let in_keys =
+    (sought_inside c.args.pair.now spot.before spot.after c.if-link-eq0.false c.spot-link.ensures.sought).0 in
+    omega (arith, in_keys, length-keys_of c.args.entries.now)
 
-pub returns-then-link-eq0-clause-position : goal.returns-then-link-eq0-clause-position
-returns-then-link-eq0-clause-position g c =
-    nowhere_past (keys_of c.args.entries.now) c.args.pair.now c.spot-spot.result.before c.spot-spot.result.after
-    c.spot-spot.ensures.stops c.spot-spot.ensures.sought c.if-link-eq0.true
+pub bounds-entries-at : goal.bounds-entries-at
+bounds-entries-at g c =
+    let spot = c.spot-link.result in
+    let in_keys =
+    (sought_inside c.args.pair.now spot.before spot.after c.if-link-eq0.false c.spot-link.ensures.sought).0 in
+    omega (arith, in_keys, length-keys_of c.args.entries.now)
 
-pub returns-then-has_head-clause-position : goal.returns-then-has_head-clause-position
-returns-then-has_head-clause-position g c =
-    let spot = c.spot-spot.result in
-    let at = sought_inside c.args.pair.now spot.before spot.after c.if-link-eq0.false c.spot-spot.ensures.sought in
-    (at.0, pair_from _ c.args.pair.now at.1 (sym (c.if-has_head.ensures.0 refl)))
+pub returns-then-is_pair : goal.returns-then-is_pair
+returns-then-is_pair g c =
+    let spot = c.spot-link.result in
+    let in_keys =
+    (sought_inside c.args.pair.now spot.before spot.after c.if-link-eq0.false c.spot-link.ensures.sought).0 in (
+      in_keys,
+      key_of_position c.args.entries.now (spot.after - 1) c.index-entries-at.result in_keys
+          ∙ c.if-is_pair.ensures.0 refl,
+    )
 
-pub returns-else-has_head-clause-position : goal.returns-else-has_head-clause-position
-returns-else-has_head-clause-position g c =
-    let spot = c.spot-spot.result in
-    nowhere_else (keys_of c.args.entries.now) c.args.pair.now spot.before spot.after c.spot-spot.ensures.stops
-    c.spot-spot.ensures.sought c.if-link-eq0.false
-    (λ e. false≢true (c.if-has_head.ensures.1 (sym (ap (λ (p : ℤ × ℤ). p.1) e))))
+pub returns-else-is_pair : goal.returns-else-is_pair
+returns-else-is_pair g c =
+    let spot = c.spot-link.result in
+    let in_keys =
+    (sought_inside c.args.pair.now spot.before spot.after c.if-link-eq0.false c.spot-link.ensures.sought).0 in
+    nowhere_else (keys_of c.args.entries.now) c.args.pair.now spot.before spot.after c.spot-link.ensures.stops
+    c.spot-link.ensures.sought c.if-link-eq0.false
+    (λ e. false≢true
+    (c.if-is_pair.ensures.1
+    (sym (key_of_position c.args.entries.now (spot.after - 1) c.index-entries-at.result in_keys) ∙ e)))
+
+pub returns-then-link-eq0 : goal.returns-then-link-eq0
+returns-then-link-eq0 g c =
+    let spot = c.spot-link.result in
+    nowhere_past (keys_of c.args.entries.now) c.args.pair.now spot.before spot.after c.spot-link.ensures.stops
+    c.spot-link.ensures.sought c.if-link-eq0.true
