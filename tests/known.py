@@ -1,6 +1,7 @@
 """Small texts with known answers: what each command prints for them, and the statuses."""
 
 from collections.abc import Iterator
+from typing import NamedTuple
 
 # Parallel arcs, both directions, a self-loop and a negative length; and the canonical text.
 ROADS = b"p sp 3 7\na 1 2 7\na 1 2 3\na 2 1 4\na 1 2 3\na 2 2 0\na 3 1 -5\na 2 3 9\n"
@@ -498,16 +499,30 @@ REFUSED = [
 ]
 
 
-def rows() -> Iterator[tuple[str, dict[str, bytes], bytes, bytes, int]]:
-    """Yields all runs of the tables: arguments, texts by their names, both streams and the status."""
-    yield "", {"-": ROADS}, ROADS_CANON, b"", 0
-    yield from [*SHOWN, *CHECKED, *FITTED, *PAIRS, *OTHERS]
+class Row(NamedTuple):
+    """A run: arguments, texts by their names (`-` is standard input), both streams and the status."""
+
+    words: str
+    named: dict[str, bytes]
+    out: bytes
+    err: bytes
+    status: int
+
+    def name(self) -> str:
+        """Returns a name of the run: its words, and the first line that it prints."""
+        return f"{self.words}: {(self.err or self.out).decode().partition(chr(10))[0]}"
+
+
+def rows() -> Iterator[Row]:
+    """Yields all runs of the tables."""
+    yield Row("", {"-": ROADS}, ROADS_CANON, b"", 0)
+    yield from (Row(*it) for it in [*SHOWN, *CHECKED, *FITTED, *PAIRS, *OTHERS])
     for text, err in REFUSED:
-        yield "canon t", {"t": text}, b"", err, 2
+        yield Row("canon t", {"t": text}, b"", err, 2)
     for text, one, two in CANONICAL:
         for given in [text, one, two]:
-            yield "canon t", {"t": given}, one, b"", 0
-            yield "canon --form 2 t", {"t": given}, two, b"", 0
+            yield Row("canon t", {"t": given}, one, b"", 0)
+            yield Row("canon --form 2 t", {"t": given}, two, b"", 0)
     for left, right, there, back in COMPARED:
-        yield "compare l r", {"l": left, "r": right}, there, b"", 1
-        yield "compare l r", {"l": right, "r": left}, back, b"", 1
+        yield Row("compare l r", {"l": left, "r": right}, there, b"", 1)
+        yield Row("compare l r", {"l": right, "r": left}, back, b"", 1)

@@ -36,6 +36,11 @@ class Answer(NamedTuple):
     status: int
 
 
+def said(out: str | bytes = b"", err: str | bytes = b"", status: int = 0) -> Answer:
+    """Returns the answer of a run that prints this, and ends with this status."""
+    return Answer(os.fsencode(out), os.fsencode(err), status)
+
+
 class Tally:
     """The number of checks that passed and failed."""
 
@@ -86,12 +91,10 @@ def is_quick() -> bool:
     return found
 
 
-def program() -> str:
-    """Returns the program that is tested: the first argument, or else the one that tools/program names. From then on
-    signals end the test as an exit does."""
-    end_by_signals()
-    if sys.argv[1:]:
-        path = os.path.abspath(sys.argv[1])
+def program_at(given: str | None) -> str:
+    """Returns the path of a program that is given, or else the one that tools/program names."""
+    if given:
+        path = os.path.abspath(given)
     else:
         named = subprocess.run([f"{ROOT}/tools/program"], stdout=subprocess.PIPE, text=True, check=False)
         if named.returncode:
@@ -101,6 +104,13 @@ def program() -> str:
     if not os.path.isfile(path) or not os.access(path, os.X_OK):
         sys.exit(f"{path} is not a program")
     return path
+
+
+def program() -> str:
+    """Returns the program of a command line: the first argument, or else the one that tools/program names. From then on
+    signals end this process as an exit does."""
+    end_by_signals()
+    return program_at(sys.argv[1] if sys.argv[1:] else None)
 
 
 def exit_by(number: int, _: object) -> None:

@@ -1,24 +1,22 @@
-#!/usr/bin/env python3
-"""Runs random small texts of all six kinds, correct and faulty, through the built program and through the second
-reading in reading.py. Compared are first faults, canonical texts in both forms, the output of `show`, `check` and
-`compare`, and whether companions fit. A canonical text must mean what its text means, by the costs of all amounts, and
-be its own canonical text. The texts are the same each time.
-
-    tests/search [--quick] [PROGRAM]
-
-With --quick there are half as many texts."""
+"""Random small texts of all six kinds, correct and faulty, through the built program and through the second reading in
+reading.py. Compared are first faults, canonical texts in both forms, the output of `show`, `check` and `compare`, and
+whether companions fit. A canonical text must mean what its text means, by the costs of all amounts, and be its own
+canonical text. Each case draws its texts from a seed of its own, which is its name; a quick run has half of the
+seeds."""
 
 import copy
 import random
-import sys
 from collections.abc import Sequence
 
+import pytest
+from needs import seeds
 from reading import GRAPHS, LINES, Fault, Item, Text, canonical, difference, forms, read, shown, unfit
-from shared import Answer, Quick, Tally, is_quick, own_folder, program, write
+from shared import Quick, said, write
 from texts import lines_of, made, spelled, spoilt
 
-SEED = 20
-ACCEPTED, FAULTY, COMPARED, COMPANIONS = 900, 3500, 2000, 500
+# The texts of each seed: accepted and faulty ones, pairs to compare, and graphs with companions.
+ACCEPTED, FAULTY, COMPARED, COMPANIONS = 90, 350, 200, 50
+KINDS = list(LINES)
 
 
 def varied(chance: random.Random, text: Text) -> Text:
@@ -65,26 +63,21 @@ def is_small(text: Text) -> bool:
 
 
 class Search:
-    """The texts so far, each a file of the folder, and the results."""
+    """The program, and the texts so far, each a file of this folder."""
 
-    def __init__(self, tested: str, folder: str) -> None:
-        self.tally, self.quick, self.folder, self.count = Tally(), Quick(tested), folder, 0
+    def __init__(self, often: Quick) -> None:
+        self.often, self.count = often, 0
 
     def file(self, text: bytes) -> str:
         """Makes a file with this text, and returns its name."""
         self.count += 1
-        name = f"{self.folder}/{self.count}"
-        write(name, text)
-        return name
+        write(str(self.count), text)
+        return str(self.count)
 
-    def wants(self, words: list[str], text: object, out: bytes = b"", err: str = "", status: int = 0) -> None:
+    def wants(self, words: list[str], text: object, out: str | bytes = b"", err: str = "", status: int = 0) -> None:
         """Runs the program with these arguments, and compares."""
-        found = self.quick.run(*words)
-        if found != Answer(out, err.encode(), status):
-            what = " ".join(it.removeprefix(f"{self.folder}/") for it in words)
-            self.tally.same(f"{what}, of {text!r}", found, Answer(out, err.encode(), status))
-        else:
-            self.tally.passed += 1
+        found = self.often.run(*words)
+        assert found == said(out, err, status), f"{' '.join(words)}, of {text!r}"
 
     def text(self, given: bytes) -> None:
         """Tests a text alone: its first fault, or everything that the commands print for it."""
@@ -92,17 +85,14 @@ class Search:
         try:
             text = read(given)
         except Fault as fault:
-            self.wants([self.command(), name], given, err=f"{name}:{fault.line}\n", status=2)
+            command = ["canon", "show", "check"][self.count % 3]
+            self.wants([command, name], given, err=f"{name}:{fault.line}\n", status=2)
             return
         self.wants(["show", name], given, shown(text))
-        self.wants(["check", name], given, f"accepted {text.kind}\nforms {forms(text, given)}\n".encode())
+        self.wants(["check", name], given, f"accepted {text.kind}\nforms {forms(text, given)}\n")
         # For kinds other than `min`, both forms are the same.
         for form in (1, 2) if text.kind == "min" else (1 + self.count % 2,):
             self.canonical(text, given, name, form)
-
-    def command(self) -> str:
-        """Returns a command that reads a text."""
-        return ["canon", "show", "check"][self.count % 3]
 
     def canonical(self, text: Text, given: bytes, name: str, form: int) -> None:
         """Tests the canonical text: it means the same, and is its own canonical text."""
@@ -110,10 +100,10 @@ class Search:
         self.wants(["canon", f"--form={form}", name], given, wanted)
         again = self.file(wanted)
         self.wants(["canon", f"--form={form}", again], wanted, wanted)
-        self.wants(["check", again], wanted, f"accepted {text.kind}\nforms {forms(read(wanted), wanted)}\n".encode())
+        self.wants(["check", again], wanted, f"accepted {text.kind}\nforms {forms(read(wanted), wanted)}\n")
         self.wants(["compare", name, again], given, b"same\n")
         if is_small(text):
-            self.tally.same(f"form {form} means the same as {given!r}", difference(text, read(wanted)), "same")
+            assert difference(text, read(wanted)) == "same", f"form {form} of {given!r}"
 
     def pair(self, left: bytes, right: bytes) -> None:
         """Tests `compare` on two texts."""
@@ -123,7 +113,7 @@ class Search:
             self.wants(["compare", *names], texts, err=fault, status=2)
         elif all(map(is_small, found)):
             line = difference(*found)
-            self.wants(["compare", *names], texts, f"{line}\n".encode(), status=0 if line == "same" else 1)
+            self.wants(["compare", *names], texts, f"{line}\n", status=0 if line == "same" else 1)
 
     def companion(self, graph: bytes, companion: bytes) -> None:
         """Tests a text, and a companion that fits it or does not."""
@@ -134,8 +124,7 @@ class Search:
         if fault or why:
             self.wants(words, texts, err=fault or f"{names[1]}: {why}\n", status=2)
         else:
-            told = f"accepted sp\nfits {found[1].kind}\nforms {forms(found[0], graph)}\n"
-            self.wants(words, texts, told.encode())
+            self.wants(words, texts, f"accepted sp\nfits {found[1].kind}\nforms {forms(found[0], graph)}\n")
 
 
 def readings(names: Sequence[str], texts: Sequence[bytes]) -> tuple[list[Text], str]:
@@ -149,25 +138,35 @@ def readings(names: Sequence[str], texts: Sequence[bytes]) -> tuple[list[Text], 
     return found, ""
 
 
-def main() -> int:
-    share = 2 if is_quick() else 1
-    tested, chance, kinds = program(), random.Random(SEED), list(LINES)
-    with own_folder("search") as folder:
-        search = Search(tested, folder)
-        for at in range(ACCEPTED // share):
-            search.text(spelled(chance, lines_of(chance, made(chance, kinds[at % 6], at % 4 == 0))))
-        for at in range(FAULTY // share):
-            search.text(spelled(chance, spoilt(chance, lines_of(chance, made(chance, kinds[at % 6], at % 4 == 0)))))
-        for at in range(COMPARED // share):
-            left = made(chance, [*kinds, "min", "min", "min"][at % 9])
-            right = varied(chance, left) if at % 10 else made(chance, chance.choice(kinds))
-            search.pair(*[spelled(chance, lines_of(chance, it)) for it in (left, right)])
-        for at in range(COMPANIONS // share):
-            graph = made(chance, "sp" if at % 20 else chance.choice(kinds))
-            companion = made(chance, chance.choice(kinds[3:]) if at % 19 else "sp")
-            search.companion(*[spelled(chance, lines_of(chance, it)) for it in (graph, companion)])
-    return search.tally.end()
+@pytest.fixture
+def search(often: Quick, folder: str) -> Search:
+    return Search(often)
 
 
-if __name__ == "__main__":
-    sys.exit(main())
+@pytest.fixture(params=seeds(10, 5), ids="seed {}".format)
+def chance(request: pytest.FixtureRequest) -> random.Random:
+    return random.Random(request.param)
+
+
+def test_accepted(search: Search, chance: random.Random) -> None:
+    for at in range(ACCEPTED):
+        search.text(spelled(chance, lines_of(chance, made(chance, KINDS[at % 6], at % 4 == 0))))
+
+
+def test_faulty(search: Search, chance: random.Random) -> None:
+    for at in range(FAULTY):
+        search.text(spelled(chance, spoilt(chance, lines_of(chance, made(chance, KINDS[at % 6], at % 4 == 0)))))
+
+
+def test_compare(search: Search, chance: random.Random) -> None:
+    for at in range(COMPARED):
+        left = made(chance, [*KINDS, "min", "min", "min"][at % 9])
+        right = varied(chance, left) if at % 10 else made(chance, chance.choice(KINDS))
+        search.pair(*[spelled(chance, lines_of(chance, it)) for it in (left, right)])
+
+
+def test_companion(search: Search, chance: random.Random) -> None:
+    for at in range(COMPANIONS):
+        graph = made(chance, "sp" if at % 20 else chance.choice(KINDS))
+        companion = made(chance, chance.choice(KINDS[3:]) if at % 19 else "sp")
+        search.companion(*[spelled(chance, lines_of(chance, it)) for it in (graph, companion)])

@@ -1,5 +1,5 @@
 /* Checks the C functions of c/runtime-aarch64.c, or the kit's own for x86-64, by what their contracts say. Prints a line
-   for each check that fails, and then how many passed and failed. tests/aarch64 gives the arguments, which rattle_arg
+   for each check that fails, and then how many passed and failed. tests/program/test_aarch64.py gives the arguments, which rattle_arg
    copies. */
 #define _GNU_SOURCE
 #include <errno.h>

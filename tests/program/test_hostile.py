@@ -1,42 +1,22 @@
-#!/usr/bin/env python3
-"""Tests the built program on texts at the limits of the formats, truncated texts and adversarial texts.
-
-Every byte value at each place of a small text of each kind, and every prefix of some texts, are compared with the
-second reading in reading.py. Numbers and bytes at the limits are read at once and one byte a pull. Some texts are read
-in pieces of each size. Declared counts that are not met must take no memory. Texts made to take long must not take
-long; bench/hostile.sh measures how long they take.
-
-    tests/hostile [--quick] [PROGRAM]
-
-With --quick some byte values stand for all."""
+"""The built program on texts at the limits of the formats, truncated texts and adversarial texts. Every byte value at
+each place of a small text of each kind, and every prefix of some texts, are compared with the second reading in
+reading.py; in a quick run some byte values stand for all. Numbers and bytes at the limits are read at once and one byte
+a pull, and some texts in pieces of each size. Declared counts that are not met take no memory. Texts made to take long
+do not; bench/hostile.sh measures how long they take."""
 
 import fcntl
 import functools
 import os
 import random
 import subprocess
-import sys
 import termios
 import time
 from collections.abc import Iterable, Iterator
 
+import pytest
 from known import CAPACITIES, FLOWS, ROADS
 from reading import MOST, Fault, Item, canonical, read
-from shared import (
-    LIMIT,
-    Answer,
-    Quick,
-    Tally,
-    Words,
-    is_quick,
-    least_level,
-    own_folder,
-    pipe,
-    program,
-    run,
-    within,
-    write,
-)
+from shared import LIMIT, Answer, Quick, Words, least_level, pipe, run, said, within, write
 
 SOURCES = b"p aux sp ss 3\ns 5\ns 2\ns 5\n"
 # A text of each kind, of which each byte is changed.
@@ -103,45 +83,31 @@ COUNT, LONG = 200_000, 20_000_000
 TIMES = 20
 
 
-class Hostile:
-    """The program in a folder of files, the byte values that are tried, and the results."""
-
-    def __init__(self, tested: str, folder: str, values: bytes) -> None:
-        self.program, self.folder, self.tally, self.quick = tested, folder, Tally(), Quick(tested)
-        self.values = values
-
-    def wants(self, words: list[str], text: bytes, answer: Answer) -> None:
-        """Runs the program on this text, and compares."""
-        found = self.quick.run(*words, given=text)
-        if found == answer:
-            self.tally.passed += 1
-        else:
-            self.tally.same(f"{' '.join(words)} of {text!r}", found, answer)
-
-    def reads(self, text: bytes, form: int) -> bool:
-        """Runs the program on a text, and compares with reading.py. Returns whether the text is accepted."""
-        try:
-            answer = Answer(canonical(read(text), form), b"", 0)
-        except Fault as fault:
-            answer = Answer(b"", f"-:{fault.line}\n".encode(), 2)
-        self.wants(["canon", f"--form={form}", "-"], text, answer)
-        return answer.status == 0
+def reads(often: Quick, text: bytes, form: int) -> bool:
+    """Runs the program on a text, and compares with reading.py. Returns whether the text is accepted."""
+    try:
+        answer = said(canonical(read(text), form))
+    except Fault as fault:
+        answer = said(b"", f"-:{fault.line}\n", 2)
+    found = often.run("canon", f"--form={form}", "-", given=text)
+    assert found == answer, f"canon --form={form} of {text!r}"
+    return answer.status == 0
 
 
-def every_byte(hostile: Hostile) -> None:
-    """Tests other byte values at each place of a small text of each kind."""
-    for text in SMALL:
-        for at in range(len(text)):
-            for byte in hostile.values:
-                if byte != text[at]:
-                    hostile.reads(text[:at] + bytes([byte]) + text[at + 1 :], 1 + (at + byte) % 2)
+@pytest.mark.parametrize("text", SMALL, ids=repr)
+def test_every_byte(often: Quick, quick: bool, text: bytes) -> None:
+    """Other byte values at each place of a small text."""
+    for at in range(len(text)):
+        for byte in SOME if quick else BYTES:
+            if byte != text[at]:
+                reads(often, text[:at] + bytes([byte]) + text[at + 1 :], 1 + (at + byte) % 2)
 
 
-def every_front(hostile: Hostile) -> None:
-    """Tests every prefix of a text. Only the whole text is accepted, with or without its last LF."""
-    for text in CUT:
-        accepted = [size for size in range(len(text) + 1) if hostile.reads(text[:size], 1 + size % 2)]
-        hostile.tally.same(f"the accepted prefixes of {text!r}", accepted, [len(text) - 1, len(text)])
+@pytest.mark.parametrize("text", CUT, ids=repr)
+def test_every_prefix(often: Quick, text: bytes) -> None:
+    """Only the whole text is accepted, with or without its last LF."""
+    accepted = [size for size in range(len(text) + 1) if reads(often, text[:size], 1 + size % 2)]
+    assert accepted == [len(text) - 1, len(text)]
 
 
 def by_pieces(words: Words, text: bytes, size: int) -> Answer:
@@ -159,23 +125,22 @@ def by_pieces(words: Words, text: bytes, size: int) -> Answer:
     return Answer(out, err, started.wait(LIMIT))
 
 
-def edges(hostile: Hostile) -> None:
-    """Tests numbers and bytes at the limits, read at once and one byte a pull."""
-    for line, text, out, err, status in EDGES:
-        words, answer = line.split(), Answer(out, err, status)
-        hostile.wants(words, text, answer)
-        found = by_pieces([hostile.program, *words], text, 1)
-        hostile.tally.same(f"{line} of {text!r}, a byte a pull", found, answer)
+@pytest.mark.parametrize("line, text, out, err, status", EDGES, ids=[f"{it[0]} of {it[1]!r:.40}" for it in EDGES])
+def test_limits(tested: str, folder: str, line: str, text: bytes, out: bytes, err: bytes, status: int) -> None:
+    """Numbers and bytes at the limits, read at once and one byte a pull."""
+    write("far.co", FAR)
+    words, answer = [tested, *line.split()], Answer(out, err, status)
+    assert run(words, text) == answer
+    assert by_pieces(words, text, 1) == answer, "a byte a pull"
 
 
-def short_pulls(hostile: Hostile) -> None:
-    """Tests texts in pieces of each size, from one byte to one more than the longest of them has."""
-    for text in CUT:
-        words = ["canon", "--form=2", "-"]
-        whole = hostile.quick.run(*words, given=text)
-        for size in range(1, max(map(len, CUT)) + 2):
-            found = by_pieces([hostile.program, *words], text, size)
-            hostile.tally.same(f"{text!r}, {size} bytes a pull", found, whole)
+@pytest.mark.parametrize("text", CUT, ids=repr)
+def test_short_pulls(tested: str, text: bytes) -> None:
+    """Texts in pieces of each size, from one byte to one more than the longest of them has."""
+    words = [tested, "canon", "--form=2", "-"]
+    whole = run(words, text)
+    for size in range(1, max(map(len, CUT)) + 2):
+        assert by_pieces(words, text, size) == whole, f"{size} bytes a pull"
 
 
 def answers(level: int, words: Words, text: bytes, wanted: Answer) -> bool:
@@ -183,16 +148,16 @@ def answers(level: int, words: Words, text: bytes, wanted: Answer) -> bool:
     return within(level, words, text) == wanted
 
 
-def declared(hostile: Hostile) -> None:
-    """Tests that declared counts take no memory: the least memory for a small text is enough. (The greatest resident
-    size would be less exact: the host counts it from that of the process that starts the program.)"""
-    for line, large, small in DECLARED:
-        words = [hostile.program, *line.split()]
-        answer = run(words, large.encode())
-        hostile.tally.holds(f"{line} of {large!r} ends with status 0, 1 or 2: {answer}", answer.status in (0, 1, 2))
-        wanted = run(words, small.encode())
-        level = SLACK + least_level(functools.partial(answers, words=words, text=small.encode(), wanted=wanted))
-        hostile.tally.same(f"{line} of {large!r} in {level} kB", within(level, words, large.encode()), answer)
+@pytest.mark.parametrize("line, large, small", DECLARED, ids=[f"{it[0]} of {it[1]!r:.40}" for it in DECLARED])
+def test_declared(tested: str, folder: str, line: str, large: str, small: str) -> None:
+    """Declared counts take no memory: the least memory for a small text is enough. (The greatest resident size would be
+    less exact: the host counts it from that of the process that starts the program.)"""
+    write("zero.gr", b"p sp 0 0\n")
+    words = [tested, *line.split()]
+    answer, wanted = run(words, large.encode()), run(words, small.encode())
+    assert answer.status in (0, 1, 2)
+    level = SLACK + least_level(functools.partial(answers, words=words, text=small.encode(), wanted=wanted))
+    assert within(level, words, large.encode()) == answer, f"{level} kB"
 
 
 def arcs(kind: str, nodes: int, rows: Iterable[Item]) -> bytes:
@@ -236,30 +201,13 @@ def time_of(words: Words, path: str) -> tuple[int, float]:
     return started.returncode, usage.ru_utime + usage.ru_stime
 
 
-def nothing_long(hostile: Hostile) -> None:
-    """Tests that adversarial texts take about as much time per byte as a plain one, within a wide bound."""
-    path, plain = f"{hostile.folder}/long", 0.0
+@pytest.mark.alone
+def test_adversarial(tested: str, folder: str) -> None:
+    """Adversarial texts take about as much time per byte as a plain one, within a wide bound."""
+    plain = 0.0
     for name, text in long_texts():
-        write(path, text)
-        (status, spent), (_, again) = [time_of([hostile.program, "canon", "-"], path) for _ in range(2)]
+        write("long", text)
+        (status, spent), (_, again) = [time_of([tested, "canon", "-"], "long") for _ in range(2)]
         each = min(spent, again) / len(text)
         plain = plain or each
-        is_so = status == 0 and each <= TIMES * plain
-        hostile.tally.holds(f"{name}: status {status}, {each / plain:.1f} times the time of a plain text", is_so)
-
-
-def main() -> int:
-    values = SOME if is_quick() else BYTES
-    tested = program()
-    with own_folder("hostile") as folder:
-        hostile = Hostile(tested, folder, values)
-        os.chdir(folder)
-        write("far.co", FAR)
-        write("zero.gr", b"p sp 0 0\n")
-        for test in [every_byte, every_front, edges, short_pulls, declared, nothing_long]:
-            test(hostile)
-    return hostile.tally.end()
-
-
-if __name__ == "__main__":
-    sys.exit(main())
+        assert status == 0 and each <= TIMES * plain, f"{name}: {each / plain:.1f} times the time of a plain text"
