@@ -2,11 +2,18 @@
 
 import fcntl
 import os
-import tempfile
+import signal
+import sys
 from collections.abc import Iterator
 
 import pytest
-from shared import Quick, program_at
+from needs import leave_out
+from shared import ENDING, ROOT, Quick, exit_by, program_at, run
+
+# The package for Python, which some tests import.
+sys.path.insert(0, f"{ROOT}/python/src")
+PREFIX = f"{ROOT}/c/out"
+LIBRARY = f"{PREFIX}/lib/libdnorm.so.2"
 
 
 def pytest_addoption(parser: pytest.Parser) -> None:
@@ -28,10 +35,11 @@ def pytest_collection_modifyitems(config: pytest.Config, items: list[pytest.Item
 
 
 @pytest.fixture(autouse=True)
-def apart(request: pytest.FixtureRequest) -> Iterator[None]:
+def apart(request: pytest.FixtureRequest, tmp_path_factory: pytest.TempPathFactory) -> Iterator[None]:
     """Lets nothing run beside a test that measures times, in any process of this run."""
-    run = os.environ.get("PYTEST_XDIST_TESTRUNUID", str(os.getpid()))
-    with open(f"{tempfile.gettempdir()}/dnorm-tests-{run}", "w", encoding="ascii") as lock:
+    place = tmp_path_factory.getbasetemp()
+    place = place.parent if "PYTEST_XDIST_WORKER" in os.environ else place
+    with open(place / "lock", "w", encoding="ascii") as lock:
         fcntl.flock(lock, fcntl.LOCK_EX if request.node.get_closest_marker("alone") else fcntl.LOCK_SH)
         yield
 
@@ -54,8 +62,45 @@ def often(tested: str) -> Quick:
     return Quick(tested)
 
 
+@pytest.fixture(scope="session")
+def c_library() -> str:
+    """The prefix below which the library for C is, which tests/run has built first."""
+    status = os.environ.get("DNORM_C_LIBRARY") or str(run([f"{ROOT}/tools/c-library"], limit=None).status)
+    if status == "125":
+        leave_out("the kit")
+    assert status == "0", "tools/c-library does not build the library"
+    return PREFIX
+
+
 @pytest.fixture
 def folder(tmp_path: os.PathLike[str], monkeypatch: pytest.MonkeyPatch) -> str:
     """A new folder, in which the test runs."""
     monkeypatch.chdir(tmp_path)
     return str(tmp_path)
+
+
+@pytest.fixture
+def heeded() -> Iterator[None]:
+    """Lets the programs that the test starts heed signals, even if this process ignores them, as by nohup."""
+    kept = {it: signal.signal(it, exit_by) for it in ENDING}
+    yield
+    for it, handler in kept.items():
+        signal.signal(it, handler)
+
+
+@pytest.fixture
+def reader(
+    request: pytest.FixtureRequest, tested: str, folder: str, heeded: None, monkeypatch: pytest.MonkeyPatch
+) -> Iterator[str]:
+    """How the package for Python reads instances in a test: by the program under test, where this Python seems to lack
+    numpy; by the library for C, where it does, too; or by the program, where it has numpy."""
+    how: str = getattr(request, "param", "program")
+    if how == "library" and not os.path.exists(LIBRARY):
+        leave_out("the library (tools/c-library builds it)")
+    if how != "numpy":
+        monkeypatch.setitem(vars(sys)["modules"], "numpy", None)
+    kept = dict(os.environ)
+    os.environ.update(DNORM=tested, DNORM_LIBRARY=LIBRARY if how == "library" else "none")
+    yield how
+    os.environ.clear()
+    os.environ.update(kept)

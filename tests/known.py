@@ -49,7 +49,7 @@ SHOWN = [
             "-": (
                 b"p min 3 6\nn 1 4\nn 3 -4\nn 2 0\na 3 1 0 4 1\na 1 2 1 3 2\na 1 2 0 2 5\na 1 2 2 2 -7\na 2 3 0 0 9\n"
                 b"a 1 2 0 1 2\n"
-            ),
+            )
         },
         b"kind min\nnodes 3\nlines 6\nsupplies 2\npairs 2\npair 1 2 forced 3 cost -12 steps 2\n"
         b"pair 3 1 forced 0 cost 0 steps 1\n",
@@ -78,7 +78,7 @@ SHOWN = [
             "x.min": (
                 b"p min 2 2\na 1 2 4611686018427387904 4611686018427387904 -9223372036854775808\n"
                 b"a 1 2 4611686018427387903 4611686018427387903 9223372036854775807\n"
-            ),
+            )
         },
         b"kind min\nnodes 2\nlines 2\nsupplies 0\npairs 1\n"
         b"pair 1 2 forced 9223372036854775807 cost -13835058055282163711 steps 0\n",
@@ -92,7 +92,7 @@ SHOWN = [
                 b"p min 9223372036854775807 1\n"
                 b"a 9223372036854775807 9223372036854775807 9223372036854775807 9223372036854775807 "
                 b"-9223372036854775808\n"
-            ),
+            )
         },
         b"kind min\nnodes 9223372036854775807\nlines 1\nsupplies 0\npairs 1\n"
         b"pair 9223372036854775807 9223372036854775807 forced 9223372036854775807 cost "

@@ -1,11 +1,15 @@
-"""Seeds of random cases, and what a test needs and the machine may lack. A test without it is skipped, with the reason.
+"""Random cases, and what a test needs and the machine may lack. A test without it is skipped, with the reason.
 With CI=true, which says that tools/setup has installed everything, a missing tool is a failure."""
 
 import os
 import shutil
+from collections.abc import Callable
+from random import Random
 from typing import Any, NoReturn
 
+import hypothesis
 import pytest
+from hypothesis import strategies
 
 
 def seeds(count: int, quick: int) -> list[Any]:
@@ -13,16 +17,25 @@ def seeds(count: int, quick: int) -> list[Any]:
     return [pytest.param(it, marks=[pytest.mark.whole] * (quick <= it)) for it in range(count)]
 
 
+def drawn(count: int, test: Callable[[Random], None]) -> None:
+    """Calls a test with so many sources of random numbers. They are the same each time. If the test fails, hypothesis
+    looks for simpler numbers with which it fails, and tells of the simplest."""
+    given = hypothesis.given(strategies.randoms(use_true_random=False))(test)
+    checks = [*hypothesis.HealthCheck]
+    same = hypothesis.settings(deadline=None, database=None, derandomize=True, suppress_health_check=checks)
+    hypothesis.settings(same, max_examples=count)(given)()
+
+
 def leave_out(tool: str) -> NoReturn:
     """Skips the test, since this tool is missing. If CI=true is set, the test fails."""
     if os.environ.get("CI") == "true":
-        pytest.fail(f"{tool} is missing")
+        pytest.fail(f"left out, since {tool} is missing")
     pass_over(tool)
 
 
 def pass_over(needs: str) -> NoReturn:
     """Skips the test because this machine does not allow it. `needs` is what it lacks."""
-    pytest.skip(f"{needs} is missing")
+    pytest.skip(f"{needs} is missing", allow_module_level=True)
 
 
 def need(*tools: str) -> None:

@@ -177,7 +177,7 @@ def make_page() -> None:
     write(f"{ROOT}/{DEFINITIONS}", made.stdout)
 
 
-def run(words: Words, given: bytes = b"", limit: float = LIMIT, **more: Any) -> Answer:
+def run(words: Words, given: bytes = b"", limit: float | None = LIMIT, **more: Any) -> Answer:
     """Runs the program that these words begin with on the bytes given."""
     ran = subprocess.run(words, input=given, capture_output=True, timeout=limit, check=False, **more)
     return Answer(ran.stdout, ran.stderr, ran.returncode)

@@ -202,7 +202,7 @@ def test_preloaded(at_length: Emulated, folder: str, name: str) -> None:
 def test_library_in_c(at_length: Emulated, folder: str) -> None:
     """Orders of calls of the library for C, allocations that fail, and threads."""
     wraps = [f"-Wl,--wrap={it}" for it in ("malloc", "realloc", "free")]
-    words = [COMPILER, f"-I{ROOT}/c", f"{ROOT}/tests/library.c", at_length.beside("lib/libdnorm.a"), *wraps]
+    words = [COMPILER, f"-I{ROOT}/c", f"{ROOT}/tests/library/library.c", at_length.beside("lib/libdnorm.a"), *wraps]
     tested = [at_length.qemu, "-L", SYSTEM, compiled(f"{folder}/library", words)]
     assert run([*tested, "orders", "4"]) == said(f"{11**4} orders\n")
     number = run([*tested, "memory"])

@@ -38,7 +38,7 @@ def built(request: pytest.FixtureRequest, tested: str, tmp_path_factory: pytest.
     if not os.path.exists(ARCHIVE):
         pass_over(f"{ARCHIVE} (tools/c-library makes it)")
     made = f"{tmp_path_factory.mktemp('processors')}/library"
-    words = ["c++", "-std=c++17", "-o", made, f"-I{ROOT}/c/out/include", f"{ROOT}/tests/library.cc", ARCHIVE]
+    words = ["c++", "-std=c++17", "-o", made, f"-I{ROOT}/c/out/include", f"{ROOT}/tests/library/library.cc", ARCHIVE]
     assert run(words) == said()
     return made
 

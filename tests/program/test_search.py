@@ -1,25 +1,26 @@
 """Random small texts of all six kinds, correct and faulty, through the built program and through the second reading in
 reading.py. Compared are first faults, canonical texts in both forms, the output of `show`, `check` and `compare`, and
 whether companions fit. A canonical text must mean what its text means, by the costs of all amounts, and be its own
-canonical text. Each case draws its texts from a seed of its own, which is its name; a quick run has half of the
-seeds."""
+canonical text. The texts are the same each time; a quick run has half of them. hypothesis draws them, and looks for a
+simpler text that fails in the same way."""
 
 import copy
-import random
 from collections.abc import Sequence
+from random import Random
 
 import pytest
-from needs import seeds
+from needs import drawn
 from reading import GRAPHS, LINES, Fault, Item, Text, canonical, difference, forms, read, shown, unfit
 from shared import Quick, said, write
 from texts import lines_of, made, spelled, spoilt
 
-# The texts of each seed: accepted and faulty ones, pairs to compare, and graphs with companions.
-ACCEPTED, FAULTY, COMPARED, COMPANIONS = 90, 350, 200, 50
+# The texts of each kind: accepted and faulty ones, pairs to compare, and graphs with companions. Some are drawn twice.
+ACCEPTED, FAULTY, COMPARED, COMPANIONS = 220, 850, 330, 45
 KINDS = list(LINES)
+EACH_KIND = pytest.mark.parametrize("kind", KINDS)
 
 
-def varied(chance: random.Random, text: Text) -> Text:
+def varied(chance: Random, text: Text) -> Text:
     """Returns a text that means the same or nearly the same: arcs in another order, in parts, or with one number
     changed."""
     text = copy.deepcopy(text)
@@ -38,7 +39,7 @@ def varied(chance: random.Random, text: Text) -> Text:
     return text
 
 
-def parts(chance: random.Random, kind: str, item: Item) -> list[Item]:
+def parts(chance: Random, kind: str, item: Item) -> list[Item]:
     """Returns an item in parts that mean the same, changed by one, or left out."""
     match chance.randrange(4):
         case 0:
@@ -143,30 +144,46 @@ def search(often: Quick, folder: str) -> Search:
     return Search(often)
 
 
-@pytest.fixture(params=seeds(10, 5), ids="seed {}".format)
-def chance(request: pytest.FixtureRequest) -> random.Random:
-    return random.Random(request.param)
+@pytest.fixture
+def share(quick: bool) -> int:
+    """The share of texts that are tried is one of so many."""
+    return 2 if quick else 1
 
 
-def test_accepted(search: Search, chance: random.Random) -> None:
-    for at in range(ACCEPTED):
-        search.text(spelled(chance, lines_of(chance, made(chance, KINDS[at % 6], at % 4 == 0))))
+@EACH_KIND
+def test_accepted(search: Search, share: int, kind: str) -> None:
+    def test(chance: Random) -> None:
+        search.text(spelled(chance, lines_of(chance, made(chance, kind, chance.randrange(4) == 0))))
+
+    drawn(ACCEPTED // share, test)
 
 
-def test_faulty(search: Search, chance: random.Random) -> None:
-    for at in range(FAULTY):
-        search.text(spelled(chance, spoilt(chance, lines_of(chance, made(chance, KINDS[at % 6], at % 4 == 0)))))
+@EACH_KIND
+def test_faulty(search: Search, share: int, kind: str) -> None:
+    def test(chance: Random) -> None:
+        lines = lines_of(chance, made(chance, kind, chance.randrange(4) == 0))
+        search.text(spelled(chance, spoilt(chance, lines)))
+
+    drawn(FAULTY // share, test)
 
 
-def test_compare(search: Search, chance: random.Random) -> None:
-    for at in range(COMPARED):
-        left = made(chance, [*KINDS, "min", "min", "min"][at % 9])
-        right = varied(chance, left) if at % 10 else made(chance, chance.choice(KINDS))
+@EACH_KIND
+def test_compare(search: Search, share: int, kind: str) -> None:
+    def test(chance: Random) -> None:
+        left = made(chance, kind)
+        right = varied(chance, left) if chance.randrange(10) else made(chance, chance.choice(KINDS))
         search.pair(*[spelled(chance, lines_of(chance, it)) for it in (left, right)])
 
+    # Texts of `min` have the most to compare.
+    drawn((4 if kind == "min" else 1) * COMPARED // share, test)
 
-def test_companion(search: Search, chance: random.Random) -> None:
-    for at in range(COMPANIONS):
-        graph = made(chance, "sp" if at % 20 else chance.choice(KINDS))
-        companion = made(chance, chance.choice(KINDS[3:]) if at % 19 else "sp")
-        search.companion(*[spelled(chance, lines_of(chance, it)) for it in (graph, companion)])
+
+@EACH_KIND
+def test_companion(search: Search, share: int, kind: str) -> None:
+    """A companion of this kind, or another text in place of one, rarely with another kind of graph."""
+
+    def test(chance: Random) -> None:
+        graph = made(chance, "sp" if chance.randrange(20) else chance.choice(KINDS))
+        search.companion(*[spelled(chance, lines_of(chance, it)) for it in (graph, made(chance, kind))])
+
+    drawn((5 if kind in KINDS[3:] else 1) * COMPANIONS // share, test)
