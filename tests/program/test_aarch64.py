@@ -140,10 +140,10 @@ def at_length(tested: str, emulated: Emulated) -> Emulated:
     return emulated
 
 
-def passes(program: str, name: str, top: str = f"{ROOT}/tests", before: Sequence[str] = (), **own: str) -> None:
-    """Runs tests on a program. What they skip, they skip on purpose."""
-    words = before or [sys.executable]
-    words = [*words, "-m", "pytest", "-q", "-pno:cacheprovider", "-pno:xdist", f"--rootdir={top}", f"{top}/{name}"]
+def passes(program: str, name: str, top: str = f"{ROOT}/tests", python: Sequence[str] = (), **own: str) -> None:
+    """Runs tests on a program, without those that measure times. What they skip, they skip on purpose."""
+    words = [*(python or [sys.executable]), "-m", "pytest", "-q", "-m", "not alone", "-pno:cacheprovider", "-pno:xdist"]
+    words += [f"--rootdir={top}", f"{top}/{name}"]
     environment = {it: value for it, value in os.environ.items() if it != "CI"} | own
     ran = run([*words, f"--program={program}"], limit=MOST, env=environment)
     assert ran.status == 0, ran.out.decode()
@@ -215,11 +215,11 @@ def test_library_in_c(at_length: Emulated, folder: str) -> None:
 def test_library_in_python(at_length: Emulated, folder: str) -> None:
     """The library for C through ctypes, in a Python for arm64."""
     root, library = f"{folder}/root", at_length.beside("lib/libdnorm.so.2")
-    if lack := fetched(root, f"{folder}/apt", ["python3", "python3-pytest"]):
+    if lack := fetched(root, f"{folder}/apt", ["python3", "python3-pytest", "python3-hypothesis"]):
         pass_over(lack)
     python = [at_length.qemu, "-L", root, f"{root}/usr/bin/python3"]
     own = {"DNORM_TESTED_LIBRARY": library, "PYTHONPATH": f"{root}/usr/lib/python3/dist-packages"}
-    passes(at_length.program, "library/test_calls.py", before=python, **own)
+    passes(at_length.program, "library/test_library.py", python=python, **own)
     # This program cannot run, so that only the library can read.
     program, place = f"{folder}/usr/bin/dnorm", f"{folder}/usr/lib/aarch64-linux-gnu"
     for it in [os.path.dirname(program), place]:
