@@ -1,6 +1,5 @@
-"""What the tests of the built program share with each other and with tools/: which program is tested, how it is run,
-and how results are compared and counted. A test prints a line for each failure, and at the end how many checks passed
-and failed. What a tool takes from here it finds by adding tests/ to its path; no test imports a tool."""
+"""What the tests of the built program share with each other and with tools/: which program is tested, and how it is
+run. What a tool takes from here it finds by adding tests/ to its path; no test imports a tool."""
 
 import contextlib
 import functools
@@ -39,56 +38,6 @@ class Answer(NamedTuple):
 def said(out: str | bytes = b"", err: str | bytes = b"", status: int = 0) -> Answer:
     """Returns the answer of a run that prints this, and ends with this status."""
     return Answer(os.fsencode(out), os.fsencode(err), status)
-
-
-class Tally:
-    """The number of checks that passed and failed."""
-
-    def __init__(self) -> None:
-        self.passed = self.failed = 0
-
-    def same(self, name: str, found: object, wanted: object) -> None:
-        """Checks that both are the same, and otherwise prints what differs."""
-        if found == wanted:
-            self.passed += 1
-        else:
-            self.fail(f"{name}: wanted {wanted!r:.300}, found {found!r:.300}")
-
-    def holds(self, name: str, is_so: object) -> None:
-        """Checks that this holds, and otherwise prints that it does not."""
-        self.same(name, bool(is_so), True)
-
-    def wants(self, what: str, found: Answer, out: str | bytes = b"", err: str | bytes = b"", status: int = 0) -> None:
-        """Checks what a run printed, and its status."""
-        self.same(what, found, Answer(os.fsencode(out), os.fsencode(err), status))
-
-    def fail(self, line: str) -> None:
-        self.failed += 1
-        print(line, flush=True)
-
-    def leave_out(self, what: str, tool: str) -> None:
-        """Prints that a part is left out, and which tool it needs. If CI=true is set, that is a failure."""
-        if os.environ.get("CI") == "true":
-            self.fail(f"left out, since {tool} is missing: {what}")
-        else:
-            self.pass_over(what, tool)
-
-    def pass_over(self, what: str, needs: str) -> None:
-        """Prints that a part is left out because this machine does not allow it, and what it needs."""
-        print(f"left out, since {needs} is missing: {what}", flush=True)
-
-    def end(self) -> int:
-        """Prints how many checks passed and failed, and returns the status."""
-        print(f"{self.passed} passed, {self.failed} failed")
-        return 0 if self.failed == 0 else 1
-
-
-def is_quick() -> bool:
-    """Whether the first argument is --quick, by which a test takes less time. It is removed from the arguments."""
-    found = sys.argv[1:2] == ["--quick"]
-    if found:
-        del sys.argv[1]
-    return found
 
 
 def program_at(given: str | None) -> str:
@@ -242,23 +191,6 @@ def write(path: str | bytes, text: str | bytes) -> None:
     """Makes a file."""
     with open(path, "wb") as file:
         file.write(text if isinstance(text, bytes) else text.encode())
-
-
-def has_proc(tally: Tally, what: str) -> bool:
-    """Whether the system has /proc. What needs it, by itself or by bash's <(..), is left out without it."""
-    found = os.path.exists("/proc/self/fd")
-    if not found:
-        tally.pass_over(what, "/proc")
-    return found
-
-
-def terminal(tally: Tally, what: str) -> tuple[int, int] | None:
-    """Returns both ends of a terminal. Where the system has none, as without /dev/pts, what needs it is left out."""
-    try:
-        return os.openpty()
-    except OSError:
-        tally.pass_over(what, "a terminal (/dev/pts)")
-        return None
 
 
 def python_with(*modules: str) -> str | None:

@@ -17,7 +17,7 @@ from typing import Any
 import pytest
 from needs import leave_out, need, pass_over, seeds
 from reading import MOST
-from shared import ENDING, LIMIT, ROOT, Answer, exit_by, pipe, run, said, text_of, write
+from shared import LIMIT, ROOT, Answer, pipe, run, said, text_of, write
 from texts import lines_of, made, spelled, spoilt
 
 pytestmark = pytest.mark.whole
@@ -273,17 +273,13 @@ def test_failing_part(scale: Scale, machine: list[str], does: str, line: str) ->
 
 
 @pytest.mark.parametrize("number, text, machine", SIGNALS)
-def test_signal(scale: Scale, number: signal.Signals, text: bytes, machine: list[str]) -> None:
+def test_signal(scale: Scale, heeded: None, number: signal.Signals, text: bytes, machine: list[str]) -> None:
     """A script that a signal ends, while it makes parts or reads, leaves no files and no processes."""
     need(*["parallel"] * len(machine[:1]))
     begun = f"{scale.folder}/begun"
     waits = scale.stand_in(f"echo $$ >> {shlex.quote(begun)}; exec sleep 30")
-    # Ignored signals stay ignored in started processes.
-    kept = {it: signal.signal(it, exit_by) for it in ENDING}
     write(begun, "")
     started = subprocess.Popen(scale.words("--lines", "3", *machine, "-", tested=waits), stdin=subprocess.PIPE)
-    for it, handler in kept.items():
-        signal.signal(it, handler)
     if text:
         pipe(started.stdin).write(text)
         pipe(started.stdin).close()

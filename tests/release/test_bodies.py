@@ -101,7 +101,7 @@ class Tried:
         self.top, self.kept, self.left = top, f"{top}/cache/dnorm/wrong-bodies", f"{top}/left"
         self.folder = f"{top}/crates/small/wrong-bodies"
         self.environment = {**os.environ, "XDG_CACHE_HOME": f"{top}/cache", "TMPDIR": self.left}
-        for folder in [f"{top}/tools", f"{top}/tests", self.folder, self.left]:
+        for folder in [f"{top}/tools", self.folder, self.left]:
             os.makedirs(folder)
         for path in [
             "kit.txt",
@@ -110,7 +110,7 @@ class Tried:
             "tools/prover.py",
             "tools/wrong-bodies",
             "tools/edits.py",
-            "tests/shared.py",
+            "tools/tally.py",
         ]:
             shutil.copy(f"{ROOT}/{path}", f"{top}/{path}")
         for path, text in CRATE.items():
