@@ -5,6 +5,7 @@ import os
 import signal
 import sys
 from collections.abc import Iterator
+from typing import TextIO
 
 import pytest
 from needs import leave_out
@@ -14,6 +15,8 @@ from shared import ENDING, ROOT, Quick, exit_by, program_at, run
 sys.path.insert(0, f"{ROOT}/python/src")
 PREFIX = f"{ROOT}/c/out"
 LIBRARY = f"{PREFIX}/lib/libdnorm.so.2"
+# The file that a test locks while it runs.
+LOCK = pytest.StashKey[TextIO]()
 
 
 def pytest_addoption(parser: pytest.Parser) -> None:
@@ -34,14 +37,15 @@ def pytest_collection_modifyitems(config: pytest.Config, items: list[pytest.Item
     items.sort(key=lambda it: it.get_closest_marker("alone") is not None)
 
 
-@pytest.fixture(autouse=True)
-def apart(request: pytest.FixtureRequest, tmp_path_factory: pytest.TempPathFactory) -> Iterator[None]:
-    """Lets nothing run beside a test that measures times, in any process of this run."""
-    place = tmp_path_factory.getbasetemp()
-    place = place.parent if "PYTEST_XDIST_WORKER" in os.environ else place
-    with open(place / "lock", "w", encoding="ascii") as lock:
-        fcntl.flock(lock, fcntl.LOCK_EX if request.node.get_closest_marker("alone") else fcntl.LOCK_SH)
-        yield
+def pytest_runtest_setup(item: pytest.Item) -> None:
+    """Lets nothing run beside a test that measures times, in any process of this clone."""
+    os.makedirs(f"{ROOT}/out", exist_ok=True)
+    item.stash[LOCK] = open(f"{ROOT}/out/tests-lock", "w", encoding="ascii")
+    fcntl.flock(item.stash[LOCK], fcntl.LOCK_EX if item.get_closest_marker("alone") else fcntl.LOCK_SH)
+
+
+def pytest_runtest_teardown(item: pytest.Item) -> None:
+    item.stash[LOCK].close()
 
 
 @pytest.fixture(scope="session")
