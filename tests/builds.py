@@ -7,7 +7,7 @@ import shutil
 
 from known import CANONICAL, REFUSED
 from needs import leave_out, need
-from shared import ROOT, run, said, write
+from shared import LIMIT, ROOT, run, said, write
 
 # A project that finds the library, in this version.
 PROJECT = """cmake_minimum_required(VERSION 3.13)
@@ -51,7 +51,7 @@ def compiled(*words: str) -> None:
     """Compiles a program with the headers, without a warning."""
     need(words[0])
     warnings = ["-O1", "-g", "-Wall", "-Wextra", "-Wpedantic", "-Werror"]
-    assert run([words[0], *warnings, *words[1:]]) == said(), words
+    assert run([words[0], *warnings, *words[1:]], limit=5 * LIMIT) == said(), words
 
 
 def by_cmake(folder: str, prefix: str) -> None:
